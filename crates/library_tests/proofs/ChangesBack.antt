@@ -1,7 +1,5 @@
 -- A change that was made can be taken back.
-use Rattle.std.proofs.Common.{◌≡◌, [], ◌∷◌, IsTrue, None}
-use Rattle.par2_spec.specs.Changes.{Change, FolderState, takes_all, state_after, change_refusal, inverse}
-use Rattle.par2_spec.proofs.FolderLaws.{inverse_taken, takes_both, takes_none}
+use Rattle.library_tests.proofs.Common.{◌≡◌, [], ◌∷◌, IsTrue, None, Change, FolderState, takes_all, state_after, change_refusal, inverse, inverse_taken, takes_both, takes_none}
 
 pub back_taken : (state : FolderState) (change : Change) → change_refusal state change ≡ None → IsTrue (takes_all (state_after state change) (inverse state.files change ∷ []))
 back_taken state change accepted = takes_both (state_after state change) (inverse state.files change) [] (inverse_taken state change accepted) (takes_none _)

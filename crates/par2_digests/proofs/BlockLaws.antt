@@ -1,8 +1,6 @@
 -- The blocks of a message and their words.
-use Rattle.std.proofs.Common.{◌≡◌, ℕ, suc, ◌+◌, ◌*◌, ◌<◌, ◌≤◌, List, [], ◌∷◌, ◌++◌, take, drop, get_or, ap, ap₂, refl, sym, ◌∙◌, arith}
-use Rattle.std.proofs.lemmas.List.{get_or-take, get_or-drop, drop-take, take-take, drop-drop}
-use Rattle.md5.specs.Md5.{add_state, block_words, compress, hash_after, rounds, word_at}
-use Rattle.par2_digests.specs.Lanes.{four_words_at}
+use Rattle.par2_digests.proofs.Common.{◌≡◌, ℕ, suc, ◌+◌, ◌*◌, ◌<◌, ◌≤◌, List, [], ◌∷◌, ◌++◌, take, drop, get_or, ap, ap₂, refl, sym, ◌∙◌, arith, get_or-take, get_or-drop, drop-take, take-take, drop-drop, add_state, rounds, word_at, four_words_at}
+use Rattle.md5.specs.Md5.{block_words, compress, hash_after}
 
 -- ---- words
 

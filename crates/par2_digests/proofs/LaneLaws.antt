@@ -1,9 +1,6 @@
 -- Operations on vectors, read at one lane.
-use Rattle.std.proofs.Common.{below_more, refl, ◌≡◌, ℕ, ◌-◌, ◌<◌, ◌≤◌, List, [], ◌∷◌, ◌++◌, map, length, get_or, ap₂, sym, ◌∙◌, arith}
-use Rattle.std.proofs.lemmas.List.{get_or-append_right, get_or-map, get_or_append_left, length-map}
-use Rattle.std.proofs.lemmas.Simd.{get_or-zip2, length-zip2}
+use Rattle.par2_digests.proofs.Common.{below_more, refl, ◌≡◌, ℕ, ◌-◌, ◌<◌, ◌≤◌, List, [], ◌∷◌, ◌++◌, map, length, get_or, ap₂, sym, ◌∙◌, arith, get_or-append_right, get_or-map, get_or_append_left, length-map, get_or-zip2, length-zip2, AreOfFour, lane_words, quad_words}
 use Rattle.std.specs.Prelude.{slice_index}
-use Rattle.par2_digests.specs.Lanes.{AreOfFour, lane_words, quad_words}
 use Rattle.par2_digests.specs.declared.quads.Quad.{Quad}
 use lib.Lanes.{zip2}
 

@@ -1,3 +1,4 @@
+mod Common
 pub mod LaneLaws
 pub mod RoundLaws
 pub mod BlockLaws

@@ -1,12 +1,6 @@
 -- Hash values as bytes, read back word by word, and padded messages one after the other.
-use Rattle.std.proofs.Common.{◌≡◌, ℕ, zero, suc, ◌+◌, ◌<◌, ◌≤◌, ◌^◌, List, [], ◌∷◌, ◌++◌, get_or, length, take, drop, slice_index, inl, inr, subst, sym, ap, ◌∙◌, arith}
-use Rattle.std.proofs.lemmas.Bool.{cases_lt}
-use Rattle.std.proofs.lemmas.List.{get_or_append_left, get_or_push, length_push}
-use Rattle.std.proofs.lemmas.Nat.{from_le_bytes-to_le_bytes_4}
-use Rattle.md5.specs.Md5.{compress, digest_bytes, hash_after, word_at}
-use Rattle.par2_digests.specs.Lanes.{four_words_at}
-use Rattle.par2_digests.specs.Pendings.{ArePadded, IsPadded}
-use Rattle.par2_digests.specs.declared.pending.Pending.{Pending}
+use Rattle.par2_digests.proofs.Common.{◌≡◌, ℕ, zero, suc, ◌+◌, ◌<◌, ◌≤◌, ◌^◌, List, [], ◌∷◌, ◌++◌, get_or, length, take, drop, slice_index, inl, inr, subst, sym, ap, ◌∙◌, arith, cases_lt, get_or_append_left, get_or_push, length_push, from_le_bytes-to_le_bytes_4, word_at, four_words_at, ArePadded, IsPadded, Pending}
+use Rattle.md5.specs.Md5.{compress, digest_bytes, hash_after}
 use Rattle.par2_digests.proofs.BlockLaws.{word_in_text}
 use Rattle.par2_digests.proofs.FeedLaws.{four_words}
 

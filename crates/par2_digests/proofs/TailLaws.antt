@@ -1,12 +1,7 @@
 -- A message is its whole blocks and its tail, which ends with the padding.
-use Rattle.std.proofs.Common.{◌≡◌, ℕ, suc, ◌+◌, ◌-◌, ◌*◌, ◌/◌, ◌%◌, ◌^◌, ◌<◌, ◌≤◌, List, ◌∷◌, ◌++◌, length, take, drop, replicate, ap, refl, sym, ◌∙◌, arith}
-use Rattle.std.specs.Prelude.{slice_set}
-use Rattle.std.specs.Int.{w64, to_le_bytes}
-use Rattle.std.proofs.lemmas.List.{append_assoc, drop-append-le, drop-replicate, drop_at, length-append, length-drop, length-replicate, length-take-le, set_at, take-append-le, take-replicate, take-take, take_all}
+use Rattle.par2_digests.proofs.Common.{◌≡◌, ℕ, suc, ◌+◌, ◌-◌, ◌*◌, ◌/◌, ◌%◌, ◌^◌, ◌<◌, ◌≤◌, List, ◌∷◌, ◌++◌, length, take, drop, replicate, ap, refl, sym, ◌∙◌, arith, slice_set, w64, to_le_bytes, drop-append-le, drop-replicate, drop_at, length-replicate, length-take-le, set_at, take-append-le, take-replicate, take-take, take_all, take-append-add, padding, tail_len}
+use Rattle.std.proofs.lemmas.List.{append_assoc, length-append, length-drop}
 use Rattle.std.proofs.lemmas.Slice.{take-put_mid, take-put_mid_below}
-use Rattle.std.proofs.Math.Seq.{take-append-add}
-use Rattle.md5.specs.Md5.{padding}
-use Rattle.par2_digests.specs.Tails.{tail_len}
 use Rattle.par2_digests.proofs.BlockLaws.{same_parts}
 use borrow.Rule.Slice.PartMut.{put_mid}
 

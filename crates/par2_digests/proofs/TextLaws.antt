@@ -1,10 +1,5 @@
 -- Texts and their digests.
-use Rattle.std.proofs.Common.{◌≡◌, ℕ, suc, ◌+◌, ◌<◌, ◌≤◌, List, [], ◌∷◌, ◌++◌, Bor, length, map, take, drop, get_or, refl, ap, sym, ◌∙◌, arith}
-use Rattle.std.proofs.Math.Seq.{take-add}
-use Rattle.std.proofs.lemmas.List.{map-append}
-use Rattle.md5.specs.Md5.{md5}
-use Rattle.par2_digests.specs.Digests.{digest_at}
-use Rattle.par2_digests.specs.Texts.{texts_of}
+use Rattle.par2_digests.proofs.Common.{◌≡◌, ℕ, suc, ◌+◌, ◌<◌, ◌≤◌, List, [], ◌∷◌, ◌++◌, Bor, length, map, take, drop, get_or, refl, ap, sym, ◌∙◌, arith, take-add, map-append, md5, digest_at, texts_of}
 
 -- the first digests are those of the texts
 pub first_digests : (texts digests : List (List ℕ)) → length texts ≤ length digests → ((k : ℕ) → k < length texts → digest_at digests k ≡ md5 (get_or texts k []))

@@ -1,20 +1,7 @@
 -- What lies between two borders among names, and what changes leave before a border.
-use Rattle.std.proofs.Common.{◌≡◌, ℕ, ◌+◌, ◌-◌, ◌≤◌, true, false, List, [], ◌++◌, length, map, take, drop, refl, sym, ap, ◌∙◌, arith}
-use Rattle.std.specs.Ordering.{is_lt}
-use Rattle.std.specs.Cmp.Lexicographic.{nat_list_cmp_total}
+use Rattle.par2_folder.proofs.Common.{◌≡◌, ℕ, ◌+◌, ◌-◌, ◌≤◌, true, false, List, [], ◌++◌, length, map, take, drop, refl, sym, ap, ◌∙◌, arith, is_lt, nat_list_cmp_total, entries, same_map, get-retain_keys, take-map, drop-map, take-take, drop-take, take-append-drop, File, Folder, effect, IsKept, folder_of, name_cmp, fingerprint_input, is_below, IsFront, IsFurther, is_before, text_before, touches, Border, Beginning, At, End, BorrowedFile, file_of}
 use Rattle.std.specs.FinMap as map_of
-use Rattle.std.specs.FinMap.{entries, same_map, get-retain_keys}
-use Rattle.std.proofs.lemmas.List.{take-map, drop-map, take-take, drop-take, take-append-drop}
-use Rattle.par2_spec.specs.Folders.{File, Folder}
 use Rattle.par2_spec.specs.Changes as defined
-use Rattle.par2_spec.specs.Changes.{effect}
-use Rattle.par2_folder.specs.Sorting.{IsKept, folder_of, name_cmp}
-use Rattle.par2_folder.specs.Below.{fingerprint_input, is_below, IsFront}
-use Rattle.par2_folder.specs.Borders.{IsFurther, is_before, text_before, touches}
-use Rattle.par2_folder.specs.declared.border.Border.{Border}
-use Rattle.par2_folder.specs.declared.border.Border.TheVariants.{Beginning, At, End}
-use Rattle.par2_folder.specs.declared.snapshot.BorrowedFile.{BorrowedFile}
-use Rattle.par2_folder.specs.Snapshots.{file_of}
 use Rattle.par2_folder.proofs.Below.{effect_below, front_entries, front_further, hashed-append}
 use Rattle.par2_folder.proofs.SortedFiles.{less, same_names}
 

@@ -1,7 +1,7 @@
 -- A write that may be refused, as a folder is filled.
-use Rattle.std.proofs.Common.{◌≡◌, ℕ, true, List, Some, Result, Ok, Err, IfErr, OnOk, OnErr, nat_lt, ap, arith}
+use Rattle.par2_folder.proofs.Common.{◌≡◌, ℕ, true, List, Some, Result, Ok, Err, IfErr, OnOk, OnErr, nat_lt, ap, arith, FolderState, Write, state_after}
 use Rattle.std.proofs.lemmas.Bool.Decides.{nat_tests}
-use Rattle.par2_spec.specs.Changes.{FolderState, Write, change_refusal, effect, state_after}
+use Rattle.par2_spec.specs.Changes.{change_refusal, effect}
 use Rattle.par2_spec.specs.declared.ChangeFault.{ChangeFault}
 use Rattle.par2_folder.specs.Filling.{IsTried}
 

@@ -1,6 +1,5 @@
 -- Changes that were lent and written.
-use Rattle.std.proofs.Common.{◌≡◌, ℕ, List, ◌++◌, length, map, take, drop, sym, ap, ◌∙◌}
-use Rattle.std.proofs.lemmas.List.{take-map, drop-map, map-append, length-map}
+use Rattle.par2_folder.proofs.Common.{◌≡◌, ℕ, List, ◌++◌, length, map, take, drop, sym, ap, ◌∙◌, take-map, drop-map, map-append, length-map}
 
 -- seen by f, the first n of the new items, filled up from the old ones
 pub refilled : {A B : Type 0} (f : A → B) (n : ℕ) (old new : List A) → n ≡ length old

@@ -1,10 +1,5 @@
 -- States side by side and the texts that they absorb.
-use Rattle.std.proofs.Common.{ℕ, suc, ◌<◌, ◌≤◌, List, [], ◌∷◌, ◌++◌, length, take, get_or, subst, arith}
-use Rattle.par2_digests.specs.Messages.{HasAbsorbed, message_of}
-use Rattle.par2_digests.specs.Pendings.{Reaches}
-use Rattle.par2_digests.specs.declared.midstate.Midstate.{Midstate}
-use Rattle.par2_digests.specs.declared.pending.Pending.{Pending}
-use Rattle.par2_folder.specs.Runs.{ReachEach}
+use Rattle.par2_folder.proofs.Common.{ℕ, suc, ◌<◌, ◌≤◌, List, [], ◌∷◌, ◌++◌, length, take, get_or, subst, arith, HasAbsorbed, message_of, Reaches, Midstate, Pending, ReachEach}
 
 -- one more
 pub one_more : (states : List Midstate) (pendings : List Pending) (texts : List (List ℕ)) (pending : Pending) (text : List ℕ) → ReachEach states pendings texts → Reaches pending text

@@ -1,15 +1,6 @@
 -- A snapshot's files, through searches and edits.
-use Rattle.std.proofs.Common.{◌≡◌, ℕ, zero, suc, ◌<◌, false, List, [], ◌∷◌, length, map, get_or, set, Some, None, is_some, Result, Ok, Err, IfOk, IfErr, IsTrue, refl, sym, ap, subst, ◌∙◌, arith}
-use Rattle.std.specs.Prelude.{unwrap_or}
-use Rattle.std.specs.List.{insert, remove}
-use Rattle.std.specs.List.Sorted.{IsSearchInRange, IsBinarySearchResult}
-use Rattle.std.specs.declared.cmp.Ordering.{Ordering}
+use Rattle.par2_folder.proofs.Common.{◌≡◌, ℕ, zero, suc, ◌<◌, false, List, [], ◌∷◌, length, map, get_or, set, Some, None, is_some, Result, Ok, Err, IfOk, IfErr, IsTrue, refl, sym, ap, subst, ◌∙◌, arith, unwrap_or, insert, remove, IsSearchInRange, IsBinarySearchResult, Ordering, length-map, get_or-map, map-set, File, Folder, has, bytes_of, name_cmp, folder_of, file_at, IsAt, IsGapFor, IsFile, IsKept, BorrowedFile, file_of}
 use Rattle.std.specs.FinMap as map_of
-use Rattle.std.proofs.lemmas.List.{length-map, get_or-map, map-set}
-use Rattle.par2_spec.specs.Folders.{File, Folder, has, bytes_of}
-use Rattle.par2_folder.specs.Sorting.{name_cmp, folder_of, file_at, IsAt, IsGapFor, IsFile, IsKept}
-use Rattle.par2_folder.specs.declared.snapshot.BorrowedFile.{BorrowedFile}
-use Rattle.par2_folder.specs.Snapshots.{file_of}
 use Rattle.par2_folder.proofs.SortedFiles.{Makes, searched_folder, inserted, exchanged, removed, bytes_at}
 
 -- ---- lists seen through a function

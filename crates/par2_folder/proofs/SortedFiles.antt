@@ -1,24 +1,9 @@
 -- Files sorted by their names: what a search finds in them, and what an edit at a place does to the folder that
 -- they make.
-use Rattle.std.proofs.Common.{◌≡◌, ℕ, zero, suc, ◌+◌, ◌<◌, ◌≤◌, Bool, true, false, cond, not, List, [], ◌∷◌, ◌++◌, length, flat_map, take, drop, get_or, set, is_some, Option, Some, None, inl, inr, Result, Ok, Err, IfOk, IfErr, IsTrue, T, refl, sym, ap, subst, ◌∙◌, arith}
-use Rattle.std.specs.List.{insert, remove, AllByRecursion}
-use Rattle.std.specs.List.Sorted.{IsSearchInRange, IsBinarySearchResult, IsNonDecreasingBy}
-use Rattle.std.specs.Ordering.{ordering_index, ordering_reverse, eq_by_cmp, is_lt, is_eq}
-use Rattle.std.specs.declared.cmp.Ordering.{Ordering}
-use Rattle.std.specs.declared.cmp.Ordering.TheVariants.{Less, Equal, Greater}
-use Rattle.std.specs.Cmp.{tied_itself, alike_right, eq_by_cmp_equiv}
-use Rattle.std.proofs.lemmas.Bool.{cases_lt, and_parts}
-use Rattle.std.specs.Cmp.Lexicographic.{nat_list_cmp_total}
+use Rattle.par2_folder.proofs.Common.{◌≡◌, ℕ, zero, suc, ◌+◌, ◌<◌, ◌≤◌, Bool, true, false, cond, not, List, [], ◌∷◌, ◌++◌, length, flat_map, take, drop, get_or, set, is_some, Option, Some, None, inl, inr, Result, Ok, Err, IfOk, IfErr, IsTrue, T, refl, sym, ap, subst, ◌∙◌, arith, insert, remove, AllByRecursion, IsSearchInRange, IsBinarySearchResult, IsNonDecreasingBy, ordering_index, ordering_reverse, eq_by_cmp, is_lt, is_eq, Ordering, Less, Equal, Greater, tied_itself, alike_right, eq_by_cmp_equiv, cases_lt, and_parts, nat_list_cmp_total, entries, is_sorted, find, put, IsAntisymmetric, slice_cmp-IsAntisymmetric, nat_cmp-IsAntisymmetric, same_entries_map, same_map, entries_sorted, entries-from_sorted, get-from_sorted, entries-insert, get-remove, get-empty, where_key, find-where_key, is_sorted-where_key, length-map, get_or-map, length-take-le, get_or-take, take_all, drop_all, take_more, get_or_default, All-from_recursion, recursion_from_All, All-set, File, Folder, IsFolder, has, names, behind_length, md5, name_cmp, IsSortedByName, folder_of, file_at, IsAt, IsGapFor, IsFile, IsKept, by_true, is_true, cond-not}
 use Rattle.std.specs.FinMap as map_of
-use Rattle.std.specs.FinMap.{entries, is_sorted, find, put, IsAntisymmetric, slice_cmp-IsAntisymmetric, nat_cmp-IsAntisymmetric, same_entries_map, same_map, entries_sorted, entries-from_sorted, get-from_sorted, entries-insert, get-remove, get-empty}
-use Rattle.std.specs.FinMap.Entries.{where_key, find-where_key, is_sorted-where_key}
-use Rattle.std.proofs.lemmas.List.{length-map, get_or-map, length-take-le, get_or-take, take_all, drop_all, take_more, get_or_default}
-use Rattle.std.proofs.lemmas.List.Elements.{All-from_recursion, recursion_from_All, All-set}
 use Rattle.std.proofs.lemmas.List.Sorted.{IsNonDecreasingBy-from_default}
-use Rattle.par2_spec.specs.Folders.{File, Folder, IsFolder, has, names, behind_length, fingerprint}
-use Rattle.md5.specs.Md5.{md5}
-use Rattle.par2_folder.specs.Sorting.{name_cmp, IsSortedByName, folder_of, file_at, IsAt, IsGapFor, IsFile, IsKept}
-use Rattle.par2_spec.proofs.TestLaws.{by_true, is_true, cond-not}
+use Rattle.par2_spec.specs.Folders.{fingerprint}
 
 pub same_names : IsAntisymmetric name_cmp
 same_names = slice_cmp-IsAntisymmetric nat_cmp-IsAntisymmetric

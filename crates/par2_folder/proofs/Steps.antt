@@ -1,5 +1,5 @@
 -- The walks of the count of failures: a struct without fields owns nothing, whatever its ghost field says.
-use Rattle.std.proofs.Common.{List, [], ◌∷◌, refl}
+use Rattle.par2_folder.proofs.Common.{List, [], ◌∷◌, refl}
 use seplogic.Ra.Ura.{Ura}
 use mir.Val.{Val, vstruct, vnil}
 use types.Logic.{Logic}

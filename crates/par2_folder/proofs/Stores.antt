@@ -1,6 +1,5 @@
 -- Calls of a store, one after the other.
-use Rattle.std.proofs.Common.{◌∙◌}
-use Rattle.par2_folder.specs.Stores.{OnlyReads}
+use Rattle.par2_folder.proofs.Common.{◌∙◌, OnlyReads}
 use Rattle.par2_folder.specs.declared.view.Store.{Ghosts as StoreOf}
 
 pub reads_on : {S : Type 0} {store : StoreOf S} {old between new : S} → OnlyReads store old between → OnlyReads store between new → OnlyReads store old new

@@ -1,18 +1,5 @@
 -- A survey on its way.
-use Rattle.std.proofs.Common.{◌≡◌, ◌⊎◌, inl, inr, false, arith, ℕ, ◌-◌, ◌<◌, ◌≤◌, List, [], ◌∷◌, ◌++◌, length, take, drop, get_or, sym, ap, subst, ◌∙◌}
-use Rattle.std.specs.FinMap.{entries}
-use Rattle.std.proofs.lemmas.Bool.{false≢true}
-use Rattle.std.proofs.lemmas.List.Elements.{All-push}
-use Rattle.par2_digests.specs.Messages.{HasAbsorbed, message_of}
-use Rattle.par2_digests.specs.Pendings.{Reaches}
-use Rattle.par2_digests.specs.declared.midstate.Midstate.{Midstate}
-use Rattle.par2_digests.specs.declared.pending.Pending.{Pending}
-use Rattle.par2_spec.specs.Folders.{Folder}
-use Rattle.par2_folder.specs.Below.{fingerprint_input, folder_below}
-use Rattle.par2_folder.specs.Borders.{comes_before}
-use Rattle.par2_folder.specs.Landmarks.{AreLandmarksOf, IsLandmarkOf}
-use Rattle.par2_folder.specs.declared.border.Border.{Border}
-use Rattle.par2_folder.specs.declared.border.Border.TheVariants.{Beginning}
+use Rattle.par2_folder.proofs.Common.{◌≡◌, ◌⊎◌, inl, inr, false, arith, ℕ, ◌-◌, ◌<◌, ◌≤◌, List, [], ◌∷◌, ◌++◌, length, take, drop, get_or, sym, ap, subst, ◌∙◌, entries, false≢true, All-push, HasAbsorbed, message_of, Reaches, Midstate, Pending, Folder, fingerprint_input, folder_below, comes_before, AreLandmarksOf, IsLandmarkOf, Border, Beginning}
 use Rattle.par2_folder.specs.declared.landmarks.Landmark.{Landmark}
 use Rattle.par2_folder.specs.declared.landmarks.Landmarks.{Landmarks}
 use Rattle.par2_folder.proofs.Borders.{taken_on}

@@ -1,6 +1,5 @@
 -- When a text is a name.
-use Rattle.std.proofs.Common.{◌≡◌, ℕ, List, Bool, true, false, length, not, ◌&&◌, ◌||◌, ◌==◌, nat_le, nat_eq, codes, IsUtf8, refl}
-use Rattle.std.specs.List.{list_any, starts_with}
+use Rattle.par2_folder.proofs.Common.{◌≡◌, ℕ, List, Bool, true, false, length, not, ◌&&◌, ◌||◌, ◌==◌, nat_le, nat_eq, codes, IsUtf8, refl, list_any, starts_with}
 use Rattle.std.specs.Str.{bytes_eq}
 use Rattle.std.proofs.lemmas.Str.{is_utf8-from_IsUtf8}
 use Rattle.par2_spec.specs.Names.{is_name}

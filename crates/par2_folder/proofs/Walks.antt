@@ -1,23 +1,9 @@
 -- States of runs of folders, on their way from a border to the next along changes.
-use Rattle.std.proofs.Common.{◌≡◌, ℕ, zero, suc, ◌+◌, ◌<◌, ◌≤◌, Bool, true, false, cond, IsTrue, List, [], ◌∷◌, ◌++◌, Bor, length, map, take, drop, get_or, refl, sym, ap, subst, ◌∙◌, append_assoc, append-nil, add-one, drop-cons, arith}
-use Rattle.std.proofs.lemmas.List.{drop_all, map-append, take_more}
-use Rattle.std.proofs.lemmas.Bool.{and_parts}
-use Rattle.md5.specs.Md5.{md5}
-use Rattle.par2_digests.specs.Messages.{HasAbsorbed}
-use Rattle.par2_digests.specs.Texts.{texts_of}
-use Rattle.par2_digests.specs.declared.midstate.Midstate.{Midstate}
-use Rattle.par2_spec.specs.Folders.{Folder, fingerprint}
+use Rattle.par2_folder.proofs.Common.{◌≡◌, ℕ, zero, suc, ◌+◌, ◌<◌, ◌≤◌, Bool, true, false, cond, IsTrue, List, [], ◌∷◌, ◌++◌, Bor, length, map, take, drop, get_or, refl, sym, ap, subst, ◌∙◌, append_assoc, append-nil, add-one, drop-cons, arith, drop_all, map-append, take_more, and_parts, md5, HasAbsorbed, texts_of, Midstate, Folder, effect, is_applicable, IsKept, change_of, new_run, run_texts, text_before, touches, AreBehind, AreTo, HaveAbsorbed, files_in, folder_in, Border, Beginning, End, Change}
+use Rattle.par2_spec.specs.Folders.{fingerprint}
 use Rattle.par2_spec.specs.Changes as defined
-use Rattle.par2_spec.specs.Changes.{effect, is_applicable, are_applicable, folders_after}
-use Rattle.par2_folder.specs.Sorting.{IsKept}
-use Rattle.par2_folder.specs.Views.{change_of}
-use Rattle.par2_folder.specs.Borders.{new_run, later_texts, run_texts, text_before, touches}
-use Rattle.par2_folder.specs.Landmarks.{AreBehind}
-use Rattle.par2_folder.specs.Runs.{AreTo, HaveAbsorbed}
-use Rattle.par2_folder.specs.Snapshots.{files_in, folder_in}
-use Rattle.par2_folder.specs.declared.border.Border.{Border}
-use Rattle.par2_folder.specs.declared.border.Border.TheVariants.{Beginning, End}
-use Rattle.par2_folder.specs.declared.change.Change.{Change}
+use Rattle.par2_spec.specs.Changes.{are_applicable, folders_after}
+use Rattle.par2_folder.specs.Borders.{later_texts}
 use Rattle.par2_folder.specs.declared.runs.Runs.{Runs}
 use Rattle.par2_folder.specs.declared.snapshot.Snapshot.{Snapshot}
 use Rattle.par2_folder.proofs.Borders.{no_text, text_on, whole_text}

@@ -1,17 +1,7 @@
 -- A block of words, in bytes and in lanes.
-use Rattle.std.proofs.Common.{ℕ, zero, suc, ◌+◌, ◌-◌, ◌*◌, ◌/◌, ◌%◌, ◌^◌, ◌<◌, ◌≤◌, ◌≡◌, refl, sym, ap, ap₂, ◌∙◌, subst, arith, List, [], ◌∷◌, ◌++◌, map, flat_map, length, get_or, eqb, ◌&&◌, inl, inr, true, w8, Fits, bit_and, replicate}
-use Rattle.std.proofs.lemmas.Bool.{cases_lt, eqb-true, and_parts}
-use Rattle.std.proofs.lemmas.Nat.{and_mask}
-use Rattle.std.proofs.lemmas.List.{get_or-map, length-map, length-append, get_or_append_left, get_or-append_right, ext_get_or}
-use Rattle.std.proofs.lemmas.Simd.{Each1-get_or, Each1-from_get_or, below_from_Fits, length-chunk, get_or_wider, get_or_narrower, chunk-fits, zip2_splat, get_or-chunk, get_or-put_chunk_below, get_or-put_chunk_at, get_or-put_chunk_above, length-put_chunk, get_or-zip2, length-zip2, get_or-swz_l_below, length-swz_l, swz_l, SwzOk, SwzOk-from_below}
-use Rattle.std.specs.List.{range_with_len}
-use Rattle.std.specs.Prelude.{bit_xor}
+use Rattle.par2_gf16.proofs.Common.{ℕ, zero, suc, ◌+◌, ◌-◌, ◌*◌, ◌/◌, ◌%◌, ◌^◌, ◌<◌, ◌≤◌, ◌≡◌, refl, sym, ap, ap₂, ◌∙◌, subst, arith, List, [], ◌∷◌, ◌++◌, map, flat_map, length, get_or, eqb, ◌&&◌, inl, inr, true, w8, Fits, bit_and, replicate, cases_lt, eqb-true, and_parts, and_mask, get_or-map, length-map, get_or_append_left, get_or-append_right, ext_get_or, Each1-get_or, Each1-from_get_or, below_from_Fits, length-chunk, get_or_wider, get_or_narrower, chunk-fits, zip2_splat, get_or-chunk, get_or-put_chunk_below, get_or-put_chunk_at, get_or-put_chunk_above, length-put_chunk, get_or-zip2, length-zip2, get_or-swz_l_below, length-swz_l, swz_l, SwzOk, SwzOk-from_below, range_with_len, bit_xor, mul, word, tested, tested_at, product-lt, AddsWithin, IsTable, IsInterleaving, AddsLanes}
+use Rattle.std.proofs.lemmas.List.{length-append}
 use lib.Lanes.{number_l, digits_l, zip2, Each1, chunk, put_chunk, pick_l}
-use Rattle.par2_spec.specs.Field.{mul}
-use Rattle.par2_spec.specs.Slices.{word}
-use Rattle.par2_spec.proofs.FieldBits.{tested, tested_at}
-use Rattle.par2_spec.proofs.FieldProducts.{product-lt}
-use Rattle.par2_gf16.specs.Steps.{AddsWithin, IsTable, IsInterleaving, AddsLanes}
 use Rattle.par2_gf16.proofs.LaneLaws.{map_all}
 use Rattle.par2_gf16.proofs.WordLaws.{word_xor}
 

@@ -1,9 +1,5 @@
 -- Columns, block by block.
-use Rattle.std.proofs.Common.{ℕ, ◌+◌, ◌*◌, ◌<◌, ◌≡◌, inl, inr, sym, ap, subst, ◌∙◌, ◌-◌, arith, List, [], ◌∷◌, ◌++◌, length, length-append, get_or}
-use Rattle.std.proofs.lemmas.Bool.{cases_eq}
-use Rattle.std.proofs.lemmas.List.{get_or_append_left, get_or-append_right}
-use Rattle.std.specs.Prelude.{take, drop}
-use Rattle.par2_gf16.specs.Nibbles.{HasNibbles, AreSplit}
+use Rattle.par2_gf16.proofs.Common.{ℕ, ◌+◌, ◌*◌, ◌<◌, ◌≡◌, inl, inr, sym, ap, subst, ◌∙◌, ◌-◌, arith, List, [], ◌∷◌, ◌++◌, length, length-append, get_or, cases_eq, get_or_append_left, get_or-append_right, take, drop, HasNibbles, AreSplit}
 use Rattle.par2_gf16.specs.declared.nibbles.Nibbles.{Nibbles}
 
 -- one block more

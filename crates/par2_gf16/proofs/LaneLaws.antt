@@ -1,21 +1,10 @@
 -- Vectors, lane by lane.
-use Rattle.std.proofs.Common.{ℕ, zero, suc, ◌+◌, ◌*◌, ◌/◌, ◌%◌, ◌^◌, ◌<◌, ◌≡◌, refl, sym, ap, ap₂, ◌∙◌, arith, List, [], ◌∷◌, map, length, replicate, Bool, true, false, cond, eqb, bit_and, zero-mul, one-mul, pow_pos, pow-suc, mul_comm, add-one, inl, inr, mod-lt}
+use Rattle.par2_gf16.proofs.Common.{ℕ, zero, suc, ◌+◌, ◌*◌, ◌/◌, ◌%◌, ◌^◌, ◌<◌, ◌≡◌, refl, sym, ap, ap₂, ◌∙◌, arith, List, [], ◌∷◌, map, length, replicate, Bool, true, false, cond, eqb, bit_and, zero-mul, one-mul, pow_pos, pow-suc, mul_comm, add-one, inl, inr, mod-lt, shr-shr, xor_comm, and_pow, eqb-true, eqb-false, map-id, zip2_of_maps, map-map, xor_shifted, mul, LanesSoFar, bit_cases, tested, tested_at, product_linear_right, product-lt, product_comm, product_assoc, product-one, product-zero, power-lt}
 use Rattle.std.proofs.Math.Arith.{mod-mul}
 use Rattle.std.proofs.Math.Nat.{mod-eq_of_lt}
-use Rattle.std.proofs.lemmas.Nat.{shr-shr}
-use Rattle.std.proofs.lemmas.Nat.Bits.{and_pow}
-use Rattle.std.proofs.lemmas.Bool.{eqb-true, eqb-false}
-use Rattle.std.proofs.lemmas.List.{map-id}
-use Rattle.std.proofs.lemmas.Simd.{zip2_of_maps, map-map}
 use Rattle.std.specs.Int.{bit_at}
 use Rattle.std.specs.Int.RustNames.{bit_xor}
-use Rattle.std.specs.Int.Bits.{xor_shifted}
-use Rattle.std.proofs.lemmas.Nat.{xor_comm}
-use Rattle.par2_spec.specs.Field.{mul, pow}
-use Rattle.par2_gf16.specs.Steps.{LanesSoFar}
-use Rattle.par2_spec.proofs.FieldBits.{bit_cases, tested, tested_at}
-use Rattle.par2_spec.proofs.FieldProducts.{product_linear_right, product-lt, product_comm, product_assoc, product-one}
-use Rattle.par2_spec.proofs.FieldOrder.{product-zero, power-lt}
+use Rattle.par2_spec.specs.Field.{pow}
 use lib.Lanes.{zip2, sel_l, top, Each1}
 
 pub map_same : (f g : ℕ → ℕ) (P : ℕ → Type 0) → ((x : ℕ) → P x → f x ≡ g x) → (xs : List ℕ) → Each1 P xs → map f xs ≡ map g xs

@@ -1,3 +1,4 @@
+mod Common
 pub mod WordLaws
 pub mod LaneLaws
 pub mod NibbleLaws

@@ -1,15 +1,6 @@
 -- The product of a word, nibble by nibble.
-use Rattle.std.proofs.Common.{ℕ, ◌+◌, ◌*◌, ◌/◌, ◌%◌, ◌<◌, ◌≡◌, refl, sym, ap, ap₂, ◌∙◌, arith, List, ◌++◌, map, length, get_or, eqb, true}
-use Rattle.std.proofs.lemmas.Bool.{eqb-true}
-use Rattle.std.proofs.lemmas.Nat.{xor_mod, xor_shr, xor_comm}
-use Rattle.std.proofs.lemmas.List.{get_or-map, length-map}
-use Rattle.std.specs.List.{range_with_len}
-use Rattle.std.specs.Prelude.{bit_xor}
-use Rattle.std.specs.Int.Bits.{xor_shifted}
+use Rattle.par2_gf16.proofs.Common.{ℕ, ◌+◌, ◌*◌, ◌/◌, ◌%◌, ◌<◌, ◌≡◌, refl, sym, ap, ap₂, ◌∙◌, arith, List, ◌++◌, map, length, get_or, eqb, true, eqb-true, xor_mod, xor_shr, xor_comm, get_or-map, length-map, range_with_len, bit_xor, xor_shifted, tested, tested_at, xor_shl, product-lt, product_comm, product_assoc, product_linear_right, IsTable}
 use Rattle.par2_spec.specs.Field.{mul}
-use Rattle.par2_spec.proofs.FieldBits.{tested, tested_at, xor_shl}
-use Rattle.par2_spec.proofs.FieldProducts.{product-lt, product_comm, product_assoc, product_linear_right}
-use Rattle.par2_gf16.specs.Steps.{IsTable}
 
 test_16 : tested (λ n. eqb (mul 16 n) (n * 16)) 16 ≡ true
 unfolding mul

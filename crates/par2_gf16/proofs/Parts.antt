@@ -1,13 +1,7 @@
 -- Words that are added one part after another, and where a source ends.
-use Rattle.std.proofs.Common.{ℕ, ◌+◌, ◌*◌, ◌/◌, ◌<◌, ◌≤◌, ◌≡◌, inl, inr, refl, sym, ap, ◌∙◌, subst, arith, List, length, bit_xor}
-use Rattle.std.proofs.lemmas.Bool.{cases_lt}
-use Rattle.std.specs.Int.Bits.{xor_zero_r}
-use Rattle.par2_spec.specs.Field.{mul}
-use Rattle.par2_spec.specs.Slices.{word}
-use Rattle.par2_spec.proofs.FieldOrder.{product-zero}
+use Rattle.par2_gf16.proofs.Common.{ℕ, ◌+◌, ◌*◌, ◌/◌, ◌<◌, ◌≤◌, ◌≡◌, inl, inr, refl, sym, ap, ◌∙◌, subst, arith, List, length, cases_lt, xor_zero_r, mul, word, product-zero, AddsProducts, AddsWithin}
+use Rattle.std.proofs.Common.{bit_xor}
 use Rattle.par2_spec.proofs.WordLaws.{word_past}
-use Rattle.par2_gf16.specs.Products.{AddsProducts}
-use Rattle.par2_gf16.specs.Steps.{AddsWithin}
 
 -- one part after another
 pub adds_after : (c : ℕ) (src old mid new : List ℕ) (a b d : ℕ) → a ≤ b → b ≤ d → AddsWithin c src old mid a b → AddsWithin c src mid new b d → AddsWithin c src old new a d

@@ -1,11 +1,6 @@
 -- Words of bytes under writes.
-use Rattle.std.proofs.Common.{ℕ, ◌+◌, ◌*◌, ◌/◌, ◌%◌, ◌^◌, ◌<◌, ◌≡◌, ◌≢◌, sym, ap, ap₂, ◌∙◌, subst, arith, List, length, get_or, set, length-set}
-use Rattle.std.proofs.lemmas.List.{get_or-set_same, get_or-set_other}
-use Rattle.std.proofs.lemmas.Nat.{xor_block}
+use Rattle.par2_gf16.proofs.Common.{ℕ, ◌+◌, ◌*◌, ◌/◌, ◌%◌, ◌^◌, ◌<◌, ◌≡◌, ◌≢◌, sym, ap, ap₂, ◌∙◌, subst, arith, List, length, get_or, set, length-set, get_or-set_same, get_or-set_other, xor_block, mul, word, AddsWithin}
 use Rattle.std.specs.Int.RustNames.{bit_xor}
-use Rattle.par2_spec.specs.Field.{mul}
-use Rattle.par2_spec.specs.Slices.{word}
-use Rattle.par2_gf16.specs.Steps.{AddsWithin}
 
 two_writes : List ℕ → ℕ → ℕ → ℕ → List ℕ
 two_writes xs at low high = set (set xs at low) (at + 1) high

@@ -1,26 +1,13 @@
 -- What a run did to the store by its words and its status.
-use Rattle.std.proofs.Common.{◌≡◌, ◌≢◌, ◌⊎◌, inl, inr, ℕ, ◌<◌, Bool, List, Option, Some, None, Ok, Err, refl, sym, ap, subst, ◌∙◌, arith}
+use Rattle.par2_headline.proofs.Common.{◌≡◌, ◌≢◌, ◌⊎◌, inl, inr, ℕ, ◌<◌, Bool, List, Option, Some, None, Ok, Err, refl, sym, ap, subst, ◌∙◌, arith, Action, Command, Do, Repair, Folder, Started, Contents, Outcome, status_of_fault, Failure, Refused, Store, Arguments, JournalInvalid, FolderChanged, NothingToUndo, NothingToRedo, Fault, Memory, AskFor, IsOpening, TellsApartInRun, with_history, HasNoEffect, TakesEffect, Telling, Answered, Failed, IsDone, IsFailed, IsRefusedFor, IsUnread, Leaves, OpensAsBeforeOrAfterRun, AskForRepair}
 use Rattle.std.proofs.lemmas.Option.{same_Some}
-use Rattle.par2_spec.specs.Commands.{Action, Command, Do, Repair}
-use Rattle.par2_spec.specs.Folders.{Folder}
 use Rattle.par2_spec.specs.History as history
-use Rattle.par2_spec.specs.Opening.{Started}
 use Rattle.par2_spec.specs.Plans.{changes_of}
 use Rattle.par2_spec.specs.Refusals.{refusal}
 use Rattle.par2_spec.specs.Sessions.{Session, changes_asked, changes_unless}
-use Rattle.par2_spec.specs.Stores.{Contents}
-use Rattle.par2_spec.specs.Texts.{Outcome, status_of, status_of_fault, status_of_failure}
-use Rattle.par2_spec.specs.declared.Failure.{Failure}
-use Rattle.par2_spec.specs.declared.Failure.TheVariants.{Refused, Store, Arguments, JournalInvalid, FolderChanged, NothingToUndo, NothingToRedo}
-use Rattle.par2_spec.specs.declared.Fault.{Fault}
-use Rattle.par2_spec.specs.declared.Fault.TheVariants.{Memory}
+use Rattle.par2_spec.specs.Texts.{status_of, status_of_failure}
 use Rattle.par2_sessions.proofs.RepairAnswers.{IsRepaired, is_repaired}
-use Rattle.par2_tool.specs.Asking.{AskFor}
-use Rattle.par2_tool.specs.Holding.{IsOpening, TellsApartInRun, with_history}
 use Rattle.par2_tool.specs.Opening.{IsOpened, OnlyTakesBack}
-use Rattle.par2_tool.specs.Runs.{HasNoEffect, TakesEffect}
-use Rattle.par2_tool.specs.Telling.{Telling, Answered, Failed, IsDone, IsFailed, IsRefusedFor, IsUnread, Leaves, OpensAsBeforeOrAfterRun}
-use Rattle.par2_headline.specs.Repairs.{AskForRepair}
 use Rattle.par2_headline.proofs.Statuses.{own_status, failure_is_told}
 
 -- words ask for one action

@@ -1,13 +1,7 @@
 -- How many writing calls a run made.
-use Rattle.std.proofs.Common.{◌≡◌, ◌+◌, inl, inr, ℕ, List, subst, arith}
+use Rattle.par2_headline.proofs.Common.{◌≡◌, ◌+◌, inl, inr, ℕ, List, subst, arith, Action, Do, Verify, Contents, Failure, Refused, Store, Arguments, JournalInvalid, FolderChanged, NothingToUndo, NothingToRedo, AskFor, Telling, Answered, Failed, MakesCalls}
 use Rattle.par2_spec.specs.Changes.{Change}
-use Rattle.par2_spec.specs.Commands.{Action, Do, Verify}
-use Rattle.par2_spec.specs.Stores.{Contents}
-use Rattle.par2_spec.specs.declared.Failure.{Failure}
-use Rattle.par2_spec.specs.declared.Failure.TheVariants.{Refused, Store, Arguments, JournalInvalid, FolderChanged, NothingToUndo, NothingToRedo}
-use Rattle.par2_tool.specs.Asking.{AskFor}
 use Rattle.par2_tool.specs.Calls.{AreCallsToOpen, AreCallsToRun, CountsFailedRun, CountsRefusedRun, IsHalfway}
-use Rattle.par2_tool.specs.Telling.{Telling, Answered, Failed, MakesCalls}
 use Rattle.par2_headline.proofs.Answers.{one_action}
 
 module _ (words : List (List ℕ)) (old : Contents) (before after : ℕ) (base : List ℕ) (extras : List (List ℕ)) (none : (back : List Change) → IsHalfway old back → ⊥) where

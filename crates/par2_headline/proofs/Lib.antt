@@ -1,3 +1,4 @@
+mod Common
 mod Statuses
 mod Answers
 mod UndoneRuns

@@ -1,14 +1,8 @@
 -- What the status of a run tells.
-use Rattle.std.proofs.Common.{◌≡◌, ◌≢◌, ◌⊎◌, inl, inr, ℕ, false, refl, arith}
-use Rattle.par2_spec.specs.Texts.{status_of, status_of_fault, status_of_failure}
-use Rattle.par2_spec.specs.declared.Failure.{Failure}
-use Rattle.par2_spec.specs.declared.Failure.TheVariants.{Refused, Store, Arguments, JournalInvalid, FolderChanged, NothingToUndo, NothingToRedo}
-use Rattle.par2_spec.specs.declared.Fault.{Fault}
-use Rattle.par2_spec.specs.declared.Fault.TheVariants.{BadSliceSize, BadCount, BadBase, NoInput, BadName, DuplicateInput, NoSuchFile, EmptyFile, TooManySlices, DuplicateId, NameTooLong, Exists, NoPackets, NoMain, NoDescription, NoChecksums, BadSet, NotRepairable, RepairFailed, NotComplete, Memory}
+use Rattle.par2_headline.proofs.Common.{◌≡◌, ◌≢◌, ◌⊎◌, inl, inr, ℕ, false, refl, arith, status_of, Failure, Refused, Store, Arguments, JournalInvalid, FolderChanged, NothingToUndo, NothingToRedo, Fault, BadSliceSize, BadCount, BadBase, NoInput, BadName, DuplicateInput, NoSuchFile, EmptyFile, TooManySlices, DuplicateId, NameTooLong, Exists, NoPackets, NoMain, NoDescription, NoChecksums, BadSet, NotRepairable, RepairFailed, NotComplete, Memory, may_refuse, Telling, Answered, Failed, IsShown}
+use Rattle.par2_spec.specs.Texts.{status_of_fault, status_of_failure}
 use Rattle.std.specs.Prelude.{List, Option}
-use Rattle.par2_laws.specs.Creates.{may_refuse}
 use Rattle.par2_printing.specs.declared.printer.Printer.{Printer}
-use Rattle.par2_tool.specs.Telling.{Telling, Answered, Failed, IsShown}
 
 -- a fault with this status: it isn't 0; 2 and 5 have one fault alone; and a repair of what a create left has no fault
 -- of status 4

@@ -1,17 +1,10 @@
 -- As many undos as commands took effect lead back.
-use Rattle.std.proofs.Common.{◌≡◌, ℕ, zero, suc, ◌≤◌, List, [], ◌∷◌, length, drop, replicate, Ok, refl, sym, ap, subst, ◌∙◌, arith}
+use Rattle.par2_headline.proofs.Common.{◌≡◌, ℕ, zero, suc, ◌≤◌, List, [], ◌∷◌, length, drop, replicate, Ok, refl, sym, ap, subst, ◌∙◌, arith, AllByRecursion, Action, Undo, Folder, Started, Contents, IsOpening, IsSettled, Runs, TakesEffect, Effective}
 use Rattle.std.proofs.lemmas.List.{length-replicate}
-use Rattle.std.specs.List.{AllByRecursion}
-use Rattle.par2_spec.specs.Commands.{Action, Undo}
-use Rattle.par2_spec.specs.Folders.{Folder}
 use Rattle.par2_spec.specs.History.{History, Run, Ended, Accepted, Passed, IsChanging, folders, history_after}
 use Rattle.par2_spec.specs.History as history
-use Rattle.par2_spec.specs.Opening.{Started}
 use Rattle.par2_spec.specs.Sessions.{history_of}
-use Rattle.par2_spec.specs.Stores.{Contents}
 use Rattle.par2_sessions.proofs.UndoRuns.{one_fewer}
-use Rattle.par2_tool.specs.Holding.{IsOpening, IsSettled}
-use Rattle.par2_tool.specs.Runs.{Runs, TakesEffect, Effective}
 use Rattle.par2_tool.specs.Runs as runs
 use Rattle.par2_headline.proofs.Answers.{OneWay}
 

@@ -1,10 +1,6 @@
 -- Journals that are written in two parts.
-use Rattle.std.proofs.Common.{◌≡◌, ℕ, List, ◌++◌, Option, Result, Ok, Err, ap, ◌∙◌}
-use Rattle.std.specs.Prelude.{IfOk}
-use Rattle.md5.specs.Md5.{md5}
-use Rattle.par2_spec.specs.Changes.{Change}
-use Rattle.par2_spec.specs.Journals.{HalfwayPart, Spells, spelling}
-use Rattle.par2_spec.specs.declared.Version.{Version}
+use Rattle.par2_journal_bytes.proofs.Common.{◌≡◌, ℕ, List, ◌++◌, Option, Result, Ok, Err, ap, ◌∙◌, IfOk, md5, Change, HalfwayPart, Spells, Version}
+use Rattle.par2_spec.specs.Journals.{spelling}
 use Rattle.par2_journal_bytes.specs.Fronts.{Begins, Continues, Finishes, journal_of_parts}
 
 -- after the digest of all but it, the journal is spelled

@@ -1,3 +1,4 @@
+mod Common
 pub mod Many
 pub mod Fields
 pub mod Pieces

@@ -1,12 +1,6 @@
 -- Reading and writing values one after the other, as a loop does.
-use Rattle.std.proofs.Common.{◌≡◌, ℕ, suc, ◌-◌, ◌+◌, ◌≤◌, ◌<◌, List, [], ◌∷◌, ◌++◌, length, map, take, get_or, Option, Some, None, refl, sym, ap, subst, ◌∙◌, append_assoc, arith}
-use Rattle.std.specs.Prelude.{flat_map}
-use Rattle.std.specs.List.{AllByRecursion}
-use Rattle.std.proofs.lemmas.List.{append-nil, flat_map_more, map_more, take_all}
-use Rattle.par2_spec.proofs.ListsLaws.{all-append}
-use Rattle.par2_journal_bytes.specs.declared.fault.DecodeFault.{DecodeFault}
-use Rattle.par2_journal_bytes.specs.declared.fault.DecodeFault.TheVariants.{JournalInvalid, Memory}
-use Rattle.par2_journal_bytes.specs.Reading.{◌>>=◌, Fails, many_at}
+use Rattle.par2_journal_bytes.proofs.Common.{◌≡◌, ℕ, suc, ◌-◌, ◌+◌, ◌≤◌, ◌<◌, List, [], ◌∷◌, ◌++◌, length, map, take, get_or, Option, Some, None, refl, sym, ap, subst, ◌∙◌, append_assoc, arith, flat_map, AllByRecursion, append-nil, flat_map_more, map_more, take_all, all-append, DecodeFault, JournalInvalid, Memory, ◌>>=◌, Fails}
+use Rattle.par2_journal_bytes.specs.Reading.{many_at}
 
 abbrev pub Reader : Type 0 → Type 0
 Reader A = List ℕ → Option (A × List ℕ)

@@ -1,15 +1,7 @@
 -- What an answer of the reader says of a text.
-use Rattle.std.proofs.Common.{◌≡◌, ℕ, List, Result, Ok, Err, refl, sym, ◌∙◌}
-use Rattle.std.specs.Prelude.{IfOk, MatchResult}
-use Rattle.std.proofs.lemmas.Option.{same_Some, none-some}
+use Rattle.par2_journal_bytes.proofs.Common.{◌≡◌, ℕ, List, Result, Ok, Err, refl, sym, ◌∙◌, IfOk, MatchResult, same_Some, none-some, Spells, AreBytes, DecodeFault, JournalInvalid, Memory, journal_of, Gives, journal_at}
 use Rattle.par2_spec.specs.Journals as defined
-use Rattle.par2_spec.specs.Journals.{Spells}
-use Rattle.par2_spec.specs.Rank.{AreBytes}
 use Rattle.par2_journal_bytes.specs.declared.journal.Journal.{Journal}
-use Rattle.par2_journal_bytes.specs.declared.fault.DecodeFault.{DecodeFault}
-use Rattle.par2_journal_bytes.specs.declared.fault.DecodeFault.TheVariants.{JournalInvalid, Memory}
-use Rattle.par2_journal_bytes.specs.Views.{journal_of}
-use Rattle.par2_journal_bytes.specs.Reading.{Gives, journal_at}
 use Rattle.par2_journal_bytes.proofs.Whole.{journal_takes, journal_again}
 
 pub is_found : (text : List ℕ) (r : Result Journal DecodeFault) → AreBytes text → Gives journal_of r (journal_at text) → IfOk r (λ j. Spells text (journal_of j))

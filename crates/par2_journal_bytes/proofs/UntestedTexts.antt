@@ -1,17 +1,7 @@
 -- What a text says whose digest is tested after it was read.
-use Rattle.std.proofs.Common.{◌≡◌, ℕ, ◌-◌, ◌<◌, ◌≤◌, Bool, true, false, cond, List, length, take, drop, Option, Some, None, Result, Err, refl, sym, ap, ◌∙◌}
-use Rattle.std.specs.Str.{bytes_eq}
-use Rattle.std.proofs.lemmas.Bool.{le-ltb, lt-ltb}
-use Rattle.std.proofs.lemmas.Option.{none-some}
-use Rattle.std.proofs.lemmas.Slice.Eq.{bytes_eq-Decides}
-use Rattle.md5.specs.Md5.{md5}
-use Rattle.par2_spec.specs.Journals.{Journal, IsJournal, Spells}
-use Rattle.par2_spec.specs.Rank.{AreBytes}
-use Rattle.par2_spec.proofs.RestoredLaws.{bytes-take}
-use Rattle.par2_journal_bytes.specs.Reading.{Fails, IsSealed, parts_at, journal_at}
+use Rattle.par2_journal_bytes.proofs.Common.{◌≡◌, ℕ, ◌-◌, ◌<◌, ◌≤◌, Bool, true, false, cond, List, length, take, drop, Option, Some, None, Result, Err, refl, sym, ap, ◌∙◌, bytes_eq, le-ltb, lt-ltb, none-some, bytes_eq-Decides, md5, Journal, IsJournal, Spells, AreBytes, bytes-take, Fails, IsSealed, parts_at, DecodeFault, JournalInvalid, Memory}
+use Rattle.par2_journal_bytes.specs.Reading.{journal_at}
 use Rattle.par2_journal_bytes.specs.Untested.{IsForeign}
-use Rattle.par2_journal_bytes.specs.declared.fault.DecodeFault.{DecodeFault}
-use Rattle.par2_journal_bytes.specs.declared.fault.DecodeFault.TheVariants.{JournalInvalid, Memory}
 use Rattle.par2_journal_bytes.specs.declared.reading.Untested.{Untested}
 use Rattle.par2_journal_bytes.proofs.Whole.{parts_take, journal_takes, journal_again}
 

@@ -1,21 +1,9 @@
 -- Whole journals: what is read is spelled so, and what is spelled so is read.
-use Rattle.std.proofs.Common.{◌≡◌, ℕ, ◌-◌, ◌+◌, ◌^◌, ◌≤◌, ◌<◌, Bool, true, false, cond, leb, ltb, eqb, ◌&&◌, List, [], ◌++◌, length, take, drop, Option, Some, None, refl, sym, ap, subst, ◌∙◌, append_assoc, arith, inl, inr}
-use Rattle.std.specs.Prelude.{flat_map, ◌⊎◌, if◌then◌else◌}
-use Rattle.std.specs.Int.{w64, to_le_bytes}
-use Rattle.std.specs.Str.{bytes_eq}
-use Rattle.std.proofs.lemmas.Bool.{leb-true, le-leb, le-ltb, eqb-true, and_parts, and_from}
-use Rattle.std.proofs.lemmas.Option.{same_Some, cond_some, none-some}
-use Rattle.std.proofs.lemmas.List.{append-nil, nil_from_length, take-append-drop, take_at, drop_at, length-append}
-use Rattle.std.proofs.lemmas.Slice.Eq.{bytes_eq-Decides}
-use Rattle.md5.specs.Md5.{md5}
+use Rattle.par2_journal_bytes.proofs.Common.{◌≡◌, ℕ, ◌-◌, ◌+◌, ◌^◌, ◌≤◌, ◌<◌, Bool, true, false, cond, leb, ltb, eqb, ◌&&◌, List, [], ◌++◌, length, take, drop, Option, Some, None, refl, sym, ap, subst, ◌∙◌, append_assoc, arith, inl, inr, flat_map, ◌⊎◌, if◌then◌else◌, w64, to_le_bytes, bytes_eq, leb-true, le-leb, le-ltb, eqb-true, and_parts, and_from, same_Some, cond_some, none-some, append-nil, nil_from_length, take-append-drop, take_at, drop_at, length-append, bytes_eq-Decides, md5, Change, HalfwayPart, Journal, IsEntry, IsCursor, IsJournal, Spells, heading, cursor_bytes, entry_bytes, halfway_bytes, Version, AreBytes, bytes-take, ◌>>=◌, some_where, block_at, number_at, many_at, entry_at, halfway_at, cursor_in}
 use Rattle.md5.proofs.StandardFacts.{length-md5}
-use Rattle.par2_spec.specs.Changes.{Change}
-use Rattle.par2_spec.specs.Journals.{HalfwayPart, Journal, IsEntry, IsCursor, IsJournal, Spells, heading, cursor_bytes, entry_bytes, halfway_bytes, journal_bytes, spelling}
-use Rattle.par2_spec.specs.declared.Version.{Version}
+use Rattle.par2_spec.specs.Journals.{journal_bytes, spelling}
 use Rattle.par2_spec.specs.declared.Version.TheVariants.{One, Two}
-use Rattle.par2_spec.specs.Rank.{AreBytes}
-use Rattle.par2_spec.proofs.RestoredLaws.{bytes-take}
-use Rattle.par2_journal_bytes.specs.Reading.{◌>>=◌, some_where, block_at, number_at, many_at, entry_at, halfway_at, heading_at, cursor_at, cursor_in, behind_cursor_at, parts_at, journal_at}
+use Rattle.par2_journal_bytes.specs.Reading.{heading_at, cursor_at, behind_cursor_at, parts_at, journal_at}
 use Rattle.par2_journal_bytes.proofs.Fields.{bind_some, Took, Took-then, block_read, block_again, number_read, number_again, many_read}
 use Rattle.par2_journal_bytes.proofs.Pieces.{entry_read, halfway_read}
 

@@ -1,11 +1,6 @@
 -- Slices that agree with what survives are as many as the pairs of the set.
-use Rattle.std.proofs.Common.{◌≡◌, ℕ, List, length, map, ◌∙◌}
-use Rattle.std.proofs.lemmas.List.{length-map}
+use Rattle.par2_laws.proofs.Common.{◌≡◌, ℕ, List, length, map, ◌∙◌, length-map, found, Agrees, Folder, bytes_of, ParSet, all_pairs}
 use Rattle.std.proofs.lemmas.Slice.Zip.{AllZip-long}
-use Rattle.par2_spec.specs.Windows.{found}
-use Rattle.par2_spec.specs.Rank.{Agrees}
-use Rattle.par2_spec.specs.Folders.{Folder, bytes_of}
-use Rattle.par2_spec.specs.Sets.{ParSet, all_pairs}
 use Rattle.par2_spec.specs.Search.{known}
 
 pub as_many_as_pairs : (folder : Folder) (set : ParSet) (searched : List (List ℕ)) (recovered : List (ℕ × List ℕ)) (slices : List (List ℕ))

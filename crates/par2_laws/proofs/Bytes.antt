@@ -1,13 +1,7 @@
 -- Sizes of what a set says of files: digests of sixteen bytes and checksums of 32 bits.
-use Rattle.std.proofs.Common.{ℕ, zero, suc, ◌+◌, ◌*◌, ◌/◌, ◌%◌, ◌^◌, ◌<◌, List, [], ◌∷◌, length, map, arith}
-use Rattle.std.specs.Prelude.{bit_xor, fold}
-use Rattle.std.specs.List.{AllByRecursion, range_with_len}
+use Rattle.par2_laws.proofs.Common.{ℕ, zero, suc, ◌+◌, ◌*◌, ◌/◌, ◌%◌, ◌^◌, ◌<◌, List, [], ◌∷◌, length, map, arith, bit_xor, fold, AllByRecursion, range_with_len, length-md5, crc_step, crc_steps, crc_byte, pair_of, IsPair, slice_at, slice_count, slices, AreBytes, bytes-slice_at}
 use Rattle.std.proofs.lemmas.Nat.{xor_lt}
-use Rattle.md5.proofs.StandardFacts.{length-md5}
-use Rattle.par2_spec.specs.Checksums.{crc_step, crc_steps, crc_byte, crc32, pair_of, IsPair}
-use Rattle.par2_spec.specs.Slices.{slice_at, slice_count, slices}
-use Rattle.par2_spec.specs.Rank.{AreBytes}
-use Rattle.par2_spec.proofs.RestoredLaws.{bytes-slice_at}
+use Rattle.par2_spec.specs.Checksums.{crc32}
 
 -- ---- checksums
 

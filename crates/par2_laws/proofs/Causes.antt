@@ -1,21 +1,8 @@
 -- What each answer to a repair says of the three tests of its set.
-use Rattle.std.proofs.Common.{◌≡◌, ℕ, List, [], ◌∷◌, refl, true, false, Bool, not}
+use Rattle.par2_laws.proofs.Common.{◌≡◌, ℕ, List, [], ◌∷◌, refl, true, false, Bool, not, list_all, AllByRecursion, bytes_eq, and_parts, not-true, md5, Fault, NameTooLong, NotRepairable, RepairFailed, first_fault, fault_where, is_repairable, rank, Folder, ParSet, Target, known, lost, survivors, rebuilt_targets, first_cause}
 use Rattle.std.specs.Prelude.{Option, Some, None}
-use Rattle.std.specs.List.{list_all, AllByRecursion}
-use Rattle.std.specs.Str.{bytes_eq}
-use Rattle.std.proofs.lemmas.Bool.{and_parts, not-true}
 use Rattle.std.proofs.lemmas.Slice.Eq.{bytes_eq-Decides}
-use Rattle.md5.specs.Md5.{md5}
-use Rattle.par2_spec.specs.declared.Fault.{Fault}
-use Rattle.par2_spec.specs.declared.Fault.TheVariants.{NameTooLong, NotRepairable, RepairFailed}
-use Rattle.par2_spec.specs.Faults.{first_fault, fault_where}
-use Rattle.par2_spec.specs.Rank.{is_repairable, rank}
-use Rattle.par2_spec.specs.Folders.{Folder}
-use Rattle.par2_spec.specs.Sets.{ParSet, Target}
-use Rattle.par2_spec.specs.Search.{known, lost, survivors}
-use Rattle.par2_spec.specs.Repairs.{rebuilt_targets}
 use Rattle.par2_spec.specs.Refusals.{repair_refusal}
-use Rattle.par2_spec.proofs.RefusedLaws.{first_cause}
 
 -- the answer by whether the set is repairable, a name is too long, and the digests are right
 abbrev answer : (repairable long right : Bool) (missing rank : ℕ) → Option Fault

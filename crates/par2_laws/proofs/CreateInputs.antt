@@ -1,36 +1,10 @@
 -- What the refusals of a create leave: files that a create takes.
-use Rattle.std.proofs.Common.{◌≡◌, ℕ, zero, suc, ◌+◌, ◌*◌, ◌^◌, ◌<◌, ◌≤◌, true, false, not, ◌&&◌, List, [], ◌∷◌, ◌++◌, length, map, take, Option, None, sym, ap, ◌∙◌, subst, append_assoc, length-append, unwrap_or, arith}
-use Rattle.std.specs.Prelude.{sum_by, nat_lt, ◌==◌}
-use Rattle.std.specs.List.{AllByRecursion, IsDistinct, list_any, enumerate_from}
-use Rattle.std.specs.Str.{bytes_eq}
-use Rattle.std.specs.FinMap.{get-entries}
-use Rattle.std.specs.Ordering.{nat_cmp}
-use Rattle.std.specs.Cmp.Lexicographic.{slice_cmp}
-use Rattle.std.proofs.lemmas.Bool.{not-false, and_parts, or_parts, eqb-true, eqb-false, ltb-false}
-use Rattle.std.proofs.lemmas.Grind.{div_ceil_times}
-use Rattle.std.proofs.lemmas.List.{length-map}
+use Rattle.par2_laws.proofs.Common.{◌≡◌, ℕ, zero, suc, ◌+◌, ◌*◌, ◌^◌, ◌<◌, ◌≤◌, true, false, not, ◌&&◌, List, [], ◌∷◌, ◌++◌, length, map, take, Option, None, sym, ap, ◌∙◌, subst, append_assoc, length-append, arith, sum_by, nat_lt, ◌==◌, AllByRecursion, list_any, enumerate_from, bytes_eq, get-entries, nat_cmp, slice_cmp, not-false, and_parts, or_parts, eqb-true, eqb-false, ltb-false, div_ceil_times, length-map, sum_by-cons, take-append_seam, Fault, BadSliceSize, BadCount, BadBase, NoInput, BadName, DuplicateInput, NoSuchFile, EmptyFile, TooManySlices, DuplicateId, NameTooLong, Exists, fault_where, fault_at, slice_count, is_name, is_par_name, is_among, distinct, Folder, File, IsFolder, has, bytes_of, files, id_of, is_slice_size, CreateArgs, Create, files_of, outputs_of, are_counts, is_input_name, AreInputs, FitsCreate, all_weaker, size_positive, distinct_by_length, same_either_way, std_from_distinct, found_at_key, where_none, all_none, at_none, names_of_files}
+use Rattle.std.proofs.Common.{unwrap_or}
+use Rattle.std.specs.List.{IsDistinct}
 use Rattle.std.proofs.lemmas.List.Folds.{list_any-append}
-use Rattle.std.proofs.lemmas.List.Sums.{sum_by-cons}
-use Rattle.std.proofs.Math.Seq.{take-append_seam}
 use Rattle.std.proofs.Math.Nat.{zero-mul}
-use Rattle.par2_spec.specs.declared.Fault.{Fault}
-use Rattle.par2_spec.specs.declared.Fault.TheVariants.{BadSliceSize, BadCount, BadBase, NoInput, BadName, DuplicateInput, NoSuchFile, EmptyFile, TooManySlices, DuplicateId, NameTooLong, Exists}
-use Rattle.par2_spec.specs.Faults.{fault_where, fault_at}
-use Rattle.par2_spec.specs.Slices.{slice_count}
-use Rattle.par2_spec.specs.Names.{is_name, is_par_name, is_among, distinct}
-use Rattle.par2_spec.specs.Folders.{Folder, File, IsFolder, has, bytes_of, files}
-use Rattle.par2_spec.specs.Volumes.{id_of}
-use Rattle.par2_spec.specs.Sets.{is_slice_size}
-use Rattle.par2_spec.specs.Commands.{CreateArgs, Create, files_of, outputs_of}
-use Rattle.par2_spec.specs.Refusals.{are_counts, is_input_name, create_refusal, refusal}
-use Rattle.par2_laws.specs.Volumes.{AreInputs}
-use Rattle.par2_laws.specs.Creates.{FitsCreate}
-use Rattle.par2_spec.proofs.RankLaws.{all_weaker}
-use Rattle.par2_spec.proofs.ReadLaws.{size_positive, distinct_by_length}
-use Rattle.par2_spec.proofs.NamesLaws.{same_either_way, std_from_distinct}
-use Rattle.par2_spec.proofs.ListsLaws.{found_at_key}
-use Rattle.par2_spec.proofs.TestLaws.{where_none, all_none, at_none}
-use Rattle.par2_spec.proofs.FilesLaws.{names_of_files}
+use Rattle.par2_spec.specs.Refusals.{create_refusal, refusal}
 
 -- ---- tests that find no fault
 

@@ -1,28 +1,12 @@
 -- What damage leaves of the par files of a create.
-use Rattle.std.proofs.Common.{◌≡◌, ℕ, ◌+◌, ◌-◌, arith, length, drop, ◌++◌, length-append, Bool, true, false, cond, not, ◌&&◌, List, [], ◌∷◌, map, Option, Some, None, refl, sym, ap, ◌∙◌, subst, inl, inr, ◌⊎◌, unwrap_or}
-use Rattle.std.specs.Prelude.{is_some, codes}
-use Rattle.std.specs.List.{AllByRecursion, Contains}
-use Rattle.std.specs.Str.{bytes_eq, str_to_ascii_lowercase}
+use Rattle.par2_laws.proofs.Common.{◌≡◌, ℕ, ◌+◌, ◌-◌, arith, length, drop, ◌++◌, length-append, Bool, true, false, cond, not, ◌&&◌, List, [], ◌∷◌, map, Option, Some, None, refl, sym, ap, ◌∙◌, subst, inl, inr, ◌⊎◌, is_some, codes, AllByRecursion, Contains, bytes_eq, str_to_ascii_lowercase, false≢true, and_parts, or_from, recursion_from_All, filter_passes, same_Some, drop-append_seam, is_name, is_par_name, is_among, par2_ending, Folder, File, has, bytes_of, names, volume_name, volume_numbers, volume_size, volumes_before, stem, five_digits, other_par_names, CreateArgs, Create, files_of, outputs_of, refusal, IsVolume, IsVolumeOrOther, IsOfOthers, set_id_of, HoldsVolumes, FitsCreate, IsDamage, output_names, all_weaker, get_put, at_name, contained_first, contained_later, some_if}
+use Rattle.std.proofs.Common.{unwrap_or}
 use Rattle.std.specs.FinMap as map_of
-use Rattle.std.proofs.lemmas.Bool.{false≢true, and_parts, or_from}
-use Rattle.std.proofs.lemmas.List.Elements.{recursion_from_All, filter_passes}
-use Rattle.std.proofs.lemmas.Option.{same_Some}
-use Rattle.std.proofs.Math.Seq.{drop-append_seam}
-use Rattle.par2_spec.specs.Names.{is_name, is_par_name, is_among, par2_ending}
-use Rattle.par2_spec.specs.Folders.{Folder, File, has, bytes_of, names, laid_over}
+use Rattle.par2_spec.specs.Folders.{laid_over}
 use Rattle.par2_spec.specs.Packets.{accepted_after}
-use Rattle.par2_spec.specs.Volumes.{volumes, volume_name, volume_numbers, volume_size, volumes_before, stem, five_digits}
-use Rattle.par2_spec.specs.Sets.{other_par_names}
-use Rattle.par2_spec.specs.Commands.{CreateArgs, Create, files_of, outputs_of}
-use Rattle.par2_spec.specs.Refusals.{refusal, after}
-use Rattle.par2_laws.specs.Volumes.{IsVolume, IsVolumeOrOther, IsOfOthers, set_id_of, HoldsVolumes}
-use Rattle.par2_laws.specs.Creates.{FitsCreate, IsDamage, output_names}
+use Rattle.par2_spec.specs.Volumes.{volumes}
+use Rattle.par2_spec.specs.Refusals.{after}
 use Rattle.par2_laws.proofs.CreateInputs.{passes}
-use Rattle.par2_spec.proofs.RankLaws.{all_weaker}
-use Rattle.par2_spec.proofs.MovesLaws.{get_put}
-use Rattle.par2_spec.proofs.FilesLaws.{at_name}
-use Rattle.par2_spec.proofs.ListsLaws.{contained_first, contained_later}
-use Rattle.par2_spec.proofs.TestLaws.{some_if}
 
 -- ---- what stands under a name
 

@@ -1,22 +1,9 @@
 -- What the packets of files say.
-use Rattle.std.proofs.Common.{◌≡◌, ℕ, ◌<◌, ◌^◌, false, List, [], ◌∷◌, ◌++◌, length, map, Some, refl, sym, ap, ◌∙◌, subst, arith}
-use Rattle.std.specs.Prelude.{IsTrue, ◌==◌}
-use Rattle.std.specs.List.{AllByRecursion, Contains, list_any}
-use Rattle.std.proofs.lemmas.List.{length-map}
-use Rattle.std.proofs.lemmas.List.Elements.{recursion_from_All, All-contains_itself}
-use Rattle.std.proofs.lemmas.Option.{same_Some, none-some}
-use Rattle.md5.proofs.StandardFacts.{length-md5}
-use Rattle.par2_spec.specs.declared.Kind.{Kind}
-use Rattle.par2_spec.specs.declared.Kind.TheVariants.{Main, FileDesc, Ifsc, Recovery, Creator, Other}
-use Rattle.par2_spec.specs.Rank.{AreBytes}
-use Rattle.par2_spec.specs.Recovery.{recovery}
-use Rattle.par2_spec.specs.Folders.{File}
-use Rattle.par2_spec.specs.Packets.{Packet, MainBody, DescBody, IfscBody, RecoveryBody, read_main, read_desc, read_ifsc, read_recovery}
-use Rattle.par2_spec.specs.Volumes.{FileRecord, record_of, all_slices, main_bytes, desc_bytes, ifsc_bytes, recovery_bytes, packets_of}
-use Rattle.par2_laws.specs.Packets.{AreDescribed, is_read, IsOf}
+use Rattle.par2_laws.proofs.Common.{◌≡◌, ℕ, ◌<◌, ◌^◌, false, List, [], ◌∷◌, ◌++◌, length, map, Some, refl, sym, ap, ◌∙◌, subst, arith, IsTrue, ◌==◌, AllByRecursion, Contains, list_any, length-map, recursion_from_All, All-contains_itself, same_Some, none-some, length-md5, Kind, Main, FileDesc, Ifsc, Recovery, Creator, Other, AreBytes, recovery, File, Packet, MainBody, DescBody, IfscBody, RecoveryBody, FileRecord, all_slices, main_bytes, desc_bytes, ifsc_bytes, recovery_bytes, AreDescribed, is_read, IsOf, all-append, of_contained}
+use Rattle.par2_spec.specs.Packets.{read_main, read_desc, read_ifsc, read_recovery}
+use Rattle.par2_spec.specs.Volumes.{record_of, packets_of}
 use Rattle.par2_laws.proofs.Laws.{AreRead}
 use Rattle.par2_laws.proofs.Bytes.{pairs_are}
-use Rattle.par2_spec.proofs.ListsLaws.{all-append, of_contained}
 
 -- ---- what holds of each
 

@@ -1,32 +1,11 @@
 -- What the packets of an index let a reader find.
-use Rattle.std.proofs.Common.{◌≡◌, ℕ, zero, suc, ◌<◌, Bool, true, false, cond, ◌&&◌, List, [], ◌∷◌, ◌++◌, length, map, Option, Some, None, refl, sym, ap, ◌∙◌, subst, inl, inr, arith}
-use Rattle.std.specs.Prelude.{is_some, ◌==◌, filter, filter_map, find, slice_get, option_map, option_and_then, if◌then◌else◌}
-use Rattle.std.specs.List.{AllByRecursion, Contains, cons_option, slice_index_or}
-use Rattle.std.specs.Str.{bytes_eq}
-use Rattle.std.proofs.lemmas.Bool.{false≢true, and_from, eq-eqb}
-use Rattle.std.proofs.lemmas.List.{length-map}
-use Rattle.std.proofs.lemmas.List.Elements.{Contains-append_left, Contains-append_right}
-use Rattle.std.proofs.lemmas.Option.{same_Some}
-use Rattle.std.proofs.lemmas.Simd.{map-map}
-use Rattle.md5.specs.Md5.{md5}
-use Rattle.par2_spec.specs.declared.Kind.{Kind}
-use Rattle.par2_spec.specs.declared.Kind.TheVariants.{Main, FileDesc, Ifsc, Creator}
-use Rattle.par2_spec.specs.Checksums.{Pair}
-use Rattle.par2_spec.specs.Slices.{slice_count}
-use Rattle.par2_spec.specs.Folders.{File}
-use Rattle.par2_spec.specs.Packets.{Packet, MainBody, IfscBody, read_main, read_desc, read_ifsc}
-use Rattle.par2_spec.specs.Volumes.{FileRecord, record_of, id_of, index_packets, packet_of, main_id, main_bytes, desc_bytes, ifsc_bytes, creator_bytes}
-use Rattle.par2_spec.specs.Sets.{packets_with, main_of, description_of, pairs_of, target_of, target_of_file, all_some}
-use Rattle.par2_laws.specs.Packets.{AreDescribed}
+use Rattle.par2_laws.proofs.Common.{◌≡◌, ℕ, zero, suc, ◌<◌, Bool, true, false, cond, ◌&&◌, List, [], ◌∷◌, ◌++◌, length, map, Option, Some, None, refl, sym, ap, ◌∙◌, subst, inl, inr, arith, is_some, ◌==◌, filter, filter_map, find, slice_get, option_map, option_and_then, if◌then◌else◌, AllByRecursion, Contains, cons_option, slice_index_or, bytes_eq, false≢true, and_from, eq-eqb, length-map, Contains-append_left, Contains-append_right, same_Some, map-map, md5, Kind, Main, FileDesc, Ifsc, Creator, Pair, slice_count, File, Packet, MainBody, IfscBody, read_main, read_desc, read_ifsc, FileRecord, id_of, packet_of, main_id, main_bytes, desc_bytes, ifsc_bytes, creator_bytes, packets_with, main_of, description_of, pairs_of, target_of, target_of_file, all_some, AreDescribed, all_weaker, itself, contained_first, contained_later, of_contained, target_with}
+use Rattle.par2_spec.specs.Volumes.{record_of, index_packets}
 use Rattle.par2_laws.proofs.Laws.{AreRead}
 use Rattle.par2_laws.proofs.FilePackets.{all_contained, IsDescribed, each_described, main_of_files, desc_of_file, ifsc_of_file, main_written, desc_written, ifsc_written}
 use Rattle.par2_laws.proofs.SetsRead.{AllSay, contained_cases, by_ids, description_is, pairs_are_its, target_is}
 use Rattle.par2_laws.proofs.Inputs.{pairs_count}
 use Rattle.par2_laws.proofs.VolumePackets.{index_of}
-use Rattle.par2_spec.proofs.RankLaws.{all_weaker}
-use Rattle.par2_spec.proofs.NamesLaws.{itself}
-use Rattle.par2_spec.proofs.ListsLaws.{contained_first, contained_later, of_contained}
-use Rattle.par2_spec.proofs.ReadLaws.{target_with}
 
 -- ---- one of a list
 

@@ -1,29 +1,9 @@
 -- Files that a create takes: in another order, and as what a set says of them.
-use Rattle.std.proofs.Common.{◌≡◌, ℕ, ◌^◌, ◌<◌, ◌≤◌, true, false, List, [], ◌∷◌, length, map, sym, ◌∙◌, subst, arith}
-use Rattle.std.specs.Prelude.{IsTrue, IsPermutation, sum_by, ◌==◌}
-use Rattle.std.specs.List.{AllByRecursion, list_any, range_with_len}
-use Rattle.std.specs.Str.{bytes_eq}
-use Rattle.std.proofs.lemmas.Bool.{not-true, leb-true}
-use Rattle.std.proofs.lemmas.List.{length-map}
-use Rattle.std.proofs.lemmas.List.Sums.{sum_by-cons}
-use Rattle.std.proofs.lemmas.List.Sorted.{IsPermutation-map, sum_by-IsPermutation, length_permutation}
+use Rattle.par2_laws.proofs.Common.{◌≡◌, ℕ, ◌^◌, ◌<◌, ◌≤◌, true, false, List, [], ◌∷◌, length, map, sym, ◌∙◌, subst, arith, IsTrue, IsPermutation, sum_by, ◌==◌, AllByRecursion, list_any, range_with_len, bytes_eq, not-true, leb-true, length-map, sum_by-cons, IsPermutation-map, sum_by-IsPermutation, length_permutation, length-md5, pair_of, slice_count, slice_at, slices, is_name, AreBytes, File, IsFileRecord, id_of, AreDescribed, AreInputs, all-map, all_weaker, moved-all, same_either_way, size_parts}
 use Rattle.std.proofs.lemmas.List.FromFn.{length-range_with_len}
 use Rattle.std.proofs.lemmas.Map.Keys.{IsDistinct-IsPermutation}
-use Rattle.md5.proofs.StandardFacts.{length-md5}
-use Rattle.par2_spec.specs.Checksums.{pair_of}
-use Rattle.par2_spec.specs.Slices.{slice_count, slice_at, slices}
-use Rattle.par2_spec.specs.Names.{is_name}
-use Rattle.par2_spec.specs.Rank.{AreBytes}
-use Rattle.par2_spec.specs.Folders.{File}
-use Rattle.par2_spec.specs.Volumes.{IsFileRecord, record_of, id_of}
-use Rattle.par2_laws.specs.Packets.{AreDescribed}
-use Rattle.par2_laws.specs.Volumes.{AreInputs}
+use Rattle.par2_spec.specs.Volumes.{record_of}
 use Rattle.par2_laws.proofs.Bytes.{pairs_are}
-use Rattle.par2_spec.proofs.ListsLaws.{all-map}
-use Rattle.par2_spec.proofs.RankLaws.{all_weaker}
-use Rattle.par2_spec.proofs.OrderLaws.{moved-all}
-use Rattle.par2_spec.proofs.NamesLaws.{same_either_way}
-use Rattle.par2_spec.proofs.ReadLaws.{size_parts}
 use Rattle.par2_spec.proofs.NameTests.{tests_of}
 
 -- ---- in another order

@@ -1,22 +1,7 @@
 -- The laws of packets that the proofs are given.
-use Rattle.std.proofs.Common.{◌≡◌, ℕ, ◌<◌, ◌^◌, List, [], ◌++◌, ◌%◌, length, map, false, Some}
-use Rattle.std.specs.Prelude.{Bool, ◌==◌, ◌↔◌, IsTrue, flat_map, IsPermutation}
+use Rattle.par2_laws.proofs.Common.{◌≡◌, ℕ, ◌<◌, ◌^◌, List, [], ◌++◌, ◌%◌, length, map, false, Some, ◌==◌, ◌↔◌, IsTrue, flat_map, IsPermutation, bytes_eq, md5, AllByRecursion, list_any, list_all, Main, FileDesc, Ifsc, Recovery, packet, accepted, read_main, read_desc, read_ifsc, read_recovery, Folder, File, is_repairable, IsRepairable, AreBytes, AnotherAgrees, MadeFrom, candidates, known, NoCollision, rebuilt_targets, after_repair, after_repair_and_purge, Restores, Repair, refusal, NotRepairable, IsPair, IsFileRecord, FileRecord, all_slices, in_id_order, index_packets, recovery_packets, main_bytes, desc_bytes, ifsc_bytes, recovery_bytes}
+use Rattle.std.specs.Prelude.{Bool}
 use Rattle.std.specs.FinMap as map_of
-use Rattle.std.specs.Str.{bytes_eq}
-use Rattle.md5.specs.Md5.{md5}
-use Rattle.std.specs.List.{AllByRecursion, list_any, list_all}
-use Rattle.par2_spec.specs.declared.Kind.TheVariants.{Main, FileDesc, Ifsc, Recovery}
-use Rattle.par2_spec.specs.Packets.{packet, accepted, read_main, read_desc, read_ifsc, read_recovery}
-use Rattle.par2_spec.specs.Folders.{Folder, File}
-use Rattle.par2_spec.specs.Rank.{is_repairable, IsRepairable, AreBytes, AnotherAgrees}
-use Rattle.par2_spec.specs.Sets.{MadeFrom}
-use Rattle.par2_spec.specs.Search.{candidates, known, NoCollision}
-use Rattle.par2_spec.specs.Repairs.{rebuilt_targets, after_repair, after_repair_and_purge, Restores}
-use Rattle.par2_spec.specs.Commands.{Repair}
-use Rattle.par2_spec.specs.Refusals.{refusal}
-use Rattle.par2_spec.specs.declared.Fault.TheVariants.{NotRepairable}
-use Rattle.par2_spec.specs.Checksums.{IsPair}
-use Rattle.par2_spec.specs.Volumes.{IsFileRecord, FileRecord, all_slices, in_id_order, index_packets, recovery_packets, main_bytes, desc_bytes, ifsc_bytes, recovery_bytes}
 
 -- bodies that were written say what was given
 pub record AreRead : Type 0 where

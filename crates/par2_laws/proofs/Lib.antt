@@ -1,3 +1,4 @@
+mod Common
 pub mod Present
 pub mod Causes
 pub mod Texts

@@ -1,16 +1,7 @@
 -- The set that a repair reads, by which of its files are there.
-use Rattle.std.proofs.Common.{◌≡◌, ◌⊎◌, ℕ, ◌+◌, List, ◌∷◌, refl, sym, ◌∙◌, subst, inl, inr, true}
-use Rattle.std.specs.Prelude.{Option, Some, None, Ok, Err}
-use Rattle.std.specs.List.{list_all}
-use Rattle.std.proofs.lemmas.Bool.{and_parts}
-use Rattle.par2_spec.specs.declared.Fault.{Fault}
-use Rattle.par2_spec.specs.declared.Fault.TheVariants.{NoSuchFile}
-use Rattle.par2_spec.specs.Folders.{Folder, has}
-use Rattle.par2_spec.specs.Sets.{ParSet, set_of}
-use Rattle.par2_spec.specs.Refusals.{set_in}
-use Rattle.par2_laws.specs.Faults.{is_of_reading}
+use Rattle.par2_laws.proofs.Common.{◌≡◌, ◌⊎◌, ℕ, ◌+◌, List, ◌∷◌, refl, sym, ◌∙◌, subst, inl, inr, true, Ok, Err, list_all, and_parts, Fault, NoSuchFile, Folder, has, ParSet, set_of, set_in, is_of_reading, missing, in_full, in_part, set_in_reads}
+use Rattle.std.specs.Prelude.{Option, Some, None}
 use Rattle.par2_laws.proofs.ReadSets.{set_of_answers}
-use Rattle.par2_spec.proofs.AcceptedCommands.{missing, in_full, in_part, set_in_reads}
 
 module _ (folder : Folder) (base : List ℕ) (extras : List (List ℕ)) where
   -- a set that is read is that of the base, in a folder with these files

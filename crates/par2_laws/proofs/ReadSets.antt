@@ -1,12 +1,7 @@
 -- What reading a set answers: a set whose recovery slices are those of packets, or a fault of reading.
-use Rattle.std.proofs.Common.{◌≡◌, List, ◌∷◌, map, refl, subst, inl, inr, true}
-use Rattle.std.specs.Prelude.{ℕ, flat_map, slice_get, Option, Some, None, Result, Ok, Err}
-use Rattle.std.proofs.lemmas.Bool.{cases_Bool}
-use Rattle.par2_spec.specs.declared.Fault.{Fault}
-use Rattle.par2_spec.specs.Packets.{accepted}
-use Rattle.par2_spec.specs.Folders.{Folder, bytes_of}
-use Rattle.par2_spec.specs.Sets.{ParSet, packets_with, recovery_of, read_set, set_of, other_par_names, all_some, is_slice_size, main_of, description_of, are_in_profile, target_of}
-use Rattle.par2_laws.specs.Faults.{is_of_reading}
+use Rattle.par2_laws.proofs.Common.{◌≡◌, List, ◌∷◌, map, refl, subst, inl, inr, true, flat_map, slice_get, Result, Ok, Err, cases_Bool, Fault, accepted, Folder, bytes_of, ParSet, packets_with, recovery_of, other_par_names, all_some, is_slice_size, main_of, description_of, are_in_profile, target_of, is_of_reading}
+use Rattle.std.specs.Prelude.{ℕ, Option, Some, None}
+use Rattle.par2_spec.specs.Sets.{read_set, set_of}
 
 -- the recovery slices are those of the packets of these texts that have one identifier
 abbrev pub IsOfPackets : List (List ℕ) → ParSet → Type 0

@@ -1,30 +1,15 @@
 -- The recovery slices of a set that reads are bytes of its folder's files.
-use Rattle.std.proofs.Common.{◌≡◌, ℕ, zero, suc, ◌-◌, ◌<◌, List, [], ◌∷◌, length, map, drop, refl, sym, ap, ◌∙◌, subst, T, cond, true, false, Bool, ◌&&◌}
-use Rattle.std.specs.Prelude.{flat_map, nat_le, nat_lt, ◌==◌, Some, None, Ok, unwrap_or, if◌then◌else◌}
-use Rattle.std.specs.List.{AllByRecursion}
-use Rattle.std.specs.Option.{ForSome}
-use Rattle.std.specs.Str.{bytes_eq}
+use Rattle.par2_laws.proofs.Common.{◌≡◌, ℕ, zero, suc, ◌-◌, ◌<◌, List, [], ◌∷◌, length, map, drop, refl, sym, ap, ◌∙◌, subst, T, cond, true, false, Bool, ◌&&◌, flat_map, nat_le, nat_lt, ◌==◌, Ok, unwrap_or, if◌then◌else◌, AllByRecursion, ForSome, bytes_eq, is_sorted, get-entries, entries_sorted, nat_cmp, eq_by_cmp, is_lt, is_eq, ordering_reverse, Kind, Main, FileDesc, Ifsc, Recovery, Creator, Other, Packet, RecoveryBody, accepted, begins_with_packet, claimed_length, AreBytes, Folder, bytes_of, ParSet, packets_with, recovery_of, set_of, other_par_names, HoldsBytes, all-filter, all-take, all-drop, all-each, all-filter_map, all-flat_map, all-map, T-parts, all-entries, all_weaker}
+use Rattle.std.specs.Prelude.{Some, None}
 use Rattle.std.specs.FinMap as map_of
-use Rattle.std.specs.FinMap.{find, is_sorted, get-entries, entries_sorted}
+use Rattle.std.specs.FinMap.{find}
 use Rattle.std.specs.FinMap.Entries.{below_all}
-use Rattle.std.specs.Ordering.{nat_cmp, eq_by_cmp, is_lt, is_eq, ordering_reverse}
 use Rattle.std.specs.declared.cmp.Ordering.{Ordering}
 use Rattle.std.specs.declared.cmp.Ordering.TheVariants.{Less, Equal, Greater}
 use Rattle.std.specs.Cmp.{nat_cmp_total, tied_itself}
-use Rattle.par2_spec.specs.declared.Kind.{Kind}
-use Rattle.par2_spec.specs.declared.Kind.TheVariants.{Main, FileDesc, Ifsc, Recovery, Creator, Other}
-use Rattle.par2_spec.specs.Packets.{Packet, RecoveryBody, accepted, accepted_after, begins_with_packet, claimed_length, first_packet, read_recovery}
-use Rattle.par2_spec.specs.Rank.{AreBytes}
-use Rattle.par2_spec.specs.Folders.{Folder, bytes_of}
-use Rattle.par2_spec.specs.Sets.{ParSet, packets_with, recovery_of, set_of, other_par_names}
-use Rattle.par2_laws.specs.Premises.{HoldsBytes}
+use Rattle.par2_spec.specs.Packets.{accepted_after, first_packet, read_recovery}
 use Rattle.par2_laws.proofs.Texts.{bytes_of_file}
 use Rattle.par2_laws.proofs.ReadSets.{set_of_answers}
-use Rattle.par2_spec.proofs.FoundLaws.{all-filter}
-use Rattle.par2_spec.proofs.ListsLaws.{all-take, all-drop, all-each, all-filter_map, all-flat_map, all-map}
-use Rattle.par2_spec.proofs.TestLaws.{T-parts}
-use Rattle.par2_spec.proofs.ReadLaws.{all-entries}
-use Rattle.par2_spec.proofs.RankLaws.{all_weaker}
 
 -- ---- packets
 

@@ -1,15 +1,8 @@
 -- To remove files of what a create left is damage that leaves its par files as they are.
-use Rattle.std.proofs.Common.{◌≡◌, ℕ, Bool, true, false, cond, ◌||◌, List, [], ◌∷◌, map, Option, Some, None, refl, sym, ap, ◌∙◌}
-use Rattle.std.specs.Prelude.{is_some}
-use Rattle.std.specs.Str.{bytes_eq}
+use Rattle.par2_laws.proofs.Common.{◌≡◌, ℕ, Bool, true, false, cond, ◌||◌, List, [], ◌∷◌, map, Option, Some, None, refl, sym, ap, ◌∙◌, is_some, bytes_eq, false≢true, or_left, is_among, Folder, File, has, without, CreateArgs, Create, outputs_of, output_names, IsDamage, get_put, get_without}
 use Rattle.std.specs.FinMap as map_of
-use Rattle.std.proofs.lemmas.Bool.{false≢true, or_left}
-use Rattle.par2_spec.specs.Names.{is_among}
-use Rattle.par2_spec.specs.Folders.{Folder, File, has, laid_over, without}
-use Rattle.par2_spec.specs.Commands.{CreateArgs, Create, outputs_of}
+use Rattle.par2_spec.specs.Folders.{laid_over}
 use Rattle.par2_spec.specs.Refusals.{after}
-use Rattle.par2_laws.specs.Creates.{output_names, IsDamage}
-use Rattle.par2_spec.proofs.MovesLaws.{get_put, get_without}
 
 -- a file that was put into a folder, or that was there, is there
 laid_there : (files : List File) (folder : Folder) (q : List ℕ) → (is_among (map (λ file. file.0) files) q || has folder q) ≡ true → has (laid_over files folder) q ≡ true

@@ -1,39 +1,11 @@
 -- What an accepted repair gives back.
-use Rattle.std.proofs.Common.{◌≡◌, ℕ, ◌+◌, Bool, true, false, not, List, [], ◌∷◌, ◌++◌, length, map, Option, Some, None, Ok, refl, sym, ap, ◌∙◌, subst, inl, inr, ◌⊎◌}
-use Rattle.std.specs.Prelude.{IsPermutation, is_some, nat_lt, filter, if◌then◌else◌}
-use Rattle.std.specs.List.{AllByRecursion, list_all, list_any}
-use Rattle.std.specs.Str.{bytes_eq}
+use Rattle.par2_laws.proofs.Common.{◌≡◌, ℕ, ◌+◌, Bool, true, false, not, List, [], ◌∷◌, ◌++◌, length, map, Option, Some, None, refl, sym, ap, ◌∙◌, subst, inl, inr, ◌⊎◌, IsPermutation, is_some, nat_lt, filter, if◌then◌else◌, AllByRecursion, list_all, list_any, bytes_eq, false≢true, not-false, and_parts, IsPermutation-sym, IsPermutation-map, same_Some, map-map, Fault, NoSuchFile, NotRepairable, NameTooLong, RepairFailed, md5, pair_of, Matches, windows, first_fault, then_fault, fault_where, slices, AreBytes, is_repairable, rank, IsRepairable, distinct, Folder, File, has, bytes_of, all_slices, in_id_order, ParSet, MadeFrom, set_of, target_of_file, target_names, candidates, known, lost, survivors, NoCollision, aside, put_aside, rebuilt_targets, after_repair, after_repair_and_purge, CreateArgs, Repair, files_of, set_in, by_set, FollowsCreate, may_refuse, HaveAChoice, all-append, all-parts, all-flat_map, all_weaker, all-filter, in_full, in_part, missing, all_there, moved-all, where_none, all_none, some_if, names_of_files}
+use Rattle.std.proofs.Common.{Ok}
 use Rattle.std.specs.FinMap as map_of
-use Rattle.std.proofs.lemmas.Bool.{false≢true, not-false, and_parts}
-use Rattle.std.proofs.lemmas.List.Sorted.{IsPermutation-sym, IsPermutation-map}
-use Rattle.std.proofs.lemmas.Option.{same_Some}
-use Rattle.std.proofs.lemmas.Simd.{map-map}
-use Rattle.par2_spec.specs.declared.Fault.{Fault}
-use Rattle.par2_spec.specs.declared.Fault.TheVariants.{NoSuchFile, NotRepairable, NameTooLong, RepairFailed}
-use Rattle.md5.specs.Md5.{md5}
-use Rattle.par2_spec.specs.Checksums.{pair_of}
-use Rattle.par2_spec.specs.Windows.{Matches, windows}
-use Rattle.par2_spec.specs.Faults.{first_fault, then_fault, fault_where}
-use Rattle.par2_spec.specs.Slices.{slices}
-use Rattle.par2_spec.specs.Rank.{AreBytes, is_repairable, rank, IsRepairable}
-use Rattle.par2_spec.specs.Names.{distinct}
-use Rattle.par2_spec.specs.Folders.{Folder, File, has, bytes_of}
-use Rattle.par2_spec.specs.Volumes.{record_of, all_slices, in_id_order}
-use Rattle.par2_spec.specs.Sets.{ParSet, MadeFrom, set_of, target_of_file, target_names}
-use Rattle.par2_spec.specs.Search.{candidates, known, lost, survivors, NoCollision}
-use Rattle.par2_spec.specs.Repairs.{aside, put_aside, rebuilt_targets, after_repair, after_repair_and_purge}
-use Rattle.par2_spec.specs.Commands.{CreateArgs, Repair, files_of}
-use Rattle.par2_spec.specs.Refusals.{refusal, after, set_in, by_set, repair_refusal}
-use Rattle.par2_laws.specs.Creates.{FollowsCreate, may_refuse, HaveAChoice}
+use Rattle.par2_spec.specs.Volumes.{record_of}
+use Rattle.par2_spec.specs.Refusals.{refusal, after, repair_refusal}
 use Rattle.par2_laws.proofs.Laws.{AreRepaired, OthersAgree}
 use Rattle.par2_laws.proofs.CreateInputs.{passes}
-use Rattle.par2_spec.proofs.ListsLaws.{all-append, all-parts, all-flat_map}
-use Rattle.par2_spec.proofs.RankLaws.{all_weaker}
-use Rattle.par2_spec.proofs.FoundLaws.{all-filter}
-use Rattle.par2_spec.proofs.AcceptedCommands.{in_full, in_part, missing, all_there}
-use Rattle.par2_spec.proofs.OrderLaws.{moved-all}
-use Rattle.par2_spec.proofs.TestLaws.{where_none, all_none, some_if}
-use Rattle.par2_spec.proofs.FilesLaws.{names_of_files}
 
 -- ---- an accepted repair
 

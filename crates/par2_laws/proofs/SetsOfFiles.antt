@@ -1,22 +1,11 @@
 -- A set whose packets are those of certain files was made from them.
-use Rattle.std.proofs.Common.{◌≡◌, ℕ, true, List, ◌∷◌, map, Ok, sym, ap, ◌∙◌, subst}
-use Rattle.std.specs.Prelude.{flat_map}
-use Rattle.std.specs.List.{AllByRecursion}
-use Rattle.std.specs.Str.{bytes_eq}
+use Rattle.par2_laws.proofs.Common.{◌≡◌, ℕ, true, List, ◌∷◌, map, sym, ap, ◌∙◌, subst, flat_map, AllByRecursion, bytes_eq, recovery, Folder, File, bytes_of, Packet, accepted, all_slices, ParSet, MadeFrom, all_some, packets_with, description_of, target_of, recovery_of, read_set, other_par_names, target_of_file, AreDescribed, is_read, IsOf, AreOf, AreAllOf, all-passing, all-flat_map-map, all_weaker, read_by, same_name}
+use Rattle.std.proofs.Common.{Ok}
 use Rattle.std.specs.FinMap as map_of
-use Rattle.par2_spec.specs.Recovery.{recovery}
-use Rattle.par2_spec.specs.Folders.{Folder, File, bytes_of}
-use Rattle.par2_spec.specs.Packets.{Packet, accepted}
-use Rattle.par2_spec.specs.Volumes.{all_slices}
-use Rattle.par2_spec.specs.Sets.{ParSet, MadeFrom, all_some, packets_with, description_of, target_of, recovery_of, read_set, other_par_names, set_of, target_of_file}
-use Rattle.par2_laws.specs.Packets.{AreDescribed, is_read, IsOf, AreOf, AreAllOf}
+use Rattle.par2_spec.specs.Sets.{set_of}
 use Rattle.par2_laws.proofs.Laws.{AreRead}
 use Rattle.par2_laws.proofs.FilePackets.{Says, packet_says, main_of_files, desc_of_file}
 use Rattle.par2_laws.proofs.SetsRead.{AllSay, main_is, descriptions_are, targets_are, recovery_is}
-use Rattle.par2_spec.proofs.ListsLaws.{all-passing, all-flat_map-map}
-use Rattle.par2_spec.proofs.RankLaws.{all_weaker}
-use Rattle.par2_spec.proofs.ReadLaws.{read_by}
-use Rattle.par2_spec.proofs.NamesLaws.{same_name}
 
 -- what is left to say of a set that was made from these files
 abbrev IsTold : ℕ → List File → ParSet → Type 0

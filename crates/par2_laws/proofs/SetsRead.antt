@@ -1,28 +1,10 @@
 -- What a set is read as, where its packets are those of certain files.
-use Rattle.std.proofs.Common.{◌≡◌, ℕ, zero, suc, ◌<◌, arith, Bool, true, false, List, [], ◌∷◌, length, map, Option, Some, None, refl, sym, ap, ◌∙◌, subst, inl, inr, ◌⊎◌, ◌&&◌}
-use Rattle.std.specs.Prelude.{◌==◌, nat_lt, filter_map, find, slice_get, option_map, option_and_then, if◌then◌else◌}
-use Rattle.std.specs.List.{AllByRecursion, Contains, IsDistinct, range_with_len, slice_index_or}
-use Rattle.std.specs.Str.{bytes_eq}
+use Rattle.par2_laws.proofs.Common.{◌≡◌, ℕ, zero, suc, ◌<◌, arith, Bool, true, false, List, [], ◌∷◌, length, map, Option, Some, None, refl, sym, ap, ◌∙◌, subst, inl, inr, ◌⊎◌, ◌&&◌, ◌==◌, nat_lt, filter_map, find, slice_get, option_map, option_and_then, if◌then◌else◌, AllByRecursion, Contains, range_with_len, slice_index_or, bytes_eq, false≢true, and_parts, eqb-true, same_Some, none-some, map-map, md5, Pair, pair_of, slice_count, slice_at, slices, recovery, File, Packet, MainBody, DescBody, IfscBody, read_main, read_desc, read_ifsc, read_recovery, id_of, all_slices, Target, all_some, main_of, description_of, pairs_of, target_of, recovery_of, target_of_file, AreDescribed, all-map, all-filter_map, found_one, all_unmap, of_contained, all_weaker, all-filter, mapped, target_with, no_slices, all-entries, same_name, itself}
+use Rattle.std.specs.List.{IsDistinct}
 use Rattle.std.specs.FinMap as map_of
-use Rattle.std.proofs.lemmas.Bool.{false≢true, and_parts, eqb-true}
-use Rattle.std.proofs.lemmas.Option.{same_Some, none-some}
-use Rattle.std.proofs.lemmas.Simd.{map-map}
-use Rattle.md5.specs.Md5.{md5}
-use Rattle.par2_spec.specs.Checksums.{Pair, pair_of}
-use Rattle.par2_spec.specs.Slices.{slice_count, slice_at, slices}
-use Rattle.par2_spec.specs.Recovery.{recovery}
-use Rattle.par2_spec.specs.Folders.{File}
-use Rattle.par2_spec.specs.Packets.{Packet, MainBody, DescBody, IfscBody, read_main, read_desc, read_ifsc, read_recovery}
-use Rattle.par2_spec.specs.Volumes.{record_of, id_of, all_slices}
-use Rattle.par2_spec.specs.Sets.{Target, all_some, main_of, description_of, pairs_of, target_of, recovery_of, target_of_file}
-use Rattle.par2_laws.specs.Packets.{AreDescribed}
+use Rattle.par2_spec.specs.Volumes.{record_of}
 use Rattle.par2_laws.proofs.Laws.{AreRead}
 use Rattle.par2_laws.proofs.FilePackets.{all_contained, Says, main_of_files, desc_of_file, ifsc_of_file, main_said, desc_said, ifsc_said, recovery_said, IsOfOne, IsTrueSlice}
-use Rattle.par2_spec.proofs.ListsLaws.{all-map, all-filter_map, found_one, all_unmap, of_contained}
-use Rattle.par2_spec.proofs.RankLaws.{all_weaker}
-use Rattle.par2_spec.proofs.FoundLaws.{all-filter}
-use Rattle.par2_spec.proofs.ReadLaws.{mapped, target_with, no_slices, all-entries}
-use Rattle.par2_spec.proofs.NamesLaws.{same_name, itself}
 
 -- ---- lists
 

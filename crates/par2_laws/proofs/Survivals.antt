@@ -1,22 +1,9 @@
 -- What survives of a sound set in a folder whose files hold bytes is texts of bytes of the slice size.
-use Rattle.std.proofs.Common.{◌≡◌, ℕ, ◌<◌, List, [], length, sym, ap, subst}
-use Rattle.std.specs.Prelude.{Option, Some, Ok, unwrap_or}
-use Rattle.std.specs.List.{AllByRecursion}
-use Rattle.std.specs.Option.{ForSome}
-use Rattle.std.specs.Ordering.{nat_cmp}
+use Rattle.par2_laws.proofs.Common.{◌≡◌, ℕ, ◌<◌, List, [], length, sym, ap, subst, Ok, unwrap_or, AllByRecursion, ForSome, nat_cmp, get-entries, AreBytes, AreSurvivors, Folder, ParSet, set_of, IsSound, known, HoldsBytes, recovery_slice, found_at_key, all-both, size_even, all_weaker}
+use Rattle.std.specs.Prelude.{Option, Some}
 use Rattle.std.specs.FinMap as map_of
-use Rattle.std.specs.FinMap.{get-entries}
-use Rattle.par2_spec.specs.Rank.{AreBytes, AreSurvivors}
-use Rattle.par2_spec.specs.Folders.{Folder}
-use Rattle.par2_spec.specs.Sets.{ParSet, set_of, IsSound}
-use Rattle.par2_spec.specs.Search.{known}
-use Rattle.par2_laws.specs.Premises.{HoldsBytes}
-use Rattle.par2_laws.specs.Slices.{recovery_slice}
 use Rattle.par2_laws.proofs.Texts.{IsText, known_are}
 use Rattle.par2_laws.proofs.RecoveryBytes.{each_has_its_own, recovery_of_bytes}
-use Rattle.par2_spec.proofs.ListsLaws.{found_at_key, all-both}
-use Rattle.par2_spec.proofs.FilesLaws.{size_even}
-use Rattle.par2_spec.proofs.RankLaws.{all_weaker}
 
 sizes_of : (s : ℕ) (ks : List (Option (List ℕ))) → AllByRecursion (λ slice. ForSome slice (IsText s)) ks → AllByRecursion (λ slice. ForSome slice (λ found. length found ≡ s)) ks
 sizes_of s ks h = all_weaker (λ slice. ForSome slice (IsText s)) (λ slice. ForSome slice (λ found. length found ≡ s)) (λ slice text found is. (text found is).0) ks h

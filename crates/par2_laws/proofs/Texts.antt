@@ -1,21 +1,7 @@
 -- In a folder whose files hold bytes, what is found of slices is texts of bytes.
-use Rattle.std.proofs.Common.{◌≡◌, ℕ, List, [], length, map, sym, subst}
-use Rattle.std.specs.Prelude.{flat_map, unwrap_or}
-use Rattle.std.specs.List.{AllByRecursion, range_with_len}
-use Rattle.std.specs.Option.{ForSome}
+use Rattle.par2_laws.proofs.Common.{◌≡◌, ℕ, List, [], length, map, sym, subst, flat_map, unwrap_or, AllByRecursion, range_with_len, ForSome, get-entries, nat_cmp, slice_cmp, Pair, window, windows, is_match, found, AreBytes, Folder, bytes_of, ParSet, all_pairs, HoldsBytes, all-each, found_one, found_at_key, all-flat_map, length-window, bytes-window}
 use Rattle.std.specs.FinMap as map_of
-use Rattle.std.specs.FinMap.{get-entries}
-use Rattle.std.specs.Ordering.{nat_cmp}
-use Rattle.std.specs.Cmp.Lexicographic.{slice_cmp}
-use Rattle.par2_spec.specs.Checksums.{Pair}
-use Rattle.par2_spec.specs.Windows.{window, windows, is_match, found}
-use Rattle.par2_spec.specs.Rank.{AreBytes}
-use Rattle.par2_spec.specs.Folders.{Folder, bytes_of}
-use Rattle.par2_spec.specs.Sets.{ParSet, all_pairs}
 use Rattle.par2_spec.specs.Search.{known}
-use Rattle.par2_laws.specs.Premises.{HoldsBytes}
-use Rattle.par2_spec.proofs.ListsLaws.{all-each, found_one, found_at_key, all-flat_map}
-use Rattle.par2_spec.proofs.RestoredLaws.{length-window, bytes-window}
 
 -- s bytes
 abbrev pub IsText : ℕ → List ℕ → Type 0

@@ -1,21 +1,8 @@
 -- A folder of volumes holds the set that was made from their files.
-use Rattle.std.proofs.Common.{◌≡◌, ℕ, ◌+◌, ◌≤◌, true, false, List, [], ◌∷◌, ◌++◌, length, map, Some, Ok, refl, sym, ap, ◌∙◌, subst, inl, inr, ◌⊎◌, append_assoc}
-use Rattle.std.specs.Prelude.{flat_map, slice_get, ok_or, sum_by}
-use Rattle.std.specs.List.{AllByRecursion}
-use Rattle.std.specs.Str.{bytes_eq}
-use Rattle.std.proofs.lemmas.Bool.{false≢true, and_from, eq-eqb, le-leb}
-use Rattle.std.proofs.lemmas.List.{length-map}
-use Rattle.std.proofs.lemmas.List.Sums.{sum_by-cons}
-use Rattle.std.proofs.lemmas.Simd.{map-map}
-use Rattle.par2_spec.specs.declared.Fault.TheVariants.{NoPackets, NoMain, NoDescription, NoChecksums, BadSet}
-use Rattle.par2_spec.specs.declared.Kind.TheVariants.{Main}
-use Rattle.par2_spec.specs.Slices.{slice_count}
-use Rattle.par2_spec.specs.Names.{is_name, distinct}
-use Rattle.par2_spec.specs.Folders.{Folder, File, bytes_of}
-use Rattle.par2_spec.specs.Packets.{Packet, accepted, DescBody}
-use Rattle.par2_spec.specs.Volumes.{record_of, in_id_order, index_packets, packet_of, main_id, main_bytes}
-use Rattle.par2_spec.specs.Sets.{ParSet, MadeFrom, ◌>>=◌, unless, all_some, packets_with, main_of, description_of, target_of, target_of_file, are_in_profile, read_set, other_par_names, set_of}
-use Rattle.par2_laws.specs.Volumes.{AreInputs, IsVolume, set_id_of, IsOfOthers, HoldsVolumes}
+use Rattle.par2_laws.proofs.Common.{◌≡◌, ℕ, ◌+◌, ◌≤◌, true, false, List, [], ◌∷◌, ◌++◌, length, map, Some, refl, sym, ap, ◌∙◌, subst, inl, inr, ◌⊎◌, append_assoc, flat_map, slice_get, ok_or, sum_by, AllByRecursion, bytes_eq, false≢true, and_from, eq-eqb, le-leb, length-map, sum_by-cons, map-map, NoPackets, NoMain, NoDescription, NoChecksums, BadSet, Main, slice_count, is_name, distinct, Folder, File, bytes_of, Packet, accepted, DescBody, in_id_order, packet_of, main_id, main_bytes, ParSet, MadeFrom, ◌>>=◌, unless, all_some, packets_with, main_of, description_of, target_of, target_of_file, are_in_profile, other_par_names, AreInputs, IsVolume, set_id_of, IsOfOthers, HoldsVolumes, all_weaker, test_from_all, itself, distinct_same, distinct_from_std, all-map, set_with, finished, by_checksums, by_profile, by_descriptions, by_size, by_main}
+use Rattle.std.proofs.Common.{Ok}
+use Rattle.par2_spec.specs.Volumes.{record_of, index_packets}
+use Rattle.par2_spec.specs.Sets.{read_set, set_of}
 use Rattle.par2_laws.proofs.Laws.{AreRead, AreKept}
 use Rattle.par2_laws.proofs.FilePackets.{main_of_files, desc_of_file}
 use Rattle.par2_laws.proofs.SetsRead.{AllSay}
@@ -23,10 +10,6 @@ use Rattle.par2_laws.proofs.SetsOfFiles.{SaysIfOurs, folder_says, made_if_said}
 use Rattle.par2_laws.proofs.Inputs.{moved, described}
 use Rattle.par2_laws.proofs.VolumePackets.{index_of, slices_of, IsReadAs, volumes_read, IsOurs, volume_ours}
 use Rattle.par2_laws.proofs.FoundInIndex.{main_there, descriptions_found, targets_found}
-use Rattle.par2_spec.proofs.RankLaws.{all_weaker, test_from_all}
-use Rattle.par2_spec.proofs.NamesLaws.{itself, distinct_same, distinct_from_std}
-use Rattle.par2_spec.proofs.ListsLaws.{all-map}
-use Rattle.par2_spec.proofs.ReadLaws.{set_with, finished, by_checksums, by_profile, by_descriptions, by_size, by_main}
 
 -- ---- what is described is in the profile
 

@@ -1,23 +1,9 @@
 -- What is read of a volume: the packets that were written.
-use Rattle.std.proofs.Common.{◌≡◌, ℕ, zero, suc, ◌+◌, ◌-◌, ◌^◌, ◌<◌, ◌≤◌, min, true, ◌&&◌, List, [], ◌∷◌, ◌++◌, length, map, refl, sym, ap, ◌∙◌, subst, append-nil, arith}
-use Rattle.std.specs.Prelude.{flat_map, nat_le}
-use Rattle.std.specs.List.{AllByRecursion, Contains}
-use Rattle.std.proofs.lemmas.Bool.{and_parts, leb-true}
-use Rattle.std.proofs.lemmas.List.{length-map}
-use Rattle.std.proofs.lemmas.Grind.{flat_map-append}
-use Rattle.md5.proofs.StandardFacts.{length-md5}
-use Rattle.par2_spec.specs.declared.Kind.{Kind}
-use Rattle.par2_spec.specs.declared.Kind.TheVariants.{Main, FileDesc, Ifsc, Creator}
-use Rattle.par2_spec.specs.Folders.{File}
-use Rattle.par2_spec.specs.Packets.{Packet, packet, accepted}
-use Rattle.par2_spec.specs.Volumes.{FileRecord, record_of, all_slices, in_id_order, volumes, volumes_before, volume_size, volume_numbers, index_packets, recovery_packets, packet_of, main_id, main_bytes, desc_bytes, ifsc_bytes, creator_bytes}
-use Rattle.par2_spec.specs.Refusals.{are_counts}
-use Rattle.par2_laws.specs.Volumes.{AreInputs, IsVolume}
+use Rattle.par2_laws.proofs.Common.{◌≡◌, ℕ, zero, suc, ◌+◌, ◌-◌, ◌^◌, ◌<◌, ◌≤◌, min, true, ◌&&◌, List, [], ◌∷◌, ◌++◌, length, map, refl, sym, ap, ◌∙◌, subst, append-nil, arith, flat_map, nat_le, AllByRecursion, Contains, and_parts, leb-true, length-map, flat_map-append, length-md5, Kind, Main, FileDesc, Ifsc, Creator, File, Packet, packet, accepted, FileRecord, record_of, all_slices, in_id_order, volumes_before, volume_size, volume_numbers, recovery_packets, packet_of, main_id, main_bytes, desc_bytes, ifsc_bytes, creator_bytes, are_counts, AreInputs, IsVolume, all-append, of_contained, size_parts}
+use Rattle.par2_spec.specs.Volumes.{volumes, index_packets}
 use Rattle.par2_laws.proofs.Laws.{AreKept}
 use Rattle.par2_laws.proofs.FilePackets.{Says, all_contained}
 use Rattle.par2_laws.proofs.Inputs.{records_fit}
-use Rattle.par2_spec.proofs.ListsLaws.{all-append, of_contained}
-use Rattle.par2_spec.proofs.ReadLaws.{size_parts}
 
 -- the index packets of files in this order
 abbrev pub index_of : ℕ → List File → List Packet

@@ -1,12 +1,5 @@
 -- Clearing a column, one equation after the other.
-use Rattle.std.proofs.Common.{ℕ, ◌+◌, ◌*◌, ◌<◌, ◌≡◌, inl, inr, sym, ap, ◌∙◌, subst, arith, List, length, get_or, set, bit_xor, Vec, Global}
-use Rattle.std.proofs.lemmas.Bool.{cases_eq}
-use Rattle.par2_spec.specs.Field.{mul}
-use Rattle.par2_spec.specs.Slices.{word}
-use Rattle.par2_gf16.specs.Products.{AddsProducts}
-use Rattle.par2_matrix.specs.Echelon.{ClearedBelow, PutAt}
-use Rattle.par2_spec.specs.Sums.{list_at, lists_of, OneChanged}
-use Rattle.par2_spec.proofs.WordLaws.{written_here, written_changed, length-lists_of}
+use Rattle.par2_matrix.proofs.Common.{ℕ, ◌+◌, ◌*◌, ◌<◌, ◌≡◌, inl, inr, sym, ap, ◌∙◌, subst, arith, List, length, get_or, set, bit_xor, Vec, Global, cases_eq, mul, word, AddsProducts, ClearedBelow, PutAt, list_at, lists_of, OneChanged, written_here, written_changed, length-lists_of}
 
 same_sizes : (old mid new : List (List ℕ)) (p : ℕ) → OneChanged mid new p → length (list_at new p) ≡ length (list_at mid p)
     → ((i : ℕ) → length (list_at mid i) ≡ length (list_at old i)) → (i : ℕ) → length (list_at new i) ≡ length (list_at old i)

@@ -1,3 +1,4 @@
+mod Common
 pub mod ReducedSystems
 pub mod Taking
 pub mod Clearing

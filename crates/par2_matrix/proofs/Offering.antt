@@ -1,12 +1,5 @@
 -- An offer, put together.
-use Rattle.std.proofs.Common.{ℕ, ◌+◌, ◌*◌, ◌<◌, ◌≡◌, ◌≢◌, inl, inr, sym, ap, ◌∙◌, subst, arith, List, length, get_or}
-use Rattle.std.proofs.lemmas.Bool.{cases_lt}
-use Rattle.par2_spec.specs.Field.{mul}
-use Rattle.par2_spec.specs.Slices.{word}
-use Rattle.par2_spec.proofs.FieldOrder.{product-zero}
-use Rattle.par2_matrix.specs.Echelon.{echelon, IsReduced, PutAt, ReducedBelow, IsPrepared}
-use Rattle.par2_spec.specs.Sums.{list_at}
-use Rattle.par2_spec.proofs.WordLaws.{word-lt}
+use Rattle.par2_matrix.proofs.Common.{ℕ, ◌+◌, ◌*◌, ◌<◌, ◌≡◌, ◌≢◌, inl, inr, sym, ap, ◌∙◌, subst, arith, List, length, get_or, cases_lt, mul, word, product-zero, echelon, IsReduced, PutAt, ReducedBelow, IsPrepared, list_at, word-lt}
 use Rattle.par2_matrix.proofs.ReducedSystems.{ToldApart, told_apart, all_present, present_at_most}
 use Rattle.par2_matrix.proofs.Placing.{Placed, Cut, cut_down}
 use Rattle.par2_matrix.proofs.Standing.{placed_reduced}

@@ -1,14 +1,5 @@
 -- An equation takes its place in a reduced system.
-use Rattle.std.proofs.Common.{ℕ, ◌+◌, ◌*◌, ◌<◌, ◌≡◌, ◌≢◌, ◌↔◌, inl, inr, refl, sym, ap, ap₂, ◌∙◌, arith, List, length, get_or, bit_xor}
-use Rattle.std.proofs.lemmas.Bool.{cases_eq, cases_lt}
-use Rattle.std.specs.Int.Bits.{xor_self}
-use Rattle.par2_spec.specs.Field.{mul}
-use Rattle.par2_spec.specs.Slices.{word}
-use Rattle.par2_spec.proofs.FieldOrder.{product-zero, zero-product, cancel}
-use Rattle.par2_matrix.specs.Echelon.{Echelon, echelon, Vanishes, Meets, IsReduced, ReducedBelow, IsMultiple, PutAt}
-use Rattle.par2_spec.specs.Sums.{row_sum, AreElements, list_at}
-use Rattle.par2_spec.proofs.WordLaws.{word_empty, word-lt}
-use Rattle.par2_spec.proofs.SumLaws.{row_sum_empty, row_sum_added, row_sum_scaled, row_sum-lt, xor_off, xor_same}
+use Rattle.par2_matrix.proofs.Common.{ℕ, ◌+◌, ◌*◌, ◌<◌, ◌≡◌, ◌≢◌, ◌↔◌, inl, inr, refl, sym, ap, ap₂, ◌∙◌, arith, List, length, get_or, bit_xor, cases_eq, cases_lt, xor_self, mul, word, product-zero, zero-product, cancel, Echelon, echelon, Vanishes, Meets, IsReduced, ReducedBelow, IsMultiple, PutAt, row_sum, AreElements, list_at, word_empty, word-lt, row_sum_empty, row_sum_added, row_sum_scaled, row_sum-lt, xor_off, xor_same}
 
 -- new has, beside row at q, the rows of old with q cleared
 pub record Eliminated (n q : ℕ) (old new : List (List ℕ)) (row : List ℕ) : Type 0 where

@@ -1,23 +1,9 @@
 -- What the contracts promise, of reduced systems.
-use Rattle.std.proofs.Common.{ℕ, zero, suc, ◌+◌, ◌*◌, ◌<◌, ◌≡◌, ◌↔◌, refl, sym, ap, ap₂, ◌∙◌, subst, arith, List, [], ◌∷◌, length, get_or, map, true, false}
-use Rattle.std.proofs.Math.Nat.{suc-ne-zero}
-use Rattle.std.proofs.lemmas.Bool.{false≢true}
-use Rattle.std.proofs.lemmas.List.{ext_get_or}
-use Rattle.std.proofs.lemmas.List.FromFn.{get_or-map-range_with_len, length-map-range_with_len}
-use Rattle.std.specs.List.{AllByRecursion, range_with_len}
-use Rattle.par2_spec.specs.Field.{mul}
-use Rattle.par2_spec.specs.Slices.{word}
-use Rattle.par2_spec.specs.Recovery.{dot}
-use Rattle.par2_spec.specs.Rank.{IsVector}
-use Rattle.par2_matrix.specs.Systems.{Equations, rank, no_equations, IsKilled, AreTexts, CutDown, IsIndependent, IsDependent, IsUndetermined, OnlyZeroIsKilled, IsTheSolution}
-use Rattle.par2_matrix.specs.Echelon.{Echelon, echelon, Vanishes, IsReduced, equations, system_of, Spells, AllEmpty}
-use Rattle.par2_spec.specs.Sums.{row_sum, AreElements, list_at}
-use Rattle.par2_spec.proofs.WordLaws.{bytes_at, word-lt, combination_words, same_texts}
-use Rattle.par2_spec.proofs.SumLaws.{field_sum_same, row_sum-lt}
+use Rattle.par2_matrix.proofs.Common.{ℕ, zero, suc, ◌+◌, ◌*◌, ◌<◌, ◌≡◌, ◌↔◌, refl, sym, ap, ap₂, ◌∙◌, subst, arith, List, [], ◌∷◌, length, get_or, map, true, false, suc-ne-zero, false≢true, ext_get_or, get_or-map-range_with_len, length-map-range_with_len, AllByRecursion, range_with_len, mul, word, dot, IsVector, Equations, rank, no_equations, IsKilled, AreTexts, CutDown, IsIndependent, IsDependent, IsUndetermined, OnlyZeroIsKilled, IsTheSolution, Echelon, echelon, Vanishes, IsReduced, system_of, Spells, AllEmpty, row_sum, AreElements, list_at, bytes_at, word-lt, combination_words, same_texts, field_sum_same, row_sum-lt, all_at, all_from}
+use Rattle.par2_matrix.specs.Echelon.{equations}
 use Rattle.par2_matrix.proofs.ReducedSystems.{ToldApart, all_present, unit_row, full_rank, free_vector}
 use Rattle.par2_matrix.proofs.Placing.{Cut}
 use Rattle.par2_matrix.proofs.Views.{elements_of, dot_spelled, rank_view, kills_view, solves_view, words_at, words_are_elements, words_by_elements}
-use Rattle.par2_spec.proofs.ListsLaws.{all_at, all_from}
 
 -- ---- vectors
 

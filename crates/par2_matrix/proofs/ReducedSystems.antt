@@ -1,16 +1,6 @@
 -- What a reduced system kills and what solves it.
-use Rattle.std.proofs.Common.{ℕ, zero, suc, ◌+◌, ◌<◌, ◌≤◌, ◌≡◌, ◌≢◌, ◌⊎◌, ◌↔◌, inl, inr, refl, sym, ap, ap₂, ◌∙◌, subst, arith, List, length, bit_xor, cond, eqb}
-use Rattle.std.proofs.lemmas.Bool.{cases_eq, cases_lt, eq-eqb, ne_eqb, cond-true, cond-false}
-use Rattle.std.proofs.Math.Nat.{suc-ne-zero}
-use Rattle.std.specs.Int.Bits.{xor_self}
-use Rattle.par2_spec.specs.Field.{mul}
-use Rattle.par2_spec.specs.Slices.{word}
-use Rattle.par2_spec.proofs.FieldProducts.{product_comm, product-one}
-use Rattle.par2_spec.proofs.FieldOrder.{product-zero, zero-product}
-use Rattle.par2_matrix.specs.Echelon.{Echelon, Vanishes, IsReduced, count_present}
-use Rattle.par2_spec.specs.Sums.{row_sum, AreElements, list_at}
-use Rattle.par2_spec.proofs.WordLaws.{word_empty}
-use Rattle.par2_spec.proofs.SumLaws.{field_sum_one, field_sum_two, row_sum_empty, row_sum_unit}
+use Rattle.par2_matrix.proofs.Common.{ℕ, zero, suc, ◌+◌, ◌<◌, ◌≤◌, ◌≡◌, ◌≢◌, ◌⊎◌, ◌↔◌, inl, inr, refl, sym, ap, ap₂, ◌∙◌, subst, arith, List, length, bit_xor, cond, eqb, cases_eq, cases_lt, eq-eqb, ne_eqb, cond-true, cond-false, suc-ne-zero, xor_self, mul, word, product_comm, product-one, product-zero, zero-product, Echelon, Vanishes, IsReduced, row_sum, AreElements, list_at, word_empty, field_sum_one, field_sum_two, row_sum_empty, row_sum_unit}
+use Rattle.par2_matrix.specs.Echelon.{count_present}
 
 -- a vector that the equations send to 0 and the row doesn't
 pub record ToldApart (s : Echelon) (row : List ℕ) : Type 0 where

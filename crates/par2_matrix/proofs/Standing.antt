@@ -1,16 +1,7 @@
 -- The system with the new equation is reduced again, and the texts of a full system.
-use Rattle.std.proofs.Common.{ℕ, zero, suc, ◌+◌, ◌*◌, ◌%◌, ◌<◌, ◌≤◌, ◌≡◌, ◌≢◌, inl, inr, refl, sym, ap, ap₂, ◌∙◌, subst, arith, List, [], length, get_or, bit_xor, cond, eqb}
-use Rattle.std.proofs.lemmas.Bool.{cases_eq, cases_lt, eq-eqb, ne_eqb}
+use Rattle.par2_matrix.proofs.Common.{ℕ, zero, suc, ◌+◌, ◌*◌, ◌%◌, ◌<◌, ◌≤◌, ◌≡◌, ◌≢◌, inl, inr, refl, sym, ap, ap₂, ◌∙◌, subst, arith, List, [], length, get_or, bit_xor, cond, eqb, cases_eq, cases_lt, eq-eqb, ne_eqb, get_or_past, xor_self, mul, word, product-one, product-lt, product-zero, Echelon, echelon, IsReduced, AllEmpty, list_at, word_past, word_empty, word-lt}
 use Rattle.std.proofs.lemmas.Nat.{xor_lt}
-use Rattle.std.proofs.lemmas.List.{get_or_past}
-use Rattle.std.specs.Int.Bits.{xor_self}
-use Rattle.par2_spec.specs.Field.{mul}
-use Rattle.par2_spec.specs.Slices.{word}
-use Rattle.par2_spec.proofs.FieldProducts.{product-one, product-lt}
-use Rattle.par2_spec.proofs.FieldOrder.{product-zero}
-use Rattle.par2_matrix.specs.Echelon.{Echelon, echelon, IsReduced, count_present, AllEmpty}
-use Rattle.par2_spec.specs.Sums.{list_at}
-use Rattle.par2_spec.proofs.WordLaws.{word_past, word_empty, word-lt}
+use Rattle.par2_matrix.specs.Echelon.{count_present}
 use Rattle.par2_matrix.proofs.ReducedSystems.{present_at_most}
 use Rattle.par2_matrix.proofs.Placing.{Placed, entry}
 

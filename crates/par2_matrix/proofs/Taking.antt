@@ -1,17 +1,6 @@
 -- Taking the pivots out of an equation.
-use Rattle.std.proofs.Common.{ℕ, ◌+◌, ◌*◌, ◌<◌, ◌≡◌, ◌⊎◌, inl, inr, sym, ap, ap₂, ◌∙◌, subst, arith, List, length, bit_xor}
-use Rattle.std.proofs.lemmas.Bool.{cases_eq, cases_lt}
-use Rattle.std.specs.Int.Bits.{xor_self, xor_zero_r}
-use Rattle.par2_spec.specs.Field.{mul}
-use Rattle.par2_spec.specs.Slices.{word}
-use Rattle.par2_gf16.specs.Products.{IsInverse, AddsProducts}
+use Rattle.par2_matrix.proofs.Common.{ℕ, ◌+◌, ◌*◌, ◌<◌, ◌≡◌, ◌⊎◌, inl, inr, sym, ap, ap₂, ◌∙◌, subst, arith, List, length, bit_xor, cases_eq, cases_lt, xor_self, xor_zero_r, mul, word, IsInverse, AddsProducts, product_comm, product-one, product-zero, Echelon, IsReduced, echelon, ReducedBelow, Scaled, IsMultiple, row_sum, AreElements, list_at, row_sum_added, suc-ne-zero}
 use Rattle.par2_spec.proofs.FieldBits.{xor_middle}
-use Rattle.par2_spec.proofs.FieldProducts.{product_comm, product-one}
-use Rattle.par2_spec.proofs.FieldOrder.{product-zero}
-use Rattle.par2_matrix.specs.Echelon.{Echelon, IsReduced, echelon, ReducedBelow, Scaled, IsMultiple}
-use Rattle.par2_spec.specs.Sums.{row_sum, AreElements, list_at}
-use Rattle.par2_spec.proofs.SumLaws.{row_sum_added}
-use Rattle.std.proofs.Math.Nat.{suc-ne-zero}
 
 pub reduce_skip : (s : Echelon) (r0 d0 row right : List ℕ) (p : ℕ) → ReducedBelow s r0 d0 row right p
     → (0 < length (list_at s.rows p) → word p row ≡ 0) → ReducedBelow s r0 d0 row right (p + 1)

@@ -1,19 +1,6 @@
 -- From the lists of the contracts to what the reduced form says of functions, and back.
-use Rattle.std.proofs.Common.{ℕ, zero, suc, ◌+◌, ◌*◌, ◌/◌, ◌<◌, ◌≡◌, ◌↔◌, inl, inr, refl, sym, ap, ◌∙◌, subst, arith, List, [], ◌∷◌, length, get_or, map, cond, eqb}
-use Rattle.std.proofs.lemmas.Bool.{cases_lt, ne_eqb}
-use Rattle.std.proofs.lemmas.List.{get_or-map}
-use Rattle.std.proofs.lemmas.List.FromFn.{get_or-map-range_with_len, length-map-range_with_len}
-use Rattle.std.specs.List.{AllByRecursion}
-use Rattle.par2_spec.specs.Field.{mul}
-use Rattle.par2_spec.specs.Slices.{word, words}
-use Rattle.par2_spec.specs.Recovery.{dot, combination}
-use Rattle.par2_spec.specs.Rank.{IsVector}
-use Rattle.par2_matrix.specs.Systems.{Equations, IsKilled, Solves, AreTexts}
-use Rattle.par2_matrix.specs.Echelon.{Echelon, Vanishes, Meets, IsReduced, equations, system_of, count_present, Spells}
-use Rattle.par2_spec.specs.Sums.{row_sum, AreElements, list_at}
-use Rattle.par2_spec.proofs.ListsLaws.{all_at}
-use Rattle.par2_spec.proofs.WordLaws.{bytes_at, word_empty, word-lt, combination_words}
-use Rattle.par2_spec.proofs.SumLaws.{field_sum_same, row_sum_empty, row_sum-lt, dot_sum, product_at}
+use Rattle.par2_matrix.proofs.Common.{ℕ, zero, suc, ◌+◌, ◌*◌, ◌/◌, ◌<◌, ◌≡◌, ◌↔◌, inl, inr, refl, sym, ap, ◌∙◌, subst, arith, List, [], ◌∷◌, length, get_or, map, cond, eqb, cases_lt, ne_eqb, get_or-map, get_or-map-range_with_len, length-map-range_with_len, AllByRecursion, mul, word, words, dot, combination, IsVector, Equations, IsKilled, Solves, AreTexts, Echelon, Vanishes, Meets, IsReduced, system_of, Spells, row_sum, AreElements, list_at, all_at, bytes_at, word_empty, word-lt, combination_words, field_sum_same, row_sum_empty, row_sum-lt, dot_sum, product_at}
+use Rattle.par2_matrix.specs.Echelon.{equations, count_present}
 
 -- ---- sums
 

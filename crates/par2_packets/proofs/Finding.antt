@@ -1,14 +1,8 @@
 -- Going over a text from packet to packet.
-use Rattle.std.proofs.Common.{◌≡◌, ℕ, zero, suc, ◌-◌, ◌+◌, ◌≤◌, ◌<◌, ◌%◌, Bool, true, false, leb, eqb, ◌&&◌, List, [], ◌∷◌, length, drop, refl, sym, ap, subst, ◌∙◌, arith}
-use Rattle.std.specs.Str.{bytes_eq}
-use Rattle.std.proofs.lemmas.Bool.{leb-true, and_parts, false_from_ne_true}
-use Rattle.std.proofs.lemmas.List.{length-take-le, length-drop, drop-drop}
-use Rattle.std.proofs.Math.Seq.{drop-length}
-use Rattle.std.proofs.lemmas.Slice.Eq.{bytes_eq-Decides}
-use Rattle.md5.specs.Md5.{md5}
+use Rattle.par2_packets.proofs.Common.{◌≡◌, ℕ, zero, suc, ◌-◌, ◌+◌, ◌≤◌, ◌<◌, ◌%◌, Bool, true, false, leb, eqb, ◌&&◌, List, [], ◌∷◌, length, drop, refl, sym, ap, subst, ◌∙◌, arith, bytes_eq, leb-true, and_parts, false_from_ne_true, length-take-le, length-drop, drop-drop, drop-length, bytes_eq-Decides, md5, Packet, bytes_at, magic, claimed_length, accepted}
 use Rattle.memchr.specs.Find.{OccursAt, NoneBefore, Nowhere}
 use Rattle.memchr.proofs.lemmas.MatchLemmas.{OccursAt-from_part}
-use Rattle.par2_spec.specs.Packets.{Packet, bytes_at, magic, claimed_length, begins_with_packet, first_packet, accepted, accepted_after}
+use Rattle.par2_spec.specs.Packets.{begins_with_packet, first_packet, accepted_after}
 use Rattle.par2_spec.proofs.AcceptedLaws.{accepted-none}
 use Rattle.par2_spec.proofs.WrittenPackets.{in_front}
 

@@ -1,13 +1,8 @@
 -- Recovery packets, whose MD5s are put in later, and what stands before their slices.
-use Rattle.std.proofs.Common.{◌≡◌, ℕ, ◌+◌, ◌-◌, ◌*◌, ◌<◌, ◌≤◌, List, [], ◌++◌, length, take, drop, replicate, refl, sym, ap, ap₂, ◌∙◌, subst, append_assoc, append-nil, arith, length-append}
-use Rattle.std.specs.Int.{w32, w64, to_le_bytes}
-use Rattle.std.proofs.lemmas.List.{length-replicate, drop-drop, drop-take}
-use Rattle.md5.specs.Md5.{md5}
+use Rattle.par2_packets.proofs.Common.{◌≡◌, ℕ, ◌+◌, ◌-◌, ◌*◌, ◌<◌, ◌≤◌, List, [], ◌++◌, length, take, drop, replicate, refl, sym, ap, ap₂, ◌∙◌, subst, append_assoc, append-nil, arith, length-append, w32, w64, to_le_bytes, length-replicate, drop-drop, drop-take, md5, magic, type_of, digest_input, bytes_at, Recovery, overwritten, ArePieces, changed_below, recovery_packet, digested, digest_put, AreDigested}
 use Rattle.md5.proofs.StandardFacts.{length-md5}
-use Rattle.par2_spec.specs.Packets.{magic, type_of, packet, digest_input, bytes_at}
-use Rattle.par2_spec.specs.declared.Kind.TheVariants.{Recovery}
-use Rattle.par2_packets.specs.Pieces.{overwritten, ArePieces, changed_below}
-use Rattle.par2_packets.specs.Recoveries.{recovery_packet, undigested, digested, digest_put, AreDigested}
+use Rattle.par2_spec.specs.Packets.{packet}
+use Rattle.par2_packets.specs.Recoveries.{undigested}
 use Rattle.par2_packets.proofs.Parts.{regrouped}
 use Rattle.par2_packets.proofs.Pieces.{overwritten_front, overwritten_behind, drop_behind, length-overwritten, piece_at, from_on, none_changed, next_changed, all_changed, same_pieces}
 

@@ -1,16 +1,9 @@
 -- A packet as it is written, part by part.
-use Rattle.std.proofs.Common.{◌≡◌, ℕ, ◌+◌, ◌<◌, List, [], ◌∷◌, ◌++◌, length, map, take, get_or, sym, ap, ◌∙◌, append_assoc, arith, length-append}
-use Rattle.std.specs.Prelude.{flat_map}
-use Rattle.std.specs.Int.{w64, to_le_bytes}
-use Rattle.std.proofs.lemmas.Grind.{flat_map-append}
-use Rattle.std.proofs.lemmas.List.{append-nil, map-append, take_more}
-use Rattle.md5.specs.Md5.{md5}
+use Rattle.par2_packets.proofs.Common.{◌≡◌, ℕ, ◌+◌, ◌<◌, List, [], ◌∷◌, ◌++◌, length, map, take, get_or, sym, ap, ◌∙◌, append_assoc, arith, length-append, flat_map, w64, to_le_bytes, flat_map-append, map-append, take_more, md5, magic, type_of, packet_of, file_record_of, FileRecord}
+use Rattle.std.proofs.lemmas.List.{append-nil}
 use Rattle.par2_spec.specs.declared.Kind.{Kind}
-use Rattle.par2_spec.specs.Packets.{magic, type_of, packet}
-use Rattle.par2_spec.specs.Volumes.{packet_of}
+use Rattle.par2_spec.specs.Packets.{packet}
 use Rattle.par2_spec.specs.Volumes as volumes
-use Rattle.par2_packets.specs.Views.{file_record_of}
-use Rattle.par2_packets.specs.declared.record.FileRecord.{FileRecord}
 
 pub regrouped : (text m l d s k a b : List ℕ)
     → ((((text ++ m) ++ l) ++ (d ++ (s ++ (k ++ [])))) ++ a) ++ b ≡ text ++ (m ++ l ++ d ++ (s ++ k ++ (a ++ b)))

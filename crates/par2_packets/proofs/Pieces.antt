@@ -1,13 +1,5 @@
 -- Pieces of equal length, one after the other: which bytes are those of a piece, and what is written into one.
-use Rattle.std.proofs.Common.{◌≡◌, ◌≢◌, ℕ, zero, suc, ◌+◌, ◌-◌, ◌*◌, ◌<◌, ◌≤◌, List, [], ◌∷◌, ◌++◌, length, take, drop, inl, inr, refl, sym, ap, ap₂, ◌∙◌, subst, arith, append_assoc, length-append, mul-le-mul_right}
-use Rattle.std.specs.Prelude.{flat_map}
-use Rattle.std.specs.List.{range_with_len}
-use Rattle.std.proofs.lemmas.Grind.{flat_map-append}
-use Rattle.std.proofs.lemmas.Bool.{cases_lt, cond_below, cond_above}
-use Rattle.std.proofs.lemmas.List.{take-append-le, drop-append-le, take_at, length-take-le, length-drop, flat_map_more}
-use Rattle.par2_spec.specs.Packets.{bytes_at}
-use Rattle.par2_spec.proofs.ListsLaws.{range-append}
-use Rattle.par2_packets.specs.Pieces.{overwritten, ArePieces, changed_below}
+use Rattle.par2_packets.proofs.Common.{◌≡◌, ◌≢◌, ℕ, zero, suc, ◌+◌, ◌-◌, ◌*◌, ◌<◌, ◌≤◌, List, [], ◌∷◌, ◌++◌, length, take, drop, inl, inr, refl, sym, ap, ap₂, ◌∙◌, subst, arith, append_assoc, length-append, mul-le-mul_right, flat_map, range_with_len, flat_map-append, cases_lt, cond_below, cond_above, take-append-le, drop-append-le, take_at, length-take-le, length-drop, flat_map_more, bytes_at, range-append, overwritten, ArePieces, changed_below}
 
 -- ---- what is written into one of two texts
 

@@ -1,17 +1,6 @@
 -- The packets of recovery slices whose exponents count up.
-use Rattle.std.proofs.Common.{◌≡◌, ℕ, suc, ◌+◌, ◌<◌, ◌≤◌, List, [], ◌∷◌, ◌++◌, length, map, get_or, take, drop, inl, inr, subst, sym, ap, ◌∙◌, arith, append-nil, append_assoc}
-use Rattle.std.specs.Prelude.{flat_map}
-use Rattle.std.specs.List.{enumerate_from}
-use Rattle.std.proofs.Math.Seq.{take-add, take-append_seam}
-use Rattle.std.proofs.lemmas.Grind.{flat_map-append}
-use Rattle.std.proofs.lemmas.Bool.{cases_lt}
-use Rattle.std.proofs.lemmas.List.{get_or_append_left, map-append, take_more, length-take-le, get_or_push, length_push}
+use Rattle.par2_packets.proofs.Common.{◌≡◌, ℕ, suc, ◌+◌, ◌<◌, ◌≤◌, List, [], ◌∷◌, ◌++◌, length, map, get_or, take, drop, inl, inr, subst, sym, ap, ◌∙◌, arith, append-nil, append_assoc, flat_map, enumerate_from, take-add, take-append_seam, flat_map-append, cases_lt, get_or_append_left, map-append, take_more, length-take-le, get_or_push, length_push, ArePadded, IsPadded, packet, packet_of, recovery_bytes, Recovery, packets_from}
 use Rattle.par2_digests.specs.declared.pending.Pending.{Pending}
-use Rattle.par2_digests.specs.Pendings.{ArePadded, IsPadded}
-use Rattle.par2_spec.specs.Packets.{packet}
-use Rattle.par2_spec.specs.Volumes.{packet_of, recovery_bytes}
-use Rattle.par2_spec.specs.declared.Kind.TheVariants.{Recovery}
-use Rattle.par2_packets.specs.Recoveries.{packets_from}
 
 enumerate_append : {X : Type 0} (n : ℕ) (xs ys : List X) → enumerate_from n (xs ++ ys) ≡ enumerate_from n xs ++ enumerate_from (n + length xs) ys
 enumerate_append n [] ys = ap (λ k. enumerate_from k ys) (let e : n ≡ n + 0 = omega arith in e)

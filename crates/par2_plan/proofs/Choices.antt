@@ -1,19 +1,7 @@
 -- The items that are chosen by their flags, and a list whose items come once.
-use Rattle.std.proofs.Common.{◌≡◌, ℕ, List, [], ◌∷◌, ◌++◌, map, refl, ap, ◌∙◌, Bool, true, false, not, cond, ◌||◌, ◌&&◌, ◌⊎◌, inl, inr, Bor, append-nil}
-use Rattle.std.specs.Prelude.{filter}
-use Rattle.std.specs.BTreeSet.{BTreeSet, contains}
-use Rattle.std.specs.BTreeMap.{is_at}
-use Rattle.std.specs.Str.{bytes_eq}
-use Rattle.std.proofs.lemmas.Map.Text.{is_eq-slice_cmp}
-use Rattle.std.proofs.lemmas.Slice.Eq.{bytes_eq-Decides}
-use Rattle.std.proofs.lemmas.List.Elements.{filter-append}
+use Rattle.par2_plan.proofs.Common.{◌≡◌, ℕ, List, [], ◌∷◌, ◌++◌, map, refl, ap, ◌∙◌, Bool, true, false, not, cond, ◌||◌, ◌&&◌, ◌⊎◌, inl, inr, Bor, append-nil, filter, BTreeSet, contains, is_at, bytes_eq, is_eq-slice_cmp, bytes_eq-Decides, filter-append, is_among, distinct, Target, same_either_way, AreDistinct, among-filter, distinct-filter, Describe, Describes, items_where, passed_over, name_cmp}
 use Rattle.std.proofs.Math.Bool.{and-false}
-use Rattle.par2_spec.specs.Names.{is_among, distinct}
-use Rattle.par2_spec.specs.Sets.{Target}
-use Rattle.par2_spec.proofs.NamesLaws.{same_either_way, AreDistinct, among-filter, distinct-filter}
-use Rattle.par2_slices.specs.Matching.{Describe, Describes}
 use Rattle.par2_slices.specs.declared.matching.Target as search
-use Rattle.par2_plan.specs.Matches.{items_where, passed_over, name_cmp}
 
 -- ---- by flags
 

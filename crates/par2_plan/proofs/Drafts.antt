@@ -1,28 +1,8 @@
 -- A draft of a repair, by the targets that it writes.
-use Rattle.std.proofs.Common.{◌≡◌, ◌∙◌, ℕ, List, [], ◌∷◌, ◌++◌, length, map, drop, get_or, refl, sym, ap, ap₂, subst, Bool, true, false, not, Ok, append-nil}
-use Rattle.std.specs.Prelude.{Option, Some, None, IsTrue, filter, filter_map, option_map}
-use Rattle.std.specs.List.{AllByRecursion, cons_option, list_all}
-use Rattle.std.proofs.lemmas.Bool.{and_from, and_parts, false_from_ne_true}
-use Rattle.std.proofs.lemmas.List.Elements.{filter_map-append}
-use Rattle.std.proofs.lemmas.Slice.Eq.{bytes_eq-Decides}
+use Rattle.par2_plan.proofs.Common.{◌≡◌, ◌∙◌, ℕ, List, [], ◌∷◌, ◌++◌, length, map, drop, get_or, refl, sym, ap, ap₂, subst, Bool, true, false, not, Ok, append-nil, Option, None, filter, filter_map, option_map, AllByRecursion, cons_option, list_all, and_from, and_parts, false_from_ne_true, filter_map-append, bytes_eq-Decides, Change, Write, Rename, Remove, are_applicable, effects, Repair, fault_where, Folder, is_among, changes_of, now_at, set_in, refusal, aside, put_aside, rebuilt_targets, par_files, AreFew, candidates, matches, matching, ParSet, Target, RepairFailed, set_in_reads, same_ok, md5s_of, HasItsMd5s, IsDraft, IsDraftBy, has_digest, IsAsDescribed, repair_by, bytes_written, texts_written}
+use Rattle.std.specs.Prelude.{Some, IsTrue}
 use Rattle.md5.specs.Md5.{md5}
-use Rattle.par2_spec.specs.Changes.{Change, Write, Rename, Remove, are_applicable, effects}
-use Rattle.par2_spec.specs.Commands.{Repair}
-use Rattle.par2_spec.specs.Faults.{fault_where}
-use Rattle.par2_spec.specs.Folders.{Folder}
-use Rattle.par2_spec.specs.Names.{is_among}
-use Rattle.par2_spec.specs.Plans.{changes_of, now_at, repair_changes, repair_removals}
-use Rattle.par2_spec.specs.Refusals.{set_in, refusal}
-use Rattle.par2_spec.specs.Repairs.{aside, put_aside, rebuilt_targets, par_files, AreFew}
-use Rattle.par2_spec.specs.Search.{candidates, matches, matching}
-use Rattle.par2_spec.specs.Sets.{ParSet, Target}
-use Rattle.par2_spec.specs.declared.Fault.TheVariants.{RepairFailed}
-use Rattle.par2_spec.proofs.AcceptedCommands.{set_in_reads}
-use Rattle.par2_spec.proofs.SessionLaws.{same_ok}
-use Rattle.par2_plan.specs.Restoring.{md5s_of}
-use Rattle.par2_plan.specs.Drafts.{HasItsMd5s, IsDraft, IsDraftBy, has_digest}
-use Rattle.par2_plan.specs.Repairing.{IsAsDescribed, repair_by}
-use Rattle.par2_plan.specs.Written.{bytes_written, texts_written}
+use Rattle.par2_spec.specs.Plans.{repair_changes, repair_removals}
 use Rattle.par2_plan.specs.declared.draft.Draft.{Draft}
 use Rattle.par2_plan.proofs.PlanParts.{repair_refused, repair_leads}
 use Rattle.par2_plan.proofs.PlanParts as parts

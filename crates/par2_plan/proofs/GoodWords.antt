@@ -1,23 +1,11 @@
 -- What holds of the words of a create with which nothing is wrong.
-use Rattle.std.proofs.Common.{◌≡◌, ℕ, ◌+◌, ◌%◌, ◌≤◌, List, [], ◌∷◌, length, ◌∙◌, true, false, not, ◌&&◌, None, nat_lt, nat_le, arith}
-use Rattle.std.specs.Prelude.{◌==◌, sum_by}
-use Rattle.std.specs.List.{AllByRecursion}
-use Rattle.std.proofs.lemmas.Bool.{and_parts, leb-true, ltb-false, not-false}
+use Rattle.par2_plan.proofs.Common.{◌≡◌, ℕ, ◌+◌, ◌%◌, ◌≤◌, List, [], ◌∷◌, length, ◌∙◌, true, false, not, ◌&&◌, nat_lt, nat_le, arith, ◌==◌, sum_by, AllByRecursion, and_parts, leb-true, ltb-false, not-false, fault_where, fault_at, is_name, is_par_name, slice_count, Folder, File, has, in_id_order, all_slices, is_slice_size, CreateArgs, files_of, are_counts, bad_name, BadSliceSize, BadCount, BadBase, NoInput, NoSuchFile, EmptyFile, TooManySlices, where_none, all_none, at_none, size_parts, duplicate_input}
+use Rattle.std.proofs.Common.{None}
 use Rattle.std.proofs.lemmas.List.Sorted.{length_permutation, sum_by-IsPermutation}
-use Rattle.par2_spec.specs.Faults.{fault_where, fault_at}
-use Rattle.par2_spec.specs.Names.{is_name, is_par_name}
-use Rattle.par2_spec.specs.Slices.{slice_count}
-use Rattle.par2_spec.specs.Folders.{Folder, File, has}
-use Rattle.par2_spec.specs.Volumes.{in_id_order, all_slices}
-use Rattle.par2_spec.specs.Sets.{is_slice_size}
-use Rattle.par2_spec.specs.Commands.{CreateArgs, files_of}
-use Rattle.par2_spec.specs.Refusals.{are_counts, head_fault, bad_name}
-use Rattle.par2_spec.specs.declared.Fault.TheVariants.{BadSliceSize, BadCount, BadBase, NoInput, NoSuchFile, EmptyFile, TooManySlices}
-use Rattle.par2_spec.proofs.TestLaws.{where_none, all_none, at_none}
+use Rattle.par2_spec.specs.Refusals.{head_fault}
 use Rattle.par2_spec.proofs.OrderLaws.{moved-ordered}
-use Rattle.par2_spec.proofs.ReadLaws.{size_parts}
 use Rattle.par2_plan.proofs.SliceCounts.{slices_counted, few_files}
-use Rattle.par2_plan.specs.Faults.{duplicate_input, files_fault, ids_fault, inputs_fault}
+use Rattle.par2_plan.specs.Faults.{files_fault, ids_fault, inputs_fault}
 
 -- ---- the head
 

@@ -1,19 +1,7 @@
 -- Whether File IDs are distinct.
-use Rattle.std.proofs.Common.{◌≡◌, ℕ, List, length, map, sym, ap, ◌∙◌, subst, Some, None}
-use Rattle.std.specs.Prelude.{◌==◌}
-use Rattle.std.specs.List.{IsDistinct}
-use Rattle.std.specs.Str.{bytes_eq}
-use Rattle.std.proofs.lemmas.Bool.{not_from_true, not_from_false, eqb-true, eq-eqb, false_from_ne_true}
-use Rattle.std.proofs.lemmas.List.{length-map}
-use Rattle.std.proofs.lemmas.Simd.{map-map}
-use Rattle.par2_spec.specs.Faults.{fault_where}
-use Rattle.par2_spec.specs.Names.{distinct}
-use Rattle.par2_spec.specs.Folders.{File}
-use Rattle.par2_spec.specs.Volumes.{FileRecord, id_of, record_of}
-use Rattle.par2_spec.specs.declared.Fault.TheVariants.{DuplicateId}
-use Rattle.par2_spec.proofs.NamesLaws.{AreDistinct, distinct_from_std, std_from_distinct, distinct_same}
-use Rattle.par2_spec.proofs.ReadLaws.{distinct_by_length}
-use Rattle.par2_packets.specs.Views.{file_record_of}
+use Rattle.par2_plan.proofs.Common.{◌≡◌, ℕ, List, length, map, sym, ap, ◌∙◌, subst, Some, ◌==◌, IsDistinct, bytes_eq, not_from_true, not_from_false, eqb-true, eq-eqb, false_from_ne_true, length-map, map-map, fault_where, distinct, File, id_of, DuplicateId, AreDistinct, distinct_from_std, std_from_distinct, distinct_same, distinct_by_length, file_record_of}
+use Rattle.std.proofs.Common.{None}
+use Rattle.par2_spec.specs.Volumes.{FileRecord, record_of}
 use Rattle.par2_packets.specs.declared.record.FileRecord as packets
 use Rattle.par2_recovery.specs.Views.{AreRecords}
 use Rattle.par2_plan.specs.Faults.{ids_fault}

@@ -1,15 +1,7 @@
 -- The bytes of an index, packet by packet.
-use Rattle.std.proofs.Common.{◌≡◌, ℕ, List, [], ◌∷◌, ◌++◌, map, ap, ◌∙◌}
-use Rattle.std.specs.Prelude.{flat_map}
-use Rattle.std.proofs.lemmas.Grind.{flat_map-append}
-use Rattle.std.proofs.lemmas.List.Folds.{flat_map-map}
-use Rattle.std.proofs.Common.{append-nil}
-use Rattle.par2_spec.specs.Packets.{packet}
-use Rattle.par2_spec.specs.Volumes.{packet_of, index_packets, main_id, main_bytes, desc_bytes, ifsc_bytes, creator_bytes}
+use Rattle.par2_plan.proofs.Common.{◌≡◌, ℕ, List, [], ◌∷◌, ◌++◌, map, ap, ◌∙◌, append-nil, flat_map, flat_map-append, flat_map-map, packet, packet_of, main_id, main_bytes, desc_bytes, ifsc_bytes, creator_bytes, Main, FileDesc, Ifsc, Creator, file_record_of, FileRecord}
+use Rattle.par2_spec.specs.Volumes.{index_packets}
 use Rattle.par2_spec.specs.Volumes as volumes
-use Rattle.par2_spec.specs.declared.Kind.TheVariants.{Main, FileDesc, Ifsc, Creator}
-use Rattle.par2_packets.specs.Views.{file_record_of}
-use Rattle.par2_packets.specs.declared.record.FileRecord.{FileRecord}
 
 -- a packet, packets made of items twice over, and a last packet
 in_turn : {A B : Type 0} (f : B → List ℕ) (first last : B) (g h : A → B) (xs : List A)

@@ -1,3 +1,4 @@
+mod Common
 mod ReportValues
 mod Choices
 mod Drafts

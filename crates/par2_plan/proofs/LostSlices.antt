@@ -1,15 +1,6 @@
 -- Numbers of slices that are not found.
-use Rattle.std.proofs.Common.{◌≡◌, ℕ, suc, ◌+◌, ◌≤◌, ◌<◌, List, [], ◌∷◌, ◌++◌, length, take, get_or, refl, sym, ap, ◌∙◌, cond, ◌⊎◌, inl, inr, Bor, arith, append-nil, append_assoc, length-append}
-use Rattle.std.specs.Prelude.{Option, Some, None, is_some, filter, flat_map}
-use Rattle.std.specs.List.{AllByRecursion}
-use Rattle.std.proofs.lemmas.List.{take_more, length-take-le, length-map}
-use Rattle.std.proofs.lemmas.List.Sums.{length-filter, count_by-le-length}
-use Rattle.par2_spec.specs.Sets.{Target}
-use Rattle.par2_spec.proofs.ListsLaws.{all-append}
-use Rattle.par2_slices.specs.Texts.{padded_window, padded_windows}
-use Rattle.par2_plan.specs.Findings.{Standing, Intact, Matched, Unmatched, AreSized}
-use Rattle.par2_plan.specs.Parts.{missing_from, lost_from}
-use Rattle.par2_plan.specs.Views.{standing_of, standings_of, missing_in, windows_in}
+use Rattle.par2_plan.proofs.Common.{◌≡◌, ℕ, suc, ◌+◌, ◌≤◌, ◌<◌, List, [], ◌∷◌, ◌++◌, length, take, get_or, refl, sym, ap, ◌∙◌, cond, ◌⊎◌, inl, inr, Bor, arith, append-nil, append_assoc, length-append, Option, None, is_some, filter, flat_map, AllByRecursion, take_more, length-take-le, length-map, length-filter, count_by-le-length, Target, all-append, padded_window, padded_windows, Standing, Intact, Matched, Unmatched, AreSized, missing_from, lost_from, standing_of, standings_of, missing_in, windows_in}
+use Rattle.std.specs.Prelude.{Some}
 use Rattle.par2_plan.specs.declared.finding.Standing as code
 use Rattle.par2_plan.specs.declared.finding.Standing.TheVariants as variants
 

@@ -1,22 +1,9 @@
 -- The matches of needing targets, by numbers and by names.
-use Rattle.std.proofs.Common.{◌≡◌, ℕ, ◌<◌, List, [], ◌∷◌, length, map, refl, sym, ap, ◌∙◌, Bool, not}
-use Rattle.std.specs.Prelude.{Option, Some, None, IfSome, filter, find, option_map, ◌==◌}
-use Rattle.std.specs.List.{AllByRecursion, IsDistinct, range_with_len}
-use Rattle.std.specs.Str.{bytes_eq}
-use Rattle.std.proofs.lemmas.Slice.Zip.{seconds-zip}
-use Rattle.par2_spec.specs.Names.{is_among}
-use Rattle.par2_spec.specs.Folders.{Folder, bytes_of}
-use Rattle.par2_spec.specs.Sets.{ParSet, Target}
-use Rattle.par2_spec.specs.Search.{is_needing, needing, intact_names, matched, matches}
+use Rattle.par2_plan.proofs.Common.{◌≡◌, ℕ, ◌<◌, List, [], ◌∷◌, length, map, refl, sym, ap, ◌∙◌, Bool, not, Option, None, IfSome, filter, find, option_map, ◌==◌, AllByRecursion, IsDistinct, range_with_len, bytes_eq, seconds-zip, is_among, Folder, bytes_of, ParSet, Target, is_needing, needing, intact_names, matched, all-filter, distinct_from_std, std_from_distinct, distinct-filter, text_at, first_intact, without, matched_from, matched_numbers, NumbersAreNames, ArePlaces, items_where, intact_by, needs, matches_given, matched_count, all_below_are, found_one}
+use Rattle.std.specs.Prelude.{Some}
+use Rattle.par2_spec.specs.Search.{matches}
 use Rattle.par2_spec.specs.Lists.{all_below}
-use Rattle.par2_spec.proofs.FoundLaws.{all-filter}
-use Rattle.par2_spec.proofs.NamesLaws.{distinct_from_std, std_from_distinct, distinct-filter}
-use Rattle.par2_slices.specs.Matching.{text_at, first_intact, without, matched_from, matched_numbers, NumbersAreNames}
-use Rattle.par2_plan.specs.Matches.{ArePlaces, items_where, intact_by}
-use Rattle.par2_plan.specs.Findings.{needs, matches_given}
 use Rattle.par2_plan.proofs.Choices.{chosen-map, passed_over-map}
-use Rattle.par2_spec.proofs.ReportLaws.{matched_count}
-use Rattle.par2_spec.proofs.ListsLaws.{all_below_are, found_one}
 
 -- ---- numbers are places
 

@@ -1,13 +1,7 @@
 -- Slices that are found and slices that are rebuilt.
-use Rattle.std.proofs.Common.{◌≡◌, ◌∙◌, ℕ, ◌-◌, ◌≤◌, List, [], ◌∷◌, ◌++◌, length, map, refl, sym, ap, ap₂, arith}
-use Rattle.std.specs.Prelude.{Some, None, IfSome, replicate}
-use Rattle.std.specs.List.{AllByRecursion}
+use Rattle.par2_plan.proofs.Common.{◌≡◌, ◌∙◌, ℕ, ◌-◌, ◌≤◌, List, [], ◌∷◌, ◌++◌, length, map, refl, sym, ap, ap₂, arith, None, IfSome, replicate, AllByRecursion, All-head, All-tail, padded, known_of, known_alone, with_lost_slices, Window, AreShort, windows_and_texts}
+use Rattle.std.specs.Prelude.{Some}
 use Rattle.std.proofs.lemmas.List.{append-nil}
-use Rattle.std.proofs.lemmas.List.Elements.{All-head, All-tail}
-use Rattle.par2_spec.specs.Slices.{padded}
-use Rattle.par2_recovery.specs.Survivors.{known_of, known_alone, with_lost_slices}
-use Rattle.par2_slices.specs.Texts.{Window, AreShort}
-use Rattle.par2_plan.specs.SliceTexts.{windows_and_texts}
 
 -- ---- what survives
 

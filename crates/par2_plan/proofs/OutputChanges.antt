@@ -1,16 +1,6 @@
 -- The changes that write the outputs are those of the create.
-use Rattle.std.proofs.Common.{◌≡◌, ℕ, ◌+◌, List, ◌∷◌, ◌++◌, map, sym, ap, ◌∙◌}
-use Rattle.std.specs.Prelude.{flat_map}
-use Rattle.std.proofs.lemmas.Grind.{flat_map-append}
-use Rattle.std.proofs.lemmas.Simd.{map-map}
-use Rattle.par2_spec.specs.Folders.{Folder, File}
-use Rattle.par2_spec.specs.Changes.{Change}
-use Rattle.par2_spec.specs.Packets.{packet}
-use Rattle.par2_spec.specs.Volumes.{volumes, index_packets, main_id, record_of, in_id_order, all_slices, volume_numbers, volumes_before, volume_size, volume_name, recovery_packets}
-use Rattle.par2_spec.specs.Commands.{CreateArgs, files_of}
-use Rattle.par2_spec.specs.Plans.{create_changes}
-use Rattle.par2_plan.specs.declared.names.Volume.{Volume}
-use Rattle.par2_plan.specs.Outputs.{volume_at, volumes_of, put_change}
+use Rattle.par2_plan.proofs.Common.{◌≡◌, ℕ, ◌+◌, List, ◌∷◌, ◌++◌, map, sym, ap, ◌∙◌, flat_map, flat_map-append, map-map, Folder, File, Change, packet, index_packets, main_id, record_of, in_id_order, all_slices, volume_numbers, volumes_before, volume_size, volume_name, recovery_packets, CreateArgs, files_of, create_changes, Volume, volume_at, volumes_of, put_change}
+use Rattle.par2_spec.specs.Volumes.{volumes}
 
 -- the outputs, by what they are made of
 abbrev pub written : Folder → List ℕ → List ℕ → List ℕ → ℕ → List (List ℕ) → List Volume → List Change

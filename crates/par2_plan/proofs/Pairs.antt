@@ -1,16 +1,6 @@
 -- Lists that are gone over in pairs, and trees of asides.
-use Rattle.std.proofs.Common.{◌≡◌, ℕ, List, [], ◌∷◌, ◌++◌, map, Bor, refl, sym, ap, ap₂, ◌∙◌, append_assoc, ◌||◌, ◌⊎◌, inl, inr, Bool, true, false, cond, append-nil}
-use Rattle.std.specs.Prelude.{Option, Some, None, option_map, option_to_list, filter, not, zip}
-use Rattle.std.specs.BTreeMap.{BTreeMap, get, is_at}
-use Rattle.std.specs.Str.{bytes_eq}
-use Rattle.std.proofs.lemmas.List.{map-append}
-use Rattle.std.proofs.lemmas.Map.Text.{is_eq-slice_cmp}
-use Rattle.par2_spec.specs.Changes.{Remove}
-use Rattle.par2_spec.specs.Names.{is_among}
-use Rattle.par2_spec.proofs.NamesLaws.{same_either_way, same_name}
-use Rattle.par2_spec.proofs.ListsLaws.{map-cond}
-use Rattle.par2_plan.specs.Matches.{name_cmp}
-use Rattle.par2_plan.specs.Repairing.{names_given, asides_removed, files_removed}
+use Rattle.par2_plan.proofs.Common.{◌≡◌, ℕ, List, [], ◌∷◌, ◌++◌, map, Bor, refl, sym, ap, ap₂, ◌∙◌, append_assoc, ◌||◌, ◌⊎◌, inl, inr, Bool, true, false, cond, append-nil, Option, None, option_map, option_to_list, filter, zip, BTreeMap, get, is_at, bytes_eq, map-append, is_eq-slice_cmp, Remove, is_among, same_either_way, same_name, map-cond, name_cmp, names_given, asides_removed, files_removed}
+use Rattle.std.specs.Prelude.{Some, not}
 use Rattle.par2_plan.proofs.Choices.{filter_push}
 
 -- there is no pair where one of two lists is empty

@@ -1,17 +1,6 @@
 -- The first place whose item passes a test.
-use Rattle.std.proofs.Common.{◌≡◌, ℕ, ◌+◌, ◌<◌, List, [], ◌∷◌, length, map, get_or, take, refl, sym, ap, ap₂, ◌∙◌, Bool, true, false, not, cond, Option, Some, None, nat_lt, arith}
-use Rattle.std.specs.Prelude.{position, option_map, sum_by, ◌==◌}
-use Rattle.std.specs.List.{position_or_len, enumerate_from}
-use Rattle.std.proofs.lemmas.Bool.{lt-ltb, le-ltb}
-use Rattle.std.proofs.lemmas.List.{length-map}
-use Rattle.std.proofs.lemmas.List.Sums.{position_or_len_is}
-use Rattle.std.proofs.lemmas.List.FromFn.{get_or-enumerate_from, length-enumerate_from}
-use Rattle.par2_spec.specs.Faults.{first_fault, fault_where}
-use Rattle.par2_spec.specs.Names.{is_among}
-use Rattle.par2_spec.specs.Slices.{slice_count}
-use Rattle.par2_spec.specs.Folders.{Folder, File, has, bytes_of}
-use Rattle.par2_spec.specs.Commands.{files_of}
-use Rattle.par2_spec.specs.declared.Fault.TheVariants.{NoSuchFile, EmptyFile, TooManySlices}
+use Rattle.par2_plan.proofs.Common.{◌≡◌, ℕ, ◌+◌, ◌<◌, List, [], ◌∷◌, length, map, get_or, take, refl, sym, ap, ap₂, ◌∙◌, Bool, true, false, not, cond, Some, nat_lt, arith, position, option_map, sum_by, ◌==◌, position_or_len, enumerate_from, lt-ltb, le-ltb, length-map, position_or_len_is, get_or-enumerate_from, length-enumerate_from, first_fault, fault_where, is_among, slice_count, Folder, File, has, bytes_of, files_of, NoSuchFile, EmptyFile, TooManySlices}
+use Rattle.std.proofs.Common.{Option, None}
 use Rattle.par2_plan.specs.Faults.{files_fault}
 
 pub found_at : {X : Type 0} (p : X → Bool) (xs : List X) (i : ℕ) (d : X) → i < length xs → ((k : ℕ) → k < i → p (get_or xs k d) ≡ false) → p (get_or xs i d) ≡ true → position p xs ≡ Some i

@@ -1,17 +1,7 @@
 -- What a repair and a purge are by the set that they read.
-use Rattle.std.proofs.Common.{◌≡◌, ◌∙◌, ℕ, List, [], refl, sym, ap, subst, Bool, Some, Ok, Err}
-use Rattle.par2_spec.specs.Commands.{Verify, Repair, Purge}
-use Rattle.par2_spec.specs.Faults.{then_fault}
-use Rattle.par2_spec.specs.Folders.{Folder}
-use Rattle.par2_spec.specs.Plans.{changes_of, purge_changes, LeadsToAfter}
-use Rattle.par2_spec.specs.Refusals.{absent_file, set_in, early_refusal, refusal, repair_refusal, purge_refusal, by_set}
-use Rattle.par2_spec.specs.Repairs.{AreFew}
-use Rattle.par2_spec.specs.Search.{candidates}
-use Rattle.par2_spec.specs.Sets.{ParSet}
-use Rattle.par2_spec.specs.declared.Fault.{Fault}
-use Rattle.par2_spec.proofs.AcceptedCommands.{command_leads, set_in_reads}
-use Rattle.par2_spec.proofs.SessionLaws.{same_ok}
-use Rattle.par2_plan.specs.Repairing.{IsWholeWhereMatched, repair_by}
+use Rattle.par2_plan.proofs.Common.{◌≡◌, ◌∙◌, ℕ, List, [], refl, sym, ap, subst, Bool, Some, Ok, Err, Verify, Repair, Purge, then_fault, Folder, purge_changes, LeadsToAfter, absent_file, set_in, repair_refusal, purge_refusal, by_set, AreFew, candidates, ParSet, Fault, command_leads, set_in_reads, same_ok, IsWholeWhereMatched, repair_by}
+use Rattle.par2_spec.specs.Plans.{changes_of}
+use Rattle.par2_spec.specs.Refusals.{early_refusal, refusal}
 use Rattle.par2_plan.proofs.RepairParts.{whole_where_matched}
 
 -- ---- what is refused first

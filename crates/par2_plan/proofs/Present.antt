@@ -1,16 +1,7 @@
 -- The base and the further files that are there.
-use Rattle.std.proofs.Common.{◌≡◌, ℕ, ◌+◌, List, [], ◌∷◌, refl, sym, ap, ◌∙◌, Bool, true, false, not, cond, arith}
-use Rattle.std.specs.Prelude.{Option, Some, None, Result, Ok, Err, option_map}
-use Rattle.std.specs.List.{position_from}
+use Rattle.par2_plan.proofs.Common.{◌≡◌, ℕ, ◌+◌, List, [], ◌∷◌, refl, sym, ap, ◌∙◌, Bool, true, false, not, cond, arith, Option, None, option_map, position_from, Fault, NoSuchFile, or_fault, Folder, has, ParSet, set_of, absent_file, set_in, missing, in_full, in_part, present_from}
+use Rattle.std.specs.Prelude.{Some, Result, Ok, Err}
 use Rattle.std.proofs.lemmas.Iterator.Adapters.{position_from-zero}
-use Rattle.par2_spec.specs.declared.Fault.{Fault}
-use Rattle.par2_spec.specs.declared.Fault.TheVariants.{NoSuchFile}
-use Rattle.par2_spec.specs.Faults.{or_fault}
-use Rattle.par2_spec.specs.Folders.{Folder, has}
-use Rattle.par2_spec.specs.Sets.{ParSet, set_of}
-use Rattle.par2_spec.specs.Refusals.{absent_file, set_in}
-use Rattle.par2_spec.proofs.AcceptedCommands.{missing, in_full, in_part}
-use Rattle.par2_plan.specs.Readings.{present_from}
 
 -- ---- the first word that is absent
 

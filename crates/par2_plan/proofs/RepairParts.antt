@@ -1,31 +1,14 @@
 -- The parts of a repair are those of the definitions.
-use Rattle.std.proofs.Common.{◌≡◌, ◌⊎◌, inl, inr, subst, ℕ, List, [], ◌∷◌, ◌++◌, length, map, refl, sym, ap, ap₂, ◌∙◌, Bool, true, false, not, cond, ◌&&◌, ◌||◌, ◌+◌, ◌==◌, suc, arith, Ok}
-use Rattle.std.specs.Prelude.{Option, Some, None, is_none, filter, filter_map, flat_map, option_map, zip}
-use Rattle.std.specs.List.{AllByRecursion, enumerate_from, list_any}
-use Rattle.std.proofs.lemmas.Bool.{ne_eqb}
-use Rattle.std.proofs.lemmas.Simd.{map-map}
-use Rattle.par2_spec.specs.Changes.{Change, Write, Rename, Remove}
-use Rattle.par2_spec.specs.Checksums.{Pair}
-use Rattle.par2_spec.specs.Faults.{first_fault, fault_where}
-use Rattle.par2_spec.specs.Folders.{Folder, File, bytes_of}
-use Rattle.par2_spec.specs.Names.{is_among}
-use Rattle.par2_spec.specs.Plans.{now_at, repair_changes, repair_removals}
-use Rattle.par2_spec.specs.Search.{matching, matches, known, lost, survivors, candidates, needing_names}
-use Rattle.par2_spec.specs.Rank.{is_repairable, rank}
+use Rattle.par2_plan.proofs.Common.{◌≡◌, ◌⊎◌, inl, inr, subst, ℕ, List, [], ◌∷◌, ◌++◌, length, map, refl, sym, ap, ap₂, ◌∙◌, Bool, true, false, not, cond, ◌&&◌, ◌||◌, ◌+◌, suc, arith, Ok, Option, None, is_none, filter, filter_map, flat_map, option_map, zip, AllByRecursion, enumerate_from, list_any, ne_eqb, map-map, Change, Write, Rename, Remove, Pair, first_fault, fault_where, Folder, File, bytes_of, is_among, now_at, matching, matches, lost, survivors, candidates, needing_names, is_repairable, rank, aside, put_aside, names_without_match, rebuilt, par_files, files_of_slices, ParSet, Target, set_of, found, Fault, NotRepairable, all-append, filter_map-map, all-each, lost_of, long_aside, undetermined_fault, targets_among, md5s_of, wrong_digest, unmatched_names, names_given, AreNeeding, AreRestored, IsWholeWhereMatched, renames, matches_taken, writes, asides_removed, files_removed, place_by, changes_by, removals_by, with_removals, repair_by, known_by}
+use Rattle.std.proofs.Common.{◌==◌}
+use Rattle.std.specs.Prelude.{Some}
+use Rattle.par2_spec.specs.Plans.{repair_changes, repair_removals}
+use Rattle.par2_spec.specs.Search.{known}
 use Rattle.par2_spec.specs.Refusals.{repair_refusal}
-use Rattle.par2_spec.specs.Repairs.{aside, put_aside, names_without_match, rebuilt, rebuilt_targets, par_files, files_of_slices}
-use Rattle.par2_spec.specs.Sets.{ParSet, Target, set_of}
-use Rattle.par2_spec.specs.Windows.{found}
-use Rattle.par2_spec.specs.declared.Fault.{Fault}
-use Rattle.par2_spec.specs.declared.Fault.TheVariants.{NotRepairable}
-use Rattle.par2_spec.proofs.ListsLaws.{all-append, filter_map-map, all-each}
+use Rattle.par2_spec.specs.Repairs.{rebuilt_targets}
 use Rattle.par2_spec.proofs.RankLaws.{repairable-iff}
-use Rattle.par2_spec.proofs.ReadLaws.{lost_of}
 use Rattle.par2_spec.proofs.SearchLaws.{matches_of_needing}
-use Rattle.par2_sets.specs.Asides.{long_aside}
-use Rattle.par2_plan.specs.Restoring.{undetermined_fault, targets_among, files_of, md5s_of}
-use Rattle.par2_plan.specs.Drafts.{wrong_digest}
-use Rattle.par2_plan.specs.Repairing.{unmatched_names, names_given, AreNeeding, AreRestored, IsWholeWhereMatched, renames, matches_taken, writes, asides_removed, files_removed, place_by, changes_by, removals_by, with_removals, repair_by, known_by}
+use Rattle.par2_plan.specs.Restoring.{files_of}
 use Rattle.par2_plan.specs.declared.needing_targets.Needing.{Needing}
 use Rattle.par2_plan.specs.declared.restored_files.RestoredFiles.{RestoredFiles}
 

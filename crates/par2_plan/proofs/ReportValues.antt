@@ -1,22 +1,8 @@
 -- A report by standings is that of the definitions.
-use Rattle.std.proofs.Common.{◌≡◌, ℕ, ◌+◌, List, [], ◌∷◌, ◌++◌, length, map, drop, refl, sym, ap, ap₂, ◌∙◌, subst, Bool, true, false, cond}
-use Rattle.std.specs.Prelude.{Option, Some, None, Ok, Err, is_some, filter, flat_map, slice_index_or}
-use Rattle.std.specs.List.{AllByRecursion}
-use Rattle.std.proofs.lemmas.List.{length-map, map-append}
-use Rattle.par2_spec.specs.declared.Fault.{Fault}
-use Rattle.par2_spec.specs.Checksums.{Pair}
-use Rattle.par2_spec.specs.Windows.{found}
-use Rattle.par2_spec.specs.Rank.{rank}
-use Rattle.par2_spec.specs.Folders.{Folder, has, bytes_of}
-use Rattle.par2_spec.specs.Sets.{ParSet, Target}
-use Rattle.par2_spec.specs.Search.{is_needing, known, lost, survivors, candidates}
-use Rattle.par2_spec.specs.Refusals.{set_in}
-use Rattle.par2_spec.specs.Reports.{State, Complete, TargetReport, Report, needing_state, state_of, states_by, report_of_target, report_of, report_in, HasIntactFile, IsFoundWhole}
-use Rattle.par2_spec.proofs.AcceptedCommands.{set_in_reads}
-use Rattle.par2_spec.proofs.ReadLaws.{sound_of}
-use Rattle.par2_spec.proofs.ReportLaws.{by_target, states_follow, found_whole_in}
-use Rattle.par2_plan.specs.Findings.{needing_standing, standings_by, matches_given, standings}
-use Rattle.par2_plan.specs.Parts.{target_report_by, target_reports_by, missing_from, lost_from, report_by}
+use Rattle.par2_plan.proofs.Common.{◌≡◌, ℕ, ◌+◌, List, [], ◌∷◌, ◌++◌, length, map, drop, refl, sym, ap, ap₂, ◌∙◌, subst, Bool, true, false, cond, Option, None, is_some, filter, flat_map, slice_index_or, AllByRecursion, length-map, map-append, Fault, Pair, found, rank, Folder, has, bytes_of, ParSet, Target, is_needing, lost, survivors, candidates, set_in, State, Complete, TargetReport, Report, needing_state, states_by, HasIntactFile, IsFoundWhole, set_in_reads, sound_of, by_target, states_follow, found_whole_in, needing_standing, standings_by, matches_given, standings, target_report_by, target_reports_by, missing_from, lost_from, report_by}
+use Rattle.std.specs.Prelude.{Some, Ok, Err}
+use Rattle.par2_spec.specs.Search.{known}
+use Rattle.par2_spec.specs.Reports.{state_of, report_of_target, report_of, report_in}
 use Rattle.par2_plan.proofs.LostSlices.{missing-append, none_missing}
 use Rattle.par2_plan.proofs.SliceLists.{heads}
 

@@ -1,14 +1,5 @@
 -- How many slices files have, and how many files there are by that.
-use Rattle.std.proofs.Common.{◌≡◌, ℕ, ◌+◌, ◌≤◌, List, [], ◌∷◌, length, refl, sym, ap₂, ◌∙◌, subst, false, arith, length-append, inl, inr, ◌*◌}
-use Rattle.std.specs.Prelude.{◌==◌, sum_by}
-use Rattle.std.specs.List.{AllByRecursion}
-use Rattle.std.proofs.lemmas.Bool.{cases_lt, eqb-false}
-use Rattle.std.proofs.lemmas.Grind.{div_ceil_times}
-use Rattle.std.proofs.lemmas.List.Sums.{sum_by-cons}
-use Rattle.std.proofs.lemmas.List.FromFn.{length-map-range_with_len}
-use Rattle.par2_spec.specs.Slices.{slice_count, slice_at, slices}
-use Rattle.par2_spec.specs.Folders.{File}
-use Rattle.par2_spec.specs.Volumes.{all_slices}
+use Rattle.par2_plan.proofs.Common.{◌≡◌, ℕ, ◌+◌, ◌≤◌, List, [], ◌∷◌, length, refl, sym, ap₂, ◌∙◌, subst, false, arith, length-append, inl, inr, ◌*◌, ◌==◌, sum_by, AllByRecursion, cases_lt, eqb-false, div_ceil_times, sum_by-cons, length-map-range_with_len, slice_count, slice_at, slices, File, all_slices}
 
 -- how many slices the files have
 pub slices_counted : (s : ℕ) (files : List File) → length (all_slices s files) ≡ sum_by (λ file. slice_count s (length file.1)) files

@@ -1,18 +1,5 @@
 -- Lists of slices and of packets, part by part.
-use Rattle.std.proofs.Common.{◌≡◌, ℕ, zero, suc, ◌+◌, ◌≤◌, ◌<◌, List, [], ◌∷◌, ◌++◌, length, map, get_or, take, drop, refl, sym, ap, ◌∙◌, arith, append_assoc, Vec, Global}
-use Rattle.std.specs.Prelude.{flat_map, sum_by}
-use Rattle.std.specs.List.{range_with_len, enumerate_from}
-use Rattle.std.proofs.lemmas.Grind.{flat_map-append}
-use Rattle.std.proofs.lemmas.List.{map-append, take_more, get_or-map, length-map, take-map, flat_map_more}
-use Rattle.std.proofs.lemmas.List.Sums.{sum_by_more_le}
-use Rattle.std.proofs.lemmas.Simd.{map-map}
-use Rattle.par2_spec.specs.Packets.{packet}
-use Rattle.par2_spec.specs.Recovery.{recovery}
-use Rattle.par2_spec.specs.Volumes.{packet_of, recovery_bytes, recovery_packets}
-use Rattle.par2_spec.specs.declared.Kind.TheVariants.{Recovery}
-use Rattle.par2_spec.proofs.ListsLaws.{range-append}
-use Rattle.par2_spec.specs.Sums.{lists_of}
-use Rattle.par2_packets.specs.Recoveries.{packets_from}
+use Rattle.par2_plan.proofs.Common.{◌≡◌, ℕ, zero, suc, ◌+◌, ◌≤◌, ◌<◌, List, [], ◌∷◌, ◌++◌, length, map, get_or, take, drop, refl, sym, ap, ◌∙◌, arith, append_assoc, Vec, Global, flat_map, sum_by, range_with_len, enumerate_from, flat_map-append, map-append, take_more, get_or-map, length-map, take-map, flat_map_more, sum_by_more_le, map-map, packet, recovery, packet_of, recovery_bytes, recovery_packets, Recovery, range-append, lists_of, packets_from}
 
 -- ---- of any items
 

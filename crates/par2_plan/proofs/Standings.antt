@@ -1,17 +1,8 @@
 -- The standings of targets, one after the other.
-use Rattle.std.proofs.Common.{◌≡◌, ℕ, suc, List, [], ◌∷◌, ◌++◌, length, map, take, drop, refl, sym, ap, ap₂, ◌∙◌, Bool, true, false, ◌⊎◌, inl, inr, Bor, Iter, MatchOption, append_assoc, arith}
-use Rattle.std.specs.Prelude.{Option, Some, None, is_some, filter, slice_index_or}
-use Rattle.std.specs.Slice.Iter.{iter_rest}
-use Rattle.std.proofs.lemmas.List.{map-append, length-map, take-map, drop-map}
+use Rattle.par2_plan.proofs.Common.{◌≡◌, ℕ, suc, List, [], ◌∷◌, ◌++◌, length, map, take, drop, refl, sym, ap, ap₂, ◌∙◌, Bool, true, false, ◌⊎◌, inl, inr, Bor, Iter, MatchOption, append_assoc, arith, Option, None, is_some, filter, slice_index_or, iter_rest, map-append, length-map, take-map, drop-map, Pair, Target, padded_window, padded_windows, Folder, target_reports_by, GoesOn, given_of, standing_of, standings_of, Standing, needing_standing, standing_by, pairs_sought, sought_by, standings_by, AreSized}
+use Rattle.std.specs.Prelude.{Some}
 use Rattle.std.proofs.Math.Seq.{drop-append_seam, take-append_seam}
-use Rattle.par2_spec.specs.Checksums.{Pair}
-use Rattle.par2_spec.specs.Sets.{Target}
-use Rattle.par2_slices.specs.Texts.{padded_window, padded_windows}
-use Rattle.par2_spec.specs.Folders.{Folder}
-use Rattle.par2_plan.specs.Parts.{target_reports_by}
-use Rattle.par2_plan.specs.Views.{GoesOn, given_of, standing_of, standings_of}
 use Rattle.par2_plan.specs.declared.finding.Standing as code
-use Rattle.par2_plan.specs.Findings.{Standing, needing_standing, standing_by, pairs_sought, sought_by, standings_by, AreSized}
 
 pub sought_end : (needing : List Bool) (ts : List Target) (given : List (Option (List ℕ))) → (ts ≡ []) ⊎ (needing ≡ []) → sought_by needing ts given ≡ []
 sought_end [] ts given h = refl

@@ -1,12 +1,6 @@
 -- The targets one after the other, with their bytes by the slices that are left.
-use Rattle.std.proofs.Common.{◌≡◌, ◌∙◌, ℕ, ◌+◌, List, [], ◌∷◌, ◌++◌, length, map, take, drop, refl, sym, ap, Bool, true, false, cond}
-use Rattle.std.specs.Prelude.{filter, zip}
-use Rattle.std.specs.List.{concat}
-use Rattle.std.proofs.lemmas.List.{append_assoc, drop-drop, map-append}
-use Rattle.par2_spec.specs.Names.{is_among}
-use Rattle.par2_spec.specs.Repairs.{cut_into}
-use Rattle.par2_spec.specs.Sets.{Target}
-use Rattle.par2_plan.specs.Restoring.{target_at, chosen_at}
+use Rattle.par2_plan.proofs.Common.{◌≡◌, ◌∙◌, ℕ, ◌+◌, List, [], ◌∷◌, ◌++◌, length, map, take, drop, refl, sym, ap, Bool, true, false, cond, filter, zip, concat, drop-drop, map-append, is_among, cut_into, Target, target_at, chosen_at}
+use Rattle.std.proofs.lemmas.List.{append_assoc}
 
 abbrev pub walked : List Target → List (List ℕ) → List (Target × List ℕ)
 walked ts slices = map (λ z. (z.0, take z.0.length (concat z.1))) (zip ts (cut_into (map (λ t. length t.pairs) ts) slices))

@@ -1,15 +1,6 @@
 -- The name of a volume is a name, where it has at most 255 bytes.
-use Rattle.std.proofs.Common.{◌≡◌, ℕ, ◌+◌, ◌-◌, ◌/◌, ◌%◌, ◌^◌, ◌<◌, ◌≤◌, List, [], ◌∷◌, ◌++◌, length, take, drop, refl, sym, ap, ◌∙◌, subst, Bool, true, false, eqb, arith, length-append}
-use Rattle.std.specs.Prelude.{codes, nat_eq, ◌==◌}
-use Rattle.std.specs.List.{list_any, starts_with}
-use Rattle.std.specs.Str.{is_utf8}
-use Rattle.std.proofs.lemmas.Bool.{and_parts, and_from, or_from, or_parts, false_from_ne_true, not_from_false, ne_eqb, le-leb, not-true}
-use Rattle.std.proofs.lemmas.List.{append_assoc, take-append-drop}
-use Rattle.std.proofs.lemmas.List.Folds.{list_any-append}
-use Rattle.par2_spec.specs.Names.{is_name}
-use Rattle.par2_spec.specs.Volumes.{five_digits, stem, volume_name}
-use Rattle.par2_spec.proofs.NamesLaws.{clash}
-use Rattle.par2_spec.proofs.NameTests.{tests_of, name_of}
+use Rattle.par2_plan.proofs.Common.{◌≡◌, ℕ, ◌+◌, ◌-◌, ◌/◌, ◌%◌, ◌^◌, ◌<◌, ◌≤◌, List, [], ◌∷◌, ◌++◌, length, take, drop, refl, sym, ap, ◌∙◌, subst, Bool, true, false, eqb, arith, length-append, codes, nat_eq, ◌==◌, list_any, starts_with, is_utf8, and_parts, and_from, or_from, or_parts, false_from_ne_true, not_from_false, ne_eqb, le-leb, not-true, take-append-drop, list_any-append, is_name, five_digits, stem, volume_name, clash, tests_of, name_of}
+use Rattle.std.proofs.lemmas.List.{append_assoc}
 use Rattle.par2_spec.proofs.AsideNames.{front_of_name, longer}
 
 -- what follows the stem

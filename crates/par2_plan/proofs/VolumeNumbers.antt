@@ -1,21 +1,7 @@
 -- The volumes, one after the other.
-use Rattle.std.proofs.Common.{◌≡◌, ℕ, zero, suc, ◌+◌, ◌-◌, ◌≤◌, ◌<◌, List, [], ◌∷◌, ◌++◌, length, map, sym, ap, ◌∙◌, subst, Bool, true, false, cond, ◌||◌, Some, None, arith}
-use Rattle.std.specs.Prelude.{filter, nat_lt}
-use Rattle.std.specs.List.{range_with_len, list_any}
-use Rattle.std.proofs.lemmas.Bool.{ltb-true, le-ltb, leb-true}
-use Rattle.std.proofs.lemmas.List.{map-append}
-use Rattle.std.proofs.lemmas.List.Folds.{list_any-append}
-use Rattle.std.proofs.lemmas.List.Elements.{filter-append, filter_passes, recursion_from_All}
-use Rattle.par2_spec.specs.Faults.{fault_where}
-use Rattle.par2_spec.specs.Names.{is_name}
-use Rattle.par2_spec.specs.Volumes.{volume_numbers, volumes_before}
-use Rattle.par2_spec.specs.declared.Fault.{Fault}
-use Rattle.par2_spec.specs.declared.Fault.TheVariants.{NameTooLong}
-use Rattle.par2_spec.proofs.ListsLaws.{all-map, any-map, range-append, map-cond}
-use Rattle.par2_spec.proofs.NameTests.{name_is_short}
-use Rattle.par2_plan.specs.declared.names.Volume.{Volume}
-use Rattle.par2_plan.specs.Faults.{long_name}
-use Rattle.par2_plan.specs.Outputs.{HasExponents, HaveExponents, volume_at, volume_if, volumes_of, names_of}
+use Rattle.par2_plan.proofs.Common.{◌≡◌, ℕ, zero, suc, ◌+◌, ◌-◌, ◌≤◌, ◌<◌, List, [], ◌∷◌, ◌++◌, length, map, sym, ap, ◌∙◌, subst, Bool, true, false, cond, ◌||◌, Some, arith, filter, range_with_len, list_any, ltb-true, le-ltb, leb-true, map-append, list_any-append, filter-append, filter_passes, recursion_from_All, fault_where, is_name, volume_numbers, volumes_before, Fault, NameTooLong, all-map, any-map, range-append, map-cond, name_is_short, Volume, long_name, HasExponents, HaveExponents, volume_at, volume_if, volumes_of, names_of}
+use Rattle.std.proofs.Common.{None}
+use Rattle.std.specs.Prelude.{nat_lt}
 
 -- those with numbers below n
 abbrev pub volumes_below : List ℕ → ℕ → ℕ → ℕ → List Volume

@@ -1,26 +1,8 @@
 -- Where the recovery slices of volumes lie, and what the volumes are once they are written there.
-use Rattle.std.proofs.Common.{inl, inr, ℕ, zero, suc, ◌+◌, ◌-◌, ◌*◌, ◌/◌, ◌%◌, ◌<◌, ◌≤◌, ◌≡◌, refl, sym, ap, ap₂, subst, ◌∙◌, arith, List, [], ◌∷◌, ◌++◌, length, length-append, get_or, map, take, drop, replicate, append-nil, append_assoc, zero-add, mul-le-mul_right}
-use Rattle.std.specs.Prelude.{flat_map}
-use Rattle.std.specs.List.{range_with_len}
-use Rattle.std.proofs.lemmas.Bool.{cases_lt}
+use Rattle.par2_plan.proofs.Common.{inl, inr, ℕ, zero, suc, ◌+◌, ◌-◌, ◌*◌, ◌/◌, ◌%◌, ◌<◌, ◌≤◌, ◌≡◌, refl, sym, ap, ap₂, subst, ◌∙◌, arith, List, [], ◌∷◌, ◌++◌, length, length-append, get_or, map, take, drop, append-nil, append_assoc, zero-add, mul-le-mul_right, flat_map, range_with_len, cases_lt, ext_get_or, get_or_default, get_or-take, get_or-drop, get_or_append_left, get_or-append_right, length-map, get_or-map, length-replicate, get_or-replicate, length-drop, length-take-le, length-map-range_with_len, get_or-map-range_with_len, length-range_with_len, get_or-range_with_len, recovery, padded, list_at, ArePieces, undigested, length-pieces, piece_at, head_of, length-head, length-undigested, undigested_is, place_at, AreApart, HasByte, LieWithin, Place, output_at, AreWritten, AreZeros, HasSlices, inputs_of, HavePackets, exponents_in, exponents_of, length_with, nth_volume, place_in, places_from, places_in, slice_of, volume_with, Volume, Parts}
+use Rattle.std.proofs.Common.{replicate}
 use Rattle.std.proofs.lemmas.Nat.{div-add-mod'}
 use Rattle.std.proofs.Math.Nat.{mod-lt}
-use Rattle.std.proofs.lemmas.List.{ext_get_or, get_or_default, get_or-take, get_or-drop, get_or_append_left, get_or-append_right, length-map, get_or-map, length-replicate, get_or-replicate, length-drop, length-take-le}
-use Rattle.std.proofs.lemmas.List.FromFn.{length-map-range_with_len, get_or-map-range_with_len, length-range_with_len, get_or-range_with_len}
-use Rattle.par2_spec.specs.Recovery.{recovery}
-use Rattle.par2_spec.specs.Slices.{padded}
-use Rattle.par2_spec.specs.Sums.{list_at}
-use Rattle.par2_packets.specs.Pieces.{ArePieces}
-use Rattle.par2_packets.specs.Recoveries.{undigested}
-use Rattle.par2_packets.proofs.Pieces.{length-pieces, piece_at}
-use Rattle.par2_packets.proofs.LaterDigests.{head_of, length-head, length-undigested, undigested_is}
-use Rattle.par2_transform.specs.Adding.{place_at, AreApart, HasByte, LieWithin}
-use Rattle.par2_transform.specs.declared.outputs.Place.{Place}
-use Rattle.par2_recovery.specs.Writing.{output_at, AreWritten, AreZeros}
-use Rattle.par2_plan.specs.Outputs.{HasSlices, inputs_of}
-use Rattle.par2_plan.specs.Volumes.{HavePackets, exponents_in, exponents_of, length_with, nth_volume, place_in, places_from, places_in, slice_of, volume_with}
-use Rattle.par2_plan.specs.declared.names.Volume.{Volume}
-use Rattle.par2_plan.specs.declared.outputs.Parts.{Parts}
 use Rattle.par2_plan.proofs.VolumeStages.{length-slice}
 
 -- ---- numbers of recovery slices

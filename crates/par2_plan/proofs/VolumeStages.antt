@@ -1,23 +1,7 @@
 -- Volumes, whose MD5s are put in one after the other.
-use Rattle.std.proofs.Common.{◌≡◌, ℕ, ◌+◌, ◌-◌, ◌*◌, ◌<◌, ◌≤◌, List, [], ◌++◌, length, take, drop, inl, inr, refl, sym, ap, ap₂, ◌∙◌, subst, arith, append-nil, length-append}
-use Rattle.std.specs.Prelude.{flat_map}
-use Rattle.std.specs.List.{range_with_len}
-use Rattle.std.proofs.lemmas.Bool.{cases_eq}
-use Rattle.std.proofs.lemmas.List.{ext_get_or, take_at, drop_at, take_all, drop_all, length-drop}
-use Rattle.std.proofs.lemmas.List.Folds.{flat_map-map}
+use Rattle.par2_plan.proofs.Common.{◌≡◌, ℕ, ◌+◌, ◌-◌, ◌*◌, ◌<◌, ◌≤◌, List, [], ◌++◌, length, take, drop, inl, inr, refl, sym, ap, ap₂, ◌∙◌, subst, arith, append-nil, length-append, flat_map, range_with_len, cases_eq, ext_get_or, take_at, drop_at, take_all, drop_all, length-drop, flat_map-map, packet, OneChanged, list_at, packet_of, recovery_bytes, Recovery, ArePieces, undigested, digested, length-pieces, length-undigested, Parts, HasSlices, inputs_of, packets_between, slice_of}
 use borrow.Rule.Slice.PartMut.{put_mid}
-use Rattle.par2_spec.specs.Packets.{packet}
-use Rattle.par2_spec.specs.Sums.{OneChanged, list_at}
-use Rattle.par2_spec.specs.Volumes.{packet_of, recovery_bytes}
-use Rattle.par2_spec.specs.declared.Kind.TheVariants.{Recovery}
 use Rattle.par2_spec.proofs.WrittenSets.{recovery_length}
-use Rattle.par2_packets.specs.Pieces.{ArePieces}
-use Rattle.par2_packets.specs.Recoveries.{undigested, digested}
-use Rattle.par2_packets.proofs.Pieces.{length-pieces}
-use Rattle.par2_packets.proofs.LaterDigests.{length-undigested}
-use Rattle.par2_plan.specs.declared.outputs.Parts.{Parts}
-use Rattle.par2_plan.specs.Outputs.{HasSlices, inputs_of, packets_between}
-use Rattle.par2_plan.specs.Volumes.{slice_of}
 
 pub length-slice : (parts : Parts) → HasSlices parts → (e : ℕ) → length (slice_of parts e) ≡ parts.set.now.slice
 length-slice parts can e = recovery_length parts.set.now.slice (inputs_of parts) e (omega (arith, can.fours))

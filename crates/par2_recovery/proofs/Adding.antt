@@ -1,14 +1,7 @@
 -- The loops that add products.
-use Rattle.std.proofs.Common.{ℕ, suc, ◌+◌, ◌*◌, ◌<◌, ◌≤◌, ◌≡◌, inl, inr, refl, sym, ap, ap₂, ◌∙◌, subst, arith, List, length, get_or, bit_xor}
-use Rattle.std.proofs.lemmas.Bool.{cases_eq, cases_lt}
-use Rattle.std.specs.Int.Bits.{xor_assoc, xor_zero_r}
-use Rattle.std.proofs.lemmas.List.{get_or_past}
-use Rattle.par2_spec.proofs.FieldOrder.{product-zero}
-use Rattle.par2_spec.specs.Field.{mul}
-use Rattle.par2_spec.specs.Slices.{word}
+use Rattle.par2_recovery.proofs.Common.{ℕ, suc, ◌+◌, ◌*◌, ◌<◌, ◌≤◌, ◌≡◌, inl, inr, refl, sym, ap, ap₂, ◌∙◌, subst, arith, List, length, get_or, bit_xor, cases_eq, cases_lt, xor_assoc, xor_zero_r, get_or_past, product-zero, mul, word, list_at, OneChanged, AddsSource, Adds, products}
 use Rattle.par2_gf16.specs.Steps.{AddsWithin}
-use Rattle.par2_spec.specs.Sums.{field_sum, list_at, OneChanged}
-use Rattle.par2_recovery.specs.Products.{AddsSource, Adds, products}
+use Rattle.par2_spec.specs.Sums.{field_sum}
 
 -- nothing was added to any target yet
 pub no_target : (factor : ℕ → ℕ) (source : List ℕ) (old : List (List ℕ)) (from to : ℕ) → AddsSource factor source old old from to 0

@@ -1,32 +1,6 @@
 -- Recovery slices, added to texts, and the syndromes over all slices, of which a lost one has no bytes.
-use Rattle.std.proofs.Common.{inl, inr, ℕ, zero, suc, ◌+◌, ◌-◌, ◌*◌, ◌<◌, ◌≤◌, ◌≡◌, refl, sym, ap, ap₂, ◌∙◌, subst, arith, List, [], ◌∷◌, length, take, drop, get_or, map, min, bit_xor, zero-add}
-use Rattle.std.specs.Prelude.{Option, Some, None}
-use Rattle.std.specs.Borrow.{Bor}
-use Rattle.std.specs.Int.{div_ceil}
-use Rattle.std.specs.List.{range_with_len}
-use Rattle.std.specs.Int.Bits.{xor_zero_l}
-use Rattle.std.proofs.lemmas.Bool.{cases_lt}
-use Rattle.std.proofs.lemmas.List.{length-map, get_or-map, get_or-take, get_or-drop, get_or_past, length-take-le, length-drop}
-use Rattle.std.proofs.lemmas.List.FromFn.{get_or-map-range_with_len, length-range_with_len}
-use Rattle.par2_spec.specs.Field.{mul, coefficient}
-use Rattle.par2_spec.specs.Slices.{padded, word}
-use Rattle.par2_spec.specs.Recovery.{dot, coefficients, recovery}
-use Rattle.par2_spec.specs.Sums.{list_at}
-use Rattle.par2_spec.proofs.FieldOrder.{product-zero}
-use Rattle.par2_spec.proofs.FoundLaws.{slice_begins}
-use Rattle.par2_spec.proofs.FieldProducts.{product_comm, product-one}
-use Rattle.par2_spec.proofs.WordLaws.{word-lt}
-use Rattle.par2_spec.proofs.SumLaws.{field_sum_same, dot_sum, product_at}
-use Rattle.par2_transform.specs.Adding.{within, place_at, AddsAt, AddsToEach, AreApart, HaveWords, LieWithin}
-use Rattle.par2_transform.specs.Columns.{recovered}
-use Rattle.par2_transform.specs.declared.outputs.Place.{Place}
-use Rattle.par2_transform.proofs.AddingLaws.{adds_none, adds_more, adds_same, within-in, within-above, within_joined, within_same}
-use Rattle.par2_transform.proofs.GroupLaws.{length-group, adds_to_group}
-use Rattle.par2_recovery.specs.Inverses.{recovery_at}
-use Rattle.par2_recovery.specs.Products.{AreBytes, products}
-use Rattle.par2_recovery.specs.Survivors.{known_from, known_alone, bytes_or_none, sum_at}
-use Rattle.par2_recovery.specs.Syndromes.{all_coefficients, syndrome, window, AreProducts, AreSyndromes, AreSolved}
-use Rattle.par2_recovery.specs.Views.{texts_of}
+use Rattle.par2_recovery.proofs.Common.{inl, inr, ℕ, zero, suc, ◌+◌, ◌-◌, ◌*◌, ◌<◌, ◌≤◌, ◌≡◌, refl, sym, ap, ap₂, ◌∙◌, subst, arith, List, [], ◌∷◌, length, take, drop, get_or, map, min, bit_xor, zero-add, Option, Some, None, Bor, div_ceil, range_with_len, xor_zero_l, cases_lt, length-map, get_or-map, get_or-take, get_or-drop, get_or_past, length-take-le, length-drop, get_or-map-range_with_len, length-range_with_len, mul, coefficient, padded, word, coefficients, recovery, list_at, product-zero, slice_begins, product_comm, product-one, word-lt, field_sum_same, dot_sum, product_at, within, place_at, AddsAt, AddsToEach, AreApart, HaveWords, LieWithin, recovered, Place, adds_none, adds_more, adds_same, within-in, within-above, within_joined, within_same, length-group, adds_to_group, recovery_at, AreBytes, products, known_from, known_alone, bytes_or_none, sum_at, all_coefficients, syndrome, window, AreProducts, AreSyndromes, AreSolved, texts_of}
+use Rattle.par2_spec.specs.Recovery.{dot}
 use Rattle.par2_recovery.specs.Writing.{output_at, AreWritten, AreZeros}
 use Rattle.par2_recovery.proofs.Combinations.{blank_word, recovered_by_words}
 use Rattle.par2_recovery.proofs.Inverting.{length-slices}

@@ -1,18 +1,5 @@
 -- Where the first exponents are a run of as many as slices are lost, these are the kept ones.
-use Rattle.std.proofs.Common.{ℕ, zero, suc, ◌+◌, ◌-◌, ◌<◌, ◌≤◌, ◌≡◌, refl, sym, ap, ap₂, ◌∙◌, subst, arith, Bool, true, false, cond, List, [], ◌∷◌, length, get_or, map, take}
-use Rattle.std.specs.Prelude.{filter, Option, Some, None}
-use Rattle.std.specs.List.{AllByRecursion, Contains, range_with_len}
-use Rattle.std.specs.List.Sorted.{IsStrictlyIncreasing}
-use Rattle.std.proofs.lemmas.List.{length-map, length-take, get_or-map, ext_get_or, get_or-take, length-take-le, take_all, take-map}
-use Rattle.std.proofs.lemmas.List.Elements.{Contains-get_or}
-use Rattle.std.proofs.lemmas.List.FromFn.{length-range_with_len, get_or-range_with_len}
-use Rattle.par2_spec.specs.Rank.{kept, rank, kept_slices}
-use Rattle.par2_spec.specs.Runs.{AreSlices, AreClose, HasRun}
-use Rattle.par2_spec.proofs.ListsLaws.{all_unmap, filter-map}
-use Rattle.par2_spec.proofs.RunLaws.{first_kept, run_rank}
-use Rattle.par2_recovery.specs.RunInverses.{BeginsWithRun}
-use Rattle.par2_recovery.specs.Survivors.{lost_from, recovered_of, exponents_of}
-use Rattle.std.specs.Borrow.{Bor}
+use Rattle.par2_recovery.proofs.Common.{ℕ, zero, suc, ◌+◌, ◌-◌, ◌<◌, ◌≤◌, ◌≡◌, refl, sym, ap, ap₂, ◌∙◌, subst, arith, Bool, true, false, cond, List, [], ◌∷◌, length, get_or, map, take, filter, Option, Some, None, AllByRecursion, Contains, range_with_len, IsStrictlyIncreasing, length-map, length-take, get_or-map, ext_get_or, get_or-take, length-take-le, take_all, take-map, Contains-get_or, length-range_with_len, get_or-range_with_len, kept, rank, kept_slices, AreSlices, AreClose, HasRun, all_unmap, filter-map, first_kept, run_rank, BeginsWithRun, lost_from, recovered_of, exponents_of, Bor}
 use Rattle.par2_recovery.proofs.Inverting.{length-recovered_of}
 use Rattle.par2_recovery.proofs.Ranks.{is_kept}
 use Rattle.par2_recovery.proofs.Runs.{rises_between}

@@ -1,37 +1,10 @@
 -- What is answered once the kept exponents are known.
-use Rattle.std.proofs.Common.{ℕ, zero, suc, ◌+◌, ◌*◌, ◌%◌, ◌<◌, ◌≡◌, refl, sym, ap, ap₂, ◌∙◌, subst, arith, eqb, List, [], ◌∷◌, length, get_or, map, bit_xor}
-use Rattle.std.specs.Prelude.{Option, filter}
-use Rattle.std.specs.List.{AllByRecursion, Contains, list_any}
-use Rattle.std.specs.List.Sorted.{IsStrictlyIncreasing}
-use Rattle.std.proofs.lemmas.Bool.{eqb-true}
-use Rattle.std.proofs.lemmas.List.{get_or-map, length-map}
-use Rattle.std.proofs.lemmas.List.Kept.{AllPairs-from_increasing, IsStrictlyIncreasing-filter}
-use Rattle.std.proofs.lemmas.Map.Views.{Contains-from_any}
-use Rattle.std.proofs.lemmas.Nat.{xor_lt}
-use Rattle.par2_spec.specs.Field.{mul, coefficient}
-use Rattle.par2_spec.specs.Slices.{padded, word}
-use Rattle.par2_spec.specs.Recovery.{dot, coefficients}
-use Rattle.par2_spec.specs.Rank.{Agrees, IsRepairable, IsRebuilt, kept, kept_slices}
-use Rattle.par2_spec.specs.Search.{lost}
-use Rattle.par2_spec.proofs.FieldProducts.{product-lt}
-use Rattle.par2_spec.specs.Sums.{field_sum, list_at}
-use Rattle.par2_spec.proofs.SumLaws.{field_sum-lt, field_sum_same}
-use Rattle.par2_spec.proofs.ListsLaws.{all_from, all_get, all-passing, filter-map}
-use Rattle.par2_spec.proofs.UniqueLaws.{agreeing_are_one}
-use Rattle.par2_spec.proofs.WordLaws.{word-lt}
-use Rattle.par2_recovery.specs.Inverses.{recovery_at, IsInverse}
-use Rattle.par2_recovery.specs.Products.{AreBytes}
-use Rattle.par2_recovery.specs.Rebuilding.{CanRebuild, AreRebuilt, known_among}
-use Rattle.par2_recovery.specs.Survivors.{with_lost_slices, lost_from, known_from, known_alone, sum_at, recovered_of, exponents_of}
-use Rattle.par2_recovery.specs.Syndromes.{syndrome, AreSolved}
-use Rattle.par2_recovery.specs.Views.{texts_of}
+use Rattle.par2_recovery.proofs.Common.{ℕ, zero, suc, ◌+◌, ◌*◌, ◌%◌, ◌<◌, ◌≡◌, refl, sym, ap, ap₂, ◌∙◌, subst, arith, eqb, List, [], ◌∷◌, length, get_or, map, bit_xor, Option, filter, AllByRecursion, Contains, list_any, IsStrictlyIncreasing, eqb-true, get_or-map, length-map, AllPairs-from_increasing, IsStrictlyIncreasing-filter, Contains-from_any, xor_lt, mul, coefficient, padded, word, dot, coefficients, Agrees, IsRepairable, IsRebuilt, kept, kept_slices, lost, product-lt, field_sum, list_at, field_sum-lt, field_sum_same, all_from, all_get, all-passing, filter-map, agreeing_are_one, word-lt, recovery_at, IsInverse, AreBytes, CanRebuild, AreRebuilt, known_among, with_lost_slices, lost_from, known_from, known_alone, sum_at, recovered_of, exponents_of, syndrome, AreSolved, texts_of, Bor, all-filter}
 use Rattle.par2_recovery.specs.declared.rebuild_slices.Survivors as code
-use Rattle.std.specs.Borrow.{Bor}
 use Rattle.par2_recovery.proofs.Combinations.{coefficients-lt, dot_padded, length-texts_of}
 use Rattle.par2_recovery.proofs.Inverting.{Rise, gives_back, length-slices}
 use Rattle.par2_recovery.proofs.Rebuilding.{AreSized, AreKnown, IsFound, Meets, lost_is, lost_of_map, known_of_map, length-present, agrees_from}
 use Rattle.par2_recovery.proofs.Standing.{are_known, slices_are}
-use Rattle.par2_spec.proofs.FoundLaws.{all-filter}
 
 -- a word of recovery slice j without what the known slices give to it
 abbrev lack : List ℕ → List (List ℕ) → List (ℕ × List ℕ) → ℕ → ℕ → ℕ

@@ -1,34 +1,9 @@
 -- The inverse of the equations of the kept exponents.
-use Rattle.std.proofs.Common.{inl, inr, ℕ, zero, suc, ◌+◌, ◌*◌, ◌/◌, ◌%◌, ◌<◌, ◌≤◌, ◌≡◌, ◌≢◌, refl, sym, ap, ap₂, ◌∙◌, arith, Bool, true, false, cond, eqb, List, [], ◌∷◌, ◌++◌, Vec, Global, length, get_or, map, subst, bit_xor, zero-add}
-use Rattle.std.specs.Borrow.{Bor}
-use Rattle.std.specs.Int.Bits.{xor_self, xor_zero_l}
-use Rattle.std.specs.List.{AllByRecursion, Contains, range_with_len}
-use Rattle.std.proofs.lemmas.Bool.{cases_eq, cases_lt, eq-eqb, ne_eqb}
-use Rattle.std.proofs.lemmas.List.{get_or-map, get_or_past, length-map, length-replicate}
-use Rattle.std.proofs.lemmas.List.FromFn.{get_or-map-range_with_len, length-map-range_with_len}
+use Rattle.par2_recovery.proofs.Common.{inl, inr, ℕ, zero, suc, ◌+◌, ◌*◌, ◌/◌, ◌%◌, ◌<◌, ◌≤◌, ◌≡◌, ◌≢◌, refl, sym, ap, ap₂, ◌∙◌, arith, Bool, true, false, cond, eqb, List, [], ◌∷◌, ◌++◌, Vec, Global, length, get_or, map, subst, bit_xor, zero-add, Bor, xor_self, xor_zero_l, AllByRecursion, Contains, range_with_len, sum_by, cases_eq, cases_lt, eq-eqb, ne_eqb, get_or-map, get_or_past, length-map, length-replicate, get_or-map-range_with_len, length-map-range_with_len, xor_lt, mul, coefficient, word, dot, coefficients, IsVector, kept, field_sum, list_at, lists_of, product-zero, zero-product, product_linear_right, product_comm, product-one, product-lt, all_at, all_from, all_get, field_sum_same, field_sum_xor, field_sum_one, field_sum-lt, dot_sum, product_at, xor_same, coefficients_are, dot-lt, words_are, bytes_at, combination_words, word-lt, Spells, Equations, OnlyZeroIsKilled, IsTheSolution, AreRows, IsUnit, recovery_at, IsEliminated, IsInverse, identity, Adds, products, recovered_of, texts_of, AreBlank}
 use Rattle.std.proofs.lemmas.List.Sums.{get_or-le-sum_by}
-use Rattle.std.specs.List.{sum_by}
-use Rattle.std.proofs.lemmas.Nat.{xor_lt}
-use Rattle.par2_spec.specs.Field.{mul, coefficient}
-use Rattle.par2_spec.specs.Slices.{word}
-use Rattle.par2_spec.specs.Recovery.{dot, coefficients}
-use Rattle.par2_spec.specs.Rank.{IsVector, kept}
-use Rattle.par2_spec.specs.Sums.{field_sum, list_at, lists_of, AreElements}
+use Rattle.par2_spec.specs.Sums.{AreElements}
 use Rattle.par2_spec.proofs.ExistLaws.{IsSolved, solved}
-use Rattle.par2_spec.proofs.FieldOrder.{product-zero, zero-product}
-use Rattle.par2_spec.proofs.FieldProducts.{product_linear_right, product_comm, product-one, product-lt}
-use Rattle.par2_spec.proofs.ListsLaws.{all_at, all_from, all_get}
-use Rattle.par2_spec.proofs.SumLaws.{field_sum_same, field_sum_xor, field_sum_one, field_sum-lt, dot_sum, product_at, xor_same}
-use Rattle.par2_spec.proofs.UniqueLaws.{coefficients_are, dot-lt, words_are}
-use Rattle.par2_spec.proofs.WordLaws.{bytes_at, combination_words, word-lt}
-use Rattle.par2_matrix.specs.Echelon.{Spells}
 use Rattle.par2_matrix.specs.Systems as systems
-use Rattle.par2_matrix.specs.Systems.{Equations, OnlyZeroIsKilled, IsTheSolution}
-use Rattle.par2_recovery.specs.Elements.{AreRows, IsUnit}
-use Rattle.par2_recovery.specs.Inverses.{recovery_at, IsEliminated, IsInverse, identity}
-use Rattle.par2_recovery.specs.Products.{Adds, products}
-use Rattle.par2_recovery.specs.Survivors.{recovered_of}
-use Rattle.par2_recovery.specs.Views.{texts_of, AreBlank}
 use Rattle.par2_recovery.proofs.Dots.{combined}
 use Rattle.par2_recovery.proofs.Combinations.{coefficients-lt, blank_word, each_push, length-texts_of}
 

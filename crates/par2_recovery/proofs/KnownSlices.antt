@@ -1,23 +1,8 @@
 -- Where no slice is lost, nothing is rebuilt.
-use Rattle.std.proofs.Common.{◌≡◌, ◌∙◌, ℕ, zero, suc, ◌+◌, List, [], ◌∷◌, length, refl, sym, ap, subst, arith, ◌==◌}
-use Rattle.std.specs.Prelude.{Option, Some, None}
-use Rattle.std.specs.List.{All, list_any}
-use Rattle.std.proofs.lemmas.List.Elements.{All-head, All-tail}
-use Rattle.par2_spec.specs.Rank.{Agrees, IsRepairable, kept_slices}
-use Rattle.par2_spec.specs.Search.{lost}
-use Rattle.par2_recovery.specs.Products.{AreBytes}
-use Rattle.par2_recovery.specs.Survivors.{known_alone, with_lost_slices, lost_from, recovered_of, exponents_of}
-use Rattle.par2_recovery.specs.Views.{texts_of}
+use Rattle.par2_recovery.proofs.Common.{◌≡◌, ◌∙◌, ℕ, zero, suc, ◌+◌, List, [], ◌∷◌, length, refl, sym, ap, subst, arith, ◌==◌, Option, Some, None, All, list_any, All-head, All-tail, Agrees, IsRepairable, kept_slices, lost, AreBytes, known_alone, with_lost_slices, lost_from, recovered_of, exponents_of, texts_of, padded, filter-none, none_kept, agreeing_are_one, Bor, CanRebuild, AreRebuilt, AreEnough, known_among, IsKnown}
 use Rattle.par2_recovery.specs.declared.rebuild_slices.Survivors as code
 use Rattle.par2_recovery.proofs.Rebuilding.{lost_is, lost_of_map, agrees_from}
 use Rattle.par2_recovery.proofs.Standing.{are_known}
-use Rattle.par2_spec.specs.Slices.{padded}
-use Rattle.par2_spec.proofs.ListsLaws.{filter-none}
-use Rattle.par2_spec.proofs.RankLaws.{none_kept}
-use Rattle.par2_spec.proofs.UniqueLaws.{agreeing_are_one}
-use Rattle.std.specs.Borrow.{Bor}
-use Rattle.par2_recovery.specs.Rebuilding.{CanRebuild, AreRebuilt, AreEnough, known_among}
-use Rattle.par2_recovery.specs.Rebuilding.{IsKnown}
 
 known_bytes : (slices : List (Option (Bor (List ℕ)))) → All IsKnown slices → AreBytes (texts_of (known_alone slices))
 known_bytes [] h r k = omega arith

@@ -1,3 +1,4 @@
+mod Common
 pub mod AdditionLaws
 pub mod RankTests
 pub mod Dots

@@ -1,12 +1,6 @@
 -- Coefficients of products and quotients, one after the other.
-use Rattle.std.proofs.Common.{ℕ, zero, suc, ◌+◌, ◌-◌, ◌<◌, ◌≤◌, ◌≡◌, set, refl, sym, ap, ap₂, ◌∙◌, arith, List, [], ◌∷◌, ◌++◌, length, length-append, get_or, drop, bit_xor, inl, inr}
-use Rattle.std.specs.Int.Bits.{xor_zero_l, xor_zero_r}
-use Rattle.std.proofs.lemmas.Bool.{cases_lt, cases_eq}
-use Rattle.std.proofs.lemmas.List.{ext_get_or, drop_more, get_or_append_left, get_or_at, get_or-set_same, get_or-set_other}
-use Rattle.par2_spec.specs.Field.{mul}
-use Rattle.par2_spec.specs.Polynomials.{value, plus, times, times_root, with_roots, quotient}
-use Rattle.par2_spec.proofs.FieldOrder.{product-zero}
-use Rattle.par2_spec.proofs.PolynomialLaws.{length-times_root, length-quotient}
+use Rattle.par2_recovery.proofs.Common.{ℕ, zero, suc, ◌+◌, ◌-◌, ◌<◌, ◌≤◌, ◌≡◌, set, refl, sym, ap, ap₂, ◌∙◌, arith, List, [], ◌∷◌, ◌++◌, length, length-append, get_or, drop, bit_xor, inl, inr, xor_zero_l, xor_zero_r, cases_lt, cases_eq, ext_get_or, drop_more, get_or_append_left, get_or_at, get_or-set_same, get_or-set_other, mul, times, times_root, product-zero, length-times_root, length-quotient}
+use Rattle.par2_spec.specs.Polynomials.{value, plus, with_roots, quotient}
 
 plus_at : (p q : List ℕ) (i : ℕ) → get_or (plus p q) i 0 ≡ bit_xor (get_or p i 0) (get_or q i 0)
 unfolding plus

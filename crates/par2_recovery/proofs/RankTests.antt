@@ -1,13 +1,9 @@
 -- What the tests over all vectors say.
-use Rattle.std.proofs.Common.{◌≡◌, ◌≢◌, ℕ, ◌^◌, List, [], ◌∷◌, T, true, false, ◌&&◌, not, eqb, eq-eqb, eqb→eq}
+use Rattle.par2_recovery.proofs.Common.{◌≡◌, ◌≢◌, ℕ, ◌^◌, List, [], ◌∷◌, T, true, false, ◌&&◌, not, eqb, eqb→eq, T_not-not, and_yes, yes_and, false_from_ne_true, list_all, AllByRecursion, dot, IsVector, kills, is_zero, some_list}
+use Rattle.std.proofs.Common.{eq-eqb}
 use Rattle.std.proofs.Math.Dec.{T_not, not_T}
-use Rattle.std.proofs.Math.Facts.{T_not-not, and_yes, yes_and}
-use Rattle.std.proofs.lemmas.Bool.{false_from_ne_true}
 use Rattle.std.specs.Prelude.{◌↔◌}
-use Rattle.std.specs.List.{list_all, AllByRecursion}
-use Rattle.par2_spec.specs.Recovery.{dot}
-use Rattle.par2_spec.specs.Rank.{IsVector, kills, is_zero, is_independent, is_solvable}
-use Rattle.par2_spec.proofs.ListsLaws.{some_list}
+use Rattle.par2_spec.specs.Rank.{is_independent, is_solvable}
 use Rattle.par2_spec.proofs.TestLaws.{by_true, is_true}
 
 -- all rows kill the vector

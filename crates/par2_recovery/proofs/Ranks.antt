@@ -1,23 +1,10 @@
 -- What the offered equations of some exponents say of the exponents.
-use Rattle.std.proofs.Common.{ℕ, zero, suc, ◌+◌, ◌<◌, ◌≤◌, ◌≡◌, ◌≢◌, ◌↔◌, inl, inr, refl, sym, ap, ap₂, ◌∙◌, subst, arith, Bool, true, false, cond, ltb, List, [], ◌∷◌, ◌++◌, length, get_or, map, bit_xor, append-nil}
-use Rattle.std.specs.Prelude.{take, filter}
-use Rattle.std.proofs.lemmas.Bool.{cases_eq, lt-ltb, le-ltb}
-use Rattle.std.proofs.lemmas.List.{length_push, take_more, map-append, take_all}
-use Rattle.std.proofs.lemmas.List.Elements.{filter_more}
-use Rattle.std.proofs.lemmas.List.Kept.{AllPairs-from_increasing}
-use Rattle.std.specs.List.{AllByRecursion}
-use Rattle.std.specs.List.Sorted.{IsStrictlyIncreasing}
-use Rattle.par2_spec.specs.Field.{mul}
-use Rattle.par2_spec.specs.Recovery.{dot, coefficients}
-use Rattle.par2_spec.specs.Rank.{IsVector, is_independent, smaller, kept}
-use Rattle.par2_spec.proofs.FieldOrder.{product-zero}
-use Rattle.par2_spec.proofs.ListsLaws.{all-append, all-parts}
+use Rattle.par2_recovery.proofs.Common.{ℕ, zero, suc, ◌+◌, ◌<◌, ◌≤◌, ◌≡◌, ◌≢◌, ◌↔◌, inl, inr, refl, sym, ap, ap₂, ◌∙◌, subst, arith, Bool, true, false, cond, ltb, List, [], ◌∷◌, ◌++◌, length, get_or, map, bit_xor, append-nil, filter, Result, Ok, cases_eq, lt-ltb, le-ltb, length_push, take_more, map-append, take_all, filter_more, AllPairs-from_increasing, AllByRecursion, IsStrictlyIncreasing, mul, coefficients, IsVector, is_independent, smaller, kept, product-zero, all-append, all-parts, Equations, CutDown, IsIndependent, OnlyZeroIsKilled, Kept, Dependent}
+use Rattle.std.specs.Prelude.{take}
+use Rattle.par2_spec.specs.Recovery.{dot}
 use Rattle.par2_matrix.specs.Systems as systems
-use Rattle.par2_matrix.specs.Systems.{Equations, CutDown, IsIndependent, OnlyZeroIsKilled}
-use Rattle.std.specs.Prelude.{Result, Ok}
 use Rattle.std.specs.declared.alloc.AllocError.{AllocError}
 use Rattle.par2_matrix.specs.declared.system.Offer.{Offer}
-use Rattle.par2_matrix.specs.declared.system.Offer.TheVariants.{Kept, Dependent}
 use Rattle.par2_recovery.proofs.RankTests.{AllKill, independent, dependent}
 
 -- ---- the exponents before one

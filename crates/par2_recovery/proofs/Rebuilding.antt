@@ -1,19 +1,7 @@
 -- What a list of all slices says of the lost ones among them.
-use Rattle.std.proofs.Common.{ℕ, zero, suc, ◌+◌, ◌*◌, ◌%◌, ◌<◌, ◌≤◌, ◌≡◌, ◌↔◌, refl, sym, ap, ◌∙◌, arith, List, [], ◌∷◌, length, get_or, map, bit_xor}
-use Rattle.std.specs.Prelude.{Option, Some, None, option_map, is_none, filter}
-use Rattle.std.specs.List.{range_with_len, enumerate_from, AllByRecursion, AllZip}
+use Rattle.par2_recovery.proofs.Common.{ℕ, zero, suc, ◌+◌, ◌*◌, ◌%◌, ◌<◌, ◌≤◌, ◌≡◌, ◌↔◌, refl, sym, ap, ◌∙◌, arith, List, [], ◌∷◌, length, get_or, map, bit_xor, Option, Some, None, option_map, is_none, filter, range_with_len, enumerate_from, AllByRecursion, AllZip, xor_assoc, xor_comm, mul, coefficient, word, coefficients, combination, Agrees, lost, xor_off, coefficients_are, dot-lt, words_are, combination_words, with_lost_slices, lost_from, known_from, known_alone}
 use Rattle.std.specs.Option.{ForSome}
-use Rattle.std.specs.Int.Bits.{xor_assoc}
-use Rattle.std.proofs.lemmas.Nat.{xor_comm}
-use Rattle.par2_spec.specs.Field.{mul, coefficient}
-use Rattle.par2_spec.specs.Slices.{word}
-use Rattle.par2_spec.specs.Recovery.{dot, coefficients, combination, recovery}
-use Rattle.par2_spec.specs.Rank.{Agrees}
-use Rattle.par2_spec.specs.Search.{lost}
-use Rattle.par2_spec.proofs.SumLaws.{xor_off}
-use Rattle.par2_spec.proofs.UniqueLaws.{coefficients_are, dot-lt, words_are}
-use Rattle.par2_spec.proofs.WordLaws.{combination_words}
-use Rattle.par2_recovery.specs.Survivors.{with_lost_slices, lost_from, known_from, known_alone}
+use Rattle.par2_spec.specs.Recovery.{dot, recovery}
 
 -- ---- the numbers of the lost slices
 

@@ -1,19 +1,9 @@
 -- The records of files, one after the other.
-use Rattle.std.proofs.Common.{ℕ, ◌+◌, ◌<◌, ◌≡◌, refl, sym, ap, ap₂, ◌∙◌, subst, List, [], ◌∷◌, ◌++◌, length, get_or, map, arith}
-use Rattle.std.specs.Prelude.{take, IsPermutation, string_bytes}
-use Rattle.std.specs.Int.{w128, from_le_bytes}
-use Rattle.std.specs.List.Sorted.{IsStrictlyIncreasing}
-use Rattle.std.proofs.lemmas.List.{get_or-map, length-map, take_more, map-append}
-use Rattle.std.proofs.lemmas.Simd.{map-map}
-use Rattle.md5.specs.Md5.{md5}
-use Rattle.par2_spec.specs.Folders.{Folder, File, bytes_of}
+use Rattle.par2_recovery.proofs.Common.{ℕ, ◌+◌, ◌<◌, ◌≡◌, refl, sym, ap, ap₂, ◌∙◌, subst, List, [], ◌∷◌, ◌++◌, length, get_or, map, arith, IsPermutation, w128, from_le_bytes, IsStrictlyIncreasing, get_or-map, length-map, take_more, map-append, map-map, md5, Folder, File, bytes_of, id_of, in_id_order, files_of, file_record_of, id_number, FileRecord, AreRecords}
+use Rattle.std.specs.Prelude.{take, string_bytes}
 use Rattle.par2_spec.specs.Volumes as volumes
-use Rattle.par2_spec.specs.Volumes.{record_of, id_of, in_id_order}
-use Rattle.par2_spec.specs.Commands.{files_of}
+use Rattle.par2_spec.specs.Volumes.{record_of}
 use Rattle.par2_spec.proofs.OrderLaws.{rising_records, files_of_ordered}
-use Rattle.par2_packets.specs.Views.{file_record_of, id_number}
-use Rattle.par2_packets.specs.declared.record.FileRecord.{FileRecord}
-use Rattle.par2_recovery.specs.Views.{AreRecords}
 
 pub record_push : (s : ℕ) (folder : Folder) (names : List (List ℕ)) (i : ℕ) (xs : List FileRecord) (x : FileRecord) (name bytes : List ℕ) → i < length names → name ≡ get_or names i [] → bytes ≡ bytes_of folder name
     → map file_record_of xs ≡ map (record_of s) (files_of folder (take i names)) → file_record_of x ≡ record_of s (name, bytes)

@@ -1,25 +1,11 @@
 -- The scaled quotients by the constants of the lost slices are the inverse of the equations of a run.
-use Rattle.std.proofs.Common.{ℕ, zero, suc, ◌+◌, ◌^◌, ◌<◌, ◌≡◌, ◌≢◌, sym, ap, ap₂, ◌∙◌, subst, arith, List, [], ◌∷◌, ◌++◌, length, get_or, Vec, Global, map, bit_xor, cond, inl, inr}
-use Rattle.std.proofs.lemmas.Bool.{cases_lt, cases_eq, eq-eqb, ne_eqb}
-use Rattle.std.proofs.lemmas.List.FromFn.{length-range_with_len, get_or-range_with_len}
+use Rattle.par2_recovery.proofs.Common.{ℕ, zero, suc, ◌+◌, ◌^◌, ◌<◌, ◌≡◌, ◌≢◌, sym, ap, ap₂, ◌∙◌, subst, arith, List, [], ◌∷◌, ◌++◌, length, get_or, Vec, Global, map, bit_xor, cond, inl, inr, cases_lt, cases_eq, eq-eqb, ne_eqb, length-range_with_len, get_or-range_with_len, length-map, get_or-map, Contains-get_or, AllPairs-from_increasing, Contains, range_with_len, mul, constant, AreSlices, list_at, lists_of, times, with_roots, quotient, AreElements, ArePoints, power-lt, product-zero, no_zero_divisor, product_assoc, product_comm, product_linear_right, all_get, all-each, value-lt, value_times, with_roots_elements, length-with_roots, quotient_elements, length-quotient, times_elements, quotient_others, quotient_itself, field_sum_same, field_sum_head, IsInverse, IsScaledQuotient, AreScaledQuotients}
 use Rattle.std.proofs.lemmas.Bool.Decides.{Decides-eqb}
-use Rattle.std.proofs.lemmas.List.{length-map, get_or-map}
-use Rattle.std.proofs.lemmas.List.Elements.{Contains-get_or}
-use Rattle.std.proofs.lemmas.List.Kept.{AllPairs-from_increasing}
 use Rattle.std.proofs.lemmas.Map.Made.{IsDistinct-from_AllPairs}
-use Rattle.std.specs.List.{Contains, range_with_len}
-use Rattle.par2_spec.specs.Field.{mul, pow, constant, coefficient}
-use Rattle.par2_spec.specs.Runs.{AreSlices}
-use Rattle.par2_spec.specs.Sums.{field_sum, list_at, lists_of}
-use Rattle.par2_spec.specs.Polynomials.{value, times, with_roots, quotient, AreElements, ArePoints}
+use Rattle.par2_spec.specs.Field.{pow, coefficient}
+use Rattle.par2_spec.specs.Sums.{field_sum}
+use Rattle.par2_spec.specs.Polynomials.{value}
 use Rattle.par2_spec.proofs.FieldConstants.{constant-lt, constant-nonzero, constant-injective}
-use Rattle.par2_spec.proofs.FieldOrder.{power-lt, product-zero, no_zero_divisor}
-use Rattle.par2_spec.proofs.FieldProducts.{product_assoc, product_comm, product_linear_right}
-use Rattle.par2_spec.proofs.ListsLaws.{all_get, all-each}
-use Rattle.par2_spec.proofs.PolynomialLaws.{value-lt, value_times, with_roots_elements, length-with_roots, quotient_elements, length-quotient, times_elements, quotient_others, quotient_itself}
-use Rattle.par2_spec.proofs.SumLaws.{field_sum_same, field_sum_head}
-use Rattle.par2_recovery.specs.Inverses.{IsInverse}
-use Rattle.par2_recovery.specs.RunInverses.{IsScaledQuotient, AreScaledQuotients}
 use Rattle.par2_recovery.proofs.Combinations.{each_push}
 
 -- ---- the sum over a run is a value

@@ -1,16 +1,6 @@
 -- The lost slices by their syndromes, one block of columns after the other.
-use Rattle.std.proofs.Common.{inl, inr, ℕ, ◌+◌, ◌-◌, ◌*◌, ◌/◌, ◌%◌, ◌<◌, ◌≤◌, ◌≡◌, refl, sym, ap, ap₂, ◌∙◌, subst, arith, List, [], ◌++◌, length, length-append, get_or, map, bit_xor}
-use Rattle.std.specs.Borrow.{Bor}
+use Rattle.par2_recovery.proofs.Common.{inl, inr, ℕ, ◌+◌, ◌-◌, ◌*◌, ◌/◌, ◌%◌, ◌<◌, ◌≤◌, ◌≡◌, refl, sym, ap, ap₂, ◌∙◌, subst, arith, List, [], ◌++◌, length, length-append, get_or, map, bit_xor, Bor, cases_eq, cases_lt, get_or-take, get_or-drop, get_or-map, get_or_append_left, get_or-append_right, length-map, length-replicate, length-take-le, length-drop, mul, word, field_sum, list_at, OneChanged, field_sum_same, Adds, window, syndrome, AreSyndromes, AreProducts, AreSolved, AreExtended, texts_of, AreBlank}
 use Rattle.std.specs.Prelude.{drop}
-use Rattle.std.proofs.lemmas.Bool.{cases_eq, cases_lt}
-use Rattle.std.proofs.lemmas.List.{get_or-take, get_or-drop, get_or-map, get_or_append_left, get_or-append_right, length-map, length-replicate, length-take-le, length-drop}
-use Rattle.par2_spec.specs.Field.{mul}
-use Rattle.par2_spec.specs.Slices.{word}
-use Rattle.par2_spec.specs.Sums.{field_sum, list_at, OneChanged}
-use Rattle.par2_spec.proofs.SumLaws.{field_sum_same}
-use Rattle.par2_recovery.specs.Products.{Adds}
-use Rattle.par2_recovery.specs.Syndromes.{window, syndrome, AreSyndromes, AreProducts, AreSolved, AreExtended}
-use Rattle.par2_recovery.specs.Views.{texts_of, AreBlank}
 use Rattle.par2_recovery.proofs.Combinations.{blank_bytes, length-texts_of}
 use Rattle.par2_recovery.proofs.Inverting.{from_zeros}
 

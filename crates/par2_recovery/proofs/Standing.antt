@@ -1,29 +1,11 @@
 -- The loop that offers the surviving recovery slices.
-use Rattle.std.proofs.Common.{inl, inr, replicate, length-append, ◌-◌, ℕ, suc, ◌+◌, ◌*◌, ◌<◌, ◌≤◌, ◌≡◌, ◌↔◌, refl, sym, ap, ap₂, ◌∙◌, subst, arith, Bool, true, false, cond, eqb, ◌&&◌, ◌||◌, List, [], ◌∷◌, ◌++◌, length, get_or, map, append-nil}
-use Rattle.std.specs.Prelude.{Option, filter, take}
-use Rattle.std.specs.List.{list_any, AllByRecursion}
-use Rattle.std.specs.List.Sorted.{IsStrictlyIncreasing}
-use Rattle.std.proofs.lemmas.Bool.{eqb-true, eq-eqb, cases_lt}
+use Rattle.par2_recovery.proofs.Common.{inl, inr, replicate, length-append, ◌-◌, ℕ, suc, ◌+◌, ◌*◌, ◌<◌, ◌≤◌, ◌≡◌, ◌↔◌, refl, sym, ap, ap₂, ◌∙◌, subst, arith, Bool, true, false, cond, eqb, ◌&&◌, ◌||◌, List, [], ◌∷◌, ◌++◌, length, get_or, map, append-nil, Option, filter, list_any, AllByRecursion, IsStrictlyIncreasing, eqb-true, eq-eqb, cases_lt, get_or-map, length-map, length-replicate, map-append, get_or_append_left, get_or_at, take_all, any-filter_same, map-map, padded, dot, coefficients, combination, IsVector, IsRepairable, Kills, kept, kept_slices, Equations, CutDown, IsIndependent, IsDependent, IsKilled, Solves, AreTexts, OnlyZeroIsKilled, recovered_of, known_of, known_alone, IsUnit, recovery_at, CutByUnit, GivesUnit, IsEliminated, AreBytes, texts_of, Bor, all-append, all_from, all-map, all_unmap, all_weaker}
+use Rattle.std.specs.Prelude.{take}
 use Rattle.std.proofs.Math.Bool.{and-true, or-true}
-use Rattle.std.proofs.lemmas.List.{get_or-map, length-map, length-replicate, map-append, get_or_append_left, get_or_at, take_all}
-use Rattle.std.proofs.lemmas.Map.Views.{any-filter_same}
-use Rattle.std.proofs.lemmas.Simd.{map-map}
-use Rattle.par2_spec.specs.Slices.{padded}
-use Rattle.par2_spec.specs.Recovery.{dot, coefficients, combination}
-use Rattle.par2_spec.specs.Rank.{IsVector, IsRepairable, Kills, kept, kept_slices}
 use Rattle.par2_matrix.specs.Systems as systems
-use Rattle.par2_matrix.specs.Systems.{Equations, CutDown, IsIndependent, IsDependent, IsKilled, Solves, AreTexts, OnlyZeroIsKilled}
-use Rattle.par2_recovery.specs.Survivors.{recovered_of, known_of, known_alone}
-use Rattle.par2_recovery.specs.Elements.{IsUnit}
-use Rattle.par2_recovery.specs.Inverses.{recovery_at, CutByUnit, GivesUnit, IsEliminated}
 use Rattle.par2_recovery.proofs.Ranks.{Eliminated, is_kept, kept_is, dependent_is, one_kept, none_kept, none_offered, all_offered, all_more, kept_more}
 use Rattle.par2_recovery.proofs.Rebuilding.{AreSized, AreKnown, present_of_map}
 use Rattle.par2_recovery.proofs.RankTests.{AllKill}
-use Rattle.par2_recovery.specs.Products.{AreBytes}
-use Rattle.par2_recovery.specs.Views.{texts_of}
-use Rattle.std.specs.Borrow.{Bor}
-use Rattle.par2_spec.proofs.ListsLaws.{all-append, all_from, all-map, all_unmap}
-use Rattle.par2_spec.proofs.RankLaws.{all_weaker}
 use Rattle.par2_spec.proofs.RestoredLaws.{bytes-zeros}
 
 -- ---- the recovery slices of the kept exponents

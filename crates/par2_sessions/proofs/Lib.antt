@@ -1,2 +1,3 @@
+mod Common
 pub mod RepairAnswers
 pub mod UndoRuns

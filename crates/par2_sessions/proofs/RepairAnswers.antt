@@ -1,13 +1,8 @@
 -- What a session's answer to a repair says of its folder.
-use Rattle.std.proofs.Common.{◌≡◌, ◌∙◌, ℕ, List, ◌∷◌, map, Bool, Result, Ok, Err, refl, sym, ap, subst}
-use Rattle.std.specs.Prelude.{Option, Some, None, IsTrue, OnOk, IfOk}
-use Rattle.par2_spec.specs.Commands.{Command, Repair, Action, Do}
-use Rattle.par2_spec.specs.Folders.{Folder}
-use Rattle.par2_spec.specs.History.{History, folders, history_after, in_front, unless_refused}
-use Rattle.par2_spec.specs.Opening.{is_valid}
-use Rattle.par2_spec.specs.Plans.{changes_of, LeadsToAfter, LeadsToAfterAsked}
-use Rattle.par2_spec.specs.Refusals.{refusal, after}
-use Rattle.par2_spec.specs.Sessions.{Session, session_with, session_after, changes_asked, session_unless, changes_unless, history_of}
+use Rattle.par2_sessions.proofs.Common.{◌≡◌, ◌∙◌, ℕ, List, ◌∷◌, map, Bool, Result, Ok, Err, refl, sym, ap, subst, Option, None, IsTrue, OnOk, IfOk, Command, Repair, Action, Do, Folder, History, folders, in_front, unless_refused, is_valid, changes_of, LeadsToAfter, LeadsToAfterAsked, refusal, after, Session, session_unless, changes_unless}
+use Rattle.std.specs.Prelude.{Some}
+use Rattle.par2_spec.specs.History.{history_after}
+use Rattle.par2_spec.specs.Sessions.{session_with, session_after, changes_asked, history_of}
 use Rattle.par2_spec.specs.Texts.{Step, step_of}
 use Rattle.par2_spec.specs.declared.Fault.{Fault}
 

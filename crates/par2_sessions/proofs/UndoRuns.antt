@@ -1,15 +1,10 @@
 -- Undos, one after the other, lead through the older folders.
-use Rattle.std.proofs.Common.{◌≡◌, ◌≢◌, ◌∙◌, ℕ, suc, ◌+◌, ◌-◌, ◌<◌, List, [], ◌∷◌, ◌++◌, drop, replicate, Result, Ok, Err, refl, sym, ap, subst, add-one, arith}
-use Rattle.std.specs.Prelude.{◌↔◌, IsErr, IsTrue, OnOk}
+use Rattle.par2_sessions.proofs.Common.{◌≡◌, ◌≢◌, ◌∙◌, ℕ, suc, ◌+◌, ◌-◌, ◌<◌, List, [], ◌∷◌, ◌++◌, drop, replicate, Result, Ok, Err, refl, sym, ap, subst, add-one, arith, ◌↔◌, IsErr, IsTrue, OnOk, Action, Undo, Folder, History, Run, Ended, Accepted, Passed, after_undo, folders, is_valid, LeadsToAfterAsked, KeptSession, Session, session_of_kept, session_with, kept_undone}
 use Rattle.std.proofs.lemmas.Bool.{false≢true}
 use Rattle.std.proofs.lemmas.List.{replicate_more}
 use Rattle.par2_spec.specs.Changes.{Change}
-use Rattle.par2_spec.specs.Commands.{Action, Undo}
-use Rattle.par2_spec.specs.Folders.{Folder}
-use Rattle.par2_spec.specs.History.{History, Run, Ended, Accepted, Passed, history_after, after_undo, folders}
-use Rattle.par2_spec.specs.Opening.{is_valid}
-use Rattle.par2_spec.specs.Plans.{LeadsToAfterAsked}
-use Rattle.par2_spec.specs.Sessions.{KeptSession, Session, folders_along, history_of, session_after, changes_asked, session_of_kept, session_with, kept_undone}
+use Rattle.par2_spec.specs.History.{history_after}
+use Rattle.par2_spec.specs.Sessions.{folders_along, history_of, session_after, changes_asked}
 use Rattle.par2_journal.specs.Ready.{next_of}
 use Rattle.par2_sessions.proofs.RepairAnswers.{GoesAlong}
 use Rattle.par2_spec.proofs.SessionLaws.{none_dropped}

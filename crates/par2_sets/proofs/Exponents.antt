@@ -1,26 +1,12 @@
 -- The recovery slices of the packets, by their exponents.
-use Rattle.std.proofs.Common.{◌≡◌, ℕ, ◌+◌, ◌<◌, ◌==◌, ◌&&◌, T, Bool, true, false, cond, List, [], ◌∷◌, ◌++◌, Option, Some, None, length, map, take, get_or, refl, sym, ap, ◌∙◌, subst}
-use Rattle.std.specs.Prelude.{nat_lt, is_some, filter, filter_map, option_map, option_and_then, if◌then◌else◌}
-use Rattle.std.specs.Option.{option_or}
-use Rattle.std.specs.Borrow.{Bor}
-use Rattle.std.specs.declared.cmp.Ordering.{Ordering}
-use Rattle.std.specs.declared.cmp.Ordering.TheVariants.{Less, Equal, Greater}
-use Rattle.std.specs.Ordering.{nat_cmp, is_lt, is_eq, eq_by_cmp}
-use Rattle.std.specs.Cmp.{nat_cmp_total, eq_by_cmp_equiv}
+use Rattle.par2_sets.proofs.Common.{◌≡◌, ℕ, ◌+◌, ◌<◌, ◌==◌, ◌&&◌, T, Bool, true, false, cond, List, [], ◌∷◌, ◌++◌, Option, Some, None, length, map, take, get_or, refl, sym, ap, ◌∙◌, subst, nat_lt, is_some, filter, filter_map, option_map, option_and_then, if◌then◌else◌, option_or, Bor, Ordering, Less, Equal, Greater, nat_cmp, is_lt, is_eq, eq_by_cmp, nat_cmp_total, eq_by_cmp_equiv, false≢true, cons_option, AllByRecursion, IsStrictlyIncreasing, lookup, keys_of, map_more, append-nil, filter_map-append, FinMap, is_sorted, same_map, same_entries_map, entries_sorted, nat_cmp-IsAntisymmetric, entries-from_sorted, get-from_sorted, get-from_entries, Packet, RecoveryBody, read_recovery, recovery_of, entry_of, exponents_of, recovered_of, slice_if, slice_at}
 use Rattle.std.proofs.Math.Facts.{yes_and}
-use Rattle.std.proofs.lemmas.Bool.{false≢true}
-use Rattle.std.specs.List.{cons_option, AllByRecursion}
-use Rattle.std.specs.List.Sorted.{IsStrictlySortedBy, IsStrictlyIncreasing}
+use Rattle.std.specs.List.Sorted.{IsStrictlySortedBy}
 use Rattle.std.proofs.lemmas.Map.Keys.{sorted_from_strictly_increasing, IsStrictlyIncreasing-from_sorted}
-use Rattle.std.specs.Map.{lookup, keys_of}
-use Rattle.std.proofs.lemmas.List.{map_more, append-nil}
-use Rattle.std.proofs.lemmas.List.Elements.{filter_map-append}
 use Rattle.std.specs.FinMap as map_of
-use Rattle.std.specs.FinMap.{FinMap, find, is_sorted, same_map, same_entries_map, entries_sorted, nat_cmp-IsAntisymmetric, entries-from_sorted, get-from_sorted, get-from_entries}
+use Rattle.std.specs.FinMap.{find}
 use Rattle.std.specs.FinMap.Entries.{below_all}
-use Rattle.par2_spec.specs.Packets.{Packet, RecoveryBody, read_recovery}
-use Rattle.par2_spec.specs.Sets.{recovery_of}
-use Rattle.par2_sets.specs.Slices.{entry_of, exponents_of, recovered_of, slice_if, slice_at, KeepsFirst}
+use Rattle.par2_sets.specs.Slices.{KeepsFirst}
 
 -- ---- which packets count
 

@@ -1,23 +1,6 @@
 -- Maps that keep the first value of each key.
-use Rattle.std.proofs.Common.{◌≡◌, ℕ, ◌+◌, ◌<◌, ◌&&◌, ◌==◌, Bool, true, false, cond, List, [], ◌∷◌, ◌++◌, Option, Some, None, length, map, take, get_or, refl, sym, ap, ap₂, ◌∙◌, arith}
-use Rattle.std.specs.Prelude.{filter_map, find, is_some, option_and_then}
-use Rattle.std.specs.BTreeMap.{BTreeMap, get, is_at}
-use Rattle.std.specs.Cmp.{IsTotalOrder, IsEquivalence, eq_by_cmp_equiv}
-use Rattle.std.specs.List.{cons_option}
-use Rattle.std.specs.Map.{lookup}
-use Rattle.std.specs.Option.{option_or}
-use Rattle.std.specs.Ordering.{eq_by_cmp, is_eq, nat_cmp, ordering_then}
-use Rattle.std.specs.Str.{bytes_eq}
-use Rattle.std.specs.declared.cmp.Ordering.{Ordering}
-use Rattle.std.specs.declared.cmp.Ordering.TheVariants.{Less, Equal, Greater}
-use Rattle.std.proofs.lemmas.Bool.{false≢true}
-use Rattle.std.proofs.lemmas.List.{map_more, take_more}
-use Rattle.std.proofs.lemmas.List.Elements.{filter_map-append}
-use Rattle.std.proofs.lemmas.List.Folds.{find-append}
+use Rattle.par2_sets.proofs.Common.{◌≡◌, ℕ, ◌+◌, ◌<◌, ◌&&◌, ◌==◌, Bool, true, false, cond, List, [], ◌∷◌, ◌++◌, Option, Some, None, length, map, take, get_or, refl, sym, ap, ap₂, ◌∙◌, arith, filter_map, find, is_some, option_and_then, BTreeMap, get, is_at, IsTotalOrder, IsEquivalence, eq_by_cmp_equiv, cons_option, lookup, option_or, eq_by_cmp, is_eq, nat_cmp, ordering_then, bytes_eq, Ordering, Less, Equal, Greater, false≢true, map_more, take_more, filter_map-append, find-append, same_either_way, or_nothing, KeepsFirst, id_cmp, count_cmp}
 use Rattle.std.proofs.lemmas.Map.Text.{is_eq-slice_cmp}
-use Rattle.par2_spec.proofs.NamesLaws.{same_either_way}
-use Rattle.par2_spec.proofs.TestLaws.{or_nothing}
-use Rattle.par2_sets.specs.Firsts.{KeepsFirst, id_cmp, count_cmp}
 
 -- ---- one more value
 

@@ -1,8 +1,6 @@
 -- What packets are kept, and by what.
-use Rattle.std.proofs.Common.{ℕ, ◌&&◌, ◌==◌, Bool, List, length}
-use Rattle.std.specs.Prelude.{filter_map, find, Option}
-use Rattle.std.specs.Str.{bytes_eq}
-use Rattle.par2_spec.specs.Packets.{Packet, DescBody, IfscBody, read_desc, read_ifsc}
+use Rattle.par2_sets.proofs.Common.{ℕ, ◌&&◌, ◌==◌, Bool, List, length, filter_map, find, bytes_eq, Packet, DescBody, IfscBody, read_desc, read_ifsc}
+use Rattle.std.specs.Prelude.{Option}
 use Rattle.par2_packets.specs.declared.scan.Packet as scan
 
 -- the description in a packet

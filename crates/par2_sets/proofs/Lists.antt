@@ -1,9 +1,6 @@
 -- Lists of which each item has to be there, and lists made by a function.
-use Rattle.std.proofs.Common.{◌≡◌, ℕ, zero, suc, ◌+◌, ◌<◌, List, [], ◌∷◌, ◌++◌, Option, Some, None, length, map, take, get_or, refl, sym, ap, ◌∙◌, arith}
-use Rattle.std.specs.Prelude.{slice_get, option_map, option_and_then}
-use Rattle.std.proofs.lemmas.List.{map_more}
+use Rattle.par2_sets.proofs.Common.{◌≡◌, ℕ, zero, suc, ◌+◌, ◌<◌, List, [], ◌∷◌, ◌++◌, Option, Some, None, length, map, take, get_or, refl, sym, ap, ◌∙◌, arith, slice_get, option_map, option_and_then, map_more, all_some}
 use Rattle.std.proofs.lemmas.Option.{slice_get_within, get_or_from_slice_get}
-use Rattle.par2_spec.specs.Sets.{all_some}
 
 all_some-push : {A : Type 0} (items : List (Option A)) (last : Option A)
     → all_some (items ++ last ∷ []) ≡ option_and_then (λ xs. option_map (λ x. xs ++ x ∷ []) last) (all_some items)

@@ -1,16 +1,8 @@
 -- When names stand in a list once each.
-use Rattle.std.proofs.Common.{◌≡◌, ℕ, suc, ◌==◌, Bool, true, false, ◌||◌, cond, List, [], ◌∷◌, length, map, refl, ap, ap₂, ◌∙◌, eq-eqb}
+use Rattle.par2_sets.proofs.Common.{◌≡◌, ℕ, suc, ◌==◌, Bool, true, false, ◌||◌, cond, List, [], ◌∷◌, length, map, refl, ap, ap₂, ◌∙◌, eq-eqb, IsDistinct, distinct_count, unique_keys, is_member, bytes_eq, nat_list_eq_equiv, eqb-true, distinct, distinct_from_std, distinct_same, std_from_distinct, distinct_by_length}
 use Rattle.std.specs.Bool.{Decides}
-use Rattle.std.specs.List.{IsDistinct}
-use Rattle.std.specs.Set.{distinct_count, unique_keys, is_member}
-use Rattle.std.specs.Str.{bytes_eq}
-use Rattle.std.specs.Cmp.Lexicographic.{nat_list_eq_equiv}
-use Rattle.std.proofs.lemmas.Bool.{eqb-true}
 use Rattle.std.proofs.lemmas.Bool.Decides.{same_from_decides}
 use Rattle.std.proofs.lemmas.Map.Made.{IsDistinct-from_count, distinct_count-from_IsDistinct}
-use Rattle.par2_spec.specs.Names.{distinct}
-use Rattle.par2_spec.proofs.NamesLaws.{distinct_from_std, distinct_same, std_from_distinct}
-use Rattle.par2_spec.proofs.ReadLaws.{distinct_by_length}
 
 -- ---- keys that are compared by their names
 

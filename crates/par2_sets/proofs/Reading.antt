@@ -1,17 +1,7 @@
 -- The steps of the reading, one after the other.
-use Rattle.std.proofs.Common.{◌≡◌, ◌⊎◌, inl, inr, ℕ, List, Bool, true, Option, Some, None, Result, Ok, Err, refl, sym, ap, ◌∙◌}
-use Rattle.std.specs.Prelude.{slice_get, option_map, ok_or, unwrap_or, is_some, IfOk, IfErr}
-use Rattle.std.proofs.lemmas.Bool.{false≢true}
-use Rattle.par2_spec.specs.declared.Fault.{Fault}
-use Rattle.par2_spec.specs.declared.Fault.TheVariants.{NoPackets, NoMain, BadSet, Memory}
-use Rattle.par2_spec.specs.Folders.{Folder, bytes_of}
-use Rattle.par2_spec.specs.Packets.{Packet, MainBody, DescBody, accepted}
-use Rattle.par2_spec.specs.Sets.{ParSet, Target, ◌>>=◌, unless, is_slice_size, main_of, are_in_profile, recovery_of, read_set, set_of, IsSound}
-use Rattle.std.specs.Borrow.{Bor}
-use Rattle.std.specs.FinMap.{entries}
-use Rattle.par2_sets.specs.Slices.{recovered_of, set_view}
+use Rattle.par2_sets.proofs.Common.{◌≡◌, ◌⊎◌, inl, inr, ℕ, List, Bool, true, Option, Some, None, Result, Ok, Err, refl, sym, ap, ◌∙◌, slice_get, option_map, ok_or, unwrap_or, is_some, IfOk, IfErr, false≢true, Fault, NoPackets, NoMain, BadSet, Memory, Folder, bytes_of, Packet, MainBody, DescBody, accepted, ParSet, Target, ◌>>=◌, unless, is_slice_size, main_of, are_in_profile, recovery_of, IsSound, Bor, entries, recovered_of, set_view, Gives, first_id, set_packets, descriptions_of, targets_or_fault, main_or_fault, targets_in, with_targets, set_in}
+use Rattle.par2_spec.specs.Sets.{read_set, set_of}
 use Rattle.par2_sets.proofs.Exponents.{made_of}
-use Rattle.par2_sets.specs.Steps.{Gives, first_id, set_packets, descriptions_of, targets_or_fault, main_or_fault, targets_in, with_targets, set_in}
 
 abbrev with_names : List ℕ → List Packet → ℕ → List DescBody → Result ParSet Fault
 with_names id packets s ds = targets_or_fault packets s ds >>= with_targets id packets s

@@ -1,13 +1,5 @@
 -- Faults that are passed on.
-use Rattle.std.proofs.Common.{◌≡◌, ◌⊎◌, ◌<◌, ℕ, List, length, get_or, map, refl, sym, ap, ◌∙◌, subst, None, Some, Option, Ok, Err, Result}
-use Rattle.std.specs.Prelude.{ok_or, is_ok, IsErrAnd}
-use Rattle.std.proofs.lemmas.Bool.{false≢true}
-use Rattle.std.proofs.lemmas.Result.{err_from_is_err_and}
-use Rattle.par2_spec.specs.declared.Fault.{Fault}
-use Rattle.par2_spec.specs.declared.Fault.TheVariants.{Memory}
-use Rattle.par2_spec.specs.Sets.{all_some}
-use Rattle.par2_spec.proofs.TestLaws.{err_again}
-use Rattle.par2_sets.specs.Steps.{Gives}
+use Rattle.par2_sets.proofs.Common.{◌≡◌, ◌⊎◌, ◌<◌, ℕ, List, length, get_or, map, refl, sym, ap, ◌∙◌, subst, None, Some, Option, Ok, Err, Result, ok_or, is_ok, IsErrAnd, false≢true, err_from_is_err_and, Fault, Memory, all_some, err_again, Gives}
 use Rattle.par2_sets.proofs.Lists.{all_some_none}
 
 -- what a `?` answers, where a step has ended in a fault

@@ -1,22 +1,9 @@
 -- Names that are taken, and the first number that is free.
-use Rattle.std.proofs.Common.{◌≡◌, ℕ, suc, ◌+◌, ◌-◌, ◌^◌, ◌<◌, ◌≤◌, length, List, [], ◌∷◌, ◌++◌, map, take, refl, sym, ap, ◌∙◌, ◌⊎◌, Bool, true, false, not, cond, ◌||◌, arith, inl, inr, IsTrue, Ok, Err, Result}
-use Rattle.std.specs.Prelude.{find, get_or, IfErr, IfOk, IsErrAnd, IsOk, nat_lt, Option, Some, None, unwrap_or}
-use Rattle.std.specs.List.{AllByRecursion, list_all, list_any, range_with_len}
-use Rattle.std.proofs.lemmas.Bool.{and_from, cases_lt, false_from_ne_true, false≢true, leb-true, lt-ltb, ltb-true}
-use Rattle.std.proofs.lemmas.List.{map_more}
-use Rattle.std.proofs.lemmas.List.Folds.{list_all-append, list_any_at, list_any_more}
-use Rattle.std.proofs.lemmas.Result.{err_from_is_err_and}
-use Rattle.par2_spec.specs.declared.Fault.{Fault}
-use Rattle.par2_spec.specs.declared.Fault.TheVariants.{Memory, NameTooLong}
+use Rattle.par2_sets.proofs.Common.{◌≡◌, ℕ, suc, ◌+◌, ◌-◌, ◌^◌, ◌<◌, ◌≤◌, length, List, [], ◌∷◌, ◌++◌, map, take, refl, sym, ap, ◌∙◌, ◌⊎◌, Bool, true, false, not, cond, ◌||◌, arith, inl, inr, IsTrue, Ok, Err, Result, find, IfErr, IfOk, IsErrAnd, IsOk, nat_lt, unwrap_or, AllByRecursion, list_all, list_any, range_with_len, and_from, cases_lt, false_from_ne_true, false≢true, leb-true, lt-ltb, ltb-true, map_more, list_all-append, list_any_at, list_any_more, err_from_is_err_and, Fault, Memory, NameTooLong, Folder, File, IsFolder, files, names, is_among, is_name, numbered, taken_for, IsSound, target_names, ParSet, name_is_short, err_again, where_none, long_aside}
+use Rattle.std.specs.Prelude.{get_or, Option, Some, None}
 use Rattle.par2_spec.specs.Faults.{fault_where}
-use Rattle.par2_spec.specs.Folders.{Folder, File, IsFolder, files, names}
-use Rattle.par2_spec.specs.Names.{is_among, is_name, numbered}
-use Rattle.par2_spec.specs.Repairs.{aside, taken_for}
-use Rattle.par2_spec.specs.Sets.{IsSound, target_names, ParSet}
+use Rattle.par2_spec.specs.Repairs.{aside}
 use Rattle.par2_spec.proofs.AsideNames.{numbered_is_name}
-use Rattle.par2_spec.proofs.NameTests.{name_is_short}
-use Rattle.par2_spec.proofs.TestLaws.{err_again, where_none}
-use Rattle.par2_sets.specs.Asides.{long_aside}
 
 -- ---- what is taken
 

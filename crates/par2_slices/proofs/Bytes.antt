@@ -1,16 +1,6 @@
 -- Bytes taken in by eights.
-use Rattle.std.proofs.Common.{◌≡◌, ℕ, zero, suc, ◌+◌, ◌*◌, ◌^◌, ◌<◌, ◌%◌, ◌/◌, List, [], ◌∷◌, ◌++◌, length, take, drop, get_or, sym, ap, ◌∙◌, arith}
-use Rattle.std.specs.Prelude.{bit_xor, fold}
-use Rattle.std.specs.List.{concat}
-use Rattle.std.specs.Simd.{first_chunks}
-use Rattle.std.specs.Int.{w64, from_le_bytes}
-use Rattle.std.specs.Int.Bits.{xor_assoc, xor_zero_r}
-use Rattle.std.proofs.lemmas.Nat.{shr-shr, xor_comm}
-use Rattle.std.proofs.Math.Seq.{take-add}
-use Rattle.std.proofs.lemmas.List.{take_more, take_all, take-append-drop, append-nil}
-use Rattle.std.proofs.lemmas.List.Folds.{concat-append}
-use Rattle.par2_spec.specs.Checksums.{crc_byte, crc_steps}
-use Rattle.par2_spec.proofs.ChecksumLaws.{crc_steps-split, crc_byte-steps, fold-append, joined}
+use Rattle.par2_slices.proofs.Common.{◌≡◌, ℕ, zero, suc, ◌+◌, ◌*◌, ◌^◌, ◌<◌, ◌%◌, ◌/◌, List, [], ◌∷◌, ◌++◌, length, take, drop, get_or, sym, ap, ◌∙◌, arith, bit_xor, concat, first_chunks, w64, from_le_bytes, xor_assoc, xor_zero_r, shr-shr, xor_comm, take-add, take_more, take_all, take-append-drop, append-nil, concat-append, crc_byte, crc_steps, crc_steps-split, crc_byte-steps, fold-append, joined}
+use Rattle.std.specs.Prelude.{fold}
 use Rattle.par2_slices.specs.Steps.{steps}
 use Rattle.par2_slices.proofs.Sliding.{none_less}
 

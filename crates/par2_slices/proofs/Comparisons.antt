@@ -1,21 +1,6 @@
 -- Slices against the pairs of their numbers.
-use Rattle.std.proofs.Common.{inl, inr, ◌≡◌, ◌≢◌, ℕ, zero, suc, ◌+◌, ◌*◌, ◌<◌, ◌≤◌, min, Bool, true, false, ◌&&◌, List, [], ◌∷◌, length, map, take, Decides, refl, sym, ap, subst, ◌∙◌, arith}
-use Rattle.std.specs.Prelude.{◌==◌, zip}
-use Rattle.std.specs.List.{list_all, range_with_len}
-use Rattle.std.specs.Str.{bytes_eq}
-use Rattle.std.proofs.lemmas.Grind.{div_ceil_times}
-use Rattle.std.proofs.lemmas.Bool.{cases_lt, and_parts, eq-eqb, eqb-true, false_from_ne_true, false≢true}
-use Rattle.std.proofs.lemmas.Bool.Decides.{same_from_decides}
-use Rattle.std.proofs.lemmas.List.{get_or-take, length-take}
-use Rattle.std.proofs.lemmas.Slice.Eq.{bytes_eq-Decides}
-use Rattle.md5.specs.Md5.{md5}
-use Rattle.par2_spec.specs.Checksums.{Pair, crc32}
-use Rattle.par2_spec.specs.Search.{is_intact}
+use Rattle.par2_slices.proofs.Common.{inl, inr, ◌≡◌, ◌≢◌, ℕ, zero, suc, ◌+◌, ◌*◌, ◌<◌, ◌≤◌, min, Bool, true, false, ◌&&◌, List, [], ◌∷◌, length, map, take, Decides, refl, sym, ap, subst, ◌∙◌, arith, ◌==◌, zip, list_all, range_with_len, bytes_eq, div_ceil_times, cases_lt, and_parts, eq-eqb, eqb-true, false_from_ne_true, false≢true, same_from_decides, get_or-take, length-take, bytes_eq-Decides, md5, Pair, crc32, is_intact, slice_at, slice_count, is_match, no_pair, pair_at, HaveCrc32s, HaveMd5s}
 use Rattle.par2_spec.specs.Sets.{Target}
-use Rattle.par2_spec.specs.Slices.{slice_at, slice_count}
-use Rattle.par2_spec.specs.Windows.{is_match}
-use Rattle.par2_slices.specs.Searches.{no_pair, pair_at}
-use Rattle.par2_slices.specs.Intact.{HaveCrc32s, HaveMd5s}
 
 match_from : (pair : Pair) (slice : List ℕ) → crc32 slice ≡ pair.1 → md5 slice ≡ pair.0 → is_match pair slice ≡ true
 match_from pair slice crc digest =

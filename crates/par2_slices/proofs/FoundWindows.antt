@@ -1,18 +1,5 @@
 -- Windows at the spots that a search finds.
-use Rattle.std.proofs.Common.{◌≡◌, ℕ, zero, suc, ◌+◌, ◌≤◌, ◌<◌, Bool, true, false, cond, List, [], ◌∷◌, ◌++◌, length, map, drop, get_or, refl, sym, ap, ap₂, subst, ◌∙◌, arith}
-use Rattle.std.specs.Prelude.{Option, Some, None, IfSome, find, flat_map, option_map}
-use Rattle.std.specs.Borrow.{Bor}
-use Rattle.std.specs.List.{range_with_len}
-use Rattle.std.specs.Option.{option_or}
-use Rattle.std.proofs.lemmas.Grind.{flat_map-append}
-use Rattle.std.proofs.lemmas.List.{append-nil, drop_more, get_or-map, length-drop, length-map}
-use Rattle.std.proofs.lemmas.List.Folds.{find-append}
-use Rattle.par2_spec.specs.Checksums.{Pair}
-use Rattle.par2_spec.specs.Windows.{first_match, found, is_match, window, windows}
-use Rattle.par2_slices.specs.declared.batch.Spot.{Spot}
-use Rattle.par2_slices.specs.Searches.{first_spot, first_spot_from, no_pair, pair_at, spot_in}
-use Rattle.par2_slices.specs.Matching.{text_at}
-use Rattle.par2_slices.specs.Texts.{IsWithin, texts_of, window_in}
+use Rattle.par2_slices.proofs.Common.{◌≡◌, ℕ, zero, suc, ◌+◌, ◌≤◌, ◌<◌, Bool, true, false, cond, List, [], ◌∷◌, ◌++◌, length, map, drop, get_or, refl, sym, ap, ap₂, subst, ◌∙◌, arith, Option, Some, None, IfSome, find, flat_map, option_map, Bor, range_with_len, option_or, flat_map-append, append-nil, drop_more, get_or-map, length-drop, length-map, find-append, Pair, first_match, found, is_match, window, windows, Spot, first_spot, first_spot_from, no_pair, pair_at, spot_in, text_at, IsWithin, texts_of, window_in}
 
 pub out_of : {X Y : Type 0} (f : X → Y) (b : Bool) (x : X) (o : Option X) → cond b (Some (f x)) (option_map f o) ≡ option_map f (cond b (Some x) o)
 out_of f true x o = refl

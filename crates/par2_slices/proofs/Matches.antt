@@ -1,23 +1,11 @@
 -- Matches by the numbers of texts, and by their names.
-use Rattle.std.proofs.Common.{◌≡◌, ℕ, zero, suc, ◌+◌, ◌<◌, Bool, true, false, not, ◌||◌, cond, List, [], ◌∷◌, ◌++◌, length, map, drop, get_or, refl, sym, ap, subst, ◌∙◌, inl, inr, arith}
-use Rattle.std.specs.Prelude.{Option, Some, None, IfSome, filter, find, ◌==◌, option_map, option_to_list}
-use Rattle.std.specs.List.{range_with_len, All, IsDistinct}
-use Rattle.std.specs.Str.{bytes_eq}
+use Rattle.par2_slices.proofs.Common.{◌≡◌, ℕ, zero, suc, ◌+◌, ◌<◌, Bool, true, false, not, ◌||◌, cond, List, [], ◌∷◌, ◌++◌, length, map, drop, get_or, refl, sym, ap, subst, ◌∙◌, inl, inr, arith, Option, Some, None, IfSome, filter, find, ◌==◌, option_map, option_to_list, range_with_len, All, IsDistinct, bytes_eq, cases_lt, eq-eqb, eqb-true, false≢true, same_from_decides, append_assoc, drop_more, ext_get_or, get_or-map, length-map, All-filter, All-tail, get_or-map-range_with_len, get_or-range_with_len, length-map-range_with_len, length-range_with_len, bytes_eq-Decides, is_intact, matched, map-cond, Describe, Describes, NumbersAreNames, first_intact, matched_from, matched_numbers, text_at, without}
 use Rattle.std.proofs.Math.Bool.{or-false}
-use Rattle.std.proofs.lemmas.Bool.{cases_lt, eq-eqb, eqb-true, false≢true}
-use Rattle.std.proofs.lemmas.Bool.Decides.{same_from_decides}
-use Rattle.std.proofs.lemmas.List.{append_assoc, drop_more, ext_get_or, get_or-map, length-map}
-use Rattle.std.proofs.lemmas.List.Elements.{All-filter, All-tail}
-use Rattle.std.proofs.lemmas.List.FromFn.{get_or-map-range_with_len, get_or-range_with_len, length-map-range_with_len, length-range_with_len}
 use Rattle.std.proofs.lemmas.Map.Keys.{apart_from_distinct}
-use Rattle.std.proofs.lemmas.Slice.Eq.{bytes_eq-Decides}
 use Rattle.par2_spec.specs.Folders.{Folder, bytes_of}
 use Rattle.par2_spec.specs.Names.{is_among}
-use Rattle.par2_spec.specs.Search.{is_intact, matched}
 use Rattle.par2_spec.specs.Sets as sets
-use Rattle.par2_spec.proofs.ListsLaws.{map-cond}
 use Rattle.par2_slices.specs.declared.matching.Target.{Target}
-use Rattle.par2_slices.specs.Matching.{Describe, Describes, NumbersAreNames, first_intact, matched_from, matched_numbers, text_at, without}
 use Rattle.par2_slices.proofs.FoundWindows.{out_of}
 
 -- the first of the texts from place n on

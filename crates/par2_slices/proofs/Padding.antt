@@ -1,7 +1,5 @@
 -- Zeros after the bytes, in pieces.
-use Rattle.std.proofs.Common.{◌≡◌, ℕ, ◌+◌, ◌-◌, ◌*◌, ◌%◌, ◌/◌, List, ◌++◌, length, take, replicate, ap, ◌∙◌, arith}
-use Rattle.std.proofs.lemmas.List.{append_assoc, replicate-append-replicate, take-replicate}
-use Rattle.par2_spec.specs.Slices.{padded}
+use Rattle.par2_slices.proofs.Common.{◌≡◌, ℕ, ◌+◌, ◌-◌, ◌*◌, ◌%◌, ◌/◌, List, ◌++◌, length, take, replicate, ap, ◌∙◌, arith, append_assoc, replicate-append-replicate, take-replicate, padded}
 
 -- one piece more
 pub more_zeros : (bytes : List ℕ) (n k : ℕ) → (bytes ++ replicate (n * k) 0) ++ replicate k 0 ≡ bytes ++ replicate ((n + 1) * k) 0

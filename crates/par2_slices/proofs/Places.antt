@@ -1,15 +1,5 @@
 -- The places of the pairs.
-use Rattle.std.proofs.Common.{◌≡◌, ℕ, ◌+◌, ◌-◌, ◌/◌, ◌^◌, ◌<◌, ◌≤◌, List, map, length, take, drop, get_or, refl, subst, sym, ap, ◌∙◌, arith}
-use Rattle.std.specs.List.{All, range_with_len}
-use Rattle.std.specs.List.Sorted.{IsPermutation, IsNonDecreasingBy}
-use Rattle.std.proofs.lemmas.List.{get_or_default, get_or-take, get_or-drop, length-take-le, length-drop}
-use Rattle.std.proofs.lemmas.List.Elements.{All-get_or, All-from_get_or}
-use Rattle.std.proofs.lemmas.List.FromFn.{get_or-map-range_with_len, length-map-range_with_len}
-use Rattle.std.proofs.lemmas.List.Sorted.{All-permutation, Contains-permutation}
-use Rattle.std.proofs.Math.Nat.{lt_of_not-le, ne_of_lt}
-use Rattle.par2_spec.specs.Checksums.{Pair}
-use Rattle.par2_slices.specs.Searches.{no_place, pair_at, place_at, IsPlace, IsIndex, IsStart, HoldsGroup}
-use Rattle.par2_slices.specs.declared.wanted_pairs.Place.{Place}
+use Rattle.par2_slices.proofs.Common.{◌≡◌, ℕ, ◌+◌, ◌-◌, ◌/◌, ◌^◌, ◌<◌, ◌≤◌, List, map, length, take, drop, get_or, refl, subst, sym, ap, ◌∙◌, arith, All, range_with_len, IsPermutation, IsNonDecreasingBy, get_or_default, get_or-take, get_or-drop, length-take-le, length-drop, All-get_or, All-from_get_or, get_or-map-range_with_len, length-map-range_with_len, All-permutation, Contains-permutation, lt_of_not-le, ne_of_lt, Pair, no_place, pair_at, place_at, IsPlace, IsIndex, IsStart, HoldsGroup, Place}
 
 abbrev pub place_of : List Pair → ℕ → Place
 place_of pairs i = record { crc = (pair_at pairs i).1; index = i }

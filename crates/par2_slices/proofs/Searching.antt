@@ -1,25 +1,10 @@
 -- A search under way.
-use Rattle.std.proofs.Common.{◌≡◌, ℕ, zero, suc, ◌+◌, ◌-◌, ◌*◌, ◌/◌, ◌%◌, ◌^◌, ◌<◌, Bool, true, false, cond, List, [], ◌∷◌, ◌++◌, length, length-take, map, drop, take, get_or, set, replicate, refl, sym, ap, subst, ◌∙◌, get_or-set_same, get_or-set_other, inl, inr, arith}
-use Rattle.std.specs.Prelude.{◌⊎◌, ◌==◌, ◌&&◌, Option, Some, None, find, option_map}
-use Rattle.std.specs.Int.{bit_at}
-use Rattle.std.specs.List.{count_by, list_all, range_with_len}
-use Rattle.std.specs.Option.{is_none, option_or}
-use Rattle.std.specs.Str.{bytes_eq}
-use Rattle.std.proofs.lemmas.Bool.{and_from, and_left, and_right, cases_eq, cases_lt, eq-eqb, ne_eqb}
-use Rattle.std.proofs.Math.Seq.{drop-length}
-use Rattle.std.proofs.lemmas.List.{append-nil, take_all, length-set, length-replicate, length-map, get_or-map, ext_get_or, get_or_append_left, get_or_at, length_push, drop_more, take_more}
-use Rattle.std.proofs.lemmas.List.Folds.{find-append, sum_by-zero, sum_by-replicate, list_all_at}
-use Rattle.std.proofs.lemmas.List.Sums.{sum_by-set, fold-append}
-use Rattle.md5.specs.Md5.{md5}
-use Rattle.par2_spec.specs.Checksums.{Pair, crc32}
-use Rattle.par2_spec.specs.Windows.{is_match, window, first_match}
-use Rattle.par2_spec.proofs.ListsLaws.{range-append}
-use Rattle.par2_spec.proofs.TestLaws.{or_nothing}
-use Rattle.par2_slices.specs.Filters.{AreAlike, Groups, Marks}
-use Rattle.par2_slices.specs.Searches.{no_pair, IsOfOpenPair, no_place, no_candidate, pair_at, place_at, candidate_at, answer_at, answer_below, spot_in, first_spot, first_spot_from, HoldsGroup, is_awaited, after_window, has_checksums, after_candidates, first_below, Earlier, IsWindow, IsTally, IsAt}
-use Rattle.par2_slices.specs.declared.batch.Candidate.{Candidate}
-use Rattle.par2_slices.specs.declared.batch.Spot.{Spot}
-use Rattle.par2_slices.specs.declared.wanted_pairs.Place.{Place}
+use Rattle.par2_slices.proofs.Common.{◌≡◌, ℕ, zero, suc, ◌+◌, ◌-◌, ◌*◌, ◌/◌, ◌%◌, ◌^◌, ◌<◌, Bool, true, false, cond, List, [], ◌∷◌, ◌++◌, length, map, drop, take, get_or, set, replicate, refl, sym, ap, subst, ◌∙◌, get_or-set_same, get_or-set_other, inl, inr, arith, ◌⊎◌, ◌==◌, Option, Some, None, find, option_map, bit_at, count_by, list_all, range_with_len, is_none, option_or, bytes_eq, and_from, and_left, and_right, cases_eq, cases_lt, eq-eqb, ne_eqb, drop-length, append-nil, take_all, length-replicate, length-map, get_or-map, ext_get_or, get_or_append_left, get_or_at, length_push, drop_more, take_more, find-append, sum_by-zero, sum_by-replicate, list_all_at, sum_by-set, md5, Pair, crc32, is_match, window, first_match, range-append, or_nothing, AreAlike, Groups, Marks, no_pair, IsOfOpenPair, no_place, no_candidate, pair_at, place_at, candidate_at, answer_at, answer_below, spot_in, first_spot, first_spot_from, HoldsGroup, is_awaited, after_window, has_checksums, Earlier, IsWindow, IsTally, IsAt, Candidate, Spot, Place}
+use Rattle.std.proofs.Common.{length-take}
+use Rattle.std.specs.Prelude.{◌&&◌}
+use Rattle.std.proofs.lemmas.List.{length-set}
+use Rattle.std.proofs.lemmas.List.Sums.{fold-append}
+use Rattle.par2_slices.specs.Searches.{after_candidates, first_below}
 
 first_below-more : (s : ℕ) (text : List ℕ) (o : ℕ) (pair : Pair) → first_below s text (o + 1) pair ≡ option_or (first_below s text o pair) (cond (is_match pair (window s text o)) (Some o) None)
 unfolding first_below

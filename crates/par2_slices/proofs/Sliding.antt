@@ -1,10 +1,5 @@
 -- A window moves on by a byte, or by two.
-use Rattle.std.proofs.Common.{◌≡◌, ℕ, zero, suc, ◌+◌, ◌*◌, ◌<◌, List, [], ◌∷◌, ◌++◌, length, get_or, refl, sym, ap, ◌∙◌, arith}
-use Rattle.std.specs.Prelude.{bit_xor}
-use Rattle.std.specs.Int.Bits.{xor_assoc, xor_zero_r}
-use Rattle.std.proofs.lemmas.Nat.{xor_comm}
-use Rattle.par2_spec.specs.Checksums.{crc_byte, crc_steps, crc32}
-use Rattle.par2_spec.proofs.ChecksumLaws.{crc32-slide, crc_byte-xor, crc_steps-xor, crc_steps-add}
+use Rattle.par2_slices.proofs.Common.{◌≡◌, ℕ, zero, suc, ◌+◌, ◌*◌, ◌<◌, List, [], ◌∷◌, ◌++◌, length, get_or, refl, sym, ap, ◌∙◌, arith, bit_xor, xor_assoc, xor_zero_r, xor_comm, crc_byte, crc_steps, crc32, crc32-slide, crc_byte-xor, crc_steps-xor, crc_steps-add}
 use Rattle.par2_slices.specs.Steps.{steps}
 use Rattle.par2_slices.specs.Rolls.{after_slide, leaving}
 

@@ -1,19 +1,8 @@
 -- The changes of a command lead to its folder.
-use Rattle.std.proofs.Common.{◌≡◌, ℕ, ◌+◌, List, [], ◌∷◌, ◌++◌, refl, sym, ◌∙◌, true, false, Bool, not}
-use Rattle.std.specs.Prelude.{Option, Some, None, Result, Ok, Err, position, if◌then◌else◌}
-use Rattle.std.specs.List.{list_all}
-use Rattle.std.proofs.lemmas.Bool.{and_parts, not-false}
-use Rattle.std.proofs.lemmas.Iterator.Adapters.{position_from-zero}
-use Rattle.par2_spec.specs.declared.Fault.{Fault}
-use Rattle.par2_spec.specs.declared.Fault.TheVariants.{NoSuchFile}
-use Rattle.par2_spec.specs.Folders.{Folder, has}
-use Rattle.par2_spec.specs.Changes.{Change, effects, are_applicable}
-use Rattle.par2_spec.specs.Sets.{ParSet, set_of}
-use Rattle.par2_spec.specs.Search.{candidates}
-use Rattle.par2_spec.specs.Repairs.{after_repair, after_repair_and_purge, after_purge, par_files, FitsRepair}
-use Rattle.par2_spec.specs.Commands.{Command, Create, Verify, Repair, Purge}
-use Rattle.par2_spec.specs.Refusals.{set_in, by_set, after}
-use Rattle.par2_spec.specs.Plans.{changes_of, repair_changes, repair_removals, purge_changes, AreFewFor, LeadsToAfter}
+use Rattle.par2_spec.proofs.Common.{◌≡◌, ℕ, ◌+◌, List, [], ◌∷◌, ◌++◌, refl, sym, ◌∙◌, true, false, Bool, not, Option, Some, None, Result, Ok, Err, position, if◌then◌else◌, list_all, and_parts, not-false, position_from-zero, Fault, NoSuchFile, Folder, has, Change, ParSet, set_of, candidates, after_repair, after_repair_and_purge, after_purge, par_files, FitsRepair, Command, Create, Verify, Repair, Purge, by_set, repair_changes, repair_removals, purge_changes, AreFewFor, LeadsToAfter}
+use Rattle.par2_spec.specs.Changes.{effects, are_applicable}
+use Rattle.par2_spec.specs.Refusals.{set_in, after}
+use Rattle.par2_spec.specs.Plans.{changes_of}
 use Rattle.par2_spec.proofs.CommandLaws.{create_leads, removals_lead}
 use Rattle.par2_spec.proofs.CreateLaws.{create_applies}
 use Rattle.par2_spec.proofs.ReadLaws.{fits_of}

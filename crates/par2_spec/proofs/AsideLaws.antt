@@ -1,20 +1,8 @@
 -- An aside is always found, it is the least that is free, and each name has its own.
-use Rattle.std.proofs.Common.{◌≡◌, ℕ, zero, suc, ◌+◌, ◌%◌, ◌^◌, ◌<◌, ◌≤◌, List, [], ◌∷◌, ◌++◌, length, map, drop, inl, inr, refl, sym, ap, ◌∙◌, subst, cond, true, false, Bool, not, arith}
-use Rattle.std.specs.Prelude.{find, Option, Some, None, is_some, unwrap_or, decimal, codes, ◌==◌}
-use Rattle.std.specs.List.{range_with_len, list_all}
-use Rattle.std.specs.Str.{bytes_eq}
-use Rattle.std.proofs.Math.Seq.{drop-append_seam}
+use Rattle.par2_spec.proofs.Common.{◌≡◌, ℕ, zero, suc, ◌+◌, ◌%◌, ◌^◌, ◌<◌, ◌≤◌, List, [], ◌∷◌, ◌++◌, length, map, drop, inl, inr, refl, sym, ap, ◌∙◌, subst, cond, true, false, Bool, not, arith, find, Option, Some, None, is_some, unwrap_or, decimal, codes, ◌==◌, range_with_len, list_all, bytes_eq, drop-append_seam, and_parts, and_from, or_cases, or_parts, or_from, cases_Bool, ne_eqb, not_from_false, cases_eq, false≢true, not-true, not-false, nat_list_eq_equiv, decimal_by_steps, decimal_injective, list_all-append, length-map-range_with_len, length-le_from_is_member, is_among, numbered, IsLeastFree, Folder, names, ParSet, target_names, taken_for, AreFew}
 use Rattle.std.proofs.lemmas.List.{append_assoc}
-use Rattle.std.proofs.lemmas.Bool.{and_parts, and_from, or_cases, or_parts, or_from, cases_Bool, ne_eqb, not_from_false, cases_eq, false≢true, not-true, not-false}
-use Rattle.std.proofs.lemmas.Cmp.{nat_list_eq_equiv}
-use Rattle.std.proofs.lemmas.Fmt.{decimal_by_steps, decimal_injective}
-use Rattle.std.proofs.lemmas.List.Folds.{list_all-append}
-use Rattle.std.proofs.lemmas.List.FromFn.{length-map-range_with_len}
-use Rattle.std.proofs.lemmas.Map.Made.{length-le_from_is_member}
-use Rattle.par2_spec.specs.Names.{is_among, is_name, numbered, IsLeastFree}
-use Rattle.par2_spec.specs.Folders.{Folder, names}
-use Rattle.par2_spec.specs.Sets.{ParSet, target_names}
-use Rattle.par2_spec.specs.Repairs.{aside, taken_for, AreFew}
+use Rattle.par2_spec.specs.Names.{is_name}
+use Rattle.par2_spec.specs.Repairs.{aside}
 use Rattle.par2_spec.proofs.NamesLaws.{same_name, other_name, among-append, AreDistinct, std_from_distinct}
 use Rattle.par2_spec.proofs.NameTests.{no_name}
 use Rattle.par2_spec.proofs.SearchLaws.{found_passes}

@@ -1,17 +1,6 @@
 -- A numbered name is a name, where it has at most 255 bytes.
-use Rattle.std.proofs.Common.{◌≡◌, ℕ, suc, ◌+◌, ◌%◌, ◌^◌, ◌<◌, ◌≤◌, List, [], ◌∷◌, ◌++◌, length, refl, sym, ap, ◌∙◌, subst, true, false, not, eqb, arith, length-append}
-use Rattle.std.specs.Prelude.{codes, decimal, nat_eq, ◌==◌}
-use Rattle.std.specs.List.{list_any, starts_with}
-use Rattle.std.specs.Str.{bytes_eq, IsUtf8}
-use Rattle.std.proofs.lemmas.Bool.{and_parts, and_from, or_from, false_from_ne_true, not_from_false, ne_eqb, le-leb, leb-true, not-true}
-use Rattle.std.proofs.lemmas.Fmt.{decimal_by_steps, decimal_nonempty, IsAscii-decimal}
-use Rattle.std.proofs.lemmas.List.Folds.{list_any-append}
-use Rattle.std.proofs.lemmas.Str.{IsUtf8-append, IsUtf8-from_ascii, IsUtf8-from_is_utf8, is_utf8-from_IsUtf8}
+use Rattle.par2_spec.proofs.Common.{◌≡◌, ℕ, suc, ◌+◌, ◌%◌, ◌^◌, ◌<◌, ◌≤◌, List, [], ◌∷◌, ◌++◌, length, refl, sym, ap, ◌∙◌, subst, true, false, not, eqb, arith, length-append, codes, decimal, nat_eq, ◌==◌, list_any, starts_with, bytes_eq, IsUtf8, and_parts, and_from, or_from, false_from_ne_true, not_from_false, ne_eqb, le-leb, leb-true, not-true, decimal_by_steps, decimal_nonempty, IsAscii-decimal, list_any-append, IsUtf8-append, IsUtf8-from_ascii, IsUtf8-from_is_utf8, is_utf8-from_IsUtf8, is_name, numbered, Folder, ParSet, aside, AreFew, taken_for}
 use Rattle.std.proofs.lemmas.Str.Ascii.{IsAscii-cons}
-use Rattle.par2_spec.specs.Names.{is_name, numbered}
-use Rattle.par2_spec.specs.Folders.{Folder}
-use Rattle.par2_spec.specs.Sets.{ParSet}
-use Rattle.par2_spec.specs.Repairs.{aside, AreFew, taken_for}
 use Rattle.par2_spec.proofs.NamesLaws.{clash, other_name}
 use Rattle.par2_spec.proofs.AsideLaws.{is_dotless, numbered_is, aside_is}
 use Rattle.par2_spec.proofs.NameTests.{tests_of, name_of}

@@ -1,13 +1,8 @@
 -- The checksum is linear over the exclusive or, a bit, a byte or any number of bytes at a time.
-use Rattle.std.proofs.Common.{◌≡◌, ℕ, zero, suc, ◌+◌, ◌*◌, ◌^◌, ◌<◌, ◌%◌, ◌/◌, List, [], ◌∷◌, ◌++◌, length, refl, sym, ap, ◌∙◌, arith}
-use Rattle.std.specs.Prelude.{bit_xor, fold, replicate}
-use Rattle.std.specs.Int.{bit_at}
-use Rattle.std.specs.Int.Bits.{xor_assoc, xor_self, xor_zero_r}
-use Rattle.std.proofs.Math.Nat.{pow-suc, mul_assoc, zero-mul}
-use Rattle.std.proofs.lemmas.Nat.{xor_comm, xor_shr, xor_block, pow_pos, shr_split, mod_below}
-use Rattle.std.proofs.lemmas.List.{length_push}
-use Rattle.std.proofs.lemmas.Nat.Bits.{bit_at_lowest, bit_at_xor}
-use Rattle.par2_spec.specs.Checksums.{crc_step, crc_steps, crc_byte, crc32}
+use Rattle.par2_spec.proofs.Common.{◌≡◌, ℕ, zero, suc, ◌+◌, ◌*◌, ◌^◌, ◌<◌, ◌%◌, ◌/◌, List, [], ◌∷◌, ◌++◌, length, refl, sym, ap, ◌∙◌, arith, bit_xor, fold, replicate, bit_at, xor_assoc, xor_self, xor_zero_r, mul_assoc, xor_comm, xor_shr, xor_block, shr_split, mod_below, length_push, bit_at_lowest, bit_at_xor, crc_step, crc_steps, crc_byte}
+use Rattle.std.proofs.Math.Nat.{pow-suc, zero-mul}
+use Rattle.std.proofs.lemmas.Nat.{pow_pos}
+use Rattle.par2_spec.specs.Checksums.{crc32}
 use Rattle.par2_spec.proofs.FieldBits.{xor_middle}
 use Rattle.par2_spec.proofs.SumLaws.{xor_off}
 

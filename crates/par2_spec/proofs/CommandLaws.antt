@@ -1,17 +1,7 @@
 -- The changes of a command lead to its folder.
-use Rattle.std.proofs.Common.{◌≡◌, ℕ, List, [], ◌∷◌, map, refl, sym, ap, ◌∙◌, true, false, Bool, cond, not, ◌||◌}
-use Rattle.std.specs.Prelude.{if◌then◌else◌, Option, None}
-use Rattle.std.specs.FinMap.{get-remove, get-retain_keys, slice_cmp-IsAntisymmetric, nat_cmp-IsAntisymmetric}
-use Rattle.std.specs.Ordering.{nat_cmp}
-use Rattle.std.specs.declared.cmp.Ordering.TheVariants.{Equal}
-use Rattle.std.specs.Cmp.Lexicographic.{slice_cmp, nat_list_cmp_total}
-use Rattle.std.specs.Str.{bytes_eq}
-use Rattle.std.proofs.lemmas.Map.Text.{is_eq-slice_cmp}
-use Rattle.par2_spec.specs.Names.{is_among}
-use Rattle.par2_spec.specs.Folders.{Folder, has, File, laid_over, without}
-use Rattle.par2_spec.specs.Changes.{Write, Replace, Remove, effect, effects}
-use Rattle.par2_spec.specs.Commands.{CreateArgs, outputs_of}
-use Rattle.par2_spec.specs.Plans.{create_changes}
+use Rattle.par2_spec.proofs.Common.{◌≡◌, ℕ, List, [], ◌∷◌, map, refl, sym, ap, ◌∙◌, true, false, Bool, cond, not, ◌||◌, if◌then◌else◌, Option, None, get-remove, get-retain_keys, slice_cmp-IsAntisymmetric, nat_cmp-IsAntisymmetric, nat_cmp, Equal, slice_cmp, nat_list_cmp_total, bytes_eq, is_eq-slice_cmp, is_among, Folder, has, File, without, Write, Replace, Remove, CreateArgs, outputs_of, create_changes}
+use Rattle.par2_spec.specs.Folders.{laid_over}
+use Rattle.par2_spec.specs.Changes.{effect, effects}
 use Rattle.par2_spec.proofs.FolderLaws.{same_folder}
 use Rattle.std.specs.FinMap as map_of
 

@@ -1,21 +1,11 @@
 -- The outputs of a create have distinct names, so its changes apply and lead to its folder.
-use Rattle.std.proofs.Common.{◌≡◌, ℕ, zero, suc, ◌+◌, ◌-◌, ◌*◌, ◌/◌, ◌%◌, ◌^◌, ◌<◌, ◌≤◌, List, [], ◌∷◌, ◌++◌, length, map, refl, sym, ap, ◌∙◌, subst, true, false, Bool, ◌||◌, arith, length-append}
-use Rattle.std.specs.Prelude.{drop, flat_map, slice_index, codes, min, nat_lt, if◌then◌else◌}
-use Rattle.std.specs.List.{range_with_len}
+use Rattle.par2_spec.proofs.Common.{◌≡◌, ℕ, zero, suc, ◌+◌, ◌-◌, ◌*◌, ◌/◌, ◌%◌, ◌^◌, ◌<◌, ◌≤◌, List, [], ◌∷◌, ◌++◌, length, map, refl, sym, ap, ◌∙◌, subst, true, false, Bool, ◌||◌, arith, length-append, flat_map, slice_index, codes, min, nat_lt, if◌then◌else◌, range_with_len, one-le-pow, pow-le-pow_right, drop-append_seam, length-take, map-map, and_from, not_from_false, or_from, or_left, or_right, is_among, Folder, File, has, Write, Replace, volume_name, volumes_before, volume_numbers, volume_size, five_digits, stem, record_of, in_id_order, index_packets, packet, CreateArgs, outputs_of, create_changes}
+use Rattle.std.specs.Prelude.{drop}
 use Rattle.std.specs.FinMap as map_of
 use Rattle.std.proofs.Math.Pow.{pow-lt}
-use Rattle.std.proofs.Math.Nat.{one-le-pow, pow-le-pow_right}
-use Rattle.std.proofs.Math.Seq.{drop-append_seam}
-use Rattle.std.proofs.lemmas.List.{append_assoc, length-take}
-use Rattle.std.proofs.lemmas.Simd.{map-map}
-use Rattle.std.proofs.lemmas.Bool.{and_from, not_from_false, or_from, or_left, or_right}
-use Rattle.par2_spec.specs.Names.{is_among}
-use Rattle.par2_spec.specs.Folders.{Folder, File, has}
-use Rattle.par2_spec.specs.Changes.{Write, Replace, is_applicable, are_applicable}
-use Rattle.par2_spec.specs.Volumes.{volumes, volume_name, volumes_before, volume_numbers, volume_size, five_digits, stem, record_of, in_id_order, index_packets}
-use Rattle.par2_spec.specs.Packets.{packet}
-use Rattle.par2_spec.specs.Commands.{CreateArgs, outputs_of}
-use Rattle.par2_spec.specs.Plans.{create_changes}
+use Rattle.std.proofs.lemmas.List.{append_assoc}
+use Rattle.par2_spec.specs.Changes.{is_applicable, are_applicable}
+use Rattle.par2_spec.specs.Volumes.{volumes}
 use Rattle.par2_spec.proofs.NamesLaws.{AreDistinct, itself, other_name, not_first, distinct_some}
 use Rattle.par2_spec.proofs.MovesLaws.{has_put}
 use Rattle.par2_spec.proofs.CommandLaws.{put_in}

@@ -1,15 +1,6 @@
 -- What refuses a command before it takes any memory is its refusal.
-use Rattle.std.proofs.Common.{◌≡◌, ℕ, List, [], ◌∷◌, ◌++◌, length, refl, ap, ◌∙◌, not, ◌&&◌}
-use Rattle.std.specs.Prelude.{Option, Some, None, Err, ◌==◌}
-use Rattle.par2_spec.specs.declared.Fault.{Fault}
-use Rattle.par2_spec.specs.declared.Fault.TheVariants.{BadSliceSize, BadCount, BadBase, NoInput}
-use Rattle.par2_spec.specs.Faults.{first_fault, fault_where, fault_of, then_fault}
-use Rattle.par2_spec.specs.Names.{is_name, is_par_name}
-use Rattle.par2_spec.specs.Folders.{Folder}
-use Rattle.par2_spec.specs.Sets.{is_slice_size, ParSet}
-use Rattle.par2_spec.specs.Search.{candidates}
-use Rattle.par2_spec.specs.Commands.{CreateArgs, Command, Create, Verify, Repair, Purge}
-use Rattle.par2_spec.specs.Refusals.{are_counts, bad_name, head_fault, create_refusal, absent_file, set_in, repair_refusal, purge_refusal, refusal, early_refusal}
+use Rattle.par2_spec.proofs.Common.{◌≡◌, ℕ, List, [], ◌∷◌, ◌++◌, length, refl, ap, ◌∙◌, not, ◌&&◌, Option, Some, None, Err, ◌==◌, Fault, BadSliceSize, BadCount, BadBase, NoInput, first_fault, fault_where, fault_of, then_fault, is_name, is_par_name, Folder, is_slice_size, ParSet, candidates, CreateArgs, Command, Create, Verify, Repair, Purge, are_counts, bad_name, absent_file, repair_refusal, purge_refusal}
+use Rattle.par2_spec.specs.Refusals.{head_fault, create_refusal, set_in, refusal, early_refusal}
 
 -- the first of all is the first of the first ones, or else of the rest
 pub first-append : {F : Type 0} (xs ys : List (Option F)) → first_fault (xs ++ ys) ≡ first_fault (first_fault xs ∷ ys)

@@ -1,19 +1,6 @@
 -- Slices that agree with the known ones and with the recovery slices of the kept exponents always exist.
-use Rattle.std.proofs.Common.{◌≡◌, ℕ, zero, suc, ◌+◌, ◌*◌, ◌/◌, ◌^◌, ◌<◌, ◌≤◌, List, [], ◌∷◌, length, map, drop, refl, sym, ap, ap₂, ◌∙◌, subst, true, false, Bool, inl, inr, arith}
-use Rattle.std.specs.Prelude.{bit_xor, filter, ◌==◌, replicate, slice_index, Option, Some, None, is_some, unwrap_or}
-use Rattle.std.specs.Int.Bits.{xor_assoc, xor_self, xor_zero_r}
-use Rattle.std.specs.List.{range_with_len, list_any, AllByRecursion, AllZip, Contains}
-use Rattle.std.specs.Option.{ForSome}
-use Rattle.std.proofs.lemmas.Nat.{xor_lt, xor_comm}
-use Rattle.std.proofs.lemmas.Bool.{cases_eq, or_cases, eqb-true, false≢true}
-use Rattle.std.proofs.lemmas.List.{length-map}
-use Rattle.std.proofs.Math.Seq.{drop-cons}
-use Rattle.par2_spec.specs.Field.{mul, coefficient}
-use Rattle.par2_spec.specs.Slices.{word}
-use Rattle.par2_spec.specs.Recovery.{dot, coefficients, combination, recovery}
-use Rattle.par2_spec.specs.Rank.{kept, IsVector, IsRepairable, Kills, AreBytes, AreSurvivors, Agrees, kept_slices, TwoAgree}
-use Rattle.par2_spec.specs.Search.{lost}
-use Rattle.par2_spec.specs.Polynomials.{AreElements}
+use Rattle.par2_spec.proofs.Common.{◌≡◌, ℕ, zero, suc, ◌+◌, ◌*◌, ◌/◌, ◌^◌, ◌<◌, ◌≤◌, List, [], ◌∷◌, length, map, drop, refl, sym, ap, ap₂, ◌∙◌, subst, true, false, Bool, inl, inr, arith, bit_xor, filter, ◌==◌, replicate, slice_index, Option, Some, None, is_some, unwrap_or, xor_assoc, xor_self, xor_zero_r, range_with_len, list_any, AllByRecursion, AllZip, Contains, ForSome, xor_lt, xor_comm, cases_eq, or_cases, eqb-true, false≢true, length-map, drop-cons, mul, coefficient, word, coefficients, kept, IsVector, IsRepairable, Kills, AreBytes, AreSurvivors, Agrees, kept_slices, TwoAgree, lost, AreElements}
+use Rattle.par2_spec.specs.Recovery.{dot, combination, recovery}
 use Rattle.par2_spec.proofs.FieldProducts.{product_linear_right, product-lt, product_comm, product-one, product_assoc}
 use Rattle.par2_spec.proofs.FieldOrder.{product-zero, has_inverse}
 use Rattle.par2_spec.proofs.NamesLaws.{clash}

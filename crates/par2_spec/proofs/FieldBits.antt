@@ -1,12 +1,6 @@
 -- Functions that respect the exclusive or, and induction over the bits of a number.
-use Rattle.std.proofs.Common.{ℕ, zero, suc, ◌+◌, ◌*◌, ◌/◌, ◌%◌, ◌^◌, ◌<◌, ◌≡◌, ◌⊎◌, inl, inr, refl, sym, ap, ap₂, ◌∙◌, subst, Bool, true, eqb, ◌&&◌, arith, add-zero, zero-mul, one-mul, pow_pos, pow-suc, mod-lt, div-lt_iff_lt-mul, mul_comm}
-use Rattle.std.proofs.Math.Nat.{div-add-mod}
-use Rattle.std.proofs.lemmas.Nat.{xor_comm, xor_block}
-use Rattle.std.proofs.lemmas.Nat.Bits.{bit_at_xor, bit_at-lt}
-use Rattle.std.proofs.lemmas.Bool.{eqb-true, and_parts, cases_eq}
-use Rattle.std.specs.Int.{bit_at}
+use Rattle.par2_spec.proofs.Common.{ℕ, zero, suc, ◌+◌, ◌*◌, ◌/◌, ◌%◌, ◌^◌, ◌<◌, ◌≡◌, ◌⊎◌, inl, inr, refl, sym, ap, ap₂, ◌∙◌, subst, Bool, true, eqb, ◌&&◌, arith, add-zero, zero-mul, one-mul, pow_pos, pow-suc, mod-lt, div-lt_iff_lt-mul, mul_comm, div-add-mod, xor_comm, xor_block, bit_at_xor, bit_at-lt, eqb-true, and_parts, cases_eq, bit_at, xor_assoc, xor_self, xor_zero_r, xor_shifted}
 use Rattle.std.specs.Int.RustNames.{bit_xor}
-use Rattle.std.specs.Int.Bits.{xor_assoc, xor_self, xor_zero_r, xor_shifted}
 
 -- f takes an exclusive or to the exclusive or of its values
 pub record IsLinear (f : ℕ → ℕ) : Type 0 where

@@ -1,8 +1,7 @@
 -- An injective function from the numbers below n to the numbers below n takes each of them as a value.
-use Rattle.std.proofs.Common.{ℕ, zero, suc, ◌<◌, ◌≤◌, ◌≡◌, ◌⊎◌, inl, inr, refl, sym, ap, ◌∙◌, true, false, eqb, arith, List, [], ◌∷◌, length}
-use Rattle.std.proofs.lemmas.Bool.{eqb-true, ne_eqb, or_cases, cases_eq, false≢true}
+use Rattle.par2_spec.proofs.Common.{ℕ, zero, suc, ◌<◌, ◌≤◌, ◌≡◌, ◌⊎◌, inl, inr, refl, sym, ap, ◌∙◌, true, false, eqb, arith, List, [], ◌∷◌, length, eqb-true, ne_eqb, or_cases, cases_eq, false≢true, list_any, AllByRecursion}
 use Rattle.std.proofs.lemmas.Map.Steps.{length-le_from_distinct_below}
-use Rattle.std.specs.List.{IsDistinct, list_any, AllByRecursion}
+use Rattle.std.specs.List.{IsDistinct}
 
 values : (ℕ → ℕ) → ℕ → List ℕ
 values f zero = []

@@ -1,9 +1,7 @@
 -- 2 has the order 65535, and each element but 0 is a power of 2 and has one inverse.
-use Rattle.std.proofs.Common.{ℕ, zero, suc, ◌+◌, ◌-◌, ◌*◌, ◌^◌, ◌<◌, ◌≡◌, refl, sym, ap, ap₂, ◌∙◌, Bool, true, false, eqb, ◌&&◌, not, arith, suc-add, zero-add}
-use Rattle.std.proofs.lemmas.Bool.{eqb-false, not-true, and_parts}
-use Rattle.std.specs.Int.{bit_at}
+use Rattle.par2_spec.proofs.Common.{ℕ, zero, suc, ◌+◌, ◌-◌, ◌*◌, ◌^◌, ◌<◌, ◌≡◌, refl, sym, ap, ap₂, ◌∙◌, Bool, true, false, eqb, ◌&&◌, not, arith, suc-add, zero-add, eqb-false, not-true, and_parts, bit_at, modulus}
 use Rattle.std.specs.Int.RustNames.{bit_xor}
-use Rattle.par2_spec.specs.Field.{modulus, mul, pow}
+use Rattle.par2_spec.specs.Field.{mul, pow}
 use Rattle.par2_spec.proofs.FieldBits.{IsLinear, xor_middle, xor_shl, bit_xor_times, linear_same_tested, linear-zero, tested}
 use Rattle.par2_spec.proofs.FieldProducts.{product-lt, product_comm, product-one, product_assoc, product_linear_left, product_linear_right}
 use Rattle.par2_spec.proofs.FieldOnto.{onto_from_injective}

@@ -1,10 +1,7 @@
 -- The laws of the product.
-use Rattle.std.proofs.Common.{ℕ, zero, suc, ◌+◌, ◌*◌, ◌^◌, ◌<◌, ◌≡◌, refl, sym, ap, ap₂, ◌∙◌, subst, true, eqb, ltb, arith}
-use Rattle.std.proofs.lemmas.Nat.{xor_lt}
-use Rattle.std.proofs.lemmas.Bool.{ltb-true}
-use Rattle.std.specs.Int.{bit_at}
+use Rattle.par2_spec.proofs.Common.{ℕ, zero, suc, ◌+◌, ◌*◌, ◌^◌, ◌<◌, ◌≡◌, refl, sym, ap, ap₂, ◌∙◌, subst, true, eqb, ltb, arith, xor_lt, ltb-true, bit_at, modulus}
 use Rattle.std.specs.Int.RustNames.{bit_xor}
-use Rattle.par2_spec.specs.Field.{modulus, product, remainder, mul}
+use Rattle.par2_spec.specs.Field.{product, remainder, mul}
 use Rattle.par2_spec.proofs.FieldBits.{IsLinear, xor_middle, xor_shl, bit_times_xor, bit_xor_times, bits_ind, linear_same, linear_same_tested, linear-zero, tested, tested_at}
 
 product-right : (n a x y : ℕ) → product a (bit_xor x y) n ≡ bit_xor (product a x n) (product a y n)

@@ -1,8 +1,7 @@
 -- Worked values of the field.
-use Rattle.std.proofs.Common.{arith}
-use Rattle.std.specs.Prelude.{◌≡◌, refl, Some, [], ◌∷◌, map, length, slice_get}
-use Rattle.std.specs.List.{range_with_len}
-use Rattle.par2_spec.specs.Field.{mul, pow, constant, constant_powers, coefficient}
+use Rattle.par2_spec.proofs.Common.{arith, Some, slice_get, range_with_len, mul, constant_powers}
+use Rattle.std.specs.Prelude.{◌≡◌, refl, [], ◌∷◌, map, length}
+use Rattle.par2_spec.specs.Field.{pow, constant, coefficient}
 use Rattle.par2_spec.proofs.FieldOrder.{one_inverse, power-lt}
 use Rattle.par2_spec.proofs.FieldSteps.{power_inverse}
 

@@ -1,10 +1,7 @@
 -- A doubling as a shift of sixteen bits, and powers of powers.
-use Rattle.std.proofs.Common.{ℕ, zero, suc, ◌+◌, ◌*◌, ◌%◌, ◌^◌, ◌<◌, ◌≤◌, ◌≡◌, refl, sym, ap, ◌∙◌, arith, zero-mul, mul_comm, zero-add}
-use Rattle.std.proofs.lemmas.Nat.{xor_block}
-use Rattle.std.specs.Int.{bit_at}
+use Rattle.par2_spec.proofs.Common.{ℕ, zero, suc, ◌+◌, ◌*◌, ◌%◌, ◌^◌, ◌<◌, ◌≤◌, ◌≡◌, refl, sym, ap, ◌∙◌, arith, zero-mul, mul_comm, zero-add, xor_block, bit_at, xor_zero_r, modulus, mul}
 use Rattle.std.specs.Int.RustNames.{bit_xor}
-use Rattle.std.specs.Int.Bits.{xor_zero_r}
-use Rattle.par2_spec.specs.Field.{modulus, mul, pow}
+use Rattle.par2_spec.specs.Field.{pow}
 use Rattle.par2_spec.proofs.FieldProducts.{product-one}
 use Rattle.par2_spec.proofs.FieldOrder.{double, power-add, power-65535, logarithm}
 

@@ -1,24 +1,9 @@
 -- A repair leaves each of the files that a set was made from.
-use Rattle.std.proofs.Common.{◌≡◌, ℕ, zero, suc, ◌+◌, ◌*◌, ◌%◌, ◌<◌, ◌≤◌, List, [], ◌∷◌, ◌++◌, length, map, refl, sym, ap, ◌∙◌, subst, cond, true, false, Bool, not, ◌&&◌, arith, inl, inr}
-use Rattle.std.specs.Prelude.{filter, find, zip, ◌==◌, Option, Some, None, option_to_list}
-use Rattle.std.specs.List.{range_with_len, list_all, AllByRecursion}
-use Rattle.std.specs.Option.{ForSome}
+use Rattle.par2_spec.proofs.Common.{◌≡◌, ℕ, zero, suc, ◌+◌, ◌*◌, ◌%◌, ◌<◌, ◌≤◌, List, [], ◌∷◌, ◌++◌, length, map, refl, sym, ap, ◌∙◌, subst, cond, true, false, Bool, not, ◌&&◌, arith, inl, inr, filter, find, zip, ◌==◌, Option, Some, None, option_to_list, range_with_len, list_all, AllByRecursion, ForSome, bytes_eq, and_parts, and_from, or_from, or_cases, or_left, or_right, eqb-true, false_from_ne_true, false≢true, not-false, cases_eq, not-true, not-not, md5, pair_of, slice_count, slice_at, slices, window, windows, is_match, IsRepairable, is_among, Folder, File, has, bytes_of, names, all_slices, ParSet, Target, target_of_file, MadeFrom, is_slice_size, is_intact, is_needing, needing, intact_names, known, lost, survivors, NoCollision, aside, put_aside, names_without_match, files_of_slices, after_repair, after_repair_and_purge, par_files, is_par_file, files_of}
 use Rattle.std.specs.FinMap as map_of
-use Rattle.std.specs.Str.{bytes_eq}
-use Rattle.std.proofs.lemmas.Bool.{and_parts, and_from, or_from, or_cases, or_left, or_right, eqb-true, false_from_ne_true, false≢true, not-false, cases_eq, not-true}
-use Rattle.std.proofs.Math.Bool.{not-not}
-use Rattle.md5.specs.Md5.{md5}
-use Rattle.par2_spec.specs.Checksums.{pair_of}
-use Rattle.par2_spec.specs.Slices.{slice_count, slice_at, slices}
-use Rattle.par2_spec.specs.Windows.{window, windows, is_match}
-use Rattle.par2_spec.specs.Rank.{IsRepairable}
-use Rattle.par2_spec.specs.Names.{is_among}
-use Rattle.par2_spec.specs.Folders.{Folder, File, has, bytes_of, names}
-use Rattle.par2_spec.specs.Volumes.{record_of, all_slices}
-use Rattle.par2_spec.specs.Sets.{ParSet, Target, target_of_file, MadeFrom, is_slice_size}
-use Rattle.par2_spec.specs.Search.{is_intact, is_needing, needing, intact_names, matches, known, lost, survivors, NoCollision}
-use Rattle.par2_spec.specs.Repairs.{aside, put_aside, names_without_match, files_of_slices, rebuilt_targets, after_repair, after_repair_and_purge, par_files, is_par_file}
-use Rattle.par2_spec.specs.Commands.{files_of}
+use Rattle.par2_spec.specs.Volumes.{record_of}
+use Rattle.par2_spec.specs.Search.{matches}
+use Rattle.par2_spec.specs.Repairs.{rebuilt_targets}
 use Rattle.par2_spec.proofs.NamesLaws.{same_name, itself, clash, among-filter, among-append, apart_by_test}
 use Rattle.par2_spec.proofs.FoundLaws.{slice_begins, all-filter, all_by_test}
 use Rattle.par2_spec.proofs.RankLaws.{all_weaker}

@@ -1,19 +1,9 @@
 -- A change and its inverse; changes in order and their way back; the same for a folder as it is kept.
-use Rattle.std.proofs.Common.{◌≡◌, ℕ, ◌+◌, ◌-◌, ◌<◌, ◌≤◌, List, [], ◌∷◌, ◌++◌, refl, sym, ap, subst, ◌∙◌, cond, true, false, Bool, not, ◌&&◌, IsTrue, nat_lt, append_assoc, append-nil, arith}
-use Rattle.std.specs.Prelude.{unwrap_or, Some, None, Option, is_some, is_none}
+use Rattle.par2_spec.proofs.Common.{◌≡◌, ℕ, ◌+◌, ◌-◌, ◌<◌, ◌≤◌, List, [], ◌∷◌, ◌++◌, refl, sym, ap, subst, ◌∙◌, cond, true, false, Bool, not, ◌&&◌, IsTrue, append_assoc, append-nil, arith, unwrap_or, Some, None, Option, is_some, is_none, same_map, slice_cmp-IsAntisymmetric, nat_cmp-IsAntisymmetric, get-insert, get-remove, get_tied, nat_cmp, eq_by_cmp, is_eq, Ordering, Less, Equal, Greater, eq_by_cmp_equiv, slice_cmp, nat_list_cmp_total, nat_tests, and_parts, and_from, Folder, has, bytes_of, Change, Write, Replace, Rename, Remove, FolderState, fault_unless, vacant_after, state_after, places_taken, NameTaken, NoRoom, NoSuchName}
+use Rattle.std.proofs.Common.{nat_lt}
 use Rattle.std.specs.FinMap as map_of
-use Rattle.std.specs.FinMap.{same_map, slice_cmp-IsAntisymmetric, nat_cmp-IsAntisymmetric, get-insert, get-remove, get_tied}
-use Rattle.std.specs.Ordering.{nat_cmp, eq_by_cmp, is_eq}
-use Rattle.std.specs.declared.cmp.Ordering.{Ordering}
-use Rattle.std.specs.declared.cmp.Ordering.TheVariants.{Less, Equal, Greater}
-use Rattle.std.specs.Cmp.{eq_by_cmp_equiv}
-use Rattle.std.specs.Cmp.Lexicographic.{slice_cmp, nat_list_cmp_total}
-use Rattle.std.proofs.lemmas.Bool.Decides.{nat_tests}
-use Rattle.std.proofs.lemmas.Bool.{and_parts, and_from}
-use Rattle.par2_spec.specs.Folders.{Folder, has, bytes_of}
-use Rattle.par2_spec.specs.Changes.{Change, Write, Replace, Rename, Remove, effect, inverse, is_applicable, effects, way_back, are_applicable, FolderState, fault_unless, change_refusal, vacant_after, state_after, takes_all, state_after_all, places_taken}
+use Rattle.par2_spec.specs.Changes.{effect, inverse, is_applicable, effects, way_back, are_applicable, change_refusal, takes_all, state_after_all}
 use Rattle.par2_spec.specs.declared.ChangeFault.{ChangeFault}
-use Rattle.par2_spec.specs.declared.ChangeFault.TheVariants.{NameTaken, NoRoom, NoSuchName}
 use Rattle.par2_spec.proofs.TestLaws.{none_from}
 
 -- ---- what a changed folder has under a name

@@ -1,22 +1,6 @@
 -- The slices of intact and of matched targets are found.
-use Rattle.std.proofs.Common.{◌≡◌, ℕ, zero, suc, ◌+◌, ◌*◌, ◌<◌, ◌≤◌, List, [], ◌∷◌, ◌++◌, length, map, inl, inr, refl, sym, ap, ◌∙◌, subst, cond, true, false, Bool, not, ◌&&◌, ◌||◌, arith}
-use Rattle.std.specs.Prelude.{filter, flat_map, find, zip, Option, Some, None, is_some, is_none, option_to_list, ◌==◌}
-use Rattle.std.specs.Int.{div_ceil}
-use Rattle.std.specs.List.{list_any, list_all, range_with_len, enumerate_from, AllByRecursion}
-use Rattle.std.specs.Str.{bytes_eq}
-use Rattle.std.proofs.lemmas.List.{map-append}
-use Rattle.std.proofs.lemmas.Bool.{and_parts, or_cases, or_left, or_right, eqb-true, false≢true, not-false}
-use Rattle.std.proofs.lemmas.Grind.{div_ceil_times}
-use Rattle.std.proofs.Math.Nat.{mul-le-mul_right, add-mul}
-use Rattle.par2_spec.specs.Checksums.{Pair}
-use Rattle.par2_spec.specs.Windows.{window, windows, is_match, found}
-use Rattle.par2_spec.specs.Slices.{slice_count}
-use Rattle.par2_spec.specs.Names.{is_among}
-use Rattle.par2_spec.specs.Folders.{Folder, bytes_of, has}
-use Rattle.par2_spec.specs.Sets.{ParSet, Target}
-use Rattle.par2_spec.specs.Search.{is_intact, is_needing, needing, intact_names, matches, known, lost}
-use Rattle.par2_spec.specs.Repairs.{names_without_match, slices_by_target, lost_of_unmatched}
-use Rattle.par2_spec.specs.Reports.{IsFound}
+use Rattle.par2_spec.proofs.Common.{◌≡◌, ℕ, zero, suc, ◌+◌, ◌*◌, ◌<◌, ◌≤◌, List, [], ◌∷◌, ◌++◌, length, map, inl, inr, refl, sym, ap, ◌∙◌, subst, cond, true, false, Bool, not, ◌&&◌, ◌||◌, arith, filter, flat_map, find, zip, Option, Some, None, is_some, is_none, option_to_list, ◌==◌, div_ceil, list_any, list_all, range_with_len, enumerate_from, AllByRecursion, bytes_eq, map-append, and_parts, or_cases, or_left, or_right, eqb-true, false≢true, not-false, div_ceil_times, mul-le-mul_right, add-mul, Pair, window, windows, is_match, found, slice_count, is_among, Folder, bytes_of, has, ParSet, Target, is_intact, is_needing, needing, intact_names, lost, names_without_match, slices_by_target, lost_of_unmatched, IsFound}
+use Rattle.par2_spec.specs.Search.{matches, known}
 use Rattle.par2_spec.proofs.NamesLaws.{same_name, itself, clash, among-filter}
 use Rattle.par2_spec.proofs.ListsLaws.{any-map, any-flat_map, in_range_some, map-cond, all-passing}
 use Rattle.par2_spec.proofs.SearchLaws.{found_passes, pairs_with}

@@ -1,18 +1,7 @@
 -- The rank is at most the number of lost slices, and that number exactly where they are determined.
-use Rattle.std.proofs.Common.{◌≡◌, ℕ, zero, suc, ◌+◌, ◌*◌, ◌/◌, ◌%◌, ◌^◌, ◌<◌, ◌≤◌, List, [], ◌∷◌, length, map, drop, pow-add, refl, sym, ap, ap₂, ◌∙◌, subst, cond, true, false, Bool, eqb, inl, inr, arith}
-use Rattle.std.specs.Prelude.{◌↔◌, bit_xor, replicate, slice_index}
-use Rattle.std.specs.Int.Bits.{xor_self}
-use Rattle.std.specs.List.{AllByRecursion, IsDistinct}
-use Rattle.std.specs.List.Sorted.{IsStrictlyIncreasing}
-use Rattle.std.proofs.lemmas.Nat.{pow_below}
-use Rattle.std.proofs.lemmas.Bool.Decides.{Decides-eqb}
-use Rattle.std.proofs.lemmas.Bool.{cases_lt, eq-eqb}
-use Rattle.std.proofs.lemmas.List.{length-map}
-use Rattle.std.proofs.lemmas.List.Kept.{AllPairs-from_increasing, IsStrictlyIncreasing-filter}
-use Rattle.std.proofs.lemmas.Map.Made.{IsDistinct-from_AllPairs}
-use Rattle.par2_spec.specs.Recovery.{dot, coefficients}
-use Rattle.par2_spec.specs.Rank.{kept, rank, IsVector, Kills, IsRepairable}
-use Rattle.par2_spec.specs.Polynomials.{AreElements}
+use Rattle.par2_spec.proofs.Common.{◌≡◌, ℕ, zero, suc, ◌+◌, ◌*◌, ◌/◌, ◌%◌, ◌^◌, ◌<◌, ◌≤◌, List, [], ◌∷◌, length, map, drop, pow-add, refl, sym, ap, ap₂, ◌∙◌, subst, cond, true, false, Bool, eqb, inl, inr, arith, ◌↔◌, bit_xor, replicate, slice_index, xor_self, AllByRecursion, IsStrictlyIncreasing, pow_below, Decides-eqb, cases_lt, eq-eqb, length-map, AllPairs-from_increasing, IsStrictlyIncreasing-filter, IsDistinct-from_AllPairs, coefficients, kept, rank, IsVector, Kills, IsRepairable, AreElements}
+use Rattle.std.specs.List.{IsDistinct}
+use Rattle.par2_spec.specs.Recovery.{dot}
 use Rattle.par2_spec.proofs.FieldOnto.{onto_from_injective}
 use Rattle.par2_spec.proofs.FieldOrder.{product-zero}
 use Rattle.par2_spec.proofs.ListsLaws.{all-each, all-both, of_contained}

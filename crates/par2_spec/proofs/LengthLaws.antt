@@ -1,13 +1,6 @@
 -- Files that are cut out of slices have the lengths that the set describes.
-use Rattle.std.proofs.Common.{◌≡◌, ℕ, zero, suc, ◌+◌, ◌-◌, ◌*◌, ◌<◌, ◌≤◌, List, [], ◌∷◌, ◌++◌, length, map, take, drop, length-drop, sym, ap, ◌∙◌, subst, arith}
-use Rattle.std.specs.Prelude.{flat_map, zip}
-use Rattle.std.specs.Int.{div_ceil}
-use Rattle.std.specs.List.{concat, AllByRecursion}
-use Rattle.std.proofs.lemmas.List.{length-append, length-take-le}
-use Rattle.std.proofs.lemmas.Grind.{div_ceil_times}
-use Rattle.par2_spec.specs.Slices.{slice_count}
-use Rattle.par2_spec.specs.Sets.{ParSet, Target, all_pairs, IsSound}
-use Rattle.par2_spec.specs.Repairs.{cut_into, files_of_slices}
+use Rattle.par2_spec.proofs.Common.{◌≡◌, ℕ, zero, suc, ◌+◌, ◌-◌, ◌*◌, ◌<◌, ◌≤◌, List, [], ◌∷◌, ◌++◌, length, map, take, drop, length-drop, sym, ap, ◌∙◌, subst, arith, flat_map, zip, div_ceil, concat, AllByRecursion, length-take-le, div_ceil_times, slice_count, ParSet, Target, all_pairs, IsSound, cut_into, files_of_slices}
+use Rattle.std.proofs.lemmas.List.{length-append}
 use Rattle.par2_spec.proofs.ReadLaws.{size_positive}
 
 length-concat : (s : ℕ) (texts : List (List ℕ)) → AllByRecursion (λ text. length text ≡ s) texts → length (concat texts) ≡ length texts * s

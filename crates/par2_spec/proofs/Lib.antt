@@ -1,3 +1,4 @@
+mod Common
 pub mod FieldBits
 pub mod FieldProducts
 pub mod FieldOnto

@@ -1,20 +1,8 @@
 -- Renames and writes one after the other, as one change of a map.
-use Rattle.std.proofs.Common.{◌≡◌, ℕ, ◌<◌, ◌^◌, List, [], ◌∷◌, ◌++◌, length, map, refl, sym, ap, ◌∙◌, subst, T, cond, true, false, Bool, not, ◌&&◌, ◌||◌, IsTrue}
-use Rattle.std.specs.Prelude.{filter, Option, Some, None, is_some, unwrap_or}
+use Rattle.par2_spec.proofs.Common.{◌≡◌, ℕ, ◌<◌, ◌^◌, List, [], ◌∷◌, ◌++◌, length, map, refl, sym, ap, ◌∙◌, subst, T, cond, true, false, Bool, not, ◌&&◌, ◌||◌, IsTrue, filter, Option, Some, None, is_some, unwrap_or, get-insert, get-remove, get-retain_keys, slice_cmp-IsAntisymmetric, nat_cmp-IsAntisymmetric, contains_key-keys, entries_sorted, nat_cmp, eq_by_cmp, is_lt, is_eq, Ordering, is_sorted, below_all, Less, Equal, Greater, slice_cmp, nat_list_cmp_total, bytes_eq, list_any, AllByRecursion, is_eq-slice_cmp, or_left, or_right, or_from, false_from_ne_true, and_from, not_from_false, false≢true, or_parts, is_name, is_among, Change, Write, Rename, Remove, Folder, has, bytes_of, names, File, files, without, IsFolder}
 use Rattle.std.specs.FinMap as map_of
-use Rattle.std.specs.FinMap.{get-insert, get-remove, get-retain_keys, slice_cmp-IsAntisymmetric, nat_cmp-IsAntisymmetric, contains_key-keys, entries_sorted}
-use Rattle.std.specs.Ordering.{nat_cmp, eq_by_cmp, is_lt, is_eq}
-use Rattle.std.specs.declared.cmp.Ordering.{Ordering}
-use Rattle.std.specs.FinMap.Entries.{is_sorted, below_all}
-use Rattle.std.specs.declared.cmp.Ordering.TheVariants.{Less, Equal, Greater}
-use Rattle.std.specs.Cmp.Lexicographic.{slice_cmp, nat_list_cmp_total}
-use Rattle.std.specs.Str.{bytes_eq}
-use Rattle.std.specs.List.{list_any, AllByRecursion}
-use Rattle.std.proofs.lemmas.Map.Text.{is_eq-slice_cmp}
-use Rattle.std.proofs.lemmas.Bool.{or_left, or_right, or_from, false_from_ne_true, and_from, not_from_false, false≢true, or_parts}
-use Rattle.par2_spec.specs.Names.{is_name, is_among}
-use Rattle.par2_spec.specs.Changes.{Change, Write, Rename, Remove, effect, effects, is_applicable, are_applicable}
-use Rattle.par2_spec.specs.Folders.{Folder, has, bytes_of, names, File, files, laid_over, without, IsFolder}
+use Rattle.par2_spec.specs.Changes.{effect, effects, is_applicable, are_applicable}
+use Rattle.par2_spec.specs.Folders.{laid_over}
 use Rattle.par2_spec.proofs.FolderLaws.{same_folder}
 use Rattle.par2_spec.proofs.CommandLaws.{gone_first, none_gone}
 use Rattle.par2_spec.proofs.NamesLaws.{among-append, same_name, itself, clash, other_name, AreDistinct, not_first}

@@ -1,11 +1,6 @@
 -- The tests of a name, one by one.
-use Rattle.std.proofs.Common.{◌≡◌, ◌∙◌, ℕ, List, [], ◌∷◌, length, ap, refl, true, false, not}
-use Rattle.std.specs.Prelude.{codes, nat_le, nat_eq, ◌==◌}
-use Rattle.std.specs.List.{list_all, list_any, starts_with}
-use Rattle.std.specs.Str.{bytes_eq, is_utf8, IsUtf8}
-use Rattle.std.proofs.lemmas.Bool.{and_parts, and_from, or_from, false_from_ne_true}
-use Rattle.std.proofs.lemmas.Str.{IsUtf8-from_is_utf8}
-use Rattle.par2_spec.specs.Names.{is_among, is_name}
+use Rattle.par2_spec.proofs.Common.{◌≡◌, ◌∙◌, ℕ, List, [], ◌∷◌, length, ap, refl, true, false, not, codes, nat_le, nat_eq, ◌==◌, list_all, list_any, starts_with, bytes_eq, is_utf8, IsUtf8, and_parts, and_from, or_from, false_from_ne_true, IsUtf8-from_is_utf8, is_among}
+use Rattle.par2_spec.specs.Names.{is_name}
 use Rattle.par2_spec.proofs.NamesLaws.{clash, other_name}
 
 pub record Tests (name : List ℕ) : Type 0 where

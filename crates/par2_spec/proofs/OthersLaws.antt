@@ -1,19 +1,6 @@
 -- Where the lost slices are not determined, another list agrees too.
-use Rattle.std.proofs.Common.{◌≡◌, ℕ, zero, suc, ◌+◌, ◌*◌, ◌/◌, ◌%◌, ◌^◌, ◌<◌, ◌≤◌, List, [], ◌∷◌, length, map, drop, refl, sym, ap, ap₂, ◌∙◌, subst, arith}
-use Rattle.std.specs.Prelude.{bit_xor, flat_map, slice_index, Option, Some, None, is_some}
-use Rattle.std.specs.Int.{w16, to_le_bytes}
-use Rattle.std.specs.Int.Bits.{xor_assoc, xor_self, xor_zero_r}
-use Rattle.std.specs.List.{range_with_len, AllByRecursion, AllZip}
-use Rattle.std.specs.Option.{ForSome}
-use Rattle.std.proofs.lemmas.Nat.{xor_lt}
-use Rattle.std.proofs.lemmas.List.{length-map}
-use Rattle.std.proofs.lemmas.Slice.Zip.{AllZip-long}
-use Rattle.std.proofs.lemmas.Bool.{false≢true}
-use Rattle.par2_spec.specs.Slices.{word}
-use Rattle.par2_spec.specs.Recovery.{dot, coefficients, combination, recovery}
-use Rattle.par2_spec.specs.Rank.{IsVector, Kills, IsRepairable, Agrees, AnotherAgrees}
-use Rattle.par2_spec.specs.Search.{lost}
-use Rattle.par2_spec.specs.Polynomials.{AreElements}
+use Rattle.par2_spec.proofs.Common.{◌≡◌, ℕ, zero, suc, ◌+◌, ◌*◌, ◌/◌, ◌%◌, ◌^◌, ◌<◌, ◌≤◌, List, [], ◌∷◌, length, map, drop, refl, sym, ap, ap₂, ◌∙◌, subst, arith, bit_xor, flat_map, slice_index, Option, Some, None, is_some, w16, to_le_bytes, xor_assoc, xor_self, xor_zero_r, range_with_len, AllByRecursion, AllZip, ForSome, xor_lt, length-map, AllZip-long, false≢true, word, dot, coefficients, IsVector, Kills, IsRepairable, Agrees, AnotherAgrees, lost, AreElements}
+use Rattle.par2_spec.specs.Recovery.{combination, recovery}
 use Rattle.par2_spec.proofs.RankLaws.{killed_vector}
 use Rattle.par2_spec.proofs.WordLaws.{word_behind}
 use Rattle.par2_spec.proofs.UniqueLaws.{sums, AreTexts, IsZeroAtKnown, at_lost, lost_from, dot-at_lost, dot-sums, whole_row}

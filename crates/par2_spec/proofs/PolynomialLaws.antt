@@ -1,14 +1,8 @@
 -- Values, products and quotients of polynomials.
-use Rattle.std.proofs.Common.{ℕ, suc, ◌-◌, ◌^◌, ◌<◌, ◌≡◌, refl, sym, ap, ap₂, ◌∙◌, subst, arith, List, [], ◌∷◌, length, map, bit_xor, ◌≢◌, false, nat_eq, get_or, drop, inl, inr}
-use Rattle.std.proofs.lemmas.Nat.{xor_comm, xor_lt}
-use Rattle.std.proofs.lemmas.List.{length-map}
-use Rattle.std.proofs.lemmas.List.Elements.{Contains-get_or}
-use Rattle.std.proofs.lemmas.Bool.{eqb-false, cases_eq}
-use Rattle.std.specs.Int.Bits.{xor_assoc, xor_zero_r, xor_self, xor_zero_l}
-use Rattle.std.specs.List.{AllByRecursion, Contains, IsDistinct}
-use Rattle.par2_spec.specs.Field.{mul}
-use Rattle.par2_spec.specs.Rank.{IsVector}
-use Rattle.par2_spec.specs.Polynomials.{value, plus, times, times_root, with_roots, quotient, AreElements, ArePoints, Interpolates}
+use Rattle.par2_spec.proofs.Common.{ℕ, suc, ◌-◌, ◌^◌, ◌<◌, ◌≡◌, refl, sym, ap, ap₂, ◌∙◌, subst, arith, List, [], ◌∷◌, length, map, ◌≢◌, false, get_or, drop, inl, inr, xor_comm, xor_lt, length-map, Contains-get_or, eqb-false, cases_eq, xor_assoc, xor_zero_r, xor_self, xor_zero_l, AllByRecursion, Contains, mul, IsVector, times, times_root, AreElements, ArePoints, Interpolates}
+use Rattle.std.proofs.Common.{bit_xor, nat_eq}
+use Rattle.std.specs.List.{IsDistinct}
+use Rattle.par2_spec.specs.Polynomials.{value, plus, with_roots, quotient}
 use Rattle.par2_spec.proofs.FieldBits.{xor_middle}
 use Rattle.par2_spec.proofs.FieldProducts.{product_linear_left, product_linear_right, product_assoc, product_comm, product-one, product-lt}
 use Rattle.par2_spec.proofs.FieldOrder.{product-zero, zero-product, no_zero_divisor, has_inverse}

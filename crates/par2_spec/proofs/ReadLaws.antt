@@ -1,31 +1,8 @@
 -- What holds of a set that reads, and of the names that are searched.
-use Rattle.std.proofs.Common.{◌≡◌, ℕ, suc, ◌≤◌, List, [], ◌∷◌, ◌++◌, length, map, inl, inr, refl, sym, ap, ◌∙◌, subst, cond, true, false, Bool, not, ◌&&◌, ◌||◌, arith, length-append, ◌<◌, ◌+◌, ◌^◌}
-use Rattle.std.specs.Prelude.{min, nat_lt, filter, filter_map, flat_map, find, slice_get, sum_by, nat_le, Option, Some, None, is_some, unwrap_or, option_map, option_and_then, Result, Ok, Err, ok_or, ◌==◌, ◌%◌, if◌then◌else◌}
-use Rattle.std.specs.List.{list_all, AllByRecursion, Contains}
+use Rattle.par2_spec.proofs.Common.{◌≡◌, ℕ, suc, ◌≤◌, List, [], ◌∷◌, ◌++◌, length, map, inl, inr, refl, sym, ap, ◌∙◌, subst, cond, true, false, Bool, not, ◌&&◌, ◌||◌, arith, length-append, ◌<◌, ◌+◌, ◌^◌, min, nat_lt, filter, filter_map, flat_map, find, slice_get, sum_by, nat_le, Option, Some, None, is_some, unwrap_or, option_map, option_and_then, Result, Ok, Err, ok_or, ◌==◌, if◌then◌else◌, list_all, AllByRecursion, Contains, entries-insert, len-entries, len-empty, nat_cmp-IsAntisymmetric, nat_cmp_total, put, by_order, nat_cmp, Ordering, Less, Equal, Greater, zero-div, zero-mod, bytes_eq, length-map, nil_from_length, sum_by-cons, list_all-map, recursion_from_All, All-contains_itself, and_parts, and_from, or_cases, or_left, or_right, false_from_ne_true, eqb-true, leb-true, ltb-true, false≢true, Fault, NoPackets, NoMain, NoDescription, NoChecksums, BadSet, Pair, slice_count, is_name, is_among, distinct, Packet, accepted, MainBody, DescBody, RecoveryBody, read_ifsc, read_recovery, Folder, has, bytes_of, ParSet, Target, ◌>>=◌, unless, all_some, is_slice_size, packets_with, main_of, description_of, pairs_of, target_of, are_in_profile, recovery_of, other_par_names, IsSound, candidates, known, lost, AreFew, FitsRepair, lost_of_unmatched}
+use Rattle.std.specs.Prelude.{◌%◌}
 use Rattle.std.specs.FinMap as map_of
-use Rattle.std.specs.FinMap.{entries-insert, len-entries, len-empty, nat_cmp-IsAntisymmetric}
-use Rattle.std.specs.Cmp.{nat_cmp_total}
-use Rattle.std.specs.FinMap.Entries.{put, by_order}
-use Rattle.std.specs.Ordering.{nat_cmp}
-use Rattle.std.specs.declared.cmp.Ordering.{Ordering}
-use Rattle.std.specs.declared.cmp.Ordering.TheVariants.{Less, Equal, Greater}
-use Rattle.std.proofs.Math.Nat.{zero-div, zero-mod}
-use Rattle.std.specs.Str.{bytes_eq}
-use Rattle.std.proofs.lemmas.List.{length-map, nil_from_length}
-use Rattle.std.proofs.lemmas.List.Sums.{sum_by-cons}
-use Rattle.std.proofs.lemmas.List.Folds.{list_all-map}
-use Rattle.std.proofs.lemmas.List.Elements.{recursion_from_All, All-contains_itself}
-use Rattle.std.proofs.lemmas.Bool.{and_parts, and_from, or_cases, or_left, or_right, false_from_ne_true, eqb-true, leb-true, ltb-true, false≢true}
-use Rattle.par2_spec.specs.declared.Fault.{Fault}
-use Rattle.par2_spec.specs.declared.Fault.TheVariants.{NoPackets, NoMain, NoDescription, NoChecksums, BadSet}
-use Rattle.par2_spec.specs.Checksums.{Pair}
-use Rattle.par2_spec.specs.Slices.{slice_count}
-use Rattle.par2_spec.specs.Names.{is_name, is_among, distinct}
-use Rattle.par2_spec.specs.Packets.{Packet, accepted, MainBody, DescBody, RecoveryBody, read_ifsc, read_recovery}
-use Rattle.par2_spec.specs.Folders.{Folder, has, bytes_of}
-use Rattle.par2_spec.specs.Sets.{ParSet, Target, ◌>>=◌, unless, all_some, is_slice_size, packets_with, main_of, description_of, pairs_of, target_of, are_in_profile, recovery_of, read_set, other_par_names, set_of, IsSound}
-use Rattle.par2_spec.specs.Search.{candidates, known, lost}
-use Rattle.par2_spec.specs.Repairs.{AreFew, FitsRepair, lost_of_unmatched}
+use Rattle.par2_spec.specs.Sets.{read_set, set_of}
 use Rattle.par2_spec.proofs.NamesLaws.{same_name, itself, clash, among-filter, among-append, AreDistinct, std_from_distinct}
 use Rattle.par2_spec.proofs.FoundLaws.{AreSized, lost_is}
 use Rattle.par2_spec.proofs.ListsLaws.{found_one}

@@ -1,18 +1,6 @@
 -- Where a repair is refused as not repairable, other slices agree too.
-use Rattle.std.proofs.Common.{◌≡◌, ℕ, ◌+◌, ◌≤◌, List, [], ◌∷◌, refl, sym, ap, ◌∙◌, subst, true, false, Bool, not, arith}
-use Rattle.std.specs.Prelude.{Option, Some, None, Result, Ok}
-use Rattle.std.specs.List.{AllByRecursion}
+use Rattle.par2_spec.proofs.Common.{◌≡◌, ℕ, ◌+◌, ◌≤◌, List, [], ◌∷◌, refl, sym, ap, ◌∙◌, subst, true, false, Bool, not, arith, Option, Some, None, Result, Ok, AllByRecursion, both_ways, not-true, Fault, NoSuchFile, NameTooLong, NotRepairable, RepairFailed, first_fault, fault_where, then_fault, Folder, File, all_slices, is_repairable, IsRepairable, AnotherAgrees, ParSet, set_of, is_slice_size, MadeFrom, candidates, known, lost, survivors, NoCollision, Repair}
 use Rattle.std.specs.FinMap as map_of
-use Rattle.std.proofs.lemmas.Bool.{both_ways, not-true}
-use Rattle.par2_spec.specs.declared.Fault.{Fault}
-use Rattle.par2_spec.specs.declared.Fault.TheVariants.{NoSuchFile, NameTooLong, NotRepairable, RepairFailed}
-use Rattle.par2_spec.specs.Faults.{first_fault, fault_where, then_fault}
-use Rattle.par2_spec.specs.Folders.{Folder, File}
-use Rattle.par2_spec.specs.Volumes.{all_slices}
-use Rattle.par2_spec.specs.Rank.{is_repairable, IsRepairable, AnotherAgrees}
-use Rattle.par2_spec.specs.Sets.{ParSet, set_of, is_slice_size, MadeFrom}
-use Rattle.par2_spec.specs.Search.{candidates, known, lost, survivors, NoCollision}
-use Rattle.par2_spec.specs.Commands.{Repair}
 use Rattle.par2_spec.specs.Refusals.{repair_refusal, refusal}
 use Rattle.par2_spec.proofs.ReadLaws.{sound_of, size_parts}
 use Rattle.par2_spec.proofs.RankLaws.{repairable-iff}

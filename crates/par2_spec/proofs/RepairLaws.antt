@@ -1,23 +1,12 @@
 -- The changes of a repair lead to its folder.
-use Rattle.std.proofs.Common.{◌≡◌, ℕ, List, [], ◌∷◌, ◌++◌, length, map, inl, inr, refl, sym, ap, ◌∙◌, subst, cond, true, false, Bool, not, ◌&&◌, ◌||◌}
-use Rattle.std.specs.Prelude.{filter, filter_map, zip, take, drop, Option, Some, None, Ok, option_map, is_some, is_none, unwrap_or, if◌then◌else◌}
+use Rattle.par2_spec.proofs.Common.{◌≡◌, ℕ, List, [], ◌∷◌, ◌++◌, length, map, inl, inr, refl, sym, ap, ◌∙◌, subst, cond, true, false, Bool, not, ◌&&◌, ◌||◌, filter, filter_map, zip, Option, Some, None, Ok, option_map, is_some, is_none, unwrap_or, if◌then◌else◌, concat, list_all, list_any, AllByRecursion, ForSome, bytes_eq, map-append, map-map, and_parts, and_right, or_parts, or_cases, or_left, or_right, or_from, and_from, false_from_ne_true, cases_Bool, not_from_false, false≢true, not-true, and-false, is_among, is_par_name, Folder, has, bytes_of, names, File, without, Write, Rename, Remove, effects, are_applicable, accepted, ParSet, Target, set_of, target_names, candidates, known, needing, needing_names, is_needing, intact_names, matching, aside, put_aside, files_of_slices, cut_into, rebuilt, matched_files, names_without_match, aside_files, is_par_file, par_files, after_repair_and_purge, FitsRepair, HoldsRepaired, AreFew, taken_for, now_at, purge_changes}
+use Rattle.std.specs.Prelude.{take, drop}
 use Rattle.std.specs.FinMap as map_of
-use Rattle.std.specs.List.{concat, list_all, list_any, AllByRecursion}
-use Rattle.std.specs.Option.{ForSome}
-use Rattle.std.specs.Str.{bytes_eq}
-use Rattle.std.proofs.lemmas.List.{map-append}
-use Rattle.std.proofs.lemmas.Simd.{map-map}
 use Rattle.par2_spec.proofs.FolderLaws.{effects-append, are_applicable-append}
-use Rattle.std.proofs.lemmas.Bool.{and_parts, and_right, or_parts, or_cases, or_left, or_right, or_from, and_from, false_from_ne_true, cases_Bool, not_from_false, false≢true, not-true}
-use Rattle.std.proofs.Math.Bool.{and-false}
-use Rattle.par2_spec.specs.Names.{is_among, is_par_name}
-use Rattle.par2_spec.specs.Folders.{Folder, has, bytes_of, names, File, laid_over, without}
-use Rattle.par2_spec.specs.Changes.{Write, Rename, Remove, effects, are_applicable}
-use Rattle.par2_spec.specs.Packets.{accepted}
-use Rattle.par2_spec.specs.Sets.{ParSet, Target, set_of, target_names}
-use Rattle.par2_spec.specs.Search.{candidates, matches, known, needing, needing_names, is_needing, intact_names, matching}
-use Rattle.par2_spec.specs.Repairs.{aside, put_aside, files_of_slices, cut_into, rebuilt, rebuilt_targets, matched_files, names_without_match, aside_files, after_repair, is_par_file, par_files, after_repair_and_purge, FitsRepair, HoldsRepaired, AreFew, taken_for}
-use Rattle.par2_spec.specs.Plans.{now_at, repair_changes, repair_removals, purge_changes}
+use Rattle.par2_spec.specs.Folders.{laid_over}
+use Rattle.par2_spec.specs.Search.{matches}
+use Rattle.par2_spec.specs.Repairs.{rebuilt_targets, after_repair}
+use Rattle.par2_spec.specs.Plans.{repair_changes, repair_removals}
 use Rattle.par2_spec.proofs.CommandLaws.{removals_lead}
 use Rattle.par2_spec.proofs.NamesLaws.{same_name, itself, clash, AreDistinct, among-filter, among-append, among_some, apart_by_test, distinct-map, distinct-filter, distinct_some, image_of, image_in, distinct-append, distinct_from_std}
 use Rattle.par2_spec.proofs.MovesLaws.{Move, CanMove, renames, sources, goals, arrived, renames_apply, renames_lead, writes_apply, writes_lead, get_put, get_laid, get_without, has_laid, has_without, has_by_names, laid_over-append, without-laid_over, without_without, same_without, removals_apply, names_once, all_laid}

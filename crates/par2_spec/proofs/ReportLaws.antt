@@ -1,22 +1,7 @@
 -- What a report says, target by target.
-use Rattle.std.proofs.Common.{arith, ◌≡◌, ◌<◌, ℕ, suc, not, List, [], ◌∷◌, ◌++◌, length, map, take, drop, refl, sym, ap, ◌∙◌, subst, cond, true, false, Bool}
-use Rattle.std.specs.Prelude.{filter, flat_map, find, zip, slice_index_or, Option, Some, None, Result, Ok, Err, is_some, option_to_list, option_and_then}
-use Rattle.std.specs.List.{AllByRecursion}
-use Rattle.std.specs.Str.{bytes_eq}
-use Rattle.std.proofs.lemmas.List.{map-append, length-map}
-use Rattle.std.proofs.lemmas.Simd.{map-map}
-use Rattle.std.proofs.lemmas.Bool.{and_parts, or_parts, false≢true}
-use Rattle.std.proofs.Math.Seq.{drop-append_seam, take-append_seam}
-use Rattle.par2_spec.specs.Checksums.{Pair}
-use Rattle.par2_spec.specs.Windows.{found}
-use Rattle.par2_spec.specs.Names.{is_among}
-use Rattle.par2_spec.specs.declared.Fault.{Fault}
-use Rattle.par2_spec.specs.Folders.{Folder, has, bytes_of}
-use Rattle.par2_spec.specs.Sets.{ParSet, Target, set_of, ◌>>=◌, IsSound}
-use Rattle.par2_spec.specs.Search.{is_intact, is_needing, needing, intact_names, matched, matches, match_of, candidates, known}
-use Rattle.par2_spec.specs.Repairs.{cut_into}
-use Rattle.par2_spec.specs.Refusals.{set_in}
-use Rattle.par2_spec.specs.Reports.{State, Complete, Report, needing_state, state_of, report_of_target, report_of, report_in, found_of, states_by, IsByTarget, StatesFollow, IsFound, IntactAreFound, MatchedAreFound, HasIntactFile, IsFoundWhole}
+use Rattle.par2_spec.proofs.Common.{arith, ◌≡◌, ◌<◌, ℕ, suc, not, List, [], ◌∷◌, ◌++◌, length, map, take, drop, refl, sym, ap, ◌∙◌, subst, cond, true, false, Bool, filter, flat_map, find, zip, slice_index_or, Option, Some, None, Result, Ok, Err, is_some, option_to_list, option_and_then, AllByRecursion, bytes_eq, map-append, length-map, map-map, and_parts, or_parts, false≢true, drop-append_seam, take-append_seam, Pair, found, is_among, Fault, Folder, has, bytes_of, ParSet, Target, set_of, ◌>>=◌, IsSound, is_intact, is_needing, needing, intact_names, matched, match_of, candidates, cut_into, set_in, State, Complete, Report, needing_state, found_of, states_by, IsByTarget, StatesFollow, IsFound, IntactAreFound, MatchedAreFound, HasIntactFile, IsFoundWhole}
+use Rattle.par2_spec.specs.Search.{matches, known}
+use Rattle.par2_spec.specs.Reports.{state_of, report_of_target, report_of, report_in}
 use Rattle.par2_spec.proofs.NamesLaws.{itself, AreDistinct, distinct_from_std, among-filter}
 use Rattle.par2_spec.proofs.AcceptedCommands.{set_in_reads}
 use Rattle.par2_spec.proofs.SearchLaws.{pairs_with, found_passes}

@@ -1,24 +1,10 @@
 -- The slices of a file give the file back, and those of the files that a set was made from are rebuilt.
-use Rattle.std.proofs.Common.{◌≡◌, ℕ, zero, suc, ◌+◌, ◌-◌, ◌*◌, ◌%◌, ◌<◌, ◌≤◌, List, [], ◌∷◌, ◌++◌, length, map, take, drop, refl, sym, ap, ◌∙◌, subst, true, Bool, arith, inl, inr, length-append, length-drop}
-use Rattle.std.specs.Prelude.{flat_map, filter, find, zip, replicate, min, ◌==◌, Option, Some}
-use Rattle.std.specs.List.{range_with_len, list_any, concat, AllByRecursion, AllZip}
-use Rattle.std.specs.Option.{ForSome}
+use Rattle.par2_spec.proofs.Common.{◌≡◌, ℕ, zero, suc, ◌+◌, ◌-◌, ◌*◌, ◌%◌, ◌<◌, ◌≤◌, List, [], ◌∷◌, ◌++◌, length, map, take, drop, refl, sym, ap, ◌∙◌, subst, true, Bool, arith, inl, inr, length-append, length-drop, flat_map, filter, find, zip, replicate, min, ◌==◌, Option, Some, range_with_len, list_any, concat, AllByRecursion, AllZip, ForSome, add-mul, drop-append_seam, take-append_seam, take-append-add, div_ceil_times, length-take, length-take-le, length-replicate, length-map, take_all, drop_all, take-append-drop, drop-drop, map-append, cases_lt, pair_of, slice_count, slice_at, slices, windows, is_match, found, window, recovery, Agrees, kept_slices, IsRepairable, kept, Folder, File, bytes_of, all_slices, Target, target_of_file, MadeFrom, all_pairs, lost, survivors, NoCollision, rebuilt, cut_into, files_of_slices}
 use Rattle.std.specs.FinMap as map_of
-use Rattle.std.proofs.Math.Nat.{add-mul, zero-mul}
-use Rattle.std.proofs.Math.Seq.{drop-append_seam, take-append_seam, take-append-add}
-use Rattle.std.proofs.lemmas.Grind.{div_ceil_times}
-use Rattle.std.proofs.lemmas.List.{length-take, length-take-le, length-replicate, length-map, take_all, drop_all, take-append-drop, drop-drop, map-append, append_assoc, append-nil}
-use Rattle.std.proofs.lemmas.Bool.{cases_lt}
-use Rattle.par2_spec.specs.Checksums.{pair_of}
-use Rattle.par2_spec.specs.Slices.{slice_count, slice_at, slices}
-use Rattle.par2_spec.specs.Windows.{windows, is_match, found, window}
-use Rattle.par2_spec.specs.Recovery.{recovery}
-use Rattle.par2_spec.specs.Rank.{Agrees, kept_slices, IsRepairable, kept}
-use Rattle.par2_spec.specs.Folders.{Folder, File, bytes_of}
-use Rattle.par2_spec.specs.Volumes.{record_of, all_slices}
-use Rattle.par2_spec.specs.Sets.{Target, target_of_file, MadeFrom, all_pairs}
-use Rattle.par2_spec.specs.Search.{known, lost, survivors, NoCollision}
-use Rattle.par2_spec.specs.Repairs.{rebuilt, cut_into, files_of_slices}
+use Rattle.std.proofs.Math.Nat.{zero-mul}
+use Rattle.std.proofs.lemmas.List.{append_assoc, append-nil}
+use Rattle.par2_spec.specs.Volumes.{record_of}
+use Rattle.par2_spec.specs.Search.{known}
 use Rattle.par2_spec.proofs.ListsLaws.{all-append, all-take, all-drop, all-each, all-flat_map-map, found_one}
 use Rattle.par2_spec.proofs.FoundLaws.{all-filter}
 use Rattle.par2_spec.proofs.RankLaws.{rebuilt_is_only, all_weaker}

@@ -1,21 +1,14 @@
 -- Worked examples of folders, of their histories and of what is refused.
-use Rattle.std.proofs.Common.{◌≡◌, ℕ, List, [], ◌∷◌, ◌++◌, refl, ap, ◌∙◌, true, false, not}
-use Rattle.std.specs.Prelude.{Some, None, Ok, Err, codes, flat_map, is_some}
+use Rattle.par2_spec.proofs.Common.{◌≡◌, ℕ, List, [], ◌∷◌, ◌++◌, refl, ap, ◌∙◌, true, false, not, Some, None, Ok, Err, codes, flat_map, is_some, get-empty, nat_cmp, slice_cmp, BadSliceSize, BadCount, BadBase, NoInput, BadName, DuplicateInput, NameTaken, NoRoom, NoSuchName, Folder, File, has, behind_length, FolderState, fault_unless, Write, Rename, Remove, state_after, CreateArgs, Undo, Redo, in_front, NothingToUndo, NothingToRedo}
 use Rattle.std.specs.FinMap as map_of
-use Rattle.std.specs.FinMap.{get-empty}
-use Rattle.std.specs.Ordering.{nat_cmp}
-use Rattle.std.specs.Cmp.Lexicographic.{slice_cmp}
 use Rattle.std.specs.Str.{is_utf8, chars}
 use lib.Utf8.{encode}
 use Rattle.md5.specs.Md5.{md5, digest_bytes, hash_after, compress, rounds, block_words}
-use Rattle.par2_spec.specs.declared.Fault.TheVariants.{BadSliceSize, BadCount, BadBase, NoInput, BadName, DuplicateInput}
-use Rattle.par2_spec.specs.declared.ChangeFault.TheVariants.{NameTaken, NoRoom, NoSuchName}
-use Rattle.par2_spec.specs.Folders.{Folder, File, has, fingerprint, behind_length}
-use Rattle.par2_spec.specs.Changes.{FolderState, fault_unless, Write, Rename, Remove, change_refusal, state_after, effect}
-use Rattle.par2_spec.specs.Commands.{CreateArgs, Undo, Redo}
+use Rattle.par2_spec.specs.Folders.{fingerprint}
+use Rattle.par2_spec.specs.Changes.{change_refusal, effect}
 use Rattle.par2_spec.specs.Names.{is_name}
 use Rattle.par2_spec.specs.Refusals.{create_refusal}
-use Rattle.par2_spec.specs.History.{history_after, in_front, NothingToUndo, NothingToRedo}
+use Rattle.par2_spec.specs.History.{history_after}
 use Rattle.par2_spec.proofs.MovesLaws.{has_put}
 use Rattle.par2_spec.proofs.ReadLaws.{entries-empty}
 

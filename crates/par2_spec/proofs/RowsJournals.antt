@@ -1,14 +1,12 @@
 -- Worked examples of journals and names.
-use Rattle.std.specs.Prelude.{◌≡◌, ℕ, refl, true, false, Some, None, List, [], ◌∷◌, map, length, replicate, codes}
+use Rattle.par2_spec.proofs.Common.{Some, None, replicate, codes, is_par_name, numbered, Change, Write, Rename, Remove, Journal, Version, One, Two}
+use Rattle.std.specs.Prelude.{◌≡◌, ℕ, refl, true, false, List, [], ◌∷◌, map, length}
 use Rattle.std.specs.Str.{is_utf8, chars}
 use Rattle.std.specs.Fmt.{digits}
 use lib.Utf8.{encode}
 use Rattle.md5.specs.Md5.{md5, digest_bytes, hash_after, compress, rounds, block_words}
-use Rattle.par2_spec.specs.Names.{is_name, is_par_name, numbered}
-use Rattle.par2_spec.specs.Changes.{Change, Write, Rename, Remove}
-use Rattle.par2_spec.specs.Journals.{Journal, spelling}
-use Rattle.par2_spec.specs.declared.Version.{Version}
-use Rattle.par2_spec.specs.declared.Version.TheVariants.{One, Two}
+use Rattle.par2_spec.specs.Names.{is_name}
+use Rattle.par2_spec.specs.Journals.{spelling}
 
 zeros : ℕ → List ℕ
 zeros n = replicate n 0

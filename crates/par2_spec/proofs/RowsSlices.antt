@@ -1,12 +1,10 @@
 -- Worked examples of slices, checksums, windows and recovery slices.
-use Rattle.std.specs.Prelude.{◌≡◌, refl, true, Some, None, [], ◌∷◌, map, codes}
+use Rattle.par2_spec.proofs.Common.{Some, None, codes, slices, padded, words, pair_of, first_match, found, lost}
+use Rattle.std.specs.Prelude.{◌≡◌, refl, true, [], ◌∷◌, map}
 use Rattle.md5.specs.Md5.{md5, digest_bytes, hash_after, compress, rounds, block_words}
-use Rattle.par2_spec.specs.Slices.{slices, padded, words}
-use Rattle.par2_spec.specs.Checksums.{crc32, pair_of}
-use Rattle.par2_spec.specs.Windows.{first_match, found}
+use Rattle.par2_spec.specs.Checksums.{crc32}
 use Rattle.par2_spec.specs.Recovery.{recovery, combination}
 use Rattle.par2_spec.specs.Rank.{agrees}
-use Rattle.par2_spec.specs.Search.{lost}
 
 slices_are_padded : slices 4 (codes "abcde") ≡ codes "abcd" ∷ codes "e\0\0\0" ∷ []
 slices_are_padded = refl

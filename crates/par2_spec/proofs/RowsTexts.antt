@@ -1,8 +1,8 @@
 -- Worked examples of what is printed, and of statuses.
-use Rattle.std.specs.Prelude.{◌≡◌, ℕ, refl, true, false, List, [], ◌∷◌, map, codes}
+use Rattle.par2_spec.proofs.Common.{codes, Report, Complete, Misplaced, Damaged, Missing}
+use Rattle.std.specs.Prelude.{◌≡◌, ℕ, refl, true, false, List, [], ◌∷◌, map}
 use Rattle.std.specs.Fmt.{digits}
 use Rattle.hex.specs.Hex.{encode_with}
-use Rattle.par2_spec.specs.Reports.{Report, Complete, Misplaced, Damaged, Missing}
 use Rattle.par2_spec.specs.Texts.{Writes, Replaces, Renames, Removes, Reported, Done, done_text, report_text, output_of, error_of, status_of, status_of_failure}
 use Rattle.par2_spec.specs.declared.Fault.TheVariants as fault
 use Rattle.par2_spec.specs.declared.Failure.TheVariants as failure

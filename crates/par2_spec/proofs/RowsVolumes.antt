@@ -1,18 +1,14 @@
 -- Worked examples of the files that a create writes, and of what is read of them.
-use Rattle.std.specs.Prelude.{◌≡◌, ◌++◌, ℕ, refl, List, [], ◌∷◌, map, length, flat_map, take, drop, slice_index, bit_xor, Result, Ok, Err, codes}
+use Rattle.par2_spec.proofs.Common.{flat_map, slice_index, bit_xor, Result, Ok, Err, codes, File, accepted, volume_name, ParSet, Kind, Main, FileDesc, Ifsc, Recovery, Creator, Fault, NoPackets}
+use Rattle.std.specs.Prelude.{◌≡◌, ◌++◌, ℕ, refl, List, [], ◌∷◌, map, length, take, drop}
 use Rattle.std.specs.Str.{is_utf8, chars}
 use lib.Utf8.{encode}
 use Rattle.md5.specs.Md5.{md5, digest_bytes, hash_after, compress, rounds, block_words}
-use Rattle.par2_spec.specs.Folders.{File}
 use Rattle.par2_spec.specs.Checksums.{crc32}
 use Rattle.par2_spec.specs.Recovery.{recovery}
-use Rattle.par2_spec.specs.Packets.{packet, accepted, accepted_after}
-use Rattle.par2_spec.specs.Volumes.{volumes, volume_name, index_packets, record_of}
-use Rattle.par2_spec.specs.Sets.{ParSet, read_set}
-use Rattle.par2_spec.specs.declared.Kind.{Kind}
-use Rattle.par2_spec.specs.declared.Kind.TheVariants.{Main, FileDesc, Ifsc, Recovery, Creator}
-use Rattle.par2_spec.specs.declared.Fault.{Fault}
-use Rattle.par2_spec.specs.declared.Fault.TheVariants.{NoPackets}
+use Rattle.par2_spec.specs.Packets.{packet, accepted_after}
+use Rattle.par2_spec.specs.Volumes.{volumes, index_packets, record_of}
+use Rattle.par2_spec.specs.Sets.{read_set}
 
 one_file : List File
 one_file = (codes "a", codes "abcdefgh") ∷ []

@@ -1,19 +1,9 @@
 -- Exponents that are close are kept, and a run of as many as slices are lost determines these.
-use Rattle.std.proofs.Common.{◌≡◌, ◌≢◌, ℕ, zero, suc, ◌+◌, ◌-◌, ◌^◌, ◌<◌, ◌≤◌, List, [], ◌∷◌, length, map, take, get_or, refl, sym, ap, ap₂, ◌∙◌, subst, cond, true, false, Bool, eqb, inl, inr, arith, bit_xor}
-use Rattle.std.specs.Prelude.{filter}
-use Rattle.std.specs.List.{AllByRecursion, Contains, range_with_len}
-use Rattle.std.specs.List.Sorted.{IsStrictlyIncreasing}
-use Rattle.std.proofs.lemmas.Bool.Decides.{Decides-eqb}
-use Rattle.std.proofs.lemmas.Bool.{cases_lt, eq-eqb, ne_eqb}
-use Rattle.std.proofs.lemmas.List.{length-map, get_or-map, get_or-take, get_or_default}
-use Rattle.std.proofs.lemmas.List.Elements.{Contains-get_or}
-use Rattle.std.proofs.lemmas.List.FromFn.{length-range_with_len, get_or-range_with_len}
-use Rattle.std.proofs.lemmas.List.Kept.{AllPairs-from_increasing}
-use Rattle.std.proofs.lemmas.Map.Made.{IsDistinct-from_AllPairs}
-use Rattle.par2_spec.specs.Field.{mul, pow, constant, coefficient}
-use Rattle.par2_spec.specs.Recovery.{dot, coefficients}
-use Rattle.par2_spec.specs.Rank.{kept, rank, smaller, is_independent, IsVector, Kills, IsKept, IsRepairable}
-use Rattle.par2_spec.specs.Polynomials.{value, AreElements, ArePoints, Interpolates}
+use Rattle.par2_spec.proofs.Common.{◌≡◌, ◌≢◌, ℕ, zero, suc, ◌+◌, ◌-◌, ◌^◌, ◌<◌, ◌≤◌, List, [], ◌∷◌, length, map, take, get_or, refl, sym, ap, ap₂, ◌∙◌, subst, cond, true, false, Bool, eqb, inl, inr, arith, filter, AllByRecursion, Contains, range_with_len, IsStrictlyIncreasing, Decides-eqb, cases_lt, eq-eqb, ne_eqb, length-map, get_or-map, get_or-take, get_or_default, Contains-get_or, length-range_with_len, get_or-range_with_len, AllPairs-from_increasing, IsDistinct-from_AllPairs, mul, constant, coefficients, kept, rank, smaller, is_independent, IsVector, Kills, IsKept, IsRepairable, AreElements, ArePoints, Interpolates}
+use Rattle.std.proofs.Common.{bit_xor}
+use Rattle.par2_spec.specs.Field.{pow, coefficient}
+use Rattle.par2_spec.specs.Recovery.{dot}
+use Rattle.par2_spec.specs.Polynomials.{value}
 use Rattle.par2_spec.specs.Runs.{AreSlices, AreClose, HasRun}
 use Rattle.par2_spec.proofs.FieldBits.{xor_middle}
 use Rattle.par2_spec.proofs.FieldProducts.{product_linear_left, product_linear_right, product_assoc, product_comm, product-one}

@@ -1,15 +1,6 @@
 -- What the matches of a set are.
-use Rattle.std.proofs.Common.{◌≡◌, ◌&&◌, ℕ, List, [], ◌∷◌, map, inl, inr, refl, sym, ap, ◌∙◌, subst, cond, true, false, Bool, not, ◌||◌, ◌++◌}
-use Rattle.std.specs.Prelude.{filter, filter_map, find, zip, Option, Some, None, option_to_list, is_some}
-use Rattle.std.specs.List.{cons_option}
-use Rattle.std.specs.Str.{bytes_eq}
-use Rattle.std.proofs.lemmas.Bool.{and_parts, or_cases, or_left, or_right, false_from_ne_true, false≢true}
-use Rattle.std.proofs.lemmas.Option.{same_Some}
-use Rattle.std.proofs.Math.Bool.{and-true, and-false, and_assoc}
-use Rattle.par2_spec.specs.Names.{is_among}
-use Rattle.par2_spec.specs.Folders.{Folder, bytes_of}
-use Rattle.par2_spec.specs.Sets.{ParSet, Target}
-use Rattle.par2_spec.specs.Search.{is_intact, matched, matches, needing, intact_names, AreFirstMatches}
+use Rattle.par2_spec.proofs.Common.{◌≡◌, ◌&&◌, ℕ, List, [], ◌∷◌, map, inl, inr, refl, sym, ap, ◌∙◌, subst, cond, true, false, Bool, not, ◌||◌, ◌++◌, filter, filter_map, find, zip, Option, Some, None, option_to_list, is_some, cons_option, bytes_eq, and_parts, or_cases, or_left, or_right, false_from_ne_true, false≢true, same_Some, and-true, and-false, and_assoc, is_among, Folder, bytes_of, ParSet, Target, is_intact, matched, needing, intact_names, AreFirstMatches}
+use Rattle.par2_spec.specs.Search.{matches}
 use Rattle.par2_spec.proofs.NamesLaws.{same_name, itself, clash, AreDistinct, among-filter, among-append}
 
 -- the targets with their matches, and the matches alone

@@ -1,19 +1,10 @@
 -- A session is a history, and a kept session keeps its room.
-use Rattle.std.proofs.Common.{◌≡◌, ℕ, zero, suc, ◌+◌, ◌-◌, ◌≤◌, List, [], ◌∷◌, refl, sym, ap, ◌∙◌, subst, true, arith}
-use Rattle.std.specs.Prelude.{Option, Some, None, Result, Ok, Err, drop, replicate, length, sum_by, is_ok}
-use Rattle.std.specs.List.{AllByRecursion}
-use Rattle.std.proofs.lemmas.Bool.{and_parts, and_from, false≢true}
-use Rattle.std.proofs.lemmas.List.Sums.{sum_by-cons}
-use Rattle.std.proofs.Math.Seq.{drop-nil}
-use Rattle.par2_spec.specs.declared.Fault.{Fault}
-use Rattle.par2_spec.specs.Folders.{Folder}
-use Rattle.par2_spec.specs.Changes.{Change, Write, Replace, Rename, Remove, state_after, effects, are_applicable, way_back, FolderState, takes_all, state_after_all, places_taken}
-use Rattle.par2_spec.specs.Commands.{Command, Create, Verify, Repair, Purge, Action, Do, Undo, Redo}
-use Rattle.par2_spec.specs.Refusals.{refusal, after}
-use Rattle.par2_spec.specs.Plans.{changes_of, LeadsToAfter, LeadsToAfterAsked}
-use Rattle.par2_spec.specs.History.{History, Refusal, Refused, NothingToUndo, NothingToRedo, in_front, after_command, unless_refused, after_undo, after_redo, history_after, Run, Ended, Accepted, Passed, folders, IsChanging}
-use Rattle.par2_spec.specs.Sessions.{Session, folders_along, history_of, first_entry, changes_unless, changes_asked, others, session_with, session_unless, session_after, KeptSession, session_of_kept, walks, CanWalk, OnlyGrew, kept_done, kept_undone, kept_redone}
-use Rattle.par2_spec.specs.Opening.{leads, is_valid}
+use Rattle.par2_spec.proofs.Common.{◌≡◌, ℕ, zero, suc, ◌+◌, ◌-◌, ◌≤◌, List, [], ◌∷◌, refl, sym, ap, ◌∙◌, subst, true, arith, Option, Some, None, Result, Ok, Err, replicate, sum_by, is_ok, AllByRecursion, and_parts, and_from, false≢true, sum_by-cons, drop-nil, Fault, Folder, Change, Write, Replace, Rename, Remove, state_after, effects, are_applicable, way_back, FolderState, takes_all, places_taken, Command, Create, Verify, Repair, Purge, Action, Do, Undo, Redo, refusal, after, changes_of, LeadsToAfter, LeadsToAfterAsked, History, Refusal, Refused, NothingToUndo, NothingToRedo, in_front, after_command, unless_refused, after_undo, after_redo, Run, Ended, Accepted, Passed, folders, IsChanging, Session, first_entry, changes_unless, others, session_unless, KeptSession, session_of_kept, CanWalk, OnlyGrew, is_valid}
+use Rattle.std.specs.Prelude.{drop, length}
+use Rattle.par2_spec.specs.Changes.{state_after_all}
+use Rattle.par2_spec.specs.History.{history_after}
+use Rattle.par2_spec.specs.Sessions.{folders_along, history_of, changes_asked, session_with, session_after, walks, kept_done, kept_undone, kept_redone}
+use Rattle.par2_spec.specs.Opening.{leads}
 use Rattle.par2_spec.proofs.FolderLaws.{undo_changes, undo_are_applicable, state_files, taken_are_applicable, state_all_back, way_back_taken, changes_back, with_room, more_room_all, takes_applicable}
 
 -- ---- what came out

@@ -1,22 +1,10 @@
 -- Whatever a stopped command left, it opens as the session from before it.
-use Rattle.std.proofs.Common.{◌≡◌, ℕ, zero, suc, ◌+◌, ◌-◌, ◌<◌, ◌≤◌, List, [], ◌∷◌, ◌++◌, length, map, take, drop, get_or, refl, sym, ap, ◌∙◌, subst, cond, true, false, Bool, not, ◌&&◌, inl, arith, length-append, length-drop}
-use Rattle.std.specs.Prelude.{IfSome, reverse, position, Option, Some, None, Result, Ok, Err, unwrap_or, is_some, if◌then◌else◌}
-use Rattle.std.specs.List.{AllByRecursion, position_from}
-use Rattle.std.specs.Str.{bytes_eq}
-use Rattle.std.proofs.Math.Seq.{drop-append_seam, take-append_seam}
-use Rattle.std.proofs.lemmas.List.{reverse-reverse, reverse-append, length-reverse, get_or-reverse, get_or-map, take-append-drop, length-map, length-take-le, append-nil, take-map, take-take, get_or-take, drop-drop}
-use Rattle.std.proofs.lemmas.Grind.{reverse_onto}
-use Rattle.std.proofs.lemmas.Bool.{and_parts, and_from, false≢true}
-use Rattle.std.proofs.lemmas.Iterator.Adapters.{position_from-zero}
+use Rattle.par2_spec.proofs.Common.{◌≡◌, ℕ, zero, suc, ◌+◌, ◌-◌, ◌<◌, ◌≤◌, List, [], ◌∷◌, ◌++◌, length, map, take, drop, get_or, refl, sym, ap, ◌∙◌, subst, cond, true, false, Bool, not, ◌&&◌, inl, arith, length-append, length-drop, IfSome, reverse, position, Option, Some, None, Result, Ok, Err, unwrap_or, is_some, if◌then◌else◌, AllByRecursion, position_from, bytes_eq, drop-append_seam, take-append_seam, reverse-reverse, reverse-append, length-reverse, get_or-reverse, get_or-map, take-append-drop, length-map, length-take-le, take-map, take-take, get_or-take, drop-drop, reverse_onto, and_parts, and_from, false≢true, position_from-zero, Version, One, Two, Folder, fingerprint, Change, effect, inverse, is_applicable, Session, Journal, HalfwayPart, IsHalfwayPart, IsJournal, Spells, session_of, is_valid, Opened, Settled, Halfway, opened_if_found, opened_by_part, TellsApart, session_of_opened, kept_in}
+use Rattle.std.proofs.lemmas.List.{append-nil}
 use Rattle.par2_spec.specs.declared.JournalFault.{JournalFault}
 use Rattle.par2_spec.specs.declared.JournalFault.TheVariants.{JournalInvalid, FolderChanged}
-use Rattle.par2_spec.specs.declared.Version.{Version}
-use Rattle.par2_spec.specs.declared.Version.TheVariants.{One, Two}
-use Rattle.par2_spec.specs.Folders.{Folder, fingerprint}
-use Rattle.par2_spec.specs.Changes.{Change, effect, effects, inverse, is_applicable, are_applicable, way_back, folders_after}
-use Rattle.par2_spec.specs.Sessions.{Session}
-use Rattle.par2_spec.specs.Journals.{Journal, HalfwayPart, IsHalfwayPart, IsJournal, Spells}
-use Rattle.par2_spec.specs.Opening.{settled_journal, halfway_journal, leads, session_of, is_valid, leads_through, Opened, Settled, Halfway, taken_back, opened_if_found, opened_by_part, opened, TellsApart, session_of_opened, OpensAs, Opens, kept_in}
+use Rattle.par2_spec.specs.Changes.{effects, are_applicable, way_back, folders_after}
+use Rattle.par2_spec.specs.Opening.{settled_journal, halfway_journal, leads, leads_through, taken_back, opened, OpensAs, Opens}
 use Rattle.par2_spec.proofs.FolderLaws.{undo_changes, undo_change, undo_is_applicable, effects-append, way_back-append}
 use Rattle.par2_spec.proofs.NamesLaws.{itself, same_name}
 use Rattle.par2_spec.proofs.ListsLaws.{all_get}

@@ -1,12 +1,5 @@
 -- What holds of tests, of results and of options.
-use Rattle.std.proofs.Common.{◌≡◌, refl, sym, ap, ◌∙◌, subst, T, true, false, Bool, ◌&&◌, ℕ, ◌+◌, List, [], ◌∷◌, cond, not}
-use Rattle.std.specs.Prelude.{Option, Some, None, is_some, is_none, unwrap_or, Result, Err, position, option_map}
-use Rattle.std.specs.Option.{option_or}
-use Rattle.std.specs.List.{AllByRecursion, position_from}
-use Rattle.std.proofs.lemmas.Bool.{false≢true}
-use Rattle.std.proofs.lemmas.Option.{none-some}
-use Rattle.std.proofs.lemmas.Iterator.Adapters.{position_from-zero}
-use Rattle.par2_spec.specs.Faults.{fault_where, first_fault, fault_at}
+use Rattle.par2_spec.proofs.Common.{◌≡◌, refl, sym, ap, ◌∙◌, subst, T, true, false, Bool, ◌&&◌, ℕ, ◌+◌, List, [], ◌∷◌, cond, not, Option, Some, None, is_some, is_none, unwrap_or, Result, Err, position, option_map, option_or, AllByRecursion, position_from, false≢true, none-some, position_from-zero, fault_where, first_fault, fault_at}
 
 -- ---- tests
 

@@ -1,13 +1,7 @@
 -- Trees of names, or of keys that stand for names.
-use Rattle.std.proofs.Common.{◌≡◌, ℕ, List, [], ◌∷◌, ◌++◌, refl, sym, ap₂, ◌∙◌, Bool, true, false, cond, ◌||◌}
+use Rattle.par2_spec.proofs.Common.{◌≡◌, ℕ, List, [], ◌∷◌, ◌++◌, refl, sym, ap₂, ◌∙◌, Bool, true, false, cond, ◌||◌, slice_cmp, nat_cmp, bytes_eq, Ordering, is_eq-slice_cmp, is_among}
 use Rattle.std.specs.BTreeSet.{BTreeSet, contains}
 use Rattle.std.specs.BTreeMap.{is_at}
-use Rattle.std.specs.Cmp.Lexicographic.{slice_cmp}
-use Rattle.std.specs.Ordering.{nat_cmp}
-use Rattle.std.specs.Str.{bytes_eq}
-use Rattle.std.specs.declared.cmp.Ordering.{Ordering}
-use Rattle.std.proofs.lemmas.Map.Text.{is_eq-slice_cmp}
-use Rattle.par2_spec.specs.Names.{is_among}
 use Rattle.par2_spec.proofs.NamesLaws.{among-append, same_either_way}
 
 -- the order of keys by their names

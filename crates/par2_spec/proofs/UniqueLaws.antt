@@ -1,22 +1,8 @@
 -- Where the lost slices are determined, one list alone agrees.
-use Rattle.std.proofs.Common.{◌≡◌, ℕ, zero, suc, ◌+◌, ◌/◌, ◌%◌, ◌^◌, ◌<◌, ◌≤◌, List, [], ◌∷◌, length, map, take, drop, get_or, refl, sym, ap, ◌∙◌, subst, cond, true, false, Bool, arith, inl, inr}
-use Rattle.std.specs.Prelude.{bit_xor, flat_map, filter, slice_index, ◌==◌, Option, Some, None, is_none}
-use Rattle.std.specs.Int.{w16, to_le_bytes, from_le_bytes}
-use Rattle.std.specs.Int.Bits.{xor_self}
-use Rattle.std.specs.List.{range_with_len, enumerate_from, list_any, AllByRecursion, AllZip, Contains}
-use Rattle.std.specs.Option.{ForSome}
+use Rattle.par2_spec.proofs.Common.{◌≡◌, ℕ, zero, suc, ◌+◌, ◌/◌, ◌%◌, ◌^◌, ◌<◌, ◌≤◌, List, [], ◌∷◌, length, map, take, drop, get_or, refl, sym, ap, ◌∙◌, subst, cond, true, false, Bool, arith, inl, inr, bit_xor, flat_map, filter, slice_index, ◌==◌, Option, Some, None, is_none, w16, to_le_bytes, from_le_bytes, xor_self, range_with_len, enumerate_from, list_any, AllByRecursion, AllZip, Contains, ForSome, xor_lt, from_le_bytes-to_le_bytes_2, length-map, or_left, or_right, eq-eqb, cases_eq, AllZip-long, mul, word, coefficients, kept, IsVector, Kills, IsRepairable, Agrees, kept_slices, IsRebuilt, AreElements, ParSet, lost, survivors}
 use Rattle.std.specs.FinMap as map_of
-use Rattle.std.proofs.lemmas.Nat.{xor_lt, from_le_bytes-to_le_bytes_2}
-use Rattle.std.proofs.lemmas.List.{length-map}
-use Rattle.std.proofs.lemmas.Bool.{or_left, or_right, eq-eqb, cases_eq}
-use Rattle.std.proofs.lemmas.Slice.Zip.{AllZip-long}
-use Rattle.par2_spec.specs.Field.{mul, coefficient}
-use Rattle.par2_spec.specs.Slices.{word}
-use Rattle.par2_spec.specs.Recovery.{dot, coefficients, combination, recovery}
-use Rattle.par2_spec.specs.Rank.{kept, IsVector, Kills, IsRepairable, Agrees, kept_slices, IsRebuilt}
-use Rattle.par2_spec.specs.Polynomials.{AreElements}
-use Rattle.par2_spec.specs.Sets.{ParSet}
-use Rattle.par2_spec.specs.Search.{lost, survivors}
+use Rattle.par2_spec.specs.Field.{coefficient}
+use Rattle.par2_spec.specs.Recovery.{dot, combination, recovery}
 use Rattle.par2_spec.proofs.FieldBits.{xor_middle}
 use Rattle.par2_spec.proofs.FieldProducts.{product_linear_right, product-lt}
 use Rattle.par2_spec.proofs.FieldOrder.{product-zero, power-lt}

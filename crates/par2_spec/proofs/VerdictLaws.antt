@@ -1,32 +1,15 @@
 -- The verdict on what a verify reports, by the words.
-use Rattle.std.proofs.Common.{Ordering, Less, Equal, Greater, ◌≡◌, ◌+◌, ℕ, List, [], ◌∷◌, T, length, map, refl, sym, ap, ◌∙◌, subst, Bool, true, false, not, cond, ◌&&◌}
-use Rattle.std.specs.Prelude.{◌↔◌, ◌==◌, nat_lt, Option, Some, None, Result, Ok, Err, filter, is_some, is_none, if◌then◌else◌}
-use Rattle.std.specs.Str.{bytes_eq}
-use Rattle.md5.specs.Md5.{md5}
-use Rattle.std.specs.Ordering.{nat_cmp, is_lt}
+use Rattle.par2_spec.proofs.Common.{◌≡◌, ◌+◌, ℕ, List, [], ◌∷◌, T, length, map, refl, sym, ap, ◌∙◌, subst, Bool, true, false, not, cond, ◌&&◌, ◌↔◌, ◌==◌, nat_lt, Option, Some, None, Result, Ok, Err, filter, is_some, is_none, if◌then◌else◌, bytes_eq, md5, nat_cmp, is_lt, entries_sorted, is_sorted, below_all, list_all, list_any, enumerate_from, AllByRecursion, IsStrictlyIncreasing, eqb-true, eq-eqb, false≢true, not-true, false_from_ne_true, IsStrictlyIncreasing-from_sorted, Fault, NotRepairable, NameTooLong, RepairFailed, first_fault, fault_where, then_fault, Folder, has, bytes_of, ParSet, Target, set_of, all_pairs, ◌>>=◌, found, is_needing, needing, matches, match_of, lost, survivors, candidates, is_repairable, IsRepairable, rank, aside, put_aside, rebuilt_targets, Repair, set_in, State, Report, is_complete, needing_state, found_of, verdict_of, IsFound, IsVerdict, IsVerdictIn, RefusedAsReported}
+use Rattle.std.proofs.Common.{Ordering, Less, Equal, Greater}
 use Rattle.std.specs.FinMap as map_of
-use Rattle.std.specs.FinMap.{entries_sorted}
-use Rattle.std.specs.FinMap.Entries.{is_sorted, below_all}
-use Rattle.std.specs.List.{list_all, list_any, enumerate_from, AllByRecursion}
-use Rattle.std.specs.List.Sorted.{IsStrictlyIncreasing, IsStrictlySortedBy}
-use Rattle.std.proofs.lemmas.Bool.{eqb-true, eq-eqb, false≢true, not-true, false_from_ne_true}
-use Rattle.std.proofs.lemmas.Map.Keys.{IsStrictlyIncreasing-from_sorted}
-use Rattle.par2_spec.specs.declared.Fault.{Fault}
-use Rattle.par2_spec.specs.declared.Fault.TheVariants.{NotRepairable, NameTooLong, RepairFailed}
+use Rattle.std.specs.List.Sorted.{IsStrictlySortedBy}
 use Rattle.par2_spec.specs.declared.Verdict.{Verdict}
 use Rattle.par2_spec.specs.declared.Verdict.TheVariants.{Complete, Repairable}
 use Rattle.par2_spec.specs.declared.Verdict.TheVariants as verdict
-use Rattle.par2_spec.specs.Faults.{first_fault, fault_where, then_fault}
-use Rattle.par2_spec.specs.Folders.{Folder, has, bytes_of}
-use Rattle.par2_spec.specs.Sets.{ParSet, Target, set_of, all_pairs, ◌>>=◌}
-use Rattle.par2_spec.specs.Windows.{found}
-use Rattle.par2_spec.specs.Search.{is_needing, needing, matches, match_of, known, lost, survivors, candidates}
-use Rattle.par2_spec.specs.Rank.{is_repairable, IsRepairable, rank}
-use Rattle.par2_spec.specs.Repairs.{aside, put_aside, rebuilt_targets}
-use Rattle.par2_spec.specs.Commands.{Repair}
-use Rattle.par2_spec.specs.Refusals.{set_in, refusal, repair_refusal}
+use Rattle.par2_spec.specs.Search.{known}
+use Rattle.par2_spec.specs.Refusals.{refusal, repair_refusal}
 use Rattle.par2_spec.specs.Reports as reports
-use Rattle.par2_spec.specs.Reports.{State, Report, is_complete, needing_state, state_of, report_of_target, report_of, report_in, found_of, verdict_of, IsFound, IsVerdict, IsVerdictIn, RefusedAsReported}
+use Rattle.par2_spec.specs.Reports.{state_of, report_of_target, report_of, report_in}
 use Rattle.par2_spec.proofs.TestLaws.{T-parts}
 use Rattle.par2_spec.proofs.RankLaws.{repairable-iff, none_kept}
 use Rattle.par2_spec.proofs.FullRank.{full-iff}

@@ -1,13 +1,8 @@
 -- Words of texts, texts by their words, and vectors of texts.
-use Rattle.std.proofs.Common.{ℕ, zero, suc, ◌+◌, ◌*◌, ◌/◌, ◌%◌, ◌^◌, ◌<◌, ◌≤◌, ◌≡◌, ◌↔◌, inl, inr, refl, sym, ap, ap₂, ◌∙◌, arith, List, [], ◌∷◌, length, get_or, set, map, Vec, Global, length-set}
-use Rattle.std.specs.Int.{w16, to_le_bytes}
-use Rattle.std.specs.List.{AllByRecursion, flat_map, range_with_len}
-use Rattle.std.specs.Prelude.{slice_index}
-use Rattle.std.proofs.lemmas.Bool.{cases_eq}
-use Rattle.std.proofs.lemmas.List.{map-set, get_or-set_same, get_or-set_other, length-map, get_or-map, get_or_past, ext_get_or}
-use Rattle.par2_spec.specs.Slices.{word}
-use Rattle.par2_spec.specs.Recovery.{dot, combination}
-use Rattle.par2_spec.specs.Sums.{list_at, lists_of, OneChanged}
+use Rattle.par2_spec.proofs.Common.{ℕ, zero, suc, ◌+◌, ◌*◌, ◌/◌, ◌%◌, ◌^◌, ◌<◌, ◌≤◌, ◌≡◌, inl, inr, refl, sym, ap, ap₂, ◌∙◌, arith, List, [], ◌∷◌, length, get_or, set, map, Vec, Global, length-set, w16, to_le_bytes, AllByRecursion, range_with_len, slice_index, cases_eq, map-set, get_or-set_same, get_or-set_other, length-map, get_or-map, get_or_past, ext_get_or, word, dot, list_at, lists_of, OneChanged}
+use Rattle.std.proofs.Common.{◌↔◌}
+use Rattle.std.specs.List.{flat_map}
+use Rattle.par2_spec.specs.Recovery.{combination}
 use Rattle.par2_spec.proofs.ListsLaws.{all_at}
 
 pub word_past : (xs : List ℕ) (w : ℕ) → length xs ≤ 2 * w → word w xs ≡ 0

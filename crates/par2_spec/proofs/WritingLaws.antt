@@ -1,11 +1,7 @@
 -- Texts that are written one after the other.
-use Rattle.std.proofs.Common.{◌≡◌, ◌∙◌, ◌++◌, map, ◌+◌, ◌-◌, ◌<◌, ℕ, suc, List, [], ◌∷◌, refl, take, drop, length, ap, sym, subst, append-nil, append_assoc, length-drop, length-append, Option, Result, Ok, Err, arith}
+use Rattle.par2_spec.proofs.Common.{◌≡◌, ◌∙◌, ◌++◌, map, ◌+◌, ◌-◌, ◌<◌, ℕ, suc, List, [], ◌∷◌, refl, take, drop, length, ap, sym, subst, append-nil, append_assoc, length-drop, length-append, arith, take-append_seam, take-append-add, drop-cons, take-append-drop, take-append-le, take_all, take_more, flat_map-append, flat_map-map}
+use Rattle.std.proofs.Common.{Option, Result, Ok, Err}
 use Rattle.std.specs.Io.KnownBytes.{Appends}
-use Rattle.std.proofs.Math.Seq.{take-append_seam, take-append-add}
-use Rattle.std.proofs.lemmas.List.{take-append-drop, take-append-le, take_all, take_more}
-use Rattle.std.proofs.lemmas.Grind.{flat_map-append}
-use Rattle.std.proofs.lemmas.List.Folds.{flat_map-map}
-use Rattle.std.proofs.Math.Seq.{drop-cons}
 use Rattle.std.proofs.Math.ListN.{get_or}
 use Rattle.std.proofs.KnownBytes.{Appends-trans, Appends-nil}
 use Rattle.std.specs.List.{flat_map}

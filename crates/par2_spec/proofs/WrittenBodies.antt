@@ -1,15 +1,8 @@
 -- Bodies that were written say what was given.
-use Rattle.std.proofs.Common.{◌≡◌, ℕ, suc, ◌-◌, ◌+◌, ◌*◌, ◌/◌, ◌%◌, ◌^◌, ◌<◌, true, leb, eqb, ◌&&◌, List, [], ◌∷◌, ◌++◌, length, take, drop, map, Option, Some, None, refl, sym, ap, ◌∙◌, append_assoc, arith}
-use Rattle.std.specs.Prelude.{flat_map}
-use Rattle.std.specs.Int.{w32, w64, to_le_bytes, from_le_bytes}
-use Rattle.std.specs.List.{AllByRecursion, range_with_len}
-use Rattle.std.proofs.lemmas.Bool.{le-leb, eq-eqb, and_from, cond-true}
-use Rattle.std.proofs.lemmas.List.{take_at, drop_at, length-append, append-nil}
-use Rattle.std.proofs.lemmas.Nat.{from_le_bytes-to_le_bytes_4, from_le_bytes-to_le_bytes_8}
-use Rattle.par2_spec.specs.declared.Kind.TheVariants.{Main, Ifsc, Recovery}
-use Rattle.par2_spec.specs.Checksums.{Pair, IsPair}
-use Rattle.par2_spec.specs.Packets.{bytes_at, u64_at, u32_at, items_at, MainBody, IfscBody, RecoveryBody, read_main, read_ifsc, read_recovery}
-use Rattle.par2_spec.specs.Volumes.{FileRecord, main_bytes, ifsc_bytes, pair_bytes, recovery_bytes}
+use Rattle.par2_spec.proofs.Common.{◌≡◌, ℕ, suc, ◌-◌, ◌+◌, ◌*◌, ◌/◌, ◌%◌, ◌^◌, ◌<◌, true, leb, eqb, ◌&&◌, List, [], ◌∷◌, ◌++◌, length, take, drop, map, refl, sym, ap, ◌∙◌, append_assoc, arith, flat_map, w32, w64, to_le_bytes, from_le_bytes, AllByRecursion, range_with_len, le-leb, eq-eqb, and_from, cond-true, take_at, drop_at, from_le_bytes-to_le_bytes_4, from_le_bytes-to_le_bytes_8, Main, Ifsc, Recovery, Pair, IsPair, bytes_at, items_at, MainBody, IfscBody, RecoveryBody, FileRecord, main_bytes, ifsc_bytes, pair_bytes, recovery_bytes}
+use Rattle.std.proofs.Common.{Option, Some, None}
+use Rattle.std.proofs.lemmas.List.{length-append, append-nil}
+use Rattle.par2_spec.specs.Packets.{u64_at, u32_at, read_main, read_ifsc, read_recovery}
 use Rattle.par2_spec.proofs.WrittenPackets.{part_at}
 
 -- ---- numbers at a place

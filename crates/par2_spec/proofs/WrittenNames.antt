@@ -1,13 +1,8 @@
 -- The body of a FileDesc that was written says what was given.
-use Rattle.std.proofs.Common.{◌≡◌, ℕ, zero, suc, ◌-◌, ◌+◌, ◌%◌, ◌^◌, ◌<◌, Bool, true, false, leb, eqb, cond, List, [], ◌∷◌, ◌++◌, length, drop, reverse, replicate, Option, Some, None, refl, sym, ap, ◌∙◌, append_assoc, arith}
-use Rattle.std.specs.Int.{w64, to_le_bytes}
-use Rattle.std.specs.List.{list_any, prefix_len, suffix_len}
-use Rattle.std.proofs.lemmas.Bool.{le-leb, or_parts, or_from, eq-eqb, cond-true}
-use Rattle.std.proofs.lemmas.List.{take_at, drop_at, length-append, length-replicate, reverse-append, replicate_more}
-use Rattle.std.proofs.lemmas.List.Folds.{list_any-append, prefix_len-append, prefix_len-replicate}
-use Rattle.par2_spec.specs.declared.Kind.TheVariants.{FileDesc}
-use Rattle.par2_spec.specs.Packets.{bytes_at, u64_at, without_end_zeros, DescBody, read_desc}
-use Rattle.par2_spec.specs.Volumes.{FileRecord, desc_bytes, padded_4}
+use Rattle.par2_spec.proofs.Common.{◌≡◌, ℕ, zero, suc, ◌-◌, ◌+◌, ◌%◌, ◌^◌, ◌<◌, Bool, true, false, leb, eqb, cond, List, [], ◌∷◌, ◌++◌, length, drop, refl, sym, ap, ◌∙◌, append_assoc, arith, w64, to_le_bytes, list_any, prefix_len, suffix_len, le-leb, or_parts, or_from, eq-eqb, cond-true, take_at, drop_at, length-replicate, reverse-append, replicate_more, list_any-append, prefix_len-append, prefix_len-replicate, FileDesc, bytes_at, u64_at, without_end_zeros, DescBody, FileRecord, desc_bytes, padded_4}
+use Rattle.std.proofs.Common.{reverse, replicate, Option, Some, None}
+use Rattle.std.proofs.lemmas.List.{length-append}
+use Rattle.par2_spec.specs.Packets.{read_desc}
 use Rattle.par2_spec.proofs.WrittenPackets.{part_at, len3}
 use Rattle.par2_spec.proofs.WrittenBodies.{u64_there}
 

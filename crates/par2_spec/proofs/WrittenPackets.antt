@@ -1,17 +1,7 @@
 -- Parts of a text that is put together, and the tests of a packet at its front.
-use Rattle.std.proofs.Common.{◌≡◌, ℕ, suc, ◌-◌, ◌+◌, ◌%◌, ◌^◌, ◌≤◌, ◌<◌, Bool, true, false, leb, eqb, ◌&&◌, List, [], ◌∷◌, ◌++◌, length, drop, refl, sym, ap, ◌∙◌, append_assoc, arith}
-use Rattle.std.specs.Prelude.{flat_map}
-use Rattle.std.specs.List.{AllByRecursion}
-use Rattle.std.specs.Int.{w64, to_le_bytes, from_le_bytes}
-use Rattle.std.specs.Str.{bytes_eq}
-use Rattle.std.proofs.lemmas.Bool.{le-leb, eq-eqb, lt-leb, leb-true, and_parts}
-use Rattle.std.proofs.lemmas.List.{take_at, drop_at, length-append}
-use Rattle.std.proofs.lemmas.Nat.{from_le_bytes-to_le_bytes_8}
-use Rattle.std.proofs.lemmas.Slice.Eq.{bytes_eq-Decides}
-use Rattle.md5.specs.Md5.{md5}
-use Rattle.md5.proofs.StandardFacts.{length-md5}
-use Rattle.par2_spec.specs.declared.Kind.{Kind}
-use Rattle.par2_spec.specs.Packets.{bytes_at, u64_at, magic, type_of, kind_of, Packet, digest_input, packet, claimed_length, begins_with_packet, first_packet, accepted, accepted_after, IsPacket}
+use Rattle.par2_spec.proofs.Common.{◌≡◌, ℕ, suc, ◌-◌, ◌+◌, ◌%◌, ◌^◌, ◌≤◌, ◌<◌, Bool, true, false, leb, eqb, ◌&&◌, List, [], ◌∷◌, ◌++◌, length, drop, refl, sym, ap, ◌∙◌, append_assoc, arith, flat_map, AllByRecursion, w64, to_le_bytes, from_le_bytes, bytes_eq, le-leb, eq-eqb, lt-leb, leb-true, and_parts, take_at, drop_at, from_le_bytes-to_le_bytes_8, bytes_eq-Decides, md5, length-md5, Kind, bytes_at, magic, type_of, kind_of, Packet, digest_input, claimed_length, accepted, IsPacket}
+use Rattle.std.proofs.lemmas.List.{length-append}
+use Rattle.par2_spec.specs.Packets.{u64_at, packet, begins_with_packet, first_packet, accepted_after}
 use Rattle.par2_spec.proofs.AcceptedLaws.{accepted-found, accepted-none}
 
 pub part_at : (front mid rest : List ℕ) (o n : ℕ) → length front ≡ o → length mid ≡ n → bytes_at o n (front ++ (mid ++ rest)) ≡ mid

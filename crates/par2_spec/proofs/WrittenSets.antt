@@ -1,17 +1,10 @@
 -- The packets of a set, as they are written, are read as they are.
-use Rattle.std.proofs.Common.{◌≡◌, ℕ, suc, ◌-◌, ◌+◌, ◌*◌, ◌/◌, ◌%◌, ◌^◌, ◌<◌, List, [], ◌∷◌, ◌++◌, length, map, replicate, refl, ap, ◌∙◌, arith}
-use Rattle.std.specs.Prelude.{flat_map}
-use Rattle.std.specs.Int.{w16, w32, w64, to_le_bytes}
-use Rattle.std.specs.List.{AllByRecursion, range_with_len}
-use Rattle.std.proofs.lemmas.List.{length-append, length-replicate}
-use Rattle.std.proofs.lemmas.List.FromFn.{length-range_with_len}
-use Rattle.md5.proofs.StandardFacts.{length-md5}
-use Rattle.par2_spec.specs.declared.Kind.{Kind}
-use Rattle.par2_spec.specs.declared.Kind.TheVariants.{Main, FileDesc, Ifsc, Recovery, Creator}
-use Rattle.par2_spec.specs.Packets.{Packet, packet, kind_of, accepted, IsCanonical, IsPacket}
-use Rattle.par2_spec.specs.Volumes.{IsFileRecord, FileRecord, padded_4, main_bytes, desc_bytes, pair_bytes, ifsc_bytes, recovery_bytes, creator_bytes, main_id, packet_of, index_packets, recovery_packets}
-use Rattle.par2_spec.specs.Recovery.{recovery, combination, dot, coefficients}
-use Rattle.par2_spec.specs.Slices.{word}
+use Rattle.par2_spec.proofs.Common.{◌≡◌, ℕ, suc, ◌-◌, ◌+◌, ◌*◌, ◌/◌, ◌%◌, ◌^◌, ◌<◌, List, [], ◌∷◌, ◌++◌, length, map, refl, ap, ◌∙◌, arith, flat_map, w16, w32, w64, to_le_bytes, AllByRecursion, range_with_len, length-replicate, length-range_with_len, length-md5, Kind, Main, FileDesc, Ifsc, Recovery, Creator, Packet, packet, accepted, IsCanonical, IsPacket, IsFileRecord, FileRecord, padded_4, main_bytes, desc_bytes, pair_bytes, ifsc_bytes, recovery_bytes, creator_bytes, main_id, packet_of, recovery_packets, dot, coefficients, word}
+use Rattle.std.proofs.Common.{replicate}
+use Rattle.std.proofs.lemmas.List.{length-append}
+use Rattle.par2_spec.specs.Packets.{kind_of}
+use Rattle.par2_spec.specs.Volumes.{index_packets}
+use Rattle.par2_spec.specs.Recovery.{recovery, combination}
 use Rattle.par2_spec.proofs.WrittenPackets.{packets_then}
 use Rattle.par2_spec.proofs.WrittenBodies.{length_items, pair_lengths}
 use Rattle.par2_spec.proofs.ListsLaws.{all-each, all-map, all-append}

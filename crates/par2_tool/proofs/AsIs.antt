@@ -1,23 +1,9 @@
 -- What a store is opened as for a command, and what comes of it.
-use Rattle.std.proofs.Common.{◌≡◌, inl, inr, ℕ, Bool, List, Some, None, Result, Ok, Err, refl, sym, ap, subst, ◌∙◌}
-use Rattle.std.specs.Prelude.{IfOk}
-use Rattle.par2_spec.specs.Commands.{Action, Command, Do, Undo, Redo, Create, Verify, Repair, Purge}
-use Rattle.par2_spec.specs.Folders.{Folder}
-use Rattle.par2_spec.specs.Opening.{Started, OpensAs, new_session}
-use Rattle.par2_spec.specs.Plans.{changes_of, LeadsToAfterAsked}
-use Rattle.par2_spec.specs.Refusals.{refusal}
-use Rattle.par2_spec.specs.Reports.{report_in}
-use Rattle.par2_spec.specs.Sessions.{Session, KeptSession, changes_asked, changes_unless, session_after, session_of_kept}
-use Rattle.par2_spec.specs.Stores.{Contents}
-use Rattle.par2_spec.specs.Texts.{Outcome, output_of}
-use Rattle.par2_tool.specs.Holding.{IsOpening, with_history}
-use Rattle.par2_tool.specs.Opening.{IsOpened, IsRead, StandsFor, started_of}
-use Rattle.par2_tool.specs.Performing.{IsAnswer, IsReport, IsVerify, IsWritten}
-use Rattle.par2_tool.specs.Refusals.{IsRefused, failure_for}
-use Rattle.par2_tool.specs.Telling.{IsBack, IsDone, IsFailed, SameOutput}
+use Rattle.par2_tool.proofs.Common.{◌≡◌, inl, inr, ℕ, Bool, List, Some, None, Result, Ok, Err, refl, sym, ap, subst, ◌∙◌, IfOk, Action, Command, Do, Undo, Redo, Create, Verify, Repair, Purge, Folder, Started, OpensAs, new_session, changes_of, LeadsToAfterAsked, refusal, report_in, Session, KeptSession, changes_unless, session_after, session_of_kept, Contents, Outcome, IsOpening, with_history, IsOpened, IsRead, StandsFor, started_of, IsAnswer, IsReport, IsVerify, IsWritten, IsRefused, failure_for, IsBack, IsDone, IsFailed, SameOutput, PerformFault, Store}
+use Rattle.par2_spec.specs.Sessions.{changes_asked}
+use Rattle.par2_spec.specs.Texts.{output_of}
 use Rattle.par2_tool.specs.declared.opening.Started as program
-use Rattle.par2_tool.specs.declared.performing.PerformFault.{PerformFault}
-use Rattle.par2_tool.specs.declared.performing.PerformFault.TheVariants.{Session as Refusing, Store}
+use Rattle.par2_tool.specs.declared.performing.PerformFault.TheVariants.{Session as Refusing}
 use Rattle.par2_tool.proofs.Outcomes.{perform_failed}
 use Rattle.par2_tool.proofs.Openings.{opens_new}
 use Rattle.par2_tool.proofs.VerifyRuns.{as_it_was, verify_leaves}

@@ -1,31 +1,11 @@
 -- How many writing calls are made of a store.
-use Rattle.std.proofs.Common.{◌≡◌, inl, inr, ℕ, ◌+◌, List, [], ◌∷◌, length, Option, Some, None, Result, Ok, Err, Vec, refl, sym, ap, subst, ◌∙◌, arith}
-use Rattle.std.specs.Prelude.{IfErr, OnOk}
-use Rattle.std.specs.declared.alloc.Global.{Global}
-use Rattle.par2_spec.specs.Changes.{Change}
-use Rattle.par2_spec.specs.Commands.{Action, Do, Undo, Redo, Create, Verify, Repair, Purge}
-use Rattle.par2_spec.specs.Folders.{Folder}
-use Rattle.par2_spec.specs.History.{Refusal}
-use Rattle.par2_spec.specs.Opening.{Opens, Halfway, Started, halfway_where, journals_of}
-use Rattle.par2_spec.specs.Sessions.{Session, KeptSession, changes_asked, session_of_kept}
-use Rattle.par2_spec.specs.Stores.{Contents}
-use Rattle.par2_spec.specs.Views.{action_of}
+use Rattle.par2_tool.proofs.Common.{◌≡◌, inl, inr, ℕ, ◌+◌, List, [], ◌∷◌, length, Option, Some, None, Result, Ok, Err, refl, sym, ap, subst, ◌∙◌, arith, IfErr, OnOk, Global, Change, Action, Do, Undo, Redo, Create, Verify, Repair, Purge, Folder, Refusal, Opens, Halfway, Started, halfway_where, Session, KeptSession, changes_asked, session_of_kept, Contents, action_of, Two, Ready, changes_by_kind, SpellsWhere, AreSpelled, Plan, NothingToUndo, NothingToRedo, Journals, AreAtMost, AreCallsToOpen, AreCallsToRun, CountsCalls, CountsFailedRun, CountsOpening, IsCalled, calls_asked, calls_before, calls_for, calls_to_write, calls_unless, IsOpening, IsRead, StandsFor, IsVerify, IsSession, failure_for, unopened_as, OpenFault, PerformFault, Store}
+use Rattle.std.proofs.Common.{Vec}
+use Rattle.par2_spec.specs.Opening.{journals_of}
 use Rattle.par2_spec.specs.declared.commands.Action as asking
 use Rattle.par2_spec.specs.declared.commands.Action.TheVariants as given
-use Rattle.par2_spec.specs.declared.Version.TheVariants.{Two}
-use Rattle.par2_journal.specs.Ready.{Ready, changes_by_kind}
-use Rattle.par2_journal.specs.Spelling.{SpellsWhere, AreSpelled}
-use Rattle.par2_journal.specs.declared.preparation.SessionFault.TheVariants.{Plan, NothingToUndo, NothingToRedo}
-use Rattle.par2_journal.specs.declared.spelling.Journals.{Journals}
-use Rattle.par2_tool.specs.Calls.{AreAtMost, AreCallsToOpen, AreCallsToRun, CountsCalls, CountsFailedRun, CountsOpening, IsCalled, calls_asked, calls_before, calls_for, calls_to_write, calls_unless}
-use Rattle.par2_tool.specs.Holding.{IsOpening}
-use Rattle.par2_tool.specs.Opening.{IsRead, StandsFor}
-use Rattle.par2_tool.specs.Performing.{IsVerify}
-use Rattle.par2_tool.specs.Refusals.{IsSession, failure_for, unopened_as}
-use Rattle.par2_tool.specs.declared.opening.OpenFault.{OpenFault}
 use Rattle.par2_tool.specs.declared.opening.OpenFault.TheVariants as unopened
-use Rattle.par2_tool.specs.declared.performing.PerformFault.{PerformFault}
-use Rattle.par2_tool.specs.declared.performing.PerformFault.TheVariants.{Session as Refusing, Store}
+use Rattle.par2_tool.specs.declared.performing.PerformFault.TheVariants.{Session as Refusing}
 use Rattle.par2_tool.proofs.Stops.{IsMadeReady, asked_of_mid}
 
 -- ---- an action

@@ -1,26 +1,11 @@
 -- Runs on one store keep one history.
-use Rattle.std.proofs.Common.{◌≡◌, inl, inr, List, Option, Some, None, Result, Ok, Err, Bool, true, false, refl, sym, ap, subst, ◌∙◌}
+use Rattle.par2_tool.proofs.Common.{◌≡◌, inl, inr, List, Option, Some, None, Result, Ok, Err, Bool, true, false, refl, sym, ap, subst, ◌∙◌, Action, Do, Undo, Redo, Create, Verify, Repair, Purge, Folder, Refusal, Refused, Run, history_after, Opened, Settled, Halfway, Started, opened, new_session, is_valid, started, Session, history_of, session_unless, changes_unless, changes_of, LeadsToAfterAsked, refusal, Fault, Contents, JournalFault, JournalInvalid, FolderChanged, Journal, Spells, accepted_next, refused_alike, same_ok, ok_no_err, taken_back_leads, IsOpened, IsWritten, IsOpening, IsSettled, Holds, with_history, IsRefusedFor}
 use Rattle.std.specs.Prelude.{ℕ, length}
-use Rattle.par2_spec.specs.Commands.{Action, Do, Undo, Redo, Create, Verify, Repair, Purge}
-use Rattle.par2_spec.specs.Folders.{Folder}
-use Rattle.par2_spec.specs.History.{Refusal, Refused, Run, history_after}
 use Rattle.par2_spec.specs.History as history
-use Rattle.par2_spec.specs.Opening.{Opened, Settled, Halfway, Started, OpensAs, Opens, opened, new_session, is_valid, leads, started}
-use Rattle.par2_spec.specs.Sessions.{Session, history_of, session_after, changes_asked, session_unless, changes_unless}
-use Rattle.par2_spec.specs.Plans.{changes_of, LeadsToAfterAsked}
-use Rattle.par2_spec.specs.Refusals.{refusal}
-use Rattle.par2_spec.specs.declared.Fault.{Fault}
-use Rattle.par2_spec.specs.Stores.{Contents}
-use Rattle.par2_spec.specs.declared.JournalFault.{JournalFault}
-use Rattle.par2_spec.specs.declared.JournalFault.TheVariants.{JournalInvalid, FolderChanged, Memory}
-use Rattle.par2_spec.specs.Journals.{Journal, Spells}
-use Rattle.par2_spec.proofs.SessionLaws.{accepted_next, refused_alike, same_ok, ok_no_err}
-use Rattle.par2_spec.proofs.StopLaws.{taken_back_leads}
-use Rattle.par2_tool.specs.Opening.{IsOpened}
-use Rattle.par2_tool.specs.Performing.{IsWritten}
-use Rattle.par2_tool.specs.Holding.{IsOpening, IsSettled, Holds, with_history}
+use Rattle.par2_spec.specs.Opening.{OpensAs, Opens, leads}
+use Rattle.par2_spec.specs.Sessions.{session_after, changes_asked}
+use Rattle.par2_spec.specs.declared.JournalFault.TheVariants.{Memory}
 use Rattle.par2_tool.specs.Runs.{HasNoEffect, Runs, Ended, Effective, Passed, TakesEffect}
-use Rattle.par2_tool.specs.Telling.{IsRefusedFor}
 use Rattle.par2_tool.proofs.Openings.{settled_on, halfway_by}
 
 -- ---- a store opens in one way

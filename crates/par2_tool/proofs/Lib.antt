@@ -1,3 +1,4 @@
+mod Common
 mod MadeChanges
 mod VerifyRuns
 mod Openings

@@ -1,16 +1,7 @@
 -- Changes that were made one after the other in a store.
-use Rattle.std.proofs.Common.{◌≡◌, ◌<◌, ◌+◌, ℕ, zero, suc, List, [], ◌∷◌, ◌++◌, length, map, get_or, take, IsTrue, refl, sym, ap, subst, ◌∙◌, arith}
-use Rattle.std.proofs.lemmas.List.{map_more}
-use Rattle.std.proofs.lemmas.Bool.{and_parts}
+use Rattle.par2_tool.proofs.Common.{◌≡◌, ◌<◌, ◌+◌, ℕ, zero, suc, List, [], ◌∷◌, ◌++◌, length, map, get_or, take, IsTrue, refl, sym, ap, subst, ◌∙◌, arith, map_more, and_parts, Contents, with_change, change_of, Folder, KeptSession, OnlyGrew, session_of_kept, new_session, Kind, Changing, Undoing, Redoing, changes_by_kind, next_of, with_all_changes}
 use Rattle.par2_spec.specs.Changes as defined
-use Rattle.par2_spec.specs.Stores.{Contents, with_change}
 use Rattle.par2_folder.specs.declared.change.Change.{Change}
-use Rattle.par2_folder.specs.Views.{change_of}
-use Rattle.par2_spec.specs.Folders.{Folder}
-use Rattle.par2_spec.specs.Sessions.{KeptSession, OnlyGrew, session_of_kept}
-use Rattle.par2_spec.specs.Opening.{new_session}
-use Rattle.par2_journal.specs.Ready.{Kind, Changing, Undoing, Redoing, changes_by_kind, next_of}
-use Rattle.par2_tool.specs.Performing.{with_all_changes}
 
 changed_more : (k : Contents) (cs : List defined.Change) (c : defined.Change) → with_all_changes k (cs ++ c ∷ []) ≡ with_change (with_all_changes k cs) c
 changed_more k [] c = refl

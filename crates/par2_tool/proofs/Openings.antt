@@ -1,22 +1,8 @@
 -- What a store opens as, and what a stop leaves of it.
-use Rattle.std.proofs.Common.{◌≡◌, ◌⊎◌, inl, inr, ℕ, Bool, true, false, not, ◌&&◌, IsTrue, List, ◌∷◌, length, take, drop, ◌-◌, Option, Some, None, Result, Ok, Err, refl, sym, ap, subst, ◌∙◌, arith}
-use Rattle.std.specs.Prelude.{reverse, position, option_map, OnErr, Vec, if◌then◌else◌}
+use Rattle.par2_tool.proofs.Common.{◌≡◌, ◌⊎◌, inl, inr, ℕ, Bool, true, false, not, ◌&&◌, IsTrue, List, ◌∷◌, length, take, drop, ◌-◌, Option, Some, None, Result, Ok, Err, refl, sym, ap, subst, ◌∙◌, arith, reverse, position, option_map, OnErr, Vec, if◌then◌else◌, Global, Folder, fingerprint, Change, are_applicable, effects, Session, Journal, HalfwayPart, Spells, Opened, Settled, Halfway, Started, is_valid, leads_through, new_session, opened_if_found, opened_by_part, session_of, settled_journal, started, TellsApart, Contents, with_journal, JournalFault, JournalInvalid, FolderChanged, Two, settled_stored, still_stored, taken_back_leads, Holds, IsOpening, OpensAsBefore, TellsApartBack, with_history, IsOpened, IsRead, IsStillHalfway, IsTakenBack, TakesBack, IsStoppedAt}
 use Rattle.std.specs.Str.{bytes_eq}
-use Rattle.std.specs.declared.alloc.Global.{Global}
-use Rattle.par2_spec.specs.Folders.{Folder, fingerprint}
-use Rattle.par2_spec.specs.Changes.{Change, are_applicable, effects}
-use Rattle.par2_spec.specs.Sessions.{Session}
-use Rattle.par2_spec.specs.Journals.{Journal, HalfwayPart, Spells}
-use Rattle.par2_spec.specs.Opening.{Opened, Settled, Halfway, Started, Opens, OpensAs, is_valid, leads_through, new_session, opened, opened_if_found, opened_by_part, session_of, settled_journal, started, taken_back, TellsApart}
-use Rattle.par2_spec.specs.Stores.{Contents, with_journal}
-use Rattle.par2_spec.specs.declared.JournalFault.{JournalFault}
+use Rattle.par2_spec.specs.Opening.{Opens, OpensAs, opened, taken_back}
 use Rattle.par2_spec.specs.declared.JournalFault.TheVariants as fault
-use Rattle.par2_spec.specs.declared.JournalFault.TheVariants.{JournalInvalid, FolderChanged}
-use Rattle.par2_spec.specs.declared.Version.TheVariants.{Two}
-use Rattle.par2_spec.proofs.StopLaws.{settled_stored, still_stored, taken_back_leads}
-use Rattle.par2_tool.specs.Holding.{Holds, IsOpening, OpensAsBefore, TellsApartBack, with_history}
-use Rattle.par2_tool.specs.Opening.{IsOpened, IsRead, IsStillHalfway, IsTakenBack, TakesBack}
-use Rattle.par2_tool.specs.Performing.{IsStoppedAt}
 use Rattle.par2_tool.proofs.MadeChanges.{all_changed_is}
 
 -- ---- what a folder opens as

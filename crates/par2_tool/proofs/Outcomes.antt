@@ -1,26 +1,10 @@
 -- What comes of an action on a store that was opened.
-use Rattle.std.proofs.Common.{◌≡◌, inl, inr, ℕ, List, Option, Some, None, Result, Ok, Err, Bool, true, false, refl, sym, ap, subst, ◌∙◌, arith}
-use Rattle.std.proofs.lemmas.Bool.{false≢true}
-use Rattle.par2_spec.specs.Changes.{Change}
-use Rattle.par2_spec.specs.Commands.{Action, Do, Undo, Redo}
+use Rattle.par2_tool.proofs.Common.{◌≡◌, inl, inr, ℕ, List, Option, Some, None, Result, Ok, Err, Bool, true, false, refl, sym, ap, subst, ◌∙◌, arith, false≢true, Change, Action, Do, Undo, Redo, Started, Session, KeptSession, session_of_kept, changes_unless, refusal, Contents, Fault, Memory, Plan, NothingToUndo, NothingToRedo, TellsApartAlong, TellsApartBack, OpensAsBefore, OpensAsBeforeOrAfter, IsOpened, IsUnopened, StandsFor, IsVerify, IsRefused, IsSession, failure_for, unopened_as, IsBack, IsCause, IsFailed, IsAtTheEnd, IsStopped, OpensAsBeforeOrAfterRun, OpenFault, PerformFault, Store}
 use Rattle.par2_spec.specs.History as history
-use Rattle.par2_spec.specs.Opening.{Started}
-use Rattle.par2_spec.specs.Sessions.{Session, KeptSession, session_of_kept, changes_asked, changes_unless}
-use Rattle.par2_spec.specs.Refusals.{refusal}
-use Rattle.par2_spec.specs.Stores.{Contents}
-use Rattle.par2_spec.specs.declared.Fault.{Fault}
-use Rattle.par2_spec.specs.declared.Fault.TheVariants.{Memory}
+use Rattle.par2_spec.specs.Sessions.{changes_asked}
 use Rattle.par2_journal.specs.declared.preparation.SessionFault.{SessionFault}
-use Rattle.par2_journal.specs.declared.preparation.SessionFault.TheVariants.{Plan, NothingToUndo, NothingToRedo}
-use Rattle.par2_tool.specs.Holding.{TellsApartAlong, TellsApartBack, OpensAsBefore, OpensAsBeforeOrAfter}
-use Rattle.par2_tool.specs.Opening.{IsOpened, IsUnopened, StandsFor}
-use Rattle.par2_tool.specs.Performing.{IsVerify}
-use Rattle.par2_tool.specs.Refusals.{IsRefused, IsSession, failure_for, unopened_as}
-use Rattle.par2_tool.specs.Telling.{IsBack, IsCause, IsFailed, IsAtTheEnd, IsStopped, OpensAsBeforeOrAfterRun}
-use Rattle.par2_tool.specs.declared.opening.OpenFault.{OpenFault}
 use Rattle.par2_tool.specs.declared.opening.OpenFault.TheVariants as unopened
-use Rattle.par2_tool.specs.declared.performing.PerformFault.{PerformFault}
-use Rattle.par2_tool.specs.declared.performing.PerformFault.TheVariants.{Session as Refusing, Store}
+use Rattle.par2_tool.specs.declared.performing.PerformFault.TheVariants.{Session as Refusing}
 
 -- ---- only an undo or redo has nothing to go back to
 

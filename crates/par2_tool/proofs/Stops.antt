@@ -1,25 +1,10 @@
 -- A command that is stopped anywhere leaves a store that opens as before it or after it.
-use Rattle.std.proofs.Common.{◌≡◌, ◌≢◌, ◌⊎◌, inl, inr, ℕ, ◌≤◌, List, [], ◌∷◌, length, take, Option, Some, None, Result, Ok, Err, Vec, true, IsTrue, refl, sym, ap, subst, ◌∙◌, arith}
-use Rattle.std.specs.Prelude.{IfOk}
-use Rattle.std.specs.declared.alloc.Global.{Global}
-use Rattle.std.proofs.lemmas.List.{take_all}
-use Rattle.par2_spec.specs.Changes.{Change, are_applicable, effects, takes_all}
-use Rattle.par2_spec.specs.Commands.{Action}
-use Rattle.par2_spec.specs.Folders.{Folder}
-use Rattle.par2_spec.specs.Journals.{Spells}
-use Rattle.par2_spec.specs.Plans.{LeadsToAfterAsked}
-use Rattle.par2_spec.specs.Opening.{OpensAs, TellsApart, halfway_where, journals_of, settled_journal}
-use Rattle.par2_spec.specs.Sessions.{Session, KeptSession, CanWalk, OnlyGrew, session_of_kept, session_with, changes_asked, kept_done, kept_undone, kept_redone}
-use Rattle.par2_spec.specs.Stores.{Contents, with_journal}
-use Rattle.par2_spec.specs.declared.Version.TheVariants.{Two}
+use Rattle.par2_tool.proofs.Common.{◌≡◌, ◌≢◌, ◌⊎◌, inl, inr, ℕ, ◌≤◌, List, [], ◌∷◌, length, take, Option, Some, None, Result, Ok, Err, true, IsTrue, refl, sym, ap, subst, ◌∙◌, arith, IfOk, Global, take_all, Change, are_applicable, takes_all, Action, Folder, Spells, LeadsToAfterAsked, OpensAs, TellsApart, halfway_where, settled_journal, Session, KeptSession, CanWalk, OnlyGrew, session_of_kept, session_with, changes_asked, Contents, with_journal, Two, done_can_walk, undone_can_walk, redone_can_walk, grown_can_walk, walked_is_valid, same_session, settled_stored, halfway_stored, Kind, Changing, Undoing, Redoing, Ready, CanBe, IsReady, changes_by_kind, after_commit, next_of, SpellsWhere, AreSpelled, Journals, with_all_changes, with_halfway, after_write_down, IsStoppedAt, IsOpening, Holds, HasJournalOf, with_history, TellsApartAlong, OpensAsBeforeOrAfter}
+use Rattle.std.proofs.Common.{Vec}
+use Rattle.par2_spec.specs.Changes.{effects}
+use Rattle.par2_spec.specs.Opening.{journals_of}
+use Rattle.par2_spec.specs.Sessions.{kept_done, kept_undone, kept_redone}
 use Rattle.par2_spec.proofs.FolderLaws.{state_files, taken_are_applicable}
-use Rattle.par2_spec.proofs.SessionLaws.{done_can_walk, undone_can_walk, redone_can_walk, grown_can_walk, walked_is_valid, same_session}
-use Rattle.par2_spec.proofs.StopLaws.{settled_stored, halfway_stored}
-use Rattle.par2_journal.specs.Ready.{Kind, Changing, Undoing, Redoing, Ready, CanBe, IsReady, changes_by_kind, after_commit, next_of}
-use Rattle.par2_journal.specs.Spelling.{SpellsWhere, AreSpelled}
-use Rattle.par2_journal.specs.declared.spelling.Journals.{Journals}
-use Rattle.par2_tool.specs.Performing.{with_all_changes, with_halfway, after_write_down, IsStoppedAt}
-use Rattle.par2_tool.specs.Holding.{IsOpening, Holds, HasJournalOf, with_history, TellsApartAlong, OpensAsBeforeOrAfter}
 use Rattle.par2_tool.proofs.MadeChanges.{all_changed_is, same_changes}
 
 -- ---- the session afterwards

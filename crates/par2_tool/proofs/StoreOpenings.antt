@@ -1,12 +1,8 @@
 -- What opening does to a store that was only read, and to one that was read before.
-use Rattle.std.proofs.Common.{◌≡◌, inl, Result, refl, sym, subst, ◌∙◌}
+use Rattle.par2_tool.proofs.Common.{◌≡◌, inl, Result, refl, sym, subst, ◌∙◌, CountsOpening, OpensAsBefore, TellsApartBack, LeavesUnopened, OpenFault}
 use Rattle.par2_folder.specs.Stores.{OnlyReads}
 use Rattle.par2_folder.specs.declared.view.Store.{Ghosts as StoreOf}
-use Rattle.par2_tool.specs.Calls.{CountsOpening}
-use Rattle.par2_tool.specs.Holding.{OpensAsBefore, TellsApartBack}
-use Rattle.par2_tool.specs.Opening.{LeavesUnopened}
 use Rattle.par2_tool.specs.StoreOpenings.{Opens}
-use Rattle.par2_tool.specs.declared.opening.OpenFault.{OpenFault}
 use Rattle.par2_tool.proofs.Calls.{no_calls}
 
 module _ {S T : Type 0} (store : StoreOf S) where

@@ -1,16 +1,11 @@
 -- Words that aren't read.
-use Rattle.std.proofs.Common.{◌≡◌, inl, inr, Bool, List, true, false, refl, ap}
-use Rattle.std.proofs.lemmas.Bool.{false≢true}
-use Rattle.std.proofs.lemmas.Option.{option_and_then_some}
-use Rattle.std.specs.Prelude.{is_some}
+use Rattle.par2_tool.proofs.Common.{◌≡◌, inl, inr, Bool, List, true, false, refl, ap, false≢true, option_and_then_some, is_some, IsCommandLine, IsUnread}
 use Rattle.clap.specs.Words.{Text, takes, subcommand_of}
 use Rattle.par2_words.specs.Definition.{par2_app}
 use Rattle.par2_words.specs.Meanings.{meaning}
 use Rattle.par2_words.specs.Refusals.{unread_as}
 use Rattle.par2_words.specs.declared.read.WordsFault.{WordsFault}
 use Rattle.par2_words.specs.declared.read.WordsFault.TheVariants.{Arguments, Memory}
-use Rattle.par2_tool.specs.Asking.{IsCommandLine}
-use Rattle.par2_tool.specs.Telling.{IsUnread}
 
 is_memory : WordsFault → Bool
 is_memory Arguments = false

@@ -1,25 +1,13 @@
 -- What a verify answers and leaves, and what the other commands leave.
-use Rattle.std.proofs.Common.{◌≡◌, ◌⊎◌, inl, inr, ℕ, List, Some, None, Result, Ok, Err, refl, sym, ap, arith}
-use Rattle.std.proofs.lemmas.Bool.{false≢true}
-use Rattle.std.specs.Prelude.{is_ok}
-use Rattle.par2_spec.specs.Commands.{Do, Verify}
-use Rattle.par2_spec.specs.Folders.{Folder}
-use Rattle.par2_spec.specs.Stores.{Contents}
-use Rattle.par2_spec.specs.Views.{action_of}
+use Rattle.par2_tool.proofs.Common.{◌≡◌, ◌⊎◌, inl, inr, ℕ, List, Some, None, Result, Ok, Err, refl, sym, ap, arith, false≢true, is_ok, Do, Verify, Folder, Contents, action_of, changes_of, set_in, Report, Session, KeptSession, OnlyGrew, session_unless, changes_unless, Fault, Memory, MayRefuse, Plan, HoldsJournaled, IsWritten}
 use Rattle.par2_spec.specs.declared.commands.Action.{Action}
 use Rattle.par2_spec.specs.declared.commands.Action.TheVariants as given
-use Rattle.par2_spec.specs.Plans.{changes_of}
-use Rattle.par2_spec.specs.Refusals.{refusal, set_in}
-use Rattle.par2_spec.specs.Reports.{Report, report_in, report_of}
+use Rattle.par2_spec.specs.Refusals.{refusal}
+use Rattle.par2_spec.specs.Reports.{report_in, report_of}
 use Rattle.par2_spec.specs.Search.{candidates}
 use Rattle.par2_spec.specs.Sets.{ParSet, ◌>>=◌}
 use Rattle.par2_spec.specs.Faults.{fault_of}
-use Rattle.par2_spec.specs.Sessions.{Session, KeptSession, OnlyGrew, session_after, changes_asked, session_unless, changes_unless}
-use Rattle.par2_spec.specs.declared.Fault.{Fault}
-use Rattle.par2_spec.specs.declared.Fault.TheVariants.{Memory}
-use Rattle.par2_journal.specs.Refusals.{MayRefuse}
-use Rattle.par2_journal.specs.declared.preparation.SessionFault.TheVariants.{Plan}
-use Rattle.par2_tool.specs.Performing.{HoldsJournaled, IsWritten}
+use Rattle.par2_spec.specs.Sessions.{session_after, changes_asked}
 
 module _ (folder : Folder) (base : List ℕ) (extras : List (List ℕ)) where
   answer_of : Result ParSet Fault → Result Report Fault

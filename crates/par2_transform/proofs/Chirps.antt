@@ -1,14 +1,7 @@
 -- Chirps, and sums of products with them.
-use Rattle.std.proofs.Common.{ℕ, zero, suc, ◌+◌, ◌*◌, ◌^◌, ◌<◌, ◌≤◌, ◌≡◌, refl, sym, ap, ◌∙◌, arith, mul_comm, mul_assoc, mul-add, add_comm, mul-zero, add-zero}
-use Rattle.par2_spec.specs.Field.{mul, pow}
-use Rattle.par2_spec.specs.Sums.{field_sum, AreElements}
-use Rattle.par2_spec.proofs.FieldOrder.{power-lt, power-add, no_zero_divisor}
-use Rattle.par2_spec.proofs.FieldProducts.{product-lt, product_comm, product-one, product_assoc, product_linear_left}
-use Rattle.par2_spec.proofs.FieldSteps.{power_inverse}
-use Rattle.par2_spec.proofs.SumLaws.{field_sum_same, field_sum_scaled}
-use Rattle.par2_transform.specs.Subspaces.{point}
-use Rattle.par2_transform.specs.Evaluations.{value}
-use Rattle.par2_transform.specs.Chirps.{triangle, chirp, chirp_inverse, AreWeights}
+use Rattle.par2_transform.proofs.Common.{ℕ, zero, suc, ◌+◌, ◌*◌, ◌^◌, ◌<◌, ◌≤◌, ◌≡◌, refl, sym, ap, ◌∙◌, arith, mul_comm, mul_assoc, mul-add, add_comm, mul-zero, add-zero, mul, field_sum, AreElements, power-lt, power-add, no_zero_divisor, product-lt, product_comm, product-one, product_assoc, product_linear_left, power_inverse, field_sum_same, field_sum_scaled, point, value, AreWeights}
+use Rattle.par2_spec.specs.Field.{pow}
+use Rattle.par2_transform.specs.Chirps.{triangle, chirp, chirp_inverse}
 use Rattle.par2_transform.proofs.Subspaces.{point-lt}
 use Rattle.par2_transform.proofs.Sums.{field_sum_swap, field_sum_linear}
 

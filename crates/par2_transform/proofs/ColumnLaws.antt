@@ -1,11 +1,5 @@
 -- Columns of words, some at a time.
-use Rattle.std.proofs.Common.{ℕ, ◌+◌, ◌-◌, ◌*◌, ◌<◌, ◌≤◌, ◌≡◌, refl, ap, ◌∙◌, arith, bit_xor, List, length, min}
-use Rattle.par2_transform.specs.Adding.{within, AddsAt}
-use Rattle.par2_transform.specs.Blocks.{Outputs, AreBlocks}
-use Rattle.par2_transform.specs.Columns.{recovered}
-use Rattle.par2_transform.specs.Grids.{Grid}
-use Rattle.par2_transform.specs.Transforms.{Cut}
-use Rattle.par2_transform.specs.declared.outputs.Place.{Place}
+use Rattle.par2_transform.proofs.Common.{ℕ, ◌+◌, ◌-◌, ◌*◌, ◌<◌, ◌≤◌, ◌≡◌, refl, ap, ◌∙◌, arith, bit_xor, List, length, min, within, AddsAt, Outputs, AreBlocks, recovered, Grid, Cut, Place}
 use Rattle.par2_transform.proofs.AddingLaws.{adds_none, adds_more, adds_same, within-in, within-above, within_joined}
 
 -- the first n blocks of columns were added

@@ -1,9 +1,5 @@
 -- Powers of 2 are the same again after 65,535 of them, and so are chirps.
-use Rattle.std.proofs.Common.{ℕ, zero, suc, ◌+◌, ◌-◌, ◌*◌, ◌/◌, ◌%◌, ◌<◌, ◌≡◌, refl, sym, ap, ◌∙◌, arith, mul_comm, mul_assoc, mul-add}
-use Rattle.par2_spec.specs.Field.{mul, pow}
-use Rattle.par2_spec.proofs.FieldOrder.{power-lt, power-add, power-65535}
-use Rattle.par2_spec.proofs.FieldProducts.{product_comm, product-one}
-use Rattle.par2_spec.proofs.FieldSteps.{power-mul, one-power}
+use Rattle.par2_transform.proofs.Common.{ℕ, zero, suc, ◌+◌, ◌-◌, ◌*◌, ◌/◌, ◌%◌, ◌<◌, ◌≡◌, refl, sym, ap, ◌∙◌, arith, mul_comm, mul_assoc, mul-add, mul, pow, power-lt, power-add, power-65535, product_comm, product-one, power-mul, one-power}
 use Rattle.par2_transform.specs.Chirps.{triangle, chirp}
 use Rattle.par2_transform.proofs.Chirps.{chirp-lt, chirp_product}
 

@@ -1,17 +1,6 @@
 -- The division of a run of coefficients by the vanishing polynomial less a constant.
-use Rattle.std.proofs.Common.{ℕ, suc, ◌+◌, ◌-◌, ◌*◌, ◌^◌, ◌<◌, ◌≤◌, ◌≡◌, sym, ap, ap₂, ◌∙◌, subst, arith, bit_xor, refl, add_assoc}
-use Rattle.std.specs.Int.{bit_at}
-use Rattle.std.specs.Int.Bits.{xor_zero_l, xor_zero_r, xor_assoc, xor_self}
-use Rattle.std.proofs.lemmas.Nat.{xor_comm}
-use Rattle.par2_spec.specs.Field.{mul, pow}
-use Rattle.par2_spec.specs.Sums.{field_sum, AreElements}
-use Rattle.par2_spec.proofs.FieldBits.{bit_times_xor}
-use Rattle.par2_spec.proofs.FieldOrder.{power-lt, power-add}
-use Rattle.par2_spec.proofs.FieldProducts.{product-lt, product_comm, product_assoc, product_linear_left}
-use Rattle.par2_spec.proofs.SumLaws.{field_sum_same, field_sum_xor, field_sum_scaled, xor_off}
-use Rattle.par2_transform.specs.Subspaces.{vanishing, powers_in}
-use Rattle.par2_transform.specs.Evaluations.{value, from, IsSplit}
-use Rattle.par2_transform.specs.Steps.{OnElements, OneRun, RunAddedBy, RunAdded, spread_beyond, spread_within, IsSpreadAbove, IsSpreadBelow, IsDivided}
+use Rattle.par2_transform.proofs.Common.{ℕ, suc, ◌+◌, ◌-◌, ◌*◌, ◌^◌, ◌<◌, ◌≤◌, ◌≡◌, sym, ap, ap₂, ◌∙◌, subst, arith, bit_xor, refl, add_assoc, bit_at, xor_zero_l, xor_zero_r, xor_assoc, xor_self, xor_comm, mul, pow, AreElements, bit_times_xor, power-lt, power-add, product-lt, product_comm, product_assoc, product_linear_left, field_sum_same, field_sum_xor, field_sum_scaled, xor_off, vanishing, powers_in, value, from, IsSplit, OnElements, OneRun, RunAddedBy, RunAdded, spread_beyond, spread_within, IsSpreadAbove, IsSpreadBelow, IsDivided}
+use Rattle.par2_spec.specs.Sums.{field_sum}
 use Rattle.par2_transform.proofs.Subspaces.{leading_power, lower_powers}
 use Rattle.par2_transform.proofs.Sums.{field_sum_join, field_sum_linear, field_sum_bit_set, field_sum_bit_unset, bit_product}
 use Rattle.par2_transform.proofs.StepLaws.{power_below, double_power, same_outside, outside_then, run_fit, run_by_fit, IsOfFirst}

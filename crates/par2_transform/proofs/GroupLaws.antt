@@ -1,13 +1,5 @@
 -- Outputs, some at a time.
-use Rattle.std.proofs.Common.{inl, inr, ℕ, ◌+◌, ◌-◌, ◌*◌, ◌<◌, ◌≤◌, ◌≡◌, ◌≢◌, refl, sym, ap, ap₂, subst, ◌∙◌, arith, List, length, min, take, drop, bit_xor}
-use Rattle.std.proofs.lemmas.Bool.{cases_lt}
-use Rattle.std.proofs.lemmas.List.{get_or-take, get_or-drop, length-take-le, length-drop}
-use Rattle.std.specs.Int.Bits.{xor_zero_r}
-use Rattle.std.specs.Prelude.{slice_index}
-use Rattle.par2_spec.specs.Slices.{word}
-use Rattle.par2_spec.specs.Sums.{list_at}
-use Rattle.par2_transform.specs.Adding.{within, place_at, output_word, AddsAt, AreApart, HasByte, LieWithin}
-use Rattle.par2_transform.specs.declared.outputs.Place.{Place}
+use Rattle.par2_transform.proofs.Common.{inl, inr, ℕ, ◌+◌, ◌-◌, ◌*◌, ◌<◌, ◌≤◌, ◌≡◌, ◌≢◌, refl, sym, ap, ap₂, subst, ◌∙◌, arith, List, length, min, take, drop, bit_xor, cases_lt, get_or-take, get_or-drop, length-take-le, length-drop, xor_zero_r, slice_index, word, list_at, within, place_at, output_word, AddsAt, AreApart, HasByte, LieWithin, Place}
 use Rattle.par2_transform.proofs.AddingLaws.{adds_more, adds_same, within-in, within-below, within-above, within_joined, word_from}
 
 -- some of the places

@@ -1,3 +1,4 @@
+mod Common
 mod Sums
 mod Subspaces
 mod PowerSums

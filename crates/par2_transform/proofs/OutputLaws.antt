@@ -1,18 +1,6 @@
 -- From power sums in rows to what a block gives to its outputs.
-use Rattle.std.proofs.Common.{inl, inr, ℕ, ◌+◌, ◌-◌, ◌*◌, ◌^◌, ◌<◌, ◌≤◌, ◌≡◌, sym, ap, ap₂, subst, ◌∙◌, arith, List, length, bit_xor, min}
-use Rattle.std.proofs.lemmas.Bool.{cases_lt}
-use Rattle.par2_spec.specs.Field.{mul, pow}
-use Rattle.par2_spec.specs.Slices.{word}
-use Rattle.par2_spec.specs.Sums.{field_sum}
-use Rattle.par2_spec.proofs.SumLaws.{field_sum_same}
-use Rattle.par2_transform.specs.Adding.{within, AddsAt}
-use Rattle.par2_transform.specs.Blocks.{from_gathered}
-use Rattle.par2_transform.specs.Chirps.{chirp_inverse}
-use Rattle.par2_transform.specs.Grids.{Grid, column, EachColumn}
-use Rattle.par2_transform.specs.PowerSums.{member, power_sum, ArePowerSums}
-use Rattle.par2_transform.specs.Subspaces.{point}
-use Rattle.par2_transform.specs.Transforms.{Cut}
-use Rattle.par2_transform.specs.declared.outputs.Place.{Place}
+use Rattle.par2_transform.proofs.Common.{inl, inr, ℕ, ◌+◌, ◌-◌, ◌*◌, ◌^◌, ◌<◌, ◌≤◌, ◌≡◌, sym, ap, ap₂, subst, ◌∙◌, arith, List, length, bit_xor, min, cases_lt, mul, pow, word, field_sum, field_sum_same, within, AddsAt, from_gathered, chirp_inverse, Grid, column, EachColumn, member, ArePowerSums, point, Cut, Place}
+use Rattle.par2_transform.specs.PowerSums.{power_sum}
 use Rattle.par2_transform.proofs.AddingLaws.{adds_none, adds_more, adds_same, within-in, within-below, within-above, within_joined, within_same}
 
 -- the first coset's power sums are sums over the points

@@ -1,15 +1,10 @@
 -- Sums over slices as sums over the exponents of their constants.
-use Rattle.std.proofs.Common.{ℕ, zero, suc, ◌+◌, ◌-◌, ◌*◌, ◌<◌, ◌≤◌, ◌≡◌, refl, sym, ap, ap₂, subst, ◌∙◌, arith, bit_xor, Bool, true, false, cond, List, ◌∷◌, length, get_or, inl, inr, mul-zero, mul-add, add-mul, zero-mul, one-mul, add-zero}
-use Rattle.std.proofs.lemmas.Bool.{cases_lt, cases_eq, cases_Bool}
-use Rattle.std.specs.Int.Bits.{xor_zero_r}
-use Rattle.std.specs.Prelude.{filter}
+use Rattle.par2_transform.proofs.Common.{ℕ, zero, suc, ◌+◌, ◌-◌, ◌*◌, ◌<◌, ◌≤◌, ◌≡◌, refl, sym, ap, ap₂, subst, ◌∙◌, arith, bit_xor, Bool, true, false, cond, List, ◌∷◌, length, get_or, inl, inr, mul-zero, mul-add, add-mul, zero-mul, one-mul, add-zero, cases_lt, cases_eq, cases_Bool, xor_zero_r, filter, mul, is_spared, AreElements, product-zero, field_sum_xor, field_sum_none, AreFirst}
 use Rattle.std.specs.List.{range_with_len}
-use Rattle.par2_spec.specs.Field.{mul, is_spared, constant_powers}
-use Rattle.par2_spec.specs.Sums.{field_sum, AreElements}
+use Rattle.par2_spec.specs.Field.{constant_powers}
+use Rattle.par2_spec.specs.Sums.{field_sum}
 use Rattle.par2_spec.proofs.FieldConstants.{length-constant_powers}
-use Rattle.par2_spec.proofs.FieldOrder.{product-zero}
-use Rattle.par2_spec.proofs.SumLaws.{field_sum_xor, field_sum_none}
-use Rattle.par2_transform.specs.Chirps.{spared_below, word_at_power, AreFirst}
+use Rattle.par2_transform.specs.Chirps.{spared_below, word_at_power}
 use Rattle.par2_transform.proofs.Sums.{field_sum_join}
 
 -- ---- the exponents of constants

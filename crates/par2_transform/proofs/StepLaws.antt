@@ -1,20 +1,7 @@
 -- One column of values, through the loops of a level.
-use Rattle.std.proofs.Common.{ℕ, suc, ◌+◌, ◌-◌, ◌*◌, ◌%◌, ◌^◌, ◌<◌, ◌≤◌, ◌≡◌, inl, inr, ◌⊎◌, refl, sym, ap, ap₂, ◌∙◌, subst, arith, bit_xor, pow_pos, pow-suc, add_assoc, mul_assoc, add-mul, one-mul, mul-zero, mul-le-mul_right, List, length, get_or, set}
-use Rattle.std.specs.Int.{bit_at}
-use Rattle.std.specs.Int.Bits.{xor_zero_r, xor_assoc}
-use Rattle.std.proofs.Math.Nat.{pow-le-pow_right}
-use Rattle.std.proofs.lemmas.Bool.{cases_eq, cases_lt}
-use Rattle.std.proofs.lemmas.List.{get_or-set_same, get_or-set_other}
-use Rattle.std.proofs.lemmas.Nat.{pow-add, xor_lt}
-use Rattle.par2_spec.specs.Field.{mul}
-use Rattle.par2_spec.specs.Sums.{field_sum, AreElements}
-use Rattle.par2_spec.proofs.FieldBits.{bit_times_xor}
-use Rattle.par2_spec.proofs.SumLaws.{field_sum_same, field_sum_none, field_sum_xor, xor_off}
-use Rattle.par2_transform.specs.Adding.{within}
-use Rattle.par2_transform.specs.Subspaces.{powers_in}
-use Rattle.par2_transform.specs.PowerSums.{sum_ahead, IsMerged}
-use Rattle.par2_transform.specs.Evaluations.{from}
-use Rattle.par2_transform.specs.Steps.{IsOneAdded, SameOutside, OneRun, FirstRuns, RunAddedBy, RunAdded, AheadAdded, IsRaised, IsLowered}
+use Rattle.par2_transform.proofs.Common.{ℕ, suc, ◌+◌, ◌-◌, ◌*◌, ◌%◌, ◌^◌, ◌<◌, ◌≤◌, ◌≡◌, inl, inr, ◌⊎◌, refl, sym, ap, ap₂, ◌∙◌, subst, arith, bit_xor, pow_pos, pow-suc, add_assoc, mul_assoc, add-mul, one-mul, mul-zero, List, length, get_or, set, bit_at, xor_zero_r, xor_assoc, pow-le-pow_right, cases_eq, cases_lt, get_or-set_same, get_or-set_other, pow-add, xor_lt, mul, AreElements, bit_times_xor, field_sum_same, field_sum_none, field_sum_xor, xor_off, within, powers_in, sum_ahead, IsMerged, from, IsOneAdded, SameOutside, OneRun, FirstRuns, RunAddedBy, RunAdded, AheadAdded, IsRaised, IsLowered}
+use Rattle.std.proofs.Common.{mul-le-mul_right}
+use Rattle.par2_spec.specs.Sums.{field_sum}
 use Rattle.par2_transform.proofs.AddingLaws.{within-in, within-below, within-above, within_joined, within_same}
 use Rattle.par2_transform.proofs.Sums.{field_sum_bit_set, field_sum_bit_unset}
 

@@ -1,12 +1,6 @@
 -- Sums in the field, put together and exchanged.
-use Rattle.std.proofs.Common.{ℕ, zero, suc, ◌+◌, ◌*◌, ◌≡◌, refl, sym, ap, ◌∙◌, arith, bit_xor, add-zero, inl, inr, zero-mul, one-mul, mul-zero}
-use Rattle.std.specs.Int.{bit_at}
-use Rattle.std.specs.Int.Bits.{xor_assoc, xor_zero_r}
-use Rattle.par2_spec.specs.Field.{mul}
+use Rattle.par2_transform.proofs.Common.{ℕ, zero, suc, ◌+◌, ◌*◌, ◌≡◌, refl, sym, ap, ◌∙◌, arith, bit_xor, add-zero, inl, inr, zero-mul, one-mul, mul-zero, bit_at, xor_assoc, xor_zero_r, mul, IsLinear, linear-zero, bit_cases, bit_times_xor, product-zero, zero-product, field_sum_xor, field_sum_none}
 use Rattle.par2_spec.specs.Sums.{field_sum}
-use Rattle.par2_spec.proofs.FieldBits.{IsLinear, linear-zero, bit_cases, bit_times_xor}
-use Rattle.par2_spec.proofs.FieldOrder.{product-zero, zero-product}
-use Rattle.par2_spec.proofs.SumLaws.{field_sum_xor, field_sum_none}
 
 -- a sum in two parts
 pub field_sum_join : (m n : ℕ) (f : ℕ → ℕ) → field_sum (m + n) f ≡ bit_xor (field_sum m f) (field_sum n (λ i. f (m + i)))

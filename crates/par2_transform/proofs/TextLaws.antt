@@ -1,12 +1,7 @@
 -- What is added to texts, whole and in two parts.
-use Rattle.std.proofs.Common.{ℕ, ◌+◌, ◌-◌, ◌*◌, ◌/◌, ◌%◌, ◌<◌, ◌≤◌, ◌≡◌, inl, inr, sym, ap, ap₂, ◌∙◌, arith, List, ◌++◌, length, get_or, min, take, drop, bit_xor}
-use Rattle.std.specs.Int.Bits.{xor_zero_r}
-use Rattle.std.proofs.lemmas.Bool.{cases_lt}
-use Rattle.std.proofs.lemmas.List.{get_or_append_left, get_or-append_right, get_or_past, get_or-take, get_or-drop, length-append, length-take-le}
-use Rattle.par2_spec.specs.Slices.{word}
+use Rattle.par2_transform.proofs.Common.{ℕ, ◌+◌, ◌-◌, ◌*◌, ◌/◌, ◌%◌, ◌<◌, ◌≤◌, ◌≡◌, inl, inr, sym, ap, ap₂, ◌∙◌, arith, List, ◌++◌, length, get_or, min, take, drop, bit_xor, xor_zero_r, cases_lt, get_or_append_left, get_or-append_right, get_or_past, get_or-take, get_or-drop, length-take-le, word, within, AddsTo, AddsWords}
+use Rattle.std.proofs.lemmas.List.{length-append}
 use Rattle.par2_gf16.proofs.WordLaws.{word_xor}
-use Rattle.par2_transform.specs.Adding.{within, AddsTo}
-use Rattle.par2_transform.specs.Grids.{AddsWords}
 use Rattle.par2_transform.proofs.AddingLaws.{within-below, within-above, within_same, within_moved}
 
 -- ---- bytes added

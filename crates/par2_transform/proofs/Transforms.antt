@@ -1,14 +1,6 @@
 -- A sum over slices by classes, windows and the points of a subspace.
-use Rattle.std.proofs.Common.{ℕ, ◌+◌, ◌*◌, ◌^◌, ◌<◌, ◌≤◌, ◌≡◌, sym, ap, ◌∙◌, arith, get_or}
-use Rattle.par2_spec.specs.Field.{mul, pow, constant, coefficient, constant_powers}
-use Rattle.par2_spec.specs.Sums.{field_sum, AreElements}
-use Rattle.par2_spec.proofs.FieldProducts.{product-lt, product_linear_left}
-use Rattle.par2_spec.proofs.FieldSteps.{power-mul}
-use Rattle.par2_spec.proofs.SumLaws.{field_sum_same}
-use Rattle.par2_transform.specs.Subspaces.{point}
-use Rattle.par2_transform.specs.Chirps.{chirp, chirp_inverse, word_at_power, AreFirst}
-use Rattle.par2_transform.specs.Blocks.{class_sum_at}
-use Rattle.par2_transform.specs.Transforms.{Cut, Reaches, coefficient_of, window_value, gathered, HasWeights, class_part}
+use Rattle.par2_transform.proofs.Common.{ℕ, ◌+◌, ◌*◌, ◌^◌, ◌<◌, ◌≤◌, ◌≡◌, sym, ap, ◌∙◌, arith, get_or, mul, pow, constant_powers, field_sum, AreElements, product-lt, product_linear_left, power-mul, field_sum_same, point, chirp, chirp_inverse, word_at_power, AreFirst, class_sum_at, Cut, Reaches, coefficient_of, window_value, gathered, HasWeights, class_part}
+use Rattle.par2_spec.specs.Field.{constant, coefficient}
 use Rattle.par2_transform.proofs.Chirps.{chirp_inverse-lt, hankel_sum, class_sum}
 use Rattle.par2_transform.proofs.SparedSums.{word_at_power-lt, sum_over_powers, sum_by_class, sum_by_window}
 use Rattle.par2_transform.proofs.Sums.{field_sum_swap, field_sum_linear}

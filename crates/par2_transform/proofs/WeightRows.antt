@@ -1,11 +1,5 @@
 -- Weights of windows, one row after the other.
-use Rattle.std.proofs.Common.{inl, inr, ℕ, ◌+◌, ◌*◌, ◌^◌, ◌<◌, ◌≤◌, ◌≡◌, refl, sym, ap, subst, ◌∙◌, arith, List, [], ◌∷◌, ◌++◌, length, get_or, length-append}
-use Rattle.std.proofs.lemmas.Bool.{cases_lt}
-use Rattle.std.proofs.lemmas.List.{get_or_append_left, get_or_at, get_or_past}
-use Rattle.par2_spec.specs.Sums.{AreElements, list_at}
-use Rattle.par2_transform.specs.Blocks.{AreWeightRows, weight_at}
-use Rattle.par2_transform.specs.Chirps.{chirp, AreWeights}
-use Rattle.par2_transform.specs.Transforms.{Cut, HasWeights}
+use Rattle.par2_transform.proofs.Common.{inl, inr, ℕ, ◌+◌, ◌*◌, ◌^◌, ◌<◌, ◌≤◌, ◌≡◌, refl, sym, ap, subst, ◌∙◌, arith, List, [], ◌∷◌, ◌++◌, length, get_or, length-append, cases_lt, get_or_append_left, get_or_at, get_or_past, AreElements, list_at, AreWeightRows, weight_at, chirp, AreWeights, Cut, HasWeights}
 
 -- the first n windows have weights for exponent e
 pub record WindowsWeighed (cut : Cut) (e n : ℕ) (rows : List (List ℕ)) : Type 0 where

@@ -1,11 +1,5 @@
 -- Outputs that are a text each.
-use Rattle.std.proofs.Common.{inl, inr, ℕ, ◌+◌, ◌*◌, ◌<◌, ◌≤◌, ◌≡◌, refl, sym, ap, ap₂, subst, ◌∙◌, arith, bit_xor, List, [], ◌∷◌, ◌++◌, length, drop, length-append}
-use Rattle.std.proofs.lemmas.Bool.{cases_lt}
-use Rattle.std.proofs.lemmas.List.{get_or_append_left, get_or_at}
-use Rattle.par2_spec.specs.Slices.{word}
-use Rattle.par2_spec.specs.Sums.{list_at}
-use Rattle.par2_transform.specs.Adding.{place_at, output_word, AddsAt, AddsToEach, AreApart, AreWholeTexts, HaveWords, LieWithin}
-use Rattle.par2_transform.specs.declared.outputs.Place.{Place}
+use Rattle.par2_transform.proofs.Common.{inl, inr, ℕ, ◌+◌, ◌*◌, ◌<◌, ◌≤◌, ◌≡◌, refl, sym, ap, ap₂, subst, ◌∙◌, arith, bit_xor, List, [], ◌∷◌, ◌++◌, length, drop, length-append, cases_lt, get_or_append_left, get_or_at, word, list_at, place_at, output_word, AddsAt, AddsToEach, AreApart, AreWholeTexts, HaveWords, LieWithin, Place}
 
 pub no_text : AreWholeTexts 0 []
 no_text = record { count = refl; each = λ t h. absurd (omega arith) }

@@ -1,17 +1,6 @@
 -- From coefficients in rows to what the windows of a class give.
-use Rattle.std.proofs.Common.{inl, inr, ℕ, suc, ◌+◌, ◌-◌, ◌*◌, ◌^◌, ◌<◌, ◌≤◌, ◌≡◌, ◌≢◌, refl, sym, ap, ap₂, subst, ◌∙◌, arith, List, length, bit_xor}
-use Rattle.std.proofs.lemmas.Bool.{cases_lt, cases_eq}
-use Rattle.std.specs.Int.Bits.{xor_zero_l, xor_zero_r}
-use Rattle.par2_spec.specs.Field.{mul, pow}
+use Rattle.par2_transform.proofs.Common.{inl, inr, ℕ, suc, ◌+◌, ◌-◌, ◌*◌, ◌^◌, ◌<◌, ◌≤◌, ◌≡◌, ◌≢◌, refl, sym, ap, ap₂, subst, ◌∙◌, arith, List, length, bit_xor, cases_lt, cases_eq, xor_zero_l, xor_zero_r, mul, pow, zero-product, field_sum_same, field_sum_none, Outputs, Keeps, IsCleared, Gathers, GathersWindow, IsGathered, EachBlock, block_at, weight_at, AreCoefficients, AreWindowValues, HaveShape, AreBlocks, IsBlock, words_at, value, AreValues, Grid, column, IsAdded, EachColumn, point, Cut, coefficient_of, window_value}
 use Rattle.par2_spec.specs.Sums.{field_sum}
-use Rattle.par2_spec.proofs.FieldOrder.{zero-product}
-use Rattle.par2_spec.proofs.SumLaws.{field_sum_same, field_sum_none}
-use Rattle.par2_transform.specs.Blocks.{Outputs, Keeps, IsCleared, Gathers, GathersWindow, IsGathered, EachBlock, block_at, weight_at, AreCoefficients, AreWindowValues, HaveShape, AreBlocks, IsBlock}
-use Rattle.par2_transform.specs.Columns.{words_at}
-use Rattle.par2_transform.specs.Evaluations.{value, AreValues}
-use Rattle.par2_transform.specs.Grids.{Grid, column, IsAdded, EachColumn}
-use Rattle.par2_transform.specs.Subspaces.{point}
-use Rattle.par2_transform.specs.Transforms.{Cut, coefficient_of, window_value}
 use Rattle.par2_transform.proofs.Sums.{field_sum_join}
 
 -- ---- coefficients

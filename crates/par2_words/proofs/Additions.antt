@@ -1,9 +1,6 @@
 -- What a command has once an argument or a subcommand was added.
-use Rattle.std.proofs.Common.{◌≡◌, ◌∙◌, false, ◌||◌}
-use Rattle.clap.specs.Words.{App, Rule, AddsArg, AddsSubcommand, rule_of, with_rule, with_subcommand}
+use Rattle.par2_words.proofs.Common.{◌≡◌, ◌∙◌, false, ◌||◌, App, Rule, AddsArg, AddsSubcommand, rule_of, with_rule, with_subcommand, Command, IsApp}
 use Rattle.clap.specs.declared.builder.arg.Arg.{Arg}
-use Rattle.clap.specs.declared.builder.command.Command.{Command}
-use Rattle.par2_words.specs.Definition.{IsApp}
 
 pub with_argument : (old new : Command) (a : Arg) (app : App) (rule : Rule) → AddsArg old a new → IsApp old app → rule_of a ≡ rule → a.global ≡ false → IsApp new (with_rule app rule)
 with_argument old new a app rule adds is same local = (

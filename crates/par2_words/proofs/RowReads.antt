@@ -1,18 +1,11 @@
 -- What the getters read of matches, by the rows.
-use Rattle.std.proofs.Common.{◌≡◌, ◌∙◌, ◌^◌, ◌&&◌, ℕ, Bool, true, false, nat_lt, refl, ap, List, [], ◌∷◌, map, length, Option, Some, None, Result, Ok, Err, lt-ltb, ltb-true}
-use Rattle.std.specs.Prelude.{unwrap_or, option_map, codes}
-use Rattle.std.specs.List.{list_all}
-use Rattle.std.specs.Option.{option_map_or}
-use Rattle.std.specs.Borrow.{Bor}
+use Rattle.par2_words.proofs.Common.{◌≡◌, ◌∙◌, ◌^◌, ◌&&◌, ℕ, Bool, true, false, nat_lt, refl, ap, List, [], ◌∷◌, map, length, Option, Some, None, Result, Ok, Err, lt-ltb, ltb-true, unwrap_or, option_map, list_all, option_map_or, Bor, bytes_eq, AllDigits, ParsesUnsigned, digits_value, without_leading_plus, ReadsOne, Text, first_value, matched_of, one_text, raw_values, rows_of, flag_of, number, number_of, text_of, texts_of}
+use Rattle.std.specs.Prelude.{codes}
 use Rattle.std.specs.Char.{digit_value}
-use Rattle.std.specs.Str.{bytes_eq}
-use Rattle.std.specs.Str.Parse.{AllDigits, ParsesUnsigned, digits_value, without_leading_plus}
 use Rattle.std.proofs.lemmas.Bool.{and_parts}
-use Rattle.clap.specs.Words.{ReadsOne, Text, first_value, matched_of, one_text, raw_values, rows_of}
 use Rattle.clap.specs.ValueTests.{is_numeral}
 use Rattle.clap.specs.declared.parser.matches.Found.{Found}
 use Rattle.clap.proofs.WalkLemmas.{first_value-rows, one_text-rows, raw_values-rows}
-use Rattle.par2_words.specs.Meanings.{flag_of, number, number_of, text_of, texts_of}
 
 pub text_read : (f : Found) (id : Text) (o : Option (Bor Text)) (d : Bor Text) → option_map (λ s. s.now) o ≡ first_value f id
     → d.now ≡ [] → (unwrap_or o d).now ≡ text_of id (rows_of f)

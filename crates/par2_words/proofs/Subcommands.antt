@@ -1,24 +1,17 @@
 -- The subcommand that a parse met is one of the six.
-use Rattle.std.proofs.Common.{◌≡◌, ◌∙◌, Bool, cond, true, false, true≢false, refl, ap, sym, subst, List, [], Option, Some, None}
-use Rattle.std.specs.Prelude.{is_some, option_map, codes, unwrap_or, Box, find}
-use Rattle.std.specs.List.{list_all}
-use Rattle.std.specs.Str.{bytes_eq}
+use Rattle.par2_words.proofs.Common.{◌≡◌, ◌∙◌, Bool, cond, true, false, true≢false, refl, ap, sym, subst, List, [], Option, Some, None, is_some, option_map, unwrap_or, Box, find, list_all, bytes_eq, App, HasMatchesOf, Row, Shape, Text, app_of, built, fault_of, found_of, is_simple, is_simple_and_free, rows_of, subcommand_name_of, subcommand_of, subcommand_rows, subcommand_rows_of, argument_words, entered, label_of, names_of, rows_at, Command, Action, Undo, Redo, create_meaning, meaning, purge_meaning, repair_meaning, verify_meaning}
+use Rattle.std.specs.Prelude.{codes}
 use Rattle.std.specs.Box.{box_value}
 use Rattle.std.proofs.lemmas.Option.{none-some}
 use Rattle.std.proofs.lemmas.List.Elements.{recursion_from_All}
 use Rattle.std.proofs.lemmas.List.Sums.{AllPass-from_list_all}
-use Rattle.clap.specs.Words.{App, HasMatchesOf, Row, Shape, Text, app_of, built, fault_of, found_of, is_simple, is_simple_and_free, rows_of, subcommand_name_of, subcommand_of, subcommand_rows, subcommand_rows_of}
-use Rattle.clap.specs.Simple.{argument_words, entered, label_of, names_of, rows_at}
 use Rattle.clap.specs.Walk.{answers_to, stop_after}
-use Rattle.clap.specs.declared.builder.command.Command.{Command}
 use Rattle.clap.specs.declared.parser.matches.ArgMatches.{ArgMatches}
 use Rattle.clap.specs.declared.parser.matches.SubCommand.{SubCommand}
 use Rattle.clap.specs.declared.parser.matches.ArgMatches.TheViews.{out-ArgMatches, out-SubCommand}
 use Rattle.clap.proofs.OnLiterals.{clap_on_literals}
 use Rattle.par2_words.specs.Definition.{create_app, create_numbers_app, file_commands_app, par2_app, purge_app, repair_app, start_app, verify_app}
-use Rattle.par2_spec.specs.Commands.{Action, Undo, Redo}
 use Rattle.par2_spec.proofs.ListsLaws.{found_one}
-use Rattle.par2_words.specs.Meanings.{create_meaning, meaning, purge_meaning, repair_meaning, verify_meaning}
 
 simple : is_simple par2_app ≡ true
 unfolding clap_on_literals create_app create_numbers_app file_commands_app par2_app purge_app repair_app start_app verify_app

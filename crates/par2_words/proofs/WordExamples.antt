@@ -1,11 +1,8 @@
 -- Words that are written out, and what they ask for by clap's definition.
-use Rattle.std.proofs.Common.{◌≡◌, refl, true, false, codes, List, [], ◌∷◌, Some}
-use Rattle.clap.specs.Words.{Text, fault_of, takes}
+use Rattle.par2_words.proofs.Common.{◌≡◌, refl, true, false, codes, List, [], ◌∷◌, Some, Text, fault_of, takes, Do, Create, Repair, Undo, asked_by}
 use Rattle.clap.specs.declared.error.kind.ErrorKind.TheVariants as kind
 use Rattle.clap.proofs.OnLiterals.{clap_on_literals}
-use Rattle.par2_spec.specs.Commands.{Do, Create, Repair, Undo}
 use Rattle.par2_words.specs.Definition.{create_app, create_numbers_app, file_commands_app, par2_app, purge_app, repair_app, start_app, verify_app}
-use Rattle.par2_words.specs.Meanings.{asked_by}
 
 abbrev create_words : List Text
 create_words = codes "create" ∷ codes "-s4" ∷ codes "-c0" ∷ codes "t.par2" ∷ codes "a" ∷ []

@@ -1,8 +1,5 @@
 -- What tests of each element say of the lists that contracts name.
-use Rattle.std.proofs.Common.{ℕ, suc, ◌<◌, ◌≤◌, ◌≡◌, refl, ap, subst, arith, List, [], ◌∷◌, length, map}
-use Rattle.std.specs.Prelude.{All, IfSome, Option, Some, None}
-use Rattle.std.specs.Borrow.{Bor}
-use Rattle.std.specs.List.{AllByRecursion, AllAdjacentBelow}
+use Rattle.recovery_calls.proofs.Common.{ℕ, suc, ◌<◌, ◌≤◌, ◌≡◌, refl, ap, subst, arith, List, [], ◌∷◌, length, map, All, IfSome, Option, Some, None, Bor, AllByRecursion, AllAdjacentBelow}
 use Rattle.std.specs.List.Sorted.{IsStrictlyIncreasing}
 use Rattle.par2_spec.proofs.ListsLaws.{increasing}
 use Rattle.par2_recovery.specs.Survivors.{known_alone, recovered_of, exponents_of}

@@ -1,7 +1,5 @@
-use Rattle.std.proofs.Common.{refl, ◌≡◌, ◌+◌, ◌*◌, ◌/◌, ◌++◌, ℕ, List, [], ◌∷◌, ap, sym, arith, length, take, drop, length-drop, slice_index, ◌∙◌}
-use Rattle.std.proofs.lemmas.List.{length-take-le}
-use Rattle.md5.specs.Md5.{hash_after, padded_message, padding}
-use Rattle.par2_digests.specs.Tails.{tail_len, tail_of}
+use Rattle.par2_digests.proofs.Common.{refl, ◌≡◌, ◌+◌, ◌*◌, ◌/◌, ◌++◌, ℕ, List, [], ◌∷◌, ap, sym, arith, length, take, drop, length-drop, slice_index, ◌∙◌, length-take-le, padded_message, padding, tail_len, tail_of}
+use Rattle.md5.specs.Md5.{hash_after}
 use Rattle.par2_digests.proofs.LaneLaws.{each_lane}
 use Rattle.par2_digests.proofs.TailLaws.{all_blocks, last_blocks, whole_blocks}
 use Rattle.par2_digests.proofs.hash_values.Goals as goal

@@ -1,7 +1,4 @@
-use Rattle.std.proofs.Common.{◌≡◌, ◌<◌, ℕ, length, slice_index}
-use Rattle.md5.specs.Md5.{digest_bytes}
-use Rattle.par2_digests.specs.Digests.{digest_at}
-use Rattle.par2_digests.specs.Lanes.{lane}
+use Rattle.par2_digests.proofs.Common.{◌≡◌, ◌<◌, ℕ, length, slice_index, digest_bytes, digest_at, lane}
 use Rattle.par2_digests.proofs.window_digests.Given as goal
 
 abbrev pub invariant-loop-k : goal.invariant-loop-k

@@ -1,7 +1,4 @@
-use Rattle.std.proofs.Common.{◌≡◌, ◌-◌, ◌∙◌, ℕ, arith, drop, replicate, ap, subst}
-use Rattle.par2_spec.specs.Commands.{Undo}
-use Rattle.par2_spec.specs.History.{Run, Ended, folders}
-use Rattle.par2_spec.specs.Sessions.{session_of_kept, history_of}
+use Rattle.par2_sessions.proofs.Common.{◌≡◌, ◌-◌, ◌∙◌, ℕ, arith, drop, replicate, ap, subst, Undo, Run, Ended, folders, session_of_kept, history_of}
 use Rattle.par2_sessions.proofs.UndoRuns.{AreLaws, next_is_accepted}
 use Rattle.par2_sessions.proofs.play_and_take_back.Goals as goal
 

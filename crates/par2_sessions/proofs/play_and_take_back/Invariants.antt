@@ -1,7 +1,4 @@
-use Rattle.std.proofs.Common.{map}
-use Rattle.std.specs.List.{AllByRecursion}
-use Rattle.par2_spec.specs.History.{IsChanging}
-use Rattle.par2_spec.specs.Sessions.{session_of_kept, history_of}
+use Rattle.par2_sessions.proofs.Common.{map, AllByRecursion, IsChanging, session_of_kept, history_of}
 use Rattle.par2_spec.specs.Views.{action_of}
 use Rattle.par2_sessions.proofs.UndoRuns.{IsOnTheWay}
 use Rattle.par2_sessions.proofs.play_and_take_back.Given as goal

@@ -1,14 +1,9 @@
-use Rattle.std.proofs.Common.{◌≡◌, ◌∙◌, Some, map, string_bytes, OnOk, sym, ap, subst, inl, inr}
+use Rattle.par2_sessions.proofs.Common.{◌≡◌, ◌∙◌, Some, map, string_bytes, sym, ap, subst, inl, inr, AllByRecursion, Repair, Folder, AreFewFor, after, session_of_kept}
+use Rattle.std.proofs.Common.{OnOk}
 use Rattle.std.proofs.lemmas.Result.{on_ok_weaker, IfErr-weaker}
-use Rattle.std.specs.List.{AllByRecursion}
 use Rattle.std.specs.FinMap as map_of
-use Rattle.par2_spec.specs.Commands.{Repair}
-use Rattle.par2_spec.specs.Folders.{Folder}
-use Rattle.par2_spec.specs.Plans.{AreFewFor}
-use Rattle.par2_spec.specs.Refusals.{after}
 use Rattle.par2_spec.specs.Repairs.{HoldsRepaired}
 use Rattle.par2_spec.specs.Search.{candidates}
-use Rattle.par2_spec.specs.Sessions.{session_of_kept}
 use Rattle.par2_spec.specs.declared.Fault.TheVariants.{Memory, RepairFailed}
 use Rattle.par2_sessions.proofs.RepairAnswers.{IsRepaired, answered, told, stands_in_front, together}
 use Rattle.par2_sessions.proofs.repair.Goals as goal

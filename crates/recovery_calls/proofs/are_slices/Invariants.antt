@@ -1,4 +1,4 @@
-use Rattle.std.proofs.Common.{ℕ, ◌<◌, get_or}
+use Rattle.recovery_calls.proofs.Common.{ℕ, ◌<◌, get_or}
 use Rattle.recovery_calls.proofs.are_slices.Given as goal
 
 abbrev pub invariant-loop-i : goal.invariant-loop-i

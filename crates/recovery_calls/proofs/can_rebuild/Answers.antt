@@ -1,6 +1,4 @@
-use Rattle.std.proofs.Common.{◌≡◌, ◌<◌, ◌≤◌, length, subst, IsTrue, rules, arith}
-use Rattle.std.specs.Prelude.{All, IfSome}
-use Rattle.std.specs.List.{AllAdjacentBelow}
+use Rattle.recovery_calls.proofs.Common.{◌≡◌, ◌<◌, ◌≤◌, length, subst, IsTrue, rules, arith, All, IfSome, AllAdjacentBelow}
 use Rattle.recovery_calls.proofs.ElementTests.{known_fits, recovery_fits, exponents_rise}
 use Rattle.recovery_calls.proofs.can_rebuild.Goals as goal
 

@@ -1,5 +1,4 @@
-use Rattle.std.proofs.Common.{◌<◌}
-use Rattle.std.specs.List.{AllAdjacentBelow}
+use Rattle.recovery_calls.proofs.Common.{◌<◌, AllAdjacentBelow}
 use Rattle.recovery_calls.proofs.exponents_rise.Given as goal
 
 abbrev pub invariant-loop-i : goal.invariant-loop-i

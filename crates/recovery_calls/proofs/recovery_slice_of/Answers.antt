@@ -1,6 +1,4 @@
-use Rattle.std.proofs.Common.{◌≡◌, ℕ, List, length, map, ap, rules, arith}
-use Rattle.std.specs.Borrow.{Bor}
-use Rattle.std.proofs.lemmas.List.{length-map}
+use Rattle.recovery_calls.proofs.Common.{◌≡◌, ℕ, List, length, map, ap, rules, arith, Bor, length-map}
 use Rattle.par2_spec.specs.Slices.{padded}
 use Rattle.par2_recovery.specs.Views.{texts_of}
 use Rattle.recovery_calls.proofs.recovery_slice_of.Goals as goal

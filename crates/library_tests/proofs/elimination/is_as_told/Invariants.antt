@@ -1,4 +1,4 @@
-use Rattle.std.proofs.Common.{◌≡◌}
+use Rattle.library_tests.proofs.Common.{◌≡◌}
 use Rattle.library_tests.proofs.elimination.is_as_told.Given as goal
 
 abbrev pub invariant-loop-k : goal.invariant-loop-k

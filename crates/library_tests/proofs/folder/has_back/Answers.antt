@@ -1,4 +1,4 @@
-use Rattle.par2_folder.specs.Views.{change_of}
+use Rattle.library_tests.proofs.Common.{change_of}
 use Rattle.library_tests.proofs.ChangesBack.{back_taken}
 use Rattle.library_tests.proofs.folder.has_back.Goals as goal
 

@@ -1,7 +1,4 @@
-use Rattle.std.proofs.Common.{◌≡◌, [], ◌∷◌, IsTrue, None, sym, subst, ◌∙◌}
-use Rattle.par2_spec.specs.Changes.{takes_all, state_after, change_refusal, inverse}
-use Rattle.par2_spec.proofs.FolderLaws.{takes_both, inverse_taken, state_back}
-use Rattle.par2_folder.specs.Views.{change_of}
+use Rattle.library_tests.proofs.Common.{◌≡◌, [], ◌∷◌, IsTrue, None, sym, subst, ◌∙◌, takes_all, state_after, change_refusal, inverse, takes_both, inverse_taken, state_back, change_of}
 use Rattle.library_tests.proofs.ChangesBack.{back_taken}
 use Rattle.library_tests.proofs.folder.has_back_from_two.Goals as goal
 

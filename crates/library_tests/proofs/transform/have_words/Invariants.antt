@@ -1,4 +1,4 @@
-use Rattle.std.proofs.Common.{ℕ, ◌<◌, ◌≡◌, ◌*◌, length}
+use Rattle.library_tests.proofs.Common.{ℕ, ◌<◌, ◌≡◌, ◌*◌, length}
 use Rattle.par2_spec.specs.Sums.{list_at, lists_of}
 use Rattle.library_tests.proofs.transform.have_words.Given as goal
 

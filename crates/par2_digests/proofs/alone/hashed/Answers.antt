@@ -1,7 +1,5 @@
-use Rattle.std.proofs.Common.{◌≡◌, ◌/◌, ◌%◌, ◌*◌, ◌∙◌, ℕ, min, arith, ap, length, take, slice_index}
-use Rattle.std.proofs.lemmas.List.{take_all}
-use Rattle.par2_digests.specs.Feeds.{hash_behind, bytes_left}
-use Rattle.par2_digests.specs.Lanes.{lane}
+use Rattle.par2_digests.proofs.Common.{◌≡◌, ◌/◌, ◌%◌, ◌*◌, ◌∙◌, ℕ, min, arith, ap, length, take, slice_index, take_all, bytes_left, lane}
+use Rattle.par2_digests.specs.Feeds.{hash_behind}
 use Rattle.par2_digests.proofs.FeedLaws.{hash_more, same_rest, size_behind}
 use Rattle.par2_digests.proofs.alone.hashed.Goals as goal
 

@@ -1,6 +1,4 @@
-use Rattle.std.proofs.Common.{◌≡◌, ◌*◌, ◌/◌, ◌%◌, length, drop, slice_index}
-use Rattle.par2_digests.specs.Feeds.{hash_behind, bytes_left}
-use Rattle.par2_digests.specs.Lanes.{lane}
+use Rattle.par2_digests.proofs.Common.{◌≡◌, ◌*◌, ◌/◌, ◌%◌, length, drop, slice_index, hash_behind, bytes_left, lane}
 use Rattle.par2_digests.proofs.alone.hashed.Given as goal
 
 abbrev pub invariant-loop-feed : goal.invariant-loop-feed

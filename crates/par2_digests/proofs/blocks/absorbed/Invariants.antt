@@ -1,7 +1,4 @@
-use Rattle.std.proofs.Common.{◌≡◌, ◌<◌, ◌+◌, ◌*◌, ℕ, List, take, drop, slice_index}
-use Rattle.md5.specs.Md5.{hash_after}
-use Rattle.par2_digests.specs.Feeds.{hash_behind}
-use Rattle.par2_digests.specs.Lanes.{lane}
+use Rattle.par2_digests.proofs.Common.{◌≡◌, ◌<◌, ◌+◌, ◌*◌, ℕ, List, take, drop, slice_index, hash_after, hash_behind, lane}
 use Rattle.par2_digests.proofs.blocks.absorbed.Given as goal
 
 abbrev pub invariant-loop-block : goal.invariant-loop-block

@@ -1,6 +1,4 @@
-use Rattle.std.proofs.Common.{◌≡◌, ◌+◌, ap, arith, drop, refl, take, slice_index, ◌∙◌}
-use Rattle.md5.specs.Md5.{block_words}
-use Rattle.par2_digests.specs.Lanes.{lane}
+use Rattle.par2_digests.proofs.Common.{◌≡◌, ◌+◌, ap, arith, drop, refl, take, slice_index, ◌∙◌, block_words, lane}
 use Rattle.par2_digests.proofs.BlockLaws.{after_words}
 use Rattle.par2_digests.proofs.blocks.after_block.Goals as goal
 

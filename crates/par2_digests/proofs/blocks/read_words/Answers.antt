@@ -1,4 +1,4 @@
-use Rattle.std.proofs.Common.{slice_index}
+use Rattle.par2_digests.proofs.Common.{slice_index}
 use Rattle.par2_digests.proofs.BlockLaws.{words_of_quarters}
 use Rattle.par2_digests.proofs.blocks.read_words.Goals as goal
 

@@ -1,5 +1,4 @@
-use Rattle.std.proofs.Common.{◌≡◌, ◌++◌, ◌-◌, ◌*◌, ◌%◌, ◌^◌, ◌∷◌, ℕ, List, ap, arith, replicate, ◌∙◌}
-use Rattle.std.specs.Int.{w64, to_le_bytes}
+use Rattle.par2_digests.proofs.Common.{◌≡◌, ◌++◌, ◌-◌, ◌*◌, ◌%◌, ◌^◌, ◌∷◌, ℕ, List, ap, arith, replicate, ◌∙◌, w64, to_le_bytes}
 use Rattle.par2_digests.proofs.midstate.ending.Goals as goal
 
 pub returns : goal.returns

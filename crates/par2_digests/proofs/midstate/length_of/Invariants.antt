@@ -1,5 +1,4 @@
-use Rattle.std.proofs.Common.{◌≡◌, ◌%◌, ◌^◌, length, take}
-use Rattle.par2_digests.specs.Messages.{message_of}
+use Rattle.par2_digests.proofs.Common.{◌≡◌, ◌%◌, ◌^◌, length, take, message_of}
 use Rattle.par2_digests.proofs.midstate.length_of.Given as goal
 
 abbrev pub invariant-loop-part : goal.invariant-loop-part

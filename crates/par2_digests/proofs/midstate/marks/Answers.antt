@@ -1,4 +1,4 @@
-use Rattle.std.proofs.Common.{◌-◌, ◌%◌, arith}
+use Rattle.par2_digests.proofs.Common.{◌-◌, ◌%◌, arith}
 use Rattle.par2_digests.proofs.TailLaws.{marks_are}
 use Rattle.par2_digests.proofs.midstate.marks.Goals as goal
 

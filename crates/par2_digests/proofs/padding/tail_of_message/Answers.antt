@@ -1,4 +1,4 @@
-use Rattle.std.proofs.Common.{◌*◌, ◌∙◌, arith}
+use Rattle.par2_digests.proofs.Common.{◌*◌, ◌∙◌, arith}
 use Rattle.par2_digests.proofs.TailLaws.{tail_is}
 use Rattle.par2_digests.proofs.padding.tail_of_message.Goals as goal
 

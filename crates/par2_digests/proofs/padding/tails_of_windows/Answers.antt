@@ -1,7 +1,4 @@
-use Rattle.std.proofs.Common.{◌≡◌, ◌+◌, ◌-◌, ◌*◌, ◌++◌, ◌≤◌, ◌∙◌, ℕ, ap, drop, length, length-drop, take, below_more, arith}
-use Rattle.std.proofs.lemmas.List.{length-take-le}
-use Rattle.md5.specs.Md5.{padding}
-use Rattle.par2_digests.specs.Tails.{tail_len}
+use Rattle.par2_digests.proofs.Common.{◌≡◌, ◌+◌, ◌-◌, ◌*◌, ◌++◌, ◌≤◌, ◌∙◌, ℕ, ap, drop, length, length-drop, take, below_more, arith, length-take-le, padding, tail_len}
 use borrow.Rule.Slice.PartMut.{same_len_mid}
 use Rattle.par2_digests.proofs.TailLaws.{tail_at, tail_before, tail_fits}
 use Rattle.par2_digests.proofs.padding.tails_of_windows.Goals as goal

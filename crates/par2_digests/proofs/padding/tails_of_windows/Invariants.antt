@@ -1,5 +1,4 @@
-use Rattle.std.proofs.Common.{◌≡◌, ◌<◌, ◌*◌, ℕ, length, take, drop, slice_index}
-use Rattle.par2_digests.specs.Tails.{tail_len, tail_of}
+use Rattle.par2_digests.proofs.Common.{◌≡◌, ◌<◌, ◌*◌, ℕ, length, take, drop, slice_index, tail_len, tail_of}
 use Rattle.par2_digests.proofs.padding.tails_of_windows.Given as goal
 
 abbrev pub invariant-loop-k : goal.invariant-loop-k

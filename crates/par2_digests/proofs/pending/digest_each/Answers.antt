@@ -1,8 +1,5 @@
-use Rattle.std.proofs.Common.{◌<◌, ◌∙◌, ℕ, List, [], ◌∷◌, ap, subst, get_or, length, arith}
-use Rattle.md5.specs.Md5.{digest_bytes, md5, padded_message}
-use Rattle.par2_digests.specs.Messages.{HasAbsorbed}
-use Rattle.par2_digests.specs.declared.midstate.Midstate.{Midstate}
-use Rattle.par2_digests.specs.declared.pending.Pending.{Pending}
+use Rattle.par2_digests.proofs.Common.{◌<◌, ◌∙◌, ℕ, List, [], ◌∷◌, ap, subst, get_or, length, arith, digest_bytes, padded_message, HasAbsorbed, Midstate, Pending}
+use Rattle.md5.specs.Md5.{md5}
 use Rattle.par2_digests.proofs.pending.digest_each.Goals as goal
 
 some_pending : (pendings : List Pending) (k : ℕ) → k < length pendings → Pending

@@ -1,7 +1,4 @@
-use Rattle.std.proofs.Common.{◌≡◌, ◌<◌, ℕ, length, get_or}
-use Rattle.md5.specs.Md5.{digest_bytes}
-use Rattle.par2_digests.specs.Digests.{digest_at}
-use Rattle.par2_digests.specs.declared.midstate.Midstate.{Midstate}
+use Rattle.par2_digests.proofs.Common.{◌≡◌, ◌<◌, ℕ, length, get_or, digest_bytes, digest_at, Midstate}
 use Rattle.par2_digests.proofs.pending.hash_bytes.Given as goal
 
 abbrev pub invariant-loop-k : goal.invariant-loop-k

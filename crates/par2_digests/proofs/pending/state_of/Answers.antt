@@ -1,8 +1,5 @@
-use Rattle.std.proofs.Common.{◌≡◌, ◌≤◌, ◌+◌, ◌-◌, ◌*◌, ◌∙◌, ℕ, List, [], ◌∷◌, ap, refl, sym, take, drop, length, get_or, slice_index, inl, inr, arith}
-use Rattle.std.proofs.lemmas.Bool.{cases_lt}
-use Rattle.std.proofs.lemmas.List.{get_or_default, length-drop, length-take-le}
-use Rattle.md5.specs.Md5.{digest_bytes}
-use Rattle.par2_digests.specs.declared.pending.Pending.{Pending}
+use Rattle.par2_digests.proofs.Common.{◌≡◌, ◌≤◌, ◌+◌, ◌-◌, ◌*◌, ◌∙◌, ℕ, List, [], ◌∷◌, ap, refl, sym, take, drop, length, get_or, slice_index, inl, inr, arith, cases_lt, get_or_default, length-take-le, digest_bytes, Pending}
+use Rattle.std.proofs.lemmas.List.{length-drop}
 use borrow.Rule.Slice.PartMut.{put_mid, same_len_mid}
 use Rattle.par2_digests.proofs.LaneLaws.{each_lane}
 use Rattle.par2_digests.proofs.PendingLaws.{hash_in_text}

@@ -1,6 +1,4 @@
-use Rattle.std.proofs.Common.{◌≡◌, ◌<◌, ◌*◌, ℕ, length, take, drop, get_or}
-use Rattle.md5.specs.Md5.{digest_bytes}
-use Rattle.par2_digests.specs.declared.pending.Pending.{Pending}
+use Rattle.par2_digests.proofs.Common.{◌≡◌, ◌<◌, ◌*◌, ℕ, length, take, drop, get_or, digest_bytes, Pending}
 use Rattle.par2_digests.proofs.pending.state_of.Given as goal
 
 abbrev pub invariant-loop-k : goal.invariant-loop-k

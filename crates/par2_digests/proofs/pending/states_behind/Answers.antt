@@ -1,15 +1,4 @@
-use Rattle.std.proofs.Common.{◌≡◌, ◌≢◌, ◌<◌, ◌++◌, ◌*◌, ◌/◌, ◌%◌, ◌∙◌, ℕ, List, ap, refl, sym, subst, drop, take, length, length-set, get_or, get_or-set_other, get_or-set_same, inl, inr, arith}
-use Rattle.std.proofs.lemmas.Bool.{cases_lt}
-use Rattle.std.proofs.lemmas.List.{get_or_default}
-use Rattle.std.proofs.Math.ListN.{set}
-use Rattle.md5.specs.Md5.{hash_after}
-use Rattle.par2_digests.specs.Feeds.{bytes_left}
-use Rattle.par2_digests.specs.Lanes.{lane}
-use Rattle.par2_digests.specs.Messages.{HasAbsorbed, message_of}
-use Rattle.par2_digests.specs.Tasks.{HasTaken, LeadsTo}
-use Rattle.par2_digests.specs.declared.midstate.Midstate.{Midstate}
-use Rattle.par2_digests.specs.declared.pending.Pending.{Pending}
-use Rattle.par2_digests.specs.declared.tasks.Task.{Task}
+use Rattle.par2_digests.proofs.Common.{◌≡◌, ◌≢◌, ◌<◌, ◌++◌, ◌*◌, ◌/◌, ◌%◌, ◌∙◌, ℕ, List, ap, refl, sym, subst, drop, take, length, length-set, get_or, get_or-set_other, get_or-set_same, inl, inr, arith, cases_lt, get_or_default, set, hash_after, bytes_left, lane, HasAbsorbed, message_of, HasTaken, LeadsTo, Midstate, Pending, Task}
 use Rattle.par2_digests.proofs.TaskLaws.{ready}
 use Rattle.par2_digests.proofs.pending.states_behind.Goals as goal
 

@@ -1,7 +1,4 @@
-use Rattle.std.proofs.Common.{◌≡◌, ◌<◌, ◌++◌, ℕ, List, length, get_or}
-use Rattle.par2_digests.specs.Messages.{HasAbsorbed, message_of}
-use Rattle.par2_digests.specs.declared.midstate.Midstate.{Midstate}
-use Rattle.par2_digests.specs.declared.pending.Pending.{Pending}
+use Rattle.par2_digests.proofs.Common.{◌≡◌, ◌<◌, ◌++◌, ℕ, List, length, get_or, HasAbsorbed, message_of, Midstate, Pending}
 use Rattle.par2_digests.proofs.pending.states_behind.Given as goal
 
 abbrev pub invariant-loop-k : goal.invariant-loop-k

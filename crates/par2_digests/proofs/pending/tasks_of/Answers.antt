@@ -1,6 +1,4 @@
-use Rattle.std.proofs.Common.{List, [], ◌∷◌, get_or, length, refl}
-use Rattle.par2_digests.specs.Pendings.{bytes_to_absorb}
-use Rattle.par2_digests.specs.declared.tasks.Task.{Task}
+use Rattle.par2_digests.proofs.Common.{List, [], ◌∷◌, get_or, length, refl, bytes_to_absorb, Task}
 use Rattle.par2_digests.proofs.TaskLaws.{eight_begin}
 use Rattle.par2_digests.proofs.pending.tasks_of.Goals as goal
 

@@ -1,7 +1,4 @@
-use Rattle.std.proofs.Common.{◌≡◌, ◌+◌, ◌-◌, ◌∙◌, ℕ, ap, arith, length, drop, get_or, inl, inr}
-use Rattle.std.proofs.lemmas.Bool.{cases_lt}
-use Rattle.std.proofs.lemmas.List.{get_or-drop, get_or-take}
-use Rattle.par2_digests.specs.Lanes.{four_words_at}
+use Rattle.par2_digests.proofs.Common.{◌≡◌, ◌+◌, ◌-◌, ◌∙◌, ℕ, ap, arith, length, drop, get_or, inl, inr, cases_lt, get_or-drop, get_or-take, four_words_at}
 use Rattle.par2_digests.proofs.LaneLaws.{ArePairs, high_lane, low_lane}
 use Rattle.par2_digests.proofs.quads.four_words.Goals as goal
 

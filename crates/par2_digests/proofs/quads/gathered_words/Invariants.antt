@@ -1,5 +1,4 @@
-use Rattle.std.proofs.Common.{◌≡◌, ◌<◌, ◌+◌, ℕ, length, slice_index}
-use Rattle.md5.specs.Md5.{word_at}
+use Rattle.par2_digests.proofs.Common.{◌≡◌, ◌<◌, ◌+◌, ℕ, length, slice_index, word_at}
 use Rattle.par2_digests.proofs.quads.gathered_words.Given as goal
 
 abbrev pub invariant-loop-k : goal.invariant-loop-k

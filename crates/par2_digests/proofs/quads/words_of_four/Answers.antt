@@ -1,6 +1,4 @@
-use Rattle.std.proofs.Common.{◌≡◌, ◌+◌, ◌∙◌, ℕ, List, [], ◌∷◌, arith, below_more, slice_index}
-use Rattle.std.specs.Prelude.{slice_index_or}
-use Rattle.par2_digests.specs.Lanes.{four_words_at}
+use Rattle.par2_digests.proofs.Common.{◌≡◌, ◌+◌, ◌∙◌, ℕ, List, [], ◌∷◌, arith, below_more, slice_index, slice_index_or, four_words_at}
 use Rattle.par2_digests.proofs.quads.words_of_four.Goals as goal
 
 pub row-requires : goal.row-requires

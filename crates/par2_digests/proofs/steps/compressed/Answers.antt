@@ -1,6 +1,5 @@
-use Rattle.std.proofs.Common.{ap, refl}
-use Rattle.md5.specs.Md5.{add_state, rounds}
-use Rattle.par2_digests.specs.Lanes.{lane}
+use Rattle.par2_digests.proofs.Common.{ap, refl, add_state, lane}
+use Rattle.md5.specs.Md5.{rounds}
 use Rattle.par2_digests.proofs.steps.compressed.Goals as goal
 
 pub returns : goal.returns

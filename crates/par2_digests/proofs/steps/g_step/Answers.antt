@@ -1,6 +1,4 @@
-use Rattle.std.proofs.Common.{◌+◌, ◌*◌, ◌%◌, ap, arith, ◌∙◌, slice_index}
-use Rattle.md5.specs.Md5.{add32, g_fn}
-use Rattle.par2_digests.specs.Lanes.{lane_words}
+use Rattle.par2_digests.proofs.Common.{◌+◌, ◌*◌, ◌%◌, ap, arith, ◌∙◌, slice_index, add32, g_fn, lane_words}
 use Rattle.par2_digests.proofs.LaneLaws.{word_of_lane}
 use Rattle.par2_digests.proofs.RoundLaws.{after_step, second_function, second_place}
 use Rattle.par2_digests.proofs.steps.g_step.Goals as goal

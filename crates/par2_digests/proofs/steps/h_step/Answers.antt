@@ -1,5 +1,4 @@
-use Rattle.std.proofs.Common.{◌+◌, ◌*◌, ◌%◌, ap, arith, ◌∙◌, slice_index}
-use Rattle.par2_digests.specs.Lanes.{lane_words}
+use Rattle.par2_digests.proofs.Common.{◌+◌, ◌*◌, ◌%◌, ap, arith, ◌∙◌, slice_index, lane_words}
 use Rattle.par2_digests.proofs.LaneLaws.{word_of_lane}
 use Rattle.par2_digests.proofs.RoundLaws.{after_step, third_function, third_place}
 use Rattle.par2_digests.proofs.steps.h_step.Goals as goal

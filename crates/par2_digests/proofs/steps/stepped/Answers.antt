@@ -1,5 +1,4 @@
-use Rattle.std.proofs.Common.{ap, ◌∙◌}
-use Rattle.md5.specs.Md5.{add32}
+use Rattle.par2_digests.proofs.Common.{ap, ◌∙◌, add32}
 use Rattle.par2_digests.proofs.steps.stepped.Goals as goal
 
 pub returns : goal.returns

@@ -1,5 +1,4 @@
-use Rattle.std.proofs.Common.{refl, slice_index}
-use Rattle.md5.specs.Md5.{step_constants}
+use Rattle.par2_digests.proofs.Common.{refl, slice_index, step_constants}
 use Rattle.par2_digests.proofs.RoundLaws.{sum_reordered}
 use Rattle.par2_digests.proofs.steps.turned.Goals as goal
 

@@ -1,8 +1,4 @@
-use Rattle.std.proofs.Common.{◌≡◌, ◌*◌, ℕ, List, [], ◌∷◌, ap, arith, drop, get_or, refl, slice_index, subst, sym, take, ◌∙◌}
-use Rattle.std.proofs.lemmas.List.{take-take}
-use Rattle.par2_digests.specs.Feeds.{hash_behind}
-use Rattle.par2_digests.specs.Lanes.{lane}
-use Rattle.par2_digests.specs.Tasks.{LeadsTo}
+use Rattle.par2_digests.proofs.Common.{◌≡◌, ◌*◌, ℕ, List, [], ◌∷◌, ap, arith, drop, get_or, refl, slice_index, subst, sym, take, ◌∙◌, take-take, hash_behind, lane, LeadsTo}
 use Rattle.par2_digests.proofs.FeedLaws.{blocks_alike}
 use Rattle.par2_digests.proofs.LaneLaws.{each_lane}
 use Rattle.par2_digests.proofs.tasks.advance.Goals as goal

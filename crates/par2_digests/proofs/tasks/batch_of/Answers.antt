@@ -1,6 +1,4 @@
-use Rattle.std.proofs.Common.{◌≡◌, ℕ, arith, ap, get_or, inl, inr, refl, ◌∙◌}
-use Rattle.std.proofs.lemmas.Bool.{cases_lt}
-use Rattle.std.proofs.lemmas.List.{get_or_default}
+use Rattle.par2_digests.proofs.Common.{◌≡◌, ℕ, arith, ap, get_or, inl, inr, refl, ◌∙◌, cases_lt, get_or_default}
 use Rattle.par2_digests.proofs.TaskLaws.{fewer_blocks, has_blocks_same}
 use Rattle.par2_digests.proofs.tasks.batch_of.Goals as goal
 

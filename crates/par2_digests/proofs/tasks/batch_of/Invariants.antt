@@ -1,6 +1,4 @@
-use Rattle.std.proofs.Common.{◌≤◌, ◌<◌, ℕ, get_or}
-use Rattle.par2_digests.specs.Tasks.{HasBlocks}
-use Rattle.par2_digests.specs.declared.tasks.Task.{Task}
+use Rattle.par2_digests.proofs.Common.{◌≤◌, ◌<◌, ℕ, get_or, HasBlocks, Task}
 use Rattle.par2_digests.proofs.tasks.batch_of.Given as goal
 
 abbrev pub invariant-loop-task : goal.invariant-loop-task

@@ -1,9 +1,4 @@
-use Rattle.std.proofs.Common.{◌≡◌, ◌<◌, ◌∙◌, ℕ, List, ap, sym, subst, length, length-set, get_or, get_or-set_other, get_or-set_same, inl, inr, arith}
-use Rattle.std.proofs.lemmas.Bool.{cases_eq}
-use Rattle.std.proofs.lemmas.List.{get_or_default}
-use Rattle.std.proofs.Math.ListN.{set}
-use Rattle.par2_digests.specs.Lanes.{lane}
-use Rattle.par2_digests.specs.Tasks.{LeadsTo, work}
+use Rattle.par2_digests.proofs.Common.{◌≡◌, ◌<◌, ◌∙◌, ℕ, List, ap, sym, subst, length, length-set, get_or, get_or-set_other, get_or-set_same, inl, inr, arith, cases_eq, get_or_default, set, lane, LeadsTo, work}
 use Rattle.par2_digests.proofs.TaskLaws.{leads_same, works_at}
 use Rattle.par2_digests.proofs.tasks.finish.Goals as goal
 

@@ -1,7 +1,4 @@
-use Rattle.std.proofs.Common.{◌≡◌, arith, get_or, sym, below_more, ◌∙◌}
-use Rattle.par2_digests.specs.Feeds.{bytes_left}
-use Rattle.par2_digests.specs.Lanes.{lane}
-use Rattle.par2_digests.specs.Tasks.{work, works}
+use Rattle.par2_digests.proofs.Common.{◌≡◌, arith, get_or, sym, below_more, ◌∙◌, bytes_left, lane, work, works}
 use Rattle.par2_digests.proofs.TaskLaws.{finished, works_at}
 use Rattle.par2_digests.proofs.tasks.finish_all.Goals as goal
 

@@ -1,6 +1,4 @@
-use Rattle.std.proofs.Common.{◌≡◌, ◌<◌, ℕ, length, get_or}
-use Rattle.par2_digests.specs.Lanes.{lane}
-use Rattle.par2_digests.specs.Tasks.{LeadOn, works}
+use Rattle.par2_digests.proofs.Common.{◌≡◌, ◌<◌, ℕ, length, get_or, lane, LeadOn, works}
 use Rattle.par2_digests.proofs.tasks.finish_all.Given as goal
 
 abbrev pub invariant-loop-k : goal.invariant-loop-k

@@ -1,5 +1,4 @@
-use Rattle.std.proofs.Common.{◌<◌, get_or, arith}
-use Rattle.par2_digests.specs.Tasks.{works}
+use Rattle.par2_digests.proofs.Common.{◌<◌, get_or, arith, works}
 use Rattle.par2_digests.proofs.tasks.go_on.Goals as goal
 
 pub loop-blocks-preserved : goal.loop-blocks-preserved

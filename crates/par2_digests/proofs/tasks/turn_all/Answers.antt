@@ -1,10 +1,4 @@
-use Rattle.std.proofs.Common.{◌≡◌, ◌≢◌, ◌≤◌, ◌<◌, ◌+◌, ◌*◌, ◌-◌, ◌∙◌, ℕ, ap, sym, take, drop, length, length-drop, length-set, get_or, get_or-set_other, get_or-set_same, inl, inr, arith}
-use Rattle.std.proofs.lemmas.Bool.{cases_lt}
-use Rattle.std.proofs.lemmas.List.{get_or_default, length-take-le}
-use Rattle.std.proofs.Math.ListN.{set}
-use Rattle.par2_digests.specs.Lanes.{lane}
-use Rattle.par2_digests.specs.Tasks.{work}
-use Rattle.par2_digests.specs.declared.tasks.Task.{Task}
+use Rattle.par2_digests.proofs.Common.{◌≡◌, ◌≢◌, ◌≤◌, ◌<◌, ◌+◌, ◌*◌, ◌-◌, ◌∙◌, ℕ, ap, sym, take, drop, length, length-drop, length-set, get_or, get_or-set_other, get_or-set_same, inl, inr, arith, cases_lt, get_or_default, length-take-le, set, lane, work, Task}
 use borrow.Rule.Slice.PartMut.{put_mid, same_len_mid}
 use Rattle.par2_digests.proofs.TailLaws.{tail_before}
 use Rattle.par2_digests.proofs.TaskLaws.{blocks_at, has_blocks_same, leads_alike, leads_same, shrink_same, works_at}

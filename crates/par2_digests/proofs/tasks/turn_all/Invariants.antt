@@ -1,8 +1,4 @@
-use Rattle.std.proofs.Common.{◌≡◌, ◌≤◌, ◌<◌, ◌*◌, ◌-◌, ℕ, List, length, take, drop, get_or}
-use Rattle.par2_digests.specs.Feeds.{hash_behind}
-use Rattle.par2_digests.specs.Lanes.{lane}
-use Rattle.par2_digests.specs.Tasks.{LeadsTo, works}
-use Rattle.par2_digests.specs.declared.tasks.Task.{Task}
+use Rattle.par2_digests.proofs.Common.{◌≡◌, ◌≤◌, ◌<◌, ◌*◌, ◌-◌, ℕ, List, length, take, drop, get_or, hash_behind, lane, LeadsTo, works, Task}
 use Rattle.par2_digests.proofs.tasks.turn_all.Given as goal
 
 abbrev pub invariant-loop-k : goal.invariant-loop-k

@@ -1,7 +1,4 @@
-use Rattle.std.proofs.Common.{◌≡◌, ◌++◌, ◌∷◌, ◌∙◌, [], ℕ, List, Bor, ap, append-nil, arith, get_or, length, rules, subst, sym}
-use Rattle.std.proofs.lemmas.List.{get_or-map, length_push}
-use Rattle.par2_digests.specs.Pendings.{IsPadded}
-use Rattle.par2_digests.specs.Texts.{texts_of}
+use Rattle.par2_digests.proofs.Common.{◌≡◌, ◌++◌, ◌∷◌, ◌∙◌, [], ℕ, List, Bor, ap, append-nil, arith, get_or, length, rules, subst, sym, get_or-map, length_push, IsPadded, texts_of}
 use Rattle.par2_digests.proofs.PendingLaws.{padded_more}
 use Rattle.par2_digests.proofs.texts.padded_texts.Goals as goal
 

@@ -1,6 +1,4 @@
-use Rattle.std.proofs.Common.{◌≡◌, [], get_or, length}
-use Rattle.par2_digests.specs.Pendings.{ArePadded}
-use Rattle.par2_digests.specs.Texts.{texts_of}
+use Rattle.par2_digests.proofs.Common.{◌≡◌, [], get_or, length, ArePadded, texts_of}
 use Rattle.par2_digests.proofs.texts.padded_texts.Given as goal
 
 abbrev pub invariant-loop-i : goal.invariant-loop-i

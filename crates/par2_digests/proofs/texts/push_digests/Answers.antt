@@ -1,8 +1,4 @@
-use Rattle.std.proofs.Common.{◌≡◌, ◌++◌, [], Result, Ok, Err, get_or, length, map, take, ap, ◌∙◌, arith, rules}
-use Rattle.std.proofs.lemmas.List.{length-map}
-use Rattle.std.specs.Prelude.{OnOk, if◌then◌else◌, is_ok}
-use Rattle.md5.specs.Md5.{md5}
-use Rattle.par2_digests.specs.Texts.{texts_of}
+use Rattle.par2_digests.proofs.Common.{◌≡◌, ◌++◌, [], Result, Ok, Err, get_or, length, map, take, ap, ◌∙◌, arith, rules, length-map, OnOk, if◌then◌else◌, is_ok, md5, texts_of}
 use Rattle.par2_digests.proofs.TextLaws.{first_digests}
 use Rattle.par2_digests.proofs.texts.push_digests.Goals as goal
 

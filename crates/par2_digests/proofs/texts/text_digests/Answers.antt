@@ -1,4 +1,4 @@
-use Rattle.std.proofs.Common.{◌+◌, ◌*◌, length, min, arith}
+use Rattle.par2_digests.proofs.Common.{◌+◌, ◌*◌, length, min, arith}
 use Rattle.par2_digests.proofs.TextLaws.{texts_more}
 use Rattle.par2_digests.proofs.texts.text_digests.Goals as goal
 

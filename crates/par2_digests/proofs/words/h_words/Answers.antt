@@ -1,5 +1,4 @@
-use Rattle.std.proofs.Common.{get_or, ap, ◌∙◌}
-use Rattle.std.specs.Prelude.{bit_xor}
+use Rattle.par2_digests.proofs.Common.{get_or, ap, ◌∙◌, bit_xor}
 use Rattle.par2_digests.proofs.LaneLaws.{lane_of_two, vector_of_two}
 use Rattle.par2_digests.proofs.words.h_words.Goals as goal
 

@@ -1,6 +1,4 @@
-use Rattle.std.proofs.Common.{map, get_or, ap, ◌∙◌}
-use Rattle.std.specs.Int.{w32, bit_not}
-use Rattle.std.specs.Prelude.{bit_or, bit_xor}
+use Rattle.par2_digests.proofs.Common.{map, get_or, ap, ◌∙◌, w32, bit_not, bit_or, bit_xor}
 use Rattle.par2_digests.proofs.LaneLaws.{lane_of_one, lane_of_two, vector_of_one, vector_of_two}
 use Rattle.par2_digests.proofs.words.i_words.Goals as goal
 

@@ -1,8 +1,4 @@
-use Rattle.std.proofs.Common.{◌<◌, ◌^◌, map, get_or, ap, ap₂, ◌∙◌, arith}
-use Rattle.std.proofs.lemmas.Simd.{Each1-get_or, below_from_Fits}
-use Rattle.std.specs.Int.{w32, bit_not}
-use Rattle.std.specs.Prelude.{bit_and}
-use Rattle.md5.specs.Md5.{add32}
+use Rattle.par2_digests.proofs.Common.{◌<◌, ◌^◌, map, get_or, ap, ap₂, ◌∙◌, arith, Each1-get_or, below_from_Fits, w32, bit_not, bit_and, add32}
 use Rattle.par2_digests.proofs.LaneLaws.{lane_of_one, lane_of_two, vector_of_one, vector_of_two}
 use Rattle.par2_digests.proofs.RoundLaws.{terms_of_g}
 use Rattle.par2_digests.proofs.words.plus_g_words.Goals as goal

@@ -1,6 +1,5 @@
-use Rattle.std.proofs.Common.{ℕ, ◌*◌, ◌/◌, ◌%◌, ◌-◌, ◌^◌, replicate, refl, arith, ◌∙◌}
-use Rattle.std.specs.Prelude.{bit_or}
-use Rattle.std.proofs.lemmas.Simd.{get_or-replicate, length-replicate, shifts_fit_splat}
+use Rattle.par2_digests.proofs.Common.{ℕ, ◌*◌, ◌/◌, ◌%◌, ◌-◌, ◌^◌, replicate, refl, arith, ◌∙◌, bit_or, get_or-replicate, shifts_fit_splat}
+use Rattle.std.proofs.lemmas.Simd.{length-replicate}
 use Rattle.par2_digests.proofs.LaneLaws.{lane_of_pair}
 use Rattle.par2_digests.proofs.words.rotated_words.Goals as goal
 

@@ -1,5 +1,4 @@
-use Rattle.std.proofs.Common.{sym}
-use Rattle.std.proofs.lemmas.List.{length-map}
+use Rattle.par2_folder.proofs.Common.{sym, length-map}
 use Rattle.par2_folder.proofs.Borders.{all_before, none_before}
 use Rattle.par2_folder.proofs.border.count_before.Goals as goal
 

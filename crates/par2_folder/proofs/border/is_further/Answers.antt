@@ -1,6 +1,5 @@
-use Rattle.std.proofs.Common.{sym, ap, ◌∙◌}
+use Rattle.par2_folder.proofs.Common.{sym, ap, ◌∙◌, comes_before}
 use Rattle.par2_folder.proofs.Borders.{later}
-use Rattle.par2_folder.specs.Borders.{comes_before}
 use Rattle.par2_folder.proofs.border.is_further.Goals as goal
 
 pub returns-in-At-clause-which : goal.returns-in-At-clause-which

@@ -1,7 +1,4 @@
-use Rattle.std.proofs.Common.{◌∙◌, ◌++◌, [], ◌∷◌, ap, get_or, map, sym, take}
-use Rattle.std.proofs.lemmas.List.{map-append, take_all, take_more}
-use Rattle.par2_folder.specs.Below.{fingerprint_input}
-use Rattle.par2_folder.specs.Snapshots.{file_of}
+use Rattle.par2_folder.proofs.Common.{◌∙◌, ◌++◌, [], ◌∷◌, ap, get_or, map, sym, take, map-append, take_all, take_more, fingerprint_input, file_of}
 use Rattle.par2_folder.proofs.Below.{hashed-append}
 use Rattle.par2_folder.proofs.border.parts_of.Goals as goal
 

@@ -1,7 +1,4 @@
-use Rattle.std.proofs.Common.{◌≡◌, map, take}
-use Rattle.par2_digests.specs.Messages.{message_of}
-use Rattle.par2_folder.specs.Below.{fingerprint_input}
-use Rattle.par2_folder.specs.Snapshots.{file_of}
+use Rattle.par2_folder.proofs.Common.{◌≡◌, map, take, message_of, fingerprint_input, file_of}
 use Rattle.par2_folder.proofs.border.parts_of.Given as goal
 
 abbrev pub invariant-loop-file : goal.invariant-loop-file

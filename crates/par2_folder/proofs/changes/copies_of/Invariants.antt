@@ -1,5 +1,4 @@
-use Rattle.std.proofs.Common.{◌≡◌, map, take}
-use Rattle.par2_folder.specs.Views.{change_of}
+use Rattle.par2_folder.proofs.Common.{◌≡◌, map, take, change_of}
 use Rattle.par2_folder.proofs.changes.copies_of.Given as goal
 
 abbrev pub invariant-loop-change : goal.invariant-loop-change

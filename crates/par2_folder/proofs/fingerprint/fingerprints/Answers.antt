@@ -1,14 +1,4 @@
-use Rattle.std.proofs.Common.{◌≡◌, ◌∷◌, ◌++◌, ◌-◌, ◌∙◌, ℕ, Bor, List, ap, length, map, take, drop, arith}
-use Rattle.std.proofs.Math.Seq.{drop-append_seam, take-append_seam}
-use Rattle.std.proofs.lemmas.List.{length-append, length-map, map-append}
-use Rattle.md5.specs.Md5.{md5}
-use Rattle.par2_digests.specs.Texts.{texts_of}
-use Rattle.par2_spec.specs.Folders.{fingerprint}
-use Rattle.par2_spec.specs.Changes.{folders_after}
-use Rattle.par2_spec.proofs.FolderLaws.{taken_are_applicable}
-use Rattle.par2_folder.specs.Borders.{run_texts}
-use Rattle.par2_folder.specs.Views.{change_of}
-use Rattle.par2_folder.specs.declared.border.Border.TheVariants.{End}
+use Rattle.par2_folder.proofs.Common.{◌≡◌, ◌∷◌, ◌++◌, ◌-◌, ◌∙◌, ℕ, Bor, List, ap, length, map, take, drop, arith, drop-append_seam, take-append_seam, length-append, length-map, map-append, md5, texts_of, fingerprint, folders_after, taken_are_applicable, run_texts, change_of, End}
 use Rattle.par2_folder.proofs.Walks.{all_fingerprints}
 use Rattle.par2_folder.proofs.fingerprint.fingerprints.Goals as goal
 

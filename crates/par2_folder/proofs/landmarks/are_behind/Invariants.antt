@@ -1,7 +1,4 @@
-use Rattle.std.proofs.Common.{◌≡◌, ◌<◌, ℕ, false, get_or}
-use Rattle.par2_folder.specs.Borders.{touches}
-use Rattle.par2_folder.specs.Views.{change_of}
-use Rattle.par2_folder.specs.declared.change.Change.{Change}
+use Rattle.par2_folder.proofs.Common.{◌≡◌, ◌<◌, ℕ, false, get_or, touches, change_of, Change}
 use Rattle.par2_folder.proofs.landmarks.are_behind.Given as goal
 
 abbrev pub invariant-loop-change : goal.invariant-loop-change

@@ -1,4 +1,4 @@
-use Rattle.std.proofs.lemmas.Fn.{FoldsTo-push}
+use Rattle.par2_folder.proofs.Common.{FoldsTo-push}
 use Rattle.par2_folder.proofs.listing.names_given.Goals as goal
 
 pub loop-item-preserved : goal.loop-item-preserved

@@ -1,5 +1,4 @@
-use Rattle.std.proofs.Common.{[]}
-use Rattle.std.specs.List.{FoldsTo}
+use Rattle.par2_folder.proofs.Common.{[], FoldsTo}
 use Rattle.par2_folder.specs.Listings.{Adds}
 use Rattle.par2_folder.proofs.listing.names_given.Given as goal
 

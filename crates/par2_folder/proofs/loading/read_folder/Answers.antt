@@ -1,7 +1,5 @@
-use Rattle.std.proofs.Common.{◌∙◌, ◌≡◌, ◌<◌, ◌≤◌, length, get_or, Some, ap, subst, arith}
+use Rattle.par2_folder.proofs.Common.{◌∙◌, ◌≡◌, ◌<◌, ◌≤◌, length, get_or, Some, ap, subst, arith, entries, names}
 use Rattle.std.specs.FinMap as map_of
-use Rattle.std.specs.FinMap.{entries}
-use Rattle.par2_spec.specs.Folders.{names}
 use Rattle.par2_folder.proofs.SortedFiles.{begins_empty, still_there, next_file, is_whole}
 use Rattle.par2_spec.specs.Stores.{Contents}
 use Rattle.par2_folder.proofs.Stores.{reads_on}

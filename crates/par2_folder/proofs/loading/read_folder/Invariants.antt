@@ -1,7 +1,4 @@
-use Rattle.std.proofs.Common.{◌≡◌, ◌+◌, ◌≤◌, length, take}
-use Rattle.std.specs.FinMap.{entries}
-use Rattle.par2_spec.specs.Folders.{names}
-use Rattle.par2_folder.specs.Stores.{OnlyReads}
+use Rattle.par2_folder.proofs.Common.{◌≡◌, ◌+◌, ◌≤◌, length, take, entries, names, OnlyReads}
 use Rattle.par2_folder.proofs.loading.read_folder.Given as goal
 
 abbrev pub invariant-loop-name : goal.invariant-loop-name

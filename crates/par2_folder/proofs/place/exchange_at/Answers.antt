@@ -1,6 +1,4 @@
-use Rattle.std.proofs.Common.{◌∙◌, ◌≡◌, [], ap, Some, sym}
-use Rattle.std.proofs.lemmas.List.{get_or_default}
-use Rattle.par2_spec.specs.Folders.{File}
+use Rattle.par2_folder.proofs.Common.{◌∙◌, ◌≡◌, [], ap, Some, sym, get_or_default, File}
 use Rattle.par2_folder.proofs.SortedFiles.{exchanged, bytes_at}
 use Rattle.par2_folder.proofs.place.exchange_at.Goals as goal
 

@@ -1,5 +1,4 @@
-use Rattle.std.proofs.Common.{◌∙◌, [], ap, Some, sym}
-use Rattle.std.proofs.lemmas.List.{get_or_default}
+use Rattle.par2_folder.proofs.Common.{◌∙◌, [], ap, Some, sym, get_or_default}
 use Rattle.par2_folder.proofs.SortedFiles.{removed, bytes_at, stays_absent}
 use Rattle.par2_folder.proofs.place.remove_at.Goals as goal
 

@@ -1,6 +1,4 @@
-use Rattle.std.proofs.Common.{rules, of_calls}
-use Rattle.std.proofs.lemmas.Fn.{always_returns_same}
-use Rattle.par2_folder.specs.Sorting.{name_cmp}
+use Rattle.par2_folder.proofs.Common.{rules, of_calls, always_returns_same, name_cmp}
 use Rattle.par2_folder.proofs.SortedFiles.{searched_folder}
 use Rattle.par2_folder.proofs.place.search.Goals as goal
 

@@ -1,5 +1,4 @@
-use Rattle.std.proofs.Common.{◌≡◌, ◌≤◌, ℕ, List, ◌++◌, length, take, drop, arith, ◌∙◌}
-use Rattle.std.proofs.lemmas.List.{take-take, take-append-le}
+use Rattle.par2_folder.proofs.Common.{◌≡◌, ◌≤◌, ℕ, List, ◌++◌, length, take, drop, arith, ◌∙◌, take-take, take-append-le}
 use Rattle.std.proofs.KnownBytes.{Consumes-kept, Consumes-trans}
 use Rattle.par2_folder.proofs.reading.read_within.Goals.{in-Ok-read+in-Ok-extend_from_slice, in-Err-read}
 use Rattle.par2_folder.proofs.reading.read_within.Goals as goal

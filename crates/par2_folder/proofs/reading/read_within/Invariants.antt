@@ -1,4 +1,4 @@
-use Rattle.std.proofs.Common.{◌<◌, vec_len}
+use Rattle.par2_folder.proofs.Common.{◌<◌, vec_len}
 use Rattle.std.specs.Io.KnownBytes.{Consumes}
 use Rattle.par2_folder.proofs.reading.read_within.Given as goal
 

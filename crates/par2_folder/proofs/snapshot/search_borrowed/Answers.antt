@@ -1,7 +1,4 @@
-use Rattle.std.proofs.Common.{rules, of_calls}
-use Rattle.std.proofs.lemmas.Fn.{always_returns_same}
-use Rattle.par2_folder.specs.Sorting.{name_cmp}
-use Rattle.par2_folder.specs.Snapshots.{file_of}
+use Rattle.par2_folder.proofs.Common.{rules, of_calls, always_returns_same, name_cmp, file_of}
 use Rattle.par2_folder.proofs.Snapshots.{searched_files}
 use Rattle.par2_folder.proofs.snapshot.search_borrowed.Goals as goal
 

@@ -1,4 +1,4 @@
-use Rattle.std.proofs.Common.{refl, arith}
+use Rattle.par2_folder.proofs.Common.{refl, arith}
 use Rattle.par2_folder.proofs.Surveys.{behind, moved}
 use Rattle.par2_folder.proofs.survey.go_on.Goals as goal
 

@@ -1,11 +1,4 @@
-use Rattle.std.proofs.Common.{◌≡◌, ◌-◌, ◌<◌, ◌++◌, inl, inr, length, take, drop, refl, ap, arith, subst, sym, ◌∙◌}
-use Rattle.std.specs.FinMap.{entries}
-use Rattle.std.proofs.lemmas.List.{take_all}
-use Rattle.md5.specs.Md5.{md5}
-use Rattle.par2_digests.specs.Messages.{HasAbsorbed}
-use Rattle.par2_spec.specs.Folders.{fingerprint}
-use Rattle.par2_folder.specs.Below.{fingerprint_input, folder_below}
-use Rattle.par2_folder.specs.Snapshots.{files_in, folder_in}
+use Rattle.par2_folder.proofs.Common.{◌≡◌, ◌-◌, ◌<◌, ◌++◌, inl, inr, length, take, drop, refl, ap, arith, subst, sym, ◌∙◌, entries, take_all, md5, HasAbsorbed, fingerprint, fingerprint_input, folder_below, files_in, folder_in}
 use Rattle.par2_folder.proofs.Borders.{no_text, taken_on}
 use Rattle.par2_folder.proofs.SortedFiles.{files_of}
 use Rattle.par2_folder.proofs.Surveys.{one_before}

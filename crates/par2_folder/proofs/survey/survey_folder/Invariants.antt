@@ -1,8 +1,5 @@
-use Rattle.std.proofs.Common.{◌≡◌, ◌⊎◌, ◌<◌, length}
-use Rattle.par2_folder.specs.Landmarks.{AreLandmarksOf}
-use Rattle.par2_folder.specs.Snapshots.{folder_in}
+use Rattle.par2_folder.proofs.Common.{◌≡◌, ◌⊎◌, ◌<◌, length, AreLandmarksOf, folder_in, Beginning}
 use Rattle.par2_folder.specs.Surveys.{IsAt}
-use Rattle.par2_folder.specs.declared.border.Border.TheVariants.{Beginning}
 use Rattle.par2_folder.proofs.survey.survey_folder.Given as goal
 
 abbrev pub invariant-loop-name : goal.invariant-loop-name

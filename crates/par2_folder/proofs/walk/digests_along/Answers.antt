@@ -1,8 +1,4 @@
-use Rattle.std.proofs.Common.{◌++◌, map}
-use Rattle.par2_digests.specs.Texts.{texts_of}
-use Rattle.par2_folder.specs.Borders.{run_texts}
-use Rattle.par2_folder.specs.Views.{change_of}
-use Rattle.par2_folder.specs.declared.border.Border.TheVariants.{End}
+use Rattle.par2_folder.proofs.Common.{◌++◌, map, texts_of, run_texts, change_of, End}
 use Rattle.par2_folder.proofs.walk.digests_along.Goals as goal
 
 pub returns : goal.returns

@@ -1,6 +1,4 @@
-use Rattle.std.proofs.Common.{ap, arith, map, ◌∙◌}
-use Rattle.std.proofs.lemmas.List.{take_all}
-use Rattle.md5.specs.Md5.{md5}
+use Rattle.par2_folder.proofs.Common.{ap, arith, map, ◌∙◌, take_all, md5}
 use Rattle.par2_folder.proofs.Walks.{absorbed_at, as_many, digested_more}
 use Rattle.par2_folder.proofs.walk.digests_of.Goals as goal
 

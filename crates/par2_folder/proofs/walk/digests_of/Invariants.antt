@@ -1,6 +1,4 @@
-use Rattle.std.proofs.Common.{◌≡◌, ℕ, List, map, take}
-use Rattle.md5.specs.Md5.{md5}
-use Rattle.par2_folder.specs.Runs.{HaveAbsorbed}
+use Rattle.par2_folder.proofs.Common.{◌≡◌, ℕ, List, map, take, md5, HaveAbsorbed}
 use Rattle.par2_folder.proofs.walk.digests_of.Given as goal
 
 abbrev pub invariant-loop-state : goal.invariant-loop-state

@@ -1,8 +1,5 @@
-use Rattle.std.proofs.Common.{◌++◌, [], ◌∷◌, cond, subst, sym, ap, ◌∙◌}
+use Rattle.par2_folder.proofs.Common.{◌++◌, [], ◌∷◌, cond, subst, sym, ap, ◌∙◌, text_before, AreTo, folder_in}
 use Rattle.std.proofs.lemmas.List.{append-nil}
-use Rattle.par2_folder.specs.Borders.{text_before}
-use Rattle.par2_folder.specs.Runs.{AreTo}
-use Rattle.par2_folder.specs.Snapshots.{folder_in}
 use Rattle.par2_folder.proofs.walk.go_on.Goals as goal
 
 pub returns-else-touches-clause-texts : goal.returns-else-touches-clause-texts

@@ -1,7 +1,4 @@
-use Rattle.std.proofs.Common.{map}
-use Rattle.par2_folder.specs.Views.{change_of}
-use Rattle.par2_folder.specs.Borders.{run_texts}
-use Rattle.par2_folder.specs.Runs.{HaveAbsorbed}
+use Rattle.par2_folder.proofs.Common.{map, change_of, run_texts, HaveAbsorbed}
 use Rattle.par2_folder.proofs.walk.runs_along.Given as goal
 
 abbrev pub invariant-loop-name : goal.invariant-loop-name

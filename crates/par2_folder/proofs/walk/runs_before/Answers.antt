@@ -1,9 +1,4 @@
-use Rattle.std.proofs.Common.{◌≡◌, [], IsTrue, map, subst, sym}
-use Rattle.par2_spec.specs.Changes.{are_applicable}
-use Rattle.par2_folder.specs.Views.{change_of}
-use Rattle.par2_folder.specs.Borders.{run_texts}
-use Rattle.par2_folder.specs.Runs.{HaveAbsorbed}
-use Rattle.par2_folder.specs.Snapshots.{folder_in}
+use Rattle.par2_folder.proofs.Common.{◌≡◌, [], IsTrue, map, subst, sym, are_applicable, change_of, run_texts, HaveAbsorbed, folder_in}
 use Rattle.par2_folder.proofs.Walks.{absorbed_here}
 use Rattle.par2_folder.proofs.walk.runs_before.Goals as goal
 

@@ -1,6 +1,4 @@
-use Rattle.std.proofs.Common.{[], ◌∷◌, refl}
-use Rattle.par2_folder.specs.Borders.{text_before}
-use Rattle.par2_folder.specs.Snapshots.{folder_in}
+use Rattle.par2_folder.proofs.Common.{[], ◌∷◌, refl, text_before, folder_in}
 use Rattle.par2_folder.proofs.Walks.{absorbed_here, arrived, goes_on, in_range, next_applicable, parents_then}
 use Rattle.par2_folder.proofs.walk.runs_behind.Goals as goal
 

@@ -1,5 +1,4 @@
-use Rattle.std.proofs.Common.{drop}
-use Rattle.par2_folder.specs.Snapshots.{folder_in}
+use Rattle.par2_folder.proofs.Common.{drop, folder_in}
 use Rattle.par2_folder.proofs.Walks.{IsWithin}
 use Rattle.par2_folder.proofs.walk.runs_behind.Given as goal
 

@@ -1,6 +1,4 @@
-use Rattle.std.proofs.Common.{[], subst, sym}
-use Rattle.par2_digests.specs.Messages.{HasAbsorbed}
-use Rattle.par2_folder.specs.Borders.{text_before}
+use Rattle.par2_folder.proofs.Common.{[], subst, sym, HasAbsorbed, text_before}
 use Rattle.par2_folder.proofs.walk.runs_up_to.Goals as goal
 
 pub returns-clause-texts : goal.returns-clause-texts

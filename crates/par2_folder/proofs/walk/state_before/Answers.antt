@@ -1,10 +1,4 @@
-use Rattle.std.proofs.Common.{◌<◌, ◌-◌, ◌∙◌, ◌∷◌, ap, arith, drop, length, length-drop, subst, sym}
-use Rattle.std.proofs.lemmas.List.{take_all}
-use Rattle.par2_digests.specs.Messages.{HasAbsorbed}
-use Rattle.par2_digests.specs.Texts.{texts_of}
-use Rattle.par2_folder.specs.Borders.{text_before}
-use Rattle.par2_folder.specs.Runs.{HaveAbsorbed}
-use Rattle.par2_folder.specs.declared.border.Border.TheVariants.{At}
+use Rattle.par2_folder.proofs.Common.{◌<◌, ◌-◌, ◌∙◌, ◌∷◌, ap, arith, drop, length, length-drop, subst, sym, take_all, HasAbsorbed, texts_of, text_before, HaveAbsorbed, At}
 use Rattle.par2_folder.proofs.Walks.{absorbed_at, absorbed_behind, as_many}
 use Rattle.par2_folder.proofs.walk.state_before.Goals as goal
 

@@ -1,7 +1,4 @@
-use Rattle.std.proofs.Common.{[], ◌++◌, List, ℕ, append-nil, ap, arith, subst, sym}
-use Rattle.std.proofs.lemmas.List.{take_all}
-use Rattle.par2_digests.specs.Texts.{texts_of}
-use Rattle.par2_folder.specs.Runs.{AreTo}
+use Rattle.par2_folder.proofs.Common.{[], ◌++◌, List, ℕ, append-nil, ap, arith, subst, sym, take_all, texts_of, AreTo}
 use Rattle.par2_folder.proofs.Walks.{text_more}
 use Rattle.par2_folder.proofs.walk.with_texts.Goals as goal
 

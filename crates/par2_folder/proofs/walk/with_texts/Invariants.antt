@@ -1,6 +1,4 @@
-use Rattle.std.proofs.Common.{◌≤◌, ◌++◌, ℕ, List, length, take}
-use Rattle.par2_digests.specs.Texts.{texts_of}
-use Rattle.par2_folder.specs.Runs.{AreTo}
+use Rattle.par2_folder.proofs.Common.{◌≤◌, ◌++◌, ℕ, List, length, take, texts_of, AreTo}
 use Rattle.par2_folder.proofs.walk.with_texts.Given as goal
 
 abbrev pub invariant-loop-text : goal.invariant-loop-text

@@ -1,7 +1,4 @@
-use Rattle.std.proofs.Common.{◌≡◌, ◌*◌, ◌%◌, ◌<◌, ◌≤◌, sym, ◌∙◌, arith}
-use Rattle.std.proofs.lemmas.Nat.Bits.{and_pow}
-use Rattle.par2_spec.proofs.FieldSteps.{double_low, double_high}
-use Rattle.par2_spec.proofs.FieldOrder.{double_product}
+use Rattle.par2_gf16.proofs.Common.{◌≡◌, ◌*◌, ◌%◌, ◌<◌, ◌≤◌, sym, ◌∙◌, arith, and_pow, double_low, double_high, double_product}
 use Rattle.par2_gf16.proofs.doubling.doubled.Goals as goal
 
 pub returns-then-x-eq0 : goal.returns-then-x-eq0

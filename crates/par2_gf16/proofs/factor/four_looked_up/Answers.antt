@@ -1,8 +1,6 @@
-use Rattle.std.proofs.Common.{◌∙◌, ap, ap₂, ◌%◌, ◌/◌, map}
-use Rattle.std.specs.Prelude.{bit_xor}
+use Rattle.par2_gf16.proofs.Common.{◌∙◌, ap, ap₂, ◌%◌, ◌/◌, map, bit_xor, zip2-map, map-map}
 use lib.Lanes.{zip2}
 use Rattle.par2_gf16.proofs.BlockLaws.{zip2_of_two}
-use Rattle.std.proofs.lemmas.Simd.{zip2-map, map-map}
 use Rattle.par2_gf16.proofs.factor.four_looked_up.Goals as goal
 
 pub returns : goal.returns

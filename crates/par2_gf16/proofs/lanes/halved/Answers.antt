@@ -1,5 +1,4 @@
-use Rattle.std.proofs.Common.{ℕ, ◌/◌, ◌^◌}
-use Rattle.std.proofs.lemmas.Simd.{zip2_splat}
+use Rattle.par2_gf16.proofs.Common.{ℕ, ◌/◌, ◌^◌, zip2_splat}
 use Rattle.par2_gf16.proofs.lanes.halved.Goals as goal
 
 abbrev down : ℕ → ℕ → ℕ

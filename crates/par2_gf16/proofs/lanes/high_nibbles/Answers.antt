@@ -1,4 +1,4 @@
-use Rattle.std.proofs.Common.{◌/◌, arith}
+use Rattle.par2_gf16.proofs.Common.{◌/◌, arith}
 use Rattle.par2_gf16.proofs.BlockLaws.{shifted, small_places}
 use Rattle.par2_gf16.proofs.lanes.high_nibbles.Goals as goal
 

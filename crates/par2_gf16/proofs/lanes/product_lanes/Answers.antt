@@ -1,4 +1,4 @@
-use Rattle.std.proofs.Common.{arith}
+use Rattle.par2_gf16.proofs.Common.{arith}
 use Rattle.par2_gf16.proofs.LaneLaws.{lanes_start, lanes_turn, lanes_done}
 use Rattle.par2_gf16.proofs.lanes.product_lanes.Goals as goal
 

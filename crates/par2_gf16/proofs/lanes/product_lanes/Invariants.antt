@@ -1,4 +1,4 @@
-use Rattle.par2_gf16.specs.Steps.{LanesSoFar}
+use Rattle.par2_gf16.proofs.Common.{LanesSoFar}
 use Rattle.par2_gf16.proofs.lanes.product_lanes.Given as goal
 
 abbrev pub invariant-loop-j : goal.invariant-loop-j

@@ -1,6 +1,4 @@
-use Rattle.std.proofs.Common.{◌∙◌, ap₂, ◌++◌}
-use Rattle.std.proofs.lemmas.Simd.{pick_l_left, pick_l_whole}
-use Rattle.std.specs.List.{range_with_len}
+use Rattle.par2_gf16.proofs.Common.{◌∙◌, ap₂, ◌++◌, pick_l_left, pick_l_whole, range_with_len}
 use Rattle.par2_gf16.proofs.lanes.twice.Goals as goal
 
 pub returns : goal.returns

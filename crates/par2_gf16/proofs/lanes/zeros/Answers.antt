@@ -1,4 +1,4 @@
-use Rattle.std.proofs.lemmas.Simd.{splat_is_map}
+use Rattle.par2_gf16.proofs.Common.{splat_is_map}
 use Rattle.par2_gf16.proofs.lanes.zeros.Goals as goal
 
 pub returns : goal.returns

@@ -1,6 +1,5 @@
-use Rattle.std.proofs.Common.{◌∙◌, ap, arith, map}
+use Rattle.par2_gf16.proofs.Common.{◌∙◌, ap, arith, map, mul}
 use lib.Lanes.{digits_l, number_l}
-use Rattle.par2_spec.specs.Field.{mul}
 use Rattle.par2_gf16.proofs.BlockLaws.{block_added, products_in_lanes}
 use Rattle.par2_gf16.proofs.steps.add_block.Goals as goal
 

@@ -1,13 +1,7 @@
-use Rattle.std.proofs.Common.{◌≡◌, ◌≢◌, ◌⊎◌, ◌<◌, inl, ℕ, List, Some, sym, ap, subst, ◌∙◌, map, arith}
+use Rattle.par2_headline.proofs.Common.{◌≡◌, ◌≢◌, ◌⊎◌, ◌<◌, inl, ℕ, List, Some, sym, ap, subst, ◌∙◌, map, arith, AllByRecursion, Repair, Undo, Folder, may_refuse, TakesEffect, AskForRepair}
 use Rattle.std.specs.Prelude.{string_bytes}
-use Rattle.std.specs.List.{AllByRecursion}
 use Rattle.std.specs.FinMap as map_of
 use Rattle.std.proofs.lemmas.Bool.{false≢true}
-use Rattle.par2_spec.specs.Commands.{Repair, Undo}
-use Rattle.par2_spec.specs.Folders.{Folder}
-use Rattle.par2_laws.specs.Creates.{may_refuse}
-use Rattle.par2_tool.specs.Runs.{TakesEffect}
-use Rattle.par2_headline.specs.Repairs.{AskForRepair}
 use Rattle.par2_headline.proofs.Answers.{IsRefused, accepted_with_zero, effect_of, repair_refused, repaired, stopped_effect}
 use Rattle.par2_headline.proofs.Calls.{verify_makes_none}
 use Rattle.par2_headline.proofs.Statuses.{own_status, shown_status, told_of}

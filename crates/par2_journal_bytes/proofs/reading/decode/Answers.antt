@@ -1,7 +1,6 @@
-use Rattle.std.proofs.Common.{◌<◌, arith}
+use Rattle.par2_journal_bytes.proofs.Common.{◌<◌, arith, all_from}
 use Rattle.par2_journal_bytes.proofs.ReaderAnswers.{is_found, is_only, is_invalid}
 use Rattle.par2_journal_bytes.proofs.reading.decode.Goals as goal
-use Rattle.par2_spec.proofs.ListsLaws.{all_from}
 
 pub returns-clause-found : goal.returns-clause-found
 returns-clause-found c = is_found c.args.bytes.now c.read_journal.result (all_from (λ b. b < 256) 0 c.args.bytes.now (λ i low. omega (arith, c.type_inv.bytes i))) c.read_journal.ensures.read

@@ -1,10 +1,6 @@
-use Rattle.std.proofs.Common.{◌<◌, arith}
-use Rattle.std.proofs.lemmas.Result.{err_from_is_err_and}
-use Rattle.par2_journal_bytes.specs.Reading.{parts_at}
-use Rattle.par2_journal_bytes.specs.Views.{journal_of}
+use Rattle.par2_journal_bytes.proofs.Common.{◌<◌, arith, err_from_is_err_and, parts_at, journal_of, all_from}
 use Rattle.par2_journal_bytes.proofs.UntestedTexts.{refused, sealed, too_short, unread, untested}
 use Rattle.par2_journal_bytes.proofs.reading.decode_untested.Goals as goal
-use Rattle.par2_spec.proofs.ListsLaws.{all_from}
 
 pub returns-in_err-body-clause-invalid : goal.returns-in_err-body-clause-invalid
 returns-in_err-body-clause-invalid c = λ _ j spells. too_short c.args.bytes.now c.in_err-body.ensures.short.1 j spells

@@ -1,9 +1,4 @@
-use Rattle.std.proofs.Common.{◌≡◌, ◌++◌, ◌∷◌, []}
-use Rattle.std.proofs.lemmas.Result.{err_from_is_err_and}
-use Rattle.std.proofs.lemmas.List.{map_push}
-use Rattle.par2_folder.specs.Views.{change_of}
-use Rattle.par2_journal_bytes.specs.Views.{changes_in}
-use Rattle.par2_journal_bytes.specs.Reading.{change_at}
+use Rattle.par2_journal_bytes.proofs.Common.{◌≡◌, ◌++◌, ◌∷◌, [], err_from_is_err_and, map_push, change_of, changes_in, change_at}
 use Rattle.par2_journal_bytes.proofs.Many.{goes_on, stops, ends}
 use Rattle.par2_journal_bytes.proofs.reading.read_changes.Goals as goal
 

@@ -1,5 +1,4 @@
-use Rattle.par2_journal_bytes.specs.Views.{changes_in}
-use Rattle.par2_journal_bytes.specs.Reading.{change_at}
+use Rattle.par2_journal_bytes.proofs.Common.{changes_in, change_at}
 use Rattle.par2_journal_bytes.proofs.Many.{SoFar}
 use Rattle.par2_journal_bytes.proofs.reading.read_changes.Given as goal
 

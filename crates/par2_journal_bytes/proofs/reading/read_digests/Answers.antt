@@ -1,5 +1,4 @@
-use Rattle.std.proofs.lemmas.Result.{err_from_is_err_and}
-use Rattle.par2_journal_bytes.specs.Reading.{block_at}
+use Rattle.par2_journal_bytes.proofs.Common.{err_from_is_err_and, block_at}
 use Rattle.par2_journal_bytes.proofs.Many.{goes_on, stops, ends}
 use Rattle.par2_journal_bytes.proofs.reading.read_digests.Goals as goal
 

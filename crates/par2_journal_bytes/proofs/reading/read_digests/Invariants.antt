@@ -1,4 +1,4 @@
-use Rattle.par2_journal_bytes.specs.Reading.{block_at}
+use Rattle.par2_journal_bytes.proofs.Common.{block_at}
 use Rattle.par2_journal_bytes.proofs.Many.{SoFar}
 use Rattle.par2_journal_bytes.proofs.reading.read_digests.Given as goal
 

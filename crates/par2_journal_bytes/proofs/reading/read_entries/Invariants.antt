@@ -1,5 +1,4 @@
-use Rattle.par2_journal_bytes.specs.Views.{entries_of}
-use Rattle.par2_journal_bytes.specs.Reading.{entry_at}
+use Rattle.par2_journal_bytes.proofs.Common.{entries_of, entry_at}
 use Rattle.par2_journal_bytes.proofs.Many.{SoFar}
 use Rattle.par2_journal_bytes.proofs.reading.read_entries.Given as goal
 

@@ -1,6 +1,4 @@
-use Rattle.std.proofs.Common.{◌≤◌, length, arith}
-use Rattle.par2_folder.specs.Views.{change_of}
-use Rattle.par2_spec.specs.Journals.{IsChange, change_bytes}
+use Rattle.par2_journal_bytes.proofs.Common.{◌≤◌, length, arith, change_of, IsChange, change_bytes}
 use Rattle.par2_journal_bytes.proofs.Many.{wrote_all, wrote_more}
 use Rattle.par2_journal_bytes.proofs.writing.append_changes.Goals as goal
 

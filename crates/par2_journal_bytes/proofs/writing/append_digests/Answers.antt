@@ -1,7 +1,4 @@
-use Rattle.std.proofs.Common.{ℕ, List, ◌++◌, ◌≤◌, length, ap, sym, ◌∙◌, arith}
-use Rattle.std.specs.Prelude.{flat_map}
-use Rattle.std.proofs.lemmas.List.{take_all}
-use Rattle.std.proofs.lemmas.List.Concat.{concat_is}
+use Rattle.par2_journal_bytes.proofs.Common.{ℕ, List, ◌++◌, ◌≤◌, length, ap, sym, ◌∙◌, arith, flat_map, take_all, concat_is}
 use Rattle.par2_journal_bytes.proofs.writing.append_digests.Goals as goal
 
 pub returns-clause-bytes : goal.returns-clause-bytes

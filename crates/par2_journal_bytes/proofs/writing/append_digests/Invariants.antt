@@ -1,7 +1,4 @@
-use Rattle.std.proofs.Common.{◌≡◌, ◌++◌, take, List, ℕ}
-use Rattle.std.specs.Prelude.{flat_map}
-use Rattle.std.specs.List.{AllByRecursion}
-use Rattle.par2_spec.specs.Journals.{IsDigest}
+use Rattle.par2_journal_bytes.proofs.Common.{◌≡◌, ◌++◌, take, List, ℕ, flat_map, AllByRecursion, IsDigest}
 use Rattle.par2_journal_bytes.proofs.writing.append_digests.Given as goal
 
 abbrev pub invariant-loop-digest : goal.invariant-loop-digest

@@ -1,9 +1,7 @@
-use Rattle.std.proofs.Common.{List, ◌≤◌, length, arith}
+use Rattle.par2_journal_bytes.proofs.Common.{List, ◌≤◌, length, arith, IsEntry, entry_bytes, changes_in}
 use Rattle.std.specs.Borrow.{Bor}
 use Rattle.par2_folder.specs.declared.change.Change.{Change}
 use Rattle.par2_spec.specs.Changes as defined
-use Rattle.par2_spec.specs.Journals.{IsEntry, entry_bytes}
-use Rattle.par2_journal_bytes.specs.Views.{changes_in}
 use Rattle.par2_journal_bytes.proofs.Many.{wrote_all, wrote_more}
 use Rattle.par2_journal_bytes.proofs.writing.append_entries.Goals as goal
 

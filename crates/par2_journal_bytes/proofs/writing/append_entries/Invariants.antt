@@ -1,8 +1,4 @@
-use Rattle.std.proofs.Common.{◌≡◌, ◌++◌, take}
-use Rattle.std.specs.Prelude.{flat_map}
-use Rattle.std.specs.List.{AllByRecursion}
-use Rattle.par2_spec.specs.Journals.{IsEntry, entry_bytes}
-use Rattle.par2_journal_bytes.specs.Views.{lent_entries_of}
+use Rattle.par2_journal_bytes.proofs.Common.{◌≡◌, ◌++◌, take, flat_map, AllByRecursion, IsEntry, entry_bytes, lent_entries_of}
 use Rattle.par2_journal_bytes.proofs.writing.append_entries.Given as goal
 
 abbrev pub invariant-loop-entry : goal.invariant-loop-entry

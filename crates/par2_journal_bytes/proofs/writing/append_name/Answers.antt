@@ -1,5 +1,4 @@
-use Rattle.std.proofs.Common.{◌≤◌, length, arith}
-use Rattle.std.proofs.lemmas.Bool.{leb-true}
+use Rattle.par2_journal_bytes.proofs.Common.{◌≤◌, length, arith, leb-true}
 use Rattle.par2_journal_bytes.proofs.writing.append_name.Goals as goal
 use Rattle.par2_spec.proofs.NameTests.{name_is_short}
 

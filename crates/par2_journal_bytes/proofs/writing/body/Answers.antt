@@ -1,7 +1,6 @@
-use Rattle.std.proofs.Common.{List, ℕ, ◌++◌, ap, ◌∙◌}
-use Rattle.par2_spec.specs.Journals.{halfway_bytes, journal_bytes}
+use Rattle.par2_journal_bytes.proofs.Common.{List, ℕ, ◌++◌, ap, ◌∙◌, halfway_bytes, halfway_from}
+use Rattle.par2_spec.specs.Journals.{journal_bytes}
 use Rattle.par2_journal_bytes.specs.Fronts.{front_bytes}
-use Rattle.par2_journal_bytes.specs.Views.{halfway_from}
 use Rattle.par2_journal_bytes.proofs.writing.body.Goals as goal
 
 pub returns : goal.returns

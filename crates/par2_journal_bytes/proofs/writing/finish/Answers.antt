@@ -1,6 +1,5 @@
-use Rattle.std.proofs.Common.{ℕ, Vec}
+use Rattle.par2_journal_bytes.proofs.Common.{ℕ, Vec, halfway_from}
 use Rattle.std.specs.declared.alloc.Global.{Global}
-use Rattle.par2_journal_bytes.specs.Views.{halfway_from}
 use Rattle.par2_journal_bytes.proofs.Fronts.{finishes}
 use Rattle.par2_journal_bytes.proofs.writing.finish.Goals as goal
 

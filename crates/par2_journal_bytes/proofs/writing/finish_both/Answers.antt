@@ -1,5 +1,4 @@
-use Rattle.std.proofs.Common.{Some}
-use Rattle.par2_journal_bytes.specs.Views.{lent_entries_of, halfway_from}
+use Rattle.par2_journal_bytes.proofs.Common.{Some, lent_entries_of, halfway_from}
 use Rattle.par2_journal_bytes.specs.declared.writing.JournalTexts.{JournalTexts}
 use Rattle.par2_journal_bytes.proofs.Fronts.{finishes, spells}
 use Rattle.par2_journal_bytes.proofs.writing.finish_both.Goals as goal

@@ -1,9 +1,6 @@
-use Rattle.std.proofs.Common.{◌∙◌, sym}
+use Rattle.par2_laws.proofs.Common.{◌∙◌, sym, candidates, known, recovery_slice, size_two}
 use Rattle.std.specs.FinMap as map_of
-use Rattle.par2_spec.specs.Search.{candidates, known}
-use Rattle.par2_laws.specs.Slices.{recovery_slice}
 use Rattle.par2_laws.proofs.choices.refused_repair_leaves_two_lists.Goals as goal
-use Rattle.par2_spec.proofs.RefusedLaws.{size_two}
 
 pub returns : goal.returns
 returns c folder base extras purge set missing rank held read refused =

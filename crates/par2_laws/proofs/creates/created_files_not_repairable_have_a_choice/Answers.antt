@@ -1,6 +1,6 @@
 use Rattle.par2_laws.proofs.Returns.{have_a_choice}
 use Rattle.par2_laws.proofs.creates.created_files_not_repairable_have_a_choice.Goals as goal
-use Rattle.par2_spec.proofs.AcceptedCommands.{missing}
+use Rattle.par2_laws.proofs.Common.{missing}
 
 pub returns : goal.returns
 returns c before damaged a base extras purge missing rank follows refused =

@@ -1,4 +1,4 @@
-use Rattle.par2_spec.specs.Commands.{files_of}
+use Rattle.par2_laws.proofs.Common.{files_of}
 use Rattle.par2_laws.proofs.Damage.{holds_volumes}
 use Rattle.par2_laws.proofs.creates.created_set_is_made_from_its_files.Goals as goal
 

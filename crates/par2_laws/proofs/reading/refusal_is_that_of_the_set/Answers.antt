@@ -1,4 +1,4 @@
-use Rattle.std.proofs.Common.{refl}
+use Rattle.par2_laws.proofs.Common.{refl}
 use Rattle.par2_spec.specs.Refusals.{refusal}
 use Rattle.par2_laws.proofs.reading.refusal_is_that_of_the_set.Goals as goal
 

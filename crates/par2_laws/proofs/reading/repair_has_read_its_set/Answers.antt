@@ -1,11 +1,4 @@
-use Rattle.std.proofs.Common.{◌≡◌, ◌∙◌, refl, sym, subst, true, ℕ, List}
-use Rattle.std.specs.Prelude.{Result, Ok, Err}
-use Rattle.std.proofs.lemmas.Bool.{both_ways}
-use Rattle.par2_spec.specs.declared.Fault.{Fault}
-use Rattle.par2_spec.specs.Sets.{ParSet}
-use Rattle.par2_spec.specs.Refusals.{set_in}
-use Rattle.par2_spec.specs.Folders.{Folder}
-use Rattle.par2_laws.specs.Faults.{is_of_reading}
+use Rattle.par2_laws.proofs.Common.{◌≡◌, ◌∙◌, refl, sym, subst, true, ℕ, List, Result, Ok, Err, both_ways, Fault, ParSet, set_in, Folder, is_of_reading}
 use Rattle.par2_laws.proofs.reading.repair_has_read_its_set.Goals as goal
 
 -- a set is read where no fault is the answer

@@ -1,5 +1,4 @@
-use Rattle.par2_spec.specs.Search.{known, lost, survivors}
-use Rattle.par2_spec.specs.Repairs.{rebuilt_targets}
+use Rattle.par2_laws.proofs.Common.{known, lost, survivors, rebuilt_targets}
 use Rattle.par2_laws.proofs.Causes.{accepted_by, have_digests}
 use Rattle.par2_laws.proofs.refusals.accepted_repair_is_right.Goals as goal
 

@@ -1,4 +1,4 @@
-use Rattle.par2_spec.specs.Search.{known, lost, survivors}
+use Rattle.par2_laws.proofs.Common.{known, lost, survivors}
 use Rattle.par2_laws.proofs.Causes.{failed_by}
 use Rattle.par2_laws.proofs.refusals.failed_repair_is_wrong.Goals as goal
 

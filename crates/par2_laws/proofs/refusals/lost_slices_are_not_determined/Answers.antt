@@ -1,6 +1,4 @@
-use Rattle.std.proofs.lemmas.Bool.{both_ways}
-use Rattle.par2_spec.specs.Rank.{is_repairable}
-use Rattle.par2_spec.specs.Search.{known, lost, survivors}
+use Rattle.par2_laws.proofs.Common.{both_ways, is_repairable, known, lost, survivors}
 use Rattle.par2_laws.proofs.Causes.{unrepairable_by}
 use Rattle.par2_laws.proofs.refusals.lost_slices_are_not_determined.Goals as goal
 

@@ -1,11 +1,6 @@
-use Rattle.std.proofs.Common.{◌≡◌, ◌∙◌, List, sym, subst, inl, inr, true, false}
+use Rattle.par2_laws.proofs.Common.{◌≡◌, ◌∙◌, List, sym, subst, inl, inr, true, false, AllByRecursion, Folder, File, candidates, Repair, after}
 use Rattle.std.specs.Prelude.{Some}
-use Rattle.std.specs.List.{AllByRecursion}
 use Rattle.std.specs.FinMap as map_of
-use Rattle.par2_spec.specs.Folders.{Folder, File}
-use Rattle.par2_spec.specs.Search.{candidates}
-use Rattle.par2_spec.specs.Commands.{Repair}
-use Rattle.par2_spec.specs.Refusals.{after}
 use Rattle.par2_laws.proofs.restored_files.accepted_repair_leaves_the_files.Goals as goal
 
 -- the folder has each file with its bytes

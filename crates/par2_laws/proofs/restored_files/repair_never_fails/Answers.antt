@@ -1,8 +1,4 @@
-use Rattle.std.proofs.Common.{◌∙◌, sym, inl, inr}
-use Rattle.std.specs.List.{list_all}
-use Rattle.std.proofs.lemmas.Bool.{both_ways}
-use Rattle.par2_spec.specs.Search.{candidates}
-use Rattle.par2_spec.specs.Repairs.{rebuilt_targets}
+use Rattle.par2_laws.proofs.Common.{◌∙◌, sym, inl, inr, list_all, both_ways, candidates, rebuilt_targets}
 use Rattle.par2_laws.proofs.Causes.{has_digest}
 use Rattle.par2_laws.proofs.restored_files.repair_never_fails.Goals as goal
 

@@ -1,6 +1,5 @@
 use Rattle.std.specs.FinMap as map_of
-use Rattle.par2_spec.specs.Search.{known}
-use Rattle.par2_laws.specs.Slices.{recovery_slice}
+use Rattle.par2_laws.proofs.Common.{known, recovery_slice}
 use Rattle.par2_laws.proofs.written_files.rebuilt_slices_agree_with_what_survives.Goals as goal
 
 pub returns : goal.returns

@@ -1,12 +1,7 @@
-use Rattle.std.proofs.Common.{◌≡◌, ◌∙◌, ℕ, List, length, sym}
-use Rattle.par2_spec.specs.Sets.{Target}
-use Rattle.par2_spec.specs.Search.{candidates, known, matches}
-use Rattle.par2_spec.specs.Names.{is_among}
-use Rattle.par2_spec.specs.Repairs.{rebuilt, rebuilt_targets, files_of_slices, names_without_match}
-use Rattle.par2_laws.specs.Slices.{kept_recovery}
+use Rattle.par2_laws.proofs.Common.{◌≡◌, ◌∙◌, ℕ, List, length, sym, Target, candidates, known, matches, is_among, rebuilt, files_of_slices, names_without_match, kept_recovery, all-filter}
+use Rattle.par2_spec.specs.Repairs.{rebuilt_targets}
 use Rattle.par2_laws.proofs.Agreements.{as_many_as_pairs}
 use Rattle.par2_laws.proofs.written_files.written_files_are_as_described.Goals as goal
-use Rattle.par2_spec.proofs.FoundLaws.{all-filter}
 
 pub returns-clause-lengths : goal.returns-clause-lengths
 unfolding rebuilt_targets

@@ -1,4 +1,4 @@
-use Rattle.par2_matrix.specs.Echelon.{Spells}
+use Rattle.par2_matrix.proofs.Common.{Spells}
 use Rattle.par2_matrix.proofs.elements.spell.Given as goal
 
 abbrev pub invariant-loop-i : goal.invariant-loop-i

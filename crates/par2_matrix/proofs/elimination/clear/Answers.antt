@@ -1,5 +1,4 @@
-use Rattle.std.proofs.Common.{◌≡◌, length, rules}
-use Rattle.par2_spec.specs.Sums.{lists_of}
+use Rattle.par2_matrix.proofs.Common.{◌≡◌, length, rules, lists_of}
 use Rattle.par2_matrix.proofs.Clearing.{clear_turn, clear_pass}
 use Rattle.par2_matrix.proofs.elimination.clear.Goals.{then-not-is_empty, else-not-is_empty}
 use Rattle.par2_matrix.proofs.elimination.clear.Goals as goal

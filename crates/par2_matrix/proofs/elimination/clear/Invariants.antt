@@ -1,5 +1,4 @@
-use Rattle.par2_matrix.specs.Echelon.{ClearedBelow}
-use Rattle.par2_spec.specs.Sums.{lists_of}
+use Rattle.par2_matrix.proofs.Common.{ClearedBelow, lists_of}
 use Rattle.par2_matrix.proofs.elimination.clear.Given as goal
 
 abbrev pub invariant-loop-p : goal.invariant-loop-p

@@ -1,5 +1,4 @@
-use Rattle.std.proofs.Common.{◌≡◌, ℕ, ◌<◌}
-use Rattle.par2_spec.specs.Slices.{word}
+use Rattle.par2_matrix.proofs.Common.{◌≡◌, ℕ, ◌<◌, word}
 use Rattle.par2_matrix.proofs.elimination.first_nonzero.Given as goal
 
 abbrev pub invariant-loop-i : goal.invariant-loop-i

@@ -1,4 +1,4 @@
-use Rattle.par2_gf16.specs.Products.{IsInverse}
+use Rattle.par2_matrix.proofs.Common.{IsInverse}
 use Rattle.par2_matrix.proofs.Taking.{multiple_of, pivot_is}
 use Rattle.par2_matrix.proofs.elimination.normalize.Goals as goal
 

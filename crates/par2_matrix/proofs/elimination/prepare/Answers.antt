@@ -1,5 +1,4 @@
-use Rattle.std.proofs.Common.{◌≡◌, ◌*◌, length, refl, sym, ◌∙◌, arith}
-use Rattle.par2_spec.proofs.SumLaws.{row_sum_empty}
+use Rattle.par2_matrix.proofs.Common.{◌≡◌, ◌*◌, length, refl, sym, ◌∙◌, arith, row_sum_empty}
 use Rattle.par2_matrix.proofs.Offering.{room_left}
 use Rattle.par2_matrix.proofs.elimination.prepare.Goals as goal
 

@@ -1,6 +1,4 @@
-use Rattle.std.proofs.Common.{length, refl, sym}
-use Rattle.par2_matrix.specs.Echelon.{ClearedBelow}
-use Rattle.par2_spec.specs.Sums.{lists_of}
+use Rattle.par2_matrix.proofs.Common.{length, refl, sym, ClearedBelow, lists_of}
 use Rattle.par2_matrix.proofs.Clearing.{put_at, place_within}
 use Rattle.par2_matrix.proofs.elimination.put_in.Goals as goal
 

@@ -1,5 +1,4 @@
-use Rattle.std.proofs.Common.{◌<◌, length, rules, inl, inr}
-use Rattle.par2_spec.specs.Sums.{lists_of}
+use Rattle.par2_matrix.proofs.Common.{◌<◌, length, rules, inl, inr, lists_of}
 use Rattle.par2_matrix.proofs.Taking.{reduce_turn, reduce_pass}
 use Rattle.par2_matrix.proofs.elimination.reduce.Goals.{then-factor-ne0+then-not-is_empty, else-factor-ne0, else-factor-ne0-via-then-factor-ne0+else-not-is_empty, else-factor-ne0-via-else-factor-ne0}
 use Rattle.par2_matrix.proofs.elimination.reduce.Goals as goal

@@ -1,6 +1,4 @@
-use Rattle.std.proofs.Common.{length}
-use Rattle.par2_matrix.specs.Echelon.{ReducedBelow, echelon}
-use Rattle.par2_spec.specs.Sums.{lists_of}
+use Rattle.par2_matrix.proofs.Common.{length, ReducedBelow, echelon, lists_of}
 use Rattle.par2_matrix.proofs.elimination.reduce.Given as goal
 
 abbrev pub invariant-loop-p : goal.invariant-loop-p

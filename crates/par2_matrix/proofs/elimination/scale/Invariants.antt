@@ -1,4 +1,4 @@
-use Rattle.par2_matrix.specs.Echelon.{Scaled}
+use Rattle.par2_matrix.proofs.Common.{Scaled}
 use Rattle.par2_matrix.proofs.elimination.scale.Given as goal
 
 abbrev pub invariant-loop-i : goal.invariant-loop-i

@@ -1,5 +1,4 @@
-use Rattle.std.proofs.Common.{arith}
-use Rattle.std.proofs.lemmas.Grind.{common_steps}
+use Rattle.par2_packets.proofs.Common.{arith, common_steps}
 use Rattle.par2_packets.proofs.Parts.{packet_in_parts}
 use Rattle.par2_packets.proofs.append.append_digested.Goals as goal
 

@@ -1,6 +1,4 @@
-use Rattle.std.proofs.Common.{◌≡◌, ◌++◌, take}
-use Rattle.std.specs.Prelude.{flat_map}
-use Rattle.par2_spec.specs.Volumes.{pair_bytes}
+use Rattle.par2_packets.proofs.Common.{◌≡◌, ◌++◌, take, flat_map, pair_bytes}
 use Rattle.par2_packets.proofs.append.ifsc_body.Given as goal
 
 abbrev pub invariant-loop-md5 : goal.invariant-loop-md5

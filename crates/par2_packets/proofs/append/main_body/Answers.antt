@@ -1,10 +1,5 @@
-use Rattle.std.proofs.Common.{◌++◌, List, ℕ, map, sym, ap, ap₂, ◌∙◌, arith}
-use Rattle.std.specs.Prelude.{flat_map}
-use Rattle.std.specs.Int.{w32, to_le_bytes}
-use Rattle.std.proofs.lemmas.List.{length-map, take_all}
+use Rattle.par2_packets.proofs.Common.{◌++◌, List, ℕ, map, sym, ap, ap₂, ◌∙◌, arith, flat_map, w32, to_le_bytes, length-map, take_all, file_record_of, FileRecord}
 use Rattle.par2_spec.specs.Volumes as volumes
-use Rattle.par2_packets.specs.Views.{file_record_of}
-use Rattle.par2_packets.specs.declared.record.FileRecord.{FileRecord}
 use Rattle.par2_packets.proofs.Parts.{one_id_more}
 use Rattle.par2_packets.proofs.append.main_body.Goals as goal
 

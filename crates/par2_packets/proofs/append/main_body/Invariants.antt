@@ -1,6 +1,4 @@
-use Rattle.std.proofs.Common.{◌≡◌, ◌++◌, map, take}
-use Rattle.std.specs.Prelude.{flat_map}
-use Rattle.par2_packets.specs.Views.{file_record_of}
+use Rattle.par2_packets.proofs.Common.{◌≡◌, ◌++◌, map, take, flat_map, file_record_of}
 use Rattle.par2_packets.proofs.append.main_body.Given as goal
 
 abbrev pub invariant-loop-file : goal.invariant-loop-file

@@ -1,4 +1,4 @@
-use Rattle.std.proofs.Common.{◌-◌, ◌≤◌}
+use Rattle.par2_packets.proofs.Common.{◌-◌, ◌≤◌}
 use Rattle.par2_packets.proofs.cursor.packets_in_line.Given as goal
 
 abbrev pub invariant-loop-count : goal.invariant-loop-count

@@ -1,5 +1,5 @@
-use Rattle.std.proofs.Common.{◌≡◌, ◌+◌, ◌-◌, ◌*◌, ◌<◌, ℕ, List, drop, take, min, ap, sym, ◌∙◌, slice_index, drop-drop, arith}
-use Rattle.md5.specs.Md5.{md5}
+use Rattle.par2_packets.proofs.Common.{◌≡◌, ◌+◌, ◌-◌, ◌*◌, ◌<◌, ℕ, List, drop, take, min, ap, sym, ◌∙◌, slice_index, arith, md5}
+use Rattle.std.proofs.Common.{drop-drop}
 use Rattle.par2_packets.proofs.cursor.run_at.Goals as goal
 
 pub returns-clause-digests : goal.returns-clause-digests

@@ -1,4 +1,4 @@
-use Rattle.std.proofs.Common.{◌≡◌, ℕ, ◌+◌, ◌-◌, ◌*◌, ◌<◌, min, length, get_or}
+use Rattle.par2_packets.proofs.Common.{◌≡◌, ℕ, ◌+◌, ◌-◌, ◌*◌, ◌<◌, min, length, get_or}
 use Rattle.par2_packets.proofs.cursor.starts.Given as goal
 
 abbrev pub invariant-loop-k : goal.invariant-loop-k

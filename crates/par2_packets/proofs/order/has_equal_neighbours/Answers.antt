@@ -1,7 +1,5 @@
-use Rattle.std.proofs.Common.{◌≡◌, ◌<◌, ◌-◌, sym, ◌∙◌, arith}
-use Rattle.par2_packets.specs.Views.{id_number}
+use Rattle.par2_packets.proofs.Common.{◌≡◌, ◌<◌, ◌-◌, sym, ◌∙◌, arith, id_number, increasing}
 use Rattle.par2_packets.proofs.Ids.{same_ids, rises_more, not_distinct}
-use Rattle.par2_spec.proofs.ListsLaws.{increasing}
 use Rattle.par2_packets.proofs.order.has_equal_neighbours.Goals as goal
 
 pub returns-then-number_of-clause-some : goal.returns-then-number_of-clause-some

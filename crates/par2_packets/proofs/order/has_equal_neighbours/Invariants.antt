@@ -1,6 +1,4 @@
-use Rattle.std.proofs.Common.{◌<◌}
-use Rattle.std.specs.List.{AllAdjacentBelow}
-use Rattle.par2_packets.specs.Views.{id_number}
+use Rattle.par2_packets.proofs.Common.{◌<◌, AllAdjacentBelow, id_number}
 use Rattle.par2_packets.proofs.order.has_equal_neighbours.Given as goal
 
 abbrev pub invariant-loop-i : goal.invariant-loop-i

@@ -1,7 +1,4 @@
-use Rattle.std.proofs.Common.{rules}
-use Rattle.std.specs.Int.{w128, from_le_bytes}
-use Rattle.std.proofs.lemmas.List.Sorted.{IsNonDecreasingBy-from_sort_by_key}
-use Rattle.par2_packets.specs.Views.{id_number}
+use Rattle.par2_packets.proofs.Common.{rules, w128, from_le_bytes, IsNonDecreasingBy-from_sort_by_key, id_number}
 use Rattle.par2_packets.proofs.Ids.{distinct_keys, moved_distinct}
 use Rattle.par2_packets.proofs.order.sort_ids.Goals as goal
 

@@ -1,10 +1,5 @@
-use Rattle.std.proofs.Common.{rules, ◌≡◌, ◌+◌, ◌++◌, length, map, take, subst, ap, ◌∙◌, List, ℕ, arith}
-use Rattle.std.specs.Prelude.{flat_map}
-use Rattle.std.specs.Int.{w32, w64, to_le_bytes}
-use Rattle.std.proofs.lemmas.Grind.{common_steps}
-use Rattle.md5.specs.Md5.{Holds, md5}
+use Rattle.par2_packets.proofs.Common.{rules, ◌≡◌, ◌+◌, ◌++◌, length, map, take, subst, ap, ◌∙◌, List, ℕ, arith, flat_map, w32, w64, to_le_bytes, common_steps, Holds, md5, file_record_of}
 use Rattle.par2_spec.specs.Volumes as volumes
-use Rattle.par2_packets.specs.Views.{file_record_of}
 use Rattle.par2_packets.proofs.record.main_id.Goals as goal
 
 pub loop-file-init : goal.loop-file-init

@@ -1,8 +1,4 @@
-use Rattle.std.proofs.Common.{◌++◌, length, map, take}
-use Rattle.std.specs.Prelude.{flat_map}
-use Rattle.std.specs.Int.{w32, w64, to_le_bytes}
-use Rattle.md5.specs.Md5.{Holds}
-use Rattle.par2_packets.specs.Views.{file_record_of}
+use Rattle.par2_packets.proofs.Common.{◌++◌, length, map, take, flat_map, w32, w64, to_le_bytes, Holds, file_record_of}
 use Rattle.par2_packets.proofs.record.main_id.Given as goal
 
 abbrev pub invariant-loop-file : goal.invariant-loop-file

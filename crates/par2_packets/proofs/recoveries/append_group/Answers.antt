@@ -1,11 +1,4 @@
-use Rattle.std.proofs.Common.{◌≡◌, ◌<◌, ◌∙◌, ◌++◌, [], List, ℕ, get_or, sym, ap, ap₂, subst, arith}
-use Rattle.std.proofs.lemmas.List.{length-map}
-use Rattle.md5.specs.Md5.{md5}
-use Rattle.par2_spec.specs.Packets.{digest_input, packet}
-use Rattle.par2_spec.specs.Volumes.{packet_of}
-use Rattle.par2_spec.specs.declared.Kind.TheVariants.{Recovery}
-use Rattle.par2_spec.specs.Sums.{lists_of}
-use Rattle.par2_spec.proofs.WordLaws.{read_at}
+use Rattle.par2_packets.proofs.Common.{◌≡◌, ◌<◌, ◌∙◌, ◌++◌, [], List, ℕ, get_or, sym, ap, ap₂, subst, arith, length-map, md5, digest_input, packet, packet_of, Recovery, lists_of, read_at}
 use Rattle.par2_packets.proofs.RecoveryPackets.{front_kept, packet_more}
 use Rattle.par2_packets.proofs.recoveries.append_group.Goals as goal
 

@@ -1,8 +1,4 @@
-use Rattle.std.proofs.Common.{◌≡◌, ◌++◌, take}
-use Rattle.std.specs.Prelude.{flat_map}
-use Rattle.par2_spec.specs.Packets.{packet}
-use Rattle.par2_spec.specs.Sums.{lists_of}
-use Rattle.par2_packets.specs.Recoveries.{packets_from}
+use Rattle.par2_packets.proofs.Common.{◌≡◌, ◌++◌, take, flat_map, packet, lists_of, packets_from}
 use Rattle.par2_packets.proofs.recoveries.append_group.Given as goal
 
 abbrev pub invariant-loop-k : goal.invariant-loop-k

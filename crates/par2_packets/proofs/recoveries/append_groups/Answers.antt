@@ -1,9 +1,4 @@
-use Rattle.std.proofs.Common.{Vec, Global, ◌+◌, ◌-◌, ◌*◌, ◌∙◌, ◌++◌, List, ℕ, length, min, take, drop, sym, ap, arith}
-use Rattle.std.specs.Prelude.{flat_map}
-use Rattle.std.proofs.lemmas.List.{length-map, take-map, drop-map}
-use Rattle.par2_spec.specs.Packets.{packet}
-use Rattle.par2_spec.specs.Sums.{lists_of}
-use Rattle.par2_packets.specs.Recoveries.{packets_from}
+use Rattle.par2_packets.proofs.Common.{Vec, Global, ◌+◌, ◌-◌, ◌*◌, ◌∙◌, ◌++◌, List, ℕ, length, min, take, drop, sym, ap, arith, flat_map, length-map, take-map, drop-map, packet, lists_of, packets_from}
 use Rattle.par2_packets.proofs.RecoveryPackets.{packets_more}
 use Rattle.par2_packets.proofs.recoveries.append_groups.Goals as goal
 

@@ -1,8 +1,4 @@
-use Rattle.std.proofs.Common.{◌≡◌, ◌∙◌, ◌++◌, [], List, ℕ, length, get_or, ap, subst, arith}
-use Rattle.std.proofs.lemmas.List.{length_push}
-use Rattle.par2_digests.specs.Pendings.{IsPadded}
-use Rattle.par2_spec.specs.Sums.{lists_of}
-use Rattle.par2_spec.proofs.WordLaws.{read_at}
+use Rattle.par2_packets.proofs.Common.{◌≡◌, ◌∙◌, ◌++◌, [], List, ℕ, length, get_or, ap, subst, arith, length_push, IsPadded, lists_of, read_at}
 use Rattle.par2_packets.proofs.RecoveryPackets.{body_more}
 use Rattle.par2_packets.proofs.recoveries.bodies.Goals as goal
 

@@ -1,7 +1,5 @@
-use Rattle.std.proofs.Common.{◌≡◌, ◌++◌, ℕ, List, [], length, get_or}
+use Rattle.par2_packets.proofs.Common.{◌≡◌, ◌++◌, ℕ, List, [], length, get_or, ArePadded, lists_of}
 use Rattle.par2_digests.specs.Messages.{HasAbsorbed}
-use Rattle.par2_digests.specs.Pendings.{ArePadded}
-use Rattle.par2_spec.specs.Sums.{lists_of}
 use Rattle.par2_packets.proofs.recoveries.bodies.Given as goal
 
 abbrev pub invariant-loop-k : goal.invariant-loop-k

@@ -1,6 +1,4 @@
-use Rattle.std.proofs.Common.{◌++◌, List, ℕ, append-nil, subst}
-use Rattle.std.specs.Prelude.{IfOk}
-use Rattle.par2_digests.specs.Pendings.{IsPadded}
+use Rattle.par2_packets.proofs.Common.{◌++◌, List, ℕ, append-nil, subst, IfOk, IsPadded}
 use Rattle.par2_packets.proofs.recoveries.body.Goals as goal
 
 pub returns : goal.returns

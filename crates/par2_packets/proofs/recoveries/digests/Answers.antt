@@ -1,6 +1,4 @@
-use Rattle.std.proofs.Common.{◌++◌, [], ap, ◌∙◌, get_or, arith}
-use Rattle.md5.specs.Md5.{md5}
-use Rattle.par2_spec.specs.Sums.{lists_of}
+use Rattle.par2_packets.proofs.Common.{◌++◌, [], ap, ◌∙◌, get_or, arith, md5, lists_of}
 use Rattle.par2_packets.proofs.RecoveryPackets.{behind_two}
 use Rattle.par2_packets.proofs.recoveries.digests.Goals as goal
 

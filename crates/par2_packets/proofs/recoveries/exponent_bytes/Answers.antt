@@ -1,4 +1,4 @@
-use Rattle.std.proofs.Common.{◌≢◌, ◌<◌, ◌∙◌, List, ℕ, [], length, below_more, get_or-set_other, get_or-set_same, length-set, arith}
+use Rattle.par2_packets.proofs.Common.{◌≢◌, ◌<◌, ◌∙◌, List, ℕ, [], length, below_more, get_or-set_other, get_or-set_same, length-set, arith}
 use Rattle.par2_packets.proofs.recoveries.exponent_bytes.Goals as goal
 
 pub loop-k-preserved : goal.loop-k-preserved

@@ -1,5 +1,4 @@
-use Rattle.std.proofs.Common.{◌≡◌, ◌+◌, ◌<◌, [], ℕ, length, get_or}
-use Rattle.std.specs.Int.{w32, to_le_bytes}
+use Rattle.par2_packets.proofs.Common.{◌≡◌, ◌+◌, ◌<◌, [], ℕ, length, get_or, w32, to_le_bytes}
 use Rattle.par2_packets.proofs.recoveries.exponent_bytes.Given as goal
 
 abbrev pub invariant-loop-k : goal.invariant-loop-k

@@ -1,6 +1,6 @@
-use Rattle.std.proofs.Common.{◌≡◌, ◌+◌, ◌-◌, ◌≤◌, ℕ, List, [], length, length-drop, drop, true, false, ap, sym, ◌∙◌, arith}
+use Rattle.par2_packets.proofs.Common.{◌≡◌, ◌+◌, ◌-◌, ◌≤◌, ℕ, List, [], length, drop, true, false, ap, sym, ◌∙◌, arith, rest_of}
+use Rattle.std.proofs.Common.{length-drop}
 use Rattle.par2_spec.specs.Packets as packets
-use Rattle.par2_packets.specs.Cursors.{rest_of}
 use Rattle.par2_packets.specs.Views.{packet_of}
 use Rattle.par2_packets.proofs.Finding.{claim_bounds, body_length, found, not_here, passed_to, magic_within, nothing}
 use Rattle.par2_packets.proofs.scan.next_packet.Goals as goal

@@ -1,6 +1,4 @@
-use Rattle.std.proofs.Common.{◌≡◌, length}
-use Rattle.par2_spec.specs.Packets.{accepted}
-use Rattle.par2_packets.specs.Cursors.{rest_of}
+use Rattle.par2_packets.proofs.Common.{◌≡◌, length, accepted, rest_of}
 use Rattle.par2_packets.proofs.scan.next_packet.Given as goal
 
 abbrev pub invariant-loop-place : goal.invariant-loop-place

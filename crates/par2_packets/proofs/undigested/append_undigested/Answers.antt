@@ -1,7 +1,4 @@
-use Rattle.std.proofs.lemmas.Result.{on_ok_weaker}
-use Rattle.std.proofs.Common.{◌≡◌, ◌∙◌, ◌++◌, List, ℕ, [], ap, replicate, rules}
-use Rattle.par2_spec.specs.Packets.{type_of}
-use Rattle.par2_spec.specs.declared.Kind.TheVariants.{Recovery}
+use Rattle.par2_packets.proofs.Common.{on_ok_weaker, ◌≡◌, ◌∙◌, ◌++◌, List, ℕ, [], ap, replicate, rules, type_of, Recovery}
 use Rattle.par2_packets.proofs.LaterDigests.{undigested_in_parts}
 use Rattle.par2_packets.proofs.undigested.append_undigested.Goals as goal
 

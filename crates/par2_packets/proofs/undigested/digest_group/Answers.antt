@@ -1,10 +1,5 @@
-use Rattle.std.proofs.Common.{◌≡◌, ◌∙◌, ◌+◌, ◌*◌, ◌<◌, ℕ, List, [], length, refl, ap, subst, arith, rules, get_or}
+use Rattle.par2_packets.proofs.Common.{◌≡◌, ◌∙◌, ◌+◌, ◌*◌, ◌<◌, ℕ, List, [], length, refl, ap, subst, arith, rules, get_or, get_or_default, length-map-range_with_len, get_or-map-range_with_len, md5, bytes_at, AreDigested}
 use Rattle.std.specs.Prelude.{drop}
-use Rattle.std.proofs.lemmas.List.{get_or_default}
-use Rattle.std.proofs.lemmas.List.FromFn.{length-map-range_with_len, get_or-map-range_with_len}
-use Rattle.md5.specs.Md5.{md5}
-use Rattle.par2_spec.specs.Packets.{bytes_at}
-use Rattle.par2_packets.specs.Recoveries.{AreDigested}
 use Rattle.par2_packets.proofs.Pieces.{room_for}
 use Rattle.par2_packets.proofs.LaterDigests.{none_digested, digested_next}
 use Rattle.par2_packets.proofs.undigested.digest_group.Goals as goal

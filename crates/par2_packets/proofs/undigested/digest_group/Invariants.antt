@@ -1,5 +1,4 @@
-use Rattle.std.proofs.Common.{◌+◌}
-use Rattle.par2_packets.specs.Recoveries.{AreDigested}
+use Rattle.par2_packets.proofs.Common.{◌+◌, AreDigested}
 use Rattle.par2_packets.proofs.undigested.digest_group.Given as goal
 
 abbrev pub invariant-loop-k : goal.invariant-loop-k

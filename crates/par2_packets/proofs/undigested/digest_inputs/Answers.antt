@@ -1,10 +1,6 @@
-use Rattle.std.proofs.Common.{◌∙◌, ◌+◌, ◌*◌, ◌++◌, ◌∷◌, [], ℕ, List, sym, ap, ap₂, refl}
+use Rattle.par2_packets.proofs.Common.{◌∙◌, ◌+◌, ◌*◌, ◌++◌, ◌∷◌, [], ℕ, List, sym, ap, ap₂, refl, map-append, map-range_with_len_more, texts_of, bytes_at}
 use Rattle.std.specs.Prelude.{drop}
 use Rattle.std.specs.Borrow.{Bor}
-use Rattle.std.proofs.lemmas.List.{map-append}
-use Rattle.std.proofs.lemmas.List.FromFn.{map-range_with_len_more}
-use Rattle.par2_digests.specs.Texts.{texts_of}
-use Rattle.par2_spec.specs.Packets.{bytes_at}
 use Rattle.par2_packets.proofs.undigested.digest_inputs.Goals as goal
 
 pub loop-k-preserved : goal.loop-k-preserved

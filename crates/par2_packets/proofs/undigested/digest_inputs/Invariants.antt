@@ -1,8 +1,5 @@
-use Rattle.std.proofs.Common.{◌≡◌, ◌*◌, map}
+use Rattle.par2_packets.proofs.Common.{◌≡◌, ◌*◌, map, range_with_len, texts_of, bytes_at}
 use Rattle.std.specs.Prelude.{drop}
-use Rattle.std.specs.List.{range_with_len}
-use Rattle.par2_digests.specs.Texts.{texts_of}
-use Rattle.par2_spec.specs.Packets.{bytes_at}
 use Rattle.par2_packets.proofs.undigested.digest_inputs.Given as goal
 
 abbrev pub invariant-loop-k : goal.invariant-loop-k

@@ -1,5 +1,4 @@
-use Rattle.std.proofs.Common.{◌≡◌, ◌+◌, ◌*◌, min, arith, subst}
-use Rattle.par2_packets.specs.Recoveries.{AreDigested}
+use Rattle.par2_packets.proofs.Common.{◌≡◌, ◌+◌, ◌*◌, min, arith, subst, AreDigested}
 use Rattle.par2_packets.proofs.LaterDigests.{none_digested, digested_further}
 use Rattle.par2_packets.proofs.undigested.digest_packets.Goals as goal
 

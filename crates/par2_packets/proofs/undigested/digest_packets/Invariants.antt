@@ -1,5 +1,4 @@
-use Rattle.std.proofs.Common.{◌*◌, min}
-use Rattle.par2_packets.specs.Recoveries.{AreDigested}
+use Rattle.par2_packets.proofs.Common.{◌*◌, min, AreDigested}
 use Rattle.par2_packets.proofs.undigested.digest_packets.Given as goal
 
 abbrev pub invariant-loop-group : goal.invariant-loop-group

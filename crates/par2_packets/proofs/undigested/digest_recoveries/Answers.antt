@@ -1,5 +1,4 @@
-use Rattle.std.proofs.Common.{◌+◌, arith}
-use Rattle.std.proofs.lemmas.Result.{on_ok_weaker}
+use Rattle.par2_packets.proofs.Common.{◌+◌, arith, on_ok_weaker}
 use Rattle.par2_packets.proofs.LaterDigests.{all_digested}
 use Rattle.par2_packets.proofs.undigested.digest_recoveries.Goals as goal
 

@@ -1,11 +1,6 @@
-use Rattle.std.proofs.Common.{◌∙◌, ◌*◌, ℕ, List, map, ap}
+use Rattle.par2_packets.proofs.Common.{◌∙◌, ◌*◌, ℕ, List, map, ap, range_with_len, IfOk-weaker, md5, texts_of, bytes_at}
 use Rattle.std.specs.Prelude.{drop}
-use Rattle.std.specs.List.{range_with_len}
-use Rattle.std.proofs.lemmas.Result.{IfOk-weaker}
 use Rattle.std.proofs.lemmas.Simd.{map-map}
-use Rattle.md5.specs.Md5.{md5}
-use Rattle.par2_digests.specs.Texts.{texts_of}
-use Rattle.par2_spec.specs.Packets.{bytes_at}
 use Rattle.par2_packets.proofs.undigested.digests.Goals as goal
 
 pub returns : goal.returns

@@ -1,5 +1,4 @@
-use Rattle.std.proofs.Common.{ℕ, replicate}
-use Rattle.par2_packets.specs.Recoveries.{undigested}
+use Rattle.par2_packets.proofs.Common.{ℕ, replicate, undigested}
 use Rattle.par2_packets.proofs.Pieces.{piece_more}
 use Rattle.par2_packets.proofs.undigested.with_undigested.Goals as goal
 

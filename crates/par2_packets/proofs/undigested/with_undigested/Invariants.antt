@@ -1,7 +1,4 @@
-use Rattle.std.proofs.Common.{◌≡◌, ◌++◌, replicate}
-use Rattle.std.specs.Prelude.{flat_map}
-use Rattle.std.specs.List.{range_with_len}
-use Rattle.par2_packets.specs.Recoveries.{undigested}
+use Rattle.par2_packets.proofs.Common.{◌≡◌, ◌++◌, replicate, flat_map, range_with_len, undigested}
 use Rattle.par2_packets.proofs.undigested.with_undigested.Given as goal
 
 abbrev pub invariant-loop-k : goal.invariant-loop-k

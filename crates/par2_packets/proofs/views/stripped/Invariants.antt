@@ -1,5 +1,4 @@
-use Rattle.std.proofs.Common.{◌≡◌, ◌≤◌, ◌+◌, ◌-◌, ◌==◌, length, take}
-use Rattle.std.specs.List.{suffix_len}
+use Rattle.par2_packets.proofs.Common.{◌≡◌, ◌≤◌, ◌+◌, ◌-◌, ◌==◌, length, take, suffix_len}
 use Rattle.par2_packets.proofs.views.stripped.Given as goal
 
 abbrev pub invariant-loop-len : goal.invariant-loop-len

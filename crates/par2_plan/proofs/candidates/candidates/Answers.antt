@@ -1,11 +1,4 @@
-use Rattle.std.proofs.Common.{◌≡◌, ◌∙◌, ◌++◌, ◌∷◌, [], List, ℕ, map, take, get_or, sym, ap, ap₂, append-nil, append_assoc}
-use Rattle.std.proofs.lemmas.List.{take_all, take_more, get_or_default}
-use Rattle.std.proofs.lemmas.Result.{IfOk-weaker}
-use Rattle.std.specs.Prelude.{filter}
-use Rattle.par2_spec.specs.Folders.{has}
-use Rattle.par2_spec.specs.Sets.{Target}
-use Rattle.par2_spec.specs.Names.{distinct}
-use Rattle.par2_spec.proofs.ListsLaws.{filter-map}
+use Rattle.par2_plan.proofs.Common.{◌≡◌, ◌∙◌, ◌++◌, ◌∷◌, [], List, ℕ, map, take, get_or, sym, ap, ap₂, append-nil, append_assoc, take_all, take_more, get_or_default, IfOk-weaker, filter, has, Target, distinct, filter-map}
 use Rattle.par2_plan.proofs.candidates.candidates.Goals as goal
 
 pub returns : goal.returns

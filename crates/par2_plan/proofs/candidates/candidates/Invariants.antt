@@ -1,6 +1,4 @@
-use Rattle.std.proofs.Common.{◌≡◌, ◌++◌, map, take}
-use Rattle.std.specs.Prelude.{filter}
-use Rattle.par2_spec.specs.Folders.{has}
+use Rattle.par2_plan.proofs.Common.{◌≡◌, ◌++◌, map, take, filter, has}
 use Rattle.par2_plan.proofs.candidates.candidates.Given as goal
 
 abbrev pub invariant-loop-extra : goal.invariant-loop-extra

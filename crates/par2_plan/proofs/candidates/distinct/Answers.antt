@@ -1,9 +1,4 @@
-use Rattle.std.proofs.Common.{◌≡◌, ◌∙◌, ◌+◌, ◌++◌, ◌∷◌, [], List, ℕ, Bor, true, false, not, cond, sym, ap, subst, take, rules}
-use Rattle.std.proofs.lemmas.List.{take_all, take_more}
-use Rattle.std.proofs.lemmas.Bool.{not-true, not-false}
-use Rattle.par2_spec.specs.Names.{is_among, distinct}
-use Rattle.par2_plan.specs.Matches.{HoldsNames}
-use Rattle.par2_spec.proofs.TreeLaws.{holds_more}
+use Rattle.par2_plan.proofs.Common.{◌≡◌, ◌∙◌, ◌+◌, ◌++◌, ◌∷◌, [], List, ℕ, Bor, true, false, not, cond, sym, ap, subst, take, rules, take_all, take_more, not-true, not-false, is_among, distinct, HoldsNames, holds_more}
 use Rattle.par2_plan.proofs.Choices.{distinct_more}
 use Rattle.par2_plan.proofs.candidates.distinct.Goals as goal
 use Rattle.par2_plan.proofs.candidates.distinct.Goals.{then-branch+in_ok-push, else-branch}

@@ -1,6 +1,4 @@
-use Rattle.std.proofs.Common.{◌≡◌, take}
-use Rattle.par2_spec.specs.Names.{distinct}
-use Rattle.par2_plan.specs.Matches.{HoldsNames}
+use Rattle.par2_plan.proofs.Common.{◌≡◌, take, distinct, HoldsNames}
 use Rattle.par2_plan.proofs.candidates.distinct.Given as goal
 
 abbrev pub invariant-loop-name : goal.invariant-loop-name

@@ -1,7 +1,4 @@
-use Rattle.std.proofs.Common.{◌∙◌, ◌++◌, ◌∷◌, [], List, ℕ, Bor, map, sym, ap, ap₂}
-use Rattle.std.proofs.lemmas.List.{map-append, map_more, take_all}
-use Rattle.par2_spec.specs.Folders.{bytes_of}
-use Rattle.par2_slices.specs.Texts.{texts_of}
+use Rattle.par2_plan.proofs.Common.{◌∙◌, ◌++◌, ◌∷◌, [], List, ℕ, Bor, map, sym, ap, ap₂, map-append, map_more, take_all, bytes_of, texts_of}
 use Rattle.par2_plan.proofs.candidates.texts_of.Goals as goal
 
 pub loop-name-preserved : goal.loop-name-preserved

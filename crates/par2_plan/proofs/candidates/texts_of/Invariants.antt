@@ -1,6 +1,4 @@
-use Rattle.std.proofs.Common.{◌≡◌, map, take}
-use Rattle.par2_spec.specs.Folders.{bytes_of}
-use Rattle.par2_slices.specs.Texts.{texts_of}
+use Rattle.par2_plan.proofs.Common.{◌≡◌, map, take, bytes_of, texts_of}
 use Rattle.par2_plan.proofs.candidates.texts_of.Given as goal
 
 abbrev pub invariant-loop-name : goal.invariant-loop-name

@@ -1,15 +1,5 @@
-use Rattle.std.proofs.Common.{◌≡◌, ℕ, List, ◌∙◌, ◌≤◌, ◌%◌, length, map, sym, ap, ap₂, subst, string_bytes}
-use Rattle.std.specs.Prelude.{flat_map, IfOk}
-use Rattle.std.proofs.lemmas.List.{length-map}
-use Rattle.par2_spec.specs.Folders.{Folder}
-use Rattle.par2_spec.specs.Packets.{packet}
-use Rattle.par2_spec.specs.Volumes.{index_packets, main_id, record_of, in_id_order, all_slices}
-use Rattle.par2_spec.specs.Commands.{files_of}
-use Rattle.par2_spec.specs.Views.{create_args_of}
-use Rattle.par2_packets.specs.Views.{file_record_of}
-use Rattle.par2_packets.specs.declared.record.FileRecord.{FileRecord}
+use Rattle.par2_plan.proofs.Common.{◌≡◌, ℕ, List, ◌∙◌, ◌≤◌, ◌%◌, length, map, sym, ap, ap₂, subst, string_bytes, flat_map, IfOk, length-map, Folder, packet, index_packets, main_id, record_of, in_id_order, all_slices, files_of, create_args_of, file_record_of, FileRecord, HaveExponents}
 use Rattle.par2_recovery.specs.Views.{names_of}
-use Rattle.par2_plan.specs.Outputs.{HaveExponents}
 use Rattle.par2_plan.proofs.VolumeNumbers.{volumes_end}
 use Rattle.par2_plan.proofs.GoodWords.{IsHead, AreInputs, head_passed, inputs_passed, few_slices, few_in_order}
 use Rattle.par2_plan.proofs.OutputChanges.{written, create_written}

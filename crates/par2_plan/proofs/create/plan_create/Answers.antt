@@ -1,17 +1,5 @@
-use Rattle.std.proofs.Common.{◌≡◌, ◌∙◌, ◌∷◌, ◌⊎◌, inl, inr, refl, sym, ap, ap₂, subst, true, Option, Some, None, Err, List, ℕ, map, string_bytes}
-use Rattle.par2_spec.specs.Names.{is_par_name}
-use Rattle.std.proofs.lemmas.Result.{err_from_is_err_and}
-use Rattle.std.specs.Prelude.{IfErr}
-use Rattle.par2_spec.specs.Folders.{Folder}
-use Rattle.par2_spec.specs.Commands.{Create, CreateArgs}
-use Rattle.par2_spec.specs.Refusals.{bad_name, early_refusal, refusal}
-use Rattle.par2_spec.specs.Views.{create_args_of}
-use Rattle.par2_spec.specs.declared.Fault.{Fault}
-use Rattle.par2_spec.specs.declared.Fault.TheVariants.{Memory}
-use Rattle.par2_spec.proofs.TestLaws.{err_again}
-use Rattle.par2_plan.specs.declared.names.Volume.{Volume}
-use Rattle.par2_plan.specs.Faults.{long_name, there_already}
-use Rattle.par2_plan.specs.Outputs.{volumes_of, names_of, output_names}
+use Rattle.par2_plan.proofs.Common.{◌≡◌, ◌∙◌, ◌∷◌, ◌⊎◌, inl, inr, refl, sym, ap, ap₂, subst, true, Some, Err, List, ℕ, map, string_bytes, is_par_name, err_from_is_err_and, IfErr, Folder, Create, CreateArgs, bad_name, early_refusal, refusal, create_args_of, Fault, Memory, err_again, Volume, long_name, there_already, volumes_of, names_of, output_names}
+use Rattle.std.proofs.Common.{Option, None}
 use Rattle.par2_plan.proofs.GoodWords.{head_passed}
 use Rattle.par2_plan.proofs.RefusalGroups.{early_by_head, early_by_name, not_early, refused_by_head, refused_by_name, refused_by_inputs, refused_by_length, refused_by_there, not_refused, are_planned, apply_in_order, lead_to_folder}
 use Rattle.par2_plan.proofs.PassedAnswers.{answered_so, never_found}

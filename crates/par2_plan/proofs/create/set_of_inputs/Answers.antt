@@ -1,7 +1,5 @@
-use Rattle.std.proofs.Common.{◌≡◌, ◌∙◌, List, ℕ, map, refl, sym, ap, inr, None, Some, string_bytes}
-use Rattle.std.proofs.lemmas.Result.{err_from_is_err_and}
-use Rattle.par2_spec.specs.Refusals.{bad_name}
-use Rattle.par2_plan.specs.Faults.{duplicate_input, files_fault, inputs_fault}
+use Rattle.par2_plan.proofs.Common.{◌≡◌, ◌∙◌, List, ℕ, map, refl, sym, ap, inr, Some, string_bytes, err_from_is_err_and, bad_name, duplicate_input, files_fault, inputs_fault}
+use Rattle.std.proofs.Common.{None}
 use Rattle.par2_plan.proofs.PassedAnswers.{refused_by}
 use Rattle.par2_plan.proofs.RefusalGroups.{inputs_by}
 use Rattle.par2_plan.proofs.create.set_of_inputs.Goals.{In_ok-names}

@@ -1,6 +1,4 @@
-use Rattle.std.proofs.Common.{subst, sym}
-use Rattle.std.specs.Slice.Iter.{iter_rest}
-use Rattle.par2_plan.specs.Views.{GoesOn}
+use Rattle.par2_plan.proofs.Common.{subst, sym, iter_rest, GoesOn}
 use Rattle.par2_plan.proofs.Standings.{next_given}
 use Rattle.par2_plan.proofs.finding.next_given.Goals as goal
 

@@ -1,10 +1,4 @@
-use Rattle.std.proofs.Common.{◌≡◌, ◌∙◌, ◌++◌, [], List, ℕ, Bool, sym, ap, append-nil}
-use Rattle.std.specs.Prelude.{Option}
-use Rattle.std.specs.Iterator.Adapters.{zip_first, zip_second}
-use Rattle.std.specs.Slice.Iter.{iter_rest}
-use Rattle.std.proofs.lemmas.Slice.Zip.{Zip-more, either_empty_from_Zip}
-use Rattle.par2_spec.specs.Checksums.{Pair}
-use Rattle.par2_plan.specs.Findings.{sought_by}
+use Rattle.par2_plan.proofs.Common.{◌≡◌, ◌∙◌, ◌++◌, [], List, ℕ, Bool, sym, ap, append-nil, Option, zip_first, zip_second, iter_rest, Zip-more, either_empty_from_Zip, Pair, sought_by}
 use Rattle.par2_plan.proofs.Standings.{sought_on, sought_end}
 use Rattle.par2_plan.proofs.finding.sought_pairs.Goals as goal
 

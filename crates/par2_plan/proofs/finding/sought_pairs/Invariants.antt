@@ -1,7 +1,4 @@
-use Rattle.std.proofs.Common.{◌≡◌, ◌++◌}
-use Rattle.std.specs.Iterator.Adapters.{zip_first, zip_second}
-use Rattle.std.specs.Slice.Iter.{iter_rest}
-use Rattle.par2_plan.specs.Findings.{sought_by}
+use Rattle.par2_plan.proofs.Common.{◌≡◌, ◌++◌, zip_first, zip_second, iter_rest, sought_by}
 use Rattle.par2_plan.proofs.finding.sought_pairs.Given as goal
 
 abbrev pub invariant-loop-target : goal.invariant-loop-target

@@ -1,10 +1,4 @@
-use Rattle.std.proofs.Common.{◌≡◌, ◌∙◌, List, ℕ, Bool, map, sym, ap, ap₂}
-use Rattle.std.specs.Prelude.{Option}
-use Rattle.std.proofs.lemmas.Result.{IfOk-weaker}
-use Rattle.par2_spec.specs.Windows.{found}
-use Rattle.par2_spec.specs.Folders.{bytes_of}
-use Rattle.par2_slices.specs.Texts.{padded_windows}
-use Rattle.par2_plan.specs.Findings.{needs, matches_given, sought_by, standings_by}
+use Rattle.par2_plan.proofs.Common.{◌≡◌, ◌∙◌, List, ℕ, Bool, map, sym, ap, ap₂, Option, IfOk-weaker, found, bytes_of, padded_windows, needs, matches_given, sought_by, standings_by}
 use Rattle.par2_plan.proofs.finding.standings.Goals as goal
 
 pub returns : goal.returns

@@ -1,14 +1,4 @@
-use Rattle.std.proofs.Common.{◌≡◌, ◌∙◌, ◌++◌, [], List, ℕ, Bool, Bor, length, map, take, drop, sym, ap, ap₂, append-nil}
-use Rattle.std.proofs.lemmas.List.{drop-drop}
-use Rattle.std.specs.Prelude.{Option}
-use Rattle.std.specs.Iterator.Adapters.{zip_first, zip_second}
-use Rattle.std.specs.Slice.Iter.{iter_rest}
-use Rattle.std.proofs.lemmas.Slice.Zip.{Zip-more, either_empty_from_Zip}
-use Rattle.par2_spec.specs.Checksums.{Pair}
-use Rattle.par2_spec.specs.Sets.{Target}
-use Rattle.par2_slices.specs.Texts.{padded_windows}
-use Rattle.par2_plan.specs.Findings.{pairs_sought, standing_by, standings_by, sought_by}
-use Rattle.par2_plan.specs.Views.{given_of, standings_of}
+use Rattle.par2_plan.proofs.Common.{◌≡◌, ◌∙◌, ◌++◌, [], List, ℕ, Bool, Bor, length, map, take, drop, sym, ap, ap₂, append-nil, drop-drop, Option, zip_first, zip_second, iter_rest, Zip-more, either_empty_from_Zip, Pair, Target, padded_windows, pairs_sought, standing_by, standings_by, sought_by, given_of, standings_of}
 use Rattle.par2_plan.specs.declared.finding.Standing as code
 use Rattle.par2_plan.proofs.Standings.{stands_more, standings_end}
 use Rattle.par2_plan.proofs.finding.standings_with.Goals as goal

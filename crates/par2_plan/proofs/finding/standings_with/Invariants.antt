@@ -1,11 +1,4 @@
-use Rattle.std.proofs.Common.{◌≡◌, ◌++◌, ◌≤◌, ℕ, List, length, map, drop}
-use Rattle.std.specs.Prelude.{Option}
-use Rattle.std.specs.Iterator.Adapters.{zip_first, zip_second}
-use Rattle.std.specs.Slice.Iter.{iter_rest}
-use Rattle.par2_spec.specs.Checksums.{Pair}
-use Rattle.par2_slices.specs.Texts.{padded_windows}
-use Rattle.par2_plan.specs.Findings.{sought_by, standings_by}
-use Rattle.par2_plan.specs.Views.{standings_of}
+use Rattle.par2_plan.proofs.Common.{◌≡◌, ◌++◌, ◌≤◌, ℕ, List, length, map, drop, Option, zip_first, zip_second, iter_rest, Pair, padded_windows, sought_by, standings_by, standings_of}
 use Rattle.par2_plan.proofs.finding.standings_with.Given as goal
 
 abbrev pub invariant-loop-target : goal.invariant-loop-target

@@ -1,11 +1,4 @@
-use Rattle.std.proofs.Common.{◌∙◌, ◌++◌, List, sym, ap, append-nil}
-use Rattle.std.specs.Prelude.{flat_map}
-use Rattle.std.proofs.lemmas.List.{take_all}
-use Rattle.par2_spec.specs.Packets.{packet}
-use Rattle.par2_spec.specs.Volumes.{packet_of, ifsc_bytes}
-use Rattle.par2_spec.specs.declared.Kind.TheVariants.{Ifsc}
-use Rattle.par2_packets.specs.Views.{file_record_of}
-use Rattle.par2_packets.specs.declared.record.FileRecord.{FileRecord}
+use Rattle.par2_plan.proofs.Common.{◌∙◌, ◌++◌, List, sym, ap, append-nil, flat_map, take_all, packet, packet_of, ifsc_bytes, Ifsc, file_record_of, FileRecord}
 use Rattle.par2_plan.proofs.SliceLists.{appended_next}
 use Rattle.par2_plan.proofs.index.append_ifscs.Goals as goal
 

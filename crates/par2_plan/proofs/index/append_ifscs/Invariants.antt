@@ -1,9 +1,4 @@
-use Rattle.std.proofs.Common.{◌≡◌, ◌++◌, take}
-use Rattle.std.specs.Prelude.{flat_map}
-use Rattle.par2_spec.specs.Packets.{packet}
-use Rattle.par2_spec.specs.Volumes.{packet_of, ifsc_bytes}
-use Rattle.par2_spec.specs.declared.Kind.TheVariants.{Ifsc}
-use Rattle.par2_packets.specs.Views.{file_record_of}
+use Rattle.par2_plan.proofs.Common.{◌≡◌, ◌++◌, take, flat_map, packet, packet_of, ifsc_bytes, Ifsc, file_record_of}
 use Rattle.par2_plan.proofs.index.append_ifscs.Given as goal
 
 abbrev pub invariant-loop-file : goal.invariant-loop-file

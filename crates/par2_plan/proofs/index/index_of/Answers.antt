@@ -1,4 +1,4 @@
-use Rattle.std.proofs.Common.{sym}
+use Rattle.par2_plan.proofs.Common.{sym}
 use Rattle.par2_plan.proofs.IndexBytes.{index_bytes}
 use Rattle.par2_plan.proofs.index.index_of.Goals as goal
 

@@ -1,9 +1,5 @@
-use Rattle.std.proofs.Common.{◌≡◌, ◌∙◌, ◌+◌, ◌≤◌, [], sym, ap, get_or, length, take, sum_by, arith}
-use Rattle.std.proofs.lemmas.Bool.{lt-ltb}
-use Rattle.std.proofs.lemmas.List.{get_or_default}
-use Rattle.par2_spec.specs.Slices.{slice_count}
-use Rattle.par2_spec.specs.Folders.{File, bytes_of}
-use Rattle.par2_spec.specs.Commands.{files_of}
+use Rattle.par2_plan.proofs.Common.{◌≡◌, ◌∙◌, ◌+◌, ◌≤◌, [], sym, ap, get_or, length, take, arith, lt-ltb, get_or_default, slice_count, File, bytes_of, files_of}
+use Rattle.std.proofs.Common.{sum_by}
 use Rattle.par2_plan.proofs.SliceLists.{part_of_sum}
 use Rattle.par2_plan.proofs.inputs.are_too_many.Goals as goal
 

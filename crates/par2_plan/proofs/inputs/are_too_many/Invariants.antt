@@ -1,6 +1,5 @@
-use Rattle.std.proofs.Common.{◌≡◌, ◌+◌, length, take, sum_by}
-use Rattle.par2_spec.specs.Slices.{slice_count}
-use Rattle.par2_spec.specs.Commands.{files_of}
+use Rattle.par2_plan.proofs.Common.{◌≡◌, ◌+◌, length, take, slice_count, files_of}
+use Rattle.std.proofs.Common.{sum_by}
 use Rattle.par2_plan.proofs.inputs.are_too_many.Given as goal
 
 abbrev pub invariant-loop-i : goal.invariant-loop-i

@@ -1,4 +1,4 @@
-use Rattle.std.proofs.Common.{◌∙◌, sym, true, false}
+use Rattle.par2_plan.proofs.Common.{◌∙◌, sym, true, false}
 use Rattle.par2_plan.proofs.Places.{empty_found, slices_tested}
 use Rattle.par2_plan.proofs.inputs.files_fault.Goals as goal
 

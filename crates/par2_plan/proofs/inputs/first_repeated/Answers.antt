@@ -1,9 +1,4 @@
-use Rattle.std.proofs.Common.{◌≡◌, ◌∙◌, ◌+◌, ◌++◌, ◌∷◌, [], ℕ, List, Bor, sym, ap, true, false, not, get_or, take, subst, arith, below_more}
-use Rattle.std.proofs.lemmas.List.{get_or_default, take_more}
-use Rattle.std.proofs.lemmas.Bool.{not-true, not-false}
-use Rattle.par2_spec.specs.Names.{is_among}
-use Rattle.par2_plan.specs.Matches.{HoldsNames}
-use Rattle.par2_spec.proofs.TreeLaws.{holds_more}
+use Rattle.par2_plan.proofs.Common.{◌≡◌, ◌∙◌, ◌+◌, ◌++◌, ◌∷◌, [], ℕ, List, Bor, sym, ap, true, false, not, get_or, take, subst, arith, below_more, get_or_default, take_more, not-true, not-false, is_among, HoldsNames, holds_more}
 use Rattle.par2_plan.proofs.Places.{again_found, again_nowhere}
 use Rattle.par2_plan.proofs.inputs.first_repeated.Goals as goal
 

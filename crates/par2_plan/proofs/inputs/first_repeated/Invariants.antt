@@ -1,5 +1,4 @@
-use Rattle.std.proofs.Common.{◌≡◌, ◌<◌, ℕ, false, take}
-use Rattle.par2_plan.specs.Matches.{HoldsNames}
+use Rattle.par2_plan.proofs.Common.{◌≡◌, ◌<◌, ℕ, false, take, HoldsNames}
 use Rattle.par2_plan.proofs.Places.{comes_again}
 use Rattle.par2_plan.proofs.inputs.first_repeated.Given as goal
 

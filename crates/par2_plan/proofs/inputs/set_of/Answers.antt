@@ -1,7 +1,4 @@
-use Rattle.std.proofs.Common.{refl, subst, sym}
-use Rattle.std.specs.List.{IsDistinct}
-use Rattle.std.specs.Str.{bytes_eq}
-use Rattle.std.proofs.lemmas.Bool.{false≢true}
+use Rattle.par2_plan.proofs.Common.{refl, subst, sym, IsDistinct, bytes_eq, false≢true}
 use Rattle.par2_plan.proofs.Ids.{ids_accepted, ids_refused, ids_said}
 use Rattle.par2_plan.proofs.inputs.set_of.Goals as goal
 

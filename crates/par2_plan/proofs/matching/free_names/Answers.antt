@@ -1,8 +1,4 @@
-use Rattle.std.proofs.Common.{◌≡◌, ◌∙◌, ◌+◌, ◌++◌, ◌∷◌, [], List, ℕ, Bor, true, false, not, cond, sym, ap, take, append-nil, rules}
-use Rattle.std.specs.Prelude.{filter}
-use Rattle.std.proofs.lemmas.List.{take_all, take_more}
-use Rattle.par2_spec.specs.Names.{is_among}
-use Rattle.par2_plan.specs.Matches.{intact_by}
+use Rattle.par2_plan.proofs.Common.{◌≡◌, ◌∙◌, ◌+◌, ◌++◌, ◌∷◌, [], List, ℕ, Bor, true, false, not, cond, sym, ap, take, append-nil, rules, filter, take_all, take_more, is_among, intact_by}
 use Rattle.par2_plan.proofs.Choices.{filter_push}
 use Rattle.par2_plan.proofs.matching.free_names.Goals as goal
 use Rattle.par2_plan.proofs.matching.free_names.Goals.{then-not-contains+in_ok-push, else-not-contains}

@@ -1,7 +1,4 @@
-use Rattle.std.proofs.Common.{◌≡◌, take, not}
-use Rattle.std.specs.Prelude.{filter}
-use Rattle.par2_spec.specs.Names.{is_among}
-use Rattle.par2_plan.specs.Matches.{intact_by}
+use Rattle.par2_plan.proofs.Common.{◌≡◌, take, not, filter, is_among, intact_by}
 use Rattle.par2_plan.proofs.matching.free_names.Given as goal
 
 abbrev pub invariant-loop-name : goal.invariant-loop-name

@@ -1,11 +1,4 @@
-use Rattle.std.proofs.Common.{◌≡◌, ◌∙◌, ◌||◌, ◌∷◌, [], List, Bool, sym, ap, ap₂, refl, true, false, map}
-use Rattle.std.specs.BTreeSet.{contains}
-use Rattle.std.specs.Iterator.Adapters.{zip_first, zip_second}
-use Rattle.std.specs.Slice.Iter.{iter_rest}
-use Rattle.std.proofs.lemmas.Slice.Zip.{Zip-more, either_empty_from_Zip}
-use Rattle.par2_spec.specs.Names.{is_among}
-use Rattle.par2_spec.specs.Sets.{Target}
-use Rattle.par2_plan.specs.Matches.{intact_by, passed_over, name_cmp}
+use Rattle.par2_plan.proofs.Common.{◌≡◌, ◌∙◌, ◌||◌, ◌∷◌, [], List, Bool, sym, ap, ap₂, refl, true, false, map, contains, zip_first, zip_second, iter_rest, Zip-more, either_empty_from_Zip, is_among, Target, intact_by, passed_over, name_cmp}
 use Rattle.par2_plan.proofs.Choices.{holds_with_rest, passed_over_end}
 use Rattle.par2_plan.proofs.matching.intact_names.Goals as goal
 

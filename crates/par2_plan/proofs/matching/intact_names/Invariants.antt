@@ -1,9 +1,4 @@
-use Rattle.std.proofs.Common.{◌≡◌, ◌||◌, ℕ, List, Bor}
-use Rattle.std.specs.BTreeSet.{contains}
-use Rattle.std.specs.Iterator.Adapters.{zip_first, zip_second}
-use Rattle.std.specs.Slice.Iter.{iter_rest}
-use Rattle.par2_spec.specs.Names.{is_among}
-use Rattle.par2_plan.specs.Matches.{intact_by, name_cmp}
+use Rattle.par2_plan.proofs.Common.{◌≡◌, ◌||◌, ℕ, List, Bor, contains, zip_first, zip_second, iter_rest, is_among, intact_by, name_cmp}
 use Rattle.par2_plan.proofs.matching.intact_names.Given as goal
 
 abbrev pub invariant-loop-target : goal.invariant-loop-target

@@ -1,14 +1,4 @@
-use Rattle.std.proofs.Common.{◌≡◌, ◌∙◌, List, Bool, ℕ, length, map, not, sym, ap, ap₂, subst}
-use Rattle.std.specs.Prelude.{option_map, Option, filter}
-use Rattle.std.proofs.lemmas.List.{length-map}
-use Rattle.std.proofs.lemmas.Result.{IfOk-weaker}
-use Rattle.par2_spec.specs.Folders.{bytes_of}
-use Rattle.par2_spec.specs.Names.{is_among}
-use Rattle.par2_spec.specs.Sets.{Target}
-use Rattle.par2_spec.specs.Search.{needing}
-use Rattle.par2_slices.specs.Matching.{text_at, matched_numbers, Describe}
-use Rattle.par2_slices.specs.Texts.{texts_of}
-use Rattle.par2_plan.specs.Matches.{ArePlaces, items_where, intact_by}
+use Rattle.par2_plan.proofs.Common.{◌≡◌, ◌∙◌, List, Bool, ℕ, length, map, not, sym, ap, ap₂, subst, option_map, Option, filter, length-map, IfOk-weaker, bytes_of, is_among, Target, needing, text_at, matched_numbers, Describe, texts_of, ArePlaces, items_where, intact_by}
 use Rattle.par2_plan.proofs.MatchNumbers.{are_places, chosen_needing, given_by_numbers, free_by}
 use Rattle.par2_plan.proofs.matching.matches.Goals as goal
 

@@ -1,8 +1,4 @@
-use Rattle.std.proofs.Common.{◌∙◌, ◌<◌, ◌++◌, ◌∷◌, [], List, ℕ, length, map, sym, ap, ap₂}
-use Rattle.std.specs.Prelude.{Option, None, option_map, IfSome}
-use Rattle.std.proofs.lemmas.List.{map_more, take_all}
-use Rattle.std.proofs.lemmas.List.Elements.{All-from_recursion}
-use Rattle.par2_slices.specs.Matching.{text_at}
+use Rattle.par2_plan.proofs.Common.{◌∙◌, ◌<◌, ◌++◌, ◌∷◌, [], List, ℕ, length, map, sym, ap, ap₂, Option, None, option_map, IfSome, map_more, take_all, All-from_recursion, text_at}
 use Rattle.par2_plan.proofs.matching.names_at.Goals as goal
 
 pub name_at-requires : goal.name_at-requires

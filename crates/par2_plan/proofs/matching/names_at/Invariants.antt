@@ -1,6 +1,4 @@
-use Rattle.std.proofs.Common.{◌≡◌, map, take}
-use Rattle.std.specs.Prelude.{option_map}
-use Rattle.par2_slices.specs.Matching.{text_at}
+use Rattle.par2_plan.proofs.Common.{◌≡◌, map, take, option_map, text_at}
 use Rattle.par2_plan.proofs.matching.names_at.Given as goal
 
 abbrev pub invariant-loop-number : goal.invariant-loop-number

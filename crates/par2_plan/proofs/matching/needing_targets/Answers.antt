@@ -1,10 +1,4 @@
-use Rattle.std.proofs.Common.{◌≡◌, ◌∙◌, ◌++◌, ◌∷◌, [], List, Bool, sym, ap, ap₂, subst, append-nil, append_assoc}
-use Rattle.std.specs.Iterator.Adapters.{zip_first, zip_second}
-use Rattle.std.specs.Slice.Iter.{iter_rest}
-use Rattle.std.proofs.lemmas.Slice.Zip.{Zip-more, either_empty_from_Zip}
-use Rattle.par2_spec.specs.Sets.{Target}
-use Rattle.par2_slices.specs.Matching.{Describe}
-use Rattle.par2_plan.specs.Matches.{items_where}
+use Rattle.par2_plan.proofs.Common.{◌≡◌, ◌∙◌, ◌++◌, ◌∷◌, [], List, Bool, sym, ap, ap₂, subst, append-nil, append_assoc, zip_first, zip_second, iter_rest, Zip-more, either_empty_from_Zip, Target, Describe, items_where}
 use Rattle.par2_plan.proofs.Choices.{Describe-more, chosen_end}
 use Rattle.par2_plan.proofs.matching.needing_targets.Goals as goal
 

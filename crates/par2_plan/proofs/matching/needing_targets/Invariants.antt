@@ -1,9 +1,4 @@
-use Rattle.std.proofs.Common.{◌≡◌, ◌++◌, List}
-use Rattle.std.specs.Iterator.Adapters.{zip_first, zip_second}
-use Rattle.std.specs.Slice.Iter.{iter_rest}
-use Rattle.par2_spec.specs.Sets.{Target}
-use Rattle.par2_slices.specs.Matching.{Describe}
-use Rattle.par2_plan.specs.Matches.{items_where}
+use Rattle.par2_plan.proofs.Common.{◌≡◌, ◌++◌, List, zip_first, zip_second, iter_rest, Target, Describe, items_where}
 use Rattle.par2_plan.proofs.matching.needing_targets.Given as goal
 
 abbrev pub invariant-loop-target : goal.invariant-loop-target

@@ -1,7 +1,4 @@
-use Rattle.std.proofs.Common.{◌≡◌, ◌∙◌, ◌<◌, ◌≤◌, ◌++◌, ◌∷◌, [], List, Bool, length, map, get_or, sym, ap, ap₂, subst}
-use Rattle.std.proofs.lemmas.List.{map_more, take_all}
-use Rattle.par2_spec.specs.Search.{is_needing}
-use Rattle.par2_spec.specs.Sets.{Target}
+use Rattle.par2_plan.proofs.Common.{◌≡◌, ◌∙◌, ◌<◌, ◌≤◌, ◌++◌, ◌∷◌, [], List, Bool, length, map, get_or, sym, ap, ap₂, subst, map_more, take_all, is_needing, Target}
 use Rattle.par2_plan.proofs.matching.needs.Goals as goal
 
 pub loop-target-preserved : goal.loop-target-preserved

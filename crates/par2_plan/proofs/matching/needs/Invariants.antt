@@ -1,5 +1,4 @@
-use Rattle.std.proofs.Common.{◌≡◌, map, take}
-use Rattle.par2_spec.specs.Search.{is_needing}
+use Rattle.par2_plan.proofs.Common.{◌≡◌, map, take, is_needing}
 use Rattle.par2_plan.proofs.matching.needs.Given as goal
 
 abbrev pub invariant-loop-target : goal.invariant-loop-target

@@ -1,11 +1,5 @@
-use Rattle.std.proofs.Common.{◌∙◌, List, ℕ, Bor, map, sym, ap}
-use Rattle.std.specs.Prelude.{Some, option_map, if◌then◌else◌}
-use Rattle.std.specs.BTreeMap.{get}
-use Rattle.std.specs.Iterator.Adapters.{zip_first, zip_second}
-use Rattle.std.specs.Slice.Iter.{iter_rest}
-use Rattle.std.proofs.lemmas.Slice.Zip.{Zip-more}
-use Rattle.par2_spec.specs.Names.{is_among}
-use Rattle.par2_plan.specs.Matches.{name_cmp}
+use Rattle.par2_plan.proofs.Common.{◌∙◌, List, ℕ, Bor, map, sym, ap, option_map, if◌then◌else◌, get, zip_first, zip_second, iter_rest, Zip-more, is_among, name_cmp}
+use Rattle.std.specs.Prelude.{Some}
 use Rattle.par2_plan.proofs.Pairs.{asides_with_rest}
 use Rattle.par2_plan.proofs.moves.asides_by_name.Goals as goal
 use Rattle.par2_plan.proofs.SliceLists.{heads}

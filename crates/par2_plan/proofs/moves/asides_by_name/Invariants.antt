@@ -1,10 +1,5 @@
-use Rattle.std.proofs.Common.{◌≡◌, ℕ, List, Bor, map}
-use Rattle.std.specs.Prelude.{Some, None, option_map, if◌then◌else◌}
-use Rattle.std.specs.BTreeMap.{get}
-use Rattle.std.specs.Iterator.Adapters.{zip_first, zip_second}
-use Rattle.std.specs.Slice.Iter.{iter_rest}
-use Rattle.par2_spec.specs.Names.{is_among}
-use Rattle.par2_plan.specs.Matches.{name_cmp}
+use Rattle.par2_plan.proofs.Common.{◌≡◌, ℕ, List, Bor, map, None, option_map, if◌then◌else◌, get, zip_first, zip_second, iter_rest, is_among, name_cmp}
+use Rattle.std.specs.Prelude.{Some}
 use Rattle.par2_plan.proofs.moves.asides_by_name.Given as goal
 
 abbrev pub invariant-loop-name : goal.invariant-loop-name

@@ -1,9 +1,4 @@
-use Rattle.std.proofs.Common.{◌≡◌, ◌∙◌, ◌+◌, ◌++◌, ◌∷◌, [], List, ℕ, Bor, sym, ap, subst, take, get_or, append-nil}
-use Rattle.std.specs.Prelude.{Option, None, option_to_list}
-use Rattle.std.proofs.lemmas.List.{take_more, get_or_default}
-use Rattle.par2_plan.specs.Matches.{HoldsNames}
-use Rattle.par2_plan.specs.Repairing.{names_given}
-use Rattle.par2_spec.proofs.TreeLaws.{holds_more}
+use Rattle.par2_plan.proofs.Common.{◌≡◌, ◌∙◌, ◌+◌, ◌++◌, ◌∷◌, [], List, ℕ, Bor, sym, ap, subst, take, get_or, append-nil, Option, None, option_to_list, take_more, get_or_default, HoldsNames, names_given, holds_more}
 use Rattle.par2_plan.proofs.Pairs.{given_push}
 use Rattle.par2_plan.proofs.moves.matching_names.Goals as goal
 use Rattle.par2_plan.proofs.moves.matching_names.Goals.{in-Some+in_ok-insert, in_default}

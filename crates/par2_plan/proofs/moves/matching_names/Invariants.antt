@@ -1,6 +1,4 @@
-use Rattle.std.proofs.Common.{take}
-use Rattle.par2_plan.specs.Matches.{HoldsNames}
-use Rattle.par2_plan.specs.Repairing.{names_given}
+use Rattle.par2_plan.proofs.Common.{take, HoldsNames, names_given}
 use Rattle.par2_plan.proofs.moves.matching_names.Given as goal
 
 abbrev pub invariant-loop-found : goal.invariant-loop-found

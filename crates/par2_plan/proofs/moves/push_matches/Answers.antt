@@ -1,10 +1,5 @@
-use Rattle.std.proofs.Common.{◌∙◌, ◌++◌, ◌∷◌, [], List, ℕ, Option, refl, sym, ap, ap₂, append-nil}
-use Rattle.std.specs.Prelude.{filter_map, option_map, zip}
-use Rattle.std.specs.Iterator.Adapters.{zip_first, zip_second}
-use Rattle.std.specs.Slice.Iter.{iter_rest}
-use Rattle.std.proofs.lemmas.Slice.Zip.{Zip-more, either_empty_from_Zip}
-use Rattle.par2_spec.specs.Changes.{Change, Rename}
-use Rattle.par2_plan.specs.Repairing.{place_by}
+use Rattle.par2_plan.proofs.Common.{◌∙◌, ◌++◌, ◌∷◌, [], List, ℕ, refl, sym, ap, ap₂, append-nil, filter_map, option_map, zip, zip_first, zip_second, iter_rest, Zip-more, either_empty_from_Zip, Change, Rename, place_by}
+use Rattle.std.proofs.Common.{Option}
 use Rattle.par2_plan.proofs.Pairs.{all_done, next_pair}
 use Rattle.par2_plan.proofs.moves.push_matches.Goals as goal
 

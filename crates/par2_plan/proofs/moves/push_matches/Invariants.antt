@@ -1,7 +1,4 @@
-use Rattle.std.proofs.Common.{◌≡◌, ◌++◌, ℕ, List}
-use Rattle.std.specs.Iterator.Adapters.{zip_first, zip_second}
-use Rattle.std.specs.Slice.Iter.{iter_rest}
-use Rattle.par2_plan.specs.Repairing.{matches_taken, place_by, HoldsAsides}
+use Rattle.par2_plan.proofs.Common.{◌≡◌, ◌++◌, ℕ, List, zip_first, zip_second, iter_rest, matches_taken, place_by, HoldsAsides}
 use Rattle.par2_plan.proofs.moves.push_matches.Given as goal
 
 abbrev pub invariant-loop-name : goal.invariant-loop-name

@@ -1,6 +1,4 @@
-use Rattle.std.proofs.Common.{◌∙◌, ◌++◌, ◌∷◌, [], map, refl, ap₂}
-use Rattle.std.proofs.lemmas.Slice.Zip.{Zip-more, either_empty_from_Zip}
-use Rattle.par2_spec.specs.Changes.{Rename}
+use Rattle.par2_plan.proofs.Common.{◌∙◌, ◌++◌, ◌∷◌, [], map, refl, ap₂, Zip-more, either_empty_from_Zip, Rename}
 use Rattle.par2_plan.proofs.Pairs.{all_done, next_pair}
 use Rattle.par2_plan.proofs.moves.push_renames.Goals as goal
 

@@ -1,7 +1,4 @@
-use Rattle.std.proofs.Common.{◌≡◌, ◌++◌}
-use Rattle.std.specs.Iterator.Adapters.{zip_first, zip_second}
-use Rattle.std.specs.Slice.Iter.{iter_rest}
-use Rattle.par2_plan.specs.Repairing.{renames}
+use Rattle.par2_plan.proofs.Common.{◌≡◌, ◌++◌, zip_first, zip_second, iter_rest, renames}
 use Rattle.par2_plan.proofs.moves.push_renames.Given as goal
 
 abbrev pub invariant-loop-name : goal.invariant-loop-name

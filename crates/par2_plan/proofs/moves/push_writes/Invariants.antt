@@ -1,6 +1,4 @@
-use Rattle.std.proofs.Common.{◌≡◌, ◌++◌, length}
-use Rattle.std.specs.Vec.Iter.{into_iter_items, into_iter_len}
-use Rattle.par2_plan.specs.Repairing.{writes}
+use Rattle.par2_plan.proofs.Common.{◌≡◌, ◌++◌, length, into_iter_items, into_iter_len, writes}
 use Rattle.par2_plan.proofs.moves.push_writes.Given as goal
 
 abbrev pub invariant-loop-name : goal.invariant-loop-name

@@ -1,8 +1,5 @@
-use Rattle.std.proofs.Common.{◌≡◌, ◌∙◌, ◌++◌, ◌∷◌, [], List, ℕ, map, refl, sym, ap, true, false, append-nil}
-use Rattle.std.specs.Prelude.{filter, not}
-use Rattle.std.proofs.lemmas.Slice.Zip.{Zip-more, either_empty_from_Zip}
-use Rattle.par2_spec.specs.Changes.{Change, Remove}
-use Rattle.par2_spec.specs.Names.{is_among}
+use Rattle.par2_plan.proofs.Common.{◌≡◌, ◌∙◌, ◌++◌, ◌∷◌, [], List, ℕ, map, refl, sym, ap, true, false, append-nil, filter, Zip-more, either_empty_from_Zip, Change, Remove, is_among}
+use Rattle.std.specs.Prelude.{not}
 use Rattle.par2_plan.proofs.Pairs.{all_done, next_pair, kept_aside, removed_aside}
 use Rattle.par2_plan.proofs.moves.remove_asides.Goals as goal
 

@@ -1,8 +1,4 @@
-use Rattle.std.proofs.Common.{◌≡◌, ◌++◌, ℕ, List}
-use Rattle.std.specs.Iterator.Adapters.{zip_first, zip_second}
-use Rattle.std.specs.Slice.Iter.{iter_rest}
-use Rattle.par2_plan.specs.Matches.{HoldsNames}
-use Rattle.par2_plan.specs.Repairing.{asides_removed}
+use Rattle.par2_plan.proofs.Common.{◌≡◌, ◌++◌, ℕ, List, zip_first, zip_second, iter_rest, HoldsNames, asides_removed}
 use Rattle.par2_plan.proofs.moves.remove_asides.Given as goal
 
 abbrev pub invariant-loop-name : goal.invariant-loop-name

@@ -1,8 +1,4 @@
-use Rattle.std.proofs.Common.{◌≡◌, ◌∙◌, ◌+◌, ◌++◌, ◌∷◌, [], List, ℕ, Bor, true, false, not, cond, sym, ap, take, append-nil, append_assoc, rules}
-use Rattle.std.proofs.lemmas.List.{take_more}
-use Rattle.par2_spec.specs.Changes.{Change, Remove}
-use Rattle.par2_spec.specs.Names.{is_among}
-use Rattle.par2_plan.specs.Repairing.{files_removed}
+use Rattle.par2_plan.proofs.Common.{◌≡◌, ◌∙◌, ◌+◌, ◌++◌, ◌∷◌, [], List, ℕ, Bor, true, false, not, cond, sym, ap, take, append-nil, append_assoc, rules, take_more, Change, Remove, is_among, files_removed}
 use Rattle.par2_plan.proofs.Pairs.{removed_push}
 use Rattle.par2_plan.proofs.moves.remove_files.Goals as goal
 use Rattle.par2_plan.proofs.moves.remove_files.Goals.{then-not-contains+in_ok-push, else-not-contains}

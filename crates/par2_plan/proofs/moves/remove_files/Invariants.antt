@@ -1,6 +1,4 @@
-use Rattle.std.proofs.Common.{◌≡◌, ◌++◌, ℕ, List, take}
-use Rattle.par2_plan.specs.Matches.{HoldsNames}
-use Rattle.par2_plan.specs.Repairing.{files_removed}
+use Rattle.par2_plan.proofs.Common.{◌≡◌, ◌++◌, ℕ, List, take, HoldsNames, files_removed}
 use Rattle.par2_plan.proofs.moves.remove_files.Given as goal
 
 abbrev pub invariant-loop-name : goal.invariant-loop-name

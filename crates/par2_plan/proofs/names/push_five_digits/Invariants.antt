@@ -1,4 +1,4 @@
-use Rattle.std.proofs.Common.{◌≡◌, ◌+◌, ◌++◌, ◌/◌, ◌%◌, map, take, string_bytes}
+use Rattle.par2_plan.proofs.Common.{◌≡◌, ◌+◌, ◌++◌, ◌/◌, ◌%◌, map, take, string_bytes}
 use Rattle.par2_plan.proofs.names.push_five_digits.Given as goal
 
 abbrev pub invariant-loop-power : goal.invariant-loop-power

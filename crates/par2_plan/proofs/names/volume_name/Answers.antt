@@ -1,9 +1,5 @@
-use Rattle.std.proofs.Common.{◌≡◌, ◌<◌, ◌∙◌, refl, sym, subst, ap, inl, inr, length, true}
-use Rattle.std.proofs.lemmas.Bool.{cases_lt, false≢true}
-use Rattle.std.specs.Str.{is_utf8}
+use Rattle.par2_plan.proofs.Common.{◌≡◌, ◌<◌, ◌∙◌, refl, sym, subst, ap, inl, inr, length, true, cases_lt, false≢true, is_utf8, is_name, volume_name}
 use Rattle.std.proofs.lemmas.Str.{is_utf8-from_IsUtf8}
-use Rattle.par2_spec.specs.Names.{is_name}
-use Rattle.par2_spec.specs.Volumes.{volume_name}
 use Rattle.par2_plan.proofs.VolumeNames.{volume_is_name}
 use Rattle.par2_plan.proofs.names.volume_name.Goals as goal
 

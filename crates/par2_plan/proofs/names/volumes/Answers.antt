@@ -1,11 +1,5 @@
-use Rattle.std.proofs.Common.{◌≡◌, ◌++◌, ◌∙◌, inl, inr, sym, ap, subst, None, Some, ◌⊎◌, arith}
-use Rattle.std.proofs.lemmas.Result.{err_from_is_err_and}
-use Rattle.std.specs.Prelude.{IfErr}
-use Rattle.par2_spec.specs.declared.Fault.{Fault}
-use Rattle.par2_spec.specs.declared.Fault.TheVariants.{Memory}
-use Rattle.par2_spec.proofs.TestLaws.{err_again}
-use Rattle.par2_plan.specs.Faults.{long_name}
-use Rattle.par2_plan.specs.Outputs.{volume_if, volumes_of, names_of}
+use Rattle.par2_plan.proofs.Common.{◌≡◌, ◌++◌, ◌∙◌, inl, inr, sym, ap, subst, Some, ◌⊎◌, arith, err_from_is_err_and, IfErr, Fault, Memory, err_again, long_name, volume_if, volumes_of, names_of}
+use Rattle.std.proofs.Common.{None}
 use Rattle.par2_plan.proofs.VolumeNumbers.{volumes_below, volumes_more, none_long, one_is_long}
 use Rattle.par2_plan.proofs.names.volumes.Goals as goal
 

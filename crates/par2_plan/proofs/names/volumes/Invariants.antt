@@ -1,6 +1,5 @@
-use Rattle.std.proofs.Common.{◌≡◌, None}
-use Rattle.par2_plan.specs.Faults.{long_name}
-use Rattle.par2_plan.specs.Outputs.{names_of}
+use Rattle.par2_plan.proofs.Common.{◌≡◌, long_name, names_of}
+use Rattle.std.proofs.Common.{None}
 use Rattle.par2_plan.proofs.VolumeNumbers.{volumes_below}
 use Rattle.par2_plan.proofs.names.volumes.Given as goal
 

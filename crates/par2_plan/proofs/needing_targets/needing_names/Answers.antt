@@ -1,9 +1,4 @@
-use Rattle.std.proofs.Common.{◌≡◌, ◌∙◌, ◌++◌, [], List, ℕ, map, sym, ap, append-nil}
-use Rattle.std.specs.Iterator.Adapters.{zip_first, zip_second}
-use Rattle.std.specs.Slice.Iter.{iter_rest}
-use Rattle.std.proofs.lemmas.Slice.Zip.{either_empty_from_Zip}
-use Rattle.par2_spec.specs.Sets.{Target}
-use Rattle.par2_plan.specs.Matches.{items_where}
+use Rattle.par2_plan.proofs.Common.{◌≡◌, ◌∙◌, ◌++◌, [], List, ℕ, map, sym, ap, append-nil, zip_first, zip_second, iter_rest, either_empty_from_Zip, Target, items_where}
 use Rattle.par2_plan.proofs.Choices.{chosen_end}
 use Rattle.par2_plan.proofs.needing_targets.needing_names.Goals as goal
 

@@ -1,7 +1,4 @@
-use Rattle.std.proofs.Common.{◌≡◌, ◌++◌, map}
-use Rattle.std.specs.Iterator.Adapters.{zip_first, zip_second}
-use Rattle.std.specs.Slice.Iter.{iter_rest}
-use Rattle.par2_plan.specs.Matches.{items_where}
+use Rattle.par2_plan.proofs.Common.{◌≡◌, ◌++◌, map, zip_first, zip_second, iter_rest, items_where}
 use Rattle.par2_plan.proofs.needing_targets.needing_names.Given as goal
 
 abbrev pub invariant-loop-target : goal.invariant-loop-target

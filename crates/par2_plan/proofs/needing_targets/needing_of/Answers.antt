@@ -1,10 +1,4 @@
-use Rattle.std.proofs.Common.{◌≡◌, ◌∙◌, List, ℕ, Bool, map, ap, ap₂}
-use Rattle.std.specs.Prelude.{Option, filter}
-use Rattle.par2_spec.specs.Folders.{has}
-use Rattle.par2_spec.specs.Search.{needing_names, matches}
-use Rattle.par2_spec.specs.Sets.{Target}
-use Rattle.par2_plan.specs.Matches.{items_where}
-use Rattle.par2_plan.specs.Repairing.{unmatched_names}
+use Rattle.par2_plan.proofs.Common.{◌≡◌, ◌∙◌, List, ℕ, Bool, map, ap, ap₂, Option, filter, has, needing_names, matches, Target, items_where, unmatched_names}
 use Rattle.par2_plan.proofs.MatchNumbers.{chosen_needing}
 use Rattle.par2_plan.proofs.RepairParts.{names_in_pairs, unmatched_of}
 use Rattle.par2_plan.proofs.needing_targets.needing_of.Goals as goal

@@ -1,6 +1,4 @@
-use Rattle.std.proofs.Common.{map, refl}
-use Rattle.std.specs.Prelude.{filter, is_none}
-use Rattle.std.proofs.lemmas.Slice.Zip.{either_empty_from_Zip}
+use Rattle.par2_plan.proofs.Common.{map, refl, filter, is_none, either_empty_from_Zip}
 use Rattle.par2_plan.proofs.Pairs.{all_done}
 use Rattle.par2_plan.proofs.needing_targets.unmatched.Goals as goal
 

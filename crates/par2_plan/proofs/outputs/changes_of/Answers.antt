@@ -1,10 +1,5 @@
-use Rattle.std.proofs.Common.{◌≡◌, ◌∙◌, ◌+◌, ◌<◌, ◌++◌, ◌∷◌, [], List, ℕ, Vec, Global, length, map, take, drop, sym, ap, ap₂, append_assoc, append-nil, length-drop, arith, rules}
-use Rattle.std.proofs.lemmas.List.{map_more, drop_more, length-map, take_all}
-use Rattle.par2_spec.specs.Changes.{Change}
-use Rattle.par2_folder.specs.Views.{change_of}
-use Rattle.par2_spec.specs.Sums.{lists_of}
-use Rattle.par2_plan.specs.Outputs.{volume_text, put_change}
-use Rattle.par2_plan.specs.declared.names.Volume.{Volume}
+use Rattle.par2_plan.proofs.Common.{◌≡◌, ◌∙◌, ◌+◌, ◌<◌, ◌++◌, ◌∷◌, [], List, ℕ, Vec, Global, length, map, take, drop, sym, ap, ap₂, append_assoc, append-nil, arith, rules, map_more, drop_more, length-map, take_all, Change, change_of, lists_of, volume_text, put_change, Volume}
+use Rattle.std.proofs.Common.{length-drop}
 use Rattle.par2_plan.proofs.SliceLists.{first_of}
 use Rattle.par2_plan.proofs.outputs.changes_of.Goals as goal
 

@@ -1,6 +1,4 @@
-use Rattle.std.proofs.Common.{◌≡◌, ◌++◌, map, take, drop}
-use Rattle.par2_spec.specs.Sums.{lists_of}
-use Rattle.par2_plan.specs.Outputs.{volume_text, put_change}
+use Rattle.par2_plan.proofs.Common.{◌≡◌, ◌++◌, map, take, drop, lists_of, volume_text, put_change}
 use Rattle.par2_plan.proofs.outputs.changes_of.Given as goal
 
 abbrev pub invariant-loop-volume : goal.invariant-loop-volume

@@ -1,13 +1,5 @@
-use Rattle.std.proofs.Common.{◌≡◌, ◌⊎◌, ◌∙◌, List, [], sym, ap, subst, Option, Some, None, Err, IsTrue}
-use Rattle.std.specs.Prelude.{IfOk, IfErr}
-use Rattle.std.proofs.lemmas.Result.{err_from_is_err_and, IfOk-weaker}
-use Rattle.par2_spec.specs.Changes.{Change, effects, are_applicable}
-use Rattle.par2_spec.specs.Commands.{Purge}
-use Rattle.par2_spec.specs.Plans.{changes_of}
-use Rattle.par2_spec.specs.Refusals.{set_in, refusal, after}
-use Rattle.par2_spec.specs.declared.Fault.{Fault}
-use Rattle.par2_spec.specs.declared.Fault.TheVariants.{Memory}
-use Rattle.par2_spec.proofs.SessionLaws.{ok_no_err}
+use Rattle.par2_plan.proofs.Common.{◌≡◌, ◌⊎◌, ◌∙◌, List, [], sym, ap, subst, Some, Err, IsTrue, IfOk, IfErr, err_from_is_err_and, IfOk-weaker, Change, effects, are_applicable, Purge, changes_of, set_in, refusal, after, Fault, Memory, ok_no_err}
+use Rattle.std.proofs.Common.{Option, None}
 use Rattle.par2_plan.proofs.PassedAnswers.{refused_by, err_passed}
 use Rattle.par2_plan.proofs.PlanParts.{early_purge, purge_unread, purge_refused, purge_by_set, purge_leads}
 use Rattle.par2_plan.proofs.purge.plan_purge.Goals as goal

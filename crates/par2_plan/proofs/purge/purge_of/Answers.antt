@@ -1,11 +1,7 @@
-use Rattle.std.proofs.Common.{◌≡◌, ◌∙◌, ◌==◌, length, not, sym, ap, inr, rules, tests}
-use Rattle.std.specs.Prelude.{filter}
-use Rattle.std.specs.List.{list_any}
+use Rattle.par2_plan.proofs.Common.{◌≡◌, ◌∙◌, length, not, sym, ap, inr, rules, tests, filter, list_any, fault_where, is_needing, NotComplete}
+use Rattle.std.proofs.Common.{◌==◌}
 use Rattle.std.proofs.lemmas.Iterator.{YieldsList-from_slice}
 use Rattle.std.proofs.lemmas.Iterator.Search.{any_from_yields_List}
-use Rattle.par2_spec.specs.Faults.{fault_where}
-use Rattle.par2_spec.specs.Search.{is_needing}
-use Rattle.par2_spec.specs.declared.Fault.TheVariants.{NotComplete}
 use Rattle.par2_plan.proofs.RepairParts.{any_needing}
 use Rattle.par2_plan.proofs.purge.purge_of.Goals.{After-any}
 use Rattle.par2_plan.proofs.purge.purge_of.Goals as goal

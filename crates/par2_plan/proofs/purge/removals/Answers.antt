@@ -1,6 +1,4 @@
-use Rattle.std.proofs.Common.{◌∙◌, ◌++◌, ◌∷◌, [], List, ℕ, map, sym, ap, ap₂}
-use Rattle.std.proofs.lemmas.List.{map_more, take_all}
-use Rattle.par2_spec.specs.Changes.{Change, Remove}
+use Rattle.par2_plan.proofs.Common.{◌∙◌, ◌++◌, ◌∷◌, [], List, ℕ, map, sym, ap, ap₂, map_more, take_all, Change, Remove}
 use Rattle.par2_plan.proofs.purge.removals.Goals as goal
 
 pub loop-name-preserved : goal.loop-name-preserved

@@ -1,5 +1,4 @@
-use Rattle.std.proofs.Common.{◌≡◌, map, take}
-use Rattle.par2_spec.specs.Changes.{Remove}
+use Rattle.par2_plan.proofs.Common.{◌≡◌, map, take, Remove}
 use Rattle.par2_plan.proofs.purge.removals.Given as goal
 
 abbrev pub invariant-loop-name : goal.invariant-loop-name

@@ -1,7 +1,4 @@
-use Rattle.std.proofs.Common.{◌≡◌, ◌∙◌, sym, ap, false}
-use Rattle.std.proofs.lemmas.Bool.{false_from_ne_true, both_ways}
-use Rattle.std.specs.Prelude.{is_some}
-use Rattle.par2_spec.specs.Names.{is_name}
+use Rattle.par2_plan.proofs.Common.{◌≡◌, ◌∙◌, sym, ap, false, false_from_ne_true, both_ways, is_some, is_name}
 use Rattle.par2_spec.proofs.MovesLaws.{no_names_file}
 use Rattle.par2_plan.proofs.reading.present.Goals as goal
 

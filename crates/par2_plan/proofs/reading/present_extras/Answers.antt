@@ -1,15 +1,4 @@
-use Rattle.std.proofs.Common.{◌≡◌, ◌<◌, ◌+◌, ◌∙◌, ◌++◌, ◌∷◌, [], ℕ, List, length, map, get_or, sym, ap, ap₂, subst, inl, inr, true, false, not, arith, rules, string_bytes, Some, Ok, Err, Result, Vec, Global}
-use Rattle.std.specs.Prelude.{option_map, position, ok_or}
-use Rattle.std.proofs.lemmas.Bool.{cases_lt}
-use Rattle.std.proofs.lemmas.Result.{err_from_is_err_and}
-use Rattle.std.proofs.lemmas.List.{length-map, take_more, take-map, take_all}
-use Rattle.par2_spec.specs.declared.Fault.{Fault}
-use Rattle.par2_spec.specs.declared.Fault.TheVariants.{NoSuchFile}
-use Rattle.par2_spec.specs.Faults.{or_fault}
-use Rattle.par2_spec.specs.Folders.{has}
-use Rattle.par2_spec.proofs.TestLaws.{err_again}
-use Rattle.par2_sets.specs.Steps.{Gives}
-use Rattle.par2_plan.specs.Readings.{present_from}
+use Rattle.par2_plan.proofs.Common.{◌≡◌, ◌<◌, ◌+◌, ◌∙◌, ◌++◌, ◌∷◌, [], ℕ, List, length, map, get_or, sym, ap, ap₂, subst, inl, inr, true, false, not, arith, rules, string_bytes, Some, Ok, Err, Result, Vec, Global, option_map, position, ok_or, cases_lt, err_from_is_err_and, length-map, take_more, take-map, take_all, Fault, NoSuchFile, or_fault, has, err_again, Gives, present_from}
 use Rattle.par2_plan.proofs.SliceLists.{get_at_place}
 use Rattle.par2_plan.proofs.Places.{found_at, found_nowhere}
 use Rattle.par2_plan.proofs.reading.present_extras.Goals as goal

@@ -1,5 +1,4 @@
-use Rattle.std.proofs.Common.{◌≡◌, ◌<◌, ℕ, [], map, take, get_or, true, string_bytes}
-use Rattle.par2_spec.specs.Folders.{has}
+use Rattle.par2_plan.proofs.Common.{◌≡◌, ◌<◌, ℕ, [], map, take, get_or, true, string_bytes, has}
 use Rattle.par2_plan.proofs.reading.present_extras.Given as goal
 
 abbrev pub invariant-loop-i : goal.invariant-loop-i

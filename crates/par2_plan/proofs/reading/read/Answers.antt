@@ -1,13 +1,6 @@
-use Rattle.std.proofs.Common.{◌≡◌, ◌⊎◌, ◌+◌, ◌∙◌, refl, sym, ap, inl, inr, map, string_bytes, true, false, not, Some, None, Err, rules}
-use Rattle.std.specs.Prelude.{ok_or, position, Result}
-use Rattle.std.proofs.lemmas.Result.{err_from_is_err_and}
-use Rattle.par2_spec.specs.declared.Fault.{Fault}
-use Rattle.par2_spec.specs.declared.Fault.TheVariants.{NoSuchFile, Memory}
-use Rattle.par2_spec.specs.Folders.{has}
-use Rattle.par2_spec.specs.Sets.{ParSet, set_of}
-use Rattle.par2_spec.specs.Refusals.{absent_file, set_in}
-use Rattle.par2_spec.proofs.TestLaws.{err_again}
-use Rattle.par2_sets.specs.Steps.{Gives}
+use Rattle.par2_plan.proofs.Common.{◌≡◌, ◌⊎◌, ◌+◌, ◌∙◌, refl, sym, ap, inl, inr, map, string_bytes, true, false, not, Some, Err, rules, ok_or, position, err_from_is_err_and, Fault, NoSuchFile, Memory, has, ParSet, set_of, absent_file, set_in, err_again, Gives}
+use Rattle.std.proofs.Common.{None}
+use Rattle.std.specs.Prelude.{Result}
 use Rattle.par2_plan.proofs.PassedAnswers.{answered_so, never_found}
 use Rattle.par2_plan.proofs.Places.{position-map}
 use Rattle.par2_plan.proofs.Present.{base_first, extra_first, none_absent, extra_refused, base_absent, extra_absent, all_present}

@@ -1,13 +1,4 @@
-use Rattle.std.proofs.Common.{◌≡◌, ◌∙◌, ◌⊎◌, List, ℕ, sym, subst, Some}
-use Rattle.std.specs.List.{IsDistinct}
-use Rattle.std.specs.Prelude.{IfOk, IfErr}
-use Rattle.std.specs.Str.{bytes_eq}
-use Rattle.par2_spec.specs.Refusals.{repair_refusal}
-use Rattle.par2_spec.specs.Search.{candidates}
-use Rattle.par2_spec.specs.declared.Fault.TheVariants.{Memory}
-use Rattle.par2_spec.proofs.NamesLaws.{std_from_distinct}
-use Rattle.par2_plan.specs.Drafts.{IsDraftBy}
-use Rattle.par2_plan.specs.Repairing.{AreNeeding, IsWholeWhereMatched}
+use Rattle.par2_plan.proofs.Common.{◌≡◌, ◌∙◌, ◌⊎◌, List, ℕ, sym, subst, Some, IsDistinct, IfOk, IfErr, bytes_eq, repair_refusal, candidates, Memory, std_from_distinct, IsDraftBy, AreNeeding, IsWholeWhereMatched}
 use Rattle.par2_plan.proofs.Choices.{distinct_once}
 use Rattle.par2_plan.proofs.repair.draft_of.Goals.{After-draft_with}
 use Rattle.par2_plan.proofs.repair.draft_of.Goals as goal

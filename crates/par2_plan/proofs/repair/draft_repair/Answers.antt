@@ -1,14 +1,5 @@
-use Rattle.std.proofs.Common.{◌≡◌, ◌⊎◌, ◌∙◌, List, ℕ, map, sym, ap, subst, Option, Some, Err, string_bytes}
-use Rattle.std.specs.Prelude.{IfErr}
-use Rattle.std.proofs.lemmas.Result.{err_from_is_err_and, IfOk-weaker}
-use Rattle.par2_spec.specs.Commands.{Repair}
-use Rattle.par2_spec.specs.Refusals.{set_in, refusal, repair_refusal}
-use Rattle.par2_spec.specs.Search.{candidates}
-use Rattle.par2_spec.specs.declared.Fault.{Fault}
-use Rattle.par2_spec.specs.declared.Fault.TheVariants.{Memory}
-use Rattle.par2_spec.proofs.SessionLaws.{ok_no_err}
-use Rattle.par2_plan.specs.Drafts.{IsDraft, IsDraftBy}
-use Rattle.par2_plan.specs.Repairing.{IsWholeWhereMatched}
+use Rattle.par2_plan.proofs.Common.{◌≡◌, ◌⊎◌, ◌∙◌, List, ℕ, map, sym, ap, subst, Some, Err, string_bytes, IfErr, err_from_is_err_and, IfOk-weaker, Repair, set_in, refusal, repair_refusal, candidates, Fault, Memory, ok_no_err, IsDraft, IsDraftBy, IsWholeWhereMatched}
+use Rattle.std.proofs.Common.{Option}
 use Rattle.par2_plan.proofs.Drafts.{is_draft}
 use Rattle.par2_plan.proofs.PassedAnswers.{refused_by, err_passed}
 use Rattle.par2_plan.proofs.PlanParts.{early_repair, repair_unread, whole_if_matched, repair_refused}

@@ -1,12 +1,6 @@
-use Rattle.std.proofs.Common.{◌≡◌, ◌∙◌, List, ℕ, length, ap, subst, Some, None}
-use Rattle.std.specs.List.{AllByRecursion}
-use Rattle.std.proofs.lemmas.Result.{err_from_is_err_and}
-use Rattle.par2_spec.specs.Folders.{File}
-use Rattle.par2_spec.specs.Refusals.{repair_refusal}
-use Rattle.par2_spec.specs.Repairs.{rebuilt_targets}
-use Rattle.par2_sets.specs.Asides.{long_aside}
-use Rattle.par2_plan.specs.Restoring.{undetermined_fault, files_of, md5s_of}
-use Rattle.par2_plan.specs.Repairing.{known_by}
+use Rattle.par2_plan.proofs.Common.{◌≡◌, ◌∙◌, List, ℕ, length, ap, subst, Some, AllByRecursion, err_from_is_err_and, File, repair_refusal, rebuilt_targets, long_aside, undetermined_fault, md5s_of, known_by}
+use Rattle.std.proofs.Common.{None}
+use Rattle.par2_plan.specs.Restoring.{files_of}
 use Rattle.par2_plan.proofs.PassedAnswers.{refused_by}
 use Rattle.par2_plan.proofs.RepairParts.{told_by, targets_are, not_repairable, too_long, by_digests, all_changes}
 use Rattle.par2_plan.proofs.repair.draft_with.Goals.{After-asides}

@@ -1,11 +1,5 @@
-use Rattle.std.proofs.Common.{◌≡◌, ◌∙◌, List, ℕ, Bor, length, sym, ap, subst, inr, rules, Some}
-use Rattle.std.specs.List.{AllByRecursion}
-use Rattle.std.proofs.lemmas.List.{nil_from_length}
-use Rattle.std.proofs.lemmas.Result.{err_from_is_err_and}
-use Rattle.par2_spec.specs.Repairs.{rebuilt}
-use Rattle.par2_slices.specs.Texts.{texts_of}
-use Rattle.par2_plan.specs.Restoring.{known_in, targets_among, undetermined_fault, files_of, md5s_of}
-use Rattle.par2_plan.specs.Repairing.{known_by}
+use Rattle.par2_plan.proofs.Common.{◌≡◌, ◌∙◌, List, ℕ, Bor, length, sym, ap, subst, inr, rules, Some, AllByRecursion, nil_from_length, err_from_is_err_and, rebuilt, texts_of, known_in, targets_among, undetermined_fault, md5s_of, known_by}
+use Rattle.par2_plan.specs.Restoring.{files_of}
 use Rattle.par2_plan.proofs.PassedAnswers.{refused_by}
 use Rattle.par2_plan.proofs.RepairParts.{none_restored}
 use Rattle.par2_plan.proofs.repair.files_for.Goals.{After-restored_slices}

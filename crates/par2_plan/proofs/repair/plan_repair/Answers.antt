@@ -1,11 +1,5 @@
-use Rattle.std.proofs.Common.{◌≡◌, List, map, string_bytes, None, IsTrue}
-use Rattle.par2_spec.specs.Changes.{Change, effects, are_applicable}
-use Rattle.par2_spec.specs.Commands.{Repair}
-use Rattle.par2_spec.specs.Plans.{changes_of, AreFewFor}
-use Rattle.par2_spec.specs.Refusals.{refusal, after}
-use Rattle.par2_spec.specs.declared.Fault.TheVariants.{RepairFailed}
-use Rattle.par2_plan.specs.Drafts.{HasItsMd5s}
-use Rattle.par2_plan.specs.Repairing.{WritesAsDescribed}
+use Rattle.par2_plan.proofs.Common.{◌≡◌, List, map, string_bytes, IsTrue, Change, effects, are_applicable, Repair, changes_of, AreFewFor, refusal, after, RepairFailed, HasItsMd5s, WritesAsDescribed}
+use Rattle.std.proofs.Common.{None}
 use Rattle.par2_plan.proofs.PassedAnswers.{passed, not_passed}
 use Rattle.par2_plan.proofs.repair.plan_repair.Goals as goal
 

@@ -1,8 +1,4 @@
-use Rattle.std.proofs.Common.{◌≡◌, ◌∙◌, ◌++◌, List, ℕ, map, sym, ap, ap₂, subst, append_assoc}
-use Rattle.std.specs.Prelude.{Option}
-use Rattle.std.proofs.lemmas.Result.{on_ok_weaker}
-use Rattle.par2_spec.specs.Changes.{Change}
-use Rattle.par2_plan.specs.Repairing.{renames, matches_taken, place_by, HoldsAsides}
+use Rattle.par2_plan.proofs.Common.{◌≡◌, ◌∙◌, ◌++◌, List, ℕ, map, sym, ap, ap₂, subst, append_assoc, Option, on_ok_weaker, Change, renames, matches_taken, place_by, HoldsAsides}
 use Rattle.par2_plan.proofs.repair.push_moves.Goals as goal
 
 pub returns : goal.returns

@@ -1,9 +1,4 @@
-use Rattle.std.proofs.Common.{◌≡◌, ◌∙◌, ◌++◌, List, ℕ, map, ap, ap₂, subst, append_assoc}
-use Rattle.std.specs.Prelude.{Option}
-use Rattle.std.proofs.lemmas.Result.{on_ok_weaker}
-use Rattle.par2_spec.specs.Changes.{Change}
-use Rattle.par2_plan.specs.Matches.{HoldsNames}
-use Rattle.par2_plan.specs.Repairing.{names_given, asides_removed, files_removed}
+use Rattle.par2_plan.proofs.Common.{◌≡◌, ◌∙◌, ◌++◌, List, ℕ, map, ap, ap₂, subst, append_assoc, Option, on_ok_weaker, Change, HoldsNames, names_given, asides_removed, files_removed}
 use Rattle.par2_plan.proofs.repair.push_removals.Goals as goal
 
 pub returns : goal.returns

@@ -1,6 +1,4 @@
-use Rattle.std.proofs.Common.{◌∙◌, ◌++◌, List, ap}
-use Rattle.par2_spec.specs.Changes.{Change}
-use Rattle.par2_plan.specs.Repairing.{moves_by, writes}
+use Rattle.par2_plan.proofs.Common.{◌∙◌, ◌++◌, List, ap, Change, moves_by, writes}
 use Rattle.par2_plan.proofs.repair.repair_changes.Goals as goal
 
 pub returns : goal.returns

@@ -1,7 +1,4 @@
-use Rattle.std.proofs.Common.{◌∙◌, List, ℕ, Bor, sym, ap, length}
-use Rattle.std.specs.Prelude.{filter, is_some, Option}
-use Rattle.par2_plan.specs.Parts.{found_by}
-use Rattle.par2_plan.specs.Views.{standing_of}
+use Rattle.par2_plan.proofs.Common.{◌∙◌, List, ℕ, Bor, sym, ap, length, filter, is_some, Option, found_by, standing_of}
 use Rattle.par2_plan.proofs.Standings.{some_padded}
 use Rattle.par2_plan.proofs.report.found_of.Goals as goal
 

@@ -1,15 +1,4 @@
-use Rattle.std.proofs.Common.{◌≡◌, ◌∙◌, ◌+◌, ◌++◌, ◌≤◌, ◌<◌, [], ◌∷◌, List, ℕ, sym, ap, ap₂, subst, length, append-nil, arith}
-use Rattle.std.specs.List.{AllByRecursion}
-use Rattle.std.specs.Iterator.Adapters.{zip_first, zip_second}
-use Rattle.std.specs.Slice.Iter.{iter_rest}
-use Rattle.std.proofs.lemmas.Slice.Zip.{Zip-more, either_empty_from_Zip}
-use Rattle.std.specs.Prelude.{flat_map}
-use Rattle.par2_spec.specs.Checksums.{Pair}
-use Rattle.par2_spec.specs.Sets.{Target}
-use Rattle.par2_spec.proofs.ListsLaws.{all_at}
-use Rattle.par2_plan.specs.Findings.{Standing, AreSized}
-use Rattle.par2_plan.specs.Parts.{lost_from}
-use Rattle.par2_plan.specs.Views.{standing_of, standings_of, missing_in}
+use Rattle.par2_plan.proofs.Common.{◌≡◌, ◌∙◌, ◌+◌, ◌++◌, ◌≤◌, ◌<◌, [], ◌∷◌, List, ℕ, sym, ap, ap₂, subst, length, append-nil, arith, AllByRecursion, zip_first, zip_second, iter_rest, Zip-more, either_empty_from_Zip, flat_map, Pair, Target, all_at, Standing, AreSized, lost_from, standing_of, standings_of, missing_in}
 use Rattle.par2_plan.proofs.LostSlices.{lost_step, sized_rest, few_rest, windows_fit, lost_end_of, lost_below}
 use Rattle.par2_plan.proofs.report.lost_slices.Goals as goal
 

@@ -1,10 +1,4 @@
-use Rattle.std.proofs.Common.{◌≡◌, ◌+◌, ◌≤◌, ◌++◌, length}
-use Rattle.std.specs.Prelude.{flat_map}
-use Rattle.std.specs.Iterator.Adapters.{zip_first, zip_second}
-use Rattle.std.specs.Slice.Iter.{iter_rest}
-use Rattle.par2_plan.specs.Findings.{AreSized}
-use Rattle.par2_plan.specs.Parts.{lost_from}
-use Rattle.par2_plan.specs.Views.{standings_of}
+use Rattle.par2_plan.proofs.Common.{◌≡◌, ◌+◌, ◌≤◌, ◌++◌, length, flat_map, zip_first, zip_second, iter_rest, AreSized, lost_from, standings_of}
 use Rattle.par2_plan.proofs.report.lost_slices.Given as goal
 
 abbrev pub invariant-loop-target : goal.invariant-loop-target

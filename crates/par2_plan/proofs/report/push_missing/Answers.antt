@@ -1,6 +1,4 @@
-use Rattle.std.proofs.Common.{◌≡◌, ◌∙◌, ◌+◌, ◌++◌, ◌∷◌, [], List, ℕ, Bool, true, false, not, cond, sym, ap, take, get_or, append-nil, append_assoc, rules}
-use Rattle.std.specs.Prelude.{None, is_some}
-use Rattle.par2_plan.specs.Parts.{missing_from}
+use Rattle.par2_plan.proofs.Common.{◌≡◌, ◌∙◌, ◌+◌, ◌++◌, ◌∷◌, [], List, ℕ, Bool, true, false, not, cond, sym, ap, take, get_or, append-nil, append_assoc, rules, None, is_some, missing_from}
 use Rattle.par2_plan.proofs.LostSlices.{missing_more}
 use Rattle.par2_plan.proofs.report.push_missing.Goals as goal
 use Rattle.par2_plan.proofs.report.push_missing.Goals.{then-is_none+in_ok-push, else-is_none}

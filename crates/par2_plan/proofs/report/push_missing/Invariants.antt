@@ -1,5 +1,4 @@
-use Rattle.std.proofs.Common.{◌≡◌, ◌++◌, take}
-use Rattle.par2_plan.specs.Parts.{missing_from}
+use Rattle.par2_plan.proofs.Common.{◌≡◌, ◌++◌, take, missing_from}
 use Rattle.par2_plan.proofs.report.push_missing.Given as goal
 
 abbrev pub invariant-loop-i : goal.invariant-loop-i

@@ -1,10 +1,4 @@
-use Rattle.std.proofs.Common.{◌≡◌, ◌∙◌, List, ℕ, sym, ap, map, subst}
-use Rattle.std.specs.List.Sorted.{IsStrictlyIncreasing}
-use Rattle.std.proofs.lemmas.Simd.{map-map}
-use Rattle.std.proofs.lemmas.Result.{IfOk-weaker}
-use Rattle.std.proofs.lemmas.Option.{MatchOption-at_some}
-use Rattle.par2_spec.specs.Rank.{rank}
-use Rattle.par2_spec.specs.Search.{survivors}
+use Rattle.par2_plan.proofs.Common.{◌≡◌, ◌∙◌, List, ℕ, sym, ap, map, subst, IsStrictlyIncreasing, map-map, IfOk-weaker, MatchOption-at_some, rank, survivors}
 use Rattle.par2_sets.specs.Slices.{entry_of}
 use Rattle.par2_plan.proofs.report.rank_of.Goals as goal
 

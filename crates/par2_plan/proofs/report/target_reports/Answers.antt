@@ -1,12 +1,5 @@
-use Rattle.std.proofs.Common.{◌≡◌, ◌∙◌, ◌++◌, ◌∷◌, [], List, sym, ap, ap₂, map, append-nil, append_assoc}
-use Rattle.std.specs.Iterator.Adapters.{zip_first, zip_second}
-use Rattle.std.specs.Slice.Iter.{iter_rest}
-use Rattle.std.proofs.lemmas.List.{map-append}
-use Rattle.std.proofs.lemmas.Slice.Zip.{Zip-more, either_empty_from_Zip}
-use Rattle.par2_spec.specs.Sets.{Target}
+use Rattle.par2_plan.proofs.Common.{◌≡◌, ◌∙◌, ◌++◌, ◌∷◌, [], List, sym, ap, ap₂, map, append-nil, append_assoc, zip_first, zip_second, iter_rest, map-append, Zip-more, either_empty_from_Zip, Target, target_reports_by, standings_of, target_report_of}
 use Rattle.par2_spec.specs.Reports as reports
-use Rattle.par2_plan.specs.Parts.{target_reports_by}
-use Rattle.par2_plan.specs.Views.{standings_of, target_report_of}
 use Rattle.par2_plan.specs.declared.finding.Standing as code
 use Rattle.par2_plan.specs.declared.report.TargetReport as code_report
 use Rattle.par2_plan.proofs.Standings.{reports_end}

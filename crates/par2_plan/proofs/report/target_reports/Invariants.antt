@@ -1,8 +1,4 @@
-use Rattle.std.proofs.Common.{◌≡◌, ◌++◌, map}
-use Rattle.std.specs.Iterator.Adapters.{zip_first, zip_second}
-use Rattle.std.specs.Slice.Iter.{iter_rest}
-use Rattle.par2_plan.specs.Parts.{target_reports_by}
-use Rattle.par2_plan.specs.Views.{standings_of, target_report_of}
+use Rattle.par2_plan.proofs.Common.{◌≡◌, ◌++◌, map, zip_first, zip_second, iter_rest, target_reports_by, standings_of, target_report_of}
 use Rattle.par2_plan.proofs.report.target_reports.Given as goal
 
 abbrev pub invariant-loop-target : goal.invariant-loop-target

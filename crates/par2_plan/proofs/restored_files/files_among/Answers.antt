@@ -1,13 +1,6 @@
-use Rattle.std.proofs.Common.{◌≡◌, ◌∙◌, ◌<◌, ◌+◌, ◌++◌, ◌∷◌, List, ℕ, length, map, drop, get_or, sym, ap, arith, append-nil}
-use Rattle.std.specs.Prelude.{flat_map}
-use Rattle.std.proofs.lemmas.List.{drop_all, drop_more, length-append}
-use Rattle.par2_spec.specs.Checksums.{Pair}
-use Rattle.par2_spec.specs.Folders.{File}
-use Rattle.par2_spec.specs.Names.{is_among}
-use Rattle.par2_spec.specs.Repairs.{files_of_slices}
-use Rattle.par2_spec.specs.Sets.{Target}
-use Rattle.par2_spec.proofs.FoundLaws.{all-filter}
-use Rattle.par2_plan.specs.Restoring.{files_of, md5s_of}
+use Rattle.par2_plan.proofs.Common.{◌≡◌, ◌∙◌, ◌<◌, ◌+◌, ◌++◌, ◌∷◌, List, ℕ, length, map, drop, get_or, sym, ap, arith, append-nil, flat_map, drop_all, drop_more, Pair, File, is_among, files_of_slices, Target, all-filter, md5s_of}
+use Rattle.std.proofs.lemmas.List.{length-append}
+use Rattle.par2_plan.specs.Restoring.{files_of}
 use Rattle.par2_plan.proofs.TargetWalks.{among, items_more}
 use Rattle.par2_plan.proofs.restored_files.files_among.Goals as goal
 

@@ -1,5 +1,4 @@
-use Rattle.std.proofs.Common.{◌≡◌, ◌+◌, ◌++◌, length, map, drop}
-use Rattle.std.specs.Prelude.{flat_map}
+use Rattle.par2_plan.proofs.Common.{◌≡◌, ◌+◌, ◌++◌, length, map, drop, flat_map}
 use Rattle.par2_plan.specs.Restoring.{files_of}
 use Rattle.par2_plan.proofs.TargetWalks.{among}
 use Rattle.par2_plan.proofs.restored_files.files_among.Given as goal

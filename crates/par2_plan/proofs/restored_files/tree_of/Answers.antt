@@ -1,7 +1,4 @@
-use Rattle.std.proofs.Common.{◌≡◌, ◌∙◌, ◌+◌, ◌++◌, ◌∷◌, [], List, ℕ, Bor, sym, ap, subst, take, get_or}
-use Rattle.std.proofs.lemmas.List.{take_more, get_or_default}
-use Rattle.par2_plan.specs.Matches.{HoldsNames}
-use Rattle.par2_spec.proofs.TreeLaws.{holds_more}
+use Rattle.par2_plan.proofs.Common.{◌≡◌, ◌∙◌, ◌+◌, ◌++◌, ◌∷◌, [], List, ℕ, Bor, sym, ap, subst, take, get_or, take_more, get_or_default, HoldsNames, holds_more}
 use Rattle.par2_plan.proofs.restored_files.tree_of.Goals as goal
 
 pub loop-name-preserved : goal.loop-name-preserved

@@ -1,5 +1,4 @@
-use Rattle.std.proofs.Common.{take}
-use Rattle.par2_plan.specs.Matches.{HoldsNames}
+use Rattle.par2_plan.proofs.Common.{take, HoldsNames}
 use Rattle.par2_plan.proofs.restored_files.tree_of.Given as goal
 
 abbrev pub invariant-loop-name : goal.invariant-loop-name

@@ -1,8 +1,4 @@
-use Rattle.std.proofs.Common.{◌∙◌, ◌++◌, ◌∷◌, [], List, take, sym, ap, ap₂}
-use Rattle.std.specs.Prelude.{flat_map}
-use Rattle.std.proofs.lemmas.List.{flat_map_more, take_all, take_more}
-use Rattle.par2_spec.specs.Checksums.{Pair}
-use Rattle.par2_spec.specs.Sets.{Target}
+use Rattle.par2_plan.proofs.Common.{◌∙◌, ◌++◌, ◌∷◌, [], List, take, sym, ap, ap₂, flat_map, flat_map_more, take_all, take_more, Pair, Target}
 use Rattle.par2_plan.proofs.restored_slices.all_pairs.Goals as goal
 
 pub loop-target-preserved : goal.loop-target-preserved

@@ -1,5 +1,4 @@
-use Rattle.std.proofs.Common.{◌≡◌, take}
-use Rattle.std.specs.Prelude.{flat_map}
+use Rattle.par2_plan.proofs.Common.{◌≡◌, take, flat_map}
 use Rattle.par2_plan.proofs.restored_slices.all_pairs.Given as goal
 
 abbrev pub invariant-loop-target : goal.invariant-loop-target

@@ -1,9 +1,4 @@
-use Rattle.std.proofs.Common.{◌≡◌, ◌∙◌, ◌++◌, ◌+◌, ◌∷◌, [], List, ℕ, zero, suc, take, refl, sym, ap}
-use Rattle.std.specs.List.{concat}
-use Rattle.std.proofs.lemmas.List.{take_all, take_more, map-append}
-use Rattle.par2_spec.specs.Slices.{padded}
-use Rattle.par2_plan.specs.SliceTexts.{text_of, slices_of}
-use Rattle.par2_plan.specs.declared.restored_slices.Slice.{Slice}
+use Rattle.par2_plan.proofs.Common.{◌≡◌, ◌∙◌, ◌++◌, ◌+◌, ◌∷◌, [], List, ℕ, zero, suc, take, refl, sym, ap, concat, take_all, take_more, map-append, padded, text_of, slices_of, Slice}
 use Rattle.par2_plan.proofs.Cutting.{take-again, concat_push}
 use Rattle.par2_plan.proofs.restored_slices.joined.Goals as goal
 

@@ -1,6 +1,4 @@
-use Rattle.std.proofs.Common.{◌≡◌, take}
-use Rattle.std.specs.List.{concat}
-use Rattle.par2_plan.specs.SliceTexts.{slices_of}
+use Rattle.par2_plan.proofs.Common.{◌≡◌, take, concat, slices_of}
 use Rattle.par2_plan.proofs.restored_slices.joined.Given as goal
 
 abbrev pub invariant-loop-slice : goal.invariant-loop-slice

@@ -1,10 +1,5 @@
-use Rattle.std.proofs.Common.{◌∙◌, ◌+◌, ◌++◌, ◌∷◌, [], List, ℕ, map, drop, sym, ap, append-nil, append_assoc, None}
-use Rattle.std.specs.Vec.Iter.{into_iter_items}
-use Rattle.std.proofs.lemmas.List.{drop_all, drop_more, map-append}
-use Rattle.par2_spec.specs.Sums.{lists_of}
-use Rattle.par2_slices.specs.Texts.{Window}
-use Rattle.par2_plan.specs.SliceTexts.{windows_and_texts, text_of}
-use Rattle.par2_plan.specs.declared.restored_slices.Slice.{Slice}
+use Rattle.par2_plan.proofs.Common.{◌∙◌, ◌+◌, ◌++◌, ◌∷◌, [], List, ℕ, map, drop, sym, ap, append-nil, append_assoc, into_iter_items, drop_all, drop_more, map-append, lists_of, Window, windows_and_texts, text_of, Slice}
+use Rattle.std.proofs.Common.{None}
 use Rattle.par2_plan.proofs.restored_slices.merged.Goals as goal
 
 pub loop-window-preserved : goal.loop-window-preserved

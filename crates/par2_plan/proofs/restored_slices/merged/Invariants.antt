@@ -1,7 +1,4 @@
-use Rattle.std.proofs.Common.{◌≡◌, ◌++◌, map, drop}
-use Rattle.std.specs.Vec.Iter.{into_iter_items}
-use Rattle.par2_spec.specs.Sums.{lists_of}
-use Rattle.par2_plan.specs.SliceTexts.{windows_and_texts, text_of}
+use Rattle.par2_plan.proofs.Common.{◌≡◌, ◌++◌, map, drop, into_iter_items, lists_of, windows_and_texts, text_of}
 use Rattle.par2_plan.proofs.restored_slices.merged.Given as goal
 
 abbrev pub invariant-loop-window : goal.invariant-loop-window

@@ -1,14 +1,5 @@
-use Rattle.std.proofs.Common.{◌≡◌, ◌∙◌, ◌⊎◌, List, ℕ, refl, sym, subst}
-use Rattle.std.specs.Prelude.{Option, Some}
-use Rattle.std.specs.FinMap.{entries}
-use Rattle.std.proofs.lemmas.List.{length-map}
-use Rattle.std.proofs.lemmas.Slice.Zip.{AllZip-long}
-use Rattle.par2_spec.specs.Rank.{IsRebuilt, kept_slices}
-use Rattle.par2_spec.specs.Search.{lost, survivors}
-use Rattle.par2_spec.specs.Sets.{ParSet, all_pairs}
-use Rattle.par2_slices.specs.Texts.{texts_of}
-use Rattle.par2_plan.specs.Restoring.{known_in, undetermined_fault}
-use Rattle.par2_spec.specs.declared.Fault.TheVariants.{Memory}
+use Rattle.par2_plan.proofs.Common.{◌≡◌, ◌∙◌, ◌⊎◌, List, ℕ, refl, sym, subst, Option, entries, length-map, AllZip-long, IsRebuilt, kept_slices, lost, survivors, ParSet, all_pairs, texts_of, known_in, undetermined_fault, Memory}
+use Rattle.std.specs.Prelude.{Some}
 use Rattle.par2_plan.proofs.Rebuilds.{rebuilt_for, enough_for, fault_for, no_fault}
 use Rattle.par2_plan.proofs.restored_slices.restored_slices.Goals.{In-Ok}
 use Rattle.par2_plan.proofs.restored_slices.restored_slices.Goals as goal

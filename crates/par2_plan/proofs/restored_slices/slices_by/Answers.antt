@@ -1,12 +1,4 @@
-use Rattle.std.proofs.Common.{◌≡◌, ◌∙◌, List, ℕ, map, sym, ap, subst}
-use Rattle.std.proofs.lemmas.Simd.{map-map}
-use Rattle.par2_spec.specs.Sums.{lists_of}
-use Rattle.par2_spec.specs.Slices.{padded}
-use Rattle.par2_recovery.specs.Survivors.{known_of, with_lost_slices}
-use Rattle.par2_slices.specs.Texts.{Window}
-use Rattle.par2_recovery.specs.Rebuilding.{AreRebuilt}
-use Rattle.par2_plan.specs.SliceTexts.{windows_and_texts, slices_of, text_of}
-use Rattle.par2_plan.specs.declared.restored_slices.Slice.{Slice}
+use Rattle.par2_plan.proofs.Common.{◌≡◌, ◌∙◌, List, ℕ, map, sym, ap, subst, map-map, lists_of, padded, known_of, with_lost_slices, Window, AreRebuilt, windows_and_texts, slices_of, text_of, Slice}
 use Rattle.par2_plan.proofs.Merging.{filled_merged}
 use Rattle.par2_plan.proofs.restored_slices.slices_by.Goals as goal
 

@@ -1,14 +1,6 @@
-use Rattle.std.proofs.Common.{◌≡◌, ◌∙◌, ◌%◌, List, length, map, sym, ap, subst, arith}
-use Rattle.std.specs.List.{AllByRecursion}
-use Rattle.std.specs.List.Sorted.{IsStrictlyIncreasing}
-use Rattle.std.proofs.lemmas.List.{length-map}
-use Rattle.par2_spec.specs.Checksums.{Pair}
-use Rattle.par2_spec.specs.Sets.{all_pairs}
-use Rattle.par2_spec.specs.Windows.{found}
+use Rattle.par2_plan.proofs.Common.{◌≡◌, ◌∙◌, ◌%◌, List, length, map, sym, ap, subst, arith, AllByRecursion, IsStrictlyIncreasing, length-map, Pair, all_pairs, found, Window, padded_window, texts_of, known_of, recovered_of, known_in}
 use Rattle.par2_spec.proofs.FilesLaws.{size_even}
-use Rattle.par2_slices.specs.Texts.{Window, padded_window, texts_of}
-use Rattle.par2_recovery.specs.Survivors.{known_of, recovered_of, exponents_of}
-use Rattle.par2_plan.specs.Restoring.{known_in}
+use Rattle.par2_recovery.specs.Survivors.{exponents_of}
 use Rattle.par2_plan.proofs.Merging.{short_present}
 use Rattle.par2_plan.proofs.restored_slices.survivors_of.Goals as goal
 

@@ -1,16 +1,5 @@
-use Rattle.std.proofs.Common.{◌≡◌, ◌∙◌, List, ℕ, Ok, Err, Some, Result, map, string_bytes, sym, ap}
-use Rattle.std.proofs.lemmas.Result.{err_from_is_err_and}
-use Rattle.par2_spec.specs.Commands.{Verify}
-use Rattle.par2_spec.specs.Refusals.{early_refusal, set_in}
-use Rattle.par2_spec.specs.Search.{candidates}
-use Rattle.par2_plan.specs.Findings.{standings}
-use Rattle.par2_plan.specs.Parts.{report_by}
-use Rattle.par2_spec.specs.declared.Fault.{Fault}
+use Rattle.par2_plan.proofs.Common.{◌≡◌, ◌∙◌, List, ℕ, Ok, Err, Some, Result, map, string_bytes, sym, ap, err_from_is_err_and, Verify, early_refusal, set_in, candidates, standings, report_by, Fault, report_in, ok_no_err, verdict_by_words, refused_as_reported, report_of}
 use Rattle.par2_spec.specs.Reports as reports
-use Rattle.par2_spec.specs.Reports.{report_in}
-use Rattle.par2_spec.proofs.SessionLaws.{ok_no_err}
-use Rattle.par2_spec.proofs.VerdictLaws.{verdict_by_words, refused_as_reported}
-use Rattle.par2_plan.specs.Views.{report_of}
 use Rattle.par2_plan.proofs.PassedAnswers.{refused_by, err_passed}
 use Rattle.par2_plan.proofs.PlanParts.{early_verify}
 use Rattle.par2_plan.proofs.ReportValues.{refused_in, answered}

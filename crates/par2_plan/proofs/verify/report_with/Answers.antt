@@ -1,12 +1,4 @@
-use Rattle.std.proofs.Common.{◌≡◌, ◌∙◌, List, ℕ, sym, ap, subst}
-use Rattle.std.specs.List.{IsDistinct}
-use Rattle.std.specs.Str.{bytes_eq}
-use Rattle.std.proofs.lemmas.Result.{IfOk-weaker}
-use Rattle.par2_spec.specs.Search.{candidates}
-use Rattle.par2_spec.proofs.NamesLaws.{std_from_distinct}
-use Rattle.par2_plan.specs.Findings.{Standing, AreSized, standings}
-use Rattle.par2_plan.specs.Parts.{report_by}
-use Rattle.par2_plan.specs.Views.{standings_of}
+use Rattle.par2_plan.proofs.Common.{◌≡◌, ◌∙◌, List, ℕ, sym, ap, subst, IsDistinct, bytes_eq, IfOk-weaker, candidates, std_from_distinct, Standing, AreSized, standings, report_by, standings_of}
 use Rattle.par2_plan.proofs.Choices.{distinct_once}
 use Rattle.par2_plan.proofs.Standings.{sized_by}
 use Rattle.par2_plan.proofs.verify.report_with.Goals as goal

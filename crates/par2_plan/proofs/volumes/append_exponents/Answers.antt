@@ -1,6 +1,4 @@
-use Rattle.std.proofs.Common.{◌∙◌, ◌+◌, ◌++◌, ◌∷◌, [], ℕ, List, sym, ap, append_assoc}
-use Rattle.std.specs.List.{range_with_len}
-use Rattle.par2_spec.proofs.ListsLaws.{range-append}
+use Rattle.par2_plan.proofs.Common.{◌∙◌, ◌+◌, ◌++◌, ◌∷◌, [], ℕ, List, sym, ap, append_assoc, range_with_len, range-append}
 use Rattle.par2_plan.proofs.volumes.append_exponents.Goals as goal
 
 pub loop-k-preserved : goal.loop-k-preserved

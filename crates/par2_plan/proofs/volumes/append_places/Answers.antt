@@ -1,8 +1,4 @@
-use Rattle.std.proofs.Common.{◌≡◌, ◌∙◌, ◌++◌, ◌∷◌, [], ℕ, List, map, sym, ap, append-nil, append_assoc, zero-add, arith}
-use Rattle.std.specs.List.{range_with_len}
-use Rattle.std.proofs.lemmas.List.FromFn.{map-range_with_len_more}
-use Rattle.par2_transform.specs.declared.outputs.Place.{Place}
-use Rattle.par2_plan.specs.Volumes.{place_in}
+use Rattle.par2_plan.proofs.Common.{◌≡◌, ◌∙◌, ◌++◌, ◌∷◌, [], ℕ, List, map, sym, ap, append-nil, append_assoc, zero-add, arith, range_with_len, map-range_with_len_more, Place, place_in}
 use Rattle.par2_plan.proofs.volumes.append_places.Goals as goal
 
 pub loop-k-preserved : goal.loop-k-preserved

@@ -1,6 +1,4 @@
-use Rattle.std.proofs.Common.{◌≡◌, ◌++◌, map}
-use Rattle.std.specs.List.{range_with_len}
-use Rattle.par2_plan.specs.Volumes.{place_in}
+use Rattle.par2_plan.proofs.Common.{◌≡◌, ◌++◌, map, range_with_len, place_in}
 use Rattle.par2_plan.proofs.volumes.append_places.Given as goal
 
 abbrev pub invariant-loop-k : goal.invariant-loop-k

@@ -1,10 +1,4 @@
-use Rattle.std.proofs.Common.{◌∙◌, ◌++◌, ◌∷◌, [], List, ℕ, Vec, Global, map, sym, ap, ap₂, subst}
-use Rattle.std.proofs.lemmas.List.{map-append, map_more, take_all}
-use Rattle.std.proofs.lemmas.List.Elements.{All-from_recursion}
-use Rattle.par2_spec.specs.Sums.{lists_of}
-use Rattle.par2_plan.specs.Outputs.{HasExponents}
-use Rattle.par2_plan.specs.Volumes.{blank_volume}
-use Rattle.par2_plan.specs.declared.names.Volume.{Volume}
+use Rattle.par2_plan.proofs.Common.{◌∙◌, ◌++◌, ◌∷◌, [], List, ℕ, Vec, Global, map, sym, ap, ap₂, subst, map-append, map_more, take_all, All-from_recursion, lists_of, HasExponents, blank_volume, Volume}
 use Rattle.par2_plan.proofs.volumes.blank_volumes.Goals as goal
 
 pub blank_volume-requires-clause-exponents : goal.blank_volume-requires-clause-exponents

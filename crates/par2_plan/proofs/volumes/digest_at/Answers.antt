@@ -1,8 +1,5 @@
-use Rattle.std.proofs.Common.{◌≡◌, ◌∙◌, length, get_or, rules}
+use Rattle.par2_plan.proofs.Common.{◌≡◌, ◌∙◌, length, get_or, rules, with_items_is, on_ok_weaker, written_here, written_changed}
 use Rattle.std.specs.Vec.{with_items}
-use Rattle.std.proofs.lemmas.List.{with_items_is}
-use Rattle.std.proofs.lemmas.Result.{on_ok_weaker}
-use Rattle.par2_spec.proofs.WordLaws.{written_here, written_changed}
 use Rattle.par2_plan.proofs.volumes.digest_at.Goals as goal
 
 pub returns-clause-changed : goal.returns-clause-changed

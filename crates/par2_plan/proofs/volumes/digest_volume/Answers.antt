@@ -1,9 +1,4 @@
-use Rattle.std.proofs.Common.{◌≡◌, ◌∙◌, ◌++◌, List, ℕ, length, ap, arith, rules}
-use Rattle.std.specs.Prelude.{flat_map}
-use Rattle.std.specs.List.{range_with_len}
-use Rattle.std.proofs.lemmas.Result.{on_ok_weaker}
-use Rattle.par2_packets.specs.Recoveries.{undigested}
-use Rattle.par2_plan.specs.Volumes.{slice_of}
+use Rattle.par2_plan.proofs.Common.{◌≡◌, ◌∙◌, ◌++◌, List, ℕ, length, ap, arith, rules, flat_map, range_with_len, on_ok_weaker, undigested, slice_of}
 use Rattle.par2_plan.proofs.VolumeStages.{behind_index, index_kept, length-packets, packets_digested}
 use Rattle.par2_plan.proofs.volumes.digest_volume.Goals as goal
 

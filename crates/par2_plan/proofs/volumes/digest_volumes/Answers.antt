@@ -1,9 +1,4 @@
-use Rattle.std.proofs.Common.{◌≡◌, ◌∙◌, [], List, ℕ, Vec, Global, length, map, sym, ap, arith}
-use Rattle.std.proofs.lemmas.List.{length-map}
-use Rattle.par2_spec.specs.Sums.{lists_of, list_at}
-use Rattle.par2_plan.specs.Outputs.{volume_text}
-use Rattle.par2_plan.specs.Volumes.{with_slices}
-use Rattle.par2_plan.specs.declared.names.Volume.{Volume}
+use Rattle.par2_plan.proofs.Common.{◌≡◌, ◌∙◌, [], List, ℕ, Vec, Global, length, map, sym, ap, arith, length-map, lists_of, list_at, volume_text, with_slices, Volume}
 use Rattle.par2_plan.proofs.SliceLists.{get_at_place}
 use Rattle.par2_plan.proofs.VolumeStages.{none_changed_to, next_changed_to, all_changed_to}
 use Rattle.par2_plan.proofs.volumes.digest_volumes.Goals as goal

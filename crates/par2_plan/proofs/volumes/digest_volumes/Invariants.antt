@@ -1,6 +1,4 @@
-use Rattle.std.proofs.Common.{map}
-use Rattle.par2_spec.specs.Sums.{lists_of}
-use Rattle.par2_plan.specs.Outputs.{volume_text}
+use Rattle.par2_plan.proofs.Common.{map, lists_of, volume_text}
 use Rattle.par2_plan.proofs.VolumeStages.{ChangedTo}
 use Rattle.par2_plan.proofs.volumes.digest_volumes.Given as goal
 

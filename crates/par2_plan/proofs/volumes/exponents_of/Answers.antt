@@ -1,9 +1,4 @@
-use Rattle.std.proofs.Common.{◌∙◌, ◌++◌, List, ℕ, sym, ap, ap₂, subst}
-use Rattle.std.proofs.lemmas.List.{take_all}
-use Rattle.std.proofs.lemmas.List.Elements.{All-from_recursion}
-use Rattle.par2_plan.specs.Outputs.{HasExponents}
-use Rattle.par2_plan.specs.Volumes.{exponents_in, exponents_of}
-use Rattle.par2_plan.specs.declared.names.Volume.{Volume}
+use Rattle.par2_plan.proofs.Common.{◌∙◌, ◌++◌, List, ℕ, sym, ap, ap₂, subst, take_all, All-from_recursion, HasExponents, exponents_in, exponents_of, Volume}
 use Rattle.par2_plan.proofs.VolumePlaces.{exponents_more}
 use Rattle.par2_plan.proofs.volumes.exponents_of.Goals as goal
 

@@ -1,5 +1,4 @@
-use Rattle.std.proofs.Common.{◌≡◌, take}
-use Rattle.par2_plan.specs.Volumes.{exponents_of}
+use Rattle.par2_plan.proofs.Common.{◌≡◌, take, exponents_of}
 use Rattle.par2_plan.proofs.volumes.exponents_of.Given as goal
 
 abbrev pub invariant-loop-volume : goal.invariant-loop-volume

@@ -1,4 +1,4 @@
-use Rattle.std.proofs.Common.{◌+◌, arith, length}
+use Rattle.par2_plan.proofs.Common.{◌+◌, arith, length}
 use Rattle.par2_plan.proofs.VolumePlaces.{packet_ends}
 use Rattle.par2_plan.proofs.volumes.place_of.Goals as goal
 

@@ -1,9 +1,4 @@
-use Rattle.std.proofs.Common.{◌∙◌, ◌<◌, ◌++◌, List, ℕ, sym, ap, arith, length}
-use Rattle.std.proofs.lemmas.List.{take_all}
-use Rattle.par2_spec.proofs.WordLaws.{read_at, length-lists_of}
-use Rattle.par2_transform.specs.declared.outputs.Place.{Place}
-use Rattle.par2_plan.specs.Volumes.{length_with, places_from, places_in}
-use Rattle.par2_plan.specs.declared.names.Volume.{Volume}
+use Rattle.par2_plan.proofs.Common.{◌∙◌, ◌<◌, ◌++◌, List, ℕ, sym, ap, arith, length, take_all, read_at, length-lists_of, Place, length_with, places_from, places_in, Volume}
 use Rattle.par2_plan.proofs.VolumePlaces.{places_more, nth_is}
 use Rattle.par2_plan.proofs.volumes.places_of.Goals as goal
 

@@ -1,5 +1,4 @@
-use Rattle.std.proofs.Common.{◌≡◌, take}
-use Rattle.par2_plan.specs.Volumes.{places_from}
+use Rattle.par2_plan.proofs.Common.{◌≡◌, take, places_from}
 use Rattle.par2_plan.proofs.volumes.places_of.Given as goal
 
 abbrev pub invariant-loop-i : goal.invariant-loop-i

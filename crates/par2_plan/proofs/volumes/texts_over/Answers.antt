@@ -1,6 +1,4 @@
-use Rattle.std.proofs.Common.{◌≡◌, ◌∙◌, List, ℕ, Vec, Global, length, ap, arith, rules}
-use Rattle.std.proofs.lemmas.List.{with_items_is}
-use Rattle.par2_spec.specs.Sums.{lists_of}
+use Rattle.par2_plan.proofs.Common.{◌≡◌, ◌∙◌, List, ℕ, Vec, Global, length, ap, arith, rules, with_items_is, lists_of}
 use Rattle.par2_plan.proofs.volumes.texts_over.Goals as goal
 
 pub blank_volumes-requires-clause-fits : goal.blank_volumes-requires-clause-fits

@@ -1,15 +1,6 @@
-use Rattle.std.proofs.Common.{◌∙◌, ◌/◌, List, ℕ, sym, ap, subst, arith, length}
+use Rattle.par2_plan.proofs.Common.{◌∙◌, ◌/◌, List, ℕ, sym, ap, subst, arith, length, length-map, on_ok_weaker, padded, lists_of, AreApart, LieWithin, Place, AreWritten, AreZeros, places_from, Volume}
 use Rattle.std.specs.Borrow.{Bor}
-use Rattle.std.proofs.lemmas.List.{length-map}
-use Rattle.std.proofs.lemmas.Result.{on_ok_weaker}
-use Rattle.par2_spec.specs.Slices.{padded}
-use Rattle.par2_spec.specs.Sums.{lists_of}
-use Rattle.par2_transform.specs.Adding.{AreApart, LieWithin}
-use Rattle.par2_transform.specs.declared.outputs.Place.{Place}
 use Rattle.par2_recovery.specs.Views.{texts_of}
-use Rattle.par2_recovery.specs.Writing.{AreWritten, AreZeros}
-use Rattle.par2_plan.specs.Volumes.{places_from}
-use Rattle.par2_plan.specs.declared.names.Volume.{Volume}
 use Rattle.par2_plan.proofs.VolumePlaces.{blank_packets, places_apart, places_blank, places_within, length-places, volumes_written}
 use Rattle.par2_plan.proofs.volumes.write_slices.Goals as goal
 

@@ -1,7 +1,5 @@
-use Rattle.std.proofs.Common.{◌≡◌, ◌+◌, ◌∙◌, sym, ap, not, arith, string_bytes}
-use Rattle.std.specs.Prelude.{Some, option_map}
-use Rattle.par2_spec.specs.Refusals.{is_input_name}
-use Rattle.par2_spec.specs.declared.Fault.TheVariants.{BadName}
+use Rattle.par2_plan.proofs.Common.{◌≡◌, ◌+◌, ◌∙◌, sym, ap, not, arith, string_bytes, option_map, is_input_name, BadName}
+use Rattle.std.specs.Prelude.{Some}
 use Rattle.par2_plan.proofs.Places.{position-map}
 use Rattle.par2_plan.proofs.words.bad_name.Goals as goal
 

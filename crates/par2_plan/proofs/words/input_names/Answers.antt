@@ -1,9 +1,4 @@
-use Rattle.std.proofs.Common.{◌≡◌, ◌<◌, ◌+◌, ◌∙◌, ◌++◌, ◌∷◌, [], ℕ, List, length, map, get_or, sym, ap, ap₂, subst, inl, inr, true, false, not, arith, rules, string_bytes, Some}
-use Rattle.std.specs.Prelude.{option_map, position}
-use Rattle.std.proofs.lemmas.Bool.{cases_lt}
-use Rattle.std.proofs.lemmas.List.{length-map, take_all, take_more, take-map}
-use Rattle.par2_spec.specs.Refusals.{is_input_name}
-use Rattle.par2_spec.specs.declared.Fault.TheVariants.{BadName}
+use Rattle.par2_plan.proofs.Common.{◌≡◌, ◌<◌, ◌+◌, ◌∙◌, ◌++◌, ◌∷◌, [], ℕ, List, length, map, get_or, sym, ap, ap₂, subst, inl, inr, true, false, not, arith, rules, string_bytes, Some, option_map, position, cases_lt, length-map, take_all, take_more, take-map, is_input_name, BadName}
 use Rattle.par2_plan.proofs.SliceLists.{get_at_place}
 use Rattle.par2_plan.proofs.Places.{found_at, found_nowhere}
 use Rattle.par2_plan.proofs.words.input_names.Goals as goal

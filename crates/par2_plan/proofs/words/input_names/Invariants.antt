@@ -1,5 +1,4 @@
-use Rattle.std.proofs.Common.{◌≡◌, ◌<◌, ℕ, [], map, take, get_or, true, string_bytes}
-use Rattle.par2_spec.specs.Refusals.{is_input_name}
+use Rattle.par2_plan.proofs.Common.{◌≡◌, ◌<◌, ℕ, [], map, take, get_or, true, string_bytes, is_input_name}
 use Rattle.par2_plan.proofs.words.input_names.Given as goal
 
 abbrev pub invariant-loop-i : goal.invariant-loop-i

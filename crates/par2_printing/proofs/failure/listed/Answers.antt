@@ -1,4 +1,4 @@
-use Rattle.std.proofs.Common.{◌∙◌, ap, sym, string_bytes, rules, ltb-true}
+use Rattle.par2_printing.proofs.Common.{◌∙◌, ap, sym, string_bytes, rules, ltb-true}
 use Rattle.par2_printing.proofs.WordLaws.{listed_word, no_word}
 use Rattle.par2_printing.proofs.failure.listed.Goals as goal
 

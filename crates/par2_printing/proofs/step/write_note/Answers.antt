@@ -1,4 +1,4 @@
-use Rattle.std.proofs.Common.{rules}
+use Rattle.par2_printing.proofs.Common.{rules}
 use Rattle.par2_printing.proofs.step.write_note.Goals as goal
 
 pub returns-then-dropped : goal.returns-then-dropped

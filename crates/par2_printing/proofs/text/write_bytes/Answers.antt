@@ -1,6 +1,4 @@
-use Rattle.std.proofs.Common.{◌∙◌, arith, rules}
-use Rattle.par2_printing.specs.Writing.{writer_of}
-use Rattle.par2_spec.proofs.WritingLaws.{part, step}
+use Rattle.par2_printing.proofs.Common.{◌∙◌, arith, rules, writer_of, part, step}
 use Rattle.par2_printing.proofs.text.write_bytes.Goals as goal
 
 pub loop-rest-preserved : goal.loop-rest-preserved

@@ -1,5 +1,4 @@
-use Rattle.std.proofs.Common.{◌≡◌, ◌++◌, ℕ, List, length}
-use Rattle.par2_printing.specs.Writing.{TookAll}
+use Rattle.par2_printing.proofs.Common.{◌≡◌, ◌++◌, ℕ, List, length, TookAll}
 use Rattle.par2_printing.proofs.text.write_bytes.Given as goal
 
 abbrev pub invariant-loop-rest : goal.invariant-loop-rest

@@ -1,6 +1,5 @@
 use Rattle.std.proofs.lemmas.Result.{err_from_is_err_and}
-use Rattle.par2_printing.specs.Writing.{seen}
-use Rattle.par2_spec.proofs.WritingLaws.{lines_cut}
+use Rattle.par2_printing.proofs.Common.{seen, lines_cut}
 use Rattle.par2_printing.proofs.text.write_parts.Goals as goal
 
 pub returns-in_err-write_bytes : goal.returns-in_err-write_bytes

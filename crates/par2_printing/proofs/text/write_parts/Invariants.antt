@@ -1,6 +1,5 @@
-use Rattle.std.proofs.Common.{take}
+use Rattle.par2_printing.proofs.Common.{take, TookAll}
 use Rattle.std.specs.List.{flat_map}
-use Rattle.par2_printing.specs.Writing.{TookAll}
 use Rattle.par2_printing.proofs.text.write_parts.Given as goal
 
 abbrev pub invariant-loop-part : goal.invariant-loop-part

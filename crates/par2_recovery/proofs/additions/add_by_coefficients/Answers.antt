@@ -1,12 +1,5 @@
-use Rattle.std.proofs.Common.{◌≡◌, ◌<◌, ◌≤◌, ◌+◌, ◌-◌, ◌*◌, ◌∙◌, ℕ, List, Vec, Global, sym, ap, subst, arith, length, min}
+use Rattle.par2_recovery.proofs.Common.{◌≡◌, ◌<◌, ◌≤◌, ◌+◌, ◌-◌, ◌*◌, ◌∙◌, ℕ, List, Vec, Global, sym, ap, subst, arith, length, min, lists_of, slice_begins, within, AddsAt, still_within, products, all_coefficients, texts_of}
 use Rattle.std.proofs.lemmas.Grind.{div_ceil_times}
-use Rattle.par2_spec.specs.Sums.{lists_of}
-use Rattle.par2_spec.proofs.FoundLaws.{slice_begins}
-use Rattle.par2_transform.specs.Adding.{within, AddsAt}
-use Rattle.par2_transform.proofs.AddingLaws.{still_within}
-use Rattle.par2_recovery.specs.Products.{products}
-use Rattle.par2_recovery.specs.Syndromes.{all_coefficients}
-use Rattle.par2_recovery.specs.Views.{texts_of}
 use Rattle.par2_recovery.proofs.AdditionLaws.{products_are, columns_place, no_columns_yet, next_columns, all_columns_added}
 use Rattle.par2_recovery.proofs.Combinations.{length-texts_of, rows_long, length-rows}
 use Rattle.par2_recovery.proofs.additions.add_by_coefficients.Goals as goal

@@ -1,7 +1,4 @@
-use Rattle.std.proofs.Common.{◌*◌, length, min}
-use Rattle.par2_spec.specs.Sums.{lists_of}
-use Rattle.par2_recovery.specs.Products.{products}
-use Rattle.par2_recovery.specs.Views.{texts_of}
+use Rattle.par2_recovery.proofs.Common.{◌*◌, length, min, lists_of, products, texts_of}
 use Rattle.par2_recovery.proofs.AdditionLaws.{ColumnsAdded}
 use Rattle.par2_recovery.proofs.additions.add_by_coefficients.Given as goal
 

@@ -1,8 +1,4 @@
-use Rattle.std.proofs.Common.{◌≤◌, ◌<◌, ◌-◌, ◌*◌, ◌∙◌, ℕ, List, Vec, Global, sym, ap, subst, length}
-use Rattle.par2_spec.specs.Sums.{list_at, lists_of}
-use Rattle.par2_spec.proofs.WordLaws.{length-lists_of}
-use Rattle.par2_recovery.specs.Syndromes.{AreProducts}
-use Rattle.par2_recovery.specs.Views.{texts_of}
+use Rattle.par2_recovery.proofs.Common.{◌≤◌, ◌<◌, ◌-◌, ◌*◌, ◌∙◌, ℕ, List, Vec, Global, sym, ap, subst, length, list_at, lists_of, length-lists_of, AreProducts, texts_of}
 use Rattle.par2_recovery.proofs.AdditionLaws.{sums_are}
 use Rattle.par2_recovery.proofs.Combinations.{length-texts_of}
 use Rattle.par2_recovery.proofs.Solving.{many_windows}

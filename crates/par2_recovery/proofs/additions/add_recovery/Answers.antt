@@ -1,11 +1,4 @@
-use Rattle.std.proofs.Common.{◌≤◌, ◌-◌, ◌∙◌, ℕ, List, sym, ap, subst, arith, length, drop}
-use Rattle.std.proofs.lemmas.List.{length-take-le, length-drop}
-use Rattle.par2_spec.specs.Sums.{lists_of}
-use Rattle.par2_transform.specs.Adding.{LieWithin}
-use Rattle.par2_transform.specs.declared.outputs.Place.{Place}
-use Rattle.par2_transform.proofs.AddingLaws.{still_within}
-use Rattle.par2_transform.proofs.GroupLaws.{group_within, length-group}
-use Rattle.par2_recovery.specs.Views.{texts_of}
+use Rattle.par2_recovery.proofs.Common.{◌≤◌, ◌-◌, ◌∙◌, ℕ, List, sym, ap, subst, arith, length, drop, length-take-le, length-drop, lists_of, LieWithin, Place, still_within, group_within, length-group, texts_of}
 use Rattle.par2_recovery.proofs.AdditionLaws.{group, no_output_yet, adds_group, adds_all}
 use Rattle.par2_recovery.proofs.additions.add_recovery.Goals as goal
 

@@ -1,6 +1,4 @@
-use Rattle.std.proofs.Common.{◌≤◌, ◌-◌, length}
-use Rattle.par2_spec.specs.Sums.{lists_of}
-use Rattle.par2_recovery.specs.Views.{texts_of}
+use Rattle.par2_recovery.proofs.Common.{◌≤◌, ◌-◌, length, lists_of, texts_of}
 use Rattle.par2_recovery.proofs.AdditionLaws.{FirstAdded}
 use Rattle.par2_recovery.proofs.additions.add_recovery.Given as goal
 

@@ -1,6 +1,4 @@
-use Rattle.std.proofs.Common.{◌≡◌, ap, arith, length}
-use Rattle.par2_spec.specs.Sums.{lists_of}
-use Rattle.par2_transform.proofs.AddingLaws.{still_within}
+use Rattle.par2_recovery.proofs.Common.{◌≡◌, ap, arith, length, lists_of, still_within}
 use Rattle.par2_recovery.proofs.AdditionLaws.{no_sum, next_sum, all_sums}
 use Rattle.par2_recovery.proofs.additions.add_sums.Goals as goal
 

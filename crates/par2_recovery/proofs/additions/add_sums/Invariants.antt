@@ -1,4 +1,4 @@
-use Rattle.par2_spec.specs.Sums.{lists_of}
+use Rattle.par2_recovery.proofs.Common.{lists_of}
 use Rattle.par2_recovery.proofs.AdditionLaws.{SumsAdded}
 use Rattle.par2_recovery.proofs.additions.add_sums.Given as goal
 

@@ -1,8 +1,4 @@
-use Rattle.std.proofs.Common.{◌≡◌, ◌<◌, ◌∙◌, sym, subst, arith, get_or, map}
-use Rattle.std.specs.List.{range_with_len}
-use Rattle.std.specs.Prelude.{IfOk}
-use Rattle.par2_spec.specs.Recovery.{coefficients}
-use Rattle.par2_spec.specs.Sums.{lists_of}
+use Rattle.par2_recovery.proofs.Common.{◌≡◌, ◌<◌, ◌∙◌, sym, subst, arith, get_or, map, range_with_len, IfOk, coefficients, lists_of}
 use Rattle.par2_recovery.proofs.Combinations.{range-lt}
 use Rattle.par2_recovery.proofs.additions.coefficient_rows.Goals as goal
 

@@ -1,6 +1,4 @@
-use Rattle.std.proofs.Common.{◌∙◌, ◌<◌, [], length, sym, subst}
-use Rattle.std.proofs.lemmas.List.{take_more}
-use Rattle.par2_recovery.specs.Views.{texts_of}
+use Rattle.par2_recovery.proofs.Common.{◌∙◌, ◌<◌, [], length, sym, subst, take_more, texts_of}
 use Rattle.par2_recovery.proofs.Combinations.{lists_push, length-texts_of}
 use Rattle.par2_recovery.proofs.additions.copies.Goals as goal
 

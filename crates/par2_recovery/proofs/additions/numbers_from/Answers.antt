@@ -1,4 +1,4 @@
-use Rattle.std.proofs.Common.{◌∙◌, ◌+◌, ◌++◌, ◌∷◌, [], ℕ, List, sym, ap}
+use Rattle.par2_recovery.proofs.Common.{◌∙◌, ◌+◌, ◌++◌, ◌∷◌, [], ℕ, List, sym, ap}
 use Rattle.par2_recovery.proofs.Combinations.{range_more}
 use Rattle.par2_recovery.proofs.additions.numbers_from.Goals as goal
 

@@ -1,5 +1,4 @@
-use Rattle.std.proofs.Common.{◌≡◌}
-use Rattle.std.specs.List.{range_with_len}
+use Rattle.par2_recovery.proofs.Common.{◌≡◌, range_with_len}
 use Rattle.par2_recovery.proofs.additions.numbers_from.Given as goal
 
 abbrev pub invariant-loop-k : goal.invariant-loop-k

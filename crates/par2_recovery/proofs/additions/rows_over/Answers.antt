@@ -1,6 +1,4 @@
-use Rattle.std.proofs.Common.{◌∙◌, sym}
-use Rattle.std.proofs.lemmas.List.{map_more}
-use Rattle.par2_spec.specs.Recovery.{coefficients}
+use Rattle.par2_recovery.proofs.Common.{◌∙◌, sym, map_more, coefficients}
 use Rattle.par2_recovery.proofs.Combinations.{lists_push}
 use Rattle.par2_recovery.proofs.additions.rows_over.Goals as goal
 

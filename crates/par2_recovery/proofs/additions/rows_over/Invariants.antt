@@ -1,6 +1,4 @@
-use Rattle.std.proofs.Common.{◌≡◌, map, take}
-use Rattle.par2_spec.specs.Recovery.{coefficients}
-use Rattle.par2_spec.specs.Sums.{lists_of}
+use Rattle.par2_recovery.proofs.Common.{◌≡◌, map, take, coefficients, lists_of}
 use Rattle.par2_recovery.proofs.additions.rows_over.Given as goal
 
 abbrev pub invariant-loop-i : goal.invariant-loop-i

@@ -1,4 +1,4 @@
-use Rattle.std.proofs.Common.{◌≤◌, ◌<◌, ◌-◌, length}
+use Rattle.par2_recovery.proofs.Common.{◌≤◌, ◌<◌, ◌-◌, length}
 use Rattle.par2_recovery.proofs.additions.run_end.Given as goal
 
 abbrev pub invariant-loop-end : goal.invariant-loop-end

@@ -1,5 +1,4 @@
-use Rattle.std.proofs.Common.{ℕ, ◌≡◌, ◌≤◌, ◌<◌, ◌+◌, ◌^◌}
-use Rattle.std.specs.Prelude.{slice_index}
+use Rattle.par2_recovery.proofs.Common.{ℕ, ◌≡◌, ◌≤◌, ◌<◌, ◌+◌, ◌^◌, slice_index}
 use Rattle.par2_recovery.proofs.additions.run_together.Given as goal
 
 abbrev pub invariant-loop-j : goal.invariant-loop-j

@@ -1,11 +1,5 @@
-use Rattle.std.proofs.Common.{ℕ, ◌≡◌, ◌∙◌, List, Vec, Global, sym, ap, subst, arith, rules, get_or, length}
-use Rattle.std.proofs.lemmas.List.{with_items_is}
-use Rattle.par2_spec.specs.Sums.{lists_of}
-use Rattle.par2_transform.specs.Adding.{AddsAt, AddsToEach, AreApart, AreWholeTexts, LieWithin}
-use Rattle.par2_transform.specs.Columns.{recovered}
-use Rattle.par2_transform.specs.declared.outputs.Place.{Place}
+use Rattle.par2_recovery.proofs.Common.{ℕ, ◌≡◌, ◌∙◌, List, Vec, Global, sym, ap, subst, arith, rules, get_or, length, with_items_is, lists_of, AddsAt, AddsToEach, AreApart, AreWholeTexts, LieWithin, recovered, Place, texts_of}
 use Rattle.par2_transform.proofs.WholeTexts.{whole_apart, whole_within, whole_added}
-use Rattle.par2_recovery.specs.Views.{texts_of}
 use Rattle.par2_recovery.proofs.Combinations.{length-texts_of}
 use Rattle.par2_recovery.proofs.additions.with_recovery_slices.Goals as goal
 

@@ -1,5 +1,4 @@
-use Rattle.std.proofs.Common.{ℕ, ◌<◌, ◌≡◌, length, get_or}
-use Rattle.par2_spec.specs.Slices.{word}
+use Rattle.par2_recovery.proofs.Common.{ℕ, ◌<◌, ◌≡◌, length, get_or, word}
 use Rattle.par2_recovery.proofs.elements.row_of.Given as goal
 
 abbrev pub invariant-loop-i : goal.invariant-loop-i

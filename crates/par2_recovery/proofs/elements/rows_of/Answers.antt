@@ -1,6 +1,4 @@
-use Rattle.std.proofs.Common.{subst, length}
-use Rattle.par2_matrix.specs.Echelon.{Spells}
-use Rattle.par2_spec.specs.Sums.{list_at, lists_of}
+use Rattle.par2_recovery.proofs.Common.{subst, length, Spells, list_at, lists_of}
 use Rattle.par2_recovery.proofs.Inverting.{rows_push}
 use Rattle.par2_recovery.proofs.elements.rows_of.Goals as goal
 

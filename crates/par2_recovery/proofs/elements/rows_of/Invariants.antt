@@ -1,5 +1,4 @@
-use Rattle.par2_spec.specs.Sums.{lists_of}
-use Rattle.par2_recovery.specs.Elements.{AreRows}
+use Rattle.par2_recovery.proofs.Common.{lists_of, AreRows}
 use Rattle.par2_recovery.proofs.elements.rows_of.Given as goal
 
 abbrev pub invariant-loop-r : goal.invariant-loop-r

@@ -1,4 +1,4 @@
-use Rattle.std.proofs.Common.{rules, length}
+use Rattle.par2_recovery.proofs.Common.{rules, length}
 use Rattle.par2_recovery.proofs.Runs.{close-iff, rises_to_the_end, not_empty}
 use Rattle.par2_recovery.proofs.exponents.are_close.Goals as goal
 

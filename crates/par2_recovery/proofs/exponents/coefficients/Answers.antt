@@ -1,6 +1,4 @@
-use Rattle.std.proofs.Common.{◌∙◌, ◌++◌, ◌∷◌, [], ℕ, List, sym, ap₂}
-use Rattle.std.proofs.lemmas.List.{map_more}
-use Rattle.par2_spec.specs.Field.{coefficient}
+use Rattle.par2_recovery.proofs.Common.{◌∙◌, ◌++◌, ◌∷◌, [], ℕ, List, sym, ap₂, map_more, coefficient}
 use Rattle.par2_recovery.proofs.exponents.coefficients.Goals as goal
 
 pub loop-k-preserved : goal.loop-k-preserved

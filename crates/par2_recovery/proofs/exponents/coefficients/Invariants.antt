@@ -1,6 +1,5 @@
-use Rattle.std.proofs.Common.{◌≡◌, map}
+use Rattle.par2_recovery.proofs.Common.{◌≡◌, map, coefficient}
 use Rattle.std.specs.Prelude.{take}
-use Rattle.par2_spec.specs.Field.{coefficient}
 use Rattle.par2_recovery.proofs.exponents.coefficients.Given as goal
 
 abbrev pub invariant-loop-k : goal.invariant-loop-k

@@ -1,6 +1,4 @@
-use Rattle.std.proofs.Common.{rules, refl, sym, ◌∙◌, ◌-◌, ◌+◌, ◌≤◌, length, get_or, subst, take, drop, arith}
-use Rattle.std.proofs.lemmas.Bool.{false≢true}
-use Rattle.par2_spec.specs.Runs.{AreClose}
+use Rattle.par2_recovery.proofs.Common.{rules, refl, sym, ◌∙◌, ◌-◌, ◌+◌, ◌≤◌, length, get_or, subst, take, drop, arith, false≢true, AreClose}
 use Rattle.par2_recovery.proofs.Runs.{close_run, no_run, one_less, part_is}
 use Rattle.par2_recovery.proofs.exponents.has_run.Goals as goal
 

@@ -1,5 +1,4 @@
-use Rattle.std.proofs.Common.{ℕ, ◌-◌, ◌<◌, ◌≤◌, take, drop}
-use Rattle.par2_spec.specs.Runs.{AreClose}
+use Rattle.par2_recovery.proofs.Common.{ℕ, ◌-◌, ◌<◌, ◌≤◌, take, drop, AreClose}
 use Rattle.par2_recovery.proofs.exponents.has_run.Given as goal
 
 abbrev pub invariant-loop-end : goal.invariant-loop-end

@@ -1,7 +1,5 @@
-use Rattle.std.proofs.Common.{sym, ◌∙◌, refl, subst, Ok}
-use Rattle.par2_spec.specs.Recovery.{coefficients}
-use Rattle.par2_matrix.specs.Systems.{CutDown, IsIndependent, IsDependent}
-use Rattle.par2_matrix.specs.declared.system.Offer.TheVariants.{Dependent}
+use Rattle.par2_recovery.proofs.Common.{sym, ◌∙◌, refl, subst, coefficients, CutDown, IsIndependent, IsDependent, Dependent}
+use Rattle.std.proofs.Common.{Ok}
 use Rattle.par2_recovery.proofs.Ranks.{full_follows, dependent_is_not_kept}
 use Rattle.par2_recovery.proofs.exponents.offer.Goals as goal
 

@@ -1,7 +1,4 @@
-use Rattle.std.proofs.Common.{◌≡◌, ◌≤◌, ◌↔◌, sym, subst, length}
-use Rattle.std.proofs.lemmas.Result.{IfOk-weaker}
-use Rattle.std.proofs.lemmas.Option.{MatchOption-at_some}
-use Rattle.par2_spec.specs.Rank.{rank, IsRepairable}
+use Rattle.par2_recovery.proofs.Common.{◌≡◌, ◌≤◌, ◌↔◌, sym, subst, length, IfOk-weaker, MatchOption-at_some, rank, IsRepairable}
 use Rattle.par2_spec.proofs.FullRank.{rank-le, full-iff}
 use Rattle.par2_recovery.proofs.exponents.rank.Goals as goal
 

@@ -1,4 +1,4 @@
-use Rattle.std.proofs.Common.{◌≡◌, ◌∙◌, arith, length}
+use Rattle.par2_recovery.proofs.Common.{◌≡◌, ◌∙◌, arith, length}
 use Rattle.par2_recovery.proofs.Ranks.{offered, all_offered}
 use Rattle.par2_recovery.proofs.exponents.rank_by_elimination.Goals as goal
 

@@ -1,4 +1,4 @@
-use Rattle.std.proofs.Common.{◌≡◌}
+use Rattle.par2_recovery.proofs.Common.{◌≡◌}
 use Rattle.par2_recovery.proofs.Ranks.{Eliminated}
 use Rattle.par2_recovery.proofs.exponents.rank_by_elimination.Given as goal
 

@@ -1,7 +1,4 @@
-use Rattle.std.proofs.Common.{rules, ◌<◌, sym, ap, length, IsTrue}
-use Rattle.par2_spec.specs.Runs.{AreSlices}
-use Rattle.par2_spec.proofs.ListsLaws.{all_from}
-use Rattle.par2_spec.proofs.RunLaws.{close_kept, run_rank}
+use Rattle.par2_recovery.proofs.Common.{rules, ◌<◌, sym, ap, length, IsTrue, AreSlices, all_from, close_kept, run_rank}
 use Rattle.par2_recovery.proofs.exponents.rank_by_runs.Goals as goal
 
 pub returns-then-are_close : goal.returns-then-are_close

@@ -1,4 +1,4 @@
-use Rattle.std.proofs.Common.{ℕ, ◌+◌, ◌<◌, get_or}
+use Rattle.par2_recovery.proofs.Common.{ℕ, ◌+◌, ◌<◌, get_or}
 use Rattle.par2_recovery.proofs.exponents.rise.Given as goal
 
 abbrev pub invariant-loop-i : goal.invariant-loop-i

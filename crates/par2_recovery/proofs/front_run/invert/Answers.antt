@@ -1,8 +1,4 @@
-use Rattle.std.proofs.Common.{◌<◌, length}
-use Rattle.std.proofs.lemmas.Option.{MatchOption-at_some}
-use Rattle.par2_spec.proofs.ListsLaws.{all_from}
-use Rattle.par2_recovery.specs.RunInverses.{BeginsWithRun}
-use Rattle.par2_recovery.specs.Survivors.{exponents_of}
+use Rattle.par2_recovery.proofs.Common.{◌<◌, length, MatchOption-at_some, all_from, BeginsWithRun, exponents_of}
 use Rattle.par2_recovery.proofs.front_run.invert.Goals as goal
 
 pub invert_run-requires-clause-lost : goal.invert_run-requires-clause-lost

@@ -1,9 +1,4 @@
-use Rattle.std.proofs.Common.{◌∙◌, sym, subst, arith, length, List, ℕ}
-use Rattle.std.proofs.lemmas.List.{length-map, length-take-le}
-use Rattle.par2_spec.specs.Sums.{lists_of}
-use Rattle.par2_spec.proofs.RunLaws.{run_determines}
-use Rattle.par2_recovery.specs.Inverses.{IsInverse}
-use Rattle.par2_recovery.specs.Survivors.{recovered_of, exponents_of}
+use Rattle.par2_recovery.proofs.Common.{◌∙◌, sym, subst, arith, length, List, ℕ, length-map, length-take-le, lists_of, run_determines, IsInverse, recovered_of, exponents_of}
 use Rattle.par2_recovery.proofs.Beginnings.{front_within, has_run_front, kept_slices_front, recovered_front, exponents_front}
 use Rattle.par2_recovery.proofs.Inverting.{length-recovered_of}
 use Rattle.par2_recovery.proofs.front_run.invert_run.Goals as goal

@@ -1,5 +1,4 @@
-use Rattle.std.proofs.Common.{rules, ◌≡◌, ◌<◌, ◌≤◌, arith, length}
-use Rattle.par2_recovery.specs.Survivors.{recovered_of}
+use Rattle.par2_recovery.proofs.Common.{rules, ◌≡◌, ◌<◌, ◌≤◌, arith, length, recovered_of}
 use Rattle.par2_recovery.proofs.Beginnings.{begins_at, in_order, near_front, too_short}
 use Rattle.par2_recovery.proofs.Inverting.{length-recovered_of}
 use Rattle.par2_recovery.proofs.front_run.run_at_front.Goals as goal

@@ -1,6 +1,4 @@
-use Rattle.std.proofs.Common.{◌∙◌, ◌<◌, [], ℕ, List, length, sym, subst}
-use Rattle.std.proofs.lemmas.List.{map_more}
-use Rattle.par2_recovery.specs.Survivors.{recovered_of}
+use Rattle.par2_recovery.proofs.Common.{◌∙◌, ◌<◌, [], ℕ, List, length, sym, subst, map_more, recovered_of}
 use Rattle.par2_recovery.proofs.Inverting.{length-recovered_of}
 use Rattle.par2_recovery.proofs.Combinations.{texts_push}
 use Rattle.par2_recovery.proofs.inverse.bytes_of.Goals as goal

@@ -1,6 +1,4 @@
-use Rattle.std.proofs.Common.{◌≡◌, map, take}
-use Rattle.par2_recovery.specs.Survivors.{recovered_of}
-use Rattle.par2_recovery.specs.Views.{texts_of}
+use Rattle.par2_recovery.proofs.Common.{◌≡◌, map, take, recovered_of, texts_of}
 use Rattle.par2_recovery.proofs.inverse.bytes_of.Given as goal
 
 abbrev pub invariant-loop-j : goal.invariant-loop-j

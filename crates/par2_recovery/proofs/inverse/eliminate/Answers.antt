@@ -1,8 +1,4 @@
-use Rattle.std.proofs.Common.{◌≡◌, ◌<◌, ◌∙◌, ◌++◌, ◌∷◌, [], ℕ, List, Vec, Global, ap, sym, subst, arith, length}
-use Rattle.std.specs.Borrow.{Bor}
-use Rattle.std.specs.Prelude.{Ok}
-use Rattle.par2_matrix.specs.declared.system.Offer.TheVariants.{Kept, Dependent}
-use Rattle.par2_recovery.specs.Survivors.{recovered_of}
+use Rattle.par2_recovery.proofs.Common.{◌≡◌, ◌<◌, ◌∙◌, ◌++◌, ◌∷◌, [], ℕ, List, Vec, Global, ap, sym, subst, arith, length, Bor, Ok, Kept, Dependent, recovered_of}
 use Rattle.par2_recovery.proofs.Inverting.{length-recovered_of}
 use Rattle.par2_recovery.proofs.Ranks.{dependent_is_not_kept}
 use Rattle.par2_recovery.proofs.Standing.{Standing, kept_turn, dropped_turn, eliminated}

@@ -1,4 +1,4 @@
-use Rattle.par2_recovery.specs.Survivors.{recovered_of}
+use Rattle.par2_recovery.proofs.Common.{recovered_of}
 use Rattle.par2_recovery.proofs.Standing.{Standing}
 use Rattle.par2_recovery.proofs.inverse.eliminate.Given as goal
 

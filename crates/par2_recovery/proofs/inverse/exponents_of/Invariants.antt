@@ -1,5 +1,4 @@
-use Rattle.std.proofs.Common.{◌≡◌, ℕ, List, map, take}
-use Rattle.par2_recovery.specs.Survivors.{recovered_of}
+use Rattle.par2_recovery.proofs.Common.{◌≡◌, ℕ, List, map, take, recovered_of}
 use Rattle.par2_recovery.proofs.inverse.exponents_of.Given as goal
 
 abbrev pub invariant-loop-j : goal.invariant-loop-j

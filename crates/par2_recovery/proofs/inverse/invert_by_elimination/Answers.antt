@@ -1,9 +1,5 @@
-use Rattle.std.proofs.Common.{◌≡◌, ◌↔◌, ◌∙◌, refl, sym, ap, subst, length}
-use Rattle.par2_matrix.specs.Systems.{OnlyZeroIsKilled, rank}
-use Rattle.par2_spec.specs.Sums.{lists_of}
-use Rattle.par2_spec.proofs.WordLaws.{length-lists_of}
-use Rattle.par2_recovery.specs.Elements.{AreRows}
-use Rattle.par2_recovery.specs.Survivors.{recovered_of}
+use Rattle.par2_recovery.proofs.Common.{◌≡◌, ◌↔◌, ◌∙◌, refl, sym, ap, subst, length, OnlyZeroIsKilled, lists_of, length-lists_of, AreRows, recovered_of}
+use Rattle.par2_matrix.specs.Systems.{rank}
 use Rattle.par2_recovery.proofs.Inverting.{are_inverse}
 use Rattle.par2_recovery.proofs.inverse.invert_by_elimination.Goals as goal
 

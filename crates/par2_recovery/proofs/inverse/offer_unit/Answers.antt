@@ -1,5 +1,4 @@
-use Rattle.std.proofs.Common.{sym, ◌∙◌}
-use Rattle.par2_spec.specs.Recovery.{coefficients}
+use Rattle.par2_recovery.proofs.Common.{sym, ◌∙◌, coefficients}
 use Rattle.par2_recovery.proofs.Ranks.{full_follows}
 use Rattle.par2_recovery.proofs.inverse.offer_unit.Goals as goal
 

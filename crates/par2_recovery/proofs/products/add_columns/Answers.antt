@@ -1,8 +1,4 @@
-use Rattle.std.proofs.Common.{ℕ, get_or, length, subst, sym}
-use Rattle.par2_spec.specs.Sums.{list_at, lists_of}
-use Rattle.par2_spec.proofs.WordLaws.{length-lists_of}
-use Rattle.par2_recovery.specs.Products.{AddsSource}
-use Rattle.par2_recovery.specs.Views.{texts_of}
+use Rattle.par2_recovery.proofs.Common.{ℕ, get_or, length, subst, sym, list_at, lists_of, length-lists_of, AddsSource, texts_of}
 use Rattle.par2_recovery.proofs.Adding.{no_source, next_source}
 use Rattle.par2_recovery.proofs.products.add_columns.Goals as goal
 

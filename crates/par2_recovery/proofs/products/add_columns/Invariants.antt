@@ -1,6 +1,4 @@
-use Rattle.par2_spec.specs.Sums.{lists_of}
-use Rattle.par2_recovery.specs.Products.{Adds}
-use Rattle.par2_recovery.specs.Views.{texts_of}
+use Rattle.par2_recovery.proofs.Common.{lists_of, Adds, texts_of}
 use Rattle.par2_recovery.proofs.products.add_columns.Given as goal
 
 abbrev pub invariant-loop-k : goal.invariant-loop-k

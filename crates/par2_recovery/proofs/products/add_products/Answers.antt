@@ -1,6 +1,4 @@
-use Rattle.std.proofs.Common.{arith, ◌*◌, ◌+◌, length, min}
-use Rattle.par2_spec.specs.Sums.{lists_of}
-use Rattle.par2_recovery.specs.Views.{texts_of}
+use Rattle.par2_recovery.proofs.Common.{arith, ◌*◌, ◌+◌, length, min, lists_of, texts_of}
 use Rattle.par2_recovery.proofs.Adding.{more_blocks}
 use Rattle.par2_recovery.proofs.products.add_products.Goals as goal
 

@@ -1,7 +1,4 @@
-use Rattle.std.proofs.Common.{length, ◌*◌, min}
-use Rattle.par2_spec.specs.Sums.{lists_of}
-use Rattle.par2_recovery.specs.Products.{Adds}
-use Rattle.par2_recovery.specs.Views.{texts_of}
+use Rattle.par2_recovery.proofs.Common.{length, ◌*◌, min, lists_of, Adds, texts_of}
 use Rattle.par2_recovery.proofs.products.add_products.Given as goal
 
 abbrev pub invariant-loop-block : goal.invariant-loop-block

@@ -1,5 +1,4 @@
-use Rattle.std.proofs.Common.{get_or, ◌∙◌}
-use Rattle.par2_spec.specs.Sums.{list_at, lists_of}
+use Rattle.par2_recovery.proofs.Common.{get_or, ◌∙◌, list_at, lists_of}
 use Rattle.par2_recovery.proofs.Adding.{no_target, next_target}
 use Rattle.par2_recovery.proofs.products.add_source.Goals as goal
 

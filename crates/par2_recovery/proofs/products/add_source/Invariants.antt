@@ -1,6 +1,4 @@
-use Rattle.std.proofs.Common.{get_or}
-use Rattle.par2_spec.specs.Sums.{list_at, lists_of}
-use Rattle.par2_recovery.specs.Products.{AddsSource}
+use Rattle.par2_recovery.proofs.Common.{get_or, list_at, lists_of, AddsSource}
 use Rattle.par2_recovery.proofs.products.add_source.Given as goal
 
 abbrev pub invariant-loop-r : goal.invariant-loop-r

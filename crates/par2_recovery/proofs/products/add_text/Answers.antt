@@ -1,5 +1,4 @@
-use Rattle.std.proofs.Common.{◌≡◌, rules, get_or, length}
-use Rattle.par2_spec.specs.Sums.{list_at, lists_of}
+use Rattle.par2_recovery.proofs.Common.{◌≡◌, rules, get_or, length, list_at, lists_of}
 use Rattle.par2_recovery.proofs.Adding.{empty_source}
 use Rattle.par2_recovery.proofs.products.add_text.Goals as goal
 

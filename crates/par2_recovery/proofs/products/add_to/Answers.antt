@@ -1,8 +1,5 @@
-use Rattle.std.proofs.Common.{◌≡◌, length, get_or, rules, ◌∙◌}
-use Rattle.std.proofs.lemmas.List.{with_items_is}
+use Rattle.par2_recovery.proofs.Common.{◌≡◌, length, get_or, rules, ◌∙◌, with_items_is, list_at, lists_of, read_at, written_here, written_changed}
 use Rattle.std.specs.Vec.{with_items}
-use Rattle.par2_spec.specs.Sums.{list_at, lists_of}
-use Rattle.par2_spec.proofs.WordLaws.{read_at, written_here, written_changed}
 use Rattle.par2_recovery.proofs.products.add_to.Goals as goal
 
 pub returns-clause-changed : goal.returns-clause-changed

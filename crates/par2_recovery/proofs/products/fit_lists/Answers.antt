@@ -1,8 +1,4 @@
-use Rattle.std.proofs.Common.{◌<◌, inl, inr, sym, subst, get_or, arith, []}
-use Rattle.std.proofs.lemmas.Bool.{cases_eq, cases_lt}
-use Rattle.std.proofs.lemmas.List.{get_or_past}
-use Rattle.par2_spec.specs.Sums.{list_at, lists_of}
-use Rattle.par2_spec.proofs.WordLaws.{length-lists_of}
+use Rattle.par2_recovery.proofs.Common.{◌<◌, inl, inr, sym, subst, get_or, arith, [], cases_eq, cases_lt, get_or_past, list_at, lists_of, length-lists_of}
 use Rattle.par2_recovery.proofs.products.fit_lists.Goals as goal
 
 pub loop-i-preserved : goal.loop-i-preserved

@@ -1,5 +1,4 @@
-use Rattle.std.proofs.Common.{ℕ, ◌<◌, get_or}
-use Rattle.par2_spec.specs.Sums.{list_at, lists_of}
+use Rattle.par2_recovery.proofs.Common.{ℕ, ◌<◌, get_or, list_at, lists_of}
 use Rattle.par2_recovery.proofs.products.fit_lists.Given as goal
 
 abbrev pub invariant-loop-i : goal.invariant-loop-i

@@ -1,8 +1,4 @@
-use Rattle.std.proofs.Common.{◌<◌, inl, inr, sym, subst, get_or, arith, []}
-use Rattle.std.proofs.lemmas.Bool.{cases_eq, cases_lt}
-use Rattle.std.proofs.lemmas.List.{get_or_past}
-use Rattle.par2_spec.specs.Sums.{list_at}
-use Rattle.par2_recovery.specs.Views.{texts_of}
+use Rattle.par2_recovery.proofs.Common.{◌<◌, inl, inr, sym, subst, get_or, arith, [], cases_eq, cases_lt, get_or_past, list_at, texts_of}
 use Rattle.par2_recovery.proofs.Combinations.{length-texts_of}
 use Rattle.par2_recovery.proofs.products.fit_texts.Goals as goal
 

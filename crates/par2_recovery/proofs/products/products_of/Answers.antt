@@ -1,10 +1,4 @@
-use Rattle.std.proofs.Common.{◌≡◌, ◌≤◌, ◌*◌, ◌/◌, ◌∙◌, List, Vec, Global, ℕ, sym, ap, subst, arith, rules, length}
-use Rattle.std.proofs.lemmas.List.{with_items_is}
-use Rattle.par2_spec.specs.Sums.{list_at, lists_of}
-use Rattle.par2_spec.proofs.WordLaws.{length-lists_of}
-use Rattle.par2_recovery.specs.Products.{Adds}
-use Rattle.par2_recovery.specs.Syndromes.{AreProducts}
-use Rattle.par2_recovery.specs.Views.{texts_of, AreBlank}
+use Rattle.par2_recovery.proofs.Common.{◌≡◌, ◌≤◌, ◌*◌, ◌/◌, ◌∙◌, List, Vec, Global, ℕ, sym, ap, subst, arith, rules, length, with_items_is, list_at, lists_of, length-lists_of, Adds, AreProducts, texts_of, AreBlank}
 use Rattle.par2_recovery.proofs.Combinations.{blank_room, length-texts_of}
 use Rattle.par2_recovery.proofs.Solving.{products_added}
 use Rattle.par2_recovery.proofs.products.products_of.Goals as goal

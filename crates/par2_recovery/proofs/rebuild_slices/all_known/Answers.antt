@@ -1,10 +1,5 @@
-use Rattle.std.proofs.Common.{◌≡◌, ◌∙◌, List, get_or, sym, subst, arith, Option, ℕ}
-use Rattle.std.specs.Prelude.{Some, None}
-use Rattle.std.specs.List.{All}
-use Rattle.std.proofs.lemmas.List.{get_or_default, take_all}
-use Rattle.std.proofs.lemmas.List.Elements.{All-more}
-use Rattle.std.specs.Borrow.{Bor}
-use Rattle.par2_recovery.specs.Rebuilding.{IsKnown}
+use Rattle.par2_recovery.proofs.Common.{◌≡◌, ◌∙◌, List, get_or, sym, subst, arith, ℕ, Some, None, All, get_or_default, take_all, All-more, Bor, IsKnown}
+use Rattle.std.proofs.Common.{Option}
 use Rattle.par2_recovery.proofs.rebuild_slices.all_known.Goals as goal
 
 pub loop-slice-preserved : goal.loop-slice-preserved

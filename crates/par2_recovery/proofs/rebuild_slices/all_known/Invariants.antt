@@ -1,6 +1,4 @@
-use Rattle.std.proofs.Common.{take}
-use Rattle.std.specs.List.{All}
-use Rattle.par2_recovery.specs.Rebuilding.{IsKnown}
+use Rattle.par2_recovery.proofs.Common.{take, All, IsKnown}
 use Rattle.par2_recovery.proofs.rebuild_slices.all_known.Given as goal
 
 abbrev pub invariant-loop-slice : goal.invariant-loop-slice

@@ -1,6 +1,5 @@
-use Rattle.std.proofs.Common.{◌≡◌, ◌++◌}
+use Rattle.par2_recovery.proofs.Common.{◌≡◌, ◌++◌, lost_from}
 use Rattle.std.specs.Prelude.{drop}
-use Rattle.par2_recovery.specs.Survivors.{lost_from}
 use Rattle.par2_recovery.proofs.rebuild_slices.lost_numbers.Given as goal
 
 abbrev pub invariant-loop-i : goal.invariant-loop-i

@@ -1,13 +1,4 @@
-use Rattle.std.proofs.Common.{ℕ, ◌≡◌, ◌<◌, ◌≤◌, ◌∙◌, [], List, sym, ap, subst, arith, length, map}
-use Rattle.std.proofs.lemmas.List.{get_or-map, length-map}
-use Rattle.std.proofs.lemmas.Result.{IfOk-weaker}
-use Rattle.par2_spec.specs.Recovery.{coefficients}
-use Rattle.par2_spec.specs.Sums.{list_at, lists_of}
-use Rattle.par2_spec.proofs.ListsLaws.{all_get}
-use Rattle.par2_recovery.specs.Products.{AreBytes}
-use Rattle.par2_recovery.specs.Survivors.{known_from, known_alone, bytes_or_none, recovered_of}
-use Rattle.par2_recovery.specs.Syndromes.{all_coefficients, AreSolved}
-use Rattle.par2_recovery.specs.Views.{texts_of}
+use Rattle.par2_recovery.proofs.Common.{ℕ, ◌≡◌, ◌<◌, ◌≤◌, ◌∙◌, [], List, sym, ap, subst, arith, length, map, get_or-map, length-map, IfOk-weaker, coefficients, list_at, lists_of, all_get, AreBytes, known_from, known_alone, bytes_or_none, recovered_of, all_coefficients, AreSolved, texts_of}
 use Rattle.par2_recovery.proofs.AdditionLaws.{known_solved, known_bytes}
 use Rattle.par2_recovery.proofs.Combinations.{length-texts_of}
 use Rattle.par2_recovery.proofs.Inverting.{length-recovered_of, length-slices, many_texts}

@@ -1,12 +1,4 @@
-use Rattle.std.proofs.Common.{◌≡◌, ◌<◌, ◌≤◌, ◌∙◌, refl, sym, ap, subst, get_or, length, rules}
-use Rattle.std.specs.Prelude.{IfErr}
-use Rattle.std.specs.List.{AllByRecursion}
-use Rattle.std.specs.List.Sorted.{IsStrictlyIncreasing}
-use Rattle.par2_spec.specs.Rank.{IsRepairable, kept_slices}
-use Rattle.par2_spec.specs.Sums.{lists_of}
-use Rattle.par2_spec.proofs.FoundLaws.{all-filter}
-use Rattle.par2_spec.proofs.WordLaws.{length-lists_of}
-use Rattle.par2_recovery.specs.Survivors.{recovered_of, exponents_of, lost_from, IsTrueFault}
+use Rattle.par2_recovery.proofs.Common.{◌≡◌, ◌<◌, ◌≤◌, ◌∙◌, refl, sym, ap, subst, get_or, length, rules, IfErr, AllByRecursion, IsStrictlyIncreasing, IsRepairable, kept_slices, lists_of, all-filter, length-lists_of, recovered_of, exponents_of, lost_from, IsTrueFault}
 use Rattle.par2_recovery.proofs.Beginnings.{lost_rise}
 use Rattle.par2_recovery.proofs.Finishing.{lost_among, answer}
 use Rattle.par2_recovery.proofs.Rebuilding.{lost-lt, length-lost_from}

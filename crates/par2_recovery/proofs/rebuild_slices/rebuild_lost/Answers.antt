@@ -1,10 +1,5 @@
-use Rattle.std.proofs.Common.{◌≡◌, List, [], length, sym, ap, subst, Option, ℕ, ◌∙◌}
-use Rattle.std.specs.List.{All}
-use Rattle.par2_spec.specs.Sums.{lists_of}
-use Rattle.par2_recovery.specs.Survivors.{with_lost_slices}
-use Rattle.std.specs.Borrow.{Bor}
-use Rattle.par2_recovery.specs.Rebuilding.{known_among, AreRebuilt}
-use Rattle.par2_recovery.specs.Rebuilding.{IsKnown}
+use Rattle.par2_recovery.proofs.Common.{◌≡◌, List, [], length, sym, ap, subst, ℕ, ◌∙◌, All, lists_of, with_lost_slices, Bor, known_among, AreRebuilt, IsKnown}
+use Rattle.std.proofs.Common.{Option}
 use Rattle.par2_recovery.proofs.KnownSlices.{known_are_enough, known_are_rebuilt, nothing_lost}
 use Rattle.par2_recovery.proofs.rebuild_slices.rebuild_lost.Goals as goal
 

@@ -1,7 +1,4 @@
-use Rattle.std.proofs.Common.{◌∙◌, sym}
-use Rattle.std.specs.Prelude.{None}
-use Rattle.std.proofs.lemmas.List.{map_more}
-use Rattle.par2_recovery.specs.Survivors.{bytes_or_none}
+use Rattle.par2_recovery.proofs.Common.{◌∙◌, sym, None, map_more, bytes_or_none}
 use Rattle.par2_recovery.proofs.Combinations.{texts_push}
 use Rattle.par2_recovery.proofs.rebuild_slices.slices_or_none.Goals as goal
 

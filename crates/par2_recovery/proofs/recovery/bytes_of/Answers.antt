@@ -1,6 +1,4 @@
-use Rattle.std.proofs.Common.{◌≡◌, [], sym, ap, false}
-use Rattle.std.specs.Prelude.{unwrap_or}
-use Rattle.std.proofs.lemmas.Bool.{false_from_ne_true, false≢true}
+use Rattle.par2_recovery.proofs.Common.{◌≡◌, [], sym, ap, false, unwrap_or, false_from_ne_true, false≢true}
 use Rattle.par2_spec.specs.Names.{is_name}
 use Rattle.par2_spec.proofs.MovesLaws.{no_file, no_names_file}
 use Rattle.par2_recovery.proofs.recovery.bytes_of.Goals as goal

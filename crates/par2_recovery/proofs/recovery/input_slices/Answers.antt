@@ -1,9 +1,4 @@
-use Rattle.std.proofs.Common.{◌≡◌, ◌∙◌, map, ap, arith, length, string_bytes}
-use Rattle.std.proofs.lemmas.List.{length-map}
-use Rattle.par2_spec.specs.Slices.{padded}
-use Rattle.par2_spec.specs.Folders.{bytes_of}
-use Rattle.par2_packets.specs.declared.record.FileRecord.{FileRecord}
-use Rattle.par2_recovery.specs.Views.{texts_of, names_of}
+use Rattle.par2_recovery.proofs.Common.{◌≡◌, ◌∙◌, map, ap, arith, length, string_bytes, length-map, padded, bytes_of, FileRecord, texts_of, names_of}
 use Rattle.par2_spec.proofs.SliceLaws.{files_push}
 use Rattle.par2_recovery.proofs.recovery.input_slices.Goals as goal
 

@@ -1,9 +1,5 @@
-use Rattle.std.proofs.Common.{◌≡◌, map}
+use Rattle.par2_recovery.proofs.Common.{◌≡◌, map, padded, all_slices, files_of, texts_of, names_of}
 use Rattle.std.specs.Prelude.{take}
-use Rattle.par2_spec.specs.Slices.{padded}
-use Rattle.par2_spec.specs.Volumes.{all_slices}
-use Rattle.par2_spec.specs.Commands.{files_of}
-use Rattle.par2_recovery.specs.Views.{texts_of, names_of}
 use Rattle.par2_recovery.proofs.recovery.input_slices.Given as goal
 
 abbrev pub invariant-loop-i : goal.invariant-loop-i

@@ -1,10 +1,4 @@
-use Rattle.std.proofs.Common.{ℕ, ◌≡◌, ◌+◌, ◌∙◌, sym, ap, subst, arith, rules, get_or, length, replicate}
-use Rattle.std.specs.List.{range_with_len}
-use Rattle.std.proofs.lemmas.List.{length-replicate}
-use Rattle.std.proofs.lemmas.List.FromFn.{get_or-range_with_len, length-range_with_len}
-use Rattle.par2_spec.specs.Sums.{lists_of}
-use Rattle.par2_recovery.specs.Products.{AreBytes}
-use Rattle.par2_recovery.specs.Views.{texts_of, AreBlank}
+use Rattle.par2_recovery.proofs.Common.{ℕ, ◌≡◌, ◌+◌, ◌∙◌, sym, ap, subst, arith, rules, get_or, length, replicate, range_with_len, length-replicate, get_or-range_with_len, length-range_with_len, lists_of, AreBytes, texts_of, AreBlank}
 use Rattle.par2_recovery.proofs.AdditionLaws.{same_exponents}
 use Rattle.par2_recovery.proofs.Combinations.{are_recovered, blank_copies}
 use Rattle.par2_recovery.proofs.recovery.recovery_slices_over.Goals as goal

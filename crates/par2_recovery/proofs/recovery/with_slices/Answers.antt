@@ -1,7 +1,4 @@
-use Rattle.std.proofs.Common.{◌≡◌, ◌++◌, ◌∷◌, ◌+◌, [], map, sym, subst}
-use Rattle.std.specs.List.{range_with_len}
-use Rattle.par2_spec.specs.Slices.{padded, slice_at}
-use Rattle.par2_recovery.specs.Views.{texts_of}
+use Rattle.par2_recovery.proofs.Common.{◌≡◌, ◌++◌, ◌∷◌, ◌+◌, [], map, sym, subst, range_with_len, padded, slice_at, texts_of}
 use Rattle.par2_recovery.proofs.Combinations.{slices_push}
 use Rattle.par2_recovery.proofs.recovery.with_slices.Goals as goal
 

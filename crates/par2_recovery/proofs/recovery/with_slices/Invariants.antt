@@ -1,7 +1,4 @@
-use Rattle.std.proofs.Common.{◌≡◌, ◌++◌, map}
-use Rattle.std.specs.List.{range_with_len}
-use Rattle.par2_spec.specs.Slices.{padded, slice_at}
-use Rattle.par2_recovery.specs.Views.{texts_of}
+use Rattle.par2_recovery.proofs.Common.{◌≡◌, ◌++◌, map, range_with_len, padded, slice_at, texts_of}
 use Rattle.par2_recovery.proofs.recovery.with_slices.Given as goal
 
 abbrev pub invariant-loop-j : goal.invariant-loop-j

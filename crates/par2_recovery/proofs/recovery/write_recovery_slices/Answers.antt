@@ -1,5 +1,4 @@
-use Rattle.par2_spec.specs.Sums.{lists_of}
-use Rattle.par2_recovery.specs.Views.{texts_of}
+use Rattle.par2_recovery.proofs.Common.{lists_of, texts_of}
 use Rattle.par2_recovery.proofs.AdditionLaws.{are_written}
 use Rattle.par2_recovery.proofs.recovery.write_recovery_slices.Goals as goal
 

@@ -1,6 +1,4 @@
-use Rattle.std.proofs.Common.{◌∙◌, ◌++◌, ◌∷◌, [], ℕ, List, sym, ap₂}
-use Rattle.std.proofs.lemmas.List.{map_more}
-use Rattle.par2_spec.specs.Field.{constant}
+use Rattle.par2_recovery.proofs.Common.{◌∙◌, ◌++◌, ◌∷◌, [], ℕ, List, sym, ap₂, map_more, constant}
 use Rattle.par2_recovery.proofs.run_inverse.constants.Goals as goal
 
 pub loop-k-preserved : goal.loop-k-preserved

@@ -1,10 +1,4 @@
-use Rattle.std.proofs.Common.{◌≡◌, ◌<◌, ◌∙◌, ◌^◌, sym, ap, ap₂}
-use Rattle.std.proofs.Math.Facts.{Fits-lt-pow}
-use Rattle.std.proofs.lemmas.Result.{IfOk-weaker}
-use Rattle.par2_spec.specs.Field.{mul, pow}
-use Rattle.par2_spec.specs.Polynomials.{value, times, quotient, AreElements}
-use Rattle.par2_spec.proofs.ListsLaws.{all_from}
-use Rattle.par2_recovery.specs.RunInverses.{IsScaledQuotient}
+use Rattle.par2_recovery.proofs.Common.{◌≡◌, ◌<◌, ◌∙◌, ◌^◌, sym, ap, ap₂, Fits-lt-pow, IfOk-weaker, mul, pow, value, times, quotient, AreElements, all_from, IsScaledQuotient}
 use Rattle.par2_recovery.proofs.RunInverses.{scaled_is}
 use Rattle.par2_recovery.proofs.run_inverse.inverse_row.Goals as goal
 

@@ -1,5 +1,4 @@
-use Rattle.std.proofs.Common.{ℕ, ◌≡◌, ◌≤◌, ◌<◌, ◌+◌, drop, length, get_or}
-use Rattle.par2_spec.specs.Polynomials.{value}
+use Rattle.par2_recovery.proofs.Common.{ℕ, ◌≡◌, ◌≤◌, ◌<◌, ◌+◌, drop, length, get_or, value}
 use Rattle.par2_recovery.proofs.run_inverse.quotient.Given as goal
 
 abbrev pub invariant-loop-t : goal.invariant-loop-t

@@ -1,9 +1,4 @@
-use Rattle.std.proofs.Common.{rules, ◌≡◌, ◌≢◌, ◌<◌, ◌+◌, ◌++◌, ◌∷◌, [], ◌∙◌, sym, ap, subst, arith, length, get_or, map}
-use Rattle.std.proofs.lemmas.List.{length-map}
-use Rattle.par2_spec.specs.Field.{mul, pow, constant}
-use Rattle.par2_spec.specs.Polynomials.{value, with_roots, quotient}
-use Rattle.par2_spec.specs.Sums.{lists_of}
-use Rattle.par2_recovery.specs.RunInverses.{IsScaledQuotient, AreScaledQuotients}
+use Rattle.par2_recovery.proofs.Common.{rules, ◌≡◌, ◌≢◌, ◌<◌, ◌+◌, ◌++◌, ◌∷◌, [], ◌∙◌, sym, ap, subst, arith, length, get_or, map, length-map, mul, pow, constant, value, with_roots, quotient, lists_of, IsScaledQuotient, AreScaledQuotients}
 use Rattle.par2_recovery.proofs.RunInverses.{at_itself, scaled_push, is_inverse}
 use Rattle.par2_recovery.proofs.run_inverse.run_inverse.Goals as goal
 

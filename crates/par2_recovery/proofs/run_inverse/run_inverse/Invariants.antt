@@ -1,5 +1,4 @@
-use Rattle.par2_spec.specs.Sums.{lists_of}
-use Rattle.par2_recovery.specs.RunInverses.{AreScaledQuotients}
+use Rattle.par2_recovery.proofs.Common.{lists_of, AreScaledQuotients}
 use Rattle.par2_recovery.proofs.run_inverse.run_inverse.Given as goal
 
 abbrev pub invariant-loop-j : goal.invariant-loop-j

@@ -1,6 +1,4 @@
-use Rattle.std.proofs.Common.{◌∙◌, ◌++◌, ◌∷◌, [], ℕ, List, sym, ap₂}
-use Rattle.std.proofs.lemmas.List.{map_more}
-use Rattle.par2_spec.specs.Field.{mul}
+use Rattle.par2_recovery.proofs.Common.{◌∙◌, ◌++◌, ◌∷◌, [], ℕ, List, sym, ap₂, map_more, mul}
 use Rattle.par2_recovery.proofs.run_inverse.scaled.Goals as goal
 
 pub loop-a-preserved : goal.loop-a-preserved

@@ -1,6 +1,5 @@
-use Rattle.std.proofs.Common.{◌≡◌, map}
+use Rattle.par2_recovery.proofs.Common.{◌≡◌, map, mul}
 use Rattle.std.specs.Prelude.{take}
-use Rattle.par2_spec.specs.Field.{mul}
 use Rattle.par2_recovery.proofs.run_inverse.scaled.Given as goal
 
 abbrev pub invariant-loop-a : goal.invariant-loop-a

@@ -1,4 +1,4 @@
-use Rattle.std.proofs.Common.{◌≡◌, ◌++◌, ◌∷◌, [], ◌∙◌, ap, arith, length, get_or, bit_xor}
+use Rattle.par2_recovery.proofs.Common.{◌≡◌, ◌++◌, ◌∷◌, [], ◌∙◌, ap, arith, length, get_or, bit_xor}
 use Rattle.par2_recovery.proofs.Quotients.{coefficients_push, times_root_whole, next_before}
 use Rattle.par2_recovery.proofs.run_inverse.times_root.Goals as goal
 

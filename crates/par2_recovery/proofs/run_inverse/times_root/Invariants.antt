@@ -1,5 +1,4 @@
-use Rattle.std.proofs.Common.{ℕ, ◌≡◌, ◌<◌, ◌∷◌, length, get_or}
-use Rattle.par2_spec.specs.Polynomials.{times_root}
+use Rattle.par2_recovery.proofs.Common.{ℕ, ◌≡◌, ◌<◌, ◌∷◌, length, get_or, times_root}
 use Rattle.par2_recovery.proofs.run_inverse.times_root.Given as goal
 
 abbrev pub invariant-loop-a : goal.invariant-loop-a

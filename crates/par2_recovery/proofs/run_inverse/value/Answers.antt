@@ -1,6 +1,4 @@
-use Rattle.std.proofs.Common.{rules, ◌≡◌, ◌<◌, ◌+◌, ◌-◌, ◌∙◌, sym, ap, arith, length, drop, get_or, bit_xor}
-use Rattle.par2_spec.specs.Field.{mul}
-use Rattle.par2_spec.specs.Polynomials.{value}
+use Rattle.par2_recovery.proofs.Common.{rules, ◌≡◌, ◌<◌, ◌+◌, ◌-◌, ◌∙◌, sym, ap, arith, length, drop, get_or, bit_xor, mul, value}
 use Rattle.par2_recovery.proofs.Quotients.{value_from, value_at_end}
 use Rattle.par2_recovery.proofs.run_inverse.value.Goals as goal
 

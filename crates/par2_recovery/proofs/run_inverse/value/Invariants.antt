@@ -1,5 +1,4 @@
-use Rattle.std.proofs.Common.{◌≡◌, drop}
-use Rattle.par2_spec.specs.Polynomials.{value}
+use Rattle.par2_recovery.proofs.Common.{◌≡◌, drop, value}
 use Rattle.par2_recovery.proofs.run_inverse.value.Given as goal
 
 abbrev pub invariant-loop-t : goal.invariant-loop-t

@@ -1,5 +1,4 @@
-use Rattle.std.proofs.Common.{rules, ◌≡◌, ◌<◌, ◌+◌, ◌-◌, ◌∙◌, sym, ap, arith, drop, get_or}
-use Rattle.par2_spec.specs.Polynomials.{times_root, with_roots}
+use Rattle.par2_recovery.proofs.Common.{rules, ◌≡◌, ◌<◌, ◌+◌, ◌-◌, ◌∙◌, sym, ap, arith, drop, get_or, times_root, with_roots}
 use Rattle.par2_recovery.proofs.Quotients.{with_roots_from, with_roots_at_end}
 use Rattle.par2_recovery.proofs.run_inverse.with_roots.Goals as goal
 

@@ -1,5 +1,4 @@
-use Rattle.std.proofs.Common.{◌≡◌, drop}
-use Rattle.par2_spec.specs.Polynomials.{with_roots}
+use Rattle.par2_recovery.proofs.Common.{◌≡◌, drop, with_roots}
 use Rattle.par2_recovery.proofs.run_inverse.with_roots.Given as goal
 
 abbrev pub invariant-loop-i : goal.invariant-loop-i

@@ -1,10 +1,5 @@
-use Rattle.std.proofs.Common.{arith, ◌≡◌, ◌++◌, ◌∷◌, ◌+◌, ◌∙◌, [], ap, sym, subst, map}
+use Rattle.par2_recovery.proofs.Common.{arith, ◌≡◌, ◌++◌, ◌∷◌, ◌+◌, ◌∙◌, [], ap, sym, subst, map, md5, bytes_of, record_of, files_of, file_record_of}
 use Rattle.std.specs.Prelude.{take}
-use Rattle.md5.specs.Md5.{md5}
-use Rattle.par2_spec.specs.Folders.{bytes_of}
-use Rattle.par2_spec.specs.Volumes.{record_of}
-use Rattle.par2_spec.specs.Commands.{files_of}
-use Rattle.par2_packets.specs.Views.{file_record_of}
 use Rattle.par2_recovery.proofs.Records.{digest_at_name, many_digests, record_push}
 use Rattle.par2_recovery.proofs.set_record.file_records.Goals as goal
 

@@ -1,6 +1,4 @@
-use Rattle.std.proofs.Common.{◌∙◌, [], sym, ap}
-use Rattle.std.proofs.lemmas.List.{map_more}
-use Rattle.par2_spec.specs.Folders.{bytes_of}
+use Rattle.par2_recovery.proofs.Common.{◌∙◌, [], sym, ap, map_more, bytes_of}
 use Rattle.par2_recovery.proofs.Combinations.{texts_push}
 use Rattle.par2_recovery.proofs.set_record.file_texts.Goals as goal
 

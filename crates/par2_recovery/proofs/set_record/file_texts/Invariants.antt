@@ -1,7 +1,6 @@
-use Rattle.std.proofs.Common.{◌≡◌, map}
+use Rattle.par2_recovery.proofs.Common.{◌≡◌, map, bytes_of}
 use Rattle.std.specs.Prelude.{take}
 use Rattle.par2_digests.specs.Texts.{texts_of}
-use Rattle.par2_spec.specs.Folders.{bytes_of}
 use Rattle.par2_recovery.proofs.set_record.file_texts.Given as goal
 
 abbrev pub invariant-loop-i : goal.invariant-loop-i

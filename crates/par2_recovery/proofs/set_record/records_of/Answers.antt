@@ -1,5 +1,4 @@
-use Rattle.std.proofs.Common.{◌∙◌, ap, map}
-use Rattle.md5.specs.Md5.{md5}
+use Rattle.par2_recovery.proofs.Common.{◌∙◌, ap, map, md5}
 use Rattle.par2_digests.specs.Texts.{texts_of}
 use Rattle.par2_recovery.proofs.set_record.records_of.Goals as goal
 

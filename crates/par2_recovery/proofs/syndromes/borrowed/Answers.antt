@@ -1,5 +1,4 @@
-use Rattle.std.proofs.Common.{◌∙◌, ℕ, Vec, Global, sym, ap}
-use Rattle.std.proofs.lemmas.List.{map_more}
+use Rattle.par2_recovery.proofs.Common.{◌∙◌, ℕ, Vec, Global, sym, ap, map_more}
 use Rattle.par2_recovery.proofs.Combinations.{texts_push}
 use Rattle.par2_recovery.proofs.syndromes.borrowed.Goals as goal
 

@@ -1,5 +1,4 @@
-use Rattle.std.proofs.Common.{◌∙◌, ◌++◌, ap}
-use Rattle.par2_spec.specs.Sums.{list_at, lists_of}
+use Rattle.par2_recovery.proofs.Common.{◌∙◌, ◌++◌, ap, list_at, lists_of}
 use Rattle.par2_recovery.proofs.Solving.{no_extended, next_extended}
 use Rattle.par2_recovery.proofs.syndromes.extend.Goals as goal
 

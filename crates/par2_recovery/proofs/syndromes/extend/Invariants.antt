@@ -1,5 +1,4 @@
-use Rattle.par2_spec.specs.Sums.{lists_of}
-use Rattle.par2_recovery.specs.Syndromes.{AreExtended}
+use Rattle.par2_recovery.proofs.Common.{lists_of, AreExtended}
 use Rattle.par2_recovery.proofs.syndromes.extend.Given as goal
 
 abbrev pub invariant-loop-r : goal.invariant-loop-r

@@ -1,6 +1,4 @@
-use Rattle.std.proofs.Common.{◌≡◌, ◌∙◌, ◌++◌, ap, rules}
-use Rattle.par2_spec.specs.Sums.{list_at, lists_of}
-use Rattle.par2_spec.proofs.WordLaws.{read_at, written_here, written_changed}
+use Rattle.par2_recovery.proofs.Common.{◌≡◌, ◌∙◌, ◌++◌, ap, rules, list_at, lists_of, read_at, written_here, written_changed}
 use Rattle.par2_recovery.proofs.syndromes.extend_at.Goals as goal
 
 pub returns-in_err-extend_from_slice-clause-changed : goal.returns-in_err-extend_from_slice-clause-changed

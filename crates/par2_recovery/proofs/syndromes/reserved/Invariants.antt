@@ -1,5 +1,4 @@
-use Rattle.par2_spec.specs.Sums.{lists_of}
-use Rattle.par2_recovery.specs.Views.{AreBlank}
+use Rattle.par2_recovery.proofs.Common.{lists_of, AreBlank}
 use Rattle.par2_recovery.proofs.syndromes.reserved.Given as goal
 
 abbrev pub invariant-loop-i : goal.invariant-loop-i

@@ -1,9 +1,4 @@
-use Rattle.std.proofs.Common.{◌≡◌, ◌≤◌, ◌+◌, ◌∙◌, refl, sym, ap, subst, arith, rules, length, map}
-use Rattle.std.proofs.lemmas.List.{with_items_is}
-use Rattle.par2_spec.specs.Sums.{list_at, lists_of}
-use Rattle.par2_spec.proofs.WordLaws.{length-lists_of}
-use Rattle.par2_recovery.specs.Syndromes.{window, all_coefficients, AreSolved, AreExtended}
-use Rattle.par2_recovery.specs.Views.{texts_of}
+use Rattle.par2_recovery.proofs.Common.{◌≡◌, ◌≤◌, ◌+◌, ◌∙◌, refl, sym, ap, subst, arith, rules, length, map, with_items_is, list_at, lists_of, length-lists_of, window, all_coefficients, AreSolved, AreExtended, texts_of}
 use Rattle.par2_recovery.proofs.Combinations.{length-texts_of}
 use Rattle.par2_recovery.proofs.Solving.{many_windows, none_solved, window_size, next_solved}
 use Rattle.par2_recovery.proofs.syndromes.solved.Goals as goal

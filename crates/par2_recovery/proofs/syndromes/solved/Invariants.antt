@@ -1,7 +1,4 @@
-use Rattle.std.proofs.Common.{◌≡◌, ◌≤◌, ◌-◌, ◌%◌, length}
-use Rattle.par2_spec.specs.Sums.{lists_of}
-use Rattle.par2_recovery.specs.Syndromes.{all_coefficients, AreSolved}
-use Rattle.par2_recovery.specs.Views.{texts_of}
+use Rattle.par2_recovery.proofs.Common.{◌≡◌, ◌≤◌, ◌-◌, ◌%◌, length, lists_of, all_coefficients, AreSolved, texts_of}
 use Rattle.par2_recovery.proofs.syndromes.solved.Given as goal
 
 abbrev pub invariant-loop-from : goal.invariant-loop-from

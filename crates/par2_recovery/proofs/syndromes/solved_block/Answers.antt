@@ -1,9 +1,4 @@
-use Rattle.std.proofs.Common.{◌≡◌, ◌/◌, ◌∙◌, sym, ap, subst, arith, length}
-use Rattle.std.proofs.lemmas.Result.{IfOk-weaker}
-use Rattle.par2_spec.specs.Sums.{lists_of}
-use Rattle.par2_spec.proofs.WordLaws.{length-lists_of}
-use Rattle.par2_recovery.specs.Syndromes.{all_coefficients, AreProducts, AreSolved, AreSyndromes}
-use Rattle.par2_recovery.specs.Views.{texts_of}
+use Rattle.par2_recovery.proofs.Common.{◌≡◌, ◌/◌, ◌∙◌, sym, ap, subst, arith, length, IfOk-weaker, lists_of, length-lists_of, all_coefficients, AreProducts, AreSolved, AreSyndromes, texts_of}
 use Rattle.par2_recovery.proofs.AdditionLaws.{syndromes_added}
 use Rattle.par2_recovery.proofs.Combinations.{length-texts_of}
 use Rattle.par2_recovery.proofs.Solving.{words_solved}

@@ -1,7 +1,4 @@
-use Rattle.std.proofs.Common.{◌∙◌, ◌<◌, [], length, sym, ap, subst}
-use Rattle.std.proofs.lemmas.List.{map_more}
-use Rattle.par2_recovery.specs.Syndromes.{window}
-use Rattle.par2_recovery.specs.Views.{texts_of}
+use Rattle.par2_recovery.proofs.Common.{◌∙◌, ◌<◌, [], length, sym, ap, subst, map_more, window, texts_of}
 use Rattle.par2_recovery.proofs.Combinations.{texts_push, length-texts_of}
 use Rattle.par2_recovery.proofs.syndromes.windows.Goals as goal
 

@@ -1,6 +1,4 @@
-use Rattle.std.proofs.Common.{◌≡◌, map, take}
-use Rattle.par2_recovery.specs.Syndromes.{window}
-use Rattle.par2_recovery.specs.Views.{texts_of}
+use Rattle.par2_recovery.proofs.Common.{◌≡◌, map, take, window, texts_of}
 use Rattle.par2_recovery.proofs.syndromes.windows.Given as goal
 
 abbrev pub invariant-loop-k : goal.invariant-loop-k

@@ -1,13 +1,5 @@
-use Rattle.std.proofs.Common.{Bool, ◌∙◌, ◌&&◌, ◌==◌, ℕ, List, length, map, Some, None, cond, sym, ap, ap₂}
-use Rattle.std.specs.Prelude.{Option, option_map}
-use Rattle.std.specs.BTreeMap.{get}
-use Rattle.std.specs.Option.{option_or}
-use Rattle.std.specs.Ordering.{eq_by_cmp}
-use Rattle.std.specs.Str.{bytes_eq}
-use Rattle.std.proofs.lemmas.List.{take_all}
-use Rattle.par2_spec.specs.Packets.{Packet, IfscBody, read_ifsc}
-use Rattle.par2_packets.specs.Views.{packet_of}
-use Rattle.par2_sets.specs.Firsts.{count_cmp}
+use Rattle.par2_sets.proofs.Common.{Bool, ◌∙◌, ◌&&◌, ◌==◌, ℕ, List, length, map, Some, None, cond, sym, ap, ap₂, option_map, get, option_or, eq_by_cmp, bytes_eq, take_all, Packet, IfscBody, read_ifsc, packet_of, count_cmp}
+use Rattle.std.specs.Prelude.{Option}
 use Rattle.par2_sets.proofs.KeptPackets.{checksums_of}
 use Rattle.par2_sets.proofs.Keeping.{one_more, nothing_more, same_count}
 use Rattle.par2_sets.proofs.checksums.checksums_in.Goals as goal

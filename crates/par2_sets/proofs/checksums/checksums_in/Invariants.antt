@@ -1,7 +1,4 @@
-use Rattle.std.proofs.Common.{◌≡◌, ℕ, List, map, take}
-use Rattle.std.specs.BTreeMap.{get}
-use Rattle.par2_packets.specs.Views.{packet_of}
-use Rattle.par2_sets.specs.Firsts.{count_cmp}
+use Rattle.par2_sets.proofs.Common.{◌≡◌, ℕ, List, map, take, get, packet_of, count_cmp}
 use Rattle.par2_sets.proofs.KeptPackets.{checksums_of}
 use Rattle.par2_sets.proofs.checksums.checksums_in.Given as goal
 

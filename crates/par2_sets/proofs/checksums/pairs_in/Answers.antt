@@ -1,5 +1,4 @@
-use Rattle.std.proofs.Common.{◌≡◌, ◌∙◌, ◌++◌, ◌∷◌, [], sym, ap₂, rules}
-use Rattle.std.proofs.lemmas.List.{take_more}
+use Rattle.par2_sets.proofs.Common.{◌≡◌, ◌∙◌, ◌++◌, ◌∷◌, [], sym, ap₂, rules, take_more}
 use Rattle.par2_sets.proofs.Lists.{item_at}
 use Rattle.par2_sets.proofs.checksums.pairs_in.Goals as goal
 

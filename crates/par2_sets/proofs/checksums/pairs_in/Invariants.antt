@@ -1,4 +1,4 @@
-use Rattle.std.proofs.Common.{◌≡◌, take}
+use Rattle.par2_sets.proofs.Common.{◌≡◌, take}
 use Rattle.par2_sets.proofs.checksums.pairs_in.Given as goal
 
 abbrev pub invariant-loop-k : goal.invariant-loop-k

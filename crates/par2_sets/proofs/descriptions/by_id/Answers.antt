@@ -1,14 +1,6 @@
-use Rattle.std.proofs.Common.{◌∙◌, List, Bool, false, refl, sym, ap}
-use Rattle.std.specs.Prelude.{find, option_and_then}
-use Rattle.std.specs.BTreeMap.{get}
-use Rattle.std.specs.Ordering.{eq_by_cmp}
-use Rattle.std.proofs.lemmas.List.{take_all}
-use Rattle.par2_spec.specs.Packets.{DescBody, read_desc}
-use Rattle.par2_packets.specs.Views.{packet_of}
+use Rattle.par2_sets.proofs.Common.{◌∙◌, List, Bool, false, refl, sym, ap, find, option_and_then, get, eq_by_cmp, take_all, DescBody, read_desc, packet_of, id_cmp, or_nothing}
 use Rattle.par2_packets.specs.declared.scan.Packet as scan
-use Rattle.par2_sets.specs.Firsts.{id_cmp}
 use Rattle.par2_sets.proofs.KeptPackets.{desc_in, has_id}
-use Rattle.par2_spec.proofs.TestLaws.{or_nothing}
 use Rattle.par2_sets.proofs.Keeping.{reads, passes, first_read, item_kept, same_id}
 use Rattle.par2_spec.proofs.ListsLaws.{filter_map-map}
 use Rattle.par2_sets.proofs.descriptions.by_id.Goals as goal

@@ -1,7 +1,4 @@
-use Rattle.std.proofs.Common.{◌≡◌, ℕ, List, take}
-use Rattle.std.specs.Prelude.{find}
-use Rattle.std.specs.BTreeMap.{get}
-use Rattle.par2_sets.specs.Firsts.{id_cmp}
+use Rattle.par2_sets.proofs.Common.{◌≡◌, ℕ, List, take, find, get, id_cmp}
 use Rattle.par2_sets.proofs.Keeping.{reads}
 use Rattle.par2_sets.proofs.KeptPackets.{desc_in, has_id}
 use Rattle.par2_sets.proofs.descriptions.by_id.Given as goal

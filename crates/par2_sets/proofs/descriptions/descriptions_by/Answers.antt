@@ -1,7 +1,4 @@
-use Rattle.std.proofs.Common.{◌≡◌, ◌∙◌, ◌++◌, ◌∷◌, [], inr, sym, ap, rules, Some, Err, arith}
-use Rattle.std.specs.Prelude.{ok_or}
-use Rattle.par2_spec.specs.Sets.{description_of}
-use Rattle.par2_spec.specs.declared.Fault.TheVariants.{NoDescription}
+use Rattle.par2_sets.proofs.Common.{◌≡◌, ◌∙◌, ◌++◌, ◌∷◌, [], inr, sym, ap, rules, Some, Err, arith, ok_or, description_of, NoDescription}
 use Rattle.par2_sets.proofs.Lists.{item_at, all_some_more}
 use Rattle.par2_sets.proofs.Refusals.{passed_on, one_missing}
 use Rattle.par2_sets.proofs.descriptions.descriptions_by.Goals as goal

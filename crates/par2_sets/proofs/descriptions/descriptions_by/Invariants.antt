@@ -1,7 +1,4 @@
-use Rattle.std.proofs.Common.{◌≡◌, List, Some, map, take}
-use Rattle.par2_spec.specs.Packets.{Packet}
-use Rattle.par2_spec.specs.Sets.{all_some, description_of}
-use Rattle.par2_sets.specs.Firsts.{HoldDescriptions}
+use Rattle.par2_sets.proofs.Common.{◌≡◌, List, Some, map, take, Packet, all_some, description_of, HoldDescriptions}
 use Rattle.par2_sets.proofs.descriptions.descriptions_by.Given as goal
 
 abbrev pub invariant-loop-k : goal.invariant-loop-k

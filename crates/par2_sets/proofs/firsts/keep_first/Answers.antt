@@ -1,4 +1,4 @@
-use Rattle.std.proofs.Common.{sym, ◌∙◌}
+use Rattle.par2_sets.proofs.Common.{sym, ◌∙◌}
 use Rattle.par2_sets.proofs.Keeping.{new_first, old_first}
 use Rattle.par2_sets.proofs.firsts.keep_first.Goals as goal
 

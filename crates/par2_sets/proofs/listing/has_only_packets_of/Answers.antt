@@ -1,9 +1,4 @@
-use Rattle.std.proofs.Common.{◌≡◌, false, sym, arith}
-use Rattle.std.proofs.lemmas.Bool.{and_right}
-use Rattle.std.proofs.lemmas.Grind.{common_steps}
-use Rattle.std.specs.List.{list_any, list_all}
-use Rattle.std.specs.Str.{bytes_eq}
-use Rattle.par2_spec.specs.Packets.{accepted}
+use Rattle.par2_sets.proofs.Common.{◌≡◌, false, sym, arith, and_right, common_steps, list_any, list_all, bytes_eq, accepted}
 use Rattle.par2_sets.proofs.listing.has_only_packets_of.Goals as goal
 
 pub returns-then-ne : goal.returns-then-ne

@@ -1,8 +1,4 @@
-use Rattle.std.proofs.Common.{◌≡◌, ◌||◌}
-use Rattle.std.specs.List.{list_any, list_all}
-use Rattle.std.specs.Str.{bytes_eq}
-use Rattle.par2_spec.specs.Packets.{accepted}
-use Rattle.par2_packets.specs.Views.{packets_of}
+use Rattle.par2_sets.proofs.Common.{◌≡◌, ◌||◌, list_any, list_all, bytes_eq, accepted, packets_of}
 use Rattle.par2_sets.proofs.listing.has_only_packets_of.Given as goal
 
 abbrev pub invariant-loop-packet : goal.invariant-loop-packet

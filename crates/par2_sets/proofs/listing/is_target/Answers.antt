@@ -1,4 +1,4 @@
-use Rattle.std.proofs.Common.{◌∙◌}
+use Rattle.par2_sets.proofs.Common.{◌∙◌}
 use Rattle.par2_sets.proofs.listing.is_target.Goals as goal
 
 pub returns : goal.returns

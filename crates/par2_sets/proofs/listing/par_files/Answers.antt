@@ -1,7 +1,4 @@
-use Rattle.std.proofs.Common.{◌∙◌, ap, rules}
-use Rattle.std.specs.Prelude.{filter}
-use Rattle.std.proofs.lemmas.Fn.{filter_same}
-use Rattle.par2_spec.specs.Repairs.{is_par_file}
+use Rattle.par2_sets.proofs.Common.{◌∙◌, ap, rules, filter, filter_same, is_par_file}
 use Rattle.par2_sets.proofs.listing.par_files.Goals as goal
 
 pub returns : goal.returns

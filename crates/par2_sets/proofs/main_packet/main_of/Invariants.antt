@@ -1,6 +1,4 @@
-use Rattle.std.proofs.Common.{◌≡◌, map, drop}
-use Rattle.par2_spec.specs.Sets.{main_of}
-use Rattle.par2_packets.specs.Views.{packet_of}
+use Rattle.par2_sets.proofs.Common.{◌≡◌, map, drop, main_of, packet_of}
 use Rattle.par2_sets.proofs.main_packet.main_of.Given as goal
 
 abbrev pub invariant-loop-packet : goal.invariant-loop-packet

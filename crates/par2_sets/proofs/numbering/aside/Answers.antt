@@ -1,11 +1,4 @@
-use Rattle.std.proofs.Common.{◌≡◌, ◌<◌, ◌≤◌, ◌∙◌, ◌⊎◌, ◌∷◌, [], Some, inl, inr, length, sym, ap, subst, true, false, arith}
-use Rattle.par2_spec.specs.declared.Fault.{Fault}
-use Rattle.par2_spec.specs.declared.Fault.TheVariants.{Memory}
-use Rattle.par2_spec.specs.Names.{is_among, numbered}
-use Rattle.par2_spec.specs.Repairs.{aside, taken_for}
-use Rattle.par2_spec.specs.Sets.{target_names}
-use Rattle.par2_sets.specs.Asides.{long_aside}
-use Rattle.par2_spec.proofs.NameTests.{no_name}
+use Rattle.par2_sets.proofs.Common.{◌≡◌, ◌<◌, ◌≤◌, ◌∙◌, ◌⊎◌, ◌∷◌, [], Some, inl, inr, length, sym, ap, subst, true, false, arith, Fault, Memory, is_among, numbered, aside, taken_for, target_names, long_aside, no_name}
 use Rattle.par2_sets.proofs.TakenNames.{first_here, first_later, from_one, long_is_no_name, passed_on, too_long}
 use Rattle.par2_sets.proofs.numbering.aside.Goals as goal
 

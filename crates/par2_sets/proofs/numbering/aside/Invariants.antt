@@ -1,5 +1,4 @@
-use Rattle.std.proofs.Common.{◌≡◌}
-use Rattle.par2_spec.specs.Repairs.{aside, taken_for}
+use Rattle.par2_sets.proofs.Common.{◌≡◌, aside, taken_for}
 use Rattle.par2_sets.proofs.TakenNames.{first_from}
 use Rattle.par2_sets.proofs.numbering.aside.Given as goal
 

@@ -1,10 +1,4 @@
-use Rattle.std.proofs.Common.{◌≡◌, ◌<◌, ◌∙◌, ◌⊎◌, ◌++◌, ◌∷◌, [], ℕ, List, Some, None, IsTrue, ap, inl, inr, length, map, refl, subst, arith, rules}
-use Rattle.std.proofs.lemmas.List.{take_all}
-use Rattle.par2_spec.specs.declared.Fault.{Fault}
-use Rattle.par2_spec.specs.declared.Fault.TheVariants.{Memory}
-use Rattle.par2_spec.specs.Names.{is_name}
-use Rattle.par2_spec.specs.Repairs.{aside}
-use Rattle.par2_sets.specs.Asides.{long_aside}
+use Rattle.par2_sets.proofs.Common.{◌≡◌, ◌<◌, ◌∙◌, ◌⊎◌, ◌++◌, ◌∷◌, [], ℕ, List, Some, None, IsTrue, ap, inl, inr, length, map, refl, subst, arith, rules, take_all, Fault, Memory, is_name, aside, long_aside}
 use Rattle.par2_sets.proofs.TakenNames.{no_value, one_more_aside, one_more_short, one_too_long, passed_on}
 use Rattle.par2_sets.proofs.numbering.asides.Goals as goal
 

@@ -1,6 +1,4 @@
-use Rattle.std.proofs.Common.{◌≡◌, None, map, take}
-use Rattle.par2_spec.specs.Repairs.{aside}
-use Rattle.par2_sets.specs.Asides.{long_aside}
+use Rattle.par2_sets.proofs.Common.{◌≡◌, None, map, take, aside, long_aside}
 use Rattle.par2_sets.proofs.numbering.asides.Given as goal
 
 abbrev pub invariant-loop-name : goal.invariant-loop-name

@@ -1,8 +1,5 @@
-use Rattle.std.proofs.Common.{◌≡◌, ◌∙◌, ◌||◌, sym, ap, true, false}
-use Rattle.par2_spec.specs.Folders.{names}
-use Rattle.par2_spec.specs.Names.{is_among}
+use Rattle.par2_sets.proofs.Common.{◌≡◌, ◌∙◌, ◌||◌, sym, ap, true, false, names, is_among, among-append}
 use Rattle.par2_spec.proofs.MovesLaws.{has_by_names}
-use Rattle.par2_spec.proofs.NamesLaws.{among-append}
 use Rattle.par2_sets.proofs.numbering.is_taken.Goals as goal
 
 pub returns-then-is_some : goal.returns-then-is_some

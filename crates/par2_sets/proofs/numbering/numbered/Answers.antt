@@ -1,5 +1,5 @@
-use Rattle.std.proofs.Common.{◌≡◌, ◌<◌, length, rules, IfErr}
-use Rattle.par2_spec.specs.Names.{numbered}
+use Rattle.par2_sets.proofs.Common.{◌≡◌, ◌<◌, length, rules, numbered}
+use Rattle.std.proofs.Common.{IfErr}
 use Rattle.par2_sets.proofs.TakenNames.{long_where_err}
 use Rattle.par2_sets.proofs.numbering.numbered.Goals as goal
 

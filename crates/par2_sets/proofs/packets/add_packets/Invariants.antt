@@ -1,6 +1,4 @@
-use Rattle.std.proofs.Common.{◌≡◌, ◌++◌, map}
-use Rattle.par2_spec.specs.Sets.{packets_with}
-use Rattle.par2_packets.specs.Views.{packet_of, packets_of}
+use Rattle.par2_sets.proofs.Common.{◌≡◌, ◌++◌, map, packets_with, packet_of, packets_of}
 use Rattle.par2_sets.proofs.packets.add_packets.Given as goal
 
 abbrev pub invariant-loop-packet : goal.invariant-loop-packet

@@ -1,8 +1,4 @@
-use Rattle.std.proofs.Common.{◌∙◌, ℕ, List, not, ◌&&◌, ap, rules}
-use Rattle.std.specs.Prelude.{filter}
-use Rattle.std.specs.Str.{bytes_eq}
-use Rattle.std.proofs.lemmas.Fn.{filter_same}
-use Rattle.par2_spec.specs.Names.{is_par_name}
+use Rattle.par2_sets.proofs.Common.{◌∙◌, ℕ, List, not, ◌&&◌, ap, rules, filter, bytes_eq, filter_same, is_par_name}
 use Rattle.par2_sets.proofs.packets.other_par_names.Goals as goal
 
 pub returns : goal.returns

@@ -1,8 +1,4 @@
-use Rattle.std.proofs.Common.{◌≡◌, ◌∷◌, map, take, flat_map}
-use Rattle.par2_spec.specs.Folders.{bytes_of}
-use Rattle.par2_spec.specs.Packets.{accepted}
-use Rattle.par2_spec.specs.Sets.{packets_with}
-use Rattle.par2_packets.specs.Views.{packet_of}
+use Rattle.par2_sets.proofs.Common.{◌≡◌, ◌∷◌, map, take, flat_map, bytes_of, accepted, packets_with, packet_of}
 use Rattle.par2_sets.proofs.packets.packets_of.Given as goal
 
 abbrev pub invariant-loop-name : goal.invariant-loop-name

@@ -1,8 +1,4 @@
-use Rattle.std.proofs.Common.{◌∙◌, ◌==◌, length, sym, ap}
-use Rattle.std.specs.Cmp.{on_total}
-use Rattle.std.specs.Cmp.Lexicographic.{nat_list_cmp_total, texts_ties}
-use Rattle.std.specs.Set.{distinct_count}
-use Rattle.std.specs.Str.{bytes_eq}
+use Rattle.par2_sets.proofs.Common.{◌∙◌, ◌==◌, length, sym, ap, on_total, nat_list_cmp_total, texts_ties, distinct_count, bytes_eq}
 use Rattle.std.proofs.lemmas.Iterator.{YieldsList-from_slice, items_from_drains}
 use Rattle.std.proofs.lemmas.Map.Views.{btree_set_len-from_list}
 use Rattle.par2_sets.proofs.Names.{distinct_count-map, counted}

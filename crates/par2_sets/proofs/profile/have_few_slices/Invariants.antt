@@ -1,4 +1,4 @@
-use Rattle.std.proofs.Common.{◌≡◌, ◌+◌, take, sum_by}
+use Rattle.par2_sets.proofs.Common.{◌≡◌, ◌+◌, take, sum_by}
 use Rattle.par2_spec.specs.Slices.{slice_count}
 use Rattle.par2_sets.proofs.profile.have_few_slices.Given as goal
 

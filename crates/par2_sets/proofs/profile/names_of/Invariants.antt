@@ -1,6 +1,4 @@
-use Rattle.std.proofs.Common.{◌≡◌, true, map, take}
-use Rattle.std.specs.List.{list_all}
-use Rattle.par2_spec.specs.Names.{is_name}
+use Rattle.par2_sets.proofs.Common.{◌≡◌, true, map, take, list_all, is_name}
 use Rattle.par2_sets.proofs.profile.names_of.Given as goal
 
 abbrev pub invariant-loop-description : goal.invariant-loop-description

@@ -1,7 +1,4 @@
-use Rattle.std.proofs.Common.{◌≡◌, false, arith}
-use Rattle.std.specs.Prelude.{is_some}
-use Rattle.std.specs.Map.{lookup}
-use Rattle.std.specs.Ordering.{nat_cmp, eq_by_cmp}
+use Rattle.par2_sets.proofs.Common.{◌≡◌, false, arith, is_some, lookup, nat_cmp, eq_by_cmp}
 use Rattle.par2_sets.proofs.Exponents.{new_slice}
 use Rattle.par2_sets.proofs.recovery.keep_first.Goals as goal
 

@@ -1,14 +1,6 @@
-use Rattle.std.proofs.Common.{◌≡◌, ◌∙◌, ℕ, map, take, Some, None, sym, ap, subst}
-use Rattle.std.specs.Prelude.{if◌then◌else◌}
-use Rattle.std.specs.Ordering.{nat_cmp, eq_by_cmp}
-use Rattle.std.specs.Option.{option_or, option_map}
-use Rattle.std.specs.FinMap.{find, entries}
-use Rattle.std.specs.List.Sorted.{IsStrictlyIncreasing}
-use Rattle.std.proofs.lemmas.List.{take_all}
-use Rattle.std.proofs.lemmas.Result.{IfOk-weaker}
-use Rattle.par2_spec.specs.Sets.{recovery_of}
-use Rattle.par2_packets.specs.Views.{packet_of}
-use Rattle.par2_sets.specs.Slices.{entry_of, exponents_of, recovered_of, slice_at}
+use Rattle.par2_sets.proofs.Common.{◌≡◌, ◌∙◌, ℕ, map, take, Some, None, sym, ap, subst, if◌then◌else◌, nat_cmp, eq_by_cmp, option_or, entries, IsStrictlyIncreasing, take_all, IfOk-weaker, recovery_of, packet_of, entry_of, exponents_of, recovered_of, slice_at}
+use Rattle.std.specs.Option.{option_map}
+use Rattle.std.specs.FinMap.{find}
 use Rattle.par2_sets.proofs.Exponents.{slices_in, one_more, nothing_more, first_slices, rising}
 use Rattle.par2_sets.proofs.recovery.recovery_of.Goals as goal
 use Rattle.par2_sets.proofs.recovery.recovery_of.Goals.{in-Some+in_ok-keep_first, in_default}

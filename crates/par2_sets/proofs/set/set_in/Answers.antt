@@ -1,10 +1,4 @@
-use Rattle.std.proofs.Common.{◌≡◌, ◌∙◌, ◌⊎◌, map, inl, inr, subst, Ok, Err}
-use Rattle.par2_spec.specs.declared.Fault.TheVariants.{Memory}
-use Rattle.par2_spec.specs.Sets.{recovery_of}
-use Rattle.std.specs.FinMap.{entries}
-use Rattle.par2_packets.specs.Views.{packet_of}
-use Rattle.par2_sets.specs.Slices.{recovered_of, set_view}
-use Rattle.par2_sets.specs.Steps.{set_in}
+use Rattle.par2_sets.proofs.Common.{◌≡◌, ◌∙◌, ◌⊎◌, map, inl, inr, subst, Ok, Err, Memory, recovery_of, entries, packet_of, recovered_of, set_view, set_in}
 use Rattle.par2_sets.proofs.Refusals.{passed_on}
 use Rattle.par2_sets.proofs.Reading.{no_main, no_targets, all_read, the_set}
 use Rattle.par2_sets.proofs.set.set_in.Goals.{In_ok-recovery}

@@ -1,7 +1,5 @@
-use Rattle.std.proofs.Common.{◌≡◌, ◌∙◌, map, Some, sym, ap, arith}
+use Rattle.par2_sets.proofs.Common.{◌≡◌, ◌∙◌, map, Some, sym, ap, arith, packet_of, first_id, set_in}
 use Rattle.par2_spec.specs.Sets as sets
-use Rattle.par2_packets.specs.Views.{packet_of}
-use Rattle.par2_sets.specs.Steps.{first_id, set_in}
 use Rattle.par2_sets.proofs.Reading.{at_packets, refused, read, sound}
 use Rattle.par2_sets.proofs.set.set_of.Goals.{After-deref}
 use Rattle.par2_sets.proofs.set.set_of.Goals as goal

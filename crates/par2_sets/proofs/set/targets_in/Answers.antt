@@ -1,8 +1,4 @@
-use Rattle.std.proofs.Common.{◌≡◌, ◌∙◌, ◌⊎◌, map, inl, inr, sym, ap₂, Err}
-use Rattle.par2_spec.specs.declared.Fault.TheVariants.{Memory, BadSet}
-use Rattle.par2_spec.specs.Sets.{are_in_profile, unless}
-use Rattle.par2_packets.specs.Views.{packet_of}
-use Rattle.par2_sets.specs.Steps.{targets_in, targets_or_fault}
+use Rattle.par2_sets.proofs.Common.{◌≡◌, ◌∙◌, ◌⊎◌, map, inl, inr, sym, ap₂, Err, Memory, BadSet, are_in_profile, unless, packet_of, targets_in, targets_or_fault}
 use Rattle.par2_sets.proofs.Refusals.{passed_on, same_step}
 use Rattle.par2_sets.proofs.Reading.{not_described, not_taken, taken}
 use Rattle.par2_sets.proofs.set.targets_in.Goals as goal

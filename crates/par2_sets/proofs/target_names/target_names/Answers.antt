@@ -1,7 +1,4 @@
-use Rattle.std.proofs.Common.{◌≡◌, ◌∙◌, ◌+◌, ◌++◌, ◌∷◌, [], ℕ, List, map, take, sym, ap, subst}
-use Rattle.std.proofs.lemmas.List.{map_more}
-use Rattle.par2_spec.specs.Sets.{Target}
-use Rattle.par2_sets.specs.Asides.{HoldsNames}
+use Rattle.par2_sets.proofs.Common.{◌≡◌, ◌∙◌, ◌+◌, ◌++◌, ◌∷◌, [], ℕ, List, map, take, sym, ap, subst, map_more, Target, HoldsNames}
 use Rattle.par2_spec.proofs.TreeLaws.{holds_more}
 use Rattle.par2_sets.proofs.target_names.target_names.Goals as goal
 

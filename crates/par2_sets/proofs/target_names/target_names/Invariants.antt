@@ -1,5 +1,4 @@
-use Rattle.std.proofs.Common.{map, take}
-use Rattle.par2_sets.specs.Asides.{HoldsNames}
+use Rattle.par2_sets.proofs.Common.{map, take, HoldsNames}
 use Rattle.par2_sets.proofs.target_names.target_names.Given as goal
 
 abbrev pub invariant-loop-target : goal.invariant-loop-target

@@ -1,13 +1,8 @@
-use Rattle.std.proofs.Common.{◌≡◌, ◌∙◌, ◌⊎◌, ◌++◌, ◌∷◌, [], length, map, take, inl, inr, sym, ap, rules, Some, Err}
-use Rattle.std.proofs.lemmas.List.{length_push}
+use Rattle.par2_sets.proofs.Common.{◌≡◌, ◌∙◌, ◌⊎◌, ◌++◌, ◌∷◌, [], length, map, take, inl, inr, sym, ap, rules, Some, Err, length_push, Memory, NoChecksums, all_some, target_of, targets_or_fault, was_some}
 use Rattle.std.proofs.lemmas.Slice.Zip.{zip_turn}
-use Rattle.par2_spec.specs.declared.Fault.TheVariants.{Memory, NoChecksums}
-use Rattle.par2_spec.specs.Sets.{all_some, target_of}
-use Rattle.par2_sets.specs.Steps.{targets_or_fault}
 use Rattle.par2_sets.proofs.Lists.{all_some_more}
 use Rattle.par2_sets.proofs.Refusals.{passed_on, one_missing}
 use Rattle.par2_sets.proofs.targets.targets_by.Goals as goal
-use Rattle.par2_spec.proofs.ReadLaws.{was_some}
 
 pub returns-in_err-target : goal.returns-in_err-target
 returns-in_err-target c packets holds =

@@ -1,7 +1,4 @@
-use Rattle.std.proofs.Common.{◌≡◌, List, Some, length, map, take}
-use Rattle.par2_spec.specs.Sets.{all_some, target_of}
-use Rattle.par2_spec.specs.Packets.{Packet}
-use Rattle.par2_sets.specs.Firsts.{HoldChecksums}
+use Rattle.par2_sets.proofs.Common.{◌≡◌, List, Some, length, map, take, all_some, target_of, Packet, HoldChecksums}
 use Rattle.par2_sets.proofs.targets.targets_by.Given as goal
 
 abbrev pub invariant-loop-description : goal.invariant-loop-description

@@ -1,7 +1,4 @@
-use Rattle.std.proofs.Common.{◌∙◌, ◌≢◌, ◌<◌, ℕ, List, length, get_or, set, ap, inl, inr, below_more, get_or-set_other, get_or-set_same, length-set, arith}
-use Rattle.std.proofs.lemmas.Bool.{cases_eq}
-use Rattle.par2_slices.specs.declared.batch.Candidate.{Candidate}
-use Rattle.par2_slices.specs.Searches.{candidate_at}
+use Rattle.par2_slices.proofs.Common.{◌∙◌, ◌≢◌, ◌<◌, ℕ, List, length, get_or, set, ap, inl, inr, below_more, get_or-set_other, get_or-set_same, length-set, arith, cases_eq, Candidate, candidate_at}
 use Rattle.par2_slices.proofs.batch.starts.Goals as goal
 
 pub loop-lane-preserved : goal.loop-lane-preserved

@@ -1,5 +1,4 @@
-use Rattle.std.proofs.Common.{◌≡◌, ℕ, ◌<◌, length, get_or}
-use Rattle.par2_slices.specs.Searches.{candidate_at}
+use Rattle.par2_slices.proofs.Common.{◌≡◌, ℕ, ◌<◌, length, get_or, candidate_at}
 use Rattle.par2_slices.proofs.batch.starts.Given as goal
 
 abbrev pub invariant-loop-lane : goal.invariant-loop-lane

@@ -1,5 +1,4 @@
-use Rattle.std.proofs.Common.{◌∙◌, ◌/◌, ap, sym}
-use Rattle.std.specs.Prelude.{bit_xor}
+use Rattle.par2_slices.proofs.Common.{◌∙◌, ◌/◌, ap, sym, bit_xor}
 use Rattle.par2_slices.proofs.Bytes.{one_byte}
 use Rattle.par2_slices.proofs.checksum.after_byte.Goals as goal
 

@@ -1,5 +1,4 @@
-use Rattle.std.proofs.Common.{◌≡◌, ◌/◌, take, length}
-use Rattle.std.proofs.lemmas.List.{take_all}
+use Rattle.par2_slices.proofs.Common.{◌≡◌, ◌/◌, take, length, take_all}
 use Rattle.par2_slices.proofs.Bytes.{grouped}
 use Rattle.par2_slices.proofs.checksum.after_bytes.Goals as goal
 

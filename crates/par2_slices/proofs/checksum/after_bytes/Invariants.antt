@@ -1,4 +1,4 @@
-use Rattle.std.proofs.Common.{◌≡◌, fold, take}
+use Rattle.par2_slices.proofs.Common.{◌≡◌, fold, take}
 use Rattle.par2_spec.specs.Checksums as spec
 use Rattle.par2_slices.proofs.checksum.after_bytes.Given as goal
 

@@ -1,7 +1,4 @@
-use Rattle.std.proofs.Common.{rules, ℕ, ◌≡◌, ◌<◌, ◌∙◌, get_or, length, sym, ap}
-use Rattle.std.specs.Prelude.{bit_xor}
-use Rattle.std.proofs.lemmas.Nat.{shr_below, xor_comm, xor_lt}
-use Rattle.par2_slices.specs.Steps.{steps}
+use Rattle.par2_slices.proofs.Common.{rules, ℕ, ◌≡◌, ◌<◌, ◌∙◌, get_or, length, sym, ap, bit_xor, shr_below, xor_comm, xor_lt, steps}
 use Rattle.par2_slices.proofs.Bytes.{by_tables_from_above, eight_bytes}
 use Rattle.par2_slices.proofs.checksum.after_eight.Goals as goal
 

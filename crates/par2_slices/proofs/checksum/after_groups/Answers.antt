@@ -1,4 +1,4 @@
-use Rattle.std.proofs.Common.{[], arith}
+use Rattle.par2_slices.proofs.Common.{[], arith}
 use Rattle.par2_slices.proofs.Bytes.{fold_group}
 use Rattle.par2_slices.proofs.checksum.after_groups.Goals as goal
 

@@ -1,5 +1,4 @@
-use Rattle.std.proofs.Common.{◌≡◌, fold, take}
-use Rattle.std.specs.List.{concat}
+use Rattle.par2_slices.proofs.Common.{◌≡◌, fold, take, concat}
 use Rattle.par2_spec.specs.Checksums as spec
 use Rattle.par2_slices.proofs.checksum.after_groups.Given as goal
 

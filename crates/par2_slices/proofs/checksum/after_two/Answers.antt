@@ -1,6 +1,4 @@
-use Rattle.std.proofs.Common.{rules, ℕ, ◌≡◌, ◌∙◌, ◌<◌, ◌/◌, ◌^◌, sym, ap}
-use Rattle.std.specs.Prelude.{bit_xor}
-use Rattle.par2_slices.specs.Steps.{steps}
+use Rattle.par2_slices.proofs.Common.{rules, ℕ, ◌≡◌, ◌∙◌, ◌<◌, ◌/◌, ◌^◌, sym, ap, bit_xor, steps}
 use Rattle.par2_slices.proofs.Bytes.{by_two_tables, two_bytes}
 use Rattle.par2_slices.proofs.checksum.after_two.Goals as goal
 

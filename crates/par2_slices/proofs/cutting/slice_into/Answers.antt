@@ -1,5 +1,4 @@
-use Rattle.std.proofs.Common.{rules, ◌≡◌, ◌++◌, ◌-◌, List, ℕ, length, replicate, ap, ap₂, ◌∙◌, arith}
-use Rattle.par2_spec.specs.Slices.{padded}
+use Rattle.par2_slices.proofs.Common.{rules, ◌≡◌, ◌++◌, ◌-◌, List, ℕ, length, replicate, ap, ap₂, ◌∙◌, arith, padded}
 use Rattle.par2_slices.proofs.cutting.slice_into.Goals as goal
 
 pub returns : goal.returns

@@ -1,5 +1,4 @@
-use Rattle.std.proofs.Common.{ℕ, ◌∙◌, ◌++◌, ◌*◌, List, replicate, subst, ap, arith}
-use Rattle.md5.specs.Md5.{Holds, md5}
+use Rattle.par2_slices.proofs.Common.{ℕ, ◌∙◌, ◌++◌, ◌*◌, List, replicate, subst, ap, arith, Holds, md5}
 use Rattle.par2_slices.proofs.Padding.{more_zeros, last_zeros}
 use Rattle.par2_slices.proofs.digest.padded_md5.Goals as goal
 

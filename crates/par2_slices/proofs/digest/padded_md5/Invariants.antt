@@ -1,5 +1,4 @@
-use Rattle.std.proofs.Common.{◌++◌, ◌*◌, replicate}
-use Rattle.md5.specs.Md5.{Holds}
+use Rattle.par2_slices.proofs.Common.{◌++◌, ◌*◌, replicate, Holds}
 use Rattle.par2_slices.proofs.digest.padded_md5.Given as goal
 
 abbrev pub invariant-loop : goal.invariant-loop

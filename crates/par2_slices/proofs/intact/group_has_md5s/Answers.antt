@@ -1,12 +1,4 @@
-use Rattle.std.proofs.Common.{◌≡◌, ◌∙◌, ℕ, ◌+◌, ◌<◌, Bool, not, true, false, List, sym, ap, subst, inl, inr, arith}
-use Rattle.std.specs.Str.{bytes_eq}
-use Rattle.std.proofs.lemmas.Bool.{cases_lt, false≢true, not-false}
-use Rattle.std.proofs.lemmas.Slice.Eq.{bytes_eq-Decides}
-use Rattle.md5.specs.Md5.{md5}
-use Rattle.par2_spec.specs.Checksums.{Pair}
-use Rattle.par2_spec.specs.Slices.{slice_at}
-use Rattle.par2_slices.specs.Searches.{pair_at}
-use Rattle.par2_slices.specs.Intact.{HaveMd5s}
+use Rattle.par2_slices.proofs.Common.{◌≡◌, ◌∙◌, ℕ, ◌+◌, ◌<◌, Bool, not, true, false, List, sym, ap, subst, inl, inr, arith, bytes_eq, cases_lt, false≢true, not-false, bytes_eq-Decides, md5, Pair, slice_at, pair_at, HaveMd5s}
 use Rattle.par2_slices.proofs.intact.group_has_md5s.Goals as goal
 
 -- one pair more

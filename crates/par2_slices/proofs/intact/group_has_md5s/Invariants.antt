@@ -1,5 +1,4 @@
-use Rattle.std.proofs.Common.{◌+◌}
-use Rattle.par2_slices.specs.Intact.{HaveMd5s}
+use Rattle.par2_slices.proofs.Common.{◌+◌, HaveMd5s}
 use Rattle.par2_slices.proofs.intact.group_has_md5s.Given as goal
 
 abbrev pub invariant-loop-lane : goal.invariant-loop-lane

@@ -1,5 +1,4 @@
-use Rattle.std.proofs.Common.{◌*◌, min}
-use Rattle.par2_slices.specs.Intact.{HaveMd5s}
+use Rattle.par2_slices.proofs.Common.{◌*◌, min, HaveMd5s}
 use Rattle.par2_slices.proofs.intact.groups_have_md5s.Given as goal
 
 abbrev pub invariant-loop-group : goal.invariant-loop-group

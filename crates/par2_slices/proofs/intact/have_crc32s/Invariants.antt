@@ -1,7 +1,4 @@
-use Rattle.std.proofs.Common.{◌≡◌, ℕ, ◌<◌}
-use Rattle.par2_spec.specs.Checksums.{crc32}
-use Rattle.par2_spec.specs.Slices.{slice_at}
-use Rattle.par2_slices.specs.Searches.{pair_at}
+use Rattle.par2_slices.proofs.Common.{◌≡◌, ℕ, ◌<◌, crc32, slice_at, pair_at}
 use Rattle.par2_slices.proofs.intact.have_crc32s.Given as goal
 
 abbrev pub invariant-loop-j : goal.invariant-loop-j

@@ -1,4 +1,4 @@
-use Rattle.std.proofs.Common.{◌≡◌, length, arith}
+use Rattle.par2_slices.proofs.Common.{◌≡◌, length, arith}
 use Rattle.par2_slices.proofs.Comparisons.{compared_is, intact_by_md5s, not_intact_by_crcs}
 use Rattle.par2_slices.proofs.intact.is_intact.Goals as goal
 

@@ -1,4 +1,4 @@
-use Rattle.par2_slices.specs.Intact.{HaveMd5s}
+use Rattle.par2_slices.proofs.Common.{HaveMd5s}
 use Rattle.par2_slices.proofs.intact.rest_has_md5s.Given as goal
 
 abbrev pub invariant-loop-j : goal.invariant-loop-j

@@ -1,7 +1,4 @@
-use Rattle.std.proofs.Common.{◌≡◌, ◌<◌, ℕ, length}
-use Rattle.std.specs.Prelude.{IfSome, slice_index_or, None}
-use Rattle.par2_slices.specs.Matching.{IsFirst, text_at}
-use Rattle.par2_slices.specs.Texts.{texts_of}
+use Rattle.par2_slices.proofs.Common.{◌≡◌, ◌<◌, ℕ, length, IfSome, slice_index_or, None, IsFirst, text_at, texts_of}
 use Rattle.par2_slices.proofs.matching.first_crc32s.Given as goal
 
 abbrev pub invariant-loop-i : goal.invariant-loop-i

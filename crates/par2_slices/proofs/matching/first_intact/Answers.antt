@@ -1,10 +1,5 @@
-use Rattle.std.proofs.Common.{◌≡◌, ◌∙◌, ℕ, ◌<◌, Bool, List, [], length, get_or, sym, ap}
-use Rattle.std.specs.Borrow.{Bor}
-use Rattle.std.proofs.lemmas.List.{at_drop_all, get_or-map}
-use Rattle.par2_spec.specs.Search.{is_intact}
+use Rattle.par2_slices.proofs.Common.{◌≡◌, ◌∙◌, ℕ, ◌<◌, Bool, List, [], length, get_or, sym, ap, Bor, at_drop_all, get_or-map, is_intact, first_intact, text_at, texts_of}
 use Rattle.par2_spec.specs.Sets as sets
-use Rattle.par2_slices.specs.Matching.{first_intact, text_at}
-use Rattle.par2_slices.specs.Texts.{texts_of}
 use Rattle.par2_slices.proofs.Matches.{first_here, first_later}
 use Rattle.par2_slices.proofs.matching.first_intact.Goals as goal
 

@@ -1,7 +1,5 @@
-use Rattle.std.proofs.Common.{◌≡◌, drop}
+use Rattle.par2_slices.proofs.Common.{◌≡◌, drop, Describes, first_intact, texts_of}
 use Rattle.par2_spec.specs.Sets as sets
-use Rattle.par2_slices.specs.Matching.{Describes, first_intact}
-use Rattle.par2_slices.specs.Texts.{texts_of}
 use Rattle.par2_slices.proofs.matching.first_intact.Given as goal
 
 abbrev pub invariant-loop-i : goal.invariant-loop-i

@@ -1,8 +1,4 @@
-use Rattle.std.proofs.Common.{◌≡◌, ◌<◌, ◌∙◌, List, length, sym, ap, subst, rules}
-use Rattle.std.specs.Prelude.{IfSome}
-use Rattle.par2_spec.specs.Checksums.{Pair}
-use Rattle.par2_slices.specs.Searches.{pair_at}
-use Rattle.par2_slices.specs.Matching.{IsFirst}
+use Rattle.par2_slices.proofs.Common.{◌≡◌, ◌<◌, ◌∙◌, List, length, sym, ap, subst, rules, IfSome, Pair, pair_at, IsFirst}
 use Rattle.par2_slices.proofs.Comparisons.{not_intact_by_first}
 use Rattle.par2_slices.proofs.matching.is_intact_by.Goals as goal
 

@@ -1,9 +1,4 @@
-use Rattle.std.proofs.Common.{◌∙◌, ℕ, ◌+◌, ◌++◌, List, length, drop, sym, ap, subst, arith}
-use Rattle.std.specs.Borrow.{Bor}
-use Rattle.std.specs.List.{range_with_len}
-use Rattle.std.proofs.lemmas.List.{append-nil, at_drop_all, length-map}
-use Rattle.par2_slices.specs.Matching.{matched_from}
-use Rattle.par2_slices.specs.Texts.{texts_of}
+use Rattle.par2_slices.proofs.Common.{◌∙◌, ℕ, ◌+◌, ◌++◌, List, length, drop, sym, ap, subst, arith, Bor, range_with_len, append-nil, at_drop_all, length-map, matched_from, texts_of}
 use Rattle.par2_slices.proofs.Matches.{AreBelow, below_length, described_all, match_pushed}
 use Rattle.par2_slices.proofs.matching.matched.Goals as goal
 

@@ -1,8 +1,5 @@
-use Rattle.std.proofs.Common.{◌≡◌, ◌++◌, ◌<◌, List, length, drop}
-use Rattle.std.specs.List.{All}
+use Rattle.par2_slices.proofs.Common.{◌≡◌, ◌++◌, ◌<◌, List, length, drop, All, Describe, matched_from, matched_numbers, texts_of}
 use Rattle.par2_spec.specs.Sets as sets
-use Rattle.par2_slices.specs.Matching.{Describe, matched_from, matched_numbers}
-use Rattle.par2_slices.specs.Texts.{texts_of}
 use Rattle.par2_slices.proofs.matching.matched.Given as goal
 
 abbrev pub invariant-loop-target : goal.invariant-loop-target

@@ -1,4 +1,4 @@
-use Rattle.std.proofs.Common.{◌≡◌, ◌-◌, refl, arith}
+use Rattle.par2_slices.proofs.Common.{◌≡◌, ◌-◌, refl, arith}
 use Rattle.std.proofs.lemmas.Iterator.{items_from_collect, YieldsList-from_range}
 use Rattle.par2_slices.proofs.matching.numbers_below.Goals as goal
 

@@ -1,9 +1,5 @@
-use Rattle.std.proofs.Common.{◌≡◌, ◌∙◌, ℕ, ◌<◌, Bool, List, not, length, sym, ap, subst, rules}
-use Rattle.std.specs.Prelude.{◌==◌, filter}
+use Rattle.par2_slices.proofs.Common.{◌≡◌, ◌∙◌, ℕ, ◌<◌, Bool, List, not, length, sym, ap, subst, rules, ◌==◌, filter, All-filter, first_intact, texts_of}
 use Rattle.std.proofs.lemmas.Fn.{filter_same}
-use Rattle.std.proofs.lemmas.List.Elements.{All-filter}
-use Rattle.par2_slices.specs.Matching.{first_intact}
-use Rattle.par2_slices.specs.Texts.{texts_of}
 use Rattle.par2_slices.proofs.Matches.{AreBelow}
 use Rattle.par2_slices.proofs.matching.take_first.Goals as goal
 

@@ -1,6 +1,4 @@
-use Rattle.std.proofs.Common.{◌≡◌, ◌+◌, ◌++◌, ◌∷◌, [], ap, arith, rules, ◌∙◌}
-use Rattle.par2_spec.specs.Checksums.{pair_of}
-use Rattle.par2_spec.specs.Slices.{padded}
+use Rattle.par2_slices.proofs.Common.{◌≡◌, ◌+◌, ◌++◌, ◌∷◌, [], ap, arith, rules, ◌∙◌, pair_of, padded}
 use Rattle.par2_slices.proofs.Wholes.{one_pair_more}
 use Rattle.par2_slices.proofs.pairs.pairs_of.Goals as goal
 

@@ -1,5 +1,4 @@
-use Rattle.std.proofs.Common.{◌≡◌}
-use Rattle.par2_slices.specs.Pairs.{first_pairs}
+use Rattle.par2_slices.proofs.Common.{◌≡◌, first_pairs}
 use Rattle.par2_slices.proofs.pairs.pairs_of.Given as goal
 
 abbrev pub invariant-loop-j : goal.invariant-loop-j

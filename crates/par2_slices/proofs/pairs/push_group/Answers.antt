@@ -1,6 +1,5 @@
-use Rattle.std.proofs.Common.{◌≡◌, ◌+◌, ◌++◌, ◌∷◌, [], ap, ap₂, arith, rules, ◌∙◌}
+use Rattle.par2_slices.proofs.Common.{◌≡◌, ◌+◌, ◌++◌, ◌∷◌, [], ap, ap₂, arith, rules, ◌∙◌, crc32}
 use Rattle.par2_digests.specs.Digests.{digest_at}
-use Rattle.par2_spec.specs.Checksums.{crc32}
 use Rattle.par2_slices.proofs.Wholes.{one_of_whole, one_pair_more}
 use Rattle.par2_slices.proofs.pairs.push_group.Goals as goal
 

@@ -1,6 +1,4 @@
-use Rattle.std.proofs.Common.{◌≡◌, ◌≤◌, ◌<◌, ◌+◌, ◌*◌, min, ap, ◌∙◌, arith}
-use Rattle.std.proofs.Math.Nat.{mul-le-mul_right}
-use Rattle.par2_slices.specs.Pairs.{first_pairs}
+use Rattle.par2_slices.proofs.Common.{◌≡◌, ◌≤◌, ◌<◌, ◌+◌, ◌*◌, min, ap, ◌∙◌, arith, mul-le-mul_right, first_pairs}
 use Rattle.par2_slices.proofs.pairs.push_groups.Goals as goal
 
 pub push_group-requires-clause-before : goal.push_group-requires-clause-before

@@ -1,5 +1,4 @@
-use Rattle.std.proofs.Common.{◌≡◌, ◌*◌, min}
-use Rattle.par2_slices.specs.Pairs.{first_pairs}
+use Rattle.par2_slices.proofs.Common.{◌≡◌, ◌*◌, min, first_pairs}
 use Rattle.par2_slices.proofs.pairs.push_groups.Given as goal
 
 abbrev pub invariant-loop-group : goal.invariant-loop-group

@@ -1,4 +1,4 @@
-use Rattle.std.proofs.Common.{◌<◌, arith}
+use Rattle.par2_slices.proofs.Common.{◌<◌, arith}
 use Rattle.par2_slices.proofs.Wholes.{digest_is}
 use Rattle.par2_slices.proofs.pairs.slice_md5s.Goals as goal
 

@@ -1,4 +1,4 @@
-use Rattle.std.proofs.Common.{◌≡◌, ℕ, ◌+◌, ◌-◌, ◌*◌, ◌<◌, min, length, get_or}
+use Rattle.par2_slices.proofs.Common.{◌≡◌, ℕ, ◌+◌, ◌-◌, ◌*◌, ◌<◌, min, length, get_or}
 use Rattle.par2_slices.proofs.pairs.starts_from.Given as goal
 
 abbrev pub invariant-loop-lane : goal.invariant-loop-lane

@@ -1,5 +1,4 @@
-use Rattle.std.proofs.Common.{◌≡◌, ◌≢◌, ◌<◌, ◌∙◌, ℕ, length, below_more, get_or, get_or-set_other, get_or-set_same, length-set, arith}
-use Rattle.par2_slices.specs.Steps.{steps}
+use Rattle.par2_slices.proofs.Common.{◌≡◌, ◌≢◌, ◌<◌, ◌∙◌, ℕ, length, below_more, get_or, get_or-set_other, get_or-set_same, length-set, arith, steps}
 use Rattle.par2_slices.proofs.Sliding.{zero_byte}
 use Rattle.par2_slices.proofs.rolling.behind.Goals as goal
 

@@ -1,5 +1,4 @@
-use Rattle.std.proofs.Common.{◌≡◌, ℕ, ◌<◌, length, get_or}
-use Rattle.par2_slices.specs.Steps.{steps}
+use Rattle.par2_slices.proofs.Common.{◌≡◌, ℕ, ◌<◌, length, get_or, steps}
 use Rattle.par2_slices.proofs.rolling.behind.Given as goal
 
 abbrev pub invariant-loop-byte : goal.invariant-loop-byte

@@ -1,6 +1,4 @@
-use Rattle.std.proofs.Common.{◌≡◌, ◌≢◌, ◌<◌, ◌*◌, ◌∙◌, length, below_more, get_or-set_other, get_or-set_same, length-set, ap, arith}
-use Rattle.std.specs.Prelude.{bit_xor}
-use Rattle.par2_slices.specs.Steps.{steps}
+use Rattle.par2_slices.proofs.Common.{◌≡◌, ◌≢◌, ◌<◌, ◌*◌, ◌∙◌, length, below_more, get_or-set_other, get_or-set_same, length-set, ap, arith, bit_xor, steps}
 use Rattle.par2_slices.specs.Rolls.{leaving}
 use Rattle.par2_slices.proofs.rolling.leaving_table.Goals as goal
 

@@ -1,5 +1,4 @@
-use Rattle.std.proofs.Common.{◌≡◌, ℕ, ◌<◌, length, get_or}
-use Rattle.par2_slices.specs.Rolls.{leaving}
+use Rattle.par2_slices.proofs.Common.{◌≡◌, ℕ, ◌<◌, length, get_or, leaving}
 use Rattle.par2_slices.proofs.rolling.leaving_table.Given as goal
 
 abbrev pub invariant-loop-byte : goal.invariant-loop-byte

@@ -1,5 +1,4 @@
-use Rattle.std.proofs.Common.{rules, ◌∙◌}
-use Rattle.std.proofs.lemmas.Nat.{le_bytes_4}
+use Rattle.par2_slices.proofs.Common.{rules, ◌∙◌, le_bytes_4}
 use Rattle.par2_slices.proofs.rolling.read_at_once.Goals as goal
 
 pub returns : goal.returns

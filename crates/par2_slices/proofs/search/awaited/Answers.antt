@@ -1,6 +1,4 @@
-use Rattle.std.proofs.Common.{◌∙◌, ◌+◌, not, ap, sym}
-use Rattle.std.proofs.lemmas.List.Sums.{count_by_more_yes, count_by_more_no}
-use Rattle.par2_slices.specs.Searches.{is_awaited, no_place, place_at}
+use Rattle.par2_slices.proofs.Common.{◌∙◌, ◌+◌, not, ap, sym, count_by_more_yes, count_by_more_no, is_awaited, no_place, place_at}
 use Rattle.par2_slices.proofs.Searching.{awaited_is, other_crc, not_open}
 use Rattle.par2_slices.proofs.search.awaited.Goals as goal
 use Rattle.par2_slices.proofs.search.awaited.Goals.{then-place-crc+then-is_none, else-place-crc, else-place-crc-via-then-place-crc+else-is_none, else-place-crc-via-else-place-crc}

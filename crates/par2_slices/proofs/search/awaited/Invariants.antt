@@ -1,6 +1,4 @@
-use Rattle.std.proofs.Common.{◌≡◌, take}
-use Rattle.std.specs.List.{count_by}
-use Rattle.par2_slices.specs.Searches.{is_awaited}
+use Rattle.par2_slices.proofs.Common.{◌≡◌, take, count_by, is_awaited}
 use Rattle.par2_slices.proofs.search.awaited.Given as goal
 
 abbrev pub invariant-loop-place : goal.invariant-loop-place

@@ -1,11 +1,5 @@
-use Rattle.std.proofs.Common.{◌≡◌, ◌∙◌, ℕ, List, [], ◌∷◌, map, refl, ap, ap₂}
-use Rattle.std.specs.Prelude.{Option, Some, None, option_map}
-use Rattle.std.specs.Option.{option_or}
+use Rattle.par2_slices.proofs.Common.{◌≡◌, ◌∙◌, ℕ, List, [], ◌∷◌, map, refl, ap, ap₂, Option, Some, None, option_map, option_or, Pair, first_match, first_spot, spot_in, Spot}
 use Rattle.std.proofs.lemmas.Result.{IfOk-weaker}
-use Rattle.par2_spec.specs.Checksums.{Pair}
-use Rattle.par2_spec.specs.Windows.{first_match}
-use Rattle.par2_slices.specs.Searches.{first_spot, spot_in}
-use Rattle.par2_slices.specs.declared.batch.Spot.{Spot}
 use Rattle.par2_slices.proofs.search.find.Goals as goal
 
 -- the offset of a spot in the only text

@@ -1,7 +1,5 @@
-use Rattle.std.proofs.Common.{◌∙◌, ℕ, List, [], Bor, length, map, get_or, refl, sym, ap, subst, arith}
-use Rattle.std.proofs.lemmas.List.{get_or-map, length-map, take_all}
-use Rattle.par2_spec.specs.Checksums.{Pair}
-use Rattle.par2_slices.specs.Searches.{first_spot, pair_at, Earlier, IsAt}
+use Rattle.par2_slices.proofs.Common.{◌∙◌, ℕ, List, [], length, map, get_or, refl, sym, ap, subst, arith, get_or-map, length-map, take_all, Pair, first_spot, pair_at, Earlier, IsAt}
+use Rattle.std.proofs.Common.{Bor}
 use Rattle.par2_slices.proofs.Searching.{all_done, at_start, text_done}
 use Rattle.par2_slices.proofs.search.find_among.Goals as goal
 

@@ -1,5 +1,4 @@
-use Rattle.std.proofs.Common.{◌≡◌, ◌<◌, ℕ, [], length, map, take}
-use Rattle.par2_slices.specs.Searches.{answer_at, first_spot, pair_at, IsTally}
+use Rattle.par2_slices.proofs.Common.{◌≡◌, ◌<◌, ℕ, [], length, map, take, answer_at, first_spot, pair_at, IsTally}
 use Rattle.par2_slices.proofs.search.find_among.Given as goal
 
 abbrev pub invariant-loop-text : goal.invariant-loop-text

@@ -1,6 +1,4 @@
-use Rattle.std.proofs.Common.{◌≡◌, ℕ, ◌<◌, ◌%◌}
-use Rattle.std.specs.Prelude.{None}
-use Rattle.par2_slices.specs.Searches.{place_at, answer_at}
+use Rattle.par2_slices.proofs.Common.{◌≡◌, ℕ, ◌<◌, ◌%◌, None, place_at, answer_at}
 use Rattle.par2_slices.proofs.search.is_waiting.Given as goal
 
 abbrev pub invariant-loop-place : goal.invariant-loop-place

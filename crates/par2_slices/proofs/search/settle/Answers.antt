@@ -1,10 +1,4 @@
-use Rattle.std.proofs.Common.{◌≡◌, ◌∙◌, ◌+◌, ℕ, List, true, false, set, not, ap, sym, subst}
-use Rattle.std.specs.Prelude.{Option, Some, None}
-use Rattle.par2_spec.specs.Checksums.{Pair}
-use Rattle.par2_slices.specs.Searches.{answer_at, pair_at, place_at, has_checksums, IsPlace}
-use Rattle.par2_slices.specs.declared.batch.Spot.{Spot}
-use Rattle.par2_slices.specs.declared.wanted_pairs.Place.{Place}
-use Rattle.par2_spec.proofs.TestLaws.{none_from}
+use Rattle.par2_slices.proofs.Common.{◌≡◌, ◌∙◌, ◌+◌, ℕ, List, true, false, set, not, ap, sym, subst, Option, Some, None, Pair, answer_at, pair_at, place_at, has_checksums, IsPlace, Spot, Place, none_from}
 use Rattle.par2_slices.proofs.Searching.{Settled, not_settled, one_settled, is_open, has_is, no_md5, no_crc}
 use Rattle.par2_slices.proofs.search.settle.Goals as goal
 use Rattle.par2_slices.proofs.search.settle.Goals.{then-place-crc+then-is_none+then-eq, else-place-crc, else-place-crc-via-then-place-crc+then-is_none+else-eq, else-place-crc-via-then-place-crc+else-is_none, else-place-crc-via-else-place-crc}

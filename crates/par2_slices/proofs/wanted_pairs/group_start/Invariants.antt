@@ -1,5 +1,4 @@
-use Rattle.std.proofs.Common.{ℕ, ◌/◌, ◌^◌, ◌<◌}
-use Rattle.par2_slices.specs.Searches.{place_at}
+use Rattle.par2_slices.proofs.Common.{ℕ, ◌/◌, ◌^◌, ◌<◌, place_at}
 use Rattle.par2_slices.proofs.wanted_pairs.group_start.Given as goal
 
 abbrev pub invariant-loop-k : goal.invariant-loop-k

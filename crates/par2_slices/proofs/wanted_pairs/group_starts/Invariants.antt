@@ -1,6 +1,4 @@
-use Rattle.std.proofs.Common.{◌≡◌, ℕ, ◌/◌, ◌^◌, ◌<◌, ◌≤◌, length}
-use Rattle.std.specs.Prelude.{slice_index}
-use Rattle.par2_slices.specs.Searches.{place_at, IsStart}
+use Rattle.par2_slices.proofs.Common.{◌≡◌, ℕ, ◌/◌, ◌^◌, ◌<◌, ◌≤◌, length, slice_index, place_at, IsStart}
 use Rattle.par2_slices.proofs.wanted_pairs.group_starts.Given as goal
 
 abbrev pub invariant-loop-group : goal.invariant-loop-group

@@ -1,11 +1,4 @@
-use Rattle.std.proofs.Common.{◌≡◌, ◌∙◌, ◌≤◌, ◌++◌, ◌∷◌, [], ℕ, List, length, map, sym, ap, ap₂, subst, arith}
-use Rattle.std.specs.Prelude.{Option, IfSome, option_map}
-use Rattle.std.proofs.lemmas.List.{length-map, map-append, map_more, take_all}
-use Rattle.std.proofs.lemmas.List.Elements.{All-push}
-use Rattle.par2_spec.specs.Checksums.{Pair}
-use Rattle.par2_spec.specs.Windows.{found}
-use Rattle.par2_slices.specs.Searches.{no_pair, pair_at}
-use Rattle.par2_slices.specs.Texts.{AreShort, IsWithin, Window, padded_window, padded_windows, texts_of, window_in}
+use Rattle.par2_slices.proofs.Common.{◌≡◌, ◌∙◌, ◌≤◌, ◌++◌, ◌∷◌, [], ℕ, List, length, map, sym, ap, ap₂, subst, arith, Option, IfSome, option_map, length-map, map-append, map_more, take_all, All-push, Pair, found, no_pair, pair_at, AreShort, IsWithin, Window, padded_window, padded_windows, texts_of, window_in}
 use Rattle.par2_slices.proofs.FoundWindows.{spot_of_pair, spot_found, spot_within}
 use Rattle.par2_slices.proofs.windows.found_windows.Goals as goal
 

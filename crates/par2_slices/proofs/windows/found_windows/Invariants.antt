@@ -1,6 +1,4 @@
-use Rattle.std.proofs.Common.{◌≡◌, map, take}
-use Rattle.par2_spec.specs.Windows.{found}
-use Rattle.par2_slices.specs.Texts.{AreShort, padded_windows, texts_of}
+use Rattle.par2_slices.proofs.Common.{◌≡◌, map, take, found, AreShort, padded_windows, texts_of}
 use Rattle.par2_slices.proofs.windows.found_windows.Given as goal
 
 abbrev pub invariant-loop-spot : goal.invariant-loop-spot

@@ -1,9 +1,4 @@
-use Rattle.std.proofs.Common.{◌∙◌, ℕ, List, sym, ap, subst}
-use Rattle.std.specs.Prelude.{Option, Some, IfSome, option_map}
-use Rattle.par2_spec.specs.Slices.{padded}
-use Rattle.par2_spec.specs.Windows.{window}
-use Rattle.par2_slices.specs.declared.batch.Spot.{Spot}
-use Rattle.par2_slices.specs.Texts.{IsWithin, texts_of, window_in}
+use Rattle.par2_slices.proofs.Common.{◌∙◌, ℕ, List, sym, ap, subst, Option, Some, IfSome, option_map, padded, window, Spot, IsWithin, texts_of, window_in}
 use Rattle.par2_slices.proofs.FoundWindows.{spot_inside, text_is}
 use Rattle.par2_slices.proofs.windows.window_at.Goals as goal
 

@@ -1,4 +1,4 @@
-use Rattle.std.proofs.Common.{◌∙◌}
+use Rattle.par2_slices.proofs.Common.{◌∙◌}
 use Rattle.par2_slices.proofs.Shifts.{first_power, even_power, odd_power}
 use Rattle.par2_slices.proofs.zeros.power.Goals as goal
 use Rattle.par2_slices.proofs.zeros.power.Goals.{then-count-bit-eq1, else-count-bit-eq1}

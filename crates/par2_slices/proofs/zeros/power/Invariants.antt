@@ -1,5 +1,4 @@
-use Rattle.std.proofs.Common.{◌≡◌, ◌*◌, ◌-◌, ◌^◌, ◌/◌}
-use Rattle.par2_slices.specs.Steps.{steps}
+use Rattle.par2_slices.proofs.Common.{◌≡◌, ◌*◌, ◌-◌, ◌^◌, ◌/◌, steps}
 use Rattle.par2_slices.proofs.zeros.power.Given as goal
 
 abbrev pub invariant-loop-bit : goal.invariant-loop-bit

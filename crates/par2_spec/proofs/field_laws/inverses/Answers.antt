@@ -1,4 +1,4 @@
-use Rattle.std.proofs.Common.{arith}
+use Rattle.par2_spec.proofs.Common.{arith}
 use Rattle.par2_spec.proofs.FieldOrder.{has_inverse, one_inverse}
 use Rattle.par2_spec.proofs.field_laws.inverses.Goals as goal
 

@@ -1,4 +1,4 @@
-use Rattle.std.proofs.Common.{arith}
+use Rattle.par2_spec.proofs.Common.{arith}
 use Rattle.par2_spec.proofs.FieldOrder.{no_zero_divisor}
 use Rattle.par2_spec.proofs.field_laws.no_zero_divisors.Goals as goal
 

@@ -1,4 +1,4 @@
-use Rattle.std.proofs.Common.{arith}
+use Rattle.par2_spec.proofs.Common.{arith}
 use Rattle.par2_spec.proofs.FieldOrder.{power-65535, power-sooner, logarithm}
 use Rattle.par2_spec.proofs.field_laws.order_of_two.Goals as goal
 

@@ -1,6 +1,5 @@
-use Rattle.std.proofs.Common.{arith}
+use Rattle.par2_spec.proofs.Common.{arith, value, with_roots}
 use Rattle.par2_spec.proofs.ListsLaws.{of_contained}
-use Rattle.par2_spec.specs.Polynomials.{value, with_roots}
 use Rattle.std.specs.Prelude.{◌≡◌}
 use Rattle.par2_spec.proofs.PolynomialLaws.{length-with_roots, with_roots_zero, with_roots_nonzero, with_roots_monic}
 use Rattle.par2_spec.proofs.polynomial_laws.roots.Goals as goal

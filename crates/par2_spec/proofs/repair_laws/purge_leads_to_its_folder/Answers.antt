@@ -1,4 +1,4 @@
-use Rattle.par2_spec.specs.Repairs.{par_files}
+use Rattle.par2_spec.proofs.Common.{par_files}
 use Rattle.par2_spec.proofs.CommandLaws.{removals_lead}
 use Rattle.par2_spec.proofs.RepairLaws.{purge_applies}
 use Rattle.par2_spec.proofs.repair_laws.purge_leads_to_its_folder.Goals as goal

@@ -1,4 +1,4 @@
-use Rattle.par2_spec.specs.Search.{candidates}
+use Rattle.par2_spec.proofs.Common.{candidates}
 use Rattle.par2_spec.proofs.ReadLaws.{present_searched}
 use Rattle.par2_spec.proofs.RepairLaws.{targets_fit}
 use Rattle.par2_spec.proofs.FilesLaws.{repaired_files, purged_files, right_digests, made_size}

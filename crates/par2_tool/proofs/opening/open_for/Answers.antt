@@ -1,6 +1,4 @@
-use Rattle.std.proofs.Common.{sym, subst}
-use Rattle.par2_spec.specs.Views.{command_of}
-use Rattle.par2_tool.specs.Performing.{IsVerify}
+use Rattle.par2_tool.proofs.Common.{sym, subst, command_of, IsVerify}
 use Rattle.par2_tool.proofs.AsIs.{stands, stands_for_verify}
 use Rattle.par2_tool.proofs.opening.open_for.Goals as goal
 

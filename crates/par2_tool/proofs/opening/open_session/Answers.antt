@@ -1,8 +1,5 @@
-use Rattle.std.proofs.Common.{rules, Some, sym, subst}
-use Rattle.std.specs.Prelude.{IfOk, Vec, ℕ, option_map}
-use Rattle.std.specs.declared.alloc.Global.{Global}
-use Rattle.par2_spec.specs.Opening.{Started}
-use Rattle.par2_tool.specs.Opening.{started_of, IsOpened, IsRead, LeavesUnopened}
+use Rattle.par2_tool.proofs.Common.{rules, Some, sym, subst, IfOk, Vec, option_map, Global, Started, started_of, IsOpened, IsRead, LeavesUnopened}
+use Rattle.std.specs.Prelude.{ℕ}
 use Rattle.par2_tool.proofs.AsIs.{opened_new}
 use Rattle.par2_tool.proofs.Openings.{text_read}
 use Rattle.par2_tool.proofs.StoreOpenings.{opens_after_reading, reads_opens}

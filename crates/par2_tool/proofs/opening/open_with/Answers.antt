@@ -1,13 +1,4 @@
-use Rattle.std.proofs.Common.{inl, Ok, Err, true, false, refl, sym, ap, subst, rules, ◌∙◌}
-use Rattle.std.proofs.lemmas.Result.{err_from_is_err_and}
-use Rattle.par2_spec.specs.Changes.{FolderState}
-use Rattle.par2_spec.specs.Opening.{Halfway, Opens, Started}
-use Rattle.par2_spec.specs.Sessions.{Session, KeptSession, session_of_kept}
-use Rattle.par2_spec.specs.Stores.{Contents}
-use Rattle.par2_spec.specs.declared.JournalFault.TheVariants.{JournalInvalid, FolderChanged}
-use Rattle.par2_journal.specs.Opening.{opened_of, session_before, way_left}
-use Rattle.par2_tool.specs.Holding.{OpensAsBefore, with_history}
-use Rattle.par2_tool.specs.Opening.{IsOpened}
+use Rattle.par2_tool.proofs.Common.{inl, Ok, Err, true, false, refl, sym, ap, subst, rules, ◌∙◌, err_from_is_err_and, FolderState, Halfway, Opens, Started, Session, KeptSession, session_of_kept, Contents, JournalInvalid, FolderChanged, opened_of, session_before, way_left, OpensAsBefore, with_history, IsOpened}
 use Rattle.par2_tool.proofs.AsIs.{opened_on}
 use Rattle.par2_tool.proofs.Calls.{back_calls, refused_calls}
 use Rattle.par2_tool.proofs.MadeChanges.{is_new}

@@ -1,10 +1,4 @@
-use Rattle.std.proofs.Common.{rules, ◌≡◌, IsTrue, map, length, sym, ap, subst, ◌∙◌, arith}
-use Rattle.std.proofs.lemmas.List.{length-map}
-use Rattle.par2_spec.specs.Changes.{are_applicable}
-use Rattle.par2_spec.specs.Sessions.{session_of_kept}
-use Rattle.par2_folder.specs.Views.{change_of}
-use Rattle.par2_journal.specs.Opening.{session_before, way_left}
-use Rattle.par2_tool.specs.Opening.{IsStillHalfway}
+use Rattle.par2_tool.proofs.Common.{rules, ◌≡◌, IsTrue, map, length, sym, ap, subst, ◌∙◌, arith, length-map, are_applicable, session_of_kept, change_of, session_before, way_left, IsStillHalfway}
 use Rattle.par2_tool.proofs.Openings.{still_halfway}
 use Rattle.par2_tool.proofs.opening.take_back.Goals.{After-write_down}
 use Rattle.par2_tool.proofs.opening.take_back.Goals as goal

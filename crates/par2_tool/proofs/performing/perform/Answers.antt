@@ -1,22 +1,7 @@
-use Rattle.std.proofs.Common.{◌≡◌, ◌+◌, List, length, refl, sym, ap, subst, ◌∙◌, map, arith}
-use Rattle.std.proofs.lemmas.List.{length-map}
+use Rattle.par2_tool.proofs.Common.{◌≡◌, ◌+◌, List, length, refl, sym, ap, subst, ◌∙◌, map, arith, length-map, Verify, LeadsToAfterAsked, KeptSession, session_of_kept, session_after, changes_asked, Contents, action_of, command_of, report_of, MayRefuse, Plan, Lasts, change_of, changes_by_kind, after_commit, AreAtMost, calls_asked, calls_to_write, TellsApartAlong, OpensAsBeforeOrAfter, after_write_down, AreSomeMade, HoldsJournaled, IsStoppedAt, IsWritten}
 use Rattle.par2_spec.specs.Changes as defined
-use Rattle.par2_spec.specs.Commands.{Verify}
-use Rattle.par2_spec.specs.Plans.{LeadsToAfterAsked}
-use Rattle.par2_spec.specs.Sessions.{KeptSession, session_of_kept, session_after, changes_asked}
-use Rattle.par2_spec.specs.Stores.{Contents}
-use Rattle.par2_spec.specs.Views.{action_of, command_of}
 use Rattle.par2_spec.specs.declared.commands.Command.{Command}
 use Rattle.par2_spec.proofs.AcceptedCommands.{command_leads}
-use Rattle.par2_plan.specs.Views.{report_of}
-use Rattle.par2_journal.specs.Refusals.{MayRefuse}
-use Rattle.par2_journal.specs.declared.preparation.SessionFault.TheVariants.{Plan}
-use Rattle.par2_folder.specs.Cuts.{Lasts}
-use Rattle.par2_folder.specs.Views.{change_of}
-use Rattle.par2_journal.specs.Ready.{changes_by_kind, after_commit}
-use Rattle.par2_tool.specs.Calls.{AreAtMost, calls_asked, calls_to_write}
-use Rattle.par2_tool.specs.Holding.{TellsApartAlong, OpensAsBeforeOrAfter}
-use Rattle.par2_tool.specs.Performing.{after_write_down, AreSomeMade, HoldsJournaled, IsStoppedAt, IsWritten}
 use Rattle.par2_tool.proofs.Calls.{asked_calls, ready_calls}
 use Rattle.par2_tool.proofs.Openings.{any_err}
 use Rattle.par2_tool.proofs.VerifyRuns.{as_it_was, verify_leaves, verify_refused, written_by}

@@ -1,5 +1,4 @@
-use Rattle.par2_printing.specs.Writing.{seen}
-use Rattle.par2_spec.proofs.WritingLaws.{wrote_less, wrote_then}
+use Rattle.par2_tool.proofs.Common.{seen, wrote_less, wrote_then}
 use Rattle.par2_tool.proofs.printing.write_accepted.Goals as goal
 
 pub returns-in-Ok : goal.returns-in-Ok

@@ -1,7 +1,4 @@
-use Rattle.std.proofs.lemmas.List.{length-map}
-use Rattle.par2_printing.specs.Writing.{seen}
-use Rattle.par2_spec.proofs.WritingLaws.{wrote_less, wrote_then}
-use Rattle.par2_journal.specs.Steps.{step_view}
+use Rattle.par2_tool.proofs.Common.{length-map, seen, wrote_less, wrote_then, step_view}
 use Rattle.par2_tool.proofs.printing.write_all_done.Goals as goal
 
 pub returns-in-Ok : goal.returns-in-Ok

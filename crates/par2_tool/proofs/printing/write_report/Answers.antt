@@ -1,12 +1,6 @@
-use Rattle.std.proofs.Common.{◌++◌, List, ℕ, refl, subst}
-use Rattle.std.specs.Prelude.{codes, flat_map}
-use Rattle.std.proofs.lemmas.Result.{err_from_is_err_and}
-use Rattle.par2_spec.specs.Reports.{Report, verdict_of}
-use Rattle.par2_spec.specs.Texts.{line, target_line, verdict_text, report_text}
+use Rattle.par2_tool.proofs.Common.{◌++◌, List, ℕ, refl, subst, codes, flat_map, err_from_is_err_and, Report, verdict_of, line, target_line, verdict_text, report_of, Wrote, seen, part_behind, took_both, wrote_less, wrote_then}
+use Rattle.par2_spec.specs.Texts.{report_text}
 use Rattle.par2_spec.specs.declared.Verdict.{Verdict}
-use Rattle.par2_plan.specs.Views.{report_of}
-use Rattle.par2_printing.specs.Writing.{Wrote, seen}
-use Rattle.par2_spec.proofs.WritingLaws.{part_behind, took_both, wrote_less, wrote_then}
 use Rattle.par2_tool.proofs.printing.write_report.Goals as goal
 
 -- the lines between the first and the last, and the last

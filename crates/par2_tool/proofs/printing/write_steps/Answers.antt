@@ -1,9 +1,4 @@
-use Rattle.std.proofs.Common.{◌∙◌, ap}
-use Rattle.std.proofs.lemmas.Result.{err_from_is_err_and}
-use Rattle.par2_spec.specs.Texts.{step_line}
-use Rattle.par2_printing.specs.Writing.{seen}
-use Rattle.par2_spec.proofs.WritingLaws.{shown_lines_cut, shown_lines_next}
-use Rattle.par2_journal.specs.Steps.{step_view}
+use Rattle.par2_tool.proofs.Common.{◌∙◌, ap, err_from_is_err_and, step_line, seen, shown_lines_cut, shown_lines_next, step_view}
 use Rattle.par2_tool.proofs.printing.write_steps.Goals as goal
 
 pub returns-in_err-write_step : goal.returns-in_err-write_step

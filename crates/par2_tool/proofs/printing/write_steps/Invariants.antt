@@ -1,8 +1,4 @@
-use Rattle.std.proofs.Common.{map, take}
-use Rattle.std.specs.Prelude.{flat_map}
-use Rattle.par2_spec.specs.Texts.{step_line}
-use Rattle.par2_journal.specs.Steps.{step_view}
-use Rattle.par2_printing.specs.Writing.{TookAll}
+use Rattle.par2_tool.proofs.Common.{map, take, flat_map, step_line, step_view, TookAll}
 use Rattle.par2_tool.proofs.printing.write_steps.Given as goal
 
 abbrev pub invariant-loop-step : goal.invariant-loop-step

@@ -1,9 +1,4 @@
-use Rattle.std.proofs.Common.{◌∙◌, ap}
-use Rattle.std.proofs.lemmas.Result.{err_from_is_err_and}
-use Rattle.par2_spec.specs.Texts.{target_line}
-use Rattle.par2_printing.specs.Writing.{seen}
-use Rattle.par2_spec.proofs.WritingLaws.{shown_lines_cut, shown_lines_next}
-use Rattle.par2_plan.specs.Views.{target_report_of}
+use Rattle.par2_tool.proofs.Common.{◌∙◌, ap, err_from_is_err_and, target_line, seen, shown_lines_cut, shown_lines_next, target_report_of}
 use Rattle.par2_tool.proofs.printing.write_targets.Goals as goal
 
 pub returns-in_err-write_target : goal.returns-in_err-write_target

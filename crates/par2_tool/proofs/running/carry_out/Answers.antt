@@ -1,15 +1,4 @@
-use Rattle.std.proofs.Common.{◌≡◌, ◌+◌, inl, inr, arith, false, sym, ap, subst, ◌∙◌}
-use Rattle.std.proofs.lemmas.Result.{err_from_is_err_and}
-use Rattle.std.proofs.lemmas.Bool.{false≢true}
-use Rattle.par2_spec.specs.Sessions.{session_of_kept}
-use Rattle.par2_spec.specs.Views.{command_of}
-use Rattle.par2_spec.specs.declared.Failure.{Failure}
-use Rattle.par2_spec.specs.Opening.{Started}
-use Rattle.par2_tool.specs.Calls.{CountsFailedRun, calls_asked}
-use Rattle.par2_tool.specs.Opening.{started_of, IsOpened}
-use Rattle.par2_tool.specs.Performing.{outcome_of}
-use Rattle.par2_tool.specs.Refusals.{failure_for}
-use Rattle.par2_tool.specs.Telling.{IsBack, IsCause, IsFailed}
+use Rattle.par2_tool.proofs.Common.{◌≡◌, ◌+◌, inl, inr, arith, false, sym, ap, subst, ◌∙◌, err_from_is_err_and, false≢true, session_of_kept, command_of, Failure, Started, CountsFailedRun, calls_asked, started_of, IsOpened, outcome_of, failure_for, IsBack, IsCause, IsFailed}
 use Rattle.par2_tool.proofs.AsIs.{done_for, no_way_back, verify_failed}
 use Rattle.par2_tool.proofs.Calls.{opening_calls, perform_calls, run_calls, stands_calls}
 use Rattle.par2_tool.proofs.Outcomes.{opening_failed, perform_cause, perform_failed, cut_of_command, stopped_opening}

@@ -1,14 +1,6 @@
-use Rattle.std.specs.Prelude.{map, string_bytes}
-use Rattle.std.proofs.Common.{inl, inr, [], refl, sym, subst, ◌∙◌}
-use Rattle.std.proofs.lemmas.Option.{same_Some}
-use Rattle.par2_spec.specs.Commands.{Action}
-use Rattle.par2_spec.specs.Views.{command_of}
-use Rattle.par2_spec.specs.declared.Failure.{Failure}
-use Rattle.par2_spec.specs.Texts.{status_of}
+use Rattle.par2_tool.proofs.Common.{string_bytes, inl, inr, [], refl, sym, subst, ◌∙◌, same_Some, Action, command_of, Failure, status_of, AskFor, outcome_of, Answered, Failed, IsUnread, IsPrinted, IsStopped}
+use Rattle.std.specs.Prelude.{map}
 use Rattle.par2_printing.specs.Views.{words_asked}
-use Rattle.par2_tool.specs.Asking.{AskFor}
-use Rattle.par2_tool.specs.Performing.{outcome_of}
-use Rattle.par2_tool.specs.Telling.{Answered, Failed, IsUnread, IsPrinted, IsStopped}
 use Rattle.par2_tool.proofs.UnreadWords.{unread_words}
 use Rattle.par2_tool.proofs.running.run.Goals as goal
 

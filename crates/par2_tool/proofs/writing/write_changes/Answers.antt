@@ -1,8 +1,4 @@
-use Rattle.std.proofs.Common.{map, ap, ◌∙◌, arith}
-use Rattle.std.proofs.lemmas.List.{take_all}
-use Rattle.par2_spec.specs.Stores.{Contents, with_change}
-use Rattle.par2_folder.specs.Views.{change_of}
-use Rattle.par2_tool.specs.Performing.{with_all_changes}
+use Rattle.par2_tool.proofs.Common.{map, ap, ◌∙◌, arith, take_all, Contents, with_change, change_of, with_all_changes}
 use Rattle.par2_tool.proofs.MadeChanges.{applicable_here, made_next}
 use Rattle.par2_tool.proofs.Remains.{all_remain, next_remains}
 use Rattle.par2_tool.proofs.writing.write_changes.Goals as goal

@@ -1,8 +1,4 @@
-use Rattle.std.proofs.Common.{◌≡◌, ◌+◌, ◌≤◌, length, IsTrue, map, take}
-use Rattle.par2_spec.specs.Changes.{are_applicable}
-use Rattle.par2_folder.specs.Cuts.{Lasts}
-use Rattle.par2_folder.specs.Views.{change_of}
-use Rattle.par2_tool.specs.Performing.{with_all_changes}
+use Rattle.par2_tool.proofs.Common.{◌≡◌, ◌+◌, ◌≤◌, length, IsTrue, map, take, are_applicable, Lasts, change_of, with_all_changes}
 use Rattle.par2_tool.proofs.writing.write_changes.Given as goal
 
 abbrev pub invariant-loop-change : goal.invariant-loop-change

@@ -1,7 +1,4 @@
-use Rattle.std.proofs.Common.{rules, map}
-use Rattle.std.proofs.lemmas.Result.{on_err_weaker}
-use Rattle.par2_folder.specs.Views.{change_of}
-use Rattle.par2_tool.specs.Performing.{IsStoppedAt}
+use Rattle.par2_tool.proofs.Common.{rules, map, on_err_weaker, change_of, IsStoppedAt}
 use Rattle.par2_tool.proofs.Openings.{any_err}
 use Rattle.par2_tool.proofs.Remains.{begun_remains, some_remain, ended_remains}
 use Rattle.par2_tool.proofs.writing.write_down.Goals as goal

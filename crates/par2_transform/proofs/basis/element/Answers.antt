@@ -1,4 +1,4 @@
-use Rattle.std.proofs.Common.{refl}
+use Rattle.par2_transform.proofs.Common.{refl}
 use Rattle.par2_transform.specs.Subspaces.{basis}
 use Rattle.par2_transform.proofs.basis.element.Goals as goal
 

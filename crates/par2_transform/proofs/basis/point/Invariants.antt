@@ -1,7 +1,5 @@
-use Rattle.std.proofs.Common.{◌≡◌, ◌*◌, slice_index}
-use Rattle.std.specs.Int.{bit_at}
-use Rattle.par2_spec.specs.Sums.{field_sum}
-use Rattle.par2_transform.specs.Subspaces.{basis}
+use Rattle.par2_transform.proofs.Common.{◌≡◌, ◌*◌, bit_at, field_sum, basis}
+use Rattle.std.proofs.Common.{slice_index}
 use Rattle.par2_transform.proofs.basis.point.Given as goal
 
 abbrev pub invariant-loop-i : goal.invariant-loop-i

@@ -1,6 +1,4 @@
-use Rattle.std.proofs.Common.{◌≡◌, ◌<◌, ◌≤◌, ◌+◌, ◌*◌, ◌^◌, ◌%◌, suc, sym, ap, ◌∙◌, arith, bit_xor, refl}
-use Rattle.std.proofs.Math.Nat.{pow-le-pow_right}
-use Rattle.std.proofs.lemmas.Nat.{xor_comm}
+use Rattle.par2_transform.proofs.Common.{◌≡◌, ◌<◌, ◌≤◌, ◌+◌, ◌*◌, ◌^◌, ◌%◌, suc, sym, ap, ◌∙◌, arith, bit_xor, refl, pow-le-pow_right, xor_comm}
 use Rattle.par2_transform.specs.Subspaces.{powers_in}
 use Rattle.par2_transform.proofs.Subspaces.{powers_in-lt}
 use Rattle.par2_transform.proofs.basis.powers_in.Goals as goal

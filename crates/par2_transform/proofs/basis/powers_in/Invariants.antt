@@ -1,5 +1,4 @@
-use Rattle.std.proofs.Common.{◌≡◌}
-use Rattle.par2_transform.specs.Subspaces.{powers_in}
+use Rattle.par2_transform.proofs.Common.{◌≡◌, powers_in}
 use Rattle.par2_transform.proofs.basis.powers_in.Given as goal
 
 abbrev pub invariant-loop : goal.invariant-loop

@@ -1,7 +1,4 @@
-use Rattle.std.proofs.Common.{subst, sym, ap, ◌∙◌, arith, ◌≤◌, ◌^◌}
-use Rattle.par2_spec.specs.Sums.{lists_of}
-use Rattle.par2_transform.specs.Blocks.{Outputs}
-use Rattle.par2_transform.specs.Plans.{cut_of}
+use Rattle.par2_transform.proofs.Common.{subst, sym, ap, ◌∙◌, arith, ◌≤◌, ◌^◌, lists_of, Outputs, cut_of}
 use Rattle.par2_transform.proofs.AddingLaws.{still_within}
 use Rattle.par2_transform.proofs.BlockLaws.{none_added, next_added}
 use Rattle.par2_transform.proofs.blocks.add_all.Goals as goal

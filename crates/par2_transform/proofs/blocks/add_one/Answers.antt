@@ -1,9 +1,4 @@
-use Rattle.std.proofs.Common.{◌≡◌, ◌*◌, ◌^◌, ◌≤◌, sym, subst, arith, length}
-use Rattle.std.proofs.Math.Nat.{mul-le-mul_right}
-use Rattle.par2_spec.specs.Sums.{lists_of}
-use Rattle.par2_transform.specs.Adding.{AddsAt}
-use Rattle.par2_transform.specs.Blocks.{Outputs, Keeps, block_part}
-use Rattle.par2_transform.specs.Plans.{cut_of}
+use Rattle.par2_transform.proofs.Common.{◌≡◌, ◌*◌, ◌^◌, ◌≤◌, sym, subst, arith, length, mul-le-mul_right, lists_of, AddsAt, Outputs, Keeps, block_part, cut_of}
 use Rattle.par2_transform.proofs.BlockLaws.{is_block_at, one_set}
 use Rattle.par2_transform.proofs.blocks.add_one.Goals as goal
 

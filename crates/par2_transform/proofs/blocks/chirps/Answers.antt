@@ -1,5 +1,4 @@
-use Rattle.std.proofs.Common.{◌+◌, sym, subst}
-use Rattle.par2_transform.specs.Chirps.{chirp}
+use Rattle.par2_transform.proofs.Common.{◌+◌, sym, subst, chirp}
 use Rattle.par2_transform.proofs.BlockLaws.{Tabulates, no_value, next_value}
 use Rattle.par2_transform.proofs.blocks.chirps.Goals as goal
 

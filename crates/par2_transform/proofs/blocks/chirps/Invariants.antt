@@ -1,5 +1,4 @@
-use Rattle.std.proofs.Common.{◌+◌}
-use Rattle.par2_transform.specs.Chirps.{chirp}
+use Rattle.par2_transform.proofs.Common.{◌+◌, chirp}
 use Rattle.par2_transform.proofs.BlockLaws.{Tabulates}
 use Rattle.par2_transform.proofs.blocks.chirps.Given as goal
 

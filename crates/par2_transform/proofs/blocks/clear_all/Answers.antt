@@ -1,4 +1,4 @@
-use Rattle.par2_transform.specs.Blocks.{IsCleared}
+use Rattle.par2_transform.proofs.Common.{IsCleared}
 use Rattle.par2_transform.proofs.BlockLaws.{none_becomes, next_becomes}
 use Rattle.par2_transform.proofs.blocks.clear_all.Goals as goal
 

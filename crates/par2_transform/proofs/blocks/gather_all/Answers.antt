@@ -1,5 +1,4 @@
-use Rattle.std.proofs.Common.{subst, sym, arith}
-use Rattle.par2_transform.specs.Blocks.{Gathers, Takes}
+use Rattle.par2_transform.proofs.Common.{subst, sym, arith, Gathers, Takes}
 use Rattle.par2_transform.proofs.BlockLaws.{none_becomes, next_becomes}
 use Rattle.par2_transform.proofs.blocks.gather_all.Goals as goal
 

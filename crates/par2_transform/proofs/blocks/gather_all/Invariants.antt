@@ -1,4 +1,4 @@
-use Rattle.par2_transform.specs.Blocks.{BlocksBecome, Gathers}
+use Rattle.par2_transform.proofs.Common.{BlocksBecome, Gathers}
 use Rattle.par2_transform.proofs.blocks.gather_all.Given as goal
 
 abbrev pub invariant-loop-j : goal.invariant-loop-j

@@ -1,4 +1,4 @@
-use Rattle.std.proofs.Common.{get_or, rules}
+use Rattle.par2_transform.proofs.Common.{get_or, rules}
 use Rattle.par2_transform.proofs.BlockLaws.{no_row, next_row}
 use Rattle.par2_transform.proofs.blocks.gather_rows.Goals as goal
 

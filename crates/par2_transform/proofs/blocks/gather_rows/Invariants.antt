@@ -1,5 +1,4 @@
-use Rattle.std.proofs.Common.{get_or}
-use Rattle.par2_transform.specs.Blocks.{RowsGathered}
+use Rattle.par2_transform.proofs.Common.{get_or, RowsGathered}
 use Rattle.par2_transform.proofs.blocks.gather_rows.Given as goal
 
 abbrev pub invariant-loop-u : goal.invariant-loop-u

@@ -1,11 +1,4 @@
-use Rattle.std.proofs.Common.{rules, ◌≡◌, ◌∙◌, ◌+◌, ◌*◌, ◌^◌, ◌≤◌, ◌++◌, ◌∷◌, [], ℕ, List, sym, ap, subst, arith, length, get_or}
-use Rattle.std.proofs.Math.Nat.{mul-le-mul_right}
-use Rattle.std.proofs.lemmas.List.{map-append, with_items_is}
-use Rattle.std.specs.Vec.{with_items}
-use Rattle.par2_spec.specs.Sums.{lists_of}
-use Rattle.par2_spec.proofs.WordLaws.{length-lists_of}
-use Rattle.par2_transform.specs.Chirps.{chirp}
-use Rattle.par2_transform.specs.Plans.{cut_of}
+use Rattle.par2_transform.proofs.Common.{rules, ◌≡◌, ◌∙◌, ◌+◌, ◌*◌, ◌^◌, ◌≤◌, ◌++◌, ◌∷◌, [], ℕ, List, sym, ap, subst, arith, length, get_or, mul-le-mul_right, map-append, with_items_is, with_items, lists_of, length-lists_of, chirp, cut_of}
 use Rattle.par2_transform.proofs.WeightRows.{WindowsWeighed, none_weighed, next_weighed, weight_rows, windows_weighed}
 use Rattle.par2_transform.proofs.blocks.window_weights.Goals as goal
 

@@ -1,5 +1,4 @@
-use Rattle.par2_spec.specs.Sums.{lists_of}
-use Rattle.par2_transform.specs.Plans.{cut_of}
+use Rattle.par2_transform.proofs.Common.{lists_of, cut_of}
 use Rattle.par2_transform.proofs.WeightRows.{WindowsWeighed}
 use Rattle.par2_transform.proofs.blocks.window_weights.Given as goal
 

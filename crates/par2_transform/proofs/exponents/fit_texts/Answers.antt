@@ -1,9 +1,4 @@
-use Rattle.std.proofs.Common.{◌<◌, inl, inr, sym, subst, ℕ, List, get_or, arith, []}
-use Rattle.std.proofs.lemmas.Bool.{cases_eq, cases_lt}
-use Rattle.std.proofs.lemmas.List.{get_or_past, length-map}
-use Rattle.std.specs.Borrow.{Bor}
-use Rattle.par2_spec.specs.Sums.{list_at}
-use Rattle.par2_transform.specs.Columns.{texts_of}
+use Rattle.par2_transform.proofs.Common.{◌<◌, inl, inr, sym, subst, ℕ, List, get_or, arith, [], cases_eq, cases_lt, get_or_past, length-map, Bor, list_at, texts_of}
 use Rattle.par2_transform.proofs.exponents.fit_texts.Goals as goal
 
 pub loop-i-preserved : goal.loop-i-preserved

@@ -1,6 +1,4 @@
-use Rattle.std.proofs.Common.{ℕ, ◌<◌, get_or}
-use Rattle.par2_spec.specs.Sums.{list_at}
-use Rattle.par2_transform.specs.Columns.{texts_of}
+use Rattle.par2_transform.proofs.Common.{ℕ, ◌<◌, get_or, list_at, texts_of}
 use Rattle.par2_transform.proofs.exponents.fit_texts.Given as goal
 
 abbrev pub invariant-loop-i : goal.invariant-loop-i

@@ -1,7 +1,5 @@
 use mir.Val.{bool_byte}
-use Rattle.std.specs.Prelude.{if◌then◌else◌}
-use Rattle.std.proofs.Common.{arith, ◌≡◌, ◌+◌, ◌∙◌, ℕ, Bool, true, false, refl, ap, sym, subst, Vec, Global}
-use Rattle.par2_spec.specs.Field.{is_spared}
+use Rattle.par2_transform.proofs.Common.{if◌then◌else◌, arith, ◌≡◌, ◌+◌, ◌∙◌, ℕ, Bool, true, false, refl, ap, sym, subst, Vec, Global, is_spared}
 use Rattle.par2_transform.proofs.NumberLaws.{AreFound, bit_of, none_found, one_found, enough_found, all_found}
 use Rattle.par2_transform.proofs.exponents.slice_numbers.Goals.{then-found-n+in_ok-push, else-found-n}
 use Rattle.par2_transform.proofs.exponents.slice_numbers.Goals as goal

@@ -1,8 +1,4 @@
-use Rattle.std.proofs.Common.{◌∙◌, ◌+◌, ap, sym, zero-add, ◌^◌, ◌*◌, bit_xor}
-use Rattle.std.specs.Int.{bit_at}
-use Rattle.par2_spec.specs.Field.{pow}
-use Rattle.par2_spec.proofs.SumLaws.{field_sum_same}
-use Rattle.par2_transform.specs.Subspaces.{vanishing, powers_in}
+use Rattle.par2_transform.proofs.Common.{◌∙◌, ◌+◌, ap, sym, zero-add, ◌^◌, ◌*◌, bit_xor, bit_at, pow, field_sum_same, vanishing, powers_in}
 use Rattle.par2_transform.proofs.Subspaces.{vanishing_point, leading_power}
 use Rattle.par2_transform.proofs.laws.subspaces_vanish.Goals as goal
 

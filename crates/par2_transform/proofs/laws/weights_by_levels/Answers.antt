@@ -1,5 +1,5 @@
 use Rattle.par2_transform.proofs.LevelLaws.{come_from_themselves, come_from_split, power_sums_begin}
-use Rattle.std.proofs.Common.{refl}
+use Rattle.par2_transform.proofs.Common.{refl}
 use Rattle.par2_transform.proofs.laws.weights_by_levels.Goals as goal
 
 pub returns-clause-begin : goal.returns-clause-begin

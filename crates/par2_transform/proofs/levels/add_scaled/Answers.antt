@@ -1,7 +1,4 @@
-use Rattle.std.proofs.Common.{◌≡◌, sym, subst}
-use Rattle.par2_spec.specs.Field.{mul}
-use Rattle.par2_spec.proofs.FieldOrder.{zero-product}
-use Rattle.par2_transform.specs.Steps.{RunAddedBy}
+use Rattle.par2_transform.proofs.Common.{◌≡◌, sym, subst, mul, zero-product, RunAddedBy}
 use Rattle.par2_transform.proofs.StepLaws.{run_none}
 use Rattle.par2_transform.proofs.GridLaws.{each_start}
 use Rattle.par2_transform.proofs.levels.add_scaled.Goals as goal

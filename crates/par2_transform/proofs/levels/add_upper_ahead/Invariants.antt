@@ -1,6 +1,4 @@
-use Rattle.std.proofs.Common.{suc, ◌^◌}
-use Rattle.par2_transform.specs.Grids.{EachColumn}
-use Rattle.par2_transform.specs.Steps.{AheadAdded}
+use Rattle.par2_transform.proofs.Common.{suc, ◌^◌, EachColumn, AheadAdded}
 use Rattle.par2_transform.proofs.levels.add_upper_ahead.Given as goal
 
 abbrev pub invariant-loop-j : goal.invariant-loop-j

@@ -1,8 +1,4 @@
-use Rattle.std.proofs.Common.{ℕ, suc, ◌+◌, ◌*◌, ◌^◌, ◌-◌, ◌<◌, ◌≡◌, sym, subst, rules}
-use Rattle.par2_transform.specs.Subspaces.{point}
-use Rattle.par2_transform.specs.PowerSums.{IsMerged}
-use Rattle.par2_transform.specs.Levels.{IsMergedLevel}
-use Rattle.par2_transform.specs.Steps.{OneRun, FirstRuns}
+use Rattle.par2_transform.proofs.Common.{ℕ, suc, ◌+◌, ◌*◌, ◌^◌, ◌-◌, ◌<◌, ◌≡◌, sym, subst, rules, point, IsMerged, IsMergedLevel, OneRun, FirstRuns}
 use Rattle.par2_transform.proofs.StepLaws.{runs_start, runs_next, merged_of_first}
 use Rattle.par2_transform.proofs.GridLaws.{each_start, each_then, each_so}
 use Rattle.par2_transform.proofs.levels.merge_level.Goals as goal

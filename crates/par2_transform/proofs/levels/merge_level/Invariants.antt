@@ -1,8 +1,4 @@
-use Rattle.std.proofs.Common.{suc, ◌*◌, ◌^◌}
-use Rattle.par2_transform.specs.Subspaces.{point}
-use Rattle.par2_transform.specs.PowerSums.{IsMerged}
-use Rattle.par2_transform.specs.Grids.{EachColumn}
-use Rattle.par2_transform.specs.Steps.{FirstRuns}
+use Rattle.par2_transform.proofs.Common.{suc, ◌*◌, ◌^◌, point, IsMerged, EachColumn, FirstRuns}
 use Rattle.par2_transform.proofs.levels.merge_level.Given as goal
 
 abbrev pub invariant-loop-q : goal.invariant-loop-q

@@ -1,7 +1,4 @@
-use Rattle.std.proofs.Common.{suc, ◌+◌, ◌<◌, ◌≤◌, ◌≡◌, refl, subst, arith, rules}
-use Rattle.par2_spec.specs.Sums.{AreElements}
-use Rattle.par2_transform.specs.Levels.{IsMergedLevel, HoldPowerSums}
-use Rattle.par2_transform.specs.Grids.{column}
+use Rattle.par2_transform.proofs.Common.{suc, ◌+◌, ◌<◌, ◌≤◌, ◌≡◌, refl, subst, arith, rules, AreElements, IsMergedLevel, HoldPowerSums, column}
 use Rattle.par2_transform.proofs.LevelLaws.{power_sums_begin, power_sums_on, power_sums_end}
 use Rattle.par2_transform.proofs.GridLaws.{each_start, each_then}
 use Rattle.par2_transform.proofs.levels.power_sums.Goals as goal

@@ -1,6 +1,4 @@
-use Rattle.par2_spec.specs.Sums.{AreElements}
-use Rattle.par2_transform.specs.Levels.{HoldPowerSums}
-use Rattle.par2_transform.specs.Grids.{EachColumn}
+use Rattle.par2_transform.proofs.Common.{AreElements, HoldPowerSums, EachColumn}
 use Rattle.par2_transform.proofs.levels.power_sums.Given as goal
 
 abbrev pub invariant-loop-i : goal.invariant-loop-i

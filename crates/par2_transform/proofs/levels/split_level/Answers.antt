@@ -1,7 +1,4 @@
-use Rattle.std.proofs.Common.{ℕ, suc, ◌+◌, ◌*◌, ◌^◌, ◌-◌, ◌<◌, ◌≡◌, sym, subst, rules}
-use Rattle.par2_transform.specs.Subspaces.{point}
-use Rattle.par2_transform.specs.Evaluations.{IsSplit}
-use Rattle.par2_transform.specs.Steps.{OnElements, OneRun, FirstRuns}
+use Rattle.par2_transform.proofs.Common.{ℕ, suc, ◌+◌, ◌*◌, ◌^◌, ◌-◌, ◌<◌, ◌≡◌, sym, subst, rules, point, IsSplit, OnElements, OneRun, FirstRuns}
 use Rattle.par2_transform.proofs.StepLaws.{runs_start, runs_next}
 use Rattle.par2_transform.proofs.Divisions.{split_of_first}
 use Rattle.par2_transform.proofs.GridLaws.{each_start, each_then}

@@ -1,8 +1,4 @@
-use Rattle.std.proofs.Common.{suc, ◌*◌, ◌^◌}
-use Rattle.par2_transform.specs.Subspaces.{point}
-use Rattle.par2_transform.specs.Evaluations.{IsSplit}
-use Rattle.par2_transform.specs.Grids.{EachColumn}
-use Rattle.par2_transform.specs.Steps.{OnElements, FirstRuns}
+use Rattle.par2_transform.proofs.Common.{suc, ◌*◌, ◌^◌, point, IsSplit, EachColumn, OnElements, FirstRuns}
 use Rattle.par2_transform.proofs.levels.split_level.Given as goal
 
 abbrev pub invariant-loop-q : goal.invariant-loop-q

@@ -1,5 +1,4 @@
-use Rattle.par2_transform.specs.Grids.{EachColumn}
-use Rattle.par2_transform.specs.Steps.{IsSpreadAbove}
+use Rattle.par2_transform.proofs.Common.{EachColumn, IsSpreadAbove}
 use Rattle.par2_transform.proofs.levels.spread_above.Given as goal
 
 abbrev pub invariant-loop-j : goal.invariant-loop-j

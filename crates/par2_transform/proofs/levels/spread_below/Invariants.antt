@@ -1,5 +1,4 @@
-use Rattle.par2_transform.specs.Grids.{EachColumn}
-use Rattle.par2_transform.specs.Steps.{IsSpreadBelow}
+use Rattle.par2_transform.proofs.Common.{EachColumn, IsSpreadBelow}
 use Rattle.par2_transform.proofs.levels.spread_below.Given as goal
 
 abbrev pub invariant-loop-j : goal.invariant-loop-j

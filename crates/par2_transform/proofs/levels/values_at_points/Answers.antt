@@ -1,6 +1,4 @@
-use Rattle.std.proofs.Common.{suc, ◌-◌, ◌<◌, ◌≤◌, ◌≡◌, refl, sym, ◌∙◌, subst, arith, rules}
-use Rattle.par2_transform.specs.Levels.{IsSplitLevel, HoldPolynomials}
-use Rattle.par2_transform.specs.Grids.{column}
+use Rattle.par2_transform.proofs.Common.{suc, ◌-◌, ◌<◌, ◌≤◌, ◌≡◌, refl, sym, ◌∙◌, subst, arith, rules, IsSplitLevel, HoldPolynomials, column}
 use Rattle.par2_transform.proofs.LevelLaws.{polynomials_begin, polynomials_on, polynomials_end}
 use Rattle.par2_transform.proofs.GridLaws.{each_start}
 use Rattle.par2_transform.proofs.levels.values_at_points.Goals as goal

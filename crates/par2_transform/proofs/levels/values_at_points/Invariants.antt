@@ -1,5 +1,4 @@
-use Rattle.par2_transform.specs.Levels.{HoldPolynomials}
-use Rattle.par2_transform.specs.Grids.{EachColumn}
+use Rattle.par2_transform.proofs.Common.{HoldPolynomials, EachColumn}
 use Rattle.par2_transform.proofs.levels.values_at_points.Given as goal
 
 abbrev pub invariant-loop-i : goal.invariant-loop-i

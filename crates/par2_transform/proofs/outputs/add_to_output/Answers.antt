@@ -1,10 +1,4 @@
-use Rattle.std.proofs.Common.{◌-◌, ℕ, ap, subst, arith, length}
-use Rattle.par2_spec.specs.Field.{mul}
-use Rattle.par2_spec.specs.Slices.{word}
-use Rattle.par2_spec.specs.Sums.{OneChanged, list_at, lists_of}
-use Rattle.par2_spec.proofs.WordLaws.{length-lists_of}
-use Rattle.par2_transform.specs.Adding.{within, AddsToPart}
-use Rattle.par2_transform.specs.declared.outputs.Place.{Place}
+use Rattle.par2_transform.proofs.Common.{◌-◌, ℕ, ap, subst, arith, length, mul, word, OneChanged, list_at, lists_of, length-lists_of, within, AddsToPart, Place}
 use Rattle.par2_transform.proofs.AddingLaws.{adds_to_one}
 use Rattle.par2_transform.proofs.outputs.add_to_output.Goals as goal
 

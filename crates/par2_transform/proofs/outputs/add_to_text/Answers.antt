@@ -1,8 +1,4 @@
-use Rattle.std.proofs.Common.{rules, ◌≡◌, ◌∙◌, length, get_or}
-use Rattle.std.proofs.lemmas.List.{with_items_is}
-use Rattle.std.specs.Vec.{with_items}
-use Rattle.par2_spec.specs.Sums.{list_at, lists_of}
-use Rattle.par2_spec.proofs.WordLaws.{read_at, written_here, written_changed}
+use Rattle.par2_transform.proofs.Common.{rules, ◌≡◌, ◌∙◌, length, get_or, with_items_is, with_items, list_at, lists_of, read_at, written_here, written_changed}
 use Rattle.par2_transform.proofs.outputs.add_to_text.Goals as goal
 
 pub returns-clause-changed : goal.returns-clause-changed

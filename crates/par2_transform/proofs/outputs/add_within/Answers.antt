@@ -1,7 +1,4 @@
-use Rattle.std.proofs.Common.{◌+◌, ◌-◌, ◌*◌, arith}
-use Rattle.par2_spec.specs.Field.{mul}
-use Rattle.par2_spec.specs.Slices.{word}
-use Rattle.par2_transform.specs.Adding.{within}
+use Rattle.par2_transform.proofs.Common.{◌+◌, ◌-◌, ◌*◌, arith, mul, word, within}
 use Rattle.par2_transform.proofs.AddingLaws.{adds_within}
 use Rattle.par2_transform.proofs.outputs.add_within.Goals as goal
 

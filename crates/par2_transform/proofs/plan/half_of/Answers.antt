@@ -1,5 +1,4 @@
-use Rattle.std.proofs.Common.{suc, ◌*◌, ◌%◌, ◌≡◌, ◌≤◌, ◌^◌, ◌-◌, ◌+◌, ap, arith}
-use Rattle.std.proofs.Math.Pow.{pow_mono}
+use Rattle.par2_transform.proofs.Common.{suc, ◌*◌, ◌%◌, ◌≡◌, ◌≤◌, ◌^◌, ◌-◌, ◌+◌, ap, arith, pow_mono}
 use Rattle.par2_transform.proofs.StepLaws.{shifted, double_power}
 use Rattle.par2_transform.proofs.plan.half_of.Goals as goal
 

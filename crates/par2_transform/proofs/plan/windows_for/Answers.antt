@@ -1,5 +1,4 @@
-use Rattle.std.proofs.Common.{◌*◌, ◌≤◌, ◌+◌, ◌<◌, sym, subst, arith}
-use Rattle.std.proofs.lemmas.Grind.{div_ceil_times}
+use Rattle.par2_transform.proofs.Common.{◌*◌, ◌≤◌, ◌+◌, ◌<◌, sym, subst, arith, div_ceil_times}
 use Rattle.par2_transform.proofs.plan.windows_for.Goals as goal
 
 pub returns-clause-reach : goal.returns-clause-reach

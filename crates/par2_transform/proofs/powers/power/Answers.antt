@@ -1,5 +1,4 @@
-use Rattle.std.proofs.Common.{◌+◌, ◌*◌, ◌/◌, ◌%◌, ◌≡◌, ◌∙◌, ap, sym, arith}
-use Rattle.par2_spec.specs.Field.{pow}
+use Rattle.par2_transform.proofs.Common.{◌+◌, ◌*◌, ◌/◌, ◌%◌, ◌≡◌, ◌∙◌, ap, sym, arith, pow}
 use Rattle.par2_transform.proofs.Cycles.{power_behind_rounds}
 use Rattle.par2_transform.proofs.powers.power.Goals as goal
 

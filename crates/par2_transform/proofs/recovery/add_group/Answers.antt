@@ -1,9 +1,4 @@
-use Rattle.std.proofs.Common.{◌≤◌, ◌+◌, ℕ, List, length, sym, ap, subst, arith, add_assoc}
-use Rattle.std.proofs.lemmas.Result.{IfOk-weaker}
-use Rattle.par2_spec.specs.Sums.{lists_of}
-use Rattle.par2_transform.specs.Adding.{AddsAt, LieWithin}
-use Rattle.par2_transform.specs.Columns.{texts_of, recovered}
-use Rattle.par2_transform.specs.declared.outputs.Place.{Place}
+use Rattle.par2_transform.proofs.Common.{◌≤◌, ◌+◌, ℕ, List, length, sym, ap, subst, arith, add_assoc, IfOk-weaker, lists_of, AddsAt, LieWithin, texts_of, recovered, Place}
 use Rattle.par2_transform.proofs.AddingLaws.{adds_same}
 use Rattle.par2_transform.proofs.GroupLaws.{group_of, length-group, group_within, adds_to_group}
 use Rattle.par2_transform.proofs.recovery.add_group.Goals as goal

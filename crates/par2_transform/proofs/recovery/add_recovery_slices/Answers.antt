@@ -1,10 +1,4 @@
-use Rattle.std.proofs.Common.{◌∙◌, ◌+◌, ℕ, List, length, sym, ap, subst, arith}
-use Rattle.std.proofs.lemmas.Result.{IfOk-weaker}
-use Rattle.par2_spec.specs.Sums.{lists_of}
-use Rattle.par2_spec.proofs.WordLaws.{length-lists_of}
-use Rattle.par2_transform.specs.Adding.{AddsAt, AreApart, AreWholeTexts, LieWithin}
-use Rattle.par2_transform.specs.Columns.{texts_of, recovered}
-use Rattle.par2_transform.specs.declared.outputs.Place.{Place}
+use Rattle.par2_transform.proofs.Common.{◌∙◌, ◌+◌, ℕ, List, length, sym, ap, subst, arith, IfOk-weaker, lists_of, length-lists_of, AddsAt, AreApart, AreWholeTexts, LieWithin, texts_of, recovered, Place}
 use Rattle.par2_transform.proofs.WholeTexts.{whole_apart, whole_within, whole_added}
 use Rattle.par2_transform.proofs.recovery.add_recovery_slices.Goals as goal
 

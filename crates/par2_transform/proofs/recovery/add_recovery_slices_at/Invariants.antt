@@ -1,7 +1,4 @@
-use Rattle.std.proofs.Common.{◌+◌, ◌*◌, length, min}
-use Rattle.par2_spec.specs.Sums.{lists_of}
-use Rattle.par2_transform.specs.Adding.{within, AddsAt}
-use Rattle.par2_transform.specs.Columns.{texts_of, recovered}
+use Rattle.par2_transform.proofs.Common.{◌+◌, ◌*◌, length, min, lists_of, within, AddsAt, texts_of, recovered}
 use Rattle.par2_transform.proofs.recovery.add_recovery_slices_at.Given as goal
 
 abbrev pub invariant-loop-k : goal.invariant-loop-k

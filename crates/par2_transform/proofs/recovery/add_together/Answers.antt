@@ -1,8 +1,4 @@
-use Rattle.std.proofs.Common.{ℕ, ◌+◌, List, subst}
-use Rattle.std.specs.Prelude.{IfOk}
-use Rattle.par2_spec.specs.Sums.{lists_of}
-use Rattle.par2_transform.specs.Adding.{AddsAt}
-use Rattle.par2_transform.specs.Columns.{recovered}
+use Rattle.par2_transform.proofs.Common.{ℕ, ◌+◌, List, subst, IfOk, lists_of, AddsAt, recovered}
 use Rattle.par2_transform.proofs.recovery.add_together.Goals as goal
 
 pub returns : goal.returns

@@ -1,4 +1,4 @@
-use Rattle.par2_transform.specs.Plans.{cut_of}
+use Rattle.par2_transform.proofs.Common.{cut_of}
 use Rattle.par2_transform.proofs.BlockLaws.{BlocksMade}
 use Rattle.par2_transform.proofs.recovery.blocks_of.Given as goal
 

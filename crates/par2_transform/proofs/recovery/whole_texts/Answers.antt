@@ -1,5 +1,4 @@
-use Rattle.std.proofs.Common.{◌+◌, sym, subst}
-use Rattle.par2_transform.specs.Adding.{AreWholeTexts}
+use Rattle.par2_transform.proofs.Common.{◌+◌, sym, subst, AreWholeTexts}
 use Rattle.par2_transform.proofs.WholeTexts.{no_text, next_text}
 use Rattle.par2_transform.proofs.recovery.whole_texts.Goals as goal
 

@@ -1,4 +1,4 @@
-use Rattle.std.proofs.Common.{◌≡◌, length, arith, rules}
+use Rattle.par2_transform.proofs.Common.{◌≡◌, length, arith, rules}
 use Rattle.par2_transform.proofs.TextLaws.{words_added}
 use Rattle.par2_transform.proofs.texts.add.Goals as goal
 

@@ -1,5 +1,4 @@
-use Rattle.std.proofs.Common.{◌≡◌, ◌<◌, ◌≤◌, ℕ, bit_xor}
-use Rattle.std.specs.Prelude.{slice_index}
+use Rattle.par2_transform.proofs.Common.{◌≡◌, ◌<◌, ◌≤◌, ℕ, bit_xor, slice_index}
 use Rattle.par2_transform.proofs.texts.add.Given as goal
 
 abbrev pub invariant-loop-k : goal.invariant-loop-k

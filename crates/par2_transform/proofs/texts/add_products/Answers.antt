@@ -1,6 +1,5 @@
-use Rattle.std.proofs.Common.{◌+◌, ◌*◌, ◌-◌, ◌<◌, ◌≡◌, ◌∙◌, sym, subst, length}
+use Rattle.par2_transform.proofs.Common.{◌+◌, ◌*◌, ◌-◌, ◌<◌, ◌≡◌, ◌∙◌, sym, subst, length, mul}
 use borrow.Rule.Slice.PartMut.{mid_len}
-use Rattle.par2_spec.specs.Field.{mul}
 use Rattle.par2_transform.proofs.AddingLaws.{adds_to_part}
 use Rattle.par2_transform.proofs.texts.add_products.Goals as goal
 

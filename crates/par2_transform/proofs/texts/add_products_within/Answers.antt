@@ -1,5 +1,4 @@
-use Rattle.std.proofs.Common.{rules, arith, ◌≡◌, ◌+◌, ◌*◌, ◌≤◌, ◌++◌, length}
-use Rattle.par2_spec.specs.Field.{mul}
+use Rattle.par2_transform.proofs.Common.{rules, arith, ◌≡◌, ◌+◌, ◌*◌, ◌≤◌, ◌++◌, length, mul}
 use Rattle.par2_transform.proofs.TextLaws.{part_word, added_back, added_front}
 use Rattle.par2_transform.proofs.texts.add_products_within.Goals as goal
 

@@ -1,4 +1,4 @@
-use Rattle.std.proofs.Common.{◌+◌, ◌*◌, ◌-◌, ◌<◌, ◌≡◌, ◌∙◌, sym, subst, length}
+use Rattle.par2_transform.proofs.Common.{◌+◌, ◌*◌, ◌-◌, ◌<◌, ◌≡◌, ◌∙◌, sym, subst, length}
 use borrow.Rule.Slice.PartMut.{mid_len}
 use Rattle.par2_transform.proofs.AddingLaws.{adds_to_part}
 use Rattle.par2_transform.proofs.texts.add_words.Goals as goal

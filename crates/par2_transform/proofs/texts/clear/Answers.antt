@@ -1,6 +1,4 @@
-use Rattle.std.proofs.Common.{inl, inr, arith}
-use Rattle.std.proofs.lemmas.Bool.{cases_lt}
-use Rattle.std.proofs.lemmas.List.{get_or_past}
+use Rattle.par2_transform.proofs.Common.{inl, inr, arith, cases_lt, get_or_past}
 use Rattle.par2_transform.proofs.texts.clear.Goals as goal
 
 pub returns-clause-zero : goal.returns-clause-zero

@@ -1,5 +1,4 @@
-use Rattle.std.proofs.Common.{ℕ, ◌<◌, ◌≡◌}
-use Rattle.std.specs.Prelude.{slice_index}
+use Rattle.par2_transform.proofs.Common.{ℕ, ◌<◌, ◌≡◌, slice_index}
 use Rattle.par2_transform.proofs.texts.clear.Given as goal
 
 abbrev pub invariant-loop-k : goal.invariant-loop-k

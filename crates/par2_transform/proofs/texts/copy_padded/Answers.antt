@@ -1,4 +1,4 @@
-use Rattle.std.proofs.Common.{arith, ap, length}
+use Rattle.par2_transform.proofs.Common.{arith, ap, length}
 use Rattle.std.proofs.lemmas.List.{length-append}
 use Rattle.par2_transform.proofs.TextLaws.{padded_copy}
 use Rattle.par2_transform.proofs.texts.copy_padded.Goals as goal

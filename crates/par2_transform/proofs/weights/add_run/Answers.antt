@@ -1,6 +1,4 @@
-use Rattle.std.proofs.Common.{◌+◌, ◌<◌, ◌≤◌, ◌≡◌, inr, subst, arith, length, rules}
-use Rattle.std.specs.Prelude.{slice_index}
-use Rattle.par2_transform.specs.Steps.{RunAdded}
+use Rattle.par2_transform.proofs.Common.{◌+◌, ◌<◌, ◌≤◌, ◌≡◌, inr, subst, arith, length, rules, slice_index, RunAdded}
 use Rattle.par2_transform.proofs.StepLaws.{run_start, run_next, one_written}
 use Rattle.par2_transform.proofs.weights.add_run.Goals as goal
 

@@ -1,5 +1,4 @@
-use Rattle.std.specs.Prelude.{slice_index}
-use Rattle.par2_transform.specs.Steps.{RunAdded}
+use Rattle.par2_transform.proofs.Common.{slice_index, RunAdded}
 use Rattle.par2_transform.proofs.weights.add_run.Given as goal
 
 abbrev pub invariant-loop-e : goal.invariant-loop-e

@@ -1,8 +1,4 @@
-use Rattle.std.proofs.Common.{ℕ, suc, ◌+◌, ◌-◌, ◌*◌, ◌%◌, ◌^◌, ◌<◌, ◌≡◌, sym, subst, ap, ap₂, arith, length, bit_xor}
-use Rattle.std.specs.Prelude.{slice_index}
-use Rattle.par2_spec.specs.Field.{mul}
-use Rattle.par2_transform.specs.PowerSums.{sum_ahead}
-use Rattle.par2_transform.specs.Steps.{IsLowered}
+use Rattle.par2_transform.proofs.Common.{ℕ, suc, ◌+◌, ◌-◌, ◌*◌, ◌%◌, ◌^◌, ◌<◌, ◌≡◌, sym, subst, ap, ap₂, arith, length, bit_xor, slice_index, mul, sum_ahead, IsLowered}
 use Rattle.par2_transform.proofs.StepLaws.{shifted, double_power, lower_start, lower_next, one_written, one_same}
 use Rattle.par2_transform.proofs.weights.lower.Goals as goal
 

@@ -1,5 +1,4 @@
-use Rattle.std.specs.Prelude.{slice_index}
-use Rattle.par2_transform.specs.Steps.{IsLowered}
+use Rattle.par2_transform.proofs.Common.{slice_index, IsLowered}
 use Rattle.par2_transform.proofs.weights.lower.Given as goal
 
 abbrev pub invariant-loop-e : goal.invariant-loop-e

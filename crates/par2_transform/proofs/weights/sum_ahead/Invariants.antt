@@ -1,5 +1,4 @@
-use Rattle.std.proofs.Common.{◌≡◌}
-use Rattle.std.specs.Prelude.{slice_index}
+use Rattle.par2_transform.proofs.Common.{◌≡◌, slice_index}
 use Rattle.par2_transform.proofs.StepLaws.{ahead_below}
 use Rattle.par2_transform.proofs.weights.sum_ahead.Given as goal
 

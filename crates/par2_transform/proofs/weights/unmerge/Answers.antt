@@ -1,6 +1,4 @@
-use Rattle.std.proofs.Common.{ℕ, suc, ◌+◌, ◌*◌, ◌%◌, ◌^◌, ◌≡◌, ap, ◌∙◌, arith, rules, length}
-use Rattle.std.specs.Prelude.{slice_index}
-use Rattle.par2_transform.specs.Subspaces.{point}
+use Rattle.par2_transform.proofs.Common.{ℕ, suc, ◌+◌, ◌*◌, ◌%◌, ◌^◌, ◌≡◌, ap, ◌∙◌, arith, rules, length, slice_index, point}
 use Rattle.par2_transform.proofs.StepLaws.{shifted, double_power, run_starts, unmerged_runs, run_at, lowered_at}
 use Rattle.par2_transform.proofs.weights.unmerge.Goals as goal
 

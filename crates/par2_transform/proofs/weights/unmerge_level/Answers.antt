@@ -1,8 +1,4 @@
-use Rattle.std.proofs.Common.{suc, ◌+◌, ◌*◌, ◌^◌, ◌-◌, ◌<◌, ◌≤◌, ◌≡◌, sym, subst, arith, rules, length}
-use Rattle.std.proofs.Math.Nat.{pow-le-pow_right}
-use Rattle.std.specs.Prelude.{slice_index}
-use Rattle.par2_transform.specs.Subspaces.{point}
-use Rattle.par2_transform.specs.PowerSums.{IsMerged}
+use Rattle.par2_transform.proofs.Common.{suc, ◌+◌, ◌*◌, ◌^◌, ◌-◌, ◌<◌, ◌≤◌, ◌≡◌, sym, subst, arith, rules, length, pow-le-pow_right, slice_index, point, IsMerged}
 use Rattle.par2_transform.proofs.StepLaws.{runs_start, runs_next, merged_of_first, pairs_fit}
 use Rattle.par2_transform.proofs.weights.unmerge_level.Goals as goal
 

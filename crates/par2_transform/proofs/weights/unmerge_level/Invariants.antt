@@ -1,8 +1,4 @@
-use Rattle.std.proofs.Common.{suc, ◌*◌, ◌^◌}
-use Rattle.std.specs.Prelude.{slice_index}
-use Rattle.par2_transform.specs.Subspaces.{point}
-use Rattle.par2_transform.specs.PowerSums.{IsMerged}
-use Rattle.par2_transform.specs.Steps.{FirstRuns}
+use Rattle.par2_transform.proofs.Common.{suc, ◌*◌, ◌^◌, slice_index, point, IsMerged, FirstRuns}
 use Rattle.par2_transform.proofs.weights.unmerge_level.Given as goal
 
 abbrev pub invariant-loop-q : goal.invariant-loop-q

@@ -1,6 +1,4 @@
-use Rattle.std.proofs.Common.{suc, ◌-◌, ◌<◌, ◌≡◌, subst, arith}
-use Rattle.std.specs.Prelude.{slice_index}
-use Rattle.par2_transform.specs.Levels.{ComeFrom}
+use Rattle.par2_transform.proofs.Common.{suc, ◌-◌, ◌<◌, ◌≡◌, subst, arith, slice_index, ComeFrom}
 use Rattle.par2_transform.proofs.LevelLaws.{come_from_themselves, come_from_split}
 use Rattle.par2_transform.proofs.LevelLaws.{are_weights}
 use Rattle.par2_transform.proofs.weights.weights.Goals as goal

@@ -1,5 +1,4 @@
-use Rattle.std.specs.Prelude.{slice_index}
-use Rattle.par2_transform.specs.Levels.{ComeFrom}
+use Rattle.par2_transform.proofs.Common.{slice_index, ComeFrom}
 use Rattle.par2_transform.proofs.weights.weights.Given as goal
 
 abbrev pub invariant-loop-i : goal.invariant-loop-i

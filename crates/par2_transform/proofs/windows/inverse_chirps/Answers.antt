@@ -1,5 +1,4 @@
-use Rattle.std.proofs.Common.{◌+◌, sym, subst}
-use Rattle.par2_transform.specs.Chirps.{chirp_inverse}
+use Rattle.par2_transform.proofs.Common.{◌+◌, sym, subst, chirp_inverse}
 use Rattle.par2_transform.proofs.BlockLaws.{Tabulates, no_value, next_value}
 use Rattle.par2_transform.proofs.windows.inverse_chirps.Goals as goal
 

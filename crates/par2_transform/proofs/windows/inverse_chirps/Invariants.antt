@@ -1,4 +1,4 @@
-use Rattle.par2_transform.specs.Chirps.{chirp_inverse}
+use Rattle.par2_transform.proofs.Common.{chirp_inverse}
 use Rattle.par2_transform.proofs.BlockLaws.{Tabulates}
 use Rattle.par2_transform.proofs.windows.inverse_chirps.Given as goal
 

@@ -1,4 +1,4 @@
-use Rattle.std.proofs.lemmas.Result.{IfOk-weaker}
+use Rattle.par2_words.proofs.Common.{IfOk-weaker}
 use Rattle.par2_words.specs.Definition.{create_numbers_app}
 use Rattle.par2_words.proofs.Additions.{with_argument}
 use Rattle.par2_words.proofs.definition.create_numbers.Goals as goal

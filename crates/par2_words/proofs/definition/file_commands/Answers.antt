@@ -1,4 +1,5 @@
-use Rattle.par2_words.specs.Definition.{create_app, file_commands_app, repair_app, start_app, verify_app}
+use Rattle.par2_words.proofs.Common.{create_app, repair_app, start_app, verify_app}
+use Rattle.par2_words.specs.Definition.{file_commands_app}
 use Rattle.par2_words.proofs.definition.file_commands.Goals as goal
 
 pub returns : goal.returns

@@ -1,6 +1,5 @@
-use Rattle.std.proofs.Common.{codes}
-use Rattle.clap.specs.Words.{new_app}
-use Rattle.par2_words.specs.Definition.{file_commands_app, par2_app, purge_app}
+use Rattle.par2_words.proofs.Common.{codes, new_app, file_commands_app, purge_app}
+use Rattle.par2_words.specs.Definition.{par2_app}
 use Rattle.par2_words.proofs.definition.par2_command.Goals as goal
 
 pub returns : goal.returns

@@ -1,5 +1,5 @@
-use Rattle.std.proofs.Common.{◌∙◌, ap, true}
-use Rattle.clap.specs.Simple.{App, app_of_fields}
+use Rattle.par2_words.proofs.Common.{◌∙◌, ap, true, app_of_fields}
+use Rattle.clap.specs.Simple.{App}
 use Rattle.par2_words.specs.Definition.{start_app}
 use Rattle.par2_words.proofs.definition.start_command.Goals as goal
 

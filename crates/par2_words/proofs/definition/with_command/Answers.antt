@@ -1,5 +1,4 @@
-use Rattle.std.proofs.lemmas.Result.{IfOk-at_ok, IfOk-weaker}
-use Rattle.par2_words.specs.Definition.{IsApp}
+use Rattle.par2_words.proofs.Common.{IfOk-at_ok, IfOk-weaker, IsApp}
 use Rattle.par2_words.proofs.Additions.{with_command}
 use Rattle.par2_words.proofs.definition.with_command.Goals as goal
 

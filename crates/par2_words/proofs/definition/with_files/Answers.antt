@@ -1,4 +1,4 @@
-use Rattle.std.proofs.lemmas.Result.{IfOk-weaker}
+use Rattle.par2_words.proofs.Common.{IfOk-weaker}
 use Rattle.par2_words.proofs.Additions.{with_argument}
 use Rattle.par2_words.proofs.definition.with_files.Goals as goal
 

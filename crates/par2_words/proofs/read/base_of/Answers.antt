@@ -1,6 +1,4 @@
-use Rattle.std.proofs.Common.{rules, ◌∙◌, ap, codes}
-use Rattle.std.proofs.lemmas.Result.{IfOk-weaker}
-use Rattle.clap.specs.Words.{found_of}
+use Rattle.par2_words.proofs.Common.{rules, ◌∙◌, ap, codes, IfOk-weaker, found_of}
 use Rattle.par2_words.proofs.RowReads.{text_read}
 use Rattle.par2_words.proofs.read.base_of.Goals as goal
 

@@ -1,6 +1,4 @@
-use Rattle.std.proofs.Common.{◌∙◌}
-use Rattle.std.specs.Str.Parse.{ParsesUnsigned, ExplainsUnsignedError, HasUnsignedDigitsIfOk}
-use Rattle.clap.specs.Words.{found_of}
+use Rattle.par2_words.proofs.Common.{◌∙◌, ParsesUnsigned, ExplainsUnsignedError, HasUnsignedDigitsIfOk, found_of}
 use Rattle.par2_words.proofs.RowReads.{number_read}
 use Rattle.par2_words.proofs.read.count_of.Goals as goal
 

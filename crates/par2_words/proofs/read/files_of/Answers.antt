@@ -1,7 +1,5 @@
-use Rattle.std.proofs.Common.{◌∙◌, ap, map, codes, rules}
-use Rattle.std.specs.Borrow.{Bor}
+use Rattle.par2_words.proofs.Common.{◌∙◌, ap, map, codes, rules, Bor, Text, found_of}
 use Rattle.std.proofs.lemmas.List.{take_all}
-use Rattle.clap.specs.Words.{Text, found_of}
 use Rattle.par2_words.proofs.RowReads.{texts_read}
 use Rattle.par2_words.proofs.read.files_of.Goals as goal
 

@@ -1,4 +1,4 @@
-use Rattle.std.proofs.Common.{◌≡◌, map, take, string_bytes}
+use Rattle.par2_words.proofs.Common.{◌≡◌, map, take, string_bytes}
 use Rattle.par2_words.proofs.read.files_of.Given as goal
 
 abbrev pub invariant-loop-text : goal.invariant-loop-text

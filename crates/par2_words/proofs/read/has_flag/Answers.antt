@@ -1,9 +1,4 @@
-use Rattle.std.proofs.Common.{◌∙◌, ap, sym, Option, Bool, false, codes}
-use Rattle.std.specs.Prelude.{option_map}
-use Rattle.std.specs.Option.{option_map_or}
-use Rattle.std.specs.Borrow.{Bor}
-use Rattle.std.specs.Str.{bytes_eq}
-use Rattle.clap.specs.Words.{Text, found_of}
+use Rattle.par2_words.proofs.Common.{◌∙◌, ap, sym, Option, Bool, false, codes, option_map, option_map_or, Bor, bytes_eq, Text, found_of}
 use Rattle.par2_words.proofs.RowReads.{flag_read}
 use Rattle.par2_words.proofs.read.has_flag.Goals as goal
 

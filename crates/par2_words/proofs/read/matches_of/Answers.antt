@@ -1,9 +1,4 @@
-use Rattle.std.proofs.Common.{◌≡◌, ◌∙◌, ap, subst, string_bytes, map, Result, Err}
-use Rattle.std.specs.Prelude.{IfErr}
-use Rattle.std.proofs.lemmas.Result.{IfOk-from_err, err_from_is_err_and}
-use Rattle.clap.specs.Words.{App, HasMatchesOf, takes}
-use Rattle.par2_words.specs.declared.read.WordsFault.{WordsFault}
-use Rattle.par2_words.specs.declared.read.WordsFault.TheVariants.{Memory}
+use Rattle.par2_words.proofs.Common.{◌≡◌, ◌∙◌, ap, subst, string_bytes, map, Result, Err, IfErr, IfOk-from_err, err_from_is_err_and, App, HasMatchesOf, takes, WordsFault, Memory}
 use Rattle.par2_words.proofs.Subcommands.{faultless}
 use Rattle.par2_words.proofs.read.matches_of.Goals as goal
 

@@ -1,10 +1,4 @@
-use Rattle.std.proofs.Common.{◌≡◌, ◌∙◌, ap, inl, inr, sym, true≢false, string_bytes, map, Result, Err}
-use Rattle.std.specs.Prelude.{IfErr, is_some, option_and_then}
-use Rattle.std.proofs.lemmas.Result.{IfErr-weaker, IfOk-weaker, err_from_is_err_and}
-use Rattle.clap.specs.Words.{found_of, rows_of}
-use Rattle.par2_words.specs.Meanings.{meaning}
-use Rattle.par2_words.specs.declared.read.WordsFault.{WordsFault}
-use Rattle.par2_words.specs.declared.read.WordsFault.TheVariants.{Memory}
+use Rattle.par2_words.proofs.Common.{◌≡◌, ◌∙◌, ap, inl, inr, sym, true≢false, string_bytes, map, Result, Err, IfErr, is_some, option_and_then, IfErr-weaker, IfOk-weaker, err_from_is_err_and, found_of, rows_of, meaning, WordsFault, Memory}
 use Rattle.par2_words.proofs.Subcommands.{known, met, unmet}
 use Rattle.par2_words.proofs.read.read_words.Goals as goal
 

@@ -1,4 +1,4 @@
-use Rattle.std.proofs.Common.{inl, inr, ℕ, ◌≡◌, arith, rules, IsTrue, below_more}
+use Rattle.recovery_calls.proofs.Common.{inl, inr, ℕ, ◌≡◌, arith, rules, IsTrue, below_more}
 use Rattle.std.proofs.lemmas.Bool.{cases_lt}
 use Rattle.recovery_calls.proofs.outputs.are_apart.Goals as goal
 

@@ -1,6 +1,4 @@
-use Rattle.std.proofs.Common.{ℕ, ◌<◌}
-use Rattle.par2_transform.specs.Adding.{place_at}
-use Rattle.recovery_calls.specs.Outputs.{AreBeside}
+use Rattle.recovery_calls.proofs.Common.{ℕ, ◌<◌, place_at, AreBeside}
 use Rattle.recovery_calls.proofs.outputs.are_apart.Given as goal
 
 abbrev pub invariant-loop-t : goal.invariant-loop-t

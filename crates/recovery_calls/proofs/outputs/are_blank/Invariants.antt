@@ -1,6 +1,4 @@
-use Rattle.std.proofs.Common.{ℕ, ◌≡◌, ◌*◌, ◌<◌, replicate}
-use Rattle.par2_spec.specs.Sums.{lists_of}
-use Rattle.par2_transform.specs.Adding.{place_at}
+use Rattle.recovery_calls.proofs.Common.{ℕ, ◌≡◌, ◌*◌, ◌<◌, replicate, lists_of, place_at}
 use Rattle.par2_recovery.specs.Writing.{output_at}
 use Rattle.recovery_calls.proofs.outputs.are_blank.Given as goal
 

@@ -1,5 +1,4 @@
-use Rattle.std.proofs.Common.{ℕ, ◌∙◌, length, replicate, sym, arith}
-use Rattle.std.proofs.lemmas.List.{ext_get_or, get_or-replicate, length-replicate}
+use Rattle.recovery_calls.proofs.Common.{ℕ, ◌∙◌, length, replicate, sym, arith, ext_get_or, get_or-replicate, length-replicate}
 use Rattle.recovery_calls.proofs.outputs.is_blank.Goals as goal
 
 pub returns : goal.returns

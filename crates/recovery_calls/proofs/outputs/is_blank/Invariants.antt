@@ -1,4 +1,4 @@
-use Rattle.std.proofs.Common.{ℕ, ◌≡◌, ◌<◌, get_or}
+use Rattle.recovery_calls.proofs.Common.{ℕ, ◌≡◌, ◌<◌, get_or}
 use Rattle.recovery_calls.proofs.outputs.is_blank.Given as goal
 
 abbrev pub invariant-loop-k : goal.invariant-loop-k

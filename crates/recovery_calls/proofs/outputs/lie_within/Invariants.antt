@@ -1,6 +1,4 @@
-use Rattle.std.proofs.Common.{ℕ, ◌+◌, ◌*◌, ◌<◌, ◌≤◌, length}
-use Rattle.par2_spec.specs.Sums.{list_at, lists_of}
-use Rattle.par2_transform.specs.Adding.{place_at}
+use Rattle.recovery_calls.proofs.Common.{ℕ, ◌+◌, ◌*◌, ◌<◌, ◌≤◌, length, list_at, lists_of, place_at}
 use Rattle.recovery_calls.proofs.outputs.lie_within.Given as goal
 
 abbrev pub invariant-loop-t : goal.invariant-loop-t

@@ -1,4 +1,4 @@
-use Rattle.std.proofs.Common.{arith}
+use Rattle.par2_digests.proofs.Common.{arith}
 use Rattle.par2_digests.proofs.feeds.Feed.copy_part.Goals as goal
 use Rattle.par2_digests.proofs.feeds.Feed.copy_part.Goals.{in-Length, in-Bytes}
 

@@ -1,7 +1,4 @@
-use Rattle.std.proofs.Common.{◌≡◌, ◌∙◌, ap, refl, length, length-drop, drop, arith}
-use Rattle.std.proofs.lemmas.List.{drop_all}
-use Rattle.par2_digests.specs.Feeds.{bytes_left}
-use Rattle.par2_digests.specs.Messages.{message_of, part_bytes}
+use Rattle.par2_digests.proofs.Common.{◌≡◌, ◌∙◌, ap, refl, length, length-drop, drop, arith, drop_all, bytes_left, message_of, part_bytes}
 use Rattle.par2_digests.proofs.FeedLaws.{filled_more, rest_more, within_more}
 use Rattle.par2_digests.proofs.feeds.Feed.fill.Goals as goal
 

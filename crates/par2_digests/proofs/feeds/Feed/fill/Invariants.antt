@@ -1,6 +1,4 @@
-use Rattle.std.proofs.Common.{◌≡◌, ◌≤◌, ◌<◌, [], length, take, drop}
-use Rattle.par2_digests.specs.Feeds.{bytes_left}
-use Rattle.par2_digests.specs.Messages.{part_bytes}
+use Rattle.par2_digests.proofs.Common.{◌≡◌, ◌≤◌, ◌<◌, [], length, take, drop, bytes_left, part_bytes}
 use Rattle.par2_digests.proofs.feeds.Feed.fill.Given as goal
 
 abbrev pub invariant-loop-filled : goal.invariant-loop-filled

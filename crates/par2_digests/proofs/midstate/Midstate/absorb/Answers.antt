@@ -1,6 +1,4 @@
-use Rattle.std.proofs.Common.{◌≡◌, ◌++◌, ◌*◌, ◌/◌, ◌%◌, ℕ, List, ap, arith, drop, length, length-append, take, ◌∙◌}
-use Rattle.par2_digests.specs.Feeds.{bytes_left}
-use Rattle.par2_digests.specs.Messages.{message_of}
+use Rattle.par2_digests.proofs.Common.{◌≡◌, ◌++◌, ◌*◌, ◌/◌, ◌%◌, ℕ, List, ap, arith, drop, length, length-append, take, ◌∙◌, bytes_left, message_of}
 use Rattle.par2_digests.proofs.FeedLaws.{goes_on, rest_goes_on}
 use Rattle.par2_digests.proofs.midstate.Midstate.absorb.Goals as goal
 

@@ -1,6 +1,4 @@
-use Rattle.std.proofs.Common.{◌≡◌, ◌++◌, ◌∙◌, append_assoc, ap, arith, length, length-append, rules, sym}
-use Rattle.std.proofs.lemmas.Grind.{flat_map-append}
-use Rattle.par2_digests.specs.Messages.{message_of, part_bytes}
+use Rattle.par2_digests.proofs.Common.{◌≡◌, ◌++◌, ◌∙◌, append_assoc, ap, arith, length, length-append, rules, sym, flat_map-append, message_of, part_bytes}
 use Rattle.par2_digests.proofs.pending.Pending.padded.Goals as goal
 
 pub returns : goal.returns

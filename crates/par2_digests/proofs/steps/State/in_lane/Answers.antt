@@ -1,4 +1,4 @@
-use Rattle.std.proofs.Common.{refl}
+use Rattle.par2_digests.proofs.Common.{refl}
 use Rattle.par2_digests.proofs.steps.State.in_lane.Goals as goal
 
 pub returns : goal.returns

@@ -1,5 +1,4 @@
-use Rattle.std.proofs.Common.{◌∙◌}
-use Rattle.par2_digests.specs.Feeds.{bytes_left}
+use Rattle.par2_digests.proofs.Common.{◌∙◌, bytes_left}
 use Rattle.par2_digests.proofs.TaskLaws.{all_blocks_more, ended_at}
 use Rattle.par2_digests.proofs.tasks.Task.finish.Goals as goal
 

@@ -1,8 +1,5 @@
-use Rattle.std.proofs.Common.{◌≡◌, ◌*◌, ◌≤◌, length, ◌∙◌, arith, inl, inr}
-use Rattle.std.proofs.lemmas.Bool.{cases_lt}
+use Rattle.par2_digests.proofs.Common.{◌≡◌, ◌*◌, ◌≤◌, length, ◌∙◌, arith, inl, inr, cases_lt, bytes_left, lane}
 use borrow.Rule.Slice.PartMut.{post_of}
-use Rattle.par2_digests.specs.Feeds.{bytes_left}
-use Rattle.par2_digests.specs.Lanes.{lane}
 use Rattle.par2_digests.proofs.TaskLaws.{at_the_end, blocks_more, kept_rest, left_blocks}
 use Rattle.par2_digests.proofs.tasks.Task.turn.Goals as goal
 

@@ -1,7 +1,5 @@
-use Rattle.std.proofs.Common.{List, map, refl, ap, ◌∙◌}
+use Rattle.par2_folder.proofs.Common.{List, map, refl, ap, ◌∙◌, change_of, Change}
 use Rattle.par2_spec.specs.Changes as defined
-use Rattle.par2_folder.specs.Views.{change_of}
-use Rattle.par2_folder.specs.declared.change.Change.{Change}
 use Rattle.par2_folder.specs.Lending.{with_changes}
 use Rattle.par2_folder.proofs.LentChanges.{refilled}
 use Rattle.par2_folder.proofs.changes.Changes.as_mut_slice.Goals as goal

@@ -1,6 +1,5 @@
 -- The count of another empty struct is set to one more.
-use Rattle.std.proofs.Common.{◌+◌, [], ◌∷◌, refl}
-use Rattle.std.proofs.raw_atomic.Walks.{proved}
+use Rattle.par2_folder.proofs.Common.{◌+◌, [], ◌∷◌, refl, proved}
 use base.Fml.{ftrue}
 use types.Kit.{‵, raw, ◌⊛◌, ◌$◌, ◌∵◌, !, qed, move, keep, split, fjoin, suffices, done}
 use types.Part.{agg}

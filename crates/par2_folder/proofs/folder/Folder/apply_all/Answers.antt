@@ -1,5 +1,4 @@
-use Rattle.std.proofs.Common.{◌<◌, length, arith}
-use Rattle.par2_folder.specs.Views.{change_of}
+use Rattle.par2_folder.proofs.Common.{◌<◌, length, arith, change_of}
 use Rattle.par2_folder.proofs.Lists.{sets_out, is_accepted, goes_on, arrived, turned_round}
 use Rattle.par2_folder.proofs.folder.Folder.apply_all.Goals as goal
 

@@ -1,4 +1,4 @@
-use Rattle.par2_folder.specs.Views.{change_of}
+use Rattle.par2_folder.proofs.Common.{change_of}
 use Rattle.par2_folder.proofs.Lists.{IsOnItsWay}
 use Rattle.par2_folder.proofs.folder.Folder.apply_all.Given as goal
 

@@ -1,4 +1,4 @@
-use Rattle.std.proofs.Common.{refl, rules}
+use Rattle.par2_folder.proofs.Common.{refl, rules}
 use Rattle.par2_spec.specs.Changes.{takes_all}
 use Rattle.par2_folder.proofs.folder.Folder.fingerprint.Goals as goal
 

@@ -1,4 +1,4 @@
-use Rattle.std.proofs.Common.{◌∙◌, ap, length}
+use Rattle.par2_folder.proofs.Common.{◌∙◌, ap, length}
 use Rattle.par2_folder.proofs.SortedFiles.{count_of}
 use Rattle.par2_folder.proofs.folder.Folder.len.Goals as goal
 

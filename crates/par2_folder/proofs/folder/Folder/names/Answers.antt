@@ -1,6 +1,4 @@
-use Rattle.std.proofs.Common.{◌∙◌, map, ap, sym}
-use Rattle.std.proofs.lemmas.List.{take_all}
-use Rattle.par2_spec.specs.Folders.{File}
+use Rattle.par2_folder.proofs.Common.{◌∙◌, map, ap, sym, take_all, File}
 use Rattle.par2_folder.proofs.SortedFiles.{files_of}
 use Rattle.par2_folder.proofs.folder.Folder.names.Goals as goal
 

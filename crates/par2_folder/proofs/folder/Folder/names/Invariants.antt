@@ -1,5 +1,4 @@
-use Rattle.std.proofs.Common.{◌≡◌, map, take}
-use Rattle.par2_spec.specs.Folders.{File}
+use Rattle.par2_folder.proofs.Common.{◌≡◌, map, take, File}
 use Rattle.par2_folder.proofs.folder.Folder.names.Given as goal
 
 abbrev pub invariant-loop-file : goal.invariant-loop-file

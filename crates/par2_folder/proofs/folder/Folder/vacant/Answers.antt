@@ -1,6 +1,4 @@
-use Rattle.std.proofs.Common.{subst}
-use Rattle.par2_spec.specs.Folders.{IsFolder}
-use Rattle.par2_spec.specs.Changes.{FolderState}
+use Rattle.par2_folder.proofs.Common.{subst, IsFolder, FolderState}
 use Rattle.par2_folder.proofs.SortedFiles.{is_folder}
 use Rattle.par2_folder.proofs.folder.Folder.vacant.Goals as goal
 

@@ -1,7 +1,4 @@
-use Rattle.std.proofs.Common.{◌≡◌, IsTrue, get_or, rules, subst, sym}
-use Rattle.std.proofs.lemmas.Bool.{false≢true}
-use Rattle.par2_digests.specs.Messages.{HasAbsorbed}
-use Rattle.par2_folder.specs.Landmarks.{IsLandmarkOf}
+use Rattle.par2_folder.proofs.Common.{◌≡◌, IsTrue, get_or, rules, subst, sym, false≢true, HasAbsorbed, IsLandmarkOf}
 use Rattle.par2_folder.proofs.Borders.{no_text}
 use Rattle.par2_folder.proofs.landmarks.Landmarks.before.Goals as goal
 

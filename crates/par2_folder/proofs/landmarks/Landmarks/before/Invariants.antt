@@ -1,9 +1,4 @@
-use Rattle.std.proofs.Common.{◌≡◌, ℕ, List, true}
-use Rattle.par2_digests.specs.Messages.{HasAbsorbed}
-use Rattle.par2_spec.specs.Folders.{Folder}
-use Rattle.par2_folder.specs.Below.{is_below}
-use Rattle.par2_folder.specs.Borders.{is_before, text_before}
-use Rattle.par2_folder.specs.Landmarks.{AreLandmarksOf}
+use Rattle.par2_folder.proofs.Common.{◌≡◌, ℕ, List, true, HasAbsorbed, Folder, is_below, is_before, text_before, AreLandmarksOf}
 use Rattle.par2_folder.proofs.landmarks.Landmarks.before.Given as goal
 
 abbrev pub invariant-loop-mark : goal.invariant-loop-mark

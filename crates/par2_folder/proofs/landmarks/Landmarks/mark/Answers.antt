@@ -1,5 +1,5 @@
 use Rattle.par2_folder.proofs.Surveys.{is_mark, some_pushed, with_mark}
-use Rattle.std.proofs.Common.{◌<◌, length, subst, sym}
+use Rattle.par2_folder.proofs.Common.{◌<◌, length, subst, sym}
 use Rattle.par2_folder.proofs.landmarks.Landmarks.mark.Goals as goal
 
 pub returns-clause-landmarks : goal.returns-clause-landmarks

@@ -1,5 +1,4 @@
-use Rattle.std.proofs.Common.{◌≡◌, IsTrue, get_or, rules, subst, sym}
-use Rattle.par2_folder.specs.Landmarks.{IsLandmarkOf}
+use Rattle.par2_folder.proofs.Common.{◌≡◌, IsTrue, get_or, rules, subst, sym, IsLandmarkOf}
 use Rattle.par2_folder.proofs.Walks.{sets_out, sets_out_first}
 use Rattle.par2_folder.proofs.landmarks.Landmarks.start.Goals as goal
 

@@ -1,9 +1,4 @@
-use Rattle.std.proofs.Common.{[], ◌∷◌, map}
-use Rattle.par2_spec.specs.Folders.{Folder}
-use Rattle.par2_folder.specs.Borders.{run_texts}
-use Rattle.par2_folder.specs.Landmarks.{AreLandmarksOf}
-use Rattle.par2_folder.specs.Runs.{HaveAbsorbed}
-use Rattle.par2_folder.specs.Views.{change_of}
+use Rattle.par2_folder.proofs.Common.{[], ◌∷◌, map, Folder, run_texts, AreLandmarksOf, HaveAbsorbed, change_of}
 use Rattle.par2_folder.proofs.landmarks.Landmarks.start.Given as goal
 
 abbrev pub invariant-loop-mark : goal.invariant-loop-mark

@@ -1,4 +1,4 @@
-use Rattle.std.proofs.Common.{sym}
+use Rattle.par2_folder.proofs.Common.{sym}
 use Rattle.par2_spec.proofs.NameTests.{no_text}
 use Rattle.par2_folder.proofs.name.Name.from_bytes.Goals as goal
 

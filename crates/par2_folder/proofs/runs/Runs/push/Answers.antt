@@ -1,4 +1,4 @@
-use Rattle.par2_folder.specs.Runs.{AreTo}
+use Rattle.par2_folder.proofs.Common.{AreTo}
 use Rattle.par2_folder.proofs.RunLaws.{one_more}
 use Rattle.par2_folder.proofs.runs.Runs.push.Goals as goal
 use Rattle.par2_folder.proofs.runs.Runs.push.Goals.{then-len-eq-LANES+in_ok-settle, else-len-eq-LANES}

@@ -1,5 +1,4 @@
-use Rattle.std.proofs.Common.{◌≡◌, ◌++◌, [], length, take, subst, sym, ◌∙◌, arith, rules}
-use Rattle.par2_folder.specs.Runs.{ReachEach}
+use Rattle.par2_folder.proofs.Common.{◌≡◌, ◌++◌, [], length, take, subst, sym, ◌∙◌, arith, rules, ReachEach}
 use Rattle.par2_folder.proofs.RunLaws.{settled}
 use Rattle.par2_folder.proofs.runs.Runs.settle.Goals as goal
 

@@ -1,6 +1,4 @@
-use Rattle.std.proofs.Common.{◌∙◌, ◌++◌, [], ◌∷◌, ap, map, sym}
-use Rattle.std.proofs.lemmas.List.{map-append, take_all, take_more}
-use Rattle.par2_folder.specs.Snapshots.{file_of}
+use Rattle.par2_folder.proofs.Common.{◌∙◌, ◌++◌, [], ◌∷◌, ap, map, sym, map-append, take_all, take_more, file_of}
 use Rattle.par2_folder.proofs.snapshot.Snapshot.of.Goals as goal
 
 pub loop-file-preserved : goal.loop-file-preserved

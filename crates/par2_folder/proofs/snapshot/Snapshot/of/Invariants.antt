@@ -1,5 +1,4 @@
-use Rattle.std.proofs.Common.{◌≡◌, map, take}
-use Rattle.par2_folder.specs.Snapshots.{file_of}
+use Rattle.par2_folder.proofs.Common.{◌≡◌, map, take, file_of}
 use Rattle.par2_folder.proofs.snapshot.Snapshot.of.Given as goal
 
 abbrev pub invariant-loop-file : goal.invariant-loop-file

@@ -1,4 +1,4 @@
-use Rattle.std.proofs.Common.{refl}
+use Rattle.par2_folder.proofs.Common.{refl}
 use Rattle.par2_folder.proofs.Snapshots.{put_at, put_in_gap}
 use Rattle.par2_folder.proofs.snapshot.Snapshot.put.Goals as goal
 

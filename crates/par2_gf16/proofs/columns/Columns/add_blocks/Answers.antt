@@ -1,8 +1,5 @@
-use Rattle.std.proofs.Common.{◌+◌, ◌*◌, ◌≡◌, ◌<◌, subst, sym, arith, length}
-use Rattle.std.specs.Prelude.{take, drop}
-use Rattle.par2_gf16.specs.Steps.{AddsWithin}
+use Rattle.par2_gf16.proofs.Common.{◌+◌, ◌*◌, ◌≡◌, ◌<◌, subst, sym, arith, length, take, drop, AddsWithin, HasNibbles}
 use Rattle.par2_gf16.specs.Columns.{WordRange}
-use Rattle.par2_gf16.specs.Nibbles.{HasNibbles}
 use Rattle.par2_gf16.proofs.Parts.{adds_after}
 use Rattle.par2_gf16.proofs.columns.Columns.add_blocks.Goals as goal
 

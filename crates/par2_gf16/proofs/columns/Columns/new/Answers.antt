@@ -1,5 +1,4 @@
-use Rattle.std.proofs.Common.{◌+◌, ◌≡◌, [], ◌∷◌, ap, arith, length, length-append, subst, sym}
-use Rattle.par2_gf16.specs.Nibbles.{AreSplit}
+use Rattle.par2_gf16.proofs.Common.{◌+◌, ◌≡◌, [], ◌∷◌, ap, arith, length, length-append, subst, sym, AreSplit}
 use Rattle.par2_gf16.proofs.ColumnLaws.{next_block}
 use Rattle.par2_gf16.proofs.columns.Columns.new.Goals as goal
 

@@ -1,4 +1,4 @@
-use Rattle.std.proofs.Common.{◌++◌, ◌*◌}
+use Rattle.par2_gf16.proofs.Common.{◌++◌, ◌*◌}
 use Rattle.par2_gf16.proofs.BlockLaws.{block_added, products_in_bytes, both_added}
 use Rattle.par2_gf16.proofs.factor.Factor.add_nibbles.Goals as goal
 

@@ -1,6 +1,4 @@
-use Rattle.std.proofs.Common.{◌∙◌, ◌+◌, ◌*◌, ◌%◌, ◌/◌}
-use Rattle.std.specs.Prelude.{bit_xor}
-use Rattle.par2_spec.specs.Field.{mul}
+use Rattle.par2_gf16.proofs.Common.{◌∙◌, ◌+◌, ◌*◌, ◌%◌, ◌/◌, bit_xor, mul}
 use Rattle.par2_gf16.proofs.BlockLaws.{zip2_same}
 use Rattle.par2_gf16.proofs.NibbleLaws.{lower_byte}
 use Rattle.par2_gf16.proofs.factor.Factor.lower_bytes.Goals as goal

@@ -1,5 +1,4 @@
-use Rattle.std.proofs.Common.{◌%◌, ◌/◌, ◌++◌, ◌∙◌, ap₂}
-use Rattle.par2_spec.specs.Field.{mul}
+use Rattle.par2_gf16.proofs.Common.{◌%◌, ◌/◌, ◌++◌, ◌∙◌, ap₂, mul}
 use Rattle.par2_gf16.proofs.NibbleLaws.{byte_table}
 use Rattle.par2_gf16.proofs.factor.NibbleProducts.new.Goals as goal
 

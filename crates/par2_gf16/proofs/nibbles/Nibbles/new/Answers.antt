@@ -1,5 +1,4 @@
-use Rattle.std.proofs.Common.{w8}
-use Rattle.std.proofs.lemmas.Simd.{below_from_Fits}
+use Rattle.par2_gf16.proofs.Common.{w8, below_from_Fits}
 use Rattle.par2_gf16.proofs.nibbles.Nibbles.new.Goals as goal
 
 pub returns-clause-low_fits : goal.returns-clause-low_fits

@@ -1,5 +1,4 @@
-use Rattle.std.proofs.Common.{ap, ◌∙◌}
-use Rattle.par2_spec.specs.Field.{mul}
+use Rattle.par2_gf16.proofs.Common.{ap, ◌∙◌, mul}
 use Rattle.par2_gf16.proofs.WordLaws.{word_added}
 use Rattle.par2_gf16.proofs.tables.Gf.add_word.Goals as goal
 

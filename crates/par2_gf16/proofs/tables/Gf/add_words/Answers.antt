@@ -1,4 +1,4 @@
-use Rattle.std.proofs.Common.{arith}
+use Rattle.par2_gf16.proofs.Common.{arith}
 use Rattle.par2_gf16.proofs.Parts.{up_to_end}
 use Rattle.par2_gf16.proofs.tables.Gf.add_words.Goals as goal
 

@@ -1,4 +1,4 @@
-use Rattle.par2_gf16.specs.Steps.{AddsWithin}
+use Rattle.par2_gf16.proofs.Common.{AddsWithin}
 use Rattle.par2_gf16.proofs.tables.Gf.add_words.Given as goal
 
 abbrev pub invariant-loop-i : goal.invariant-loop-i

@@ -1,4 +1,4 @@
-use Rattle.std.proofs.Common.{◌≡◌, length, get_or, arith, ap, ◌∙◌}
+use Rattle.par2_gf16.proofs.Common.{◌≡◌, length, get_or, arith, ap, ◌∙◌}
 use Rattle.par2_gf16.proofs.TableLaws.{constant_is, constants_count}
 use Rattle.par2_gf16.proofs.tables.Gf.constant.Goals as goal
 

@@ -1,5 +1,4 @@
-use Rattle.std.proofs.Common.{◌≡◌, ◌<◌, get_or, ap, ◌∙◌, sym, subst}
-use Rattle.par2_spec.specs.Field.{pow}
+use Rattle.par2_gf16.proofs.Common.{◌≡◌, ◌<◌, get_or, ap, ◌∙◌, sym, subst, pow}
 use Rattle.par2_gf16.proofs.TableLaws.{log_is}
 use Rattle.par2_gf16.proofs.tables.Gf.log.Goals as goal
 

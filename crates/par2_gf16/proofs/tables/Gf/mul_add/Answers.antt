@@ -1,4 +1,4 @@
-use Rattle.std.proofs.Common.{◌*◌, ◌/◌, length, ap, arith}
+use Rattle.par2_gf16.proofs.Common.{◌*◌, ◌/◌, length, ap, arith}
 use Rattle.par2_gf16.proofs.Parts.{blocks_and_rest}
 use Rattle.par2_gf16.proofs.tables.Gf.mul_add.Goals as goal
 

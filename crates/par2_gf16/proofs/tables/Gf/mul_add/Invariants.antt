@@ -1,5 +1,4 @@
-use Rattle.std.proofs.Common.{◌*◌}
-use Rattle.par2_gf16.specs.Steps.{AddsWithin}
+use Rattle.par2_gf16.proofs.Common.{◌*◌, AddsWithin}
 use Rattle.par2_gf16.proofs.tables.Gf.mul_add.Given as goal
 
 abbrev pub invariant-loop-block : goal.invariant-loop-block

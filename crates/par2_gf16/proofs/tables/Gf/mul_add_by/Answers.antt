@@ -1,5 +1,4 @@
-use Rattle.std.proofs.Common.{◌≡◌, ◌+◌, ◌*◌, ◌/◌, length, ap, arith, subst}
-use Rattle.par2_gf16.specs.Steps.{AddsWithin}
+use Rattle.par2_gf16.proofs.Common.{◌≡◌, ◌+◌, ◌*◌, ◌/◌, length, ap, arith, subst, AddsWithin}
 use Rattle.par2_gf16.proofs.Parts.{adds_after, blocks_and_rest}
 use Rattle.par2_gf16.proofs.tables.Gf.mul_add_by.Goals as goal
 

@@ -1,5 +1,4 @@
-use Rattle.std.proofs.Common.{subst}
-use Rattle.par2_gf16.specs.Steps.{AddsWithin}
+use Rattle.par2_gf16.proofs.Common.{subst, AddsWithin}
 use Rattle.par2_gf16.proofs.Parts.{adds_after}
 use Rattle.par2_gf16.proofs.tables.Gf.mul_add_columns.Goals as goal
 

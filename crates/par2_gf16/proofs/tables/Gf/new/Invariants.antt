@@ -1,4 +1,4 @@
-use Rattle.par2_gf16.specs.Tables.{FirstRound, SecondRound}
+use Rattle.par2_gf16.proofs.Common.{FirstRound, SecondRound}
 use Rattle.par2_gf16.proofs.tables.Gf.new.Given as goal
 
 abbrev pub invariant-loop-i : goal.invariant-loop-i

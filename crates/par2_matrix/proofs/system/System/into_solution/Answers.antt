@@ -1,6 +1,4 @@
-use Rattle.std.proofs.Common.{◌≡◌, ◌≤◌, ◌↔◌, Bool, true, false, rules, subst, refl, ◌∙◌, arith, length}
-use Rattle.par2_matrix.specs.Systems.{Equations, rank, IsTheSolution}
-use Rattle.par2_spec.specs.Sums.{lists_of}
+use Rattle.par2_matrix.proofs.Common.{◌≡◌, ◌≤◌, ◌↔◌, Bool, true, false, rules, subst, refl, ◌∙◌, arith, length, Equations, rank, IsTheSolution, lists_of}
 use Rattle.par2_matrix.proofs.Standing.{rank_most}
 use Rattle.par2_matrix.proofs.Views.{rank_view}
 use Rattle.par2_matrix.proofs.Promises.{the_solution, not_full}

@@ -1,7 +1,4 @@
-use Rattle.std.proofs.Common.{◌∙◌, sym, subst}
-use Rattle.par2_matrix.specs.Echelon.{IsReduced, echelon}
-use Rattle.par2_spec.specs.Sums.{lists_of}
-use Rattle.par2_spec.proofs.WordLaws.{length-lists_of}
+use Rattle.par2_matrix.proofs.Common.{◌∙◌, sym, subst, IsReduced, echelon, lists_of, length-lists_of}
 use Rattle.par2_matrix.proofs.Standing.{none_reduced}
 use Rattle.par2_matrix.proofs.Promises.{new_system}
 use Rattle.par2_matrix.proofs.system.System.new.Goals as goal

@@ -1,10 +1,4 @@
-use Rattle.std.proofs.Common.{◌≡◌, ◌<◌, ◌+◌, ℕ, List, length, arith, rules, refl, sym, ap, ◌∙◌, subst}
-use Rattle.std.specs.Vec.{with_items}
-use Rattle.std.proofs.lemmas.List.{with_items_is}
-use Rattle.par2_matrix.specs.Systems.{Equations, CutDown, IsIndependent, IsDependent}
-use Rattle.par2_matrix.specs.Echelon.{echelon, echelon_of, IsReduced, system_of}
-use Rattle.par2_spec.specs.Sums.{lists_of}
-use Rattle.par2_spec.proofs.WordLaws.{length-lists_of}
+use Rattle.par2_matrix.proofs.Common.{◌≡◌, ◌<◌, ◌+◌, ℕ, List, length, arith, rules, refl, sym, ap, ◌∙◌, subst, with_items, with_items_is, Equations, CutDown, IsIndependent, IsDependent, echelon, echelon_of, IsReduced, system_of, lists_of, length-lists_of}
 use Rattle.par2_matrix.proofs.Offering.{IsTaken, offered}
 use Rattle.par2_matrix.proofs.Promises.{cuts, tells, follows}
 use Rattle.par2_matrix.proofs.system.System.offer.Goals as goal

@@ -1,6 +1,4 @@
-use Rattle.std.proofs.Common.{length}
-use Rattle.par2_matrix.specs.Echelon.{count_present}
-use Rattle.par2_spec.specs.Sums.{lists_of}
+use Rattle.par2_matrix.proofs.Common.{length, count_present, lists_of}
 use Rattle.par2_matrix.proofs.system.System.offer.Given as goal
 
 abbrev pub ghost-prepare : goal.ghost-prepare

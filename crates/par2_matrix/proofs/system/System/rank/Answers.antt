@@ -1,5 +1,4 @@
-use Rattle.std.proofs.Common.{◌<◌, ◌≡◌, ◌≤◌, ◌↔◌, subst, sym, ◌∙◌, ap}
-use Rattle.par2_matrix.specs.Systems.{Equations, rank, IsUndetermined, OnlyZeroIsKilled}
+use Rattle.par2_matrix.proofs.Common.{◌<◌, ◌≡◌, ◌≤◌, ◌↔◌, subst, sym, ◌∙◌, ap, Equations, rank, IsUndetermined, OnlyZeroIsKilled}
 use Rattle.par2_matrix.proofs.Standing.{rank_most}
 use Rattle.par2_matrix.proofs.Views.{rank_view}
 use Rattle.par2_matrix.proofs.Promises.{rank_full, undetermined}

@@ -1,5 +1,4 @@
-use Rattle.std.proofs.Common.{ap, ◌∙◌}
-use Rattle.par2_spec.specs.Packets.{DescBody, without_end_zeros}
+use Rattle.par2_packets.proofs.Common.{ap, ◌∙◌, DescBody, without_end_zeros}
 use Rattle.par2_packets.proofs.views.DescView.name_bytes.Goals as goal
 
 pub returns : goal.returns

@@ -1,5 +1,4 @@
-use Rattle.std.proofs.Common.{length, sym, ap, ◌∙◌}
-use Rattle.par2_spec.specs.Packets.{IfscBody}
+use Rattle.par2_packets.proofs.Common.{length, sym, ap, ◌∙◌, IfscBody}
 use Rattle.par2_packets.proofs.Items.{pairs_count}
 use Rattle.par2_packets.proofs.views.IfscView.count.Goals as goal
 

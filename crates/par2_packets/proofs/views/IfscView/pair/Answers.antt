@@ -1,6 +1,4 @@
-use Rattle.std.proofs.Common.{◌+◌, ◌*◌, ℕ, List, Some, sym, ap, ◌∙◌, arith}
-use Rattle.par2_spec.specs.Checksums.{Pair}
-use Rattle.par2_spec.specs.Packets.{u32_at}
+use Rattle.par2_packets.proofs.Common.{◌+◌, ◌*◌, ℕ, List, Some, sym, ap, ◌∙◌, arith, Pair, u32_at}
 use Rattle.par2_packets.proofs.Items.{pair_fits, pair_of_view}
 use Rattle.par2_packets.proofs.views.IfscView.pair.Goals as goal
 

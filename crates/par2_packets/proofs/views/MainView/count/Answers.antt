@@ -1,5 +1,4 @@
-use Rattle.std.proofs.Common.{length, sym, ap, ◌∙◌}
-use Rattle.par2_spec.specs.Packets.{MainBody}
+use Rattle.par2_packets.proofs.Common.{length, sym, ap, ◌∙◌, MainBody}
 use Rattle.par2_packets.proofs.Items.{ids_count}
 use Rattle.par2_packets.proofs.views.MainView.count.Goals as goal
 

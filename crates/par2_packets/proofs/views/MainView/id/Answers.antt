@@ -1,4 +1,4 @@
-use Rattle.std.proofs.Common.{Some, sym, ap, ◌∙◌, arith}
+use Rattle.par2_packets.proofs.Common.{Some, sym, ap, ◌∙◌, arith}
 use Rattle.par2_packets.proofs.Items.{id_fits, id_of_view}
 use Rattle.par2_packets.proofs.views.MainView.id.Goals as goal
 

@@ -1,7 +1,4 @@
-use Rattle.std.proofs.Common.{◌∙◌, List, ℕ, sym}
-use Rattle.std.specs.Str.{bytes_eq}
-use Rattle.std.proofs.lemmas.Bool.{both_ways}
-use Rattle.std.proofs.lemmas.Slice.Eq.{bytes_eq-Decides, slice_eq-Decides}
+use Rattle.par2_plan.proofs.Common.{◌∙◌, List, ℕ, sym, bytes_eq, both_ways, bytes_eq-Decides, slice_eq-Decides}
 use Rattle.par2_plan.proofs.draft.Draft.tested.Goals as goal
 
 pub returns-then-eq-clause-right : goal.returns-then-eq-clause-right

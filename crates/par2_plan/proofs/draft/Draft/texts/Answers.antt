@@ -1,13 +1,8 @@
-use Rattle.std.proofs.Common.{◌≡◌, ◌∙◌, ◌<◌, ◌+◌, ◌++◌, ◌∷◌, [], List, ℕ, Bor, length, map, take, get_or, refl, sym, ap, append-nil, rules}
-use Rattle.std.specs.Prelude.{Option, Some, None, option_to_list}
-use Rattle.std.specs.List.{cons_option}
+use Rattle.par2_plan.proofs.Common.{◌≡◌, ◌∙◌, ◌<◌, ◌+◌, ◌++◌, ◌∷◌, [], List, ℕ, Bor, length, map, take, get_or, refl, sym, ap, append-nil, rules, Option, None, option_to_list, cons_option, map-append, map_more, take_all, filter_map-append, change_of, bytes_written, texts_written}
+use Rattle.std.specs.Prelude.{Some}
 use Rattle.std.specs.Option.{option_copied}
-use Rattle.std.proofs.lemmas.List.{map-append, map_more, take_all}
-use Rattle.std.proofs.lemmas.List.Elements.{filter_map-append}
 use Rattle.par2_digests.specs.Texts.{texts_of}
-use Rattle.par2_folder.specs.Views.{change_of}
 use Rattle.par2_folder.specs.declared.change.Change.{Change}
-use Rattle.par2_plan.specs.Written.{bytes_written, texts_written}
 use Rattle.par2_plan.proofs.draft.Draft.texts.Goals.{in-Some+in_ok-push, in_default}
 use Rattle.par2_plan.proofs.draft.Draft.texts.Goals as goal
 

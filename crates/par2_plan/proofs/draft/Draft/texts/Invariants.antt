@@ -1,7 +1,5 @@
-use Rattle.std.proofs.Common.{◌≡◌, map, take}
+use Rattle.par2_plan.proofs.Common.{◌≡◌, map, take, change_of, texts_written}
 use Rattle.par2_digests.specs.Texts.{texts_of}
-use Rattle.par2_folder.specs.Views.{change_of}
-use Rattle.par2_plan.specs.Written.{texts_written}
 use Rattle.par2_plan.proofs.draft.Draft.texts.Given as goal
 
 abbrev pub invariant-loop-change : goal.invariant-loop-change

@@ -1,10 +1,4 @@
-use Rattle.std.proofs.Common.{◌≡◌, ◌∙◌, ◌+◌, ◌-◌, List, take, drop, sym, ap, arith}
-use Rattle.std.specs.List.{concat}
-use Rattle.std.proofs.lemmas.List.{take-map, drop-map}
-use Rattle.std.proofs.lemmas.Result.{IfOk-weaker}
-use Rattle.par2_spec.specs.Slices.{padded}
-use Rattle.par2_plan.specs.SliceTexts.{slices_of, text_of}
-use Rattle.par2_plan.specs.declared.restored_slices.Slice.{Slice}
+use Rattle.par2_plan.proofs.Common.{◌≡◌, ◌∙◌, ◌+◌, ◌-◌, List, take, drop, sym, ap, arith, concat, take-map, drop-map, IfOk-weaker, padded, slices_of, text_of, Slice}
 use Rattle.par2_plan.proofs.restored_slices.Slices.file.Goals as goal
 
 pub returns : goal.returns

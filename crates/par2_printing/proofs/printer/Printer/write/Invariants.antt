@@ -1,5 +1,4 @@
-use Rattle.std.proofs.Common.{[]}
-use Rattle.par2_printing.specs.Writing.{TookAll}
+use Rattle.par2_printing.proofs.Common.{[], TookAll}
 use Rattle.par2_printing.proofs.printer.Printer.write.Given as goal
 
 -- the calls so far were interrupted

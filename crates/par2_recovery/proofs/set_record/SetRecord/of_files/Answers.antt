@@ -1,8 +1,5 @@
-use Rattle.std.proofs.Common.{refl, subst, sym}
-use Rattle.std.specs.List.{IsDistinct}
+use Rattle.par2_recovery.proofs.Common.{refl, subst, sym, IsDistinct, false≢true, files_of}
 use Rattle.std.specs.Str.{bytes_eq}
-use Rattle.std.proofs.lemmas.Bool.{false≢true}
-use Rattle.par2_spec.specs.Commands.{files_of}
 use Rattle.par2_recovery.proofs.Records.{ids_of_records}
 use Rattle.par2_recovery.proofs.set_record.SetRecord.of_files.Goals as goal
 

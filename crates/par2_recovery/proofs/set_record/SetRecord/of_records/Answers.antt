@@ -1,13 +1,5 @@
-use Rattle.std.proofs.Common.{◌≡◌, sym, subst, map, rules, length, List}
-use Rattle.std.specs.Prelude.{IsPermutation}
-use Rattle.std.proofs.lemmas.List.{with_items_is}
+use Rattle.par2_recovery.proofs.Common.{◌≡◌, sym, subst, map, rules, length, List, IsPermutation, with_items_is, IsStrictlyIncreasing, File, record_of, in_id_order, files_of, file_record_of, id_number, FileRecord}
 use Rattle.std.proofs.lemmas.List.Sorted.{IsPermutation-map}
-use Rattle.std.specs.List.Sorted.{IsStrictlyIncreasing}
-use Rattle.par2_spec.specs.Folders.{File}
-use Rattle.par2_spec.specs.Volumes.{record_of, in_id_order}
-use Rattle.par2_spec.specs.Commands.{files_of}
-use Rattle.par2_packets.specs.Views.{file_record_of, id_number}
-use Rattle.par2_packets.specs.declared.record.FileRecord.{FileRecord}
 use Rattle.par2_recovery.proofs.Records.{in_order, files_of_records}
 use Rattle.par2_recovery.proofs.set_record.SetRecord.of_records.Goals as goal
 

@@ -1,10 +1,5 @@
-use Rattle.std.proofs.Common.{◌≡◌, ◌∙◌, ◌<◌, length, sym, ap, subst}
-use Rattle.std.specs.List.{AllByRecursion}
-use Rattle.std.specs.List.Sorted.{IsStrictlyIncreasing}
-use Rattle.std.specs.FinMap.{entries}
-use Rattle.par2_spec.specs.Sets.{IsSound}
+use Rattle.par2_sets.proofs.Common.{◌≡◌, ◌∙◌, ◌<◌, length, sym, ap, subst, AllByRecursion, IsStrictlyIncreasing, entries, IsSound, exponents_of, recovered_of}
 use Rattle.par2_spec.proofs.RankLaws.{all_weaker}
-use Rattle.par2_sets.specs.Slices.{exponents_of, recovered_of}
 use Rattle.par2_sets.proofs.Exponents.{kept_entries}
 use Rattle.par2_sets.proofs.set.ParSet.recovery.Goals as goal
 

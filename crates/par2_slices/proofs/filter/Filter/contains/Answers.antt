@@ -1,8 +1,4 @@
-use Rattle.std.proofs.Common.{◌≡◌, ◌∙◌, get_or, ◌/◌, ◌^◌, ◌%◌, sym, ap, subst, arith}
-use Rattle.std.proofs.lemmas.List.{get_or_read}
-use Rattle.par2_slices.specs.Filters.{Groups, Marks}
-use Rattle.std.specs.Int.{bit_at}
-use Rattle.std.proofs.lemmas.Bool.{eqb-true, eq-eqb}
+use Rattle.par2_slices.proofs.Common.{◌≡◌, ◌∙◌, get_or, ◌/◌, ◌^◌, ◌%◌, sym, ap, subst, arith, get_or_read, Groups, Marks, bit_at, eqb-true, eq-eqb}
 use Rattle.par2_slices.proofs.Groups.{within}
 use Rattle.par2_slices.proofs.filter.Filter.contains.Goals as goal
 

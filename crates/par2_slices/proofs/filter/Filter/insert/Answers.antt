@@ -1,7 +1,4 @@
-use Rattle.std.proofs.Common.{ℕ, ◌≡◌, get_or, ◌*◌, ◌/◌, ◌%◌, ◌^◌, ◌<◌, length, length-set, set, sym, ◌∙◌, subst, arith}
-use Rattle.std.specs.Prelude.{◌⊎◌, bit_or}
-use Rattle.std.proofs.lemmas.List.{get_or_read}
-use Rattle.par2_slices.specs.Filters.{AreAlike, Groups, Marks}
+use Rattle.par2_slices.proofs.Common.{ℕ, ◌≡◌, get_or, ◌*◌, ◌/◌, ◌%◌, ◌^◌, ◌<◌, length, length-set, set, sym, ◌∙◌, subst, arith, ◌⊎◌, bit_or, get_or_read, AreAlike, Groups, Marks}
 use Rattle.par2_slices.proofs.Groups.{within, marked, kept_by_insert, only_by_insert}
 use Rattle.par2_slices.proofs.filter.Filter.insert.Goals as goal
 

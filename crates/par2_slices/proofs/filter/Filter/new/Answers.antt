@@ -1,5 +1,4 @@
-use Rattle.std.proofs.Common.{rules, ◌∙◌, ℕ, length, ap}
-use Rattle.std.proofs.lemmas.List.{length-replicate}
+use Rattle.par2_slices.proofs.Common.{rules, ◌∙◌, ℕ, length, ap, length-replicate}
 use Rattle.par2_slices.proofs.Groups.{none_marked}
 use Rattle.par2_slices.proofs.filter.Filter.new.Goals as goal
 

@@ -1,8 +1,4 @@
-use Rattle.std.proofs.Common.{ℕ, ◌≡◌, ◌∙◌, get_or, ◌*◌, ◌/◌, ◌%◌, ◌^◌, ◌<◌, length, length-set, set, sym, subst, arith}
-use Rattle.std.specs.Prelude.{bit_and}
-use Rattle.std.specs.Int.{w64, bit_not}
-use Rattle.std.proofs.lemmas.List.{get_or_read}
-use Rattle.par2_slices.specs.Filters.{Groups, Marks}
+use Rattle.par2_slices.proofs.Common.{ℕ, ◌≡◌, ◌∙◌, get_or, ◌*◌, ◌/◌, ◌%◌, ◌^◌, ◌<◌, length, length-set, set, sym, subst, arith, bit_and, w64, bit_not, get_or_read, Groups, Marks}
 use Rattle.par2_slices.proofs.Groups.{within, gone, kept_by_remove, only_by_remove}
 use Rattle.par2_slices.proofs.filter.Filter.remove.Goals as goal
 

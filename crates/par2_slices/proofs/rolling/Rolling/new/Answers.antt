@@ -1,5 +1,4 @@
-use Rattle.std.proofs.Common.{ℕ, List, sym, subst}
-use Rattle.par2_slices.specs.Rolls.{IsLeaving}
+use Rattle.par2_slices.proofs.Common.{ℕ, List, sym, subst, IsLeaving}
 use Rattle.par2_slices.proofs.Sliding.{two_tables}
 use Rattle.par2_slices.proofs.rolling.Rolling.new.Goals as goal
 

@@ -1,4 +1,4 @@
-use Rattle.std.proofs.Common.{get_or}
+use Rattle.par2_slices.proofs.Common.{get_or}
 use Rattle.par2_slices.proofs.Sliding.{two_slides}
 use Rattle.par2_slices.proofs.rolling.Rolling.slid_twice.Goals as goal
 

@@ -1,5 +1,4 @@
-use Rattle.std.proofs.Common.{◌∙◌, ap}
-use Rattle.par2_slices.specs.Rolls.{Roll, after_slide}
+use Rattle.par2_slices.proofs.Common.{◌∙◌, ap, Roll, after_slide}
 use Rattle.par2_slices.proofs.Sliding.{slid}
 use Rattle.par2_slices.proofs.rolling.Rolling.slide.Goals as goal
 

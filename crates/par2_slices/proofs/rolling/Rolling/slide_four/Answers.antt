@@ -1,5 +1,4 @@
-use Rattle.std.proofs.Common.{◌≡◌, ◌+◌, ◌∷◌, [], ℕ, List, get_or, sym, ap, ap₂, ◌∙◌}
-use Rattle.par2_slices.specs.Rolls.{Roll, after_slide}
+use Rattle.par2_slices.proofs.Common.{◌≡◌, ◌+◌, ◌∷◌, [], ℕ, List, get_or, sym, ap, ap₂, ◌∙◌, Roll, after_slide}
 use Rattle.par2_slices.proofs.Sliding.{each_of_three}
 use Rattle.par2_slices.proofs.rolling.Rolling.slide_four.Goals as goal
 

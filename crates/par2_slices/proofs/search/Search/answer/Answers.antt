@@ -1,10 +1,4 @@
-use Rattle.std.proofs.Common.{◌≡◌, ◌∙◌, ◌++◌, ◌<◌, ◌-◌, ◌%◌, ℕ, List, true, false, take, drop, sym, ap, subst, length}
-use Rattle.std.specs.Prelude.{Option, None}
-use Rattle.par2_spec.specs.Checksums.{Pair}
-use Rattle.par2_slices.specs.declared.batch.Spot.{Spot}
-use Rattle.par2_slices.specs.Searches.{after_window, answer_at, has_checksums, pair_at, place_at, IsOfOpenPair, IsPlace, IsTally}
-use Rattle.par2_slices.specs.declared.wanted_pairs.Place.{Place}
-use Rattle.par2_slices.specs.Filters.{AreAlike, Groups, Marks}
+use Rattle.par2_slices.proofs.Common.{◌≡◌, ◌∙◌, ◌++◌, ◌<◌, ◌-◌, ◌%◌, ℕ, List, true, false, take, drop, sym, ap, subst, length, Option, None, Pair, Spot, after_window, answer_at, has_checksums, pair_at, place_at, IsOfOpenPair, IsPlace, IsTally, Place, AreAlike, Groups, Marks}
 use Rattle.par2_slices.proofs.Searching.{all_settled, marks_alike, not_closed, tally_settled, waiting_pair, written}
 use Rattle.par2_slices.proofs.search.Search.answer.Goals as goal
 use Rattle.par2_slices.proofs.search.Search.answer.Goals.{After-is_waiting}

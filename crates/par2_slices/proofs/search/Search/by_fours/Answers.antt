@@ -1,4 +1,4 @@
-use Rattle.std.proofs.Common.{◌∙◌, ◌+◌, ◌*◌, ◌<◌, ◌≤◌, ◌/◌, length, arith}
+use Rattle.par2_slices.proofs.Common.{◌∙◌, ◌+◌, ◌*◌, ◌<◌, ◌≤◌, ◌/◌, length, arith}
 use Rattle.par2_slices.proofs.NextWindows.{group_windows, in_text}
 use Rattle.par2_slices.proofs.search.Search.by_fours.Goals as goal
 

@@ -1,7 +1,4 @@
-use Rattle.std.proofs.Common.{◌≡◌, ◌*◌, ◌≤◌, length}
-use Rattle.par2_spec.specs.Checksums.{crc32}
-use Rattle.par2_spec.specs.Windows.{window}
-use Rattle.par2_slices.specs.Searches.{IsAt}
+use Rattle.par2_slices.proofs.Common.{◌≡◌, ◌*◌, ◌≤◌, length, crc32, window, IsAt}
 use Rattle.par2_slices.proofs.search.Search.by_fours.Given as goal
 
 abbrev pub invariant-loop-group : goal.invariant-loop-group

@@ -1,10 +1,5 @@
-use Rattle.std.proofs.Common.{◌≡◌, ◌∙◌, ℕ, List, sym, subst, arith}
-use Rattle.std.specs.Prelude.{Option}
-use Rattle.std.specs.List.{count_by}
-use Rattle.par2_slices.specs.declared.batch.Spot.{Spot}
+use Rattle.par2_slices.proofs.Common.{◌≡◌, ◌∙◌, ℕ, List, sym, subst, arith, Option, count_by, Spot, Place, is_awaited}
 use Rattle.par2_slices.specs.declared.search.Search.{Search}
-use Rattle.par2_slices.specs.declared.wanted_pairs.Place.{Place}
-use Rattle.par2_slices.specs.Searches.{is_awaited}
 use Rattle.par2_slices.proofs.Searching.{unawaited}
 use Rattle.par2_slices.proofs.search.Search.look.Goals as goal
 

@@ -1,8 +1,4 @@
-use Rattle.std.proofs.Common.{◌∙◌, rules, refl, List, length, subst, ap, arith}
-use Rattle.std.specs.Prelude.{Option}
-use Rattle.par2_spec.specs.Checksums.{Pair}
-use Rattle.par2_slices.specs.declared.batch.Spot.{Spot}
-use Rattle.par2_slices.specs.Searches.{answer_at, IsTally}
+use Rattle.par2_slices.proofs.Common.{◌∙◌, rules, refl, List, length, subst, ap, arith, Option, Pair, Spot, answer_at, IsTally}
 use Rattle.par2_slices.proofs.Searching.{filled_more, none_answered, never_answered}
 use Rattle.par2_slices.proofs.search.Search.new.Goals as goal
 

@@ -1,8 +1,4 @@
-use Rattle.std.proofs.Common.{◌≡◌, ◌∙◌, ◌+◌, ◌-◌, ℕ, List, length, drop, get_or, refl, sym, ap, subst, arith}
-use Rattle.std.proofs.lemmas.List.{get_or-drop}
-use Rattle.par2_spec.specs.Checksums.{crc32}
-use Rattle.par2_spec.specs.Windows.{window}
-use Rattle.par2_slices.specs.Searches.{IsAt}
+use Rattle.par2_slices.proofs.Common.{◌≡◌, ◌∙◌, ◌+◌, ◌-◌, ℕ, List, length, drop, get_or, refl, sym, ap, subst, arith, get_or-drop, crc32, window, IsAt}
 use Rattle.par2_slices.proofs.Searching.{none_left}
 use Rattle.par2_slices.proofs.NextWindows.{first_byte, next_window, rest_len}
 use Rattle.par2_slices.proofs.search.Search.one_by_one.Goals as goal

@@ -1,7 +1,4 @@
-use Rattle.std.proofs.Common.{◌≡◌}
-use Rattle.par2_spec.specs.Checksums.{crc32}
-use Rattle.par2_spec.specs.Windows.{window}
-use Rattle.par2_slices.specs.Searches.{IsAt}
+use Rattle.par2_slices.proofs.Common.{◌≡◌, crc32, window, IsAt}
 use Rattle.par2_slices.proofs.search.Search.one_by_one.Given as goal
 
 abbrev pub invariant-loop-offset : goal.invariant-loop-offset

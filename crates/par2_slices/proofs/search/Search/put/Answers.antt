@@ -1,8 +1,5 @@
-use Rattle.std.proofs.Common.{◌≡◌, ◌∙◌, ◌+◌, ◌<◌, ℕ, List, length, take, drop, ap, sym, subst, length-take, length-drop, arith}
-use Rattle.md5.specs.Md5.{md5}
-use Rattle.par2_spec.specs.Slices.{padded}
-use Rattle.par2_slices.specs.declared.batch.Candidate.{Candidate}
-use Rattle.par2_slices.specs.Searches.{spot_in, IsAt, IsWindow}
+use Rattle.par2_slices.proofs.Common.{◌≡◌, ◌∙◌, ◌+◌, ◌<◌, ℕ, List, length, take, drop, ap, sym, subst, arith, md5, padded, Candidate, spot_in, IsAt, IsWindow}
+use Rattle.std.proofs.Common.{length-take, length-drop}
 use Rattle.par2_slices.proofs.Searching.{compared, emptied, pushed}
 use Rattle.par2_slices.proofs.search.Search.put.Given.{Over}
 use Rattle.par2_slices.proofs.search.Search.put.Goals as goal

@@ -1,5 +1,4 @@
-use Rattle.std.proofs.Common.{◌≡◌, ◌+◌, ℕ, length, subst, arith}
-use Rattle.par2_slices.specs.Searches.{IsAt}
+use Rattle.par2_slices.proofs.Common.{◌≡◌, ◌+◌, ℕ, length, subst, arith, IsAt}
 use Rattle.par2_slices.proofs.Searching.{emptied, none_left}
 use Rattle.par2_slices.proofs.search.Search.search_text.Goals as goal
 

@@ -1,10 +1,5 @@
-use Rattle.std.proofs.Common.{◌≡◌, ◌∙◌, ◌+◌, ◌-◌, ℕ, ◌<◌, List, length, drop, ap, sym, subst, length-drop, arith}
-use Rattle.std.specs.Prelude.{Option}
-use Rattle.std.proofs.lemmas.Bool.{eqb-true}
-use Rattle.par2_spec.specs.Checksums.{Pair}
-use Rattle.par2_slices.specs.declared.batch.Candidate.{Candidate}
-use Rattle.par2_slices.specs.declared.batch.Spot.{Spot}
-use Rattle.par2_slices.specs.Searches.{after_window, candidate_at, answer_at, pair_at, after_candidates, IsWindow}
+use Rattle.par2_slices.proofs.Common.{◌≡◌, ◌∙◌, ◌+◌, ◌-◌, ℕ, ◌<◌, List, length, drop, ap, sym, subst, arith, Option, eqb-true, Pair, Candidate, Spot, after_window, candidate_at, answer_at, pair_at, after_candidates, IsWindow}
+use Rattle.std.proofs.Common.{length-drop}
 use Rattle.par2_slices.proofs.Searching.{matches, none_settled, settled_from}
 use Rattle.par2_slices.proofs.search.Search.settle_batch.Goals as goal
 

@@ -1,5 +1,4 @@
-use Rattle.std.proofs.Common.{◌≡◌, ℕ, ◌<◌, [], length, drop}
-use Rattle.par2_slices.specs.Searches.{answer_at, pair_at, after_candidates, IsTally}
+use Rattle.par2_slices.proofs.Common.{◌≡◌, ℕ, ◌<◌, [], length, drop, answer_at, pair_at, after_candidates, IsTally}
 use Rattle.par2_slices.proofs.search.Search.settle_batch.Given as goal
 
 abbrev pub invariant-loop-k : goal.invariant-loop-k

@@ -1,4 +1,4 @@
-use Rattle.std.proofs.Common.{◌≡◌, ◌∙◌, true, false, sym}
+use Rattle.par2_slices.proofs.Common.{◌≡◌, ◌∙◌, true, false, sym}
 use Rattle.par2_slices.proofs.Searching.{unmarked}
 use Rattle.par2_slices.proofs.search.Search.test.Goals as goal
 

@@ -1,5 +1,4 @@
-use Rattle.std.proofs.Common.{◌≡◌, ◌+◌, ℕ, subst, arith}
-use Rattle.par2_slices.specs.Searches.{IsAt}
+use Rattle.par2_slices.proofs.Common.{◌≡◌, ◌+◌, ℕ, subst, arith, IsAt}
 use Rattle.par2_slices.proofs.search.Search.test_four.Goals as goal
 
 pub loop-k-init : goal.loop-k-init

@@ -1,5 +1,4 @@
-use Rattle.std.proofs.Common.{◌+◌}
-use Rattle.par2_slices.specs.Searches.{IsAt}
+use Rattle.par2_slices.proofs.Common.{◌+◌, IsAt}
 use Rattle.par2_slices.proofs.search.Search.test_four.Given as goal
 
 abbrev pub invariant-loop-k : goal.invariant-loop-k

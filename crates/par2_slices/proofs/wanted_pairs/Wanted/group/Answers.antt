@@ -1,8 +1,4 @@
-use Rattle.std.proofs.Common.{◌+◌, ◌-◌, ◌<◌, ◌/◌, ◌^◌, ◌∙◌, ℕ, List, take, drop, subst, sym, arith}
-use Rattle.std.proofs.lemmas.List.{get_or_default}
-use Rattle.par2_spec.specs.Checksums.{Pair}
-use Rattle.par2_slices.specs.Searches.{AreStarts, HoldsGroup, IsIndex, IsStart}
-use Rattle.par2_slices.specs.declared.wanted_pairs.Place.{Place}
+use Rattle.par2_slices.proofs.Common.{◌+◌, ◌-◌, ◌<◌, ◌/◌, ◌^◌, ◌∙◌, ℕ, List, take, drop, subst, sym, arith, get_or_default, Pair, AreStarts, HoldsGroup, IsIndex, IsStart, Place}
 use Rattle.par2_slices.proofs.Groups.{within}
 use Rattle.par2_slices.proofs.Places.{group_of}
 use Rattle.par2_slices.proofs.wanted_pairs.Wanted.group.Goals as goal

@@ -1,11 +1,4 @@
-use Rattle.std.proofs.Common.{rules, ◌≡◌, ◌+◌, ◌++◌, ◌∷◌, [], ◌∙◌, List, map, length, ap, sym, subst, arith}
-use Rattle.std.specs.List.{range_with_len}
-use Rattle.std.specs.List.Sorted.{IsNonDecreasingBy}
-use Rattle.std.proofs.lemmas.List.FromFn.{map-range_with_len_more}
-use Rattle.std.proofs.lemmas.List.Sorted.{IsNonDecreasingBy-from_sort_by_key}
-use Rattle.par2_spec.specs.Checksums.{Pair}
-use Rattle.par2_slices.specs.Searches.{AreStarts, IsIndex}
-use Rattle.par2_slices.specs.declared.wanted_pairs.Place.{Place}
+use Rattle.par2_slices.proofs.Common.{rules, ◌≡◌, ◌+◌, ◌++◌, ◌∷◌, [], ◌∙◌, List, map, length, ap, sym, subst, arith, range_with_len, IsNonDecreasingBy, map-range_with_len_more, IsNonDecreasingBy-from_sort_by_key, Pair, AreStarts, IsIndex, Place}
 use Rattle.par2_slices.proofs.Places.{place_of, index_of}
 use Rattle.par2_slices.proofs.wanted_pairs.Wanted.new.Goals as goal
 

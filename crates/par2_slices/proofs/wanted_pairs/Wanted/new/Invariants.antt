@@ -1,5 +1,4 @@
-use Rattle.std.proofs.Common.{◌≡◌, map}
-use Rattle.std.specs.List.{range_with_len}
+use Rattle.par2_slices.proofs.Common.{◌≡◌, map, range_with_len}
 use Rattle.par2_slices.proofs.Places.{place_of}
 use Rattle.par2_slices.proofs.wanted_pairs.Wanted.new.Given as goal
 

@@ -1,11 +1,4 @@
-use Rattle.std.proofs.Common.{arith, ◌∙◌, ◌≡◌, ◌+◌, ◌-◌, ◌*◌, ◌<◌, ◌≤◌, ◌^◌, ap, subst, length, min}
-use Rattle.par2_spec.specs.Field.{mul, pow}
-use Rattle.par2_spec.specs.Sums.{lists_of}
-use Rattle.par2_transform.specs.Blocks.{Outputs}
-use Rattle.par2_transform.specs.Chirps.{chirp_inverse}
-use Rattle.par2_transform.specs.Grids.{EachColumn}
-use Rattle.par2_transform.specs.PowerSums.{ArePowerSums}
-use Rattle.par2_transform.specs.Plans.{cut_of}
+use Rattle.par2_transform.proofs.Common.{arith, ◌∙◌, ◌≡◌, ◌+◌, ◌-◌, ◌*◌, ◌<◌, ◌≤◌, ◌^◌, ap, subst, length, min, mul, pow, lists_of, Outputs, chirp_inverse, EachColumn, ArePowerSums, cut_of}
 use Rattle.par2_transform.proofs.AddingLaws.{still_within}
 use Rattle.par2_transform.proofs.OutputLaws.{no_output, next_output, all_outputs}
 use Rattle.par2_transform.proofs.blocks.Block.add_to.Goals as goal

@@ -1,8 +1,4 @@
-use Rattle.std.proofs.Common.{List, ℕ, ◌≡◌, ◌∙◌, ap, sym, subst, arith, get_or, length}
-use Rattle.std.proofs.lemmas.List.{length-map}
-use Rattle.std.specs.Borrow.{Bor}
-use Rattle.par2_transform.specs.Chirps.{word_at_power}
-use Rattle.par2_transform.specs.Columns.{texts_of, words_at, AreNumbers}
+use Rattle.par2_transform.proofs.Common.{List, ℕ, ◌≡◌, ◌∙◌, ap, sym, subst, arith, get_or, length, length-map, Bor, word_at_power, texts_of, words_at, AreNumbers}
 use Rattle.par2_transform.proofs.NumberLaws.{text_found}
 use Rattle.par2_transform.proofs.exponents.Slices.at_power.Goals as goal
 

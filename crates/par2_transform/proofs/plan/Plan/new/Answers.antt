@@ -1,4 +1,4 @@
-use Rattle.std.proofs.Common.{arith}
+use Rattle.par2_transform.proofs.Common.{arith}
 use Rattle.par2_transform.proofs.plan.Plan.new.Goals as goal
 
 pub invariant_of-result-clause-fit : goal.invariant_of-result-clause-fit

@@ -1,9 +1,4 @@
-use Rattle.std.proofs.Common.{rules, ◌≡◌, ◌+◌, ◌-◌, ◌*◌, ◌^◌, ◌<◌, ◌∙◌, ap, sym, subst, List, ℕ, length, refl, bit_xor}
-use Rattle.std.proofs.lemmas.List.{with_items_is}
-use Rattle.par2_spec.specs.Field.{mul}
-use Rattle.par2_spec.specs.Slices.{word}
-use Rattle.par2_transform.specs.Adding.{within, AddsTo}
-use Rattle.par2_transform.specs.Grids.{Grid, column, IsAdded}
+use Rattle.par2_transform.proofs.Common.{rules, ◌≡◌, ◌+◌, ◌-◌, ◌*◌, ◌^◌, ◌<◌, ◌∙◌, ap, sym, subst, List, ℕ, length, refl, bit_xor, with_items_is, mul, word, within, AddsTo, Grid, column, IsAdded}
 use Rattle.par2_transform.proofs.GridLaws.{row_added}
 use Rattle.par2_transform.proofs.rows.Rows.add_other.Goals as goal
 

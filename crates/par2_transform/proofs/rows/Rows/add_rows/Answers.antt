@@ -1,9 +1,4 @@
-use Rattle.std.proofs.Common.{rules, arith, ◌≡◌, ◌+◌, ◌-◌, ◌*◌, ◌^◌, ◌≤◌, ◌∙◌, ap, sym, subst, List, ℕ, length}
-use Rattle.std.proofs.lemmas.List.{with_items_is}
-use Rattle.par2_spec.specs.Slices.{word}
-use Rattle.par2_transform.specs.Adding.{within, AddsTo}
-use Rattle.par2_transform.specs.Grids.{Grid, EachColumn}
-use Rattle.par2_transform.specs.Steps.{RunAdded}
+use Rattle.par2_transform.proofs.Common.{rules, arith, ◌≡◌, ◌+◌, ◌-◌, ◌*◌, ◌^◌, ◌≤◌, ◌∙◌, ap, sym, subst, List, ℕ, length, with_items_is, word, within, AddsTo, Grid, EachColumn, RunAdded}
 use Rattle.par2_transform.proofs.GridLaws.{rows_fit, rows_apart, run_added_at}
 use Rattle.par2_transform.proofs.rows.Rows.add_rows.Goals as goal
 

@@ -1,6 +1,4 @@
-use Rattle.std.proofs.Common.{arith, ◌≡◌, subst}
-use Rattle.par2_spec.specs.Sums.{lists_of}
-use Rattle.par2_transform.specs.Plans.{cut_of}
+use Rattle.par2_transform.proofs.Common.{arith, ◌≡◌, subst, lists_of, cut_of}
 use Rattle.par2_transform.proofs.AddingLaws.{still_within}
 use Rattle.par2_transform.proofs.ClassLaws.{ClassesAdded, no_class, next_class, all_classes}
 use Rattle.par2_transform.proofs.windows.Windows.add_classes.Goals as goal

@@ -1,11 +1,4 @@
-use Rattle.std.proofs.Common.{rules, ◌≡◌, ℕ, ◌+◌, ◌-◌, ◌*◌, ◌^◌, ◌<◌, ◌≤◌, ◌∙◌, refl, sym, ap, subst, arith, length, min, List}
-use Rattle.std.specs.Int.{div_ceil}
-use Rattle.std.proofs.lemmas.Grind.{div_ceil_times}
-use Rattle.std.proofs.lemmas.List.{with_items_is}
-use Rattle.par2_spec.specs.Sums.{lists_of}
-use Rattle.par2_spec.proofs.FoundLaws.{slice_begins}
-use Rattle.par2_transform.specs.Blocks.{Outputs, AreBlocks}
-use Rattle.par2_transform.specs.Plans.{cut_of}
+use Rattle.par2_transform.proofs.Common.{rules, ◌≡◌, ℕ, ◌+◌, ◌-◌, ◌*◌, ◌^◌, ◌<◌, ◌≤◌, ◌∙◌, refl, sym, ap, subst, arith, length, min, List, div_ceil, div_ceil_times, with_items_is, lists_of, slice_begins, Outputs, AreBlocks, cut_of}
 use Rattle.par2_transform.proofs.AddingLaws.{still_within}
 use Rattle.par2_transform.proofs.ColumnLaws.{ColumnsAdded, no_column, next_column, all_columns}
 use Rattle.par2_transform.proofs.windows.Windows.add_words.Goals as goal

@@ -1,5 +1,4 @@
-use Rattle.std.proofs.Common.{arith, ◌∙◌, ◌≤◌, ◌^◌}
-use Rattle.par2_transform.specs.Plans.{cut_of}
+use Rattle.par2_transform.proofs.Common.{arith, ◌∙◌, ◌≤◌, ◌^◌, cut_of}
 use Rattle.par2_transform.proofs.WindowLaws.{values_of_window}
 use Rattle.par2_transform.proofs.windows.Windows.evaluate.Goals as goal
 

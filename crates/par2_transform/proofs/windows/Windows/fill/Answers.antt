@@ -1,4 +1,4 @@
-use Rattle.par2_transform.specs.Plans.{cut_of}
+use Rattle.par2_transform.proofs.Common.{cut_of}
 use Rattle.par2_transform.proofs.WindowLaws.{no_coefficient, next_coefficient}
 use Rattle.par2_transform.proofs.windows.Windows.fill.Goals as goal
 

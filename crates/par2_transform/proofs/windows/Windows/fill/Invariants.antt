@@ -1,5 +1,4 @@
-use Rattle.par2_transform.specs.Blocks.{AreCoefficients}
-use Rattle.par2_transform.specs.Plans.{cut_of}
+use Rattle.par2_transform.proofs.Common.{AreCoefficients, cut_of}
 use Rattle.par2_transform.proofs.windows.Windows.fill.Given as goal
 
 abbrev pub invariant-loop-i : goal.invariant-loop-i

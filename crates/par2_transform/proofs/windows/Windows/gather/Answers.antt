@@ -1,5 +1,4 @@
-use Rattle.std.proofs.Common.{◌∙◌}
-use Rattle.par2_transform.specs.Plans.{cut_of}
+use Rattle.par2_transform.proofs.Common.{◌∙◌, cut_of}
 use Rattle.par2_transform.proofs.WindowLaws.{nothing_so_far, one_window_more, shape_kept}
 use Rattle.par2_transform.proofs.windows.Windows.gather.Goals as goal
 

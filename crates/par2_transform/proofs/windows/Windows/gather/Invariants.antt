@@ -1,4 +1,4 @@
-use Rattle.par2_transform.specs.Plans.{cut_of}
+use Rattle.par2_transform.proofs.Common.{cut_of}
 use Rattle.par2_transform.proofs.WindowLaws.{GatheredSoFar}
 use Rattle.par2_transform.proofs.windows.Windows.gather.Given as goal
 

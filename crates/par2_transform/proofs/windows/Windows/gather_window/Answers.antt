@@ -1,6 +1,4 @@
-use Rattle.std.proofs.Common.{◌∙◌, ◌<◌, sym, subst}
-use Rattle.par2_transform.specs.Blocks.{Gathers, GathersWindow, block_at}
-use Rattle.par2_transform.specs.Plans.{cut_of}
+use Rattle.par2_transform.proofs.Common.{◌∙◌, ◌<◌, sym, subst, Gathers, GathersWindow, block_at, cut_of}
 use Rattle.par2_transform.proofs.WindowLaws.{becomes_too, gathers_values}
 use Rattle.par2_transform.proofs.windows.Windows.gather_window.Goals as goal
 

@@ -1,5 +1,4 @@
-use Rattle.std.proofs.Common.{arith, ◌≤◌, ◌*◌}
-use Rattle.par2_transform.specs.Chirps.{spared_below}
+use Rattle.par2_transform.proofs.Common.{arith, ◌≤◌, ◌*◌, spared_below}
 use Rattle.par2_transform.proofs.SparedSums.{spared_below-mono}
 use Rattle.par2_transform.proofs.windows.Windows.new.Goals as goal
 

@@ -1,0 +1,23 @@
+-- The names that proofs of this crate take from elsewhere.
+
+pub use Rattle.std.proofs.Common.{Bool, Global, List, Vec, [], ap, ap₂, arith, bit_xor, cond, eqb, false, get_or, inl, inr, length, map, refl, rules, set, subst, suc, sym, true, zero, ℕ, ◌%◌, ◌*◌, ◌+◌, ◌/◌, ◌<◌, ◌↔◌, ◌∙◌, ◌∷◌, ◌≡◌, ◌≢◌, ◌≤◌, ◌⊎◌}
+pub use Rattle.std.proofs.Math.Nat.{suc-ne-zero}
+pub use Rattle.std.proofs.lemmas.Bool.{cases_eq, cases_lt, cond-false, cond-true, eq-eqb, false≢true, ne_eqb}
+pub use Rattle.std.proofs.lemmas.List.{ext_get_or, get_or-map, get_or_past, with_items_is}
+pub use Rattle.std.proofs.lemmas.List.FromFn.{get_or-map-range_with_len, length-map-range_with_len}
+pub use Rattle.std.specs.Int.Bits.{xor_self, xor_zero_r}
+pub use Rattle.std.specs.List.{AllByRecursion, range_with_len}
+pub use Rattle.std.specs.Vec.{with_items}
+pub use Rattle.par2_gf16.specs.Products.{AddsProducts, IsInverse}
+pub use Rattle.par2_matrix.specs.Echelon.{AllEmpty, ClearedBelow, Echelon, IsMultiple, IsPrepared, IsReduced, Meets, PutAt, ReducedBelow, Scaled, Spells, Vanishes, count_present, echelon, echelon_of, system_of}
+pub use Rattle.par2_matrix.specs.Systems.{AreTexts, CutDown, Equations, IsDependent, IsIndependent, IsKilled, IsTheSolution, IsUndetermined, OnlyZeroIsKilled, Solves, no_equations, rank}
+pub use Rattle.par2_spec.proofs.FieldOrder.{cancel, product-zero, zero-product}
+pub use Rattle.par2_spec.proofs.FieldProducts.{product-lt, product-one, product_comm}
+pub use Rattle.par2_spec.proofs.ListsLaws.{all_at, all_from}
+pub use Rattle.par2_spec.proofs.SumLaws.{dot_sum, field_sum_one, field_sum_same, field_sum_two, product_at, row_sum-lt, row_sum_added, row_sum_empty, row_sum_scaled, row_sum_unit, xor_off, xor_same}
+pub use Rattle.par2_spec.proofs.WordLaws.{bytes_at, combination_words, length-lists_of, read_at, same_texts, word-lt, word_empty, word_past, written_changed, written_here}
+pub use Rattle.par2_spec.specs.Field.{mul}
+pub use Rattle.par2_spec.specs.Rank.{IsVector}
+pub use Rattle.par2_spec.specs.Recovery.{combination, dot}
+pub use Rattle.par2_spec.specs.Slices.{word, words}
+pub use Rattle.par2_spec.specs.Sums.{AreElements, OneChanged, list_at, lists_of, row_sum}

@@ -1,0 +1,5 @@
+-- The names that proofs of this crate take from elsewhere.
+
+pub use Rattle.std.proofs.Common.{List, [], ap, arith, length, ltb-true, map, refl, rules, string_bytes, suc, sym, take, zero, ℕ, ◌++◌, ◌-◌, ◌<◌, ◌∙◌, ◌∷◌, ◌≡◌, ◌≤◌}
+pub use Rattle.par2_printing.specs.Writing.{TookAll, seen, writer_of}
+pub use Rattle.par2_spec.proofs.WritingLaws.{lines_cut, part, step}

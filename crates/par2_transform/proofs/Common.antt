@@ -1,0 +1,39 @@
+-- The names that proofs of this crate take from elsewhere.
+
+pub use Rattle.std.proofs.Common.{Bool, Global, List, Vec, [], add-mul, add-zero, add_assoc, add_comm, ap, ap₂, arith, bit_xor, cond, drop, eqb, false, get_or, inl, inr, length, length-append, ltb, min, mul-add, mul-zero, mul_assoc, mul_comm, one-mul, pow-suc, pow_pos, refl, rules, set, subst, suc, sym, take, true, zero, zero-add, zero-mul, ℕ, ◌%◌, ◌*◌, ◌++◌, ◌+◌, ◌-◌, ◌/◌, ◌<◌, ◌^◌, ◌∙◌, ◌∷◌, ◌≡◌, ◌≢◌, ◌≤◌, ◌⊎◌}
+pub use Rattle.std.proofs.Math.Arith.{lt_of_le-ne}
+pub use Rattle.std.proofs.Math.Nat.{div-div-eq-div-mul, div-le_self, div-mul-le_self, mod-lt, mul-le-mul_right, pow-le-pow_right}
+pub use Rattle.std.proofs.Math.Pow.{pow-lt, pow_mono}
+pub use Rattle.std.proofs.lemmas.Bool.{cases_Bool, cases_eq, cases_lt, eqb-true, le-leb, le-ltb, lt-ltb, ltb-true}
+pub use Rattle.std.proofs.lemmas.Grind.{div_ceil_times}
+pub use Rattle.std.proofs.lemmas.List.{get_or-append_right, get_or-drop, get_or-set_other, get_or-set_same, get_or-take, get_or_append_left, get_or_at, get_or_default, get_or_past, length-drop, length-map, length-set, length-take-le, map-append, with_items_is}
+pub use Rattle.std.proofs.lemmas.Nat.{div-add-mod', div-mul-add, mul-add-lt, pow-add, xor_comm, xor_lt}
+pub use Rattle.std.proofs.lemmas.Result.{IfOk-weaker}
+pub use Rattle.std.specs.Borrow.{Bor}
+pub use Rattle.std.specs.Int.{bit_at, div_ceil}
+pub use Rattle.std.specs.Int.Bits.{xor_assoc, xor_self, xor_shifted, xor_zero_l, xor_zero_r}
+pub use Rattle.std.specs.Prelude.{IfOk, filter, if◌then◌else◌, nat_le, nat_lt, not, slice_index, ◌&&◌, ◌==◌}
+pub use Rattle.std.specs.Vec.{with_items}
+pub use Rattle.par2_spec.proofs.FieldBits.{IsLinear, bit_cases, bit_times_xor, bit_xor_times, bits_ind, linear-zero, tested, tested_at, xor_middle}
+pub use Rattle.par2_spec.proofs.FieldOrder.{no_zero_divisor, power-65535, power-add, power-lt, product-zero, zero-product}
+pub use Rattle.par2_spec.proofs.FieldProducts.{product-lt, product-one, product_assoc, product_comm, product_linear_left, product_linear_right}
+pub use Rattle.par2_spec.proofs.FieldSteps.{one-power, power-mul, power_inverse}
+pub use Rattle.par2_spec.proofs.FoundLaws.{slice_begins}
+pub use Rattle.par2_spec.proofs.SumLaws.{field_sum-lt, field_sum_head, field_sum_none, field_sum_one, field_sum_same, field_sum_scaled, field_sum_xor, xor_off}
+pub use Rattle.par2_spec.proofs.WordLaws.{length-lists_of, read_at, word-lt, written_changed, written_here}
+pub use Rattle.par2_spec.specs.Field.{constant_powers, is_spared, mul, pow}
+pub use Rattle.par2_spec.specs.Slices.{word}
+pub use Rattle.par2_spec.specs.Sums.{AreElements, OneChanged, field_sum, list_at, lists_of}
+pub use Rattle.par2_transform.specs.Adding.{AddsAt, AddsTo, AddsToEach, AddsToPart, AreApart, AreWholeTexts, HasByte, HaveWords, LieWithin, output_word, place_at, within}
+pub use Rattle.par2_transform.specs.Blocks.{AreBlocks, AreCoefficients, AreWeightRows, AreWindowValues, BlocksBecome, EachBlock, Gathers, GathersWindow, HaveShape, IsBlock, IsCleared, IsGathered, Keeps, OneBecomes, Outputs, RowsGathered, Takes, block_at, block_part, class_sum_at, from_gathered, weight_at}
+pub use Rattle.par2_transform.specs.Chirps.{AreFirst, AreWeights, chirp, chirp_inverse, spared_below, word_at_power}
+pub use Rattle.par2_transform.specs.Columns.{AreBytes, AreNumbers, recovered, texts_of, words_at}
+pub use Rattle.par2_transform.specs.Evaluations.{AreValues, IsSplit, from, value}
+pub use Rattle.par2_transform.specs.Grids.{AddsWords, AreRows, EachColumn, Grid, IsAdded, column}
+pub use Rattle.par2_transform.specs.Levels.{ComeFrom, HoldPolynomials, HoldPowerSums, IsMergedLevel, IsSplitLevel}
+pub use Rattle.par2_transform.specs.Plans.{cut_of}
+pub use Rattle.par2_transform.specs.PowerSums.{ArePowerSums, IsMerged, member, sum_ahead}
+pub use Rattle.par2_transform.specs.Steps.{AheadAdded, FirstRuns, IsDivided, IsLowered, IsOneAdded, IsRaised, IsSpreadAbove, IsSpreadBelow, OnElements, OneRun, RunAdded, RunAddedBy, SameOutside, spread_beyond, spread_within}
+pub use Rattle.par2_transform.specs.Subspaces.{basis, point, powers_in, vanishing}
+pub use Rattle.par2_transform.specs.Transforms.{Cut, HasWeights, Reaches, class_part, coefficient_of, gathered, window_value}
+pub use Rattle.par2_transform.specs.declared.outputs.Place.{Place}
