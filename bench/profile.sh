@@ -20,7 +20,7 @@ parts() {
         { share = $1; sub(/%/, "", share); part = "other" }
         /\[k\]|\[kernel/ { part = "system" }
         /memmove|memcpy|memset/ { part = "copies" }
-        /par2_slices::(search|rolling|filter|wanted)|par2_slices/ { part = "search" }
+        /par2_slices::(search|rolling|filter|wanted|windows|matching|intact)/ { part = "search" }
         /md5::|par2_digests|par2_folder::walk/ { part = "digests" }
         /par2_gf16|par2_recovery|par2_matrix/ { part = "field" }
         { sum[part] += share }
