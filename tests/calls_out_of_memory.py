@@ -2,7 +2,7 @@
 """Has programs make calls on small inputs, each with its first growth of memory refused, then with its second, and so on
 until none is refused.
 
-A call of a library (`growth_rows`) answers as without a refusal, or that it is out of memory. Then all that it was given
+A call of a library (`growth_tests`) answers as without a refusal, or that it is out of memory. Then all that it was given
 is as before, and the same call made once more answers as without a refusal. A call of the whole program (`run_rows`) on
 a store in memory is out of memory and leaves the store as before, or fails at a growth of the store itself: then the
 store opens as before or as after.
@@ -80,11 +80,11 @@ class Programs:
 
 def library_calls(programs):
     """Refuses the growths of each call of a library."""
-    told = programs.said("growth_rows", [])
+    told = programs.said("growth_tests", [])
     calls = [line.split(": ") for line in told.splitlines() if ": " in line and not line.startswith(" ")]
     growths = 0
     for words in calls:
-        whole, refused = programs.refused_each("growth_rows", words)
+        whole, refused = programs.refused_each("growth_tests", words)
         before, line, behind = whole.partition(f"> {words[1]}\n")
         wanting = before + line + "out of memory\n" + before + line + behind
         wrong = [text for text in refused if text not in (whole, wanting)]
