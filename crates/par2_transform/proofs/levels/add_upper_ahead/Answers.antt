@@ -1,4 +1,4 @@
-use Rattle.std.proofs.Common.{suc, ◌+◌, ◌-◌, ◌*◌, ◌%◌, ◌^◌, ◌<◌, ◌≤◌, ◌≡◌, inl, inr, sym, subst, arith}
+use Rattle.std.proofs.Common.{suc, ◌+◌, ◌-◌, ◌*◌, ◌%◌, ◌^◌, ◌<◌, ◌≡◌, inl, inr, subst, arith}
 use Rattle.par2_transform.specs.Grids.{EachColumn}
 use Rattle.par2_transform.specs.Steps.{RunAdded, AheadAdded}
 use Rattle.par2_transform.proofs.StepLaws.{rows_within, shifts, run_at, ahead_start, ahead_set, ahead_unset, ahead_whole}

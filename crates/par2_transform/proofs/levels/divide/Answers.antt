@@ -1,4 +1,4 @@
-use Rattle.std.proofs.Common.{suc, ◌+◌, ◌*◌, ◌%◌, ◌^◌, ◌≤◌, ◌≡◌, ◌∙◌, refl, arith}
+use Rattle.std.proofs.Common.{◌+◌, ◌*◌, ◌%◌, ◌^◌, ◌≡◌, ◌∙◌, refl, arith}
 use Rattle.par2_spec.specs.Field.{mul}
 use Rattle.par2_transform.specs.Steps.{RunAddedBy, IsSpreadAbove, IsSpreadBelow, IsDivided}
 use Rattle.par2_transform.proofs.StepLaws.{rows_within, shifted, double_power, run_by_at}

@@ -1,4 +1,4 @@
-use Rattle.std.proofs.Common.{suc, ◌+◌, ◌*◌, ◌%◌, ◌^◌, ◌≤◌, ◌≡◌, ap, ◌∙◌, arith}
+use Rattle.std.proofs.Common.{suc, ◌+◌, ◌*◌, ◌%◌, ◌^◌, ◌≡◌, ap, ◌∙◌, arith}
 use Rattle.par2_transform.specs.Subspaces.{point}
 use Rattle.par2_transform.specs.Evaluations.{IsSplit}
 use Rattle.par2_transform.specs.Steps.{OnElements, OneRun, RunAdded, IsDivided}

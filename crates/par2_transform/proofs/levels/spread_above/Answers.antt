@@ -1,4 +1,4 @@
-use Rattle.std.proofs.Common.{◌+◌, ◌-◌, ◌*◌, ◌%◌, ◌^◌, ◌<◌, ◌≤◌, ◌≡◌, inr, sym, subst, arith}
+use Rattle.std.proofs.Common.{◌+◌, ◌-◌, ◌*◌, ◌%◌, ◌^◌, ◌<◌, ◌≡◌, inr, subst, arith}
 use Rattle.par2_transform.specs.Grids.{EachColumn}
 use Rattle.par2_transform.specs.Steps.{RunAdded, IsSpreadAbove}
 use Rattle.par2_transform.proofs.StepLaws.{rows_within, shifts, run_at}
