@@ -1,7 +1,15 @@
 -- Blocks of outputs, one after the other.
-use Rattle.par2_transform.proofs.Common.{inl, inr, ℕ, ◌+◌, ◌*◌, ◌<◌, ◌≡◌, ◌≢◌, refl, sym, ap, ap₂, subst, ◌∙◌, arith, bit_xor, List, [], ◌∷◌, ◌++◌, length, get_or, length-append, get_or_append_left, get_or_at, get_or_default, get_or-set_other, get_or-set_same, length-set, mul, Grid, column, IsAdded, cases_eq, cases_lt, AddsAt, Outputs, IsBlock, AreBlocks, RowsGathered, OneBecomes, BlocksBecome, Keeps, block_at, block_part, Cut, Place}
+use Rattle.std.proofs.Common.{inl, inr, ℕ, ◌+◌, ◌*◌, ◌<◌, ◌≡◌, ◌≢◌, refl, sym, ap, ap₂, subst, ◌∙◌, arith, bit_xor, List, [], ◌∷◌, ◌++◌, length, get_or, length-append}
+use Rattle.std.proofs.lemmas.List.{get_or_append_left, get_or_at, get_or_default, get_or-set_other, get_or-set_same, length-set}
 use Rattle.std.proofs.Math.ListN.{set}
+use Rattle.par2_spec.specs.Field.{mul}
+use Rattle.par2_transform.specs.Grids.{Grid, column, IsAdded}
+use Rattle.std.proofs.lemmas.Bool.{cases_eq, cases_lt}
 use Rattle.par2_spec.specs.Sums.{field_sum}
+use Rattle.par2_transform.specs.Adding.{AddsAt}
+use Rattle.par2_transform.specs.Blocks.{Outputs, IsBlock, AreBlocks, RowsGathered, OneBecomes, BlocksBecome, Keeps, block_at, block_part, weight_at}
+use Rattle.par2_transform.specs.Transforms.{Cut, HasWeights}
+use Rattle.par2_transform.specs.declared.outputs.Place.{Place}
 use Rattle.par2_transform.proofs.AddingLaws.{adds_none, adds_next}
 
 -- what is read at any default is a block
@@ -14,6 +22,16 @@ one_set relation blocks j block new low is = record {
   count = length-set blocks j new;
   here = subst (relation (block_at blocks j)) (sym (get_or-set_same blocks j new _ low)) (subst (λ b. relation b new) (is_block_at blocks j block low) is);
   others = λ i other. get_or-set_other blocks j i new _ other;
+}
+
+-- a block stays one of the same outputs where only what is gathered differs
+pub kept_block : (cut : Cut) (columns e : ℕ) (old new : Outputs) → Keeps old new → IsBlock cut columns e old → IsBlock cut columns e new
+kept_block cut columns e old new kept is = record {
+  exponent = kept.exponent ∙ is.exponent;
+  windows = kept.windows ∙ is.windows;
+  has = subst (λ (weights : List (List ℕ)). HasWeights cut e (weight_at weights)) (sym kept.weights) is.has;
+  levels = kept.levels ∙ is.levels;
+  words = kept.words ∙ is.words;
 }
 
 pub none_becomes : (relation : Outputs → Outputs → Type 0) (blocks : List Outputs) → BlocksBecome relation 0 blocks blocks

@@ -45,3 +45,6 @@ overflow_mul-a c =
     let plan = c.args.plan.now in
     let most : c.loop-a.a * plan.window ≤ plan.windows * plan.window = mul-le-mul_right plan.window (let low = c.loop-a-test.true in omega (arith, low)) in
     omega (arith, most, plan.few_numbers)
+
+pub weights-requires-clause-count : goal.weights-requires-clause-count
+weights-requires-clause-count c = ap (λ (xs : List ℕ). length xs) c.as_mut_slice.ensures.value ∙ c.in_ok-words.ensures.count

@@ -1,5 +1,11 @@
-use Rattle.par2_transform.proofs.Common.{◌≡◌, ◌<◌, ◌≤◌, ◌+◌, ◌-◌, ◌*◌, ◌∙◌, ℕ, length, min, refl, sym, ap, subst, arith, div_ceil, div_ceil_times, lists_of, slice_begins, texts_of, recovered}
-use Rattle.par2_transform.proofs.AddingLaws.{still_within}
+use Rattle.std.proofs.Common.{◌≡◌, ◌<◌, ◌≤◌, ◌+◌, ◌-◌, ◌*◌, ◌∙◌, ℕ, length, min, refl, sym, ap, subst, arith}
+use Rattle.std.specs.Int.{div_ceil}
+use Rattle.std.proofs.lemmas.Grind.{div_ceil_times}
+use Rattle.par2_spec.specs.Sums.{lists_of}
+use Rattle.par2_spec.proofs.FoundLaws.{slice_begins}
+use Rattle.par2_transform.specs.Adding.{within}
+use Rattle.par2_transform.specs.Columns.{texts_of, recovered}
+use Rattle.par2_transform.proofs.AddingLaws.{adds_none, still_within, within-above}
 use Rattle.par2_transform.proofs.GroupLaws.{next_group, all_groups}
 use Rattle.par2_transform.proofs.recovery.add_recovery_slices_at.Goals as goal
 
@@ -28,3 +34,33 @@ returns c =
     let all = c.div_ceil-k-end.ensures ∙ ap (λ (m : ℕ). div_ceil m size) c.len-count.ensures in
     let enough : total ≤ k * size = subst (λ n. total ≤ n * size) (sym (end ∙ all)) (div_ceil_times total size (omega (arith, some))).0 in
     all_groups c.args.outputs.now.places.now c.args.outputs.now.words size total k (λ t p. recovered (texts_of c.args.slices.now) (c.args.first + t) p) (lists_of c.args.texts.now) (lists_of c.loop-k.texts) enough refl c.loop-k.invariant
+
+pub loop-k-init : goal.loop-k-init
+loop-k-init c =
+    let none = min (length c.args.outputs.now.places.now) (0 * c.outputs_at_once-at_once.result) in
+    let given = λ (t p : ℕ). recovered (texts_of c.args.slices.now) (c.args.first + t) p in
+    adds_none c.args.outputs.now.places.now c.args.outputs.now.words (λ t p. within 0 none t (given t p)) (lists_of c.args.texts.now) (λ t p. within-above 0 none t (given t p) (omega arith))
+
+pub add_group-requires-clause-group : goal.add_group-requires-clause-group
+add_group-requires-clause-group c =
+    let size = c.outputs_at_once-at_once.result in
+    let some = c.outputs_at_once-at_once.ensures in
+    let end = c.div_ceil-k-end.ensures ∙ ap (λ (m : ℕ). div_ceil m size) c.len-count.ensures in
+    let low = slice_begins (length c.args.outputs.now.places.now) size c.loop-k.k (omega (arith, some)) (subst (λ n. c.loop-k.k < n) end c.loop-k-test.true) in
+    (omega (arith, low, some, c.min.ensures, c.len-count.ensures), omega (arith, low, c.min.ensures, c.len-count.ensures))
+
+pub overflow_mul-from : goal.overflow_mul-from
+overflow_mul-from c =
+    let size = c.outputs_at_once-at_once.result in
+    let some = c.outputs_at_once-at_once.ensures in
+    let end = c.div_ceil-k-end.ensures ∙ ap (λ (m : ℕ). div_ceil m size) c.len-count.ensures in
+    let low = slice_begins (length c.args.outputs.now.places.now) size c.loop-k.k (omega (arith, some)) (subst (λ n. c.loop-k.k < n) end c.loop-k-test.true) in
+    omega (arith, low, c.len-count.ensures)
+
+pub overflow_add-to : goal.overflow_add-to
+overflow_add-to c =
+    let size = c.outputs_at_once-at_once.result in
+    let some = c.outputs_at_once-at_once.ensures in
+    let end = c.div_ceil-k-end.ensures ∙ ap (λ (m : ℕ). div_ceil m size) c.len-count.ensures in
+    let low = slice_begins (length c.args.outputs.now.places.now) size c.loop-k.k (omega (arith, some)) (subst (λ n. c.loop-k.k < n) end c.loop-k-test.true) in
+    omega (arith, low, c.min.ensures, c.len-count.ensures)

@@ -1,4 +1,9 @@
-use Rattle.par2_transform.proofs.Common.{◌+◌, ◌*◌, ◌^◌, ◌<◌, ◌≤◌, refl, sym, subst, arith, length, mul-le-mul_right, pow_mono, div_ceil_times, cut_of}
+use Rattle.std.proofs.Common.{◌≡◌, ◌+◌, ◌*◌, ◌^◌, ◌<◌, ◌≤◌, ◌∙◌, refl, sym, subst, arith, length}
+use Rattle.std.proofs.Math.Nat.{mul-le-mul_right}
+use Rattle.std.proofs.Math.Pow.{pow_mono}
+use Rattle.std.proofs.lemmas.Grind.{div_ceil_times}
+use Rattle.par2_spec.proofs.FoundLaws.{slice_begins}
+use Rattle.par2_transform.specs.Plans.{cut_of}
 use Rattle.par2_transform.proofs.BlockLaws.{BlocksMade, next_block}
 use Rattle.par2_transform.proofs.recovery.blocks_of.Goals as goal
 
@@ -18,3 +23,27 @@ returns-clause-few c =
     let more : blocks * plan.block ≤ c.div_ceil-j-end.result * plan.block = mul-le-mul_right plan.block (let end : blocks ≤ c.div_ceil-j-end.result = omega (arith, c.loop-j.invariant.count, c.loop-j.auto.j-end) in end) in
     let points : 2 ^ plan.levels ≤ 2 ^ 16 = pow_mono {i = plan.levels} {j = 16} plan.few_levels in
     omega (arith, most, more, points, plan.fit, c.requires)
+
+pub new-requires : goal.new-requires
+new-requires c =
+    let block = c.args.plan.now.block in
+    let low = slice_begins c.args.count block c.loop-j.j (let some = c.args.plan.now.some.1.0 in omega (arith, some)) (subst (λ n. c.loop-j.j < n) c.div_ceil-j-end.ensures c.loop-j-test.true) in
+    omega (arith, low, c.requires)
+
+pub overflow_mul-j : goal.overflow_mul-j
+overflow_mul-j c =
+    let block = c.args.plan.now.block in
+    let low = slice_begins c.args.count block c.loop-j.j (let some = c.args.plan.now.some.1.0 in omega (arith, some)) (subst (λ n. c.loop-j.j < n) c.div_ceil-j-end.ensures c.loop-j-test.true) in
+    omega (arith, low)
+
+pub overflow_add-first : goal.overflow_add-first
+overflow_add-first c =
+    let block = c.args.plan.now.block in
+    let low = slice_begins c.args.count block c.loop-j.j (let some = c.args.plan.now.some.1.0 in omega (arith, some)) (subst (λ n. c.loop-j.j < n) c.div_ceil-j-end.ensures c.loop-j-test.true) in
+    omega (arith, low, c.requires)
+
+pub returns-clause-covered : goal.returns-clause-covered
+returns-clause-covered c =
+    let block = c.args.plan.now.block in
+    let all : length c.loop-j.blocks.items ≡ c.div_ceil-j-end.result = omega (arith, c.loop-j.invariant.count, c.loop-j-test.false, c.loop-j.auto.j-end) in
+    subst (λ n. c.args.count ≤ n * block) (sym (all ∙ c.div_ceil-j-end.ensures)) (div_ceil_times c.args.count block (let some = c.args.plan.now.some.1.0 in omega (arith, some))).0

@@ -1,4 +1,10 @@
-use Rattle.par2_transform.proofs.Common.{arith, ◌+◌, ◌<◌, sym, subst, length, lists_of, within, AddsAt, class_sum_at, words_at, cut_of}
+use Rattle.std.proofs.Common.{arith, ◌+◌, ◌*◌, ◌^◌, ◌<◌, ◌≤◌, ◌∙◌, sym, subst, length}
+use Rattle.par2_spec.specs.Sums.{lists_of}
+use Rattle.par2_transform.specs.Adding.{within, AddsAt}
+use Rattle.par2_transform.specs.Blocks.{class_sum_at}
+use Rattle.par2_transform.specs.Columns.{words_at}
+use Rattle.par2_transform.specs.Plans.{cut_of}
+use Rattle.par2_transform.proofs.BlockLaws.{kept_block}
 use Rattle.par2_transform.proofs.WindowLaws.{blocks_have_shape}
 use Rattle.par2_transform.proofs.ClassLaws.{class_added, nothing_added, exponent-le}
 use Rattle.par2_transform.proofs.windows.Windows.add_class.Goals as goal
@@ -28,3 +34,27 @@ returns-clause-added c =
     let self = c.args.self.now in
     class_added c.args.outputs.now.places.now c.args.outputs.now.words (cut_of self.plan) self.slices self.plan.columns self.plan.block c.args.r c.args.from c.args.to self.first c.args.blocks.now c.gather.new.blocks (lists_of c.args.texts.now) (lists_of c.add_all.new.texts)
     self.few self.bytes c.requires.blocks c.gather.ensures.gathered self.plan.fit self.plan.some.1.0 c.requires.covered c.requires.columns c.add_all.ensures.added
+
+pub add_all-requires-clause-few : goal.add_all-requires-clause-few
+add_all-requires-clause-few c =
+    let block = c.args.self.now.plan.block in
+    subst (λ n. n * block ≤ 2 ^ 34) (sym c.gather.ensures.gathered.count) (let few = c.requires.few in omega (arith, few))
+
+pub add_all-requires-clause-levels : goal.add_all-requires-clause-levels
+add_all-requires-clause-levels c = λ j h.
+    let low = subst (λ n. j < n) c.gather.ensures.gathered.count h in
+    (c.gather.ensures.gathered.done j low).kept.levels ∙ (c.requires.blocks j low).levels
+
+pub add_all-requires-clause-words : goal.add_all-requires-clause-words
+add_all-requires-clause-words c = λ j h.
+    let low = subst (λ n. j < n) c.gather.ensures.gathered.count h in
+    (c.gather.ensures.gathered.done j low).kept.words ∙ (c.requires.blocks j low).words
+
+pub returns-clause-blocks : goal.returns-clause-blocks
+returns-clause-blocks c = λ j h.
+    let plan = c.args.self.now.plan in
+    let first = c.args.self.now.first in
+    let mid = subst (λ n. j < n) c.add_all.ensures.kept.count h in
+    let low = subst (λ n. j < n) c.gather.ensures.gathered.count mid in
+    kept_block (cut_of plan) plan.columns (first + j * plan.block) _ _ (c.add_all.ensures.kept.done j mid)
+    (kept_block (cut_of plan) plan.columns (first + j * plan.block) _ _ (c.gather.ensures.gathered.done j low).kept (c.requires.blocks j low))

@@ -88,3 +88,9 @@ loop-k-init c =
     let self = c.args.self.now in
     no_column c.args.outputs.now.places.now c.args.outputs.now.words (cut_of self.plan) self.slices self.plan.columns self.first self.plan.block c.args.outputs.now.words c.in_ok-rows.rows c.in_ok-blocks.blocks.items (lists_of c.args.texts.now)
     c.in_ok-rows.ensures.levels c.in_ok-rows.ensures.words c.in_ok-blocks.ensures.are
+
+pub add_classes-requires-clause-covered : goal.add_classes-requires-clause-covered
+add_classes-requires-clause-covered c =
+    let block = c.args.self.now.plan.block in
+    let count = ap (λ (bs : List Outputs). length bs) c.as_mut_slice.ensures.value ∙ c.loop-k.invariant.count in
+    subst (λ n. length c.args.outputs.now.places.now ≤ n * block) (sym count) (subst (λ n. n ≤ length c.in_ok-blocks.blocks.items * block) c.len.ensures c.in_ok-blocks.ensures.covered)
