@@ -20,7 +20,7 @@ pub struct NothingToUndo;
 pub struct NothingToRedo;
 
 // The digests that tell whether a session is that of a journal.
-#[derive(Debug, Clone, Copy, Drop)]
+#[derive(Drop)]
 pub struct Digests {
     pub folder: [u8; 16],
     pub text: [u8; 16],

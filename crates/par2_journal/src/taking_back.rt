@@ -51,14 +51,9 @@ fn find_fingerprint(known: &[[u8; 16]], print: &[u8; 16]) -> Option<usize>
     ensures found { result ≡ position (bytes_eq print.now) known.now }
     ensures within { IfSome result (λ at. at < length known.now) }
 {
-    let mut at = 0;
-    for one in known {
-        if print.as_slice() == one.as_slice() {
-            return Some(at);
-        }
-        at += 1;
-    }
-    None
+    known
+        .iter()
+        .position(|one| print.as_slice() == one.as_slice())
 }
 
 // Whether the changes can be applied and leave folders with these fingerprints. If so they were, and became the way
