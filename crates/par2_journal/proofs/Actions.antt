@@ -1,17 +1,8 @@
 -- What an accepted action makes of a session, and a run of them.
-use Rattle.std.proofs.Common.{◌≡◌, ◌≢◌, ℕ, suc, ◌+◌, ◌<◌, ◌≤◌, List, [], ◌∷◌, length, map, get_or, drop, Ok, Err, Result, true, refl, sym, ap, subst, ◌∙◌, arith}
-use Rattle.std.specs.Prelude.{IsErr, OnErr}
-use Rattle.std.proofs.lemmas.List.{get_or-map, length-map, drop_all, drop_more}
-use Rattle.par2_spec.specs.Views.{action_of}
+use Rattle.par2_journal.proofs.Common.{◌≡◌, ◌≢◌, ℕ, suc, ◌+◌, ◌<◌, ◌≤◌, List, [], ◌∷◌, length, map, get_or, drop, Ok, Err, Result, true, refl, sym, ap, subst, ◌∙◌, arith, IsErr, OnErr, get_or-map, length-map, drop_all, drop_more, action_of, Change, Action, Do, Undo, Redo, Command, History, history_after, Run, Accepted, Passed, MayBeRefused, IsChanging, Refusal, Session, KeptSession, OnlyGrew, CanWalk, session_of_kept, session_with, session_unless, first_entry, history_of, kept_undone, kept_redone, accepted_next, refused_alike, done_of_kept, undone_of_kept, redone_of_kept, walked_is_valid, same_session, Kind, Changing, Undoing, Redoing, IsKindOf, changes_by_kind, after_commit, next_of, is_valid, LeadsToAfterAsked}
 use Rattle.par2_spec.specs.declared.commands.Action as given
-use Rattle.par2_spec.specs.Changes.{Change}
-use Rattle.par2_spec.specs.Commands.{Action, Do, Undo, Redo, Command}
-use Rattle.par2_spec.specs.History.{History, history_after, Run, Accepted, Passed, MayBeRefused, IsChanging, Refusal, NothingToUndo, NothingToRedo}
-use Rattle.par2_spec.specs.Sessions.{Session, KeptSession, OnlyGrew, CanWalk, session_of_kept, session_after, session_with, changes_asked, session_unless, first_entry, history_of, kept_undone, kept_redone}
-use Rattle.par2_spec.proofs.SessionLaws.{accepted_next, refused_alike, done_of_kept, undone_of_kept, redone_of_kept, walked_is_valid, same_session}
-use Rattle.par2_journal.specs.Ready.{Kind, Changing, Undoing, Redoing, IsKindOf, changes_by_kind, after_commit, next_of}
-use Rattle.par2_spec.specs.Opening.{is_valid}
-use Rattle.par2_spec.specs.Plans.{LeadsToAfterAsked}
+use Rattle.par2_spec.specs.History.{NothingToUndo, NothingToRedo}
+use Rattle.par2_spec.specs.Sessions.{session_after, changes_asked}
 
 -- a command that was made ready
 pub command_done : (old mid : KeptSession) (command : Command) (kind : Kind) → IsChanging (Do command) → OnlyGrew old mid → IsKindOf (Do command) kind

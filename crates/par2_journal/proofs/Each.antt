@@ -1,10 +1,5 @@
 -- A loop that has a state take items in order, where each becomes what takes it back.
-use Rattle.std.proofs.Common.{◌≡◌, ℕ, zero, suc, ◌+◌, ◌<◌, ◌≤◌, Bool, true, false, ◌&&◌, List, [], ◌∷◌, ◌++◌, length, map, take, drop, get_or, set, sym, ap, subst, ◌∙◌, append_assoc, append-nil, drop-cons, arith, length-append, length-drop}
-use Rattle.std.specs.Prelude.{reverse}
-use Rattle.std.proofs.Math.Seq.{drop-append_seam, set-append_seam, take-append_seam}
-use Rattle.std.proofs.lemmas.List.{take_more, take-append-drop, length-take-le, length-reverse, reverse-append, reverse-reverse, get_or-map, map-set, length-map, take-map, drop-map, drop_more}
-use Rattle.par2_spec.proofs.ListsLaws.{map-reverse}
-use Rattle.par2_journal.specs.Walks.{AreFirstTaken}
+use Rattle.par2_journal.proofs.Common.{◌≡◌, ℕ, zero, suc, ◌+◌, ◌<◌, ◌≤◌, Bool, true, false, ◌&&◌, List, [], ◌∷◌, ◌++◌, length, map, take, drop, get_or, set, sym, ap, subst, ◌∙◌, append_assoc, append-nil, drop-cons, arith, length-append, length-drop, reverse, drop-append_seam, set-append_seam, take-append_seam, take_more, take-append-drop, length-take-le, length-reverse, reverse-append, reverse-reverse, get_or-map, map-set, length-map, take-map, drop-map, drop_more, map-reverse, AreFirstTaken}
 
 -- a list of which the front was turned: seen by v, the front is w in reverse
 module _ {A X : Type 0} (v : A → X) (now : List A) (w rest : List X) (seen : map v now ≡ reverse w ++ rest) where

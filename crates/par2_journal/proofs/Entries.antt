@@ -1,10 +1,6 @@
 -- The entries of a session before and after one of them was turned.
-use Rattle.std.proofs.Common.{◌≡◌, ℕ, ◌+◌, ◌<◌, ◌≤◌, List, [], ◌∷◌, ◌++◌, length, get_or, set, take, drop, sym, ap, ◌∙◌, arith}
-use Rattle.std.specs.Prelude.{reverse}
-use Rattle.std.specs.List.{insert}
+use Rattle.par2_journal.proofs.Common.{◌≡◌, ℕ, ◌+◌, ◌<◌, ◌≤◌, List, [], ◌∷◌, ◌++◌, length, get_or, set, take, drop, sym, ap, ◌∙◌, arith, length-take, reverse, insert, take_all, drop_all, take_more, take_more_set, take-set, reverse-append, drop-set-lt}
 use Rattle.std.proofs.lemmas.List.Edits.{insert_end, length-insert}
-use Rattle.std.proofs.Common.{length-take}
-use Rattle.std.proofs.lemmas.List.{take_all, drop_all, take_more, take_more_set, take-set, reverse-append, drop-set-lt}
 
 module _ {X : Type 0} (xs : List X) (i : ℕ) (within : i < length xs) where
   -- the undos up to i

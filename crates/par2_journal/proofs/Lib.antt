@@ -1,3 +1,4 @@
+mod Common
 mod Entries
 mod Turns
 mod Readiness

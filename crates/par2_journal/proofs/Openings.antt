@@ -1,26 +1,15 @@
 -- What a journal opens as.
-use Rattle.std.proofs.Common.{◌≡◌, ◌⊎◌, inl, inr, ℕ, ◌+◌, ◌-◌, ◌≤◌, Bool, true, false, not, ◌&&◌, List, [], ◌∷◌, length, map, take, drop, Some, None, Result, Ok, Err, refl, sym, ap, subst, ◌∙◌, arith}
-use Rattle.std.proofs.lemmas.Bool.{and_parts, both_ways, false_from_ne_true}
-use Rattle.std.proofs.Math.Logic.{⊎_map}
-use Rattle.std.specs.Prelude.{reverse, position, IfOk, IfErr, IsFalse, if◌then◌else◌}
-use Rattle.std.specs.Cmp.Lexicographic.{pointwise}
-use Rattle.std.specs.Str.{bytes_eq}
-use Rattle.par2_spec.specs.Folders.{Folder, fingerprint}
-use Rattle.par2_spec.specs.Changes.{Change, FolderState, effect, effects, is_applicable, are_applicable, places_taken, takes_all, state_after_all, folders_after}
-use Rattle.par2_spec.specs.Sessions.{Session, KeptSession, session_of_kept}
-use Rattle.par2_spec.specs.Journals.{Journal, HalfwayPart, Spells}
+use Rattle.par2_journal.proofs.Common.{◌≡◌, ◌⊎◌, inl, inr, ℕ, ◌+◌, ◌-◌, ◌≤◌, Bool, true, false, not, ◌&&◌, List, [], ◌∷◌, length, map, take, drop, Some, None, Result, Ok, Err, refl, sym, ap, subst, ◌∙◌, arith, and_parts, both_ways, false_from_ne_true, ⊎_map, reverse, position, IfOk, IfErr, IsFalse, if◌then◌else◌, pointwise, bytes_eq, Folder, fingerprint, Change, FolderState, effect, effects, is_applicable, places_taken, takes_all, state_after_all, Session, KeptSession, session_of_kept, Journal, HalfwayPart, Spells, is_valid, journal_of, session_at, journal_with, halfway_as, AnswersDigests, AnswersOpening, OpensAsIs, takes_applicable, taken_are_applicable, more_room_all, state_files}
+use Rattle.par2_spec.specs.Changes.{are_applicable, folders_after}
 use Rattle.par2_spec.specs.Opening as defined
-use Rattle.par2_spec.specs.Opening.{leads_through, is_valid}
+use Rattle.par2_spec.specs.Opening.{leads_through}
 use Rattle.par2_spec.specs.declared.JournalFault.{JournalFault}
 use Rattle.par2_spec.specs.declared.JournalFault.TheVariants.{JournalInvalid, Memory, FolderChanged}
 use Rattle.md5.specs.Md5.{md5}
 use Rattle.par2_journal_bytes.specs.Untested.{IsUntested}
-use Rattle.par2_journal_bytes.specs.Views.{journal_of}
 use Rattle.par2_journal_bytes.specs.declared.reading.Untested.{Untested}
-use Rattle.par2_journal.specs.Opening.{session_at, journal_with, halfway_as, AnswersDigests, AnswersOpening, OpensAsIs}
 use Rattle.par2_journal.specs.declared.opening.Opened.{Opened}
 use Rattle.par2_journal.specs.declared.session.Digests.{Digests}
-use Rattle.par2_spec.proofs.FolderLaws.{takes_applicable, taken_are_applicable, more_room_all, state_files}
 use Rattle.par2_spec.proofs.StopLaws.{through_applies}
 
 -- changes that apply lead through these fingerprints where they leave them

@@ -1,19 +1,11 @@
 -- The fingerprints before changes and after each.
-use Rattle.std.proofs.Common.{◌≡◌, ℕ, List, [], ◌∷◌, length, map, Option, Some, None, Vec, Bor, refl, sym, ap, subst, ◌∙◌}
+use Rattle.par2_journal.proofs.Common.{◌≡◌, ℕ, List, [], ◌∷◌, length, map, Option, Some, None, Vec, refl, sym, ap, subst, ◌∙◌, IfSome, option_map, slice_get, unwrap_or, Global, Folder, fingerprint, Change, effect, KeptSession, OnlyGrew, IsAhead, next_changes, AreAlong, ArePrintsAlong, Prints, prints_of, Fingerprints, next_of, Next}
+use Rattle.std.proofs.Common.{Bor}
 use Rattle.std.specs.Option.{option_copied}
-use Rattle.std.specs.Prelude.{IfSome, option_map, slice_get, unwrap_or}
-use Rattle.std.specs.declared.alloc.Global.{Global}
-use Rattle.par2_spec.specs.Folders.{Folder, fingerprint}
-use Rattle.par2_spec.specs.Changes.{Change, effect, effects, folders_after}
-use Rattle.par2_spec.specs.Sessions.{KeptSession, OnlyGrew}
+use Rattle.par2_spec.specs.Changes.{effects, folders_after}
 use Rattle.par2_folder.specs.Landmarks.{AreLandmarksOf}
-use Rattle.par2_journal.specs.Ahead.{IsAhead, next_changes}
-use Rattle.par2_journal.specs.Along.{AreAlong, ArePrintsAlong, Prints, prints_of}
-use Rattle.par2_journal.specs.declared.spelling.Fingerprints.{Fingerprints}
-use Rattle.par2_journal.specs.Ready.{next_of}
 use Rattle.par2_journal.specs.declared.ahead.Ahead.{Ahead}
 use Rattle.par2_journal.specs.declared.ahead.Ahead.TheVariants as ahead
-use Rattle.par2_journal.specs.declared.ahead.Next.{Next}
 use Rattle.par2_journal.specs.declared.ahead.Next.TheVariants.{Undo, Redo}
 
 -- of the fingerprints before changes and after each, the one at the end is that after all

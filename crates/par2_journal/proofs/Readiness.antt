@@ -1,27 +1,15 @@
 -- What is asked of a session, and what it makes ready.
-use Rattle.std.proofs.Common.{◌≡◌, ◌≢◌, inl, inr, ℕ, Bool, ◌<◌, ◌≤◌, List, [], ◌∷◌, length, map, None, Some, IsTrue, Result, Ok, Err, true, refl, sym, ap, subst, ◌∙◌, arith}
-use Rattle.std.proofs.lemmas.List.{nil_from_length}
-use Rattle.std.specs.Prelude.{IfOk, IfErr, IsErrAnd}
-use Rattle.par2_spec.specs.Changes.{Change, Write, Replace, Rename, Remove, places_taken, are_applicable, effects}
-use Rattle.par2_spec.specs.Commands.{Command, Do, Undo, Redo, Repair}
-use Rattle.par2_spec.specs.Folders.{Folder}
-use Rattle.par2_spec.specs.Plans.{LeadsToAfterAsked}
+use Rattle.par2_journal.proofs.Common.{◌≡◌, ◌≢◌, inl, inr, ℕ, Bool, ◌<◌, ◌≤◌, List, [], ◌∷◌, length, map, None, Some, IsTrue, Result, Ok, Err, true, refl, sym, ap, subst, ◌∙◌, arith, nil_from_length, IfOk, IfErr, IsErrAnd, Change, Write, Rename, Remove, places_taken, are_applicable, effects, Command, Do, Undo, Redo, Repair, Folder, LeadsToAfterAsked, KeptSession, OnlyGrew, session_of_kept, changes_unless, first_entry, Step, step_of, takes_applicable, AreAlong, prints_of, MakesReady, Prepares, Fingerprints, Kind, Ready, Changing, Undoing, Redoing, CanBe, Fits, IsKindOf, IsReady, changes_by_kind, next_of, IsChanging}
+use Rattle.par2_spec.specs.Changes.{Replace}
 use Rattle.par2_spec.specs.Refusals.{refusal, after, early_refusal}
 use Rattle.par2_spec.specs.Plans as plans
 use Rattle.par2_spec.specs.History as history
-use Rattle.par2_spec.specs.Sessions.{KeptSession, OnlyGrew, session_of_kept, changes_asked, changes_unless, first_entry}
-use Rattle.par2_spec.specs.Texts.{Step, step_of}
-use Rattle.par2_spec.proofs.FolderLaws.{takes_applicable}
+use Rattle.par2_spec.specs.Sessions.{changes_asked}
 use Rattle.par2_spec.specs.declared.Fault.{Fault}
 use Rattle.par2_spec.specs.declared.Fault.TheVariants.{Memory, RepairFailed}
 use Rattle.par2_plan.specs.Drafts.{HasItsMd5s, IsDraft}
 use Rattle.par2_plan.specs.declared.draft.Draft.{Draft}
-use Rattle.par2_journal.specs.Along.{AreAlong, prints_of}
-use Rattle.par2_journal.specs.Commands.{MakesReady, Prepares}
-use Rattle.par2_journal.specs.declared.spelling.Fingerprints.{Fingerprints}
-use Rattle.par2_journal.specs.Ready.{Kind, Ready, Changing, Undoing, Redoing, CanBe, Fits, IsKindOf, IsReady, changes_by_kind, next_of}
 use Rattle.par2_journal.specs.Refusals.{MayFail, MayRefuse}
-use Rattle.par2_spec.specs.History.{IsChanging}
 use Rattle.par2_journal.proofs.Actions.{command_done, undo_done, redo_done}
 use Rattle.par2_journal.specs.declared.preparation.SessionFault.{SessionFault}
 use Rattle.par2_journal.specs.declared.preparation.SessionFault.TheVariants.{Plan, NothingToUndo, NothingToRedo}

@@ -1,15 +1,7 @@
 -- Entries that can be those of a session.
-use Rattle.std.proofs.Common.{◌≡◌, ℕ, ◌+◌, ◌<◌, ◌≤◌, List, [], ◌∷◌, ◌++◌, length, map, take, drop, get_or, sym, ap, ◌∙◌, arith}
-use Rattle.std.specs.Prelude.{reverse, sum_by}
-use Rattle.std.proofs.lemmas.List.{take_more, map_push, map-append, take-map, drop-map, reverse-reverse, take-append-drop}
+use Rattle.par2_journal.proofs.Common.{◌≡◌, ℕ, ◌+◌, ◌<◌, ◌≤◌, List, [], ◌∷◌, ◌++◌, length, map, take, drop, get_or, sym, ap, ◌∙◌, arith, reverse, sum_by, take_more, map_push, map-append, take-map, drop-map, reverse-reverse, take-append-drop, Change, FolderState, places_taken, walks, leads, walked_leads, leading_walks, map-reverse, same_tests}
 use Rattle.std.proofs.lemmas.List.Sums.{sum_by-take-drop, sum_by-append, sum_by-cons}
 use Rattle.std.proofs.lemmas.List.Sorted.{sum_by-IsPermutation, IsPermutation-reverse}
-use Rattle.par2_spec.specs.Changes.{Change, FolderState, places_taken}
-use Rattle.par2_spec.specs.Sessions.{walks}
-use Rattle.par2_spec.specs.Opening.{leads}
-use Rattle.par2_spec.proofs.SessionLaws.{walked_leads, leading_walks}
-use Rattle.par2_spec.proofs.ListsLaws.{map-reverse}
-use Rattle.par2_spec.proofs.TestLaws.{same_tests}
 
 -- with room enough it is a matter of the files
 pub walks_as_leads : (f : FolderState) (es : List (List Change)) → sum_by places_taken es ≤ f.vacant → walks f es ≡ leads f.files es

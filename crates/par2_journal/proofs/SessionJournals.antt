@@ -1,25 +1,11 @@
 -- A session's journals, by the session's fields.
-use Rattle.std.proofs.Common.{◌≡◌, ℕ, zero, suc, ◌+◌, ◌-◌, ◌<◌, ◌≤◌, List, [], ◌∷◌, ◌++◌, length, map, take, drop, get_or, set, inl, inr, Option, Some, None, Result, Ok, Err, Vec, true, refl, sym, ap, subst, ◌∙◌, append-nil, length-set, arith}
-use Rattle.std.specs.Prelude.{reverse, IfOk}
-use Rattle.std.specs.declared.alloc.Global.{Global}
-use Rattle.std.proofs.lemmas.List.{reverse-reverse, take-append-drop, length-reverse, length-take-le, reverse-append, get_or_default, drop_all, map-append, take-map}
-use Rattle.std.proofs.lemmas.Bool.{cases_lt}
-use Rattle.par2_spec.specs.Folders.{Folder, fingerprint}
-use Rattle.par2_spec.specs.Changes.{Change, FolderState, effect, folders_after, state_after_all, takes_all, way_back}
-use Rattle.par2_spec.specs.Commands.{Action}
-use Rattle.par2_spec.specs.Sessions.{KeptSession, OnlyGrew, CanWalk, walks, session_of_kept, session_after, session_with, session_unless, kept_done, kept_undone, kept_redone}
-use Rattle.par2_spec.specs.Journals.{Journal, Spells}
-use Rattle.par2_spec.specs.Opening.{settled_journal, halfway_journal, halfway_where, journals_of}
-use Rattle.par2_spec.specs.declared.Version.TheVariants.{Two}
+use Rattle.par2_journal.proofs.Common.{◌≡◌, ℕ, zero, suc, ◌+◌, ◌-◌, ◌<◌, ◌≤◌, List, [], ◌∷◌, ◌++◌, length, map, take, drop, get_or, set, inl, inr, Option, Some, None, Result, Ok, Err, Vec, true, refl, sym, ap, subst, ◌∙◌, append-nil, length-set, arith, reverse, IfOk, Global, reverse-reverse, take-append-drop, length-reverse, length-take-le, reverse-append, get_or_default, drop_all, map-append, take-map, cases_lt, Folder, fingerprint, Change, FolderState, effect, state_after_all, takes_all, Action, KeptSession, OnlyGrew, CanWalk, walks, session_of_kept, session_with, session_unless, kept_undone, kept_redone, Journal, Spells, halfway_where, Two, Kind, Changing, Undoing, Redoing, Ready, IsReady, CanBe, next_of, changes_by_kind, after_commit, next_changes, Next, Turn, SpellsAction, SpellsReady, SpellsTurn, SpellsWhere, AreSpelled, HasNext, turn_of, entries_with, halfway_with, settled_with, state_files, takes_none, next_taken, same_session, same_ok}
+use Rattle.par2_spec.specs.Changes.{folders_after, way_back}
+use Rattle.par2_spec.specs.Sessions.{session_after, kept_done}
+use Rattle.par2_spec.specs.Opening.{settled_journal, halfway_journal, journals_of}
 use Rattle.par2_journal.proofs.Readiness.{same_changes}
-use Rattle.par2_journal.specs.Ready.{Kind, Changing, Undoing, Redoing, Ready, IsReady, CanBe, next_of, changes_by_kind, after_commit}
-use Rattle.par2_journal.specs.Ahead.{next_changes}
-use Rattle.par2_journal.specs.declared.ahead.Next.{Next}
 use Rattle.par2_journal.specs.declared.ahead.Next.TheVariants as ahead
-use Rattle.par2_journal.specs.Spelling.{Turn, SpellsAction, SpellsReady, SpellsTurn, SpellsWhere, AreSpelled, HasNext, turn_of, entries_with, halfway_with, settled_with}
 use Rattle.par2_journal.specs.declared.spelling.Journals.{Journals}
-use Rattle.par2_spec.proofs.FolderLaws.{state_files, takes_none}
-use Rattle.par2_spec.proofs.SessionLaws.{next_taken, same_session, same_ok}
 use Rattle.par2_journal.proofs.Turns.{at, undone_to, redone_to, next_undo_is, next_redo_is}
 use Rattle.par2_journal.proofs.Ways.{back_length}
 

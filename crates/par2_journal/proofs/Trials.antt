@@ -1,12 +1,6 @@
 -- Changes and entries that were tried.
-use Rattle.std.proofs.Common.{◌≡◌, ℕ, ◌+◌, ◌<◌, ◌≤◌, true, false, List, ◌++◌, length, map, take, drop, get_or, set, Some, None, ap, ◌∙◌, arith}
-use Rattle.std.specs.Prelude.{is_none, reverse}
-use Rattle.par2_spec.specs.Changes.{Change, FolderState, change_refusal, inverse, state_after, takes_all, state_after_all, way_back}
-use Rattle.par2_spec.specs.Sessions.{walks}
+use Rattle.par2_journal.proofs.Common.{◌≡◌, ℕ, ◌+◌, ◌<◌, ◌≤◌, true, false, List, ◌++◌, length, map, take, drop, get_or, set, Some, None, ap, ◌∙◌, arith, is_none, reverse, Change, FolderState, change_refusal, inverse, state_after, takes_all, state_after_all, way_back, walks, changes_back, takes_none, length-take-le, length-map, map-append, take_all, drop_all, take-append-drop, AreFirstTaken, state_along, ways_back}
 use Rattle.par2_spec.specs.declared.ChangeFault.{ChangeFault}
-use Rattle.par2_spec.proofs.FolderLaws.{changes_back, takes_none}
-use Rattle.std.proofs.lemmas.List.{length-take-le, length-map, map-append, take_all, drop_all, take-append-drop}
-use Rattle.par2_journal.specs.Walks.{AreFirstTaken, state_along, ways_back}
 use Rattle.par2_journal.proofs.Each.{all_reversed, front_reversed, rest_seen, reached}
 use Rattle.par2_journal.proofs.Each as each
 use Rattle.par2_journal.proofs.Ways.{takes_next, takes_more, after_none, after_more, back_none, back_more, back_length, walks_none, walks_next, walks_more, along_none, along_one, ways_none, ways_more, ways_length, ways_walk, ways_lead, ways_twice}

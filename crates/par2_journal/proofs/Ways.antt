@@ -1,15 +1,9 @@
 -- Changes and entries that a kept folder takes in turn, and their ways back.
-use Rattle.std.proofs.Common.{◌≡◌, ℕ, ◌<◌, true, ◌&&◌, get_or, set, List, [], ◌∷◌, ◌++◌, length, refl, sym, ap, ◌∙◌, append_assoc, append-nil, length-append, arith}
-use Rattle.std.specs.Prelude.{is_none}
-use Rattle.std.proofs.lemmas.List.{get_or_default, get_or-set_same, set-set, set-get_or}
-use Rattle.std.proofs.lemmas.Bool.{and_parts, and_from}
-use Rattle.par2_spec.specs.Folders.{Folder}
-use Rattle.par2_spec.specs.Changes.{Change, FolderState, change_refusal, effect, effects, inverse, state_after, takes_all, state_after_all, way_back}
+use Rattle.par2_journal.proofs.Common.{◌≡◌, ℕ, ◌<◌, true, ◌&&◌, get_or, set, List, [], ◌∷◌, ◌++◌, length, refl, sym, ap, ◌∙◌, append_assoc, append-nil, length-append, arith, is_none, get_or_default, get_or-set_same, set-set, set-get_or, and_parts, and_from, Folder, Change, FolderState, change_refusal, effect, effects, inverse, state_after, state_files, state_all_back, way_back_taken, changes_back, way_back-append, state_after_all-append, changes_in, AreMade, WentForth}
+use Rattle.par2_spec.specs.Changes.{takes_all, state_after_all, way_back}
 use Rattle.par2_spec.specs.Sessions.{walks}
-use Rattle.par2_spec.proofs.FolderLaws.{state_files, state_all_back, way_back_taken, changes_back, way_back-append, state_after_all-append}
 use Rattle.par2_folder.specs.declared.change.Change as given
-use Rattle.par2_journal_bytes.specs.Views.{changes_in}
-use Rattle.par2_journal.specs.Walks.{state_along, ways_back, AreMade, WentForth}
+use Rattle.par2_journal.specs.Walks.{state_along, ways_back}
 
 module _ (s : FolderState) where
   pub takes_next : (c : Change) (cs : List Change) → takes_all s (c ∷ cs) ≡ (is_none (change_refusal s c) && takes_all (state_after s c) cs)

@@ -1,6 +1,6 @@
 -- The names that proofs of this crate take from elsewhere.
 
-pub use Rattle.std.proofs.Common.{Bool, Global, List, Vec, [], add-mul, add-zero, add_assoc, add_comm, ap, ap₂, arith, bit_xor, cond, drop, eqb, false, get_or, inl, inr, length, length-append, ltb, min, mul-add, mul-zero, mul_assoc, mul_comm, one-mul, pow-suc, pow_pos, refl, rules, set, subst, suc, sym, take, true, zero, zero-add, zero-mul, ℕ, ◌%◌, ◌*◌, ◌++◌, ◌+◌, ◌-◌, ◌/◌, ◌<◌, ◌^◌, ◌∙◌, ◌∷◌, ◌≡◌, ◌≢◌, ◌≤◌, ◌⊎◌}
+pub use Rattle.std.proofs.Common.{Bool, Global, List, Vec, [], add-mul, add-zero, add_assoc, add_comm, ap, ap₂, arith, bit_xor, cond, drop, eqb, false, get_or, inl, inr, length, length-append, ltb, min, mul-add, mul-zero, mul_assoc, mul_comm, one-mul, pow-suc, pow_pos, refl, replicate, rules, set, subst, suc, sym, take, true, zero, zero-add, zero-mul, ℕ, ◌%◌, ◌*◌, ◌++◌, ◌+◌, ◌-◌, ◌/◌, ◌<◌, ◌^◌, ◌∙◌, ◌∷◌, ◌≡◌, ◌≢◌, ◌≤◌, ◌⊎◌}
 pub use Rattle.std.proofs.Math.Arith.{lt_of_le-ne}
 pub use Rattle.std.proofs.Math.Nat.{div-div-eq-div-mul, div-le_self, div-mul-le_self, mod-lt, mul-le-mul_right, pow-le-pow_right}
 pub use Rattle.std.proofs.Math.Pow.{pow-lt, pow_mono}

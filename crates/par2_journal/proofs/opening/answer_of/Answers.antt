@@ -1,8 +1,5 @@
-use Rattle.std.proofs.Common.{◌≡◌, inl, inr, false, refl, sym, ap, ◌∙◌}
-use Rattle.std.specs.Str.{bytes_eq}
-use Rattle.std.proofs.lemmas.Bool.{not-false, not-true, false≢true}
+use Rattle.par2_journal.proofs.Common.{◌≡◌, inl, inr, false, refl, sym, ap, ◌∙◌, bytes_eq, not-false, not-true, false≢true, FolderState}
 use Rattle.std.proofs.lemmas.Slice.Eq.{bytes_eq-Decides}
-use Rattle.par2_spec.specs.Changes.{FolderState}
 use Rattle.par2_journal.proofs.opening.answer_of.Goals as goal
 
 pub returns-then-ne : goal.returns-then-ne

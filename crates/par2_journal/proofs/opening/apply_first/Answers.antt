@@ -1,6 +1,4 @@
-use Rattle.std.proofs.Common.{refl, arith}
-use Rattle.par2_folder.specs.Views.{change_of}
-use Rattle.par2_journal_bytes.specs.Views.{changes_in}
+use Rattle.par2_journal.proofs.Common.{refl, arith, change_of, changes_in}
 use Rattle.par2_journal.proofs.Trials.{changes_set_out, change_turned, change_refused}
 use Rattle.par2_journal.proofs.opening.apply_first.Goals as goal
 

@@ -1,5 +1,4 @@
-use Rattle.std.proofs.Common.{◌≡◌}
-use Rattle.par2_journal.specs.Walks.{AreFirstMade}
+use Rattle.par2_journal.proofs.Common.{◌≡◌, AreFirstMade}
 use Rattle.par2_journal.proofs.opening.apply_first.Given as goal
 
 abbrev pub invariant-loop-change : goal.invariant-loop-change

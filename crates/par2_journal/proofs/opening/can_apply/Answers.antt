@@ -1,5 +1,4 @@
-use Rattle.std.proofs.Common.{◌≡◌, true, sym, ◌∙◌, arith}
-use Rattle.par2_journal_bytes.specs.Views.{changes_in}
+use Rattle.par2_journal.proofs.Common.{◌≡◌, true, sym, ◌∙◌, arith, changes_in}
 use Rattle.par2_journal.proofs.Ways.{back_taken, back_leads, back_again}
 use Rattle.par2_journal.proofs.opening.can_apply.Goals as goal
 

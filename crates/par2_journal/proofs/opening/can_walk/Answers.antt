@@ -1,8 +1,6 @@
-use Rattle.std.proofs.Common.{◌++◌, ap, ◌∙◌}
-use Rattle.std.specs.Prelude.{reverse, Vec}
-use Rattle.std.specs.declared.alloc.Global.{Global}
+use Rattle.par2_journal.proofs.Common.{◌++◌, ap, ◌∙◌, reverse, Global, changes_in, entries_of}
+use Rattle.std.specs.Prelude.{Vec}
 use Rattle.par2_folder.specs.declared.change.Change.{Change}
-use Rattle.par2_journal_bytes.specs.Views.{changes_in, entries_of}
 use Rattle.par2_journal.proofs.Trials.{walked_home, entries_home}
 use Rattle.par2_journal.proofs.opening.can_walk.Goals as goal
 

@@ -1,10 +1,6 @@
-use Rattle.std.proofs.Common.{◌≡◌, ◌&&◌, ◌++◌, List, Vec, take, drop, sym, ap, ◌∙◌}
-use Rattle.std.specs.Prelude.{reverse}
-use Rattle.std.specs.declared.alloc.Global.{Global}
+use Rattle.par2_journal.proofs.Common.{◌≡◌, ◌&&◌, ◌++◌, List, Vec, take, drop, sym, ap, ◌∙◌, reverse, Global, walks, changes_in, entries_of}
 use Rattle.par2_spec.specs.Changes as defined
-use Rattle.par2_spec.specs.Sessions.{walks}
 use Rattle.par2_folder.specs.declared.change.Change.{Change}
-use Rattle.par2_journal_bytes.specs.Views.{changes_in, entries_of}
 use Rattle.par2_journal.proofs.SessionEntries.{undos_seen, redos_seen, sides_joined}
 use Rattle.par2_journal.proofs.opening.can_walk_both.Goals.{After-can_walk-forth}
 use Rattle.par2_journal.proofs.opening.can_walk_both.Goals as goal

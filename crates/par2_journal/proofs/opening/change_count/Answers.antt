@@ -1,10 +1,5 @@
-use Rattle.std.proofs.Common.{◌≡◌, ◌≤◌, length, get_or, sym, ap, arith, Vec}
-use Rattle.std.specs.declared.alloc.Global.{Global}
-use Rattle.std.proofs.lemmas.List.{length-map}
-use Rattle.par2_spec.specs.Changes.{places_taken}
+use Rattle.par2_journal.proofs.Common.{◌≡◌, ◌≤◌, length, get_or, sym, ap, arith, Vec, Global, length-map, places_taken, change_of, changes_in}
 use Rattle.par2_folder.specs.declared.change.Change.{Change}
-use Rattle.par2_folder.specs.Views.{change_of}
-use Rattle.par2_journal_bytes.specs.Views.{changes_in}
 use Rattle.par2_journal.proofs.Readiness.{places_within}
 use Rattle.par2_journal.proofs.SessionEntries.{count_more}
 use Rattle.par2_journal.proofs.opening.change_count.Goals as goal

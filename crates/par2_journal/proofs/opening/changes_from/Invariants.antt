@@ -1,6 +1,4 @@
-use Rattle.std.proofs.Common.{◌≡◌, ◌++◌, length}
-use Rattle.std.specs.Vec.Iter.{into_iter_items, into_iter_len}
-use Rattle.par2_journal_bytes.specs.Views.{changes_in}
+use Rattle.par2_journal.proofs.Common.{◌≡◌, ◌++◌, length, into_iter_items, into_iter_len, changes_in}
 use Rattle.par2_journal.proofs.opening.changes_from.Given as goal
 
 abbrev pub invariant-loop-change : goal.invariant-loop-change

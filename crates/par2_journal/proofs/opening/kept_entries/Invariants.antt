@@ -1,6 +1,4 @@
-use Rattle.std.proofs.Common.{◌≡◌, ◌++◌, length}
-use Rattle.std.specs.Vec.Iter.{into_iter_items, into_iter_len}
-use Rattle.par2_journal_bytes.specs.Views.{entries_of}
+use Rattle.par2_journal.proofs.Common.{◌≡◌, ◌++◌, length, into_iter_items, into_iter_len, entries_of}
 use Rattle.par2_journal.proofs.opening.kept_entries.Given as goal
 
 abbrev pub invariant-loop-entry : goal.invariant-loop-entry

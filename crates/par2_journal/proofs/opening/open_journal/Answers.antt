@@ -1,10 +1,5 @@
-use Rattle.std.proofs.Common.{◌≡◌, ℕ, List, sym, ap, ◌∙◌}
-use Rattle.std.proofs.lemmas.Result.{err_from_is_err_and}
-use Rattle.std.proofs.Math.Logic.{⊎_map}
+use Rattle.par2_journal.proofs.Common.{◌≡◌, ℕ, List, sym, ap, ◌∙◌, err_from_is_err_and, ⊎_map, err_again, changes_in, entries_of, halfway_of, journal_of, halfway_as, opened_of, Answers}
 use Rattle.par2_spec.specs.Opening as defined
-use Rattle.par2_spec.proofs.TestLaws.{err_again}
-use Rattle.par2_journal_bytes.specs.Views.{changes_in, entries_of, halfway_of, journal_of}
-use Rattle.par2_journal.specs.Opening.{halfway_as, opened_of, Answers}
 use Rattle.par2_journal.proofs.Openings.{opened_settled, opened_halfway}
 use Rattle.par2_journal.proofs.opening.open_journal.Goals.{In-Some}
 use Rattle.par2_journal.proofs.opening.open_journal.Goals as goal

@@ -1,6 +1,4 @@
-use Rattle.std.proofs.Common.{Err, inr, refl, ap, ◌∙◌, rules}
-use Rattle.par2_journal_bytes.specs.Views.{journal_of}
-use Rattle.par2_journal.specs.Opening.{opened_of}
+use Rattle.par2_journal.proofs.Common.{Err, inr, refl, ap, ◌∙◌, rules, journal_of, opened_of}
 use Rattle.par2_journal.proofs.Openings.{all_opened, all_refused, no_journal}
 use Rattle.par2_journal.proofs.opening.open_tested.Goals as goal
 

@@ -1,8 +1,4 @@
-use Rattle.std.proofs.Common.{refl, sym, ap, ◌∙◌}
-use Rattle.par2_spec.specs.Folders.{fingerprint}
-use Rattle.par2_spec.specs.Sessions.{KeptSession, session_of_kept}
-use Rattle.par2_spec.proofs.TestLaws.{none_if}
-use Rattle.par2_journal_bytes.specs.Views.{halfway_of, journal_of}
+use Rattle.par2_journal.proofs.Common.{refl, sym, ap, ◌∙◌, fingerprint, KeptSession, session_of_kept, none_if, halfway_of, journal_of}
 use Rattle.par2_journal.proofs.Openings.{answers}
 use Rattle.par2_journal.proofs.opening.open_untested.Goals as goal
 

@@ -1,9 +1,4 @@
-use Rattle.std.proofs.Common.{◌≡◌, sym, ap, subst, ◌∙◌}
-use Rattle.std.specs.Prelude.{IfOk}
-use Rattle.par2_spec.specs.Opening.{is_valid}
-use Rattle.par2_spec.proofs.TestLaws.{none_if}
-use Rattle.par2_journal_bytes.specs.Views.{entries_of, halfway_of, journal_of}
-use Rattle.par2_journal.specs.Opening.{session_at}
+use Rattle.par2_journal.proofs.Common.{◌≡◌, sym, ap, subst, ◌∙◌, IfOk, is_valid, none_if, entries_of, halfway_of, journal_of, session_at}
 use Rattle.par2_journal.proofs.Openings.{settled_as_is}
 use Rattle.par2_journal.proofs.opening.opens_as_is.Goals as goal
 

@@ -1,8 +1,4 @@
-use Rattle.std.proofs.Common.{◌≤◌, ◌&&◌, take, drop, ap, ◌∙◌, arith}
-use Rattle.std.specs.Prelude.{reverse, sum_by}
-use Rattle.par2_spec.specs.Changes.{places_taken}
-use Rattle.par2_spec.specs.Opening.{leads}
-use Rattle.par2_journal_bytes.specs.Views.{entries_of}
+use Rattle.par2_journal.proofs.Common.{◌≤◌, ◌&&◌, take, drop, ap, ◌∙◌, arith, reverse, sum_by, places_taken, leads, entries_of}
 use Rattle.par2_journal.proofs.SessionEntries.{walks_as_leads, places_before, places_behind}
 use Rattle.par2_journal.proofs.opening.settle.Goals as goal
 

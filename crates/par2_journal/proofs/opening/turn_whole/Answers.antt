@@ -1,9 +1,4 @@
-use Rattle.std.proofs.Common.{◌≡◌, ◌≤◌, ◌++◌, length, take, sym, ap, ◌∙◌, arith}
-use Rattle.std.specs.Prelude.{reverse}
-use Rattle.std.proofs.lemmas.List.{length-map, take_all}
-use Rattle.par2_spec.specs.Changes.{state_after_all, takes_all}
-use Rattle.par2_folder.specs.Views.{change_of}
-use Rattle.par2_journal_bytes.specs.Views.{changes_in}
+use Rattle.par2_journal.proofs.Common.{◌≡◌, ◌≤◌, ◌++◌, length, take, sym, ap, ◌∙◌, arith, reverse, length-map, take_all, state_after_all, takes_all, change_of, changes_in}
 use Rattle.par2_journal.proofs.Ways.{back_taken, back_leads}
 use Rattle.par2_journal.proofs.Trials.{turned_front, whole_turned, all_back}
 use Rattle.par2_journal.proofs.opening.turn_whole.Goals as goal

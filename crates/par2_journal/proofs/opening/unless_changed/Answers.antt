@@ -1,6 +1,4 @@
-use Rattle.std.proofs.Common.{sym, ◌∙◌}
-use Rattle.std.specs.Str.{bytes_eq}
-use Rattle.std.proofs.lemmas.Bool.{not-false}
+use Rattle.par2_journal.proofs.Common.{sym, ◌∙◌, bytes_eq, not-false}
 use Rattle.par2_journal.proofs.opening.unless_changed.Goals as goal
 
 pub returns-clause-same : goal.returns-clause-same

@@ -1,13 +1,7 @@
-use Rattle.std.proofs.Common.{◌≡◌, true, false, length, refl, get_or, set, sym, ap, ◌∙◌, arith}
+use Rattle.par2_journal.proofs.Common.{◌≡◌, true, false, length, refl, get_or, set, sym, ap, ◌∙◌, arith, with_items_is, Global, map-set_same, takes_all, state_after_all, way_back, changes_in, entries_of, AreFirstWalked}
 use Rattle.std.specs.Prelude.{Vec}
 use Rattle.std.specs.Vec.{with_items}
-use Rattle.std.proofs.lemmas.List.{with_items_is}
-use Rattle.std.specs.declared.alloc.Global.{Global}
-use Rattle.std.proofs.Math.Seq.{map-set_same}
-use Rattle.par2_spec.specs.Changes.{takes_all, state_after_all, way_back}
 use Rattle.par2_folder.specs.declared.change.Change.{Change}
-use Rattle.par2_journal_bytes.specs.Views.{changes_in, entries_of}
-use Rattle.par2_journal.specs.Walks.{AreFirstWalked}
 use Rattle.par2_journal.proofs.Trials.{entries_set_out, entry_turned, entry_refused}
 use Rattle.par2_journal.proofs.opening.walk_first.Goals as goal
 

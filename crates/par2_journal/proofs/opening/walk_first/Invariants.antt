@@ -1,5 +1,4 @@
-use Rattle.std.proofs.Common.{◌≡◌}
-use Rattle.par2_journal.specs.Walks.{AreFirstWalked}
+use Rattle.par2_journal.proofs.Common.{◌≡◌, AreFirstWalked}
 use Rattle.par2_journal.proofs.opening.walk_first.Given as goal
 
 abbrev pub invariant-loop-entry : goal.invariant-loop-entry

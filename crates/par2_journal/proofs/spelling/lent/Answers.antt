@@ -1,9 +1,6 @@
-use Rattle.std.proofs.Common.{List, [], ◌∷◌, ◌++◌, take, sym, ap, ◌∙◌}
-use Rattle.std.specs.Borrow.{Bor}
-use Rattle.std.proofs.lemmas.List.{map_push, take_more}
+use Rattle.par2_journal.proofs.Common.{List, [], ◌∷◌, ◌++◌, take, sym, ap, ◌∙◌, Bor, map_push, take_more, changes_in}
 use Rattle.par2_spec.specs.Changes as defined
 use Rattle.par2_folder.specs.declared.change.Change.{Change}
-use Rattle.par2_journal_bytes.specs.Views.{changes_in}
 use Rattle.par2_journal.proofs.spelling.lent.Goals as goal
 
 abbrev seen : Bor (List Change) → List defined.Change

@@ -1,5 +1,4 @@
-use Rattle.std.proofs.Common.{◌≡◌, take}
-use Rattle.par2_journal_bytes.specs.Views.{lent_entries_of}
+use Rattle.par2_journal.proofs.Common.{◌≡◌, take, lent_entries_of}
 use Rattle.par2_journal.proofs.spelling.lent.Given as goal
 
 abbrev pub invariant-loop-entry : goal.invariant-loop-entry

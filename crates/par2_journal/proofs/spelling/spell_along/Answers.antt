@@ -1,7 +1,4 @@
-use Rattle.std.proofs.Common.{length, ap, ◌∙◌, arith}
-use Rattle.std.proofs.lemmas.List.{length-map}
-use Rattle.par2_folder.specs.Views.{change_of}
-use Rattle.par2_journal_bytes.specs.Views.{changes_in}
+use Rattle.par2_journal.proofs.Common.{length, ap, ◌∙◌, arith, length-map, change_of, changes_in}
 use Rattle.par2_journal.proofs.Ways.{back_taken, back_leads, back_again, back_length}
 use Rattle.par2_journal.proofs.SessionJournals.{folders_count}
 use Rattle.par2_journal.proofs.spelling.spell_along.Goals as goal

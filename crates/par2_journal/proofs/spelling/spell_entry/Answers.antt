@@ -1,6 +1,4 @@
-use Rattle.std.proofs.Common.{[], length, ap, ◌∙◌, arith}
-use Rattle.std.proofs.lemmas.List.{get_or_default}
-use Rattle.par2_journal_bytes.specs.Views.{changes_in}
+use Rattle.par2_journal.proofs.Common.{[], length, ap, ◌∙◌, arith, get_or_default, changes_in}
 use Rattle.par2_journal.proofs.Ways.{entry_length, entry_taken, entry_leads, entry_again}
 use Rattle.par2_journal.proofs.SessionJournals.{folders_count}
 use Rattle.par2_journal.proofs.spelling.spell_entry.Goals as goal

@@ -1,7 +1,6 @@
 use Rattle.std.specs.Prelude.{List}
-use Rattle.std.specs.Borrow.{Bor}
+use Rattle.par2_journal.proofs.Common.{Bor, changes_in}
 use Rattle.par2_folder.specs.declared.change.Change.{Change}
-use Rattle.par2_journal_bytes.specs.Views.{changes_in}
 use Rattle.par2_journal.proofs.SessionJournals.{taken_and_one}
 use Rattle.par2_journal.proofs.spelling.with_command.Goals as goal
 

@@ -1,8 +1,4 @@
-use Rattle.std.proofs.Common.{◌≡◌, ◌≤◌, true, Ok, length, ap, arith}
-use Rattle.std.proofs.lemmas.List.{length-map}
-use Rattle.par2_spec.specs.Changes.{places_taken}
-use Rattle.par2_folder.specs.Views.{change_of}
-use Rattle.par2_journal_bytes.specs.Views.{changes_in}
+use Rattle.par2_journal.proofs.Common.{◌≡◌, ◌≤◌, true, Ok, length, ap, arith, length-map, places_taken, change_of, changes_in}
 use Rattle.par2_journal.proofs.Readiness.{places_within}
 use Rattle.par2_journal.proofs.Ways.{went_forth}
 use Rattle.par2_journal.proofs.taking_back.go_back.Goals as goal

@@ -1,12 +1,4 @@
-use Rattle.std.proofs.Common.{◌≡◌, true, length, map, sym, ap, ◌∙◌, arith}
-use Rattle.std.specs.Cmp.Lexicographic.{pointwise}
-use Rattle.std.specs.Str.{bytes_eq}
-use Rattle.std.proofs.lemmas.List.{length-map}
-use Rattle.par2_spec.specs.Folders.{fingerprint}
-use Rattle.par2_spec.specs.Changes.{takes_all, state_after_all, way_back, folders_after}
-use Rattle.par2_spec.specs.Opening.{leads_through}
-use Rattle.par2_folder.specs.Views.{change_of}
-use Rattle.par2_journal_bytes.specs.Views.{changes_in}
+use Rattle.par2_journal.proofs.Common.{◌≡◌, true, length, map, sym, ap, ◌∙◌, arith, pointwise, bytes_eq, length-map, fingerprint, takes_all, state_after_all, way_back, folders_after, leads_through, change_of, changes_in}
 use Rattle.par2_journal.proofs.Ways.{back_taken, back_leads}
 use Rattle.par2_journal.proofs.Openings.{goes, goes_not}
 use Rattle.par2_journal.proofs.taking_back.goes_back.Goals.{After-pass_through, In-Ok}

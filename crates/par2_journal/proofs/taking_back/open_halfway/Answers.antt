@@ -1,15 +1,5 @@
-use Rattle.std.proofs.Common.{◌≡◌, ◌-◌, ◌&&◌, List, Ok, Err, length, drop, sym, ap, ◌∙◌, arith}
-use Rattle.std.proofs.lemmas.List.{length-map, drop-map}
-use Rattle.std.proofs.lemmas.Result.{err_from_is_err_and}
-use Rattle.std.proofs.Math.Logic.{⊎_map}
-use Rattle.par2_spec.specs.Changes.{Change, effects}
+use Rattle.par2_journal.proofs.Common.{◌≡◌, ◌-◌, ◌&&◌, List, Ok, Err, length, drop, sym, ap, ◌∙◌, arith, length-map, drop-map, err_from_is_err_and, ⊎_map, Change, effects, is_valid, leads_through, session_of_kept, err_again, change_of, changes_in, entries_of, session_at, halfway_as, halfway_by, Answers, LeadBack}
 use Rattle.par2_spec.specs.Opening as defined
-use Rattle.par2_spec.specs.Opening.{is_valid, leads_through}
-use Rattle.par2_spec.specs.Sessions.{session_of_kept}
-use Rattle.par2_spec.proofs.TestLaws.{err_again}
-use Rattle.par2_folder.specs.Views.{change_of}
-use Rattle.par2_journal_bytes.specs.Views.{changes_in, entries_of}
-use Rattle.par2_journal.specs.Opening.{session_at, halfway_as, halfway_by, Answers, LeadBack}
 use Rattle.par2_journal.proofs.Openings.{halfway_ok, halfway_refused}
 use Rattle.par2_journal.proofs.taking_back.open_halfway.Goals.{After-take_back}
 use Rattle.par2_journal.proofs.taking_back.open_halfway.Goals as goal

@@ -1,10 +1,4 @@
-use Rattle.std.proofs.Common.{◌≡◌, ◌&&◌, true, false, ap, subst, ◌∙◌}
-use Rattle.std.proofs.lemmas.Bool.{and_from, and_right}
-use Rattle.std.proofs.Math.Logic.{⊎_map}
-use Rattle.par2_spec.specs.Changes.{FolderState}
-use Rattle.par2_spec.specs.Opening.{is_valid}
-use Rattle.par2_journal_bytes.specs.Views.{changes_in, entries_of}
-use Rattle.par2_journal.specs.Opening.{go_through, session_after_way, session_at}
+use Rattle.par2_journal.proofs.Common.{◌≡◌, ◌&&◌, true, false, ap, subst, ◌∙◌, and_from, and_right, ⊎_map, FolderState, is_valid, changes_in, entries_of, go_through, session_after_way, session_at}
 use Rattle.par2_journal.proofs.Openings.{takes_roomier, same_files_after}
 use Rattle.par2_journal.proofs.taking_back.take_back.Goals as goal
 

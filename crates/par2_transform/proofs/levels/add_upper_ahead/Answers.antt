@@ -1,6 +1,4 @@
-use Rattle.std.proofs.Common.{suc, ◌+◌, ◌-◌, ◌*◌, ◌%◌, ◌^◌, ◌<◌, ◌≡◌, inl, inr, subst, arith}
-use Rattle.par2_transform.specs.Grids.{EachColumn}
-use Rattle.par2_transform.specs.Steps.{RunAdded, AheadAdded}
+use Rattle.par2_transform.proofs.Common.{suc, ◌+◌, ◌-◌, ◌*◌, ◌%◌, ◌^◌, ◌<◌, ◌≡◌, inl, inr, subst, arith, EachColumn, RunAdded, AheadAdded}
 use Rattle.par2_transform.proofs.StepLaws.{rows_within, shifts, run_at, ahead_start, ahead_set, ahead_unset, ahead_whole}
 use Rattle.par2_transform.proofs.GridLaws.{each_start, each_then, each_so}
 use Rattle.par2_transform.proofs.levels.add_upper_ahead.Goals.{then-powers-j-eq1, else-powers-j-eq1}

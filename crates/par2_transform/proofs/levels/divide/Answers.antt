@@ -1,6 +1,4 @@
-use Rattle.std.proofs.Common.{◌+◌, ◌*◌, ◌%◌, ◌^◌, ◌≡◌, ◌∙◌, refl, arith}
-use Rattle.par2_spec.specs.Field.{mul}
-use Rattle.par2_transform.specs.Steps.{RunAddedBy, IsSpreadAbove, IsSpreadBelow, IsDivided}
+use Rattle.par2_transform.proofs.Common.{◌+◌, ◌*◌, ◌%◌, ◌^◌, ◌≡◌, ◌∙◌, refl, arith, mul, RunAddedBy, IsSpreadAbove, IsSpreadBelow, IsDivided}
 use Rattle.par2_transform.proofs.StepLaws.{rows_within, shifted, double_power, run_by_at}
 use Rattle.par2_transform.proofs.Divisions.{divided_runs}
 use Rattle.par2_transform.proofs.GridLaws.{each_then_two}

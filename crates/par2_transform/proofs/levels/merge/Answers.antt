@@ -1,7 +1,4 @@
-use Rattle.std.proofs.Common.{suc, ◌+◌, ◌*◌, ◌%◌, ◌^◌, ◌≡◌, ap, ◌∙◌, arith}
-use Rattle.par2_transform.specs.Subspaces.{point}
-use Rattle.par2_transform.specs.PowerSums.{IsMerged}
-use Rattle.par2_transform.specs.Steps.{OneRun, RunAdded, IsRaised}
+use Rattle.par2_transform.proofs.Common.{suc, ◌+◌, ◌*◌, ◌%◌, ◌^◌, ◌≡◌, ap, ◌∙◌, arith, point, IsMerged, OneRun, RunAdded, IsRaised}
 use Rattle.par2_transform.proofs.StepLaws.{rows_within, shifted, pair_places, run_starts, merged_runs, run_at, raised_at}
 use Rattle.par2_transform.proofs.GridLaws.{each_then}
 use Rattle.par2_transform.proofs.levels.merge.Goals as goal

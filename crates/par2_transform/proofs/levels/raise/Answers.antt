@@ -1,6 +1,4 @@
-use Rattle.std.proofs.Common.{suc, ◌+◌, ◌*◌, ◌%◌, ◌^◌, ◌≡◌, ◌∙◌, refl, arith}
-use Rattle.par2_spec.specs.Field.{mul}
-use Rattle.par2_transform.specs.Steps.{RunAddedBy, AheadAdded, IsRaised}
+use Rattle.par2_transform.proofs.Common.{suc, ◌+◌, ◌*◌, ◌%◌, ◌^◌, ◌≡◌, ◌∙◌, refl, arith, mul, RunAddedBy, AheadAdded, IsRaised}
 use Rattle.par2_transform.proofs.StepLaws.{rows_within, shifted, double_power, run_by_at, raised_runs}
 use Rattle.par2_transform.proofs.GridLaws.{each_then_two}
 use Rattle.par2_transform.proofs.levels.raise.Goals as goal

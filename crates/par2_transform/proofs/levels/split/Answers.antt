@@ -1,7 +1,4 @@
-use Rattle.std.proofs.Common.{suc, ◌+◌, ◌*◌, ◌%◌, ◌^◌, ◌≡◌, ap, ◌∙◌, arith}
-use Rattle.par2_transform.specs.Subspaces.{point}
-use Rattle.par2_transform.specs.Evaluations.{IsSplit}
-use Rattle.par2_transform.specs.Steps.{OnElements, OneRun, RunAdded, IsDivided}
+use Rattle.par2_transform.proofs.Common.{suc, ◌+◌, ◌*◌, ◌%◌, ◌^◌, ◌≡◌, ap, ◌∙◌, arith, point, IsSplit, OnElements, OneRun, RunAdded, IsDivided}
 use Rattle.par2_transform.proofs.StepLaws.{rows_within, shifted, pair_places, run_starts, run_at}
 use Rattle.par2_transform.proofs.Divisions.{split_runs, divided_at}
 use Rattle.par2_transform.proofs.GridLaws.{each_then}

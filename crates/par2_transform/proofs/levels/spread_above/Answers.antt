@@ -1,6 +1,4 @@
-use Rattle.std.proofs.Common.{◌+◌, ◌-◌, ◌*◌, ◌%◌, ◌^◌, ◌<◌, ◌≡◌, inr, subst, arith}
-use Rattle.par2_transform.specs.Grids.{EachColumn}
-use Rattle.par2_transform.specs.Steps.{RunAdded, IsSpreadAbove}
+use Rattle.par2_transform.proofs.Common.{◌+◌, ◌-◌, ◌*◌, ◌%◌, ◌^◌, ◌<◌, ◌≡◌, inr, subst, arith, EachColumn, RunAdded, IsSpreadAbove}
 use Rattle.par2_transform.proofs.StepLaws.{rows_within, shifts, run_at}
 use Rattle.par2_transform.proofs.Divisions.{above_start, above_set, above_unset}
 use Rattle.par2_transform.proofs.GridLaws.{each_start, each_then, each_so}

@@ -1,10 +1,4 @@
-use Rattle.std.proofs.Common.{◌≡◌, ◌<◌, ◌≤◌, ◌+◌, ◌-◌, ◌*◌, ◌∙◌, ℕ, length, min, refl, sym, ap, subst, arith}
-use Rattle.std.specs.Int.{div_ceil}
-use Rattle.std.proofs.lemmas.Grind.{div_ceil_times}
-use Rattle.par2_spec.specs.Sums.{lists_of}
-use Rattle.par2_spec.proofs.FoundLaws.{slice_begins}
-use Rattle.par2_transform.specs.Adding.{within}
-use Rattle.par2_transform.specs.Columns.{texts_of, recovered}
+use Rattle.par2_transform.proofs.Common.{◌≡◌, ◌<◌, ◌≤◌, ◌+◌, ◌-◌, ◌*◌, ◌∙◌, ℕ, length, min, refl, sym, ap, subst, arith, div_ceil, div_ceil_times, lists_of, slice_begins, within, texts_of, recovered}
 use Rattle.par2_transform.proofs.AddingLaws.{adds_none, still_within, within-above}
 use Rattle.par2_transform.proofs.GroupLaws.{next_group, all_groups}
 use Rattle.par2_transform.proofs.recovery.add_recovery_slices_at.Goals as goal

@@ -1,9 +1,4 @@
-use Rattle.std.proofs.Common.{◌≡◌, ◌+◌, ◌*◌, ◌^◌, ◌<◌, ◌≤◌, ◌∙◌, refl, sym, subst, arith, length}
-use Rattle.std.proofs.Math.Nat.{mul-le-mul_right}
-use Rattle.std.proofs.Math.Pow.{pow_mono}
-use Rattle.std.proofs.lemmas.Grind.{div_ceil_times}
-use Rattle.par2_spec.proofs.FoundLaws.{slice_begins}
-use Rattle.par2_transform.specs.Plans.{cut_of}
+use Rattle.par2_transform.proofs.Common.{◌≡◌, ◌+◌, ◌*◌, ◌^◌, ◌<◌, ◌≤◌, ◌∙◌, refl, sym, subst, arith, length, mul-le-mul_right, pow_mono, div_ceil_times, slice_begins, cut_of}
 use Rattle.par2_transform.proofs.BlockLaws.{BlocksMade, next_block}
 use Rattle.par2_transform.proofs.recovery.blocks_of.Goals as goal
 

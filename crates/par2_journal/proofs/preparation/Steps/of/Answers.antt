@@ -1,8 +1,4 @@
-use Rattle.std.proofs.Common.{[], ◌∷◌, ◌++◌, map, take, sym, ap, ◌∙◌}
-use Rattle.std.proofs.lemmas.List.{map_push, map-append, take_more}
-use Rattle.par2_spec.specs.Texts.{step_of}
-use Rattle.par2_folder.specs.Views.{change_of}
-use Rattle.par2_journal.specs.Steps.{step_view}
+use Rattle.par2_journal.proofs.Common.{[], ◌∷◌, ◌++◌, map, take, sym, ap, ◌∙◌, map_push, map-append, take_more, step_of, change_of, step_view}
 use Rattle.par2_journal.proofs.preparation.Steps.of.Goals as goal
 
 pub loop-change-preserved : goal.loop-change-preserved

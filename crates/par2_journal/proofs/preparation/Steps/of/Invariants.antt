@@ -1,7 +1,4 @@
-use Rattle.std.proofs.Common.{◌≡◌, map, take}
-use Rattle.par2_spec.specs.Texts.{step_of}
-use Rattle.par2_folder.specs.Views.{change_of}
-use Rattle.par2_journal.specs.Steps.{step_view}
+use Rattle.par2_journal.proofs.Common.{◌≡◌, map, take, step_of, change_of, step_view}
 use Rattle.par2_journal.proofs.preparation.Steps.of.Given as goal
 
 abbrev pub invariant-loop-change : goal.invariant-loop-change

@@ -1,8 +1,4 @@
-use Rattle.std.proofs.Common.{◌≢◌, [], Ok, refl, sym, ap, subst, ◌∙◌}
-use Rattle.std.proofs.lemmas.Bool.{false≢true}
-use Rattle.par2_spec.specs.History.{MayBeRefused}
-use Rattle.par2_spec.specs.Sessions.{KeptSession, session_of_kept, session_after, history_of}
-use Rattle.par2_spec.specs.Views.{action_of}
+use Rattle.par2_journal.proofs.Common.{◌≢◌, [], Ok, refl, sym, ap, subst, ◌∙◌, false≢true, MayBeRefused, KeptSession, session_of_kept, session_after, history_of, action_of}
 use Rattle.par2_spec.specs.declared.commands.Action.{Action}
 use Rattle.par2_journal.proofs.Actions.{undo_done, redo_done, undo_refused, redo_refused, of_error}
 use Rattle.par2_journal.proofs.session.Session.act.Goals as goal

@@ -1,8 +1,5 @@
-use Rattle.std.proofs.Common.{ap, sym, subst, ◌∙◌, arith}
+use Rattle.par2_journal.proofs.Common.{ap, sym, subst, ◌∙◌, arith, insert, takes_all, KeptSession}
 use Rattle.std.specs.Prelude.{IsTrue}
-use Rattle.std.specs.List.{insert}
-use Rattle.par2_spec.specs.Changes.{takes_all}
-use Rattle.par2_spec.specs.Sessions.{KeptSession}
 use Rattle.par2_journal.proofs.Entries.{length_added}
 use Rattle.par2_journal.proofs.Turns.{done_walks}
 use Rattle.par2_journal.proofs.session.Session.add.Goals as goal

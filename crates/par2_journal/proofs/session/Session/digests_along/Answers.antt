@@ -1,10 +1,4 @@
-use Rattle.std.proofs.Common.{◌∙◌, List, ℕ, Vec, subst}
-use Rattle.std.specs.Prelude.{IfOk}
-use Rattle.std.specs.declared.alloc.Global.{Global}
-use Rattle.par2_spec.specs.Changes.{Change, takes_all}
-use Rattle.par2_spec.specs.Folders.{Folder}
-use Rattle.par2_journal.specs.Along.{AreAlong}
-use Rattle.par2_journal.specs.declared.spelling.Fingerprints.{Fingerprints}
+use Rattle.par2_journal.proofs.Common.{◌∙◌, List, ℕ, Vec, subst, IfOk, Global, Change, takes_all, Folder, AreAlong, Fingerprints}
 use Rattle.par2_journal.proofs.session.Session.digests_along.Goals as goal
 
 pub and_digests-requires-clause-applies : goal.and_digests-requires-clause-applies

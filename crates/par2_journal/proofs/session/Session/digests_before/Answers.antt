@@ -1,9 +1,4 @@
-use Rattle.std.proofs.Common.{List, sym, subst, ◌∙◌}
-use Rattle.par2_spec.specs.Changes.{Change, takes_all}
-use Rattle.par2_spec.specs.Folders.{Folder}
-use Rattle.par2_spec.specs.Sessions.{KeptSession}
-use Rattle.par2_journal.specs.Ahead.{next_changes}
-use Rattle.par2_journal.specs.Along.{AreAlong}
+use Rattle.par2_journal.proofs.Common.{List, sym, subst, ◌∙◌, Change, takes_all, Folder, KeptSession, next_changes, AreAlong}
 use Rattle.par2_journal.proofs.SessionJournals.{ahead_taken}
 use Rattle.par2_journal.proofs.session.Session.digests_before.Goals as goal
 

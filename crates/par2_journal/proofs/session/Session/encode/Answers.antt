@@ -1,11 +1,4 @@
-use Rattle.std.proofs.Common.{◌-◌, ap, subst, sym, ◌∙◌, vec_len, vec_capacity}
-use Rattle.std.specs.Prelude.{IfOk}
-use Rattle.par2_spec.specs.Folders.{fingerprint}
-use Rattle.par2_spec.specs.Journals.{Journal, Spells}
-use Rattle.par2_spec.specs.Sessions.{KeptSession, session_of_kept}
-use Rattle.par2_spec.specs.Opening.{settled_journal}
-use Rattle.par2_spec.specs.declared.Version.TheVariants.{Two}
-use Rattle.par2_journal.specs.Spelling.{settled_with}
+use Rattle.par2_journal.proofs.Common.{◌-◌, ap, subst, sym, ◌∙◌, vec_len, vec_capacity, IfOk, fingerprint, Journal, Spells, KeptSession, session_of_kept, settled_journal, Two, settled_with}
 use Rattle.par2_journal.proofs.SessionJournals.{settled_at}
 use Rattle.par2_journal.proofs.session.Session.encode.Goals as goal
 

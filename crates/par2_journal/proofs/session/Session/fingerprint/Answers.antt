@@ -1,4 +1,4 @@
-use Rattle.std.proofs.Common.{refl}
+use Rattle.par2_journal.proofs.Common.{refl}
 use Rattle.par2_spec.specs.Changes.{takes_all}
 use Rattle.par2_journal.proofs.session.Session.fingerprint.Goals as goal
 

@@ -1,8 +1,4 @@
-use Rattle.std.proofs.Common.{ap, take, drop, arith}
-use Rattle.std.specs.Prelude.{reverse}
-use Rattle.par2_spec.specs.Sessions.{OnlyGrew}
-use Rattle.par2_spec.proofs.SessionLaws.{grown_can_walk}
-use Rattle.par2_journal.specs.Sessions.{kept_session}
+use Rattle.par2_journal.proofs.Common.{ap, take, drop, arith, reverse, OnlyGrew, grown_can_walk, kept_session}
 use Rattle.par2_journal.proofs.Prints.{ahead_still}
 use Rattle.par2_journal.proofs.session.Session.make_room.Goals as goal
 

@@ -1,5 +1,4 @@
-use Rattle.std.proofs.Common.{◌∙◌, map, ap}
-use Rattle.par2_spec.specs.Texts.{step_of}
+use Rattle.par2_journal.proofs.Common.{◌∙◌, map, ap, step_of}
 use Rattle.par2_journal.proofs.Readiness.{can_change}
 use Rattle.par2_journal.proofs.session.Session.make_way.Goals as goal
 

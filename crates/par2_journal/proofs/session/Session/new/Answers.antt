@@ -1,4 +1,4 @@
-use Rattle.std.proofs.Common.{refl, arith}
+use Rattle.par2_journal.proofs.Common.{refl, arith}
 use Rattle.par2_spec.specs.Sessions.{walks}
 use Rattle.par2_journal.proofs.session.Session.new.Goals as goal
 

@@ -1,8 +1,4 @@
-use Rattle.std.proofs.Common.{◌≡◌, ◌+◌, map, sym, subst, arith}
-use Rattle.par2_spec.specs.Views.{action_of}
-use Rattle.par2_spec.specs.History.{Run, Ended}
-use Rattle.par2_spec.specs.Sessions.{session_of_kept, history_of}
-use Rattle.par2_spec.proofs.SessionLaws.{run_leaves}
+use Rattle.par2_journal.proofs.Common.{◌≡◌, ◌+◌, map, sym, subst, arith, action_of, Run, Ended, session_of_kept, history_of, run_leaves}
 use Rattle.par2_journal.proofs.Actions.{within_all, read_at, none_left, on_accepted, on_refused}
 use Rattle.par2_journal.proofs.session.Session.play.Goals as goal
 

@@ -1,7 +1,4 @@
-use Rattle.std.proofs.Common.{ℕ, ◌+◌, ◌≤◌, drop, map}
-use Rattle.par2_spec.specs.History.{History, Run}
-use Rattle.par2_spec.specs.Sessions.{session_of_kept, history_of}
-use Rattle.par2_spec.specs.Views.{action_of}
+use Rattle.par2_journal.proofs.Common.{ℕ, ◌+◌, ◌≤◌, drop, map, History, Run, session_of_kept, history_of, action_of}
 use Rattle.par2_journal.proofs.session.Session.play.Given as goal
 
 -- a run of what is left is a run of all

@@ -1,8 +1,5 @@
-use Rattle.std.proofs.Common.{map, string_bytes, sym, subst}
-use Rattle.par2_spec.specs.Commands.{Create, Repair, Purge}
-use Rattle.par2_spec.specs.Views.{action_of, create_args_of}
+use Rattle.par2_journal.proofs.Common.{map, string_bytes, sym, subst, Create, Repair, Purge, action_of, create_args_of, Prepares}
 use Rattle.par2_spec.specs.declared.commands.Action.{Action}
-use Rattle.par2_journal.specs.Commands.{Prepares}
 use Rattle.par2_journal.proofs.Readiness.{refused_for}
 use Rattle.par2_journal.proofs.session.Session.prepare.Goals as goal
 

@@ -1,4 +1,4 @@
-use Rattle.par2_spec.specs.Commands.{Purge}
+use Rattle.par2_journal.proofs.Common.{Purge}
 use Rattle.par2_journal.proofs.Readiness.{plan_ready}
 use Rattle.par2_journal.proofs.session.Session.prepare_purge.Goals as goal
 

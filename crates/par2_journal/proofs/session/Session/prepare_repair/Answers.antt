@@ -1,5 +1,4 @@
-use Rattle.std.proofs.Common.{map, string_bytes}
-use Rattle.std.proofs.lemmas.Result.{err_from_is_err_and}
+use Rattle.par2_journal.proofs.Common.{map, string_bytes, err_from_is_err_and}
 use Rattle.par2_journal.proofs.Readiness.{draft_ready, draft_refused}
 use Rattle.par2_journal.proofs.session.Session.prepare_repair.Goals as goal
 

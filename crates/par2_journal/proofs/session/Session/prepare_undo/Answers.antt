@@ -1,5 +1,4 @@
-use Rattle.std.proofs.Common.{◌≡◌, ◌<◌, ◌∙◌, length, ap, arith}
-use Rattle.par2_spec.specs.Texts.{step_of}
+use Rattle.par2_journal.proofs.Common.{◌≡◌, ◌<◌, ◌∙◌, length, ap, arith, step_of}
 use Rattle.std.specs.Prelude.{map}
 use Rattle.par2_journal.proofs.Readiness.{nothing_to_undo, ready_undo}
 use Rattle.par2_journal.proofs.session.Session.prepare_undo.Goals as goal

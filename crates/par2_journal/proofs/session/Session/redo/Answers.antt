@@ -1,7 +1,4 @@
-use Rattle.std.proofs.Common.{◌<◌, ◌-◌, length, length-set, ap, ◌∙◌, arith, sym, vec_len, vec_capacity}
-use Rattle.par2_spec.specs.Sessions.{KeptSession, kept_redone}
-use Rattle.par2_journal.specs.Ready.{next_of}
-use Rattle.par2_journal.specs.Sessions.{kept_session}
+use Rattle.par2_journal.proofs.Common.{◌<◌, ◌-◌, length, length-set, ap, ◌∙◌, arith, sym, vec_len, vec_capacity, KeptSession, kept_redone, next_of, kept_session}
 use Rattle.par2_journal.proofs.Turns.{redo_taken, redone_to, redone_walks, next_redo_is}
 use Rattle.par2_journal.proofs.session.Session.redo.Goals.{After-index_mut-entry}
 use Rattle.par2_journal.proofs.session.Session.redo.Goals as goal

@@ -1,7 +1,4 @@
-use Rattle.std.proofs.Common.{◌≡◌, ◌<◌, ◌+◌, ◌-◌, length, length-set, ap, ◌∙◌, arith, sym, vec_len, vec_capacity}
-use Rattle.par2_spec.specs.Sessions.{KeptSession, kept_undone}
-use Rattle.par2_journal.specs.Ready.{next_of}
-use Rattle.par2_journal.specs.Sessions.{kept_session}
+use Rattle.par2_journal.proofs.Common.{◌≡◌, ◌<◌, ◌+◌, ◌-◌, length, length-set, ap, ◌∙◌, arith, sym, vec_len, vec_capacity, KeptSession, kept_undone, next_of, kept_session}
 use Rattle.par2_journal.proofs.Turns.{undo_taken, undone_to, undone_walks, next_undo_is}
 use Rattle.par2_journal.proofs.session.Session.undo.Goals.{After-index_mut-entry}
 use Rattle.par2_journal.proofs.session.Session.undo.Goals as goal

@@ -1,5 +1,4 @@
-use Rattle.std.proofs.Common.{ℕ, List, ◌∷◌, ◌++◌, length, ◌∙◌, ap, get_or, sym, take, drop}
-use Rattle.std.specs.Prelude.{slice_get}
+use Rattle.par2_journal.proofs.Common.{ℕ, List, ◌∷◌, ◌++◌, length, ◌∙◌, ap, get_or, sym, take, drop, slice_get}
 use Rattle.par2_journal.proofs.Prints.{prints_along}
 use Rattle.par2_journal.proofs.spelling.Fingerprints.of_list.Goals as goal
 

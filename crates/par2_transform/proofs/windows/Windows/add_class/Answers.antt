@@ -1,9 +1,4 @@
-use Rattle.std.proofs.Common.{arith, ◌+◌, ◌*◌, ◌^◌, ◌<◌, ◌≤◌, ◌∙◌, sym, subst, length}
-use Rattle.par2_spec.specs.Sums.{lists_of}
-use Rattle.par2_transform.specs.Adding.{within, AddsAt}
-use Rattle.par2_transform.specs.Blocks.{class_sum_at}
-use Rattle.par2_transform.specs.Columns.{words_at}
-use Rattle.par2_transform.specs.Plans.{cut_of}
+use Rattle.par2_transform.proofs.Common.{arith, ◌+◌, ◌*◌, ◌^◌, ◌<◌, ◌≤◌, ◌∙◌, sym, subst, length, lists_of, within, AddsAt, class_sum_at, words_at, cut_of}
 use Rattle.par2_transform.proofs.BlockLaws.{kept_block}
 use Rattle.par2_transform.proofs.WindowLaws.{blocks_have_shape}
 use Rattle.par2_transform.proofs.ClassLaws.{class_added, nothing_added, exponent-le}

@@ -1,8 +1,4 @@
-use Rattle.std.proofs.Common.{◌+◌, ◌*◌, ◌^◌, ◌<◌, ◌≤◌, ◌∙◌, sym, subst, ap, ap₂, arith, bit_xor}
-use Rattle.std.proofs.Math.Nat.{mul-le-mul_right}
-use Rattle.std.proofs.lemmas.Nat.{mul-add-lt}
-use Rattle.par2_spec.specs.Field.{mul}
-use Rattle.par2_transform.specs.Grids.{column}
+use Rattle.par2_transform.proofs.Common.{◌+◌, ◌*◌, ◌^◌, ◌<◌, ◌≤◌, ◌∙◌, sym, subst, ap, ap₂, arith, bit_xor, mul-le-mul_right, mul-add-lt, mul, column}
 use Rattle.par2_transform.proofs.windows.Windows.add_coefficient.Goals as goal
 
 pub returns : goal.returns
