@@ -20,15 +20,11 @@ use Rattle.par2_spec.proofs.WordLaws.{combination_words, word-lt}
 use Rattle.par2_recovery.specs.Products.{AreBytes}
 use Rattle.par2_transform.specs.Adding.{AddsToEach}
 use Rattle.par2_transform.specs.Columns.{recovered}
+use Rattle.par2_transform.proofs.AddingLaws.{zeros_read}
 use Rattle.par2_recovery.specs.Syndromes.{all_coefficients}
 use Rattle.par2_recovery.specs.Views.{texts_of, AreBlank}
 
 -- ---- padding
-
-zeros_read : (m i : ℕ) → get_or {A = ℕ} (replicate m 0) i 0 ≡ 0
-zeros_read zero i = refl
-zeros_read (suc m) zero = refl
-zeros_read (suc m) (suc i) = zeros_read m i
 
 padded_read : (t : List ℕ) (m i : ℕ) → get_or (t ++ replicate m 0) i 0 ≡ get_or t i 0
 padded_read [] m i = zeros_read m i

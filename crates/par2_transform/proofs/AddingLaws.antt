@@ -1,5 +1,5 @@
 -- What is added to texts.
-use Rattle.std.proofs.Common.{inl, inr, ℕ, suc, ◌+◌, ◌-◌, ◌*◌, ◌<◌, ◌≤◌, ◌≡◌, ◌≢◌, refl, sym, ap, ap₂, ◌∙◌, arith, Bool, true, false, List, ◌++◌, length, get_or, take, drop, bit_xor}
+use Rattle.std.proofs.Common.{inl, inr, ℕ, suc, ◌+◌, ◌-◌, ◌*◌, ◌<◌, ◌≤◌, ◌≡◌, ◌≢◌, refl, sym, ap, ap₂, ◌∙◌, arith, Bool, true, false, List, ◌++◌, length, get_or, take, drop, bit_xor, zero, replicate}
 use Rattle.std.specs.Prelude.{if◌then◌else◌, ◌&&◌, nat_le, nat_lt, slice_index}
 use Rattle.std.proofs.lemmas.Bool.{cases_lt, cases_eq, lt-ltb, le-ltb, le-leb}
 use Rattle.std.proofs.lemmas.Bool.Decides.{leb_tells}
@@ -264,3 +264,10 @@ adds_to_part f from to row text new order in_row in_text size each = record {
         ap₂ (λ a b. a + 256 * b) (get_or-take (2 * (to - from)) row (2 * q) 0 (omega arith)) (get_or-take (2 * (to - from)) row (2 * q + 1) 0 (omega arith))
         ∙ ap (λ m. word m row) (sym back) in
         written ∙ each q low ∙ ap₂ (λ a b. bit_xor a (f b)) was factor ∙ ap (bit_xor (word p text)) (sym (within-in from to p (f (word (p - from) row)) (omega arith) here))
+
+-- ---- zeros
+
+pub zeros_read : (m i : ℕ) → get_or {A = ℕ} (replicate m 0) i 0 ≡ 0
+zeros_read zero i = refl
+zeros_read (suc m) zero = refl
+zeros_read (suc m) (suc i) = zeros_read m i

@@ -1,5 +1,5 @@
 -- Rows and their columns.
-use Rattle.std.proofs.Common.{ℕ, zero, suc, ◌+◌, ◌-◌, ◌*◌, ◌^◌, ◌<◌, ◌≤◌, ◌≡◌, ◌⊎◌, inl, inr, refl, sym, ap, ap₂, ◌∙◌, subst, List, length, get_or, replicate, bit_xor, arith, add-mul, one-mul, mul-le-mul_right}
+use Rattle.std.proofs.Common.{ℕ, suc, ◌+◌, ◌-◌, ◌*◌, ◌^◌, ◌<◌, ◌≤◌, ◌≡◌, ◌⊎◌, inl, inr, refl, sym, ap, ap₂, ◌∙◌, subst, List, length, get_or, bit_xor, arith, add-mul, one-mul, mul-le-mul_right}
 use Rattle.std.specs.Int.Bits.{xor_zero_r}
 use Rattle.std.proofs.lemmas.Bool.{cases_eq, cases_lt}
 use Rattle.std.proofs.lemmas.List.{get_or_past}
@@ -144,11 +144,6 @@ run_added_at f levels words at to n a b m old new are fits ea eb em added =
     (subst (λ k. AddsTo (λ p. within b (b + k) p (f (word (a + (p - b)) old))) old new) em added)))
 
 -- ---- rows of zeros
-
-pub zeros_read : (m i : ℕ) → get_or {A = ℕ} (replicate m 0) i 0 ≡ 0
-zeros_read zero i = refl
-zeros_read (suc m) zero = refl
-zeros_read (suc m) (suc i) = zeros_read m i
 
 pub zero_column : (grid : Grid) → ((k : ℕ) → get_or grid.bytes k 0 ≡ 0) → (c u : ℕ) → column grid c u ≡ 0
 zero_column grid zeros c u = elim (cases_lt c grid.words) [
