@@ -1,6 +1,12 @@
 -- Rows and their columns.
-use Rattle.par2_transform.proofs.Common.{ℕ, zero, suc, ◌+◌, ◌-◌, ◌*◌, ◌^◌, ◌<◌, ◌≤◌, ◌≡◌, ◌⊎◌, inl, inr, refl, sym, ap, ap₂, ◌∙◌, subst, List, length, get_or, replicate, bit_xor, arith, add-mul, one-mul, xor_zero_r, cases_eq, cases_lt, get_or_past, word, within, AddsTo, Grid, column, AreRows, IsAdded, EachColumn, RunAddedBy}
-use Rattle.std.proofs.Common.{mul-le-mul_right}
+use Rattle.std.proofs.Common.{ℕ, suc, ◌+◌, ◌-◌, ◌*◌, ◌^◌, ◌<◌, ◌≤◌, ◌≡◌, ◌⊎◌, inl, inr, refl, sym, ap, ap₂, ◌∙◌, subst, List, length, get_or, bit_xor, arith, add-mul, one-mul, mul-le-mul_right}
+use Rattle.std.specs.Int.Bits.{xor_zero_r}
+use Rattle.std.proofs.lemmas.Bool.{cases_eq, cases_lt}
+use Rattle.std.proofs.lemmas.List.{get_or_past}
+use Rattle.par2_spec.specs.Slices.{word}
+use Rattle.par2_transform.specs.Adding.{within, AddsTo}
+use Rattle.par2_transform.specs.Grids.{Grid, column, AreRows, IsAdded, EachColumn}
+use Rattle.par2_transform.specs.Steps.{RunAddedBy}
 use Rattle.par2_transform.proofs.AddingLaws.{within-in, within-below, within-above, within_same}
 
 pub each_start : (relation : (ℕ → ℕ) → (ℕ → ℕ) → Type 0) (a : Grid) → ((f : ℕ → ℕ) → relation f f) → EachColumn relation a a
@@ -138,11 +144,6 @@ run_added_at f levels words at to n a b m old new are fits ea eb em added =
     (subst (λ k. AddsTo (λ p. within b (b + k) p (f (word (a + (p - b)) old))) old new) em added)))
 
 -- ---- rows of zeros
-
-pub zeros_read : (m i : ℕ) → get_or {A = ℕ} (replicate m 0) i 0 ≡ 0
-zeros_read zero i = refl
-zeros_read (suc m) zero = refl
-zeros_read (suc m) (suc i) = zeros_read m i
 
 pub zero_column : (grid : Grid) → ((k : ℕ) → get_or grid.bytes k 0 ≡ 0) → (c u : ℕ) → column grid c u ≡ 0
 zero_column grid zeros c u = elim (cases_lt c grid.words) [
