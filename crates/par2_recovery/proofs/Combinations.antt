@@ -1,28 +1,7 @@
 -- From added products to recovery slices.
-use Rattle.std.proofs.lemmas.Bool.{cases_lt}
-use Rattle.std.proofs.Common.{inl, inr, ℕ, zero, suc, ◌+◌, ◌-◌, ◌*◌, ◌%◌, ◌<◌, ◌≤◌, ◌≡◌, refl, sym, ap, ap₂, ◌∙◌, subst, arith, List, [], ◌∷◌, ◌++◌, length, get_or, map, replicate, bit_xor, Vec, Global}
-use Rattle.std.specs.Borrow.{Bor}
-use Rattle.std.specs.List.{range_with_len}
-use Rattle.std.specs.Int.Bits.{xor_zero_l}
-use Rattle.std.proofs.Common.{append_assoc, zero-add}
-use Rattle.std.proofs.lemmas.List.{ext_get_or, get_or-map, get_or-replicate, length-map, length_push, map-append, map_push, get_or_append_left, get_or_push, get_or_past, length-replicate}
-use Rattle.std.proofs.lemmas.List.FromFn.{map-range_with_len_more, get_or-map-range_with_len, length-map-range_with_len, length-range_with_len, get_or-range_with_len}
-use Rattle.par2_spec.specs.Field.{mul, coefficient}
+use Rattle.par2_recovery.proofs.Common.{cases_lt, inl, inr, ℕ, zero, suc, ◌+◌, ◌-◌, ◌*◌, ◌%◌, ◌<◌, ◌≤◌, ◌≡◌, refl, sym, ap, ap₂, ◌∙◌, subst, arith, List, [], ◌∷◌, ◌++◌, length, get_or, map, replicate, bit_xor, Vec, Global, append_assoc, zero-add, Bor, range_with_len, xor_zero_l, ext_get_or, get_or-map, get_or-replicate, length-map, length_push, map-append, map_push, get_or_append_left, get_or_push, get_or_past, length-replicate, map-range_with_len_more, get_or-map-range_with_len, length-map-range_with_len, length-range_with_len, get_or-range_with_len, mul, coefficient, padded, word, slice_at, dot, coefficients, combination, all_at, range-append, product-lt, field_sum, list_at, lists_of, field_sum_same, field_sum-lt, dot_sum, product_at, coefficients_are, combination_words, word-lt, AreBytes, AddsToEach, recovered, zeros_read, all_coefficients, texts_of, AreBlank}
 use Rattle.std.specs.Prelude.{take, drop}
-use Rattle.par2_spec.specs.Slices.{padded, word, slice_at}
-use Rattle.par2_spec.specs.Recovery.{dot, coefficients, combination, recovery}
-use Rattle.par2_spec.proofs.ListsLaws.{all_at, range-append}
-use Rattle.par2_spec.proofs.FieldProducts.{product-lt}
-use Rattle.par2_spec.specs.Sums.{field_sum, list_at, lists_of}
-use Rattle.par2_spec.proofs.SumLaws.{field_sum_same, field_sum-lt, dot_sum, product_at}
-use Rattle.par2_spec.proofs.UniqueLaws.{coefficients_are}
-use Rattle.par2_spec.proofs.WordLaws.{combination_words, word-lt}
-use Rattle.par2_recovery.specs.Products.{AreBytes}
-use Rattle.par2_transform.specs.Adding.{AddsToEach}
-use Rattle.par2_transform.specs.Columns.{recovered}
-use Rattle.par2_transform.proofs.AddingLaws.{zeros_read}
-use Rattle.par2_recovery.specs.Syndromes.{all_coefficients}
-use Rattle.par2_recovery.specs.Views.{texts_of, AreBlank}
+use Rattle.par2_spec.specs.Recovery.{recovery}
 
 -- ---- padding
 

@@ -53,7 +53,7 @@ pub use Rattle.par2_spec.specs.Search.{lost}
 pub use Rattle.par2_spec.specs.Slices.{padded, slice_at, word}
 pub use Rattle.par2_spec.specs.Sums.{OneChanged, field_sum, list_at, lists_of}
 pub use Rattle.par2_spec.specs.Volumes.{all_slices, id_of, in_id_order, record_of}
-pub use Rattle.par2_transform.proofs.AddingLaws.{adds_more, adds_none, adds_same, still_within, within-above, within-in, within_joined, within_same}
+pub use Rattle.par2_transform.proofs.AddingLaws.{adds_more, adds_none, adds_same, still_within, within-above, within-in, within_joined, within_same, zeros_read}
 pub use Rattle.par2_transform.proofs.GroupLaws.{adds_to_group, group_within, length-group}
 pub use Rattle.par2_transform.specs.Adding.{AddsAt, AddsToEach, AreApart, AreWholeTexts, HaveWords, LieWithin, place_at, within}
 pub use Rattle.par2_transform.specs.Columns.{recovered}

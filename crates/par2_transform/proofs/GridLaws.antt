@@ -1,12 +1,6 @@
 -- Rows and their columns.
-use Rattle.std.proofs.Common.{ℕ, suc, ◌+◌, ◌-◌, ◌*◌, ◌^◌, ◌<◌, ◌≤◌, ◌≡◌, ◌⊎◌, inl, inr, refl, sym, ap, ap₂, ◌∙◌, subst, List, length, get_or, bit_xor, arith, add-mul, one-mul, mul-le-mul_right}
-use Rattle.std.specs.Int.Bits.{xor_zero_r}
-use Rattle.std.proofs.lemmas.Bool.{cases_eq, cases_lt}
-use Rattle.std.proofs.lemmas.List.{get_or_past}
-use Rattle.par2_spec.specs.Slices.{word}
-use Rattle.par2_transform.specs.Adding.{within, AddsTo}
-use Rattle.par2_transform.specs.Grids.{Grid, column, AreRows, IsAdded, EachColumn}
-use Rattle.par2_transform.specs.Steps.{RunAddedBy}
+use Rattle.par2_transform.proofs.Common.{ℕ, suc, ◌+◌, ◌-◌, ◌*◌, ◌^◌, ◌<◌, ◌≤◌, ◌≡◌, ◌⊎◌, inl, inr, refl, sym, ap, ap₂, ◌∙◌, subst, List, length, get_or, bit_xor, arith, add-mul, one-mul, xor_zero_r, cases_eq, cases_lt, get_or_past, word, within, AddsTo, Grid, column, AreRows, IsAdded, EachColumn, RunAddedBy}
+use Rattle.std.proofs.Common.{mul-le-mul_right}
 use Rattle.par2_transform.proofs.AddingLaws.{within-in, within-below, within-above, within_same}
 
 pub each_start : (relation : (ℕ → ℕ) → (ℕ → ℕ) → Type 0) (a : Grid) → ((f : ℕ → ℕ) → relation f f) → EachColumn relation a a

@@ -1,4 +1,4 @@
-use Rattle.std.proofs.Common.{◌∙◌, ap, get_or, rules}
+use Rattle.par2_transform.proofs.Common.{◌∙◌, ap, get_or, rules}
 use Rattle.par2_transform.proofs.AddingLaws.{zeros_read}
 use Rattle.par2_transform.proofs.GridLaws.{zero_column}
 use Rattle.par2_transform.proofs.rows.Rows.new.Goals as goal
