@@ -1,5 +1,5 @@
 -- The refusal of a create, by its groups of causes.
-use Rattle.std.proofs.Common.{◌≡◌, ℕ, List, [], ◌∷◌, ◌++◌, length, map, refl, sym, ap, ap₂, ◌∙◌, Bool, true, not, ◌&&◌, Option, Some, None, nat_lt}
+use Rattle.std.proofs.Common.{◌≡◌, ℕ, List, [], ◌∷◌, ◌++◌, length, map, refl, sym, ap, ◌∙◌, Bool, true, not, ◌&&◌, Option, Some, None, nat_lt}
 use Rattle.std.specs.Prelude.{◌==◌, sum_by}
 use Rattle.std.specs.List.{list_any}
 use Rattle.std.proofs.lemmas.Simd.{map-map}
@@ -46,15 +46,6 @@ grouped heads files bad again ids long there =
     ∙ behind (first_fault heads) _ _ (
     behind bad _ _ (behind again _ _ (first-append files (ids ∷ long ∷ there ∷ [])))
     ∙ first-append (bad ∷ again ∷ first_fault files ∷ ids ∷ []) (long ∷ there ∷ []))
-
--- of the inputs' causes the first
-pub inputs_by : (folder : Folder) (size : ℕ) (inputs : List (List ℕ)) (bad again files : Option Fault) → bad_name inputs ≡ bad → duplicate_input inputs ≡ again → files_fault folder size inputs ≡ files
-    → inputs_fault folder size inputs ≡ first_fault (bad ∷ again ∷ files ∷ ids_fault (files_of folder inputs) ∷ [])
-unfolding inputs_fault
-inputs_by folder size inputs bad again files is_bad is_again are =
-    let ids = ids_fault (files_of folder inputs) in
-    ap (λ x. first_fault (x ∷ duplicate_input inputs ∷ files_fault folder size inputs ∷ ids ∷ [])) is_bad
-    ∙ ap₂ (λ x y. first_fault (bad ∷ x ∷ y ∷ ids ∷ [])) is_again are
 
 pub create_causes : (folder : Folder) (a : CreateArgs) → create_refusal folder a ≡ create_fault folder a
 unfolding create_refusal head_fault inputs_fault files_fault ids_fault create_fault
