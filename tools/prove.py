@@ -10,10 +10,10 @@ nothing is taken and nothing is kept, which is how to measure. The program is bu
 builds it by a second one too and compares, so a program that was built here isn't kept for it.
 
 The gate's own order fits many proofs, tests and edits; here one chain of libraries decides when the program is there.
-So this loads the command rt as a module and has it use another order (`in_lanes`): up to four processes share each
-proof, and the shorter the chain that waits for a crate is beside the longest one, the nicer its processes are to the
-others. RT_JOBS says how many processors there are to use. A line of progress says which crate was proved,
-how many are left, and about how long they take, by tools/seconds.txt and by how fast this run has been so far.
+So this loads the command rt as a module and has it use another order (`in_lanes`). The shorter the chain that waits for
+a crate is beside the longest one, the nicer its processes are to the others. Up to four share the proof of an urgent
+crate, any other has one. RT_JOBS says how many processors there are to use. A line of progress says which crate was
+proved, how many are left, and about how long they take, by tools/seconds.txt and by how fast this run has been so far.
 """
 import contextlib
 import math
@@ -30,8 +30,9 @@ import rt_module
 DEFAULT = "x86-64-v2"
 # The most processes that share a proof, what sharing costs, and the part of a proof that can't be shared.
 SHARERS, SHARING, ALONE = 4, 1.1, 0.3
-# How nice a crate's processes are: none for the longest chain, 4 for one of five sixths, 19 for one of half.
-STEEP, NICEST = 25, 19
+# How nice a crate's processes are: none for the longest chain, 5 for one of four fifths, 19 for one of half. What is nicer
+# than `URGENT` has one process, so that there is memory for what is urgent.
+STEEP, NICEST, URGENT = 25, 19, 6
 TOP = os.path.join(os.path.dirname(os.path.realpath(__file__)), "..")
 
 
@@ -152,7 +153,7 @@ def in_lanes(clock, memory, say):
                 if key[1] != "proof":
                     return key, 1, 0
                 nice = min(NICEST, round(STEEP * math.log(longest / chains[key[0]])))
-                jobs = min(SHARERS, clock.processors)
+                jobs = min(SHARERS, clock.processors) if nice <= URGENT else 1
                 while jobs > 1 and tasks[key][2] * (1 + 0.6 * (jobs - 1)) > room:
                     jobs -= 1
                 if not proofs or (len(proofs) < clock.processors and tasks[key][2] <= room):

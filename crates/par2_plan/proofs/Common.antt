@@ -32,7 +32,7 @@ pub use Rattle.par2_packets.specs.Recoveries.{digested, packets_from, undigested
 pub use Rattle.par2_packets.specs.Views.{file_record_of}
 pub use Rattle.par2_packets.specs.declared.record.FileRecord.{FileRecord}
 pub use Rattle.par2_plan.specs.Drafts.{HasItsMd5s, IsDraft, IsDraftBy, has_digest, wrong_digest}
-pub use Rattle.par2_plan.specs.Faults.{duplicate_input, files_fault, inputs_fault, long_name, there_already}
+pub use Rattle.par2_plan.specs.Faults.{duplicate_input, long_name, there_already}
 pub use Rattle.par2_plan.specs.Findings.{AreSized, Intact, Matched, Standing, Unmatched, matches_given, needing_standing, needs, pairs_sought, sought_by, standing_by, standings, standings_by}
 pub use Rattle.par2_plan.specs.Matches.{ArePlaces, HoldsNames, intact_by, items_where, name_cmp, passed_over}
 pub use Rattle.par2_plan.specs.Outputs.{HasExponents, HasSlices, HaveExponents, inputs_of, names_of, output_names, packets_between, put_change, volume_at, volume_if, volume_text, volumes_of}

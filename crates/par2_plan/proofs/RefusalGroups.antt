@@ -1,26 +1,12 @@
 -- The refusal of a create, by its groups of causes.
-use Rattle.std.proofs.Common.{◌≡◌, ℕ, List, [], ◌∷◌, ◌++◌, length, map, refl, sym, ap, ◌∙◌, Bool, true, not, ◌&&◌, Option, Some, None, nat_lt}
-use Rattle.std.specs.Prelude.{◌==◌, sum_by}
-use Rattle.std.specs.List.{list_any}
-use Rattle.std.proofs.lemmas.Simd.{map-map}
-use Rattle.par2_spec.specs.Faults.{first_fault, fault_where, fault_at}
-use Rattle.par2_spec.specs.Names.{is_name, is_par_name}
-use Rattle.par2_spec.specs.Slices.{slice_count}
-use Rattle.par2_spec.specs.Folders.{Folder, File, has}
-use Rattle.par2_spec.specs.Sets.{is_slice_size}
-use Rattle.par2_spec.specs.Volumes.{volume_numbers}
-use Rattle.par2_spec.specs.Commands.{CreateArgs, Create, files_of, outputs_of}
-use Rattle.par2_spec.specs.Refusals.{head_fault, bad_name, create_refusal, are_counts, refusal, early_refusal, after}
-use Rattle.par2_spec.specs.Changes.{Change, effects, are_applicable}
-use Rattle.par2_spec.specs.Plans.{changes_of, create_changes}
-use Rattle.par2_spec.proofs.ListsLaws.{any-map}
+use Rattle.par2_plan.proofs.Common.{◌≡◌, ℕ, List, [], ◌∷◌, ◌++◌, length, map, refl, sym, ap, ◌∙◌, Bool, true, not, ◌&&◌, Some, nat_lt, ◌==◌, sum_by, list_any, map-map, first_fault, fault_where, fault_at, is_name, is_par_name, slice_count, Folder, File, has, is_slice_size, volume_numbers, CreateArgs, Create, files_of, outputs_of, bad_name, are_counts, Change, effects, are_applicable, create_changes, any-map, Fault, BadSliceSize, BadCount, BadBase, NoInput, NoSuchFile, EmptyFile, TooManySlices, duplicate_input, long_name, there_already, volume_at, volumes_of, names_of, output_names}
+use Rattle.std.proofs.Common.{Option, None}
+use Rattle.par2_spec.specs.Refusals.{head_fault, create_refusal, refusal, early_refusal, after}
+use Rattle.par2_spec.specs.Plans.{changes_of}
 use Rattle.par2_spec.proofs.CreateLaws.{names_of_outputs, create_applies}
 use Rattle.par2_spec.proofs.CommandLaws.{create_leads}
 use Rattle.par2_spec.proofs.EarlyLaws.{first-append, refused_early}
-use Rattle.par2_spec.specs.declared.Fault.{Fault}
-use Rattle.par2_spec.specs.declared.Fault.TheVariants.{BadSliceSize, BadCount, BadBase, NoInput, NoSuchFile, EmptyFile, TooManySlices}
-use Rattle.par2_plan.specs.Faults.{duplicate_input, files_fault, ids_fault, inputs_fault, long_name, there_already, create_fault}
-use Rattle.par2_plan.specs.Outputs.{volume_at, volumes_of, names_of, output_names}
+use Rattle.par2_plan.specs.Faults.{files_fault, ids_fault, inputs_fault, create_fault}
 use Rattle.par2_plan.proofs.VolumeNumbers.{long_without_base}
 use Rattle.par2_plan.proofs.GoodWords.{head_passed}
 
