@@ -11,8 +11,8 @@ builds it by a second one too and compares, so a program that was built here isn
 
 The gate's own order fits many proofs, tests and edits; here one chain of libraries decides when the program is there.
 So this loads the command rt as a module and has it use another order (`in_lanes`). The shorter the chain that waits for
-a crate is beside the longest one, the nicer its processes are to the others. Up to four share the proof of an urgent
-crate, any other has one. RT_JOBS says how many processors there are to use. A line of progress says which crate was
+a crate is beside the longest one, the nicer its processes are to the others. An urgent crate begins wherever memory
+holds it, and up to four processes share its proof; any other has one, and waits for a processor. RT_JOBS says how many processors there are to use. A line of progress says which crate was
 proved, how many are left, and about how long they take, by tools/seconds.txt and by how fast this run has been so far.
 """
 import contextlib
@@ -156,7 +156,8 @@ def in_lanes(clock, memory, say):
                 jobs = min(SHARERS, clock.processors) if nice <= URGENT else 1
                 while jobs > 1 and tasks[key][2] * (1 + 0.6 * (jobs - 1)) > room:
                     jobs -= 1
-                if not proofs or (len(proofs) < clock.processors and tasks[key][2] <= room):
+                has_room = tasks[key][2] <= room and (nice <= URGENT or len(proofs) < clock.processors)
+                if not proofs or has_room:
                     return key, jobs, nice
                 break
             return None
