@@ -10,10 +10,11 @@ nothing is taken and nothing is kept, which is how to measure. The program is bu
 builds it by a second one too and compares, so a program that was built here isn't kept for it.
 
 The gate's own order fits many proofs, tests and edits; here one chain of libraries decides when the program is there.
-So this loads the command rt as a module and has it use another order (`in_lanes`). The shorter the chain that waits for
-a crate is beside the longest one, the nicer its processes are to the others. An urgent crate begins wherever memory
-holds it, and up to four processes share its proof; any other has one, and waits for a processor. RT_JOBS says how many processors there are to use. A line of progress says which crate was
-proved, how many are left, and about how long they take, by tools/seconds.txt and by how fast this run has been so far.
+So this loads the command rt as a module and has it use another order (`in_lanes`). The shorter the chain that waits
+for a crate is beside the longest one, the nicer its processes are to the others. An urgent crate begins wherever
+memory holds it, and up to four processes share its proof; any other has one, and waits for a processor. RT_JOBS says
+how many processors there are to use. A line of progress says which crate was proved, how many are left, and about how
+long they take, by tools/seconds.txt and by how fast this run has been so far.
 """
 import contextlib
 import math
