@@ -2,8 +2,8 @@
 
 use crate::calls::{are_named, name};
 use crate::set_packets::{Files, Part, folder_for, set_in};
-use par2_sets::{asides, par_files};
 use par2_folder::{Folder, Name};
+use par2_sets::{asides, par_files};
 use par2_spec::Fault;
 use std::process::Abort;
 

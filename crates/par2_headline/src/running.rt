@@ -27,10 +27,10 @@ use par2_laws::creates::{
     created_files_not_repairable_have_a_choice, repair_gives_the_created_files_back,
     repair_of_created_files_is_refused_for_few_causes,
 };
-use par2_printing::Printer;
 use par2_laws::restored_files::{
     accepted_repair_leaves_the_files, refused_repair_leaves_a_choice, repair_never_fails,
 };
+use par2_printing::Printer;
 use par2_tool::{runs_keep_one_history, stores_open_in_one_way};
 use std::alloc::Global;
 use std::io::Write;
