@@ -1,6 +1,6 @@
 //! The line of a failure.
 ghost use Rattle.std.specs.Prelude.{◌≡◌, ◌++◌, ◌∷◌, ℕ, List, codes, map, string_bytes};
-ghost use Rattle.par2_spec.specs.Texts.{error_of, fault_subject, fault_text, line, lost_text, word_at};
+ghost use Rattle.par2_spec.specs.Texts.{error_of, fault_text, line, lost_text, word_at};
 ghost use Rattle.par2_printing.specs.Views.{words_given};
 ghost use Rattle.par2_printing.specs.Writing.{Wrote};
 
@@ -88,21 +88,6 @@ fn write_shortage<W: Write>(
     )
 }
 
-// The word of which a fault speaks, and no text where it speaks of none.
-#[tactic(auto, unfolding(par2_spec::specs::Texts::fault_subject))]
-fn word_of<'a>(command: Option<&'a Command>, fault: Fault) -> &'a str
-    ensures { (missing rank : ℕ) → (fault ≡ Fault.NotRepairable missing rank → ⊥)
-        → result.now ≡ fault_subject (words_given command.entry) fault }
-{
-    match fault {
-        Fault::BadName(place)
-        | Fault::DuplicateInput(place)
-        | Fault::NoSuchFile(place)
-        | Fault::EmptyFile(place) => word(command, place),
-        _ => "",
-    }
-}
-
 // Writes the line of a refusal.
 #[tactic(auto, unfolding(par2_spec::specs::Texts::fault_text))]
 fn write_fault<W: Write>(
@@ -114,8 +99,14 @@ fn write_fault<W: Write>(
         (line (codes "par2: " ++ fault_text (words_given command.entry) fault)) result }
 {
     match fault {
+        Fault::BadName(place)
+        | Fault::DuplicateInput(place)
+        | Fault::NoSuchFile(place)
+        | Fault::EmptyFile(place) => {
+            write_reason_with(out, fault.reason(), word(command, place))
+        }
         Fault::NotRepairable { missing, rank } => write_shortage(out, missing, rank),
-        _ => write_reason_with(out, fault.reason(), word_of(command, fault)),
+        _ => write_reason(out, fault.reason()),
     }
 }
 
