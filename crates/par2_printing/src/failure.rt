@@ -88,6 +88,7 @@ fn write_shortage<W: Write>(
     )
 }
 
+// Writes the line of a refusal.
 #[tactic(auto, unfolding(par2_spec::specs::Texts::fault_text))]
 fn write_fault<W: Write>(
     out: &mut Printer<W>,
@@ -98,34 +99,14 @@ fn write_fault<W: Write>(
         (line (codes "par2: " ++ fault_text (words_given command.entry) fault)) result }
 {
     match fault {
-        Fault::BadSliceSize => write_reason(
-            out,
-            "block size must be a multiple of 4 from 4 to 1073741824",
-        ),
-        Fault::BadCount => write_reason(out, "block numbers must stay below 65536"),
-        Fault::BadBase => write_reason(out, "the base must be a file name that ends in .par2"),
-        Fault::NoInput => write_reason(out, "no input files"),
-        Fault::BadName(place) => write_reason_with(out, "bad input name: ", word(command, place)),
-        Fault::DuplicateInput(place) => write_reason_with(
-            out,
-            "input named twice: ",
-            word(command, place),
-        ),
-        Fault::NoSuchFile(place) => write_reason_with(out, "no such file: ", word(command, place)),
-        Fault::EmptyFile(place) => write_reason_with(out, "empty input: ", word(command, place)),
-        Fault::TooManySlices => write_reason(out, "more than 32768 blocks"),
-        Fault::DuplicateId => write_reason(out, "two inputs have one file id"),
-        Fault::NameTooLong => write_reason(out, "a file name would be longer than 255 bytes"),
-        Fault::Exists => write_reason(out, "an output file exists"),
-        Fault::NoPackets => write_reason(out, "no packets in the base"),
-        Fault::NoMain => write_reason(out, "no main packet"),
-        Fault::NoDescription => write_reason(out, "a file description is missing"),
-        Fault::NoChecksums => write_reason(out, "block checksums are missing"),
-        Fault::BadSet => write_reason(out, "the set is not in this profile"),
+        Fault::BadName(place)
+        | Fault::DuplicateInput(place)
+        | Fault::NoSuchFile(place)
+        | Fault::EmptyFile(place) => {
+            write_reason_with(out, fault.reason(), word(command, place))
+        }
         Fault::NotRepairable { missing, rank } => write_shortage(out, missing, rank),
-        Fault::RepairFailed => write_reason(out, "a rebuilt file has another digest"),
-        Fault::NotComplete => write_reason(out, "the files are not complete"),
-        Fault::Memory => write_reason(out, "out of memory"),
+        _ => write_reason(out, fault.reason()),
     }
 }
 

@@ -87,29 +87,43 @@ word_at [] place = []
 word_at (word ∷ words) zero = word
 word_at (word ∷ words) (suc place) = word_at words place
 
+-- what is said of a fault, before the word or the numbers of which it speaks
+unfoldable pub fault_reason : Fault → List ℕ
+fault_reason fault.BadSliceSize = codes "block size must be a multiple of 4 from 4 to 1073741824"
+fault_reason fault.BadCount = codes "block numbers must stay below 65536"
+fault_reason fault.BadBase = codes "the base must be a file name that ends in .par2"
+fault_reason fault.NoInput = codes "no input files"
+fault_reason (fault.BadName place) = codes "bad input name: "
+fault_reason (fault.DuplicateInput place) = codes "input named twice: "
+fault_reason (fault.NoSuchFile place) = codes "no such file: "
+fault_reason (fault.EmptyFile place) = codes "empty input: "
+fault_reason fault.TooManySlices = codes "more than 32768 blocks"
+fault_reason fault.DuplicateId = codes "two inputs have one file id"
+fault_reason fault.NameTooLong = codes "a file name would be longer than 255 bytes"
+fault_reason fault.Exists = codes "an output file exists"
+fault_reason fault.NoPackets = codes "no packets in the base"
+fault_reason fault.NoMain = codes "no main packet"
+fault_reason fault.NoDescription = codes "a file description is missing"
+fault_reason fault.NoChecksums = codes "block checksums are missing"
+fault_reason fault.BadSet = codes "the set is not in this profile"
+fault_reason (fault.NotRepairable missing rank) = codes "not repairable, "
+fault_reason fault.RepairFailed = codes "a rebuilt file has another digest"
+fault_reason fault.NotComplete = codes "the files are not complete"
+fault_reason fault.Memory = codes "out of memory"
+
+-- the word or the numbers of which a fault speaks
+unfoldable pub fault_subject : List (List ℕ) → Fault → List ℕ
+fault_subject words (fault.BadName place) = word_at words place
+fault_subject words (fault.DuplicateInput place) = word_at words place
+fault_subject words (fault.NoSuchFile place) = word_at words place
+fault_subject words (fault.EmptyFile place) = word_at words place
+fault_subject words (fault.NotRepairable missing rank) = lost_text missing rank
+fault_subject words other = []
+
 -- why a command is refused, the words of the command being given
 unfoldable pub fault_text : List (List ℕ) → Fault → List ℕ
-fault_text words fault.BadSliceSize = codes "block size must be a multiple of 4 from 4 to 1073741824"
-fault_text words fault.BadCount = codes "block numbers must stay below 65536"
-fault_text words fault.BadBase = codes "the base must be a file name that ends in .par2"
-fault_text words fault.NoInput = codes "no input files"
-fault_text words (fault.BadName place) = codes "bad input name: " ++ word_at words place
-fault_text words (fault.DuplicateInput place) = codes "input named twice: " ++ word_at words place
-fault_text words (fault.NoSuchFile place) = codes "no such file: " ++ word_at words place
-fault_text words (fault.EmptyFile place) = codes "empty input: " ++ word_at words place
-fault_text words fault.TooManySlices = codes "more than 32768 blocks"
-fault_text words fault.DuplicateId = codes "two inputs have one file id"
-fault_text words fault.NameTooLong = codes "a file name would be longer than 255 bytes"
-fault_text words fault.Exists = codes "an output file exists"
-fault_text words fault.NoPackets = codes "no packets in the base"
-fault_text words fault.NoMain = codes "no main packet"
-fault_text words fault.NoDescription = codes "a file description is missing"
-fault_text words fault.NoChecksums = codes "block checksums are missing"
-fault_text words fault.BadSet = codes "the set is not in this profile"
-fault_text words (fault.NotRepairable missing rank) = codes "not repairable, " ++ lost_text missing rank
-fault_text words fault.RepairFailed = codes "a rebuilt file has another digest"
-fault_text words fault.NotComplete = codes "the files are not complete"
-fault_text words fault.Memory = codes "out of memory"
+unfolding fault_reason fault_subject
+fault_text words reason = fault_reason reason ++ fault_subject words reason
 
 abbrev pub usage : List ℕ
 usage = codes "usage: par2 create -sN -cN [-fN] [--overwrite] BASE.par2 FILE.. | verify BASE [FILE..] | repair [-p] BASE [FILE..] | purge BASE | undo | redo"

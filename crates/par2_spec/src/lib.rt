@@ -19,6 +19,7 @@ pub mod stop_laws;
 
 pub use commands::{Action, Command, CreateArgs};
 use std::alloc::{AllocError, AllocFailed};
+use std::fmt::{self, Display, Formatter, Write};
 use thiserror::Error;
 
 /// The type of a packet.
@@ -34,72 +35,102 @@ pub enum Kind {
 
 /// Why a command is refused. Place 0 is the base, place k the k-th further name. Where the program prints the name at a
 /// place, the fault itself knows the place alone, and shows that.
-#[derive(Debug, Error, Clone, Copy, PartialEq, Eq, Drop)]
+#[derive(Debug, Clone, Copy, PartialEq, Eq, Drop)]
 pub enum Fault {
     /// The slice size is no multiple of 4 from 4 to 2^30.
-    #[error("block size must be a multiple of 4 from 4 to 1073741824")]
     BadSliceSize,
     /// An exponent would be above 65,535.
-    #[error("block numbers must stay below 65536")]
     BadCount,
     /// The base is no file name that ends in `.par2`.
-    #[error("the base must be a file name that ends in .par2")]
     BadBase,
     /// No input is named.
-    #[error("no input files")]
     NoInput,
     /// The name at this place can't be that of an input.
-    #[error("bad input name: {0}")]
     BadName(usize),
     /// The name at this place is that of an input before.
-    #[error("input named twice: {0}")]
     DuplicateInput(usize),
     /// No file has the name at this place.
-    #[error("no such file: {0}")]
     NoSuchFile(usize),
     /// The file of the name at this place has no bytes.
-    #[error("empty input: {0}")]
     EmptyFile(usize),
     /// The inputs have more than 32,768 slices.
-    #[error("more than 32768 blocks")]
     TooManySlices,
     /// Two inputs have one File ID.
-    #[error("two inputs have one file id")]
     DuplicateId,
     /// A file name would be longer than 255 bytes.
-    #[error("a file name would be longer than 255 bytes")]
     NameTooLong,
     /// An output exists, and may not be replaced.
-    #[error("an output file exists")]
     Exists,
     /// The base has no packets.
-    #[error("no packets in the base")]
     NoPackets,
     /// No Main packet is in the set.
-    #[error("no main packet")]
     NoMain,
     /// A target has no FileDesc packet.
-    #[error("a file description is missing")]
     NoDescription,
     /// A target has no IFSC packet.
-    #[error("block checksums are missing")]
     NoChecksums,
     /// The set is not in this profile.
-    #[error("the set is not in this profile")]
     BadSet,
     /// So many slices are lost, and the recovery slices are of a lower rank.
-    #[error("not repairable, lost {missing}, rank {rank}")]
     NotRepairable { missing: usize, rank: usize },
     /// A rebuilt file has another MD5 than its target.
-    #[error("a rebuilt file has another digest")]
     RepairFailed,
     /// A target is not complete.
-    #[error("the files are not complete")]
     NotComplete,
     /// A growth was refused.
-    #[error("out of memory")]
     Memory,
 }
+
+impl Fault {
+    ghost use Rattle.std.specs.Prelude.{◌≡◌};
+    ghost use Rattle.par2_spec.specs.Texts.{fault_reason};
+
+    /// What is said of the fault, before the word or the numbers of which it speaks.
+    #[tactic(auto, unfolding(crate::specs::Texts::fault_reason))]
+    pub fn reason(self) -> &'static str
+        ensures { result.now ≡ fault_reason self }
+    {
+        match self {
+            Fault::BadSliceSize => "block size must be a multiple of 4 from 4 to 1073741824",
+            Fault::BadCount => "block numbers must stay below 65536",
+            Fault::BadBase => "the base must be a file name that ends in .par2",
+            Fault::NoInput => "no input files",
+            Fault::BadName(_) => "bad input name: ",
+            Fault::DuplicateInput(_) => "input named twice: ",
+            Fault::NoSuchFile(_) => "no such file: ",
+            Fault::EmptyFile(_) => "empty input: ",
+            Fault::TooManySlices => "more than 32768 blocks",
+            Fault::DuplicateId => "two inputs have one file id",
+            Fault::NameTooLong => "a file name would be longer than 255 bytes",
+            Fault::Exists => "an output file exists",
+            Fault::NoPackets => "no packets in the base",
+            Fault::NoMain => "no main packet",
+            Fault::NoDescription => "a file description is missing",
+            Fault::NoChecksums => "block checksums are missing",
+            Fault::BadSet => "the set is not in this profile",
+            Fault::NotRepairable { .. } => "not repairable, ",
+            Fault::RepairFailed => "a rebuilt file has another digest",
+            Fault::NotComplete => "the files are not complete",
+            Fault::Memory => "out of memory",
+        }
+    }
+}
+
+impl Display for Fault {
+    fn fmt<W: Write>(&self, f: &mut Formatter<W>) -> fmt::Result {
+        f.write_str(self.reason())?;
+        match self {
+            Fault::BadName(place)
+            | Fault::DuplicateInput(place)
+            | Fault::NoSuchFile(place)
+            | Fault::EmptyFile(place) => write!(f, "{place}"),
+            Fault::NotRepairable { missing, rank } => write!(f, "lost {missing}, rank {rank}"),
+            _ => Ok(()),
+        }
+    }
+}
+
+impl std::error::Error for Fault {}
 
 impl From<AllocError> for Fault {
     ghost use Rattle.std.specs.Prelude.{◌≡◌};
