@@ -345,6 +345,42 @@ fn texts_that_are_names(rt: HostRuntime) {
     }
 }
 
+// Bytes, the name that they are, and whether that ends in `.par2`.
+const NAMED_BYTES: &[(&[u8], Option<(&str, bool)>)] = &[
+    (b"a.par2", Some(("a.par2", true))),
+    (b"a.vol0+1.PaR2", Some(("a.vol0+1.PaR2", true))),
+    (b".par2", Some((".par2", true))),
+    (b"par2", Some(("par2", false))),
+    (b"a.par2.gz", Some(("a.par2.gz", false))),
+    (b"\xc3\xa4", Some(("\u{e4}", false))),
+    (b"\xc3", None),
+    (b"a/b", None),
+];
+
+// Whether the bytes are that name or none.
+fn is_named(bytes: &[u8], wanted: Option<(&str, bool)>) -> bool {
+    match (Name::from_bytes(bytes), wanted) {
+        (Some(name), Some((text, is_par))) => name.as_str() == text && name.is_par() == is_par,
+        (None, None) => true,
+        _ => false,
+    }
+}
+
+#[test]
+fn bytes_that_are_names(rt: HostRuntime) {
+    for (k, (bytes, wanted)) in NAMED_BYTES.iter().enumerate() {
+        assert!(rt; is_named(bytes, *wanted), "bytes {k}");
+    }
+}
+
+#[test]
+fn sizes_and_bytes_of_a_folder(rt: HostRuntime) {
+    let folder = folder_of(&rt, &[("b", b"2"), ("a", b"bc")], 1);
+    assert!(rt; folder.len() == 2 && vacant(&rt, 3).len() == 0);
+    assert!(rt; folder.bytes_of(&name(&rt, "a")) == b"bc".as_slice());
+    assert!(rt; folder.bytes_of(&name(&rt, "c")) == b"".as_slice());
+}
+
 // The changes of the last case.
 fn accepted(rt: &(impl Abort + AllocGlobal)) -> Vec<Change> {
     let mut changes = Vec::new(rt.alloc());

@@ -2,8 +2,8 @@ ghost use Rattle.std.specs.Prelude.{◌≤◌, length};
 
 use crate::pairs::pairs_of;
 use par2_slices::{
-    Pair, Rolling, Spot, Wanted, crc32, find, find_among, padded_crc32, padded_md5, pair_of,
-    slice_bytes, slice_count, slice_into,
+    Pair, Rolling, Spot, Wanted, crc32, find, find_among, is_slice_size, padded_crc32, padded_md5,
+    pair_of, slice_bytes, slice_count, slice_into,
 };
 use std::process::Abort;
 
@@ -40,6 +40,16 @@ fn slices_of_a_file(rt: HostRuntime) {
     let counts = [slice_count(0, 4), slice_count(8, 4), slice_count(9, 4)];
     assert!(rt; counts == [0, 2, 3]);
     assert!(rt; slice_bytes(b"abcdef", 4, 1) == b"ef".as_slice());
+}
+
+#[test]
+fn sizes_of_slices(rt: HostRuntime) {
+    for size in [4, 8, 512, 1_000_000, 1 << 30] {
+        assert!(rt; is_slice_size(size), "{size}");
+    }
+    for size in [0, 2, 5, 1_000_002, (1 << 30) + 4, u64::MAX] {
+        assert!(rt; !is_slice_size(size), "{size}");
+    }
 }
 
 #[test]
