@@ -3,6 +3,9 @@ use Rattle.par2_laws.proofs.Common.{◌≡◌, ℕ, List, [], ◌∷◌, refl, t
 use Rattle.std.specs.Prelude.{Option, Some, None}
 use Rattle.std.proofs.lemmas.Slice.Eq.{bytes_eq-Decides}
 use Rattle.par2_spec.specs.Refusals.{repair_refusal}
+use Rattle.par2_spec.specs.Rank.{IsRepairable}
+use Rattle.par2_spec.proofs.RankLaws.{repairable-iff}
+use Rattle.par2_laws.specs.Creates.{may_refuse}
 
 -- the answer by whether the set is repairable, a name is too long, and the digests are right
 abbrev answer : (repairable long right : Bool) (missing rank : ℕ) → Option Fault
@@ -28,9 +31,22 @@ by_failed false long right m r e = cc
 by_unrepairable : (repairable long right : Bool) (m r missing rank : ℕ) → answer repairable long right m r ≡ Some (NotRepairable missing rank) → repairable ≡ false
 by_unrepairable repairable long right m r missing rank e = not-true repairable (first_cause (not repairable) long (not right) m r missing rank e)
 
+by_few : (repairable long right : Bool) (m r : ℕ) (fault : Fault) → (fault ≡ RepairFailed → ⊥) → answer repairable long right m r ≡ Some fault → may_refuse fault ≡ true
+by_few true false false m r fault never e = absurd (never (cc))
+by_few true false true m r fault never e = cc
+by_few true true right m r fault never e = cc
+by_few false long right m r fault never e = cc
+
 -- a file that is written has its digest
 abbrev pub has_digest : Target × List ℕ → Bool
 has_digest c = bytes_eq (md5 c.1) c.0.md5
+
+-- each of them
+have_digests : (cs : List (Target × List ℕ)) → list_all has_digest cs ≡ true → AllByRecursion (λ c. md5 c.1 ≡ c.0.md5) cs
+have_digests [] h = tt
+have_digests (c ∷ cs) h =
+    let both = and_parts (has_digest c) (list_all has_digest cs) h in
+    ((bytes_eq-Decides (md5 c.1) c.0.md5).0 both.0, have_digests cs both.1)
 
 module _ (folder : Folder) (set : ParSet) (searched : List (List ℕ)) where
   abbrev missing : List ℕ
@@ -42,21 +58,21 @@ module _ (folder : Folder) (set : ParSet) (searched : List (List ℕ)) where
   abbrev right : Bool
   right = list_all has_digest (rebuilt_targets folder set searched)
 
-  pub accepted_by : repair_refusal folder set searched ≡ None → (repairable ≡ true) × (right ≡ true)
-  unfolding repair_refusal
-  accepted_by e = by_none repairable _ right _ _ e
+  determined : (repairable ≡ true) → IsRepairable missing (survivors set)
+  determined = (repairable-iff missing (survivors set)).0
 
-  pub failed_by : repair_refusal folder set searched ≡ Some RepairFailed → (repairable ≡ true) × (right ≡ false)
+  pub accepted_by : repair_refusal folder set searched ≡ None → IsRepairable missing (survivors set) × AllByRecursion (λ c. md5 c.1 ≡ c.0.md5) (rebuilt_targets folder set searched)
   unfolding repair_refusal
-  failed_by e = by_failed repairable _ right _ _ e
+  accepted_by e = let r = by_none repairable _ right _ _ e in (determined r.0, have_digests (rebuilt_targets folder set searched) r.1)
+
+  pub failed_by : repair_refusal folder set searched ≡ Some RepairFailed → IsRepairable missing (survivors set) × (right ≡ false)
+  unfolding repair_refusal
+  failed_by e = let r = by_failed repairable _ right _ _ e in (determined r.0, r.1)
 
   pub unrepairable_by : (missing rank : ℕ) → repair_refusal folder set searched ≡ Some (NotRepairable missing rank) → repairable ≡ false
   unfolding repair_refusal
   unrepairable_by m r e = by_unrepairable repairable _ _ _ _ m r e
 
--- each of them
-pub have_digests : (cs : List (Target × List ℕ)) → list_all has_digest cs ≡ true → AllByRecursion (λ c. md5 c.1 ≡ c.0.md5) cs
-have_digests [] h = tt
-have_digests (c ∷ cs) h =
-    let both = and_parts (has_digest c) (list_all has_digest cs) h in
-    ((bytes_eq-Decides (md5 c.1) c.0.md5).0 both.0, have_digests cs both.1)
+  pub refused_by : (fault : Fault) → (fault ≡ RepairFailed → ⊥) → repair_refusal folder set searched ≡ Some fault → may_refuse fault ≡ true
+  unfolding repair_refusal
+  refused_by fault never e = by_few repairable _ right _ _ fault never e

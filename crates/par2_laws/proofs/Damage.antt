@@ -6,7 +6,10 @@ use Rattle.par2_spec.specs.Folders.{laid_over}
 use Rattle.par2_spec.specs.Packets.{accepted_after}
 use Rattle.par2_spec.specs.Volumes.{volumes}
 use Rattle.par2_spec.specs.Refusals.{after}
-use Rattle.par2_laws.proofs.CreateInputs.{passes}
+use Rattle.par2_laws.proofs.CreateInputs.{passes, inputs_taken}
+use Rattle.par2_laws.proofs.VolumeFolders.{set_made}
+use Rattle.par2_spec.specs.Sets.{MadeFrom}
+use Rattle.par2_spec.specs.Volumes.{in_id_order}
 
 -- ---- what stands under a name
 
@@ -91,10 +94,13 @@ module _ (before damaged : Folder) (a : CreateArgs) (base : List ℕ) (accepted 
         | inr r ↦ absurd (false≢true (sym r.0 ∙ damage.written))
       ]
 
-  pub holds_volumes : HoldsVolumes damaged base a.slice inputs
+  holds_volumes : HoldsVolumes damaged base a.slice inputs
   holds_volumes = record {
     of_base = written (bytes_of damaged base) base_written;
     of_others = all_weaker (λ name. (is_par_name name && not (bytes_eq name base)) ≡ true) (λ name. IsVolumeOrOther a.slice inputs (bytes_of damaged name))
         (λ name h. each_par name (and_parts (is_par_name name) (not (bytes_eq name base)) h).0) (other_par_names damaged base)
         (recursion_from_All (λ name. (is_par_name name && not (bytes_eq name base)) ≡ true) (other_par_names damaged base) (filter_passes (λ name. is_par_name name && not (bytes_eq name base)) (names damaged)));
   }
+
+  pub set_of_files : MadeFrom damaged base (in_id_order inputs) a.slice
+  set_of_files = set_made damaged base a.slice inputs (inputs_taken before a accepted fits) holds_volumes

@@ -2,7 +2,8 @@
 use Rattle.par2_laws.proofs.Common.{◌≡◌, ℕ, ◌<◌, ◌^◌, false, List, [], ◌∷◌, ◌++◌, length, map, Some, refl, sym, ap, ◌∙◌, subst, arith, IsTrue, ◌==◌, AllByRecursion, Contains, list_any, length-map, recursion_from_All, All-contains_itself, same_Some, none-some, length-md5, Kind, Main, FileDesc, Ifsc, Recovery, Creator, Other, AreBytes, recovery, File, Packet, MainBody, DescBody, IfscBody, RecoveryBody, FileRecord, all_slices, main_bytes, desc_bytes, ifsc_bytes, recovery_bytes, AreDescribed, is_read, IsOf, all-append, of_contained}
 use Rattle.par2_spec.specs.Packets.{read_main, read_desc, read_ifsc, read_recovery}
 use Rattle.par2_spec.specs.Volumes.{record_of, packets_of}
-use Rattle.par2_laws.proofs.Laws.{AreRead}
+use Rattle.par2_spec.proofs.WrittenBodies.{main_reads, ifsc_reads, recovery_reads}
+use Rattle.par2_spec.proofs.WrittenNames.{desc_reads}
 use Rattle.par2_laws.proofs.Bytes.{pairs_are}
 
 -- ---- what holds of each
@@ -85,74 +86,74 @@ unfolding record_of
 ids_sixteen s [] = tt
 ids_sixteen s (file ∷ files) = (length-md5 _, ids_sixteen s files)
 
-pub main_written : AreRead → (s : ℕ) (files : List File) → AreDescribed s files → read_main Main (main_bytes s (map (record_of s) files)) ≡ Some (main_of_files s files)
+pub main_written : (s : ℕ) (files : List File) → AreDescribed s files → read_main Main (main_bytes s (map (record_of s) files)) ≡ Some (main_of_files s files)
 unfolding main_of_files
-main_written laws s files d =
-    laws.main s (map (record_of s) files) d.slice_size (subst (λ n. n < 2 ^ 32) (sym (length-map files (record_of s))) d.few) (ids_sixteen s files)
+main_written s files d =
+    main_reads s (map (record_of s) files) d.slice_size (subst (λ n. n < 2 ^ 32) (sym (length-map files (record_of s))) d.few) (ids_sixteen s files)
 
-pub desc_written : AreRead → (s : ℕ) (file : File) → IsDescribed file → read_desc FileDesc (desc_bytes (record_of s file)) ≡ Some (desc_of_file s file)
+pub desc_written : (s : ℕ) (file : File) → IsDescribed file → read_desc FileDesc (desc_bytes (record_of s file)) ≡ Some (desc_of_file s file)
 unfolding record_of desc_of_file
-desc_written laws s file d = laws.desc (record_of s file) (length-md5 _) (length-md5 _) (length-md5 _) d.size d.name
+desc_written s file d = desc_reads (record_of s file) (length-md5 _) (length-md5 _) (length-md5 _) d.size d.name
 
-pub ifsc_written : AreRead → (s : ℕ) (file : File) → IsDescribed file → read_ifsc Ifsc (ifsc_bytes (record_of s file)) ≡ Some (ifsc_of_file s file)
+pub ifsc_written : (s : ℕ) (file : File) → IsDescribed file → read_ifsc Ifsc (ifsc_bytes (record_of s file)) ≡ Some (ifsc_of_file s file)
 unfolding record_of ifsc_of_file
-ifsc_written laws s file d = laws.ifsc (record_of s file) (length-md5 _) (pairs_are s file.1 d.bytes)
+ifsc_written s file d = ifsc_reads (record_of s file) (length-md5 _) (pairs_are s file.1 d.bytes)
 
-pub main_said : AreRead → (s : ℕ) (files : List File) → AreDescribed s files → (kind : Kind) (body : List ℕ) → Says s files kind body
+pub main_said : (s : ℕ) (files : List File) → AreDescribed s files → (kind : Kind) (body : List ℕ) → Says s files kind body
     → (m : MainBody) → read_main kind body ≡ Some m → m ≡ main_of_files s files
 unfolding read_main
-main_said laws s files d Main body says m h = sym (same_Some (main_of_files s files) m (sym (ap (read_main Main) says ∙ main_written laws s files d) ∙ h))
-main_said laws s files d FileDesc body says m h = absurd (none-some m h)
-main_said laws s files d Ifsc body says m h = absurd (none-some m h)
-main_said laws s files d Recovery body says m h = absurd (none-some m h)
-main_said laws s files d Creator body says m h = absurd (none-some m h)
-main_said laws s files d (Other bytes) body says m h = absurd (none-some m h)
+main_said s files d Main body says m h = sym (same_Some (main_of_files s files) m (sym (ap (read_main Main) says ∙ main_written s files d) ∙ h))
+main_said s files d FileDesc body says m h = absurd (none-some m h)
+main_said s files d Ifsc body says m h = absurd (none-some m h)
+main_said s files d Recovery body says m h = absurd (none-some m h)
+main_said s files d Creator body says m h = absurd (none-some m h)
+main_said s files d (Other bytes) body says m h = absurd (none-some m h)
 
 -- it is said of one of the files
 abbrev pub IsOfOne : {B : Type 0} → (File → B) → List File → B → Type 0
 IsOfOne of files x = (file : File) × Contains files file × (x ≡ of file)
 
-pub desc_said : AreRead → (s : ℕ) (files : List File) → AreDescribed s files → (kind : Kind) (body : List ℕ) → Says s files kind body
+pub desc_said : (s : ℕ) (files : List File) → AreDescribed s files → (kind : Kind) (body : List ℕ) → Says s files kind body
     → (x : DescBody) → read_desc kind body ≡ Some x → IsOfOne (desc_of_file s) files x
 unfolding read_desc
-desc_said laws s files d FileDesc body says x h =
+desc_said s files d FileDesc body says x h =
     let file = says.0 in
     let told = of_contained IsDescribed files file (each_described s files d) says.1 in
-    (file, says.1, sym (same_Some (desc_of_file s file) x (sym (ap (read_desc FileDesc) says.2 ∙ desc_written laws s file told) ∙ h)))
-desc_said laws s files d Main body says x h = absurd (none-some x h)
-desc_said laws s files d Ifsc body says x h = absurd (none-some x h)
-desc_said laws s files d Recovery body says x h = absurd (none-some x h)
-desc_said laws s files d Creator body says x h = absurd (none-some x h)
-desc_said laws s files d (Other bytes) body says x h = absurd (none-some x h)
+    (file, says.1, sym (same_Some (desc_of_file s file) x (sym (ap (read_desc FileDesc) says.2 ∙ desc_written s file told) ∙ h)))
+desc_said s files d Main body says x h = absurd (none-some x h)
+desc_said s files d Ifsc body says x h = absurd (none-some x h)
+desc_said s files d Recovery body says x h = absurd (none-some x h)
+desc_said s files d Creator body says x h = absurd (none-some x h)
+desc_said s files d (Other bytes) body says x h = absurd (none-some x h)
 
-pub ifsc_said : AreRead → (s : ℕ) (files : List File) → AreDescribed s files → (kind : Kind) (body : List ℕ) → Says s files kind body
+pub ifsc_said : (s : ℕ) (files : List File) → AreDescribed s files → (kind : Kind) (body : List ℕ) → Says s files kind body
     → (x : IfscBody) → read_ifsc kind body ≡ Some x → IsOfOne (ifsc_of_file s) files x
 unfolding read_ifsc
-ifsc_said laws s files d Ifsc body says x h =
+ifsc_said s files d Ifsc body says x h =
     let file = says.0 in
     let told = of_contained IsDescribed files file (each_described s files d) says.1 in
-    (file, says.1, sym (same_Some (ifsc_of_file s file) x (sym (ap (read_ifsc Ifsc) says.2 ∙ ifsc_written laws s file told) ∙ h)))
-ifsc_said laws s files d Main body says x h = absurd (none-some x h)
-ifsc_said laws s files d FileDesc body says x h = absurd (none-some x h)
-ifsc_said laws s files d Recovery body says x h = absurd (none-some x h)
-ifsc_said laws s files d Creator body says x h = absurd (none-some x h)
-ifsc_said laws s files d (Other bytes) body says x h = absurd (none-some x h)
+    (file, says.1, sym (same_Some (ifsc_of_file s file) x (sym (ap (read_ifsc Ifsc) says.2 ∙ ifsc_written s file told) ∙ h)))
+ifsc_said s files d Main body says x h = absurd (none-some x h)
+ifsc_said s files d FileDesc body says x h = absurd (none-some x h)
+ifsc_said s files d Recovery body says x h = absurd (none-some x h)
+ifsc_said s files d Creator body says x h = absurd (none-some x h)
+ifsc_said s files d (Other bytes) body says x h = absurd (none-some x h)
 
 -- the recovery slice is the true one
 abbrev pub IsTrueSlice : ℕ → List File → RecoveryBody → Type 0
 IsTrueSlice s files r = r.bytes ≡ recovery s (all_slices s files) r.exponent
 
-pub recovery_said : AreRead → (s : ℕ) (files : List File) → (kind : Kind) (body : List ℕ) → Says s files kind body
+pub recovery_said : (s : ℕ) (files : List File) → (kind : Kind) (body : List ℕ) → Says s files kind body
     → (r : RecoveryBody) → read_recovery kind body ≡ Some r → IsTrueSlice s files r
 unfolding read_recovery
-recovery_said laws s files Recovery body says r h =
+recovery_said s files Recovery body says r h =
     let e = says.0 in
     let bytes = recovery s (all_slices s files) e in
     let small : e < 2 ^ 32 = omega (arith, says.1) in
     let written : RecoveryBody = record { exponent = e; bytes = bytes } in
-    subst (IsTrueSlice s files) (same_Some written r (sym (ap (read_recovery Recovery) says.2 ∙ laws.recovery e bytes small) ∙ h)) refl
-recovery_said laws s files Main body says r h = absurd (none-some r h)
-recovery_said laws s files FileDesc body says r h = absurd (none-some r h)
-recovery_said laws s files Ifsc body says r h = absurd (none-some r h)
-recovery_said laws s files Creator body says r h = absurd (none-some r h)
-recovery_said laws s files (Other bytes) body says r h = absurd (none-some r h)
+    subst (IsTrueSlice s files) (same_Some written r (sym (ap (read_recovery Recovery) says.2 ∙ recovery_reads e bytes small) ∙ h)) refl
+recovery_said s files Main body says r h = absurd (none-some r h)
+recovery_said s files FileDesc body says r h = absurd (none-some r h)
+recovery_said s files Ifsc body says r h = absurd (none-some r h)
+recovery_said s files Creator body says r h = absurd (none-some r h)
+recovery_said s files (Other bytes) body says r h = absurd (none-some r h)

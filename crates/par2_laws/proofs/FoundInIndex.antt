@@ -1,7 +1,6 @@
 -- What the packets of an index let a reader find.
 use Rattle.par2_laws.proofs.Common.{◌≡◌, ℕ, zero, suc, ◌<◌, Bool, true, false, cond, ◌&&◌, List, [], ◌∷◌, ◌++◌, length, map, Option, Some, None, refl, sym, ap, ◌∙◌, subst, inl, inr, arith, is_some, ◌==◌, filter, filter_map, find, slice_get, option_map, option_and_then, if◌then◌else◌, AllByRecursion, Contains, cons_option, slice_index_or, bytes_eq, false≢true, and_from, eq-eqb, length-map, Contains-append_left, Contains-append_right, same_Some, map-map, md5, Kind, Main, FileDesc, Ifsc, Creator, Pair, slice_count, File, Packet, MainBody, IfscBody, read_main, read_desc, read_ifsc, FileRecord, id_of, packet_of, main_id, main_bytes, desc_bytes, ifsc_bytes, creator_bytes, packets_with, main_of, description_of, pairs_of, target_of, target_of_file, all_some, AreDescribed, all_weaker, itself, contained_first, contained_later, of_contained, target_with}
 use Rattle.par2_spec.specs.Volumes.{record_of, index_packets}
-use Rattle.par2_laws.proofs.Laws.{AreRead}
 use Rattle.par2_laws.proofs.FilePackets.{all_contained, IsDescribed, each_described, main_of_files, desc_of_file, ifsc_of_file, main_written, desc_written, ifsc_written}
 use Rattle.par2_laws.proofs.SetsRead.{AllSay, contained_cases, by_ids, description_is, pairs_are_its, target_is}
 use Rattle.par2_laws.proofs.Inputs.{pairs_count}
@@ -72,7 +71,7 @@ main_first id p rest m own digest reads =
 
 -- ---- the packets of an index
 
-module _ (laws : AreRead) (s : ℕ) (files : List File) (d : AreDescribed s files) (tail : List Packet) where
+module _ (s : ℕ) (files : List File) (d : AreDescribed s files) (tail : List Packet) where
   abbrev id : List ℕ
   id = main_id s (map (record_of s) files)
 
@@ -82,7 +81,7 @@ module _ (laws : AreRead) (s : ℕ) (files : List File) (d : AreDescribed s file
 
   pub main_there : main_of id packets ≡ Some (main_of_files s files)
   unfolding index_packets
-  main_there = main_first id (packet_of id Main (main_bytes s (map (record_of s) files))) _ (main_of_files s files) (itself id) (itself id) (main_written laws s files d)
+  main_there = main_first id (packet_of id Main (main_bytes s (map (record_of s) files))) _ (main_of_files s files) (itself id) (itself id) (main_written s files d)
 
   of_index : (p : Packet) → Contains (index_of s files) p → p.set_id ≡ id → Contains packets p
   of_index p i own =
@@ -126,24 +125,24 @@ module _ (laws : AreRead) (s : ℕ) (files : List File) (d : AreDescribed s file
     unfolding desc_of_file record_of
     description_found file i =
         let found = some_found (λ (p : Packet). read_desc p.kind p.body) (λ x. bytes_eq x.id (id_of file)) packets (packet_of id FileDesc (desc_bytes (record_of s file))) (desc_of_file s file)
-        (desc_there file i) (desc_written laws s file (is_described file i)) (itself (id_of file)) in
-        found.1 ∙ ap (λ x. Some x) (description_is laws s files d packets say file i found.0 found.1)
+        (desc_there file i) (desc_written s file (is_described file i)) (itself (id_of file)) in
+        found.1 ∙ ap (λ x. Some x) (description_is s files d packets say file i found.0 found.1)
 
     pairs_found : (file : File) → Contains files file → pairs_of packets (id_of file) (slice_count s (length file.1)) ≡ Some (record_of s file).pairs
     unfolding ifsc_of_file record_of
     pairs_found file i =
         let n = slice_count s (length file.1) in
         let found = some_found (λ (p : Packet). read_ifsc p.kind p.body) (λ x. bytes_eq x.id (id_of file) && length x.pairs == n) packets (packet_of id Ifsc (ifsc_bytes (record_of s file))) (ifsc_of_file s file)
-        (ifsc_there file i) (ifsc_written laws s file (is_described file i)) (and_from _ _ (itself (id_of file)) (eq-eqb _ n (pairs_count s file.1))) in
+        (ifsc_there file i) (ifsc_written s file (is_described file i)) (and_from _ _ (itself (id_of file)) (eq-eqb _ n (pairs_count s file.1))) in
         let these = ap (option_map (λ (c : IfscBody). c.pairs)) found.1 in
-        these ∙ ap (λ ps. Some ps) (pairs_are_its laws s files d packets say file i n found.0.pairs these)
+        these ∙ ap (λ ps. Some ps) (pairs_are_its s files d packets say file i n found.0.pairs these)
 
     target_found : (file : File) → Contains files file → target_of packets s (desc_of_file s file) ≡ Some (target_of_file s file)
     unfolding desc_of_file record_of
     target_found file i =
         let there = some_pairs (length file.1 == 0) in
         let these = ap (option_map (target_with (desc_of_file s file))) there.1 in
-        these ∙ ap (λ t. Some t) (target_is laws s files d packets say file i (target_with (desc_of_file s file) there.0) these)
+        these ∙ ap (λ t. Some t) (target_is s files d packets say file i (target_with (desc_of_file s file) there.0) these)
       where
         some_pairs : (b : Bool) → (ps : List Pair) × ((if b then Some [] else pairs_of packets (id_of file) (slice_count s (length file.1))) ≡ Some ps)
         some_pairs true = ([], refl)

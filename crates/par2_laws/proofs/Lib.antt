@@ -6,7 +6,6 @@ pub mod ReadSets
 pub mod RecoveryBytes
 pub mod Survivals
 pub mod Agreements
-mod Laws
 mod Bytes
 mod FilePackets
 mod SetsRead

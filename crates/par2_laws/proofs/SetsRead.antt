@@ -3,7 +3,6 @@ use Rattle.par2_laws.proofs.Common.{◌≡◌, ℕ, zero, suc, ◌<◌, arith, B
 use Rattle.std.specs.List.{IsDistinct}
 use Rattle.std.specs.FinMap as map_of
 use Rattle.par2_spec.specs.Volumes.{record_of}
-use Rattle.par2_laws.proofs.Laws.{AreRead}
 use Rattle.par2_laws.proofs.FilePackets.{all_contained, Says, main_of_files, desc_of_file, ifsc_of_file, main_said, desc_said, ifsc_said, recovery_said, IsOfOne, IsTrueSlice}
 
 -- ---- lists
@@ -69,7 +68,7 @@ by_ids look s (file ∷ files) = ap (λ os. look (id_of file) ∷ os) (by_ids lo
 abbrev pub AllSay : ℕ → List File → List Packet → Type 0
 AllSay s files packets = AllByRecursion (λ p. Says s files p.kind p.body) packets
 
-module _ (laws : AreRead) (s : ℕ) (files : List File) (d : AreDescribed s files) (packets : List Packet) (say : AllSay s files packets) where
+module _ (s : ℕ) (files : List File) (d : AreDescribed s files) (packets : List Packet) (say : AllSay s files packets) where
   -- the Main, where there is one
   pub main_is : (id : List ℕ) (m : MainBody) → main_of id packets ≡ Some m → m ≡ main_of_files s files
   main_is id m e =
@@ -83,7 +82,7 @@ module _ (laws : AreRead) (s : ℕ) (files : List File) (d : AreDescribed s file
       each p says x h = step (bytes_eq (md5 p.body) id) h
         where
           step : (b : Bool) → (if b then read_main p.kind p.body else None) ≡ Some x → x ≡ main_of_files s files
-          step true k = main_said laws s files d p.kind p.body says x k
+          step true k = main_said s files d p.kind p.body says x k
           step false k = absurd (none-some x k)
 
   -- the description of a file, where there is one
@@ -91,7 +90,7 @@ module _ (laws : AreRead) (s : ℕ) (files : List File) (d : AreDescribed s file
   unfolding desc_of_file record_of
   description_is file i x e =
       let found = found_one (IsOfOne (desc_of_file s) files) (λ c. bytes_eq c.id (id_of file)) (filter_map (λ p. read_desc p.kind p.body) packets)
-      (all-filter_map (λ p. Says s files p.kind p.body) (IsOfOne (desc_of_file s) files) (λ p. read_desc p.kind p.body) (λ p says. desc_said laws s files d p.kind p.body says) packets say) x e in
+      (all-filter_map (λ p. Says s files p.kind p.body) (IsOfOne (desc_of_file s) files) (λ p. read_desc p.kind p.body) (λ p says. desc_said s files d p.kind p.body says) packets say) x e in
       let named : id_of found.0.0 ≡ id_of file = ap (λ c. c.id) (sym found.0.2) ∙ same_name x.id (id_of file) found.1 in
       found.0.2 ∙ ap (desc_of_file s) (one_by_id files d.ids_once found.0.0 file found.0.1 i named)
 
@@ -101,7 +100,7 @@ module _ (laws : AreRead) (s : ℕ) (files : List File) (d : AreDescribed s file
   pairs_are_its file i n ps e =
       let got = mapped (λ (c : IfscBody). c.pairs) (find (λ c. bytes_eq c.id (id_of file) && length c.pairs == n) (filter_map (λ p. read_ifsc p.kind p.body) packets)) ps e in
       let found = found_one (IsOfOne (ifsc_of_file s) files) (λ c. bytes_eq c.id (id_of file) && length c.pairs == n) (filter_map (λ p. read_ifsc p.kind p.body) packets)
-      (all-filter_map (λ p. Says s files p.kind p.body) (IsOfOne (ifsc_of_file s) files) (λ p. read_ifsc p.kind p.body) (λ p says. ifsc_said laws s files d p.kind p.body says) packets say) got.0 got.1 in
+      (all-filter_map (λ p. Says s files p.kind p.body) (IsOfOne (ifsc_of_file s) files) (λ p. read_ifsc p.kind p.body) (λ p says. ifsc_said s files d p.kind p.body says) packets say) got.0 got.1 in
       let named : id_of found.0.0 ≡ id_of file = ap (λ c. c.id) (sym found.0.2) ∙ same_name got.0.id (id_of file) (and_parts (bytes_eq got.0.id (id_of file)) (length got.0.pairs == n) found.1).0 in
       sym got.2 ∙ ap (λ c. c.pairs) (found.0.2 ∙ ap (ifsc_of_file s) (one_by_id files d.ids_once found.0.0 file found.0.1 i named))
 
@@ -134,4 +133,4 @@ module _ (laws : AreRead) (s : ℕ) (files : List File) (d : AreDescribed s file
       all-entries (λ r. r.1 ≡ recovery s (all_slices s files) r.0) _
       (all-map (IsTrueSlice s files) (λ r. r.1 ≡ recovery s (all_slices s files) r.0) (λ r. (r.exponent, r.bytes)) (λ r h. h) _
       (all-filter (IsTrueSlice s files) (λ r. nat_lt r.exponent 65536 && length r.bytes == s) (filter_map (λ p. read_recovery p.kind p.body) packets)
-      (all-filter_map (λ p. Says s files p.kind p.body) (IsTrueSlice s files) (λ p. read_recovery p.kind p.body) (λ p says. recovery_said laws s files p.kind p.body says) packets say)))
+      (all-filter_map (λ p. Says s files p.kind p.body) (IsTrueSlice s files) (λ p. read_recovery p.kind p.body) (λ p says. recovery_said s files p.kind p.body says) packets say)))

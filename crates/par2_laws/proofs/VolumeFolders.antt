@@ -3,7 +3,7 @@ use Rattle.par2_laws.proofs.Common.{◌≡◌, ℕ, ◌+◌, ◌≤◌, true, fa
 use Rattle.std.proofs.Common.{Ok}
 use Rattle.par2_spec.specs.Volumes.{record_of, index_packets}
 use Rattle.par2_spec.specs.Sets.{read_set, set_of}
-use Rattle.par2_laws.proofs.Laws.{AreRead, AreKept}
+use Rattle.par2_spec.proofs.OrderLaws.{moved-ordered}
 use Rattle.par2_laws.proofs.FilePackets.{main_of_files, desc_of_file}
 use Rattle.par2_laws.proofs.SetsRead.{AllSay}
 use Rattle.par2_laws.proofs.SetsOfFiles.{SaysIfOurs, folder_says, made_if_said}
@@ -46,11 +46,11 @@ in_profile s files is =
 abbrev set_read : ℕ → List File → List Packet → ParSet
 set_read s files packets = set_with (main_id s (map (record_of s) files)) packets s (map (target_of_file s) files)
 
-base_reads : AreRead → (s : ℕ) (files : List File) → AreInputs s files → (base : List ℕ) (others : List (List ℕ)) → IsReadAs s files base
+base_reads : (s : ℕ) (files : List File) → AreInputs s files → (base : List ℕ) (others : List (List ℕ)) → IsReadAs s files base
     → AllSay s files (packets_with (main_id s (map (record_of s) files)) (flat_map accepted (base ∷ others)))
     → read_set base others ≡ Ok (set_read s files (packets_with (main_id s (map (record_of s) files)) (flat_map accepted (base ∷ others))))
 unfolding read_set index_packets main_of_files
-base_reads laws s files is base others r say =
+base_reads s files is base others r say =
     let id = main_id s (map (record_of s) files) in
     let d = described s files is in
     let tail = slices_of s files r.first r.count ++ flat_map accepted others in
@@ -63,15 +63,15 @@ base_reads laws s files is base others r say =
     let said = subst (AllSay s files) same say in
     let first : slice_get (accepted base) 0 ≡ Some main = ap (λ ps. slice_get ps 0) r.packets in
     ap (λ o. ok_or o NoPackets >>= by_main base others) first
-    ∙ ap (λ o. ok_or o NoMain >>= by_size id all) (ap (main_of id) same ∙ main_there laws s files d tail)
+    ∙ ap (λ o. ok_or o NoMain >>= by_size id all) (ap (main_of id) same ∙ main_there s files d tail)
     ∙ ap (λ b. unless b BadSet >>= by_descriptions id all m) is.slice_size
-    ∙ ap (λ o. ok_or o NoDescription >>= by_profile id all s) (ap (λ ps. all_some (map (description_of ps) m.ids)) same ∙ descriptions_found laws s files d tail said)
+    ∙ ap (λ o. ok_or o NoDescription >>= by_profile id all s) (ap (λ ps. all_some (map (description_of ps) m.ids)) same ∙ descriptions_found s files d tail said)
     ∙ ap (λ b. unless b BadSet >>= by_checksums id all s (map (desc_of_file s) files)) (in_profile s files is)
-    ∙ ap (λ o. ok_or o NoChecksums >>= finished id all s) (ap (λ ps. all_some (map (target_of ps s) (map (desc_of_file s) files))) same ∙ targets_found laws s files d tail said)
+    ∙ ap (λ o. ok_or o NoChecksums >>= finished id all s) (ap (λ ps. all_some (map (target_of ps s) (map (desc_of_file s) files))) same ∙ targets_found s files d tail said)
 
 -- ---- a folder of volumes
 
-module _ (laws : AreRead) (kept : AreKept) (folder : Folder) (base : List ℕ) (s : ℕ) (files : List File) (is : AreInputs s files) (holds : HoldsVolumes folder base s files) where
+module _ (folder : Folder) (base : List ℕ) (s : ℕ) (files : List File) (is : AreInputs s files) (holds : HoldsVolumes folder base s files) where
   abbrev ordered : List File
   ordered = in_id_order files
 
@@ -79,10 +79,10 @@ module _ (laws : AreRead) (kept : AreKept) (folder : Folder) (base : List ℕ) (
   id = set_id_of s files
 
   inputs : AreInputs s ordered
-  inputs = moved s files ordered (kept.order files) is
+  inputs = moved s files ordered (moved-ordered files) is
 
   volume_says : (text : List ℕ) → IsVolume s files text → AllByRecursion (SaysIfOurs id s ordered) (accepted text)
-  volume_says text v = all_weaker (IsOurs s ordered) (SaysIfOurs id s ordered) (λ p ours own. ours.1) (accepted text) (volume_ours s ordered text (volumes_read kept s files inputs text v))
+  volume_says text v = all_weaker (IsOurs s ordered) (SaysIfOurs id s ordered) (λ p ours own. ours.1) (accepted text) (volume_ours s ordered text (volumes_read s files inputs text v))
 
   others_say : (text : List ℕ) → IsOfOthers id text → AllByRecursion (SaysIfOurs id s ordered) (accepted text)
   others_say text h =
@@ -103,6 +103,6 @@ module _ (laws : AreRead) (kept : AreKept) (folder : Folder) (base : List ℕ) (
   unfolding set_of
   set_made =
       let texts = map (bytes_of folder) (other_par_names folder base) in
-      made_if_said laws folder base (set_read s ordered (packets_with id (flat_map accepted (bytes_of folder base ∷ texts)))) s ordered
-      (base_reads laws s ordered inputs (bytes_of folder base) texts (volumes_read kept s files inputs (bytes_of folder base) holds.of_base) (folder_says folder base id s ordered all_say))
+      made_if_said folder base (set_read s ordered (packets_with id (flat_map accepted (bytes_of folder base ∷ texts)))) s ordered
+      (base_reads s ordered inputs (bytes_of folder base) texts (volumes_read s files inputs (bytes_of folder base) holds.of_base) (folder_says folder base id s ordered all_say))
       (described s ordered inputs) all_say

@@ -1,7 +1,8 @@
 -- What is read of a volume: the packets that were written.
 use Rattle.par2_laws.proofs.Common.{◌≡◌, ℕ, zero, suc, ◌+◌, ◌-◌, ◌^◌, ◌<◌, ◌≤◌, min, true, ◌&&◌, List, [], ◌∷◌, ◌++◌, length, map, refl, sym, ap, ◌∙◌, subst, append-nil, arith, flat_map, nat_le, AllByRecursion, Contains, and_parts, leb-true, length-map, flat_map-append, length-md5, Kind, Main, FileDesc, Ifsc, Creator, File, Packet, packet, accepted, FileRecord, record_of, all_slices, in_id_order, volumes_before, volume_size, volume_numbers, recovery_packets, packet_of, main_id, main_bytes, desc_bytes, ifsc_bytes, creator_bytes, are_counts, AreInputs, IsVolume, all-append, of_contained, size_parts}
 use Rattle.par2_spec.specs.Volumes.{volumes, index_packets}
-use Rattle.par2_laws.proofs.Laws.{AreKept}
+use Rattle.par2_spec.proofs.WrittenSets.{index_reads, recovery_slices_read}
+use Rattle.par2_spec.proofs.WrittenPackets.{none_short}
 use Rattle.par2_laws.proofs.FilePackets.{Says, all_contained}
 use Rattle.par2_laws.proofs.Inputs.{records_fit}
 
@@ -22,29 +23,29 @@ pub record IsReadAs (s : ℕ) (files : List File) (text : List ℕ) : Type 0 whe
 
 -- ---- what was written is read
 
-module _ (laws : AreKept) (s : ℕ) (files : List File) (is : AreInputs s files) where
+module _ (s : ℕ) (files : List File) (is : AreInputs s files) where
   empty_read : accepted [] ≡ []
-  empty_read = laws.short [] (omega arith)
+  empty_read = none_short [] (omega arith)
 
   few_records : length (map (record_of s) files) < 2 ^ 32
   few_records = subst (λ n. n < 2 ^ 32) (sym (length-map files (record_of s))) is.few
 
   index_read : accepted (flat_map packet (index_of s files)) ≡ index_of s files ++ slices_of s files 0 0
   index_read =
-      ap accepted (sym (append-nil (flat_map packet (index_of s files)))) ∙ laws.index s (map (record_of s) files) [] few_records (records_fit s files is)
+      ap accepted (sym (append-nil (flat_map packet (index_of s files)))) ∙ index_reads s (map (record_of s) files) [] few_records (records_fit s files is)
       ∙ ap (λ ps. index_of s files ++ ps) empty_read
 
   slices_read : (e n : ℕ) → accepted (flat_map packet (slices_of s files e n)) ≡ slices_of s files e n
   slices_read e n =
       let size = size_parts s is.slice_size in
       ap accepted (sym (append-nil (flat_map packet (slices_of s files e n))))
-      ∙ laws.slices s (main_id s (map (record_of s) files)) (all_slices s files) e n [] (length-md5 (main_bytes s (map (record_of s) files))) size.0 (omega (arith, size.2))
+      ∙ recovery_slices_read s (main_id s (map (record_of s) files)) (all_slices s files) e n [] (length-md5 (main_bytes s (map (record_of s) files))) size.0 (omega (arith, size.2))
       ∙ ap (λ ps. slices_of s files e n ++ ps) empty_read ∙ append-nil (slices_of s files e n)
 
   both_read : (e n : ℕ) → accepted (flat_map packet (index_of s files ++ slices_of s files e n)) ≡ index_of s files ++ slices_of s files e n
   both_read e n =
       ap accepted (flat_map-append packet (index_of s files) (slices_of s files e n))
-      ∙ laws.index s (map (record_of s) files) (flat_map packet (slices_of s files e n)) few_records (records_fit s files is)
+      ∙ index_reads s (map (record_of s) files) (flat_map packet (slices_of s files e n)) few_records (records_fit s files is)
       ∙ ap (λ ps. index_of s files ++ ps) (slices_read e n)
 
   volume_read : (f c i : ℕ) → f + c ≤ 65536 → IsReadAs s files (flat_map packet (index_of s files ++ slices_of s files (f + volumes_before i) (volume_size c i)))
@@ -67,14 +68,14 @@ counts_end : (f c : ℕ) → are_counts f c ≡ true → f + c ≤ 65536
 counts_end f c h = leb-true (f + c) 65536 (and_parts (nat_le c 65536 && nat_le f 65535) (nat_le (f + c) 65536) h).1
 
 -- each volume of the files is read as its packets
-pub volumes_read : AreKept → (s : ℕ) (files : List File) → AreInputs s (in_id_order files) → (text : List ℕ) → IsVolume s files text → IsReadAs s (in_id_order files) text
+pub volumes_read : (s : ℕ) (files : List File) → AreInputs s (in_id_order files) → (text : List ℕ) → IsVolume s files text → IsReadAs s (in_id_order files) text
 unfolding volumes
-volumes_read laws s files is text v =
+volumes_read s files is text v =
     let small = counts_end v.1 v.2 v.3 in
     let first : IsReadAs s (in_id_order files) (flat_map packet (index_of s (in_id_order files))) =
-    record { first = 0; count = 0; low = λ k l. absurd (omega (arith, l)); packets = index_read laws s (in_id_order files) is } in
+    record { first = 0; count = 0; low = λ k l. absurd (omega (arith, l)); packets = index_read s (in_id_order files) is } in
     of_contained (IsReadAs s (in_id_order files)) (map (λ file. file.1) (volumes v.0 s v.1 v.2 files)) text
-    (first, each_volume laws s (in_id_order files) is v.1 v.2 _ (volume_numbers v.2) small) v.4
+    (first, each_volume s (in_id_order files) is v.1 v.2 _ (volume_numbers v.2) small) v.4
 
 -- ---- what they say
 
