@@ -1,11 +1,8 @@
 -- What each answer to a repair says of the three tests of its set.
-use Rattle.par2_laws.proofs.Common.{◌≡◌, ℕ, List, [], ◌∷◌, refl, true, false, Bool, not, list_all, AllByRecursion, bytes_eq, and_parts, not-true, md5, Fault, NameTooLong, NotRepairable, RepairFailed, first_fault, fault_where, is_repairable, rank, Folder, ParSet, Target, known, lost, survivors, rebuilt_targets, first_cause}
+use Rattle.par2_laws.proofs.Common.{◌≡◌, ℕ, List, [], ◌∷◌, refl, true, false, Bool, not, list_all, AllByRecursion, bytes_eq, and_parts, not-true, md5, Fault, NameTooLong, NotRepairable, RepairFailed, first_fault, fault_where, is_repairable, rank, Folder, ParSet, Target, known, lost, survivors, rebuilt_targets, first_cause, IsRepairable, repairable-iff, may_refuse}
 use Rattle.std.specs.Prelude.{Option, Some, None}
 use Rattle.std.proofs.lemmas.Slice.Eq.{bytes_eq-Decides}
 use Rattle.par2_spec.specs.Refusals.{repair_refusal}
-use Rattle.par2_spec.specs.Rank.{IsRepairable}
-use Rattle.par2_spec.proofs.RankLaws.{repairable-iff}
-use Rattle.par2_laws.specs.Creates.{may_refuse}
 
 -- the answer by whether the set is repairable, a name is too long, and the digests are right
 abbrev answer : (repairable long right : Bool) (missing rank : ℕ) → Option Fault

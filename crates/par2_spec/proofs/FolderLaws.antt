@@ -226,13 +226,6 @@ has_room n h = grind (arith, nat_tests)
 has_place : (n : ℕ) → nat_lt 0 n ≡ true → 0 < n
 has_place n h = grind (arith, nat_tests)
 
-pub taken_with_room : (s : FolderState) (c : Change) → IsTrue (is_applicable s.files c) → 0 < s.vacant → change_refusal s c ≡ None
-unfolding change_refusal is_applicable
-taken_with_room s (Write n b) h room = rw (h, has_room s.vacant room)
-taken_with_room s (Replace n b) h room = rw h
-taken_with_room s (Rename a b) h room = rw ((and_parts (has s.files a) _ h).0, (and_parts (has s.files a) _ h).1)
-taken_with_room s (Remove n) h room = rw h
-
 -- the inverse of a change that was taken is taken
 pub inverse_taken : (s : FolderState) (c : Change) → change_refusal s c ≡ None → change_refusal (state_after s c) (inverse s.files c) ≡ None
 unfolding change_refusal effect inverse

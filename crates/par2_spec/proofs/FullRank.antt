@@ -2,8 +2,7 @@
 use Rattle.par2_spec.proofs.Common.{◌≡◌, ℕ, zero, suc, ◌+◌, ◌*◌, ◌/◌, ◌%◌, ◌^◌, ◌<◌, ◌≤◌, List, [], ◌∷◌, length, map, drop, pow-add, refl, sym, ap, ap₂, ◌∙◌, subst, cond, true, false, Bool, eqb, inl, inr, arith, ◌↔◌, bit_xor, replicate, slice_index, xor_self, AllByRecursion, IsStrictlyIncreasing, pow_below, Decides-eqb, cases_lt, eq-eqb, length-map, AllPairs-from_increasing, IsStrictlyIncreasing-filter, IsDistinct-from_AllPairs, coefficients, kept, rank, IsVector, Kills, IsRepairable, AreElements}
 use Rattle.std.specs.List.{IsDistinct}
 use Rattle.par2_spec.specs.Recovery.{dot}
-use Rattle.par2_spec.proofs.FieldOnto.{onto_from_injective}
-use Rattle.par2_spec.proofs.FieldOrder.{product-zero}
+use Rattle.par2_spec.proofs.FieldOrder.{onto_from_injective, product-zero}
 use Rattle.par2_spec.proofs.ListsLaws.{all-each, all-both, of_contained}
 use Rattle.par2_spec.proofs.RankLaws.{all_weaker}
 use Rattle.par2_spec.proofs.UniqueLaws.{sums, dot-sums, dot-lt, coefficients_are, sums-elements, no_difference, all_from_contains, kept_kill_all}

@@ -10,6 +10,7 @@ use Rattle.par2_spec.specs.Repairs.{rebuilt}
 use Rattle.par2_spec.proofs.ListsLaws.{AreOf, IsBelow, IsComplete, some_list, all_below_are, all_below_complete, all_lists_are, all_lists_complete, find_one, filter-none, all-both}
 use Rattle.par2_spec.proofs.NamesLaws.{same_name, itself, clash, kept as kept_one}
 use Rattle.par2_spec.proofs.TestLaws.{is_true, by_true}
+use Rattle.par2_spec.proofs.TestLaws.{by_test}
 
 -- ---- tests of lists
 
@@ -147,11 +148,7 @@ kept-iff lost survivors e =
 
 nothing_told : (before : List (List ℕ)) → is_independent 0 before [] ≡ false
 unfolding is_independent dot all_lists
-nothing_told before = step (list_all (kills []) before)
-  where
-    step : (b : Bool) → ((b && false) || false) ≡ false
-    step true = refl
-    step false = refl
+nothing_told before = by_test (list_all (kills []) before) (λ e. rw e) (λ e. rw e)
 
 -- no exponent tells anything
 pub none_kept : (survivors : List ℕ) → kept [] survivors ≡ []

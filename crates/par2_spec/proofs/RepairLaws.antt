@@ -10,7 +10,7 @@ use Rattle.par2_spec.specs.Plans.{repair_changes, repair_removals}
 use Rattle.par2_spec.proofs.CommandLaws.{removals_lead}
 use Rattle.par2_spec.proofs.NamesLaws.{same_name, itself, clash, AreDistinct, among-filter, among-append, among_some, apart_by_test, distinct-map, distinct-filter, distinct_some, image_of, image_in, distinct-append, distinct_from_std}
 use Rattle.par2_spec.proofs.MovesLaws.{Move, CanMove, renames, sources, goals, arrived, renames_apply, renames_lead, writes_apply, writes_lead, get_put, get_laid, get_without, has_laid, has_without, has_by_names, laid_over-append, without-laid_over, without_without, same_without, removals_apply, names_once, all_laid}
-use Rattle.par2_spec.proofs.AsideLaws.{aside_out, aside_one, aside_no_target}
+use Rattle.par2_spec.proofs.AsideNames.{aside_out, aside_one, aside_no_target}
 use Rattle.par2_spec.proofs.ReadLaws.{each_there, candidates_there, sound_of}
 use Rattle.par2_spec.proofs.SearchLaws.{names_of_pairs, taken_was_free, taken_once}
 use Rattle.par2_spec.proofs.TestLaws.{same_tests, none_if, some_if}

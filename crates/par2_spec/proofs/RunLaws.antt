@@ -15,6 +15,7 @@ use Rattle.par2_spec.proofs.RankLaws.{independent-iff}
 use Rattle.par2_spec.proofs.UniqueLaws.{all_from_contains}
 use Rattle.par2_spec.proofs.FullRank.{full-iff}
 use Rattle.par2_spec.proofs.PolynomialLaws.{value-lt, some_polynomial}
+use Rattle.par2_spec.proofs.TestLaws.{by_test}
 
 -- ---- rows that a function gives
 
@@ -89,11 +90,7 @@ is_one_at c z = cond (eqb z c) 1 0
 all_ones : (c : ℕ) (points : List ℕ) → AreElements (map (is_one_at c) points)
 unfolding is_one_at
 all_ones c [] = tt
-all_ones c (z ∷ points) = (step (eqb z c), all_ones c points)
-  where
-    step : (b : Bool) → cond b 1 0 < 2 ^ 16
-    step true = omega arith
-    step false = omega arith
+all_ones c (z ∷ points) = (by_test (eqb z c) (λ e. rw e (omega arith)) (λ e. rw e (omega arith)), all_ones c points)
 
 unit : (points : List ℕ) → ArePoints points → (c : ℕ) → (p : List ℕ) × Interpolates points (map (is_one_at c) points) p
 unit points are c = some_polynomial points (map (is_one_at c) points) are (length-map points (is_one_at c), all_ones c points)

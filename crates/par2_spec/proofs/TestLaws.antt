@@ -24,6 +24,15 @@ pub cond-not : {A : Type 0} (b : Bool) (x y : A) → cond (not b) x y ≡ cond b
 cond-not true x y = refl
 cond-not false x y = refl
 
+-- by the two values of a test, and by those of an option
+pub by_test : {C : Type 0} (b : Bool) → (b ≡ true → C) → (b ≡ false → C) → C
+by_test true f g = f refl
+by_test false f g = g refl
+
+pub by_option : {A C : Type 0} (o : Option A) → (o ≡ None → C) → ((x : A) → o ≡ Some x → C) → C
+by_option None f g = f refl
+by_option (Some x) f g = g x refl
+
 -- ---- options
 
 pub or_nothing : {A : Type 0} (o : Option A) → o ≡ option_or o None
@@ -61,15 +70,9 @@ all_none (Some fault ∷ os) h = absurd (none-some fault (sym h))
 -- where no place is found, nothing passes
 pub no_place : {A : Type 0} (test : A → Bool) (n : ℕ) (xs : List A) → position_from test n xs ≡ None → AllByRecursion (λ x. test x ≡ false) xs
 no_place test n [] h = tt
-no_place {A = A} test n (x ∷ xs) h = step (test x) refl h (no_place test (n + 1) xs)
-  where
-    step : (b : Bool) → test x ≡ b → cond b (Some n) (position_from test (n + 1) xs) ≡ None → (position_from test (n + 1) xs ≡ None → AllByRecursion (λ y. test y ≡ false) xs) → AllByRecursion (λ y. test y ≡ false) (x ∷ xs)
-    step true e k later = absurd (none-some n (sym k))
-    step false e k later = (e, later k)
+no_place {A = A} test n (x ∷ xs) h = by_test (test x) (λ e. absurd (none-some n (sym (rw e at h)))) (λ e. (e, (no_place test (n + 1) xs) (rw e at h)))
 
 pub at_none : {A F : Type 0} (n : ℕ) (fault : ℕ → F) (test : A → Bool) (xs : List A) → fault_at n fault test xs ≡ None → AllByRecursion (λ x. test x ≡ false) xs
-at_none n fault test xs h = no_place test 0 xs (sym (position_from-zero test xs) ∙ unmapped (position test xs) h)
-  where
-    unmapped : (o : Option ℕ) → option_map (λ k. fault (n + k)) o ≡ None → o ≡ None
-    unmapped None k = refl
-    unmapped (Some m) k = absurd (none-some (fault (n + m)) (sym k))
+at_none n fault test xs h = no_place test 0 xs (sym (position_from-zero test xs) ∙ by_option (position test xs)
+    (λ e. rw e)
+    (λ m e. absurd (none-some (fault (n + m)) (sym (rw e at h)))))

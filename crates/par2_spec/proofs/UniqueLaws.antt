@@ -1,5 +1,5 @@
 -- Where the lost slices are determined, one list alone agrees.
-use Rattle.par2_spec.proofs.Common.{◌≡◌, ℕ, zero, suc, ◌+◌, ◌/◌, ◌%◌, ◌^◌, ◌<◌, ◌≤◌, List, [], ◌∷◌, length, map, take, drop, get_or, refl, sym, ap, ◌∙◌, subst, cond, true, false, Bool, arith, inl, inr, bit_xor, flat_map, filter, slice_index, ◌==◌, Option, Some, None, is_none, w16, to_le_bytes, from_le_bytes, xor_self, range_with_len, enumerate_from, list_any, AllByRecursion, AllZip, Contains, ForSome, xor_lt, from_le_bytes-to_le_bytes_2, length-map, or_left, or_right, eq-eqb, cases_eq, AllZip-long, mul, word, coefficients, kept, IsVector, Kills, IsRepairable, Agrees, kept_slices, IsRebuilt, AreElements, ParSet, lost, survivors}
+use Rattle.par2_spec.proofs.Common.{◌≡◌, ℕ, zero, suc, ◌+◌, ◌/◌, ◌%◌, ◌^◌, ◌<◌, ◌≤◌, List, [], ◌∷◌, length, map, take, drop, get_or, refl, sym, ap, ◌∙◌, subst, cond, true, false, Bool, arith, inl, inr, bit_xor, flat_map, filter, slice_index, ◌==◌, Option, Some, None, is_none, w16, to_le_bytes, from_le_bytes, xor_self, range_with_len, enumerate_from, list_any, AllByRecursion, AllZip, Contains, ForSome, xor_lt, from_le_bytes-to_le_bytes_2, length-map, or_left, or_right, eq-eqb, cases_eq, AllZip-long, mul, word, coefficients, kept, IsVector, Kills, IsRepairable, Agrees, kept_slices, IsRebuilt, AreElements, ParSet, lost, survivors, AgreeingListsAreOne}
 use Rattle.std.specs.FinMap as map_of
 use Rattle.par2_spec.specs.Field.{coefficient}
 use Rattle.par2_spec.specs.Recovery.{dot, combination, recovery}
@@ -212,8 +212,7 @@ all_same s (x ∷ a) (y ∷ b) even e la lb ha hb same =
     ap (λ z. z ∷ a) (same_words s x y even la.0 lb.0 ha.0 hb.0 (λ p lt. ap (λ ws. slice_index ws 0) (same p lt)))
     ∙ ap (λ zs. y ∷ zs) (all_same s a b even (omega (arith, e)) la.1 lb.1 ha.1 hb.1 (λ p lt. ap (drop 1) (same p lt)))
 
-pub agreeing_are_one : (s : ℕ) (known : List (Option (List ℕ))) (rs : List (ℕ × List ℕ)) (a b : List (List ℕ)) → s % 2 ≡ 0 → IsRepairable (lost known) (map (λ r. r.0) rs)
-    → Agrees s known (kept_slices (lost known) (map (λ r. r.0) rs) rs) a → Agrees s known (kept_slices (lost known) (map (λ r. r.0) rs) rs) b → a ≡ b
+pub agreeing_are_one : AgreeingListsAreOne
 agreeing_are_one s known rs a b even repairable ga gb =
     let long_a : length a ≡ length known = AllZip-long (λ slice text. ForSome slice (λ found. text ≡ found)) known a ga.as_known in
     let long_b : length b ≡ length known = AllZip-long (λ slice text. ForSome slice (λ found. text ≡ found)) known b gb.as_known in

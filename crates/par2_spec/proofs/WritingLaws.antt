@@ -15,10 +15,6 @@ part a b c sent rest text is more p q =
     let size : length text ≡ length sent + length rest = ap length is ∙ length-append sent rest in
     (length sent, omega (arith, size, more), subst (Appends a c) seam (Appends-trans a b c sent [] p q))
 
--- none of the bytes were taken
-pub none_taken : (a b : Option (List ℕ)) (bytes : List ℕ) (n : ℕ) → n ≡ 0 → Appends a b (take n bytes) → Appends a b []
-none_taken a b bytes n zero q = rw zero at q
-
 -- n more bytes were taken
 pub step : (a b c : Option (List ℕ)) (sent rest text : List ℕ) (n : ℕ) → text ≡ sent ++ rest → Appends a b sent → Appends b c (take n rest)
     → (s : List ℕ) × (text ≡ s ++ take (length rest - n) (drop n rest)) × Appends a c s
@@ -30,10 +26,6 @@ step a b c sent rest text n is p q =
 
 -- of whatever is seen as a writer
 module _ {P : Type 0} (seen : P → Writer) where
-  -- nothing was written
-  pub wrote_nothing : (a : P) → TookAll (seen a) (seen a) []
-  wrote_nothing a = (Appends-nil (seen a).taken, refl)
-
   pub took_both : (a b c : P) (xs ys : List ℕ) → TookAll (seen a) (seen b) xs → TookAll (seen b) (seen c) ys → TookAll (seen a) (seen c) (xs ++ ys)
   took_both a b c xs ys p q = (
     Appends-trans (seen a).taken (seen b).taken (seen c).taken xs ys p.0 q.0,

@@ -1,4 +1,4 @@
-use Rattle.par2_laws.proofs.CreateInputs.{inputs_taken}
+use Rattle.par2_laws.proofs.Damage.{inputs_taken}
 use Rattle.par2_laws.proofs.creates.accepted_create_has_its_inputs.Goals as goal
 
 pub returns : goal.returns

@@ -1,5 +1,5 @@
 use Rattle.par2_laws.proofs.Common.{files_of, in_id_order}
-use Rattle.par2_laws.proofs.Returns.{originals}
+use Rattle.par2_laws.proofs.Damage.{originals}
 use Rattle.par2_laws.proofs.creates.created_files_not_repairable_have_a_choice.Goals as goal
 
 pub returns : goal.returns

@@ -1,5 +1,5 @@
-use Rattle.par2_laws.proofs.Common.{Repair, after, files_of, in_id_order}
-use Rattle.par2_laws.proofs.Returns.{originals, gives_back}
+use Rattle.par2_laws.proofs.Common.{Repair, files_of, after, in_id_order}
+use Rattle.par2_laws.proofs.Damage.{originals, gives_back}
 use Rattle.par2_laws.proofs.creates.repair_gives_the_created_files_back.Goals as goal
 
 pub returns : goal.returns

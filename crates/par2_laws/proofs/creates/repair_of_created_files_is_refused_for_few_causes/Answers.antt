@@ -1,6 +1,6 @@
 use Rattle.par2_laws.proofs.Common.{ap, sym, ◌∙◌, inl, inr, Some, candidates, files_of, in_id_order}
 use Rattle.par2_laws.proofs.Causes.{refused_by}
-use Rattle.par2_laws.proofs.Returns.{originals}
+use Rattle.par2_laws.proofs.Damage.{originals}
 use Rattle.par2_laws.proofs.creates.repair_of_created_files_is_refused_for_few_causes.Goals as goal
 
 pub returns : goal.returns

@@ -1,5 +1,4 @@
-use Rattle.par2_laws.proofs.Common.{both_ways, is_repairable, known, lost, survivors}
-use Rattle.par2_spec.proofs.RankLaws.{repairable-iff}
+use Rattle.par2_laws.proofs.Common.{both_ways, is_repairable, known, lost, survivors, repairable-iff}
 use Rattle.par2_laws.proofs.Causes.{unrepairable_by}
 use Rattle.par2_laws.proofs.refusals.lost_slices_are_not_determined.Goals as goal
 
