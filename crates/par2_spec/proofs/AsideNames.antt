@@ -1,5 +1,5 @@
 -- A numbered name is a name, where it has at most 255 bytes.
-use Rattle.par2_spec.proofs.Common.{◌≡◌, ℕ, zero, suc, ◌+◌, ◌%◌, ◌^◌, ◌<◌, ◌≤◌, List, [], ◌∷◌, ◌++◌, length, map, drop, inl, inr, refl, sym, ap, ◌∙◌, subst, cond, true, false, Bool, not, arith, eqb, length-append, find, Option, Some, None, is_some, unwrap_or, decimal, codes, ◌==◌, nat_eq, range_with_len, list_all, list_any, starts_with, bytes_eq, IsUtf8, drop-append_seam, and_parts, and_from, or_cases, or_parts, or_from, cases_Bool, ne_eqb, not_from_false, cases_eq, false≢true, not-true, not-false, false_from_ne_true, le-leb, leb-true, nat_list_eq_equiv, list_all-append, list_any-append, length-map-range_with_len, length-le_from_is_member, is_among, numbered, IsLeastFree, Folder, names, ParSet, target_names, taken_for, AreFew, IsUtf8-append, IsUtf8-from_ascii, IsUtf8-from_is_utf8, is_utf8-from_IsUtf8}
+use Rattle.par2_spec.proofs.Common.{◌≡◌, ℕ, zero, suc, ◌+◌, ◌%◌, ◌^◌, ◌<◌, ◌≤◌, List, [], ◌∷◌, ◌++◌, length, map, drop, refl, sym, ap, ◌∙◌, subst, cond, true, false, Bool, not, arith, eqb, length-append, find, Option, Some, None, is_some, unwrap_or, decimal, codes, ◌==◌, nat_eq, range_with_len, list_all, list_any, starts_with, bytes_eq, IsUtf8, drop-append_seam, and_parts, and_from, or_cases, or_parts, or_from, cases_Bool, ne_eqb, not_from_false, cases_eq, false≢true, not-true, not-false, false_from_ne_true, le-leb, leb-true, nat_list_eq_equiv, list_all-append, list_any-append, length-map-range_with_len, length-le_from_is_member, is_among, numbered, IsLeastFree, Folder, names, ParSet, target_names, taken_for, AreFew, IsUtf8-append, IsUtf8-from_ascii, IsUtf8-from_is_utf8, is_utf8-from_IsUtf8}
 use Rattle.std.proofs.lemmas.Fmt.{decimal_by_steps, decimal_injective, decimal_nonempty, IsAscii-decimal}
 use Rattle.par2_spec.specs.Names.{is_name}
 use Rattle.par2_spec.specs.Repairs.{aside}
@@ -10,6 +10,7 @@ use Rattle.par2_spec.proofs.NamesLaws.{same_name, other_name, among-append, AreD
 use Rattle.par2_spec.proofs.NameTests.{no_name, tests_of, name_of}
 use Rattle.par2_spec.proofs.SearchLaws.{found_passes}
 use Rattle.std.proofs.lemmas.Str.Ascii.{IsAscii-cons}
+use Rattle.par2_spec.proofs.TestLaws.{by_either}
 
 -- ---- a numbered name tells its name
 
@@ -89,10 +90,9 @@ first_found test g a (suc k) h = step (test (g a)) refl h (first_found test g (a
             from = omega (arith, l);
             below = omega (arith, u);
             passes = r.1.passes;
-            none_before = λ m low high. elim (cases_eq a m) as (λ _. test (g m) ≡ false) [
-              | inl same ↦ subst (λ x. test (g x) ≡ false) same e
-              | inr other ↦ r.1.none_before m (later_on m low other) high
-            ];
+            none_before = λ m low high. by_either (cases_eq a m)
+                (λ same. subst (λ x. test (g x) ≡ false) same e)
+                (λ other. r.1.none_before m (later_on m low other) high);
           },
           r.2,
         )
@@ -103,10 +103,9 @@ none_passes : (test : List ℕ → Bool) (xs : List (List ℕ)) → is_some (fin
 none_passes test [] h q i = absurd (false≢true i)
 none_passes test (x ∷ xs) h q i =
     let both = split (test x) (find test xs) h in
-    elim (or_cases (bytes_eq q x) (is_among xs q) i) as (λ _. test q ≡ false) [
-      | inl here ↦ subst (λ y. test y ≡ false) (sym (same_name q x here)) both.0
-      | inr there ↦ none_passes test xs both.1 q there
-    ]
+    by_either (or_cases (bytes_eq q x) (is_among xs q) i)
+    (λ here. subst (λ y. test y ≡ false) (sym (same_name q x here)) both.0)
+    (λ there. none_passes test xs both.1 q there)
   where
     split : (b : Bool) (rest : Option (List ℕ)) → is_some (cond b (Some x) rest) ≡ false → (b ≡ false) × (is_some rest ≡ false)
     split true rest j = absurd (false≢true (sym j))
@@ -125,10 +124,9 @@ numbered_once name a (suc k) h = (not_later name a (a + 1) k (omega arith) (omeg
 
 -- of one name more than are taken, one is free
 one_is_free : (name : List ℕ) (taken : List (List ℕ)) → length taken + 1 < 2 ^ 64 → is_some (find (λ other. not (is_among taken other)) (map (numbered name) (range_with_len 1 (length taken + 1)))) ≡ true
-one_is_free name taken few = elim (cases_Bool (is_some (find free numbers))) as (λ _. is_some (find free numbers) ≡ true) [
-  | inl h ↦ h
-  | inr h ↦ absurd (too_many (length-le_from_is_member nat_list_eq_equiv numbers taken (std_from_distinct numbers (numbered_once name 1 (length taken + 1) (omega (arith, few)))) (λ q i. not-false (is_among taken q) (none_passes free numbers h q i))))
-]
+one_is_free name taken few = by_either (cases_Bool (is_some (find free numbers)))
+    (λ h. h)
+    (λ h. absurd (too_many (length-le_from_is_member nat_list_eq_equiv numbers taken (std_from_distinct numbers (numbered_once name 1 (length taken + 1) (omega (arith, few)))) (λ q i. not-false (is_among taken q) (none_passes free numbers h q i)))))
   where
     free : List ℕ → Bool
     free other = not (is_among taken other)

@@ -31,11 +31,12 @@ pub use Rattle.std.specs.FinMap.{contains_key-keys, entries-insert, entries_sort
 pub use Rattle.std.specs.FinMap.Entries.{below_all, by_order, is_sorted, put}
 pub use Rattle.std.specs.Int.{bit_at, div_ceil, from_le_bytes, to_le_bytes, w128, w16, w32, w64}
 pub use Rattle.std.specs.Int.Bits.{xor_assoc, xor_self, xor_shifted, xor_zero_l, xor_zero_r}
+pub use Rattle.std.specs.Int.RustNames.{bit_xor}
 pub use Rattle.std.specs.List.{AllAdjacentBelow, AllByRecursion, AllZip, Contains, concat, cons_option, enumerate_from, list_all, list_any, position_from, prefix_len, range_with_len, starts_with, suffix_len}
 pub use Rattle.std.specs.List.Sorted.{IsNonDecreasingBy, IsStrictlyIncreasing}
 pub use Rattle.std.specs.Option.{ForSome, option_or}
 pub use Rattle.std.specs.Ordering.{eq_by_cmp, is_eq, is_lt, nat_cmp}
-pub use Rattle.std.specs.Prelude.{Err, IfSome, IsPermutation, None, Ok, Option, Result, Some, bit_xor, codes, decimal, filter, filter_map, find, flat_map, fold, if◌then◌else◌, is_none, is_ok, is_some, min, nat_eq, nat_le, nat_lt, ok_or, option_and_then, option_map, option_to_list, position, replicate, reverse, slice_get, slice_index, slice_index_or, sum_by, unwrap_or, zip, ◌==◌, ◌↔◌}
+pub use Rattle.std.specs.Prelude.{Err, IfSome, IsPermutation, None, Ok, Option, Result, Some, codes, decimal, filter, filter_map, find, flat_map, fold, if◌then◌else◌, is_none, is_ok, is_some, min, nat_eq, nat_le, nat_lt, ok_or, option_and_then, option_map, option_to_list, position, replicate, reverse, slice_get, slice_index, slice_index_or, sum_by, unwrap_or, zip, ◌==◌, ◌↔◌}
 pub use Rattle.std.specs.Str.{IsUtf8, bytes_eq, is_utf8}
 pub use Rattle.std.specs.declared.cmp.Ordering.{Ordering}
 pub use Rattle.std.specs.declared.cmp.Ordering.TheVariants.{Equal, Greater, Less}
@@ -48,14 +49,14 @@ pub use Rattle.par2_spec.specs.Faults.{fault_at, fault_of, fault_where, first_fa
 pub use Rattle.par2_spec.specs.Field.{coefficient, constant, constant_powers, modulus, mul}
 pub use Rattle.par2_spec.specs.Folders.{File, Folder, IsFolder, behind_length, bytes_of, files, fingerprint, has, names, without}
 pub use Rattle.par2_spec.specs.History.{Accepted, Ended, History, IsChanging, NothingToRedo, NothingToUndo, Passed, Refusal, Refused, Run, after_command, after_redo, after_undo, folders, in_front, unless_refused}
-pub use Rattle.par2_spec.specs.Journals.{HalfwayPart, IsHalfwayPart, IsJournal, Journal, Spells}
+pub use Rattle.par2_spec.specs.Journals.{HalfwayPart, IsHalfwayPart, Journal, Spells}
 pub use Rattle.par2_spec.specs.Laws.{AgreeingListsAreOne, DescIsRead, FilesHaveTheirSize, HalfwayJournalOpensAsBefore, HalfwayJournalStillOpens, HalfwayTextOpensAsBefore, HalfwayTextStillOpens, MainIsRead, OnlyOneOrder, RecoverySlicesAreRead, RefusedRepairHasAChoice, SomeSlicesAgree, TrueSlicesAreRebuilt, TwoListsAgree}
 pub use Rattle.par2_spec.specs.Names.{IsLeastFree, distinct, is_among, is_name, is_par_name, numbered}
 pub use Rattle.par2_spec.specs.Opening.{Halfway, Opened, Settled, TellsApart, is_valid, kept_in, opened_by_part, opened_if_found, session_of, session_of_opened}
 pub use Rattle.par2_spec.specs.Packets.{DescBody, IfscBody, IsCanonical, IsPacket, MainBody, Packet, RecoveryBody, accepted, begins_with_packet, bytes_at, claimed_length, digest_input, first_packet, items_at, kind_of, magic, packet, read_ifsc, read_recovery, type_of, without_end_zeros}
 pub use Rattle.par2_spec.specs.Plans.{AreFewFor, LeadsToAfter, LeadsToAfterAsked, changes_of, create_changes, now_at, purge_changes, repair_changes, repair_removals}
 pub use Rattle.par2_spec.specs.Polynomials.{AreElements, ArePoints, Interpolates, times, times_root, value, with_roots}
-pub use Rattle.par2_spec.specs.Rank.{Agrees, AnotherAgrees, AreBytes, AreSurvivors, IsKept, IsRebuilt, IsRepairable, IsVector, Kills, TwoAgree, is_as_known, is_independent, is_repairable, is_zero, kept, kept_slices, kills, rank, smaller}
+pub use Rattle.par2_spec.specs.Rank.{Agrees, AnotherAgrees, AreBytes, IsKept, IsRebuilt, IsRepairable, IsVector, Kills, is_as_known, is_independent, is_repairable, is_zero, kept, kept_slices, kills, rank, smaller}
 pub use Rattle.par2_spec.specs.Recovery.{coefficients, dot, recovery}
 pub use Rattle.par2_spec.specs.Refusals.{absent_file, after, are_counts, bad_name, by_set, purge_refusal, refusal, repair_refusal, set_in}
 pub use Rattle.par2_spec.specs.Repairs.{AreFew, FitsRepair, HoldsRepaired, after_purge, after_repair, after_repair_and_purge, aside, aside_files, cut_into, files_of_slices, is_par_file, lost_of_unmatched, matched_files, names_without_match, par_files, put_aside, rebuilt, rebuilt_targets, slices_by_target, taken_for}

@@ -1,5 +1,6 @@
 -- Slices that agree with the known ones and with the recovery slices of the kept exponents always exist.
-use Rattle.par2_spec.proofs.Common.{◌≡◌, ℕ, zero, suc, ◌+◌, ◌*◌, ◌/◌, ◌%◌, ◌^◌, ◌<◌, ◌≤◌, List, [], ◌∷◌, length, map, drop, refl, sym, ap, ap₂, ◌∙◌, subst, arith, true, false, Bool, inl, inr, bit_xor, flat_map, slice_index, Option, Some, None, is_some, filter, ◌==◌, replicate, unwrap_or, w16, to_le_bytes, xor_assoc, xor_self, xor_zero_r, range_with_len, AllByRecursion, AllZip, list_any, Contains, ForSome, xor_lt, xor_comm, length-map, AllZip-long, false≢true, cases_eq, or_cases, eqb-true, word, coefficients, IsVector, Kills, IsRepairable, Agrees, AnotherAgrees, kept, AreBytes, AreSurvivors, kept_slices, TwoAgree, lost, AreElements, drop-cons, mul, coefficient, TwoListsAgree, SomeSlicesAgree}
+use Rattle.par2_spec.proofs.Common.{◌≡◌, ℕ, zero, suc, ◌+◌, ◌*◌, ◌/◌, ◌%◌, ◌^◌, ◌<◌, ◌≤◌, List, [], ◌∷◌, length, map, drop, refl, sym, ap, ap₂, ◌∙◌, subst, arith, true, false, Bool, inl, inr, flat_map, slice_index, Option, Some, None, is_some, filter, ◌==◌, replicate, unwrap_or, w16, to_le_bytes, xor_assoc, xor_self, xor_zero_r, range_with_len, AllByRecursion, AllZip, list_any, Contains, ForSome, xor_lt, xor_comm, length-map, AllZip-long, false≢true, cases_eq, or_cases, eqb-true, word, coefficients, IsVector, Kills, IsRepairable, Agrees, AnotherAgrees, kept, AreBytes, kept_slices, lost, AreElements, drop-cons, mul, coefficient, TwoListsAgree, SomeSlicesAgree}
+use Rattle.std.specs.Prelude.{bit_xor}
 use Rattle.par2_spec.specs.Recovery.{dot}
 use Rattle.par2_spec.specs.Recovery.{combination, recovery, dot}
 use Rattle.par2_spec.proofs.RankLaws.{killed_vector, kept-iff, counts, counts-iff}
@@ -40,10 +41,9 @@ zero-spread (Some y ∷ ks) v = (refl, zero-spread ks v)
 
 at_lost-spread : (i : ℕ) (ks : List (Option (List ℕ))) (v : List ℕ) → length v ≡ length (lost_from i ks) → at_lost ks (spread ks v) ≡ v
 at_lost-spread i [] [] e = refl
-at_lost-spread i [] (x ∷ v) e = absurd (omega (arith, e))
-at_lost-spread i (None ∷ ks) [] e = absurd (omega (arith, e))
 at_lost-spread i (None ∷ ks) (x ∷ v) e = ap (λ w. x ∷ w) (at_lost-spread (i + 1) ks v (omega (arith, e)))
 at_lost-spread i (Some y ∷ ks) v e = at_lost-spread (i + 1) ks v e
+at_lost-spread i ks v e = absurd (omega (arith, e))
 
 zero_at_lost : (ks : List (Option (List ℕ))) (d : List ℕ) → AllByRecursion (λ x. x ≡ 0) d → AllByRecursion (λ x. x ≡ 0) (at_lost ks d)
 zero_at_lost [] d h = tt
@@ -83,22 +83,19 @@ second_part : (a b : ℕ) → a < 256 → (a + 256 * b) / 256 ≡ b
 second_part a b h = omega (arith, h)
 
 marked-zero : (text : List ℕ) → AllByRecursion (λ b. b < 256) text → marked 0 text ≡ text
-marked-zero [] h = refl
-marked-zero (a ∷ []) h = refl
 marked-zero (a ∷ b ∷ text) h = ap₂ (λ low high. low ∷ high ∷ text) (first_part a b h.0) (second_part a b h.0)
+marked-zero text h = refl
 
 both_parts : (y : ℕ) → y % 256 + 256 * (y / 256) ≡ y
 both_parts y = omega arith
 
 first_word-marked : (x : ℕ) (text : List ℕ) → 2 ≤ length text → word 0 (marked x text) ≡ bit_xor x (word 0 text)
-first_word-marked x [] h = absurd (omega (arith, h))
-first_word-marked x (a ∷ []) h = absurd (omega (arith, h))
 first_word-marked x (a ∷ b ∷ text) h = both_parts (bit_xor x (a + 256 * b))
+first_word-marked x text h = absurd (omega (arith, h))
 
 later_word-marked : (p x : ℕ) (text : List ℕ) → word (suc p) (marked x text) ≡ word (suc p) text
-later_word-marked p x [] = refl
-later_word-marked p x (a ∷ []) = refl
 later_word-marked p x (a ∷ b ∷ text) = word_behind p _ _ text ∙ sym (word_behind p a b text)
+later_word-marked p x text = refl
 
 -- ---- the elements of a vector added to the texts, each to its own
 
@@ -108,9 +105,8 @@ all_marked (x ∷ d) [] = []
 all_marked (x ∷ d) (text ∷ texts) = marked x text ∷ all_marked d texts
 
 length-all_marked : (d : List ℕ) (texts : List (List ℕ)) → length (all_marked d texts) ≡ length texts
-length-all_marked [] texts = refl
-length-all_marked (x ∷ d) [] = refl
 length-all_marked (x ∷ d) (text ∷ texts) = ap suc (length-all_marked d texts)
+length-all_marked d texts = refl
 
 sizes-all_marked : (s : ℕ) (d : List ℕ) (texts : List (List ℕ)) → AllByRecursion (λ text. length text ≡ s) texts → AllByRecursion (λ text. length text ≡ s) (all_marked d texts)
 sizes-all_marked s [] texts h = h
@@ -124,16 +120,14 @@ bytes-all_marked (x ∷ d) (text ∷ texts) small h = (bytes-marked x text small
 
 first_words : (s : ℕ) (d : List ℕ) (texts : List (List ℕ)) → 2 ≤ s → AllByRecursion (λ text. length text ≡ s) texts → length d ≡ length texts → map (word 0) (all_marked d texts) ≡ sums d (map (word 0) texts)
 first_words s [] [] some h e = refl
-first_words s [] (text ∷ texts) some h e = absurd (omega (arith, e))
-first_words s (x ∷ d) [] some h e = absurd (omega (arith, e))
 first_words s (x ∷ d) (text ∷ texts) some h e =
     let size : length text ≡ s = h.0 in
     ap₂ (λ w ws. w ∷ ws) (first_word-marked x text (omega (arith, some, size))) (first_words s d texts some h.1 (omega (arith, e)))
+first_words s d texts some h e = absurd (omega (arith, e))
 
 later_words : (p : ℕ) (d : List ℕ) (texts : List (List ℕ)) → map (word (suc p)) (all_marked d texts) ≡ map (word (suc p)) texts
-later_words p [] texts = refl
-later_words p (x ∷ d) [] = refl
 later_words p (x ∷ d) (text ∷ texts) = ap₂ (λ w ws. w ∷ ws) (later_word-marked p x text) (later_words p d texts)
+later_words p d texts = refl
 
 -- the known slices stay as they are
 known-all_marked : (ks : List (Option (List ℕ))) (v : List ℕ) (texts : List (List ℕ)) → AreTexts texts → AllZip (λ slice text. ForSome slice (λ found. text ≡ found)) ks texts
@@ -225,17 +219,15 @@ products_exchange r c x hr hc hx = sym (product_assoc r c x hr hc hx) ∙ ap (λ
 
 dot-scaled : (c : ℕ) (row v : List ℕ) → c < 2 ^ 16 → AreElements row → AreElements v → dot row (scaled c v) ≡ mul c (dot row v)
 unfolding dot
-dot-scaled c [] v small hr hv = sym (product-zero c)
-dot-scaled c (r ∷ row) [] small hr hv = sym (product-zero c)
 dot-scaled c (r ∷ row) (x ∷ v) small hr hv =
     ap₂ bit_xor (products_exchange r c x hr.0 small hv.0) (dot-scaled c row v small hr.1 hv.1)
     ∙ sym ((product_linear_right c).on_xor (mul r x) (dot row v))
+dot-scaled c row v small hr hv = sym (product-zero c)
 
 pub length-sums : (u v : List ℕ) → length u ≡ length v → length (sums u v) ≡ length v
 length-sums [] [] e = refl
-length-sums [] (y ∷ v) e = absurd (omega (arith, e))
-length-sums (x ∷ u) [] e = absurd (omega (arith, e))
 length-sums (x ∷ u) (y ∷ v) e = ap suc (length-sums u v (omega (arith, e)))
+length-sums u v e = absurd (omega (arith, e))
 
 -- ---- a vector for which each kept exponent gives its number
 

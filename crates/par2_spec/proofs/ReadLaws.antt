@@ -1,5 +1,5 @@
 -- What holds of a set that reads, and of the names that are searched.
-use Rattle.par2_spec.proofs.Common.{◌≡◌, ℕ, suc, ◌≤◌, List, [], ◌∷◌, ◌++◌, length, map, inl, inr, refl, sym, ap, ◌∙◌, subst, cond, true, false, Bool, not, ◌&&◌, ◌||◌, arith, length-append, ◌<◌, ◌+◌, ◌^◌, zero, ◌-◌, ◌*◌, take, drop, length-drop, min, nat_lt, filter, filter_map, flat_map, find, slice_get, sum_by, nat_le, Option, Some, None, is_some, unwrap_or, option_map, option_and_then, Result, Ok, Err, ok_or, ◌==◌, if◌then◌else◌, zip, list_all, AllByRecursion, Contains, concat, entries-insert, len-entries, len-empty, nat_cmp-IsAntisymmetric, nat_cmp_total, put, by_order, nat_cmp, Ordering, Less, Equal, Greater, zero-div, zero-mod, bytes_eq, length-map, nil_from_length, length-take-le, sum_by-cons, list_all-map, recursion_from_All, All-contains_itself, and_parts, and_from, or_cases, or_left, or_right, false_from_ne_true, eqb-true, leb-true, ltb-true, false≢true, Fault, NoPackets, NoMain, NoDescription, NoChecksums, BadSet, Pair, slice_count, is_name, is_among, distinct, Packet, accepted, MainBody, DescBody, RecoveryBody, read_ifsc, read_recovery, Folder, has, bytes_of, ParSet, Target, ◌>>=◌, unless, all_some, is_slice_size, packets_with, main_of, description_of, pairs_of, target_of, are_in_profile, recovery_of, other_par_names, IsSound, all_pairs, candidates, known, lost, AreFew, FitsRepair, lost_of_unmatched, cut_into, files_of_slices, div_ceil, div_ceil_times, FilesHaveTheirSize}
+use Rattle.par2_spec.proofs.Common.{◌≡◌, ℕ, suc, ◌≤◌, List, [], ◌∷◌, ◌++◌, length, map, refl, sym, ap, ◌∙◌, subst, cond, true, false, Bool, not, ◌&&◌, ◌||◌, arith, length-append, ◌<◌, ◌+◌, ◌^◌, zero, ◌-◌, ◌*◌, take, drop, length-drop, min, nat_lt, filter, filter_map, flat_map, find, slice_get, sum_by, nat_le, Option, Some, None, is_some, unwrap_or, option_map, option_and_then, Result, Ok, Err, ok_or, ◌==◌, if◌then◌else◌, zip, list_all, AllByRecursion, Contains, concat, entries-insert, len-entries, len-empty, nat_cmp-IsAntisymmetric, nat_cmp_total, put, by_order, nat_cmp, Ordering, Less, Equal, Greater, zero-div, zero-mod, bytes_eq, length-map, nil_from_length, length-take-le, sum_by-cons, list_all-map, recursion_from_All, All-contains_itself, and_parts, and_from, or_cases, or_left, or_right, false_from_ne_true, eqb-true, leb-true, ltb-true, false≢true, Fault, NoPackets, NoMain, NoDescription, NoChecksums, BadSet, Pair, slice_count, is_name, is_among, distinct, Packet, accepted, MainBody, DescBody, RecoveryBody, read_ifsc, read_recovery, Folder, has, bytes_of, ParSet, Target, ◌>>=◌, unless, all_some, is_slice_size, packets_with, main_of, description_of, pairs_of, target_of, are_in_profile, recovery_of, other_par_names, IsSound, candidates, known, lost, AreFew, FitsRepair, lost_of_unmatched, cut_into, div_ceil, div_ceil_times, FilesHaveTheirSize}
 use Rattle.std.specs.Prelude.{◌%◌}
 use Rattle.par2_spec.specs.Sets.{read_set, set_of}
 use Rattle.par2_spec.proofs.NamesLaws.{same_name, itself, clash, among-filter, among-append, AreDistinct, std_from_distinct}
@@ -7,6 +7,7 @@ use Rattle.par2_spec.proofs.FoundLaws.{AreSized, lost_is}
 use Rattle.par2_spec.proofs.ListsLaws.{found_one}
 use Rattle.std.proofs.lemmas.List.{length-append}
 use Rattle.std.specs.FinMap as map_of
+use Rattle.par2_spec.proofs.TestLaws.{by_either}
 
 -- ---- each name once
 
@@ -35,10 +36,9 @@ filter_full : (p : List ℕ → Bool) (xs : List (List ℕ)) → length (filter 
 filter_full p [] e q h = absurd (false≢true h)
 filter_full p (x ∷ xs) e q h =
     let r = step (p x) (filter p xs) (length-filter-le p xs) e in
-    elim (or_cases (bytes_eq q x) (is_among xs q) h) as (λ _. p q ≡ true) [
-      | inl here ↦ subst (λ y. p y ≡ true) (sym (same_name q x here)) r.0
-      | inr there ↦ filter_full p xs r.1 q there
-    ]
+    by_either (or_cases (bytes_eq q x) (is_among xs q) h)
+    (λ here. subst (λ y. p y ≡ true) (sym (same_name q x here)) r.0)
+    (λ there. filter_full p xs r.1 q there)
   where
     step : (b : Bool) (ys : List (List ℕ)) → length ys ≤ length xs → length (cond b (x ∷ ys) ys) ≡ suc (length xs) → (b ≡ true) × (length ys ≡ length xs)
     step true ys h k = (refl, omega (arith, k))
@@ -283,10 +283,9 @@ pub each_there : (folder : Folder) (extras : List (List ℕ)) → list_all (has 
 each_there folder [] h q i = absurd (false≢true i)
 each_there folder (x ∷ extras) h q i =
     let r = and_parts (has folder x) (list_all (has folder) extras) h in
-    elim (or_cases (bytes_eq q x) (is_among extras q) i) as (λ _. has folder q ≡ true) [
-      | inl here ↦ subst (λ y. has folder y ≡ true) (sym (same_name q x here)) r.0
-      | inr there ↦ each_there folder extras r.1 q there
-    ]
+    by_either (or_cases (bytes_eq q x) (is_among extras q) i)
+    (λ here. subst (λ y. has folder y ≡ true) (sym (same_name q x here)) r.0)
+    (λ there. each_there folder extras r.1 q there)
 
 candidates_are : (folder : Folder) (set : ParSet) (extras : List (List ℕ)) (q : List ℕ) → is_among (candidates folder set extras) q ≡ ((is_among (map (λ t. t.name) set.targets) q && has folder q) || is_among extras q)
 candidates_are folder set extras q =
@@ -296,10 +295,9 @@ candidates_are folder set extras q =
 
 -- where the extra names are in the folder, all candidates are
 pub candidates_there : (folder : Folder) (set : ParSet) (extras : List (List ℕ)) → list_all (has folder) extras ≡ true → (q : List ℕ) → is_among (candidates folder set extras) q ≡ true → has folder q ≡ true
-candidates_there folder set extras h q i = elim (or_cases (is_among (map (λ t. t.name) set.targets) q && has folder q) (is_among extras q) (sym (candidates_are folder set extras q) ∙ i)) as (λ _. has folder q ≡ true) [
-  | inl own ↦ (and_parts (is_among (map (λ t. t.name) set.targets) q) (has folder q) own).1
-  | inr extra ↦ each_there folder extras h q extra
-]
+candidates_there folder set extras h q i = by_either (or_cases (is_among (map (λ t. t.name) set.targets) q && has folder q) (is_among extras q) (sym (candidates_are folder set extras q) ∙ i))
+    (λ own. (and_parts (is_among (map (λ t. t.name) set.targets) q) (has folder q) own).1)
+    (λ extra. each_there folder extras h q extra)
 
 -- each target in the folder is a candidate
 pub present_searched : (folder : Folder) (set : ParSet) (extras : List (List ℕ)) (q : List ℕ) → is_among (map (λ t. t.name) set.targets) q ≡ true → has folder q ≡ true → is_among (candidates folder set extras) q ≡ true

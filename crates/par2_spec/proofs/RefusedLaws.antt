@@ -1,11 +1,11 @@
 -- Where a repair is refused as not repairable, other slices agree too.
-use Rattle.par2_spec.proofs.Common.{◌≡◌, ℕ, ◌+◌, ◌≤◌, List, [], ◌∷◌, refl, sym, ap, ◌∙◌, subst, true, false, Bool, not, arith, Option, Some, None, Result, Ok, AllByRecursion, both_ways, not-true, Fault, NoSuchFile, NameTooLong, NotRepairable, RepairFailed, first_fault, fault_where, then_fault, Folder, File, all_slices, is_repairable, IsRepairable, AnotherAgrees, ParSet, set_of, is_slice_size, MadeFrom, candidates, known, lost, survivors, NoCollision, Repair, RefusedRepairHasAChoice}
+use Rattle.par2_spec.proofs.Common.{◌≡◌, ℕ, ◌+◌, ◌≤◌, List, [], ◌∷◌, refl, sym, ap, ◌∙◌, subst, true, false, Bool, not, arith, Option, Some, None, Result, Ok, both_ways, not-true, Fault, NoSuchFile, NameTooLong, NotRepairable, RepairFailed, first_fault, fault_where, then_fault, Folder, all_slices, is_repairable, IsRepairable, ParSet, set_of, is_slice_size, candidates, known, lost, survivors, Repair, RefusedRepairHasAChoice}
 use Rattle.std.specs.FinMap as map_of
 use Rattle.par2_spec.specs.Refusals.{repair_refusal, refusal}
 use Rattle.par2_spec.proofs.ReadLaws.{sound_of, size_parts}
 use Rattle.par2_spec.proofs.RankLaws.{repairable-iff}
 use Rattle.par2_spec.proofs.ExistLaws.{another_agrees}
-use Rattle.par2_spec.proofs.RestoredLaws.{AreBytes, true_slices_agree}
+use Rattle.par2_spec.proofs.RestoredLaws.{true_slices_agree}
 use Rattle.par2_spec.proofs.AcceptedCommands.{missing, in_full, in_part}
 
 is_other : (f : Fault) (m r : ℕ) → (f ≡ NotRepairable m r → ⊥) → ◌≡◌ {A = Option Fault} (Some f) (Some (NotRepairable m r)) → ⊥

@@ -1,5 +1,5 @@
 -- Worked examples of the files that a create writes, and of what is read of them.
-use Rattle.par2_spec.proofs.Common.{flat_map, slice_index, bit_xor, Result, Ok, Err, codes, File, accepted, volume_name, ParSet, Kind, Main, FileDesc, Ifsc, Recovery, Creator, Fault, NoPackets}
+use Rattle.par2_spec.proofs.Common.{flat_map, slice_index, Result, Ok, Err, codes, bit_xor, File, accepted, volume_name, ParSet, Kind, Main, FileDesc, Ifsc, Recovery, Creator, Fault, NoPackets}
 use Rattle.std.specs.Prelude.{◌≡◌, ◌++◌, ℕ, refl, List, [], ◌∷◌, map, length, take, drop}
 use Rattle.std.specs.Str.{is_utf8, chars}
 use lib.Utf8.{encode}

@@ -1,5 +1,5 @@
 -- Whatever a stopped command left, it opens as the session from before it.
-use Rattle.par2_spec.proofs.Common.{◌≡◌, ℕ, zero, suc, ◌+◌, ◌-◌, ◌<◌, ◌≤◌, List, [], ◌∷◌, ◌++◌, length, map, take, drop, get_or, refl, sym, ap, ◌∙◌, subst, cond, true, false, Bool, not, ◌&&◌, inl, arith, length-append, length-drop, IfSome, reverse, position, Option, Some, None, Result, Ok, Err, unwrap_or, is_some, if◌then◌else◌, AllByRecursion, position_from, bytes_eq, drop-append_seam, take-append_seam, reverse-reverse, reverse-append, length-reverse, get_or-reverse, get_or-map, take-append-drop, length-map, length-take-le, take-map, take-take, get_or-take, drop-drop, reverse_onto, and_parts, and_from, false≢true, position_from-zero, Version, One, Two, Folder, fingerprint, Change, effect, inverse, is_applicable, Session, Journal, HalfwayPart, IsHalfwayPart, IsJournal, Spells, session_of, is_valid, Opened, Settled, Halfway, opened_if_found, opened_by_part, TellsApart, session_of_opened, kept_in, HalfwayJournalOpensAsBefore, HalfwayTextOpensAsBefore, HalfwayJournalStillOpens, HalfwayTextStillOpens}
+use Rattle.par2_spec.proofs.Common.{◌≡◌, ℕ, zero, suc, ◌+◌, ◌-◌, ◌<◌, ◌≤◌, List, [], ◌∷◌, ◌++◌, length, map, take, drop, get_or, refl, sym, ap, ◌∙◌, subst, cond, true, false, Bool, not, ◌&&◌, inl, arith, length-append, length-drop, IfSome, reverse, position, Option, Some, None, Result, Ok, Err, unwrap_or, is_some, if◌then◌else◌, AllByRecursion, position_from, bytes_eq, drop-append_seam, take-append_seam, reverse-reverse, reverse-append, length-reverse, get_or-reverse, get_or-map, take-append-drop, length-map, length-take-le, take-map, take-take, get_or-take, drop-drop, reverse_onto, and_parts, and_from, false≢true, position_from-zero, Folder, fingerprint, Change, effect, inverse, is_applicable, Session, session_of, is_valid, Opened, Settled, Halfway, opened_if_found, opened_by_part, TellsApart, session_of_opened, kept_in, HalfwayJournalOpensAsBefore, HalfwayTextOpensAsBefore, HalfwayJournalStillOpens, HalfwayTextStillOpens, Version, One, Two, Journal, HalfwayPart, IsHalfwayPart, Spells}
 use Rattle.std.proofs.lemmas.List.{append-nil}
 use Rattle.par2_spec.specs.declared.JournalFault.{JournalFault}
 use Rattle.par2_spec.specs.declared.JournalFault.TheVariants.{JournalInvalid, FolderChanged}
@@ -48,10 +48,9 @@ length-passed folder (c ∷ cs) = let e : length (passed (effect folder c) cs) �
 
 passed_at : (folder : Folder) (cs : List Change) (j : ℕ) (d : Folder) → j ≤ length cs → get_or (passed folder cs) j d ≡ effects folder (take j cs)
 unfolding folders_after effects
-passed_at folder [] zero d le = refl
-passed_at folder (c ∷ cs) zero d le = refl
 passed_at folder [] (suc j) d le = absurd (omega (arith, le))
 passed_at folder (c ∷ cs) (suc j) d le = passed_at (effect folder c) cs j d (omega (arith, le))
+passed_at folder cs j d le = refl
 
 -- told apart, two folders of one fingerprint are one
 one_folder : (folder : Folder) (cs : List Change) (a b : ℕ) → TellsApart folder cs → a ≤ length cs → b ≤ length cs → fingerprint (effects folder (take a cs)) ≡ fingerprint (effects folder (take b cs)) → effects folder (take a cs) ≡ effects folder (take b cs)
@@ -103,11 +102,10 @@ length-befores folder (c ∷ cs) = ap suc (length-befores (effect folder c) cs)
 through-append : (folder : Folder) (cs ds : List Change) (ps qs : List (List ℕ)) → length ps ≡ length cs → leads_through folder cs ps ≡ true → leads_through (effects folder cs) ds qs ≡ true → leads_through folder (cs ++ ds) (ps ++ qs) ≡ true
 unfolding leads_through effects
 through-append folder [] ds [] qs e h k = k
-through-append folder [] ds (p ∷ ps) qs e h k = absurd (omega (arith, e))
-through-append folder (c ∷ cs) ds [] qs e h k = absurd (omega (arith, e))
 through-append folder (c ∷ cs) ds (p ∷ ps) qs e h k =
     let r = and_parts (is_applicable folder c && bytes_eq (fingerprint (effect folder c)) p) (leads_through (effect folder c) cs ps) h in
     and_from _ _ r.0 (through-append (effect folder c) cs ds ps qs (omega (arith, e)) r.1 k)
+through-append folder cs ds ps qs e h k = absurd (omega (arith, e))
 
 -- the way back leads through the folders before each change, the last one first
 way_back_through : (folder : Folder) (cs : List Change) → are_applicable folder cs ≡ true → leads_through (effects folder cs) (way_back folder cs) (reverse (map fingerprint (befores folder cs))) ≡ true
@@ -237,9 +235,8 @@ halfway_opens v s cs j valid applies apart le =
 
 -- what is to be taken back, where it is
 back_of : Result Opened JournalFault → Option (List Change)
-back_of (Ok (Settled s)) = None
 back_of (Ok (Halfway s back)) = Some back
-back_of (Err fault) = None
+back_of s = None
 
 session_or : Session → Result Opened JournalFault → Session
 session_or other (Ok (Settled s)) = s

@@ -9,7 +9,6 @@ ghost use Rattle.par2_spec.specs.Checksums.{IsPair};
 ghost use Rattle.par2_spec.specs.Laws.{MainIsRead, DescIsRead, RecoverySlicesAreRead};
 
 /// A text of fewer than 64 bytes has no packets.
-#[tactic(auto, using(crate::proofs::WrittenPackets::none_short))]
 pub fn none_in_short_text()
     ensures { (text : List ℕ) → length text < 64 → accepted text ≡ [] }
 {}
@@ -27,7 +26,6 @@ pub fn none_in_front()
 {}
 
 /// Packets followed by any text are read as those packets, then as that text is.
-#[tactic(auto, using(crate::proofs::WrittenPackets::packets_then))]
 pub fn packets_then_text()
     ensures { (packets : List Packet) (text : List ℕ) → AllByRecursion IsPacket packets
         → accepted (flat_map packet packets ++ text) ≡ packets ++ accepted text }
@@ -86,7 +84,6 @@ pub fn recovery_is_a_packet()
 {}
 
 /// The packets of an index that was written are read as they are, and what is after them as it is.
-#[tactic(auto, using(crate::proofs::WrittenSets::index_reads))]
 pub fn index_is_read()
     ensures { (s : ℕ) (files : List FileRecord) (text : List ℕ)
         → length files < 2 ^ 32 → AllByRecursion IsFileRecord files → accepted
