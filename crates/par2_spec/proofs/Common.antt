@@ -27,7 +27,7 @@ pub use Rattle.std.proofs.lemmas.Slice.Zip.{AllZip-long}
 pub use Rattle.std.proofs.lemmas.Str.{IsUtf8-append, IsUtf8-from_ascii, IsUtf8-from_is_utf8, is_utf8-from_IsUtf8}
 pub use Rattle.std.specs.Cmp.{eq_by_cmp_equiv, nat_cmp_total}
 pub use Rattle.std.specs.Cmp.Lexicographic.{nat_list_cmp_total, slice_cmp}
-pub use Rattle.std.specs.FinMap.{contains_key-keys, entries-insert, entries_sorted, get-empty, get-insert, get-remove, get-retain_keys, get_tied, len-empty, len-entries, nat_cmp-IsAntisymmetric, same_map, slice_cmp-IsAntisymmetric}
+pub use Rattle.std.specs.FinMap.{contains_key-keys, entries-insert, entries_sorted, get-insert, get-remove, get-retain_keys, get_tied, len-empty, len-entries, nat_cmp-IsAntisymmetric, same_map, slice_cmp-IsAntisymmetric}
 pub use Rattle.std.specs.FinMap.Entries.{below_all, by_order, is_sorted, put}
 pub use Rattle.std.specs.Int.{bit_at, div_ceil, from_le_bytes, to_le_bytes, w128, w16, w32, w64}
 pub use Rattle.std.specs.Int.Bits.{xor_assoc, xor_self, xor_shifted, xor_zero_l, xor_zero_r}
@@ -46,32 +46,26 @@ pub use Rattle.par2_spec.specs.Changes.{Change, FolderState, Remove, Rename, Rep
 pub use Rattle.par2_spec.specs.Checksums.{IsPair, Pair, crc_byte, crc_step, crc_steps, pair_of}
 pub use Rattle.par2_spec.specs.Commands.{Action, Command, Create, CreateArgs, Do, Purge, Redo, Repair, Undo, Verify, files_of, outputs_of}
 pub use Rattle.par2_spec.specs.Faults.{fault_at, fault_of, fault_where, first_fault, then_fault}
-pub use Rattle.par2_spec.specs.Field.{coefficient, constant, constant_powers, modulus, mul}
-pub use Rattle.par2_spec.specs.Folders.{File, Folder, IsFolder, behind_length, bytes_of, files, fingerprint, has, names, without}
-pub use Rattle.par2_spec.specs.History.{Accepted, Ended, History, IsChanging, NothingToRedo, NothingToUndo, Passed, Refusal, Refused, Run, after_command, after_redo, after_undo, folders, in_front, unless_refused}
-pub use Rattle.par2_spec.specs.Journals.{HalfwayPart, IsHalfwayPart, Journal, Spells}
+pub use Rattle.par2_spec.specs.Field.{coefficient, constant, modulus, mul}
+pub use Rattle.par2_spec.specs.Folders.{File, Folder, IsFolder, bytes_of, files, fingerprint, has, names, without}
 pub use Rattle.par2_spec.specs.Laws.{AgreeingListsAreOne, DescIsRead, FilesHaveTheirSize, HalfwayJournalOpensAsBefore, HalfwayJournalStillOpens, HalfwayTextOpensAsBefore, HalfwayTextStillOpens, MainIsRead, OnlyOneOrder, RecoverySlicesAreRead, RefusedRepairHasAChoice, SomeSlicesAgree, TrueSlicesAreRebuilt, TwoListsAgree}
 pub use Rattle.par2_spec.specs.Names.{IsLeastFree, distinct, is_among, is_name, is_par_name, numbered}
 pub use Rattle.par2_spec.specs.Opening.{Halfway, Opened, Settled, TellsApart, is_valid, kept_in, opened_by_part, opened_if_found, session_of, session_of_opened}
 pub use Rattle.par2_spec.specs.Packets.{DescBody, IfscBody, IsCanonical, IsPacket, MainBody, Packet, RecoveryBody, accepted, begins_with_packet, bytes_at, claimed_length, digest_input, first_packet, items_at, kind_of, magic, packet, read_ifsc, read_recovery, type_of, without_end_zeros}
 pub use Rattle.par2_spec.specs.Plans.{AreFewFor, LeadsToAfter, LeadsToAfterAsked, changes_of, create_changes, now_at, purge_changes, repair_changes, repair_removals}
 pub use Rattle.par2_spec.specs.Polynomials.{AreElements, ArePoints, Interpolates, times, times_root, value, with_roots}
-pub use Rattle.par2_spec.specs.Rank.{Agrees, AnotherAgrees, AreBytes, IsKept, IsRebuilt, IsRepairable, IsVector, Kills, is_as_known, is_independent, is_repairable, is_zero, kept, kept_slices, kills, rank, smaller}
+pub use Rattle.par2_spec.specs.Rank.{Agrees, AnotherAgrees, AreBytes, AreSurvivors, IsKept, IsRebuilt, IsRepairable, IsVector, Kills, TwoAgree, is_as_known, is_independent, is_repairable, is_zero, kept, kept_slices, kills, rank, smaller}
 pub use Rattle.par2_spec.specs.Recovery.{coefficients, dot, recovery}
 pub use Rattle.par2_spec.specs.Refusals.{absent_file, after, are_counts, bad_name, by_set, purge_refusal, refusal, repair_refusal, set_in}
 pub use Rattle.par2_spec.specs.Repairs.{AreFew, FitsRepair, HoldsRepaired, after_purge, after_repair, after_repair_and_purge, aside, aside_files, cut_into, files_of_slices, is_par_file, lost_of_unmatched, matched_files, names_without_match, par_files, put_aside, rebuilt, rebuilt_targets, slices_by_target, taken_for}
-pub use Rattle.par2_spec.specs.Reports.{Complete, Damaged, HasIntactFile, IntactAreFound, IsByTarget, IsFound, IsFoundWhole, IsVerdict, IsVerdictIn, MatchedAreFound, Misplaced, Missing, RefusedAsReported, Report, State, StatesFollow, found_of, is_complete, needing_state, states_by, verdict_of}
+pub use Rattle.par2_spec.specs.Reports.{Complete, HasIntactFile, IntactAreFound, IsByTarget, IsFound, IsFoundWhole, IsVerdict, IsVerdictIn, MatchedAreFound, RefusedAsReported, Report, State, StatesFollow, found_of, is_complete, needing_state, states_by, verdict_of}
 pub use Rattle.par2_spec.specs.Search.{AreFirstMatches, NoCollision, candidates, intact_names, is_intact, is_needing, known, lost, match_of, matched, matches, matching, needing, needing_names, survivors}
 pub use Rattle.par2_spec.specs.Sessions.{CanWalk, KeptSession, OnlyGrew, Session, changes_unless, first_entry, others, session_of_kept, session_unless}
 pub use Rattle.par2_spec.specs.Sets.{IsSound, MadeFrom, ParSet, Target, all_pairs, all_some, are_in_profile, description_of, is_slice_size, main_of, other_par_names, packets_with, pairs_of, recovery_of, set_of, target_names, target_of, target_of_file, unless, ◌>>=◌}
-pub use Rattle.par2_spec.specs.Slices.{padded, slice_at, slice_count, slices, word, words}
+pub use Rattle.par2_spec.specs.Slices.{slice_at, slice_count, slices, word}
 pub use Rattle.par2_spec.specs.Sums.{OneChanged, list_at, lists_of, row_sum}
 pub use Rattle.par2_spec.specs.Volumes.{FileRecord, IsFileRecord, all_slices, creator_bytes, desc_bytes, five_digits, id_number, ifsc_bytes, in_id_order, index_packets, insert_by_id, main_bytes, main_id, packet_of, padded_4, pair_bytes, record_of, recovery_bytes, recovery_packets, stem, volume_name, volume_numbers, volume_size, volumes_before}
-pub use Rattle.par2_spec.specs.Windows.{first_match, found, is_match, window, windows}
-pub use Rattle.par2_spec.specs.declared.ChangeFault.TheVariants.{NameTaken, NoRoom, NoSuchName}
+pub use Rattle.par2_spec.specs.Windows.{found, is_match, window, windows}
 pub use Rattle.par2_spec.specs.declared.Fault.{Fault}
-pub use Rattle.par2_spec.specs.declared.Fault.TheVariants.{BadBase, BadCount, BadName, BadSet, BadSliceSize, DuplicateInput, NameTooLong, NoChecksums, NoDescription, NoInput, NoMain, NoPackets, NoSuchFile, NotRepairable, RepairFailed}
+pub use Rattle.par2_spec.specs.declared.Fault.TheVariants.{BadBase, BadCount, BadSet, BadSliceSize, NameTooLong, NoChecksums, NoDescription, NoInput, NoMain, NoPackets, NoSuchFile, NotRepairable, RepairFailed}
 pub use Rattle.par2_spec.specs.declared.Kind.{Kind}
-pub use Rattle.par2_spec.specs.declared.Kind.TheVariants.{Creator, FileDesc, Ifsc, Main, Recovery}
-pub use Rattle.par2_spec.specs.declared.Version.{Version}
-pub use Rattle.par2_spec.specs.declared.Version.TheVariants.{One, Two}

@@ -4,7 +4,6 @@ pub mod FieldProducts
 pub mod FieldOrder
 pub mod FieldSteps
 pub mod FieldConstants
-pub mod FieldRows
 pub mod SumLaws
 pub mod PolynomialLaws
 pub mod FolderLaws
@@ -33,12 +32,6 @@ pub mod AcceptedCommands
 pub mod StopLaws
 pub mod WritingLaws
 pub mod WrittenSets
-pub mod RowsSlices
-pub mod RowsVolumes
-pub mod RowsTexts
-pub mod RowsJournals
-pub mod RowsFolders
-pub mod RowsRank
 pub mod UniqueLaws
 pub mod ExistLaws
 pub mod FullRank

@@ -1,5 +1,6 @@
 -- A session is a history, and a kept session keeps its room.
-use Rattle.par2_spec.proofs.Common.{◌≡◌, ℕ, zero, suc, ◌+◌, ◌-◌, ◌≤◌, List, [], ◌∷◌, refl, sym, ap, ◌∙◌, subst, true, arith, Option, Some, None, Result, Ok, Err, replicate, sum_by, is_ok, AllByRecursion, and_parts, and_from, false≢true, sum_by-cons, drop-nil, Fault, Folder, Change, Write, Replace, Rename, Remove, state_after, effects, are_applicable, way_back, FolderState, takes_all, places_taken, Command, Create, Verify, Repair, Purge, Action, Do, Undo, Redo, refusal, after, changes_of, LeadsToAfter, LeadsToAfterAsked, Session, first_entry, changes_unless, others, session_unless, KeptSession, session_of_kept, CanWalk, OnlyGrew, is_valid, History, Refusal, Refused, NothingToUndo, NothingToRedo, in_front, after_command, unless_refused, after_undo, after_redo, Run, Ended, Accepted, Passed, folders, IsChanging}
+use Rattle.par2_spec.proofs.Common.{◌≡◌, ℕ, zero, suc, ◌+◌, ◌-◌, ◌≤◌, List, [], ◌∷◌, refl, sym, ap, ◌∙◌, subst, true, arith, Option, Some, None, Result, Ok, Err, replicate, sum_by, is_ok, AllByRecursion, and_parts, and_from, false≢true, sum_by-cons, drop-nil, Fault, Folder, Change, Write, Replace, Rename, Remove, state_after, effects, are_applicable, way_back, FolderState, takes_all, places_taken, Command, Create, Verify, Repair, Purge, Action, Do, Undo, Redo, refusal, after, changes_of, LeadsToAfter, LeadsToAfterAsked, Session, first_entry, changes_unless, others, session_unless, KeptSession, session_of_kept, CanWalk, OnlyGrew, is_valid}
+use Rattle.par2_spec.specs.History.{History, Refusal, Refused, NothingToUndo, NothingToRedo, in_front, after_command, unless_refused, after_undo, after_redo, Run, Ended, Accepted, Passed, folders, IsChanging}
 use Rattle.std.specs.Prelude.{drop, length}
 use Rattle.par2_spec.specs.Changes.{state_after_all}
 use Rattle.par2_spec.specs.History.{history_after}

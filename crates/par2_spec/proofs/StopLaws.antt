@@ -1,5 +1,8 @@
 -- Whatever a stopped command left, it opens as the session from before it.
-use Rattle.par2_spec.proofs.Common.{◌≡◌, ℕ, zero, suc, ◌+◌, ◌-◌, ◌<◌, ◌≤◌, List, [], ◌∷◌, ◌++◌, length, map, take, drop, get_or, refl, sym, ap, ◌∙◌, subst, cond, true, false, Bool, not, ◌&&◌, inl, arith, length-append, length-drop, IfSome, reverse, position, Option, Some, None, Result, Ok, Err, unwrap_or, is_some, if◌then◌else◌, AllByRecursion, position_from, bytes_eq, drop-append_seam, take-append_seam, reverse-reverse, reverse-append, length-reverse, get_or-reverse, get_or-map, take-append-drop, length-map, length-take-le, take-map, take-take, get_or-take, drop-drop, reverse_onto, and_parts, and_from, false≢true, position_from-zero, Folder, fingerprint, Change, effect, inverse, is_applicable, Session, session_of, is_valid, Opened, Settled, Halfway, opened_if_found, opened_by_part, TellsApart, session_of_opened, kept_in, HalfwayJournalOpensAsBefore, HalfwayTextOpensAsBefore, HalfwayJournalStillOpens, HalfwayTextStillOpens, Version, One, Two, Journal, HalfwayPart, IsHalfwayPart, Spells}
+use Rattle.par2_spec.proofs.Common.{◌≡◌, ℕ, zero, suc, ◌+◌, ◌-◌, ◌<◌, ◌≤◌, List, [], ◌∷◌, ◌++◌, length, map, take, drop, get_or, refl, sym, ap, ◌∙◌, subst, cond, true, false, Bool, not, ◌&&◌, inl, arith, length-append, length-drop, IfSome, reverse, position, Option, Some, None, Result, Ok, Err, unwrap_or, is_some, if◌then◌else◌, AllByRecursion, position_from, bytes_eq, drop-append_seam, take-append_seam, reverse-reverse, reverse-append, length-reverse, get_or-reverse, get_or-map, take-append-drop, length-map, length-take-le, take-map, take-take, get_or-take, drop-drop, reverse_onto, and_parts, and_from, false≢true, position_from-zero, Folder, fingerprint, Change, effect, inverse, is_applicable, Session, session_of, is_valid, Opened, Settled, Halfway, opened_if_found, opened_by_part, TellsApart, session_of_opened, kept_in, HalfwayJournalOpensAsBefore, HalfwayTextOpensAsBefore, HalfwayJournalStillOpens, HalfwayTextStillOpens}
+use Rattle.par2_spec.specs.declared.Version.{Version}
+use Rattle.par2_spec.specs.declared.Version.TheVariants.{One, Two}
+use Rattle.par2_spec.specs.Journals.{Journal, HalfwayPart, IsHalfwayPart, Spells}
 use Rattle.std.proofs.lemmas.List.{append-nil}
 use Rattle.par2_spec.specs.declared.JournalFault.{JournalFault}
 use Rattle.par2_spec.specs.declared.JournalFault.TheVariants.{JournalInvalid, FolderChanged}
