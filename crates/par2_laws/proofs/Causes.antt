@@ -1,5 +1,5 @@
 -- What each answer to a repair says of the three tests of its set.
-use Rattle.par2_laws.proofs.Common.{◌≡◌, ℕ, List, [], ◌∷◌, refl, true, false, Bool, not, list_all, AllByRecursion, bytes_eq, and_parts, not-true, md5, Fault, NameTooLong, NotRepairable, RepairFailed, first_fault, fault_where, is_repairable, rank, Folder, ParSet, Target, known, lost, survivors, rebuilt_targets, first_cause, IsRepairable, repairable-iff, may_refuse}
+use Rattle.par2_laws.proofs.Common.{◌≡◌, ℕ, List, [], ◌∷◌, refl, true, false, Bool, not, list_all, AllByRecursion, bytes_eq, and_parts, not-true, md5, Fault, NameTooLong, NotRepairable, RepairFailed, first_fault, fault_where, is_repairable, rank, IsRepairable, Folder, ParSet, Target, known, lost, survivors, rebuilt_targets, first_cause, repairable-iff, may_refuse}
 use Rattle.std.specs.Prelude.{Option, Some, None}
 use Rattle.std.proofs.lemmas.Slice.Eq.{bytes_eq-Decides}
 use Rattle.par2_spec.specs.Refusals.{repair_refusal}
@@ -15,24 +15,18 @@ answer repairable long right missing rank =
 
 by_none : (repairable long right : Bool) (m r : ℕ) → answer repairable long right m r ≡ None → (repairable ≡ true) × (right ≡ true)
 by_none true false true m r e = (refl, refl)
-by_none true false false m r e = cc
-by_none true true right m r e = cc
-by_none false long right m r e = cc
+by_none repairable long right m r e = cc
 
 by_failed : (repairable long right : Bool) (m r : ℕ) → answer repairable long right m r ≡ Some RepairFailed → (repairable ≡ true) × (right ≡ false)
 by_failed true false false m r e = (refl, refl)
-by_failed true false true m r e = cc
-by_failed true true right m r e = cc
-by_failed false long right m r e = cc
+by_failed repairable long right m r e = cc
 
 by_unrepairable : (repairable long right : Bool) (m r missing rank : ℕ) → answer repairable long right m r ≡ Some (NotRepairable missing rank) → repairable ≡ false
 by_unrepairable repairable long right m r missing rank e = not-true repairable (first_cause (not repairable) long (not right) m r missing rank e)
 
 by_few : (repairable long right : Bool) (m r : ℕ) (fault : Fault) → (fault ≡ RepairFailed → ⊥) → answer repairable long right m r ≡ Some fault → may_refuse fault ≡ true
 by_few true false false m r fault never e = absurd (never (cc))
-by_few true false true m r fault never e = cc
-by_few true true right m r fault never e = cc
-by_few false long right m r fault never e = cc
+by_few repairable long right m r fault never e = cc
 
 -- a file that is written has its digest
 abbrev pub has_digest : Target × List ℕ → Bool

@@ -1,5 +1,5 @@
 -- What damage leaves of the par files of a create.
-use Rattle.par2_laws.proofs.Common.{◌≡◌, ℕ, zero, suc, ◌+◌, ◌*◌, ◌^◌, ◌<◌, ◌≤◌, true, false, not, ◌&&◌, List, [], ◌∷◌, ◌++◌, length, map, take, Option, None, sym, ap, ◌∙◌, subst, append_assoc, length-append, arith, ◌-◌, drop, Bool, cond, Some, refl, inl, inr, ◌⊎◌, ◌||◌, sum_by, nat_lt, ◌==◌, is_some, codes, filter, AllByRecursion, list_any, enumerate_from, Contains, bytes_eq, str_to_ascii_lowercase, get-entries, nat_cmp, slice_cmp, not-false, and_parts, or_parts, eqb-true, eqb-false, ltb-false, false≢true, or_from, or_left, div_ceil_times, length-map, sum_by-cons, Fault, BadSliceSize, BadCount, BadBase, NoInput, BadName, DuplicateInput, NoSuchFile, EmptyFile, TooManySlices, DuplicateId, NameTooLong, Exists, fault_where, fault_at, slice_count, slices, is_name, is_par_name, is_among, distinct, par2_ending, Folder, File, IsFolder, has, bytes_of, files, names, without, id_of, volume_name, volume_numbers, volume_size, volumes_before, stem, five_digits, all_slices, in_id_order, is_slice_size, other_par_names, MadeFrom, target_of_file, target_names, CreateArgs, Create, files_of, outputs_of, are_counts, is_input_name, AreInputs, IsVolume, IsVolumeOrOther, IsOfOthers, set_id_of, HoldsVolumes, FitsCreate, IsDamage, output_names, FollowsCreate, all_weaker, size_positive, distinct_by_length, same_either_way, std_from_distinct, found_at_key, contained_first, contained_later, all-append, all-parts, all-flat_map, where_none, all_none, at_none, some_if, names_of_files, at_name, recursion_from_All, filter_passes, same_Some, IsPermutation-sym, IsPermutation-map, map-map, pair_of, Matches, windows, AreBytes, candidates, NoCollision, all-filter, moved-all, unwrap_or, moved-ordered, IsTrueTo}
+use Rattle.par2_laws.proofs.Common.{◌≡◌, ℕ, zero, suc, ◌+◌, ◌*◌, ◌^◌, ◌<◌, ◌≤◌, true, false, not, ◌&&◌, List, [], ◌∷◌, ◌++◌, length, map, take, Option, None, sym, ap, ◌∙◌, subst, append_assoc, length-append, arith, ◌-◌, drop, Bool, cond, Some, refl, inl, inr, ◌⊎◌, ◌||◌, unwrap_or, sum_by, nat_lt, ◌==◌, is_some, codes, filter, AllByRecursion, list_any, enumerate_from, Contains, bytes_eq, str_to_ascii_lowercase, get-entries, nat_cmp, slice_cmp, not-false, and_parts, or_parts, eqb-true, eqb-false, ltb-false, false≢true, or_from, or_left, div_ceil_times, length-map, sum_by-cons, Fault, BadSliceSize, BadCount, BadBase, NoInput, BadName, DuplicateInput, NoSuchFile, EmptyFile, TooManySlices, DuplicateId, NameTooLong, Exists, fault_where, fault_at, slice_count, slices, is_name, is_par_name, is_among, distinct, par2_ending, Folder, File, IsFolder, has, bytes_of, files, names, without, id_of, volume_name, volume_numbers, volume_size, volumes_before, stem, five_digits, all_slices, in_id_order, is_slice_size, other_par_names, MadeFrom, target_of_file, target_names, CreateArgs, Create, files_of, outputs_of, are_counts, is_input_name, AreInputs, IsVolume, IsVolumeOrOther, IsOfOthers, set_id_of, HoldsVolumes, FitsCreate, IsDamage, output_names, FollowsCreate, all_weaker, size_positive, distinct_by_length, same_either_way, std_from_distinct, found_at_key, contained_first, contained_later, all-append, all-parts, all-flat_map, where_none, all_none, at_none, some_if, names_of_files, at_name, recursion_from_All, filter_passes, same_Some, IsPermutation-sym, IsPermutation-map, map-map, pair_of, Matches, windows, AreBytes, candidates, NoCollision, all-filter, moved-all, moved-ordered, IsTrueTo, by_either}
 use Rattle.std.proofs.Math.Seq.{take-append_seam, drop-append_seam}
 use Rattle.par2_spec.specs.Refusals.{refusal}
 use Rattle.par2_spec.proofs.MovesLaws.{get_put, get_without}
@@ -151,10 +151,9 @@ laid_cases : (files : List File) (folder : Folder) (q bytes : List ℕ) → map_
 unfolding laid_over
 laid_cases [] folder q bytes h = inr (refl, h)
 laid_cases (file ∷ files) folder q bytes h =
-    elim (laid_cases files (map_of.insert folder file.0 file.1) q bytes h) as (λ _. Contains (bytes_in (file ∷ files)) bytes ⊎ ((is_among (map (λ f. f.0) (file ∷ files)) q ≡ false) × (map_of.get folder q ≡ Some bytes))) [
-      | inl i ↦ inl (contained_later file.1 (bytes_in files) bytes i)
-      | inr r ↦ step (bytes_eq q file.0) refl r.0 (sym (get_put folder file.0 file.1 q) ∙ r.1)
-    ]
+    by_either (laid_cases files (map_of.insert folder file.0 file.1) q bytes h)
+    (λ i. inl (contained_later file.1 (bytes_in files) bytes i))
+    (λ r. step (bytes_eq q file.0) refl r.0 (sym (get_put folder file.0 file.1 q) ∙ r.1))
   where
     step : (b : Bool) → bytes_eq q file.0 ≡ b → is_among (map (λ f. f.0) files) q ≡ false → cond b (Some file.1) (map_of.get folder q) ≡ Some bytes
         → Contains (bytes_in (file ∷ files)) bytes ⊎ ((is_among (map (λ f. f.0) (file ∷ files)) q ≡ false) × (map_of.get folder q ≡ Some bytes))
@@ -194,10 +193,9 @@ module _ (before damaged : Folder) (a : CreateArgs) (base : List ℕ) (accepted 
 
   is_volume_or_other : (name : List ℕ) → is_par_name name ≡ true → has damaged name ≡ true → IsVolumeOrOther a.slice inputs (bytes_of damaged name)
   is_volume_or_other name par there =
-      elim (laid_cases (outputs_of before a) before name (bytes_of damaged name) (is_there name par there)) as (λ _. IsVolumeOrOther a.slice inputs (bytes_of damaged name)) [
-        | inl i ↦ inl (written (bytes_of damaged name) i)
-        | inr r ↦ subst (IsVolumeOrOther a.slice inputs) (ap (λ o. unwrap_or o []) r.1) (fits.other_pars name par (ap is_some r.1) r.0)
-      ]
+      by_either (laid_cases (outputs_of before a) before name (bytes_of damaged name) (is_there name par there))
+      (λ i. inl (written (bytes_of damaged name) i))
+      (λ r. subst (IsVolumeOrOther a.slice inputs) (ap (λ o. unwrap_or o []) r.1) (fits.other_pars name par (ap is_some r.1) r.0))
 
   none_there : (name : List ℕ) → has damaged name ≡ false → IsOfOthers (set_id_of a.slice inputs) (bytes_of damaged name)
   unfolding accepted_after
@@ -217,10 +215,9 @@ module _ (before damaged : Folder) (a : CreateArgs) (base : List ℕ) (accepted 
   base_written : Contains (bytes_in (outputs_of before a)) (bytes_of damaged base)
   base_written =
       let par = at_name (λ name. is_par_name name ≡ true) (output_names before a) base (par_outputs before a (and_parts (is_name a.base) (is_par_name a.base) (passes before a accepted).base).1) damage.written in
-      elim (laid_cases (outputs_of before a) before base (bytes_of damaged base) (is_there base par damage.there)) as (λ _. Contains (bytes_in (outputs_of before a)) (bytes_of damaged base)) [
-        | inl i ↦ i
-        | inr r ↦ absurd (false≢true (sym r.0 ∙ damage.written))
-      ]
+      by_either (laid_cases (outputs_of before a) before base (bytes_of damaged base) (is_there base par damage.there))
+      (λ i. i)
+      (λ r. absurd (false≢true (sym r.0 ∙ damage.written)))
 
   holds_volumes : HoldsVolumes damaged base a.slice inputs
   holds_volumes = record {

@@ -1,5 +1,5 @@
 -- The recovery slices of a set that reads are bytes of its folder's files.
-use Rattle.par2_laws.proofs.Common.{ℕ, zero, suc, ◌+◌, ◌*◌, ◌/◌, ◌%◌, ◌^◌, ◌<◌, List, [], ◌∷◌, length, map, arith, ◌≡◌, sym, subst, refl, inl, inr, true, ◌-◌, drop, ap, ◌∙◌, T, cond, false, Bool, ◌&&◌, ◌⊎◌, bit_xor, fold, flat_map, slice_get, Result, Err, nat_le, nat_lt, ◌==◌, if◌then◌else◌, AllByRecursion, range_with_len, list_all, length-md5, crc_step, crc_steps, crc_byte, pair_of, IsPair, Pair, slice_at, slice_count, slices, AreBytes, AreSurvivors, Agrees, get-entries, is_sorted, entries_sorted, nat_cmp, eq_by_cmp, is_lt, is_eq, ordering_reverse, slice_cmp, window, windows, is_match, found, Folder, bytes_of, has, ParSet, all_pairs, packets_with, recovery_of, other_par_names, all_some, is_slice_size, main_of, description_of, are_in_profile, target_of, IsSound, HoldsBytes, all-each, found_one, found_at_key, all-flat_map, all-take, all-drop, all-filter_map, all-map, all-both, cases_Bool, and_parts, Fault, accepted, Packet, RecoveryBody, begins_with_packet, claimed_length, is_of_reading, bytes_eq, Kind, Main, FileDesc, Ifsc, Recovery, Creator, Other, all-filter, T-parts, all-entries, all_weaker, NoSuchFile, set_in, recovery_slice, size_even, length-map}
+use Rattle.par2_laws.proofs.Common.{ℕ, zero, suc, ◌+◌, ◌*◌, ◌/◌, ◌%◌, ◌^◌, ◌<◌, List, [], ◌∷◌, length, map, arith, ◌≡◌, sym, subst, refl, inl, inr, true, ◌-◌, drop, ap, ◌∙◌, T, cond, false, Bool, ◌&&◌, ◌⊎◌, bit_xor, fold, flat_map, slice_get, Result, Err, nat_le, nat_lt, ◌==◌, if◌then◌else◌, AllByRecursion, range_with_len, list_all, length-md5, crc_step, crc_steps, crc_byte, pair_of, IsPair, Pair, slice_at, slice_count, slices, AreBytes, AreSurvivors, Agrees, get-entries, is_sorted, entries_sorted, nat_cmp, eq_by_cmp, is_lt, is_eq, ordering_reverse, slice_cmp, window, windows, is_match, found, Folder, bytes_of, has, ParSet, all_pairs, packets_with, recovery_of, other_par_names, all_some, is_slice_size, main_of, description_of, are_in_profile, target_of, IsSound, HoldsBytes, all-each, found_one, found_at_key, all-flat_map, all-take, all-drop, all-filter_map, all-map, all-both, cases_Bool, and_parts, Fault, accepted, Packet, RecoveryBody, begins_with_packet, claimed_length, is_of_reading, bytes_eq, Kind, Recovery, all-filter, T-parts, all-entries, all_weaker, NoSuchFile, set_in, recovery_slice, size_even, length-map}
 use Rattle.std.specs.Prelude.{unwrap_or, Ok}
 use Rattle.par2_spec.proofs.RestoredLaws.{bytes-slice_at, length-window, bytes-window}
 use Rattle.std.specs.Option.{ForSome}
@@ -14,7 +14,7 @@ use Rattle.par2_spec.specs.Sets.{read_set, set_of}
 use Rattle.std.specs.FinMap.{find}
 use Rattle.std.specs.FinMap.Entries.{below_all}
 use Rattle.std.specs.declared.cmp.Ordering.{Ordering}
-use Rattle.std.specs.declared.cmp.Ordering.TheVariants.{Less, Equal, Greater}
+use Rattle.std.specs.declared.cmp.Ordering.TheVariants.{Less}
 use Rattle.std.specs.Cmp.{nat_cmp_total, tied_itself}
 use Rattle.par2_spec.specs.Packets.{accepted_after, first_packet, read_recovery}
 use Rattle.std.proofs.lemmas.Slice.Zip.{AllZip-long}
@@ -147,12 +147,8 @@ said_has p bytes = by_kind p.kind
     long false r k q e = let clash = e in absurd (cc)
 
     by_kind : (kind : Kind) → ForSome (read_recovery kind p.body) (λ r. AreBytes r.bytes)
-    by_kind Main r e = let clash = e in absurd (cc)
-    by_kind FileDesc r e = let clash = e in absurd (cc)
-    by_kind Ifsc r e = let clash = e in absurd (cc)
     by_kind Recovery r e = long (nat_le 4 (length p.body)) _ (all-drop (λ b. b < 256) 4 p.body bytes) r e
-    by_kind Creator r e = let clash = e in absurd (cc)
-    by_kind (Other code) r e = let clash = e in absurd (cc)
+    by_kind kind r e = let clash = e in absurd (cc)
 
 -- ---- the map of recovery slices
 
@@ -171,8 +167,7 @@ other_key k n less = ap is_eq (nat_cmp_total.antisymm n k) ∙ step (nat_cmp k n
   where
     step : (o : Ordering) → T (is_lt o) → is_eq (ordering_reverse o) ≡ false
     step Less h = refl
-    step Equal h = absurd h
-    step Greater h = absurd h
+    step o h = absurd h
 
 behind_first : (k : ℕ) (v : List ℕ) (ds es : List (ℕ × List ℕ)) → T (below_all nat_cmp k ds) → AllByRecursion (λ d. find nat_cmp d.0 es ≡ Some d.1) ds → AllByRecursion (λ d. find nat_cmp d.0 ((k, v) ∷ es) ≡ Some d.1) ds
 behind_first k v [] es less h = tt

@@ -1,5 +1,5 @@
 -- A set whose packets are those of certain files was made from them.
-use Rattle.par2_laws.proofs.Common.{◌≡◌, ℕ, ◌<◌, ◌^◌, false, List, [], ◌∷◌, ◌++◌, length, map, Some, refl, sym, ap, ◌∙◌, subst, arith, zero, suc, Bool, true, Option, None, inl, inr, ◌⊎◌, ◌&&◌, IsTrue, ◌==◌, nat_lt, filter_map, find, slice_get, option_map, option_and_then, if◌then◌else◌, flat_map, AllByRecursion, Contains, list_any, range_with_len, slice_index_or, length-map, recursion_from_All, All-contains_itself, same_Some, none-some, length-md5, Kind, Main, FileDesc, Ifsc, Recovery, Creator, Other, AreBytes, File, Folder, bytes_of, Packet, MainBody, DescBody, IfscBody, RecoveryBody, accepted, FileRecord, all_slices, main_bytes, desc_bytes, ifsc_bytes, recovery_bytes, id_of, AreDescribed, is_read, IsOf, AreOf, AreAllOf, all-append, of_contained, all-map, all-filter_map, found_one, all_unmap, all-passing, all-flat_map-map, bytes_eq, false≢true, and_parts, eqb-true, map-map, md5, Pair, pair_of, slice_count, slice_at, slices, Target, all_some, main_of, description_of, pairs_of, target_of, recovery_of, target_of_file, ParSet, MadeFrom, packets_with, read_set, other_par_names, all_weaker, all-filter, mapped, target_with, no_slices, all-entries, read_by, same_name, itself, main_reads, ifsc_reads, recovery_reads, desc_reads, Ok}
+use Rattle.par2_laws.proofs.Common.{◌≡◌, ℕ, ◌<◌, ◌^◌, false, List, [], ◌∷◌, ◌++◌, length, map, Some, refl, sym, ap, ◌∙◌, subst, arith, zero, suc, Bool, true, Option, None, inl, inr, ◌⊎◌, ◌&&◌, Ok, IsTrue, ◌==◌, nat_lt, filter_map, find, slice_get, option_map, option_and_then, if◌then◌else◌, flat_map, AllByRecursion, Contains, list_any, range_with_len, slice_index_or, length-map, recursion_from_All, All-contains_itself, same_Some, none-some, length-md5, Kind, Main, FileDesc, Ifsc, Recovery, Creator, Other, AreBytes, File, Folder, bytes_of, Packet, MainBody, DescBody, IfscBody, RecoveryBody, accepted, FileRecord, all_slices, main_bytes, desc_bytes, ifsc_bytes, recovery_bytes, id_of, AreDescribed, is_read, IsOf, AreOf, AreAllOf, all-append, of_contained, all-map, all-filter_map, found_one, all_unmap, all-passing, all-flat_map-map, bytes_eq, false≢true, and_parts, eqb-true, map-map, md5, Pair, pair_of, slice_count, slice_at, slices, Target, all_some, main_of, description_of, pairs_of, target_of, recovery_of, target_of_file, ParSet, MadeFrom, packets_with, read_set, other_par_names, all_weaker, all-filter, mapped, target_with, no_slices, all-entries, read_by, same_name, itself, main_reads, ifsc_reads, recovery_reads, desc_reads, by_either}
 use Rattle.par2_spec.specs.Recovery.{recovery}
 use Rattle.par2_spec.specs.Packets.{read_main, read_desc, read_ifsc, read_recovery}
 use Rattle.par2_spec.specs.Packets.{read_main, read_desc, read_ifsc, read_recovery}
@@ -48,12 +48,9 @@ pub packet_says : (s : ℕ) (files : List File) (p : Packet) → (IsTrue (is_rea
 packet_says s files p h = by_kind p.kind (λ r. let is = h r in of_contained (λ z. Says s files z.0 z.1) (packets_of s files (is.0 ∷ [])) (p.kind, p.body) (all_say s files is.0 is.1) is.2)
   where
     by_kind : (kind : Kind) → (IsTrue (is_read kind) → Says s files kind p.body) → Says s files kind p.body
-    by_kind Main k = k refl
-    by_kind FileDesc k = k refl
-    by_kind Ifsc k = k refl
-    by_kind Recovery k = k refl
     by_kind Creator k = tt
     by_kind (Other bytes) k = tt
+    by_kind kind k = k refl
 
 -- ---- what it is read as
 
@@ -106,11 +103,7 @@ pub main_said : (s : ℕ) (files : List File) → AreDescribed s files → (kind
     → (m : MainBody) → read_main kind body ≡ Some m → m ≡ main_of_files s files
 unfolding read_main
 main_said s files d Main body says m h = sym (same_Some (main_of_files s files) m (sym (ap (read_main Main) says ∙ main_written s files d) ∙ h))
-main_said s files d FileDesc body says m h = absurd (none-some m h)
-main_said s files d Ifsc body says m h = absurd (none-some m h)
-main_said s files d Recovery body says m h = absurd (none-some m h)
-main_said s files d Creator body says m h = absurd (none-some m h)
-main_said s files d (Other bytes) body says m h = absurd (none-some m h)
+main_said s files d kind body says m h = absurd (none-some m h)
 
 -- it is said of one of the files
 abbrev pub IsOfOne : {B : Type 0} → (File → B) → List File → B → Type 0
@@ -123,11 +116,7 @@ desc_said s files d FileDesc body says x h =
     let file = says.0 in
     let told = of_contained IsDescribed files file (each_described s files d) says.1 in
     (file, says.1, sym (same_Some (desc_of_file s file) x (sym (ap (read_desc FileDesc) says.2 ∙ desc_written s file told) ∙ h)))
-desc_said s files d Main body says x h = absurd (none-some x h)
-desc_said s files d Ifsc body says x h = absurd (none-some x h)
-desc_said s files d Recovery body says x h = absurd (none-some x h)
-desc_said s files d Creator body says x h = absurd (none-some x h)
-desc_said s files d (Other bytes) body says x h = absurd (none-some x h)
+desc_said s files d kind body says x h = absurd (none-some x h)
 
 pub ifsc_said : (s : ℕ) (files : List File) → AreDescribed s files → (kind : Kind) (body : List ℕ) → Says s files kind body
     → (x : IfscBody) → read_ifsc kind body ≡ Some x → IsOfOne (ifsc_of_file s) files x
@@ -136,11 +125,7 @@ ifsc_said s files d Ifsc body says x h =
     let file = says.0 in
     let told = of_contained IsDescribed files file (each_described s files d) says.1 in
     (file, says.1, sym (same_Some (ifsc_of_file s file) x (sym (ap (read_ifsc Ifsc) says.2 ∙ ifsc_written s file told) ∙ h)))
-ifsc_said s files d Main body says x h = absurd (none-some x h)
-ifsc_said s files d FileDesc body says x h = absurd (none-some x h)
-ifsc_said s files d Recovery body says x h = absurd (none-some x h)
-ifsc_said s files d Creator body says x h = absurd (none-some x h)
-ifsc_said s files d (Other bytes) body says x h = absurd (none-some x h)
+ifsc_said s files d kind body says x h = absurd (none-some x h)
 
 -- the recovery slice is the true one
 abbrev pub IsTrueSlice : ℕ → List File → RecoveryBody → Type 0
@@ -155,11 +140,7 @@ recovery_said s files Recovery body says r h =
     let small : e < 2 ^ 32 = omega (arith, says.1) in
     let written : RecoveryBody = record { exponent = e; bytes = bytes } in
     subst (IsTrueSlice s files) (same_Some written r (sym (ap (read_recovery Recovery) says.2 ∙ recovery_reads e bytes small) ∙ h)) refl
-recovery_said s files Main body says r h = absurd (none-some r h)
-recovery_said s files FileDesc body says r h = absurd (none-some r h)
-recovery_said s files Ifsc body says r h = absurd (none-some r h)
-recovery_said s files Creator body says r h = absurd (none-some r h)
-recovery_said s files (Other bytes) body says r h = absurd (none-some r h)
+recovery_said s files kind body says r h = absurd (none-some r h)
 
 -- ---- lists
 
@@ -173,10 +154,9 @@ all_there g f [] h ys e = sym (same_Some [] ys e)
 all_there {A = A} {B = B} g f (x ∷ xs) h ys e = step (g x) refl (all_some (map g xs)) (λ zs b. all_there g f xs h.1 zs b) e
   where
     step : (o : Option B) → g x ≡ o → (os : Option (List B)) → ((zs : List B) → os ≡ Some zs → zs ≡ map f xs) → option_and_then (λ y. option_map (λ zs. y ∷ zs) os) o ≡ Some ys → ys ≡ map f (x ∷ xs)
-    step None a os b k = absurd (none-some ys k)
-    step (Some y) a None b k = absurd (none-some ys k)
     step (Some y) a (Some zs) b k =
         sym (same_Some (y ∷ zs) ys k) ∙ ap (λ w. w ∷ zs) (h.0 y a) ∙ ap (λ ws. f x ∷ ws) (b zs refl)
+    step o a os b k = absurd (none-some ys k)
 
 -- ---- one file for each File ID
 
@@ -191,14 +171,10 @@ one_by_id : (files : List File) → IsDistinct bytes_eq (map id_of files) → (a
 unfolding IsDistinct
 one_by_id [] d a b i j e = absurd (omega (arith, i.1))
 one_by_id (x ∷ files) d a b i j e = elim (contained_cases x files a i) as (λ _. a ≡ b) [
-  | inl first ↦ elim (contained_cases x files b j) as (λ _. a ≡ b) [
-    | inl too ↦ sym first ∙ too
-    | inr later ↦ absurd (apart b later (ap id_of first ∙ e))
-  ]
-  | inr there ↦ elim (contained_cases x files b j) as (λ _. a ≡ b) [
-    | inl too ↦ absurd (apart a there (ap id_of too ∙ sym e))
-    | inr later ↦ one_by_id files d.1 a b there later e
-  ]
+  | inl first ↦ by_either (contained_cases x files b j) (λ too. sym first ∙ too) (λ later. absurd (apart b later (ap id_of first ∙ e)))
+  | inr there ↦ by_either (contained_cases x files b j)
+      (λ too. absurd (apart a there (ap id_of too ∙ sym e)))
+      (λ later. one_by_id files d.1 a b there later e)
 ]
   where
     apart : (c : File) → Contains files c → id_of x ≡ id_of c → ⊥

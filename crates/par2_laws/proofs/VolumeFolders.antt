@@ -1,5 +1,5 @@
 -- A folder of volumes holds the set that was made from their files.
-use Rattle.par2_laws.proofs.Common.{◌≡◌, ℕ, zero, suc, ◌<◌, Bool, true, false, cond, ◌&&◌, List, [], ◌∷◌, ◌++◌, length, map, Option, Some, None, refl, sym, ap, ◌∙◌, subst, inl, inr, arith, ◌+◌, ◌≤◌, ◌⊎◌, append_assoc, is_some, ◌==◌, filter, filter_map, find, slice_get, option_map, option_and_then, if◌then◌else◌, flat_map, ok_or, sum_by, AllByRecursion, Contains, cons_option, slice_index_or, bytes_eq, false≢true, and_from, eq-eqb, le-leb, length-map, Contains-append_left, Contains-append_right, same_Some, map-map, md5, Kind, Main, FileDesc, Ifsc, Creator, Pair, slice_count, File, Folder, bytes_of, Packet, MainBody, IfscBody, read_main, read_desc, read_ifsc, accepted, DescBody, FileRecord, id_of, packet_of, main_id, main_bytes, desc_bytes, ifsc_bytes, creator_bytes, in_id_order, packets_with, main_of, description_of, pairs_of, target_of, target_of_file, all_some, ParSet, MadeFrom, ◌>>=◌, unless, are_in_profile, other_par_names, AreDescribed, all_weaker, test_from_all, itself, distinct_same, distinct_from_std, contained_first, contained_later, of_contained, all-map, target_with, set_with, finished, by_checksums, by_profile, by_descriptions, by_size, by_main, sum_by-cons, NoPackets, NoMain, NoDescription, NoChecksums, BadSet, is_name, distinct, AreInputs, IsVolume, set_id_of, IsOfOthers, HoldsVolumes, Ok, moved-ordered}
+use Rattle.par2_laws.proofs.Common.{◌≡◌, ℕ, suc, ◌<◌, Bool, true, false, cond, ◌&&◌, List, [], ◌∷◌, ◌++◌, length, map, Option, Some, None, refl, sym, ap, ◌∙◌, subst, inl, inr, arith, ◌+◌, ◌≤◌, ◌⊎◌, append_assoc, Ok, is_some, ◌==◌, filter, filter_map, find, slice_get, option_map, option_and_then, if◌then◌else◌, flat_map, ok_or, sum_by, AllByRecursion, Contains, cons_option, slice_index_or, bytes_eq, false≢true, and_from, eq-eqb, le-leb, length-map, Contains-append_left, Contains-append_right, same_Some, map-map, md5, Kind, Main, FileDesc, Ifsc, Creator, Pair, slice_count, File, Folder, bytes_of, Packet, MainBody, IfscBody, read_main, read_desc, read_ifsc, accepted, DescBody, FileRecord, id_of, packet_of, main_id, main_bytes, desc_bytes, ifsc_bytes, creator_bytes, in_id_order, packets_with, main_of, description_of, pairs_of, target_of, target_of_file, all_some, ParSet, MadeFrom, ◌>>=◌, unless, are_in_profile, other_par_names, AreDescribed, all_weaker, test_from_all, itself, distinct_same, distinct_from_std, contained_first, contained_later, of_contained, all-map, target_with, set_with, finished, by_checksums, by_profile, by_descriptions, by_size, by_main, sum_by-cons, NoPackets, NoMain, NoDescription, NoChecksums, BadSet, is_name, distinct, AreInputs, IsVolume, set_id_of, IsOfOthers, HoldsVolumes, moved-ordered, by_either}
 use Rattle.par2_spec.specs.Volumes.{record_of, index_packets}
 use Rattle.par2_laws.proofs.SetsOfFiles.{all_contained, IsDescribed, each_described, main_of_files, desc_of_file, ifsc_of_file, main_written, desc_written, ifsc_written, AllSay, contained_cases, by_ids, description_is, pairs_are_its, target_is, SaysIfOurs, folder_says, made_if_said}
 use Rattle.par2_laws.proofs.VolumePackets.{pairs_count, index_of, moved, described, slices_of, IsReadAs, volumes_read, IsOurs, volume_ours}
@@ -8,19 +8,17 @@ use Rattle.par2_spec.specs.Sets.{read_set, set_of}
 -- ---- one of a list
 
 index_map : {A B : Type 0} (g : A → B) (xs : List A) (k : ℕ) (x : A) → slice_index_or (map g xs) k (g x) ≡ g (slice_index_or xs k x)
-index_map g [] k x = refl
-index_map g (y ∷ xs) zero x = refl
 index_map g (y ∷ xs) (suc k) x = index_map g xs k x
+index_map g xs k x = refl
 
 contained_map : {A B : Type 0} (g : A → B) (xs : List A) (x : A) → Contains xs x → Contains (map g xs) (g x)
 contained_map g xs x i = (i.0, subst (λ n. i.0 < n) (sym (length-map xs g)) i.1, index_map g xs i.0 x ∙ ap g i.2)
 
 contained_filter : {A : Type 0} (test : A → Bool) (xs : List A) (x : A) → Contains xs x → test x ≡ true → Contains (filter test xs) x
 contained_filter test [] x i t = absurd (omega (arith, i.1))
-contained_filter {A = A} test (y ∷ xs) x i t = elim (contained_cases y xs x i) as (λ _. Contains (filter test (y ∷ xs)) x) [
-  | inl first ↦ subst (λ b. Contains (cond b (y ∷ filter test xs) (filter test xs)) x) (sym (ap test first ∙ t)) (subst (Contains (y ∷ filter test xs)) first (contained_first y (filter test xs)))
-  | inr later ↦ more (test y) (contained_filter test xs x later t)
-]
+contained_filter {A = A} test (y ∷ xs) x i t = by_either (contained_cases y xs x i)
+    (λ first. subst (λ b. Contains (cond b (y ∷ filter test xs) (filter test xs)) x) (sym (ap test first ∙ t)) (subst (Contains (y ∷ filter test xs)) first (contained_first y (filter test xs))))
+    (λ later. more (test y) (contained_filter test xs x later t))
   where
     more : (b : Bool) → Contains (filter test xs) x → Contains (cond b (y ∷ filter test xs) (filter test xs)) x
     more true k = contained_later y (filter test xs) x k
