@@ -1,5 +1,5 @@
 -- What each answer to a repair says of the three tests of its set.
-use Rattle.par2_laws.proofs.Common.{◌≡◌, ℕ, List, [], ◌∷◌, refl, true, false, Bool, not, list_all, AllByRecursion, bytes_eq, and_parts, not-true, md5, Fault, NameTooLong, NotRepairable, RepairFailed, first_fault, fault_where, is_repairable, rank, Folder, ParSet, Target, known, lost, survivors, rebuilt_targets, first_cause}
+use Rattle.par2_laws.proofs.Common.{◌≡◌, ℕ, List, [], ◌∷◌, refl, true, false, Bool, not, list_all, AllByRecursion, bytes_eq, and_parts, not-true, md5, Fault, NameTooLong, NotRepairable, RepairFailed, first_fault, fault_where, is_repairable, rank, IsRepairable, Folder, ParSet, Target, known, lost, survivors, rebuilt_targets, first_cause, repairable-iff, may_refuse}
 use Rattle.std.specs.Prelude.{Option, Some, None}
 use Rattle.std.proofs.lemmas.Slice.Eq.{bytes_eq-Decides}
 use Rattle.par2_spec.specs.Refusals.{repair_refusal}
@@ -15,22 +15,29 @@ answer repairable long right missing rank =
 
 by_none : (repairable long right : Bool) (m r : ℕ) → answer repairable long right m r ≡ None → (repairable ≡ true) × (right ≡ true)
 by_none true false true m r e = (refl, refl)
-by_none true false false m r e = cc
-by_none true true right m r e = cc
-by_none false long right m r e = cc
+by_none repairable long right m r e = cc
 
 by_failed : (repairable long right : Bool) (m r : ℕ) → answer repairable long right m r ≡ Some RepairFailed → (repairable ≡ true) × (right ≡ false)
 by_failed true false false m r e = (refl, refl)
-by_failed true false true m r e = cc
-by_failed true true right m r e = cc
-by_failed false long right m r e = cc
+by_failed repairable long right m r e = cc
 
 by_unrepairable : (repairable long right : Bool) (m r missing rank : ℕ) → answer repairable long right m r ≡ Some (NotRepairable missing rank) → repairable ≡ false
 by_unrepairable repairable long right m r missing rank e = not-true repairable (first_cause (not repairable) long (not right) m r missing rank e)
 
+by_few : (repairable long right : Bool) (m r : ℕ) (fault : Fault) → (fault ≡ RepairFailed → ⊥) → answer repairable long right m r ≡ Some fault → may_refuse fault ≡ true
+by_few true false false m r fault never e = absurd (never (cc))
+by_few repairable long right m r fault never e = cc
+
 -- a file that is written has its digest
 abbrev pub has_digest : Target × List ℕ → Bool
 has_digest c = bytes_eq (md5 c.1) c.0.md5
+
+-- each of them
+have_digests : (cs : List (Target × List ℕ)) → list_all has_digest cs ≡ true → AllByRecursion (λ c. md5 c.1 ≡ c.0.md5) cs
+have_digests [] h = tt
+have_digests (c ∷ cs) h =
+    let both = and_parts (has_digest c) (list_all has_digest cs) h in
+    ((bytes_eq-Decides (md5 c.1) c.0.md5).0 both.0, have_digests cs both.1)
 
 module _ (folder : Folder) (set : ParSet) (searched : List (List ℕ)) where
   abbrev missing : List ℕ
@@ -42,21 +49,21 @@ module _ (folder : Folder) (set : ParSet) (searched : List (List ℕ)) where
   abbrev right : Bool
   right = list_all has_digest (rebuilt_targets folder set searched)
 
-  pub accepted_by : repair_refusal folder set searched ≡ None → (repairable ≡ true) × (right ≡ true)
-  unfolding repair_refusal
-  accepted_by e = by_none repairable _ right _ _ e
+  determined : (repairable ≡ true) → IsRepairable missing (survivors set)
+  determined = (repairable-iff missing (survivors set)).0
 
-  pub failed_by : repair_refusal folder set searched ≡ Some RepairFailed → (repairable ≡ true) × (right ≡ false)
+  pub accepted_by : repair_refusal folder set searched ≡ None → IsRepairable missing (survivors set) × AllByRecursion (λ c. md5 c.1 ≡ c.0.md5) (rebuilt_targets folder set searched)
   unfolding repair_refusal
-  failed_by e = by_failed repairable _ right _ _ e
+  accepted_by e = let r = by_none repairable _ right _ _ e in (determined r.0, have_digests (rebuilt_targets folder set searched) r.1)
+
+  pub failed_by : repair_refusal folder set searched ≡ Some RepairFailed → IsRepairable missing (survivors set) × (right ≡ false)
+  unfolding repair_refusal
+  failed_by e = let r = by_failed repairable _ right _ _ e in (determined r.0, r.1)
 
   pub unrepairable_by : (missing rank : ℕ) → repair_refusal folder set searched ≡ Some (NotRepairable missing rank) → repairable ≡ false
   unfolding repair_refusal
   unrepairable_by m r e = by_unrepairable repairable _ _ _ _ m r e
 
--- each of them
-pub have_digests : (cs : List (Target × List ℕ)) → list_all has_digest cs ≡ true → AllByRecursion (λ c. md5 c.1 ≡ c.0.md5) cs
-have_digests [] h = tt
-have_digests (c ∷ cs) h =
-    let both = and_parts (has_digest c) (list_all has_digest cs) h in
-    ((bytes_eq-Decides (md5 c.1) c.0.md5).0 both.0, have_digests cs both.1)
+  pub refused_by : (fault : Fault) → (fault ≡ RepairFailed → ⊥) → repair_refusal folder set searched ≡ Some fault → may_refuse fault ≡ true
+  unfolding repair_refusal
+  refused_by fault never e = by_few repairable _ right _ _ fault never e

@@ -1,7 +1,6 @@
 -- The names that proofs of this crate take from elsewhere.
 
-pub use Rattle.std.proofs.Common.{Bool, List, None, Option, Some, T, [], ap, append-nil, append_assoc, arith, cond, drop, false, inl, inr, length, length-append, map, min, not, refl, subst, suc, sym, take, true, zero, ℕ, ◌%◌, ◌&&◌, ◌*◌, ◌++◌, ◌+◌, ◌-◌, ◌/◌, ◌<◌, ◌^◌, ◌||◌, ◌∙◌, ◌∷◌, ◌≡◌, ◌≤◌, ◌⊎◌}
-pub use Rattle.std.proofs.Math.Seq.{drop-append_seam, take-append_seam}
+pub use Rattle.std.proofs.Common.{Bool, List, None, Ok, Option, Some, T, [], ap, append-nil, append_assoc, arith, cond, drop, false, inl, inr, length, length-append, map, min, not, refl, subst, suc, sym, take, true, unwrap_or, zero, ℕ, ◌%◌, ◌&&◌, ◌*◌, ◌++◌, ◌+◌, ◌-◌, ◌/◌, ◌<◌, ◌^◌, ◌||◌, ◌∙◌, ◌∷◌, ◌≡◌, ◌≤◌, ◌⊎◌}
 pub use Rattle.std.proofs.lemmas.Bool.{and_from, and_parts, both_ways, cases_Bool, eq-eqb, eqb-false, eqb-true, false≢true, le-leb, leb-true, ltb-false, not-false, not-true, or_from, or_left, or_parts}
 pub use Rattle.std.proofs.lemmas.Grind.{div_ceil_times, flat_map-append}
 pub use Rattle.std.proofs.lemmas.List.{length-map}
@@ -13,44 +12,40 @@ pub use Rattle.std.proofs.lemmas.Simd.{map-map}
 pub use Rattle.std.specs.Cmp.Lexicographic.{slice_cmp}
 pub use Rattle.std.specs.FinMap.{entries_sorted, get-entries, is_sorted}
 pub use Rattle.std.specs.List.{AllByRecursion, Contains, cons_option, enumerate_from, list_all, list_any, range_with_len, slice_index_or}
-pub use Rattle.std.specs.Option.{ForSome}
 pub use Rattle.std.specs.Ordering.{eq_by_cmp, is_eq, is_lt, nat_cmp, ordering_reverse}
-pub use Rattle.std.specs.Prelude.{Err, IsPermutation, IsTrue, Ok, Result, bit_xor, codes, filter, filter_map, find, flat_map, fold, if◌then◌else◌, is_some, nat_le, nat_lt, ok_or, option_and_then, option_map, slice_get, sum_by, unwrap_or, ◌==◌, ◌↔◌}
+pub use Rattle.std.specs.Prelude.{Err, IsPermutation, IsTrue, Result, bit_xor, codes, filter, filter_map, find, flat_map, fold, if◌then◌else◌, is_some, nat_le, nat_lt, ok_or, option_and_then, option_map, slice_get, sum_by, ◌==◌}
 pub use Rattle.std.specs.Str.{bytes_eq, str_to_ascii_lowercase}
 pub use Rattle.md5.proofs.StandardFacts.{length-md5}
 pub use Rattle.md5.specs.Md5.{md5}
-pub use Rattle.par2_laws.specs.Creates.{FitsCreate, FollowsCreate, HaveAChoice, IsDamage, may_refuse, output_names}
+pub use Rattle.par2_laws.specs.Creates.{FitsCreate, FollowsCreate, IsDamage, may_refuse, output_names}
 pub use Rattle.par2_laws.specs.Faults.{is_of_reading}
 pub use Rattle.par2_laws.specs.Packets.{AreAllOf, AreDescribed, AreOf, IsOf, is_read}
-pub use Rattle.par2_laws.specs.Premises.{HoldsBytes}
+pub use Rattle.par2_laws.specs.Premises.{HoldsBytes, IsTrueTo}
 pub use Rattle.par2_laws.specs.Slices.{kept_recovery, recovery_slice}
 pub use Rattle.par2_laws.specs.Volumes.{AreInputs, HoldsVolumes, IsOfOthers, IsVolume, IsVolumeOrOther, set_id_of}
-pub use Rattle.par2_spec.proofs.AcceptedCommands.{all_there, in_full, in_part, missing, set_in_reads}
 pub use Rattle.par2_spec.proofs.FilesLaws.{at_name, names_of_files, size_even}
 pub use Rattle.par2_spec.proofs.FoundLaws.{all-filter}
 pub use Rattle.par2_spec.proofs.ListsLaws.{all-append, all-both, all-drop, all-each, all-filter_map, all-flat_map, all-flat_map-map, all-map, all-parts, all-passing, all-take, all_unmap, contained_first, contained_later, found_at_key, found_one, of_contained}
-pub use Rattle.par2_spec.proofs.MovesLaws.{get_put, get_without}
 pub use Rattle.par2_spec.proofs.NamesLaws.{distinct_from_std, distinct_same, itself, same_either_way, same_name, std_from_distinct}
-pub use Rattle.par2_spec.proofs.OrderLaws.{moved-all}
-pub use Rattle.par2_spec.proofs.RankLaws.{all_weaker, test_from_all}
+pub use Rattle.par2_spec.proofs.OrderLaws.{moved-all, moved-ordered}
+pub use Rattle.par2_spec.proofs.RankLaws.{all_weaker, repairable-iff, test_from_all}
 pub use Rattle.par2_spec.proofs.ReadLaws.{all-entries, by_checksums, by_descriptions, by_main, by_profile, by_size, distinct_by_length, finished, mapped, no_slices, read_by, set_with, size_parts, size_positive, target_with}
 pub use Rattle.par2_spec.proofs.RefusedLaws.{first_cause, size_two}
-pub use Rattle.par2_spec.proofs.RestoredLaws.{bytes-slice_at, bytes-window, length-window}
-pub use Rattle.par2_spec.proofs.TestLaws.{T-parts, all_none, at_none, some_if, where_none}
+pub use Rattle.par2_spec.proofs.TestLaws.{T-parts, all_none, at_none, by_either, some_if, where_none}
+pub use Rattle.par2_spec.proofs.WrittenSets.{desc_reads, ifsc_reads, index_reads, main_reads, recovery_reads, recovery_slices_read}
 pub use Rattle.par2_spec.specs.Checksums.{IsPair, Pair, crc_byte, crc_step, crc_steps, pair_of}
 pub use Rattle.par2_spec.specs.Commands.{Create, CreateArgs, Repair, files_of, outputs_of}
-pub use Rattle.par2_spec.specs.Faults.{fault_at, fault_where, first_fault, then_fault}
+pub use Rattle.par2_spec.specs.Faults.{fault_at, fault_where, first_fault}
 pub use Rattle.par2_spec.specs.Folders.{File, Folder, IsFolder, bytes_of, files, has, names, without}
 pub use Rattle.par2_spec.specs.Names.{distinct, is_among, is_name, is_par_name, par2_ending}
-pub use Rattle.par2_spec.specs.Packets.{DescBody, IfscBody, MainBody, Packet, RecoveryBody, accepted, begins_with_packet, claimed_length, packet, read_desc, read_ifsc, read_main, read_recovery}
-pub use Rattle.par2_spec.specs.Rank.{Agrees, AnotherAgrees, AreBytes, AreSurvivors, IsRepairable, is_repairable, rank}
-pub use Rattle.par2_spec.specs.Recovery.{recovery}
-pub use Rattle.par2_spec.specs.Refusals.{after, are_counts, by_set, is_input_name, refusal, set_in}
-pub use Rattle.par2_spec.specs.Repairs.{Restores, after_repair, after_repair_and_purge, aside, files_of_slices, names_without_match, put_aside, rebuilt, rebuilt_targets}
+pub use Rattle.par2_spec.specs.Packets.{DescBody, IfscBody, MainBody, Packet, RecoveryBody, accepted, begins_with_packet, claimed_length, packet, read_desc, read_ifsc, read_main}
+pub use Rattle.par2_spec.specs.Rank.{Agrees, AreBytes, AreSurvivors, IsRepairable, is_repairable, rank}
+pub use Rattle.par2_spec.specs.Refusals.{after, are_counts, is_input_name, set_in}
+pub use Rattle.par2_spec.specs.Repairs.{files_of_slices, names_without_match, rebuilt, rebuilt_targets}
 pub use Rattle.par2_spec.specs.Search.{NoCollision, candidates, known, lost, matches, survivors}
-pub use Rattle.par2_spec.specs.Sets.{IsSound, MadeFrom, ParSet, Target, all_pairs, all_some, are_in_profile, description_of, is_slice_size, main_of, other_par_names, packets_with, pairs_of, read_set, recovery_of, set_of, target_names, target_of, target_of_file, unless, ◌>>=◌}
+pub use Rattle.par2_spec.specs.Sets.{IsSound, MadeFrom, ParSet, Target, all_pairs, all_some, are_in_profile, description_of, is_slice_size, main_of, other_par_names, packets_with, pairs_of, read_set, recovery_of, target_names, target_of, target_of_file, unless, ◌>>=◌}
 pub use Rattle.par2_spec.specs.Slices.{slice_at, slice_count, slices}
-pub use Rattle.par2_spec.specs.Volumes.{FileRecord, IsFileRecord, all_slices, creator_bytes, desc_bytes, five_digits, id_of, ifsc_bytes, in_id_order, index_packets, main_bytes, main_id, packet_of, record_of, recovery_bytes, recovery_packets, stem, volume_name, volume_numbers, volume_size, volumes_before}
+pub use Rattle.par2_spec.specs.Volumes.{FileRecord, IsFileRecord, all_slices, creator_bytes, desc_bytes, five_digits, id_of, ifsc_bytes, in_id_order, main_bytes, main_id, packet_of, recovery_bytes, recovery_packets, stem, volume_name, volume_numbers, volume_size, volumes_before}
 pub use Rattle.par2_spec.specs.Windows.{Matches, found, is_match, window, windows}
 pub use Rattle.par2_spec.specs.declared.Fault.{Fault}
 pub use Rattle.par2_spec.specs.declared.Fault.TheVariants.{BadBase, BadCount, BadName, BadSet, BadSliceSize, DuplicateId, DuplicateInput, EmptyFile, Exists, NameTooLong, NoChecksums, NoDescription, NoInput, NoMain, NoPackets, NoSuchFile, NotRepairable, RepairFailed, TooManySlices}

@@ -1,12 +1,143 @@
 -- What damage leaves of the par files of a create.
-use Rattle.par2_laws.proofs.Common.{◌≡◌, ℕ, ◌+◌, ◌-◌, arith, length, drop, ◌++◌, length-append, Bool, true, false, cond, not, ◌&&◌, List, [], ◌∷◌, map, Option, Some, None, refl, sym, ap, ◌∙◌, subst, inl, inr, ◌⊎◌, is_some, codes, AllByRecursion, Contains, bytes_eq, str_to_ascii_lowercase, false≢true, and_parts, or_from, recursion_from_All, filter_passes, same_Some, drop-append_seam, is_name, is_par_name, is_among, par2_ending, Folder, File, has, bytes_of, names, volume_name, volume_numbers, volume_size, volumes_before, stem, five_digits, other_par_names, CreateArgs, Create, files_of, outputs_of, refusal, IsVolume, IsVolumeOrOther, IsOfOthers, set_id_of, HoldsVolumes, FitsCreate, IsDamage, output_names, all_weaker, get_put, at_name, contained_first, contained_later, some_if}
-use Rattle.std.proofs.Common.{unwrap_or}
-use Rattle.std.specs.FinMap as map_of
+use Rattle.par2_laws.proofs.Common.{◌≡◌, ℕ, zero, suc, ◌+◌, ◌*◌, ◌^◌, ◌<◌, ◌≤◌, true, false, not, ◌&&◌, List, [], ◌∷◌, ◌++◌, length, map, take, Option, None, sym, ap, ◌∙◌, subst, append_assoc, length-append, arith, ◌-◌, drop, Bool, cond, Some, refl, inl, inr, ◌⊎◌, ◌||◌, unwrap_or, sum_by, nat_lt, ◌==◌, is_some, codes, filter, AllByRecursion, list_any, enumerate_from, Contains, bytes_eq, str_to_ascii_lowercase, get-entries, nat_cmp, slice_cmp, not-false, and_parts, or_parts, eqb-true, eqb-false, ltb-false, false≢true, or_from, or_left, div_ceil_times, length-map, sum_by-cons, Fault, BadSliceSize, BadCount, BadBase, NoInput, BadName, DuplicateInput, NoSuchFile, EmptyFile, TooManySlices, DuplicateId, NameTooLong, Exists, fault_where, fault_at, slice_count, slices, is_name, is_par_name, is_among, distinct, par2_ending, Folder, File, IsFolder, has, bytes_of, files, names, without, id_of, volume_name, volume_numbers, volume_size, volumes_before, stem, five_digits, all_slices, in_id_order, is_slice_size, other_par_names, MadeFrom, target_of_file, target_names, CreateArgs, Create, files_of, outputs_of, are_counts, is_input_name, AreInputs, IsVolume, IsVolumeOrOther, IsOfOthers, set_id_of, HoldsVolumes, FitsCreate, IsDamage, output_names, FollowsCreate, all_weaker, size_positive, distinct_by_length, same_either_way, std_from_distinct, found_at_key, contained_first, contained_later, all-append, all-parts, all-flat_map, where_none, all_none, at_none, some_if, names_of_files, at_name, recursion_from_All, filter_passes, same_Some, IsPermutation-sym, IsPermutation-map, map-map, pair_of, Matches, windows, AreBytes, candidates, NoCollision, all-filter, moved-all, moved-ordered, IsTrueTo, by_either}
+use Rattle.std.proofs.Math.Seq.{take-append_seam, drop-append_seam}
+use Rattle.par2_spec.specs.Refusals.{refusal}
+use Rattle.par2_spec.proofs.MovesLaws.{get_put, get_without}
+use Rattle.std.specs.List.{IsDistinct}
+use Rattle.std.proofs.lemmas.List.Folds.{list_any-append}
+use Rattle.std.proofs.Math.Nat.{zero-mul}
+use Rattle.par2_spec.specs.Refusals.{create_refusal, refusal, after}
 use Rattle.par2_spec.specs.Folders.{laid_over}
 use Rattle.par2_spec.specs.Packets.{accepted_after}
-use Rattle.par2_spec.specs.Volumes.{volumes}
-use Rattle.par2_spec.specs.Refusals.{after}
-use Rattle.par2_laws.proofs.CreateInputs.{passes}
+use Rattle.par2_spec.specs.Volumes.{volumes, record_of}
+use Rattle.par2_laws.proofs.VolumeFolders.{set_made}
+use Rattle.std.specs.FinMap as map_of
+
+-- ---- tests that find no fault
+
+-- what the tests of a create find where it is accepted
+pub record Passes (folder : Folder) (a : CreateArgs) : Type 0 where
+  pub size : is_slice_size a.slice ≡ true
+  pub counts : are_counts a.first a.count ≡ true
+  pub base : (is_name a.base && is_par_name a.base) ≡ true
+  pub names : AllByRecursion (λ word. not (is_input_name word) ≡ false) a.inputs
+  pub once : AllByRecursion (λ z. is_among (take z.0 a.inputs) z.1 ≡ false) (enumerate_from 0 a.inputs)
+  pub there : AllByRecursion (λ word. not (has folder word) ≡ false) a.inputs
+  pub full : AllByRecursion (λ file. (length file.1 == 0) ≡ false) (files_of folder a.inputs)
+  pub slices : nat_lt 32768 (sum_by (λ file. slice_count a.slice (length file.1)) (files_of folder a.inputs)) ≡ false
+  pub ids : not (length (distinct (map id_of (files_of folder a.inputs))) == length (files_of folder a.inputs)) ≡ false
+
+-- the tests in their order
+abbrev tests : Folder → CreateArgs → List (Option Fault)
+tests folder a =
+    let fs = files_of folder a.inputs in
+    fault_where (not (is_slice_size a.slice)) BadSliceSize
+    ∷ fault_where (not (are_counts a.first a.count)) BadCount
+    ∷ fault_where (not (is_name a.base && is_par_name a.base)) BadBase
+    ∷ fault_where (length a.inputs == 0) NoInput
+    ∷ fault_at 1 BadName (λ word. not (is_input_name word)) a.inputs
+    ∷ fault_at 1 DuplicateInput (λ z. is_among (take z.0 a.inputs) z.1) (enumerate_from 0 a.inputs)
+    ∷ fault_at 1 NoSuchFile (λ word. not (has folder word)) a.inputs
+    ∷ fault_at 1 EmptyFile (λ file. length file.1 == 0) fs
+    ∷ fault_where (nat_lt 32768 (sum_by (λ file. slice_count a.slice (length file.1)) fs)) TooManySlices
+    ∷ fault_where (not (length (distinct (map id_of fs)) == length fs)) DuplicateId
+    ∷ fault_where (list_any (λ file. nat_lt 255 (length file.0)) (outputs_of folder a)) NameTooLong
+    ∷ fault_where (not a.overwrite && list_any (λ file. has folder file.0) (outputs_of folder a)) Exists
+    ∷ []
+
+pub passes : (folder : Folder) (a : CreateArgs) → refusal folder (Create a) ≡ None → Passes folder a
+unfolding refusal create_refusal
+passes folder a h =
+    let fs = files_of folder a.inputs in
+    let none = all_none (tests folder a) h in
+    let later = none.1.1.1.1 in
+    record {
+      size = not-false (is_slice_size a.slice) (where_none (not (is_slice_size a.slice)) BadSliceSize none.0);
+      counts = not-false (are_counts a.first a.count) (where_none (not (are_counts a.first a.count)) BadCount none.1.0);
+      base = not-false (is_name a.base && is_par_name a.base) (where_none (not (is_name a.base && is_par_name a.base)) BadBase none.1.1.0);
+      names = at_none 1 BadName (λ word. not (is_input_name word)) a.inputs later.0;
+      once = at_none 1 DuplicateInput (λ z. is_among (take z.0 a.inputs) z.1) (enumerate_from 0 a.inputs) later.1.0;
+      there = at_none 1 NoSuchFile (λ word. not (has folder word)) a.inputs later.1.1.0;
+      full = at_none 1 EmptyFile (λ (file : File). length file.1 == 0) fs later.1.1.1.0;
+      slices = where_none (nat_lt 32768 (sum_by (λ file. slice_count a.slice (length file.1)) fs)) TooManySlices later.1.1.1.1.0;
+      ids = where_none (not (length (distinct (map id_of fs)) == length fs)) DuplicateId later.1.1.1.1.1.0;
+    }
+
+-- ---- each once
+
+-- none of those before
+abbrev IsNew : List (List ℕ) → List (List ℕ) → Type 0
+IsNew front rest = AllByRecursion (λ y. is_among front y ≡ false) rest
+
+each_new : (front rest : List (List ℕ)) → AllByRecursion (λ z. is_among (take z.0 (front ++ rest)) z.1 ≡ false) (enumerate_from (length front) rest)
+    → IsNew front rest × IsDistinct bytes_eq rest
+unfolding IsDistinct
+each_new front [] h = (tt, tt)
+each_new front (x ∷ rest) h =
+    let longer = front ++ x ∷ [] in
+    let whole : front ++ x ∷ rest ≡ longer ++ rest = sym (append_assoc front (x ∷ []) rest) in
+    let place : length front + 1 ≡ length longer = sym (length-append front (x ∷ [])) in
+    let later = each_new longer rest
+    (subst (λ n. AllByRecursion (λ z. is_among (take z.0 (longer ++ rest)) z.1 ≡ false) (enumerate_from n rest)) place
+    (subst (λ all. AllByRecursion (λ z. is_among (take z.0 all) z.1 ≡ false) (enumerate_from (length front + 1) rest)) whole h.1)) in
+    let here : is_among front x ≡ false = ap (λ ns. is_among ns x) (sym (take-append_seam front (x ∷ rest))) ∙ h.0 in (
+      (here, all_weaker (λ y. is_among longer y ≡ false) (λ y. is_among front y ≡ false) (λ y k. (parts y k).0) rest later.0),
+      (all_weaker (λ y. is_among longer y ≡ false) (λ y. bytes_eq x y ≡ false) (λ y k. same_either_way x y ∙ (parts y k).1) rest later.0, later.1),
+    )
+  where
+    parts : (y : List ℕ) → is_among (front ++ x ∷ []) y ≡ false → (is_among front y ≡ false) × (bytes_eq y x ≡ false)
+    parts y k =
+        let two = or_parts (is_among front y) (is_among (x ∷ []) y) (sym (list_any-append (bytes_eq y) front (x ∷ [])) ∙ k) in
+        (two.0, (or_parts (bytes_eq y x) false two.1).0)
+
+-- ---- the files
+
+file_small : (folder : Folder) → IsFolder folder → (name : List ℕ) → length (bytes_of folder name) < 2 ^ 64
+file_small folder whole name =
+    subst (λ o. length (unwrap_or o []) < 2 ^ 64) (sym (get-entries folder name))
+    (found_at_key (λ bytes. length bytes < 2 ^ 64) (slice_cmp nat_cmp) name [] (files folder) (all_weaker (λ file. (is_name file.0 ≡ true) × (length file.1 < 2 ^ 64)) (λ file. length file.1 < 2 ^ 64) (λ file h. h.1) (files folder) whole) (omega arith))
+
+files_small : (folder : Folder) → IsFolder folder → (inputs : List (List ℕ)) → AllByRecursion (λ file. length file.1 < 2 ^ 64) (files_of folder inputs)
+files_small folder whole [] = tt
+files_small folder whole (name ∷ inputs) = (file_small folder whole name, files_small folder whole inputs)
+
+files_named : (folder : Folder) (inputs : List (List ℕ)) → AllByRecursion (λ word. not (is_input_name word) ≡ false) inputs → AllByRecursion (λ file. is_name file.0 ≡ true) (files_of folder inputs)
+files_named folder [] h = tt
+files_named folder (name ∷ inputs) h = ((and_parts (is_name name) (not (is_par_name name)) (not-false (is_input_name name) h.0)).0, files_named folder inputs h.1)
+
+-- a file with bytes has a slice
+some_slice : (s n : ℕ) → 0 < s → (n == 0) ≡ false → 1 ≤ slice_count s n
+some_slice s n positive full = some (slice_count s n) (div_ceil_times n s positive).0
+  where
+    some : (k : ℕ) → n ≤ k * s → 1 ≤ k
+    some zero le = absurd (eqb-false n 0 full (let e : 0 * s ≡ 0 = zero-mul s in omega (arith, le, e)))
+    some (suc k) le = omega arith
+
+-- no more files than slices
+count_small : (s : ℕ) (fs : List File) → 0 < s → AllByRecursion (λ file. (length file.1 == 0) ≡ false) fs → length fs ≤ sum_by (λ file. slice_count s (length file.1)) fs
+count_small s [] positive h = omega arith
+count_small s (file ∷ fs) positive h =
+    let e = sum_by-cons (λ (f : File). slice_count s (length f.1)) file fs in
+    let one : 1 ≤ slice_count s (length file.1) = some_slice s (length file.1) positive h.0 in
+    omega (arith, e, one, count_small s fs positive h.1)
+
+pub inputs_taken : (folder : Folder) (a : CreateArgs) → refusal folder (Create a) ≡ None → FitsCreate folder a → AreInputs a.slice (files_of folder a.inputs)
+inputs_taken folder a accepted fits =
+    let p = passes folder a accepted in
+    let fs = files_of folder a.inputs in
+    let most : sum_by (λ file. slice_count a.slice (length file.1)) fs ≤ 32768 = ltb-false 32768 (sum_by (λ file. slice_count a.slice (length file.1)) fs) p.slices in
+    let few = count_small a.slice fs (size_positive a.slice p.size) p.full in
+    let ids : length (distinct (map id_of fs)) ≡ length fs = eqb-true (length (distinct (map id_of fs))) (length fs) (not-false _ p.ids) in
+    record {
+      slice_size = p.size;
+      few = omega (arith, most, few);
+      sizes = files_small folder fits.whole a.inputs;
+      bytes = fits.bytes;
+      names = files_named folder a.inputs p.names;
+      names_once = subst (IsDistinct bytes_eq) (sym (names_of_files folder a.inputs)) (each_new [] a.inputs p.once).1;
+      ids_once = std_from_distinct (map id_of fs) (distinct_by_length (map id_of fs) (ids ∙ sym (length-map fs id_of)));
+      slices = most;
+    }
 
 -- ---- what stands under a name
 
@@ -20,10 +151,9 @@ laid_cases : (files : List File) (folder : Folder) (q bytes : List ℕ) → map_
 unfolding laid_over
 laid_cases [] folder q bytes h = inr (refl, h)
 laid_cases (file ∷ files) folder q bytes h =
-    elim (laid_cases files (map_of.insert folder file.0 file.1) q bytes h) as (λ _. Contains (bytes_in (file ∷ files)) bytes ⊎ ((is_among (map (λ f. f.0) (file ∷ files)) q ≡ false) × (map_of.get folder q ≡ Some bytes))) [
-      | inl i ↦ inl (contained_later file.1 (bytes_in files) bytes i)
-      | inr r ↦ step (bytes_eq q file.0) refl r.0 (sym (get_put folder file.0 file.1 q) ∙ r.1)
-    ]
+    by_either (laid_cases files (map_of.insert folder file.0 file.1) q bytes h)
+    (λ i. inl (contained_later file.1 (bytes_in files) bytes i))
+    (λ r. step (bytes_eq q file.0) refl r.0 (sym (get_put folder file.0 file.1 q) ∙ r.1))
   where
     step : (b : Bool) → bytes_eq q file.0 ≡ b → is_among (map (λ f. f.0) files) q ≡ false → cond b (Some file.1) (map_of.get folder q) ≡ Some bytes
         → Contains (bytes_in (file ∷ files)) bytes ⊎ ((is_among (map (λ f. f.0) (file ∷ files)) q ≡ false) × (map_of.get folder q ≡ Some bytes))
@@ -63,10 +193,9 @@ module _ (before damaged : Folder) (a : CreateArgs) (base : List ℕ) (accepted 
 
   is_volume_or_other : (name : List ℕ) → is_par_name name ≡ true → has damaged name ≡ true → IsVolumeOrOther a.slice inputs (bytes_of damaged name)
   is_volume_or_other name par there =
-      elim (laid_cases (outputs_of before a) before name (bytes_of damaged name) (is_there name par there)) as (λ _. IsVolumeOrOther a.slice inputs (bytes_of damaged name)) [
-        | inl i ↦ inl (written (bytes_of damaged name) i)
-        | inr r ↦ subst (IsVolumeOrOther a.slice inputs) (ap (λ o. unwrap_or o []) r.1) (fits.other_pars name par (ap is_some r.1) r.0)
-      ]
+      by_either (laid_cases (outputs_of before a) before name (bytes_of damaged name) (is_there name par there))
+      (λ i. inl (written (bytes_of damaged name) i))
+      (λ r. subst (IsVolumeOrOther a.slice inputs) (ap (λ o. unwrap_or o []) r.1) (fits.other_pars name par (ap is_some r.1) r.0))
 
   none_there : (name : List ℕ) → has damaged name ≡ false → IsOfOthers (set_id_of a.slice inputs) (bytes_of damaged name)
   unfolding accepted_after
@@ -86,15 +215,125 @@ module _ (before damaged : Folder) (a : CreateArgs) (base : List ℕ) (accepted 
   base_written : Contains (bytes_in (outputs_of before a)) (bytes_of damaged base)
   base_written =
       let par = at_name (λ name. is_par_name name ≡ true) (output_names before a) base (par_outputs before a (and_parts (is_name a.base) (is_par_name a.base) (passes before a accepted).base).1) damage.written in
-      elim (laid_cases (outputs_of before a) before base (bytes_of damaged base) (is_there base par damage.there)) as (λ _. Contains (bytes_in (outputs_of before a)) (bytes_of damaged base)) [
-        | inl i ↦ i
-        | inr r ↦ absurd (false≢true (sym r.0 ∙ damage.written))
-      ]
+      by_either (laid_cases (outputs_of before a) before base (bytes_of damaged base) (is_there base par damage.there))
+      (λ i. i)
+      (λ r. absurd (false≢true (sym r.0 ∙ damage.written)))
 
-  pub holds_volumes : HoldsVolumes damaged base a.slice inputs
+  holds_volumes : HoldsVolumes damaged base a.slice inputs
   holds_volumes = record {
     of_base = written (bytes_of damaged base) base_written;
     of_others = all_weaker (λ name. (is_par_name name && not (bytes_eq name base)) ≡ true) (λ name. IsVolumeOrOther a.slice inputs (bytes_of damaged name))
         (λ name h. each_par name (and_parts (is_par_name name) (not (bytes_eq name base)) h).0) (other_par_names damaged base)
         (recursion_from_All (λ name. (is_par_name name && not (bytes_eq name base)) ≡ true) (other_par_names damaged base) (filter_passes (λ name. is_par_name name && not (bytes_eq name base)) (names damaged)));
   }
+
+  pub set_of_files : MadeFrom damaged base (in_id_order inputs) a.slice
+  set_of_files = set_made damaged base a.slice inputs (inputs_taken before a accepted fits) holds_volumes
+
+-- ---- to remove files of what a create left is damage that leaves its par files as they are
+
+-- a file that was put into a folder, or that was there, is there
+laid_there : (files : List File) (folder : Folder) (q : List ℕ) → (is_among (map (λ file. file.0) files) q || has folder q) ≡ true → has (laid_over files folder) q ≡ true
+unfolding laid_over
+laid_there [] folder q h = h
+laid_there (file ∷ files) folder q h =
+    laid_there files (map_of.insert folder file.0 file.1) q
+    (ap (λ o. is_among (map (λ f. f.0) files) q || is_some o) (get_put folder file.0 file.1 q) ∙ step (bytes_eq q file.0) (is_among (map (λ f. f.0) files) q) (map_of.get folder q) h)
+  where
+    step : (b c : Bool) (o : Option (List ℕ)) → ((b || c) || is_some o) ≡ true → (c || is_some (cond b (Some file.1) o)) ≡ true
+    step true true o k = refl
+    step true false o k = refl
+    step false true o k = refl
+    step false false o k = k
+
+pub removal : (before : Folder) (a : CreateArgs) (base : List ℕ) (gone : List (List ℕ)) → is_among (output_names before a) base ≡ true → is_among gone base ≡ false
+    → IsDamage before (without gone (after before (Create a))) a base
+unfolding after
+removal before a base gone written stays =
+    let created = laid_over (outputs_of before a) before in
+    record {
+      written = written;
+      there = ap is_some (get_without gone created base) ∙ ap (λ b. is_some (cond b None (map_of.get created base))) stays ∙ laid_there (outputs_of before a) before base (or_left _ _ written);
+      pars = λ name par there. get_without gone created name ∙ still (is_among gone name) (map_of.get created name) (ap is_some (sym (get_without gone created name)) ∙ there);
+    }
+  where
+    still : (b : Bool) (o : Option (List ℕ)) → is_some (cond b None o) ≡ true → cond b None o ≡ o
+    still true o k = absurd (false≢true k)
+    still false o k = refl
+
+-- ---- what is searched
+
+all_distinct : (P : List ℕ → Type 0) (xs : List (List ℕ)) → AllByRecursion P xs → AllByRecursion P (distinct xs)
+all_distinct P [] h = tt
+all_distinct P (x ∷ xs) h = (h.0, all-filter P (λ other. not (bytes_eq x other)) (distinct xs) (all_distinct P xs h.1))
+
+target_names_are : (s : ℕ) (files : List File) → map (λ t. t.name) (map (target_of_file s) files) ≡ map (λ file. file.0) files
+unfolding record_of
+target_names_are s files = map-map (λ t. t.name) (target_of_file s) files
+
+-- what holds of each slice of the files
+to_files : (P : List ℕ → Type 0) (s : ℕ) (files : List File) → AllByRecursion P (all_slices s files) → AllByRecursion (λ file. AllByRecursion P (slices s file.1)) files
+to_files P s [] h = tt
+to_files P s (file ∷ files) h = let r = all-parts P (slices s file.1) (all_slices s files) h in (r.0, to_files P s files r.1)
+
+from_files : (P : List ℕ → Type 0) (s : ℕ) (files : List File) → AllByRecursion (λ file. AllByRecursion P (slices s file.1)) files → AllByRecursion P (all_slices s files)
+from_files P s files h = all-flat_map (λ file. AllByRecursion P (slices s file.1)) P (λ file. slices s file.1) (λ file k. k) files h
+
+-- ---- the files as they were
+
+module _ (before damaged : Folder) (a : CreateArgs) (base : List ℕ) (extras : List (List ℕ)) (follows : FollowsCreate before damaged a base extras) where
+  abbrev s : ℕ
+  s = a.slice
+
+  abbrev given : List File
+  given = files_of before a.inputs
+
+  abbrev ordered : List File
+  ordered = in_id_order given
+
+  m : MadeFrom damaged base ordered s
+  m = set_of_files before damaged a base follows.created follows.fits follows.damage
+
+  abbrev searched : List (List ℕ)
+  searched = candidates damaged m.set extras
+
+  names_are : target_names m.set ≡ map (λ file. file.0) ordered
+  names_are = ap (map (λ t. t.name)) m.targets ∙ target_names_are s ordered
+
+  among_searched : (P : List ℕ → Type 0) → AllByRecursion P (a.inputs ++ extras) → AllByRecursion P searched
+  among_searched P h =
+      let r = all-parts P a.inputs extras h in
+      let mine : AllByRecursion P (target_names m.set) =
+      subst (AllByRecursion P) (sym names_are)
+      (moved-all P (map (λ file. file.0) given) (map (λ file. file.0) ordered) (IsPermutation-map (λ file. file.0) given ordered (moved-ordered given)) (subst (AllByRecursion P) (sym (names_of_files before a.inputs)) r.0)) in
+      all_distinct P (filter (has damaged) (target_names m.set) ++ extras)
+      (all-append P (filter (has damaged) (target_names m.set)) extras (all-filter P (has damaged) (target_names m.set) mine) r.1)
+
+  -- a window of the file that matches the slice is it
+  abbrev IsTold : List ℕ → List ℕ → Type 0
+  IsTold slice name = AllByRecursion (λ w. Matches (pair_of slice) w → w ≡ slice) (windows s (bytes_of damaged name))
+
+  told : NoCollision damaged searched s (all_slices s ordered)
+  told =
+      from_files (λ slice. AllByRecursion (IsTold slice) searched) s ordered
+      (moved-all (λ file. AllByRecursion (λ slice. AllByRecursion (IsTold slice) searched) (slices s file.1)) given ordered (moved-ordered given)
+      (to_files (λ slice. AllByRecursion (IsTold slice) searched) s given
+      (all_weaker (λ slice. AllByRecursion (IsTold slice) (a.inputs ++ extras)) (λ slice. AllByRecursion (IsTold slice) searched) (λ slice h. among_searched (IsTold slice) h) (all_slices s given) follows.told)))
+
+  bytes : AllByRecursion (λ file. AreBytes file.1) ordered
+  bytes = moved-all (λ file. AreBytes file.1) given ordered (moved-ordered given) follows.fits.bytes
+
+  -- what a repair finds of the files is true
+  pub originals : IsTrueTo damaged base extras ordered s
+  originals = record { made = m; bytes = bytes; no_collision = told }
+
+  as_before : (folder : Folder) (words : List (List ℕ)) → AllByRecursion (λ word. not (has before word) ≡ false) words → AllByRecursion (λ file. map_of.get folder file.0 ≡ Some file.1) (files_of before words)
+      → AllByRecursion (λ name. map_of.get folder name ≡ map_of.get before name) words
+  as_before folder [] there h = tt
+  as_before folder (name ∷ words) there h = (h.0 ∙ sym (some_if [] (map_of.get before name) (not-false (has before name) there.0)), as_before folder words there.1 h.1)
+
+  -- a folder that has the files has them as they were
+  pub gives_back : (folder : Folder) → AllByRecursion (λ file. map_of.get folder file.0 ≡ Some file.1) ordered → AllByRecursion (λ name. map_of.get folder name ≡ map_of.get before name) a.inputs
+  gives_back folder h =
+      as_before folder a.inputs (passes before a follows.created).there
+      (moved-all (λ file. map_of.get folder file.0 ≡ Some file.1) ordered given (IsPermutation-sym given ordered (moved-ordered given)) h)

@@ -1,15 +1,121 @@
 -- The recovery slices of a set that reads are bytes of its folder's files.
-use Rattle.par2_laws.proofs.Common.{◌≡◌, ℕ, zero, suc, ◌-◌, ◌<◌, List, [], ◌∷◌, length, map, drop, refl, sym, ap, ◌∙◌, subst, T, cond, true, false, Bool, ◌&&◌, flat_map, nat_le, nat_lt, ◌==◌, Ok, unwrap_or, if◌then◌else◌, AllByRecursion, ForSome, bytes_eq, is_sorted, get-entries, entries_sorted, nat_cmp, eq_by_cmp, is_lt, is_eq, ordering_reverse, Kind, Main, FileDesc, Ifsc, Recovery, Creator, Other, Packet, RecoveryBody, accepted, begins_with_packet, claimed_length, AreBytes, Folder, bytes_of, ParSet, packets_with, recovery_of, set_of, other_par_names, HoldsBytes, all-filter, all-take, all-drop, all-each, all-filter_map, all-flat_map, all-map, T-parts, all-entries, all_weaker}
-use Rattle.std.specs.Prelude.{Some, None}
-use Rattle.std.specs.FinMap as map_of
+use Rattle.par2_laws.proofs.Common.{ℕ, zero, suc, ◌+◌, ◌*◌, ◌/◌, ◌%◌, ◌^◌, ◌<◌, List, [], ◌∷◌, length, map, arith, ◌≡◌, sym, subst, refl, inl, inr, true, ◌-◌, drop, ap, ◌∙◌, T, cond, false, Bool, ◌&&◌, ◌⊎◌, bit_xor, fold, flat_map, slice_get, Result, Err, nat_le, nat_lt, ◌==◌, if◌then◌else◌, AllByRecursion, range_with_len, list_all, length-md5, crc_step, crc_steps, crc_byte, pair_of, IsPair, Pair, slice_at, slice_count, slices, AreBytes, AreSurvivors, Agrees, get-entries, is_sorted, entries_sorted, nat_cmp, eq_by_cmp, is_lt, is_eq, ordering_reverse, slice_cmp, window, windows, is_match, found, Folder, bytes_of, has, ParSet, all_pairs, packets_with, recovery_of, other_par_names, all_some, is_slice_size, main_of, description_of, are_in_profile, target_of, IsSound, HoldsBytes, all-each, found_one, found_at_key, all-flat_map, all-take, all-drop, all-filter_map, all-map, all-both, cases_Bool, and_parts, Fault, accepted, Packet, RecoveryBody, begins_with_packet, claimed_length, is_of_reading, bytes_eq, Kind, Recovery, all-filter, T-parts, all-entries, all_weaker, NoSuchFile, set_in, recovery_slice, size_even, length-map}
+use Rattle.std.specs.Prelude.{unwrap_or, Ok}
+use Rattle.par2_spec.proofs.RestoredLaws.{bytes-slice_at, length-window, bytes-window}
+use Rattle.std.specs.Option.{ForSome}
+use Rattle.par2_spec.specs.Sets.{set_of}
+use Rattle.par2_spec.proofs.AcceptedCommands.{missing, in_full, in_part, set_in_reads}
+use Rattle.par2_spec.specs.Search.{known}
+use Rattle.std.proofs.lemmas.Nat.{xor_lt}
+use Rattle.par2_spec.specs.Checksums.{crc32}
+use Rattle.par2_spec.specs.Search.{known}
+use Rattle.std.specs.Prelude.{ℕ, Option, Some, None}
+use Rattle.par2_spec.specs.Sets.{read_set, set_of}
 use Rattle.std.specs.FinMap.{find}
 use Rattle.std.specs.FinMap.Entries.{below_all}
 use Rattle.std.specs.declared.cmp.Ordering.{Ordering}
-use Rattle.std.specs.declared.cmp.Ordering.TheVariants.{Less, Equal, Greater}
+use Rattle.std.specs.declared.cmp.Ordering.TheVariants.{Less}
 use Rattle.std.specs.Cmp.{nat_cmp_total, tied_itself}
 use Rattle.par2_spec.specs.Packets.{accepted_after, first_packet, read_recovery}
-use Rattle.par2_laws.proofs.Texts.{bytes_of_file}
-use Rattle.par2_laws.proofs.ReadSets.{set_of_answers}
+use Rattle.std.proofs.lemmas.Slice.Zip.{AllZip-long}
+use Rattle.std.specs.FinMap as map_of
+
+-- ---- checksums
+
+step_small : (c : ℕ) → c < 2 ^ 32 → crc_step c < 2 ^ 32
+step_small c h = xor_lt 32 (c / 2) (c % 2 * 0xEDB88320) (omega (arith, h)) (omega arith)
+
+steps_small : (n c : ℕ) → c < 2 ^ 32 → crc_steps n c < 2 ^ 32
+steps_small zero c h = h
+steps_small (suc n) c h = steps_small n (crc_step c) (step_small c h)
+
+fold_small : (bytes : List ℕ) (c : ℕ) → AreBytes bytes → c < 2 ^ 32 → fold crc_byte c bytes < 2 ^ 32
+fold_small [] c h low = low
+fold_small (b ∷ bytes) c h low = fold_small bytes (crc_byte c b) h.1 (steps_small 8 (bit_xor c b) (xor_lt 32 c b low (omega (arith, h.0))))
+
+crc_small : (bytes : List ℕ) → AreBytes bytes → crc32 bytes < 2 ^ 32
+unfolding crc32
+crc_small bytes h = xor_lt 32 (fold crc_byte 0xFFFFFFFF bytes) 0xFFFFFFFF (fold_small bytes 0xFFFFFFFF h (omega arith)) (omega arith)
+
+-- ---- the bytes of slices
+
+pairs_at : (s : ℕ) (text : List ℕ) (a n : ℕ) → AreBytes text → AllByRecursion IsPair (map pair_of (map (slice_at s text) (range_with_len a n)))
+pairs_at s text a zero h = tt
+pairs_at s text a (suc n) h =
+    ((length-md5 (slice_at s text a), crc_small (slice_at s text a) (bytes-slice_at s text a h)), pairs_at s text (a + 1) n h)
+
+-- the pairs of a text's slices
+pub pairs_are : (s : ℕ) (text : List ℕ) → AreBytes text → AllByRecursion IsPair (map pair_of (slices s text))
+pairs_are s text h = pairs_at s text 0 (slice_count s (length text)) h
+
+-- ---- in a folder whose files hold bytes, what is found of slices is texts of bytes
+
+-- s bytes
+abbrev pub IsText : ℕ → List ℕ → Type 0
+IsText s text = (length text ≡ s) × AreBytes text
+
+pub bytes_of_file : (folder : Folder) (name : List ℕ) → HoldsBytes folder → AreBytes (bytes_of folder name)
+bytes_of_file folder name h = subst (λ o. AreBytes (unwrap_or o [])) (sym (get-entries folder name)) (found_at_key AreBytes (slice_cmp nat_cmp) name [] (map_of.entries folder) h tt)
+
+-- ---- windows
+
+window_is : (s : ℕ) (text : List ℕ) → AreBytes text → (o : ℕ) → IsText s (window s text o)
+window_is s text bytes o = (length-window s text o, bytes-window s text o bytes)
+
+windows_are : (s : ℕ) (text : List ℕ) → AreBytes text → AllByRecursion (IsText s) (windows s text)
+windows_are s text bytes = all-each (IsText s) (window s text) (window_is s text bytes) (range_with_len 0 (length text))
+
+found_is : (folder : Folder) (searched : List (List ℕ)) (s : ℕ) → HoldsBytes folder → (pair : Pair) → ForSome (found s (map (bytes_of folder) searched) pair) (IsText s)
+found_is folder searched s held pair =
+    let texts = map (bytes_of folder) searched in
+    let each = all-each (λ text. AllByRecursion (IsText s) (windows s text)) (bytes_of folder) (λ name. windows_are s (bytes_of folder name) (bytes_of_file folder name held)) searched in
+    λ slice is. (found_one (IsText s) (is_match pair) (flat_map (windows s) texts) (all-flat_map (λ text. AllByRecursion (IsText s) (windows s text)) (IsText s) (windows s) (λ text all. all) texts each) slice is).0
+
+-- each known slice is a text of the slice size
+pub known_are : (folder : Folder) (set : ParSet) (searched : List (List ℕ)) → HoldsBytes folder → AllByRecursion (λ slice. ForSome slice (IsText set.slice_size)) (known folder set searched)
+unfolding known
+known_are folder set searched held =
+    let s = set.slice_size in
+    all-each (λ slice. ForSome slice (IsText s)) (found s (map (bytes_of folder) searched)) (found_is folder searched s held) (all_pairs set)
+
+-- ---- what reading a set answers: a set whose recovery slices are those of packets, or a fault of reading
+
+-- the recovery slices are those of the packets of these texts that have one identifier
+abbrev pub IsOfPackets : List (List ℕ) → ParSet → Type 0
+IsOfPackets texts set = (id : List ℕ) × (set.recovery ≡ recovery_of (packets_with id (flat_map accepted texts)) set.slice_size)
+
+abbrev pub IsAnswer : List (List ℕ) → Result ParSet Fault → Type 0
+IsAnswer texts (Ok set) = IsOfPackets texts set
+IsAnswer texts (Err fault) = is_of_reading fault ≡ true
+
+by_option : {A goal : Type 0} (o : Option A) → (o ≡ None → goal) → ((x : A) → o ≡ Some x → goal) → goal
+by_option None absent there = absent refl
+by_option (Some x) absent there = there x refl
+
+read_set_answers : (base : List ℕ) (others : List (List ℕ)) → IsAnswer (base ∷ others) (read_set base others)
+unfolding read_set
+read_set_answers base others =
+    by_option (slice_get (accepted base) 0) (λ e. rw e refl) (λ first e.
+    let packets = packets_with first.set_id (flat_map accepted (base ∷ others)) in
+    rw e (by_option (main_of first.set_id packets) (λ k. rw k refl) (λ main k.
+    rw k (elim (cases_Bool (is_slice_size main.slice_size)) [
+      | inr bad ↦ rw bad refl
+      | inl good ↦
+          rw good (by_option (all_some (map (description_of packets) main.ids)) (λ l. rw l refl) (λ described l.
+          rw l (elim (cases_Bool (are_in_profile main.slice_size described)) [
+            | inr out ↦ rw out refl
+            | inl within ↦
+                rw within (by_option (all_some (map (target_of packets main.slice_size) described)) (λ m. rw m refl) (λ targets m.
+                rw m (first.set_id, refl)))
+          ])))
+    ]))))
+
+-- the answer for a folder and a base
+pub set_of_answers : (folder : Folder) (base : List ℕ) (answer : Result ParSet Fault) → set_of folder base ≡ answer → IsAnswer (map (bytes_of folder) (base ∷ other_par_names folder base)) answer
+unfolding set_of
+set_of_answers folder base answer is =
+    let names = base ∷ other_par_names folder base in
+    subst (IsAnswer (map (bytes_of folder) names)) is (read_set_answers (bytes_of folder base) (map (bytes_of folder) (other_par_names folder base)))
 
 -- ---- packets
 
@@ -41,12 +147,8 @@ said_has p bytes = by_kind p.kind
     long false r k q e = let clash = e in absurd (cc)
 
     by_kind : (kind : Kind) → ForSome (read_recovery kind p.body) (λ r. AreBytes r.bytes)
-    by_kind Main r e = let clash = e in absurd (cc)
-    by_kind FileDesc r e = let clash = e in absurd (cc)
-    by_kind Ifsc r e = let clash = e in absurd (cc)
     by_kind Recovery r e = long (nat_le 4 (length p.body)) _ (all-drop (λ b. b < 256) 4 p.body bytes) r e
-    by_kind Creator r e = let clash = e in absurd (cc)
-    by_kind (Other code) r e = let clash = e in absurd (cc)
+    by_kind kind r e = let clash = e in absurd (cc)
 
 -- ---- the map of recovery slices
 
@@ -65,8 +167,7 @@ other_key k n less = ap is_eq (nat_cmp_total.antisymm n k) ∙ step (nat_cmp k n
   where
     step : (o : Ordering) → T (is_lt o) → is_eq (ordering_reverse o) ≡ false
     step Less h = refl
-    step Equal h = absurd h
-    step Greater h = absurd h
+    step o h = absurd h
 
 behind_first : (k : ℕ) (v : List ℕ) (ds es : List (ℕ × List ℕ)) → T (below_all nat_cmp k ds) → AllByRecursion (λ d. find nat_cmp d.0 es ≡ Some d.1) ds → AllByRecursion (λ d. find nat_cmp d.0 ((k, v) ∷ es) ≡ Some d.1) ds
 behind_first k v [] es less h = tt
@@ -97,3 +198,66 @@ recovery_of_bytes folder base set held reads =
     let in_packets = all-flat_map (λ text. AllByRecursion HasBytes (accepted text)) HasBytes accepted (λ text all. all) texts in_texts in
     let kept = all-filter HasBytes (λ p. bytes_eq p.set_id read.0) (flat_map accepted texts) in_packets in
     subst (λ recovery. AllByRecursion IsOfBytes (map_of.entries recovery)) (sym read.1) (recovery_has (packets_with read.0 (flat_map accepted texts)) set.slice_size kept)
+
+-- ---- the set that a repair reads, by which of its files are there
+
+module _ (folder : Folder) (base : List ℕ) (extras : List (List ℕ)) where
+  -- a set that is read is that of the base, in a folder with these files
+  pub read_of : (set : ParSet) → set_in folder base extras ≡ Ok set → (set_of folder base ≡ Ok set) × (list_all (has folder) extras ≡ true)
+  read_of set read = let r = set_in_reads folder base extras set read in (r.0, (and_parts (has folder base) (list_all (has folder) extras) r.1).1)
+
+  -- the set of the base is read, or a file is not there
+  pub read_or_absent : (set : ParSet) → set_of folder base ≡ Ok set → (set_in folder base extras ≡ Ok set) ⊎ ((place : ℕ) × (set_in folder base extras ≡ Err (NoSuchFile place)))
+  read_or_absent set reads = step (missing folder (base ∷ extras)) refl
+    where
+      step : (o : Option ℕ) → missing folder (base ∷ extras) ≡ o → (set_in folder base extras ≡ Ok set) ⊎ ((place : ℕ) × (set_in folder base extras ≡ Err (NoSuchFile place)))
+      step None e = inl (in_full folder base extras e ∙ reads)
+      step (Some k) e = inr (0 + k, in_part folder base extras k e)
+
+  -- where none is read, the fault is one of reading
+  pub fault_of_reading : (fault : Fault) → set_in folder base extras ≡ Err fault → is_of_reading fault ≡ true
+  fault_of_reading fault unread = step (missing folder (base ∷ extras)) refl
+    where
+      step : (o : Option ℕ) → missing folder (base ∷ extras) ≡ o → is_of_reading fault ≡ true
+      step None e = set_of_answers folder base (Err fault) (sym (in_full folder base extras e) ∙ unread)
+      step (Some k) e =
+          let told = sym (in_part folder base extras k e) ∙ unread in
+          let same : NoSuchFile (0 + k) ≡ fault = cc in
+          subst (λ f. is_of_reading f ≡ true) same refl
+
+-- ---- what survives of a sound set in a folder whose files hold bytes is texts of bytes of the slice size
+
+sizes_of : (s : ℕ) (ks : List (Option (List ℕ))) → AllByRecursion (λ slice. ForSome slice (IsText s)) ks → AllByRecursion (λ slice. ForSome slice (λ found. length found ≡ s)) ks
+sizes_of s ks h = all_weaker (λ slice. ForSome slice (IsText s)) (λ slice. ForSome slice (λ found. length found ≡ s)) (λ slice text found is. (text found is).0) ks h
+
+bytes_of_each : (s : ℕ) (ks : List (Option (List ℕ))) → AllByRecursion (λ slice. ForSome slice (IsText s)) ks → AllByRecursion (λ slice. ForSome slice AreBytes) ks
+bytes_of_each s ks h = all_weaker (λ slice. ForSome slice (IsText s)) (λ slice. ForSome slice AreBytes) (λ slice text found is. (text found is).1) ks h
+
+module _ (set : ParSet) where
+  slice_of_bytes : AllByRecursion (λ e. AreBytes e.1) (map_of.entries set.recovery) → (e : ℕ) → AreBytes (recovery_slice set e)
+  slice_of_bytes h e = subst (λ o. AreBytes (unwrap_or o [])) (sym (get-entries set.recovery e)) (found_at_key AreBytes nat_cmp e [] (map_of.entries set.recovery) h tt)
+
+  each_slice : (rs : List (ℕ × List ℕ)) → AllByRecursion (λ r. (r.0 < 65536) × (length r.1 ≡ set.slice_size)) rs → AllByRecursion (λ r. map_of.get set.recovery r.0 ≡ Some r.1) rs
+      → AllByRecursion (λ r. (r.0 < 65536) × (length r.1 ≡ set.slice_size) × (recovery_slice set r.0 ≡ r.1)) rs
+  each_slice rs sizes own =
+      all-both (λ r. (r.0 < 65536) × (length r.1 ≡ set.slice_size)) (λ r. map_of.get set.recovery r.0 ≡ Some r.1) (λ r. (r.0 < 65536) × (length r.1 ≡ set.slice_size) × (recovery_slice set r.0 ≡ r.1))
+      (λ r size is. (size.0, size.1, ap (λ o. unwrap_or o []) is)) rs sizes own
+
+pub survivors_are : (folder : Folder) (base : List ℕ) (set : ParSet) (searched : List (List ℕ)) → IsSound set → HoldsBytes folder → set_of folder base ≡ Ok set
+    → AreSurvivors set.slice_size 65536 (known folder set searched) (map_of.entries set.recovery) (recovery_slice set)
+survivors_are folder base set searched sound held reads =
+    let found = known_are folder set searched held in record {
+      even = size_even set.slice_size sound.size;
+      known_sizes = sizes_of set.slice_size (known folder set searched) found;
+      known_bytes = bytes_of_each set.slice_size (known folder set searched) found;
+      bytes = slice_of_bytes set (recovery_of_bytes folder base set held reads);
+      each = each_slice set (map_of.entries set.recovery) sound.recovery (each_has_its_own set);
+    }
+
+-- ---- slices that agree with what survives are as many as the pairs of the set
+
+pub as_many_as_pairs : (folder : Folder) (set : ParSet) (searched : List (List ℕ)) (recovered : List (ℕ × List ℕ)) (slices : List (List ℕ))
+    → Agrees set.slice_size (known folder set searched) recovered slices → length slices ≡ length (all_pairs set)
+unfolding known
+as_many_as_pairs folder set searched recovered slices agrees =
+    AllZip-long _ (known folder set searched) slices agrees.as_known ∙ length-map (all_pairs set) (found set.slice_size (map (bytes_of folder) searched))

@@ -1,11 +1,271 @@
 -- A set whose packets are those of certain files was made from them.
-use Rattle.par2_laws.proofs.Common.{◌≡◌, ℕ, true, List, ◌∷◌, map, sym, ap, ◌∙◌, subst, flat_map, AllByRecursion, bytes_eq, recovery, Folder, File, bytes_of, Packet, accepted, all_slices, ParSet, MadeFrom, all_some, packets_with, description_of, target_of, recovery_of, read_set, other_par_names, target_of_file, AreDescribed, is_read, IsOf, AreOf, AreAllOf, all-passing, all-flat_map-map, all_weaker, read_by, same_name}
-use Rattle.std.proofs.Common.{Ok}
-use Rattle.std.specs.FinMap as map_of
+use Rattle.par2_laws.proofs.Common.{◌≡◌, ℕ, ◌<◌, ◌^◌, false, List, [], ◌∷◌, ◌++◌, length, map, Some, refl, sym, ap, ◌∙◌, subst, arith, zero, suc, Bool, true, Option, None, inl, inr, ◌⊎◌, ◌&&◌, Ok, IsTrue, ◌==◌, nat_lt, filter_map, find, slice_get, option_map, option_and_then, if◌then◌else◌, flat_map, AllByRecursion, Contains, list_any, range_with_len, slice_index_or, length-map, recursion_from_All, All-contains_itself, same_Some, none-some, length-md5, Kind, Main, FileDesc, Ifsc, Recovery, Creator, Other, AreBytes, File, Folder, bytes_of, Packet, MainBody, DescBody, IfscBody, RecoveryBody, accepted, FileRecord, all_slices, main_bytes, desc_bytes, ifsc_bytes, recovery_bytes, id_of, AreDescribed, is_read, IsOf, AreOf, AreAllOf, all-append, of_contained, all-map, all-filter_map, found_one, all_unmap, all-passing, all-flat_map-map, bytes_eq, false≢true, and_parts, eqb-true, map-map, md5, Pair, pair_of, slice_count, slice_at, slices, Target, all_some, main_of, description_of, pairs_of, target_of, recovery_of, target_of_file, ParSet, MadeFrom, packets_with, read_set, other_par_names, all_weaker, all-filter, mapped, target_with, no_slices, all-entries, read_by, same_name, itself, main_reads, ifsc_reads, recovery_reads, desc_reads, by_either}
+use Rattle.par2_spec.specs.Recovery.{recovery}
+use Rattle.par2_spec.specs.Packets.{read_main, read_desc, read_ifsc, read_recovery}
+use Rattle.par2_spec.specs.Packets.{read_main, read_desc, read_ifsc, read_recovery}
+use Rattle.par2_spec.specs.Volumes.{record_of, packets_of}
+use Rattle.par2_laws.proofs.RecoveryBytes.{pairs_are}
+use Rattle.std.specs.List.{IsDistinct}
 use Rattle.par2_spec.specs.Sets.{set_of}
-use Rattle.par2_laws.proofs.Laws.{AreRead}
-use Rattle.par2_laws.proofs.FilePackets.{Says, packet_says, main_of_files, desc_of_file}
-use Rattle.par2_laws.proofs.SetsRead.{AllSay, main_is, descriptions_are, targets_are, recovery_is}
+use Rattle.std.specs.FinMap as map_of
+
+-- ---- what holds of each
+
+pub all_contained : {A : Type 0} (xs : List A) → AllByRecursion (Contains xs) xs
+all_contained xs = recursion_from_All (Contains xs) xs (All-contains_itself xs)
+
+-- ---- what a packet may be
+
+-- the body is that of one of the packets of the files
+abbrev pub Says : ℕ → List File → Kind → List ℕ → Type 0
+Says s files Main body = body ≡ main_bytes s (map (record_of s) files)
+Says s files FileDesc body = (file : File) × Contains files file × (body ≡ desc_bytes (record_of s file))
+Says s files Ifsc body = (file : File) × Contains files file × (body ≡ ifsc_bytes (record_of s file))
+Says s files Recovery body = (e : ℕ) × (e < 65536) × (body ≡ recovery_bytes e (recovery s (all_slices s files) e))
+Says s files Creator body = Unit {0}
+Says s files (Other bytes) body = Unit {0}
+
+all_say : (s : ℕ) (files : List File) (e : ℕ) → e < 65536 → AllByRecursion (λ z. Says s files z.0 z.1) (packets_of s files (e ∷ []))
+unfolding packets_of
+all_say s files e small =
+    let P = (λ (z : Kind × List ℕ). Says s files z.0 z.1) in
+    let descs = map (λ (file : FileRecord). let z : Kind × List ℕ = (FileDesc, desc_bytes file) in z) (map (record_of s) files) in
+    let ifscs = map (λ (file : FileRecord). let z : Kind × List ℕ = (Ifsc, ifsc_bytes file) in z) (map (record_of s) files) in
+    let main : Kind × List ℕ = (Main, main_bytes s (map (record_of s) files)) in
+    all-append P ((main ∷ descs) ++ ifscs) ((Recovery, recovery_bytes e (recovery s (all_slices s files) e)) ∷ [])
+    (all-append P (main ∷ descs) ifscs
+    (refl, each FileDesc desc_bytes (λ file i. (file, i, refl)) files (all_contained files))
+    (each Ifsc ifsc_bytes (λ file i. (file, i, refl)) files (all_contained files)))
+    ((e, small, refl), tt)
+  where
+    each : (kind : Kind) (body : FileRecord → List ℕ) → ((file : File) → Contains files file → Says s files kind (body (record_of s file)))
+        → (some : List File) → AllByRecursion (Contains files) some → AllByRecursion (λ z. Says s files z.0 z.1) (map (λ file. let z : Kind × List ℕ = (kind, body file) in z) (map (record_of s) some))
+    each kind body says [] h = tt
+    each kind body says (file ∷ some) h = (says file h.0, each kind body says some h.1)
+
+-- a packet of the files says what one of theirs does
+pub packet_says : (s : ℕ) (files : List File) (p : Packet) → (IsTrue (is_read p.kind) → IsOf s files p) → Says s files p.kind p.body
+packet_says s files p h = by_kind p.kind (λ r. let is = h r in of_contained (λ z. Says s files z.0 z.1) (packets_of s files (is.0 ∷ [])) (p.kind, p.body) (all_say s files is.0 is.1) is.2)
+  where
+    by_kind : (kind : Kind) → (IsTrue (is_read kind) → Says s files kind p.body) → Says s files kind p.body
+    by_kind Creator k = tt
+    by_kind (Other bytes) k = tt
+    by_kind kind k = k refl
+
+-- ---- what it is read as
+
+unfoldable pub main_of_files : ℕ → List File → MainBody
+main_of_files s files = record { slice_size = s; ids = map (λ file. file.id) (map (record_of s) files) }
+
+unfoldable pub desc_of_file : ℕ → File → DescBody
+desc_of_file s file =
+    let r : FileRecord = record_of s file in
+    record { id = r.id; md5 = r.md5; md5_16k = r.md5_16k; length = r.length; name = r.name }
+
+unfoldable pub ifsc_of_file : ℕ → File → IfscBody
+ifsc_of_file s file = record { id = (record_of s file).id; pairs = (record_of s file).pairs }
+
+-- ---- each part is read as what it is
+
+-- a file whose packets say what was given
+pub record IsDescribed (file : File) : Type 0 where
+  pub size : length file.1 < 2 ^ 64
+  pub bytes : AreBytes file.1
+  pub name : list_any (λ b. b == 0) file.0 ≡ false
+
+pub each_described : (s : ℕ) (files : List File) → AreDescribed s files → AllByRecursion IsDescribed files
+each_described s files d = three files d.sizes d.bytes d.names
+  where
+    three : (some : List File) → AllByRecursion (λ file. length file.1 < 2 ^ 64) some → AllByRecursion (λ file. AreBytes file.1) some
+        → AllByRecursion (λ file. list_any (λ b. b == 0) file.0 ≡ false) some → AllByRecursion IsDescribed some
+    three [] a b c = tt
+    three (file ∷ some) a b c = (record { size = a.0; bytes = b.0; name = c.0 }, three some a.1 b.1 c.1)
+
+ids_sixteen : (s : ℕ) (files : List File) → AllByRecursion (λ file. length file.id ≡ 16) (map (record_of s) files)
+unfolding record_of
+ids_sixteen s [] = tt
+ids_sixteen s (file ∷ files) = (length-md5 _, ids_sixteen s files)
+
+pub main_written : (s : ℕ) (files : List File) → AreDescribed s files → read_main Main (main_bytes s (map (record_of s) files)) ≡ Some (main_of_files s files)
+unfolding main_of_files
+main_written s files d =
+    main_reads s (map (record_of s) files) d.slice_size (subst (λ n. n < 2 ^ 32) (sym (length-map files (record_of s))) d.few) (ids_sixteen s files)
+
+pub desc_written : (s : ℕ) (file : File) → IsDescribed file → read_desc FileDesc (desc_bytes (record_of s file)) ≡ Some (desc_of_file s file)
+unfolding record_of desc_of_file
+desc_written s file d = desc_reads (record_of s file) (length-md5 _) (length-md5 _) (length-md5 _) d.size d.name
+
+pub ifsc_written : (s : ℕ) (file : File) → IsDescribed file → read_ifsc Ifsc (ifsc_bytes (record_of s file)) ≡ Some (ifsc_of_file s file)
+unfolding record_of ifsc_of_file
+ifsc_written s file d = ifsc_reads (record_of s file) (length-md5 _) (pairs_are s file.1 d.bytes)
+
+pub main_said : (s : ℕ) (files : List File) → AreDescribed s files → (kind : Kind) (body : List ℕ) → Says s files kind body
+    → (m : MainBody) → read_main kind body ≡ Some m → m ≡ main_of_files s files
+unfolding read_main
+main_said s files d Main body says m h = sym (same_Some (main_of_files s files) m (sym (ap (read_main Main) says ∙ main_written s files d) ∙ h))
+main_said s files d kind body says m h = absurd (none-some m h)
+
+-- it is said of one of the files
+abbrev pub IsOfOne : {B : Type 0} → (File → B) → List File → B → Type 0
+IsOfOne of files x = (file : File) × Contains files file × (x ≡ of file)
+
+pub desc_said : (s : ℕ) (files : List File) → AreDescribed s files → (kind : Kind) (body : List ℕ) → Says s files kind body
+    → (x : DescBody) → read_desc kind body ≡ Some x → IsOfOne (desc_of_file s) files x
+unfolding read_desc
+desc_said s files d FileDesc body says x h =
+    let file = says.0 in
+    let told = of_contained IsDescribed files file (each_described s files d) says.1 in
+    (file, says.1, sym (same_Some (desc_of_file s file) x (sym (ap (read_desc FileDesc) says.2 ∙ desc_written s file told) ∙ h)))
+desc_said s files d kind body says x h = absurd (none-some x h)
+
+pub ifsc_said : (s : ℕ) (files : List File) → AreDescribed s files → (kind : Kind) (body : List ℕ) → Says s files kind body
+    → (x : IfscBody) → read_ifsc kind body ≡ Some x → IsOfOne (ifsc_of_file s) files x
+unfolding read_ifsc
+ifsc_said s files d Ifsc body says x h =
+    let file = says.0 in
+    let told = of_contained IsDescribed files file (each_described s files d) says.1 in
+    (file, says.1, sym (same_Some (ifsc_of_file s file) x (sym (ap (read_ifsc Ifsc) says.2 ∙ ifsc_written s file told) ∙ h)))
+ifsc_said s files d kind body says x h = absurd (none-some x h)
+
+-- the recovery slice is the true one
+abbrev pub IsTrueSlice : ℕ → List File → RecoveryBody → Type 0
+IsTrueSlice s files r = r.bytes ≡ recovery s (all_slices s files) r.exponent
+
+pub recovery_said : (s : ℕ) (files : List File) → (kind : Kind) (body : List ℕ) → Says s files kind body
+    → (r : RecoveryBody) → read_recovery kind body ≡ Some r → IsTrueSlice s files r
+unfolding read_recovery
+recovery_said s files Recovery body says r h =
+    let e = says.0 in
+    let bytes = recovery s (all_slices s files) e in
+    let small : e < 2 ^ 32 = omega (arith, says.1) in
+    let written : RecoveryBody = record { exponent = e; bytes = bytes } in
+    subst (IsTrueSlice s files) (same_Some written r (sym (ap (read_recovery Recovery) says.2 ∙ recovery_reads e bytes small) ∙ h)) refl
+recovery_said s files kind body says r h = absurd (none-some r h)
+
+-- ---- lists
+
+first_one : {A : Type 0} (P : A → Type 0) (xs : List A) → AllByRecursion P xs → (x : A) → slice_get xs 0 ≡ Some x → P x
+first_one P [] h x e = absurd (none-some x e)
+first_one P (y ∷ xs) h x e = subst P (same_Some y x e) h.0
+
+-- items that are there are what each can only be
+all_there : {A B : Type 0} (g : A → Option B) (f : A → B) (xs : List A) → AllByRecursion (λ x. (y : B) → g x ≡ Some y → y ≡ f x) xs → (ys : List B) → all_some (map g xs) ≡ Some ys → ys ≡ map f xs
+all_there g f [] h ys e = sym (same_Some [] ys e)
+all_there {A = A} {B = B} g f (x ∷ xs) h ys e = step (g x) refl (all_some (map g xs)) (λ zs b. all_there g f xs h.1 zs b) e
+  where
+    step : (o : Option B) → g x ≡ o → (os : Option (List B)) → ((zs : List B) → os ≡ Some zs → zs ≡ map f xs) → option_and_then (λ y. option_map (λ zs. y ∷ zs) os) o ≡ Some ys → ys ≡ map f (x ∷ xs)
+    step (Some y) a (Some zs) b k =
+        sym (same_Some (y ∷ zs) ys k) ∙ ap (λ w. w ∷ zs) (h.0 y a) ∙ ap (λ ws. f x ∷ ws) (b zs refl)
+    step o a os b k = absurd (none-some ys k)
+
+-- ---- one file for each File ID
+
+pub contained_cases : {A : Type 0} (y : A) (xs : List A) (x : A) → Contains (y ∷ xs) x → (y ≡ x) ⊎ Contains xs x
+contained_cases {A = A} y xs x i = by_place i.0 i.1 i.2
+  where
+    by_place : (k : ℕ) → k < length (y ∷ xs) → slice_index_or (y ∷ xs) k x ≡ x → (y ≡ x) ⊎ Contains xs x
+    by_place zero low e = inl e
+    by_place (suc k) low e = inr (k, omega (arith, low), e)
+
+one_by_id : (files : List File) → IsDistinct bytes_eq (map id_of files) → (a b : File) → Contains files a → Contains files b → id_of a ≡ id_of b → a ≡ b
+unfolding IsDistinct
+one_by_id [] d a b i j e = absurd (omega (arith, i.1))
+one_by_id (x ∷ files) d a b i j e = elim (contained_cases x files a i) as (λ _. a ≡ b) [
+  | inl first ↦ by_either (contained_cases x files b j) (λ too. sym first ∙ too) (λ later. absurd (apart b later (ap id_of first ∙ e)))
+  | inr there ↦ by_either (contained_cases x files b j)
+      (λ too. absurd (apart a there (ap id_of too ∙ sym e)))
+      (λ later. one_by_id files d.1 a b there later e)
+]
+  where
+    apart : (c : File) → Contains files c → id_of x ≡ id_of c → ⊥
+    apart c k same =
+        let other = of_contained (λ y. bytes_eq (id_of x) (id_of y) ≡ false) files c (all_unmap (λ n. bytes_eq (id_of x) n ≡ false) id_of files d.0) k in
+        false≢true (sym other ∙ subst (λ n. bytes_eq (id_of x) n ≡ true) same (itself (id_of x)))
+
+-- ---- steps of the reading
+
+-- a file without bytes has no slices
+no_pairs : (s : ℕ) (text : List ℕ) → length text ≡ 0 → map pair_of (slices s text) ≡ []
+no_pairs s text e = ap (λ n. map pair_of (map (slice_at s text) (range_with_len 0 n))) (ap (slice_count s) e ∙ no_slices s)
+
+-- what is looked up for the File IDs of a Main is looked up for the files
+pub by_ids : {B : Type 0} (look : List ℕ → B) (s : ℕ) (files : List File) → map look (main_of_files s files).ids ≡ map (λ file. look (id_of file)) files
+unfolding main_of_files record_of
+by_ids look s [] = refl
+by_ids look s (file ∷ files) = ap (λ os. look (id_of file) ∷ os) (by_ids look s files)
+
+-- ---- packets that say what the files do
+
+-- each of them does
+abbrev pub AllSay : ℕ → List File → List Packet → Type 0
+AllSay s files packets = AllByRecursion (λ p. Says s files p.kind p.body) packets
+
+module _ (s : ℕ) (files : List File) (d : AreDescribed s files) (packets : List Packet) (say : AllSay s files packets) where
+  -- the Main, where there is one
+  pub main_is : (id : List ℕ) (m : MainBody) → main_of id packets ≡ Some m → m ≡ main_of_files s files
+  main_is id m e =
+      first_one (λ x. x ≡ main_of_files s files) (filter_map read packets)
+      (all-filter_map (λ p. Says s files p.kind p.body) (λ x. x ≡ main_of_files s files) read each packets say) m e
+    where
+      read : Packet → Option MainBody
+      read p = if bytes_eq (md5 p.body) id then read_main p.kind p.body else None
+
+      each : (p : Packet) → Says s files p.kind p.body → (x : MainBody) → read p ≡ Some x → x ≡ main_of_files s files
+      each p says x h = step (bytes_eq (md5 p.body) id) h
+        where
+          step : (b : Bool) → (if b then read_main p.kind p.body else None) ≡ Some x → x ≡ main_of_files s files
+          step true k = main_said s files d p.kind p.body says x k
+          step false k = absurd (none-some x k)
+
+  -- the description of a file, where there is one
+  pub description_is : (file : File) → Contains files file → (x : DescBody) → description_of packets (id_of file) ≡ Some x → x ≡ desc_of_file s file
+  unfolding desc_of_file record_of
+  description_is file i x e =
+      let found = found_one (IsOfOne (desc_of_file s) files) (λ c. bytes_eq c.id (id_of file)) (filter_map (λ p. read_desc p.kind p.body) packets)
+      (all-filter_map (λ p. Says s files p.kind p.body) (IsOfOne (desc_of_file s) files) (λ p. read_desc p.kind p.body) (λ p says. desc_said s files d p.kind p.body says) packets say) x e in
+      let named : id_of found.0.0 ≡ id_of file = ap (λ c. c.id) (sym found.0.2) ∙ same_name x.id (id_of file) found.1 in
+      found.0.2 ∙ ap (desc_of_file s) (one_by_id files d.ids_once found.0.0 file found.0.1 i named)
+
+  -- its checksums, where they are there
+  pub pairs_are_its : (file : File) → Contains files file → (n : ℕ) (ps : List Pair) → pairs_of packets (id_of file) n ≡ Some ps → ps ≡ (record_of s file).pairs
+  unfolding ifsc_of_file record_of
+  pairs_are_its file i n ps e =
+      let got = mapped (λ (c : IfscBody). c.pairs) (find (λ c. bytes_eq c.id (id_of file) && length c.pairs == n) (filter_map (λ p. read_ifsc p.kind p.body) packets)) ps e in
+      let found = found_one (IsOfOne (ifsc_of_file s) files) (λ c. bytes_eq c.id (id_of file) && length c.pairs == n) (filter_map (λ p. read_ifsc p.kind p.body) packets)
+      (all-filter_map (λ p. Says s files p.kind p.body) (IsOfOne (ifsc_of_file s) files) (λ p. read_ifsc p.kind p.body) (λ p says. ifsc_said s files d p.kind p.body says) packets say) got.0 got.1 in
+      let named : id_of found.0.0 ≡ id_of file = ap (λ c. c.id) (sym found.0.2) ∙ same_name got.0.id (id_of file) (and_parts (bytes_eq got.0.id (id_of file)) (length got.0.pairs == n) found.1).0 in
+      sym got.2 ∙ ap (λ c. c.pairs) (found.0.2 ∙ ap (ifsc_of_file s) (one_by_id files d.ids_once found.0.0 file found.0.1 i named))
+
+  -- the target of a file
+  pub target_is : (file : File) → Contains files file → (t : Target) → target_of packets s (desc_of_file s file) ≡ Some t → t ≡ target_of_file s file
+  unfolding desc_of_file record_of
+  target_is file i t e =
+      let n = length file.1 in
+      let got = mapped (target_with (desc_of_file s file)) (if n == 0 then Some [] else pairs_of packets (id_of file) (slice_count s n)) t e in
+      sym got.2 ∙ ap (target_with (desc_of_file s file)) (its (n == 0) refl got.0 got.1)
+    where
+      its : (b : Bool) → (length file.1 == 0) ≡ b → (ps : List Pair) → (if b then Some [] else pairs_of packets (id_of file) (slice_count s (length file.1))) ≡ Some ps → ps ≡ (record_of s file).pairs
+      its true z ps k = sym (same_Some [] ps k) ∙ sym (no_pairs s file.1 (eqb-true (length file.1) 0 z))
+      its false z ps k = pairs_are_its file i (slice_count s (length file.1)) ps k
+
+  -- what is read of all files
+  pub descriptions_are : (ds : List DescBody) → all_some (map (description_of packets) (main_of_files s files).ids) ≡ Some ds → ds ≡ map (desc_of_file s) files
+  descriptions_are ds e =
+      all_there (λ file. description_of packets (id_of file)) (desc_of_file s) files (all_weaker (Contains files) (λ file. (x : DescBody) → description_of packets (id_of file) ≡ Some x → x ≡ desc_of_file s file) description_is files (all_contained files)) ds
+      (sym (ap all_some (by_ids (description_of packets) s files)) ∙ e)
+
+  pub targets_are : (ts : List Target) → all_some (map (target_of packets s) (map (desc_of_file s) files)) ≡ Some ts → ts ≡ map (target_of_file s) files
+  targets_are ts e =
+      all_there (λ file. target_of packets s (desc_of_file s file)) (target_of_file s) files (all_weaker (Contains files) (λ file. (t : Target) → target_of packets s (desc_of_file s file) ≡ Some t → t ≡ target_of_file s file) target_is files (all_contained files)) ts
+      (sym (ap all_some (map-map (target_of packets s) (desc_of_file s) files)) ∙ e)
+
+  -- each recovery slice is the true one
+  pub recovery_is : AllByRecursion (λ r. r.1 ≡ recovery s (all_slices s files) r.0) (map_of.entries (recovery_of packets s))
+  recovery_is =
+      all-entries (λ r. r.1 ≡ recovery s (all_slices s files) r.0) _
+      (all-map (IsTrueSlice s files) (λ r. r.1 ≡ recovery s (all_slices s files) r.0) (λ r. (r.exponent, r.bytes)) (λ r h. h) _
+      (all-filter (IsTrueSlice s files) (λ r. nat_lt r.exponent 65536 && length r.bytes == s) (filter_map (λ p. read_recovery p.kind p.body) packets)
+      (all-filter_map (λ p. Says s files p.kind p.body) (IsTrueSlice s files) (λ p. read_recovery p.kind p.body) (λ p says. recovery_said s files p.kind p.body says) packets say)))
 
 -- what is left to say of a set that was made from these files
 abbrev IsTold : ℕ → List File → ParSet → Type 0
@@ -14,26 +274,26 @@ IsTold s files set =
     × AllByRecursion (λ r. r.1 ≡ recovery s (all_slices s files) r.0) (map_of.entries set.recovery)
 
 -- a set of this identifier that reads, where all packets of the identifier say what the files do
-told : (base : List ℕ) (others : List (List ℕ)) (set : ParSet) (laws : AreRead) (s : ℕ) (files : List File) (d : AreDescribed s files)
+told : (base : List ℕ) (others : List (List ℕ)) (set : ParSet) (s : ℕ) (files : List File) (d : AreDescribed s files)
     → AllSay s files (packets_with set.id (flat_map accepted (base ∷ others))) → read_set base others ≡ Ok set → IsTold s files set
 unfolding main_of_files
-told base others set laws s files d say h =
+told base others set s files d say h =
     let r = read_by base others set h in
     let id = r.id in
     let packets = packets_with id (flat_map accepted (base ∷ others)) in
     let n = r.main.slice_size in
     let all : AllSay s files packets = subst (λ x. AllSay s files (packets_with x (flat_map accepted (base ∷ others)))) (ap (λ p. p.id) (sym r.made)) say in
-    let same_main : r.main ≡ main_of_files s files = main_is laws s files d packets all id r.main r.main_there in
+    let same_main : r.main ≡ main_of_files s files = main_is s files d packets all id r.main r.main_there in
     let same_size : n ≡ s = ap (λ m. m.slice_size) same_main in
     let same_ds : r.described ≡ map (desc_of_file s) files =
-    descriptions_are laws s files d packets all r.described (ap (λ m. all_some (map (description_of packets) m.ids)) (sym same_main) ∙ r.described_there) in
+    descriptions_are s files d packets all r.described (ap (λ m. all_some (map (description_of packets) m.ids)) (sym same_main) ∙ r.described_there) in
     let same_ts : r.targets ≡ map (target_of_file s) files =
-    targets_are laws s files d packets all r.targets
+    targets_are s files d packets all r.targets
     (sym (ap (λ k. all_some (map (target_of packets k) r.described)) same_size ∙ ap (λ ds. all_some (map (target_of packets s) ds)) same_ds) ∙ r.targets_there) in
     subst (IsTold s files) r.made (
       same_size,
       same_ts,
-      subst (λ k. AllByRecursion (λ e. e.1 ≡ recovery s (all_slices s files) e.0) (map_of.entries (recovery_of packets k))) (sym same_size) (recovery_is laws s files d packets all),
+      subst (λ k. AllByRecursion (λ e. e.1 ≡ recovery s (all_slices s files) e.0) (map_of.entries (recovery_of packets k))) (sym same_size) (recovery_is s files d packets all),
     )
 
 -- ---- the packets of a folder
@@ -51,17 +311,17 @@ pub folder_says : (folder : Folder) (base id : List ℕ) (s : ℕ) (files : List
     → AllSay s files (packets_with id (flat_map accepted (bytes_of folder base ∷ map (bytes_of folder) (other_par_names folder base))))
 folder_says folder base id s files h = kept id s files _ (all-flat_map-map (SaysIfOurs id s files) accepted (bytes_of folder) (base ∷ other_par_names folder base) h)
 
-pub made_if_said : AreRead → (folder : Folder) (base : List ℕ) (set : ParSet) (s : ℕ) (files : List File) → set_of folder base ≡ Ok set → AreDescribed s files
+pub made_if_said : (folder : Folder) (base : List ℕ) (set : ParSet) (s : ℕ) (files : List File) → set_of folder base ≡ Ok set → AreDescribed s files
     → AllByRecursion (λ name. AllByRecursion (SaysIfOurs set.id s files) (accepted (bytes_of folder name))) (base ∷ other_par_names folder base) → MadeFrom folder base files s
 unfolding set_of
-made_if_said laws folder base set s files reads d all =
-    let is = told (bytes_of folder base) (map (bytes_of folder) (other_par_names folder base)) set laws s files d (folder_says folder base set.id s files all) reads in
+made_if_said folder base set s files reads d all =
+    let is = told (bytes_of folder base) (map (bytes_of folder) (other_par_names folder base)) set s files d (folder_says folder base set.id s files all) reads in
     record { set = set; reads = reads; slice_size = is.0; targets = is.1; recovered = is.2 }
 
-pub made_from : AreRead → (folder : Folder) (base : List ℕ) (set : ParSet) (s : ℕ) (files : List File) → set_of folder base ≡ Ok set → AreDescribed s files
+pub made_from : (folder : Folder) (base : List ℕ) (set : ParSet) (s : ℕ) (files : List File) → set_of folder base ≡ Ok set → AreDescribed s files
     → AreAllOf folder base set.id s files → MadeFrom folder base files s
-made_from laws folder base set s files reads d all =
-    made_if_said laws folder base set s files reads d
+made_from folder base set s files reads d all =
+    made_if_said folder base set s files reads d
     (all_weaker (λ name. AreOf set.id s files (bytes_of folder name)) (λ name. AllByRecursion (SaysIfOurs set.id s files) (accepted (bytes_of folder name)))
     (λ name h. all_weaker (λ p. p.set_id ≡ set.id → is_read p.kind ≡ true → IsOf s files p) (SaysIfOurs set.id s files) (λ p is own. packet_says s files p (is own)) (accepted (bytes_of folder name)) h)
     (base ∷ other_par_names folder base) all)

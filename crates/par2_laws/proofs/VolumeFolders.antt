@@ -1,15 +1,161 @@
 -- A folder of volumes holds the set that was made from their files.
-use Rattle.par2_laws.proofs.Common.{◌≡◌, ℕ, ◌+◌, ◌≤◌, true, false, List, [], ◌∷◌, ◌++◌, length, map, Some, refl, sym, ap, ◌∙◌, subst, inl, inr, ◌⊎◌, append_assoc, flat_map, slice_get, ok_or, sum_by, AllByRecursion, bytes_eq, false≢true, and_from, eq-eqb, le-leb, length-map, sum_by-cons, map-map, NoPackets, NoMain, NoDescription, NoChecksums, BadSet, Main, slice_count, is_name, distinct, Folder, File, bytes_of, Packet, accepted, DescBody, in_id_order, packet_of, main_id, main_bytes, ParSet, MadeFrom, ◌>>=◌, unless, all_some, packets_with, main_of, description_of, target_of, target_of_file, are_in_profile, other_par_names, AreInputs, IsVolume, set_id_of, IsOfOthers, HoldsVolumes, all_weaker, test_from_all, itself, distinct_same, distinct_from_std, all-map, set_with, finished, by_checksums, by_profile, by_descriptions, by_size, by_main}
-use Rattle.std.proofs.Common.{Ok}
+use Rattle.par2_laws.proofs.Common.{◌≡◌, ℕ, suc, ◌<◌, Bool, true, false, cond, ◌&&◌, List, [], ◌∷◌, ◌++◌, length, map, Option, Some, None, refl, sym, ap, ◌∙◌, subst, inl, inr, arith, ◌+◌, ◌≤◌, ◌⊎◌, append_assoc, Ok, is_some, ◌==◌, filter, filter_map, find, slice_get, option_map, option_and_then, if◌then◌else◌, flat_map, ok_or, sum_by, AllByRecursion, Contains, cons_option, slice_index_or, bytes_eq, false≢true, and_from, eq-eqb, le-leb, length-map, Contains-append_left, Contains-append_right, same_Some, map-map, md5, Kind, Main, FileDesc, Ifsc, Creator, Pair, slice_count, File, Folder, bytes_of, Packet, MainBody, IfscBody, read_main, read_desc, read_ifsc, accepted, DescBody, FileRecord, id_of, packet_of, main_id, main_bytes, desc_bytes, ifsc_bytes, creator_bytes, in_id_order, packets_with, main_of, description_of, pairs_of, target_of, target_of_file, all_some, ParSet, MadeFrom, ◌>>=◌, unless, are_in_profile, other_par_names, AreDescribed, all_weaker, test_from_all, itself, distinct_same, distinct_from_std, contained_first, contained_later, of_contained, all-map, target_with, set_with, finished, by_checksums, by_profile, by_descriptions, by_size, by_main, sum_by-cons, NoPackets, NoMain, NoDescription, NoChecksums, BadSet, is_name, distinct, AreInputs, IsVolume, set_id_of, IsOfOthers, HoldsVolumes, moved-ordered, by_either}
 use Rattle.par2_spec.specs.Volumes.{record_of, index_packets}
+use Rattle.par2_laws.proofs.SetsOfFiles.{all_contained, IsDescribed, each_described, main_of_files, desc_of_file, ifsc_of_file, main_written, desc_written, ifsc_written, AllSay, contained_cases, by_ids, description_is, pairs_are_its, target_is, SaysIfOurs, folder_says, made_if_said}
+use Rattle.par2_laws.proofs.VolumePackets.{pairs_count, index_of, moved, described, slices_of, IsReadAs, volumes_read, IsOurs, volume_ours}
 use Rattle.par2_spec.specs.Sets.{read_set, set_of}
-use Rattle.par2_laws.proofs.Laws.{AreRead, AreKept}
-use Rattle.par2_laws.proofs.FilePackets.{main_of_files, desc_of_file}
-use Rattle.par2_laws.proofs.SetsRead.{AllSay}
-use Rattle.par2_laws.proofs.SetsOfFiles.{SaysIfOurs, folder_says, made_if_said}
-use Rattle.par2_laws.proofs.Inputs.{moved, described}
-use Rattle.par2_laws.proofs.VolumePackets.{index_of, slices_of, IsReadAs, volumes_read, IsOurs, volume_ours}
-use Rattle.par2_laws.proofs.FoundInIndex.{main_there, descriptions_found, targets_found}
+
+-- ---- one of a list
+
+index_map : {A B : Type 0} (g : A → B) (xs : List A) (k : ℕ) (x : A) → slice_index_or (map g xs) k (g x) ≡ g (slice_index_or xs k x)
+index_map g (y ∷ xs) (suc k) x = index_map g xs k x
+index_map g xs k x = refl
+
+contained_map : {A B : Type 0} (g : A → B) (xs : List A) (x : A) → Contains xs x → Contains (map g xs) (g x)
+contained_map g xs x i = (i.0, subst (λ n. i.0 < n) (sym (length-map xs g)) i.1, index_map g xs i.0 x ∙ ap g i.2)
+
+contained_filter : {A : Type 0} (test : A → Bool) (xs : List A) (x : A) → Contains xs x → test x ≡ true → Contains (filter test xs) x
+contained_filter test [] x i t = absurd (omega (arith, i.1))
+contained_filter {A = A} test (y ∷ xs) x i t = by_either (contained_cases y xs x i)
+    (λ first. subst (λ b. Contains (cond b (y ∷ filter test xs) (filter test xs)) x) (sym (ap test first ∙ t)) (subst (Contains (y ∷ filter test xs)) first (contained_first y (filter test xs))))
+    (λ later. more (test y) (contained_filter test xs x later t))
+  where
+    more : (b : Bool) → Contains (filter test xs) x → Contains (cond b (y ∷ filter test xs) (filter test xs)) x
+    more true k = contained_later y (filter test xs) x k
+    more false k = k
+
+-- ---- what is there is found
+
+none_pass : {A : Type 0} (test : A → Bool) (xs : List A) → find test xs ≡ None → AllByRecursion (λ y. test y ≡ false) xs
+none_pass test [] e = tt
+none_pass {A = A} test (x ∷ xs) e = step (test x) refl e (none_pass test xs)
+  where
+    step : (b : Bool) → test x ≡ b → cond b (Some x) (find test xs) ≡ None → (find test xs ≡ None → AllByRecursion (λ y. test y ≡ false) xs) → AllByRecursion (λ y. test y ≡ false) (x ∷ xs)
+    step true t k later = absurd (false≢true (sym (ap is_some k)))
+    step false t k later = (t, later k)
+
+read_from : {A B : Type 0} (read : A → Option B) (P : B → Type 0) (xs : List A) → AllByRecursion P (filter_map read xs) → AllByRecursion (λ x. (y : B) → read x ≡ Some y → P y) xs
+read_from read P [] h = tt
+read_from {B = B} read P (x ∷ xs) h = step (read x) refl h (read_from read P xs)
+  where
+    step : (o : Option B) → read x ≡ o → AllByRecursion P (cons_option o (filter_map read xs)) → (AllByRecursion P (filter_map read xs) → AllByRecursion (λ z. (y : B) → read z ≡ Some y → P y) xs)
+        → AllByRecursion (λ z. (y : B) → read z ≡ Some y → P y) (x ∷ xs)
+    step None e k later = ((λ y f. absurd (false≢true (ap is_some (sym e ∙ f)))), later k)
+    step (Some z) e k later = ((λ y f. subst P (same_Some z y (sym e ∙ f)) k.0), later k.1)
+
+some_found : {A B : Type 0} (read : A → Option B) (test : B → Bool) (xs : List A) (x : A) (y : B) → Contains xs x → read x ≡ Some y → test y ≡ true → (z : B) × (find test (filter_map read xs) ≡ Some z)
+some_found {B = B} read test xs x y i e t = step (find test (filter_map read xs)) refl
+  where
+    step : (o : Option B) → find test (filter_map read xs) ≡ o → (z : B) × (find test (filter_map read xs) ≡ Some z)
+    step (Some z) f = (z, f)
+    step None f = absurd (false≢true (sym (of_contained (λ w. (v : B) → read w ≡ Some v → test v ≡ false) xs x (read_from read (λ v. test v ≡ false) xs (none_pass test (filter_map read xs) f)) i y e) ∙ t))
+
+-- items that are all there
+all_are : {A B : Type 0} (g : A → Option B) (f : A → B) (xs : List A) → AllByRecursion (λ x. g x ≡ Some (f x)) xs → all_some (map g xs) ≡ Some (map f xs)
+all_are g f [] h = refl
+all_are g f (x ∷ xs) h =
+    ap (λ o. option_and_then (λ y. option_map (λ ys. y ∷ ys) (all_some (map g xs))) o) h.0
+    ∙ ap (option_map (λ ys. f x ∷ ys)) (all_are g f xs h.1)
+
+-- ---- a Main in front
+
+main_first : (id : List ℕ) (p : Packet) (rest : List Packet) (m : MainBody) → bytes_eq p.set_id id ≡ true → bytes_eq (md5 p.body) id ≡ true → read_main p.kind p.body ≡ Some m → main_of id (packets_with id (p ∷ rest)) ≡ Some m
+main_first id p rest m own digest reads =
+    let others = filter_map (λ q. if bytes_eq (md5 q.body) id then read_main q.kind q.body else None) (packets_with id rest) in
+    ap (λ b. main_of id (cond b (p ∷ packets_with id rest) (packets_with id rest))) own
+    ∙ ap (λ b. slice_get (cons_option (if b then read_main p.kind p.body else None) others) 0) digest
+    ∙ ap (λ o. slice_get (cons_option o others) 0) reads
+
+-- ---- the packets of an index
+
+module _ (s : ℕ) (files : List File) (d : AreDescribed s files) (tail : List Packet) where
+  abbrev id : List ℕ
+  id = main_id s (map (record_of s) files)
+
+  -- the packets of the set, those of the index first
+  abbrev pub packets : List Packet
+  packets = packets_with id (index_of s files ++ tail)
+
+  pub main_there : main_of id packets ≡ Some (main_of_files s files)
+  unfolding index_packets
+  main_there = main_first id (packet_of id Main (main_bytes s (map (record_of s) files))) _ (main_of_files s files) (itself id) (itself id) (main_written s files d)
+
+  of_index : (p : Packet) → Contains (index_of s files) p → p.set_id ≡ id → Contains packets p
+  of_index p i own =
+      contained_filter (λ q. bytes_eq q.set_id id) (index_of s files ++ tail) p (Contains-append_left (index_of s files) tail p i)
+      (subst (λ x. bytes_eq x id ≡ true) (sym own) (itself id))
+
+  abbrev of_each : Kind → (FileRecord → List ℕ) → List Packet
+  of_each kind body = map (λ file. packet_of id kind (body file)) (map (record_of s) files)
+
+  among_each : (kind : Kind) (body : FileRecord → List ℕ) (file : File) → Contains files file → Contains (of_each kind body) (packet_of id kind (body (record_of s file)))
+  among_each kind body file i = contained_map (λ (r : FileRecord). packet_of id kind (body r)) (map (record_of s) files) (record_of s file) (contained_map (record_of s) files file i)
+
+  desc_there : (file : File) → Contains files file → Contains packets (packet_of id FileDesc (desc_bytes (record_of s file)))
+  unfolding index_packets
+  desc_there file i =
+      let p = packet_of id FileDesc (desc_bytes (record_of s file)) in
+      let main = packet_of id Main (main_bytes s (map (record_of s) files)) in
+      let descs = of_each FileDesc desc_bytes in
+      let ifscs = of_each Ifsc ifsc_bytes in
+      of_index p
+      (Contains-append_left ((main ∷ descs) ++ ifscs) (packet_of id Creator creator_bytes ∷ []) p
+      (Contains-append_left (main ∷ descs) ifscs p (contained_later main descs p (among_each FileDesc desc_bytes file i)))) refl
+
+  ifsc_there : (file : File) → Contains files file → Contains packets (packet_of id Ifsc (ifsc_bytes (record_of s file)))
+  unfolding index_packets
+  ifsc_there file i =
+      let p = packet_of id Ifsc (ifsc_bytes (record_of s file)) in
+      let main = packet_of id Main (main_bytes s (map (record_of s) files)) in
+      let descs = of_each FileDesc desc_bytes in
+      let ifscs = of_each Ifsc ifsc_bytes in
+      of_index p
+      (Contains-append_left ((main ∷ descs) ++ ifscs) (packet_of id Creator creator_bytes ∷ []) p
+      (Contains-append_right (main ∷ descs) ifscs p (among_each Ifsc ifsc_bytes file i))) refl
+
+  is_described : (file : File) → Contains files file → IsDescribed file
+  is_described file i = of_contained IsDescribed files file (each_described s files d) i
+
+  -- where all packets say what the files do, each part is found
+  module _ (say : AllSay s files packets) where
+    description_found : (file : File) → Contains files file → description_of packets (id_of file) ≡ Some (desc_of_file s file)
+    unfolding desc_of_file record_of
+    description_found file i =
+        let found = some_found (λ (p : Packet). read_desc p.kind p.body) (λ x. bytes_eq x.id (id_of file)) packets (packet_of id FileDesc (desc_bytes (record_of s file))) (desc_of_file s file)
+        (desc_there file i) (desc_written s file (is_described file i)) (itself (id_of file)) in
+        found.1 ∙ ap (λ x. Some x) (description_is s files d packets say file i found.0 found.1)
+
+    pairs_found : (file : File) → Contains files file → pairs_of packets (id_of file) (slice_count s (length file.1)) ≡ Some (record_of s file).pairs
+    unfolding ifsc_of_file record_of
+    pairs_found file i =
+        let n = slice_count s (length file.1) in
+        let found = some_found (λ (p : Packet). read_ifsc p.kind p.body) (λ x. bytes_eq x.id (id_of file) && length x.pairs == n) packets (packet_of id Ifsc (ifsc_bytes (record_of s file))) (ifsc_of_file s file)
+        (ifsc_there file i) (ifsc_written s file (is_described file i)) (and_from _ _ (itself (id_of file)) (eq-eqb _ n (pairs_count s file.1))) in
+        let these = ap (option_map (λ (c : IfscBody). c.pairs)) found.1 in
+        these ∙ ap (λ ps. Some ps) (pairs_are_its s files d packets say file i n found.0.pairs these)
+
+    target_found : (file : File) → Contains files file → target_of packets s (desc_of_file s file) ≡ Some (target_of_file s file)
+    unfolding desc_of_file record_of
+    target_found file i =
+        let there = some_pairs (length file.1 == 0) in
+        let these = ap (option_map (target_with (desc_of_file s file))) there.1 in
+        these ∙ ap (λ t. Some t) (target_is s files d packets say file i (target_with (desc_of_file s file) there.0) these)
+      where
+        some_pairs : (b : Bool) → (ps : List Pair) × ((if b then Some [] else pairs_of packets (id_of file) (slice_count s (length file.1))) ≡ Some ps)
+        some_pairs true = ([], refl)
+        some_pairs false = ((record_of s file).pairs, pairs_found file i)
+
+    pub descriptions_found : all_some (map (description_of packets) (main_of_files s files).ids) ≡ Some (map (desc_of_file s) files)
+    descriptions_found =
+        ap all_some (by_ids (description_of packets) s files)
+        ∙ all_are (λ file. description_of packets (id_of file)) (desc_of_file s) files
+        (all_weaker (Contains files) (λ file. description_of packets (id_of file) ≡ Some (desc_of_file s file)) description_found files (all_contained files))
+
+    pub targets_found : all_some (map (target_of packets s) (map (desc_of_file s) files)) ≡ Some (map (target_of_file s) files)
+    targets_found =
+        ap all_some (map-map (target_of packets s) (desc_of_file s) files)
+        ∙ all_are (λ file. target_of packets s (desc_of_file s file)) (target_of_file s) files
+        (all_weaker (Contains files) (λ file. target_of packets s (desc_of_file s file) ≡ Some (target_of_file s file)) target_found files (all_contained files))
 
 -- ---- what is described is in the profile
 
@@ -46,11 +192,11 @@ in_profile s files is =
 abbrev set_read : ℕ → List File → List Packet → ParSet
 set_read s files packets = set_with (main_id s (map (record_of s) files)) packets s (map (target_of_file s) files)
 
-base_reads : AreRead → (s : ℕ) (files : List File) → AreInputs s files → (base : List ℕ) (others : List (List ℕ)) → IsReadAs s files base
+base_reads : (s : ℕ) (files : List File) → AreInputs s files → (base : List ℕ) (others : List (List ℕ)) → IsReadAs s files base
     → AllSay s files (packets_with (main_id s (map (record_of s) files)) (flat_map accepted (base ∷ others)))
     → read_set base others ≡ Ok (set_read s files (packets_with (main_id s (map (record_of s) files)) (flat_map accepted (base ∷ others))))
 unfolding read_set index_packets main_of_files
-base_reads laws s files is base others r say =
+base_reads s files is base others r say =
     let id = main_id s (map (record_of s) files) in
     let d = described s files is in
     let tail = slices_of s files r.first r.count ++ flat_map accepted others in
@@ -63,39 +209,39 @@ base_reads laws s files is base others r say =
     let said = subst (AllSay s files) same say in
     let first : slice_get (accepted base) 0 ≡ Some main = ap (λ ps. slice_get ps 0) r.packets in
     ap (λ o. ok_or o NoPackets >>= by_main base others) first
-    ∙ ap (λ o. ok_or o NoMain >>= by_size id all) (ap (main_of id) same ∙ main_there laws s files d tail)
+    ∙ ap (λ o. ok_or o NoMain >>= by_size id all) (ap (main_of id) same ∙ main_there s files d tail)
     ∙ ap (λ b. unless b BadSet >>= by_descriptions id all m) is.slice_size
-    ∙ ap (λ o. ok_or o NoDescription >>= by_profile id all s) (ap (λ ps. all_some (map (description_of ps) m.ids)) same ∙ descriptions_found laws s files d tail said)
+    ∙ ap (λ o. ok_or o NoDescription >>= by_profile id all s) (ap (λ ps. all_some (map (description_of ps) m.ids)) same ∙ descriptions_found s files d tail said)
     ∙ ap (λ b. unless b BadSet >>= by_checksums id all s (map (desc_of_file s) files)) (in_profile s files is)
-    ∙ ap (λ o. ok_or o NoChecksums >>= finished id all s) (ap (λ ps. all_some (map (target_of ps s) (map (desc_of_file s) files))) same ∙ targets_found laws s files d tail said)
+    ∙ ap (λ o. ok_or o NoChecksums >>= finished id all s) (ap (λ ps. all_some (map (target_of ps s) (map (desc_of_file s) files))) same ∙ targets_found s files d tail said)
 
 -- ---- a folder of volumes
 
-module _ (laws : AreRead) (kept : AreKept) (folder : Folder) (base : List ℕ) (s : ℕ) (files : List File) (is : AreInputs s files) (holds : HoldsVolumes folder base s files) where
+module _ (folder : Folder) (base : List ℕ) (s : ℕ) (files : List File) (is : AreInputs s files) (holds : HoldsVolumes folder base s files) where
   abbrev ordered : List File
   ordered = in_id_order files
 
-  abbrev id : List ℕ
-  id = set_id_of s files
+  abbrev their_id : List ℕ
+  their_id = set_id_of s files
 
   inputs : AreInputs s ordered
-  inputs = moved s files ordered (kept.order files) is
+  inputs = moved s files ordered (moved-ordered files) is
 
-  volume_says : (text : List ℕ) → IsVolume s files text → AllByRecursion (SaysIfOurs id s ordered) (accepted text)
-  volume_says text v = all_weaker (IsOurs s ordered) (SaysIfOurs id s ordered) (λ p ours own. ours.1) (accepted text) (volume_ours s ordered text (volumes_read kept s files inputs text v))
+  volume_says : (text : List ℕ) → IsVolume s files text → AllByRecursion (SaysIfOurs their_id s ordered) (accepted text)
+  volume_says text v = all_weaker (IsOurs s ordered) (SaysIfOurs their_id s ordered) (λ p ours own. ours.1) (accepted text) (volume_ours s ordered text (volumes_read s files inputs text v))
 
-  others_say : (text : List ℕ) → IsOfOthers id text → AllByRecursion (SaysIfOurs id s ordered) (accepted text)
+  others_say : (text : List ℕ) → IsOfOthers their_id text → AllByRecursion (SaysIfOurs their_id s ordered) (accepted text)
   others_say text h =
-      all_weaker (λ p. bytes_eq p.set_id id ≡ false) (SaysIfOurs id s ordered) (λ p other own. absurd (false≢true (sym other ∙ subst (λ x. bytes_eq x id ≡ true) (sym own) (itself id)))) (accepted text) h
+      all_weaker (λ p. bytes_eq p.set_id their_id ≡ false) (SaysIfOurs their_id s ordered) (λ p other own. absurd (false≢true (sym other ∙ subst (λ x. bytes_eq x their_id ≡ true) (sym own) (itself their_id)))) (accepted text) h
 
-  each_says : (text : List ℕ) → IsVolume s files text ⊎ IsOfOthers id text → AllByRecursion (SaysIfOurs id s ordered) (accepted text)
+  each_says : (text : List ℕ) → IsVolume s files text ⊎ IsOfOthers their_id text → AllByRecursion (SaysIfOurs their_id s ordered) (accepted text)
   each_says text (inl v) = volume_says text v
   each_says text (inr h) = others_say text h
 
-  all_say : AllByRecursion (λ name. AllByRecursion (SaysIfOurs id s ordered) (accepted (bytes_of folder name))) (base ∷ other_par_names folder base)
+  all_say : AllByRecursion (λ name. AllByRecursion (SaysIfOurs their_id s ordered) (accepted (bytes_of folder name))) (base ∷ other_par_names folder base)
   all_say = (
     volume_says (bytes_of folder base) holds.of_base,
-    all_weaker (λ name. IsVolume s files (bytes_of folder name) ⊎ IsOfOthers id (bytes_of folder name)) (λ name. AllByRecursion (SaysIfOurs id s ordered) (accepted (bytes_of folder name)))
+    all_weaker (λ name. IsVolume s files (bytes_of folder name) ⊎ IsOfOthers their_id (bytes_of folder name)) (λ name. AllByRecursion (SaysIfOurs their_id s ordered) (accepted (bytes_of folder name)))
         (λ name h. each_says (bytes_of folder name) h) (other_par_names folder base) holds.of_others,
   )
 
@@ -103,6 +249,6 @@ module _ (laws : AreRead) (kept : AreKept) (folder : Folder) (base : List ℕ) (
   unfolding set_of
   set_made =
       let texts = map (bytes_of folder) (other_par_names folder base) in
-      made_if_said laws folder base (set_read s ordered (packets_with id (flat_map accepted (bytes_of folder base ∷ texts)))) s ordered
-      (base_reads laws s ordered inputs (bytes_of folder base) texts (volumes_read kept s files inputs (bytes_of folder base) holds.of_base) (folder_says folder base id s ordered all_say))
+      made_if_said folder base (set_read s ordered (packets_with their_id (flat_map accepted (bytes_of folder base ∷ texts)))) s ordered
+      (base_reads s ordered inputs (bytes_of folder base) texts (volumes_read s files inputs (bytes_of folder base) holds.of_base) (folder_says folder base their_id s ordered all_say))
       (described s ordered inputs) all_say

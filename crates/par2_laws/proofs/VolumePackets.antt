@@ -1,9 +1,90 @@
 -- What is read of a volume: the packets that were written.
-use Rattle.par2_laws.proofs.Common.{◌≡◌, ℕ, zero, suc, ◌+◌, ◌-◌, ◌^◌, ◌<◌, ◌≤◌, min, true, ◌&&◌, List, [], ◌∷◌, ◌++◌, length, map, refl, sym, ap, ◌∙◌, subst, append-nil, arith, flat_map, nat_le, AllByRecursion, Contains, and_parts, leb-true, length-map, flat_map-append, length-md5, Kind, Main, FileDesc, Ifsc, Creator, File, Packet, packet, accepted, FileRecord, record_of, all_slices, in_id_order, volumes_before, volume_size, volume_numbers, recovery_packets, packet_of, main_id, main_bytes, desc_bytes, ifsc_bytes, creator_bytes, are_counts, AreInputs, IsVolume, all-append, of_contained, size_parts}
-use Rattle.par2_spec.specs.Volumes.{volumes, index_packets}
-use Rattle.par2_laws.proofs.Laws.{AreKept}
-use Rattle.par2_laws.proofs.FilePackets.{Says, all_contained}
-use Rattle.par2_laws.proofs.Inputs.{records_fit}
+use Rattle.par2_laws.proofs.Common.{◌≡◌, ℕ, ◌^◌, ◌<◌, ◌≤◌, true, false, List, [], ◌∷◌, length, map, sym, ◌∙◌, subst, arith, zero, suc, ◌+◌, ◌-◌, min, ◌&&◌, ◌++◌, refl, ap, append-nil, IsTrue, IsPermutation, sum_by, ◌==◌, flat_map, nat_le, AllByRecursion, list_any, range_with_len, Contains, bytes_eq, not-true, leb-true, and_parts, length-map, sum_by-cons, IsPermutation-map, sum_by-IsPermutation, length_permutation, length-md5, pair_of, slice_count, slice_at, slices, is_name, AreBytes, File, IsFileRecord, id_of, FileRecord, all_slices, in_id_order, volumes_before, volume_size, volume_numbers, recovery_packets, packet_of, main_id, main_bytes, desc_bytes, ifsc_bytes, creator_bytes, AreDescribed, AreInputs, IsVolume, all-map, all-append, of_contained, all_weaker, moved-all, same_either_way, size_parts, flat_map-append, Kind, Main, FileDesc, Ifsc, Creator, Packet, packet, accepted, are_counts, index_reads, recovery_slices_read}
+use Rattle.par2_spec.specs.Volumes.{record_of}
+use Rattle.std.proofs.lemmas.List.FromFn.{length-range_with_len}
+use Rattle.std.proofs.lemmas.Map.Keys.{IsDistinct-IsPermutation}
+use Rattle.par2_spec.specs.Volumes.{record_of, volumes, index_packets}
+use Rattle.par2_laws.proofs.RecoveryBytes.{pairs_are}
+use Rattle.par2_spec.proofs.NameTests.{tests_of}
+use Rattle.par2_spec.proofs.WrittenPackets.{none_short}
+use Rattle.par2_laws.proofs.SetsOfFiles.{Says, all_contained}
+
+-- ---- in another order
+
+pub moved : (s : ℕ) (files others : List File) → IsPermutation files others → AreInputs s files → AreInputs s others
+moved s files others m is = record {
+  slice_size = is.slice_size;
+  few = subst (λ n. n < 2 ^ 32) (sym (length_permutation files others m)) is.few;
+  sizes = moved-all (λ file. length file.1 < 2 ^ 64) files others m is.sizes;
+  bytes = moved-all (λ file. AreBytes file.1) files others m is.bytes;
+  names = moved-all (λ file. IsTrue (is_name file.0)) files others m is.names;
+  names_once = IsDistinct-IsPermutation bytes_eq same_either_way (map (λ file. file.0) files) (map (λ file. file.0) others) (IsPermutation-map (λ file. file.0) files others m) is.names_once;
+  ids_once = IsDistinct-IsPermutation bytes_eq same_either_way (map id_of files) (map id_of others) (IsPermutation-map id_of files others m) is.ids_once;
+  slices = subst (λ n. n ≤ 32768) (sym (sum_by-IsPermutation (λ file. slice_count s (length file.1)) files others m)) is.slices;
+}
+
+-- ---- what a set says of them
+
+-- a name is short and has no zero byte
+name_parts : (name : List ℕ) → is_name name ≡ true → (length name ≤ 255) × (list_any (λ b. b == 0) name ≡ false)
+name_parts name h =
+    let t = tests_of name h in
+    (leb-true (length name) 255 t.short, not-true (list_any (λ b. b == 0) name) t.no_zero)
+
+-- each part of a sum is at most the sum
+each_below : {A : Type 0} (f : A → ℕ) (xs : List A) (n : ℕ) → sum_by f xs ≤ n → AllByRecursion (λ x. f x ≤ n) xs
+each_below f [] n h = tt
+each_below f (x ∷ xs) n h = let e = sum_by-cons f x xs in (omega (arith, e, h), each_below f xs n (omega (arith, e, h)))
+
+-- one file that a create takes
+record IsInput (s : ℕ) (file : File) : Type 0 where
+  size : length file.1 < 2 ^ 64
+  bytes : AreBytes file.1
+  name : is_name file.0 ≡ true
+  few : slice_count s (length file.1) ≤ 32768
+
+each_input : (s : ℕ) (files : List File) → AllByRecursion (λ file. length file.1 < 2 ^ 64) files → AllByRecursion (λ file. AreBytes file.1) files
+    → AllByRecursion (λ file. IsTrue (is_name file.0)) files → AllByRecursion (λ file. slice_count s (length file.1) ≤ 32768) files → AllByRecursion (IsInput s) files
+each_input s [] a b c d = tt
+each_input s (file ∷ files) a b c d = (record { size = a.0; bytes = b.0; name = c.0; few = d.0 }, each_input s files a.1 b.1 c.1 d.1)
+
+inputs_are : (s : ℕ) (files : List File) → AreInputs s files → AllByRecursion (IsInput s) files
+inputs_are s files is = each_input s files is.sizes is.bytes is.names (each_below (λ file. slice_count s (length file.1)) files 32768 is.slices)
+
+-- as many pairs as slices
+pub pairs_count : (s : ℕ) (text : List ℕ) → length (map pair_of (slices s text)) ≡ slice_count s (length text)
+pairs_count s text = length-map (slices s text) pair_of ∙ length-map (range_with_len 0 (slice_count s (length text))) (slice_at s text) ∙ length-range_with_len 0 (slice_count s (length text))
+
+record_fits : (s : ℕ) (file : File) → IsInput s file → IsFileRecord (record_of s file)
+unfolding record_of
+record_fits s file is =
+    let name = name_parts file.0 is.name in
+    let count = pairs_count s file.1 in
+    record {
+      id = length-md5 _;
+      md5 = length-md5 _;
+      md5_16k = length-md5 _;
+      size = is.size;
+      name = name.1;
+      name_size = omega (arith, name.0);
+      pairs = pairs_are s file.1 is.bytes;
+      pairs_size = omega (arith, count, is.few);
+    }
+
+pub records_fit : (s : ℕ) (files : List File) → AreInputs s files → AllByRecursion IsFileRecord (map (record_of s) files)
+records_fit s files is = all-map (IsInput s) IsFileRecord (record_of s) (record_fits s) files (inputs_are s files is)
+
+pub described : (s : ℕ) (files : List File) → AreInputs s files → AreDescribed s files
+described s files is =
+    let small = (size_parts s is.slice_size).2 in
+    record {
+      slice_size = omega (arith, small);
+      few = is.few;
+      sizes = is.sizes;
+      bytes = is.bytes;
+      names = all_weaker (λ file. IsTrue (is_name file.0)) (λ file. list_any (λ b. b == 0) file.0 ≡ false) (λ file h. (name_parts file.0 h).1) files is.names;
+      ids_once = is.ids_once;
+    }
 
 -- the index packets of files in this order
 abbrev pub index_of : ℕ → List File → List Packet
@@ -22,29 +103,29 @@ pub record IsReadAs (s : ℕ) (files : List File) (text : List ℕ) : Type 0 whe
 
 -- ---- what was written is read
 
-module _ (laws : AreKept) (s : ℕ) (files : List File) (is : AreInputs s files) where
+module _ (s : ℕ) (files : List File) (is : AreInputs s files) where
   empty_read : accepted [] ≡ []
-  empty_read = laws.short [] (omega arith)
+  empty_read = none_short [] (omega arith)
 
   few_records : length (map (record_of s) files) < 2 ^ 32
   few_records = subst (λ n. n < 2 ^ 32) (sym (length-map files (record_of s))) is.few
 
   index_read : accepted (flat_map packet (index_of s files)) ≡ index_of s files ++ slices_of s files 0 0
   index_read =
-      ap accepted (sym (append-nil (flat_map packet (index_of s files)))) ∙ laws.index s (map (record_of s) files) [] few_records (records_fit s files is)
+      ap accepted (sym (append-nil (flat_map packet (index_of s files)))) ∙ index_reads s (map (record_of s) files) [] few_records (records_fit s files is)
       ∙ ap (λ ps. index_of s files ++ ps) empty_read
 
   slices_read : (e n : ℕ) → accepted (flat_map packet (slices_of s files e n)) ≡ slices_of s files e n
   slices_read e n =
       let size = size_parts s is.slice_size in
       ap accepted (sym (append-nil (flat_map packet (slices_of s files e n))))
-      ∙ laws.slices s (main_id s (map (record_of s) files)) (all_slices s files) e n [] (length-md5 (main_bytes s (map (record_of s) files))) size.0 (omega (arith, size.2))
+      ∙ recovery_slices_read s (main_id s (map (record_of s) files)) (all_slices s files) e n [] (length-md5 (main_bytes s (map (record_of s) files))) size.0 (omega (arith, size.2))
       ∙ ap (λ ps. slices_of s files e n ++ ps) empty_read ∙ append-nil (slices_of s files e n)
 
   both_read : (e n : ℕ) → accepted (flat_map packet (index_of s files ++ slices_of s files e n)) ≡ index_of s files ++ slices_of s files e n
   both_read e n =
       ap accepted (flat_map-append packet (index_of s files) (slices_of s files e n))
-      ∙ laws.index s (map (record_of s) files) (flat_map packet (slices_of s files e n)) few_records (records_fit s files is)
+      ∙ index_reads s (map (record_of s) files) (flat_map packet (slices_of s files e n)) few_records (records_fit s files is)
       ∙ ap (λ ps. index_of s files ++ ps) (slices_read e n)
 
   volume_read : (f c i : ℕ) → f + c ≤ 65536 → IsReadAs s files (flat_map packet (index_of s files ++ slices_of s files (f + volumes_before i) (volume_size c i)))
@@ -67,14 +148,14 @@ counts_end : (f c : ℕ) → are_counts f c ≡ true → f + c ≤ 65536
 counts_end f c h = leb-true (f + c) 65536 (and_parts (nat_le c 65536 && nat_le f 65535) (nat_le (f + c) 65536) h).1
 
 -- each volume of the files is read as its packets
-pub volumes_read : AreKept → (s : ℕ) (files : List File) → AreInputs s (in_id_order files) → (text : List ℕ) → IsVolume s files text → IsReadAs s (in_id_order files) text
+pub volumes_read : (s : ℕ) (files : List File) → AreInputs s (in_id_order files) → (text : List ℕ) → IsVolume s files text → IsReadAs s (in_id_order files) text
 unfolding volumes
-volumes_read laws s files is text v =
+volumes_read s files is text v =
     let small = counts_end v.1 v.2 v.3 in
     let first : IsReadAs s (in_id_order files) (flat_map packet (index_of s (in_id_order files))) =
-    record { first = 0; count = 0; low = λ k l. absurd (omega (arith, l)); packets = index_read laws s (in_id_order files) is } in
+    record { first = 0; count = 0; low = λ k l. absurd (omega (arith, l)); packets = index_read s (in_id_order files) is } in
     of_contained (IsReadAs s (in_id_order files)) (map (λ file. file.1) (volumes v.0 s v.1 v.2 files)) text
-    (first, each_volume laws s (in_id_order files) is v.1 v.2 _ (volume_numbers v.2) small) v.4
+    (first, each_volume s (in_id_order files) is v.1 v.2 _ (volume_numbers v.2) small) v.4
 
 -- ---- what they say
 

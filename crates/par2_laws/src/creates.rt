@@ -14,10 +14,10 @@ ghost use Rattle.par2_spec.specs.declared.Fault.{Fault};
 ghost use Rattle.par2_spec.specs.declared.Fault.TheVariants.{NotRepairable};
 ghost use Rattle.par2_laws.specs.Creates.{output_names, FitsCreate, IsDamage, FollowsCreate, may_refuse, HaveAChoice};
 
-use crate::volumes::volumes_tell_the_files;
-use par2_spec::create_laws::files_in_order;
-use par2_spec::rank_laws::tests_say_the_words;
-use par2_spec::restored_laws::{refused_repair_has_a_choice, repair_leaves_the_files};
+use crate::reading::{refusal_is_that_of_the_set, set_of_the_base_is_read};
+use crate::restored_files::{
+    accepted_repair_leaves_the_files, refused_repair_leaves_a_choice, repair_never_fails,
+};
 
 /// The files of an accepted create are such as a create takes.
 pub fn accepted_create_has_its_inputs()
@@ -38,10 +38,7 @@ pub fn created_set_is_made_from_its_files()
     ensures { (before damaged : Folder) (a : CreateArgs) (base : List ℕ)
         → refusal before (Create a) ≡ None → FitsCreate before a → IsDamage before damaged a base
         → MadeFrom damaged base (in_id_order (files_of before a.inputs)) a.slice }
-{
-    accepted_create_has_its_inputs();
-    volumes_tell_the_files();
-}
+{}
 
 /// So a repair that is accepted leaves each file as it was at the create, also one that purges.
 pub fn repair_gives_the_created_files_back()
@@ -51,10 +48,7 @@ pub fn repair_gives_the_created_files_back()
         → let repaired = after damaged (Repair base extras purge) in
         AllByRecursion (λ name. map_of.get repaired name ≡ map_of.get before name) a.inputs }
 {
-    created_set_is_made_from_its_files();
-    files_in_order();
-    tests_say_the_words();
-    repair_leaves_the_files();
+    accepted_repair_leaves_the_files();
 }
 
 /// A repair of them is refused for few causes: the set is read, and what is rebuilt has its
@@ -64,10 +58,9 @@ pub fn repair_of_created_files_is_refused_for_few_causes()
         (List ℕ)) (purge : Bool) (fault : Fault) → FollowsCreate before damaged a base extras
         → refusal damaged (Repair base extras purge) ≡ Some fault → IsTrue (may_refuse fault) }
 {
-    created_set_is_made_from_its_files();
-    files_in_order();
-    tests_say_the_words();
-    repair_leaves_the_files();
+    set_of_the_base_is_read();
+    refusal_is_that_of_the_set();
+    repair_never_fails();
 }
 
 /// As not repairable it is refused only where other slices, too, agree with all that is found.
@@ -77,7 +70,5 @@ pub fn created_files_not_repairable_have_a_choice()
         → FollowsCreate before damaged a base extras → refusal damaged (Repair base extras purge)
         ≡ Some (NotRepairable missing rank) → HaveAChoice before damaged a base extras }
 {
-    created_set_is_made_from_its_files();
-    files_in_order();
-    refused_repair_has_a_choice();
+    refused_repair_leaves_a_choice();
 }

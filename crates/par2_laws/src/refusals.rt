@@ -12,8 +12,6 @@ ghost use Rattle.par2_spec.specs.Search.{known, lost, survivors};
 ghost use Rattle.par2_spec.specs.Repairs.{rebuilt_targets};
 ghost use Rattle.par2_spec.specs.Refusals.{repair_refusal};
 
-use par2_spec::rank_laws::tests_say_the_words;
-
 /// Where a repair is accepted, the lost slices are determined, and each file that it writes from
 /// slices has its digest.
 pub fn accepted_repair_is_right()
@@ -23,9 +21,7 @@ pub fn accepted_repair_is_right()
     ensures digests { (folder : Folder) (set : ParSet) (searched : List (List ℕ))
         → repair_refusal folder set searched ≡ None
         → AllByRecursion (λ c. md5 c.1 ≡ c.0.md5) (rebuilt_targets folder set searched) }
-{
-    tests_say_the_words();
-}
+{}
 
 /// Where a repair fails, the lost slices are determined, and a file that it would write has another
 /// digest.
@@ -37,15 +33,11 @@ pub fn failed_repair_is_wrong()
         → repair_refusal folder set searched ≡ Some RepairFailed
         → let written = rebuilt_targets folder set searched in
         IsFalse (list_all (λ c. bytes_eq (md5 c.1) c.0.md5) written) }
-{
-    tests_say_the_words();
-}
+{}
 
 /// Where a set is not repairable, the lost slices are not determined.
 pub fn lost_slices_are_not_determined()
     ensures { (folder : Folder) (set : ParSet) (searched : List (List ℕ)) (missing rank : ℕ)
         → repair_refusal folder set searched ≡ Some (NotRepairable missing rank)
         → IsRepairable (lost (known folder set searched)) (survivors set) → ⊥ }
-{
-    tests_say_the_words();
-}
+{}

@@ -6,12 +6,6 @@ ghost use Rattle.par2_spec.specs.Volumes.{in_id_order};
 ghost use Rattle.par2_spec.specs.Sets.{MadeFrom};
 ghost use Rattle.par2_laws.specs.Volumes.{AreInputs, HoldsVolumes};
 
-use par2_spec::create_laws::files_in_order;
-use par2_spec::packet_laws::{
-    desc_is_read, ifsc_is_read, index_is_read, main_is_read, none_in_short_text, recovery_is_read,
-    recovery_slices_are_read,
-};
-
 /// Where each file whose name ends in `.par2` has the bytes of a volume of these files, or no
 /// packet of their set, and the base's are those of a volume, the set of the base was made from
 /// them. It does not matter which volumes are left, nor of which creates they are.
@@ -19,14 +13,4 @@ pub fn volumes_tell_the_files()
     ensures { (folder : Folder) (base : List ℕ) (s : ℕ) (files : List File)
         → AreInputs s files
         → HoldsVolumes folder base s files → MadeFrom folder base (in_id_order files) s }
-{
-    // What was written is read as it is, and in order.
-    files_in_order();
-    none_in_short_text();
-    index_is_read();
-    recovery_slices_are_read();
-    main_is_read();
-    desc_is_read();
-    ifsc_is_read();
-    recovery_is_read();
-}
+{}

@@ -1,9 +1,194 @@
 -- A numbered name is a name, where it has at most 255 bytes.
-use Rattle.par2_spec.proofs.Common.{◌≡◌, ℕ, suc, ◌+◌, ◌%◌, ◌^◌, ◌<◌, ◌≤◌, List, [], ◌∷◌, ◌++◌, length, refl, sym, ap, ◌∙◌, subst, true, false, not, eqb, arith, length-append, codes, decimal, nat_eq, ◌==◌, list_any, starts_with, bytes_eq, IsUtf8, and_parts, and_from, or_from, false_from_ne_true, not_from_false, ne_eqb, le-leb, leb-true, not-true, decimal_by_steps, decimal_nonempty, IsAscii-decimal, list_any-append, IsUtf8-append, IsUtf8-from_ascii, IsUtf8-from_is_utf8, is_utf8-from_IsUtf8, is_name, numbered, Folder, ParSet, aside, AreFew, taken_for}
+use Rattle.par2_spec.proofs.Common.{◌≡◌, ℕ, zero, suc, ◌+◌, ◌%◌, ◌^◌, ◌<◌, ◌≤◌, List, [], ◌∷◌, ◌++◌, length, map, drop, refl, sym, ap, ◌∙◌, subst, cond, true, false, Bool, not, arith, eqb, length-append, find, Option, Some, None, is_some, unwrap_or, decimal, codes, ◌==◌, nat_eq, range_with_len, list_all, list_any, starts_with, bytes_eq, IsUtf8, drop-append_seam, and_parts, and_from, or_cases, or_parts, or_from, cases_Bool, ne_eqb, not_from_false, cases_eq, false≢true, not-true, not-false, false_from_ne_true, le-leb, leb-true, nat_list_eq_equiv, list_all-append, list_any-append, length-map-range_with_len, length-le_from_is_member, is_among, numbered, IsLeastFree, Folder, names, ParSet, target_names, taken_for, AreFew, IsUtf8-append, IsUtf8-from_ascii, IsUtf8-from_is_utf8, is_utf8-from_IsUtf8}
+use Rattle.std.proofs.lemmas.Fmt.{decimal_by_steps, decimal_injective, decimal_nonempty, IsAscii-decimal}
+use Rattle.par2_spec.specs.Names.{is_name}
+use Rattle.par2_spec.specs.Repairs.{aside}
+use Rattle.std.proofs.lemmas.List.{append_assoc}
+use Rattle.par2_spec.specs.Names.{is_name}
+use Rattle.par2_spec.specs.Repairs.{aside}
+use Rattle.par2_spec.proofs.NamesLaws.{same_name, other_name, among-append, AreDistinct, std_from_distinct, clash}
+use Rattle.par2_spec.proofs.NameTests.{no_name, tests_of, name_of}
+use Rattle.par2_spec.proofs.SearchLaws.{found_passes}
 use Rattle.std.proofs.lemmas.Str.Ascii.{IsAscii-cons}
-use Rattle.par2_spec.proofs.NamesLaws.{clash, other_name}
-use Rattle.par2_spec.proofs.AsideLaws.{is_dotless, numbered_is, aside_is}
-use Rattle.par2_spec.proofs.NameTests.{tests_of, name_of}
+use Rattle.par2_spec.proofs.TestLaws.{by_either}
+
+-- ---- a numbered name tells its name
+
+abbrev pub is_dotless : List ℕ → Bool
+is_dotless text = list_all (λ b. not (b == 46)) text
+
+dotless_digit : (d : ℕ) → is_dotless ((48 + d) ∷ []) ≡ true
+dotless_digit d = and_from _ _ (not_from_false _ (ne_eqb (48 + d) 46 (λ e. absurd (omega (arith, e))))) refl
+
+dotless_decimal : (n : ℕ) → n < 2 ^ 64 → is_dotless (decimal n) ≡ true
+dotless_decimal n small =
+    decimal_by_steps (λ n ds. is_dotless ds ≡ true) (λ n h. dotless_digit n)
+    (λ n ds h k. list_all-append (λ b. not (b == 46)) ds ((48 + n % 10) ∷ []) ∙ and_from _ _ k (dotless_digit (n % 10))) n small
+
+-- what stands before the last dot
+abbrev cut_here : Bool → ℕ → Option (List ℕ) → Option (List ℕ)
+cut_here dot b (Some front) = Some (b ∷ front)
+cut_here true b None = Some []
+cut_here false b None = None
+
+abbrev before_last_dot : List ℕ → Option (List ℕ)
+before_last_dot [] = None
+before_last_dot (b ∷ text) = cut_here (b == 46) b (before_last_dot text)
+
+no_dot : (text : List ℕ) → is_dotless text ≡ true → before_last_dot text ≡ None
+no_dot [] h = refl
+no_dot (b ∷ text) h =
+    let r = and_parts (not (b == 46)) (is_dotless text) h in
+    ap (cut_here (b == 46) b) (no_dot text r.1) ∙ ap (λ t. cut_here t b None) (not-true (b == 46) r.0)
+
+one_dot : (name text : List ℕ) → is_dotless text ≡ true → before_last_dot (name ++ 46 ∷ text) ≡ Some name
+one_dot [] text h = ap (cut_here true 46) (no_dot text h)
+one_dot (b ∷ name) text h = ap (cut_here (b == 46) b) (one_dot name text h)
+
+pub numbered_is : (name : List ℕ) (n : ℕ) → numbered name n ≡ name ++ 46 ∷ decimal n
+numbered_is name n = append_assoc name (codes ".") (decimal n)
+
+pub numbered_name : (a b : List ℕ) (m n : ℕ) → m < 2 ^ 64 → n < 2 ^ 64 → numbered a m ≡ numbered b n → a ≡ b
+numbered_name a b m n h k e =
+    ap (λ o. unwrap_or o a)
+    (sym (one_dot a (decimal m) (dotless_decimal m h)) ∙ ap before_last_dot (sym (numbered_is a m) ∙ e ∙ numbered_is b n) ∙ one_dot b (decimal n) (dotless_decimal n k))
+
+pub numbered_number : (a : List ℕ) (m n : ℕ) → m < 2 ^ 64 → n < 2 ^ 64 → numbered a m ≡ numbered a n → m ≡ n
+numbered_number a m n h k e =
+    decimal_injective m n h k
+    (sym (drop-append_seam (a ++ codes ".") (decimal m)) ∙ ap (drop (length (a ++ codes "."))) e ∙ drop-append_seam (a ++ codes ".") (decimal n))
+
+-- ---- the first numbered name that passes a test
+
+-- n is the first number from a on, of the next k, whose name passes
+pub record IsFirst (test : List ℕ → Bool) (g : ℕ → List ℕ) (a k n : ℕ) : Type 0 where
+  pub from : a ≤ n
+  pub below : n < a + k
+  pub passes : test (g n) ≡ true
+  pub none_before : (m : ℕ) → a ≤ m → m < n → test (g m) ≡ false
+
+first_found : (test : List ℕ → Bool) (g : ℕ → List ℕ) (a k : ℕ) → is_some (find test (map g (range_with_len a k))) ≡ true → (n : ℕ) × IsFirst test g a k n × (find test (map g (range_with_len a k)) ≡ Some (g n))
+first_found test g a zero h = absurd (false≢true h)
+first_found test g a (suc k) h = step (test (g a)) refl h (first_found test g (a + 1) k)
+  where
+    rest : Option (List ℕ)
+    rest = find test (map g (range_with_len (a + 1) k))
+
+    later_on : (m : ℕ) → a ≤ m → (a ≡ m → ⊥) → a + 1 ≤ m
+    later_on m low other = omega (arith, low, other)
+
+    step : (b : Bool) → test (g a) ≡ b → is_some (cond b (Some (g a)) rest) ≡ true
+        → (is_some rest ≡ true → (n : ℕ) × IsFirst test g (a + 1) k n × (rest ≡ Some (g n)))
+        → (n : ℕ) × IsFirst test g a (suc k) n × (cond b (Some (g a)) rest ≡ Some (g n))
+    step true e i later = (a, record { from = omega arith; below = omega arith; passes = e; none_before = λ m l u. absurd (omega (arith, l, u)) }, refl)
+    step false e i later =
+        let r = later i in
+        let l : a + 1 ≤ r.0 = r.1.from in
+        let u : r.0 < (a + 1) + k = r.1.below in (
+          r.0,
+          record {
+            from = omega (arith, l);
+            below = omega (arith, u);
+            passes = r.1.passes;
+            none_before = λ m low high. by_either (cases_eq a m)
+                (λ same. subst (λ x. test (g x) ≡ false) same e)
+                (λ other. r.1.none_before m (later_on m low other) high);
+          },
+          r.2,
+        )
+
+-- ---- there is room
+
+none_passes : (test : List ℕ → Bool) (xs : List (List ℕ)) → is_some (find test xs) ≡ false → (q : List ℕ) → is_among xs q ≡ true → test q ≡ false
+none_passes test [] h q i = absurd (false≢true i)
+none_passes test (x ∷ xs) h q i =
+    let both = split (test x) (find test xs) h in
+    by_either (or_cases (bytes_eq q x) (is_among xs q) i)
+    (λ here. subst (λ y. test y ≡ false) (sym (same_name q x here)) both.0)
+    (λ there. none_passes test xs both.1 q there)
+  where
+    split : (b : Bool) (rest : Option (List ℕ)) → is_some (cond b (Some x) rest) ≡ false → (b ≡ false) × (is_some rest ≡ false)
+    split true rest j = absurd (false≢true (sym j))
+    split false rest j = (refl, j)
+
+not_later : (name : List ℕ) (m a k : ℕ) → m < a → a + k ≤ 2 ^ 64 → is_among (map (numbered name) (range_with_len a k)) (numbered name m) ≡ false
+not_later name m a zero low high = refl
+not_later name m a (suc k) low high =
+    or_from _ _ (other_name (numbered name m) (numbered name a) (λ e.
+    let same : m ≡ a = numbered_number name m a (omega (arith, low, high)) (omega (arith, high)) e in absurd (omega (arith, same, low))))
+    (not_later name m (a + 1) k (omega (arith, low)) (omega (arith, high)))
+
+numbered_once : (name : List ℕ) (a k : ℕ) → a + k ≤ 2 ^ 64 → AreDistinct (map (numbered name) (range_with_len a k))
+numbered_once name a zero h = tt
+numbered_once name a (suc k) h = (not_later name a (a + 1) k (omega arith) (omega (arith, h)), numbered_once name (a + 1) k (omega (arith, h)))
+
+-- of one name more than are taken, one is free
+one_is_free : (name : List ℕ) (taken : List (List ℕ)) → length taken + 1 < 2 ^ 64 → is_some (find (λ other. not (is_among taken other)) (map (numbered name) (range_with_len 1 (length taken + 1)))) ≡ true
+one_is_free name taken few = by_either (cases_Bool (is_some (find free numbers)))
+    (λ h. h)
+    (λ h. absurd (too_many (length-le_from_is_member nat_list_eq_equiv numbers taken (std_from_distinct numbers (numbered_once name 1 (length taken + 1) (omega (arith, few)))) (λ q i. not-false (is_among taken q) (none_passes free numbers h q i)))))
+  where
+    free : List ℕ → Bool
+    free other = not (is_among taken other)
+
+    numbers : List (List ℕ)
+    numbers = map (numbered name) (range_with_len 1 (length taken + 1))
+
+    too_many : length numbers ≤ length taken → ⊥
+    too_many h = let e : length numbers ≡ length taken + 1 = length-map-range_with_len (numbered name) 1 (length taken + 1) in omega (arith, e, h)
+
+-- ---- asides
+
+-- an aside is the name with the least number by which it is not taken
+pub aside_is : (folder : Folder) (set : ParSet) (name : List ℕ) → AreFew folder set
+    → (n : ℕ) × IsFirst (λ other. not (is_among (taken_for folder set) other)) (numbered name) 1 (length (taken_for folder set) + 1) n × (aside folder set name ≡ numbered name n)
+unfolding aside
+aside_is folder set name few =
+    let r = first_found (λ other. not (is_among (taken_for folder set) other)) (numbered name) 1 (length (taken_for folder set) + 1) (one_is_free name (taken_for folder set) few) in
+    (r.0, r.1, ap (λ o. unwrap_or o []) r.2)
+
+pub aside_out : (folder : Folder) (set : ParSet) (name : List ℕ) → AreFew folder set → is_among (taken_for folder set) (aside folder set name) ≡ false
+aside_out folder set name few =
+    let r = aside_is folder set name few in
+    subst (λ x. is_among (taken_for folder set) x ≡ false) (sym r.2) (not-true (is_among (taken_for folder set) (numbered name r.0)) r.1.passes)
+
+pub aside_one : (folder : Folder) (set : ParSet) (a b : List ℕ) → AreFew folder set → aside folder set a ≡ aside folder set b → a ≡ b
+aside_one folder set a b few e =
+    let r = aside_is folder set a few in
+    let s = aside_is folder set b few in
+    let low : r.0 < 1 + (length (taken_for folder set) + 1) = r.1.below in
+    let high : s.0 < 1 + (length (taken_for folder set) + 1) = s.1.below in
+    numbered_name a b r.0 s.0 (omega (arith, low, few)) (omega (arith, high, few)) (sym r.2 ∙ e ∙ s.2)
+
+pub aside_least : (folder : Folder) (set : ParSet) (name : List ℕ) → AreFew folder set → IsLeastFree (taken_for folder set) name (aside folder set name)
+aside_least folder set name few =
+    let r = aside_is folder set name few in
+    record {
+      number = r.0;
+      positive = r.1.from;
+      spelled = r.2;
+      free = aside_out folder set name few;
+      least = λ m low high. not-false (is_among (taken_for folder set) (numbered name m)) (r.1.none_before m low high);
+    }
+
+no_empty_name : is_name [] ≡ false
+unfolding is_name
+no_empty_name = refl
+
+-- an aside is no target's, also where no number is free
+pub aside_no_target : (folder : Folder) (set : ParSet) (name : List ℕ) → list_all is_name (target_names set) ≡ true → is_among (target_names set) (aside folder set name) ≡ false
+unfolding aside
+aside_no_target folder set name are_names = step (find free numbers) (found_passes free numbers)
+  where
+    free : List ℕ → Bool
+    free other = not (is_among (taken_for folder set) other)
+
+    numbers : List (List ℕ)
+    numbers = map (numbered name) (range_with_len 1 (length (taken_for folder set) + 1))
+
+    step : (o : Option (List ℕ)) → ((q : List ℕ) → o ≡ Some q → (is_among numbers q ≡ true) × (free q ≡ true)) → is_among (target_names set) (unwrap_or o []) ≡ false
+    step None h = no_name (target_names set) [] are_names no_empty_name
+    step (Some q) h = (or_parts _ _ (sym (among-append (names folder) (target_names set) q) ∙ not-true _ (h q refl).1)).1
 
 -- a byte below the digits is none of them
 no_low_digit : (low d : ℕ) → low < 48 → list_any (λ b. b == low) ((48 + d) ∷ []) ≡ false

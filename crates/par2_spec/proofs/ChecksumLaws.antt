@@ -1,5 +1,6 @@
 -- The checksum is linear over the exclusive or, a bit, a byte or any number of bytes at a time.
-use Rattle.par2_spec.proofs.Common.{◌≡◌, ℕ, zero, suc, ◌+◌, ◌*◌, ◌^◌, ◌<◌, ◌%◌, ◌/◌, List, [], ◌∷◌, ◌++◌, length, refl, sym, ap, ◌∙◌, arith, bit_xor, fold, replicate, bit_at, xor_assoc, xor_self, xor_zero_r, mul_assoc, xor_comm, xor_shr, xor_block, shr_split, mod_below, length_push, bit_at_lowest, bit_at_xor, crc_step, crc_steps, crc_byte}
+use Rattle.par2_spec.proofs.Common.{◌≡◌, ℕ, zero, suc, ◌+◌, ◌*◌, ◌^◌, ◌<◌, ◌%◌, ◌/◌, List, [], ◌∷◌, ◌++◌, length, refl, sym, ap, ◌∙◌, arith, fold, replicate, bit_at, xor_assoc, xor_self, xor_zero_r, mul_assoc, xor_comm, xor_shr, xor_block, shr_split, mod_below, length_push, bit_at_lowest, bit_at_xor, crc_step, crc_steps, crc_byte}
+use Rattle.std.specs.Prelude.{bit_xor}
 use Rattle.std.proofs.Math.Nat.{pow-suc, zero-mul}
 use Rattle.std.proofs.lemmas.Nat.{pow_pos}
 use Rattle.par2_spec.specs.Checksums.{crc32}

@@ -7,7 +7,6 @@ pub use Rattle.std.proofs.Math.Seq.{drop-append_seam, drop-cons, drop-nil, take-
 pub use Rattle.std.proofs.lemmas.Bool.{and_from, and_parts, and_right, both_ways, cases_Bool, cases_eq, cases_lt, cond-true, eq-eqb, eqb-false, eqb-true, false_from_ne_true, false≢true, le-leb, leb-false, leb-true, lt-leb, lt-ltb, ltb-true, ne_eqb, not-false, not-true, not_from_false, or_cases, or_from, or_left, or_parts, or_right, true_from_ne_false}
 pub use Rattle.std.proofs.lemmas.Bool.Decides.{Decides-eqb, nat_tests, same_from_decides}
 pub use Rattle.std.proofs.lemmas.Cmp.{nat_eq_equiv, nat_list_eq_equiv}
-pub use Rattle.std.proofs.lemmas.Fmt.{IsAscii-decimal, decimal_by_steps, decimal_injective, decimal_nonempty}
 pub use Rattle.std.proofs.lemmas.Grind.{div_ceil_times, flat_map-append, reverse_onto}
 pub use Rattle.std.proofs.lemmas.Iterator.Adapters.{position_from-zero}
 pub use Rattle.std.proofs.lemmas.List.{drop-drop, drop_all, drop_at, ext_get_or, get_or-map, get_or-reverse, get_or-set_other, get_or-set_same, get_or-take, get_or_default, get_or_past, length-map, length-replicate, length-reverse, length-take, length-take-le, length_push, map-append, map-set, nil_from_length, replicate_more, reverse-append, reverse-reverse, take-append-drop, take-append-le, take-map, take-take, take_all, take_at, take_more}
@@ -28,15 +27,16 @@ pub use Rattle.std.proofs.lemmas.Slice.Zip.{AllZip-long}
 pub use Rattle.std.proofs.lemmas.Str.{IsUtf8-append, IsUtf8-from_ascii, IsUtf8-from_is_utf8, is_utf8-from_IsUtf8}
 pub use Rattle.std.specs.Cmp.{eq_by_cmp_equiv, nat_cmp_total}
 pub use Rattle.std.specs.Cmp.Lexicographic.{nat_list_cmp_total, slice_cmp}
-pub use Rattle.std.specs.FinMap.{contains_key-keys, entries-insert, entries_sorted, get-empty, get-insert, get-remove, get-retain_keys, get_tied, len-empty, len-entries, nat_cmp-IsAntisymmetric, same_map, slice_cmp-IsAntisymmetric}
+pub use Rattle.std.specs.FinMap.{contains_key-keys, entries-insert, entries_sorted, get-insert, get-remove, get-retain_keys, get_tied, len-empty, len-entries, nat_cmp-IsAntisymmetric, same_map, slice_cmp-IsAntisymmetric}
 pub use Rattle.std.specs.FinMap.Entries.{below_all, by_order, is_sorted, put}
 pub use Rattle.std.specs.Int.{bit_at, div_ceil, from_le_bytes, to_le_bytes, w128, w16, w32, w64}
 pub use Rattle.std.specs.Int.Bits.{xor_assoc, xor_self, xor_shifted, xor_zero_l, xor_zero_r}
+pub use Rattle.std.specs.Int.RustNames.{bit_xor}
 pub use Rattle.std.specs.List.{AllAdjacentBelow, AllByRecursion, AllZip, Contains, concat, cons_option, enumerate_from, list_all, list_any, position_from, prefix_len, range_with_len, starts_with, suffix_len}
 pub use Rattle.std.specs.List.Sorted.{IsNonDecreasingBy, IsStrictlyIncreasing}
 pub use Rattle.std.specs.Option.{ForSome, option_or}
 pub use Rattle.std.specs.Ordering.{eq_by_cmp, is_eq, is_lt, nat_cmp}
-pub use Rattle.std.specs.Prelude.{Err, IfSome, IsPermutation, None, Ok, Option, Result, Some, bit_xor, codes, decimal, filter, filter_map, find, flat_map, fold, if◌then◌else◌, is_none, is_ok, is_some, min, nat_eq, nat_le, nat_lt, ok_or, option_and_then, option_map, option_to_list, position, replicate, reverse, slice_get, slice_index, slice_index_or, sum_by, unwrap_or, zip, ◌==◌, ◌↔◌}
+pub use Rattle.std.specs.Prelude.{Err, IfSome, IsPermutation, None, Ok, Option, Result, Some, codes, decimal, filter, filter_map, find, flat_map, fold, if◌then◌else◌, is_none, is_ok, is_some, min, nat_eq, nat_le, nat_lt, ok_or, option_and_then, option_map, option_to_list, position, replicate, reverse, slice_get, slice_index, slice_index_or, sum_by, unwrap_or, zip, ◌==◌, ◌↔◌}
 pub use Rattle.std.specs.Str.{IsUtf8, bytes_eq, is_utf8}
 pub use Rattle.std.specs.declared.cmp.Ordering.{Ordering}
 pub use Rattle.std.specs.declared.cmp.Ordering.TheVariants.{Equal, Greater, Less}
@@ -46,31 +46,26 @@ pub use Rattle.par2_spec.specs.Changes.{Change, FolderState, Remove, Rename, Rep
 pub use Rattle.par2_spec.specs.Checksums.{IsPair, Pair, crc_byte, crc_step, crc_steps, pair_of}
 pub use Rattle.par2_spec.specs.Commands.{Action, Command, Create, CreateArgs, Do, Purge, Redo, Repair, Undo, Verify, files_of, outputs_of}
 pub use Rattle.par2_spec.specs.Faults.{fault_at, fault_of, fault_where, first_fault, then_fault}
-pub use Rattle.par2_spec.specs.Field.{coefficient, constant, constant_powers, modulus, mul}
-pub use Rattle.par2_spec.specs.Folders.{File, Folder, IsFolder, behind_length, bytes_of, files, fingerprint, has, names, without}
-pub use Rattle.par2_spec.specs.History.{Accepted, Ended, History, IsChanging, NothingToRedo, NothingToUndo, Passed, Refusal, Refused, Run, after_command, after_redo, after_undo, folders, in_front, unless_refused}
-pub use Rattle.par2_spec.specs.Journals.{HalfwayPart, IsHalfwayPart, IsJournal, Journal, Spells}
+pub use Rattle.par2_spec.specs.Field.{coefficient, constant, modulus, mul}
+pub use Rattle.par2_spec.specs.Folders.{File, Folder, IsFolder, bytes_of, files, fingerprint, has, names, without}
+pub use Rattle.par2_spec.specs.Laws.{AgreeingListsAreOne, DescIsRead, FilesHaveTheirSize, HalfwayJournalOpensAsBefore, HalfwayJournalStillOpens, HalfwayTextOpensAsBefore, HalfwayTextStillOpens, MainIsRead, OnlyOneOrder, RecoverySlicesAreRead, RefusedRepairHasAChoice, SomeSlicesAgree, TrueSlicesAreRebuilt, TwoListsAgree}
 pub use Rattle.par2_spec.specs.Names.{IsLeastFree, distinct, is_among, is_name, is_par_name, numbered}
 pub use Rattle.par2_spec.specs.Opening.{Halfway, Opened, Settled, TellsApart, is_valid, kept_in, opened_by_part, opened_if_found, session_of, session_of_opened}
-pub use Rattle.par2_spec.specs.Packets.{DescBody, IfscBody, IsCanonical, IsPacket, MainBody, Packet, RecoveryBody, accepted, begins_with_packet, bytes_at, claimed_length, digest_input, first_packet, items_at, kind_of, magic, packet, read_ifsc, read_recovery, type_of, u64_at, without_end_zeros}
+pub use Rattle.par2_spec.specs.Packets.{DescBody, IfscBody, IsCanonical, IsPacket, MainBody, Packet, RecoveryBody, accepted, begins_with_packet, bytes_at, claimed_length, digest_input, first_packet, items_at, kind_of, magic, packet, read_ifsc, read_recovery, type_of, without_end_zeros}
 pub use Rattle.par2_spec.specs.Plans.{AreFewFor, LeadsToAfter, LeadsToAfterAsked, changes_of, create_changes, now_at, purge_changes, repair_changes, repair_removals}
 pub use Rattle.par2_spec.specs.Polynomials.{AreElements, ArePoints, Interpolates, times, times_root, value, with_roots}
 pub use Rattle.par2_spec.specs.Rank.{Agrees, AnotherAgrees, AreBytes, AreSurvivors, IsKept, IsRebuilt, IsRepairable, IsVector, Kills, TwoAgree, is_as_known, is_independent, is_repairable, is_zero, kept, kept_slices, kills, rank, smaller}
 pub use Rattle.par2_spec.specs.Recovery.{coefficients, dot, recovery}
 pub use Rattle.par2_spec.specs.Refusals.{absent_file, after, are_counts, bad_name, by_set, purge_refusal, refusal, repair_refusal, set_in}
 pub use Rattle.par2_spec.specs.Repairs.{AreFew, FitsRepair, HoldsRepaired, after_purge, after_repair, after_repair_and_purge, aside, aside_files, cut_into, files_of_slices, is_par_file, lost_of_unmatched, matched_files, names_without_match, par_files, put_aside, rebuilt, rebuilt_targets, slices_by_target, taken_for}
-pub use Rattle.par2_spec.specs.Reports.{Complete, Damaged, HasIntactFile, IntactAreFound, IsByTarget, IsFound, IsFoundWhole, IsVerdict, IsVerdictIn, MatchedAreFound, Misplaced, Missing, RefusedAsReported, Report, State, StatesFollow, found_of, is_complete, needing_state, states_by, verdict_of}
+pub use Rattle.par2_spec.specs.Reports.{Complete, HasIntactFile, IntactAreFound, IsByTarget, IsFound, IsFoundWhole, IsVerdict, IsVerdictIn, MatchedAreFound, RefusedAsReported, Report, State, StatesFollow, found_of, is_complete, needing_state, states_by, verdict_of}
 pub use Rattle.par2_spec.specs.Search.{AreFirstMatches, NoCollision, candidates, intact_names, is_intact, is_needing, known, lost, match_of, matched, matches, matching, needing, needing_names, survivors}
 pub use Rattle.par2_spec.specs.Sessions.{CanWalk, KeptSession, OnlyGrew, Session, changes_unless, first_entry, others, session_of_kept, session_unless}
 pub use Rattle.par2_spec.specs.Sets.{IsSound, MadeFrom, ParSet, Target, all_pairs, all_some, are_in_profile, description_of, is_slice_size, main_of, other_par_names, packets_with, pairs_of, recovery_of, set_of, target_names, target_of, target_of_file, unless, ◌>>=◌}
-pub use Rattle.par2_spec.specs.Slices.{padded, slice_at, slice_count, slices, word, words}
+pub use Rattle.par2_spec.specs.Slices.{slice_at, slice_count, slices, word}
 pub use Rattle.par2_spec.specs.Sums.{OneChanged, list_at, lists_of, row_sum}
 pub use Rattle.par2_spec.specs.Volumes.{FileRecord, IsFileRecord, all_slices, creator_bytes, desc_bytes, five_digits, id_number, ifsc_bytes, in_id_order, index_packets, insert_by_id, main_bytes, main_id, packet_of, padded_4, pair_bytes, record_of, recovery_bytes, recovery_packets, stem, volume_name, volume_numbers, volume_size, volumes_before}
-pub use Rattle.par2_spec.specs.Windows.{first_match, found, is_match, window, windows}
-pub use Rattle.par2_spec.specs.declared.ChangeFault.TheVariants.{NameTaken, NoRoom, NoSuchName}
+pub use Rattle.par2_spec.specs.Windows.{found, is_match, window, windows}
 pub use Rattle.par2_spec.specs.declared.Fault.{Fault}
-pub use Rattle.par2_spec.specs.declared.Fault.TheVariants.{BadBase, BadCount, BadName, BadSet, BadSliceSize, DuplicateInput, NameTooLong, NoChecksums, NoDescription, NoInput, NoMain, NoPackets, NoSuchFile, NotRepairable, RepairFailed}
+pub use Rattle.par2_spec.specs.declared.Fault.TheVariants.{BadBase, BadCount, BadSet, BadSliceSize, NameTooLong, NoChecksums, NoDescription, NoInput, NoMain, NoPackets, NoSuchFile, NotRepairable, RepairFailed}
 pub use Rattle.par2_spec.specs.declared.Kind.{Kind}
-pub use Rattle.par2_spec.specs.declared.Kind.TheVariants.{Creator, FileDesc, Ifsc, Main, Recovery}
-pub use Rattle.par2_spec.specs.declared.Version.{Version}
-pub use Rattle.par2_spec.specs.declared.Version.TheVariants.{One, Two}

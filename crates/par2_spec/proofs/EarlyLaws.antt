@@ -4,9 +4,8 @@ use Rattle.par2_spec.specs.Refusals.{head_fault, create_refusal, set_in, refusal
 
 -- the first of all is the first of the first ones, or else of the rest
 pub first-append : {F : Type 0} (xs ys : List (Option F)) → first_fault (xs ++ ys) ≡ first_fault (first_fault xs ∷ ys)
-first-append [] ys = refl
 first-append (None ∷ xs) ys = first-append xs ys
-first-append (Some fault ∷ xs) ys = refl
+first-append xs ys = refl
 
 -- the first of some is the first of all
 first_before : {F : Type 0} (xs ys : List (Option F)) (fault : F) → first_fault xs ≡ Some fault → first_fault (xs ++ ys) ≡ Some fault

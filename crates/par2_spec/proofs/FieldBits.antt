@@ -1,6 +1,6 @@
 -- Functions that respect the exclusive or, and induction over the bits of a number.
-use Rattle.par2_spec.proofs.Common.{ℕ, zero, suc, ◌+◌, ◌*◌, ◌/◌, ◌%◌, ◌^◌, ◌<◌, ◌≡◌, ◌⊎◌, inl, inr, refl, sym, ap, ap₂, ◌∙◌, subst, Bool, true, eqb, ◌&&◌, arith, add-zero, zero-mul, one-mul, pow_pos, pow-suc, mod-lt, div-lt_iff_lt-mul, mul_comm, div-add-mod, xor_comm, xor_block, bit_at_xor, bit_at-lt, eqb-true, and_parts, cases_eq, bit_at, xor_assoc, xor_self, xor_zero_r, xor_shifted}
-use Rattle.std.specs.Int.RustNames.{bit_xor}
+use Rattle.par2_spec.proofs.Common.{ℕ, zero, suc, ◌+◌, ◌*◌, ◌/◌, ◌%◌, ◌^◌, ◌<◌, ◌≡◌, ◌⊎◌, inl, inr, refl, sym, ap, ap₂, ◌∙◌, subst, Bool, true, eqb, ◌&&◌, arith, add-zero, zero-mul, one-mul, pow_pos, pow-suc, mod-lt, div-lt_iff_lt-mul, mul_comm, div-add-mod, xor_comm, xor_block, bit_at_xor, bit_at-lt, eqb-true, and_parts, cases_eq, bit_at, xor_assoc, xor_self, xor_zero_r, xor_shifted, bit_xor}
+use Rattle.par2_spec.proofs.TestLaws.{by_either}
 
 -- f takes an exclusive or to the exclusive or of its values
 pub record IsLinear (f : ℕ → ℕ) : Type 0 where
@@ -29,23 +29,20 @@ bit_cases x i = below_two (bit_at x i) (bit_at-lt x i)
 
 -- a bit times a number
 pub bit_times_xor : (x i a b : ℕ) → bit_at x i * bit_xor a b ≡ bit_xor (bit_at x i * a) (bit_at x i * b)
-bit_times_xor x i a b = elim (bit_cases x i) [
-  | inl e ↦ rw e (zero-mul (bit_xor a b) ∙ sym (ap₂ bit_xor (zero-mul a) (zero-mul b)))
-  | inr e ↦ rw e (one-mul (bit_xor a b) ∙ sym (ap₂ bit_xor (one-mul a) (one-mul b)))
-]
+bit_times_xor x i a b = by_either (bit_cases x i)
+    (λ e. rw e (zero-mul (bit_xor a b) ∙ sym (ap₂ bit_xor (zero-mul a) (zero-mul b))))
+    (λ e. rw e (one-mul (bit_xor a b) ∙ sym (ap₂ bit_xor (one-mul a) (one-mul b))))
 
 pub bit_xor_times : (x y i v : ℕ) → bit_at (bit_xor x y) i * v ≡ bit_xor (bit_at x i * v) (bit_at y i * v)
 bit_xor_times x y i v =
     ap (λ c. c * v) (bit_at_xor x y i)
     ∙ elim (bit_cases x i) [
-      | inl e ↦ rw e (elim (bit_cases y i) [
-        | inl f ↦ rw f (zero-mul v ∙ sym (ap₂ bit_xor (zero-mul v) (zero-mul v)))
-        | inr f ↦ rw f (sym (ap₂ bit_xor (zero-mul v) refl))
-      ])
-      | inr e ↦ rw e (elim (bit_cases y i) [
-        | inl f ↦ rw f (one-mul v ∙ sym (ap₂ bit_xor (one-mul v) (zero-mul v) ∙ xor_zero_r v))
-        | inr f ↦ rw f (zero-mul v ∙ sym (xor_self (1 * v)))
-      ])
+      | inl e ↦ rw e (by_either (bit_cases y i)
+          (λ f. rw f (zero-mul v ∙ sym (ap₂ bit_xor (zero-mul v) (zero-mul v))))
+          (λ f. rw f (sym (ap₂ bit_xor (zero-mul v) refl))))
+      | inr e ↦ rw e (by_either (bit_cases y i)
+          (λ f. rw f (one-mul v ∙ sym (ap₂ bit_xor (one-mul v) (zero-mul v) ∙ xor_zero_r v)))
+          (λ f. rw f (zero-mul v ∙ sym (xor_self (1 * v)))))
     ]
 
 -- What holds of 0, of each power of 2 below 2 ^ n, and of the exclusive or of two numbers of which it holds, holds below 2 ^ n.
@@ -76,10 +73,7 @@ pub tested_at : (t : ℕ → Bool) (n i : ℕ) → tested t n ≡ true → i < n
 tested_at t zero i e h = absurd (omega arith)
 tested_at t (suc n) i e h =
     let parts = and_parts (t n) (tested t n) e in
-    elim (cases_eq i n) [
-      | inl same ↦ ap t same ∙ parts.0
-      | inr other ↦ tested_at t n i parts.1 (omega arith)
-    ]
+    by_either (cases_eq i n) (λ same. ap t same ∙ parts.0) (λ other. tested_at t n i parts.1 (omega arith))
 
 -- two functions that respect the exclusive or and agree at each power of 2 below 2 ^ n agree below 2 ^ n
 pub linear_same : (f g : ℕ → ℕ) → IsLinear f → IsLinear g → (n : ℕ) → ((i : ℕ) → i < n → f (2 ^ i) ≡ g (2 ^ i)) → (x : ℕ) → x < 2 ^ n → f x ≡ g x

@@ -1,5 +1,5 @@
 -- The powers of the constants rise, so the constants are distinct.
-use Rattle.par2_spec.proofs.Common.{ℕ, zero, suc, ◌<◌, ◌≡◌, refl, Bool, true, ltb, ◌&&◌, arith, List, [], ◌∷◌, length, get_or, ltb-true, and_parts}
+use Rattle.par2_spec.proofs.Common.{eqb, eqb-true, ℕ, zero, suc, ◌<◌, ◌≡◌, refl, Bool, true, ltb, ◌&&◌, arith, List, [], ◌∷◌, length, get_or, ltb-true, and_parts}
 use Rattle.par2_spec.specs.Field.{constant_powers, constant}
 use Rattle.par2_spec.proofs.FieldOrder.{power-injective, power-nonzero, power-lt}
 
@@ -34,16 +34,22 @@ rises_between low high (x ∷ xs) e i j k h =
     at zero (suc j) k h first later = (first j (omega arith)).0
     at (suc i) (suc j) k h first later = later i j (omega arith) (omega arith)
 
-test_rises : rises 0 65535 constant_powers ≡ true
+-- they rise, and are as many: one computation over them
+abbrev fit : List ℕ → Bool
+fit powers = rises 0 65535 powers && eqb (length powers) 32768
+
+test_fit : fit constant_powers ≡ true
 unfolding rises constant_powers
-test_rises = refl
+test_fit = refl
+
+both_fit : (rises 0 65535 constant_powers ≡ true) × (eqb (length constant_powers) 32768 ≡ true)
+both_fit = and_parts (rises 0 65535 constant_powers) (eqb (length constant_powers) 32768) test_fit
 
 pub length-constant_powers : length constant_powers ≡ 32768
-unfolding constant_powers
-length-constant_powers = refl
+length-constant_powers = eqb-true (length constant_powers) 32768 both_fit.1
 
 constant_power-lt : (k : ℕ) → k < 32768 → get_or constant_powers k 0 < 65535
-constant_power-lt k h = (rises_at 0 65535 constant_powers test_rises k (omega (arith, length-constant_powers))).1
+constant_power-lt k h = (rises_at 0 65535 constant_powers both_fit.0 k (omega (arith, length-constant_powers))).1
 
 pub constant-lt : (k : ℕ) → constant k < 65536
 unfolding constant
@@ -57,5 +63,5 @@ pub constant-injective : (i j : ℕ) → i < j → j < 32768 → constant i ≡ 
 unfolding constant
 constant-injective i j h k =
     power-injective (get_or constant_powers i 0) (get_or constant_powers j 0)
-    (rises_between 0 65535 constant_powers test_rises i j h (omega (arith, length-constant_powers)))
+    (rises_between 0 65535 constant_powers both_fit.0 i j h (omega (arith, length-constant_powers)))
     (constant_power-lt j k)

@@ -1,10 +1,63 @@
 -- 2 has the order 65535, and each element but 0 is a power of 2 and has one inverse.
-use Rattle.par2_spec.proofs.Common.{ℕ, zero, suc, ◌+◌, ◌-◌, ◌*◌, ◌^◌, ◌<◌, ◌≡◌, refl, sym, ap, ap₂, ◌∙◌, Bool, true, false, eqb, ◌&&◌, not, arith, suc-add, zero-add, eqb-false, not-true, and_parts, bit_at, modulus}
-use Rattle.std.specs.Int.RustNames.{bit_xor}
+use Rattle.par2_spec.proofs.Common.{ℕ, zero, suc, ◌<◌, ◌≤◌, ◌≡◌, ◌⊎◌, inl, inr, refl, sym, ap, ◌∙◌, true, false, eqb, arith, List, [], ◌∷◌, length, ◌+◌, ◌-◌, ◌*◌, ◌^◌, ap₂, Bool, ◌&&◌, not, suc-add, zero-add, eqb-true, ne_eqb, or_cases, cases_eq, false≢true, eqb-false, not-true, and_parts, list_any, AllByRecursion, bit_at, modulus, bit_xor}
+use Rattle.std.proofs.lemmas.Map.Steps.{length-le_from_distinct_below}
+use Rattle.std.specs.List.{IsDistinct}
 use Rattle.par2_spec.specs.Field.{mul, pow}
 use Rattle.par2_spec.proofs.FieldBits.{IsLinear, xor_middle, xor_shl, bit_xor_times, linear_same_tested, linear-zero, tested}
 use Rattle.par2_spec.proofs.FieldProducts.{product-lt, product_comm, product-one, product_assoc, product_linear_left, product_linear_right}
-use Rattle.par2_spec.proofs.FieldOnto.{onto_from_injective}
+use Rattle.par2_spec.proofs.TestLaws.{by_either}
+
+-- ---- an injective function from the numbers below n to the numbers below n takes each of them as a value
+
+values : (ℕ → ℕ) → ℕ → List ℕ
+values f zero = []
+values f (suc n) = f n ∷ values f n
+
+length-values : (f : ℕ → ℕ) (n : ℕ) → length (values f n) ≡ n
+unfolding values
+length-values f zero = refl
+length-values f (suc n) = ap suc (length-values f n)
+
+below_values : (f : ℕ → ℕ) (n m : ℕ) → ((i : ℕ) → i < n → f i < m) → (q : ℕ) → list_any (eqb q) (values f n) ≡ true → q < m
+unfolding values
+below_values f zero m fits q e = absurd (false≢true e)
+below_values f (suc n) m fits q e = by_either (or_cases (eqb q (f n)) (list_any (eqb q) (values f n)) e)
+    (λ same. let k : q ≡ f n = eqb-true q (f n) same in let l : f n < m = fits n (omega arith) in omega arith)
+    (λ rest. below_values f n m (λ i h. fits i (omega arith)) q rest)
+
+other_values : (f : ℕ → ℕ) (a n : ℕ) → ((i : ℕ) → i < n → a ≡ f i → ⊥) → AllByRecursion (λ y. eqb a y ≡ false) (values f n)
+unfolding values
+other_values f a zero apart = tt
+other_values f a (suc n) apart = (ne_eqb a (f n) (apart n (omega arith)), other_values f a n (λ i h. apart i (omega arith)))
+
+distinct_values : (f : ℕ → ℕ) (n : ℕ) → ((i j : ℕ) → i < j → j < n → f i ≡ f j → ⊥) → IsDistinct eqb (values f n)
+unfolding values IsDistinct
+distinct_values f zero apart = tt
+distinct_values f (suc n) apart =
+    (other_values f (f n) n (λ i h e. apart i n h (omega arith) (sym e)), distinct_values f n (λ i j h k. apart i j h (omega arith)))
+
+search_values : (f : ℕ → ℕ) (a n : ℕ) → ((i : ℕ) × ((i < n) × (f i ≡ a))) ⊎ ((i : ℕ) → i < n → a ≡ f i → ⊥)
+search_values f a zero = inr (λ i h e. absurd (omega arith))
+search_values f a (suc n) = elim (cases_eq a (f n)) [
+  | inl same ↦ inl (n, (omega arith, sym same))
+  | inr other ↦ by_either (search_values f a n)
+      (λ found. inl (found.0, (omega (arith, found.1.0), found.1.1)))
+      (λ none. inr (λ i h e. by_either (cases_eq i n) (λ last. other (e ∙ ap f last)) (λ before. none i (omega arith) e)))
+]
+
+pub onto_from_injective : (f : ℕ → ℕ) (n : ℕ) → ((i : ℕ) → i < n → f i < n) → ((i j : ℕ) → i < j → j < n → f i ≡ f j → ⊥)
+    → (a : ℕ) → a < n → (i : ℕ) × ((i < n) × (f i ≡ a))
+unfolding IsDistinct
+onto_from_injective f n fits apart a h = elim (search_values f a n) [
+  | inl found ↦ found
+  | inr none ↦
+      let long : length (a ∷ values f n) ≤ n =
+      length-le_from_distinct_below (a ∷ values f n) n (other_values f a n none, distinct_values f n apart)
+      (λ q e. by_either (or_cases (eqb q a) (list_any (eqb q) (values f n)) e)
+          (λ same. let k : q ≡ a = eqb-true q a same in omega arith)
+          (λ rest. below_values f n n fits q rest))
+      in absurd (omega (arith, length-values f n))
+]
 
 -- the product of 2 and an element: a shift, and the remainder of one step
 unfoldable pub double : ℕ → ℕ

@@ -1,6 +1,5 @@
 -- The laws of the product.
-use Rattle.par2_spec.proofs.Common.{ℕ, zero, suc, ◌+◌, ◌*◌, ◌^◌, ◌<◌, ◌≡◌, refl, sym, ap, ap₂, ◌∙◌, subst, true, eqb, ltb, arith, xor_lt, ltb-true, bit_at, modulus}
-use Rattle.std.specs.Int.RustNames.{bit_xor}
+use Rattle.par2_spec.proofs.Common.{ℕ, zero, suc, ◌+◌, ◌*◌, ◌^◌, ◌<◌, ◌≡◌, refl, sym, ap, ap₂, ◌∙◌, subst, true, eqb, ltb, arith, xor_lt, ltb-true, bit_at, modulus, bit_xor}
 use Rattle.par2_spec.specs.Field.{product, remainder, mul}
 use Rattle.par2_spec.proofs.FieldBits.{IsLinear, xor_middle, xor_shl, bit_times_xor, bit_xor_times, bits_ind, linear_same, linear_same_tested, linear-zero, tested, tested_at}
 

@@ -1,6 +1,5 @@
 -- A doubling as a shift of sixteen bits, and powers of powers.
-use Rattle.par2_spec.proofs.Common.{ℕ, zero, suc, ◌+◌, ◌*◌, ◌%◌, ◌^◌, ◌<◌, ◌≤◌, ◌≡◌, refl, sym, ap, ◌∙◌, arith, zero-mul, mul_comm, zero-add, xor_block, bit_at, xor_zero_r, modulus, mul}
-use Rattle.std.specs.Int.RustNames.{bit_xor}
+use Rattle.par2_spec.proofs.Common.{ℕ, zero, suc, ◌+◌, ◌*◌, ◌%◌, ◌^◌, ◌<◌, ◌≤◌, ◌≡◌, refl, sym, ap, ◌∙◌, arith, zero-mul, mul_comm, zero-add, xor_block, bit_at, xor_zero_r, modulus, mul, bit_xor}
 use Rattle.par2_spec.specs.Field.{pow}
 use Rattle.par2_spec.proofs.FieldProducts.{product-one}
 use Rattle.par2_spec.proofs.FieldOrder.{double, power-add, power-65535, logarithm}

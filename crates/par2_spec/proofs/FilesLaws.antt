@@ -1,5 +1,5 @@
 -- A repair leaves each of the files that a set was made from.
-use Rattle.par2_spec.proofs.Common.{◌≡◌, ℕ, zero, suc, ◌+◌, ◌*◌, ◌%◌, ◌<◌, ◌≤◌, List, [], ◌∷◌, ◌++◌, length, map, refl, sym, ap, ◌∙◌, subst, cond, true, false, Bool, not, ◌&&◌, arith, inl, inr, filter, find, zip, ◌==◌, Option, Some, None, option_to_list, range_with_len, list_all, AllByRecursion, ForSome, bytes_eq, and_parts, and_from, or_from, or_cases, or_left, or_right, eqb-true, false_from_ne_true, false≢true, not-false, cases_eq, not-true, not-not, md5, pair_of, slice_count, slice_at, slices, window, windows, is_match, IsRepairable, is_among, Folder, File, has, bytes_of, names, all_slices, ParSet, Target, target_of_file, MadeFrom, is_slice_size, is_intact, is_needing, needing, intact_names, known, lost, survivors, NoCollision, aside, put_aside, names_without_match, files_of_slices, after_repair, after_repair_and_purge, par_files, is_par_file, files_of}
+use Rattle.par2_spec.proofs.Common.{◌≡◌, ℕ, zero, suc, ◌+◌, ◌*◌, ◌%◌, ◌<◌, ◌≤◌, List, [], ◌∷◌, ◌++◌, length, map, refl, sym, ap, ◌∙◌, subst, cond, true, false, Bool, not, ◌&&◌, arith, filter, find, zip, ◌==◌, Option, Some, None, option_to_list, range_with_len, list_all, AllByRecursion, ForSome, bytes_eq, and_parts, and_from, or_from, or_cases, or_left, or_right, eqb-true, false_from_ne_true, false≢true, not-false, cases_eq, not-true, not-not, md5, pair_of, slice_count, slice_at, slices, window, windows, is_match, IsRepairable, is_among, Folder, File, has, bytes_of, names, all_slices, ParSet, Target, target_of_file, MadeFrom, is_slice_size, is_intact, is_needing, needing, intact_names, known, lost, survivors, NoCollision, aside, put_aside, names_without_match, files_of_slices, after_repair, after_repair_and_purge, par_files, is_par_file, files_of}
 use Rattle.std.specs.FinMap as map_of
 use Rattle.par2_spec.specs.Volumes.{record_of}
 use Rattle.par2_spec.specs.Search.{matches}
@@ -12,24 +12,21 @@ use Rattle.par2_spec.proofs.SearchLaws.{pairs_with, found_passes}
 use Rattle.par2_spec.proofs.ReadLaws.{sound_of, size_positive, size_parts}
 use Rattle.par2_spec.proofs.RepairLaws.{Fits, match_free, matched_ones, written_ones, other_ones, target_no_aside}
 use Rattle.par2_spec.proofs.RestoredLaws.{IsTold, same_slices, true_slices_rebuilt, true_files}
-use Rattle.par2_spec.proofs.TestLaws.{some_if}
+use Rattle.par2_spec.proofs.TestLaws.{by_either, some_if}
 use Rattle.par2_spec.proofs.ListsLaws.{all-parts, all-both, all_unmap, filter-map}
 
 -- ---- bytes that are intact for a file are the file's
 
 at_range : {A : Type 0} (P : A → Type 0) (f : ℕ → A) (a n o : ℕ) → AllByRecursion P (map f (range_with_len a n)) → a ≤ o → o < a + n → P (f o)
 at_range P f a zero o h low high = absurd (omega (arith, low, high))
-at_range P f a (suc n) o h low high = elim (cases_eq a o) as (λ _. P (f o)) [
-  | inl same ↦ subst (λ x. P (f x)) same h.0
-  | inr other ↦ at_range P f (a + 1) n o h.1 (omega (arith, low, other)) (omega (arith, high))
-]
+at_range P f a (suc n) o h low high = by_either (cases_eq a o)
+    (λ same. subst (λ x. P (f x)) same h.0)
+    (λ other. at_range P f (a + 1) n o h.1 (omega (arith, low, other)) (omega (arith, high)))
 
 pub at_name : (P : List ℕ → Type 0) (names : List (List ℕ)) (q : List ℕ) → AllByRecursion P names → is_among names q ≡ true → P q
 at_name P [] q h i = absurd (false≢true i)
-at_name P (x ∷ names) q h i = elim (or_cases (bytes_eq q x) (is_among names q) i) as (λ _. P q) [
-  | inl here ↦ subst P (sym (same_name q x here)) h.0
-  | inr there ↦ at_name P names q h.1 there
-]
+at_name P (x ∷ names) q h i =
+    by_either (or_cases (bytes_eq q x) (is_among names q) i) (λ here. subst P (sym (same_name q x here)) h.0) (λ there. at_name P names q h.1 there)
 
 matched_slices : (s : ℕ) (bytes text : List ℕ) (a k : ℕ) → ((j : ℕ) → j < a + k → j * s < length bytes)
     → AllByRecursion (λ x. AllByRecursion (λ w. is_match (pair_of x) w ≡ true → w ≡ x) (windows s bytes)) (map (slice_at s text) (range_with_len a k))

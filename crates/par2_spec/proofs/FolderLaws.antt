@@ -1,5 +1,6 @@
 -- A change and its inverse; changes in order and their way back; the same for a folder as it is kept.
-use Rattle.par2_spec.proofs.Common.{◌≡◌, ℕ, ◌+◌, ◌-◌, ◌<◌, ◌≤◌, List, [], ◌∷◌, ◌++◌, refl, sym, ap, subst, ◌∙◌, cond, true, false, Bool, not, ◌&&◌, IsTrue, append_assoc, append-nil, arith, unwrap_or, Some, None, Option, is_some, is_none, same_map, slice_cmp-IsAntisymmetric, nat_cmp-IsAntisymmetric, get-insert, get-remove, get_tied, nat_cmp, eq_by_cmp, is_eq, Ordering, Less, Equal, Greater, eq_by_cmp_equiv, slice_cmp, nat_list_cmp_total, nat_tests, and_parts, and_from, Folder, has, bytes_of, Change, Write, Replace, Rename, Remove, FolderState, fault_unless, vacant_after, state_after, places_taken, NameTaken, NoRoom, NoSuchName}
+use Rattle.par2_spec.proofs.Common.{◌≡◌, ℕ, ◌+◌, ◌-◌, ◌<◌, ◌≤◌, List, [], ◌∷◌, ◌++◌, refl, sym, ap, subst, ◌∙◌, cond, true, false, Bool, not, ◌&&◌, IsTrue, append_assoc, append-nil, arith, unwrap_or, Some, None, Option, is_some, is_none, same_map, slice_cmp-IsAntisymmetric, nat_cmp-IsAntisymmetric, get-insert, get-remove, get_tied, nat_cmp, eq_by_cmp, is_eq, Ordering, Equal, eq_by_cmp_equiv, slice_cmp, nat_list_cmp_total, nat_tests, and_parts, and_from, Folder, has, bytes_of, Change, Write, Replace, Rename, Remove, FolderState, fault_unless, vacant_after, state_after, places_taken}
+use Rattle.par2_spec.specs.declared.ChangeFault.TheVariants.{NameTaken, NoRoom, NoSuchName}
 use Rattle.std.proofs.Common.{nat_lt}
 use Rattle.std.specs.FinMap as map_of
 use Rattle.par2_spec.specs.Changes.{effect, inverse, is_applicable, effects, way_back, are_applicable, change_refusal, takes_all, state_after_all}
@@ -19,9 +20,8 @@ itself : (n : List ℕ) → same n n ≡ true
 itself n = (eq_by_cmp_equiv nat_list_cmp_total).refl n
 
 equal_by : (o : Ordering) → IsTrue (is_eq o) → o ≡ Equal
-equal_by Less p = cc
 equal_by Equal p = refl
-equal_by Greater p = cc
+equal_by o p = cc
 
 tied : (f : Folder) (q n : List ℕ) → IsTrue (same q n) → map_of.get f q ≡ map_of.get f n
 tied f q n t = sym (get_tied nat_list_cmp_total f q n (equal_by _ t))
@@ -109,8 +109,7 @@ pub inverse_twice : (f : Folder) (c : Change) → inverse (effect f c) (inverse 
 unfolding effect inverse
 inverse_twice f (Write n b) = ap (Write n) (landed f n b)
 inverse_twice f (Replace n b) = ap (Replace n) (landed f n b)
-inverse_twice f (Rename a b) = refl
-inverse_twice f (Remove n) = refl
+inverse_twice f c = refl
 
 -- ---- changes in order
 
@@ -213,25 +212,16 @@ not_refused false x o h = cc
 
 pub taken_is_applicable : (s : FolderState) (c : Change) → change_refusal s c ≡ None → IsTrue (is_applicable s.files c)
 unfolding change_refusal is_applicable
-taken_is_applicable s (Write n b) h = (not_refused _ _ _ h).0
-taken_is_applicable s (Replace n b) h = (not_refused _ _ _ h).0
 taken_is_applicable s (Rename a b) h =
     let from = not_refused (has s.files a) NoSuchName _ h in
     and_from _ _ from.0 (not_refused (not (has s.files b)) NameTaken None from.1).0
-taken_is_applicable s (Remove n) h = (not_refused _ _ _ h).0
+taken_is_applicable s c h = (not_refused _ _ _ h).0
 
 has_room : (n : ℕ) → 0 < n → nat_lt 0 n ≡ true
 has_room n h = grind (arith, nat_tests)
 
 has_place : (n : ℕ) → nat_lt 0 n ≡ true → 0 < n
 has_place n h = grind (arith, nat_tests)
-
-pub taken_with_room : (s : FolderState) (c : Change) → IsTrue (is_applicable s.files c) → 0 < s.vacant → change_refusal s c ≡ None
-unfolding change_refusal is_applicable
-taken_with_room s (Write n b) h room = rw (h, has_room s.vacant room)
-taken_with_room s (Replace n b) h room = rw h
-taken_with_room s (Rename a b) h room = rw ((and_parts (has s.files a) _ h).0, (and_parts (has s.files a) _ h).1)
-taken_with_room s (Remove n) h room = rw h
 
 -- the inverse of a change that was taken is taken
 pub inverse_taken : (s : FolderState) (c : Change) → change_refusal s c ≡ None → change_refusal (state_after s c) (inverse s.files c) ≡ None
@@ -250,9 +240,8 @@ vacant_back s (Write n b) h =
     let name = not_refused (not (has s.files n)) NameTaken _ h in
     let room = has_place s.vacant (not_refused (nat_lt 0 s.vacant) NoRoom None name.1).0 in
     omega arith
-vacant_back s (Replace n b) h = refl
-vacant_back s (Rename a b) h = refl
 vacant_back s (Remove n) h = omega arith
+vacant_back s c h = refl
 
 pub state_back : (s : FolderState) (c : Change) → change_refusal s c ≡ None → state_after (state_after s c) (inverse s.files c) ≡ s
 state_back s c h = λ i. record { files = undo_change s.files c (taken_is_applicable s c h) i; vacant = vacant_back s c h i }
@@ -325,9 +314,8 @@ more_room s k (Write n b) h =
     let room = has_place s.vacant (not_refused (nat_lt 0 s.vacant) NoRoom None name.1).0 in
     let less : s.vacant + k - 1 ≡ s.vacant - 1 + k = omega arith in
     (rw (name.0, has_room (s.vacant + k) (omega arith)), λ i. record { files = effect s.files (Write n b); vacant = less i })
-more_room s k (Replace n b) h = (h, refl)
-more_room s k (Rename a b) h = (h, refl)
 more_room s k (Remove n) h = let more : s.vacant + k + 1 ≡ s.vacant + 1 + k = omega arith in (h, λ i. record { files = effect s.files (Remove n); vacant = more i })
+more_room s k c h = (h, refl)
 
 pub more_room_all : (s : FolderState) (k : ℕ) (cs : List Change) → IsTrue (takes_all s cs) → IsTrue (takes_all (with_room s k) cs) × (state_after_all (with_room s k) cs ≡ with_room (state_after_all s cs) k)
 unfolding state_after_all

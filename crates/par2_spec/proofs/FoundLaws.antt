@@ -1,10 +1,10 @@
 -- The slices of intact and of matched targets are found.
-use Rattle.par2_spec.proofs.Common.{◌≡◌, ℕ, zero, suc, ◌+◌, ◌*◌, ◌<◌, ◌≤◌, List, [], ◌∷◌, ◌++◌, length, map, inl, inr, refl, sym, ap, ◌∙◌, subst, cond, true, false, Bool, not, ◌&&◌, ◌||◌, arith, filter, flat_map, find, zip, Option, Some, None, is_some, is_none, option_to_list, ◌==◌, div_ceil, list_any, list_all, range_with_len, enumerate_from, AllByRecursion, bytes_eq, map-append, and_parts, or_cases, or_left, or_right, eqb-true, false≢true, not-false, div_ceil_times, mul-le-mul_right, add-mul, Pair, window, windows, is_match, found, slice_count, is_among, Folder, bytes_of, has, ParSet, Target, is_intact, is_needing, needing, intact_names, lost, names_without_match, slices_by_target, lost_of_unmatched, IsFound}
+use Rattle.par2_spec.proofs.Common.{◌≡◌, ℕ, zero, suc, ◌+◌, ◌*◌, ◌<◌, ◌≤◌, List, [], ◌∷◌, ◌++◌, length, map, refl, sym, ap, ◌∙◌, subst, cond, true, false, Bool, not, ◌&&◌, ◌||◌, arith, filter, flat_map, find, zip, Option, Some, None, is_some, is_none, option_to_list, ◌==◌, div_ceil, list_any, list_all, range_with_len, enumerate_from, AllByRecursion, bytes_eq, map-append, and_parts, or_cases, or_left, or_right, eqb-true, false≢true, not-false, div_ceil_times, mul-le-mul_right, add-mul, Pair, window, windows, is_match, found, slice_count, is_among, Folder, bytes_of, has, ParSet, Target, is_intact, is_needing, needing, intact_names, lost, names_without_match, slices_by_target, lost_of_unmatched, IsFound}
 use Rattle.par2_spec.specs.Search.{matches, known}
 use Rattle.par2_spec.proofs.NamesLaws.{same_name, itself, clash, among-filter}
 use Rattle.par2_spec.proofs.ListsLaws.{any-map, any-flat_map, in_range_some, map-cond, all-passing}
 use Rattle.par2_spec.proofs.SearchLaws.{found_passes, pairs_with}
-use Rattle.par2_spec.proofs.TestLaws.{is_true, by_true}
+use Rattle.par2_spec.proofs.TestLaws.{by_either, is_true, by_true}
 
 is_some-find : {A : Type 0} (test : A → Bool) (xs : List A) → is_some (find test xs) ≡ list_any test xs
 is_some-find test [] = refl
@@ -47,10 +47,9 @@ intact_windowed s t bytes positive short h =
 
 any_at : (test : List ℕ → Bool) (names : List (List ℕ)) (name : List ℕ) → is_among names name ≡ true → test name ≡ true → list_any test names ≡ true
 any_at test [] name h k = h
-any_at test (x ∷ names) name h k = elim (or_cases (bytes_eq name x) (is_among names name) h) as (λ _. list_any test (x ∷ names) ≡ true) [
-  | inl here ↦ or_left _ _ (subst (λ y. test y ≡ true) (same_name name x here) k)
-  | inr there ↦ or_right _ _ (any_at test names name there k)
-]
+any_at test (x ∷ names) name h k = by_either (or_cases (bytes_eq name x) (is_among names name) h)
+    (λ here. or_left _ _ (subst (λ y. test y ≡ true) (same_name name x here) k))
+    (λ there. or_right _ _ (any_at test names name there k))
 
 pub windowed_found : (folder : Folder) (s : ℕ) (names : List (List ℕ)) (name : List ℕ) (pairs : List Pair) → is_among names name ≡ true → Windowed s (bytes_of folder name) pairs → AllByRecursion (λ pair. is_some (found s (map (bytes_of folder) names) pair) ≡ true) pairs
 windowed_found folder s names name [] h w = tt

@@ -1,9 +1,9 @@
 -- The rank is at most the number of lost slices, and that number exactly where they are determined.
-use Rattle.par2_spec.proofs.Common.{◌≡◌, ℕ, zero, suc, ◌+◌, ◌*◌, ◌/◌, ◌%◌, ◌^◌, ◌<◌, ◌≤◌, List, [], ◌∷◌, length, map, drop, pow-add, refl, sym, ap, ap₂, ◌∙◌, subst, cond, true, false, Bool, eqb, inl, inr, arith, ◌↔◌, bit_xor, replicate, slice_index, xor_self, AllByRecursion, IsStrictlyIncreasing, pow_below, Decides-eqb, cases_lt, eq-eqb, length-map, AllPairs-from_increasing, IsStrictlyIncreasing-filter, IsDistinct-from_AllPairs, coefficients, kept, rank, IsVector, Kills, IsRepairable, AreElements}
+use Rattle.par2_spec.proofs.Common.{◌≡◌, ℕ, zero, suc, ◌+◌, ◌*◌, ◌/◌, ◌%◌, ◌^◌, ◌<◌, ◌≤◌, List, [], ◌∷◌, length, map, drop, pow-add, refl, sym, ap, ap₂, ◌∙◌, subst, cond, true, false, Bool, eqb, inl, inr, arith, ◌↔◌, replicate, slice_index, xor_self, AllByRecursion, IsStrictlyIncreasing, pow_below, Decides-eqb, cases_lt, eq-eqb, length-map, AllPairs-from_increasing, IsStrictlyIncreasing-filter, IsDistinct-from_AllPairs, coefficients, kept, rank, IsVector, Kills, IsRepairable, AreElements}
+use Rattle.std.specs.Prelude.{bit_xor}
 use Rattle.std.specs.List.{IsDistinct}
 use Rattle.par2_spec.specs.Recovery.{dot}
-use Rattle.par2_spec.proofs.FieldOnto.{onto_from_injective}
-use Rattle.par2_spec.proofs.FieldOrder.{product-zero}
+use Rattle.par2_spec.proofs.FieldOrder.{onto_from_injective, product-zero}
 use Rattle.par2_spec.proofs.ListsLaws.{all-each, all-both, of_contained}
 use Rattle.par2_spec.proofs.RankLaws.{all_weaker}
 use Rattle.par2_spec.proofs.UniqueLaws.{sums, dot-sums, dot-lt, coefficients_are, sums-elements, no_difference, all_from_contains, kept_kill_all}
@@ -31,10 +31,9 @@ count n = let e : 16 * suc n ≡ 16 + 16 * n = omega arith in ap (λ k. 2 ^ k) e
 number-lt : (n : ℕ) (v : List ℕ) → IsVector n v → number v < 2 ^ (16 * n)
 unfolding number
 number-lt zero [] h = omega arith
-number-lt zero (x ∷ v) h = let e = h.0 in absurd (omega (arith, e))
-number-lt (suc n) [] h = let e = h.0 in absurd (omega (arith, e))
 number-lt (suc n) (x ∷ v) h =
     let e = h.0 in let rest = number-lt n v (omega (arith, e), h.1.1) in let first = h.1.0 in omega (arith, rest, first, count n)
+number-lt n v h = let e = h.0 in absurd (omega (arith, e))
 
 number-vector : (n i : ℕ) → i < 2 ^ (16 * n) → number (vector n i) ≡ i
 unfolding number vector
@@ -44,13 +43,12 @@ number-vector (suc n) i h = let rest = number-vector n (i / 65536) (omega (arith
 vector-number : (n : ℕ) (v : List ℕ) → IsVector n v → vector n (number v) ≡ v
 unfolding number vector
 vector-number zero [] h = refl
-vector-number zero (x ∷ v) h = let e = h.0 in absurd (omega (arith, e))
-vector-number (suc n) [] h = let e = h.0 in absurd (omega (arith, e))
 vector-number (suc n) (x ∷ v) h =
     let e = h.0 in let first = h.1.0 in
     let low : (x + 65536 * number v) % 65536 ≡ x = omega (arith, first) in
     let high : (x + 65536 * number v) / 65536 ≡ number v = omega (arith, first) in
     ap₂ (λ y w. y ∷ w) low (ap (vector n) high ∙ vector-number n v (omega (arith, e), h.1.1))
+vector-number n v h = let e = h.0 in absurd (omega (arith, e))
 
 -- ---- functions from vectors to vectors
 
@@ -143,29 +141,26 @@ given_leads lost es v is = (length-map es (λ e. dot (coefficients lost e) v), a
 
 -- the number that stands in a list at the place of an exponent among others
 numbered : List ℕ → List ℕ → ℕ → ℕ
-numbered [] g e = 0
-numbered (x ∷ es) [] e = 0
 numbered (x ∷ es) (y ∷ g) e = cond (eqb x e) y (numbered es g e)
+numbered es g e = 0
 
 numbered-lt : (es g : List ℕ) (e : ℕ) → AreElements g → numbered es g e < 2 ^ 16
 unfolding numbered
-numbered-lt [] g e h = omega arith
-numbered-lt (x ∷ es) [] e h = omega arith
 numbered-lt (x ∷ es) (y ∷ g) e h = step (eqb x e) (numbered es g e) (numbered-lt es g e h.1)
   where
     step : (b : Bool) (z : ℕ) → z < 2 ^ 16 → cond b y z < 2 ^ 16
     step true z k = h.0
     step false z k = k
+numbered-lt es g e h = omega arith
 
 -- where the exponents are distinct and a function gives each its number, its values are the list
 values_are : (f : ℕ → ℕ) (es g : List ℕ) → IsDistinct eqb es → length es ≡ length g → AllByRecursion (λ e. f e ≡ numbered es g e) es → map f es ≡ g
 unfolding numbered IsDistinct
 values_are f [] [] d long h = refl
-values_are f [] (y ∷ g) d long h = absurd (omega (arith, long))
-values_are f (x ∷ es) [] d long h = absurd (omega (arith, long))
 values_are f (x ∷ es) (y ∷ g) d long h =
     ap₂ (λ z zs. z ∷ zs) (h.0 ∙ ap (λ b. cond b y (numbered es g x)) (eq-eqb x x refl))
     (values_are f es g d.1 (omega (arith, long)) (all-both (λ e. eqb x e ≡ false) (λ e. f e ≡ cond (eqb x e) y (numbered es g e)) (λ e. f e ≡ numbered es g e) (λ e other k. k ∙ ap (λ b. cond b y (numbered es g e)) other) es d.0 h.1))
+values_are f es g d long h = absurd (omega (arith, long))
 
 -- a number above all of a list
 above : List ℕ → ℕ
@@ -213,9 +208,8 @@ given_injective lost survivors repairable u v hu hv e =
 
 dot_zeros : (row : List ℕ) (n : ℕ) → dot row (replicate n 0) ≡ 0
 unfolding dot
-dot_zeros [] n = refl
-dot_zeros (c ∷ row) zero = refl
 dot_zeros (c ∷ row) (suc n) = ap₂ bit_xor (product-zero c) (dot_zeros row n)
+dot_zeros row n = refl
 
 zeros_alone : (n : ℕ) → AllByRecursion {X = ℕ} (λ x. x ≡ 0) (replicate n 0)
 zeros_alone zero = tt

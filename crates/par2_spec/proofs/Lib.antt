@@ -1,11 +1,9 @@
 mod Common
 pub mod FieldBits
 pub mod FieldProducts
-pub mod FieldOnto
 pub mod FieldOrder
 pub mod FieldSteps
 pub mod FieldConstants
-pub mod FieldRows
 pub mod SumLaws
 pub mod PolynomialLaws
 pub mod FolderLaws
@@ -17,7 +15,6 @@ pub mod TreeLaws
 pub mod MovesLaws
 pub mod CreateLaws
 pub mod SearchLaws
-pub mod AsideLaws
 pub mod AsideNames
 pub mod FoundLaws
 pub mod ReadLaws
@@ -31,25 +28,15 @@ pub mod RankLaws
 pub mod SessionLaws
 pub mod AcceptedLaws
 pub mod WrittenPackets
-pub mod WrittenBodies
-pub mod WrittenNames
 pub mod AcceptedCommands
 pub mod StopLaws
 pub mod WritingLaws
 pub mod WrittenSets
-pub mod RowsSlices
-pub mod RowsVolumes
-pub mod RowsTexts
-pub mod RowsJournals
-pub mod RowsFolders
-pub mod RowsRank
 pub mod UniqueLaws
-pub mod OthersLaws
 pub mod ExistLaws
 pub mod FullRank
 pub mod RunLaws
 pub mod VerdictLaws
-pub mod LengthLaws
 pub mod OrderLaws
 pub mod RestoredLaws
 pub mod FilesLaws

@@ -1,5 +1,5 @@
 -- Renames and writes one after the other, as one change of a map.
-use Rattle.par2_spec.proofs.Common.{◌≡◌, ℕ, ◌<◌, ◌^◌, List, [], ◌∷◌, ◌++◌, length, map, refl, sym, ap, ◌∙◌, subst, T, cond, true, false, Bool, not, ◌&&◌, ◌||◌, IsTrue, filter, Option, Some, None, is_some, unwrap_or, get-insert, get-remove, get-retain_keys, slice_cmp-IsAntisymmetric, nat_cmp-IsAntisymmetric, contains_key-keys, entries_sorted, nat_cmp, eq_by_cmp, is_lt, is_eq, Ordering, is_sorted, below_all, Less, Equal, Greater, slice_cmp, nat_list_cmp_total, bytes_eq, list_any, AllByRecursion, is_eq-slice_cmp, or_left, or_right, or_from, false_from_ne_true, and_from, not_from_false, false≢true, or_parts, is_name, is_among, Change, Write, Rename, Remove, Folder, has, bytes_of, names, File, files, without, IsFolder}
+use Rattle.par2_spec.proofs.Common.{◌≡◌, ℕ, ◌<◌, ◌^◌, List, [], ◌∷◌, ◌++◌, length, map, refl, sym, ap, ◌∙◌, subst, T, cond, true, false, Bool, not, ◌&&◌, ◌||◌, IsTrue, filter, Option, Some, None, is_some, unwrap_or, get-insert, get-remove, get-retain_keys, slice_cmp-IsAntisymmetric, nat_cmp-IsAntisymmetric, contains_key-keys, entries_sorted, nat_cmp, eq_by_cmp, is_lt, is_eq, Ordering, is_sorted, below_all, Less, slice_cmp, nat_list_cmp_total, bytes_eq, list_any, AllByRecursion, is_eq-slice_cmp, or_left, or_right, or_from, false_from_ne_true, and_from, not_from_false, false≢true, or_parts, is_name, is_among, Change, Write, Rename, Remove, Folder, has, bytes_of, names, File, files, without, IsFolder}
 use Rattle.std.specs.FinMap as map_of
 use Rattle.par2_spec.specs.Changes.{effect, effects, is_applicable, are_applicable}
 use Rattle.par2_spec.specs.Folders.{laid_over}
@@ -60,8 +60,7 @@ sorted_once (e ∷ es) h = (out es (T-parts _ _ h).0, sorted_once es (T-parts _ 
   where
     less : (o : Ordering) → T (is_lt o) → is_eq o ≡ false
     less Less k = refl
-    less Equal k = absurd k
-    less Greater k = absurd k
+    less o k = absurd k
 
     out : (others : List (List ℕ × List ℕ)) → T (below_all (slice_cmp nat_cmp) e.0 others) → is_among (map (λ other. other.0) others) e.0 ≡ false
     out [] k = refl
@@ -128,14 +127,12 @@ without_put gone f n b = step (is_among gone n) refl
     apart q h e = subst (λ x. is_among gone x ≡ true) (sym (same_name q n e)) h
 
     hidden : (t g : Bool) (y x : Option (List ℕ)) → (t ≡ true → g ≡ true) → cond g None (cond t y x) ≡ cond g None x
-    hidden true true y x h = refl
     hidden true false y x h = absurd (false≢true (h refl))
-    hidden false g y x h = refl
+    hidden t g y x h = refl
 
     over : (t g : Bool) (y x : Option (List ℕ)) → (t ≡ true → g ≡ false) → cond g None (cond t y x) ≡ cond t y (cond g None x)
     over true true y x h = absurd (false≢true (sym (h refl)))
-    over true false y x h = refl
-    over false g y x h = refl
+    over t g y x h = refl
 
     step : (t : Bool) → is_among gone n ≡ t → without gone (map_of.insert f n b) ≡ cond (not t) (map_of.insert (without gone f) n b) (without gone f)
     step true h = same_folder _ _ (λ q.

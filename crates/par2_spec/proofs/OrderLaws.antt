@@ -1,5 +1,5 @@
 -- The files in the order of their File IDs, and that one list alone rises.
-use Rattle.par2_spec.proofs.Common.{◌≡◌, ◌≢◌, ℕ, zero, suc, ◌+◌, ◌<◌, ◌≤◌, List, [], ◌∷◌, length, map, refl, sym, ap₂, subst, true, false, Bool, eqb, arith, nat_le, if◌then◌else◌, IsPermutation, slice_index, w128, from_le_bytes, AllByRecursion, IsStrictlyIncreasing, IsNonDecreasingBy, leb-true, leb-false, eqb-true, eq-eqb, false_from_ne_true, All-from_recursion, recursion_from_All, IsDistinct-IsPermutation, Folder, File, bytes_of, FileRecord, id_number, insert_by_id, files_of}
+use Rattle.par2_spec.proofs.Common.{◌≡◌, ◌≢◌, ℕ, zero, suc, ◌+◌, ◌<◌, ◌≤◌, List, [], ◌∷◌, length, map, refl, sym, ap₂, subst, true, false, Bool, eqb, arith, nat_le, if◌then◌else◌, IsPermutation, slice_index, w128, from_le_bytes, AllByRecursion, IsStrictlyIncreasing, IsNonDecreasingBy, leb-true, leb-false, eqb-true, eq-eqb, false_from_ne_true, All-from_recursion, recursion_from_All, IsDistinct-IsPermutation, Folder, File, bytes_of, FileRecord, id_number, insert_by_id, files_of, OnlyOneOrder}
 use Rattle.std.specs.List.{IsDistinct}
 use Rattle.std.proofs.lemmas.List.Sorted.{All-permutation, IsPermutation-sym, IsPermutation-refl, IsPermutation-trans, IsPermutation-cons, IsPermutation-swap, IsPermutation-map}
 use Rattle.par2_spec.specs.Volumes.{record_of, in_id_order}
@@ -143,8 +143,7 @@ unfolding record_of
 climbs-records s files h = climbs-map number_in (record_of s) files h
 
 -- records of these files that rise by their File IDs are those of the files in order
-pub rising_records : (s : ℕ) (files : List File) (records : List FileRecord) → IsPermutation (map (record_of s) files) records → IsStrictlyIncreasing (map (λ file. from_le_bytes w128 file.id) records)
-    → records ≡ map (record_of s) (in_id_order files)
+pub rising_records : OnlyOneOrder
 rising_records s files records moved up = rising_once number_in records ordered rises (rises-climbs number_in ordered (climbs-records s (in_id_order files) (climbs-ordered files)) apart) (λ P h. moved-all P records ordered there h) (λ P h. moved-all P ordered records (IsPermutation-sym records ordered there) h)
   where
     ordered : List FileRecord

@@ -37,9 +37,8 @@ with_roots_elements (c ∷ points) h = times_root_elements c (with_roots points)
 
 pub quotient_elements : (c : ℕ) (p : List ℕ) → c < 2 ^ 16 → AreElements p → AreElements (quotient c p)
 unfolding quotient
-quotient_elements c [] small h = tt
-quotient_elements c (a ∷ []) small h = tt
 quotient_elements c (a ∷ b ∷ p) small h = (value-lt (b ∷ p) c h.1 small, quotient_elements c (b ∷ p) small h.1)
+quotient_elements c p small h = tt
 
 -- a sum with a polynomial that has no more coefficients
 pub length-plus : (p q : List ℕ) → length q ≡ suc (length p) → length (plus p q) ≡ suc (length p)
@@ -65,9 +64,8 @@ length-with_roots (c ∷ points) = length-times_root c (with_roots points) ∙ a
 
 pub length-quotient : (c : ℕ) (p : List ℕ) → length (quotient c p) ≡ length p - 1
 unfolding quotient
-length-quotient c [] = omega arith
-length-quotient c (a ∷ []) = omega arith
 length-quotient c (a ∷ b ∷ p) = let e = length-quotient c (b ∷ p) in omega (arith, e)
+length-quotient c p = omega arith
 
 -- ---- values
 
@@ -211,9 +209,8 @@ only_zero (c ∷ points) (a ∷ p) are is h =
 same_if_zero : (p q : List ℕ) → length p ≡ length q → AreZero (plus p q) → p ≡ q
 unfolding plus
 same_if_zero [] [] e h = refl
-same_if_zero [] (b ∷ q) e h = absurd (omega (arith, e))
-same_if_zero (a ∷ p) [] e h = absurd (omega (arith, e))
 same_if_zero (a ∷ p) (b ∷ q) e h = ap₂ (λ x xs. x ∷ xs) (xor_same a b h.0) (same_if_zero p q (omega (arith, e)) h.1)
+same_if_zero p q e h = absurd (omega (arith, e))
 
 same_values : (p q points values : List ℕ) → map (value p) points ≡ values → map (value q) points ≡ values → AllByRecursion (λ z. value (plus p q) z ≡ 0) points
 same_values p q [] values e f = tt

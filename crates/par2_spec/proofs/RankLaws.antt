@@ -9,7 +9,7 @@ use Rattle.par2_spec.specs.Rank.{is_independent, is_solvable, agrees}
 use Rattle.par2_spec.specs.Repairs.{rebuilt}
 use Rattle.par2_spec.proofs.ListsLaws.{AreOf, IsBelow, IsComplete, some_list, all_below_are, all_below_complete, all_lists_are, all_lists_complete, find_one, filter-none, all-both}
 use Rattle.par2_spec.proofs.NamesLaws.{same_name, itself, clash, kept as kept_one}
-use Rattle.par2_spec.proofs.TestLaws.{is_true, by_true}
+use Rattle.par2_spec.proofs.TestLaws.{by_test, is_true, by_true}
 
 -- ---- tests of lists
 
@@ -147,11 +147,7 @@ kept-iff lost survivors e =
 
 nothing_told : (before : List (List ℕ)) → is_independent 0 before [] ≡ false
 unfolding is_independent dot all_lists
-nothing_told before = step (list_all (kills []) before)
-  where
-    step : (b : Bool) → ((b && false) || false) ≡ false
-    step true = refl
-    step false = refl
+nothing_told before = by_test (list_all (kills []) before) (λ e. rw e) (λ e. rw e)
 
 -- no exponent tells anything
 pub none_kept : (survivors : List ℕ) → kept [] survivors ≡ []
@@ -169,17 +165,15 @@ one_known (Some y) text h = subst (λ z. bytes_eq y z ≡ true) (sym (h y refl))
 
 as_known : (known : List (Option (List ℕ))) (slices : List (List ℕ)) → length slices ≡ length known → list_all is_as_known (zip known slices) ≡ true → AllZip (λ slice text. ForSome slice (λ found. text ≡ found)) known slices
 as_known [] [] e h = tt
-as_known [] (y ∷ ys) e h = absurd (omega (arith, e))
-as_known (x ∷ xs) [] e h = absurd (omega (arith, e))
 as_known (x ∷ xs) (y ∷ ys) e h =
     let r = and_parts (is_as_known (x, y)) (list_all is_as_known (zip xs ys)) h in
     (known_one x y r.0, as_known xs ys (omega (arith, e)) r.1)
+as_known known slices e h = absurd (omega (arith, e))
 
 known_as : (known : List (Option (List ℕ))) (slices : List (List ℕ)) → AllZip (λ slice text. ForSome slice (λ found. text ≡ found)) known slices → list_all is_as_known (zip known slices) ≡ true
 known_as [] [] h = refl
-known_as [] (y ∷ ys) h = absurd h
-known_as (x ∷ xs) [] h = absurd h
 known_as (x ∷ xs) (y ∷ ys) h = and_from _ _ (one_known x y h.0) (known_as xs ys h.1)
+known_as known slices h = absurd h
 
 -- a list of texts of s bytes passes the test exactly if it agrees
 pub agrees-iff : (s : ℕ) (known : List (Option (List ℕ))) (recovered : List (ℕ × List ℕ)) (slices : List (List ℕ))

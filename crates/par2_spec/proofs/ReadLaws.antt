@@ -1,11 +1,13 @@
 -- What holds of a set that reads, and of the names that are searched.
-use Rattle.par2_spec.proofs.Common.{◌≡◌, ℕ, suc, ◌≤◌, List, [], ◌∷◌, ◌++◌, length, map, inl, inr, refl, sym, ap, ◌∙◌, subst, cond, true, false, Bool, not, ◌&&◌, ◌||◌, arith, length-append, ◌<◌, ◌+◌, ◌^◌, min, nat_lt, filter, filter_map, flat_map, find, slice_get, sum_by, nat_le, Option, Some, None, is_some, unwrap_or, option_map, option_and_then, Result, Ok, Err, ok_or, ◌==◌, if◌then◌else◌, list_all, AllByRecursion, Contains, entries-insert, len-entries, len-empty, nat_cmp-IsAntisymmetric, nat_cmp_total, put, by_order, nat_cmp, Ordering, Less, Equal, Greater, zero-div, zero-mod, bytes_eq, length-map, nil_from_length, sum_by-cons, list_all-map, recursion_from_All, All-contains_itself, and_parts, and_from, or_cases, or_left, or_right, false_from_ne_true, eqb-true, leb-true, ltb-true, false≢true, Fault, NoPackets, NoMain, NoDescription, NoChecksums, BadSet, Pair, slice_count, is_name, is_among, distinct, Packet, accepted, MainBody, DescBody, RecoveryBody, read_ifsc, read_recovery, Folder, has, bytes_of, ParSet, Target, ◌>>=◌, unless, all_some, is_slice_size, packets_with, main_of, description_of, pairs_of, target_of, are_in_profile, recovery_of, other_par_names, IsSound, candidates, known, lost, AreFew, FitsRepair, lost_of_unmatched}
+use Rattle.par2_spec.proofs.Common.{◌≡◌, ℕ, suc, ◌≤◌, List, [], ◌∷◌, ◌++◌, length, map, refl, sym, ap, ◌∙◌, subst, cond, true, false, Bool, not, ◌&&◌, ◌||◌, arith, length-append, ◌<◌, ◌+◌, ◌^◌, zero, ◌-◌, ◌*◌, take, drop, length-drop, min, nat_lt, filter, filter_map, flat_map, find, slice_get, sum_by, nat_le, Option, Some, None, is_some, unwrap_or, option_map, option_and_then, Result, Ok, Err, ok_or, ◌==◌, if◌then◌else◌, zip, list_all, AllByRecursion, Contains, concat, entries-insert, len-entries, len-empty, nat_cmp-IsAntisymmetric, nat_cmp_total, put, by_order, nat_cmp, Ordering, Less, Equal, Greater, zero-div, zero-mod, bytes_eq, length-map, nil_from_length, length-take-le, sum_by-cons, list_all-map, recursion_from_All, All-contains_itself, and_parts, and_from, or_cases, or_left, or_right, false_from_ne_true, eqb-true, leb-true, ltb-true, false≢true, Fault, NoPackets, NoMain, NoDescription, NoChecksums, BadSet, Pair, slice_count, is_name, is_among, distinct, Packet, accepted, MainBody, DescBody, RecoveryBody, read_ifsc, read_recovery, Folder, has, bytes_of, ParSet, Target, ◌>>=◌, unless, all_some, is_slice_size, packets_with, main_of, description_of, pairs_of, target_of, are_in_profile, recovery_of, other_par_names, IsSound, candidates, known, lost, AreFew, FitsRepair, lost_of_unmatched, cut_into, div_ceil, div_ceil_times, FilesHaveTheirSize}
 use Rattle.std.specs.Prelude.{◌%◌}
-use Rattle.std.specs.FinMap as map_of
 use Rattle.par2_spec.specs.Sets.{read_set, set_of}
 use Rattle.par2_spec.proofs.NamesLaws.{same_name, itself, clash, among-filter, among-append, AreDistinct, std_from_distinct}
 use Rattle.par2_spec.proofs.FoundLaws.{AreSized, lost_is}
 use Rattle.par2_spec.proofs.ListsLaws.{found_one}
+use Rattle.std.proofs.lemmas.List.{length-append}
+use Rattle.std.specs.FinMap as map_of
+use Rattle.par2_spec.proofs.TestLaws.{by_either}
 
 -- ---- each name once
 
@@ -34,10 +36,9 @@ filter_full : (p : List ℕ → Bool) (xs : List (List ℕ)) → length (filter 
 filter_full p [] e q h = absurd (false≢true h)
 filter_full p (x ∷ xs) e q h =
     let r = step (p x) (filter p xs) (length-filter-le p xs) e in
-    elim (or_cases (bytes_eq q x) (is_among xs q) h) as (λ _. p q ≡ true) [
-      | inl here ↦ subst (λ y. p y ≡ true) (sym (same_name q x here)) r.0
-      | inr there ↦ filter_full p xs r.1 q there
-    ]
+    by_either (or_cases (bytes_eq q x) (is_among xs q) h)
+    (λ here. subst (λ y. p y ≡ true) (sym (same_name q x here)) r.0)
+    (λ there. filter_full p xs r.1 q there)
   where
     step : (b : Bool) (ys : List (List ℕ)) → length ys ≤ length xs → length (cond b (x ∷ ys) ys) ≡ suc (length xs) → (b ≡ true) × (length ys ≡ length xs)
     step true ys h k = (refl, omega (arith, k))
@@ -282,10 +283,9 @@ pub each_there : (folder : Folder) (extras : List (List ℕ)) → list_all (has 
 each_there folder [] h q i = absurd (false≢true i)
 each_there folder (x ∷ extras) h q i =
     let r = and_parts (has folder x) (list_all (has folder) extras) h in
-    elim (or_cases (bytes_eq q x) (is_among extras q) i) as (λ _. has folder q ≡ true) [
-      | inl here ↦ subst (λ y. has folder y ≡ true) (sym (same_name q x here)) r.0
-      | inr there ↦ each_there folder extras r.1 q there
-    ]
+    by_either (or_cases (bytes_eq q x) (is_among extras q) i)
+    (λ here. subst (λ y. has folder y ≡ true) (sym (same_name q x here)) r.0)
+    (λ there. each_there folder extras r.1 q there)
 
 candidates_are : (folder : Folder) (set : ParSet) (extras : List (List ℕ)) (q : List ℕ) → is_among (candidates folder set extras) q ≡ ((is_among (map (λ t. t.name) set.targets) q && has folder q) || is_among extras q)
 candidates_are folder set extras q =
@@ -295,10 +295,9 @@ candidates_are folder set extras q =
 
 -- where the extra names are in the folder, all candidates are
 pub candidates_there : (folder : Folder) (set : ParSet) (extras : List (List ℕ)) → list_all (has folder) extras ≡ true → (q : List ℕ) → is_among (candidates folder set extras) q ≡ true → has folder q ≡ true
-candidates_there folder set extras h q i = elim (or_cases (is_among (map (λ t. t.name) set.targets) q && has folder q) (is_among extras q) (sym (candidates_are folder set extras q) ∙ i)) as (λ _. has folder q ≡ true) [
-  | inl own ↦ (and_parts (is_among (map (λ t. t.name) set.targets) q) (has folder q) own).1
-  | inr extra ↦ each_there folder extras h q extra
-]
+candidates_there folder set extras h q i = by_either (or_cases (is_among (map (λ t. t.name) set.targets) q && has folder q) (is_among extras q) (sym (candidates_are folder set extras q) ∙ i))
+    (λ own. (and_parts (is_among (map (λ t. t.name) set.targets) q) (has folder q) own).1)
+    (λ extra. each_there folder extras h q extra)
 
 -- each target in the folder is a candidate
 pub present_searched : (folder : Folder) (set : ParSet) (extras : List (List ℕ)) (q : List ℕ) → is_among (map (λ t. t.name) set.targets) q ≡ true → has folder q ≡ true → is_among (candidates folder set extras) q ≡ true
@@ -321,3 +320,49 @@ pub lost_of : (folder : Folder) (base : List ℕ) (set : ParSet) (extras : List 
 lost_of folder base set extras h =
     let sound = sound_of folder base set h in
     lost_is folder set (candidates folder set extras) (size_positive set.slice_size sound.size) (sized_from_counted set.slice_size set.targets sound.pairs) (present_searched folder set extras)
+
+-- ---- files that are cut out of slices have the lengths that the set describes
+
+length-concat : (s : ℕ) (texts : List (List ℕ)) → AllByRecursion (λ text. length text ≡ s) texts → length (concat texts) ≡ length texts * s
+length-concat s [] h = omega arith
+length-concat s (text ∷ texts) h =
+    let rest : length (concat texts) ≡ length texts * s = length-concat s texts h.1 in
+    let size : length text ≡ s = h.0 in
+    let joined : length (text ++ concat texts) ≡ length text + length (concat texts) = length-append text (concat texts) in
+    let more : suc (length texts) * s ≡ s + length texts * s = omega arith in
+    omega (arith, rest, size, joined, more)
+
+all-take : (P : List ℕ → Type 0) (n : ℕ) (texts : List (List ℕ)) → AllByRecursion P texts → AllByRecursion P (take n texts)
+all-take P zero [] h = tt
+all-take P zero (text ∷ texts) h = tt
+all-take P (suc n) [] h = tt
+all-take P (suc n) (text ∷ texts) h = (h.0, all-take P n texts h.1)
+
+all-drop : (P : List ℕ → Type 0) (n : ℕ) (texts : List (List ℕ)) → AllByRecursion P texts → AllByRecursion P (drop n texts)
+all-drop P zero texts h = h
+all-drop P (suc n) [] h = tt
+all-drop P (suc n) (text ∷ texts) h = all-drop P n texts h.1
+
+-- the slices of a target hold its bytes
+cut_long : (s size n : ℕ) (texts : List (List ℕ)) → 0 < s → n ≡ slice_count s size → n ≤ length texts → AllByRecursion (λ text. length text ≡ s) texts → length (take size (concat (take n texts))) ≡ size
+cut_long s size n texts positive count some sizes =
+    let whole : length (concat (take n texts)) ≡ length (take n texts) * s = length-concat s (take n texts) (all-take _ n texts sizes) in
+    let many : length (take n texts) ≡ n = length-take-le n texts some in
+    let bound : size ≤ (div_ceil size s) * s = (div_ceil_times size s positive).0 in
+    let enough : size ≤ length (concat (take n texts)) =
+    subst (λ k. size ≤ k) (sym (whole ∙ ap (λ k. k * s) (many ∙ count))) bound in
+    length-take-le size (concat (take n texts)) enough
+
+cut_lengths : (s : ℕ) (ts : List Target) (texts : List (List ℕ)) → 0 < s → AllByRecursion (λ t. length t.pairs ≡ slice_count s t.length) ts → length (flat_map (λ t. t.pairs) ts) ≤ length texts → AllByRecursion (λ text. length text ≡ s) texts
+    → AllByRecursion (λ (c : Target × List ℕ). length c.1 ≡ c.0.length) (map (λ z. (z.0, take z.0.length (concat z.1))) (zip ts (cut_into (map (λ t. length t.pairs) ts) texts)))
+cut_lengths s [] texts positive counts some sizes = tt
+cut_lengths s (t ∷ ts) texts positive counts some sizes =
+    let joined : length (t.pairs ++ flat_map (λ u. u.pairs) ts) ≡ length t.pairs + length (flat_map (λ u. u.pairs) ts) = length-append t.pairs (flat_map (λ u. u.pairs) ts) in
+    let left : length (drop (length t.pairs) texts) ≡ length texts - length t.pairs = length-drop (length t.pairs) texts in (
+      cut_long s t.length (length t.pairs) texts positive counts.0 (omega (arith, some, joined)) sizes,
+      cut_lengths s ts (drop (length t.pairs) texts) positive counts.1 (omega (arith, some, joined, left)) (all-drop _ (length t.pairs) texts sizes),
+    )
+
+pub written_lengths : FilesHaveTheirSize
+written_lengths set slices sound count sizes =
+    cut_lengths set.slice_size set.targets slices (size_positive set.slice_size sound.size) sound.pairs (omega (arith, count)) sizes

@@ -1,11 +1,11 @@
 -- Where a repair is refused as not repairable, other slices agree too.
-use Rattle.par2_spec.proofs.Common.{◌≡◌, ℕ, ◌+◌, ◌≤◌, List, [], ◌∷◌, refl, sym, ap, ◌∙◌, subst, true, false, Bool, not, arith, Option, Some, None, Result, Ok, AllByRecursion, both_ways, not-true, Fault, NoSuchFile, NameTooLong, NotRepairable, RepairFailed, first_fault, fault_where, then_fault, Folder, File, all_slices, is_repairable, IsRepairable, AnotherAgrees, ParSet, set_of, is_slice_size, MadeFrom, candidates, known, lost, survivors, NoCollision, Repair}
+use Rattle.par2_spec.proofs.Common.{◌≡◌, ℕ, ◌+◌, ◌≤◌, List, [], ◌∷◌, refl, sym, ap, ◌∙◌, subst, true, false, Bool, not, arith, Option, Some, None, Result, Ok, both_ways, not-true, Fault, NoSuchFile, NameTooLong, NotRepairable, RepairFailed, first_fault, fault_where, then_fault, Folder, all_slices, is_repairable, IsRepairable, ParSet, set_of, is_slice_size, candidates, known, lost, survivors, Repair, RefusedRepairHasAChoice}
 use Rattle.std.specs.FinMap as map_of
 use Rattle.par2_spec.specs.Refusals.{repair_refusal, refusal}
 use Rattle.par2_spec.proofs.ReadLaws.{sound_of, size_parts}
 use Rattle.par2_spec.proofs.RankLaws.{repairable-iff}
-use Rattle.par2_spec.proofs.OthersLaws.{another_agrees}
-use Rattle.par2_spec.proofs.RestoredLaws.{AreBytes, true_slices_agree}
+use Rattle.par2_spec.proofs.ExistLaws.{another_agrees}
+use Rattle.par2_spec.proofs.RestoredLaws.{true_slices_agree}
 use Rattle.par2_spec.proofs.AcceptedCommands.{missing, in_full, in_part}
 
 is_other : (f : Fault) (m r : ℕ) → (f ≡ NotRepairable m r → ⊥) → ◌≡◌ {A = Option Fault} (Some f) (Some (NotRepairable m r)) → ⊥
@@ -57,9 +57,7 @@ pub size_two : (s : ℕ) → is_slice_size s ≡ true → 2 ≤ s
 size_two s h = let least : 4 ≤ s = (size_parts s h).1 in omega (arith, least)
 
 -- other slices than those of the files agree with all that is found
-pub another_choice : (folder : Folder) (base : List ℕ) (extras : List (List ℕ)) (purge : Bool) (files : List File) (s m r : ℕ) (made : MadeFrom folder base files s) → NoCollision folder (candidates folder made.set extras) s (all_slices s files)
-    → AllByRecursion (λ file. AreBytes file.1) files → refusal folder (Repair base extras purge) ≡ Some (NotRepairable m r)
-    → AnotherAgrees s (known folder made.set (candidates folder made.set extras)) (map_of.entries made.set.recovery) (all_slices s files)
+pub another_choice : RefusedRepairHasAChoice
 another_choice folder base extras purge files s m r made told bytes refused =
     let searched = candidates folder made.set extras in
     another_agrees s (known folder made.set searched) (map_of.entries made.set.recovery) (all_slices s files)

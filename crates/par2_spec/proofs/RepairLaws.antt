@@ -10,10 +10,10 @@ use Rattle.par2_spec.specs.Plans.{repair_changes, repair_removals}
 use Rattle.par2_spec.proofs.CommandLaws.{removals_lead}
 use Rattle.par2_spec.proofs.NamesLaws.{same_name, itself, clash, AreDistinct, among-filter, among-append, among_some, apart_by_test, distinct-map, distinct-filter, distinct_some, image_of, image_in, distinct-append, distinct_from_std}
 use Rattle.par2_spec.proofs.MovesLaws.{Move, CanMove, renames, sources, goals, arrived, renames_apply, renames_lead, writes_apply, writes_lead, get_put, get_laid, get_without, has_laid, has_without, has_by_names, laid_over-append, without-laid_over, without_without, same_without, removals_apply, names_once, all_laid}
-use Rattle.par2_spec.proofs.AsideLaws.{aside_out, aside_one, aside_no_target}
+use Rattle.par2_spec.proofs.AsideNames.{aside_out, aside_one, aside_no_target}
 use Rattle.par2_spec.proofs.ReadLaws.{each_there, candidates_there, sound_of}
 use Rattle.par2_spec.proofs.SearchLaws.{names_of_pairs, taken_was_free, taken_once}
-use Rattle.par2_spec.proofs.TestLaws.{same_tests, none_if, some_if}
+use Rattle.par2_spec.proofs.TestLaws.{by_either, same_tests, none_if, some_if}
 use Rattle.par2_spec.proofs.ListsLaws.{filter-map, map-cond}
 
 map_itself : (xs : List (List ℕ)) → map (λ x. x) xs ≡ xs
@@ -233,14 +233,12 @@ module _ (folder : Folder) (set : ParSet) (given : List (List ℕ)) (fits : Fits
     -- two matches stand at two places
     now_one : (a b : List ℕ) → is_among taken_names a ≡ true → is_among taken_names b ≡ true → now a ≡ now b → a ≡ b
     now_one a b i j e = elim (cases_Bool (is_among moved a)) as (λ _. a ≡ b) [
-      | inl h ↦ elim (cases_Bool (is_among moved b)) as (λ _. a ≡ b) [
-        | inl k ↦ free.aside_one a b (sym (now_moved a h) ∙ e ∙ now_moved b k)
-        | inr k ↦ absurd (clash (match_there b j) (subst (λ x. has folder x ≡ false) (sym (now_moved a h) ∙ e ∙ now_other b k) (free.aside_free a)))
-      ]
-      | inr h ↦ elim (cases_Bool (is_among moved b)) as (λ _. a ≡ b) [
-        | inl k ↦ absurd (clash (match_there a i) (subst (λ x. has folder x ≡ false) (sym (sym (now_other a h) ∙ e ∙ now_moved b k)) (free.aside_free b)))
-        | inr k ↦ sym (now_other a h) ∙ e ∙ now_other b k
-      ]
+      | inl h ↦ by_either (cases_Bool (is_among moved b))
+          (λ k. free.aside_one a b (sym (now_moved a h) ∙ e ∙ now_moved b k))
+          (λ k. absurd (clash (match_there b j) (subst (λ x. has folder x ≡ false) (sym (now_moved a h) ∙ e ∙ now_other b k) (free.aside_free a))))
+      | inr h ↦ by_either (cases_Bool (is_among moved b))
+          (λ k. absurd (clash (match_there a i) (subst (λ x. has folder x ≡ false) (sym (sym (now_other a h) ∙ e ∙ now_moved b k)) (free.aside_free b))))
+          (λ k. sym (now_other a h) ∙ e ∙ now_other b k)
     ]
 
     -- ---- first: the present needing targets are put aside
@@ -325,10 +323,9 @@ module _ (folder : Folder) (set : ParSet) (given : List (List ℕ)) (fits : Fits
         (λ h. subst (λ x. is_among (map now taken_names) x ≡ true) (now_moved n k) (image_in now taken_names n h))
       where
         from : (x : List ℕ) → is_among taken_names x ≡ true → off n ≡ now x → is_among taken_names n ≡ true
-        from x i e = elim (cases_Bool (is_among moved x)) as (λ _. is_among taken_names n ≡ true) [
-          | inl j ↦ subst (λ y. is_among taken_names y ≡ true) (sym (free.aside_one n x (e ∙ now_moved x j))) i
-          | inr j ↦ absurd (clash (match_there x i) (subst (λ y. has folder y ≡ false) (e ∙ now_other x j) (free.aside_free n)))
-        ]
+        from x i e = by_either (cases_Bool (is_among moved x))
+            (λ j. subst (λ y. is_among taken_names y ≡ true) (sym (free.aside_one n x (e ∙ now_moved x j))) i)
+            (λ j. absurd (clash (match_there x i) (subst (λ y. has folder y ≡ false) (e ∙ now_other x j) (free.aside_free n))))
 
     -- the asides that stay
     asides_left : (ns : List (List ℕ)) → ((n : List ℕ) → is_among ns n ≡ true → is_among moved n ≡ true) → filter (λ file. not (is_among (map now taken_names) file.0)) (put_under off folder ns) ≡ put_under off folder (filter (λ n. not (is_among taken_names n)) ns)
@@ -353,24 +350,21 @@ module _ (folder : Folder) (set : ParSet) (given : List (List ℕ)) (fits : Fits
         in_moved h = among-append (map now taken_names) moved q ∙ or_right _ _ h
 
         of_now : (x : List ℕ) → is_among taken_names x ≡ true → q ≡ now x → is_among taken_names q ≡ true
-        of_now x i e = elim (cases_Bool (is_among moved x)) as (λ _. is_among taken_names q ≡ true) [
-          | inl j ↦ absurd (clash k (subst (λ y. has folder y ≡ false) (sym (e ∙ now_moved x j)) (free.aside_free x)))
-          | inr j ↦ subst (λ y. is_among taken_names y ≡ true) (sym (e ∙ now_other x j)) i
-        ]
+        of_now x i e = by_either (cases_Bool (is_among moved x))
+            (λ j. absurd (clash k (subst (λ y. has folder y ≡ false) (sym (e ∙ now_moved x j)) (free.aside_free x))))
+            (λ j. subst (λ y. is_among taken_names y ≡ true) (sym (e ∙ now_other x j)) i)
 
         to : is_among (map now taken_names ++ moved) q ≡ true → is_among (map (λ m. m.0.name) (matches folder set given) ++ taken_names) q ≡ true
-        to h = elim (or_cases (is_among (map now taken_names) q) (is_among moved q) (sym (among-append (map now taken_names) moved q) ∙ h)) as (λ _. is_among (map (λ m. m.0.name) (matches folder set given) ++ taken_names) q ≡ true) [
-          | inl i ↦ let r = image_of now taken_names q i in in_taken (of_now r.0 r.1 r.2)
-          | inr i ↦ in_goals (moved_wanted q i)
-        ]
+        to h = by_either (or_cases (is_among (map now taken_names) q) (is_among moved q) (sym (among-append (map now taken_names) moved q) ∙ h))
+            (λ i. let r = image_of now taken_names q i in in_taken (of_now r.0 r.1 r.2))
+            (λ i. in_goals (moved_wanted q i))
 
         from : is_among (map (λ m. m.0.name) (matches folder set given) ++ taken_names) q ≡ true → is_among (map now taken_names ++ moved) q ≡ true
         from h = elim (or_cases (is_among (map (λ m. m.0.name) (matches folder set given)) q) (is_among taken_names q) (sym (among-append (map (λ m. m.0.name) (matches folder set given)) taken_names q) ∙ h)) as (λ _. is_among (map now taken_names ++ moved) q ≡ true) [
           | inl i ↦ in_moved (wanted_moved q (subst (λ ns. is_among ns q ≡ true) heads i) k)
-          | inr i ↦ elim (cases_Bool (is_among moved q)) as (λ _. is_among (map now taken_names ++ moved) q ≡ true) [
-            | inl j ↦ in_moved j
-            | inr j ↦ among-append (map now taken_names) moved q ∙ or_left _ _ (subst (λ x. is_among (map now taken_names) x ≡ true) (now_other q j) (image_in now taken_names q i))
-          ]
+          | inr i ↦ by_either (cases_Bool (is_among moved q))
+              (λ j. in_moved j)
+              (λ j. among-append (map now taken_names) moved q ∙ or_left _ _ (subst (λ x. is_among (map now taken_names) x ≡ true) (now_other q j) (image_in now taken_names q i)))
         ]
 
     left_over : without (map now taken_names) cleared ≡ laid_over (aside_files folder set taken_names) (without (map (λ m. m.0.name) (matches folder set given) ++ taken_names) folder)
@@ -538,10 +532,9 @@ module _ (folder : Folder) (set : ParSet) (given : List (List ℕ)) (fits : Fits
         was_par i = false_from_ne_true (is_among taken_names q) (λ j. clash k (par_taken q i j))
 
         from : is_among (map off moved ++ par_files folder set) q ≡ true → is_among (map off left ++ par_left) q ≡ true
-        from h = elim (or_cases (is_among (map off moved) q) (is_among (par_files folder set) q) (sym (among-append (map off moved) (par_files folder set) q) ∙ h)) as (λ _. is_among (map off left ++ par_left) q ≡ true) [
-          | inl i ↦ let r = image_of off moved q i in among-append (map off left) par_left q ∙ or_left _ _ (was_aside r.0 r.2)
-          | inr i ↦ among-append (map off left) par_left q ∙ or_right _ _ (par_left_is q ∙ and_from _ _ i (not_from_false _ (was_par i)))
-        ]
+        from h = by_either (or_cases (is_among (map off moved) q) (is_among (par_files folder set) q) (sym (among-append (map off moved) (par_files folder set) q) ∙ h))
+            (λ i. let r = image_of off moved q i in among-append (map off left) par_left q ∙ or_left _ _ (was_aside r.0 r.2))
+            (λ i. among-append (map off left) par_left q ∙ or_right _ _ (par_left_is q ∙ and_from _ _ i (not_from_false _ (was_par i))))
 
     removed_there : (q : List ℕ) → is_among (map off left ++ par_left) q ≡ true → has (after_repair folder set given) q ≡ true
     removed_there q h = elim (or_cases (is_among (map off left) q) (is_among par_left q) (sym (among-append (map off left) par_left q) ∙ h)) as (λ _. has (after_repair folder set given) q ≡ true) [

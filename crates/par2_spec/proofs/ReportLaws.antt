@@ -79,9 +79,8 @@ matched_count folder s free (t ∷ ts) =
 -- the answers of the pairs
 second_of_pairs : (ts : List Target) (given : List (Option (List ℕ))) → length given ≡ length ts → map (λ m. m.1) (zip ts given) ≡ given
 second_of_pairs [] [] e = refl
-second_of_pairs [] (o ∷ given) e = absurd (omega (arith, e))
-second_of_pairs (t ∷ ts) [] e = absurd (omega (arith, e))
 second_of_pairs (t ∷ ts) (o ∷ given) e = ap (λ os. o ∷ os) (second_of_pairs ts given (omega (arith, e)))
+second_of_pairs ts given e = absurd (omega (arith, e))
 
 pub states_follow : (folder : Folder) (set : ParSet) (searched : List (List ℕ)) → IsSound set → StatesFollow folder set searched
 unfolding state_of matches

@@ -1,5 +1,5 @@
 -- The slices of a file give the file back, and those of the files that a set was made from are rebuilt.
-use Rattle.par2_spec.proofs.Common.{◌≡◌, ℕ, zero, suc, ◌+◌, ◌-◌, ◌*◌, ◌%◌, ◌<◌, ◌≤◌, List, [], ◌∷◌, ◌++◌, length, map, take, drop, refl, sym, ap, ◌∙◌, subst, true, Bool, arith, inl, inr, length-append, length-drop, flat_map, filter, find, zip, replicate, min, ◌==◌, Option, Some, range_with_len, list_any, concat, AllByRecursion, AllZip, ForSome, add-mul, drop-append_seam, take-append_seam, take-append-add, div_ceil_times, length-take, length-take-le, length-replicate, length-map, take_all, drop_all, take-append-drop, drop-drop, map-append, cases_lt, pair_of, slice_count, slice_at, slices, windows, is_match, found, window, recovery, Agrees, kept_slices, IsRepairable, kept, Folder, File, bytes_of, all_slices, Target, target_of_file, MadeFrom, all_pairs, lost, survivors, NoCollision, rebuilt, cut_into, files_of_slices}
+use Rattle.par2_spec.proofs.Common.{◌≡◌, ℕ, zero, suc, ◌+◌, ◌-◌, ◌*◌, ◌%◌, ◌<◌, ◌≤◌, List, [], ◌∷◌, ◌++◌, length, map, take, drop, refl, sym, ap, ◌∙◌, subst, true, Bool, arith, inl, inr, length-append, length-drop, flat_map, filter, find, zip, replicate, min, ◌==◌, Option, Some, range_with_len, list_any, concat, AllByRecursion, AllZip, ForSome, add-mul, drop-append_seam, take-append_seam, take-append-add, div_ceil_times, length-take, length-take-le, length-replicate, length-map, take_all, drop_all, take-append-drop, drop-drop, map-append, cases_lt, pair_of, slice_count, slice_at, slices, windows, is_match, found, window, recovery, Agrees, kept_slices, kept, Folder, File, bytes_of, all_slices, Target, target_of_file, MadeFrom, all_pairs, lost, survivors, NoCollision, cut_into, files_of_slices, TrueSlicesAreRebuilt}
 use Rattle.std.specs.FinMap as map_of
 use Rattle.std.proofs.Math.Nat.{zero-mul}
 use Rattle.std.proofs.lemmas.List.{append_assoc, append-nil}
@@ -182,8 +182,7 @@ fewer_agree s known rs slices p agrees = record {
 }
 
 -- so they are what is rebuilt
-pub true_slices_rebuilt : (folder : Folder) (base : List ℕ) (files : List File) (s : ℕ) (searched : List (List ℕ)) (m : MadeFrom folder base files s) → s % 2 ≡ 0 → NoCollision folder searched s (all_slices s files) → AllByRecursion (λ file. AreBytes file.1) files
-    → IsRepairable (lost (known folder m.set searched)) (survivors m.set) → rebuilt m.set (known folder m.set searched) ≡ all_slices s files
+pub true_slices_rebuilt : TrueSlicesAreRebuilt
 true_slices_rebuilt folder base files s searched m even told bytes repairable =
     rebuilt_is_only m.set (known folder m.set searched) (all_slices s files)
     (agreeing_is_rebuilt m.set (known folder m.set searched) (all_slices s files) (ap (λ n. n % 2) m.slice_size ∙ even) repairable

@@ -15,36 +15,33 @@ use Rattle.par2_spec.proofs.RankLaws.{independent-iff}
 use Rattle.par2_spec.proofs.UniqueLaws.{all_from_contains}
 use Rattle.par2_spec.proofs.FullRank.{full-iff}
 use Rattle.par2_spec.proofs.PolynomialLaws.{value-lt, some_polynomial}
+use Rattle.par2_spec.proofs.TestLaws.{by_either, by_test}
 
 -- ---- rows that a function gives
 
 row_same : (g h : ℕ → ℕ) → ((k : ℕ) → g k ≡ h k) → (ks v : List ℕ) → dot (map g ks) v ≡ dot (map h ks) v
 unfolding dot
-row_same g h same [] v = refl
-row_same g h same (k ∷ ks) [] = refl
 row_same g h same (k ∷ ks) (x ∷ v) = ap₂ bit_xor (ap (λ c. mul c x) (same k)) (row_same g h same ks v)
+row_same g h same ks v = refl
 
 row_none : (g : ℕ → ℕ) → ((k : ℕ) → g k ≡ 0) → (ks v : List ℕ) → dot (map g ks) v ≡ 0
 unfolding dot
-row_none g none [] v = refl
-row_none g none (k ∷ ks) [] = refl
 row_none g none (k ∷ ks) (x ∷ v) = ap₂ bit_xor (ap (λ c. mul c x) (none k) ∙ zero-product x) (row_none g none ks v)
+row_none g none ks v = refl
 
 row_xor : (g h : ℕ → ℕ) (ks v : List ℕ) → dot (map (λ k. bit_xor (g k) (h k)) ks) v ≡ bit_xor (dot (map g ks) v) (dot (map h ks) v)
 unfolding dot
-row_xor g h [] v = refl
-row_xor g h (k ∷ ks) [] = refl
 row_xor g h (k ∷ ks) (x ∷ v) =
     ap₂ bit_xor ((product_linear_left x).on_xor (g k) (h k)) (row_xor g h ks v)
     ∙ xor_middle (mul (g k) x) (mul (h k) x) (dot (map g ks) v) (dot (map h ks) v)
+row_xor g h ks v = refl
 
 row_times : (a : ℕ) (g : ℕ → ℕ) → a < 2 ^ 16 → ((k : ℕ) → g k < 2 ^ 16) → (ks v : List ℕ) → AreElements v → dot (map (λ k. mul a (g k)) ks) v ≡ mul a (dot (map g ks) v)
 unfolding dot
-row_times a g small fits [] v h = sym (product-zero a)
-row_times a g small fits (k ∷ ks) [] h = sym (product-zero a)
 row_times a g small fits (k ∷ ks) (x ∷ v) h =
     ap₂ bit_xor (product_assoc a (g k) x small (fits k) h.0) (row_times a g small fits ks v h.1)
     ∙ sym ((product_linear_right a).on_xor (mul (g k) x) (dot (map g ks) v))
+row_times a g small fits ks v h = sym (product-zero a)
 
 -- ---- what kills a vector together
 
@@ -89,11 +86,7 @@ is_one_at c z = cond (eqb z c) 1 0
 all_ones : (c : ℕ) (points : List ℕ) → AreElements (map (is_one_at c) points)
 unfolding is_one_at
 all_ones c [] = tt
-all_ones c (z ∷ points) = (step (eqb z c), all_ones c points)
-  where
-    step : (b : Bool) → cond b 1 0 < 2 ^ 16
-    step true = omega arith
-    step false = omega arith
+all_ones c (z ∷ points) = (by_test (eqb z c) (λ e. rw e (omega arith)) (λ e. rw e (omega arith)), all_ones c points)
 
 unit : (points : List ℕ) → ArePoints points → (c : ℕ) → (p : List ℕ) × Interpolates points (map (is_one_at c) points) p
 unit points are c = some_polynomial points (map (is_one_at c) points) are (length-map points (is_one_at c), all_ones c points)
@@ -126,10 +119,9 @@ points_are ks are = record {
 
 -- the constants of the slices at two places
 apart : (ks : List ℕ) → AreSlices ks → (i q : ℕ) → i < length ks → q < length ks → i ≢ q → constant (get_or ks i 0) ≢ constant (get_or ks q 0)
-apart ks are i q hi hq other = elim (cases_lt i q) [
-  | inl low ↦ constants_differ ks are i q low hq
-  | inr high ↦ (λ same. constants_differ ks are q i (omega (arith, high, other)) hi (sym same))
-]
+apart ks are i q hi hq other = by_either (cases_lt i q)
+    (λ low. constants_differ ks are i q low hq)
+    (λ high. (λ same. constants_differ ks are q i (omega (arith, high, other)) hi (sym same)))
 
 -- ---- a whole run
 
@@ -241,9 +233,8 @@ near_passes : (ks exponents : List ℕ) (e : ℕ) → AreSlices ks → e < e + l
 near_passes ks exponents e are some near = (independent-iff ks exponents e).1 (near_kept ks exponents e are some near)
 
 filter_passing : (p : ℕ → Bool) (n : ℕ) (xs : List ℕ) → AllByRecursion (λ x. p x ≡ true) (take n xs) → take n (filter p xs) ≡ take n xs
-filter_passing p zero xs h = refl
-filter_passing p (suc n) [] h = refl
 filter_passing p (suc n) (x ∷ xs) h = ap (λ b. take (suc n) (cond b (x ∷ filter p xs) (filter p xs))) h.0 ∙ ap (λ ys. x ∷ ys) (filter_passing p n xs h.1)
+filter_passing p n xs h = refl
 
 filter_all : (p : ℕ → Bool) (xs : List ℕ) → AllByRecursion (λ x. p x ≡ true) xs → filter p xs ≡ xs
 filter_all p [] h = refl

@@ -1,5 +1,6 @@
 -- A session is a history, and a kept session keeps its room.
-use Rattle.par2_spec.proofs.Common.{◌≡◌, ℕ, zero, suc, ◌+◌, ◌-◌, ◌≤◌, List, [], ◌∷◌, refl, sym, ap, ◌∙◌, subst, true, arith, Option, Some, None, Result, Ok, Err, replicate, sum_by, is_ok, AllByRecursion, and_parts, and_from, false≢true, sum_by-cons, drop-nil, Fault, Folder, Change, Write, Replace, Rename, Remove, state_after, effects, are_applicable, way_back, FolderState, takes_all, places_taken, Command, Create, Verify, Repair, Purge, Action, Do, Undo, Redo, refusal, after, changes_of, LeadsToAfter, LeadsToAfterAsked, History, Refusal, Refused, NothingToUndo, NothingToRedo, in_front, after_command, unless_refused, after_undo, after_redo, Run, Ended, Accepted, Passed, folders, IsChanging, Session, first_entry, changes_unless, others, session_unless, KeptSession, session_of_kept, CanWalk, OnlyGrew, is_valid}
+use Rattle.par2_spec.proofs.Common.{◌≡◌, ℕ, zero, suc, ◌+◌, ◌-◌, ◌≤◌, List, [], ◌∷◌, refl, sym, ap, ◌∙◌, subst, true, arith, Option, Some, None, Result, Ok, Err, replicate, sum_by, is_ok, AllByRecursion, and_parts, and_from, false≢true, sum_by-cons, drop-nil, Fault, Folder, Change, Write, Replace, Rename, Remove, state_after, effects, are_applicable, way_back, FolderState, takes_all, places_taken, Command, Create, Verify, Repair, Purge, Action, Do, Undo, Redo, refusal, after, changes_of, LeadsToAfter, LeadsToAfterAsked, Session, first_entry, changes_unless, others, session_unless, KeptSession, session_of_kept, CanWalk, OnlyGrew, is_valid}
+use Rattle.par2_spec.specs.History.{History, Refusal, Refused, NothingToUndo, NothingToRedo, in_front, after_command, unless_refused, after_undo, after_redo, Run, Ended, Accepted, Passed, folders, IsChanging}
 use Rattle.std.specs.Prelude.{drop, length}
 use Rattle.par2_spec.specs.Changes.{state_after_all}
 use Rattle.par2_spec.specs.History.{history_after}
@@ -143,17 +144,14 @@ put_in_front h next folder (Some fault) e = absurd (ok_no_err next (Refused faul
 changed_older : (h next : History) (action : Action) → IsChanging action → history_after h action ≡ Ok next → next.older ≡ h.now ∷ h.older
 unfolding history_after
 changed_older h next (Do (Create a)) is e = put_in_front h next (after h.now (Create a)) (refusal h.now (Create a)) e
-changed_older h next (Do (Verify base extras)) is e = absurd is
 changed_older h next (Do (Repair base extras purge)) is e = put_in_front h next (after h.now (Repair base extras purge)) (refusal h.now (Repair base extras purge)) e
 changed_older h next (Do (Purge base)) is e = put_in_front h next (after h.now (Purge base)) (refusal h.now (Purge base)) e
-changed_older h next Undo is e = absurd is
-changed_older h next Redo is e = absurd is
+changed_older h next action is e = absurd is
 
 drop_one_more : {A : Type 0} (n : ℕ) (xs : List A) (y : A) (ys : List A) → drop n xs ≡ y ∷ ys → drop (suc n) xs ≡ ys
-drop_one_more zero [] y ys e = absurd (let k : 0 ≡ suc (length ys) = ap length e in omega (arith, k))
 drop_one_more zero (x ∷ xs) y ys e = ap (drop 1) e
-drop_one_more (suc n) [] y ys e = absurd (let k : 0 ≡ suc (length ys) = ap length e in omega (arith, k))
 drop_one_more (suc n) (x ∷ xs) y ys e = drop_one_more n xs y ys e
+drop_one_more n xs y ys e = absurd (let k : 0 ≡ suc (length ys) = ap length e in omega (arith, k))
 
 -- n accepted ones left the n folders before them
 pub run_leaves : (start end : History) (actions : List Action) (n : ℕ) → Run start actions n end → AllByRecursion IsChanging actions → drop n (folders end) ≡ folders start
@@ -190,10 +188,8 @@ undos_lead_back start end actions n run is = undos_pass n end start.now start.ol
 
 pub done_of_kept : (s : KeptSession) (command : Command) (cs : List Change) → IsChanging (Do command) → session_of_kept (kept_done s cs) ≡ session_with (session_of_kept s) (Do command) cs
 unfolding kept_done session_with
-done_of_kept s (Create a) cs is = λ i. record { folder = state_files s.folder cs i; undos = way_back s.folder.files cs ∷ s.undos; redos = [] }
 done_of_kept s (Verify base extras) cs is = absurd is
-done_of_kept s (Repair base extras purge) cs is = λ i. record { folder = state_files s.folder cs i; undos = way_back s.folder.files cs ∷ s.undos; redos = [] }
-done_of_kept s (Purge base) cs is = λ i. record { folder = state_files s.folder cs i; undos = way_back s.folder.files cs ∷ s.undos; redos = [] }
+done_of_kept s command cs is = λ i. record { folder = state_files s.folder cs i; undos = way_back s.folder.files cs ∷ s.undos; redos = [] }
 
 pub undone_of_kept : (s : KeptSession) (cs : List Change) → session_of_kept (kept_undone s cs) ≡ session_with (session_of_kept s) Undo cs
 unfolding kept_undone session_with

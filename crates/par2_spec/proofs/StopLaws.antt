@@ -1,5 +1,8 @@
 -- Whatever a stopped command left, it opens as the session from before it.
-use Rattle.par2_spec.proofs.Common.{◌≡◌, ℕ, zero, suc, ◌+◌, ◌-◌, ◌<◌, ◌≤◌, List, [], ◌∷◌, ◌++◌, length, map, take, drop, get_or, refl, sym, ap, ◌∙◌, subst, cond, true, false, Bool, not, ◌&&◌, inl, arith, length-append, length-drop, IfSome, reverse, position, Option, Some, None, Result, Ok, Err, unwrap_or, is_some, if◌then◌else◌, AllByRecursion, position_from, bytes_eq, drop-append_seam, take-append_seam, reverse-reverse, reverse-append, length-reverse, get_or-reverse, get_or-map, take-append-drop, length-map, length-take-le, take-map, take-take, get_or-take, drop-drop, reverse_onto, and_parts, and_from, false≢true, position_from-zero, Version, One, Two, Folder, fingerprint, Change, effect, inverse, is_applicable, Session, Journal, HalfwayPart, IsHalfwayPart, IsJournal, Spells, session_of, is_valid, Opened, Settled, Halfway, opened_if_found, opened_by_part, TellsApart, session_of_opened, kept_in}
+use Rattle.par2_spec.proofs.Common.{◌≡◌, ℕ, zero, suc, ◌+◌, ◌-◌, ◌<◌, ◌≤◌, List, [], ◌∷◌, ◌++◌, length, map, take, drop, get_or, refl, sym, ap, ◌∙◌, subst, cond, true, false, Bool, not, ◌&&◌, inl, arith, length-append, length-drop, IfSome, reverse, position, Option, Some, None, Result, Ok, Err, unwrap_or, is_some, if◌then◌else◌, AllByRecursion, position_from, bytes_eq, drop-append_seam, take-append_seam, reverse-reverse, reverse-append, length-reverse, get_or-reverse, get_or-map, take-append-drop, length-map, length-take-le, take-map, take-take, get_or-take, drop-drop, reverse_onto, and_parts, and_from, false≢true, position_from-zero, Folder, fingerprint, Change, effect, inverse, is_applicable, Session, session_of, is_valid, Opened, Settled, Halfway, opened_if_found, opened_by_part, TellsApart, session_of_opened, kept_in, HalfwayJournalOpensAsBefore, HalfwayTextOpensAsBefore, HalfwayJournalStillOpens, HalfwayTextStillOpens}
+use Rattle.par2_spec.specs.declared.Version.{Version}
+use Rattle.par2_spec.specs.declared.Version.TheVariants.{One, Two}
+use Rattle.par2_spec.specs.Journals.{Journal, HalfwayPart, IsHalfwayPart, Spells}
 use Rattle.std.proofs.lemmas.List.{append-nil}
 use Rattle.par2_spec.specs.declared.JournalFault.{JournalFault}
 use Rattle.par2_spec.specs.declared.JournalFault.TheVariants.{JournalInvalid, FolderChanged}
@@ -8,6 +11,7 @@ use Rattle.par2_spec.specs.Opening.{settled_journal, halfway_journal, leads, lea
 use Rattle.par2_spec.proofs.FolderLaws.{undo_changes, undo_change, undo_is_applicable, effects-append, way_back-append}
 use Rattle.par2_spec.proofs.NamesLaws.{itself, same_name}
 use Rattle.par2_spec.proofs.ListsLaws.{all_get}
+use Rattle.par2_spec.proofs.TestLaws.{by_test}
 
 -- ---- places in a list
 
@@ -31,17 +35,9 @@ least_place q all n lt here =
 -- what stands at the place that was found
 at_place : (q : List ℕ) (i : ℕ) (all : List (List ℕ)) (k : ℕ) → position_from (bytes_eq q) i all ≡ Some k → (n : ℕ) × (k ≡ i + n) × (n < length all) × (get_or all n q ≡ q)
 at_place q i [] k h = absurd (false≢true (ap is_some h))
-at_place q i (x ∷ all) k h = step (bytes_eq q x) refl h (at_place q (i + 1) all k)
-  where
-    step : (b : Bool) → bytes_eq q x ≡ b → cond b (Some i) (position_from (bytes_eq q) (i + 1) all) ≡ Some k
-        → (position_from (bytes_eq q) (i + 1) all ≡ Some k → (n : ℕ) × (k ≡ (i + 1) + n) × (n < length all) × (get_or all n q ≡ q))
-        → (n : ℕ) × (k ≡ i + n) × (n < length (x ∷ all)) × (get_or (x ∷ all) n q ≡ q)
-    step true e j later = let same : i ≡ k = ap (λ o. unwrap_or o i) j in (0, omega (arith, same), omega arith, sym (same_name q x e))
-    step false e j later =
-        let r = later j in
-        let z : k ≡ (i + 1) + r.0 = r.1 in
-        let l : r.0 < length all = r.2 in
-        (suc r.0, omega (arith, z), omega (arith, l), r.3)
+at_place q i (x ∷ all) k h = by_test (bytes_eq q x)
+    (λ e. let same : i ≡ k = ap (λ o. unwrap_or o i) (rw e at h) in (0, omega (arith, same), omega arith, sym (same_name q x e)))
+    (λ e. let r = (at_place q (i + 1) all k) (rw e at h) in let z : k ≡ (i + 1) + r.0 = r.1 in let l : r.0 < length all = r.2 in (suc r.0, omega (arith, z), omega (arith, l), r.3))
 
 -- ---- the folders that changes pass through
 
@@ -55,10 +51,9 @@ length-passed folder (c ∷ cs) = let e : length (passed (effect folder c) cs) �
 
 passed_at : (folder : Folder) (cs : List Change) (j : ℕ) (d : Folder) → j ≤ length cs → get_or (passed folder cs) j d ≡ effects folder (take j cs)
 unfolding folders_after effects
-passed_at folder [] zero d le = refl
-passed_at folder (c ∷ cs) zero d le = refl
 passed_at folder [] (suc j) d le = absurd (omega (arith, le))
 passed_at folder (c ∷ cs) (suc j) d le = passed_at (effect folder c) cs j d (omega (arith, le))
+passed_at folder cs j d le = refl
 
 -- told apart, two folders of one fingerprint are one
 one_folder : (folder : Folder) (cs : List Change) (a b : ℕ) → TellsApart folder cs → a ≤ length cs → b ≤ length cs → fingerprint (effects folder (take a cs)) ≡ fingerprint (effects folder (take b cs)) → effects folder (take a cs) ≡ effects folder (take b cs)
@@ -110,11 +105,10 @@ length-befores folder (c ∷ cs) = ap suc (length-befores (effect folder c) cs)
 through-append : (folder : Folder) (cs ds : List Change) (ps qs : List (List ℕ)) → length ps ≡ length cs → leads_through folder cs ps ≡ true → leads_through (effects folder cs) ds qs ≡ true → leads_through folder (cs ++ ds) (ps ++ qs) ≡ true
 unfolding leads_through effects
 through-append folder [] ds [] qs e h k = k
-through-append folder [] ds (p ∷ ps) qs e h k = absurd (omega (arith, e))
-through-append folder (c ∷ cs) ds [] qs e h k = absurd (omega (arith, e))
 through-append folder (c ∷ cs) ds (p ∷ ps) qs e h k =
     let r = and_parts (is_applicable folder c && bytes_eq (fingerprint (effect folder c)) p) (leads_through (effect folder c) cs ps) h in
     and_from _ _ r.0 (through-append (effect folder c) cs ds ps qs (omega (arith, e)) r.1 k)
+through-append folder cs ds ps qs e h k = absurd (omega (arith, e))
 
 -- the way back leads through the folders before each change, the last one first
 way_back_through : (folder : Folder) (cs : List Change) → are_applicable folder cs ≡ true → leads_through (effects folder cs) (way_back folder cs) (reverse (map fingerprint (befores folder cs))) ≡ true
@@ -219,8 +213,7 @@ taken_from v s cs k valid applies le =
     ∙ ap (λ b. decided b (kept_in v s) back) (kept_is_valid v s valid)
 
 -- the halfway journal of a command opens each folder that the command passes through as the session from before it
-pub halfway_opens : (v : Version) (s : Session) (cs : List Change) (j : ℕ) → is_valid s ≡ true → are_applicable s.folder cs ≡ true → TellsApart s.folder cs → j ≤ length cs
-    → (back : List Change) × (opened (effects s.folder (take j cs)) (halfway_journal v s cs) ≡ Ok (Halfway (kept_in v s) back))
+pub halfway_opens : HalfwayJournalOpensAsBefore
 unfolding opened halfway_journal
 halfway_opens v s cs j valid applies apart le =
     let journal = halfway_journal v s cs in
@@ -245,9 +238,8 @@ halfway_opens v s cs j valid applies apart le =
 
 -- what is to be taken back, where it is
 back_of : Result Opened JournalFault → Option (List Change)
-back_of (Ok (Settled s)) = None
 back_of (Ok (Halfway s back)) = Some back
-back_of (Err fault) = None
+back_of s = None
 
 session_or : Session → Result Opened JournalFault → Session
 session_or other (Ok (Settled s)) = s
@@ -313,11 +305,9 @@ takes_back folder journal s back e = by_halfway journal.halfway refl e
 
     by_print : (b : Bool) → (if not b then Err (FolderChanged false) else if is_valid (session_of folder journal) then Ok (Settled (session_of folder journal)) else Err JournalInvalid) ≡ Ok (Halfway s back) → TakesBack folder journal s back
     by_print false j = absurd (settled_is (Err (FolderChanged false)) s back refl j)
-    by_print true j = by_valid (is_valid (session_of folder journal)) j
-      where
-        by_valid : (b : Bool) → (if b then Ok (Settled (session_of folder journal)) else Err JournalInvalid) ≡ Ok (Halfway s back) → TakesBack folder journal s back
-        by_valid false k = absurd (settled_is (Err JournalInvalid) s back refl k)
-        by_valid true k = absurd (settled_is (Ok (Settled (session_of folder journal))) s back refl k)
+    by_print true j = by_test (is_valid (session_of folder journal))
+        (λ e. absurd (settled_is (Ok (Settled (session_of folder journal))) s back refl (rw e at j)))
+        (λ e. absurd (settled_is (Err JournalInvalid) s back refl (rw e at j)))
 
     by_halfway : (o : Option HalfwayPart) → journal.halfway ≡ o → opened_by_part folder journal o ≡ Ok (Halfway s back) → TakesBack folder journal s back
     by_halfway None i j = by_print (bytes_eq (fingerprint folder) journal.fingerprint) j
@@ -423,8 +413,7 @@ still_taken journal folder h s back k i each lt here last through session valid 
     )
 
 -- where a halfway journal opens a folder, it opens each folder that the way back passes through as that session too
-pub still_opens : (journal : Journal) (folder : Folder) (s : Session) (back : List Change) (i : ℕ) → IsJournal journal → opened folder journal ≡ Ok (Halfway s back) → TellsApart folder back → i ≤ length back
-    → (rest : List Change) × (opened (effects folder (take i back)) journal ≡ Ok (Halfway s rest))
+pub still_opens : HalfwayJournalStillOpens
 unfolding opened
 still_opens journal folder s back i is e apart le =
     let t = takes_back folder journal s back e in
@@ -453,14 +442,12 @@ stored_opens folder text journal o spells e = (Ok o, inl (journal, spells, sym e
 pub settled_stored : (v : Version) (s : Session) (text : List ℕ) → is_valid s ≡ true → Spells text (settled_journal v s) → OpensAs s.folder (Some text) (Ok (record { session = kept_in v s; dropped = false }))
 settled_stored v s text valid spells = stored_opens s.folder text (settled_journal v s) (Settled (kept_in v s)) spells (settled_opens v s valid)
 
-pub halfway_stored : (v : Version) (s : Session) (cs : List Change) (j : ℕ) (text : List ℕ) → is_valid s ≡ true → are_applicable s.folder cs ≡ true → TellsApart s.folder cs → j ≤ length cs → Spells text (halfway_journal v s cs)
-    → OpensAs (effects s.folder (take j cs)) (Some text) (Ok (record { session = kept_in v s; dropped = false }))
+pub halfway_stored : HalfwayTextOpensAsBefore
 halfway_stored v s cs j text valid applies apart le spells =
     let r = halfway_opens v s cs j valid applies apart le in
     stored_opens (effects s.folder (take j cs)) text (halfway_journal v s cs) (Halfway (kept_in v s) r.0) spells r.1
 
-pub still_stored : (journal : Journal) (folder : Folder) (s : Session) (back : List Change) (i : ℕ) (text : List ℕ) → Spells text journal → opened folder journal ≡ Ok (Halfway s back) → TellsApart folder back → i ≤ length back
-    → OpensAs (effects folder (take i back)) (Some text) (Ok (record { session = s; dropped = false }))
+pub still_stored : HalfwayTextStillOpens
 still_stored journal folder s back i text spells e apart le =
     let r = still_opens journal folder s back i spells.0 e apart le in
     stored_opens (effects folder (take i back)) text journal (Halfway s r.0) spells r.1

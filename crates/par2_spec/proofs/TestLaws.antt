@@ -1,5 +1,5 @@
 -- What holds of tests, of results and of options.
-use Rattle.par2_spec.proofs.Common.{◌≡◌, refl, sym, ap, ◌∙◌, subst, T, true, false, Bool, ◌&&◌, ℕ, ◌+◌, List, [], ◌∷◌, cond, not, Option, Some, None, is_some, is_none, unwrap_or, Result, Err, position, option_map, option_or, AllByRecursion, position_from, false≢true, none-some, position_from-zero, fault_where, first_fault, fault_at}
+use Rattle.par2_spec.proofs.Common.{◌≡◌, ◌⊎◌, inl, inr, refl, sym, ap, ◌∙◌, subst, T, true, false, Bool, ◌&&◌, ℕ, ◌+◌, List, [], ◌∷◌, cond, not, Option, Some, None, is_some, is_none, unwrap_or, Result, Err, position, option_map, option_or, AllByRecursion, position_from, false≢true, none-some, position_from-zero, fault_where, first_fault, fault_at}
 
 -- ---- tests
 
@@ -23,6 +23,15 @@ T-parts false b h = absurd h
 pub cond-not : {A : Type 0} (b : Bool) (x y : A) → cond (not b) x y ≡ cond b y x
 cond-not true x y = refl
 cond-not false x y = refl
+
+-- by the two values of a test, and by the one that holds of two
+pub by_test : {C : Type 0} (b : Bool) → (b ≡ true → C) → (b ≡ false → C) → C
+by_test true f g = f refl
+by_test false f g = g refl
+
+pub by_either : {A B C : Type 0} → A ⊎ B → (A → C) → (B → C) → C
+by_either (inl a) f g = f a
+by_either (inr b) f g = g b
 
 -- ---- options
 
@@ -61,11 +70,7 @@ all_none (Some fault ∷ os) h = absurd (none-some fault (sym h))
 -- where no place is found, nothing passes
 pub no_place : {A : Type 0} (test : A → Bool) (n : ℕ) (xs : List A) → position_from test n xs ≡ None → AllByRecursion (λ x. test x ≡ false) xs
 no_place test n [] h = tt
-no_place {A = A} test n (x ∷ xs) h = step (test x) refl h (no_place test (n + 1) xs)
-  where
-    step : (b : Bool) → test x ≡ b → cond b (Some n) (position_from test (n + 1) xs) ≡ None → (position_from test (n + 1) xs ≡ None → AllByRecursion (λ y. test y ≡ false) xs) → AllByRecursion (λ y. test y ≡ false) (x ∷ xs)
-    step true e k later = absurd (none-some n (sym k))
-    step false e k later = (e, later k)
+no_place {A = A} test n (x ∷ xs) h = by_test (test x) (λ e. absurd (none-some n (sym (rw e at h)))) (λ e. (e, (no_place test (n + 1) xs) (rw e at h)))
 
 pub at_none : {A F : Type 0} (n : ℕ) (fault : ℕ → F) (test : A → Bool) (xs : List A) → fault_at n fault test xs ≡ None → AllByRecursion (λ x. test x ≡ false) xs
 at_none n fault test xs h = no_place test 0 xs (sym (position_from-zero test xs) ∙ unmapped (position test xs) h)

@@ -1,5 +1,6 @@
 -- Where the lost slices are determined, one list alone agrees.
-use Rattle.par2_spec.proofs.Common.{◌≡◌, ℕ, zero, suc, ◌+◌, ◌/◌, ◌%◌, ◌^◌, ◌<◌, ◌≤◌, List, [], ◌∷◌, length, map, take, drop, get_or, refl, sym, ap, ◌∙◌, subst, cond, true, false, Bool, arith, inl, inr, bit_xor, flat_map, filter, slice_index, ◌==◌, Option, Some, None, is_none, w16, to_le_bytes, from_le_bytes, xor_self, range_with_len, enumerate_from, list_any, AllByRecursion, AllZip, Contains, ForSome, xor_lt, from_le_bytes-to_le_bytes_2, length-map, or_left, or_right, eq-eqb, cases_eq, AllZip-long, mul, word, coefficients, kept, IsVector, Kills, IsRepairable, Agrees, kept_slices, IsRebuilt, AreElements, ParSet, lost, survivors}
+use Rattle.par2_spec.proofs.Common.{◌≡◌, ℕ, zero, suc, ◌+◌, ◌/◌, ◌%◌, ◌^◌, ◌<◌, ◌≤◌, List, [], ◌∷◌, length, map, take, drop, get_or, refl, sym, ap, ◌∙◌, subst, cond, true, false, Bool, arith, inl, inr, flat_map, filter, slice_index, ◌==◌, Option, Some, None, is_none, w16, to_le_bytes, from_le_bytes, xor_self, range_with_len, enumerate_from, list_any, AllByRecursion, AllZip, Contains, ForSome, xor_lt, from_le_bytes-to_le_bytes_2, length-map, or_left, or_right, eq-eqb, cases_eq, AllZip-long, mul, word, coefficients, kept, IsVector, Kills, IsRepairable, Agrees, kept_slices, IsRebuilt, AreElements, ParSet, lost, survivors, AgreeingListsAreOne}
+use Rattle.std.specs.Prelude.{bit_xor}
 use Rattle.std.specs.FinMap as map_of
 use Rattle.par2_spec.specs.Field.{coefficient}
 use Rattle.par2_spec.specs.Recovery.{dot, combination, recovery}
@@ -23,20 +24,18 @@ sums (x ∷ u) (y ∷ v) = bit_xor x y ∷ sums u v
 
 pub dot-sums : (row u v : List ℕ) → length u ≡ length v → dot row (sums u v) ≡ bit_xor (dot row u) (dot row v)
 unfolding dot
-dot-sums [] u v e = refl
-dot-sums (c ∷ row) [] [] e = refl
 dot-sums (c ∷ row) [] (y ∷ v) e = absurd (omega (arith, e))
 dot-sums (c ∷ row) (x ∷ u) [] e = absurd (omega (arith, e))
 dot-sums (c ∷ row) (x ∷ u) (y ∷ v) e =
     ap (λ t. bit_xor t (dot row (sums u v))) ((product_linear_right c).on_xor x y)
     ∙ ap (bit_xor (bit_xor (mul c x) (mul c y))) (dot-sums row u v (omega (arith, e)))
     ∙ xor_middle (mul c x) (mul c y) (dot row u) (dot row v)
+dot-sums row u v e = refl
 
 pub dot-lt : (row v : List ℕ) → AreElements row → AreElements v → dot row v < 2 ^ 16
 unfolding dot
-dot-lt [] v h k = omega arith
-dot-lt (c ∷ row) [] h k = omega arith
 dot-lt (c ∷ row) (x ∷ v) h k = xor_lt 16 (mul c x) (dot row v) (product-lt c x h.0 k.0) (dot-lt row v h.1 k.1)
+dot-lt row v h k = omega arith
 
 pub coefficients_are : (e : ℕ) (is : List ℕ) → AreElements (coefficients is e)
 unfolding coefficient
@@ -136,26 +135,23 @@ all_zero (Some y ∷ ks) (x ∷ d) z h = (z.0, all_zero ks d z.1 h)
 
 pub no_difference : (u v : List ℕ) → length u ≡ length v → AllByRecursion (λ x. x ≡ 0) (sums u v) → u ≡ v
 no_difference [] [] e h = refl
-no_difference [] (y ∷ v) e h = absurd (omega (arith, e))
-no_difference (x ∷ u) [] e h = absurd (omega (arith, e))
 no_difference (x ∷ u) (y ∷ v) e h = ap (λ z. z ∷ u) (xor_same x y h.0) ∙ ap (λ w. y ∷ w) (no_difference u v (omega (arith, e)) h.1)
+no_difference u v e h = absurd (omega (arith, e))
 
 pub sums-elements : (u v : List ℕ) → AreElements u → AreElements v → AreElements (sums u v)
-sums-elements [] v h k = tt
-sums-elements (x ∷ u) [] h k = tt
 sums-elements (x ∷ u) (y ∷ v) h k = (xor_lt 16 x y h.0 k.0, sums-elements u v h.1 k.1)
+sums-elements u v h k = tt
 
 -- two lists that agree with the known slices do not differ there
 zero_at_known : (ks : List (Option (List ℕ))) (a b : List (List ℕ)) (p : ℕ) → AllZip (λ slice text. ForSome slice (λ found. text ≡ found)) ks a → AllZip (λ slice text. ForSome slice (λ found. text ≡ found)) ks b
     → IsZeroAtKnown ks (sums (map (word p) a) (map (word p) b))
 zero_at_known [] [] [] p h k = tt
 zero_at_known [] [] (y ∷ b) p h k = absurd k
-zero_at_known [] (x ∷ a) b p h k = absurd h
-zero_at_known (o ∷ ks) [] b p h k = absurd h
 zero_at_known (o ∷ ks) (x ∷ a) [] p h k = absurd k
 zero_at_known (None ∷ ks) (x ∷ a) (y ∷ b) p h k = zero_at_known ks a b p h.1 k.1
 zero_at_known (Some z ∷ ks) (x ∷ a) (y ∷ b) p h k =
     (ap (λ t. bit_xor (word p t) (word p y)) (h.0 z refl) ∙ ap (λ t. bit_xor (word p z) (word p t)) (k.0 z refl) ∙ xor_self (word p z), zero_at_known ks a b p h.1 k.1)
+zero_at_known ks a b p h k = absurd h
 
 -- ---- what all kept exponents kill, all survivors kill
 
@@ -206,14 +202,12 @@ both_recovered s a b rs h k = all-both (λ r. recovery s a r.0 ≡ r.1) (λ r. r
 all_same : (s : ℕ) (a b : List (List ℕ)) → s % 2 ≡ 0 → length a ≡ length b → AllByRecursion (λ text. length text ≡ s) a → AllByRecursion (λ text. length text ≡ s) b → AreTexts a → AreTexts b
     → ((p : ℕ) → p < s / 2 → map (word p) a ≡ map (word p) b) → a ≡ b
 all_same s [] [] even e la lb ha hb same = refl
-all_same s [] (y ∷ b) even e la lb ha hb same = absurd (omega (arith, e))
-all_same s (x ∷ a) [] even e la lb ha hb same = absurd (omega (arith, e))
 all_same s (x ∷ a) (y ∷ b) even e la lb ha hb same =
     ap (λ z. z ∷ a) (same_words s x y even la.0 lb.0 ha.0 hb.0 (λ p lt. ap (λ ws. slice_index ws 0) (same p lt)))
     ∙ ap (λ zs. y ∷ zs) (all_same s a b even (omega (arith, e)) la.1 lb.1 ha.1 hb.1 (λ p lt. ap (drop 1) (same p lt)))
+all_same s a b even e la lb ha hb same = absurd (omega (arith, e))
 
-pub agreeing_are_one : (s : ℕ) (known : List (Option (List ℕ))) (rs : List (ℕ × List ℕ)) (a b : List (List ℕ)) → s % 2 ≡ 0 → IsRepairable (lost known) (map (λ r. r.0) rs)
-    → Agrees s known (kept_slices (lost known) (map (λ r. r.0) rs) rs) a → Agrees s known (kept_slices (lost known) (map (λ r. r.0) rs) rs) b → a ≡ b
+pub agreeing_are_one : AgreeingListsAreOne
 agreeing_are_one s known rs a b even repairable ga gb =
     let long_a : length a ≡ length known = AllZip-long (λ slice text. ForSome slice (λ found. text ≡ found)) known a ga.as_known in
     let long_b : length b ≡ length known = AllZip-long (λ slice text. ForSome slice (λ found. text ≡ found)) known b gb.as_known in

@@ -1,6 +1,6 @@
 -- The verdict on what a verify reports, by the words.
-use Rattle.par2_spec.proofs.Common.{◌≡◌, ◌+◌, ℕ, List, [], ◌∷◌, T, length, map, refl, sym, ap, ◌∙◌, subst, Bool, true, false, not, cond, ◌&&◌, ◌↔◌, ◌==◌, nat_lt, Option, Some, None, Result, Ok, Err, filter, is_some, is_none, if◌then◌else◌, bytes_eq, md5, nat_cmp, is_lt, entries_sorted, is_sorted, below_all, list_all, list_any, enumerate_from, AllByRecursion, IsStrictlyIncreasing, eqb-true, eq-eqb, false≢true, not-true, false_from_ne_true, IsStrictlyIncreasing-from_sorted, Fault, NotRepairable, NameTooLong, RepairFailed, first_fault, fault_where, then_fault, Folder, has, bytes_of, ParSet, Target, set_of, all_pairs, ◌>>=◌, found, is_needing, needing, matches, match_of, lost, survivors, candidates, is_repairable, IsRepairable, rank, aside, put_aside, rebuilt_targets, Repair, set_in, State, Report, is_complete, needing_state, found_of, verdict_of, IsFound, IsVerdict, IsVerdictIn, RefusedAsReported}
-use Rattle.std.proofs.Common.{Ordering, Less, Equal, Greater}
+use Rattle.par2_spec.proofs.Common.{◌≡◌, ◌+◌, ℕ, List, [], ◌∷◌, T, length, map, refl, sym, ap, ◌∙◌, subst, Bool, true, false, not, cond, ◌&&◌, ◌↔◌, ◌==◌, nat_lt, Option, Some, None, Result, Ok, Err, filter, is_some, is_none, if◌then◌else◌, bytes_eq, md5, nat_cmp, is_lt, entries_sorted, is_sorted, below_all, list_all, list_any, enumerate_from, AllByRecursion, IsStrictlyIncreasing, eqb-true, eq-eqb, false≢true, not-true, false_from_ne_true, IsStrictlyIncreasing-from_sorted, Fault, NotRepairable, NameTooLong, RepairFailed, first_fault, fault_where, then_fault, Folder, has, bytes_of, ParSet, Target, set_of, all_pairs, ◌>>=◌, found, is_needing, needing, matches, match_of, lost, survivors, candidates, is_repairable, IsRepairable, rank, aside, put_aside, rebuilt_targets, Repair, set_in, Report, is_complete, needing_state, found_of, verdict_of, IsFound, IsVerdict, IsVerdictIn, RefusedAsReported}
+use Rattle.std.proofs.Common.{Ordering, Less}
 use Rattle.std.specs.FinMap as map_of
 use Rattle.std.specs.List.Sorted.{IsStrictlySortedBy}
 use Rattle.par2_spec.specs.declared.Verdict.{Verdict}
@@ -29,8 +29,7 @@ below_keys k (e ∷ es) h = let r = T-parts _ _ h in (less (nat_cmp k e.0) r.0, 
   where
     less : (o : Ordering) → T (is_lt o) → o ≡ Less
     less Less t = refl
-    less Equal t = absurd t
-    less Greater t = absurd t
+    less o t = absurd t
 
 sorted_keys : {X : Type 0} (es : List (ℕ × X)) → T (is_sorted nat_cmp es) → IsStrictlySortedBy nat_cmp (map (λ e. e.0) es)
 unfolding IsStrictlySortedBy

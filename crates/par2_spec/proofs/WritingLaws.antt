@@ -1,9 +1,9 @@
 -- Texts that are written one after the other.
-use Rattle.par2_spec.proofs.Common.{◌≡◌, ◌∙◌, ◌++◌, map, ◌+◌, ◌-◌, ◌<◌, ℕ, suc, List, [], ◌∷◌, refl, take, drop, length, ap, sym, subst, append-nil, append_assoc, length-drop, length-append, arith, take-append_seam, take-append-add, drop-cons, take-append-drop, take-append-le, take_all, take_more, flat_map-append, flat_map-map}
+use Rattle.par2_spec.proofs.Common.{◌≡◌, ◌∙◌, ◌++◌, map, ◌+◌, ◌-◌, ◌<◌, ℕ, suc, List, [], ◌∷◌, take, drop, length, ap, sym, subst, append-nil, append_assoc, length-drop, length-append, arith, take-append_seam, take-append-add, drop-cons, take-append-drop, take-append-le, take_all, take_more, flat_map-append, flat_map-map}
 use Rattle.std.proofs.Common.{Option, Result, Ok, Err}
 use Rattle.std.specs.Io.KnownBytes.{Appends}
 use Rattle.std.proofs.Math.ListN.{get_or}
-use Rattle.std.proofs.KnownBytes.{Appends-trans, Appends-nil}
+use Rattle.std.proofs.KnownBytes.{Appends-trans}
 use Rattle.std.specs.List.{flat_map}
 use Rattle.par2_spec.specs.Writing.{Writer, TookAll, TookPart, Wrote}
 
@@ -14,10 +14,6 @@ part a b c sent rest text is more p q =
     let seam : sent ++ [] ≡ take (length sent) text = append-nil sent ∙ sym (take-append_seam sent rest) ∙ ap (take (length sent)) (sym is) in
     let size : length text ≡ length sent + length rest = ap length is ∙ length-append sent rest in
     (length sent, omega (arith, size, more), subst (Appends a c) seam (Appends-trans a b c sent [] p q))
-
--- none of the bytes were taken
-pub none_taken : (a b : Option (List ℕ)) (bytes : List ℕ) (n : ℕ) → n ≡ 0 → Appends a b (take n bytes) → Appends a b []
-none_taken a b bytes n zero q = rw zero at q
 
 -- n more bytes were taken
 pub step : (a b c : Option (List ℕ)) (sent rest text : List ℕ) (n : ℕ) → text ≡ sent ++ rest → Appends a b sent → Appends b c (take n rest)
@@ -30,10 +26,6 @@ step a b c sent rest text n is p q =
 
 -- of whatever is seen as a writer
 module _ {P : Type 0} (seen : P → Writer) where
-  -- nothing was written
-  pub wrote_nothing : (a : P) → TookAll (seen a) (seen a) []
-  wrote_nothing a = (Appends-nil (seen a).taken, refl)
-
   pub took_both : (a b c : P) (xs ys : List ℕ) → TookAll (seen a) (seen b) xs → TookAll (seen b) (seen c) ys → TookAll (seen a) (seen c) (xs ++ ys)
   took_both a b c xs ys p q = (
     Appends-trans (seen a).taken (seen b).taken (seen c).taken xs ys p.0 q.0,

@@ -1,4 +1,4 @@
-use Rattle.par2_laws.proofs.Removals.{removal}
+use Rattle.par2_laws.proofs.Damage.{removal}
 use Rattle.par2_laws.proofs.creates.removal_is_damage.Goals as goal
 
 pub returns : goal.returns

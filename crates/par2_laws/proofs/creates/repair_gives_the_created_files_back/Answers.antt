@@ -1,14 +1,8 @@
-use Rattle.par2_laws.proofs.Laws.{AreRepaired}
-use Rattle.par2_laws.proofs.Returns.{gives_back}
+use Rattle.par2_laws.proofs.Common.{Repair, files_of, after, in_id_order}
+use Rattle.par2_laws.proofs.Damage.{originals, gives_back}
 use Rattle.par2_laws.proofs.creates.repair_gives_the_created_files_back.Goals as goal
 
 pub returns : goal.returns
 returns c before damaged a base extras purge follows accepted =
-    let laws : AreRepaired = record {
-      words = c.tests_say_the_words.ensures.repairable;
-      repaired = c.repair_leaves_the_files.ensures.repaired;
-      purged = c.repair_leaves_the_files.ensures.purged;
-      digests = c.repair_leaves_the_files.ensures.digests;
-    } in
-    let made = c.created_set_is_made_from_its_files.ensures before damaged a base follows.created follows.fits follows.damage in
-    gives_back c.files_in_order.ensures.same before damaged a base extras follows laws made purge accepted
+    gives_back before damaged a base extras follows (after damaged (Repair base extras purge))
+    (c.accepted_repair_leaves_the_files.ensures damaged base extras purge (in_id_order (files_of before a.inputs)) a.slice (originals before damaged a base extras follows) accepted)

@@ -1,14 +1,14 @@
-use Rattle.par2_laws.proofs.Laws.{AreRepaired}
-use Rattle.par2_laws.proofs.Returns.{few_causes}
+use Rattle.par2_laws.proofs.Common.{ap, sym, ◌∙◌, Some, candidates, files_of, in_id_order, by_either}
+use Rattle.par2_laws.proofs.Causes.{refused_by}
+use Rattle.par2_laws.proofs.Damage.{originals}
 use Rattle.par2_laws.proofs.creates.repair_of_created_files_is_refused_for_few_causes.Goals as goal
 
 pub returns : goal.returns
 returns c before damaged a base extras purge fault follows refused =
-    let laws : AreRepaired = record {
-      words = c.tests_say_the_words.ensures.repairable;
-      repaired = c.repair_leaves_the_files.ensures.repaired;
-      purged = c.repair_leaves_the_files.ensures.purged;
-      digests = c.repair_leaves_the_files.ensures.digests;
-    } in
-    let made = c.created_set_is_made_from_its_files.ensures before damaged a base follows.created follows.fits follows.damage in
-    few_causes c.files_in_order.ensures.same before damaged a base extras follows laws made purge fault refused
+    let true_to = originals before damaged a base extras follows in
+    let set = true_to.made.set in
+    let of_set = c.refusal_is_that_of_the_set.ensures in
+    let never = c.repair_never_fails.ensures damaged base extras purge (in_id_order (files_of before a.inputs)) a.slice true_to in
+    by_either (c.set_of_the_base_is_read.ensures damaged base extras set true_to.made.reads)
+    (λ read. refused_by damaged set (candidates damaged set extras) fault (λ e. never (refused ∙ ap (λ f. Some f) e)) (sym (of_set.read damaged base extras purge set read) ∙ refused))
+    (λ absent. let told = sym (of_set.unread damaged base extras purge _ absent.1) ∙ refused in cc)

@@ -1,4 +1,4 @@
-use Rattle.par2_laws.proofs.Present.{read_of}
+use Rattle.par2_laws.proofs.RecoveryBytes.{read_of}
 use Rattle.par2_laws.proofs.reading.set_is_of_the_base.Goals as goal
 
 pub returns-clause-set : goal.returns-clause-set

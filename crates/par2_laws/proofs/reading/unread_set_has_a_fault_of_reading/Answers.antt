@@ -1,4 +1,4 @@
-use Rattle.par2_laws.proofs.Present.{fault_of_reading}
+use Rattle.par2_laws.proofs.RecoveryBytes.{fault_of_reading}
 use Rattle.par2_laws.proofs.reading.unread_set_has_a_fault_of_reading.Goals as goal
 
 pub returns : goal.returns

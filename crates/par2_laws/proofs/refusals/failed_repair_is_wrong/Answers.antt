@@ -1,10 +1,8 @@
-use Rattle.par2_laws.proofs.Common.{known, lost, survivors}
 use Rattle.par2_laws.proofs.Causes.{failed_by}
 use Rattle.par2_laws.proofs.refusals.failed_repair_is_wrong.Goals as goal
 
 pub returns-clause-repairable : goal.returns-clause-repairable
-returns-clause-repairable c folder set searched failed =
-    (c.tests_say_the_words.ensures.repairable (lost (known folder set searched)) (survivors set)).0 (failed_by folder set searched failed).0
+returns-clause-repairable c folder set searched failed = (failed_by folder set searched failed).0
 
 pub returns-clause-digests : goal.returns-clause-digests
 returns-clause-digests c folder set searched failed = (failed_by folder set searched failed).1

@@ -1,4 +1,4 @@
-use Rattle.par2_laws.proofs.Common.{both_ways, is_repairable, known, lost, survivors}
+use Rattle.par2_laws.proofs.Common.{both_ways, is_repairable, known, lost, survivors, repairable-iff}
 use Rattle.par2_laws.proofs.Causes.{unrepairable_by}
 use Rattle.par2_laws.proofs.refusals.lost_slices_are_not_determined.Goals as goal
 
@@ -6,4 +6,4 @@ pub returns : goal.returns
 returns c folder set searched missing rank refused determined =
     let slices = lost (known folder set searched) in
     both_ways (is_repairable slices (survivors set)) (unrepairable_by folder set searched missing rank refused)
-    ((c.tests_say_the_words.ensures.repairable slices (survivors set)).1 determined)
+    ((repairable-iff slices (survivors set)).1 determined)

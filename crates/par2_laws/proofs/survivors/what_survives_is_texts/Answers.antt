@@ -1,4 +1,4 @@
-use Rattle.par2_laws.proofs.Survivals.{survivors_are}
+use Rattle.par2_laws.proofs.RecoveryBytes.{survivors_are}
 use Rattle.par2_laws.proofs.survivors.what_survives_is_texts.Goals as goal
 
 pub returns : goal.returns

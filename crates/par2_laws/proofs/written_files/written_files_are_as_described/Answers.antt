@@ -1,6 +1,6 @@
 use Rattle.par2_laws.proofs.Common.{◌≡◌, ◌∙◌, ℕ, List, length, sym, Target, candidates, known, matches, is_among, rebuilt, files_of_slices, names_without_match, kept_recovery, all-filter}
 use Rattle.par2_spec.specs.Repairs.{rebuilt_targets}
-use Rattle.par2_laws.proofs.Agreements.{as_many_as_pairs}
+use Rattle.par2_laws.proofs.RecoveryBytes.{as_many_as_pairs}
 use Rattle.par2_laws.proofs.written_files.written_files_are_as_described.Goals as goal
 
 pub returns-clause-lengths : goal.returns-clause-lengths

@@ -1,4 +1,4 @@
-use Rattle.par2_spec.proofs.WrittenBodies.{ifsc_reads}
+use Rattle.par2_spec.proofs.WrittenSets.{ifsc_reads}
 use Rattle.par2_spec.proofs.packet_laws.ifsc_is_read.Goals as goal
 
 pub returns : goal.returns

@@ -1,4 +1,4 @@
-use Rattle.par2_spec.proofs.WrittenBodies.{recovery_reads}
+use Rattle.par2_spec.proofs.WrittenSets.{recovery_reads}
 use Rattle.par2_spec.proofs.packet_laws.recovery_is_read.Goals as goal
 
 pub returns : goal.returns

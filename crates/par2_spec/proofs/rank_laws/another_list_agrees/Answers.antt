@@ -1,4 +1,4 @@
-use Rattle.par2_spec.proofs.OthersLaws.{another_agrees}
+use Rattle.par2_spec.proofs.ExistLaws.{another_agrees}
 use Rattle.par2_spec.proofs.rank_laws.another_list_agrees.Goals as goal
 
 pub returns : goal.returns

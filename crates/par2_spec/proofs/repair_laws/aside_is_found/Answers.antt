@@ -1,5 +1,4 @@
-use Rattle.par2_spec.proofs.AsideLaws.{aside_least, aside_one}
-use Rattle.par2_spec.proofs.AsideNames.{aside_is_name}
+use Rattle.par2_spec.proofs.AsideNames.{aside_least, aside_one, aside_is_name}
 use Rattle.par2_spec.proofs.repair_laws.aside_is_found.Goals as goal
 
 pub returns-clause-least : goal.returns-clause-least
