@@ -13,7 +13,7 @@ pub use Rattle.std.specs.Prelude.{OnOk, bit_and, bit_or, bit_xor, if◌then◌el
 pub use Rattle.md5.specs.Md5.{add32, add_state, block_words, digest_bytes, f_fn, g_fn, h_fn, hash_after, i_fn, md5, padded_message, padding, round, rounds, step_constants, step_fn, step_shifts, word_at, word_place}
 pub use Rattle.par2_digests.specs.Digests.{digest_at}
 pub use Rattle.par2_digests.specs.Feeds.{bytes_left, hash_behind}
-pub use Rattle.par2_digests.specs.Lanes.{AreOfFour, four_words_at, lane, lane_words, quad_words}
+pub use Rattle.par2_digests.specs.Lanes.{AreOfFour, four_words_at, lane, lane_words}
 pub use Rattle.par2_digests.specs.Messages.{HasAbsorbed, message_of, part_bytes}
 pub use Rattle.par2_digests.specs.Pendings.{ArePadded, IsPadded, bytes_to_absorb}
 pub use Rattle.par2_digests.specs.Tails.{tail_len, tail_of}

@@ -1,7 +1,7 @@
 -- Operations on vectors, read at one lane.
-use Rattle.par2_digests.proofs.Common.{below_more, refl, ◌≡◌, ℕ, ◌-◌, ◌<◌, ◌≤◌, List, [], ◌∷◌, ◌++◌, map, length, get_or, ap₂, sym, ◌∙◌, arith, get_or-append_right, get_or-map, get_or_append_left, length-map, get_or-zip2, length-zip2, AreOfFour, lane_words, quad_words}
+use Rattle.par2_digests.proofs.Common.{below_more, refl, ◌≡◌, ℕ, ◌-◌, ◌<◌, ◌≤◌, List, [], ◌∷◌, ◌++◌, map, length, get_or, ap₂, sym, ◌∙◌, arith, get_or-append_right, get_or-map, get_or_append_left, length-map, get_or-zip2, length-zip2, AreOfFour, lane_words, lane}
 use Rattle.std.specs.Prelude.{slice_index}
-use Rattle.par2_digests.specs.declared.quads.Quad.{Quad}
+use Rattle.par2_digests.specs.declared.steps.State.{State}
 use lib.Lanes.{zip2}
 
 -- what holds at each of eight lanes
@@ -58,38 +58,38 @@ last_four x y count-x count-y =
     (all_of_four y count-y)
 
 -- each vector is that of `low` and after it that of `high`
-pub record ArePairs (q low high : Quad (List ℕ)) : Type 0 where
-  pub first : q.first ≡ low.first ++ high.first
-  pub second : q.second ≡ low.second ++ high.second
-  pub third : q.third ≡ low.third ++ high.third
-  pub fourth : q.fourth ≡ low.fourth ++ high.fourth
+pub record ArePairs (q low high : State (List ℕ)) : Type 0 where
+  pub a : q.a ≡ low.a ++ high.a
+  pub b : q.b ≡ low.b ++ high.b
+  pub c : q.c ≡ low.c ++ high.c
+  pub d : q.d ≡ low.d ++ high.d
   pub sizes : AreOfFour low
 
 -- the words in a lane of eight, of two vectors of four each
-pub low_lane : (q low high : Quad (List ℕ)) (k : ℕ) → k < 4 → ArePairs q low high → quad_words slice_index k q ≡ quad_words slice_index k low
+pub low_lane : (q low high : State (List ℕ)) (k : ℕ) → k < 4 → ArePairs q low high → lane slice_index k q ≡ lane slice_index k low
 low_lane q low high k below pairs =
     rw (
-      pairs.first,
-      pairs.second,
-      pairs.third,
-      pairs.fourth,
-      get_or_append_left low.first high.first 0 k (omega (arith, pairs.sizes.first)),
-      get_or_append_left low.second high.second 0 k (omega (arith, pairs.sizes.second)),
-      get_or_append_left low.third high.third 0 k (omega (arith, pairs.sizes.third)),
-      get_or_append_left low.fourth high.fourth 0 k (omega (arith, pairs.sizes.fourth)),
+      pairs.a,
+      pairs.b,
+      pairs.c,
+      pairs.d,
+      get_or_append_left low.a high.a 0 k (omega (arith, pairs.sizes.a)),
+      get_or_append_left low.b high.b 0 k (omega (arith, pairs.sizes.b)),
+      get_or_append_left low.c high.c 0 k (omega (arith, pairs.sizes.c)),
+      get_or_append_left low.d high.d 0 k (omega (arith, pairs.sizes.d)),
     ) refl
 
-pub high_lane : (q low high : Quad (List ℕ)) (k : ℕ) → 4 ≤ k → ArePairs q low high → quad_words slice_index k q ≡ quad_words slice_index (k - 4) high
+pub high_lane : (q low high : State (List ℕ)) (k : ℕ) → 4 ≤ k → ArePairs q low high → lane slice_index k q ≡ lane slice_index (k - 4) high
 high_lane q low high k above pairs =
     rw (
-      pairs.first,
-      pairs.second,
-      pairs.third,
-      pairs.fourth,
-      get_or-append_right low.first high.first 4 k 0 pairs.sizes.first above,
-      get_or-append_right low.second high.second 4 k 0 pairs.sizes.second above,
-      get_or-append_right low.third high.third 4 k 0 pairs.sizes.third above,
-      get_or-append_right low.fourth high.fourth 4 k 0 pairs.sizes.fourth above,
+      pairs.a,
+      pairs.b,
+      pairs.c,
+      pairs.d,
+      get_or-append_right low.a high.a 4 k 0 pairs.sizes.a above,
+      get_or-append_right low.b high.b 4 k 0 pairs.sizes.b above,
+      get_or-append_right low.c high.c 4 k 0 pairs.sizes.c above,
+      get_or-append_right low.d high.d 4 k 0 pairs.sizes.d above,
     ) refl
 
 -- what holds at each of four lanes

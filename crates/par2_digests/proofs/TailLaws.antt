@@ -1,7 +1,7 @@
 -- A message is its whole blocks and its tail, which ends with the padding.
-use Rattle.par2_digests.proofs.Common.{◌≡◌, ℕ, suc, ◌+◌, ◌-◌, ◌*◌, ◌/◌, ◌%◌, ◌^◌, ◌<◌, ◌≤◌, List, ◌∷◌, ◌++◌, length, take, drop, replicate, ap, refl, sym, ◌∙◌, arith, slice_set, w64, to_le_bytes, drop-append-le, drop-replicate, drop_at, length-replicate, length-take-le, set_at, take-append-le, take-replicate, take-take, take_all, take-append-add, padding, tail_len}
-use Rattle.std.proofs.lemmas.List.{append_assoc, length-append, length-drop}
-use Rattle.std.proofs.lemmas.Slice.{take-put_mid, take-put_mid_below}
+use Rattle.par2_digests.proofs.Common.{◌≡◌, ℕ, suc, min, ◌+◌, ◌-◌, ◌*◌, ◌/◌, ◌%◌, ◌^◌, ◌≤◌, List, ◌∷◌, ◌++◌, length, take, drop, replicate, ap, refl, sym, ◌∙◌, arith, w64, to_le_bytes, drop-append-le, drop_at, length-replicate, length-take-le, take-append-le, take-replicate, take-take, take_all, padding, tail_len}
+use Rattle.std.proofs.lemmas.List.{length-append, length-drop}
+use Rattle.std.proofs.lemmas.Slice.{take-put_mid_below}
 use Rattle.par2_digests.proofs.BlockLaws.{same_parts}
 use borrow.Rule.Slice.PartMut.{put_mid}
 
@@ -16,40 +16,6 @@ padding_len len =
     let bits : List ℕ = to_le_bytes w64 (len * 8 % 2 ^ 64) in
     let eight : length bits ≡ 8 = refl in
     omega (arith, length-append zero_bytes bits, length-replicate {A = ℕ} (zeros len) 0, eight)
-
--- the byte 0x80 after the rest, and zeros
-marked : (rest : List ℕ) → length rest < 128
-    → slice_set (rest ++ drop (length rest) (replicate 128 0)) (length rest) 0x80 ≡ rest ++ 0x80 ∷ replicate (127 - length rest) 0
-marked rest h =
-    let one_more : 128 - length rest ≡ suc (127 - length rest) = omega arith in
-    ap (λ (ys : List ℕ). slice_set (rest ++ ys) (length rest) 0x80) (drop-replicate (length rest) 128 0 ∙ ap (λ (n : ℕ). replicate n 0) one_more)
-    ∙ set_at rest 0 (replicate (127 - length rest) 0) 0x80 (length rest) refl
-
--- the tail as it is written: the rest, the byte after it, and the length in bits before `end`
-pub tail_is : (rest first last : List ℕ) (end j len : ℕ) → length rest ≡ len % 64 → end ≡ tail_len len → end ≤ 128
-    → first ≡ rest → last ≡ to_le_bytes w64 (len * 8 % 2 ^ 64)
-    → take (tail_len len) (put_mid (end - 8) j (slice_set (first ++ drop (length rest) (replicate 128 0)) (length rest) 0x80) last)
-    ≡ rest ++ padding len
-unfolding zeros
-tail_is rest first last end j len size ends fits first_is last_is =
-    let zero_bytes : List ℕ = replicate (zeros len) 0 in
-    let behind : List ℕ = replicate (127 - length rest) 0 in
-    let bytes : List ℕ = slice_set (first ++ drop (length rest) (replicate 128 0)) (length rest) 0x80 in
-    let before : end - 8 ≡ length rest + suc (zeros len) = omega (arith, padding_len len) in
-    let bytes_are : bytes ≡ rest ++ 0x80 ∷ behind =
-    ap (λ (xs : List ℕ). slice_set (xs ++ drop (length rest) (replicate 128 0)) (length rest) 0x80) first_is ∙ marked rest (omega arith) in
-    let room : end - 8 ≤ length bytes =
-    omega (arith, padding_len len, ap length bytes_are, length-append rest (0x80 ∷ behind), length-replicate {A = ℕ} (127 - length rest) 0) in
-    let front : take (end - 8) bytes ≡ rest ++ 0x80 ∷ zero_bytes =
-    ap (take (end - 8)) bytes_are
-    ∙ ap (λ (n : ℕ). take n (rest ++ 0x80 ∷ behind)) before
-    ∙ take-append-add rest (0x80 ∷ behind) (suc (zeros len))
-    ∙ ap (λ (xs : List ℕ). rest ++ 0x80 ∷ xs) (take-replicate (zeros len) (127 - length rest) 0 (omega (arith, padding_len len))) in
-    let count : tail_len len ≡ end - 8 + length last = omega (arith, ap length last_is, padding_len len) in
-    take-put_mid (end - 8) j bytes last (tail_len len) count room
-    ∙ ap (λ (xs : List ℕ). xs ++ last) front
-    ∙ append_assoc rest (0x80 ∷ zero_bytes) last
-    ∙ ap (λ (xs : List ℕ). rest ++ 0x80 ∷ (zero_bytes ++ xs)) last_is
 
 -- the byte 0x80 and the zeros of the padding, from 64 bytes
 pub marks_are : (n : ℕ) → n ≤ 63 → let marks : List ℕ = 0x80 ∷ replicate 63 0 in take (n + 1) marks ≡ 0x80 ∷ replicate n 0
@@ -102,7 +68,9 @@ pub tail_fits : (len : ℕ) → tail_len len ≤ 128
 unfolding zeros
 tail_fits len = omega (arith, padding_len len)
 
--- a padded message is whole blocks
-pub whole_padded : (m : List ℕ) → length (m ++ padding (length m)) % 64 ≡ 0
-unfolding zeros
-whole_padded m = omega (arith, padding_len (length m), length-append m (padding (length m)))
+-- the tail that is left in a feed is put into its room as a whole
+pub tail_put : (left rest block : List ℕ) (n len : ℕ) → left ≡ rest ++ padding len → length rest ≡ len % 64 → n ≡ min 128 (length left) → take n block ≡ take n left → take (tail_len len) block ≡ rest ++ padding len
+tail_put left rest block n len left_is size count put =
+    let long : length left ≡ tail_len len = ap length left_is ∙ (let e = length-append rest (padding len) in omega (arith, e, size)) in
+    let all : n ≡ tail_len len = omega (arith, count, long, tail_fits len) in
+    ap (λ k. take k block) (sym all) ∙ put ∙ take_all n left (omega (arith, all, long)) ∙ left_is

@@ -9,11 +9,6 @@ drop_none : (bytes : List ℕ) → bytes ≡ drop 0 bytes
 drop_none [] = refl
 drop_none (b ∷ bytes) = refl
 
--- a last hash value stays
-pub done_stays : (done : Option (List ℕ)) (kept d bytes hash next last rest : List ℕ) → done ≡ Some d → LeadsWith done kept bytes hash last rest → LeadsWith done kept bytes next last rest
-done_stays (Some x) kept d bytes hash next last rest is held = held
-done_stays None kept d bytes hash next last rest is held = (cc)
-
 -- fewer bytes than a block are what is after the blocks
 pub at_the_end : (done : Option (List ℕ)) (kept bytes hash last rest : List ℕ) (count : ℕ) → done ≡ None → count ≡ length bytes → count < 64
     → LeadsWith done kept bytes hash last rest → (hash ≡ last) × (bytes ≡ rest)

@@ -1,10 +1,9 @@
 -- What a lane of some vectors holds.
 use Rattle.std.specs.Prelude.{ℕ, List, [], ◌∷◌, ◌+◌, ◌<◌, ◌≤◌, ◌≡◌, length, map, slice_index}
 use Rattle.md5.specs.Md5.{rounds, word_at}
-use Rattle.par2_digests.specs.declared.quads.Quad.{Quad}
 use Rattle.par2_digests.specs.declared.steps.State.{State}
 
--- the four variables in lane k, where `at` reads a vector's lane
+-- the four variables, or words, in lane k, where `at` reads a vector's lane
 abbrev pub lane : {V : Type 0} → (V → ℕ → ℕ) → ℕ → State V → List ℕ
 lane at k state = at state.a k ∷ at state.b k ∷ at state.c k ∷ at state.d k ∷ []
 
@@ -16,10 +15,6 @@ lane_words at k words = map (λ word. at word k) words
 abbrev pub four_words_at : List ℕ → ℕ → List ℕ
 four_words_at text at = word_at text at ∷ word_at text (at + 4) ∷ word_at text (at + 8) ∷ word_at text (at + 12) ∷ []
 
--- the four words in lane k
-abbrev pub quad_words : {V : Type 0} → (V → ℕ → ℕ) → ℕ → Quad V → List ℕ
-quad_words at k quad = at quad.first k ∷ at quad.second k ∷ at quad.third k ∷ at quad.fourth k ∷ []
-
 -- from so many starts on, the bytes have so many more
 abbrev pub Have : ℕ → ℕ → List ℕ → List ℕ → Type 0
 Have count size starts bytes = (k : ℕ) → k < count → slice_index starts k + size ≤ length bytes
@@ -29,8 +24,8 @@ abbrev pub Reach : ℕ → ℕ → ℕ → List ℕ → List ℕ → Type 0
 Reach count size offset starts bytes = (k : ℕ) → k < count → slice_index starts k + offset + size ≤ length bytes
 
 -- in each lane there are four words of its message, an offset after its start
-abbrev pub AreFourWords : {V : Type 0} → ℕ → (V → ℕ → ℕ) → List ℕ → List ℕ → ℕ → Quad V → Type 0
-AreFourWords count at bytes starts offset quad = (k : ℕ) → k < count → quad_words at k quad ≡ four_words_at bytes (slice_index starts k + offset)
+abbrev pub AreFourWords : {V : Type 0} → ℕ → (V → ℕ → ℕ) → List ℕ → List ℕ → ℕ → State V → Type 0
+AreFourWords count at bytes starts offset words = (k : ℕ) → k < count → lane at k words ≡ four_words_at bytes (slice_index starts k + offset)
 
 -- in each lane, where the state is that before a step, it is that before a later one afterwards
 abbrev pub GoesOn : {V : Type 0} → ℕ → (V → ℕ → ℕ) → List V → ℕ → State V → ℕ → State V → Type 0
@@ -38,8 +33,8 @@ GoesOn count at words from before to after =
     (k : ℕ) (h : List ℕ) → k < count → lane at k before ≡ rounds h (lane_words at k words) from → lane at k after ≡ rounds h (lane_words at k words) to
 
 -- each vector has four lanes
-pub record AreOfFour (quad : Quad (List ℕ)) : Type 0 where
-  pub first : length quad.first ≡ 4
-  pub second : length quad.second ≡ 4
-  pub third : length quad.third ≡ 4
-  pub fourth : length quad.fourth ≡ 4
+pub record AreOfFour (words : State (List ℕ)) : Type 0 where
+  pub a : length words.a ≡ 4
+  pub b : length words.b ≡ 4
+  pub c : length words.c ≡ 4
+  pub d : length words.d ≡ 4

@@ -1,12 +1,14 @@
-//! The blocks of several messages at once.
+//! The blocks of several messages at once, and of a message by itself.
 
-ghost use Rattle.std.specs.Prelude.{◌≡◌, ◌≤◌, ◌<◌, ◌+◌, ◌*◌, ℕ, List, length, take, drop, slice_index};
+ghost use Rattle.std.specs.Prelude.{◌≡◌, ◌≤◌, ◌<◌, ◌+◌, ◌*◌, ◌/◌, ◌%◌, ℕ, List, length, take, drop, slice_index};
 ghost use Rattle.md5.specs.Md5.{block_words, compress, hash_after};
-ghost use Rattle.par2_digests.specs.Feeds.{hash_behind};
+ghost use Rattle.par2_digests.specs.Feeds.{bytes_left, hash_behind};
 ghost use Rattle.par2_digests.specs.Lanes.{lane, lane_words, Have, Reach};
 
+use crate::feeds::Feed;
 use crate::lanes::Lanes;
-use crate::steps::{State, Words, compressed};
+use crate::steps::{State, Words, compressed, in_each_lane};
+use std::simd::prelude::*;
 
 // The words of the blocks that begin `offset` bytes after each start.
 #[inline(always)]
@@ -18,13 +20,13 @@ fn read_words<V: Lanes>(bytes: &[u8], starts: &[usize], offset: usize) -> Words<
         → lane_words V.at k result
         ≡ block_words (take 64 (drop (slice_index starts.now k + offset) bytes.now)) 16 }
 {
-    let a = V::four_words(bytes, starts, offset);
-    let b = V::four_words(bytes, starts, offset + 16);
-    let c = V::four_words(bytes, starts, offset + 32);
-    let d = V::four_words(bytes, starts, offset + 48);
+    let first = V::four_words(bytes, starts, offset);
+    let second = V::four_words(bytes, starts, offset + 16);
+    let third = V::four_words(bytes, starts, offset + 32);
+    let fourth = V::four_words(bytes, starts, offset + 48);
     [
-        a.first, a.second, a.third, a.fourth, b.first, b.second, b.third, b.fourth, c.first,
-        c.second, c.third, c.fourth, d.first, d.second, d.third, d.fourth,
+        first.a, first.b, first.c, first.d, second.a, second.b, second.c, second.d, third.a,
+        third.b, third.c, third.d, fourth.a, fourth.b, fourth.c, fourth.d,
     ]
 }
 
@@ -55,8 +57,8 @@ pub(crate) fn absorbed<V: Lanes>(
     after
 }
 
-/// The hash values after a block more of each message, which begins at its start.
-pub(crate) fn after_block<V: Lanes>(
+// The hash values after a block more of each message, which begins at its start.
+fn after_block<V: Lanes>(
     state: State<V>,
     words: &mut Words<V>,
     bytes: &[u8],
@@ -71,4 +73,21 @@ pub(crate) fn after_block<V: Lanes>(
 {
     *words = read_words(bytes, starts, 0);
     compressed(state, words)
+}
+
+/// The hash value after the whole blocks of what the feed has left; the block then begins with what is after them.
+pub(crate) fn hashed(hash: [u32; 4], feed: Feed, block: &mut [u8; 64]) -> [u32; 4]
+    ensures hash { result ≡ hash_behind hash (bytes_left feed.entry) (length (bytes_left
+        feed.entry) / 64) }
+    ensures rest { take (length (bytes_left feed.entry) % 64) block.new
+        ≡ drop (length (bytes_left feed.entry) / 64 * 64) (bytes_left feed.entry) }
+{
+    let mut feed = feed;
+    let mut words = [Simd::splat(0); 16];
+    let [a, b, c, d] = hash;
+    let mut state: State<Simd<u32, 1>> = in_each_lane(a, b, c, d);
+    while feed.fill(block) == 64 {
+        state = after_block(state, &mut words, block, &[0]);
+    }
+    state.in_lane(0)
 }

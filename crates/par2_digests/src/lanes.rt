@@ -5,8 +5,8 @@ ghost use Rattle.std.specs.Int.{w32, rotate_left};
 ghost use Rattle.md5.specs.Md5.{add32, f_fn, g_fn, h_fn, i_fn};
 ghost use Rattle.par2_digests.specs.Lanes.{AreFourWords, Reach};
 
-use crate::quads::{Quad, four_words};
-use crate::words::{f_words, h_words, i_words, plus_g_words, rotated_words};
+use crate::quads::four_words;
+use crate::steps::State;
 use std::simd::prelude::*;
 
 /// A word of each of several messages.
@@ -20,7 +20,8 @@ pub(crate) trait Lanes: Copy {
     fn f(x: Self, y: Self, z: Self) -> Self
         ensures { (k : ℕ) → k < count → at result k ≡ f_fn (at x k) (at y k) (at z k) };
 
-    // A sum and the function G, whose value is there as soon as `x` is.
+    // A sum and the function G. The two terms of G have no bit in common, so each is added by itself, the one with `x`
+    // last: its value is there as soon as `x` is.
     fn plus_g(sum: Self, x: Self, y: Self, z: Self) -> Self
         ensures { (k : ℕ) → k < count
             → at result k ≡ add32 (at sum k) (g_fn (at x k) (at y k) (at z k)) };
@@ -41,7 +42,7 @@ pub(crate) trait Lanes: Copy {
         ensures { (k : ℕ) → k < count → at result k ≡ rotate_left w32 (at x k) shift };
 
     /// Four words of each message, which stand `offset` bytes after its start.
-    fn four_words(bytes: &[u8], starts: &[usize], offset: usize) -> Quad<Self>
+    fn four_words(bytes: &[u8], starts: &[usize], offset: usize) -> State<Self>
         requires enough { count ≤ length starts.now }
         requires room { offset + 16 ≤ length bytes.now }
         requires within { Reach count 16 offset starts.now bytes.now }
@@ -59,22 +60,22 @@ impl<const N: usize> Lanes for Simd<u32, N> {
 
     #[inline(always)]
     fn f(x: Self, y: Self, z: Self) -> Self {
-        f_words(x, y, z)
+        (x & y) | (!x & z)
     }
 
     #[inline(always)]
     fn plus_g(sum: Self, x: Self, y: Self, z: Self) -> Self {
-        plus_g_words(sum, x, y, z)
+        sum + (y & !z) + (x & z)
     }
 
     #[inline(always)]
     fn h(x: Self, y: Self, z: Self) -> Self {
-        h_words(x, y, z)
+        x ^ y ^ z
     }
 
     #[inline(always)]
     fn i(x: Self, y: Self, z: Self) -> Self {
-        i_words(x, y, z)
+        y ^ (x | !z)
     }
 
     #[inline(always)]
@@ -89,11 +90,12 @@ impl<const N: usize> Lanes for Simd<u32, N> {
 
     #[inline(always)]
     fn rotated(x: Self, shift: u32) -> Self {
-        rotated_words(x, shift)
+        let left = shift % 32;
+        (x << Simd::splat(left)) | (x >> Simd::splat((32 - left) % 32))
     }
 
     #[inline(always)]
-    fn four_words(bytes: &[u8], starts: &[usize], offset: usize) -> Quad<Self> {
+    fn four_words(bytes: &[u8], starts: &[usize], offset: usize) -> State<Self> {
         four_words(bytes, starts, offset)
     }
 

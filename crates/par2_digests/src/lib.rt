@@ -3,11 +3,10 @@
 
 ghost use Rattle.std.specs.Prelude.{◌≡◌, ◌≤◌, ◌<◌, ◌+◌, ◌/◌, ℕ, length, take, drop, slice_index};
 ghost use Rattle.std.specs.Int.{w32, to_le_bytes};
-ghost use Rattle.md5.specs.Md5.{digest_bytes, hash_after, initial_hash, md5, padded_message};
+ghost use Rattle.md5.specs.Md5.{digest_bytes, hash_after, md5, padded_message};
 ghost use Rattle.par2_digests.specs.Digests.{digest_at};
 ghost use Rattle.par2_digests.specs.Lanes.{lane};
 
-mod alone;
 mod blocks;
 mod feeds;
 mod lanes;
@@ -17,27 +16,16 @@ mod pending;
 mod quads;
 mod steps;
 mod tasks;
-mod texts;
-mod words;
 
 use blocks::absorbed;
-use lanes::Lanes;
 pub use midstate::{Midstate, Part};
 use padding::{tail_blocks, tails_of_windows};
-pub use pending::{Pending, absorb_each, digest_each};
+pub use pending::{Pending, absorb_each, digest_each, text_digests};
 use std::simd::prelude::*;
 use steps::{State, in_each_lane};
-pub use texts::text_digests;
 
 /// How many windows are digested side by side.
 pub const LANES: usize = 8;
-
-// The initial hash value (RFC 1321, 3.3).
-fn initial_state() -> State<u32x8>
-    ensures { (k : ℕ) → k < 8 → lane slice_index k result ≡ initial_hash }
-{
-    in_each_lane(0x6745_2301, 0xefcd_ab89, 0x98ba_dcfe, 0x1032_5476)
-}
 
 /// The hash values of the windows, after all blocks of each and its padding.
 fn hash_values(bytes: &[u8], starts: &[usize; LANES], len: usize) -> State<u32x8>
@@ -49,7 +37,9 @@ fn hash_values(bytes: &[u8], starts: &[usize; LANES], len: usize) -> State<u32x8
     let tails = tails_of_windows(bytes, starts, len);
     let tail_starts = [0, 128, 256, 384, 512, 640, 768, 896];
     let mut words = [u32x8::splat(0); 16];
-    let state = absorbed(initial_state(), &mut words, bytes, starts, len / 64);
+    // The initial hash value (RFC 1321, 3.3).
+    let start = in_each_lane(0x6745_2301, 0xefcd_ab89, 0x98ba_dcfe, 0x1032_5476);
+    let state = absorbed(start, &mut words, bytes, starts, len / 64);
     absorbed(state, &mut words, &tails, &tail_starts, tail_blocks(len))
 }
 
@@ -67,14 +57,6 @@ fn digest_of(hash: [u32; 4]) -> [u8; 16]
     ]
 }
 
-/// The digest in a lane.
-fn digest_of_lane<V: Lanes>(state: &State<V>, k: usize) -> [u8; 16]
-    requires { k < V.count }
-    ensures { result ≡ digest_bytes (lane V.at k state.now) 4 }
-{
-    digest_of(state.in_lane(k))
-}
-
 /// The MD5 digests of the windows of `len` bytes that begin at `starts`, in the order of the starts. The windows may
 /// overlap.
 pub fn window_digests(bytes: &[u8], starts: &[usize; LANES], len: usize) -> [[u8; 16]; LANES]
@@ -85,7 +67,7 @@ pub fn window_digests(bytes: &[u8], starts: &[usize; LANES], len: usize) -> [[u8
     let state = hash_values(bytes, starts, len);
     let mut digests = [[0; 16]; LANES];
     for k in 0..LANES {
-        digests[k] = digest_of_lane(&state, k);
+        digests[k] = digest_of(state.in_lane(k));
     }
     digests
 }

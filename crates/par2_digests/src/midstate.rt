@@ -4,7 +4,7 @@ ghost use Rattle.std.specs.Prelude.{◌≡◌, ◌++◌, ◌-◌, ◌%◌, ◌^�
 ghost use Rattle.md5.specs.Md5.{md5, padding};
 ghost use Rattle.par2_digests.specs.Messages.{HasAbsorbed, message_of, part_bytes};
 
-use crate::alone::hashed;
+use crate::blocks::hashed;
 use crate::digest_of;
 use crate::feeds::Feed;
 

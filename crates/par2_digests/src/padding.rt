@@ -2,11 +2,12 @@
 //!
 //! The tail of a message is what is left of it after its whole blocks, and then its padding: one block or two.
 
-ghost use Rattle.std.specs.Prelude.{◌≡◌, ◌≤◌, ◌<◌, ◌+◌, ◌*◌, ◌/◌, ◌%◌, ◌++◌, ℕ, length, take, drop, slice_index};
-ghost use Rattle.md5.specs.Md5.{padding};
+ghost use Rattle.std.specs.Prelude.{◌≡◌, ◌≤◌, ◌<◌, ◌+◌, ◌*◌, ◌/◌, ◌%◌, ℕ, length, take, drop, slice_index};
 ghost use Rattle.par2_digests.specs.Tails.{tail_len, tail_of};
 
 use crate::LANES;
+use crate::feeds::Feed;
+use crate::midstate::ending;
 
 // The room for the tail of a message.
 const TAIL_LEN: usize = 128;
@@ -32,31 +33,18 @@ fn rest_of_window(bytes: &[u8], start: usize, len: usize) -> &[u8]
     &window[len / 64 * 64..]
 }
 
-/// The tail of a message of `len` bytes, of which `rest` is left after its whole blocks.
-fn tail_of_message(rest: &[u8], len: usize) -> [u8; TAIL_LEN]
-    requires { length rest.now ≡ len % 64 }
-    ensures { take (tail_len len) result ≡ rest.now ++ padding len }
-{
-    let end = 64 * tail_blocks(len);
-    let bits = (len as u64).wrapping_mul(8);
-    let mut tail = [0; TAIL_LEN];
-    tail[..rest.len()].copy_from_slice(rest);
-    tail[rest.len()] = 0x80;
-    tail[end - 8..end].copy_from_slice(&bits.to_le_bytes());
-    tail
-}
-
 /// The tails of the windows of `len` bytes that begin at the starts, one at each 128 bytes.
 pub(crate) fn tails_of_windows(bytes: &[u8], starts: &[usize; LANES], len: usize) -> [u8; TAILS_LEN]
     requires within { (k : ℕ) → k < 8 → slice_index starts.now k + len ≤ length bytes.now }
     ensures { (k : ℕ) → k < 8 → take (tail_len len) (drop (128 * k) result)
         ≡ tail_of len (take len (drop (slice_index starts.now k) bytes.now)) }
 {
+    let padding = ending(len as u64);
     let mut tails = [0; TAILS_LEN];
     for k in 0..LANES {
-        let tail = tail_of_message(rest_of_window(bytes, starts[k], len), len);
         let at = TAIL_LEN * k;
-        tails[at..at + TAIL_LEN].copy_from_slice(&tail);
+        let mut feed = Feed::new(rest_of_window(bytes, starts[k], len), &padding);
+        feed.fill(&mut tails[at..at + TAIL_LEN]);
     }
     tails
 }

@@ -1,6 +1,7 @@
-//! States that absorb parts of their own, side by side; where these end with the padding, their digests.
+//! States that absorb parts of their own, side by side; where these end with the padding, their digests. Texts, as many
+//! as there are, eight side by side.
 
-ghost use Rattle.std.specs.Prelude.{◌≡◌, ◌≤◌, ◌<◌, ◌++◌, None, ℕ, List, length, get_or, IfOk};
+ghost use Rattle.std.specs.Prelude.{◌≡◌, ◌≤◌, ◌<◌, ◌++◌, [], None, ℕ, List, length, get_or, map, slice_index_or, IfOk, OnOk};
 ghost use Rattle.md5.specs.Md5.{digest_bytes, md5};
 ghost use Rattle.par2_digests.specs.Digests.{digest_at};
 ghost use Rattle.par2_digests.specs.Feeds.{bytes_left};
@@ -8,6 +9,7 @@ ghost use Rattle.par2_digests.specs.Lanes.{lane};
 ghost use Rattle.par2_digests.specs.Messages.{HasAbsorbed, message_of};
 ghost use Rattle.par2_digests.specs.Pendings.{bytes_to_absorb, Absorb, ArePadded, IsBegun, IsPadded};
 ghost use Rattle.par2_digests.specs.Tasks.{HasTaken};
+ghost use Rattle.par2_digests.specs.Texts.{texts_of};
 ghost use Rattle.par2_digests.specs.declared.midstate.Midstate.{Midstate};
 ghost use Rattle.par2_digests.specs.declared.pending.Pending.{Pending};
 
@@ -64,13 +66,7 @@ fn state_of<V: Lanes>(pendings: &[Pending]) -> State<V>
         let at = HASH_LEN * k;
         bytes[at..at + HASH_LEN].copy_from_slice(&digest_of(pending.state.hash));
     }
-    let hash = V::four_words(&bytes, &STARTS, 0);
-    State {
-        a: hash.first,
-        b: hash.second,
-        c: hash.third,
-        d: hash.fourth,
-    }
+    V::four_words(&bytes, &STARTS, 0)
 }
 
 // What is to do for the parts.
@@ -191,4 +187,43 @@ pub fn digest_each(pendings: &[Pending]) -> [[u8; 16]; LANES]
         → (k : ℕ) → k < length pendings.now → digest_at result k ≡ md5 (text k) }
 {
     hash_bytes(&absorb_each(pendings))
+}
+
+fn padded_texts<'a>(alloc: Global, texts: &[&'a [u8]]) -> Result<Vec<Pending<'a>>, AllocError>
+    ensures count { IfOk result (λ messages. length messages.items ≡ length texts.now) }
+    ensures each { IfOk result (λ messages.
+        ArePadded messages.items (λ k. slice_index_or (texts_of texts.now) k [])) }
+{
+    let mut messages = Vec::with_capacity(alloc, texts.len())?;
+    for i in 0..texts.len() {
+        messages.push(Pending::padded(alloc, Midstate::new(), &[Part::Bytes(texts[i])])?)?;
+    }
+    Ok(messages)
+}
+
+// Adds the digests of eight texts at most.
+fn push_digests(
+    alloc: Global,
+    digests: &mut Vec<[u8; 16]>,
+    texts: &[&[u8]],
+) -> Result<(), AllocError>
+    requires { length texts.now ≤ 8 }
+    ensures { OnOk result (digests.new.items ≡ digests.old.items ++ map md5 (texts_of texts.now)) }
+{
+    let messages = padded_texts(alloc, texts)?;
+    let added = digest_each(&messages);
+    digests.extend_from_slice(&added[..messages.len()])
+}
+
+/// The MD5 digests of the texts.
+pub fn text_digests(alloc: Global, texts: &[&[u8]]) -> Result<Vec<[u8; 16]>, AllocError>
+    ensures { IfOk result (λ digests. digests.items ≡ map md5 (texts_of texts.now)) }
+{
+    let mut digests = Vec::with_capacity(alloc, texts.len())?;
+    for group in 0..texts.len().div_ceil(LANES) {
+        let first = group * LANES;
+        let count = LANES.min(texts.len() - first);
+        push_digests(alloc, &mut digests, &texts[first..first + count])?;
+    }
+    Ok(digests)
 }

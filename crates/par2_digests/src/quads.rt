@@ -3,25 +3,10 @@
 
 ghost use Rattle.std.specs.Prelude.{◌≡◌, ◌≤◌, ◌<◌, ◌+◌, ◌++◌, ℕ, [], ◌∷◌, length, slice_index, slice_index_or};
 ghost use Rattle.md5.specs.Md5.{word_at};
-ghost use Rattle.par2_digests.specs.Lanes.{four_words_at, quad_words, AreFourWords, AreOfFour, Reach};
+ghost use Rattle.par2_digests.specs.Lanes.{four_words_at, lane, AreFourWords, AreOfFour, Reach};
 
-use std::alloc::AllocError;
+use crate::steps::State;
 use std::simd::prelude::*;
-
-/// Four words of each of several messages: the first words, the second words, and so on.
-#[derive(Copy)]
-pub(crate) struct Quad<V> {
-    pub(crate) first: V,
-    pub(crate) second: V,
-    pub(crate) third: V,
-    pub(crate) fourth: V,
-}
-
-impl<V: Copy> Clone for Quad<V> {
-    fn clone(&self) -> Result<Self, AllocError> {
-        Ok(*self)
-    }
-}
 
 #[inline(always)]
 fn word(bytes: &[u8], at: usize) -> u32
@@ -57,42 +42,32 @@ fn row(bytes: &[u8], at: usize) -> u32x4
 
 // The front end makes no struct of vectors whose count of lanes is a parameter.
 #[inline(always)]
-fn quad_of<V: Copy>(first: V, second: V, third: V, fourth: V) -> Quad<V>
-    ensures first { result.first ≡ first }
-    ensures second { result.second ≡ second }
-    ensures third { result.third ≡ third }
-    ensures fourth { result.fourth ≡ fourth }
+fn state_of<V: Copy>(a: V, b: V, c: V, d: V) -> State<V>
+    ensures a { result.a ≡ a }
+    ensures b { result.b ≡ b }
+    ensures c { result.c ≡ c }
+    ensures d { result.d ≡ d }
 {
-    Quad {
-        first,
-        second,
-        third,
-        fourth,
-    }
+    State { a, b, c, d }
 }
 
 // Exchanges rows and columns: each argument has the words of a message.
 #[inline(always)]
-fn columns(a: u32x4, b: u32x4, c: u32x4, d: u32x4) -> Quad<u32x4>
+fn columns(a: u32x4, b: u32x4, c: u32x4, d: u32x4) -> State<u32x4>
     ensures words { (k : ℕ) → k < 4
-        → quad_words slice_index k result ≡ slice_index_or (a ∷ b ∷ c ∷ d ∷ []) k [] }
+        → lane slice_index k result ≡ slice_index_or (a ∷ b ∷ c ∷ d ∷ []) k [] }
     ensures lanes { AreOfFour result }
 {
     let (even_low, even_high) = a.interleave(c);
     let (odd_low, odd_high) = b.interleave(d);
-    let (first, second) = even_low.interleave(odd_low);
-    let (third, fourth) = even_high.interleave(odd_high);
-    Quad {
-        first,
-        second,
-        third,
-        fourth,
-    }
+    let (a, b) = even_low.interleave(odd_low);
+    let (c, d) = even_high.interleave(odd_high);
+    State { a, b, c, d }
 }
 
 // Four words of each of four messages.
 #[inline(always)]
-fn words_of_four(bytes: &[u8], starts: &[usize], offset: usize) -> Quad<u32x4>
+fn words_of_four(bytes: &[u8], starts: &[usize], offset: usize) -> State<u32x4>
     requires enough { 4 ≤ length starts.now }
     requires within { Reach 4 16 offset starts.now bytes.now }
     ensures words { AreFourWords 4 slice_index bytes.now starts.now offset result }
@@ -130,7 +105,7 @@ pub(crate) fn four_words<const N: usize>(
     bytes: &[u8],
     starts: &[usize],
     offset: usize,
-) -> Quad<Simd<u32, N>>
+) -> State<Simd<u32, N>>
     requires enough { N ≤ length starts.now }
     requires room { offset + 16 ≤ length bytes.now }
     requires within { Reach N 16 offset starts.now bytes.now }
@@ -139,22 +114,22 @@ pub(crate) fn four_words<const N: usize>(
     if N == 8 {
         let low = words_of_four(bytes, starts, offset);
         let high = words_of_four(bytes, &starts[4..], offset);
-        quad_of(
-            joined(low.first, high.first),
-            joined(low.second, high.second),
-            joined(low.third, high.third),
-            joined(low.fourth, high.fourth),
+        state_of(
+            joined(low.a, high.a),
+            joined(low.b, high.b),
+            joined(low.c, high.c),
+            joined(low.d, high.d),
         )
     } else if N == 4 {
         let words = words_of_four(bytes, starts, offset);
-        quad_of(
-            with_lanes(words.first),
-            with_lanes(words.second),
-            with_lanes(words.third),
-            with_lanes(words.fourth),
+        state_of(
+            with_lanes(words.a),
+            with_lanes(words.b),
+            with_lanes(words.c),
+            with_lanes(words.d),
         )
     } else {
-        quad_of(
+        state_of(
             gathered_words(bytes, starts, offset),
             gathered_words(bytes, starts, offset + 4),
             gathered_words(bytes, starts, offset + 8),

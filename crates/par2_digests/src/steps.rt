@@ -9,70 +9,14 @@ use std::alloc::AllocError;
 
 // T, the constants of the steps.
 const CONSTANTS: [u32; 64] = [
-    0xd76a_a478,
-    0xe8c7_b756,
-    0x2420_70db,
-    0xc1bd_ceee,
-    0xf57c_0faf,
-    0x4787_c62a,
-    0xa830_4613,
-    0xfd46_9501,
-    0x6980_98d8,
-    0x8b44_f7af,
-    0xffff_5bb1,
-    0x895c_d7be,
-    0x6b90_1122,
-    0xfd98_7193,
-    0xa679_438e,
-    0x49b4_0821,
-    0xf61e_2562,
-    0xc040_b340,
-    0x265e_5a51,
-    0xe9b6_c7aa,
-    0xd62f_105d,
-    0x0244_1453,
-    0xd8a1_e681,
-    0xe7d3_fbc8,
-    0x21e1_cde6,
-    0xc337_07d6,
-    0xf4d5_0d87,
-    0x455a_14ed,
-    0xa9e3_e905,
-    0xfcef_a3f8,
-    0x676f_02d9,
-    0x8d2a_4c8a,
-    0xfffa_3942,
-    0x8771_f681,
-    0x6d9d_6122,
-    0xfde5_380c,
-    0xa4be_ea44,
-    0x4bde_cfa9,
-    0xf6bb_4b60,
-    0xbebf_bc70,
-    0x289b_7ec6,
-    0xeaa1_27fa,
-    0xd4ef_3085,
-    0x0488_1d05,
-    0xd9d4_d039,
-    0xe6db_99e5,
-    0x1fa2_7cf8,
-    0xc4ac_5665,
-    0xf429_2244,
-    0x432a_ff97,
-    0xab94_23a7,
-    0xfc93_a039,
-    0x655b_59c3,
-    0x8f0c_cc92,
-    0xffef_f47d,
-    0x8584_5dd1,
-    0x6fa8_7e4f,
-    0xfe2c_e6e0,
-    0xa301_4314,
-    0x4e08_11a1,
-    0xf753_7e82,
-    0xbd3a_f235,
-    0x2ad7_d2bb,
-    0xeb86_d391,
+    0xd76aa478, 0xe8c7b756, 0x242070db, 0xc1bdceee, 0xf57c0faf, 0x4787c62a, 0xa8304613, 0xfd469501,
+    0x698098d8, 0x8b44f7af, 0xffff5bb1, 0x895cd7be, 0x6b901122, 0xfd987193, 0xa679438e, 0x49b40821,
+    0xf61e2562, 0xc040b340, 0x265e5a51, 0xe9b6c7aa, 0xd62f105d, 0x02441453, 0xd8a1e681, 0xe7d3fbc8,
+    0x21e1cde6, 0xc33707d6, 0xf4d50d87, 0x455a14ed, 0xa9e3e905, 0xfcefa3f8, 0x676f02d9, 0x8d2a4c8a,
+    0xfffa3942, 0x8771f681, 0x6d9d6122, 0xfde5380c, 0xa4beea44, 0x4bdecfa9, 0xf6bb4b60, 0xbebfbc70,
+    0x289b7ec6, 0xeaa127fa, 0xd4ef3085, 0x04881d05, 0xd9d4d039, 0xe6db99e5, 0x1fa27cf8, 0xc4ac5665,
+    0xf4292244, 0x432aff97, 0xab9423a7, 0xfc93a039, 0x655b59c3, 0x8f0ccc92, 0xffeff47d, 0x85845dd1,
+    0x6fa87e4f, 0xfe2ce6e0, 0xa3014314, 0x4e0811a1, 0xf7537e82, 0xbd3af235, 0x2ad7d2bb, 0xeb86d391,
 ];
 
 // The shift of each step.
@@ -82,7 +26,7 @@ const SHIFTS: [u32; 64] = [
     21, 6, 10, 15, 21, 6, 10, 15, 21, 6, 10, 15, 21,
 ];
 
-/// The four variables of several messages.
+/// The four variables of several messages, or four words of each.
 #[derive(Copy)]
 pub(crate) struct State<V> {
     pub(crate) a: V,
@@ -204,88 +148,37 @@ fn i_step<V: Lanes>(state: State<V>, words: &Words<V>, t: usize) -> State<V>
     stepped(state, V::i(state.b, state.c, state.d), words[7 * t % 16], t)
 }
 
+/// The steps of a round, one after the other.
+macro_rules! steps {
+    ($step:ident, $state:ident, $words:ident, $($t:literal)*) => {{
+        let state = $state;
+        $(let state = $step(state, $words, $t);)*
+        state
+    }};
+}
+
 fn first_round<V: Lanes>(state: State<V>, words: &Words<V>) -> State<V>
     ensures { GoesOn V.count V.at words.now 0 state 16 result }
 {
-    let state = f_step(state, words, 0);
-    let state = f_step(state, words, 1);
-    let state = f_step(state, words, 2);
-    let state = f_step(state, words, 3);
-    let state = f_step(state, words, 4);
-    let state = f_step(state, words, 5);
-    let state = f_step(state, words, 6);
-    let state = f_step(state, words, 7);
-    let state = f_step(state, words, 8);
-    let state = f_step(state, words, 9);
-    let state = f_step(state, words, 10);
-    let state = f_step(state, words, 11);
-    let state = f_step(state, words, 12);
-    let state = f_step(state, words, 13);
-    let state = f_step(state, words, 14);
-    f_step(state, words, 15)
+    steps!(f_step, state, words, 0 1 2 3 4 5 6 7 8 9 10 11 12 13 14 15)
 }
 
 fn second_round<V: Lanes>(state: State<V>, words: &Words<V>) -> State<V>
     ensures { GoesOn V.count V.at words.now 16 state 32 result }
 {
-    let state = g_step(state, words, 16);
-    let state = g_step(state, words, 17);
-    let state = g_step(state, words, 18);
-    let state = g_step(state, words, 19);
-    let state = g_step(state, words, 20);
-    let state = g_step(state, words, 21);
-    let state = g_step(state, words, 22);
-    let state = g_step(state, words, 23);
-    let state = g_step(state, words, 24);
-    let state = g_step(state, words, 25);
-    let state = g_step(state, words, 26);
-    let state = g_step(state, words, 27);
-    let state = g_step(state, words, 28);
-    let state = g_step(state, words, 29);
-    let state = g_step(state, words, 30);
-    g_step(state, words, 31)
+    steps!(g_step, state, words, 16 17 18 19 20 21 22 23 24 25 26 27 28 29 30 31)
 }
 
 fn third_round<V: Lanes>(state: State<V>, words: &Words<V>) -> State<V>
     ensures { GoesOn V.count V.at words.now 32 state 48 result }
 {
-    let state = h_step(state, words, 32);
-    let state = h_step(state, words, 33);
-    let state = h_step(state, words, 34);
-    let state = h_step(state, words, 35);
-    let state = h_step(state, words, 36);
-    let state = h_step(state, words, 37);
-    let state = h_step(state, words, 38);
-    let state = h_step(state, words, 39);
-    let state = h_step(state, words, 40);
-    let state = h_step(state, words, 41);
-    let state = h_step(state, words, 42);
-    let state = h_step(state, words, 43);
-    let state = h_step(state, words, 44);
-    let state = h_step(state, words, 45);
-    let state = h_step(state, words, 46);
-    h_step(state, words, 47)
+    steps!(h_step, state, words, 32 33 34 35 36 37 38 39 40 41 42 43 44 45 46 47)
 }
 
 fn fourth_round<V: Lanes>(state: State<V>, words: &Words<V>) -> State<V>
     ensures { GoesOn V.count V.at words.now 48 state 64 result }
 {
-    let state = i_step(state, words, 48);
-    let state = i_step(state, words, 49);
-    let state = i_step(state, words, 50);
-    let state = i_step(state, words, 51);
-    let state = i_step(state, words, 52);
-    let state = i_step(state, words, 53);
-    let state = i_step(state, words, 54);
-    let state = i_step(state, words, 55);
-    let state = i_step(state, words, 56);
-    let state = i_step(state, words, 57);
-    let state = i_step(state, words, 58);
-    let state = i_step(state, words, 59);
-    let state = i_step(state, words, 60);
-    let state = i_step(state, words, 61);
-    let state = i_step(state, words, 62);
-    i_step(state, words, 63)
+    steps!(i_step, state, words, 48 49 50 51 52 53 54 55 56 57 58 59 60 61 62 63)
 }
 
 /// The hash values after a block more.

@@ -1,15 +1,12 @@
 //! Messages on their way to their last hash values, side by side.
 
 ghost use Rattle.std.specs.Prelude.{◌≡◌, ◌≤◌, ◌<◌, ◌*◌, ◌-◌, ℕ, List, IsTrue, length, take, drop, get_or};
-ghost use Rattle.std.specs.List.{list_any};
-ghost use Rattle.std.specs.Option.{is_none};
 ghost use Rattle.par2_digests.specs.Feeds.{hash_behind};
 ghost use Rattle.par2_digests.specs.Lanes.{lane};
 ghost use Rattle.par2_digests.specs.Tasks.{work, works, HasBlocks, HasEnded, HaveLess, HaveNoMore, LeadOn, LeadsTo};
 ghost use Rattle.par2_digests.specs.declared.tasks.Task.{Task};
 
-use crate::alone::hashed;
-use crate::blocks::absorbed;
+use crate::blocks::{absorbed, hashed};
 use crate::feeds::Feed;
 use crate::lanes::Lanes;
 use crate::steps::{State, Words};
@@ -122,42 +119,17 @@ fn turn_all<V: Lanes>(
     }
 }
 
-// Whether a message is without its hash value.
-fn any_is_open(tasks: &[Task]) -> bool
-    ensures { result ≡ list_any (λ task. is_none task.hash) tasks.now }
-{
-    tasks.iter().any(|task| task.hash.is_none())
-}
-
 // Whether the hash value of message k is still to come, and so is that of one after it.
 fn has_company(tasks: &[Task], count: usize, k: usize) -> bool
     requires within { k < count }
     requires few { count ≤ length tasks.now }
     ensures { IsTrue result → 0 < get_or (works tasks.now) k 0 }
 {
-    tasks[k].hash.is_none() && any_is_open(&tasks[k + 1..count])
+    tasks[k].hash.is_none() && tasks[k + 1..count].iter().any(|task| task.hash.is_none())
 }
 
-// Takes as many blocks of each message as can be taken at once.
-fn advance<V: Lanes>(
-    tasks: &mut [Task; 8],
-    blocks: &mut [u8; BLOCKS_LEN],
-    state: State<V>,
-    words: &mut Words<V>,
-    count: usize,
-) -> State<V>
-    requires lanes { count ≤ V.count }
-    requires few { V.count ≤ 8 }
-    ensures leads { LeadOn (lane V.at) count tasks.old state tasks.new result }
-    ensures shrinks { HaveLess count tasks.old tasks.new }
-    ensures size { length tasks.new ≡ 8 }
-{
-    let batch = batch_of(&tasks[..count]);
-    turn_all(tasks, blocks, &state, count, batch);
-    absorbed(state, words, blocks, &STARTS, batch)
-}
-
-// Goes on until the hash value of message k is there, or those of all after it.
+// Takes as many blocks of each message as can be taken at once, until the hash value of message k is there, or those of
+// all after it.
 fn go_on<V: Lanes>(
     tasks: &mut [Task; 8],
     state: State<V>,
@@ -175,35 +147,15 @@ fn go_on<V: Lanes>(
     let mut state = state;
     let mut blocks = [0; BLOCKS_LEN];
     while has_company(tasks, count, k) {
-        state = advance(tasks, &mut blocks, state, words, count);
+        let batch = batch_of(&tasks[..count]);
+        turn_all(tasks, &mut blocks, &state, count, batch);
+        state = absorbed(state, words, &blocks, &STARTS, batch);
     }
     state
 }
 
-// Takes all blocks of message k: beside others while there are any, then by itself, which is faster than all lanes.
-fn finish<V: Lanes>(
-    tasks: &mut [Task; 8],
-    state: State<V>,
-    words: &mut Words<V>,
-    count: usize,
-    k: usize,
-) -> State<V>
-    requires lanes { count ≤ V.count }
-    requires few { V.count ≤ 8 }
-    requires within { k < count }
-    ensures leads { LeadOn (lane V.at) count tasks.old state tasks.new result }
-    ensures stays { HaveNoMore count tasks.old tasks.new }
-    ensures done { get_or (works tasks.new) k 0 ≡ 0 }
-    ensures size { length tasks.new ≡ 8 }
-{
-    let state = go_on(tasks, state, words, count, k);
-    let mut task = tasks[k];
-    task.finish(state.in_lane(k));
-    tasks[k] = task;
-    state
-}
-
-/// Takes all blocks of the first `count` messages, from the state on.
+/// Takes all blocks of the first `count` messages, from the state on: those of each beside others while there are any,
+/// then by itself, which is faster than all lanes.
 pub(crate) fn finish_all<V: Lanes>(
     tasks: &mut [Task; 8],
     state: State<V>,
@@ -218,6 +170,9 @@ pub(crate) fn finish_all<V: Lanes>(
 {
     let mut state = state;
     for k in 0..count {
-        state = finish(tasks, state, words, count, k);
+        state = go_on(tasks, state, words, count, k);
+        let mut task = tasks[k];
+        task.finish(state.in_lane(k));
+        tasks[k] = task;
     }
 }

@@ -6,14 +6,14 @@ pub loop-k-preserved : goal.loop-k-preserved
 loop-k-preserved c =
     let k = c.loop-k.k in
     let digests = c.loop-k.digests in
-    let digest = c.digest_of_lane.result in
+    let digest = c.digest_of.result in
     let within : k < length digests = omega (arith, c.loop-k.invariant.count) in
     record {
       count = length-set digests k digest ∙ c.loop-k.invariant.count;
       done =
           below_more _ _
           (λ j h. let other : j ≢ k = omega arith in rw get_or-set_other (c.loop-k.invariant.done j h))
-          (get_or-set_same digests k digest [] within ∙ c.digest_of_lane.ensures);
+          (get_or-set_same digests k digest [] within ∙ c.digest_of.ensures ∙ ap (λ h. digest_bytes h 4) c.in_lane.ensures);
     }
 
 pub returns : goal.returns

@@ -41,4 +41,4 @@ returns g c = λ k m none low within held.
     let place : slice_index starts k ≡ 16 * k = each_lane (λ i. slice_index starts i ≡ 16 * i) refl refl refl refl refl refl refl refl k (omega (arith, c.requires.lanes)) in
     let here = c.loop-k.invariant.done k none (omega (arith, c.loop-k-test.false)) in
     hash_in_text c.loop-k.bytes (get_or c.args.pendings.now k none).state.hash m _ (16 * k) _ here held.1.0
-    (rw place at (c.four_words-hash.ensures k low))
+    (rw place at (c.four_words.ensures k low))

@@ -12,21 +12,21 @@ pub returns-then-this-eq8 : goal.returns-then-this-eq8
 returns-then-this-eq8 g c = λ k h.
     let low = c.words_of_four-low.result in
     let high = c.words_of_four-high.result in
-    let pairs : ArePairs c.quad_of.result low high = record {
-      first = c.quad_of.ensures.first ∙ c.joined.ensures;
-      second = c.quad_of.ensures.second ∙ c.joined-then-this-eq8.ensures;
-      third = c.quad_of.ensures.third ∙ c.joined-then-this-eq8-2.ensures;
-      fourth = c.quad_of.ensures.fourth ∙ c.joined-then-this-eq8-3.ensures;
+    let pairs : ArePairs c.state_of.result low high = record {
+      a = c.state_of.ensures.a ∙ c.joined.ensures;
+      b = c.state_of.ensures.b ∙ c.joined-then-this-eq8.ensures;
+      c = c.state_of.ensures.c ∙ c.joined-then-this-eq8-2.ensures;
+      d = c.state_of.ensures.d ∙ c.joined-then-this-eq8-3.ensures;
       sizes = c.words_of_four-low.ensures.lanes;
     } in
     elim (cases_lt k 4) [
-      | inl below ↦ low_lane c.quad_of.result low high k below pairs ∙ c.words_of_four-low.ensures.words k below
+      | inl below ↦ low_lane c.state_of.result low high k below pairs ∙ c.words_of_four-low.ensures.words k below
       | inr above ↦
           let starts = c.args.starts.now in
           let j : ℕ = k - 4 in
           let place : 4 + j ≡ k = omega (arith, above) in
           let there = get_or-take (length starts - 4) (drop 4 starts) j 0 (omega (arith, c.requires.enough, c.if-this-eq8.true, h, above)) ∙ get_or-drop 4 starts j 0 ∙ ap (λ n. get_or starts n 0) place in
-          high_lane c.quad_of.result low high k above pairs
+          high_lane c.state_of.result low high k above pairs
           ∙ c.words_of_four-high.ensures.words j (omega (arith, c.if-this-eq8.true, h, above))
           ∙ ap (λ start. four_words_at c.args.bytes.now (start + c.args.offset)) there
     ]

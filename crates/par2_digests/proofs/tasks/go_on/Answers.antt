@@ -1,16 +1,30 @@
-use Rattle.par2_digests.proofs.Common.{◌<◌, get_or, arith, works}
+use Rattle.par2_digests.proofs.Common.{◌≡◌, ◌<◌, ◌*◌, ℕ, List, [], ◌∷◌, ap, arith, drop, get_or, refl, slice_index, subst, sym, take, ◌∙◌, take-take, hash_behind, lane, works, LeadsTo}
+use Rattle.par2_digests.proofs.FeedLaws.{blocks_alike}
+use Rattle.par2_digests.proofs.LaneLaws.{each_lane}
 use Rattle.par2_digests.proofs.tasks.go_on.Goals as goal
 
 pub loop-blocks-preserved : goal.loop-blocks-preserved
 loop-blocks-preserved g c =
     let held = c.loop-blocks.invariant in
+    let blocks = c.turn_all.new.blocks in
+    let batch = c.batch_of-batch.result in
+    let at = g.V.Lanes.at in
+    let starts : List ℕ = 0 ∷ 2048 ∷ 4096 ∷ 6144 ∷ 8192 ∷ 10240 ∷ 12288 ∷ 14336 ∷ [] in
     record {
-      tasks = c.advance-state.ensures.size;
-      leads = λ j none last rest low leads. c.advance-state.ensures.leads j none last rest low (held.leads j none last rest low leads);
-      stays = λ j low. omega (arith, c.advance-state.ensures.shrinks j low, held.stays j low);
+      tasks = c.turn_all.ensures.size;
+      leads = λ j none last rest low leads.
+          let hash = lane at j c.loop-blocks.state in
+          let place : slice_index starts j ≡ 2048 * j = each_lane (λ i. slice_index starts i ≡ 2048 * i) refl refl refl refl refl refl refl refl j (omega (arith, low, c.requires.lanes, c.requires.few)) in
+          let text : List ℕ = drop (2048 * j) blocks in
+          let after : lane at j c.absorbed-state.result ≡ hash_behind hash (take (batch * 64) text) batch =
+          ◌∙◌ {b = hash_behind hash (drop (slice_index starts j) blocks) batch} (c.absorbed-state.ensures.behind j (omega (arith, low, c.requires.lanes)))
+          (◌∙◌ {b = hash_behind hash text batch} (ap (λ n. hash_behind hash (drop n blocks) batch) place)
+          (blocks_alike hash text (take (batch * 64) text) batch (batch * 64) (omega arith) (sym (take-take (batch * 64) (batch * 64) text (omega arith))))) in
+          subst (λ (h : List ℕ). LeadsTo (get_or c.turn_all.new.tasks j none) h last rest) (sym after) (c.turn_all.ensures.leads j none last rest low (held.leads j none last rest low leads));
+      stays = λ j low. omega (arith, c.turn_all.ensures.shrinks j low, held.stays j low);
     }
 
 pub loop-blocks-smaller : goal.loop-blocks-smaller
 loop-blocks-smaller g c =
     let left : 0 < get_or (works c.loop-blocks.tasks) c.args.k 0 = c.has_company.ensures c.loop-blocks-test.true in
-    omega (arith, left, c.advance-state.ensures.shrinks c.args.k c.requires.within)
+    omega (arith, left, c.turn_all.ensures.shrinks c.args.k c.requires.within)

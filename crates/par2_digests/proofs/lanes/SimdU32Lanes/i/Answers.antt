@@ -1,6 +1,6 @@
 use Rattle.par2_digests.proofs.Common.{map, get_or, ap, ◌∙◌, w32, bit_not, bit_or, bit_xor}
 use Rattle.par2_digests.proofs.LaneLaws.{lane_of_one, lane_of_two, vector_of_one, vector_of_two}
-use Rattle.par2_digests.proofs.words.i_words.Goals as goal
+use Rattle.par2_digests.proofs.lanes.SimdU32Lanes.i.Goals as goal
 
 pub returns : goal.returns
 returns g c = λ k h.

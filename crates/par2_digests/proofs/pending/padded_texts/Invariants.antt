@@ -1,5 +1,5 @@
 use Rattle.par2_digests.proofs.Common.{◌≡◌, [], get_or, length, ArePadded, texts_of}
-use Rattle.par2_digests.proofs.texts.padded_texts.Given as goal
+use Rattle.par2_digests.proofs.pending.padded_texts.Given as goal
 
 abbrev pub invariant-loop-i : goal.invariant-loop-i
 invariant-loop-i l = record {

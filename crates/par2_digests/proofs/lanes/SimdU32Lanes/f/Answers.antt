@@ -1,6 +1,6 @@
 use Rattle.par2_digests.proofs.Common.{map, get_or, ap, ◌∙◌, w32, bit_not, bit_and, bit_or}
 use Rattle.par2_digests.proofs.LaneLaws.{lane_of_one, lane_of_pair, vector_of_one}
-use Rattle.par2_digests.proofs.words.f_words.Goals as goal
+use Rattle.par2_digests.proofs.lanes.SimdU32Lanes.f.Goals as goal
 
 pub returns : goal.returns
 returns g c = λ k h.

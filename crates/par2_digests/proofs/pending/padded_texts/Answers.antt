@@ -1,6 +1,6 @@
 use Rattle.par2_digests.proofs.Common.{◌≡◌, ◌++◌, ◌∷◌, ◌∙◌, [], ℕ, List, Bor, ap, append-nil, arith, get_or, length, rules, subst, sym, get_or-map, length_push, IsPadded, texts_of}
 use Rattle.par2_digests.proofs.PendingLaws.{padded_more}
-use Rattle.par2_digests.proofs.texts.padded_texts.Goals as goal
+use Rattle.par2_digests.proofs.pending.padded_texts.Goals as goal
 
 pub loop-i-preserved : goal.loop-i-preserved
 loop-i-preserved c =

@@ -1,7 +1,7 @@
 use Rattle.par2_digests.proofs.Common.{◌<◌, ◌^◌, map, get_or, ap, ap₂, ◌∙◌, arith, Each1-get_or, below_from_Fits, w32, bit_not, bit_and, add32}
 use Rattle.par2_digests.proofs.LaneLaws.{lane_of_one, lane_of_two, vector_of_one, vector_of_two}
 use Rattle.par2_digests.proofs.RoundLaws.{terms_of_g}
-use Rattle.par2_digests.proofs.words.plus_g_words.Goals as goal
+use Rattle.par2_digests.proofs.lanes.SimdU32Lanes.plus_g.Goals as goal
 
 pub returns : goal.returns
 returns g c = λ k h.

@@ -1,7 +1,7 @@
 use Rattle.par2_digests.proofs.Common.{ℕ, ◌*◌, ◌/◌, ◌%◌, ◌-◌, ◌^◌, replicate, refl, arith, ◌∙◌, bit_or, get_or-replicate, shifts_fit_splat}
 use Rattle.std.proofs.lemmas.Simd.{length-replicate}
 use Rattle.par2_digests.proofs.LaneLaws.{lane_of_pair}
-use Rattle.par2_digests.proofs.words.rotated_words.Goals as goal
+use Rattle.par2_digests.proofs.lanes.SimdU32Lanes.rotated.Goals as goal
 
 abbrev up : ℕ → ℕ → ℕ
 up a b = a * 2 ^ b % 2 ^ 32

@@ -1,6 +1,6 @@
 use Rattle.par2_digests.proofs.Common.{◌+◌, ◌*◌, length, min, arith}
 use Rattle.par2_digests.proofs.TextLaws.{texts_more}
-use Rattle.par2_digests.proofs.texts.text_digests.Goals as goal
+use Rattle.par2_digests.proofs.pending.text_digests.Goals as goal
 
 pub loop-group-preserved : goal.loop-group-preserved
 loop-group-preserved c =

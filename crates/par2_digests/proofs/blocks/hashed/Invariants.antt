@@ -1,5 +1,5 @@
 use Rattle.par2_digests.proofs.Common.{◌≡◌, ◌*◌, ◌/◌, ◌%◌, length, drop, slice_index, hash_behind, bytes_left, lane}
-use Rattle.par2_digests.proofs.alone.hashed.Given as goal
+use Rattle.par2_digests.proofs.blocks.hashed.Given as goal
 
 abbrev pub invariant-loop-feed : goal.invariant-loop-feed
 invariant-loop-feed l = record {

@@ -1,6 +1,6 @@
 use Rattle.par2_digests.proofs.Common.{◌≡◌, ◌++◌, [], Result, Ok, Err, get_or, length, map, take, ap, ◌∙◌, arith, rules, length-map, OnOk, if◌then◌else◌, is_ok, md5, texts_of}
 use Rattle.par2_digests.proofs.TextLaws.{first_digests}
-use Rattle.par2_digests.proofs.texts.push_digests.Goals as goal
+use Rattle.par2_digests.proofs.pending.push_digests.Goals as goal
 
 -- what holds where a call gave no fault
 when_ok : {X E A : Type 0} (r : Result X E) (new done old want : A) → new ≡ (if is_ok r then done else old) → done ≡ want → OnOk r (new ≡ want)

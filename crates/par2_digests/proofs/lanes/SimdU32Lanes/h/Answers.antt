@@ -1,6 +1,6 @@
 use Rattle.par2_digests.proofs.Common.{get_or, ap, ◌∙◌, bit_xor}
 use Rattle.par2_digests.proofs.LaneLaws.{lane_of_two, vector_of_two}
-use Rattle.par2_digests.proofs.words.h_words.Goals as goal
+use Rattle.par2_digests.proofs.lanes.SimdU32Lanes.h.Goals as goal
 
 pub returns : goal.returns
 returns g c = λ k h.
