@@ -48,8 +48,8 @@ one_more c x j h =
     let split : x % 2 ^ (j + 1) ≡ bit_xor (bit_at x j * 2 ^ j) (x % 2 ^ j) =
     ap (λ n. x % n) e ∙ mod-mul x (omega arith) (pow_pos j) ∙ sym (xor_shifted (bit_at x j) j (x % 2 ^ j) (mod-lt x (pow_pos j))) in
     let scaled : mul c (bit_at x j * 2 ^ j) ≡ bit_at x j * mul c (pow 2 j) = by_either (bit_cases x j)
-        (λ z. rw z (ap (mul c) (zero-mul (2 ^ j)) ∙ product-zero c ∙ sym (zero-mul (mul c (pow 2 j)))))
-        (λ o. rw o (ap (mul c) (one-mul (2 ^ j) ∙ sym (power_two j h)) ∙ sym (one-mul (mul c (pow 2 j))))) in
+    (λ z. rw z (ap (mul c) (zero-mul (2 ^ j)) ∙ product-zero c ∙ sym (zero-mul (mul c (pow 2 j)))))
+    (λ o. rw o (ap (mul c) (one-mul (2 ^ j) ∙ sym (power_two j h)) ∙ sym (one-mul (mul c (pow 2 j))))) in
     ap (bit_xor (mul c (x % 2 ^ j))) (sym scaled)
     ∙ xor_comm (mul c (x % 2 ^ j)) (mul c (bit_at x j * 2 ^ j))
     ∙ sym (ap (mul c) split ∙ (product_linear_right c).on_xor (bit_at x j * 2 ^ j) (x % 2 ^ j))

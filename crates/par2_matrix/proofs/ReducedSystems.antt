@@ -39,8 +39,8 @@ witness_killed s r q hq free p hp = at (cases_lt 0 (length (list_at s.rows p)))
         let v = word q (list_at s.rows p) in
         field_sum_two s.columns p q (λ i. mul (word i (list_at s.rows p)) (witness s.rows q i)) hp hq apart
         (λ i h np nq. by_either (cases_lt 0 (length (list_at s.rows i)))
-            (λ present. ap (λ x. mul x (witness s.rows q i)) (r.cleared p i (λ e. np (sym e)) present) ∙ zero-product (witness s.rows q i))
-            (λ none. ap (mul (word i (list_at s.rows p))) (witness_else s.rows q i nq ∙ word_empty (list_at s.rows i) q (omega arith)) ∙ product-zero (word i (list_at s.rows p))))
+        (λ present. ap (λ x. mul x (witness s.rows q i)) (r.cleared p i (λ e. np (sym e)) present) ∙ zero-product (witness s.rows q i))
+        (λ none. ap (mul (word i (list_at s.rows p))) (witness_else s.rows q i nq ∙ word_empty (list_at s.rows i) q (omega arith)) ∙ product-zero (word i (list_at s.rows p))))
         ∙ ap₂ bit_xor
         (ap₂ mul (r.pivot p there) (witness_else s.rows q p apart) ∙ product_comm 1 v (omega arith) (r.small p q) ∙ product-one v (r.small p q))
         (ap (mul v) (witness_here s.rows q) ∙ product-one v (r.small p q))
@@ -51,8 +51,8 @@ pub told_apart : (s : Echelon) → IsReduced s → (row : List ℕ) (q : ℕ) �
     → ((p : ℕ) → p < s.columns → 0 < length (list_at s.rows p) → word p row ≡ 0) → ToldApart s row
 told_apart s r row q hq nonzero small none =
     let free : length (list_at s.rows q) ≡ 0 = by_either (cases_lt 0 (length (list_at s.rows q)))
-        (λ there. absurd (nonzero (none q hq there)))
-        (λ e. omega arith) in
+    (λ there. absurd (nonzero (none q hq there)))
+    (λ e. omega arith) in
     record {
       vector = witness s.rows q;
       are_elements = witness_vector s r q;
@@ -60,8 +60,8 @@ told_apart s r row q hq nonzero small none =
       told = λ e. nonzero (sym
           (field_sum_one s.columns q (λ i. mul (word i row) (witness s.rows q i)) hq
           (λ i h n. by_either (cases_lt 0 (length (list_at s.rows i)))
-              (λ present. ap (λ x. mul x (witness s.rows q i)) (none i h present) ∙ zero-product (witness s.rows q i))
-              (λ gone. ap (mul (word i row)) (witness_else s.rows q i n ∙ word_empty (list_at s.rows i) q (omega arith)) ∙ product-zero (word i row)))
+          (λ present. ap (λ x. mul x (witness s.rows q i)) (none i h present) ∙ zero-product (witness s.rows q i))
+          (λ gone. ap (mul (word i row)) (witness_else s.rows q i n ∙ word_empty (list_at s.rows i) q (omega arith)) ∙ product-zero (word i row)))
           ∙ ap (mul (word q row)) (witness_here s.rows q) ∙ product-one (word q row) (small q)) ∙ e);
     }
 

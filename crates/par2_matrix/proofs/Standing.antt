@@ -49,8 +49,8 @@ placed_reduced n b rank R D R'' D'' q row right h =
           ]
           | inr high ↦
               let z : word i (list_at R'' p) ≡ 0 = by_either (cases_lt 0 (length (list_at R p)))
-                  (λ there. word_past (list_at R'' p) i (omega (arith, sizes p other, h.reduced.row_size p there)))
-                  (λ none. word_empty (list_at R'' p) i (omega (arith, sizes p other))) in omega arith
+              (λ there. word_past (list_at R'' p) i (omega (arith, sizes p other, h.reduced.row_size p there)))
+              (λ none. word_empty (list_at R'' p) i (omega (arith, sizes p other))) in omega arith
         ]
       ];
       are_bytes = λ p k. by_either (cases_eq p q)
