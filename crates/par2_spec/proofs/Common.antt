@@ -54,7 +54,7 @@ pub use Rattle.par2_spec.specs.Opening.{Halfway, Opened, Settled, TellsApart, is
 pub use Rattle.par2_spec.specs.Packets.{DescBody, IfscBody, IsCanonical, IsPacket, MainBody, Packet, RecoveryBody, accepted, begins_with_packet, bytes_at, claimed_length, digest_input, first_packet, items_at, kind_of, magic, packet, read_ifsc, read_recovery, type_of, without_end_zeros}
 pub use Rattle.par2_spec.specs.Plans.{AreFewFor, LeadsToAfter, LeadsToAfterAsked, changes_of, create_changes, now_at, purge_changes, repair_changes, repair_removals}
 pub use Rattle.par2_spec.specs.Polynomials.{AreElements, ArePoints, Interpolates, times, times_root, value, with_roots}
-pub use Rattle.par2_spec.specs.Rank.{Agrees, AnotherAgrees, AreBytes, AreSurvivors, IsKept, IsRebuilt, IsRepairable, IsVector, Kills, TwoAgree, is_as_known, is_independent, is_repairable, is_zero, kept, kept_slices, kills, rank, smaller}
+pub use Rattle.par2_spec.specs.Rank.{Agrees, AnotherAgrees, AreBytes, IsKept, IsRebuilt, IsRepairable, IsVector, Kills, is_as_known, is_independent, is_repairable, is_zero, kept, kept_slices, kills, rank, smaller}
 pub use Rattle.par2_spec.specs.Recovery.{coefficients, dot, recovery}
 pub use Rattle.par2_spec.specs.Refusals.{absent_file, after, are_counts, bad_name, by_set, purge_refusal, refusal, repair_refusal, set_in}
 pub use Rattle.par2_spec.specs.Repairs.{AreFew, FitsRepair, HoldsRepaired, after_purge, after_repair, after_repair_and_purge, aside, aside_files, cut_into, files_of_slices, is_par_file, lost_of_unmatched, matched_files, names_without_match, par_files, put_aside, rebuilt, rebuilt_targets, slices_by_target, taken_for}

@@ -214,13 +214,10 @@ scaled_are : (c : ℕ) (v : List ℕ) → c < 2 ^ 16 → AreElements v → AreEl
 scaled_are c [] small h = tt
 scaled_are c (x ∷ v) small h = (product-lt c x small h.0, scaled_are c v small h.1)
 
-products_exchange : (r c x : ℕ) → r < 65536 → c < 65536 → x < 65536 → mul r (mul c x) ≡ mul c (mul r x)
-products_exchange r c x hr hc hx = sym (product_assoc r c x hr hc hx) ∙ ap (λ t. mul t x) (product_comm r c hr hc) ∙ product_assoc c r x hc hr hx
-
 dot-scaled : (c : ℕ) (row v : List ℕ) → c < 2 ^ 16 → AreElements row → AreElements v → dot row (scaled c v) ≡ mul c (dot row v)
 unfolding dot
 dot-scaled c (r ∷ row) (x ∷ v) small hr hv =
-    ap₂ bit_xor (products_exchange r c x hr.0 small hv.0) (dot-scaled c row v small hr.1 hv.1)
+    ap₂ bit_xor (sym (product_assoc r c x hr.0 small hv.0) ∙ ap (λ t. mul t x) (product_comm r c hr.0 small) ∙ product_assoc c r x small hr.0 hv.0) (dot-scaled c row v small hr.1 hv.1)
     ∙ sym ((product_linear_right c).on_xor (mul r x) (dot row v))
 dot-scaled c row v small hr hv = sym (product-zero c)
 

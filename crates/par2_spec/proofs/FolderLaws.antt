@@ -64,12 +64,6 @@ moved true b x y g e h k = ap Some e ∙ sym (h refl)
 moved false true x y g e h k = sym (k refl)
 moved false false x y g e h k = refl
 
-undo_Write : (f : Folder) (n b : List ℕ) → IsTrue (not (has f n)) → map_of.remove (map_of.insert f n b) n ≡ f
-undo_Write f n b h = same_folder _ _ (λ q. gone _ n q ∙ ap (cond (same q n) None) (written f n b q) ∙ off (same q n) b _ (λ t. tied f q n t ∙ absent _ h))
-
-undo_Remove : (f : Folder) (n : List ℕ) → IsTrue (has f n) → map_of.insert (map_of.remove f n) n (bytes_of f n) ≡ f
-undo_Remove f n h = same_folder _ _ (λ q. written _ n _ q ∙ ap (cond (same q n) (Some (bytes_of f n))) (gone f n q) ∙ back (same q n) None _ _ (λ t. tied f q n t ∙ present _ h))
-
 undo_Replace : (f : Folder) (n b : List ℕ) → IsTrue (has f n) → map_of.insert (map_of.insert f n b) n (bytes_of f n) ≡ f
 undo_Replace f n b h = same_folder _ _ (λ q. written _ n _ q ∙ ap (cond (same q n) (Some (bytes_of f n))) (written f n b q) ∙ back (same q n) (Some b) _ _ (λ t. tied f q n t ∙ present _ h))
 
@@ -81,10 +75,10 @@ undo_Rename f a b h k = same_folder _ _ (λ q.
 
 pub undo_change : (f : Folder) (c : Change) → IsTrue (is_applicable f c) → effect (effect f c) (inverse f c) ≡ f
 unfolding effect inverse is_applicable
-undo_change f (Write n b) h = undo_Write f n b h
+undo_change f (Write n b) h = same_folder _ _ (λ q. gone _ n q ∙ ap (cond (same q n) None) (written f n b q) ∙ off (same q n) b _ (λ t. tied f q n t ∙ absent _ h))
 undo_change f (Replace n b) h = undo_Replace f n b h
 undo_change f (Rename a b) h = unfold effect in undo_Rename f a b (and_parts _ _ h).0 (and_parts _ _ h).1
-undo_change f (Remove n) h = undo_Remove f n h
+undo_change f (Remove n) h = same_folder _ _ (λ q. written _ n _ q ∙ ap (cond (same q n) (Some (bytes_of f n))) (gone f n q) ∙ back (same q n) None _ _ (λ t. tied f q n t ∙ present _ h))
 
 -- a name that is there and one that is not are two
 two_names : (f : Folder) (a b : List ℕ) → IsTrue (has f a) → IsTrue (not (has f b)) → same a b ≡ false
@@ -135,10 +129,6 @@ undo_changes f (c ∷ cs) h =
     effects-append _ (way_back (effect f c) cs) (inverse f c ∷ [])
     ∙ ap (λ g. effect g (inverse f c)) (undo_changes (effect f c) cs (and_parts _ _ h).1) ∙ undo_change f c (and_parts _ _ h).0
 
-one_applicable : (f : Folder) (c : Change) → IsTrue (is_applicable f c) → IsTrue (are_applicable f (c ∷ []))
-unfolding are_applicable
-one_applicable f c h = and_from _ _ h refl
-
 pub undo_are_applicable : (f : Folder) (cs : List Change) → IsTrue (are_applicable f cs) → IsTrue (are_applicable (effects f cs) (way_back f cs))
 unfolding effects way_back are_applicable
 undo_are_applicable f [] h = refl
@@ -146,7 +136,7 @@ undo_are_applicable f (c ∷ cs) h =
     let rest = (and_parts (is_applicable f c) (are_applicable (effect f c) cs) h).1 in
     let end = effects (effect f c) cs in
     are_applicable-append end (way_back (effect f c) cs) (inverse f c ∷ []) (undo_are_applicable (effect f c) cs rest)
-    (subst (λ g. IsTrue (are_applicable g (inverse f c ∷ []))) (sym (undo_changes (effect f c) cs rest)) (one_applicable (effect f c) (inverse f c) (undo_is_applicable f c (and_parts _ _ h).0)))
+    (subst (λ g. IsTrue (are_applicable g (inverse f c ∷ []))) (sym (undo_changes (effect f c) cs rest)) (and_from _ _ (undo_is_applicable f c (and_parts _ _ h).0) refl))
 
 pub way_back_twice : (f : Folder) (cs : List Change) → IsTrue (are_applicable f cs) → way_back (effects f cs) (way_back f cs) ≡ cs
 unfolding effects way_back are_applicable

@@ -213,15 +213,12 @@ bytes_from s slices h = all_weaker (IsText s) (λ text. AllByRecursion (λ b. b 
 texts_are : (s : ℕ) → AllByRecursion (IsText s) (all_texts s)
 texts_are s = all_lists_are (IsBelow 256) (all_below 256) (all_below_are 256) s
 
-texts_complete : (s : ℕ) → IsComplete (IsText s) (all_texts s)
-texts_complete s = all_lists_complete (IsBelow 256) (all_below 256) (all_below_complete 256) s
-
 -- where a list agrees, one is found, and it agrees
 pub agreeing_found : (s : ℕ) (known : List (Option (List ℕ))) (recovered : List (ℕ × List ℕ)) (slices : List (List ℕ)) → Agrees s known recovered slices
     → (found : List (List ℕ)) × (find (agrees s known recovered) (all_lists (all_texts s) (length known)) ≡ Some found) × Agrees s known recovered found
 agreeing_found s known recovered slices a =
     let r = find_one (AreOf (IsText s) (length known)) (agrees s known recovered) (all_lists (all_texts s) (length known)) (all_lists_are (IsText s) (all_texts s) (texts_are s) (length known))
-    (all_lists_complete (IsText s) (all_texts s) (texts_complete s) (length known) (agrees s known recovered) slices
+    (all_lists_complete (IsText s) (all_texts s) (all_lists_complete (IsBelow 256) (all_below 256) (all_below_complete 256) s) (length known) (agrees s known recovered) slices
     (AllZip-long (λ slice text. ForSome slice (λ found. text ≡ found)) known slices a.as_known, texts_from s slices a.sizes a.bytes)
     (by_true ((agrees-iff s known recovered slices a.sizes a.bytes).1 a))) in
     (r.0, r.1, (agrees-iff s known recovered r.0 (sizes_from s r.0 r.2.1) (bytes_from s r.0 r.2.1)).0 (is_true r.3))

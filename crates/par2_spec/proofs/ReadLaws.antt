@@ -177,9 +177,6 @@ chosen_are s (r ∷ rs) = step (nat_lt r.exponent 65536 && length r.bytes == s) 
     step true e qs h = let p = and_parts (nat_lt r.exponent 65536) (length r.bytes == s) e in ((ltb-true r.exponent 65536 p.0, eqb-true (length r.bytes) s p.1), h)
     step false e qs h = h
 
-recovery_is : (packets : List Packet) (s : ℕ) → AreRecovery s (map_of.entries (recovery_of packets s))
-recovery_is packets s = all-entries (λ r. (r.0 < 65536) × (length r.1 ≡ s)) _ (chosen_are s (filter_map (λ p. read_recovery p.kind p.body) packets))
-
 -- the steps of the reading, the last one first
 abbrev pub set_with : List ℕ → List Packet → ℕ → List Target → ParSet
 set_with id packets s targets = record { id = id; slice_size = s; targets = targets; recovery = recovery_of packets s }
@@ -260,7 +257,7 @@ sound_set base others set h =
       size = r.size;
       pairs = are.1;
       slices = subst (λ n. n ≤ 32768) (sym are.2) (leb-true (sum_by (λ d. slice_count s d.length) ds) 32768 parts.0);
-      recovery = recovery_is packets s;
+      recovery = all-entries (λ r. (r.0 < 65536) × (length r.1 ≡ s)) _ (chosen_are s (filter_map (λ p. read_recovery p.kind p.body) packets));
     })
 
 -- a slice size is a multiple of 4, not zero and not large

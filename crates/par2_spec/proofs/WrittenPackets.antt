@@ -32,10 +32,6 @@ claimed_is text m l d s k b t h =
     ∙ ap (from_le_bytes w64) (part_at m l (d ++ (s ++ (k ++ (b ++ t)))) 8 8 lens.0 lens.1 ∙ h.claim)
     ∙ from_le_bytes-to_le_bytes_8 (64 + length b) h.small
 
--- the front of n parts
-to_16 : (m l d s k b t : List ℕ) → m ++ (l ++ (d ++ (s ++ (k ++ (b ++ t))))) ≡ (m ++ l) ++ (d ++ (s ++ (k ++ (b ++ t))))
-to_16 m l d s k b t = sym (append_assoc m l _)
-
 to_32 : (m l d s k b t : List ℕ) → m ++ (l ++ (d ++ (s ++ (k ++ (b ++ t))))) ≡ (m ++ (l ++ d)) ++ ((s ++ (k ++ b)) ++ t)
 to_32 m l d s k b t = simp append_assoc
 
@@ -68,7 +64,7 @@ begins text m l d s k b t h =
     let rest : bytes_at 32 (claimed_length text - 32) text ≡ s ++ (k ++ b) =
     ap (bytes_at 32 (claimed_length text - 32)) (h.is ∙ to_32 m l d s k b t) ∙ part_at (m ++ (l ++ d)) (s ++ (k ++ b)) t 32 (claimed_length text - 32) size_mld (omega (arith, size_skb, claim)) in
     let digest : bytes_at 16 16 text ≡ d =
-    ap (bytes_at 16 16) (h.is ∙ to_16 m l d s k b t) ∙ part_at (m ++ l) d (s ++ (k ++ (b ++ t))) 16 16 (omega (arith, length-append m l, lens.0, lens.1)) lens.2 in
+    ap (bytes_at 16 16) (h.is ∙ sym (append_assoc m l _)) ∙ part_at (m ++ l) d (s ++ (k ++ (b ++ t))) 16 16 (omega (arith, length-append m l, lens.0, lens.1)) lens.2 in
     let h1 : leb 64 (length text) ≡ true = le-leb 64 (length text) (omega (arith, size)) in
     let h2 : bytes_eq (bytes_at 0 8 text) magic ≡ true = (bytes_eq-Decides (bytes_at 0 8 text) magic).1 front in
     let h3 : eqb (claimed_length text % 4) 0 ≡ true = eq-eqb (claimed_length text % 4) 0 (ap (λ (n : ℕ). n % 4) claim ∙ h.even) in
