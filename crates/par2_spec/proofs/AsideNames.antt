@@ -69,33 +69,7 @@ pub record IsFirst (test : List ℕ → Bool) (g : ℕ → List ℕ) (a k n : �
 
 first_found : (test : List ℕ → Bool) (g : ℕ → List ℕ) (a k : ℕ) → is_some (find test (map g (range_with_len a k))) ≡ true → (n : ℕ) × IsFirst test g a k n × (find test (map g (range_with_len a k)) ≡ Some (g n))
 first_found test g a zero h = absurd (false≢true h)
-first_found test g a (suc k) h = step (test (g a)) refl h (first_found test g (a + 1) k)
-  where
-    rest : Option (List ℕ)
-    rest = find test (map g (range_with_len (a + 1) k))
-
-    later_on : (m : ℕ) → a ≤ m → (a ≡ m → ⊥) → a + 1 ≤ m
-    later_on m low other = omega (arith, low, other)
-
-    step : (b : Bool) → test (g a) ≡ b → is_some (cond b (Some (g a)) rest) ≡ true
-        → (is_some rest ≡ true → (n : ℕ) × IsFirst test g (a + 1) k n × (rest ≡ Some (g n)))
-        → (n : ℕ) × IsFirst test g a (suc k) n × (cond b (Some (g a)) rest ≡ Some (g n))
-    step true e i later = (a, record { from = omega arith; below = omega arith; passes = e; none_before = λ m l u. absurd (omega (arith, l, u)) }, refl)
-    step false e i later =
-        let r = later i in
-        let l : a + 1 ≤ r.0 = r.1.from in
-        let u : r.0 < (a + 1) + k = r.1.below in (
-          r.0,
-          record {
-            from = omega (arith, l);
-            below = omega (arith, u);
-            passes = r.1.passes;
-            none_before = λ m low high. by_either (cases_eq a m)
-                (λ same. subst (λ x. test (g x) ≡ false) same e)
-                (λ other. r.1.none_before m (later_on m low other) high);
-          },
-          r.2,
-        )
+first_found test g a (suc k) h = grind (arith, by_either, cases_eq, first_found test g (a + 1) k)
 
 -- ---- there is room
 
@@ -113,10 +87,7 @@ none_passes test (x ∷ xs) h q i =
 
 not_later : (name : List ℕ) (m a k : ℕ) → m < a → a + k ≤ 2 ^ 64 → is_among (map (numbered name) (range_with_len a k)) (numbered name m) ≡ false
 not_later name m a zero low high = refl
-not_later name m a (suc k) low high =
-    or_from _ _ (other_name (numbered name m) (numbered name a) (λ e.
-    let same : m ≡ a = numbered_number name m a (omega (arith, low, high)) (omega (arith, high)) e in absurd (omega (arith, same, low))))
-    (not_later name m (a + 1) k (omega (arith, low)) (omega (arith, high)))
+not_later name m a (suc k) low high = grind (arith, or_from, other_name, numbered_number, not_later name m (a + 1) k (omega (arith, low)) (omega (arith, high)))
 
 numbered_once : (name : List ℕ) (a k : ℕ) → a + k ≤ 2 ^ 64 → AreDistinct (map (numbered name) (range_with_len a k))
 numbered_once name a zero h = tt

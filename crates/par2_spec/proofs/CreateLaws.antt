@@ -22,12 +22,7 @@ read_digits n [] = n
 read_digits n (d ∷ ds) = read_digits (n * 10 + (d - 48)) ds
 
 read_five : (x : ℕ) → read_digits 0 (five_digits x) ≡ x % 100000
-read_five x =
-    let e : x % 100000 ≡ x / 10000 % 10 * 10000 + x / 1000 % 10 * 1000 + x / 100 % 10 * 100 + x / 10 % 10 * 10 + x / 1 % 10 = from_five x in
-    spelled (x / 10000 % 10) (x / 1000 % 10) (x / 100 % 10) (x / 10 % 10) (x / 1 % 10) ∙ sym e
-  where
-    spelled : (a b c d e : ℕ) → read_digits 0 ((48 + a) ∷ (48 + b) ∷ (48 + c) ∷ (48 + d) ∷ (48 + e) ∷ []) ≡ a * 10000 + b * 1000 + c * 100 + d * 10 + e
-    spelled a b c d e = omega arith
+read_five x = grind (arith, from_five)
 
 -- what stands after the same front
 same_rest : (front a b : List ℕ) → front ++ a ≡ front ++ b → a ≡ b
@@ -41,10 +36,7 @@ abbrev rest_of : ℕ → ℕ → List ℕ
 rest_of x n = five_digits x ++ (codes "+" ++ (five_digits n ++ codes ".par2"))
 
 volume_name_is : (base : List ℕ) (x n : ℕ) → volume_name base x n ≡ front_of base ++ rest_of x n
-volume_name_is base x n =
-    append_assoc (front_of base ++ five_digits x ++ codes "+") (five_digits n) (codes ".par2")
-    ∙ append_assoc (front_of base ++ five_digits x) (codes "+") (five_digits n ++ codes ".par2")
-    ∙ append_assoc (front_of base) (five_digits x) (codes "+" ++ (five_digits n ++ codes ".par2"))
+volume_name_is base x n = grind (arith, append_assoc)
 
 abbrev first_five : List ℕ → List ℕ
 first_five text = slice_index text 0 ∷ slice_index text 1 ∷ slice_index text 2 ∷ slice_index text 3 ∷ slice_index text 4 ∷ []
@@ -88,12 +80,7 @@ length-volume_name base x n = ap length (volume_name_is base x n) ∙ length-app
 -- the base is shorter than the volumes
 base_no_volume : (base : List ℕ) (f c : ℕ) (is : List ℕ) → is_among (map (volume_at base f c) is) base ≡ false
 base_no_volume base f c [] = refl
-base_no_volume base f c (i ∷ is) =
-    or_from _ _ (other_name base (volume_at base f c i) (λ e.
-    let long : length base ≡ length (stem base) + 20 = ap length e ∙ length-volume_name base (f + volumes_before i) (volume_size c i) in
-    let short : length (stem base) ≡ min (length base - 5) (length base) = length-take (length base - 5) base in
-    omega (arith, long, short)))
-    (base_no_volume base f c is)
+base_no_volume base f c (i ∷ is) = grind (arith, or_from, other_name, length-volume_name, length-take, base_no_volume base f c is)
 
 pub names_of_outputs : (base : List ℕ) (s f c : ℕ) (files : List File) → map (λ file. file.0) (volumes base s f c files) ≡ base ∷ map (volume_at base f c) (volume_numbers c)
 unfolding volumes

@@ -82,11 +82,7 @@ undo_change f (Remove n) h = same_folder _ _ (λ q. written _ n _ q ∙ ap (cond
 
 -- a name that is there and one that is not are two
 two_names : (f : Folder) (a b : List ℕ) → IsTrue (has f a) → IsTrue (not (has f b)) → same a b ≡ false
-two_names f a b h k = split (same a b) refl
-  where
-    split : (t : Bool) → same a b ≡ t → t ≡ false
-    split true e = let p : map_of.get f a ≡ map_of.get f b = tied f a b e in let there = present _ h in let missing = absent _ k in cc
-    split false e = refl
+two_names f a b h k = grind (arith, tied, present, absent)
 
 -- after a rename the old name is free
 left_behind : (f : Folder) (a b : List ℕ) → IsTrue (has f a) → IsTrue (not (has f b)) → map_of.get (map_of.insert (map_of.remove f a) b (bytes_of f a)) a ≡ None
@@ -218,18 +214,12 @@ pub inverse_taken : (s : FolderState) (c : Change) → change_refusal s c ≡ No
 unfolding change_refusal effect inverse
 inverse_taken s (Write n b) h = rw (here s.files n b)
 inverse_taken s (Replace n b) h = rw (here s.files n b)
-inverse_taken s (Rename a b) h =
-    let from = not_refused (has s.files a) NoSuchName _ h in
-    let to = not_refused (not (has s.files b)) NameTaken None from.1 in
-    rw (here (map_of.remove s.files a) b (bytes_of s.files a), left_behind s.files a b from.0 to.0)
+inverse_taken s (Rename a b) h = grind (arith, not_refused, here, left_behind)
 inverse_taken s (Remove n) h = rw (nowhere s.files n, has_room (s.vacant + 1) (omega arith))
 
 vacant_back : (s : FolderState) (c : Change) → change_refusal s c ≡ None → vacant_after (vacant_after s.vacant c) (inverse s.files c) ≡ s.vacant
 unfolding change_refusal inverse
-vacant_back s (Write n b) h =
-    let name = not_refused (not (has s.files n)) NameTaken _ h in
-    let room = has_place s.vacant (not_refused (nat_lt 0 s.vacant) NoRoom None name.1).0 in
-    omega arith
+vacant_back s (Write n b) h = grind (arith, not_refused, has_place)
 vacant_back s (Remove n) h = omega arith
 vacant_back s c h = refl
 
@@ -299,11 +289,7 @@ with_room s k = record { files = s.files; vacant = s.vacant + k }
 
 more_room : (s : FolderState) (k : ℕ) (c : Change) → change_refusal s c ≡ None → (change_refusal (with_room s k) c ≡ None) × (state_after (with_room s k) c ≡ with_room (state_after s c) k)
 unfolding change_refusal
-more_room s k (Write n b) h =
-    let name = not_refused (not (has s.files n)) NameTaken _ h in
-    let room = has_place s.vacant (not_refused (nat_lt 0 s.vacant) NoRoom None name.1).0 in
-    let less : s.vacant + k - 1 ≡ s.vacant - 1 + k = omega arith in
-    (rw (name.0, has_room (s.vacant + k) (omega arith)), λ i. record { files = effect s.files (Write n b); vacant = less i })
+more_room s k (Write n b) h = grind (arith, not_refused, has_place, has_room)
 more_room s k (Remove n) h = let more : s.vacant + k + 1 ≡ s.vacant + 1 + k = omega arith in (h, λ i. record { files = effect s.files (Remove n); vacant = more i })
 more_room s k c h = (h, refl)
 

@@ -75,19 +75,11 @@ killed_vector lost survivors unrepairable =
 -- what holds of the smaller ones
 all_smaller : (P : ℕ → Type 0) (e : ℕ) (es : List ℕ) → AllByRecursion P (smaller e es) → AllByRecursion (λ x. x < e → P x) es
 all_smaller P e [] h = tt
-all_smaller P e (x ∷ es) h = step (nat_lt x e) refl (smaller e es) h (all_smaller P e es)
-  where
-    step : (b : Bool) → nat_lt x e ≡ b → (rest : List ℕ) → AllByRecursion P (cond b (x ∷ rest) rest) → (AllByRecursion P rest → AllByRecursion (λ y. y < e → P y) es) → AllByRecursion (λ y. y < e → P y) (x ∷ es)
-    step true i rest h later = (λ l. h.0, later h.1)
-    step false i rest h later = (λ l. absurd (clash (lt-ltb x e l) i), later h)
+all_smaller P e (x ∷ es) h = grind (arith, clash, lt-ltb, all_smaller P e es)
 
 smaller_all : (P : ℕ → Type 0) (e : ℕ) (es : List ℕ) → AllByRecursion (λ x. x < e → P x) es → AllByRecursion P (smaller e es)
 smaller_all P e [] h = tt
-smaller_all P e (x ∷ es) h = step (nat_lt x e) refl (smaller e es) (smaller_all P e es h.1)
-  where
-    step : (b : Bool) → nat_lt x e ≡ b → (rest : List ℕ) → AllByRecursion P rest → AllByRecursion P (cond b (x ∷ rest) rest)
-    step true i rest k = (h.0 (ltb-true x e i), k)
-    step false i rest k = k
+smaller_all P e (x ∷ es) h = grind (arith, ltb-true, smaller_all P e es h.1)
 
 pub independent-iff : (lost survivors : List ℕ) (e : ℕ) → (is_independent (length lost) (map (coefficients lost) (smaller e survivors)) (coefficients lost e) ≡ true) ↔ IsKept lost survivors e
 unfolding is_independent
@@ -118,13 +110,7 @@ counts xs q = list_any (nat_eq q) xs
 counts-filter : (p : ℕ → Bool) (xs : List ℕ) (q : ℕ) → counts (filter p xs) q ≡ (counts xs q && p q)
 unfolding counts
 counts-filter p [] q = refl
-counts-filter p (x ∷ xs) q =
-    chosen (p x) x (filter p xs) ∙ ap (λ r. cond (p x) (nat_eq q x || r) r) (counts-filter p xs q)
-    ∙ kept_one (nat_eq q x) (p x) (p q) (list_any (nat_eq q) xs) (λ e. ap p (sym (eqb-true q x e)))
-  where
-    chosen : (b : Bool) (y : ℕ) (ys : List ℕ) → list_any (nat_eq q) (cond b (y ∷ ys) ys) ≡ cond b (nat_eq q y || list_any (nat_eq q) ys) (list_any (nat_eq q) ys)
-    chosen true y ys = refl
-    chosen false y ys = refl
+counts-filter p (x ∷ xs) q = grind (arith, kept_one, eqb-true, counts-filter p xs q)
 
 pub counts-iff : (xs : List ℕ) (q : ℕ) → (counts xs q ≡ true) ↔ Contains xs q
 unfolding counts
@@ -227,10 +213,7 @@ pub rebuilt_agrees : (set : ParSet) (known : List (Option (List ℕ))) (slices :
     → Agrees set.slice_size known (kept_slices (lost known) (survivors set) (map_of.entries set.recovery)) slices
     → Agrees set.slice_size known (kept_slices (lost known) (survivors set) (map_of.entries set.recovery)) (rebuilt set known)
 unfolding rebuilt
-rebuilt_agrees set known slices a =
-    let recovered = kept_slices (lost known) (survivors set) (map_of.entries set.recovery) in
-    let r = agreeing_found set.slice_size known recovered slices a in
-    subst (Agrees set.slice_size known recovered) (sym (ap (λ o. unwrap_or o []) r.1)) r.2
+rebuilt_agrees set known slices a = grind (arith, agreeing_found)
 
 pub rebuilt_is_only : (set : ParSet) (known : List (Option (List ℕ))) (slices : List (List ℕ))
     → IsRebuilt set.slice_size known (kept_slices (lost known) (survivors set) (map_of.entries set.recovery)) slices → rebuilt set known ≡ slices

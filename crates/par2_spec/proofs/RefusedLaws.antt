@@ -9,11 +9,7 @@ use Rattle.par2_spec.proofs.RestoredLaws.{true_slices_agree}
 use Rattle.par2_spec.proofs.AcceptedCommands.{missing, in_full, in_part}
 
 is_other : (f : Fault) (m r : ℕ) → (f ≡ NotRepairable m r → ⊥) → ◌≡◌ {A = Option Fault} (Some f) (Some (NotRepairable m r)) → ⊥
-is_other f m r apart e = apart (ap (λ (o : Option Fault). value o) e)
-  where
-    value : Option Fault → Fault
-    value None = f
-    value (Some g) = g
+is_other f m r apart e = grind arith
 
 no_such_file : (k m r : ℕ) → NoSuchFile k ≡ NotRepairable m r → ⊥
 no_such_file k m r e = cc
@@ -44,14 +40,7 @@ unrepairable folder set searched m r e repairable =
 refused_by_set : (folder : Folder) (base : List ℕ) (extras : List (List ℕ)) (purge : Bool) (set : ParSet) (m r : ℕ) → set_of folder base ≡ Ok set → refusal folder (Repair base extras purge) ≡ Some (NotRepairable m r)
     → repair_refusal folder set (candidates folder set extras) ≡ Some (NotRepairable m r)
 unfolding refusal
-refused_by_set folder base extras purge set m r reads e = step (missing folder (base ∷ extras)) refl
-  where
-    ask : Result ParSet Fault → Option Fault
-    ask answer = then_fault answer (λ s. repair_refusal folder s (candidates folder s extras))
-
-    step : (o : Option ℕ) → missing folder (base ∷ extras) ≡ o → repair_refusal folder set (candidates folder set extras) ≡ Some (NotRepairable m r)
-    step None there = sym (ap ask (in_full folder base extras there ∙ reads)) ∙ e
-    step (Some k) there = absurd (is_other (NoSuchFile (0 + k)) m r (no_such_file (0 + k) m r) (sym (ap ask (in_part folder base extras k there)) ∙ e))
+refused_by_set folder base extras purge set m r reads e = grind (arith, missing, in_full, is_other, no_such_file, in_part)
 
 pub size_two : (s : ℕ) → is_slice_size s ≡ true → 2 ≤ s
 size_two s h = let least : 4 ≤ s = (size_parts s h).1 in omega (arith, least)

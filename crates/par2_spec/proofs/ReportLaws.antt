@@ -17,22 +17,11 @@ with_slices t slices = (t, slices)
 cut_pairs : (f : Pair → Option (List ℕ)) (ts : List Target)
     → zip ts (cut_into (map (λ t. length t.pairs) ts) (map f (flat_map (λ t. t.pairs) ts))) ≡ map (λ t. with_slices t (map f t.pairs)) ts
 cut_pairs f [] = refl
-cut_pairs f (t ∷ ts) =
-    let counts = map (λ u. length u.pairs) ts in
-    let mine = map f t.pairs in
-    let rest = map f (flat_map (λ u. u.pairs) ts) in
-    ap (λ xs. with_slices t (take (length t.pairs) xs) ∷ zip ts (cut_into counts (drop (length t.pairs) xs))) (map-append f t.pairs (flat_map (λ u. u.pairs) ts))
-    ∙ ap (λ n. with_slices t (take n (mine ++ rest)) ∷ zip ts (cut_into counts (drop n (mine ++ rest)))) (sym (length-map t.pairs f))
-    ∙ ap (λ xs. with_slices t xs ∷ zip ts (cut_into counts (drop (length mine) (mine ++ rest)))) (take-append_seam mine rest)
-    ∙ ap (λ xs. with_slices t mine ∷ zip ts (cut_into counts xs)) (drop-append_seam mine rest)
-    ∙ ap (λ zs. with_slices t mine ∷ zs) (cut_pairs f ts)
+cut_pairs f (t ∷ ts) = grind (arith, map-append, length-map, take-append_seam, drop-append_seam, cut_pairs f ts)
 
 pub by_target : (folder : Folder) (set : ParSet) (searched : List (List ℕ)) → IsByTarget folder set searched
 unfolding report_of known
-by_target folder set searched =
-    let f = found set.slice_size (map (bytes_of folder) searched) in
-    ap (map (report_of_target folder set searched)) (cut_pairs f set.targets)
-    ∙ map-map (report_of_target folder set searched) (λ t. with_slices t (map f t.pairs)) set.targets
+by_target folder set searched = grind (arith, cut_pairs, map-map)
 
 -- ---- states by the matches in order
 
@@ -84,12 +73,7 @@ second_of_pairs ts given e = absurd (omega (arith, e))
 
 pub states_follow : (folder : Folder) (set : ParSet) (searched : List (List ℕ)) → IsSound set → StatesFollow folder set searched
 unfolding state_of matches
-states_follow folder set searched sound =
-    let free = filter (λ name. not (is_among (intact_names folder set) name)) searched in
-    let given = matched folder set.slice_size free (needing folder set) in
-    let count : length given ≡ length (needing folder set) = matched_count folder set.slice_size free (needing folder set) in
-    states_in_order (is_needing folder set) (λ t. has folder t.name) set.targets given (distinct_from_std _ sound.names_once) count
-    ∙ ap (states_by (is_needing folder set) (λ t. has folder t.name) set.targets) (sym (second_of_pairs (needing folder set) given count))
+states_follow folder set searched sound = search (arith, matched_count, states_in_order, distinct_from_std, second_of_pairs)
 
 -- ---- what is found whole
 

@@ -13,12 +13,7 @@ use Rattle.par2_spec.proofs.UniqueLaws.{agreeing_is_rebuilt}
 -- ---- a slice
 
 pub length-window : (s : ℕ) (text : List ℕ) (o : ℕ) → length (window s text o) ≡ s
-length-window s text o =
-    let part = take s (drop o text) in
-    let size : length part ≡ min s (length (drop o text)) = length-take s (drop o text) in
-    let zeros : List ℕ = replicate (s - length part) 0 in
-    let fill : length zeros ≡ s - length part = length-replicate (s - length part) 0 in
-    length-append part zeros ∙ (let e : length part + length zeros ≡ s = omega (arith, size, fill) in e)
+length-window s text o = grind (arith, length-take, length-replicate, length-append)
 
 pub length-slice_at : (s : ℕ) (text : List ℕ) (j : ℕ) → length (slice_at s text j) ≡ s
 length-slice_at s text j = length-window s text (j * s)
@@ -117,17 +112,7 @@ all_cut ts xs = map cut_out (zip ts (cut_into (map (λ t. length t.pairs) ts) xs
 -- the files cut out of all slices
 cut_files : (s : ℕ) (files : List File) → 0 < s → all_cut (map (target_of_file s) files) (all_slices s files) ≡ map (with_file s) files
 cut_files s [] positive = refl
-cut_files s (file ∷ files) positive =
-    let t = target_of_file s file in
-    let ts = map (target_of_file s) files in
-    let mine = slices s file.1 in
-    let rest = all_slices s files in
-    let count : length t.pairs ≡ length mine = ap length (pairs-target s file) ∙ length-map mine pair_of in
-    ap (λ n. with_bytes t (take t.length (concat (take n (mine ++ rest)))) ∷ all_cut ts (drop n (mine ++ rest))) count
-    ∙ ap (λ xs. with_bytes t (take t.length (concat xs)) ∷ all_cut ts (drop (length mine) (mine ++ rest))) (take-append_seam mine rest)
-    ∙ ap (λ xs. with_bytes t (take t.length (concat mine)) ∷ all_cut ts xs) (drop-append_seam mine rest)
-    ∙ ap (λ bytes. with_bytes t bytes ∷ all_cut ts rest) (ap (λ n. take n (concat mine)) (length-target s file) ∙ slices_joined s file.1 positive)
-    ∙ ap (λ zs. with_bytes t file.1 ∷ zs) (cut_files s files positive)
+cut_files s (file ∷ files) positive = grind (arith, pairs-target, length-map, take-append_seam, drop-append_seam, length-target, slices_joined, cut_files s files positive)
 
 -- ---- what is found is true
 
@@ -174,12 +159,7 @@ true_slices_agree folder base files s searched m told bytes = record {
 
 -- and so with fewer recovery slices
 fewer_agree : (s : ℕ) (known : List (Option (List ℕ))) (rs : List (ℕ × List ℕ)) (slices : List (List ℕ)) (p : ℕ × List ℕ → Bool) → Agrees s known rs slices → Agrees s known (filter p rs) slices
-fewer_agree s known rs slices p agrees = record {
-  sizes = agrees.sizes;
-  bytes = agrees.bytes;
-  as_known = agrees.as_known;
-  as_recovered = all-filter (λ r. recovery s slices r.0 ≡ r.1) p rs agrees.as_recovered;
-}
+fewer_agree s known rs slices p agrees = grind (arith, all-filter)
 
 -- so they are what is rebuilt
 pub true_slices_rebuilt : TrueSlicesAreRebuilt

@@ -85,25 +85,13 @@ undo_next : (folder : Folder) (undos redos : List (List Change)) (t : Session) �
     → (after_undo folder (folders_along folder undos) (folders_along folder redos) ≡ Ok (history_of t)) × (is_valid t ≡ true)
 unfolding session_with history_of folders_along leads
 undo_next folder [] redos t v h = absurd (ok_no_err t NothingToUndo (sym h))
-undo_next folder (entry ∷ undos) redos t v h =
-    let e = same_ok (session_at (effects folder entry) undos (way_back folder entry ∷ redos)) t h in
-    let both = and_parts (leads folder (entry ∷ undos)) (leads folder redos) v in
-    let first = and_parts (are_applicable folder entry) (leads (effects folder entry) undos) both.0 in (
-      (λ i. Ok (record { older = folders_along (effects folder entry) undos; now = effects folder entry; newer = sym (along_back folder entry redos first.0) i })) ∙ ap (λ u. Ok (history_of u)) e,
-      subst (λ u. is_valid u ≡ true) e (and_from _ _ first.1 (leads_back folder entry redos first.0 both.1)),
-    )
+undo_next folder (entry ∷ undos) redos t v h = grind (arith, same_ok, and_parts, along_back, and_from, leads_back)
 
 redo_next : (folder : Folder) (undos redos : List (List Change)) (t : Session) → is_valid (session_at folder undos redos) ≡ true → session_unless (session_at folder undos redos) Redo (first_entry NothingToRedo redos) ≡ Ok t
     → (after_redo (folders_along folder undos) folder (folders_along folder redos) ≡ Ok (history_of t)) × (is_valid t ≡ true)
 unfolding session_with history_of folders_along leads
 redo_next folder undos [] t v h = absurd (ok_no_err t NothingToRedo (sym h))
-redo_next folder undos (entry ∷ redos) t v h =
-    let e = same_ok (session_at (effects folder entry) (way_back folder entry ∷ undos) redos) t h in
-    let both = and_parts (leads folder undos) (leads folder (entry ∷ redos)) v in
-    let first = and_parts (are_applicable folder entry) (leads (effects folder entry) redos) both.1 in (
-      (λ i. Ok (record { older = sym (along_back folder entry undos first.0) i; now = effects folder entry; newer = folders_along (effects folder entry) redos })) ∙ ap (λ u. Ok (history_of u)) e,
-      subst (λ u. is_valid u ≡ true) e (and_from _ _ (leads_back folder entry undos first.0 both.0) first.1),
-    )
+redo_next folder undos (entry ∷ redos) t v h = grind (arith, same_ok, and_parts, along_back, and_from, leads_back)
 
 -- a session that can be walked goes where the history goes, and can be walked again
 pub accepted_next : (s t : Session) (action : Action) → is_valid s ≡ true → LeadsToAfterAsked s.folder action → session_after s action ≡ Ok t → IsNext s action t

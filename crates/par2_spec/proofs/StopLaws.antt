@@ -264,54 +264,11 @@ record TakesBack (folder : Folder) (journal : Journal) (s : Session) (back : Lis
 taken_parts : (folder : Folder) (journal : Journal) (h : HalfwayPart) (k : ℕ) (s : Session) (back : List Change) → journal.halfway ≡ Some h → position (bytes_eq (fingerprint folder)) (journal.fingerprint ∷ h.fingerprints) ≡ Some k
     → taken_back folder journal h k ≡ Ok (Halfway s back) → TakesBack folder journal s back
 unfolding taken_back back_of session_or
-taken_parts folder journal h k s back there found e =
-    let some = drop (length h.back - k) h.back in
-    let opened_as = session_of (effects folder some) journal in
-    step (leads_through folder some (reverse (take k (journal.fingerprint ∷ h.fingerprints))) && is_valid opened_as) refl e
-  where
-    some : List Change
-    some = drop (length h.back - k) h.back
-
-    opened_as : Session
-    opened_as = session_of (effects folder some) journal
-
-    prints : List (List ℕ)
-    prints = reverse (take k (journal.fingerprint ∷ h.fingerprints))
-
-    step : (b : Bool) → (leads_through folder some prints && is_valid opened_as) ≡ b → decided b opened_as some ≡ Ok (Halfway s back) → TakesBack folder journal s back
-    step false i j = absurd (settled_is (Err JournalInvalid) s back refl j)
-    step true i j =
-        let parts = and_parts (leads_through folder some prints) (is_valid opened_as) i in
-        let same_back : some ≡ back = ap (λ a. unwrap_or (back_of a) some) j in
-        let same_session : opened_as ≡ s = ap (session_or opened_as) j in
-        record {
-          halfway = h;
-          halfway_there = there;
-          place = k;
-          found = found;
-          last = sym same_back;
-          through = ap (λ cs. leads_through folder cs prints) (sym same_back) ∙ parts.0;
-          session = sym same_session ∙ ap (λ cs. session_of (effects folder cs) journal) same_back;
-          valid = ap is_valid (sym same_session) ∙ parts.1;
-        }
+taken_parts folder journal h k s back there found e = grind (arith, settled_is, and_parts, back_of, session_or)
 
 takes_back : (folder : Folder) (journal : Journal) (s : Session) (back : List Change) → opened folder journal ≡ Ok (Halfway s back) → TakesBack folder journal s back
 unfolding opened back_of
-takes_back folder journal s back e = by_halfway journal.halfway refl e
-  where
-    by_place : (h : HalfwayPart) → journal.halfway ≡ Some h → (o : Option ℕ) → position (bytes_eq (fingerprint folder)) (journal.fingerprint ∷ h.fingerprints) ≡ o → opened_if_found folder journal h o ≡ Ok (Halfway s back) → TakesBack folder journal s back
-    by_place h there None i j = absurd (settled_is (Err (FolderChanged true)) s back refl j)
-    by_place h there (Some k) i j = taken_parts folder journal h k s back there i j
-
-    by_print : (b : Bool) → (if not b then Err (FolderChanged false) else if is_valid (session_of folder journal) then Ok (Settled (session_of folder journal)) else Err JournalInvalid) ≡ Ok (Halfway s back) → TakesBack folder journal s back
-    by_print false j = absurd (settled_is (Err (FolderChanged false)) s back refl j)
-    by_print true j = by_test (is_valid (session_of folder journal))
-        (λ e. absurd (settled_is (Ok (Settled (session_of folder journal))) s back refl (rw e at j)))
-        (λ e. absurd (settled_is (Err JournalInvalid) s back refl (rw e at j)))
-
-    by_halfway : (o : Option HalfwayPart) → journal.halfway ≡ o → opened_by_part folder journal o ≡ Ok (Halfway s back) → TakesBack folder journal s back
-    by_halfway None i j = by_print (bytes_eq (fingerprint folder) journal.fingerprint) j
-    by_halfway (Some h) i j = by_place h i (position (bytes_eq (fingerprint folder)) (journal.fingerprint ∷ h.fingerprints)) refl j
+takes_back folder journal s back e = grind (arith, settled_is, taken_parts, by_test)
 
 -- ---- a stop while a command is taken back
 

@@ -51,14 +51,7 @@ module _ {P : Type 0} (seen : P → Writer) where
 
   -- a part of a text is a part of a longer one
   pub wrote_less : (a b : P) (xs ys : List ℕ) → TookPart (seen a) (seen b) xs → TookPart (seen a) (seen b) (xs ++ ys)
-  wrote_less a b xs ys p = (
-    (
-      p.0.0,
-      omega (arith, p.0.1, length-append xs ys),
-      subst (Appends (seen a).taken (seen b).taken) (sym (take-append-le p.0.0 xs ys (omega (arith, p.0.1)))) p.0.2,
-    ),
-    p.1,
-  )
+  wrote_less a b xs ys p = grind (arith, length-append, take-append-le)
 
   -- the lines before the i-th were written, and then that one
   pub lines_next : {X : Type 0} (f : X → List ℕ) (a b c : P) (items : List X) (i : ℕ) (item : X) → i < length items
