@@ -171,15 +171,12 @@ no_low low n h small =
     (λ n ds i k. list_any-append (λ b. b == low) ds ((48 + n % 10) ∷ []) ∙ or_from _ _ k (no_low_digit low (n % 10) h)) n small
 
 no_low_numbered : (low : ℕ) (name : List ℕ) (n : ℕ) → low < 48 → (46 ≡ low → ⊥) → n < 2 ^ 64 → list_any (λ b. b == low) name ≡ false → list_any (λ b. b == low) (numbered name n) ≡ false
-no_low_numbered low name n h other small out =
-    ap (list_any (λ b. b == low)) (numbered_is name n) ∙ list_any-append (λ b. b == low) name (46 ∷ decimal n)
-    ∙ or_from _ _ out (or_from _ _ (ne_eqb 46 low other) (no_low low n h small))
+no_low_numbered low name n h other small out = grind (arith, numbered_is, list_any-append, or_from, ne_eqb, no_low)
 
 -- what is dotless and stands at the front of a numbered name stands at the front of the name
 pub front_of_name : (front name rest : List ℕ) → is_dotless front ≡ true → starts_with nat_eq (name ++ 46 ∷ rest) front ≡ true → starts_with nat_eq name front ≡ true
 front_of_name [] name rest h k = refl
-front_of_name (b ∷ front) [] rest h k =
-    absurd (clash (and_parts (eqb b 46) _ k).0 (not-true (b == 46) (and_parts (not (b == 46)) _ h).0))
+front_of_name (b ∷ front) [] rest h k = grind (arith, clash, and_parts, not-true)
 front_of_name (b ∷ front) (c ∷ name) rest h k =
     let r = and_parts (eqb b c) (starts_with nat_eq (name ++ 46 ∷ rest) front) k in
     and_from _ _ r.0 (front_of_name front name rest (and_parts (not (b == 46)) _ h).1 r.1)
@@ -187,9 +184,7 @@ front_of_name (b ∷ front) (c ∷ name) rest h k =
 -- of a front whose first byte alone is a dot
 front_of_numbered : (front name rest : List ℕ) → is_dotless front ≡ true → 0 < length name → starts_with nat_eq (name ++ 46 ∷ rest) (46 ∷ front) ≡ true → starts_with nat_eq name (46 ∷ front) ≡ true
 front_of_numbered front [] rest h l k = absurd (omega (arith, l))
-front_of_numbered front (c ∷ name) rest h l k =
-    let r = and_parts (eqb 46 c) (starts_with nat_eq (name ++ 46 ∷ rest) front) k in
-    and_from _ _ r.0 (front_of_name front name rest h r.1)
+front_of_numbered front (c ∷ name) rest h l k = grind (arith, and_parts, and_from, front_of_name)
 
 pub longer : (name other : List ℕ) → length other < length name → bytes_eq name other ≡ false
 longer name other h = other_name name other (λ e. let same : length name ≡ length other = ap length e in absurd (omega (arith, same, h)))

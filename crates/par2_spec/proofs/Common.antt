@@ -7,7 +7,7 @@ pub use Rattle.std.proofs.Math.Seq.{drop-append_seam, drop-cons, drop-nil, take-
 pub use Rattle.std.proofs.lemmas.Bool.{and_from, and_parts, and_right, both_ways, cases_Bool, cases_eq, cases_lt, cond-true, eq-eqb, eqb-false, eqb-true, false_from_ne_true, false≢true, le-leb, leb-false, leb-true, lt-leb, lt-ltb, ltb-true, ne_eqb, not-false, not-true, not_from_false, or_cases, or_from, or_left, or_parts, or_right, true_from_ne_false}
 pub use Rattle.std.proofs.lemmas.Bool.Decides.{Decides-eqb, nat_tests, same_from_decides}
 pub use Rattle.std.proofs.lemmas.Cmp.{nat_eq_equiv, nat_list_eq_equiv}
-pub use Rattle.std.proofs.lemmas.Grind.{div_ceil_times, flat_map-append, reverse_onto}
+pub use Rattle.std.proofs.lemmas.Grind.{common_steps, div_ceil_times, flat_map-append, reverse_onto}
 pub use Rattle.std.proofs.lemmas.Iterator.Adapters.{position_from-zero}
 pub use Rattle.std.proofs.lemmas.List.{drop-drop, drop_all, drop_at, ext_get_or, get_or-map, get_or-reverse, get_or-set_other, get_or-set_same, get_or-take, get_or_default, get_or_past, length-map, length-replicate, length-reverse, length-take, length-take-le, length_push, map-append, map-set, nil_from_length, replicate_more, reverse-append, reverse-reverse, take-append-drop, take-append-le, take-map, take-take, take_all, take_at, take_more}
 pub use Rattle.std.proofs.lemmas.List.Elements.{All-contains, All-contains_itself, All-from_recursion, Contains-append_right, Contains-get_or, recursion_from_All}

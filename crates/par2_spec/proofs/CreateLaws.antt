@@ -1,5 +1,5 @@
 -- The outputs of a create have distinct names, so its changes apply and lead to its folder.
-use Rattle.par2_spec.proofs.Common.{◌≡◌, ℕ, zero, suc, ◌+◌, ◌-◌, ◌*◌, ◌/◌, ◌%◌, ◌^◌, ◌<◌, ◌≤◌, List, [], ◌∷◌, ◌++◌, length, map, refl, sym, ap, ◌∙◌, subst, true, false, Bool, ◌||◌, arith, length-append, flat_map, slice_index, codes, min, nat_lt, if◌then◌else◌, range_with_len, one-le-pow, pow-le-pow_right, drop-append_seam, length-take, map-map, and_from, not_from_false, or_from, or_left, or_right, is_among, Folder, File, has, Write, Replace, volume_name, volumes_before, volume_numbers, volume_size, five_digits, stem, record_of, in_id_order, index_packets, packet, CreateArgs, outputs_of, create_changes}
+use Rattle.par2_spec.proofs.Common.{◌≡◌, ℕ, zero, suc, ◌+◌, ◌-◌, ◌*◌, ◌/◌, ◌%◌, ◌^◌, ◌<◌, ◌≤◌, List, [], ◌∷◌, ◌++◌, length, map, refl, sym, ap, ◌∙◌, subst, true, false, Bool, ◌||◌, arith, length-append, flat_map, codes, nat_lt, if◌then◌else◌, range_with_len, one-le-pow, pow-le-pow_right, drop-append_seam, length-take, map-map, and_from, not_from_false, or_from, or_left, or_right, is_among, Folder, File, has, Write, Replace, volume_name, volumes_before, volume_numbers, volume_size, five_digits, stem, record_of, in_id_order, index_packets, packet, CreateArgs, outputs_of, create_changes}
 use Rattle.std.specs.Prelude.{drop}
 use Rattle.std.specs.FinMap as map_of
 use Rattle.std.proofs.Math.Pow.{pow-lt}
@@ -38,14 +38,9 @@ rest_of x n = five_digits x ++ (codes "+" ++ (five_digits n ++ codes ".par2"))
 volume_name_is : (base : List ℕ) (x n : ℕ) → volume_name base x n ≡ front_of base ++ rest_of x n
 volume_name_is base x n = grind (arith, append_assoc)
 
-abbrev first_five : List ℕ → List ℕ
-first_five text = slice_index text 0 ∷ slice_index text 1 ∷ slice_index text 2 ∷ slice_index text 3 ∷ slice_index text 4 ∷ []
-
 -- a volume name tells its first exponent up to a multiple of 100,000
 name_tells_first : (base : List ℕ) (x m y n : ℕ) → volume_name base x m ≡ volume_name base y n → x % 100000 ≡ y % 100000
-name_tells_first base x m y n e =
-    let rest : rest_of x m ≡ rest_of y n = same_rest (front_of base) (rest_of x m) (rest_of y n) (sym (volume_name_is base x m) ∙ e ∙ volume_name_is base y n) in
-    sym (read_five x) ∙ ap (λ text. read_digits 0 (first_five text)) rest ∙ read_five y
+name_tells_first base x m y n e = grind (arith, same_rest, volume_name_is, read_five)
 
 -- the first exponents rise, by less than 2 ^ 16
 firsts_apart : (f i j : ℕ) → i < j → j < 17 → (f + volumes_before i) % 100000 ≡ (f + volumes_before j) % 100000 → ⊥

@@ -120,9 +120,7 @@ bytes-all_marked (x ∷ d) (text ∷ texts) small h = (bytes-marked x text small
 
 first_words : (s : ℕ) (d : List ℕ) (texts : List (List ℕ)) → 2 ≤ s → AllByRecursion (λ text. length text ≡ s) texts → length d ≡ length texts → map (word 0) (all_marked d texts) ≡ sums d (map (word 0) texts)
 first_words s [] [] some h e = refl
-first_words s (x ∷ d) (text ∷ texts) some h e =
-    let size : length text ≡ s = h.0 in
-    ap₂ (λ w ws. w ∷ ws) (first_word-marked x text (omega (arith, some, size))) (first_words s d texts some h.1 (omega (arith, e)))
+first_words s (x ∷ d) (text ∷ texts) some h e = grind (arith, first_word-marked, first_words s d texts some h.1 (omega (arith, e)))
 first_words s d texts some h e = absurd (omega (arith, e))
 
 later_words : (p : ℕ) (d : List ℕ) (texts : List (List ℕ)) → map (word (suc p)) (all_marked d texts) ≡ map (word (suc p)) texts

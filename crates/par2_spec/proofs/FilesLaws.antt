@@ -1,5 +1,5 @@
 -- A repair leaves each of the files that a set was made from.
-use Rattle.par2_spec.proofs.Common.{◌≡◌, ℕ, zero, suc, ◌+◌, ◌*◌, ◌%◌, ◌<◌, ◌≤◌, List, [], ◌∷◌, ◌++◌, length, map, refl, sym, ap, ◌∙◌, subst, cond, true, false, Bool, not, ◌&&◌, arith, filter, find, zip, ◌==◌, Option, Some, None, option_to_list, range_with_len, list_all, AllByRecursion, ForSome, bytes_eq, and_parts, and_from, or_from, or_cases, or_left, or_right, eqb-true, false_from_ne_true, false≢true, not-false, cases_eq, not-true, not-not, md5, pair_of, slice_count, slice_at, slices, window, windows, is_match, IsRepairable, is_among, Folder, File, has, bytes_of, names, all_slices, ParSet, Target, target_of_file, MadeFrom, is_slice_size, is_intact, is_needing, needing, intact_names, known, lost, survivors, NoCollision, aside, put_aside, names_without_match, files_of_slices, after_repair, after_repair_and_purge, par_files, is_par_file, files_of}
+use Rattle.par2_spec.proofs.Common.{◌≡◌, ℕ, zero, suc, ◌+◌, ◌*◌, ◌%◌, ◌<◌, ◌≤◌, List, [], ◌∷◌, ◌++◌, length, map, refl, sym, ap, ◌∙◌, subst, cond, true, false, Bool, not, arith, filter, find, zip, Option, Some, None, option_to_list, range_with_len, list_all, AllByRecursion, ForSome, bytes_eq, and_parts, and_from, or_from, or_cases, or_left, or_right, eqb-true, false_from_ne_true, false≢true, not-false, cases_eq, not-true, not-not, md5, pair_of, slice_at, slices, window, windows, is_match, IsRepairable, is_among, Folder, File, has, bytes_of, names, all_slices, ParSet, Target, target_of_file, MadeFrom, is_slice_size, is_intact, is_needing, needing, intact_names, known, lost, survivors, NoCollision, aside, put_aside, names_without_match, files_of_slices, after_repair, after_repair_and_purge, par_files, files_of}
 use Rattle.std.specs.FinMap as map_of
 use Rattle.par2_spec.specs.Volumes.{record_of}
 use Rattle.par2_spec.specs.Search.{matches}

@@ -1,6 +1,5 @@
 -- A change and its inverse; changes in order and their way back; the same for a folder as it is kept.
-use Rattle.par2_spec.proofs.Common.{◌≡◌, ℕ, ◌+◌, ◌-◌, ◌<◌, ◌≤◌, List, [], ◌∷◌, ◌++◌, refl, sym, ap, subst, ◌∙◌, cond, true, false, Bool, not, ◌&&◌, IsTrue, append_assoc, append-nil, arith, unwrap_or, Some, None, Option, is_some, is_none, same_map, slice_cmp-IsAntisymmetric, nat_cmp-IsAntisymmetric, get-insert, get-remove, get_tied, nat_cmp, eq_by_cmp, is_eq, Ordering, Equal, eq_by_cmp_equiv, slice_cmp, nat_list_cmp_total, nat_tests, and_parts, and_from, Folder, has, bytes_of, Change, Write, Replace, Rename, Remove, FolderState, fault_unless, vacant_after, state_after, places_taken}
-use Rattle.par2_spec.specs.declared.ChangeFault.TheVariants.{NameTaken, NoRoom, NoSuchName}
+use Rattle.par2_spec.proofs.Common.{◌≡◌, ℕ, ◌+◌, ◌<◌, ◌≤◌, List, [], ◌∷◌, ◌++◌, refl, sym, ap, subst, ◌∙◌, cond, true, false, Bool, not, ◌&&◌, IsTrue, append_assoc, append-nil, arith, unwrap_or, Some, None, Option, is_some, is_none, same_map, slice_cmp-IsAntisymmetric, nat_cmp-IsAntisymmetric, get-insert, get-remove, get_tied, nat_cmp, eq_by_cmp, is_eq, Ordering, Equal, eq_by_cmp_equiv, slice_cmp, nat_list_cmp_total, nat_tests, and_parts, and_from, Folder, has, bytes_of, Change, Write, Replace, Rename, Remove, FolderState, fault_unless, vacant_after, state_after, places_taken}
 use Rattle.std.proofs.Common.{nat_lt}
 use Rattle.std.specs.FinMap as map_of
 use Rattle.par2_spec.specs.Changes.{effect, inverse, is_applicable, effects, way_back, are_applicable, change_refusal, takes_all, state_after_all}
@@ -69,9 +68,7 @@ undo_Replace f n b h = same_folder _ _ (λ q. written _ n _ q ∙ ap (cond (same
 
 undo_Rename : (f : Folder) (a b : List ℕ) → IsTrue (has f a) → IsTrue (not (has f b)) → effect (effect f (Rename a b)) (Rename b a) ≡ f
 unfolding effect
-undo_Rename f a b h k = same_folder _ _ (λ q.
-    written _ a _ q ∙ ap (cond (same q a) (Some _)) (gone _ b q ∙ ap (cond (same q b) None) (written _ b _ q ∙ ap (cond (same q b) (Some _)) (gone f a q)))
-    ∙ moved (same q a) (same q b) _ _ _ (landed _ b _) (λ t. tied f q a t ∙ present _ h) (λ t. tied f q b t ∙ absent _ k))
+undo_Rename f a b h k = grind (arith, same_folder, written, gone, moved, landed, tied, present, absent)
 
 pub undo_change : (f : Folder) (c : Change) → IsTrue (is_applicable f c) → effect (effect f c) (inverse f c) ≡ f
 unfolding effect inverse is_applicable
@@ -198,9 +195,7 @@ not_refused false x o h = cc
 
 pub taken_is_applicable : (s : FolderState) (c : Change) → change_refusal s c ≡ None → IsTrue (is_applicable s.files c)
 unfolding change_refusal is_applicable
-taken_is_applicable s (Rename a b) h =
-    let from = not_refused (has s.files a) NoSuchName _ h in
-    and_from _ _ from.0 (not_refused (not (has s.files b)) NameTaken None from.1).0
+taken_is_applicable s (Rename a b) h = grind (arith, not_refused, and_from)
 taken_is_applicable s c h = (not_refused _ _ _ h).0
 
 has_room : (n : ℕ) → 0 < n → nat_lt 0 n ≡ true
@@ -265,9 +260,7 @@ taken_are_applicable s (c ∷ cs) h = and_from _ _ (taken_is_applicable s c (tak
 pub state_all_back : (s : FolderState) (cs : List Change) → IsTrue (takes_all s cs) → state_after_all (state_after_all s cs) (way_back s.files cs) ≡ s
 unfolding state_after_all way_back
 state_all_back s [] h = refl
-state_all_back s (c ∷ cs) h =
-    state_after_all-append (state_after_all (state_after s c) cs) (way_back (effect s.files c) cs) (inverse s.files c ∷ [])
-    ∙ ap (λ t. state_after t (inverse s.files c)) (state_all_back (state_after s c) cs (takes_rest s c cs h)) ∙ state_back s c (takes_first s c cs h)
+state_all_back s (c ∷ cs) h = grind (arith, state_after_all-append, takes_rest, state_back, takes_first, state_all_back (state_after s c) cs (takes_rest s c cs h))
 
 pub way_back_taken : (s : FolderState) (cs : List Change) → IsTrue (takes_all s cs) → IsTrue (takes_all (state_after_all s cs) (way_back s.files cs))
 unfolding state_after_all way_back

@@ -1,5 +1,5 @@
 -- What holds of a set that reads, and of the names that are searched.
-use Rattle.par2_spec.proofs.Common.{◌≡◌, ℕ, suc, ◌≤◌, List, [], ◌∷◌, ◌++◌, length, map, refl, sym, ap, ◌∙◌, subst, cond, true, false, Bool, not, ◌&&◌, ◌||◌, arith, length-append, ◌<◌, ◌+◌, ◌^◌, zero, ◌-◌, ◌*◌, take, drop, length-drop, min, nat_lt, filter, filter_map, flat_map, find, slice_get, sum_by, nat_le, Option, Some, None, is_some, unwrap_or, option_map, option_and_then, Result, Ok, Err, ok_or, ◌==◌, if◌then◌else◌, zip, list_all, AllByRecursion, Contains, concat, entries-insert, len-entries, len-empty, nat_cmp-IsAntisymmetric, nat_cmp_total, put, by_order, nat_cmp, Ordering, Less, Equal, Greater, zero-div, zero-mod, bytes_eq, length-map, nil_from_length, length-take-le, sum_by-cons, list_all-map, recursion_from_All, All-contains_itself, and_parts, and_from, or_cases, or_left, or_right, false_from_ne_true, eqb-true, leb-true, ltb-true, false≢true, Fault, NoPackets, NoMain, NoDescription, NoChecksums, BadSet, Pair, slice_count, is_name, is_among, distinct, Packet, accepted, MainBody, DescBody, RecoveryBody, read_ifsc, read_recovery, Folder, has, bytes_of, ParSet, Target, ◌>>=◌, unless, all_some, is_slice_size, packets_with, main_of, description_of, pairs_of, target_of, are_in_profile, recovery_of, other_par_names, IsSound, candidates, known, lost, AreFew, FitsRepair, lost_of_unmatched, cut_into, div_ceil, div_ceil_times, FilesHaveTheirSize}
+use Rattle.par2_spec.proofs.Common.{◌≡◌, ℕ, suc, ◌≤◌, List, [], ◌∷◌, ◌++◌, length, map, refl, sym, ap, ◌∙◌, subst, cond, true, false, Bool, not, ◌&&◌, ◌||◌, arith, length-append, ◌<◌, ◌+◌, ◌^◌, zero, ◌-◌, ◌*◌, take, drop, length-drop, min, nat_lt, filter, filter_map, flat_map, find, sum_by, nat_le, Option, Some, None, is_some, unwrap_or, option_map, option_and_then, Result, Ok, Err, ok_or, ◌==◌, if◌then◌else◌, zip, list_all, AllByRecursion, Contains, concat, entries-insert, len-entries, len-empty, nat_cmp-IsAntisymmetric, nat_cmp_total, put, by_order, nat_cmp, Ordering, zero-div, zero-mod, bytes_eq, length-map, nil_from_length, length-take-le, sum_by-cons, list_all-map, recursion_from_All, All-contains_itself, and_parts, and_from, or_cases, or_left, or_right, false_from_ne_true, eqb-true, leb-true, ltb-true, false≢true, Fault, NoMain, NoDescription, NoChecksums, BadSet, Pair, slice_count, is_name, is_among, distinct, Packet, accepted, MainBody, DescBody, RecoveryBody, read_recovery, Folder, has, bytes_of, ParSet, Target, ◌>>=◌, unless, all_some, is_slice_size, packets_with, main_of, description_of, pairs_of, target_of, are_in_profile, recovery_of, other_par_names, IsSound, candidates, known, lost, AreFew, FitsRepair, lost_of_unmatched, cut_into, div_ceil, div_ceil_times, FilesHaveTheirSize}
 use Rattle.std.specs.Prelude.{◌%◌}
 use Rattle.par2_spec.specs.Sets.{read_set, set_of}
 use Rattle.par2_spec.proofs.NamesLaws.{same_name, itself, clash, among-filter, among-append, AreDistinct, std_from_distinct}
@@ -105,9 +105,7 @@ abbrev IsTargetOf : ℕ → DescBody → Target → Type 0
 IsTargetOf s d t = (t.name ≡ d.name) × (t.length ≡ d.length) × (length t.pairs ≡ slice_count s t.length)
 
 of_target : (packets : List Packet) (s : ℕ) (d : DescBody) (t : Target) → target_of packets s d ≡ Some t → IsTargetOf s d t
-of_target packets s d t h =
-    let r = mapped (target_with d) (if d.length == 0 then Some [] else pairs_of packets d.id (slice_count s d.length)) t h in
-    subst (IsTargetOf s d) r.2 (refl, refl, pairs_fit packets d.id s d.length r.0 r.1)
+of_target packets s d t h = grind (arith, mapped, pairs_fit)
 
 abbrev AreCounted : ℕ → List Target → Type 0
 AreCounted s ts = AllByRecursion (λ t. length t.pairs ≡ slice_count s t.length) ts
@@ -244,9 +242,7 @@ candidates_are folder set extras q = grind (arith, among-distinct, among-append,
 
 -- where the extra names are in the folder, all candidates are
 pub candidates_there : (folder : Folder) (set : ParSet) (extras : List (List ℕ)) → list_all (has folder) extras ≡ true → (q : List ℕ) → is_among (candidates folder set extras) q ≡ true → has folder q ≡ true
-candidates_there folder set extras h q i = by_either (or_cases (is_among (map (λ t. t.name) set.targets) q && has folder q) (is_among extras q) (sym (candidates_are folder set extras q) ∙ i))
-    (λ own. (and_parts (is_among (map (λ t. t.name) set.targets) q) (has folder q) own).1)
-    (λ extra. each_there folder extras h q extra)
+candidates_there folder set extras h q i = grind (arith, by_either, or_cases, candidates_are, and_parts, each_there)
 
 -- each target in the folder is a candidate
 pub present_searched : (folder : Folder) (set : ParSet) (extras : List (List ℕ)) (q : List ℕ) → is_among (map (λ t. t.name) set.targets) q ≡ true → has folder q ≡ true → is_among (candidates folder set extras) q ≡ true

@@ -1,5 +1,5 @@
 -- Where a repair is refused as not repairable, other slices agree too.
-use Rattle.par2_spec.proofs.Common.{◌≡◌, ℕ, ◌+◌, ◌≤◌, List, [], ◌∷◌, refl, sym, ap, ◌∙◌, subst, true, false, Bool, not, arith, Option, Some, None, Result, Ok, both_ways, not-true, Fault, NoSuchFile, NameTooLong, NotRepairable, RepairFailed, first_fault, fault_where, then_fault, Folder, all_slices, is_repairable, IsRepairable, ParSet, set_of, is_slice_size, candidates, known, lost, survivors, Repair, RefusedRepairHasAChoice}
+use Rattle.par2_spec.proofs.Common.{◌≡◌, ℕ, ◌≤◌, List, [], ◌∷◌, refl, subst, true, false, Bool, arith, Option, Some, None, Ok, both_ways, not-true, Fault, NoSuchFile, NameTooLong, NotRepairable, RepairFailed, first_fault, fault_where, Folder, all_slices, IsRepairable, ParSet, set_of, is_slice_size, candidates, known, lost, survivors, Repair, RefusedRepairHasAChoice}
 use Rattle.std.specs.FinMap as map_of
 use Rattle.par2_spec.specs.Refusals.{repair_refusal, refusal}
 use Rattle.par2_spec.proofs.ReadLaws.{sound_of, size_parts}
@@ -32,9 +32,7 @@ first_cause false false false l n m r e = absurd (no_fault m r e)
 
 unrepairable : (folder : Folder) (set : ParSet) (searched : List (List ℕ)) (m r : ℕ) → repair_refusal folder set searched ≡ Some (NotRepairable m r) → IsRepairable (lost (known folder set searched)) (survivors set) → ⊥
 unfolding repair_refusal
-unrepairable folder set searched m r e repairable =
-    both_ways (is_repairable (lost (known folder set searched)) (survivors set)) (not-true _ (first_cause (not (is_repairable (lost (known folder set searched)) (survivors set))) _ _ _ _ m r e))
-    ((repairable-iff (lost (known folder set searched)) (survivors set)).1 repairable)
+unrepairable folder set searched m r e repairable = grind (arith, both_ways, not-true, first_cause, repairable-iff)
 
 -- the refusal of a repair over a set that is read is the set's, or a file's that is not there
 refused_by_set : (folder : Folder) (base : List ℕ) (extras : List (List ℕ)) (purge : Bool) (set : ParSet) (m r : ℕ) → set_of folder base ≡ Ok set → refusal folder (Repair base extras purge) ≡ Some (NotRepairable m r)

@@ -1,5 +1,5 @@
 -- What a report says, target by target.
-use Rattle.par2_spec.proofs.Common.{arith, ◌≡◌, ◌<◌, ℕ, suc, not, List, [], ◌∷◌, ◌++◌, length, map, take, drop, refl, sym, ap, ◌∙◌, subst, cond, true, false, Bool, filter, flat_map, find, zip, slice_index_or, Option, Some, None, Result, Ok, Err, is_some, option_to_list, option_and_then, AllByRecursion, bytes_eq, map-append, length-map, map-map, and_parts, or_parts, false≢true, drop-append_seam, take-append_seam, Pair, found, is_among, Fault, Folder, has, bytes_of, ParSet, Target, set_of, ◌>>=◌, IsSound, is_intact, is_needing, needing, intact_names, matched, match_of, candidates, cut_into, set_in, State, Complete, Report, needing_state, found_of, states_by, IsByTarget, StatesFollow, IsFound, IntactAreFound, MatchedAreFound, HasIntactFile, IsFoundWhole}
+use Rattle.par2_spec.proofs.Common.{arith, ◌≡◌, ◌<◌, ℕ, suc, not, List, [], ◌∷◌, length, map, drop, refl, sym, ap, ◌∙◌, subst, cond, true, false, Bool, filter, flat_map, find, zip, slice_index_or, Option, Some, None, Result, Ok, Err, is_some, option_to_list, option_and_then, AllByRecursion, bytes_eq, map-append, length-map, map-map, and_parts, or_parts, false≢true, drop-append_seam, take-append_seam, Pair, is_among, Fault, Folder, has, bytes_of, ParSet, Target, set_of, ◌>>=◌, IsSound, is_intact, is_needing, needing, intact_names, matched, match_of, candidates, cut_into, set_in, State, Complete, Report, needing_state, found_of, states_by, IsByTarget, StatesFollow, IsFound, IntactAreFound, MatchedAreFound, HasIntactFile, IsFoundWhole}
 use Rattle.par2_spec.specs.Search.{matches, known}
 use Rattle.par2_spec.specs.Reports.{state_of, report_of_target, report_of, report_in}
 use Rattle.par2_spec.proofs.NamesLaws.{itself, AreDistinct, distinct_from_std, among-filter}
@@ -134,16 +134,14 @@ settled_hold F p h (t ∷ ts) given e intact matched = step (p t) refl given e m
 -- each answer found is each pair
 found_whole : (f : Pair → Option (List ℕ)) (pairs : List Pair) → AllByRecursion (λ pair. is_some (f pair) ≡ true) pairs → length (filter (λ slice. is_some slice) (map f pairs)) ≡ length (map f pairs)
 found_whole f [] h = refl
-found_whole f (pair ∷ pairs) h =
-    ap (λ b. length (cond b (f pair ∷ filter (λ slice. is_some slice) (map f pairs)) (filter (λ slice. is_some slice) (map f pairs)))) h.0 ∙ ap suc (found_whole f pairs h.1)
+found_whole f (pair ∷ pairs) h = grind (arith, found_whole f pairs h.1)
 
 whole_by_state : (folder : Folder) (set : ParSet) (searched : List (List ℕ)) (ts : List Target)
     → AllByRecursion (λ z. HasIntactFile z.1 → IsFound folder set.slice_size searched z.0) (zip ts (map (state_of folder set searched) ts))
     → AllByRecursion IsFoundWhole (map (λ t. report_of_target folder set searched (t, found_of folder set searched t)) ts)
 unfolding report_of_target
 whole_by_state folder set searched [] h = tt
-whole_by_state folder set searched (t ∷ ts) h =
-    (λ settled. found_whole (found set.slice_size (map (bytes_of folder) searched)) t.pairs (h.0 settled), whole_by_state folder set searched ts h.1)
+whole_by_state folder set searched (t ∷ ts) h = grind (arith, found_whole, whole_by_state folder set searched ts h.1)
 
 whole_of_set : (folder : Folder) (base : List ℕ) (set : ParSet) (extras : List (List ℕ)) → set_of folder base ≡ Ok set
     → AllByRecursion IsFoundWhole (report_of folder set (candidates folder set extras)).targets

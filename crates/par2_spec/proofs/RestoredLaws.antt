@@ -1,5 +1,5 @@
 -- The slices of a file give the file back, and those of the files that a set was made from are rebuilt.
-use Rattle.par2_spec.proofs.Common.{◌≡◌, ℕ, zero, suc, ◌+◌, ◌-◌, ◌*◌, ◌%◌, ◌<◌, ◌≤◌, List, [], ◌∷◌, ◌++◌, length, map, take, drop, refl, sym, ap, ◌∙◌, subst, true, Bool, arith, inl, inr, length-append, length-drop, flat_map, filter, find, zip, replicate, min, ◌==◌, Option, Some, range_with_len, list_any, concat, AllByRecursion, AllZip, ForSome, add-mul, drop-append_seam, take-append_seam, take-append-add, div_ceil_times, length-take, length-take-le, length-replicate, length-map, take_all, drop_all, take-append-drop, drop-drop, map-append, cases_lt, pair_of, slice_count, slice_at, slices, windows, is_match, found, window, recovery, Agrees, kept_slices, kept, Folder, File, bytes_of, all_slices, Target, target_of_file, MadeFrom, all_pairs, lost, survivors, NoCollision, cut_into, files_of_slices, TrueSlicesAreRebuilt}
+use Rattle.par2_spec.proofs.Common.{◌≡◌, ℕ, zero, suc, ◌+◌, ◌-◌, ◌*◌, ◌%◌, ◌<◌, ◌≤◌, List, [], ◌∷◌, ◌++◌, length, map, take, drop, refl, sym, ap, ◌∙◌, subst, true, Bool, arith, inl, inr, length-append, length-drop, flat_map, filter, find, zip, replicate, ◌==◌, Option, Some, range_with_len, list_any, concat, AllByRecursion, AllZip, ForSome, add-mul, drop-append_seam, take-append_seam, take-append-add, div_ceil_times, length-take, length-take-le, length-replicate, length-map, take_all, drop_all, take-append-drop, drop-drop, map-append, cases_lt, pair_of, slice_count, slice_at, slices, windows, is_match, found, window, recovery, Agrees, kept_slices, kept, Folder, File, bytes_of, all_slices, Target, target_of_file, MadeFrom, all_pairs, lost, survivors, NoCollision, cut_into, files_of_slices, TrueSlicesAreRebuilt}
 use Rattle.std.specs.FinMap as map_of
 use Rattle.std.proofs.Math.Nat.{zero-mul}
 use Rattle.std.proofs.lemmas.List.{append_assoc, append-nil}
@@ -40,9 +40,7 @@ bytes-slice_at s text j h = bytes-window s text (j * s) h
 -- ---- the slices of a text, joined, begin with the text
 
 rest_joined : (s : ℕ) (text : List ℕ) (n j : ℕ) → length text ≤ (j + n) * s → take (length text - j * s) (concat (map (slice_at s text) (range_with_len j n))) ≡ drop (j * s) text
-rest_joined s text zero j le =
-    let all : length text ≤ j * s = (let e : j + 0 ≡ j = omega arith in subst (λ m. length text ≤ m * s) e le) in
-    ap (λ n. take n []) (let e : length text - j * s ≡ 0 = omega (arith, all) in e) ∙ sym (drop_all (j * s) text all)
+rest_joined s text zero j le = grind (arith, drop_all)
 rest_joined s text (suc n) j le =
     let rest = drop (j * s) text in
     let m = length text - j * s in
@@ -92,13 +90,7 @@ length-target s file = refl
 
 pairs_of_files : (s : ℕ) (files : List File) → flat_map (λ t. t.pairs) (map (target_of_file s) files) ≡ map pair_of (all_slices s files)
 pairs_of_files s [] = refl
-pairs_of_files s (file ∷ files) =
-    ap (λ ps. ps ++ flat_map (λ t. t.pairs) (map (target_of_file s) files)) (pairs-target s file) ∙ ap (λ ps. map pair_of (slices s file.1) ++ ps) (pairs_of_files s files)
-    ∙ sym (map-append pair_of (slices s file.1) (all_slices s files))
-
--- a target with its bytes
-abbrev with_bytes : Target → List ℕ → Target × List ℕ
-with_bytes t bytes = (t, bytes)
+pairs_of_files s (file ∷ files) = grind (arith, pairs-target, map-append, pairs_of_files s files)
 
 abbrev with_file : ℕ → File → Target × List ℕ
 with_file s file = (target_of_file s file, file.1)

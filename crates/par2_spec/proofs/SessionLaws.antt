@@ -1,5 +1,5 @@
 -- A session is a history, and a kept session keeps its room.
-use Rattle.par2_spec.proofs.Common.{◌≡◌, ℕ, zero, suc, ◌+◌, ◌-◌, ◌≤◌, List, [], ◌∷◌, refl, sym, ap, ◌∙◌, subst, true, arith, Option, Some, None, Result, Ok, Err, replicate, sum_by, is_ok, AllByRecursion, and_parts, and_from, false≢true, sum_by-cons, drop-nil, Fault, Folder, Change, Write, Replace, Rename, Remove, state_after, effects, are_applicable, way_back, FolderState, takes_all, places_taken, Command, Create, Verify, Repair, Purge, Action, Do, Undo, Redo, refusal, after, changes_of, LeadsToAfter, LeadsToAfterAsked, Session, first_entry, changes_unless, others, session_unless, KeptSession, session_of_kept, CanWalk, OnlyGrew, is_valid}
+use Rattle.par2_spec.proofs.Common.{◌≡◌, ℕ, zero, suc, ◌+◌, ◌-◌, ◌≤◌, List, [], ◌∷◌, refl, sym, ap, ◌∙◌, true, arith, Option, Some, None, Result, Ok, Err, replicate, sum_by, is_ok, AllByRecursion, and_parts, and_from, false≢true, sum_by-cons, drop-nil, Fault, Folder, Change, Write, Replace, Rename, Remove, state_after, effects, are_applicable, way_back, FolderState, takes_all, places_taken, Command, Create, Verify, Repair, Purge, Action, Do, Undo, Redo, refusal, after, changes_of, LeadsToAfter, LeadsToAfterAsked, Session, first_entry, changes_unless, others, session_unless, KeptSession, session_of_kept, CanWalk, OnlyGrew, is_valid}
 use Rattle.par2_spec.specs.History.{History, Refusal, Refused, NothingToUndo, NothingToRedo, in_front, after_command, unless_refused, after_undo, after_redo, Run, Ended, Accepted, Passed, folders, IsChanging}
 use Rattle.std.specs.Prelude.{drop, length}
 use Rattle.par2_spec.specs.Changes.{state_after_all}
@@ -74,9 +74,7 @@ IsNext s action t = (history_after (history_of s) action ≡ Ok (history_of t)) 
 done_next : (s t : Session) (command : Command) (o : Option Fault) → is_valid s ≡ true → (o ≡ None → LeadsToAfter s.folder command) → session_unless s (Do command) (changes_unless o (changes_of s.folder command)) ≡ Ok t
     → (unless_refused o (after_command command (history_of s)) ≡ Ok (history_of t)) × (is_valid t ≡ true)
 done_next s t command (Some fault) v l h = absurd (ok_no_err t (Refused fault) (sym h))
-done_next s t command None v l h =
-    let e = same_ok (session_with s (Do command) (changes_of s.folder command)) t h in
-    (ap Ok (done_is s command (l refl) ∙ ap history_of e), subst (λ u. is_valid u ≡ true) e (valid_done s command v (l refl)))
+done_next s t command None v l h = grind (arith, same_ok, done_is, valid_done)
 
 abbrev session_at : Folder → List (List Change) → List (List Change) → Session
 session_at folder undos redos = record { folder = folder; undos = undos; redos = redos }
@@ -144,8 +142,7 @@ drop_one_more n xs y ys e = absurd (let k : 0 ≡ suc (length ys) = ap length e 
 -- n accepted ones left the n folders before them
 pub run_leaves : (start end : History) (actions : List Action) (n : ℕ) → Run start actions n end → AllByRecursion IsChanging actions → drop n (folders end) ≡ folders start
 run_leaves start end actions n Ended is = refl
-run_leaves start end actions n (Accepted {next = next} {action = action} {actions = rest} {n = m} e run) is =
-    drop_one_more m (folders end) next.now (folders start) (run_leaves next end rest m run is.1 ∙ ap (λ fs. next.now ∷ fs) (changed_older start next action is.0 e))
+run_leaves start end actions n (Accepted {next = next} {action = action} {actions = rest} {n = m} e run) is = grind (arith, drop_one_more, changed_older, run_leaves next end rest m run is.1)
 run_leaves start end actions n (Passed {actions = rest} may run) is = run_leaves start end rest n run is.1
 
 pub none_dropped : {A : Type 0} (n : ℕ) (y : A) (ys : List A) → drop n [] ≡ y ∷ ys → ⊥
@@ -237,9 +234,7 @@ roomier_walks folder k (entry ∷ entries) h =
     and_from _ _ more.0 (ap (λ f. walks f entries) more.1 ∙ roomier_walks (state_after_all folder entry) k entries r.1)
 
 roomier : (old new : FolderState) → new.files ≡ old.files → old.vacant ≤ new.vacant → with_room old (new.vacant - old.vacant) ≡ new
-roomier old new e h =
-    let more : old.vacant + (new.vacant - old.vacant) ≡ new.vacant = omega (arith, h) in
-    λ i. record { files = sym e i; vacant = more i }
+roomier old new e h = grind arith
 
 pub same_session : (old new : KeptSession) → OnlyGrew old new → session_of_kept new ≡ session_of_kept old
 same_session old new grew = λ i. record { folder = grew.files i; undos = grew.undos i; redos = grew.redos i }

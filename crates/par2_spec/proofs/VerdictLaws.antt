@@ -1,5 +1,5 @@
 -- The verdict on what a verify reports, by the words.
-use Rattle.par2_spec.proofs.Common.{◌≡◌, ◌+◌, ℕ, List, [], ◌∷◌, T, length, map, refl, sym, ap, ◌∙◌, subst, Bool, true, false, not, cond, ◌&&◌, ◌↔◌, ◌==◌, nat_lt, Option, Some, None, Result, Ok, Err, filter, is_some, is_none, if◌then◌else◌, bytes_eq, md5, nat_cmp, is_lt, entries_sorted, is_sorted, below_all, list_all, list_any, enumerate_from, AllByRecursion, IsStrictlyIncreasing, eqb-true, eq-eqb, false≢true, not-true, false_from_ne_true, IsStrictlyIncreasing-from_sorted, Fault, NotRepairable, NameTooLong, RepairFailed, first_fault, fault_where, then_fault, Folder, has, bytes_of, ParSet, Target, set_of, all_pairs, ◌>>=◌, found, is_needing, needing, matches, match_of, lost, survivors, candidates, is_repairable, IsRepairable, rank, aside, put_aside, rebuilt_targets, Repair, set_in, Report, is_complete, needing_state, found_of, verdict_of, IsFound, IsVerdict, IsVerdictIn, RefusedAsReported}
+use Rattle.par2_spec.proofs.Common.{◌≡◌, ◌+◌, ℕ, List, [], ◌∷◌, T, length, map, refl, sym, ap, ◌∙◌, subst, Bool, true, false, not, cond, ◌&&◌, ◌↔◌, ◌==◌, nat_lt, Option, Some, None, Result, Ok, Err, filter, is_some, is_none, if◌then◌else◌, bytes_eq, md5, nat_cmp, is_lt, entries_sorted, is_sorted, below_all, list_all, list_any, enumerate_from, AllByRecursion, eqb-true, eq-eqb, false≢true, not-true, false_from_ne_true, IsStrictlyIncreasing-from_sorted, Fault, NotRepairable, NameTooLong, RepairFailed, first_fault, fault_where, then_fault, Folder, has, bytes_of, ParSet, Target, set_of, all_pairs, ◌>>=◌, found, is_needing, needing, matches, match_of, lost, survivors, candidates, is_repairable, IsRepairable, rank, aside, put_aside, rebuilt_targets, Repair, set_in, Report, is_complete, needing_state, found_of, verdict_of, IsFound, IsVerdict, IsVerdictIn, RefusedAsReported}
 use Rattle.std.proofs.Common.{Ordering, Less}
 use Rattle.std.specs.FinMap as map_of
 use Rattle.std.specs.List.Sorted.{IsStrictlySortedBy}
