@@ -12,10 +12,8 @@ length-digits_l p zero x = refl
 length-digits_l p (suc n) x = ap suc (length-digits_l p n (x / p))
 
 two_digits : (ys : List ℕ) → length ys ≡ 2 → number_l 256 ys ≡ get_or ys 0 0 + 256 * get_or ys 1 0
-two_digits [] e = absurd (omega arith)
-two_digits (x ∷ []) e = absurd (omega arith)
 two_digits (x ∷ y ∷ []) e = omega arith
-two_digits (x ∷ y ∷ z ∷ zs) e = absurd (omega arith)
+two_digits ys e = absurd (omega arith)
 
 -- a word of a block, the lower byte first
 block_word : (n : ℕ) (block : List ℕ) (j : ℕ) → length block ≡ 2 * n → Each1 (λ x. x < 256) block → j < n
@@ -111,14 +109,12 @@ looked_up f t js table long small =
 
 -- two vectors that were computed lane by lane, one from xs and one from ys
 pub zip2_of_two : (f : ℕ → ℕ → ℕ) (g h : ℕ → ℕ) (xs ys : List ℕ) → zip2 f (map g xs) (map h ys) ≡ zip2 (λ x y. f (g x) (h y)) xs ys
-zip2_of_two f g h [] ys = refl
-zip2_of_two f g h (x ∷ xs) [] = refl
 zip2_of_two f g h (x ∷ xs) (y ∷ ys) = ap (λ zs. f (g x) (h y) ∷ zs) (zip2_of_two f g h xs ys)
+zip2_of_two f g h xs ys = refl
 
 pub zip2_same : (f g : ℕ → ℕ → ℕ) → ((x y : ℕ) → x < 256 → y < 256 → f x y ≡ g x y) → (xs ys : List ℕ) → Each1 (λ x. x < 256) xs → Each1 (λ y. y < 256) ys → zip2 f xs ys ≡ zip2 g xs ys
-zip2_same f g same [] ys a b = refl
-zip2_same f g same (x ∷ xs) [] a b = refl
 zip2_same f g same (x ∷ xs) (y ∷ ys) a b = ap₂ (λ z zs. z ∷ zs) (same x y a.0 b.0) (zip2_same f g same xs ys a.1 b.1)
+zip2_same f g same xs ys a b = refl
 
 -- ---- sums in place
 

@@ -1,5 +1,5 @@
 -- Vectors, lane by lane.
-use Rattle.par2_gf16.proofs.Common.{ℕ, zero, suc, ◌+◌, ◌*◌, ◌/◌, ◌%◌, ◌^◌, ◌<◌, ◌≡◌, refl, sym, ap, ap₂, ◌∙◌, arith, List, [], ◌∷◌, map, length, replicate, Bool, true, false, cond, eqb, bit_and, zero-mul, one-mul, pow_pos, pow-suc, mul_comm, add-one, inl, inr, mod-lt, shr-shr, xor_comm, and_pow, eqb-true, eqb-false, map-id, zip2_of_maps, map-map, xor_shifted, mul, LanesSoFar, bit_cases, tested, tested_at, product_linear_right, product-lt, product_comm, product_assoc, product-one, product-zero, power-lt}
+use Rattle.par2_gf16.proofs.Common.{ℕ, zero, suc, ◌+◌, ◌*◌, ◌/◌, ◌%◌, ◌^◌, ◌<◌, ◌≡◌, refl, sym, ap, ap₂, ◌∙◌, arith, List, [], ◌∷◌, map, length, replicate, Bool, true, false, cond, eqb, bit_and, zero-mul, one-mul, pow_pos, pow-suc, mul_comm, add-one, inl, inr, mod-lt, shr-shr, xor_comm, and_pow, eqb-true, eqb-false, map-id, zip2_of_maps, map-map, xor_shifted, mul, LanesSoFar, bit_cases, tested, tested_at, product_linear_right, product-lt, product_comm, product_assoc, product-one, product-zero, power-lt, by_either}
 use Rattle.std.proofs.Math.Arith.{mod-mul}
 use Rattle.std.proofs.Math.Nat.{mod-eq_of_lt}
 use Rattle.std.specs.Int.{bit_at}
@@ -29,11 +29,9 @@ pub select_lanes : (n k : ℕ) (ss vs : List ℕ) → length ss ≡ n → length
     → zip2 bit_xor ss (sel_l (map (top 15) (zip2 odd_mask (zip2 bit_and vs (replicate n 1)) (replicate n 1))) (replicate n k) (replicate n 0))
     ≡ zip2 (λ s x. bit_xor s (x % 2 * k)) ss vs
 select_lanes zero k [] vs a b = refl
-select_lanes zero k (s ∷ ss) vs a b = absurd (omega arith)
-select_lanes (suc n) k [] vs a b = absurd (omega arith)
-select_lanes (suc n) k (s ∷ ss) [] a b = absurd (omega arith)
 select_lanes (suc n) k (s ∷ ss) (v ∷ vs) a b =
     ap₂ (λ y ys. y ∷ ys) (ap (bit_xor s) (one_lane v k)) (select_lanes n k ss vs (omega arith) (omega arith))
+select_lanes n k ss vs a b = absurd (omega arith)
 
 -- ---- the turns
 
@@ -49,10 +47,9 @@ one_more c x j h =
     let e : 2 ^ (j + 1) ≡ 2 * 2 ^ j = ap (λ n. 2 ^ n) (add-one j) ∙ pow-suc 2 j ∙ mul_comm (2 ^ j) 2 in
     let split : x % 2 ^ (j + 1) ≡ bit_xor (bit_at x j * 2 ^ j) (x % 2 ^ j) =
     ap (λ n. x % n) e ∙ mod-mul x (omega arith) (pow_pos j) ∙ sym (xor_shifted (bit_at x j) j (x % 2 ^ j) (mod-lt x (pow_pos j))) in
-    let scaled : mul c (bit_at x j * 2 ^ j) ≡ bit_at x j * mul c (pow 2 j) = elim (bit_cases x j) [
-      | inl z ↦ rw z (ap (mul c) (zero-mul (2 ^ j)) ∙ product-zero c ∙ sym (zero-mul (mul c (pow 2 j))))
-      | inr o ↦ rw o (ap (mul c) (one-mul (2 ^ j) ∙ sym (power_two j h)) ∙ sym (one-mul (mul c (pow 2 j))))
-    ] in
+    let scaled : mul c (bit_at x j * 2 ^ j) ≡ bit_at x j * mul c (pow 2 j) = by_either (bit_cases x j)
+    (λ z. rw z (ap (mul c) (zero-mul (2 ^ j)) ∙ product-zero c ∙ sym (zero-mul (mul c (pow 2 j)))))
+    (λ o. rw o (ap (mul c) (one-mul (2 ^ j) ∙ sym (power_two j h)) ∙ sym (one-mul (mul c (pow 2 j))))) in
     ap (bit_xor (mul c (x % 2 ^ j))) (sym scaled)
     ∙ xor_comm (mul c (x % 2 ^ j)) (mul c (bit_at x j * 2 ^ j))
     ∙ sym (ap (mul c) split ∙ (product_linear_right c).on_xor (bit_at x j * 2 ^ j) (x % 2 ^ j))

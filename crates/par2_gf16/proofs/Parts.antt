@@ -1,5 +1,5 @@
 -- Words that are added one part after another, and where a source ends.
-use Rattle.par2_gf16.proofs.Common.{ℕ, ◌+◌, ◌*◌, ◌/◌, ◌<◌, ◌≤◌, ◌≡◌, inl, inr, refl, sym, ap, ◌∙◌, subst, arith, List, length, cases_lt, xor_zero_r, mul, word, product-zero, AddsProducts, AddsWithin}
+use Rattle.par2_gf16.proofs.Common.{ℕ, ◌+◌, ◌*◌, ◌/◌, ◌<◌, ◌≤◌, ◌≡◌, inl, inr, refl, sym, ap, ◌∙◌, subst, arith, List, length, cases_lt, xor_zero_r, mul, word, product-zero, AddsProducts, AddsWithin, by_either}
 use Rattle.std.proofs.Common.{bit_xor}
 use Rattle.par2_spec.proofs.WordLaws.{word_past}
 
@@ -13,10 +13,9 @@ adds_after c src old mid new a b d ab bd first second = record {
 }
   where
     go : (i : ℕ) → a ≤ i → i < d → 2 * i + 1 < length old → word i new ≡ bit_xor (word i old) (mul c (word i src))
-    go i g l room = elim (cases_lt i b) [
-      | inl before ↦ second.below i before ∙ first.inside i g before room
-      | inr after ↦ second.inside i after l (omega (arith, first.same_length)) ∙ ap (λ v. bit_xor v (mul c (word i src))) (first.above i after)
-    ]
+    go i g l room = by_either (cases_lt i b)
+        (λ before. second.below i before ∙ first.inside i g before room)
+        (λ after. second.inside i after l (omega (arith, first.same_length)) ∙ ap (λ v. bit_xor v (mul c (word i src))) (first.above i after))
 
 -- past the end of a source nothing is added
 pub nothing_past : (c : ℕ) (src old : List ℕ) (from to : ℕ) → ((i : ℕ) → from ≤ i → i < to → length src ≤ 2 * i) → AddsWithin c src old old from to

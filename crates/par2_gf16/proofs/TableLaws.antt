@@ -1,5 +1,5 @@
 -- The tables, and the calls by them.
-use Rattle.par2_gf16.proofs.Common.{ℕ, zero, suc, ◌+◌, ◌-◌, ◌*◌, ◌<◌, ◌≡◌, inl, inr, refl, sym, ap, ap₂, ◌∙◌, subst, arith, List, [], ◌∷◌, ◌++◌, length, get_or, set, length-append, length-set, add-one, map, cond, true, false, ◌/◌, ◌%◌, append-nil, cases_eq, get_or-set_same, get_or-set_other, get_or_append_left, map-append, get_or-map, length-map, mul, is_spared, PowersBelow, LogsBelow, AreTables, FirstRound, SecondRound, power-lt, power-add, power-65535, power-injective, logarithm, one_inverse, zero-product, product-one, power-mul, one-power, IsInverse, range_with_len, filter}
+use Rattle.par2_gf16.proofs.Common.{ℕ, zero, suc, ◌+◌, ◌-◌, ◌*◌, ◌<◌, ◌≡◌, inl, inr, refl, sym, ap, ap₂, ◌∙◌, subst, arith, List, [], ◌∷◌, ◌++◌, length, get_or, set, length-append, length-set, add-one, map, cond, true, false, ◌/◌, ◌%◌, append-nil, cases_eq, get_or-set_same, get_or-set_other, get_or_append_left, map-append, get_or-map, length-map, mul, is_spared, PowersBelow, LogsBelow, AreTables, FirstRound, SecondRound, power-lt, power-add, power-65535, power-injective, logarithm, one_inverse, zero-product, product-one, power-mul, one-power, IsInverse, range_with_len, filter, by_either}
 use Rattle.std.proofs.Math.Seq.{get_or-append_seam}
 use Rattle.par2_spec.specs.Field.{pow, constant, constant_powers}
 use Rattle.par2_gf16.specs.Tables.{constants_below}
@@ -14,10 +14,9 @@ next_power i = sym (ap (pow 2) (add-one i))
 pub powers_more : (powers : List ℕ) (n x : ℕ) → PowersBelow powers n → x ≡ pow 2 n → PowersBelow (powers ++ x ∷ []) (n + 1)
 powers_more powers n x so_far e = record {
   count = length-append powers (x ∷ []) ∙ ap (λ m. m + 1) so_far.count;
-  each = λ i h. elim (cases_eq i n) [
-    | inl last ↦ ap (λ j. get_or (powers ++ x ∷ []) j 0) (last ∙ sym so_far.count) ∙ get_or-append_seam powers x [] 0 ∙ e ∙ sym (ap (pow 2) last)
-    | inr before ↦ get_or_append_left powers (x ∷ []) 0 i (omega (arith, so_far.count)) ∙ so_far.each i (omega arith)
-  ];
+  each = λ i h. by_either (cases_eq i n)
+      (λ last. ap (λ j. get_or (powers ++ x ∷ []) j 0) (last ∙ sym so_far.count) ∙ get_or-append_seam powers x [] 0 ∙ e ∙ sym (ap (pow 2) last))
+      (λ before. get_or_append_left powers (x ∷ []) 0 i (omega (arith, so_far.count)) ∙ so_far.each i (omega arith));
 }
 
 pub logs_more : (logs : List ℕ) (n x : ℕ) → n < 65535 → LogsBelow logs n → x ≡ pow 2 n → LogsBelow (set logs x n) (n + 1)

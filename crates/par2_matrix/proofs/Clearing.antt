@@ -1,12 +1,11 @@
 -- Clearing a column, one equation after the other.
-use Rattle.par2_matrix.proofs.Common.{ℕ, ◌+◌, ◌*◌, ◌<◌, ◌≡◌, inl, inr, sym, ap, ◌∙◌, subst, arith, List, length, get_or, set, bit_xor, Vec, Global, cases_eq, mul, word, AddsProducts, ClearedBelow, PutAt, list_at, lists_of, OneChanged, written_here, written_changed, length-lists_of}
+use Rattle.par2_matrix.proofs.Common.{ℕ, ◌+◌, ◌*◌, ◌<◌, ◌≡◌, inl, inr, sym, ap, ◌∙◌, subst, arith, List, length, get_or, set, bit_xor, Vec, Global, cases_eq, mul, word, AddsProducts, ClearedBelow, PutAt, list_at, lists_of, OneChanged, written_here, written_changed, length-lists_of, by_either}
 
 same_sizes : (old mid new : List (List ℕ)) (p : ℕ) → OneChanged mid new p → length (list_at new p) ≡ length (list_at mid p)
     → ((i : ℕ) → length (list_at mid i) ≡ length (list_at old i)) → (i : ℕ) → length (list_at new i) ≡ length (list_at old i)
-same_sizes old mid new p changed here before i = elim (cases_eq i p) [
-  | inl same ↦ subst (λ x. length (list_at new x) ≡ length (list_at old x)) (sym same) (here ∙ before p)
-  | inr other ↦ ap length (changed.others i other) ∙ before i
-]
+same_sizes old mid new p changed here before i = by_either (cases_eq i p)
+    (λ same. subst (λ x. length (list_at new x) ≡ length (list_at old x)) (sym same) (here ∙ before p))
+    (λ other. ap length (changed.others i other) ∙ before i)
 
 -- a multiple of src was added to list p, where the lists below p have theirs
 added_below : (old mid new : List (List ℕ)) (src : List ℕ) (k : ℕ → ℕ) (p : ℕ) → OneChanged mid new p → AddsProducts (k p) src (list_at mid p) (list_at new p) → list_at mid p ≡ list_at old p
@@ -39,10 +38,9 @@ clear_turn q p k row right target old_rows old_rights mid_rows mid_rights new_ro
       right_sizes = same_sizes old_rights mid_rights new_rights p rights right_added.same_length so_far.right_sizes;
       entries = added_below old_rows mid_rows new_rows row factor p rows row_adds at_row so_far.entries;
       texts = added_below old_rights mid_rights new_rights right factor p rights right_adds at_right so_far.texts;
-      are_bytes = λ i b. elim (cases_eq i p) [
-        | inl same ↦ subst (λ x. get_or (list_at new_rights x) b 0 < 256) (sym same) (bytes b)
-        | inr other ↦ subst (λ xs. get_or xs b 0 < 256) (sym (rights.others i other)) (so_far.are_bytes i b)
-      ];
+      are_bytes = λ i b. by_either (cases_eq i p)
+          (λ same. subst (λ x. get_or (list_at new_rights x) b 0 < 256) (sym same) (bytes b))
+          (λ other. subst (λ xs. get_or xs b 0 < 256) (sym (rights.others i other)) (so_far.are_bytes i b));
       rows_above = λ i l. rows.others i (λ e. omega arith) ∙ so_far.rows_above i (omega arith);
       rights_above = λ i l. rights.others i (λ e. omega arith) ∙ so_far.rights_above i (omega arith);
     }
@@ -58,14 +56,12 @@ clear_pass q p row right target old_rows old_rights mid_rows mid_rights so_far e
       right_count = so_far.right_count;
       row_sizes = so_far.row_sizes;
       right_sizes = so_far.right_sizes;
-      entries = λ i w hi hw. elim (cases_eq i p) [
-        | inl same ↦ absurd (let z : length (list_at old_rows i) ≡ 0 = ap (λ x. length (list_at old_rows x)) same ∙ row_none in omega arith)
-        | inr other ↦ so_far.entries i w (omega arith) hw
-      ];
-      texts = λ i w hi hw. elim (cases_eq i p) [
-        | inl same ↦ absurd (let z : length (list_at old_rights i) ≡ 0 = ap (λ x. length (list_at old_rights x)) same ∙ right_none in omega arith)
-        | inr other ↦ so_far.texts i w (omega arith) hw
-      ];
+      entries = λ i w hi hw. by_either (cases_eq i p)
+          (λ same. absurd (let z : length (list_at old_rows i) ≡ 0 = ap (λ x. length (list_at old_rows x)) same ∙ row_none in omega arith))
+          (λ other. so_far.entries i w (omega arith) hw);
+      texts = λ i w hi hw. by_either (cases_eq i p)
+          (λ same. absurd (let z : length (list_at old_rights i) ≡ 0 = ap (λ x. length (list_at old_rights x)) same ∙ right_none in omega arith))
+          (λ other. so_far.texts i w (omega arith) hw);
       are_bytes = so_far.are_bytes;
       rows_above = λ i l. so_far.rows_above i (omega arith);
       rights_above = λ i l. so_far.rights_above i (omega arith);

@@ -15,6 +15,7 @@ pub use Rattle.par2_spec.proofs.FieldOrder.{cancel, product-zero, zero-product}
 pub use Rattle.par2_spec.proofs.FieldProducts.{product-lt, product-one, product_comm}
 pub use Rattle.par2_spec.proofs.ListsLaws.{all_at, all_from}
 pub use Rattle.par2_spec.proofs.SumLaws.{dot_sum, field_sum_one, field_sum_same, field_sum_two, product_at, row_sum-lt, row_sum_added, row_sum_empty, row_sum_scaled, row_sum_unit, xor_off, xor_same}
+pub use Rattle.par2_spec.proofs.TestLaws.{by_either}
 pub use Rattle.par2_spec.proofs.WordLaws.{bytes_at, combination_words, length-lists_of, read_at, same_texts, word-lt, word_empty, word_past, written_changed, written_here}
 pub use Rattle.par2_spec.specs.Field.{mul}
 pub use Rattle.par2_spec.specs.Rank.{IsVector}

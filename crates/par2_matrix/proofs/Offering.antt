@@ -1,5 +1,5 @@
 -- An offer, put together.
-use Rattle.par2_matrix.proofs.Common.{ℕ, ◌+◌, ◌*◌, ◌<◌, ◌≡◌, ◌≢◌, inl, inr, sym, ap, ◌∙◌, subst, arith, List, length, get_or, cases_lt, mul, word, product-zero, echelon, IsReduced, PutAt, ReducedBelow, IsPrepared, list_at, word-lt}
+use Rattle.par2_matrix.proofs.Common.{ℕ, ◌+◌, ◌*◌, ◌<◌, ◌≡◌, ◌≢◌, inl, inr, sym, ap, ◌∙◌, subst, arith, List, length, get_or, cases_lt, mul, word, product-zero, echelon, IsReduced, PutAt, ReducedBelow, IsPrepared, list_at, word-lt, by_either}
 use Rattle.par2_matrix.proofs.ReducedSystems.{ToldApart, told_apart, all_present, present_at_most}
 use Rattle.par2_matrix.proofs.Placing.{Placed, Cut, cut_down}
 use Rattle.par2_matrix.proofs.Standing.{placed_reduced}
@@ -25,10 +25,8 @@ tells n b rank R D row0 right0 row right q r p =
 
 -- the place that an offer takes was free
 free_at : (n b : ℕ) (R D : List (List ℕ)) (row0 right0 row right : List ℕ) (q : ℕ) → IsPrepared (echelon n b 0 R D) row0 right0 row right q → length (list_at R q) ≡ 0
-free_at n b R D row0 right0 row right q p = elim (cases_lt 0 (length (list_at R q))) [
-  | inl there ↦ absurd (p.nonzero (p.taken.none q p.place there))
-  | inr none ↦ omega arith
-]
+free_at n b R D row0 right0 row right q p =
+    by_either (cases_lt 0 (length (list_at R q))) (λ there. absurd (p.nonzero (p.taken.none q p.place there))) (λ none. omega arith)
 
 placed : (n b rank : ℕ) (R D R'' D'' : List (List ℕ)) (row0 right0 row right : List ℕ) (q : ℕ) → IsReduced (echelon n b rank R D)
     → IsPrepared (echelon n b 0 R D) row0 right0 row right q → PutAt q row right R D R'' D'' → Placed n b rank R D R'' D'' q row right

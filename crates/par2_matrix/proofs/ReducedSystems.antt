@@ -1,5 +1,5 @@
 -- What a reduced system kills and what solves it.
-use Rattle.par2_matrix.proofs.Common.{ℕ, zero, suc, ◌+◌, ◌<◌, ◌≤◌, ◌≡◌, ◌≢◌, ◌⊎◌, ◌↔◌, inl, inr, refl, sym, ap, ap₂, ◌∙◌, subst, arith, List, length, bit_xor, cond, eqb, cases_eq, cases_lt, eq-eqb, ne_eqb, cond-true, cond-false, suc-ne-zero, xor_self, mul, word, product_comm, product-one, product-zero, zero-product, Echelon, Vanishes, IsReduced, row_sum, AreElements, list_at, word_empty, field_sum_one, field_sum_two, row_sum_empty, row_sum_unit}
+use Rattle.par2_matrix.proofs.Common.{ℕ, zero, suc, ◌+◌, ◌<◌, ◌≤◌, ◌≡◌, ◌≢◌, ◌⊎◌, ◌↔◌, inl, inr, refl, sym, ap, ap₂, ◌∙◌, subst, arith, List, length, bit_xor, cond, eqb, cases_eq, cases_lt, eq-eqb, ne_eqb, cond-true, cond-false, suc-ne-zero, xor_self, mul, word, product_comm, product-one, product-zero, zero-product, Echelon, Vanishes, IsReduced, row_sum, AreElements, list_at, word_empty, field_sum_one, field_sum_two, row_sum_empty, row_sum_unit, by_either}
 use Rattle.par2_matrix.specs.Echelon.{count_present}
 
 -- a vector that the equations send to 0 and the row doesn't
@@ -22,10 +22,9 @@ unfolding witness
 witness_else rows q i n = cond-false (eqb i q) 1 (word q (list_at rows i)) (ne_eqb i q n)
 
 witness_vector : (s : Echelon) → IsReduced s → (q : ℕ) → AreElements (witness s.rows q)
-witness_vector s r q i = elim (cases_eq i q) [
-  | inl same ↦ let e : witness s.rows q i ≡ 1 = ap (witness s.rows q) same ∙ witness_here s.rows q in omega arith
-  | inr other ↦ subst (λ x. x < 65536) (sym (witness_else s.rows q i other)) (r.small i q)
-]
+witness_vector s r q i = by_either (cases_eq i q)
+    (λ same. let e : witness s.rows q i ≡ 1 = ap (witness s.rows q) same ∙ witness_here s.rows q in omega arith)
+    (λ other. subst (λ x. x < 65536) (sym (witness_else s.rows q i other)) (r.small i q))
 
 witness_killed : (s : Echelon) → IsReduced s → (q : ℕ) → q < s.columns → length (list_at s.rows q) ≡ 0 → Vanishes s (witness s.rows q)
 witness_killed s r q hq free p hp = at (cases_lt 0 (length (list_at s.rows p)))
@@ -39,10 +38,9 @@ witness_killed s r q hq free p hp = at (cases_lt 0 (length (list_at s.rows p)))
         let apart : p ≢ q = λ e. (let z : length (list_at s.rows p) ≡ 0 = ap (λ x. length (list_at s.rows x)) e ∙ free in omega arith) in
         let v = word q (list_at s.rows p) in
         field_sum_two s.columns p q (λ i. mul (word i (list_at s.rows p)) (witness s.rows q i)) hp hq apart
-        (λ i h np nq. elim (cases_lt 0 (length (list_at s.rows i))) [
-          | inl present ↦ ap (λ x. mul x (witness s.rows q i)) (r.cleared p i (λ e. np (sym e)) present) ∙ zero-product (witness s.rows q i)
-          | inr none ↦ ap (mul (word i (list_at s.rows p))) (witness_else s.rows q i nq ∙ word_empty (list_at s.rows i) q (omega arith)) ∙ product-zero (word i (list_at s.rows p))
-        ])
+        (λ i h np nq. by_either (cases_lt 0 (length (list_at s.rows i)))
+        (λ present. ap (λ x. mul x (witness s.rows q i)) (r.cleared p i (λ e. np (sym e)) present) ∙ zero-product (witness s.rows q i))
+        (λ none. ap (mul (word i (list_at s.rows p))) (witness_else s.rows q i nq ∙ word_empty (list_at s.rows i) q (omega arith)) ∙ product-zero (word i (list_at s.rows p))))
         ∙ ap₂ bit_xor
         (ap₂ mul (r.pivot p there) (witness_else s.rows q p apart) ∙ product_comm 1 v (omega arith) (r.small p q) ∙ product-one v (r.small p q))
         (ap (mul v) (witness_here s.rows q) ∙ product-one v (r.small p q))
@@ -52,20 +50,18 @@ witness_killed s r q hq free p hp = at (cases_lt 0 (length (list_at s.rows p)))
 pub told_apart : (s : Echelon) → IsReduced s → (row : List ℕ) (q : ℕ) → q < s.columns → word q row ≢ 0 → ((i : ℕ) → word i row < 65536)
     → ((p : ℕ) → p < s.columns → 0 < length (list_at s.rows p) → word p row ≡ 0) → ToldApart s row
 told_apart s r row q hq nonzero small none =
-    let free : length (list_at s.rows q) ≡ 0 = elim (cases_lt 0 (length (list_at s.rows q))) [
-      | inl there ↦ absurd (nonzero (none q hq there))
-      | inr e ↦ omega arith
-    ] in
+    let free : length (list_at s.rows q) ≡ 0 = by_either (cases_lt 0 (length (list_at s.rows q)))
+    (λ there. absurd (nonzero (none q hq there)))
+    (λ e. omega arith) in
     record {
       vector = witness s.rows q;
       are_elements = witness_vector s r q;
       killed = witness_killed s r q hq free;
       told = λ e. nonzero (sym
           (field_sum_one s.columns q (λ i. mul (word i row) (witness s.rows q i)) hq
-          (λ i h n. elim (cases_lt 0 (length (list_at s.rows i))) [
-            | inl present ↦ ap (λ x. mul x (witness s.rows q i)) (none i h present) ∙ zero-product (witness s.rows q i)
-            | inr gone ↦ ap (mul (word i row)) (witness_else s.rows q i n ∙ word_empty (list_at s.rows i) q (omega arith)) ∙ product-zero (word i row)
-          ])
+          (λ i h n. by_either (cases_lt 0 (length (list_at s.rows i)))
+          (λ present. ap (λ x. mul x (witness s.rows q i)) (none i h present) ∙ zero-product (witness s.rows q i))
+          (λ gone. ap (mul (word i row)) (witness_else s.rows q i n ∙ word_empty (list_at s.rows i) q (omega arith)) ∙ product-zero (word i row)))
           ∙ ap (mul (word q row)) (witness_here s.rows q) ∙ product-one (word q row) (small q)) ∙ e);
     }
 
@@ -74,10 +70,9 @@ told_apart s r row q hq nonzero small none =
 pub present_at_most : (rows : List (List ℕ)) (n : ℕ) → count_present rows n ≤ n
 unfolding count_present
 present_at_most rows zero = omega arith
-present_at_most rows (suc n) = elim (cases_eq (length (list_at rows n)) 0) [
-  | inl none ↦ rw (eq-eqb (length (list_at rows n)) 0 none) (omega (arith, present_at_most rows n))
-  | inr some ↦ rw (ne_eqb (length (list_at rows n)) 0 some) (omega (arith, present_at_most rows n))
-]
+present_at_most rows (suc n) = by_either (cases_eq (length (list_at rows n)) 0)
+    (λ none. rw (eq-eqb (length (list_at rows n)) 0 none) (omega (arith, present_at_most rows n)))
+    (λ some. rw (ne_eqb (length (list_at rows n)) 0 some) (omega (arith, present_at_most rows n)))
 
 pub all_present : (rows : List (List ℕ)) (n : ℕ) → count_present rows n ≡ n → (p : ℕ) → p < n → 0 < length (list_at rows p)
 unfolding count_present
@@ -88,10 +83,9 @@ all_present rows (suc n) e p h = elim (cases_eq (length (list_at rows n)) 0) [
       absurd (omega (arith, present_at_most rows n))
   | inr some ↦
       let f : count_present rows n + 1 ≡ suc n = subst (λ b. count_present rows n + cond b 0 1 ≡ suc n) (ne_eqb (length (list_at rows n)) 0 some) e in
-      elim (cases_eq p n) [
-        | inl last ↦ subst (λ x. 0 < length (list_at rows x)) (sym last) (omega arith)
-        | inr before ↦ all_present rows n (omega arith) p (omega arith)
-      ]
+      by_either (cases_eq p n)
+      (λ last. subst (λ x. 0 < length (list_at rows x)) (sym last) (omega arith))
+      (λ before. all_present rows n (omega arith) p (omega arith))
 ]
 
 pub one_absent : (rows : List (List ℕ)) (n : ℕ) → count_present rows n < n → (q : ℕ) × ((q < n) × (length (list_at rows q) ≡ 0))

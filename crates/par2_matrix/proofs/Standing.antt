@@ -1,5 +1,5 @@
 -- The system with the new equation is reduced again, and the texts of a full system.
-use Rattle.par2_matrix.proofs.Common.{ℕ, zero, suc, ◌+◌, ◌*◌, ◌%◌, ◌<◌, ◌≤◌, ◌≡◌, ◌≢◌, inl, inr, refl, sym, ap, ap₂, ◌∙◌, subst, arith, List, [], length, get_or, bit_xor, cond, eqb, cases_eq, cases_lt, eq-eqb, ne_eqb, get_or_past, xor_self, mul, word, product-one, product-lt, product-zero, Echelon, echelon, IsReduced, AllEmpty, list_at, word_past, word_empty, word-lt}
+use Rattle.par2_matrix.proofs.Common.{ℕ, zero, suc, ◌+◌, ◌*◌, ◌%◌, ◌<◌, ◌≤◌, ◌≡◌, ◌≢◌, inl, inr, refl, sym, ap, ap₂, ◌∙◌, subst, arith, List, [], length, get_or, bit_xor, cond, eqb, cases_eq, cases_lt, eq-eqb, ne_eqb, get_or_past, xor_self, mul, word, product-one, product-lt, product-zero, Echelon, echelon, IsReduced, AllEmpty, list_at, word_past, word_empty, word-lt, by_either}
 use Rattle.std.proofs.lemmas.Nat.{xor_lt}
 use Rattle.par2_matrix.specs.Echelon.{count_present}
 use Rattle.par2_matrix.proofs.ReducedSystems.{present_at_most}
@@ -48,29 +48,24 @@ placed_reduced n b rank R D R'' D'' q row right h =
             | inr highp ↦ let z : word i (list_at R'' p) ≡ 0 = word_empty (list_at R'' p) i (sizes p other ∙ past p highp) in omega arith
           ]
           | inr high ↦
-              let z : word i (list_at R'' p) ≡ 0 = elim (cases_lt 0 (length (list_at R p))) [
-                | inl there ↦ word_past (list_at R'' p) i (omega (arith, sizes p other, h.reduced.row_size p there))
-                | inr none ↦ word_empty (list_at R'' p) i (omega (arith, sizes p other))
-              ] in omega arith
+              let z : word i (list_at R'' p) ≡ 0 = by_either (cases_lt 0 (length (list_at R p)))
+              (λ there. word_past (list_at R'' p) i (omega (arith, sizes p other, h.reduced.row_size p there)))
+              (λ none. word_empty (list_at R'' p) i (omega (arith, sizes p other))) in omega arith
         ]
       ];
-      are_bytes = λ p k. elim (cases_eq p q) [
-        | inl same ↦ subst (λ x. x < 256) (sym (ap (λ x. get_or (list_at D'' x) k 0) same ∙ ap (λ xs. get_or xs k 0) h.put.at_right)) (h.put.right_bytes k)
-        | inr other ↦ subst (λ x. x < 256) (sym (ap (λ xs. get_or xs k 0) (h.put.other_rights.others p other))) (h.put.cleared.are_bytes p k)
-      ];
+      are_bytes = λ p k. by_either (cases_eq p q)
+          (λ same. subst (λ x. x < 256) (sym (ap (λ x. get_or (list_at D'' x) k 0) same ∙ ap (λ xs. get_or xs k 0) h.put.at_right)) (h.put.right_bytes k))
+          (λ other. subst (λ x. x < 256) (sym (ap (λ xs. get_or xs k 0) (h.put.other_rights.others p other))) (h.put.cleared.are_bytes p k));
       even = h.reduced.even;
-      absent = λ p e. elim (cases_eq p q) [
-        | inl same ↦ absurd (let l : length (list_at R'' p) ≡ 2 * n = ap (λ x. length (list_at R'' x)) same ∙ here in let g = h.place in omega arith)
-        | inr other ↦ right_sizes p other ∙ h.reduced.absent p (sym (sizes p other) ∙ e)
-      ];
-      row_size = λ p there. elim (cases_eq p q) [
-        | inl same ↦ ap (λ x. length (list_at R'' x)) same ∙ here
-        | inr other ↦ sizes p other ∙ h.reduced.row_size p (there_before p other there)
-      ];
-      right_size = λ p there. elim (cases_eq p q) [
-        | inl same ↦ ap (λ x. length (list_at D'' x)) same ∙ ap length h.put.at_right ∙ h.right_size
-        | inr other ↦ right_sizes p other ∙ h.reduced.right_size p (there_before p other there)
-      ];
+      absent = λ p e. by_either (cases_eq p q)
+          (λ same. absurd (let l : length (list_at R'' p) ≡ 2 * n = ap (λ x. length (list_at R'' x)) same ∙ here in let g = h.place in omega arith))
+          (λ other. right_sizes p other ∙ h.reduced.absent p (sym (sizes p other) ∙ e));
+      row_size = λ p there. by_either (cases_eq p q)
+          (λ same. ap (λ x. length (list_at R'' x)) same ∙ here)
+          (λ other. sizes p other ∙ h.reduced.row_size p (there_before p other there));
+      right_size = λ p there. by_either (cases_eq p q)
+          (λ same. ap (λ x. length (list_at D'' x)) same ∙ ap length h.put.at_right ∙ h.right_size)
+          (λ other. right_sizes p other ∙ h.reduced.right_size p (there_before p other there));
       pivot = λ p there. elim (cases_eq p q) [
         | inl same ↦ ap (λ x. word x (list_at R'' x)) same ∙ ap (λ xs. word q xs) h.put.at_row ∙ h.pivot
         | inr other ↦

@@ -1,5 +1,5 @@
 -- Taking the pivots out of an equation.
-use Rattle.par2_matrix.proofs.Common.{ℕ, ◌+◌, ◌*◌, ◌<◌, ◌≡◌, ◌⊎◌, inl, inr, sym, ap, ap₂, ◌∙◌, subst, arith, List, length, bit_xor, cases_eq, cases_lt, xor_self, xor_zero_r, mul, word, IsInverse, AddsProducts, product_comm, product-one, product-zero, Echelon, IsReduced, echelon, ReducedBelow, Scaled, IsMultiple, row_sum, AreElements, list_at, row_sum_added, suc-ne-zero}
+use Rattle.par2_matrix.proofs.Common.{ℕ, ◌+◌, ◌*◌, ◌<◌, ◌≡◌, ◌⊎◌, inl, inr, sym, ap, ap₂, ◌∙◌, subst, arith, List, length, bit_xor, cases_eq, cases_lt, xor_self, xor_zero_r, mul, word, IsInverse, AddsProducts, product_comm, product-one, product-zero, Echelon, IsReduced, echelon, ReducedBelow, Scaled, IsMultiple, row_sum, AreElements, list_at, row_sum_added, suc-ne-zero, by_either}
 use Rattle.par2_spec.proofs.FieldBits.{xor_middle}
 
 pub reduce_skip : (s : Echelon) (r0 d0 row right : List ℕ) (p : ℕ) → ReducedBelow s r0 d0 row right p
@@ -7,10 +7,9 @@ pub reduce_skip : (s : Echelon) (r0 d0 row right : List ℕ) (p : ℕ) → Reduc
 reduce_skip s r0 d0 row right p so_far here = record {
   row_size = so_far.row_size;
   right_size = so_far.right_size;
-  none = λ q h there. elim (cases_eq q p) [
-    | inl same ↦ subst (λ x. word x row ≡ 0) (sym same) (here (subst (λ x. 0 < length (list_at s.rows x)) same there))
-    | inr other ↦ so_far.none q (omega arith) there
-  ];
+  none = λ q h there. by_either (cases_eq q p)
+      (λ same. subst (λ x. word x row ≡ 0) (sym same) (here (subst (λ x. 0 < length (list_at s.rows x)) same there)))
+      (λ other. so_far.none q (omega arith) there);
   kills = so_far.kills;
   solves = so_far.solves;
 }
@@ -68,20 +67,14 @@ pub reduce_pass : (n b : ℕ) (rows rights : List (List ℕ)) (r0 d0 row right s
     → ReducedBelow (echelon n b 0 rows rights) r0 d0 row right p → ReducedBelow (echelon n b 0 rows rights) r0 d0 row right (p + 1)
 reduce_pass n b rows rights r0 d0 row right src p k ek es why so_far =
     reduce_skip (echelon n b 0 rows rights) r0 d0 row right p so_far
-    (λ there. elim why [
-      | inl z ↦ sym ek ∙ z
-      | inr e ↦ absurd (let h : length (list_at rows p) ≡ 0 = ap length (sym es) ∙ e in omega arith)
-    ])
+    (λ there. by_either why (λ z. sym ek ∙ z) (λ e. absurd (let h : length (list_at rows p) ≡ 0 = ap length (sym es) ∙ e in omega arith)))
 
 -- an equation times the inverse of one of its elements
 pub multiple_of : (row1 right1 row right : List ℕ) (x c : ℕ) → IsInverse x c → c < 65536 → Scaled c row1 row (length row1) → Scaled c right1 right (length right1)
     → (n : ℕ) → length row1 ≡ 2 * n → IsMultiple n (length right1) row1 right1 row right
 multiple_of row1 right1 row right x c inverse hc row_scaled right_scaled n size = record {
   factor = c;
-  positive = elim (cases_eq c 0) [
-    | inl z ↦ absurd (suc-ne-zero 0 (sym inverse.is_one ∙ ap (mul x) z ∙ product-zero x))
-    | inr n ↦ omega arith
-  ];
+  positive = by_either (cases_eq c 0) (λ z. absurd (suc-ne-zero 0 (sym inverse.is_one ∙ ap (mul x) z ∙ product-zero x))) (λ n. omega arith);
   is_element = hc;
   entries = λ i h. row_scaled.each i (omega arith) (omega arith);
   texts = λ w h. right_scaled.each w (omega arith) h;

@@ -1,5 +1,5 @@
 -- From the lists of the contracts to what the reduced form says of functions, and back.
-use Rattle.par2_matrix.proofs.Common.{ℕ, zero, suc, ◌+◌, ◌*◌, ◌/◌, ◌<◌, ◌≡◌, ◌↔◌, inl, inr, refl, sym, ap, ◌∙◌, subst, arith, List, [], ◌∷◌, length, get_or, map, cond, eqb, cases_lt, ne_eqb, get_or-map, get_or-map-range_with_len, length-map-range_with_len, AllByRecursion, mul, word, words, dot, combination, IsVector, Equations, IsKilled, Solves, AreTexts, Echelon, Vanishes, Meets, IsReduced, system_of, Spells, row_sum, AreElements, list_at, all_at, bytes_at, word_empty, word-lt, combination_words, field_sum_same, row_sum_empty, row_sum-lt, dot_sum, product_at}
+use Rattle.par2_matrix.proofs.Common.{ℕ, zero, suc, ◌+◌, ◌*◌, ◌/◌, ◌<◌, ◌≡◌, ◌↔◌, inl, inr, refl, sym, ap, ◌∙◌, subst, arith, List, [], ◌∷◌, length, get_or, map, cond, eqb, cases_lt, ne_eqb, get_or-map, get_or-map-range_with_len, length-map-range_with_len, AllByRecursion, mul, word, words, dot, combination, IsVector, Equations, IsKilled, Solves, AreTexts, Echelon, Vanishes, Meets, IsReduced, system_of, Spells, row_sum, AreElements, list_at, all_at, bytes_at, word_empty, word-lt, combination_words, field_sum_same, row_sum_empty, row_sum-lt, dot_sum, product_at, by_either}
 use Rattle.par2_matrix.specs.Echelon.{equations, count_present}
 
 -- ---- sums
@@ -64,10 +64,9 @@ rank_view e r = length-equations e.rows e.rights (counts e r) ∙ ap (count_pres
 
 pub kills_view : (e : Echelon) → IsReduced e → (v : List ℕ) → IsVector e.columns v → IsKilled (system_of e) v ↔ Vanishes e (λ i. get_or v i 0)
 kills_view e r v is = (
-  (λ killed p hp. elim (cases_lt 0 (length (list_at e.rows p))) [
-    | inl there ↦ sym (dot_words e.columns (list_at e.rows p) v (r.row_size p there)) ∙ equation_at (λ row right. dot row v ≡ 0) e.rows e.rights (counts e r) killed p there
-    | inr none ↦ row_sum_empty e.columns (list_at e.rows p) (λ i. get_or v i 0) (λ i h. word_empty (list_at e.rows p) i (omega arith))
-  ]),
+  (λ killed p hp. by_either (cases_lt 0 (length (list_at e.rows p)))
+      (λ there. sym (dot_words e.columns (list_at e.rows p) v (r.row_size p there)) ∙ equation_at (λ row right. dot row v ≡ 0) e.rows e.rights (counts e r) killed p there)
+      (λ none. row_sum_empty e.columns (list_at e.rows p) (λ i. get_or v i 0) (λ i h. word_empty (list_at e.rows p) i (omega arith)))),
   (λ vanishes. all_equations (λ row right. dot row v ≡ 0) e.rows e.rights (counts e r)
       (λ p hp there. dot_words e.columns (list_at e.rows p) v (r.row_size p there) ∙ vanishes p (omega (arith, r.row_count)))),
 )

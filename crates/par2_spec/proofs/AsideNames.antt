@@ -69,33 +69,7 @@ pub record IsFirst (test : List ℕ → Bool) (g : ℕ → List ℕ) (a k n : �
 
 first_found : (test : List ℕ → Bool) (g : ℕ → List ℕ) (a k : ℕ) → is_some (find test (map g (range_with_len a k))) ≡ true → (n : ℕ) × IsFirst test g a k n × (find test (map g (range_with_len a k)) ≡ Some (g n))
 first_found test g a zero h = absurd (false≢true h)
-first_found test g a (suc k) h = step (test (g a)) refl h (first_found test g (a + 1) k)
-  where
-    rest : Option (List ℕ)
-    rest = find test (map g (range_with_len (a + 1) k))
-
-    later_on : (m : ℕ) → a ≤ m → (a ≡ m → ⊥) → a + 1 ≤ m
-    later_on m low other = omega (arith, low, other)
-
-    step : (b : Bool) → test (g a) ≡ b → is_some (cond b (Some (g a)) rest) ≡ true
-        → (is_some rest ≡ true → (n : ℕ) × IsFirst test g (a + 1) k n × (rest ≡ Some (g n)))
-        → (n : ℕ) × IsFirst test g a (suc k) n × (cond b (Some (g a)) rest ≡ Some (g n))
-    step true e i later = (a, record { from = omega arith; below = omega arith; passes = e; none_before = λ m l u. absurd (omega (arith, l, u)) }, refl)
-    step false e i later =
-        let r = later i in
-        let l : a + 1 ≤ r.0 = r.1.from in
-        let u : r.0 < (a + 1) + k = r.1.below in (
-          r.0,
-          record {
-            from = omega (arith, l);
-            below = omega (arith, u);
-            passes = r.1.passes;
-            none_before = λ m low high. by_either (cases_eq a m)
-                (λ same. subst (λ x. test (g x) ≡ false) same e)
-                (λ other. r.1.none_before m (later_on m low other) high);
-          },
-          r.2,
-        )
+first_found test g a (suc k) h = grind (arith, by_either, cases_eq, first_found test g (a + 1) k)
 
 -- ---- there is room
 
@@ -113,10 +87,7 @@ none_passes test (x ∷ xs) h q i =
 
 not_later : (name : List ℕ) (m a k : ℕ) → m < a → a + k ≤ 2 ^ 64 → is_among (map (numbered name) (range_with_len a k)) (numbered name m) ≡ false
 not_later name m a zero low high = refl
-not_later name m a (suc k) low high =
-    or_from _ _ (other_name (numbered name m) (numbered name a) (λ e.
-    let same : m ≡ a = numbered_number name m a (omega (arith, low, high)) (omega (arith, high)) e in absurd (omega (arith, same, low))))
-    (not_later name m (a + 1) k (omega (arith, low)) (omega (arith, high)))
+not_later name m a (suc k) low high = grind (arith, or_from, other_name, numbered_number, not_later name m (a + 1) k (omega (arith, low)) (omega (arith, high)))
 
 numbered_once : (name : List ℕ) (a k : ℕ) → a + k ≤ 2 ^ 64 → AreDistinct (map (numbered name) (range_with_len a k))
 numbered_once name a zero h = tt
@@ -200,15 +171,12 @@ no_low low n h small =
     (λ n ds i k. list_any-append (λ b. b == low) ds ((48 + n % 10) ∷ []) ∙ or_from _ _ k (no_low_digit low (n % 10) h)) n small
 
 no_low_numbered : (low : ℕ) (name : List ℕ) (n : ℕ) → low < 48 → (46 ≡ low → ⊥) → n < 2 ^ 64 → list_any (λ b. b == low) name ≡ false → list_any (λ b. b == low) (numbered name n) ≡ false
-no_low_numbered low name n h other small out =
-    ap (list_any (λ b. b == low)) (numbered_is name n) ∙ list_any-append (λ b. b == low) name (46 ∷ decimal n)
-    ∙ or_from _ _ out (or_from _ _ (ne_eqb 46 low other) (no_low low n h small))
+no_low_numbered low name n h other small out = grind (arith, numbered_is, list_any-append, or_from, ne_eqb, no_low)
 
 -- what is dotless and stands at the front of a numbered name stands at the front of the name
 pub front_of_name : (front name rest : List ℕ) → is_dotless front ≡ true → starts_with nat_eq (name ++ 46 ∷ rest) front ≡ true → starts_with nat_eq name front ≡ true
 front_of_name [] name rest h k = refl
-front_of_name (b ∷ front) [] rest h k =
-    absurd (clash (and_parts (eqb b 46) _ k).0 (not-true (b == 46) (and_parts (not (b == 46)) _ h).0))
+front_of_name (b ∷ front) [] rest h k = grind (arith, clash, and_parts, not-true)
 front_of_name (b ∷ front) (c ∷ name) rest h k =
     let r = and_parts (eqb b c) (starts_with nat_eq (name ++ 46 ∷ rest) front) k in
     and_from _ _ r.0 (front_of_name front name rest (and_parts (not (b == 46)) _ h).1 r.1)
@@ -216,9 +184,7 @@ front_of_name (b ∷ front) (c ∷ name) rest h k =
 -- of a front whose first byte alone is a dot
 front_of_numbered : (front name rest : List ℕ) → is_dotless front ≡ true → 0 < length name → starts_with nat_eq (name ++ 46 ∷ rest) (46 ∷ front) ≡ true → starts_with nat_eq name (46 ∷ front) ≡ true
 front_of_numbered front [] rest h l k = absurd (omega (arith, l))
-front_of_numbered front (c ∷ name) rest h l k =
-    let r = and_parts (eqb 46 c) (starts_with nat_eq (name ++ 46 ∷ rest) front) k in
-    and_from _ _ r.0 (front_of_name front name rest h r.1)
+front_of_numbered front (c ∷ name) rest h l k = grind (arith, and_parts, and_from, front_of_name)
 
 pub longer : (name other : List ℕ) → length other < length name → bytes_eq name other ≡ false
 longer name other h = other_name name other (λ e. let same : length name ≡ length other = ap length e in absurd (omega (arith, same, h)))

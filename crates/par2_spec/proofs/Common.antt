@@ -7,7 +7,7 @@ pub use Rattle.std.proofs.Math.Seq.{drop-append_seam, drop-cons, drop-nil, take-
 pub use Rattle.std.proofs.lemmas.Bool.{and_from, and_parts, and_right, both_ways, cases_Bool, cases_eq, cases_lt, cond-true, eq-eqb, eqb-false, eqb-true, false_from_ne_true, false≢true, le-leb, leb-false, leb-true, lt-leb, lt-ltb, ltb-true, ne_eqb, not-false, not-true, not_from_false, or_cases, or_from, or_left, or_parts, or_right, true_from_ne_false}
 pub use Rattle.std.proofs.lemmas.Bool.Decides.{Decides-eqb, nat_tests, same_from_decides}
 pub use Rattle.std.proofs.lemmas.Cmp.{nat_eq_equiv, nat_list_eq_equiv}
-pub use Rattle.std.proofs.lemmas.Grind.{div_ceil_times, flat_map-append, reverse_onto}
+pub use Rattle.std.proofs.lemmas.Grind.{common_steps, div_ceil_times, flat_map-append, reverse_onto}
 pub use Rattle.std.proofs.lemmas.Iterator.Adapters.{position_from-zero}
 pub use Rattle.std.proofs.lemmas.List.{drop-drop, drop_all, drop_at, ext_get_or, get_or-map, get_or-reverse, get_or-set_other, get_or-set_same, get_or-take, get_or_default, get_or_past, length-map, length-replicate, length-reverse, length-take, length-take-le, length_push, map-append, map-set, nil_from_length, replicate_more, reverse-append, reverse-reverse, take-append-drop, take-append-le, take-map, take-take, take_all, take_at, take_more}
 pub use Rattle.std.proofs.lemmas.List.Elements.{All-contains, All-contains_itself, All-from_recursion, Contains-append_right, Contains-get_or, recursion_from_All}
@@ -54,7 +54,7 @@ pub use Rattle.par2_spec.specs.Opening.{Halfway, Opened, Settled, TellsApart, is
 pub use Rattle.par2_spec.specs.Packets.{DescBody, IfscBody, IsCanonical, IsPacket, MainBody, Packet, RecoveryBody, accepted, begins_with_packet, bytes_at, claimed_length, digest_input, first_packet, items_at, kind_of, magic, packet, read_ifsc, read_recovery, type_of, without_end_zeros}
 pub use Rattle.par2_spec.specs.Plans.{AreFewFor, LeadsToAfter, LeadsToAfterAsked, changes_of, create_changes, now_at, purge_changes, repair_changes, repair_removals}
 pub use Rattle.par2_spec.specs.Polynomials.{AreElements, ArePoints, Interpolates, times, times_root, value, with_roots}
-pub use Rattle.par2_spec.specs.Rank.{Agrees, AnotherAgrees, AreBytes, AreSurvivors, IsKept, IsRebuilt, IsRepairable, IsVector, Kills, TwoAgree, is_as_known, is_independent, is_repairable, is_zero, kept, kept_slices, kills, rank, smaller}
+pub use Rattle.par2_spec.specs.Rank.{Agrees, AnotherAgrees, AreBytes, IsKept, IsRebuilt, IsRepairable, IsVector, Kills, is_as_known, is_independent, is_repairable, is_zero, kept, kept_slices, kills, rank, smaller}
 pub use Rattle.par2_spec.specs.Recovery.{coefficients, dot, recovery}
 pub use Rattle.par2_spec.specs.Refusals.{absent_file, after, are_counts, bad_name, by_set, purge_refusal, refusal, repair_refusal, set_in}
 pub use Rattle.par2_spec.specs.Repairs.{AreFew, FitsRepair, HoldsRepaired, after_purge, after_repair, after_repair_and_purge, aside, aside_files, cut_into, files_of_slices, is_par_file, lost_of_unmatched, matched_files, names_without_match, par_files, put_aside, rebuilt, rebuilt_targets, slices_by_target, taken_for}

@@ -1,5 +1,5 @@
 -- The outputs of a create have distinct names, so its changes apply and lead to its folder.
-use Rattle.par2_spec.proofs.Common.{◌≡◌, ℕ, zero, suc, ◌+◌, ◌-◌, ◌*◌, ◌/◌, ◌%◌, ◌^◌, ◌<◌, ◌≤◌, List, [], ◌∷◌, ◌++◌, length, map, refl, sym, ap, ◌∙◌, subst, true, false, Bool, ◌||◌, arith, length-append, flat_map, slice_index, codes, min, nat_lt, if◌then◌else◌, range_with_len, one-le-pow, pow-le-pow_right, drop-append_seam, length-take, map-map, and_from, not_from_false, or_from, or_left, or_right, is_among, Folder, File, has, Write, Replace, volume_name, volumes_before, volume_numbers, volume_size, five_digits, stem, record_of, in_id_order, index_packets, packet, CreateArgs, outputs_of, create_changes}
+use Rattle.par2_spec.proofs.Common.{◌≡◌, ℕ, zero, suc, ◌+◌, ◌-◌, ◌*◌, ◌/◌, ◌%◌, ◌^◌, ◌<◌, ◌≤◌, List, [], ◌∷◌, ◌++◌, length, map, refl, sym, ap, ◌∙◌, subst, true, false, Bool, ◌||◌, arith, length-append, flat_map, codes, nat_lt, if◌then◌else◌, range_with_len, one-le-pow, pow-le-pow_right, drop-append_seam, length-take, map-map, and_from, not_from_false, or_from, or_left, or_right, is_among, Folder, File, has, Write, Replace, volume_name, volumes_before, volume_numbers, volume_size, five_digits, stem, record_of, in_id_order, index_packets, packet, CreateArgs, outputs_of, create_changes}
 use Rattle.std.specs.Prelude.{drop}
 use Rattle.std.specs.FinMap as map_of
 use Rattle.std.proofs.Math.Pow.{pow-lt}
@@ -22,12 +22,7 @@ read_digits n [] = n
 read_digits n (d ∷ ds) = read_digits (n * 10 + (d - 48)) ds
 
 read_five : (x : ℕ) → read_digits 0 (five_digits x) ≡ x % 100000
-read_five x =
-    let e : x % 100000 ≡ x / 10000 % 10 * 10000 + x / 1000 % 10 * 1000 + x / 100 % 10 * 100 + x / 10 % 10 * 10 + x / 1 % 10 = from_five x in
-    spelled (x / 10000 % 10) (x / 1000 % 10) (x / 100 % 10) (x / 10 % 10) (x / 1 % 10) ∙ sym e
-  where
-    spelled : (a b c d e : ℕ) → read_digits 0 ((48 + a) ∷ (48 + b) ∷ (48 + c) ∷ (48 + d) ∷ (48 + e) ∷ []) ≡ a * 10000 + b * 1000 + c * 100 + d * 10 + e
-    spelled a b c d e = omega arith
+read_five x = grind (arith, from_five)
 
 -- what stands after the same front
 same_rest : (front a b : List ℕ) → front ++ a ≡ front ++ b → a ≡ b
@@ -41,19 +36,11 @@ abbrev rest_of : ℕ → ℕ → List ℕ
 rest_of x n = five_digits x ++ (codes "+" ++ (five_digits n ++ codes ".par2"))
 
 volume_name_is : (base : List ℕ) (x n : ℕ) → volume_name base x n ≡ front_of base ++ rest_of x n
-volume_name_is base x n =
-    append_assoc (front_of base ++ five_digits x ++ codes "+") (five_digits n) (codes ".par2")
-    ∙ append_assoc (front_of base ++ five_digits x) (codes "+") (five_digits n ++ codes ".par2")
-    ∙ append_assoc (front_of base) (five_digits x) (codes "+" ++ (five_digits n ++ codes ".par2"))
-
-abbrev first_five : List ℕ → List ℕ
-first_five text = slice_index text 0 ∷ slice_index text 1 ∷ slice_index text 2 ∷ slice_index text 3 ∷ slice_index text 4 ∷ []
+volume_name_is base x n = grind (arith, append_assoc)
 
 -- a volume name tells its first exponent up to a multiple of 100,000
 name_tells_first : (base : List ℕ) (x m y n : ℕ) → volume_name base x m ≡ volume_name base y n → x % 100000 ≡ y % 100000
-name_tells_first base x m y n e =
-    let rest : rest_of x m ≡ rest_of y n = same_rest (front_of base) (rest_of x m) (rest_of y n) (sym (volume_name_is base x m) ∙ e ∙ volume_name_is base y n) in
-    sym (read_five x) ∙ ap (λ text. read_digits 0 (first_five text)) rest ∙ read_five y
+name_tells_first base x m y n e = grind (arith, same_rest, volume_name_is, read_five)
 
 -- the first exponents rise, by less than 2 ^ 16
 firsts_apart : (f i j : ℕ) → i < j → j < 17 → (f + volumes_before i) % 100000 ≡ (f + volumes_before j) % 100000 → ⊥
@@ -88,12 +75,7 @@ length-volume_name base x n = ap length (volume_name_is base x n) ∙ length-app
 -- the base is shorter than the volumes
 base_no_volume : (base : List ℕ) (f c : ℕ) (is : List ℕ) → is_among (map (volume_at base f c) is) base ≡ false
 base_no_volume base f c [] = refl
-base_no_volume base f c (i ∷ is) =
-    or_from _ _ (other_name base (volume_at base f c i) (λ e.
-    let long : length base ≡ length (stem base) + 20 = ap length e ∙ length-volume_name base (f + volumes_before i) (volume_size c i) in
-    let short : length (stem base) ≡ min (length base - 5) (length base) = length-take (length base - 5) base in
-    omega (arith, long, short)))
-    (base_no_volume base f c is)
+base_no_volume base f c (i ∷ is) = grind (arith, or_from, other_name, length-volume_name, length-take, base_no_volume base f c is)
 
 pub names_of_outputs : (base : List ℕ) (s f c : ℕ) (files : List File) → map (λ file. file.0) (volumes base s f c files) ≡ base ∷ map (volume_at base f c) (volume_numbers c)
 unfolding volumes

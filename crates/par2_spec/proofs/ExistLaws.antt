@@ -120,9 +120,7 @@ bytes-all_marked (x ∷ d) (text ∷ texts) small h = (bytes-marked x text small
 
 first_words : (s : ℕ) (d : List ℕ) (texts : List (List ℕ)) → 2 ≤ s → AllByRecursion (λ text. length text ≡ s) texts → length d ≡ length texts → map (word 0) (all_marked d texts) ≡ sums d (map (word 0) texts)
 first_words s [] [] some h e = refl
-first_words s (x ∷ d) (text ∷ texts) some h e =
-    let size : length text ≡ s = h.0 in
-    ap₂ (λ w ws. w ∷ ws) (first_word-marked x text (omega (arith, some, size))) (first_words s d texts some h.1 (omega (arith, e)))
+first_words s (x ∷ d) (text ∷ texts) some h e = grind (arith, first_word-marked, first_words s d texts some h.1 (omega (arith, e)))
 first_words s d texts some h e = absurd (omega (arith, e))
 
 later_words : (p : ℕ) (d : List ℕ) (texts : List (List ℕ)) → map (word (suc p)) (all_marked d texts) ≡ map (word (suc p)) texts
@@ -214,13 +212,10 @@ scaled_are : (c : ℕ) (v : List ℕ) → c < 2 ^ 16 → AreElements v → AreEl
 scaled_are c [] small h = tt
 scaled_are c (x ∷ v) small h = (product-lt c x small h.0, scaled_are c v small h.1)
 
-products_exchange : (r c x : ℕ) → r < 65536 → c < 65536 → x < 65536 → mul r (mul c x) ≡ mul c (mul r x)
-products_exchange r c x hr hc hx = sym (product_assoc r c x hr hc hx) ∙ ap (λ t. mul t x) (product_comm r c hr hc) ∙ product_assoc c r x hc hr hx
-
 dot-scaled : (c : ℕ) (row v : List ℕ) → c < 2 ^ 16 → AreElements row → AreElements v → dot row (scaled c v) ≡ mul c (dot row v)
 unfolding dot
 dot-scaled c (r ∷ row) (x ∷ v) small hr hv =
-    ap₂ bit_xor (products_exchange r c x hr.0 small hv.0) (dot-scaled c row v small hr.1 hv.1)
+    ap₂ bit_xor (sym (product_assoc r c x hr.0 small hv.0) ∙ ap (λ t. mul t x) (product_comm r c hr.0 small) ∙ product_assoc c r x small hr.0 hv.0) (dot-scaled c row v small hr.1 hv.1)
     ∙ sym ((product_linear_right c).on_xor (mul r x) (dot row v))
 dot-scaled c row v small hr hv = sym (product-zero c)
 

@@ -1,5 +1,5 @@
 -- The powers of the constants rise, so the constants are distinct.
-use Rattle.par2_spec.proofs.Common.{eqb, eqb-true, ℕ, zero, suc, ◌<◌, ◌≡◌, refl, Bool, true, ltb, ◌&&◌, arith, List, [], ◌∷◌, length, get_or, ltb-true, and_parts}
+use Rattle.par2_spec.proofs.Common.{eqb, ℕ, zero, suc, ◌<◌, ◌≡◌, refl, Bool, true, ltb, ◌&&◌, arith, List, [], ◌∷◌, length, get_or, eqb-true, ltb-true, and_parts}
 use Rattle.par2_spec.specs.Field.{constant_powers, constant}
 use Rattle.par2_spec.proofs.FieldOrder.{power-injective, power-nonzero, power-lt}
 

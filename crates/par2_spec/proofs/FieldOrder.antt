@@ -54,8 +54,8 @@ onto_from_injective f n fits apart a h = elim (search_values f a n) [
       let long : length (a ∷ values f n) ≤ n =
       length-le_from_distinct_below (a ∷ values f n) n (other_values f a n none, distinct_values f n apart)
       (λ q e. by_either (or_cases (eqb q a) (list_any (eqb q) (values f n)) e)
-          (λ same. let k : q ≡ a = eqb-true q a same in omega arith)
-          (λ rest. below_values f n n fits q rest))
+      (λ same. let k : q ≡ a = eqb-true q a same in omega arith)
+      (λ rest. below_values f n n fits q rest))
       in absurd (omega (arith, length-values f n))
 ]
 

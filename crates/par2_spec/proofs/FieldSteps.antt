@@ -7,9 +7,7 @@ use Rattle.par2_spec.proofs.FieldOrder.{double, power-add, power-65535, logarith
 -- doubling as the code does it
 pub double_low : (x : ℕ) → x < 32768 → double x ≡ x * 2
 unfolding double
-double_low x h =
-    let b : bit_at x 15 ≡ 0 = omega arith in
-    ap (λ v. bit_xor (x * 2) (v * modulus)) b ∙ xor_zero_r (x * 2)
+double_low x h = grind (arith, xor_zero_r)
 
 pub double_high : (x : ℕ) → 32768 ≤ x → x < 65536 → double x ≡ bit_xor (x * 2 % 65536) 4107
 unfolding double

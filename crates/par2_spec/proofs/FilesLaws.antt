@@ -1,5 +1,5 @@
 -- A repair leaves each of the files that a set was made from.
-use Rattle.par2_spec.proofs.Common.{◌≡◌, ℕ, zero, suc, ◌+◌, ◌*◌, ◌%◌, ◌<◌, ◌≤◌, List, [], ◌∷◌, ◌++◌, length, map, refl, sym, ap, ◌∙◌, subst, cond, true, false, Bool, not, ◌&&◌, arith, filter, find, zip, ◌==◌, Option, Some, None, option_to_list, range_with_len, list_all, AllByRecursion, ForSome, bytes_eq, and_parts, and_from, or_from, or_cases, or_left, or_right, eqb-true, false_from_ne_true, false≢true, not-false, cases_eq, not-true, not-not, md5, pair_of, slice_count, slice_at, slices, window, windows, is_match, IsRepairable, is_among, Folder, File, has, bytes_of, names, all_slices, ParSet, Target, target_of_file, MadeFrom, is_slice_size, is_intact, is_needing, needing, intact_names, known, lost, survivors, NoCollision, aside, put_aside, names_without_match, files_of_slices, after_repair, after_repair_and_purge, par_files, is_par_file, files_of}
+use Rattle.par2_spec.proofs.Common.{◌≡◌, ℕ, zero, suc, ◌+◌, ◌*◌, ◌%◌, ◌<◌, ◌≤◌, List, [], ◌∷◌, ◌++◌, length, map, refl, sym, ap, ◌∙◌, subst, cond, true, false, Bool, not, arith, filter, find, zip, Option, Some, None, option_to_list, range_with_len, list_all, AllByRecursion, ForSome, bytes_eq, and_parts, and_from, or_from, or_cases, or_left, or_right, eqb-true, false_from_ne_true, false≢true, not-false, cases_eq, not-true, not-not, md5, pair_of, slice_at, slices, window, windows, is_match, IsRepairable, is_among, Folder, File, has, bytes_of, names, all_slices, ParSet, Target, target_of_file, MadeFrom, is_slice_size, is_intact, is_needing, needing, intact_names, known, lost, survivors, NoCollision, aside, put_aside, names_without_match, files_of_slices, after_repair, after_repair_and_purge, par_files, files_of}
 use Rattle.std.specs.FinMap as map_of
 use Rattle.par2_spec.specs.Volumes.{record_of}
 use Rattle.par2_spec.specs.Search.{matches}
@@ -47,20 +47,7 @@ IsExact folder s searched file = (name : List ℕ) → is_among searched name �
 
 exact_file : (folder : Folder) (s : ℕ) (searched : List (List ℕ)) (file : File) → 0 < s → AllByRecursion (IsTold folder searched s) (slices s file.1) → IsExact folder s searched file
 unfolding record_of
-exact_file folder s searched file positive told name i h =
-    let bytes = bytes_of folder name in
-    let r = and_parts (length bytes == length file.1) (list_all (λ z. is_match z.0 z.1) (zip (map pair_of (slices s file.1)) (slices s bytes))) h in
-    let long : length bytes ≡ length file.1 = eqb-true (length bytes) (length file.1) r.0 in
-    let count = slice_count s (length file.1) in
-    let cut : slices s bytes ≡ map (slice_at s bytes) (range_with_len 0 count) = ap (λ n. map (slice_at s bytes) (range_with_len 0 (slice_count s n))) long in
-    let mine = all_weaker (IsTold folder searched s) (λ x. AllByRecursion (λ w. is_match (pair_of x) w ≡ true → w ≡ x) (windows s bytes))
-    (λ x t. at_name (λ n. AllByRecursion (λ w. is_match (pair_of x) w ≡ true → w ≡ x) (windows s (bytes_of folder n))) searched name t i) (slices s file.1) told in
-    same_slices s bytes file.1 positive long (cut ∙ matched_slices s bytes file.1 0 count
-    (λ j l. subst (λ n. j * s < n) (sym long) (slice_begins (length file.1) s j positive (below j count l))) mine
-    (sym (ap (λ ys. list_all (λ z. is_match z.0 z.1) (zip (map pair_of (slices s file.1)) ys)) cut) ∙ r.1))
-  where
-    below : (j n : ℕ) → j < 0 + n → j < n
-    below j n l = omega (arith, l)
+exact_file folder s searched file positive told name i h = grind (arith, and_parts, eqb-true, all_weaker, at_name, same_slices, matched_slices, slice_begins)
 
 exact_files : (folder : Folder) (s : ℕ) (searched : List (List ℕ)) (files : List File) → 0 < s → NoCollision folder searched s (all_slices s files) → AllByRecursion (IsExact folder s searched) files
 exact_files folder s searched [] positive told = tt
@@ -108,15 +95,7 @@ written_files : (after : Folder) (s : ℕ) (test : List ℕ → Bool) (files : L
     → AllByRecursion (λ file. test file.0 ≡ true → Holds after file) files
 unfolding record_of
 written_files after s test [] h = tt
-written_files after s test (file ∷ files) h = step (test file.0) refl (filter (λ c. test c.0.name) (map (λ (f : File). let c : Target × List ℕ = (target_of_file s f, f.1) in c) files)) h (written_files after s test files)
-  where
-    P : Target × List ℕ → Type 0
-    P c = map_of.get after c.0.name ≡ Some c.1
-
-    step : (b : Bool) → test file.0 ≡ b → (cs : List (Target × List ℕ)) → AllByRecursion P (cond b ((target_of_file s file, file.1) ∷ cs) cs) → (AllByRecursion P cs → AllByRecursion (λ f. test f.0 ≡ true → Holds after f) files)
-        → AllByRecursion (λ f. test f.0 ≡ true → Holds after f) (file ∷ files)
-    step true e cs k later = (λ i. k.0, later k.1)
-    step false e cs k later = (λ i. absurd (clash i e), later k)
+written_files after s test (file ∷ files) h = grind (arith, clash, written_files after s test files)
 
 -- ---- names of targets
 
@@ -126,14 +105,7 @@ all_names name (x ∷ xs) = (or_left _ _ (itself (name x)), all_weaker (λ y. is
 
 chosen_names : {A : Type 0} (name : A → List ℕ) (p : A → Bool) (xs : List A) → AllByRecursion (λ x. p x ≡ true → is_among (map name (filter p xs)) (name x) ≡ true) xs
 chosen_names name p [] = tt
-chosen_names {A = A} name p (x ∷ xs) = (
-  λ e. ap (λ b. is_among (map name (cond b (x ∷ filter p xs) (filter p xs))) (name x)) e ∙ or_left _ _ (itself (name x)),
-  all_weaker (λ y. p y ≡ true → is_among (map name (filter p xs)) (name y) ≡ true) (λ y. p y ≡ true → is_among (map name (filter p (x ∷ xs))) (name y) ≡ true) (λ y h e. step (p x) (filter p xs) (name y) (h e)) xs (chosen_names name p xs),
-)
-  where
-    step : (b : Bool) (ys : List A) (q : List ℕ) → is_among (map name ys) q ≡ true → is_among (map name (cond b (x ∷ ys) ys)) q ≡ true
-    step true ys q h = or_right (bytes_eq q (name x)) (is_among (map name ys) q) h
-    step false ys q h = h
+chosen_names {A = A} name p (x ∷ xs) = grind (arith, or_left, itself, all_weaker, or_right, chosen_names name p xs)
 
 -- the names of files are those by which they were taken
 pub names_of_files : (folder : Folder) (names : List (List ℕ)) → map (λ file. file.0) (files_of folder names) ≡ names
@@ -178,13 +150,7 @@ module _ (folder : Folder) (base : List ℕ) (files : List File) (s : ℕ) (sear
       → AllByRecursion (λ file. IsWanted file ≡ false → Holds after file) fs
   unfolding record_of
   intact_hold present [] n x = tt
-  intact_hold present (file ∷ fs) n x = (
-    λ e.
-        let r = and_parts (has folder file.0) (is_intact m.set.slice_size (target_of_file s file) (bytes_of folder file.0)) (not-false (has folder file.0 && is_intact m.set.slice_size (target_of_file s file) (bytes_of folder file.0)) e) in
-        let same = x.0 file.0 (present file.0 n.0.0 r.0) (sym (ap (λ k. is_intact k (target_of_file s file) (bytes_of folder file.0)) m.slice_size) ∙ r.1) in
-        untouched file.0 n.0.0 (n.0.1 (ap not e)) ∙ some_if [] (map_of.get folder file.0) r.0 ∙ ap Some same,
-    intact_hold present fs n.1 x.1,
-  )
+  intact_hold present (file ∷ fs) n x = grind (arith, and_parts, not-false, untouched, some_if, intact_hold present fs n.1 x.1)
 
   -- each file stands there
   pub repaired_files : ((q : List ℕ) → is_among (map (λ t. t.name) m.set.targets) q ≡ true → has folder q ≡ true → is_among searched q ≡ true) → 0 < s → s % 2 ≡ 0 → NoCollision folder searched s (all_slices s files)
@@ -230,10 +196,7 @@ module _ (folder : Folder) (base : List ℕ) (files : List File) (s : ℕ) (sear
   gone = map (aside folder m.set) (put_aside folder m.set) ++ par_files folder m.set
 
   no_par_file : (q : List ℕ) → is_among targets q ≡ true → is_among (par_files folder m.set) q ≡ true → ⊥
-  no_par_file q own i =
-      let is_par = (and_parts _ _ (sym (among-filter (is_par_file folder m.set) (names folder) q) ∙ i)).1 in
-      let none = (and_parts _ _ (and_parts _ _ (and_parts _ _ is_par).0).0).1 in
-      clash none (ap not own)
+  no_par_file q own i = grind (arith, and_parts, among-filter, clash)
 
   stays : (q : List ℕ) → is_among targets q ≡ true → is_among gone q ≡ false
   stays q own =

@@ -1,6 +1,5 @@
 -- A change and its inverse; changes in order and their way back; the same for a folder as it is kept.
-use Rattle.par2_spec.proofs.Common.{◌≡◌, ℕ, ◌+◌, ◌-◌, ◌<◌, ◌≤◌, List, [], ◌∷◌, ◌++◌, refl, sym, ap, subst, ◌∙◌, cond, true, false, Bool, not, ◌&&◌, IsTrue, append_assoc, append-nil, arith, unwrap_or, Some, None, Option, is_some, is_none, same_map, slice_cmp-IsAntisymmetric, nat_cmp-IsAntisymmetric, get-insert, get-remove, get_tied, nat_cmp, eq_by_cmp, is_eq, Ordering, Equal, eq_by_cmp_equiv, slice_cmp, nat_list_cmp_total, nat_tests, and_parts, and_from, Folder, has, bytes_of, Change, Write, Replace, Rename, Remove, FolderState, fault_unless, vacant_after, state_after, places_taken}
-use Rattle.par2_spec.specs.declared.ChangeFault.TheVariants.{NameTaken, NoRoom, NoSuchName}
+use Rattle.par2_spec.proofs.Common.{◌≡◌, ℕ, ◌+◌, ◌<◌, ◌≤◌, List, [], ◌∷◌, ◌++◌, refl, sym, ap, subst, ◌∙◌, cond, true, false, Bool, not, ◌&&◌, IsTrue, append_assoc, append-nil, arith, unwrap_or, Some, None, Option, is_some, is_none, same_map, slice_cmp-IsAntisymmetric, nat_cmp-IsAntisymmetric, get-insert, get-remove, get_tied, nat_cmp, eq_by_cmp, is_eq, Ordering, Equal, eq_by_cmp_equiv, slice_cmp, nat_list_cmp_total, nat_tests, and_parts, and_from, Folder, has, bytes_of, Change, Write, Replace, Rename, Remove, FolderState, fault_unless, vacant_after, state_after, places_taken}
 use Rattle.std.proofs.Common.{nat_lt}
 use Rattle.std.specs.FinMap as map_of
 use Rattle.par2_spec.specs.Changes.{effect, inverse, is_applicable, effects, way_back, are_applicable, change_refusal, takes_all, state_after_all}
@@ -64,35 +63,23 @@ moved true b x y g e h k = ap Some e ∙ sym (h refl)
 moved false true x y g e h k = sym (k refl)
 moved false false x y g e h k = refl
 
-undo_Write : (f : Folder) (n b : List ℕ) → IsTrue (not (has f n)) → map_of.remove (map_of.insert f n b) n ≡ f
-undo_Write f n b h = same_folder _ _ (λ q. gone _ n q ∙ ap (cond (same q n) None) (written f n b q) ∙ off (same q n) b _ (λ t. tied f q n t ∙ absent _ h))
-
-undo_Remove : (f : Folder) (n : List ℕ) → IsTrue (has f n) → map_of.insert (map_of.remove f n) n (bytes_of f n) ≡ f
-undo_Remove f n h = same_folder _ _ (λ q. written _ n _ q ∙ ap (cond (same q n) (Some (bytes_of f n))) (gone f n q) ∙ back (same q n) None _ _ (λ t. tied f q n t ∙ present _ h))
-
 undo_Replace : (f : Folder) (n b : List ℕ) → IsTrue (has f n) → map_of.insert (map_of.insert f n b) n (bytes_of f n) ≡ f
 undo_Replace f n b h = same_folder _ _ (λ q. written _ n _ q ∙ ap (cond (same q n) (Some (bytes_of f n))) (written f n b q) ∙ back (same q n) (Some b) _ _ (λ t. tied f q n t ∙ present _ h))
 
 undo_Rename : (f : Folder) (a b : List ℕ) → IsTrue (has f a) → IsTrue (not (has f b)) → effect (effect f (Rename a b)) (Rename b a) ≡ f
 unfolding effect
-undo_Rename f a b h k = same_folder _ _ (λ q.
-    written _ a _ q ∙ ap (cond (same q a) (Some _)) (gone _ b q ∙ ap (cond (same q b) None) (written _ b _ q ∙ ap (cond (same q b) (Some _)) (gone f a q)))
-    ∙ moved (same q a) (same q b) _ _ _ (landed _ b _) (λ t. tied f q a t ∙ present _ h) (λ t. tied f q b t ∙ absent _ k))
+undo_Rename f a b h k = grind (arith, same_folder, written, gone, moved, landed, tied, present, absent)
 
 pub undo_change : (f : Folder) (c : Change) → IsTrue (is_applicable f c) → effect (effect f c) (inverse f c) ≡ f
 unfolding effect inverse is_applicable
-undo_change f (Write n b) h = undo_Write f n b h
+undo_change f (Write n b) h = same_folder _ _ (λ q. gone _ n q ∙ ap (cond (same q n) None) (written f n b q) ∙ off (same q n) b _ (λ t. tied f q n t ∙ absent _ h))
 undo_change f (Replace n b) h = undo_Replace f n b h
 undo_change f (Rename a b) h = unfold effect in undo_Rename f a b (and_parts _ _ h).0 (and_parts _ _ h).1
-undo_change f (Remove n) h = undo_Remove f n h
+undo_change f (Remove n) h = same_folder _ _ (λ q. written _ n _ q ∙ ap (cond (same q n) (Some (bytes_of f n))) (gone f n q) ∙ back (same q n) None _ _ (λ t. tied f q n t ∙ present _ h))
 
 -- a name that is there and one that is not are two
 two_names : (f : Folder) (a b : List ℕ) → IsTrue (has f a) → IsTrue (not (has f b)) → same a b ≡ false
-two_names f a b h k = split (same a b) refl
-  where
-    split : (t : Bool) → same a b ≡ t → t ≡ false
-    split true e = let p : map_of.get f a ≡ map_of.get f b = tied f a b e in let there = present _ h in let missing = absent _ k in cc
-    split false e = refl
+two_names f a b h k = grind (arith, tied, present, absent)
 
 -- after a rename the old name is free
 left_behind : (f : Folder) (a b : List ℕ) → IsTrue (has f a) → IsTrue (not (has f b)) → map_of.get (map_of.insert (map_of.remove f a) b (bytes_of f a)) a ≡ None
@@ -135,10 +122,6 @@ undo_changes f (c ∷ cs) h =
     effects-append _ (way_back (effect f c) cs) (inverse f c ∷ [])
     ∙ ap (λ g. effect g (inverse f c)) (undo_changes (effect f c) cs (and_parts _ _ h).1) ∙ undo_change f c (and_parts _ _ h).0
 
-one_applicable : (f : Folder) (c : Change) → IsTrue (is_applicable f c) → IsTrue (are_applicable f (c ∷ []))
-unfolding are_applicable
-one_applicable f c h = and_from _ _ h refl
-
 pub undo_are_applicable : (f : Folder) (cs : List Change) → IsTrue (are_applicable f cs) → IsTrue (are_applicable (effects f cs) (way_back f cs))
 unfolding effects way_back are_applicable
 undo_are_applicable f [] h = refl
@@ -146,7 +129,7 @@ undo_are_applicable f (c ∷ cs) h =
     let rest = (and_parts (is_applicable f c) (are_applicable (effect f c) cs) h).1 in
     let end = effects (effect f c) cs in
     are_applicable-append end (way_back (effect f c) cs) (inverse f c ∷ []) (undo_are_applicable (effect f c) cs rest)
-    (subst (λ g. IsTrue (are_applicable g (inverse f c ∷ []))) (sym (undo_changes (effect f c) cs rest)) (one_applicable (effect f c) (inverse f c) (undo_is_applicable f c (and_parts _ _ h).0)))
+    (subst (λ g. IsTrue (are_applicable g (inverse f c ∷ []))) (sym (undo_changes (effect f c) cs rest)) (and_from _ _ (undo_is_applicable f c (and_parts _ _ h).0) refl))
 
 pub way_back_twice : (f : Folder) (cs : List Change) → IsTrue (are_applicable f cs) → way_back (effects f cs) (way_back f cs) ≡ cs
 unfolding effects way_back are_applicable
@@ -212,9 +195,7 @@ not_refused false x o h = cc
 
 pub taken_is_applicable : (s : FolderState) (c : Change) → change_refusal s c ≡ None → IsTrue (is_applicable s.files c)
 unfolding change_refusal is_applicable
-taken_is_applicable s (Rename a b) h =
-    let from = not_refused (has s.files a) NoSuchName _ h in
-    and_from _ _ from.0 (not_refused (not (has s.files b)) NameTaken None from.1).0
+taken_is_applicable s (Rename a b) h = grind (arith, not_refused, and_from)
 taken_is_applicable s c h = (not_refused _ _ _ h).0
 
 has_room : (n : ℕ) → 0 < n → nat_lt 0 n ≡ true
@@ -228,18 +209,12 @@ pub inverse_taken : (s : FolderState) (c : Change) → change_refusal s c ≡ No
 unfolding change_refusal effect inverse
 inverse_taken s (Write n b) h = rw (here s.files n b)
 inverse_taken s (Replace n b) h = rw (here s.files n b)
-inverse_taken s (Rename a b) h =
-    let from = not_refused (has s.files a) NoSuchName _ h in
-    let to = not_refused (not (has s.files b)) NameTaken None from.1 in
-    rw (here (map_of.remove s.files a) b (bytes_of s.files a), left_behind s.files a b from.0 to.0)
+inverse_taken s (Rename a b) h = grind (arith, not_refused, here, left_behind)
 inverse_taken s (Remove n) h = rw (nowhere s.files n, has_room (s.vacant + 1) (omega arith))
 
 vacant_back : (s : FolderState) (c : Change) → change_refusal s c ≡ None → vacant_after (vacant_after s.vacant c) (inverse s.files c) ≡ s.vacant
 unfolding change_refusal inverse
-vacant_back s (Write n b) h =
-    let name = not_refused (not (has s.files n)) NameTaken _ h in
-    let room = has_place s.vacant (not_refused (nat_lt 0 s.vacant) NoRoom None name.1).0 in
-    omega arith
+vacant_back s (Write n b) h = grind (arith, not_refused, has_place)
 vacant_back s (Remove n) h = omega arith
 vacant_back s c h = refl
 
@@ -285,9 +260,7 @@ taken_are_applicable s (c ∷ cs) h = and_from _ _ (taken_is_applicable s c (tak
 pub state_all_back : (s : FolderState) (cs : List Change) → IsTrue (takes_all s cs) → state_after_all (state_after_all s cs) (way_back s.files cs) ≡ s
 unfolding state_after_all way_back
 state_all_back s [] h = refl
-state_all_back s (c ∷ cs) h =
-    state_after_all-append (state_after_all (state_after s c) cs) (way_back (effect s.files c) cs) (inverse s.files c ∷ [])
-    ∙ ap (λ t. state_after t (inverse s.files c)) (state_all_back (state_after s c) cs (takes_rest s c cs h)) ∙ state_back s c (takes_first s c cs h)
+state_all_back s (c ∷ cs) h = grind (arith, state_after_all-append, takes_rest, state_back, takes_first, state_all_back (state_after s c) cs (takes_rest s c cs h))
 
 pub way_back_taken : (s : FolderState) (cs : List Change) → IsTrue (takes_all s cs) → IsTrue (takes_all (state_after_all s cs) (way_back s.files cs))
 unfolding state_after_all way_back
@@ -309,11 +282,7 @@ with_room s k = record { files = s.files; vacant = s.vacant + k }
 
 more_room : (s : FolderState) (k : ℕ) (c : Change) → change_refusal s c ≡ None → (change_refusal (with_room s k) c ≡ None) × (state_after (with_room s k) c ≡ with_room (state_after s c) k)
 unfolding change_refusal
-more_room s k (Write n b) h =
-    let name = not_refused (not (has s.files n)) NameTaken _ h in
-    let room = has_place s.vacant (not_refused (nat_lt 0 s.vacant) NoRoom None name.1).0 in
-    let less : s.vacant + k - 1 ≡ s.vacant - 1 + k = omega arith in
-    (rw (name.0, has_room (s.vacant + k) (omega arith)), λ i. record { files = effect s.files (Write n b); vacant = less i })
+more_room s k (Write n b) h = grind (arith, not_refused, has_place, has_room)
 more_room s k (Remove n) h = let more : s.vacant + k + 1 ≡ s.vacant + 1 + k = omega arith in (h, λ i. record { files = effect s.files (Remove n); vacant = more i })
 more_room s k c h = (h, refl)
 

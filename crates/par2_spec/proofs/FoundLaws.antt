@@ -1,5 +1,5 @@
 -- The slices of intact and of matched targets are found.
-use Rattle.par2_spec.proofs.Common.{◌≡◌, ℕ, zero, suc, ◌+◌, ◌*◌, ◌<◌, ◌≤◌, List, [], ◌∷◌, ◌++◌, length, map, refl, sym, ap, ◌∙◌, subst, cond, true, false, Bool, not, ◌&&◌, ◌||◌, arith, filter, flat_map, find, zip, Option, Some, None, is_some, is_none, option_to_list, ◌==◌, div_ceil, list_any, list_all, range_with_len, enumerate_from, AllByRecursion, bytes_eq, map-append, and_parts, or_cases, or_left, or_right, eqb-true, false≢true, not-false, div_ceil_times, mul-le-mul_right, add-mul, Pair, window, windows, is_match, found, slice_count, is_among, Folder, bytes_of, has, ParSet, Target, is_intact, is_needing, needing, intact_names, lost, names_without_match, slices_by_target, lost_of_unmatched, IsFound}
+use Rattle.par2_spec.proofs.Common.{◌≡◌, ℕ, zero, suc, ◌+◌, ◌*◌, ◌<◌, ◌≤◌, List, [], ◌∷◌, ◌++◌, length, map, refl, sym, ap, ◌∙◌, subst, cond, true, false, Bool, not, ◌&&◌, arith, filter, flat_map, find, zip, Option, Some, None, is_some, is_none, option_to_list, ◌==◌, div_ceil, list_any, list_all, range_with_len, enumerate_from, AllByRecursion, bytes_eq, map-append, and_parts, or_cases, or_left, or_right, eqb-true, false≢true, not-false, div_ceil_times, mul-le-mul_right, add-mul, Pair, window, windows, is_match, found, slice_count, is_among, Folder, bytes_of, has, ParSet, Target, is_intact, is_needing, needing, intact_names, lost, names_without_match, slices_by_target, lost_of_unmatched, IsFound}
 use Rattle.par2_spec.specs.Search.{matches, known}
 use Rattle.par2_spec.proofs.NamesLaws.{same_name, itself, clash, among-filter}
 use Rattle.par2_spec.proofs.ListsLaws.{any-map, any-flat_map, in_range_some, map-cond, all-passing}
@@ -8,19 +8,11 @@ use Rattle.par2_spec.proofs.TestLaws.{by_either, is_true, by_true}
 
 is_some-find : {A : Type 0} (test : A → Bool) (xs : List A) → is_some (find test xs) ≡ list_any test xs
 is_some-find test [] = refl
-is_some-find {A = A} test (x ∷ xs) = step (test x) (find test xs) (list_any test xs) (is_some-find test xs)
-  where
-    step : (b : Bool) (o : Option A) (r : Bool) → is_some o ≡ r → is_some (cond b (Some x) o) ≡ (b || r)
-    step true o r e = refl
-    step false o r e = e
+is_some-find {A = A} test (x ∷ xs) = grind (arith, is_some-find test xs)
 
 -- the slice of number j begins within the text
 pub slice_begins : (n s j : ℕ) → 0 < s → j < div_ceil n s → j * s < n
-slice_begins n s j positive h =
-    let bound : (div_ceil n s) * s < n + s = (div_ceil_times n s positive).1 in
-    let more : (j + 1) * s ≤ (div_ceil n s) * s = mul-le-mul_right s (omega (arith, h)) in
-    let apart : (j + 1) * s ≡ j * s + 1 * s = add-mul j 1 s in
-    omega (arith, bound, more, apart)
+slice_begins n s j positive h = grind (arith, div_ceil_times, mul-le-mul_right, add-mul)
 
 -- the pairs that the slices match are matched by windows
 abbrev Windowed : ℕ → List ℕ → List Pair → Type 0
@@ -53,13 +45,7 @@ any_at test (x ∷ names) name h k = by_either (or_cases (bytes_eq name x) (is_a
 
 pub windowed_found : (folder : Folder) (s : ℕ) (names : List (List ℕ)) (name : List ℕ) (pairs : List Pair) → is_among names name ≡ true → Windowed s (bytes_of folder name) pairs → AllByRecursion (λ pair. is_some (found s (map (bytes_of folder) names) pair) ≡ true) pairs
 windowed_found folder s names name [] h w = tt
-windowed_found folder s names name (pair ∷ pairs) h w = (
-  is_some-find (is_match pair) (flat_map (windows s) (map (bytes_of folder) names))
-      ∙ any-flat_map (is_match pair) (windows s) (map (bytes_of folder) names)
-      ∙ any-map (λ text. list_any (is_match pair) (windows s text)) (bytes_of folder) names
-      ∙ any_at (λ n. list_any (is_match pair) (windows s (bytes_of folder n))) names name h w.0,
-  windowed_found folder s names name pairs h w.1,
-)
+windowed_found folder s names name (pair ∷ pairs) h w = grind (arith, is_some-find, any-flat_map, any-map, any_at, windowed_found folder s names name pairs h w.1)
 
 -- as many pairs as slices at most
 abbrev pub AreSized : ℕ → List Target → Type 0
@@ -169,19 +155,7 @@ found_by_target is_lost f (t ∷ ts) =
 
 lost_alike : (n : ℕ) (zs : List (Bool × Option (List ℕ))) → Told zs → map (λ z. z.0) (filter (λ z. is_none z.1) (enumerate_from n (map (λ z. z.1) zs))) ≡ map (λ z. z.0) (filter (λ z. z.1.0 && is_none z.1.1) (enumerate_from n zs))
 lost_alike n [] h = refl
-lost_alike n ((b, o) ∷ zs) h = step b o h.0 ∙ ap (λ rest. cond (b && is_none o) (n ∷ rest) rest) (lost_alike (n + 1) zs h.1) ∙ sym (map-cond (λ z. z.0) (b && is_none o) (n, (b, o)) told)
-  where
-    rest : List (ℕ × Option (List ℕ))
-    rest = filter (λ z. is_none z.1) (enumerate_from (n + 1) (map (λ z. z.1) zs))
-
-    told : List (ℕ × (Bool × Option (List ℕ)))
-    told = filter (λ z. z.1.0 && is_none z.1.1) (enumerate_from (n + 1) zs)
-
-    step : (c : Bool) (p : Option (List ℕ)) → (c ≡ false → is_some p ≡ true) → map (λ z. z.0) (cond (is_none p) ((n, p) ∷ rest) rest) ≡ cond (c && is_none p) (n ∷ map (λ z. z.0) rest) (map (λ z. z.0) rest)
-    step true None k = refl
-    step true (Some x) k = refl
-    step false None k = absurd (false≢true (k refl))
-    step false (Some x) k = refl
+lost_alike n ((b, o) ∷ zs) h = grind (arith, map-cond, false≢true, lost_alike (n + 1) zs h.1)
 
 -- the lost slices are those of the needing targets without a match that are not found
 pub lost_is : (folder : Folder) (set : ParSet) (names : List (List ℕ)) → 0 < set.slice_size → AreSized set.slice_size set.targets

@@ -1,5 +1,5 @@
 -- The rank is at most the number of lost slices, and that number exactly where they are determined.
-use Rattle.par2_spec.proofs.Common.{◌≡◌, ℕ, zero, suc, ◌+◌, ◌*◌, ◌/◌, ◌%◌, ◌^◌, ◌<◌, ◌≤◌, List, [], ◌∷◌, length, map, drop, pow-add, refl, sym, ap, ap₂, ◌∙◌, subst, cond, true, false, Bool, eqb, inl, inr, arith, ◌↔◌, replicate, slice_index, xor_self, AllByRecursion, IsStrictlyIncreasing, pow_below, Decides-eqb, cases_lt, eq-eqb, length-map, AllPairs-from_increasing, IsStrictlyIncreasing-filter, IsDistinct-from_AllPairs, coefficients, kept, rank, IsVector, Kills, IsRepairable, AreElements}
+use Rattle.par2_spec.proofs.Common.{◌≡◌, ℕ, zero, suc, ◌+◌, ◌*◌, ◌/◌, ◌%◌, ◌^◌, ◌<◌, ◌≤◌, List, [], ◌∷◌, length, map, drop, pow-add, refl, sym, ap, ap₂, ◌∙◌, subst, cond, false, eqb, inl, inr, arith, ◌↔◌, replicate, slice_index, xor_self, AllByRecursion, IsStrictlyIncreasing, pow_below, Decides-eqb, cases_lt, eq-eqb, length-map, AllPairs-from_increasing, IsStrictlyIncreasing-filter, IsDistinct-from_AllPairs, coefficients, kept, rank, IsVector, Kills, IsRepairable, AreElements}
 use Rattle.std.specs.Prelude.{bit_xor}
 use Rattle.std.specs.List.{IsDistinct}
 use Rattle.par2_spec.specs.Recovery.{dot}
@@ -146,11 +146,7 @@ numbered es g e = 0
 
 numbered-lt : (es g : List ℕ) (e : ℕ) → AreElements g → numbered es g e < 2 ^ 16
 unfolding numbered
-numbered-lt (x ∷ es) (y ∷ g) e h = step (eqb x e) (numbered es g e) (numbered-lt es g e h.1)
-  where
-    step : (b : Bool) (z : ℕ) → z < 2 ^ 16 → cond b y z < 2 ^ 16
-    step true z k = h.0
-    step false z k = k
+numbered-lt (x ∷ es) (y ∷ g) e h = grind (arith, numbered, numbered-lt es g e h.1)
 numbered-lt es g e h = omega arith
 
 -- where the exponents are distinct and a function gives each its number, its values are the list

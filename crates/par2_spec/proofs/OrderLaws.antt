@@ -128,10 +128,7 @@ turned a b = same_tests (eqb (number_in a) (number_in b)) (eqb (number_in b) (nu
 distinct-rises : (records : List FileRecord) → Rises number_in records → IsDistinct has_one_number records
 unfolding IsDistinct
 distinct-rises [] h = tt
-distinct-rises (r ∷ records) h = (
-  all_weaker (λ z. number_in r < number_in z) (λ z. has_one_number r z ≡ false) (λ z l. false_from_ne_true _ (λ e. let same : number_in r ≡ number_in z = eqb-true (number_in r) (number_in z) e in absurd (omega (arith, l, same)))) records h.0,
-  distinct-rises records h.1,
-)
+distinct-rises (r ∷ records) h = grind (arith, all_weaker, false_from_ne_true, eqb-true, distinct-rises records h.1)
 
 apart-distinct : (records : List FileRecord) → IsDistinct has_one_number records → AreApart number_in records
 unfolding IsDistinct

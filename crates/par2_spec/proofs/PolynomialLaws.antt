@@ -54,8 +54,7 @@ length-plus_same (a ∷ p) [] e = refl
 length-plus_same (a ∷ p) (b ∷ q) e = ap suc (length-plus_same p q (omega (arith, e)))
 
 pub length-times_root : (c : ℕ) (p : List ℕ) → length (times_root c p) ≡ suc (length p)
-length-times_root c p =
-    length-plus (times c p) (0 ∷ p) (ap suc (sym (length-map p (mul c)))) ∙ ap suc (length-map p (mul c))
+length-times_root c p = grind (arith, length-plus, length-map)
 
 pub length-with_roots : (points : List ℕ) → length (with_roots points) ≡ suc (length points)
 unfolding with_roots
@@ -132,13 +131,7 @@ value_divided c z (a ∷ p) small hz h =
 pub with_roots_zero : (points : List ℕ) → AreElements points → AllByRecursion (λ z. value (with_roots points) z ≡ 0) points
 unfolding with_roots
 with_roots_zero [] h = tt
-with_roots_zero (c ∷ points) h =
-    let p = with_roots points in
-    let is = with_roots_elements points h.1 in (
-      value_times_root c p c h.0 is h.0 ∙ ap (λ x. mul x (value p c)) (xor_self c) ∙ zero-product (value p c),
-      all-both (λ z. z < 2 ^ 16) (λ z. value p z ≡ 0) (λ z. value (times_root c p) z ≡ 0)
-          (λ z small e. value_times_root c p z h.0 is small ∙ ap (mul (bit_xor z c)) e ∙ product-zero (bit_xor z c)) points h.1 (with_roots_zero points h.1),
-    )
+with_roots_zero (c ∷ points) h = grind (arith, with_roots_elements, value_times_root, xor_self, zero-product, all-both, product-zero, with_roots_zero points h.1)
 
 -- a factor that is not 0 is taken off
 no_root : (c z v : ℕ) → c < 2 ^ 16 → z < 2 ^ 16 → v < 2 ^ 16 → z ≢ c → mul (bit_xor z c) v ≡ 0 → v ≡ 0
@@ -215,10 +208,7 @@ same_if_zero p q e h = absurd (omega (arith, e))
 same_values : (p q points values : List ℕ) → map (value p) points ≡ values → map (value q) points ≡ values → AllByRecursion (λ z. value (plus p q) z ≡ 0) points
 same_values p q [] values e f = tt
 same_values p q (z ∷ points) [] e f = absurd (let long = ap length e in omega (arith, long))
-same_values p q (z ∷ points) (y ∷ values) e f = (
-  value_plus p q z ∙ ap₂ bit_xor (ap (λ xs. get_or xs 0 0) e) (ap (λ xs. get_or xs 0 0) f) ∙ xor_self y,
-  same_values p q points values (ap (drop 1) e) (ap (drop 1) f),
-)
+same_values p q (z ∷ points) (y ∷ values) e f = grind (arith, value_plus, xor_self, same_values p q points values (ap (drop 1) e) (ap (drop 1) f))
 
 pub one_polynomial : (points values p q : List ℕ) → ArePoints points → Interpolates points values p → Interpolates points values q → p ≡ q
 one_polynomial points values p q are first second =
@@ -229,8 +219,7 @@ one_polynomial points values p q are first second =
 
 same_at : (p q points : List ℕ) → AllByRecursion (λ z. value q z ≡ 0) points → map (value (plus p q)) points ≡ map (value p) points
 same_at p q [] h = refl
-same_at p q (z ∷ points) h =
-    ap₂ (λ x xs. x ∷ xs) (value_plus p q z ∙ ap (bit_xor (value p z)) h.0 ∙ xor_zero_r (value p z)) (same_at p q points h.1)
+same_at p q (z ∷ points) h = grind (arith, value_plus, xor_zero_r, same_at p q points h.1)
 
 -- some multiple of an element that is not 0 takes a to y
 reached : (a y w : ℕ) → a < 2 ^ 16 → y < 2 ^ 16 → w < 2 ^ 16 → w ≢ 0 → (k : ℕ) × (k < 2 ^ 16) × (bit_xor a (mul k w) ≡ y)

@@ -1,5 +1,5 @@
 -- The tests over all vectors and all texts say what the words say.
-use Rattle.par2_spec.proofs.Common.{◌≡◌, ℕ, ◌^◌, ◌<◌, List, [], ◌∷◌, length, map, refl, sym, ap, ◌∙◌, subst, true, false, Bool, ◌&&◌, ◌||◌, not, cond, arith, ◌↔◌, ◌==◌, nat_lt, filter, find, zip, Option, Some, None, is_some, unwrap_or, nat_eq, list_all, list_any, AllByRecursion, AllZip, Contains, ForSome, bytes_eq, and_parts, and_from, eqb-true, eq-eqb, ltb-true, lt-ltb, not_from_false, false_from_ne_true, false≢true, true_from_ne_false, both_ways, not-true, AllZip-long, nat_eq_equiv, coefficients, recovery, kills, is_zero, is_repairable, kept, smaller, Kills, IsRepairable, IsKept, IsVector, Agrees, is_as_known, kept_slices, IsRebuilt, ParSet, lost, survivors}
+use Rattle.par2_spec.proofs.Common.{◌≡◌, ℕ, ◌^◌, ◌<◌, List, [], ◌∷◌, length, map, refl, sym, ap, ◌∙◌, subst, true, false, Bool, ◌&&◌, not, arith, ◌↔◌, ◌==◌, filter, find, zip, Option, Some, None, is_some, unwrap_or, nat_eq, list_all, list_any, AllByRecursion, AllZip, Contains, ForSome, bytes_eq, and_parts, and_from, eqb-true, eq-eqb, ltb-true, lt-ltb, not_from_false, false_from_ne_true, false≢true, true_from_ne_false, both_ways, not-true, AllZip-long, nat_eq_equiv, coefficients, recovery, kills, is_zero, is_repairable, kept, smaller, Kills, IsRepairable, IsKept, IsVector, Agrees, is_as_known, kept_slices, IsRebuilt, ParSet, lost, survivors}
 use Rattle.std.specs.Prelude.{IsTrue}
 use Rattle.std.specs.FinMap as map_of
 use Rattle.std.proofs.lemmas.Map.Views.{Contains-from_any, list_any-from_Contains}
@@ -7,7 +7,7 @@ use Rattle.par2_spec.specs.Lists.{all_lists, all_texts, all_below}
 use Rattle.par2_spec.specs.Recovery.{dot}
 use Rattle.par2_spec.specs.Rank.{is_independent, is_solvable, agrees}
 use Rattle.par2_spec.specs.Repairs.{rebuilt}
-use Rattle.par2_spec.proofs.ListsLaws.{AreOf, IsBelow, IsComplete, some_list, all_below_are, all_below_complete, all_lists_are, all_lists_complete, find_one, filter-none, all-both}
+use Rattle.par2_spec.proofs.ListsLaws.{AreOf, IsBelow, some_list, all_below_are, all_below_complete, all_lists_are, all_lists_complete, find_one, filter-none, all-both}
 use Rattle.par2_spec.proofs.NamesLaws.{same_name, itself, clash, kept as kept_one}
 use Rattle.par2_spec.proofs.TestLaws.{by_test, is_true, by_true}
 
@@ -75,19 +75,11 @@ killed_vector lost survivors unrepairable =
 -- what holds of the smaller ones
 all_smaller : (P : ℕ → Type 0) (e : ℕ) (es : List ℕ) → AllByRecursion P (smaller e es) → AllByRecursion (λ x. x < e → P x) es
 all_smaller P e [] h = tt
-all_smaller P e (x ∷ es) h = step (nat_lt x e) refl (smaller e es) h (all_smaller P e es)
-  where
-    step : (b : Bool) → nat_lt x e ≡ b → (rest : List ℕ) → AllByRecursion P (cond b (x ∷ rest) rest) → (AllByRecursion P rest → AllByRecursion (λ y. y < e → P y) es) → AllByRecursion (λ y. y < e → P y) (x ∷ es)
-    step true i rest h later = (λ l. h.0, later h.1)
-    step false i rest h later = (λ l. absurd (clash (lt-ltb x e l) i), later h)
+all_smaller P e (x ∷ es) h = grind (arith, clash, lt-ltb, all_smaller P e es)
 
 smaller_all : (P : ℕ → Type 0) (e : ℕ) (es : List ℕ) → AllByRecursion (λ x. x < e → P x) es → AllByRecursion P (smaller e es)
 smaller_all P e [] h = tt
-smaller_all P e (x ∷ es) h = step (nat_lt x e) refl (smaller e es) (smaller_all P e es h.1)
-  where
-    step : (b : Bool) → nat_lt x e ≡ b → (rest : List ℕ) → AllByRecursion P rest → AllByRecursion P (cond b (x ∷ rest) rest)
-    step true i rest k = (h.0 (ltb-true x e i), k)
-    step false i rest k = k
+smaller_all P e (x ∷ es) h = grind (arith, ltb-true, smaller_all P e es h.1)
 
 pub independent-iff : (lost survivors : List ℕ) (e : ℕ) → (is_independent (length lost) (map (coefficients lost) (smaller e survivors)) (coefficients lost e) ≡ true) ↔ IsKept lost survivors e
 unfolding is_independent
@@ -118,13 +110,7 @@ counts xs q = list_any (nat_eq q) xs
 counts-filter : (p : ℕ → Bool) (xs : List ℕ) (q : ℕ) → counts (filter p xs) q ≡ (counts xs q && p q)
 unfolding counts
 counts-filter p [] q = refl
-counts-filter p (x ∷ xs) q =
-    chosen (p x) x (filter p xs) ∙ ap (λ r. cond (p x) (nat_eq q x || r) r) (counts-filter p xs q)
-    ∙ kept_one (nat_eq q x) (p x) (p q) (list_any (nat_eq q) xs) (λ e. ap p (sym (eqb-true q x e)))
-  where
-    chosen : (b : Bool) (y : ℕ) (ys : List ℕ) → list_any (nat_eq q) (cond b (y ∷ ys) ys) ≡ cond b (nat_eq q y || list_any (nat_eq q) ys) (list_any (nat_eq q) ys)
-    chosen true y ys = refl
-    chosen false y ys = refl
+counts-filter p (x ∷ xs) q = grind (arith, kept_one, eqb-true, counts-filter p xs q)
 
 pub counts-iff : (xs : List ℕ) (q : ℕ) → (counts xs q ≡ true) ↔ Contains xs q
 unfolding counts
@@ -213,15 +199,12 @@ bytes_from s slices h = all_weaker (IsText s) (λ text. AllByRecursion (λ b. b 
 texts_are : (s : ℕ) → AllByRecursion (IsText s) (all_texts s)
 texts_are s = all_lists_are (IsBelow 256) (all_below 256) (all_below_are 256) s
 
-texts_complete : (s : ℕ) → IsComplete (IsText s) (all_texts s)
-texts_complete s = all_lists_complete (IsBelow 256) (all_below 256) (all_below_complete 256) s
-
 -- where a list agrees, one is found, and it agrees
 pub agreeing_found : (s : ℕ) (known : List (Option (List ℕ))) (recovered : List (ℕ × List ℕ)) (slices : List (List ℕ)) → Agrees s known recovered slices
     → (found : List (List ℕ)) × (find (agrees s known recovered) (all_lists (all_texts s) (length known)) ≡ Some found) × Agrees s known recovered found
 agreeing_found s known recovered slices a =
     let r = find_one (AreOf (IsText s) (length known)) (agrees s known recovered) (all_lists (all_texts s) (length known)) (all_lists_are (IsText s) (all_texts s) (texts_are s) (length known))
-    (all_lists_complete (IsText s) (all_texts s) (texts_complete s) (length known) (agrees s known recovered) slices
+    (all_lists_complete (IsText s) (all_texts s) (all_lists_complete (IsBelow 256) (all_below 256) (all_below_complete 256) s) (length known) (agrees s known recovered) slices
     (AllZip-long (λ slice text. ForSome slice (λ found. text ≡ found)) known slices a.as_known, texts_from s slices a.sizes a.bytes)
     (by_true ((agrees-iff s known recovered slices a.sizes a.bytes).1 a))) in
     (r.0, r.1, (agrees-iff s known recovered r.0 (sizes_from s r.0 r.2.1) (bytes_from s r.0 r.2.1)).0 (is_true r.3))
@@ -230,10 +213,7 @@ pub rebuilt_agrees : (set : ParSet) (known : List (Option (List ℕ))) (slices :
     → Agrees set.slice_size known (kept_slices (lost known) (survivors set) (map_of.entries set.recovery)) slices
     → Agrees set.slice_size known (kept_slices (lost known) (survivors set) (map_of.entries set.recovery)) (rebuilt set known)
 unfolding rebuilt
-rebuilt_agrees set known slices a =
-    let recovered = kept_slices (lost known) (survivors set) (map_of.entries set.recovery) in
-    let r = agreeing_found set.slice_size known recovered slices a in
-    subst (Agrees set.slice_size known recovered) (sym (ap (λ o. unwrap_or o []) r.1)) r.2
+rebuilt_agrees set known slices a = grind (arith, agreeing_found)
 
 pub rebuilt_is_only : (set : ParSet) (known : List (Option (List ℕ))) (slices : List (List ℕ))
     → IsRebuilt set.slice_size known (kept_slices (lost known) (survivors set) (map_of.entries set.recovery)) slices → rebuilt set known ≡ slices

@@ -1,5 +1,5 @@
 -- What holds of a set that reads, and of the names that are searched.
-use Rattle.par2_spec.proofs.Common.{◌≡◌, ℕ, suc, ◌≤◌, List, [], ◌∷◌, ◌++◌, length, map, refl, sym, ap, ◌∙◌, subst, cond, true, false, Bool, not, ◌&&◌, ◌||◌, arith, length-append, ◌<◌, ◌+◌, ◌^◌, zero, ◌-◌, ◌*◌, take, drop, length-drop, min, nat_lt, filter, filter_map, flat_map, find, slice_get, sum_by, nat_le, Option, Some, None, is_some, unwrap_or, option_map, option_and_then, Result, Ok, Err, ok_or, ◌==◌, if◌then◌else◌, zip, list_all, AllByRecursion, Contains, concat, entries-insert, len-entries, len-empty, nat_cmp-IsAntisymmetric, nat_cmp_total, put, by_order, nat_cmp, Ordering, Less, Equal, Greater, zero-div, zero-mod, bytes_eq, length-map, nil_from_length, length-take-le, sum_by-cons, list_all-map, recursion_from_All, All-contains_itself, and_parts, and_from, or_cases, or_left, or_right, false_from_ne_true, eqb-true, leb-true, ltb-true, false≢true, Fault, NoPackets, NoMain, NoDescription, NoChecksums, BadSet, Pair, slice_count, is_name, is_among, distinct, Packet, accepted, MainBody, DescBody, RecoveryBody, read_ifsc, read_recovery, Folder, has, bytes_of, ParSet, Target, ◌>>=◌, unless, all_some, is_slice_size, packets_with, main_of, description_of, pairs_of, target_of, are_in_profile, recovery_of, other_par_names, IsSound, candidates, known, lost, AreFew, FitsRepair, lost_of_unmatched, cut_into, div_ceil, div_ceil_times, FilesHaveTheirSize}
+use Rattle.par2_spec.proofs.Common.{◌≡◌, ℕ, suc, ◌≤◌, List, [], ◌∷◌, ◌++◌, length, map, refl, sym, ap, ◌∙◌, subst, cond, true, false, Bool, not, ◌&&◌, ◌||◌, arith, length-append, ◌<◌, ◌+◌, ◌^◌, zero, ◌-◌, ◌*◌, take, drop, length-drop, min, nat_lt, filter, filter_map, flat_map, find, sum_by, nat_le, Option, Some, None, is_some, unwrap_or, option_map, option_and_then, Result, Ok, Err, ok_or, ◌==◌, if◌then◌else◌, zip, list_all, AllByRecursion, Contains, concat, entries-insert, len-entries, len-empty, nat_cmp-IsAntisymmetric, nat_cmp_total, put, by_order, nat_cmp, Ordering, zero-div, zero-mod, bytes_eq, length-map, nil_from_length, length-take-le, sum_by-cons, list_all-map, recursion_from_All, All-contains_itself, and_parts, and_from, or_cases, or_left, or_right, false_from_ne_true, eqb-true, leb-true, ltb-true, false≢true, Fault, NoMain, NoDescription, NoChecksums, BadSet, Pair, slice_count, is_name, is_among, distinct, Packet, accepted, MainBody, DescBody, RecoveryBody, read_recovery, Folder, has, bytes_of, ParSet, Target, ◌>>=◌, unless, all_some, is_slice_size, packets_with, main_of, description_of, pairs_of, target_of, are_in_profile, recovery_of, other_par_names, IsSound, candidates, known, lost, AreFew, FitsRepair, lost_of_unmatched, cut_into, div_ceil, div_ceil_times, FilesHaveTheirSize}
 use Rattle.std.specs.Prelude.{◌%◌}
 use Rattle.par2_spec.specs.Sets.{read_set, set_of}
 use Rattle.par2_spec.proofs.NamesLaws.{same_name, itself, clash, among-filter, among-append, AreDistinct, std_from_distinct}
@@ -25,11 +25,7 @@ among-distinct (x ∷ xs) q =
 
 length-filter-le : (p : List ℕ → Bool) (xs : List (List ℕ)) → length (filter p xs) ≤ length xs
 length-filter-le p [] = omega arith
-length-filter-le p (x ∷ xs) = step (p x) (filter p xs) (length-filter-le p xs)
-  where
-    step : (b : Bool) (ys : List (List ℕ)) → length ys ≤ length xs → length (cond b (x ∷ ys) ys) ≤ suc (length xs)
-    step true ys h = omega (arith, h)
-    step false ys h = omega (arith, h)
+length-filter-le p (x ∷ xs) = grind (arith, length-filter-le p xs)
 
 -- a filter that keeps the length keeps all
 filter_full : (p : List ℕ → Bool) (xs : List (List ℕ)) → length (filter p xs) ≡ length xs → (q : List ℕ) → is_among xs q ≡ true → p q ≡ true
@@ -94,21 +90,13 @@ find_passes : {A : Type 0} (p : A → Bool) (xs : List A) (a : A) → find p xs 
 find_passes p xs a h = (found_one (Contains xs) p xs (recursion_from_All (Contains xs) xs (All-contains_itself xs)) a h).1
 
 all_the_pairs : (packets : List Packet) (id : List ℕ) (n : ℕ) (pairs : List Pair) → pairs_of packets id n ≡ Some pairs → length pairs ≡ n
-all_the_pairs packets id n pairs h =
-    let found = mapped (λ c. c.pairs) (find (λ c. bytes_eq c.id id && length c.pairs == n) (filter_map (λ p. read_ifsc p.kind p.body) packets)) pairs h in
-    let right = find_passes (λ c. bytes_eq c.id id && length c.pairs == n) (filter_map (λ p. read_ifsc p.kind p.body) packets) found.0 found.1 in
-    let e : length found.0.pairs ≡ n = eqb-true _ _ (and_parts (bytes_eq found.0.id id) _ right).1 in
-    subst (λ ps. length ps ≡ n) found.2 e
+all_the_pairs packets id n pairs h = grind (arith, mapped, find_passes, eqb-true, and_parts)
 
 pub no_slices : (s : ℕ) → slice_count s 0 ≡ 0
 no_slices s = ap (λ q. q + min 1 (0 % s)) (zero-div s) ∙ ap (λ r. 0 + min 1 r) (zero-mod s)
 
 pairs_fit : (packets : List Packet) (id : List ℕ) (s n : ℕ) (pairs : List Pair) → (if n == 0 then Some [] else pairs_of packets id (slice_count s n)) ≡ Some pairs → length pairs ≡ slice_count s n
-pairs_fit packets id s n pairs h = step (n == 0) refl h
-  where
-    step : (b : Bool) → (n == 0) ≡ b → (if b then Some [] else pairs_of packets id (slice_count s n)) ≡ Some pairs → length pairs ≡ slice_count s n
-    step true e k = subst (λ ps. length ps ≡ slice_count s n) (ap (λ o. unwrap_or o []) k) (sym (ap (slice_count s) (eqb-true n 0 e) ∙ no_slices s))
-    step false e k = all_the_pairs packets id (slice_count s n) pairs k
+pairs_fit packets id s n pairs h = grind (arith, eqb-true, no_slices, all_the_pairs)
 
 abbrev pub target_with : DescBody → List Pair → Target
 target_with d pairs = record { name = d.name; length = d.length; md5 = d.md5; pairs = pairs }
@@ -117,9 +105,7 @@ abbrev IsTargetOf : ℕ → DescBody → Target → Type 0
 IsTargetOf s d t = (t.name ≡ d.name) × (t.length ≡ d.length) × (length t.pairs ≡ slice_count s t.length)
 
 of_target : (packets : List Packet) (s : ℕ) (d : DescBody) (t : Target) → target_of packets s d ≡ Some t → IsTargetOf s d t
-of_target packets s d t h =
-    let r = mapped (target_with d) (if d.length == 0 then Some [] else pairs_of packets d.id (slice_count s d.length)) t h in
-    subst (IsTargetOf s d) r.2 (refl, refl, pairs_fit packets d.id s d.length r.0 r.1)
+of_target packets s d t h = grind (arith, mapped, pairs_fit)
 
 abbrev AreCounted : ℕ → List Target → Type 0
 AreCounted s ts = AllByRecursion (λ t. length t.pairs ≡ slice_count s t.length) ts
@@ -153,12 +139,7 @@ AreRecovery s rs = AllByRecursion (λ r. (r.0 < 65536) × (length r.1 ≡ s)) rs
 
 put_entry : (P : ℕ × List ℕ → Type 0) (k : ℕ) (v : List ℕ) (rs : List (ℕ × List ℕ)) → P (k, v) → AllByRecursion P rs → AllByRecursion P (put nat_cmp k v rs)
 put_entry P k v [] is h = (is, tt)
-put_entry P k v (r ∷ rs) is h = step (nat_cmp k r.0) refl (put_entry P k v rs is h.1)
-  where
-    step : (o : Ordering) → nat_cmp k r.0 ≡ o → AllByRecursion P (put nat_cmp k v rs) → AllByRecursion P (by_order o ((k, v) ∷ r ∷ rs) ((r.0, v) ∷ rs) (r ∷ put nat_cmp k v rs))
-    step Less e later = (is, h)
-    step Equal e later = (subst (λ n. P (n, v)) (nat_cmp-IsAntisymmetric k r.0 e) is, h.1)
-    step Greater e later = (h.0, later)
+put_entry P k v (r ∷ rs) is h = grind (arith, put, by_order, nat_cmp-IsAntisymmetric, put_entry P k v rs is h.1)
 
 pub entries-empty : {K : Type 0} (R : K → K → Ordering) (X : Type 0) → map_of.entries (map_of.empty {X = X} {R = R}) ≡ []
 entries-empty R X = nil_from_length (map_of.entries (map_of.empty {X = X} {R = R})) (sym (len-entries map_of.empty) ∙ len-empty R X)
@@ -171,14 +152,7 @@ all-entries P (r ∷ rs) h =
 
 chosen_are : (s : ℕ) (rs : List RecoveryBody) → AreRecovery s (map (λ r. (r.exponent, r.bytes)) (filter (λ r. nat_lt r.exponent 65536 && length r.bytes == s) rs))
 chosen_are s [] = tt
-chosen_are s (r ∷ rs) = step (nat_lt r.exponent 65536 && length r.bytes == s) refl (filter (λ q. nat_lt q.exponent 65536 && length q.bytes == s) rs) (chosen_are s rs)
-  where
-    step : (b : Bool) → (nat_lt r.exponent 65536 && length r.bytes == s) ≡ b → (qs : List RecoveryBody) → AreRecovery s (map (λ q. (q.exponent, q.bytes)) qs) → AreRecovery s (map (λ q. (q.exponent, q.bytes)) (cond b (r ∷ qs) qs))
-    step true e qs h = let p = and_parts (nat_lt r.exponent 65536) (length r.bytes == s) e in ((ltb-true r.exponent 65536 p.0, eqb-true (length r.bytes) s p.1), h)
-    step false e qs h = h
-
-recovery_is : (packets : List Packet) (s : ℕ) → AreRecovery s (map_of.entries (recovery_of packets s))
-recovery_is packets s = all-entries (λ r. (r.0 < 65536) × (length r.1 ≡ s)) _ (chosen_are s (filter_map (λ p. read_recovery p.kind p.body) packets))
+chosen_are s (r ∷ rs) = grind (arith, and_parts, ltb-true, eqb-true, chosen_are s rs)
 
 -- the steps of the reading, the last one first
 abbrev pub set_with : List ℕ → List Packet → ℕ → List Target → ParSet
@@ -219,28 +193,7 @@ pub record IsReadBy (base : List ℕ) (others : List (List ℕ)) (set : ParSet) 
 
 pub read_by : (base : List ℕ) (others : List (List ℕ)) (set : ParSet) → read_set base others ≡ Ok set → IsReadBy base others set
 unfolding read_set
-read_by base others set h =
-    let first = took (ok_or (slice_get (accepted base) 0) NoPackets) (by_main base others) set h in
-    let id = first.0.set_id in
-    let packets = packets_with id (flat_map accepted (base ∷ others)) in
-    let main = took (ok_or (main_of id packets) NoMain) (by_size id packets) set first.2 in
-    let s = main.0.slice_size in
-    let size = took (unless (is_slice_size s) BadSet) (by_descriptions id packets main.0) set main.2 in
-    let described = took (ok_or (all_some (map (description_of packets) main.0.ids)) NoDescription) (by_profile id packets s) set size.2 in
-    let profile = took (unless (are_in_profile s described.0) BadSet) (by_checksums id packets s described.0) set described.2 in
-    let targets = took (ok_or (all_some (map (target_of packets s) described.0)) NoChecksums) (finished id packets s) set profile.2 in
-    record {
-      id = id;
-      main = main.0;
-      described = described.0;
-      targets = targets.0;
-      main_there = was_some (main_of id packets) NoMain main.0 main.1;
-      size = passed (is_slice_size s) BadSet size.0 size.1;
-      described_there = was_some (all_some (map (description_of packets) main.0.ids)) NoDescription described.0 described.1;
-      profile = passed (are_in_profile s described.0) BadSet profile.0 profile.1;
-      targets_there = was_some (all_some (map (target_of packets s) described.0)) NoChecksums targets.0 targets.1;
-      made = ap (value_or set) {x = finished id packets s targets.0} targets.2;
-    }
+read_by base others set h = grind (arith, took, was_some, passed)
 
 -- a set that reads is sound
 pub sound_set : (base : List ℕ) (others : List (List ℕ)) (set : ParSet) → read_set base others ≡ Ok set → IsSound set
@@ -260,15 +213,12 @@ sound_set base others set h =
       size = r.size;
       pairs = are.1;
       slices = subst (λ n. n ≤ 32768) (sym are.2) (leb-true (sum_by (λ d. slice_count s d.length) ds) 32768 parts.0);
-      recovery = recovery_is packets s;
+      recovery = all-entries (λ r. (r.0 < 65536) × (length r.1 ≡ s)) _ (chosen_are s (filter_map (λ p. read_recovery p.kind p.body) packets));
     })
 
 -- a slice size is a multiple of 4, not zero and not large
 pub size_parts : (s : ℕ) → is_slice_size s ≡ true → (s % 4 ≡ 0) × (4 ≤ s) × (s ≤ 2 ^ 30)
-size_parts s h =
-    let two = and_parts (s % 4 == 0 && nat_le 4 s) (nat_le s (2 ^ 30)) h in
-    let front = and_parts (s % 4 == 0) (nat_le 4 s) two.0 in
-    (eqb-true (s % 4) 0 front.0, leb-true 4 s front.1, leb-true s (2 ^ 30) two.1)
+size_parts s h = grind (arith, and_parts, eqb-true, leb-true)
 
 pub size_positive : (s : ℕ) → is_slice_size s ≡ true → 0 < s
 size_positive s h = let least : 4 ≤ s = (size_parts s h).1 in omega (arith, least)
@@ -288,16 +238,11 @@ each_there folder (x ∷ extras) h q i =
     (λ there. each_there folder extras r.1 q there)
 
 candidates_are : (folder : Folder) (set : ParSet) (extras : List (List ℕ)) (q : List ℕ) → is_among (candidates folder set extras) q ≡ ((is_among (map (λ t. t.name) set.targets) q && has folder q) || is_among extras q)
-candidates_are folder set extras q =
-    among-distinct (filter (has folder) (map (λ t. t.name) set.targets) ++ extras) q
-    ∙ among-append (filter (has folder) (map (λ t. t.name) set.targets)) extras q
-    ∙ ap (λ b. b || is_among extras q) (among-filter (has folder) (map (λ t. t.name) set.targets) q)
+candidates_are folder set extras q = grind (arith, among-distinct, among-append, among-filter)
 
 -- where the extra names are in the folder, all candidates are
 pub candidates_there : (folder : Folder) (set : ParSet) (extras : List (List ℕ)) → list_all (has folder) extras ≡ true → (q : List ℕ) → is_among (candidates folder set extras) q ≡ true → has folder q ≡ true
-candidates_there folder set extras h q i = by_either (or_cases (is_among (map (λ t. t.name) set.targets) q && has folder q) (is_among extras q) (sym (candidates_are folder set extras q) ∙ i))
-    (λ own. (and_parts (is_among (map (λ t. t.name) set.targets) q) (has folder q) own).1)
-    (λ extra. each_there folder extras h q extra)
+candidates_there folder set extras h q i = grind (arith, by_either, or_cases, candidates_are, and_parts, each_there)
 
 -- each target in the folder is a candidate
 pub present_searched : (folder : Folder) (set : ParSet) (extras : List (List ℕ)) (q : List ℕ) → is_among (map (λ t. t.name) set.targets) q ≡ true → has folder q ≡ true → is_among (candidates folder set extras) q ≡ true
@@ -325,12 +270,7 @@ lost_of folder base set extras h =
 
 length-concat : (s : ℕ) (texts : List (List ℕ)) → AllByRecursion (λ text. length text ≡ s) texts → length (concat texts) ≡ length texts * s
 length-concat s [] h = omega arith
-length-concat s (text ∷ texts) h =
-    let rest : length (concat texts) ≡ length texts * s = length-concat s texts h.1 in
-    let size : length text ≡ s = h.0 in
-    let joined : length (text ++ concat texts) ≡ length text + length (concat texts) = length-append text (concat texts) in
-    let more : suc (length texts) * s ≡ s + length texts * s = omega arith in
-    omega (arith, rest, size, joined, more)
+length-concat s (text ∷ texts) h = grind (arith, length-append, length-concat s texts h.1)
 
 all-take : (P : List ℕ → Type 0) (n : ℕ) (texts : List (List ℕ)) → AllByRecursion P texts → AllByRecursion P (take n texts)
 all-take P zero [] h = tt

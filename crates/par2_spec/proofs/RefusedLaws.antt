@@ -1,5 +1,5 @@
 -- Where a repair is refused as not repairable, other slices agree too.
-use Rattle.par2_spec.proofs.Common.{◌≡◌, ℕ, ◌+◌, ◌≤◌, List, [], ◌∷◌, refl, sym, ap, ◌∙◌, subst, true, false, Bool, not, arith, Option, Some, None, Result, Ok, both_ways, not-true, Fault, NoSuchFile, NameTooLong, NotRepairable, RepairFailed, first_fault, fault_where, then_fault, Folder, all_slices, is_repairable, IsRepairable, ParSet, set_of, is_slice_size, candidates, known, lost, survivors, Repair, RefusedRepairHasAChoice}
+use Rattle.par2_spec.proofs.Common.{◌≡◌, ℕ, ◌≤◌, List, [], ◌∷◌, refl, subst, true, false, Bool, arith, Option, Some, None, Ok, both_ways, not-true, Fault, NoSuchFile, NameTooLong, NotRepairable, RepairFailed, first_fault, fault_where, Folder, all_slices, IsRepairable, ParSet, set_of, is_slice_size, candidates, known, lost, survivors, Repair, RefusedRepairHasAChoice}
 use Rattle.std.specs.FinMap as map_of
 use Rattle.par2_spec.specs.Refusals.{repair_refusal, refusal}
 use Rattle.par2_spec.proofs.ReadLaws.{sound_of, size_parts}
@@ -9,11 +9,7 @@ use Rattle.par2_spec.proofs.RestoredLaws.{true_slices_agree}
 use Rattle.par2_spec.proofs.AcceptedCommands.{missing, in_full, in_part}
 
 is_other : (f : Fault) (m r : ℕ) → (f ≡ NotRepairable m r → ⊥) → ◌≡◌ {A = Option Fault} (Some f) (Some (NotRepairable m r)) → ⊥
-is_other f m r apart e = apart (ap (λ (o : Option Fault). value o) e)
-  where
-    value : Option Fault → Fault
-    value None = f
-    value (Some g) = g
+is_other f m r apart e = grind arith
 
 no_such_file : (k m r : ℕ) → NoSuchFile k ≡ NotRepairable m r → ⊥
 no_such_file k m r e = cc
@@ -36,22 +32,13 @@ first_cause false false false l n m r e = absurd (no_fault m r e)
 
 unrepairable : (folder : Folder) (set : ParSet) (searched : List (List ℕ)) (m r : ℕ) → repair_refusal folder set searched ≡ Some (NotRepairable m r) → IsRepairable (lost (known folder set searched)) (survivors set) → ⊥
 unfolding repair_refusal
-unrepairable folder set searched m r e repairable =
-    both_ways (is_repairable (lost (known folder set searched)) (survivors set)) (not-true _ (first_cause (not (is_repairable (lost (known folder set searched)) (survivors set))) _ _ _ _ m r e))
-    ((repairable-iff (lost (known folder set searched)) (survivors set)).1 repairable)
+unrepairable folder set searched m r e repairable = grind (arith, both_ways, not-true, first_cause, repairable-iff)
 
 -- the refusal of a repair over a set that is read is the set's, or a file's that is not there
 refused_by_set : (folder : Folder) (base : List ℕ) (extras : List (List ℕ)) (purge : Bool) (set : ParSet) (m r : ℕ) → set_of folder base ≡ Ok set → refusal folder (Repair base extras purge) ≡ Some (NotRepairable m r)
     → repair_refusal folder set (candidates folder set extras) ≡ Some (NotRepairable m r)
 unfolding refusal
-refused_by_set folder base extras purge set m r reads e = step (missing folder (base ∷ extras)) refl
-  where
-    ask : Result ParSet Fault → Option Fault
-    ask answer = then_fault answer (λ s. repair_refusal folder s (candidates folder s extras))
-
-    step : (o : Option ℕ) → missing folder (base ∷ extras) ≡ o → repair_refusal folder set (candidates folder set extras) ≡ Some (NotRepairable m r)
-    step None there = sym (ap ask (in_full folder base extras there ∙ reads)) ∙ e
-    step (Some k) there = absurd (is_other (NoSuchFile (0 + k)) m r (no_such_file (0 + k) m r) (sym (ap ask (in_part folder base extras k there)) ∙ e))
+refused_by_set folder base extras purge set m r reads e = grind (arith, missing, in_full, is_other, no_such_file, in_part)
 
 pub size_two : (s : ℕ) → is_slice_size s ≡ true → 2 ≤ s
 size_two s h = let least : 4 ≤ s = (size_parts s h).1 in omega (arith, least)

@@ -157,9 +157,6 @@ module _ (folder : Folder) (set : ParSet) (given : List (List ℕ)) (fits : Fits
   moved_is : (q : List ℕ) → is_among moved q ≡ (is_among wanted q && has folder q)
   moved_is q = among-filter (has folder) wanted q
 
-  moved_wanted : (q : List ℕ) → is_among moved q ≡ true → is_among wanted q ≡ true
-  moved_wanted q h = (and_parts _ _ (sym (moved_is q) ∙ h)).0
-
   abbrev won : List (List ℕ)
   won = map (λ m. m.0.name) (filter (λ m. is_some m.1) (matches folder set given))
 
@@ -215,9 +212,6 @@ module _ (folder : Folder) (set : ParSet) (given : List (List ℕ)) (fits : Fits
     unfolding matches
     matches_once = taken_once folder set.slice_size (filter (λ name. not (is_among intact name)) given) (needing folder set)
 
-    moved_there : (q : List ℕ) → is_among moved q ≡ true → has folder q ≡ true
-    moved_there q h = (and_parts _ _ (sym (moved_is q) ∙ h)).1
-
     wanted_moved : (q : List ℕ) → is_among wanted q ≡ true → has folder q ≡ true → is_among moved q ≡ true
     wanted_moved q h k = moved_is q ∙ and_from _ _ h k
 
@@ -256,7 +250,7 @@ module _ (folder : Folder) (set : ParSet) (given : List (List ℕ)) (fits : Fits
     can_put_aside = record {
       sources_once = subst AreDistinct (sym first_sources) moved_once;
       goals_once = subst AreDistinct (sym first_goals) (distinct-map off moved (λ a b i j. free.aside_one a b) moved_once);
-      there = λ q h. moved_there q (subst (λ ns. is_among ns q ≡ true) first_sources h);
+      there = λ q h. (and_parts _ _ (sym (moved_is q) ∙ subst (λ ns. is_among ns q ≡ true) first_sources h)).1;
       free = λ q h. let r = image_of off moved q (subst (λ ns. is_among ns q ≡ true) first_goals h) in subst (λ x. has folder x ≡ false) (sym r.2) (free.aside_free r.0);
     }
 
@@ -357,7 +351,7 @@ module _ (folder : Folder) (set : ParSet) (given : List (List ℕ)) (fits : Fits
         to : is_among (map now taken_names ++ moved) q ≡ true → is_among (map (λ m. m.0.name) (matches folder set given) ++ taken_names) q ≡ true
         to h = by_either (or_cases (is_among (map now taken_names) q) (is_among moved q) (sym (among-append (map now taken_names) moved q) ∙ h))
             (λ i. let r = image_of now taken_names q i in in_taken (of_now r.0 r.1 r.2))
-            (λ i. in_goals (moved_wanted q i))
+            (λ i. in_goals (and_parts _ _ (sym (moved_is q) ∙ i)).0)
 
         from : is_among (map (λ m. m.0.name) (matches folder set given) ++ taken_names) q ≡ true → is_among (map now taken_names ++ moved) q ≡ true
         from h = elim (or_cases (is_among (map (λ m. m.0.name) (matches folder set given)) q) (is_among taken_names q) (sym (among-append (map (λ m. m.0.name) (matches folder set given)) taken_names q) ∙ h)) as (λ _. is_among (map now taken_names ++ moved) q ≡ true) [

@@ -1,5 +1,5 @@
 -- What a report says, target by target.
-use Rattle.par2_spec.proofs.Common.{arith, ◌≡◌, ◌<◌, ℕ, suc, not, List, [], ◌∷◌, ◌++◌, length, map, take, drop, refl, sym, ap, ◌∙◌, subst, cond, true, false, Bool, filter, flat_map, find, zip, slice_index_or, Option, Some, None, Result, Ok, Err, is_some, option_to_list, option_and_then, AllByRecursion, bytes_eq, map-append, length-map, map-map, and_parts, or_parts, false≢true, drop-append_seam, take-append_seam, Pair, found, is_among, Fault, Folder, has, bytes_of, ParSet, Target, set_of, ◌>>=◌, IsSound, is_intact, is_needing, needing, intact_names, matched, match_of, candidates, cut_into, set_in, State, Complete, Report, needing_state, found_of, states_by, IsByTarget, StatesFollow, IsFound, IntactAreFound, MatchedAreFound, HasIntactFile, IsFoundWhole}
+use Rattle.par2_spec.proofs.Common.{arith, ◌≡◌, ◌<◌, ℕ, suc, not, List, [], ◌∷◌, length, map, drop, refl, sym, ap, ◌∙◌, subst, cond, true, false, Bool, filter, flat_map, find, zip, slice_index_or, Option, Some, None, Result, Ok, Err, is_some, option_to_list, option_and_then, AllByRecursion, bytes_eq, map-append, length-map, map-map, and_parts, or_parts, false≢true, drop-append_seam, take-append_seam, Pair, is_among, Fault, Folder, has, bytes_of, ParSet, Target, set_of, ◌>>=◌, IsSound, is_intact, is_needing, needing, intact_names, matched, match_of, candidates, cut_into, set_in, State, Complete, Report, needing_state, found_of, states_by, IsByTarget, StatesFollow, IsFound, IntactAreFound, MatchedAreFound, HasIntactFile, IsFoundWhole}
 use Rattle.par2_spec.specs.Search.{matches, known}
 use Rattle.par2_spec.specs.Reports.{state_of, report_of_target, report_of, report_in}
 use Rattle.par2_spec.proofs.NamesLaws.{itself, AreDistinct, distinct_from_std, among-filter}
@@ -17,22 +17,11 @@ with_slices t slices = (t, slices)
 cut_pairs : (f : Pair → Option (List ℕ)) (ts : List Target)
     → zip ts (cut_into (map (λ t. length t.pairs) ts) (map f (flat_map (λ t. t.pairs) ts))) ≡ map (λ t. with_slices t (map f t.pairs)) ts
 cut_pairs f [] = refl
-cut_pairs f (t ∷ ts) =
-    let counts = map (λ u. length u.pairs) ts in
-    let mine = map f t.pairs in
-    let rest = map f (flat_map (λ u. u.pairs) ts) in
-    ap (λ xs. with_slices t (take (length t.pairs) xs) ∷ zip ts (cut_into counts (drop (length t.pairs) xs))) (map-append f t.pairs (flat_map (λ u. u.pairs) ts))
-    ∙ ap (λ n. with_slices t (take n (mine ++ rest)) ∷ zip ts (cut_into counts (drop n (mine ++ rest)))) (sym (length-map t.pairs f))
-    ∙ ap (λ xs. with_slices t xs ∷ zip ts (cut_into counts (drop (length mine) (mine ++ rest)))) (take-append_seam mine rest)
-    ∙ ap (λ xs. with_slices t mine ∷ zip ts (cut_into counts xs)) (drop-append_seam mine rest)
-    ∙ ap (λ zs. with_slices t mine ∷ zs) (cut_pairs f ts)
+cut_pairs f (t ∷ ts) = grind (arith, map-append, length-map, take-append_seam, drop-append_seam, cut_pairs f ts)
 
 pub by_target : (folder : Folder) (set : ParSet) (searched : List (List ℕ)) → IsByTarget folder set searched
 unfolding report_of known
-by_target folder set searched =
-    let f = found set.slice_size (map (bytes_of folder) searched) in
-    ap (map (report_of_target folder set searched)) (cut_pairs f set.targets)
-    ∙ map-map (report_of_target folder set searched) (λ t. with_slices t (map f t.pairs)) set.targets
+by_target folder set searched = grind (arith, cut_pairs, map-map)
 
 -- ---- states by the matches in order
 
@@ -84,12 +73,7 @@ second_of_pairs ts given e = absurd (omega (arith, e))
 
 pub states_follow : (folder : Folder) (set : ParSet) (searched : List (List ℕ)) → IsSound set → StatesFollow folder set searched
 unfolding state_of matches
-states_follow folder set searched sound =
-    let free = filter (λ name. not (is_among (intact_names folder set) name)) searched in
-    let given = matched folder set.slice_size free (needing folder set) in
-    let count : length given ≡ length (needing folder set) = matched_count folder set.slice_size free (needing folder set) in
-    states_in_order (is_needing folder set) (λ t. has folder t.name) set.targets given (distinct_from_std _ sound.names_once) count
-    ∙ ap (states_by (is_needing folder set) (λ t. has folder t.name) set.targets) (sym (second_of_pairs (needing folder set) given count))
+states_follow folder set searched sound = search (arith, matched_count, states_in_order, distinct_from_std, second_of_pairs)
 
 -- ---- what is found whole
 
@@ -150,16 +134,14 @@ settled_hold F p h (t ∷ ts) given e intact matched = step (p t) refl given e m
 -- each answer found is each pair
 found_whole : (f : Pair → Option (List ℕ)) (pairs : List Pair) → AllByRecursion (λ pair. is_some (f pair) ≡ true) pairs → length (filter (λ slice. is_some slice) (map f pairs)) ≡ length (map f pairs)
 found_whole f [] h = refl
-found_whole f (pair ∷ pairs) h =
-    ap (λ b. length (cond b (f pair ∷ filter (λ slice. is_some slice) (map f pairs)) (filter (λ slice. is_some slice) (map f pairs)))) h.0 ∙ ap suc (found_whole f pairs h.1)
+found_whole f (pair ∷ pairs) h = grind (arith, found_whole f pairs h.1)
 
 whole_by_state : (folder : Folder) (set : ParSet) (searched : List (List ℕ)) (ts : List Target)
     → AllByRecursion (λ z. HasIntactFile z.1 → IsFound folder set.slice_size searched z.0) (zip ts (map (state_of folder set searched) ts))
     → AllByRecursion IsFoundWhole (map (λ t. report_of_target folder set searched (t, found_of folder set searched t)) ts)
 unfolding report_of_target
 whole_by_state folder set searched [] h = tt
-whole_by_state folder set searched (t ∷ ts) h =
-    (λ settled. found_whole (found set.slice_size (map (bytes_of folder) searched)) t.pairs (h.0 settled), whole_by_state folder set searched ts h.1)
+whole_by_state folder set searched (t ∷ ts) h = grind (arith, found_whole, whole_by_state folder set searched ts h.1)
 
 whole_of_set : (folder : Folder) (base : List ℕ) (set : ParSet) (extras : List (List ℕ)) → set_of folder base ≡ Ok set
     → AllByRecursion IsFoundWhole (report_of folder set (candidates folder set extras)).targets

@@ -1,5 +1,5 @@
 -- The slices of a file give the file back, and those of the files that a set was made from are rebuilt.
-use Rattle.par2_spec.proofs.Common.{◌≡◌, ℕ, zero, suc, ◌+◌, ◌-◌, ◌*◌, ◌%◌, ◌<◌, ◌≤◌, List, [], ◌∷◌, ◌++◌, length, map, take, drop, refl, sym, ap, ◌∙◌, subst, true, Bool, arith, inl, inr, length-append, length-drop, flat_map, filter, find, zip, replicate, min, ◌==◌, Option, Some, range_with_len, list_any, concat, AllByRecursion, AllZip, ForSome, add-mul, drop-append_seam, take-append_seam, take-append-add, div_ceil_times, length-take, length-take-le, length-replicate, length-map, take_all, drop_all, take-append-drop, drop-drop, map-append, cases_lt, pair_of, slice_count, slice_at, slices, windows, is_match, found, window, recovery, Agrees, kept_slices, kept, Folder, File, bytes_of, all_slices, Target, target_of_file, MadeFrom, all_pairs, lost, survivors, NoCollision, cut_into, files_of_slices, TrueSlicesAreRebuilt}
+use Rattle.par2_spec.proofs.Common.{◌≡◌, ℕ, zero, suc, ◌+◌, ◌-◌, ◌*◌, ◌%◌, ◌<◌, ◌≤◌, List, [], ◌∷◌, ◌++◌, length, map, take, drop, refl, sym, ap, ◌∙◌, subst, true, Bool, arith, inl, inr, length-append, length-drop, flat_map, filter, find, zip, replicate, ◌==◌, Option, Some, range_with_len, list_any, concat, AllByRecursion, AllZip, ForSome, add-mul, drop-append_seam, take-append_seam, take-append-add, div_ceil_times, length-take, length-take-le, length-replicate, length-map, take_all, drop_all, take-append-drop, drop-drop, map-append, cases_lt, pair_of, slice_count, slice_at, slices, windows, is_match, found, window, recovery, Agrees, kept_slices, kept, Folder, File, bytes_of, all_slices, Target, target_of_file, MadeFrom, all_pairs, lost, survivors, NoCollision, cut_into, files_of_slices, TrueSlicesAreRebuilt}
 use Rattle.std.specs.FinMap as map_of
 use Rattle.std.proofs.Math.Nat.{zero-mul}
 use Rattle.std.proofs.lemmas.List.{append_assoc, append-nil}
@@ -13,12 +13,7 @@ use Rattle.par2_spec.proofs.UniqueLaws.{agreeing_is_rebuilt}
 -- ---- a slice
 
 pub length-window : (s : ℕ) (text : List ℕ) (o : ℕ) → length (window s text o) ≡ s
-length-window s text o =
-    let part = take s (drop o text) in
-    let size : length part ≡ min s (length (drop o text)) = length-take s (drop o text) in
-    let zeros : List ℕ = replicate (s - length part) 0 in
-    let fill : length zeros ≡ s - length part = length-replicate (s - length part) 0 in
-    length-append part zeros ∙ (let e : length part + length zeros ≡ s = omega (arith, size, fill) in e)
+length-window s text o = grind (arith, length-take, length-replicate, length-append)
 
 pub length-slice_at : (s : ℕ) (text : List ℕ) (j : ℕ) → length (slice_at s text j) ≡ s
 length-slice_at s text j = length-window s text (j * s)
@@ -45,9 +40,7 @@ bytes-slice_at s text j h = bytes-window s text (j * s) h
 -- ---- the slices of a text, joined, begin with the text
 
 rest_joined : (s : ℕ) (text : List ℕ) (n j : ℕ) → length text ≤ (j + n) * s → take (length text - j * s) (concat (map (slice_at s text) (range_with_len j n))) ≡ drop (j * s) text
-rest_joined s text zero j le =
-    let all : length text ≤ j * s = (let e : j + 0 ≡ j = omega arith in subst (λ m. length text ≤ m * s) e le) in
-    ap (λ n. take n []) (let e : length text - j * s ≡ 0 = omega (arith, all) in e) ∙ sym (drop_all (j * s) text all)
+rest_joined s text zero j le = grind (arith, drop_all)
 rest_joined s text (suc n) j le =
     let rest = drop (j * s) text in
     let m = length text - j * s in
@@ -97,13 +90,7 @@ length-target s file = refl
 
 pairs_of_files : (s : ℕ) (files : List File) → flat_map (λ t. t.pairs) (map (target_of_file s) files) ≡ map pair_of (all_slices s files)
 pairs_of_files s [] = refl
-pairs_of_files s (file ∷ files) =
-    ap (λ ps. ps ++ flat_map (λ t. t.pairs) (map (target_of_file s) files)) (pairs-target s file) ∙ ap (λ ps. map pair_of (slices s file.1) ++ ps) (pairs_of_files s files)
-    ∙ sym (map-append pair_of (slices s file.1) (all_slices s files))
-
--- a target with its bytes
-abbrev with_bytes : Target → List ℕ → Target × List ℕ
-with_bytes t bytes = (t, bytes)
+pairs_of_files s (file ∷ files) = grind (arith, pairs-target, map-append, pairs_of_files s files)
 
 abbrev with_file : ℕ → File → Target × List ℕ
 with_file s file = (target_of_file s file, file.1)
@@ -117,17 +104,7 @@ all_cut ts xs = map cut_out (zip ts (cut_into (map (λ t. length t.pairs) ts) xs
 -- the files cut out of all slices
 cut_files : (s : ℕ) (files : List File) → 0 < s → all_cut (map (target_of_file s) files) (all_slices s files) ≡ map (with_file s) files
 cut_files s [] positive = refl
-cut_files s (file ∷ files) positive =
-    let t = target_of_file s file in
-    let ts = map (target_of_file s) files in
-    let mine = slices s file.1 in
-    let rest = all_slices s files in
-    let count : length t.pairs ≡ length mine = ap length (pairs-target s file) ∙ length-map mine pair_of in
-    ap (λ n. with_bytes t (take t.length (concat (take n (mine ++ rest)))) ∷ all_cut ts (drop n (mine ++ rest))) count
-    ∙ ap (λ xs. with_bytes t (take t.length (concat xs)) ∷ all_cut ts (drop (length mine) (mine ++ rest))) (take-append_seam mine rest)
-    ∙ ap (λ xs. with_bytes t (take t.length (concat mine)) ∷ all_cut ts xs) (drop-append_seam mine rest)
-    ∙ ap (λ bytes. with_bytes t bytes ∷ all_cut ts rest) (ap (λ n. take n (concat mine)) (length-target s file) ∙ slices_joined s file.1 positive)
-    ∙ ap (λ zs. with_bytes t file.1 ∷ zs) (cut_files s files positive)
+cut_files s (file ∷ files) positive = grind (arith, pairs-target, length-map, take-append_seam, drop-append_seam, length-target, slices_joined, cut_files s files positive)
 
 -- ---- what is found is true
 
@@ -174,12 +151,7 @@ true_slices_agree folder base files s searched m told bytes = record {
 
 -- and so with fewer recovery slices
 fewer_agree : (s : ℕ) (known : List (Option (List ℕ))) (rs : List (ℕ × List ℕ)) (slices : List (List ℕ)) (p : ℕ × List ℕ → Bool) → Agrees s known rs slices → Agrees s known (filter p rs) slices
-fewer_agree s known rs slices p agrees = record {
-  sizes = agrees.sizes;
-  bytes = agrees.bytes;
-  as_known = agrees.as_known;
-  as_recovered = all-filter (λ r. recovery s slices r.0 ≡ r.1) p rs agrees.as_recovered;
-}
+fewer_agree s known rs slices p agrees = grind (arith, all-filter)
 
 -- so they are what is rebuilt
 pub true_slices_rebuilt : TrueSlicesAreRebuilt

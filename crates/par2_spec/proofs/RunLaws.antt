@@ -1,5 +1,5 @@
 -- Exponents that are close are kept, and a run of as many as slices are lost determines these.
-use Rattle.par2_spec.proofs.Common.{◌≡◌, ◌≢◌, ℕ, zero, suc, ◌+◌, ◌-◌, ◌^◌, ◌<◌, ◌≤◌, List, [], ◌∷◌, length, map, take, get_or, refl, sym, ap, ap₂, ◌∙◌, subst, cond, true, false, Bool, eqb, inl, inr, arith, filter, AllByRecursion, Contains, range_with_len, IsStrictlyIncreasing, Decides-eqb, cases_lt, eq-eqb, ne_eqb, length-map, get_or-map, get_or-take, get_or_default, Contains-get_or, length-range_with_len, get_or-range_with_len, AllPairs-from_increasing, IsDistinct-from_AllPairs, mul, constant, coefficients, kept, rank, smaller, is_independent, IsVector, Kills, IsKept, IsRepairable, AreElements, ArePoints, Interpolates}
+use Rattle.par2_spec.proofs.Common.{◌≡◌, ◌≢◌, ℕ, zero, suc, ◌+◌, ◌-◌, ◌^◌, ◌<◌, ◌≤◌, List, [], ◌∷◌, length, map, take, get_or, refl, sym, ap, ap₂, ◌∙◌, subst, cond, true, Bool, eqb, inl, inr, arith, filter, AllByRecursion, Contains, range_with_len, IsStrictlyIncreasing, Decides-eqb, cases_lt, eq-eqb, ne_eqb, length-map, get_or-map, get_or-take, get_or_default, Contains-get_or, length-range_with_len, get_or-range_with_len, AllPairs-from_increasing, IsDistinct-from_AllPairs, mul, constant, coefficients, kept, rank, smaller, is_independent, IsVector, Kills, IsKept, IsRepairable, AreElements, ArePoints, Interpolates}
 use Rattle.std.proofs.Common.{bit_xor}
 use Rattle.par2_spec.specs.Field.{pow, coefficient}
 use Rattle.par2_spec.specs.Recovery.{dot}
@@ -119,9 +119,7 @@ points_are ks are = record {
 
 -- the constants of the slices at two places
 apart : (ks : List ℕ) → AreSlices ks → (i q : ℕ) → i < length ks → q < length ks → i ≢ q → constant (get_or ks i 0) ≢ constant (get_or ks q 0)
-apart ks are i q hi hq other = by_either (cases_lt i q)
-    (λ low. constants_differ ks are i q low hq)
-    (λ high. (λ same. constants_differ ks are q i (omega (arith, high, other)) hi (sym same)))
+apart ks are i q hi hq other = grind (arith, by_either, cases_lt, constants_differ)
 
 -- ---- a whole run
 
@@ -178,29 +176,16 @@ range_has f n e low high =
     (Contains-get_or (range_with_len f n) (e - f) 0 (let l = length-range_with_len f n in omega (arith, l, i)))
 
 range_rises : (f n : ℕ) → IsStrictlyIncreasing (range_with_len f n)
-range_rises f n k within =
-    let l = length-range_with_len f n in
-    let first = get_or-range_with_len f n k 0 (omega (arith, l, within)) in
-    let second = get_or-range_with_len f n (k + 1) 0 (omega (arith, l, within)) in
-    omega (arith, first, second)
+range_rises f n k within = grind (arith, length-range_with_len, get_or-range_with_len)
 
 filter-le : (p : ℕ → Bool) (xs : List ℕ) → length (filter p xs) ≤ length xs
 filter-le p [] = omega arith
-filter-le p (x ∷ xs) = step (p x) (filter p xs) (filter-le p xs)
-  where
-    step : (b : Bool) (ys : List ℕ) → length ys ≤ length xs → length (cond b (x ∷ ys) ys) ≤ suc (length xs)
-    step true ys h = omega (arith, h)
-    step false ys h = omega (arith, h)
+filter-le p (x ∷ xs) = grind (arith, filter-le p xs)
 
 -- where a filter leaves as many, each passes
 all_pass : (p : ℕ → Bool) (xs : List ℕ) → length (filter p xs) ≡ length xs → AllByRecursion (λ x. p x ≡ true) xs
 all_pass p [] h = tt
-all_pass p (x ∷ xs) h = step (p x) refl (filter p xs) (filter-le p xs) h (all_pass p xs)
-  where
-    step : (b : Bool) → p x ≡ b → (ys : List ℕ) → length ys ≤ length xs → length (cond b (x ∷ ys) ys) ≡ suc (length xs)
-        → (length ys ≡ length xs → AllByRecursion (λ y. p y ≡ true) xs) → AllByRecursion (λ y. p y ≡ true) (x ∷ xs)
-    step true e ys le same later = (e, later (omega (arith, same)))
-    step false e ys le same later = absurd (omega (arith, same, le))
+all_pass p (x ∷ xs) h = grind (arith, filter-le, all_pass p xs)
 
 run_kept : (ks : List ℕ) (f e : ℕ) → AreSlices ks → f ≤ e → e < f + length ks → IsKept ks (range_with_len f (length ks)) e
 run_kept ks f e are low high =
@@ -241,10 +226,7 @@ filter_all p [] h = refl
 filter_all p (x ∷ xs) h = ap (λ b. cond b (x ∷ filter p xs) (filter p xs)) h.0 ∙ ap (λ ys. x ∷ ys) (filter_all p xs h.1)
 
 pub close_kept : (ks exponents : List ℕ) → AreSlices ks → AreClose (length ks) exponents → kept ks exponents ≡ exponents
-close_kept ks exponents are close =
-    filter_all (λ e. is_independent (length ks) (map (coefficients ks) (smaller e exponents)) (coefficients ks e)) exponents
-    (all_from_contains (λ e. is_independent (length ks) (map (coefficients ks) (smaller e exponents)) (coefficients ks e) ≡ true) exponents
-    (λ e among. near_passes ks exponents e are (close e e among among) (λ other second lower. close other e second among)))
+close_kept ks exponents are close = search (arith, filter_all, all_from_contains, near_passes)
 
 -- a place of the first n is below n
 place-lt : (i n : ℕ) (xs : List ℕ) → i < length (take n xs) → (i < n) × (i < length xs)
@@ -277,8 +259,4 @@ stands_before exponents n e other rise first second lower =
     ]
 
 pub first_kept : (ks exponents : List ℕ) (n : ℕ) → AreSlices ks → IsStrictlyIncreasing exponents → AreClose (length ks) (take n exponents) → take n (kept ks exponents) ≡ take n exponents
-first_kept ks exponents n are rise close =
-    filter_passing (λ e. is_independent (length ks) (map (coefficients ks) (smaller e exponents)) (coefficients ks e)) n exponents
-    (all_from_contains (λ e. is_independent (length ks) (map (coefficients ks) (smaller e exponents)) (coefficients ks e) ≡ true) (take n exponents)
-    (λ e among. near_passes ks exponents e are (close e e among among)
-    (λ other second lower. close other e (stands_before exponents n e other rise among second lower) among)))
+first_kept ks exponents n are rise close = search (arith, filter_passing, all_from_contains, near_passes, stands_before)

@@ -1,5 +1,5 @@
 -- A session is a history, and a kept session keeps its room.
-use Rattle.par2_spec.proofs.Common.{◌≡◌, ℕ, zero, suc, ◌+◌, ◌-◌, ◌≤◌, List, [], ◌∷◌, refl, sym, ap, ◌∙◌, subst, true, arith, Option, Some, None, Result, Ok, Err, replicate, sum_by, is_ok, AllByRecursion, and_parts, and_from, false≢true, sum_by-cons, drop-nil, Fault, Folder, Change, Write, Replace, Rename, Remove, state_after, effects, are_applicable, way_back, FolderState, takes_all, places_taken, Command, Create, Verify, Repair, Purge, Action, Do, Undo, Redo, refusal, after, changes_of, LeadsToAfter, LeadsToAfterAsked, Session, first_entry, changes_unless, others, session_unless, KeptSession, session_of_kept, CanWalk, OnlyGrew, is_valid}
+use Rattle.par2_spec.proofs.Common.{◌≡◌, ℕ, zero, suc, ◌+◌, ◌-◌, ◌≤◌, List, [], ◌∷◌, refl, sym, ap, ◌∙◌, true, arith, Option, Some, None, Result, Ok, Err, replicate, sum_by, is_ok, AllByRecursion, and_parts, and_from, false≢true, sum_by-cons, drop-nil, Fault, Folder, Change, Write, Replace, Rename, Remove, state_after, effects, are_applicable, way_back, FolderState, takes_all, places_taken, Command, Create, Verify, Repair, Purge, Action, Do, Undo, Redo, refusal, after, changes_of, LeadsToAfter, LeadsToAfterAsked, Session, first_entry, changes_unless, others, session_unless, KeptSession, session_of_kept, CanWalk, OnlyGrew, is_valid}
 use Rattle.par2_spec.specs.History.{History, Refusal, Refused, NothingToUndo, NothingToRedo, in_front, after_command, unless_refused, after_undo, after_redo, Run, Ended, Accepted, Passed, folders, IsChanging}
 use Rattle.std.specs.Prelude.{drop, length}
 use Rattle.par2_spec.specs.Changes.{state_after_all}
@@ -74,9 +74,7 @@ IsNext s action t = (history_after (history_of s) action ≡ Ok (history_of t)) 
 done_next : (s t : Session) (command : Command) (o : Option Fault) → is_valid s ≡ true → (o ≡ None → LeadsToAfter s.folder command) → session_unless s (Do command) (changes_unless o (changes_of s.folder command)) ≡ Ok t
     → (unless_refused o (after_command command (history_of s)) ≡ Ok (history_of t)) × (is_valid t ≡ true)
 done_next s t command (Some fault) v l h = absurd (ok_no_err t (Refused fault) (sym h))
-done_next s t command None v l h =
-    let e = same_ok (session_with s (Do command) (changes_of s.folder command)) t h in
-    (ap Ok (done_is s command (l refl) ∙ ap history_of e), subst (λ u. is_valid u ≡ true) e (valid_done s command v (l refl)))
+done_next s t command None v l h = grind (arith, same_ok, done_is, valid_done)
 
 abbrev session_at : Folder → List (List Change) → List (List Change) → Session
 session_at folder undos redos = record { folder = folder; undos = undos; redos = redos }
@@ -85,25 +83,13 @@ undo_next : (folder : Folder) (undos redos : List (List Change)) (t : Session) �
     → (after_undo folder (folders_along folder undos) (folders_along folder redos) ≡ Ok (history_of t)) × (is_valid t ≡ true)
 unfolding session_with history_of folders_along leads
 undo_next folder [] redos t v h = absurd (ok_no_err t NothingToUndo (sym h))
-undo_next folder (entry ∷ undos) redos t v h =
-    let e = same_ok (session_at (effects folder entry) undos (way_back folder entry ∷ redos)) t h in
-    let both = and_parts (leads folder (entry ∷ undos)) (leads folder redos) v in
-    let first = and_parts (are_applicable folder entry) (leads (effects folder entry) undos) both.0 in (
-      (λ i. Ok (record { older = folders_along (effects folder entry) undos; now = effects folder entry; newer = sym (along_back folder entry redos first.0) i })) ∙ ap (λ u. Ok (history_of u)) e,
-      subst (λ u. is_valid u ≡ true) e (and_from _ _ first.1 (leads_back folder entry redos first.0 both.1)),
-    )
+undo_next folder (entry ∷ undos) redos t v h = grind (arith, same_ok, and_parts, along_back, and_from, leads_back)
 
 redo_next : (folder : Folder) (undos redos : List (List Change)) (t : Session) → is_valid (session_at folder undos redos) ≡ true → session_unless (session_at folder undos redos) Redo (first_entry NothingToRedo redos) ≡ Ok t
     → (after_redo (folders_along folder undos) folder (folders_along folder redos) ≡ Ok (history_of t)) × (is_valid t ≡ true)
 unfolding session_with history_of folders_along leads
 redo_next folder undos [] t v h = absurd (ok_no_err t NothingToRedo (sym h))
-redo_next folder undos (entry ∷ redos) t v h =
-    let e = same_ok (session_at (effects folder entry) (way_back folder entry ∷ undos) redos) t h in
-    let both = and_parts (leads folder undos) (leads folder (entry ∷ redos)) v in
-    let first = and_parts (are_applicable folder entry) (leads (effects folder entry) redos) both.1 in (
-      (λ i. Ok (record { older = sym (along_back folder entry undos first.0) i; now = effects folder entry; newer = folders_along (effects folder entry) redos })) ∙ ap (λ u. Ok (history_of u)) e,
-      subst (λ u. is_valid u ≡ true) e (and_from _ _ (leads_back folder entry undos first.0 both.0) first.1),
-    )
+redo_next folder undos (entry ∷ redos) t v h = grind (arith, same_ok, and_parts, along_back, and_from, leads_back)
 
 -- a session that can be walked goes where the history goes, and can be walked again
 pub accepted_next : (s t : Session) (action : Action) → is_valid s ≡ true → LeadsToAfterAsked s.folder action → session_after s action ≡ Ok t → IsNext s action t
@@ -156,8 +142,7 @@ drop_one_more n xs y ys e = absurd (let k : 0 ≡ suc (length ys) = ap length e 
 -- n accepted ones left the n folders before them
 pub run_leaves : (start end : History) (actions : List Action) (n : ℕ) → Run start actions n end → AllByRecursion IsChanging actions → drop n (folders end) ≡ folders start
 run_leaves start end actions n Ended is = refl
-run_leaves start end actions n (Accepted {next = next} {action = action} {actions = rest} {n = m} e run) is =
-    drop_one_more m (folders end) next.now (folders start) (run_leaves next end rest m run is.1 ∙ ap (λ fs. next.now ∷ fs) (changed_older start next action is.0 e))
+run_leaves start end actions n (Accepted {next = next} {action = action} {actions = rest} {n = m} e run) is = grind (arith, drop_one_more, changed_older, run_leaves next end rest m run is.1)
 run_leaves start end actions n (Passed {actions = rest} may run) is = run_leaves start end rest n run is.1
 
 pub none_dropped : {A : Type 0} (n : ℕ) (y : A) (ys : List A) → drop n [] ≡ y ∷ ys → ⊥
@@ -249,9 +234,7 @@ roomier_walks folder k (entry ∷ entries) h =
     and_from _ _ more.0 (ap (λ f. walks f entries) more.1 ∙ roomier_walks (state_after_all folder entry) k entries r.1)
 
 roomier : (old new : FolderState) → new.files ≡ old.files → old.vacant ≤ new.vacant → with_room old (new.vacant - old.vacant) ≡ new
-roomier old new e h =
-    let more : old.vacant + (new.vacant - old.vacant) ≡ new.vacant = omega (arith, h) in
-    λ i. record { files = sym e i; vacant = more i }
+roomier old new e h = grind arith
 
 pub same_session : (old new : KeptSession) → OnlyGrew old new → session_of_kept new ≡ session_of_kept old
 same_session old new grew = λ i. record { folder = grew.files i; undos = grew.undos i; redos = grew.redos i }

@@ -1,5 +1,5 @@
 -- Whatever a stopped command left, it opens as the session from before it.
-use Rattle.par2_spec.proofs.Common.{◌≡◌, ℕ, zero, suc, ◌+◌, ◌-◌, ◌<◌, ◌≤◌, List, [], ◌∷◌, ◌++◌, length, map, take, drop, get_or, refl, sym, ap, ◌∙◌, subst, cond, true, false, Bool, not, ◌&&◌, inl, arith, length-append, length-drop, IfSome, reverse, position, Option, Some, None, Result, Ok, Err, unwrap_or, is_some, if◌then◌else◌, AllByRecursion, position_from, bytes_eq, drop-append_seam, take-append_seam, reverse-reverse, reverse-append, length-reverse, get_or-reverse, get_or-map, take-append-drop, length-map, length-take-le, take-map, take-take, get_or-take, drop-drop, reverse_onto, and_parts, and_from, false≢true, position_from-zero, Folder, fingerprint, Change, effect, inverse, is_applicable, Session, session_of, is_valid, Opened, Settled, Halfway, opened_if_found, opened_by_part, TellsApart, session_of_opened, kept_in, HalfwayJournalOpensAsBefore, HalfwayTextOpensAsBefore, HalfwayJournalStillOpens, HalfwayTextStillOpens}
+use Rattle.par2_spec.proofs.Common.{◌≡◌, ℕ, zero, suc, ◌+◌, ◌-◌, ◌<◌, ◌≤◌, List, [], ◌∷◌, ◌++◌, length, map, take, drop, get_or, refl, sym, ap, ◌∙◌, subst, cond, true, false, Bool, not, ◌&&◌, inl, arith, length-append, length-drop, IfSome, reverse, position, Option, Some, None, Result, Ok, Err, unwrap_or, is_some, if◌then◌else◌, AllByRecursion, position_from, bytes_eq, drop-append_seam, take-append_seam, reverse-reverse, reverse-append, length-reverse, get_or-reverse, get_or-map, take-append-drop, length-map, length-take-le, take-map, take-take, get_or-take, drop-drop, reverse_onto, and_parts, and_from, false≢true, position_from-zero, Folder, fingerprint, Change, effect, inverse, is_applicable, Session, session_of, is_valid, Opened, Settled, Halfway, opened_if_found, opened_by_part, TellsApart, session_of_opened, kept_in, HalfwayJournalOpensAsBefore, HalfwayTextOpensAsBefore, HalfwayJournalStillOpens, HalfwayTextStillOpens, common_steps}
 use Rattle.par2_spec.specs.declared.Version.{Version}
 use Rattle.par2_spec.specs.declared.Version.TheVariants.{One, Two}
 use Rattle.par2_spec.specs.Journals.{Journal, HalfwayPart, IsHalfwayPart, Spells}
@@ -18,8 +18,7 @@ use Rattle.par2_spec.proofs.TestLaws.{by_test}
 -- the least place of what stands at n
 place_from : (q : List ℕ) (i : ℕ) (all : List (List ℕ)) (n : ℕ) → n < length all → get_or all n q ≡ q → (k : ℕ) × (position_from (bytes_eq q) i all ≡ Some (i + k)) × (k ≤ n) × (get_or all k q ≡ q)
 place_from q i [] n lt here = absurd (omega (arith, lt))
-place_from q i (x ∷ all) zero lt here =
-    (0, ap (λ b. cond b (Some i) (position_from (bytes_eq q) (i + 1) all)) (subst (λ y. bytes_eq q y ≡ true) (sym here) (itself q)) ∙ ap Some (let e : i ≡ i + 0 = omega arith in e), omega arith, here)
+place_from q i (x ∷ all) zero lt here = grind (arith, itself)
 place_from q i (x ∷ all) (suc n) lt here = step (bytes_eq q x) refl (place_from q (i + 1) all n (omega (arith, lt)) here)
   where
     step : (b : Bool) → bytes_eq q x ≡ b → (k : ℕ) × (position_from (bytes_eq q) (i + 1) all ≡ Some ((i + 1) + k)) × (k ≤ n) × (get_or all k q ≡ q)
@@ -72,9 +71,7 @@ one_folder folder cs a b apart le_a le_b e =
 length-way_back : (folder : Folder) (cs : List Change) → length (way_back folder cs) ≡ length cs
 unfolding way_back
 length-way_back folder [] = refl
-length-way_back folder (c ∷ cs) =
-    let e : length (way_back (effect folder c) cs) ≡ length cs = length-way_back (effect folder c) cs in
-    length-append (way_back (effect folder c) cs) (inverse folder c ∷ []) ∙ (let z : length (way_back (effect folder c) cs) + 1 ≡ suc (length cs) = omega (arith, e) in z)
+length-way_back folder (c ∷ cs) = grind (arith, length-append, length-way_back (effect folder c) cs)
 
 -- the last k of the way back are the way back of the first k changes
 last_of_way_back : (folder : Folder) (cs : List Change) (k : ℕ) → k ≤ length cs → drop (length (way_back folder cs) - k) (way_back folder cs) ≡ way_back folder (take k cs)
@@ -132,21 +129,14 @@ abbrev with_folder : Folder → Session → Session
 with_folder folder s = record { folder = folder; undos = s.undos; redos = s.redos }
 
 undos_back : (undos rest : List (List Change)) → reverse (take (length undos) (reverse undos ++ rest)) ≡ undos
-undos_back undos rest =
-    ap (λ n. reverse (take n (reverse undos ++ rest))) (sym (length-reverse undos)) ∙ ap reverse (take-append_seam (reverse undos) rest) ∙ reverse-reverse undos
+undos_back undos rest = grind (arith, length-reverse, take-append_seam, reverse-reverse)
 
 redos_back : (undos rest : List (List Change)) → drop (length undos) (reverse undos ++ rest) ≡ rest
 redos_back undos rest = ap (λ n. drop n (reverse undos ++ rest)) (sym (length-reverse undos)) ∙ drop-append_seam (reverse undos) rest
 
 session_of_settled : (v : Version) (s : Session) (folder : Folder) → session_of folder (settled_journal v s) ≡ with_folder folder (kept_in v s)
 unfolding settled_journal
-session_of_settled One s folder =
-    let none = append-nil (reverse s.undos) in
-    λ i. record {
-      folder = folder;
-      undos = (ap (λ es. reverse (take (length s.undos) es)) (sym none) ∙ undos_back s.undos []) i;
-      redos = (ap (drop (length s.undos)) (sym none) ∙ redos_back s.undos []) i;
-    }
+session_of_settled One s folder = grind (arith, common_steps, append-nil, undos_back, redos_back)
 session_of_settled Two s folder = λ i. record { folder = folder; undos = undos_back s.undos s.redos i; redos = redos_back s.undos s.redos i }
 
 kept_is_valid : (v : Version) (s : Session) → is_valid s ≡ true → is_valid (kept_in v s) ≡ true
@@ -264,54 +254,11 @@ record TakesBack (folder : Folder) (journal : Journal) (s : Session) (back : Lis
 taken_parts : (folder : Folder) (journal : Journal) (h : HalfwayPart) (k : ℕ) (s : Session) (back : List Change) → journal.halfway ≡ Some h → position (bytes_eq (fingerprint folder)) (journal.fingerprint ∷ h.fingerprints) ≡ Some k
     → taken_back folder journal h k ≡ Ok (Halfway s back) → TakesBack folder journal s back
 unfolding taken_back back_of session_or
-taken_parts folder journal h k s back there found e =
-    let some = drop (length h.back - k) h.back in
-    let opened_as = session_of (effects folder some) journal in
-    step (leads_through folder some (reverse (take k (journal.fingerprint ∷ h.fingerprints))) && is_valid opened_as) refl e
-  where
-    some : List Change
-    some = drop (length h.back - k) h.back
-
-    opened_as : Session
-    opened_as = session_of (effects folder some) journal
-
-    prints : List (List ℕ)
-    prints = reverse (take k (journal.fingerprint ∷ h.fingerprints))
-
-    step : (b : Bool) → (leads_through folder some prints && is_valid opened_as) ≡ b → decided b opened_as some ≡ Ok (Halfway s back) → TakesBack folder journal s back
-    step false i j = absurd (settled_is (Err JournalInvalid) s back refl j)
-    step true i j =
-        let parts = and_parts (leads_through folder some prints) (is_valid opened_as) i in
-        let same_back : some ≡ back = ap (λ a. unwrap_or (back_of a) some) j in
-        let same_session : opened_as ≡ s = ap (session_or opened_as) j in
-        record {
-          halfway = h;
-          halfway_there = there;
-          place = k;
-          found = found;
-          last = sym same_back;
-          through = ap (λ cs. leads_through folder cs prints) (sym same_back) ∙ parts.0;
-          session = sym same_session ∙ ap (λ cs. session_of (effects folder cs) journal) same_back;
-          valid = ap is_valid (sym same_session) ∙ parts.1;
-        }
+taken_parts folder journal h k s back there found e = grind (arith, settled_is, and_parts, back_of, session_or)
 
 takes_back : (folder : Folder) (journal : Journal) (s : Session) (back : List Change) → opened folder journal ≡ Ok (Halfway s back) → TakesBack folder journal s back
 unfolding opened back_of
-takes_back folder journal s back e = by_halfway journal.halfway refl e
-  where
-    by_place : (h : HalfwayPart) → journal.halfway ≡ Some h → (o : Option ℕ) → position (bytes_eq (fingerprint folder)) (journal.fingerprint ∷ h.fingerprints) ≡ o → opened_if_found folder journal h o ≡ Ok (Halfway s back) → TakesBack folder journal s back
-    by_place h there None i j = absurd (settled_is (Err (FolderChanged true)) s back refl j)
-    by_place h there (Some k) i j = taken_parts folder journal h k s back there i j
-
-    by_print : (b : Bool) → (if not b then Err (FolderChanged false) else if is_valid (session_of folder journal) then Ok (Settled (session_of folder journal)) else Err JournalInvalid) ≡ Ok (Halfway s back) → TakesBack folder journal s back
-    by_print false j = absurd (settled_is (Err (FolderChanged false)) s back refl j)
-    by_print true j = by_test (is_valid (session_of folder journal))
-        (λ e. absurd (settled_is (Ok (Settled (session_of folder journal))) s back refl (rw e at j)))
-        (λ e. absurd (settled_is (Err JournalInvalid) s back refl (rw e at j)))
-
-    by_halfway : (o : Option HalfwayPart) → journal.halfway ≡ o → opened_by_part folder journal o ≡ Ok (Halfway s back) → TakesBack folder journal s back
-    by_halfway None i j = by_print (bytes_eq (fingerprint folder) journal.fingerprint) j
-    by_halfway (Some h) i j = by_place h i (position (bytes_eq (fingerprint folder)) (journal.fingerprint ∷ h.fingerprints)) refl j
+takes_back folder journal s back e = grind (arith, settled_is, taken_parts, by_test)
 
 -- ---- a stop while a command is taken back
 
@@ -329,8 +276,7 @@ through_at folder [] ps m d h lt = absurd (omega (arith, lt))
 through_at folder (c ∷ cs) [] m d h lt = absurd (false≢true h)
 through_at folder (c ∷ cs) (p ∷ ps) zero d h lt =
     sym (same_name (fingerprint (effect folder c)) p (and_parts (is_applicable folder c) (bytes_eq (fingerprint (effect folder c)) p) (and_parts (is_applicable folder c && bytes_eq (fingerprint (effect folder c)) p) (leads_through (effect folder c) cs ps) h).0).1)
-through_at folder (c ∷ cs) (p ∷ ps) (suc m) d h lt =
-    through_at (effect folder c) cs ps m d (and_parts (is_applicable folder c && bytes_eq (fingerprint (effect folder c)) p) (leads_through (effect folder c) cs ps) h).1 (omega (arith, lt))
+through_at folder (c ∷ cs) (p ∷ ps) (suc m) d h lt = grind (arith, and_parts, through_at (effect folder c) cs ps m d (and_parts (is_applicable folder c && bytes_eq (fingerprint (effect folder c)) p) (leads_through (effect folder c) cs ps) h).1 (omega (arith, lt)))
 
 pub through_applies : (folder : Folder) (cs : List Change) (ps : List (List ℕ)) → leads_through folder cs ps ≡ true → are_applicable folder cs ≡ true
 unfolding leads_through are_applicable

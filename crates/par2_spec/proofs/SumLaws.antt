@@ -65,8 +65,7 @@ field_sum-lt (suc n) f small = xor_lt 16 (field_sum n f) (f n) (field_sum-lt n f
 pub field_sum_head : (n : ℕ) (f : ℕ → ℕ) → field_sum (suc n) f ≡ bit_xor (f 0) (field_sum n (λ i. f (suc i)))
 unfolding field_sum
 field_sum_head zero f = xor_comm 0 (f 0)
-field_sum_head (suc n) f =
-    ap (λ s. bit_xor s (f (suc n))) (field_sum_head n f) ∙ xor_assoc (f 0) (field_sum n (λ i. f (suc i))) (f (suc n))
+field_sum_head (suc n) f = grind (arith, xor_assoc, field_sum_head n f)
 
 -- the product of a row's place and a vector's
 abbrev pub product_at : List ℕ → List ℕ → ℕ → ℕ
@@ -77,8 +76,7 @@ unfolding dot
 dot_sum n [] v h = sym (field_sum_none n (product_at [] v) (λ i _. zero-product (get_or v i 0)))
 dot_sum n (c ∷ row) [] h = sym (field_sum_none n (product_at (c ∷ row) []) (λ i _. product-zero (get_or (c ∷ row) i 0)))
 dot_sum zero (c ∷ row) (x ∷ v) h = absurd (omega arith)
-dot_sum (suc n) (c ∷ row) (x ∷ v) h =
-    ap (λ s. bit_xor (mul c x) s) (dot_sum n row v (omega arith)) ∙ sym (field_sum_head n (product_at (c ∷ row) (x ∷ v)))
+dot_sum (suc n) (c ∷ row) (x ∷ v) h = grind (arith, field_sum_head, dot_sum n row v (omega arith))
 
 -- ---- rows
 

@@ -173,11 +173,7 @@ kept_kill_all is es v vector kills = all_from_contains (λ e. Kills is e v) es (
 
 at_key : (P : ℕ → Type 0) (t : ℕ → Bool) (rs : List (ℕ × List ℕ)) (e : ℕ) → AllByRecursion (λ r. P r.0) (filter (λ r. t r.0) rs) → t e ≡ true → (k : ℕ) → k < length (map (λ r. r.0) rs) → get_or (map (λ r. r.0) rs) k e ≡ e → P e
 at_key P t [] e h i k lt here = absurd (omega (arith, lt))
-at_key P t (r ∷ rs) e h i zero lt here = step (t r.0) refl (filter (λ q. t q.0) rs) h
-  where
-    step : (b : Bool) → t r.0 ≡ b → (qs : List (ℕ × List ℕ)) → AllByRecursion (λ q. P q.0) (cond b (r ∷ qs) qs) → P e
-    step true j qs l = subst P here l.0
-    step false j qs l = absurd (clash i (ap t (sym here) ∙ j))
+at_key P t (r ∷ rs) e h i zero lt here = grind (arith, clash)
 at_key P t (r ∷ rs) e h i (suc k) lt here = at_key P t rs e (rest (t r.0) (filter (λ q. t q.0) rs) h) i k (omega (arith, lt)) here
   where
     rest : (b : Bool) (qs : List (ℕ × List ℕ)) → AllByRecursion (λ q. P q.0) (cond b (r ∷ qs) qs) → AllByRecursion (λ q. P q.0) qs
@@ -233,7 +229,4 @@ agreeing_are_one s known rs a b even repairable ga gb =
 -- what agrees is what is rebuilt
 pub agreeing_is_rebuilt : (set : ParSet) (known : List (Option (List ℕ))) (slices : List (List ℕ)) → set.slice_size % 2 ≡ 0 → IsRepairable (lost known) (survivors set)
     → Agrees set.slice_size known (kept_slices (lost known) (survivors set) (map_of.entries set.recovery)) slices → IsRebuilt set.slice_size known (kept_slices (lost known) (survivors set) (map_of.entries set.recovery)) slices
-agreeing_is_rebuilt set known slices even repairable agrees = record {
-  agrees = agrees;
-  only = λ others more. agreeing_are_one set.slice_size known (map_of.entries set.recovery) others slices even repairable more agrees;
-}
+agreeing_is_rebuilt set known slices even repairable agrees = search (arith, agreeing_are_one)

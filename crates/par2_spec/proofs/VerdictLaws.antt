@@ -1,5 +1,5 @@
 -- The verdict on what a verify reports, by the words.
-use Rattle.par2_spec.proofs.Common.{◌≡◌, ◌+◌, ℕ, List, [], ◌∷◌, T, length, map, refl, sym, ap, ◌∙◌, subst, Bool, true, false, not, cond, ◌&&◌, ◌↔◌, ◌==◌, nat_lt, Option, Some, None, Result, Ok, Err, filter, is_some, is_none, if◌then◌else◌, bytes_eq, md5, nat_cmp, is_lt, entries_sorted, is_sorted, below_all, list_all, list_any, enumerate_from, AllByRecursion, IsStrictlyIncreasing, eqb-true, eq-eqb, false≢true, not-true, false_from_ne_true, IsStrictlyIncreasing-from_sorted, Fault, NotRepairable, NameTooLong, RepairFailed, first_fault, fault_where, then_fault, Folder, has, bytes_of, ParSet, Target, set_of, all_pairs, ◌>>=◌, found, is_needing, needing, matches, match_of, lost, survivors, candidates, is_repairable, IsRepairable, rank, aside, put_aside, rebuilt_targets, Repair, set_in, Report, is_complete, needing_state, found_of, verdict_of, IsFound, IsVerdict, IsVerdictIn, RefusedAsReported}
+use Rattle.par2_spec.proofs.Common.{◌≡◌, ◌+◌, ℕ, List, [], ◌∷◌, T, length, map, refl, sym, ap, ◌∙◌, subst, Bool, true, false, not, cond, ◌&&◌, ◌↔◌, ◌==◌, nat_lt, Option, Some, None, Result, Ok, Err, filter, is_some, is_none, if◌then◌else◌, bytes_eq, md5, nat_cmp, is_lt, entries_sorted, is_sorted, below_all, list_all, list_any, enumerate_from, AllByRecursion, eqb-true, eq-eqb, false≢true, not-true, false_from_ne_true, IsStrictlyIncreasing-from_sorted, Fault, NotRepairable, NameTooLong, RepairFailed, first_fault, fault_where, then_fault, Folder, has, bytes_of, ParSet, Target, set_of, all_pairs, ◌>>=◌, found, is_needing, needing, matches, match_of, lost, survivors, candidates, is_repairable, IsRepairable, rank, aside, put_aside, rebuilt_targets, Repair, set_in, Report, is_complete, needing_state, found_of, verdict_of, IsFound, IsVerdict, IsVerdictIn, RefusedAsReported}
 use Rattle.std.proofs.Common.{Ordering, Less}
 use Rattle.std.specs.FinMap as map_of
 use Rattle.std.specs.List.Sorted.{IsStrictlySortedBy}
@@ -35,9 +35,6 @@ sorted_keys : {X : Type 0} (es : List (ℕ × X)) → T (is_sorted nat_cmp es) �
 unfolding IsStrictlySortedBy
 sorted_keys [] h = tt
 sorted_keys (e ∷ es) h = let r = T-parts _ _ h in (below_keys e.0 es r.0, sorted_keys es r.1)
-
-pub survivors_rise : (set : ParSet) → IsStrictlyIncreasing (survivors set)
-survivors_rise set = IsStrictlyIncreasing-from_sorted (survivors set) (sorted_keys (map_of.entries set.recovery) (entries_sorted set.recovery))
 
 -- ---- complete where no target is needing
 
@@ -78,10 +75,6 @@ complete_by_target folder set searched (t ∷ ts) = step (is_needing folder set 
     step : (b : Bool) → rest ≡ is_nil needs → (is_complete (cond b (needing_state there match) reports.Complete) && rest) ≡ is_nil (cond b (t ∷ needs) needs)
     step true e = ap (λ c. c && rest) (needing_is_not_complete there match)
     step false e = e
-
-is_all_complete : (folder : Folder) (set : ParSet) (searched : List (List ℕ))
-    → list_all (λ r. is_complete r.state) (report_of folder set searched).targets ≡ is_nil (needing folder set)
-is_all_complete folder set searched = ap (list_all (λ r. is_complete r.state)) (by_target folder set searched) ∙ complete_by_target folder set searched set.targets
 
 -- ---- nothing is lost where no target is needing
 
@@ -133,11 +126,11 @@ module _ (folder : Folder) (base : List ℕ) (extras : List (List ℕ)) (set : P
 
   verdict_is : verdict_of (report_of folder set searched) ≡ said (is_nil (needing folder set)) is_full
   unfolding said report_of
-  verdict_is = ap (λ a. said a is_full) (is_all_complete folder set searched)
+  verdict_is = ap (λ a. said a is_full) (ap (list_all (λ r. is_complete r.state)) (by_target folder set searched) ∙ complete_by_target folder set searched set.targets)
 
   repairable_if_full : (is_full ≡ true) ↔ IsRepairable missing (survivors set)
   repairable_if_full =
-      let law = full-iff missing (survivors set) (survivors_rise set) in
+      let law = full-iff missing (survivors set) (IsStrictlyIncreasing-from_sorted (survivors set) (sorted_keys (map_of.entries set.recovery) (entries_sorted set.recovery))) in
       (λ e. law.0 (eqb-true _ _ e), λ h. eq-eqb _ _ (law.1 h))
 
   by_words : IsVerdict folder set searched (verdict_of (report_of folder set searched))

@@ -1,5 +1,5 @@
 -- Words of texts, texts by their words, and vectors of texts.
-use Rattle.par2_spec.proofs.Common.{ℕ, zero, suc, ◌+◌, ◌*◌, ◌/◌, ◌%◌, ◌^◌, ◌<◌, ◌≤◌, ◌≡◌, inl, inr, refl, sym, ap, ap₂, ◌∙◌, arith, List, [], ◌∷◌, length, get_or, set, map, Vec, Global, length-set, w16, to_le_bytes, AllByRecursion, range_with_len, slice_index, cases_eq, map-set, get_or-set_same, get_or-set_other, length-map, get_or-map, get_or_past, ext_get_or, word, dot, list_at, lists_of, OneChanged}
+use Rattle.par2_spec.proofs.Common.{ℕ, zero, suc, ◌+◌, ◌*◌, ◌/◌, ◌%◌, ◌^◌, ◌<◌, ◌≤◌, ◌≡◌, inl, inr, refl, sym, ap, ap₂, ◌∙◌, arith, List, [], ◌∷◌, length, get_or, set, map, Vec, Global, length-set, w16, to_le_bytes, AllByRecursion, range_with_len, cases_eq, map-set, get_or-set_same, get_or-set_other, length-map, get_or-map, get_or_past, ext_get_or, word, dot, list_at, lists_of, OneChanged}
 use Rattle.std.proofs.Common.{◌↔◌}
 use Rattle.std.specs.List.{flat_map}
 use Rattle.par2_spec.specs.Recovery.{combination}
@@ -22,10 +22,7 @@ pub bytes_at : (texts : List (List ℕ)) → AllByRecursion (λ text. AllByRecur
 bytes_at texts fit i = byte_at (list_at texts i) (all_at (λ (text : List ℕ). AllByRecursion (λ b. b < 256) text) [] tt texts fit i)
 
 pub word_behind : (p a b : ℕ) (text : List ℕ) → word (suc p) (a ∷ b ∷ text) ≡ word p text
-word_behind p a b text =
-    let low : 2 * suc p ≡ suc (suc (2 * p)) = omega arith in
-    let high : 2 * suc p + 1 ≡ suc (suc (2 * p + 1)) = omega arith in
-    ap₂ (λ i j. slice_index (a ∷ b ∷ text) i + 256 * slice_index (a ∷ b ∷ text) j) low high
+word_behind p a b text = grind arith
 
 -- ---- texts of given words
 
@@ -43,10 +40,7 @@ bytes-spelled f a (suc n) = (omega arith, (omega arith, bytes-spelled f (a + 1) 
 
 word-spelled : (f : ℕ → ℕ) → ((p : ℕ) → f p < 2 ^ 16) → (a n p : ℕ) → p < n → word p (spelled f a n) ≡ f (a + p)
 word-spelled f small a zero p lt = absurd (omega (arith, lt))
-word-spelled f small a (suc n) zero lt =
-    let low : f a < 2 ^ 16 = small a in
-    let here : word 0 (spelled f a (suc n)) ≡ f a = omega (arith, low) in
-    here ∙ ap f (omega arith)
+word-spelled f small a (suc n) zero lt = grind arith
 word-spelled f small a (suc n) (suc p) lt = word_behind p _ _ (spelled f (a + 1) n) ∙ word-spelled f small (a + 1) n p (omega (arith, lt)) ∙ ap f (omega arith)
 
 pub word_of : (f : ℕ → ℕ) → ((p : ℕ) → f p < 2 ^ 16) → (n p : ℕ) → p < n → word p (spelled f 0 n) ≡ f p
@@ -86,17 +80,10 @@ pub read_at : (vs : List (Vec ℕ Global)) (p : ℕ) (v : Vec ℕ Global) → p 
 read_at vs p v low is = let items = λ (x : Vec ℕ Global). x.items in ap items is ∙ sym (get_or-map items vs p v [] low)
 
 pub written_here : (vs : List (Vec ℕ Global)) (p : ℕ) (w : Vec ℕ Global) → p < length vs → list_at (lists_of (set vs p w)) p ≡ w.items
-written_here vs p w low =
-    let items = λ (x : Vec ℕ Global). x.items in
-    ap (λ (xs : List (List ℕ)). get_or xs p []) (map-set items vs p w) ∙ get_or-set_same (map items vs) p w.items [] (omega (arith, length-map vs items))
+written_here vs p w low = grind (arith, map-set, get_or-set_same, length-map)
 
 pub written_changed : (vs : List (Vec ℕ Global)) (p : ℕ) (w : Vec ℕ Global) → OneChanged (lists_of vs) (lists_of (set vs p w)) p
-written_changed vs p w =
-    let items = λ (x : Vec ℕ Global). x.items in
-    record {
-      count = length-map (set vs p w) items ∙ length-set vs p w ∙ sym (length-map vs items);
-      others = λ i n. ap (λ (xs : List (List ℕ)). get_or xs i []) (map-set items vs p w) ∙ get_or-set_other (map items vs) p i w.items [] n;
-    }
+written_changed vs p w = grind (arith, length-map, length-set, map-set, get_or-set_other)
 
 pub length-lists_of : (vs : List (Vec ℕ Global)) → length (lists_of vs) ≡ length vs
 length-lists_of vs = length-map vs (λ (x : Vec ℕ Global). x.items)

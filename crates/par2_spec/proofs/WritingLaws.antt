@@ -1,5 +1,5 @@
 -- Texts that are written one after the other.
-use Rattle.par2_spec.proofs.Common.{◌≡◌, ◌∙◌, ◌++◌, map, ◌+◌, ◌-◌, ◌<◌, ℕ, suc, List, [], ◌∷◌, take, drop, length, ap, sym, subst, append-nil, append_assoc, length-drop, length-append, arith, take-append_seam, take-append-add, drop-cons, take-append-drop, take-append-le, take_all, take_more, flat_map-append, flat_map-map}
+use Rattle.par2_spec.proofs.Common.{◌≡◌, ◌∙◌, ◌++◌, map, ◌+◌, ◌-◌, ◌<◌, ℕ, suc, List, [], take, drop, length, ap, sym, subst, append-nil, append_assoc, length-drop, length-append, arith, take-append_seam, take-append-add, drop-cons, take-append-drop, take-append-le, take_all, take_more, flat_map-append, flat_map-map, common_steps}
 use Rattle.std.proofs.Common.{Option, Result, Ok, Err}
 use Rattle.std.specs.Io.KnownBytes.{Appends}
 use Rattle.std.proofs.Math.ListN.{get_or}
@@ -27,10 +27,7 @@ step a b c sent rest text n is p q =
 -- of whatever is seen as a writer
 module _ {P : Type 0} (seen : P → Writer) where
   pub took_both : (a b c : P) (xs ys : List ℕ) → TookAll (seen a) (seen b) xs → TookAll (seen b) (seen c) ys → TookAll (seen a) (seen c) (xs ++ ys)
-  took_both a b c xs ys p q = (
-    Appends-trans (seen a).taken (seen b).taken (seen c).taken xs ys p.0 q.0,
-    q.1 ∙ p.1,
-  )
+  took_both a b c xs ys p q = grind (arith, common_steps)
 
   -- a text was written, and then a part of another
   pub part_behind : (a b c : P) (xs ys : List ℕ) → TookAll (seen a) (seen b) xs → TookPart (seen b) (seen c) ys → TookPart (seen a) (seen c) (xs ++ ys)
@@ -51,23 +48,12 @@ module _ {P : Type 0} (seen : P → Writer) where
 
   -- a part of a text is a part of a longer one
   pub wrote_less : (a b : P) (xs ys : List ℕ) → TookPart (seen a) (seen b) xs → TookPart (seen a) (seen b) (xs ++ ys)
-  wrote_less a b xs ys p = (
-    (
-      p.0.0,
-      omega (arith, p.0.1, length-append xs ys),
-      subst (Appends (seen a).taken (seen b).taken) (sym (take-append-le p.0.0 xs ys (omega (arith, p.0.1)))) p.0.2,
-    ),
-    p.1,
-  )
+  wrote_less a b xs ys p = grind (arith, length-append, take-append-le)
 
   -- the lines before the i-th were written, and then that one
   pub lines_next : {X : Type 0} (f : X → List ℕ) (a b c : P) (items : List X) (i : ℕ) (item : X) → i < length items
       → TookAll (seen a) (seen b) (flat_map f (take i items)) → TookAll (seen b) (seen c) (f (get_or items i item)) → TookAll (seen a) (seen c) (flat_map f (take (i + 1) items))
-  lines_next f a b c items i item within before one =
-      let here = f (get_or items i item) in
-      let both : flat_map f (take (i + 1) items) ≡ flat_map f (take i items) ++ here =
-      ap (flat_map f) (take_more items i item within) ∙ flat_map-append f (take i items) (get_or items i item ∷ []) ∙ ap (λ xs. flat_map f (take i items) ++ xs) (append-nil here) in
-      subst (TookAll (seen a) (seen c)) (sym both) (took_both a b c (flat_map f (take i items)) here before one)
+  lines_next f a b c items i item within before one = grind (arith, common_steps, take_more, flat_map-append, append-nil, took_both)
 
   -- the lines before the i-th were written, and then a part of that one
   pub lines_cut : {X : Type 0} (f : X → List ℕ) (a b c : P) (items : List X) (i : ℕ) (item : X) → i < length items
@@ -93,7 +79,4 @@ module _ {P : Type 0} (seen : P → Writer) where
   pub shown_lines_next : {X Y : Type 0} (f : Y → List ℕ) (view : X → Y) (a b c : P) (items : List X) (i : ℕ) (item : X) (shown : Y)
       → i < length items → shown ≡ view (get_or items i item) → TookAll (seen a) (seen b) (flat_map f (map view (take i items)))
       → TookAll (seen b) (seen c) (f shown) → TookAll (seen a) (seen c) (flat_map f (map view (take (i + 1) items)))
-  shown_lines_next f view a b c items i item shown within is before one =
-      let next = lines_next (λ x. f (view x)) a b c items i item within (subst (TookAll (seen a) (seen b)) (flat_map-map f view (take i items)) before)
-      (subst (λ y. TookAll (seen b) (seen c) (f y)) is one) in
-      subst (TookAll (seen a) (seen c)) (sym (flat_map-map f view (take (i + 1) items))) next
+  shown_lines_next f view a b c items i item shown within is before one = grind (arith, common_steps, lines_next, flat_map-map)

@@ -1,5 +1,5 @@
 -- Parts of a text that is put together, and the tests of a packet at its front.
-use Rattle.par2_spec.proofs.Common.{◌≡◌, ℕ, suc, ◌-◌, ◌+◌, ◌%◌, ◌^◌, ◌≤◌, ◌<◌, Bool, true, false, leb, eqb, ◌&&◌, List, [], ◌∷◌, ◌++◌, length, drop, refl, sym, ap, ◌∙◌, append_assoc, arith, flat_map, AllByRecursion, w64, to_le_bytes, from_le_bytes, bytes_eq, le-leb, eq-eqb, lt-leb, leb-true, and_parts, take_at, drop_at, from_le_bytes-to_le_bytes_8, bytes_eq-Decides, md5, length-md5, Kind, bytes_at, magic, type_of, kind_of, Packet, digest_input, claimed_length, accepted, IsPacket}
+use Rattle.par2_spec.proofs.Common.{◌≡◌, ℕ, suc, ◌-◌, ◌+◌, ◌%◌, ◌^◌, ◌≤◌, ◌<◌, Bool, true, false, leb, eqb, ◌&&◌, List, [], ◌∷◌, ◌++◌, length, drop, refl, sym, ap, ◌∙◌, append_assoc, arith, flat_map, AllByRecursion, w64, to_le_bytes, bytes_eq, le-leb, eq-eqb, lt-leb, leb-true, and_parts, take_at, drop_at, from_le_bytes-to_le_bytes_8, bytes_eq-Decides, md5, length-md5, Kind, bytes_at, magic, type_of, kind_of, Packet, digest_input, claimed_length, accepted, IsPacket}
 use Rattle.std.proofs.lemmas.List.{length-append}
 use Rattle.par2_spec.specs.Packets.{u64_at, packet, begins_with_packet, first_packet, accepted_after}
 use Rattle.par2_spec.proofs.AcceptedLaws.{accepted-found, accepted-none}
@@ -26,15 +26,7 @@ module_parts text m l d s k b t h = (ap length h.magic, ap length h.claim, ap le
 
 claimed_is : (text m l d s k b t : List ℕ) → IsMade text m l d s k b t → claimed_length text ≡ 64 + length b
 unfolding u64_at
-claimed_is text m l d s k b t h =
-    let lens = module_parts text m l d s k b t h in
-    ap (λ (x : List ℕ). from_le_bytes w64 (bytes_at 8 8 x)) h.is
-    ∙ ap (from_le_bytes w64) (part_at m l (d ++ (s ++ (k ++ (b ++ t)))) 8 8 lens.0 lens.1 ∙ h.claim)
-    ∙ from_le_bytes-to_le_bytes_8 (64 + length b) h.small
-
--- the front of n parts
-to_16 : (m l d s k b t : List ℕ) → m ++ (l ++ (d ++ (s ++ (k ++ (b ++ t))))) ≡ (m ++ l) ++ (d ++ (s ++ (k ++ (b ++ t))))
-to_16 m l d s k b t = sym (append_assoc m l _)
+claimed_is text m l d s k b t h = grind (arith, module_parts, part_at, from_le_bytes-to_le_bytes_8)
 
 to_32 : (m l d s k b t : List ℕ) → m ++ (l ++ (d ++ (s ++ (k ++ (b ++ t))))) ≡ (m ++ (l ++ d)) ++ ((s ++ (k ++ b)) ++ t)
 to_32 m l d s k b t = simp append_assoc
@@ -68,7 +60,7 @@ begins text m l d s k b t h =
     let rest : bytes_at 32 (claimed_length text - 32) text ≡ s ++ (k ++ b) =
     ap (bytes_at 32 (claimed_length text - 32)) (h.is ∙ to_32 m l d s k b t) ∙ part_at (m ++ (l ++ d)) (s ++ (k ++ b)) t 32 (claimed_length text - 32) size_mld (omega (arith, size_skb, claim)) in
     let digest : bytes_at 16 16 text ≡ d =
-    ap (bytes_at 16 16) (h.is ∙ to_16 m l d s k b t) ∙ part_at (m ++ l) d (s ++ (k ++ (b ++ t))) 16 16 (omega (arith, length-append m l, lens.0, lens.1)) lens.2 in
+    ap (bytes_at 16 16) (h.is ∙ sym (append_assoc m l _)) ∙ part_at (m ++ l) d (s ++ (k ++ (b ++ t))) 16 16 (omega (arith, length-append m l, lens.0, lens.1)) lens.2 in
     let h1 : leb 64 (length text) ≡ true = le-leb 64 (length text) (omega (arith, size)) in
     let h2 : bytes_eq (bytes_at 0 8 text) magic ≡ true = (bytes_eq-Decides (bytes_at 0 8 text) magic).1 front in
     let h3 : eqb (claimed_length text % 4) 0 ≡ true = eq-eqb (claimed_length text % 4) 0 (ap (λ (n : ℕ). n % 4) claim ∙ h.even) in
@@ -112,10 +104,7 @@ fourth a b c d e f h = (and_parts (a && b && c) d (and_parts (a && b && c && d) 
 -- a packet at the front claims a length of at least one byte
 one_at_least : (text : List ℕ) → begins_with_packet text ≡ true → 64 ≤ claimed_length text
 unfolding begins_with_packet
-one_at_least text h =
-    leb-true 64 (claimed_length text)
-    (fourth (leb 64 (length text)) (bytes_eq (bytes_at 0 8 text) magic) (eqb (claimed_length text % 4) 0) (leb 64 (claimed_length text)) (leb (claimed_length text) (length text))
-    (bytes_eq (md5 (bytes_at 32 (claimed_length text - 32) text)) (bytes_at 16 16 text)) h)
+one_at_least text h = grind (arith, leb-true, fourth)
 
 pub in_front : (text : List ℕ) → begins_with_packet text ≡ true → accepted text ≡ first_packet text ∷ accepted (drop (claimed_length text) text)
 in_front text h = accepted_first text h (let far : 64 ≤ claimed_length text = one_at_least text h in omega arith)
@@ -161,7 +150,4 @@ none_short (b ∷ text) lt = accepted-none b text (short_front (b ∷ text) lt) 
 -- packets one after the other
 pub packets_then : (ps : List Packet) (t : List ℕ) → AllByRecursion IsPacket ps → accepted (flat_map packet ps ++ t) ≡ ps ++ accepted t
 packets_then [] t h = refl
-packets_then (p ∷ ps) t h =
-    ap accepted (append_assoc (packet p) (flat_map packet ps) t)
-    ∙ packet_then p (flat_map packet ps ++ t) h.0
-    ∙ ap (λ (qs : List Packet). p ∷ qs) (packets_then ps t h.1)
+packets_then (p ∷ ps) t h = grind (arith, append_assoc, packet_then, packets_then ps t h.1)

@@ -1,5 +1,5 @@
 -- The packets of a set, as they are written, are read as they are.
-use Rattle.par2_spec.proofs.Common.{◌≡◌, ℕ, suc, ◌-◌, ◌+◌, ◌*◌, ◌/◌, ◌%◌, ◌^◌, ◌<◌, true, leb, eqb, ◌&&◌, List, [], ◌∷◌, ◌++◌, length, take, drop, map, refl, sym, ap, ◌∙◌, append_assoc, arith, zero, Bool, false, cond, flat_map, w32, w64, to_le_bytes, from_le_bytes, w16, AllByRecursion, range_with_len, list_any, prefix_len, suffix_len, le-leb, eq-eqb, and_from, cond-true, or_parts, or_from, take_at, drop_at, length-replicate, reverse-append, replicate_more, from_le_bytes-to_le_bytes_4, from_le_bytes-to_le_bytes_8, Pair, IsPair, bytes_at, items_at, MainBody, IfscBody, RecoveryBody, without_end_zeros, DescBody, Packet, packet, accepted, IsCanonical, IsPacket, FileRecord, main_bytes, ifsc_bytes, pair_bytes, recovery_bytes, desc_bytes, padded_4, IsFileRecord, creator_bytes, main_id, packet_of, recovery_packets, list_any-append, prefix_len-append, prefix_len-replicate, length-range_with_len, length-md5, Kind, dot, coefficients, word, MainIsRead, DescIsRead, RecoverySlicesAreRead}
+use Rattle.par2_spec.proofs.Common.{◌≡◌, ℕ, suc, ◌-◌, ◌+◌, ◌*◌, ◌/◌, ◌%◌, ◌^◌, ◌<◌, true, leb, eqb, ◌&&◌, List, [], ◌∷◌, ◌++◌, length, take, drop, map, refl, sym, ap, ◌∙◌, append_assoc, arith, zero, Bool, false, flat_map, w32, w64, to_le_bytes, from_le_bytes, w16, AllByRecursion, range_with_len, list_any, prefix_len, suffix_len, le-leb, eq-eqb, and_from, cond-true, or_parts, or_from, take_at, drop_at, length-replicate, reverse-append, replicate_more, from_le_bytes-to_le_bytes_4, from_le_bytes-to_le_bytes_8, Pair, IsPair, bytes_at, items_at, MainBody, IfscBody, RecoveryBody, without_end_zeros, DescBody, Packet, packet, accepted, IsCanonical, IsPacket, FileRecord, main_bytes, ifsc_bytes, pair_bytes, recovery_bytes, desc_bytes, padded_4, IsFileRecord, creator_bytes, main_id, packet_of, recovery_packets, list_any-append, prefix_len-append, prefix_len-replicate, length-range_with_len, length-md5, Kind, dot, coefficients, word, MainIsRead, DescIsRead, RecoverySlicesAreRead, common_steps}
 use Rattle.par2_spec.specs.declared.Kind.TheVariants.{Main, Ifsc, Recovery, FileDesc, Creator}
 use Rattle.par2_spec.specs.Packets.{u64_at}
 use Rattle.std.proofs.Common.{Option, Some, None, reverse, replicate}
@@ -24,9 +24,7 @@ u64_there front rest o n h lt = ap (from_le_bytes w64) (part_at front (to_le_byt
 
 pub length_items : {A : Type 0} (text : A → List ℕ) (item : ℕ) (xs : List A) → AllByRecursion (λ x. length (text x) ≡ item) xs → length (flat_map text xs) ≡ item * length xs
 length_items text item [] h = omega arith
-length_items text item (x ∷ xs) h =
-    let more : item * suc (length xs) ≡ item + item * length xs = omega arith in
-    length-append (text x) (flat_map text xs) ∙ ap (λ (n : ℕ). n + length (flat_map text xs)) h.0 ∙ ap (λ (n : ℕ). item + n) (length_items text item xs h.1) ∙ sym more
+length_items text item (x ∷ xs) h = grind (arith, length-append, length_items text item xs h.1)
 
 items_there : {A : Type 0} (text : A → List ℕ) (head item : ℕ) (body front : List ℕ) (xs : List A) (a : ℕ) → AllByRecursion (λ x. length (text x) ≡ item) xs
     → length front ≡ head + item * a → body ≡ front ++ flat_map text xs → map (λ k. bytes_at (head + item * k) item body) (range_with_len a (length xs)) ≡ map text xs
@@ -71,13 +69,7 @@ recovery_of e bytes = Some (record { exponent = e; bytes = bytes })
 
 pub recovery_reads : (e : ℕ) (bytes : List ℕ) → e < 2 ^ 32 → read_recovery Recovery (recovery_bytes e bytes) ≡ Some (record { exponent = e; bytes = bytes })
 unfolding read_recovery
-recovery_reads e bytes lt =
-    let body : List ℕ = recovery_bytes e bytes in
-    let size : length body ≡ 4 + length bytes = length-append (to_le_bytes w32 e) bytes in
-    let t : leb 4 (length body) ≡ true = le-leb 4 (length body) (omega (arith, size)) in
-    cond-true (leb 4 (length body)) (recovery_of (u32_at 0 body) (drop 4 body)) None t
-    ∙ ap (λ (k : ℕ). recovery_of k (drop 4 body)) (u32_there [] bytes 0 e refl lt)
-    ∙ ap (recovery_of e) (drop_at (to_le_bytes w32 e) bytes 4 refl)
+recovery_reads e bytes lt = grind (arith, length-append, le-leb, cond-true, u32_there, drop_at)
 
 -- ---- IFSC
 
@@ -89,14 +81,10 @@ pair_in item = (take 16 item, u32_at 16 item)
 
 pub pair_lengths : (pairs : List Pair) → ArePairs pairs → AllByRecursion (λ pair. length (pair_bytes pair) ≡ 20) pairs
 pair_lengths [] h = tt
-pair_lengths (pair ∷ pairs) h =
-    (length-append pair.0 (to_le_bytes w32 pair.1) ∙ ap (λ (n : ℕ). n + 4) h.0.0, pair_lengths pairs h.1)
+pair_lengths (pair ∷ pairs) h = grind (arith, length-append, pair_lengths pairs h.1)
 
 pair_there : (pair : Pair) → IsPair pair → pair_in (pair_bytes pair) ≡ pair
-pair_there pair h =
-    let digest : take 16 (pair_bytes pair) ≡ pair.0 = take_at pair.0 (to_le_bytes w32 pair.1) 16 h.0 in
-    let sum : u32_at 16 (pair_bytes pair) ≡ pair.1 = ap (u32_at 16) (ap (λ (t : List ℕ). pair.0 ++ t) (sym (append-nil (to_le_bytes w32 pair.1)))) ∙ u32_there pair.0 [] 16 pair.1 h.0 h.1 in
-    ap (λ (t : List ℕ). let p : Pair = (t, u32_at 16 (pair_bytes pair)) in p) digest ∙ ap (λ (n : ℕ). let p : Pair = (pair.0, n) in p) sum
+pair_there pair h = search (arith, take_at, append-nil, u32_there)
 
 pairs_there : (pairs : List Pair) → ArePairs pairs → map pair_in (map pair_bytes pairs) ≡ pairs
 pairs_there [] h = refl
@@ -148,18 +136,10 @@ none_reversed (x ∷ xs) h =
 
 zeros_reversed : (k : ℕ) → reverse (zeros k) ≡ zeros k
 zeros_reversed zero = refl
-zeros_reversed (suc k) =
-    let turned : reverse (0 ∷ zeros k) ≡ reverse (zeros k) ++ 0 ∷ [] = reverse-append (0 ∷ []) (zeros k) in
-    turned ∙ ap (λ (xs : List ℕ). xs ++ 0 ∷ []) (zeros_reversed k) ∙ replicate_more k 0 ∙ ap (λ (n : ℕ). zeros n) (let e : k + 1 ≡ suc k = omega arith in e)
+zeros_reversed (suc k) = grind (arith, common_steps, reverse-append, replicate_more, zeros_reversed k)
 
 zeros_first : (k : ℕ) (xs : List ℕ) → prefix_len is_zero (zeros k ++ xs) ≡ k + prefix_len is_zero xs
-zeros_first k xs =
-    let size : length (zeros k) ≡ k = length-replicate k (let z : ℕ = 0 in z) in
-    let all : prefix_len is_zero (zeros k) ≡ k = prefix_len-replicate is_zero k 0 refl in
-    let same : eqb (prefix_len is_zero (zeros k)) (length (zeros k)) ≡ true = eq-eqb _ _ (all ∙ sym size) in
-    prefix_len-append is_zero (zeros k) xs
-    ∙ ap (λ (b : Bool). cond b (length (zeros k) + prefix_len is_zero xs) (prefix_len is_zero (zeros k))) same
-    ∙ ap (λ (n : ℕ). n + prefix_len is_zero xs) size
+zeros_first k xs = grind (arith, length-replicate, prefix_len-replicate, eq-eqb, prefix_len-append)
 
 pub stripped-padded : (name : List ℕ) (k : ℕ) → list_any (λ b. eqb b 0) name ≡ false → without_end_zeros (name ++ replicate k 0) ≡ name
 stripped-padded name k none =
@@ -237,8 +217,7 @@ creator_known = (refl, refl)
 
 -- a packet of a body whose length is a multiple of 4
 made : (id : List ℕ) (kind : Kind) (body : List ℕ) (n : ℕ) → length id ≡ 16 → IsCanonical kind → length body ≡ 4 * n → n < 2 ^ 60 → IsPacket (packet_of id kind body)
-made id kind body n sixteen known size few =
-    record { set_id = sixteen; kind = known; small = omega (arith, size, few); multiple_of_4 = omega (arith, size) }
+made id kind body n sixteen known size few = grind arith
 
 -- ---- each packet
 
@@ -258,16 +237,7 @@ padded_length : (text : List ℕ) → length (padded_4 text) ≡ length text + (
 padded_length text = length-append text (replicate ((4 - length text % 4) % 4) 0) ∙ ap (λ (k : ℕ). length text + k) (length-replicate ((4 - length text % 4) % 4) (let z : ℕ = 0 in z))
 
 pub desc_packet : (id : List ℕ) (file : FileRecord) → length id ≡ 16 → IsFileRecord file → IsPacket (packet_of id FileDesc (desc_bytes file))
-desc_packet id file sixteen is =
-    let number : List ℕ = to_le_bytes w64 file.length in
-    let eight : length number ≡ 8 = refl in
-    let name : length (padded_4 file.name) ≡ length file.name + (4 - length file.name % 4) % 4 = padded_length file.name in
-    let size : length (desc_bytes file) ≡ 56 + length (padded_4 file.name) =
-    length-append (file.id ++ file.md5 ++ file.md5_16k ++ number) (padded_4 file.name)
-    ∙ ap (λ (k : ℕ). k + length (padded_4 file.name))
-    (length-append (file.id ++ file.md5 ++ file.md5_16k) number
-    ∙ (let three : length (file.id ++ file.md5 ++ file.md5_16k) ≡ 48 = omega (arith, length-append (file.id ++ file.md5) file.md5_16k, length-append file.id file.md5, is.id, is.md5, is.md5_16k) in omega (arith, three, eight))) in
-    made id FileDesc (desc_bytes file) (14 + (length file.name + 3) / 4) sixteen desc_known (omega (arith, size, name)) (omega (arith, is.name_size))
+desc_packet id file sixteen is = grind (arith, padded_length, length-append, made, desc_known)
 
 pub ifsc_packet : (id : List ℕ) (file : FileRecord) → length id ≡ 16 → IsFileRecord file → IsPacket (packet_of id Ifsc (ifsc_bytes file))
 ifsc_packet id file sixteen is =
@@ -279,9 +249,7 @@ pub creator_packet : (id : List ℕ) → length id ≡ 16 → IsPacket (packet_o
 creator_packet id sixteen = made id Creator creator_bytes 5 sixteen creator_known refl (omega arith)
 
 pub recovery_packet : (id : List ℕ) (e : ℕ) (bytes : List ℕ) → length id ≡ 16 → length bytes % 4 ≡ 0 → length bytes < 2 ^ 60 → IsPacket (packet_of id Recovery (recovery_bytes e bytes))
-recovery_packet id e bytes sixteen even few =
-    let size : length (recovery_bytes e bytes) ≡ 4 + length bytes = length-append (to_le_bytes w32 e) bytes in
-    made id Recovery (recovery_bytes e bytes) (1 + length bytes / 4) sixteen recovery_known (omega (arith, size, even)) (omega (arith, few))
+recovery_packet id e bytes sixteen even few = grind (arith, length-append, made, recovery_known)
 
 -- ---- the packets of files
 
@@ -307,9 +275,7 @@ index_reads s files text few each = packets_then (index_packets s files) text (i
 
 words_length : (f : ℕ → ℕ) (places : List ℕ) → length (flat_map (λ p. to_le_bytes w16 (f p)) places) ≡ 2 * length places
 words_length f [] = omega arith
-words_length f (p ∷ places) =
-    let more : 2 + 2 * length places ≡ 2 * suc (length places) = omega arith in
-    length-append (to_le_bytes w16 (f p)) (flat_map (λ q. to_le_bytes w16 (f q)) places) ∙ ap (λ (n : ℕ). 2 + n) (words_length f places) ∙ more
+words_length f (p ∷ places) = grind (arith, length-append, words_length f places)
 
 -- a recovery slice is as long as the slices
 pub recovery_length : (s : ℕ) (texts : List (List ℕ)) (e : ℕ) → s % 2 ≡ 0 → length (recovery s texts e) ≡ s
