@@ -1,6 +1,6 @@
 use Rattle.par2_packets.proofs.Common.{rules, w128, from_le_bytes, IsNonDecreasingBy-from_sort_by_key, id_number}
 use Rattle.par2_packets.proofs.Ids.{distinct_keys, moved_distinct}
-use Rattle.par2_packets.proofs.order.sort_ids.Goals as goal
+use Rattle.par2_packets.proofs.record.sort_ids.Goals as goal
 
 pub has_equal_neighbours-requires : goal.has_equal_neighbours-requires
 has_equal_neighbours-requires c = IsNonDecreasingBy-from_sort_by_key id_number _ c.sort_unstable_by_key.ensures.sorted (λ a r q k. search rules)

@@ -1,6 +1,6 @@
 use Rattle.par2_packets.proofs.Common.{◌≡◌, ◌<◌, ◌-◌, sym, ◌∙◌, arith, id_number, increasing}
 use Rattle.par2_packets.proofs.Ids.{same_ids, rises_more, not_distinct}
-use Rattle.par2_packets.proofs.order.has_equal_neighbours.Goals as goal
+use Rattle.par2_packets.proofs.record.has_equal_neighbours.Goals as goal
 
 pub returns-then-number_of-clause-some : goal.returns-then-number_of-clause-some
 returns-then-number_of-clause-some c equal =
