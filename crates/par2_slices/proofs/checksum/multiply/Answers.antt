@@ -1,6 +1,6 @@
 use Rattle.par2_slices.proofs.Common.{◌≡◌, ℕ, suc, ◌+◌, ◌-◌, ◌*◌, ◌/◌, ◌%◌, ◌^◌, ◌∙◌, ap, arith, bit_xor, steps}
 use Rattle.par2_slices.proofs.Shifts.{first_product, more_product}
-use Rattle.par2_slices.proofs.zeros.multiply.Goals as goal
+use Rattle.par2_slices.proofs.checksum.multiply.Goals as goal
 
 pub loop-bit-init : goal.loop-bit-init
 loop-bit-init c n power = first_product n c.args.a

@@ -1,6 +1,6 @@
 use Rattle.par2_slices.proofs.Common.{ℕ, ◌∙◌, ◌++◌, ◌*◌, List, replicate, subst, ap, arith, Holds, md5}
 use Rattle.par2_slices.proofs.Padding.{more_zeros, last_zeros}
-use Rattle.par2_slices.proofs.digest.padded_md5.Goals as goal
+use Rattle.par2_slices.proofs.pairs.padded_md5.Goals as goal
 
 pub loop-preserved : goal.loop-preserved
 loop-preserved c =

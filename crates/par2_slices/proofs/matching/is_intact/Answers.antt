@@ -1,6 +1,6 @@
 use Rattle.par2_slices.proofs.Common.{◌≡◌, length, arith}
 use Rattle.par2_slices.proofs.Comparisons.{compared_is, intact_by_md5s, not_intact_by_crcs}
-use Rattle.par2_slices.proofs.intact.is_intact.Goals as goal
+use Rattle.par2_slices.proofs.matching.is_intact.Goals as goal
 
 pub returns-then-have_crc32s : goal.returns-then-have_crc32s
 returns-then-have_crc32s c t size pairs =

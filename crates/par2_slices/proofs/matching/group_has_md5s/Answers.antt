@@ -1,5 +1,5 @@
 use Rattle.par2_slices.proofs.Common.{◌≡◌, ◌∙◌, ℕ, ◌+◌, ◌<◌, Bool, not, true, false, List, sym, ap, subst, inl, inr, arith, bytes_eq, cases_lt, false≢true, not-false, bytes_eq-Decides, md5, Pair, slice_at, pair_at, HaveMd5s}
-use Rattle.par2_slices.proofs.intact.group_has_md5s.Goals as goal
+use Rattle.par2_slices.proofs.matching.group_has_md5s.Goals as goal
 
 -- one pair more
 one_more : (s first n : ℕ) (bytes : List ℕ) (pairs : List Pair) → HaveMd5s s bytes pairs first (first + n) → md5 (slice_at s bytes (first + n)) ≡ (pair_at pairs (first + n)).0 → HaveMd5s s bytes pairs first (first + (n + 1))

@@ -1,7 +1,7 @@
 use Rattle.par2_slices.proofs.Common.{◌∙◌}
 use Rattle.par2_slices.proofs.Shifts.{first_power, even_power, odd_power}
-use Rattle.par2_slices.proofs.zeros.power.Goals as goal
-use Rattle.par2_slices.proofs.zeros.power.Goals.{then-count-bit-eq1, else-count-bit-eq1}
+use Rattle.par2_slices.proofs.checksum.power.Goals as goal
+use Rattle.par2_slices.proofs.checksum.power.Goals.{then-count-bit-eq1, else-count-bit-eq1}
 
 pub loop-bit-init : goal.loop-bit-init
 loop-bit-init c = first_power c.args.count 0x80000000 c.ranges.count.fits
