@@ -4,7 +4,7 @@ use crate::clock::{megabytes_a_second, nanos_since, start};
 use crate::digest;
 use crate::random::random_bytes;
 use anyhow::Result;
-use par2_packets::{Packets, append_recoveries};
+use par2_packets::{Packets, append_recovery};
 use std::alloc::{AllocError, Global};
 use std::io;
 
@@ -19,14 +19,15 @@ fn append_slice(
     alloc: Global,
     text: &mut Vec<u8>,
     exponent: u16,
-    slice: &[Vec<u8>; 1],
+    slice: &[u8],
 ) -> Result<(), AllocError> {
-    append_recoveries(alloc, text, &[7; 16], u32::from(exponent), slice)
+    let words = &slice[..slice.len() / 4 * 4];
+    append_recovery(alloc, text, &[7; 16], u32::from(exponent), words)
 }
 
 // A volume of recovery slices.
 fn volume(alloc: Global) -> Result<Vec<u8>, AllocError> {
-    let slice = [random_bytes(alloc, SLICE, 1)?];
+    let slice = random_bytes(alloc, SLICE, 1)?;
     let mut text = Vec::with_capacity(alloc, SIZE + MEBIBYTE)?;
     for exponent in 0..1024 {
         append_slice(alloc, &mut text, exponent, &slice)?;

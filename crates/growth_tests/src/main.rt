@@ -39,7 +39,6 @@ const CALLS: &[(&str, &[&str])] = &[
             "append_ifsc",
             "append_creator",
             "append_recovery",
-            "append_recoveries",
             "digest_recoveries",
             "SetRecord::of_files",
             "recovery_slice",

@@ -5,8 +5,8 @@ use anyhow::{Error, Result};
 use par2_folder::{Folder, Name};
 use par2_gf16::Gf;
 use par2_packets::{
-    FileRecord, Pair, append_creator, append_desc, append_ifsc, append_main, append_recoveries,
-    append_recovery, digest_recoveries, with_undigested,
+    FileRecord, Pair, append_creator, append_desc, append_ifsc, append_main, append_recovery,
+    digest_recoveries, with_undigested,
 };
 use par2_recovery::{SetRecord, Survivors, rank, recovery_slices_over};
 use par2_slices::{Rolling, Spot, Wanted, crc32, find, find_among, pairs_of};
@@ -30,15 +30,14 @@ const SET_ID: &[u8; 16] = b"0123456789abcdef";
 // Two outputs of four bytes in a text of ten.
 const OUTPUTS: &[Place] = &[Place { text: 0, at: 1 }, Place { text: 0, at: 6 }];
 
-/// What the calls need: the field, the file and what a set says of it, the checksums of its slices and nine recovery
-/// slices. Then what they answer.
+/// What the calls need: the field, the file and what a set says of it, the checksums of its slices. Then what they
+/// answer.
 #[derive(Drop)]
 pub struct Texts {
     gf: Gf,
     folder: Folder,
     set: SetRecord,
     wanted: Wanted,
-    slices: Vec<Vec<u8>>,
     records: Vec<FileRecord>,
     pairs: Vec<Pair>,
     spots: Vec<Option<Spot>>,
@@ -51,13 +50,6 @@ fn set_over(alloc: Global, folder: &Folder) -> Result<SetRecord> {
     match set_of(alloc, folder, &["a"], 4)? {
         Some(Ok(set)) => Ok(set),
         _ => Err(Error::msg("no set")),
-    }
-}
-
-fn slices_over(alloc: Global, gf: &Gf, set: &SetRecord, folder: &Folder) -> Result<Vec<Vec<u8>>> {
-    match recovery_slices_of(alloc, gf, set, folder, 0, 9)? {
-        Some(slices) => Ok(slices),
-        None => Err(Error::msg("no recovery slices")),
     }
 }
 
@@ -83,14 +75,12 @@ impl Texts {
         let gf = Gf::new(alloc)?;
         let folder = folder_of(alloc, &[("a", BYTES)])?;
         let set = set_over(alloc, &folder)?;
-        let slices = slices_over(alloc, &gf, &set, &folder)?;
         let pairs = pairs_of(alloc, BYTES, 4)?;
         Ok(Texts {
             gf,
             folder,
             set,
             wanted: Wanted::new(alloc, &pairs)?,
-            slices,
             records: Vec::new(alloc),
             pairs,
             spots: Vec::new(alloc),
@@ -139,12 +129,6 @@ impl Texts {
             "append_recovery" => append_recovery(alloc, &mut self.text, SET_ID, 1, SECOND)?,
             _ => append_creator(alloc, &mut self.text, SET_ID)?,
         }
-        Ok(())
-    }
-
-    fn append_slices(&mut self, alloc: Global) -> Result<(), Refusal> {
-        let slices = self.slices.get(..9).unwrap_or(&[]);
-        append_recoveries(alloc, &mut self.text, SET_ID, 0, slices)?;
         Ok(())
     }
 
@@ -229,7 +213,6 @@ impl Scene for Texts {
             "Gf::new" => self.field(alloc),
             "Rolling::new" => self.slide(alloc),
             "Wanted::new" | "pairs_of" | "find" | "find_among" => self.search(alloc, name),
-            "append_recoveries" => self.append_slices(alloc),
             "digest_recoveries" => self.digest(alloc),
             "append_main" | "append_desc" | "append_ifsc" | "append_recovery" | "append_creator" =>
                 { self.append(alloc, name) }

@@ -1,7 +1,7 @@
-//! Messages that begin alike, states side by side, and the hasher of one message.
+//! Texts and states side by side, and the hasher of one message.
 
 use md5::{Digest, Md5};
-use par2_digests::{Midstate, Part, Pending, absorb_each, digest_each};
+use par2_digests::{Midstate, Part, Pending, absorb_each, text_digests};
 use std::process::Abort;
 
 // About the edges of a block and of the padding.
@@ -53,42 +53,31 @@ fn digest_by_the_hasher(
     hasher.finalize()
 }
 
-fn digest_of_message(text: &[u8], turn: usize, k: usize) -> [u8; 16] {
-    digest_by_the_hasher(piece(text, 500, turn), text, turn, k, b"")
-}
-
-fn messages<'a>(
+fn pieces<'a>(
     rt: &(impl Abort + AllocGlobal),
     text: &'a [u8],
     turn: usize,
     count: usize,
-) -> Vec<Pending<'a>> {
-    let state = state_after(piece(text, 500, turn));
-    let mut messages = Vec::new(rt.alloc());
+) -> Vec<&'a [u8]> {
+    let mut pieces = Vec::new(rt.alloc());
     for k in 0..count {
-        let parts = parts(text, turn, k);
-        let message = Pending::padded(rt.alloc(), state, &parts).expect(rt, "memory");
-        messages.push(message).expect(rt, "memory");
+        pieces
+            .push(piece(text, k, turn.wrapping_add(k.wrapping_mul(5))))
+            .expect(rt, "memory");
     }
-    messages
+    pieces
 }
 
-// Whether so many messages after one piece have the digests of the hasher.
+// Whether so many pieces have the digests of the hasher.
 fn are_digested(rt: &(impl Abort + AllocGlobal), text: &[u8], turn: usize, count: usize) -> bool {
-    let messages = messages(rt, text, turn, count);
-    if messages.len() > 8 {
-        return false;
-    }
-    are_of_messages(&digest_each(messages.as_slice()), text, turn, count)
-}
-
-fn are_of_messages(digests: &[[u8; 16]; 8], text: &[u8], turn: usize, count: usize) -> bool {
+    let pieces = pieces(rt, text, turn, count);
+    let digests = text_digests(rt.alloc(), pieces.as_slice()).expect(rt, "memory");
     for (k, digest) in digests.iter().enumerate() {
-        if k < count && *digest != digest_of_message(text, turn, k) {
+        if *digest != Md5::digest(piece(text, k, turn.wrapping_add(k.wrapping_mul(5)))) {
             return false;
         }
     }
-    true
+    digests.len() == count
 }
 
 // A state after a piece of its own, and the parts of message k.

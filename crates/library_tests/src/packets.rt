@@ -2,12 +2,11 @@
 
 ghost use Rattle.std.specs.Prelude.{◌≡◌, ◌+◌, ◌%◌, ◌<◌, ◌≤◌, ◌∷◌, [], length};
 
-use crate::calls::lists_of;
 use crate::set_packets::{add_checksums, add_description, add_main, id_of};
 use par2_packets::{
-    DescView, DuplicateId, FileRecord, Kind, Packet, Packets, append_creator, append_recoveries,
-    append_recovery, digest_recoveries, file_id, read_desc, read_ifsc, read_main, read_recovery,
-    sort_ids, with_undigested,
+    DescView, DuplicateId, FileRecord, Kind, Packet, Packets, append_creator, append_recovery,
+    digest_recoveries, file_id, read_desc, read_ifsc, read_main, read_recovery, sort_ids,
+    with_undigested,
 };
 use std::process::Abort;
 
@@ -251,32 +250,6 @@ fn written_index(rt: &(impl Abort + AllocGlobal), file: &FileRecord) -> Vec<u8> 
     text
 }
 
-fn add_recoveries(
-    rt: &(impl Abort + AllocGlobal),
-    out: &mut Vec<u8>,
-    id: &[u8; 16],
-    first: u32,
-    slices: &[Vec<u8>],
-)
-    requires { first + length slices.now ≤ 65536 }
-{
-    append_recoveries(rt.alloc(), out, id, first, slices).expect(rt, "memory");
-}
-
-// After the index of a set of this file the recovery slices from an exponent on.
-fn written_volume(
-    rt: &(impl Abort + AllocGlobal),
-    file: &FileRecord,
-    first: u32,
-    slices: &[&[u8]],
-) -> Vec<u8> {
-    let mut text = written_index(rt, file);
-    let lists = lists_of(rt, slices);
-    assert!(rt; first < 65536 && lists.len() <= 65536 - first as usize);
-    add_recoveries(rt, &mut text, &id_of(4, file), first, &lists);
-    text
-}
-
 fn add_recovery(
     rt: &(impl Abort + AllocGlobal),
     out: &mut Vec<u8>,
@@ -289,8 +262,8 @@ fn add_recovery(
     append_recovery(rt.alloc(), out, id, e, slice).expect(rt, "memory");
 }
 
-// The same volume, whose recovery slices are added one by one.
-fn written_one_by_one(
+// After the index of a set of this file the recovery slices from an exponent on.
+fn written_volume(
     rt: &(impl Abort + AllocGlobal),
     file: &FileRecord,
     first: u32,
@@ -327,15 +300,6 @@ fn volumes_are_written(rt: HostRuntime) {
             volume.len() == *len && volume == decoded(&rt, texts),
             "from {first}"
         );
-    }
-}
-
-#[test]
-fn volumes_are_written_one_by_one(rt: HostRuntime) {
-    let file = record_of_a(&rt);
-    for (first, slices, texts, _) in VOLUMES {
-        let volume = written_one_by_one(&rt, &file, *first, slices);
-        assert!(rt; volume == decoded(&rt, texts), "from {first}");
     }
 }
 

@@ -1,21 +1,18 @@
 -- The names that proofs of this crate take from elsewhere.
 
-pub use Rattle.std.proofs.Common.{Bor, Err, List, None, Ok, Option, Result, Some, [], add-one, ap, append-nil, append_assoc, ap₂, arith, below_more, drop, false, get_or, get_or-set_other, get_or-set_same, inl, inr, length, length-append, length-drop, length-set, map, min, nat_lt, refl, replicate, rules, slice_index, subst, suc, sym, take, true, zero, ℕ, ◌%◌, ◌*◌, ◌++◌, ◌+◌, ◌-◌, ◌/◌, ◌<◌, ◌^◌, ◌∙◌, ◌∷◌, ◌≡◌, ◌≢◌, ◌≤◌}
+pub use Rattle.std.proofs.Common.{Bor, List, None, Option, Some, [], add-one, ap, append-nil, append_assoc, ap₂, arith, below_more, drop, false, get_or, get_or-set_other, get_or-set_same, inl, inr, length, length-append, length-drop, length-set, map, min, nat_lt, refl, replicate, rules, slice_index, subst, suc, sym, take, true, zero, ℕ, ◌%◌, ◌*◌, ◌++◌, ◌+◌, ◌-◌, ◌/◌, ◌<◌, ◌^◌, ◌∙◌, ◌∷◌, ◌≡◌, ◌≢◌, ◌≤◌}
 pub use Rattle.std.proofs.Math.ListN.{set}
-pub use Rattle.std.proofs.Math.Seq.{take-add, take-append-add}
 pub use Rattle.std.proofs.lemmas.Bool.{cases_eq, cases_lt}
-pub use Rattle.std.proofs.lemmas.Grind.{and-not_self, flat_map-append}
-pub use Rattle.std.proofs.lemmas.List.{drop-append-le, drop-drop, drop-replicate, drop-take, drop_all, drop_at, get_or-append_right, get_or-drop, get_or-map, get_or-take, get_or_append_left, get_or_default, get_or_push, length-map, length-replicate, length-take-le, length_push, map-append, set_at, take-append-drop, take-append-le, take-replicate, take-take, take_all}
+pub use Rattle.std.proofs.lemmas.List.{drop-append-le, drop-drop, drop-take, drop_all, drop_at, get_or-append_right, get_or-drop, get_or-map, get_or-take, get_or_append_left, get_or_default, get_or_push, length-map, length-replicate, length-take-le, length_push, map-append, map_more, take-append-drop, take-append-le, take-replicate, take-take, take_all}
 pub use Rattle.std.proofs.lemmas.Nat.{and_assoc, and_comm, from_le_bytes-to_le_bytes_4, or_disjoint}
 pub use Rattle.std.proofs.lemmas.Simd.{Each1-get_or, below_from_Fits, get_or-replicate, get_or-zip2, length-zip2, shifts_fit_splat}
 pub use Rattle.std.specs.Int.{bit_not, to_le_bytes, w32, w64}
-pub use Rattle.std.specs.Prelude.{OnOk, bit_and, bit_or, bit_xor, if◌then◌else◌, is_ok, slice_index_or, slice_set}
+pub use Rattle.std.specs.Prelude.{bit_and, bit_or, bit_xor, slice_index_or}
 pub use Rattle.md5.specs.Md5.{add32, add_state, block_words, digest_bytes, f_fn, g_fn, h_fn, hash_after, i_fn, md5, padded_message, padding, round, rounds, step_constants, step_fn, step_shifts, word_at, word_place}
-pub use Rattle.par2_digests.specs.Digests.{digest_at}
 pub use Rattle.par2_digests.specs.Feeds.{bytes_left, hash_behind}
 pub use Rattle.par2_digests.specs.Lanes.{AreOfFour, four_words_at, lane, lane_words}
 pub use Rattle.par2_digests.specs.Messages.{HasAbsorbed, message_of, part_bytes}
-pub use Rattle.par2_digests.specs.Pendings.{ArePadded, IsPadded, bytes_to_absorb}
+pub use Rattle.par2_digests.specs.Pendings.{TakeAll, TakesAll, bytes_to_absorb}
 pub use Rattle.par2_digests.specs.Tails.{tail_len, tail_of}
 pub use Rattle.par2_digests.specs.Tasks.{HasBlocks, HasTaken, HaveBlocks, LeadOn, LeadsTo, LeadsWith, work, work_of, works}
 pub use Rattle.par2_digests.specs.Texts.{texts_of}

@@ -1,5 +1,5 @@
--- Hash values as bytes, read back word by word, and padded messages one after the other.
-use Rattle.par2_digests.proofs.Common.{◌≡◌, ℕ, zero, suc, ◌+◌, ◌<◌, ◌≤◌, ◌^◌, List, [], ◌∷◌, ◌++◌, get_or, length, take, drop, slice_index, inl, inr, subst, sym, ap, ◌∙◌, arith, cases_lt, get_or_append_left, get_or_push, length_push, from_le_bytes-to_le_bytes_4, word_at, four_words_at, ArePadded, IsPadded, Pending}
+-- Hash values as bytes, read back word by word, and texts one after the other.
+use Rattle.par2_digests.proofs.Common.{◌≡◌, ℕ, zero, suc, ◌+◌, ◌<◌, ◌≤◌, ◌^◌, List, [], ◌∷◌, ◌++◌, get_or, length, take, drop, slice_index, inl, inr, subst, sym, ap, ◌∙◌, arith, cases_lt, get_or_append_left, get_or_push, length_push, from_le_bytes-to_le_bytes_4, word_at, four_words_at, TakeAll, TakesAll, Pending}
 use Rattle.md5.specs.Md5.{compress, digest_bytes, hash_after}
 use Rattle.par2_digests.proofs.BlockLaws.{word_in_text}
 use Rattle.par2_digests.proofs.FeedLaws.{four_words}
@@ -47,15 +47,15 @@ hash_in_text text hash p words at n here is words_are =
     ∷ (place (at + 0 + 12) 12 (omega arith) ∙ read 12 (omega arith) ∙ fourth_word hash fit) k ∷ [])
     ∙ four_words hash p n is
 
--- a padded message more after others
-pub padded_more : (pendings new : List Pending) (pending : Pending) (text : ℕ → List ℕ) → new ≡ pendings ++ pending ∷ [] → ArePadded pendings text
-    → IsPadded pending (text (length pendings)) → ArePadded new text
-padded_more pendings new pending text pushed before its = λ k none low.
-    let here = λ (one : Pending) (is : get_or new k none ≡ one) (held : IsPadded one (text k)). subst (λ (p : Pending). IsPadded p (text k)) (sym is) held in
+-- a text more after others
+pub takes_more : (pendings new : List Pending) (pending : Pending) (text : ℕ → List ℕ) → new ≡ pendings ++ pending ∷ [] → TakeAll pendings text
+    → TakesAll pending (text (length pendings)) → TakeAll new text
+takes_more pendings new pending text pushed before its = λ k none low.
+    let here = λ (one : Pending) (is : get_or new k none ≡ one) (held : TakesAll one (text k)). subst (λ (p : Pending). TakesAll p (text k)) (sym is) held in
     let there = ap (λ (all : List Pending). get_or all k none) pushed in
     elim (cases_lt k (length pendings)) [
       | inl early ↦ here (get_or pendings k none) (there ∙ get_or_append_left pendings (pending ∷ []) none k early) (before k none early)
       | inr late ↦
           let place : length pendings ≡ k = omega (arith, late, low, ap length pushed, length_push pendings pending) in
-          here pending (there ∙ get_or_push pendings pending none k place) (subst (λ (i : ℕ). IsPadded pending (text i)) place its)
+          here pending (there ∙ get_or_push pendings pending none k place) (subst (λ (i : ℕ). TakesAll pending (text i)) place its)
     ]

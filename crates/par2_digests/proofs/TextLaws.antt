@@ -1,14 +1,6 @@
 -- Texts and their digests.
-use Rattle.par2_digests.proofs.Common.{◌≡◌, ℕ, suc, ◌+◌, ◌<◌, ◌≤◌, List, [], ◌∷◌, ◌++◌, Bor, length, map, take, drop, get_or, refl, ap, sym, ◌∙◌, arith, take-add, map-append, md5, digest_at, texts_of}
-
--- the first digests are those of the texts
-pub first_digests : (texts digests : List (List ℕ)) → length texts ≤ length digests → ((k : ℕ) → k < length texts → digest_at digests k ≡ md5 (get_or texts k []))
-    → take (length texts) digests ≡ map md5 texts
-first_digests [] digests enough each = refl
-first_digests (t ∷ texts) [] enough each = absurd (omega (arith, enough))
-first_digests (t ∷ texts) (d ∷ digests) enough each =
-    ap (λ x. x ∷ take (length texts) digests) (each 0 (omega arith))
-    ∙ ap (λ l. md5 t ∷ l) (first_digests texts digests (omega (arith, enough)) (λ k lt. each (suc k) (omega (arith, lt))))
+use Rattle.par2_digests.proofs.Common.{◌≡◌, ℕ, ◌+◌, List, [], ◌++◌, Bor, map, take, drop, ap, sym, ◌∙◌, map-append, md5, texts_of}
+use Rattle.std.proofs.Math.Seq.{take-add}
 
 -- some texts more
 pub texts_more : (texts : List (Bor (List ℕ))) (digests new : List (List ℕ)) (a first n b : ℕ) → digests ≡ map md5 (texts_of (take a texts))

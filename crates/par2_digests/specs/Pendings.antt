@@ -1,6 +1,5 @@
 -- States with parts that they absorb next.
-use Rattle.std.specs.Prelude.{◌≡◌, ◌<◌, ℕ, ◌%◌, List, ◌++◌, None, get_or, length, slice_index_or, take}
-use Rattle.md5.specs.Md5.{padded_message}
+use Rattle.std.specs.Prelude.{◌≡◌, ◌<◌, ℕ, ◌%◌, List, [], ◌++◌, None, get_or, length, slice_index_or, take}
 use Rattle.par2_digests.specs.Feeds.{bytes_left}
 use Rattle.par2_digests.specs.Messages.{HasAbsorbed, message_of}
 use Rattle.par2_digests.specs.declared.midstate.Midstate.{Midstate}
@@ -15,20 +14,16 @@ bytes_to_absorb pending = take (pending.state.length % 64) pending.state.rest ++
 abbrev pub IsBegun : Pending → Task → Type 0
 IsBegun pending task = (task.hash ≡ None) × (bytes_left task.feed ≡ bytes_to_absorb pending)
 
--- after its parts the state has absorbed the text
-abbrev pub Reaches : Pending → List ℕ → Type 0
-Reaches pending text = (m : List ℕ) × (HasAbsorbed pending.state m × (m ++ message_of pending.parts.items ≡ text))
-
 -- each state is the pending one at its place after its parts
 abbrev pub Absorb : List Pending → List Midstate → Type 0
 Absorb pendings states =
     (k : ℕ) (m : List ℕ) (none : Pending) (no_state : Midstate) → k < length pendings
     → let pending = get_or pendings k none in HasAbsorbed pending.state m → HasAbsorbed (get_or states k no_state) (m ++ message_of pending.parts.items)
 
--- after its parts the state has absorbed the text and its padding
-abbrev pub IsPadded : Pending → List ℕ → Type 0
-IsPadded pending text = Reaches pending (padded_message text)
+-- the state is before the first byte of the text, which its parts are
+abbrev pub TakesAll : Pending → List ℕ → Type 0
+TakesAll pending text = HasAbsorbed pending.state [] × (message_of pending.parts.items ≡ text)
 
--- each has the text of its place, and its padding
-abbrev pub ArePadded : List Pending → (ℕ → List ℕ) → Type 0
-ArePadded pendings text = (k : ℕ) (none : Pending) → k < length pendings → IsPadded (slice_index_or pendings k none) (text k)
+-- each takes the text of its place
+abbrev pub TakeAll : List Pending → (ℕ → List ℕ) → Type 0
+TakeAll pendings text = (k : ℕ) (none : Pending) → k < length pendings → TakesAll (slice_index_or pendings k none) (text k)

@@ -20,7 +20,7 @@ mod tasks;
 use blocks::absorbed;
 pub use midstate::{Midstate, Part};
 use padding::{tail_blocks, tails_of_windows};
-pub use pending::{Pending, absorb_each, digest_each, text_digests};
+pub use pending::{Pending, absorb_each, text_digests};
 use std::simd::prelude::*;
 use steps::{State, in_each_lane};
 

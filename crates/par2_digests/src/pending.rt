@@ -1,13 +1,11 @@
-//! States that absorb parts of their own, side by side; where these end with the padding, their digests. Texts, as many
-//! as there are, eight side by side.
+//! States that absorb parts of their own, side by side. The digests of texts, as many as there are, eight side by side.
 
 ghost use Rattle.std.specs.Prelude.{◌≡◌, ◌≤◌, ◌<◌, ◌++◌, [], None, ℕ, List, length, get_or, map, slice_index_or, IfOk, OnOk};
-ghost use Rattle.md5.specs.Md5.{digest_bytes, md5};
-ghost use Rattle.par2_digests.specs.Digests.{digest_at};
+ghost use Rattle.md5.specs.Md5.{md5};
 ghost use Rattle.par2_digests.specs.Feeds.{bytes_left};
 ghost use Rattle.par2_digests.specs.Lanes.{lane};
 ghost use Rattle.par2_digests.specs.Messages.{HasAbsorbed, message_of};
-ghost use Rattle.par2_digests.specs.Pendings.{bytes_to_absorb, Absorb, ArePadded, IsBegun, IsPadded};
+ghost use Rattle.par2_digests.specs.Pendings.{bytes_to_absorb, Absorb, IsBegun, TakeAll};
 ghost use Rattle.par2_digests.specs.Tasks.{HasTaken};
 ghost use Rattle.par2_digests.specs.Texts.{texts_of};
 ghost use Rattle.par2_digests.specs.declared.midstate.Midstate.{Midstate};
@@ -15,7 +13,7 @@ ghost use Rattle.par2_digests.specs.declared.pending.Pending.{Pending};
 
 use crate::feeds::Feed;
 use crate::lanes::Lanes;
-use crate::midstate::{Midstate, Part, ending, length_of};
+use crate::midstate::{Midstate, Part, length_of};
 use crate::steps::{State, Words};
 use crate::tasks::{Task, finish_all};
 use crate::{LANES, digest_of};
@@ -27,24 +25,6 @@ use std::simd::prelude::*;
 pub struct Pending<'a> {
     pub state: Midstate,
     pub parts: Vec<Part<'a>>,
-}
-
-impl<'a> Pending<'a> {
-    /// The state with the parts and the padding of the whole message, so that [`digest_each`] finds its digest.
-    pub fn padded(
-        alloc: Global,
-        state: Midstate,
-        parts: &[Part<'a>],
-    ) -> Result<Pending<'a>, AllocError>
-        ensures { (m : List ℕ) → HasAbsorbed state m
-            → IfOk result (λ pending. IsPadded pending (m ++ message_of parts.now)) }
-    {
-        let length = state.length.wrapping_add(length_of(parts));
-        let mut all = Vec::with_capacity(alloc, parts.len() + 2)?;
-        all.extend_from_slice(parts)?;
-        all.extend_from_slice(&ending(length))?;
-        Ok(Pending { state, parts: all })
-    }
 }
 
 // The room for a hash value.
@@ -168,40 +148,22 @@ pub fn absorb_each(pendings: &[Pending]) -> [Midstate; LANES]
     }
 }
 
-// The hash values as digests, low byte first.
-fn hash_bytes(states: &[Midstate; LANES]) -> [[u8; 16]; LANES]
-    ensures { (k : ℕ) (none : Midstate) → k < 8
-        → digest_at result k ≡ digest_bytes (get_or states.now k none).hash 4 }
+// The texts as what states before the first byte absorb.
+fn pendings_of<'a>(alloc: Global, texts: &[&'a [u8]]) -> Result<Vec<Pending<'a>>, AllocError>
+    ensures count { IfOk result (λ pendings. length pendings.items ≡ length texts.now) }
+    ensures each { IfOk result (λ pendings.
+        TakeAll pendings.items (λ k. slice_index_or (texts_of texts.now) k [])) }
 {
-    let mut digests = [[0; 16]; LANES];
-    for (k, state) in states.iter().enumerate() {
-        digests[k] = digest_of(state.hash);
-    }
-    digests
-}
-
-/// The MD5 digests of padded messages; eight at most.
-pub fn digest_each(pendings: &[Pending]) -> [[u8; 16]; LANES]
-    requires few { length pendings.now ≤ 8 }
-    ensures { (text : ℕ → List ℕ) → ArePadded pendings.now text
-        → (k : ℕ) → k < length pendings.now → digest_at result k ≡ md5 (text k) }
-{
-    hash_bytes(&absorb_each(pendings))
-}
-
-fn padded_texts<'a>(alloc: Global, texts: &[&'a [u8]]) -> Result<Vec<Pending<'a>>, AllocError>
-    ensures count { IfOk result (λ messages. length messages.items ≡ length texts.now) }
-    ensures each { IfOk result (λ messages.
-        ArePadded messages.items (λ k. slice_index_or (texts_of texts.now) k [])) }
-{
-    let mut messages = Vec::with_capacity(alloc, texts.len())?;
+    let mut pendings = Vec::with_capacity(alloc, texts.len())?;
     for i in 0..texts.len() {
-        messages.push(Pending::padded(alloc, Midstate::new(), &[Part::Bytes(texts[i])])?)?;
+        let parts = Vec::from_slice(alloc, &[Part::Bytes(texts[i])])?;
+        let state = Midstate::new();
+        pendings.push(Pending { state, parts })?;
     }
-    Ok(messages)
+    Ok(pendings)
 }
 
-// Adds the digests of eight texts at most.
+// Adds the digests of eight texts at most. The padding of each is absorbed by itself, a block or two.
 fn push_digests(
     alloc: Global,
     digests: &mut Vec<[u8; 16]>,
@@ -210,9 +172,12 @@ fn push_digests(
     requires { length texts.now ≤ 8 }
     ensures { OnOk result (digests.new.items ≡ digests.old.items ++ map md5 (texts_of texts.now)) }
 {
-    let messages = padded_texts(alloc, texts)?;
-    let added = digest_each(&messages);
-    digests.extend_from_slice(&added[..messages.len()])
+    let pendings = pendings_of(alloc, texts)?;
+    let states = absorb_each(&pendings);
+    for k in 0..texts.len() {
+        digests.push(states[k].digest())?;
+    }
+    Ok(())
 }
 
 /// The MD5 digests of the texts.

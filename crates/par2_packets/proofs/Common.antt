@@ -1,30 +1,25 @@
 -- The names that proofs of this crate take from elsewhere.
 
-pub use Rattle.std.proofs.Common.{Bool, Global, List, Some, Vec, [], ap, append-nil, append_assoc, ap₂, arith, below_more, drop, eqb, false, get_or, get_or-set_other, get_or-set_same, inl, inr, leb, length, length-append, length-set, map, min, mul-le-mul_right, refl, replicate, rules, slice_get, slice_index, subst, suc, sym, take, true, zero, ℕ, ◌%◌, ◌&&◌, ◌*◌, ◌++◌, ◌+◌, ◌-◌, ◌/◌, ◌<◌, ◌==◌, ◌∙◌, ◌∷◌, ◌≡◌, ◌≢◌, ◌≤◌}
-pub use Rattle.std.proofs.Math.Seq.{drop-length, take-add, take-append_seam}
+pub use Rattle.std.proofs.Common.{Bool, List, Some, [], ap, append-nil, append_assoc, ap₂, arith, drop, eqb, false, get_or, inl, inr, leb, length, length-append, map, min, mul-le-mul_right, refl, replicate, rules, slice_get, slice_index, subst, suc, sym, take, true, zero, ℕ, ◌%◌, ◌&&◌, ◌*◌, ◌++◌, ◌+◌, ◌-◌, ◌/◌, ◌<◌, ◌==◌, ◌∙◌, ◌∷◌, ◌≡◌, ◌≢◌, ◌≤◌}
 pub use Rattle.std.proofs.lemmas.Bool.{and_parts, cases_lt, cond_above, cond_below, false_from_ne_true, leb-true}
 pub use Rattle.std.proofs.lemmas.Grind.{common_steps, flat_map-append}
-pub use Rattle.std.proofs.lemmas.List.{drop-append-le, drop-drop, drop-map, drop-take, flat_map_more, get_or-map, get_or_append_left, get_or_default, get_or_push, length-drop, length-map, length-replicate, length-take-le, length_push, map-append, take-append-le, take-map, take-take, take_all, take_at, take_more}
+pub use Rattle.std.proofs.lemmas.List.{drop-append-le, drop-drop, drop-take, flat_map_more, get_or-map, get_or_default, length-drop, length-map, length-replicate, length-take-le, map-append, take-append-le, take-take, take_all, take_at, take_more}
 pub use Rattle.std.proofs.lemmas.List.FromFn.{get_or-map-range_with_len, length-map-range_with_len, map-range_with_len_more}
 pub use Rattle.std.proofs.lemmas.List.Sorted.{IsNonDecreasingBy-from_sort_by_key, IsPermutation-map, IsPermutation-sym, all_adjacent_more}
 pub use Rattle.std.proofs.lemmas.Result.{IfOk-weaker, on_ok_weaker}
 pub use Rattle.std.proofs.lemmas.Slice.Eq.{bytes_eq-Decides}
 pub use Rattle.std.specs.Int.{from_le_bytes, to_le_bytes, w128, w32, w64}
-pub use Rattle.std.specs.List.{AllAdjacentBelow, AllPairs, IsDistinct, enumerate_from, range_with_len, suffix_len}
-pub use Rattle.std.specs.Prelude.{IfOk, flat_map}
+pub use Rattle.std.specs.List.{AllAdjacentBelow, AllPairs, IsDistinct, range_with_len, suffix_len}
+pub use Rattle.std.specs.Prelude.{flat_map}
 pub use Rattle.std.specs.Str.{bytes_eq}
 pub use Rattle.md5.specs.Md5.{Holds, md5}
-pub use Rattle.par2_digests.specs.Pendings.{ArePadded, IsPadded}
 pub use Rattle.par2_digests.specs.Texts.{texts_of}
 pub use Rattle.par2_packets.specs.Cursors.{rest_of}
 pub use Rattle.par2_packets.specs.Pieces.{ArePieces, changed_below, overwritten}
-pub use Rattle.par2_packets.specs.Recoveries.{AreDigested, digest_put, digested, packets_from, recovery_packet, undigested}
-pub use Rattle.par2_packets.specs.Views.{file_record_of, id_number}
+pub use Rattle.par2_packets.specs.Recoveries.{AreDigested, digest_put, digested, recovery_packet, undigested}
+pub use Rattle.par2_packets.specs.Views.{file_record_of, id_number, packet_of}
 pub use Rattle.par2_packets.specs.declared.record.FileRecord.{FileRecord}
 pub use Rattle.par2_spec.proofs.ListsLaws.{increasing, range-append}
-pub use Rattle.par2_spec.proofs.WordLaws.{read_at}
 pub use Rattle.par2_spec.specs.Checksums.{Pair}
-pub use Rattle.par2_spec.specs.Packets.{DescBody, IfscBody, MainBody, Packet, accepted, bytes_at, claimed_length, digest_input, items_at, magic, packet, type_of, u32_at, without_end_zeros}
-pub use Rattle.par2_spec.specs.Sums.{lists_of}
-pub use Rattle.par2_spec.specs.Volumes.{packet_of, pair_bytes, recovery_bytes}
+pub use Rattle.par2_spec.specs.Packets.{DescBody, IfscBody, MainBody, Packet, accepted, bytes_at, claimed_length, digest_input, items_at, magic, type_of, u32_at, without_end_zeros}
 pub use Rattle.par2_spec.specs.declared.Kind.TheVariants.{Recovery}

@@ -1,5 +1,6 @@
 -- Going over a text from packet to packet.
-use Rattle.par2_packets.proofs.Common.{◌≡◌, ℕ, zero, suc, ◌-◌, ◌+◌, ◌≤◌, ◌<◌, ◌%◌, Bool, true, false, leb, eqb, ◌&&◌, List, [], ◌∷◌, length, drop, refl, sym, ap, subst, ◌∙◌, arith, bytes_eq, leb-true, and_parts, false_from_ne_true, length-take-le, length-drop, drop-drop, drop-length, bytes_eq-Decides, md5, Packet, bytes_at, magic, claimed_length, accepted}
+use Rattle.par2_packets.proofs.Common.{◌≡◌, ℕ, zero, suc, ◌-◌, ◌+◌, ◌≤◌, ◌<◌, ◌%◌, Bool, true, false, leb, eqb, ◌&&◌, List, [], ◌∷◌, length, drop, refl, sym, ap, subst, ◌∙◌, arith, bytes_eq, leb-true, and_parts, false_from_ne_true, length-take-le, length-drop, drop-drop, bytes_eq-Decides, md5, Packet, bytes_at, magic, claimed_length, accepted}
+use Rattle.std.proofs.Math.Seq.{drop-length}
 use Rattle.memchr.specs.Find.{OccursAt, NoneBefore, Nowhere}
 use Rattle.memchr.proofs.lemmas.MatchLemmas.{OccursAt-from_part}
 use Rattle.par2_spec.specs.Packets.{begins_with_packet, first_packet, accepted_after}
@@ -20,6 +21,10 @@ claim_bounds text h =
     let p = fourth_and_fifth (leb 64 (length text)) (bytes_eq (bytes_at 0 8 text) magic) (eqb (claimed_length text % 4) 0) (leb 64 (claimed_length text)) (leb (claimed_length text) (length text))
     (bytes_eq (md5 (bytes_at 32 (claimed_length text - 32) text)) (bytes_at 16 16 text)) h in
     (leb-true 64 (claimed_length text) p.0, leb-true (claimed_length text) (length text) p.1)
+
+-- what stands at a cursor that was looked at begins with a packet
+pub front : (here now old : List ℕ) (begins : Bool) → here ≡ now → now ≡ old → begins ≡ begins_with_packet old → begins ≡ true → begins_with_packet here ≡ true
+front here now old begins is kept said holds = ap begins_with_packet (is ∙ kept) ∙ sym said ∙ holds
 
 pub body_length : (text : List ℕ) (p : Packet) → begins_with_packet text ≡ true → p ≡ first_packet text → 64 + length p.body ≡ claimed_length text
 unfolding first_packet

@@ -1,5 +1,5 @@
 -- Pieces of equal length, one after the other: which bytes are those of a piece, and what is written into one.
-use Rattle.par2_packets.proofs.Common.{◌≡◌, ◌≢◌, ℕ, zero, suc, ◌+◌, ◌-◌, ◌*◌, ◌<◌, ◌≤◌, List, [], ◌∷◌, ◌++◌, length, take, drop, inl, inr, refl, sym, ap, ap₂, ◌∙◌, subst, arith, append_assoc, length-append, mul-le-mul_right, flat_map, range_with_len, flat_map-append, cases_lt, cond_below, cond_above, take-append-le, drop-append-le, take_at, length-take-le, length-drop, flat_map_more, bytes_at, range-append, overwritten, ArePieces, changed_below}
+use Rattle.par2_packets.proofs.Common.{◌≡◌, ◌≢◌, ℕ, zero, suc, ◌+◌, ◌-◌, ◌*◌, ◌<◌, ◌≤◌, List, [], ◌∷◌, ◌++◌, length, take, drop, inl, inr, refl, sym, ap, ap₂, ◌∙◌, subst, arith, append_assoc, length-append, mul-le-mul_right, flat_map, range_with_len, cases_lt, cond_below, cond_above, take-append-le, drop-append-le, take_at, length-take-le, length-drop, flat_map_more, bytes_at, range-append, overwritten, ArePieces, changed_below}
 
 -- ---- what is written into one of two texts
 
@@ -138,24 +138,3 @@ pub room_for : (first k n m : ℕ) → k < n → (first + k) * m + m ≤ (first 
 room_for first k n m low = let e = mul-le-mul_right m (let f : (first + k) + 1 ≤ first + n = omega (arith, low) in f) in omega (arith, e)
 
 -- ---- some of the pieces
-
--- the text of some pieces is a part of the text of all
-pub pieces_between : (m : ℕ) (f : ℕ → List ℕ) → ((k : ℕ) → length (f k) ≡ m) → (e n a b place size : ℕ) → a + b ≤ n → place ≡ a * m → size ≡ b * m
-    → take size (drop place (flat_map f (range_with_len e n))) ≡ flat_map f (range_with_len (e + a) b)
-pieces_between m f sizes e n a b place size within there long =
-    let c : ℕ = n - (a + b) in
-    let before = flat_map f (range_with_len e a) in
-    let here = flat_map f (range_with_len (e + a) b) in
-    let after = flat_map f (range_with_len (e + a + b) c) in
-    let parts : flat_map f (range_with_len e n) ≡ before ++ (here ++ after) =
-    ap (λ k. flat_map f (range_with_len e k)) (let whole : n ≡ a + (b + c) = omega (arith, within) in whole)
-    ∙ ap (flat_map f) (range-append e a (b + c)) ∙ flat_map-append f (range_with_len e a) (range_with_len (e + a) (b + c))
-    ∙ ap (λ (xs : List ℕ). before ++ xs) (ap (flat_map f) (range-append (e + a) b c) ∙ flat_map-append f (range_with_len (e + a) b) (range_with_len (e + a + b) c)) in
-    ap (λ (xs : List ℕ). take size (drop place xs)) parts
-    ∙ ap (take size) (drop_behind place 0 before (here ++ after) (let e₁ = length-pieces m f sizes e a in omega (arith, there, e₁)))
-    ∙ take_at here after size (length-pieces m f sizes (e + a) b ∙ sym long)
-
--- pieces that are counted from another number on
-pub pieces_moved : (f : ℕ → List ℕ) (d e j n : ℕ) → j ≡ d + e → flat_map f (range_with_len j n) ≡ flat_map (λ k. f (d + k)) (range_with_len e n)
-pieces_moved f d e j zero is = refl
-pieces_moved f d e j (suc n) is = ap₂ (λ (a b : List ℕ). a ++ b) (ap f is) (pieces_moved f d (e + 1) (j + 1) n (omega (arith, is)))

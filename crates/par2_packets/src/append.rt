@@ -14,31 +14,6 @@ use md5::{Digest, Md5};
 use par2_spec::Kind;
 use std::alloc::{AllocError, Global};
 
-/// The packet whose body is given in two parts, and whose digest is known.
-pub fn append_digested(
-    out: &mut Vec<u8>,
-    digest: &[u8; 16],
-    set_id: &[u8; 16],
-    kind: Kind,
-    head: &[u8],
-    tail: &[u8],
-) -> Result<(), AllocError>
-    requires fits { 64 + length head.now + length tail.now ≤ usize.MAX }
-    requires digest { let added = packet_of set_id.now kind (head.now ++ tail.now) in
-        digest.now ≡ md5 (digest_input added) }
-    ensures ok { let added = packet_of set_id.now kind (head.now ++ tail.now) in
-        OnOk result (out.new.items ≡ out.old.items ++ packet added) }
-    ensures err { OnErr result (out.new.items ≡ out.old.items) }
-{
-    let len = 64 + head.len() + tail.len();
-    out.reserve(len)?;
-    out.extend_from_slice(b"PAR2\0PKT")?;
-    out.extend_from_slice(&u64_bytes(len as u64))?;
-    out.extend_from_slice([*digest, *set_id, type_of(kind)].as_flattened())?;
-    out.extend_from_slice(head)?;
-    out.extend_from_slice(tail)
-}
-
 // The packet whose body is given in two parts.
 fn append_packet(
     out: &mut Vec<u8>,
@@ -57,14 +32,13 @@ fn append_packet(
     hasher.update(&type_of(kind));
     hasher.update(head);
     hasher.update(tail);
-    append_digested(out, &hasher.finalize(), set_id, kind, head, tail)
-}
-
-// How many zeros bring this many bytes to a multiple of 4.
-fn padding(len: usize) -> usize
-    ensures { result ≡ (4 - len % 4) % 4 }
-{
-    (4 - len % 4) % 4
+    let len = 64 + head.len() + tail.len();
+    out.reserve(len)?;
+    out.extend_from_slice(b"PAR2\0PKT")?;
+    out.extend_from_slice(&u64_bytes(len as u64))?;
+    out.extend_from_slice([hasher.finalize(), *set_id, type_of(kind)].as_flattened())?;
+    out.extend_from_slice(head)?;
+    out.extend_from_slice(tail)
 }
 
 // The text and zeros up to a multiple of 4, after what is there.
@@ -72,40 +46,7 @@ fn append_padded(out: &mut Vec<u8>, text: &[u8]) -> Result<(), AllocError>
     ensures { OnOk result (out.new.items ≡ out.old.items ++ padded_4 text.now) }
 {
     out.extend_from_slice(text)?;
-    out.resize(out.len() + padding(text.len()), 0)
-}
-
-fn main_body(alloc: Global, s: u64, files: &[FileRecord]) -> Result<Vec<u8>, AllocError>
-    requires { length files.now ≤ 32768 }
-    ensures { IfOk result (λ body. body.items ≡ main_bytes s (map file_record_of files.now)) }
-{
-    let mut body = Vec::from_slice(alloc, &u64_bytes(s))?;
-    body.extend_from_slice(&u32_bytes(files.len() as u32))?;
-    for file in files {
-        body.extend_from_slice(&file.id)?;
-    }
-    Ok(body)
-}
-
-fn desc_body(alloc: Global, file: &FileRecord) -> Result<Vec<u8>, AllocError>
-    ensures { IfOk result (λ body. body.items ≡ desc_bytes (file_record_of file.now)) }
-{
-    let ids = [file.id, file.md5, file.md5_16k];
-    let mut body = Vec::from_slice(alloc, ids.as_flattened())?;
-    body.extend_from_slice(&u64_bytes(file.length))?;
-    append_padded(&mut body, file.name.as_bytes())?;
-    Ok(body)
-}
-
-fn ifsc_body(alloc: Global, file: &FileRecord) -> Result<Vec<u8>, AllocError>
-    ensures { IfOk result (λ body. body.items ≡ ifsc_bytes (file_record_of file.now)) }
-{
-    let mut body = Vec::from_slice(alloc, &file.id)?;
-    for (md5, crc) in &file.pairs {
-        body.extend_from_slice(md5)?;
-        body.extend_from_slice(&u32_bytes(*crc))?;
-    }
-    Ok(body)
+    out.resize(out.len() + (4 - text.len() % 4) % 4, 0)
 }
 
 /// Adds the Main of a set of these files, whose order it keeps.
@@ -121,7 +62,11 @@ pub fn append_main(
         Appends (packet main) out.old out.new result }
     ensures err { OnErr result (out.new.items ≡ out.old.items) }
 {
-    let body = main_body(alloc, s, files)?;
+    let mut body = Vec::from_slice(alloc, &u64_bytes(s))?;
+    body.extend_from_slice(&u32_bytes(files.len() as u32))?;
+    for file in files {
+        body.extend_from_slice(&file.id)?;
+    }
     append_packet(out, &Md5::digest(&body), Kind::Main, &body, &[])
 }
 
@@ -136,7 +81,10 @@ pub fn append_desc(
         (file_record_of file.now)) in OnOk result (out.new.items ≡ out.old.items ++ packet added) }
     ensures err { OnErr result (out.new.items ≡ out.old.items) }
 {
-    let body = desc_body(alloc, file)?;
+    let ids = [file.id, file.md5, file.md5_16k];
+    let mut body = Vec::from_slice(alloc, ids.as_flattened())?;
+    body.extend_from_slice(&u64_bytes(file.length))?;
+    append_padded(&mut body, file.name.as_bytes())?;
     append_packet(out, set_id, Kind::FileDesc, &body, &[])
 }
 
@@ -151,7 +99,11 @@ pub fn append_ifsc(
         (file_record_of file.now)) in OnOk result (out.new.items ≡ out.old.items ++ packet added) }
     ensures err { OnErr result (out.new.items ≡ out.old.items) }
 {
-    let body = ifsc_body(alloc, file)?;
+    let mut body = Vec::from_slice(alloc, &file.id)?;
+    for (md5, crc) in &file.pairs {
+        body.extend_from_slice(md5)?;
+        body.extend_from_slice(&u32_bytes(*crc))?;
+    }
     append_packet(out, set_id, Kind::Ifsc, &body, &[])
 }
 
@@ -168,7 +120,7 @@ pub fn append_creator(
     append_packet(out, set_id, Kind::Creator, b"par2 undo profile 1", &[0])
 }
 
-/// Adds the recovery slice of exponent `e`. Several cost less by `append_recoveries`.
+/// Adds the recovery slice of exponent `e`. Several cost less by `with_undigested` and `digest_recoveries`.
 pub fn append_recovery(
     _alloc: Global,
     out: &mut Vec<u8>,

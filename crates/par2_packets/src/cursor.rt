@@ -99,15 +99,6 @@ struct Digested<'a> {
 }
 
 impl<'a> Digested<'a> {
-    fn of(bytes: &'a [u8]) -> Digested<'a>
-        ensures { result.bytes.now ≡ bytes.now }
-    {
-        Digested {
-            bytes,
-            digest: Md5::digest(bytes),
-        }
-    }
-
     // The digest, where these are the bytes.
     fn digest_of(&self, bytes: &[u8]) -> Option<[u8; 16]>
         ensures { IfSome result (λ digest. digest ≡ md5 bytes.now) }
@@ -193,14 +184,14 @@ impl<'a> Cursor<'a> {
         if let Some(digest) = self.longest.and_then(|longest| longest.digest_of(bytes)) {
             return digest;
         }
-        let digested = Digested::of(bytes);
+        let digest = Md5::digest(bytes);
         if self
             .longest
             .is_none_or(|longest| longest.bytes.len() < bytes.len())
         {
-            self.longest = Some(digested);
+            self.longest = Some(Digested { bytes, digest });
         }
-        digested.digest
+        digest
     }
 
     /// The digest of the packet of this length here, without the bytes in front of what is digested.

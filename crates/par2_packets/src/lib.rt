@@ -5,18 +5,14 @@ mod append;
 mod bytes;
 mod cursor;
 mod kind;
-mod order;
 mod record;
-mod recoveries;
 mod scan;
 mod undigested;
 mod views;
 
 pub use append::{append_creator, append_desc, append_ifsc, append_main, append_recovery};
-pub use order::{DuplicateId, sort_ids};
 pub use par2_spec::Kind;
-pub use record::{FileRecord, Pair, file_id, main_id};
-pub use recoveries::append_recoveries;
+pub use record::{DuplicateId, FileRecord, Pair, file_id, main_id, sort_ids};
 pub use scan::{Packet, Packets};
 pub use undigested::{digest_recoveries, with_undigested};
 pub use views::{

@@ -4,7 +4,6 @@
 ghost use Rattle.std.specs.Prelude.{◌≡◌, ◌≤◌, ◌+◌, ◌*◌, ◌++◌, ℕ, List, length, map, drop, flat_map, replicate, OnOk, IfOk};
 ghost use Rattle.std.specs.List.{range_with_len};
 ghost use Rattle.md5.specs.Md5.{md5};
-ghost use Rattle.par2_digests.specs.Texts.{texts_of};
 ghost use Rattle.par2_spec.specs.Answers.{Appends};
 ghost use Rattle.par2_spec.specs.Packets.{bytes_at};
 ghost use Rattle.par2_packets.specs.Pieces.{overwritten, ArePieces};
@@ -86,26 +85,6 @@ fn digest_input(packets: &[u8], len: usize, k: usize) -> &[u8]
     &packets[k * len + 32..(k + 1) * len]
 }
 
-// What the MD5 of each packet is taken of, from packet `first` on.
-fn digest_inputs<'a>(
-    alloc: Global,
-    packets: &'a [u8],
-    len: usize,
-    first: usize,
-    count: usize,
-) -> Result<Vec<&'a [u8]>, AllocError>
-    requires packets { (first + count) * len ≤ length packets.now }
-    requires head { 32 ≤ len }
-    ensures { IfOk result (λ inputs. texts_of inputs.items
-        ≡ map (λ k. drop 32 (bytes_at (k * len) len packets.now)) (range_with_len first count)) }
-{
-    let mut inputs = Vec::with_capacity(alloc, count)?;
-    for k in 0..count {
-        inputs.push(digest_input(packets, len, first + k))?;
-    }
-    Ok(inputs)
-}
-
 // The MD5s of packets, from packet `first` on.
 fn digests(
     alloc: Global,
@@ -119,7 +98,10 @@ fn digests(
     ensures { IfOk result (λ digests. digests.items ≡ map
         (λ k. md5 (drop 32 (bytes_at (k * len) len packets.now))) (range_with_len first count)) }
 {
-    let inputs = digest_inputs(alloc, packets, len, first, count)?;
+    let mut inputs = Vec::with_capacity(alloc, count)?;
+    for k in 0..count {
+        inputs.push(digest_input(packets, len, first + k))?;
+    }
     text_digests(alloc, &inputs)
 }
 
@@ -142,24 +124,6 @@ fn digest_group(
     Ok(())
 }
 
-// Puts the MD5 of each packet at its place.
-fn digest_packets(
-    alloc: Global,
-    packets: &mut [u8],
-    len: usize,
-    count: usize,
-) -> Result<(), AllocError>
-    requires packets { count * len ≤ length packets.old }
-    requires head { 32 ≤ len }
-    ensures { OnOk result (AreDigested len 0 count packets.old packets.new) }
-{
-    for group in 0..count.div_ceil(GROUP) {
-        let first = group * GROUP;
-        digest_group(alloc, packets, len, first, GROUP.min(count - first))?;
-    }
-    Ok(())
-}
-
 /// Puts the MD5 of each recovery packet at its place. The slices have `size` bytes.
 pub fn digest_recoveries(
     alloc: Global,
@@ -173,5 +137,9 @@ pub fn digest_recoveries(
         → ArePieces (68 + size) (λ e. undigested set_id e (slice e)) first count packets.old
         → ArePieces (68 + size) (λ e. digested set_id e (slice e)) first count packets.new) }
 {
-    digest_packets(alloc, packets, HEAD + size, count)
+    for group in 0..count.div_ceil(GROUP) {
+        let first = group * GROUP;
+        digest_group(alloc, packets, HEAD + size, first, GROUP.min(count - first))?;
+    }
+    Ok(())
 }

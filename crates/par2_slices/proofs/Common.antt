@@ -1,7 +1,7 @@
 -- The names that proofs of this crate take from elsewhere.
 
 pub use Rattle.std.proofs.Common.{Bool, Decides, List, [], ap, ap₂, arith, below_more, cond, drop, false, fold, get_or, get_or-set_other, get_or-set_same, inl, inr, length, length-set, map, min, not, refl, replicate, rules, set, subst, suc, sym, take, true, zero, zero-add, ℕ, ◌%◌, ◌&&◌, ◌*◌, ◌++◌, ◌+◌, ◌-◌, ◌/◌, ◌<◌, ◌^◌, ◌||◌, ◌∙◌, ◌∷◌, ◌≡◌, ◌≢◌, ◌≤◌}
-pub use Rattle.std.proofs.Math.Nat.{lt_of_not-le, mul-le-mul_right, mul_assoc, ne_of_lt, pow-suc, suc-ne-zero}
+pub use Rattle.std.proofs.Math.Nat.{div-mul-le_self, lt_of_not-le, mul-le-mul_right, mul_assoc, ne_of_lt, pow-suc, suc-ne-zero}
 pub use Rattle.std.proofs.Math.Seq.{drop-length, take-add}
 pub use Rattle.std.proofs.lemmas.Bool.{and_from, and_left, and_parts, and_right, cases_eq, cases_lt, eq-eqb, eqb-true, false_from_ne_true, false≢true, ne_eqb, not-false}
 pub use Rattle.std.proofs.lemmas.Bool.Decides.{same_from_decides}
@@ -24,6 +24,7 @@ pub use Rattle.std.specs.Prelude.{IfSome, None, Option, Some, bit_and, bit_or, b
 pub use Rattle.std.specs.Simd.{first_chunks}
 pub use Rattle.std.specs.Str.{bytes_eq}
 pub use Rattle.md5.specs.Md5.{Holds, md5}
+pub use Rattle.par2_digests.specs.Digests.{digest_at}
 pub use Rattle.par2_slices.specs.Filters.{AreAlike, Groups, Marks}
 pub use Rattle.par2_slices.specs.Intact.{HaveCrc32s, HaveMd5s}
 pub use Rattle.par2_slices.specs.Matching.{Describe, Describes, IsFirst, NumbersAreNames, first_intact, matched_from, matched_numbers, text_at, without}

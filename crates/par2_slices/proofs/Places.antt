@@ -7,9 +7,6 @@ place_of pairs i = record { crc = (pair_at pairs i).1; index = i }
 its_place : (pairs : List Pair) (i : ℕ) → i < length pairs → IsPlace pairs (place_of pairs i)
 its_place pairs i below = record { within = below; crc = refl }
 
-all_places : (pairs : List Pair) → List Place
-all_places pairs = map (place_of pairs) (range_with_len 0 (length pairs))
-
 place_i : (pairs : List Pair) (i : ℕ) (d : Place) → i < length pairs → get_or (map (place_of pairs) (range_with_len 0 (length pairs))) i d ≡ place_of pairs i
 place_i pairs i d below = get_or-map-range_with_len (place_of pairs) 0 (length pairs) i i d below (let e : 0 + i ≡ i = omega arith in e)
 

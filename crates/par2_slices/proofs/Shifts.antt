@@ -43,9 +43,6 @@ more_product n a b i m product is power product_is =
     ∙ sym (crc_steps-xor n (low * 2 ^ m) (bit * 0x80000000))
     ∙ ap (crc_steps n) (joined 31 bit (low * 2 ^ m) (low_part i m low (mod_below a (2 ^ i) (pow_pos i)) is) ∙ widened)
 
-pub last_product : (n a : ℕ) → a < 2 ^ 32 → steps n (a % 2 ^ 32 * 2 ^ 0) ≡ steps n a
-last_product n a below = ap (steps n) (let e : a % 2 ^ 32 * 1 ≡ a = omega arith in e)
-
 -- twice as many zeros
 pub squared : (n one p square : ℕ) → p ≡ steps n one → ((m : ℕ) → p ≡ steps m one → square ≡ steps m p) → square ≡ steps (n + n) one
 unfolding steps

@@ -7,7 +7,7 @@ ghost use Rattle.par2_spec.specs.Windows.{window};
 ghost use Rattle.par2_slices.specs.Searches.{candidate_at};
 
 use crate::cutting::window_bytes;
-use crate::digest::padded_md5;
+use crate::pairs::padded_md5;
 use par2_digests::{LANES, window_digests};
 
 /// Where a window begins: the number of its text among those that are searched, and its offset there.

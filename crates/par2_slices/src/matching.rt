@@ -1,16 +1,81 @@
-//! Which text is a target's match.
+//! Whether texts are those of targets, by their lengths and the checksums of their slices; which text is a target's match.
 
-ghost use Rattle.std.specs.Prelude.{◌≡◌, ◌≤◌, ◌<◌, ◌==◌, ℕ, List, All, IfOk, IfSome, length};
-ghost use Rattle.std.specs.List.{list_any, range_with_len};
+ghost use Rattle.std.specs.Prelude.{◌≡◌, ◌↔◌, ◌≤◌, ◌<◌, ◌+◌, ℕ, List, All, IfOk, IfSome, IsTrue, length};
+ghost use Rattle.std.specs.List.{range_with_len};
 ghost use Rattle.par2_spec.specs.Folders.{Folder};
-ghost use Rattle.par2_spec.specs.Search.{is_intact};
+ghost use Rattle.par2_spec.specs.Search as search;
 ghost use Rattle.par2_spec.specs.Sets as sets;
+ghost use Rattle.par2_spec.specs.Slices as slices;
+ghost use Rattle.par2_slices.specs.Intact.{HaveCrc32s, HaveMd5s};
 ghost use Rattle.par2_slices.specs.Matching.{AreFirst, Describe, Describes, IsFirst, NumbersAreNames, first_intact, matched_numbers, without};
 ghost use Rattle.par2_slices.specs.Texts.{texts_of};
 
-use crate::Pair;
-use crate::intact::{is_intact, slice_crc32};
+use crate::cutting::slice_count;
+use crate::pairs::{Pair, slice_crc32, slice_md5s};
+use par2_digests::LANES;
 use std::alloc::{AllocError, Global};
+
+/// Whether each pair has the CRC-32 of the slice of its number.
+fn have_crc32s(bytes: &[u8], s: u64, pairs: &[Pair]) -> bool
+    requires size { 1 ≤ s }
+    requires count { length pairs.now ≤ slices.slice_count s (length bytes.now) }
+    ensures { IsTrue result ↔ HaveCrc32s s bytes.now pairs.now }
+{
+    for (j, pair) in pairs.iter().enumerate() {
+        if slice_crc32(bytes, s, j as u64) != pair.1 {
+            return false;
+        }
+    }
+    true
+}
+
+/// Whether `count` pairs from pair `first` on, eight at most, have the MD5s of the slices of their numbers.
+fn group_has_md5s(bytes: &[u8], s: u64, pairs: &[Pair], first: usize, count: usize) -> bool
+    requires size { 1 ≤ s }
+    requires few { count ≤ 8 }
+    requires pairs { first + count ≤ length pairs.now }
+    requires slices { length pairs.now ≤ slices.slice_count s (length bytes.now) }
+    ensures { IsTrue result ↔ HaveMd5s s bytes.now pairs.now first (first + count) }
+{
+    let md5s = slice_md5s(bytes, s, first, count);
+    for lane in 0..count {
+        if md5s[lane] != pairs[first + lane].0 {
+            return false;
+        }
+    }
+    true
+}
+
+/// Whether each pair has the MD5 of the slice of its number.
+fn have_md5s(bytes: &[u8], s: u64, pairs: &[Pair]) -> bool
+    requires size { 1 ≤ s }
+    requires count { length pairs.now ≤ slices.slice_count s (length bytes.now) }
+    ensures { IsTrue result ↔ HaveMd5s s bytes.now pairs.now 0 (length pairs.now) }
+{
+    for group in 0..pairs.len().div_ceil(LANES) {
+        let first = group * LANES;
+        if !group_has_md5s(bytes, s, pairs, first, LANES.min(pairs.len() - first)) {
+            return false;
+        }
+    }
+    true
+}
+
+/// Whether the bytes are those of a target of this size and these pairs, by their length and the checksums of their
+/// slices.
+pub fn is_intact(bytes: &[u8], s: u64, size: u64, pairs: &[Pair]) -> bool
+    requires { 1 ≤ s }
+    ensures { (t : sets.Target) → t.length ≡ size → t.pairs ≡ pairs.now
+        → result ≡ search.is_intact s t bytes.now }
+{
+    if bytes.len() as u64 != size {
+        return false;
+    }
+    let count = pairs.len().min(slice_count(size, s) as usize);
+    let pairs = &pairs[..count];
+    // All CRC-32s come first: where bytes are damaged, one of them tells it before any MD5.
+    have_crc32s(bytes, s, pairs) && have_md5s(bytes, s, pairs)
+}
 
 /// A target, by the length of its file and the checksums of its slices.
 #[derive(Clone, Copy, Drop)]
@@ -26,19 +91,16 @@ fn numbers_below(alloc: Global, n: usize) -> Result<Vec<usize>, AllocError>
     (0..n).collect(alloc)
 }
 
-// Whether one of the targets has this length.
-fn has_length(targets: &[Target], length: u64) -> bool
-    ensures { result ≡ list_any (λ target. target.length == length) targets.now }
-{
-    targets.iter().any(|target| target.length == length)
-}
-
 // The CRC-32 of a text's first slice, where a target has the length of the text.
 fn first_crc32(text: &[u8], s: u64, targets: &[Target]) -> Option<u32>
     requires { 1 ≤ s }
     ensures { IfSome result (IsFirst s text.now) }
 {
-    if text.is_empty() || !has_length(targets, text.len() as u64) {
+    if text.is_empty()
+        || !targets
+            .iter()
+            .any(|target| target.length == text.len() as u64)
+    {
         return None;
     }
     Some(slice_crc32(text, s, 0))
@@ -66,7 +128,7 @@ fn first_crc32s(
 fn is_intact_by(text: &[u8], first: Option<u32>, s: u64, target: &Target) -> bool
     requires size { 1 ≤ s }
     requires first { IfSome first (IsFirst s text.now) }
-    ensures { (t : sets.Target) → Describes target.now t → result ≡ is_intact s t text.now }
+    ensures { (t : sets.Target) → Describes target.now t → result ≡ search.is_intact s t text.now }
 {
     if let Some(crc) = first {
         if !target.pairs.is_empty() && target.pairs[0].1 != crc {

@@ -1,17 +1,60 @@
 //! The checksums of the slices of a file, eight side by side.
 
-ghost use Rattle.std.specs.Prelude.{◌≡◌, ◌≤◌, ◌<◌, ◌+◌, ◌-◌, ◌*◌, ◌^◌, min, ℕ, IfOk, OnOk, length, map, slice_index};
-ghost use Rattle.md5.specs.Md5.{md5};
+ghost use Rattle.std.specs.Prelude.{◌≡◌, ◌≤◌, ◌<◌, ◌+◌, ◌-◌, ◌*◌, ◌^◌, ◌++◌, min, ℕ, IfOk, OnOk, length, map, slice_index};
+ghost use Rattle.md5.specs.Md5.{Holds, md5};
 ghost use Rattle.par2_digests.specs.Digests.{digest_at};
 ghost use Rattle.par2_spec.specs.Checksums as checksums;
-ghost use Rattle.par2_spec.specs.Slices.{slice_at, slices};
+ghost use Rattle.par2_spec.specs.Slices.{padded, slice_at, slice_count, slices};
 ghost use Rattle.par2_slices.specs.Pairs.{first_pairs};
 
-use crate::checksum::crc32;
-use crate::cutting::{slice_bytes, slice_count, window_bytes};
-use crate::wanted_pairs::{Pair, pair_of};
+use crate::checksum::{crc32, padded_crc32};
+use crate::cutting::{slice_bytes, slice_count};
+use md5::{Digest, Md5};
 use par2_digests::{LANES, window_digests};
 use std::alloc::{AllocError, Global};
+
+/// The checksums of a slice: its MD5, then its CRC-32.
+pub type Pair = ([u8; 16], u32);
+
+static ZEROS: [u8; 1024] = [0; 1024];
+
+/// The MD5 of the slice that the bytes are when zeros fill it up to `s` bytes.
+pub fn padded_md5(bytes: &[u8], s: u64) -> [u8; 16]
+    requires { length bytes.now ≤ s }
+    ensures { result ≡ md5 (padded s bytes.now) }
+{
+    let mut hasher = Md5::new();
+    hasher.update(bytes);
+    let missing = s - bytes.len() as u64;
+    for _ in 0..missing / 1024 {
+        hasher.update(&ZEROS);
+    }
+    hasher.update(&ZEROS[..(missing % 1024) as usize]);
+    hasher.finalize()
+}
+
+/// The checksums of the slice that the bytes are when zeros fill it up to `s` bytes.
+pub fn pair_of(bytes: &[u8], s: u64) -> Pair
+    requires { length bytes.now ≤ s }
+    ensures { result ≡ checksums.pair_of (padded s bytes.now) }
+{
+    (padded_md5(bytes, s), padded_crc32(bytes, s))
+}
+
+/// The CRC-32 of slice `j`.
+pub(crate) fn slice_crc32(bytes: &[u8], s: u64, j: u64) -> u32
+    requires size { 1 ≤ s }
+    requires place { j < slice_count s (length bytes.now) }
+    ensures { result ≡ checksums.crc32 (slice_at s bytes.now j) }
+{
+    let slice = slice_bytes(bytes, s, j);
+    if slice.len() as u64 == s {
+        // Sooner than with padding, which takes time even where there is none.
+        crc32(slice)
+    } else {
+        padded_crc32(slice, s)
+    }
+}
 
 /// Where `count` slices begin, of which the first is slice `first`; the last of them again in the lanes that are left.
 fn starts_from(first: usize, count: usize, s: usize) -> [usize; LANES]
@@ -27,62 +70,61 @@ fn starts_from(first: usize, count: usize, s: usize) -> [usize; LANES]
     starts
 }
 
-/// The MD5s of `count` slices, eight at most, of which the first is slice `first`. They are whole.
-pub fn slice_md5s(bytes: &[u8], s: usize, first: usize, count: usize) -> [[u8; 16]; LANES]
+/// The MD5s of `count` whole slices, eight at most, of which the first is slice `first`, side by side.
+fn whole_md5s(bytes: &[u8], s: usize, first: usize, count: usize) -> [[u8; 16]; LANES]
     requires size { 1 ≤ s }
-    requires some { 1 ≤ count }
     requires few { count ≤ 8 }
-    requires whole { (first + count) * s ≤ length bytes.now }
+    requires whole { 1 ≤ count → (first + count) * s ≤ length bytes.now }
     ensures { (k : ℕ) → k < count → digest_at result k ≡ md5 (slice_at s bytes.now (first + k)) }
 {
+    if count == 0 {
+        return [[0; 16]; LANES];
+    }
     window_digests(bytes, &starts_from(first, count, s), s)
 }
 
-/// How many of some whole slices are digested side by side. One that is left is digested sooner by itself.
-pub fn count_side_by_side(whole: usize) -> usize
+/// How many of some whole slices are digested side by side. One alone is digested sooner by itself.
+fn side_by_side(whole: usize) -> usize
     ensures { result ≤ whole }
 {
-    if whole % LANES == 1 { whole - 1 } else { whole }
+    if whole == 1 { 0 } else { whole }
 }
 
-/// Adds the checksums of `count` slices, eight at most, to those of the slices before them. They are whole.
+/// The MD5s of `count` slices, eight at most, of which the first is slice `first`.
+pub(crate) fn slice_md5s(bytes: &[u8], s: u64, first: usize, count: usize) -> [[u8; 16]; LANES]
+    requires size { 1 ≤ s }
+    requires few { count ≤ 8 }
+    requires fits { first + count < 2 ^ 64 }
+    requires slices { first + count ≤ slice_count s (length bytes.now) }
+    ensures { (k : ℕ) → k < count → digest_at result k ≡ md5 (slice_at s bytes.now (first + k)) }
+{
+    let whole = (bytes.len() as u64 / s) as usize;
+    let together = side_by_side(count.min(whole.saturating_sub(first)));
+    let mut md5s = whole_md5s(bytes, s as usize, first, together);
+    for k in together..count {
+        md5s[k] = padded_md5(slice_bytes(bytes, s, (first + k) as u64), s);
+    }
+    md5s
+}
+
+/// Adds the checksums of `count` slices, eight at most, to those of the slices before them.
 fn push_group(
     pairs: &mut Vec<Pair>,
     bytes: &[u8],
-    s: usize,
+    s: u64,
     first: usize,
     count: usize,
 ) -> Result<(), AllocError>
     requires before { pairs.old.items ≡ first_pairs s bytes.now first }
     requires size { 1 ≤ s }
-    requires some { 1 ≤ count }
     requires few { count ≤ 8 }
-    requires whole { (first + count) * s ≤ length bytes.now }
+    requires fits { first + count < 2 ^ 64 }
+    requires slices { first + count ≤ slice_count s (length bytes.now) }
     ensures { OnOk result (pairs.new.items ≡ first_pairs s bytes.now (first + count)) }
 {
     let md5s = slice_md5s(bytes, s, first, count);
-    for lane in 0..count {
-        let slice = window_bytes(bytes, s as u64, (first + lane) * s);
-        pairs.push((md5s[lane], crc32(slice)))?;
-    }
-    Ok(())
-}
-
-/// Adds the checksums of the first `count` slices, which are whole.
-fn push_groups(
-    pairs: &mut Vec<Pair>,
-    bytes: &[u8],
-    s: usize,
-    count: usize,
-) -> Result<(), AllocError>
-    requires before { pairs.old.items ≡ first_pairs s bytes.now 0 }
-    requires size { 1 ≤ s }
-    requires whole { count * s ≤ length bytes.now }
-    ensures { OnOk result (pairs.new.items ≡ first_pairs s bytes.now count) }
-{
-    for group in 0..count.div_ceil(LANES) {
-        let first = group * LANES;
-        push_group(pairs, bytes, s, first, LANES.min(count - first))?;
+    for k in 0..count {
+        pairs.push((md5s[k], slice_crc32(bytes, s, (first + k) as u64)))?;
     }
     Ok(())
 }
@@ -92,13 +134,11 @@ pub fn pairs_of(alloc: Global, bytes: &[u8], s: u64) -> Result<Vec<Pair>, AllocE
     requires { 1 ≤ s }
     ensures { IfOk result (λ pairs. pairs.items ≡ map checksums.pair_of (slices s bytes.now)) }
 {
-    let len = bytes.len() as u64;
-    let count = slice_count(len, s);
-    let mut pairs = Vec::with_capacity(alloc, count as usize)?;
-    let side_by_side = count_side_by_side((len / s) as usize);
-    push_groups(&mut pairs, bytes, s as usize, side_by_side)?;
-    for j in side_by_side as u64..count {
-        pairs.push(pair_of(slice_bytes(bytes, s, j), s))?;
+    let count = slice_count(bytes.len() as u64, s) as usize;
+    let mut pairs = Vec::with_capacity(alloc, count)?;
+    for group in 0..count.div_ceil(LANES) {
+        let first = group * LANES;
+        push_group(&mut pairs, bytes, s, first, LANES.min(count - first))?;
     }
     Ok(pairs)
 }

@@ -6,8 +6,7 @@ ghost use Rattle.par2_spec.specs.Slices.{padded};
 ghost use Rattle.par2_slices.specs.Rolls.{after_slide, leaving};
 ghost use Rattle.par2_slices.specs.Steps.{steps};
 
-use crate::checksum::{after_byte, after_two, crc32};
-use crate::zeros::{multiply, padded_crc32, power};
+use crate::checksum::{after_byte, after_two, crc32, multiply, padded_crc32, power};
 use std::alloc::{AllocError, Global};
 use std::marker::Model;
 

@@ -10,10 +10,10 @@ ghost use Rattle.par2_slices.specs.Searches.{after_window, candidate_at, has_che
 
 use crate::batch::{Candidate, Spot, digests};
 use crate::cutting::window_bytes;
-use crate::digest::padded_md5;
 use crate::filter::Filter;
+use crate::pairs::{Pair, padded_md5};
 use crate::rolling::Rolling;
-use crate::wanted_pairs::{Pair, Place, Wanted};
+use crate::wanted_pairs::{Place, Wanted};
 use arrayvec::ArrayVec;
 use par2_digests::LANES;
 use std::alloc::{AllocError, Global};

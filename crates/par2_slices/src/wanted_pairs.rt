@@ -2,26 +2,12 @@
 
 ghost use Rattle.std.specs.Prelude.{◌≡◌, ◌≤◌, ◌<◌, ◌/◌, ◌^◌, ℕ, IfOk, length};
 ghost use Rattle.std.specs.List.Sorted.{IsNonDecreasingBy};
-ghost use Rattle.par2_spec.specs.Checksums as checksums;
-ghost use Rattle.par2_spec.specs.Slices.{padded};
 ghost use Rattle.par2_slices.specs.Searches.{place_at, AreStarts, HoldsGroup, IsStart};
 
-use crate::digest::padded_md5;
 use crate::filter::{SHIFT, WORDS};
-use crate::zeros::padded_crc32;
+use crate::pairs::Pair;
 use std::alloc::{AllocError, Global};
 use std::marker::Model;
-
-/// The checksums of a slice: its MD5, then its CRC-32.
-pub type Pair = ([u8; 16], u32);
-
-/// The checksums of the slice that the bytes are when zeros fill it up to `s` bytes.
-pub fn pair_of(bytes: &[u8], s: u64) -> Pair
-    requires { length bytes.now ≤ s }
-    ensures { result ≡ checksums.pair_of (padded s bytes.now) }
-{
-    (padded_md5(bytes, s), padded_crc32(bytes, s))
-}
 
 /// Where a pair stands among the pairs that are wanted, and its CRC-32.
 #[derive(Clone, Copy, Drop)]

@@ -1,4 +1,5 @@
-use Rattle.par2_digests.proofs.Common.{◌≡◌, ◌<◌, ℕ, length, slice_index, digest_bytes, digest_at, lane}
+use Rattle.par2_digests.proofs.Common.{◌≡◌, ◌<◌, ℕ, length, slice_index, digest_bytes, lane}
+use Rattle.par2_digests.specs.Digests.{digest_at}
 use Rattle.par2_digests.proofs.window_digests.Given as goal
 
 abbrev pub invariant-loop-k : goal.invariant-loop-k

@@ -1,6 +1,6 @@
 use Rattle.par2_digests.proofs.Common.{◌*◌, ◌%◌, ap, arith, ◌∙◌, slice_index, lane_words}
 use Rattle.par2_digests.proofs.LaneLaws.{word_of_lane}
-use Rattle.par2_digests.proofs.RoundLaws.{after_step, fourth_function, fourth_place}
+use Rattle.par2_digests.proofs.RoundLaws.{after_step, fourth}
 use Rattle.par2_digests.proofs.steps.i_step.Goals as goal
 
 pub returns : goal.returns
@@ -9,6 +9,7 @@ returns g c = λ k h low held.
     let at = g.V.Lanes.at in
     let state = c.args.state in
     let words = lane_words at k c.args.words.now in
-    let value = c.i.ensures k low ∙ fourth_function t (at state.b k) (at state.c k) (at state.d k) c.requires.from in
-    let read = word_of_lane at c.args.words.now k (7 * t % 16) c.index-words-t.result (omega (arith, c.told-words)) ∙ ap (slice_index words) (fourth_place t c.requires.from) in
+    let its = fourth t (at state.b k) (at state.c k) (at state.d k) c.requires.from in
+    let value = c.i.ensures k low ∙ its.0 in
+    let read = word_of_lane at c.args.words.now k (7 * t % 16) c.index-words-t.result (omega (arith, c.told-words)) ∙ ap (slice_index words) its.1 in
     after_step h words _ _ t _ _ (c.stepped.ensures k low) held value read

@@ -1,45 +1,36 @@
-use Rattle.par2_packets.proofs.Common.{◌≡◌, ◌+◌, ◌-◌, ◌≤◌, ℕ, List, [], length, drop, true, false, ap, sym, ◌∙◌, arith, rest_of}
+use Rattle.par2_packets.proofs.Common.{◌≡◌, ◌+◌, ◌-◌, ◌≤◌, ℕ, List, [], length, drop, true, false, ap, sym, ◌∙◌, arith, rest_of, packet_of}
 use Rattle.std.proofs.Common.{length-drop}
 use Rattle.par2_spec.specs.Packets as packets
-use Rattle.par2_packets.specs.Views.{packet_of}
-use Rattle.par2_packets.proofs.Finding.{claim_bounds, body_length, found, not_here, passed_to, magic_within, nothing}
+use Rattle.par2_packets.proofs.Finding.{claim_bounds, body_length, front, found, not_here, passed_to, magic_within, nothing}
 use Rattle.par2_packets.proofs.scan.next_packet.Goals as goal
 
 pub first_packet-packet-requires-clause-low : goal.first_packet-packet-requires-clause-low
 first_packet-packet-requires-clause-low c =
-    let here : List ℕ = c.rest-then-begins_with_packet.result.now in
-    let same : here ≡ rest_of c.advance.new.self = c.rest-then-begins_with_packet.ensures ∙ c.begins_with_packet.ensures.kept in
-    let front : packets.begins_with_packet here ≡ true = ap packets.begins_with_packet same ∙ sym c.begins_with_packet.ensures.begins ∙ c.if-begins_with_packet.true in
-    (claim_bounds here front).0
+    (claim_bounds _ (front _ _ _ _ c.rest-then-begins_with_packet.ensures c.begins_with_packet.ensures.kept c.begins_with_packet.ensures.begins c.if-begins_with_packet.true)).0
 
 pub first_packet-packet-requires-clause-high : goal.first_packet-packet-requires-clause-high
 first_packet-packet-requires-clause-high c =
-    let here : List ℕ = c.rest-then-begins_with_packet.result.now in
-    let same : here ≡ rest_of c.advance.new.self = c.rest-then-begins_with_packet.ensures ∙ c.begins_with_packet.ensures.kept in
-    let front : packets.begins_with_packet here ≡ true = ap packets.begins_with_packet same ∙ sym c.begins_with_packet.ensures.begins ∙ c.if-begins_with_packet.true in
-    (claim_bounds here front).1
+    (claim_bounds _ (front _ _ _ _ c.rest-then-begins_with_packet.ensures c.begins_with_packet.ensures.kept c.begins_with_packet.ensures.begins c.if-begins_with_packet.true)).1
 
 pub advance-requires-then-begins_with_packet : goal.advance-requires-then-begins_with_packet
 advance-requires-then-begins_with_packet c =
     let here : List ℕ = c.rest-then-begins_with_packet.result.now in
-    let same : here ≡ rest_of c.advance.new.self = c.rest-then-begins_with_packet.ensures ∙ c.begins_with_packet.ensures.kept in
-    let front : packets.begins_with_packet here ≡ true = ap packets.begins_with_packet same ∙ sym c.begins_with_packet.ensures.begins ∙ c.if-begins_with_packet.true in
-    let size : 64 + length c.first_packet-packet.result.body.now ≡ packets.claimed_length here = body_length here (packet_of c.first_packet-packet.result) front c.first_packet-packet.ensures in
-    let most : packets.claimed_length here ≤ length here = (claim_bounds here front).1 in
+    let begins : packets.begins_with_packet here ≡ true = front _ _ _ _ c.rest-then-begins_with_packet.ensures c.begins_with_packet.ensures.kept c.begins_with_packet.ensures.begins c.if-begins_with_packet.true in
+    let size : 64 + length c.first_packet-packet.result.body.now ≡ packets.claimed_length here = body_length here (packet_of c.first_packet-packet.result) begins c.first_packet-packet.ensures in
+    let most : packets.claimed_length here ≤ length here = (claim_bounds here begins).1 in
     omega (arith, size, most, ap length c.rest-then-begins_with_packet.ensures)
 
 pub returns-then-begins_with_packet : goal.returns-then-begins_with_packet
 returns-then-begins_with_packet c =
     let text : List ℕ = c.rest.result.now in
     let here : List ℕ = c.rest-then-begins_with_packet.result.now in
-    let same : here ≡ rest_of c.advance.new.self = c.rest-then-begins_with_packet.ensures ∙ c.begins_with_packet.ensures.kept in
-    let front : packets.begins_with_packet here ≡ true = ap packets.begins_with_packet same ∙ sym c.begins_with_packet.ensures.begins ∙ c.if-begins_with_packet.true in
-    let at : here ≡ drop c.in-Some.place text = same ∙ c.advance.ensures ∙ ap (drop c.in-Some.place) (sym c.rest.ensures) in
+    let begins : packets.begins_with_packet here ≡ true = front _ _ _ _ c.rest-then-begins_with_packet.ensures c.begins_with_packet.ensures.kept c.begins_with_packet.ensures.begins c.if-begins_with_packet.true in
+    let at : here ≡ drop c.in-Some.place text = c.rest-then-begins_with_packet.ensures ∙ c.begins_with_packet.ensures.kept ∙ c.advance.ensures ∙ ap (drop c.in-Some.place) (sym c.rest.ensures) in
     let past : List ℕ = rest_of c.advance-then-begins_with_packet.new.self in
     let behind : past ≡ drop (64 + length c.first_packet-packet.result.body.now) here =
     c.advance-then-begins_with_packet.ensures ∙ ap (drop (64 + length c.first_packet-packet.result.body.now)) (sym c.rest-then-begins_with_packet.ensures) in
     sym c.loop-place.invariant ∙ ap packets.accepted (sym c.rest.ensures) ∙ sym (passed_to text _ here c.in-Some.place c.new-finder.ensures c.in-Some.ensures.0 at)
-    ∙ found here (packet_of c.first_packet-packet.result) past front c.first_packet-packet.ensures behind
+    ∙ found here (packet_of c.first_packet-packet.result) past begins c.first_packet-packet.ensures behind
 
 pub loop-place-smaller : goal.loop-place-smaller
 loop-place-smaller c =

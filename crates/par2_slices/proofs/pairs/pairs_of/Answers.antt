@@ -1,11 +1,19 @@
-use Rattle.par2_slices.proofs.Common.{◌≡◌, ◌+◌, ◌++◌, ◌∷◌, [], ap, arith, rules, ◌∙◌, pair_of, padded}
-use Rattle.par2_slices.proofs.Wholes.{one_pair_more}
+use Rattle.par2_slices.proofs.Common.{◌≡◌, ◌<◌, ◌+◌, ◌*◌, min, ap, ◌∙◌, arith, first_pairs}
 use Rattle.par2_slices.proofs.pairs.pairs_of.Goals as goal
 
-pub loop-j-preserved : goal.loop-j-preserved
-loop-j-preserved c =
-    let s = c.args.s in
-    let j = c.loop-j.j in
-    let pushed : c.push.new.self.items ≡ c.loop-j.pairs.items ++ c.pair_of.result ∷ [] = search rules in
-    one_pair_more s c.args.bytes.now j (j + 1) c.loop-j.pairs.items c.push.new.self.items c.pair_of.result c.loop-j.invariant
-    (c.pair_of.ensures ∙ ap (λ b. pair_of (padded s b)) c.slice_bytes.ensures.value) pushed (omega arith)
+pub push_group-requires-clause-before : goal.push_group-requires-clause-before
+push_group-requires-clause-before c =
+    let start : min (c.loop-group.group * 8) c.slice_count-count.result ≡ c.loop-group.group * 8 = omega (arith, c.loop-group-test.true, c.div_ceil-group-end.ensures) in
+    c.loop-group.invariant ∙ ap (first_pairs c.args.s c.args.bytes.now) start
+
+pub loop-group-preserved : goal.loop-group-preserved
+loop-group-preserved c =
+    let first = c.loop-group.group * 8 in
+    let low : first < c.slice_count-count.result = omega (arith, c.loop-group-test.true, c.div_ceil-group-end.ensures) in
+    let end : first + c.min.result ≡ min ((c.loop-group.group + 1) * 8) c.slice_count-count.result = omega (arith, low, c.min.ensures) in
+    c.in_ok-push_group.ensures ∙ ap (first_pairs c.args.s c.args.bytes.now) end
+
+pub returns : goal.returns
+returns c =
+    let all : min (c.loop-group.group * 8) c.slice_count-count.result ≡ c.slice_count-count.result = omega (arith, c.loop-group-test.false, c.div_ceil-group-end.ensures) in
+    c.loop-group.invariant ∙ ap (first_pairs c.args.s c.args.bytes.now) (all ∙ c.slice_count-count.ensures)

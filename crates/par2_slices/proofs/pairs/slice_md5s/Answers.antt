@@ -1,8 +1,26 @@
-use Rattle.par2_slices.proofs.Common.{◌<◌, arith}
-use Rattle.par2_slices.proofs.Wholes.{digest_is}
+use Rattle.par2_slices.proofs.Common.{◌≢◌, ◌∙◌, ◌+◌, ◌*◌, ◌/◌, ◌≤◌, [], length, ap, arith, get_or-set_other, get_or-set_same, mul-le-mul_right, md5, padded, below_more, div-mul-le_self}
+use Rattle.std.proofs.lemmas.List.{length-set}
 use Rattle.par2_slices.proofs.pairs.slice_md5s.Goals as goal
 
-pub returns : goal.returns
-returns c = λ k below.
-    let in_lanes : k < 8 = omega (arith, below, c.requires.few) in
-    digest_is c.args.s c.args.first c.args.count k c.args.bytes.now c.starts_from.result _ c.requires.whole below (c.starts_from.ensures k in_lanes) (c.window_digests.ensures k in_lanes)
+pub whole_md5s-md5s-requires-clause-whole : goal.whole_md5s-md5s-requires-clause-whole
+whole_md5s-md5s-requires-clause-whole c some =
+    let s = c.args.s in
+    let len = length c.args.bytes.now in
+    let within : (c.args.first + c.side_by_side-together.result) * s ≤ len / s * s = mul-le-mul_right s (omega (arith, some, c.side_by_side-together.ensures, c.min.ensures, c.saturating_sub.ensures)) in
+    omega (arith, within, div-mul-le_self len s)
+
+pub loop-k-preserved : goal.loop-k-preserved
+loop-k-preserved c =
+    let k = c.loop-k.k in
+    let md5s = c.loop-k.md5s in
+    let digest = c.padded_md5.result in
+    let held = c.loop-k.invariant in
+    record {
+      len = length-set md5s k digest ∙ held.len;
+      done =
+          below_more _ _
+          (λ j h. let other : j ≢ k = omega arith in rw get_or-set_other (held.done j h))
+          (get_or-set_same md5s k digest [] (omega (arith, held.len, c.loop-k-test.true, c.requires.few))
+          ∙ c.padded_md5.ensures
+          ∙ ap (λ b. md5 (padded c.args.s b)) c.slice_bytes.ensures.value);
+    }

@@ -1,8 +1,0 @@
-use Rattle.par2_packets.proofs.Common.{arith, common_steps}
-use Rattle.par2_packets.proofs.Parts.{packet_in_parts}
-use Rattle.par2_packets.proofs.append.append_digested.Goals as goal
-
-pub returns-clause-ok : goal.returns-clause-ok
-returns-clause-ok c =
-    let e = packet_in_parts c.args.out.now.items c.args.set_id.now c.args.head.now c.args.tail.now c.args.kind in
-    grind (arith, common_steps, c.requires.digest, e)

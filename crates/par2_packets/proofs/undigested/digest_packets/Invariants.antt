@@ -1,5 +1,0 @@
-use Rattle.par2_packets.proofs.Common.{◌*◌, min, AreDigested}
-use Rattle.par2_packets.proofs.undigested.digest_packets.Given as goal
-
-abbrev pub invariant-loop-group : goal.invariant-loop-group
-invariant-loop-group l = AreDigested l.len 0 (min l.count (l.group * 1024)) l.initial.packets l.packets

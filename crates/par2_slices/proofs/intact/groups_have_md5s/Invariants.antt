@@ -1,5 +1,0 @@
-use Rattle.par2_slices.proofs.Common.{◌*◌, min, HaveMd5s}
-use Rattle.par2_slices.proofs.intact.groups_have_md5s.Given as goal
-
-abbrev pub invariant-loop-group : goal.invariant-loop-group
-invariant-loop-group l = HaveMd5s l.s l.bytes l.pairs 0 (min (l.group * 8) l.count)
