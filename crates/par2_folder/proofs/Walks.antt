@@ -4,7 +4,7 @@ use Rattle.par2_spec.specs.Folders.{fingerprint}
 use Rattle.par2_spec.specs.Changes as defined
 use Rattle.par2_spec.specs.Changes.{are_applicable, folders_after}
 use Rattle.par2_folder.specs.Borders.{later_texts}
-use Rattle.par2_folder.specs.declared.runs.Runs.{Runs}
+use Rattle.par2_folder.specs.declared.walk.Runs.{Runs}
 use Rattle.par2_folder.specs.declared.snapshot.Snapshot.{Snapshot}
 use Rattle.par2_folder.proofs.Borders.{no_text, text_on, whole_text}
 
@@ -76,10 +76,6 @@ later_none : (border : Border) (folder : Folder) → later_texts border folder [
 unfolding later_texts
 later_none border folder = refl
 
-pub none_applicable : (folder : Folder) → IsTrue (are_applicable folder [])
-unfolding are_applicable
-none_applicable folder = refl
-
 -- the states that are left once a change is done
 next_parents : (from : Border) (folder : Folder) (change : defined.Change) (rest : List defined.Change) (states : List Midstate) (place : ℕ)
     → HaveAbsorbed (drop place states) (run_texts from folder (change ∷ rest))
@@ -126,9 +122,9 @@ module _ (from to : Border) (states : List Midstate) (folder : Folder) (changes 
           (subst (λ l. HaveAbsorbed (drop place states) (run_texts from (folder_in snapshot) (map change_of l))) split within.parents))
 
       pub goes_on : (next : Snapshot) → folder_in next ≡ effect (folder_in snapshot) (change_of change) → IsKept (files_in next) → (more : Runs) → length more.pendings.items ≤ 8
-          → AreTo more (within.done ++ new_run to (folder_in next) (change_of change))
+          → (begins : Bool) → touches to (change_of change) ≡ begins → AreTo more (within.done ++ cond begins (text_before to (folder_in next) ∷ []) [])
           → IsWithin from to states folder changes next more there (drop (i + 1) changes)
-      goes_on next after kept more few reached =
+      goes_on next after kept more few begins is_begun reached =
           let rest = map change_of (drop (suc i) changes) in
           rw add-one (record {
             kept = kept;
@@ -137,7 +133,7 @@ module _ (from to : Border) (states : List Midstate) (folder : Folder) (changes 
                 (rest_applicable _ _ _ (subst (λ l. IsTrue (are_applicable (folder_in snapshot) (map change_of l))) split within.applicable));
             parents = subst (λ f. HaveAbsorbed (drop there states) (run_texts from f rest)) (sym after) parents_then;
             done = within.done ++ new_run to (folder_in next) (change_of change);
-            reached = reached;
+            reached = subst (λ t. AreTo more (within.done ++ cond t (text_before to (folder_in next) ∷ []) [])) (sym is_begun) reached;
             whole = append_assoc within.done (new_run to (folder_in next) (change_of change)) (later_texts to (folder_in next) rest)
                 ∙ ap (λ f. within.done ++ (new_run to f (change_of change) ++ later_texts to f rest)) after
                 ∙ ap (λ l. within.done ++ l) (sym (later_first to (folder_in snapshot) (change_of change) rest))
