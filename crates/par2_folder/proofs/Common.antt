@@ -1,6 +1,6 @@
 -- The names that proofs of this crate take from elsewhere.
 
-pub use Rattle.std.proofs.Common.{Bool, Bor, Err, IfErr, IfOk, IsTrue, IsUtf8, List, None, Ok, OnErr, OnOk, Option, Result, Some, T, [], add-one, ap, append-nil, append_assoc, arith, codes, cond, drop, drop-cons, false, flat_map, get_or, inl, inr, is_some, length, length-drop, map, nat_eq, nat_le, nat_lt, not, of_calls, refl, rules, set, subst, suc, sym, take, true, vec_len, zero, ℕ, ◌&&◌, ◌++◌, ◌+◌, ◌-◌, ◌<◌, ◌==◌, ◌||◌, ◌∙◌, ◌∷◌, ◌≡◌, ◌≤◌, ◌⊎◌}
+pub use Rattle.std.proofs.Common.{Bool, Bor, Err, IfErr, IfOk, IsTrue, IsUtf8, List, None, Ok, OnErr, OnOk, Option, Result, Some, T, [], add-one, ap, append-nil, append_assoc, arith, codes, cond, drop, drop-cons, false, get_or, inl, inr, is_some, length, length-drop, map, nat_eq, nat_le, nat_lt, not, of_calls, refl, rules, set, subst, suc, sym, take, true, vec_len, zero, ℕ, ◌&&◌, ◌++◌, ◌+◌, ◌-◌, ◌<◌, ◌==◌, ◌||◌, ◌∙◌, ◌∷◌, ◌≡◌, ◌≤◌, ◌⊎◌}
 pub use Rattle.std.proofs.Math.Seq.{drop-append_seam, take-append_seam, take-suc-set}
 pub use Rattle.std.proofs.lemmas.Bool.{and_parts, cases_lt, false≢true}
 pub use Rattle.std.proofs.lemmas.Fn.{FoldsTo-push, always_returns_same}

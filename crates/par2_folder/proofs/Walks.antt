@@ -103,8 +103,8 @@ pub record IsWithin (from to : Border) (states : List Midstate) (folder : Folder
   pub reached : AreTo runs done
   pub whole : done ++ later_texts to (folder_in snapshot) (map change_of rest) ≡ run_texts to folder (map change_of changes)
 
-module _ (from to : Border) (states : List Midstate) (folder : Folder) (changes : List Change) where
-  module _ (snapshot : Snapshot) (runs : Runs) (place i : ℕ) (within : IsWithin from to states folder changes snapshot runs place (drop i changes)) (lt : i < length changes) (change : Change) (is : change ≡ get_or changes i change) where
+module _ {from to : Border} {states : List Midstate} {folder : Folder} {changes : List Change} where
+  module _ {snapshot : Snapshot} {runs : Runs} {place i : ℕ} (within : IsWithin from to states folder changes snapshot runs place (drop i changes)) (lt : i < length changes) {change : Change} (is : change ≡ get_or changes i change) where
     split : drop i changes ≡ change ∷ drop (suc i) changes
     split = drop-cons changes i change lt ∙ ap (λ c. c ∷ drop (suc i) changes) (sym is)
 
@@ -114,7 +114,7 @@ module _ (from to : Border) (states : List Midstate) (folder : Folder) (changes 
     pub next_applicable : IsTrue (is_applicable (folder_in snapshot) (change_of change))
     next_applicable = first_applicable _ _ _ (subst (λ l. IsTrue (are_applicable (folder_in snapshot) (map change_of l))) split within.applicable)
 
-    module _ (there : ℕ) (place_is : there ≡ cond (touches from (change_of change)) (place + 1) place) where
+    module _ {there : ℕ} (place_is : there ≡ cond (touches from (change_of change)) (place + 1) place) where
       pub parents_then : HaveAbsorbed (drop there states) (run_texts from (effect (folder_in snapshot) (change_of change)) (map change_of (drop (suc i) changes)))
       parents_then =
           subst (λ n. HaveAbsorbed (drop n states) (run_texts from (effect (folder_in snapshot) (change_of change)) (map change_of (drop (suc i) changes)))) (sym place_is)
@@ -142,9 +142,9 @@ module _ (from to : Border) (states : List Midstate) (folder : Folder) (changes 
           })
 
   -- at the end
-  pub arrived : (snapshot : Snapshot) (runs : Runs) (place i : ℕ) → IsWithin from to states folder changes snapshot runs place (drop i changes) → length changes ≤ i
+  pub arrived : {snapshot : Snapshot} {runs : Runs} {place i : ℕ} → IsWithin from to states folder changes snapshot runs place (drop i changes) → length changes ≤ i
       → AreTo runs (run_texts to folder (map change_of changes))
-  arrived snapshot runs place i within over =
+  arrived {snapshot = snapshot} {runs = runs} {i = i} within over =
       let none : later_texts to (folder_in snapshot) (map change_of (drop i changes)) ≡ [] =
       ap (λ l. later_texts to (folder_in snapshot) (map change_of l)) (drop_all i changes over) ∙ later_none to (folder_in snapshot) in
       subst (AreTo runs) (sym (append-nil within.done) ∙ ap (λ l. within.done ++ l) (sym none) ∙ within.whole) within.reached

@@ -15,7 +15,7 @@ ghost use Rattle.par2_folder.specs.Sorting.{IsKept};
 ghost use Rattle.par2_folder.specs.Surveys.{IsAt};
 
 use crate::snapshot::{Border, Snapshot, is_further, run_between, touches};
-use crate::walk::{Runs, digests_of, run_of_text, with_texts};
+use crate::walk::{Runs, digests_of, run_of_text, states_with};
 use crate::{Change, Folder, Name};
 use par2_digests::{Midstate, Part, absorb_each};
 use std::alloc::{AllocError, Global};
@@ -65,8 +65,7 @@ impl Landmarks {
         ensures some { OnOk result (0 < length self.new.list.items) }
     {
         let name = name.copied();
-        self.list.push(Landmark { name, state })?;
-        Ok(())
+        Ok(self.list.push(Landmark { name, state })?)
     }
 
     /// Where fingerprints along the changes set out: a border that no change lies before, and the state there.
@@ -235,7 +234,7 @@ pub fn mark_folder(
     let (border, state) = from.before(name);
     let mut runs = Runs::new(alloc);
     runs.push(run_between(alloc, state, &snapshot, border, Border::At(name))?)?;
-    let states = with_texts(alloc, runs, beside)?.finish()?;
+    let states = states_with(alloc, runs, beside)?;
     let beside = digests_of(alloc, &states[1..])?;
     let mut landmarks = Landmarks::none(alloc);
     landmarks.mark(name, states[0])?;

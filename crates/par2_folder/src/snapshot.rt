@@ -52,17 +52,6 @@ fn search_borrowed(files: &[BorrowedFile], name: &Name) -> Result<usize, usize>
     files.binary_search_by(|file| file.name.cmp(name))
 }
 
-// How many files have names that come before the name.
-pub fn count_below(files: &[BorrowedFile], name: &Name) -> usize
-    requires { IsKept (map file_of files.now) }
-    ensures { IsFront (is_below name.now) (map file_of files.now) result }
-{
-    match search_borrowed(files, name) {
-        Ok(at) => at,
-        Err(at) => at,
-    }
-}
-
 impl<'a> Snapshot<'a> {
     // Puts a file of this name and these bytes in, in place of one of the name.
     fn put(&mut self, name: &'a Name, bytes: &'a Bytes) -> Result<(), AllocError>
@@ -157,7 +146,10 @@ fn count_before(files: &[BorrowedFile], border: Border<'_>) -> usize
 {
     match border {
         Border::Beginning => 0,
-        Border::At(name) => count_below(files, name),
+        Border::At(name) => match search_borrowed(files, name) {
+            Ok(at) => at,
+            Err(at) => at,
+        },
         Border::End => files.len(),
     }
 }

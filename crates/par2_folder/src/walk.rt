@@ -64,8 +64,7 @@ impl<'a> Runs<'a> {
         if self.pendings.len() == LANES {
             self.settle()?;
         }
-        self.pendings.push(pending)?;
-        Ok(())
+        Ok(self.pendings.push(pending)?)
     }
 
     /// The states after all parts.
@@ -171,21 +170,20 @@ pub fn digests_of(alloc: Global, states: &[Midstate]) -> Result<Vec<[u8; 16]>, A
     Ok(digests)
 }
 
-/// The runs, and after them those of texts that are digested side by side with them.
-pub fn with_texts<'a>(
+/// The states after all runs, and after them those of texts that are absorbed side by side with them.
+pub fn states_with<'a>(
     alloc: Global,
     mut runs: Runs<'a>,
     texts: &[&'a [u8]],
-) -> Result<Runs<'a>, AllocError>
+) -> Result<Vec<Midstate>, AllocError>
     requires { length runs.pendings.items ≤ 8 }
-    ensures few { IfOk result (λ runs. length runs.pendings.items ≤ 8) }
-    ensures texts { (before : List (List ℕ)) → AreTo runs.entry before
-        → IfOk result (λ runs. AreTo runs (before ++ texts_of texts.now)) }
+    ensures { (before : List (List ℕ)) → AreTo runs.entry before
+        → IfOk result (λ states. HaveAbsorbed states.items (before ++ texts_of texts.now)) }
 {
     for text in texts {
         runs.push(run_of_text(alloc, Midstate::new(), text)?)?;
     }
-    Ok(runs)
+    runs.finish()
 }
 
 /// Digests of folders, and digests that were computed side by side with them.
@@ -214,8 +212,8 @@ pub fn fingerprints(
     ensures beside { IfOk result (λ found. found.beside.items ≡ map md5 (texts_of beside.now)) }
 {
     let runs = runs_along(alloc, from, folder, changes)?;
-    let all = with_texts(alloc, runs, beside)?;
-    let mut along = digests_of(alloc, &all.finish()?)?;
+    let states = states_with(alloc, runs, beside)?;
+    let mut along = digests_of(alloc, &states)?;
     let beside = along.split_off(along.len() - beside.len())?;
     Ok(Digests { along, beside })
 }

@@ -7,7 +7,7 @@ slice_bounds-digests_of-count c =
     let folder = c.in_ok-snapshot.ensures.folder in
     let before = subst (λ f. HasAbsorbed c.before-2.result.1 (text_before c.before-2.result.0 f)) (sym folder) (c.before-2.ensures.absorbed c.args.folder.now.files c.requires) in
     let reached = c.in_ok-push.ensures.texts [] _ c.new-runs.ensures.texts (c.in_ok-run_between.ensures before) in
-    let held = c.in_ok-states.ensures _ (c.in_ok-with_texts.ensures.texts _ reached) in
+    let held = c.in_ok-states.ensures _ reached in
     omega (arith, as_many _ _ held, ap length c.deref.ensures.value)
 
 pub slice_bounds-digests_of-start : goal.slice_bounds-digests_of-start
@@ -15,7 +15,7 @@ slice_bounds-digests_of-start c =
     let folder = c.in_ok-snapshot.ensures.folder in
     let before = subst (λ f. HasAbsorbed c.before-2.result.1 (text_before c.before-2.result.0 f)) (sym folder) (c.before-2.ensures.absorbed c.args.folder.now.files c.requires) in
     let reached = c.in_ok-push.ensures.texts [] _ c.new-runs.ensures.texts (c.in_ok-run_between.ensures before) in
-    let held = c.in_ok-states.ensures _ (c.in_ok-with_texts.ensures.texts _ reached) in
+    let held = c.in_ok-states.ensures _ reached in
     omega (arith, as_many _ _ held, ap length c.deref.ensures.value)
 
 pub index-requires : goal.index-requires
@@ -23,7 +23,7 @@ index-requires c =
     let folder = c.in_ok-snapshot.ensures.folder in
     let before = subst (λ f. HasAbsorbed c.before-2.result.1 (text_before c.before-2.result.0 f)) (sym folder) (c.before-2.ensures.absorbed c.args.folder.now.files c.requires) in
     let reached = c.in_ok-push.ensures.texts [] _ c.new-runs.ensures.texts (c.in_ok-run_between.ensures before) in
-    let held = c.in_ok-states.ensures _ (c.in_ok-with_texts.ensures.texts _ reached) in
+    let held = c.in_ok-states.ensures _ reached in
     omega (arith, as_many _ _ held, ap length c.deref.ensures.value, c.deref.ensures.len)
 
 pub returns-clause-landmarks : goal.returns-clause-landmarks
@@ -31,7 +31,7 @@ returns-clause-landmarks c =
     let folder = c.in_ok-snapshot.ensures.folder in
     let before = subst (λ f. HasAbsorbed c.before-2.result.1 (text_before c.before-2.result.0 f)) (sym folder) (c.before-2.ensures.absorbed c.args.folder.now.files c.requires) in
     let reached = c.in_ok-push.ensures.texts [] _ c.new-runs.ensures.texts (c.in_ok-run_between.ensures before) in
-    let held = c.in_ok-states.ensures _ (c.in_ok-with_texts.ensures.texts _ reached) in
+    let held = c.in_ok-states.ensures _ reached in
     let states = c.in_ok-states.states.items in
     let files = c.args.folder.now.files in
     let first = absorbed_at states _ 0 c.index.result.now held (in_range states 0 _ _ held) in
@@ -43,7 +43,7 @@ returns-clause-beside c =
     let folder = c.in_ok-snapshot.ensures.folder in
     let before = subst (λ f. HasAbsorbed c.before-2.result.1 (text_before c.before-2.result.0 f)) (sym folder) (c.before-2.ensures.absorbed c.args.folder.now.files c.requires) in
     let reached = c.in_ok-push.ensures.texts [] _ c.new-runs.ensures.texts (c.in_ok-run_between.ensures before) in
-    let held = c.in_ok-states.ensures _ (c.in_ok-with_texts.ensures.texts _ reached) in
+    let held = c.in_ok-states.ensures _ reached in
     let texts = texts_of c.args.beside.now in
     let rest = take_all (length c.deref.result.now - 1) (drop 1 c.deref.result.now) (omega (arith, length-drop 1 c.deref.result.now)) ∙ ap (drop 1) c.deref.ensures.value in
     c.in_ok-beside.ensures texts (subst (λ s. HaveAbsorbed s texts) (sym rest) (absorbed_behind c.in_ok-states.states.items 0 _ texts held))

@@ -9,7 +9,7 @@ pub overflow_sub-len : goal.overflow_sub-len
 overflow_sub-len c =
     let along = run_texts End c.args.folder.now.files (map change_of c.args.changes.now) in
     let beside = texts_of c.args.beside.now in
-    let digests = c.in_ok-along.ensures (along ++ beside) (rw c.deref.ensures.value (c.in_ok-finish.ensures _ (c.in_ok-all.ensures.texts along c.in_ok-runs.ensures.texts))) in
+    let digests = c.in_ok-along.ensures (along ++ beside) (rw c.deref.ensures.value (c.in_ok-states.ensures along c.in_ok-runs.ensures.texts)) in
     omega (arith, ap length digests, length-map (along ++ beside) md5, length-append along beside, length-map c.args.beside.now (λ (text : Bor (List ℕ)). text.now))
 
 pub returns : goal.returns
@@ -21,7 +21,7 @@ returns c =
     let digests = map md5 texts in
     let along = run_texts End files changes in
     let all : c.in_ok-along.along.items ≡ prints ++ digests =
-    c.in_ok-along.ensures (along ++ texts) (rw c.deref.ensures.value (c.in_ok-finish.ensures _ (c.in_ok-all.ensures.texts along c.in_ok-runs.ensures.texts))) ∙ map-append md5 along texts ∙ ap (λ l. l ++ digests) (all_fingerprints files changes) in
+    c.in_ok-along.ensures (along ++ texts) (rw c.deref.ensures.value (c.in_ok-states.ensures along c.in_ok-runs.ensures.texts)) ∙ map-append md5 along texts ∙ ap (λ l. l ++ digests) (all_fingerprints files changes) in
     let place : c.len.result - length c.args.beside.now ≡ length prints =
     omega (arith, ap length all, length-append prints digests, length-map texts md5, length-map c.args.beside.now (λ (text : Bor (List ℕ)). text.now)) in
     record {

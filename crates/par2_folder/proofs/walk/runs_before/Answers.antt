@@ -21,10 +21,7 @@ loop-change-init c =
     }
 
 pub apply-requires-clause-applicable : goal.apply-requires-clause-applicable
-apply-requires-clause-applicable c =
-    let walk = c.loop-change in
-    next_applicable c.args.from c.args.to c.args.states.now c.args.folder.now.files c.args.changes.now walk.snapshot walk.runs walk.place walk.change-index walk.invariant
-    c.loop-change-test.true c.change-item.result c.change-item.is
+apply-requires-clause-applicable c = next_applicable c.loop-change.invariant c.loop-change-test.true c.change-item.is
 
 pub bounds-states-place : goal.bounds-states-place
 bounds-states-place c =
@@ -34,8 +31,7 @@ bounds-states-place c =
       | else-touches w ↦ w.place-is ∙ sym (ap (λ (t : Bool). cond t (walk.place + 1) walk.place) (sym c.touches.ensures ∙ w.if-touches.false))
     ] in
     in_range c.args.states.now c.if-touches.place _ _
-    (parents_then c.args.from c.args.to c.args.states.now c.args.folder.now.files c.args.changes.now walk.snapshot walk.runs walk.place walk.change-index walk.invariant
-    c.loop-change-test.true c.change-item.result c.change-item.is c.if-touches.place place)
+    (parents_then walk.invariant c.loop-change-test.true c.change-item.is place)
 
 pub loop-change-preserved : goal.loop-change-preserved
 loop-change-preserved c =
@@ -46,24 +42,17 @@ loop-change-preserved c =
     ] in
     let next = c.apply.new.self in
     let after = c.in_ok-apply.ensures.folder in
-    let parents = parents_then c.args.from c.args.to c.args.states.now c.args.folder.now.files c.args.changes.now walk.snapshot walk.runs walk.place walk.change-index walk.invariant
-    c.loop-change-test.true c.change-item.result c.change-item.is c.if-touches.place place in
+    let parents = parents_then walk.invariant c.loop-change-test.true c.change-item.is place in
     let absorbed = absorbed_here c.args.states.now c.if-touches.place _ _ _ parents in
     elim c.if-touches-2.branch [
       | then-touches-2+in_ok-run_between-2+in_ok-push-2 w ↦
           let begun = sym c.touches-in-loop-change.ensures ∙ w.if-touches-2.true in
           let reached = w.in_ok-push-2.ensures.texts walk.invariant.done _ walk.invariant.reached (w.in_ok-run_between-2.ensures (rw after absorbed)) in
-          rw w.runs-is
-          (goes_on c.args.from c.args.to c.args.states.now c.args.folder.now.files c.args.changes.now walk.snapshot walk.runs walk.place walk.change-index walk.invariant
-          c.loop-change-test.true c.change-item.result c.change-item.is c.if-touches.place place next after c.in_ok-apply.ensures.kept w.push-then-touches-2.new.self w.in_ok-push-2.ensures.few true begun reached)
+          rw w.runs-is (goes_on walk.invariant c.loop-change-test.true c.change-item.is place next after c.in_ok-apply.ensures.kept w.push-then-touches-2.new.self w.in_ok-push-2.ensures.few true begun reached)
       | else-touches-2 w ↦
           let begun = sym c.touches-in-loop-change.ensures ∙ w.if-touches-2.false in
-          rw w.runs-is
-          (goes_on c.args.from c.args.to c.args.states.now c.args.folder.now.files c.args.changes.now walk.snapshot walk.runs walk.place walk.change-index walk.invariant
-          c.loop-change-test.true c.change-item.result c.change-item.is c.if-touches.place place next after c.in_ok-apply.ensures.kept walk.runs walk.invariant.few false begun (subst (AreTo walk.runs) (sym (append-nil walk.invariant.done)) walk.invariant.reached))
+          rw w.runs-is (goes_on walk.invariant c.loop-change-test.true c.change-item.is place next after c.in_ok-apply.ensures.kept walk.runs walk.invariant.few false begun (subst (AreTo walk.runs) (sym (append-nil walk.invariant.done)) walk.invariant.reached))
     ]
 
 pub returns-clause-texts : goal.returns-clause-texts
-returns-clause-texts c =
-    let walk = c.loop-change in
-    arrived c.args.from c.args.to c.args.states.now c.args.folder.now.files c.args.changes.now walk.snapshot walk.runs walk.place walk.change-index walk.invariant c.loop-change-test.false
+returns-clause-texts c = arrived c.loop-change.invariant c.loop-change-test.false

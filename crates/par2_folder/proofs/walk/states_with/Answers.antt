@@ -1,6 +1,6 @@
 use Rattle.par2_folder.proofs.Common.{[], ◌++◌, List, ℕ, append-nil, ap, arith, subst, sym, take_all, texts_of, AreTo}
 use Rattle.par2_folder.proofs.Walks.{text_more}
-use Rattle.par2_folder.proofs.walk.with_texts.Goals as goal
+use Rattle.par2_folder.proofs.walk.states_with.Goals as goal
 
 pub loop-text-init : goal.loop-text-init
 loop-text-init c = record { few = c.requires; texts = λ before are. subst (AreTo c.args.runs) (sym (append-nil before)) are }
@@ -13,7 +13,7 @@ loop-text-preserved c = record {
       (c.in_ok-push.ensures.texts _ _ (c.loop-text.invariant.texts before are) (c.in_ok-run_of_text.ensures [] c.new.ensures));
 }
 
-pub returns-clause-texts : goal.returns-clause-texts
-returns-clause-texts c = λ before are.
+pub returns : goal.returns
+returns c = λ before are.
     let all = ap texts_of (take_all c.loop-text.text-index c.args.texts.now (omega (arith, c.loop-text-test.false))) in
-    subst (λ (texts : List (List ℕ)). AreTo c.loop-text.runs (before ++ texts)) all (c.loop-text.invariant.texts before are)
+    c.finish.ensures _ (subst (λ (texts : List (List ℕ)). AreTo c.loop-text.runs (before ++ texts)) all (c.loop-text.invariant.texts before are))

@@ -1,5 +1,5 @@
 use Rattle.par2_folder.proofs.Common.{◌≤◌, ◌++◌, ℕ, List, length, take, texts_of, AreTo}
-use Rattle.par2_folder.proofs.walk.with_texts.Given as goal
+use Rattle.par2_folder.proofs.walk.states_with.Given as goal
 
 abbrev pub invariant-loop-text : goal.invariant-loop-text
 invariant-loop-text l = record {
