@@ -1,6 +1,6 @@
 -- The names that proofs of this crate take from elsewhere.
 
-pub use Rattle.std.proofs.Common.{Bool, Bor, Err, IfErr, IfOk, IsTrue, IsUtf8, List, None, Ok, OnErr, OnOk, Option, Result, Some, T, [], add-one, ap, append-nil, append_assoc, arith, codes, cond, drop, drop-cons, false, flat_map, get_or, inl, inr, is_some, length, length-drop, map, nat_eq, nat_le, nat_lt, not, of_calls, refl, rules, set, subst, suc, sym, take, true, vec_len, zero, ℕ, ◌&&◌, ◌++◌, ◌+◌, ◌-◌, ◌<◌, ◌==◌, ◌||◌, ◌∙◌, ◌∷◌, ◌≡◌, ◌≤◌, ◌⊎◌}
+pub use Rattle.std.proofs.Common.{Bool, Bor, Err, IfErr, IfOk, IsTrue, IsUtf8, List, None, Ok, OnErr, OnOk, Option, Result, Some, T, [], add-one, ap, append-nil, append_assoc, arith, codes, cond, drop, drop-cons, false, get_or, inl, inr, is_some, length, length-drop, map, nat_eq, nat_le, nat_lt, not, of_calls, refl, rules, set, subst, suc, sym, take, true, vec_len, zero, ℕ, ◌&&◌, ◌++◌, ◌+◌, ◌-◌, ◌<◌, ◌==◌, ◌||◌, ◌∙◌, ◌∷◌, ◌≡◌, ◌≤◌, ◌⊎◌}
 pub use Rattle.std.proofs.Math.Seq.{drop-append_seam, take-append_seam, take-suc-set}
 pub use Rattle.std.proofs.lemmas.Bool.{and_parts, cases_lt, false≢true}
 pub use Rattle.std.proofs.lemmas.Fn.{FoldsTo-push, always_returns_same}
@@ -25,15 +25,16 @@ pub use Rattle.par2_digests.specs.declared.midstate.Midstate.{Midstate}
 pub use Rattle.par2_digests.specs.declared.pending.Pending.{Pending}
 pub use Rattle.par2_folder.specs.Below.{IsFrom, IsFront, fingerprint_input, folder_below, is_below}
 pub use Rattle.par2_folder.specs.Borders.{IsFurther, comes_before, is_before, new_run, run_texts, text_before, touches}
+pub use Rattle.par2_folder.specs.Filling.{IsTried}
 pub use Rattle.par2_folder.specs.Landmarks.{AreBehind, AreLandmarksOf, IsLandmarkOf}
 pub use Rattle.par2_folder.specs.Runs.{AreTo, HaveAbsorbed, ReachEach}
 pub use Rattle.par2_folder.specs.Snapshots.{file_of, files_in, folder_in}
 pub use Rattle.par2_folder.specs.Sorting.{IsAt, IsFile, IsGapFor, IsKept, IsSortedByName, file_at, folder_of, name_cmp}
 pub use Rattle.par2_folder.specs.Stores.{OnlyReads}
 pub use Rattle.par2_folder.specs.Views.{change_of}
-pub use Rattle.par2_folder.specs.declared.border.Border.{Border}
-pub use Rattle.par2_folder.specs.declared.border.Border.TheVariants.{At, Beginning, End}
 pub use Rattle.par2_folder.specs.declared.change.Change.{Change}
+pub use Rattle.par2_folder.specs.declared.snapshot.Border.{Border}
+pub use Rattle.par2_folder.specs.declared.snapshot.Border.TheVariants.{At, Beginning, End}
 pub use Rattle.par2_folder.specs.declared.snapshot.BorrowedFile.{BorrowedFile}
 pub use Rattle.par2_spec.proofs.FolderLaws.{taken_are_applicable, takes_first, takes_rest}
 pub use Rattle.par2_spec.proofs.TestLaws.{by_true, cond-not, is_true}

@@ -1,9 +1,8 @@
 -- Files sorted by their names: what a search finds in them, and what an edit at a place does to the folder that
 -- they make.
-use Rattle.par2_folder.proofs.Common.{◌≡◌, ℕ, zero, suc, ◌+◌, ◌<◌, ◌≤◌, Bool, true, false, cond, not, List, [], ◌∷◌, ◌++◌, length, flat_map, take, drop, get_or, set, is_some, Option, Some, None, inl, inr, Result, Ok, Err, IfOk, IfErr, IsTrue, T, refl, sym, ap, subst, ◌∙◌, arith, insert, remove, AllByRecursion, IsSearchInRange, IsBinarySearchResult, IsNonDecreasingBy, ordering_index, ordering_reverse, eq_by_cmp, is_lt, is_eq, Ordering, Less, Equal, Greater, tied_itself, alike_right, eq_by_cmp_equiv, cases_lt, and_parts, nat_list_cmp_total, entries, is_sorted, find, put, IsAntisymmetric, slice_cmp-IsAntisymmetric, nat_cmp-IsAntisymmetric, same_entries_map, same_map, entries_sorted, entries-from_sorted, get-from_sorted, entries-insert, get-remove, get-empty, where_key, find-where_key, is_sorted-where_key, length-map, get_or-map, length-take-le, get_or-take, take_all, drop_all, take_more, get_or_default, All-from_recursion, recursion_from_All, All-set, File, Folder, IsFolder, has, names, behind_length, md5, name_cmp, IsSortedByName, folder_of, file_at, IsAt, IsGapFor, IsFile, IsKept, by_true, is_true, cond-not}
+use Rattle.par2_folder.proofs.Common.{◌≡◌, ℕ, zero, suc, ◌+◌, ◌<◌, ◌≤◌, Bool, true, false, cond, not, List, [], ◌∷◌, ◌++◌, length, take, drop, get_or, set, is_some, Option, Some, None, inl, inr, Result, Ok, Err, IfOk, IfErr, IsTrue, T, refl, sym, ap, subst, ◌∙◌, arith, insert, remove, AllByRecursion, IsSearchInRange, IsBinarySearchResult, IsNonDecreasingBy, ordering_index, ordering_reverse, eq_by_cmp, is_lt, is_eq, Ordering, Less, Equal, Greater, tied_itself, alike_right, eq_by_cmp_equiv, cases_lt, and_parts, nat_list_cmp_total, entries, is_sorted, find, put, IsAntisymmetric, slice_cmp-IsAntisymmetric, nat_cmp-IsAntisymmetric, same_entries_map, same_map, entries_sorted, entries-from_sorted, get-from_sorted, entries-insert, get-remove, get-empty, where_key, find-where_key, is_sorted-where_key, length-map, get_or-map, length-take-le, get_or-take, take_all, drop_all, take_more, get_or_default, All-from_recursion, recursion_from_All, All-set, File, Folder, IsFolder, has, names, name_cmp, IsSortedByName, folder_of, file_at, IsAt, IsGapFor, IsFile, IsKept, by_true, is_true, cond-not}
 use Rattle.std.specs.FinMap as map_of
 use Rattle.std.proofs.lemmas.List.Sorted.{IsNonDecreasingBy-from_default}
-use Rattle.par2_spec.specs.Folders.{fingerprint}
 
 pub same_names : IsAntisymmetric name_cmp
 same_names = slice_cmp-IsAntisymmetric nat_cmp-IsAntisymmetric
@@ -232,10 +231,6 @@ stays_absent folder gone name none = get-remove nat_list_cmp_total folder gone n
     either : (b : Bool) (o : Option (List ℕ)) → o ≡ None → cond b None o ≡ None
     either true o h = refl
     either false o h = h
-
-pub fingerprint_of : (files : List File) → IsSortedByName files → fingerprint (folder_of files) ≡ md5 (flat_map (λ (file : File). behind_length file.0 ++ behind_length file.1) files)
-unfolding fingerprint
-fingerprint_of files h = ap (λ l. md5 (flat_map (λ (file : File). behind_length file.0 ++ behind_length file.1) l)) (files_of files h)
 
 -- ---- a folder that is filled file by file, in the order of another folder's names
 

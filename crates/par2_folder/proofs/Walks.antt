@@ -4,7 +4,7 @@ use Rattle.par2_spec.specs.Folders.{fingerprint}
 use Rattle.par2_spec.specs.Changes as defined
 use Rattle.par2_spec.specs.Changes.{are_applicable, folders_after}
 use Rattle.par2_folder.specs.Borders.{later_texts}
-use Rattle.par2_folder.specs.declared.runs.Runs.{Runs}
+use Rattle.par2_folder.specs.declared.walk.Runs.{Runs}
 use Rattle.par2_folder.specs.declared.snapshot.Snapshot.{Snapshot}
 use Rattle.par2_folder.proofs.Borders.{no_text, text_on, whole_text}
 
@@ -76,10 +76,6 @@ later_none : (border : Border) (folder : Folder) → later_texts border folder [
 unfolding later_texts
 later_none border folder = refl
 
-pub none_applicable : (folder : Folder) → IsTrue (are_applicable folder [])
-unfolding are_applicable
-none_applicable folder = refl
-
 -- the states that are left once a change is done
 next_parents : (from : Border) (folder : Folder) (change : defined.Change) (rest : List defined.Change) (states : List Midstate) (place : ℕ)
     → HaveAbsorbed (drop place states) (run_texts from folder (change ∷ rest))
@@ -107,8 +103,8 @@ pub record IsWithin (from to : Border) (states : List Midstate) (folder : Folder
   pub reached : AreTo runs done
   pub whole : done ++ later_texts to (folder_in snapshot) (map change_of rest) ≡ run_texts to folder (map change_of changes)
 
-module _ (from to : Border) (states : List Midstate) (folder : Folder) (changes : List Change) where
-  module _ (snapshot : Snapshot) (runs : Runs) (place i : ℕ) (within : IsWithin from to states folder changes snapshot runs place (drop i changes)) (lt : i < length changes) (change : Change) (is : change ≡ get_or changes i change) where
+module _ {from to : Border} {states : List Midstate} {folder : Folder} {changes : List Change} where
+  module _ {snapshot : Snapshot} {runs : Runs} {place i : ℕ} (within : IsWithin from to states folder changes snapshot runs place (drop i changes)) (lt : i < length changes) {change : Change} (is : change ≡ get_or changes i change) where
     split : drop i changes ≡ change ∷ drop (suc i) changes
     split = drop-cons changes i change lt ∙ ap (λ c. c ∷ drop (suc i) changes) (sym is)
 
@@ -118,7 +114,7 @@ module _ (from to : Border) (states : List Midstate) (folder : Folder) (changes 
     pub next_applicable : IsTrue (is_applicable (folder_in snapshot) (change_of change))
     next_applicable = first_applicable _ _ _ (subst (λ l. IsTrue (are_applicable (folder_in snapshot) (map change_of l))) split within.applicable)
 
-    module _ (there : ℕ) (place_is : there ≡ cond (touches from (change_of change)) (place + 1) place) where
+    module _ {there : ℕ} (place_is : there ≡ cond (touches from (change_of change)) (place + 1) place) where
       pub parents_then : HaveAbsorbed (drop there states) (run_texts from (effect (folder_in snapshot) (change_of change)) (map change_of (drop (suc i) changes)))
       parents_then =
           subst (λ n. HaveAbsorbed (drop n states) (run_texts from (effect (folder_in snapshot) (change_of change)) (map change_of (drop (suc i) changes)))) (sym place_is)
@@ -126,9 +122,9 @@ module _ (from to : Border) (states : List Midstate) (folder : Folder) (changes 
           (subst (λ l. HaveAbsorbed (drop place states) (run_texts from (folder_in snapshot) (map change_of l))) split within.parents))
 
       pub goes_on : (next : Snapshot) → folder_in next ≡ effect (folder_in snapshot) (change_of change) → IsKept (files_in next) → (more : Runs) → length more.pendings.items ≤ 8
-          → AreTo more (within.done ++ new_run to (folder_in next) (change_of change))
+          → (begins : Bool) → touches to (change_of change) ≡ begins → AreTo more (within.done ++ cond begins (text_before to (folder_in next) ∷ []) [])
           → IsWithin from to states folder changes next more there (drop (i + 1) changes)
-      goes_on next after kept more few reached =
+      goes_on next after kept more few begins is_begun reached =
           let rest = map change_of (drop (suc i) changes) in
           rw add-one (record {
             kept = kept;
@@ -137,7 +133,7 @@ module _ (from to : Border) (states : List Midstate) (folder : Folder) (changes 
                 (rest_applicable _ _ _ (subst (λ l. IsTrue (are_applicable (folder_in snapshot) (map change_of l))) split within.applicable));
             parents = subst (λ f. HaveAbsorbed (drop there states) (run_texts from f rest)) (sym after) parents_then;
             done = within.done ++ new_run to (folder_in next) (change_of change);
-            reached = reached;
+            reached = subst (λ t. AreTo more (within.done ++ cond t (text_before to (folder_in next) ∷ []) [])) (sym is_begun) reached;
             whole = append_assoc within.done (new_run to (folder_in next) (change_of change)) (later_texts to (folder_in next) rest)
                 ∙ ap (λ f. within.done ++ (new_run to f (change_of change) ++ later_texts to f rest)) after
                 ∙ ap (λ l. within.done ++ l) (sym (later_first to (folder_in snapshot) (change_of change) rest))
@@ -146,9 +142,9 @@ module _ (from to : Border) (states : List Midstate) (folder : Folder) (changes 
           })
 
   -- at the end
-  pub arrived : (snapshot : Snapshot) (runs : Runs) (place i : ℕ) → IsWithin from to states folder changes snapshot runs place (drop i changes) → length changes ≤ i
+  pub arrived : {snapshot : Snapshot} {runs : Runs} {place i : ℕ} → IsWithin from to states folder changes snapshot runs place (drop i changes) → length changes ≤ i
       → AreTo runs (run_texts to folder (map change_of changes))
-  arrived snapshot runs place i within over =
+  arrived {snapshot = snapshot} {runs = runs} {i = i} within over =
       let none : later_texts to (folder_in snapshot) (map change_of (drop i changes)) ≡ [] =
       ap (λ l. later_texts to (folder_in snapshot) (map change_of l)) (drop_all i changes over) ∙ later_none to (folder_in snapshot) in
       subst (AreTo runs) (sym (append-nil within.done) ∙ ap (λ l. within.done ++ l) (sym none) ∙ within.whole) within.reached

@@ -5,8 +5,8 @@ use Rattle.par2_spec.specs.Folders.{Folder}
 use Rattle.par2_spec.specs.Changes.{Change, effect}
 use Rattle.par2_folder.specs.Below.{first_name, fingerprint_input, is_below}
 use Rattle.par2_folder.specs.Views.{change_of}
-use Rattle.par2_folder.specs.declared.border.Border.{Border}
-use Rattle.par2_folder.specs.declared.border.Border.TheVariants.{Beginning, At, End}
+use Rattle.par2_folder.specs.declared.snapshot.Border.{Border}
+use Rattle.par2_folder.specs.declared.snapshot.Border.TheVariants.{Beginning, At, End}
 use Rattle.par2_folder.specs.declared.change.Change.{Change as Kept}
 
 -- whether a name comes before the border

@@ -6,7 +6,7 @@ use Rattle.par2_spec.specs.Folders.{Folder}
 use Rattle.par2_folder.specs.Below.{fingerprint_input, folder_below}
 use Rattle.par2_folder.specs.Borders.{touches}
 use Rattle.par2_folder.specs.Views.{change_of}
-use Rattle.par2_folder.specs.declared.border.Border.{Border}
+use Rattle.par2_folder.specs.declared.snapshot.Border.{Border}
 use Rattle.par2_folder.specs.declared.change.Change.{Change}
 use Rattle.par2_folder.specs.declared.landmarks.Landmark.{Landmark}
 use Rattle.par2_folder.specs.declared.landmarks.Landmarks.{Landmarks}

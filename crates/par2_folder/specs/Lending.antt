@@ -5,7 +5,7 @@ use Rattle.par2_spec.specs.Changes as defined
 use Rattle.par2_folder.specs.Views.{change_of}
 use Rattle.par2_folder.specs.declared.change.Change.{Change}
 use Rattle.par2_folder.specs.contracts.change.Change.{the_row as the_change}
-use Rattle.par2_folder.specs.contracts.changes.Changes.{the_row}
+use Rattle.par2_folder.specs.contracts.change.Changes.{the_row}
 
 -- as many changes as the old ones: the new ones, filled up with old ones where they are fewer
 abbrev pub with_changes : List defined.Change → List defined.Change → List defined.Change

@@ -1,11 +1,10 @@
 -- States and the texts that they absorb.
-use Rattle.std.specs.Prelude.{ℕ, List, Vec, [], ◌∷◌}
-use Rattle.std.specs.declared.alloc.Global.{Global}
+use Rattle.std.specs.Prelude.{ℕ, List, [], ◌∷◌}
 use Rattle.par2_digests.specs.Messages.{HasAbsorbed}
 use Rattle.par2_digests.specs.Pendings.{Reaches}
 use Rattle.par2_digests.specs.declared.midstate.Midstate.{Midstate}
 use Rattle.par2_digests.specs.declared.pending.Pending.{Pending}
-use Rattle.par2_folder.specs.declared.runs.Runs.{Runs}
+use Rattle.par2_folder.specs.declared.walk.Runs.{Runs}
 
 -- the states have absorbed the first texts, and the pending ones reach the others
 abbrev pub ReachEach : List Midstate → List Pending → List (List ℕ) → Type 0
@@ -25,7 +24,3 @@ AreTo runs texts = ReachEach runs.states.items runs.pendings.items texts
 -- the runs lead to these texts
 abbrev pub LeadTo : List (List ℕ) → Runs → Type 0
 LeadTo texts runs = AreTo runs texts
-
--- and the states have taken them
-abbrev pub HaveTaken : List (List ℕ) → Vec Midstate Global → Type 0
-HaveTaken texts states = HaveAbsorbed states.items texts

@@ -3,8 +3,8 @@ use Rattle.std.specs.Prelude.{◌≤◌, ℕ, List, length, take}
 use Rattle.par2_digests.specs.Messages.{HasAbsorbed}
 use Rattle.par2_spec.specs.Folders.{Folder}
 use Rattle.par2_folder.specs.Borders.{text_before}
-use Rattle.par2_folder.specs.declared.border.Border.{Border}
-use Rattle.par2_folder.specs.declared.survey.Progress.{Progress}
+use Rattle.par2_folder.specs.declared.snapshot.Border.{Border}
+use Rattle.par2_folder.specs.declared.landmarks.Progress.{Progress}
 
 -- the files before the border are absorbed, and beside them the first bytes of the text
 pub record IsAt (border : Border) (folder : Folder) (text : List ℕ) (progress : Progress) : Type 0 where

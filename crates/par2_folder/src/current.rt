@@ -6,9 +6,8 @@ ghost use Rattle.par2_folder.specs.Stores.{CountsFailures};
 
 use crate::directory::{Directory, Found, Place};
 use crate::listing::names_listed;
-use crate::reading::read_opened;
+use crate::reading::{read_opened, wait_for, written_to};
 use crate::view::Disk;
-use crate::waiting::{wait_for, written_to};
 use crate::{Count, Name, ReadFault, StoreFault};
 use std::alloc::Global;
 use std::fs::{File, Files, Metadata};
@@ -153,10 +152,8 @@ impl<'r, R: Files + AllocGlobal> Directory for CurrentDirectory<'r, R> {
     }
 
     fn wait_for_temporary(&mut self) -> Result<(), StoreFault> {
-        let answer = match self.written.take() {
-            Some(file) => wait_for(Ok(file)),
-            None => Err(Error::from(ErrorKind::NotFound)),
-        };
+        let written = self.written.take();
+        let answer = wait_for(written.ok_or(Error::from(ErrorKind::NotFound)));
         self.counted(answer)
     }
 

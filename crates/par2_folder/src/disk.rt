@@ -44,10 +44,7 @@ impl<D: Directory> DiskStore<D> {
     {
         match self.directory.find(Place::Journal) {
             Ok(Found::Nothing) => Ok(None),
-            Ok(Found::File(size)) => match self.directory.read(alloc, Place::Journal, size) {
-                Ok(bytes) => Ok(Some(bytes)),
-                Err(fault) => Err(fault),
-            },
+            Ok(Found::File(size)) => Ok(Some(self.directory.read(alloc, Place::Journal, size)?)),
             Ok(Found::Other) | Err(StoreFault) => Err(ReadFault::Store),
         }
     }

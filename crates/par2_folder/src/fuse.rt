@@ -9,7 +9,7 @@ use std::mem;
 
 /// A store that passes its first calls on to another store, and then fails each. The first call that fails may do
 /// its work first.
-#[derive(Debug, Drop)]
+#[derive(Drop)]
 pub struct FuseStore<S: FolderStore> {
     inner: S,
     left: u64,

@@ -10,12 +10,11 @@ ghost use Rattle.std.specs.declared.io.Error.{Error};
 ghost use Rattle.par2_folder.specs.Listings.{Adds, AreNamesOf, CountsAs, FailsAtItem, FailsBy, IsCounted, IsMisnamed};
 ghost use Rattle.par2_folder.specs.Reading.{IsToldAs};
 
-use crate::reading::fault_of;
+use crate::name::is_reserved;
 use crate::{BadName, Name, ReadFault};
 use std::alloc::Global;
 use std::fs::{DirEntry, FileType, Files};
-use std::io;
-use std::io::{Error, ErrorKind};
+use std::io::{self, Error, ErrorKind};
 
 /// An entry of a folder.
 pub trait Entry {
@@ -60,8 +59,9 @@ fn name_of(kind: FileType, text: &str) -> io::Result<Option<Name>>
     if !kind.is_file() {
         return Ok(None);
     }
-    match Name::listed(text) {
-        Ok(name) => Ok(name),
+    match Name::new(text) {
+        Ok(name) => Ok(Some(name)),
+        Err(BadName) if is_reserved(text.as_bytes()) => Ok(None),
         Err(BadName) => Err(Error::from(ErrorKind::InvalidFilename)),
     }
 }
@@ -107,29 +107,6 @@ fn names_given<I: Iterator<Item = io::Result<E>> + Drop, E: Entry + Drop>(
     Ok(names)
 }
 
-// The names that a listing gives, in order.
-fn sorted_names<I: Iterator<Item = io::Result<E>> + Drop, E: Entry + Drop>(
-    listing: I,
-    alloc: Global,
-) -> Result<Vec<Name>, ReadFault>
-    requires can { I.can_next listing }
-    requires ends { IsFinite (I.remaining listing) }
-    ensures names { IfOk result (λ names. (given : List (List ℕ))
-        × AreNamesOf E.kind_gives E.text_of I.next_gives listing given
-        × IsPermutation given names.items) }
-    ensures sorted { IfOk result (λ names. IsSorted (slice_cmp nat_cmp) names.items) }
-    ensures store { IsErrOf result ReadFault.Store → (error : Error)
-        × IsToldAs error ReadFault.Store
-        × FailsAtItem E.kind_gives E.text_of I.next_gives listing error }
-{
-    let mut names = match names_given(listing, alloc) {
-        Ok(names) => names,
-        Err(error) => return Err(fault_of(&error)),
-    };
-    names.sort_unstable();
-    Ok(names)
-}
-
 /// The names of the regular files of a listing that was opened, if it was: in order, and without those that are kept
 /// for the history.
 pub fn names_listed<I: Iterator<Item = io::Result<E>> + Drop, E: Entry + Drop>(
@@ -148,8 +125,7 @@ pub fn names_listed<I: Iterator<Item = io::Result<E>> + Drop, E: Entry + Drop>(
         (error : Error) × IsToldAs error ReadFault.Store
         × FailsAtItem E.kind_gives E.text_of I.next_gives listing error) }
 {
-    match opened {
-        Ok(listing) => sorted_names(listing, alloc),
-        Err(error) => Err(fault_of(&error)),
-    }
+    let mut names = names_given(opened?, alloc)?;
+    names.sort_unstable();
+    Ok(names)
 }

@@ -4,7 +4,7 @@ use std::alloc::{AllocError, Global};
 
 /// A folder and a journal in memory. It is honest, and where a growth is refused in a writing call it fails. It has no
 /// power to lose: what may remain is what is there.
-#[derive(Debug, Drop)]
+#[derive(Drop)]
 pub struct MemoryStore {
     alloc: Global,
     folder: Folder,
@@ -124,18 +124,12 @@ impl Store for MemoryStore {
 
 impl FolderStore for MemoryStore {
     fn names(&mut self, _alloc: Global) -> Result<Vec<Name>, ReadFault> {
-        match self.folder.names() {
-            Ok(names) => Ok(names),
-            Err(AllocError) => Err(ReadFault::Memory),
-        }
+        Ok(self.folder.names()?)
     }
 
     fn read(&mut self, alloc: Global, name: &Name) -> Result<Vec<u8>, ReadFault> {
         match self.folder.get(name) {
-            Some(bytes) => match bytes.to_vec(alloc) {
-                Ok(copy) => Ok(copy),
-                Err(AllocError) => Err(ReadFault::Memory),
-            },
+            Some(bytes) => Ok(bytes.to_vec(alloc)?),
             None => {
                 let _fault = self.refuse();
                 Err(ReadFault::Store)
@@ -146,10 +140,7 @@ impl FolderStore for MemoryStore {
     fn read_journal(&mut self, alloc: Global) -> Result<Option<Vec<u8>>, ReadFault> {
         match &self.journal {
             None => Ok(None),
-            Some(bytes) => match bytes.as_slice().to_vec(alloc) {
-                Ok(copy) => Ok(Some(copy)),
-                Err(AllocError) => Err(ReadFault::Memory),
-            },
+            Some(bytes) => Ok(Some(bytes.as_slice().to_vec(alloc)?)),
         }
     }
 

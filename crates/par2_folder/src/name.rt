@@ -42,13 +42,6 @@ fn has_length(bytes: &[u8]) -> bool
     !bytes.is_empty() && bytes.len() <= 255
 }
 
-// Whether the text means the folder or the one above it.
-fn is_directory(text: &str) -> bool
-    ensures { result ≡ (bytes_eq text.now (codes ".") || bytes_eq text.now (codes "..")) }
-{
-    text == "." || text == ".."
-}
-
 // Whether a byte stands in the text.
 fn has_byte(bytes: &[u8], barred: u8) -> bool
     ensures { result ≡ list_any (λ b. b == barred) bytes.now }
@@ -56,8 +49,8 @@ fn has_byte(bytes: &[u8], barred: u8) -> bool
     bytes.iter().any(|byte| *byte == barred)
 }
 
-// Whether the text begins as the files do that are kept for the history.
-fn is_reserved(bytes: &[u8]) -> bool
+/// Whether the text begins as the files do that are kept for the history.
+pub fn is_reserved(bytes: &[u8]) -> bool
     ensures { result ≡ starts_with nat_eq bytes.now (codes ".par2undo") }
 {
     bytes.starts_with(b".par2undo")
@@ -76,7 +69,7 @@ fn is_name(text: &str) -> bool
     if has_byte(bytes, b'/') || has_byte(bytes, 0) {
         return false;
     }
-    if is_directory(text) {
+    if text == "." || text == ".." {
         return false;
     }
     !is_reserved(bytes)
@@ -105,25 +98,7 @@ impl Name {
         let Ok(text) = str::from_utf8(bytes) else {
             return None;
         };
-        match Name::new(text) {
-            Ok(name) => Some(name),
-            Err(BadName) => None,
-        }
-    }
-
-    /// The name of a file that a folder lists; None for the files that are kept for the history.
-    pub fn listed(text: &str) -> Result<Option<Name>, BadName>
-        ensures named { IsTrue (is_name text.now) → result ≡ Ok (Some text.now) }
-        ensures kept { IsFalse (is_name text.now)
-            → IsTrue (starts_with nat_eq text.now (codes ".par2undo")) → result ≡ Ok None }
-        ensures other { IsFalse (is_name text.now)
-            → IsFalse (starts_with nat_eq text.now (codes ".par2undo")) → IsErr result }
-    {
-        match Name::new(text) {
-            Ok(name) => Ok(Some(name)),
-            Err(_) if is_reserved(text.as_bytes()) => Ok(None),
-            Err(fault) => Err(fault),
-        }
+        Name::new(text).ok()
     }
 
     /// The name's text.

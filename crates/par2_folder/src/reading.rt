@@ -1,10 +1,12 @@
-//! Reading a file to its end.
+//! Reading a file to its end, and waiting until a system has kept what was written.
+ghost use Rattle.std.specs.Io.KnownBytes.{Appends};
 ghost use Rattle.std.specs.Prelude.{◌≡◌, IfOk, IfErr, IfSome, IsErr};
 ghost use Rattle.par2_folder.specs.Reading.{IsToldAs};
 
 use crate::ReadFault;
 use std::alloc::{AllocError, Global};
-use std::io::{self, Error, ErrorKind, Read};
+use std::fs::OpenFile;
+use std::io::{self, Error, ErrorKind, Read, Write};
 
 // How much is read at a time.
 const BLOCK: usize = 1 << 16;
@@ -12,13 +14,25 @@ const BLOCK: usize = 1 << 16;
 // A file that has not ended after so many reads can't be read.
 const READS: u64 = 1 << 32;
 
-/// Out of memory, or a failure.
-pub fn fault_of(error: &Error) -> ReadFault
-    ensures { IsToldAs error.now result }
-{
-    match error.kind() {
-        ErrorKind::OutOfMemory => ReadFault::Memory,
-        _ => ReadFault::Store,
+impl From<AllocError> for ReadFault {
+    ghost use Rattle.par2_folder.specs.declared.store.ReadFault.{ReadFault};
+
+    ghost from_gives = { λ _ fault. fault ≡ ReadFault.Memory };
+
+    fn from(_error: AllocError) -> Self {
+        ReadFault::Memory
+    }
+}
+
+// Out of memory, or a failure.
+impl From<Error> for ReadFault {
+    ghost from_gives = { λ error fault. IsToldAs error fault };
+
+    fn from(error: Error) -> Self {
+        match error.kind() {
+            ErrorKind::OutOfMemory => ReadFault::Memory,
+            _ => ReadFault::Store,
+        }
     }
 }
 
@@ -32,23 +46,14 @@ pub fn read_within<F: Read>(
     ensures bytes { IfOk result
         (λ bytes. IfSome (F.remaining file.old) (λ left. bytes.items ≡ left)) }
 {
-    let mut bytes = match Vec::with_capacity(alloc, size) {
-        Ok(bytes) => bytes,
-        Err(AllocError) => return Err(ReadFault::Memory),
-    };
-    let mut block = match Vec::from_elem(alloc, 0u8, size.min(BLOCK - 1) + 1) {
-        Ok(block) => block,
-        Err(AllocError) => return Err(ReadFault::Memory),
-    };
+    let mut bytes = Vec::with_capacity(alloc, size)?;
+    let mut block = Vec::from_elem(alloc, 0u8, size.min(BLOCK - 1) + 1)?;
     for _ in 0..reads {
         match file.read(&mut block) {
             Ok(0) => return Ok(bytes),
-            Ok(n) => match bytes.extend_from_slice(&block[..n]) {
-                Ok(()) => {}
-                Err(AllocError) => return Err(ReadFault::Memory),
-            },
+            Ok(n) => bytes.extend_from_slice(&block[..n])?,
             Err(error) if error.kind() == ErrorKind::Interrupted => {}
-            Err(error) => return Err(fault_of(&error)),
+            Err(error) => return Err(error.into()),
         }
     }
     Err(ReadFault::Store)
@@ -65,8 +70,24 @@ pub fn read_opened<F: Read + Drop>(
     ensures unopened { IsErr opened → IsErr result }
     ensures told { IfErr opened (λ error. IfErr result (IsToldAs error)) }
 {
-    match opened {
-        Ok(mut file) => read_within(&mut file, alloc, size as usize, READS),
-        Err(error) => Err(fault_of(&error)),
-    }
+    let mut reader = opened?;
+    read_within(&mut reader, alloc, size as usize, READS)
+}
+
+/// A file that was opened, once the bytes are written to it.
+pub fn written_to<F: Write + Drop>(opened: io::Result<F>, bytes: &[u8]) -> io::Result<F>
+    ensures bytes { IfOk result (λ file. IfOk opened (λ before.
+        Appends (F.contents before) (F.contents file) bytes.now)) }
+    ensures unopened { IsErr opened → IsErr result }
+{
+    let mut file = opened?;
+    file.write_all(bytes)?;
+    Ok(file)
+}
+
+/// Waits for a file, or for a directory, that was opened.
+pub fn wait_for<F: OpenFile + Drop>(opened: io::Result<F>) -> io::Result<()>
+    ensures { IsErr opened → IsErr result }
+{
+    opened?.sync_all()
 }

@@ -1,14 +1,19 @@
-//! The files of a folder where they lie, led through changes that are not made.
-ghost use Rattle.std.specs.Prelude.{◌≡◌, map, Some, None, IfOk, IfErr, OnOk, IsTrue};
+//! The files of a folder where they lie, led through changes that are not made, and borders among their names.
 ghost use Rattle.std.specs.FinMap as map_of;
-ghost use Rattle.par2_spec.specs.Folders.{has, bytes_of};
+ghost use Rattle.std.specs.Prelude.{◌≡◌, map, Some, None, IfOk, IfErr, OnOk, IsTrue, ◌++◌, ◌∷◌, []};
+ghost use Rattle.par2_spec.specs.Folders.{has, bytes_of, behind_length};
 ghost use Rattle.par2_spec.specs.Changes.{is_applicable, effect};
 ghost use Rattle.par2_folder.specs.Sorting.{IsAt, IsGapFor, IsKept, folder_of, file_at};
 ghost use Rattle.par2_folder.specs.Views.{change_of};
-ghost use Rattle.par2_folder.specs.Below.{IsFront, is_below};
+ghost use Rattle.par2_folder.specs.Below.{IsFront, is_below, fingerprint_input};
 ghost use Rattle.par2_folder.specs.Snapshots.{file_of, files_in, folder_in};
+ghost use Rattle.par2_digests.specs.Messages.{HasAbsorbed, message_of};
+ghost use Rattle.par2_digests.specs.Pendings.{Reaches};
+ghost use Rattle.par2_folder.specs.Borders.{IsFurther, comes_before, is_before, text_before, touches};
+ghost use Rattle.par2_folder.specs.declared.snapshot.Border.TheVariants.{At};
 
 use crate::{Bytes, Change, Name};
+use par2_digests::{Midstate, Part, Pending};
 use std::alloc::{AllocError, Global};
 
 /// A file by its name and its bytes, where they lie.
@@ -25,7 +30,7 @@ pub struct Snapshot<'a> {
 }
 
 // The file where it lies.
-fn borrowed(file: &(Name, Bytes)) -> BorrowedFile<'_>
+pub fn borrowed(file: &(Name, Bytes)) -> BorrowedFile<'_>
     ensures { file_of result ≡ file.now }
 {
     BorrowedFile {
@@ -47,28 +52,7 @@ fn search_borrowed(files: &[BorrowedFile], name: &Name) -> Result<usize, usize>
     files.binary_search_by(|file| file.name.cmp(name))
 }
 
-// How many files have names that come before the name.
-pub fn count_below(files: &[BorrowedFile], name: &Name) -> usize
-    requires { IsKept (map file_of files.now) }
-    ensures { IsFront (is_below name.now) (map file_of files.now) result }
-{
-    match search_borrowed(files, name) {
-        Ok(at) => at,
-        Err(at) => at,
-    }
-}
-
 impl<'a> Snapshot<'a> {
-    pub fn of(alloc: Global, files: &'a [(Name, Bytes)]) -> Result<Snapshot<'a>, AllocError>
-        ensures { IfOk result (λ snapshot. files_in snapshot ≡ files.now) }
-    {
-        let mut all = Vec::with_capacity(alloc, files.len())?;
-        for file in files {
-            all.push(borrowed(file))?;
-        }
-        Ok(Snapshot { files: all })
-    }
-
     // Puts a file of this name and these bytes in, in place of one of the name.
     fn put(&mut self, name: &'a Name, bytes: &'a Bytes) -> Result<(), AllocError>
         requires { IsKept (files_in self.old) }
@@ -122,4 +106,97 @@ impl<'a> Snapshot<'a> {
             }
         }
     }
+}
+
+/// A border among names: before all, before one, or after all.
+#[derive(Clone, Copy)]
+pub enum Border<'a> {
+    Beginning,
+    At(&'a Name),
+    End,
+}
+
+/// Whether the border comes before that at the name.
+pub fn is_further(border: Border<'_>, name: &Name) -> bool
+    ensures which { result ≡ comes_before border.entry name.now }
+    ensures further { IsTrue result → IsFurther border.entry (At name.entry) }
+{
+    match border {
+        Border::Beginning => true,
+        Border::At(before) => before < name,
+        Border::End => false,
+    }
+}
+
+/// Whether the change touches a name before the border.
+pub fn touches(border: Border<'_>, change: &Change) -> bool
+    ensures { result ≡ touches border.entry (change_of change.now) }
+{
+    match border {
+        Border::Beginning => false,
+        Border::At(next) => &change.first_name() < next,
+        Border::End => true,
+    }
+}
+
+// How many files have names before the border.
+fn count_before(files: &[BorrowedFile], border: Border<'_>) -> usize
+    requires { IsKept (map file_of files.now) }
+    ensures { IsFront (is_before border.entry) (map file_of files.now) result }
+{
+    match border {
+        Border::Beginning => 0,
+        Border::At(name) => match search_borrowed(files, name) {
+            Ok(at) => at,
+            Err(at) => at,
+        },
+        Border::End => files.len(),
+    }
+}
+
+// Adds the file's name and its bytes, each after its length.
+fn push_file<'a>(parts: &mut Vec<Part<'a>>, file: &BorrowedFile<'a>) -> Result<(), AllocError>
+    ensures { OnOk result (message_of parts.new.items
+        ≡ message_of parts.old.items ++ fingerprint_input (file_of file.now ∷ [])) }
+{
+    let (name, bytes) = (file.name.as_str().as_bytes(), file.bytes.as_slice());
+    parts.extend_from_slice(&[
+        Part::Length(name.len() as u64),
+        Part::Bytes(name),
+        Part::Length(bytes.len() as u64),
+        Part::Bytes(bytes),
+    ])
+}
+
+// The files as parts of a message.
+fn parts_of<'a>(alloc: Global, files: &[BorrowedFile<'a>]) -> Result<Vec<Part<'a>>, AllocError>
+    ensures { IfOk result (λ parts. message_of parts.items ≡ fingerprint_input (map file_of
+        files.now)) }
+{
+    let mut parts = Vec::with_capacity(alloc, files.len().saturating_mul(4))?;
+    for file in files {
+        push_file(&mut parts, file)?;
+    }
+    Ok(parts)
+}
+
+/// The state before the first border, with the files between the borders to absorb.
+pub fn run_between<'a>(
+    alloc: Global,
+    state: Midstate,
+    snapshot: &Snapshot<'a>,
+    from: Border<'_>,
+    to: Border<'_>,
+) -> Result<Pending<'a>, AllocError>
+    requires kept { IsKept (files_in snapshot.now) }
+    requires further { IsFurther from to }
+    ensures { let folder = folder_in snapshot.now in
+        HasAbsorbed state (text_before from.entry folder)
+        → IfOk result (λ run. Reaches run (text_before to.entry folder)) }
+{
+    let files = &snapshot.files;
+    let start = count_before(files, from);
+    let end = count_before(files, to);
+    let parts = parts_of(alloc, &files[start..end])?;
+    Ok(Pending { state, parts })
 }

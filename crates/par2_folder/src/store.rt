@@ -1,9 +1,10 @@
-//! A place that keeps a flat folder and a journal.
-ghost use Rattle.std.specs.Prelude.{◌≡◌, ◌+◌};
+//! A place that keeps a flat folder and a journal, and how its folder is read into memory.
+ghost use Rattle.std.specs.Prelude.{◌≡◌, ◌+◌, IfOk};
 ghost use Rattle.par2_spec.specs.Changes.{Write, Replace, Rename, Remove};
+ghost use Rattle.par2_folder.specs.Filling.{HasFilesOf};
 ghost use Rattle.par2_folder.specs.Stores.{CountsFailures, CountsReadFailures, Makes, OnlyReads, PutsJournal, ReadsFile, ReadsJournal, ReadsNames};
 
-use crate::{Name, Store};
+use crate::{Change, Folder, Name, Store};
 use std::alloc::Global;
 use thiserror::Error;
 
@@ -73,4 +74,23 @@ pub trait FolderStore: Store {
         ensures put { PutsJournal Self.Store self.old self.new bytes.now result }
         ensures failures { CountsFailures Self.failures self.old self.new result }
         ensures counted { Self.writing_calls self.new ≡ Self.writing_calls self.old + 1 };
+}
+
+/// The folder of a store: its names are read, and then each file in their order. Where a store that is not honest
+/// lists a name twice, the bytes that it gave first count.
+pub fn read_folder<S: FolderStore>(alloc: Global, store: &mut S) -> Result<Folder, ReadFault>
+    ensures files { S.honest store.old → IfOk result (HasFilesOf (S.contents store.old)) }
+    ensures reads { OnlyReads S.Store store.old store.new }
+    ensures failures { CountsReadFailures S.failures store.old store.new result }
+    ensures possible { S.honest store.old → S.impossible store.new ≡ S.impossible store.old }
+{
+    let names = store.names(alloc)?;
+    let mut folder = Folder::new(alloc);
+    folder.reserve(names.len())?;
+    for name in &names {
+        let bytes = store.read(alloc, name)?;
+        let mut change = Change::Write(name.copied(), bytes.into());
+        let _taken = folder.apply(&mut change);
+    }
+    Ok(folder)
 }

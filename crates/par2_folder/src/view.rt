@@ -1,7 +1,10 @@
-//! What contracts see of stores, and of the directories that they go by.
-ghost use Rattle.std.specs.Prelude.{ℕ, List, Option};
+//! What contracts alone see: of stores, of the directories that they go by, and how often something has happened.
+ghost use Rattle.std.specs.Prelude.{ℕ, List, Option, ◌≡◌, ◌+◌};
 ghost use Rattle.par2_spec.specs.Stores.{Contents};
 ghost use Rattle.par2_folder.specs.declared.store.ReadFault.{ReadFault};
+ghost use Rattle.std.specs.Borrow.{ftrue};
+
+use std::marker::Model;
 
 /// What contracts see of a store. It takes nothing when it runs.
 pub trait Store {
@@ -50,4 +53,37 @@ pub trait Disk {
 
     /// How often a call that writes or waits has failed.
     ghost failures: { Self → ℕ };
+}
+
+/// A count.
+#[derive(Debug, Drop)]
+pub struct Count {
+    pub ghost count: { ℕ },
+}
+
+impl Model for Count {
+    ghost also_owns = { λ _. ftrue };
+}
+
+impl Count {
+    /// None yet.
+    pub fn new() -> Count
+        ensures { result.count ≡ 0 }
+    {
+        Count {}
+    }
+
+    // The count after one more.
+    fn next(&self) -> Count
+        ensures { result.count ≡ self.now.count + 1 }
+    {
+        Count {}
+    }
+
+    /// Counts one more.
+    pub fn rise(&mut self)
+        ensures { self.new.count ≡ self.old.count + 1 }
+    {
+        *self = self.next();
+    }
 }

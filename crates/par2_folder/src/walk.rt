@@ -2,163 +2,94 @@
 //!
 //! Before a border, neighbours among these folders are alike unless the change between them touches a name there. So
 //! they fall into runs, and one state that has absorbed the files before the border serves a run.
-ghost use Rattle.std.specs.Prelude.{◌≡◌, ◌≤◌, ◌<◌, ◌+◌, ◌++◌, ◌∷◌, [], ◌^◌, cond, ℕ, List, length, map, IfOk, OnOk, IsTrue};
+ghost use Rattle.std.specs.Prelude.{◌≡◌, ◌≤◌, ◌++◌, ◌∷◌, [], ℕ, List, length, IfOk, OnOk, map, IsTrue};
+ghost use Rattle.par2_digests.specs.Pendings.{Reaches};
+ghost use Rattle.par2_folder.specs.Runs.{AreTo, HaveAbsorbed, LeadTo};
 ghost use Rattle.md5.specs.Md5.{md5};
 ghost use Rattle.par2_digests.specs.Messages.{HasAbsorbed};
-ghost use Rattle.par2_digests.specs.Pendings.{Reaches};
 ghost use Rattle.par2_digests.specs.Texts.{texts_of};
-ghost use Rattle.par2_spec.specs.Changes.{are_applicable, effect, is_applicable};
-ghost use Rattle.par2_folder.specs.Sorting.{IsKept};
+ghost use Rattle.par2_spec.specs.Changes.{are_applicable, folders_after, takes_all};
+ghost use Rattle.par2_spec.specs.Folders.{fingerprint};
 ghost use Rattle.par2_folder.specs.Views.{change_of};
-ghost use Rattle.par2_folder.specs.Borders.{new_run, text_before, texts_by, touches, IsFurther};
+ghost use Rattle.par2_folder.specs.Borders.{texts_by, IsFurther};
 ghost use Rattle.par2_folder.specs.Landmarks.{AreLandmarksOf};
-ghost use Rattle.par2_folder.specs.Runs.{AreTo, HaveAbsorbed, HaveTaken, LeadTo};
-ghost use Rattle.par2_folder.specs.Snapshots.{files_in, folder_in};
-ghost use Rattle.par2_folder.specs.declared.border.Border.TheVariants.{At, End};
+ghost use Rattle.par2_folder.specs.declared.snapshot.Border.TheVariants.{End};
 
-use crate::border::{Border, is_further, parts_between, touches};
 use crate::landmarks::Landmarks;
-use crate::runs::Runs;
-use crate::snapshot::Snapshot;
+use crate::snapshot::{Border, is_further, run_between, touches};
 use crate::{Change, Folder, Name};
-use par2_digests::{Midstate, Part, Pending};
+use par2_digests::{LANES, Midstate, Part, Pending, absorb_each};
 use std::alloc::{AllocError, Global};
+
+/// States, after which others have parts to absorb yet.
+#[derive(Drop)]
+pub struct Runs<'a> {
+    states: Vec<Midstate>,
+    pendings: Vec<Pending<'a>>,
+}
+
+impl<'a> Runs<'a> {
+    pub(crate) fn new(alloc: Global) -> Runs<'a>
+        ensures few { length result.pendings.items ≤ 8 }
+        ensures texts { AreTo result [] }
+    {
+        Runs {
+            states: Vec::new(alloc),
+            pendings: Vec::new(alloc),
+        }
+    }
+
+    // Absorbs all parts.
+    fn settle(&mut self) -> Result<(), AllocError>
+        requires few { length self.old.pendings.items ≤ 8 }
+        ensures empty { OnOk result (self.new.pendings.items ≡ []) }
+        ensures texts { (texts : List (List ℕ))
+            → AreTo self.old texts → OnOk result (AreTo self.new texts) }
+    {
+        let states = absorb_each(&self.pendings);
+        self.states
+            .extend_from_slice(&states[..self.pendings.len()])?;
+        self.pendings.clear();
+        Ok(())
+    }
+
+    /// Adds a state and the parts that it has to absorb.
+    pub(crate) fn push(&mut self, pending: Pending<'a>) -> Result<(), AllocError>
+        requires few { length self.old.pendings.items ≤ 8 }
+        ensures few { OnOk result (length self.new.pendings.items ≤ 8) }
+        ensures texts { (texts : List (List ℕ)) (text : List ℕ)
+            → AreTo self.old texts → Reaches pending.entry text
+            → OnOk result (AreTo self.new (texts ++ text ∷ [])) }
+    {
+        if self.pendings.len() == LANES {
+            self.settle()?;
+        }
+        Ok(self.pendings.push(pending)?)
+    }
+
+    /// The states after all parts.
+    pub(crate) fn finish(mut self) -> Result<Vec<Midstate>, AllocError>
+        requires few { length self.pendings.items ≤ 8 }
+        ensures { (texts : List (List ℕ)) → AreTo self.entry texts
+            → IfOk result (λ states. HaveAbsorbed states.items texts) }
+    {
+        self.settle()?;
+        Ok(self.states)
+    }
+}
 
 // The most borders at names: at each, the changes are gone along once.
 const MOST_BORDERS: usize = 64;
 
-// The first names that the changes touch, in order.
-fn first_names(alloc: Global, changes: &[Change]) -> Result<Vec<Name>, AllocError> {
+// The names where borders are: of the first names that the changes touch, the least and others in order.
+fn border_names(alloc: Global, changes: &[Change]) -> Result<Vec<Name>, AllocError> {
     let mut names = Vec::with_capacity(alloc, changes.len())?;
     for change in changes {
         names.push(change.first_name())?;
     }
     names.sort()?;
-    Ok(names)
-}
-
-// The names where borders are: of the first names that the changes touch, the least and others in order.
-fn border_names(alloc: Global, changes: &[Change]) -> Result<Vec<Name>, AllocError> {
-    let names = first_names(alloc, changes)?;
     let step = names.len().div_ceil(MOST_BORDERS).max(1);
     names.into_iter().step_by(step).collect(alloc)
-}
-
-/// The state of a run, with the files of its first folder between the borders.
-pub fn run_of<'a>(
-    alloc: Global,
-    state: Midstate,
-    snapshot: &Snapshot<'a>,
-    from: Border<'_>,
-    to: Border<'_>,
-) -> Result<Pending<'a>, AllocError>
-    requires kept { IsKept (files_in snapshot.now) }
-    requires further { IsFurther from to }
-    ensures { let folder = folder_in snapshot.now in
-        HasAbsorbed state (text_before from.entry folder)
-        → IfOk result (λ run. Reaches run (text_before to.entry folder)) }
-{
-    let parts = parts_between(alloc, snapshot, from, to)?;
-    Ok(Pending { state, parts })
-}
-
-// The place of the state before the first border once the change is done.
-fn next_place(place: usize, from: Border<'_>, change: &Change) -> usize
-    requires { place + 1 < 2 ^ 64 }
-    ensures { result ≡ cond (touches from.entry (change_of change.now)) (place + 1) place }
-{
-    if touches(from, change) {
-        place + 1
-    } else {
-        place
-    }
-}
-
-// Adds the run of the snapshot's folder.
-fn add_run<'a>(
-    alloc: Global,
-    runs: &mut Runs<'a>,
-    state: Midstate,
-    snapshot: &Snapshot<'a>,
-    from: Border<'_>,
-    to: Border<'_>,
-) -> Result<(), AllocError>
-    requires few { length runs.old.pendings.items ≤ 8 }
-    requires kept { IsKept (files_in snapshot.now) }
-    requires further { IsFurther from to }
-    ensures few { OnOk result (length runs.new.pendings.items ≤ 8) }
-    ensures texts { (texts : List (List ℕ)) → let folder = folder_in snapshot.now in
-        AreTo runs.old texts → HasAbsorbed state (text_before from.entry folder)
-        → OnOk result (AreTo runs.new (texts ++ text_before to.entry folder ∷ [])) }
-{
-    runs.push(run_of(alloc, state, snapshot, from, to)?)
-}
-
-// Goes on to the folder after the change, and adds the run that it begins, if it begins one.
-fn go_on<'a>(
-    alloc: Global,
-    runs: &mut Runs<'a>,
-    state: Midstate,
-    snapshot: &mut Snapshot<'a>,
-    change: &'a Change,
-    from: Border<'_>,
-    to: Border<'_>,
-) -> Result<(), AllocError>
-    requires few { length runs.old.pendings.items ≤ 8 }
-    requires kept { IsKept (files_in snapshot.old) }
-    requires further { IsFurther from to }
-    requires applicable { IsTrue (is_applicable (folder_in snapshot.old) (change_of change.now)) }
-    ensures few { OnOk result (length runs.new.pendings.items ≤ 8) }
-    ensures kept { OnOk result (IsKept (files_in snapshot.new)) }
-    ensures folder { OnOk result
-        (folder_in snapshot.new ≡ effect (folder_in snapshot.old) (change_of change.now)) }
-    ensures texts { (texts : List (List ℕ)) → let folder = folder_in snapshot.new in
-        AreTo runs.old texts → HasAbsorbed state (text_before from.entry folder)
-        → OnOk result (AreTo runs.new (texts ++ new_run to.entry folder (change_of change.now))) }
-{
-    snapshot.apply(change)?;
-    if touches(to, change) {
-        add_run(alloc, runs, state, snapshot, from, to)
-    } else {
-        Ok(())
-    }
-}
-
-// The runs after that of the snapshot's folder.
-fn runs_behind<'a>(
-    alloc: Global,
-    mut runs: Runs<'a>,
-    mut snapshot: Snapshot<'a>,
-    changes: &'a [Change],
-    states: &[Midstate],
-    from: Border<'_>,
-    to: Border<'_>,
-) -> Result<Runs<'a>, AllocError>
-    requires few { length runs.pendings.items ≤ 8 }
-    requires kept { IsKept (files_in snapshot) }
-    requires further { IsFurther from to }
-    requires applicable { IsTrue (are_applicable (folder_in snapshot) (map change_of changes.now)) }
-    requires absorbed { let folder = folder_in snapshot in
-        HaveAbsorbed states.now (texts_by from folder changes.now) }
-    requires first { AreTo runs (text_before to (folder_in snapshot) ∷ []) }
-    ensures few { IfOk result (λ runs. length runs.pendings.items ≤ 8) }
-    ensures texts { let folder = folder_in snapshot.entry in
-        IfOk result (LeadTo (texts_by to.entry folder changes.now)) }
-{
-    let mut place = 0;
-    for change in changes {
-        place = next_place(place, from, change);
-        go_on(
-            alloc,
-            &mut runs,
-            states[place],
-            &mut snapshot,
-            change,
-            from,
-            to,
-        )?;
-    }
-    Ok(runs)
 }
 
 // The runs up to a border, from the states before an earlier one.
@@ -176,32 +107,20 @@ fn runs_before<'a>(
     ensures few { IfOk result (λ runs. length runs.pendings.items ≤ 8) }
     ensures texts { IfOk result (LeadTo (texts_by to.entry folder.now.files changes.now)) }
 {
-    let snapshot = folder.snapshot()?;
+    let mut snapshot = folder.snapshot()?;
     let mut runs = Runs::new(alloc);
-    add_run(alloc, &mut runs, states[0], &snapshot, from, to)?;
-    runs_behind(alloc, runs, snapshot, changes, states, from, to)
-}
-
-// Goes on with the states to the border at the name, if it comes later.
-fn go_to<'b>(
-    alloc: Global,
-    folder: &Folder,
-    changes: &[Change],
-    states: &mut Vec<Midstate>,
-    border: &mut Border<'b>,
-    name: &'b Name,
-) -> Result<(), AllocError>
-    requires applicable { IsTrue (are_applicable folder.now.files (map change_of changes.now)) }
-    requires absorbed { HaveTaken (texts_by border.old folder.now.files changes.now) states.old }
-    ensures { let texts = texts_by border.new folder.now.files changes.now in
-        OnOk result (HaveTaken texts states.new) }
-{
-    if is_further(*border, name) {
-        let next = Border::At(name);
-        *states = runs_before(alloc, folder, changes, states, *border, next)?.finish()?;
-        *border = next;
+    runs.push(run_between(alloc, states[0], &snapshot, from, to)?)?;
+    let mut place = 0;
+    for change in changes {
+        snapshot.apply(change)?;
+        if touches(from, change) {
+            place += 1;
+        }
+        if touches(to, change) {
+            runs.push(run_between(alloc, states[place], &snapshot, from, to)?)?;
+        }
     }
-    Ok(())
+    Ok(runs)
 }
 
 // The runs of all folders, from the last landmark that the changes leave.
@@ -220,7 +139,11 @@ fn runs_along<'a>(
     let (mut border, state) = landmarks.start(changes);
     let mut states = vec![in alloc; state]?;
     for name in &names {
-        go_to(alloc, folder, changes, &mut states, &mut border, name)?;
+        if is_further(border, name) {
+            let next = Border::At(name);
+            states = runs_before(alloc, folder, changes, &states, border, next)?.finish()?;
+            border = next;
+        }
     }
     runs_before(alloc, folder, changes, &states, border, Border::End)
 }
@@ -235,8 +158,8 @@ pub fn run_of_text(alloc: Global, state: Midstate, text: &[u8]) -> Result<Pendin
     Ok(Pending { state, parts })
 }
 
-// The digests of what the states have absorbed.
-fn digests_of(alloc: Global, states: &[Midstate]) -> Result<Vec<[u8; 16]>, AllocError>
+/// The digests of what the states have absorbed.
+pub fn digests_of(alloc: Global, states: &[Midstate]) -> Result<Vec<[u8; 16]>, AllocError>
     ensures { (texts : List (List ℕ)) → HaveAbsorbed states.now texts
         → IfOk result (λ digests. digests.items ≡ map md5 texts) }
 {
@@ -247,76 +170,50 @@ fn digests_of(alloc: Global, states: &[Midstate]) -> Result<Vec<[u8; 16]>, Alloc
     Ok(digests)
 }
 
-// The runs, and after them those of texts that are digested side by side with them.
-fn with_texts<'a>(
+/// The states after all runs, and after them those of texts that are absorbed side by side with them.
+pub fn states_with<'a>(
     alloc: Global,
     mut runs: Runs<'a>,
     texts: &[&'a [u8]],
-) -> Result<Runs<'a>, AllocError>
+) -> Result<Vec<Midstate>, AllocError>
     requires { length runs.pendings.items ≤ 8 }
-    ensures few { IfOk result (λ runs. length runs.pendings.items ≤ 8) }
-    ensures texts { (before : List (List ℕ)) → AreTo runs.entry before
-        → IfOk result (λ runs. AreTo runs (before ++ texts_of texts.now)) }
+    ensures { (before : List (List ℕ)) → AreTo runs.entry before
+        → IfOk result (λ states. HaveAbsorbed states.items (before ++ texts_of texts.now)) }
 {
     for text in texts {
         runs.push(run_of_text(alloc, Midstate::new(), text)?)?;
     }
-    Ok(runs)
+    runs.finish()
 }
 
-/// The digests of the folder's text and of those of the folders that the changes lead it through, and after them those
-/// of texts beside them.
-pub fn digests_along(
+/// Digests of folders, and digests that were computed side by side with them.
+#[derive(Drop)]
+pub struct Digests {
+    /// Of a folder, and of those that changes lead it through, one after the other.
+    pub along: Vec<[u8; 16]>,
+    /// The MD5 digests of texts.
+    pub beside: Vec<[u8; 16]>,
+}
+
+/// The fingerprints of a folder and of those that the changes lead it through, and the MD5 digests of texts. All are
+/// computed side by side, so that few texts take little time. The files before the last landmark that the changes
+/// leave as it is are not read.
+pub fn fingerprints(
     alloc: Global,
-    landmarks: &Landmarks,
     folder: &Folder,
     changes: &[Change],
+    from: &Landmarks,
     beside: &[&[u8]],
-) -> Result<Vec<[u8; 16]>, AllocError>
-    requires landmarks { AreLandmarksOf folder.now.files landmarks.now }
-    requires applicable { IsTrue (are_applicable folder.now.files (map change_of changes.now)) }
-    ensures { let along = texts_by End folder.now.files changes.now in
-        IfOk result (λ digests. digests.items ≡ map md5 (along ++ texts_of beside.now)) }
+) -> Result<Digests, AllocError>
+    requires landmarks { AreLandmarksOf folder.now.files from.now }
+    requires taken { IsTrue (takes_all folder.now (map change_of changes.now)) }
+    ensures along { let after = folders_after folder.now.files (map change_of changes.now) in
+        IfOk result (λ found. found.along.items ≡ map fingerprint (folder.now.files ∷ after)) }
+    ensures beside { IfOk result (λ found. found.beside.items ≡ map md5 (texts_of beside.now)) }
 {
-    let runs = runs_along(alloc, landmarks, folder, changes)?;
-    let all = with_texts(alloc, runs, beside)?;
-    digests_of(alloc, &all.finish()?)
-}
-
-// The run up to the name, from the last landmark before it, and after it those of texts.
-fn runs_up_to<'a>(
-    alloc: Global,
-    landmarks: &Landmarks,
-    folder: &'a Folder,
-    name: &Name,
-    beside: &[&'a [u8]],
-) -> Result<Runs<'a>, AllocError>
-    requires { AreLandmarksOf folder.now.files landmarks.now }
-    ensures few { IfOk result (λ runs. length runs.pendings.items ≤ 8) }
-    ensures texts { let first = text_before (At name.entry) folder.now.files in
-        IfOk result (λ runs. AreTo runs (first ∷ texts_of beside.now)) }
-{
-    let snapshot = folder.snapshot()?;
-    let (border, state) = landmarks.before(name);
-    let mut runs = Runs::new(alloc);
-    add_run(alloc, &mut runs, state, &snapshot, border, Border::At(name))?;
-    with_texts(alloc, runs, beside)
-}
-
-/// The state of the folder before a name, from the last landmark there, and the digests of texts beside it.
-pub fn state_before(
-    alloc: Global,
-    landmarks: &Landmarks,
-    folder: &Folder,
-    name: &Name,
-    beside: &[&[u8]],
-) -> Result<(Midstate, Vec<[u8; 16]>), AllocError>
-    requires { AreLandmarksOf folder.now.files landmarks.now }
-    ensures state { let before = text_before (At name.entry) folder.now.files in
-        IfOk result (λ found. HasAbsorbed found.0 before) }
-    ensures beside { IfOk result (λ found. found.1.items ≡ map md5 (texts_of beside.now)) }
-{
-    let states = runs_up_to(alloc, landmarks, folder, name, beside)?.finish()?;
-    let digests = digests_of(alloc, &states[1..])?;
-    Ok((states[0], digests))
+    let runs = runs_along(alloc, from, folder, changes)?;
+    let states = states_with(alloc, runs, beside)?;
+    let mut along = digests_of(alloc, &states)?;
+    let beside = along.split_off(along.len() - beside.len())?;
+    Ok(Digests { along, beside })
 }

@@ -1,23 +1,58 @@
-use Rattle.par2_folder.proofs.Common.{◌≡◌, [], IsTrue, map, subst, sym, are_applicable, change_of, run_texts, HaveAbsorbed, folder_in}
-use Rattle.par2_folder.proofs.Walks.{absorbed_here}
+use Rattle.par2_folder.proofs.Common.{◌≡◌, ◌+◌, ◌∙◌, Bool, true, false, [], ◌∷◌, IsTrue, ap, cond, map, subst, sym, append-nil, are_applicable, change_of, text_before, touches, run_texts, AreTo, HaveAbsorbed, folder_in}
+use Rattle.par2_folder.proofs.Walks.{absorbed_here, arrived, goes_on, in_range, next_applicable, parents_then}
+use Rattle.par2_folder.proofs.walk.runs_before.Goals.{then-touches, else-touches, then-touches-2+in_ok-run_between-2+in_ok-push-2, else-touches-2}
 use Rattle.par2_folder.proofs.walk.runs_before.Goals as goal
 
-pub runs_behind-requires : goal.runs_behind-requires
-runs_behind-requires c =
-    let from = c.args.from in
+pub loop-change-init : goal.loop-change-init
+loop-change-init c =
     let states = c.args.states.now in
     let changes = map change_of c.args.changes.now in
     let here = folder_in c.in_ok-snapshot.snapshot in
     let folder : here ≡ c.args.folder.now.files = c.in_ok-snapshot.ensures.folder in
-    let absorbed : HaveAbsorbed states (run_texts from here changes) = subst (λ f. HaveAbsorbed states (run_texts from f changes)) (sym folder) c.requires.absorbed in
+    let absorbed : HaveAbsorbed states (run_texts c.args.from here changes) = subst (λ f. HaveAbsorbed states (run_texts c.args.from f changes)) (sym folder) c.requires.absorbed in
     record {
-      few = c.in_ok-add_run.ensures.few;
       kept = c.in_ok-snapshot.ensures.kept;
-      further = c.requires.further;
+      few = c.in_ok-push.ensures.few;
       applicable = subst (λ f. IsTrue (are_applicable f changes)) (sym folder) c.requires.applicable;
-      absorbed = absorbed;
-      first = c.in_ok-add_run.ensures.texts [] c.new-runs.ensures.texts (absorbed_here states 0 _ _ _ absorbed);
+      parents = absorbed;
+      done = text_before c.args.to here ∷ [];
+      reached = c.in_ok-push.ensures.texts [] _ c.new-runs.ensures.texts (c.in_ok-run_between.ensures (absorbed_here states 0 _ _ _ absorbed));
+      whole = ap (λ f. run_texts c.args.to f changes) folder;
     }
 
+pub apply-requires-clause-applicable : goal.apply-requires-clause-applicable
+apply-requires-clause-applicable c = next_applicable c.loop-change.invariant c.loop-change-test.true c.change-item.is
+
+pub bounds-states-place : goal.bounds-states-place
+bounds-states-place c =
+    let walk = c.loop-change in
+    let place : c.if-touches.place ≡ cond (touches c.args.from (change_of c.change-item.result)) (walk.place + 1) walk.place = elim c.if-touches.branch [
+      | then-touches w ↦ w.place-is ∙ sym (ap (λ (t : Bool). cond t (walk.place + 1) walk.place) (sym c.touches.ensures ∙ w.if-touches.true))
+      | else-touches w ↦ w.place-is ∙ sym (ap (λ (t : Bool). cond t (walk.place + 1) walk.place) (sym c.touches.ensures ∙ w.if-touches.false))
+    ] in
+    in_range c.args.states.now c.if-touches.place _ _
+    (parents_then walk.invariant c.loop-change-test.true c.change-item.is place)
+
+pub loop-change-preserved : goal.loop-change-preserved
+loop-change-preserved c =
+    let walk = c.loop-change in
+    let place : c.if-touches.place ≡ cond (touches c.args.from (change_of c.change-item.result)) (walk.place + 1) walk.place = elim c.if-touches.branch [
+      | then-touches w ↦ w.place-is ∙ sym (ap (λ (t : Bool). cond t (walk.place + 1) walk.place) (sym c.touches.ensures ∙ w.if-touches.true))
+      | else-touches w ↦ w.place-is ∙ sym (ap (λ (t : Bool). cond t (walk.place + 1) walk.place) (sym c.touches.ensures ∙ w.if-touches.false))
+    ] in
+    let next = c.apply.new.self in
+    let after = c.in_ok-apply.ensures.folder in
+    let parents = parents_then walk.invariant c.loop-change-test.true c.change-item.is place in
+    let absorbed = absorbed_here c.args.states.now c.if-touches.place _ _ _ parents in
+    elim c.if-touches-2.branch [
+      | then-touches-2+in_ok-run_between-2+in_ok-push-2 w ↦
+          let begun = sym c.touches-in-loop-change.ensures ∙ w.if-touches-2.true in
+          let reached = w.in_ok-push-2.ensures.texts walk.invariant.done _ walk.invariant.reached (w.in_ok-run_between-2.ensures (rw after absorbed)) in
+          rw w.runs-is (goes_on walk.invariant c.loop-change-test.true c.change-item.is place next after c.in_ok-apply.ensures.kept w.push-then-touches-2.new.self w.in_ok-push-2.ensures.few true begun reached)
+      | else-touches-2 w ↦
+          let begun = sym c.touches-in-loop-change.ensures ∙ w.if-touches-2.false in
+          rw w.runs-is (goes_on walk.invariant c.loop-change-test.true c.change-item.is place next after c.in_ok-apply.ensures.kept walk.runs walk.invariant.few false begun (subst (AreTo walk.runs) (sym (append-nil walk.invariant.done)) walk.invariant.reached))
+    ]
+
 pub returns-clause-texts : goal.returns-clause-texts
-returns-clause-texts c = rw (← c.in_ok-snapshot.ensures.folder) c.runs_behind.ensures.texts
+returns-clause-texts c = arrived c.loop-change.invariant c.loop-change-test.false
