@@ -1,5 +1,5 @@
 -- The parts of a repair are those of the definitions.
-use Rattle.par2_plan.proofs.Common.{◌≡◌, ◌⊎◌, inl, inr, subst, ℕ, List, [], ◌∷◌, ◌++◌, length, map, refl, sym, ap, ap₂, ◌∙◌, Bool, true, false, not, cond, ◌&&◌, ◌||◌, ◌+◌, suc, arith, Ok, Option, None, is_none, filter, filter_map, flat_map, option_map, zip, AllByRecursion, enumerate_from, list_any, ne_eqb, map-map, Change, Write, Rename, Remove, Pair, first_fault, fault_where, Folder, File, bytes_of, is_among, now_at, matching, matches, lost, survivors, candidates, needing_names, is_repairable, rank, aside, put_aside, names_without_match, rebuilt, par_files, files_of_slices, ParSet, Target, set_of, found, Fault, NotRepairable, all-append, filter_map-map, all-each, lost_of, long_aside, undetermined_fault, targets_among, md5s_of, wrong_digest, unmatched_names, names_given, AreNeeding, AreRestored, IsWholeWhereMatched, renames, matches_taken, writes, asides_removed, files_removed, place_by, changes_by, removals_by, with_removals, repair_by, known_by}
+use Rattle.par2_plan.proofs.Common.{◌≡◌, ◌⊎◌, inl, inr, subst, ℕ, List, [], ◌∷◌, ◌++◌, length, map, refl, sym, ap, ap₂, ◌∙◌, Bool, true, false, not, cond, ◌&&◌, ◌||◌, ◌+◌, suc, arith, Ok, Option, None, is_none, filter, filter_map, flat_map, option_map, zip, AllByRecursion, enumerate_from, list_any, ne_eqb, map-map, Change, Rename, Remove, Pair, first_fault, fault_where, Folder, bytes_of, is_among, now_at, matching, matches, lost, survivors, candidates, needing_names, is_repairable, rank, aside, put_aside, names_without_match, rebuilt, par_files, files_of_slices, ParSet, Target, set_of, found, Fault, NotRepairable, all-append, filter_map-map, all-each, lost_of, long_aside, undetermined_fault, targets_among, wrong_digest, unmatched_names, names_given, AreNeeding, AreRestored, IsWholeWhereMatched, renames, matches_taken, writes, asides_removed, files_removed, place_by, changes_by, removals_by, with_removals, repair_by, known_by}
 use Rattle.std.proofs.Common.{◌==◌}
 use Rattle.std.specs.Prelude.{Some}
 use Rattle.par2_spec.specs.Plans.{repair_changes, repair_removals}
@@ -8,9 +8,7 @@ use Rattle.par2_spec.specs.Refusals.{repair_refusal}
 use Rattle.par2_spec.specs.Repairs.{rebuilt_targets}
 use Rattle.par2_spec.proofs.RankLaws.{repairable-iff}
 use Rattle.par2_spec.proofs.SearchLaws.{matches_of_needing}
-use Rattle.par2_plan.specs.Restoring.{files_of}
 use Rattle.par2_plan.specs.declared.needing_targets.Needing.{Needing}
-use Rattle.par2_plan.specs.declared.restored_files.RestoredFiles.{RestoredFiles}
 
 abbrev Pairs : Type 0
 Pairs = List (Target × Option (List ℕ))
@@ -84,12 +82,11 @@ none_among [] = refl
 none_among (file ∷ files) = none_among files
 
 -- where there are no names, no file is restored
-pub none_restored : (set : ParSet) (known : List (Option (List ℕ))) (names : List (List ℕ)) (restored : RestoredFiles) → names ≡ [] → restored.files.items ≡ [] → restored.md5s.items ≡ [] → AreRestored set known names restored
-none_restored set known names restored none files md5s =
+pub none_restored : (set : ParSet) (known : List (Option (List ℕ))) (names : List (List ℕ)) (restored : List (Target × List ℕ)) → names ≡ [] → restored ≡ [] → AreRestored set known names restored
+none_restored set known names restored none is =
     let targets : targets_among set (rebuilt set known) names ≡ [] = ap (targets_among set (rebuilt set known)) none ∙ none_among (files_of_slices set (rebuilt set known)) in
     record {
-      files = files ∙ ap files_of (sym targets);
-      md5s = md5s ∙ ap md5s_of (sym targets);
+      targets = is ∙ sym targets;
       lengths = subst (AllByRecursion (λ c. length c.1 ≡ c.0.length)) (sym targets) tt;
       determined = inl none;
     }
@@ -146,18 +143,16 @@ module _ (folder : Folder) (set : ParSet) (searched : List (List ℕ)) where
     abbrev off : List ℕ → List ℕ
     off = aside folder set
 
-    changes_are : (files : List File) → files ≡ files_of (rebuilt_targets folder set searched) → changes_by off needing files ≡ repair_changes folder set searched
+    changes_are : changes_by off needing (rebuilt_targets folder set searched) ≡ repair_changes folder set searched
     unfolding repair_changes
-    changes_are files e =
+    changes_are =
         let aside_first : renames needing.put_aside.items (map off needing.put_aside.items) ≡ map (λ name. Rename name (off name)) (put_aside folder set) =
         ap (λ (ns : List (List ℕ)). renames ns (map off ns)) are.put_aside ∙ renames_of off (put_aside folder set) in
         let then_taken : matches_taken (place_by off needing.put_aside.items) needing.names.items needing.matches.items ≡ filter_map (λ m. option_map (λ name. Rename (now_at folder set name) m.0.name) m.1) ms =
         ap (λ (ns : List (List ℕ)). matches_taken (place_by off ns) needing.names.items needing.matches.items) are.put_aside
         ∙ ap₂ (λ (ns : List (List ℕ)) (os : List (Option (List ℕ))). matches_taken (now_at folder set) ns os) (are.names ∙ names_in_pairs) are.matches
         ∙ taken_of (now_at folder set) ms in
-        let then_written : writes files ≡ map (λ c. Write c.0.name c.1) (rebuilt_targets folder set searched) =
-        ap writes e ∙ map-map (λ (file : File). Write file.0 file.1) (λ (c : Target × List ℕ). (c.0.name, c.1)) (rebuilt_targets folder set searched) in
-        ap₂ (λ (a b : List Change). a ++ b) (ap₂ (λ (a b : List Change). a ++ b) aside_first then_taken) then_written
+        ap (λ (cs : List Change). cs ++ writes (rebuilt_targets folder set searched)) (ap₂ (λ (a b : List Change). a ++ b) aside_first then_taken)
 
     removals_are : removals_by off needing (par_files folder set) ≡ repair_removals folder set searched
     unfolding repair_removals
@@ -167,9 +162,9 @@ module _ (folder : Folder) (set : ParSet) (searched : List (List ℕ)) where
         (ap₂ (λ (ns os : List (List ℕ)). asides_removed ns os (map off os)) used are.put_aside ∙ removed_of (matching folder set searched) off (put_aside folder set))
         (ap (λ (ns : List (List ℕ)). files_removed ns (par_files folder set)) used)
 
-    pub all_changes : (purge : Bool) (files : List File) → files ≡ files_of (rebuilt_targets folder set searched)
-        → with_removals purge (changes_by off needing files) (removals_by off needing (par_files folder set)) ≡ repair_by purge folder set searched
-    all_changes purge files e = ap₂ (λ (a b : List Change). with_removals purge a b) (changes_are files e) removals_are
+    pub all_changes : (purge : Bool) (targets : List (Target × List ℕ)) → targets ≡ rebuilt_targets folder set searched
+        → with_removals purge (changes_by off needing targets) (removals_by off needing (par_files folder set)) ≡ repair_by purge folder set searched
+    all_changes purge targets e = ap₂ (λ (a b : List Change). with_removals purge a b) (ap (changes_by off needing) e ∙ changes_are) removals_are
 
 -- ---- purges
 

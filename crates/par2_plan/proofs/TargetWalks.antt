@@ -1,5 +1,5 @@
 -- The targets one after the other, with their bytes by the slices that are left.
-use Rattle.par2_plan.proofs.Common.{◌≡◌, ◌∙◌, ℕ, ◌+◌, List, [], ◌∷◌, ◌++◌, length, map, take, drop, refl, sym, ap, Bool, true, false, cond, filter, zip, concat, drop-drop, map-append, is_among, cut_into, Target, target_at, chosen_at}
+use Rattle.par2_plan.proofs.Common.{◌≡◌, ◌∙◌, ℕ, ◌+◌, List, [], ◌∷◌, ◌++◌, length, map, take, drop, refl, sym, ap, Bool, true, false, cond, filter, zip, concat, drop-drop, is_among, cut_into, Target, target_at, chosen_at}
 use Rattle.std.proofs.lemmas.List.{append_assoc}
 
 abbrev pub walked : List Target → List (List ℕ) → List (Target × List ℕ)
@@ -24,11 +24,10 @@ among-cons names t ts slices first =
     before false rest = refl
 
 -- one more target before those that are left
-pub items_more : {X : Type 0} (item : Target × List ℕ → X) (names : List (List ℕ)) (t : Target) (ts : List Target) (slices : List (List ℕ)) (first : ℕ) (old new : List X)
-    → new ≡ old ++ map item (chosen_at names slices first t)
-    → new ++ map item (among names ts (drop (first + length t.pairs) slices)) ≡ old ++ map item (among names (t ∷ ts) (drop first slices))
-items_more {X} item names t ts slices first old new made =
+pub target_more : (names : List (List ℕ)) (t : Target) (ts : List Target) (slices : List (List ℕ)) (first : ℕ) (old new : List (Target × List ℕ))
+    → new ≡ old ++ chosen_at names slices first t
+    → new ++ among names ts (drop (first + length t.pairs) slices) ≡ old ++ among names (t ∷ ts) (drop first slices)
+target_more names t ts slices first old new made =
     let here : List (Target × List ℕ) = chosen_at names slices first t in
     let left : List (Target × List ℕ) = among names ts (drop (first + length t.pairs) slices) in
-    ap (λ xs. xs ++ map item left) made ∙ append_assoc old (map item here) (map item left)
-    ∙ ap (λ xs. old ++ xs) (sym (map-append item here left) ∙ ap (map item) (sym (among-cons names t ts slices first)))
+    ap (λ xs. xs ++ left) made ∙ append_assoc old here left ∙ ap (λ xs. old ++ xs) (sym (among-cons names t ts slices first))

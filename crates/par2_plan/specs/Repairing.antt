@@ -5,7 +5,7 @@ use Rattle.std.specs.BTreeMap.{BTreeMap, get}
 use Rattle.std.specs.List.{AllByRecursion}
 use Rattle.md5.specs.Md5.{md5}
 use Rattle.par2_spec.specs.Changes.{Change, Write, Rename, Remove}
-use Rattle.par2_spec.specs.Folders.{Folder, File, bytes_of}
+use Rattle.par2_spec.specs.Folders.{Folder, bytes_of}
 use Rattle.par2_spec.specs.Names.{is_among}
 use Rattle.par2_spec.specs.Plans.{repair_changes, repair_removals}
 use Rattle.par2_spec.specs.Refusals.{set_in}
@@ -13,11 +13,10 @@ use Rattle.par2_spec.specs.Repairs.{names_without_match, put_aside, rebuilt, reb
 use Rattle.par2_spec.specs.Search.{needing_names, known, lost}
 use Rattle.par2_spec.specs.Search as search
 use Rattle.par2_spec.specs.Sets.{ParSet, Target}
-use Rattle.par2_plan.specs.Restoring.{known_in, targets_among, files_of, md5s_of, undetermined_fault}
+use Rattle.par2_plan.specs.Restoring.{known_in, targets_among, undetermined_fault}
 use Rattle.par2_plan.specs.Findings.{matches_given}
 use Rattle.par2_plan.specs.Matches.{name_cmp}
 use Rattle.par2_plan.specs.declared.needing_targets.Needing.{Needing}
-use Rattle.par2_plan.specs.declared.restored_files.RestoredFiles.{RestoredFiles}
 
 -- ---- needing targets
 
@@ -46,11 +45,9 @@ IsWholeWhereMatched folder set searched = names_without_match (search.matches fo
 abbrev pub known_by : Folder → ParSet → List (List ℕ) → List (Option (List ℕ))
 known_by folder set searched = known_in set (map (bytes_of folder) searched)
 
--- the files of the targets of these names, by the slices that are known; where there are names, the lost slices can be
--- rebuilt
-pub record AreRestored (set : ParSet) (known : List (Option (List ℕ))) (names : List (List ℕ)) (restored : RestoredFiles) : Type 0 where
-  pub files : restored.files.items ≡ files_of (targets_among set (rebuilt set known) names)
-  pub md5s : restored.md5s.items ≡ md5s_of (targets_among set (rebuilt set known) names)
+-- the targets of these names, by the slices that are known; where there are names, the lost slices can be rebuilt
+pub record AreRestored (set : ParSet) (known : List (Option (List ℕ))) (names : List (List ℕ)) (restored : List (Target × List ℕ)) : Type 0 where
+  pub targets : restored ≡ targets_among set (rebuilt set known) names
   pub lengths : AllByRecursion (λ c. length c.1 ≡ c.0.length) (targets_among set (rebuilt set known) names)
   pub determined : (names ≡ []) ⊎ (undetermined_fault set known ≡ None)
 
@@ -74,9 +71,9 @@ renames names others = map (λ z. Rename z.0 z.1) (zip names others)
 abbrev pub matches_taken : (List ℕ → List ℕ) → List (List ℕ) → List (Option (List ℕ)) → List Change
 matches_taken place names given = filter_map (λ z. option_map (λ name. Rename (place name) z.0) z.1) (zip names given)
 
--- files are written
-abbrev pub writes : List File → List Change
-writes files = map (λ file. Write file.0 file.1) files
+-- targets are written
+abbrev pub writes : List (Target × List ℕ) → List Change
+writes targets = map (λ c. Write c.0.name c.1) targets
 
 -- the asides of files that are nobody's match are removed
 abbrev pub asides_removed : List (List ℕ) → List (List ℕ) → List (List ℕ) → List Change
@@ -96,9 +93,9 @@ moves_by aside needing =
     renames needing.put_aside.items (map aside needing.put_aside.items)
     ++ matches_taken (place_by aside needing.put_aside.items) needing.names.items needing.matches.items
 
--- the changes of a repair by its needing targets, their asides and the files that are written
-abbrev pub changes_by : (List ℕ → List ℕ) → Needing → List File → List Change
-changes_by aside needing files = moves_by aside needing ++ writes files
+-- the changes of a repair by its needing targets, their asides and the targets that are written
+abbrev pub changes_by : (List ℕ → List ℕ) → Needing → List (Target × List ℕ) → List Change
+changes_by aside needing targets = moves_by aside needing ++ writes targets
 
 -- the removals of a repair that purges
 abbrev pub removals_by : (List ℕ → List ℕ) → Needing → List (List ℕ) → List Change

@@ -2,7 +2,6 @@
 use Rattle.std.specs.Prelude.{ℕ, not, List, [], ◌∷◌, length, take, drop, map, filter, Option}
 use Rattle.std.specs.List.{concat}
 use Rattle.par2_spec.specs.Faults.{fault_where}
-use Rattle.par2_spec.specs.Folders.{File}
 use Rattle.par2_spec.specs.Names.{is_among}
 use Rattle.par2_spec.specs.Rank.{is_repairable, rank}
 use Rattle.par2_spec.specs.Repairs.{files_of_slices}
@@ -26,11 +25,7 @@ undetermined_fault set known =
 abbrev pub targets_among : ParSet → List (List ℕ) → List (List ℕ) → List (Target × List ℕ)
 targets_among set slices names = filter (λ c. is_among names c.0.name) (files_of_slices set slices)
 
--- the files of such targets
-abbrev pub files_of : List (Target × List ℕ) → List File
-files_of targets = map (λ c. (c.0.name, c.1)) targets
-
--- the MD5s that such targets describe
+-- the MD5s that targets describe
 abbrev pub md5s_of : List (Target × List ℕ) → List (List ℕ)
 md5s_of targets = map (λ c. c.0.md5) targets
 

@@ -4,7 +4,8 @@ ghost use Rattle.par2_plan.specs.Matches.{HoldsNames};
 ghost use Rattle.par2_plan.specs.Repairing.{names_given, renames, matches_taken, writes, asides_removed, files_removed, place_by, HoldsAsides};
 
 use crate::Changes;
-use par2_folder::{Bytes, Change, Name};
+use crate::restored_files::Restored;
+use par2_folder::{Change, Name};
 use std::alloc::{AllocError, Global};
 use std::collections::{BTreeMap, BTreeSet};
 
@@ -69,12 +70,12 @@ pub fn push_matches<'n>(
     Ok(())
 }
 
-/// Files are written, in order.
-pub fn push_writes(changes: &mut Changes, files: Vec<(Name, Bytes)>) -> Result<(), AllocError>
-    ensures { OnOk result (changes.new ≡ changes.old ++ writes files.items) }
+/// Targets are written, in order.
+pub fn push_writes(changes: &mut Changes, restored: Vec<Restored>) -> Result<(), AllocError>
+    ensures { OnOk result (changes.new ≡ changes.old ++ writes restored.entry.items) }
 {
-    for (name, bytes) in files {
-        changes.push(Change::Write(name, bytes))?;
+    for file in restored {
+        changes.push(Change::Write(file.target.name().copied(), file.bytes))?;
     }
     Ok(())
 }

@@ -6,8 +6,8 @@ ghost use Rattle.par2_spec.specs.Plans.{AreFewFor};
 ghost use Rattle.par2_spec.specs.Refusals.{repair_refusal};
 ghost use Rattle.par2_spec.specs.Repairs.{aside, par_files};
 ghost use Rattle.par2_spec.specs.Search as search;
-ghost use Rattle.par2_plan.specs.Restoring.{undetermined_fault};
-ghost use Rattle.par2_spec.specs.Answers.{FailsFor};
+ghost use Rattle.par2_plan.specs.Restoring.{md5s_of, undetermined_fault};
+ghost use Rattle.par2_spec.specs.Answers.{FailsFor, Lists};
 ghost use Rattle.par2_plan.specs.Answers.{FailsAs, GivesChanges, LeadsAs, RefusesEarly, SucceedsAs, repair_of};
 ghost use Rattle.par2_plan.specs.Drafts.{IsDraft, IsDraftBy};
 ghost use Rattle.par2_plan.specs.Repairing.{IsWholeWhereMatched, AreNeeding, AreRestored, known_by, moves_by, changes_by, removals_by, with_removals, WritesAsDescribed};
@@ -20,38 +20,45 @@ use crate::moves::{
 };
 use crate::needing_targets::{Needing, needing_of};
 use crate::reading::read;
-use crate::restored_files::{RestoredFiles, restored_files};
+use crate::restored_files::{Restored, restored_files};
 use crate::restored_slices::restored_slices;
 use crate::{Changes, Draft};
 use par2_digests::text_digests;
-use par2_folder::{Bytes, Folder, Name};
+use par2_folder::{Folder, Name};
 use par2_sets::{ParSet, asides, par_files};
 use par2_spec::Fault;
 use std::alloc::{AllocError, Global};
 
-// The files of the targets without a match, by slices that are found or rebuilt. Where there are none, nothing is
-// searched.
-fn files_for<'a>(
+// The targets without a match, by slices that are found or rebuilt. Where there are none, nothing is searched.
+fn files_for<'s>(
     alloc: Global,
-    folder: &'a Folder,
-    set: &ParSet<'a>,
+    folder: &Folder,
+    set: &'s ParSet,
     candidates: &[Name],
-    unmatched: &[Name],
-) -> Result<RestoredFiles, Fault>
+    unmatched: &'s [Name],
+) -> Result<Vec<Restored<'s>>, Fault>
     ensures refused { let known = known_by folder.now.files set.now candidates.now in
         FailsFor (undetermined_fault set.now known) result }
     ensures restored { let known = known_by folder.now.files set.now candidates.now in
-        IfOk result (AreRestored set.now known unmatched.now) }
+        IfOk result (λ restored. AreRestored set.now known unmatched.now restored.items) }
 {
     if unmatched.is_empty() {
-        return Ok(RestoredFiles {
-            files: Vec::new(alloc),
-            md5s: Vec::new(alloc),
-        });
+        return Ok(Vec::new(alloc));
     }
     let texts = texts_of(alloc, folder, candidates)?;
     let slices = restored_slices(alloc, set, &texts)?;
     Ok(restored_files(alloc, set, &slices, unmatched)?)
+}
+
+// The MD5s that targets describe.
+fn md5s_of(alloc: Global, restored: &[Restored]) -> Result<Vec<[u8; 16]>, AllocError>
+    ensures { Lists (md5s_of restored.now) result }
+{
+    let mut md5s = Vec::with_capacity(alloc, restored.len())?;
+    for file in restored {
+        md5s.push(file.target.md5())?;
+    }
+    Ok(md5s)
 }
 
 // Files are put aside, and targets take their matches.
@@ -75,15 +82,15 @@ fn repair_changes(
     alloc: Global,
     needing: &Needing,
     asides: &[Name],
-    files: Vec<(Name, Bytes)>,
+    restored: Vec<Restored>,
 ) -> Result<Changes, AllocError>
     ensures { (aside : List ℕ → List ℕ)
         → asides.now ≡ map aside needing.now.put_aside.items
-        → IfOk result (λ changes. changes ≡ changes_by aside needing.now files.items) }
+        → IfOk result (λ changes. changes ≡ changes_by aside needing.now restored.entry.items) }
 {
     let mut changes = Changes::new(alloc);
     push_moves(alloc, &mut changes, needing, asides)?;
-    push_writes(&mut changes, files)?;
+    push_writes(&mut changes, restored)?;
     Ok(changes)
 }
 
@@ -112,16 +119,16 @@ fn changes_with(
     set: &ParSet,
     needing: &Needing,
     asides: &[Name],
-    files: Vec<(Name, Bytes)>,
+    restored: Vec<Restored>,
     purge: bool,
 ) -> Result<Changes, AllocError>
     requires { asides.now ≡ map (aside folder.now.files set.now) needing.now.put_aside.items }
     ensures { let aside = aside folder.now.files set.now in
         let removals = removals_by aside needing.now (par_files folder.now.files set.now) in
-        let all = with_removals purge (changes_by aside needing.now files.items) removals in
+        let all = with_removals purge (changes_by aside needing.now restored.entry.items) removals in
         IfOk result (λ changes. changes ≡ all) }
 {
-    let mut changes = repair_changes(alloc, needing, asides, files)?;
+    let mut changes = repair_changes(alloc, needing, asides, restored)?;
     if purge {
         let par_files = par_files(alloc, folder, set)?;
         push_removals(alloc, &mut changes, needing, asides, &par_files)?;
@@ -145,9 +152,8 @@ fn draft_with(
 {
     let restored = files_for(alloc, folder, set, candidates, &needing.unmatched)?;
     let asides = asides(alloc, folder, set, &needing.put_aside)?;
-    let files = restored.files;
-    let changes = changes_with(alloc, folder, set, needing, &asides, files, purge)?;
-    let md5s = restored.md5s;
+    let md5s = md5s_of(alloc, &restored)?;
+    let changes = changes_with(alloc, folder, set, needing, &asides, restored, purge)?;
     Ok(Draft { changes, md5s })
 }
 

@@ -1,6 +1,5 @@
-use Rattle.par2_plan.proofs.Common.{◌≡◌, ◌∙◌, List, ℕ, length, ap, subst, Some, AllByRecursion, err_from_is_err_and, File, repair_refusal, rebuilt_targets, long_aside, undetermined_fault, md5s_of, known_by}
+use Rattle.par2_plan.proofs.Common.{◌≡◌, ◌∙◌, List, ℕ, length, ap, subst, Some, AllByRecursion, err_from_is_err_and, repair_refusal, rebuilt_targets, long_aside, undetermined_fault, md5s_of, known_by}
 use Rattle.std.proofs.Common.{None}
-use Rattle.par2_plan.specs.Restoring.{files_of}
 use Rattle.par2_plan.proofs.PassedAnswers.{refused_by}
 use Rattle.par2_plan.proofs.RepairParts.{told_by, targets_are, not_repairable, too_long, by_digests, all_changes}
 use Rattle.par2_plan.proofs.repair.draft_with.Goals.{After-asides}
@@ -41,11 +40,10 @@ returns-clause-draft c =
     let short = subst (λ ns. long_aside folder set ns ≡ None) (c.deref-2.ensures.value ∙ c.requires.needing.put_aside) c.in_ok-asides.ensures.short in
     let targets = targets_are folder set searched c.deref.result.now (c.deref.ensures.value ∙ c.requires.needing.unmatched) in
     let restored = c.in_ok-restored.ensures.restored in
-    let files : List File = c.in_ok-restored.restored.files.items in
-    let are : files ≡ files_of (rebuilt_targets folder set searched) = restored.files ∙ ap files_of targets in
+    let are : c.in_ok-restored.restored.items ≡ rebuilt_targets folder set searched = restored.targets ∙ targets in
     record {
-      changes = c.in_ok-changes.ensures ∙ all_changes folder set searched c.args.needing.now c.requires.needing c.args.purge files are;
-      md5s = restored.md5s ∙ ap md5s_of targets;
+      changes = c.in_ok-changes.ensures ∙ all_changes folder set searched c.args.needing.now c.requires.needing c.args.purge c.in_ok-restored.restored.items are;
+      md5s = c.in_ok-md5s.ensures ∙ ap md5s_of (c.deref-3.ensures.value ∙ are);
       lengths = subst (AllByRecursion (λ t. length t.1 ≡ t.0.length)) targets restored.lengths;
       cause = by_digests folder set searched (told (goal.at.returns-clause-draft c).After-asides) short;
       few = c.in_ok-asides.ensures.few;

@@ -1,5 +1,4 @@
-use Rattle.par2_plan.proofs.Common.{◌≡◌, ◌∙◌, List, ℕ, Bor, length, sym, ap, subst, inr, rules, Some, AllByRecursion, nil_from_length, err_from_is_err_and, rebuilt, texts_of, known_in, targets_among, undetermined_fault, md5s_of, known_by}
-use Rattle.par2_plan.specs.Restoring.{files_of}
+use Rattle.par2_plan.proofs.Common.{◌≡◌, ◌∙◌, List, ℕ, Bor, length, sym, ap, subst, inr, rules, Some, AllByRecursion, nil_from_length, err_from_is_err_and, rebuilt, texts_of, known_in, targets_among, undetermined_fault, known_by}
 use Rattle.par2_plan.proofs.PassedAnswers.{refused_by}
 use Rattle.par2_plan.proofs.RepairParts.{none_restored}
 use Rattle.par2_plan.proofs.repair.files_for.Goals.{After-restored_slices}
@@ -11,7 +10,7 @@ known c = ap (λ (ts : List (Bor (List ℕ))). known_in c.args.set.now (texts_of
 
 pub returns-then-is_empty-clause-restored : goal.returns-then-is_empty-clause-restored
 returns-then-is_empty-clause-restored c =
-    none_restored c.args.set.now _ c.args.unmatched.now _ (nil_from_length c.args.unmatched.now (search rules)) (search rules) (search rules)
+    none_restored c.args.set.now _ c.args.unmatched.now _ (nil_from_length c.args.unmatched.now (search rules)) (search rules)
 
 pub returns-in_err-slices-clause-refused : goal.returns-in_err-slices-clause-refused
 returns-in_err-slices-clause-refused c =
@@ -29,8 +28,7 @@ returns-clause-restored c =
     let targets = ap (λ slices. targets_among set slices c.args.unmatched.now) (c.in_ok-slices.ensures.slices ∙ ap (rebuilt set) is) in
     let restored = c.in_ok-restored_files.ensures in
     record {
-      files = restored.files ∙ ap files_of targets;
-      md5s = restored.md5s ∙ ap md5s_of targets;
+      targets = restored.targets ∙ targets;
       lengths = subst (AllByRecursion (λ t. length t.1 ≡ t.0.length)) targets restored.lengths;
       determined = inr (sym (ap (undetermined_fault set) is) ∙ c.in_ok-slices.ensures.determined);
     }
