@@ -111,7 +111,8 @@ fn append_halfway(
 ) -> Result<(), AllocError>
     requires some { IfSome halfway (λ h. 1 ≤ length h.now.back.now) }
     requires each { IfSome halfway (λ h. length h.now.fingerprints.now ≡ length h.now.back.now) }
-    ensures bytes { Appends (journals.halfway_bytes (part_from halfway.entry)) out.old out.new result }
+    ensures bytes { let part = part_from halfway.entry in
+        Appends (journals.halfway_bytes part) out.old out.new result }
     ensures halfway { OnOk result (IfSome (part_from halfway.entry) journals.IsHalfwayPart) }
 {
     let Some(halfway) = halfway else {
