@@ -1,23 +1,20 @@
 -- A loop that has a state take items in order, where each becomes what takes it back.
-use Rattle.par2_journal.proofs.Common.{◌≡◌, ℕ, zero, suc, ◌+◌, ◌<◌, ◌≤◌, Bool, true, false, ◌&&◌, List, [], ◌∷◌, ◌++◌, length, map, take, drop, get_or, set, sym, ap, subst, ◌∙◌, append_assoc, append-nil, drop-cons, arith, length-append, length-drop, reverse, drop-append_seam, set-append_seam, take-append_seam, take_more, take-append-drop, length-take-le, length-reverse, reverse-append, reverse-reverse, get_or-map, map-set, length-map, take-map, drop-map, drop_more, map-reverse, AreFirstTaken}
+use Rattle.par2_journal.proofs.Common.{◌≡◌, ℕ, zero, suc, ◌+◌, ◌<◌, ◌≤◌, Bool, true, false, ◌&&◌, List, [], ◌∷◌, ◌++◌, length, map, take, drop, get_or, set, sym, ap, subst, ◌∙◌, append_assoc, append-nil, drop-cons, arith, length-append, length-drop, reverse, drop-append_seam, set-append_seam, take-append_seam, take_more, take-append-drop, length-take-le, length-reverse, reverse-append, reverse-reverse, get_or-map, map-set, length-map, drop_more, AreFirstTaken}
 
--- a list of which the front was turned: seen by v, the front is w in reverse
-module _ {A X : Type 0} (v : A → X) (now : List A) (w rest : List X) (seen : map v now ≡ reverse w ++ rest) where
-  pub all_reversed : rest ≡ [] → map v (reverse now) ≡ w
-  all_reversed none = map-reverse v now ∙ ap reverse (seen ∙ ap (λ l. reverse w ++ l) none ∙ append-nil (reverse w)) ∙ reverse-reverse w
+-- a list of which the front was turned: it is w in reverse
+module _ {X : Type 0} (now w rest : List X) (seen : now ≡ reverse w ++ rest) where
+  pub all_reversed : rest ≡ [] → reverse now ≡ w
+  all_reversed none = ap reverse (seen ∙ ap (λ l. reverse w ++ l) none ∙ append-nil (reverse w)) ∙ reverse-reverse w
 
   module _ (r : ℕ) (same : length w ≡ r) where
     front_length : length (reverse w) ≡ r
     front_length = length-reverse w ∙ same
 
-    pub front_reversed : map v (reverse (take r now)) ≡ w
-    front_reversed =
-        map-reverse v (take r now)
-        ∙ ap reverse (sym (take-map v r now) ∙ ap (take r) seen ∙ ap (λ n. take n (reverse w ++ rest)) (sym front_length) ∙ take-append_seam (reverse w) rest)
-        ∙ reverse-reverse w
+    pub front_reversed : reverse (take r now) ≡ w
+    front_reversed = ap reverse (ap (take r) seen ∙ ap (λ n. take n (reverse w ++ rest)) (sym front_length) ∙ take-append_seam (reverse w) rest) ∙ reverse-reverse w
 
-    pub rest_seen : map v (drop r now) ≡ rest
-    rest_seen = sym (drop-map v r now) ∙ ap (drop r) seen ∙ ap (λ n. drop n (reverse w ++ rest)) (sym front_length) ∙ drop-append_seam (reverse w) rest
+    pub rest_seen : drop r now ≡ rest
+    rest_seen = ap (drop r) seen ∙ ap (λ n. drop n (reverse w ++ rest)) (sym front_length) ∙ drop-append_seam (reverse w) rest
 
 -- a test that holds and would fail short of the end has reached it
 pub reached : (m n : ℕ) (b : Bool) → b ≡ true → (m < n → b ≡ false) → n ≤ m
@@ -91,7 +88,7 @@ module _ {S X : Type 0} (takes : S → List X → Bool) (after : S → List X �
             ∙ ap reverse (sym (back_more start (take i given) x) ∙ ap (back start) (sym whole)));
       }
 
-      is_stuck : one state x ≡ false → takes start given ≡ false
+      pub is_stuck : one state x ≡ false → takes start given ≡ false
       is_stuck refused =
           ap (takes start) all ∙ takes_more start (take i given) (x ∷ drop (i + 1) given) so_far.taken ∙ ap (λ s. takes s (x ∷ drop (i + 1) given)) (sym so_far.state)
           ∙ takes_next state x (drop (i + 1) given) ∙ ap (λ b. b && takes (step state x) (drop (i + 1) given)) refused

@@ -134,7 +134,7 @@ module _ (folder : FolderState) (text : List ℕ) (untested : Untested) (j : Jou
   right h = h ∙ sum_is
 
   spells : Right → Spells text j
-  spells h = subst (Spells text) is (found.right (right h))
+  spells h = subst (Spells text) is (found.right (found.sealed.0 (right h)))
 
   printed : (b : Bool) → bytes_eq digests.folder j.fingerprint ≡ b → bytes_eq (fingerprint folder.files) j.fingerprint ≡ b
   printed b h = (λ i. bytes_eq ((ap fingerprint (sym (ap (λ (s : Session). s.folder) session)) ∙ sym print_is) i) j.fingerprint) ∙ h
@@ -142,17 +142,16 @@ module _ (folder : FolderState) (text : List ℕ) (untested : Untested) (j : Jou
   wrong_way : (e : JournalFault × FolderState) → e.1.files ≡ kept.folder.files → ((e.0 ≡ JournalInvalid) × ¬ Right) ⊎ ((e.0 ≡ FolderChanged false) × Right × IsFalse (bytes_eq digests.folder j.fingerprint))
       → AnswersOpening folder text (Err e)
   wrong_way e files (inl (fault, wrong)) =
-      let foreign = found.wrong (λ h. wrong (h ∙ sym sum_is)) in
       record {
         opened = tt;
-        refused = inr (subst (λ x. defined.Opens folder.files text (Err x)) (sym fault) (no_journal folder.files text foreign.unspelled));
+        refused = inr (subst (λ x. defined.Opens folder.files text (Err x)) (sym fault) (no_journal folder.files text (λ j spelled. wrong (found.sealed.1 (found.only j spelled) ∙ sym sum_is))));
         unsealed = λ _. fault;
         files = files ∙ ap (λ (s : Session). s.folder) session;
       }
   wrong_way e files (inr (fault, same, other)) = record {
     opened = tt;
     refused = inr (subst (λ x. defined.Opens folder.files text (Err x)) (sym fault) (settled_changed folder.files text j (spells same) settled (printed false other)));
-    unsealed = λ un. absurd (un (found.sealed (right same)));
+    unsealed = λ un. absurd (un (found.sealed.0 (right same)));
     files = files ∙ ap (λ (s : Session). s.folder) session;
   }
 
@@ -161,7 +160,7 @@ module _ (folder : FolderState) (text : List ℕ) (untested : Untested) (j : Jou
     opened = subst (λ o. defined.Opens folder.files text (Ok o)) (ap defined.Settled (sym session) ∙ sym told.session)
         (settled_opens folder.files text j (spells told.right) settled (printed true told.same) valid);
     refused = tt;
-    unsealed = λ un. un (found.sealed (right told.right));
+    unsealed = λ un. un (found.sealed.0 (right told.right));
     files = tt;
   }
   answers (Err e) told = wrong_way e told.files told.refused

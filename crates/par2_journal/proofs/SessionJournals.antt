@@ -1,5 +1,5 @@
 -- A session's journals, by the session's fields.
-use Rattle.par2_journal.proofs.Common.{◌≡◌, ℕ, zero, suc, ◌+◌, ◌-◌, ◌<◌, ◌≤◌, List, [], ◌∷◌, ◌++◌, length, map, take, drop, get_or, set, inl, inr, Option, Some, None, Result, Ok, Err, Vec, true, refl, sym, ap, subst, ◌∙◌, append-nil, length-set, arith, reverse, IfOk, Global, reverse-reverse, take-append-drop, length-reverse, length-take-le, reverse-append, get_or_default, drop_all, map-append, take-map, cases_lt, Folder, fingerprint, Change, FolderState, effect, state_after_all, takes_all, Action, KeptSession, OnlyGrew, CanWalk, walks, session_of_kept, session_with, session_unless, kept_undone, kept_redone, Journal, Spells, halfway_where, Two, Kind, Changing, Undoing, Redoing, Ready, IsReady, CanBe, next_of, changes_by_kind, after_commit, next_changes, Next, Turn, SpellsAction, SpellsReady, SpellsTurn, SpellsWhere, AreSpelled, HasNext, turn_of, entries_with, halfway_with, settled_with, state_files, takes_none, next_taken, same_session, same_ok}
+use Rattle.par2_journal.proofs.Common.{◌≡◌, ℕ, zero, suc, ◌+◌, ◌-◌, ◌<◌, ◌≤◌, List, [], ◌∷◌, ◌++◌, length, map, take, drop, get_or, set, inl, inr, Option, Some, None, Result, Ok, Err, Vec, true, refl, sym, ap, subst, ◌∙◌, append-nil, length-set, arith, reverse, IfOk, Global, reverse-reverse, take-append-drop, length-reverse, length-take-le, reverse-append, get_or_default, drop_all, cases_lt, Folder, fingerprint, Change, FolderState, effect, state_after_all, takes_all, Action, KeptSession, OnlyGrew, CanWalk, walks, session_of_kept, session_with, session_unless, kept_undone, kept_redone, Journal, Spells, halfway_where, Two, Kind, Changing, Undoing, Redoing, Ready, IsReady, CanBe, next_of, changes_by_kind, after_commit, next_changes, Next, Turn, SpellsAction, SpellsReady, SpellsTurn, SpellsWhere, AreSpelled, HasNext, turn_of, entries_with, halfway_with, settled_with, state_files, takes_none, next_taken, same_session, same_ok}
 use Rattle.par2_spec.specs.Changes.{folders_after, way_back}
 use Rattle.par2_spec.specs.Sessions.{session_after, kept_done}
 use Rattle.par2_spec.specs.Opening.{settled_journal, halfway_journal, journals_of}
@@ -22,7 +22,7 @@ module _ (xs : List (List Change)) (n : ℕ) (within : n ≤ length xs) where
 
   -- while changes are made
   halfway_at : (folder : FolderState) (room : ℕ) (text : Option (Vec ℕ Global)) (cs back : List Change) → back ≡ way_back folder.files cs
-      → SpellsWhere text (halfway_with (fingerprint folder.files) n xs (map fingerprint (folders_after folder.files cs)) back)
+      → SpellsWhere text (halfway_with (settled_with (fingerprint folder.files) (xs, n)) (map fingerprint (folders_after folder.files cs)) back)
       → SpellsWhere text (halfway_where Two (session_of_kept (at folder xs n room)) cs)
   unfolding halfway_journal settled_journal way_back
   halfway_at folder room text [] [] e h = h
@@ -116,12 +116,6 @@ unfolding journals_of
 both_spelled journals action s ready before grew is halfway after =
     (halfway, subst (λ t. Spells journals.after.items (settled_journal Two t)) (asked_session action before s ready grew is) after)
 
--- ---- of lent entries, seen by v
-
-pub taken_and_one : {A X : Type 0} (v : A → X) (list front new : List A) (xs : List X) (n : ℕ) (b : A) → map v list ≡ xs → front ≡ take n list → new ≡ front ++ b ∷ [] → map v new ≡ take n xs ++ v b ∷ []
-taken_and_one v list front new xs n b seen cut more =
-    ap (map v) (more ∙ ap (λ l. l ++ b ∷ []) cut) ∙ map-append v (take n list) (b ∷ []) ∙ ap (λ l. l ++ v b ∷ []) (sym (take-map v n list) ∙ ap (take n) seen)
-
 -- what is ready can be applied
 next_entry : (folder : FolderState) (entries : List (List Change)) → walks folder entries ≡ true → takes_all folder (next_of entries) ≡ true
 next_entry folder [] h = takes_none folder
@@ -142,8 +136,8 @@ fit_spelled : {E : Type 0} (r : Result Journals E) (xs entries : List (List Chan
 fit_spelled (Err e) xs entries n within folder room turn ready cs te ee ce can spells = tt
 fit_spelled (Ok j) xs entries n within folder room turn ready cs te ee ce can spells = (
   halfway_at xs n within folder room j.halfway (changes_by_kind ready.kind (at folder xs n room)) (way_back folder.files (changes_by_kind ready.kind (at folder xs n room))) refl
-      (subst (λ d. SpellsWhere j.halfway (halfway_with (fingerprint folder.files) n xs (map fingerprint (folders_after folder.files d)) (way_back folder.files d))) ce
-      (subst (λ es. SpellsWhere j.halfway (halfway_with (fingerprint folder.files) n es (map fingerprint (folders_after folder.files cs)) (way_back folder.files cs))) ee spells.halfway)),
+      (subst (λ d. SpellsWhere j.halfway (halfway_with (settled_with (fingerprint folder.files) (xs, n)) (map fingerprint (folders_after folder.files d)) (way_back folder.files d))) ce
+      (subst (λ es. SpellsWhere j.halfway (halfway_with (settled_with (fingerprint folder.files) (es, n)) (map fingerprint (folders_after folder.files cs)) (way_back folder.files cs))) ee spells.halfway)),
   subst (λ (t : Journal). Spells j.after.items t)
       (ap (λ f. settled_with (fingerprint f) (entries_with turn n entries (way_back folder.files cs))) (sym (state_files folder cs))
       ∙ (λ i. settled_with (fingerprint (state_after_all folder (ce i)).files) (entries_with (te i) n (ee i) (way_back folder.files (ce i))))

@@ -1,5 +1,6 @@
 -- Changes and entries that were tried.
-use Rattle.par2_journal.proofs.Common.{◌≡◌, ℕ, ◌+◌, ◌<◌, ◌≤◌, true, false, List, ◌++◌, length, map, take, drop, get_or, set, Some, None, ap, ◌∙◌, arith, is_none, reverse, Change, FolderState, change_refusal, inverse, state_after, takes_all, state_after_all, way_back, walks, changes_back, takes_none, length-take-le, length-map, map-append, take_all, drop_all, take-append-drop, AreFirstTaken, state_along, ways_back}
+use Rattle.par2_journal.proofs.Common.{◌≡◌, ℕ, ◌+◌, ◌<◌, ◌≤◌, true, false, List, ◌++◌, length, map, take, drop, get_or, set, Some, None, ap, ◌∙◌, arith, sym, is_none, reverse, Change, FolderState, change_refusal, inverse, state_after, takes_all, state_after_all, way_back, walks, changes_back, takes_none, length-take-le, length-map, map-append, take-map, drop-map, take_all, drop_all, take-append-drop, AreFirstTaken, state_along, ways_back}
+use Rattle.par2_spec.proofs.ListsLaws.{map-reverse}
 use Rattle.par2_spec.specs.declared.ChangeFault.{ChangeFault}
 use Rattle.par2_journal.proofs.Each.{all_reversed, front_reversed, rest_seen, reached}
 use Rattle.par2_journal.proofs.Each as each
@@ -30,16 +31,16 @@ module _ {A : Type 0} (v : A → Change) (start state : FolderState) (given now 
       each.refused_one takes_all state_after_all (λ (s : FolderState). way_back s.files) (λ s c. is_none (change_refusal s c)) state_after (λ (s : FolderState). inverse s.files)
       takes_none after_none back_none takes_next takes_more after_more back_more back_length v start state given now i so_far lt a is (ap is_none refused)
 
-module _ {A : Type 0} (v : A → List Change) (start state : FolderState) (given now : List A) (i : ℕ) (so_far : AreWalked start state (map v given) (map v now) i) (lt : i < length given) (a : A) (is : a ≡ get_or now i a) where
-  pub entry_turned : (new : FolderState) (b : A) → takes_all state (v a) ≡ true → new ≡ state_after_all state (v a) → v b ≡ way_back state.files (v a) → AreWalked start new (map v given) (map v (set now i b)) (i + 1)
+module _ (start state : FolderState) (given now : List (List Change)) (i : ℕ) (so_far : AreWalked start state given now i) (lt : i < length given) (entry : List Change) (is : entry ≡ get_or now i entry) where
+  pub entry_turned : (new : FolderState) (back : List Change) → takes_all state entry ≡ true → new ≡ state_after_all state entry → back ≡ way_back state.files entry → AreWalked start new given (set now i back) (i + 1)
   entry_turned =
-      each.turned_one walks state_along ways_back takes_all state_after_all (λ (s : FolderState). way_back s.files)
-      walks_none along_none ways_none walks_next walks_more along_one ways_more ways_length v start state given now i so_far lt a is
+      each.goes_on walks state_along ways_back takes_all state_after_all (λ (s : FolderState). way_back s.files)
+      walks_none along_none ways_none walks_next walks_more along_one ways_more ways_length start state given now i so_far lt entry is
 
-  pub entry_refused : takes_all state (v a) ≡ false → walks start (map v given) ≡ false
+  pub entry_refused : takes_all state entry ≡ false → walks start given ≡ false
   entry_refused =
-      each.refused_one walks state_along ways_back takes_all state_after_all (λ (s : FolderState). way_back s.files)
-      walks_none along_none ways_none walks_next walks_more along_one ways_more ways_length v start state given now i so_far lt a is
+      each.is_stuck walks state_along ways_back takes_all state_after_all (λ (s : FolderState). way_back s.files)
+      walks_none along_none ways_none walks_next walks_more along_one ways_more ways_length start state given now i so_far lt entry is
 
 -- ---- turned back
 
@@ -56,60 +57,43 @@ module _ {A : Type 0} (v : A → Change) (f g : FolderState) (given now : List A
 
   pub turned_front : map v (reverse (take r now)) ≡ way_back f.files (take r (map v given))
   unfolding front
-  turned_front = front_reversed v now (way_back f.files front) (drop r (map v given)) seen r back_count
+  turned_front = map-reverse v (take r now) ∙ ap reverse (sym (take-map v r now)) ∙ front_reversed (map v now) (way_back f.files front) (drop r (map v given)) seen r back_count
 
   pub whole_turned : length given ≤ r → map v (reverse now) ≡ way_back f.files (map v given)
   unfolding front
   whole_turned all =
       let over : length (map v given) ≤ r = omega (arith, all, length-map given v) in
-      all_reversed v now (way_back f.files front) (drop r (map v given)) seen (drop_all r (map v given) over) ∙ ap (way_back f.files) (take_all r (map v given) over)
+      map-reverse v now ∙ all_reversed (map v now) (way_back f.files front) (drop r (map v given)) seen (drop_all r (map v given) over) ∙ ap (way_back f.files) (take_all r (map v given) over)
 
   pub all_back : (turned : List Change) (last : List A) → turned ≡ way_back f.files (take r (map v given)) → map v last ≡ way_back g.files turned → map v (last ++ drop r now) ≡ map v given
   unfolding front
   all_back turned last is lasts =
       map-append v last (drop r now)
       ∙ ap (λ l. l ++ map v (drop r now)) (lasts ∙ ap (way_back g.files) is ∙ ap (λ (s : FolderState). way_back s.files (way_back f.files front)) moved ∙ changes_back f front taken)
-      ∙ ap (λ l. front ++ l) (rest_seen v now (way_back f.files front) (drop r (map v given)) seen r back_count)
+      ∙ ap (λ l. front ++ l) (sym (drop-map v r now) ∙ rest_seen (map v now) (way_back f.files front) (drop r (map v given)) seen r back_count)
       ∙ take-append-drop r (map v given)
 
 -- the entries that were applied, walked back
-module _ {A : Type 0} (v : A → List Change) (f g : FolderState) (given now : List A) (r : ℕ) (within : r ≤ length given)
-    (taken : walks f (take r (map v given)) ≡ true) (moved : g ≡ state_along f (take r (map v given)))
-    (seen : map v now ≡ reverse (ways_back f (take r (map v given))) ++ drop r (map v given)) where
-  front_entries : List (List Change)
-  front_entries = take r (map v given)
+module _ (f g : FolderState) (given now : List (List Change)) (r : ℕ) (within : r ≤ length given)
+    (taken : walks f (take r given) ≡ true) (moved : g ≡ state_along f (take r given)) (seen : now ≡ reverse (ways_back f (take r given)) ++ drop r given) where
+  ways_count : length (ways_back f (take r given)) ≡ r
+  ways_count = ways_length f (take r given) ∙ length-take-le r given within
 
-  ways_count : length (ways_back f front_entries) ≡ r
-  unfolding front_entries
-  ways_count = ways_length f front_entries ∙ length-take-le r (map v given) (omega (arith, within, length-map given v))
+  module _ (turned : List (List Change)) (is : turned ≡ reverse (take r now)) (h : FolderState) (last : List (List Change)) (k : ℕ) (stops : k < length turned → walks g turned ≡ false)
+      (moved_back : h ≡ state_along g (take k turned)) (seen_back : last ≡ reverse (ways_back g (take k turned)) ++ drop k turned) where
+    turned_is : turned ≡ ways_back f (take r given)
+    turned_is = is ∙ front_reversed now (ways_back f (take r given)) (drop r given) seen r ways_count
 
-  walked_front : map v (reverse (take r now)) ≡ ways_back f front_entries
-  unfolding front_entries
-  walked_front = front_reversed v now (ways_back f front_entries) (drop r (map v given)) seen r ways_count
-
-  module _ (turned : List A) (is : turned ≡ reverse (take r now)) (h : FolderState) (last : List A) (k : ℕ) (stops : k < length turned → walks g (map v turned) ≡ false)
-      (moved_back : h ≡ state_along g (take k (map v turned))) (seen_back : map v last ≡ reverse (ways_back g (take k (map v turned))) ++ drop k (map v turned)) where
-    turned_is : map v turned ≡ ways_back f front_entries
-    turned_is = ap (map v) is ∙ walked_front
-
-    all_walk : walks g (map v turned) ≡ true
-    unfolding front_entries
-    all_walk = ap (walks g) turned_is ∙ ap (λ s. walks s (ways_back f front_entries)) moved ∙ ways_walk f front_entries taken
-
-    over : length (map v turned) ≤ k
-    over = omega (arith, length-map turned v, reached k (length turned) (walks g (map v turned)) all_walk stops)
+    over : length turned ≤ k
+    over = reached k (length turned) (walks g turned) (ap (walks g) turned_is ∙ ap (λ s. walks s (ways_back f (take r given))) moved ∙ ways_walk f (take r given) taken) stops
 
     pub walked_home : h ≡ f
-    unfolding front_entries
-    walked_home =
-        moved_back ∙ ap (state_along g) (take_all k (map v turned) over ∙ turned_is) ∙ ap (λ s. state_along s (ways_back f front_entries)) moved ∙ ways_lead f front_entries taken
+    walked_home = moved_back ∙ ap (state_along g) (take_all k turned over ∙ turned_is) ∙ ap (λ s. state_along s (ways_back f (take r given))) moved ∙ ways_lead f (take r given) taken
 
-    pub entries_home : map v (reverse last ++ drop r now) ≡ map v given
-    unfolding front_entries
+    pub entries_home : reverse last ++ drop r now ≡ given
     entries_home =
-        map-append v (reverse last) (drop r now)
-        ∙ ap (λ l. l ++ map v (drop r now))
-        (all_reversed v last (ways_back g (take k (map v turned))) (drop k (map v turned)) seen_back (drop_all k (map v turned) over)
-        ∙ ap (ways_back g) (take_all k (map v turned) over ∙ turned_is) ∙ ap (λ s. ways_back s (ways_back f front_entries)) moved ∙ ways_twice f front_entries taken)
-        ∙ ap (λ l. front_entries ++ l) (rest_seen v now (ways_back f front_entries) (drop r (map v given)) seen r ways_count)
-        ∙ take-append-drop r (map v given)
+        ap (λ l. l ++ drop r now)
+        (all_reversed last (ways_back g (take k turned)) (drop k turned) seen_back (drop_all k turned over)
+        ∙ ap (ways_back g) (take_all k turned over ∙ turned_is) ∙ ap (λ s. ways_back s (ways_back f (take r given))) moved ∙ ways_twice f (take r given) taken)
+        ∙ ap (λ l. take r given ++ l) (rest_seen now (ways_back f (take r given)) (drop r given) seen r ways_count)
+        ∙ take-append-drop r given

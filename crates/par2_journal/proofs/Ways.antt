@@ -145,8 +145,8 @@ module _ (f g : FolderState) (xs : List (List Change)) (i : ℕ) (within : i < l
   taken_here : takes_all f (get_or xs i d) ≡ true
   taken_here = ap (takes_all f) (sym (here [])) ∙ taken
 
-  pub entry_length : length (get_or (set xs i turned) i []) ≡ length (get_or xs i [])
-  entry_length = ap length (there []) ∙ ap length is ∙ back_length f (get_or xs i d) ∙ ap length (sym (here []))
+  pub entry_length : (e : List Change) → length (get_or (set xs i turned) i e) ≡ length (get_or xs i [])
+  entry_length e = ap length (there e) ∙ ap length is ∙ back_length f (get_or xs i d) ∙ ap length (sym (here []))
 
   pub entry_taken : (e : List Change) → takes_all g (get_or (set xs i turned) i e) ≡ true
   entry_taken e = ap (takes_all g) (there e) ∙ back_taken f g (get_or xs i d) turned taken_here moved is

@@ -12,7 +12,7 @@ use Rattle.par2_spec.specs.declared.JournalFault.{JournalFault}
 use Rattle.par2_spec.specs.declared.JournalFault.TheVariants.{JournalInvalid, FolderChanged, Memory}
 use Rattle.par2_spec.specs.declared.Version.TheVariants.{Two}
 use Rattle.par2_journal_bytes.specs.Reading.{IsSealed}
-use Rattle.par2_journal_bytes.specs.Views.{changes_in, entries_of}
+use Rattle.par2_journal_bytes.specs.Views.{changes_in}
 use Rattle.par2_folder.specs.declared.change.Change as given
 use Rattle.par2_journal.specs.declared.opening.Opened.{Opened}
 use Rattle.par2_journal.specs.declared.opening.Opened.TheVariants as opening
@@ -24,12 +24,12 @@ abbrev pub session_at : Folder → ℕ → List (List Change) → Session
 session_at folder n entries = record { folder = folder; undos = reverse (take n entries); redos = drop n entries }
 
 -- the session to which changes go from a folder
-abbrev pub session_after_way : Folder → List given.Change → ℕ → List (Vec given.Change Global) → Session
-session_after_way folder way n entries = session_at (effects folder (changes_in way)) n (entries_of entries)
+abbrev pub session_after_way : Folder → List given.Change → ℕ → List (List Change) → Session
+session_after_way folder way n entries = session_at (effects folder (changes_in way)) n entries
 
 -- whether the entries of a journal can be those of a session on the folder
-abbrev pub are_valid : Folder → ℕ → List (Vec given.Change Global) → Bool
-are_valid folder n entries = is_valid (session_at folder n (entries_of entries))
+abbrev pub are_valid : Folder → ℕ → List (List Change) → Bool
+are_valid folder n entries = is_valid (session_at folder n entries)
 
 -- whether changes can be applied, and go through folders with these fingerprints
 abbrev pub go_through : Folder → List given.Change → List (List ℕ) → Bool

@@ -8,11 +8,8 @@ use Rattle.par2_spec.specs.Journals.{Journal, Spells}
 use Rattle.par2_spec.specs.Opening.{JournalPair, journals_of}
 use Rattle.par2_spec.specs.Sessions.{KeptSession, OnlyGrew, session_of_kept}
 use Rattle.par2_spec.specs.declared.Version.TheVariants.{Two}
-use Rattle.par2_folder.specs.declared.change.Change as given
-use Rattle.par2_journal_bytes.specs.Fronts.{Begins}
-use Rattle.par2_journal_bytes.specs.Views.{changes_in}
+use Rattle.par2_journal_bytes.specs.Fronts.{Begins, with_halfway}
 use Rattle.par2_journal.specs.Ready.{Kind, Changing, Undoing, Redoing, Ready, IsReady, changes_by_kind, journals_for}
-use Rattle.par2_journal.specs.declared.spelling.Fingerprints.{Fingerprints}
 use Rattle.par2_journal.specs.declared.spelling.Journals.{Journals}
 
 -- a text that spells the journal, or neither
@@ -59,41 +56,28 @@ abbrev pub entries_with : Turn → ℕ → List (List Change) → List Change �
 entries_with Add cursor entries back = (take cursor entries ++ back ∷ [], cursor + 1)
 entries_with (Replace at next) cursor entries back = (set entries at back, next)
 
--- the journal of entries while changes are made, of which there is at least one
-abbrev pub halfway_with : List ℕ → ℕ → List (List Change) → List (List ℕ) → List Change → Option Journal
-halfway_with print cursor entries prints [] = None
-halfway_with print cursor entries prints (change ∷ back) =
-    Some (record { version = Two; fingerprint = print; cursor = cursor; entries = entries; halfway = Some (record { fingerprints = prints; back = change ∷ back }) })
-
--- with these fingerprints and this way back, the text spells each halfway journal that the front begins
-abbrev pub CompletesHalfway : List ℕ → Option (Vec ℕ Global) → List (List ℕ) → List Change → Type 0
-CompletesHalfway front text prints back =
-    (print : List ℕ) (cursor : ℕ) (entries : List (List Change))
-    → Begins front Two print cursor entries → SpellsWhere text (halfway_with print cursor entries prints back)
-
 -- the settled journal of these entries and this cursor
 abbrev pub settled_with : List ℕ → List (List Change) × ℕ → Journal
 settled_with print p = record { version = Two; fingerprint = print; cursor = p.1; entries = p.0; halfway = None }
 
--- a text spells it
-abbrev pub SpellsSettled : List ℕ → List (List Change) × ℕ → Vec ℕ Global → Type 0
-SpellsSettled print p text = Spells text.items (settled_with print p)
+-- the journal while changes are made, of which there is at least one
+abbrev pub halfway_with : Journal → List (List ℕ) → List Change → Option Journal
+halfway_with j prints [] = None
+halfway_with j prints (change ∷ back) = Some (with_halfway j (Some (record { fingerprints = prints; back = change ∷ back })))
 
--- both journals of an action with this way back: the halfway one, which the front begins, and the settled one of the
--- entries and the cursor afterwards
-pub record CompletesBoth (front : Vec ℕ Global) (prints : Fingerprints) (back : List Change) (later : List (List Change) × ℕ) (journals : Journals) : Type 0 where
-  pub halfway : CompletesHalfway front.items journals.halfway prints.after_each.items back
-  pub after : SpellsSettled prints.after_all later journals.after
+-- with these fingerprints and this way back, the text spells each halfway journal that the front begins
+abbrev pub CompletesHalfway : List ℕ → Option (Vec ℕ Global) → List (List ℕ) → List Change → Type 0
+CompletesHalfway front text prints back = (j : Journal) → Begins front j → SpellsWhere text (halfway_with j prints back)
 
 -- the journals of changes to a folder, of a session with these entries: the halfway one where there are changes, and
 -- the settled one of what the turn makes of the entries
 pub record SpellsTurn (turn : Turn) (folder : FolderState) (cursor : ℕ) (entries : List (List Change)) (changes : List Change) (journals : Journals) : Type 0 where
-  pub halfway : SpellsWhere journals.halfway (halfway_with (fingerprint folder.files) cursor entries (map fingerprint (folders_after folder.files changes)) (way_back folder.files changes))
-  pub after : SpellsSettled (fingerprint (effects folder.files changes)) (entries_with turn cursor entries (way_back folder.files changes)) journals.after
+  pub halfway : SpellsWhere journals.halfway (halfway_with (settled_with (fingerprint folder.files) (entries, cursor)) (map fingerprint (folders_after folder.files changes)) (way_back folder.files changes))
+  pub after : Spells journals.after.items (settled_with (fingerprint (effects folder.files changes)) (entries_with turn cursor entries (way_back folder.files changes)))
 
 -- those of a command with these changes
-abbrev pub SpellsCommand : FolderState → ℕ → List (List Change) → List given.Change → Journals → Type 0
-SpellsCommand folder cursor entries changes journals = SpellsTurn Add folder cursor entries (changes_in changes) journals
+abbrev pub SpellsCommand : FolderState → ℕ → List (List Change) → List Change → Journals → Type 0
+SpellsCommand folder cursor entries changes journals = SpellsTurn Add folder cursor entries changes journals
 
 -- those of an undo or redo of the entry at this place
 abbrev pub SpellsEntry : FolderState → ℕ → List (List Change) → ℕ → ℕ → Journals → Type 0

@@ -1,11 +1,10 @@
 -- Changes and entries that a kept folder takes one after the other.
-use Rattle.std.specs.Prelude.{◌≡◌, ◌&&◌, ℕ, Bool, List, [], ◌∷◌, ◌++◌, take, drop, reverse, IsTrue, Vec}
-use Rattle.std.specs.declared.alloc.Global.{Global}
+use Rattle.std.specs.Prelude.{◌≡◌, ◌&&◌, ℕ, Bool, List, [], ◌∷◌, ◌++◌, take, drop, reverse, IsTrue}
 use Rattle.par2_spec.specs.Folders.{Folder}
 use Rattle.par2_spec.specs.Changes.{Change, FolderState, effects, state_after_all, takes_all, way_back}
 use Rattle.par2_spec.specs.Sessions.{walks}
 use Rattle.par2_folder.specs.declared.change.Change as given
-use Rattle.par2_journal_bytes.specs.Views.{changes_in, entries_of}
+use Rattle.par2_journal_bytes.specs.Views.{changes_in}
 
 -- the kept folder after the entries
 unfoldable pub state_along : FolderState → List (List Change) → FolderState
@@ -51,8 +50,8 @@ AreFirstMade start folder changes now n =
     AreFirstTaken takes_all state_after_all (λ (s : FolderState). way_back s.files) start folder (changes_in changes) (changes_in now) n
 
 -- and with entries
-abbrev pub AreFirstWalked : FolderState → FolderState → List (Vec given.Change Global) → List (Vec given.Change Global) → ℕ → Type 0
-AreFirstWalked start folder entries now n = AreFirstTaken walks state_along ways_back start folder (entries_of entries) (entries_of now) n
+abbrev pub AreFirstWalked : FolderState → FolderState → List (List Change) → List (List Change) → ℕ → Type 0
+AreFirstWalked start folder entries now n = AreFirstTaken walks state_along ways_back start folder entries now n
 
 -- ---- on both sides of a cursor
 

@@ -6,7 +6,7 @@ ghost use Rattle.par2_spec.specs.Journals.{IsJournal};
 ghost use Rattle.par2_spec.specs.Opening.{is_valid, opened, opened_by_part};
 ghost use Rattle.par2_spec.specs.declared.JournalFault.TheVariants.{JournalInvalid, FolderChanged, Memory};
 ghost use Rattle.par2_journal_bytes.specs.Reading.{IsSealed};
-ghost use Rattle.par2_journal_bytes.specs.Views.{changes_in, entries_of, journal_of};
+ghost use Rattle.par2_journal_bytes.specs.Views.{changes_in, journal_of};
 ghost use Rattle.par2_journal.specs.Opening.{Answers, AnswersDigests, AnswersOpening, AnswersTest, OpensAsIs, are_valid, has_print, journal_with, opened_of, session_at, settled_by};
 ghost use Rattle.par2_journal.specs.Walks.{AreFirstMade, AreFirstWalked, AreMade, AreUntouched, EntriesWalk, walk_both};
 
@@ -69,15 +69,15 @@ pub(crate) fn can_apply(folder: &mut Folder, changes: &mut [Change]) -> bool
 
 // Applies the entries in order up to the first that is refused, and answers how many were applied. Each of these has
 // become its way back.
-fn walk_first(folder: &mut Folder, entries: &mut [Vec<Change>]) -> usize
+fn walk_first(folder: &mut Folder, entries: &mut [Changes]) -> usize
     ensures within { result ≤ length entries.old }
     ensures first { AreFirstWalked folder.old folder.new entries.old entries.new result }
     ensures refused { result < length entries.old
-        → IsFalse (walks folder.old (entries_of entries.old)) }
+        → IsFalse (walks folder.old entries.old) }
 {
     let mut walked = 0;
     for entry in entries.iter_mut() {
-        if !turn_whole(folder, entry) {
+        if !turn_whole(folder, entry.as_mut_slice()) {
             return walked;
         }
         walked += 1;
@@ -86,10 +86,10 @@ fn walk_first(folder: &mut Folder, entries: &mut [Vec<Change>]) -> usize
 }
 
 // Whether the entries can be applied one after the other. Folder and entries are as before.
-fn can_walk(folder: &mut Folder, entries: &mut [Vec<Change>]) -> bool
-    ensures result { result ≡ walks folder.old (entries_of entries.old) }
+fn can_walk(folder: &mut Folder, entries: &mut [Changes]) -> bool
+    ensures result { result ≡ walks folder.old entries.old }
     ensures folder { folder.new ≡ folder.old }
-    ensures entries { entries_of entries.new ≡ entries_of entries.old }
+    ensures entries { entries.new ≡ entries.old }
 {
     let count = entries.len();
     let walked = walk_first(folder, entries);
@@ -103,8 +103,8 @@ fn can_walk(folder: &mut Folder, entries: &mut [Vec<Change>]) -> bool
 // Whether the entries of a journal can be those of a session.
 
 // How many changes the entries have, where the number fits.
-fn change_count(entries: &[Vec<Change>]) -> Option<usize>
-    ensures { IfSome result (λ count. sum_by places_taken (entries_of entries.now) ≤ count) }
+fn change_count(entries: &[Changes]) -> Option<usize>
+    ensures { IfSome result (λ count. sum_by places_taken entries.now ≤ count) }
 {
     let mut count: usize = 0;
     for entry in entries {
@@ -115,11 +115,11 @@ fn change_count(entries: &[Vec<Change>]) -> Option<usize>
 
 // Whether those before the cursor can be applied, the last one first, and those from it on. Folder and entries are as
 // before.
-fn can_walk_both(folder: &mut Folder, entries: &mut [Vec<Change>], cursor: usize) -> bool
+fn can_walk_both(folder: &mut Folder, entries: &mut [Changes], cursor: usize) -> bool
     requires { cursor ≤ length entries.old }
-    ensures result { result ≡ walk_both folder.old cursor (entries_of entries.old) }
+    ensures result { result ≡ walk_both folder.old cursor entries.old }
     ensures folder { folder.new ≡ folder.old }
-    ensures entries { entries_of entries.new ≡ entries_of entries.old }
+    ensures entries { entries.new ≡ entries.old }
 {
     let (undos, redos) = entries.split_at_mut(cursor);
     undos.reverse();
@@ -131,17 +131,13 @@ fn can_walk_both(folder: &mut Folder, entries: &mut [Vec<Change>], cursor: usize
 
 // Whether the entries can be those of a session on the folder, with this cursor. If so, the folder has got the room
 // that they take.
-fn settle(
-    folder: &mut Folder,
-    entries: &mut [Vec<Change>],
-    cursor: usize,
-) -> Result<bool, AllocError>
+fn settle(folder: &mut Folder, entries: &mut [Changes], cursor: usize) -> Result<bool, AllocError>
     requires { cursor ≤ length entries.old }
     ensures files { folder.new.files ≡ folder.old.files }
     ensures vacant { folder.old.vacant ≤ folder.new.vacant }
-    ensures entries { entries_of entries.new ≡ entries_of entries.old }
+    ensures entries { entries.new ≡ entries.old }
     ensures valid { IfOk result (λ x. x ≡ are_valid folder.old.files cursor entries.old) }
-    ensures walks { result ≡ Ok true → EntriesWalk folder.new cursor (entries_of entries.old) }
+    ensures walks { result ≡ Ok true → EntriesWalk folder.new cursor entries.old }
 {
     let Some(count) = change_count(entries) else {
         return Err(AllocError);
@@ -150,46 +146,20 @@ fn settle(
     Ok(can_walk_both(folder, entries, cursor))
 }
 
-fn changes_from(alloc: Global, items: Vec<Change>) -> Result<Changes, AllocError>
-    ensures { IfOk result (λ changes. changes ≡ changes_in items.items) }
-{
-    let mut changes = Changes::new(alloc);
-    for change in items {
-        changes.push(change)?;
-    }
-    Ok(changes)
-}
-
-// The entries as a session keeps them.
-fn kept_entries(alloc: Global, entries: Vec<Vec<Change>>) -> Result<Vec<Changes>, AllocError>
-    ensures { IfOk result (λ kept. kept.items ≡ entries_of entries.items) }
-{
-    let mut kept = Vec::new(alloc);
-    for entry in entries {
-        kept.push(changes_from(alloc, entry)?)?;
-    }
-    Ok(kept)
-}
-
 // The session of these entries, where they can be applied.
 pub(crate) fn session_from(
-    alloc: Global,
     mut folder: Folder,
-    mut entries: Vec<Vec<Change>>,
+    mut entries: Vec<Changes>,
     cursor: usize,
 ) -> Result<Session, (JournalFault, Folder)>
     requires { cursor ≤ length entries.items }
-    ensures answer { let wanted = session_at folder.files cursor (entries_of entries.items) in
+    ensures answer { let wanted = session_at folder.files cursor entries.items in
         AnswersTest folder (is_valid wanted) wanted result }
     ensures vacant { IfErr result (λ e. folder.vacant ≤ e.1.vacant) }
 {
     match settle(&mut folder, &mut entries, cursor) {
-        Ok(true) => {}
-        Ok(false) => return Err((JournalFault::JournalInvalid, folder)),
-        Err(AllocError) => return Err((JournalFault::Memory, folder)),
-    }
-    match kept_entries(alloc, entries) {
-        Ok(kept) => Ok(Session::from_entries(folder, kept, cursor)),
+        Ok(true) => Ok(Session::from_entries(folder, entries, cursor)),
+        Ok(false) => Err((JournalFault::JournalInvalid, folder)),
         Err(AllocError) => Err((JournalFault::Memory, folder)),
     }
 }
@@ -197,7 +167,7 @@ pub(crate) fn session_from(
 // The opening itself.
 
 /// What a folder with a journal opens as.
-#[derive(Debug, Drop)]
+#[derive(Drop)]
 pub enum Opened {
     Settled(Session),
     /// A stop left a command halfway, which is to be taken back.
@@ -240,14 +210,14 @@ fn open_settled(
     alloc: Global,
     folder: Folder,
     fingerprint: [u8; 16],
-    entries: Vec<Vec<Change>>,
+    entries: Vec<Changes>,
     cursor: usize,
 ) -> Result<Session, (JournalFault, Folder)>
     requires { cursor ≤ length entries.items }
-    ensures { let journal = journal_with fingerprint cursor (entries_of entries.items) in
+    ensures { let journal = journal_with fingerprint cursor entries.items in
         Answers settled_by folder.files (opened_by_part folder.files journal None) result }
 {
-    match session_from(alloc, folder, entries, cursor) {
+    match session_from(folder, entries, cursor) {
         Ok(session) => unless_changed(session, fingerprint),
         Err((JournalFault::JournalInvalid, folder)) => {
             Err(invalid_unless_changed(alloc, folder, fingerprint))
@@ -357,7 +327,7 @@ fn open_untested(
     if halfway.is_some() {
         return Err(folder);
     }
-    let mut session = match session_from(alloc, folder, entries, cursor) {
+    let mut session = match session_from(folder, entries, cursor) {
         Ok(session) => session,
         Err((_, folder)) => return Err(folder),
     };

@@ -144,7 +144,7 @@ impl From<NothingToRedo> for SessionFault {
 }
 
 // What committing does.
-#[derive(Debug, Drop)]
+#[derive(Drop)]
 pub enum Task {
     // Changes, and the fingerprints along them, where they are known.
     Change(Changes, Option<Fingerprints>),
@@ -153,7 +153,7 @@ pub enum Task {
 }
 
 /// An action that a session has made ready: what it does, and the steps that are reported of it.
-#[derive(Debug, Drop)]
+#[derive(Drop)]
 pub struct Prepared {
     pub(crate) task: Task,
     pub(crate) steps: Steps,

@@ -1,9 +1,10 @@
 //! One folder, the changes that lead back, and those that lead forward again.
 use crate::ahead::{Ahead, fingerprints_for, landmarks_in};
 use crate::preparation::Task;
-use crate::spelling::{Fingerprints, spell_command, spell_entry, spell_settled};
+use crate::spelling::{Fingerprints, settled, spell_command, spell_entry};
 use crate::{Changes, Journals, Next, Prepared, Steps};
 use par2_folder::{Change, Folder, Landmarks, survey_folder};
+use par2_journal_bytes::encode;
 use par2_plan::Draft;
 use std::alloc::{AllocError, Global};
 use std::marker::Model;
@@ -179,7 +180,8 @@ impl Session {
         ensures { IfOk result (λ bytes. Spells bytes.items (kept_journal self.now)) }
     {
         let fingerprint = self.fingerprint()?;
-        spell_settled(self.allocator(), &self.entries, self.cursor, fingerprint)
+        let parts = settled(fingerprint, self.cursor, &self.entries, &[]);
+        encode(self.allocator(), &parts)
     }
 
     // Room for as many files and one more entry.
@@ -273,8 +275,15 @@ impl Session {
             return Ok(Digests { folder, text });
         };
         let changes = self.next_changes(next);
-        let (fingerprints, text) = Fingerprints::and_digest(alloc, self.folder(), changes, text)?;
-        let folder = fingerprints.before;
+        let folder = self.folder();
+        let (fingerprints, digests) = Fingerprints::and_digests(
+            alloc,
+            None,
+            folder,
+            changes,
+            &[text],
+        )?;
+        let (folder, text) = (fingerprints.before, digests[0]);
         self.ahead = Some(Ahead::Fingerprints(next, fingerprints));
         Ok(Digests { folder, text })
     }
@@ -322,7 +331,6 @@ impl Session {
         let folder = &mut self.folder;
         match &mut prepared.task {
             Task::Change(changes, known) => {
-                let changes = changes.as_mut_slice();
                 let known = known.as_ref();
                 let landmarks = landmarks_in(&self.ahead);
                 spell_command(

@@ -1,22 +1,21 @@
 //! The journals of a session, and the fingerprints that stand in them.
-ghost use Rattle.std.specs.Prelude.{◌≡◌, ◌≤◌, ◌<◌, ◌∷◌, ◌++◌, ◌+◌, [], List, IfOk, IfSome, IsTrue, length, map, get_or, slice_get, take, Some, None, Ok};
+ghost use Rattle.std.specs.Prelude.{◌≡◌, ◌≤◌, ◌<◌, ◌∷◌, ◌+◌, [], List, IfOk, IfSome, IsTrue, length, map, get_or, slice_get, Some, Ok};
 ghost use Rattle.md5.specs.Md5.{md5};
 ghost use Rattle.par2_digests.specs.Texts.{texts_of};
 ghost use Rattle.par2_spec.specs.Changes as defined;
 ghost use Rattle.par2_spec.specs.Changes.{folders_after, takes_all};
 ghost use Rattle.par2_spec.specs.Folders.{Folder as Files, fingerprint};
-ghost use Rattle.par2_spec.specs.declared.Version.TheVariants.{Two};
+ghost use Rattle.par2_spec.specs.Journals.{Spells};
 ghost use Rattle.par2_folder.specs.Landmarks.{AreLandmarksOf};
-ghost use Rattle.par2_journal_bytes.specs.Fronts.{Begins};
-ghost use Rattle.par2_journal_bytes.specs.Views.{changes_in, lent_entries_of};
+ghost use Rattle.par2_journal_bytes.specs.Views.{changes_in, journal_from};
 ghost use Rattle.par2_journal.specs.Along.{AreAlong, ArePrintsOf};
-ghost use Rattle.par2_journal.specs.Spelling.{Add, CompletesBoth, SpellsCommand, SpellsEntry, SpellsSettled, entries_with};
-ghost use Rattle.par2_journal.specs.Walks.{AreMade, AreUntouched};
+ghost use Rattle.par2_journal.specs.Spelling.{CompletesHalfway, SpellsCommand, SpellsEntry};
 
 use crate::Changes;
 use par2_folder::{Change, Folder, Landmarks, fingerprints};
-use par2_journal_bytes::{HalfwayPartView, JournalView, Version, begin, encode, finish_both};
+use par2_journal_bytes::{HalfwayPartView, JournalView, begin, encode, finish_both};
 use std::alloc::{AllocError, Global};
+use std::slice::from_ref;
 
 // The fingerprints of a folder along some changes.
 #[derive(Debug, Drop)]
@@ -92,22 +91,6 @@ impl Fingerprints {
         Ok(fingerprints)
     }
 
-    // The same without landmarks, and the digest of a text.
-    pub(crate) fn and_digest(
-        alloc: Global,
-        folder: &Folder,
-        changes: &[Change],
-        text: &[u8],
-    ) -> Result<(Fingerprints, [u8; 16]), AllocError>
-        requires { IsTrue (takes_all folder.now (changes_in changes.now)) }
-        ensures along { IfOk result (λ x. ArePrintsOf folder.now changes.now x.0) }
-        ensures digest { IfOk result (λ x. x.1 ≡ md5 text.now) }
-    {
-        let found = fingerprints(alloc, folder, changes, &Landmarks::none(alloc), &[text])?;
-        let digest = found.beside[0];
-        Ok((Fingerprints::of_list(found.along), digest))
-    }
-
     // The same, computed only where they aren't known.
     fn known_or_of(
         alloc: Global,
@@ -127,36 +110,8 @@ impl Fingerprints {
     }
 }
 
-// Applies the changes in order, so that they become the way back, and answers the fingerprints along them. Where
-// memory runs out for these, the changes are applied all the same.
-pub(crate) fn pass_through(
-    alloc: Global,
-    folder: &mut Folder,
-    changes: &mut [Change],
-) -> Result<Fingerprints, AllocError>
-    requires { IsTrue (takes_all folder.old (changes_in changes.old)) }
-    ensures made { AreMade folder.old folder.new changes.old changes.new }
-    ensures along { IfOk result (ArePrintsOf folder.old changes.old) }
-{
-    let fingerprints = Fingerprints::of(alloc, None, folder, changes);
-    folder.apply_all(changes);
-    fingerprints
-}
-
-// The entries, lent: no bytes are copied. They are lent for as long as the reference to them, since the parts of a
-// journal have one lifetime.
-fn lent<'a>(alloc: Global, entries: &'a &[Changes]) -> Result<Vec<&'a [Change]>, AllocError>
-    ensures { IfOk result (λ list. lent_entries_of list.items ≡ entries.now.now) }
-{
-    let mut list = Vec::new(alloc);
-    for entry in entries.iter() {
-        list.push(entry.as_slice())?;
-    }
-    Ok(list)
-}
-
 /// The journals of an action, as bytes.
-#[derive(Debug, Drop)]
+#[derive(Drop)]
 pub struct Journals {
     /// The one that stands while the action's changes are made, where there are any.
     pub halfway: Option<Vec<u8>>,
@@ -165,136 +120,58 @@ pub struct Journals {
 }
 
 // The parts of the journal of a session that no action has left.
-fn settled<'a>(entries: &'a [&'a [Change]], cursor: usize, fingerprint: [u8; 16]) -> JournalView<'a>
+pub(crate) fn settled<'a>(
+    fingerprint: [u8; 16],
+    cursor: usize,
+    entries: &'a [Changes],
+    newer: &'a [Changes],
+) -> JournalView<'a>
     ensures { result ≡ record {
-      version = Two;
       fingerprint = fingerprint;
       cursor = cursor;
       entries = entries.entry;
-      halfway = None;
+      newer = newer.entry;
     } }
 {
     JournalView {
-        version: Version::Two,
         fingerprint,
         cursor,
         entries,
-        halfway: None,
+        newer,
     }
 }
 
-/// The journal of a session with these entries.
-pub(crate) fn spell_settled(
-    alloc: Global,
-    entries: &[Changes],
-    cursor: usize,
-    fingerprint: [u8; 16],
-) -> Result<Vec<u8>, AllocError>
-    requires { cursor ≤ length entries.now }
-    ensures { IfOk result (SpellsSettled fingerprint (entries.now, cursor)) }
-{
-    let entries = lent(alloc, &entries)?;
-    encode(alloc, &settled(&entries, cursor, fingerprint))
-}
-
-// The halfway journal up to its entries.
-fn front(
-    alloc: Global,
-    entries: &[Changes],
-    cursor: usize,
-    before: [u8; 16],
-) -> Result<Vec<u8>, AllocError>
-    requires { cursor ≤ length entries.now }
-    ensures { IfOk result (λ front. Begins front.items Two before cursor entries.now) }
-{
-    let entries = lent(alloc, &entries)?;
-    begin(alloc, Version::Two, before, cursor, &entries)
-}
-
-// Both journals of an action with this way back, of which the halfway one begins so. Afterwards the session has these
-// entries.
+// Both journals of an action with this way back, of which the halfway one begins so. These are the parts of the one
+// afterwards.
 fn both(
     alloc: Global,
     front: Vec<u8>,
     fingerprints: &Fingerprints,
-    back: &[Change],
-    entries: &[&[Change]],
-    cursor: usize,
+    back: &Changes,
+    after: &JournalView<'_>,
 ) -> Result<Journals, AllocError>
-    requires cursor { cursor ≤ length entries.now }
+    requires cursor { let entries = after.now.entries.now in
+        after.now.cursor ≤ length entries + length after.now.newer.now }
     requires each { length fingerprints.now.after_each.items ≡ length back.now }
-    ensures { let back = changes_in back.now in let entries = lent_entries_of entries.now in
-        IfOk result (CompletesBoth front fingerprints.now back (entries, cursor)) }
+    ensures halfway { let prints = fingerprints.now.after_each.items in
+        IfOk result (λ x. CompletesHalfway front.items x.halfway prints back.now) }
+    ensures after { IfOk result (λ x. Spells x.after.items (journal_from after.now)) }
 {
-    let after = settled(entries, cursor, fingerprints.after_all);
     if back.is_empty() {
         return Ok(Journals {
             halfway: None,
-            after: encode(alloc, &after)?,
+            after: encode(alloc, after)?,
         });
     }
     let part = HalfwayPartView {
         fingerprints: &fingerprints.after_each,
         back,
     };
-    let texts = finish_both(alloc, front, &part, &after)?;
+    let texts = finish_both(alloc, front, &part, after)?;
     Ok(Journals {
         halfway: Some(texts.halfway),
         after: texts.after,
     })
-}
-
-// The entries before the cursor, and after them the way back of a command.
-fn with_command<'a>(
-    alloc: Global,
-    entries: &'a &[Changes],
-    cursor: usize,
-    back: &'a [Change],
-) -> Result<Vec<&'a [Change]>, AllocError>
-    requires { cursor ≤ length entries.now.now }
-    ensures list { IfOk result (λ list. lent_entries_of list.items
-        ≡ take cursor entries.now.now ++ changes_in back.now ∷ []) }
-    ensures count { IfOk result (λ list. length list.items ≡ cursor + 1) }
-{
-    let mut list = lent(alloc, entries)?;
-    list.truncate(cursor);
-    list.push(back)?;
-    Ok(list)
-}
-
-fn spell_made(
-    alloc: Global,
-    front: Vec<u8>,
-    fingerprints: &Fingerprints,
-    entries: &[Changes],
-    cursor: usize,
-    back: &[Change],
-) -> Result<Journals, AllocError>
-    requires cursor { cursor ≤ length entries.now }
-    requires each { length fingerprints.now.after_each.items ≡ length back.now }
-    ensures { let later = entries_with Add cursor entries.now (changes_in back.now) in
-        IfOk result (CompletesBoth front fingerprints.now (changes_in back.now) later) }
-{
-    let list = with_command(alloc, &entries, cursor, back)?;
-    both(alloc, front, fingerprints, back, &list, cursor + 1)
-}
-
-fn spell_turned(
-    alloc: Global,
-    front: Vec<u8>,
-    fingerprints: &Fingerprints,
-    entries: &[Changes],
-    at: usize,
-    cursor: usize,
-) -> Result<Journals, AllocError>
-    requires cursor { cursor ≤ length entries.now }
-    requires place { at < length entries.now }
-    requires each { length fingerprints.now.after_each.items ≡ length (get_or entries.now at []) }
-    ensures { let back = get_or entries.now at [] in
-        IfOk result (CompletesBoth front fingerprints.now back (entries.now, cursor)) }
-{
-    let list = lent(alloc, &entries)?;
-    both(alloc, front, fingerprints, list[at], &list, cursor)
 }
 
 // The journals of a command with these changes, along which these are the fingerprints. The changes are made and turned
@@ -305,18 +182,26 @@ fn spell_along(
     entries: &[Changes],
     cursor: usize,
     folder: &mut Folder,
-    changes: &mut [Change],
+    changes: &mut Changes,
 ) -> Result<Journals, AllocError>
-    requires along { ArePrintsOf folder.old changes.old fingerprints.now }
-    requires applies { IsTrue (takes_all folder.old (changes_in changes.old)) }
+    requires along { AreAlong folder.old.files changes.old fingerprints.now }
+    requires applies { IsTrue (takes_all folder.old changes.old) }
     requires cursor { cursor ≤ length entries.now }
-    ensures same { AreUntouched folder.old folder.new changes.old changes.new }
+    ensures folder { folder.new ≡ folder.old }
+    ensures changes { changes.new ≡ changes.old }
     ensures spelled { IfOk result (SpellsCommand folder.old cursor entries.now changes.old) }
 {
-    let front = front(alloc, entries, cursor, fingerprints.before)?;
-    folder.apply_all(changes);
-    let answer = spell_made(alloc, front, fingerprints, entries, cursor, changes);
-    folder.apply_all(changes);
+    let front = begin(alloc, &settled(fingerprints.before, cursor, entries, &[]))?;
+    changes.turn(folder);
+    let newer = from_ref(&*changes);
+    let after = settled(
+        fingerprints.after_all,
+        cursor + 1,
+        &entries[..cursor],
+        newer,
+    );
+    let answer = both(alloc, front, fingerprints, changes, &after);
+    changes.turn(folder);
     answer
 }
 
@@ -328,19 +213,20 @@ pub(crate) fn spell_command(
     entries: &[Changes],
     cursor: usize,
     folder: &mut Folder,
-    changes: &mut [Change],
+    changes: &mut Changes,
 ) -> Result<Journals, AllocError>
-    requires known { IfSome known (λ prints. ArePrintsOf folder.old changes.old prints.now) }
+    requires known { IfSome known (λ prints. AreAlong folder.old.files changes.old prints.now) }
     requires landmarks { IfSome landmarks (λ from. AreLandmarksOf folder.old.files from.now) }
-    requires applies { IsTrue (takes_all folder.old (changes_in changes.old)) }
+    requires applies { IsTrue (takes_all folder.old changes.old) }
     requires cursor { cursor ≤ length entries.now }
-    ensures same { AreUntouched folder.old folder.new changes.old changes.new }
+    ensures folder { folder.new ≡ folder.old }
+    ensures changes { changes.new ≡ changes.old }
     ensures spelled { IfOk result (SpellsCommand folder.old cursor entries.now changes.old) }
 {
     if let Some(fingerprints) = known {
         return spell_along(alloc, fingerprints, entries, cursor, folder, changes);
     }
-    let fingerprints = Fingerprints::of(alloc, landmarks, folder, changes)?;
+    let fingerprints = Fingerprints::of(alloc, landmarks, folder, changes.as_slice())?;
     spell_along(alloc, &fingerprints, entries, cursor, folder, changes)
 }
 
@@ -366,9 +252,11 @@ pub(crate) fn spell_entry(
     ensures spelled { IfOk result (SpellsEntry folder.old cursor entries.old at next) }
 {
     let fingerprints = Fingerprints::known_or_of(alloc, known, folder, entries[at].as_slice())?;
-    let front = front(alloc, entries, cursor, fingerprints.before)?;
+    let front = begin(alloc, &settled(fingerprints.before, cursor, entries, &[]))?;
     entries[at].turn(folder);
-    let answer = spell_turned(alloc, front, &fingerprints, entries, at, next);
+    let turned = &*entries;
+    let after = settled(fingerprints.after_all, next, turned, &[]);
+    let answer = both(alloc, front, &fingerprints, &turned[at], &after);
     entries[at].turn(folder);
     answer
 }

@@ -1,23 +1,22 @@
 //! A command that a stop left halfway is taken back.
-ghost use Rattle.std.specs.Prelude.{◌≡◌, ◌≤◌, ◌<◌, ◌&&◌, ◌∷◌, IfSome, IfOk, IfErr, OnOk, OnErr, IsTrue, length, position, Ok, None, true};
+ghost use Rattle.std.specs.Prelude.{◌≡◌, ◌≤◌, ◌<◌, ◌&&◌, IfSome, IfOk, IfErr, OnOk, OnErr, IsTrue, length, position, Ok, None};
 ghost use Rattle.std.specs.Str.{bytes_eq};
-ghost use Rattle.par2_spec.specs.Changes.{places_taken};
 ghost use Rattle.par2_spec.specs.Journals.{Spells};
 ghost use Rattle.par2_spec.specs.Opening.{is_valid};
-ghost use Rattle.par2_journal_bytes.specs.Views.{changes_in, entries_of};
+ghost use Rattle.par2_journal_bytes.specs.Views.{changes_in};
 ghost use Rattle.par2_journal.specs.Opening.{Answers, AnswersTest, FailsTest, LeadBack, go_through, halfway_as, halfway_by, place_among, session_after_way, session_before, way_left};
 ghost use Rattle.par2_journal.specs.Ready.{kept_journal};
-ghost use Rattle.par2_journal.specs.Walks.{AreMade, WentForth};
+ghost use Rattle.par2_journal.specs.Walks.{WentForth};
 
-use crate::Session;
 use crate::opening::{can_apply, session_from};
-use crate::spelling::pass_through;
+use crate::spelling::Fingerprints;
+use crate::{Changes, Session};
 use par2_folder::{Change, Folder, copies_of};
 use par2_spec::JournalFault;
 use std::alloc::{AllocError, Global};
 
 /// A session of which a stop left a command halfway, as it was before the command.
-#[derive(Debug, Drop)]
+#[derive(Drop)]
 pub struct Halfway {
     session: Session,
     back: Vec<Change>,
@@ -46,48 +45,6 @@ impl Halfway {
     }
 }
 
-// Where the fingerprint first stands.
-fn find_fingerprint(known: &[[u8; 16]], print: &[u8; 16]) -> Option<usize>
-    ensures found { result ≡ position (bytes_eq print.now) known.now }
-    ensures within { IfSome result (λ at. at < length known.now) }
-{
-    known
-        .iter()
-        .position(|one| print.as_slice() == one.as_slice())
-}
-
-// Whether the changes can be applied and leave folders with these fingerprints. If so they were, and became the way
-// back. If not, everything is as before.
-fn goes_back(
-    alloc: Global,
-    folder: &mut Folder,
-    back: &mut [Change],
-    wanted: &[[u8; 16]],
-) -> Result<bool, AllocError>
-    requires room { places_taken (changes_in back.old) ≤ folder.old.vacant }
-    requires each { length wanted.now ≡ length back.old }
-    ensures leads { IfOk result (λ x. x ≡ go_through folder.old.files back.old wanted.now) }
-    ensures made { result ≡ Ok true → AreMade folder.old folder.new back.old back.new }
-    ensures unchanged { (result ≡ Ok true → ⊥) → folder.new ≡ folder.old }
-{
-    if !can_apply(folder, back) {
-        return Ok(false);
-    }
-    match pass_through(alloc, folder, back) {
-        Ok(prints) => {
-            if prints.after_each.as_slice() == wanted {
-                return Ok(true);
-            }
-            folder.apply_all(back);
-            Ok(false)
-        }
-        Err(fault) => {
-            folder.apply_all(back);
-            Err(fault)
-        }
-    }
-}
-
 // Goes back by the changes, which are to leave folders with these fingerprints. They become the way forth.
 fn go_back(
     alloc: Global,
@@ -102,9 +59,14 @@ fn go_back(
     ensures files { OnErr result (folder.new.files ≡ folder.old.files) }
 {
     folder.reserve(way.len())?;
-    if !goes_back(alloc, folder, way, wanted)? {
+    if !can_apply(folder, way) {
         return Err(JournalFault::JournalInvalid);
     }
+    let prints = Fingerprints::of(alloc, None, folder, way)?;
+    if prints.after_each.as_slice() != wanted {
+        return Err(JournalFault::JournalInvalid);
+    }
+    folder.apply_all(way);
     Ok(())
 }
 
@@ -114,7 +76,7 @@ fn take_back(
     mut folder: Folder,
     way: &mut [Change],
     wanted: &[[u8; 16]],
-    entries: Vec<Vec<Change>>,
+    entries: Vec<Changes>,
     cursor: usize,
 ) -> Result<Session, (JournalFault, Folder)>
     requires cursor { cursor ≤ length entries.items }
@@ -127,7 +89,7 @@ fn take_back(
         Ok(()) => {}
         Err(fault) => return Err((fault, folder)),
     }
-    match session_from(alloc, folder, entries, cursor) {
+    match session_from(folder, entries, cursor) {
         Ok(session) => Ok(session),
         Err((fault, mut after)) => {
             after.apply_all(way);
@@ -136,17 +98,14 @@ fn take_back(
     }
 }
 
-fn with_first(
-    alloc: Global,
-    first: [u8; 16],
-    others: &[[u8; 16]],
-) -> Result<Vec<[u8; 16]>, AllocError>
-    ensures { IfOk result (λ list. list.items ≡ first ∷ others.now) }
+// Where the fingerprint first stands.
+fn find_fingerprint(known: &[[u8; 16]], print: &[u8; 16]) -> Option<usize>
+    ensures found { result ≡ position (bytes_eq print.now) known.now }
+    ensures within { IfSome result (λ at. at < length known.now) }
 {
-    let mut list = Vec::new(alloc);
-    list.push(first)?;
-    list.extend_from_slice(others)?;
-    Ok(list)
+    known
+        .iter()
+        .position(|one| print.as_slice() == one.as_slice())
 }
 
 // The fingerprints to go back by: those before the place of the folder's, the last one first. There are none where the
@@ -161,7 +120,9 @@ fn fingerprints_back(
     ensures back { IfOk result (λ x. IfSome x (LeadBack folder.now.files first others.now)) }
 {
     let print = folder.fingerprint()?;
-    let mut known = with_first(alloc, first, others)?;
+    let mut known = Vec::new(alloc);
+    known.push(first)?;
+    known.extend_from_slice(others)?;
     let Some(done) = find_fingerprint(&known, &print) else {
         return Ok(None);
     };
@@ -176,14 +137,13 @@ pub(crate) fn open_halfway(
     folder: Folder,
     first: [u8; 16],
     others: &[[u8; 16]],
-    mut back: Vec<Change>,
-    entries: Vec<Vec<Change>>,
+    mut back: Changes,
+    entries: Vec<Changes>,
     cursor: usize,
 ) -> Result<Halfway, (JournalFault, Folder)>
     requires cursor { cursor ≤ length entries.items }
-    requires each { length others.now ≡ length back.items }
-    ensures { let entries = entries_of entries.items in let back = changes_in back.items in
-        let answer = halfway_as folder.files first cursor entries others.now back in
+    requires each { length others.now ≡ length back }
+    ensures { let answer = halfway_as folder.files first cursor entries.items others.now back in
         Answers halfway_by folder.files answer result }
 {
     let wanted = match fingerprints_back(alloc, &folder, first, others) {
@@ -192,7 +152,7 @@ pub(crate) fn open_halfway(
         Err(AllocError) => return Err((JournalFault::Memory, folder)),
     };
     let start = back.len() - wanted.len();
-    let (_, way) = back.split_at_mut(start);
+    let (_, way) = back.as_mut_slice().split_at_mut(start);
     let left = match copies_of(alloc, way) {
         Ok(left) => left,
         Err(AllocError) => return Err((JournalFault::Memory, folder)),

@@ -1,20 +1,18 @@
 -- The names that proofs of this crate take from elsewhere.
 
-pub use Rattle.std.proofs.Common.{Bool, Err, List, None, Ok, Option, Result, Some, Vec, [], ap, append_assoc, arith, cond, drop, eqb, false, get_or, inl, inr, leb, length, ltb, map, refl, subst, suc, sym, take, true, zero, ℕ, ◌&&◌, ◌++◌, ◌+◌, ◌-◌, ◌<◌, ◌^◌, ◌∙◌, ◌∷◌, ◌≡◌, ◌≤◌}
-pub use Rattle.std.proofs.lemmas.Bool.{and_from, and_parts, eqb-true, le-leb, le-ltb, leb-true, lt-ltb, ltb-false}
-pub use Rattle.std.proofs.lemmas.List.{append-nil, drop_at, flat_map_more, length-append, length-take-le, map_more, map_push, nil_from_length, take-append-drop, take_all, take_at}
+pub use Rattle.std.proofs.Common.{Bool, Err, List, None, Ok, Option, Result, Some, Vec, [], ap, append_assoc, arith, cond, drop, eqb, false, get_or, inl, inr, leb, length, ltb, refl, subst, suc, sym, take, true, zero, ℕ, ◌&&◌, ◌++◌, ◌+◌, ◌-◌, ◌<◌, ◌^◌, ◌∙◌, ◌∷◌, ◌≡◌, ◌≤◌}
+pub use Rattle.std.proofs.lemmas.Bool.{and_from, and_parts, eqb-true, false≢true, le-leb, le-ltb, leb-true, ltb-false}
+pub use Rattle.std.proofs.lemmas.List.{append-nil, drop_at, flat_map_more, get_or-map, length-append, length-map, length-take-le, nil_from_length, take-append-drop, take_all, take_at, take_more}
 pub use Rattle.std.proofs.lemmas.List.Concat.{concat_is}
 pub use Rattle.std.proofs.lemmas.Option.{cond_some, none-some, same_Some}
 pub use Rattle.std.proofs.lemmas.Result.{err_from_is_err_and}
-pub use Rattle.std.proofs.lemmas.Slice.Eq.{bytes_eq-Decides}
 pub use Rattle.std.specs.Int.{from_le_bytes, to_le_bytes, w64}
 pub use Rattle.std.specs.List.{AllByRecursion, concat}
-pub use Rattle.std.specs.Prelude.{IfOk, IfSome, IsTrue, MatchResult, flat_map, if◌then◌else◌, ◌⊎◌}
-pub use Rattle.std.specs.Str.{bytes_eq}
+pub use Rattle.std.specs.Prelude.{IfOk, IfSome, IsTrue, flat_map, if◌then◌else◌, ◌↔◌, ◌⊎◌}
 pub use Rattle.md5.specs.Md5.{md5}
 pub use Rattle.par2_folder.specs.Views.{change_of}
-pub use Rattle.par2_journal_bytes.specs.Reading.{Fails, Gives, IsSealed, block_at, change_at, cursor_in, entry_at, halfway_at, journal_at, many_at, number_at, parts_at, some_where, ◌>>=◌}
-pub use Rattle.par2_journal_bytes.specs.Views.{changes_in, entries_of, halfway_from, journal_of, lent_entries_of}
+pub use Rattle.par2_journal_bytes.specs.Reading.{Fails, IsSealed, block_at, change_at, cursor_in, entry_at, halfway_at, many_at, number_at, parts_at, some_where, ◌>>=◌}
+pub use Rattle.par2_journal_bytes.specs.Views.{changes_in, halfway_from, journal_from, journal_of, part_from}
 pub use Rattle.par2_journal_bytes.specs.declared.fault.DecodeFault.{DecodeFault}
 pub use Rattle.par2_journal_bytes.specs.declared.fault.DecodeFault.TheVariants.{JournalInvalid, Memory}
 pub use Rattle.par2_spec.proofs.ListsLaws.{all-append, all_at, all_from}
@@ -22,4 +20,3 @@ pub use Rattle.par2_spec.proofs.RestoredLaws.{bytes-drop, bytes-take}
 pub use Rattle.par2_spec.specs.Changes.{Change, Remove, Rename, Replace, Write}
 pub use Rattle.par2_spec.specs.Journals.{HalfwayPart, IsChange, IsCursor, IsDigest, IsEntry, IsFileBytes, IsHalfwayPart, IsJournal, Journal, Spells, change_bytes, cursor_bytes, entry_bytes, halfway_bytes, heading, name_bytes}
 pub use Rattle.par2_spec.specs.Rank.{AreBytes}
-pub use Rattle.par2_spec.specs.declared.Version.{Version}

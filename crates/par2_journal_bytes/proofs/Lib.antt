@@ -4,5 +4,4 @@ pub mod Fields
 pub mod Pieces
 pub mod Whole
 pub mod UntestedTexts
-pub mod ReaderAnswers
 pub mod Fronts

@@ -1,5 +1,5 @@
 -- Reading and writing values one after the other, as a loop does.
-use Rattle.par2_journal_bytes.proofs.Common.{◌≡◌, ℕ, suc, ◌-◌, ◌+◌, ◌≤◌, ◌<◌, List, [], ◌∷◌, ◌++◌, length, map, take, get_or, Option, Some, None, refl, sym, ap, subst, ◌∙◌, append_assoc, arith, flat_map, AllByRecursion, append-nil, flat_map_more, map_more, take_all, all-append, DecodeFault, JournalInvalid, Memory, ◌>>=◌, Fails}
+use Rattle.par2_journal_bytes.proofs.Common.{◌≡◌, ℕ, suc, ◌-◌, ◌+◌, ◌≤◌, ◌<◌, List, [], ◌∷◌, ◌++◌, length, take, get_or, Option, Some, None, refl, sym, ap, subst, ◌∙◌, append_assoc, arith, flat_map, AllByRecursion, append-nil, flat_map_more, take_more, take_all, all-append, DecodeFault, JournalInvalid, Memory, ◌>>=◌, Fails}
 use Rattle.par2_journal_bytes.specs.Reading.{many_at}
 
 abbrev pub Reader : Type 0 → Type 0
@@ -46,25 +46,24 @@ ends one n bytes front i rest le so_far =
     let whole : behind front (many_at one (n - i) rest) ≡ Some (front, rest) = rw k (ap (λ l. Some (l, rest)) (append-nil front)) in
     sym so_far ∙ whole
 
--- ---- writing: of the values xs, seen by v, the first i are written by f
+-- ---- writing
 
-module _ {X Y : Type 0} (v : X → Y) (xs : List X) (i : ℕ) where
-  one_more_seen : (x : X) → i < length xs → x ≡ get_or xs i x → map v (take (i + 1) xs) ≡ map v (take i xs) ++ v x ∷ []
-  one_more_seen x lt is = map_more v xs i x lt ∙ ap (λ y. map v (take i xs) ++ v y ∷ []) (sym is)
-
-  -- so they stand after what was there before, and P holds of each
-  abbrev pub AreWritten : (Y → Type 0) → (Y → List ℕ) → List ℕ → List ℕ → Type 0
-  AreWritten P f start out = record {
-    bytes : out ≡ start ++ flat_map f (map v (take i xs));
-    each : AllByRecursion P (map v (take i xs));
-  }
-
-  pub wrote_all : (f : Y → List ℕ) (start out : List ℕ) → length xs ≤ i → out ≡ start ++ flat_map f (map v (take i xs)) → out ≡ start ++ flat_map f (map v xs)
-  wrote_all f start out le so_far = so_far ∙ ap (λ ys. start ++ flat_map f (map v ys)) (take_all i xs le)
-
-pub wrote_more : {X Y : Type 0} (v : X → Y) (xs : List X) (i : ℕ) (P : Y → Type 0) (f : Y → List ℕ) (start out new : List ℕ) (x : X) → i < length xs → x ≡ get_or xs i x
-    → AreWritten v xs i P f start out → new ≡ out ++ f (v x) → P (v x) → AreWritten v xs (i + 1) P f start new
-wrote_more v xs i P f start out new x lt is so_far step here = record {
-  bytes = step ∙ ap (λ (o : List ℕ). o ++ f (v x)) so_far.bytes ∙ flat_map_more f start (map v (take i xs)) (v x) ∙ ap (λ ys. start ++ flat_map f ys) (sym (one_more_seen v xs i x lt is));
-  each = subst (AllByRecursion P) (sym (one_more_seen v xs i x lt is)) (all-append P (map v (take i xs)) (v x ∷ []) so_far.each (here, tt));
+-- the values, written by f, stand after what was there before, and P holds of each
+abbrev pub AreWritten : {X : Type 0} → (X → Type 0) → (X → List ℕ) → List X → List ℕ → List ℕ → Type 0
+AreWritten P f xs start out = record {
+  bytes : out ≡ start ++ flat_map f xs;
+  each : AllByRecursion P xs;
 }
+
+-- the first i of them were written, and one more
+pub wrote_more : {X : Type 0} (xs : List X) (i : ℕ) (P : X → Type 0) (f : X → List ℕ) (start out new : List ℕ) (x : X) → i < length xs → x ≡ get_or xs i x
+    → AreWritten P f (take i xs) start out → new ≡ out ++ f x → P x → AreWritten P f (take (i + 1) xs) start new
+wrote_more xs i P f start out new x lt is so_far step here =
+    let more : take (i + 1) xs ≡ take i xs ++ x ∷ [] = take_more xs i x lt ∙ ap (λ y. take i xs ++ y ∷ []) (sym is) in
+    record {
+      bytes = step ∙ ap (λ (o : List ℕ). o ++ f x) so_far.bytes ∙ flat_map_more f start (take i xs) x ∙ ap (λ ys. start ++ flat_map f ys) (sym more);
+      each = subst (AllByRecursion P) (sym more) (all-append P (take i xs) (x ∷ []) so_far.each (here, tt));
+    }
+
+pub wrote_all : {X : Type 0} (xs : List X) (i : ℕ) (f : X → List ℕ) (start out : List ℕ) → length xs ≤ i → out ≡ start ++ flat_map f (take i xs) → out ≡ start ++ flat_map f xs
+wrote_all xs i f start out le so_far = so_far ∙ ap (λ ys. start ++ flat_map f ys) (take_all i xs le)

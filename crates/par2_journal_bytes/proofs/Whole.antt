@@ -1,9 +1,12 @@
 -- Whole journals: what is read is spelled so, and what is spelled so is read.
-use Rattle.par2_journal_bytes.proofs.Common.{◌≡◌, ℕ, ◌-◌, ◌+◌, ◌^◌, ◌≤◌, ◌<◌, Bool, true, false, cond, leb, ltb, eqb, ◌&&◌, List, [], ◌++◌, length, take, drop, Option, Some, None, refl, sym, ap, subst, ◌∙◌, append_assoc, arith, inl, inr, flat_map, ◌⊎◌, if◌then◌else◌, w64, to_le_bytes, bytes_eq, leb-true, le-leb, le-ltb, eqb-true, and_parts, and_from, same_Some, cond_some, none-some, append-nil, nil_from_length, take-append-drop, take_at, drop_at, length-append, bytes_eq-Decides, md5, Change, HalfwayPart, Journal, IsEntry, IsCursor, IsJournal, Spells, heading, cursor_bytes, entry_bytes, halfway_bytes, Version, AreBytes, bytes-take, ◌>>=◌, some_where, block_at, number_at, many_at, entry_at, halfway_at, cursor_in}
+use Rattle.par2_journal_bytes.proofs.Common.{◌≡◌, ℕ, ◌-◌, ◌+◌, ◌^◌, ◌≤◌, ◌<◌, Bool, true, false, cond, leb, eqb, ◌&&◌, List, [], ◌++◌, length, take, drop, Option, Some, None, refl, sym, ap, subst, ◌∙◌, append_assoc, arith, inl, inr, flat_map, ◌⊎◌, if◌then◌else◌, w64, to_le_bytes, leb-true, le-leb, eqb-true, and_parts, and_from, same_Some, cond_some, none-some, append-nil, nil_from_length, take-append-drop, take_at, drop_at, length-append, md5, Change, HalfwayPart, Journal, IsEntry, IsCursor, IsJournal, Spells, heading, cursor_bytes, entry_bytes, halfway_bytes, AreBytes, bytes-take, ◌>>=◌, some_where, block_at, number_at, many_at, entry_at, halfway_at, cursor_in, IsSealed}
+use Rattle.std.specs.Str.{bytes_eq}
+use Rattle.std.proofs.lemmas.Slice.Eq.{bytes_eq-Decides}
+use Rattle.par2_spec.specs.declared.Version.{Version}
 use Rattle.md5.proofs.StandardFacts.{length-md5}
 use Rattle.par2_spec.specs.Journals.{journal_bytes, spelling}
 use Rattle.par2_spec.specs.declared.Version.TheVariants.{One, Two}
-use Rattle.par2_journal_bytes.specs.Reading.{heading_at, cursor_at, behind_cursor_at, parts_at, journal_at}
+use Rattle.par2_journal_bytes.specs.Reading.{heading_at, cursor_at, behind_cursor_at, parts_at}
 use Rattle.par2_journal_bytes.proofs.Fields.{bind_some, Took, Took-then, block_read, block_again, number_read, number_again, many_read}
 use Rattle.par2_journal_bytes.proofs.Pieces.{entry_read, halfway_read}
 
@@ -157,38 +160,39 @@ parts_again j is =
 
 -- ---- with the digest
 
-digest_passed : (b c : Bool) (o : Option Journal) (j : Journal) → cond b None (cond c o None) ≡ Some j → (b ≡ false) × (c ≡ true) × (o ≡ Some j)
-digest_passed true c o j e = absurd (none-some j e)
-digest_passed false true o j e = (refl, refl, e)
-digest_passed false false o j e = absurd (none-some j e)
+-- a text of a body and its digest ends with the digest of the body
+module _ (body text : List ℕ) (is : text ≡ body ++ md5 body) where
+  long : length text ≡ length body + 16
+  long = ap length is ∙ length-append body (md5 body) ∙ ap (λ (k : ℕ). length body + k) (length-md5 body)
 
--- what is read is spelled so
-pub journal_takes : (text : List ℕ) (j : Journal) → AreBytes text → journal_at text ≡ Some j → Spells text j
-unfolding journal_at spelling
-journal_takes text j fits e =
-    let n : ℕ = length text - 16 in
-    let p = digest_passed (ltb (length text) 16) (bytes_eq (drop n text) (md5 (take n text))) (parts_at (take n text)) j e in
-    let end : drop n text ≡ md5 (take n text) = (bytes_eq-Decides (drop n text) (md5 (take n text))).0 p.1 in
-    let t = parts_take (take n text) j (bytes-take n text fits) p.2 in
-    (t.0, sym (take-append-drop n text) ∙ ap (λ (s : List ℕ). take n text ++ s) end ∙ ap (λ (s : List ℕ). s ++ md5 s) t.1)
+  front : take (length text - 16) text ≡ body
+  front = let n : length body ≡ length text - 16 = omega (arith, long) in ap (take (length text - 16)) is ∙ take_at body (md5 body) (length text - 16) n
 
--- a text of a body and its digest
-journal_split : (body text : List ℕ) → text ≡ body ++ md5 body → journal_at text ≡ parts_at body
-unfolding journal_at
-journal_split body text e =
-    let long : length text ≡ length body + 16 = ap length e ∙ length-append body (md5 body) ∙ ap (λ (k : ℕ). length body + k) (length-md5 body) in
-    let n : length body ≡ length text - 16 = omega arith in
-    let front : take (length text - 16) text ≡ body = ap (take (length text - 16)) e ∙ take_at body (md5 body) (length text - 16) n in
-    let back : drop (length text - 16) text ≡ md5 body = ap (drop (length text - 16)) e ∙ drop_at body (md5 body) (length text - 16) n in
-    let more : 16 ≤ length text = omega arith in
-    let same : bytes_eq (md5 body) (md5 body) ≡ true = (bytes_eq-Decides (md5 body) (md5 body)).1 refl in
-    rw (le-ltb (length text) 16 more, front, back, same) refl
+  pub seals : IsSealed text
+  seals =
+      let n : length body ≡ length text - 16 = omega (arith, long) in
+      record {
+        long = omega (arith, long);
+        digest = ap (drop (length text - 16)) is ∙ drop_at body (md5 body) (length text - 16) n ∙ ap md5 (sym front);
+      }
 
--- what is spelled so is read
-pub journal_again : (text : List ℕ) (j : Journal) → Spells text j → journal_at text ≡ Some j
+-- what is spelled ends with its digest, and is read before it
+pub spells_sealed : (text : List ℕ) (j : Journal) → Spells text j → IsSealed text
 unfolding spelling
-journal_again text j spells = journal_split (journal_bytes j) text spells.1 ∙ parts_again j spells.0
+spells_sealed text j spells = seals (journal_bytes j) text spells.1
+
+pub spells_parts : (text : List ℕ) (j : Journal) → Spells text j → parts_at (take (length text - 16) text) ≡ Some j
+unfolding spelling
+spells_parts text j spells = ap parts_at (front (journal_bytes j) text spells.1) ∙ parts_again j spells.0
+
+-- what is read before the digest is spelled so
+pub parts_spell : (text : List ℕ) (j : Journal) → AreBytes text → IsSealed text → parts_at (take (length text - 16) text) ≡ Some j → Spells text j
+unfolding spelling
+parts_spell text j fits sealed is =
+    let n : ℕ = length text - 16 in
+    let t = parts_take (take n text) j (bytes-take n text fits) is in
+    (t.0, sym (take-append-drop n text) ∙ ap (λ (s : List ℕ). take n text ++ s) sealed.digest ∙ ap (λ (s : List ℕ). s ++ md5 s) t.1)
 
 -- a text has one reading
 pub one_reading : (text : List ℕ) (a b : Journal) → Spells text a → Spells text b → a ≡ b
-one_reading text a b p q = same_Some a b (sym (journal_again text a p) ∙ journal_again text b q)
+one_reading text a b p q = same_Some a b (sym (spells_parts text a p) ∙ spells_parts text b q)

@@ -128,10 +128,3 @@ parts_at bytes = do
 pub record IsSealed (text : List ℕ) : Type 0 where
   pub long : 16 ≤ length text
   pub digest : drop (length text - 16) text ≡ md5 (take (length text - 16) text)
-
-unfoldable pub journal_at : List ℕ → Option Journal
-journal_at text =
-    if nat_lt (length text) 16 then None
-    else if bytes_eq (drop (length text - 16) text) (md5 (take (length text - 16) text))
-    then parts_at (take (length text - 16) text)
-    else None

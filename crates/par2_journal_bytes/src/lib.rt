@@ -1,7 +1,6 @@
 //! Journals as bytes, in both versions.
 #![tactic(auto)]
 
-mod digest;
 mod fault;
 mod journal;
 mod laws;
@@ -12,5 +11,5 @@ pub use fault::DecodeFault;
 pub use journal::{HalfwayPart, HalfwayPartView, Journal, JournalView};
 pub use laws::one_reading;
 pub use par2_spec::Version;
-pub use reading::{Untested, decode, decode_untested};
+pub use reading::{Untested, decode, decode_untested, is_sealed};
 pub use writing::{JournalTexts, begin, encode, finish_both};

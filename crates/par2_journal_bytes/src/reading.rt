@@ -1,19 +1,17 @@
 //! A journal from its bytes. Each reader takes its part from the front, and gives the bytes after it too.
-ghost use Rattle.std.specs.Prelude.{◌≡◌, ◌<◌, ◌≤◌, ◌-◌, ◌∷◌, ℕ, List, length, take, drop, IfOk, IfErr, IfSome, IsTrue, Some, Err, is_some, MatchResult};
-ghost use Rattle.md5.specs.Md5.{md5};
-ghost use Rattle.par2_spec.specs.Names.{is_name};
+ghost use Rattle.std.specs.Prelude.{◌≡◌, ◌↔◌, ◌<◌, ◌≤◌, ◌-◌, length, take, drop, IfOk, IfErr, IsTrue, Err, MatchResult};
 ghost use Rattle.par2_spec.specs.Journals.{Journal as Defined, Spells};
 ghost use Rattle.par2_folder.specs.Views.{change_of};
 ghost use Rattle.par2_journal_bytes.specs.Reading as reads;
 ghost use Rattle.par2_journal_bytes.specs.Reading.{Gives, IsSealed};
 ghost use Rattle.par2_journal_bytes.specs.Untested.{IsUntested};
-ghost use Rattle.par2_journal_bytes.specs.Views.{changes_in, entries_of, halfway_of, journal_of};
+ghost use Rattle.par2_journal_bytes.specs.Views.{halfway_of, journal_of};
 ghost use Rattle.par2_journal_bytes.specs.declared.fault.DecodeFault.TheVariants.{JournalInvalid, Memory};
 
-use crate::digest::digest_of;
 use crate::journal::heading;
 use crate::{DecodeFault, HalfwayPart, Journal};
-use par2_folder::{Bytes, Change, Name};
+use md5::{Digest, Md5};
+use par2_folder::{Bytes, Change, Changes, Name};
 use par2_spec::Version;
 use std::alloc::Global;
 
@@ -78,66 +76,40 @@ fn read_bytes(alloc: Global, bytes: &[u8]) -> Result<(Bytes, &[u8]), DecodeFault
     Ok((Bytes::copy_of(alloc, content)?, rest))
 }
 
-// A change of each kind, after the byte of its kind.
-
-#[tactic(auto, unfolding(crate::specs::Reading::change_at))]
-fn read_write(alloc: Global, bytes: &[u8]) -> Result<(Change, &[u8]), DecodeFault>
-    ensures { Gives (λ x. (change_of x.0, x.1.now)) result (reads.change_at (1 ∷ bytes.now)) }
-{
-    let (name, rest) = read_name(bytes)?;
-    let (content, rest) = read_bytes(alloc, rest)?;
-    Ok((Change::Write(name, content), rest))
-}
-
-#[tactic(auto, unfolding(crate::specs::Reading::change_at))]
-fn read_replace(alloc: Global, bytes: &[u8]) -> Result<(Change, &[u8]), DecodeFault>
-    ensures { Gives (λ x. (change_of x.0, x.1.now)) result (reads.change_at (2 ∷ bytes.now)) }
-{
-    let (name, rest) = read_name(bytes)?;
-    let (content, rest) = read_bytes(alloc, rest)?;
-    Ok((Change::Replace(name, content), rest))
-}
-
-#[tactic(auto, unfolding(crate::specs::Reading::change_at))]
-fn read_rename(bytes: &[u8]) -> Result<(Change, &[u8]), DecodeFault>
-    ensures { Gives (λ x. (change_of x.0, x.1.now)) result (reads.change_at (3 ∷ bytes.now)) }
-{
-    let (from, rest) = read_name(bytes)?;
-    let (to, rest) = read_name(rest)?;
-    Ok((Change::Rename(from, to), rest))
-}
-
-#[tactic(auto, unfolding(crate::specs::Reading::change_at))]
-fn read_remove(bytes: &[u8]) -> Result<(Change, &[u8]), DecodeFault>
-    ensures { Gives (λ x. (change_of x.0, x.1.now)) result (reads.change_at (4 ∷ bytes.now)) }
-{
-    let (name, rest) = read_name(bytes)?;
-    Ok((Change::Remove(name), rest))
-}
-
 #[tactic(auto, unfolding(crate::specs::Reading::change_at))]
 fn read_change(alloc: Global, bytes: &[u8]) -> Result<(Change, &[u8]), DecodeFault>
     ensures { Gives (λ x. (change_of x.0, x.1.now)) result (reads.change_at bytes.now) }
 {
     match bytes {
-        [1, rest @ ..] => read_write(alloc, rest),
-        [2, rest @ ..] => read_replace(alloc, rest),
-        [3, rest @ ..] => read_rename(rest),
-        [4, rest @ ..] => read_remove(rest),
+        [1, rest @ ..] => {
+            let (name, rest) = read_name(rest)?;
+            let (content, rest) = read_bytes(alloc, rest)?;
+            Ok((Change::Write(name, content), rest))
+        }
+        [2, rest @ ..] => {
+            let (name, rest) = read_name(rest)?;
+            let (content, rest) = read_bytes(alloc, rest)?;
+            Ok((Change::Replace(name, content), rest))
+        }
+        [3, rest @ ..] => {
+            let (from, rest) = read_name(rest)?;
+            let (to, rest) = read_name(rest)?;
+            Ok((Change::Rename(from, to), rest))
+        }
+        [4, rest @ ..] => {
+            let (name, rest) = read_name(rest)?;
+            Ok((Change::Remove(name), rest))
+        }
         _ => Err(DecodeFault::JournalInvalid),
     }
 }
 
-// As many changes. The vector grows by changes that were read, never by the count that is claimed.
-fn read_changes(
-    alloc: Global,
-    count: u64,
-    bytes: &[u8],
-) -> Result<(Vec<Change>, &[u8]), DecodeFault>
-    ensures { Gives (λ x. (changes_in x.0.items, x.1.now)) result
+// As many changes. The list grows by changes that were read, never by the count that is claimed.
+fn read_changes(alloc: Global, count: u64, bytes: &[u8]) -> Result<(Changes, &[u8]), DecodeFault>
+    ensures { Gives (λ x. (x.0, x.1.now)) result
         (reads.many_at reads.change_at count bytes.now) }
 {
-    let mut changes = Vec::new(alloc);
+    let mut changes = Changes::new(alloc);
     let mut rest = bytes;
     for _ in 0..count {
         let (change, behind) = read_change(alloc, rest)?;
@@ -148,8 +120,8 @@ fn read_changes(
 }
 
 #[tactic(auto, unfolding(crate::specs::Reading::entry_at))]
-fn read_entry(alloc: Global, bytes: &[u8]) -> Result<(Vec<Change>, &[u8]), DecodeFault>
-    ensures { Gives (λ x. (changes_in x.0.items, x.1.now)) result (reads.entry_at bytes.now) }
+fn read_entry(alloc: Global, bytes: &[u8]) -> Result<(Changes, &[u8]), DecodeFault>
+    ensures { Gives (λ x. (x.0, x.1.now)) result (reads.entry_at bytes.now) }
 {
     let (count, rest) = read_number(bytes)?;
     read_changes(alloc, count, rest)
@@ -160,8 +132,8 @@ fn read_entries(
     alloc: Global,
     count: u64,
     bytes: &[u8],
-) -> Result<(Vec<Vec<Change>>, &[u8]), DecodeFault>
-    ensures { Gives (λ x. (entries_of x.0.items, x.1.now)) result
+) -> Result<(Vec<Changes>, &[u8]), DecodeFault>
+    ensures { Gives (λ x. (x.0.items, x.1.now)) result
         (reads.many_at reads.entry_at count bytes.now) }
 {
     let mut entries = Vec::new(alloc);
@@ -194,28 +166,19 @@ fn read_digests(
 }
 
 #[tactic(auto, unfolding(crate::specs::Reading::halfway_at))]
-fn read_halfway_part(alloc: Global, bytes: &[u8]) -> Result<(HalfwayPart, &[u8]), DecodeFault>
-    ensures { Gives (λ x. (halfway_of (Some x.0), x.1.now)) result
-        (reads.halfway_at (1 ∷ bytes.now)) }
-{
-    let (count, rest) = read_number(bytes)?;
-    let (fingerprints, rest) = read_digests(alloc, count, rest)?;
-    let (back, rest) = read_changes(alloc, count, rest)?;
-    if count == 0 {
-        return Err(DecodeFault::JournalInvalid);
-    }
-    Ok((HalfwayPart { fingerprints, back }, rest))
-}
-
-#[tactic(auto, unfolding(crate::specs::Reading::halfway_at))]
 fn read_halfway(alloc: Global, bytes: &[u8]) -> Result<(Option<HalfwayPart>, &[u8]), DecodeFault>
     ensures { Gives (λ x. (halfway_of x.0, x.1.now)) result (reads.halfway_at bytes.now) }
 {
     match bytes {
         [0, rest @ ..] => Ok((None, rest)),
         [1, rest @ ..] => {
-            let (part, rest) = read_halfway_part(alloc, rest)?;
-            Ok((Some(part), rest))
+            let (count, rest) = read_number(rest)?;
+            let (fingerprints, rest) = read_digests(alloc, count, rest)?;
+            let (back, rest) = read_changes(alloc, count, rest)?;
+            if count == 0 {
+                return Err(DecodeFault::JournalInvalid);
+            }
+            Ok((Some(HalfwayPart { fingerprints, back }), rest))
         }
         _ => Err(DecodeFault::JournalInvalid),
     }
@@ -245,31 +208,21 @@ fn read_cursor(version: Version, bytes: &[u8]) -> Result<(u64, &[u8]), DecodeFau
     }
 }
 
-// The cursor, where `read` is what was read for it and there are as many entries.
-fn cursor_in(version: Version, read: u64, count: u64) -> u64
-    ensures { result ≡ reads.cursor_in version read count }
+// All but the digest.
+#[tactic(auto, unfolding(crate::specs::Reading::parts_at, crate::specs::Reading::behind_cursor_at))]
+fn read_parts(alloc: Global, bytes: &[u8]) -> Result<Journal, DecodeFault>
+    ensures { Gives journal_of result (reads.parts_at bytes.now) }
 {
-    match version {
-        Version::One => count,
-        Version::Two => read,
-    }
-}
-
-// The journal with this heading, from the number of its entries on.
-#[tactic(auto, unfolding(crate::specs::Reading::behind_cursor_at))]
-fn read_behind_cursor(
-    alloc: Global,
-    version: Version,
-    fingerprint: [u8; 16],
-    read: u64,
-    bytes: &[u8],
-) -> Result<Journal, DecodeFault>
-    ensures { Gives journal_of result (reads.behind_cursor_at version fingerprint read bytes.now) }
-{
-    let (count, rest) = read_number(bytes)?;
+    let (version, rest) = read_heading(bytes)?;
+    let (fingerprint, rest) = read_digest(rest)?;
+    let (read, rest) = read_cursor(version, rest)?;
+    let (count, rest) = read_number(rest)?;
     let (entries, rest) = read_entries(alloc, count, rest)?;
     let (halfway, rest) = read_halfway(alloc, rest)?;
-    let cursor = cursor_in(version, read, count);
+    let cursor = match version {
+        Version::One => count,
+        Version::Two => read,
+    };
     if cursor > count || !rest.is_empty() {
         return Err(DecodeFault::JournalInvalid);
     }
@@ -282,17 +235,7 @@ fn read_behind_cursor(
     })
 }
 
-#[tactic(auto, unfolding(crate::specs::Reading::parts_at))]
-fn read_parts(alloc: Global, bytes: &[u8]) -> Result<Journal, DecodeFault>
-    ensures { Gives journal_of result (reads.parts_at bytes.now) }
-{
-    let (version, rest) = read_heading(bytes)?;
-    let (fingerprint, rest) = read_digest(rest)?;
-    let (read, rest) = read_cursor(version, rest)?;
-    read_behind_cursor(alloc, version, fingerprint, read, rest)
-}
-
-// A text of a journal, in two: the digest at its end, and what it is the digest of.
+// A text of a journal, in two: what its digest is of, and the digest at its end.
 fn split_digest(bytes: &[u8]) -> Result<(&[u8], &[u8]), DecodeFault>
     ensures long { IfOk result (λ _. 16 ≤ length bytes.now) }
     ensures body { IfOk result (λ x. x.0.now ≡ take (length bytes.now - 16) bytes.now) }
@@ -305,17 +248,14 @@ fn split_digest(bytes: &[u8]) -> Result<(&[u8], &[u8]), DecodeFault>
     Ok(bytes.split_at(bytes.len() - 16))
 }
 
-// The digest is tested first, so of a text that nobody wrote nothing is read.
-#[tactic(auto, unfolding(crate::specs::Reading::journal_at))]
-fn read_journal(alloc: Global, bytes: &[u8]) -> Result<Journal, DecodeFault>
-    ensures read { Gives journal_of result (reads.journal_at bytes.now) }
-    ensures unsealed { ¬ (IsSealed bytes.now) → result ≡ Err JournalInvalid }
+/// Whether the bytes end with the digest of all that stands before it. It takes no memory.
+pub fn is_sealed(bytes: &[u8]) -> bool
+    ensures { IsTrue result ↔ IsSealed bytes.now }
 {
-    let (body, end) = split_digest(bytes)?;
-    if end != digest_of(body).as_slice() {
-        return Err(DecodeFault::JournalInvalid);
+    match split_digest(bytes) {
+        Ok((body, end)) => end == Md5::digest(body).as_slice(),
+        Err(_) => false,
     }
-    read_parts(alloc, body)
 }
 
 /// The journal that the bytes spell. Where the digest at their end is false nothing is read, and no memory taken; else
@@ -327,11 +267,14 @@ pub fn decode(alloc: Global, bytes: &[u8]) -> Result<Journal, DecodeFault>
     ensures invalid { result ≡ Err JournalInvalid → (j : Defined) → Spells bytes.now j → ⊥ }
     ensures unsealed { ¬ (IsSealed bytes.now) → result ≡ Err JournalInvalid }
 {
-    read_journal(alloc, bytes)
+    if !is_sealed(bytes) {
+        return Err(DecodeFault::JournalInvalid);
+    }
+    Ok(decode_untested(alloc, bytes)?.journal)
 }
 
 /// A journal that was read before the digest at the end of its text is tested.
-#[derive(Debug, Drop)]
+#[derive(Drop)]
 pub struct Untested<'a> {
     pub journal: Journal,
     /// All of the text but the digest.

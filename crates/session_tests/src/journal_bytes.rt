@@ -1,15 +1,15 @@
 //! The expected texts were made by another program, from the format alone.
-ghost use Rattle.std.specs.Prelude.{◌≡◌, length, IsTrue};
-ghost use Rattle.par2_spec.specs.Journals.{IsCursor};
+ghost use Rattle.std.specs.Prelude.{◌≡◌, length};
 
 use crate::fixtures::Trouble;
 use md5::{Digest, Md5};
-use par2_folder::{Bytes, Change, Name};
+use par2_folder::{Bytes, Change, Changes, Name};
 use par2_journal_bytes::{
     DecodeFault, HalfwayPart, HalfwayPartView, Journal, JournalTexts, JournalView, Version, begin,
-    decode, decode_untested, encode, finish_both,
+    decode, decode_untested, encode, finish_both, is_sealed,
 };
 use std::alloc::{AllocError, Global};
+use std::slice::from_ref;
 use std::test::Fail;
 
 const FINGERPRINT: [u8; 16] = *b"0123456789abcdef";
@@ -26,6 +26,9 @@ const UNDO_TWO: &[u8] =
 // No entry.
 const NOTHING_ONE: &[u8] = b"P2UNDO1\n0123456789abcdef\0\0\0\0\0\0\0\0\0\
     \x4b\xac\x78\xb8\x48\x6d\x5d\x01\xc8\xfc\xe0\x26\x55\xa1\x57\xb5";
+
+const NOTHING_TWO: &[u8] = b"P2UNDO2\n0123456789abcdef\0\0\0\0\0\0\0\0\0\0\0\0\0\0\0\0\0\
+    \xc9\xbe\x1d\x25\x2e\xe3\x18\xbb\x69\x4d\xeb\xcc\x6c\x50\x7d\x8d";
 
 // The digest of a version 2 journal with one entry, which writes `t.par2` with 420 zero bytes, for a redo.
 const REDO_DIGEST: &[u8] = b"\x7a\xc5\xb1\xb0\x62\xe9\xf6\x00\xf7\x3d\x28\x91\x39\x09\x52\x41";
@@ -62,14 +65,10 @@ fn change_of(alloc: Global, line: &Line) -> Result<Change, Trouble> {
     })
 }
 
-fn push(changes: &mut Vec<Change>, change: Change) -> Result<(), AllocError> {
-    Ok(changes.push(change)?)
-}
-
-fn changes_of(alloc: Global, lines: &[Line]) -> Result<Vec<Change>, Trouble> {
-    let mut changes = Vec::new(alloc);
+fn changes_of(alloc: Global, lines: &[Line]) -> Result<Changes, Trouble> {
+    let mut changes = Changes::new(alloc);
     for line in lines {
-        push(&mut changes, change_of(alloc, line)?)?;
+        changes.push(change_of(alloc, line)?)?;
     }
     Ok(changes)
 }
@@ -125,15 +124,21 @@ const SETTLED: &[Settled] = &[
     Settled {
         version: Version::Two,
         cursor: 0,
+        entry: &[],
+        text: (57, NOTHING_TWO, b""),
+    },
+    Settled {
+        version: Version::Two,
+        cursor: 0,
         entry: &[Line::Write("t.par2", &[0; 420])],
         text: (501, b"P2UNDO2\n0123456789abcdef", REDO_DIGEST),
     },
 ];
 
-fn is_entry(entries: &[Vec<Change>], lines: &[Line]) -> bool {
+fn is_entry(entries: &[Changes], lines: &[Line]) -> bool {
     match entries {
         [] => lines.is_empty(),
-        [changes] => !lines.is_empty() && are_lines(changes, lines),
+        [changes] => !lines.is_empty() && are_lines(changes.as_slice(), lines),
         _ => false,
     }
 }
@@ -152,41 +157,27 @@ fn reads_settled(alloc: Global, text: &[u8], row: &Settled) -> bool {
     matches!(&journal, Ok(journal) if is_settled(journal, row))
 }
 
-fn is_cursor(version: Version, cursor: usize, count: usize) -> bool
-    ensures { IsTrue result → IsCursor version cursor count }
-{
-    match version {
-        Version::One => cursor == count,
-        Version::Two => cursor <= count,
-    }
-}
-
 // The text of a journal of these entries, with no command halfway.
-fn settled_text(
-    alloc: Global,
-    version: Version,
-    cursor: usize,
-    entries: &[&[Change]],
-) -> Result<Vec<u8>, Trouble> {
-    if !is_cursor(version, cursor, entries.len()) {
+fn settled_text(alloc: Global, cursor: usize, entries: &[Changes]) -> Result<Vec<u8>, Trouble> {
+    if cursor > entries.len() {
         return Err(Trouble::Refused);
     }
     let parts = JournalView {
-        version,
         fingerprint: FINGERPRINT,
         cursor,
         entries,
-        halfway: None,
+        newer: &[],
     };
     Ok(encode(alloc, &parts)?)
 }
 
+// The text of the row, which is written in version 2 alone.
 fn text_of(alloc: Global, row: &Settled) -> Result<Vec<u8>, Trouble> {
     let changes = changes_of(alloc, row.entry)?;
-    if changes.is_empty() {
-        settled_text(alloc, row.version, row.cursor, &[])
-    } else {
-        settled_text(alloc, row.version, row.cursor, &[&changes])
+    match row.version {
+        Version::One => Ok(Vec::from_slice(alloc, row.text.1)?),
+        Version::Two if changes.is_empty() => settled_text(alloc, row.cursor, &[]),
+        Version::Two => settled_text(alloc, row.cursor, from_ref(&changes)),
     }
 }
 
@@ -213,26 +204,8 @@ const FINGERPRINTS: [[u8; 16]; 2] = [*b"aaaaaaaaaaaaaaaa", *b"bbbbbbbbbbbbbbbb"]
 // The way back of a halfway command.
 const BACK: &[Line] = &[Line::Remove("a"), Line::Rename("a.1", "a")];
 
-// The text of a journal without entries, with a command halfway.
-fn halfway_text(alloc: Global, version: Version, back: &[Change]) -> Result<Vec<u8>, AllocError>
-    requires { length back.now ≡ 2 }
-{
-    let halfway = HalfwayPartView {
-        fingerprints: &FINGERPRINTS,
-        back,
-    };
-    let parts = JournalView {
-        version,
-        fingerprint: FINGERPRINT,
-        cursor: 0,
-        entries: &[],
-        halfway: Some(halfway),
-    };
-    encode(alloc, &parts)
-}
-
 fn is_halfway_part(halfway: &HalfwayPart) -> bool {
-    halfway.fingerprints.as_slice() == FINGERPRINTS.as_slice() && are_lines(&halfway.back, BACK)
+    halfway.fingerprints.as_slice() == FINGERPRINTS.as_slice() && are_lines(halfway.back.as_slice(), BACK)
 }
 
 fn is_halfway(journal: &Journal, version: Version) -> bool {
@@ -249,33 +222,22 @@ fn reads_halfway(alloc: Global, text: &[u8], version: Version) -> bool {
     matches!(&journal, Ok(journal) if is_halfway(journal, version))
 }
 
-// Whether that is the text of the journal in this version, and reads back.
-fn is_halfway_spelled(alloc: Global, version: Version, text: &[u8]) -> Result<bool, Trouble> {
-    let back = changes_of(alloc, BACK)?;
-    if back.len() != 2 {
-        return Ok(false);
-    }
-    let spelled = halfway_text(alloc, version, &back)?;
-    Ok(spelled.as_slice() == text && reads_halfway(alloc, text, version))
-}
-
-// The texts of a command's two journals: while it is halfway, and afterwards in the older version.
-fn both_texts(alloc: Global, back: &[Change]) -> Result<JournalTexts, AllocError>
+// The texts of a command's two journals: while it is halfway, and afterwards.
+fn both_texts(alloc: Global, back: &Changes) -> Result<JournalTexts, AllocError>
     requires { length back.now ≡ 2 }
 {
-    let front = begin(alloc, Version::Two, FINGERPRINT, 0, &[])?;
+    let settled = JournalView {
+        fingerprint: FINGERPRINT,
+        cursor: 0,
+        entries: &[],
+        newer: &[],
+    };
+    let front = begin(alloc, &settled)?;
     let halfway = HalfwayPartView {
         fingerprints: &FINGERPRINTS,
         back,
     };
-    let after = JournalView {
-        version: Version::One,
-        fingerprint: FINGERPRINT,
-        cursor: 0,
-        entries: &[],
-        halfway: None,
-    };
-    finish_both(alloc, front, &halfway, &after)
+    finish_both(alloc, front, &halfway, &settled)
 }
 
 fn are_both_spelled(alloc: Global) -> Result<bool, Trouble> {
@@ -284,13 +246,13 @@ fn are_both_spelled(alloc: Global) -> Result<bool, Trouble> {
         return Ok(false);
     }
     let texts = both_texts(alloc, &back)?;
-    Ok(texts.halfway.as_slice() == HALFWAY_TWO && texts.after.as_slice() == NOTHING_ONE)
+    Ok(texts.halfway.as_slice() == HALFWAY_TWO && texts.after.as_slice() == NOTHING_TWO)
 }
 
 #[test]
 fn halfway_journals(rt: HostRuntime) -> Result<(), Fail> {
-    assert!(rt; is_halfway_spelled(rt.alloc(), Version::One, HALFWAY_ONE)?);
-    assert!(rt; is_halfway_spelled(rt.alloc(), Version::Two, HALFWAY_TWO)?);
+    assert!(rt; reads_halfway(rt.alloc(), HALFWAY_ONE, Version::One));
+    assert!(rt; reads_halfway(rt.alloc(), HALFWAY_TWO, Version::Two));
     assert!(rt; are_both_spelled(rt.alloc())?);
     Ok(())
 }
@@ -353,10 +315,17 @@ fn is_longer_refused(alloc: Global, text: &[u8]) -> Result<bool, AllocError> {
 }
 
 fn is_journal(alloc: Global, text: &[u8]) -> bool {
-    decode(alloc, text).is_ok()
+    is_sealed(text) && decode(alloc, text).is_ok()
 }
 
-const JOURNALS: &[&[u8]] = &[UNDO_ONE, UNDO_TWO, NOTHING_ONE, HALFWAY_ONE, HALFWAY_TWO];
+const JOURNALS: &[&[u8]] = &[
+    UNDO_ONE,
+    UNDO_TWO,
+    NOTHING_ONE,
+    NOTHING_TWO,
+    HALFWAY_ONE,
+    HALFWAY_TWO,
+];
 
 // Whether it is a journal, and none with any damage.
 fn is_damage_refused(alloc: Global, text: &[u8]) -> Result<bool, AllocError> {

@@ -1,4 +1,4 @@
-use Rattle.par2_journal.proofs.Common.{◌≡◌, ℕ, List, sym, ap, ◌∙◌, err_from_is_err_and, ⊎_map, err_again, changes_in, entries_of, halfway_of, journal_of, halfway_as, opened_of, Answers}
+use Rattle.par2_journal.proofs.Common.{◌≡◌, ℕ, List, sym, ap, ◌∙◌, err_from_is_err_and, ⊎_map, err_again, halfway_of, journal_of, halfway_as, opened_of, Answers}
 use Rattle.par2_spec.specs.Opening as defined
 use Rattle.par2_journal.proofs.Openings.{opened_settled, opened_halfway}
 use Rattle.par2_journal.proofs.opening.open_journal.Goals.{In-Some}
@@ -23,11 +23,11 @@ returns-in_err-session-in-None c =
 
 -- the journal has the halfway part that was opened
 by_part : (c : In-Some) (prints : List (List ℕ)) → prints ≡ c.in-Some.part.fingerprints.items
-    → defined.opened c.args.folder.files (journal_of c.args.journal) ≡ halfway_as c.args.folder.files c.args.journal.fingerprint c.args.journal.cursor (entries_of c.args.journal.entries.items) prints (changes_in c.in-Some.part.back.items)
+    → defined.opened c.args.folder.files (journal_of c.args.journal) ≡ halfway_as c.args.folder.files c.args.journal.fingerprint c.args.journal.cursor c.args.journal.entries.items prints c.in-Some.part.back
 by_part c prints lent =
     let j = journal_of c.args.journal in
-    opened_halfway c.args.folder.files j (record { fingerprints = c.in-Some.part.fingerprints.items; back = changes_in c.in-Some.part.back.items }) (ap halfway_of c.in-Some.is)
-    ∙ ap (λ prints. halfway_as c.args.folder.files j.fingerprint j.cursor j.entries prints (changes_in c.in-Some.part.back.items)) (sym lent)
+    opened_halfway c.args.folder.files j (record { fingerprints = c.in-Some.part.fingerprints.items; back = c.in-Some.part.back }) (ap halfway_of c.in-Some.is)
+    ∙ ap (λ prints. halfway_as c.args.folder.files j.fingerprint j.cursor j.entries prints c.in-Some.part.back) (sym lent)
 
 pub returns-in_ok-found-in-Some : goal.returns-in_ok-found-in-Some
 returns-in_ok-found-in-Some c = record {

@@ -1,4 +1,4 @@
-use Rattle.par2_journal.proofs.Common.{◌≡◌, sym, ap, subst, ◌∙◌, IfOk, is_valid, none_if, entries_of, halfway_of, journal_of, session_at}
+use Rattle.par2_journal.proofs.Common.{◌≡◌, sym, ap, subst, ◌∙◌, IfOk, is_valid, none_if, halfway_of, journal_of, session_at}
 use Rattle.par2_journal.proofs.Openings.{settled_as_is}
 use Rattle.par2_journal.proofs.opening.opens_as_is.Goals as goal
 
@@ -6,8 +6,8 @@ pub returns-clause-opens : goal.returns-clause-opens
 returns-clause-opens c told_so =
     let j = journal_of c.in-Ok.journal in
     let files = c.args.folder.now.files in
-    let told = subst (λ r. IfOk r (λ valid. valid ≡ is_valid (session_at files j.cursor (entries_of c.deref_mut.result.now)))) told_so c.settle.ensures.valid in
-    let same : entries_of c.deref_mut.result.now ≡ j.entries = ap entries_of c.deref_mut.ensures.value in
+    let told = subst (λ r. IfOk r (λ valid. valid ≡ is_valid (session_at files j.cursor c.deref_mut.result.now))) told_so c.settle.ensures.valid in
+    let same : c.deref_mut.result.now ≡ j.entries = c.deref_mut.ensures.value in
     settled_as_is files c.args.bytes.now j c.in-Ok.ensures.found
     (ap halfway_of (none_if c.in-Ok.journal.halfway (sym c.is_some.ensures ∙ c.if-is_some.false)))
     (ap (λ entries. is_valid (session_at files j.cursor entries)) (sym same) ∙ sym told)

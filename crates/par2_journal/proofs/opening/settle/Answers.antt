@@ -1,10 +1,10 @@
-use Rattle.par2_journal.proofs.Common.{◌≤◌, ◌&&◌, take, drop, ap, ◌∙◌, arith, reverse, sum_by, places_taken, leads, entries_of}
+use Rattle.par2_journal.proofs.Common.{◌≤◌, ◌&&◌, take, drop, ap, ◌∙◌, arith, reverse, sum_by, places_taken, leads}
 use Rattle.par2_journal.proofs.SessionEntries.{walks_as_leads, places_before, places_behind}
 use Rattle.par2_journal.proofs.opening.settle.Goals as goal
 
 pub returns-clause-valid : goal.returns-clause-valid
 returns-clause-valid c =
-    let entries = entries_of c.args.entries.now in
+    let entries = c.args.entries.now in
     let n = c.args.cursor in
     let few : sum_by places_taken entries ≤ c.in-Some.count = c.in-Some.ensures in
     let room : c.in-Some.count ≤ c.reserve.new.self.vacant = omega (arith, c.in_ok-reserve.ensures.ok) in

@@ -1,31 +1,29 @@
-use Rattle.par2_journal.proofs.Common.{length, ap, ◌∙◌, arith, length-map, change_of, changes_in}
+use Rattle.par2_journal.proofs.Common.{length, ap, ◌∙◌, arith}
 use Rattle.par2_journal.proofs.Ways.{back_taken, back_leads, back_again, back_length}
 use Rattle.par2_journal.proofs.SessionJournals.{folders_count}
 use Rattle.par2_journal.proofs.spelling.spell_along.Goals as goal
 
-pub spell_made-answer-requires-clause-each : goal.spell_made-answer-requires-clause-each
-spell_made-answer-requires-clause-each c =
-    let given = changes_in c.args.changes.now in
+pub both-answer-requires-clause-each : goal.both-answer-requires-clause-each
+both-answer-requires-clause-each c =
     omega (
       arith,
       ap length c.requires.along.after_each,
-      folders_count c.args.folder.now.files given,
-      ap length c.apply_all.ensures.way_back,
-      back_length c.args.folder.now given,
-      length-map c.apply_all.new.changes change_of,
+      folders_count c.args.folder.now.files c.args.changes.now,
+      ap length c.turn.ensures.way_back,
+      back_length c.args.folder.now c.args.changes.now,
     )
 
-pub apply_all-requires-2 : goal.apply_all-requires-2
-apply_all-requires-2 c =
-    let made = c.apply_all.ensures in
-    back_taken c.args.folder.now c.apply_all.new.self (changes_in c.args.changes.now) (changes_in c.apply_all.new.changes) c.requires.applies made.folder made.way_back
+pub turn-requires-2 : goal.turn-requires-2
+turn-requires-2 c =
+    let made = c.turn.ensures in
+    back_taken c.args.folder.now c.turn.new.folder c.args.changes.now c.turn.new.self c.requires.applies made.folder made.way_back
 
-pub returns-clause-same : goal.returns-clause-same
-returns-clause-same c =
-    let made = c.apply_all.ensures in
-    let given = changes_in c.args.changes.now in
-    let back = changes_in c.apply_all.new.changes in
-    record {
-      folder = c.apply_all-2.ensures.folder ∙ back_leads c.args.folder.now c.apply_all.new.self given back c.requires.applies made.folder made.way_back;
-      changes = c.apply_all-2.ensures.way_back ∙ back_again c.args.folder.now c.apply_all.new.self given back c.requires.applies made.folder made.way_back;
-    }
+pub returns-clause-folder : goal.returns-clause-folder
+returns-clause-folder c =
+    let made = c.turn.ensures in
+    c.turn-2.ensures.folder ∙ back_leads c.args.folder.now c.turn.new.folder c.args.changes.now c.turn.new.self c.requires.applies made.folder made.way_back
+
+pub returns-clause-changes : goal.returns-clause-changes
+returns-clause-changes c =
+    let made = c.turn.ensures in
+    c.turn-2.ensures.way_back ∙ back_again c.args.folder.now c.turn.new.folder c.args.changes.now c.turn.new.self c.requires.applies made.folder made.way_back

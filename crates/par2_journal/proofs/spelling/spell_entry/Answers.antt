@@ -3,8 +3,8 @@ use Rattle.par2_journal.proofs.Ways.{entry_length, entry_taken, entry_leads, ent
 use Rattle.par2_journal.proofs.SessionJournals.{folders_count}
 use Rattle.par2_journal.proofs.spelling.spell_entry.Goals as goal
 
-pub spell_turned-answer-requires-clause-each : goal.spell_turned-answer-requires-clause-each
-spell_turned-answer-requires-clause-each c =
+pub both-answer-requires-clause-each : goal.both-answer-requires-clause-each
+both-answer-requires-clause-each c =
     let entries = c.args.entries.now in
     let turned = c.turn.ensures in
     omega (
@@ -14,7 +14,8 @@ spell_turned-answer-requires-clause-each c =
       ap length c.as_slice.ensures,
       ap length c.index-entries-at.is,
       ap length (get_or_default entries c.args.at [] c.index-entries-at.result c.requires.place),
-      entry_length c.args.folder.now c.turn.new.folder entries c.args.at c.requires.place c.index-entries-at-2.result c.turn.new.self c.requires.applies turned.folder turned.way_back,
+      ap length c.index-turned-at.is,
+      entry_length c.args.folder.now c.turn.new.folder entries c.args.at c.requires.place c.index-entries-at-2.result c.turn.new.self c.requires.applies turned.folder turned.way_back c.index-turned-at.result,
     )
 
 pub turn-requires-2 : goal.turn-requires-2

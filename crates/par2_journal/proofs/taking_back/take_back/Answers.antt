@@ -1,4 +1,4 @@
-use Rattle.par2_journal.proofs.Common.{◌≡◌, ◌&&◌, true, false, ap, subst, ◌∙◌, and_from, and_right, ⊎_map, FolderState, is_valid, changes_in, entries_of, go_through, session_after_way, session_at}
+use Rattle.par2_journal.proofs.Common.{◌≡◌, ◌&&◌, true, false, ap, subst, ◌∙◌, and_from, and_right, ⊎_map, FolderState, is_valid, changes_in, go_through, session_after_way, session_at}
 use Rattle.par2_journal.proofs.Openings.{takes_roomier, same_files_after}
 use Rattle.par2_journal.proofs.taking_back.take_back.Goals as goal
 
@@ -9,10 +9,10 @@ apply_all-requires c =
 pub returns-in-Ok-session_from : goal.returns-in-Ok-session_from
 returns-in-Ok-session_from c =
     let found = c.in-Ok-session_from.ensures.answer in
-    let valid = subst (λ f. is_valid (session_at f c.args.cursor (entries_of c.args.entries.items)) ≡ true) c.in-Ok.ensures.went.files found.passed in
+    let valid = subst (λ f. is_valid (session_at f c.args.cursor c.args.entries.items) ≡ true) c.in-Ok.ensures.went.files found.passed in
     record {
       passed = and_from _ _ c.in-Ok.ensures.leads valid;
-      session = found.session ∙ ap (λ f. session_at f c.args.cursor (entries_of c.args.entries.items)) c.in-Ok.ensures.went.files;
+      session = found.session ∙ ap (λ f. session_at f c.args.cursor c.args.entries.items) c.in-Ok.ensures.went.files;
       refused = tt;
       files = tt;
     }
@@ -35,7 +35,7 @@ returns-in-Err-session_from c =
     record {
       passed = tt;
       session = tt;
-      refused = ⊎_map (λ memory. memory) (λ p. (p.0, and_right leads (is_valid before) (subst (λ f. is_valid (session_at f c.args.cursor (entries_of c.args.entries.items)) ≡ false) c.in-Ok.ensures.went.files p.1)))
+      refused = ⊎_map (λ memory. memory) (λ p. (p.0, and_right leads (is_valid before) (subst (λ f. is_valid (session_at f c.args.cursor c.args.entries.items) ≡ false) c.in-Ok.ensures.went.files p.1)))
           refused.refused;
       files = ap (λ (s : FolderState). s.files) c.apply_all.ensures.folder
           ∙ same_files_after c.go_back.new.folder c.in-Err-session_from.after (changes_in c.go_back.new.way) refused.files

@@ -1,9 +1,10 @@
 use Rattle.par2_journal_bytes.proofs.Common.{◌<◌, arith, err_from_is_err_and, parts_at, journal_of, all_from}
+use Rattle.par2_journal_bytes.proofs.Whole.{spells_sealed}
 use Rattle.par2_journal_bytes.proofs.UntestedTexts.{refused, sealed, too_short, unread, untested}
 use Rattle.par2_journal_bytes.proofs.reading.decode_untested.Goals as goal
 
 pub returns-in_err-body-clause-invalid : goal.returns-in_err-body-clause-invalid
-returns-in_err-body-clause-invalid c = λ _ j spells. too_short c.args.bytes.now c.in_err-body.ensures.short.1 j spells
+returns-in_err-body-clause-invalid c = λ _ j spells. too_short c.args.bytes.now c.in_err-body.ensures.short.1 (spells_sealed c.args.bytes.now j spells)
 
 pub returns-in_err-journal-clause-invalid : goal.returns-in_err-journal-clause-invalid
 returns-in_err-journal-clause-invalid c = λ e j spells.
@@ -21,5 +22,5 @@ returns-clause-found c =
       journal = all.0;
       sealed = sealed c.args.bytes.now c.in_ok-body.body.now c.in_ok-body.digest.now split.long split.body split.digest;
       right = all.1;
-      wrong = all.2;
+      only = spells_sealed c.args.bytes.now;
     }

@@ -1,16 +1,15 @@
-use Rattle.par2_journal_bytes.proofs.Common.{◌≡◌, ◌++◌, ◌∷◌, [], err_from_is_err_and, map_push, changes_in, entries_of, entry_at}
+use Rattle.par2_journal_bytes.proofs.Common.{err_from_is_err_and, entry_at}
 use Rattle.par2_journal_bytes.proofs.Many.{goes_on, stops, ends}
 use Rattle.par2_journal_bytes.proofs.reading.read_entries.Goals as goal
 
 pub returns-in_err-entry : goal.returns-in_err-entry
 returns-in_err-entry c =
     let p = err_from_is_err_and c.from_residual.result c.from_residual.ensures.1 in
-    rw (p.1, p.2) (stops entry_at c.args.count c.args.bytes.now (entries_of c.loop.entries.items) c.loop.counter c.loop.rest.now c.in_err-entry.field-0.0 c.loop-test.true c.in_err-entry.ensures c.loop.invariant)
+    rw (p.1, p.2) (stops entry_at c.args.count c.args.bytes.now c.loop.entries.items c.loop.counter c.loop.rest.now c.in_err-entry.field-0.0 c.loop-test.true c.in_err-entry.ensures c.loop.invariant)
 
 pub loop-preserved : goal.loop-preserved
 loop-preserved c =
-    let e : entries_of c.push.new.self.items ≡ entries_of c.loop.entries.items ++ changes_in c.in_ok-entry.entry.items ∷ [] = rw c.in_ok-push.ensures.items (map_push _ c.loop.entries.items c.in_ok-entry.entry) in
-    rw e (goes_on entry_at c.args.count c.args.bytes.now (entries_of c.loop.entries.items) c.loop.counter c.loop.rest.now (changes_in c.in_ok-entry.entry.items) c.in_ok-entry.behind.now c.loop-test.true c.in_ok-entry.ensures c.loop.invariant)
+    rw c.in_ok-push.ensures.items (goes_on entry_at c.args.count c.args.bytes.now c.loop.entries.items c.loop.counter c.loop.rest.now c.in_ok-entry.entry c.in_ok-entry.behind.now c.loop-test.true c.in_ok-entry.ensures c.loop.invariant)
 
 pub returns : goal.returns
-returns c = ends entry_at c.args.count c.args.bytes.now (entries_of c.loop.entries.items) c.loop.counter c.loop.rest.now c.loop-test.false c.loop.invariant
+returns c = ends entry_at c.args.count c.args.bytes.now c.loop.entries.items c.loop.counter c.loop.rest.now c.loop-test.false c.loop.invariant

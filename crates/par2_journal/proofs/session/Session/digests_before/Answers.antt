@@ -2,15 +2,15 @@ use Rattle.par2_journal.proofs.Common.{List, sym, subst, ◌∙◌, Change, take
 use Rattle.par2_journal.proofs.SessionJournals.{ahead_taken}
 use Rattle.par2_journal.proofs.session.Session.digests_before.Goals as goal
 
-pub and_digest-requires : goal.and_digest-requires
-and_digest-requires c = (λ i. takes_all (c.folder.ensures.folder i) (c.next_changes-changes.ensures i)) ∙ ahead_taken c.in-Some.next c.args.self.now c.folder.ensures.walks
+pub and_digests-requires-clause-applies : goal.and_digests-requires-clause-applies
+and_digests-requires-clause-applies c = (λ i. takes_all (c.folder-folder.ensures.folder i) (c.next_changes-changes.ensures i)) ∙ ahead_taken c.in-Some.next c.args.self.now c.folder-folder.ensures.walks
 
 pub invariant_of-self-2 : goal.invariant_of-self-2
 invariant_of-self-2 c =
     let prints = c.in_ok-fingerprints.fingerprints in
     let next = c.in-Some.next in
     let along =
-    subst (λ (p : Folder × List Change). AreAlong p.0 p.1 prints) (λ i. ((c.folder.ensures.folder i).files, c.next_changes-changes.ensures i)) c.in_ok-fingerprints.ensures.along in
+    subst (λ (p : Folder × List Change). AreAlong p.0 p.1 prints) (λ i. ((c.folder-folder.ensures.folder i).files, c.next_changes-changes.ensures i)) c.in_ok-fingerprints.ensures.along in
     record {
       within = c.self.invariant.within;
       walks = c.self.invariant.walks;

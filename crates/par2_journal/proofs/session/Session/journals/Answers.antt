@@ -10,7 +10,7 @@ spell_command-requires-clause-known c =
     let kind = ap (λ (r : Ready). r.kind) (sym c.prepared.view_is) ∙ ap kind_of c.in-Change.is in
     let told = ap known_of (sym c.in-Change.is) ∙ ap (λ (r : Ready). r.known) c.prepared.view_is in
     known_here c.as_ref-known.result _ c.args.prepared.now.known c.self.inside.folder.files c.args.self.now.folder.files _ (changes_by_kind c.args.prepared.now.kind c.args.self.now) c.as_ref-known.ensures.value told c.requires.known
-    (ap (λ (s : KeptSession). s.folder.files) c.self.view_is) (c.as_mut_slice-changes.ensures.value ∙ sym (ap (λ (k : Kind). changes_by_kind k c.args.self.now) kind))
+    (ap (λ (s : KeptSession). s.folder.files) c.self.view_is) (sym (ap (λ (k : Kind). changes_by_kind k c.args.self.now) kind))
 
 pub spell_entry-requires-clause-applies : goal.spell_entry-requires-clause-applies
 spell_entry-requires-clause-applies c =
@@ -35,7 +35,7 @@ returns-clause-spelled c =
     elim c.match-prepared.branch [
       | in-Change w ↦
           let is = ap (λ (r : Ready). r.kind) (sym c.prepared.view_is) ∙ ap kind_of w.in-Change.is in
-          let are = w.as_mut_slice-changes.ensures.value ∙ sym (ap (λ (k : Kind). changes_by_kind k c.args.self.now) is) in
+          let are = sym (ap (λ (k : Kind). changes_by_kind k c.args.self.now) is) in
           ready_spelled s.entries.items s.cursor c.self.invariant.within s.folder room c.args.self.now c.self.view_is c.args.prepared.now c.requires.can
           Add (sym (ap (λ k. turn_of k s.cursor) is)) w.deref.result.now w.deref.ensures.value w.spell_command.result c.match-prepared.result w.result-is
           _ are w.spell_command.ensures.spelled
