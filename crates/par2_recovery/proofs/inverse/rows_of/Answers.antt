@@ -1,6 +1,6 @@
 use Rattle.par2_recovery.proofs.Common.{subst, length, Spells, list_at, lists_of}
 use Rattle.par2_recovery.proofs.Inverting.{rows_push}
-use Rattle.par2_recovery.proofs.elements.rows_of.Goals as goal
+use Rattle.par2_recovery.proofs.inverse.rows_of.Goals as goal
 
 pub loop-r-preserved : goal.loop-r-preserved
 loop-r-preserved c =

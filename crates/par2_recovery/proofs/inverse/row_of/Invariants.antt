@@ -1,5 +1,5 @@
 use Rattle.par2_recovery.proofs.Common.{ℕ, ◌<◌, ◌≡◌, length, get_or, word}
-use Rattle.par2_recovery.proofs.elements.row_of.Given as goal
+use Rattle.par2_recovery.proofs.inverse.row_of.Given as goal
 
 abbrev pub invariant-loop-i : goal.invariant-loop-i
 invariant-loop-i l = record {

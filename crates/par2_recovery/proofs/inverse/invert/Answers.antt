@@ -1,5 +1,5 @@
 use Rattle.par2_recovery.proofs.Common.{◌<◌, length, MatchOption-at_some, all_from, BeginsWithRun, exponents_of}
-use Rattle.par2_recovery.proofs.front_run.invert.Goals as goal
+use Rattle.par2_recovery.proofs.inverse.invert.Goals as goal
 
 pub invert_run-requires-clause-lost : goal.invert_run-requires-clause-lost
 invert_run-requires-clause-lost c = record { rise = c.requires.rise; below = all_from (λ k. k < 32768) 0 c.args.lost.now (λ i _. c.requires.lost i) }

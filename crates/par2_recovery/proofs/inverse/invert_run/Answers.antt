@@ -1,7 +1,7 @@
 use Rattle.par2_recovery.proofs.Common.{◌∙◌, sym, subst, arith, length, List, ℕ, length-map, length-take-le, lists_of, run_determines, IsInverse, recovered_of, exponents_of}
 use Rattle.par2_recovery.proofs.Beginnings.{front_within, has_run_front, kept_slices_front, recovered_front, exponents_front}
 use Rattle.par2_recovery.proofs.Inverting.{length-recovered_of}
-use Rattle.par2_recovery.proofs.front_run.invert_run.Goals as goal
+use Rattle.par2_recovery.proofs.inverse.invert_run.Goals as goal
 
 pub slice_bounds-from_slice-end : goal.slice_bounds-from_slice-end
 slice_bounds-from_slice-end c =
