@@ -5,13 +5,12 @@ use Rattle.par2_spec.specs.Sums.{field_sum}
 
 -- nothing was added to any target yet
 pub no_target : (factor : ℕ → ℕ) (source : List ℕ) (old : List (List ℕ)) (from to : ℕ) → AddsSource factor source old old from to 0
-no_target factor source old from to = record { count = refl; done = λ r h. absurd (omega arith); rest = λ r h. refl; bytes = λ h. h }
+no_target factor source old from to = record { count = refl; done = λ r h. absurd (omega arith); rest = λ r h. refl }
 
 -- one target more
 pub next_target : (factor : ℕ → ℕ) (source : List ℕ) (old mid new : List (List ℕ)) (from to n c : ℕ) → AddsSource factor source old mid from to n → c ≡ factor n
-    → OneChanged mid new n → AddsWithin c source (list_at mid n) (list_at new n) from to → ((k : ℕ) → get_or (list_at new n) k 0 < 256)
-    → AddsSource factor source old new from to (n + 1)
-next_target factor source old mid new from to n c so_far is changed added fits = record {
+    → OneChanged mid new n → AddsWithin c source (list_at mid n) (list_at new n) from to → AddsSource factor source old new from to (n + 1)
+next_target factor source old mid new from to n c so_far is changed added = record {
   count = changed.count ∙ so_far.count;
   done = λ r h. elim (cases_eq r n) [
     | inl same ↦ subst (λ x. AddsWithin (factor x) source (list_at old x) (list_at new x) from to) (sym same)
@@ -20,10 +19,6 @@ next_target factor source old mid new from to n c so_far is changed added fits =
     | inr other ↦ subst (λ xs. AddsWithin (factor r) source (list_at old r) xs from to) (sym (changed.others r other)) (so_far.done r (omega arith))
   ];
   rest = λ r h. changed.others r (λ e. omega arith) ∙ so_far.rest r (omega arith);
-  bytes = λ all r k. elim (cases_eq r n) [
-    | inl same ↦ subst (λ x. get_or (list_at new x) k 0 < 256) (sym same) (fits k)
-    | inr other ↦ subst (λ xs. get_or xs k 0 < 256) (sym (changed.others r other)) (so_far.bytes all r k)
-  ];
 }
 
 -- a target that is not yet reached has room
@@ -42,7 +37,6 @@ empty_source factor source old from to n none = record {
     above = λ p h. refl;
   };
   rest = λ r h. refl;
-  bytes = λ h. h;
 }
   where
     no_word : (p : ℕ) → word p source ≡ 0
@@ -57,7 +51,6 @@ no_source factors sources old from to = record {
   inside = λ r p low from_here to_here fits. sym (xor_zero_r (word p (list_at old r)));
   below = λ r p h. refl;
   above = λ r p h. refl;
-  bytes = λ h. h;
 }
 
 -- one source more
@@ -82,7 +75,6 @@ next_source factors sources old mid new from to n so_far added = record {
     | inl low ↦ (added.done r low).above p h ∙ so_far.above r p h
     | inr high ↦ ap (λ xs. word p xs) (added.rest r high) ∙ so_far.above r p h
   ];
-  bytes = λ all. added.bytes (so_far.bytes all);
 }
   where
     sizes : (r : ℕ) → length (list_at new r) ≡ length (list_at mid r)
@@ -102,7 +94,6 @@ no_columns factors sources old at n = record {
   inside = λ r p low from_here to_here fits. absurd (omega arith);
   below = λ r p h. refl;
   above = λ r p h. refl;
-  bytes = λ h. h;
 }
 
 -- columns after columns
@@ -119,7 +110,6 @@ more_columns factors sources old mid new a b d n ab bd first second = record {
   ];
   below = λ r p h. second.below r p (omega arith) ∙ first.below r p h;
   above = λ r p h. second.above r p h ∙ first.above r p (omega arith);
-  bytes = λ all. second.bytes (first.bytes all);
 }
 
 -- after some blocks of columns

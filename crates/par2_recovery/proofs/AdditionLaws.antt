@@ -65,7 +65,6 @@ pub solved_same : (s : ℕ) (inverse rows known slices other_rows other_known te
 solved_same s inverse rows known slices other_rows other_known texts same are = record {
   count = are.count;
   sizes = are.sizes;
-  bytes = are.bytes;
   words = λ r w h low.
       are.words r w h low
       ∙ field_sum_same (length slices) (λ j. mul (get_or (list_at inverse r) j 0) (syndrome rows known slices w j)) (λ j. mul (get_or (list_at inverse r) j 0) (syndrome other_rows other_known slices w j))

@@ -91,12 +91,6 @@ blank_word s p = ap₂ (λ x y. x + 256 * y) (zeros_read s (2 * p)) (zeros_read 
 pub blank_room : (s n bound : ℕ) (lists : List (List ℕ)) → AreBlank s n lists → bound ≤ s → (r : ℕ) → r < n → bound ≤ length (list_at lists r)
 blank_room s n bound lists blank h r low = subst (λ xs. bound ≤ length xs) (sym (blank.each r low)) (let e = length-replicate {A = ℕ} s 0 in omega (arith, e))
 
-pub blank_bytes : (s n : ℕ) (lists : List (List ℕ)) → AreBlank s n lists → AreBytes lists
-blank_bytes s n lists blank r k = elim (cases_lt r n) [
-  | inl low ↦ subst (λ xs. get_or xs k 0 < 256) (sym (blank.each r low)) (let e = zeros_read s k in omega (arith, e))
-  | inr high ↦ subst (λ xs. get_or xs k 0 < 256) (sym (get_or_past lists r [] (omega (arith, blank.count)))) (omega arith)
-]
-
 -- a text is the recovery slice that its words are those of
 pub recovered_by_words : (s e : ℕ) (lists : List (List ℕ)) (text : List ℕ) → s % 2 ≡ 0 → AreBytes lists → length text ≡ s → ((k : ℕ) → get_or text k 0 < 256)
     → ((w : ℕ) → 2 * w + 1 < s → word w text ≡ recovered lists e w) → text ≡ recovery s (map (padded s) lists) e

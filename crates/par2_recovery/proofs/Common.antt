@@ -27,7 +27,7 @@ pub use Rattle.par2_packets.specs.declared.record.FileRecord.{FileRecord}
 pub use Rattle.par2_recovery.specs.Elements.{AreRows, IsUnit}
 pub use Rattle.par2_recovery.specs.Inverses.{CutByUnit, GivesUnit, IsEliminated, IsInverse, identity, recovery_at}
 pub use Rattle.par2_recovery.specs.Products.{Adds, AddsSource, AreBytes, products}
-pub use Rattle.par2_recovery.specs.Rebuilding.{AreEnough, AreRebuilt, CanRebuild, IsKnown, known_among}
+pub use Rattle.par2_recovery.specs.Rebuilding.{AreEnough, AreRebuilt, CanRebuild, known_among}
 pub use Rattle.par2_recovery.specs.RunInverses.{AreScaledQuotients, BeginsWithRun, IsScaledQuotient}
 pub use Rattle.par2_recovery.specs.Survivors.{IsTrueFault, bytes_or_none, exponents_of, known_alone, known_from, known_of, lost_from, recovered_of, sum_at, with_lost_slices}
 pub use Rattle.par2_recovery.specs.Syndromes.{AreExtended, AreProducts, AreSolved, AreSyndromes, all_coefficients, syndrome, window}

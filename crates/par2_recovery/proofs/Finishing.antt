@@ -1,8 +1,9 @@
 -- What is answered once the kept exponents are known.
-use Rattle.par2_recovery.proofs.Common.{ℕ, zero, suc, ◌+◌, ◌*◌, ◌%◌, ◌<◌, ◌≡◌, refl, sym, ap, ap₂, ◌∙◌, subst, arith, eqb, List, [], ◌∷◌, length, get_or, map, bit_xor, Option, filter, AllByRecursion, Contains, list_any, IsStrictlyIncreasing, eqb-true, get_or-map, length-map, AllPairs-from_increasing, IsStrictlyIncreasing-filter, Contains-from_any, xor_lt, mul, coefficient, padded, word, dot, coefficients, Agrees, IsRepairable, IsRebuilt, kept, kept_slices, lost, product-lt, field_sum, list_at, field_sum-lt, field_sum_same, all_from, all_get, all-passing, filter-map, agreeing_are_one, word-lt, recovery_at, IsInverse, AreBytes, CanRebuild, AreRebuilt, known_among, with_lost_slices, lost_from, known_from, known_alone, sum_at, recovered_of, exponents_of, syndrome, AreSolved, texts_of, Bor, all-filter}
+use Rattle.par2_recovery.proofs.Common.{ℕ, ◌≤◌, Vec, Global, lists_of, length-lists_of, zero, suc, ◌+◌, ◌*◌, ◌%◌, ◌<◌, ◌≡◌, refl, sym, ap, ap₂, ◌∙◌, subst, arith, eqb, List, [], ◌∷◌, length, get_or, map, bit_xor, Option, filter, AllByRecursion, Contains, list_any, IsStrictlyIncreasing, eqb-true, get_or-map, length-map, AllPairs-from_increasing, IsStrictlyIncreasing-filter, Contains-from_any, xor_lt, mul, coefficient, padded, word, dot, coefficients, Agrees, IsRepairable, IsRebuilt, kept, kept_slices, lost, product-lt, field_sum, list_at, field_sum-lt, field_sum_same, all_from, all_get, all-passing, filter-map, agreeing_are_one, word-lt, recovery_at, IsInverse, AreBytes, CanRebuild, AreRebuilt, known_among, with_lost_slices, lost_from, known_from, known_alone, sum_at, recovered_of, exponents_of, syndrome, AreSolved, all_coefficients, bytes_or_none, texts_of, Bor, all-filter}
 use Rattle.par2_recovery.specs.declared.rebuild_slices.Survivors as code
+use Rattle.par2_recovery.proofs.AdditionLaws.{known_solved, known_bytes}
 use Rattle.par2_recovery.proofs.Combinations.{coefficients-lt, dot_padded, length-texts_of}
-use Rattle.par2_recovery.proofs.Inverting.{Rise, gives_back, length-slices}
+use Rattle.par2_recovery.proofs.Inverting.{Rise, gives_back, length-recovered_of, length-slices}
 use Rattle.par2_recovery.proofs.Rebuilding.{AreSized, AreKnown, IsFound, Meets, lost_is, lost_of_map, known_of_map, length-present, agrees_from}
 use Rattle.par2_recovery.proofs.Standing.{are_known, slices_are}
 
@@ -54,9 +55,9 @@ are_rebuilt : (s : ℕ) (known : List (Option (List ℕ))) (recs kept_ones : Lis
     → map (padded s) texts ≡ known_alone known → length texts ≡ length (known_from 0 known) → AreBytes texts
     → AllByRecursion (λ r. length r.1 ≡ s) recs → IsStrictlyIncreasing (map (λ r. r.0) recs) → AreBytes (map (λ r. r.1) kept_ones)
     → kept_ones ≡ kept_slices (lost_from 0 known) (map (λ r. r.0) recs) recs → IsInverse (lost_from 0 known) (map (λ r. r.0) kept_ones) inverse → IsRepairable (lost_from 0 known) (map (λ r. r.0) recs)
-    → AreSolved s inverse (map (λ r. coefficients (known_from 0 known) r.0) kept_ones) texts (map (λ r. r.1) kept_ones) made
+    → AreSolved s inverse (map (λ r. coefficients (known_from 0 known) r.0) kept_ones) texts (map (λ r. r.1) kept_ones) made → AreBytes made
     → IsRebuilt s known (kept_slices (lost known) (map (λ r. r.0) recs) recs) (with_lost_slices known made) × (length made ≡ length (lost known))
-are_rebuilt s known recs kept_ones texts inverse made even are_known same fit bytes sizes up kept_bytes are_kept is repairable done =
+are_rebuilt s known recs kept_ones texts inverse made even are_known same fit bytes sizes up kept_bytes are_kept is repairable done fit_made =
     let agrees : Agrees s known (kept_slices (lost known) all recs) slices = subst (λ rs. Agrees s known rs slices) (are_kept ∙ ap (λ ns. kept_slices ns all recs) (sym (lost_is known))) found in (
       record {
         agrees = agrees;
@@ -89,7 +90,7 @@ are_rebuilt s known recs kept_ones texts inverse made even are_known same fit by
     sized : AreSized s made
     sized = (
       all_from (λ (text : List ℕ). length text ≡ s) [] made (λ i h. done.sizes i (let n = done.count in omega (arith, h, n))),
-      all_from (λ (text : List ℕ). AllByRecursion (λ b. b < 256) text) [] made (λ i h. all_from (λ b. b < 256) 0 (list_at made i) (λ k l. done.bytes i k)),
+      all_from (λ (text : List ℕ). AllByRecursion (λ b. b < 256) text) [] made (λ i h. all_from (λ b. b < 256) 0 (list_at made i) (λ k l. fit_made i k)),
     )
 
     are : AllByRecursion (λ (r : ℕ × List ℕ). IsFound s r.1) kept_ones
@@ -132,25 +133,38 @@ are_rebuilt s known recs kept_ones texts inverse made even are_known same fit by
 pub lost_among : (survivors : code.Survivors) → lost (known_among survivors) ≡ lost_from 0 survivors.known.items
 lost_among survivors = lost_is (known_among survivors) ∙ lost_of_map (λ slice. padded survivors.slice slice.now) 0 survivors.known.items
 
+-- a row of the inverse has an element for each kept exponent
+pub inverse_long : (missing : List ℕ) (found : List (ℕ × Bor (List ℕ))) (inverse : List (Vec ℕ Global)) → IsInverse missing (exponents_of found) (lists_of inverse)
+    → (r : ℕ) → r < length inverse → length found ≤ length (list_at (lists_of inverse) r)
+inverse_long missing found inverse is r h =
+    let many = length-lists_of inverse in
+    let long = (is.vectors r (let n = is.count in omega (arith, h, many, n))).0 in
+    let square = sym (length-map (recovered_of found) (λ (e : ℕ × List ℕ). e.0) ∙ length-recovered_of found) ∙ is.square in
+    omega (arith, long, square)
+
 -- what `rebuild` answers, by what it found of the kept exponents
-pub answer : (survivors : code.Survivors) → CanRebuild survivors → (missing : List ℕ) (found kept_ones : List (ℕ × Bor (List ℕ))) (rows inverse made : List (List ℕ)) → missing ≡ lost_from 0 survivors.known.items
-    → kept_ones ≡ found → inverse ≡ rows
-    → recovered_of found ≡ kept_slices missing (exponents_of survivors.recovery.items) (recovered_of survivors.recovery.items) → IsInverse missing (exponents_of found) rows
-    → IsRepairable missing (exponents_of survivors.recovery.items) → AreBytes (texts_of (known_alone survivors.known.items)) → AreBytes (map (λ r. r.1) (recovered_of kept_ones))
-    → AreSolved survivors.slice inverse (map (λ r. coefficients (known_from 0 survivors.known.items) r.0) (recovered_of kept_ones)) (texts_of (known_alone survivors.known.items)) (map (λ r. r.1) (recovered_of kept_ones)) made
+pub answer : (survivors : code.Survivors) → CanRebuild survivors → (missing : List ℕ) (found : List (ℕ × Bor (List ℕ))) (exponents : List ℕ) (inverse recovery made : List (List ℕ)) (slices : List (Bor (List ℕ)))
+    → missing ≡ lost_from 0 survivors.known.items → recovered_of found ≡ kept_slices missing (exponents_of survivors.recovery.items) (recovered_of survivors.recovery.items)
+    → IsInverse missing (exponents_of found) inverse → IsRepairable missing (exponents_of survivors.recovery.items)
+    → exponents ≡ exponents_of found → recovery ≡ map (λ r. r.1) (recovered_of found) → texts_of slices ≡ map bytes_or_none survivors.known.items → AreBytes recovery → AreBytes (texts_of slices)
+    → AreSolved survivors.slice inverse (all_coefficients (length slices) exponents) (texts_of slices) recovery made → AreBytes made
     → AreRebuilt survivors (with_lost_slices (known_among survivors) made) × (length made ≡ length (lost (known_among survivors)))
-answer survivors can missing found kept_ones rows inverse made lost_are same_kept same_rows chosen is enough bytes kept_bytes solved =
+answer survivors can missing found exponents inverse recovery made slices lost_are chosen is enough exponents_are recovery_are slices_are_those kept_bytes bytes solved fit_made =
     let s : ℕ = survivors.slice in
     let raw : List (Option (Bor (List ℕ))) = survivors.known.items in
     let known : List (Option (List ℕ)) = known_among survivors in
     let texts : List (List ℕ) = texts_of (known_alone raw) in
     let recs : List (ℕ × List ℕ) = recovered_of survivors.recovery.items in
-    let exponents : List ℕ = exponents_of survivors.recovery.items in
+    let kept_ones : List (ℕ × List ℕ) = recovered_of found in
     let here : missing ≡ lost_from 0 known = lost_are ∙ sym (lost_of_map (λ slice. padded s slice.now) 0 raw) in
     let numbers : known_from 0 raw ≡ known_from 0 known = sym (known_of_map (λ slice. padded s slice.now) 0 raw) in
-    are_rebuilt s known recs (recovered_of kept_ones) texts inverse made can.even (are_known s raw (known_alone raw) can.known refl bytes) (slices_are s raw (known_alone raw) refl)
-    (length-texts_of (known_alone raw) ∙ length-present 0 raw ∙ ap length numbers) bytes can.recovery can.exponents kept_bytes
-    (ap recovered_of same_kept ∙ chosen ∙ ap (λ ls. kept_slices ls exponents recs) here)
-    (subst (λ ls. IsInverse ls (exponents_of kept_ones) inverse) here (subst (λ ks. IsInverse missing (exponents_of ks) inverse) (sym same_kept) (subst (λ xs. IsInverse missing (exponents_of found) xs) (sym same_rows) is)))
-    (subst (λ ls. IsRepairable ls exponents) here enough)
-    (subst (λ ns. AreSolved s inverse (map (λ (r : ℕ × List ℕ). coefficients ns r.0) (recovered_of kept_ones)) texts (map (λ (r : ℕ × List ℕ). r.1) (recovered_of kept_ones)) made) numbers solved)
+    let many : length slices ≡ length raw = sym (length-texts_of slices) ∙ ap length slices_are_those ∙ length-map raw bytes_or_none in
+    let fit : AreBytes texts = known_bytes raw (subst AreBytes slices_are_those bytes) in
+    let by_known : AreSolved s inverse (map (λ (r : ℕ × List ℕ). coefficients (known_from 0 raw) r.0) kept_ones) texts (map (λ (r : ℕ × List ℕ). r.1) kept_ones) made =
+    known_solved s (length slices) inverse made exponents raw kept_ones exponents_are many
+    (subst (λ xs. AreSolved s inverse (all_coefficients (length slices) exponents) (map bytes_or_none raw) xs made) recovery_are
+    (subst (λ xs. AreSolved s inverse (all_coefficients (length slices) exponents) xs recovery made) slices_are_those solved)) in
+    are_rebuilt s known recs kept_ones texts inverse made can.even (are_known s raw (known_alone raw) can.known refl fit) (slices_are s raw (known_alone raw) refl)
+    (length-texts_of (known_alone raw) ∙ length-present 0 raw ∙ ap length numbers) fit can.recovery can.exponents (subst AreBytes recovery_are kept_bytes)
+    (chosen ∙ ap (λ ls. kept_slices ls (exponents_of survivors.recovery.items) recs) here) (subst (λ ls. IsInverse ls (exponents_of found) inverse) here is) (subst (λ ls. IsRepairable ls (exponents_of survivors.recovery.items)) here enough)
+    (subst (λ ns. AreSolved s inverse (map (λ (r : ℕ × List ℕ). coefficients ns r.0) kept_ones) texts (map (λ (r : ℕ × List ℕ). r.1) kept_ones) made) numbers by_known) fit_made

@@ -12,7 +12,6 @@ pub mod Standing
 pub mod Finishing
 pub mod Solving
 pub mod Records
-pub mod KnownSlices
 pub mod Quotients
 pub mod RunInverses
 pub mod Beginnings

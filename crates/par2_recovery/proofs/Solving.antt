@@ -1,7 +1,7 @@
 -- The lost slices by their syndromes, one block of columns after the other.
 use Rattle.par2_recovery.proofs.Common.{inl, inr, ℕ, ◌+◌, ◌-◌, ◌*◌, ◌/◌, ◌%◌, ◌<◌, ◌≤◌, ◌≡◌, refl, sym, ap, ap₂, ◌∙◌, subst, arith, List, [], ◌++◌, length, length-append, get_or, map, bit_xor, Bor, cases_eq, cases_lt, get_or-take, get_or-drop, get_or-map, get_or_append_left, get_or-append_right, length-map, length-replicate, length-take-le, length-drop, mul, word, field_sum, list_at, OneChanged, field_sum_same, Adds, window, syndrome, AreSyndromes, AreProducts, AreSolved, AreExtended, texts_of, AreBlank}
 use Rattle.std.specs.Prelude.{drop}
-use Rattle.par2_recovery.proofs.Combinations.{blank_bytes, length-texts_of}
+use Rattle.par2_recovery.proofs.Combinations.{length-texts_of}
 use Rattle.par2_recovery.proofs.Inverting.{from_zeros}
 
 -- ---- windows
@@ -49,12 +49,6 @@ word_after p xs ys w e high = ap₂ (λ x y. x + 256 * y) (byte (2 * w) (2 * (w 
     byte : (i m : ℕ) → 2 * p ≤ i → i - 2 * p ≡ m → get_or (xs ++ ys) i 0 ≡ get_or ys m 0
     byte i m behind same = get_or-append_right xs ys (2 * p) i 0 e behind ∙ ap (λ k. get_or ys k 0) same
 
-bytes_behind : (xs ys : List ℕ) → ((k : ℕ) → get_or xs k 0 < 256) → ((k : ℕ) → get_or ys k 0 < 256) → (k : ℕ) → get_or (xs ++ ys) k 0 < 256
-bytes_behind xs ys hx hy k = elim (cases_lt k (length xs)) [
-  | inl low ↦ subst (λ x. x < 256) (sym (get_or_append_left xs ys 0 k low)) (hx k)
-  | inr high ↦ subst (λ x. x < 256) (sym (get_or-append_right xs ys (length xs) k 0 refl high)) (hy (k - length xs))
-]
-
 pub no_extended : (old blocks : List (List ℕ)) → AreExtended old blocks old 0
 no_extended old blocks = record { count = refl; each = λ r h. absurd (omega arith); rest = λ r h. refl }
 
@@ -75,7 +69,6 @@ pub products_added : (n m : ℕ) (inverse texts zeros new : List (List ℕ)) →
 products_added n m inverse texts zeros new e blank added = record {
   count = added.count ∙ blank.count ∙ e;
   sizes = λ r h. added.sizes r ∙ ap length (blank.each r (omega (arith, e))) ∙ length-replicate {A = ℕ} (2 * n) 0;
-  bytes = added.bytes (blank_bytes (2 * n) m zeros blank);
   words = λ r w h low. from_zeros (2 * n) m n (length texts) inverse texts zeros new blank (omega arith) added r w (omega (arith, e)) (omega (arith, low));
 }
 
@@ -84,7 +77,6 @@ pub words_solved : (s : ℕ) (inverse coefficients known slices syndromes new : 
 words_solved s inverse coefficients known slices syndromes new even are sums = record {
   count = sums.count;
   sizes = sums.sizes;
-  bytes = sums.bytes;
   words = λ r w h low.
       sums.words r w h low
       ∙ ap (λ k. field_sum k (λ j. mul (get_or (list_at inverse r) j 0) (word w (list_at syndromes j)))) are.count
@@ -98,7 +90,6 @@ pub none_solved : (m : ℕ) (inverse coefficients known slices texts : List (Lis
 none_solved m inverse coefficients known slices texts e blank = record {
   count = blank.count ∙ e;
   sizes = λ r h. ap length (blank.each r (omega (arith, e)));
-  bytes = blank_bytes 0 m texts blank;
   words = λ r w h low. absurd (omega (arith, low));
 }
 
@@ -109,10 +100,6 @@ pub more_solved : (from n : ℕ) (inverse coefficients known slices old blocks n
 more_solved from n inverse coefficients known slices old blocks new even before more extended = record {
   count = extended.count ∙ before.count;
   sizes = λ r h. ap length (here r h) ∙ length-append (list_at old r) (list_at blocks r) ∙ ap₂ (λ a b. a + b) (before.sizes r h) (more.sizes r h);
-  bytes = λ r k. elim (cases_lt r (length blocks)) [
-    | inl low ↦ subst (λ xs. get_or xs k 0 < 256) (sym (extended.each r low)) (bytes_behind (list_at old r) (list_at blocks r) (before.bytes r) (more.bytes r) k)
-    | inr high ↦ subst (λ xs. get_or xs k 0 < 256) (sym (extended.rest r high)) (before.bytes r k)
-  ];
   words = λ r w h low. elim (cases_lt w p) [
     | inl early ↦ ap (λ xs. word w xs) (here r h) ∙ word_before p (list_at old r) (list_at blocks r) w (before.sizes r h ∙ half) early ∙ before.words r w h (omega (arith, half, early))
     | inr late ↦

@@ -14,7 +14,6 @@ pub record AddsSource (factor : ℕ → ℕ) (source : List ℕ) (old new : List
   pub count : length new ≡ length old
   pub done : (r : ℕ) → r < n → AddsWithin (factor r) source (list_at old r) (list_at new r) from to
   pub rest : (r : ℕ) → n ≤ r → list_at new r ≡ list_at old r
-  pub bytes : AreBytes old → AreBytes new
 
 -- at word p, the sum of the first n factors of row r, each times the source at its place
 abbrev pub products : ℕ → List (List ℕ) → List (List ℕ) → ℕ → ℕ → ℕ
@@ -28,4 +27,3 @@ pub record Adds (factors sources old new : List (List ℕ)) (from to n : ℕ) : 
       → word p (list_at new r) ≡ bit_xor (word p (list_at old r)) (products n factors sources r p)
   pub below : (r p : ℕ) → p < from → word p (list_at new r) ≡ word p (list_at old r)
   pub above : (r p : ℕ) → to ≤ p → word p (list_at new r) ≡ word p (list_at old r)
-  pub bytes : AreBytes old → AreBytes new

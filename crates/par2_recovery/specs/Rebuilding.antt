@@ -1,6 +1,5 @@
 -- What survives of a set's slices, and what is rebuilt from it.
-use Rattle.std.specs.Prelude.{◌≡◌, ◌≤◌, ◌<◌, ◌^◌, ◌%◌, ℕ, List, length, slice_index, Option, Some, None}
-use Rattle.std.specs.Borrow.{Bor}
+use Rattle.std.specs.Prelude.{◌≡◌, ◌≤◌, ◌%◌, ℕ, List, length, Option}
 use Rattle.std.specs.List.{AllByRecursion}
 use Rattle.std.specs.List.Sorted.{IsStrictlyIncreasing}
 use Rattle.par2_spec.specs.Rank.{IsRebuilt, IsRepairable, kept_slices}
@@ -30,8 +29,3 @@ AreRebuilt survivors slices =
 -- they determine the lost slices
 abbrev pub AreEnough : Survivors → Type 0
 AreEnough survivors = IsRepairable (lost (known_among survivors)) (exponents_of survivors.recovery.items)
-
--- a slice that isn't lost, of bytes
-abbrev pub IsKnown : Option (Bor (List ℕ)) → Type 0
-IsKnown None = ⊥
-IsKnown (Some slice) = (k : ℕ) → slice_index slice.now k < 2 ^ 8

@@ -6,7 +6,7 @@ use Rattle.par2_spec.specs.Field.{mul}
 use Rattle.par2_spec.specs.Slices.{word}
 use Rattle.par2_spec.specs.Recovery.{coefficients}
 use Rattle.par2_spec.specs.Sums.{field_sum, list_at}
-use Rattle.par2_recovery.specs.Products.{AreBytes, products}
+use Rattle.par2_recovery.specs.Products.{products}
 use Rattle.par2_recovery.specs.Survivors.{sum_at}
 
 -- at most n bytes of a text, from `from` on
@@ -35,14 +35,12 @@ pub record AreSyndromes (n : ℕ) (coefficients known slices texts : List (List 
 pub record AreProducts (s : ℕ) (inverse texts sums : List (List ℕ)) : Type 0 where
   pub count : length sums ≡ length inverse
   pub sizes : (r : ℕ) → r < length inverse → length (list_at sums r) ≡ s
-  pub bytes : AreBytes sums
   pub words : (r w : ℕ) → r < length inverse → 2 * w + 1 < s → word w (list_at sums r) ≡ products (length texts) inverse texts r w
 
 -- texts of s bytes: the inverse times the syndromes
 pub record AreSolved (s : ℕ) (inverse coefficients known slices texts : List (List ℕ)) : Type 0 where
   pub count : length texts ≡ length inverse
   pub sizes : (r : ℕ) → r < length inverse → length (list_at texts r) ≡ s
-  pub bytes : AreBytes texts
   pub words : (r w : ℕ) → r < length inverse → 2 * w + 1 < s
       → word w (list_at texts r) ≡ field_sum (length slices) (λ j. mul (slice_index (list_at inverse r) j) (syndrome coefficients known slices w j))
 

@@ -13,9 +13,8 @@ ghost use Rattle.par2_recovery.specs.Products.{products};
 ghost use Rattle.par2_recovery.specs.Syndromes.{all_coefficients, AreRun};
 ghost use Rattle.par2_recovery.specs.Views.{texts_of};
 
-use crate::elements::text_at;
 use crate::exponents::coefficients;
-use crate::products::{BLOCK, fit_lists, products_of, source_at};
+use crate::products::{BLOCK, fit_lists, products_of, source_at, text_at};
 use crate::syndromes::windows;
 use par2_gf16::Gf;
 use par2_transform::{Places, add_recovery_slices_at, add_to_output, whole_texts};
@@ -83,20 +82,6 @@ fn rows_over(
         rows.push(coefficients(alloc, gf, numbers, exponents[i])?)?;
     }
     Ok(rows)
-}
-
-// For each exponent, what it multiplies the first `slices` input slices by.
-fn coefficient_rows(
-    alloc: Global,
-    gf: &Gf,
-    slices: usize,
-    exponents: &[u32],
-) -> Result<Vec<Vec<u16>>, AllocError>
-    requires { slices ≤ 32768 }
-    ensures { IfOk result (λ rows. lists_of rows.items ≡ all_coefficients slices exponents.now) }
-{
-    let numbers = numbers_from(alloc, 0, slices as u32)?;
-    rows_over(alloc, gf, &numbers, exponents)
 }
 
 // To each output, adds the text at its place, in some columns.
@@ -179,7 +164,8 @@ fn add_by_coefficients(
     requires room { LieIn outputs.now texts.old }
     ensures { OnOk result (AddsRecovery outputs.now slices.now exponents.now texts.old texts.new) }
 {
-    let rows = coefficient_rows(alloc, gf, slices.len(), exponents)?;
+    let numbers = numbers_from(alloc, 0, slices.len() as u32)?;
+    let rows = rows_over(alloc, gf, &numbers, exponents)?;
     let words = outputs.words;
     let columns = sum_columns(slices.len(), exponents.len(), room);
     for block in 0..words.div_ceil(columns) {

@@ -1,21 +1,26 @@
 //! The equations of the kept exponents, and their inverse.
 
-ghost use Rattle.std.specs.Prelude.{◌≡◌, ◌≢◌, ℕ, ◌*◌, ◌<◌, ◌≤◌, length, map, slice_index, slice_index_or, [], IfErr, IfOk, IsOk, Ok};
+ghost use Rattle.std.specs.Prelude.{◌≡◌, ◌≢◌, ℕ, ◌*◌, ◌<◌, ◌≤◌, length, map, slice_index, slice_index_or, [], IfErr, IfOk, IsOk, Ok, ◌+◌, ◌%◌, take, IfSome, IsNone};
 ghost use Rattle.std.specs.List.Sorted.{IsStrictlyIncreasing};
 ghost use Rattle.par2_spec.specs.Rank.{IsRepairable, kept_slices};
 ghost use Rattle.par2_spec.specs.Recovery.{coefficients};
-ghost use Rattle.par2_spec.specs.Sums.{lists_of};
+ghost use Rattle.par2_spec.specs.Sums.{lists_of, list_at};
 ghost use Rattle.par2_matrix.specs.Systems.{IsIndependent, IsDependent};
 ghost use Rattle.par2_recovery.specs.Answers.{HasInverse, KeepsThose};
 ghost use Rattle.par2_recovery.specs.Views.{texts_of};
 ghost use Rattle.par2_recovery.specs.Survivors.{recovered_of, exponents_of, IsTrueFault};
 ghost use Rattle.par2_recovery.specs.Inverses.{CutByUnit, IsEliminated, IsInverse};
+ghost use Rattle.par2_matrix.specs.Echelon.{Spells};
+ghost use Rattle.par2_recovery.specs.Elements.{AreRows, IsUnit};
+ghost use Rattle.par2_spec.specs.Runs.{AreSlices};
+ghost use Rattle.par2_recovery.specs.RunInverses.{BeginsWithRun};
 
-use crate::elements::{rows_of, unit};
 use crate::exponents::offer;
+use crate::products::text_at;
 use crate::rebuild_slices::RebuildFault;
+use crate::run_inverse::run_inverse;
 use par2_gf16::Gf;
-use par2_matrix::{Offer, System};
+use par2_matrix::{Offer, System, element, put_element};
 use std::alloc::{AllocError, Global};
 
 // The recovery slices of the kept exponents, in order, and the system of their equations: the right side of the j-th one
@@ -33,8 +38,8 @@ pub(crate) struct Inversion<'a> {
     pub(crate) inverse: Vec<Vec<u16>>,
 }
 
-/// A recovery slice with its exponent.
-pub(crate) fn recovery_at<'a>(recovery: &[(u32, &'a [u8])], i: usize) -> (u32, &'a [u8])
+// A recovery slice with its exponent.
+fn recovery_at<'a>(recovery: &[(u32, &'a [u8])], i: usize) -> (u32, &'a [u8])
     requires { i < length recovery.now }
     ensures exponent { result.0 ≡ (slice_index_or (recovered_of recovery.now) i (0, [])).0 }
     ensures bytes { result.1.now ≡ (slice_index_or (recovered_of recovery.now) i (0, [])).1 }
@@ -96,8 +101,8 @@ fn eliminate<'a>(
     Ok(Elimination { kept, system })
 }
 
-/// The kept exponents and their inverse, where they determine the lost slices.
-pub(crate) fn invert_by_elimination<'a>(
+// The kept exponents and their inverse, where they determine the lost slices.
+fn invert_by_elimination<'a>(
     alloc: Global,
     gf: &Gf,
     lost: &[u32],
@@ -149,4 +154,104 @@ pub(crate) fn exponents_of(alloc: Global, kept: &[(u32, &[u8])]) -> Result<Vec<u
         exponents.push(recovery_at(kept, j).0)?;
     }
     Ok(exponents)
+}
+
+// The elements of a text.
+fn row_of(alloc: Global, text: &[u8]) -> Result<Vec<u16>, AllocError>
+    requires { length text.now % 2 ≡ 0 }
+    ensures { IfOk result (λ row. Spells row.items text.now (length row.items)) }
+{
+    let count = text.len() / 2;
+    let mut row = Vec::with_capacity(alloc, count)?;
+    for i in 0..count {
+        row.push(element(text, i))?;
+    }
+    Ok(row)
+}
+
+// The elements of each text.
+fn rows_of(alloc: Global, texts: &[Vec<u8>]) -> Result<Vec<Vec<u16>>, AllocError>
+    requires { (r : ℕ) → r < length texts.now → length (list_at (lists_of texts.now) r) % 2 ≡ 0 }
+    ensures { IfOk result
+        (λ rows. AreRows (lists_of rows.items) (lists_of texts.now) (length texts.now)) }
+{
+    let mut rows = Vec::with_capacity(alloc, texts.len())?;
+    for r in 0..texts.len() {
+        rows.push(row_of(alloc, text_at(texts, r))?)?;
+    }
+    Ok(rows)
+}
+
+// The text of the unit vector of n elements that has 1 at i.
+fn unit(alloc: Global, n: usize, i: usize) -> Result<Vec<u8>, AllocError>
+    requires count { n < 65536 }
+    requires place { i < n }
+    ensures { IfOk result (λ text. IsUnit n i text.items) }
+{
+    let mut text = vec![in alloc; 0u8; 2 * n]?;
+    put_element(text.as_mut_slice(), i, 1);
+    Ok(text)
+}
+
+// The first of `count` exponents, where these are the first of the recovery slices and follow one another without a gap:
+// as they rise, the last one is then as near to the first as it can be.
+fn run_at_front(recovery: &[(u32, &[u8])], count: usize) -> Option<u32>
+    requires { IsStrictlyIncreasing (exponents_of recovery.now) }
+    ensures run { IfSome result (λ first. BeginsWithRun first count (exponents_of recovery.now)) }
+    ensures none { IsNone result → (first : ℕ) → 0 < count
+        → BeginsWithRun first count (exponents_of recovery.now) → ⊥ }
+{
+    if count == 0 || recovery.len() < count {
+        return None;
+    }
+    let first = recovery_at(recovery, 0).0;
+    let last = recovery_at(recovery, count - 1).0;
+    if (last - first) as usize == count - 1 {
+        Some(first)
+    } else {
+        None
+    }
+}
+
+// The kept exponents and their inverse, where the first ones are a run of as many as slices are lost: these are kept.
+fn invert_run<'a>(
+    alloc: Global,
+    gf: &Gf,
+    lost: &[u32],
+    recovery: &[(u32, &'a [u8])],
+    first: u32,
+) -> Result<Inversion<'a>, AllocError>
+    requires lost { AreSlices lost.now }
+    requires exponents { IsStrictlyIncreasing (exponents_of recovery.now) }
+    requires run { BeginsWithRun first (length lost.now) (exponents_of recovery.now) }
+    ensures kept { IfOk result (KeepsThose lost.now recovery.now) }
+    ensures inverse { IfOk result (HasInverse lost.now) }
+    ensures enough { IsOk result → IsRepairable lost.now (exponents_of recovery.now) }
+{
+    let kept = Vec::from_slice(alloc, &recovery[..lost.len()])?;
+    let inverse = run_inverse(alloc, gf, lost, first)?;
+    Ok(Inversion { kept, inverse })
+}
+
+/// The kept exponents and their inverse, where they determine the lost slices: at a run by its polynomial, else by
+/// elimination.
+pub(crate) fn invert<'a>(
+    alloc: Global,
+    gf: &Gf,
+    lost: &[u32],
+    recovery: &[(u32, &'a [u8])],
+) -> Result<Inversion<'a>, RebuildFault>
+    requires count { length lost.now ≤ 32768 }
+    requires lost { (i : ℕ) → slice_index lost.now i < 32768 }
+    requires rise { IsStrictlyIncreasing lost.now }
+    requires exponents { IsStrictlyIncreasing (exponents_of recovery.now) }
+    ensures kept { IfOk result (KeepsThose lost.now recovery.now) }
+    ensures inverse { IfOk result (HasInverse lost.now) }
+    ensures enough { IsOk result → IsRepairable lost.now (exponents_of recovery.now) }
+    ensures refused { IfErr result (IsTrueFault lost.now (exponents_of recovery.now)) }
+{
+    match run_at_front(recovery, lost.len()) {
+        Some(first) => Ok(invert_run(alloc, gf, lost, recovery, first)?),
+        None => invert_by_elimination(alloc, gf, lost, recovery),
+    }
 }

@@ -2,10 +2,7 @@
 #![tactic(auto)]
 
 mod additions;
-mod elements;
 mod exponents;
-mod file_record;
-mod front_run;
 mod inverse;
 mod products;
 mod rebuild_slices;
@@ -16,7 +13,6 @@ mod set_record;
 mod syndromes;
 
 pub use exponents::{rank, rank_by_runs};
-pub use file_record::file_record_by_md5;
 pub use rebuild_slices::{RebuildFault, Survivors, rebuild, rebuild_lost};
 pub use recovery::{input_slices, recovery_slice, recovery_slices_over, write_recovery_slices};
-pub use set_record::{RecordFault, SetRecord, file_records, file_texts};
+pub use set_record::{RecordFault, SetRecord, file_record_by_md5, file_records, file_texts};

@@ -8,23 +8,12 @@ ghost use Rattle.par2_recovery.specs.Products.{AddsSource, Adds, AreBytes};
 ghost use Rattle.par2_recovery.specs.Syndromes.{AreProducts};
 ghost use Rattle.par2_recovery.specs.Views.{texts_of};
 
-use crate::elements::text_at;
 use crate::recovery::blank;
 use par2_gf16::{Columns, Factor, Gf};
 use std::alloc::{AllocError, Global};
 
 /// How many words of every text are taken at a time, so that a source's nibbles and what is written stay in the caches.
 pub(crate) const BLOCK: usize = 4096;
-
-// Adds the factor times the words of the source to those of the target.
-fn add_words(gf: &Gf, factor: &Factor, source: &Columns, target: &mut [u8])
-    requires room { 2 * source.now.to ≤ length target.old }
-    ensures added { AddsWithin factor.now source.now.text target.old target.new
-        source.now.from source.now.to }
-    ensures bytes { (k : ℕ) → slice_index target.new k < 2 ^ 8 }
-{
-    gf.mul_add_columns(factor, source, target);
-}
 
 // Adds to list r.
 fn add_to(gf: &Gf, lists: &mut [Vec<u8>], r: usize, factor: &Factor, source: &Columns)
@@ -34,17 +23,8 @@ fn add_to(gf: &Gf, lists: &mut [Vec<u8>], r: usize, factor: &Factor, source: &Co
     ensures added { AddsWithin factor.now source.now.text
         (list_at (lists_of lists.old) r) (list_at (lists_of lists.new) r)
         source.now.from source.now.to }
-    ensures bytes { (k : ℕ) → slice_index (list_at (lists_of lists.new) r) k < 2 ^ 8 }
 {
-    add_words(gf, factor, source, lists[r].as_mut_slice());
-}
-
-#[inline(always)]
-fn row_at(rows: &[Vec<u16>], r: usize) -> &[u16]
-    requires { r < length rows.now }
-    ensures { result.now ≡ list_at (lists_of rows.now) r }
-{
-    &rows[r]
+    gf.mul_add_columns(factor, source, lists[r].as_mut_slice());
 }
 
 #[inline(always)]
@@ -53,7 +33,7 @@ fn factor_at(rows: &[Vec<u16>], r: usize, k: usize) -> u16
     requires place { k < length (list_at (lists_of rows.now) r) }
     ensures { result ≡ slice_index (list_at (lists_of rows.now) r) k }
 {
-    row_at(rows, r)[k]
+    rows[r][k]
 }
 
 // Adds the multiples of a source, which is the k-th one, to all targets.
@@ -69,6 +49,14 @@ fn add_source(gf: &Gf, factors: &[Vec<u16>], k: usize, source: &Columns, targets
         let factor = Factor::new(factor_at(factors, r, k));
         add_to(gf, targets, r, &factor, source);
     }
+}
+
+#[inline(always)]
+pub(crate) fn text_at(texts: &[Vec<u8>], r: usize) -> &[u8]
+    requires { r < length texts.now }
+    ensures { result.now ≡ list_at (lists_of texts.now) r }
+{
+    &texts[r]
 }
 
 #[inline(always)]
@@ -200,7 +188,7 @@ pub(crate) fn fit_lists(texts: &[Vec<u8>])
 
 // What the type says of each byte, for proofs.
 #[inline(always)]
-pub(crate) fn fit_bytes(bytes: &[u8])
+fn fit_bytes(bytes: &[u8])
     ensures { (k : ℕ) → slice_index bytes.now k < 2 ^ 8 }
 {
     let _ = bytes.len();

@@ -1,7 +1,7 @@
 //! Lost slices are rebuilt.
 
-ghost use Rattle.std.specs.Prelude.{◌≡◌, ℕ, ◌+◌, ◌*◌, ◌%◌, ◌^◌, ◌<◌, ◌≤◌, length, map, slice_index_or, is_none, IfOk, IfSome, MatchResult, IfErr, IsOk, IsTrue, None};
-ghost use Rattle.std.specs.List.{All, AllByRecursion};
+ghost use Rattle.std.specs.Prelude.{◌≡◌, ℕ, ◌+◌, ◌*◌, ◌%◌, ◌^◌, ◌<◌, ◌≤◌, length, map, slice_index_or, is_none, IfOk, IfSome, MatchResult, IfErr, IsOk, None};
+ghost use Rattle.std.specs.List.{AllByRecursion};
 ghost use Rattle.std.specs.List.Sorted.{IsStrictlyIncreasing};
 ghost use Rattle.par2_spec.specs.Search.{lost};
 ghost use Rattle.par2_spec.specs.Recovery.{coefficients};
@@ -11,11 +11,10 @@ ghost use Rattle.par2_recovery.specs.Products.{AreBytes};
 ghost use Rattle.par2_recovery.specs.Views.{texts_of};
 ghost use Rattle.par2_recovery.specs.Survivors.{known_of, recovered_of, exponents_of, with_lost_slices, lost_from, known_from, known_alone, bytes_or_none, IsTrueFault};
 ghost use Rattle.par2_recovery.specs.Syndromes.{AreSolved};
-ghost use Rattle.par2_recovery.specs.Rebuilding.{IsKnown, CanRebuild, known_among, AreRebuilt, AreEnough};
+ghost use Rattle.par2_recovery.specs.Rebuilding.{CanRebuild, known_among, AreRebuilt, AreEnough};
 
-use crate::front_run::invert;
-use crate::inverse::{Inversion, bytes_of, exponents_of};
-use crate::products::{fit_bytes, fit_texts};
+use crate::inverse::{Inversion, bytes_of, exponents_of, invert};
+use crate::products::{fit_lists, fit_texts};
 use crate::syndromes::solved;
 use par2_gf16::Gf;
 use std::alloc::{AllocError, Global};
@@ -100,42 +99,6 @@ fn slices_or_none<'a>(
     Ok(slices)
 }
 
-// The lost slices by the recovery slices of the kept exponents and their inverse.
-fn lost_slices(
-    alloc: Global,
-    gf: &Gf,
-    survivors: &Survivors,
-    kept: &[(u32, &[u8])],
-    inverse: &[Vec<u16>],
-) -> Result<Vec<Vec<u8>>, AllocError>
-    requires count { length survivors.now.known.items ≤ 32768 }
-    requires even { survivors.now.slice % 2 ≡ 0 }
-    requires inverse { HaveAtLeast (length kept.now) inverse.now }
-    requires kept { AllByRecursion (λ r. length r.1 ≡ survivors.now.slice) (recovered_of kept.now) }
-    ensures solved { let known = survivors.now.known.items in
-        IfOk result (λ texts. AreSolved survivors.now.slice (lists_of inverse.now)
-        (map (λ r. coefficients (known_from 0 known) r.0) (recovered_of kept.now))
-        (texts_of (known_alone known)) (map (λ r. r.1) (recovered_of kept.now))
-        (lists_of texts.items)) }
-    ensures known { IfOk result (λ _. AreBytes (texts_of (known_alone survivors.now.known.items))) }
-    ensures found { IfOk result (λ _. AreBytes (map (λ r. r.1) (recovered_of kept.now))) }
-{
-    let exponents = exponents_of(alloc, kept)?;
-    let recovery = bytes_of(alloc, kept)?;
-    let slices = slices_or_none(alloc, &survivors.known)?;
-    fit_texts(&recovery);
-    fit_texts(&slices);
-    solved(
-        alloc,
-        gf,
-        inverse,
-        &exponents,
-        &recovery,
-        &slices,
-        survivors.slice,
-    )
-}
-
 /// The lost slices in order, with their padding. NotRepairable is answered where the recovery slices don't determine
 /// them: then of `missing` lost slices no more than `rank` exponents are kept.
 pub fn rebuild(alloc: Global, gf: &Gf, survivors: &Survivors) -> Result<Vec<Vec<u8>>, RebuildFault>
@@ -147,23 +110,25 @@ pub fn rebuild(alloc: Global, gf: &Gf, survivors: &Survivors) -> Result<Vec<Vec<
 {
     let lost = lost_numbers(alloc, &survivors.known)?;
     let Inversion { kept, inverse } = invert(alloc, gf, &lost, &survivors.recovery)?;
-    Ok(lost_slices(alloc, gf, survivors, &kept, &inverse)?)
+    let exponents = exponents_of(alloc, &kept)?;
+    let recovery = bytes_of(alloc, &kept)?;
+    let slices = slices_or_none(alloc, &survivors.known)?;
+    fit_texts(&recovery);
+    fit_texts(&slices);
+    let texts = solved(
+        alloc,
+        gf,
+        &inverse,
+        &exponents,
+        &recovery,
+        &slices,
+        survivors.slice,
+    )?;
+    fit_lists(&texts);
+    Ok(texts)
 }
 
-// Whether no slice is lost.
-fn all_known(slices: &[Option<&[u8]>]) -> bool
-    ensures { IsTrue result → All IsKnown slices.now }
-{
-    for slice in slices {
-        let Some(bytes) = slice else {
-            return false;
-        };
-        fit_bytes(bytes);
-    }
-    true
-}
-
-/// What `rebuild` answers. The tables of the field are made only where a slice is lost.
+/// What `rebuild` answers, which makes the tables of the field.
 pub fn rebuild_lost(alloc: Global, survivors: &Survivors) -> Result<Vec<Vec<u8>>, RebuildFault>
     requires { CanRebuild survivors.now }
     ensures rebuilt { IfOk result (λ texts. Rebuild survivors.now texts.items) }
@@ -171,8 +136,5 @@ pub fn rebuild_lost(alloc: Global, survivors: &Survivors) -> Result<Vec<Vec<u8>>
     ensures enough { IsOk result → AreEnough survivors.now }
     ensures refused { IfErr result (IsFaultOf survivors.now) }
 {
-    if all_known(&survivors.known) {
-        return Ok(Vec::new(alloc));
-    }
     rebuild(alloc, &Gf::new(alloc)?, survivors)
 }

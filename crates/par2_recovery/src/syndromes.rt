@@ -9,8 +9,7 @@ ghost use Rattle.par2_recovery.specs.Syndromes.{all_coefficients, window, ArePro
 ghost use Rattle.par2_recovery.specs.Views.{texts_of, AreBlank};
 
 use crate::additions::with_recovery_slices;
-use crate::elements::text_at;
-use crate::products::{products_of, source_at};
+use crate::products::{products_of, source_at, text_at};
 use crate::room::{columns_at_once, rows_room};
 use par2_gf16::Gf;
 use par2_slices::window_bytes;
@@ -55,23 +54,6 @@ fn borrowed(alloc: Global, texts: &[Vec<u8>]) -> Result<Vec<&[u8]>, AllocError>
     Ok(slices)
 }
 
-// The inverse times texts of so many bytes.
-fn inverse_times(
-    alloc: Global,
-    gf: &Gf,
-    inverse: &[Vec<u16>],
-    texts: &[Vec<u8>],
-    size: usize,
-) -> Result<Vec<Vec<u8>>, AllocError>
-    requires inverse { HaveAtLeast (length texts.now) inverse.now }
-    requires even { size % 2 ≡ 0 }
-    ensures { IfOk result (λ sums. AreProducts size (lists_of inverse.now)
-        (lists_of texts.now) (lists_of sums.items)) }
-{
-    let sources = borrowed(alloc, texts)?;
-    products_of(alloc, gf, inverse, &sources, size)
-}
-
 // The lost slices of these columns: the inverse times the syndromes.
 fn solved_block(
     alloc: Global,
@@ -94,7 +76,8 @@ fn solved_block(
 {
     let words = size / 2;
     let syndromes = with_recovery_slices(alloc, gf, slices, words, exponents, recovery, room)?;
-    inverse_times(alloc, gf, inverse, &syndromes, size)
+    let sources = borrowed(alloc, &syndromes)?;
+    products_of(alloc, gf, inverse, &sources, size)
 }
 
 // Empty texts, with room for so many bytes each.

@@ -1,12 +1,11 @@
 -- The recovery slices of the packets, by their exponents.
-use Rattle.par2_sets.proofs.Common.{◌≡◌, ℕ, ◌+◌, ◌<◌, ◌==◌, ◌&&◌, T, Bool, true, false, cond, List, [], ◌∷◌, ◌++◌, Option, Some, None, length, map, take, get_or, refl, sym, ap, ◌∙◌, subst, nat_lt, is_some, filter, filter_map, option_map, option_and_then, if◌then◌else◌, option_or, Bor, Ordering, Less, Equal, Greater, nat_cmp, is_lt, is_eq, eq_by_cmp, nat_cmp_total, eq_by_cmp_equiv, false≢true, cons_option, AllByRecursion, IsStrictlyIncreasing, lookup, keys_of, map_more, append-nil, filter_map-append, FinMap, is_sorted, same_map, same_entries_map, entries_sorted, nat_cmp-IsAntisymmetric, entries-from_sorted, get-from_sorted, get-from_entries, Packet, RecoveryBody, read_recovery, recovery_of, entry_of, exponents_of, recovered_of, slice_if, slice_at}
+use Rattle.par2_sets.proofs.Common.{◌≡◌, ℕ, ◌+◌, ◌<◌, ◌==◌, ◌&&◌, T, Bool, true, false, cond, List, [], ◌∷◌, ◌++◌, Option, Some, None, length, map, take, get_or, refl, sym, ap, ◌∙◌, subst, nat_lt, filter, filter_map, option_map, option_and_then, if◌then◌else◌, option_or, Bor, Ordering, Less, Equal, Greater, nat_cmp, is_lt, is_eq, eq_by_cmp, nat_cmp_total, false≢true, cons_option, AllByRecursion, IsStrictlyIncreasing, lookup, keys_of, map_more, append-nil, filter_map-append, FinMap, is_sorted, same_map, same_entries_map, entries_sorted, nat_cmp-IsAntisymmetric, entries-from_sorted, get-from_sorted, get-from_entries, Packet, RecoveryBody, read_recovery, recovery_of, entry_of, exponents_of, recovered_of, slice_if, slice_at}
 use Rattle.std.proofs.Math.Facts.{yes_and}
 use Rattle.std.specs.List.Sorted.{IsStrictlySortedBy}
 use Rattle.std.proofs.lemmas.Map.Keys.{sorted_from_strictly_increasing, IsStrictlyIncreasing-from_sorted}
 use Rattle.std.specs.FinMap as map_of
 use Rattle.std.specs.FinMap.{find}
 use Rattle.std.specs.FinMap.Entries.{below_all}
-use Rattle.par2_sets.specs.Slices.{KeepsFirst}
 
 -- ---- which packets count
 
@@ -118,15 +117,8 @@ same_exponent q k h = nat_cmp-IsAntisymmetric q k (equal (nat_cmp q k) h)
     equal Equal h = refl
     equal Greater h = absurd (false≢true h)
 
-pub new_slice : (old new : List (ℕ × Bor (List ℕ))) (k : ℕ) (b : Bor (List ℕ)) → is_some (lookup (eq_by_cmp nat_cmp k) old) ≡ false
-    → ((q : ℕ) → lookup (eq_by_cmp nat_cmp q) new ≡ cond (eq_by_cmp nat_cmp k q) (Some b) (lookup (eq_by_cmp nat_cmp q) old)) → KeepsFirst old new k b.now
-new_slice old new k b none puts q =
-    ap (option_map (λ x. x.now)) (puts q ∙ ap (λ t. cond t (Some b) (lookup (eq_by_cmp nat_cmp q) old)) ((eq_by_cmp_equiv nat_cmp_total).symm k q))
-    ∙ step (lookup (eq_by_cmp nat_cmp q) old) (eq_by_cmp nat_cmp q k) (λ h. ap (λ n. is_some (lookup (eq_by_cmp nat_cmp n) old)) (same_exponent q k h) ∙ none)
-  where
-    step : (o : Option (Bor (List ℕ))) (t : Bool) → (t ≡ true → is_some o ≡ false)
-        → option_map (λ x. x.now) (cond t (Some b) o) ≡ option_or (option_map (λ x. x.now) o) (if t then Some b.now else None)
-    step None true h = refl
-    step (Some x) true h = absurd (false≢true (sym (h refl)))
-    step None false h = refl
-    step (Some x) false h = refl
+-- the slice that a map keeps of an exponent
+pub kept_slice : (o : Option (Bor (List ℕ))) (b : Bool) (v : Bor (List ℕ)) → option_map (λ x. x.now) (option_or o (cond b (Some v) None)) ≡ option_or (option_map (λ x. x.now) o) (if b then Some v.now else None)
+kept_slice (Some x) b v = refl
+kept_slice None true v = refl
+kept_slice None false v = refl

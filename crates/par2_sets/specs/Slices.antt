@@ -1,6 +1,5 @@
 -- Recovery slices with their exponents.
-use Rattle.std.specs.Prelude.{◌≡◌, ℕ, ◌==◌, ◌&&◌, nat_lt, List, length, map, Option, Some, None, option_map, option_and_then, if◌then◌else◌}
-use Rattle.std.specs.Option.{option_or}
+use Rattle.std.specs.Prelude.{ℕ, ◌==◌, ◌&&◌, nat_lt, List, length, map, Option, Some, None, option_map, option_and_then, if◌then◌else◌}
 use Rattle.std.specs.Borrow.{Bor}
 use Rattle.std.specs.FinMap.{from_sorted}
 use Rattle.std.specs.Map.{lookup}
@@ -30,12 +29,6 @@ slice_if s p =
 -- the recovery slice of an exponent
 abbrev pub slice_at : List (ℕ × Bor (List ℕ)) → ℕ → Option (List ℕ)
 slice_at recovery q = option_map (λ bytes. bytes.now) (lookup (eq_by_cmp nat_cmp q) recovery)
-
--- where an exponent had no slice, it has this one
-abbrev pub KeepsFirst : List (ℕ × Bor (List ℕ)) → List (ℕ × Bor (List ℕ)) → ℕ → List ℕ → Type 0
-KeepsFirst old new exponent bytes =
-    (q : ℕ) → slice_at new q
-    ≡ option_or (slice_at old q) (if eq_by_cmp nat_cmp q exponent then Some bytes else None)
 
 -- a set of these parts
 abbrev pub set_view : List ℕ → ℕ → List Target → List (ℕ × Bor (List ℕ)) → ParSet

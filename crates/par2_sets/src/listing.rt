@@ -1,18 +1,24 @@
-//! The par files of a set.
-ghost use Rattle.std.specs.Prelude.{◌≡◌, ◌&&◌, ℕ, List, IfOk};
+//! The names of a set's targets and par files, and those under which files are put aside.
+
+ghost use Rattle.std.specs.Prelude.{◌≡◌, ◌&&◌, ℕ, List, IfOk, ◌⊎◌, ◌<◌, ◌+◌, ◌++◌, ◌∷◌, [], Some, None, IsTrue, length, map, string_bytes, IfErr};
 ghost use Rattle.std.specs.List.{list_any, list_all};
 ghost use Rattle.std.specs.Str.{bytes_eq};
-ghost use Rattle.par2_spec.specs.Answers.{Lists};
-ghost use Rattle.par2_spec.specs.Names.{is_among};
+ghost use Rattle.par2_spec.specs.Answers.{Lists, FailsFor};
+ghost use Rattle.par2_spec.specs.Names.{is_among, is_name};
 ghost use Rattle.par2_spec.specs.Packets.{accepted};
-ghost use Rattle.par2_spec.specs.Repairs as repairs;
 ghost use Rattle.par2_spec.specs.Sets.{target_names};
-ghost use Rattle.par2_sets.specs.Asides.{HoldsNames};
+ghost use Rattle.par2_sets.specs.Asides.{HoldsNames, long_aside};
+ghost use Rattle.par2_spec.specs.Repairs.{aside, AreFew, taken_for};
+ghost use Rattle.par2_spec.specs.Repairs as repairs;
+ghost use Rattle.par2_spec.specs.Folders as folders;
+ghost use Rattle.par2_spec.specs.Names as names;
 
 use crate::ParSet;
-use crate::target_names::target_names;
+use itoa::Buffer;
 use par2_folder::{Folder, Name};
 use par2_packets::Packets;
+use par2_spec::Fault;
+use par2_spec::repair_laws::aside_is_found;
 use std::alloc::{AllocError, Global};
 use std::collections::BTreeSet;
 
@@ -58,4 +64,102 @@ pub fn par_files(alloc: Global, folder: &Folder, set: &ParSet) -> Result<Vec<Nam
     let mut names = folder.names()?;
     names.retain(|name| is_par_file(folder, set, &targets, name));
     Ok(names)
+}
+
+// The names of the set's targets.
+fn target_names(alloc: Global, set: &ParSet) -> Result<BTreeSet<Name>, AllocError>
+    ensures { IfOk result (λ names. HoldsNames names (target_names set.now)) }
+{
+    let mut names = BTreeSet::new(alloc);
+    for target in set.targets() {
+        names.insert(target.name().copied())?;
+    }
+    Ok(names)
+}
+
+// The text NAME.n.
+fn numbered_text(alloc: Global, name: &Name, n: usize) -> Result<String, AllocError>
+    ensures text { IfOk result (λ text. string_bytes text ≡ names.numbered name.now n) }
+    ensures name { IsTrue (is_name name.now) }
+{
+    let mut text = String::from_str(alloc, name.as_str())?;
+    text.push_str(".")?;
+    text.push_str(Buffer::new().format(n))?;
+    Ok(text)
+}
+
+// The name NAME.n, where that is not too long.
+fn numbered(alloc: Global, name: &Name, n: usize) -> Result<Name, Fault>
+    ensures refused { let long = 255 < length (names.numbered name.now n) in
+        IfErr result (λ fault. (fault ≡ Fault.Memory) ⊎ ((fault ≡ Fault.NameTooLong) × long)) }
+    ensures name { IfOk result (λ other. other ≡ names.numbered name.now n) }
+{
+    let text = numbered_text(alloc, name, n)?;
+    Name::new(&text).map_err(|_| Fault::NameTooLong)
+}
+
+// Whether the name is in the folder or a target's.
+fn is_taken(folder: &Folder, targets: &BTreeSet<Name>, name: &Name) -> bool
+    ensures { (all : List (List ℕ)) → HoldsNames targets.now all
+        → result ≡ is_among (folders.names folder.now.files ++ all) name.now }
+{
+    folder.get(name).is_some() || targets.contains(name)
+}
+
+// The aside of a name, which has one of the first `most` numbers.
+fn aside(
+    alloc: Global,
+    folder: &Folder,
+    set: &ParSet,
+    targets: &BTreeSet<Name>,
+    most: usize,
+    name: &Name,
+) -> Result<Name, Fault>
+    requires targets { HoldsNames targets.now (target_names set.now) }
+    requires most { most ≡ length (taken_for folder.now.files set.now) + 1 }
+    ensures refused { FailsFor (long_aside folder.now.files set.now (name.now ∷ [])) result }
+    ensures aside { IfOk result (λ other. other ≡ aside folder.now.files set.now name.now) }
+{
+    // By this law a number is free.
+    aside_is_found();
+    // The names in a folder and those of targets are names, say these: what is too long for one is not taken.
+    let _ = folder.vacant();
+    let _ = set.targets();
+    for n in 1..=most {
+        let other = numbered(alloc, name, n)?;
+        if !is_taken(folder, targets, &other) {
+            return Ok(other);
+        }
+    }
+    unreachable!()
+}
+
+// How many numbers to try for an aside: one more than there are names to keep away from.
+fn tries(folder: &Folder, set: &ParSet) -> usize
+    ensures { result ≡ length (taken_for folder.now.files set.now) + 1 }
+{
+    folder.len() + set.targets().len() + 1
+}
+
+/// The names under which the files of these names are put aside: each the name with the least number from 1 on that is
+/// neither in the folder nor a target's. The answer is `NameTooLong` where one of them has more than 255 bytes.
+pub fn asides(
+    alloc: Global,
+    folder: &Folder,
+    set: &ParSet,
+    names: &[Name],
+) -> Result<Vec<Name>, Fault>
+    ensures refused { FailsFor (long_aside folder.now.files set.now names.now) result }
+    ensures short { IfOk result (λ _. long_aside folder.now.files set.now names.now ≡ None) }
+    ensures names { Lists (map (aside folder.now.files set.now) names.now) result }
+    ensures few { IfOk result (λ _. AreFew folder.now.files set.now) }
+{
+    let targets = target_names(alloc, set)?;
+    let most = tries(folder, set);
+    let mut asides = Vec::with_capacity(alloc, names.len())?;
+    for name in names {
+        let other = aside(alloc, folder, set, &targets, most, name)?;
+        asides.push(other)?;
+    }
+    Ok(asides)
 }

@@ -11,12 +11,9 @@ ghost use Rattle.par2_sets.specs.Slices.{recovered_of, exponents_of};
 ghost use Rattle.par2_sets.specs.Steps.{Gives, targets_in, set_in};
 
 use crate::Target;
-use crate::descriptions::descriptions;
-use crate::main_packet::sized_main;
 use crate::packets::{first_id, packets_of};
-use crate::profile::names_in_profile;
-use crate::recovery::recovery_of;
-use crate::targets::targets_of;
+use crate::parts::{descriptions, recovery_of, sized_main};
+use crate::targets::{names_in_profile, targets_of};
 use par2_folder::{Folder, Name};
 use par2_packets::{MainView, Packet};
 use par2_spec::Fault;

@@ -1,16 +1,23 @@
 //! The files that a set describes.
 
-ghost use Rattle.std.specs.Prelude.{◌≡◌, ◌≤◌, List, map};
-ghost use Rattle.par2_spec.specs.Packets as spec;
+ghost use Rattle.std.specs.Prelude.{◌≡◌, ◌≤◌, List, map, ◌==◌, nat_le, length, sum_by, true, is_some, IfOk, IfSome};
 ghost use Rattle.par2_packets.specs.Views.{packet_of};
 ghost use Rattle.par2_sets.specs.Firsts.{HoldChecksums};
 ghost use Rattle.par2_sets.specs.Steps.{Gives, targets_or_fault, target_or_fault};
+ghost use Rattle.std.specs.List.{list_all};
+ghost use Rattle.par2_spec.specs.Names.{distinct, is_name};
+ghost use Rattle.par2_spec.specs.Sets.{are_in_profile, unless};
+ghost use Rattle.par2_spec.specs.Slices.{slice_count};
+ghost use Rattle.par2_spec.specs.declared.Fault.TheVariants.{BadSet};
+ghost use Rattle.par2_spec.specs.Packets as spec;
 
-use crate::checksums::{Checksums, checksums_in, pairs_for};
+use crate::parts::{Checksums, checksums_in, pairs_for};
 use par2_folder::Name;
 use par2_packets::{DescView, Packet, Pair};
+use par2_slices::{MOST_SLICES, slice_count};
 use par2_spec::Fault;
-use std::alloc::Global;
+use std::alloc::{AllocError, Global};
+use std::collections::BTreeSet;
 use std::marker::Model;
 
 /// A file that a set describes.
@@ -81,27 +88,6 @@ fn target_of(
     })
 }
 
-// The targets of the descriptions and their names, in order, by the checksums of all.
-fn targets_by(
-    alloc: Global,
-    checksums: &Checksums,
-    s: u64,
-    descriptions: &[DescView],
-    names: &[Name],
-) -> Result<Vec<Target>, Fault>
-    requires size { 1 ≤ s }
-    requires names { names.now ≡ map (λ d. d.name) descriptions.now }
-    ensures { (packets : List spec.Packet) → HoldChecksums packets checksums.now →
-        Gives (λ targets. targets.items) result (targets_or_fault packets s descriptions.now) }
-{
-    let mut targets = Vec::new(alloc);
-    for (description, name) in descriptions.iter().zip(names) {
-        let target = target_of(alloc, checksums, s, description, name)?;
-        targets.push(target)?;
-    }
-    Ok(targets)
-}
-
 /// The targets of the descriptions and their names, in order.
 pub(crate) fn targets_of(
     alloc: Global,
@@ -116,5 +102,68 @@ pub(crate) fn targets_of(
         Gives (λ targets. targets.items) result all }
 {
     let checksums = checksums_in(alloc, packets)?;
-    targets_by(alloc, &checksums, s, descriptions, names)
+    let mut targets = Vec::new(alloc);
+    for (description, name) in descriptions.iter().zip(names) {
+        let target = target_of(alloc, &checksums, s, description, name)?;
+        targets.push(target)?;
+    }
+    Ok(targets)
+}
+
+// Whether the files have no more slices than a set may have.
+fn have_few_slices(s: u64, descriptions: &[DescView]) -> bool
+    requires { 1 ≤ s }
+    ensures { result ≡ nat_le (sum_by (λ d. slice_count s d.length) descriptions.now) 32768 }
+{
+    let mut left = MOST_SLICES;
+    for description in descriptions {
+        let count = slice_count(description.length(), s);
+        if count > left {
+            return false;
+        }
+        left -= count;
+    }
+    true
+}
+
+// The names of the files, where the bytes of each are one.
+fn names_of(alloc: Global, descriptions: &[DescView]) -> Result<Vec<Name>, Fault>
+    ensures test { let test = unless (list_all (λ d. is_name d.name) descriptions.now) BadSet in
+        Gives (λ _. true) result test }
+    ensures value { IfOk result (λ names. names.items ≡ map (λ d. d.name) descriptions.now) }
+{
+    let mut names = Vec::new(alloc);
+    for description in descriptions {
+        let name = Name::from_bytes(description.name_bytes()).ok_or(Fault::BadSet)?;
+        names.push(name)?;
+    }
+    Ok(names)
+}
+
+// Whether each name stands there once.
+fn are_distinct(alloc: Global, names: &[Name]) -> Result<bool, AllocError>
+    ensures { IfOk result (λ b. b ≡ (length (distinct names.now) == length names.now)) }
+{
+    let set = names.iter().collect::<BTreeSet<&Name>>(alloc)?;
+    Ok(set.len() == names.len())
+}
+
+/// The names of the files, where the profile takes the files.
+pub(crate) fn names_in_profile(
+    alloc: Global,
+    s: u64,
+    descriptions: &[DescView],
+) -> Result<Vec<Name>, Fault>
+    requires { 1 ≤ s }
+    ensures test { Gives (λ _. true) result (unless (are_in_profile s descriptions.now) BadSet) }
+    ensures value { IfOk result (λ names. names.items ≡ map (λ d. d.name) descriptions.now) }
+{
+    if !have_few_slices(s, descriptions) {
+        return Err(Fault::BadSet);
+    }
+    let names = names_of(alloc, descriptions)?;
+    if !are_distinct(alloc, &names)? {
+        return Err(Fault::BadSet);
+    }
+    Ok(names)
 }

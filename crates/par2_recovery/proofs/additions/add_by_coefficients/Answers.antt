@@ -1,18 +1,22 @@
-use Rattle.par2_recovery.proofs.Common.{◌≡◌, ◌<◌, ◌≤◌, ◌+◌, ◌-◌, ◌*◌, ◌∙◌, ℕ, List, Vec, Global, sym, ap, subst, arith, length, min, lists_of, slice_begins, within, AddsAt, still_within, products, all_coefficients, texts_of}
+use Rattle.par2_recovery.proofs.Common.{◌≡◌, get_or, map, coefficients, ◌<◌, ◌≤◌, ◌+◌, ◌-◌, ◌*◌, ◌∙◌, ℕ, List, Vec, Global, sym, ap, subst, arith, length, min, lists_of, slice_begins, within, AddsAt, still_within, products, all_coefficients, texts_of}
 use Rattle.std.proofs.lemmas.Grind.{div_ceil_times}
 use Rattle.par2_recovery.proofs.AdditionLaws.{products_are, columns_place, no_columns_yet, next_columns, all_columns_added}
-use Rattle.par2_recovery.proofs.Combinations.{length-texts_of, rows_long, length-rows}
+use Rattle.par2_recovery.proofs.Combinations.{length-texts_of, range-lt, rows_long, length-rows}
 use Rattle.par2_recovery.proofs.additions.add_by_coefficients.Goals as goal
 
+pub rows_over-requires : goal.rows_over-requires
+rows_over-requires c = λ i.
+    subst (λ xs. get_or xs i 0 < 32768) (sym (c.deref.ensures.value ∙ c.in_ok-numbers.ensures)) (range-lt (length c.args.slices.now) i 32768 c.requires.slices (omega arith))
+
 pub add_columns-requires-clause-rows : goal.add_columns-requires-clause-rows
-add_columns-requires-clause-rows c = length-rows (length c.args.slices.now) c.args.exponents.now c.deref.result.now (ap lists_of c.deref.ensures.value ∙ c.in_ok-rows.ensures) ∙ c.requires.count
+add_columns-requires-clause-rows c = length-rows (length c.args.slices.now) c.args.exponents.now c.deref-in-loop-block.result.now (ap lists_of c.deref-in-loop-block.ensures.value ∙ (c.in_ok-rows.ensures ∙ ap (λ ns. map (coefficients ns) c.args.exponents.now) (c.deref.ensures.value ∙ c.in_ok-numbers.ensures))) ∙ c.requires.count
 
 pub add_columns-requires-clause-factors : goal.add_columns-requires-clause-factors
 add_columns-requires-clause-factors c = λ r h.
     let n = length c.args.slices.now in
-    let rows : lists_of c.deref.result.now ≡ all_coefficients n c.args.exponents.now = ap lists_of c.deref.ensures.value ∙ c.in_ok-rows.ensures in
-    let count = length-rows n c.args.exponents.now c.deref.result.now rows in
-    let long = rows_long n c.args.exponents.now (lists_of c.deref.result.now) rows r (omega (arith, h, count)) in
+    let rows : lists_of c.deref-in-loop-block.result.now ≡ all_coefficients n c.args.exponents.now = ap lists_of c.deref-in-loop-block.ensures.value ∙ (c.in_ok-rows.ensures ∙ ap (λ ns. map (coefficients ns) c.args.exponents.now) (c.deref.ensures.value ∙ c.in_ok-numbers.ensures)) in
+    let count = length-rows n c.args.exponents.now c.deref-in-loop-block.result.now rows in
+    let long = rows_long n c.args.exponents.now (lists_of c.deref-in-loop-block.result.now) rows r (omega (arith, h, count)) in
     omega (arith, long)
 
 pub add_columns-requires-clause-room : goal.add_columns-requires-clause-room
@@ -60,7 +64,7 @@ loop-block-preserved c =
     let here : min words (k * size) ≡ k * size = omega (arith, low) in
     let there : k * size + c.min.result ≡ min words ((k + 1) * size) = omega (arith, place, next, low) in
     let added : AddsAt c.args.outputs.now.places.now c.args.outputs.now.words (λ t p. within from to p (products n (lists_of rows) slices t p)) half texts =
-    subst (λ (xs : List (Vec ℕ Global)). AddsAt c.args.outputs.now.places.now c.args.outputs.now.words (λ t p. within from to p (products n (lists_of xs) slices t p)) half texts) c.deref.ensures.value c.in_ok-add_columns.ensures in
+    subst (λ (xs : List (Vec ℕ Global)). AddsAt c.args.outputs.now.places.now c.args.outputs.now.words (λ t p. within from to p (products n (lists_of xs) slices t p)) half texts) c.deref-in-loop-block.ensures.value c.in_ok-add_columns.ensures in
     next_columns c.args.outputs.now.places.now c.args.outputs.now.words (min words (k * size)) from to (min words ((k + 1) * size)) (products n (lists_of rows) slices) (lists_of c.args.texts.now) half texts
     here there (omega (arith, place)) c.loop-block.invariant added
 
@@ -77,5 +81,5 @@ returns c =
     let k = c.loop-block.block in
     let end : k ≡ c.div_ceil-block-end.result = omega (arith, c.loop-block-test.false, c.loop-block.auto.block-end) in
     let enough : words ≤ k * size = subst (λ n. words ≤ n * size) (sym (end ∙ c.div_ceil-block-end.ensures)) (div_ceil_times words size (omega (arith, some))).0 in
-    products_are n words c.args.exponents.now rows slices was new c.args.outputs.now.places.now c.in_ok-rows.ensures (sym (length-texts_of c.args.slices.now)) c.requires.count
+    products_are n words c.args.exponents.now rows slices was new c.args.outputs.now.places.now (c.in_ok-rows.ensures ∙ ap (λ ns. map (coefficients ns) c.args.exponents.now) (c.deref.ensures.value ∙ c.in_ok-numbers.ensures)) (sym (length-texts_of c.args.slices.now)) c.requires.count
     (all_columns_added c.args.outputs.now.places.now c.args.outputs.now.words (min words (k * size)) (products n rows slices) was new (omega (arith, enough)) c.loop-block.invariant)

@@ -8,14 +8,7 @@ returns-clause-changed c = written_changed c.args.lists.now c.args.r _
 pub returns-clause-added : goal.returns-clause-added
 returns-clause-added c =
     let was = get_or c.args.lists.now c.args.r c.index-lists-r.result in
-    let size : length c.add_words.new.target ≡ was.len = search rules in
-    let after = written_here c.args.lists.now c.args.r (with_items was c.add_words.new.target) c.requires.place ∙ with_items_is was c.add_words.new.target size in
+    let size : length c.mul_add_columns.new.dst ≡ was.len = search rules in
+    let after = written_here c.args.lists.now c.args.r (with_items was c.mul_add_columns.new.dst) c.requires.place ∙ with_items_is was c.mul_add_columns.new.dst size in
     let before : c.as_mut_slice.result.now ≡ list_at (lists_of c.args.lists.now) c.args.r = search (rules, read_at) in
-    rw (after, ← before) c.add_words.ensures.added
-
-pub returns-clause-bytes : goal.returns-clause-bytes
-returns-clause-bytes c =
-    let was = get_or c.args.lists.now c.args.r c.index-lists-r.result in
-    let size : length c.add_words.new.target ≡ was.len = search rules in
-    let after = written_here c.args.lists.now c.args.r (with_items was c.add_words.new.target) c.requires.place ∙ with_items_is was c.add_words.new.target size in
-    rw after c.add_words.ensures.bytes
+    rw (after, ← before) c.mul_add_columns.ensures

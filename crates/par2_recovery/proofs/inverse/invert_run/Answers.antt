@@ -1,0 +1,28 @@
+use Rattle.par2_recovery.proofs.Common.{◌∙◌, sym, subst, arith, length, List, ℕ, length-map, length-take-le, lists_of, run_determines, IsInverse, recovered_of, exponents_of}
+use Rattle.par2_recovery.proofs.Beginnings.{front_within, has_run_front, kept_slices_front, recovered_front, exponents_front}
+use Rattle.par2_recovery.proofs.Inverting.{length-recovered_of}
+use Rattle.par2_recovery.proofs.inverse.invert_run.Goals as goal
+
+pub slice_bounds-from_slice-end : goal.slice_bounds-from_slice-end
+slice_bounds-from_slice-end c =
+    let recovery = c.args.recovery.now in
+    let inner = length-recovered_of recovery in
+    let outer = length-map (recovered_of recovery) (λ (r : ℕ × List ℕ). r.0) in
+    let most = front_within (exponents_of recovery) c.args.first (length c.args.lost.now) c.requires.run in
+    sym (length-take-le (length c.args.lost.now) recovery (omega (arith, inner, outer, most)))
+
+pub returns-clause-kept : goal.returns-clause-kept
+returns-clause-kept c =
+    recovered_front c.args.recovery.now c.in_ok-kept.kept.items (length c.args.lost.now) c.in_ok-kept.ensures.items
+    ∙ sym (kept_slices_front c.args.lost.now (recovered_of c.args.recovery.now) c.args.first c.requires.lost c.requires.exponents c.requires.run)
+
+pub returns-clause-inverse : goal.returns-clause-inverse
+returns-clause-inverse c =
+    let lost = c.args.lost.now in
+    let front = recovered_front c.args.recovery.now c.in_ok-kept.kept.items (length lost) c.in_ok-kept.ensures.items in
+    subst (λ es. IsInverse lost es (lists_of c.in_ok-inverse.inverse.items))
+    (sym (exponents_front c.args.recovery.now c.in_ok-kept.kept.items c.args.first (length lost) c.requires.run front)) c.in_ok-inverse.ensures
+
+pub returns-clause-enough : goal.returns-clause-enough
+returns-clause-enough c = λ _.
+    run_determines c.args.lost.now (exponents_of c.args.recovery.now) c.args.first c.requires.lost (has_run_front (exponents_of c.args.recovery.now) c.args.first (length c.args.lost.now) c.requires.run)

@@ -1,0 +1,11 @@
+use Rattle.par2_sets.proofs.Common.{◌≡◌, ◌<◌, length, rules, numbered}
+use Rattle.std.proofs.Common.{IfErr}
+use Rattle.par2_sets.proofs.TakenNames.{long_where_err}
+use Rattle.par2_sets.proofs.listing.numbered.Goals as goal
+
+pub returns-clause-refused : goal.returns-clause-refused
+returns-clause-refused c =
+    let text = numbered c.args.name.now c.args.n in
+    let is : c.deref.result.now ≡ text = search rules in
+    let long : IfErr c.new.result (λ _. 255 < length text) = long_where_err c.new.result c.args.name.now c.args.n c.deref.result.now c.ranges.n.fits c.numbered_text.ensures.name is c.new.ensures.variant.1 in
+    search rules

@@ -1,5 +1,0 @@
-use Rattle.par2_sets.proofs.Common.{◌≡◌, map, drop, main_of, packet_of}
-use Rattle.par2_sets.proofs.main_packet.main_of.Given as goal
-
-abbrev pub invariant-loop-packet : goal.invariant-loop-packet
-invariant-loop-packet l = main_of l.id (map packet_of (drop l.packet-index l.packets)) ≡ main_of l.id (map packet_of l.packets)

@@ -1,0 +1,24 @@
+use Rattle.par2_sets.proofs.Common.{◌≡◌, ◌∙◌, ◌++◌, ◌∷◌, [], inr, sym, ap, rules, Some, Err, arith, ok_or, map, packet_of, description_of, NoDescription}
+use Rattle.par2_sets.proofs.Lists.{item_at, all_some_more}
+use Rattle.par2_sets.proofs.Refusals.{passed_on, one_missing}
+use Rattle.par2_sets.proofs.parts.descriptions.Goals as goal
+
+pub returns-in_err-description : goal.returns-in_err-description
+returns-in_err-description c =
+    let packets = map packet_of c.args.packets.now in
+    let ids = c.args.main.now.ids in
+    let found = description_of packets in
+    let at = item_at ids c.loop-k.k _ c.id.ensures in
+    let missing : ok_or (found c.id.result) NoDescription ≡ Err c.in_err-description.field-0.0 = ap (λ o. ok_or o NoDescription) (sym (c.description_of.ensures packets c.in_ok-firsts.ensures)) ∙ sym c.ok_or.ensures.value ∙ c.in_err-description.was in
+    passed_on _ _ _ _ c.from_residual-in_err-description.ensures.1 (inr (one_missing found ids c.loop-k.k c.id.result NoDescription _ at.0 at.1 missing))
+
+pub loop-k-preserved : goal.loop-k-preserved
+loop-k-preserved c =
+    let packets = map packet_of c.args.packets.now in
+    let ids = c.args.main.now.ids in
+    let found = description_of packets in
+    let at = item_at ids c.loop-k.k _ c.id.ensures in
+    let there : c.description_of.result ≡ Some c.in_ok-description.description = grind arith in
+    let pushed : c.push.new.self.items ≡ c.loop-k.descriptions.items ++ c.in_ok-description.description ∷ [] = search rules in
+    all_some_more found ids c.loop-k.k c.id.result c.loop-k.descriptions.items c.in_ok-description.description at.0 at.1 c.loop-k.invariant (sym (c.description_of.ensures packets c.in_ok-firsts.ensures) ∙ there)
+    ∙ ap Some (sym pushed)

@@ -1,0 +1,5 @@
+use Rattle.par2_sets.proofs.Common.{◌≡◌, Some, length, map, take, all_some, packet_of, target_of}
+use Rattle.par2_sets.proofs.targets.targets_of.Given as goal
+
+abbrev pub invariant-loop-description : goal.invariant-loop-description
+invariant-loop-description l = all_some (map (target_of (map packet_of l.packets) l.s) (take (length l.yielded) l.descriptions)) ≡ Some l.targets.items

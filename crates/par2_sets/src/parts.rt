@@ -1,0 +1,212 @@
+//! What the packets of a set say: its Main, and the first description, checksums or recovery slice of each key.
+
+ghost use Rattle.std.specs.Prelude.{◌≡◌, ◌≤◌, map, IfOk, OnOk, List, ℕ, option_map};
+ghost use Rattle.par2_spec.specs.Sets.{main_of, description_of, pairs_of, recovery_of};
+ghost use Rattle.par2_packets.specs.Views.{packet_of};
+ghost use Rattle.par2_sets.specs.Steps.{Gives, main_or_fault, descriptions_of, checksums_for};
+ghost use Rattle.par2_sets.specs.Firsts.{KeepsFirst, HoldDescriptions, HoldChecksums};
+ghost use Rattle.std.specs.BTreeMap.{IsOrdered};
+ghost use Rattle.std.specs.FinMap.{entries};
+ghost use Rattle.std.specs.List.Sorted.{IsStrictlyIncreasing};
+ghost use Rattle.std.specs.Ordering.{nat_cmp};
+ghost use Rattle.par2_sets.specs.Slices.{slice_if, entry_of, exponents_of, recovered_of};
+ghost use Rattle.par2_spec.specs.Packets as spec;
+
+use md5::{Digest, Md5};
+use par2_packets::{
+    DescView, IfscView, MainView, Packet, Pair, read_desc, read_ifsc, read_main, read_recovery,
+};
+use par2_slices::{is_slice_size, slice_count};
+use par2_spec::Fault;
+use std::alloc::{AllocError, Global};
+use std::collections::BTreeMap;
+
+// The first well-formed Main whose body has the identifier as its MD5.
+fn main_of<'a>(packets: &[Packet<'a>], id: &[u8; 16]) -> Option<MainView<'a>>
+    ensures { result ≡ main_of id.now (map packet_of packets.now) }
+{
+    for packet in packets {
+        if let Some(main) = read_main(packet)
+            && Md5::digest(packet.body) == *id
+        {
+            return Some(main);
+        }
+    }
+    None
+}
+
+/// The Main of the packets, where a set may have its slice size.
+pub(crate) fn sized_main<'a>(packets: &[Packet<'a>], id: &[u8; 16]) -> Result<MainView<'a>, Fault>
+    ensures main { Gives (λ main. main) result (main_or_fault id.now (map packet_of packets.now)) }
+    ensures size { IfOk result (λ main. 1 ≤ main.slice_size) }
+{
+    let main = main_of(packets, id).ok_or(Fault::NoMain)?;
+    if !is_slice_size(main.slice_size()) {
+        return Err(Fault::BadSet);
+    }
+    Ok(main)
+}
+
+// Puts a value into the map, unless there is one of its key.
+fn keep_first<K: Ord + Drop, V: Drop>(
+    firsts: &mut BTreeMap<K, V>,
+    key: K,
+    value: V,
+) -> Result<(), AllocError>
+    ensures { OnOk result (KeepsFirst K.cmp firsts.old firsts.new key value) }
+{
+    if !firsts.contains_key(&key) {
+        firsts.insert(key, value)?;
+    }
+    Ok(())
+}
+
+// The first well-formed FileDesc of each File ID.
+fn by_id<'a>(
+    alloc: Global,
+    packets: &[Packet<'a>],
+) -> Result<BTreeMap<[u8; 16], Packet<'a>>, AllocError>
+    ensures { IfOk result (HoldDescriptions (map packet_of packets.now)) }
+{
+    let mut firsts = BTreeMap::new(alloc);
+    for packet in packets {
+        if let Some(description) = read_desc(packet) {
+            keep_first(&mut firsts, description.id(), *packet)?;
+        }
+    }
+    Ok(firsts)
+}
+
+// The description of this File ID.
+fn description_of<'a>(
+    firsts: &BTreeMap<[u8; 16], Packet<'a>>,
+    id: &[u8; 16],
+) -> Option<DescView<'a>>
+    ensures { (packets : List spec.Packet) → HoldDescriptions packets firsts.now
+        → result ≡ description_of packets id.now }
+{
+    read_desc(firsts.get(id)?)
+}
+
+/// The descriptions of the files of the Main, in its order.
+pub(crate) fn descriptions<'a>(
+    alloc: Global,
+    packets: &[Packet<'a>],
+    main: &MainView,
+) -> Result<Vec<DescView<'a>>, Fault>
+    ensures { Gives (λ ds. ds.items) result (descriptions_of (map packet_of packets.now)
+        main.now.ids) }
+{
+    let firsts = by_id(alloc, packets)?;
+    let mut descriptions = Vec::new(alloc);
+    for k in 0..main.count() {
+        let description = description_of(&firsts, &main.id(k)).ok_or(Fault::NoDescription)?;
+        descriptions.push(description)?;
+    }
+    Ok(descriptions)
+}
+
+/// The first well-formed IFSC of each File ID with each number of slices.
+pub(crate) type Checksums<'a> = BTreeMap<([u8; 16], u64), IfscView<'a>>;
+
+/// The checksums that the packets have, by File ID and number of slices.
+pub(crate) fn checksums_in<'a>(
+    alloc: Global,
+    packets: &[Packet<'a>],
+) -> Result<Checksums<'a>, AllocError>
+    ensures { IfOk result (HoldChecksums (map packet_of packets.now)) }
+{
+    let mut firsts = BTreeMap::new(alloc);
+    for packet in packets {
+        if let Some(checksums) = read_ifsc(packet) {
+            let count = checksums.count() as u64;
+            keep_first(&mut firsts, (checksums.id(), count), checksums)?;
+        }
+    }
+    Ok(firsts)
+}
+
+// The checksums of this File ID with so many slices.
+fn checksums_of<'c, 'a>(
+    firsts: &'c Checksums<'a>,
+    id: [u8; 16],
+    count: u64,
+) -> Option<&'c IfscView<'a>>
+    ensures { (packets : List spec.Packet) → HoldChecksums packets firsts.now
+        → option_map (λ c. c.now.pairs) result ≡ pairs_of packets id count }
+{
+    firsts.get(&(id, count))
+}
+
+// The pairs of an IFSC.
+fn pairs_in(alloc: Global, checksums: &IfscView) -> Result<Vec<Pair>, AllocError>
+    ensures { IfOk result (λ pairs. pairs.items ≡ checksums.now.pairs) }
+{
+    let mut pairs = Vec::with_capacity(alloc, checksums.count())?;
+    for k in 0..checksums.count() {
+        pairs.push(checksums.pair(k))?;
+    }
+    Ok(pairs)
+}
+
+/// The checksums of the slices of a file. A file without bytes needs none.
+pub(crate) fn pairs_for(
+    alloc: Global,
+    firsts: &Checksums,
+    s: u64,
+    description: &DescView,
+) -> Result<Vec<Pair>, Fault>
+    requires { 1 ≤ s }
+    ensures { (packets : List spec.Packet) → HoldChecksums packets firsts.now →
+        Gives (λ list. list.items) result (checksums_for packets s description.now) }
+{
+    if description.length() == 0 {
+        return Ok(Vec::new(alloc));
+    }
+    let count = slice_count(description.length(), s);
+    let checksums = checksums_of(firsts, description.id(), count).ok_or(Fault::NoChecksums)?;
+    Ok(pairs_in(alloc, checksums)?)
+}
+
+// The recovery slice of a packet with its exponent, where both can be used.
+fn recovery_slice<'a>(packet: &Packet<'a>, s: u64) -> Option<(u32, &'a [u8])>
+    ensures { option_map entry_of result ≡ slice_if s (packet_of packet.now) }
+{
+    let recovery = read_recovery(packet)?;
+    let (exponent, bytes) = (recovery.exponent(), recovery.bytes());
+    (exponent < 65536 && bytes.len() as u64 == s).then_some((exponent, bytes))
+}
+
+// The entries of the map, in the order of the exponents.
+fn in_order<'a>(
+    alloc: Global,
+    slices: &BTreeMap<u32, &'a [u8]>,
+) -> Result<Vec<(u32, &'a [u8])>, AllocError>
+    ensures value { IfOk result (λ list. list.items ≡ slices.now.entries) }
+    ensures rising { IsOrdered nat_cmp slices.now }
+{
+    slices
+        .iter()
+        .map(|(exponent, bytes)| (*exponent, *bytes))
+        .collect(alloc)
+}
+
+/// For each exponent below 65,536 its first recovery slice of `s` bytes, in the order of the
+/// exponents.
+pub(crate) fn recovery_of<'a>(
+    alloc: Global,
+    packets: &[Packet<'a>],
+    s: u64,
+) -> Result<Vec<(u32, &'a [u8])>, AllocError>
+    ensures value { let all = recovery_of (map packet_of packets.now) s in
+        IfOk result (λ recovery. recovered_of recovery.items ≡ entries all) }
+    ensures rising { IfOk result (λ recovery. IsStrictlyIncreasing (exponents_of recovery.items)) }
+{
+    let mut slices = BTreeMap::new(alloc);
+    for packet in packets {
+        if let Some((exponent, bytes)) = recovery_slice(packet, s) {
+            keep_first(&mut slices, exponent, bytes)?;
+        }
+    }
+    in_order(alloc, &slices)
+}
