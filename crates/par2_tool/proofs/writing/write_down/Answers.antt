@@ -1,7 +1,12 @@
-use Rattle.par2_tool.proofs.Common.{rules, map, on_err_weaker, change_of, IsStoppedAt}
+use Rattle.par2_tool.proofs.Common.{map, Result, Ok, Err, ap, sym, ◌∙◌, OnOk, on_err_weaker, with_journal, change_of, with_all_changes, IsStoppedAt, IsErr, true≢false, on_ok_weaker}
 use Rattle.par2_tool.proofs.Openings.{any_err}
 use Rattle.par2_tool.proofs.Remains.{begun_remains, some_remain, ended_remains}
 use Rattle.par2_tool.proofs.writing.write_down.Goals as goal
+
+-- what was refused is not done
+none_done : {T E : Type 0} (r : Result T E) (P : Type 0) → IsErr r → OnOk r P
+none_done (Ok v) P is = absurd (true≢false (sym is))
+none_done (Err e) P is = tt
 
 pub returns-in_err-begin-clause-written : goal.returns-in_err-begin-clause-written
 returns-in_err-begin-clause-written g c =
@@ -12,7 +17,7 @@ returns-in_err-begin-clause-written g c =
     let begun = c.begin.ensures.written in
     record {
       honest = begun.honest;
-      done = search rules;
+      done = λ h. none_done c.from_residual.result _ c.from_residual.ensures.0;
       stopped = λ h. any_err c.from_residual.result (IsStoppedAt old journals changes new) (begun_remains old journals changes new (c.in_err-begin.ensures.written.stopped h));
       remains = λ h lasts left may. begun_remains old journals changes left (begun.remains h lasts left may);
     }
@@ -28,7 +33,7 @@ returns-in_err-write_changes-clause-written g c =
     let some = c.write_changes.ensures.written in
     record {
       honest = λ h. some.honest (begun.written.honest h);
-      done = search rules;
+      done = λ h. none_done c.from_residual-in_err-write_changes.result _ c.from_residual-in_err-write_changes.ensures.0;
       stopped = λ h. any_err c.from_residual-in_err-write_changes.result (IsStoppedAt old journals changes new)
           (some_remain old journals changes mid new (begun.written.done h) (c.in_err-write_changes.ensures.written.stopped (begun.written.honest h)));
       remains = λ h lasts left may. some_remain old journals changes mid left (begun.written.done h) (some.remains (begun.written.honest h) (begun.kept h lasts) left may);
@@ -47,7 +52,9 @@ returns-clause-written g c =
     let put = c.put_journal.ensures.put.writes in
     record {
       honest = λ h. put.honest (all.written.honest (begun.written.honest h));
-      done = search rules;
+      done = λ h.
+          on_ok_weaker c.put_journal.result (λ e. e ∙ ap (λ k. with_journal k journals.after.items) (all.written.done (begun.written.honest h) ∙ ap (λ k. with_all_changes k changes) (begun.written.done h)))
+          (rw c.deref.ensures.value at (put.done (all.written.honest (begun.written.honest h))));
       stopped = λ h.
           let either = rw c.deref.ensures.value at (put.all_or_none (all.written.honest (begun.written.honest h))) in
           on_err_weaker c.put_journal.result (ended_remains old journals changes mid made new (begun.written.done h) (all.written.done (begun.written.honest h))) either;
