@@ -1,10 +1,10 @@
-use Rattle.par2_tool.proofs.Common.{◌≡◌, ◌+◌, List, length, refl, sym, ap, subst, ◌∙◌, map, arith, length-map, Verify, LeadsToAfterAsked, session_of_kept, session_after, changes_asked, Contents, action_of, command_of, report_of, MayRefuse, Plan, Two, AreSpelled, change_of, changes_by_kind, after_commit, AreAtMost, calls_asked, calls_to_write, TellsApartAlong, OpensAsBeforeOrAfter, after_write_down, AreSomeMade, HoldsJournaled, IsStoppedAt, IsWritten, journals_of}
+use Rattle.par2_tool.proofs.Common.{inl, IsVerify, ◌≡◌, ◌+◌, List, length, refl, sym, ap, subst, ◌∙◌, map, arith, length-map, Verify, LeadsToAfterAsked, session_of_kept, session_after, changes_asked, Contents, action_of, command_of, report_of, MayRefuse, Plan, Two, AreSpelled, change_of, changes_by_kind, after_commit, AreAtMost, calls_asked, calls_to_write, TellsApartAlong, OpensAsBeforeOrAfter, after_write_down, AreSomeMade, HoldsJournaled, IsStoppedAt, IsWritten, journals_of}
 use Rattle.par2_spec.specs.Changes as defined
 use Rattle.par2_spec.specs.declared.commands.Command.{Command}
 use Rattle.par2_spec.proofs.AcceptedCommands.{command_leads}
 use Rattle.par2_tool.proofs.Calls.{asked_calls, ready_calls}
 use Rattle.par2_tool.proofs.Openings.{any_err}
-use Rattle.par2_tool.proofs.VerifyRuns.{as_it_was, verify_leaves, verify_refused, written_by}
+use Rattle.par2_tool.proofs.VerifyRuns.{as_it_was, not_verify, verify_leaves, verify_refused, written_by}
 use Rattle.par2_tool.proofs.Stops.{IsMadeReady, none_made, made_ready, ready_applies, written_holds, written_journal, stopped_opens, asked_in_order}
 use Rattle.par2_tool.proofs.performing.perform.Goals.{After-write_down}
 use Rattle.par2_tool.proofs.performing.perform.Goals as goal
@@ -41,6 +41,59 @@ returns-in_err-journals-clause-in_order g c honest =
     let files = (g.S.Store.contents c.args.store.now).files in
     let asked = changes_asked (session_of_kept c.args.session.now) (command_of c.args.command.now) in
     any_err c.from_residual.result (AreSomeMade asked files files) (none_made files asked)
+
+-- ---- where the store is left alone
+
+pub returns-in-Ok-clause-cut : goal.returns-in-Ok-clause-cut
+returns-in-Ok-clause-cut g c honest lasts files apart left may = inl (lasts left may)
+
+pub returns-in-Ok-clause-possible : goal.returns-in-Ok-clause-possible
+returns-in-Ok-clause-possible g c honest files = refl {a = g.S.Store.impossible c.args.store.now}
+
+pub returns-in-Err-clause-cut : goal.returns-in-Err-clause-cut
+returns-in-Err-clause-cut g c honest lasts files apart left may = inl (lasts left may)
+
+pub returns-in-Err-clause-possible : goal.returns-in-Err-clause-possible
+returns-in-Err-clause-possible g c honest files = refl {a = g.S.Store.impossible c.args.store.now}
+
+pub returns-in-Err-prepare-clause-cut : goal.returns-in-Err-prepare-clause-cut
+returns-in-Err-prepare-clause-cut g c honest lasts files apart left may = inl (lasts left may)
+
+pub returns-in-Err-prepare-clause-possible : goal.returns-in-Err-prepare-clause-possible
+returns-in-Err-prepare-clause-possible g c honest files = refl {a = g.S.Store.impossible c.args.store.now}
+
+pub returns-in_err-journals-clause-cut : goal.returns-in_err-journals-clause-cut
+returns-in_err-journals-clause-cut g c honest lasts files apart left may = inl (lasts left may)
+
+pub returns-in_err-journals-clause-possible : goal.returns-in_err-journals-clause-possible
+returns-in_err-journals-clause-possible g c honest files = refl {a = g.S.Store.impossible c.args.store.now}
+
+pub returns-in-Err-clause-stopped : goal.returns-in-Err-clause-stopped
+returns-in-Err-clause-stopped g c honest files apart = inl (refl {a = g.S.Store.contents c.args.store.now})
+
+pub returns-in-Err-prepare-clause-stopped : goal.returns-in-Err-prepare-clause-stopped
+returns-in-Err-prepare-clause-stopped g c honest files apart = inl (refl {a = g.S.Store.contents c.args.store.now})
+
+pub returns-in_err-journals-clause-stopped : goal.returns-in_err-journals-clause-stopped
+returns-in_err-journals-clause-stopped g c honest files apart =
+    let start = g.S.Store.contents c.args.store.now in
+    any_err c.from_residual.result (OpensAsBeforeOrAfter (session_of_kept c.args.session.now) (command_of c.args.command.now) start start) (inl refl)
+
+-- ---- no action is a verify
+
+pub returns-in-Err-prepare-clause-verify : goal.returns-in-Err-prepare-clause-verify
+returns-in-Err-prepare-clause-verify g c is = absurd (not_verify c.in-Act.action (subst (λ (x : Command). IsVerify (command_of x)) c.in-Act.is is))
+
+pub returns-in_err-journals-clause-verify : goal.returns-in_err-journals-clause-verify
+returns-in_err-journals-clause-verify g c is = absurd (not_verify c.in-Act.action (subst (λ (x : Command). IsVerify (command_of x)) c.in-Act.is is))
+
+pub returns-in-Ok-write_down-clause-verify : goal.returns-in-Ok-write_down-clause-verify
+returns-in-Ok-write_down-clause-verify g c is = absurd (not_verify c.in-Act.action (subst (λ (x : Command). IsVerify (command_of x)) c.in-Act.is is))
+
+pub returns-in-Err-write_down-clause-verify : goal.returns-in-Err-write_down-clause-verify
+returns-in-Err-write_down-clause-verify g c is = absurd (not_verify c.in-Act.action (subst (λ (x : Command). IsVerify (command_of x)) c.in-Act.is is))
+
+-- ---- an action
 
 -- what was made ready, and the changes that were written
 made_of : (g : _) (c : After-write_down g) → IsMadeReady (action_of c.in-Act.action) c.args.session.now c.in-Ok-prepare.prepared c.prepare.new.self
