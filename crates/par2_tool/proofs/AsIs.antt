@@ -1,11 +1,10 @@
 -- What a store is opened as for a command, and what comes of it.
-use Rattle.par2_tool.proofs.Common.{◌≡◌, inl, inr, ℕ, Bool, List, Some, None, Result, Ok, Err, refl, sym, ap, subst, ◌∙◌, IfOk, Action, Command, Do, Verify, Folder, Started, OpensAs, new_session, changes_of, LeadsToAfterAsked, refusal, report_in, Session, KeptSession, changes_unless, session_after, session_of_kept, Contents, Outcome, IsOpening, with_history, IsOpened, IsRead, StandsFor, started_of, IsAnswer, IsReport, IsVerify, IsWritten, IsRefused, failure_for, IsBack, IsDone, IsFailed, SameOutput, PerformFault, Store}
+use Rattle.par2_tool.proofs.Common.{◌≡◌, inl, inr, ℕ, Bool, List, Some, None, Result, Ok, Err, refl, sym, ap, subst, ◌∙◌, IfOk, Action, Command, Do, Verify, Folder, Started, OpensAs, new_session, changes_of, LeadsToAfterAsked, refusal, report_in, Session, KeptSession, changes_unless, session_after, session_of_kept, Contents, Outcome, IsOpening, with_history, IsOpened, IsRead, StandsFor, started_of, IsAnswer, IsReport, IsVerify, IsWritten, IsRefused, failure_for, IsBack, IsDone, IsFailed, SameOutput, PerformFault, Store, Stands, Verifies}
 use Rattle.std.specs.Borrow.{Bor}
 use Rattle.std.specs.Prelude.{Option}
 use Rattle.par2_spec.specs.Sessions.{changes_asked}
 use Rattle.par2_spec.specs.Texts.{output_of}
 use Rattle.par2_spec.specs.declared.commands.Command as given
-use Rattle.par2_tool.specs.StoreOpenings.{Stands, Verifies}
 use Rattle.par2_tool.specs.declared.opening.Started as program
 use Rattle.par2_tool.specs.declared.performing.PerformFault.TheVariants.{Session as Refusing}
 use Rattle.par2_tool.proofs.Calls.{for_verify}

@@ -1,5 +1,5 @@
 -- How many writing calls are made of a store.
-use Rattle.par2_tool.proofs.Common.{◌≡◌, inl, inr, ℕ, ◌+◌, List, [], ◌∷◌, length, Option, Some, None, Result, Ok, Err, refl, sym, ap, subst, ◌∙◌, arith, IfErr, OnOk, Global, Change, Action, Do, Undo, Redo, Create, Verify, Repair, Purge, Folder, Refusal, Opens, Halfway, Started, halfway_where, Session, KeptSession, changes_asked, session_of_kept, Contents, action_of, Two, Ready, changes_by_kind, SpellsWhere, AreSpelled, Plan, NothingToUndo, NothingToRedo, Journals, AreAtMost, AreCallsToOpen, AreCallsToRun, CountsCalls, CountsFailedRun, CountsOpening, IsCalled, calls_asked, calls_before, calls_for, calls_to_write, calls_unless, IsOpening, IsRead, StandsFor, IsVerify, IsSession, failure_for, unopened_as, OpenFault, PerformFault, Store, Vec}
+use Rattle.par2_tool.proofs.Common.{◌≡◌, inl, inr, ℕ, ◌+◌, List, [], ◌∷◌, length, Option, Some, None, Result, Ok, Err, refl, sym, ap, subst, ◌∙◌, arith, Vec, IfErr, OnOk, Global, Change, Action, Do, Undo, Redo, Create, Verify, Repair, Purge, Folder, Refusal, Opens, Halfway, Started, halfway_where, Session, KeptSession, changes_asked, session_of_kept, Contents, action_of, Two, Ready, changes_by_kind, SpellsWhere, AreSpelled, Plan, NothingToUndo, NothingToRedo, Journals, AreAtMost, AreCallsToOpen, AreCallsToRun, CountsCalls, CountsFailedRun, CountsOpening, IsCalled, calls_asked, calls_before, calls_for, calls_to_write, calls_unless, IsOpening, IsRead, StandsFor, IsVerify, IsSession, failure_for, unopened_as, OpenFault, PerformFault, Store}
 use Rattle.par2_spec.specs.Opening.{journals_of}
 use Rattle.par2_spec.specs.declared.commands.Action as asking
 use Rattle.par2_spec.specs.declared.commands.Action.TheVariants as given

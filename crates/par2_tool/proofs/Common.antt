@@ -44,6 +44,7 @@ pub use Rattle.par2_tool.specs.Holding.{HasJournalOf, Holds, IsOpening, IsSettle
 pub use Rattle.par2_tool.specs.Opening.{IsCounted, IsOpened, IsRead, IsStillHalfway, IsTakenBack, IsUnopened, LeavesUnopened, StandsFor, TakesBack, started_of}
 pub use Rattle.par2_tool.specs.Performing.{AreSomeMade, HoldsJournaled, IsAnswer, IsReport, IsStoppedAt, IsVerify, IsWritten, after_write_down, outcome_of, with_all_changes, with_halfway}
 pub use Rattle.par2_tool.specs.Refusals.{IsRefused, IsSession, failure_for, unopened_as}
+pub use Rattle.par2_tool.specs.StoreOpenings.{KeepsStore, Stands, Verifies}
 pub use Rattle.par2_tool.specs.Telling.{Answered, Failed, IsAtTheEnd, IsBack, IsCause, IsDone, IsFailed, IsPrinted, IsRefusedFor, IsStopped, IsUnread, OpensAsBeforeOrAfterRun, SameOutput}
 pub use Rattle.par2_tool.specs.Writing.{AreSomeWritten, IsKept}
 pub use Rattle.par2_tool.specs.declared.opening.OpenFault.{OpenFault}
