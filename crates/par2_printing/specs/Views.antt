@@ -9,8 +9,8 @@ use Rattle.par2_spec.specs.declared.commands.Command.{Command}
 use Rattle.par2_printing.specs.declared.report.PrintedState.{PrintedState}
 use Rattle.par2_printing.specs.declared.report.PrintedState.TheVariants as state
 use Rattle.par2_printing.specs.declared.report.PrintedTarget.{PrintedTarget}
-use Rattle.par2_printing.specs.declared.step.PrintedStep.{PrintedStep}
-use Rattle.par2_printing.specs.declared.step.PrintedStep.TheVariants as step
+use Rattle.par2_printing.specs.declared.report.PrintedStep.{PrintedStep}
+use Rattle.par2_printing.specs.declared.report.PrintedStep.TheVariants as step
 
 abbrev pub step_shown : PrintedStep → Step
 step_shown (step.Write name) = Writes name.now

@@ -1,12 +1,11 @@
 //! The line of a failure.
 ghost use Rattle.std.specs.Prelude.{◌≡◌, ◌++◌, ◌∷◌, ℕ, List, codes, map, string_bytes};
-ghost use Rattle.par2_spec.specs.Texts.{error_of, fault_text, line, lost_text, word_at};
+ghost use Rattle.par2_spec.specs.Texts.{error_of, fault_text, line, word_at};
 ghost use Rattle.par2_printing.specs.Views.{words_given};
 ghost use Rattle.par2_printing.specs.Writing.{Wrote};
 
-use crate::printer::Printer;
-use crate::text::{WriteFault, write_parts};
-use itoa::Buffer;
+use crate::printer::{Printer, WriteFault, write_parts};
+use crate::report::write_lost;
 use par2_spec::{Action, Command, Failure, Fault};
 use std::io::Write;
 
@@ -63,31 +62,6 @@ fn write_reason_with<W: Write>(
     write_parts(out, &[b"par2: ", reason.as_bytes(), word.as_bytes(), b"\n"])
 }
 
-// Writes that so many slices are lost, and that so many recovery slices are of use.
-fn write_shortage<W: Write>(
-    out: &mut Printer<W>,
-    missing: usize,
-    rank: usize,
-) -> Result<(), WriteFault>
-    ensures { Wrote W.contents out.old out.new
-        (line (codes "par2: " ++ codes "not repairable, " ++ lost_text missing rank)) result }
-{
-    let mut lost = Buffer::new();
-    let mut kept = Buffer::new();
-    write_parts(
-        out,
-        &[
-            b"par2: ",
-            b"not repairable, ",
-            b"lost ",
-            lost.format(missing).as_bytes(),
-            b", rank ",
-            kept.format(rank).as_bytes(),
-            b"\n",
-        ],
-    )
-}
-
 // Writes the line of a refusal.
 #[tactic(auto, unfolding(par2_spec::specs::Texts::fault_text))]
 fn write_fault<W: Write>(
@@ -105,7 +79,12 @@ fn write_fault<W: Write>(
         | Fault::EmptyFile(place) => {
             write_reason_with(out, fault.reason(), word(command, place))
         }
-        Fault::NotRepairable { missing, rank } => write_shortage(out, missing, rank),
+        Fault::NotRepairable { missing, rank } => write_lost(
+            out,
+            "par2: not repairable, ",
+            missing,
+            rank,
+        ),
         _ => write_reason(out, fault.reason()),
     }
 }

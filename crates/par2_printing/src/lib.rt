@@ -3,11 +3,10 @@
 mod failure;
 mod printer;
 mod report;
-mod step;
-mod text;
 
 pub use failure::write_failure;
-pub use printer::Printer;
-pub use report::{PrintedState, PrintedTarget, write_set, write_target, write_verdict};
-pub use step::{PrintedStep, write_done, write_note, write_step};
-pub use text::{WriteFault, write_parts};
+pub use printer::{Printer, WriteFault, write_parts};
+pub use report::{
+    PrintedState, PrintedStep, PrintedTarget, write_done, write_note, write_set, write_step,
+    write_target, write_verdict,
+};

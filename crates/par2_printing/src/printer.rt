@@ -1,14 +1,20 @@
-//! Writers whose failures are counted.
-ghost use Rattle.std.specs.Prelude.{◌≡◌, ◌+◌, ◌<◌, ◌≤◌, [], length, take, IfOk, OnOk, OnErr};
+//! Writers whose failures are counted, and texts on them.
+ghost use Rattle.std.specs.Prelude.{◌≡◌, ◌+◌, ◌++◌, ◌<◌, ◌≤◌, [], length, take, IfOk, OnOk, OnErr};
 ghost use Rattle.std.specs.Io.KnownBytes.{Appends};
-ghost use Rattle.par2_printing.specs.Writing.{writer_of, failures_of};
+ghost use Rattle.std.specs.List.{flat_map};
+ghost use Rattle.par2_printing.specs.Writing.{Wrote, failures_of, writer_of};
 
-use crate::text::WriteFault;
 use par2_folder::Count;
 use std::io::{ErrorKind, Write};
+use thiserror::Error;
+
+/// The writer failed, or took no byte.
+#[derive(Debug, Error, Clone, Copy, PartialEq, Eq)]
+#[error("a text could not be written")]
+pub struct WriteFault;
 
 /// A writer, and how often it has failed, which contracts alone see.
-#[derive(Debug, Drop)]
+#[derive(Drop)]
 pub struct Printer<W: Write> {
     writer: W,
     failures: Count,
@@ -44,7 +50,7 @@ impl<W: Write> Printer<W> {
 
     // The writer takes some of the bytes: how many. A call that was interrupted is made again; to fail otherwise, or to
     // take none of the bytes, counts as a failure.
-    pub(crate) fn write(&mut self, bytes: &[u8]) -> Result<usize, WriteFault>
+    fn write(&mut self, bytes: &[u8]) -> Result<usize, WriteFault>
         ensures some { IfOk result (λ n. 0 < n) }
         ensures within { IfOk result (λ n. n ≤ length bytes.now) }
         ensures taken { IfOk result (λ n. Appends (W.contents (writer_of self.old))
@@ -64,4 +70,28 @@ impl<W: Write> Printer<W> {
         }
         Err(self.fault())
     }
+}
+
+// Writes the bytes, by as many calls as it takes.
+fn write_bytes<W: Write>(out: &mut Printer<W>, text: &[u8]) -> Result<(), WriteFault>
+    ensures { Wrote W.contents out.old out.new text.now result }
+{
+    let mut rest = text;
+    while !rest.is_empty() {
+        match out.write(rest) {
+            Ok(n) => rest = &rest[n..],
+            Err(fault) => return Err(fault),
+        }
+    }
+    Ok(())
+}
+
+/// Writes the parts, one after the other.
+pub fn write_parts<W: Write>(out: &mut Printer<W>, parts: &[&[u8]]) -> Result<(), WriteFault>
+    ensures { Wrote W.contents out.old out.new (flat_map (λ part. part.now) parts.now) result }
+{
+    for part in parts {
+        write_bytes(out, part)?;
+    }
+    Ok(())
 }

@@ -1,19 +1,18 @@
-//! The lines of a report.
-ghost use Rattle.std.specs.Prelude.{◌≡◌, ◌++◌, codes};
+//! The lines of a report, and of what a command has done.
+ghost use Rattle.std.specs.Prelude.{◌≡◌, ◌++◌, codes, decimal};
 ghost use Rattle.hex.specs.Hex.{encode_lower};
 ghost use Rattle.par2_spec.specs.Reports.{Report};
-ghost use Rattle.par2_spec.specs.Texts.{line, lost_text, of_all, target_line, verdict_text};
-ghost use Rattle.par2_printing.specs.Views.{target_shown};
+ghost use Rattle.par2_spec.specs.Texts.{line, lost_text, note_text, of_all, step_line, target_line, verdict_text};
+ghost use Rattle.par2_printing.specs.Views.{step_shown, target_shown};
 ghost use Rattle.par2_printing.specs.Writing.{Wrote};
 
-use crate::printer::Printer;
-use crate::text::{WriteFault, write_parts};
+use crate::printer::{Printer, WriteFault, write_parts};
 use itoa::Buffer;
 use par2_spec::Verdict;
 use std::io::Write;
 
 /// How it is with a target's file.
-#[derive(Debug, Clone, Copy, PartialEq, Eq)]
+#[derive(Clone, Copy)]
 pub enum PrintedState<'a> {
     Complete,
     Misplaced(&'a str),
@@ -22,7 +21,7 @@ pub enum PrintedState<'a> {
 }
 
 /// A target of a report.
-#[derive(Debug, Clone, Copy, PartialEq, Eq)]
+#[derive(Clone, Copy)]
 pub struct PrintedTarget<'a> {
     pub name: &'a str,
     pub state: PrintedState<'a>,
@@ -91,22 +90,21 @@ pub fn write_target<W: Write>(
     }
 }
 
-fn write_lost<W: Write>(
+// Writes that so many slices are lost, and that so many recovery slices are of use, as a line that starts like this.
+pub(crate) fn write_lost<W: Write>(
     out: &mut Printer<W>,
-    verdict: &str,
+    start: &str,
     lost: usize,
     rank: usize,
 ) -> Result<(), WriteFault>
-    ensures { Wrote W.contents out.old out.new
-        (line (codes "result: " ++ verdict.now ++ lost_text lost rank)) result }
+    ensures { Wrote W.contents out.old out.new (line (start.now ++ lost_text lost rank)) result }
 {
     let mut slices = Buffer::new();
     let mut kept = Buffer::new();
     write_parts(
         out,
         &[
-            b"result: ",
-            verdict.as_bytes(),
+            start.as_bytes(),
             b"lost ",
             slices.format(lost).as_bytes(),
             b", rank ",
@@ -129,7 +127,50 @@ pub fn write_verdict<W: Write>(
 {
     match verdict {
         Verdict::Complete => write_parts(out, &[b"result: ", b"complete", b"\n"]),
-        Verdict::Repairable => write_lost(out, "repairable, ", lost, rank),
-        Verdict::NotRepairable => write_lost(out, "not repairable, ", lost, rank),
+        Verdict::Repairable => write_lost(out, "result: repairable, ", lost, rank),
+        Verdict::NotRepairable => write_lost(out, "result: not repairable, ", lost, rank),
     }
+}
+
+/// A change without its bytes, with the names that it has.
+#[derive(Clone, Copy, PartialEq, Eq)]
+pub enum PrintedStep<'a> {
+    Write(&'a str),
+    Replace(&'a str),
+    Rename(&'a str, &'a str),
+    Remove(&'a str),
+}
+
+/// Writes `note: history dropped` as a line where it was.
+pub fn write_note<W: Write>(out: &mut Printer<W>, dropped: bool) -> Result<(), WriteFault>
+    ensures { Wrote W.contents out.old out.new (note_text dropped) result }
+{
+    if dropped {
+        write_parts(out, &[b"note: history dropped", b"\n"])
+    } else {
+        Ok(())
+    }
+}
+
+/// Writes the line of a step.
+pub fn write_step<W: Write>(out: &mut Printer<W>, step: PrintedStep<'_>) -> Result<(), WriteFault>
+    ensures { Wrote W.contents out.old out.new (step_line (step_shown step.entry)) result }
+{
+    match step {
+        PrintedStep::Write(name) => write_parts(out, &[b"write ", name.as_bytes(), b"\n"]),
+        PrintedStep::Replace(name) => write_parts(out, &[b"replace ", name.as_bytes(), b"\n"]),
+        PrintedStep::Rename(from, to) => write_parts(
+            out,
+            &[b"rename ", from.as_bytes(), b" to ", to.as_bytes(), b"\n"],
+        ),
+        PrintedStep::Remove(name) => write_parts(out, &[b"remove ", name.as_bytes(), b"\n"]),
+    }
+}
+
+/// Writes `done: K` as a line.
+pub fn write_done<W: Write>(out: &mut Printer<W>, count: usize) -> Result<(), WriteFault>
+    ensures { Wrote W.contents out.old out.new (line (codes "done: " ++ decimal count)) result }
+{
+    let mut buffer = Buffer::new();
+    write_parts(out, &[b"done: ", buffer.format(count).as_bytes(), b"\n"])
 }

@@ -1,9 +1,13 @@
 -- What a store is opened as for a command, and what comes of it.
-use Rattle.par2_tool.proofs.Common.{◌≡◌, inl, inr, ℕ, Bool, List, Some, None, Result, Ok, Err, refl, sym, ap, subst, ◌∙◌, IfOk, Action, Command, Do, Undo, Redo, Create, Verify, Repair, Purge, Folder, Started, OpensAs, new_session, changes_of, LeadsToAfterAsked, refusal, report_in, Session, KeptSession, changes_unless, session_after, session_of_kept, Contents, Outcome, IsOpening, with_history, IsOpened, IsRead, StandsFor, started_of, IsAnswer, IsReport, IsVerify, IsWritten, IsRefused, failure_for, IsBack, IsDone, IsFailed, SameOutput, PerformFault, Store}
+use Rattle.par2_tool.proofs.Common.{◌≡◌, inl, inr, ℕ, Bool, List, Some, None, Result, Ok, Err, refl, sym, ap, subst, ◌∙◌, IfOk, Action, Command, Do, Verify, Folder, Started, OpensAs, new_session, changes_of, LeadsToAfterAsked, refusal, report_in, Session, KeptSession, changes_unless, session_after, session_of_kept, Contents, Outcome, IsOpening, with_history, IsOpened, IsRead, StandsFor, started_of, IsAnswer, IsReport, IsVerify, IsWritten, IsRefused, failure_for, IsBack, IsDone, IsFailed, SameOutput, PerformFault, Store, Stands, Verifies}
+use Rattle.std.specs.Borrow.{Bor}
+use Rattle.std.specs.Prelude.{Option}
 use Rattle.par2_spec.specs.Sessions.{changes_asked}
 use Rattle.par2_spec.specs.Texts.{output_of}
+use Rattle.par2_spec.specs.declared.commands.Command as given
 use Rattle.par2_tool.specs.declared.opening.Started as program
 use Rattle.par2_tool.specs.declared.performing.PerformFault.TheVariants.{Session as Refusing}
+use Rattle.par2_tool.proofs.Calls.{for_verify}
 use Rattle.par2_tool.proofs.Outcomes.{perform_failed}
 use Rattle.par2_tool.proofs.Openings.{opens_new}
 use Rattle.par2_tool.proofs.VerifyRuns.{as_it_was, verify_leaves}
@@ -24,29 +28,35 @@ opened_new contents files read =
     opened_on contents (with_history (new_session files)) (opens_new contents (new_session files) (ap (λ (k : Contents). k.journal) read) (ap new_session (sym same))) same
 
 -- what a store was opened as stands for itself
-pub stands : {E : Type 0} (action : Action) (honest : Type 0) (result : Result program.Started E) (old new : Contents) → (honest → IfOk result (λ s. IsOpened old new (started_of s)))
-    → IfOk result (λ s. (o : Started) × StandsFor action o (started_of s) × (honest → IsOpened old new o))
-stands action honest (Err e) old new opened = tt
-stands action honest (Ok s) old new opened = (started_of s, inl refl, opened)
+pub stands_itself : (command : Option (Bor given.Command)) (o : Started) → Stands command o o
+stands_itself None o = refl
+stands_itself (Some command) o = inl refl
 
--- so does it for a verify
-pub stands_on : {E : Type 0} (honest : Type 0) (result : Result program.Started E) (old new : Contents) → (honest → IfOk result (λ s. IsOpened old new (started_of s)))
-    → IfOk result (λ s. (o : Started) × (o.session.folder ≡ (started_of s).session.folder) × (honest → IsOpened old new o))
-stands_on honest (Err e) old new opened = tt
-stands_on honest (Ok s) old new opened = (started_of s, refl, opened)
+-- and for a verify, what is on the same folder
+pub stands_for_verify : (command : Option (Bor given.Command)) (o s : Started) → Verifies command → o.session.folder ≡ s.session.folder → Stands command o s
+stands_for_verify None o s is on = absurd is
+stands_for_verify (Some command) o s is on = inr (is, on)
 
-pub stands_for_verify : {E : Type 0} (action : Action) (honest : Type 0) (result : Result program.Started E) (old new : Contents) → IsVerify action
-    → IfOk result (λ s. (o : Started) × (o.session.folder ≡ (started_of s).session.folder) × (honest → IsOpened old new o))
-    → IfOk result (λ s. (o : Started) × StandsFor action o (started_of s) × (honest → IsOpened old new o))
-stands_for_verify action honest (Err e) old new is on = tt
-stands_for_verify action honest (Ok s) old new is on = (on.0, inr (is, on.1), on.2)
+pub stands : {E : Type 0} (command : Option (Bor given.Command)) (honest : Type 0) (result : Result program.Started E) (old new : Contents) → (honest → IfOk result (λ s. IsOpened old new (started_of s)))
+    → IfOk result (λ s. (o : Started) × Stands command o (started_of s) × (honest → IsOpened old new o))
+stands command honest (Err e) old new opened = tt
+stands command honest (Ok s) old new opened = (started_of s, stands_itself command (started_of s), opened)
+
+-- where no command is given, the answer is what the store opens as
+pub starts : {E : Type 0} (honest : Type 0) (result : Result program.Started E) (old new : Contents) → IfOk result (λ s. (o : Started) × (o ≡ started_of s) × (honest → IsOpened old new o))
+    → honest → IfOk result (λ s. IsOpened old new (started_of s))
+starts honest (Err e) old new opened h = tt
+starts honest (Ok s) old new opened h = subst (λ (o : Started). IsOpened old new o) opened.1 (opened.2 h)
+
+-- the store is on the folder of what stands for it
+pub files_of : (action : Action) (old mid : Contents) (o s : Started) → StandsFor action o s → IsOpened old mid o → mid.files ≡ s.session.folder
+files_of action old mid o s (inl same) opened = opened.holds.files ∙ ap (λ (t : Started). t.session.folder) same
+files_of action old mid o s (inr verify) opened = opened.holds.files ∙ verify.1
 
 -- ---- what a verify does on a folder
 
 pub no_way_back : (action : Action) → IsVerify action → IsBack action → ⊥
-no_way_back (Do command) is back = back
-no_way_back Undo is back = is
-no_way_back Redo is back = is
+no_way_back action is = for_verify (λ a. IsBack a → ⊥) (λ base extras back. back) action is
 
 same_asked : (s t : Session) (command : Command) → s.folder ≡ t.folder → changes_asked s (Do command) ≡ changes_asked t (Do command)
 unfolding changes_asked
@@ -60,21 +70,20 @@ standing s = record { folder = record { files = s.folder; vacant = 0 }; undos = 
 pub verify_failed : (action : Action) (old mid new : Contents) (o : Started) (s later : KeptSession) → IsVerify action → o.session.folder ≡ s.folder.files → IsOpened old mid o → new ≡ mid
     → (before after : ℕ) (fault : PerformFault) → IsRefused action s later before after fault → IsFailed action old new (failure_for fault)
 unfolding standing
-verify_failed (Do (Verify base extras)) old mid new o s later is on opening same before after fault refused =
-    perform_failed (Do (Verify base extras)) old mid new (standing o.session) (standing o.session) o.dropped opening (λ back. absurd back) before after fault (refused_on fault refused) (λ _. same) (λ _. inl same)
+verify_failed action old mid new o s later is on opening same before after fault refused =
+    for_verify (λ a. IsRefused a s later before after fault → IsFailed a old new (failure_for fault)) failed action is refused
   where
-    refused_on : (f : PerformFault) → IsRefused (Do (Verify base extras)) s later before after f → IsRefused (Do (Verify base extras)) (standing o.session) (standing o.session) before after f
-    refused_on Store r = r
-    refused_on (Refusing reason) r =
+    refused_on : (base : List ℕ) (extras : List (List ℕ)) (f : PerformFault) → IsRefused (Do (Verify base extras)) s later before after f → IsRefused (Do (Verify base extras)) (standing o.session) (standing o.session) before after f
+    refused_on base extras Store r = r
+    refused_on base extras (Refusing reason) r =
         elim r.0 [
           | inl memory ↦ (inl memory, as_it_was (standing o.session), r.2)
           | inr asked ↦ (inr (same_asked o.session (session_of_kept s) (Verify base extras) on ∙ asked), as_it_was (standing o.session), r.2)
         ]
-verify_failed (Do (Create args)) old mid new o s later is on opening same before after fault refused = absurd is
-verify_failed (Do (Repair base extras purge)) old mid new o s later is on opening same before after fault refused = absurd is
-verify_failed (Do (Purge base)) old mid new o s later is on opening same before after fault refused = absurd is
-verify_failed Undo old mid new o s later is on opening same before after fault refused = absurd is
-verify_failed Redo old mid new o s later is on opening same before after fault refused = absurd is
+
+    failed : (base : List ℕ) (extras : List (List ℕ)) → IsRefused (Do (Verify base extras)) s later before after fault → IsFailed (Do (Verify base extras)) old new (failure_for fault)
+    failed base extras refused =
+        perform_failed (Do (Verify base extras)) old mid new (standing o.session) (standing o.session) o.dropped opening (λ back. absurd back) before after fault (refused_on base extras fault refused) (λ _. same) (λ _. inl same)
 
 -- ---- an accepted action
 
@@ -101,17 +110,11 @@ module _ (honest : Type 0) (old mid new : Contents) (o : Started) (s later : Ses
         },
       )
 
-  verified : (action : Action) → IsVerify action → o.session.folder ≡ s.folder → IsAnswer s action outcome → LeadsToAfterAsked s.folder action → (honest → mid.files ≡ s.folder → IsWritten action later mid new) → Is action
-  verified (Do (Verify base extras)) is on answer leads written = reported base extras on answer leads written
-  verified (Do (Create args)) is on answer leads written = absurd is
-  verified (Do (Repair base extras purge)) is on answer leads written = absurd is
-  verified (Do (Purge base)) is on answer leads written = absurd is
-  verified Undo is on answer leads written = absurd is
-  verified Redo is on answer leads written = absurd is
-
   pub done_for : (action : Action) → StandsFor action o (record { session = s; dropped = dropped }) → IsAnswer s action outcome → session_after s action ≡ Ok later → LeadsToAfterAsked s.folder action
       → (honest → mid.files ≡ s.folder → IsWritten action later mid new) → Is action
-  done_for action (inr verify) answer accepted leads written = verified action verify.0 verify.1 answer leads written
+  done_for action (inr verify) answer accepted leads written =
+      for_verify (λ a. IsAnswer s a outcome → LeadsToAfterAsked s.folder a → (honest → mid.files ≡ s.folder → IsWritten a later mid new) → Is a)
+      (λ base extras answer leads written. reported base extras verify.1 answer leads written) action verify.0 answer leads written
   done_for action (inl same) answer accepted leads written = (
     dropped,
     refl,

@@ -1,6 +1,5 @@
 -- How many writing calls are made of a store.
-use Rattle.par2_tool.proofs.Common.{◌≡◌, inl, inr, ℕ, ◌+◌, List, [], ◌∷◌, length, Option, Some, None, Result, Ok, Err, refl, sym, ap, subst, ◌∙◌, arith, IfErr, OnOk, Global, Change, Action, Do, Undo, Redo, Create, Verify, Repair, Purge, Folder, Refusal, Opens, Halfway, Started, halfway_where, Session, KeptSession, changes_asked, session_of_kept, Contents, action_of, Two, Ready, changes_by_kind, SpellsWhere, AreSpelled, Plan, NothingToUndo, NothingToRedo, Journals, AreAtMost, AreCallsToOpen, AreCallsToRun, CountsCalls, CountsFailedRun, CountsOpening, IsCalled, calls_asked, calls_before, calls_for, calls_to_write, calls_unless, IsOpening, IsRead, StandsFor, IsVerify, IsSession, failure_for, unopened_as, OpenFault, PerformFault, Store}
-use Rattle.std.proofs.Common.{Vec}
+use Rattle.par2_tool.proofs.Common.{◌≡◌, inl, inr, ℕ, ◌+◌, List, [], ◌∷◌, length, Option, Some, None, Result, Ok, Err, refl, sym, ap, subst, ◌∙◌, arith, Vec, IfErr, OnOk, Global, Change, Action, Do, Undo, Redo, Create, Verify, Repair, Purge, Folder, Refusal, Opens, Halfway, Started, halfway_where, Session, KeptSession, changes_asked, session_of_kept, Contents, action_of, Two, Ready, changes_by_kind, SpellsWhere, AreSpelled, Plan, NothingToUndo, NothingToRedo, Journals, AreAtMost, AreCallsToOpen, AreCallsToRun, CountsCalls, CountsFailedRun, CountsOpening, IsCalled, calls_asked, calls_before, calls_for, calls_to_write, calls_unless, IsOpening, IsRead, StandsFor, IsVerify, IsSession, failure_for, unopened_as, OpenFault, PerformFault, Store}
 use Rattle.par2_spec.specs.Opening.{journals_of}
 use Rattle.par2_spec.specs.declared.commands.Action as asking
 use Rattle.par2_spec.specs.declared.commands.Action.TheVariants as given
@@ -32,13 +31,14 @@ asked_calls (given.Purge base) s = refl
 asked_calls given.Undo s = refl
 asked_calls given.Redo s = refl
 
-verify_calls : (action : Action) (s t : Session) → IsVerify action → calls_asked s action ≡ calls_asked t action
-verify_calls (Do (Verify base extras)) s t is = refl
-verify_calls (Do (Create args)) s t is = absurd is
-verify_calls (Do (Repair base extras purge)) s t is = absurd is
-verify_calls (Do (Purge base)) s t is = absurd is
-verify_calls Undo s t is = absurd is
-verify_calls Redo s t is = absurd is
+-- what holds of each verify holds of an action that is one
+pub for_verify : (P : Action → Type 0) → ((base : List ℕ) (extras : List (List ℕ)) → P (Do (Verify base extras))) → (action : Action) → IsVerify action → P action
+for_verify P so (Do (Verify base extras)) is = so base extras
+for_verify P so (Do (Create args)) is = absurd is
+for_verify P so (Do (Repair base extras purge)) is = absurd is
+for_verify P so (Do (Purge base)) is = absurd is
+for_verify P so Undo is = absurd is
+for_verify P so Redo is = absurd is
 
 -- ---- an opening
 
@@ -84,7 +84,7 @@ refused_calls calls before after r e y is same called = subst (λ x. CountsCalls
 -- the session that stands for the opened one takes as many
 pub stands_calls : (action : Action) (o s : Started) → StandsFor action o s → calls_asked s.session action ≡ calls_asked o.session action
 stands_calls action o s (inl same) = ap (λ (t : Started). calls_asked t.session action) (sym same)
-stands_calls action o s (inr verify) = verify_calls action s.session o.session verify.0
+stands_calls action o s (inr verify) = for_verify (λ a. calls_asked s.session a ≡ calls_asked o.session a) (λ base extras. refl) action verify.0
 
 -- an opening that is refused
 pub opening_calls : {T : Type 0} (action : Action) (old : Contents) (before after : ℕ) (e : OpenFault) → CountsOpening {T = T} old before after (Err e) → CountsFailedRun action old before after (unopened_as e)

@@ -1,13 +1,12 @@
 -- The names that proofs of this crate take from elsewhere.
 
-pub use Rattle.std.proofs.Common.{Bool, Err, IsTrue, List, None, Ok, Option, Result, Some, [], ap, arith, drop, false, get_or, inl, inr, length, map, not, refl, rules, subst, suc, sym, take, true, zero, ℕ, ◌&&◌, ◌++◌, ◌+◌, ◌-◌, ◌<◌, ◌∙◌, ◌∷◌, ◌≡◌, ◌≢◌, ◌≤◌, ◌⊎◌}
+pub use Rattle.std.proofs.Common.{Bool, Err, IsTrue, List, None, Ok, Option, Result, Some, Vec, [], ap, arith, drop, false, get_or, inl, inr, length, map, not, refl, rules, subst, suc, sym, take, true, true≢false, zero, ℕ, ◌&&◌, ◌++◌, ◌+◌, ◌-◌, ◌<◌, ◌∙◌, ◌∷◌, ◌≡◌, ◌≢◌, ◌≤◌, ◌⊎◌}
 pub use Rattle.std.proofs.lemmas.Bool.{and_parts, false≢true}
 pub use Rattle.std.proofs.lemmas.List.{length-map, map_more, take-map, take_all}
 pub use Rattle.std.proofs.lemmas.Option.{option_and_then_some, same_Some}
-pub use Rattle.std.proofs.lemmas.Result.{err_from_is_err_and, on_err_weaker}
-pub use Rattle.std.specs.Prelude.{IfErr, IfOk, OnErr, OnOk, Vec, codes, flat_map, if◌then◌else◌, is_ok, is_some, option_map, position, reverse, string_bytes}
+pub use Rattle.std.proofs.lemmas.Result.{err_from_is_err_and, on_err_weaker, on_ok_weaker}
+pub use Rattle.std.specs.Prelude.{IfErr, IfOk, IsErr, OnErr, OnOk, codes, flat_map, if◌then◌else◌, is_ok, is_some, option_map, position, reverse, string_bytes}
 pub use Rattle.std.specs.declared.alloc.Global.{Global}
-pub use Rattle.par2_folder.specs.Cuts.{Lasts}
 pub use Rattle.par2_folder.specs.Views.{change_of}
 pub use Rattle.par2_journal.specs.Opening.{opened_of, session_before, way_left}
 pub use Rattle.par2_journal.specs.Ready.{CanBe, Changing, IsReady, Kind, Ready, Redoing, Undoing, after_commit, changes_by_kind, next_of}
@@ -26,7 +25,7 @@ pub use Rattle.par2_spec.specs.Commands.{Action, Command, Create, Do, Purge, Red
 pub use Rattle.par2_spec.specs.Folders.{Folder, fingerprint}
 pub use Rattle.par2_spec.specs.History.{Refusal, Refused, Run, history_after}
 pub use Rattle.par2_spec.specs.Journals.{HalfwayPart, Journal, Spells}
-pub use Rattle.par2_spec.specs.Opening.{Halfway, Opened, Opens, OpensAs, Settled, Started, TellsApart, halfway_where, is_valid, leads_through, new_session, opened, opened_by_part, opened_if_found, session_of, settled_journal, started}
+pub use Rattle.par2_spec.specs.Opening.{Halfway, Opened, Opens, OpensAs, Settled, Started, TellsApart, halfway_where, is_valid, journals_of, leads_through, new_session, opened, opened_by_part, opened_if_found, session_of, settled_journal, started}
 pub use Rattle.par2_spec.specs.Plans.{LeadsToAfterAsked, changes_of}
 pub use Rattle.par2_spec.specs.Refusals.{refusal, set_in}
 pub use Rattle.par2_spec.specs.Reports.{Report, report_in, verdict_of}
@@ -34,7 +33,6 @@ pub use Rattle.par2_spec.specs.Sessions.{CanWalk, KeptSession, OnlyGrew, Session
 pub use Rattle.par2_spec.specs.Stores.{Contents, with_change, with_journal}
 pub use Rattle.par2_spec.specs.Texts.{Outcome, line, status_of, step_line, target_line, verdict_text}
 pub use Rattle.par2_spec.specs.Views.{action_of, command_of}
-pub use Rattle.par2_spec.specs.declared.Failure.{Failure}
 pub use Rattle.par2_spec.specs.declared.Fault.{Fault}
 pub use Rattle.par2_spec.specs.declared.Fault.TheVariants.{Memory}
 pub use Rattle.par2_spec.specs.declared.JournalFault.{JournalFault}
@@ -43,10 +41,12 @@ pub use Rattle.par2_spec.specs.declared.Version.TheVariants.{Two}
 pub use Rattle.par2_tool.specs.Asking.{AskFor, IsCommandLine}
 pub use Rattle.par2_tool.specs.Calls.{AreAtMost, AreCallsToOpen, AreCallsToRun, CountsCalls, CountsFailedRun, CountsOpening, IsCalled, calls_asked, calls_before, calls_for, calls_to_write, calls_unless}
 pub use Rattle.par2_tool.specs.Holding.{HasJournalOf, Holds, IsOpening, IsSettled, OpensAsBefore, OpensAsBeforeOrAfter, TellsApartAlong, TellsApartBack, with_history}
-pub use Rattle.par2_tool.specs.Opening.{IsOpened, IsRead, IsStillHalfway, IsTakenBack, IsUnopened, LeavesUnopened, StandsFor, TakesBack, started_of}
+pub use Rattle.par2_tool.specs.Opening.{IsCounted, IsOpened, IsRead, IsStillHalfway, IsTakenBack, IsUnopened, LeavesUnopened, StandsFor, TakesBack, started_of}
 pub use Rattle.par2_tool.specs.Performing.{AreSomeMade, HoldsJournaled, IsAnswer, IsReport, IsStoppedAt, IsVerify, IsWritten, after_write_down, outcome_of, with_all_changes, with_halfway}
 pub use Rattle.par2_tool.specs.Refusals.{IsRefused, IsSession, failure_for, unopened_as}
+pub use Rattle.par2_tool.specs.StoreOpenings.{KeepsStore, Stands, Verifies}
 pub use Rattle.par2_tool.specs.Telling.{Answered, Failed, IsAtTheEnd, IsBack, IsCause, IsDone, IsFailed, IsPrinted, IsRefusedFor, IsStopped, IsUnread, OpensAsBeforeOrAfterRun, SameOutput}
+pub use Rattle.par2_tool.specs.Writing.{AreSomeWritten, IsKept}
 pub use Rattle.par2_tool.specs.declared.opening.OpenFault.{OpenFault}
 pub use Rattle.par2_tool.specs.declared.performing.PerformFault.{PerformFault}
 pub use Rattle.par2_tool.specs.declared.performing.PerformFault.TheVariants.{Store}

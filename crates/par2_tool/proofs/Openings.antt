@@ -1,5 +1,6 @@
 -- What a store opens as, and what a stop leaves of it.
-use Rattle.par2_tool.proofs.Common.{◌≡◌, ◌⊎◌, inl, inr, ℕ, Bool, true, false, not, ◌&&◌, IsTrue, List, ◌∷◌, length, take, drop, ◌-◌, Option, Some, None, Result, Ok, Err, refl, sym, ap, subst, ◌∙◌, arith, reverse, position, option_map, OnErr, Vec, if◌then◌else◌, Global, Folder, fingerprint, Change, are_applicable, effects, Session, Journal, HalfwayPart, Spells, Opened, Settled, Halfway, Started, is_valid, leads_through, new_session, opened_if_found, opened_by_part, session_of, settled_journal, started, TellsApart, Contents, with_journal, JournalFault, JournalInvalid, FolderChanged, Two, settled_stored, still_stored, taken_back_leads, Holds, IsOpening, OpensAsBefore, TellsApartBack, with_history, IsOpened, IsRead, IsStillHalfway, IsTakenBack, TakesBack, IsStoppedAt}
+use Rattle.par2_tool.proofs.Common.{◌≡◌, ◌⊎◌, inl, inr, ℕ, Bool, true, false, not, ◌&&◌, IsTrue, List, ◌∷◌, length, take, drop, ◌-◌, Option, Some, None, Result, Ok, Err, refl, sym, ap, subst, ◌∙◌, arith, reverse, position, option_map, OnErr, if◌then◌else◌, Global, Folder, fingerprint, Change, are_applicable, effects, Session, Journal, HalfwayPart, Spells, Opened, Settled, Halfway, Started, is_valid, leads_through, new_session, opened_if_found, opened_by_part, session_of, settled_journal, started, TellsApart, Contents, with_journal, JournalFault, JournalInvalid, FolderChanged, Two, settled_stored, still_stored, taken_back_leads, Holds, IsOpening, OpensAsBefore, TellsApartBack, with_history, IsOpened, IsRead, IsStillHalfway, IsTakenBack, TakesBack, IsStoppedAt}
+use Rattle.std.specs.Prelude.{Vec}
 use Rattle.std.specs.Str.{bytes_eq}
 use Rattle.par2_spec.specs.Opening.{Opens, OpensAs, opened, taken_back}
 use Rattle.par2_spec.specs.declared.JournalFault.TheVariants as fault
@@ -50,10 +51,6 @@ halfway_by folder text s back (inl p) = (p.0, p.1, sym p.2)
 halfway_by folder text s back (inr p) = let no : ⊥ = cc p.1 in absurd no
 
 -- ---- what a store opens as
-
--- the contents that were read
-pub is_read : (contents : Contents) (files : Folder) (journal : Option (List ℕ)) → files ≡ contents.files → journal ≡ contents.journal → IsRead contents files journal
-is_read contents files journal of_files of_journal = λ i. record { files = sym of_files i; journal = sym of_journal i }
 
 -- the text of the journal that was read
 pub text_read : (contents : Contents) (files : Folder) (journal : Option (Vec ℕ Global)) (text : Vec ℕ Global) (bytes : List ℕ) → IsRead contents files (option_map (λ bytes. bytes.items) journal) → journal ≡ Some text → bytes ≡ text.items

@@ -1,5 +1,5 @@
 -- What comes of an action on a store that was opened.
-use Rattle.par2_tool.proofs.Common.{◌≡◌, inl, inr, ℕ, List, Option, Some, None, Result, Ok, Err, Bool, true, false, refl, sym, ap, subst, ◌∙◌, arith, false≢true, Change, Action, Do, Undo, Redo, Started, Session, KeptSession, session_of_kept, changes_unless, refusal, Contents, Fault, Memory, Plan, NothingToUndo, NothingToRedo, TellsApartAlong, TellsApartBack, OpensAsBefore, OpensAsBeforeOrAfter, IsOpened, IsUnopened, StandsFor, IsVerify, IsRefused, IsSession, failure_for, unopened_as, IsBack, IsCause, IsFailed, IsAtTheEnd, IsStopped, OpensAsBeforeOrAfterRun, OpenFault, PerformFault, Store}
+use Rattle.par2_tool.proofs.Common.{◌≡◌, inl, inr, ℕ, List, Option, Some, None, Result, Ok, Err, Bool, true, false, refl, sym, ap, subst, ◌∙◌, arith, false≢true, Change, Action, Do, Undo, Redo, Started, Session, KeptSession, session_of_kept, changes_unless, refusal, Contents, Fault, Memory, Plan, NothingToUndo, NothingToRedo, TellsApartAlong, TellsApartBack, OpensAsBefore, OpensAsBeforeOrAfter, IsOpened, IsUnopened, StandsFor, IsCounted, IsVerify, IsRefused, IsSession, failure_for, unopened_as, IsBack, IsCause, IsFailed, IsAtTheEnd, IsStopped, OpensAsBeforeOrAfterRun, OpenFault, PerformFault, Store}
 use Rattle.par2_spec.specs.History as history
 use Rattle.par2_spec.specs.Sessions.{changes_asked}
 use Rattle.par2_journal.specs.declared.preparation.SessionFault.{SessionFault}
@@ -105,6 +105,12 @@ opening_failed action old new unopened.Memory is stopped = inl (refl, inl is)
 opening_failed action old new unopened.Store is stopped = stopped_opening action old new stopped
 
 -- ---- why, whatever the store does
+
+pub opening_cause : (action : Action) (before after : ℕ) (fault : OpenFault) → IsCounted before after fault → IsCause action before after (unopened_as fault)
+opening_cause action before after unopened.Store counted = counted
+opening_cause action before after unopened.Memory counted = (inl refl, counted)
+opening_cause action before after unopened.JournalInvalid counted = counted
+opening_cause action before after unopened.FolderChanged counted = counted
 
 pub perform_cause : (action : Action) (s later : KeptSession) (before middle after : ℕ) (fault : PerformFault) → middle ≡ before → IsRefused action s later middle after fault → IsCause action before after (failure_for fault)
 unfolding memory_of is_plan_fault

@@ -1,8 +1,7 @@
 -- What a power cut may leave of changes that are written down between two journals.
-use Rattle.par2_tool.proofs.Common.{◌≡◌, ◌⊎◌, inl, inr, ◌+◌, ℕ, ◌<◌, ◌≤◌, List, length, get_or, map, take, sym, ap, ◌∙◌, arith, length-map, take_all, take-map, Contents, with_change, with_journal, change_of, Journals, with_all_changes, with_halfway, IsStoppedAt}
+use Rattle.par2_tool.proofs.Common.{◌≡◌, ◌⊎◌, inl, inr, ◌+◌, ℕ, ◌<◌, ◌≤◌, List, length, get_or, map, take, sym, ap, ◌∙◌, arith, length-map, take_all, take-map, Contents, with_change, with_journal, change_of, Journals, with_all_changes, with_halfway, IsStoppedAt, AreSomeWritten}
 use Rattle.par2_spec.specs.Changes as defined
 use Rattle.par2_folder.specs.declared.change.Change.{Change}
-use Rattle.par2_tool.specs.Writing.{AreSomeWritten}
 use Rattle.par2_tool.proofs.MadeChanges.{made_next}
 
 -- where all changes were made, as many of them were as there are

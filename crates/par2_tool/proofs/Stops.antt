@@ -1,6 +1,5 @@
 -- A command that is stopped anywhere leaves a store that opens as before it or after it.
-use Rattle.par2_tool.proofs.Common.{◌≡◌, ◌≢◌, ◌⊎◌, inl, inr, ℕ, ◌≤◌, List, [], ◌∷◌, length, take, Option, Some, None, Result, Ok, Err, true, IsTrue, refl, sym, ap, subst, ◌∙◌, arith, IfOk, Global, take_all, Change, are_applicable, takes_all, Action, Folder, Spells, LeadsToAfterAsked, OpensAs, TellsApart, halfway_where, settled_journal, Session, KeptSession, CanWalk, OnlyGrew, session_of_kept, session_with, changes_asked, Contents, with_journal, Two, done_can_walk, undone_can_walk, redone_can_walk, grown_can_walk, walked_is_valid, same_session, settled_stored, halfway_stored, Kind, Changing, Undoing, Redoing, Ready, CanBe, IsReady, changes_by_kind, after_commit, next_of, SpellsWhere, AreSpelled, Journals, with_all_changes, with_halfway, after_write_down, IsStoppedAt, IsOpening, Holds, HasJournalOf, with_history, TellsApartAlong, OpensAsBeforeOrAfter}
-use Rattle.std.proofs.Common.{Vec}
+use Rattle.par2_tool.proofs.Common.{◌≡◌, ◌≢◌, ◌⊎◌, inl, inr, ℕ, ◌≤◌, List, [], ◌∷◌, length, take, Option, Some, None, Result, Ok, Err, true, IsTrue, refl, sym, ap, subst, ◌∙◌, arith, Vec, IfOk, Global, take_all, Change, are_applicable, takes_all, Action, Folder, Spells, LeadsToAfterAsked, OpensAs, TellsApart, halfway_where, settled_journal, Session, KeptSession, CanWalk, OnlyGrew, session_of_kept, session_with, changes_asked, Contents, with_journal, Two, done_can_walk, undone_can_walk, redone_can_walk, grown_can_walk, walked_is_valid, same_session, settled_stored, halfway_stored, Kind, Changing, Undoing, Redoing, Ready, CanBe, IsReady, changes_by_kind, after_commit, next_of, SpellsWhere, AreSpelled, Journals, with_all_changes, with_halfway, after_write_down, IsStoppedAt, IsOpening, Holds, HasJournalOf, with_history, TellsApartAlong, OpensAsBeforeOrAfter}
 use Rattle.par2_spec.specs.Changes.{effects}
 use Rattle.par2_spec.specs.Opening.{journals_of}
 use Rattle.par2_spec.specs.Sessions.{kept_done, kept_undone, kept_redone}
@@ -30,7 +29,7 @@ committed_files Redoing s = state_files s.folder (next_of s.redos)
 
 -- ---- the contents
 
-halfway_files : (k : Contents) (halfway : Option (Vec ℕ Global)) → (with_halfway k halfway).files ≡ k.files
+pub halfway_files : (k : Contents) (halfway : Option (Vec ℕ Global)) → (with_halfway k halfway).files ≡ k.files
 halfway_files k None = refl
 halfway_files k (Some text) = refl
 

@@ -1,5 +1,5 @@
 -- What opening does to a store that was only read, and to one that was read before.
-use Rattle.par2_tool.proofs.Common.{◌≡◌, inl, Result, refl, sym, subst, ◌∙◌, CountsOpening, OpensAsBefore, TellsApartBack, LeavesUnopened, OpenFault}
+use Rattle.par2_tool.proofs.Common.{◌≡◌, inl, Result, Ok, Err, arith, refl, sym, subst, ◌∙◌, IfErr, CountsOpening, OpensAsBefore, TellsApartBack, LeavesUnopened, OpenFault, IsCounted, KeepsStore}
 use Rattle.par2_folder.specs.Stores.{OnlyReads}
 use Rattle.par2_folder.specs.declared.view.Store.{Ghosts as StoreOf}
 use Rattle.par2_tool.specs.StoreOpenings.{Opens}
@@ -23,6 +23,10 @@ module _ {S T : Type 0} (store : StoreOf S) where
     possible = refl;
     calls = no_calls (store.contents it) (store.writing_calls it) (store.writing_calls it) r refl;
   }
+
+  pub stays_keeps : (it : S) (r : Result T OpenFault) → IfErr r (IsCounted (store.failures it) (store.failures it)) → KeepsStore store it it r
+  stays_keeps it (Ok v) counted = record { honest = λ h. h; kept = λ h lasts. lasts; failures = record { later = omega arith; counted = tt; steady = refl } }
+  stays_keeps it (Err e) counted = record { honest = λ h. h; kept = λ h lasts. tt; failures = record { later = omega arith; counted = counted; steady = tt } }
 
   pub opens_after_reading : (old read new : S) (r : Result T OpenFault) → OnlyReads store old read → store.honest old → store.impossible read ≡ store.impossible old → Opens store read new r → Opens store old new r
   opens_after_reading old read new r reads honest possible opens =

@@ -1,5 +1,5 @@
 -- What a verify answers and leaves, and what the other commands leave.
-use Rattle.par2_tool.proofs.Common.{◌≡◌, ◌⊎◌, inl, inr, ℕ, List, Some, None, Result, Ok, Err, refl, sym, ap, arith, false≢true, is_ok, Do, Verify, Folder, Contents, action_of, changes_of, set_in, Report, Session, KeptSession, OnlyGrew, session_unless, changes_unless, Fault, Memory, MayRefuse, Plan, HoldsJournaled, IsWritten}
+use Rattle.par2_tool.proofs.Common.{◌≡◌, ◌⊎◌, inl, inr, ℕ, List, Some, None, Result, Ok, Err, refl, sym, ap, arith, false≢true, is_ok, Do, Verify, Folder, Contents, action_of, changes_of, set_in, Report, Session, KeptSession, OnlyGrew, session_unless, changes_unless, Fault, Memory, MayRefuse, Plan, HoldsJournaled, IsVerify, IsWritten}
 use Rattle.par2_spec.specs.declared.commands.Action.{Action}
 use Rattle.par2_spec.specs.declared.commands.Action.TheVariants as given
 use Rattle.par2_spec.specs.Refusals.{refusal}
@@ -53,3 +53,11 @@ written_by (given.Repair base extras purge) after old new holds = holds
 written_by (given.Purge base) after old new holds = holds
 written_by given.Undo after old new holds = holds
 written_by given.Redo after old new holds = holds
+
+-- nor is one of them a verify
+pub not_verify : (action : Action) → IsVerify (action_of action) → ⊥
+not_verify (given.Create a) is = is
+not_verify (given.Repair base extras purge) is = is
+not_verify (given.Purge base) is = is
+not_verify given.Undo is = is
+not_verify given.Redo is = is

@@ -1,16 +1,19 @@
 -- What opening does to a store: what its contents are before and after, and what a power cut may leave of them, where it is
 -- honest; and what it counts.
-use Rattle.std.specs.Prelude.{◌≡◌, ℕ, List, Option, Vec, Result, IfOk, IsErrOf, IsTrue, OnErr, OnOk, option_map}
+use Rattle.std.specs.Prelude.{◌≡◌, ℕ, List, Option, Some, None, Vec, Result, IfOk, IsErrOf, IsTrue, OnErr, OnOk, option_map}
+use Rattle.std.specs.Borrow.{Bor}
 use Rattle.std.specs.declared.alloc.Global.{Global}
 use Rattle.par2_spec.specs.Changes.{Change, FolderState, are_applicable}
-use Rattle.par2_spec.specs.Commands.{Action}
 use Rattle.par2_spec.specs.Opening as defined
 use Rattle.par2_spec.specs.Sessions.{Session}
 use Rattle.par2_spec.specs.Stores.{Contents}
+use Rattle.par2_spec.specs.Views.{command_of}
+use Rattle.par2_spec.specs.declared.commands.Command.{Command}
 use Rattle.par2_folder.specs.declared.view.Store.{Ghosts as StoreOf}
 use Rattle.par2_tool.specs.Calls.{CountsOpening}
 use Rattle.par2_tool.specs.Holding.{OpensAsBefore, TellsApartBack}
 use Rattle.par2_tool.specs.Opening.{started_of, CountsFailures, IsOpened, IsRead, IsStillHalfway, IsTakenBack, LeavesUnopened, StandsFor}
+use Rattle.par2_tool.specs.Performing.{IsVerify}
 use Rattle.par2_tool.specs.Writing.{IsKept, StaysKept}
 use Rattle.par2_tool.specs.declared.opening.OpenFault.{OpenFault}
 use Rattle.par2_tool.specs.declared.opening.OpenFault.TheVariants.{Memory}
@@ -40,17 +43,19 @@ pub record Opens {S T : Type 0} (store : StoreOf S) (old new : S) (result : Resu
 abbrev pub Starts : {S : Type 0} → StoreOf S → S → S → Result Started OpenFault → Type 0
 Starts store old new result = IfOk result (λ started. IsOpened (store.contents old) (store.contents new) (started_of started))
 
--- the answer is like that
-abbrev pub StartsAlike : {S : Type 0} → StoreOf S → S → S → (defined.Started → defined.Started → Type 0) → Result Started OpenFault → Type 0
-StartsAlike store old new IsAlike result =
-    IfOk result (λ started. (opened : defined.Started) × IsAlike opened (started_of started) × (store.honest old → IsOpened (store.contents old) (store.contents new) opened))
+abbrev pub Verifies : Option (Bor Command) → Type 0
+Verifies None = ⊥
+Verifies (Some command) = IsVerify (command_of command.now)
 
-abbrev pub AreOnOneFolder : defined.Started → defined.Started → Type 0
-AreOnOneFolder opened started = opened.session.folder ≡ started.session.folder
+-- a command has the same answer on both; where none is given, they are equal
+abbrev pub Stands : Option (Bor Command) → defined.Started → defined.Started → Type 0
+Stands None opened started = opened ≡ started
+Stands (Some command) opened started = StandsFor (command_of command.now) opened started
 
--- the answer has the same answer to the action
-abbrev pub StartsFor : {S : Type 0} → StoreOf S → S → S → Action → Result Started OpenFault → Type 0
-StartsFor store old new action result = StartsAlike store old new (StandsFor action) result
+-- the answer stands for what an honest one opens as
+abbrev pub StartsFor : {S : Type 0} → StoreOf S → S → S → Option (Bor Command) → Result Started OpenFault → Type 0
+StartsFor store old new command result =
+    IfOk result (λ started. (opened : defined.Started) × Stands command opened (started_of started) × (store.honest old → IsOpened (store.contents old) (store.contents new) opened))
 
 -- a halfway command is taken back in an honest store
 pub record TakesWayBack {S T : Type 0} (store : StoreOf S) (old new : S) (session : Session) (back : List Change) (result : Result T OpenFault) : Type 0 where

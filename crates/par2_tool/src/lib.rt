@@ -16,4 +16,5 @@ pub use par2_printing::Printer;
 pub use par2_spec::{Action, Command, CreateArgs, Failure, Fault};
 pub use par2_words::{WordsFault, read_words};
 pub use performing::{Outcome, PerformFault, perform};
+pub use printing::fail;
 pub use running::run;

@@ -1,14 +1,13 @@
 //! A store is opened as a session.
-ghost use Rattle.std.specs.Prelude.{◌≡◌, ◌+◌, IfOk, IsErrOf, Some, length};
-ghost use Rattle.par2_journal.specs.Opening.{session_before, way_left};
+ghost use Rattle.std.specs.Prelude.{◌≡◌, ◌+◌, IfOk, IsErrOf, Ok, Some, length, true};
+ghost use Rattle.par2_journal.specs.Opening.{OpensAsIs, session_before, way_left};
 ghost use Rattle.par2_spec.specs.Opening.{new_session};
 ghost use Rattle.par2_spec.specs.Sessions.{session_of_kept};
-ghost use Rattle.par2_spec.specs.Views.{command_of};
 ghost use Rattle.par2_folder.specs.Stores.{OnlyReads};
 ghost use Rattle.par2_tool.specs.Calls.{CountsCalls};
 ghost use Rattle.par2_tool.specs.Holding.{with_history};
 ghost use Rattle.par2_tool.specs.Opening.{started_of, CountsFailures, IsRead};
-ghost use Rattle.par2_tool.specs.StoreOpenings.{AreOnOneFolder, KeepsStore, Opens, ReadsStore, Starts, StartsAlike, StartsFor, TakesWayBack};
+ghost use Rattle.par2_tool.specs.StoreOpenings.{KeepsStore, Opens, ReadsStore, Starts, StartsFor, TakesWayBack, Verifies};
 
 use crate::writing::write_down;
 use par2_folder::{Folder, FolderStore, ReadFault, read_folder};
@@ -18,7 +17,7 @@ use std::alloc::{AllocError, Global};
 use thiserror::Error;
 
 /// A store that was opened.
-#[derive(Debug, Drop)]
+#[derive(Drop)]
 pub struct Started {
     pub session: Session,
     /// Whether a history was given up, since the folder is not as it was left.
@@ -168,21 +167,51 @@ fn open_with<S: FolderStore>(
     }
 }
 
-// Opens a store as a session, of which an undo or redo will be asked where one is next.
-fn open_session<S: FolderStore>(
+// The undo or redo that a command is.
+fn next_of(command: Option<&Command>) -> Option<Next> {
+    match command {
+        Some(Command::Act(Action::Undo)) => Some(Next::Undo),
+        Some(Command::Act(Action::Redo)) => Some(Next::Redo),
+        _ => None,
+    }
+}
+
+// Whether the history needn't be looked at: a verify asks for the folder alone, where that opens as it is.
+fn needs_no_history(
+    alloc: Global,
+    command: Option<&Command>,
+    folder: &mut Folder,
+    text: &[u8],
+) -> Result<bool, AllocError>
+    ensures files { folder.new.files ≡ folder.old.files }
+    ensures verify { result ≡ Ok true → Verifies command.entry }
+    ensures opens { result ≡ Ok true → OpensAsIs folder.old.files text.now }
+{
+    match command {
+        Some(Command::Verify { .. }) => opens_as_is(alloc, folder, text),
+        _ => Ok(false),
+    }
+}
+
+/// Opens a store for a command, if one is given, as [`open_store`] does; for a verify, on the same folder, but maybe
+/// without the history, nor is it said then whether one was given up.
+pub(crate) fn open_for<S: FolderStore>(
     alloc: Global,
     store: &mut S,
-    next: Option<Next>,
+    command: Option<&Command>,
 ) -> Result<Started, OpenFault>
-    ensures opened { S.honest store.old → Starts S.Store store.old store.new result }
+    ensures opened { StartsFor S.Store store.old store.new command.entry result }
     ensures opens { S.honest store.old → Opens S.Store store.old store.new result }
     ensures keeps { KeepsStore S.Store store.old store.new result }
 {
-    let (folder, journal) = read_store(alloc, store)?;
-    match journal {
-        Some(text) => open_with(alloc, store, folder, &text, next),
-        None => Ok(without_history(alloc, folder)),
+    let (mut folder, journal) = read_store(alloc, store)?;
+    let Some(text) = journal else {
+        return Ok(without_history(alloc, folder));
+    };
+    if needs_no_history(alloc, command, &mut folder, &text)? {
+        return Ok(without_history(alloc, folder));
     }
+    open_with(alloc, store, folder, &text, next_of(command))
 }
 
 /// Opens a store as a session: its names, files and journal are read, and a halfway command is taken back.
@@ -193,48 +222,5 @@ pub fn open_store<S: FolderStore>(alloc: Global, store: &mut S) -> Result<Starte
     ensures opens { S.honest store.old → Opens S.Store store.old store.new result }
     ensures keeps { KeepsStore S.Store store.old store.new result }
 {
-    open_session(alloc, store, None)
-}
-
-// Opens a store for a verify, which asks for the folder alone: where the folder opens as it is, its history is not
-// looked at, and the session is a new one.
-fn open_for_verify<S: FolderStore>(alloc: Global, store: &mut S) -> Result<Started, OpenFault>
-    ensures opened { StartsAlike S.Store store.old store.new AreOnOneFolder result }
-    ensures opens { S.honest store.old → Opens S.Store store.old store.new result }
-    ensures keeps { KeepsStore S.Store store.old store.new result }
-{
-    let (mut folder, journal) = read_store(alloc, store)?;
-    let Some(text) = journal else {
-        return Ok(without_history(alloc, folder));
-    };
-    if opens_as_is(alloc, &mut folder, &text)? {
-        return Ok(without_history(alloc, folder));
-    }
-    open_with(alloc, store, folder, &text, None)
-}
-
-// The undo or redo that an action is.
-fn next_of(action: &Action) -> Option<Next> {
-    match action {
-        Action::Undo => Some(Next::Undo),
-        Action::Redo => Some(Next::Redo),
-        _ => None,
-    }
-}
-
-/// Opens a store for a command, as [`open_store`] does; for a verify, on the same folder, but maybe without the
-/// history, nor is it said then whether one was given up.
-pub(crate) fn open_for<S: FolderStore>(
-    alloc: Global,
-    store: &mut S,
-    command: &Command,
-) -> Result<Started, OpenFault>
-    ensures opened { StartsFor S.Store store.old store.new (command_of command.now) result }
-    ensures opens { S.honest store.old → Opens S.Store store.old store.new result }
-    ensures keeps { KeepsStore S.Store store.old store.new result }
-{
-    match command {
-        Command::Verify { .. } => open_for_verify(alloc, store),
-        Command::Act(action) => open_session(alloc, store, next_of(action)),
-    }
+    open_for(alloc, store, None)
 }

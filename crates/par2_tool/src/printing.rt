@@ -42,15 +42,6 @@ fn write_steps<W: Write>(out: &mut Printer<W>, steps: &[Step]) -> Result<(), Wri
     Ok(())
 }
 
-fn write_all_done<W: Write>(out: &mut Printer<W>, steps: &[Step]) -> Result<(), WriteFault>
-    ensures { Wrote W.contents out.old out.new (done_text (map step_view steps.now)) result }
-{
-    match write_steps(out, steps) {
-        Ok(()) => write_done(out, steps.len()),
-        Err(fault) => Err(fault),
-    }
-}
-
 fn write_accepted<W: Write>(
     out: &mut Printer<W>,
     steps: &[Step],
@@ -59,10 +50,9 @@ fn write_accepted<W: Write>(
     ensures { Wrote W.contents out.old out.new
         (note_text dropped ++ done_text (map step_view steps.now)) result }
 {
-    match write_note(out, dropped) {
-        Ok(()) => write_all_done(out, steps),
-        Err(fault) => Err(fault),
-    }
+    write_note(out, dropped)?;
+    write_steps(out, steps)?;
+    write_done(out, steps.len())
 }
 
 fn printed_state(state: &State) -> PrintedState<'_>

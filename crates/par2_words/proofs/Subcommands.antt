@@ -10,22 +10,22 @@ use Rattle.clap.specs.declared.parser.matches.ArgMatches.{ArgMatches}
 use Rattle.clap.specs.declared.parser.matches.SubCommand.{SubCommand}
 use Rattle.clap.specs.declared.parser.matches.ArgMatches.TheViews.{out-ArgMatches, out-SubCommand}
 use Rattle.clap.proofs.OnLiterals.{clap_on_literals}
-use Rattle.par2_words.specs.Definition.{create_app, create_numbers_app, file_commands_app, par2_app, purge_app, repair_app, start_app, verify_app}
+use Rattle.par2_words.specs.Definition.{create_app, par2_app, purge_app, repair_app, start_app, verify_app}
 use Rattle.par2_spec.proofs.ListsLaws.{found_one}
 
 simple : is_simple par2_app ≡ true
-unfolding clap_on_literals create_app create_numbers_app file_commands_app par2_app purge_app repair_app start_app verify_app
+unfolding clap_on_literals create_app par2_app purge_app repair_app start_app verify_app
 simple = refl
 
 free : is_simple_and_free par2_app ≡ true
-unfolding clap_on_literals create_app create_numbers_app file_commands_app par2_app purge_app repair_app start_app verify_app
+unfolding clap_on_literals create_app par2_app purge_app repair_app start_app verify_app
 free = refl
 
 abbrev is_known : Shape → Bool
 is_known s = is_some (meaning (s.name, []))
 
 all_known : list_all is_known (built par2_app).subs ≡ true
-unfolding clap_on_literals create_app create_numbers_app file_commands_app par2_app purge_app repair_app start_app verify_app
+unfolding clap_on_literals create_app par2_app purge_app repair_app start_app verify_app
 all_known = refl
 
 find_all : {X : Type 0} (p q : X → Bool) (xs : List X) (x : X) → find p xs ≡ Some x → list_all q xs ≡ true → q x ≡ true

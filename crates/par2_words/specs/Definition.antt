@@ -3,39 +3,30 @@
 --   | undo | redo
 -- An option is given once at most, also between the names, and `--` ends the options. There is no `help` command.
 -- `--help` and `-h` end the parse with a fault, as every simple clap command does.
-use Rattle.std.specs.Prelude.{◌≡◌, [], ◌∷◌, Some, codes, false, pos, true}
-use Rattle.clap.specs.Words.{App, Rule, app_of, new_app, new_rule, with_rule, with_subcommand}
+use Rattle.std.specs.Prelude.{◌≡◌, ℕ, [], ◌∷◌, IfOk, Result, Some, codes, false, pos, true}
+use Rattle.clap.specs.Words.{App, Rule, Text, app_of, new_app, new_rule, rule_of, with_rule, with_subcommand}
+use Rattle.clap.specs.declared.builder.arg.Arg.{Arg}
 use Rattle.clap.specs.declared.builder.command.Command.{Command}
 use Rattle.clap.specs.declared.builder.command.Command.TheViews.{out-Command}
 use Rattle.clap.specs.declared.builder.action.ArgAction.TheVariants.{Append, Set, SetTrue}
+use Rattle.clap.specs.declared.builder.value_parser.ValueParser.{ValueParser}
 use Rattle.clap.specs.declared.builder.value_parser.ValueParser.TheVariants as vp
+
+-- an option with a number
+abbrev pub number_rule : Text → ℕ → ValueParser → Rule
+number_rule id short parser = record (new_rule id) { short = Some short; action = Some Set; parser = Some parser }
 
 -- `-sN`, a whole number of 64 bits that has to be given
 abbrev pub slice_rule : Rule
-slice_rule = record (new_rule (codes "slice")) {
-  short = Some 115;
-  action = Some Set;
-  parser = Some (vp.Unsigned 0 18446744073709551615);
-  required = true;
-}
+slice_rule = record (number_rule (codes "slice") 115 (vp.Unsigned 0 18446744073709551615)) { required = true }
 
 -- `-cN`, one of 32 bits that has to be given
 abbrev pub count_rule : Rule
-count_rule = record (new_rule (codes "count")) {
-  short = Some 99;
-  action = Some Set;
-  parser = Some (vp.Signed (pos 0) (pos 4294967295));
-  required = true;
-}
+count_rule = record (number_rule (codes "count") 99 (vp.Signed (pos 0) (pos 4294967295))) { required = true }
 
 -- `-fN`, one of 32 bits, 0 where it is not given
 abbrev pub first_rule : Rule
-first_rule = record (new_rule (codes "first")) {
-  short = Some 102;
-  action = Some Set;
-  parser = Some (vp.Signed (pos 0) (pos 4294967295));
-  defaults = codes "0" ∷ [];
-}
+first_rule = record (number_rule (codes "first") 102 (vp.Signed (pos 0) (pos 4294967295))) { defaults = codes "0" ∷ [] }
 
 abbrev pub overwrite_rule : Rule
 overwrite_rule = record (new_rule (codes "overwrite")) {
@@ -52,11 +43,9 @@ base_rule = record (new_rule (codes "base")) { action = Some Set; required = tru
 abbrev pub files_rule : Rule
 files_rule = record (new_rule (codes "files")) { action = Some Append }
 
-unfoldable pub create_numbers_app : App
-create_numbers_app = with_rule (with_rule (with_rule (new_app (codes "create")) slice_rule) count_rule) first_rule
-
 unfoldable pub create_app : App
-create_app = with_rule (with_rule (with_rule create_numbers_app overwrite_rule) base_rule) files_rule
+create_app = with_rule (with_rule (with_rule (with_rule (with_rule (with_rule (new_app (codes "create"))
+    slice_rule) count_rule) first_rule) overwrite_rule) base_rule) files_rule
 
 unfoldable pub verify_app : App
 verify_app = with_rule (with_rule (new_app (codes "verify")) base_rule) files_rule
@@ -72,14 +61,18 @@ start_app = record (new_app (codes "par2")) {
   top = record (new_app (codes "par2")).top { no_binary_name = true; disable_help_subcommand = true };
 }
 
-unfoldable pub file_commands_app : App
-file_commands_app = with_subcommand (with_subcommand (with_subcommand start_app create_app.top)
-    verify_app.top) repair_app.top
-
 unfoldable pub par2_app : App
-par2_app = with_subcommand (with_subcommand (with_subcommand file_commands_app purge_app.top)
-    (new_app (codes "undo")).top) (new_app (codes "redo")).top
+par2_app = with_subcommand (with_subcommand (with_subcommand (with_subcommand (with_subcommand (with_subcommand start_app
+    create_app.top) verify_app.top) repair_app.top) purge_app.top) (new_app (codes "undo")).top) (new_app (codes "redo")).top
 
 -- the command is this one, and has no global argument
 abbrev pub IsApp : Command → App → Type 0
 IsApp command app = (app_of command ≡ app) × ((out-Command command).has_globals ≡ false)
+
+-- so is what was made, where there was memory for it
+abbrev pub Defines : {E : Type 0} → Result Command E → App → Type 0
+Defines made app = IfOk made (λ command. IsApp command app)
+
+-- the argument is this one, and not a global one
+abbrev pub IsArg : Arg → Rule → Type 0
+IsArg arg rule = (rule_of arg ≡ rule) × (arg.global ≡ false)

@@ -1,4 +1,8 @@
--- Words that are no command.
+-- What reading words answers.
+use Rattle.std.specs.Prelude.{◌≡◌, Result, IfErr, IfOk}
+use Rattle.par2_spec.specs.Commands.{Action}
+use Rattle.par2_spec.specs.Views.{command_of}
+use Rattle.par2_spec.specs.declared.commands.Command.{Command}
 use Rattle.par2_spec.specs.declared.Failure.{Failure}
 use Rattle.par2_spec.specs.declared.Failure.TheVariants as failure
 use Rattle.par2_spec.specs.declared.Fault.TheVariants.{Memory}
@@ -9,3 +13,7 @@ use Rattle.par2_words.specs.declared.read.WordsFault.TheVariants as unread
 abbrev pub unread_as : WordsFault → Failure
 unread_as unread.Arguments = failure.Arguments
 unread_as unread.Memory = failure.Refused Memory
+
+-- the command asks for the action, or memory ran out
+abbrev pub IsMeant : Result Command WordsFault → Action → Type 0
+IsMeant result action = IfOk result (λ command. command_of command ≡ action) × IfErr result (λ fault. fault ≡ unread.Memory)

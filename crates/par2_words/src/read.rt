@@ -1,8 +1,9 @@
 //! What the words ask for.
 ghost use Rattle.std.specs.Prelude.{◌≡◌, ◌⊎◌, ℕ, List, [], IfOk, IfErr, Some, None, true, false, codes, map, is_some, string_bytes, unwrap_or, option_and_then, option_map};
-ghost use Rattle.clap.specs.Words.{HasMatchesOf, Text, fault_of, found_of, one_of, rows_of, kind_of, subcommand_of, takes};
-ghost use Rattle.par2_spec.specs.Views.{action_of, command_of};
+ghost use Rattle.clap.specs.Words.{Text, fault_of, found_of, one_of, rows_of, kind_of, subcommand_of, takes};
+ghost use Rattle.par2_spec.specs.Views.{command_of};
 ghost use Rattle.par2_words.specs.Definition.{par2_app};
+ghost use Rattle.par2_words.specs.Refusals.{IsMeant};
 ghost use Rattle.par2_words.specs.Meanings.{asked_by, meaning, number_of, text_of, texts_of, flag_of, create_meaning, verify_meaning, repair_meaning, purge_meaning};
 
 use crate::definition::par2_command;
@@ -86,21 +87,21 @@ fn count_of(matches: &ArgMatches<'_>, id: &str) -> u32
     matches.get_one::<u32>(id).unwrap_or(0)
 }
 
-fn create_of(alloc: Global, matches: &ArgMatches<'_>) -> Result<Action, AllocError>
-    ensures { IfOk result (λ a. action_of a ≡ create_meaning (rows_of (found_of matches.now))) }
+fn create_of(alloc: Global, matches: &ArgMatches<'_>) -> Result<Command, WordsFault>
+    ensures { IsMeant result (create_meaning (rows_of (found_of matches.now))) }
 {
-    Ok(Action::Create(CreateArgs {
+    Ok(Command::Act(Action::Create(CreateArgs {
         slice: slice_size_of(matches),
         count: count_of(matches, "count"),
         first: count_of(matches, "first"),
         base: base_of(alloc, matches)?,
         inputs: files_of(alloc, matches)?,
         overwrite: has_flag(matches, "overwrite"),
-    }))
+    })))
 }
 
-fn verify_of(alloc: Global, matches: &ArgMatches<'_>) -> Result<Command, AllocError>
-    ensures { IfOk result (λ c. command_of c ≡ verify_meaning (rows_of (found_of matches.now))) }
+fn verify_of(alloc: Global, matches: &ArgMatches<'_>) -> Result<Command, WordsFault>
+    ensures { IsMeant result (verify_meaning (rows_of (found_of matches.now))) }
 {
     Ok(Command::Verify {
         base: base_of(alloc, matches)?,
@@ -108,22 +109,22 @@ fn verify_of(alloc: Global, matches: &ArgMatches<'_>) -> Result<Command, AllocEr
     })
 }
 
-fn repair_of(alloc: Global, matches: &ArgMatches<'_>) -> Result<Action, AllocError>
-    ensures { IfOk result (λ a. action_of a ≡ repair_meaning (rows_of (found_of matches.now))) }
+fn repair_of(alloc: Global, matches: &ArgMatches<'_>) -> Result<Command, WordsFault>
+    ensures { IsMeant result (repair_meaning (rows_of (found_of matches.now))) }
 {
-    Ok(Action::Repair {
+    Ok(Command::Act(Action::Repair {
         base: base_of(alloc, matches)?,
         extras: files_of(alloc, matches)?,
         purge: has_flag(matches, "purge"),
-    })
+    }))
 }
 
-fn purge_of(alloc: Global, matches: &ArgMatches<'_>) -> Result<Action, AllocError>
-    ensures { IfOk result (λ a. action_of a ≡ purge_meaning (rows_of (found_of matches.now))) }
+fn purge_of(alloc: Global, matches: &ArgMatches<'_>) -> Result<Command, WordsFault>
+    ensures { IsMeant result (purge_meaning (rows_of (found_of matches.now))) }
 {
-    Ok(Action::Purge {
+    Ok(Command::Act(Action::Purge {
         base: base_of(alloc, matches)?,
-    })
+    }))
 }
 
 // The command of a subcommand's name and matches.
@@ -134,10 +135,10 @@ fn named(alloc: Global, name: &str, matches: &ArgMatches<'_>) -> Result<Command,
         ⊎ meaning (name.now, rows_of (found_of matches.now)) ≡ None) }
 {
     match name {
-        "create" => Ok(Command::Act(create_of(alloc, matches)?)),
-        "verify" => Ok(verify_of(alloc, matches)?),
-        "repair" => Ok(Command::Act(repair_of(alloc, matches)?)),
-        "purge" => Ok(Command::Act(purge_of(alloc, matches)?)),
+        "create" => create_of(alloc, matches),
+        "verify" => verify_of(alloc, matches),
+        "repair" => repair_of(alloc, matches),
+        "purge" => purge_of(alloc, matches),
         "undo" => Ok(Command::Act(Action::Undo)),
         "redo" => Ok(Command::Act(Action::Redo)),
         _ => Err(WordsFault::Arguments),
@@ -154,20 +155,6 @@ fn fault_for(error: &clap::Error) -> WordsFault
     }
 }
 
-// What clap finds in the words.
-fn matches_of<'a>(alloc: Global, words: &'a [String]) -> Result<ArgMatches<'a>, WordsFault>
-    ensures matches { IfOk result (HasMatchesOf par2_app (map string_bytes words.now)) }
-    ensures faultless { IfOk result (λ _. fault_of par2_app (map string_bytes words.now) ≡ []) }
-    ensures arguments { IfErr result (λ e.
-        takes par2_app (map string_bytes words.now) ≡ true → e ≡ WordsFault.Memory) }
-{
-    let command = par2_command(alloc)?;
-    match command.try_get_matches_from(words) {
-        Ok(matches) => Ok(matches),
-        Err(error) => Err(fault_for(&error)),
-    }
-}
-
 /// The command that the words ask for, the program's name left out.
 ///
 /// Every refusal by clap but out of memory is `Arguments`, `--help` too.
@@ -180,7 +167,10 @@ pub fn read_words(alloc: Global, words: &[String]) -> Result<Command, WordsFault
         takes par2_app texts ≡ true → is_some (subcommand_of par2_app texts) ≡ true
         → IfErr result (λ e. e ≡ WordsFault.Memory) }
 {
-    let matches = matches_of(alloc, words)?;
+    let matches = match par2_command(alloc)?.try_get_matches_from(words) {
+        Ok(matches) => matches,
+        Err(error) => return Err(fault_for(&error)),
+    };
     match matches.subcommand() {
         Some((name, matches)) => named(alloc, name, matches),
         None => Err(WordsFault::Arguments),

@@ -3,7 +3,7 @@ use Rattle.par2_tool.proofs.AsIs.{opened_on}
 use Rattle.par2_tool.proofs.Calls.{back_calls, refused_calls}
 use Rattle.par2_tool.proofs.MadeChanges.{is_new}
 use Rattle.par2_tool.proofs.Openings.{any_err, holds_settled, opened_taken_back, opens_refused, opens_still, way_applies}
-use Rattle.par2_tool.proofs.StoreOpenings.{stays_opens}
+use Rattle.par2_tool.proofs.StoreOpenings.{stays_keeps, stays_opens}
 use Rattle.par2_tool.proofs.opening.open_with.Goals.{In-Ok-Halfway}
 use Rattle.par2_tool.proofs.opening.open_with.Goals as goal
 
@@ -123,3 +123,18 @@ returns-in-Err-JournalInvalid-default-clause-opens g c honest read =
 
 pub returns-in-Err-Memory-default-clause-opens : goal.returns-in-Err-Memory-default-clause-opens
 returns-in-Err-Memory-default-clause-opens g c honest read = stays_opens g.S.Store c.args.store.now _ (record { refused = refl; stopped = λ _. inl refl })
+
+pub returns-in-Ok-Settled-clause-keeps : goal.returns-in-Ok-Settled-clause-keeps
+returns-in-Ok-Settled-clause-keeps g c = stays_keeps g.S.Store c.args.store.now _ tt
+
+pub returns-in-Err-FolderChanged-false-default-clause-keeps : goal.returns-in-Err-FolderChanged-false-default-clause-keeps
+returns-in-Err-FolderChanged-false-default-clause-keeps g c = stays_keeps g.S.Store c.args.store.now _ tt
+
+pub returns-in-Err-FolderChanged-true-default-clause-keeps : goal.returns-in-Err-FolderChanged-true-default-clause-keeps
+returns-in-Err-FolderChanged-true-default-clause-keeps g c = stays_keeps g.S.Store c.args.store.now _ refl
+
+pub returns-in-Err-JournalInvalid-default-clause-keeps : goal.returns-in-Err-JournalInvalid-default-clause-keeps
+returns-in-Err-JournalInvalid-default-clause-keeps g c = stays_keeps g.S.Store c.args.store.now _ refl
+
+pub returns-in-Err-Memory-default-clause-keeps : goal.returns-in-Err-Memory-default-clause-keeps
+returns-in-Err-Memory-default-clause-keeps g c = stays_keeps g.S.Store c.args.store.now _ refl

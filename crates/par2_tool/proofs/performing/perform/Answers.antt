@@ -1,10 +1,10 @@
-use Rattle.par2_tool.proofs.Common.{◌≡◌, ◌+◌, List, length, refl, sym, ap, subst, ◌∙◌, map, arith, length-map, Verify, LeadsToAfterAsked, KeptSession, session_of_kept, session_after, changes_asked, Contents, action_of, command_of, report_of, MayRefuse, Plan, Lasts, change_of, changes_by_kind, after_commit, AreAtMost, calls_asked, calls_to_write, TellsApartAlong, OpensAsBeforeOrAfter, after_write_down, AreSomeMade, HoldsJournaled, IsStoppedAt, IsWritten}
+use Rattle.par2_tool.proofs.Common.{inl, ◌≡◌, ◌+◌, List, length, refl, sym, ap, subst, ◌∙◌, map, arith, IsVerify, after_write_down, AreSomeMade, HoldsJournaled, IsStoppedAt, IsWritten, length-map, Verify, LeadsToAfterAsked, session_of_kept, session_after, changes_asked, Contents, action_of, command_of, report_of, MayRefuse, Plan, Two, AreSpelled, change_of, changes_by_kind, after_commit, AreAtMost, calls_asked, calls_to_write, TellsApartAlong, OpensAsBeforeOrAfter, journals_of}
 use Rattle.par2_spec.specs.Changes as defined
 use Rattle.par2_spec.specs.declared.commands.Command.{Command}
 use Rattle.par2_spec.proofs.AcceptedCommands.{command_leads}
 use Rattle.par2_tool.proofs.Calls.{asked_calls, ready_calls}
 use Rattle.par2_tool.proofs.Openings.{any_err}
-use Rattle.par2_tool.proofs.VerifyRuns.{as_it_was, verify_leaves, verify_refused, written_by}
+use Rattle.par2_tool.proofs.VerifyRuns.{as_it_was, not_verify, verify_leaves, verify_refused, written_by}
 use Rattle.par2_tool.proofs.Stops.{IsMadeReady, none_made, made_ready, ready_applies, written_holds, written_journal, stopped_opens, asked_in_order}
 use Rattle.par2_tool.proofs.performing.perform.Goals.{After-write_down}
 use Rattle.par2_tool.proofs.performing.perform.Goals as goal
@@ -42,6 +42,59 @@ returns-in_err-journals-clause-in_order g c honest =
     let asked = changes_asked (session_of_kept c.args.session.now) (command_of c.args.command.now) in
     any_err c.from_residual.result (AreSomeMade asked files files) (none_made files asked)
 
+-- ---- where the store is left alone
+
+pub returns-in-Ok-clause-cut : goal.returns-in-Ok-clause-cut
+returns-in-Ok-clause-cut g c honest lasts files apart left may = inl (lasts left may)
+
+pub returns-in-Ok-clause-possible : goal.returns-in-Ok-clause-possible
+returns-in-Ok-clause-possible g c honest files = refl {a = g.S.Store.impossible c.args.store.now}
+
+pub returns-in-Err-clause-cut : goal.returns-in-Err-clause-cut
+returns-in-Err-clause-cut g c honest lasts files apart left may = inl (lasts left may)
+
+pub returns-in-Err-clause-possible : goal.returns-in-Err-clause-possible
+returns-in-Err-clause-possible g c honest files = refl {a = g.S.Store.impossible c.args.store.now}
+
+pub returns-in-Err-prepare-clause-cut : goal.returns-in-Err-prepare-clause-cut
+returns-in-Err-prepare-clause-cut g c honest lasts files apart left may = inl (lasts left may)
+
+pub returns-in-Err-prepare-clause-possible : goal.returns-in-Err-prepare-clause-possible
+returns-in-Err-prepare-clause-possible g c honest files = refl {a = g.S.Store.impossible c.args.store.now}
+
+pub returns-in_err-journals-clause-cut : goal.returns-in_err-journals-clause-cut
+returns-in_err-journals-clause-cut g c honest lasts files apart left may = inl (lasts left may)
+
+pub returns-in_err-journals-clause-possible : goal.returns-in_err-journals-clause-possible
+returns-in_err-journals-clause-possible g c honest files = refl {a = g.S.Store.impossible c.args.store.now}
+
+pub returns-in-Err-clause-stopped : goal.returns-in-Err-clause-stopped
+returns-in-Err-clause-stopped g c honest files apart = inl (refl {a = g.S.Store.contents c.args.store.now})
+
+pub returns-in-Err-prepare-clause-stopped : goal.returns-in-Err-prepare-clause-stopped
+returns-in-Err-prepare-clause-stopped g c honest files apart = inl (refl {a = g.S.Store.contents c.args.store.now})
+
+pub returns-in_err-journals-clause-stopped : goal.returns-in_err-journals-clause-stopped
+returns-in_err-journals-clause-stopped g c honest files apart =
+    let start = g.S.Store.contents c.args.store.now in
+    any_err c.from_residual.result (OpensAsBeforeOrAfter (session_of_kept c.args.session.now) (command_of c.args.command.now) start start) (inl refl)
+
+-- ---- no action is a verify
+
+pub returns-in-Err-prepare-clause-verify : goal.returns-in-Err-prepare-clause-verify
+returns-in-Err-prepare-clause-verify g c is = absurd (not_verify c.in-Act.action (subst (λ (x : Command). IsVerify (command_of x)) c.in-Act.is is))
+
+pub returns-in_err-journals-clause-verify : goal.returns-in_err-journals-clause-verify
+returns-in_err-journals-clause-verify g c is = absurd (not_verify c.in-Act.action (subst (λ (x : Command). IsVerify (command_of x)) c.in-Act.is is))
+
+pub returns-in-Ok-write_down-clause-verify : goal.returns-in-Ok-write_down-clause-verify
+returns-in-Ok-write_down-clause-verify g c is = absurd (not_verify c.in-Act.action (subst (λ (x : Command). IsVerify (command_of x)) c.in-Act.is is))
+
+pub returns-in-Err-write_down-clause-verify : goal.returns-in-Err-write_down-clause-verify
+returns-in-Err-write_down-clause-verify g c is = absurd (not_verify c.in-Act.action (subst (λ (x : Command). IsVerify (command_of x)) c.in-Act.is is))
+
+-- ---- an action
+
 -- what was made ready, and the changes that were written
 made_of : (g : _) (c : After-write_down g) → IsMadeReady (action_of c.in-Act.action) c.args.session.now c.in-Ok-prepare.prepared c.prepare.new.self
 made_of g c = made_ready c.ready_changes_apply.ensures.applies c.ready_changes_apply.ensures.commits (action_of c.in-Act.action) c.args.session.now c.in-Ok-prepare.prepared c.prepare.new.self c.in-Ok-prepare.ensures.kept c.in-Ok-prepare.ensures.ready c.folder-folder.ensures.walks
@@ -49,61 +102,53 @@ made_of g c = made_ready c.ready_changes_apply.ensures.applies c.ready_changes_a
 changed_so : (g : _) (c : After-write_down g) → map change_of c.changes.result.now ≡ changes_by_kind c.in-Ok-prepare.prepared.kind c.prepare.new.self
 changed_so g c = c.changes.ensures ∙ (λ i. changes_by_kind (c.in_ok-journals.ensures.prepared i).kind (c.in_ok-journals.ensures.unchanged i))
 
+spelled_so : (g : _) (c : After-write_down g) → AreSpelled c.in_ok-journals.journals (journals_of Two (session_of_kept c.prepare.new.self) (action_of c.in-Act.action) (changes_by_kind c.in-Ok-prepare.prepared.kind c.prepare.new.self))
+spelled_so g c = c.in_ok-journals.ensures.journals (action_of c.in-Act.action) c.args.session.now (made_of g c).grew (made_of g c).is
+
+-- wherever that stops
+abbrev IsStop : (g : _) → After-write_down g → Contents → Type 0
+IsStop g c left = IsStoppedAt (g.S.Store.contents c.args.store.now) c.in_ok-journals.journals (map change_of c.changes.result.now) left
+
+stop_of : (g : _) (c : After-write_down g) (left : Contents) → IsStop g c left → IsStoppedAt (g.S.Store.contents c.args.store.now) c.in_ok-journals.journals (changes_by_kind c.in-Ok-prepare.prepared.kind c.prepare.new.self) left
+stop_of g c left = subst (λ (cs : List defined.Change). IsStoppedAt (g.S.Store.contents c.args.store.now) c.in_ok-journals.journals cs left) (changed_so g c)
+
+opens_so : (g : _) (c : After-write_down g) → (g.S.Store.contents c.args.store.now).files ≡ c.args.session.now.folder.files → TellsApartAlong (session_of_kept c.args.session.now) (command_of c.args.command.now) → (left : Contents) → IsStop g c left
+    → OpensAsBeforeOrAfter (session_of_kept c.args.session.now) (command_of c.args.command.now) (g.S.Store.contents c.args.store.now) left
+opens_so g c files apart left stop =
+    let session = session_of_kept c.args.session.now in
+    subst (λ (x : Command). OpensAsBeforeOrAfter session (command_of x) (g.S.Store.contents c.args.store.now) left) (sym c.in-Act.is)
+    (stopped_opens (action_of c.in-Act.action) c.args.session.now c.in-Ok-prepare.prepared c.prepare.new.self (made_of g c) c.in_ok-journals.journals (spelled_so g c) (g.S.Store.contents c.args.store.now) files left (stop_of g c left stop)
+    (subst (λ (x : Command). TellsApartAlong session (command_of x)) c.in-Act.is apart) c.in-Ok-prepare.ensures.leads)
+
 pub returns-in-Ok-write_down-clause-written : goal.returns-in-Ok-write_down-clause-written
 returns-in-Ok-write_down-clause-written g c honest files =
-    let ready = c.in-Ok-prepare.prepared in
-    let old = c.args.session.now in
+    let kind = c.in-Ok-prepare.prepared.kind in
     let mid = c.prepare.new.self in
     let at = (goal.at.returns-in-Ok-write_down-clause-written g c).After-write_down in
-    let made = made_of g at in
     let journals = c.in_ok-journals.journals in
     let given = c.in-Act.action in
     let start = g.S.Store.contents c.args.store.now in
     let new = g.S.Store.contents c.write_down.new.store in
-    let spelled = c.in_ok-journals.ensures.journals (action_of given) old made.grew made.is in
-    let changed = changed_so g at in
-    let there : new ≡ after_write_down start journals (changes_by_kind ready.kind mid) = c.in-Ok-write_down.ensures.written.done honest ∙ ap (after_write_down start journals) changed in
-    let after : c.commit.new.self ≡ after_commit ready.kind mid = c.commit.ensures.session ∙ (λ i. after_commit (c.in_ok-journals.ensures.prepared i).kind (c.in_ok-journals.ensures.unchanged i)) in
-    let all : HoldsJournaled (session_of_kept (after_commit ready.kind mid)) (after_write_down start journals (changes_by_kind ready.kind mid)) = (
-      written_holds (action_of given) old ready mid made journals spelled start files,
-      written_journal (action_of given) old ready mid made journals spelled start files,
+    let there : new ≡ after_write_down start journals (changes_by_kind kind mid) = c.in-Ok-write_down.ensures.written.done honest ∙ ap (after_write_down start journals) (changed_so g at) in
+    let after : c.commit.new.self ≡ after_commit kind mid = c.commit.ensures.session ∙ (λ i. after_commit (c.in_ok-journals.ensures.prepared i).kind (c.in_ok-journals.ensures.unchanged i)) in
+    let all : HoldsJournaled (session_of_kept (after_commit kind mid)) (after_write_down start journals (changes_by_kind kind mid)) = (
+      written_holds (action_of given) c.args.session.now c.in-Ok-prepare.prepared mid (made_of g at) journals (spelled_so g at) start files,
+      written_journal (action_of given) c.args.session.now c.in-Ok-prepare.prepared mid (made_of g at) journals (spelled_so g at) start files,
     ) in
     subst (λ (x : Command). IsWritten (command_of x) (session_of_kept c.commit.new.self) start new) (sym c.in-Act.is)
-    (written_by given (session_of_kept c.commit.new.self) start new
-    (subst (λ (k : Contents). HoldsJournaled (session_of_kept c.commit.new.self) k) (sym there)
-    (subst (λ (s : KeptSession). HoldsJournaled (session_of_kept s) (after_write_down start journals (changes_by_kind ready.kind mid))) (sym after) all)))
+    (written_by given (session_of_kept c.commit.new.self) start new (rw (there, after) all))
 
 pub returns-in-Err-write_down-clause-stopped : goal.returns-in-Err-write_down-clause-stopped
 returns-in-Err-write_down-clause-stopped g c honest files apart =
-    let ready = c.in-Ok-prepare.prepared in
-    let old = c.args.session.now in
-    let mid = c.prepare.new.self in
-    let at = (goal.at.returns-in-Err-write_down-clause-stopped g c).After-write_down in
-    let made = made_of g at in
-    let journals = c.in_ok-journals.journals in
-    let action = action_of c.in-Act.action in
-    let start = g.S.Store.contents c.args.store.now in
-    let new = g.S.Store.contents c.write_down.new.store in
-    let changed = changed_so g at in
-    let stop = subst (λ (cs : List defined.Change). IsStoppedAt start journals cs new) changed (c.in-Err-write_down.ensures.written.stopped honest) in
-    let apart_from : TellsApartAlong (session_of_kept old) action = subst (λ (x : Command). TellsApartAlong (session_of_kept old) (command_of x)) c.in-Act.is apart in
-    subst (λ (x : Command). OpensAsBeforeOrAfter (session_of_kept old) (command_of x) start new) (sym c.in-Act.is)
-    (stopped_opens action old ready mid made journals (c.in_ok-journals.ensures.journals action old made.grew made.is) start files new stop apart_from c.in-Ok-prepare.ensures.leads)
+    opens_so g (goal.at.returns-in-Err-write_down-clause-stopped g c).After-write_down files apart (g.S.Store.contents c.write_down.new.store) (c.in-Err-write_down.ensures.written.stopped honest)
 
 pub returns-in-Err-write_down-clause-in_order : goal.returns-in-Err-write_down-clause-in_order
 returns-in-Err-write_down-clause-in_order g c honest =
-    let ready = c.in-Ok-prepare.prepared in
-    let old = c.args.session.now in
-    let mid = c.prepare.new.self in
     let at = (goal.at.returns-in-Err-write_down-clause-in_order g c).After-write_down in
-    let made = made_of g at in
-    let journals = c.in_ok-journals.journals in
     let start = g.S.Store.contents c.args.store.now in
     let new = g.S.Store.contents c.write_down.new.store in
-    let changed = changed_so g at in
-    let stop = subst (λ (cs : List defined.Change). IsStoppedAt start journals cs new) changed (c.in-Err-write_down.ensures.written.stopped honest) in
-    subst (λ (x : Command). AreSomeMade (changes_asked (session_of_kept old) (command_of x)) start.files new.files) (sym c.in-Act.is)
-    (asked_in_order (action_of c.in-Act.action) old ready mid made start journals new stop)
+    subst (λ (x : Command). AreSomeMade (changes_asked (session_of_kept c.args.session.now) (command_of x)) start.files new.files) (sym c.in-Act.is)
+    (asked_in_order (action_of c.in-Act.action) c.args.session.now c.in-Ok-prepare.prepared c.prepare.new.self (made_of g at) start c.in_ok-journals.journals new (stop_of g at new (c.in-Err-write_down.ensures.written.stopped honest)))
 
 pub returns-in-Ok-write_down-clause-possible : goal.returns-in-Ok-write_down-clause-possible
 returns-in-Ok-write_down-clause-possible g c honest files =
@@ -117,28 +162,11 @@ returns-in-Err-write_down-clause-possible g c honest files =
     c.write_down.ensures.possible honest
     (ready_applies (action_of c.in-Act.action) c.args.session.now c.in-Ok-prepare.prepared c.prepare.new.self (made_of g at) (g.S.Store.contents c.args.store.now) files _ (changed_so g at))
 
--- whatever a cut leaves while the changes are written, or after it
-cut_opens : (g : _) (c : After-write_down g) → g.S.Store.honest c.args.store.now → Lasts (g.S.Store.may_remain c.args.store.now) (g.S.Store.contents c.args.store.now)
-    → (g.S.Store.contents c.args.store.now).files ≡ c.args.session.now.folder.files → TellsApartAlong (session_of_kept c.args.session.now) (command_of c.args.command.now) → (left : Contents) → g.S.Store.may_remain c.write_down.new.store left
-    → OpensAsBeforeOrAfter (session_of_kept c.args.session.now) (command_of c.args.command.now) (g.S.Store.contents c.args.store.now) left
-cut_opens g c honest lasts files apart left may =
-    let ready = c.in-Ok-prepare.prepared in
-    let old = c.args.session.now in
-    let mid = c.prepare.new.self in
-    let made = made_of g c in
-    let journals = c.in_ok-journals.journals in
-    let action = action_of c.in-Act.action in
-    let start = g.S.Store.contents c.args.store.now in
-    let stop = subst (λ (cs : List defined.Change). IsStoppedAt start journals cs left) (changed_so g c) (c.write_down.ensures.written.remains honest lasts left may) in
-    let apart_from : TellsApartAlong (session_of_kept old) action = subst (λ (x : Command). TellsApartAlong (session_of_kept old) (command_of x)) c.in-Act.is apart in
-    subst (λ (x : Command). OpensAsBeforeOrAfter (session_of_kept old) (command_of x) start left) (sym c.in-Act.is)
-    (stopped_opens action old ready mid made journals (c.in_ok-journals.ensures.journals action old made.grew made.is) start files left stop apart_from c.in-Ok-prepare.ensures.leads)
-
 pub returns-in-Ok-write_down-clause-cut : goal.returns-in-Ok-write_down-clause-cut
-returns-in-Ok-write_down-clause-cut g c honest lasts files apart left may = cut_opens g (goal.at.returns-in-Ok-write_down-clause-cut g c).After-write_down honest lasts files apart left may
+returns-in-Ok-write_down-clause-cut g c honest lasts files apart left may = opens_so g (goal.at.returns-in-Ok-write_down-clause-cut g c).After-write_down files apart left (c.write_down.ensures.written.remains honest lasts left may)
 
 pub returns-in-Err-write_down-clause-cut : goal.returns-in-Err-write_down-clause-cut
-returns-in-Err-write_down-clause-cut g c honest lasts files apart left may = cut_opens g (goal.at.returns-in-Err-write_down-clause-cut g c).After-write_down honest lasts files apart left may
+returns-in-Err-write_down-clause-cut g c honest lasts files apart left may = opens_so g (goal.at.returns-in-Err-write_down-clause-cut g c).After-write_down files apart left (c.write_down.ensures.written.remains honest lasts left may)
 
 -- ---- the writing calls
 
@@ -154,7 +182,7 @@ calls_so g c =
     let journals = c.in_ok-journals.journals in
     let action = c.in-Act.action in
     ap (calls_to_write journals) (sym (length-map c.changes.result.now change_of) ∙ ap length (changed_so g c))
-    ∙ ready_calls (action_of action) old c.in-Ok-prepare.prepared c.prepare.new.self made journals (c.in_ok-journals.ensures.journals (action_of action) old made.grew made.is)
+    ∙ ready_calls (action_of action) old c.in-Ok-prepare.prepared c.prepare.new.self made journals (spelled_so g c)
     ∙ asked_calls action (session_of_kept old)
     ∙ ap (λ (x : Command). calls_asked (session_of_kept old) (command_of x)) (sym c.in-Act.is)
 

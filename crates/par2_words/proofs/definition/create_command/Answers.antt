@@ -1,8 +1,12 @@
+use Rattle.par2_words.proofs.Common.{rules, IsArg, count_rule, first_rule, slice_rule}
 use Rattle.par2_words.specs.Definition.{create_app}
-use Rattle.par2_words.proofs.Additions.{with_argument}
 use Rattle.par2_words.proofs.definition.create_command.Goals as goal
 
 pub returns : goal.returns
 unfolding create_app
 returns c =
-    c.with_files.ensures _ (with_argument _ _ _ _ _ c.in_ok-command.ensures c.in_ok-create_numbers.ensures c.overwrite_arg.ensures.rule c.overwrite_arg.ensures.local)
+    let slice : IsArg c.required-slice.result slice_rule = search rules in
+    let count : IsArg c.required-count.result count_rule = search rules in
+    let first : IsArg c.default_value-first.result first_rule = search rules in
+    let numbers = c.with_arg-command-2.ensures _ first_rule (c.with_arg.ensures _ count_rule (c.with_arg-command.ensures _ slice_rule (c.new.ensures.app, c.new.ensures.local) slice) count) first in
+    c.with_files.ensures _ (c.with_arg-2.ensures _ _ numbers c.overwrite_arg.ensures)

@@ -9,15 +9,13 @@ without_name a = record a { top = record a.top { no_binary_name = true } }
 abbrev without_help : App → App
 without_help a = record a { top = record a.top { disable_help_subcommand = true } }
 
-pub returns-clause-app : goal.returns-clause-app
+pub returns : goal.returns
 unfolding start_app
-returns-clause-app c =
-    ap app_of_fields c.disable_help_subcommand.ensures
-    ∙ ap (λ x. without_help (app_of_fields x)) c.no_binary_name.ensures
-    ∙ ap (λ a. without_help (without_name a)) c.new.ensures.app
-
-pub returns-clause-local : goal.returns-clause-local
-returns-clause-local c =
-    ap (λ x. x.has_globals) c.disable_help_subcommand.ensures
-    ∙ ap (λ x. x.has_globals) c.no_binary_name.ensures
-    ∙ c.new.ensures.local
+returns c = (
+  ap app_of_fields c.disable_help_subcommand.ensures
+      ∙ ap (λ x. without_help (app_of_fields x)) c.no_binary_name.ensures
+      ∙ ap (λ a. without_help (without_name a)) c.new.ensures.app,
+  ap (λ x. x.has_globals) c.disable_help_subcommand.ensures
+      ∙ ap (λ x. x.has_globals) c.no_binary_name.ensures
+      ∙ c.new.ensures.local,
+)

@@ -1,24 +1,37 @@
-use Rattle.par2_words.proofs.Common.{◌≡◌, ◌∙◌, ap, inl, inr, sym, true≢false, string_bytes, map, Result, Err, IfErr, is_some, option_and_then, IfErr-weaker, IfOk-weaker, err_from_is_err_and, found_of, rows_of, meaning, WordsFault, Memory}
-use Rattle.par2_words.proofs.Subcommands.{known, met, unmet}
+use Rattle.par2_words.proofs.Common.{◌≡◌, ◌∙◌, ap, inl, inr, subst, sym, true≢false, string_bytes, map, is_some, option_and_then, IfErr-weaker, IfOk-weaker, err_from_is_err_and, App, HasMatchesOf, fault_of, found_of, rows_of, subcommand_of, takes, meaning, par2_app}
+use Rattle.std.specs.Prelude.{[], Some}
+use Rattle.par2_words.proofs.Subcommands.{faultless, known, met, unmet}
+use Rattle.par2_words.proofs.read.read_words.Goals.{In-Ok, In-Some}
 use Rattle.par2_words.proofs.read.read_words.Goals as goal
 
-memory_told : {X : Type 0} (r : Result X WordsFault) {fault : WordsFault} → fault ≡ Memory → (other : WordsFault) × (r ≡ Err other) × (other ≡ fault) → IfErr r (λ e. e ≡ Memory)
-memory_told r memory told = rw told.1 (told.2 ∙ memory)
+-- what clap found
+matches_so : (c : In-Ok) → HasMatchesOf par2_app (map string_bytes c.args.words.now) c.in-Ok.matches
+matches_so c = subst (λ (app : App). HasMatchesOf app (map string_bytes c.args.words.now) c.in-Ok.matches) c.in_ok-par2_command.ensures.0 c.in-Ok.ensures.matches
 
-pub returns-in_err-matches-clause-arguments : goal.returns-in_err-matches-clause-arguments
-returns-in_err-matches-clause-arguments c = λ taken there.
-    memory_told c.from_residual.result (c.in_err-matches.ensures.arguments taken) (err_from_is_err_and c.from_residual.result c.from_residual.ensures.1)
+faultless_so : (c : In-Ok) → fault_of par2_app (map string_bytes c.args.words.now) ≡ []
+faultless_so c = faultless _ (map string_bytes c.args.words.now) c.in_ok-par2_command.ensures.0 c.in-Ok.ensures.kinds
+
+-- the subcommand that it met
+met_so : (c : In-Some) → HasMatchesOf par2_app (map string_bytes c.args.words.now) c.in-Ok.matches → subcommand_of par2_app (map string_bytes c.args.words.now) ≡ Some (c.in-Some.name.now, rows_of (found_of c.in-Some.matches.now))
+met_so c has = met c.in-Ok.matches (map string_bytes c.args.words.now) c.in-Some.name.now (rows_of (found_of c.in-Some.matches.now)) has c.in-Some.ensures.name c.in-Some.ensures.rows
+
+pub returns-in_err-par2_command-clause-arguments : goal.returns-in_err-par2_command-clause-arguments
+returns-in_err-par2_command-clause-arguments c = λ taken there.
+    let told = err_from_is_err_and c.from_residual.result c.from_residual.ensures.1 in
+    rw told.1 told.2
+
+pub returns-in-Err-clause-arguments : goal.returns-in-Err-clause-arguments
+returns-in-Err-clause-arguments c = λ taken there.
+    c.fault_for.ensures.memory (c.in-Err.ensures.passes (ap (λ (app : App). takes app (map string_bytes c.args.words.now)) c.in_ok-par2_command.ensures.0 ∙ taken))
 
 pub returns-in-Some-clause-command : goal.returns-in-Some-clause-command
 returns-in-Some-clause-command c =
-    let is = met c.in_ok-matches.matches (map string_bytes c.args.words.now) c.in-Some.name.now (rows_of (found_of c.in-Some.matches.now))
-    c.in_ok-matches.ensures.matches c.in-Some.ensures.name c.in-Some.ensures.rows in
+    let is = met_so (goal.at.returns-in-Some-clause-command c).In-Some (matches_so (goal.at.returns-in-Some-clause-command c).In-Ok) in
     IfOk-weaker c.named.result _ _ (λ d h. ap (option_and_then meaning) is ∙ h) c.named.ensures.command
 
 pub returns-in-Some-clause-arguments : goal.returns-in-Some-clause-arguments
 returns-in-Some-clause-arguments c = λ taken there.
-    let is = met c.in_ok-matches.matches (map string_bytes c.args.words.now) c.in-Some.name.now (rows_of (found_of c.in-Some.matches.now))
-    c.in_ok-matches.ensures.matches c.in-Some.ensures.name c.in-Some.ensures.rows in
+    let is = met_so (goal.at.returns-in-Some-clause-arguments c).In-Some (matches_so (goal.at.returns-in-Some-clause-arguments c).In-Ok) in
     IfErr-weaker c.named.result _ _ (λ e h. elim h [
       | inl memory ↦ memory
       | inr none ↦ absurd (true≢false (sym (known _ _ is) ∙ ap is_some none))
@@ -26,7 +39,7 @@ returns-in-Some-clause-arguments c = λ taken there.
 
 pub returns-clause-arguments : goal.returns-clause-arguments
 returns-clause-arguments c = λ taken there.
-    absurd (unmet c.in_ok-matches.matches (map string_bytes c.args.words.now) c.in_ok-matches.ensures.matches c.in-None.ensures.name there)
+    absurd (unmet c.in-Ok.matches (map string_bytes c.args.words.now) (matches_so (goal.at.returns-clause-arguments c).In-Ok) c.in-None.ensures.name there)
 
 pub returns-in-Some-clause-faultless : goal.returns-in-Some-clause-faultless
-returns-in-Some-clause-faultless c = IfOk-weaker c.named.result _ _ (λ d h. c.in_ok-matches.ensures.faultless) c.named.ensures.command
+returns-in-Some-clause-faultless c = IfOk-weaker c.named.result _ _ (λ d h. faultless_so (goal.at.returns-in-Some-clause-faultless c).In-Ok) c.named.ensures.command

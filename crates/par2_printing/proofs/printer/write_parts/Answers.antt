@@ -1,6 +1,6 @@
 use Rattle.std.proofs.lemmas.Result.{err_from_is_err_and}
 use Rattle.par2_printing.proofs.Common.{seen, lines_cut}
-use Rattle.par2_printing.proofs.text.write_parts.Goals as goal
+use Rattle.par2_printing.proofs.printer.write_parts.Goals as goal
 
 pub returns-in_err-write_bytes : goal.returns-in_err-write_bytes
 returns-in_err-write_bytes g c =

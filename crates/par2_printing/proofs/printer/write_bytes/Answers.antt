@@ -1,5 +1,5 @@
 use Rattle.par2_printing.proofs.Common.{◌∙◌, arith, rules, writer_of, part, step}
-use Rattle.par2_printing.proofs.text.write_bytes.Goals as goal
+use Rattle.par2_printing.proofs.printer.write_bytes.Goals as goal
 
 pub loop-rest-preserved : goal.loop-rest-preserved
 loop-rest-preserved g c =
