@@ -2,7 +2,7 @@
 
 pub use Rattle.std.proofs.Common.{Bool, List, None, Ok, Option, Some, T, [], ap, append-nil, append_assoc, arith, cond, drop, false, inl, inr, length, length-append, map, min, not, refl, subst, suc, sym, take, true, unwrap_or, zero, ℕ, ◌%◌, ◌&&◌, ◌*◌, ◌++◌, ◌+◌, ◌-◌, ◌/◌, ◌<◌, ◌^◌, ◌||◌, ◌∙◌, ◌∷◌, ◌≡◌, ◌≤◌, ◌⊎◌}
 pub use Rattle.std.proofs.lemmas.Bool.{and_from, and_parts, both_ways, cases_Bool, eq-eqb, eqb-false, eqb-true, false≢true, le-leb, leb-true, ltb-false, not-false, not-true, or_from, or_left, or_parts}
-pub use Rattle.std.proofs.lemmas.Grind.{div_ceil_times, flat_map-append}
+pub use Rattle.std.proofs.lemmas.Grind.{common_steps, div_ceil_times, flat_map-append}
 pub use Rattle.std.proofs.lemmas.List.{length-map}
 pub use Rattle.std.proofs.lemmas.List.Elements.{All-contains_itself, Contains-append_left, Contains-append_right, filter_passes, recursion_from_All}
 pub use Rattle.std.proofs.lemmas.List.Sorted.{IsPermutation-map, IsPermutation-sym, length_permutation, sum_by-IsPermutation}

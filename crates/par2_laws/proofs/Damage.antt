@@ -1,5 +1,5 @@
 -- What damage leaves of the par files of a create.
-use Rattle.par2_laws.proofs.Common.{◌≡◌, ℕ, zero, suc, ◌+◌, ◌*◌, ◌^◌, ◌<◌, ◌≤◌, true, false, not, ◌&&◌, List, [], ◌∷◌, ◌++◌, length, map, take, Option, None, sym, ap, ◌∙◌, subst, append_assoc, length-append, arith, ◌-◌, drop, Bool, cond, Some, refl, inl, inr, ◌⊎◌, ◌||◌, unwrap_or, sum_by, nat_lt, ◌==◌, is_some, codes, filter, AllByRecursion, list_any, enumerate_from, Contains, bytes_eq, str_to_ascii_lowercase, get-entries, nat_cmp, slice_cmp, not-false, and_parts, or_parts, eqb-true, eqb-false, ltb-false, false≢true, or_from, or_left, div_ceil_times, length-map, sum_by-cons, Fault, BadSliceSize, BadCount, BadBase, NoInput, BadName, DuplicateInput, NoSuchFile, EmptyFile, TooManySlices, DuplicateId, NameTooLong, Exists, fault_where, fault_at, slice_count, slices, is_name, is_par_name, is_among, distinct, par2_ending, Folder, File, IsFolder, has, bytes_of, files, names, without, id_of, volume_name, volume_numbers, volume_size, volumes_before, stem, five_digits, all_slices, in_id_order, is_slice_size, other_par_names, MadeFrom, target_of_file, target_names, CreateArgs, Create, files_of, outputs_of, are_counts, is_input_name, AreInputs, IsVolume, IsVolumeOrOther, IsOfOthers, set_id_of, HoldsVolumes, FitsCreate, IsDamage, output_names, FollowsCreate, all_weaker, size_positive, distinct_by_length, same_either_way, std_from_distinct, found_at_key, contained_first, contained_later, all-append, all-parts, all-flat_map, where_none, all_none, at_none, some_if, names_of_files, at_name, recursion_from_All, filter_passes, same_Some, IsPermutation-sym, IsPermutation-map, map-map, pair_of, Matches, windows, AreBytes, candidates, NoCollision, all-filter, moved-all, moved-ordered, IsTrueTo, by_either}
+use Rattle.par2_laws.proofs.Common.{◌≡◌, ℕ, ◌+◌, ◌^◌, ◌<◌, ◌≤◌, true, false, not, ◌&&◌, List, [], ◌∷◌, ◌++◌, length, map, take, Option, None, sym, ap, ◌∙◌, subst, append_assoc, length-append, arith, Bool, cond, Some, refl, inl, inr, ◌⊎◌, ◌||◌, unwrap_or, sum_by, nat_lt, ◌==◌, is_some, filter, AllByRecursion, list_any, enumerate_from, Contains, bytes_eq, get-entries, nat_cmp, slice_cmp, not-false, and_parts, or_parts, eqb-true, eqb-false, ltb-false, false≢true, or_from, or_left, div_ceil_times, length-map, sum_by-cons, Fault, BadSliceSize, BadCount, BadBase, NoInput, BadName, DuplicateInput, NoSuchFile, EmptyFile, TooManySlices, DuplicateId, NameTooLong, Exists, fault_where, fault_at, slice_count, slices, is_name, is_par_name, is_among, distinct, Folder, File, IsFolder, has, bytes_of, files, without, id_of, volume_name, volume_numbers, volume_size, volumes_before, all_slices, in_id_order, is_slice_size, MadeFrom, target_of_file, target_names, CreateArgs, Create, files_of, outputs_of, are_counts, is_input_name, AreInputs, IsVolume, IsVolumeOrOther, IsOfOthers, set_id_of, HoldsVolumes, FitsCreate, IsDamage, output_names, FollowsCreate, all_weaker, size_positive, distinct_by_length, same_either_way, std_from_distinct, found_at_key, contained_first, contained_later, all-append, all-parts, all-flat_map, where_none, all_none, at_none, some_if, by_either, names_of_files, at_name, recursion_from_All, filter_passes, same_Some, IsPermutation-sym, IsPermutation-map, map-map, pair_of, Matches, windows, AreBytes, candidates, NoCollision, all-filter, moved-all, moved-ordered, IsTrueTo, common_steps}
 use Rattle.std.proofs.Math.Seq.{take-append_seam, drop-append_seam}
 use Rattle.par2_spec.specs.Refusals.{refusal}
 use Rattle.par2_spec.proofs.MovesLaws.{get_put, get_without}
@@ -107,19 +107,12 @@ files_named folder (name ∷ inputs) h = ((and_parts (is_name name) (not (is_par
 
 -- a file with bytes has a slice
 some_slice : (s n : ℕ) → 0 < s → (n == 0) ≡ false → 1 ≤ slice_count s n
-some_slice s n positive full = some (slice_count s n) (div_ceil_times n s positive).0
-  where
-    some : (k : ℕ) → n ≤ k * s → 1 ≤ k
-    some zero le = absurd (eqb-false n 0 full (let e : 0 * s ≡ 0 = zero-mul s in omega (arith, le, e)))
-    some (suc k) le = omega arith
+some_slice s n positive full = grind (arith, div_ceil_times, eqb-false, zero-mul)
 
 -- no more files than slices
 count_small : (s : ℕ) (fs : List File) → 0 < s → AllByRecursion (λ file. (length file.1 == 0) ≡ false) fs → length fs ≤ sum_by (λ file. slice_count s (length file.1)) fs
 count_small s [] positive h = omega arith
-count_small s (file ∷ fs) positive h =
-    let e = sum_by-cons (λ (f : File). slice_count s (length f.1)) file fs in
-    let one : 1 ≤ slice_count s (length file.1) = some_slice s (length file.1) positive h.0 in
-    omega (arith, e, one, count_small s fs positive h.1)
+count_small s (file ∷ fs) positive h = search (arith, sum_by-cons, some_slice, count_small s fs positive h.1)
 
 pub inputs_taken : (folder : Folder) (a : CreateArgs) → refusal folder (Create a) ≡ None → FitsCreate folder a → AreInputs a.slice (files_of folder a.inputs)
 inputs_taken folder a accepted fits =
@@ -150,23 +143,12 @@ laid_cases : (files : List File) (folder : Folder) (q bytes : List ℕ) → map_
     → Contains (bytes_in files) bytes ⊎ ((is_among (map (λ file. file.0) files) q ≡ false) × (map_of.get folder q ≡ Some bytes))
 unfolding laid_over
 laid_cases [] folder q bytes h = inr (refl, h)
-laid_cases (file ∷ files) folder q bytes h =
-    by_either (laid_cases files (map_of.insert folder file.0 file.1) q bytes h)
-    (λ i. inl (contained_later file.1 (bytes_in files) bytes i))
-    (λ r. step (bytes_eq q file.0) refl r.0 (sym (get_put folder file.0 file.1 q) ∙ r.1))
-  where
-    step : (b : Bool) → bytes_eq q file.0 ≡ b → is_among (map (λ f. f.0) files) q ≡ false → cond b (Some file.1) (map_of.get folder q) ≡ Some bytes
-        → Contains (bytes_in (file ∷ files)) bytes ⊎ ((is_among (map (λ f. f.0) (file ∷ files)) q ≡ false) × (map_of.get folder q ≡ Some bytes))
-    step true e out k = inl (subst (Contains (bytes_in (file ∷ files))) (same_Some file.1 bytes k) (contained_first file.1 (bytes_in files)))
-    step false e out k = inr (or_from (bytes_eq q file.0) (is_among (map (λ f. f.0) files) q) e out, k)
+laid_cases (file ∷ files) folder q bytes h = grind (arith, by_either, bytes, contained_later, get_put, same_Some, contained_first, or_from, laid_cases files (map_of.insert folder file.0 file.1) q bytes h)
 
 -- ---- the names of what a create writes
 
 par_volume : (base : List ℕ) (first n : ℕ) → is_par_name (volume_name base first n) ≡ true
-par_volume base first n =
-    let front = stem base ++ codes ".vol" ++ five_digits first ++ codes "+" ++ five_digits n in
-    let place : length (front ++ codes ".par2") - 5 ≡ length front = omega (arith, length-append front (codes ".par2")) in
-    ap (λ xs. bytes_eq (str_to_ascii_lowercase xs) par2_ending) (ap (λ k. drop k (front ++ codes ".par2")) place ∙ drop-append_seam front (codes ".par2"))
+par_volume base first n = grind (arith, common_steps, length-append, drop-append_seam)
 
 par_volumes : (base : List ℕ) (first n : ℕ → ℕ) (texts : ℕ → List ℕ) (is : List ℕ)
     → AllByRecursion (λ name. is_par_name name ≡ true) (map (λ file. file.0) (map (λ i. let v : File = (volume_name base (first i) (n i), texts i) in v) is))
@@ -206,11 +188,7 @@ module _ (before damaged : Folder) (a : CreateArgs) (base : List ℕ) (accepted 
       step (Some bytes) k = absurd (false≢true (sym k))
 
   each_par : (name : List ℕ) → is_par_name name ≡ true → IsVolumeOrOther a.slice inputs (bytes_of damaged name)
-  each_par name par = step (has damaged name) refl
-    where
-      step : (b : Bool) → has damaged name ≡ b → IsVolumeOrOther a.slice inputs (bytes_of damaged name)
-      step true e = is_volume_or_other name par e
-      step false e = inr (none_there name e)
+  each_par name par = grind (arith, is_volume_or_other, none_there)
 
   base_written : Contains (bytes_in (outputs_of before a)) (bytes_of damaged base)
   base_written =
@@ -220,12 +198,7 @@ module _ (before damaged : Folder) (a : CreateArgs) (base : List ℕ) (accepted 
       (λ r. absurd (false≢true (sym r.0 ∙ damage.written)))
 
   holds_volumes : HoldsVolumes damaged base a.slice inputs
-  holds_volumes = record {
-    of_base = written (bytes_of damaged base) base_written;
-    of_others = all_weaker (λ name. (is_par_name name && not (bytes_eq name base)) ≡ true) (λ name. IsVolumeOrOther a.slice inputs (bytes_of damaged name))
-        (λ name h. each_par name (and_parts (is_par_name name) (not (bytes_eq name base)) h).0) (other_par_names damaged base)
-        (recursion_from_All (λ name. (is_par_name name && not (bytes_eq name base)) ≡ true) (other_par_names damaged base) (filter_passes (λ name. is_par_name name && not (bytes_eq name base)) (names damaged)));
-  }
+  holds_volumes = grind (arith, written, base_written, all_weaker, each_par, and_parts, recursion_from_All, filter_passes)
 
   pub set_of_files : MadeFrom damaged base (in_id_order inputs) a.slice
   set_of_files = set_made damaged base a.slice inputs (inputs_taken before a accepted fits) holds_volumes
@@ -249,17 +222,7 @@ laid_there (file ∷ files) folder q h =
 pub removal : (before : Folder) (a : CreateArgs) (base : List ℕ) (gone : List (List ℕ)) → is_among (output_names before a) base ≡ true → is_among gone base ≡ false
     → IsDamage before (without gone (after before (Create a))) a base
 unfolding after
-removal before a base gone written stays =
-    let created = laid_over (outputs_of before a) before in
-    record {
-      written = written;
-      there = ap is_some (get_without gone created base) ∙ ap (λ b. is_some (cond b None (map_of.get created base))) stays ∙ laid_there (outputs_of before a) before base (or_left _ _ written);
-      pars = λ name par there. get_without gone created name ∙ still (is_among gone name) (map_of.get created name) (ap is_some (sym (get_without gone created name)) ∙ there);
-    }
-  where
-    still : (b : Bool) (o : Option (List ℕ)) → is_some (cond b None o) ≡ true → cond b None o ≡ o
-    still true o k = absurd (false≢true k)
-    still false o k = refl
+removal before a base gone written stays = grind (arith, written, get_without, laid_there, or_left, false≢true)
 
 -- ---- what is searched
 

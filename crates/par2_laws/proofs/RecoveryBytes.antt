@@ -1,5 +1,5 @@
 -- The recovery slices of a set that reads are bytes of its folder's files.
-use Rattle.par2_laws.proofs.Common.{ℕ, zero, suc, ◌+◌, ◌*◌, ◌/◌, ◌%◌, ◌^◌, ◌<◌, List, [], ◌∷◌, length, map, arith, ◌≡◌, sym, subst, refl, inl, inr, true, ◌-◌, drop, ap, ◌∙◌, T, cond, false, Bool, ◌&&◌, ◌⊎◌, bit_xor, fold, flat_map, slice_get, Result, Err, nat_le, nat_lt, ◌==◌, if◌then◌else◌, AllByRecursion, range_with_len, list_all, length-md5, crc_step, crc_steps, crc_byte, pair_of, IsPair, Pair, slice_at, slice_count, slices, AreBytes, AreSurvivors, Agrees, get-entries, is_sorted, entries_sorted, nat_cmp, eq_by_cmp, is_lt, is_eq, ordering_reverse, slice_cmp, window, windows, is_match, found, Folder, bytes_of, has, ParSet, all_pairs, packets_with, recovery_of, other_par_names, all_some, is_slice_size, main_of, description_of, are_in_profile, target_of, IsSound, HoldsBytes, all-each, found_one, found_at_key, all-flat_map, all-take, all-drop, all-filter_map, all-map, all-both, cases_Bool, and_parts, Fault, accepted, Packet, RecoveryBody, begins_with_packet, claimed_length, is_of_reading, bytes_eq, Kind, Recovery, all-filter, T-parts, all-entries, all_weaker, NoSuchFile, set_in, recovery_slice, size_even, length-map}
+use Rattle.par2_laws.proofs.Common.{ℕ, zero, suc, ◌+◌, ◌*◌, ◌/◌, ◌%◌, ◌^◌, ◌<◌, List, [], ◌∷◌, length, map, arith, ◌≡◌, sym, subst, refl, inl, inr, true, ◌-◌, drop, ap, ◌∙◌, T, cond, false, Bool, ◌&&◌, ◌⊎◌, bit_xor, fold, flat_map, slice_get, Result, Err, nat_lt, ◌==◌, if◌then◌else◌, AllByRecursion, range_with_len, list_all, length-md5, crc_step, crc_steps, crc_byte, pair_of, IsPair, Pair, slice_at, slice_count, slices, AreBytes, AreSurvivors, Agrees, get-entries, is_sorted, entries_sorted, nat_cmp, eq_by_cmp, is_lt, is_eq, slice_cmp, window, windows, is_match, found, Folder, bytes_of, has, ParSet, all_pairs, packets_with, recovery_of, other_par_names, all_some, is_slice_size, main_of, description_of, are_in_profile, target_of, IsSound, HoldsBytes, all-each, found_one, found_at_key, all-flat_map, all-take, all-drop, all-filter_map, all-map, all-both, cases_Bool, and_parts, Fault, accepted, Packet, RecoveryBody, begins_with_packet, claimed_length, is_of_reading, bytes_eq, all-filter, T-parts, all-entries, all_weaker, NoSuchFile, set_in, recovery_slice, size_even, length-map}
 use Rattle.std.specs.Prelude.{unwrap_or, Ok}
 use Rattle.par2_spec.proofs.RestoredLaws.{bytes-slice_at, length-window, bytes-window}
 use Rattle.std.specs.Option.{ForSome}
@@ -13,8 +13,6 @@ use Rattle.std.specs.Prelude.{ℕ, Option, Some, None}
 use Rattle.par2_spec.specs.Sets.{read_set, set_of}
 use Rattle.std.specs.FinMap.{find}
 use Rattle.std.specs.FinMap.Entries.{below_all}
-use Rattle.std.specs.declared.cmp.Ordering.{Ordering}
-use Rattle.std.specs.declared.cmp.Ordering.TheVariants.{Less}
 use Rattle.std.specs.Cmp.{nat_cmp_total, tied_itself}
 use Rattle.par2_spec.specs.Packets.{accepted_after, first_packet, read_recovery}
 use Rattle.std.proofs.lemmas.Slice.Zip.{AllZip-long}
@@ -41,8 +39,7 @@ crc_small bytes h = xor_lt 32 (fold crc_byte 0xFFFFFFFF bytes) 0xFFFFFFFF (fold_
 
 pairs_at : (s : ℕ) (text : List ℕ) (a n : ℕ) → AreBytes text → AllByRecursion IsPair (map pair_of (map (slice_at s text) (range_with_len a n)))
 pairs_at s text a zero h = tt
-pairs_at s text a (suc n) h =
-    ((length-md5 (slice_at s text a), crc_small (slice_at s text a) (bytes-slice_at s text a h)), pairs_at s text (a + 1) n h)
+pairs_at s text a (suc n) h = grind (arith, length-md5, crc_small, bytes-slice_at, pairs_at s text (a + 1) n h)
 
 -- the pairs of a text's slices
 pub pairs_are : (s : ℕ) (text : List ℕ) → AreBytes text → AllByRecursion IsPair (map pair_of (slices s text))
@@ -74,9 +71,7 @@ found_is folder searched s held pair =
 -- each known slice is a text of the slice size
 pub known_are : (folder : Folder) (set : ParSet) (searched : List (List ℕ)) → HoldsBytes folder → AllByRecursion (λ slice. ForSome slice (IsText set.slice_size)) (known folder set searched)
 unfolding known
-known_are folder set searched held =
-    let s = set.slice_size in
-    all-each (λ slice. ForSome slice (IsText s)) (found s (map (bytes_of folder) searched)) (found_is folder searched s held) (all_pairs set)
+known_are folder set searched held = search (arith, all-each, found_is)
 
 -- ---- what reading a set answers: a set whose recovery slices are those of packets, or a fault of reading
 
@@ -113,9 +108,7 @@ read_set_answers base others =
 -- the answer for a folder and a base
 pub set_of_answers : (folder : Folder) (base : List ℕ) (answer : Result ParSet Fault) → set_of folder base ≡ answer → IsAnswer (map (bytes_of folder) (base ∷ other_par_names folder base)) answer
 unfolding set_of
-set_of_answers folder base answer is =
-    let names = base ∷ other_par_names folder base in
-    subst (IsAnswer (map (bytes_of folder) names)) is (read_set_answers (bytes_of folder base) (map (bytes_of folder) (other_par_names folder base)))
+set_of_answers folder base answer is = grind (arith, read_set_answers)
 
 -- ---- packets
 
@@ -140,15 +133,7 @@ packets_have zero (b ∷ text) bytes =
 
 said_has : (p : Packet) → HasBytes p → ForSome (read_recovery p.kind p.body) (λ r. AreBytes r.bytes)
 unfolding read_recovery
-said_has p bytes = by_kind p.kind
-  where
-    long : (b : Bool) (r : RecoveryBody) → AreBytes r.bytes → ForSome (if b then Some r else None) (λ q. AreBytes q.bytes)
-    long true r k q e = subst (λ o. AreBytes (unwrap_or o r).bytes) e k
-    long false r k q e = let clash = e in absurd (cc)
-
-    by_kind : (kind : Kind) → ForSome (read_recovery kind p.body) (λ r. AreBytes r.bytes)
-    by_kind Recovery r e = long (nat_le 4 (length p.body)) _ (all-drop (λ b. b < 256) 4 p.body bytes) r e
-    by_kind kind r e = let clash = e in absurd (cc)
+said_has p bytes = grind (arith, unwrap_or, all-drop)
 
 -- ---- the map of recovery slices
 
@@ -163,11 +148,7 @@ recovery_has packets s h =
 
 -- each entry is what the map has at its key
 other_key : (k n : ℕ) → T (is_lt (nat_cmp k n)) → eq_by_cmp nat_cmp n k ≡ false
-other_key k n less = ap is_eq (nat_cmp_total.antisymm n k) ∙ step (nat_cmp k n) less
-  where
-    step : (o : Ordering) → T (is_lt o) → is_eq (ordering_reverse o) ≡ false
-    step Less h = refl
-    step o h = absurd h
+other_key k n less = grind arith
 
 behind_first : (k : ℕ) (v : List ℕ) (ds es : List (ℕ × List ℕ)) → T (below_all nat_cmp k ds) → AllByRecursion (λ d. find nat_cmp d.0 es ≡ Some d.1) ds → AllByRecursion (λ d. find nat_cmp d.0 ((k, v) ∷ es) ≡ Some d.1) ds
 behind_first k v [] es less h = tt
@@ -184,9 +165,7 @@ own_values (e ∷ es) sorted =
     )
 
 pub each_has_its_own : (set : ParSet) → AllByRecursion (λ r. map_of.get set.recovery r.0 ≡ Some r.1) (map_of.entries set.recovery)
-each_has_its_own set =
-    all_weaker (λ e. find nat_cmp e.0 (map_of.entries set.recovery) ≡ Some e.1) (λ e. map_of.get set.recovery e.0 ≡ Some e.1) (λ e is. get-entries set.recovery e.0 ∙ is)
-    (map_of.entries set.recovery) (own_values (map_of.entries set.recovery) (entries_sorted set.recovery))
+each_has_its_own set = search (arith, all_weaker, get-entries, own_values, entries_sorted)
 
 -- the recovery slices of a set that is read in a folder whose files hold bytes
 pub recovery_of_bytes : (folder : Folder) (base : List ℕ) (set : ParSet) → HoldsBytes folder → set_of folder base ≡ Ok set → AllByRecursion (λ e. AreBytes e.1) (map_of.entries set.recovery)
@@ -208,22 +187,11 @@ module _ (folder : Folder) (base : List ℕ) (extras : List (List ℕ)) where
 
   -- the set of the base is read, or a file is not there
   pub read_or_absent : (set : ParSet) → set_of folder base ≡ Ok set → (set_in folder base extras ≡ Ok set) ⊎ ((place : ℕ) × (set_in folder base extras ≡ Err (NoSuchFile place)))
-  read_or_absent set reads = step (missing folder (base ∷ extras)) refl
-    where
-      step : (o : Option ℕ) → missing folder (base ∷ extras) ≡ o → (set_in folder base extras ≡ Ok set) ⊎ ((place : ℕ) × (set_in folder base extras ≡ Err (NoSuchFile place)))
-      step None e = inl (in_full folder base extras e ∙ reads)
-      step (Some k) e = inr (0 + k, in_part folder base extras k e)
+  read_or_absent set reads = grind (arith, missing, in_full, in_part)
 
   -- where none is read, the fault is one of reading
   pub fault_of_reading : (fault : Fault) → set_in folder base extras ≡ Err fault → is_of_reading fault ≡ true
-  fault_of_reading fault unread = step (missing folder (base ∷ extras)) refl
-    where
-      step : (o : Option ℕ) → missing folder (base ∷ extras) ≡ o → is_of_reading fault ≡ true
-      step None e = set_of_answers folder base (Err fault) (sym (in_full folder base extras e) ∙ unread)
-      step (Some k) e =
-          let told = sym (in_part folder base extras k e) ∙ unread in
-          let same : NoSuchFile (0 + k) ≡ fault = cc in
-          subst (λ f. is_of_reading f ≡ true) same refl
+  fault_of_reading fault unread = search (arith, missing, set_of_answers, in_full, in_part)
 
 -- ---- what survives of a sound set in a folder whose files hold bytes is texts of bytes of the slice size
 
@@ -239,9 +207,7 @@ module _ (set : ParSet) where
 
   each_slice : (rs : List (ℕ × List ℕ)) → AllByRecursion (λ r. (r.0 < 65536) × (length r.1 ≡ set.slice_size)) rs → AllByRecursion (λ r. map_of.get set.recovery r.0 ≡ Some r.1) rs
       → AllByRecursion (λ r. (r.0 < 65536) × (length r.1 ≡ set.slice_size) × (recovery_slice set r.0 ≡ r.1)) rs
-  each_slice rs sizes own =
-      all-both (λ r. (r.0 < 65536) × (length r.1 ≡ set.slice_size)) (λ r. map_of.get set.recovery r.0 ≡ Some r.1) (λ r. (r.0 < 65536) × (length r.1 ≡ set.slice_size) × (recovery_slice set r.0 ≡ r.1))
-      (λ r size is. (size.0, size.1, ap (λ o. unwrap_or o []) is)) rs sizes own
+  each_slice rs sizes own = grind (arith, all-both, unwrap_or)
 
 pub survivors_are : (folder : Folder) (base : List ℕ) (set : ParSet) (searched : List (List ℕ)) → IsSound set → HoldsBytes folder → set_of folder base ≡ Ok set
     → AreSurvivors set.slice_size 65536 (known folder set searched) (map_of.entries set.recovery) (recovery_slice set)

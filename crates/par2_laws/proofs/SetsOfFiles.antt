@@ -1,5 +1,5 @@
 -- A set whose packets are those of certain files was made from them.
-use Rattle.par2_laws.proofs.Common.{◌≡◌, ℕ, ◌<◌, ◌^◌, false, List, [], ◌∷◌, ◌++◌, length, map, Some, refl, sym, ap, ◌∙◌, subst, arith, zero, suc, Bool, true, Option, None, inl, inr, ◌⊎◌, ◌&&◌, Ok, IsTrue, ◌==◌, nat_lt, filter_map, find, slice_get, option_map, option_and_then, if◌then◌else◌, flat_map, AllByRecursion, Contains, list_any, range_with_len, slice_index_or, length-map, recursion_from_All, All-contains_itself, same_Some, none-some, length-md5, Kind, Main, FileDesc, Ifsc, Recovery, Creator, Other, AreBytes, File, Folder, bytes_of, Packet, MainBody, DescBody, IfscBody, RecoveryBody, accepted, FileRecord, all_slices, main_bytes, desc_bytes, ifsc_bytes, recovery_bytes, id_of, AreDescribed, is_read, IsOf, AreOf, AreAllOf, all-append, of_contained, all-map, all-filter_map, found_one, all_unmap, all-passing, all-flat_map-map, bytes_eq, false≢true, and_parts, eqb-true, map-map, md5, Pair, pair_of, slice_count, slice_at, slices, Target, all_some, main_of, description_of, pairs_of, target_of, recovery_of, target_of_file, ParSet, MadeFrom, packets_with, read_set, other_par_names, all_weaker, all-filter, mapped, target_with, no_slices, all-entries, read_by, same_name, itself, main_reads, ifsc_reads, recovery_reads, desc_reads, by_either}
+use Rattle.par2_laws.proofs.Common.{◌≡◌, ℕ, ◌<◌, ◌^◌, false, List, [], ◌∷◌, ◌++◌, length, map, Some, refl, sym, ap, ◌∙◌, subst, arith, Bool, true, Option, None, inl, inr, ◌⊎◌, ◌&&◌, Ok, IsTrue, ◌==◌, nat_lt, filter_map, find, slice_get, option_map, option_and_then, if◌then◌else◌, flat_map, AllByRecursion, Contains, list_any, range_with_len, length-map, recursion_from_All, All-contains_itself, same_Some, none-some, length-md5, Kind, Main, FileDesc, Ifsc, Recovery, Creator, Other, AreBytes, File, Folder, bytes_of, Packet, MainBody, DescBody, IfscBody, RecoveryBody, accepted, FileRecord, all_slices, main_bytes, desc_bytes, ifsc_bytes, recovery_bytes, id_of, AreDescribed, is_read, IsOf, AreAllOf, all-append, of_contained, all-map, all-filter_map, found_one, all_unmap, all-passing, all-flat_map-map, bytes_eq, false≢true, and_parts, eqb-true, map-map, md5, Pair, pair_of, slice_count, slice_at, slices, Target, all_some, main_of, description_of, pairs_of, target_of, recovery_of, target_of_file, ParSet, MadeFrom, packets_with, read_set, other_par_names, all_weaker, all-filter, mapped, target_with, no_slices, all-entries, read_by, same_name, itself, main_reads, ifsc_reads, recovery_reads, desc_reads, by_either, common_steps}
 use Rattle.par2_spec.specs.Recovery.{recovery}
 use Rattle.par2_spec.specs.Packets.{read_main, read_desc, read_ifsc, read_recovery}
 use Rattle.par2_spec.specs.Packets.{read_main, read_desc, read_ifsc, read_recovery}
@@ -45,12 +45,7 @@ all_say s files e small =
 
 -- a packet of the files says what one of theirs does
 pub packet_says : (s : ℕ) (files : List File) (p : Packet) → (IsTrue (is_read p.kind) → IsOf s files p) → Says s files p.kind p.body
-packet_says s files p h = by_kind p.kind (λ r. let is = h r in of_contained (λ z. Says s files z.0 z.1) (packets_of s files (is.0 ∷ [])) (p.kind, p.body) (all_say s files is.0 is.1) is.2)
-  where
-    by_kind : (kind : Kind) → (IsTrue (is_read kind) → Says s files kind p.body) → Says s files kind p.body
-    by_kind Creator k = tt
-    by_kind (Other bytes) k = tt
-    by_kind kind k = k refl
+packet_says s files p h = grind (arith, common_steps, of_contained, all_say)
 
 -- ---- what it is read as
 
@@ -88,8 +83,7 @@ ids_sixteen s (file ∷ files) = (length-md5 _, ids_sixteen s files)
 
 pub main_written : (s : ℕ) (files : List File) → AreDescribed s files → read_main Main (main_bytes s (map (record_of s) files)) ≡ Some (main_of_files s files)
 unfolding main_of_files
-main_written s files d =
-    main_reads s (map (record_of s) files) d.slice_size (subst (λ n. n < 2 ^ 32) (sym (length-map files (record_of s))) d.few) (ids_sixteen s files)
+main_written s files d = grind (arith, main_reads, length-map, ids_sixteen)
 
 pub desc_written : (s : ℕ) (file : File) → IsDescribed file → read_desc FileDesc (desc_bytes (record_of s file)) ≡ Some (desc_of_file s file)
 unfolding record_of desc_of_file
@@ -134,12 +128,7 @@ IsTrueSlice s files r = r.bytes ≡ recovery s (all_slices s files) r.exponent
 pub recovery_said : (s : ℕ) (files : List File) → (kind : Kind) (body : List ℕ) → Says s files kind body
     → (r : RecoveryBody) → read_recovery kind body ≡ Some r → IsTrueSlice s files r
 unfolding read_recovery
-recovery_said s files Recovery body says r h =
-    let e = says.0 in
-    let bytes = recovery s (all_slices s files) e in
-    let small : e < 2 ^ 32 = omega (arith, says.1) in
-    let written : RecoveryBody = record { exponent = e; bytes = bytes } in
-    subst (IsTrueSlice s files) (same_Some written r (sym (ap (read_recovery Recovery) says.2 ∙ recovery_reads e bytes small) ∙ h)) refl
+recovery_said s files Recovery body says r h = grind (arith, same_Some, recovery_reads)
 recovery_said s files kind body says r h = absurd (none-some r h)
 
 -- ---- lists
@@ -161,11 +150,7 @@ all_there {A = A} {B = B} g f (x ∷ xs) h ys e = step (g x) refl (all_some (map
 -- ---- one file for each File ID
 
 pub contained_cases : {A : Type 0} (y : A) (xs : List A) (x : A) → Contains (y ∷ xs) x → (y ≡ x) ⊎ Contains xs x
-contained_cases {A = A} y xs x i = by_place i.0 i.1 i.2
-  where
-    by_place : (k : ℕ) → k < length (y ∷ xs) → slice_index_or (y ∷ xs) k x ≡ x → (y ≡ x) ⊎ Contains xs x
-    by_place zero low e = inl e
-    by_place (suc k) low e = inr (k, omega (arith, low), e)
+contained_cases {A = A} y xs x i = grind arith
 
 one_by_id : (files : List File) → IsDistinct bytes_eq (map id_of files) → (a b : File) → Contains files a → Contains files b → id_of a ≡ id_of b → a ≡ b
 unfolding IsDistinct
@@ -320,8 +305,4 @@ made_if_said folder base set s files reads d all =
 
 pub made_from : (folder : Folder) (base : List ℕ) (set : ParSet) (s : ℕ) (files : List File) → set_of folder base ≡ Ok set → AreDescribed s files
     → AreAllOf folder base set.id s files → MadeFrom folder base files s
-made_from folder base set s files reads d all =
-    made_if_said folder base set s files reads d
-    (all_weaker (λ name. AreOf set.id s files (bytes_of folder name)) (λ name. AllByRecursion (SaysIfOurs set.id s files) (accepted (bytes_of folder name)))
-    (λ name h. all_weaker (λ p. p.set_id ≡ set.id → is_read p.kind ≡ true → IsOf s files p) (SaysIfOurs set.id s files) (λ p is own. packet_says s files p (is own)) (accepted (bytes_of folder name)) h)
-    (base ∷ other_par_names folder base) all)
+made_from folder base set s files reads d all = search (arith, made_if_said, all_weaker, packet_says)

@@ -1,5 +1,5 @@
 -- A folder of volumes holds the set that was made from their files.
-use Rattle.par2_laws.proofs.Common.{◌≡◌, ℕ, suc, ◌<◌, Bool, true, false, cond, ◌&&◌, List, [], ◌∷◌, ◌++◌, length, map, Option, Some, None, refl, sym, ap, ◌∙◌, subst, inl, inr, arith, ◌+◌, ◌≤◌, ◌⊎◌, append_assoc, Ok, is_some, ◌==◌, filter, filter_map, find, slice_get, option_map, option_and_then, if◌then◌else◌, flat_map, ok_or, sum_by, AllByRecursion, Contains, cons_option, slice_index_or, bytes_eq, false≢true, and_from, eq-eqb, le-leb, length-map, Contains-append_left, Contains-append_right, same_Some, map-map, md5, Kind, Main, FileDesc, Ifsc, Creator, Pair, slice_count, File, Folder, bytes_of, Packet, MainBody, IfscBody, read_main, read_desc, read_ifsc, accepted, DescBody, FileRecord, id_of, packet_of, main_id, main_bytes, desc_bytes, ifsc_bytes, creator_bytes, in_id_order, packets_with, main_of, description_of, pairs_of, target_of, target_of_file, all_some, ParSet, MadeFrom, ◌>>=◌, unless, are_in_profile, other_par_names, AreDescribed, all_weaker, test_from_all, itself, distinct_same, distinct_from_std, contained_first, contained_later, of_contained, all-map, target_with, set_with, finished, by_checksums, by_profile, by_descriptions, by_size, by_main, sum_by-cons, NoPackets, NoMain, NoDescription, NoChecksums, BadSet, is_name, distinct, AreInputs, IsVolume, set_id_of, IsOfOthers, HoldsVolumes, moved-ordered, by_either}
+use Rattle.par2_laws.proofs.Common.{◌≡◌, ℕ, suc, ◌<◌, Bool, true, false, cond, ◌&&◌, List, [], ◌∷◌, ◌++◌, length, map, Option, Some, None, refl, sym, ap, ◌∙◌, subst, inl, inr, arith, ◌⊎◌, append_assoc, Ok, ◌==◌, filter, filter_map, find, slice_get, option_map, flat_map, ok_or, sum_by, AllByRecursion, Contains, slice_index_or, bytes_eq, false≢true, and_from, eq-eqb, le-leb, length-map, Contains-append_left, Contains-append_right, same_Some, map-map, md5, Kind, Main, FileDesc, Ifsc, Creator, slice_count, File, Folder, bytes_of, Packet, MainBody, IfscBody, read_main, read_desc, read_ifsc, accepted, DescBody, FileRecord, id_of, packet_of, main_id, main_bytes, desc_bytes, ifsc_bytes, creator_bytes, in_id_order, packets_with, main_of, description_of, pairs_of, target_of, target_of_file, all_some, ParSet, MadeFrom, ◌>>=◌, unless, are_in_profile, other_par_names, AreDescribed, all_weaker, test_from_all, itself, distinct_same, distinct_from_std, contained_first, contained_later, of_contained, all-map, target_with, set_with, finished, by_checksums, by_profile, by_descriptions, by_size, by_main, sum_by-cons, NoPackets, NoMain, NoDescription, NoChecksums, BadSet, is_name, AreInputs, IsVolume, set_id_of, IsOfOthers, HoldsVolumes, moved-ordered, by_either, common_steps}
 use Rattle.par2_spec.specs.Volumes.{record_of, index_packets}
 use Rattle.par2_laws.proofs.SetsOfFiles.{all_contained, IsDescribed, each_described, main_of_files, desc_of_file, ifsc_of_file, main_written, desc_written, ifsc_written, AllSay, contained_cases, by_ids, description_is, pairs_are_its, target_is, SaysIfOurs, folder_says, made_if_said}
 use Rattle.par2_laws.proofs.VolumePackets.{pairs_count, index_of, moved, described, slices_of, IsReadAs, volumes_read, IsOurs, volume_ours}
@@ -28,20 +28,11 @@ contained_filter {A = A} test (y ∷ xs) x i t = by_either (contained_cases y xs
 
 none_pass : {A : Type 0} (test : A → Bool) (xs : List A) → find test xs ≡ None → AllByRecursion (λ y. test y ≡ false) xs
 none_pass test [] e = tt
-none_pass {A = A} test (x ∷ xs) e = step (test x) refl e (none_pass test xs)
-  where
-    step : (b : Bool) → test x ≡ b → cond b (Some x) (find test xs) ≡ None → (find test xs ≡ None → AllByRecursion (λ y. test y ≡ false) xs) → AllByRecursion (λ y. test y ≡ false) (x ∷ xs)
-    step true t k later = absurd (false≢true (sym (ap is_some k)))
-    step false t k later = (t, later k)
+none_pass {A = A} test (x ∷ xs) e = grind (arith, false≢true, none_pass test xs)
 
 read_from : {A B : Type 0} (read : A → Option B) (P : B → Type 0) (xs : List A) → AllByRecursion P (filter_map read xs) → AllByRecursion (λ x. (y : B) → read x ≡ Some y → P y) xs
 read_from read P [] h = tt
-read_from {B = B} read P (x ∷ xs) h = step (read x) refl h (read_from read P xs)
-  where
-    step : (o : Option B) → read x ≡ o → AllByRecursion P (cons_option o (filter_map read xs)) → (AllByRecursion P (filter_map read xs) → AllByRecursion (λ z. (y : B) → read z ≡ Some y → P y) xs)
-        → AllByRecursion (λ z. (y : B) → read z ≡ Some y → P y) (x ∷ xs)
-    step None e k later = ((λ y f. absurd (false≢true (ap is_some (sym e ∙ f)))), later k)
-    step (Some z) e k later = ((λ y f. subst P (same_Some z y (sym e ∙ f)) k.0), later k.1)
+read_from {B = B} read P (x ∷ xs) h = grind (arith, false≢true, same_Some, read_from read P xs)
 
 some_found : {A B : Type 0} (read : A → Option B) (test : B → Bool) (xs : List A) (x : A) (y : B) → Contains xs x → read x ≡ Some y → test y ≡ true → (z : B) × (find test (filter_map read xs) ≡ Some z)
 some_found {B = B} read test xs x y i e t = step (find test (filter_map read xs)) refl
@@ -53,18 +44,12 @@ some_found {B = B} read test xs x y i e t = step (find test (filter_map read xs)
 -- items that are all there
 all_are : {A B : Type 0} (g : A → Option B) (f : A → B) (xs : List A) → AllByRecursion (λ x. g x ≡ Some (f x)) xs → all_some (map g xs) ≡ Some (map f xs)
 all_are g f [] h = refl
-all_are g f (x ∷ xs) h =
-    ap (λ o. option_and_then (λ y. option_map (λ ys. y ∷ ys) (all_some (map g xs))) o) h.0
-    ∙ ap (option_map (λ ys. f x ∷ ys)) (all_are g f xs h.1)
+all_are g f (x ∷ xs) h = grind (arith, all_are g f xs h.1)
 
 -- ---- a Main in front
 
 main_first : (id : List ℕ) (p : Packet) (rest : List Packet) (m : MainBody) → bytes_eq p.set_id id ≡ true → bytes_eq (md5 p.body) id ≡ true → read_main p.kind p.body ≡ Some m → main_of id (packets_with id (p ∷ rest)) ≡ Some m
-main_first id p rest m own digest reads =
-    let others = filter_map (λ q. if bytes_eq (md5 q.body) id then read_main q.kind q.body else None) (packets_with id rest) in
-    ap (λ b. main_of id (cond b (p ∷ packets_with id rest) (packets_with id rest))) own
-    ∙ ap (λ b. slice_get (cons_option (if b then read_main p.kind p.body else None) others) 0) digest
-    ∙ ap (λ o. slice_get (cons_option o others) 0) reads
+main_first id p rest m own digest reads = grind arith
 
 -- ---- the packets of an index
 
@@ -81,9 +66,7 @@ module _ (s : ℕ) (files : List File) (d : AreDescribed s files) (tail : List P
   main_there = main_first id (packet_of id Main (main_bytes s (map (record_of s) files))) _ (main_of_files s files) (itself id) (itself id) (main_written s files d)
 
   of_index : (p : Packet) → Contains (index_of s files) p → p.set_id ≡ id → Contains packets p
-  of_index p i own =
-      contained_filter (λ q. bytes_eq q.set_id id) (index_of s files ++ tail) p (Contains-append_left (index_of s files) tail p i)
-      (subst (λ x. bytes_eq x id ≡ true) (sym own) (itself id))
+  of_index p i own = grind (arith, common_steps, contained_filter, index_of, itself)
 
   abbrev of_each : Kind → (FileRecord → List ℕ) → List Packet
   of_each kind body = map (λ file. packet_of id kind (body file)) (map (record_of s) files)
@@ -136,14 +119,7 @@ module _ (s : ℕ) (files : List File) (d : AreDescribed s files) (tail : List P
 
     target_found : (file : File) → Contains files file → target_of packets s (desc_of_file s file) ≡ Some (target_of_file s file)
     unfolding desc_of_file record_of
-    target_found file i =
-        let there = some_pairs (length file.1 == 0) in
-        let these = ap (option_map (target_with (desc_of_file s file))) there.1 in
-        these ∙ ap (λ t. Some t) (target_is s files d packets say file i (target_with (desc_of_file s file) there.0) these)
-      where
-        some_pairs : (b : Bool) → (ps : List Pair) × ((if b then Some [] else pairs_of packets (id_of file) (slice_count s (length file.1))) ≡ Some ps)
-        some_pairs true = ([], refl)
-        some_pairs false = ((record_of s file).pairs, pairs_found file i)
+    target_found file i = grind (arith, common_steps, target_with, desc_of_file, target_is, pairs_found)
 
     pub descriptions_found : all_some (map (description_of packets) (main_of_files s files).ids) ≡ Some (map (desc_of_file s) files)
     descriptions_found =
@@ -170,21 +146,10 @@ are_names s files h = all-map (λ file. is_name file.0 ≡ true) (λ (x : DescBo
 count_described : (s : ℕ) (files : List File) → sum_by (λ (x : DescBody). slice_count s x.length) (map (desc_of_file s) files) ≡ sum_by (λ file. slice_count s (length file.1)) files
 unfolding desc_of_file record_of
 count_described s [] = refl
-count_described s (file ∷ files) =
-    sum_by-cons (λ (x : DescBody). slice_count s x.length) (desc_of_file s file) (map (desc_of_file s) files)
-    ∙ ap (λ n. slice_count s (length file.1) + n) (count_described s files)
-    ∙ sym (sum_by-cons (λ (f : File). slice_count s (length f.1)) file files)
+count_described s (file ∷ files) = search (arith, sum_by-cons, desc_of_file, count_described s files)
 
 in_profile : (s : ℕ) (files : List File) → AreInputs s files → are_in_profile s (map (desc_of_file s) files) ≡ true
-in_profile s files is =
-    let ds = map (desc_of_file s) files in
-    let once : length (distinct (map (λ x. x.name) ds)) ≡ length ds =
-    ap (λ ns. length (distinct ns)) (names_described s files) ∙ ap length (distinct_same (map (λ file. file.0) files) (distinct_from_std (map (λ file. file.0) files) is.names_once))
-    ∙ length-map files (λ file. file.0) ∙ sym (length-map files (desc_of_file s)) in
-    and_from _ _
-    (and_from _ _ (le-leb (sum_by (λ (x : DescBody). slice_count s x.length) ds) 32768 (subst (λ n. n ≤ 32768) (sym (count_described s files)) is.slices))
-    (test_from_all (λ (x : DescBody). is_name x.name) ds (are_names s files is.names)))
-    (eq-eqb (length (distinct (map (λ x. x.name) ds))) (length ds) once)
+in_profile s files is = grind (arith, desc_of_file, names_described, distinct_same, distinct_from_std, length-map, and_from, le-leb, count_described, test_from_all, are_names, eq-eqb)
 
 -- ---- the base is read
 
@@ -231,8 +196,7 @@ module _ (folder : Folder) (base : List ℕ) (s : ℕ) (files : List File) (is :
   volume_says text v = all_weaker (IsOurs s ordered) (SaysIfOurs their_id s ordered) (λ p ours own. ours.1) (accepted text) (volume_ours s ordered text (volumes_read s files inputs text v))
 
   others_say : (text : List ℕ) → IsOfOthers their_id text → AllByRecursion (SaysIfOurs their_id s ordered) (accepted text)
-  others_say text h =
-      all_weaker (λ p. bytes_eq p.set_id their_id ≡ false) (SaysIfOurs their_id s ordered) (λ p other own. absurd (false≢true (sym other ∙ subst (λ x. bytes_eq x their_id ≡ true) (sym own) (itself their_id)))) (accepted text) h
+  others_say text h = grind (arith, all_weaker, false≢true, itself)
 
   each_says : (text : List ℕ) → IsVolume s files text ⊎ IsOfOthers their_id text → AllByRecursion (SaysIfOurs their_id s ordered) (accepted text)
   each_says text (inl v) = volume_says text v

@@ -1,5 +1,5 @@
 -- What is read of a volume: the packets that were written.
-use Rattle.par2_laws.proofs.Common.{◌≡◌, ℕ, ◌^◌, ◌<◌, ◌≤◌, true, false, List, [], ◌∷◌, length, map, sym, ◌∙◌, subst, arith, zero, suc, ◌+◌, ◌-◌, min, ◌&&◌, ◌++◌, refl, ap, append-nil, IsTrue, IsPermutation, sum_by, ◌==◌, flat_map, nat_le, AllByRecursion, list_any, range_with_len, Contains, bytes_eq, not-true, leb-true, and_parts, length-map, sum_by-cons, IsPermutation-map, sum_by-IsPermutation, length_permutation, length-md5, pair_of, slice_count, slice_at, slices, is_name, AreBytes, File, IsFileRecord, id_of, FileRecord, all_slices, in_id_order, volumes_before, volume_size, volume_numbers, recovery_packets, packet_of, main_id, main_bytes, desc_bytes, ifsc_bytes, creator_bytes, AreDescribed, AreInputs, IsVolume, all-map, all-append, of_contained, all_weaker, moved-all, same_either_way, size_parts, flat_map-append, Kind, Main, FileDesc, Ifsc, Creator, Packet, packet, accepted, are_counts, index_reads, recovery_slices_read}
+use Rattle.par2_laws.proofs.Common.{◌≡◌, ℕ, ◌^◌, ◌<◌, ◌≤◌, true, false, List, [], ◌∷◌, length, map, sym, ◌∙◌, subst, arith, zero, suc, ◌+◌, min, ◌&&◌, ◌++◌, refl, ap, append-nil, IsTrue, IsPermutation, sum_by, ◌==◌, flat_map, nat_le, AllByRecursion, list_any, range_with_len, Contains, bytes_eq, not-true, leb-true, and_parts, length-map, sum_by-cons, IsPermutation-map, sum_by-IsPermutation, length_permutation, length-md5, pair_of, slice_count, slice_at, slices, is_name, AreBytes, File, IsFileRecord, id_of, FileRecord, all_slices, in_id_order, volumes_before, volume_size, volume_numbers, recovery_packets, packet_of, main_id, main_bytes, desc_bytes, ifsc_bytes, creator_bytes, AreDescribed, AreInputs, IsVolume, all-map, all-append, of_contained, all_weaker, moved-all, same_either_way, size_parts, flat_map-append, Kind, Main, FileDesc, Ifsc, Creator, Packet, packet, accepted, are_counts, index_reads, recovery_slices_read, common_steps}
 use Rattle.par2_spec.specs.Volumes.{record_of}
 use Rattle.std.proofs.lemmas.List.FromFn.{length-range_with_len}
 use Rattle.std.proofs.lemmas.Map.Keys.{IsDistinct-IsPermutation}
@@ -111,9 +111,7 @@ module _ (s : ℕ) (files : List File) (is : AreInputs s files) where
   few_records = subst (λ n. n < 2 ^ 32) (sym (length-map files (record_of s))) is.few
 
   index_read : accepted (flat_map packet (index_of s files)) ≡ index_of s files ++ slices_of s files 0 0
-  index_read =
-      ap accepted (sym (append-nil (flat_map packet (index_of s files)))) ∙ index_reads s (map (record_of s) files) [] few_records (records_fit s files is)
-      ∙ ap (λ ps. index_of s files ++ ps) empty_read
+  index_read = grind (arith, common_steps, append-nil, index_reads, few_records, records_fit, empty_read)
 
   slices_read : (e n : ℕ) → accepted (flat_map packet (slices_of s files e n)) ≡ slices_of s files e n
   slices_read e n =
@@ -123,21 +121,10 @@ module _ (s : ℕ) (files : List File) (is : AreInputs s files) where
       ∙ ap (λ ps. slices_of s files e n ++ ps) empty_read ∙ append-nil (slices_of s files e n)
 
   both_read : (e n : ℕ) → accepted (flat_map packet (index_of s files ++ slices_of s files e n)) ≡ index_of s files ++ slices_of s files e n
-  both_read e n =
-      ap accepted (flat_map-append packet (index_of s files) (slices_of s files e n))
-      ∙ index_reads s (map (record_of s) files) (flat_map packet (slices_of s files e n)) few_records (records_fit s files is)
-      ∙ ap (λ ps. index_of s files ++ ps) (slices_read e n)
+  both_read e n = grind (arith, flat_map-append, index_reads, few_records, records_fit, slices_read)
 
   volume_read : (f c i : ℕ) → f + c ≤ 65536 → IsReadAs s files (flat_map packet (index_of s files ++ slices_of s files (f + volumes_before i) (volume_size c i)))
-  volume_read f c i small = record {
-    first = f + volumes_before i;
-    count = volume_size c i;
-    low = λ k l. inside f (volumes_before i) (2 ^ i) c k small l;
-    packets = both_read (f + volumes_before i) (volume_size c i);
-  }
-    where
-      inside : (f b p c k : ℕ) → f + c ≤ 65536 → k < min p (c - b) → f + b + k < 65536
-      inside f b p c k small l = omega (arith, small, l)
+  volume_read f c i small = grind (arith, both_read, min)
 
   each_volume : (f c : ℕ) (names : ℕ → List ℕ) (is : List ℕ) → f + c ≤ 65536
       → AllByRecursion (IsReadAs s files) (map (λ file. file.1) (map (λ i. let v : File = (names i, flat_map packet (index_of s files ++ slices_of s files (f + volumes_before i) (volume_size c i))) in v) is))
@@ -195,6 +182,4 @@ module _ (s : ℕ) (files : List File) where
       ((refl, (e, here, refl)), slices_ours (e + 1) n (λ k l. let h = low (suc k) (omega (arith, l)) in omega (arith, h)))
 
   pub volume_ours : (text : List ℕ) → IsReadAs s files text → AllByRecursion IsOurs (accepted text)
-  volume_ours text r =
-      subst (AllByRecursion IsOurs) (sym r.packets)
-      (all-append IsOurs (index_of s files) (slices_of s files r.first r.count) index_ours (slices_ours r.first r.count r.low))
+  volume_ours text r = grind (arith, all-append, index_ours, slices_ours)

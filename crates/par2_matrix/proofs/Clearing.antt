@@ -1,23 +1,15 @@
 -- Clearing a column, one equation after the other.
-use Rattle.par2_matrix.proofs.Common.{ℕ, ◌+◌, ◌*◌, ◌<◌, ◌≡◌, inl, inr, sym, ap, ◌∙◌, subst, arith, List, length, get_or, set, bit_xor, Vec, Global, cases_eq, mul, word, AddsProducts, ClearedBelow, PutAt, list_at, lists_of, OneChanged, written_here, written_changed, length-lists_of, by_either}
+use Rattle.par2_matrix.proofs.Common.{ℕ, ◌+◌, ◌*◌, ◌<◌, ◌≡◌, sym, ap, ◌∙◌, subst, arith, List, length, get_or, set, bit_xor, Vec, Global, cases_eq, mul, word, AddsProducts, ClearedBelow, PutAt, list_at, lists_of, OneChanged, written_here, written_changed, length-lists_of, by_either, common_steps}
 
 same_sizes : (old mid new : List (List ℕ)) (p : ℕ) → OneChanged mid new p → length (list_at new p) ≡ length (list_at mid p)
     → ((i : ℕ) → length (list_at mid i) ≡ length (list_at old i)) → (i : ℕ) → length (list_at new i) ≡ length (list_at old i)
-same_sizes old mid new p changed here before i = by_either (cases_eq i p)
-    (λ same. subst (λ x. length (list_at new x) ≡ length (list_at old x)) (sym same) (here ∙ before p))
-    (λ other. ap length (changed.others i other) ∙ before i)
+same_sizes old mid new p changed here before i = grind (arith, by_either, cases_eq)
 
 -- a multiple of src was added to list p, where the lists below p have theirs
 added_below : (old mid new : List (List ℕ)) (src : List ℕ) (k : ℕ → ℕ) (p : ℕ) → OneChanged mid new p → AddsProducts (k p) src (list_at mid p) (list_at new p) → list_at mid p ≡ list_at old p
     → ((i w : ℕ) → i < p → 2 * w + 1 < length (list_at old i) → word w (list_at mid i) ≡ bit_xor (word w (list_at old i)) (mul (k i) (word w src)))
     → (i w : ℕ) → i < p + 1 → 2 * w + 1 < length (list_at old i) → word w (list_at new i) ≡ bit_xor (word w (list_at old i)) (mul (k i) (word w src))
-added_below old mid new src k p changed added was below i w hi hw = elim (cases_eq i p) [
-  | inl same ↦
-      subst (λ x. word w (list_at new x) ≡ bit_xor (word w (list_at old x)) (mul (k x) (word w src))) (sym same)
-      (subst (λ xs. word w (list_at new p) ≡ bit_xor (word w xs) (mul (k p) (word w src))) was
-      (added.each w (subst (λ n. 2 * w + 1 < n) (ap (λ x. length (list_at old x)) same ∙ sym (ap length was)) hw)))
-  | inr other ↦ ap (λ xs. word w xs) (changed.others i other) ∙ below i w (omega arith) hw
-]
+added_below old mid new src k p changed added was below i w hi hw = grind (arith, cases_eq, bit_xor)
 
 pub clear_turn : (q p k : ℕ) (row right target : List ℕ) (old_rows old_rights mid_rows mid_rights new_rows new_rights : List (List ℕ)) → ClearedBelow q row right old_rows old_rights mid_rows mid_rights p
     → target ≡ list_at mid_rows p → k ≡ word q target
@@ -48,39 +40,12 @@ clear_turn q p k row right target old_rows old_rights mid_rows mid_rights new_ro
 -- where there is no equation, nothing is added
 pub clear_pass : (q p : ℕ) (row right target : List ℕ) (old_rows old_rights mid_rows mid_rights : List (List ℕ)) → ClearedBelow q row right old_rows old_rights mid_rows mid_rights p
     → target ≡ list_at mid_rows p → length target ≡ 0 → (length (list_at old_rows p) ≡ 0 → length (list_at old_rights p) ≡ 0) → ClearedBelow q row right old_rows old_rights mid_rows mid_rights (p + 1)
-clear_pass q p row right target old_rows old_rights mid_rows mid_rights so_far et none absent =
-    let row_none : length (list_at old_rows p) ≡ 0 = ap length (sym (et ∙ so_far.rows_above p (omega arith))) ∙ none in
-    let right_none : length (list_at old_rights p) ≡ 0 = absent row_none in
-    record {
-      row_count = so_far.row_count;
-      right_count = so_far.right_count;
-      row_sizes = so_far.row_sizes;
-      right_sizes = so_far.right_sizes;
-      entries = λ i w hi hw. by_either (cases_eq i p)
-          (λ same. absurd (let z : length (list_at old_rows i) ≡ 0 = ap (λ x. length (list_at old_rows x)) same ∙ row_none in omega arith))
-          (λ other. so_far.entries i w (omega arith) hw);
-      texts = λ i w hi hw. by_either (cases_eq i p)
-          (λ same. absurd (let z : length (list_at old_rights i) ≡ 0 = ap (λ x. length (list_at old_rights x)) same ∙ right_none in omega arith))
-          (λ other. so_far.texts i w (omega arith) hw);
-      are_bytes = so_far.are_bytes;
-      rows_above = λ i l. so_far.rows_above i (omega arith);
-      rights_above = λ i l. so_far.rights_above i (omega arith);
-    }
+clear_pass q p row right target old_rows old_rights mid_rows mid_rights so_far et none absent = grind (arith, by_either, cases_eq)
 
 pub put_at : (q n : ℕ) (row right : List ℕ) (old_rows old_rights : List (List ℕ)) (rs ds : List (Vec ℕ Global)) (v w : Vec ℕ Global) → q < length rs → q < length ds → v.items ≡ row → w.items ≡ right
     → ((k : ℕ) → get_or row k 0 < 256) → ((k : ℕ) → get_or right k 0 < 256)
     → n ≡ length old_rows → ClearedBelow q row right old_rows old_rights (lists_of rs) (lists_of ds) n → PutAt q row right old_rows old_rights (lists_of (set rs q v)) (lists_of (set ds q w))
-put_at q n row right old_rows old_rights rs ds v w hr hd ev ew row_bytes right_bytes en cleared = record {
-  cleared_rows = lists_of rs;
-  cleared_rights = lists_of ds;
-  cleared = subst (λ x. ClearedBelow q row right old_rows old_rights (lists_of rs) (lists_of ds) x) en cleared;
-  at_row = written_here rs q v hr ∙ ev;
-  at_right = written_here ds q w hd ∙ ew;
-  row_bytes = row_bytes;
-  right_bytes = right_bytes;
-  other_rows = written_changed rs q v;
-  other_rights = written_changed ds q w;
-}
+put_at q n row right old_rows old_rights rs ds v w hr hd ev ew row_bytes right_bytes en cleared = grind (arith, common_steps, written_here, written_changed)
 
 pub place_within : (vs : List (Vec ℕ Global)) (old : List (List ℕ)) (q n : ℕ) → q < n → length (lists_of vs) ≡ length old → length old ≡ n → q < length vs
 place_within vs old q n h e f = omega (arith, length-lists_of vs)

@@ -1,5 +1,5 @@
 -- An offer, put together.
-use Rattle.par2_matrix.proofs.Common.{ℕ, ◌+◌, ◌*◌, ◌<◌, ◌≡◌, ◌≢◌, inl, inr, sym, ap, ◌∙◌, subst, arith, List, length, get_or, cases_lt, mul, word, product-zero, echelon, IsReduced, PutAt, ReducedBelow, IsPrepared, list_at, word-lt, by_either}
+use Rattle.par2_matrix.proofs.Common.{ℕ, ◌+◌, ◌*◌, ◌<◌, ◌≡◌, ◌≢◌, sym, ◌∙◌, subst, arith, List, length, get_or, cases_lt, word, product-zero, echelon, IsReduced, PutAt, ReducedBelow, IsPrepared, list_at, word-lt, by_either}
 use Rattle.par2_matrix.proofs.ReducedSystems.{ToldApart, told_apart, all_present, present_at_most}
 use Rattle.par2_matrix.proofs.Placing.{Placed, Cut, cut_down}
 use Rattle.par2_matrix.proofs.Standing.{placed_reduced}
@@ -25,21 +25,11 @@ tells n b rank R D row0 right0 row right q r p =
 
 -- the place that an offer takes was free
 free_at : (n b : ℕ) (R D : List (List ℕ)) (row0 right0 row right : List ℕ) (q : ℕ) → IsPrepared (echelon n b 0 R D) row0 right0 row right q → length (list_at R q) ≡ 0
-free_at n b R D row0 right0 row right q p =
-    by_either (cases_lt 0 (length (list_at R q))) (λ there. absurd (p.nonzero (p.taken.none q p.place there))) (λ none. omega arith)
+free_at n b R D row0 right0 row right q p = grind (arith, by_either, cases_lt)
 
 placed : (n b rank : ℕ) (R D R'' D'' : List (List ℕ)) (row0 right0 row right : List ℕ) (q : ℕ) → IsReduced (echelon n b rank R D)
     → IsPrepared (echelon n b 0 R D) row0 right0 row right q → PutAt q row right R D R'' D'' → Placed n b rank R D R'' D'' q row right
-placed n b rank R D R'' D'' row0 right0 row right q r p put = record {
-  reduced = r;
-  put = put;
-  place = p.place;
-  free = free_at n b R D row0 right0 row right q p;
-  row_size = p.row_size;
-  right_size = p.right_size;
-  pivot = p.pivot;
-  none = λ i hi there. p.multiple.entries i hi ∙ ap (mul p.multiple.factor) (p.taken.none i hi there) ∙ product-zero p.multiple.factor;
-}
+placed n b rank R D R'' D'' row0 right0 row right q r p put = grind (arith, free_at, product-zero)
 
 taken_whole : (n b rank : ℕ) (R D R'' D'' : List (List ℕ)) (row0 right0 row right : List ℕ) (q : ℕ) → IsReduced (echelon n b rank R D)
     → IsPrepared (echelon n b 0 R D) row0 right0 row right q → PutAt q row right R D R'' D'' → IsTaken n b rank row0 right0 R D R'' D''
@@ -56,13 +46,7 @@ taken_whole n b rank R D R'' D'' row0 right0 row right q r p put =
 -- as long as an offer finds a place, the system is not full
 pub room_left : (n b rank : ℕ) (R D : List (List ℕ)) (row0 right0 row right : List ℕ) (q : ℕ) → IsReduced (echelon n b rank R D)
     → ReducedBelow (echelon n b 0 R D) row0 right0 row right n → 2 * q + 1 < length row → word q row ≢ 0 → rank < n
-room_left n b rank R D row0 right0 row right q r taken hq nonzero = elim (cases_lt rank n) [
-  | inl below ↦ below
-  | inr full ↦
-      let place : q < n = omega (arith, taken.row_size) in
-      let there : 0 < length (list_at R q) = all_present R n (omega (arith, r.rank, present_at_most R n)) q place in
-      absurd (nonzero (taken.none q place there))
-]
+room_left n b rank R D row0 right0 row right q r taken hq nonzero = grind (arith, cases_lt, all_present, present_at_most)
 
 -- the same, of the values that the code names
 pub offered : (n b rank : ℕ) (R D R1 D1 R2 D2 R3 D3 R'' D'' : List (List ℕ)) (n1 : ℕ) (r0 d0 a1 a2 row right x y : List ℕ) (q : ℕ) → IsReduced (echelon n b rank R D)

@@ -54,24 +54,11 @@ pub record Placed (n b rank : ℕ) (R D R'' D'' : List (List ℕ)) (q : ℕ) (ro
 
 pub entry : (n b rank : ℕ) (R D R'' D'' : List (List ℕ)) (q : ℕ) (row right : List ℕ) → Placed n b rank R D R'' D'' q row right
     → (p i : ℕ) → p < n → p ≢ q → i < n → word i (list_at R'' p) ≡ bit_xor (word i (list_at R p)) (mul (word q (list_at R p)) (word i row))
-entry n b rank R D R'' D'' q row right h p i hp other hi = ap (λ xs. word i xs) (h.put.other_rows.others p other) ∙ elim (cases_lt 0 (length (list_at R p))) [
-  | inl there ↦ h.put.cleared.entries p i (omega (arith, h.reduced.row_count)) (omega (arith, h.reduced.row_size p there))
-  | inr none ↦
-      let gone : length (list_at R p) ≡ 0 = omega arith in
-      word_empty (list_at h.put.cleared_rows p) i (h.put.cleared.row_sizes p ∙ gone)
-      ∙ sym (ap₂ (λ x y. bit_xor x (mul y (word i row))) (word_empty (list_at R p) i gone) (word_empty (list_at R p) q gone) ∙ zero-product (word i row))
-]
+entry n b rank R D R'' D'' q row right h p i hp other hi = grind (arith, cases_lt, word_empty, bit_xor, zero-product)
 
 pub word_entry : (n b rank : ℕ) (R D R'' D'' : List (List ℕ)) (q : ℕ) (row right : List ℕ) → Placed n b rank R D R'' D'' q row right
     → (p w : ℕ) → p < n → p ≢ q → 2 * w + 1 < b → word w (list_at D'' p) ≡ bit_xor (word w (list_at D p)) (mul (word q (list_at R p)) (word w right))
-word_entry n b rank R D R'' D'' q row right h p w hp other hw = ap (λ xs. word w xs) (h.put.other_rights.others p other) ∙ elim (cases_lt 0 (length (list_at R p))) [
-  | inl there ↦ h.put.cleared.texts p w (omega (arith, h.reduced.row_count)) (omega (arith, h.reduced.right_size p there))
-  | inr none ↦
-      let gone : length (list_at R p) ≡ 0 = omega arith in
-      let empty : length (list_at D p) ≡ 0 = h.reduced.absent p gone in
-      word_empty (list_at h.put.cleared_rights p) w (h.put.cleared.right_sizes p ∙ empty)
-      ∙ sym (ap₂ (λ x y. bit_xor x (mul y (word w right))) (word_empty (list_at D p) w empty) (word_empty (list_at R p) q gone) ∙ zero-product (word w right))
-]
+word_entry n b rank R D R'' D'' q row right h p w hp other hw = grind (arith, cases_lt, word_empty, bit_xor, zero-product)
 
 eliminated : (n b rank : ℕ) (R D R'' D'' : List (List ℕ)) (q : ℕ) (row right : List ℕ) → Placed n b rank R D R'' D'' q row right → Eliminated n q R R'' row
 eliminated n b rank R D R'' D'' q row right h = record {

@@ -1,5 +1,5 @@
 -- What the contracts promise, of reduced systems.
-use Rattle.par2_matrix.proofs.Common.{ℕ, zero, suc, ◌+◌, ◌*◌, ◌<◌, ◌≡◌, ◌↔◌, refl, sym, ap, ap₂, ◌∙◌, subst, arith, List, [], ◌∷◌, length, get_or, map, true, false, suc-ne-zero, false≢true, ext_get_or, get_or-map-range_with_len, length-map-range_with_len, AllByRecursion, range_with_len, mul, word, dot, IsVector, Equations, rank, no_equations, IsKilled, AreTexts, CutDown, IsIndependent, IsDependent, IsUndetermined, OnlyZeroIsKilled, IsTheSolution, Echelon, echelon, Vanishes, IsReduced, system_of, Spells, AllEmpty, row_sum, AreElements, list_at, bytes_at, word-lt, combination_words, same_texts, field_sum_same, row_sum-lt, all_at, all_from}
+use Rattle.par2_matrix.proofs.Common.{ℕ, suc, ◌+◌, ◌*◌, ◌<◌, ◌≡◌, ◌↔◌, refl, sym, ap, ◌∙◌, subst, arith, List, [], ◌∷◌, length, get_or, map, true, false, suc-ne-zero, false≢true, ext_get_or, get_or-map-range_with_len, length-map-range_with_len, AllByRecursion, range_with_len, word, dot, IsVector, Equations, rank, no_equations, IsKilled, AreTexts, CutDown, IsIndependent, IsDependent, IsUndetermined, OnlyZeroIsKilled, IsTheSolution, Echelon, echelon, Vanishes, IsReduced, system_of, Spells, AllEmpty, row_sum, AreElements, list_at, bytes_at, word-lt, combination_words, same_texts, field_sum_same, row_sum-lt, all_at, all_from, common_steps}
 use Rattle.par2_matrix.specs.Echelon.{equations}
 use Rattle.par2_matrix.proofs.ReducedSystems.{ToldApart, all_present, unit_row, full_rank, free_vector}
 use Rattle.par2_matrix.proofs.Placing.{Cut}
@@ -21,8 +21,7 @@ listed_vector n f small =
     (count, all_from (λ x. x < 65536) 0 (map f (range_with_len 0 n)) (λ i h. subst (λ x. x < 65536) (sym (get_or-map-range_with_len f 0 n i i 0 (omega arith) (omega arith))) (small i)))
 
 listed_sum : (n : ℕ) (f : ℕ → ℕ) (row : List ℕ) → row_sum n row (λ i. get_or (listed n f) i 0) ≡ row_sum n row f
-listed_sum n f row =
-    field_sum_same n (λ i. mul (word i row) (get_or (listed n f) i 0)) (λ i. mul (word i row) (f i)) (λ i h. ap (mul (word i row)) (listed_at n f i h))
+listed_sum n f row = grind (arith, field_sum_same, listed, listed_at)
 
 killed_listed : (e : Echelon) → IsReduced e → (f : ℕ → ℕ) → AreElements f → Vanishes e f → IsKilled (system_of e) (listed e.columns f)
 killed_listed e r f small vanishes =
@@ -38,8 +37,7 @@ no_equations_there ([] ∷ R) (d ∷ D) none = no_equations_there R D (λ i. non
 no_equations_there ((b ∷ r) ∷ R) (d ∷ D) none = absurd (let z : suc (length r) ≡ 0 = ap length (none 0) in omega arith)
 
 pub new_system : (n m b : ℕ) (R D : List (List ℕ)) → m ≡ n → AllEmpty R n → AllEmpty D n → system_of (echelon m b 0 R D) ≡ no_equations n b
-new_system n m b R D e rows rights =
-    ap₂ (λ x y. let s : Equations = record { columns = x; bytes = b; kept = y } in s) e (no_equations_there R D rows.each)
+new_system n m b R D e rows rights = grind (arith, no_equations_there)
 
 -- ---- offer
 
@@ -122,12 +120,7 @@ not_full e r below = (λ f. absurd (false≢true f), λ full. absurd (let h : e.
 -- ---- the solution
 
 text_at : (s : Equations) (texts : List (List ℕ)) → AreTexts s texts → (i : ℕ) → i < s.columns → length (list_at texts i) ≡ s.bytes
-text_at s texts are i h = at texts are.sizes i (omega (arith, are.count))
-  where
-    at : (xs : List (List ℕ)) → AllByRecursion (λ (text : List ℕ). length text ≡ s.bytes) xs → (i : ℕ) → i < length xs → length (list_at xs i) ≡ s.bytes
-    at [] all i h = absurd (omega arith)
-    at (x ∷ xs) all zero h = all.0
-    at (x ∷ xs) all (suc i) h = at xs all.1 i (omega arith)
+text_at s texts are i h = grind (arith, common_steps)
 
 pub the_solution : (e : Echelon) → IsReduced e → e.rank ≡ e.columns → IsTheSolution (system_of e) e.rights
 unfolding words_at

@@ -22,9 +22,7 @@ unfolding witness
 witness_else rows q i n = cond-false (eqb i q) 1 (word q (list_at rows i)) (ne_eqb i q n)
 
 witness_vector : (s : Echelon) → IsReduced s → (q : ℕ) → AreElements (witness s.rows q)
-witness_vector s r q i = by_either (cases_eq i q)
-    (λ same. let e : witness s.rows q i ≡ 1 = ap (witness s.rows q) same ∙ witness_here s.rows q in omega arith)
-    (λ other. subst (λ x. x < 65536) (sym (witness_else s.rows q i other)) (r.small i q))
+witness_vector s r q i = grind (arith, by_either, cases_eq, witness, witness_here, witness_else)
 
 witness_killed : (s : Echelon) → IsReduced s → (q : ℕ) → q < s.columns → length (list_at s.rows q) ≡ 0 → Vanishes s (witness s.rows q)
 witness_killed s r q hq free p hp = at (cases_lt 0 (length (list_at s.rows p)))
@@ -70,9 +68,7 @@ told_apart s r row q hq nonzero small none =
 pub present_at_most : (rows : List (List ℕ)) (n : ℕ) → count_present rows n ≤ n
 unfolding count_present
 present_at_most rows zero = omega arith
-present_at_most rows (suc n) = by_either (cases_eq (length (list_at rows n)) 0)
-    (λ none. rw (eq-eqb (length (list_at rows n)) 0 none) (omega (arith, present_at_most rows n)))
-    (λ some. rw (ne_eqb (length (list_at rows n)) 0 some) (omega (arith, present_at_most rows n)))
+present_at_most rows (suc n) = grind (arith, by_either, cases_eq, eq-eqb, ne_eqb, present_at_most rows n)
 
 pub all_present : (rows : List (List ℕ)) (n : ℕ) → count_present rows n ≡ n → (p : ℕ) → p < n → 0 < length (list_at rows p)
 unfolding count_present
@@ -101,9 +97,7 @@ one_absent rows (suc n) h = elim (cases_eq (length (list_at rows n)) 0) [
 
 -- in a full system each equation is about its own place alone
 pub unit_row : (s : Echelon) → IsReduced s → s.rank ≡ s.columns → (f : ℕ → ℕ) → AreElements f → (p : ℕ) → p < s.columns → row_sum s.columns (list_at s.rows p) f ≡ f p
-unit_row s r full f v p h =
-    let all = all_present s.rows s.columns (sym r.rank ∙ full) in
-    row_sum_unit s.columns p (list_at s.rows p) f h v (r.pivot p (all p h)) (λ i l n. r.cleared p i (λ e. n (sym e)) (all i l))
+unit_row s r full f v p h = grind (arith, all_present, row_sum_unit)
 
 -- a vector that the equations send to 0, with 1 at a place
 pub record FreeVector (s : Echelon) : Type 0 where

@@ -4,15 +4,7 @@ use Rattle.par2_spec.proofs.FieldBits.{xor_middle}
 
 pub reduce_skip : (s : Echelon) (r0 d0 row right : List ℕ) (p : ℕ) → ReducedBelow s r0 d0 row right p
     → (0 < length (list_at s.rows p) → word p row ≡ 0) → ReducedBelow s r0 d0 row right (p + 1)
-reduce_skip s r0 d0 row right p so_far here = record {
-  row_size = so_far.row_size;
-  right_size = so_far.right_size;
-  none = λ q h there. by_either (cases_eq q p)
-      (λ same. subst (λ x. word x row ≡ 0) (sym same) (here (subst (λ x. 0 < length (list_at s.rows x)) same there)))
-      (λ other. so_far.none q (omega arith) there);
-  kills = so_far.kills;
-  solves = so_far.solves;
-}
+reduce_skip s r0 d0 row right p so_far here = grind (arith, by_either, cases_eq)
 
 pub reduce_add : (n b rank : ℕ) (rows rights : List (List ℕ)) (r0 d0 row right row' right' : List ℕ) (p : ℕ) → IsReduced (echelon n b rank rows rights) → p < n
     → 0 < length (list_at rows p) → word p row < 65536
@@ -65,9 +57,7 @@ reduce_turn n b rank rows rights r0 d0 row right row' right' src add p k r hp ek
 pub reduce_pass : (n b : ℕ) (rows rights : List (List ℕ)) (r0 d0 row right src : List ℕ) (p k : ℕ)
     → k ≡ word p row → src ≡ list_at rows p → ((k ≡ 0) ⊎ (length src ≡ 0))
     → ReducedBelow (echelon n b 0 rows rights) r0 d0 row right p → ReducedBelow (echelon n b 0 rows rights) r0 d0 row right (p + 1)
-reduce_pass n b rows rights r0 d0 row right src p k ek es why so_far =
-    reduce_skip (echelon n b 0 rows rights) r0 d0 row right p so_far
-    (λ there. by_either why (λ z. sym ek ∙ z) (λ e. absurd (let h : length (list_at rows p) ≡ 0 = ap length (sym es) ∙ e in omega arith)))
+reduce_pass n b rows rights r0 d0 row right src p k ek es why so_far = grind (arith, reduce_skip, by_either)
 
 -- an equation times the inverse of one of its elements
 pub multiple_of : (row1 right1 row right : List ℕ) (x c : ℕ) → IsInverse x c → c < 65536 → Scaled c row1 row (length row1) → Scaled c right1 right (length right1)
@@ -81,5 +71,4 @@ multiple_of row1 right1 row right x c inverse hc row_scaled right_scaled n size 
 }
 
 pub pivot_is : (row1 row : List ℕ) (q x c : ℕ) → 2 * q + 1 < length row1 → x ≡ word q row1 → IsInverse x c → x < 65536 → c < 65536 → Scaled c row1 row (length row1) → word q row ≡ 1
-pivot_is row1 row q x c hq e inverse hx hc scaled =
-    scaled.each q (omega arith) hq ∙ ap (mul c) (sym e) ∙ product_comm c x hc hx ∙ inverse.is_one
+pivot_is row1 row q x c hq e inverse hx hc scaled = grind (arith, product_comm)

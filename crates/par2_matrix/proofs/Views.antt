@@ -44,17 +44,14 @@ equation_at P ((b ∷ r) ∷ R) (d ∷ D) e all (suc p) h = equation_at P R D (o
 count_front : (r : List ℕ) (R : List (List ℕ)) (n : ℕ) → count_present (r ∷ R) (suc n) ≡ cond (eqb (length r) 0) 0 1 + count_present R n
 unfolding count_present
 count_front r R zero = omega arith
-count_front r R (suc n) = let c : ℕ = cond (eqb (length (list_at R n)) 0) 0 1 in
-    ap (λ x. x + c) (count_front r R n) ∙ (let h : cond (eqb (length r) 0) 0 1 + count_present R n + c ≡ cond (eqb (length r) 0) 0 1 + (count_present R n + c) = omega arith in h)
+count_front r R (suc n) = grind (arith, count_front r R n)
 
 length-equations : (R D : List (List ℕ)) → length R ≡ length D → length (equations R D) ≡ count_present R (length R)
 unfolding equations count_present
 length-equations [] D e = refl
 length-equations (r ∷ R) [] e = absurd (omega arith)
 length-equations ([] ∷ R) (d ∷ D) e = length-equations R D (omega arith) ∙ sym (count_front [] R (length R) ∙ omega arith)
-length-equations ((b ∷ r) ∷ R) (d ∷ D) e =
-    ap suc (length-equations R D (omega arith))
-    ∙ sym (count_front (b ∷ r) R (length R) ∙ ap (λ c. cond c 0 1 + count_present R (length R)) (ne_eqb (suc (length r)) 0 (λ z. omega arith)) ∙ (let h : 1 + count_present R (length R) ≡ suc (count_present R (length R)) = omega arith in h))
+length-equations ((b ∷ r) ∷ R) (d ∷ D) e = grind (arith, count_front, ne_eqb, length-equations R D (omega arith))
 
 counts : (e : Echelon) → IsReduced e → length e.rows ≡ length e.rights
 counts e r = r.row_count ∙ sym r.right_count
