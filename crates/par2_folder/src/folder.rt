@@ -105,8 +105,7 @@ impl Folder {
     pub fn names(&self) -> Result<Vec<Name>, AllocError>
         ensures { IfOk result (λ list. list.items ≡ names self.now.files) }
     {
-        let alloc = *self.files.allocator();
-        let mut names = Vec::with_capacity(alloc, self.files.len())?;
+        let mut names = Vec::with_capacity(*self.files.allocator(), self.files.len())?;
         for file in &self.files {
             names.push(file.0.copied())?;
         }

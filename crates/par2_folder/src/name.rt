@@ -31,7 +31,7 @@ impl Model for Name {
 }
 
 /// The text is no name of a file.
-#[derive(Debug, Error, Clone, Copy, PartialEq, Eq)]
+#[derive(Debug, Error, Clone, Copy)]
 #[error("the text is no name of a file")]
 pub struct BadName;
 
