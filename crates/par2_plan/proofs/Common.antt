@@ -26,7 +26,7 @@ pub use Rattle.par2_folder.specs.Views.{change_of}
 pub use Rattle.par2_packets.proofs.LaterDigests.{head_of, length-head, length-undigested, undigested_is}
 pub use Rattle.par2_packets.proofs.Pieces.{length-pieces, piece_at}
 pub use Rattle.par2_packets.specs.Pieces.{ArePieces}
-pub use Rattle.par2_packets.specs.Recoveries.{digested, packets_from, undigested}
+pub use Rattle.par2_packets.specs.Recoveries.{digested, undigested}
 pub use Rattle.par2_packets.specs.Views.{file_record_of}
 pub use Rattle.par2_packets.specs.declared.record.FileRecord.{FileRecord}
 pub use Rattle.par2_plan.specs.Drafts.{HasItsMd5s, IsDraft, IsDraftBy, has_digest, wrong_digest}
@@ -73,7 +73,6 @@ pub use Rattle.par2_spec.specs.Names.{distinct, is_among, is_name, is_par_name}
 pub use Rattle.par2_spec.specs.Packets.{packet}
 pub use Rattle.par2_spec.specs.Plans.{AreFewFor, LeadsToAfter, changes_of, create_changes, now_at, purge_changes}
 pub use Rattle.par2_spec.specs.Rank.{IsRebuilt, IsRepairable, is_repairable, kept_slices, rank}
-pub use Rattle.par2_spec.specs.Recovery.{recovery}
 pub use Rattle.par2_spec.specs.Refusals.{absent_file, after, are_counts, bad_name, by_set, early_refusal, is_input_name, purge_refusal, refusal, repair_refusal, set_in}
 pub use Rattle.par2_spec.specs.Repairs.{AreFew, aside, cut_into, files_of_slices, names_without_match, par_files, put_aside, rebuilt, rebuilt_targets}
 pub use Rattle.par2_spec.specs.Reports.{Complete, HasIntactFile, IsFoundWhole, IsVerdictIn, Report, State, TargetReport, is_complete, needing_state, report_in, states_by, verdict_of}

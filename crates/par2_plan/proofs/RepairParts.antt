@@ -1,5 +1,5 @@
 -- The parts of a repair are those of the definitions.
-use Rattle.par2_plan.proofs.Common.{◌≡◌, ◌⊎◌, inl, inr, subst, ℕ, List, [], ◌∷◌, ◌++◌, length, map, refl, sym, ap, ap₂, ◌∙◌, Bool, true, false, not, cond, ◌&&◌, ◌||◌, ◌+◌, suc, arith, Ok, Option, None, is_none, filter, filter_map, flat_map, AllByRecursion, enumerate_from, list_any, bytes_eq, ne_eqb, map-map, Change, Rename, Remove, Pair, first_fault, fault_where, Folder, bytes_of, has, is_among, now_at, matching, matches, lost, survivors, candidates, needing_names, is_repairable, rank, aside, put_aside, names_without_match, rebuilt, par_files, files_of_slices, ParSet, Target, set_of, found, Fault, NotRepairable, all-append, filter-map, all-each, all-filter, lost_of, long_aside, undetermined_fault, targets_among, wrong_digest, AreRestored, IsWholeWhereMatched, matches_taken, writes, asides_removed, files_removed, place_by, known_by, itself, or_right}
+use Rattle.par2_plan.proofs.Common.{◌≡◌, ◌⊎◌, inl, inr, subst, ℕ, List, [], ◌∷◌, ◌++◌, length, map, refl, sym, ap, ap₂, ◌∙◌, Bool, true, false, not, cond, ◌&&◌, ◌||◌, ◌+◌, suc, arith, Ok, Option, None, is_none, filter, filter_map, flat_map, AllByRecursion, enumerate_from, list_any, bytes_eq, ne_eqb, or_right, map-map, Change, Rename, Remove, Pair, first_fault, fault_where, Folder, bytes_of, has, is_among, now_at, matching, matches, lost, survivors, candidates, needing_names, is_repairable, rank, aside, put_aside, names_without_match, rebuilt, par_files, files_of_slices, ParSet, Target, set_of, found, Fault, NotRepairable, all-append, filter-map, all-each, all-filter, lost_of, long_aside, undetermined_fault, targets_among, wrong_digest, AreRestored, IsWholeWhereMatched, matches_taken, writes, asides_removed, files_removed, place_by, known_by, itself}
 use Rattle.std.proofs.Common.{◌==◌}
 use Rattle.std.specs.Prelude.{Some}
 use Rattle.par2_spec.specs.Plans.{repair_changes, repair_removals}

@@ -1,5 +1,5 @@
 -- The standings of targets, one after the other.
-use Rattle.par2_plan.proofs.Common.{◌≡◌, ◌<◌, ◌||◌, ℕ, zero, suc, List, [], ◌∷◌, ◌++◌, length, map, not, cond, get_or, take, drop, refl, sym, ap, ap₂, ◌∙◌, Bool, true, false, ◌⊎◌, inl, inr, Bor, Iter, MatchOption, append_assoc, arith, Option, None, is_some, filter, flat_map, zip, slice_index_or, iter_rest, map-append, length-map, take-map, drop-map, bytes_eq, is_among, AreDistinct, Pair, Target, padded_window, padded_windows, Folder, target_reports_by, GoesOn, given_of, matches_in, intact_by, standing_of, standings_of, Standing, needing_standing, standing_by, pairs_sought, pairs_unless, sought_by, standings_by, AreSized, apart_by_test, itself, or_right}
+use Rattle.par2_plan.proofs.Common.{◌≡◌, ◌<◌, ◌||◌, ℕ, zero, suc, List, [], ◌∷◌, ◌++◌, length, map, not, cond, get_or, take, drop, refl, sym, ap, ap₂, ◌∙◌, Bool, true, false, ◌⊎◌, inl, inr, Bor, Iter, MatchOption, append_assoc, arith, Option, None, is_some, filter, flat_map, zip, slice_index_or, iter_rest, map-append, length-map, take-map, drop-map, bytes_eq, is_among, AreDistinct, apart_by_test, itself, Pair, Target, padded_window, padded_windows, Folder, target_reports_by, GoesOn, given_of, matches_in, intact_by, standing_of, standings_of, Standing, needing_standing, standing_by, pairs_sought, pairs_unless, sought_by, standings_by, AreSized, or_right}
 use Rattle.std.specs.Prelude.{Some}
 use Rattle.std.proofs.Math.Seq.{drop-append_seam, take-append_seam}
 use Rattle.par2_plan.specs.declared.finding.Standing as code
