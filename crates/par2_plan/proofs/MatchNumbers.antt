@@ -1,9 +1,9 @@
 -- The matches of needing targets, by numbers and by names.
-use Rattle.par2_plan.proofs.Common.{◌≡◌, ℕ, ◌<◌, List, [], ◌∷◌, length, map, refl, sym, ap, ◌∙◌, Bool, not, Option, None, IfSome, filter, find, option_map, ◌==◌, AllByRecursion, IsDistinct, range_with_len, bytes_eq, seconds-zip, is_among, Folder, bytes_of, ParSet, Target, is_needing, needing, intact_names, matched, all-filter, distinct_from_std, std_from_distinct, distinct-filter, text_at, first_intact, without, matched_from, matched_numbers, NumbersAreNames, ArePlaces, items_where, intact_by, needs, matches_given, matched_count, all_below_are, found_one}
+use Rattle.par2_plan.proofs.Common.{◌≡◌, ℕ, Bool, suc, ◌<◌, List, [], ◌∷◌, length, map, refl, ap, not, sym, ◌∙◌, Option, None, IfSome, filter, find, zip, option_map, ◌==◌, flat_map, AllByRecursion, IsDistinct, range_with_len, bytes_eq, is_among, Folder, bytes_of, ParSet, Target, is_needing, needing, intact_names, matched, needs, matches_given, pairs_unless, sought_by, matched_count, seconds-zip, all-filter, distinct_from_std, std_from_distinct, distinct-filter, text_at, first_intact, without, matched_from, matched_numbers, NumbersAreNames, ArePlaces, all_below_are, found_one}
 use Rattle.std.specs.Prelude.{Some}
 use Rattle.par2_spec.specs.Search.{matches}
 use Rattle.par2_spec.specs.Lists.{all_below}
-use Rattle.par2_plan.proofs.Choices.{chosen-map, passed_over-map}
+use Rattle.par2_plan.proofs.Standings.{sought_in_pairs}
 
 -- ---- numbers are places
 
@@ -27,27 +27,31 @@ pub are_places : (s : ℕ) (texts : List (List ℕ)) (ts : List Target) → AreP
 unfolding all_below
 are_places s texts ts = places_from (length texts) s texts ts (range_with_len 0 (length texts)) (all_below_are (length texts))
 
+places_count : (s : ℕ) (texts : List (List ℕ)) (free : List ℕ) (ts : List Target) → length (matched_from s texts free ts) ≡ length ts
+places_count s texts free [] = refl
+places_count s texts free (t ∷ ts) = ap suc (places_count s texts (without (first_intact s texts t free) free) ts)
+
+pub as_many : (s : ℕ) (texts : List (List ℕ)) (ts : List Target) → length (matched_numbers s texts ts) ≡ length ts
+as_many s texts ts = places_count s texts (range_with_len 0 (length texts)) ts
+
 -- ---- the matches of a set
 
 module _ (folder : Folder) (set : ParSet) (searched : List (List ℕ)) where
   -- the candidates that are no intact target's
   abbrev pub free_by : List (List ℕ)
-  free_by = filter (λ name. not (is_among (intact_by (needs folder set) set.targets) name)) searched
+  free_by = filter (λ name. not (is_among (intact_names folder set) name)) searched
 
-  pub chosen_needing : items_where (needs folder set) set.targets ≡ needing folder set
-  chosen_needing = chosen-map (is_needing folder set) set.targets
-
-  pub given_by_names : matches_given folder set searched ≡ matched folder set.slice_size free_by (needing folder set)
+  pub matches_by_numbers : IsDistinct bytes_eq searched → NumbersAreNames folder set.slice_size free_by (needing folder set)
+      → zip (needing folder set) (map (option_map (text_at free_by)) (matched_numbers set.slice_size (map (bytes_of folder) free_by) (needing folder set))) ≡ matches folder set searched
   unfolding matches
-  given_by_names =
-      let free = filter (λ name. not (is_among (intact_names folder set) name)) searched in
-      seconds-zip (needing folder set) (matched folder set.slice_size free (needing folder set)) (matched_count folder set.slice_size free (needing folder set))
-      ∙ ap (λ (ts : List Target). matched folder set.slice_size (filter (λ name. not (is_among (map (λ t. t.name) ts) name)) searched) (needing folder set))
-      (sym (passed_over-map (is_needing folder set) set.targets))
+  matches_by_numbers once law =
+      ap (λ found. zip (needing folder set) found) (law (std_from_distinct free_by (distinct-filter _ searched (distinct_from_std searched once))))
 
-  pub free_once : IsDistinct bytes_eq searched → IsDistinct bytes_eq free_by
-  free_once once = std_from_distinct free_by (distinct-filter _ searched (distinct_from_std searched once))
-
-  pub given_by_numbers : IsDistinct bytes_eq searched → NumbersAreNames folder set.slice_size free_by (needing folder set)
-      → map (option_map (text_at free_by)) (matched_numbers set.slice_size (map (bytes_of folder) free_by) (needing folder set)) ≡ matches_given folder set searched
-  given_by_numbers once law = law (free_once once) ∙ sym given_by_names
+  -- the pairs that are sought are those of the needing targets without a match
+  pub sought_are : flat_map (λ (m : Target × Option (List ℕ)). pairs_unless m.1 m.0.pairs) (matches folder set searched) ≡ sought_by (needs folder set) set.targets (matches_given folder set searched)
+  unfolding matches
+  sought_are =
+      let given = matched folder set.slice_size free_by (needing folder set) in
+      let count = matched_count folder set.slice_size free_by (needing folder set) in
+      sought_in_pairs (is_needing folder set) set.targets given count
+      ∙ ap (sought_by (needs folder set) set.targets) (sym (seconds-zip (needing folder set) given count))

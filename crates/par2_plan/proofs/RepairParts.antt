@@ -1,5 +1,5 @@
 -- The parts of a repair are those of the definitions.
-use Rattle.par2_plan.proofs.Common.{◌≡◌, ◌⊎◌, inl, inr, subst, ℕ, List, [], ◌∷◌, ◌++◌, length, map, refl, sym, ap, ap₂, ◌∙◌, Bool, true, false, not, cond, ◌&&◌, ◌||◌, ◌+◌, suc, arith, Ok, Option, None, is_none, filter, filter_map, flat_map, option_map, zip, AllByRecursion, enumerate_from, list_any, ne_eqb, map-map, Change, Rename, Remove, Pair, first_fault, fault_where, Folder, bytes_of, is_among, now_at, matching, matches, lost, survivors, candidates, needing_names, is_repairable, rank, aside, put_aside, names_without_match, rebuilt, par_files, files_of_slices, ParSet, Target, set_of, found, Fault, NotRepairable, all-append, filter_map-map, all-each, lost_of, long_aside, undetermined_fault, targets_among, wrong_digest, unmatched_names, names_given, AreNeeding, AreRestored, IsWholeWhereMatched, renames, matches_taken, writes, asides_removed, files_removed, place_by, changes_by, removals_by, with_removals, repair_by, known_by}
+use Rattle.par2_plan.proofs.Common.{◌≡◌, ◌⊎◌, inl, inr, subst, ℕ, List, [], ◌∷◌, ◌++◌, length, map, refl, sym, ap, ap₂, ◌∙◌, Bool, true, false, not, cond, ◌&&◌, ◌||◌, ◌+◌, suc, arith, Ok, Option, None, is_none, filter, filter_map, flat_map, AllByRecursion, enumerate_from, list_any, bytes_eq, ne_eqb, or_right, map-map, Change, Rename, Remove, Pair, first_fault, fault_where, Folder, bytes_of, has, is_among, now_at, matching, matches, lost, survivors, candidates, needing_names, is_repairable, rank, aside, put_aside, names_without_match, rebuilt, par_files, files_of_slices, ParSet, Target, set_of, found, Fault, NotRepairable, all-append, filter-map, all-each, all-filter, lost_of, long_aside, undetermined_fault, targets_among, wrong_digest, AreRestored, IsWholeWhereMatched, matches_taken, writes, asides_removed, files_removed, place_by, known_by, itself}
 use Rattle.std.proofs.Common.{◌==◌}
 use Rattle.std.specs.Prelude.{Some}
 use Rattle.par2_spec.specs.Plans.{repair_changes, repair_removals}
@@ -8,41 +8,22 @@ use Rattle.par2_spec.specs.Refusals.{repair_refusal}
 use Rattle.par2_spec.specs.Repairs.{rebuilt_targets}
 use Rattle.par2_spec.proofs.RankLaws.{repairable-iff}
 use Rattle.par2_spec.proofs.SearchLaws.{matches_of_needing}
-use Rattle.par2_plan.specs.declared.needing_targets.Needing.{Needing}
 
 abbrev Pairs : Type 0
 Pairs = List (Target × Option (List ℕ))
 
--- ---- lists in pairs
+-- ---- files that are put aside stand under their asides
 
-pub unmatched_of : (ms : Pairs) → unmatched_names (map (λ m. m.0.name) ms) (map (λ m. m.1) ms) ≡ names_without_match ms
-unmatched_of [] = refl
-unmatched_of ((t, None) ∷ ms) = ap (λ names. t.name ∷ names) (unmatched_of ms)
-unmatched_of ((t, Some name) ∷ ms) = unmatched_of ms
+own_places : (aside : List ℕ → List ℕ) (all : List (List ℕ)) (change : List ℕ → List ℕ → Change) (names : List (List ℕ)) → AllByRecursion (λ n. is_among all n ≡ true) names
+    → map (λ n. change n (place_by aside all n)) names ≡ map (λ n. change n (aside n)) names
+own_places aside all change [] h = refl
+own_places aside all change (name ∷ names) h =
+    ap₂ (λ (place : List ℕ) (changes : List Change). change name place ∷ changes) (ap (λ b. cond b (aside name) name) h.0) (own_places aside all change names h.1)
 
-taken_of : (place : List ℕ → List ℕ) (ms : Pairs) → matches_taken place (map (λ m. m.0.name) ms) (map (λ m. m.1) ms) ≡ filter_map (λ m. option_map (λ name. Rename (place name) m.0.name) m.1) ms
-taken_of place [] = refl
-taken_of place ((t, None) ∷ ms) = taken_of place ms
-taken_of place ((t, Some name) ∷ ms) = ap (λ changes. Rename (place name) t.name ∷ changes) (taken_of place ms)
-
-renames_of : (other : List ℕ → List ℕ) (names : List (List ℕ)) → renames names (map other names) ≡ map (λ name. Rename name (other name)) names
-renames_of other [] = refl
-renames_of other (name ∷ names) = ap (λ changes. Rename name (other name) ∷ changes) (renames_of other names)
-
-removed_of : (given : List (List ℕ)) (other : List ℕ → List ℕ) (names : List (List ℕ)) → asides_removed given names (map other names) ≡ map (λ name. Remove (other name)) (filter (λ name. not (is_among given name)) names)
-removed_of given other [] = refl
-removed_of given other (name ∷ names) = step (not (is_among given name)) (removed_of given other names)
-  where
-    later : List (List ℕ × List ℕ)
-    later = filter (λ z. not (is_among given z.0)) (zip names (map other names))
-
-    rest : List (List ℕ)
-    rest = filter (λ n. not (is_among given n)) names
-
-    step : (b : Bool) → map (λ (z : List ℕ × List ℕ). Remove z.1) later ≡ map (λ (n : List ℕ). Remove (other n)) rest
-        → map (λ (z : List ℕ × List ℕ). Remove z.1) (cond b ((name, other name) ∷ later) later) ≡ map (λ (n : List ℕ). Remove (other n)) (cond b (name ∷ rest) rest)
-    step true h = ap (λ (changes : List Change). Remove (other name) ∷ changes) h
-    step false h = h
+all_own : (names more : List (List ℕ)) → ((q : List ℕ) → is_among names q ≡ true → is_among more q ≡ true) → AllByRecursion (λ n. is_among more n ≡ true) names
+all_own [] more h = tt
+all_own (name ∷ names) more h =
+    (h name (ap (λ b. b || is_among names name) (itself name)), all_own names more (λ q k. h q (or_right (bytes_eq q name) _ k)))
 
 -- ---- nothing is lost where each needing target has a match
 
@@ -139,32 +120,31 @@ module _ (folder : Folder) (set : ParSet) (searched : List (List ℕ)) where
 
   -- ---- changes
 
-  module _ (needing : Needing) (are : AreNeeding folder set searched needing) where
-    abbrev off : List ℕ → List ℕ
-    off = aside folder set
+  pub changes_are : (needing : Pairs) (names : List (List ℕ)) (targets : List (Target × List ℕ)) → needing ≡ ms → names ≡ put_aside folder set → targets ≡ rebuilt_targets folder set searched
+      → map (λ n. Rename n (now_at folder set n)) names ++ matches_taken (now_at folder set) needing ++ writes targets ≡ repair_changes folder set searched
+  unfolding repair_changes
+  changes_are needing names targets of_needing of_names of_targets =
+      ap₂ (λ (a b : List Change). a ++ b)
+      (ap₂ (λ (a b : List Change). a ++ b)
+      (ap (map (λ n. Rename n (now_at folder set n))) of_names ∙ own_places (aside folder set) (put_aside folder set) Rename (put_aside folder set) (all_own (put_aside folder set) (put_aside folder set) (λ q h. h)))
+      (ap (matches_taken (now_at folder set)) of_needing))
+      (ap writes of_targets)
 
-    changes_are : changes_by off needing (rebuilt_targets folder set searched) ≡ repair_changes folder set searched
-    unfolding repair_changes
-    changes_are =
-        let aside_first : renames needing.put_aside.items (map off needing.put_aside.items) ≡ map (λ name. Rename name (off name)) (put_aside folder set) =
-        ap (λ (ns : List (List ℕ)). renames ns (map off ns)) are.put_aside ∙ renames_of off (put_aside folder set) in
-        let then_taken : matches_taken (place_by off needing.put_aside.items) needing.names.items needing.matches.items ≡ filter_map (λ m. option_map (λ name. Rename (now_at folder set name) m.0.name) m.1) ms =
-        ap (λ (ns : List (List ℕ)). matches_taken (place_by off ns) needing.names.items needing.matches.items) are.put_aside
-        ∙ ap₂ (λ (ns : List (List ℕ)) (os : List (Option (List ℕ))). matches_taken (now_at folder set) ns os) (are.names ∙ names_in_pairs) are.matches
-        ∙ taken_of (now_at folder set) ms in
-        ap (λ (cs : List Change). cs ++ writes (rebuilt_targets folder set searched)) (ap₂ (λ (a b : List Change). a ++ b) aside_first then_taken)
+  pub removals_are : (needing : Pairs) (names files : List (List ℕ)) → needing ≡ ms → names ≡ put_aside folder set → files ≡ par_files folder set
+      → asides_removed (now_at folder set) (filter_map (λ m. m.1) needing) names ++ files_removed (filter_map (λ m. m.1) needing) files ≡ repair_removals folder set searched
+  unfolding repair_removals
+  removals_are needing names files of_needing of_names of_files =
+      let free = λ (n : List ℕ). not (is_among (matching folder set searched) n) in
+      ap₂ (λ (ms : Pairs) (ns : List (List ℕ)). asides_removed (now_at folder set) (filter_map (λ m. m.1) ms) ns ++ files_removed (filter_map (λ m. m.1) ms) files) of_needing of_names
+      ∙ ap₂ (λ (a b : List Change). a ++ b)
+      (own_places (aside folder set) (put_aside folder set) (λ n other. Remove other) (filter free (put_aside folder set))
+      (all-filter (λ n. is_among (put_aside folder set) n ≡ true) free (put_aside folder set) (all_own (put_aside folder set) (put_aside folder set) (λ q h. h))))
+      (ap (files_removed (matching folder set searched)) of_files)
 
-    removals_are : removals_by off needing (par_files folder set) ≡ repair_removals folder set searched
-    unfolding repair_removals
-    removals_are =
-        let used : names_given needing.matches.items ≡ matching folder set searched = ap names_given are.matches ∙ filter_map-map (λ (o : Option (List ℕ)). o) (λ (m : Target × Option (List ℕ)). m.1) ms in
-        ap₂ (λ (a b : List Change). a ++ b)
-        (ap₂ (λ (ns os : List (List ℕ)). asides_removed ns os (map off os)) used are.put_aside ∙ removed_of (matching folder set searched) off (put_aside folder set))
-        (ap (λ (ns : List (List ℕ)). files_removed ns (par_files folder set)) used)
-
-    pub all_changes : (purge : Bool) (targets : List (Target × List ℕ)) → targets ≡ rebuilt_targets folder set searched
-        → with_removals purge (changes_by off needing targets) (removals_by off needing (par_files folder set)) ≡ repair_by purge folder set searched
-    all_changes purge targets e = ap₂ (λ (a b : List Change). with_removals purge a b) (ap (changes_by off needing) e ∙ changes_are) removals_are
+  pub put_aside_in : (needing : Pairs) → needing ≡ ms → map (λ m. m.0.name) (filter (λ m. has folder m.0.name) needing) ≡ put_aside folder set
+  put_aside_in needing e =
+      ap (λ (ms : Pairs). map (λ m. m.0.name) (filter (λ m. has folder m.0.name) ms)) e
+      ∙ sym (filter-map (has folder) (λ (m : Target × Option (List ℕ)). m.0.name) ms) ∙ ap (filter (has folder)) (sym names_in_pairs)
 
 -- ---- purges
 

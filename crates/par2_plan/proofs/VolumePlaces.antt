@@ -1,5 +1,6 @@
 -- Where the recovery slices of volumes lie, and what the volumes are once they are written there.
-use Rattle.par2_plan.proofs.Common.{inl, inr, ℕ, zero, suc, ◌+◌, ◌-◌, ◌*◌, ◌/◌, ◌%◌, ◌<◌, ◌≤◌, ◌≡◌, refl, sym, ap, ap₂, subst, ◌∙◌, arith, List, [], ◌∷◌, ◌++◌, length, length-append, get_or, map, take, drop, append-nil, append_assoc, zero-add, mul-le-mul_right, flat_map, range_with_len, cases_lt, ext_get_or, get_or_default, get_or-take, get_or-drop, get_or_append_left, get_or-append_right, length-map, get_or-map, length-replicate, get_or-replicate, length-drop, length-take-le, length-map-range_with_len, get_or-map-range_with_len, length-range_with_len, get_or-range_with_len, recovery, padded, list_at, ArePieces, undigested, length-pieces, piece_at, head_of, length-head, length-undigested, undigested_is, place_at, AreApart, HasByte, LieWithin, Place, output_at, AreWritten, AreZeros, HasSlices, inputs_of, HavePackets, exponents_in, exponents_of, length_with, nth_volume, place_in, places_from, places_in, slice_of, volume_with, Volume, Parts}
+use Rattle.par2_plan.proofs.Common.{inl, inr, ℕ, zero, suc, ◌+◌, ◌-◌, ◌*◌, ◌/◌, ◌%◌, ◌<◌, ◌≤◌, ◌≡◌, refl, sym, ap, ap₂, subst, ◌∙◌, arith, List, [], ◌∷◌, ◌++◌, length, length-append, get_or, map, take, drop, append-nil, append_assoc, zero-add, mul-le-mul_right, flat_map, range_with_len, cases_lt, ext_get_or, get_or_default, get_or-take, get_or-drop, get_or_append_left, get_or-append_right, length-map, get_or-map, length-replicate, get_or-replicate, length-drop, length-take-le, length-map-range_with_len, get_or-map-range_with_len, length-range_with_len, get_or-range_with_len, padded, list_at, ArePieces, undigested, length-pieces, piece_at, head_of, length-head, length-undigested, undigested_is, place_at, AreApart, HasByte, LieWithin, Place, output_at, AreWritten, AreZeros, HasSlices, inputs_of, HavePackets, exponents_in, exponents_of, length_with, nth_volume, place_in, places_from, places_in, slice_of, volume_with, Volume, Parts}
+use Rattle.par2_spec.specs.Recovery.{recovery}
 use Rattle.std.proofs.Common.{replicate}
 use Rattle.std.proofs.lemmas.Nat.{div-add-mod'}
 use Rattle.std.proofs.Math.Nat.{mod-lt}

@@ -1,17 +1,19 @@
 //! How it stands with each target of a set: which file is intact for it, or else where its slices are found.
-ghost use Rattle.std.specs.Prelude.{◌≡◌, ◌≤◌, ◌+◌, ℕ, length, map, take, drop, IfOk};
+ghost use Rattle.std.specs.Prelude.{◌≡◌, ◌≤◌, ◌+◌, ℕ, Bool, length, map, flat_map, take, drop, IfOk};
 ghost use Rattle.std.specs.List.{IsDistinct};
 ghost use Rattle.std.specs.Str.{bytes_eq};
 ghost use Rattle.std.specs.Slice.Iter.{iter_rest};
 ghost use Rattle.par2_spec.specs.Folders.{bytes_of};
+ghost use Rattle.par2_spec.specs.Sets as sets;
 ghost use Rattle.par2_spec.specs.Windows.{found};
 ghost use Rattle.par2_slices.specs.Texts.{padded_windows};
 ghost use Rattle.par2_spec.specs.Answers.{Lists};
-ghost use Rattle.par2_plan.specs.Findings.{pairs_sought, sought_by, standing_by, standings};
-ghost use Rattle.par2_plan.specs.Views.{GoesOn, given_of, standing_of, standings_of, AreStandingsBy};
+ghost use Rattle.par2_plan.specs.Findings.{pairs_sought, pairs_unless, standing_by, standings};
+ghost use Rattle.par2_plan.specs.Matches.{HoldsNames};
+ghost use Rattle.par2_plan.specs.Views.{GoesOn, given_of, standing_of, standings_of, AreStandingsBy, intact_by};
 
 use crate::candidates::texts_of;
-use crate::matching::{matches, needs};
+use crate::matching::{Needing, Targets, matches};
 use par2_folder::{Folder, Name};
 use par2_sets::{ParSet, Target};
 use par2_slices::{Pair, found_windows};
@@ -29,38 +31,37 @@ pub enum Standing<'a> {
     Unmatched(Vec<Option<&'a [u8]>>),
 }
 
-// What is given for a target: the next match, if it needs one.
-fn next_given<'m>(needs: bool, matches: &mut Iter<'m, Option<Name>>) -> Option<&'m Option<Name>>
-    ensures { GoesOn needs (iter_rest matches.old) result (iter_rest matches.new) }
+// The match of a target: that of the next needing one, if it is needing.
+fn next_given<'m>(needs: bool, needing: &mut Iter<'m, Needing>) -> Option<&'m Name>
+    ensures { GoesOn needs (iter_rest needing.old) result (iter_rest needing.new) }
 {
-    if needs { matches.next() } else { None }
+    if !needs {
+        return None;
+    }
+    match needing.next() {
+        Some(needing) => needing.found(),
+        None => None,
+    }
 }
 
 // The pairs of a target, where it needs a match and has none.
-fn sought_of<'t>(target: &'t Target, needs: bool, given: Option<&Option<Name>>) -> &'t [Pair]
+fn sought_of<'t>(target: &'t Target, needs: bool, given: Option<&Name>) -> &'t [Pair]
     ensures { result.now ≡ pairs_sought needs (given_of given.entry) target.now.pairs }
 {
     match given {
-        Some(Some(_)) => &[],
+        Some(_) => &[],
         _ if needs => target.pairs(),
         _ => &[],
     }
 }
 
-// The pairs of the targets that need a match and have none.
-fn sought_pairs(
-    alloc: Global,
-    set: &ParSet,
-    needing: &[bool],
-    matches: &[Option<Name>],
-) -> Result<Vec<Pair>, AllocError>
-    ensures { Lists (sought_by needing.now set.now.targets matches.now) result }
+// The pairs of the needing targets that have no match.
+fn sought_pairs(alloc: Global, targets: &[Needing]) -> Result<Vec<Pair>, AllocError>
+    ensures { Lists (flat_map (λ m. pairs_unless m.1 m.0.pairs) targets.now) result }
 {
     let mut pairs = Vec::new(alloc);
-    let mut matches = matches.iter();
-    for (target, needs) in set.targets().iter().zip(needing) {
-        let given = next_given(*needs, &mut matches);
-        pairs.extend_from_slice(sought_of(target, *needs, given))?;
+    for needing in targets {
+        pairs.extend_from_slice(needing.sought())?;
     }
     Ok(pairs)
 }
@@ -99,7 +100,7 @@ fn part<'w, 'a>(
 fn standing_with<'a>(
     alloc: Global,
     needs: bool,
-    given: Option<&Option<Name>>,
+    given: Option<&Name>,
     windows: &[Option<&'a [u8]>],
 ) -> Result<Standing<'a>, AllocError>
     ensures { IfOk result (λ standing. (s : ℕ) → standing_of s standing
@@ -109,31 +110,31 @@ fn standing_with<'a>(
         return Ok(Standing::Intact);
     }
     match given {
-        Some(Some(name)) => Ok(Standing::Matched(name.copied())),
-        _ => Ok(Standing::Unmatched(Vec::from_slice(alloc, windows)?)),
+        Some(name) => Ok(Standing::Matched(name.copied())),
+        None => Ok(Standing::Unmatched(Vec::from_slice(alloc, windows)?)),
     }
 }
 
-// The standings of targets of which some need a match, by those matches and the windows of the slices of those
-// without one, in order.
-fn standings_with<'a>(
+// The standings of a set's targets, by the windows of the slices of those without a match, in order.
+fn standings_with<'a, 's>(
     alloc: Global,
-    set: &ParSet,
-    needing: &[bool],
-    matches: &[Option<Name>],
+    set: &'s ParSet,
+    targets: &Targets<'s>,
     windows: &[Option<&'a [u8]>],
 ) -> Result<Vec<Standing<'a>>, AllocError>
-    ensures { IfOk result (λ list.
-        AreStandingsBy set.now needing.now matches.now windows.now list.items) }
+    ensures { (p : sets.Target → Bool) →
+        HoldsNames targets.now.intact (intact_by p set.now.targets) →
+        IfOk result (λ list. AreStandingsBy p set.now targets.now windows.now list.items) }
 {
-    let mut standings = Vec::with_capacity(alloc, needing.len())?;
-    let mut matches = matches.iter();
+    let mut standings = Vec::with_capacity(alloc, set.targets().len())?;
+    let mut needing = targets.needing.iter();
     let mut first = 0;
-    for (target, needs) in set.targets().iter().zip(needing) {
-        let given = next_given(*needs, &mut matches);
-        let own = part(windows, first, sought_of(target, *needs, given));
+    for target in set.targets() {
+        let needs = !targets.intact.contains(&target.name());
+        let given = next_given(needs, &mut needing);
+        let own = part(windows, first, sought_of(target, needs, given));
         first += own.len();
-        standings.push(standing_with(alloc, *needs, given, own)?)?;
+        standings.push(standing_with(alloc, needs, given, own)?)?;
     }
     Ok(standings)
 }
@@ -151,9 +152,8 @@ pub fn standings<'a>(
         let all = standings folder.now.files set.now candidates.now in
         IfOk result (λ list. standings_of s list.items ≡ all) }
 {
-    let needing = needs(alloc, folder, set)?;
-    let matches = matches(alloc, folder, set, &needing, candidates)?;
-    let pairs = sought_pairs(alloc, set, &needing, &matches)?;
+    let targets = matches(alloc, folder, set, candidates)?;
+    let pairs = sought_pairs(alloc, &targets.needing)?;
     let windows = found_slices(alloc, folder, set, candidates, &pairs)?;
-    standings_with(alloc, set, &needing, &matches, &windows)
+    standings_with(alloc, set, &targets, &windows)
 }

@@ -10,7 +10,6 @@ mod inputs;
 mod matching;
 mod moves;
 mod names;
-mod needing_targets;
 mod outputs;
 mod purge;
 mod reading;

@@ -1,34 +1,63 @@
 //! The parts of a repair's changes.
-ghost use Rattle.std.specs.Prelude.{◌≡◌, ◌++◌, ℕ, List, map, IfOk, OnOk};
-ghost use Rattle.par2_plan.specs.Matches.{HoldsNames};
-ghost use Rattle.par2_plan.specs.Repairing.{names_given, renames, matches_taken, writes, asides_removed, files_removed, place_by, HoldsAsides};
+ghost use Rattle.std.specs.Prelude.{◌≡◌, ◌++◌, ℕ, List, map, filter, filter_map, IfOk, OnOk};
+ghost use Rattle.par2_spec.specs.Answers.{Lists};
+ghost use Rattle.par2_spec.specs.Changes as spec;
+ghost use Rattle.par2_spec.specs.Folders.{has};
+ghost use Rattle.par2_spec.specs.Repairs.{names_without_match};
+ghost use Rattle.par2_sets.specs.Asides.{HoldsNames};
+ghost use Rattle.par2_plan.specs.Repairing.{AreMoves, HoldsAsides, asides_removed, files_removed, matches_taken, place_by, writes};
+ghost use Rattle.par2_spec.specs.Folders as folders;
+ghost use Rattle.par2_spec.specs.Plans.{repair_changes, repair_removals};
+ghost use Rattle.par2_spec.specs.Repairs.{par_files, rebuilt_targets};
+ghost use Rattle.par2_spec.specs.Sets as sets;
 
 use crate::Changes;
+use crate::matching::Needing;
 use crate::restored_files::Restored;
-use par2_folder::{Change, Name};
+use par2_folder::{Change, Folder, Name};
 use std::alloc::{AllocError, Global};
 use std::collections::{BTreeMap, BTreeSet};
 
-/// Files take other names, in order.
-pub fn push_renames(
-    changes: &mut Changes,
-    names: &[Name],
-    others: &[Name],
-) -> Result<(), AllocError>
-    ensures { OnOk result (changes.new ≡ changes.old ++ renames names.now others.now) }
+/// What a repair moves.
+#[derive(Drop)]
+pub struct Moves<'n, 's> {
+    /// The needing targets, which take their matches.
+    pub needing: &'n [Needing<'s>],
+    /// The names of those whose files are there, and are put aside.
+    pub put_aside: &'n [Name],
+    /// Where these files stand then.
+    pub asides: BTreeMap<&'n Name, &'n Name>,
+}
+
+/// The names of the needing targets whose files are there.
+pub fn present(alloc: Global, folder: &Folder, needing: &[Needing]) -> Result<Vec<Name>, AllocError>
+    ensures { let there = filter (λ m. has folder.now.files m.0.name) needing.now in
+        Lists (map (λ m. m.0.name) there) result }
 {
-    for (name, other) in names.iter().zip(others) {
-        changes.push(Change::Rename(name.copied(), other.copied()))?;
-    }
-    Ok(())
+    needing
+        .iter()
+        .filter(|needing| folder.get(needing.target().name()).is_some())
+        .map(|needing| needing.target().name().copied())
+        .collect(alloc)
+}
+
+/// The names of the needing targets that have no match.
+pub fn unmatched(alloc: Global, needing: &[Needing]) -> Result<Vec<Name>, AllocError>
+    ensures { Lists (names_without_match needing.now) result }
+{
+    needing
+        .iter()
+        .filter(|needing| needing.is_unmatched())
+        .map(|needing| needing.target().name().copied())
+        .collect(alloc)
 }
 
 /// The asides by the names of the files that are put aside.
-pub fn asides_by_name<'a>(
+pub fn asides_by_name<'n>(
     alloc: Global,
-    names: &'a [Name],
-    asides: &'a [Name],
-) -> Result<BTreeMap<&'a Name, &'a Name>, AllocError>
+    names: &'n [Name],
+    asides: &'n [Name],
+) -> Result<BTreeMap<&'n Name, &'n Name>, AllocError>
     ensures { IfOk result (λ tree. (aside : List ℕ → List ℕ) →
         asides.now ≡ map aside names.now → HoldsAsides aside names.now tree) }
 {
@@ -37,6 +66,19 @@ pub fn asides_by_name<'a>(
         tree.insert(name, aside)?;
     }
     Ok(tree)
+}
+
+// The names of the matches.
+fn matching(alloc: Global, targets: &[Needing]) -> Result<BTreeSet<Name>, AllocError>
+    ensures { IfOk result (λ names. HoldsNames names (filter_map (λ m. m.1) targets.now)) }
+{
+    let mut names = BTreeSet::new(alloc);
+    for needing in targets {
+        if let Some(name) = needing.found() {
+            names.insert(name.copied())?;
+        }
+    }
+    Ok(names)
 }
 
 // Where a file stands once others are put aside.
@@ -50,28 +92,45 @@ fn now_at<'n>(asides: &BTreeMap<&'n Name, &'n Name>, name: &'n Name) -> Name
     }
 }
 
-/// Each target that has a match takes it. A match that was put aside is taken from there.
-pub fn push_matches<'n>(
+// Files are put aside.
+fn push_asides<'n>(
     changes: &mut Changes,
-    names: &[Name],
-    matches: &'n [Option<Name>],
+    names: &'n [Name],
     asides: &BTreeMap<&'n Name, &'n Name>,
 ) -> Result<(), AllocError>
-    ensures { (aside : List ℕ → List ℕ) (put_aside : List (List ℕ)) →
-        HoldsAsides aside put_aside asides.now →
-        let taken = matches_taken (place_by aside put_aside) names.now matches.now in
+    ensures { (aside : List ℕ → List ℕ) (all : List (List ℕ)) →
+        HoldsAsides aside all asides.now →
+        let renames = map (λ name. spec.Rename name (place_by aside all name)) names.now in
+        OnOk result (changes.new ≡ changes.old ++ renames) }
+{
+    for name in names {
+        changes.push(Change::Rename(name.copied(), now_at(asides, name)))?;
+    }
+    Ok(())
+}
+
+// Each target that has a match takes it. A match that was put aside is taken from there.
+fn push_matches<'n>(
+    changes: &mut Changes,
+    targets: &'n [Needing],
+    asides: &BTreeMap<&'n Name, &'n Name>,
+) -> Result<(), AllocError>
+    ensures { (aside : List ℕ → List ℕ) (all : List (List ℕ)) →
+        HoldsAsides aside all asides.now →
+        let taken = matches_taken (place_by aside all) targets.now in
         OnOk result (changes.new ≡ changes.old ++ taken) }
 {
-    for (name, found) in names.iter().zip(matches) {
-        if let Some(found) = found {
-            changes.push(Change::Rename(now_at(asides, found), name.copied()))?;
+    for needing in targets {
+        if let Some(found) = needing.found() {
+            let from = now_at(asides, found);
+            changes.push(Change::Rename(from, needing.target().name().copied()))?;
         }
     }
     Ok(())
 }
 
-/// Targets are written, in order.
-pub fn push_writes(changes: &mut Changes, restored: Vec<Restored>) -> Result<(), AllocError>
+// Targets are written, in order.
+fn push_writes(changes: &mut Changes, restored: Vec<Restored>) -> Result<(), AllocError>
     ensures { OnOk result (changes.new ≡ changes.old ++ writes restored.entry.items) }
 {
     for file in restored {
@@ -80,55 +139,75 @@ pub fn push_writes(changes: &mut Changes, restored: Vec<Restored>) -> Result<(),
     Ok(())
 }
 
-/// The names of the matches.
-pub fn matching_names<'m>(
-    alloc: Global,
-    matches: &'m [Option<Name>],
-) -> Result<BTreeSet<&'m Name>, AllocError>
-    ensures { IfOk result (λ names. HoldsNames names (names_given matches.now)) }
-{
-    let mut names = BTreeSet::new(alloc);
-    for found in matches {
-        if let Some(name) = found {
-            names.insert(name)?;
-        }
-    }
-    Ok(names)
-}
-
-/// The asides of files that are nobody's match are removed.
-pub fn remove_asides<'n>(
+// The asides of files that are nobody's match are removed.
+fn remove_asides<'n>(
     changes: &mut Changes,
     names: &'n [Name],
-    asides: &[Name],
-    matching: &BTreeSet<&'n Name>,
+    asides: &BTreeMap<&'n Name, &'n Name>,
+    matching: &BTreeSet<Name>,
 ) -> Result<(), AllocError>
-    ensures { (given : List (List ℕ)) → HoldsNames matching.now given →
-        let removed = asides_removed given names.now asides.now in
+    ensures { (aside : List ℕ → List ℕ) (all given : List (List ℕ)) →
+        HoldsAsides aside all asides.now → HoldsNames matching.now given →
+        let removed = asides_removed (place_by aside all) given names.now in
         OnOk result (changes.new ≡ changes.old ++ removed) }
 {
-    for (name, aside) in names.iter().zip(asides) {
-        if !matching.contains(&name) {
-            changes.push(Change::Remove(aside.copied()))?;
+    for name in names {
+        if !matching.contains(name) {
+            changes.push(Change::Remove(now_at(asides, name)))?;
         }
     }
     Ok(())
 }
 
-/// Files that are nobody's match are removed.
-pub fn remove_files<'n>(
+// Files that are nobody's match are removed.
+fn remove_files(
     changes: &mut Changes,
-    names: &'n [Name],
-    matching: &BTreeSet<&'n Name>,
+    names: &[Name],
+    matching: &BTreeSet<Name>,
 ) -> Result<(), AllocError>
     ensures { (given : List (List ℕ)) → HoldsNames matching.now given →
         let removed = files_removed given names.now in
         OnOk result (changes.new ≡ changes.old ++ removed) }
 {
     for name in names {
-        if !matching.contains(&name) {
+        if !matching.contains(name) {
             changes.push(Change::Remove(name.copied()))?;
         }
     }
     Ok(())
+}
+
+/// The changes of a repair that doesn't purge: files are put aside, targets take their matches, and the others are written.
+pub fn repair_changes(
+    alloc: Global,
+    moves: &Moves,
+    restored: Vec<Restored>,
+) -> Result<Changes, AllocError>
+    ensures { (folder : folders.Folder) (set : sets.ParSet) (searched : List (List ℕ))
+        → AreMoves folder set searched moves.now
+        → restored.entry.items ≡ rebuilt_targets folder set searched
+        → IfOk result (λ changes. changes ≡ repair_changes folder set searched) }
+{
+    let mut changes = Changes::new(alloc);
+    push_asides(&mut changes, moves.put_aside, &moves.asides)?;
+    push_matches(&mut changes, moves.needing, &moves.asides)?;
+    push_writes(&mut changes, restored)?;
+    Ok(changes)
+}
+
+/// Then the asides that are left are removed, and the par files.
+pub fn push_removals(
+    alloc: Global,
+    changes: &mut Changes,
+    moves: &Moves,
+    files: &[Name],
+) -> Result<(), AllocError>
+    ensures { (folder : folders.Folder) (set : sets.ParSet) (searched : List (List ℕ))
+        → AreMoves folder set searched moves.now
+        → files.now ≡ par_files folder set
+        → OnOk result (changes.new ≡ changes.old ++ repair_removals folder set searched) }
+{
+    let matching = matching(alloc, moves.needing)?;
+    remove_asides(changes, moves.put_aside, &moves.asides, &matching)?;
+    remove_files(changes, files, &matching)
 }

@@ -1,24 +1,21 @@
 //! What a repair changes.
-ghost use Rattle.std.specs.Prelude.{◌≡◌, ◌++◌, ℕ, List, map, string_bytes, IsTrue, IfOk, OnOk};
+ghost use Rattle.std.specs.Prelude.{◌≡◌, ℕ, List, map, string_bytes, IsTrue, IfOk, OnOk};
 ghost use Rattle.md5.specs.Md5.{md5};
 ghost use Rattle.par2_spec.specs.Changes.{are_applicable};
 ghost use Rattle.par2_spec.specs.Plans.{AreFewFor};
 ghost use Rattle.par2_spec.specs.Refusals.{repair_refusal};
-ghost use Rattle.par2_spec.specs.Repairs.{aside, par_files};
+ghost use Rattle.par2_spec.specs.Repairs.{rebuilt_targets};
 ghost use Rattle.par2_spec.specs.Search as search;
 ghost use Rattle.par2_plan.specs.Restoring.{md5s_of, undetermined_fault};
 ghost use Rattle.par2_spec.specs.Answers.{FailsFor, Lists};
 ghost use Rattle.par2_plan.specs.Answers.{FailsAs, GivesChanges, LeadsAs, RefusesEarly, SucceedsAs, repair_of};
 ghost use Rattle.par2_plan.specs.Drafts.{IsDraft, IsDraftBy};
-ghost use Rattle.par2_plan.specs.Repairing.{IsWholeWhereMatched, AreNeeding, AreRestored, known_by, moves_by, changes_by, removals_by, with_removals, WritesAsDescribed};
+ghost use Rattle.par2_plan.specs.Repairing.{IsWholeWhereMatched, AreMoves, AreRestored, known_by, repair_by, WritesAsDescribed};
 ghost use Rattle.par2_plan.specs.Written.{texts_written};
 
 use crate::candidates::{candidates, texts_of};
-use crate::moves::{
-    asides_by_name, matching_names, push_matches, push_renames, push_writes, remove_asides,
-    remove_files,
-};
-use crate::needing_targets::{Needing, needing_of};
+use crate::matching::{Needing, matches};
+use crate::moves::{Moves, asides_by_name, present, push_removals, repair_changes, unmatched};
 use crate::reading::read;
 use crate::restored_files::{Restored, restored_files};
 use crate::restored_slices::restored_slices;
@@ -61,77 +58,23 @@ fn md5s_of(alloc: Global, restored: &[Restored]) -> Result<Vec<[u8; 16]>, AllocE
     Ok(md5s)
 }
 
-// Files are put aside, and targets take their matches.
-fn push_moves(
-    alloc: Global,
-    changes: &mut Changes,
-    needing: &Needing,
-    asides: &[Name],
-) -> Result<(), AllocError>
-    ensures { (aside : List ℕ → List ℕ)
-        → asides.now ≡ map aside needing.now.put_aside.items
-        → OnOk result (changes.new ≡ changes.old ++ moves_by aside needing.now) }
-{
-    push_renames(changes, &needing.put_aside, asides)?;
-    let places = asides_by_name(alloc, &needing.put_aside, asides)?;
-    push_matches(changes, &needing.names, &needing.matches, &places)
-}
-
-// The changes of a repair that doesn't purge.
-fn repair_changes(
-    alloc: Global,
-    needing: &Needing,
-    asides: &[Name],
-    restored: Vec<Restored>,
-) -> Result<Changes, AllocError>
-    ensures { (aside : List ℕ → List ℕ)
-        → asides.now ≡ map aside needing.now.put_aside.items
-        → IfOk result (λ changes. changes ≡ changes_by aside needing.now restored.entry.items) }
-{
-    let mut changes = Changes::new(alloc);
-    push_moves(alloc, &mut changes, needing, asides)?;
-    push_writes(&mut changes, restored)?;
-    Ok(changes)
-}
-
-// Then the asides that are left are removed, and the par files.
-fn push_removals<'n>(
-    alloc: Global,
-    changes: &mut Changes,
-    needing: &'n Needing,
-    asides: &[Name],
-    par_files: &'n [Name],
-) -> Result<(), AllocError>
-    ensures { (aside : List ℕ → List ℕ)
-        → asides.now ≡ map aside needing.now.put_aside.items
-        → let removals = removals_by aside needing.now par_files.now in
-        OnOk result (changes.new ≡ changes.old ++ removals) }
-{
-    let matching = matching_names(alloc, &needing.matches)?;
-    remove_asides(changes, &needing.put_aside, asides, &matching)?;
-    remove_files(changes, par_files, &matching)
-}
-
 // The changes of a repair, which may purge.
 fn changes_with(
     alloc: Global,
     folder: &Folder,
     set: &ParSet,
-    needing: &Needing,
-    asides: &[Name],
+    moves: &Moves,
     restored: Vec<Restored>,
     purge: bool,
 ) -> Result<Changes, AllocError>
-    requires { asides.now ≡ map (aside folder.now.files set.now) needing.now.put_aside.items }
-    ensures { let aside = aside folder.now.files set.now in
-        let removals = removals_by aside needing.now (par_files folder.now.files set.now) in
-        let all = with_removals purge (changes_by aside needing.now restored.entry.items) removals in
-        IfOk result (λ changes. changes ≡ all) }
+    ensures { (searched : List (List ℕ)) → AreMoves folder.now.files set.now searched moves.now
+        → restored.entry.items ≡ rebuilt_targets folder.now.files set.now searched
+        → IfOk result (λ changes. changes ≡ repair_by purge folder.now.files set.now searched) }
 {
-    let mut changes = repair_changes(alloc, needing, asides, restored)?;
+    let mut changes = repair_changes(alloc, moves, restored)?;
     if purge {
-        let par_files = par_files(alloc, folder, set)?;
-        push_removals(alloc, &mut changes, needing, asides, &par_files)?;
+        let files = par_files(alloc, folder, set)?;
+        push_removals(alloc, &mut changes, moves, &files)?;
     }
     Ok(changes)
 }
@@ -142,18 +85,25 @@ fn draft_with(
     folder: &Folder,
     set: &ParSet,
     candidates: &[Name],
-    needing: &Needing,
+    needing: &[Needing],
     purge: bool,
 ) -> Result<Draft, Fault>
-    requires needing { AreNeeding folder.now.files set.now candidates.now needing.now }
+    requires needing { needing.now ≡ search.matches folder.now.files set.now candidates.now }
     requires whole { IsWholeWhereMatched folder.now.files set.now candidates.now }
     ensures refused { FailsFor (repair_refusal folder.now.files set.now candidates.now) result }
     ensures draft { IfOk result (IsDraftBy purge folder.now.files set.now candidates.now) }
 {
-    let restored = files_for(alloc, folder, set, candidates, &needing.unmatched)?;
-    let asides = asides(alloc, folder, set, &needing.put_aside)?;
+    let unmatched = unmatched(alloc, needing)?;
+    let restored = files_for(alloc, folder, set, candidates, &unmatched)?;
+    let put_aside = present(alloc, folder, needing)?;
+    let others = asides(alloc, folder, set, &put_aside)?;
+    let moves = Moves {
+        needing,
+        put_aside: &put_aside,
+        asides: asides_by_name(alloc, &put_aside, &others)?,
+    };
     let md5s = md5s_of(alloc, &restored)?;
-    let changes = changes_with(alloc, folder, set, needing, &asides, restored, purge)?;
+    let changes = changes_with(alloc, folder, set, &moves, restored, purge)?;
     Ok(Draft { changes, md5s })
 }
 
@@ -173,8 +123,8 @@ fn draft_of(
         IfOk result (IsDraftBy purge folder.now.files set.now searched) }
 {
     let candidates = candidates(alloc, folder, set, extras)?;
-    let needing = needing_of(alloc, folder, set, &candidates)?;
-    draft_with(alloc, folder, set, &candidates, &needing, purge)
+    let targets = matches(alloc, folder, set, &candidates)?;
+    draft_with(alloc, folder, set, &candidates, &targets.needing, purge)
 }
 
 /// The changes of a repair: the files of needing targets are put aside, targets that have a match take it, and the others

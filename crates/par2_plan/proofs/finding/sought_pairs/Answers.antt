@@ -1,20 +1,20 @@
-use Rattle.par2_plan.proofs.Common.{◌≡◌, ◌∙◌, ◌++◌, [], List, ℕ, Bool, sym, ap, append-nil, Option, zip_first, zip_second, iter_rest, Zip-more, either_empty_from_Zip, Pair, sought_by}
-use Rattle.par2_plan.proofs.Standings.{sought_on, sought_end}
+use Rattle.par2_plan.proofs.Common.{◌∙◌, ◌+◌, ◌++◌, ◌∷◌, [], List, ℕ, sym, ap, ap₂, take, take_more, take_all, flat_map_more, flat_map, Option, Pair, Target, pairs_unless}
 use Rattle.par2_plan.proofs.finding.sought_pairs.Goals as goal
 
-pub loop-target-preserved : goal.loop-target-preserved
-loop-target-preserved c =
-    let more = Zip-more c.loop-target.target-iterator c.next.new.self c.next.result _ c.in-Some.is c.next.ensures.steps in
-    let needs : Bool = c.in-Some.needs.now in
-    let matches : List (Option (List ℕ)) = iter_rest c.loop-target.matches in
-    let later : List (Option (List ℕ)) = iter_rest c.next_given-given.new.matches in
-    let old : List Pair = c.loop-target.pairs.items in
-    sought_on needs _ _ c.in-Some.target.now _ _ matches later c.next_given-given.result old _ _ c.next_given-given.ensures more.1 more.0 (c.in_ok-extend_from_slice.ensures.items ∙ ap (λ ps. old ++ ps) c.sought_of.ensures) c.loop-target.invariant
+abbrev sought : List (Target × Option (List ℕ)) → List Pair
+sought ms = flat_map (λ m. pairs_unless m.1 m.0.pairs) ms
+
+pub loop-needing-preserved : goal.loop-needing-preserved
+loop-needing-preserved c =
+    let ms : List (Target × Option (List ℕ)) = c.args.targets.now in
+    let i = c.loop-needing.needing-index in
+    let m : Target × Option (List ℕ) = c.needing-item.result in
+    c.in_ok-extend_from_slice.ensures.items ∙ ap₂ (λ (a b : List Pair). a ++ b) c.loop-needing.invariant c.sought.ensures
+    ∙ flat_map_more (λ (m : Target × Option (List ℕ)). pairs_unless m.1 m.0.pairs) [] (take i ms) m
+    ∙ ap sought (sym (take_more ms i m c.loop-needing-test.true ∙ ap (λ x. take i ms ++ x ∷ []) (sym c.needing-item.is)))
+
+pub loop-needing-init : goal.loop-needing-init
+loop-needing-init c = c.new-pairs.ensures.items
 
 pub returns : goal.returns
-returns c =
-    let it = c.loop-target.target-iterator in
-    let pairs = c.loop-target.pairs.items in
-    let e : sought_by (iter_rest (zip_second it)) (iter_rest (zip_first it)) (iter_rest c.loop-target.matches) ≡ [] =
-    sought_end _ _ _ (either_empty_from_Zip it c.next.new.self _ c.in-None.is c.next.ensures.steps) in
-    sym (append-nil pairs) ∙ ap (λ ps. pairs ++ ps) (sym e) ∙ c.loop-target.invariant
+returns c = c.loop-needing.invariant ∙ ap sought (take_all c.loop-needing.needing-index c.args.targets.now c.loop-needing-test.false)

@@ -1,32 +1,31 @@
-use Rattle.par2_plan.proofs.Common.{◌∙◌, ◌++◌, ◌∷◌, [], List, ℕ, refl, sym, ap, ap₂, append-nil, filter_map, option_map, zip, zip_first, zip_second, iter_rest, Zip-more, either_empty_from_Zip, Change, Rename, place_by}
-use Rattle.std.proofs.Common.{Option}
-use Rattle.par2_plan.proofs.Pairs.{all_done, next_pair}
+use Rattle.par2_plan.proofs.Common.{◌≡◌, ◌∙◌, ◌+◌, ◌++◌, ◌∷◌, [], List, ℕ, Bor, sym, ap, ap₂, take, append-nil, append_assoc, Option, option_map, cons_option, filter_map-append, take_more, Change, Rename, Target, matches_taken, place_by}
 use Rattle.par2_plan.proofs.moves.push_matches.Goals as goal
+use Rattle.par2_plan.proofs.moves.push_matches.Goals.{in-Some+in_ok-push, in_default}
 
--- the changes by names and matches in pairs
-abbrev part_at : (List ℕ → List ℕ) → List (List ℕ × Option (List ℕ)) → List Change
-part_at place pairs = filter_map (λ z. option_map (λ name. Rename (place name) z.0) z.1) pairs
-
-pub returns : goal.returns
-returns c = λ aside put_aside h.
-    let it = c.loop-name.name-iterator in
-    all_done (part_at (place_by aside put_aside)) _ _ c.loop-name.changes _
-    (either_empty_from_Zip it c.next.new.self _ c.in-None.is c.next.ensures.steps) refl (c.loop-name.invariant aside put_aside h)
-
-pub loop-name-preserved : goal.loop-name-preserved
-loop-name-preserved c = λ aside put_aside h.
-    let more = Zip-more c.loop-name.name-iterator c.next.new.self c.next.result _ c.in-Some.is c.next.ensures.steps in
-    let part = part_at (place_by aside put_aside) in
-    let rest = zip (iter_rest (zip_first c.next.new.self)) (iter_rest (zip_second c.next.new.self)) in
-    next_pair part c.in-Some.name.now c.in-Some.found.now _ _ _ _ [] c.loop-name.changes c.loop-name.changes _ more.0 more.1
-    (ap (λ found. part ((c.in-Some.name.now, found) ∷ rest)) c.in_default.is) (sym (append-nil c.loop-name.changes)) (c.loop-name.invariant aside put_aside h)
-
-pub loop-name-preserved-in-Continue-1 : goal.loop-name-preserved-in-Continue-1
-loop-name-preserved-in-Continue-1 c = λ aside put_aside h.
-    let more = Zip-more c.loop-name.name-iterator c.next.new.self c.next.result _ c.in-Some.is c.next.ensures.steps in
-    let part = part_at (place_by aside put_aside) in
-    let rest = zip (iter_rest (zip_first c.next.new.self)) (iter_rest (zip_second c.next.new.self)) in
-    next_pair part c.in-Some.name.now c.in-Some.found.now _ _ _ _ _ c.loop-name.changes c.push.new.self _ more.0 more.1
-    (ap (λ found. part ((c.in-Some.name.now, found) ∷ rest)) c.in-Some-found.is)
-    (c.in_ok-push.ensures.ok ∙ ap₂ (λ from to. c.loop-name.changes ++ Rename from to ∷ []) (c.now_at.ensures aside put_aside h) c.copied.ensures)
-    (c.loop-name.invariant aside put_aside h)
+pub loop-needing-preserved : goal.loop-needing-preserved
+loop-needing-preserved c = λ aside all h.
+    let ms : List (Target × Option (List ℕ)) = c.args.targets.now in
+    let i = c.loop-needing.needing-index in
+    let item : Target × Option (List ℕ) = c.needing-item.result in
+    let place = place_by aside all in
+    let old : List Change = c.args.changes.now in
+    let some : List Change = matches_taken place (take i ms) in
+    let next = λ (o : Option (List ℕ)). cons_option (option_map (λ name. Rename (place name) item.0.name) o) [] in
+    let more : matches_taken place (take (i + 1) ms) ≡ some ++ next item.1 =
+    ap (matches_taken place) (take_more ms i item c.loop-needing-test.true ∙ ap (λ x. take i ms ++ x ∷ []) (sym c.needing-item.is))
+    ∙ filter_map-append (λ (m : Target × Option (List ℕ)). option_map (λ name. Rename (place name) m.0.name) m.1) (take i ms) (item ∷ []) in
+    let list : List Change = c.match-found.changes in
+    let step : list ≡ old ++ (some ++ next item.1) =
+    elim c.match-found.branch as (λ _. list ≡ old ++ (some ++ next item.1)) [
+      | in-Some+in_ok-push w ↦
+          let found : Bor (List ℕ) = w.in-Some.found in
+          w.changes-is ∙ w.in_ok-push.ensures.ok
+          ∙ ap₂ (λ from to. c.loop-needing.changes ++ Rename from to ∷ []) (w.now_at-from.ensures aside all h) (w.copied.ensures ∙ w.name.ensures ∙ ap (λ (t : Target). t.name) w.target.ensures)
+          ∙ ap (λ (cs : List Change). cs ++ Rename (place found.now) item.0.name ∷ []) (c.loop-needing.invariant aside all h)
+          ∙ append_assoc old some (Rename (place found.now) item.0.name ∷ [])
+          ∙ ap (λ o. old ++ (some ++ next o)) (sym (sym c.found.ensures ∙ ap (option_map (λ (n : Bor (List ℕ)). n.now)) w.in-Some.is))
+      | in_default w ↦
+          w.changes-is ∙ c.loop-needing.invariant aside all h ∙ ap (λ (cs : List Change). old ++ cs) (sym (append-nil some))
+          ∙ ap (λ o. old ++ (some ++ next o)) (sym (sym c.found.ensures ∙ ap (option_map (λ (n : Bor (List ℕ)). n.now)) w.in_default.is))
+    ] in
+    step ∙ ap (λ (cs : List Change). old ++ cs) (sym more)

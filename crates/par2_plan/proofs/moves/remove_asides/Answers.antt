@@ -1,28 +1,30 @@
-use Rattle.par2_plan.proofs.Common.{◌≡◌, ◌∙◌, ◌++◌, ◌∷◌, [], List, ℕ, map, refl, sym, ap, true, false, append-nil, filter, Zip-more, either_empty_from_Zip, Change, Remove, is_among}
-use Rattle.std.specs.Prelude.{not}
-use Rattle.par2_plan.proofs.Pairs.{all_done, next_pair, kept_aside, removed_aside}
+use Rattle.par2_plan.proofs.Common.{◌≡◌, ◌∙◌, ◌+◌, ◌++◌, ◌∷◌, [], List, ℕ, true, false, not, cond, sym, ap, take, append-nil, append_assoc, rules, take_more, Change, Remove, is_among, asides_removed, place_by}
+use Rattle.par2_plan.proofs.Pairs.{removed_push}
 use Rattle.par2_plan.proofs.moves.remove_asides.Goals as goal
-
--- the changes by names and asides in pairs
-abbrev part_at : List (List ℕ) → List (List ℕ × List ℕ) → List Change
-part_at given pairs = map (λ z. Remove z.1) (filter (λ z. not (is_among given z.0)) pairs)
-
-pub loop-name-preserved-in-Continue-1 : goal.loop-name-preserved-in-Continue-1
-loop-name-preserved-in-Continue-1 c = λ given h.
-    let more = Zip-more c.loop-name.name-iterator c.next.new.self c.next.result _ c.in-Some.is c.next.ensures.steps in
-    let out : is_among given c.in-Some.name.now ≡ false = sym (c.contains.ensures ∙ h c.in-Some.name) ∙ c.if-not-contains.true in
-    next_pair (part_at given) _ _ _ _ _ _ (Remove c.in-Some.aside.now ∷ []) c.loop-name.changes c.push.new.self _ more.0 more.1
-    (removed_aside given c.in-Some.name.now c.in-Some.aside.now _ _ out)
-    (c.in_ok-push.ensures.ok ∙ ap (λ aside. c.loop-name.changes ++ Remove aside ∷ []) c.copied.ensures) (c.loop-name.invariant given h)
+use Rattle.par2_plan.proofs.moves.remove_asides.Goals.{then-not-contains+in_ok-push, else-not-contains}
 
 pub loop-name-preserved : goal.loop-name-preserved
-loop-name-preserved c = λ given h.
-    let more = Zip-more c.loop-name.name-iterator c.next.new.self c.next.result _ c.in-Some.is c.next.ensures.steps in
-    let there : is_among given c.in-Some.name.now ≡ true = sym (c.contains.ensures ∙ h c.in-Some.name) ∙ c.if-not-contains.false in
-    next_pair (part_at given) _ _ _ _ _ _ [] c.loop-name.changes c.loop-name.changes _ more.0 more.1
-    (kept_aside given c.in-Some.name.now c.in-Some.aside.now _ _ there) (sym (append-nil c.loop-name.changes)) (c.loop-name.invariant given h)
-
-pub returns : goal.returns
-returns c = λ given h.
-    all_done (part_at given) _ _ c.loop-name.changes _
-    (either_empty_from_Zip c.loop-name.name-iterator c.next.new.self _ c.in-None.is c.next.ensures.steps) refl (c.loop-name.invariant given h)
+loop-name-preserved c = λ aside all given put h.
+    let names : List (List ℕ) = c.args.names.now in
+    let i = c.loop-name.name-index in
+    let item : List ℕ = c.name-item.result in
+    let before : List (List ℕ) = take i names in
+    let more : take (i + 1) names ≡ before ++ item ∷ [] = take_more names i item c.loop-name-test.true ∙ ap (λ x. before ++ x ∷ []) (sym c.name-item.is) in
+    let test : c.contains.result ≡ is_among given item = c.contains.ensures ∙ h item in
+    let old : List Change = c.args.changes.now in
+    let list : List Change = c.if-not-contains.changes in
+    let some : List Change = asides_removed (place_by aside all) given before in
+    let step : list ≡ old ++ (some ++ cond (not (is_among given item)) (Remove (place_by aside all item) ∷ []) []) =
+    elim c.if-not-contains.branch as (λ _. list ≡ old ++ (some ++ cond (not (is_among given item)) (Remove (place_by aside all item) ∷ []) [])) [
+      | then-not-contains+in_ok-push w ↦
+          let out : is_among given item ≡ false = sym test ∙ w.if-not-contains.true in
+          let pushed : list ≡ c.loop-name.changes ++ Remove (place_by aside all item) ∷ [] = w.changes-is ∙ w.in_ok-push.ensures.ok ∙ ap (λ n. c.loop-name.changes ++ Remove n ∷ []) (w.now_at.ensures aside all put) in
+          pushed ∙ ap (λ (cs : List Change). cs ++ Remove (place_by aside all item) ∷ []) (c.loop-name.invariant aside all given put h) ∙ append_assoc old some (Remove (place_by aside all item) ∷ [])
+          ∙ ap (λ b. old ++ (some ++ cond (not b) (Remove (place_by aside all item) ∷ []) [])) (sym out)
+      | else-not-contains w ↦
+          let there : is_among given item ≡ true = sym test ∙ w.if-not-contains.false in
+          let same : list ≡ c.loop-name.changes = search rules in
+          same ∙ c.loop-name.invariant aside all given put h ∙ ap (λ (cs : List Change). old ++ cs) (sym (append-nil some))
+          ∙ ap (λ b. old ++ (some ++ cond (not b) (Remove (place_by aside all item) ∷ []) [])) (sym there)
+    ] in
+    step ∙ ap (λ (cs : List Change). old ++ cs) (sym (removed_push (λ n. Remove (place_by aside all n)) given before item) ∙ ap (asides_removed (place_by aside all) given) (sym more))

@@ -1,4 +1,4 @@
-use Rattle.par2_plan.proofs.Common.{◌≡◌, ◌∙◌, ◌+◌, ◌++◌, ◌∷◌, [], List, ℕ, Bor, true, false, not, cond, sym, ap, take, append-nil, append_assoc, rules, take_more, Change, Remove, is_among, files_removed}
+use Rattle.par2_plan.proofs.Common.{◌≡◌, ◌∙◌, ◌+◌, ◌++◌, ◌∷◌, [], List, ℕ, true, false, not, cond, sym, ap, take, append-nil, append_assoc, rules, take_more, Change, Remove, is_among, files_removed}
 use Rattle.par2_plan.proofs.Pairs.{removed_push}
 use Rattle.par2_plan.proofs.moves.remove_files.Goals as goal
 use Rattle.par2_plan.proofs.moves.remove_files.Goals.{then-not-contains+in_ok-push, else-not-contains}
@@ -10,8 +10,7 @@ loop-name-preserved c = λ given h.
     let item : List ℕ = c.name-item.result in
     let before : List (List ℕ) = take i names in
     let more : take (i + 1) names ≡ before ++ item ∷ [] = take_more names i item c.loop-name-test.true ∙ ap (λ x. before ++ x ∷ []) (sym c.name-item.is) in
-    let key : Bor (List ℕ) = record { ref_ptr = c.args.names.ref_ptr; now = item } in
-    let test : c.contains.result ≡ is_among given item = c.contains.ensures ∙ h key in
+    let test : c.contains.result ≡ is_among given item = c.contains.ensures ∙ h item in
     let old : List Change = c.args.changes.now in
     let list : List Change = c.if-not-contains.changes in
     let some : List Change = files_removed given before in
@@ -28,4 +27,4 @@ loop-name-preserved c = λ given h.
           same ∙ c.loop-name.invariant given h ∙ ap (λ (cs : List Change). old ++ cs) (sym (append-nil some))
           ∙ ap (λ b. old ++ (some ++ cond (not b) (Remove item ∷ []) [])) (sym there)
     ] in
-    step ∙ ap (λ (cs : List Change). old ++ cs) (sym (removed_push given before item) ∙ ap (files_removed given) (sym more))
+    step ∙ ap (λ (cs : List Change). old ++ cs) (sym (removed_push Remove given before item) ∙ ap (files_removed given) (sym more))

@@ -1,4 +1,5 @@
-use Rattle.par2_plan.proofs.Common.{◌≡◌, ◌++◌, ℕ, List, take, HoldsNames, files_removed}
+use Rattle.par2_plan.proofs.Common.{◌≡◌, ◌++◌, ℕ, List, take, files_removed}
+use Rattle.par2_sets.specs.Asides.{HoldsNames}
 use Rattle.par2_plan.proofs.moves.remove_files.Given as goal
 
 abbrev pub invariant-loop-name : goal.invariant-loop-name

@@ -1,16 +1,16 @@
-use Rattle.par2_plan.proofs.Common.{◌≡◌, ◌∙◌, ◌⊎◌, List, ℕ, sym, subst, Some, IsDistinct, IfOk, IfErr, bytes_eq, repair_refusal, candidates, Memory, std_from_distinct, IsDraftBy, AreNeeding, IsWholeWhereMatched}
+use Rattle.par2_plan.proofs.Common.{◌≡◌, ◌∙◌, ◌⊎◌, List, ℕ, sym, ap, subst, Some, IsDistinct, IfOk, IfErr, bytes_eq, repair_refusal, candidates, matches, Memory, std_from_distinct, IsDraftBy, IsWholeWhereMatched}
 use Rattle.par2_plan.proofs.Choices.{distinct_once}
 use Rattle.par2_plan.proofs.repair.draft_of.Goals.{After-draft_with}
 use Rattle.par2_plan.proofs.repair.draft_of.Goals as goal
 
-pub needing_of-requires : goal.needing_of-requires
-needing_of-requires c =
+pub matches-requires : goal.matches-requires
+matches-requires c =
     let searched : List (List ℕ) = candidates c.args.folder.now.files c.args.set.now c.args.extras.now in
     subst (IsDistinct bytes_eq) (sym (c.deref.ensures.value ∙ c.in_ok-candidates.ensures)) (std_from_distinct searched (distinct_once _))
 
 pub draft_with-requires-clause-needing : goal.draft_with-requires-clause-needing
 draft_with-requires-clause-needing c =
-    subst (λ (ns : List (List ℕ)). AreNeeding c.args.folder.now.files c.args.set.now ns c.in_ok-needing.needing) (c.deref.ensures.value ∙ sym c.deref-2.ensures.value) c.in_ok-needing.ensures
+    c.deref-3.ensures.value ∙ c.in_ok-targets.ensures.needing ∙ ap (matches c.args.folder.now.files c.args.set.now) (c.deref.ensures.value ∙ sym c.deref-2.ensures.value)
 
 pub draft_with-requires-clause-whole : goal.draft_with-requires-clause-whole
 draft_with-requires-clause-whole c =
