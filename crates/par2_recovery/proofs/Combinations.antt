@@ -69,12 +69,6 @@ each_push P xs x n count each here =
 pub blank_push : (s n : ℕ) (xs : List (Vec ℕ Global)) (v : Vec ℕ Global) → AreBlank s n (lists_of xs) → v.items ≡ replicate s 0 → AreBlank s (n + 1) (lists_of (xs ++ v ∷ []))
 blank_push s n xs v so_far is = let all = each_push (λ _ text. text ≡ replicate s 0) xs v n so_far.count so_far.each is in record { count = all.0; each = all.1 }
 
-pub blank_texts : (s n : ℕ) (texts : List (List ℕ)) → texts ≡ replicate n (replicate s 0) → AreBlank s n texts
-blank_texts s n texts are = record {
-  count = ap length are ∙ length-replicate n (replicate s 0);
-  each = λ r low. ap (λ xs. list_at xs r) are ∙ get_or-replicate n r (replicate s 0) [] low;
-}
-
 -- copies of a text of zeros
 pub blank_copies : (s n : ℕ) (zeros : Bor (List ℕ)) (texts : List (Bor (List ℕ))) → texts ≡ replicate n zeros → zeros.now ≡ replicate s 0 → AreBlank s n (texts_of texts)
 blank_copies s n zeros texts are are_zeros = record {

@@ -1,5 +1,5 @@
 -- What is answered once the kept exponents are known.
-use Rattle.par2_recovery.proofs.Common.{ℕ, ◌≤◌, Vec, Global, lists_of, length-lists_of, zero, suc, ◌+◌, ◌*◌, ◌%◌, ◌<◌, ◌≡◌, refl, sym, ap, ap₂, ◌∙◌, subst, arith, eqb, List, [], ◌∷◌, length, get_or, map, bit_xor, Option, filter, AllByRecursion, Contains, list_any, IsStrictlyIncreasing, eqb-true, get_or-map, length-map, AllPairs-from_increasing, IsStrictlyIncreasing-filter, Contains-from_any, xor_lt, mul, coefficient, padded, word, dot, coefficients, Agrees, IsRepairable, IsRebuilt, kept, kept_slices, lost, product-lt, field_sum, list_at, field_sum-lt, field_sum_same, all_from, all_get, all-passing, filter-map, agreeing_are_one, word-lt, recovery_at, IsInverse, AreBytes, CanRebuild, AreRebuilt, known_among, with_lost_slices, lost_from, known_from, known_alone, sum_at, recovered_of, exponents_of, syndrome, AreSolved, all_coefficients, bytes_or_none, texts_of, Bor, all-filter}
+use Rattle.par2_recovery.proofs.Common.{ℕ, ◌≤◌, Vec, Global, zero, suc, ◌+◌, ◌*◌, ◌%◌, ◌<◌, ◌≡◌, refl, sym, ap, ap₂, ◌∙◌, subst, arith, eqb, List, [], ◌∷◌, length, get_or, map, bit_xor, lists_of, field_sum, list_at, length-lists_of, word-lt, Option, filter, AllByRecursion, Contains, list_any, IsStrictlyIncreasing, eqb-true, get_or-map, length-map, AllPairs-from_increasing, IsStrictlyIncreasing-filter, Contains-from_any, xor_lt, mul, coefficient, padded, word, dot, coefficients, Agrees, IsRepairable, IsRebuilt, kept, kept_slices, lost, product-lt, field_sum-lt, field_sum_same, all_from, all_get, all-passing, filter-map, agreeing_are_one, recovery_at, IsInverse, AreBytes, CanRebuild, AreRebuilt, known_among, with_lost_slices, lost_from, known_from, known_alone, sum_at, recovered_of, exponents_of, bytes_or_none, syndrome, AreSolved, all_coefficients, texts_of, Bor, all-filter}
 use Rattle.par2_recovery.specs.declared.rebuild_slices.Survivors as code
 use Rattle.par2_recovery.proofs.AdditionLaws.{known_solved, known_bytes}
 use Rattle.par2_recovery.proofs.Combinations.{coefficients-lt, dot_padded, length-texts_of}

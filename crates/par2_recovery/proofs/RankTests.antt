@@ -1,9 +1,9 @@
 -- What the tests over all vectors say.
-use Rattle.par2_recovery.proofs.Common.{◌≡◌, ◌≢◌, ℕ, ◌^◌, List, [], ◌∷◌, T, true, false, ◌&&◌, not, eqb, eqb→eq, T_not-not, and_yes, yes_and, false_from_ne_true, list_all, AllByRecursion, dot, IsVector, kills, is_zero, some_list}
+use Rattle.par2_recovery.proofs.Common.{◌≡◌, ◌≢◌, ℕ, ◌^◌, List, [], ◌∷◌, T, true, false, ◌&&◌, not, eqb, eqb→eq, T_not-not, and_yes, yes_and, false_from_ne_true, list_all, AllByRecursion, dot, IsVector, kills, is_zero, some_list, is_solvable}
 use Rattle.std.proofs.Common.{eq-eqb}
 use Rattle.std.proofs.Math.Dec.{T_not, not_T}
 use Rattle.std.specs.Prelude.{◌↔◌}
-use Rattle.par2_spec.specs.Rank.{is_independent, is_solvable}
+use Rattle.par2_spec.specs.Rank.{is_independent}
 use Rattle.par2_spec.proofs.TestLaws.{by_true, is_true}
 
 -- all rows kill the vector
@@ -17,14 +17,6 @@ all_killed v (row ∷ rows) h = let parts = and_yes (kills v row) _ h in (eqb→
 all_kill : (v : List ℕ) (rows : List (List ℕ)) → AllKill rows v → T (list_all (kills v) rows)
 all_kill v [] h = tt
 all_kill v (row ∷ rows) h = yes_and (kills v row) _ (by_true (eq-eqb (dot row v) 0 h.0)) (all_kill v rows h.1)
-
-all_zero : (v : List ℕ) → T (is_zero v) → AllByRecursion (λ x. x ≡ 0) v
-all_zero [] h = tt
-all_zero (x ∷ v) h = let parts = and_yes (eqb x 0) _ h in (eqb→eq x 0 parts.0, all_zero v parts.1)
-
-zeros : (v : List ℕ) → AllByRecursion (λ x. x ≡ 0) v → T (is_zero v)
-zeros [] h = tt
-zeros (x ∷ v) h = yes_and (eqb x 0) _ (by_true (eq-eqb x 0 h.0)) (zeros v h.1)
 
 -- some vector is killed by each of the rows and not by another
 abbrev pub IsToldApart : ℕ → List (List ℕ) → List ℕ → Type 0
@@ -50,18 +42,3 @@ Follows n before row = (v : List ℕ) → IsVector n v → AllKill before v → 
 
 pub dependent : (n : ℕ) (before : List (List ℕ)) (row : List ℕ) → Follows n before row → is_independent n before row ≡ false
 dependent n before row h = false_from_ne_true (is_independent n before row) (λ e. let some = told_apart n before row e in some.3 (h some.0 some.1 some.2))
-
--- rows determine n elements exactly if only the zero vector is killed by all of them
-abbrev pub KillZeroAlone : ℕ → List (List ℕ) → Type 0
-KillZeroAlone n rows = (v : List ℕ) → IsVector n v → AllKill rows v → AllByRecursion (λ x. x ≡ 0) v
-
-pub solvable : (n : ℕ) (rows : List (List ℕ)) → (is_solvable n rows ≡ true) ↔ KillZeroAlone n rows
-unfolding is_solvable
-solvable n rows =
-    let test = (λ (v : List ℕ). not (is_zero v) && list_all (kills v) rows) in
-    let law = some_list (2 ^ 16) n test in (
-      λ h v is k. all_zero v (T_not-not (is_zero v) (not_T _ (λ z. T_not _ (by_true h) (law.1 (v, is, yes_and (not (is_zero v)) _ z (all_kill v rows k)))))),
-      λ h. is_true (not_T _ (λ some. let found = law.0 some in
-          let parts = and_yes (not (is_zero found.0)) _ found.2 in
-          T_not (is_zero found.0) parts.0 (zeros found.0 (h found.0 found.1 (all_killed found.0 rows parts.1))))),
-    )

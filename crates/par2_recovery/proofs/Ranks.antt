@@ -1,5 +1,5 @@
 -- What the offered equations of some exponents say of the exponents.
-use Rattle.par2_recovery.proofs.Common.{ℕ, zero, suc, ◌+◌, ◌<◌, ◌≤◌, ◌≡◌, ◌≢◌, ◌↔◌, inl, inr, refl, sym, ap, ap₂, ◌∙◌, subst, arith, Bool, true, false, cond, ltb, List, [], ◌∷◌, ◌++◌, length, get_or, map, bit_xor, append-nil, filter, Result, Ok, cases_eq, lt-ltb, le-ltb, length_push, take_more, map-append, take_all, filter_more, AllPairs-from_increasing, AllByRecursion, IsStrictlyIncreasing, mul, coefficients, IsVector, is_independent, smaller, kept, product-zero, all-append, all-parts, Equations, CutDown, IsIndependent, OnlyZeroIsKilled, Kept, Dependent}
+use Rattle.par2_recovery.proofs.Common.{ℕ, zero, suc, ◌+◌, ◌<◌, ◌≤◌, ◌≡◌, ◌≢◌, ◌↔◌, inl, inr, refl, sym, ap, ap₂, ◌∙◌, subst, arith, Bool, true, false, cond, ltb, List, [], ◌∷◌, ◌++◌, length, get_or, map, bit_xor, append-nil, filter, Result, Ok, cases_eq, cases_lt, lt-ltb, le-ltb, length_push, take_more, map-append, take_all, filter_more, AllPairs-from_increasing, AllByRecursion, IsStrictlyIncreasing, mul, coefficients, IsVector, is_independent, smaller, kept, product-zero, all-append, all-parts, Equations, CutDown, IsIndependent, OnlyZeroIsKilled, Kept, Dependent}
 use Rattle.std.specs.Prelude.{take}
 use Rattle.par2_spec.specs.Recovery.{dot}
 use Rattle.par2_matrix.specs.Systems as systems
@@ -117,6 +117,12 @@ dot_zeros (c ∷ row) (x ∷ v) h = ap₂ bit_xor (ap (mul c) h.0 ∙ product-ze
 
 pub full_follows : (s : Equations) (row : List ℕ) → OnlyZeroIsKilled s → systems.IsDependent s row
 full_follows s row alone v is killed = dot_zeros row v (alone v is killed)
+
+pub independent_below : (s : Equations) (n : ℕ) (row : List ℕ) → n ≤ s.columns → (n ≡ s.columns) ↔ OnlyZeroIsKilled s → IsIndependent s row → n < s.columns
+independent_below s n row most full told = elim (cases_lt n s.columns) [
+  | inl below ↦ below
+  | inr high ↦ absurd (told.not_killed (full_follows s row (full.0 (omega (arith, most, high))) told.vector told.is_vector told.killed))
+]
 
 pub all_offered : (lost all : List ℕ) (i : ℕ) (s : Equations) → i ≡ length all → Eliminated lost all i s → systems.rank s ≡ length (kept lost all)
 all_offered lost all i s e so_far = so_far.rank ∙ ap (λ xs. length (filter (is_kept lost all) xs)) (take_all i all (omega (arith, e)))

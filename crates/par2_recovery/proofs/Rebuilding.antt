@@ -42,21 +42,6 @@ numbers-lt a bound (Some x ∷ known) h some i = numbers-lt (a + 1) bound known 
 pub lost-lt : {A : Type 0} (known : List (Option A)) → length known ≤ 32768 → (i : ℕ) → get_or (lost_from 0 known) i 0 < 32768
 lost-lt known h i = numbers-lt 0 32768 known (omega arith) (omega arith) i
 
-known_numbers-lt : {A : Type 0} (a bound : ℕ) (known : List (Option A)) → a + length known ≤ bound → 0 < bound → (i : ℕ) → get_or (known_from a known) i 0 < bound
-known_numbers-lt a bound [] h some i = some
-known_numbers-lt a bound (None ∷ known) h some i = known_numbers-lt (a + 1) bound known (omega arith) some i
-known_numbers-lt a bound (Some x ∷ known) h some zero = omega arith
-known_numbers-lt a bound (Some x ∷ known) h some (suc i) = known_numbers-lt (a + 1) bound known (omega arith) some i
-
-pub known-lt : {A : Type 0} (known : List (Option A)) → length known ≤ 32768 → (i : ℕ) → get_or (known_from 0 known) i 0 < 32768
-known-lt known h i = known_numbers-lt 0 32768 known (omega arith) (omega arith) i
-
-pub length-known_from : {A : Type 0} (a bound : ℕ) (known : List (Option A)) → length known ≤ bound → length (known_from a known) ≤ bound
-length-known_from a bound [] h = omega arith
-length-known_from a bound (None ∷ known) h = length-known_from (a + 1) bound known (omega arith)
-length-known_from a zero (Some x ∷ known) h = absurd (omega arith)
-length-known_from a (suc bound) (Some x ∷ known) h = let rest = length-known_from (a + 1) bound known (omega arith) in omega (arith, rest)
-
 pub length-lost_from : {A : Type 0} (a bound : ℕ) (known : List (Option A)) → length known ≤ bound → length (lost_from a known) ≤ bound
 length-lost_from a bound [] h = omega arith
 length-lost_from a bound (Some x ∷ known) h = length-lost_from (a + 1) bound known (omega arith)

@@ -1,5 +1,6 @@
 -- The loop that offers the surviving recovery slices.
-use Rattle.par2_recovery.proofs.Common.{inl, inr, replicate, length-append, ◌-◌, ℕ, suc, ◌+◌, ◌*◌, ◌<◌, ◌≤◌, ◌≡◌, ◌↔◌, refl, sym, ap, ap₂, ◌∙◌, subst, arith, Bool, true, false, cond, eqb, ◌&&◌, ◌||◌, List, [], ◌∷◌, ◌++◌, length, get_or, map, append-nil, Option, filter, list_any, AllByRecursion, IsStrictlyIncreasing, eqb-true, eq-eqb, cases_lt, get_or-map, length-map, length-replicate, map-append, get_or_append_left, get_or_at, take_all, any-filter_same, map-map, padded, dot, coefficients, combination, IsVector, IsRepairable, Kills, kept, kept_slices, Equations, CutDown, IsIndependent, IsDependent, IsKilled, Solves, AreTexts, OnlyZeroIsKilled, recovered_of, known_of, known_alone, IsUnit, recovery_at, CutByUnit, GivesUnit, IsEliminated, AreBytes, texts_of, Bor, all-append, all_from, all-map, all_unmap, all_weaker}
+use Rattle.par2_recovery.proofs.Common.{inl, inr, replicate, length-append, ◌-◌, ℕ, suc, ◌+◌, ◌*◌, ◌<◌, ◌≤◌, ◌≡◌, ◌↔◌, refl, sym, ap, ap₂, ◌∙◌, subst, arith, Bool, true, false, cond, eqb, ◌&&◌, ◌||◌, List, [], ◌∷◌, ◌++◌, length, get_or, map, append-nil, Option, filter, list_any, AllByRecursion, IsStrictlyIncreasing, eqb-true, eq-eqb, cases_lt, get_or-map, length-map, length-replicate, map-append, get_or_append_left, get_or_at, take_all, any-filter_same, map-map, padded, dot, coefficients, combination, IsVector, IsRepairable, Kills, kept, kept_slices, Equations, CutDown, IsIndependent, IsDependent, IsKilled, Solves, AreTexts, OnlyZeroIsKilled, recovered_of, known_of, known_alone, IsUnit, recovery_at, CutByUnit, GivesUnit, IsEliminated, AreBytes, texts_of, Bor, all-append, all_from, all-map, all_unmap}
+use Rattle.par2_spec.proofs.RankLaws.{all_weaker}
 use Rattle.std.specs.Prelude.{take}
 use Rattle.std.proofs.Math.Bool.{and-true, or-true}
 use Rattle.par2_matrix.specs.Systems as systems

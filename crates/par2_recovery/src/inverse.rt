@@ -1,15 +1,13 @@
 //! The equations of the kept exponents, and their inverse.
 
-ghost use Rattle.std.specs.Prelude.{◌≡◌, ◌≢◌, ℕ, ◌*◌, ◌<◌, ◌≤◌, length, map, slice_index, slice_index_or, [], IfErr, IfOk, IsOk, Ok, ◌+◌, ◌%◌, take, IfSome, IsNone};
+ghost use Rattle.std.specs.Prelude.{◌≡◌, ℕ, ◌*◌, ◌<◌, ◌≤◌, length, map, slice_index, slice_index_or, [], IfErr, IfOk, IsOk, Ok, ◌+◌, ◌%◌, take, IfSome, IsNone};
 ghost use Rattle.std.specs.List.Sorted.{IsStrictlyIncreasing};
 ghost use Rattle.par2_spec.specs.Rank.{IsRepairable, kept_slices};
-ghost use Rattle.par2_spec.specs.Recovery.{coefficients};
 ghost use Rattle.par2_spec.specs.Sums.{lists_of, list_at};
-ghost use Rattle.par2_matrix.specs.Systems.{IsIndependent, IsDependent};
 ghost use Rattle.par2_recovery.specs.Answers.{HasInverse, KeepsThose};
 ghost use Rattle.par2_recovery.specs.Views.{texts_of};
 ghost use Rattle.par2_recovery.specs.Survivors.{recovered_of, exponents_of, IsTrueFault};
-ghost use Rattle.par2_recovery.specs.Inverses.{CutByUnit, IsEliminated, IsInverse};
+ghost use Rattle.par2_recovery.specs.Inverses.{IsEliminated, IsInverse};
 ghost use Rattle.par2_matrix.specs.Echelon.{Spells};
 ghost use Rattle.par2_recovery.specs.Elements.{AreRows, IsUnit};
 ghost use Rattle.par2_spec.specs.Runs.{AreSlices};
@@ -47,35 +45,6 @@ fn recovery_at<'a>(recovery: &[(u32, &'a [u8])], i: usize) -> (u32, &'a [u8])
     recovery[i]
 }
 
-// Offers the equation of an exponent whose right side is the next unit vector, unless the system has its full rank.
-fn offer_unit(
-    alloc: Global,
-    gf: &Gf,
-    system: &mut System,
-    lost: &[u32],
-    e: u32,
-) -> Result<Offer, AllocError>
-    requires count { length lost.now ≤ 32768 }
-    requires lost { (i : ℕ) → slice_index lost.now i < 32768 }
-    requires columns { system.old.columns ≡ length lost.now }
-    requires bytes { system.old.bytes ≡ 2 * length lost.now }
-    ensures kept { result ≡ Ok Offer.Kept
-        → CutByUnit system.old system.new (coefficients lost.now e) }
-    ensures told { result ≡ Ok Offer.Kept → IsIndependent system.old (coefficients lost.now e) }
-    ensures dependent { result ≡ Ok Offer.Dependent
-        → IsDependent system.old (coefficients lost.now e) }
-    ensures columns { system.new.columns ≡ system.old.columns }
-    ensures bytes { system.new.bytes ≡ system.old.bytes }
-    ensures unchanged { result ≢ Ok Offer.Kept → system.new ≡ system.old }
-{
-    let rank = system.rank();
-    if rank == lost.len() {
-        return Ok(Offer::Dependent);
-    }
-    let right = unit(alloc, lost.len(), rank)?;
-    offer(alloc, gf, system, lost, e, right)
-}
-
 // Takes the recovery slices in order, and keeps those of the kept exponents.
 fn eliminate<'a>(
     alloc: Global,
@@ -93,7 +62,8 @@ fn eliminate<'a>(
     let mut kept = Vec::new(alloc);
     for i in 0..recovery.len() {
         let slice = recovery_at(recovery, i);
-        match offer_unit(alloc, gf, &mut system, lost, slice.0)? {
+        let right = unit(alloc, lost.len(), system.rank())?;
+        match offer(alloc, gf, &mut system, lost, slice.0, right)? {
             Offer::Kept => kept.push(slice)?,
             Offer::Dependent => {}
         }
@@ -182,13 +152,16 @@ fn rows_of(alloc: Global, texts: &[Vec<u8>]) -> Result<Vec<Vec<u16>>, AllocError
     Ok(rows)
 }
 
-// The text of the unit vector of n elements that has 1 at i.
+// The text of the unit vector of n elements that has 1 at i, or of zeros, where i is none of its places.
 fn unit(alloc: Global, n: usize, i: usize) -> Result<Vec<u8>, AllocError>
-    requires count { n < 65536 }
-    requires place { i < n }
-    ensures { IfOk result (λ text. IsUnit n i text.items) }
+    requires { n < 65536 }
+    ensures size { IfOk result (λ text. length text.items ≡ 2 * n) }
+    ensures unit { i < n → IfOk result (λ text. IsUnit n i text.items) }
 {
     let mut text = vec![in alloc; 0u8; 2 * n]?;
+    if i >= n {
+        return Ok(text);
+    }
     put_element(text.as_mut_slice(), i, 1);
     Ok(text)
 }

@@ -1,4 +1,4 @@
-use Rattle.par2_recovery.proofs.Common.{◌≡◌, get_or, map, coefficients, ◌<◌, ◌≤◌, ◌+◌, ◌-◌, ◌*◌, ◌∙◌, ℕ, List, Vec, Global, sym, ap, subst, arith, length, min, lists_of, slice_begins, within, AddsAt, still_within, products, all_coefficients, texts_of}
+use Rattle.par2_recovery.proofs.Common.{◌≡◌, get_or, map, ◌<◌, ◌≤◌, ◌+◌, ◌-◌, ◌*◌, ◌∙◌, ℕ, List, Vec, Global, sym, ap, subst, arith, length, min, coefficients, lists_of, slice_begins, within, AddsAt, still_within, products, all_coefficients, texts_of}
 use Rattle.std.proofs.lemmas.Grind.{div_ceil_times}
 use Rattle.par2_recovery.proofs.AdditionLaws.{products_are, columns_place, no_columns_yet, next_columns, all_columns_added}
 use Rattle.par2_recovery.proofs.Combinations.{length-texts_of, range-lt, rows_long, length-rows}

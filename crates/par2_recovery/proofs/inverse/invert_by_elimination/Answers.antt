@@ -1,5 +1,4 @@
-use Rattle.par2_recovery.proofs.Common.{◌≡◌, ◌↔◌, ◌∙◌, refl, sym, ap, subst, length, OnlyZeroIsKilled, lists_of, length-lists_of, AreRows, recovered_of}
-use Rattle.par2_matrix.specs.Systems.{rank}
+use Rattle.par2_recovery.proofs.Common.{◌≡◌, ◌↔◌, ◌∙◌, refl, sym, ap, subst, length, OnlyZeroIsKilled, lists_of, length-lists_of, AreRows, recovered_of, rank}
 use Rattle.par2_recovery.proofs.Inverting.{are_inverse}
 use Rattle.par2_recovery.proofs.inverse.invert_by_elimination.Goals as goal
 

@@ -1,4 +1,4 @@
-use Rattle.par2_sets.proofs.Common.{◌≡◌, ◌∙◌, ◌++◌, ◌∷◌, [], inr, sym, ap, rules, Some, Err, arith, ok_or, map, packet_of, description_of, NoDescription}
+use Rattle.par2_sets.proofs.Common.{◌≡◌, ◌∙◌, ◌++◌, ◌∷◌, [], inr, sym, ap, rules, Some, Err, arith, map, ok_or, packet_of, description_of, NoDescription}
 use Rattle.par2_sets.proofs.Lists.{item_at, all_some_more}
 use Rattle.par2_sets.proofs.Refusals.{passed_on, one_missing}
 use Rattle.par2_sets.proofs.parts.descriptions.Goals as goal

@@ -1,4 +1,4 @@
-use Rattle.par2_sets.proofs.Common.{◌≡◌, ◌∙◌, ◌⊎◌, ◌++◌, ◌∷◌, [], length, map, take, inl, inr, sym, ap, rules, Some, Err, length_push, Memory, NoChecksums, all_some, packet_of, target_of, targets_or_fault, was_some}
+use Rattle.par2_sets.proofs.Common.{◌≡◌, ◌∙◌, ◌⊎◌, ◌++◌, ◌∷◌, [], length, map, take, inl, inr, sym, ap, rules, Some, Err, length_push, Memory, NoChecksums, all_some, target_of, packet_of, targets_or_fault, was_some}
 use Rattle.std.proofs.lemmas.Slice.Zip.{zip_turn}
 use Rattle.par2_sets.proofs.Lists.{all_some_more}
 use Rattle.par2_sets.proofs.Refusals.{passed_on, one_missing}

@@ -1,4 +1,4 @@
-use Rattle.par2_sets.proofs.Common.{◌≡◌, Some, length, map, take, all_some, packet_of, target_of}
+use Rattle.par2_sets.proofs.Common.{◌≡◌, Some, length, map, take, all_some, target_of, packet_of}
 use Rattle.par2_sets.proofs.targets.targets_of.Given as goal
 
 abbrev pub invariant-loop-description : goal.invariant-loop-description
