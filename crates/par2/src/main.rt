@@ -1,19 +1,18 @@
 //! `par2` in the current directory.
 #![tactic(auto)]
 
-ghost use Rattle.std.specs.Prelude.{◌≡◌, ◌⊎◌, drop, [], IfErr, IfOk, IsErrOf, IsOk};
+ghost use Rattle.std.specs.Prelude.{◌≡◌, drop, IfErr, IfOk, IsErrOf, IsOk};
 ghost use Rattle.std.specs.IoError.{error_kind};
 ghost use Rattle.std.specs.Vec.Iter.{into_iter_items};
-ghost use Rattle.par2_spec.specs.Texts.{error_of, status_of_failure};
-ghost use Rattle.par2_tool.specs.Telling.{IsPrinted};
 
 use par2_folder::DiskStore;
 use par2_headline::run;
-use par2_printing::{Printer, write_failure};
+use par2_printing::Printer;
 use par2_spec::{Failure, Fault};
+use par2_tool::fail;
 use std::alloc::{AllocError, Global};
 use std::env::Args;
-use std::io::{ErrorKind, Write};
+use std::io::ErrorKind;
 use std::process::ExitCode;
 use std::{env, io};
 
@@ -42,8 +41,6 @@ fn words_of(given: io::Result<Args>, alloc: Global) -> Result<Vec<String>, Failu
         → IsErrOf result (Failure.Refused Fault.Memory)) }
     ensures arguments { IfErr given (λ error. (error_kind error ≡ ErrorKind.OutOfMemory → ⊥)
         → IsErrOf result Failure.Arguments) }
-    ensures causes { IfErr result (λ failure. (failure ≡ Failure.Arguments)
-        ⊎ (failure ≡ Failure.Refused Fault.Memory)) }
 {
     match given {
         Ok(args) => match words_in(after_name(args), alloc) {
@@ -57,29 +54,13 @@ fn words_of(given: io::Result<Args>, alloc: Global) -> Result<Vec<String>, Failu
     }
 }
 
-// Prints why there are no words, and gives the status.
-#[tactic(auto, unfolding(par2_spec::specs::Texts::status_of_failure, par2_spec::specs::Texts::status_of_fault))]
-fn fail<E: Write>(err: &mut Printer<E>, failure: Failure) -> u8
-    requires { (failure ≡ Failure.Arguments) ⊎ (failure ≡ Failure.Refused Fault.Memory) }
-    ensures { IsPrinted E.contents err.old err.new (error_of [] failure)
-        (status_of_failure failure) result }
-{
-    match write_failure(err, None, failure) {
-        Ok(()) => match failure {
-            Failure::Arguments => 3,
-            _ => 8,
-        },
-        Err(_) => 6,
-    }
-}
-
 fn main(rt: HostRuntime) -> ExitCode {
     let mut out = Printer::new(rt.stdout());
     let mut err = Printer::new(rt.stderr());
     let mut store = DiskStore::new(&rt);
     let status = match words_of(env::args(&rt), rt.alloc()) {
         Ok(words) => run(rt.alloc(), words.as_slice(), &mut store, &mut out, &mut err),
-        Err(failure) => fail(&mut err, failure),
+        Err(failure) => fail(&mut err, None, failure),
     };
     ExitCode::from(status)
 }
