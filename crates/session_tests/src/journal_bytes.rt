@@ -205,7 +205,8 @@ const FINGERPRINTS: [[u8; 16]; 2] = [*b"aaaaaaaaaaaaaaaa", *b"bbbbbbbbbbbbbbbb"]
 const BACK: &[Line] = &[Line::Remove("a"), Line::Rename("a.1", "a")];
 
 fn is_halfway_part(halfway: &HalfwayPart) -> bool {
-    halfway.fingerprints.as_slice() == FINGERPRINTS.as_slice() && are_lines(halfway.back.as_slice(), BACK)
+    halfway.fingerprints.as_slice() == FINGERPRINTS.as_slice()
+        && are_lines(halfway.back.as_slice(), BACK)
 }
 
 fn is_halfway(journal: &Journal, version: Version) -> bool {
