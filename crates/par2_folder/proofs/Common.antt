@@ -19,7 +19,6 @@ pub use Rattle.std.specs.declared.cmp.Ordering.{Ordering}
 pub use Rattle.std.specs.declared.cmp.Ordering.TheVariants.{Equal, Greater, Less}
 pub use Rattle.md5.specs.Md5.{md5}
 pub use Rattle.par2_digests.specs.Messages.{HasAbsorbed, message_of}
-pub use Rattle.par2_digests.specs.Pendings.{Reaches}
 pub use Rattle.par2_digests.specs.Texts.{texts_of}
 pub use Rattle.par2_digests.specs.declared.midstate.Midstate.{Midstate}
 pub use Rattle.par2_digests.specs.declared.pending.Pending.{Pending}
@@ -27,7 +26,7 @@ pub use Rattle.par2_folder.specs.Below.{IsFrom, IsFront, fingerprint_input, fold
 pub use Rattle.par2_folder.specs.Borders.{IsFurther, comes_before, is_before, new_run, run_texts, text_before, touches}
 pub use Rattle.par2_folder.specs.Filling.{IsTried}
 pub use Rattle.par2_folder.specs.Landmarks.{AreBehind, AreLandmarksOf, IsLandmarkOf}
-pub use Rattle.par2_folder.specs.Runs.{AreTo, HaveAbsorbed, ReachEach}
+pub use Rattle.par2_folder.specs.Runs.{AreTo, HaveAbsorbed, ReachEach, Reaches}
 pub use Rattle.par2_folder.specs.Snapshots.{file_of, files_in, folder_in}
 pub use Rattle.par2_folder.specs.Sorting.{IsAt, IsFile, IsGapFor, IsKept, IsSortedByName, file_at, folder_of, name_cmp}
 pub use Rattle.par2_folder.specs.Stores.{OnlyReads}

@@ -1,10 +1,13 @@
 -- States and the texts that they absorb.
-use Rattle.std.specs.Prelude.{ℕ, List, [], ◌∷◌}
-use Rattle.par2_digests.specs.Messages.{HasAbsorbed}
-use Rattle.par2_digests.specs.Pendings.{Reaches}
+use Rattle.std.specs.Prelude.{◌≡◌, ℕ, List, [], ◌∷◌, ◌++◌}
+use Rattle.par2_digests.specs.Messages.{HasAbsorbed, message_of}
 use Rattle.par2_digests.specs.declared.midstate.Midstate.{Midstate}
 use Rattle.par2_digests.specs.declared.pending.Pending.{Pending}
 use Rattle.par2_folder.specs.declared.walk.Runs.{Runs}
+
+-- after its parts the state has absorbed the text
+abbrev pub Reaches : Pending → List ℕ → Type 0
+Reaches pending text = (m : List ℕ) × (HasAbsorbed pending.state m × (m ++ message_of pending.parts.items ≡ text))
 
 -- the states have absorbed the first texts, and the pending ones reach the others
 abbrev pub ReachEach : List Midstate → List Pending → List (List ℕ) → Type 0

@@ -3,8 +3,7 @@
 //! Before a border, neighbours among these folders are alike unless the change between them touches a name there. So
 //! they fall into runs, and one state that has absorbed the files before the border serves a run.
 ghost use Rattle.std.specs.Prelude.{◌≡◌, ◌≤◌, ◌++◌, ◌∷◌, [], ℕ, List, length, IfOk, OnOk, map, IsTrue};
-ghost use Rattle.par2_digests.specs.Pendings.{Reaches};
-ghost use Rattle.par2_folder.specs.Runs.{AreTo, HaveAbsorbed, LeadTo};
+ghost use Rattle.par2_folder.specs.Runs.{AreTo, HaveAbsorbed, LeadTo, Reaches};
 ghost use Rattle.md5.specs.Md5.{md5};
 ghost use Rattle.par2_digests.specs.Messages.{HasAbsorbed};
 ghost use Rattle.par2_digests.specs.Texts.{texts_of};
