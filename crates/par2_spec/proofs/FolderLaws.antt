@@ -1,7 +1,8 @@
 -- A change and its inverse; changes in order and their way back; the same for a folder as it is kept.
-use Rattle.par2_spec.proofs.Common.{◌≡◌, ℕ, ◌+◌, ◌<◌, ◌≤◌, List, [], ◌∷◌, ◌++◌, refl, sym, ap, subst, ◌∙◌, cond, true, false, Bool, not, ◌&&◌, IsTrue, append_assoc, append-nil, arith, unwrap_or, Some, None, Option, is_some, is_none, same_map, slice_cmp-IsAntisymmetric, nat_cmp-IsAntisymmetric, get-insert, get-remove, get_tied, nat_cmp, eq_by_cmp, is_eq, Ordering, Equal, eq_by_cmp_equiv, slice_cmp, nat_list_cmp_total, nat_tests, and_parts, and_from, Folder, has, bytes_of, Change, Write, Replace, Rename, Remove, FolderState, fault_unless, vacant_after, state_after, places_taken}
+use Rattle.par2_spec.proofs.Common.{◌≡◌, ℕ, ◌+◌, ◌-◌, ◌<◌, ◌≤◌, List, [], ◌∷◌, ◌++◌, refl, sym, ap, subst, ◌∙◌, cond, true, false, Bool, not, ◌&&◌, IsTrue, append_assoc, append-nil, arith, unwrap_or, Some, None, Option, is_some, is_none, same_map, slice_cmp-IsAntisymmetric, nat_cmp-IsAntisymmetric, get-insert, get-remove, get_tied, nat_cmp, eq_by_cmp, is_eq, Ordering, Equal, eq_by_cmp_equiv, slice_cmp, nat_list_cmp_total, nat_tests, and_parts, and_from, Folder, has, bytes_of, Change, Write, Replace, Rename, Remove, FolderState, fault_unless, vacant_after, state_after, places_taken}
 use Rattle.std.proofs.Common.{nat_lt}
 use Rattle.std.specs.FinMap as map_of
+use Rattle.par2_spec.specs.declared.ChangeFault.TheVariants.{NameTaken, NoRoom, NoSuchName}
 use Rattle.par2_spec.specs.Changes.{effect, inverse, is_applicable, effects, way_back, are_applicable, change_refusal, takes_all, state_after_all}
 use Rattle.par2_spec.specs.declared.ChangeFault.{ChangeFault}
 use Rattle.par2_spec.proofs.TestLaws.{none_from}
@@ -68,7 +69,9 @@ undo_Replace f n b h = same_folder _ _ (λ q. written _ n _ q ∙ ap (cond (same
 
 undo_Rename : (f : Folder) (a b : List ℕ) → IsTrue (has f a) → IsTrue (not (has f b)) → effect (effect f (Rename a b)) (Rename b a) ≡ f
 unfolding effect
-undo_Rename f a b h k = grind (arith, same_folder, written, gone, moved, landed, tied, present, absent)
+undo_Rename f a b h k = same_folder _ _ (λ q.
+    written _ a _ q ∙ ap (cond (same q a) (Some _)) (gone _ b q ∙ ap (cond (same q b) None) (written _ b _ q ∙ ap (cond (same q b) (Some _)) (gone f a q)))
+    ∙ moved (same q a) (same q b) _ _ _ (landed _ b _) (λ t. tied f q a t ∙ present _ h) (λ t. tied f q b t ∙ absent _ k))
 
 pub undo_change : (f : Folder) (c : Change) → IsTrue (is_applicable f c) → effect (effect f c) (inverse f c) ≡ f
 unfolding effect inverse is_applicable
@@ -79,7 +82,11 @@ undo_change f (Remove n) h = same_folder _ _ (λ q. written _ n _ q ∙ ap (cond
 
 -- a name that is there and one that is not are two
 two_names : (f : Folder) (a b : List ℕ) → IsTrue (has f a) → IsTrue (not (has f b)) → same a b ≡ false
-two_names f a b h k = grind (arith, tied, present, absent)
+two_names f a b h k = split (same a b) refl
+  where
+    split : (t : Bool) → same a b ≡ t → t ≡ false
+    split true e = let p : map_of.get f a ≡ map_of.get f b = tied f a b e in let there = present _ h in let missing = absent _ k in cc
+    split false e = refl
 
 -- after a rename the old name is free
 left_behind : (f : Folder) (a b : List ℕ) → IsTrue (has f a) → IsTrue (not (has f b)) → map_of.get (map_of.insert (map_of.remove f a) b (bytes_of f a)) a ≡ None
@@ -209,7 +216,10 @@ pub inverse_taken : (s : FolderState) (c : Change) → change_refusal s c ≡ No
 unfolding change_refusal effect inverse
 inverse_taken s (Write n b) h = rw (here s.files n b)
 inverse_taken s (Replace n b) h = rw (here s.files n b)
-inverse_taken s (Rename a b) h = grind (arith, not_refused, here, left_behind)
+inverse_taken s (Rename a b) h =
+    let from = not_refused (has s.files a) NoSuchName _ h in
+    let to = not_refused (not (has s.files b)) NameTaken None from.1 in
+    rw (here (map_of.remove s.files a) b (bytes_of s.files a), left_behind s.files a b from.0 to.0)
 inverse_taken s (Remove n) h = rw (nowhere s.files n, has_room (s.vacant + 1) (omega arith))
 
 vacant_back : (s : FolderState) (c : Change) → change_refusal s c ≡ None → vacant_after (vacant_after s.vacant c) (inverse s.files c) ≡ s.vacant
@@ -260,7 +270,9 @@ taken_are_applicable s (c ∷ cs) h = and_from _ _ (taken_is_applicable s c (tak
 pub state_all_back : (s : FolderState) (cs : List Change) → IsTrue (takes_all s cs) → state_after_all (state_after_all s cs) (way_back s.files cs) ≡ s
 unfolding state_after_all way_back
 state_all_back s [] h = refl
-state_all_back s (c ∷ cs) h = grind (arith, state_after_all-append, takes_rest, state_back, takes_first, state_all_back (state_after s c) cs (takes_rest s c cs h))
+state_all_back s (c ∷ cs) h =
+    state_after_all-append (state_after_all (state_after s c) cs) (way_back (effect s.files c) cs) (inverse s.files c ∷ [])
+    ∙ ap (λ t. state_after t (inverse s.files c)) (state_all_back (state_after s c) cs (takes_rest s c cs h)) ∙ state_back s c (takes_first s c cs h)
 
 pub way_back_taken : (s : FolderState) (cs : List Change) → IsTrue (takes_all s cs) → IsTrue (takes_all (state_after_all s cs) (way_back s.files cs))
 unfolding state_after_all way_back
@@ -282,7 +294,11 @@ with_room s k = record { files = s.files; vacant = s.vacant + k }
 
 more_room : (s : FolderState) (k : ℕ) (c : Change) → change_refusal s c ≡ None → (change_refusal (with_room s k) c ≡ None) × (state_after (with_room s k) c ≡ with_room (state_after s c) k)
 unfolding change_refusal
-more_room s k (Write n b) h = grind (arith, not_refused, has_place, has_room)
+more_room s k (Write n b) h =
+    let name = not_refused (not (has s.files n)) NameTaken _ h in
+    let room = has_place s.vacant (not_refused (nat_lt 0 s.vacant) NoRoom None name.1).0 in
+    let less : s.vacant + k - 1 ≡ s.vacant - 1 + k = omega arith in
+    (rw (name.0, has_room (s.vacant + k) (omega arith)), λ i. record { files = effect s.files (Write n b); vacant = less i })
 more_room s k (Remove n) h = let more : s.vacant + k + 1 ≡ s.vacant + 1 + k = omega arith in (h, λ i. record { files = effect s.files (Remove n); vacant = more i })
 more_room s k c h = (h, refl)
 
