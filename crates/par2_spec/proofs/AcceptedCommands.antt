@@ -1,8 +1,5 @@
 -- The changes of a command lead to its folder.
-use Rattle.par2_spec.proofs.Common.{◌≡◌, ℕ, ◌+◌, List, [], ◌∷◌, ◌++◌, refl, sym, ◌∙◌, true, false, Bool, not, Option, Some, None, Result, Ok, Err, position, if◌then◌else◌, list_all, and_parts, not-false, position_from-zero, Fault, NoSuchFile, Folder, has, Change, ParSet, set_of, candidates, after_repair, after_repair_and_purge, after_purge, par_files, FitsRepair, Command, Create, Verify, Repair, Purge, by_set, repair_changes, repair_removals, purge_changes, AreFewFor, LeadsToAfter}
-use Rattle.par2_spec.specs.Changes.{effects, are_applicable}
-use Rattle.par2_spec.specs.Refusals.{set_in, after}
-use Rattle.par2_spec.specs.Plans.{changes_of}
+use Rattle.par2_spec.proofs.Common.{◌≡◌, ℕ, ◌+◌, List, [], ◌∷◌, ◌++◌, refl, sym, ◌∙◌, true, false, Bool, not, Option, Some, None, Result, Ok, Err, position, if◌then◌else◌, list_all, and_parts, not-false, position_from-zero, Fault, NoSuchFile, Folder, has, Change, effects, are_applicable, ParSet, set_of, candidates, after_repair, after_repair_and_purge, after_purge, par_files, FitsRepair, Command, Create, Verify, Repair, Purge, by_set, set_in, after, repair_changes, repair_removals, purge_changes, AreFewFor, LeadsToAfter, changes_of}
 use Rattle.par2_spec.proofs.CommandLaws.{create_leads, removals_lead}
 use Rattle.par2_spec.proofs.CreateLaws.{create_applies}
 use Rattle.par2_spec.proofs.ReadLaws.{fits_of}
@@ -22,12 +19,10 @@ all_there folder names h =
     (no_place test 0 names (sym (position_from-zero test names) ∙ h)))
 
 pub in_full : (folder : Folder) (base : List ℕ) (extras : List (List ℕ)) → missing folder (base ∷ extras) ≡ None → set_in folder base extras ≡ set_of folder base
-unfolding set_in
-in_full folder base extras e = rw e refl
+in_full folder base extras e = unfold set_in in rw e refl
 
 pub in_part : (folder : Folder) (base : List ℕ) (extras : List (List ℕ)) (k : ℕ) → missing folder (base ∷ extras) ≡ Some k → set_in folder base extras ≡ Err (NoSuchFile (0 + k))
-unfolding set_in
-in_part folder base extras k e = rw e refl
+in_part folder base extras k e = unfold set_in in rw e refl
 
 -- what a set that is read in a folder with these names tells
 pub set_in_reads : (folder : Folder) (base : List ℕ) (extras : List (List ℕ)) (set : ParSet) → set_in folder base extras ≡ Ok set → (set_of folder base ≡ Ok set) × (list_all (has folder) (base ∷ extras) ≡ true)
@@ -43,8 +38,7 @@ abbrev Leads : Folder → List Change → Folder → Type 0
 Leads folder changes goal = (are_applicable folder changes ≡ true) × (effects folder changes ≡ goal)
 
 nothing_leads : (folder : Folder) → Leads folder [] folder
-unfolding effects are_applicable
-nothing_leads folder = (refl, refl)
+nothing_leads folder = unfold effects are_applicable in (refl, refl)
 
 repair_of_set : (folder : Folder) (set : ParSet) (searched : List (List ℕ)) (purge : Bool) → FitsRepair folder set searched
     → Leads folder (if purge then repair_changes folder set searched ++ repair_removals folder set searched else repair_changes folder set searched)

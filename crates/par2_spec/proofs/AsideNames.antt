@@ -1,11 +1,7 @@
 -- A numbered name is a name, where it has at most 255 bytes.
-use Rattle.par2_spec.proofs.Common.{◌≡◌, ℕ, zero, suc, ◌+◌, ◌%◌, ◌^◌, ◌<◌, ◌≤◌, List, [], ◌∷◌, ◌++◌, length, map, drop, refl, sym, ap, ◌∙◌, subst, cond, true, false, Bool, not, arith, eqb, length-append, find, Option, Some, None, is_some, unwrap_or, decimal, codes, ◌==◌, nat_eq, range_with_len, list_all, list_any, starts_with, bytes_eq, IsUtf8, drop-append_seam, and_parts, and_from, or_cases, or_parts, or_from, cases_Bool, ne_eqb, not_from_false, cases_eq, false≢true, not-true, not-false, false_from_ne_true, le-leb, leb-true, nat_list_eq_equiv, list_all-append, list_any-append, length-map-range_with_len, length-le_from_is_member, is_among, numbered, IsLeastFree, Folder, names, ParSet, target_names, taken_for, AreFew, IsUtf8-append, IsUtf8-from_ascii, IsUtf8-from_is_utf8, is_utf8-from_IsUtf8}
+use Rattle.par2_spec.proofs.Common.{◌≡◌, ℕ, zero, suc, ◌+◌, ◌%◌, ◌^◌, ◌<◌, ◌≤◌, List, [], ◌∷◌, ◌++◌, length, map, drop, refl, sym, ap, ◌∙◌, subst, cond, true, false, Bool, not, arith, eqb, length-append, find, Option, Some, None, is_some, unwrap_or, decimal, codes, ◌==◌, nat_eq, range_with_len, list_all, list_any, starts_with, bytes_eq, IsUtf8, drop-append_seam, and_parts, and_from, or_cases, or_parts, or_from, cases_Bool, ne_eqb, not_from_false, cases_eq, false≢true, not-true, not-false, false_from_ne_true, le-leb, leb-true, nat_list_eq_equiv, list_all-append, list_any-append, length-map-range_with_len, length-le_from_is_member, is_among, numbered, IsLeastFree, is_name, Folder, names, ParSet, target_names, taken_for, AreFew, aside, IsUtf8-append, IsUtf8-from_ascii, IsUtf8-from_is_utf8, is_utf8-from_IsUtf8}
 use Rattle.std.proofs.lemmas.Fmt.{decimal_by_steps, decimal_injective, decimal_nonempty, IsAscii-decimal}
-use Rattle.par2_spec.specs.Names.{is_name}
-use Rattle.par2_spec.specs.Repairs.{aside}
 use Rattle.std.proofs.lemmas.List.{append_assoc}
-use Rattle.par2_spec.specs.Names.{is_name}
-use Rattle.par2_spec.specs.Repairs.{aside}
 use Rattle.par2_spec.proofs.NamesLaws.{same_name, other_name, among-append, AreDistinct, std_from_distinct, clash}
 use Rattle.par2_spec.proofs.NameTests.{no_name, tests_of, name_of}
 use Rattle.par2_spec.proofs.SearchLaws.{found_passes}
@@ -95,26 +91,21 @@ numbered_once name a (suc k) h = (not_later name a (a + 1) k (omega arith) (omeg
 
 -- of one name more than are taken, one is free
 one_is_free : (name : List ℕ) (taken : List (List ℕ)) → length taken + 1 < 2 ^ 64 → is_some (find (λ other. not (is_among taken other)) (map (numbered name) (range_with_len 1 (length taken + 1)))) ≡ true
-one_is_free name taken few = by_either (cases_Bool (is_some (find free numbers)))
+one_is_free name taken few =
+    let free : List ℕ → Bool = λ other. not (is_among taken other) in
+    let numbers : List (List ℕ) = map (numbered name) (range_with_len 1 (length taken + 1)) in
+    let too_many : length numbers ≤ length taken → ⊥ =
+    λ h. (let e : length numbers ≡ length taken + 1 = length-map-range_with_len (numbered name) 1 (length taken + 1) in omega (arith, e, h)) in
+    by_either (cases_Bool (is_some (find free numbers)))
     (λ h. h)
     (λ h. absurd (too_many (length-le_from_is_member nat_list_eq_equiv numbers taken (std_from_distinct numbers (numbered_once name 1 (length taken + 1) (omega (arith, few)))) (λ q i. not-false (is_among taken q) (none_passes free numbers h q i)))))
-  where
-    free : List ℕ → Bool
-    free other = not (is_among taken other)
-
-    numbers : List (List ℕ)
-    numbers = map (numbered name) (range_with_len 1 (length taken + 1))
-
-    too_many : length numbers ≤ length taken → ⊥
-    too_many h = let e : length numbers ≡ length taken + 1 = length-map-range_with_len (numbered name) 1 (length taken + 1) in omega (arith, e, h)
 
 -- ---- asides
 
 -- an aside is the name with the least number by which it is not taken
 pub aside_is : (folder : Folder) (set : ParSet) (name : List ℕ) → AreFew folder set
     → (n : ℕ) × IsFirst (λ other. not (is_among (taken_for folder set) other)) (numbered name) 1 (length (taken_for folder set) + 1) n × (aside folder set name ≡ numbered name n)
-unfolding aside
-aside_is folder set name few =
+aside_is folder set name few = unfold aside in
     let r = first_found (λ other. not (is_among (taken_for folder set) other)) (numbered name) 1 (length (taken_for folder set) + 1) (one_is_free name (taken_for folder set) few) in
     (r.0, r.1, ap (λ o. unwrap_or o []) r.2)
 
@@ -143,8 +134,7 @@ aside_least folder set name few =
     }
 
 no_empty_name : is_name [] ≡ false
-unfolding is_name
-no_empty_name = refl
+no_empty_name = unfold is_name in refl
 
 -- an aside is no target's, also where no number is free
 pub aside_no_target : (folder : Folder) (set : ParSet) (name : List ℕ) → list_all is_name (target_names set) ≡ true → is_among (target_names set) (aside folder set name) ≡ false

@@ -1,9 +1,8 @@
 -- The checksum is linear over the exclusive or, a bit, a byte or any number of bytes at a time.
-use Rattle.par2_spec.proofs.Common.{◌≡◌, ℕ, zero, suc, ◌+◌, ◌*◌, ◌^◌, ◌<◌, ◌%◌, ◌/◌, List, [], ◌∷◌, ◌++◌, length, refl, sym, ap, ◌∙◌, arith, fold, replicate, bit_at, xor_assoc, xor_self, xor_zero_r, mul_assoc, xor_comm, xor_shr, xor_block, shr_split, mod_below, length_push, bit_at_lowest, bit_at_xor, crc_step, crc_steps, crc_byte}
+use Rattle.par2_spec.proofs.Common.{◌≡◌, ℕ, zero, suc, ◌+◌, ◌*◌, ◌^◌, ◌<◌, ◌%◌, ◌/◌, List, [], ◌∷◌, ◌++◌, length, refl, sym, ap, ◌∙◌, arith, fold, replicate, bit_at, xor_assoc, xor_self, xor_zero_r, mul_assoc, xor_comm, xor_shr, xor_block, shr_split, mod_below, length_push, bit_at_lowest, bit_at_xor, crc_step, crc_steps, crc_byte, crc32}
 use Rattle.std.specs.Prelude.{bit_xor}
 use Rattle.std.proofs.Math.Nat.{pow-suc, zero-mul}
 use Rattle.std.proofs.lemmas.Nat.{pow_pos}
-use Rattle.par2_spec.specs.Checksums.{crc32}
 use Rattle.par2_spec.proofs.FieldBits.{xor_middle}
 use Rattle.par2_spec.proofs.SumLaws.{xor_off}
 
@@ -108,8 +107,7 @@ fold-zeros (suc n) c =
     ∙ more_steps n c
 
 pub crc32-zeros : (bytes : List ℕ) (n : ℕ) → crc32 (bytes ++ replicate n 0) ≡ bit_xor (crc_steps (8 * n) (bit_xor (crc32 bytes) 0xFFFFFFFF)) 0xFFFFFFFF
-unfolding crc32
-crc32-zeros bytes n =
+crc32-zeros bytes n = unfold crc32 in
     ap (λ c. bit_xor c 0xFFFFFFFF)
     (fold-append bytes (replicate n 0) 0xFFFFFFFF ∙ fold-zeros n (fold crc_byte 0xFFFFFFFF bytes)
     ∙ ap (crc_steps (8 * n)) (sym (xor_off (fold crc_byte 0xFFFFFFFF bytes) 0xFFFFFFFF)))
@@ -121,8 +119,7 @@ turned p q r s =
 
 -- a window moves on by a byte
 pub crc32-slide : (out next : ℕ) (rest : List ℕ) → crc32 (rest ++ next ∷ []) ≡ bit_xor (crc_byte (crc32 (out ∷ rest)) next) (bit_xor (crc_steps (8 * suc (length rest)) (crc32 (out ∷ []))) (crc32 (0 ∷ [])))
-unfolding crc32
-crc32-slide out next rest =
+crc32-slide out next rest = unfold crc32 in
     let ones : ℕ = 0xFFFFFFFF in
     let whole : ℕ = fold crc_byte ones (out ∷ rest) in
     let first : ℕ = crc_byte ones out in

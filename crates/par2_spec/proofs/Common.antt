@@ -1,6 +1,6 @@
 -- The names that proofs of this crate take from elsewhere.
 
-pub use Rattle.std.proofs.Common.{Bool, Global, IsTrue, List, T, Vec, [], add-zero, ap, append-nil, append_assoc, ap₂, arith, cond, div-lt_iff_lt-mul, drop, eqb, false, get_or, inl, inr, leb, length, length-append, length-drop, length-set, ltb, map, mod-lt, mul_comm, not, one-mul, pow-add, pow-suc, pow_pos, refl, set, subst, suc, suc-add, sym, take, true, zero, zero-add, zero-mul, ℕ, ◌%◌, ◌&&◌, ◌*◌, ◌++◌, ◌+◌, ◌-◌, ◌/◌, ◌<◌, ◌^◌, ◌||◌, ◌∙◌, ◌∷◌, ◌≡◌, ◌≢◌, ◌≤◌, ◌⊎◌}
+pub use Rattle.std.proofs.Common.{Bool, Global, IsTrue, Less, List, T, Vec, [], add-zero, ap, append-nil, append_assoc, ap₂, arith, cond, div-lt_iff_lt-mul, drop, eqb, false, get_or, inl, inr, leb, length, length-append, length-drop, length-set, ltb, map, mod-lt, mul_comm, not, one-mul, pow-add, pow-suc, pow_pos, refl, set, subst, suc, suc-add, sym, take, true, zero, zero-add, zero-mul, ℕ, ◌%◌, ◌&&◌, ◌*◌, ◌++◌, ◌+◌, ◌-◌, ◌/◌, ◌<◌, ◌^◌, ◌||◌, ◌∙◌, ◌∷◌, ◌≡◌, ◌≢◌, ◌≤◌, ◌⊎◌}
 pub use Rattle.std.proofs.Math.Bool.{and-false, and-true, and_assoc, not-not}
 pub use Rattle.std.proofs.Math.Nat.{add-mul, div-add-mod, mul-le-mul_right, mul_assoc, one-le-pow, pow-le-pow_right, zero-div, zero-mod}
 pub use Rattle.std.proofs.Math.Seq.{drop-append_seam, drop-cons, drop-nil, take-append-add, take-append_seam}
@@ -33,39 +33,62 @@ pub use Rattle.std.specs.Int.{bit_at, div_ceil, from_le_bytes, to_le_bytes, w128
 pub use Rattle.std.specs.Int.Bits.{xor_assoc, xor_self, xor_shifted, xor_zero_l, xor_zero_r}
 pub use Rattle.std.specs.Int.RustNames.{bit_xor}
 pub use Rattle.std.specs.List.{AllAdjacentBelow, AllByRecursion, AllZip, Contains, concat, cons_option, enumerate_from, list_all, list_any, position_from, prefix_len, range_with_len, starts_with, suffix_len}
+unfoldable pub use Rattle.std.specs.List.{IsDistinct}
 pub use Rattle.std.specs.List.Sorted.{IsNonDecreasingBy, IsStrictlyIncreasing}
+unfoldable pub use Rattle.std.specs.List.Sorted.{IsStrictlySortedBy}
 pub use Rattle.std.specs.Option.{ForSome, option_or}
 pub use Rattle.std.specs.Ordering.{eq_by_cmp, is_eq, is_lt, nat_cmp}
-pub use Rattle.std.specs.Prelude.{Err, IfSome, IsPermutation, None, Ok, Option, Result, Some, codes, decimal, filter, filter_map, find, flat_map, fold, if◌then◌else◌, is_none, is_ok, is_some, min, nat_eq, nat_le, nat_lt, ok_or, option_and_then, option_map, option_to_list, position, replicate, reverse, slice_get, slice_index, slice_index_or, sum_by, unwrap_or, zip, ◌==◌, ◌↔◌}
+pub use Rattle.std.specs.Prelude.{Err, IfSome, IsPermutation, None, Ok, Option, Result, Some, codes, decimal, filter, filter_map, find, flat_map, fold, if◌then◌else◌, is_none, is_ok, is_some, min, nat_eq, nat_le, nat_lt, ok_or, option_and_then, option_map, option_to_list, position, replicate, reverse, slice_index, slice_index_or, sum_by, unwrap_or, zip, ◌==◌, ◌↔◌}
 pub use Rattle.std.specs.Str.{IsUtf8, bytes_eq, is_utf8}
 pub use Rattle.std.specs.declared.cmp.Ordering.{Ordering}
-pub use Rattle.std.specs.declared.cmp.Ordering.TheVariants.{Equal, Greater, Less}
+pub use Rattle.std.specs.declared.cmp.Ordering.TheVariants.{Equal}
 pub use Rattle.md5.proofs.StandardFacts.{length-md5}
 pub use Rattle.md5.specs.Md5.{md5}
-pub use Rattle.par2_spec.specs.Changes.{Change, FolderState, Remove, Rename, Replace, Write, are_applicable, effect, effects, fault_unless, inverse, is_applicable, places_taken, state_after, takes_all, vacant_after, way_back}
+pub use Rattle.par2_spec.specs.Changes.{Change, FolderState, Remove, Rename, Replace, Write, fault_unless, places_taken, state_after, vacant_after}
+unfoldable pub use Rattle.par2_spec.specs.Changes.{are_applicable, change_refusal, effect, effects, folders_after, inverse, is_applicable, state_after_all, takes_all, way_back}
 pub use Rattle.par2_spec.specs.Checksums.{IsPair, Pair, crc_byte, crc_step, crc_steps, pair_of}
+unfoldable pub use Rattle.par2_spec.specs.Checksums.{crc32}
 pub use Rattle.par2_spec.specs.Commands.{Action, Command, Create, CreateArgs, Do, Purge, Redo, Repair, Undo, Verify, files_of, outputs_of}
 pub use Rattle.par2_spec.specs.Faults.{fault_at, fault_of, fault_where, first_fault, then_fault}
-pub use Rattle.par2_spec.specs.Field.{coefficient, constant, modulus, mul}
+pub use Rattle.par2_spec.specs.Field.{modulus}
+unfoldable pub use Rattle.par2_spec.specs.Field.{coefficient, constant, constant_powers, mul, pow, product, remainder}
 pub use Rattle.par2_spec.specs.Folders.{File, Folder, IsFolder, bytes_of, files, fingerprint, has, names, without}
+unfoldable pub use Rattle.par2_spec.specs.Folders.{laid_over}
 pub use Rattle.par2_spec.specs.Laws.{AgreeingListsAreOne, DescIsRead, FilesHaveTheirSize, HalfwayJournalOpensAsBefore, HalfwayJournalStillOpens, HalfwayTextOpensAsBefore, HalfwayTextStillOpens, MainIsRead, OnlyOneOrder, RecoverySlicesAreRead, RefusedRepairHasAChoice, SomeSlicesAgree, TrueSlicesAreRebuilt, TwoListsAgree}
-pub use Rattle.par2_spec.specs.Names.{IsLeastFree, distinct, is_among, is_name, is_par_name, numbered}
+pub use Rattle.par2_spec.specs.Lists.{all_texts}
+unfoldable pub use Rattle.par2_spec.specs.Lists.{all_below, all_lists}
+pub use Rattle.par2_spec.specs.Names.{IsLeastFree, distinct, is_among, is_par_name, numbered}
+unfoldable pub use Rattle.par2_spec.specs.Names.{is_name}
 pub use Rattle.par2_spec.specs.Opening.{Halfway, Opened, Settled, TellsApart, is_valid, kept_in, opened_by_part, opened_if_found, session_of, session_of_opened}
-pub use Rattle.par2_spec.specs.Packets.{DescBody, IfscBody, IsCanonical, IsPacket, MainBody, Packet, RecoveryBody, accepted, begins_with_packet, bytes_at, claimed_length, digest_input, first_packet, items_at, kind_of, magic, packet, read_ifsc, read_recovery, type_of, without_end_zeros}
-pub use Rattle.par2_spec.specs.Plans.{AreFewFor, LeadsToAfter, LeadsToAfterAsked, changes_of, create_changes, now_at, purge_changes, repair_changes, repair_removals}
-pub use Rattle.par2_spec.specs.Polynomials.{AreElements, ArePoints, Interpolates, times, times_root, value, with_roots}
-pub use Rattle.par2_spec.specs.Rank.{Agrees, AnotherAgrees, AreBytes, IsKept, IsRebuilt, IsRepairable, IsVector, Kills, is_as_known, is_independent, is_repairable, is_zero, kept, kept_slices, kills, rank, smaller}
-pub use Rattle.par2_spec.specs.Recovery.{coefficients, dot, recovery}
-pub use Rattle.par2_spec.specs.Refusals.{absent_file, after, are_counts, bad_name, by_set, purge_refusal, refusal, repair_refusal, set_in}
-pub use Rattle.par2_spec.specs.Repairs.{AreFew, FitsRepair, HoldsRepaired, after_purge, after_repair, after_repair_and_purge, aside, aside_files, cut_into, files_of_slices, is_par_file, lost_of_unmatched, matched_files, names_without_match, par_files, put_aside, rebuilt, rebuilt_targets, slices_by_target, taken_for}
+unfoldable pub use Rattle.par2_spec.specs.Opening.{Opens, OpensAs, halfway_journal, leads, leads_through, opened, settled_journal, taken_back}
+pub use Rattle.par2_spec.specs.Packets.{DescBody, IfscBody, IsCanonical, IsPacket, MainBody, Packet, RecoveryBody, accepted, bytes_at, claimed_length, digest_input, items_at, magic, type_of, without_end_zeros}
+unfoldable pub use Rattle.par2_spec.specs.Packets.{accepted_after, begins_with_packet, first_packet, kind_of, packet, read_desc, read_ifsc, read_main, read_recovery, u32_at, u64_at}
+pub use Rattle.par2_spec.specs.Plans.{AreFewFor, LeadsToAfter, LeadsToAfterAsked, create_changes, now_at, purge_changes}
+unfoldable pub use Rattle.par2_spec.specs.Plans.{changes_of, repair_changes, repair_removals}
+pub use Rattle.par2_spec.specs.Polynomials.{AreElements, ArePoints, Interpolates, times, times_root}
+unfoldable pub use Rattle.par2_spec.specs.Polynomials.{plus, quotient, value, with_roots}
+pub use Rattle.par2_spec.specs.Rank.{Agrees, AnotherAgrees, AreBytes, IsKept, IsRebuilt, IsRepairable, IsVector, Kills, is_as_known, is_repairable, is_zero, kept, kept_slices, kills, rank, smaller}
+unfoldable pub use Rattle.par2_spec.specs.Rank.{agrees, is_independent, is_solvable}
+pub use Rattle.par2_spec.specs.Recovery.{coefficients}
+unfoldable pub use Rattle.par2_spec.specs.Recovery.{combination, dot, recovery}
+pub use Rattle.par2_spec.specs.Refusals.{absent_file, are_counts, bad_name, by_set, purge_refusal}
+unfoldable pub use Rattle.par2_spec.specs.Refusals.{after, create_refusal, early_refusal, head_fault, refusal, repair_refusal, set_in}
+pub use Rattle.par2_spec.specs.Repairs.{AreFew, FitsRepair, HoldsRepaired, after_purge, after_repair_and_purge, aside_files, cut_into, files_of_slices, is_par_file, lost_of_unmatched, matched_files, names_without_match, par_files, put_aside, slices_by_target, taken_for}
+unfoldable pub use Rattle.par2_spec.specs.Repairs.{after_repair, aside, rebuilt, rebuilt_targets}
 pub use Rattle.par2_spec.specs.Reports.{Complete, HasIntactFile, IntactAreFound, IsByTarget, IsFound, IsFoundWhole, IsVerdict, IsVerdictIn, MatchedAreFound, RefusedAsReported, Report, State, StatesFollow, found_of, is_complete, needing_state, states_by, verdict_of}
-pub use Rattle.par2_spec.specs.Search.{AreFirstMatches, NoCollision, candidates, intact_names, is_intact, is_needing, known, lost, match_of, matched, matches, matching, needing, needing_names, survivors}
+unfoldable pub use Rattle.par2_spec.specs.Reports.{report_in, report_of, report_of_target, state_of}
+pub use Rattle.par2_spec.specs.Search.{AreFirstMatches, NoCollision, candidates, intact_names, is_intact, is_needing, lost, match_of, matched, matching, needing, needing_names, survivors}
+unfoldable pub use Rattle.par2_spec.specs.Search.{known, matches}
 pub use Rattle.par2_spec.specs.Sessions.{CanWalk, KeptSession, OnlyGrew, Session, changes_unless, first_entry, others, session_of_kept, session_unless}
-pub use Rattle.par2_spec.specs.Sets.{IsSound, MadeFrom, ParSet, Target, all_pairs, all_some, are_in_profile, description_of, is_slice_size, main_of, other_par_names, packets_with, pairs_of, recovery_of, set_of, target_names, target_of, target_of_file, unless, ◌>>=◌}
+unfoldable pub use Rattle.par2_spec.specs.Sessions.{changes_asked, folders_along, history_of, kept_done, kept_redone, kept_undone, session_after, session_with, walks}
+pub use Rattle.par2_spec.specs.Sets.{IsSound, MadeFrom, ParSet, Target, all_pairs, all_some, are_in_profile, description_of, is_slice_size, main_of, other_par_names, packets_with, pairs_of, recovery_of, target_names, target_of, target_of_file, unless, ◌>>=◌}
+unfoldable pub use Rattle.par2_spec.specs.Sets.{read_set, set_of}
 pub use Rattle.par2_spec.specs.Slices.{slice_at, slice_count, slices, word}
 pub use Rattle.par2_spec.specs.Sums.{OneChanged, list_at, lists_of, row_sum}
-pub use Rattle.par2_spec.specs.Volumes.{FileRecord, IsFileRecord, all_slices, creator_bytes, desc_bytes, five_digits, id_number, ifsc_bytes, in_id_order, index_packets, insert_by_id, main_bytes, main_id, packet_of, padded_4, pair_bytes, record_of, recovery_bytes, recovery_packets, stem, volume_name, volume_numbers, volume_size, volumes_before}
+unfoldable pub use Rattle.par2_spec.specs.Sums.{field_sum}
+pub use Rattle.par2_spec.specs.Volumes.{FileRecord, IsFileRecord, all_slices, creator_bytes, desc_bytes, five_digits, id_number, ifsc_bytes, insert_by_id, main_bytes, main_id, packet_of, padded_4, pair_bytes, recovery_bytes, recovery_packets, stem, volume_name, volume_numbers, volume_size, volumes_before}
+unfoldable pub use Rattle.par2_spec.specs.Volumes.{in_id_order, index_packets, record_of, volumes}
 pub use Rattle.par2_spec.specs.Windows.{found, is_match, window, windows}
 pub use Rattle.par2_spec.specs.declared.Fault.{Fault}
-pub use Rattle.par2_spec.specs.declared.Fault.TheVariants.{BadBase, BadCount, BadSet, BadSliceSize, NameTooLong, NoChecksums, NoDescription, NoInput, NoMain, NoPackets, NoSuchFile, NotRepairable, RepairFailed}
+pub use Rattle.par2_spec.specs.declared.Fault.TheVariants.{BadBase, BadCount, BadSet, BadSliceSize, NameTooLong, NoChecksums, NoDescription, NoInput, NoMain, NoSuchFile, NotRepairable, RepairFailed}
 pub use Rattle.par2_spec.specs.declared.Kind.{Kind}

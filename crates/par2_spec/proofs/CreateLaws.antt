@@ -1,11 +1,9 @@
 -- The outputs of a create have distinct names, so its changes apply and lead to its folder.
-use Rattle.par2_spec.proofs.Common.{◌≡◌, ℕ, zero, suc, ◌+◌, ◌-◌, ◌*◌, ◌/◌, ◌%◌, ◌^◌, ◌<◌, ◌≤◌, List, [], ◌∷◌, ◌++◌, length, map, refl, sym, ap, ◌∙◌, subst, true, false, Bool, ◌||◌, arith, length-append, flat_map, codes, nat_lt, if◌then◌else◌, range_with_len, one-le-pow, pow-le-pow_right, drop-append_seam, length-take, map-map, and_from, not_from_false, or_from, or_left, or_right, is_among, Folder, File, has, Write, Replace, volume_name, volumes_before, volume_numbers, volume_size, five_digits, stem, record_of, in_id_order, index_packets, packet, CreateArgs, outputs_of, create_changes}
+use Rattle.par2_spec.proofs.Common.{◌≡◌, ℕ, zero, suc, ◌+◌, ◌-◌, ◌*◌, ◌/◌, ◌%◌, ◌^◌, ◌<◌, ◌≤◌, List, [], ◌∷◌, ◌++◌, length, map, refl, sym, ap, ◌∙◌, subst, true, false, Bool, ◌||◌, arith, length-append, flat_map, codes, nat_lt, if◌then◌else◌, range_with_len, one-le-pow, pow-le-pow_right, drop-append_seam, length-take, map-map, and_from, not_from_false, or_from, or_left, or_right, is_among, Folder, File, has, Write, Replace, is_applicable, are_applicable, volume_name, volumes_before, volume_numbers, volume_size, five_digits, stem, record_of, in_id_order, index_packets, volumes, packet, CreateArgs, outputs_of, create_changes}
 use Rattle.std.specs.Prelude.{drop}
 use Rattle.std.specs.FinMap as map_of
 use Rattle.std.proofs.Math.Pow.{pow-lt}
 use Rattle.std.proofs.lemmas.List.{append_assoc}
-use Rattle.par2_spec.specs.Changes.{is_applicable, are_applicable}
-use Rattle.par2_spec.specs.Volumes.{volumes}
 use Rattle.par2_spec.proofs.NamesLaws.{AreDistinct, itself, other_name, not_first, distinct_some}
 use Rattle.par2_spec.proofs.MovesLaws.{has_put}
 use Rattle.par2_spec.proofs.CommandLaws.{put_in}
@@ -45,13 +43,11 @@ name_tells_first base x m y n e = grind (arith, same_rest, volume_name_is, read_
 -- the first exponents rise, by less than 2 ^ 16
 firsts_apart : (f i j : ℕ) → i < j → j < 17 → (f + volumes_before i) % 100000 ≡ (f + volumes_before j) % 100000 → ⊥
 firsts_apart f i j less high e =
+    let too_near : (f a b : ℕ) → a < b → b ≤ 65536 → 1 ≤ a → (f + (a - 1)) % 100000 ≡ (f + (b - 1)) % 100000 → ⊥ = λ f a b less top some e. omega (arith, less, top, some, e) in
     let rises : 2 ^ i < 2 ^ j = pow-lt less in
     let top : 2 ^ j ≤ 2 ^ 16 = pow-le-pow_right {n = 2} (omega arith) {i = j} {j = 16} (omega (arith, high)) in
     let some : 1 ≤ 2 ^ i = one-le-pow i 2 (omega arith) in
     too_near f (2 ^ i) (2 ^ j) rises top some e
-  where
-    too_near : (f a b : ℕ) → a < b → b ≤ 65536 → 1 ≤ a → (f + (a - 1)) % 100000 ≡ (f + (b - 1)) % 100000 → ⊥
-    too_near f a b less top some e = omega (arith, less, top, some, e)
 
 -- ---- the names of the outputs
 
@@ -78,8 +74,7 @@ base_no_volume base f c [] = refl
 base_no_volume base f c (i ∷ is) = grind (arith, or_from, other_name, length-volume_name, length-take, base_no_volume base f c is)
 
 pub names_of_outputs : (base : List ℕ) (s f c : ℕ) (files : List File) → map (λ file. file.0) (volumes base s f c files) ≡ base ∷ map (volume_at base f c) (volume_numbers c)
-unfolding volumes
-names_of_outputs base s f c files = ap (λ names. base ∷ names) (map-map (λ (file : File). file.0) _ (volume_numbers c))
+names_of_outputs base s f c files = unfold volumes in ap (λ names. base ∷ names) (map-map (λ (file : File). file.0) _ (volume_numbers c))
 
 pub outputs_once : (base : List ℕ) (s f c : ℕ) (files : List File) → AreDistinct (map (λ file. file.0) (volumes base s f c files))
 outputs_once base s f c files =
@@ -110,5 +105,4 @@ create_applies folder a =
 
 -- without recovery slices the index is all
 pub index_alone : (base : List ℕ) (s f : ℕ) (files : List File) → volumes base s f 0 files ≡ (base, flat_map packet (index_packets s (map (record_of s) (in_id_order files)))) ∷ []
-unfolding volumes
-index_alone base s f files = refl
+index_alone base s f files = unfold volumes in refl

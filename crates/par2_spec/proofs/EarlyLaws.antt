@@ -1,6 +1,5 @@
 -- What refuses a command before it takes any memory is its refusal.
-use Rattle.par2_spec.proofs.Common.{◌≡◌, ℕ, List, [], ◌∷◌, ◌++◌, length, refl, ap, ◌∙◌, not, ◌&&◌, Option, Some, None, Err, ◌==◌, Fault, BadSliceSize, BadCount, BadBase, NoInput, first_fault, fault_where, fault_of, then_fault, is_name, is_par_name, Folder, is_slice_size, ParSet, candidates, CreateArgs, Command, Create, Verify, Repair, Purge, are_counts, bad_name, absent_file, repair_refusal, purge_refusal}
-use Rattle.par2_spec.specs.Refusals.{head_fault, create_refusal, set_in, refusal, early_refusal}
+use Rattle.par2_spec.proofs.Common.{◌≡◌, ℕ, List, [], ◌∷◌, ◌++◌, length, refl, ap, ◌∙◌, not, ◌&&◌, Option, Some, None, Err, ◌==◌, Fault, BadSliceSize, BadCount, BadBase, NoInput, first_fault, fault_where, fault_of, then_fault, is_name, is_par_name, Folder, is_slice_size, ParSet, candidates, CreateArgs, Command, Create, Verify, Repair, Purge, are_counts, bad_name, absent_file, repair_refusal, purge_refusal, head_fault, create_refusal, set_in, refusal, early_refusal}
 
 -- the first of all is the first of the first ones, or else of the rest
 pub first-append : {F : Type 0} (xs ys : List (Option F)) → first_fault (xs ++ ys) ≡ first_fault (first_fault xs ∷ ys)
@@ -12,8 +11,7 @@ first_before : {F : Type 0} (xs ys : List (Option F)) (fault : F) → first_faul
 first_before xs ys fault h = first-append xs ys ∙ ap (λ f. first_fault (f ∷ ys)) h
 
 create_refused : (folder : Folder) (a : CreateArgs) (fault : Fault) → first_fault (head_fault a ∷ bad_name a.inputs ∷ []) ≡ Some fault → create_refusal folder a ≡ Some fault
-unfolding head_fault create_refusal
-create_refused folder a fault h =
+create_refused folder a fault h = unfold head_fault create_refusal in
     let heads =
     fault_where (not (is_slice_size a.slice)) BadSliceSize
     ∷ fault_where (not (are_counts a.first a.count)) BadCount
@@ -23,8 +21,7 @@ create_refused folder a fault h =
     first_before (heads ++ bad_name a.inputs ∷ []) _ fault (first-append heads (bad_name a.inputs ∷ []) ∙ h)
 
 unread : (folder : Folder) (base : List ℕ) (extras : List (List ℕ)) (fault : Fault) → absent_file folder base extras ≡ Some fault → set_in folder base extras ≡ Err fault
-unfolding set_in
-unread folder base extras fault h = rw h refl
+unread folder base extras fault h = unfold set_in in rw h refl
 
 pub refused_early : (folder : Folder) (command : Command) (fault : Fault) → early_refusal folder command ≡ Some fault → refusal folder command ≡ Some fault
 unfolding early_refusal refusal

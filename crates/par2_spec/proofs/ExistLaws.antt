@@ -1,8 +1,6 @@
 -- Slices that agree with the known ones and with the recovery slices of the kept exponents always exist.
-use Rattle.par2_spec.proofs.Common.{◌≡◌, ℕ, zero, suc, ◌+◌, ◌*◌, ◌/◌, ◌%◌, ◌^◌, ◌<◌, ◌≤◌, List, [], ◌∷◌, length, map, drop, refl, sym, ap, ap₂, ◌∙◌, subst, arith, true, false, Bool, inl, inr, flat_map, slice_index, Option, Some, None, is_some, filter, ◌==◌, replicate, unwrap_or, w16, to_le_bytes, xor_assoc, xor_self, xor_zero_r, range_with_len, AllByRecursion, AllZip, list_any, Contains, ForSome, xor_lt, xor_comm, length-map, AllZip-long, false≢true, cases_eq, or_cases, eqb-true, word, coefficients, IsVector, Kills, IsRepairable, Agrees, AnotherAgrees, kept, AreBytes, kept_slices, lost, AreElements, drop-cons, mul, coefficient, TwoListsAgree, SomeSlicesAgree}
+use Rattle.par2_spec.proofs.Common.{◌≡◌, ℕ, zero, suc, ◌+◌, ◌*◌, ◌/◌, ◌%◌, ◌^◌, ◌<◌, ◌≤◌, List, [], ◌∷◌, length, map, drop, refl, sym, ap, ap₂, ◌∙◌, subst, arith, true, false, Bool, inl, inr, flat_map, slice_index, Option, Some, None, is_some, filter, ◌==◌, replicate, unwrap_or, w16, to_le_bytes, xor_assoc, xor_self, xor_zero_r, range_with_len, AllByRecursion, AllZip, list_any, Contains, ForSome, xor_lt, xor_comm, length-map, AllZip-long, false≢true, cases_eq, or_cases, eqb-true, word, coefficients, dot, combination, recovery, IsVector, Kills, IsRepairable, Agrees, AnotherAgrees, kept, AreBytes, kept_slices, lost, AreElements, drop-cons, mul, coefficient, TwoListsAgree, SomeSlicesAgree}
 use Rattle.std.specs.Prelude.{bit_xor}
-use Rattle.par2_spec.specs.Recovery.{dot}
-use Rattle.par2_spec.specs.Recovery.{combination, recovery, dot}
 use Rattle.par2_spec.proofs.RankLaws.{killed_vector, kept-iff, counts, counts-iff}
 use Rattle.par2_spec.proofs.WordLaws.{word_behind, byte_at, word-lt, spelled, length-spelled, bytes-spelled, word_of}
 use Rattle.par2_spec.proofs.UniqueLaws.{sums, AreTexts, IsZeroAtKnown, at_lost, lost_from, dot-at_lost, dot-sums, whole_row, dot-lt, coefficients_are, sums-elements, words_are, same_words}
@@ -239,46 +237,28 @@ record Moved (row x v : List ℕ) (goal : ℕ) : Type 0 where
   hits : dot row vector ≡ goal
 
 moved : (row x v : List ℕ) (goal : ℕ) → AreElements row → AreElements x → AreElements v → length v ≡ length x → goal < 2 ^ 16 → (dot row v ≡ 0 → ⊥) → Moved row x v goal
-moved row x v goal hr hx hv long small nonzero = record {
-  vector = sums (scaled c v) x;
-  factor = c;
-  small = c_small;
-  is = refl;
-  hits =
-      dot-sums row (scaled c v) x (length-map v (mul c) ∙ long) ∙ ap (λ t. bit_xor t q) (dot-scaled c row v c_small hr hv ∙ comes_back)
-      ∙ xor_assoc goal q q ∙ ap (bit_xor goal) (xor_self q) ∙ xor_zero_r goal;
-}
-  where
-    d : ℕ
-    d = dot row v
-
-    d_small : d < 65536
-    d_small = dot-lt row v hr hv
-
-    q : ℕ
-    q = dot row x
-
-    q_small : q < 65536
-    q_small = dot-lt row x hr hx
-
-    inverse : (b : ℕ) × ((b < 65536) × (mul d b ≡ 1))
-    inverse = has_inverse d (elim (cases_eq d 0) as (λ _. 0 < d) [ inl none ↦ absurd (nonzero none) | inr some ↦ omega (arith, some) ]) d_small
-
-    r : ℕ
-    r = bit_xor goal q
-
-    r_small : r < 65536
-    r_small = xor_lt 16 goal q small q_small
-
-    c : ℕ
-    c = mul r inverse.0
-
-    c_small : c < 2 ^ 16
-    c_small = product-lt r inverse.0 r_small inverse.1.0
-
-    comes_back : mul c d ≡ r
-    comes_back =
-        product_assoc r inverse.0 d r_small inverse.1.0 d_small ∙ ap (mul r) (product_comm inverse.0 d inverse.1.0 d_small ∙ inverse.1.1) ∙ product-one r r_small
+moved row x v goal hr hx hv long small nonzero =
+    let d : ℕ = dot row v in
+    let d_small : d < 65536 = dot-lt row v hr hv in
+    let q : ℕ = dot row x in
+    let q_small : q < 65536 = dot-lt row x hr hx in
+    let inverse : (b : ℕ) × ((b < 65536) × (mul d b ≡ 1)) =
+    (has_inverse d (elim (cases_eq d 0) as (λ _. 0 < d) [ inl none ↦ absurd (nonzero none) | inr some ↦ omega (arith, some) ]) d_small) in
+    let r : ℕ = bit_xor goal q in
+    let r_small : r < 65536 = xor_lt 16 goal q small q_small in
+    let c : ℕ = mul r inverse.0 in
+    let c_small : c < 2 ^ 16 = product-lt r inverse.0 r_small inverse.1.0 in
+    let comes_back : mul c d ≡ r =
+    product_assoc r inverse.0 d r_small inverse.1.0 d_small ∙ ap (mul r) (product_comm inverse.0 d inverse.1.0 d_small ∙ inverse.1.1) ∙ product-one r r_small in
+    record {
+      vector = sums (scaled c v) x;
+      factor = c;
+      small = c_small;
+      is = refl;
+      hits =
+          dot-sums row (scaled c v) x (length-map v (mul c) ∙ long) ∙ ap (λ t. bit_xor t q) (dot-scaled c row v c_small hr hv ∙ comes_back)
+          ∙ xor_assoc goal q q ∙ ap (bit_xor goal) (xor_self q) ∙ xor_zero_r goal;
+    }
 
 -- the kept exponents below m give their numbers for the vector
 pub record IsSolved (is es : List ℕ) (goal : ℕ → ℕ) (m : ℕ) : Type 0 where
@@ -358,21 +338,15 @@ dot-filled : (e p i j : ℕ) (text : ℕ → List ℕ) (v : List ℕ) (ks : List
 unfolding dot
 dot-filled e p i j text v [] same long = refl
 dot-filled e p i j text v (Some y ∷ ks) same long =
+    let exchange : (a b c : ℕ) → bit_xor a (bit_xor b c) ≡ bit_xor b (bit_xor a c) = λ a b c. sym (xor_assoc a b c) ∙ ap (λ t. bit_xor t c) (xor_comm a b) ∙ xor_assoc b a c in
     ap (bit_xor (mul (coefficient e i) (word p y))) (dot-filled e p (i + 1) j text v ks same long)
     ∙ exchange (mul (coefficient e i) (word p y)) (dot (coefficients (lost_from (i + 1) ks) e) (drop j v)) (of_known e (i + 1) ks p)
-  where
-    exchange : (a b c : ℕ) → bit_xor a (bit_xor b c) ≡ bit_xor b (bit_xor a c)
-    exchange a b c = sym (xor_assoc a b c) ∙ ap (λ t. bit_xor t c) (xor_comm a b) ∙ xor_assoc b a c
 dot-filled e p i j text v (None ∷ ks) same long =
+    let one_more : suc j ≡ j + 1 = omega arith in
+    let next : drop j v ≡ slice_index v j ∷ drop (j + 1) v = drop-cons v j 0 (omega (arith, long)) ∙ ap (λ n. slice_index v j ∷ drop n v) one_more in
     ap₂ bit_xor (ap (mul (coefficient e i)) (same j)) (dot-filled e p (i + 1) (j + 1) text v ks same (omega (arith, long)))
     ∙ sym (xor_assoc (mul (coefficient e i) (slice_index v j)) (dot (coefficients (lost_from (i + 1) ks) e) (drop (j + 1) v)) (of_known e (i + 1) ks p))
     ∙ ap (λ w. bit_xor (dot (coefficients (lost_from i (None ∷ ks)) e) w) (of_known e (i + 1) ks p)) (sym next)
-  where
-    one_more : suc j ≡ j + 1
-    one_more = omega arith
-
-    next : drop j v ≡ slice_index v j ∷ drop (j + 1) v
-    next = drop-cons v j 0 (omega (arith, long)) ∙ ap (λ n. slice_index v j ∷ drop n v) one_more
 
 -- ---- slices that agree
 
@@ -396,75 +370,44 @@ contained (x ∷ xs) q h = elim (or_cases (x == q) (list_any (λ y. y == q) xs) 
 
 -- a recovery slice is spelled by its words
 as_spelled : (s : ℕ) (texts : List (List ℕ)) (e : ℕ) → recovery s texts e ≡ spelled (λ p. dot (whole_row (length texts) e) (map (word p) texts)) 0 (s / 2)
-unfolding recovery combination
-as_spelled s texts e = refl
+as_spelled s texts e = unfold recovery combination in refl
 
 pub agreeing_exist : SomeSlicesAgree
-agreeing_exist s m known rs text survive = (
-  slices,
-  record {
-    sizes = sizes;
-    bytes = bytes;
-    as_known = known-filled made 0 known;
-    as_recovered = all-passing _ (λ r. recovery s slices r.0 ≡ r.1) _ (λ r h is_kept. recovers r h.0 h.1 h.2 (contained (kept (lost known) es) r.0 is_kept)) rs survive.each;
-  },
-)
-  where
-    es : List ℕ
-    es = map (λ r. r.0) rs
-
-    goal : ℕ → ℕ → ℕ
-    goal p e = bit_xor (word p (text e)) (of_known e 0 known p)
-
-    small : (p e : ℕ) → goal p e < 2 ^ 16
-    small p e = xor_lt 16 _ _ (word-lt (text e) p (byte_at (text e) (survive.bytes e))) (of_known-lt e 0 known p survive.known_bytes)
-
-    at : (p : ℕ) → IsSolved (lost known) es (goal p) m
-    at p = solved (lost known) es (goal p) (small p) m
-
-    element : (j p : ℕ) → slice_index (at p).vector j < 2 ^ 16
-    element j p = element_at (at p).vector j (at p).is_vector.1
-
-    made : ℕ → List ℕ
-    made j = spelled (λ p. slice_index (at p).vector j) 0 (s / 2)
-
-    slices : List (List ℕ)
-    slices = filled made 0 known
-
-    whole : 2 * (s / 2) ≡ s
-    whole = let even = survive.even in omega (arith, even)
-
-    sizes : AllByRecursion (λ y. length y ≡ s) slices
-    sizes = all-filled (λ y. length y ≡ s) made (λ j. length-spelled (λ p. slice_index (at p).vector j) 0 (s / 2) ∙ whole) 0 known survive.known_sizes
-
-    bytes : AreTexts slices
-    bytes = all-filled AreBytes made (λ j. bytes-spelled (λ p. slice_index (at p).vector j) 0 (s / 2)) 0 known survive.known_bytes
-
-    recovers : (r : ℕ × List ℕ) → r.0 < m → length r.1 ≡ s → text r.0 ≡ r.1 → Contains (kept (lost known) es) r.0 → recovery s slices r.0 ≡ r.1
-    recovers r low size is_text is_kept =
-        same_words s (recovery s slices r.0) r.1 survive.even (is_spelled ∙ length-spelled dots 0 (s / 2) ∙ whole) size (subst AreBytes (sym spelling) (bytes-spelled dots 0 (s / 2)))
-        (subst AreBytes is_text (survive.bytes r.0))
-        (λ p lt. ap (word p) spelling ∙ word_of dots dots_small (s / 2) p lt ∙ of_word p lt)
-      where
-        dots : ℕ → ℕ
-        dots p = dot (whole_row (length slices) r.0) (map (word p) slices)
-
-        dots_small : (p : ℕ) → dots p < 2 ^ 16
-        dots_small p = dot-lt (whole_row (length slices) r.0) (map (word p) slices) (coefficients_are r.0 (range_with_len 0 (length slices))) (words_are p slices bytes)
-
-        spelling : recovery s slices r.0 ≡ spelled dots 0 (s / 2)
-        spelling = as_spelled s slices r.0
-
-        is_spelled : length (recovery s slices r.0) ≡ length (spelled dots 0 (s / 2))
-        is_spelled = ap length spelling
-
-        of_word : (p : ℕ) → p < s / 2 → dots p ≡ word p r.1
-        of_word p lt =
-            ap (λ n. dot (whole_row n r.0) (map (word p) slices)) (length-filled made 0 known)
-            ∙ dot-filled r.0 p 0 0 made (at p).vector known (λ j. word_of (λ q. slice_index (at q).vector j) (element j) (s / 2) p lt) (let e = (at p).is_vector.0 in omega (arith, e))
-            ∙ ap (λ t. bit_xor t (of_known r.0 0 known p)) ((at p).gives r.0 low is_kept)
-            ∙ xor_assoc (word p (text r.0)) (of_known r.0 0 known p) (of_known r.0 0 known p)
-            ∙ ap (bit_xor (word p (text r.0))) (xor_self (of_known r.0 0 known p)) ∙ xor_zero_r (word p (text r.0)) ∙ ap (word p) is_text
+agreeing_exist s m known rs text survive =
+    let es : List ℕ = map (λ r. r.0) rs in
+    let goal : ℕ → ℕ → ℕ = λ p e. bit_xor (word p (text e)) (of_known e 0 known p) in
+    let small : (p e : ℕ) → goal p e < 2 ^ 16 = λ p e. xor_lt 16 _ _ (word-lt (text e) p (byte_at (text e) (survive.bytes e))) (of_known-lt e 0 known p survive.known_bytes) in
+    let at : (p : ℕ) → IsSolved (lost known) es (goal p) m = λ p. solved (lost known) es (goal p) (small p) m in
+    let element : (j p : ℕ) → slice_index (at p).vector j < 2 ^ 16 = λ j p. element_at (at p).vector j (at p).is_vector.1 in
+    let made : ℕ → List ℕ = λ j. spelled (λ p. slice_index (at p).vector j) 0 (s / 2) in
+    let slices : List (List ℕ) = filled made 0 known in
+    let whole : 2 * (s / 2) ≡ s = (let even = survive.even in omega (arith, even)) in
+    let sizes : AllByRecursion (λ y. length y ≡ s) slices =
+    all-filled (λ y. length y ≡ s) made (λ j. length-spelled (λ p. slice_index (at p).vector j) 0 (s / 2) ∙ whole) 0 known survive.known_sizes in
+    let bytes : AreTexts slices = all-filled AreBytes made (λ j. bytes-spelled (λ p. slice_index (at p).vector j) 0 (s / 2)) 0 known survive.known_bytes in
+    let recovers : (r : ℕ × List ℕ) → r.0 < m → length r.1 ≡ s → text r.0 ≡ r.1 → Contains (kept (lost known) es) r.0 → recovery s slices r.0 ≡ r.1 = (λ r low size is_text is_kept.
+    let dots : ℕ → ℕ = λ p. dot (whole_row (length slices) r.0) (map (word p) slices) in
+    let dots_small : (p : ℕ) → dots p < 2 ^ 16 =
+    λ p. dot-lt (whole_row (length slices) r.0) (map (word p) slices) (coefficients_are r.0 (range_with_len 0 (length slices))) (words_are p slices bytes) in
+    let spelling : recovery s slices r.0 ≡ spelled dots 0 (s / 2) = as_spelled s slices r.0 in
+    let is_spelled : length (recovery s slices r.0) ≡ length (spelled dots 0 (s / 2)) = ap length spelling in
+    let of_word : (p : ℕ) → p < s / 2 → dots p ≡ word p r.1 = (λ p lt.
+    ap (λ n. dot (whole_row n r.0) (map (word p) slices)) (length-filled made 0 known)
+    ∙ dot-filled r.0 p 0 0 made (at p).vector known (λ j. word_of (λ q. slice_index (at q).vector j) (element j) (s / 2) p lt) (let e = (at p).is_vector.0 in omega (arith, e))
+    ∙ ap (λ t. bit_xor t (of_known r.0 0 known p)) ((at p).gives r.0 low is_kept)
+    ∙ xor_assoc (word p (text r.0)) (of_known r.0 0 known p) (of_known r.0 0 known p)
+    ∙ ap (bit_xor (word p (text r.0))) (xor_self (of_known r.0 0 known p)) ∙ xor_zero_r (word p (text r.0)) ∙ ap (word p) is_text) in
+    same_words s (recovery s slices r.0) r.1 survive.even (is_spelled ∙ length-spelled dots 0 (s / 2) ∙ whole) size (subst AreBytes (sym spelling) (bytes-spelled dots 0 (s / 2)))
+    (subst AreBytes is_text (survive.bytes r.0))
+    (λ p lt. ap (word p) spelling ∙ word_of dots dots_small (s / 2) p lt ∙ of_word p lt)) in (
+      slices,
+      record {
+        sizes = sizes;
+        bytes = bytes;
+        as_known = known-filled made 0 known;
+        as_recovered = all-passing _ (λ r. recovery s slices r.0 ≡ r.1) _ (λ r h is_kept. recovers r h.0 h.1 h.2 (contained (kept (lost known) es) r.0 is_kept)) rs survive.each;
+      },
+    )
 
 -- what all exponents kill, the kept ones kill
 kills_kept : (P : ℕ → Type 0) (p : ℕ × List ℕ → Bool) (rs : List (ℕ × List ℕ)) → AllByRecursion P (map (λ r. r.0) rs) → AllByRecursion P (map (λ r. r.0) (filter p rs))

@@ -1,6 +1,5 @@
 -- The powers of the constants rise, so the constants are distinct.
-use Rattle.par2_spec.proofs.Common.{eqb, ℕ, zero, suc, ◌<◌, ◌≡◌, refl, Bool, true, ltb, ◌&&◌, arith, List, [], ◌∷◌, length, get_or, eqb-true, ltb-true, and_parts}
-use Rattle.par2_spec.specs.Field.{constant_powers, constant}
+use Rattle.par2_spec.proofs.Common.{eqb, ℕ, zero, suc, ◌<◌, ◌≡◌, refl, Bool, true, ltb, ◌&&◌, arith, List, [], ◌∷◌, length, get_or, eqb-true, ltb-true, and_parts, constant_powers, constant}
 use Rattle.par2_spec.proofs.FieldOrder.{power-injective, power-nonzero, power-lt}
 
 -- whether the numbers rise, from above the first number to below the second
@@ -39,8 +38,7 @@ abbrev fit : List ℕ → Bool
 fit powers = rises 0 65535 powers && eqb (length powers) 32768
 
 test_fit : fit constant_powers ≡ true
-unfolding rises constant_powers
-test_fit = refl
+test_fit = unfold rises constant_powers in refl
 
 both_fit : (rises 0 65535 constant_powers ≡ true) × (eqb (length constant_powers) 32768 ≡ true)
 both_fit = and_parts (rises 0 65535 constant_powers) (eqb (length constant_powers) 32768) test_fit
@@ -52,16 +50,13 @@ constant_power-lt : (k : ℕ) → k < 32768 → get_or constant_powers k 0 < 655
 constant_power-lt k h = (rises_at 0 65535 constant_powers both_fit.0 k (omega (arith, length-constant_powers))).1
 
 pub constant-lt : (k : ℕ) → constant k < 65536
-unfolding constant
-constant-lt k = power-lt 2 (get_or constant_powers k 0) (omega arith)
+constant-lt k = unfold constant in power-lt 2 (get_or constant_powers k 0) (omega arith)
 
 pub constant-nonzero : (k : ℕ) → k < 32768 → constant k ≡ 0 → ⊥
-unfolding constant
-constant-nonzero k h = power-nonzero (get_or constant_powers k 0) (constant_power-lt k h)
+constant-nonzero k h = unfold constant in power-nonzero (get_or constant_powers k 0) (constant_power-lt k h)
 
 pub constant-injective : (i j : ℕ) → i < j → j < 32768 → constant i ≡ constant j → ⊥
-unfolding constant
-constant-injective i j h k =
+constant-injective i j h k = unfold constant in
     power-injective (get_or constant_powers i 0) (get_or constant_powers j 0)
     (rises_between 0 65535 constant_powers both_fit.0 i j h (omega (arith, length-constant_powers)))
     (constant_power-lt j k)

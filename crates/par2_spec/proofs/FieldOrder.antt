@@ -1,8 +1,6 @@
 -- 2 has the order 65535, and each element but 0 is a power of 2 and has one inverse.
-use Rattle.par2_spec.proofs.Common.{ℕ, zero, suc, ◌<◌, ◌≤◌, ◌≡◌, ◌⊎◌, inl, inr, refl, sym, ap, ◌∙◌, true, false, eqb, arith, List, [], ◌∷◌, length, ◌+◌, ◌-◌, ◌*◌, ◌^◌, ap₂, Bool, ◌&&◌, not, suc-add, zero-add, eqb-true, ne_eqb, or_cases, cases_eq, false≢true, eqb-false, not-true, and_parts, list_any, AllByRecursion, bit_at, modulus, bit_xor}
+use Rattle.par2_spec.proofs.Common.{ℕ, zero, suc, ◌<◌, ◌≤◌, ◌≡◌, ◌⊎◌, inl, inr, refl, sym, ap, ◌∙◌, true, false, eqb, arith, List, [], ◌∷◌, length, ◌+◌, ◌-◌, ◌*◌, ◌^◌, ap₂, Bool, ◌&&◌, not, suc-add, zero-add, eqb-true, ne_eqb, or_cases, cases_eq, false≢true, eqb-false, not-true, and_parts, list_any, AllByRecursion, IsDistinct, bit_at, modulus, mul, pow, bit_xor}
 use Rattle.std.proofs.lemmas.Map.Steps.{length-le_from_distinct_below}
-use Rattle.std.specs.List.{IsDistinct}
-use Rattle.par2_spec.specs.Field.{mul, pow}
 use Rattle.par2_spec.proofs.FieldBits.{IsLinear, xor_middle, xor_shl, bit_xor_times, linear_same_tested, linear-zero, tested}
 use Rattle.par2_spec.proofs.FieldProducts.{product-lt, product_comm, product-one, product_assoc, product_linear_left, product_linear_right}
 use Rattle.par2_spec.proofs.TestLaws.{by_either}
@@ -47,8 +45,7 @@ search_values f a (suc n) = elim (cases_eq a (f n)) [
 
 pub onto_from_injective : (f : ℕ → ℕ) (n : ℕ) → ((i : ℕ) → i < n → f i < n) → ((i j : ℕ) → i < j → j < n → f i ≡ f j → ⊥)
     → (a : ℕ) → a < n → (i : ℕ) × ((i < n) × (f i ≡ a))
-unfolding IsDistinct
-onto_from_injective f n fits apart a h = elim (search_values f a n) [
+onto_from_injective f n fits apart a h = unfold IsDistinct in elim (search_values f a n) [
   | inl found ↦ found
   | inr none ↦
       let long : length (a ∷ values f n) ≤ n =
@@ -64,12 +61,10 @@ unfoldable pub double : ℕ → ℕ
 double x = bit_xor (x * 2) (bit_at x 15 * modulus)
 
 double_linear : IsLinear double
-unfolding double
-double_linear = record { on_xor = λ x y. ap₂ bit_xor (xor_shl 1 x y) (bit_xor_times x y 15 modulus) ∙ xor_middle (x * 2) (y * 2) _ _ }
+double_linear = unfold double in record { on_xor = λ x y. ap₂ bit_xor (xor_shl 1 x y) (bit_xor_times x y 15 modulus) ∙ xor_middle (x * 2) (y * 2) _ _ }
 
 test_double : tested (λ i. eqb (double (2 ^ i)) (mul 2 (2 ^ i))) 16 ≡ true
-unfolding double mul
-test_double = refl
+test_double = unfold double mul in refl
 
 pub double_product : (x : ℕ) → x < 65536 → double x ≡ mul 2 x
 double_product x h = linear_same_tested double (λ y. mul 2 y) double_linear (product_linear_right 2) 16 test_double x h
@@ -123,12 +118,10 @@ leaves_one_at (suc n) x so_far e =
 
 -- the two computations: 65535 doublings lead from 1 to 1, and no fewer do
 test_around : walk 65535 1 ≡ 1
-unfolding walk double
-test_around = refl
+test_around = unfold walk double in refl
 
 test_no_sooner : leaves_one 65534 1 true ≡ true
-unfolding leaves_one double
-test_no_sooner = refl
+test_no_sooner = unfold leaves_one double in refl
 
 pub power-65535 : pow 2 65535 ≡ 1
 power-65535 = sym (walk_one 65535) ∙ test_around

@@ -1,6 +1,5 @@
 -- The laws of the product.
-use Rattle.par2_spec.proofs.Common.{ℕ, zero, suc, ◌+◌, ◌*◌, ◌^◌, ◌<◌, ◌≡◌, refl, sym, ap, ap₂, ◌∙◌, subst, true, eqb, ltb, arith, xor_lt, ltb-true, bit_at, modulus, bit_xor}
-use Rattle.par2_spec.specs.Field.{product, remainder, mul}
+use Rattle.par2_spec.proofs.Common.{ℕ, zero, suc, ◌+◌, ◌*◌, ◌^◌, ◌<◌, ◌≡◌, refl, sym, ap, ap₂, ◌∙◌, subst, true, eqb, ltb, arith, xor_lt, ltb-true, bit_at, modulus, product, remainder, mul, bit_xor}
 use Rattle.par2_spec.proofs.FieldBits.{IsLinear, xor_middle, xor_shl, bit_times_xor, bit_xor_times, bits_ind, linear_same, linear_same_tested, linear-zero, tested, tested_at}
 
 product-right : (n a x y : ℕ) → product a (bit_xor x y) n ≡ bit_xor (product a x n) (product a y n)
@@ -25,29 +24,23 @@ remainder-xor (suc n) x y =
     ∙ remainder-xor n _ _
 
 pub product_linear_right : (a : ℕ) → IsLinear (λ b. mul a b)
-unfolding mul
-product_linear_right a = record { on_xor = λ x y. ap (λ v. remainder v 15) (product-right 16 a x y) ∙ remainder-xor 15 (product a x 16) (product a y 16) }
+product_linear_right a = unfold mul in record { on_xor = λ x y. ap (λ v. remainder v 15) (product-right 16 a x y) ∙ remainder-xor 15 (product a x 16) (product a y 16) }
 
 pub product_linear_left : (b : ℕ) → IsLinear (λ a. mul a b)
-unfolding mul
-product_linear_left b = record { on_xor = λ x y. ap (λ v. remainder v 15) (product-left 16 b x y) ∙ remainder-xor 15 (product x b 16) (product y b 16) }
+product_linear_left b = unfold mul in record { on_xor = λ x y. ap (λ v. remainder v 15) (product-left 16 b x y) ∙ remainder-xor 15 (product x b 16) (product y b 16) }
 
 -- each of these is a computation over the powers of 2 alone
 test_comm : tested (λ i. tested (λ j. eqb (mul (2 ^ i) (2 ^ j)) (mul (2 ^ j) (2 ^ i))) 16) 16 ≡ true
-unfolding mul
-test_comm = refl
+test_comm = unfold mul in refl
 
 test_one : tested (λ i. eqb (mul (2 ^ i) 1) (2 ^ i)) 16 ≡ true
-unfolding mul
-test_one = refl
+test_one = unfold mul in refl
 
 test_lt : tested (λ i. tested (λ j. ltb (mul (2 ^ i) (2 ^ j)) 65536) 16) 16 ≡ true
-unfolding mul
-test_lt = refl
+test_lt = unfold mul in refl
 
 test_assoc : tested (λ i. tested (λ j. tested (λ k. eqb (mul (mul (2 ^ i) (2 ^ j)) (2 ^ k)) (mul (2 ^ i) (mul (2 ^ j) (2 ^ k)))) 16) 16) 16 ≡ true
-unfolding mul
-test_assoc = refl
+test_assoc = unfold mul in refl
 
 pub product-lt : (a b : ℕ) → a < 65536 → b < 65536 → mul a b < 65536
 product-lt a b ha hb =

@@ -1,17 +1,14 @@
 -- A doubling as a shift of sixteen bits, and powers of powers.
-use Rattle.par2_spec.proofs.Common.{ℕ, zero, suc, ◌+◌, ◌*◌, ◌%◌, ◌^◌, ◌<◌, ◌≤◌, ◌≡◌, refl, sym, ap, ◌∙◌, arith, zero-mul, mul_comm, zero-add, xor_block, bit_at, xor_zero_r, modulus, mul, bit_xor}
-use Rattle.par2_spec.specs.Field.{pow}
+use Rattle.par2_spec.proofs.Common.{ℕ, zero, suc, ◌+◌, ◌*◌, ◌%◌, ◌^◌, ◌<◌, ◌≤◌, ◌≡◌, refl, sym, ap, ◌∙◌, arith, zero-mul, mul_comm, zero-add, xor_block, bit_at, xor_zero_r, modulus, mul, pow, bit_xor}
 use Rattle.par2_spec.proofs.FieldProducts.{product-one}
 use Rattle.par2_spec.proofs.FieldOrder.{double, power-add, power-65535, logarithm}
 
 -- doubling as the code does it
 pub double_low : (x : ℕ) → x < 32768 → double x ≡ x * 2
-unfolding double
-double_low x h = grind (arith, xor_zero_r)
+double_low x h = unfold double in grind (arith, xor_zero_r)
 
 pub double_high : (x : ℕ) → 32768 ≤ x → x < 65536 → double x ≡ bit_xor (x * 2 % 65536) 4107
-unfolding double
-double_high x h k =
+double_high x h k = unfold double in
     let b : bit_at x 15 ≡ 1 = omega arith in
     let e : x * 2 ≡ 1 * 2 ^ 16 + x * 2 % 65536 = omega arith in
     ap (λ v. bit_xor (x * 2) (v * modulus)) b
@@ -31,8 +28,7 @@ one-power zero = refl
 one-power (suc n) = ap (mul 1) (one-power n) ∙ product-one 1 (omega arith)
 
 pub power_inverse : (a : ℕ) → 0 < a → a < 65536 → mul a (pow a 65534) ≡ 1
-unfolding pow
-power_inverse a z h =
+power_inverse a z h = unfold pow in
     let log = logarithm a z h in
     let whole : pow a 65535 ≡ 1 =
     ap (λ v. pow v 65535) (sym log.1.1) ∙ power-mul 2 log.0 65535 (omega arith)

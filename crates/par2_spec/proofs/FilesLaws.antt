@@ -1,9 +1,6 @@
 -- A repair leaves each of the files that a set was made from.
-use Rattle.par2_spec.proofs.Common.{◌≡◌, ℕ, zero, suc, ◌+◌, ◌*◌, ◌%◌, ◌<◌, ◌≤◌, List, [], ◌∷◌, ◌++◌, length, map, refl, sym, ap, ◌∙◌, subst, cond, true, false, Bool, not, arith, filter, find, zip, Option, Some, None, option_to_list, range_with_len, list_all, AllByRecursion, ForSome, bytes_eq, and_parts, and_from, or_from, or_cases, or_left, or_right, eqb-true, false_from_ne_true, false≢true, not-false, cases_eq, not-true, not-not, md5, pair_of, slice_at, slices, window, windows, is_match, IsRepairable, is_among, Folder, File, has, bytes_of, names, all_slices, ParSet, Target, target_of_file, MadeFrom, is_slice_size, is_intact, is_needing, needing, intact_names, known, lost, survivors, NoCollision, aside, put_aside, names_without_match, files_of_slices, after_repair, after_repair_and_purge, par_files, files_of}
+use Rattle.par2_spec.proofs.Common.{◌≡◌, ℕ, zero, suc, ◌+◌, ◌*◌, ◌%◌, ◌<◌, ◌≤◌, List, [], ◌∷◌, ◌++◌, length, map, refl, sym, ap, ◌∙◌, subst, cond, true, false, Bool, not, arith, filter, find, zip, Option, Some, None, option_to_list, range_with_len, list_all, AllByRecursion, ForSome, bytes_eq, and_parts, and_from, or_from, or_cases, or_left, or_right, eqb-true, false_from_ne_true, false≢true, not-false, cases_eq, not-true, not-not, md5, pair_of, slice_at, slices, window, windows, is_match, IsRepairable, is_among, Folder, File, has, bytes_of, names, all_slices, record_of, ParSet, Target, target_of_file, MadeFrom, is_slice_size, is_intact, is_needing, needing, intact_names, known, lost, survivors, NoCollision, matches, aside, put_aside, names_without_match, files_of_slices, after_repair, after_repair_and_purge, par_files, rebuilt_targets, files_of}
 use Rattle.std.specs.FinMap as map_of
-use Rattle.par2_spec.specs.Volumes.{record_of}
-use Rattle.par2_spec.specs.Search.{matches}
-use Rattle.par2_spec.specs.Repairs.{rebuilt_targets}
 use Rattle.par2_spec.proofs.NamesLaws.{same_name, itself, clash, among-filter, among-append, apart_by_test}
 use Rattle.par2_spec.proofs.FoundLaws.{slice_begins, all-filter, all_by_test}
 use Rattle.par2_spec.proofs.RankLaws.{all_weaker}
@@ -46,8 +43,7 @@ abbrev IsExact : Folder → ℕ → List (List ℕ) → File → Type 0
 IsExact folder s searched file = (name : List ℕ) → is_among searched name ≡ true → is_intact s (target_of_file s file) (bytes_of folder name) ≡ true → bytes_of folder name ≡ file.1
 
 exact_file : (folder : Folder) (s : ℕ) (searched : List (List ℕ)) (file : File) → 0 < s → AllByRecursion (IsTold folder searched s) (slices s file.1) → IsExact folder s searched file
-unfolding record_of
-exact_file folder s searched file positive told name i h = grind (arith, and_parts, eqb-true, all_weaker, at_name, same_slices, matched_slices, slice_begins)
+exact_file folder s searched file positive told name i h = unfold record_of in grind (arith, and_parts, eqb-true, all_weaker, at_name, same_slices, matched_slices, slice_begins)
 
 exact_files : (folder : Folder) (s : ℕ) (searched : List (List ℕ)) (files : List File) → 0 < s → NoCollision folder searched s (all_slices s files) → AllByRecursion (IsExact folder s searched) files
 exact_files folder s searched [] positive told = tt
@@ -155,8 +151,7 @@ module _ (folder : Folder) (base : List ℕ) (files : List File) (s : ℕ) (sear
   -- each file stands there
   pub repaired_files : ((q : List ℕ) → is_among (map (λ t. t.name) m.set.targets) q ≡ true → has folder q ≡ true → is_among searched q ≡ true) → 0 < s → s % 2 ≡ 0 → NoCollision folder searched s (all_slices s files)
       → AllByRecursion (λ file. AllByRecursion (λ b. b < 256) file.1) files → IsRepairable (lost (known folder m.set searched)) (survivors m.set) → AllByRecursion (Holds (after_repair folder m.set searched)) files
-  unfolding matches rebuilt_targets
-  repaired_files present positive even told bytes repairable =
+  repaired_files present positive even told bytes repairable = unfold matches rebuilt_targets in
       let exact = exact_files folder s searched files positive told in
       let test = is_among (names_without_match (matches folder m.set searched)) in
       let wanted = filter IsWanted files in

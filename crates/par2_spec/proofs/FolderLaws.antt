@@ -1,9 +1,8 @@
 -- A change and its inverse; changes in order and their way back; the same for a folder as it is kept.
-use Rattle.par2_spec.proofs.Common.{◌≡◌, ℕ, ◌+◌, ◌-◌, ◌<◌, ◌≤◌, List, [], ◌∷◌, ◌++◌, refl, sym, ap, subst, ◌∙◌, cond, true, false, Bool, not, ◌&&◌, IsTrue, append_assoc, append-nil, arith, unwrap_or, Some, None, Option, is_some, is_none, same_map, slice_cmp-IsAntisymmetric, nat_cmp-IsAntisymmetric, get-insert, get-remove, get_tied, nat_cmp, eq_by_cmp, is_eq, Ordering, Equal, eq_by_cmp_equiv, slice_cmp, nat_list_cmp_total, nat_tests, and_parts, and_from, Folder, has, bytes_of, Change, Write, Replace, Rename, Remove, FolderState, fault_unless, vacant_after, state_after, places_taken}
+use Rattle.par2_spec.proofs.Common.{◌≡◌, ℕ, ◌+◌, ◌-◌, ◌<◌, ◌≤◌, List, [], ◌∷◌, ◌++◌, refl, sym, ap, subst, ◌∙◌, cond, true, false, Bool, not, ◌&&◌, IsTrue, append_assoc, append-nil, arith, unwrap_or, Some, None, Option, is_some, is_none, same_map, slice_cmp-IsAntisymmetric, nat_cmp-IsAntisymmetric, get-insert, get-remove, get_tied, nat_cmp, eq_by_cmp, is_eq, Ordering, Equal, eq_by_cmp_equiv, slice_cmp, nat_list_cmp_total, nat_tests, and_parts, and_from, Folder, has, bytes_of, Change, Write, Replace, Rename, Remove, FolderState, fault_unless, vacant_after, state_after, places_taken, effect, inverse, is_applicable, effects, way_back, are_applicable, change_refusal, takes_all, state_after_all}
 use Rattle.std.proofs.Common.{nat_lt}
 use Rattle.std.specs.FinMap as map_of
 use Rattle.par2_spec.specs.declared.ChangeFault.TheVariants.{NameTaken, NoRoom, NoSuchName}
-use Rattle.par2_spec.specs.Changes.{effect, inverse, is_applicable, effects, way_back, are_applicable, change_refusal, takes_all, state_after_all}
 use Rattle.par2_spec.specs.declared.ChangeFault.{ChangeFault}
 use Rattle.par2_spec.proofs.TestLaws.{none_from}
 
@@ -68,8 +67,7 @@ undo_Replace : (f : Folder) (n b : List ℕ) → IsTrue (has f n) → map_of.ins
 undo_Replace f n b h = same_folder _ _ (λ q. written _ n _ q ∙ ap (cond (same q n) (Some (bytes_of f n))) (written f n b q) ∙ back (same q n) (Some b) _ _ (λ t. tied f q n t ∙ present _ h))
 
 undo_Rename : (f : Folder) (a b : List ℕ) → IsTrue (has f a) → IsTrue (not (has f b)) → effect (effect f (Rename a b)) (Rename b a) ≡ f
-unfolding effect
-undo_Rename f a b h k = same_folder _ _ (λ q.
+undo_Rename f a b h k = unfold effect in same_folder _ _ (λ q.
     written _ a _ q ∙ ap (cond (same q a) (Some _)) (gone _ b q ∙ ap (cond (same q b) None) (written _ b _ q ∙ ap (cond (same q b) (Some _)) (gone f a q)))
     ∙ moved (same q a) (same q b) _ _ _ (landed _ b _) (λ t. tied f q a t ∙ present _ h) (λ t. tied f q b t ∙ absent _ k))
 
@@ -191,8 +189,7 @@ alike_all f g [] h = refl
 alike_all f g (c ∷ cs) h = λ i. alike_applicable f g c h i && alike_all (effect f c) (effect g c) cs (alike_after f g c h) i
 
 pub applicable_by_names : (f g : Folder) (cs : List Change) → ((q : List ℕ) → has f q ≡ has g q) → are_applicable f cs ≡ are_applicable g cs
-unfolding AreAlike
-applicable_by_names f g cs h = alike_all f g cs h
+applicable_by_names f g cs h = unfold AreAlike in alike_all f g cs h
 
 -- ---- a kept folder
 
@@ -232,20 +229,17 @@ pub state_back : (s : FolderState) (c : Change) → change_refusal s c ≡ None 
 state_back s c h = λ i. record { files = undo_change s.files c (taken_is_applicable s c h) i; vacant = vacant_back s c h i }
 
 pub takes_first : (s : FolderState) (c : Change) (cs : List Change) → IsTrue (takes_all s (c ∷ cs)) → change_refusal s c ≡ None
-unfolding takes_all
-takes_first s c cs h = none_from _ (and_parts _ _ h).0
+takes_first s c cs h = unfold takes_all in none_from _ (and_parts _ _ h).0
 
 pub takes_rest : (s : FolderState) (c : Change) (cs : List Change) → IsTrue (takes_all s (c ∷ cs)) → IsTrue (takes_all (state_after s c) cs)
 unfolding takes_all
 takes_rest s c cs h = (and_parts _ _ h).1
 
 pub takes_both : (s : FolderState) (c : Change) (cs : List Change) → change_refusal s c ≡ None → IsTrue (takes_all (state_after s c) cs) → IsTrue (takes_all s (c ∷ cs))
-unfolding takes_all
-takes_both s c cs h k = and_from _ _ (ap is_none h) k
+takes_both s c cs h k = unfold takes_all in and_from _ _ (ap is_none h) k
 
 pub takes_none : (s : FolderState) → IsTrue (takes_all s [])
-unfolding takes_all
-takes_none s = refl
+takes_none s = unfold takes_all in refl
 
 pub takes_all-append : (s : FolderState) (cs ds : List Change) → IsTrue (takes_all s cs) → IsTrue (takes_all (state_after_all s cs) ds) → IsTrue (takes_all s (cs ++ ds))
 unfolding state_after_all

@@ -1,6 +1,5 @@
 -- The slices of intact and of matched targets are found.
-use Rattle.par2_spec.proofs.Common.{◌≡◌, ℕ, zero, suc, ◌+◌, ◌*◌, ◌<◌, ◌≤◌, List, [], ◌∷◌, ◌++◌, length, map, refl, sym, ap, ◌∙◌, subst, cond, true, false, Bool, not, ◌&&◌, arith, filter, flat_map, find, zip, Option, Some, None, is_some, is_none, option_to_list, ◌==◌, div_ceil, list_any, list_all, range_with_len, enumerate_from, AllByRecursion, bytes_eq, map-append, and_parts, or_cases, or_left, or_right, eqb-true, false≢true, not-false, div_ceil_times, mul-le-mul_right, add-mul, Pair, window, windows, is_match, found, slice_count, is_among, Folder, bytes_of, has, ParSet, Target, is_intact, is_needing, needing, intact_names, lost, names_without_match, slices_by_target, lost_of_unmatched, IsFound}
-use Rattle.par2_spec.specs.Search.{matches, known}
+use Rattle.par2_spec.proofs.Common.{◌≡◌, ℕ, zero, suc, ◌+◌, ◌*◌, ◌<◌, ◌≤◌, List, [], ◌∷◌, ◌++◌, length, map, refl, sym, ap, ◌∙◌, subst, cond, true, false, Bool, not, ◌&&◌, arith, filter, flat_map, find, zip, Option, Some, None, is_some, is_none, option_to_list, ◌==◌, div_ceil, list_any, list_all, range_with_len, enumerate_from, AllByRecursion, bytes_eq, map-append, and_parts, or_cases, or_left, or_right, eqb-true, false≢true, not-false, div_ceil_times, mul-le-mul_right, add-mul, Pair, window, windows, is_match, found, slice_count, is_among, Folder, bytes_of, has, ParSet, Target, is_intact, is_needing, needing, intact_names, lost, matches, known, names_without_match, slices_by_target, lost_of_unmatched, IsFound}
 use Rattle.par2_spec.proofs.NamesLaws.{same_name, itself, clash, among-filter}
 use Rattle.par2_spec.proofs.ListsLaws.{any-map, any-flat_map, in_range_some, map-cond, all-passing}
 use Rattle.par2_spec.proofs.SearchLaws.{found_passes, pairs_with}
@@ -161,8 +160,7 @@ lost_alike n ((b, o) ∷ zs) h = grind (arith, map-cond, false≢true, lost_alik
 pub lost_is : (folder : Folder) (set : ParSet) (names : List (List ℕ)) → 0 < set.slice_size → AreSized set.slice_size set.targets
     → ((q : List ℕ) → is_among (map (λ t. t.name) set.targets) q ≡ true → has folder q ≡ true → is_among names q ≡ true)
     → lost (known folder set names) ≡ lost_of_unmatched folder set names
-unfolding known
-lost_is folder set names positive sized searched =
+lost_is folder set names positive sized searched = unfold known in
     let f = found set.slice_size (map (bytes_of folder) names) in
     let is_lost = is_among (names_without_match (matches folder set names)) in
     ap (λ found. map (λ z. z.0) (filter (λ z. is_none z.1) (enumerate_from 0 found))) (sym (found_by_target is_lost f set.targets))

@@ -1,8 +1,6 @@
 -- The rank is at most the number of lost slices, and that number exactly where they are determined.
-use Rattle.par2_spec.proofs.Common.{◌≡◌, ℕ, zero, suc, ◌+◌, ◌*◌, ◌/◌, ◌%◌, ◌^◌, ◌<◌, ◌≤◌, List, [], ◌∷◌, length, map, drop, pow-add, refl, sym, ap, ap₂, ◌∙◌, subst, cond, false, eqb, inl, inr, arith, ◌↔◌, replicate, slice_index, xor_self, AllByRecursion, IsStrictlyIncreasing, pow_below, Decides-eqb, cases_lt, eq-eqb, length-map, AllPairs-from_increasing, IsStrictlyIncreasing-filter, IsDistinct-from_AllPairs, coefficients, kept, rank, IsVector, Kills, IsRepairable, AreElements}
+use Rattle.par2_spec.proofs.Common.{◌≡◌, ℕ, zero, suc, ◌+◌, ◌*◌, ◌/◌, ◌%◌, ◌^◌, ◌<◌, ◌≤◌, List, [], ◌∷◌, length, map, drop, pow-add, refl, sym, ap, ap₂, ◌∙◌, subst, cond, false, eqb, inl, inr, arith, ◌↔◌, replicate, slice_index, xor_self, AllByRecursion, IsDistinct, IsStrictlyIncreasing, pow_below, Decides-eqb, cases_lt, eq-eqb, length-map, AllPairs-from_increasing, IsStrictlyIncreasing-filter, IsDistinct-from_AllPairs, coefficients, dot, kept, rank, IsVector, Kills, IsRepairable, AreElements}
 use Rattle.std.specs.Prelude.{bit_xor}
-use Rattle.std.specs.List.{IsDistinct}
-use Rattle.par2_spec.specs.Recovery.{dot}
 use Rattle.par2_spec.proofs.FieldOrder.{onto_from_injective, product-zero}
 use Rattle.par2_spec.proofs.ListsLaws.{all-each, all-both, of_contained}
 use Rattle.par2_spec.proofs.RankLaws.{all_weaker}
@@ -68,12 +66,10 @@ between : ℕ → (List ℕ → List ℕ) → ℕ → ℕ
 between n g i = number (g (vector n i))
 
 between-lt : (n m : ℕ) (g : List ℕ → List ℕ) → Leads n m g → (i : ℕ) → between n g i < 2 ^ (16 * m)
-unfolding between
-between-lt n m g leads i = number-lt m (g (vector n i)) (leads (vector n i) (vector_is n i))
+between-lt n m g leads i = unfold between in number-lt m (g (vector n i)) (leads (vector n i) (vector_is n i))
 
 between_injective : (n m : ℕ) (g : List ℕ → List ℕ) → Leads n m g → IsInjective n g → (i j : ℕ) → i < 2 ^ (16 * n) → j < 2 ^ (16 * n) → between n g i ≡ between n g j → i ≡ j
-unfolding between
-between_injective n m g leads injective i j hi hj e =
+between_injective n m g leads injective i j hi hj e = unfold between in
     let u = vector n i in
     let v = vector n j in
     let same : g u ≡ g v = sym (vector-number m (g u) (leads u (vector_is n i))) ∙ ap (vector m) e ∙ vector-number m (g v) (leads v (vector_is n j)) in
@@ -96,8 +92,7 @@ injective-le n m g leads injective = elim (cases_lt m n) [
 
 -- where there are as many, each vector is a value
 injective_onto : (n : ℕ) (g : List ℕ → List ℕ) → Leads n n g → IsInjective n g → IsOnto n n g
-unfolding between
-injective_onto n g leads injective w is =
+injective_onto n g leads injective w is = unfold between in
     let one = between_injective n n g leads injective in
     let found = onto_from_injective (between n g) (2 ^ (16 * n)) (λ i h. between-lt n n g leads i) (λ i j low h e. let same = one i j (omega (arith, low, h)) h e in omega (arith, same, low)) (number w) (number-lt n w is) in
     let v = vector n found.0 in
@@ -108,12 +103,10 @@ source : (n m : ℕ) (g : List ℕ → List ℕ) → IsOnto n m g → List ℕ �
 source n m g onto w = (onto (vector m (number w)) (vector_is m (number w))).0
 
 source_leads : (n m : ℕ) (g : List ℕ → List ℕ) (onto : IsOnto n m g) → Leads m n (source n m g onto)
-unfolding source
-source_leads n m g onto w is = (onto (vector m (number w)) (vector_is m (number w))).1
+source_leads n m g onto w is = unfold source in (onto (vector m (number w)) (vector_is m (number w))).1
 
 of_source : (n m : ℕ) (g : List ℕ → List ℕ) (onto : IsOnto n m g) (w : List ℕ) → IsVector m w → g (source n m g onto w) ≡ w
-unfolding source
-of_source n m g onto w is = (onto (vector m (number w)) (vector_is m (number w))).2 ∙ vector-number m w is
+of_source n m g onto w is = unfold source in (onto (vector m (number w)) (vector_is m (number w))).2 ∙ vector-number m w is
 
 source_injective : (n m : ℕ) (g : List ℕ → List ℕ) (onto : IsOnto n m g) → IsInjective m (source n m g onto)
 source_injective n m g onto u v hu hv e = sym (of_source n m g onto u hu) ∙ ap g e ∙ of_source n m g onto v hv

@@ -1,8 +1,7 @@
 -- Renames and writes one after the other, as one change of a map.
-use Rattle.par2_spec.proofs.Common.{◌≡◌, ℕ, ◌<◌, ◌^◌, List, [], ◌∷◌, ◌++◌, length, map, refl, sym, ap, ◌∙◌, subst, T, cond, true, false, Bool, not, ◌&&◌, ◌||◌, IsTrue, filter, Option, Some, None, is_some, unwrap_or, get-insert, get-remove, get-retain_keys, slice_cmp-IsAntisymmetric, nat_cmp-IsAntisymmetric, contains_key-keys, entries_sorted, nat_cmp, eq_by_cmp, is_lt, is_eq, Ordering, is_sorted, below_all, Less, slice_cmp, nat_list_cmp_total, bytes_eq, list_any, AllByRecursion, is_eq-slice_cmp, or_left, or_right, or_from, false_from_ne_true, and_from, not_from_false, false≢true, or_parts, is_name, is_among, Change, Write, Rename, Remove, Folder, has, bytes_of, names, File, files, without, IsFolder}
+use Rattle.par2_spec.proofs.Common.{◌≡◌, ℕ, ◌<◌, ◌^◌, List, [], ◌∷◌, ◌++◌, length, map, refl, sym, ap, ◌∙◌, subst, T, cond, true, false, Bool, not, ◌&&◌, ◌||◌, IsTrue, filter, Option, Some, None, is_some, unwrap_or, get-insert, get-remove, get-retain_keys, slice_cmp-IsAntisymmetric, nat_cmp-IsAntisymmetric, contains_key-keys, entries_sorted, nat_cmp, eq_by_cmp, is_lt, is_eq, Ordering, is_sorted, below_all, slice_cmp, nat_list_cmp_total, bytes_eq, list_any, AllByRecursion, is_eq-slice_cmp, or_left, or_right, or_from, false_from_ne_true, and_from, not_from_false, false≢true, or_parts, is_name, is_among, Change, Write, Rename, Remove, effect, effects, is_applicable, are_applicable, Folder, has, bytes_of, names, File, files, without, IsFolder, laid_over}
+use Rattle.std.specs.declared.cmp.Ordering.TheVariants.{Less}
 use Rattle.std.specs.FinMap as map_of
-use Rattle.par2_spec.specs.Changes.{effect, effects, is_applicable, are_applicable}
-use Rattle.par2_spec.specs.Folders.{laid_over}
 use Rattle.par2_spec.proofs.FolderLaws.{same_folder}
 use Rattle.par2_spec.proofs.CommandLaws.{gone_first, none_gone}
 use Rattle.par2_spec.proofs.NamesLaws.{among-append, same_name, itself, clash, other_name, AreDistinct, not_first}
@@ -22,8 +21,7 @@ get_without gone f q =
     ∙ cond-not (is_among gone q) (map_of.get f q) None
 
 pub get_renamed : (f : Folder) (a b q : List ℕ) → map_of.get (effect f (Rename a b)) q ≡ cond (bytes_eq q b) (Some (bytes_of f a)) (cond (bytes_eq q a) None (map_of.get f q))
-unfolding effect
-get_renamed f a b q = get_put (map_of.remove f a) b (bytes_of f a) q ∙ ap (cond (bytes_eq q b) (Some (bytes_of f a))) (get_gone f a q)
+get_renamed f a b q = unfold effect in get_put (map_of.remove f a) b (bytes_of f a) q ∙ ap (cond (bytes_eq q b) (Some (bytes_of f a))) (get_gone f a q)
 
 pub has_put : (f : Folder) (n b q : List ℕ) → has (map_of.insert f n b) q ≡ (bytes_eq q n || has f q)
 has_put f n b q = ap is_some (get_put f n b q) ∙ split (bytes_eq q n) (map_of.get f q)
@@ -43,8 +41,7 @@ pub has_without : (gone : List (List ℕ)) (f : Folder) (q : List ℕ) → has (
 has_without gone f q = ap is_some (get_without gone f q) ∙ some_unless (is_among gone q) (map_of.get f q)
 
 pub has_renamed : (f : Folder) (a b q : List ℕ) → has (effect f (Rename a b)) q ≡ (bytes_eq q b || (not (bytes_eq q a) && has f q))
-unfolding effect
-has_renamed f a b q = has_put (map_of.remove f a) b (bytes_of f a) q ∙ ap (λ t. bytes_eq q b || t) (has_gone f a q)
+has_renamed f a b q = unfold effect in has_put (map_of.remove f a) b (bytes_of f a) q ∙ ap (λ t. bytes_eq q b || t) (has_gone f a q)
 
 pub has_by_names : (f : Folder) (q : List ℕ) → has f q ≡ is_among (names f) q
 has_by_names f q = contains_key-keys f q ∙ each (names f)
@@ -243,26 +240,23 @@ pub renames_lead : (f : Folder) (moves : List Move) → CanMove f moves → effe
 unfolding effects laid_over effect
 renames_lead f [] c = none_gone f
 renames_lead f (m ∷ moves) c =
+    let other : (q : List ℕ) → is_among (sources moves) q ≡ true → bytes_eq q m.1 ≡ false =
+    λ q h. other_name q m.1 (λ e. clash (subst (λ x. is_among (sources moves) x ≡ true) e h) (goal_no_source f m moves c)) in
+    let base : (g : Folder) → g ≡ effect f (Rename m.0 m.1) → without (sources moves) g ≡ map_of.insert (without (sources (m ∷ moves)) f) m.1 (bytes_of f m.0) = λ g e.
+    ap (without (sources moves)) e ∙ without_put (sources moves) (map_of.remove f m.0) m.1 (bytes_of f m.0)
+    ∙ ap (λ t. cond (not t) (map_of.insert (without (sources moves) (map_of.remove f m.0)) m.1 (bytes_of f m.0)) (without (sources moves) (map_of.remove f m.0)))
+    (goal_no_source f m moves c)
+    ∙ ap (λ x. map_of.insert x m.1 (bytes_of f m.0)) (gone_first f m.0 (sources moves)) in
     let g = effect f (Rename m.0 m.1) in
     renames_lead g moves (rest_moves f m moves c)
     ∙ ap (λ fs. laid_over fs (without (sources moves) g)) (same_arrived g f moves (λ q h. ap (λ o. unwrap_or o []) (get_renamed f m.0 m.1 q
     ∙ past (bytes_eq q m.1) (bytes_eq q m.0) (Some (bytes_of f m.0)) (map_of.get f q) (other q h) (not_first m.0 (sources moves) c.sources_once.0 q h))))
     ∙ ap (laid_over (arrived f moves)) (base g refl)
   where
-    other : (q : List ℕ) → is_among (sources moves) q ≡ true → bytes_eq q m.1 ≡ false
-    other q h = other_name q m.1 (λ e. clash (subst (λ x. is_among (sources moves) x ≡ true) e h) (goal_no_source f m moves c))
-
     past : (b a : Bool) (y g : Option (List ℕ)) → b ≡ false → a ≡ false → cond b y (cond a None g) ≡ g
     past true a y g h k = absurd (false≢true (sym h))
     past false true y g h k = absurd (false≢true (sym k))
     past false false y g h k = refl
-
-    base : (g : Folder) → g ≡ effect f (Rename m.0 m.1) → without (sources moves) g ≡ map_of.insert (without (sources (m ∷ moves)) f) m.1 (bytes_of f m.0)
-    base g e =
-        ap (without (sources moves)) e ∙ without_put (sources moves) (map_of.remove f m.0) m.1 (bytes_of f m.0)
-        ∙ ap (λ t. cond (not t) (map_of.insert (without (sources moves) (map_of.remove f m.0)) m.1 (bytes_of f m.0)) (without (sources moves) (map_of.remove f m.0)))
-        (goal_no_source f m moves c)
-        ∙ ap (λ x. map_of.insert x m.1 (bytes_of f m.0)) (gone_first f m.0 (sources moves))
 
 -- ---- writes and removals
 

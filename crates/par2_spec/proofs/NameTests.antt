@@ -1,6 +1,5 @@
 -- The tests of a name, one by one.
-use Rattle.par2_spec.proofs.Common.{◌≡◌, ◌∙◌, ℕ, List, [], ◌∷◌, length, ap, refl, true, false, not, codes, nat_le, nat_eq, ◌==◌, list_all, list_any, starts_with, bytes_eq, is_utf8, IsUtf8, and_parts, and_from, or_from, false_from_ne_true, IsUtf8-from_is_utf8, is_among}
-use Rattle.par2_spec.specs.Names.{is_name}
+use Rattle.par2_spec.proofs.Common.{◌≡◌, ◌∙◌, ℕ, List, [], ◌∷◌, length, ap, refl, true, false, not, codes, nat_le, nat_eq, ◌==◌, list_all, list_any, starts_with, bytes_eq, is_utf8, IsUtf8, and_parts, and_from, or_from, false_from_ne_true, IsUtf8-from_is_utf8, is_among, is_name}
 use Rattle.par2_spec.proofs.NamesLaws.{clash, other_name}
 
 pub record Tests (name : List ℕ) : Type 0 where
@@ -14,8 +13,7 @@ pub record Tests (name : List ℕ) : Type 0 where
   pub no_undo : not (starts_with nat_eq name (codes ".par2undo")) ≡ true
 
 pub tests_of : (name : List ℕ) → is_name name ≡ true → Tests name
-unfolding is_name
-tests_of name h =
+tests_of name h = unfold is_name in
     let a = and_parts _ (not (starts_with nat_eq name (codes ".par2undo"))) h in
     let b = and_parts _ (not (bytes_eq name (codes ".."))) a.0 in
     let c = and_parts _ (not (bytes_eq name (codes "."))) b.0 in
@@ -26,8 +24,7 @@ tests_of name h =
     record { some = g.0; short = g.1; text = f.1; no_slash = e.1; no_zero = d.1; no_dot = c.1; no_dots = b.1; no_undo = a.1 }
 
 pub name_of : (name : List ℕ) → Tests name → is_name name ≡ true
-unfolding is_name
-name_of name t =
+name_of name t = unfold is_name in
     and_from _ _ (and_from _ _ (and_from _ _ (and_from _ _ (and_from _ _ (and_from _ _ (and_from _ _ t.some t.short) t.text) t.no_slash) t.no_zero) t.no_dot) t.no_dots) t.no_undo
 
 pub name_is_short : (name : List ℕ) → is_name name ≡ true → nat_le (length name) 255 ≡ true

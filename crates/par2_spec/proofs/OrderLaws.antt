@@ -1,8 +1,6 @@
 -- The files in the order of their File IDs, and that one list alone rises.
-use Rattle.par2_spec.proofs.Common.{◌≡◌, ◌≢◌, ℕ, zero, suc, ◌+◌, ◌<◌, ◌≤◌, List, [], ◌∷◌, length, map, refl, sym, ap₂, subst, true, false, Bool, eqb, arith, nat_le, if◌then◌else◌, IsPermutation, slice_index, w128, from_le_bytes, AllByRecursion, IsStrictlyIncreasing, IsNonDecreasingBy, leb-true, leb-false, eqb-true, eq-eqb, false_from_ne_true, All-from_recursion, recursion_from_All, IsDistinct-IsPermutation, Folder, File, bytes_of, FileRecord, id_number, insert_by_id, files_of, OnlyOneOrder}
-use Rattle.std.specs.List.{IsDistinct}
+use Rattle.par2_spec.proofs.Common.{◌≡◌, ◌≢◌, ℕ, zero, suc, ◌+◌, ◌<◌, ◌≤◌, List, [], ◌∷◌, length, map, refl, sym, ap₂, subst, true, false, Bool, eqb, arith, nat_le, if◌then◌else◌, IsPermutation, slice_index, w128, from_le_bytes, AllByRecursion, IsDistinct, IsStrictlyIncreasing, IsNonDecreasingBy, leb-true, leb-false, eqb-true, eq-eqb, false_from_ne_true, All-from_recursion, recursion_from_All, IsDistinct-IsPermutation, Folder, File, bytes_of, FileRecord, id_number, insert_by_id, record_of, in_id_order, files_of, OnlyOneOrder}
 use Rattle.std.proofs.lemmas.List.Sorted.{All-permutation, IsPermutation-sym, IsPermutation-refl, IsPermutation-trans, IsPermutation-cons, IsPermutation-swap, IsPermutation-map}
-use Rattle.par2_spec.specs.Volumes.{record_of, in_id_order}
 use Rattle.par2_spec.proofs.NamesLaws.{clash}
 use Rattle.par2_spec.proofs.ListsLaws.{all-map, all-both}
 use Rattle.par2_spec.proofs.RankLaws.{all_weaker}
@@ -24,14 +22,12 @@ rises-increasing : {A : Type 0} (n : A → ℕ) (xs : List A) → IsStrictlyIncr
 rises-increasing n [] h = tt
 rises-increasing n (x ∷ []) h = (tt, tt)
 rises-increasing n (x ∷ y ∷ xs) h =
+    let later : (k : ℕ) → k + 1 < length (map n (y ∷ xs)) → slice_index (map n (y ∷ xs)) k < slice_index (map n (y ∷ xs)) (k + 1) = (λ k l.
+    let next : suc k + 1 ≡ suc (k + 1) = omega arith in
+    subst (λ m. slice_index (map n (y ∷ xs)) k < slice_index (map n (x ∷ y ∷ xs)) m) next (h (suc k) (omega (arith, l)))) in
     let first : n x < n y = h 0 (omega arith) in
     let rest = rises-increasing n (y ∷ xs) (λ k l. later k l) in
     ((first, all_weaker (λ z. n y < n z) (λ z. n x < n z) (λ z l. omega (arith, first, l)) xs rest.0), rest)
-  where
-    later : (k : ℕ) → k + 1 < length (map n (y ∷ xs)) → slice_index (map n (y ∷ xs)) k < slice_index (map n (y ∷ xs)) (k + 1)
-    later k l =
-        let next : suc k + 1 ≡ suc (k + 1) = omega arith in
-        subst (λ m. slice_index (map n (y ∷ xs)) k < slice_index (map n (x ∷ y ∷ xs)) m) next (h (suc k) (omega (arith, l)))
 
 -- what holds of all but the least ones of one list holds of those of the other
 all_but_least : {A : Type 0} (n : A → ℕ) (x y : A) (xs ys : List A) → n x ≡ n y → AllByRecursion (λ z. n y < n z) ys → ((P : A → Type 0) → AllByRecursion P (x ∷ xs) → AllByRecursion P (y ∷ ys))
@@ -136,24 +132,17 @@ apart-distinct [] h = tt
 apart-distinct (r ∷ records) h = (all_weaker (λ z. has_one_number r z ≡ false) (λ z. number_in z ≡ number_in r → ⊥) (λ z no e. clash (eq-eqb (number_in r) (number_in z) (sym e)) no) records h.0, apart-distinct records h.1)
 
 climbs-records : (s : ℕ) (files : List File) → Climbs id_number files → Climbs number_in (map (record_of s) files)
-unfolding record_of
-climbs-records s files h = climbs-map number_in (record_of s) files h
+climbs-records s files h = unfold record_of in climbs-map number_in (record_of s) files h
 
 -- records of these files that rise by their File IDs are those of the files in order
 pub rising_records : OnlyOneOrder
-rising_records s files records moved up = rising_once number_in records ordered rises (rises-climbs number_in ordered (climbs-records s (in_id_order files) (climbs-ordered files)) apart) (λ P h. moved-all P records ordered there h) (λ P h. moved-all P ordered records (IsPermutation-sym records ordered there) h)
-  where
-    ordered : List FileRecord
-    ordered = map (record_of s) (in_id_order files)
-
-    there : IsPermutation records ordered
-    there = IsPermutation-trans records (map (record_of s) files) ordered (IsPermutation-sym (map (record_of s) files) records moved) (IsPermutation-map (record_of s) files (in_id_order files) (moved-ordered files))
-
-    rises : Rises number_in records
-    rises = rises-increasing number_in records up
-
-    apart : AreApart number_in ordered
-    apart = apart-distinct ordered (IsDistinct-IsPermutation has_one_number turned records ordered there (distinct-rises records rises))
+rising_records s files records moved up =
+    let ordered : List FileRecord = map (record_of s) (in_id_order files) in
+    let there : IsPermutation records ordered =
+    IsPermutation-trans records (map (record_of s) files) ordered (IsPermutation-sym (map (record_of s) files) records moved) (IsPermutation-map (record_of s) files (in_id_order files) (moved-ordered files)) in
+    let rises : Rises number_in records = rises-increasing number_in records up in
+    let apart : AreApart number_in ordered = apart-distinct ordered (IsDistinct-IsPermutation has_one_number turned records ordered there (distinct-rises records rises)) in
+    rising_once number_in records ordered rises (rises-climbs number_in ordered (climbs-records s (in_id_order files) (climbs-ordered files)) apart) (λ P h. moved-all P records ordered there h) (λ P h. moved-all P ordered records (IsPermutation-sym records ordered there) h)
 
 -- ---- the files in order, by their names
 

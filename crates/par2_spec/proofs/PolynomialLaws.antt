@@ -1,8 +1,6 @@
 -- Values, products and quotients of polynomials.
-use Rattle.par2_spec.proofs.Common.{ℕ, suc, ◌-◌, ◌^◌, ◌<◌, ◌≡◌, refl, sym, ap, ap₂, ◌∙◌, subst, arith, List, [], ◌∷◌, length, map, ◌≢◌, false, get_or, drop, inl, inr, xor_comm, xor_lt, length-map, Contains-get_or, eqb-false, cases_eq, xor_assoc, xor_zero_r, xor_self, xor_zero_l, AllByRecursion, Contains, mul, IsVector, times, times_root, AreElements, ArePoints, Interpolates}
+use Rattle.par2_spec.proofs.Common.{ℕ, suc, ◌-◌, ◌^◌, ◌<◌, ◌≡◌, refl, sym, ap, ap₂, ◌∙◌, subst, arith, List, [], ◌∷◌, length, map, ◌≢◌, false, get_or, drop, inl, inr, xor_comm, xor_lt, length-map, Contains-get_or, eqb-false, cases_eq, xor_assoc, xor_zero_r, xor_self, xor_zero_l, AllByRecursion, Contains, IsDistinct, mul, IsVector, times, times_root, AreElements, ArePoints, Interpolates, value, plus, with_roots, quotient}
 use Rattle.std.proofs.Common.{bit_xor, nat_eq}
-use Rattle.std.specs.List.{IsDistinct}
-use Rattle.par2_spec.specs.Polynomials.{value, plus, with_roots, quotient}
 use Rattle.par2_spec.proofs.FieldBits.{xor_middle}
 use Rattle.par2_spec.proofs.FieldProducts.{product_linear_left, product_linear_right, product_assoc, product_comm, product-one, product-lt}
 use Rattle.par2_spec.proofs.FieldOrder.{product-zero, zero-product, no_zero_divisor, has_inverse}
@@ -86,8 +84,7 @@ value_times k (a ∷ p) z small h hz =
     ∙ sym ((product_linear_right k).on_xor a (mul z (value p z)))
 
 pub value_times_root : (c : ℕ) (p : List ℕ) (z : ℕ) → c < 2 ^ 16 → AreElements p → z < 2 ^ 16 → value (times_root c p) z ≡ mul (bit_xor z c) (value p z)
-unfolding value
-value_times_root c p z small h hz =
+value_times_root c p z small h hz = unfold value in
     value_plus (times c p) (0 ∷ p) z
     ∙ ap₂ bit_xor (value_times c p z small h hz) (xor_zero_l (mul z (value p z)))
     ∙ xor_comm (mul c (value p z)) (mul z (value p z))
@@ -135,10 +132,9 @@ with_roots_zero (c ∷ points) h = grind (arith, with_roots_elements, value_time
 
 -- a factor that is not 0 is taken off
 no_root : (c z v : ℕ) → c < 2 ^ 16 → z < 2 ^ 16 → v < 2 ^ 16 → z ≢ c → mul (bit_xor z c) v ≡ 0 → v ≡ 0
-no_root c z v hc hz hv apart e = no_zero_divisor (bit_xor z c) v (positive (bit_xor z c) (λ same. apart (xor_same z c same))) (xor_lt 16 z c hz hc) hv e
-  where
-    positive : (n : ℕ) → n ≢ 0 → 0 < n
-    positive n k = omega arith
+no_root c z v hc hz hv apart e =
+    let positive : (n : ℕ) → n ≢ 0 → 0 < n = λ n k. omega arith in
+    no_zero_divisor (bit_xor z c) v (positive (bit_xor z c) (λ same. apart (xor_same z c same))) (xor_lt 16 z c hz hc) hv e
 
 pub with_roots_nonzero : (points : List ℕ) (z : ℕ) → AreElements points → z < 2 ^ 16 → (Contains points z → ⊥) → value (with_roots points) z ≢ 0
 unfolding with_roots value
@@ -174,12 +170,10 @@ zero_by_quotient c (a ∷ p) e h =
 
 -- what each of the points but the first is
 pub apart : (c : ℕ) (points : List ℕ) → ArePoints (c ∷ points) → AllByRecursion (λ z. z ≢ c) points
-unfolding IsDistinct
-apart c points are = all_weaker (λ z. nat_eq c z ≡ false) (λ z. z ≢ c) (λ z other same. eqb-false c z other (sym same)) points are.distinct.0
+apart c points are = unfold IsDistinct in all_weaker (λ z. nat_eq c z ≡ false) (λ z. z ≢ c) (λ z other same. eqb-false c z other (sym same)) points are.distinct.0
 
 pub other_points : (c : ℕ) (points : List ℕ) → ArePoints (c ∷ points) → ArePoints points
-unfolding IsDistinct
-other_points c points are = record { elements = are.elements.1; distinct = are.distinct.1 }
+other_points c points are = unfold IsDistinct in record { elements = are.elements.1; distinct = are.distinct.1 }
 
 -- the factor theorem, again and again: as many distinct roots as coefficients, and each coefficient is 0
 pub only_zero : (points p : List ℕ) → ArePoints points → IsVector (length points) p → AllByRecursion (λ z. value p z ≡ 0) points → AreZero p
@@ -240,28 +234,26 @@ some_polynomial [] [] are is = ([], record { vector = (refl, tt); at_points = re
 some_polynomial [] (y ∷ values) are is = absurd (let e : suc (length values) ≡ 0 = is.0 in omega (arith, e))
 some_polynomial (c ∷ points) [] are is = absurd (let e : 0 ≡ suc (length points) = is.0 in omega (arith, e))
 some_polynomial (c ∷ points) (y ∷ values) are is =
+    let more : (p : List ℕ) → Interpolates points values p → (q : List ℕ) × Interpolates (c ∷ points) (y ∷ values) q = (λ p by.
+    let w = with_roots points in
+    let w_are = with_roots_elements points are.elements.1 in
+    let c_small : c < 2 ^ 16 = are.elements.0 in
+    let k = reached (value p c) y (value w c) (value-lt p c by.vector.1 c_small) is.1.0 (value-lt w c w_are c_small)
+    (with_roots_nonzero points c are.elements.1 c_small (λ among. of_contained (λ z. z ≢ c) points c (apart c points are) among refl)) in
+    let added = times k.0 w in
+    let long : length added ≡ suc (length p) = length-map w (mul k.0) ∙ length-with_roots points ∙ ap suc (sym by.vector.0) in
+    let none = all-both (λ z. z < 2 ^ 16) (λ z. value w z ≡ 0) (λ z. value added z ≡ 0)
+    (λ z small e. value_times k.0 w z k.1 w_are small ∙ ap (mul k.0) e ∙ product-zero k.0) points are.elements.1 (with_roots_zero points are.elements.1) in (
+      plus p added,
+      record {
+        vector = (length-plus p added long ∙ ap suc by.vector.0, plus_elements p added by.vector.1 (times_elements k.0 w k.1 w_are));
+        at_points = ap₂ (λ x xs. x ∷ xs)
+            (value_plus p added c ∙ ap (bit_xor (value p c)) (value_times k.0 w c k.1 w_are c_small) ∙ k.2)
+            (same_at p added points none ∙ by.at_points);
+      },
+    )) in
     let before = some_polynomial points values (other_points c points are) (let e : suc (length values) ≡ suc (length points) = is.0 in omega (arith, e), is.1.1) in
     more before.0 before.1
-  where
-    more : (p : List ℕ) → Interpolates points values p → (q : List ℕ) × Interpolates (c ∷ points) (y ∷ values) q
-    more p by =
-        let w = with_roots points in
-        let w_are = with_roots_elements points are.elements.1 in
-        let c_small : c < 2 ^ 16 = are.elements.0 in
-        let k = reached (value p c) y (value w c) (value-lt p c by.vector.1 c_small) is.1.0 (value-lt w c w_are c_small)
-        (with_roots_nonzero points c are.elements.1 c_small (λ among. of_contained (λ z. z ≢ c) points c (apart c points are) among refl)) in
-        let added = times k.0 w in
-        let long : length added ≡ suc (length p) = length-map w (mul k.0) ∙ length-with_roots points ∙ ap suc (sym by.vector.0) in
-        let none = all-both (λ z. z < 2 ^ 16) (λ z. value w z ≡ 0) (λ z. value added z ≡ 0)
-        (λ z small e. value_times k.0 w z k.1 w_are small ∙ ap (mul k.0) e ∙ product-zero k.0) points are.elements.1 (with_roots_zero points are.elements.1) in (
-          plus p added,
-          record {
-            vector = (length-plus p added long ∙ ap suc by.vector.0, plus_elements p added by.vector.1 (times_elements k.0 w k.1 w_are));
-            at_points = ap₂ (λ x xs. x ∷ xs)
-                (value_plus p added c ∙ ap (bit_xor (value p c)) (value_times k.0 w c k.1 w_are c_small) ∙ k.2)
-                (same_at p added points none ∙ by.at_points);
-          },
-        )
 
 -- ---- monic, and without one of the roots
 

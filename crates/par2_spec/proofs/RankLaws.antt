@@ -1,12 +1,8 @@
 -- The tests over all vectors and all texts say what the words say.
-use Rattle.par2_spec.proofs.Common.{◌≡◌, ℕ, ◌^◌, ◌<◌, List, [], ◌∷◌, length, map, refl, sym, ap, ◌∙◌, subst, true, false, Bool, ◌&&◌, not, arith, ◌↔◌, ◌==◌, filter, find, zip, Option, Some, None, is_some, unwrap_or, nat_eq, list_all, list_any, AllByRecursion, AllZip, Contains, ForSome, bytes_eq, and_parts, and_from, eqb-true, eq-eqb, ltb-true, lt-ltb, not_from_false, false_from_ne_true, false≢true, true_from_ne_false, both_ways, not-true, AllZip-long, nat_eq_equiv, coefficients, recovery, kills, is_zero, is_repairable, kept, smaller, Kills, IsRepairable, IsKept, IsVector, Agrees, is_as_known, kept_slices, IsRebuilt, ParSet, lost, survivors}
+use Rattle.par2_spec.proofs.Common.{◌≡◌, ℕ, ◌^◌, ◌<◌, List, [], ◌∷◌, length, map, refl, sym, ap, ◌∙◌, subst, true, false, Bool, ◌&&◌, not, arith, ◌↔◌, ◌==◌, filter, find, zip, Option, Some, None, is_some, unwrap_or, nat_eq, list_all, list_any, AllByRecursion, AllZip, Contains, ForSome, bytes_eq, and_parts, and_from, eqb-true, eq-eqb, ltb-true, lt-ltb, not_from_false, false_from_ne_true, false≢true, true_from_ne_false, both_ways, not-true, AllZip-long, nat_eq_equiv, coefficients, recovery, dot, kills, is_zero, is_repairable, kept, smaller, Kills, IsRepairable, IsKept, IsVector, Agrees, is_as_known, kept_slices, IsRebuilt, is_independent, is_solvable, agrees, ParSet, lost, survivors, all_lists, all_texts, all_below, rebuilt}
 use Rattle.std.specs.Prelude.{IsTrue}
 use Rattle.std.specs.FinMap as map_of
 use Rattle.std.proofs.lemmas.Map.Views.{Contains-from_any, list_any-from_Contains}
-use Rattle.par2_spec.specs.Lists.{all_lists, all_texts, all_below}
-use Rattle.par2_spec.specs.Recovery.{dot}
-use Rattle.par2_spec.specs.Rank.{is_independent, is_solvable, agrees}
-use Rattle.par2_spec.specs.Repairs.{rebuilt}
 use Rattle.par2_spec.proofs.ListsLaws.{AreOf, IsBelow, some_list, all_below_are, all_below_complete, all_lists_are, all_lists_complete, find_one, filter-none, all-both}
 use Rattle.par2_spec.proofs.NamesLaws.{same_name, itself, clash, kept as kept_one}
 use Rattle.par2_spec.proofs.TestLaws.{by_test, is_true, by_true}
@@ -46,8 +42,7 @@ killed_all lost v (e ∷ es) h = and_from _ _ (ap (λ n. n == 0) h.0) (killed_al
 -- ---- repairable
 
 pub repairable-iff : (lost survivors : List ℕ) → IsTrue (is_repairable lost survivors) ↔ IsRepairable lost survivors
-unfolding is_solvable
-repairable-iff lost survivors =
+repairable-iff lost survivors = unfold is_solvable in
     let rows = map (coefficients lost) survivors in
     let test = (λ (v : List ℕ). not (is_zero v) && list_all (kills v) rows) in
     let law = some_list (2 ^ 16) (length lost) test in (
@@ -62,8 +57,7 @@ repairable-iff lost survivors =
 -- where the lost slices are not determined, a vector that is not zero is killed by all
 pub killed_vector : (lost survivors : List ℕ) → (IsRepairable lost survivors → ⊥)
     → (v : List ℕ) × IsVector (length lost) v × AllByRecursion (λ e. Kills lost e v) survivors × (AllByRecursion (λ x. x ≡ 0) v → ⊥)
-unfolding is_solvable
-killed_vector lost survivors unrepairable =
+killed_vector lost survivors unrepairable = unfold is_solvable in
     let rows = map (coefficients lost) survivors in
     let test = (λ (v : List ℕ). not (is_zero v) && list_all (kills v) rows) in
     let found = (some_list (2 ^ 16) (length lost) test).0 (by_true (true_from_ne_false (list_any test (all_lists (all_below (2 ^ 16)) (length lost))) (λ none. unrepairable ((repairable-iff lost survivors).0 (not_from_false _ none))))) in
@@ -82,8 +76,7 @@ smaller_all P e [] h = tt
 smaller_all P e (x ∷ es) h = grind (arith, ltb-true, smaller_all P e es h.1)
 
 pub independent-iff : (lost survivors : List ℕ) (e : ℕ) → (is_independent (length lost) (map (coefficients lost) (smaller e survivors)) (coefficients lost e) ≡ true) ↔ IsKept lost survivors e
-unfolding is_independent
-independent-iff lost survivors e =
+independent-iff lost survivors e = unfold is_independent in
     let before = map (coefficients lost) (smaller e survivors) in
     let test = (λ (v : List ℕ). list_all (kills v) before && not (kills v (coefficients lost e))) in
     let law = some_list (2 ^ 16) (length lost) test in (
@@ -113,8 +106,7 @@ counts-filter p [] q = refl
 counts-filter p (x ∷ xs) q = grind (arith, kept_one, eqb-true, counts-filter p xs q)
 
 pub counts-iff : (xs : List ℕ) (q : ℕ) → (counts xs q ≡ true) ↔ Contains xs q
-unfolding counts
-counts-iff xs q = (Contains-from_any {eq = nat_eq} eqb-true q xs, list_any-from_Contains nat_eq_equiv q xs)
+counts-iff xs q = unfold counts in (Contains-from_any {eq = nat_eq} eqb-true q xs, list_any-from_Contains nat_eq_equiv q xs)
 
 filter-contains : (p : ℕ → Bool) (xs : List ℕ) (q : ℕ) → Contains (filter p xs) q ↔ (Contains xs q × (p q ≡ true))
 filter-contains p xs q = (
@@ -132,8 +124,7 @@ kept-iff lost survivors e =
 -- ---- where no slice is lost
 
 nothing_told : (before : List (List ℕ)) → is_independent 0 before [] ≡ false
-unfolding is_independent dot all_lists
-nothing_told before = by_test (list_all (kills []) before) (λ e. rw e) (λ e. rw e)
+nothing_told before = unfold is_independent dot all_lists in by_test (list_all (kills []) before) (λ e. rw e) (λ e. rw e)
 
 -- no exponent tells anything
 pub none_kept : (survivors : List ℕ) → kept [] survivors ≡ []
@@ -165,8 +156,7 @@ known_as known slices h = absurd h
 pub agrees-iff : (s : ℕ) (known : List (Option (List ℕ))) (recovered : List (ℕ × List ℕ)) (slices : List (List ℕ))
     → AllByRecursion (λ text. length text ≡ s) slices → AllByRecursion (λ text. AllByRecursion (λ b. b < 256) text) slices
     → IsTrue (agrees s known recovered slices) ↔ Agrees s known recovered slices
-unfolding agrees
-agrees-iff s known recovered slices sizes bytes = (
+agrees-iff s known recovered slices sizes bytes = unfold agrees in (
   λ h. let r = and_parts (length slices == length known && list_all is_as_known (zip known slices)) _ h in
       let q = and_parts (length slices == length known) _ r.0 in
       record {
@@ -212,8 +202,7 @@ agreeing_found s known recovered slices a =
 pub rebuilt_agrees : (set : ParSet) (known : List (Option (List ℕ))) (slices : List (List ℕ))
     → Agrees set.slice_size known (kept_slices (lost known) (survivors set) (map_of.entries set.recovery)) slices
     → Agrees set.slice_size known (kept_slices (lost known) (survivors set) (map_of.entries set.recovery)) (rebuilt set known)
-unfolding rebuilt
-rebuilt_agrees set known slices a = grind (arith, agreeing_found)
+rebuilt_agrees set known slices a = unfold rebuilt in grind (arith, agreeing_found)
 
 pub rebuilt_is_only : (set : ParSet) (known : List (Option (List ℕ))) (slices : List (List ℕ))
     → IsRebuilt set.slice_size known (kept_slices (lost known) (survivors set) (map_of.entries set.recovery)) slices → rebuilt set known ≡ slices

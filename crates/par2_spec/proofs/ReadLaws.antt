@@ -1,7 +1,6 @@
 -- What holds of a set that reads, and of the names that are searched.
-use Rattle.par2_spec.proofs.Common.{◌≡◌, ℕ, suc, ◌≤◌, List, [], ◌∷◌, ◌++◌, length, map, refl, sym, ap, ◌∙◌, subst, cond, true, false, Bool, not, ◌&&◌, ◌||◌, arith, length-append, ◌<◌, ◌+◌, ◌^◌, zero, ◌-◌, ◌*◌, take, drop, length-drop, min, nat_lt, filter, filter_map, flat_map, find, sum_by, nat_le, Option, Some, None, is_some, unwrap_or, option_map, option_and_then, Result, Ok, Err, ok_or, ◌==◌, if◌then◌else◌, zip, list_all, AllByRecursion, Contains, concat, entries-insert, len-entries, len-empty, nat_cmp-IsAntisymmetric, nat_cmp_total, put, by_order, nat_cmp, Ordering, zero-div, zero-mod, bytes_eq, length-map, nil_from_length, length-take-le, sum_by-cons, list_all-map, recursion_from_All, All-contains_itself, and_parts, and_from, or_cases, or_left, or_right, false_from_ne_true, eqb-true, leb-true, ltb-true, false≢true, Fault, NoMain, NoDescription, NoChecksums, BadSet, Pair, slice_count, is_name, is_among, distinct, Packet, accepted, MainBody, DescBody, RecoveryBody, read_recovery, Folder, has, bytes_of, ParSet, Target, ◌>>=◌, unless, all_some, is_slice_size, packets_with, main_of, description_of, pairs_of, target_of, are_in_profile, recovery_of, other_par_names, IsSound, candidates, known, lost, AreFew, FitsRepair, lost_of_unmatched, cut_into, div_ceil, div_ceil_times, FilesHaveTheirSize}
+use Rattle.par2_spec.proofs.Common.{◌≡◌, ℕ, suc, ◌≤◌, List, [], ◌∷◌, ◌++◌, length, map, refl, sym, ap, ◌∙◌, subst, cond, true, false, Bool, not, ◌&&◌, ◌||◌, arith, length-append, ◌<◌, ◌+◌, ◌^◌, zero, ◌-◌, ◌*◌, take, drop, length-drop, min, nat_lt, filter, filter_map, flat_map, find, sum_by, nat_le, Option, Some, None, is_some, unwrap_or, option_map, option_and_then, Result, Ok, Err, ok_or, ◌==◌, if◌then◌else◌, zip, list_all, AllByRecursion, Contains, concat, entries-insert, len-entries, len-empty, nat_cmp-IsAntisymmetric, nat_cmp_total, put, by_order, nat_cmp, Ordering, zero-div, zero-mod, bytes_eq, length-map, nil_from_length, length-take-le, sum_by-cons, list_all-map, recursion_from_All, All-contains_itself, and_parts, and_from, or_cases, or_left, or_right, false_from_ne_true, eqb-true, leb-true, ltb-true, false≢true, Fault, NoMain, NoDescription, NoChecksums, BadSet, Pair, slice_count, is_name, is_among, distinct, Packet, accepted, MainBody, DescBody, RecoveryBody, read_recovery, Folder, has, bytes_of, ParSet, Target, ◌>>=◌, unless, all_some, is_slice_size, packets_with, main_of, description_of, pairs_of, target_of, are_in_profile, recovery_of, other_par_names, IsSound, read_set, set_of, candidates, known, lost, AreFew, FitsRepair, lost_of_unmatched, cut_into, div_ceil, div_ceil_times, FilesHaveTheirSize}
 use Rattle.std.specs.Prelude.{◌%◌}
-use Rattle.par2_spec.specs.Sets.{read_set, set_of}
 use Rattle.par2_spec.proofs.NamesLaws.{same_name, itself, clash, among-filter, among-append, AreDistinct, std_from_distinct}
 use Rattle.par2_spec.proofs.FoundLaws.{AreSized, lost_is}
 use Rattle.par2_spec.proofs.ListsLaws.{found_one}
@@ -192,8 +191,7 @@ pub record IsReadBy (base : List ℕ) (others : List (List ℕ)) (set : ParSet) 
   pub made : set_with id (packets_with id (flat_map accepted (base ∷ others))) main.slice_size targets ≡ set
 
 pub read_by : (base : List ℕ) (others : List (List ℕ)) (set : ParSet) → read_set base others ≡ Ok set → IsReadBy base others set
-unfolding read_set
-read_by base others set h = grind (arith, took, was_some, passed)
+read_by base others set h = unfold read_set in grind (arith, took, was_some, passed)
 
 -- a set that reads is sound
 pub sound_set : (base : List ℕ) (others : List (List ℕ)) (set : ParSet) → read_set base others ≡ Ok set → IsSound set
@@ -251,8 +249,7 @@ present_searched folder set extras q i h = candidates_are folder set extras q �
 -- ---- what follows for a set of a folder
 
 pub sound_of : (folder : Folder) (base : List ℕ) (set : ParSet) → set_of folder base ≡ Ok set → IsSound set
-unfolding set_of
-sound_of folder base set h = sound_set (bytes_of folder base) (map (bytes_of folder) (other_par_names folder base)) set h
+sound_of folder base set h = unfold set_of in sound_set (bytes_of folder base) (map (bytes_of folder) (other_par_names folder base)) set h
 
 pub fits_of : (folder : Folder) (base : List ℕ) (set : ParSet) (extras : List (List ℕ)) → set_of folder base ≡ Ok set → list_all (has folder) extras ≡ true → AreFew folder set → FitsRepair folder set (candidates folder set extras)
 fits_of folder base set extras h there few = record {

@@ -1,7 +1,6 @@
 -- Where a repair is refused as not repairable, other slices agree too.
-use Rattle.par2_spec.proofs.Common.{◌≡◌, ℕ, ◌≤◌, List, [], ◌∷◌, refl, subst, true, false, Bool, arith, Option, Some, None, Ok, both_ways, not-true, Fault, NoSuchFile, NameTooLong, NotRepairable, RepairFailed, first_fault, fault_where, Folder, all_slices, IsRepairable, ParSet, set_of, is_slice_size, candidates, known, lost, survivors, Repair, RefusedRepairHasAChoice}
+use Rattle.par2_spec.proofs.Common.{◌≡◌, ℕ, ◌≤◌, List, [], ◌∷◌, refl, subst, true, false, Bool, arith, Option, Some, None, Ok, both_ways, not-true, Fault, NoSuchFile, NameTooLong, NotRepairable, RepairFailed, first_fault, fault_where, Folder, all_slices, IsRepairable, ParSet, set_of, is_slice_size, candidates, known, lost, survivors, Repair, RefusedRepairHasAChoice, repair_refusal, refusal}
 use Rattle.std.specs.FinMap as map_of
-use Rattle.par2_spec.specs.Refusals.{repair_refusal, refusal}
 use Rattle.par2_spec.proofs.ReadLaws.{sound_of, size_parts}
 use Rattle.par2_spec.proofs.RankLaws.{repairable-iff}
 use Rattle.par2_spec.proofs.ExistLaws.{another_agrees}
@@ -31,14 +30,12 @@ first_cause false false true l n m r e = absurd (is_other RepairFailed m r (fail
 first_cause false false false l n m r e = absurd (no_fault m r e)
 
 unrepairable : (folder : Folder) (set : ParSet) (searched : List (List ℕ)) (m r : ℕ) → repair_refusal folder set searched ≡ Some (NotRepairable m r) → IsRepairable (lost (known folder set searched)) (survivors set) → ⊥
-unfolding repair_refusal
-unrepairable folder set searched m r e repairable = grind (arith, both_ways, not-true, first_cause, repairable-iff)
+unrepairable folder set searched m r e repairable = unfold repair_refusal in grind (arith, both_ways, not-true, first_cause, repairable-iff)
 
 -- the refusal of a repair over a set that is read is the set's, or a file's that is not there
 refused_by_set : (folder : Folder) (base : List ℕ) (extras : List (List ℕ)) (purge : Bool) (set : ParSet) (m r : ℕ) → set_of folder base ≡ Ok set → refusal folder (Repair base extras purge) ≡ Some (NotRepairable m r)
     → repair_refusal folder set (candidates folder set extras) ≡ Some (NotRepairable m r)
-unfolding refusal
-refused_by_set folder base extras purge set m r reads e = grind (arith, missing, in_full, is_other, no_such_file, in_part)
+refused_by_set folder base extras purge set m r reads e = unfold refusal in grind (arith, missing, in_full, is_other, no_such_file, in_part)
 
 pub size_two : (s : ℕ) → is_slice_size s ≡ true → 2 ≤ s
 size_two s h = let least : 4 ≤ s = (size_parts s h).1 in omega (arith, least)

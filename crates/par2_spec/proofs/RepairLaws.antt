@@ -1,12 +1,8 @@
 -- The changes of a repair lead to its folder.
-use Rattle.par2_spec.proofs.Common.{◌≡◌, ℕ, List, [], ◌∷◌, ◌++◌, length, map, inl, inr, refl, sym, ap, ◌∙◌, subst, cond, true, false, Bool, not, ◌&&◌, ◌||◌, filter, filter_map, zip, Option, Some, None, Ok, option_map, is_some, is_none, unwrap_or, if◌then◌else◌, concat, list_all, list_any, AllByRecursion, ForSome, bytes_eq, map-append, map-map, and_parts, and_right, or_parts, or_cases, or_left, or_right, or_from, and_from, false_from_ne_true, cases_Bool, not_from_false, false≢true, not-true, and-false, is_among, is_par_name, Folder, has, bytes_of, names, File, without, Write, Rename, Remove, effects, are_applicable, accepted, ParSet, Target, set_of, target_names, candidates, known, needing, needing_names, is_needing, intact_names, matching, aside, put_aside, files_of_slices, cut_into, rebuilt, matched_files, names_without_match, aside_files, is_par_file, par_files, after_repair_and_purge, FitsRepair, HoldsRepaired, AreFew, taken_for, now_at, purge_changes}
+use Rattle.par2_spec.proofs.Common.{◌≡◌, ℕ, List, [], ◌∷◌, ◌++◌, length, map, inl, inr, refl, sym, ap, ◌∙◌, subst, cond, true, false, Bool, not, ◌&&◌, ◌||◌, filter, filter_map, zip, Option, Some, None, Ok, option_map, is_some, is_none, unwrap_or, if◌then◌else◌, concat, list_all, list_any, AllByRecursion, ForSome, bytes_eq, map-append, map-map, and_parts, and_right, or_parts, or_cases, or_left, or_right, or_from, and_from, false_from_ne_true, cases_Bool, not_from_false, false≢true, not-true, and-false, is_among, is_par_name, Folder, has, bytes_of, names, File, without, laid_over, Write, Rename, Remove, effects, are_applicable, accepted, ParSet, Target, set_of, target_names, candidates, known, needing, needing_names, is_needing, intact_names, matching, matches, aside, put_aside, files_of_slices, cut_into, rebuilt, matched_files, names_without_match, aside_files, is_par_file, par_files, after_repair_and_purge, FitsRepair, HoldsRepaired, AreFew, taken_for, rebuilt_targets, after_repair, now_at, purge_changes, repair_changes, repair_removals}
 use Rattle.std.specs.Prelude.{take, drop}
 use Rattle.std.specs.FinMap as map_of
 use Rattle.par2_spec.proofs.FolderLaws.{effects-append, are_applicable-append}
-use Rattle.par2_spec.specs.Folders.{laid_over}
-use Rattle.par2_spec.specs.Search.{matches}
-use Rattle.par2_spec.specs.Repairs.{rebuilt_targets, after_repair}
-use Rattle.par2_spec.specs.Plans.{repair_changes, repair_removals}
 use Rattle.par2_spec.proofs.CommandLaws.{removals_lead}
 use Rattle.par2_spec.proofs.NamesLaws.{same_name, itself, clash, AreDistinct, among-filter, among-append, among_some, apart_by_test, distinct-map, distinct-filter, distinct_some, image_of, image_in, distinct-append, distinct_from_std}
 use Rattle.par2_spec.proofs.MovesLaws.{Move, CanMove, renames, sources, goals, arrived, renames_apply, renames_lead, writes_apply, writes_lead, get_put, get_laid, get_without, has_laid, has_without, has_by_names, laid_over-append, without-laid_over, without_without, same_without, removals_apply, names_once, all_laid}
@@ -134,8 +130,7 @@ module _ (folder : Folder) (set : ParSet) (given : List (List ℕ)) (fits : Fits
 
   -- the heads of the matches are the needing targets
   heads : map (λ m. m.0.name) (matches folder set given) ≡ wanted
-  unfolding matches
-  heads = names_of_pairs folder set.slice_size (filter (λ name. not (is_among intact name)) given) (needing folder set)
+  heads = unfold matches in names_of_pairs folder set.slice_size (filter (λ name. not (is_among intact name)) given) (needing folder set)
 
   wanted_is_target : (q : List ℕ) → is_among wanted q ≡ true → is_among targets q ≡ true
   wanted_is_target q h = among_some (λ t. t.name) (is_needing folder set) set.targets q h
@@ -148,8 +143,7 @@ module _ (folder : Folder) (set : ParSet) (given : List (List ℕ)) (fits : Fits
 
   -- a match was free
   pub match_free : (q : List ℕ) → is_among taken_names q ≡ true → (is_among given q ≡ true) × (not (is_among intact q) ≡ true)
-  unfolding matches
-  match_free q h =
+  match_free q h = unfold matches in
       and_parts _ _ (sym (among-filter (λ name. not (is_among intact name)) given q)
       ∙ taken_was_free folder set.slice_size (filter (λ name. not (is_among intact name)) given) (needing folder set) q h)
 
@@ -176,8 +170,7 @@ module _ (folder : Folder) (set : ParSet) (given : List (List ℕ)) (fits : Fits
   unwon = names_without_match (matches folder set given)
 
   written_names : map (λ file. file.0) written ≡ filter (is_among unwon) targets
-  unfolding rebuilt_targets
-  written_names =
+  written_names = unfold rebuilt_targets in
       map-map (λ file. file.0) (λ c. (c.0.name, c.1)) (rebuilt_targets folder set given)
       ∙ sym (filter-map (is_among unwon) (λ c. c.0.name) (files_of_slices set (rebuilt set (known folder set given))))
       ∙ ap (filter (is_among unwon)) (names_of_contents (λ z. take z.0.length (concat z.1)) set.targets (rebuilt set (known folder set given)))
@@ -209,8 +202,7 @@ module _ (folder : Folder) (set : ParSet) (given : List (List ℕ)) (fits : Fits
     match_there q h = fits.there q (match_free q h).0
 
     matches_once : AreDistinct taken_names
-    unfolding matches
-    matches_once = taken_once folder set.slice_size (filter (λ name. not (is_among intact name)) given) (needing folder set)
+    matches_once = unfold matches in taken_once folder set.slice_size (filter (λ name. not (is_among intact name)) given) (needing folder set)
 
     wanted_moved : (q : List ℕ) → is_among wanted q ≡ true → has folder q ≡ true → is_among moved q ≡ true
     wanted_moved q h k = moved_is q ∙ and_from _ _ h k
@@ -312,14 +304,13 @@ module _ (folder : Folder) (set : ParSet) (given : List (List ℕ)) (fits : Fits
 
     -- a needing target that is put aside and matched leaves no file under its aside
     aside_taken : (n : List ℕ) → is_among moved n ≡ true → is_among (map now taken_names) (off n) ≡ is_among taken_names n
-    aside_taken n k = same_tests _ _
+    aside_taken n k =
+        let from : (x : List ℕ) → is_among taken_names x ≡ true → off n ≡ now x → is_among taken_names n ≡ true = λ x i e. by_either (cases_Bool (is_among moved x))
+        (λ j. subst (λ y. is_among taken_names y ≡ true) (sym (free.aside_one n x (e ∙ now_moved x j))) i)
+        (λ j. absurd (clash (match_there x i) (subst (λ y. has folder y ≡ false) (e ∙ now_other x j) (free.aside_free n)))) in
+        same_tests _ _
         (λ h. let r = image_of now taken_names (off n) h in from r.0 r.1 r.2)
         (λ h. subst (λ x. is_among (map now taken_names) x ≡ true) (now_moved n k) (image_in now taken_names n h))
-      where
-        from : (x : List ℕ) → is_among taken_names x ≡ true → off n ≡ now x → is_among taken_names n ≡ true
-        from x i e = by_either (cases_Bool (is_among moved x))
-            (λ j. subst (λ y. is_among taken_names y ≡ true) (sym (free.aside_one n x (e ∙ now_moved x j))) i)
-            (λ j. absurd (clash (match_there x i) (subst (λ y. has folder y ≡ false) (e ∙ now_other x j) (free.aside_free n))))
 
     -- the asides that stay
     asides_left : (ns : List (List ℕ)) → ((n : List ℕ) → is_among ns n ≡ true → is_among moved n ≡ true) → filter (λ file. not (is_among (map now taken_names) file.0)) (put_under off folder ns) ≡ put_under off folder (filter (λ n. not (is_among taken_names n)) ns)
@@ -332,34 +323,25 @@ module _ (folder : Folder) (set : ParSet) (given : List (List ℕ)) (fits : Fits
 
     -- what is gone from the folder before
     gone_alike : (q : List ℕ) → has folder q ≡ true → is_among (map now taken_names ++ moved) q ≡ is_among (map (λ m. m.0.name) (matches folder set given) ++ taken_names) q
-    gone_alike q k = same_tests _ _ to from
-      where
-        in_goals : is_among wanted q ≡ true → is_among (map (λ m. m.0.name) (matches folder set given) ++ taken_names) q ≡ true
-        in_goals h = among-append (map (λ m. m.0.name) (matches folder set given)) taken_names q ∙ or_left _ _ (subst (λ ns. is_among ns q ≡ true) (sym heads) h)
-
-        in_taken : is_among taken_names q ≡ true → is_among (map (λ m. m.0.name) (matches folder set given) ++ taken_names) q ≡ true
-        in_taken h = among-append (map (λ m. m.0.name) (matches folder set given)) taken_names q ∙ or_right _ _ h
-
-        in_moved : is_among moved q ≡ true → is_among (map now taken_names ++ moved) q ≡ true
-        in_moved h = among-append (map now taken_names) moved q ∙ or_right _ _ h
-
-        of_now : (x : List ℕ) → is_among taken_names x ≡ true → q ≡ now x → is_among taken_names q ≡ true
-        of_now x i e = by_either (cases_Bool (is_among moved x))
-            (λ j. absurd (clash k (subst (λ y. has folder y ≡ false) (sym (e ∙ now_moved x j)) (free.aside_free x))))
-            (λ j. subst (λ y. is_among taken_names y ≡ true) (sym (e ∙ now_other x j)) i)
-
-        to : is_among (map now taken_names ++ moved) q ≡ true → is_among (map (λ m. m.0.name) (matches folder set given) ++ taken_names) q ≡ true
-        to h = by_either (or_cases (is_among (map now taken_names) q) (is_among moved q) (sym (among-append (map now taken_names) moved q) ∙ h))
-            (λ i. let r = image_of now taken_names q i in in_taken (of_now r.0 r.1 r.2))
-            (λ i. in_goals (and_parts _ _ (sym (moved_is q) ∙ i)).0)
-
-        from : is_among (map (λ m. m.0.name) (matches folder set given) ++ taken_names) q ≡ true → is_among (map now taken_names ++ moved) q ≡ true
-        from h = elim (or_cases (is_among (map (λ m. m.0.name) (matches folder set given)) q) (is_among taken_names q) (sym (among-append (map (λ m. m.0.name) (matches folder set given)) taken_names q) ∙ h)) as (λ _. is_among (map now taken_names ++ moved) q ≡ true) [
+    gone_alike q k =
+        let in_goals : is_among wanted q ≡ true → is_among (map (λ m. m.0.name) (matches folder set given) ++ taken_names) q ≡ true =
+        λ h. among-append (map (λ m. m.0.name) (matches folder set given)) taken_names q ∙ or_left _ _ (subst (λ ns. is_among ns q ≡ true) (sym heads) h) in
+        let in_taken : is_among taken_names q ≡ true → is_among (map (λ m. m.0.name) (matches folder set given) ++ taken_names) q ≡ true =
+        λ h. among-append (map (λ m. m.0.name) (matches folder set given)) taken_names q ∙ or_right _ _ h in
+        let in_moved : is_among moved q ≡ true → is_among (map now taken_names ++ moved) q ≡ true = λ h. among-append (map now taken_names) moved q ∙ or_right _ _ h in
+        let of_now : (x : List ℕ) → is_among taken_names x ≡ true → q ≡ now x → is_among taken_names q ≡ true = λ x i e. by_either (cases_Bool (is_among moved x))
+        (λ j. absurd (clash k (subst (λ y. has folder y ≡ false) (sym (e ∙ now_moved x j)) (free.aside_free x))))
+        (λ j. subst (λ y. is_among taken_names y ≡ true) (sym (e ∙ now_other x j)) i) in
+        let to : is_among (map now taken_names ++ moved) q ≡ true → is_among (map (λ m. m.0.name) (matches folder set given) ++ taken_names) q ≡ true = (λ h. by_either (or_cases (is_among (map now taken_names) q) (is_among moved q) (sym (among-append (map now taken_names) moved q) ∙ h))
+        (λ i. let r = image_of now taken_names q i in in_taken (of_now r.0 r.1 r.2))
+        (λ i. in_goals (and_parts _ _ (sym (moved_is q) ∙ i)).0)) in
+        let from : is_among (map (λ m. m.0.name) (matches folder set given) ++ taken_names) q ≡ true → is_among (map now taken_names ++ moved) q ≡ true = (λ h. elim (or_cases (is_among (map (λ m. m.0.name) (matches folder set given)) q) (is_among taken_names q) (sym (among-append (map (λ m. m.0.name) (matches folder set given)) taken_names q) ∙ h)) as (λ _. is_among (map now taken_names ++ moved) q ≡ true) [
           | inl i ↦ in_moved (wanted_moved q (subst (λ ns. is_among ns q ≡ true) heads i) k)
           | inr i ↦ by_either (cases_Bool (is_among moved q))
               (λ j. in_moved j)
               (λ j. among-append (map now taken_names) moved q ∙ or_left _ _ (subst (λ x. is_among (map now taken_names) x ≡ true) (now_other q j) (image_in now taken_names q i)))
-        ]
+        ]) in
+        same_tests _ _ to from
 
     left_over : without (map now taken_names) cleared ≡ laid_over (aside_files folder set taken_names) (without (map (λ m. m.0.name) (matches folder set given) ++ taken_names) folder)
     left_over =
@@ -400,8 +382,7 @@ module _ (folder : Folder) (set : ParSet) (given : List (List ℕ)) (fits : Fits
     -- ---- together
 
     changes_are : repair_changes folder set given ≡ renames first ++ renames second ++ map (λ file. Write file.0 file.1) written
-    unfolding repair_changes
-    changes_are =
+    changes_are = unfold repair_changes in
         ap (λ cs. cs ++ filter_map (λ m. option_map (λ name. Rename (now name) m.0.name) m.1) (matches folder set given) ++ map (λ c. Write c.0.name c.1) (rebuilt_targets folder set given))
         (sym (map-map (λ m. Rename m.0 m.1) (λ n. (n, off n)) moved))
         ∙ ap (λ cs. renames first ++ cs ++ map (λ c. Write c.0.name c.1) (rebuilt_targets folder set given)) (renames-moves now (matches folder set given))
@@ -420,8 +401,7 @@ module _ (folder : Folder) (set : ParSet) (given : List (List ℕ)) (fits : Fits
 
     -- and lead to its folder
     pub repair_leads : effects folder (repair_changes folder set given) ≡ after_repair folder set given
-    unfolding after_repair
-    repair_leads =
+    repair_leads = unfold after_repair in
         ap (effects folder) changes_are
         ∙ effects-append folder (renames first ++ renames second) (map (λ file. Write file.0 file.1) written)
         ∙ ap (λ f. effects f (map (λ file. Write file.0 file.1) written))
@@ -437,8 +417,7 @@ module _ (folder : Folder) (set : ParSet) (given : List (List ℕ)) (fits : Fits
 
     -- the names of the folder after a repair
     after_has : (q : List ℕ) → has (after_repair folder set given) q ≡ (is_among (filter (is_among unwon) targets) q || (is_among won q || (is_among (map off left) q || (not (is_among gone_names q) && has folder q))))
-    unfolding after_repair
-    after_has q =
+    after_has q = unfold after_repair in
         ap (λ f. has f q) (laid_over-append (matched_files folder (matches folder set given)) written (laid_over (aside_files folder set taken_names) (without gone_names folder)))
         ∙ has_laid written settled q
         ∙ ap (λ ns. is_among ns q || has settled q) written_names
@@ -452,18 +431,15 @@ module _ (folder : Folder) (set : ParSet) (given : List (List ℕ)) (fits : Fits
 
     -- a name that is no target's is there only as an aside that is left, or as before
     after_other : (q : List ℕ) → is_among targets q ≡ false → has (after_repair folder set given) q ≡ (is_among (map off left) q || (not (is_among gone_names q) && has folder q))
-    after_other q h = after_has q ∙ past _ _ _ no_written no_won
+    after_other q h =
+        let no_written : is_among (filter (is_among unwon) targets) q ≡ false = among-filter (is_among unwon) targets q ∙ ap (λ b. b && is_among unwon q) h in
+        let no_won : is_among won q ≡ false = false_from_ne_true _ (λ i. clash (wanted_is_target q (won_wanted q i)) h) in
+        after_has q ∙ past _ _ _ no_written no_won
       where
         past : (a b c : Bool) → a ≡ false → b ≡ false → (a || (b || c)) ≡ c
         past true b c i j = absurd (false≢true (sym i))
         past false true c i j = absurd (false≢true (sym j))
         past false false c i j = refl
-
-        no_written : is_among (filter (is_among unwon) targets) q ≡ false
-        no_written = among-filter (is_among unwon) targets q ∙ ap (λ b. b && is_among unwon q) h
-
-        no_won : is_among won q ≡ false
-        no_won = false_from_ne_true _ (λ i. clash (wanted_is_target q (won_wanted q i)) h)
 
     par_left_is : (q : List ℕ) → is_among par_left q ≡ (is_among (par_files folder set) q && not (is_among taken_names q))
     par_left_is q = among-filter (λ name. not (is_among taken_names name)) (par_files folder set) q
@@ -471,15 +447,13 @@ module _ (folder : Folder) (set : ParSet) (given : List (List ℕ)) (fits : Fits
     -- nothing stands under the aside of a match
     pub vacant_aside : (q : List ℕ) → is_among taken_names q ≡ true → has (after_repair folder set given) (off q) ≡ false
     vacant_aside q h =
+        let not_left : is_among (map off left) (off q) ≡ true → ⊥ = (λ i.
+        let r = image_of off left (off q) i in
+        let mine = subst (λ x. is_among left x ≡ true) (sym (free.aside_one q r.0 r.2)) r.1 in
+        clash h (not-true (is_among taken_names q) (and_parts (is_among moved q) (not (is_among taken_names q)) (sym (left_is q) ∙ mine)).1)) in
         after_other (off q) (fits.aside_apart q)
         ∙ or_from (is_among (map off left) (off q)) (not (is_among gone_names (off q)) && has folder (off q)) (false_from_ne_true (is_among (map off left) (off q)) not_left)
         (and_right (not (is_among gone_names (off q))) (has folder (off q)) (free.aside_free q))
-      where
-        not_left : is_among (map off left) (off q) ≡ true → ⊥
-        not_left i =
-            let r = image_of off left (off q) i in
-            let mine = subst (λ x. is_among left x ≡ true) (sym (free.aside_one q r.0 r.2)) r.1 in
-            clash h (not-true (is_among taken_names q) (and_parts (is_among moved q) (not (is_among taken_names q)) (sym (left_is q) ∙ mine)).1)
 
     par_left_par : (q : List ℕ) → is_among par_left q ≡ true → is_among (par_files folder set) q ≡ true
     par_left_par q h = (and_parts _ _ (sym (par_left_is q) ∙ h)).0
@@ -504,15 +478,18 @@ module _ (folder : Folder) (set : ParSet) (given : List (List ℕ)) (fits : Fits
 
     -- what stands after the repair and is to go is what is removed
     removed_alike : (q : List ℕ) → has (after_repair folder set given) q ≡ true → is_among (map off left ++ par_left) q ≡ is_among (map off moved ++ par_files folder set) q
-    removed_alike q k = same_tests _ _ to from
-      where
-        to : is_among (map off left ++ par_left) q ≡ true → is_among (map off moved ++ par_files folder set) q ≡ true
-        to h = elim (or_cases (is_among (map off left) q) (is_among par_left q) (sym (among-append (map off left) par_left q) ∙ h)) as (λ _. is_among (map off moved ++ par_files folder set) q ≡ true) [
+    removed_alike q k =
+        let to : is_among (map off left ++ par_left) q ≡ true → is_among (map off moved ++ par_files folder set) q ≡ true = (λ h. elim (or_cases (is_among (map off left) q) (is_among par_left q) (sym (among-append (map off left) par_left q) ∙ h)) as (λ _. is_among (map off moved ++ par_files folder set) q ≡ true) [
           | inl i ↦ let r = image_of off left q i in among-append (map off moved) (par_files folder set) q
               ∙ or_left _ _ (subst (λ x. is_among (map off moved) x ≡ true) (sym r.2) (image_in off moved r.0 (left_moved r.0 r.1)))
           | inr i ↦ among-append (map off moved) (par_files folder set) q ∙ or_right _ _ (par_left_par q i)
-        ]
-
+        ]) in
+        let was_par : is_among (par_files folder set) q ≡ true → is_among taken_names q ≡ false = λ i. false_from_ne_true (is_among taken_names q) (λ j. clash k (par_taken q i j)) in
+        let from : is_among (map off moved ++ par_files folder set) q ≡ true → is_among (map off left ++ par_left) q ≡ true = (λ h. by_either (or_cases (is_among (map off moved) q) (is_among (par_files folder set) q) (sym (among-append (map off moved) (par_files folder set) q) ∙ h))
+        (λ i. let r = image_of off moved q i in among-append (map off left) par_left q ∙ or_left _ _ (was_aside r.0 r.2))
+        (λ i. among-append (map off left) par_left q ∙ or_right _ _ (par_left_is q ∙ and_from _ _ i (not_from_false _ (was_par i))))) in
+        same_tests _ _ to from
+      where
         was_aside : (n : List ℕ) → q ≡ off n → is_among (map off left) q ≡ true
         was_aside n e = subst (λ x. is_among (map off left) x ≡ true) (sym e)
             (only (is_among (map off left) (off n)) (not (is_among gone_names (off n))) (has folder (off n)) (free.aside_free n) (sym (after_other (off n) (fits.aside_apart n)) ∙ subst (λ x. has (after_repair folder set given) x ≡ true) e k))
@@ -522,25 +499,16 @@ module _ (folder : Folder) (set : ParSet) (given : List (List ℕ)) (fits : Fits
             only false true c i j = absurd (clash j i)
             only false false c i j = absurd (false≢true j)
 
-        was_par : is_among (par_files folder set) q ≡ true → is_among taken_names q ≡ false
-        was_par i = false_from_ne_true (is_among taken_names q) (λ j. clash k (par_taken q i j))
-
-        from : is_among (map off moved ++ par_files folder set) q ≡ true → is_among (map off left ++ par_left) q ≡ true
-        from h = by_either (or_cases (is_among (map off moved) q) (is_among (par_files folder set) q) (sym (among-append (map off moved) (par_files folder set) q) ∙ h))
-            (λ i. let r = image_of off moved q i in among-append (map off left) par_left q ∙ or_left _ _ (was_aside r.0 r.2))
-            (λ i. among-append (map off left) par_left q ∙ or_right _ _ (par_left_is q ∙ and_from _ _ i (not_from_false _ (was_par i))))
-
     removed_there : (q : List ℕ) → is_among (map off left ++ par_left) q ≡ true → has (after_repair folder set given) q ≡ true
-    removed_there q h = elim (or_cases (is_among (map off left) q) (is_among par_left q) (sym (among-append (map off left) par_left q) ∙ h)) as (λ _. has (after_repair folder set given) q ≡ true) [
-      | inl i ↦ let r = image_of off left q i in after_other q (subst (λ x. is_among targets x ≡ false) (sym r.2) (fits.aside_apart r.0)) ∙ or_left _ _ i
-      | inr i ↦
-          let r = and_parts _ _ (sym (par_left_is q) ∙ i) in
-          after_other q (par_no_target q r.0) ∙ or_right _ _ (and_from _ _ (not_from_false _ (stays r.0 r.1)) (par_there q r.0))
-    ]
-      where
-        stays : is_among (par_files folder set) q ≡ true → not (is_among taken_names q) ≡ true → is_among gone_names q ≡ false
-        stays i j = among-append (map (λ m. m.0.name) (matches folder set given)) taken_names q
-            ∙ or_from _ _ (ap (λ ns. is_among ns q) heads ∙ false_from_ne_true _ (λ m. clash (wanted_is_target q m) (par_no_target q i))) (not-true (is_among taken_names q) j)
+    removed_there q h =
+        let stays : is_among (par_files folder set) q ≡ true → not (is_among taken_names q) ≡ true → is_among gone_names q ≡ false = λ i j. among-append (map (λ m. m.0.name) (matches folder set given)) taken_names q
+        ∙ or_from _ _ (ap (λ ns. is_among ns q) heads ∙ false_from_ne_true _ (λ m. clash (wanted_is_target q m) (par_no_target q i))) (not-true (is_among taken_names q) j) in
+        elim (or_cases (is_among (map off left) q) (is_among par_left q) (sym (among-append (map off left) par_left q) ∙ h)) as (λ _. has (after_repair folder set given) q ≡ true) [
+          | inl i ↦ let r = image_of off left q i in after_other q (subst (λ x. is_among targets x ≡ false) (sym r.2) (fits.aside_apart r.0)) ∙ or_left _ _ i
+          | inr i ↦
+              let r = and_parts _ _ (sym (par_left_is q) ∙ i) in
+              after_other q (par_no_target q r.0) ∙ or_right _ _ (and_from _ _ (not_from_false _ (stays r.0 r.1)) (par_there q r.0))
+        ]
 
     removed_once : AreDistinct (map off left ++ par_left)
     removed_once = distinct-append (map off left) par_left
@@ -549,8 +517,7 @@ module _ (folder : Folder) (set : ParSet) (given : List (List ℕ)) (fits : Fits
         (λ q i. false_from_ne_true _ (λ j. clash i (present_no_aside left q (par_there q (par_left_par q j)))))
 
     removals_are : repair_removals folder set given ≡ map Remove (map off left ++ par_left)
-    unfolding repair_removals
-    removals_are =
+    removals_are = unfold repair_removals in
         ap (λ cs. cs ++ map Remove par_left) (sym (map-map Remove off left)) ∙ sym (map-append Remove (map off left) par_left)
 
     pub repair_and_purge_applies : are_applicable folder (repair_changes folder set given ++ repair_removals folder set given) ≡ true
@@ -576,8 +543,7 @@ module _ (folder : Folder) (set : ParSet) (given : List (List ℕ)) (fits : Fits
   with_asides = laid_over (aside_files folder set (matching folder set given)) base
 
   after_is : after_repair folder set given ≡ laid_over (written folder set given fits) (settled folder set given fits)
-  unfolding after_repair
-  after_is = laid_over-append (matched_files folder (matches folder set given)) (written folder set given fits) with_asides
+  after_is = unfold after_repair in laid_over-append (matched_files folder (matches folder set given)) (written folder set given fits) with_asides
 
   -- what is not written stands as it did before
   unwritten : (q : List ℕ) → is_among (unwon folder set given fits) q ≡ false → map_of.get (after_repair folder set given) q ≡ map_of.get (settled folder set given fits) q

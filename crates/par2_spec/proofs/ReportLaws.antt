@@ -1,7 +1,5 @@
 -- What a report says, target by target.
-use Rattle.par2_spec.proofs.Common.{arith, ◌≡◌, ◌<◌, ℕ, suc, not, List, [], ◌∷◌, length, map, drop, refl, sym, ap, ◌∙◌, subst, cond, true, false, Bool, filter, flat_map, find, zip, slice_index_or, Option, Some, None, Result, Ok, Err, is_some, option_to_list, option_and_then, AllByRecursion, bytes_eq, map-append, length-map, map-map, and_parts, or_parts, false≢true, drop-append_seam, take-append_seam, Pair, is_among, Fault, Folder, has, bytes_of, ParSet, Target, set_of, ◌>>=◌, IsSound, is_intact, is_needing, needing, intact_names, matched, match_of, candidates, cut_into, set_in, State, Complete, Report, needing_state, found_of, states_by, IsByTarget, StatesFollow, IsFound, IntactAreFound, MatchedAreFound, HasIntactFile, IsFoundWhole}
-use Rattle.par2_spec.specs.Search.{matches, known}
-use Rattle.par2_spec.specs.Reports.{state_of, report_of_target, report_of, report_in}
+use Rattle.par2_spec.proofs.Common.{arith, ◌≡◌, ◌<◌, ℕ, suc, not, List, [], ◌∷◌, length, map, drop, refl, sym, ap, ◌∙◌, subst, cond, true, false, Bool, filter, flat_map, find, zip, slice_index_or, Option, Some, None, Result, Ok, Err, is_some, option_to_list, option_and_then, AllByRecursion, bytes_eq, map-append, length-map, map-map, and_parts, or_parts, false≢true, drop-append_seam, take-append_seam, Pair, is_among, Fault, Folder, has, bytes_of, ParSet, Target, set_of, ◌>>=◌, IsSound, is_intact, is_needing, needing, intact_names, matched, match_of, candidates, matches, known, cut_into, set_in, State, Complete, Report, needing_state, found_of, states_by, IsByTarget, StatesFollow, IsFound, IntactAreFound, MatchedAreFound, HasIntactFile, IsFoundWhole, state_of, report_of_target, report_of, report_in}
 use Rattle.par2_spec.proofs.NamesLaws.{itself, AreDistinct, distinct_from_std, among-filter}
 use Rattle.par2_spec.proofs.AcceptedCommands.{set_in_reads}
 use Rattle.par2_spec.proofs.SearchLaws.{pairs_with, found_passes}
@@ -20,8 +18,7 @@ cut_pairs f [] = refl
 cut_pairs f (t ∷ ts) = grind (arith, map-append, length-map, take-append_seam, drop-append_seam, cut_pairs f ts)
 
 pub by_target : (folder : Folder) (set : ParSet) (searched : List (List ℕ)) → IsByTarget folder set searched
-unfolding report_of known
-by_target folder set searched = grind (arith, cut_pairs, map-map)
+by_target folder set searched = unfold report_of known in grind (arith, cut_pairs, map-map)
 
 -- ---- states by the matches in order
 
@@ -72,8 +69,7 @@ second_of_pairs (t ∷ ts) (o ∷ given) e = ap (λ os. o ∷ os) (second_of_pai
 second_of_pairs ts given e = absurd (omega (arith, e))
 
 pub states_follow : (folder : Folder) (set : ParSet) (searched : List (List ℕ)) → IsSound set → StatesFollow folder set searched
-unfolding state_of matches
-states_follow folder set searched sound = search (arith, matched_count, states_in_order, distinct_from_std, second_of_pairs)
+states_follow folder set searched sound = unfold state_of matches in search (arith, matched_count, states_in_order, distinct_from_std, second_of_pairs)
 
 -- ---- what is found whole
 
@@ -99,8 +95,7 @@ matches_found folder s names free (t ∷ ts) positive sized within =
     head (Some x) k i = let r = k x refl in windowed_found folder s names x t.pairs (within x r.0) (intact_windowed s t (bytes_of folder x) positive sized.0 r.1)
 
 pub matched_are_found : (folder : Folder) (base : List ℕ) (set : ParSet) (extras : List (List ℕ)) → set_of folder base ≡ Ok set → MatchedAreFound folder set (candidates folder set extras)
-unfolding matches
-matched_are_found folder base set extras h =
+matched_are_found folder base set extras h = unfold matches in
     let sound = sound_of folder base set h in
     let names = candidates folder set extras in
     matches_found folder set.slice_size names (filter (λ name. not (is_among (intact_names folder set) name)) names) (needing folder set) (size_positive set.slice_size sound.size)
@@ -145,8 +140,7 @@ whole_by_state folder set searched (t ∷ ts) h = grind (arith, found_whole, who
 
 whole_of_set : (folder : Folder) (base : List ℕ) (set : ParSet) (extras : List (List ℕ)) → set_of folder base ≡ Ok set
     → AllByRecursion IsFoundWhole (report_of folder set (candidates folder set extras)).targets
-unfolding matches
-whole_of_set folder base set extras h =
+whole_of_set folder base set extras h = unfold matches in
     let searched = candidates folder set extras in
     let free = filter (λ name. not (is_among (intact_names folder set) name)) searched in
     let given = matched folder set.slice_size free (needing folder set) in

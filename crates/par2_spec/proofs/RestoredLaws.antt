@@ -1,10 +1,8 @@
 -- The slices of a file give the file back, and those of the files that a set was made from are rebuilt.
-use Rattle.par2_spec.proofs.Common.{◌≡◌, ℕ, zero, suc, ◌+◌, ◌-◌, ◌*◌, ◌%◌, ◌<◌, ◌≤◌, List, [], ◌∷◌, ◌++◌, length, map, take, drop, refl, sym, ap, ◌∙◌, subst, true, Bool, arith, inl, inr, length-append, length-drop, flat_map, filter, find, zip, replicate, ◌==◌, Option, Some, range_with_len, list_any, concat, AllByRecursion, AllZip, ForSome, add-mul, drop-append_seam, take-append_seam, take-append-add, div_ceil_times, length-take, length-take-le, length-replicate, length-map, take_all, drop_all, take-append-drop, drop-drop, map-append, cases_lt, pair_of, slice_count, slice_at, slices, windows, is_match, found, window, recovery, Agrees, kept_slices, kept, Folder, File, bytes_of, all_slices, Target, target_of_file, MadeFrom, all_pairs, lost, survivors, NoCollision, cut_into, files_of_slices, TrueSlicesAreRebuilt}
+use Rattle.par2_spec.proofs.Common.{◌≡◌, ℕ, zero, suc, ◌+◌, ◌-◌, ◌*◌, ◌%◌, ◌<◌, ◌≤◌, List, [], ◌∷◌, ◌++◌, length, map, take, drop, refl, sym, ap, ◌∙◌, subst, true, Bool, arith, inl, inr, length-append, length-drop, flat_map, filter, find, zip, replicate, ◌==◌, Option, Some, range_with_len, list_any, concat, AllByRecursion, AllZip, ForSome, add-mul, drop-append_seam, take-append_seam, take-append-add, div_ceil_times, length-take, length-take-le, length-replicate, length-map, take_all, drop_all, take-append-drop, drop-drop, map-append, cases_lt, pair_of, slice_count, slice_at, slices, windows, is_match, found, window, recovery, Agrees, kept_slices, kept, Folder, File, bytes_of, all_slices, record_of, Target, target_of_file, MadeFrom, all_pairs, lost, survivors, NoCollision, known, cut_into, files_of_slices, TrueSlicesAreRebuilt}
 use Rattle.std.specs.FinMap as map_of
 use Rattle.std.proofs.Math.Nat.{zero-mul}
 use Rattle.std.proofs.lemmas.List.{append_assoc, append-nil}
-use Rattle.par2_spec.specs.Volumes.{record_of}
-use Rattle.par2_spec.specs.Search.{known}
 use Rattle.par2_spec.proofs.ListsLaws.{all-append, all-take, all-drop, all-each, all-flat_map-map, found_one}
 use Rattle.par2_spec.proofs.FoundLaws.{all-filter}
 use Rattle.par2_spec.proofs.RankLaws.{rebuilt_is_only, all_weaker}
@@ -81,12 +79,10 @@ same_slices s a b positive long e = sym (slices_joined s a positive) ∙ ap (λ 
 -- ---- what a set of files says
 
 pairs-target : (s : ℕ) (file : File) → (target_of_file s file).pairs ≡ map pair_of (slices s file.1)
-unfolding record_of
-pairs-target s file = refl
+pairs-target s file = unfold record_of in refl
 
 length-target : (s : ℕ) (file : File) → (target_of_file s file).length ≡ length file.1
-unfolding record_of
-length-target s file = refl
+length-target s file = unfold record_of in refl
 
 pairs_of_files : (s : ℕ) (files : List File) → flat_map (λ t. t.pairs) (map (target_of_file s) files) ≡ map pair_of (all_slices s files)
 pairs_of_files s [] = refl
@@ -139,8 +135,7 @@ turned s xs rs h = all_weaker (λ r. r.1 ≡ recovery s xs r.0) (λ r. recovery 
 -- the slices of the files that a set was made from agree with all that is found
 pub true_slices_agree : (folder : Folder) (base : List ℕ) (files : List File) (s : ℕ) (searched : List (List ℕ)) (m : MadeFrom folder base files s) → NoCollision folder searched s (all_slices s files) → AllByRecursion (λ file. AreBytes file.1) files
     → Agrees s (known folder m.set searched) (map_of.entries m.set.recovery) (all_slices s files)
-unfolding known
-true_slices_agree folder base files s searched m told bytes = record {
+true_slices_agree folder base files s searched m told bytes = unfold known in record {
   sizes = sizes_of_files s files;
   bytes = bytes_of_files s files bytes;
   as_known = subst (λ ks. AllZip (λ slice text. ForSome slice (λ found. text ≡ found)) ks (all_slices s files))

@@ -1,9 +1,6 @@
 -- Exponents that are close are kept, and a run of as many as slices are lost determines these.
-use Rattle.par2_spec.proofs.Common.{◌≡◌, ◌≢◌, ℕ, zero, suc, ◌+◌, ◌-◌, ◌^◌, ◌<◌, ◌≤◌, List, [], ◌∷◌, length, map, take, get_or, refl, sym, ap, ap₂, ◌∙◌, subst, cond, true, Bool, eqb, inl, inr, arith, filter, AllByRecursion, Contains, range_with_len, IsStrictlyIncreasing, Decides-eqb, cases_lt, eq-eqb, ne_eqb, length-map, get_or-map, get_or-take, get_or_default, Contains-get_or, length-range_with_len, get_or-range_with_len, AllPairs-from_increasing, IsDistinct-from_AllPairs, mul, constant, coefficients, kept, rank, smaller, is_independent, IsVector, Kills, IsKept, IsRepairable, AreElements, ArePoints, Interpolates}
+use Rattle.par2_spec.proofs.Common.{◌≡◌, ◌≢◌, ℕ, zero, suc, ◌+◌, ◌-◌, ◌^◌, ◌<◌, ◌≤◌, List, [], ◌∷◌, length, map, take, get_or, refl, sym, ap, ap₂, ◌∙◌, subst, cond, true, Bool, eqb, inl, inr, arith, filter, AllByRecursion, Contains, range_with_len, IsStrictlyIncreasing, Decides-eqb, cases_lt, eq-eqb, ne_eqb, length-map, get_or-map, get_or-take, get_or_default, Contains-get_or, length-range_with_len, get_or-range_with_len, AllPairs-from_increasing, IsDistinct-from_AllPairs, mul, constant, pow, coefficient, coefficients, dot, kept, rank, smaller, is_independent, IsVector, Kills, IsKept, IsRepairable, AreElements, ArePoints, Interpolates, value}
 use Rattle.std.proofs.Common.{bit_xor}
-use Rattle.par2_spec.specs.Field.{pow, coefficient}
-use Rattle.par2_spec.specs.Recovery.{dot}
-use Rattle.par2_spec.specs.Polynomials.{value}
 use Rattle.par2_spec.specs.Runs.{AreSlices, AreClose, HasRun}
 use Rattle.par2_spec.proofs.FieldBits.{xor_middle}
 use Rattle.par2_spec.proofs.FieldProducts.{product_linear_left, product_linear_right, product_assoc, product_comm, product-one}
@@ -50,12 +47,10 @@ weighted : ℕ → List ℕ → ℕ → ℕ
 weighted u p k = mul (coefficient u k) (value p (constant k))
 
 coefficient-lt : (u k : ℕ) → coefficient u k < 2 ^ 16
-unfolding coefficient
-coefficient-lt u k = power-lt (constant k) u (constant-lt k)
+coefficient-lt u k = unfold coefficient in power-lt (constant k) u (constant-lt k)
 
 one_more : (u a : ℕ) (p : List ℕ) → a < 2 ^ 16 → AreElements p → (k : ℕ) → weighted u (a ∷ p) k ≡ bit_xor (mul a (coefficient u k)) (weighted (suc u) p k)
-unfolding weighted coefficient value pow
-one_more u a p small h k =
+one_more u a p small h k = unfold weighted coefficient value pow in
     let c = constant k in
     let hc = constant-lt k in
     let power = pow c u in
@@ -99,8 +94,7 @@ power_nonzero a zero h small e = omega (arith, e)
 power_nonzero a (suc n) h small e = power_nonzero a n h small (no_zero_divisor a (pow a n) h small (power-lt a n small) e)
 
 coefficient-nonzero : (e k : ℕ) → k < 32768 → coefficient e k ≢ 0
-unfolding coefficient
-coefficient-nonzero e k h = power_nonzero (constant k) e (let other = constant-nonzero k h in omega (arith, other)) (constant-lt k)
+coefficient-nonzero e k h = unfold coefficient in power_nonzero (constant k) e (let other = constant-nonzero k h in omega (arith, other)) (constant-lt k)
 
 constants_differ : (ks : List ℕ) → AreSlices ks → (i j : ℕ) → i < j → j < length ks → constant (get_or ks i 0) ≢ constant (get_or ks j 0)
 constants_differ ks are i j h low =
@@ -125,8 +119,7 @@ apart ks are i q hi hq other = grind (arith, by_either, cases_lt, constants_diff
 
 -- what a run of as many exponents as slices are lost kills is 0 at each place
 zero_at : (ks v : List ℕ) (f q : ℕ) → AreSlices ks → IsVector (length ks) v → ((i : ℕ) → i < length ks → Kills ks (f + i) v) → q < length ks → get_or v q 0 ≡ 0
-unfolding weighted is_one_at
-zero_at ks v f q are is kills hq =
+zero_at ks v f q are is kills hq = unfold weighted is_one_at in
     let k = get_or ks q 0 in
     let c = constant k in
     let p = unit (map constant ks) (points_are ks are) c in

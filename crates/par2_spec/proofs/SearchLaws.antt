@@ -1,6 +1,5 @@
 -- What the matches of a set are.
-use Rattle.par2_spec.proofs.Common.{◌≡◌, ◌&&◌, ℕ, List, [], ◌∷◌, map, inl, inr, refl, sym, ap, ◌∙◌, subst, cond, true, false, Bool, not, ◌||◌, ◌++◌, filter, filter_map, find, zip, Option, Some, None, option_to_list, is_some, cons_option, bytes_eq, and_parts, or_cases, or_left, or_right, false_from_ne_true, false≢true, same_Some, and-true, and-false, and_assoc, is_among, Folder, bytes_of, ParSet, Target, is_intact, matched, needing, intact_names, AreFirstMatches}
-use Rattle.par2_spec.specs.Search.{matches}
+use Rattle.par2_spec.proofs.Common.{◌≡◌, ◌&&◌, ℕ, List, [], ◌∷◌, map, inl, inr, refl, sym, ap, ◌∙◌, subst, cond, true, false, Bool, not, ◌||◌, ◌++◌, filter, filter_map, find, zip, Option, Some, None, option_to_list, is_some, cons_option, bytes_eq, and_parts, or_cases, or_left, or_right, false_from_ne_true, false≢true, same_Some, and-true, and-false, and_assoc, is_among, Folder, bytes_of, ParSet, Target, is_intact, matched, needing, intact_names, AreFirstMatches, matches}
 use Rattle.par2_spec.proofs.NamesLaws.{same_name, itself, clash, AreDistinct, among-filter, among-append}
 
 -- the targets with their matches, and the matches alone
@@ -111,8 +110,7 @@ first_matches folder s searched intact before (t ∷ ts) =
 
 -- the matches of a set are those of the rule, in target order
 pub matches_follow : (folder : Folder) (set : ParSet) (searched : List (List ℕ)) → AreFirstMatches folder set.slice_size searched (intact_names folder set) [] (matches folder set searched)
-unfolding matches
-matches_follow folder set searched =
+matches_follow folder set searched = unfold matches in
     subst (λ free. AreFirstMatches folder set.slice_size searched (intact_names folder set) [] (pairs_with folder set.slice_size free (needing folder set)))
     (filter_alike _ _ searched (λ x. and-true (not (is_among (intact_names folder set) x))))
     (first_matches folder set.slice_size searched (intact_names folder set) [] (needing folder set))
@@ -124,6 +122,5 @@ targets_of_pairs folder s free (t ∷ ts) =
 
 -- each needing target stands there, in order
 pub matches_of_needing : (folder : Folder) (set : ParSet) (searched : List (List ℕ)) → map (λ m. m.0) (matches folder set searched) ≡ needing folder set
-unfolding matches
-matches_of_needing folder set searched =
+matches_of_needing folder set searched = unfold matches in
     targets_of_pairs folder set.slice_size (filter (λ name. not (is_among (intact_names folder set) name)) searched) (needing folder set)

@@ -1,11 +1,8 @@
 -- A session is a history, and a kept session keeps its room.
-use Rattle.par2_spec.proofs.Common.{◌≡◌, ℕ, zero, suc, ◌+◌, ◌-◌, ◌≤◌, List, [], ◌∷◌, refl, sym, ap, ◌∙◌, true, arith, Option, Some, None, Result, Ok, Err, replicate, sum_by, is_ok, AllByRecursion, and_parts, and_from, false≢true, sum_by-cons, drop-nil, Fault, Folder, Change, Write, Replace, Rename, Remove, state_after, effects, are_applicable, way_back, FolderState, takes_all, places_taken, Command, Create, Verify, Repair, Purge, Action, Do, Undo, Redo, refusal, after, changes_of, LeadsToAfter, LeadsToAfterAsked, Session, first_entry, changes_unless, others, session_unless, KeptSession, session_of_kept, CanWalk, OnlyGrew, is_valid}
+use Rattle.par2_spec.proofs.Common.{◌≡◌, ℕ, zero, suc, ◌+◌, ◌-◌, ◌≤◌, List, [], ◌∷◌, refl, sym, ap, ◌∙◌, true, arith, Option, Some, None, Result, Ok, Err, replicate, sum_by, is_ok, AllByRecursion, and_parts, and_from, false≢true, sum_by-cons, drop-nil, Fault, Folder, Change, Write, Replace, Rename, Remove, state_after, effects, are_applicable, way_back, FolderState, takes_all, places_taken, state_after_all, Command, Create, Verify, Repair, Purge, Action, Do, Undo, Redo, refusal, after, changes_of, LeadsToAfter, LeadsToAfterAsked, Session, first_entry, changes_unless, others, session_unless, KeptSession, session_of_kept, CanWalk, OnlyGrew, folders_along, history_of, changes_asked, session_with, session_after, walks, kept_done, kept_undone, kept_redone, is_valid, leads}
 use Rattle.par2_spec.specs.History.{History, Refusal, Refused, NothingToUndo, NothingToRedo, in_front, after_command, unless_refused, after_undo, after_redo, Run, Ended, Accepted, Passed, folders, IsChanging}
 use Rattle.std.specs.Prelude.{drop, length}
-use Rattle.par2_spec.specs.Changes.{state_after_all}
 use Rattle.par2_spec.specs.History.{history_after}
-use Rattle.par2_spec.specs.Sessions.{folders_along, history_of, changes_asked, session_with, session_after, walks, kept_done, kept_undone, kept_redone}
-use Rattle.par2_spec.specs.Opening.{leads}
 use Rattle.par2_spec.proofs.FolderLaws.{undo_changes, undo_are_applicable, state_files, taken_are_applicable, state_all_back, way_back_taken, changes_back, with_room, more_room_all, takes_applicable}
 
 -- ---- what came out
@@ -19,12 +16,10 @@ err_or_else e (Ok x) = e
 err_or_else e (Err x) = x
 
 pub same_ok : {A E : Type 0} (x y : A) → ◌≡◌ {A = Result A E} (Ok x) (Ok y) → x ≡ y
-unfolding ok_or_else
-same_ok x y e = ap (ok_or_else x) e
+same_ok x y e = unfold ok_or_else in ap (ok_or_else x) e
 
 same_err : {A E : Type 0} (x y : E) → ◌≡◌ {A = Result A E} (Err x) (Err y) → x ≡ y
-unfolding err_or_else
-same_err x y e = ap (err_or_else x) e
+same_err x y e = unfold err_or_else in ap (err_or_else x) e
 
 pub ok_no_err : {A E : Type 0} (x : A) (y : E) → ◌≡◌ {A = Result A E} (Ok x) (Err y) → ⊥
 ok_no_err x y e = false≢true (sym (ap is_ok e))
@@ -33,12 +28,10 @@ ok_no_err x y e = false≢true (sym (ap is_ok e))
 
 -- the folders along the way back and further entries
 along_back : (folder : Folder) (cs : List Change) (entries : List (List Change)) → are_applicable folder cs ≡ true → folders_along (effects folder cs) (way_back folder cs ∷ entries) ≡ folder ∷ folders_along folder entries
-unfolding folders_along
-along_back folder cs entries h = ap (λ f. f ∷ folders_along f entries) (undo_changes folder cs h)
+along_back folder cs entries h = unfold folders_along in ap (λ f. f ∷ folders_along f entries) (undo_changes folder cs h)
 
 leads_back : (folder : Folder) (cs : List Change) (entries : List (List Change)) → are_applicable folder cs ≡ true → leads folder entries ≡ true → leads (effects folder cs) (way_back folder cs ∷ entries) ≡ true
-unfolding leads
-leads_back folder cs entries h l = and_from _ _ (undo_are_applicable folder cs h) (ap (λ f. leads f entries) (undo_changes folder cs h) ∙ l)
+leads_back folder cs entries h l = unfold leads in and_from _ _ (undo_are_applicable folder cs h) (ap (λ f. leads f entries) (undo_changes folder cs h) ∙ l)
 
 -- ---- an accepted action
 
@@ -46,8 +39,7 @@ abbrev at_command : Session → List Change → Session
 at_command s cs = record { folder = effects s.folder cs; undos = way_back s.folder cs ∷ s.undos; redos = [] }
 
 command_in_front : (s : Session) (cs : List Change) (folder : Folder) → are_applicable s.folder cs ≡ true → effects s.folder cs ≡ folder → in_front folder (history_of s) ≡ history_of (at_command s cs)
-unfolding history_of folders_along
-command_in_front s cs folder h e = λ i. record { older = sym (along_back s.folder cs s.undos h) i; now = sym e i; newer = [] }
+command_in_front s cs folder h e = unfold history_of folders_along in λ i. record { older = sym (along_back s.folder cs s.undos h) i; now = sym e i; newer = [] }
 
 done_is : (s : Session) (command : Command) → LeadsToAfter s.folder command → after_command command (history_of s) ≡ history_of (session_with s (Do command) (changes_of s.folder command))
 unfolding session_with history_of
@@ -57,8 +49,7 @@ done_is s (Repair base extras purge) l = command_in_front s (changes_of s.folder
 done_is s (Purge base) l = command_in_front s (changes_of s.folder (Purge base)) (after s.folder (Purge base)) l.0 l.1
 
 valid_command : (s : Session) (cs : List Change) → is_valid s ≡ true → are_applicable s.folder cs ≡ true → is_valid (at_command s cs) ≡ true
-unfolding leads
-valid_command s cs v h = and_from _ _ (leads_back s.folder cs s.undos h (and_parts (leads s.folder s.undos) (leads s.folder s.redos) v).0) refl
+valid_command s cs v h = unfold leads in and_from _ _ (leads_back s.folder cs s.undos h (and_parts (leads s.folder s.undos) (leads s.folder s.redos) v).0) refl
 
 valid_done : (s : Session) (command : Command) → is_valid s ≡ true → LeadsToAfter s.folder command → is_valid (session_with s (Do command) (changes_of s.folder command)) ≡ true
 unfolding session_with
@@ -177,49 +168,40 @@ done_of_kept s (Verify base extras) cs is = absurd is
 done_of_kept s command cs is = λ i. record { folder = state_files s.folder cs i; undos = way_back s.folder.files cs ∷ s.undos; redos = [] }
 
 pub undone_of_kept : (s : KeptSession) (cs : List Change) → session_of_kept (kept_undone s cs) ≡ session_with (session_of_kept s) Undo cs
-unfolding kept_undone session_with
-undone_of_kept s cs = λ i. record { folder = state_files s.folder cs i; undos = others s.undos; redos = way_back s.folder.files cs ∷ s.redos }
+undone_of_kept s cs = unfold kept_undone session_with in λ i. record { folder = state_files s.folder cs i; undos = others s.undos; redos = way_back s.folder.files cs ∷ s.redos }
 
 pub redone_of_kept : (s : KeptSession) (cs : List Change) → session_of_kept (kept_redone s cs) ≡ session_with (session_of_kept s) Redo cs
-unfolding kept_redone session_with
-redone_of_kept s cs = λ i. record { folder = state_files s.folder cs i; undos = way_back s.folder.files cs ∷ s.undos; redos = others s.redos }
+redone_of_kept s cs = unfold kept_redone session_with in λ i. record { folder = state_files s.folder cs i; undos = way_back s.folder.files cs ∷ s.undos; redos = others s.redos }
 
 -- the entries can be walked after the way back
 walks_back : (folder : FolderState) (cs : List Change) (entries : List (List Change)) → takes_all folder cs ≡ true → walks folder entries ≡ true → walks (state_after_all folder cs) (way_back folder.files cs ∷ entries) ≡ true
-unfolding walks
-walks_back folder cs entries h w = and_from _ _ (way_back_taken folder cs h) (ap (λ f. walks f entries) (state_all_back folder cs h) ∙ w)
+walks_back folder cs entries h w = unfold walks in and_from _ _ (way_back_taken folder cs h) (ap (λ f. walks f entries) (state_all_back folder cs h) ∙ w)
 
 pub done_can_walk : (s : KeptSession) (cs : List Change) → CanWalk s → takes_all s.folder cs ≡ true → CanWalk (kept_done s cs)
-unfolding kept_done walks
-done_can_walk s cs c h = record { back = walks_back s.folder cs s.undos h c.back; forth = refl }
+done_can_walk s cs c h = unfold kept_done walks in record { back = walks_back s.folder cs s.undos h c.back; forth = refl }
 
 -- the next entry is taken, and the entries after it can be walked
 pub next_taken : (folder : FolderState) (entries : List (List Change)) (cs : List Change) (rest : List (List Change)) → walks folder entries ≡ true → entries ≡ cs ∷ rest → (takes_all folder cs ≡ true) × (walks (state_after_all folder cs) rest ≡ true)
-unfolding walks
-next_taken folder entries cs rest w e = and_parts (takes_all folder cs) (walks (state_after_all folder cs) rest) (sym (ap (walks folder) e) ∙ w)
+next_taken folder entries cs rest w e = unfold walks in and_parts (takes_all folder cs) (walks (state_after_all folder cs) rest) (sym (ap (walks folder) e) ∙ w)
 
 pub undone_can_walk : (s : KeptSession) (cs : List Change) (rest : List (List Change)) → CanWalk s → s.undos ≡ cs ∷ rest → CanWalk (kept_undone s cs)
-unfolding kept_undone
-undone_can_walk s cs rest c e =
+undone_can_walk s cs rest c e = unfold kept_undone in
     let r = next_taken s.folder s.undos cs rest c.back e in
     record { back = ap (λ es. walks (state_after_all s.folder cs) (others es)) e ∙ r.1; forth = walks_back s.folder cs s.redos r.0 c.forth }
 
 pub redone_can_walk : (s : KeptSession) (cs : List Change) (rest : List (List Change)) → CanWalk s → s.redos ≡ cs ∷ rest → CanWalk (kept_redone s cs)
-unfolding kept_redone
-redone_can_walk s cs rest c e =
+redone_can_walk s cs rest c e = unfold kept_redone in
     let r = next_taken s.folder s.redos cs rest c.forth e in
     record { back = walks_back s.folder cs s.undos r.0 c.back; forth = ap (λ es. walks (state_after_all s.folder cs) (others es)) e ∙ r.1 }
 
 -- an undo is redone by its way back, and a redo undone
 pub redo_of_undo : (s : KeptSession) (cs : List Change) (rest : List (List Change)) → CanWalk s → s.undos ≡ cs ∷ rest → kept_redone (kept_undone s cs) (way_back s.folder.files cs) ≡ s
-unfolding kept_redone kept_undone
-redo_of_undo s cs rest c e =
+redo_of_undo s cs rest c e = unfold kept_redone kept_undone in
     let taken = (next_taken s.folder s.undos cs rest c.back e).0 in
     λ i. record { folder = state_all_back s.folder cs taken i; undos = (ap (λ d. d ∷ others s.undos) (changes_back s.folder cs taken) ∙ ap (λ es. cs ∷ others es) e ∙ sym e) i; redos = s.redos; room = s.room }
 
 pub undo_of_redo : (s : KeptSession) (cs : List Change) (rest : List (List Change)) → CanWalk s → s.redos ≡ cs ∷ rest → kept_undone (kept_redone s cs) (way_back s.folder.files cs) ≡ s
-unfolding kept_redone kept_undone
-undo_of_redo s cs rest c e =
+undo_of_redo s cs rest c e = unfold kept_redone kept_undone in
     let taken = (next_taken s.folder s.redos cs rest c.forth e).0 in
     λ i. record { folder = state_all_back s.folder cs taken i; undos = s.undos; redos = (ap (λ d. d ∷ others s.redos) (changes_back s.folder cs taken) ∙ ap (λ es. cs ∷ others es) e ∙ sym e) i; room = s.room }
 

@@ -1,13 +1,11 @@
 -- Whatever a stopped command left, it opens as the session from before it.
-use Rattle.par2_spec.proofs.Common.{◌≡◌, ℕ, zero, suc, ◌+◌, ◌-◌, ◌<◌, ◌≤◌, List, [], ◌∷◌, ◌++◌, length, map, take, drop, get_or, refl, sym, ap, ◌∙◌, subst, cond, true, false, Bool, not, ◌&&◌, inl, arith, length-append, length-drop, IfSome, reverse, position, Option, Some, None, Result, Ok, Err, unwrap_or, is_some, if◌then◌else◌, AllByRecursion, position_from, bytes_eq, drop-append_seam, take-append_seam, reverse-reverse, reverse-append, length-reverse, get_or-reverse, get_or-map, take-append-drop, length-map, length-take-le, take-map, take-take, get_or-take, drop-drop, reverse_onto, and_parts, and_from, false≢true, position_from-zero, Folder, fingerprint, Change, effect, inverse, is_applicable, Session, session_of, is_valid, Opened, Settled, Halfway, opened_if_found, opened_by_part, TellsApart, session_of_opened, kept_in, HalfwayJournalOpensAsBefore, HalfwayTextOpensAsBefore, HalfwayJournalStillOpens, HalfwayTextStillOpens, common_steps}
+use Rattle.par2_spec.proofs.Common.{◌≡◌, ℕ, zero, suc, ◌+◌, ◌-◌, ◌<◌, ◌≤◌, List, [], ◌∷◌, ◌++◌, length, map, take, drop, get_or, refl, sym, ap, ◌∙◌, subst, cond, true, false, Bool, not, ◌&&◌, inl, arith, length-append, length-drop, IfSome, reverse, position, Option, Some, None, Result, Ok, Err, unwrap_or, is_some, if◌then◌else◌, AllByRecursion, position_from, bytes_eq, drop-append_seam, take-append_seam, reverse-reverse, reverse-append, length-reverse, get_or-reverse, get_or-map, take-append-drop, length-map, length-take-le, take-map, take-take, get_or-take, drop-drop, reverse_onto, common_steps, and_parts, and_from, false≢true, position_from-zero, Folder, fingerprint, Change, effect, inverse, is_applicable, effects, are_applicable, way_back, folders_after, Session, session_of, is_valid, Opened, Settled, Halfway, opened_if_found, opened_by_part, TellsApart, session_of_opened, kept_in, settled_journal, halfway_journal, leads, leads_through, taken_back, opened, OpensAs, Opens, HalfwayJournalOpensAsBefore, HalfwayTextOpensAsBefore, HalfwayJournalStillOpens, HalfwayTextStillOpens}
 use Rattle.par2_spec.specs.declared.Version.{Version}
 use Rattle.par2_spec.specs.declared.Version.TheVariants.{One, Two}
 use Rattle.par2_spec.specs.Journals.{Journal, HalfwayPart, IsHalfwayPart, Spells}
 use Rattle.std.proofs.lemmas.List.{append-nil}
 use Rattle.par2_spec.specs.declared.JournalFault.{JournalFault}
 use Rattle.par2_spec.specs.declared.JournalFault.TheVariants.{JournalInvalid, FolderChanged}
-use Rattle.par2_spec.specs.Changes.{effects, are_applicable, way_back, folders_after}
-use Rattle.par2_spec.specs.Opening.{settled_journal, halfway_journal, leads, leads_through, taken_back, opened, OpensAs, Opens}
 use Rattle.par2_spec.proofs.FolderLaws.{undo_changes, undo_change, undo_is_applicable, effects-append, way_back-append}
 use Rattle.par2_spec.proofs.NamesLaws.{itself, same_name}
 use Rattle.par2_spec.proofs.ListsLaws.{all_get}
@@ -160,8 +158,7 @@ print_of Two s = refl
 
 -- the settled journal of a session opens as it
 pub settled_opens : (v : Version) (s : Session) → is_valid s ≡ true → opened s.folder (settled_journal v s) ≡ Ok (Settled (kept_in v s))
-unfolding opened
-settled_opens v s h =
+settled_opens v s h = unfold opened in
     ap (λ o. opened_by_part s.folder (settled_journal v s) o) (not_halfway v s)
     ∙ ap (λ p. if not (bytes_eq (fingerprint s.folder) p) then Err (FolderChanged false) else if is_valid (session_of s.folder (settled_journal v s)) then Ok (Settled (session_of s.folder (settled_journal v s))) else Err JournalInvalid) (print_of v s)
     ∙ ap (λ b. if not b then Err (FolderChanged false) else if is_valid (session_of s.folder (settled_journal v s)) then Ok (Settled (session_of s.folder (settled_journal v s))) else Err JournalInvalid) (itself (fingerprint s.folder))
@@ -186,8 +183,7 @@ applicable-take folder (c ∷ cs) (suc k) h =
 -- of the folder after the first k changes
 taken_from : (v : Version) (s : Session) (cs : List Change) (k : ℕ) → is_valid s ≡ true → are_applicable s.folder cs ≡ true → k ≤ length cs
     → taken_back (effects s.folder (take k cs)) (halfway_journal v s cs) (part s.folder cs) k ≡ Ok (Halfway (kept_in v s) (way_back s.folder (take k cs)))
-unfolding taken_back halfway_journal
-taken_from v s cs k valid applies le =
+taken_from v s cs k valid applies le = unfold taken_back halfway_journal in
     let journal = halfway_journal v s cs in
     let some = take k cs in
     let g = effects s.folder some in
@@ -204,8 +200,7 @@ taken_from v s cs k valid applies le =
 
 -- the halfway journal of a command opens each folder that the command passes through as the session from before it
 pub halfway_opens : HalfwayJournalOpensAsBefore
-unfolding opened halfway_journal
-halfway_opens v s cs j valid applies apart le =
+halfway_opens v s cs j valid applies apart le = unfold opened halfway_journal in
     let journal = halfway_journal v s cs in
     let g = effects s.folder (take j cs) in
     let prints = map fingerprint (passed s.folder cs) in
@@ -237,8 +232,7 @@ session_or other (Ok (Halfway s back)) = s
 session_or other (Err fault) = other
 
 settled_is : (answer : Result Opened JournalFault) (s : Session) (back : List Change) → back_of answer ≡ None → answer ≡ Ok (Halfway s back) → ⊥
-unfolding back_of
-settled_is answer s back e h = false≢true (ap is_some (sym e ∙ ap back_of h))
+settled_is answer s back e h = unfold back_of in false≢true (ap is_some (sym e ∙ ap back_of h))
 
 -- the parts of an opening that takes back
 record TakesBack (folder : Folder) (journal : Journal) (s : Session) (back : List Change) : Type 0 where
@@ -253,12 +247,10 @@ record TakesBack (folder : Folder) (journal : Journal) (s : Session) (back : Lis
 
 taken_parts : (folder : Folder) (journal : Journal) (h : HalfwayPart) (k : ℕ) (s : Session) (back : List Change) → journal.halfway ≡ Some h → position (bytes_eq (fingerprint folder)) (journal.fingerprint ∷ h.fingerprints) ≡ Some k
     → taken_back folder journal h k ≡ Ok (Halfway s back) → TakesBack folder journal s back
-unfolding taken_back back_of session_or
-taken_parts folder journal h k s back there found e = grind (arith, settled_is, and_parts, back_of, session_or)
+taken_parts folder journal h k s back there found e = unfold taken_back back_of session_or in grind (arith, settled_is, and_parts, back_of, session_or)
 
 takes_back : (folder : Folder) (journal : Journal) (s : Session) (back : List Change) → opened folder journal ≡ Ok (Halfway s back) → TakesBack folder journal s back
-unfolding opened back_of
-takes_back folder journal s back e = grind (arith, settled_is, taken_parts, by_test)
+takes_back folder journal s back e = unfold opened back_of in grind (arith, settled_is, taken_parts, by_test)
 
 -- ---- a stop while a command is taken back
 
@@ -315,8 +307,7 @@ rest_taken : (folder : Folder) (journal : Journal) (h : HalfwayPart) (s : Sessio
     → back ≡ drop (length h.back - k) h.back → leads_through folder back (reverse (take k (journal.fingerprint ∷ h.fingerprints))) ≡ true
     → s ≡ session_of (effects folder back) journal → is_valid s ≡ true
     → taken_back (effects folder (take a back)) journal h (k - a) ≡ Ok (Halfway s (drop a back))
-unfolding taken_back
-rest_taken folder journal h s back k a le_k lt le_a last through session valid =
+rest_taken folder journal h s back k a le_k lt le_a last through session valid = unfold taken_back in
     let prints = journal.fingerprint ∷ h.fingerprints in
     let g = effects folder (take a back) in
     let rest = drop a back in
@@ -360,8 +351,7 @@ still_taken journal folder h s back k i each lt here last through session valid 
 
 -- where a halfway journal opens a folder, it opens each folder that the way back passes through as that session too
 pub still_opens : HalfwayJournalStillOpens
-unfolding opened
-still_opens journal folder s back i is e apart le =
+still_opens journal folder s back i is e apart le = unfold opened in
     let t = takes_back folder journal s back e in
     let h = t.halfway in
     let k = t.place in
@@ -382,8 +372,7 @@ taken_back_leads journal folder s back e =
 -- ---- in a store
 
 stored_opens : (folder : Folder) (text : List ℕ) (journal : Journal) (o : Opened) → Spells text journal → opened folder journal ≡ Ok o → OpensAs folder (Some text) (Ok (record { session = session_of_opened o; dropped = false }))
-unfolding OpensAs Opens
-stored_opens folder text journal o spells e = (Ok o, inl (journal, spells, sym e), refl)
+stored_opens folder text journal o spells e = unfold OpensAs Opens in (Ok o, inl (journal, spells, sym e), refl)
 
 pub settled_stored : (v : Version) (s : Session) (text : List ℕ) → is_valid s ≡ true → Spells text (settled_journal v s) → OpensAs s.folder (Some text) (Ok (record { session = kept_in v s; dropped = false }))
 settled_stored v s text valid spells = stored_opens s.folder text (settled_journal v s) (Settled (kept_in v s)) spells (settled_opens v s valid)

@@ -1,8 +1,7 @@
 -- Sums in the field.
-use Rattle.par2_spec.proofs.Common.{ℕ, zero, suc, ◌<◌, ◌≤◌, ◌≡◌, ◌≢◌, inl, inr, refl, sym, ap, ap₂, ◌∙◌, arith, List, [], ◌∷◌, length, get_or, cases_eq, xor_comm, xor_lt, xor_assoc, xor_zero_r, xor_self, xor_zero_l, mul, word, row_sum}
+use Rattle.par2_spec.proofs.Common.{ℕ, zero, suc, ◌<◌, ◌≤◌, ◌≡◌, ◌≢◌, inl, inr, refl, sym, ap, ap₂, ◌∙◌, arith, List, [], ◌∷◌, length, get_or, cases_eq, xor_comm, xor_lt, xor_assoc, xor_zero_r, xor_self, xor_zero_l, mul, word, row_sum, field_sum, dot}
 use Rattle.std.proofs.Common.{bit_xor}
-use Rattle.par2_spec.specs.Recovery.{dot}
-use Rattle.par2_spec.specs.Sums.{field_sum, AreElements}
+use Rattle.par2_spec.specs.Sums.{AreElements}
 use Rattle.par2_spec.proofs.FieldBits.{xor_middle}
 use Rattle.par2_spec.proofs.FieldProducts.{product_linear_left, product_linear_right, product_assoc, product_comm, product-one, product-lt}
 use Rattle.par2_spec.proofs.FieldOrder.{product-zero, zero-product}

@@ -1,9 +1,7 @@
 -- Where the lost slices are determined, one list alone agrees.
-use Rattle.par2_spec.proofs.Common.{◌≡◌, ℕ, zero, suc, ◌+◌, ◌/◌, ◌%◌, ◌^◌, ◌<◌, ◌≤◌, List, [], ◌∷◌, length, map, take, drop, get_or, refl, sym, ap, ◌∙◌, subst, cond, true, false, Bool, arith, inl, inr, flat_map, filter, slice_index, ◌==◌, Option, Some, None, is_none, w16, to_le_bytes, from_le_bytes, xor_self, range_with_len, enumerate_from, list_any, AllByRecursion, AllZip, Contains, ForSome, xor_lt, from_le_bytes-to_le_bytes_2, length-map, or_left, or_right, eq-eqb, cases_eq, AllZip-long, mul, word, coefficients, kept, IsVector, Kills, IsRepairable, Agrees, kept_slices, IsRebuilt, AreElements, ParSet, lost, survivors, AgreeingListsAreOne}
+use Rattle.par2_spec.proofs.Common.{◌≡◌, ℕ, zero, suc, ◌+◌, ◌/◌, ◌%◌, ◌^◌, ◌<◌, ◌≤◌, List, [], ◌∷◌, length, map, take, drop, get_or, refl, sym, ap, ◌∙◌, subst, cond, true, false, Bool, arith, inl, inr, flat_map, filter, slice_index, ◌==◌, Option, Some, None, is_none, w16, to_le_bytes, from_le_bytes, xor_self, range_with_len, enumerate_from, list_any, AllByRecursion, AllZip, Contains, ForSome, xor_lt, from_le_bytes-to_le_bytes_2, length-map, or_left, or_right, eq-eqb, cases_eq, AllZip-long, mul, coefficient, word, coefficients, dot, combination, recovery, kept, IsVector, Kills, IsRepairable, Agrees, kept_slices, IsRebuilt, AreElements, ParSet, lost, survivors, AgreeingListsAreOne}
 use Rattle.std.specs.Prelude.{bit_xor}
 use Rattle.std.specs.FinMap as map_of
-use Rattle.par2_spec.specs.Field.{coefficient}
-use Rattle.par2_spec.specs.Recovery.{dot, combination, recovery}
 use Rattle.par2_spec.proofs.FieldBits.{xor_middle}
 use Rattle.par2_spec.proofs.FieldProducts.{product_linear_right, product-lt}
 use Rattle.par2_spec.proofs.FieldOrder.{product-zero, power-lt}
@@ -74,8 +72,7 @@ whole_row n e = coefficients (range_with_len 0 n) e
 
 same_dots : (s e : ℕ) (a b : List (List ℕ)) → AreTexts a → AreTexts b → length a ≡ length b → recovery s a e ≡ recovery s b e → (p : ℕ) → p < s / 2
     → dot (whole_row (length a) e) (map (word p) a) ≡ dot (whole_row (length a) e) (map (word p) b)
-unfolding recovery combination
-same_dots s e a b ha hb long h p lt =
+same_dots s e a b ha hb long h p lt = unfold recovery combination in
     let row = whole_row (length a) e in
     let same = subst (λ n. recovery s a e ≡ combination s (whole_row n e) b) (sym long) h in
     same_number (dot row (map (word p) a)) (dot row (map (word p) b)) (dot-lt row (map (word p) a) (coefficients_are e (range_with_len 0 (length a))) (words_are p a ha))
@@ -205,26 +202,24 @@ all_same s a b even e la lb ha hb same = absurd (omega (arith, e))
 
 pub agreeing_are_one : AgreeingListsAreOne
 agreeing_are_one s known rs a b even repairable ga gb =
+    let words_alike : (p : ℕ) → p < s / 2 → length a ≡ length known → length b ≡ length known → map (word p) a ≡ map (word p) b = (λ p lt long_a long_b.
+    let u = map (word p) a in
+    let v = map (word p) b in
+    let long : length u ≡ length v = length-map a (word p) ∙ long_a ∙ sym long_b ∙ sym (length-map b (word p)) in
+    let d = sums u v in
+    let z = zero_at_known known a b p ga.as_known gb.as_known in
+    let vector : IsVector (length (lost known)) (at_lost known d) = (length-at_lost 0 known d z, elements-at_lost known d (sums-elements u v (words_are p a ga.bytes) (words_are p b gb.bytes))) in
+    let kills = (λ (e : ℕ) (c : Contains (kept (lost known) (map (λ r. r.0) rs)) e).
+    sym (dot-at_lost e 0 known d z)
+    ∙ dot-sums (coefficients (range_with_len 0 (length known)) e) u v long
+    ∙ ap (λ t. bit_xor t (dot (whole_row (length known) e) v))
+    (subst (λ n. dot (whole_row n e) u ≡ dot (whole_row n e) v) long_a (same_dots s e a b ga.bytes gb.bytes (long_a ∙ sym long_b)
+    (of_kept (λ x. recovery s a x ≡ recovery s b x) (lost known) rs (both_recovered s a b (kept_slices (lost known) (map (λ r. r.0) rs) rs) ga.as_recovered gb.as_recovered) e c) p lt))
+    ∙ xor_self (dot (whole_row (length known) e) v)) in
+    no_difference u v long (all_zero known d z (repairable (at_lost known d) vector (kept_kill_all (lost known) (map (λ r. r.0) rs) (at_lost known d) vector kills)))) in
     let long_a : length a ≡ length known = AllZip-long (λ slice text. ForSome slice (λ found. text ≡ found)) known a ga.as_known in
     let long_b : length b ≡ length known = AllZip-long (λ slice text. ForSome slice (λ found. text ≡ found)) known b gb.as_known in
     all_same s a b even (long_a ∙ sym long_b) ga.sizes gb.sizes ga.bytes gb.bytes (λ p lt. words_alike p lt (long_a) (long_b))
-  where
-    words_alike : (p : ℕ) → p < s / 2 → length a ≡ length known → length b ≡ length known → map (word p) a ≡ map (word p) b
-    words_alike p lt long_a long_b =
-        let u = map (word p) a in
-        let v = map (word p) b in
-        let long : length u ≡ length v = length-map a (word p) ∙ long_a ∙ sym long_b ∙ sym (length-map b (word p)) in
-        let d = sums u v in
-        let z = zero_at_known known a b p ga.as_known gb.as_known in
-        let vector : IsVector (length (lost known)) (at_lost known d) = (length-at_lost 0 known d z, elements-at_lost known d (sums-elements u v (words_are p a ga.bytes) (words_are p b gb.bytes))) in
-        let kills = (λ (e : ℕ) (c : Contains (kept (lost known) (map (λ r. r.0) rs)) e).
-        sym (dot-at_lost e 0 known d z)
-        ∙ dot-sums (coefficients (range_with_len 0 (length known)) e) u v long
-        ∙ ap (λ t. bit_xor t (dot (whole_row (length known) e) v))
-        (subst (λ n. dot (whole_row n e) u ≡ dot (whole_row n e) v) long_a (same_dots s e a b ga.bytes gb.bytes (long_a ∙ sym long_b)
-        (of_kept (λ x. recovery s a x ≡ recovery s b x) (lost known) rs (both_recovered s a b (kept_slices (lost known) (map (λ r. r.0) rs) rs) ga.as_recovered gb.as_recovered) e c) p lt))
-        ∙ xor_self (dot (whole_row (length known) e) v)) in
-        no_difference u v long (all_zero known d z (repairable (at_lost known d) vector (kept_kill_all (lost known) (map (λ r. r.0) rs) (at_lost known d) vector kills)))
 
 -- what agrees is what is rebuilt
 pub agreeing_is_rebuilt : (set : ParSet) (known : List (Option (List ℕ))) (slices : List (List ℕ)) → set.slice_size % 2 ≡ 0 → IsRepairable (lost known) (survivors set)

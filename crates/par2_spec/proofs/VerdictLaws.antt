@@ -1,15 +1,11 @@
 -- The verdict on what a verify reports, by the words.
-use Rattle.par2_spec.proofs.Common.{◌≡◌, ◌+◌, ℕ, List, [], ◌∷◌, T, length, map, refl, sym, ap, ◌∙◌, subst, Bool, true, false, not, cond, ◌&&◌, ◌↔◌, ◌==◌, nat_lt, Option, Some, None, Result, Ok, Err, filter, is_some, is_none, if◌then◌else◌, bytes_eq, md5, nat_cmp, is_lt, entries_sorted, is_sorted, below_all, list_all, list_any, enumerate_from, AllByRecursion, eqb-true, eq-eqb, false≢true, not-true, false_from_ne_true, IsStrictlyIncreasing-from_sorted, Fault, NotRepairable, NameTooLong, RepairFailed, first_fault, fault_where, then_fault, Folder, has, bytes_of, ParSet, Target, set_of, all_pairs, ◌>>=◌, found, is_needing, needing, matches, match_of, lost, survivors, candidates, is_repairable, IsRepairable, rank, aside, put_aside, rebuilt_targets, Repair, set_in, Report, is_complete, needing_state, found_of, verdict_of, IsFound, IsVerdict, IsVerdictIn, RefusedAsReported}
-use Rattle.std.proofs.Common.{Ordering, Less}
+use Rattle.par2_spec.proofs.Common.{◌≡◌, ◌+◌, ℕ, List, [], ◌∷◌, T, length, map, refl, sym, ap, ◌∙◌, subst, Bool, true, false, not, cond, ◌&&◌, Less, ◌↔◌, ◌==◌, nat_lt, Option, Some, None, Result, Ok, Err, filter, is_some, is_none, if◌then◌else◌, bytes_eq, md5, nat_cmp, is_lt, entries_sorted, is_sorted, below_all, list_all, list_any, enumerate_from, AllByRecursion, eqb-true, eq-eqb, false≢true, not-true, false_from_ne_true, IsStrictlyIncreasing-from_sorted, Fault, NotRepairable, NameTooLong, RepairFailed, first_fault, fault_where, then_fault, Folder, has, bytes_of, ParSet, Target, set_of, all_pairs, ◌>>=◌, found, is_needing, needing, matches, match_of, lost, survivors, candidates, known, is_repairable, IsRepairable, rank, aside, put_aside, rebuilt_targets, Repair, set_in, refusal, repair_refusal, Report, is_complete, needing_state, found_of, verdict_of, IsFound, IsVerdict, IsVerdictIn, RefusedAsReported, state_of, report_of_target, report_of, report_in, IsStrictlySortedBy}
+use Rattle.std.proofs.Common.{Ordering}
 use Rattle.std.specs.FinMap as map_of
-use Rattle.std.specs.List.Sorted.{IsStrictlySortedBy}
 use Rattle.par2_spec.specs.declared.Verdict.{Verdict}
 use Rattle.par2_spec.specs.declared.Verdict.TheVariants.{Complete, Repairable}
 use Rattle.par2_spec.specs.declared.Verdict.TheVariants as verdict
-use Rattle.par2_spec.specs.Search.{known}
-use Rattle.par2_spec.specs.Refusals.{refusal, repair_refusal}
 use Rattle.par2_spec.specs.Reports as reports
-use Rattle.par2_spec.specs.Reports.{state_of, report_of_target, report_of, report_in}
 use Rattle.par2_spec.proofs.TestLaws.{T-parts}
 use Rattle.par2_spec.proofs.RankLaws.{repairable-iff, none_kept}
 use Rattle.par2_spec.proofs.FullRank.{full-iff}
@@ -84,8 +80,7 @@ none_lost n (None ∷ slices) h = absurd (false≢true h.0)
 none_lost n (Some slice ∷ slices) h = none_lost (n + 1) slices h.1
 
 lost_of_complete : (folder : Folder) (base : List ℕ) (set : ParSet) (extras : List (List ℕ)) → set_of folder base ≡ Ok set → needing folder set ≡ [] → lost (known folder set (candidates folder set extras)) ≡ []
-unfolding known
-lost_of_complete folder base set extras reads none =
+lost_of_complete folder base set extras reads none = unfold known in
     let searched = candidates folder set extras in
     let f = found set.slice_size (map (bytes_of folder) searched) in
     let all = all_by_test (IsFound folder set.slice_size searched) (is_needing folder set) set.targets (intact_are_found folder base set extras reads) (subst (AllByRecursion (IsFound folder set.slice_size searched)) (sym none) tt) in
@@ -125,8 +120,7 @@ module _ (folder : Folder) (base : List ℕ) (extras : List (List ℕ)) (set : P
   is_full = rank missing (survivors set) == length missing
 
   verdict_is : verdict_of (report_of folder set searched) ≡ said (is_nil (needing folder set)) is_full
-  unfolding said report_of
-  verdict_is = ap (λ a. said a is_full) (ap (list_all (λ r. is_complete r.state)) (by_target folder set searched) ∙ complete_by_target folder set searched set.targets)
+  verdict_is = unfold said report_of in ap (λ a. said a is_full) (ap (list_all (λ r. is_complete r.state)) (by_target folder set searched) ∙ complete_by_target folder set searched set.targets)
 
   repairable_if_full : (is_full ≡ true) ↔ IsRepairable missing (survivors set)
   repairable_if_full =
@@ -167,12 +161,10 @@ module _ (folder : Folder) (base : List ℕ) (extras : List (List ℕ)) (set : P
   are_right = list_all (λ c. bytes_eq (md5 c.1) c.0.md5) (rebuilt_targets folder set searched)
 
   refused : (purge : Bool) → refusal folder (Repair base extras purge) ≡ refusal_by (is_repairable missing (survivors set)) is_long are_right
-  unfolding refusal repair_refusal refusal_by
-  refused purge = ap (λ r. then_fault r (λ (set : ParSet). repair_refusal folder set (candidates folder set extras))) reads
+  refused purge = unfold refusal repair_refusal refusal_by in ap (λ r. then_fault r (λ (set : ParSet). repair_refusal folder set (candidates folder set extras))) reads
 
   as_refused : RefusedAsReported folder base extras (report_of folder set searched)
-  unfolding report_of refusal_by
-  as_refused purge =
+  as_refused purge = unfold report_of refusal_by in
       let law = said-not_repairable (is_nil (needing folder set)) is_full in (
         λ e. refused purge ∙ ap (λ b. refusal_by b is_long are_right) (is_unrepairable (law.0 (sym verdict_is ∙ e)).1),
         λ e. let less = is_less (not-true _ (first_cause _ is_long (not are_right) (length missing) (rank missing (survivors set)) _ _ (sym (refused purge) ∙ e))) in verdict_is ∙ law.1 (some_needing less, less),

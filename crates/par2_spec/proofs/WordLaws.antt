@@ -1,8 +1,7 @@
 -- Words of texts, texts by their words, and vectors of texts.
-use Rattle.par2_spec.proofs.Common.{ℕ, zero, suc, ◌+◌, ◌*◌, ◌/◌, ◌%◌, ◌^◌, ◌<◌, ◌≤◌, ◌≡◌, inl, inr, refl, sym, ap, ap₂, ◌∙◌, arith, List, [], ◌∷◌, length, get_or, set, map, Vec, Global, length-set, w16, to_le_bytes, AllByRecursion, range_with_len, cases_eq, map-set, get_or-set_same, get_or-set_other, length-map, get_or-map, get_or_past, ext_get_or, word, dot, list_at, lists_of, OneChanged}
+use Rattle.par2_spec.proofs.Common.{ℕ, zero, suc, ◌+◌, ◌*◌, ◌/◌, ◌%◌, ◌^◌, ◌<◌, ◌≤◌, ◌≡◌, inl, inr, refl, sym, ap, ap₂, ◌∙◌, arith, List, [], ◌∷◌, length, get_or, set, map, Vec, Global, length-set, w16, to_le_bytes, AllByRecursion, range_with_len, cases_eq, map-set, get_or-set_same, get_or-set_other, length-map, get_or-map, get_or_past, ext_get_or, word, dot, combination, list_at, lists_of, OneChanged}
 use Rattle.std.proofs.Common.{◌↔◌}
 use Rattle.std.specs.List.{flat_map}
-use Rattle.par2_spec.specs.Recovery.{combination}
 use Rattle.par2_spec.proofs.ListsLaws.{all_at}
 
 pub word_past : (xs : List ℕ) (w : ℕ) → length xs ≤ 2 * w → word w xs ≡ 0
@@ -65,8 +64,7 @@ same_texts n xs ys even lx ly hx hy same = ext_get_or 0 xs ys (lx ∙ sym ly) (�
 pub combination_words : (s : ℕ) (row : List ℕ) (texts : List (List ℕ)) (right : List ℕ) → s % 2 ≡ 0 → ((w : ℕ) → dot row (map (word w) texts) < 65536)
     → length right ≡ s → ((k : ℕ) → get_or right k 0 < 256)
     → (combination s row texts ≡ right) ↔ ((w : ℕ) → 2 * w + 1 < s → dot row (map (word w) texts) ≡ word w right)
-unfolding combination
-combination_words s row texts right even small size bytes =
+combination_words s row texts right even small size bytes = unfold combination in
     let g : ℕ → ℕ = λ w. dot row (map (word w) texts) in
     let each : (w : ℕ) → 2 * w + 1 < s → word w (spelled g 0 (s / 2)) ≡ g w = λ w h. word_of g small (s / 2) w (omega arith) in (
       (λ e w h. sym (each w h) ∙ ap (λ xs. word w xs) e),

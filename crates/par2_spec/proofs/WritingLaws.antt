@@ -1,5 +1,5 @@
 -- Texts that are written one after the other.
-use Rattle.par2_spec.proofs.Common.{◌≡◌, ◌∙◌, ◌++◌, map, ◌+◌, ◌-◌, ◌<◌, ℕ, suc, List, [], take, drop, length, ap, sym, subst, append-nil, append_assoc, length-drop, length-append, arith, take-append_seam, take-append-add, drop-cons, take-append-drop, take-append-le, take_all, take_more, flat_map-append, flat_map-map, common_steps}
+use Rattle.par2_spec.proofs.Common.{◌≡◌, ◌∙◌, ◌++◌, map, ◌+◌, ◌-◌, ◌<◌, ℕ, suc, List, [], take, drop, length, ap, sym, subst, append-nil, append_assoc, length-drop, length-append, arith, take-append_seam, take-append-add, drop-cons, take-append-drop, take-append-le, take_all, take_more, flat_map-append, common_steps, flat_map-map}
 use Rattle.std.proofs.Common.{Option, Result, Ok, Err}
 use Rattle.std.specs.Io.KnownBytes.{Appends}
 use Rattle.std.proofs.Math.ListN.{get_or}

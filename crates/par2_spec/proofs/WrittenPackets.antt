@@ -1,7 +1,6 @@
 -- Parts of a text that is put together, and the tests of a packet at its front.
-use Rattle.par2_spec.proofs.Common.{◌≡◌, ℕ, suc, ◌-◌, ◌+◌, ◌%◌, ◌^◌, ◌≤◌, ◌<◌, Bool, true, false, leb, eqb, ◌&&◌, List, [], ◌∷◌, ◌++◌, length, drop, refl, sym, ap, ◌∙◌, append_assoc, arith, flat_map, AllByRecursion, w64, to_le_bytes, bytes_eq, le-leb, eq-eqb, lt-leb, leb-true, and_parts, take_at, drop_at, from_le_bytes-to_le_bytes_8, bytes_eq-Decides, md5, length-md5, Kind, bytes_at, magic, type_of, kind_of, Packet, digest_input, claimed_length, accepted, IsPacket}
+use Rattle.par2_spec.proofs.Common.{◌≡◌, ℕ, suc, ◌-◌, ◌+◌, ◌%◌, ◌^◌, ◌≤◌, ◌<◌, Bool, true, false, leb, eqb, ◌&&◌, List, [], ◌∷◌, ◌++◌, length, drop, refl, sym, ap, ◌∙◌, append_assoc, arith, flat_map, AllByRecursion, w64, to_le_bytes, bytes_eq, le-leb, eq-eqb, lt-leb, leb-true, and_parts, take_at, drop_at, from_le_bytes-to_le_bytes_8, bytes_eq-Decides, md5, length-md5, Kind, bytes_at, magic, type_of, kind_of, Packet, digest_input, claimed_length, accepted, IsPacket, u64_at, packet, begins_with_packet, first_packet, accepted_after}
 use Rattle.std.proofs.lemmas.List.{length-append}
-use Rattle.par2_spec.specs.Packets.{u64_at, packet, begins_with_packet, first_packet, accepted_after}
 use Rattle.par2_spec.proofs.AcceptedLaws.{accepted-found, accepted-none}
 
 pub part_at : (front mid rest : List ℕ) (o n : ℕ) → length front ≡ o → length mid ≡ n → bytes_at o n (front ++ (mid ++ rest)) ≡ mid
@@ -25,8 +24,7 @@ module_parts : (text m l d s k b t : List ℕ) → IsMade text m l d s k b t →
 module_parts text m l d s k b t h = (ap length h.magic, ap length h.claim, ap length h.digest ∙ length-md5 (s ++ (k ++ b)))
 
 claimed_is : (text m l d s k b t : List ℕ) → IsMade text m l d s k b t → claimed_length text ≡ 64 + length b
-unfolding u64_at
-claimed_is text m l d s k b t h = grind (arith, module_parts, part_at, from_le_bytes-to_le_bytes_8)
+claimed_is text m l d s k b t h = unfold u64_at in grind (arith, module_parts, part_at, from_le_bytes-to_le_bytes_8)
 
 to_32 : (m l d s k b t : List ℕ) → m ++ (l ++ (d ++ (s ++ (k ++ (b ++ t))))) ≡ (m ++ (l ++ d)) ++ ((s ++ (k ++ b)) ++ t)
 to_32 m l d s k b t = simp append_assoc
@@ -47,8 +45,7 @@ pub len3 : (a b c : List ℕ) → length (a ++ (b ++ c)) ≡ length a + (length 
 len3 a b c = length-append a (b ++ c) ∙ ap (λ (n : ℕ). length a + n) (length-append b c)
 
 begins : (text m l d s k b t : List ℕ) → IsMade text m l d s k b t → begins_with_packet text ≡ true
-unfolding begins_with_packet u64_at
-begins text m l d s k b t h =
+begins text m l d s k b t h = unfold begins_with_packet u64_at in
     let lens = module_parts text m l d s k b t h in
     let claim : claimed_length text ≡ 64 + length b = claimed_is text m l d s k b t h in
     let size_skb : length (s ++ (k ++ b)) ≡ 32 + length b = omega (arith, len3 s k b, h.set_id, h.kind) in
@@ -71,8 +68,7 @@ begins text m l d s k b t h =
     six _ _ _ _ _ _ h1 h2 h3 h4 h5 h6
 
 first : (text m l d s k b t : List ℕ) → IsMade text m l d s k b t → first_packet text ≡ record { set_id = s; kind = kind_of k; body = b }
-unfolding first_packet u64_at
-first text m l d s k b t h =
+first text m l d s k b t h = unfold first_packet u64_at in
     let lens = module_parts text m l d s k b t h in
     let claim : claimed_length text ≡ 64 + length b = claimed_is text m l d s k b t h in
     let size32 : length (m ++ (l ++ d)) ≡ 32 = omega (arith, len3 m l d, lens.0, lens.1, lens.2) in
@@ -103,16 +99,14 @@ fourth a b c d e f h = (and_parts (a && b && c) d (and_parts (a && b && c && d) 
 
 -- a packet at the front claims a length of at least one byte
 one_at_least : (text : List ℕ) → begins_with_packet text ≡ true → 64 ≤ claimed_length text
-unfolding begins_with_packet
-one_at_least text h = grind (arith, leb-true, fourth)
+one_at_least text h = unfold begins_with_packet in grind (arith, leb-true, fourth)
 
 pub in_front : (text : List ℕ) → begins_with_packet text ≡ true → accepted text ≡ first_packet text ∷ accepted (drop (claimed_length text) text)
 in_front text h = accepted_first text h (let far : 64 ≤ claimed_length text = one_at_least text h in omega arith)
 
 -- a packet that was written is read as it is, and what follows it as it was
 pub packet_then : (p : Packet) (t : List ℕ) → IsPacket p → accepted (packet p ++ t) ≡ p ∷ accepted t
-unfolding packet
-packet_then p t is =
+packet_then p t is = unfold packet in
     let text : List ℕ = packet p ++ t in
     let l : List ℕ = to_le_bytes w64 (64 + length p.body) in
     let d : List ℕ = md5 (digest_input p) in
@@ -138,8 +132,7 @@ fails_first : (a b c d e f : Bool) → a ≡ false → (a && b && c && d && e &&
 fails_first a b c d e f h = rw h refl
 
 short_front : (text : List ℕ) → length text < 64 → begins_with_packet text ≡ false
-unfolding begins_with_packet
-short_front text lt = fails_first _ _ _ _ _ _ (lt-leb 64 (length text) lt)
+short_front text lt = unfold begins_with_packet in fails_first _ _ _ _ _ _ (lt-leb 64 (length text) lt)
 
 -- a short text has no packets
 pub none_short : (text : List ℕ) → length text < 64 → accepted text ≡ []

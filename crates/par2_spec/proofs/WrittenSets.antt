@@ -1,24 +1,18 @@
 -- The packets of a set, as they are written, are read as they are.
-use Rattle.par2_spec.proofs.Common.{◌≡◌, ℕ, suc, ◌-◌, ◌+◌, ◌*◌, ◌/◌, ◌%◌, ◌^◌, ◌<◌, true, leb, eqb, ◌&&◌, List, [], ◌∷◌, ◌++◌, length, take, drop, map, refl, sym, ap, ◌∙◌, append_assoc, arith, zero, Bool, false, flat_map, w32, w64, to_le_bytes, from_le_bytes, w16, AllByRecursion, range_with_len, list_any, prefix_len, suffix_len, le-leb, eq-eqb, and_from, cond-true, or_parts, or_from, take_at, drop_at, length-replicate, reverse-append, replicate_more, from_le_bytes-to_le_bytes_4, from_le_bytes-to_le_bytes_8, Pair, IsPair, bytes_at, items_at, MainBody, IfscBody, RecoveryBody, without_end_zeros, DescBody, Packet, packet, accepted, IsCanonical, IsPacket, FileRecord, main_bytes, ifsc_bytes, pair_bytes, recovery_bytes, desc_bytes, padded_4, IsFileRecord, creator_bytes, main_id, packet_of, recovery_packets, list_any-append, prefix_len-append, prefix_len-replicate, length-range_with_len, length-md5, Kind, dot, coefficients, word, MainIsRead, DescIsRead, RecoverySlicesAreRead, common_steps}
+use Rattle.par2_spec.proofs.Common.{◌≡◌, ℕ, suc, ◌-◌, ◌+◌, ◌*◌, ◌/◌, ◌%◌, ◌^◌, ◌<◌, true, leb, eqb, ◌&&◌, List, [], ◌∷◌, ◌++◌, length, take, drop, map, refl, sym, ap, ◌∙◌, append_assoc, arith, zero, Bool, false, flat_map, w32, w64, to_le_bytes, from_le_bytes, w16, AllByRecursion, range_with_len, list_any, prefix_len, suffix_len, le-leb, eq-eqb, and_from, cond-true, or_parts, or_from, take_at, drop_at, length-replicate, reverse-append, replicate_more, from_le_bytes-to_le_bytes_4, from_le_bytes-to_le_bytes_8, Pair, IsPair, bytes_at, items_at, MainBody, IfscBody, RecoveryBody, without_end_zeros, DescBody, Packet, packet, accepted, IsCanonical, IsPacket, u64_at, u32_at, read_main, read_ifsc, read_recovery, read_desc, kind_of, FileRecord, main_bytes, ifsc_bytes, pair_bytes, recovery_bytes, desc_bytes, padded_4, IsFileRecord, creator_bytes, main_id, packet_of, recovery_packets, index_packets, list_any-append, prefix_len-append, prefix_len-replicate, length-range_with_len, length-md5, Kind, dot, coefficients, recovery, combination, word, MainIsRead, DescIsRead, RecoverySlicesAreRead, common_steps}
 use Rattle.par2_spec.specs.declared.Kind.TheVariants.{Main, Ifsc, Recovery, FileDesc, Creator}
-use Rattle.par2_spec.specs.Packets.{u64_at}
 use Rattle.std.proofs.Common.{Option, Some, None, reverse, replicate}
 use Rattle.std.proofs.lemmas.List.{length-append, append-nil}
-use Rattle.par2_spec.specs.Packets.{u64_at, u32_at, read_main, read_ifsc, read_recovery, read_desc, kind_of}
 use Rattle.par2_spec.proofs.WrittenPackets.{part_at, len3, packets_then}
-use Rattle.par2_spec.specs.Volumes.{index_packets}
-use Rattle.par2_spec.specs.Recovery.{recovery, combination}
 use Rattle.par2_spec.proofs.ListsLaws.{all-each, all-map, all-append}
 
 -- ---- numbers at a place
 
 u32_there : (front rest : List ℕ) (o n : ℕ) → length front ≡ o → n < 2 ^ 32 → u32_at o (front ++ (to_le_bytes w32 n ++ rest)) ≡ n
-unfolding u32_at
-u32_there front rest o n h lt = ap (from_le_bytes w32) (part_at front (to_le_bytes w32 n) rest o 4 h refl) ∙ from_le_bytes-to_le_bytes_4 n lt
+u32_there front rest o n h lt = unfold u32_at in ap (from_le_bytes w32) (part_at front (to_le_bytes w32 n) rest o 4 h refl) ∙ from_le_bytes-to_le_bytes_4 n lt
 
 pub u64_there : (front rest : List ℕ) (o n : ℕ) → length front ≡ o → n < 2 ^ 64 → u64_at o (front ++ (to_le_bytes w64 n ++ rest)) ≡ n
-unfolding u64_at
-u64_there front rest o n h lt = ap (from_le_bytes w64) (part_at front (to_le_bytes w64 n) rest o 8 h refl) ∙ from_le_bytes-to_le_bytes_8 n lt
+u64_there front rest o n h lt = unfold u64_at in ap (from_le_bytes w64) (part_at front (to_le_bytes w64 n) rest o 8 h refl) ∙ from_le_bytes-to_le_bytes_8 n lt
 
 -- ---- items of one length
 
@@ -42,8 +36,7 @@ abbrev main_of : ℕ → List (List ℕ) → Option MainBody
 main_of s ids = Some (record { slice_size = s; ids = ids })
 
 pub main_reads : MainIsRead
-unfolding read_main
-main_reads s files low few ids =
+main_reads s files low few ids = unfold read_main in
     let n : ℕ = length files in
     let front : List ℕ = to_le_bytes w64 s ++ to_le_bytes w32 n in
     let rest : List ℕ = flat_map (λ (file : FileRecord). file.id) files in
@@ -68,8 +61,7 @@ abbrev recovery_of : ℕ → List ℕ → Option RecoveryBody
 recovery_of e bytes = Some (record { exponent = e; bytes = bytes })
 
 pub recovery_reads : (e : ℕ) (bytes : List ℕ) → e < 2 ^ 32 → read_recovery Recovery (recovery_bytes e bytes) ≡ Some (record { exponent = e; bytes = bytes })
-unfolding read_recovery
-recovery_reads e bytes lt = grind (arith, length-append, le-leb, cond-true, u32_there, drop_at)
+recovery_reads e bytes lt = unfold read_recovery in grind (arith, length-append, le-leb, cond-true, u32_there, drop_at)
 
 -- ---- IFSC
 
@@ -95,8 +87,7 @@ ifsc_of id pairs = Some (record { id = id; pairs = pairs })
 
 pub ifsc_reads : (file : FileRecord) → length file.id ≡ 16 → AllByRecursion IsPair file.pairs
     → read_ifsc Ifsc (ifsc_bytes file) ≡ Some (record { id = file.id; pairs = file.pairs })
-unfolding read_ifsc
-ifsc_reads file long each =
+ifsc_reads file long each = unfold read_ifsc in
     let n : ℕ = length file.pairs in
     let rest : List ℕ = flat_map pair_bytes file.pairs in
     let body : List ℕ = ifsc_bytes file in
@@ -168,8 +159,7 @@ at_56 : (a b c d e : List ℕ) → a ++ b ++ c ++ d ++ e ≡ (a ++ (b ++ (c ++ d
 at_56 a b c d e = simp append_assoc
 
 pub desc_reads : DescIsRead
-unfolding read_desc
-desc_reads file i d s low none =
+desc_reads file i d s low none = unfold read_desc in
     let body : List ℕ = desc_bytes file in
     let n : List ℕ = to_le_bytes w64 file.length in
     let name : List ℕ = padded_4 file.name in
@@ -196,24 +186,19 @@ desc_reads file i d s low none =
 -- ---- the known kinds are written as themselves
 
 main_known : IsCanonical Main
-unfolding kind_of
-main_known = (refl, refl)
+main_known = unfold kind_of in (refl, refl)
 
 desc_known : IsCanonical FileDesc
-unfolding kind_of
-desc_known = (refl, refl)
+desc_known = unfold kind_of in (refl, refl)
 
 ifsc_known : IsCanonical Ifsc
-unfolding kind_of
-ifsc_known = (refl, refl)
+ifsc_known = unfold kind_of in (refl, refl)
 
 recovery_known : IsCanonical Recovery
-unfolding kind_of
-recovery_known = (refl, refl)
+recovery_known = unfold kind_of in (refl, refl)
 
 creator_known : IsCanonical Creator
-unfolding kind_of
-creator_known = (refl, refl)
+creator_known = unfold kind_of in (refl, refl)
 
 -- a packet of a body whose length is a multiple of 4
 made : (id : List ℕ) (kind : Kind) (body : List ℕ) (n : ℕ) → length id ≡ 16 → IsCanonical kind → length body ≡ 4 * n → n < 2 ^ 60 → IsPacket (packet_of id kind body)
@@ -257,8 +242,7 @@ of_each_file : (f : FileRecord → Packet) (files : List FileRecord) → ((file 
 of_each_file f files h each = all-map IsFileRecord IsPacket f h files each
 
 pub index_made : (s : ℕ) (files : List FileRecord) → length files < 2 ^ 32 → AllByRecursion IsFileRecord files → AllByRecursion IsPacket (index_packets s files)
-unfolding index_packets
-index_made s files few each =
+index_made s files few each = unfold index_packets in
     let id : List ℕ = main_id s files in
     let sixteen : length id ≡ 16 = length-md5 (main_bytes s files) in
     let descs : AllByRecursion IsPacket (map (λ file. packet_of id FileDesc (desc_bytes file)) files) = of_each_file _ files (λ file is. desc_packet id file sixteen is) each in
@@ -279,8 +263,7 @@ words_length f (p ∷ places) = grind (arith, length-append, words_length f plac
 
 -- a recovery slice is as long as the slices
 pub recovery_length : (s : ℕ) (texts : List (List ℕ)) (e : ℕ) → s % 2 ≡ 0 → length (recovery s texts e) ≡ s
-unfolding recovery combination
-recovery_length s texts e even =
+recovery_length s texts e even = unfold recovery combination in
     let size : length (recovery s texts e) ≡ 2 * length (range_with_len 0 (s / 2)) = words_length (λ p. dot (coefficients (range_with_len 0 (length texts)) e) (map (word p) texts)) (range_with_len 0 (s / 2)) in
     omega (arith, size, length-range_with_len 0 (s / 2), even)
 

@@ -1,5 +1,4 @@
 use Rattle.par2_spec.proofs.CreateLaws as create
-use Rattle.par2_spec.proofs.create_laws.index_alone.Goals as goal
 
-pub returns : goal.returns
+pub returns : Rattle.par2_spec.proofs.create_laws.index_alone.Goals.returns
 returns c base s f files = create.index_alone base s f files

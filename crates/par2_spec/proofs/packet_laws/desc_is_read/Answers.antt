@@ -1,5 +1,2 @@
-use Rattle.par2_spec.proofs.WrittenSets.{desc_reads}
-use Rattle.par2_spec.proofs.packet_laws.desc_is_read.Goals as goal
-
-pub returns : goal.returns
-returns c = desc_reads
+pub returns : Rattle.par2_spec.proofs.packet_laws.desc_is_read.Goals.returns
+returns c = Rattle.par2_spec.proofs.WrittenSets.desc_reads

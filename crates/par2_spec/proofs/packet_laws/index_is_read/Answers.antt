@@ -1,5 +1,2 @@
-use Rattle.par2_spec.proofs.WrittenSets.{index_reads}
-use Rattle.par2_spec.proofs.packet_laws.index_is_read.Goals as goal
-
-pub returns : goal.returns
-returns c = index_reads
+pub returns : Rattle.par2_spec.proofs.packet_laws.index_is_read.Goals.returns
+returns c = Rattle.par2_spec.proofs.WrittenSets.index_reads

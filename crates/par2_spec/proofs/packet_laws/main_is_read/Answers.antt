@@ -1,5 +1,2 @@
-use Rattle.par2_spec.proofs.WrittenSets.{main_reads}
-use Rattle.par2_spec.proofs.packet_laws.main_is_read.Goals as goal
-
-pub returns : goal.returns
-returns c = main_reads
+pub returns : Rattle.par2_spec.proofs.packet_laws.main_is_read.Goals.returns
+returns c = Rattle.par2_spec.proofs.WrittenSets.main_reads

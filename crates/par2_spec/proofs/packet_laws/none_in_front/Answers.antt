@@ -1,5 +1,2 @@
-use Rattle.par2_spec.proofs.AcceptedLaws.{accepted-none}
-use Rattle.par2_spec.proofs.packet_laws.none_in_front.Goals as goal
-
-pub returns : goal.returns
-returns c = accepted-none
+pub returns : Rattle.par2_spec.proofs.packet_laws.none_in_front.Goals.returns
+returns c = Rattle.par2_spec.proofs.AcceptedLaws.accepted-none

@@ -1,5 +1,2 @@
-use Rattle.par2_spec.proofs.WrittenPackets.{packets_then}
-use Rattle.par2_spec.proofs.packet_laws.packets_then_text.Goals as goal
-
-pub returns : goal.returns
-returns c = packets_then
+pub returns : Rattle.par2_spec.proofs.packet_laws.packets_then_text.Goals.returns
+returns c = Rattle.par2_spec.proofs.WrittenPackets.packets_then

@@ -1,8 +1,4 @@
 use Rattle.par2_spec.proofs.PolynomialLaws.{some_polynomial, one_polynomial}
-use Rattle.par2_spec.proofs.polynomial_laws.interpolation.Goals as goal
 
-pub returns-clause-some : goal.returns-clause-some
-returns-clause-some c = some_polynomial
-
-pub returns-clause-one : goal.returns-clause-one
-returns-clause-one c = one_polynomial
+pub returns : Rattle.par2_spec.proofs.polynomial_laws.interpolation.Goals.returns
+returns c = record { some = some_polynomial; one = one_polynomial }

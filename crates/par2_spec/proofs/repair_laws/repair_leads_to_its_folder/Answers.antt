@@ -1,8 +1,7 @@
 use Rattle.par2_spec.proofs.RepairLaws.{fits_all, asides_free, repair_applies, repair_leads}
-use Rattle.par2_spec.proofs.repair_laws.repair_leads_to_its_folder.Goals as goal
 
-pub returns-clause-applies : goal.returns-clause-applies
-returns-clause-applies c folder set searched fits = repair_applies folder set searched (fits_all folder set searched fits) (asides_free folder set fits.few)
-
-pub returns-clause-leads : goal.returns-clause-leads
-returns-clause-leads c folder set searched fits = repair_leads folder set searched (fits_all folder set searched fits) (asides_free folder set fits.few)
+pub returns : Rattle.par2_spec.proofs.repair_laws.repair_leads_to_its_folder.Goals.returns
+returns c = record {
+  applies = λ folder set searched fits. repair_applies folder set searched (fits_all folder set searched fits) (asides_free folder set fits.few);
+  leads = λ folder set searched fits. repair_leads folder set searched (fits_all folder set searched fits) (asides_free folder set fits.few);
+}

@@ -1,8 +1,4 @@
 use Rattle.par2_spec.proofs.ReportLaws.{by_target, states_follow}
-use Rattle.par2_spec.proofs.report_laws.reports_are_by_target.Goals as goal
 
-pub returns-clause-targets : goal.returns-clause-targets
-returns-clause-targets c folder set searched = by_target folder set searched
-
-pub returns-clause-states : goal.returns-clause-states
-returns-clause-states c folder set searched sound = states_follow folder set searched sound
+pub returns : Rattle.par2_spec.proofs.report_laws.reports_are_by_target.Goals.returns
+returns c = record { targets = by_target; states = states_follow }
