@@ -1,22 +1,14 @@
 -- The changes of a command lead to its folder.
-use Rattle.par2_spec.proofs.Common.{◌≡◌, ℕ, ◌+◌, List, [], ◌∷◌, ◌++◌, refl, sym, ◌∙◌, true, false, Bool, not, Option, Some, None, Result, Ok, Err, position, if◌then◌else◌, list_all, and_parts, not-false, position_from-zero, Fault, NoSuchFile, Folder, has, Change, effects, are_applicable, ParSet, set_of, candidates, after_repair, after_repair_and_purge, after_purge, par_files, FitsRepair, Command, Create, Verify, Repair, Purge, by_set, set_in, after, repair_changes, repair_removals, purge_changes, AreFewFor, LeadsToAfter, changes_of}
-use Rattle.par2_spec.proofs.CommandLaws.{create_leads, removals_lead}
+use Rattle.par2_spec.proofs.Common.{◌≡◌, ℕ, ◌+◌, List, [], ◌∷◌, ◌++◌, refl, true, false, Bool, not, Option, Some, None, Result, Ok, Err, position, if◌then◌else◌, list_all, and_parts, not-false, position_from-zero, Fault, NoSuchFile, Folder, has, Change, effects, are_applicable, ParSet, set_of, candidates, after_repair, after_repair_and_purge, after_purge, par_files, FitsRepair, Command, Create, Verify, Repair, Purge, by_set, set_in, after, repair_changes, repair_removals, purge_changes, AreFewFor, LeadsToAfter, changes_of, arith}
+use Rattle.par2_spec.proofs.Basics.{create_leads, removals_lead, fits_of, no_place, test_from_all, all_weaker, ok_no_err}
 use Rattle.par2_spec.proofs.CreateLaws.{create_applies}
-use Rattle.par2_spec.proofs.ReadLaws.{fits_of}
 use Rattle.par2_spec.proofs.RepairLaws.{fits_all, asides_free, repair_applies, repair_leads, repair_and_purge_applies, repair_and_purge_leads, purge_applies}
-use Rattle.par2_spec.proofs.TestLaws.{no_place}
-use Rattle.par2_spec.proofs.RankLaws.{test_from_all, all_weaker}
-use Rattle.par2_spec.proofs.SessionLaws.{ok_no_err}
 
 abbrev pub missing : Folder → List (List ℕ) → Option ℕ
 missing folder names = position (λ word. not (has folder word)) names
 
 pub all_there : (folder : Folder) (names : List (List ℕ)) → missing folder names ≡ None → list_all (has folder) names ≡ true
-all_there folder names h =
-    let test : List ℕ → Bool = (λ word. not (has folder word)) in
-    test_from_all (has folder) names
-    (all_weaker (λ word. test word ≡ false) (λ word. has folder word ≡ true) (λ word k. not-false (has folder word) k) names
-    (no_place test 0 names (sym (position_from-zero test names) ∙ h)))
+all_there folder names h = grind (arith, test_from_all, all_weaker, not-false, no_place, position_from-zero)
 
 pub in_full : (folder : Folder) (base : List ℕ) (extras : List (List ℕ)) → missing folder (base ∷ extras) ≡ None → set_in folder base extras ≡ set_of folder base
 in_full folder base extras e = unfold set_in in rw e refl
@@ -26,11 +18,7 @@ in_part folder base extras k e = unfold set_in in rw e refl
 
 -- what a set that is read in a folder with these names tells
 pub set_in_reads : (folder : Folder) (base : List ℕ) (extras : List (List ℕ)) (set : ParSet) → set_in folder base extras ≡ Ok set → (set_of folder base ≡ Ok set) × (list_all (has folder) (base ∷ extras) ≡ true)
-set_in_reads folder base extras set h = step (missing folder (base ∷ extras)) refl
-  where
-    step : (o : Option ℕ) → missing folder (base ∷ extras) ≡ o → (set_of folder base ≡ Ok set) × (list_all (has folder) (base ∷ extras) ≡ true)
-    step None e = (sym (in_full folder base extras e) ∙ h, all_there folder (base ∷ extras) e)
-    step (Some k) e = absurd (ok_no_err set (NoSuchFile (0 + k)) (sym h ∙ in_part folder base extras k e))
+set_in_reads folder base extras set h = grind (arith, in_full, all_there, ok_no_err, in_part)
 
 -- ---- what leads
 

@@ -1,12 +1,9 @@
 -- A numbered name is a name, where it has at most 255 bytes.
-use Rattle.par2_spec.proofs.Common.{◌≡◌, ℕ, zero, suc, ◌+◌, ◌%◌, ◌^◌, ◌<◌, ◌≤◌, List, [], ◌∷◌, ◌++◌, length, map, drop, refl, sym, ap, ◌∙◌, subst, cond, true, false, Bool, not, arith, eqb, length-append, find, Option, Some, None, is_some, unwrap_or, decimal, codes, ◌==◌, nat_eq, range_with_len, list_all, list_any, starts_with, bytes_eq, IsUtf8, drop-append_seam, and_parts, and_from, or_cases, or_parts, or_from, cases_Bool, ne_eqb, not_from_false, cases_eq, false≢true, not-true, not-false, false_from_ne_true, le-leb, leb-true, nat_list_eq_equiv, list_all-append, list_any-append, length-map-range_with_len, length-le_from_is_member, is_among, numbered, IsLeastFree, is_name, Folder, names, ParSet, target_names, taken_for, AreFew, aside, IsUtf8-append, IsUtf8-from_ascii, IsUtf8-from_is_utf8, is_utf8-from_IsUtf8}
+use Rattle.par2_spec.proofs.Common.{◌≡◌, ℕ, zero, suc, ◌+◌, ◌%◌, ◌^◌, ◌<◌, ◌≤◌, List, [], ◌∷◌, ◌++◌, length, map, drop, refl, sym, ap, ◌∙◌, subst, cond, true, false, Bool, not, arith, eqb, length-append, find, Option, Some, None, is_some, unwrap_or, decimal, codes, ◌==◌, nat_eq, range_with_len, list_all, list_any, starts_with, bytes_eq, IsUtf8, drop-append_seam, and_parts, and_from, or_cases, or_parts, or_from, cases_Bool, ne_eqb, not_from_false, cases_eq, false≢true, not-true, not-false, false_from_ne_true, le-leb, leb-true, nat_list_eq_equiv, list_all-append, list_any-append, length-map-range_with_len, length-le_from_is_member, is_among, numbered, IsLeastFree, is_name, Folder, names, ParSet, target_names, taken_for, AreFew, aside, IsUtf8-append, IsUtf8-from_ascii, IsUtf8-from_is_utf8, is_utf8-from_IsUtf8, append_assoc}
 use Rattle.std.proofs.lemmas.Fmt.{decimal_by_steps, decimal_injective, decimal_nonempty, IsAscii-decimal}
-use Rattle.std.proofs.lemmas.List.{append_assoc}
-use Rattle.par2_spec.proofs.NamesLaws.{same_name, other_name, among-append, AreDistinct, std_from_distinct, clash}
+use Rattle.par2_spec.proofs.Basics.{same_name, other_name, among-append, AreDistinct, std_from_distinct, clash, found_passes, by_either}
 use Rattle.par2_spec.proofs.NameTests.{no_name, tests_of, name_of}
-use Rattle.par2_spec.proofs.SearchLaws.{found_passes}
 use Rattle.std.proofs.lemmas.Str.Ascii.{IsAscii-cons}
-use Rattle.par2_spec.proofs.TestLaws.{by_either}
 
 -- ---- a numbered name tells its name
 
@@ -72,14 +69,11 @@ first_found test g a (suc k) h = grind (arith, by_either, cases_eq, first_found 
 none_passes : (test : List ℕ → Bool) (xs : List (List ℕ)) → is_some (find test xs) ≡ false → (q : List ℕ) → is_among xs q ≡ true → test q ≡ false
 none_passes test [] h q i = absurd (false≢true i)
 none_passes test (x ∷ xs) h q i =
+    let split : (b : Bool) (rest : Option (List ℕ)) → is_some (cond b (Some x) rest) ≡ false → (b ≡ false) × (is_some rest ≡ false) = λ b rest j. grind arith in
     let both = split (test x) (find test xs) h in
     by_either (or_cases (bytes_eq q x) (is_among xs q) i)
     (λ here. subst (λ y. test y ≡ false) (sym (same_name q x here)) both.0)
     (λ there. none_passes test xs both.1 q there)
-  where
-    split : (b : Bool) (rest : Option (List ℕ)) → is_some (cond b (Some x) rest) ≡ false → (b ≡ false) × (is_some rest ≡ false)
-    split true rest j = absurd (false≢true (sym j))
-    split false rest j = (refl, j)
 
 not_later : (name : List ℕ) (m a k : ℕ) → m < a → a + k ≤ 2 ^ 64 → is_among (map (numbered name) (range_with_len a k)) (numbered name m) ≡ false
 not_later name m a zero low high = refl
@@ -173,8 +167,7 @@ front_of_name (b ∷ front) (c ∷ name) rest h k =
 
 -- of a front whose first byte alone is a dot
 front_of_numbered : (front name rest : List ℕ) → is_dotless front ≡ true → 0 < length name → starts_with nat_eq (name ++ 46 ∷ rest) (46 ∷ front) ≡ true → starts_with nat_eq name (46 ∷ front) ≡ true
-front_of_numbered front [] rest h l k = absurd (omega (arith, l))
-front_of_numbered front (c ∷ name) rest h l k = grind (arith, and_parts, and_from, front_of_name)
+front_of_numbered front name rest h l k = grind (arith, and_parts, and_from, front_of_name)
 
 pub longer : (name other : List ℕ) → length other < length name → bytes_eq name other ≡ false
 longer name other h = other_name name other (λ e. let same : length name ≡ length other = ap length e in absurd (omega (arith, same, h)))

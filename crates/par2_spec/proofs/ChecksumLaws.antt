@@ -1,10 +1,6 @@
 -- The checksum is linear over the exclusive or, a bit, a byte or any number of bytes at a time.
-use Rattle.par2_spec.proofs.Common.{◌≡◌, ℕ, zero, suc, ◌+◌, ◌*◌, ◌^◌, ◌<◌, ◌%◌, ◌/◌, List, [], ◌∷◌, ◌++◌, length, refl, sym, ap, ◌∙◌, arith, fold, replicate, bit_at, xor_assoc, xor_self, xor_zero_r, mul_assoc, xor_comm, xor_shr, xor_block, shr_split, mod_below, length_push, bit_at_lowest, bit_at_xor, crc_step, crc_steps, crc_byte, crc32}
-use Rattle.std.specs.Prelude.{bit_xor}
-use Rattle.std.proofs.Math.Nat.{pow-suc, zero-mul}
-use Rattle.std.proofs.lemmas.Nat.{pow_pos}
-use Rattle.par2_spec.proofs.FieldBits.{xor_middle}
-use Rattle.par2_spec.proofs.SumLaws.{xor_off}
+use Rattle.par2_spec.proofs.Common.{◌≡◌, ℕ, zero, suc, ◌+◌, ◌*◌, ◌^◌, ◌<◌, ◌%◌, ◌/◌, List, [], ◌∷◌, ◌++◌, length, refl, sym, ap, ◌∙◌, arith, fold, replicate, bit_at, xor_assoc, xor_self, xor_zero_r, mul_assoc, xor_comm, xor_shr, xor_block, shr_split, mod_below, length_push, bit_at_lowest, bit_at_xor, crc_step, crc_steps, crc_byte, crc32, bit_xor, pow-suc, zero-mul, pow_pos}
+use Rattle.par2_spec.proofs.Basics.{xor_middle, xor_off}
 
 lowest_of_xor : (a b : ℕ) → bit_xor a b % 2 ≡ (a % 2 + b % 2) % 2
 lowest_of_xor a b =
@@ -73,10 +69,7 @@ crc_steps-split m n c =
 
 -- a byte is taken in as the bits above the others
 pub crc_byte-steps : (n c byte : ℕ) → crc_byte (crc_steps n c) byte ≡ crc_steps (n + 8) (bit_xor c (byte * 2 ^ n))
-crc_byte-steps n c byte =
-    ap (λ t. crc_steps 8 (bit_xor (crc_steps n c) t)) (sym (crc_steps-shifted n byte))
-    ∙ ap (crc_steps 8) (sym (crc_steps-xor n c (byte * 2 ^ n)))
-    ∙ sym (crc_steps-add n 8 (bit_xor c (byte * 2 ^ n)))
+crc_byte-steps n c byte = grind (arith, crc_steps-shifted, crc_steps-xor, crc_steps-add)
 
 pub crc_byte-xor : (a b byte : ℕ) → crc_byte (bit_xor a b) byte ≡ bit_xor (crc_byte a byte) (crc_steps 8 b)
 crc_byte-xor a b byte =
@@ -107,10 +100,7 @@ fold-zeros (suc n) c =
     ∙ more_steps n c
 
 pub crc32-zeros : (bytes : List ℕ) (n : ℕ) → crc32 (bytes ++ replicate n 0) ≡ bit_xor (crc_steps (8 * n) (bit_xor (crc32 bytes) 0xFFFFFFFF)) 0xFFFFFFFF
-crc32-zeros bytes n = unfold crc32 in
-    ap (λ c. bit_xor c 0xFFFFFFFF)
-    (fold-append bytes (replicate n 0) 0xFFFFFFFF ∙ fold-zeros n (fold crc_byte 0xFFFFFFFF bytes)
-    ∙ ap (crc_steps (8 * n)) (sym (xor_off (fold crc_byte 0xFFFFFFFF bytes) 0xFFFFFFFF)))
+crc32-zeros bytes n = unfold crc32 in grind (arith, fold-append, fold-zeros, xor_off)
 
 turned : (p q r s : ℕ) → bit_xor (bit_xor (bit_xor p q) r) s ≡ bit_xor p (bit_xor r (bit_xor q s))
 turned p q r s =

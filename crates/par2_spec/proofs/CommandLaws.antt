@@ -1,12 +1,10 @@
 -- The changes of a command lead to its folder.
-use Rattle.par2_spec.proofs.Common.{◌≡◌, ℕ, List, [], ◌∷◌, map, refl, sym, ap, ◌∙◌, true, false, Bool, cond, not, ◌||◌, if◌then◌else◌, Option, None, get-remove, get-retain_keys, slice_cmp-IsAntisymmetric, nat_cmp-IsAntisymmetric, nat_cmp, Equal, slice_cmp, nat_list_cmp_total, bytes_eq, is_eq-slice_cmp, is_among, Folder, has, File, without, laid_over, Write, Replace, Remove, effect, effects, CreateArgs, outputs_of, create_changes}
+use Rattle.par2_spec.proofs.Common.{◌≡◌, ℕ, List, [], ◌∷◌, map, refl, sym, ap, ◌∙◌, true, Bool, cond, not, ◌||◌, if◌then◌else◌, Option, None, get-remove, get-retain_keys, slice_cmp-IsAntisymmetric, nat_cmp-IsAntisymmetric, nat_cmp, Equal, slice_cmp, nat_list_cmp_total, bytes_eq, is_eq-slice_cmp, is_among, Folder, has, File, without, laid_over, Write, Replace, Remove, effect, effects, CreateArgs, outputs_of, create_changes, arith}
 use Rattle.par2_spec.proofs.FolderLaws.{same_folder}
 use Rattle.std.specs.FinMap as map_of
 
 pub put_in : (b : Bool) (folder : Folder) (name bytes : List ℕ) → effect folder (if b then Replace name bytes else Write name bytes) ≡ map_of.insert folder name bytes
-unfolding effect
-put_in true folder name bytes = refl
-put_in false folder name bytes = refl
+put_in b folder name bytes = unfold effect in grind arith
 
 all_put_in : (test : List ℕ → Bool) (folder : Folder) (files : List File) → effects folder (map (λ file. if test file.0 then Replace file.0 file.1 else Write file.0 file.1) files) ≡ laid_over files folder
 unfolding effects laid_over
@@ -23,10 +21,7 @@ alike : (p : List ℕ → Bool) (q x : List ℕ) → slice_cmp nat_cmp q x ≡ E
 alike p q x e = ap p (sym (slice_cmp-IsAntisymmetric nat_cmp-IsAntisymmetric q x e))
 
 one_gone : (a b : Bool) (g : Option (List ℕ)) → cond (not a) (cond b None g) None ≡ cond (not (b || a)) g None
-one_gone true true g = refl
-one_gone true false g = refl
-one_gone false true g = refl
-one_gone false false g = refl
+one_gone a b g = grind arith
 
 pub gone_first : (folder : Folder) (name : List ℕ) (names : List (List ℕ)) → without names (map_of.remove folder name) ≡ without (name ∷ names) folder
 gone_first folder name names = same_folder _ _ (λ q.

@@ -1,12 +1,9 @@
 -- The outputs of a create have distinct names, so its changes apply and lead to its folder.
-use Rattle.par2_spec.proofs.Common.{◌≡◌, ℕ, zero, suc, ◌+◌, ◌-◌, ◌*◌, ◌/◌, ◌%◌, ◌^◌, ◌<◌, ◌≤◌, List, [], ◌∷◌, ◌++◌, length, map, refl, sym, ap, ◌∙◌, subst, true, false, Bool, ◌||◌, arith, length-append, flat_map, codes, nat_lt, if◌then◌else◌, range_with_len, one-le-pow, pow-le-pow_right, drop-append_seam, length-take, map-map, and_from, not_from_false, or_from, or_left, or_right, is_among, Folder, File, has, Write, Replace, is_applicable, are_applicable, volume_name, volumes_before, volume_numbers, volume_size, five_digits, stem, record_of, in_id_order, index_packets, volumes, packet, CreateArgs, outputs_of, create_changes}
-use Rattle.std.specs.Prelude.{drop}
+use Rattle.par2_spec.proofs.Common.{◌≡◌, ℕ, zero, suc, ◌+◌, ◌-◌, ◌*◌, ◌/◌, ◌%◌, ◌^◌, ◌<◌, ◌≤◌, List, [], ◌∷◌, ◌++◌, length, map, refl, sym, ap, ◌∙◌, subst, true, false, Bool, ◌||◌, arith, length-append, flat_map, codes, nat_lt, if◌then◌else◌, range_with_len, one-le-pow, pow-le-pow_right, drop-append_seam, length-take, map-map, and_from, or_from, or_left, or_right, is_among, Folder, File, has, Write, Replace, is_applicable, are_applicable, volume_name, volumes_before, volume_numbers, volume_size, five_digits, stem, record_of, in_id_order, index_packets, volumes, packet, CreateArgs, outputs_of, create_changes, drop, append_assoc}
 use Rattle.std.specs.FinMap as map_of
 use Rattle.std.proofs.Math.Pow.{pow-lt}
-use Rattle.std.proofs.lemmas.List.{append_assoc}
-use Rattle.par2_spec.proofs.NamesLaws.{AreDistinct, itself, other_name, not_first, distinct_some}
+use Rattle.par2_spec.proofs.Basics.{AreDistinct, itself, other_name, not_first, distinct_some, put_in}
 use Rattle.par2_spec.proofs.MovesLaws.{has_put}
-use Rattle.par2_spec.proofs.CommandLaws.{put_in}
 
 -- ---- the names of the volumes
 
@@ -84,9 +81,7 @@ outputs_once base s f c files =
 -- ---- the changes
 
 takes_put : (b : Bool) (folder : Folder) (name bytes : List ℕ) → has folder name ≡ b → is_applicable folder (if b then Replace name bytes else Write name bytes) ≡ true
-unfolding is_applicable
-takes_put true folder name bytes h = h
-takes_put false folder name bytes h = not_from_false _ h
+takes_put b folder name bytes h = unfold is_applicable in grind arith
 
 puts_apply : (test : List ℕ → Bool) (folder : Folder) (files : List File) → AreDistinct (map (λ file. file.0) files)
     → ((q : List ℕ) → is_among (map (λ file. file.0) files) q ≡ true → has folder q ≡ test q)

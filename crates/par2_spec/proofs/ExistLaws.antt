@@ -1,14 +1,7 @@
 -- Slices that agree with the known ones and with the recovery slices of the kept exponents always exist.
-use Rattle.par2_spec.proofs.Common.{◌≡◌, ℕ, zero, suc, ◌+◌, ◌*◌, ◌/◌, ◌%◌, ◌^◌, ◌<◌, ◌≤◌, List, [], ◌∷◌, length, map, drop, refl, sym, ap, ap₂, ◌∙◌, subst, arith, true, false, Bool, inl, inr, flat_map, slice_index, Option, Some, None, is_some, filter, ◌==◌, replicate, unwrap_or, w16, to_le_bytes, xor_assoc, xor_self, xor_zero_r, range_with_len, AllByRecursion, AllZip, list_any, Contains, ForSome, xor_lt, xor_comm, length-map, AllZip-long, false≢true, cases_eq, or_cases, eqb-true, word, coefficients, dot, combination, recovery, IsVector, Kills, IsRepairable, Agrees, AnotherAgrees, kept, AreBytes, kept_slices, lost, AreElements, drop-cons, mul, coefficient, TwoListsAgree, SomeSlicesAgree}
-use Rattle.std.specs.Prelude.{bit_xor}
-use Rattle.par2_spec.proofs.RankLaws.{killed_vector, kept-iff, counts, counts-iff}
-use Rattle.par2_spec.proofs.WordLaws.{word_behind, byte_at, word-lt, spelled, length-spelled, bytes-spelled, word_of}
+use Rattle.par2_spec.proofs.Basics.{by_either, killed_vector, kept-iff, counts, counts-iff, byte_at, word-lt, spelled, length-spelled, bytes-spelled, word_of, product_linear_right, product-lt, product_comm, product-one, product_assoc, product-zero, has_inverse, clash, all-map, all_unmap, all-passing, contained_later, of_contained, all-filter}
+use Rattle.par2_spec.proofs.Common.{◌≡◌, ℕ, zero, suc, ◌+◌, ◌*◌, ◌/◌, ◌%◌, ◌^◌, ◌<◌, ◌≤◌, List, [], ◌∷◌, length, map, drop, refl, sym, ap, ap₂, ◌∙◌, subst, arith, true, false, Bool, inl, inr, flat_map, slice_index, Option, Some, None, is_some, filter, ◌==◌, replicate, unwrap_or, w16, to_le_bytes, xor_assoc, xor_self, xor_zero_r, range_with_len, AllByRecursion, AllZip, list_any, Contains, ForSome, xor_lt, xor_comm, length-map, AllZip-long, false≢true, cases_eq, or_cases, eqb-true, word, coefficients, dot, combination, recovery, IsVector, Kills, IsRepairable, Agrees, AnotherAgrees, kept, AreBytes, kept_slices, lost, AreElements, drop-cons, mul, coefficient, TwoListsAgree, SomeSlicesAgree, bit_xor}
 use Rattle.par2_spec.proofs.UniqueLaws.{sums, AreTexts, IsZeroAtKnown, at_lost, lost_from, dot-at_lost, dot-sums, whole_row, dot-lt, coefficients_are, sums-elements, words_are, same_words}
-use Rattle.par2_spec.proofs.FieldProducts.{product_linear_right, product-lt, product_comm, product-one, product_assoc}
-use Rattle.par2_spec.proofs.FieldOrder.{product-zero, has_inverse}
-use Rattle.par2_spec.proofs.NamesLaws.{clash}
-use Rattle.par2_spec.proofs.ListsLaws.{all-map, all_unmap, all-passing, contained_later, of_contained}
-use Rattle.par2_spec.proofs.FoundLaws.{all-filter}
 
 -- ---- a vector over the lost slices, among all slices
 
@@ -57,9 +50,7 @@ marked x (a ∷ []) = a ∷ []
 marked x (a ∷ b ∷ text) = bit_xor x (a + 256 * b) % 256 ∷ bit_xor x (a + 256 * b) / 256 ∷ text
 
 length-marked : (x : ℕ) (text : List ℕ) → length (marked x text) ≡ length text
-length-marked x [] = refl
-length-marked x (a ∷ []) = refl
-length-marked x (a ∷ b ∷ text) = refl
+length-marked x text = grind arith
 
 pair-lt : (a b : ℕ) → a < 256 → b < 256 → a + 256 * b < 2 ^ 16
 pair-lt a b ha hb = omega (arith, ha, hb)
@@ -74,26 +65,14 @@ bytes-marked x (a ∷ b ∷ text) small h =
     let parts = parts-lt (bit_xor x (a + 256 * b)) (xor_lt 16 x (a + 256 * b) small (pair-lt a b h.0 h.1.0)) in
     (parts.0, (parts.1, h.1.1))
 
-first_part : (a b : ℕ) → a < 256 → (a + 256 * b) % 256 ≡ a
-first_part a b h = omega (arith, h)
-
-second_part : (a b : ℕ) → a < 256 → (a + 256 * b) / 256 ≡ b
-second_part a b h = omega (arith, h)
-
 marked-zero : (text : List ℕ) → AllByRecursion (λ b. b < 256) text → marked 0 text ≡ text
-marked-zero (a ∷ b ∷ text) h = ap₂ (λ low high. low ∷ high ∷ text) (first_part a b h.0) (second_part a b h.0)
-marked-zero text h = refl
-
-both_parts : (y : ℕ) → y % 256 + 256 * (y / 256) ≡ y
-both_parts y = omega arith
+marked-zero text h = grind arith
 
 first_word-marked : (x : ℕ) (text : List ℕ) → 2 ≤ length text → word 0 (marked x text) ≡ bit_xor x (word 0 text)
-first_word-marked x (a ∷ b ∷ text) h = both_parts (bit_xor x (a + 256 * b))
-first_word-marked x text h = absurd (omega (arith, h))
+first_word-marked x text h = grind arith
 
 later_word-marked : (p x : ℕ) (text : List ℕ) → word (suc p) (marked x text) ≡ word (suc p) text
-later_word-marked p x (a ∷ b ∷ text) = word_behind p _ _ text ∙ sym (word_behind p a b text)
-later_word-marked p x text = refl
+later_word-marked p x text = grind arith
 
 -- ---- the elements of a vector added to the texts, each to its own
 
@@ -274,10 +253,9 @@ solved is es goal small (suc m) = step (counts (kept is es) m) refl (solved is e
     step false out before = record {
       vector = before.vector;
       is_vector = before.is_vector;
-      gives = λ e lt c. elim (cases_eq e m) as (λ _. dot (coefficients is e) before.vector ≡ goal e) [
-        | inl here ↦ absurd (clash ((counts-iff (kept is es) m).1 (subst (Contains (kept is es)) here c)) out)
-        | inr other ↦ before.gives e (omega (arith, lt, other)) c
-      ];
+      gives = λ e lt c. by_either (cases_eq e m)
+          (λ here. absurd (clash ((counts-iff (kept is es) m).1 (subst (Contains (kept is es)) here c)) out))
+          (λ other. before.gives e (omega (arith, lt, other)) c);
     }
     step true in_kept before =
         let told = (kept-iff is es m).0 ((counts-iff (kept is es) m).0 in_kept) in
@@ -363,10 +341,8 @@ of_known-lt e i (None ∷ ks) p h = of_known-lt e (i + 1) ks p h.1
 
 contained : (xs : List ℕ) (q : ℕ) → list_any (λ x. x == q) xs ≡ true → Contains xs q
 contained [] q h = absurd (false≢true h)
-contained (x ∷ xs) q h = elim (or_cases (x == q) (list_any (λ y. y == q) xs) h) as (λ _. Contains (x ∷ xs) q) [
-  | inl here ↦ (0, omega arith, eqb-true x q here)
-  | inr there ↦ contained_later x xs q (contained xs q there)
-]
+contained (x ∷ xs) q h =
+    by_either (or_cases (x == q) (list_any (λ y. y == q) xs) h) (λ here. (0, omega arith, eqb-true x q here)) (λ there. contained_later x xs q (contained xs q there))
 
 -- a recovery slice is spelled by its words
 as_spelled : (s : ℕ) (texts : List (List ℕ)) (e : ℕ) → recovery s texts e ≡ spelled (λ p. dot (whole_row (length texts) e) (map (word p) texts)) 0 (s / 2)

@@ -1,5 +1,5 @@
 -- Functions that respect the exclusive or, and induction over the bits of a number.
-use Rattle.par2_spec.proofs.Common.{ℕ, zero, suc, ◌+◌, ◌*◌, ◌/◌, ◌%◌, ◌^◌, ◌<◌, ◌≡◌, ◌⊎◌, inl, inr, refl, sym, ap, ap₂, ◌∙◌, subst, Bool, true, eqb, ◌&&◌, arith, add-zero, zero-mul, one-mul, pow_pos, pow-suc, mod-lt, div-lt_iff_lt-mul, mul_comm, div-add-mod, xor_comm, xor_block, bit_at_xor, bit_at-lt, eqb-true, and_parts, cases_eq, bit_at, xor_assoc, xor_self, xor_zero_r, xor_shifted, bit_xor}
+use Rattle.par2_spec.proofs.Common.{ℕ, zero, suc, ◌+◌, ◌*◌, ◌/◌, ◌%◌, ◌^◌, ◌<◌, ◌≡◌, ◌⊎◌, inl, inr, refl, sym, ap, ap₂, ◌∙◌, subst, Bool, true, eqb, ◌&&◌, arith, add-zero, zero-mul, one-mul, pow_pos, pow-suc, mod-lt, div-lt_iff_lt-mul, mul_comm, div-add-mod, xor_comm, xor_block, bit_at_xor, eqb-true, and_parts, cases_eq, bit_at, xor_assoc, xor_self, xor_zero_r, xor_shifted, bit_xor}
 use Rattle.par2_spec.proofs.TestLaws.{by_either}
 
 -- f takes an exclusive or to the exclusive or of its values
@@ -20,18 +20,11 @@ xor_shl k a b =
 
 -- a bit is 0 or 1
 pub bit_cases : (x i : ℕ) → (bit_at x i ≡ 0) ⊎ (bit_at x i ≡ 1)
-bit_cases x i = below_two (bit_at x i) (bit_at-lt x i)
-  where
-    below_two : (n : ℕ) → n < 2 → (n ≡ 0) ⊎ (n ≡ 1)
-    below_two zero h = inl refl
-    below_two (suc zero) h = inr refl
-    below_two (suc (suc n)) h = absurd (omega arith)
+bit_cases x i = grind arith
 
 -- a bit times a number
 pub bit_times_xor : (x i a b : ℕ) → bit_at x i * bit_xor a b ≡ bit_xor (bit_at x i * a) (bit_at x i * b)
-bit_times_xor x i a b = by_either (bit_cases x i)
-    (λ e. rw e (zero-mul (bit_xor a b) ∙ sym (ap₂ bit_xor (zero-mul a) (zero-mul b))))
-    (λ e. rw e (one-mul (bit_xor a b) ∙ sym (ap₂ bit_xor (one-mul a) (one-mul b))))
+bit_times_xor x i a b = grind (arith, by_either, bit_cases, zero-mul, one-mul)
 
 pub bit_xor_times : (x y i v : ℕ) → bit_at (bit_xor x y) i * v ≡ bit_xor (bit_at x i * v) (bit_at y i * v)
 bit_xor_times x y i v =

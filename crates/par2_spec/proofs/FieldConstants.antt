@@ -1,5 +1,5 @@
 -- The powers of the constants rise, so the constants are distinct.
-use Rattle.par2_spec.proofs.Common.{eqb, ℕ, zero, suc, ◌<◌, ◌≡◌, refl, Bool, true, ltb, ◌&&◌, arith, List, [], ◌∷◌, length, get_or, eqb-true, ltb-true, and_parts, constant_powers, constant}
+use Rattle.par2_spec.proofs.Common.{eqb, ℕ, ◌<◌, ◌≡◌, refl, Bool, true, ltb, ◌&&◌, arith, List, [], ◌∷◌, length, get_or, eqb-true, ltb-true, and_parts, constant_powers, constant}
 use Rattle.par2_spec.proofs.FieldOrder.{power-injective, power-nonzero, power-lt}
 
 -- whether the numbers rise, from above the first number to below the second
@@ -11,13 +11,11 @@ rises_at : (low high : ℕ) (xs : List ℕ) → rises low high xs ≡ true → (
 unfolding rises
 rises_at low high [] e i h = absurd (omega arith)
 rises_at low high (x ∷ xs) e i h =
+    let at : (i : ℕ) → i < length (x ∷ xs) → low < x → x < high → ((j : ℕ) → j < length xs → (x < get_or xs j 0) × (get_or xs j 0 < high)) → (low < get_or (x ∷ xs) i 0) × (get_or (x ∷ xs) i 0 < high) =
+        λ i h l u later. grind arith in
     let parts = and_parts (ltb low x) (ltb x high && rises x high xs) e in
     let rest = and_parts (ltb x high) (rises x high xs) parts.1 in
     at i h (ltb-true low x parts.0) (ltb-true x high rest.0) (rises_at x high xs rest.1)
-  where
-    at : (i : ℕ) → i < length (x ∷ xs) → low < x → x < high → ((j : ℕ) → j < length xs → (x < get_or xs j 0) × (get_or xs j 0 < high)) → (low < get_or (x ∷ xs) i 0) × (get_or (x ∷ xs) i 0 < high)
-    at zero h l u later = (l, u)
-    at (suc j) h l u later = let k = later j (omega arith) in (omega (arith, k.0), k.1)
 
 rises_between : (low high : ℕ) (xs : List ℕ) → rises low high xs ≡ true → (i j : ℕ) → i < j → j < length xs → get_or xs i 0 < get_or xs j 0
 unfolding rises
@@ -29,9 +27,7 @@ rises_between low high (x ∷ xs) e i j k h =
   where
     at : (i j : ℕ) → i < j → j < length (x ∷ xs) → ((j : ℕ) → j < length xs → (x < get_or xs j 0) × (get_or xs j 0 < high))
         → ((i j : ℕ) → i < j → j < length xs → get_or xs i 0 < get_or xs j 0) → get_or (x ∷ xs) i 0 < get_or (x ∷ xs) j 0
-    at i zero k h first later = absurd (omega arith)
-    at zero (suc j) k h first later = (first j (omega arith)).0
-    at (suc i) (suc j) k h first later = later i j (omega arith) (omega arith)
+    at i j k h first later = grind arith
 
 -- they rise, and are as many: one computation over them
 abbrev fit : List ℕ → Bool

@@ -1,5 +1,5 @@
 -- 2 has the order 65535, and each element but 0 is a power of 2 and has one inverse.
-use Rattle.par2_spec.proofs.Common.{ℕ, zero, suc, ◌<◌, ◌≤◌, ◌≡◌, ◌⊎◌, inl, inr, refl, sym, ap, ◌∙◌, true, false, eqb, arith, List, [], ◌∷◌, length, ◌+◌, ◌-◌, ◌*◌, ◌^◌, ap₂, Bool, ◌&&◌, not, suc-add, zero-add, eqb-true, ne_eqb, or_cases, cases_eq, false≢true, eqb-false, not-true, and_parts, list_any, AllByRecursion, IsDistinct, bit_at, modulus, mul, pow, bit_xor}
+use Rattle.par2_spec.proofs.Common.{eqb-false, ℕ, zero, suc, ◌<◌, ◌≤◌, ◌≡◌, ◌⊎◌, inl, inr, refl, sym, ap, ◌∙◌, true, false, eqb, arith, List, [], ◌∷◌, length, ◌+◌, ◌-◌, ◌*◌, ◌^◌, ap₂, Bool, ◌&&◌, not, suc-add, zero-add, eqb-true, ne_eqb, or_cases, cases_eq, false≢true, not-true, and_parts, list_any, AllByRecursion, IsDistinct, bit_at, modulus, mul, pow, bit_xor}
 use Rattle.std.proofs.lemmas.Map.Steps.{length-le_from_distinct_below}
 use Rattle.par2_spec.proofs.FieldBits.{IsLinear, xor_middle, xor_shl, bit_xor_times, linear_same_tested, linear-zero, tested}
 use Rattle.par2_spec.proofs.FieldProducts.{product-lt, product_comm, product-one, product_assoc, product_linear_left, product_linear_right}
@@ -157,24 +157,16 @@ element zero = 0
 element (suc i) = pow 2 i
 
 element-lt : (i : ℕ) → i < 65536 → element i < 65536
-unfolding element
-element-lt zero h = h
-element-lt (suc i) h = power-lt 2 i (omega arith)
+element-lt i h = unfold element in grind (arith, power-lt)
 
 element_injective : (i j : ℕ) → i < j → j < 65536 → element i ≡ element j → ⊥
-unfolding element
-element_injective i zero h k e = absurd (omega arith)
-element_injective zero (suc j) h k e = power-nonzero j (omega arith) (sym e)
-element_injective (suc i) (suc j) h k e = power-injective i j (omega arith) (omega arith) e
+element_injective i j h k e = unfold element in grind (arith, power-nonzero, power-injective)
 
 -- each element but 0 is a power of 2
 pub logarithm : (a : ℕ) → 0 < a → a < 65536 → (i : ℕ) × ((i < 65535) × (pow 2 i ≡ a))
-unfolding element
-logarithm a z h = let found = onto_from_injective element 65536 element-lt element_injective a h in at found.0 found.1.0 found.1.1
-  where
-    at : (i : ℕ) → i < 65536 → element i ≡ a → (j : ℕ) × ((j < 65535) × (pow 2 j ≡ a))
-    at zero k e = absurd (omega arith)
-    at (suc j) k e = (j, (omega arith, e))
+logarithm a z h = unfold element in
+    let at : (i : ℕ) → i < 65536 → element i ≡ a → (j : ℕ) × ((j < 65535) × (pow 2 j ≡ a)) = λ i k e. grind arith in
+    let found = onto_from_injective element 65536 element-lt element_injective a h in at found.0 found.1.0 found.1.1
 
 pub has_inverse : (a : ℕ) → 0 < a → a < 65536 → (b : ℕ) × ((b < 65536) × (mul a b ≡ 1))
 has_inverse a z h =

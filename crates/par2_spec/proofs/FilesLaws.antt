@@ -1,16 +1,10 @@
 -- A repair leaves each of the files that a set was made from.
 use Rattle.par2_spec.proofs.Common.{◌≡◌, ℕ, zero, suc, ◌+◌, ◌*◌, ◌%◌, ◌<◌, ◌≤◌, List, [], ◌∷◌, ◌++◌, length, map, refl, sym, ap, ◌∙◌, subst, cond, true, false, Bool, not, arith, filter, find, zip, Option, Some, None, option_to_list, range_with_len, list_all, AllByRecursion, ForSome, bytes_eq, and_parts, and_from, or_from, or_cases, or_left, or_right, eqb-true, false_from_ne_true, false≢true, not-false, cases_eq, not-true, not-not, md5, pair_of, slice_at, slices, window, windows, is_match, IsRepairable, is_among, Folder, File, has, bytes_of, names, all_slices, record_of, ParSet, Target, target_of_file, MadeFrom, is_slice_size, is_intact, is_needing, needing, intact_names, known, lost, survivors, NoCollision, matches, aside, put_aside, names_without_match, files_of_slices, after_repair, after_repair_and_purge, par_files, rebuilt_targets, files_of}
 use Rattle.std.specs.FinMap as map_of
-use Rattle.par2_spec.proofs.NamesLaws.{same_name, itself, clash, among-filter, among-append, apart_by_test}
-use Rattle.par2_spec.proofs.FoundLaws.{slice_begins, all-filter, all_by_test}
-use Rattle.par2_spec.proofs.RankLaws.{all_weaker}
+use Rattle.par2_spec.proofs.Basics.{same_name, itself, clash, among-filter, among-append, apart_by_test, slice_begins, all-filter, all_by_test, all_weaker, pairs_with, found_passes, sound_of, size_positive, size_parts, by_either, some_if, all-parts, all-both, all_unmap, filter-map}
 use Rattle.par2_spec.proofs.MovesLaws.{get_without}
-use Rattle.par2_spec.proofs.SearchLaws.{pairs_with, found_passes}
-use Rattle.par2_spec.proofs.ReadLaws.{sound_of, size_positive, size_parts}
 use Rattle.par2_spec.proofs.RepairLaws.{Fits, match_free, matched_ones, written_ones, other_ones, target_no_aside}
 use Rattle.par2_spec.proofs.RestoredLaws.{IsTold, same_slices, true_slices_rebuilt, true_files}
-use Rattle.par2_spec.proofs.TestLaws.{by_either, some_if}
-use Rattle.par2_spec.proofs.ListsLaws.{all-parts, all-both, all_unmap, filter-map}
 
 -- ---- bytes that are intact for a file are the file's
 
@@ -83,8 +77,7 @@ needing_hold folder after s searched free (file ∷ files) is_written within wri
     head (Some x) k w m = let r = k x refl in m x refl ∙ ap Some (exact.0 x (within x r.0) r.1)
 
     tail : (o : Option (List ℕ)) (ms : List (Target × Option (List ℕ))) (q : List ℕ) → is_among (names_without_match ms) q ≡ true → is_among (names_without_match ((target_of_file s file, o) ∷ ms)) q ≡ true
-    tail None ms q h = or_right (bytes_eq q file.0) (is_among (names_without_match ms) q) h
-    tail (Some x) ms q h = h
+    tail o ms q h = grind arith
 
 -- those that a test chooses, written from slices
 written_files : (after : Folder) (s : ℕ) (test : List ℕ → Bool) (files : List File) → AllByRecursion (λ c. map_of.get after c.0.name ≡ Some c.1) (filter (λ c. test c.0.name) (map (λ (file : File). let c : Target × List ℕ = (target_of_file s file, file.1) in c) files))

@@ -1,8 +1,7 @@
 -- A change and its inverse; changes in order and their way back; the same for a folder as it is kept.
-use Rattle.par2_spec.proofs.Common.{◌≡◌, ℕ, ◌+◌, ◌-◌, ◌<◌, ◌≤◌, List, [], ◌∷◌, ◌++◌, refl, sym, ap, subst, ◌∙◌, cond, true, false, Bool, not, ◌&&◌, IsTrue, append_assoc, append-nil, arith, unwrap_or, Some, None, Option, is_some, is_none, same_map, slice_cmp-IsAntisymmetric, nat_cmp-IsAntisymmetric, get-insert, get-remove, get_tied, nat_cmp, eq_by_cmp, is_eq, Ordering, Equal, eq_by_cmp_equiv, slice_cmp, nat_list_cmp_total, nat_tests, and_parts, and_from, Folder, has, bytes_of, Change, Write, Replace, Rename, Remove, FolderState, fault_unless, vacant_after, state_after, places_taken, effect, inverse, is_applicable, effects, way_back, are_applicable, change_refusal, takes_all, state_after_all}
-use Rattle.std.proofs.Common.{nat_lt}
+use Rattle.par2_spec.proofs.Common.{◌≡◌, ℕ, ◌+◌, ◌-◌, ◌<◌, ◌≤◌, List, [], ◌∷◌, ◌++◌, refl, sym, ap, subst, ◌∙◌, cond, true, false, Bool, not, ◌&&◌, IsTrue, append_assoc, append-nil, arith, unwrap_or, Some, None, Option, is_some, is_none, same_map, slice_cmp-IsAntisymmetric, nat_cmp-IsAntisymmetric, get-insert, get-remove, get_tied, nat_cmp, eq_by_cmp, is_eq, Ordering, Equal, eq_by_cmp_equiv, slice_cmp, nat_list_cmp_total, nat_tests, and_parts, and_from, Folder, has, bytes_of, Change, Write, Replace, Rename, Remove, FolderState, fault_unless, vacant_after, state_after, places_taken, effect, inverse, is_applicable, effects, way_back, are_applicable, change_refusal, takes_all, state_after_all, nat_lt}
 use Rattle.std.specs.FinMap as map_of
-use Rattle.par2_spec.specs.declared.ChangeFault.TheVariants.{NameTaken, NoRoom, NoSuchName}
+use Rattle.par2_spec.specs.declared.ChangeFault.TheVariants.{NameTaken, NoSuchName}
 use Rattle.par2_spec.specs.declared.ChangeFault.{ChangeFault}
 use Rattle.par2_spec.proofs.TestLaws.{none_from}
 
@@ -19,8 +18,7 @@ itself : (n : List ℕ) → same n n ≡ true
 itself n = (eq_by_cmp_equiv nat_list_cmp_total).refl n
 
 equal_by : (o : Ordering) → IsTrue (is_eq o) → o ≡ Equal
-equal_by Equal p = refl
-equal_by o p = cc
+equal_by o p = grind arith
 
 tied : (f : Folder) (q n : List ℕ) → IsTrue (same q n) → map_of.get f q ≡ map_of.get f n
 tied f q n t = sym (get_tied nat_list_cmp_total f q n (equal_by _ t))
@@ -32,12 +30,10 @@ pub gone : (f : Folder) (n q : List ℕ) → map_of.get (map_of.remove f n) q �
 gone f n q = get-remove nat_list_cmp_total f n q
 
 absent : (o : Option (List ℕ)) → IsTrue (not (is_some o)) → o ≡ None
-absent None h = refl
-absent (Some x) h = cc
+absent o h = grind arith
 
 present : (o : Option (List ℕ)) → IsTrue (is_some o) → o ≡ Some (unwrap_or o [])
-present None h = cc
-present (Some x) h = refl
+present o h = grind arith
 
 here : (f : Folder) (n x : List ℕ) → map_of.get (map_of.insert f n x) n ≡ Some x
 here f n x = written f n x n ∙ ap (λ t. cond t (Some x) (map_of.get f n)) (itself n)
@@ -51,25 +47,19 @@ landed f n x = ap (λ o. unwrap_or o []) (here f n x)
 -- ---- one change
 
 off : (b : Bool) (x : List ℕ) (g : Option (List ℕ)) → (IsTrue b → g ≡ None) → cond b None (cond b (Some x) g) ≡ g
-off true x g h = sym (h refl)
-off false x g h = refl
+off b x g h = grind arith
 
 back : (b : Bool) (o : Option (List ℕ)) (x : List ℕ) (g : Option (List ℕ)) → (IsTrue b → g ≡ Some x) → cond b (Some x) (cond b o g) ≡ g
-back true o x g h = sym (h refl)
-back false o x g h = refl
+back b o x g h = grind arith
 
 moved : (a b : Bool) (x y : List ℕ) (g : Option (List ℕ)) → y ≡ x → (IsTrue a → g ≡ Some x) → (IsTrue b → g ≡ None) → cond a (Some y) (cond b None (cond b (Some x) (cond a None g))) ≡ g
-moved true b x y g e h k = ap Some e ∙ sym (h refl)
-moved false true x y g e h k = sym (k refl)
-moved false false x y g e h k = refl
+moved a b x y g e h k = grind arith
 
 undo_Replace : (f : Folder) (n b : List ℕ) → IsTrue (has f n) → map_of.insert (map_of.insert f n b) n (bytes_of f n) ≡ f
 undo_Replace f n b h = same_folder _ _ (λ q. written _ n _ q ∙ ap (cond (same q n) (Some (bytes_of f n))) (written f n b q) ∙ back (same q n) (Some b) _ _ (λ t. tied f q n t ∙ present _ h))
 
 undo_Rename : (f : Folder) (a b : List ℕ) → IsTrue (has f a) → IsTrue (not (has f b)) → effect (effect f (Rename a b)) (Rename b a) ≡ f
-undo_Rename f a b h k = unfold effect in same_folder _ _ (λ q.
-    written _ a _ q ∙ ap (cond (same q a) (Some _)) (gone _ b q ∙ ap (cond (same q b) None) (written _ b _ q ∙ ap (cond (same q b) (Some _)) (gone f a q)))
-    ∙ moved (same q a) (same q b) _ _ _ (landed _ b _) (λ t. tied f q a t ∙ present _ h) (λ t. tied f q b t ∙ absent _ k))
+undo_Rename f a b h k = unfold effect in grind (arith, same_folder, written, gone, moved, landed, tied, present, absent)
 
 pub undo_change : (f : Folder) (c : Change) → IsTrue (is_applicable f c) → effect (effect f c) (inverse f c) ≡ f
 unfolding effect inverse is_applicable
@@ -80,11 +70,7 @@ undo_change f (Remove n) h = same_folder _ _ (λ q. written _ n _ q ∙ ap (cond
 
 -- a name that is there and one that is not are two
 two_names : (f : Folder) (a b : List ℕ) → IsTrue (has f a) → IsTrue (not (has f b)) → same a b ≡ false
-two_names f a b h k = split (same a b) refl
-  where
-    split : (t : Bool) → same a b ≡ t → t ≡ false
-    split true e = let p : map_of.get f a ≡ map_of.get f b = tied f a b e in let there = present _ h in let missing = absent _ k in cc
-    split false e = refl
+two_names f a b h k = grind (arith, tied, present, absent)
 
 -- after a rename the old name is free
 left_behind : (f : Folder) (a b : List ℕ) → IsTrue (has f a) → IsTrue (not (has f b)) → map_of.get (map_of.insert (map_of.remove f a) b (bytes_of f a)) a ≡ None
@@ -151,12 +137,10 @@ way_back_twice f (c ∷ cs) h =
 -- ---- whether changes apply is a matter of the names alone
 
 either_way : (t : Bool) (b c : List ℕ) (g h : Option (List ℕ)) → is_some g ≡ is_some h → is_some (cond t (Some b) g) ≡ is_some (cond t (Some c) h)
-either_way true b c g h e = refl
-either_way false b c g h e = e
+either_way t b c g h e = grind arith
 
 neither_way : (t : Bool) (g h : Option (List ℕ)) → is_some g ≡ is_some h → is_some (cond t None g) ≡ is_some (cond t None h)
-neither_way true g h e = refl
-neither_way false g h e = e
+neither_way t g h e = grind arith
 
 AreAlike : Folder → Folder → Type 0
 AreAlike f g = (q : List ℕ) → has f q ≡ has g q
@@ -194,19 +178,13 @@ applicable_by_names f g cs h = unfold AreAlike in alike_all f g cs h
 -- ---- a kept folder
 
 not_refused : (b : Bool) (x : ChangeFault) (o : Option ChangeFault) → fault_unless b x o ≡ None → IsTrue b × (o ≡ None)
-not_refused true x o h = (refl, h)
-not_refused false x o h = cc
+not_refused b x o h = grind arith
 
 pub taken_is_applicable : (s : FolderState) (c : Change) → change_refusal s c ≡ None → IsTrue (is_applicable s.files c)
-unfolding change_refusal is_applicable
-taken_is_applicable s (Rename a b) h = grind (arith, not_refused, and_from)
-taken_is_applicable s c h = (not_refused _ _ _ h).0
+taken_is_applicable s c h = unfold change_refusal is_applicable in grind arith
 
 has_room : (n : ℕ) → 0 < n → nat_lt 0 n ≡ true
 has_room n h = grind (arith, nat_tests)
-
-has_place : (n : ℕ) → nat_lt 0 n ≡ true → 0 < n
-has_place n h = grind (arith, nat_tests)
 
 -- the inverse of a change that was taken is taken
 pub inverse_taken : (s : FolderState) (c : Change) → change_refusal s c ≡ None → change_refusal (state_after s c) (inverse s.files c) ≡ None
@@ -220,10 +198,7 @@ inverse_taken s (Rename a b) h =
 inverse_taken s (Remove n) h = rw (nowhere s.files n, has_room (s.vacant + 1) (omega arith))
 
 vacant_back : (s : FolderState) (c : Change) → change_refusal s c ≡ None → vacant_after (vacant_after s.vacant c) (inverse s.files c) ≡ s.vacant
-unfolding change_refusal inverse
-vacant_back s (Write n b) h = grind (arith, not_refused, has_place)
-vacant_back s (Remove n) h = omega arith
-vacant_back s c h = refl
+vacant_back s c h = unfold change_refusal inverse in grind arith
 
 pub state_back : (s : FolderState) (c : Change) → change_refusal s c ≡ None → state_after (state_after s c) (inverse s.files c) ≡ s
 state_back s c h = λ i. record { files = undo_change s.files c (taken_is_applicable s c h) i; vacant = vacant_back s c h i }
@@ -287,14 +262,7 @@ abbrev pub with_room : FolderState → ℕ → FolderState
 with_room s k = record { files = s.files; vacant = s.vacant + k }
 
 more_room : (s : FolderState) (k : ℕ) (c : Change) → change_refusal s c ≡ None → (change_refusal (with_room s k) c ≡ None) × (state_after (with_room s k) c ≡ with_room (state_after s c) k)
-unfolding change_refusal
-more_room s k (Write n b) h =
-    let name = not_refused (not (has s.files n)) NameTaken _ h in
-    let room = has_place s.vacant (not_refused (nat_lt 0 s.vacant) NoRoom None name.1).0 in
-    let less : s.vacant + k - 1 ≡ s.vacant - 1 + k = omega arith in
-    (rw (name.0, has_room (s.vacant + k) (omega arith)), λ i. record { files = effect s.files (Write n b); vacant = less i })
-more_room s k (Remove n) h = let more : s.vacant + k + 1 ≡ s.vacant + 1 + k = omega arith in (h, λ i. record { files = effect s.files (Remove n); vacant = more i })
-more_room s k c h = (h, refl)
+more_room s k c h = unfold change_refusal in grind arith
 
 pub more_room_all : (s : FolderState) (k : ℕ) (cs : List Change) → IsTrue (takes_all s cs) → IsTrue (takes_all (with_room s k) cs) × (state_after_all (with_room s k) cs ≡ with_room (state_after_all s cs) k)
 unfolding state_after_all

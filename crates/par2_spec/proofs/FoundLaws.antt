@@ -72,8 +72,7 @@ needing_found folder s names free (t ∷ ts) is_lost positive sized within lost_
     head (Some x) k l i = let r = k x refl in windowed_found folder s names x t.pairs (within x r.0) (intact_windowed s t (bytes_of folder x) positive sized.0 r.1)
 
     tail : (o : Option (List ℕ)) (ms : List (Target × Option (List ℕ))) (q : List ℕ) → is_among (names_without_match ms) q ≡ true → is_among (names_without_match ((t, o) ∷ ms)) q ≡ true
-    tail None ms q h = or_right (bytes_eq q t.name) (is_among (names_without_match ms) q) h
-    tail (Some x) ms q h = h
+    tail o ms q h = grind arith
 
 pub all-filter : {A : Type 0} (P : A → Type 0) (p : A → Bool) (xs : List A) → AllByRecursion P xs → AllByRecursion P (filter p xs)
 all-filter P p xs h = all-passing P P p (λ x k e. k) xs h
@@ -81,15 +80,10 @@ all-filter P p xs h = all-passing P P p (λ x k e. k) xs h
 -- what holds of those that pass a test and of those that do not holds of all
 pub all_by_test : {A : Type 0} (P : A → Type 0) (p : A → Bool) (xs : List A) → AllByRecursion (λ x. p x ≡ false → P x) xs → AllByRecursion P (filter p xs) → AllByRecursion P xs
 all_by_test P p [] out h = tt
-all_by_test {A = A} P p (x ∷ xs) out h = (step (p x) refl (filter p xs) h, all_by_test P p xs out.1 (rest (p x) (filter p xs) h))
-  where
-    step : (b : Bool) → p x ≡ b → (ys : List A) → AllByRecursion P (cond b (x ∷ ys) ys) → P x
-    step true e ys k = k.0
-    step false e ys k = out.0 e
-
-    rest : (b : Bool) (ys : List A) → AllByRecursion P (cond b (x ∷ ys) ys) → AllByRecursion P ys
-    rest true ys k = k.1
-    rest false ys k = k
+all_by_test {A = A} P p (x ∷ xs) out h =
+    let step : (b : Bool) → p x ≡ b → (ys : List A) → AllByRecursion P (cond b (x ∷ ys) ys) → P x = λ b e ys k. grind arith in
+    let rest : (b : Bool) (ys : List A) → AllByRecursion P (cond b (x ∷ ys) ys) → AllByRecursion P ys = λ b ys k. grind arith in
+    (step (p x) refl (filter p xs) h, all_by_test P p xs out.1 (rest (p x) (filter p xs) h))
 
 pub intact_found : (folder : Folder) (set : ParSet) (names : List (List ℕ)) (ts : List Target) → 0 < set.slice_size → AreSized set.slice_size ts
     → ((q : List ℕ) → is_among (map (λ t. t.name) ts) q ≡ true → has folder q ≡ true → is_among names q ≡ true)

@@ -1,11 +1,7 @@
 -- The rank is at most the number of lost slices, and that number exactly where they are determined.
-use Rattle.par2_spec.proofs.Common.{◌≡◌, ℕ, zero, suc, ◌+◌, ◌*◌, ◌/◌, ◌%◌, ◌^◌, ◌<◌, ◌≤◌, List, [], ◌∷◌, length, map, drop, pow-add, refl, sym, ap, ap₂, ◌∙◌, subst, cond, false, eqb, inl, inr, arith, ◌↔◌, replicate, slice_index, xor_self, AllByRecursion, IsDistinct, IsStrictlyIncreasing, pow_below, Decides-eqb, cases_lt, eq-eqb, length-map, AllPairs-from_increasing, IsStrictlyIncreasing-filter, IsDistinct-from_AllPairs, coefficients, dot, kept, rank, IsVector, Kills, IsRepairable, AreElements}
-use Rattle.std.specs.Prelude.{bit_xor}
-use Rattle.par2_spec.proofs.FieldOrder.{onto_from_injective, product-zero}
-use Rattle.par2_spec.proofs.ListsLaws.{all-each, all-both, of_contained}
-use Rattle.par2_spec.proofs.RankLaws.{all_weaker}
+use Rattle.par2_spec.proofs.Common.{◌≡◌, ℕ, zero, suc, ◌+◌, ◌*◌, ◌/◌, ◌%◌, ◌^◌, ◌<◌, ◌≤◌, List, [], ◌∷◌, length, map, drop, pow-add, refl, sym, ap, ap₂, ◌∙◌, subst, cond, false, eqb, inl, inr, arith, ◌↔◌, replicate, slice_index, xor_self, AllByRecursion, IsDistinct, IsStrictlyIncreasing, pow_below, Decides-eqb, cases_lt, eq-eqb, length-map, AllPairs-from_increasing, IsStrictlyIncreasing-filter, IsDistinct-from_AllPairs, coefficients, dot, kept, rank, IsVector, Kills, IsRepairable, AreElements, bit_xor}
+use Rattle.par2_spec.proofs.Basics.{onto_from_injective, product-zero, all-each, all-both, of_contained, all_weaker, all-filter}
 use Rattle.par2_spec.proofs.UniqueLaws.{sums, dot-sums, dot-lt, coefficients_are, sums-elements, no_difference, all_from_contains, kept_kill_all}
-use Rattle.par2_spec.proofs.FoundLaws.{all-filter}
 use Rattle.par2_spec.proofs.ExistLaws.{zeros_are, length-sums, solved}
 
 -- ---- vectors as numbers: there are 2 ^ (16 * n) of n elements

@@ -1,4 +1,5 @@
 mod Common
+mod Basics
 pub mod FieldBits
 pub mod FieldProducts
 pub mod FieldOrder

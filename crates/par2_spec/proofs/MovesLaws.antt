@@ -1,11 +1,7 @@
 -- Renames and writes one after the other, as one change of a map.
-use Rattle.par2_spec.proofs.Common.{◌≡◌, ℕ, ◌<◌, ◌^◌, List, [], ◌∷◌, ◌++◌, length, map, refl, sym, ap, ◌∙◌, subst, T, cond, true, false, Bool, not, ◌&&◌, ◌||◌, IsTrue, filter, Option, Some, None, is_some, unwrap_or, get-insert, get-remove, get-retain_keys, slice_cmp-IsAntisymmetric, nat_cmp-IsAntisymmetric, contains_key-keys, entries_sorted, nat_cmp, eq_by_cmp, is_lt, is_eq, Ordering, is_sorted, below_all, slice_cmp, nat_list_cmp_total, bytes_eq, list_any, AllByRecursion, is_eq-slice_cmp, or_left, or_right, or_from, false_from_ne_true, and_from, not_from_false, false≢true, or_parts, is_name, is_among, Change, Write, Rename, Remove, effect, effects, is_applicable, are_applicable, Folder, has, bytes_of, names, File, files, without, IsFolder, laid_over}
-use Rattle.std.specs.declared.cmp.Ordering.TheVariants.{Less}
+use Rattle.par2_spec.proofs.Common.{◌≡◌, ℕ, ◌<◌, ◌^◌, List, [], ◌∷◌, ◌++◌, length, map, refl, sym, ap, ◌∙◌, subst, T, cond, true, false, Bool, not, ◌&&◌, ◌||◌, IsTrue, filter, Option, Some, None, is_some, unwrap_or, get-insert, get-remove, get-retain_keys, slice_cmp-IsAntisymmetric, nat_cmp-IsAntisymmetric, contains_key-keys, entries_sorted, nat_cmp, eq_by_cmp, is_lt, is_eq, Ordering, is_sorted, below_all, slice_cmp, nat_list_cmp_total, bytes_eq, list_any, AllByRecursion, is_eq-slice_cmp, or_left, or_right, or_from, false_from_ne_true, and_from, not_from_false, or_parts, is_name, is_among, Change, Write, Rename, Remove, effect, effects, is_applicable, are_applicable, Folder, has, bytes_of, names, File, files, without, IsFolder, laid_over, arith}
 use Rattle.std.specs.FinMap as map_of
-use Rattle.par2_spec.proofs.FolderLaws.{same_folder}
-use Rattle.par2_spec.proofs.CommandLaws.{gone_first, none_gone}
-use Rattle.par2_spec.proofs.NamesLaws.{among-append, same_name, itself, clash, other_name, AreDistinct, not_first}
-use Rattle.par2_spec.proofs.TestLaws.{T-parts, none_if, cond-not}
+use Rattle.par2_spec.proofs.Basics.{same_folder, gone_first, none_gone, among-append, same_name, itself, clash, other_name, AreDistinct, not_first, T-parts, none_if, cond-not}
 
 -- ---- what a changed folder has under a name
 
@@ -24,15 +20,10 @@ pub get_renamed : (f : Folder) (a b q : List ℕ) → map_of.get (effect f (Rena
 get_renamed f a b q = unfold effect in get_put (map_of.remove f a) b (bytes_of f a) q ∙ ap (cond (bytes_eq q b) (Some (bytes_of f a))) (get_gone f a q)
 
 pub has_put : (f : Folder) (n b q : List ℕ) → has (map_of.insert f n b) q ≡ (bytes_eq q n || has f q)
-has_put f n b q = ap is_some (get_put f n b q) ∙ split (bytes_eq q n) (map_of.get f q)
-  where
-    split : (t : Bool) (g : Option (List ℕ)) → is_some (cond t (Some b) g) ≡ (t || is_some g)
-    split true g = refl
-    split false g = refl
+has_put f n b q = grind (arith, get_put)
 
 some_unless : (t : Bool) (g : Option (List ℕ)) → is_some (cond t None g) ≡ (not t && is_some g)
-some_unless true g = refl
-some_unless false g = refl
+some_unless t g = grind arith
 
 pub has_gone : (f : Folder) (n q : List ℕ) → has (map_of.remove f n) q ≡ (not (bytes_eq q n) && has f q)
 has_gone f n q = ap is_some (get_gone f n q) ∙ some_unless (bytes_eq q n) (map_of.get f q)
@@ -56,8 +47,7 @@ sorted_once [] h = tt
 sorted_once (e ∷ es) h = (out es (T-parts _ _ h).0, sorted_once es (T-parts _ _ h).1)
   where
     less : (o : Ordering) → T (is_lt o) → is_eq o ≡ false
-    less Less k = refl
-    less o k = absurd k
+    less o k = grind arith
 
     out : (others : List (List ℕ × List ℕ)) → T (below_all (slice_cmp nat_cmp) e.0 others) → is_among (map (λ other. other.0) others) e.0 ≡ false
     out [] k = refl
@@ -103,14 +93,9 @@ pub has_laid : (files : List File) (f : Folder) (q : List ℕ) → has (laid_ove
 unfolding laid_over
 has_laid [] f q = refl
 has_laid (file ∷ files) f q =
+    let three : (a b c : Bool) → (a || (b || c)) ≡ ((b || a) || c) = λ a b c. grind arith in
     has_laid files (map_of.insert f file.0 file.1) q ∙ ap (λ t. is_among (map (λ other. other.0) files) q || t) (has_put f file.0 file.1 q)
     ∙ three (is_among (map (λ other. other.0) files) q) (bytes_eq q file.0) (has f q)
-  where
-    three : (a b c : Bool) → (a || (b || c)) ≡ ((b || a) || c)
-    three true true c = refl
-    three true false c = refl
-    three false true c = refl
-    three false false c = refl
 
 pub laid_over-append : (files more : List File) (f : Folder) → laid_over (files ++ more) f ≡ laid_over more (laid_over files f)
 unfolding laid_over
@@ -124,12 +109,10 @@ without_put gone f n b = step (is_among gone n) refl
     apart q h e = subst (λ x. is_among gone x ≡ true) (sym (same_name q n e)) h
 
     hidden : (t g : Bool) (y x : Option (List ℕ)) → (t ≡ true → g ≡ true) → cond g None (cond t y x) ≡ cond g None x
-    hidden true false y x h = absurd (false≢true (h refl))
-    hidden t g y x h = refl
+    hidden t g y x h = grind arith
 
     over : (t g : Bool) (y x : Option (List ℕ)) → (t ≡ true → g ≡ false) → cond g None (cond t y x) ≡ cond t y (cond g None x)
-    over true true y x h = absurd (false≢true (sym (h refl)))
-    over t g y x h = refl
+    over t g y x h = grind arith
 
     step : (t : Bool) → is_among gone n ≡ t → without gone (map_of.insert f n b) ≡ cond (not t) (map_of.insert (without gone f) n b) (without gone f)
     step true h = same_folder _ _ (λ q.
@@ -145,34 +128,21 @@ pub without-laid_over : (gone : List (List ℕ)) (files : List File) (f : Folder
 unfolding laid_over
 without-laid_over gone [] f = refl
 without-laid_over gone (file ∷ files) f =
+    let step : (t : Bool) (fs : List File) (g : Folder) → laid_over fs (cond t (map_of.insert g file.0 file.1) g) ≡ laid_over (cond t (file ∷ fs) fs) g = λ t fs g. grind arith in
     without-laid_over gone files (map_of.insert f file.0 file.1)
     ∙ ap (laid_over (filter (λ other. not (is_among gone other.0)) files)) (without_put gone f file.0 file.1)
     ∙ step (not (is_among gone file.0)) (filter (λ other. not (is_among gone other.0)) files) (without gone f)
-  where
-    step : (t : Bool) (fs : List File) (g : Folder) → laid_over fs (cond t (map_of.insert g file.0 file.1) g) ≡ laid_over (cond t (file ∷ fs) fs) g
-    step true fs g = refl
-    step false fs g = refl
 
 -- folders without names that tell the same of each file
 pub same_without : (gone more : List (List ℕ)) (f : Folder) → ((q : List ℕ) → has f q ≡ true → is_among gone q ≡ is_among more q) → without gone f ≡ without more f
-same_without gone more f h = same_folder _ _ (λ q.
-    get_without gone f q ∙ step (is_among gone q) (is_among more q) (map_of.get f q) (h q) ∙ sym (get_without more f q))
-  where
-    step : (a b : Bool) (g : Option (List ℕ)) → (is_some g ≡ true → a ≡ b) → cond a None g ≡ cond b None g
-    step a b (Some x) e = ap (λ t. cond t None (Some x)) (e refl)
-    step true true None e = refl
-    step true false None e = refl
-    step false true None e = refl
-    step false false None e = refl
+same_without gone more f h = grind (arith, same_folder, get_without)
 
 pub without_without : (gone more : List (List ℕ)) (f : Folder) → without gone (without more f) ≡ without (gone ++ more) f
-without_without gone more f = same_folder _ _ (λ q.
+without_without gone more f =
+    let both : (a b : Bool) (g : Option (List ℕ)) → cond a None (cond b None g) ≡ cond (a || b) None g = λ a b g. grind arith in
+    same_folder _ _ (λ q.
     get_without gone (without more f) q ∙ ap (cond (is_among gone q) None) (get_without more f q)
     ∙ both (is_among gone q) (is_among more q) (map_of.get f q) ∙ sym (get_without (gone ++ more) f q ∙ ap (λ t. cond t None (map_of.get f q)) (among-append gone more q)))
-  where
-    both : (a b : Bool) (g : Option (List ℕ)) → cond a None (cond b None g) ≡ cond (a || b) None g
-    both true b g = refl
-    both false b g = refl
 
 -- ---- renames in a row
 
@@ -197,7 +167,10 @@ pub record CanMove (f : Folder) (moves : List Move) : Type 0 where
   pub free : (q : List ℕ) → is_among (goals moves) q ≡ true → has f q ≡ false
 
 rest_moves : (f : Folder) (m : Move) (moves : List Move) → CanMove f (m ∷ moves) → CanMove (effect f (Rename m.0 m.1)) moves
-rest_moves f m moves c = record {
+rest_moves f m moves c =
+    let stays : (b a t : Bool) → a ≡ false → t ≡ true → (b || (not a && t)) ≡ true = λ b a t h k. grind arith in
+    let out : (b a t : Bool) → b ≡ false → t ≡ false → (b || (not a && t)) ≡ false = λ b a t h k. grind arith in
+    record {
   sources_once = c.sources_once.1;
   goals_once = c.goals_once.1;
   there = λ q h. has_renamed f m.0 m.1 q
@@ -205,16 +178,6 @@ rest_moves f m moves c = record {
   free = λ q h. has_renamed f m.0 m.1 q
       ∙ out (bytes_eq q m.1) (bytes_eq q m.0) (has f q) (not_first m.1 (goals moves) c.goals_once.0 q h) (c.free q (or_right _ _ h));
 }
-  where
-    stays : (b a t : Bool) → a ≡ false → t ≡ true → (b || (not a && t)) ≡ true
-    stays true a t h k = refl
-    stays false true t h k = absurd (false≢true (sym h))
-    stays false false t h k = k
-
-    out : (b a t : Bool) → b ≡ false → t ≡ false → (b || (not a && t)) ≡ false
-    out true a t h k = h
-    out false true t h k = refl
-    out false false t h k = k
 
 pub renames_apply : (f : Folder) (moves : List Move) → CanMove f moves → are_applicable f (renames moves) ≡ true
 unfolding are_applicable is_applicable
@@ -240,6 +203,7 @@ pub renames_lead : (f : Folder) (moves : List Move) → CanMove f moves → effe
 unfolding effects laid_over effect
 renames_lead f [] c = none_gone f
 renames_lead f (m ∷ moves) c =
+    let past : (b a : Bool) (y g : Option (List ℕ)) → b ≡ false → a ≡ false → cond b y (cond a None g) ≡ g = λ b a y g h k. grind arith in
     let other : (q : List ℕ) → is_among (sources moves) q ≡ true → bytes_eq q m.1 ≡ false =
     λ q h. other_name q m.1 (λ e. clash (subst (λ x. is_among (sources moves) x ≡ true) e h) (goal_no_source f m moves c)) in
     let base : (g : Folder) → g ≡ effect f (Rename m.0 m.1) → without (sources moves) g ≡ map_of.insert (without (sources (m ∷ moves)) f) m.1 (bytes_of f m.0) = λ g e.
@@ -252,11 +216,6 @@ renames_lead f (m ∷ moves) c =
     ∙ ap (λ fs. laid_over fs (without (sources moves) g)) (same_arrived g f moves (λ q h. ap (λ o. unwrap_or o []) (get_renamed f m.0 m.1 q
     ∙ past (bytes_eq q m.1) (bytes_eq q m.0) (Some (bytes_of f m.0)) (map_of.get f q) (other q h) (not_first m.0 (sources moves) c.sources_once.0 q h))))
     ∙ ap (laid_over (arrived f moves)) (base g refl)
-  where
-    past : (b a : Bool) (y g : Option (List ℕ)) → b ≡ false → a ≡ false → cond b y (cond a None g) ≡ g
-    past true a y g h k = absurd (false≢true (sym h))
-    past false true y g h k = absurd (false≢true (sym k))
-    past false false y g h k = refl
 
 -- ---- writes and removals
 

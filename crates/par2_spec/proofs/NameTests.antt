@@ -1,6 +1,6 @@
 -- The tests of a name, one by one.
-use Rattle.par2_spec.proofs.Common.{◌≡◌, ◌∙◌, ℕ, List, [], ◌∷◌, length, ap, refl, true, false, not, codes, nat_le, nat_eq, ◌==◌, list_all, list_any, starts_with, bytes_eq, is_utf8, IsUtf8, and_parts, and_from, or_from, false_from_ne_true, IsUtf8-from_is_utf8, is_among, is_name}
-use Rattle.par2_spec.proofs.NamesLaws.{clash, other_name}
+use Rattle.par2_spec.proofs.Common.{◌≡◌, ◌∙◌, ℕ, List, [], ◌∷◌, length, ap, refl, true, false, not, codes, nat_le, nat_eq, ◌==◌, list_all, list_any, starts_with, bytes_eq, is_utf8, IsUtf8, and_parts, or_from, false_from_ne_true, IsUtf8-from_is_utf8, is_among, is_name, arith}
+use Rattle.par2_spec.proofs.Basics.{clash, other_name}
 
 pub record Tests (name : List ℕ) : Type 0 where
   pub some : nat_le 1 (length name) ≡ true
@@ -13,19 +13,10 @@ pub record Tests (name : List ℕ) : Type 0 where
   pub no_undo : not (starts_with nat_eq name (codes ".par2undo")) ≡ true
 
 pub tests_of : (name : List ℕ) → is_name name ≡ true → Tests name
-tests_of name h = unfold is_name in
-    let a = and_parts _ (not (starts_with nat_eq name (codes ".par2undo"))) h in
-    let b = and_parts _ (not (bytes_eq name (codes ".."))) a.0 in
-    let c = and_parts _ (not (bytes_eq name (codes "."))) b.0 in
-    let d = and_parts _ (not (list_any (λ x. x == 0) name)) c.0 in
-    let e = and_parts _ (not (list_any (λ x. x == 0x2F) name)) d.0 in
-    let f = and_parts _ (is_utf8 name) e.0 in
-    let g = and_parts (nat_le 1 (length name)) (nat_le (length name) 255) f.0 in
-    record { some = g.0; short = g.1; text = f.1; no_slash = e.1; no_zero = d.1; no_dot = c.1; no_dots = b.1; no_undo = a.1 }
+tests_of name h = unfold is_name in grind (arith, and_parts)
 
 pub name_of : (name : List ℕ) → Tests name → is_name name ≡ true
-name_of name t = unfold is_name in
-    and_from _ _ (and_from _ _ (and_from _ _ (and_from _ _ (and_from _ _ (and_from _ _ (and_from _ _ t.some t.short) t.text) t.no_slash) t.no_zero) t.no_dot) t.no_dots) t.no_undo
+name_of name t = unfold is_name in grind arith
 
 pub name_is_short : (name : List ℕ) → is_name name ≡ true → nat_le (length name) 255 ≡ true
 name_is_short name h = (tests_of name h).short

@@ -1,10 +1,7 @@
 -- The files in the order of their File IDs, and that one list alone rises.
 use Rattle.par2_spec.proofs.Common.{◌≡◌, ◌≢◌, ℕ, zero, suc, ◌+◌, ◌<◌, ◌≤◌, List, [], ◌∷◌, length, map, refl, sym, ap₂, subst, true, false, Bool, eqb, arith, nat_le, if◌then◌else◌, IsPermutation, slice_index, w128, from_le_bytes, AllByRecursion, IsDistinct, IsStrictlyIncreasing, IsNonDecreasingBy, leb-true, leb-false, eqb-true, eq-eqb, false_from_ne_true, All-from_recursion, recursion_from_All, IsDistinct-IsPermutation, Folder, File, bytes_of, FileRecord, id_number, insert_by_id, record_of, in_id_order, files_of, OnlyOneOrder}
 use Rattle.std.proofs.lemmas.List.Sorted.{All-permutation, IsPermutation-sym, IsPermutation-refl, IsPermutation-trans, IsPermutation-cons, IsPermutation-swap, IsPermutation-map}
-use Rattle.par2_spec.proofs.NamesLaws.{clash}
-use Rattle.par2_spec.proofs.ListsLaws.{all-map, all-both}
-use Rattle.par2_spec.proofs.RankLaws.{all_weaker}
-use Rattle.par2_spec.proofs.TestLaws.{same_tests}
+use Rattle.par2_spec.proofs.Basics.{clash, all-map, all-both, all_weaker, same_tests}
 
 -- ---- what rises
 

@@ -1,12 +1,6 @@
 -- Values, products and quotients of polynomials.
-use Rattle.par2_spec.proofs.Common.{ℕ, suc, ◌-◌, ◌^◌, ◌<◌, ◌≡◌, refl, sym, ap, ap₂, ◌∙◌, subst, arith, List, [], ◌∷◌, length, map, ◌≢◌, false, get_or, drop, inl, inr, xor_comm, xor_lt, length-map, Contains-get_or, eqb-false, cases_eq, xor_assoc, xor_zero_r, xor_self, xor_zero_l, AllByRecursion, Contains, IsDistinct, mul, IsVector, times, times_root, AreElements, ArePoints, Interpolates, value, plus, with_roots, quotient}
-use Rattle.std.proofs.Common.{bit_xor, nat_eq}
-use Rattle.par2_spec.proofs.FieldBits.{xor_middle}
-use Rattle.par2_spec.proofs.FieldProducts.{product_linear_left, product_linear_right, product_assoc, product_comm, product-one, product-lt}
-use Rattle.par2_spec.proofs.FieldOrder.{product-zero, zero-product, no_zero_divisor, has_inverse}
-use Rattle.par2_spec.proofs.SumLaws.{xor_same, xor_off}
-use Rattle.par2_spec.proofs.RankLaws.{all_weaker}
-use Rattle.par2_spec.proofs.ListsLaws.{all-both, of_contained, contained_first, contained_later, all_from, all_at}
+use Rattle.par2_spec.proofs.Basics.{by_either, xor_middle, product_linear_left, product_linear_right, product_assoc, product_comm, product-one, product-lt, product-zero, zero-product, no_zero_divisor, has_inverse, xor_same, xor_off, all_weaker, all-both, of_contained, contained_first, contained_later, all_from, all_at}
+use Rattle.par2_spec.proofs.Common.{ℕ, suc, ◌-◌, ◌^◌, ◌<◌, ◌≡◌, refl, sym, ap, ap₂, ◌∙◌, subst, arith, List, [], ◌∷◌, length, map, ◌≢◌, false, get_or, drop, xor_comm, xor_lt, length-map, Contains-get_or, eqb-false, cases_eq, xor_assoc, xor_zero_r, xor_self, xor_zero_l, AllByRecursion, Contains, IsDistinct, mul, IsVector, times, times_root, AreElements, ArePoints, Interpolates, value, plus, with_roots, quotient, bit_xor, nat_eq}
 
 -- ---- elements and lengths
 
@@ -294,10 +288,9 @@ quotient_itself points c are first e =
     let w = with_roots points in
     let hc = of_contained (λ x. x < 2 ^ 16) points c h first in
     let q = quotient c w in
-    let at_all = all_from (λ z. value q z ≡ 0) 0 points (λ i low. elim (cases_eq (get_or points i 0) c) as (λ _. value q (get_or points i 0) ≡ 0) [
-      | inl same ↦ ap (value q) same ∙ e
-      | inr other ↦ quotient_others points c (get_or points i 0) h first (Contains-get_or points i 0 low) other
-    ]) in
+    let at_all = all_from (λ z. value q z ≡ 0) 0 points (λ i low. by_either (cases_eq (get_or points i 0) c)
+        (λ same. ap (value q) same ∙ e)
+        (λ other. quotient_others points c (get_or points i 0) h first (Contains-get_or points i 0 low) other)) in
     let long = length-quotient c w in
     let long_w = length-with_roots points in
     let none = only_zero points q are (omega (arith, long, long_w), quotient_elements c w hc (with_roots_elements points h)) at_all in

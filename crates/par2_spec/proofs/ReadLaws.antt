@@ -1,10 +1,8 @@
 -- What holds of a set that reads, and of the names that are searched.
-use Rattle.par2_spec.proofs.Common.{◌≡◌, ℕ, suc, ◌≤◌, List, [], ◌∷◌, ◌++◌, length, map, refl, sym, ap, ◌∙◌, subst, cond, true, false, Bool, not, ◌&&◌, ◌||◌, arith, length-append, ◌<◌, ◌+◌, ◌^◌, zero, ◌-◌, ◌*◌, take, drop, length-drop, min, nat_lt, filter, filter_map, flat_map, find, sum_by, nat_le, Option, Some, None, is_some, unwrap_or, option_map, option_and_then, Result, Ok, Err, ok_or, ◌==◌, if◌then◌else◌, zip, list_all, AllByRecursion, Contains, concat, entries-insert, len-entries, len-empty, nat_cmp-IsAntisymmetric, nat_cmp_total, put, by_order, nat_cmp, Ordering, zero-div, zero-mod, bytes_eq, length-map, nil_from_length, length-take-le, sum_by-cons, list_all-map, recursion_from_All, All-contains_itself, and_parts, and_from, or_cases, or_left, or_right, false_from_ne_true, eqb-true, leb-true, ltb-true, false≢true, Fault, NoMain, NoDescription, NoChecksums, BadSet, Pair, slice_count, is_name, is_among, distinct, Packet, accepted, MainBody, DescBody, RecoveryBody, read_recovery, Folder, has, bytes_of, ParSet, Target, ◌>>=◌, unless, all_some, is_slice_size, packets_with, main_of, description_of, pairs_of, target_of, are_in_profile, recovery_of, other_par_names, IsSound, read_set, set_of, candidates, known, lost, AreFew, FitsRepair, lost_of_unmatched, cut_into, div_ceil, div_ceil_times, FilesHaveTheirSize}
-use Rattle.std.specs.Prelude.{◌%◌}
+use Rattle.par2_spec.proofs.Common.{◌≡◌, ℕ, suc, ◌≤◌, List, [], ◌∷◌, ◌++◌, length, map, refl, sym, ap, ◌∙◌, subst, cond, true, false, Bool, not, ◌&&◌, ◌||◌, arith, length-append, ◌<◌, ◌+◌, ◌^◌, zero, ◌-◌, ◌*◌, take, drop, length-drop, min, nat_lt, filter, filter_map, flat_map, find, sum_by, nat_le, Option, Some, unwrap_or, option_map, option_and_then, Result, Ok, Err, ok_or, ◌==◌, if◌then◌else◌, zip, list_all, AllByRecursion, Contains, concat, entries-insert, len-entries, len-empty, nat_cmp-IsAntisymmetric, nat_cmp_total, put, by_order, nat_cmp, Ordering, zero-div, zero-mod, bytes_eq, length-map, nil_from_length, length-take-le, sum_by-cons, list_all-map, recursion_from_All, All-contains_itself, and_parts, and_from, or_cases, or_left, or_right, false_from_ne_true, eqb-true, leb-true, ltb-true, false≢true, Fault, NoMain, NoDescription, NoChecksums, BadSet, Pair, slice_count, is_name, is_among, distinct, Packet, accepted, MainBody, DescBody, RecoveryBody, read_recovery, Folder, has, bytes_of, ParSet, Target, ◌>>=◌, unless, all_some, is_slice_size, packets_with, main_of, description_of, pairs_of, target_of, are_in_profile, recovery_of, other_par_names, IsSound, read_set, set_of, candidates, known, lost, AreFew, FitsRepair, lost_of_unmatched, cut_into, div_ceil, div_ceil_times, FilesHaveTheirSize, ◌%◌}
 use Rattle.par2_spec.proofs.NamesLaws.{same_name, itself, clash, among-filter, among-append, AreDistinct, std_from_distinct}
 use Rattle.par2_spec.proofs.FoundLaws.{AreSized, lost_is}
 use Rattle.par2_spec.proofs.ListsLaws.{found_one}
-use Rattle.std.proofs.lemmas.List.{length-append}
 use Rattle.std.specs.FinMap as map_of
 use Rattle.par2_spec.proofs.TestLaws.{by_either}
 
@@ -13,14 +11,9 @@ use Rattle.par2_spec.proofs.TestLaws.{by_either}
 among-distinct : (xs : List (List ℕ)) (q : List ℕ) → is_among (distinct xs) q ≡ is_among xs q
 among-distinct [] q = refl
 among-distinct (x ∷ xs) q =
+    let step : (b c r : Bool) → (c ≡ true → b ≡ true) → (b || (r && not c)) ≡ (b || r) = λ b c r k. grind arith in
     ap (λ b. bytes_eq q x || b) (among-filter (λ other. not (bytes_eq x other)) (distinct xs) q ∙ ap (λ b. b && not (bytes_eq x q)) (among-distinct xs q))
     ∙ step (bytes_eq q x) (bytes_eq x q) (is_among xs q) (λ e. subst (λ y. bytes_eq q y ≡ true) (sym (same_name x q e)) (itself q))
-  where
-    step : (b c r : Bool) → (c ≡ true → b ≡ true) → (b || (r && not c)) ≡ (b || r)
-    step true c r k = refl
-    step false true r k = absurd (false≢true (k refl))
-    step false false true k = refl
-    step false false false k = refl
 
 length-filter-le : (p : List ℕ → Bool) (xs : List (List ℕ)) → length (filter p xs) ≤ length xs
 length-filter-le p [] = omega arith
@@ -30,14 +23,11 @@ length-filter-le p (x ∷ xs) = grind (arith, length-filter-le p xs)
 filter_full : (p : List ℕ → Bool) (xs : List (List ℕ)) → length (filter p xs) ≡ length xs → (q : List ℕ) → is_among xs q ≡ true → p q ≡ true
 filter_full p [] e q h = absurd (false≢true h)
 filter_full p (x ∷ xs) e q h =
+    let step : (b : Bool) (ys : List (List ℕ)) → length ys ≤ length xs → length (cond b (x ∷ ys) ys) ≡ suc (length xs) → (b ≡ true) × (length ys ≡ length xs) = λ b ys h k. grind arith in
     let r = step (p x) (filter p xs) (length-filter-le p xs) e in
     by_either (or_cases (bytes_eq q x) (is_among xs q) h)
     (λ here. subst (λ y. p y ≡ true) (sym (same_name q x here)) r.0)
     (λ there. filter_full p xs r.1 q there)
-  where
-    step : (b : Bool) (ys : List (List ℕ)) → length ys ≤ length xs → length (cond b (x ∷ ys) ys) ≡ suc (length xs) → (b ≡ true) × (length ys ≡ length xs)
-    step true ys h k = (refl, omega (arith, k))
-    step false ys h k = absurd (omega (arith, h, k))
 
 length-distinct-le : (xs : List (List ℕ)) → length (distinct xs) ≤ length xs
 length-distinct-le [] = omega arith
@@ -61,29 +51,20 @@ abbrev pub came_out : {A : Type 0} → Result A Fault → Bool
 came_out (Ok a) = true
 came_out (Err e) = false
 
-abbrev value_or : {A : Type 0} → A → Result A Fault → A
-value_or d (Ok a) = a
-value_or d (Err e) = d
-
 took : {A B : Type 0} (r : Result A Fault) (f : A → Result B Fault) (b : B) → (r >>= f) ≡ Ok b → (a : A) × (r ≡ Ok a) × (f a ≡ Ok b)
-took (Ok a) f b h = (a, refl, h)
-took (Err e) f b h = absurd (false≢true (ap came_out h))
+took r f b h = grind arith
 
 pub was_some : {A : Type 0} (o : Option A) (e : Fault) (a : A) → ok_or o e ≡ Ok a → o ≡ Some a
-was_some None e a h = absurd (false≢true (ap came_out h))
-was_some (Some x) e a h = ap (λ r. Some (value_or x r)) h
+was_some o e a h = grind arith
 
 passed : (b : Bool) (e : Fault) (c : Bool) → unless b e ≡ Ok c → b ≡ true
-passed true e c h = refl
-passed false e c h = absurd (false≢true (ap came_out h))
+passed b e c h = grind arith
 
 pub mapped : {A B : Type 0} (f : A → B) (o : Option A) (b : B) → option_map f o ≡ Some b → (a : A) × (o ≡ Some a) × (f a ≡ b)
-mapped f None b h = absurd (false≢true (ap is_some h))
-mapped f (Some a) b h = (a, refl, ap (λ p. unwrap_or p (f a)) h)
+mapped f o b h = grind arith
 
 chained : {A B : Type 0} (f : A → Option B) (o : Option A) (b : B) → option_and_then f o ≡ Some b → (a : A) × (o ≡ Some a) × (f a ≡ Some b)
-chained f None b h = absurd (false≢true (ap is_some h))
-chained f (Some a) b h = (a, refl, h)
+chained f o b h = grind arith
 
 find_passes : {A : Type 0} (p : A → Bool) (xs : List A) (a : A) → find p xs ≡ Some a → p a ≡ true
 find_passes p xs a h = (found_one (Contains xs) p xs (recursion_from_All (Contains xs) xs (All-contains_itself xs)) a h).1

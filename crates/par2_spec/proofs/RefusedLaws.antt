@@ -1,8 +1,7 @@
 -- Where a repair is refused as not repairable, other slices agree too.
-use Rattle.par2_spec.proofs.Common.{◌≡◌, ℕ, ◌≤◌, List, [], ◌∷◌, refl, subst, true, false, Bool, arith, Option, Some, None, Ok, both_ways, not-true, Fault, NoSuchFile, NameTooLong, NotRepairable, RepairFailed, first_fault, fault_where, Folder, all_slices, IsRepairable, ParSet, set_of, is_slice_size, candidates, known, lost, survivors, Repair, RefusedRepairHasAChoice, repair_refusal, refusal}
+use Rattle.par2_spec.proofs.Common.{◌≡◌, ℕ, ◌≤◌, List, [], ◌∷◌, subst, true, Bool, arith, Option, Some, Ok, both_ways, not-true, Fault, NoSuchFile, NameTooLong, NotRepairable, RepairFailed, first_fault, fault_where, Folder, all_slices, IsRepairable, ParSet, set_of, is_slice_size, candidates, known, lost, survivors, Repair, RefusedRepairHasAChoice, repair_refusal, refusal}
 use Rattle.std.specs.FinMap as map_of
-use Rattle.par2_spec.proofs.ReadLaws.{sound_of, size_parts}
-use Rattle.par2_spec.proofs.RankLaws.{repairable-iff}
+use Rattle.par2_spec.proofs.Basics.{sound_of, size_parts, repairable-iff}
 use Rattle.par2_spec.proofs.ExistLaws.{another_agrees}
 use Rattle.par2_spec.proofs.RestoredLaws.{true_slices_agree}
 use Rattle.par2_spec.proofs.AcceptedCommands.{missing, in_full, in_part}
@@ -13,21 +12,12 @@ is_other f m r apart e = grind arith
 no_such_file : (k m r : ℕ) → NoSuchFile k ≡ NotRepairable m r → ⊥
 no_such_file k m r e = cc
 
-too_long : (m r : ℕ) → NameTooLong ≡ NotRepairable m r → ⊥
-too_long m r e = cc
-
 failed : (m r : ℕ) → RepairFailed ≡ NotRepairable m r → ⊥
 failed m r e = cc
 
-no_fault : (m r : ℕ) → ◌≡◌ {A = Option Fault} None (Some (NotRepairable m r)) → ⊥
-no_fault m r e = cc
-
 -- the first cause alone is answered by this fault
 pub first_cause : (b c d : Bool) (l n m r : ℕ) → first_fault (fault_where b (NotRepairable l n) ∷ fault_where c NameTooLong ∷ fault_where d RepairFailed ∷ []) ≡ Some (NotRepairable m r) → b ≡ true
-first_cause true c d l n m r e = refl
-first_cause false true d l n m r e = absurd (is_other NameTooLong m r (too_long m r) e)
-first_cause false false true l n m r e = absurd (is_other RepairFailed m r (failed m r) e)
-first_cause false false false l n m r e = absurd (no_fault m r e)
+first_cause b c d l n m r e = grind arith
 
 unrepairable : (folder : Folder) (set : ParSet) (searched : List (List ℕ)) (m r : ℕ) → repair_refusal folder set searched ≡ Some (NotRepairable m r) → IsRepairable (lost (known folder set searched)) (survivors set) → ⊥
 unrepairable folder set searched m r e repairable = unfold repair_refusal in grind (arith, both_ways, not-true, first_cause, repairable-iff)

@@ -1,16 +1,9 @@
 -- The changes of a repair lead to its folder.
-use Rattle.par2_spec.proofs.Common.{◌≡◌, ℕ, List, [], ◌∷◌, ◌++◌, length, map, inl, inr, refl, sym, ap, ◌∙◌, subst, cond, true, false, Bool, not, ◌&&◌, ◌||◌, filter, filter_map, zip, Option, Some, None, Ok, option_map, is_some, is_none, unwrap_or, if◌then◌else◌, concat, list_all, list_any, AllByRecursion, ForSome, bytes_eq, map-append, map-map, and_parts, and_right, or_parts, or_cases, or_left, or_right, or_from, and_from, false_from_ne_true, cases_Bool, not_from_false, false≢true, not-true, and-false, is_among, is_par_name, Folder, has, bytes_of, names, File, without, laid_over, Write, Rename, Remove, effects, are_applicable, accepted, ParSet, Target, set_of, target_names, candidates, known, needing, needing_names, is_needing, intact_names, matching, matches, aside, put_aside, files_of_slices, cut_into, rebuilt, matched_files, names_without_match, aside_files, is_par_file, par_files, after_repair_and_purge, FitsRepair, HoldsRepaired, AreFew, taken_for, rebuilt_targets, after_repair, now_at, purge_changes, repair_changes, repair_removals}
-use Rattle.std.specs.Prelude.{take, drop}
+use Rattle.par2_spec.proofs.Common.{◌≡◌, ℕ, List, [], ◌∷◌, ◌++◌, length, map, inl, inr, refl, sym, ap, ◌∙◌, subst, cond, true, false, Bool, not, ◌&&◌, ◌||◌, filter, filter_map, zip, Option, Some, None, Ok, option_map, is_some, is_none, unwrap_or, if◌then◌else◌, concat, list_all, AllByRecursion, ForSome, bytes_eq, map-append, map-map, and_parts, and_right, or_parts, or_cases, or_left, or_right, or_from, and_from, false_from_ne_true, cases_Bool, not_from_false, false≢true, not-true, and-false, is_among, Folder, has, bytes_of, names, File, without, laid_over, Write, Rename, Remove, effects, are_applicable, ParSet, Target, set_of, target_names, candidates, known, needing, needing_names, is_needing, intact_names, matching, matches, aside, put_aside, files_of_slices, cut_into, rebuilt, matched_files, names_without_match, aside_files, is_par_file, par_files, after_repair_and_purge, FitsRepair, HoldsRepaired, AreFew, taken_for, rebuilt_targets, after_repair, now_at, purge_changes, repair_changes, repair_removals, take, drop, arith}
 use Rattle.std.specs.FinMap as map_of
-use Rattle.par2_spec.proofs.FolderLaws.{effects-append, are_applicable-append}
-use Rattle.par2_spec.proofs.CommandLaws.{removals_lead}
-use Rattle.par2_spec.proofs.NamesLaws.{same_name, itself, clash, AreDistinct, among-filter, among-append, among_some, apart_by_test, distinct-map, distinct-filter, distinct_some, image_of, image_in, distinct-append, distinct_from_std}
+use Rattle.par2_spec.proofs.Basics.{effects-append, are_applicable-append, removals_lead, same_name, itself, clash, AreDistinct, among-filter, among-append, among_some, apart_by_test, distinct-map, distinct-filter, distinct_some, image_of, image_in, distinct-append, distinct_from_std, each_there, candidates_there, sound_of, names_of_pairs, taken_was_free, taken_once, by_either, same_tests, none_if, some_if, filter-map, map-cond}
 use Rattle.par2_spec.proofs.MovesLaws.{Move, CanMove, renames, sources, goals, arrived, renames_apply, renames_lead, writes_apply, writes_lead, get_put, get_laid, get_without, has_laid, has_without, has_by_names, laid_over-append, without-laid_over, without_without, same_without, removals_apply, names_once, all_laid}
 use Rattle.par2_spec.proofs.AsideNames.{aside_out, aside_one, aside_no_target}
-use Rattle.par2_spec.proofs.ReadLaws.{each_there, candidates_there, sound_of}
-use Rattle.par2_spec.proofs.SearchLaws.{names_of_pairs, taken_was_free, taken_once}
-use Rattle.par2_spec.proofs.TestLaws.{by_either, same_tests, none_if, some_if}
-use Rattle.par2_spec.proofs.ListsLaws.{filter-map, map-cond}
 
 map_itself : (xs : List (List ℕ)) → map (λ x. x) xs ≡ xs
 map_itself [] = refl
@@ -143,9 +136,7 @@ module _ (folder : Folder) (set : ParSet) (given : List (List ℕ)) (fits : Fits
 
   -- a match was free
   pub match_free : (q : List ℕ) → is_among taken_names q ≡ true → (is_among given q ≡ true) × (not (is_among intact q) ≡ true)
-  match_free q h = unfold matches in
-      and_parts _ _ (sym (among-filter (λ name. not (is_among intact name)) given q)
-      ∙ taken_was_free folder set.slice_size (filter (λ name. not (is_among intact name)) given) (needing folder set) q h)
+  match_free q h = unfold matches in grind (arith, and_parts, among-filter, taken_was_free)
 
   -- the present needing targets
   moved_is : (q : List ℕ) → is_among moved q ≡ (is_among wanted q && has folder q)
@@ -176,11 +167,7 @@ module _ (folder : Folder) (set : ParSet) (given : List (List ℕ)) (fits : Fits
       ∙ ap (filter (is_among unwon)) (names_of_contents (λ z. take z.0.length (concat z.1)) set.targets (rebuilt set (known folder set given)))
 
   unwon_apart : (q : List ℕ) → is_among unwon q ≡ true → is_among won q ≡ false
-  unwon_apart q h = apart_by_test (λ m. m.0.name) (λ m. is_none m.1) (λ m. is_some m.1) (λ m. turned m.1) (matches folder set given) heads_once q h
-    where
-      turned : (o : Option (List ℕ)) → is_some o ≡ not (is_none o)
-      turned None = refl
-      turned (Some x) = refl
+  unwon_apart q h = grind (arith, apart_by_test, heads_once)
 
   abbrev left : List (List ℕ)
   left = filter (λ name. not (is_among taken_names name)) moved
@@ -218,14 +205,7 @@ module _ (folder : Folder) (set : ParSet) (given : List (List ℕ)) (fits : Fits
 
     -- two matches stand at two places
     now_one : (a b : List ℕ) → is_among taken_names a ≡ true → is_among taken_names b ≡ true → now a ≡ now b → a ≡ b
-    now_one a b i j e = elim (cases_Bool (is_among moved a)) as (λ _. a ≡ b) [
-      | inl h ↦ by_either (cases_Bool (is_among moved b))
-          (λ k. free.aside_one a b (sym (now_moved a h) ∙ e ∙ now_moved b k))
-          (λ k. absurd (clash (match_there b j) (subst (λ x. has folder x ≡ false) (sym (now_moved a h) ∙ e ∙ now_other b k) (free.aside_free a))))
-      | inr h ↦ by_either (cases_Bool (is_among moved b))
-          (λ k. absurd (clash (match_there a i) (subst (λ x. has folder x ≡ false) (sym (sym (now_other a h) ∙ e ∙ now_moved b k)) (free.aside_free b))))
-          (λ k. sym (now_other a h) ∙ e ∙ now_other b k)
-    ]
+    now_one a b i j e = grind (arith, cases_Bool, by_either, aside_one, now_moved, clash, match_there, now_other)
 
     -- ---- first: the present needing targets are put aside
 
@@ -257,21 +237,11 @@ module _ (folder : Folder) (set : ParSet) (given : List (List ℕ)) (fits : Fits
         ∙ ap (λ fs. laid_over fs (without moved folder)) (map-map (λ m. (m.1, bytes_of folder m.0)) (λ n. (n, off n)) moved)
 
     cleared_has : (q : List ℕ) → has cleared q ≡ (is_among (map off moved) q || (not (is_among moved q) && has folder q))
-    cleared_has q =
-        has_laid (put_under off folder moved) (without moved folder) q
-        ∙ ap (λ ns. is_among ns q || has (without moved folder) q) (map-map (λ file. file.0) (λ n. (off n, bytes_of folder n)) moved)
-        ∙ ap (λ b. is_among (map off moved) q || b) (has_without moved folder q)
+    cleared_has q = grind (arith, has_laid, map-map, has_without)
 
     -- no target that is needed stands there
     cleared_wanted : (q : List ℕ) → is_among wanted q ≡ true → has cleared q ≡ false
-    cleared_wanted q h = cleared_has q ∙ or_from _ _ (target_no_aside moved q (wanted_is_target q h)) gone
-      where
-        step : (b : Bool) → has folder q ≡ b → (not (is_among moved q) && has folder q) ≡ false
-        step true k = ap (λ b. not b && has folder q) (wanted_moved q h k)
-        step false k = ap (λ b. not (is_among moved q) && b) k ∙ and-false (not (is_among moved q))
-
-        gone : (not (is_among moved q) && has folder q) ≡ false
-        gone = step (has folder q) refl
+    cleared_wanted q h = grind (arith, cleared_has, or_from, target_no_aside, wanted_is_target, wanted_moved, and-false)
 
     -- a match has its bytes where it stands now
     cleared_match : (q : List ℕ) → is_among taken_names q ≡ true → map_of.get cleared (now q) ≡ map_of.get folder q
@@ -351,26 +321,19 @@ module _ (folder : Folder) (set : ParSet) (given : List (List ℕ)) (fits : Fits
         (without_without (map now taken_names) moved folder ∙ same_without (map now taken_names ++ moved) (map (λ m. m.0.name) (matches folder set given) ++ taken_names) folder gone_alike)
 
     second_leads : effects cleared (renames second) ≡ settled
-    second_leads =
-        renames_lead cleared second can_take
-        ∙ ap (λ fs. laid_over fs (without (sources second) cleared)) (arrived-moves now folder cleared (matches folder set given) (λ q h. ap (λ o. unwrap_or o []) (cleared_match q h)))
-        ∙ ap (laid_over (matched_files folder (matches folder set given))) (ap (λ ns. without ns cleared) second_sources ∙ left_over)
+    second_leads = grind (arith, renames_lead, can_take, sources, arrived-moves, cleared_match, second_sources, left_over)
 
     -- ---- third: the others are written
 
     -- where the needing targets' names are free, and then those that are matched are taken
     settled_has : (q : List ℕ) → is_among wanted q ≡ true → has settled q ≡ is_among won q
     settled_has q h =
+        let none : (a b : Bool) → (a || (b && false)) ≡ a = λ a b. grind arith in
         ap (λ f. has f q) (sym second_leads ∙ renames_lead cleared second can_take)
         ∙ has_laid (arrived cleared second) (without (sources second) cleared) q
         ∙ ap (λ ns. is_among ns q || has (without (sources second) cleared) q) (map-map (λ file. file.0) (λ m. (m.1, bytes_of cleared m.0)) second ∙ second_goals)
         ∙ ap (λ b. is_among won q || b) (has_without (sources second) cleared q ∙ ap (λ b. not (is_among (sources second) q) && b) (cleared_wanted q h))
         ∙ none (is_among won q) (not (is_among (sources second) q))
-      where
-        none : (a b : Bool) → (a || (b && false)) ≡ a
-        none true b = refl
-        none false true = refl
-        none false false = refl
 
     third_apply : are_applicable settled (map (λ file. Write file.0 file.1) written) ≡ true
     third_apply =
@@ -401,14 +364,7 @@ module _ (folder : Folder) (set : ParSet) (given : List (List ℕ)) (fits : Fits
 
     -- and lead to its folder
     pub repair_leads : effects folder (repair_changes folder set given) ≡ after_repair folder set given
-    repair_leads = unfold after_repair in
-        ap (effects folder) changes_are
-        ∙ effects-append folder (renames first ++ renames second) (map (λ file. Write file.0 file.1) written)
-        ∙ ap (λ f. effects f (map (λ file. Write file.0 file.1) written))
-        (effects-append folder (renames first) (renames second) ∙ ap (λ f. effects f (renames second)) first_leads ∙ second_leads)
-        ∙ writes_lead settled written
-        ∙ sym (laid_over-append (matched_files folder (matches folder set given)) written
-        (laid_over (aside_files folder set taken_names) (without (map (λ m. m.0.name) (matches folder set given) ++ taken_names) folder)))
+    repair_leads = unfold after_repair in grind (arith, changes_are, effects-append, renames, first_leads, second_leads, writes_lead, laid_over-append)
 
     -- ---- then the asides that are left and the par files are removed
 
@@ -431,15 +387,7 @@ module _ (folder : Folder) (set : ParSet) (given : List (List ℕ)) (fits : Fits
 
     -- a name that is no target's is there only as an aside that is left, or as before
     after_other : (q : List ℕ) → is_among targets q ≡ false → has (after_repair folder set given) q ≡ (is_among (map off left) q || (not (is_among gone_names q) && has folder q))
-    after_other q h =
-        let no_written : is_among (filter (is_among unwon) targets) q ≡ false = among-filter (is_among unwon) targets q ∙ ap (λ b. b && is_among unwon q) h in
-        let no_won : is_among won q ≡ false = false_from_ne_true _ (λ i. clash (wanted_is_target q (won_wanted q i)) h) in
-        after_has q ∙ past _ _ _ no_written no_won
-      where
-        past : (a b c : Bool) → a ≡ false → b ≡ false → (a || (b || c)) ≡ c
-        past true b c i j = absurd (false≢true (sym i))
-        past false true c i j = absurd (false≢true (sym j))
-        past false false c i j = refl
+    after_other q h = grind (arith, after_has, false≢true, among-filter, false_from_ne_true, clash, wanted_is_target, won_wanted)
 
     par_left_is : (q : List ℕ) → is_among par_left q ≡ (is_among (par_files folder set) q && not (is_among taken_names q))
     par_left_is q = among-filter (λ name. not (is_among taken_names name)) (par_files folder set) q
@@ -459,22 +407,14 @@ module _ (folder : Folder) (set : ParSet) (given : List (List ℕ)) (fits : Fits
     par_left_par q h = (and_parts _ _ (sym (par_left_is q) ∙ h)).0
 
     par_no_target : (q : List ℕ) → is_among (par_files folder set) q ≡ true → is_among targets q ≡ false
-    par_no_target q h =
-        let packets = accepted (bytes_of folder q) in
-        let passes = (and_parts _ _ (sym (among-filter (is_par_file folder set) (names folder) q) ∙ h)).1 in
-        let some = (and_parts (is_par_name q && not (is_among targets q) && list_any (λ p. bytes_eq p.set_id set.id) packets) _ passes).0 in
-        let no_target = (and_parts (is_par_name q && not (is_among targets q)) _ some).0 in
-        not-true (is_among targets q) (and_parts (is_par_name q) _ no_target).1
+    par_no_target q h = grind (arith, and_parts, among-filter, not-true)
 
     par_there : (q : List ℕ) → is_among (par_files folder set) q ≡ true → has folder q ≡ true
     par_there q h = has_by_names folder q ∙ (and_parts _ _ (sym (among-filter (is_par_file folder set) (names folder) q) ∙ h)).0
 
     -- a par file that was taken as a match is there no more
     par_taken : (q : List ℕ) → is_among (par_files folder set) q ≡ true → is_among taken_names q ≡ true → has (after_repair folder set given) q ≡ false
-    par_taken q i j =
-        after_other q (par_no_target q i)
-        ∙ or_from (is_among (map off left) q) (not (is_among gone_names q) && has folder q) (present_no_aside left q (par_there q i))
-        (ap (λ b. not b && has folder q) (among-append (map (λ m. m.0.name) (matches folder set given)) taken_names q ∙ or_right (is_among (map (λ m. m.0.name) (matches folder set given)) q) (is_among taken_names q) j))
+    par_taken q i j = grind (arith, after_other, par_no_target, or_from, present_no_aside, par_there, among-append, or_right)
 
     -- what stands after the repair and is to go is what is removed
     removed_alike : (q : List ℕ) → has (after_repair folder set given) q ≡ true → is_among (map off left ++ par_left) q ≡ is_among (map off moved ++ par_files folder set) q
@@ -517,21 +457,13 @@ module _ (folder : Folder) (set : ParSet) (given : List (List ℕ)) (fits : Fits
         (λ q i. false_from_ne_true _ (λ j. clash i (present_no_aside left q (par_there q (par_left_par q j)))))
 
     removals_are : repair_removals folder set given ≡ map Remove (map off left ++ par_left)
-    removals_are = unfold repair_removals in
-        ap (λ cs. cs ++ map Remove par_left) (sym (map-map Remove off left)) ∙ sym (map-append Remove (map off left) par_left)
+    removals_are = unfold repair_removals in grind (arith, map-map, map-append)
 
     pub repair_and_purge_applies : are_applicable folder (repair_changes folder set given ++ repair_removals folder set given) ≡ true
-    repair_and_purge_applies =
-        are_applicable-append folder (repair_changes folder set given) (repair_removals folder set given) repair_applies
-        (ap (λ f. are_applicable f (repair_removals folder set given)) repair_leads ∙ ap (are_applicable (after_repair folder set given)) removals_are
-        ∙ removals_apply (after_repair folder set given) (map off left ++ par_left) removed_once removed_there)
+    repair_and_purge_applies = grind (arith, are_applicable-append, repair_applies, repair_leads, removals_are, removals_apply, removed_once, removed_there)
 
     pub repair_and_purge_leads : effects folder (repair_changes folder set given ++ repair_removals folder set given) ≡ after_repair_and_purge folder set given
-    repair_and_purge_leads =
-        effects-append folder (repair_changes folder set given) (repair_removals folder set given)
-        ∙ ap (λ f. effects f (repair_removals folder set given)) repair_leads ∙ ap (effects (after_repair folder set given)) removals_are
-        ∙ removals_lead (after_repair folder set given) (map off left ++ par_left)
-        ∙ same_without (map off left ++ par_left) (map off moved ++ par_files folder set) (after_repair folder set given) removed_alike
+    repair_and_purge_leads = grind (arith, effects-append, repair_leads, removals_are, removals_lead, same_without, removed_alike)
 
 -- ---- file by file
 
@@ -547,21 +479,14 @@ module _ (folder : Folder) (set : ParSet) (given : List (List ℕ)) (fits : Fits
 
   -- what is not written stands as it did before
   unwritten : (q : List ℕ) → is_among (unwon folder set given fits) q ≡ false → map_of.get (after_repair folder set given) q ≡ map_of.get (settled folder set given fits) q
-  unwritten q h =
-      ap (λ f. map_of.get f q) after_is
-      ∙ get_laid (written folder set given fits) (settled folder set given fits) q
-      (ap (λ ns. is_among ns q) (written_names folder set given fits) ∙ among-filter (is_among (unwon folder set given fits)) (targets folder set given fits) q
-      ∙ ap (λ b. is_among (targets folder set given fits) q && b) h ∙ and-false (is_among (targets folder set given fits) q))
+  unwritten q h = grind (arith, after_is, get_laid, written_names, among-filter, and-false)
 
   unwon_wanted : (q : List ℕ) → is_among (unwon folder set given fits) q ≡ true → is_among (wanted folder set given fits) q ≡ true
   unwon_wanted q h = subst (λ ns. is_among ns q ≡ true) (heads folder set given fits) (among_some (λ m. m.0.name) (λ m. is_none m.1) (matches folder set given) q h)
 
   -- a name that no target needs stands as it did with the asides
   unwanted : (q : List ℕ) → is_among (wanted folder set given fits) q ≡ false → map_of.get (after_repair folder set given) q ≡ map_of.get with_asides q
-  unwanted q h =
-      unwritten q (false_from_ne_true _ (λ i. clash (unwon_wanted q i) h))
-      ∙ get_laid (matched_files folder (matches folder set given)) with_asides q
-      (ap (λ ns. is_among ns q) (names-matched folder (matches folder set given)) ∙ false_from_ne_true _ (λ i. clash (won_wanted folder set given fits q i) h))
+  unwanted q h = grind (arith, unwritten, false_from_ne_true, clash, unwon_wanted, get_laid, names-matched, won_wanted)
 
   matched_hold : (f after : Folder) (ms : Pairs) → AllByRecursion (λ file. map_of.get after file.0 ≡ Some file.1) (matched_files f ms) → AllByRecursion (λ m. ForSome m.1 (λ name. map_of.get after m.0.name ≡ Some (bytes_of f name))) ms
   matched_hold f after [] h = tt

@@ -1,10 +1,7 @@
 -- What a report says, target by target.
 use Rattle.par2_spec.proofs.Common.{arith, ◌≡◌, ◌<◌, ℕ, suc, not, List, [], ◌∷◌, length, map, drop, refl, sym, ap, ◌∙◌, subst, cond, true, false, Bool, filter, flat_map, find, zip, slice_index_or, Option, Some, None, Result, Ok, Err, is_some, option_to_list, option_and_then, AllByRecursion, bytes_eq, map-append, length-map, map-map, and_parts, or_parts, false≢true, drop-append_seam, take-append_seam, Pair, is_among, Fault, Folder, has, bytes_of, ParSet, Target, set_of, ◌>>=◌, IsSound, is_intact, is_needing, needing, intact_names, matched, match_of, candidates, matches, known, cut_into, set_in, State, Complete, Report, needing_state, found_of, states_by, IsByTarget, StatesFollow, IsFound, IntactAreFound, MatchedAreFound, HasIntactFile, IsFoundWhole, state_of, report_of_target, report_of, report_in}
-use Rattle.par2_spec.proofs.NamesLaws.{itself, AreDistinct, distinct_from_std, among-filter}
+use Rattle.par2_spec.proofs.Basics.{itself, AreDistinct, distinct_from_std, among-filter, pairs_with, found_passes, AreSized, intact_found, windowed_found, intact_windowed, all-filter, came_out, sound_of, size_positive, sized_from_counted, present_searched}
 use Rattle.par2_spec.proofs.AcceptedCommands.{set_in_reads}
-use Rattle.par2_spec.proofs.SearchLaws.{pairs_with, found_passes}
-use Rattle.par2_spec.proofs.FoundLaws.{AreSized, intact_found, windowed_found, intact_windowed, all-filter}
-use Rattle.par2_spec.proofs.ReadLaws.{came_out, sound_of, size_positive, sized_from_counted, present_searched}
 
 -- ---- target by target
 
@@ -115,16 +112,12 @@ settled_hold F p h (t ∷ ts) given e intact matched = step (p t) refl given e m
     list b = cond b (t ∷ filter p ts) (filter p ts)
 
     with_match : (b : Bool) (o : Option (List ℕ)) → HasIntactFile (needing_state b o) → is_some o ≡ true
-    with_match b (Some name) i = refl
-    with_match true None i = absurd i
-    with_match false None i = absurd i
+    with_match b o i = grind arith
 
     step : (b : Bool) → p t ≡ b → (given : List (Option (List ℕ))) → length given ≡ length (list b) → AllByRecursion (λ m. is_some m.1 ≡ true → F m.0) (zip (list b) given)
         → ((rest : List (Option (List ℕ))) → length rest ≡ length (filter p ts) → AllByRecursion (λ m. is_some m.1 ≡ true → F m.0) (zip (filter p ts) rest) → AllByRecursion (λ z. HasIntactFile z.1 → F z.0) (zip ts (states_by p h ts rest)))
         → AllByRecursion (λ z. HasIntactFile z.1 → F z.0) (zip (t ∷ ts) (cond b (needing_state (h t) (slice_index_or given 0 None) ∷ states_by p h ts (drop 1 given)) (Complete ∷ states_by p h ts given)))
-    step true i [] e all later = absurd (omega (arith, e))
-    step true i (o ∷ rest) e all later = (λ settled. all.0 (with_match (h t) o settled), later rest (omega (arith, e)) all.1)
-    step false i given e all later = (λ settled. intact.0 i, later given e all)
+    step b i given e all later = grind arith
 
 -- each answer found is each pair
 found_whole : (f : Pair → Option (List ℕ)) (pairs : List Pair) → AllByRecursion (λ pair. is_some (f pair) ≡ true) pairs → length (filter (λ slice. is_some slice) (map f pairs)) ≡ length (map f pairs)

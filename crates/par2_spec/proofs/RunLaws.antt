@@ -1,18 +1,10 @@
 -- Exponents that are close are kept, and a run of as many as slices are lost determines these.
-use Rattle.par2_spec.proofs.Common.{◌≡◌, ◌≢◌, ℕ, zero, suc, ◌+◌, ◌-◌, ◌^◌, ◌<◌, ◌≤◌, List, [], ◌∷◌, length, map, take, get_or, refl, sym, ap, ap₂, ◌∙◌, subst, cond, true, Bool, eqb, inl, inr, arith, filter, AllByRecursion, Contains, range_with_len, IsStrictlyIncreasing, Decides-eqb, cases_lt, eq-eqb, ne_eqb, length-map, get_or-map, get_or-take, get_or_default, Contains-get_or, length-range_with_len, get_or-range_with_len, AllPairs-from_increasing, IsDistinct-from_AllPairs, mul, constant, pow, coefficient, coefficients, dot, kept, rank, smaller, is_independent, IsVector, Kills, IsKept, IsRepairable, AreElements, ArePoints, Interpolates, value}
-use Rattle.std.proofs.Common.{bit_xor}
+use Rattle.par2_spec.proofs.Common.{◌≡◌, ◌≢◌, ℕ, zero, suc, ◌+◌, ◌-◌, ◌^◌, ◌<◌, ◌≤◌, List, [], ◌∷◌, length, map, take, get_or, refl, sym, ap, ap₂, ◌∙◌, subst, cond, true, Bool, eqb, inl, inr, arith, filter, AllByRecursion, Contains, range_with_len, IsStrictlyIncreasing, Decides-eqb, cases_lt, eq-eqb, ne_eqb, length-map, get_or-map, get_or-take, get_or_default, Contains-get_or, length-range_with_len, get_or-range_with_len, AllPairs-from_increasing, IsDistinct-from_AllPairs, mul, constant, pow, coefficient, coefficients, dot, kept, rank, smaller, is_independent, IsVector, Kills, IsKept, IsRepairable, AreElements, ArePoints, Interpolates, value, bit_xor}
 use Rattle.par2_spec.specs.Runs.{AreSlices, AreClose, HasRun}
-use Rattle.par2_spec.proofs.FieldBits.{xor_middle}
-use Rattle.par2_spec.proofs.FieldProducts.{product_linear_left, product_linear_right, product_assoc, product_comm, product-one}
-use Rattle.par2_spec.proofs.FieldOrder.{product-zero, zero-product, no_zero_divisor, power-lt}
-use Rattle.par2_spec.proofs.FieldConstants.{constant-lt, constant-nonzero, constant-injective}
-use Rattle.par2_spec.proofs.SumLaws.{dot_sum, field_sum_one, product_at}
-use Rattle.par2_spec.proofs.ListsLaws.{all-each, all_from, all_get, of_contained}
-use Rattle.par2_spec.proofs.RankLaws.{independent-iff}
+use Rattle.par2_spec.proofs.Basics.{xor_middle, product_linear_left, product_linear_right, product_assoc, product_comm, product-one, product-zero, zero-product, no_zero_divisor, power-lt, constant-lt, constant-nonzero, constant-injective, dot_sum, field_sum_one, product_at, all-each, all_from, all_get, of_contained, independent-iff, by_either, by_test}
 use Rattle.par2_spec.proofs.UniqueLaws.{all_from_contains}
 use Rattle.par2_spec.proofs.FullRank.{full-iff}
 use Rattle.par2_spec.proofs.PolynomialLaws.{value-lt, some_polynomial}
-use Rattle.par2_spec.proofs.TestLaws.{by_either, by_test}
 
 -- ---- rows that a function gives
 

@@ -1,5 +1,6 @@
 -- What the matches of a set are.
-use Rattle.par2_spec.proofs.Common.{◌≡◌, ◌&&◌, ℕ, List, [], ◌∷◌, map, inl, inr, refl, sym, ap, ◌∙◌, subst, cond, true, false, Bool, not, ◌||◌, ◌++◌, filter, filter_map, find, zip, Option, Some, None, option_to_list, is_some, cons_option, bytes_eq, and_parts, or_cases, or_left, or_right, false_from_ne_true, false≢true, same_Some, and-true, and-false, and_assoc, is_among, Folder, bytes_of, ParSet, Target, is_intact, matched, needing, intact_names, AreFirstMatches, matches}
+use Rattle.par2_spec.proofs.TestLaws.{by_either}
+use Rattle.par2_spec.proofs.Common.{◌≡◌, ◌&&◌, ℕ, List, [], ◌∷◌, map, refl, sym, ap, ◌∙◌, subst, cond, true, false, Bool, not, ◌||◌, ◌++◌, filter, filter_map, find, zip, Option, Some, None, option_to_list, is_some, cons_option, bytes_eq, and_parts, or_cases, or_left, or_right, false_from_ne_true, false≢true, same_Some, and-true, and_assoc, is_among, Folder, bytes_of, ParSet, Target, is_intact, matched, needing, intact_names, AreFirstMatches, matches, arith}
 use Rattle.par2_spec.proofs.NamesLaws.{same_name, itself, clash, AreDistinct, among-filter, among-append}
 
 -- the targets with their matches, and the matches alone
@@ -35,10 +36,8 @@ taken_was_free folder s free (t ∷ ts) q h =
   where
     step : (found : Option (List ℕ)) → ((x : List ℕ) → found ≡ Some x → is_among free x ≡ true) → (rest : List (List ℕ)) → (is_among rest q ≡ true → is_among free q ≡ true) → is_among (cons_option found rest) q ≡ true → is_among free q ≡ true
     step None k rest r i = r i
-    step (Some x) k rest r i = elim (or_cases (bytes_eq q x) (is_among rest q) i) as (λ _. is_among free q ≡ true) [
-      | inl here ↦ subst (λ y. is_among free y ≡ true) (sym (same_name q x here)) (k x refl)
-      | inr there ↦ r there
-    ]
+    step (Some x) k rest r i =
+        by_either (or_cases (bytes_eq q x) (is_among rest q) i) (λ here. subst (λ y. is_among free y ≡ true) (sym (same_name q x here)) (k x refl)) (λ there. r there)
 
 -- and each name is taken once
 pub taken_once : (folder : Folder) (s : ℕ) (free : List (List ℕ)) (ts : List Target) → AreDistinct (taken_by folder s free ts)
@@ -61,11 +60,9 @@ taken_once folder s free (t ∷ ts) =
 -- the first that passes both tests is the first that passes one among those that pass the other
 find-filter : (p r : List ℕ → Bool) (xs : List (List ℕ)) → find p (filter r xs) ≡ find (λ x. p x && r x) xs
 find-filter p r [] = refl
-find-filter p r (x ∷ xs) = step (r x) (filter r xs) ∙ ap (cond (p x && r x) (Some x)) (find-filter p r xs)
-  where
-    step : (b : Bool) (ys : List (List ℕ)) → find p (cond b (x ∷ ys) ys) ≡ cond (p x && b) (Some x) (find p ys)
-    step true ys = ap (λ c. cond c (Some x) (find p ys)) (sym (and-true (p x)))
-    step false ys = ap (λ c. cond c (Some x) (find p ys)) (sym (and-false (p x)))
+find-filter p r (x ∷ xs) =
+    let step : (b : Bool) (ys : List (List ℕ)) → find p (cond b (x ∷ ys) ys) ≡ cond (p x && b) (Some x) (find p ys) = λ b ys. grind arith in
+    step (r x) (filter r xs) ∙ ap (cond (p x && r x) (Some x)) (find-filter p r xs)
 
 find_alike : (p r : List ℕ → Bool) (xs : List (List ℕ)) → ((x : List ℕ) → p x ≡ r x) → find p xs ≡ find r xs
 find_alike p r [] h = refl
@@ -73,11 +70,9 @@ find_alike p r (x ∷ xs) h = ap (λ b. cond b (Some x) (find p xs)) (h x) ∙ a
 
 filter-filter : (p r : List ℕ → Bool) (xs : List (List ℕ)) → filter p (filter r xs) ≡ filter (λ x. r x && p x) xs
 filter-filter p r [] = refl
-filter-filter p r (x ∷ xs) = step (r x) (filter r xs) ∙ ap (λ ys. cond (r x && p x) (x ∷ ys) ys) (filter-filter p r xs)
-  where
-    step : (b : Bool) (ys : List (List ℕ)) → filter p (cond b (x ∷ ys) ys) ≡ cond (b && p x) (x ∷ filter p ys) (filter p ys)
-    step true ys = refl
-    step false ys = refl
+filter-filter p r (x ∷ xs) =
+    let step : (b : Bool) (ys : List (List ℕ)) → filter p (cond b (x ∷ ys) ys) ≡ cond (b && p x) (x ∷ filter p ys) (filter p ys) = λ b ys. grind arith in
+    step (r x) (filter r xs) ∙ ap (λ ys. cond (r x && p x) (x ∷ ys) ys) (filter-filter p r xs)
 
 filter_alike : (p r : List ℕ → Bool) (xs : List (List ℕ)) → ((x : List ℕ) → p x ≡ r x) → filter p xs ≡ filter r xs
 filter_alike p r [] h = refl
@@ -89,13 +84,9 @@ free_after searched intact before = filter (λ name. not (is_among intact name) 
 
 one_more : (searched intact before more : List (List ℕ)) → filter (λ name. not (is_among more name)) (free_after searched intact before) ≡ free_after searched intact (before ++ more)
 one_more searched intact before more =
+    let three : (a b c : Bool) → (not a && not b && not c) ≡ (not a && not (b || c)) = λ a b c. grind arith in
     filter-filter (λ name. not (is_among more name)) (λ name. not (is_among intact name) && not (is_among before name)) searched
     ∙ filter_alike _ _ searched (λ x. three (is_among intact x) (is_among before x) (is_among more x) ∙ ap (λ b. not (is_among intact x) && not b) (sym (among-append before more x)))
-  where
-    three : (a b c : Bool) → (not a && not b && not c) ≡ (not a && not (b || c))
-    three true b c = refl
-    three false true c = refl
-    three false false c = refl
 
 first_matches : (folder : Folder) (s : ℕ) (searched intact before : List (List ℕ)) (ts : List Target) → AreFirstMatches folder s searched intact before (pairs_with folder s (free_after searched intact before) ts)
 first_matches folder s searched intact before [] = tt
@@ -122,5 +113,4 @@ targets_of_pairs folder s free (t ∷ ts) =
 
 -- each needing target stands there, in order
 pub matches_of_needing : (folder : Folder) (set : ParSet) (searched : List (List ℕ)) → map (λ m. m.0) (matches folder set searched) ≡ needing folder set
-matches_of_needing folder set searched = unfold matches in
-    targets_of_pairs folder set.slice_size (filter (λ name. not (is_among (intact_names folder set) name)) searched) (needing folder set)
+matches_of_needing folder set searched = unfold matches in grind (arith, targets_of_pairs)

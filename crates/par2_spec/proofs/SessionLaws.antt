@@ -1,7 +1,6 @@
 -- A session is a history, and a kept session keeps its room.
-use Rattle.par2_spec.proofs.Common.{◌≡◌, ℕ, zero, suc, ◌+◌, ◌-◌, ◌≤◌, List, [], ◌∷◌, refl, sym, ap, ◌∙◌, true, arith, Option, Some, None, Result, Ok, Err, replicate, sum_by, is_ok, AllByRecursion, and_parts, and_from, false≢true, sum_by-cons, drop-nil, Fault, Folder, Change, Write, Replace, Rename, Remove, state_after, effects, are_applicable, way_back, FolderState, takes_all, places_taken, state_after_all, Command, Create, Verify, Repair, Purge, Action, Do, Undo, Redo, refusal, after, changes_of, LeadsToAfter, LeadsToAfterAsked, Session, first_entry, changes_unless, others, session_unless, KeptSession, session_of_kept, CanWalk, OnlyGrew, folders_along, history_of, changes_asked, session_with, session_after, walks, kept_done, kept_undone, kept_redone, is_valid, leads}
-use Rattle.par2_spec.specs.History.{History, Refusal, Refused, NothingToUndo, NothingToRedo, in_front, after_command, unless_refused, after_undo, after_redo, Run, Ended, Accepted, Passed, folders, IsChanging}
-use Rattle.std.specs.Prelude.{drop, length}
+use Rattle.par2_spec.proofs.Common.{◌≡◌, ℕ, zero, suc, ◌+◌, ◌-◌, ◌≤◌, List, [], ◌∷◌, refl, sym, ap, ◌∙◌, true, arith, Option, None, Result, Ok, Err, replicate, sum_by, is_ok, AllByRecursion, and_parts, and_from, false≢true, sum_by-cons, drop-nil, Fault, Folder, Change, Write, Replace, Rename, Remove, state_after, effects, are_applicable, way_back, FolderState, takes_all, places_taken, state_after_all, Command, Action, Do, Undo, Redo, refusal, changes_of, LeadsToAfter, LeadsToAfterAsked, Session, first_entry, changes_unless, others, session_unless, KeptSession, session_of_kept, CanWalk, OnlyGrew, folders_along, history_of, changes_asked, session_with, session_after, walks, kept_done, kept_undone, kept_redone, is_valid, leads, drop, length}
+use Rattle.par2_spec.specs.History.{History, Refusal, NothingToUndo, NothingToRedo, in_front, after_command, unless_refused, after_undo, after_redo, Run, Ended, Accepted, Passed, folders, IsChanging}
 use Rattle.par2_spec.specs.History.{history_after}
 use Rattle.par2_spec.proofs.FolderLaws.{undo_changes, undo_are_applicable, state_files, taken_are_applicable, state_all_back, way_back_taken, changes_back, with_room, more_room_all, takes_applicable}
 
@@ -11,15 +10,8 @@ ok_or_else : {A E : Type 0} → A → Result A E → A
 ok_or_else a (Ok x) = x
 ok_or_else a (Err e) = a
 
-err_or_else : {A E : Type 0} → E → Result A E → E
-err_or_else e (Ok x) = e
-err_or_else e (Err x) = x
-
 pub same_ok : {A E : Type 0} (x y : A) → ◌≡◌ {A = Result A E} (Ok x) (Ok y) → x ≡ y
 same_ok x y e = unfold ok_or_else in ap (ok_or_else x) e
-
-same_err : {A E : Type 0} (x y : E) → ◌≡◌ {A = Result A E} (Err x) (Err y) → x ≡ y
-same_err x y e = unfold err_or_else in ap (err_or_else x) e
 
 pub ok_no_err : {A E : Type 0} (x : A) (y : E) → ◌≡◌ {A = Result A E} (Ok x) (Err y) → ⊥
 ok_no_err x y e = false≢true (sym (ap is_ok e))
@@ -42,21 +34,13 @@ command_in_front : (s : Session) (cs : List Change) (folder : Folder) → are_ap
 command_in_front s cs folder h e = unfold history_of folders_along in λ i. record { older = sym (along_back s.folder cs s.undos h) i; now = sym e i; newer = [] }
 
 done_is : (s : Session) (command : Command) → LeadsToAfter s.folder command → after_command command (history_of s) ≡ history_of (session_with s (Do command) (changes_of s.folder command))
-unfolding session_with history_of
-done_is s (Create a) l = command_in_front s (changes_of s.folder (Create a)) (after s.folder (Create a)) l.0 l.1
-done_is s (Verify base extras) l = refl
-done_is s (Repair base extras purge) l = command_in_front s (changes_of s.folder (Repair base extras purge)) (after s.folder (Repair base extras purge)) l.0 l.1
-done_is s (Purge base) l = command_in_front s (changes_of s.folder (Purge base)) (after s.folder (Purge base)) l.0 l.1
+done_is s command l = unfold session_with history_of in grind (arith, command_in_front)
 
 valid_command : (s : Session) (cs : List Change) → is_valid s ≡ true → are_applicable s.folder cs ≡ true → is_valid (at_command s cs) ≡ true
 valid_command s cs v h = unfold leads in and_from _ _ (leads_back s.folder cs s.undos h (and_parts (leads s.folder s.undos) (leads s.folder s.redos) v).0) refl
 
 valid_done : (s : Session) (command : Command) → is_valid s ≡ true → LeadsToAfter s.folder command → is_valid (session_with s (Do command) (changes_of s.folder command)) ≡ true
-unfolding session_with
-valid_done s (Create a) v l = valid_command s (changes_of s.folder (Create a)) v l.0
-valid_done s (Verify base extras) v l = v
-valid_done s (Repair base extras purge) v l = valid_command s (changes_of s.folder (Repair base extras purge)) v l.0
-valid_done s (Purge base) v l = valid_command s (changes_of s.folder (Purge base)) v l.0
+valid_done s command v l = unfold session_with in grind (arith, valid_command)
 
 -- a session after an accepted action: it is the history after it, and can be walked again
 abbrev IsNext : Session → Action → Session → Type 0
@@ -64,23 +48,18 @@ IsNext s action t = (history_after (history_of s) action ≡ Ok (history_of t)) 
 
 done_next : (s t : Session) (command : Command) (o : Option Fault) → is_valid s ≡ true → (o ≡ None → LeadsToAfter s.folder command) → session_unless s (Do command) (changes_unless o (changes_of s.folder command)) ≡ Ok t
     → (unless_refused o (after_command command (history_of s)) ≡ Ok (history_of t)) × (is_valid t ≡ true)
-done_next s t command (Some fault) v l h = absurd (ok_no_err t (Refused fault) (sym h))
-done_next s t command None v l h = grind (arith, same_ok, done_is, valid_done)
+done_next s t command o v l h = grind (arith, ok_no_err, same_ok, done_is, valid_done)
 
 abbrev session_at : Folder → List (List Change) → List (List Change) → Session
 session_at folder undos redos = record { folder = folder; undos = undos; redos = redos }
 
 undo_next : (folder : Folder) (undos redos : List (List Change)) (t : Session) → is_valid (session_at folder undos redos) ≡ true → session_unless (session_at folder undos redos) Undo (first_entry NothingToUndo undos) ≡ Ok t
     → (after_undo folder (folders_along folder undos) (folders_along folder redos) ≡ Ok (history_of t)) × (is_valid t ≡ true)
-unfolding session_with history_of folders_along leads
-undo_next folder [] redos t v h = absurd (ok_no_err t NothingToUndo (sym h))
-undo_next folder (entry ∷ undos) redos t v h = grind (arith, same_ok, and_parts, along_back, and_from, leads_back)
+undo_next folder undos redos t v h = unfold session_with history_of folders_along leads in grind (arith, ok_no_err, same_ok, and_parts, along_back, and_from, leads_back)
 
 redo_next : (folder : Folder) (undos redos : List (List Change)) (t : Session) → is_valid (session_at folder undos redos) ≡ true → session_unless (session_at folder undos redos) Redo (first_entry NothingToRedo redos) ≡ Ok t
     → (after_redo (folders_along folder undos) folder (folders_along folder redos) ≡ Ok (history_of t)) × (is_valid t ≡ true)
-unfolding session_with history_of folders_along leads
-redo_next folder undos [] t v h = absurd (ok_no_err t NothingToRedo (sym h))
-redo_next folder undos (entry ∷ redos) t v h = grind (arith, same_ok, and_parts, along_back, and_from, leads_back)
+redo_next folder undos redos t v h = unfold session_with history_of folders_along leads in grind (arith, ok_no_err, same_ok, and_parts, along_back, and_from, leads_back)
 
 -- a session that can be walked goes where the history goes, and can be walked again
 pub accepted_next : (s t : Session) (action : Action) → is_valid s ≡ true → LeadsToAfterAsked s.folder action → session_after s action ≡ Ok t → IsNext s action t
@@ -91,39 +70,13 @@ accepted_next s t Redo v l h = redo_next s.folder s.undos s.redos t v h
 
 -- ---- a refused action
 
-refused_command : (s : Session) (h : History) (cs : List Change) (command : Command) (o : Option Fault) (reason : Refusal) → session_unless s (Do command) (changes_unless o cs) ≡ Err reason → unless_refused o h ≡ Err reason
-refused_command s h cs command None reason e = absurd (ok_no_err (session_with s (Do command) cs) reason e)
-refused_command s h cs command (Some fault) reason e = ap Err (same_err (Refused fault) reason e)
-
-refused_undo : (folder : Folder) (undos redos : List (List Change)) (reason : Refusal) → session_unless (session_at folder undos redos) Undo (first_entry NothingToUndo undos) ≡ Err reason → after_undo folder (folders_along folder undos) (folders_along folder redos) ≡ Err reason
-unfolding folders_along
-refused_undo folder [] redos reason e = ap Err (same_err NothingToUndo reason e)
-refused_undo folder (entry ∷ undos) redos reason e = absurd (ok_no_err (session_with (session_at folder (entry ∷ undos) redos) Undo entry) reason e)
-
-refused_redo : (folder : Folder) (undos redos : List (List Change)) (reason : Refusal) → session_unless (session_at folder undos redos) Redo (first_entry NothingToRedo redos) ≡ Err reason → after_redo (folders_along folder undos) folder (folders_along folder redos) ≡ Err reason
-unfolding folders_along
-refused_redo folder undos [] reason e = ap Err (same_err NothingToRedo reason e)
-refused_redo folder undos (entry ∷ redos) reason e = absurd (ok_no_err (session_with (session_at folder undos (entry ∷ redos)) Redo entry) reason e)
-
 pub refused_alike : (s : Session) (action : Action) (reason : Refusal) → session_after s action ≡ Err reason → history_after (history_of s) action ≡ Err reason
-unfolding session_after changes_asked history_after history_of
-refused_alike s (Do command) reason e = refused_command s (after_command command (history_of s)) (changes_of s.folder command) command (refusal s.folder command) reason e
-refused_alike s Undo reason e = refused_undo s.folder s.undos s.redos reason e
-refused_alike s Redo reason e = refused_redo s.folder s.undos s.redos reason e
+refused_alike s action reason e = unfold session_after changes_asked history_after history_of in grind arith
 
 -- ---- runs of commands
 
--- an accepted create, repair or purge puts a folder in front
-put_in_front : (h next : History) (folder : Folder) (o : Option Fault) → unless_refused o (in_front folder h) ≡ Ok next → next.older ≡ h.now ∷ h.older
-put_in_front h next folder None e = ap (λ k. k.older) (sym (same_ok (in_front folder h) next e))
-put_in_front h next folder (Some fault) e = absurd (ok_no_err next (Refused fault) (sym e))
-
 changed_older : (h next : History) (action : Action) → IsChanging action → history_after h action ≡ Ok next → next.older ≡ h.now ∷ h.older
-unfolding history_after
-changed_older h next (Do (Create a)) is e = put_in_front h next (after h.now (Create a)) (refusal h.now (Create a)) e
-changed_older h next (Do (Repair base extras purge)) is e = put_in_front h next (after h.now (Repair base extras purge)) (refusal h.now (Repair base extras purge)) e
-changed_older h next (Do (Purge base)) is e = put_in_front h next (after h.now (Purge base)) (refusal h.now (Purge base)) e
-changed_older h next action is e = absurd is
+changed_older h next action is e = unfold history_after in grind arith
 
 drop_one_more : {A : Type 0} (n : ℕ) (xs : List A) (y : A) (ys : List A) → drop n xs ≡ y ∷ ys → drop (suc n) xs ≡ ys
 drop_one_more zero (x ∷ xs) y ys e = ap (drop 1) e
@@ -163,9 +116,7 @@ undos_lead_back start end actions n run is = undos_pass n end start.now start.ol
 -- ---- kept sessions
 
 pub done_of_kept : (s : KeptSession) (command : Command) (cs : List Change) → IsChanging (Do command) → session_of_kept (kept_done s cs) ≡ session_with (session_of_kept s) (Do command) cs
-unfolding kept_done session_with
-done_of_kept s (Verify base extras) cs is = absurd is
-done_of_kept s command cs is = λ i. record { folder = state_files s.folder cs i; undos = way_back s.folder.files cs ∷ s.undos; redos = [] }
+done_of_kept s command cs is = unfold kept_done session_with in grind (arith, state_files)
 
 pub undone_of_kept : (s : KeptSession) (cs : List Change) → session_of_kept (kept_undone s cs) ≡ session_with (session_of_kept s) Undo cs
 undone_of_kept s cs = unfold kept_undone session_with in λ i. record { folder = state_files s.folder cs i; undos = others s.undos; redos = way_back s.folder.files cs ∷ s.redos }

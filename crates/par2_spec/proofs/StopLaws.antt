@@ -1,15 +1,10 @@
 -- Whatever a stopped command left, it opens as the session from before it.
-use Rattle.par2_spec.proofs.Common.{◌≡◌, ℕ, zero, suc, ◌+◌, ◌-◌, ◌<◌, ◌≤◌, List, [], ◌∷◌, ◌++◌, length, map, take, drop, get_or, refl, sym, ap, ◌∙◌, subst, cond, true, false, Bool, not, ◌&&◌, inl, arith, length-append, length-drop, IfSome, reverse, position, Option, Some, None, Result, Ok, Err, unwrap_or, is_some, if◌then◌else◌, AllByRecursion, position_from, bytes_eq, drop-append_seam, take-append_seam, reverse-reverse, reverse-append, length-reverse, get_or-reverse, get_or-map, take-append-drop, length-map, length-take-le, take-map, take-take, get_or-take, drop-drop, reverse_onto, common_steps, and_parts, and_from, false≢true, position_from-zero, Folder, fingerprint, Change, effect, inverse, is_applicable, effects, are_applicable, way_back, folders_after, Session, session_of, is_valid, Opened, Settled, Halfway, opened_if_found, opened_by_part, TellsApart, session_of_opened, kept_in, settled_journal, halfway_journal, leads, leads_through, taken_back, opened, OpensAs, Opens, HalfwayJournalOpensAsBefore, HalfwayTextOpensAsBefore, HalfwayJournalStillOpens, HalfwayTextStillOpens}
+use Rattle.par2_spec.proofs.Common.{◌≡◌, ℕ, zero, suc, ◌+◌, ◌-◌, ◌<◌, ◌≤◌, List, [], ◌∷◌, ◌++◌, length, map, take, drop, get_or, refl, sym, ap, ◌∙◌, subst, cond, true, false, Bool, not, ◌&&◌, inl, arith, length-append, length-drop, IfSome, reverse, position, Option, Some, None, Result, Ok, Err, unwrap_or, is_some, if◌then◌else◌, AllByRecursion, position_from, bytes_eq, drop-append_seam, take-append_seam, reverse-reverse, reverse-append, length-reverse, get_or-reverse, get_or-map, take-append-drop, length-map, length-take-le, take-map, take-take, get_or-take, drop-drop, reverse_onto, common_steps, and_parts, and_from, false≢true, position_from-zero, Folder, fingerprint, Change, effect, inverse, is_applicable, effects, are_applicable, way_back, folders_after, Session, session_of, is_valid, Opened, Settled, Halfway, opened_if_found, opened_by_part, TellsApart, session_of_opened, kept_in, settled_journal, halfway_journal, leads, leads_through, taken_back, opened, OpensAs, Opens, HalfwayJournalOpensAsBefore, HalfwayTextOpensAsBefore, HalfwayJournalStillOpens, HalfwayTextStillOpens, append-nil}
 use Rattle.par2_spec.specs.declared.Version.{Version}
-use Rattle.par2_spec.specs.declared.Version.TheVariants.{One, Two}
 use Rattle.par2_spec.specs.Journals.{Journal, HalfwayPart, IsHalfwayPart, Spells}
-use Rattle.std.proofs.lemmas.List.{append-nil}
 use Rattle.par2_spec.specs.declared.JournalFault.{JournalFault}
 use Rattle.par2_spec.specs.declared.JournalFault.TheVariants.{JournalInvalid, FolderChanged}
-use Rattle.par2_spec.proofs.FolderLaws.{undo_changes, undo_change, undo_is_applicable, effects-append, way_back-append}
-use Rattle.par2_spec.proofs.NamesLaws.{itself, same_name}
-use Rattle.par2_spec.proofs.ListsLaws.{all_get}
-use Rattle.par2_spec.proofs.TestLaws.{by_test}
+use Rattle.par2_spec.proofs.Basics.{undo_changes, undo_change, undo_is_applicable, effects-append, way_back-append, itself, same_name, all_get, by_test}
 
 -- ---- places in a list
 
@@ -133,28 +128,19 @@ redos_back : (undos rest : List (List Change)) → drop (length undos) (reverse 
 redos_back undos rest = ap (λ n. drop n (reverse undos ++ rest)) (sym (length-reverse undos)) ∙ drop-append_seam (reverse undos) rest
 
 session_of_settled : (v : Version) (s : Session) (folder : Folder) → session_of folder (settled_journal v s) ≡ with_folder folder (kept_in v s)
-unfolding settled_journal
-session_of_settled One s folder = grind (arith, common_steps, append-nil, undos_back, redos_back)
-session_of_settled Two s folder = λ i. record { folder = folder; undos = undos_back s.undos s.redos i; redos = redos_back s.undos s.redos i }
+session_of_settled v s folder = unfold settled_journal in grind (arith, common_steps, append-nil, undos_back, redos_back)
 
 kept_is_valid : (v : Version) (s : Session) → is_valid s ≡ true → is_valid (kept_in v s) ≡ true
-unfolding leads
-kept_is_valid One s h = and_from _ _ (and_parts (leads s.folder s.undos) (leads s.folder s.redos) h).0 refl
-kept_is_valid Two s h = h
+kept_is_valid v s h = unfold leads in grind arith
 
 kept_folder : (v : Version) (s : Session) → with_folder s.folder (kept_in v s) ≡ kept_in v s
-kept_folder One s = refl
-kept_folder Two s = refl
+kept_folder v s = grind arith
 
 not_halfway : (v : Version) (s : Session) → (settled_journal v s).halfway ≡ None
-unfolding settled_journal
-not_halfway One s = refl
-not_halfway Two s = refl
+not_halfway v s = unfold settled_journal in grind arith
 
 print_of : (v : Version) (s : Session) → (settled_journal v s).fingerprint ≡ fingerprint s.folder
-unfolding settled_journal
-print_of One s = refl
-print_of Two s = refl
+print_of v s = unfold settled_journal in grind arith
 
 -- the settled journal of a session opens as it
 pub settled_opens : (v : Version) (s : Session) → is_valid s ≡ true → opened s.folder (settled_journal v s) ≡ Ok (Settled (kept_in v s))

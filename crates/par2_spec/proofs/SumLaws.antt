@@ -1,6 +1,6 @@
 -- Sums in the field.
-use Rattle.par2_spec.proofs.Common.{ℕ, zero, suc, ◌<◌, ◌≤◌, ◌≡◌, ◌≢◌, inl, inr, refl, sym, ap, ap₂, ◌∙◌, arith, List, [], ◌∷◌, length, get_or, cases_eq, xor_comm, xor_lt, xor_assoc, xor_zero_r, xor_self, xor_zero_l, mul, word, row_sum, field_sum, dot}
-use Rattle.std.proofs.Common.{bit_xor}
+use Rattle.par2_spec.proofs.TestLaws.{by_either}
+use Rattle.par2_spec.proofs.Common.{ℕ, zero, suc, ◌<◌, ◌≤◌, ◌≡◌, ◌≢◌, inl, inr, refl, sym, ap, ap₂, ◌∙◌, arith, List, [], ◌∷◌, length, get_or, cases_eq, xor_comm, xor_lt, xor_assoc, xor_zero_r, xor_self, xor_zero_l, mul, word, row_sum, field_sum, dot, bit_xor}
 use Rattle.par2_spec.specs.Sums.{AreElements}
 use Rattle.par2_spec.proofs.FieldBits.{xor_middle}
 use Rattle.par2_spec.proofs.FieldProducts.{product_linear_left, product_linear_right, product_assoc, product_comm, product-one, product-lt}
@@ -38,10 +38,9 @@ field_sum_none (suc n) f none = ap₂ bit_xor (field_sum_none n f (λ i h. none 
 pub field_sum_one : (n q : ℕ) (f : ℕ → ℕ) → q < n → ((i : ℕ) → i < n → i ≢ q → f i ≡ 0) → field_sum n f ≡ f q
 unfolding field_sum
 field_sum_one zero q f h none = absurd (omega arith)
-field_sum_one (suc n) q f h none = elim (cases_eq q n) [
-  | inl same ↦ ap₂ bit_xor (field_sum_none n f (λ i l. none i (omega arith) (λ e. omega arith))) (sym (ap f same))
-  | inr other ↦ ap₂ bit_xor (field_sum_one n q f (omega arith) (λ i l. none i (omega arith))) (none n (omega arith) (λ e. other (sym e))) ∙ xor_zero_r (f q)
-]
+field_sum_one (suc n) q f h none = by_either (cases_eq q n)
+    (λ same. ap₂ bit_xor (field_sum_none n f (λ i l. none i (omega arith) (λ e. omega arith))) (sym (ap f same)))
+    (λ other. ap₂ bit_xor (field_sum_one n q f (omega arith) (λ i l. none i (omega arith))) (none n (omega arith) (λ e. other (sym e))) ∙ xor_zero_r (f q))
 
 -- two places alone count
 pub field_sum_two : (n p q : ℕ) (f : ℕ → ℕ) → p < n → q < n → p ≢ q → ((i : ℕ) → i < n → i ≢ p → i ≢ q → f i ≡ 0) → field_sum n f ≡ bit_xor (f p) (f q)
@@ -49,10 +48,9 @@ unfolding field_sum
 field_sum_two zero p q f hp hq apart none = absurd (omega arith)
 field_sum_two (suc n) p q f hp hq apart none = elim (cases_eq q n) [
   | inl same ↦ ap₂ bit_xor (field_sum_one n p f (omega arith) (λ i l m. none i (omega arith) m (λ e. omega arith))) (sym (ap f same))
-  | inr other ↦ elim (cases_eq p n) [
-    | inl same ↦ ap₂ bit_xor (field_sum_one n q f (omega arith) (λ i l m. none i (omega arith) (λ e. omega arith) m)) (sym (ap f same)) ∙ xor_comm (f q) (f p)
-    | inr else ↦ ap₂ bit_xor (field_sum_two n p q f (omega arith) (omega arith) apart (λ i l. none i (omega arith))) (none n (omega arith) (λ e. else (sym e)) (λ e. other (sym e))) ∙ xor_zero_r _
-  ]
+  | inr other ↦ by_either (cases_eq p n)
+      (λ same. ap₂ bit_xor (field_sum_one n q f (omega arith) (λ i l m. none i (omega arith) (λ e. omega arith) m)) (sym (ap f same)) ∙ xor_comm (f q) (f p))
+      (λ else. ap₂ bit_xor (field_sum_two n p q f (omega arith) (omega arith) apart (λ i l. none i (omega arith))) (none n (omega arith) (λ e. else (sym e)) (λ e. other (sym e))) ∙ xor_zero_r _)
 ]
 
 pub field_sum-lt : (n : ℕ) (f : ℕ → ℕ) → ((i : ℕ) → f i < 65536) → field_sum n f < 65536

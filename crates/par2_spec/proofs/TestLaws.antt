@@ -1,17 +1,14 @@
 -- What holds of tests, of results and of options.
-use Rattle.par2_spec.proofs.Common.{◌≡◌, ◌⊎◌, inl, inr, refl, sym, ap, ◌∙◌, subst, T, true, false, Bool, ◌&&◌, ℕ, ◌+◌, List, [], ◌∷◌, cond, not, Option, Some, None, is_some, is_none, unwrap_or, Result, Err, position, option_map, option_or, AllByRecursion, position_from, false≢true, none-some, position_from-zero, fault_where, first_fault, fault_at}
+use Rattle.par2_spec.proofs.Common.{◌≡◌, ◌⊎◌, inl, inr, refl, sym, ap, ◌∙◌, subst, T, true, false, Bool, ◌&&◌, ℕ, ◌+◌, List, [], ◌∷◌, cond, not, Option, Some, None, is_some, is_none, unwrap_or, Result, Err, option_or, AllByRecursion, position_from, none-some, position_from-zero, fault_where, first_fault, fault_at, arith}
 
 -- ---- tests
 
 -- two tests that imply each other
 pub same_tests : (a b : Bool) → (a ≡ true → b ≡ true) → (b ≡ true → a ≡ true) → a ≡ b
-same_tests true b h k = sym (h refl)
-same_tests false true h k = k refl
-same_tests false false h k = refl
+same_tests a b h k = grind arith
 
 pub is_true : {b : Bool} → T b → b ≡ true
-is_true {b = true} t = refl
-is_true {b = false} t = absurd t
+is_true t = grind arith
 
 pub by_true : {b : Bool} → b ≡ true → T b
 by_true e = subst T (sym e) tt
@@ -21,8 +18,7 @@ T-parts true b h = (tt, h)
 T-parts false b h = absurd h
 
 pub cond-not : {A : Type 0} (b : Bool) (x y : A) → cond (not b) x y ≡ cond b y x
-cond-not true x y = refl
-cond-not false x y = refl
+cond-not b x y = grind arith
 
 -- by the two values of a test, and by the one that holds of two
 pub by_test : {C : Type 0} (b : Bool) → (b ≡ true → C) → (b ≡ false → C) → C
@@ -36,20 +32,16 @@ by_either (inr b) f g = g b
 -- ---- options
 
 pub or_nothing : {A : Type 0} (o : Option A) → o ≡ option_or o None
-or_nothing None = refl
-or_nothing (Some x) = refl
+or_nothing o = grind arith
 
 pub none_if : {A : Type 0} (o : Option A) → is_some o ≡ false → o ≡ None
-none_if None h = refl
-none_if (Some x) h = absurd (false≢true (sym h))
+none_if o h = grind arith
 
 pub none_from : {A : Type 0} (o : Option A) → is_none o ≡ true → o ≡ None
-none_from None h = refl
-none_from (Some x) h = absurd (false≢true h)
+none_from o h = grind arith
 
 pub some_if : {A : Type 0} (d : A) (o : Option A) → is_some o ≡ true → o ≡ Some (unwrap_or o d)
-some_if d None h = absurd (false≢true h)
-some_if d (Some x) h = refl
+some_if d o h = grind arith
 
 -- ---- faults
 
@@ -58,8 +50,7 @@ pub err_again : {A E : Type 0} (P : Result A E → Type 0) (r : Result A E) (fau
 err_again P r fault p h = subst P (sym (p.1 ∙ ap Err p.2)) h
 
 pub where_none : {A : Type 0} (b : Bool) (fault : A) → fault_where b fault ≡ None → b ≡ false
-where_none true fault h = absurd (none-some fault (sym h))
-where_none false fault h = refl
+where_none b fault h = grind arith
 
 -- where no fault is the first, there is none
 pub all_none : {A : Type 0} (os : List (Option A)) → first_fault os ≡ None → AllByRecursion (λ o. o ≡ None) os
@@ -73,8 +64,4 @@ no_place test n [] h = tt
 no_place {A = A} test n (x ∷ xs) h = by_test (test x) (λ e. absurd (none-some n (sym (rw e at h)))) (λ e. (e, (no_place test (n + 1) xs) (rw e at h)))
 
 pub at_none : {A F : Type 0} (n : ℕ) (fault : ℕ → F) (test : A → Bool) (xs : List A) → fault_at n fault test xs ≡ None → AllByRecursion (λ x. test x ≡ false) xs
-at_none n fault test xs h = no_place test 0 xs (sym (position_from-zero test xs) ∙ unmapped (position test xs) h)
-  where
-    unmapped : (o : Option ℕ) → option_map (λ k. fault (n + k)) o ≡ None → o ≡ None
-    unmapped None k = refl
-    unmapped (Some m) k = absurd (none-some (fault (n + m)) (sym k))
+at_none n fault test xs h = grind (arith, no_place, position_from-zero, none-some)

@@ -1,8 +1,8 @@
 -- Trees of names, or of keys that stand for names.
-use Rattle.par2_spec.proofs.Common.{◌≡◌, ℕ, List, [], ◌∷◌, ◌++◌, refl, sym, ap₂, ◌∙◌, Bool, true, false, cond, ◌||◌, slice_cmp, nat_cmp, bytes_eq, Ordering, is_eq-slice_cmp, is_among}
+use Rattle.par2_spec.proofs.Common.{◌≡◌, ℕ, List, [], ◌∷◌, ◌++◌, sym, ap₂, ◌∙◌, Bool, true, false, cond, ◌||◌, slice_cmp, nat_cmp, bytes_eq, Ordering, is_eq-slice_cmp, is_among, arith}
 use Rattle.std.specs.BTreeSet.{BTreeSet, contains}
 use Rattle.std.specs.BTreeMap.{is_at}
-use Rattle.par2_spec.proofs.NamesLaws.{among-append, same_either_way}
+use Rattle.par2_spec.proofs.Basics.{among-append, same_either_way}
 
 -- the order of keys by their names
 abbrev pub name_order : {K : Type 0} → (K → List ℕ) → K → K → Ordering
@@ -14,13 +14,8 @@ pub holds_more : {K : Type 0} (name_of : K → List ℕ) (old new : BTreeSet K) 
     → ((q : K) → contains (name_order name_of) old q ≡ is_among names (name_of q))
     → (q : K) → contains (name_order name_of) new q ≡ is_among (names ++ name_of key ∷ []) (name_of q)
 holds_more name_of old new key names updates holds q =
+    let either : (a b : Bool) → cond a true b ≡ (b || (a || false)) = λ a b. grind arith in
     updates q
     ∙ ap₂ (λ a b. cond a true b) (is_eq-slice_cmp (name_of key) (name_of q) ∙ same_either_way (name_of key) (name_of q)) (holds q)
     ∙ either (bytes_eq (name_of q) (name_of key)) (is_among names (name_of q))
     ∙ sym (among-append names (name_of key ∷ []) (name_of q))
-  where
-    either : (a b : Bool) → cond a true b ≡ (b || (a || false))
-    either true true = refl
-    either true false = refl
-    either false true = refl
-    either false false = refl

@@ -1,16 +1,7 @@
 -- Where the lost slices are determined, one list alone agrees.
-use Rattle.par2_spec.proofs.Common.{◌≡◌, ℕ, zero, suc, ◌+◌, ◌/◌, ◌%◌, ◌^◌, ◌<◌, ◌≤◌, List, [], ◌∷◌, length, map, take, drop, get_or, refl, sym, ap, ◌∙◌, subst, cond, true, false, Bool, arith, inl, inr, flat_map, filter, slice_index, ◌==◌, Option, Some, None, is_none, w16, to_le_bytes, from_le_bytes, xor_self, range_with_len, enumerate_from, list_any, AllByRecursion, AllZip, Contains, ForSome, xor_lt, from_le_bytes-to_le_bytes_2, length-map, or_left, or_right, eq-eqb, cases_eq, AllZip-long, mul, coefficient, word, coefficients, dot, combination, recovery, kept, IsVector, Kills, IsRepairable, Agrees, kept_slices, IsRebuilt, AreElements, ParSet, lost, survivors, AgreeingListsAreOne}
-use Rattle.std.specs.Prelude.{bit_xor}
+use Rattle.par2_spec.proofs.Basics.{by_either, xor_middle, product_linear_right, product-lt, product-zero, power-lt, constant-lt, clash, kept-iff, byte_at, word-lt, same_texts, xor_same, all-both, contained_first, contained_later}
+use Rattle.par2_spec.proofs.Common.{◌≡◌, ℕ, zero, suc, ◌+◌, ◌/◌, ◌%◌, ◌^◌, ◌<◌, ◌≤◌, List, [], ◌∷◌, length, map, take, drop, get_or, refl, sym, ap, ◌∙◌, subst, cond, true, Bool, arith, flat_map, filter, slice_index, ◌==◌, Option, Some, None, is_none, w16, to_le_bytes, from_le_bytes, xor_self, range_with_len, enumerate_from, list_any, AllByRecursion, AllZip, Contains, ForSome, xor_lt, from_le_bytes-to_le_bytes_2, length-map, or_left, or_right, eq-eqb, cases_eq, AllZip-long, mul, coefficient, word, coefficients, dot, combination, recovery, kept, IsVector, Kills, IsRepairable, Agrees, kept_slices, IsRebuilt, AreElements, ParSet, lost, survivors, AgreeingListsAreOne, bit_xor}
 use Rattle.std.specs.FinMap as map_of
-use Rattle.par2_spec.proofs.FieldBits.{xor_middle}
-use Rattle.par2_spec.proofs.FieldProducts.{product_linear_right, product-lt}
-use Rattle.par2_spec.proofs.FieldOrder.{product-zero, power-lt}
-use Rattle.par2_spec.proofs.FieldConstants.{constant-lt}
-use Rattle.par2_spec.proofs.NamesLaws.{clash}
-use Rattle.par2_spec.proofs.RankLaws.{kept-iff}
-use Rattle.par2_spec.proofs.WordLaws.{byte_at, word-lt, same_texts}
-use Rattle.par2_spec.proofs.SumLaws.{xor_same}
-use Rattle.par2_spec.proofs.ListsLaws.{all-both, contained_first, contained_later}
 
 -- ---- sums of lists
 
@@ -58,10 +49,9 @@ same_words s a b even la lb ha hb same = same_texts s a b even la lb (byte_at a 
 pieces : (f g : ℕ → ℕ) (a n : ℕ) → flat_map (λ p. to_le_bytes w16 (f p)) (range_with_len a n) ≡ flat_map (λ p. to_le_bytes w16 (g p)) (range_with_len a n)
     → (p : ℕ) → a ≤ p → p < a + n → to_le_bytes w16 (f p) ≡ to_le_bytes w16 (g p)
 pieces f g a zero e p low high = absurd (omega (arith, low, high))
-pieces f g a (suc n) e p low high = elim (cases_eq a p) as (λ _. to_le_bytes w16 (f p) ≡ to_le_bytes w16 (g p)) [
-  | inl same ↦ subst (λ q. to_le_bytes w16 (f q) ≡ to_le_bytes w16 (g q)) same (ap (take 2) e)
-  | inr other ↦ pieces f g (a + 1) n (ap (drop 2) e) p (omega (arith, low, other)) (omega (arith, high))
-]
+pieces f g a (suc n) e p low high = by_either (cases_eq a p)
+    (λ same. subst (λ q. to_le_bytes w16 (f q) ≡ to_le_bytes w16 (g q)) same (ap (take 2) e))
+    (λ other. pieces f g (a + 1) n (ap (drop 2) e) p (omega (arith, low, other)) (omega (arith, high)))
 
 same_number : (m n : ℕ) → m < 2 ^ 16 → n < 2 ^ 16 → to_le_bytes w16 m ≡ to_le_bytes w16 n → m ≡ n
 same_number m n small_m small_n e = sym (from_le_bytes-to_le_bytes_2 m small_m) ∙ ap (from_le_bytes w16) e ∙ from_le_bytes-to_le_bytes_2 n small_n
@@ -158,10 +148,9 @@ all_from_contains P (x ∷ xs) h = (h x (contained_first x xs), all_from_contain
 
 killed_by_bound : (is es : List ℕ) (v : List ℕ) → IsVector (length is) v → ((e : ℕ) → Contains (kept is es) e → Kills is e v) → (m e : ℕ) → e < m → Contains es e → Kills is e v
 killed_by_bound is es v vector kills zero e lt c = absurd (omega (arith, lt))
-killed_by_bound is es v vector kills (suc m) e lt c = elim (cases_eq (dot (coefficients is e) v) 0) as (λ _. Kills is e v) [
-  | inl here ↦ here
-  | inr other ↦ kills e ((kept-iff is es e).1 (c, (v, vector, all_from_contains (λ x. x < e → Kills is x v) es (λ x d l. killed_by_bound is es v vector kills m x (omega (arith, l, lt)) d), other)))
-]
+killed_by_bound is es v vector kills (suc m) e lt c = by_either (cases_eq (dot (coefficients is e) v) 0)
+    (λ here. here)
+    (λ other. kills e ((kept-iff is es e).1 (c, (v, vector, all_from_contains (λ x. x < e → Kills is x v) es (λ x d l. killed_by_bound is es v vector kills m x (omega (arith, l, lt)) d), other))))
 
 pub kept_kill_all : (is es : List ℕ) (v : List ℕ) → IsVector (length is) v → ((e : ℕ) → Contains (kept is es) e → Kills is e v) → AllByRecursion (λ e. Kills is e v) es
 kept_kill_all is es v vector kills = all_from_contains (λ e. Kills is e v) es (λ e c. killed_by_bound is es v vector kills (suc e) e (omega arith) c)
@@ -171,11 +160,9 @@ kept_kill_all is es v vector kills = all_from_contains (λ e. Kills is e v) es (
 at_key : (P : ℕ → Type 0) (t : ℕ → Bool) (rs : List (ℕ × List ℕ)) (e : ℕ) → AllByRecursion (λ r. P r.0) (filter (λ r. t r.0) rs) → t e ≡ true → (k : ℕ) → k < length (map (λ r. r.0) rs) → get_or (map (λ r. r.0) rs) k e ≡ e → P e
 at_key P t [] e h i k lt here = absurd (omega (arith, lt))
 at_key P t (r ∷ rs) e h i zero lt here = grind (arith, clash)
-at_key P t (r ∷ rs) e h i (suc k) lt here = at_key P t rs e (rest (t r.0) (filter (λ q. t q.0) rs) h) i k (omega (arith, lt)) here
-  where
-    rest : (b : Bool) (qs : List (ℕ × List ℕ)) → AllByRecursion (λ q. P q.0) (cond b (r ∷ qs) qs) → AllByRecursion (λ q. P q.0) qs
-    rest true qs l = l.1
-    rest false qs l = l
+at_key P t (r ∷ rs) e h i (suc k) lt here =
+    let rest : (b : Bool) (qs : List (ℕ × List ℕ)) → AllByRecursion (λ q. P q.0) (cond b (r ∷ qs) qs) → AllByRecursion (λ q. P q.0) qs = λ b qs l. grind arith in
+    at_key P t rs e (rest (t r.0) (filter (λ q. t q.0) rs) h) i k (omega (arith, lt)) here
 
 any_here : (xs : List ℕ) (e k : ℕ) → k < length xs → get_or xs k e ≡ e → list_any (λ x. x == e) xs ≡ true
 any_here [] e k lt here = absurd (omega (arith, lt))

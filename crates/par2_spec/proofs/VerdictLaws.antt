@@ -1,31 +1,23 @@
 -- The verdict on what a verify reports, by the words.
-use Rattle.par2_spec.proofs.Common.{◌≡◌, ◌+◌, ℕ, List, [], ◌∷◌, T, length, map, refl, sym, ap, ◌∙◌, subst, Bool, true, false, not, cond, ◌&&◌, Less, ◌↔◌, ◌==◌, nat_lt, Option, Some, None, Result, Ok, Err, filter, is_some, is_none, if◌then◌else◌, bytes_eq, md5, nat_cmp, is_lt, entries_sorted, is_sorted, below_all, list_all, list_any, enumerate_from, AllByRecursion, eqb-true, eq-eqb, false≢true, not-true, false_from_ne_true, IsStrictlyIncreasing-from_sorted, Fault, NotRepairable, NameTooLong, RepairFailed, first_fault, fault_where, then_fault, Folder, has, bytes_of, ParSet, Target, set_of, all_pairs, ◌>>=◌, found, is_needing, needing, matches, match_of, lost, survivors, candidates, known, is_repairable, IsRepairable, rank, aside, put_aside, rebuilt_targets, Repair, set_in, refusal, repair_refusal, Report, is_complete, needing_state, found_of, verdict_of, IsFound, IsVerdict, IsVerdictIn, RefusedAsReported, state_of, report_of_target, report_of, report_in, IsStrictlySortedBy}
-use Rattle.std.proofs.Common.{Ordering}
+use Rattle.par2_spec.proofs.Common.{◌≡◌, ◌+◌, ℕ, List, [], ◌∷◌, T, length, map, refl, sym, ap, ◌∙◌, subst, Bool, true, false, not, cond, ◌&&◌, Less, ◌↔◌, ◌==◌, nat_lt, Option, Some, None, Result, Ok, Err, filter, is_some, is_none, if◌then◌else◌, bytes_eq, md5, nat_cmp, is_lt, entries_sorted, is_sorted, below_all, list_all, list_any, enumerate_from, AllByRecursion, eqb-true, eq-eqb, false≢true, not-true, false_from_ne_true, IsStrictlyIncreasing-from_sorted, Fault, NotRepairable, then_fault, Folder, has, bytes_of, ParSet, Target, set_of, all_pairs, ◌>>=◌, found, is_needing, needing, matches, match_of, lost, survivors, candidates, known, is_repairable, IsRepairable, rank, aside, put_aside, rebuilt_targets, Repair, set_in, refusal, repair_refusal, Report, is_complete, needing_state, found_of, verdict_of, IsFound, IsVerdict, IsVerdictIn, RefusedAsReported, state_of, report_of_target, report_of, report_in, IsStrictlySortedBy, Ordering, arith, NameTooLong, RepairFailed, first_fault, fault_where}
 use Rattle.std.specs.FinMap as map_of
 use Rattle.par2_spec.specs.declared.Verdict.{Verdict}
 use Rattle.par2_spec.specs.declared.Verdict.TheVariants.{Complete, Repairable}
 use Rattle.par2_spec.specs.declared.Verdict.TheVariants as verdict
 use Rattle.par2_spec.specs.Reports as reports
-use Rattle.par2_spec.proofs.TestLaws.{T-parts}
-use Rattle.par2_spec.proofs.RankLaws.{repairable-iff, none_kept}
+use Rattle.par2_spec.proofs.Basics.{T-parts, repairable-iff, none_kept, all_by_test, same_ok, all-map, all-flat_map}
 use Rattle.par2_spec.proofs.FullRank.{full-iff}
-use Rattle.par2_spec.proofs.FoundLaws.{all_by_test}
 use Rattle.par2_spec.proofs.RefusedLaws.{first_cause}
-use Rattle.par2_spec.proofs.SessionLaws.{same_ok}
-use Rattle.par2_spec.proofs.ReadLaws.{came_out}
 use Rattle.par2_spec.proofs.AcceptedCommands.{set_in_reads}
-use Rattle.par2_spec.proofs.ListsLaws.{all-map, all-flat_map}
 use Rattle.par2_spec.proofs.ReportLaws.{by_target, intact_are_found}
 
 -- ---- the exponents of a map rise
 
 below_keys : {X : Type 0} (k : ℕ) (es : List (ℕ × X)) → T (below_all nat_cmp k es) → AllByRecursion (λ y. nat_cmp k y ≡ Less) (map (λ e. e.0) es)
 below_keys k [] h = tt
-below_keys k (e ∷ es) h = let r = T-parts _ _ h in (less (nat_cmp k e.0) r.0, below_keys k es r.1)
-  where
-    less : (o : Ordering) → T (is_lt o) → o ≡ Less
-    less Less t = refl
-    less o t = absurd t
+below_keys k (e ∷ es) h =
+    let less : (o : Ordering) → T (is_lt o) → o ≡ Less = λ o t. grind arith in
+    let r = T-parts _ _ h in (less (nat_cmp k e.0) r.0, below_keys k es r.1)
 
 sorted_keys : {X : Type 0} (es : List (ℕ × X)) → T (is_sorted nat_cmp es) → IsStrictlySortedBy nat_cmp (map (λ e. e.0) es)
 unfolding IsStrictlySortedBy
@@ -39,38 +31,19 @@ is_nil [] = true
 is_nil (x ∷ xs) = false
 
 nil-iff : {A : Type 0} (xs : List A) → (is_nil xs ≡ true) ↔ (xs ≡ [])
-nil-iff xs = (to_nil xs, λ e. ap is_nil e)
-  where
-    to_nil : {A : Type 0} (ys : List A) → is_nil ys ≡ true → ys ≡ []
-    to_nil [] h = refl
-    to_nil (y ∷ ys) h = absurd (false≢true h)
-
-needing_is_not_complete : (is_there : Bool) (o : Option (List ℕ)) → is_complete (needing_state is_there o) ≡ false
-needing_is_not_complete is_there (Some name) = refl
-needing_is_not_complete true None = refl
-needing_is_not_complete false None = refl
+nil-iff xs = grind arith
 
 complete_by_target : (folder : Folder) (set : ParSet) (searched : List (List ℕ)) (ts : List Target)
     → list_all (λ r. is_complete r.state) (map (λ t. report_of_target folder set searched (t, found_of folder set searched t)) ts) ≡ is_nil (filter (is_needing folder set) ts)
 unfolding report_of_target state_of
 complete_by_target folder set searched [] = refl
-complete_by_target folder set searched (t ∷ ts) = step (is_needing folder set t) (complete_by_target folder set searched ts)
-  where
-    rest : Bool
-    rest = list_all (λ r. is_complete r.state) (map (λ t. report_of_target folder set searched (t, found_of folder set searched t)) ts)
-
-    needs : List Target
-    needs = filter (is_needing folder set) ts
-
-    there : Bool
-    there = has folder t.name
-
-    match : Option (List ℕ)
-    match = match_of (matches folder set searched) t.name
-
-    step : (b : Bool) → rest ≡ is_nil needs → (is_complete (cond b (needing_state there match) reports.Complete) && rest) ≡ is_nil (cond b (t ∷ needs) needs)
-    step true e = ap (λ c. c && rest) (needing_is_not_complete there match)
-    step false e = e
+complete_by_target folder set searched (t ∷ ts) =
+    let rest : Bool = list_all (λ r. is_complete r.state) (map (λ t. report_of_target folder set searched (t, found_of folder set searched t)) ts) in
+    let needs : List Target = filter (is_needing folder set) ts in
+    let there : Bool = has folder t.name in
+    let match : Option (List ℕ) = match_of (matches folder set searched) t.name in
+    let step : (b : Bool) → rest ≡ is_nil needs → (is_complete (cond b (needing_state there match) reports.Complete) && rest) ≡ is_nil (cond b (t ∷ needs) needs) = λ b e. grind arith in
+    step (is_needing folder set t) (complete_by_target folder set searched ts)
 
 -- ---- nothing is lost where no target is needing
 
@@ -93,10 +66,7 @@ said : Bool → Bool → Verdict
 said a b = if a then verdict.Complete else if b then verdict.Repairable else verdict.NotRepairable
 
 said-complete : (a b : Bool) → (said a b ≡ verdict.Complete) ↔ (a ≡ true)
-unfolding said
-said-complete true b = (λ e. refl, λ e. refl)
-said-complete false true = (λ e. cc, λ e. absurd (false≢true e))
-said-complete false false = (λ e. cc, λ e. absurd (false≢true e))
+said-complete a b = unfold said in grind arith
 
 said-repairable : (b : Bool) → (said false b ≡ verdict.Repairable) ↔ (b ≡ true)
 unfolding said
@@ -104,10 +74,7 @@ said-repairable true = (λ e. refl, λ e. refl)
 said-repairable false = (λ e. cc, λ e. absurd (false≢true e))
 
 said-not_repairable : (a b : Bool) → (said a b ≡ verdict.NotRepairable) ↔ ((a ≡ false) × (b ≡ false))
-unfolding said
-said-not_repairable true b = (λ e. cc, λ e. absurd (false≢true (sym e.0)))
-said-not_repairable false true = (λ e. cc, λ e. absurd (false≢true (sym e.1)))
-said-not_repairable false false = (λ e. (refl, refl), λ e. refl)
+said-not_repairable a b = unfold said in grind arith
 
 module _ (folder : Folder) (base : List ℕ) (extras : List (List ℕ)) (set : ParSet) (reads : set_in folder base extras ≡ Ok set) where
   abbrev searched : List (List ℕ)
@@ -183,8 +150,7 @@ reported_set P folder base extras report h holds = step (set_in folder base extr
     value (Err fault) = report
 
     step : (r : Result ParSet Fault) → set_in folder base extras ≡ r → (r >>= (λ set. Ok (report_of folder set (candidates folder set extras)))) ≡ Ok report → P report
-    step (Ok set) e k = subst P (ap value k) (holds set e)
-    step (Err fault) e k = absurd (false≢true (ap came_out k))
+    step r e k = grind arith
 
 pub verdict_by_words : (folder : Folder) (base : List ℕ) (extras : List (List ℕ)) (report : Report) → report_in folder base extras ≡ Ok report → IsVerdictIn folder base extras (verdict_of report)
 verdict_by_words folder base extras report h =

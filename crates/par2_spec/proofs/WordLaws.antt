@@ -1,7 +1,6 @@
 -- Words of texts, texts by their words, and vectors of texts.
-use Rattle.par2_spec.proofs.Common.{ℕ, zero, suc, ◌+◌, ◌*◌, ◌/◌, ◌%◌, ◌^◌, ◌<◌, ◌≤◌, ◌≡◌, inl, inr, refl, sym, ap, ap₂, ◌∙◌, arith, List, [], ◌∷◌, length, get_or, set, map, Vec, Global, length-set, w16, to_le_bytes, AllByRecursion, range_with_len, cases_eq, map-set, get_or-set_same, get_or-set_other, length-map, get_or-map, get_or_past, ext_get_or, word, dot, combination, list_at, lists_of, OneChanged}
-use Rattle.std.proofs.Common.{◌↔◌}
-use Rattle.std.specs.List.{flat_map}
+use Rattle.par2_spec.proofs.TestLaws.{by_either}
+use Rattle.par2_spec.proofs.Common.{ℕ, zero, suc, ◌+◌, ◌*◌, ◌/◌, ◌%◌, ◌^◌, ◌<◌, ◌≤◌, ◌≡◌, refl, sym, ap, ap₂, ◌∙◌, arith, List, [], ◌∷◌, length, get_or, set, map, Vec, Global, length-set, w16, to_le_bytes, AllByRecursion, range_with_len, cases_eq, map-set, get_or-set_same, get_or-set_other, length-map, get_or-map, get_or_past, ext_get_or, word, dot, combination, list_at, lists_of, OneChanged, ◌↔◌, flat_map}
 use Rattle.par2_spec.proofs.ListsLaws.{all_at}
 
 pub word_past : (xs : List ℕ) (w : ℕ) → length xs ≤ 2 * w → word w xs ≡ 0
@@ -55,10 +54,9 @@ same_texts n xs ys even lx ly hx hy same = ext_get_or 0 xs ys (lx ∙ sym ly) (�
     let w = k / 2 in
     let hw : 2 * w + 1 < n = omega arith in
     let both = same_word (get_or xs (2 * w) 0) (get_or xs (2 * w + 1) 0) (get_or ys (2 * w) 0) (get_or ys (2 * w + 1) 0) (hx (2 * w)) (hx (2 * w + 1)) (hy (2 * w)) (hy (2 * w + 1)) (same w hw) in
-    elim (cases_eq (k % 2) 0) [
-      | inl even ↦ let j : k ≡ 2 * w = omega arith in ap (λ x. get_or xs x 0) j ∙ both.0 ∙ sym (ap (λ x. get_or ys x 0) j)
-      | inr odd ↦ let j : k ≡ 2 * w + 1 = omega arith in ap (λ x. get_or xs x 0) j ∙ both.1 ∙ sym (ap (λ x. get_or ys x 0) j)
-    ])
+    by_either (cases_eq (k % 2) 0)
+    (λ even. let j : k ≡ 2 * w = omega arith in ap (λ x. get_or xs x 0) j ∙ both.0 ∙ sym (ap (λ x. get_or ys x 0) j))
+    (λ odd. let j : k ≡ 2 * w + 1 = omega arith in ap (λ x. get_or xs x 0) j ∙ both.1 ∙ sym (ap (λ x. get_or ys x 0) j)))
 
 -- A combination of texts is a text exactly where each of its words is the sum at that word.
 pub combination_words : (s : ℕ) (row : List ℕ) (texts : List (List ℕ)) (right : List ℕ) → s % 2 ≡ 0 → ((w : ℕ) → dot row (map (word w) texts) < 65536)

@@ -1,6 +1,5 @@
 -- Parts of a text that is put together, and the tests of a packet at its front.
-use Rattle.par2_spec.proofs.Common.{◌≡◌, ℕ, suc, ◌-◌, ◌+◌, ◌%◌, ◌^◌, ◌≤◌, ◌<◌, Bool, true, false, leb, eqb, ◌&&◌, List, [], ◌∷◌, ◌++◌, length, drop, refl, sym, ap, ◌∙◌, append_assoc, arith, flat_map, AllByRecursion, w64, to_le_bytes, bytes_eq, le-leb, eq-eqb, lt-leb, leb-true, and_parts, take_at, drop_at, from_le_bytes-to_le_bytes_8, bytes_eq-Decides, md5, length-md5, Kind, bytes_at, magic, type_of, kind_of, Packet, digest_input, claimed_length, accepted, IsPacket, u64_at, packet, begins_with_packet, first_packet, accepted_after}
-use Rattle.std.proofs.lemmas.List.{length-append}
+use Rattle.par2_spec.proofs.Common.{◌≡◌, ℕ, suc, ◌-◌, ◌+◌, ◌%◌, ◌^◌, ◌≤◌, ◌<◌, Bool, true, false, leb, eqb, ◌&&◌, List, [], ◌∷◌, ◌++◌, length, drop, refl, sym, ap, ◌∙◌, append_assoc, arith, flat_map, AllByRecursion, w64, to_le_bytes, bytes_eq, le-leb, eq-eqb, lt-leb, leb-true, and_parts, take_at, drop_at, from_le_bytes-to_le_bytes_8, bytes_eq-Decides, md5, length-md5, Kind, bytes_at, magic, type_of, kind_of, Packet, digest_input, claimed_length, accepted, IsPacket, u64_at, packet, begins_with_packet, first_packet, accepted_after, length-append}
 use Rattle.par2_spec.proofs.AcceptedLaws.{accepted-found, accepted-none}
 
 pub part_at : (front mid rest : List ℕ) (o n : ℕ) → length front ≡ o → length mid ≡ n → bytes_at o n (front ++ (mid ++ rest)) ≡ mid
@@ -90,9 +89,7 @@ after text m l d s k b t h =
 
 -- where a packet stands at the front, the packets are that one and those after it
 pub accepted_first : (text : List ℕ) → begins_with_packet text ≡ true → 1 ≤ claimed_length text → accepted text ≡ first_packet text ∷ accepted (drop (claimed_length text) text)
-unfolding begins_with_packet
-accepted_first [] h one = absurd cc
-accepted_first (b ∷ text) h one = accepted-found b text h one
+accepted_first text h one = unfold begins_with_packet in grind (arith, accepted-found)
 
 fourth : (a b c d e f : Bool) → (a && b && c && d && e && f) ≡ true → d ≡ true
 fourth a b c d e f h = (and_parts (a && b && c) d (and_parts (a && b && c && d) e (and_parts (a && b && c && d && e) f h).0).0).1

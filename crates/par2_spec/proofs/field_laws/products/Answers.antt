@@ -1,5 +1,4 @@
-use Rattle.par2_spec.proofs.FieldProducts.{product-lt, product_comm, product_assoc, product-one, product_linear_left, product_linear_right}
-use Rattle.par2_spec.proofs.FieldOrder.{product-zero}
+use Rattle.par2_spec.proofs.Basics.{product-lt, product_comm, product_assoc, product-one, product_linear_left, product_linear_right, product-zero}
 
 pub returns : Rattle.par2_spec.proofs.field_laws.products.Goals.returns
 returns c = record {

@@ -1,4 +1,4 @@
-use Rattle.par2_spec.proofs.FolderLaws.{more_room_all}
+use Rattle.par2_spec.proofs.Basics.{more_room_all}
 
 pub returns : Rattle.par2_spec.proofs.folder_laws.more_places_do_no_harm.Goals.returns
 returns c = record {

@@ -1,4 +1,4 @@
-use Rattle.par2_spec.proofs.RankLaws.{rebuilt_is_only}
+use Rattle.par2_spec.proofs.Basics.{rebuilt_is_only}
 use Rattle.par2_spec.proofs.UniqueLaws.{agreeing_are_one, agreeing_is_rebuilt}
 
 pub returns : Rattle.par2_spec.proofs.rank_laws.one_list_alone_agrees.Goals.returns

@@ -1,5 +1,5 @@
 use Rattle.par2_spec.proofs.Common.{candidates}
-use Rattle.par2_spec.proofs.ReadLaws.{present_searched}
+use Rattle.par2_spec.proofs.Basics.{present_searched}
 use Rattle.par2_spec.proofs.RepairLaws.{targets_fit}
 use Rattle.par2_spec.proofs.FilesLaws.{repaired_files, purged_files, right_digests, made_size}
 use Rattle.par2_spec.proofs.restored_laws.repair_leaves_the_files.Goals as goal

@@ -1,4 +1,4 @@
-use Rattle.par2_spec.proofs.SessionLaws.{next_taken, done_can_walk, undone_can_walk, redone_can_walk, grown_can_walk, walked_is_valid}
+use Rattle.par2_spec.proofs.Basics.{next_taken, done_can_walk, undone_can_walk, redone_can_walk, grown_can_walk, walked_is_valid}
 
 pub returns : Rattle.par2_spec.proofs.session_laws.kept_session_keeps_its_room.Goals.returns
 returns c = record {

@@ -1,4 +1,4 @@
-use Rattle.par2_spec.proofs.SessionLaws.{accepted_next, refused_alike}
+use Rattle.par2_spec.proofs.Basics.{accepted_next, refused_alike}
 
 pub returns : Rattle.par2_spec.proofs.session_laws.session_is_a_history.Goals.returns
 returns c = record {
