@@ -1,23 +1,11 @@
 -- The outputs of a create have distinct names, so its changes apply and lead to its folder.
-use Rattle.par2_spec.proofs.Common.{◌≡◌, ℕ, zero, suc, ◌+◌, ◌-◌, ◌*◌, ◌/◌, ◌%◌, ◌^◌, ◌<◌, ◌≤◌, List, [], ◌∷◌, ◌++◌, length, map, refl, sym, ap, ◌∙◌, subst, true, false, Bool, ◌||◌, arith, length-append, flat_map, codes, nat_lt, if◌then◌else◌, range_with_len, one-le-pow, pow-le-pow_right, drop-append_seam, length-take, map-map, and_from, or_from, or_left, or_right, is_among, Folder, File, has, Write, Replace, is_applicable, are_applicable, volume_name, volumes_before, volume_numbers, volume_size, five_digits, stem, record_of, in_id_order, index_packets, volumes, packet, CreateArgs, outputs_of, create_changes, drop, append_assoc}
+use Rattle.par2_spec.proofs.Common.{◌≡◌, ℕ, zero, suc, ◌+◌, ◌-◌, ◌%◌, ◌^◌, ◌<◌, ◌≤◌, List, [], ◌∷◌, ◌++◌, length, map, refl, sym, ap, ◌∙◌, subst, true, false, Bool, ◌||◌, arith, length-append, flat_map, codes, nat_lt, if◌then◌else◌, range_with_len, one-le-pow, pow-le-pow_right, drop-append_seam, length-take, map-map, and_from, or_from, or_left, or_right, is_among, Folder, File, has, Write, Replace, is_applicable, are_applicable, volume_name, volumes_before, volume_numbers, volume_size, five_digits, stem, record_of, in_id_order, index_packets, volumes, packet, CreateArgs, outputs_of, create_changes, drop, append_assoc}
 use Rattle.std.specs.FinMap as map_of
 use Rattle.std.proofs.Math.Pow.{pow-lt}
 use Rattle.par2_spec.proofs.Basics.{AreDistinct, itself, other_name, not_first, distinct_some, put_in}
 use Rattle.par2_spec.proofs.MovesLaws.{has_put}
 
 -- ---- the names of the volumes
-
--- five digits tell a number up to a multiple of 100,000
-from_five : (x : ℕ) → x % 100000 ≡ x / 10000 % 10 * 10000 + x / 1000 % 10 * 1000 + x / 100 % 10 * 100 + x / 10 % 10 * 10 + x / 1 % 10
-from_five x = omega arith
-
--- the number that digits spell
-abbrev read_digits : ℕ → List ℕ → ℕ
-read_digits n [] = n
-read_digits n (d ∷ ds) = read_digits (n * 10 + (d - 48)) ds
-
-read_five : (x : ℕ) → read_digits 0 (five_digits x) ≡ x % 100000
-read_five x = grind (arith, from_five)
 
 -- what stands after the same front
 same_rest : (front a b : List ℕ) → front ++ a ≡ front ++ b → a ≡ b
@@ -35,7 +23,7 @@ volume_name_is base x n = grind (arith, append_assoc)
 
 -- a volume name tells its first exponent up to a multiple of 100,000
 name_tells_first : (base : List ℕ) (x m y n : ℕ) → volume_name base x m ≡ volume_name base y n → x % 100000 ≡ y % 100000
-name_tells_first base x m y n e = grind (arith, same_rest, volume_name_is, read_five)
+name_tells_first base x m y n e = grind (arith, same_rest, volume_name_is)
 
 -- the first exponents rise, by less than 2 ^ 16
 firsts_apart : (f i j : ℕ) → i < j → j < 17 → (f + volumes_before i) % 100000 ≡ (f + volumes_before j) % 100000 → ⊥
@@ -62,13 +50,10 @@ volumes_once : (base : List ℕ) (f c a n : ℕ) → a + n ≤ 17 → AreDistinc
 volumes_once base f c a zero h = tt
 volumes_once base f c a (suc n) h = (no_later_volume base f c a (a + 1) n (omega arith) (omega (arith, h)), volumes_once base f c (a + 1) n (omega (arith, h)))
 
-length-volume_name : (base : List ℕ) (x n : ℕ) → length (volume_name base x n) ≡ length (stem base) + 20
-length-volume_name base x n = ap length (volume_name_is base x n) ∙ length-append (front_of base) (rest_of x n) ∙ ap (λ k. k + 16) (length-append (stem base) (codes ".vol")) ∙ (let e : length (stem base) + 4 + 16 ≡ length (stem base) + 20 = omega arith in e)
-
 -- the base is shorter than the volumes
 base_no_volume : (base : List ℕ) (f c : ℕ) (is : List ℕ) → is_among (map (volume_at base f c) is) base ≡ false
 base_no_volume base f c [] = refl
-base_no_volume base f c (i ∷ is) = grind (arith, or_from, other_name, length-volume_name, length-take, base_no_volume base f c is)
+base_no_volume base f c (i ∷ is) = grind (arith, or_from, other_name, length-take, volume_name_is, length-append, base_no_volume base f c is)
 
 pub names_of_outputs : (base : List ℕ) (s f c : ℕ) (files : List File) → map (λ file. file.0) (volumes base s f c files) ≡ base ∷ map (volume_at base f c) (volume_numbers c)
 names_of_outputs base s f c files = unfold volumes in ap (λ names. base ∷ names) (map-map (λ (file : File). file.0) _ (volume_numbers c))

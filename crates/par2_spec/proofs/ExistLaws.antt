@@ -49,9 +49,6 @@ marked x [] = []
 marked x (a ∷ []) = a ∷ []
 marked x (a ∷ b ∷ text) = bit_xor x (a + 256 * b) % 256 ∷ bit_xor x (a + 256 * b) / 256 ∷ text
 
-length-marked : (x : ℕ) (text : List ℕ) → length (marked x text) ≡ length text
-length-marked x text = grind arith
-
 pair-lt : (a b : ℕ) → a < 256 → b < 256 → a + 256 * b < 2 ^ 16
 pair-lt a b ha hb = omega (arith, ha, hb)
 
@@ -64,15 +61,6 @@ bytes-marked x (a ∷ []) small h = h
 bytes-marked x (a ∷ b ∷ text) small h =
     let parts = parts-lt (bit_xor x (a + 256 * b)) (xor_lt 16 x (a + 256 * b) small (pair-lt a b h.0 h.1.0)) in
     (parts.0, (parts.1, h.1.1))
-
-marked-zero : (text : List ℕ) → AllByRecursion (λ b. b < 256) text → marked 0 text ≡ text
-marked-zero text h = grind arith
-
-first_word-marked : (x : ℕ) (text : List ℕ) → 2 ≤ length text → word 0 (marked x text) ≡ bit_xor x (word 0 text)
-first_word-marked x text h = grind arith
-
-later_word-marked : (p x : ℕ) (text : List ℕ) → word (suc p) (marked x text) ≡ word (suc p) text
-later_word-marked p x text = grind arith
 
 -- ---- the elements of a vector added to the texts, each to its own
 
@@ -88,7 +76,7 @@ length-all_marked d texts = refl
 sizes-all_marked : (s : ℕ) (d : List ℕ) (texts : List (List ℕ)) → AllByRecursion (λ text. length text ≡ s) texts → AllByRecursion (λ text. length text ≡ s) (all_marked d texts)
 sizes-all_marked s [] texts h = h
 sizes-all_marked s (x ∷ d) [] h = tt
-sizes-all_marked s (x ∷ d) (text ∷ texts) h = (length-marked x text ∙ h.0, sizes-all_marked s d texts h.1)
+sizes-all_marked s (x ∷ d) (text ∷ texts) h = grind (arith, sizes-all_marked s d texts h.1)
 
 bytes-all_marked : (d : List ℕ) (texts : List (List ℕ)) → AreElements d → AreTexts texts → AreTexts (all_marked d texts)
 bytes-all_marked [] texts small h = h
@@ -97,11 +85,11 @@ bytes-all_marked (x ∷ d) (text ∷ texts) small h = (bytes-marked x text small
 
 first_words : (s : ℕ) (d : List ℕ) (texts : List (List ℕ)) → 2 ≤ s → AllByRecursion (λ text. length text ≡ s) texts → length d ≡ length texts → map (word 0) (all_marked d texts) ≡ sums d (map (word 0) texts)
 first_words s [] [] some h e = refl
-first_words s (x ∷ d) (text ∷ texts) some h e = grind (arith, first_word-marked, first_words s d texts some h.1 (omega (arith, e)))
+first_words s (x ∷ d) (text ∷ texts) some h e = grind (arith, first_words s d texts some h.1 (omega (arith, e)))
 first_words s d texts some h e = absurd (omega (arith, e))
 
 later_words : (p : ℕ) (d : List ℕ) (texts : List (List ℕ)) → map (word (suc p)) (all_marked d texts) ≡ map (word (suc p)) texts
-later_words p (x ∷ d) (text ∷ texts) = ap₂ (λ w ws. w ∷ ws) (later_word-marked p x text) (later_words p d texts)
+later_words p (x ∷ d) (text ∷ texts) = grind (arith, later_words p d texts)
 later_words p d texts = refl
 
 -- the known slices stay as they are
@@ -112,7 +100,7 @@ known-all_marked [] v (text ∷ texts) small h = absurd h
 known-all_marked (k ∷ ks) v [] small h = absurd h
 known-all_marked (None ∷ ks) [] (text ∷ texts) small h = ((λ found e. absurd (false≢true (ap is_some e))), known-all_marked ks [] texts small.1 h.1)
 known-all_marked (None ∷ ks) (x ∷ v) (text ∷ texts) small h = ((λ found e. absurd (false≢true (ap is_some e))), known-all_marked ks v texts small.1 h.1)
-known-all_marked (Some y ∷ ks) v (text ∷ texts) small h = ((λ found e. marked-zero text small.0 ∙ h.0 found e), known-all_marked ks v texts small.1 h.1)
+known-all_marked (Some y ∷ ks) v (text ∷ texts) small h = grind (arith, known-all_marked ks v texts small.1 h.1)
 
 -- ---- recovery slices
 

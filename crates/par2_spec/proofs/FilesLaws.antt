@@ -183,13 +183,8 @@ module _ (folder : Folder) (base : List ℕ) (files : List File) (s : ℕ) (sear
   abbrev gone : List (List ℕ)
   gone = map (aside folder m.set) (put_aside folder m.set) ++ par_files folder m.set
 
-  no_par_file : (q : List ℕ) → is_among targets q ≡ true → is_among (par_files folder m.set) q ≡ true → ⊥
-  no_par_file q own i = grind (arith, and_parts, among-filter, clash)
-
   stays : (q : List ℕ) → is_among targets q ≡ true → is_among gone q ≡ false
-  stays q own =
-      among-append (map (aside folder m.set) (put_aside folder m.set)) (par_files folder m.set) q
-      ∙ or_from _ _ (target_no_aside folder m.set searched all (put_aside folder m.set) q own) (false_from_ne_true _ (no_par_file q own))
+  stays q own = grind (arith, among-append, or_from, target_no_aside, false_from_ne_true, and_parts, among-filter, clash)
 
   all_stay : (fs : List File) → AllByRecursion (λ file. IsNamed (target_of_file s file)) fs → AllByRecursion (Holds after) fs → AllByRecursion (Holds (after_repair_and_purge folder m.set searched)) fs
   unfolding record_of

@@ -1,5 +1,5 @@
 -- A change and its inverse; changes in order and their way back; the same for a folder as it is kept.
-use Rattle.par2_spec.proofs.Common.{◌≡◌, ℕ, ◌+◌, ◌-◌, ◌<◌, ◌≤◌, List, [], ◌∷◌, ◌++◌, refl, sym, ap, subst, ◌∙◌, cond, true, false, Bool, not, ◌&&◌, IsTrue, append_assoc, append-nil, arith, unwrap_or, Some, None, Option, is_some, is_none, same_map, slice_cmp-IsAntisymmetric, nat_cmp-IsAntisymmetric, get-insert, get-remove, get_tied, nat_cmp, eq_by_cmp, is_eq, Ordering, Equal, eq_by_cmp_equiv, slice_cmp, nat_list_cmp_total, nat_tests, and_parts, and_from, Folder, has, bytes_of, Change, Write, Replace, Rename, Remove, FolderState, fault_unless, vacant_after, state_after, places_taken, effect, inverse, is_applicable, effects, way_back, are_applicable, change_refusal, takes_all, state_after_all, nat_lt}
+use Rattle.par2_spec.proofs.Common.{◌≡◌, ℕ, ◌+◌, ◌-◌, ◌<◌, ◌≤◌, List, [], ◌∷◌, ◌++◌, refl, sym, ap, subst, ◌∙◌, cond, true, Bool, not, ◌&&◌, IsTrue, append_assoc, append-nil, arith, unwrap_or, Some, None, Option, is_some, is_none, same_map, slice_cmp-IsAntisymmetric, nat_cmp-IsAntisymmetric, get-insert, get-remove, get_tied, nat_cmp, eq_by_cmp, is_eq, Ordering, Equal, eq_by_cmp_equiv, slice_cmp, nat_list_cmp_total, nat_tests, and_parts, and_from, Folder, has, bytes_of, Change, Write, Replace, Rename, Remove, FolderState, fault_unless, state_after, places_taken, effect, inverse, is_applicable, effects, way_back, are_applicable, change_refusal, takes_all, state_after_all, nat_lt, common_steps}
 use Rattle.std.specs.FinMap as map_of
 use Rattle.par2_spec.specs.declared.ChangeFault.TheVariants.{NameTaken, NoSuchName}
 use Rattle.par2_spec.specs.declared.ChangeFault.{ChangeFault}
@@ -68,13 +68,9 @@ undo_change f (Replace n b) h = undo_Replace f n b h
 undo_change f (Rename a b) h = unfold effect in undo_Rename f a b (and_parts _ _ h).0 (and_parts _ _ h).1
 undo_change f (Remove n) h = same_folder _ _ (λ q. written _ n _ q ∙ ap (cond (same q n) (Some (bytes_of f n))) (gone f n q) ∙ back (same q n) None _ _ (λ t. tied f q n t ∙ present _ h))
 
--- a name that is there and one that is not are two
-two_names : (f : Folder) (a b : List ℕ) → IsTrue (has f a) → IsTrue (not (has f b)) → same a b ≡ false
-two_names f a b h k = grind (arith, tied, present, absent)
-
 -- after a rename the old name is free
 left_behind : (f : Folder) (a b : List ℕ) → IsTrue (has f a) → IsTrue (not (has f b)) → map_of.get (map_of.insert (map_of.remove f a) b (bytes_of f a)) a ≡ None
-left_behind f a b h k = written (map_of.remove f a) b _ a ∙ ap (λ t. cond t (Some (bytes_of f a)) (map_of.get (map_of.remove f a) a)) (two_names f a b h k) ∙ nowhere f a
+left_behind f a b h k = grind (arith, written, nowhere, tied, present, absent)
 
 pub undo_is_applicable : (f : Folder) (c : Change) → IsTrue (is_applicable f c) → IsTrue (is_applicable (effect f c) (inverse f c))
 unfolding effect inverse is_applicable
@@ -136,29 +132,11 @@ way_back_twice f (c ∷ cs) h =
 
 -- ---- whether changes apply is a matter of the names alone
 
-either_way : (t : Bool) (b c : List ℕ) (g h : Option (List ℕ)) → is_some g ≡ is_some h → is_some (cond t (Some b) g) ≡ is_some (cond t (Some c) h)
-either_way t b c g h e = grind arith
-
-neither_way : (t : Bool) (g h : Option (List ℕ)) → is_some g ≡ is_some h → is_some (cond t None g) ≡ is_some (cond t None h)
-neither_way t g h e = grind arith
-
 AreAlike : Folder → Folder → Type 0
 AreAlike f g = (q : List ℕ) → has f q ≡ has g q
 
-alike_written : (f g : Folder) (n b c : List ℕ) → AreAlike f g → AreAlike (map_of.insert f n b) (map_of.insert g n c)
-unfolding AreAlike
-alike_written f g n b c h q = ap is_some (written f n b q) ∙ either_way (same q n) b c _ _ (h q) ∙ ap is_some (sym (written g n c q))
-
-alike_gone : (f g : Folder) (n : List ℕ) → AreAlike f g → AreAlike (map_of.remove f n) (map_of.remove g n)
-unfolding AreAlike
-alike_gone f g n h q = ap is_some (gone f n q) ∙ neither_way (same q n) _ _ (h q) ∙ ap is_some (sym (gone g n q))
-
 alike_after : (f g : Folder) (c : Change) → AreAlike f g → AreAlike (effect f c) (effect g c)
-unfolding effect
-alike_after f g (Write n b) h = alike_written f g n b b h
-alike_after f g (Replace n b) h = alike_written f g n b b h
-alike_after f g (Rename a b) h = alike_written _ _ b _ _ (alike_gone f g a h)
-alike_after f g (Remove n) h = alike_gone f g n h
+alike_after f g c h = unfold AreAlike effect in grind (arith, written, gone)
 
 alike_applicable : (f g : Folder) (c : Change) → AreAlike f g → is_applicable f c ≡ is_applicable g c
 unfolding is_applicable AreAlike
@@ -197,11 +175,8 @@ inverse_taken s (Rename a b) h =
     rw (here (map_of.remove s.files a) b (bytes_of s.files a), left_behind s.files a b from.0 to.0)
 inverse_taken s (Remove n) h = rw (nowhere s.files n, has_room (s.vacant + 1) (omega arith))
 
-vacant_back : (s : FolderState) (c : Change) → change_refusal s c ≡ None → vacant_after (vacant_after s.vacant c) (inverse s.files c) ≡ s.vacant
-vacant_back s c h = unfold change_refusal inverse in grind arith
-
 pub state_back : (s : FolderState) (c : Change) → change_refusal s c ≡ None → state_after (state_after s c) (inverse s.files c) ≡ s
-state_back s c h = λ i. record { files = undo_change s.files c (taken_is_applicable s c h) i; vacant = vacant_back s c h i }
+state_back s c h = unfold change_refusal inverse in grind (arith, undo_change, taken_is_applicable)
 
 pub takes_first : (s : FolderState) (c : Change) (cs : List Change) → IsTrue (takes_all s (c ∷ cs)) → change_refusal s c ≡ None
 takes_first s c cs h = unfold takes_all in none_from _ (and_parts _ _ h).0
@@ -261,16 +236,10 @@ changes_back s cs h = ap (λ f. way_back f (way_back s.files cs)) (state_files s
 abbrev pub with_room : FolderState → ℕ → FolderState
 with_room s k = record { files = s.files; vacant = s.vacant + k }
 
-more_room : (s : FolderState) (k : ℕ) (c : Change) → change_refusal s c ≡ None → (change_refusal (with_room s k) c ≡ None) × (state_after (with_room s k) c ≡ with_room (state_after s c) k)
-more_room s k c h = unfold change_refusal in grind arith
-
 pub more_room_all : (s : FolderState) (k : ℕ) (cs : List Change) → IsTrue (takes_all s cs) → IsTrue (takes_all (with_room s k) cs) × (state_after_all (with_room s k) cs ≡ with_room (state_after_all s cs) k)
-unfolding state_after_all
+unfolding change_refusal state_after_all
 more_room_all s k [] h = (takes_none _, refl)
-more_room_all s k (c ∷ cs) h =
-    let one = more_room s k c (takes_first s c cs h) in
-    let rest = more_room_all (state_after s c) k cs (takes_rest s c cs h) in
-    (takes_both (with_room s k) c cs one.0 (subst (λ t. IsTrue (takes_all t cs)) (sym one.1) rest.0), ap (λ t. state_after_all t cs) one.1 ∙ rest.1)
+more_room_all s k (c ∷ cs) h = grind (arith, common_steps, takes_first, takes_rest, takes_both, more_room_all (state_after s c) k cs (takes_rest s c cs h))
 
 -- with places enough a kept folder takes changes that apply in order
 pub takes_applicable : (s : FolderState) (cs : List Change) → IsTrue (are_applicable s.files cs) → places_taken cs ≤ s.vacant → IsTrue (takes_all s cs)

@@ -19,13 +19,10 @@ pub times_elements : (k : ℕ) (p : List ℕ) → k < 2 ^ 16 → AreElements p �
 times_elements k [] small h = tt
 times_elements k (a ∷ p) small h = (product-lt k a small h.0, times_elements k p small h.1)
 
-pub times_root_elements : (c : ℕ) (p : List ℕ) → c < 2 ^ 16 → AreElements p → AreElements (times_root c p)
-times_root_elements c p small h = plus_elements (times c p) (0 ∷ p) (times_elements c p small h) (omega arith, h)
-
 pub with_roots_elements : (points : List ℕ) → AreElements points → AreElements (with_roots points)
 unfolding with_roots
 with_roots_elements [] h = (omega arith, tt)
-with_roots_elements (c ∷ points) h = times_root_elements c (with_roots points) h.0 (with_roots_elements points h.1)
+with_roots_elements (c ∷ points) h = grind (arith, plus_elements, times_elements, with_roots_elements points h.1)
 
 pub quotient_elements : (c : ℕ) (p : List ℕ) → c < 2 ^ 16 → AreElements p → AreElements (quotient c p)
 unfolding quotient

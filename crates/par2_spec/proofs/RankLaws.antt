@@ -1,5 +1,5 @@
 -- The tests over all vectors and all texts say what the words say.
-use Rattle.par2_spec.proofs.Common.{◌≡◌, ℕ, ◌^◌, ◌<◌, List, [], ◌∷◌, length, map, refl, sym, ap, ◌∙◌, subst, true, false, Bool, ◌&&◌, not, arith, ◌↔◌, ◌==◌, filter, find, zip, Option, Some, None, is_some, unwrap_or, nat_eq, list_all, list_any, AllByRecursion, AllZip, Contains, ForSome, bytes_eq, and_parts, and_from, eqb-true, eq-eqb, ltb-true, lt-ltb, not_from_false, false_from_ne_true, false≢true, true_from_ne_false, both_ways, not-true, AllZip-long, nat_eq_equiv, coefficients, recovery, dot, kills, is_zero, is_repairable, kept, smaller, Kills, IsRepairable, IsKept, IsVector, Agrees, is_as_known, kept_slices, IsRebuilt, is_independent, is_solvable, agrees, ParSet, lost, survivors, all_lists, all_texts, all_below, rebuilt, IsTrue}
+use Rattle.par2_spec.proofs.Common.{◌≡◌, ℕ, ◌^◌, ◌<◌, List, [], ◌∷◌, length, map, refl, sym, ap, ◌∙◌, subst, true, Bool, ◌&&◌, not, arith, ◌↔◌, ◌==◌, filter, find, zip, Option, Some, None, is_some, unwrap_or, nat_eq, list_all, list_any, AllByRecursion, AllZip, Contains, ForSome, bytes_eq, and_parts, and_from, eqb-true, eq-eqb, ltb-true, lt-ltb, not_from_false, false_from_ne_true, false≢true, true_from_ne_false, both_ways, not-true, AllZip-long, nat_eq_equiv, coefficients, recovery, dot, kills, is_zero, is_repairable, kept, smaller, Kills, IsRepairable, IsKept, IsVector, Agrees, is_as_known, kept_slices, IsRebuilt, is_independent, is_solvable, agrees, ParSet, lost, survivors, all_lists, all_texts, all_below, rebuilt, IsTrue}
 use Rattle.std.specs.FinMap as map_of
 use Rattle.std.proofs.lemmas.Map.Views.{Contains-from_any, list_any-from_Contains}
 use Rattle.par2_spec.proofs.ListsLaws.{AreOf, IsBelow, some_list, all_below_are, all_below_complete, all_lists_are, all_lists_complete, find_one, filter-none, all-both}
@@ -122,12 +122,9 @@ kept-iff lost survivors e =
 
 -- ---- where no slice is lost
 
-nothing_told : (before : List (List ℕ)) → is_independent 0 before [] ≡ false
-nothing_told before = unfold is_independent dot all_lists in by_test (list_all (kills []) before) (λ e. rw e) (λ e. rw e)
-
 -- no exponent tells anything
 pub none_kept : (survivors : List ℕ) → kept [] survivors ≡ []
-none_kept survivors = filter-none _ survivors (λ e. nothing_told (map (coefficients []) (smaller e survivors)))
+none_kept survivors = unfold all_lists dot is_independent in grind (arith, filter-none, by_test)
 
 -- ---- lists that agree
 

@@ -481,12 +481,9 @@ module _ (folder : Folder) (set : ParSet) (given : List (List ℕ)) (fits : Fits
   unwritten : (q : List ℕ) → is_among (unwon folder set given fits) q ≡ false → map_of.get (after_repair folder set given) q ≡ map_of.get (settled folder set given fits) q
   unwritten q h = grind (arith, after_is, get_laid, written_names, among-filter, and-false)
 
-  unwon_wanted : (q : List ℕ) → is_among (unwon folder set given fits) q ≡ true → is_among (wanted folder set given fits) q ≡ true
-  unwon_wanted q h = subst (λ ns. is_among ns q ≡ true) (heads folder set given fits) (among_some (λ m. m.0.name) (λ m. is_none m.1) (matches folder set given) q h)
-
   -- a name that no target needs stands as it did with the asides
   unwanted : (q : List ℕ) → is_among (wanted folder set given fits) q ≡ false → map_of.get (after_repair folder set given) q ≡ map_of.get with_asides q
-  unwanted q h = grind (arith, unwritten, false_from_ne_true, clash, unwon_wanted, get_laid, names-matched, won_wanted)
+  unwanted q h = grind (arith, unwritten, false_from_ne_true, clash, get_laid, names-matched, won_wanted, heads, among_some)
 
   matched_hold : (f after : Folder) (ms : Pairs) → AllByRecursion (λ file. map_of.get after file.0 ≡ Some file.1) (matched_files f ms) → AllByRecursion (λ m. ForSome m.1 (λ name. map_of.get after m.0.name ≡ Some (bytes_of f name))) ms
   matched_hold f after [] h = tt

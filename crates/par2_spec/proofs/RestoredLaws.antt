@@ -77,9 +77,6 @@ same_slices s a b positive long e = sym (slices_joined s a positive) ∙ ap (λ 
 pairs-target : (s : ℕ) (file : File) → (target_of_file s file).pairs ≡ map pair_of (slices s file.1)
 pairs-target s file = unfold record_of in refl
 
-length-target : (s : ℕ) (file : File) → (target_of_file s file).length ≡ length file.1
-length-target s file = unfold record_of in refl
-
 pairs_of_files : (s : ℕ) (files : List File) → flat_map (λ t. t.pairs) (map (target_of_file s) files) ≡ map pair_of (all_slices s files)
 pairs_of_files s [] = refl
 pairs_of_files s (file ∷ files) = grind (arith, pairs-target, map-append, pairs_of_files s files)
@@ -95,8 +92,9 @@ all_cut ts xs = map cut_out (zip ts (cut_into (map (λ t. length t.pairs) ts) xs
 
 -- the files cut out of all slices
 cut_files : (s : ℕ) (files : List File) → 0 < s → all_cut (map (target_of_file s) files) (all_slices s files) ≡ map (with_file s) files
+unfolding record_of
 cut_files s [] positive = refl
-cut_files s (file ∷ files) positive = grind (arith, pairs-target, length-map, take-append_seam, drop-append_seam, length-target, slices_joined, cut_files s files positive)
+cut_files s (file ∷ files) positive = grind (arith, pairs-target, length-map, take-append_seam, drop-append_seam, slices_joined, cut_files s files positive)
 
 -- ---- what is found is true
 

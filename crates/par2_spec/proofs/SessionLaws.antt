@@ -1,6 +1,6 @@
 -- A session is a history, and a kept session keeps its room.
 use Rattle.par2_spec.proofs.Common.{◌≡◌, ℕ, zero, suc, ◌+◌, ◌-◌, ◌≤◌, List, [], ◌∷◌, refl, sym, ap, ◌∙◌, true, arith, Option, None, Result, Ok, Err, replicate, sum_by, is_ok, AllByRecursion, and_parts, and_from, false≢true, sum_by-cons, drop-nil, Fault, Folder, Change, Write, Replace, Rename, Remove, state_after, effects, are_applicable, way_back, FolderState, takes_all, places_taken, state_after_all, Command, Action, Do, Undo, Redo, refusal, changes_of, LeadsToAfter, LeadsToAfterAsked, Session, first_entry, changes_unless, others, session_unless, KeptSession, session_of_kept, CanWalk, OnlyGrew, folders_along, history_of, changes_asked, session_with, session_after, walks, kept_done, kept_undone, kept_redone, is_valid, leads, drop, length}
-use Rattle.par2_spec.specs.History.{History, Refusal, NothingToUndo, NothingToRedo, in_front, after_command, unless_refused, after_undo, after_redo, Run, Ended, Accepted, Passed, folders, IsChanging}
+use Rattle.par2_spec.specs.History.{History, Refusal, NothingToUndo, NothingToRedo, after_command, unless_refused, after_undo, after_redo, Run, Ended, Accepted, Passed, folders, IsChanging}
 use Rattle.par2_spec.specs.History.{history_after}
 use Rattle.par2_spec.proofs.FolderLaws.{undo_changes, undo_are_applicable, state_files, taken_are_applicable, state_all_back, way_back_taken, changes_back, with_room, more_room_all, takes_applicable}
 
@@ -27,28 +27,13 @@ leads_back folder cs entries h l = unfold leads in and_from _ _ (undo_are_applic
 
 -- ---- an accepted action
 
-abbrev at_command : Session → List Change → Session
-at_command s cs = record { folder = effects s.folder cs; undos = way_back s.folder cs ∷ s.undos; redos = [] }
-
-command_in_front : (s : Session) (cs : List Change) (folder : Folder) → are_applicable s.folder cs ≡ true → effects s.folder cs ≡ folder → in_front folder (history_of s) ≡ history_of (at_command s cs)
-command_in_front s cs folder h e = unfold history_of folders_along in λ i. record { older = sym (along_back s.folder cs s.undos h) i; now = sym e i; newer = [] }
-
-done_is : (s : Session) (command : Command) → LeadsToAfter s.folder command → after_command command (history_of s) ≡ history_of (session_with s (Do command) (changes_of s.folder command))
-done_is s command l = unfold session_with history_of in grind (arith, command_in_front)
-
-valid_command : (s : Session) (cs : List Change) → is_valid s ≡ true → are_applicable s.folder cs ≡ true → is_valid (at_command s cs) ≡ true
-valid_command s cs v h = unfold leads in and_from _ _ (leads_back s.folder cs s.undos h (and_parts (leads s.folder s.undos) (leads s.folder s.redos) v).0) refl
-
-valid_done : (s : Session) (command : Command) → is_valid s ≡ true → LeadsToAfter s.folder command → is_valid (session_with s (Do command) (changes_of s.folder command)) ≡ true
-valid_done s command v l = unfold session_with in grind (arith, valid_command)
-
 -- a session after an accepted action: it is the history after it, and can be walked again
 abbrev IsNext : Session → Action → Session → Type 0
 IsNext s action t = (history_after (history_of s) action ≡ Ok (history_of t)) × (is_valid t ≡ true)
 
 done_next : (s t : Session) (command : Command) (o : Option Fault) → is_valid s ≡ true → (o ≡ None → LeadsToAfter s.folder command) → session_unless s (Do command) (changes_unless o (changes_of s.folder command)) ≡ Ok t
     → (unless_refused o (after_command command (history_of s)) ≡ Ok (history_of t)) × (is_valid t ≡ true)
-done_next s t command o v l h = grind (arith, ok_no_err, same_ok, done_is, valid_done)
+done_next s t command o v l h = unfold folders_along history_of leads session_with in grind (arith, ok_no_err, same_ok, along_back, and_from, leads_back, and_parts)
 
 abbrev session_at : Folder → List (List Change) → List (List Change) → Session
 session_at folder undos redos = record { folder = folder; undos = undos; redos = redos }

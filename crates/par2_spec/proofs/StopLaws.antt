@@ -1,9 +1,9 @@
 -- Whatever a stopped command left, it opens as the session from before it.
-use Rattle.par2_spec.proofs.Common.{◌≡◌, ℕ, zero, suc, ◌+◌, ◌-◌, ◌<◌, ◌≤◌, List, [], ◌∷◌, ◌++◌, length, map, take, drop, get_or, refl, sym, ap, ◌∙◌, subst, cond, true, false, Bool, not, ◌&&◌, inl, arith, length-append, length-drop, IfSome, reverse, position, Option, Some, None, Result, Ok, Err, unwrap_or, is_some, if◌then◌else◌, AllByRecursion, position_from, bytes_eq, drop-append_seam, take-append_seam, reverse-reverse, reverse-append, length-reverse, get_or-reverse, get_or-map, take-append-drop, length-map, length-take-le, take-map, take-take, get_or-take, drop-drop, reverse_onto, common_steps, and_parts, and_from, false≢true, position_from-zero, Folder, fingerprint, Change, effect, inverse, is_applicable, effects, are_applicable, way_back, folders_after, Session, session_of, is_valid, Opened, Settled, Halfway, opened_if_found, opened_by_part, TellsApart, session_of_opened, kept_in, settled_journal, halfway_journal, leads, leads_through, taken_back, opened, OpensAs, Opens, HalfwayJournalOpensAsBefore, HalfwayTextOpensAsBefore, HalfwayJournalStillOpens, HalfwayTextStillOpens, append-nil}
+use Rattle.par2_spec.proofs.Common.{◌≡◌, ℕ, zero, suc, ◌+◌, ◌-◌, ◌<◌, ◌≤◌, List, [], ◌∷◌, ◌++◌, length, map, take, drop, get_or, refl, sym, ap, ◌∙◌, subst, cond, true, false, Bool, ◌&&◌, inl, arith, length-append, length-drop, IfSome, reverse, position, Option, Some, None, Result, Ok, Err, unwrap_or, is_some, if◌then◌else◌, AllByRecursion, position_from, bytes_eq, drop-append_seam, take-append_seam, reverse-reverse, reverse-append, length-reverse, get_or-reverse, get_or-map, take-append-drop, length-map, length-take-le, take-map, take-take, get_or-take, drop-drop, reverse_onto, common_steps, and_parts, and_from, false≢true, position_from-zero, Folder, fingerprint, Change, effect, inverse, is_applicable, effects, are_applicable, way_back, folders_after, Session, session_of, is_valid, Opened, Settled, Halfway, opened_if_found, opened_by_part, TellsApart, session_of_opened, kept_in, settled_journal, halfway_journal, leads, leads_through, taken_back, opened, OpensAs, Opens, HalfwayJournalOpensAsBefore, HalfwayTextOpensAsBefore, HalfwayJournalStillOpens, HalfwayTextStillOpens, append-nil}
 use Rattle.par2_spec.specs.declared.Version.{Version}
 use Rattle.par2_spec.specs.Journals.{Journal, HalfwayPart, IsHalfwayPart, Spells}
 use Rattle.par2_spec.specs.declared.JournalFault.{JournalFault}
-use Rattle.par2_spec.specs.declared.JournalFault.TheVariants.{JournalInvalid, FolderChanged}
+use Rattle.par2_spec.specs.declared.JournalFault.TheVariants.{JournalInvalid}
 use Rattle.par2_spec.proofs.Basics.{undo_changes, undo_change, undo_is_applicable, effects-append, way_back-append, itself, same_name, all_get, by_test}
 
 -- ---- places in a list
@@ -121,14 +121,8 @@ way_back_through folder (c ∷ cs) h =
 abbrev with_folder : Folder → Session → Session
 with_folder folder s = record { folder = folder; undos = s.undos; redos = s.redos }
 
-undos_back : (undos rest : List (List Change)) → reverse (take (length undos) (reverse undos ++ rest)) ≡ undos
-undos_back undos rest = grind (arith, length-reverse, take-append_seam, reverse-reverse)
-
-redos_back : (undos rest : List (List Change)) → drop (length undos) (reverse undos ++ rest) ≡ rest
-redos_back undos rest = ap (λ n. drop n (reverse undos ++ rest)) (sym (length-reverse undos)) ∙ drop-append_seam (reverse undos) rest
-
 session_of_settled : (v : Version) (s : Session) (folder : Folder) → session_of folder (settled_journal v s) ≡ with_folder folder (kept_in v s)
-session_of_settled v s folder = unfold settled_journal in grind (arith, common_steps, append-nil, undos_back, redos_back)
+session_of_settled v s folder = unfold settled_journal in grind (arith, common_steps, append-nil, length-reverse, take-append_seam, reverse-reverse, drop-append_seam)
 
 kept_is_valid : (v : Version) (s : Session) → is_valid s ≡ true → is_valid (kept_in v s) ≡ true
 kept_is_valid v s h = unfold leads in grind arith
@@ -136,20 +130,12 @@ kept_is_valid v s h = unfold leads in grind arith
 kept_folder : (v : Version) (s : Session) → with_folder s.folder (kept_in v s) ≡ kept_in v s
 kept_folder v s = grind arith
 
-not_halfway : (v : Version) (s : Session) → (settled_journal v s).halfway ≡ None
-not_halfway v s = unfold settled_journal in grind arith
-
 print_of : (v : Version) (s : Session) → (settled_journal v s).fingerprint ≡ fingerprint s.folder
 print_of v s = unfold settled_journal in grind arith
 
 -- the settled journal of a session opens as it
 pub settled_opens : (v : Version) (s : Session) → is_valid s ≡ true → opened s.folder (settled_journal v s) ≡ Ok (Settled (kept_in v s))
-settled_opens v s h = unfold opened in
-    ap (λ o. opened_by_part s.folder (settled_journal v s) o) (not_halfway v s)
-    ∙ ap (λ p. if not (bytes_eq (fingerprint s.folder) p) then Err (FolderChanged false) else if is_valid (session_of s.folder (settled_journal v s)) then Ok (Settled (session_of s.folder (settled_journal v s))) else Err JournalInvalid) (print_of v s)
-    ∙ ap (λ b. if not b then Err (FolderChanged false) else if is_valid (session_of s.folder (settled_journal v s)) then Ok (Settled (session_of s.folder (settled_journal v s))) else Err JournalInvalid) (itself (fingerprint s.folder))
-    ∙ ap (λ t. if is_valid t then Ok (Settled t) else Err JournalInvalid) (session_of_settled v s s.folder ∙ kept_folder v s)
-    ∙ ap (λ b. if b then Ok (Settled (kept_in v s)) else Err JournalInvalid) (kept_is_valid v s h)
+settled_opens v s h = unfold opened settled_journal in grind (arith, common_steps, print_of, itself, session_of_settled, kept_folder, kept_is_valid)
 
 -- ---- a halfway command
 
@@ -231,12 +217,8 @@ record TakesBack (folder : Folder) (journal : Journal) (s : Session) (back : Lis
   session : s ≡ session_of (effects folder back) journal
   valid : is_valid s ≡ true
 
-taken_parts : (folder : Folder) (journal : Journal) (h : HalfwayPart) (k : ℕ) (s : Session) (back : List Change) → journal.halfway ≡ Some h → position (bytes_eq (fingerprint folder)) (journal.fingerprint ∷ h.fingerprints) ≡ Some k
-    → taken_back folder journal h k ≡ Ok (Halfway s back) → TakesBack folder journal s back
-taken_parts folder journal h k s back there found e = unfold taken_back back_of session_or in grind (arith, settled_is, and_parts, back_of, session_or)
-
 takes_back : (folder : Folder) (journal : Journal) (s : Session) (back : List Change) → opened folder journal ≡ Ok (Halfway s back) → TakesBack folder journal s back
-takes_back folder journal s back e = unfold opened back_of in grind (arith, settled_is, taken_parts, by_test)
+takes_back folder journal s back e = unfold back_of opened session_or taken_back in grind (arith, back_of, settled_is, by_test, session_or, and_parts)
 
 -- ---- a stop while a command is taken back
 

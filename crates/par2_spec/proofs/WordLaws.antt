@@ -1,6 +1,6 @@
 -- Words of texts, texts by their words, and vectors of texts.
 use Rattle.par2_spec.proofs.TestLaws.{by_either}
-use Rattle.par2_spec.proofs.Common.{ℕ, zero, suc, ◌+◌, ◌*◌, ◌/◌, ◌%◌, ◌^◌, ◌<◌, ◌≤◌, ◌≡◌, refl, sym, ap, ap₂, ◌∙◌, arith, List, [], ◌∷◌, length, get_or, set, map, Vec, Global, length-set, w16, to_le_bytes, AllByRecursion, range_with_len, cases_eq, map-set, get_or-set_same, get_or-set_other, length-map, get_or-map, get_or_past, ext_get_or, word, dot, combination, list_at, lists_of, OneChanged, ◌↔◌, flat_map}
+use Rattle.par2_spec.proofs.Common.{ℕ, zero, suc, ◌+◌, ◌*◌, ◌/◌, ◌%◌, ◌^◌, ◌<◌, ◌≤◌, ◌≡◌, refl, sym, ap, ap₂, ◌∙◌, arith, List, [], length, get_or, set, map, Vec, Global, length-set, w16, to_le_bytes, AllByRecursion, range_with_len, cases_eq, map-set, get_or-set_same, get_or-set_other, length-map, get_or-map, get_or_past, ext_get_or, word, dot, combination, list_at, lists_of, OneChanged, ◌↔◌, flat_map}
 use Rattle.par2_spec.proofs.ListsLaws.{all_at}
 
 pub word_past : (xs : List ℕ) (w : ℕ) → length xs ≤ 2 * w → word w xs ≡ 0
@@ -19,9 +19,6 @@ byte_at text fits = all_at (λ b. b < 256) 0 (omega arith) text fits
 pub bytes_at : (texts : List (List ℕ)) → AllByRecursion (λ text. AllByRecursion (λ b. b < 256) text) texts → (i k : ℕ) → get_or (list_at texts i) k 0 < 256
 bytes_at texts fit i = byte_at (list_at texts i) (all_at (λ (text : List ℕ). AllByRecursion (λ b. b < 256) text) [] tt texts fit i)
 
-pub word_behind : (p a b : ℕ) (text : List ℕ) → word (suc p) (a ∷ b ∷ text) ≡ word p text
-word_behind p a b text = grind arith
-
 -- ---- texts of given words
 
 -- the text whose words from place a on are these
@@ -39,7 +36,7 @@ bytes-spelled f a (suc n) = (omega arith, (omega arith, bytes-spelled f (a + 1) 
 word-spelled : (f : ℕ → ℕ) → ((p : ℕ) → f p < 2 ^ 16) → (a n p : ℕ) → p < n → word p (spelled f a n) ≡ f (a + p)
 word-spelled f small a zero p lt = absurd (omega (arith, lt))
 word-spelled f small a (suc n) zero lt = grind arith
-word-spelled f small a (suc n) (suc p) lt = word_behind p _ _ (spelled f (a + 1) n) ∙ word-spelled f small (a + 1) n p (omega (arith, lt)) ∙ ap f (omega arith)
+word-spelled f small a (suc n) (suc p) lt = grind (arith, word-spelled f small (a + 1) n p (omega (arith, lt)))
 
 pub word_of : (f : ℕ → ℕ) → ((p : ℕ) → f p < 2 ^ 16) → (n p : ℕ) → p < n → word p (spelled f 0 n) ≡ f p
 word_of f small n p lt = let e : 0 + p ≡ p = omega arith in word-spelled f small 0 n p lt ∙ ap f e

@@ -47,11 +47,6 @@ module _ {P : Type 0} (seen : P → Writer) where
   pub wrote_less : (a b : P) (xs ys : List ℕ) → TookPart (seen a) (seen b) xs → TookPart (seen a) (seen b) (xs ++ ys)
   wrote_less a b xs ys p = grind (arith, length-append, take-append-le)
 
-  -- the lines before the i-th were written, and then that one
-  pub lines_next : {X : Type 0} (f : X → List ℕ) (a b c : P) (items : List X) (i : ℕ) (item : X) → i < length items
-      → TookAll (seen a) (seen b) (flat_map f (take i items)) → TookAll (seen b) (seen c) (f (get_or items i item)) → TookAll (seen a) (seen c) (flat_map f (take (i + 1) items))
-  lines_next f a b c items i item within before one = grind (arith, common_steps, take_more, flat_map-append, append-nil, took_both)
-
   -- the lines before the i-th were written, and then a part of that one
   pub lines_cut : {X : Type 0} (f : X → List ℕ) (a b c : P) (items : List X) (i : ℕ) (item : X) → i < length items
       → TookAll (seen a) (seen b) (flat_map f (take i items)) → TookPart (seen b) (seen c) (f (get_or items i item)) → TookPart (seen a) (seen c) (flat_map f items)
@@ -76,4 +71,4 @@ module _ {P : Type 0} (seen : P → Writer) where
   pub shown_lines_next : {X Y : Type 0} (f : Y → List ℕ) (view : X → Y) (a b c : P) (items : List X) (i : ℕ) (item : X) (shown : Y)
       → i < length items → shown ≡ view (get_or items i item) → TookAll (seen a) (seen b) (flat_map f (map view (take i items)))
       → TookAll (seen b) (seen c) (f shown) → TookAll (seen a) (seen c) (flat_map f (map view (take (i + 1) items)))
-  shown_lines_next f view a b c items i item shown within is before one = grind (arith, common_steps, lines_next, flat_map-map)
+  shown_lines_next f view a b c items i item shown within is before one = grind (arith, common_steps, flat_map-map, take_more, flat_map-append, append-nil, took_both)

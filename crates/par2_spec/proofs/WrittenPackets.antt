@@ -94,12 +94,8 @@ accepted_first text h one = unfold begins_with_packet in grind (arith, accepted-
 fourth : (a b c d e f : Bool) → (a && b && c && d && e && f) ≡ true → d ≡ true
 fourth a b c d e f h = (and_parts (a && b && c) d (and_parts (a && b && c && d) e (and_parts (a && b && c && d && e) f h).0).0).1
 
--- a packet at the front claims a length of at least one byte
-one_at_least : (text : List ℕ) → begins_with_packet text ≡ true → 64 ≤ claimed_length text
-one_at_least text h = unfold begins_with_packet in grind (arith, leb-true, fourth)
-
 pub in_front : (text : List ℕ) → begins_with_packet text ≡ true → accepted text ≡ first_packet text ∷ accepted (drop (claimed_length text) text)
-in_front text h = accepted_first text h (let far : 64 ≤ claimed_length text = one_at_least text h in omega arith)
+in_front text h = unfold begins_with_packet in grind (arith, accepted_first, leb-true, fourth)
 
 -- a packet that was written is read as it is, and what follows it as it was
 pub packet_then : (p : Packet) (t : List ℕ) → IsPacket p → accepted (packet p ++ t) ≡ p ∷ accepted t
@@ -125,11 +121,8 @@ packet_then p t is = unfold packet in
     ∙ ap (λ (q : Kind). let r : Packet = record { set_id = p.set_id; kind = q; body = p.body } in r ∷ accepted (drop (claimed_length text) text)) is.kind.1
     ∙ ap (λ (x : List ℕ). p ∷ accepted x) (after text magic l d p.set_id k p.body t made)
 
-fails_first : (a b c d e f : Bool) → a ≡ false → (a && b && c && d && e && f) ≡ false
-fails_first a b c d e f h = rw h refl
-
 short_front : (text : List ℕ) → length text < 64 → begins_with_packet text ≡ false
-short_front text lt = unfold begins_with_packet in fails_first _ _ _ _ _ _ (lt-leb 64 (length text) lt)
+short_front text lt = unfold begins_with_packet in grind (arith, lt-leb)
 
 -- a short text has no packets
 pub none_short : (text : List ℕ) → length text < 64 → accepted text ≡ []

@@ -186,17 +186,8 @@ desc_reads file i d s low none = unfold read_desc in
 main_known : IsCanonical Main
 main_known = unfold kind_of in (refl, refl)
 
-desc_known : IsCanonical FileDesc
-desc_known = unfold kind_of in (refl, refl)
-
 ifsc_known : IsCanonical Ifsc
 ifsc_known = unfold kind_of in (refl, refl)
-
-recovery_known : IsCanonical Recovery
-recovery_known = unfold kind_of in (refl, refl)
-
-creator_known : IsCanonical Creator
-creator_known = unfold kind_of in (refl, refl)
 
 -- a packet of a body whose length is a multiple of 4
 made : (id : List ℕ) (kind : Kind) (body : List ℕ) (n : ℕ) → length id ≡ 16 → IsCanonical kind → length body ≡ 4 * n → n < 2 ^ 60 → IsPacket (packet_of id kind body)
@@ -216,11 +207,8 @@ main_packet s files few each =
     let size : length (main_bytes s files) ≡ 12 + 16 * n = length-append (to_le_bytes w64 s ++ to_le_bytes w32 n) rest ∙ ap (λ (k : ℕ). 12 + k) items in
     made (main_id s files) Main (main_bytes s files) (3 + 4 * n) (length-md5 (main_bytes s files)) main_known (omega (arith, size)) (omega (arith, few))
 
-padded_length : (text : List ℕ) → length (padded_4 text) ≡ length text + (4 - length text % 4) % 4
-padded_length text = length-append text (replicate ((4 - length text % 4) % 4) 0) ∙ ap (λ (k : ℕ). length text + k) (length-replicate ((4 - length text % 4) % 4) (let z : ℕ = 0 in z))
-
 pub desc_packet : (id : List ℕ) (file : FileRecord) → length id ≡ 16 → IsFileRecord file → IsPacket (packet_of id FileDesc (desc_bytes file))
-desc_packet id file sixteen is = grind (arith, padded_length, length-append, made, desc_known)
+desc_packet id file sixteen is = unfold kind_of in grind (arith, length-append, made, length-replicate)
 
 pub ifsc_packet : (id : List ℕ) (file : FileRecord) → length id ≡ 16 → IsFileRecord file → IsPacket (packet_of id Ifsc (ifsc_bytes file))
 ifsc_packet id file sixteen is =
@@ -229,10 +217,10 @@ ifsc_packet id file sixteen is =
     made id Ifsc (ifsc_bytes file) (4 + 5 * length file.pairs) sixteen ifsc_known (omega (arith, size)) (omega (arith, is.pairs_size))
 
 pub creator_packet : (id : List ℕ) → length id ≡ 16 → IsPacket (packet_of id Creator creator_bytes)
-creator_packet id sixteen = made id Creator creator_bytes 5 sixteen creator_known refl (omega arith)
+creator_packet id sixteen = unfold kind_of in grind (arith, made)
 
 pub recovery_packet : (id : List ℕ) (e : ℕ) (bytes : List ℕ) → length id ≡ 16 → length bytes % 4 ≡ 0 → length bytes < 2 ^ 60 → IsPacket (packet_of id Recovery (recovery_bytes e bytes))
-recovery_packet id e bytes sixteen even few = grind (arith, length-append, made, recovery_known)
+recovery_packet id e bytes sixteen even few = unfold kind_of in grind (arith, length-append, made)
 
 -- ---- the packets of files
 
