@@ -1,5 +1,5 @@
 -- The checksum is linear over the exclusive or, a bit, a byte or any number of bytes at a time.
-use Rattle.par2_spec.proofs.Common.{◌≡◌, ℕ, zero, suc, ◌+◌, ◌*◌, ◌^◌, ◌<◌, ◌%◌, ◌/◌, List, [], ◌∷◌, ◌++◌, length, refl, sym, ap, ◌∙◌, arith, fold, replicate, bit_at, xor_assoc, xor_self, xor_zero_r, mul_assoc, xor_comm, xor_shr, xor_block, shr_split, mod_below, length_push, bit_at_lowest, bit_at_xor, crc_step, crc_steps, crc_byte, crc32, bit_xor, pow-suc, zero-mul, pow_pos}
+use Rattle.par2_spec.proofs.Common.{◌≡◌, ℕ, zero, suc, ◌+◌, ◌*◌, ◌^◌, ◌<◌, ◌%◌, ◌/◌, List, [], ◌∷◌, ◌++◌, length, refl, sym, ap, ◌∙◌, arith, pow-suc, zero-mul, pow_pos, fold, replicate, bit_at, xor_assoc, xor_self, xor_zero_r, mul_assoc, xor_comm, xor_shr, xor_block, shr_split, mod_below, length_push, bit_at_lowest, bit_at_xor, crc_step, crc_steps, crc_byte, crc32, bit_xor}
 use Rattle.par2_spec.proofs.Basics.{xor_middle, xor_off}
 
 lowest_of_xor : (a b : ℕ) → bit_xor a b % 2 ≡ (a % 2 + b % 2) % 2

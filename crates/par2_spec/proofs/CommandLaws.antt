@@ -1,5 +1,5 @@
 -- The changes of a command lead to its folder.
-use Rattle.par2_spec.proofs.Common.{◌≡◌, ℕ, List, [], ◌∷◌, map, refl, sym, ap, ◌∙◌, true, Bool, cond, not, ◌||◌, if◌then◌else◌, Option, None, get-remove, get-retain_keys, slice_cmp-IsAntisymmetric, nat_cmp-IsAntisymmetric, nat_cmp, Equal, slice_cmp, nat_list_cmp_total, bytes_eq, is_eq-slice_cmp, is_among, Folder, has, File, without, laid_over, Write, Replace, Remove, effect, effects, CreateArgs, outputs_of, create_changes, arith}
+use Rattle.par2_spec.proofs.Common.{◌≡◌, ℕ, List, [], ◌∷◌, map, refl, sym, ap, ◌∙◌, true, Bool, cond, not, ◌||◌, arith, if◌then◌else◌, Option, None, get-remove, get-retain_keys, slice_cmp-IsAntisymmetric, nat_cmp-IsAntisymmetric, nat_cmp, Equal, slice_cmp, nat_list_cmp_total, bytes_eq, is_eq-slice_cmp, is_among, Folder, has, File, without, laid_over, Write, Replace, Remove, effect, effects, CreateArgs, outputs_of, create_changes}
 use Rattle.par2_spec.proofs.FolderLaws.{same_folder}
 use Rattle.std.specs.FinMap as map_of
 

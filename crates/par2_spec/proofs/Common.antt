@@ -19,7 +19,7 @@ pub use Rattle.std.proofs.lemmas.Map.Keys.{IsDistinct-IsPermutation, IsStrictlyI
 pub use Rattle.std.proofs.lemmas.Map.Made.{IsDistinct-from_AllPairs, length-le_from_is_member}
 pub use Rattle.std.proofs.lemmas.Map.Text.{is_eq-slice_cmp}
 pub use Rattle.std.proofs.lemmas.Nat.{from_le_bytes-to_le_bytes_2, from_le_bytes-to_le_bytes_4, from_le_bytes-to_le_bytes_8, mod_below, pow_below, shr_split, xor_block, xor_comm, xor_lt, xor_shr}
-pub use Rattle.std.proofs.lemmas.Nat.Bits.{bit_at-lt, bit_at_lowest, bit_at_xor}
+pub use Rattle.std.proofs.lemmas.Nat.Bits.{bit_at_lowest, bit_at_xor}
 pub use Rattle.std.proofs.lemmas.Option.{none-some, same_Some}
 pub use Rattle.std.proofs.lemmas.Simd.{map-map}
 pub use Rattle.std.proofs.lemmas.Slice.Eq.{bytes_eq-Decides}
@@ -44,7 +44,7 @@ pub use Rattle.std.specs.declared.cmp.Ordering.{Ordering}
 pub use Rattle.std.specs.declared.cmp.Ordering.TheVariants.{Equal}
 pub use Rattle.md5.proofs.StandardFacts.{length-md5}
 pub use Rattle.md5.specs.Md5.{md5}
-pub use Rattle.par2_spec.specs.Changes.{Change, FolderState, Remove, Rename, Replace, Write, fault_unless, places_taken, state_after, vacant_after}
+pub use Rattle.par2_spec.specs.Changes.{Change, FolderState, Remove, Rename, Replace, Write, fault_unless, places_taken, state_after}
 unfoldable pub use Rattle.par2_spec.specs.Changes.{are_applicable, change_refusal, effect, effects, folders_after, inverse, is_applicable, state_after_all, takes_all, way_back}
 pub use Rattle.par2_spec.specs.Checksums.{IsPair, Pair, crc_byte, crc_step, crc_steps, pair_of}
 unfoldable pub use Rattle.par2_spec.specs.Checksums.{crc32}

@@ -260,8 +260,7 @@ solved is es goal small (suc m) = step (counts (kept is es) m) refl (solved is e
             | inl here ↦ subst (λ k. dot (coefficients is k) new.vector ≡ goal k) (sym here) new.hits
             | inr other ↦
                 let low : e < m = omega (arith, lt, other) in
-                let there = ((kept-iff is es e).0 c).0 in
-                let killed : dot (coefficients is e) v ≡ 0 = of_contained (λ k. k < m → Kills is k v) es e told.1.2 there low in
+                let killed : dot (coefficients is e) v ≡ 0 = of_contained (λ k. k < m → Kills is k v) es e told.1.2 (((kept-iff is es e).0 c).0) low in
                 ap (dot (coefficients is e)) new.is ∙ dot-sums (coefficients is e) (scaled new.factor v) before.vector long
                 ∙ ap (λ t. bit_xor t (dot (coefficients is e) before.vector)) (dot-scaled new.factor (coefficients is e) v new.small (coefficients_are e is) v_is.1 ∙ ap (mul new.factor) killed ∙ product-zero new.factor)
                 ∙ before.gives e low c

@@ -12,7 +12,7 @@ unfolding rises
 rises_at low high [] e i h = absurd (omega arith)
 rises_at low high (x ∷ xs) e i h =
     let at : (i : ℕ) → i < length (x ∷ xs) → low < x → x < high → ((j : ℕ) → j < length xs → (x < get_or xs j 0) × (get_or xs j 0 < high)) → (low < get_or (x ∷ xs) i 0) × (get_or (x ∷ xs) i 0 < high) =
-        λ i h l u later. grind arith in
+    λ i h l u later. grind arith in
     let parts = and_parts (ltb low x) (ltb x high && rises x high xs) e in
     let rest = and_parts (ltb x high) (rises x high xs) parts.1 in
     at i h (ltb-true low x parts.0) (ltb-true x high rest.0) (rises_at x high xs rest.1)

@@ -1,5 +1,5 @@
 -- 2 has the order 65535, and each element but 0 is a power of 2 and has one inverse.
-use Rattle.par2_spec.proofs.Common.{eqb-false, ℕ, zero, suc, ◌<◌, ◌≤◌, ◌≡◌, ◌⊎◌, inl, inr, refl, sym, ap, ◌∙◌, true, false, eqb, arith, List, [], ◌∷◌, length, ◌+◌, ◌-◌, ◌*◌, ◌^◌, ap₂, Bool, ◌&&◌, not, suc-add, zero-add, eqb-true, ne_eqb, or_cases, cases_eq, false≢true, not-true, and_parts, list_any, AllByRecursion, IsDistinct, bit_at, modulus, mul, pow, bit_xor}
+use Rattle.par2_spec.proofs.Common.{eqb-false, eqb-true, ne_eqb, or_cases, cases_eq, false≢true, not-true, and_parts, ℕ, zero, suc, ◌<◌, ◌≤◌, ◌≡◌, ◌⊎◌, inl, inr, refl, sym, ap, ◌∙◌, true, false, eqb, arith, List, [], ◌∷◌, length, ◌+◌, ◌-◌, ◌*◌, ◌^◌, ap₂, Bool, ◌&&◌, not, suc-add, zero-add, list_any, AllByRecursion, IsDistinct, bit_at, modulus, mul, pow, bit_xor}
 use Rattle.std.proofs.lemmas.Map.Steps.{length-le_from_distinct_below}
 use Rattle.par2_spec.proofs.FieldBits.{IsLinear, xor_middle, xor_shl, bit_xor_times, linear_same_tested, linear-zero, tested}
 use Rattle.par2_spec.proofs.FieldProducts.{product-lt, product_comm, product-one, product_assoc, product_linear_left, product_linear_right}

@@ -60,8 +60,7 @@ needing_hold : (folder after : Folder) (s : ℕ) (searched free : List (List ℕ
 unfolding record_of
 needing_hold folder after s searched free [] is_written within written by_slices exact by_match = tt
 needing_hold folder after s searched free (file ∷ files) is_written within written by_slices exact by_match =
-    let t = target_of_file s file in
-    let p = (λ (name : List ℕ). is_intact s t (bytes_of folder name)) in
+    let p = (λ (name : List ℕ). is_intact s (target_of_file s file) (bytes_of folder name)) in
     let later = filter (λ name. not (is_among (option_to_list (find p free)) name)) free in (
       head (find p free) (found_passes p free) (written file.0) by_match.0,
       needing_hold folder after s searched later files is_written

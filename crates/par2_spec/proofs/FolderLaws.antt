@@ -1,5 +1,5 @@
 -- A change and its inverse; changes in order and their way back; the same for a folder as it is kept.
-use Rattle.par2_spec.proofs.Common.{◌≡◌, ℕ, ◌+◌, ◌-◌, ◌<◌, ◌≤◌, List, [], ◌∷◌, ◌++◌, refl, sym, ap, subst, ◌∙◌, cond, true, Bool, not, ◌&&◌, IsTrue, append_assoc, append-nil, arith, unwrap_or, Some, None, Option, is_some, is_none, same_map, slice_cmp-IsAntisymmetric, nat_cmp-IsAntisymmetric, get-insert, get-remove, get_tied, nat_cmp, eq_by_cmp, is_eq, Ordering, Equal, eq_by_cmp_equiv, slice_cmp, nat_list_cmp_total, nat_tests, and_parts, and_from, Folder, has, bytes_of, Change, Write, Replace, Rename, Remove, FolderState, fault_unless, state_after, places_taken, effect, inverse, is_applicable, effects, way_back, are_applicable, change_refusal, takes_all, state_after_all, nat_lt, common_steps}
+use Rattle.par2_spec.proofs.Common.{◌≡◌, ℕ, ◌+◌, ◌-◌, ◌<◌, ◌≤◌, List, [], ◌∷◌, ◌++◌, refl, sym, ap, subst, ◌∙◌, cond, true, Bool, not, ◌&&◌, IsTrue, append_assoc, append-nil, arith, unwrap_or, Some, None, Option, is_some, is_none, nat_lt, same_map, slice_cmp-IsAntisymmetric, nat_cmp-IsAntisymmetric, get-insert, get-remove, get_tied, nat_cmp, eq_by_cmp, is_eq, Ordering, Equal, eq_by_cmp_equiv, slice_cmp, nat_list_cmp_total, nat_tests, and_parts, and_from, Folder, has, bytes_of, Change, Write, Replace, Rename, Remove, FolderState, fault_unless, state_after, places_taken, effect, inverse, is_applicable, effects, way_back, are_applicable, change_refusal, takes_all, state_after_all, common_steps}
 use Rattle.std.specs.FinMap as map_of
 use Rattle.par2_spec.specs.declared.ChangeFault.TheVariants.{NameTaken, NoSuchName}
 use Rattle.par2_spec.specs.declared.ChangeFault.{ChangeFault}
@@ -114,8 +114,7 @@ unfolding effects way_back are_applicable
 undo_are_applicable f [] h = refl
 undo_are_applicable f (c ∷ cs) h =
     let rest = (and_parts (is_applicable f c) (are_applicable (effect f c) cs) h).1 in
-    let end = effects (effect f c) cs in
-    are_applicable-append end (way_back (effect f c) cs) (inverse f c ∷ []) (undo_are_applicable (effect f c) cs rest)
+    are_applicable-append (effects (effect f c) cs) (way_back (effect f c) cs) (inverse f c ∷ []) (undo_are_applicable (effect f c) cs rest)
     (subst (λ g. IsTrue (are_applicable g (inverse f c ∷ []))) (sym (undo_changes (effect f c) cs rest)) (and_from _ _ (undo_is_applicable f c (and_parts _ _ h).0) refl))
 
 pub way_back_twice : (f : Folder) (cs : List Change) → IsTrue (are_applicable f cs) → way_back (effects f cs) (way_back f cs) ≡ cs

@@ -1,5 +1,5 @@
 -- Renames and writes one after the other, as one change of a map.
-use Rattle.par2_spec.proofs.Common.{◌≡◌, ℕ, ◌<◌, ◌^◌, List, [], ◌∷◌, ◌++◌, length, map, refl, sym, ap, ◌∙◌, subst, T, cond, true, false, Bool, not, ◌&&◌, ◌||◌, IsTrue, filter, Option, Some, None, is_some, unwrap_or, get-insert, get-remove, get-retain_keys, slice_cmp-IsAntisymmetric, nat_cmp-IsAntisymmetric, contains_key-keys, entries_sorted, nat_cmp, eq_by_cmp, is_lt, is_eq, Ordering, is_sorted, below_all, slice_cmp, nat_list_cmp_total, bytes_eq, list_any, AllByRecursion, is_eq-slice_cmp, or_left, or_right, or_from, false_from_ne_true, and_from, not_from_false, or_parts, is_name, is_among, Change, Write, Rename, Remove, effect, effects, is_applicable, are_applicable, Folder, has, bytes_of, names, File, files, without, IsFolder, laid_over, arith}
+use Rattle.par2_spec.proofs.Common.{◌≡◌, ℕ, ◌<◌, ◌^◌, List, [], ◌∷◌, ◌++◌, length, map, refl, sym, ap, ◌∙◌, subst, T, cond, true, false, Bool, not, ◌&&◌, ◌||◌, IsTrue, arith, filter, Option, Some, None, is_some, unwrap_or, get-insert, get-remove, get-retain_keys, slice_cmp-IsAntisymmetric, nat_cmp-IsAntisymmetric, contains_key-keys, entries_sorted, nat_cmp, eq_by_cmp, is_lt, is_eq, Ordering, is_sorted, below_all, slice_cmp, nat_list_cmp_total, bytes_eq, list_any, AllByRecursion, is_eq-slice_cmp, or_left, or_right, or_from, false_from_ne_true, and_from, not_from_false, or_parts, is_name, is_among, Change, Write, Rename, Remove, effect, effects, is_applicable, are_applicable, Folder, has, bytes_of, names, File, files, without, IsFolder, laid_over}
 use Rattle.std.specs.FinMap as map_of
 use Rattle.par2_spec.proofs.Basics.{same_folder, gone_first, none_gone, among-append, same_name, itself, clash, other_name, AreDistinct, not_first, T-parts, none_if, cond-not}
 
@@ -171,13 +171,13 @@ rest_moves f m moves c =
     let stays : (b a t : Bool) → a ≡ false → t ≡ true → (b || (not a && t)) ≡ true = λ b a t h k. grind arith in
     let out : (b a t : Bool) → b ≡ false → t ≡ false → (b || (not a && t)) ≡ false = λ b a t h k. grind arith in
     record {
-  sources_once = c.sources_once.1;
-  goals_once = c.goals_once.1;
-  there = λ q h. has_renamed f m.0 m.1 q
-      ∙ stays (bytes_eq q m.1) (bytes_eq q m.0) (has f q) (not_first m.0 (sources moves) c.sources_once.0 q h) (c.there q (or_right _ _ h));
-  free = λ q h. has_renamed f m.0 m.1 q
-      ∙ out (bytes_eq q m.1) (bytes_eq q m.0) (has f q) (not_first m.1 (goals moves) c.goals_once.0 q h) (c.free q (or_right _ _ h));
-}
+      sources_once = c.sources_once.1;
+      goals_once = c.goals_once.1;
+      there = λ q h. has_renamed f m.0 m.1 q
+          ∙ stays (bytes_eq q m.1) (bytes_eq q m.0) (has f q) (not_first m.0 (sources moves) c.sources_once.0 q h) (c.there q (or_right _ _ h));
+      free = λ q h. has_renamed f m.0 m.1 q
+          ∙ out (bytes_eq q m.1) (bytes_eq q m.0) (has f q) (not_first m.1 (goals moves) c.goals_once.0 q h) (c.free q (or_right _ _ h));
+    }
 
 pub renames_apply : (f : Folder) (moves : List Move) → CanMove f moves → are_applicable f (renames moves) ≡ true
 unfolding are_applicable is_applicable

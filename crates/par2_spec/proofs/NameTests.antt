@@ -1,5 +1,5 @@
 -- The tests of a name, one by one.
-use Rattle.par2_spec.proofs.Common.{◌≡◌, ◌∙◌, ℕ, List, [], ◌∷◌, length, ap, refl, true, false, not, codes, nat_le, nat_eq, ◌==◌, list_all, list_any, starts_with, bytes_eq, is_utf8, IsUtf8, and_parts, or_from, false_from_ne_true, IsUtf8-from_is_utf8, is_among, is_name, arith}
+use Rattle.par2_spec.proofs.Common.{◌≡◌, ◌∙◌, ℕ, List, [], ◌∷◌, length, ap, refl, true, false, not, arith, codes, nat_le, nat_eq, ◌==◌, list_all, list_any, starts_with, bytes_eq, is_utf8, IsUtf8, and_parts, or_from, false_from_ne_true, IsUtf8-from_is_utf8, is_among, is_name}
 use Rattle.par2_spec.proofs.Basics.{clash, other_name}
 
 pub record Tests (name : List ℕ) : Type 0 where

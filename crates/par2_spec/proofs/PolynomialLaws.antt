@@ -286,8 +286,8 @@ quotient_itself points c are first e =
     let hc = of_contained (λ x. x < 2 ^ 16) points c h first in
     let q = quotient c w in
     let at_all = all_from (λ z. value q z ≡ 0) 0 points (λ i low. by_either (cases_eq (get_or points i 0) c)
-        (λ same. ap (value q) same ∙ e)
-        (λ other. quotient_others points c (get_or points i 0) h first (Contains-get_or points i 0 low) other)) in
+    (λ same. ap (value q) same ∙ e)
+    (λ other. quotient_others points c (get_or points i 0) h first (Contains-get_or points i 0 low) other)) in
     let long = length-quotient c w in
     let long_w = length-with_roots points in
     let none = only_zero points q are (omega (arith, long, long_w), quotient_elements c w hc (with_roots_elements points h)) at_all in

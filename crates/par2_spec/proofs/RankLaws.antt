@@ -1,5 +1,5 @@
 -- The tests over all vectors and all texts say what the words say.
-use Rattle.par2_spec.proofs.Common.{◌≡◌, ℕ, ◌^◌, ◌<◌, List, [], ◌∷◌, length, map, refl, sym, ap, ◌∙◌, subst, true, Bool, ◌&&◌, not, arith, ◌↔◌, ◌==◌, filter, find, zip, Option, Some, None, is_some, unwrap_or, nat_eq, list_all, list_any, AllByRecursion, AllZip, Contains, ForSome, bytes_eq, and_parts, and_from, eqb-true, eq-eqb, ltb-true, lt-ltb, not_from_false, false_from_ne_true, false≢true, true_from_ne_false, both_ways, not-true, AllZip-long, nat_eq_equiv, coefficients, recovery, dot, kills, is_zero, is_repairable, kept, smaller, Kills, IsRepairable, IsKept, IsVector, Agrees, is_as_known, kept_slices, IsRebuilt, is_independent, is_solvable, agrees, ParSet, lost, survivors, all_lists, all_texts, all_below, rebuilt, IsTrue}
+use Rattle.par2_spec.proofs.Common.{◌≡◌, ℕ, ◌^◌, ◌<◌, List, [], ◌∷◌, length, map, refl, sym, ap, ◌∙◌, subst, true, Bool, ◌&&◌, not, arith, IsTrue, ◌↔◌, ◌==◌, filter, find, zip, Option, Some, None, is_some, unwrap_or, nat_eq, list_all, list_any, AllByRecursion, AllZip, Contains, ForSome, bytes_eq, and_parts, and_from, eqb-true, eq-eqb, ltb-true, lt-ltb, not_from_false, false_from_ne_true, false≢true, true_from_ne_false, both_ways, not-true, AllZip-long, nat_eq_equiv, coefficients, recovery, dot, kills, is_zero, is_repairable, kept, smaller, Kills, IsRepairable, IsKept, IsVector, Agrees, is_as_known, kept_slices, IsRebuilt, is_independent, is_solvable, agrees, ParSet, lost, survivors, all_lists, all_texts, all_below, rebuilt}
 use Rattle.std.specs.FinMap as map_of
 use Rattle.std.proofs.lemmas.Map.Views.{Contains-from_any, list_any-from_Contains}
 use Rattle.par2_spec.proofs.ListsLaws.{AreOf, IsBelow, some_list, all_below_are, all_below_complete, all_lists_are, all_lists_complete, find_one, filter-none, all-both}
@@ -77,8 +77,7 @@ smaller_all P e (x ∷ es) h = grind (arith, ltb-true, smaller_all P e es h.1)
 pub independent-iff : (lost survivors : List ℕ) (e : ℕ) → (is_independent (length lost) (map (coefficients lost) (smaller e survivors)) (coefficients lost e) ≡ true) ↔ IsKept lost survivors e
 independent-iff lost survivors e = unfold is_independent in
     let before = map (coefficients lost) (smaller e survivors) in
-    let test = (λ (v : List ℕ). list_all (kills v) before && not (kills v (coefficients lost e))) in
-    let law = some_list (2 ^ 16) (length lost) test in (
+    let law = some_list (2 ^ 16) (length lost) (λ (v : List ℕ). list_all (kills v) before && not (kills v (coefficients lost e))) in (
       λ h. let found = law.0 (by_true h) in
           let r = and_parts (list_all (kills found.0) before) (not (kills found.0 (coefficients lost e))) (is_true found.2) in (
             found.0,

@@ -1,5 +1,5 @@
 -- The changes of a repair lead to its folder.
-use Rattle.par2_spec.proofs.Common.{◌≡◌, ℕ, List, [], ◌∷◌, ◌++◌, length, map, inl, inr, refl, sym, ap, ◌∙◌, subst, cond, true, false, Bool, not, ◌&&◌, ◌||◌, filter, filter_map, zip, Option, Some, None, Ok, option_map, is_some, is_none, unwrap_or, if◌then◌else◌, concat, list_all, AllByRecursion, ForSome, bytes_eq, map-append, map-map, and_parts, and_right, or_parts, or_cases, or_left, or_right, or_from, and_from, false_from_ne_true, cases_Bool, not_from_false, false≢true, not-true, and-false, is_among, Folder, has, bytes_of, names, File, without, laid_over, Write, Rename, Remove, effects, are_applicable, ParSet, Target, set_of, target_names, candidates, known, needing, needing_names, is_needing, intact_names, matching, matches, aside, put_aside, files_of_slices, cut_into, rebuilt, matched_files, names_without_match, aside_files, is_par_file, par_files, after_repair_and_purge, FitsRepair, HoldsRepaired, AreFew, taken_for, rebuilt_targets, after_repair, now_at, purge_changes, repair_changes, repair_removals, take, drop, arith}
+use Rattle.par2_spec.proofs.Common.{◌≡◌, ℕ, List, [], ◌∷◌, ◌++◌, length, map, inl, inr, refl, sym, ap, ◌∙◌, subst, cond, true, false, Bool, not, ◌&&◌, ◌||◌, take, drop, arith, filter, filter_map, zip, Option, Some, None, Ok, option_map, is_some, is_none, unwrap_or, if◌then◌else◌, concat, list_all, AllByRecursion, ForSome, bytes_eq, map-append, map-map, and_parts, and_right, or_parts, or_cases, or_left, or_right, or_from, and_from, false_from_ne_true, cases_Bool, not_from_false, false≢true, not-true, and-false, is_among, Folder, has, bytes_of, names, File, without, laid_over, Write, Rename, Remove, effects, are_applicable, ParSet, Target, set_of, target_names, candidates, known, needing, needing_names, is_needing, intact_names, matching, matches, aside, put_aside, files_of_slices, cut_into, rebuilt, matched_files, names_without_match, aside_files, is_par_file, par_files, after_repair_and_purge, FitsRepair, HoldsRepaired, AreFew, taken_for, rebuilt_targets, after_repair, now_at, purge_changes, repair_changes, repair_removals}
 use Rattle.std.specs.FinMap as map_of
 use Rattle.par2_spec.proofs.Basics.{effects-append, are_applicable-append, removals_lead, same_name, itself, clash, AreDistinct, among-filter, among-append, among_some, apart_by_test, distinct-map, distinct-filter, distinct_some, image_of, image_in, distinct-append, distinct_from_std, each_there, candidates_there, sound_of, names_of_pairs, taken_was_free, taken_once, by_either, same_tests, none_if, some_if, filter-map, map-cond}
 use Rattle.par2_spec.proofs.MovesLaws.{Move, CanMove, renames, sources, goals, arrived, renames_apply, renames_lead, writes_apply, writes_lead, get_put, get_laid, get_without, has_laid, has_without, has_by_names, laid_over-append, without-laid_over, without_without, same_without, removals_apply, names_once, all_laid}
@@ -327,13 +327,7 @@ module _ (folder : Folder) (set : ParSet) (given : List (List ℕ)) (fits : Fits
 
     -- where the needing targets' names are free, and then those that are matched are taken
     settled_has : (q : List ℕ) → is_among wanted q ≡ true → has settled q ≡ is_among won q
-    settled_has q h =
-        let none : (a b : Bool) → (a || (b && false)) ≡ a = λ a b. grind arith in
-        ap (λ f. has f q) (sym second_leads ∙ renames_lead cleared second can_take)
-        ∙ has_laid (arrived cleared second) (without (sources second) cleared) q
-        ∙ ap (λ ns. is_among ns q || has (without (sources second) cleared) q) (map-map (λ file. file.0) (λ m. (m.1, bytes_of cleared m.0)) second ∙ second_goals)
-        ∙ ap (λ b. is_among won q || b) (has_without (sources second) cleared q ∙ ap (λ b. not (is_among (sources second) q) && b) (cleared_wanted q h))
-        ∙ none (is_among won q) (not (is_among (sources second) q))
+    settled_has q h = grind (arith, second_leads, renames_lead, can_take, has_laid, arrived, sources, map-map, second_goals, has_without, cleared_wanted)
 
     third_apply : are_applicable settled (map (λ file. Write file.0 file.1) written) ≡ true
     third_apply =
@@ -353,14 +347,7 @@ module _ (folder : Folder) (set : ParSet) (given : List (List ℕ)) (fits : Fits
 
     -- the changes of a repair apply in order
     pub repair_applies : are_applicable folder (repair_changes folder set given) ≡ true
-    repair_applies =
-        ap (are_applicable folder) changes_are
-        ∙ are_applicable-append folder (renames first ++ renames second) (map (λ file. Write file.0 file.1) written)
-        (are_applicable-append folder (renames first) (renames second) (renames_apply folder first can_put_aside)
-        (ap (λ f. are_applicable f (renames second)) first_leads ∙ renames_apply cleared second can_take))
-        (ap (λ f. are_applicable f (map (λ file. Write file.0 file.1) written))
-        (effects-append folder (renames first) (renames second) ∙ ap (λ f. effects f (renames second)) first_leads ∙ second_leads)
-        ∙ third_apply)
+    repair_applies = grind (arith, changes_are, are_applicable-append, renames, renames_apply, can_put_aside, first_leads, can_take, effects-append, second_leads, third_apply)
 
     -- and lead to its folder
     pub repair_leads : effects folder (repair_changes folder set given) ≡ after_repair folder set given
@@ -394,14 +381,7 @@ module _ (folder : Folder) (set : ParSet) (given : List (List ℕ)) (fits : Fits
 
     -- nothing stands under the aside of a match
     pub vacant_aside : (q : List ℕ) → is_among taken_names q ≡ true → has (after_repair folder set given) (off q) ≡ false
-    vacant_aside q h =
-        let not_left : is_among (map off left) (off q) ≡ true → ⊥ = (λ i.
-        let r = image_of off left (off q) i in
-        let mine = subst (λ x. is_among left x ≡ true) (sym (free.aside_one q r.0 r.2)) r.1 in
-        clash h (not-true (is_among taken_names q) (and_parts (is_among moved q) (not (is_among taken_names q)) (sym (left_is q) ∙ mine)).1)) in
-        after_other (off q) (fits.aside_apart q)
-        ∙ or_from (is_among (map off left) (off q)) (not (is_among gone_names (off q)) && has folder (off q)) (false_from_ne_true (is_among (map off left) (off q)) not_left)
-        (and_right (not (is_among gone_names (off q))) (has folder (off q)) (free.aside_free q))
+    vacant_aside q h = grind (arith, image_of, aside_one, clash, not-true, and_parts, left_is, after_other, or_from, false_from_ne_true, and_right)
 
     par_left_par : (q : List ℕ) → is_among par_left q ≡ true → is_among (par_files folder set) q ≡ true
     par_left_par q h = (and_parts _ _ (sym (par_left_is q) ∙ h)).0
@@ -516,13 +496,7 @@ module _ (folder : Folder) (set : ParSet) (given : List (List ℕ)) (fits : Fits
   -- what is no needing target's name, no match and no aside stands as before
   pub other_ones : (name : List ℕ) → is_among (needing_names folder set) name ≡ false → is_among (matching folder set given) name ≡ false
       → is_among (map (aside folder set) (put_aside folder set)) name ≡ false → map_of.get (after_repair folder set given) name ≡ map_of.get folder name
-  other_ones name h k l =
-      unwanted name h ∙ unaside name (false_from_ne_true _ (λ i.
-      let r = image_of (aside folder set) (left folder set given fits) name i in
-      clash (subst (λ x. is_among (map (aside folder set) (put_aside folder set)) x ≡ true) (sym r.2) (image_in (aside folder set) (put_aside folder set) r.0 (left_moved folder set given fits r.0 r.1))) l))
-      ∙ get_without (gone_names folder set given fits) folder name
-      ∙ ap (λ b. cond b None (map_of.get folder name)) (among-append (map (λ m. m.0.name) (matches folder set given)) (matching folder set given) name
-      ∙ or_from _ _ (ap (λ ns. is_among ns name) (heads folder set given fits) ∙ h) k)
+  other_ones name h k l = grind (arith, unwanted, unaside, false_from_ne_true, image_of, clash, image_in, left_moved, get_without, among-append, or_from, heads)
 
   pub repaired_holds : AreFree folder set → HoldsRepaired folder set given (after_repair folder set given)
   repaired_holds free = record {

@@ -1,5 +1,5 @@
 -- The slices of a file give the file back, and those of the files that a set was made from are rebuilt.
-use Rattle.par2_spec.proofs.Common.{◌≡◌, ℕ, zero, suc, ◌+◌, ◌-◌, ◌*◌, ◌%◌, ◌<◌, ◌≤◌, List, [], ◌∷◌, ◌++◌, length, map, take, drop, refl, sym, ap, ◌∙◌, subst, true, Bool, arith, inl, inr, length-append, length-drop, flat_map, filter, find, zip, replicate, ◌==◌, Option, Some, range_with_len, list_any, concat, AllByRecursion, AllZip, ForSome, add-mul, drop-append_seam, take-append_seam, take-append-add, div_ceil_times, length-take, length-take-le, length-replicate, length-map, take_all, drop_all, take-append-drop, drop-drop, map-append, cases_lt, pair_of, slice_count, slice_at, slices, windows, is_match, found, window, recovery, Agrees, kept_slices, kept, Folder, File, bytes_of, all_slices, record_of, Target, target_of_file, MadeFrom, all_pairs, lost, survivors, NoCollision, known, cut_into, files_of_slices, TrueSlicesAreRebuilt, zero-mul, append_assoc, append-nil}
+use Rattle.par2_spec.proofs.Common.{◌≡◌, ℕ, zero, suc, ◌+◌, ◌-◌, ◌*◌, ◌%◌, ◌<◌, ◌≤◌, List, [], ◌∷◌, ◌++◌, length, map, take, drop, refl, sym, ap, ◌∙◌, subst, true, Bool, arith, inl, inr, length-append, length-drop, zero-mul, append_assoc, append-nil, flat_map, filter, find, zip, replicate, ◌==◌, Option, Some, range_with_len, list_any, concat, AllByRecursion, AllZip, ForSome, add-mul, drop-append_seam, take-append_seam, take-append-add, div_ceil_times, length-take, length-take-le, length-replicate, length-map, take_all, drop_all, take-append-drop, drop-drop, map-append, cases_lt, pair_of, slice_count, slice_at, slices, windows, is_match, found, window, recovery, Agrees, kept_slices, kept, Folder, File, bytes_of, all_slices, record_of, Target, target_of_file, MadeFrom, all_pairs, lost, survivors, NoCollision, known, cut_into, files_of_slices, TrueSlicesAreRebuilt}
 use Rattle.std.specs.FinMap as map_of
 use Rattle.par2_spec.proofs.Basics.{all-append, all-take, all-drop, all-each, all-flat_map-map, found_one, all-filter, rebuilt_is_only, all_weaker}
 use Rattle.par2_spec.proofs.UniqueLaws.{agreeing_is_rebuilt}

@@ -1,5 +1,5 @@
 -- A session is a history, and a kept session keeps its room.
-use Rattle.par2_spec.proofs.Common.{◌≡◌, ℕ, zero, suc, ◌+◌, ◌-◌, ◌≤◌, List, [], ◌∷◌, refl, sym, ap, ◌∙◌, true, arith, Option, None, Result, Ok, Err, replicate, sum_by, is_ok, AllByRecursion, and_parts, and_from, false≢true, sum_by-cons, drop-nil, Fault, Folder, Change, Write, Replace, Rename, Remove, state_after, effects, are_applicable, way_back, FolderState, takes_all, places_taken, state_after_all, Command, Action, Do, Undo, Redo, refusal, changes_of, LeadsToAfter, LeadsToAfterAsked, Session, first_entry, changes_unless, others, session_unless, KeptSession, session_of_kept, CanWalk, OnlyGrew, folders_along, history_of, changes_asked, session_with, session_after, walks, kept_done, kept_undone, kept_redone, is_valid, leads, drop, length}
+use Rattle.par2_spec.proofs.Common.{◌≡◌, ℕ, zero, suc, ◌+◌, ◌-◌, ◌≤◌, List, [], ◌∷◌, refl, sym, ap, ◌∙◌, true, arith, drop, length, Option, None, Result, Ok, Err, replicate, sum_by, is_ok, AllByRecursion, and_parts, and_from, false≢true, sum_by-cons, drop-nil, Fault, Folder, Change, Write, Replace, Rename, Remove, state_after, effects, are_applicable, way_back, FolderState, takes_all, places_taken, state_after_all, Command, Action, Do, Undo, Redo, refusal, changes_of, LeadsToAfter, LeadsToAfterAsked, Session, first_entry, changes_unless, others, session_unless, KeptSession, session_of_kept, CanWalk, OnlyGrew, folders_along, history_of, changes_asked, session_with, session_after, walks, kept_done, kept_undone, kept_redone, is_valid, leads}
 use Rattle.par2_spec.specs.History.{History, Refusal, NothingToUndo, NothingToRedo, after_command, unless_refused, after_undo, after_redo, Run, Ended, Accepted, Passed, folders, IsChanging}
 use Rattle.par2_spec.specs.History.{history_after}
 use Rattle.par2_spec.proofs.FolderLaws.{undo_changes, undo_are_applicable, state_files, taken_are_applicable, state_all_back, way_back_taken, changes_back, with_room, more_room_all, takes_applicable}

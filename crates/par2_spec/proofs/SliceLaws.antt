@@ -1,5 +1,5 @@
 -- The slices of files, file by file.
-use Rattle.par2_spec.proofs.Common.{ℕ, ◌+◌, ◌<◌, ◌≡◌, sym, ap, ap₂, ◌∙◌, List, [], ◌∷◌, ◌++◌, length, get_or, append_assoc, append-nil, take_more, slices, Folder, bytes_of, all_slices, files_of, take}
+use Rattle.par2_spec.proofs.Common.{ℕ, ◌+◌, ◌<◌, ◌≡◌, sym, ap, ap₂, ◌∙◌, List, [], ◌∷◌, ◌++◌, length, get_or, append_assoc, append-nil, take, take_more, slices, Folder, bytes_of, all_slices, files_of}
 
 slices_of_more : (s : ℕ) (folder : Folder) (names : List (List ℕ)) (name : List ℕ) → all_slices s (files_of folder (names ++ name ∷ [])) ≡ all_slices s (files_of folder names) ++ slices s (bytes_of folder name)
 slices_of_more s folder [] name = append-nil (slices s (bytes_of folder name))

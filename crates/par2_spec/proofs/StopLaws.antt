@@ -1,5 +1,5 @@
 -- Whatever a stopped command left, it opens as the session from before it.
-use Rattle.par2_spec.proofs.Common.{◌≡◌, ℕ, zero, suc, ◌+◌, ◌-◌, ◌<◌, ◌≤◌, List, [], ◌∷◌, ◌++◌, length, map, take, drop, get_or, refl, sym, ap, ◌∙◌, subst, cond, true, false, Bool, ◌&&◌, inl, arith, length-append, length-drop, IfSome, reverse, position, Option, Some, None, Result, Ok, Err, unwrap_or, is_some, if◌then◌else◌, AllByRecursion, position_from, bytes_eq, drop-append_seam, take-append_seam, reverse-reverse, reverse-append, length-reverse, get_or-reverse, get_or-map, take-append-drop, length-map, length-take-le, take-map, take-take, get_or-take, drop-drop, reverse_onto, common_steps, and_parts, and_from, false≢true, position_from-zero, Folder, fingerprint, Change, effect, inverse, is_applicable, effects, are_applicable, way_back, folders_after, Session, session_of, is_valid, Opened, Settled, Halfway, opened_if_found, opened_by_part, TellsApart, session_of_opened, kept_in, settled_journal, halfway_journal, leads, leads_through, taken_back, opened, OpensAs, Opens, HalfwayJournalOpensAsBefore, HalfwayTextOpensAsBefore, HalfwayJournalStillOpens, HalfwayTextStillOpens, append-nil}
+use Rattle.par2_spec.proofs.Common.{◌≡◌, ℕ, zero, suc, ◌+◌, ◌-◌, ◌<◌, ◌≤◌, List, [], ◌∷◌, ◌++◌, length, map, take, drop, get_or, refl, sym, ap, ◌∙◌, subst, cond, true, false, Bool, ◌&&◌, inl, arith, length-append, length-drop, append-nil, IfSome, reverse, position, Option, Some, None, Result, Ok, Err, unwrap_or, is_some, if◌then◌else◌, AllByRecursion, position_from, bytes_eq, drop-append_seam, take-append_seam, reverse-reverse, reverse-append, length-reverse, get_or-reverse, get_or-map, take-append-drop, length-map, length-take-le, take-map, take-take, get_or-take, drop-drop, reverse_onto, common_steps, and_parts, and_from, false≢true, position_from-zero, Folder, fingerprint, Change, effect, inverse, is_applicable, effects, are_applicable, way_back, folders_after, Session, session_of, is_valid, Opened, Settled, Halfway, opened_if_found, opened_by_part, TellsApart, session_of_opened, kept_in, settled_journal, halfway_journal, leads, leads_through, taken_back, opened, OpensAs, Opens, HalfwayJournalOpensAsBefore, HalfwayTextOpensAsBefore, HalfwayJournalStillOpens, HalfwayTextStillOpens}
 use Rattle.par2_spec.specs.declared.Version.{Version}
 use Rattle.par2_spec.specs.Journals.{Journal, HalfwayPart, IsHalfwayPart, Spells}
 use Rattle.par2_spec.specs.declared.JournalFault.{JournalFault}
@@ -203,9 +203,6 @@ session_or other (Ok (Settled s)) = s
 session_or other (Ok (Halfway s back)) = s
 session_or other (Err fault) = other
 
-settled_is : (answer : Result Opened JournalFault) (s : Session) (back : List Change) → back_of answer ≡ None → answer ≡ Ok (Halfway s back) → ⊥
-settled_is answer s back e h = unfold back_of in false≢true (ap is_some (sym e ∙ ap back_of h))
-
 -- the parts of an opening that takes back
 record TakesBack (folder : Folder) (journal : Journal) (s : Session) (back : List Change) : Type 0 where
   halfway : HalfwayPart
@@ -218,7 +215,7 @@ record TakesBack (folder : Folder) (journal : Journal) (s : Session) (back : Lis
   valid : is_valid s ≡ true
 
 takes_back : (folder : Folder) (journal : Journal) (s : Session) (back : List Change) → opened folder journal ≡ Ok (Halfway s back) → TakesBack folder journal s back
-takes_back folder journal s back e = unfold back_of opened session_or taken_back in grind (arith, back_of, settled_is, by_test, session_or, and_parts)
+takes_back folder journal s back e = unfold back_of opened session_or taken_back in grind (arith, back_of, session_or, by_test, and_parts, false≢true)
 
 -- ---- a stop while a command is taken back
 

@@ -1,5 +1,5 @@
 -- What holds of tests, of results and of options.
-use Rattle.par2_spec.proofs.Common.{◌≡◌, ◌⊎◌, inl, inr, refl, sym, ap, ◌∙◌, subst, T, true, false, Bool, ◌&&◌, ℕ, ◌+◌, List, [], ◌∷◌, cond, not, Option, Some, None, is_some, is_none, unwrap_or, Result, Err, option_or, AllByRecursion, position_from, none-some, position_from-zero, fault_where, first_fault, fault_at, arith}
+use Rattle.par2_spec.proofs.Common.{◌≡◌, ◌⊎◌, inl, inr, refl, sym, ap, ◌∙◌, subst, T, true, false, Bool, ◌&&◌, ℕ, ◌+◌, List, [], ◌∷◌, cond, not, arith, Option, Some, None, is_some, is_none, unwrap_or, Result, Err, option_or, AllByRecursion, position_from, none-some, position_from-zero, fault_where, first_fault, fault_at}
 
 -- ---- tests
 

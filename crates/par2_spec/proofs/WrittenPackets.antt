@@ -1,5 +1,5 @@
 -- Parts of a text that is put together, and the tests of a packet at its front.
-use Rattle.par2_spec.proofs.Common.{◌≡◌, ℕ, suc, ◌-◌, ◌+◌, ◌%◌, ◌^◌, ◌≤◌, ◌<◌, Bool, true, false, leb, eqb, ◌&&◌, List, [], ◌∷◌, ◌++◌, length, drop, refl, sym, ap, ◌∙◌, append_assoc, arith, flat_map, AllByRecursion, w64, to_le_bytes, bytes_eq, le-leb, eq-eqb, lt-leb, leb-true, and_parts, take_at, drop_at, from_le_bytes-to_le_bytes_8, bytes_eq-Decides, md5, length-md5, Kind, bytes_at, magic, type_of, kind_of, Packet, digest_input, claimed_length, accepted, IsPacket, u64_at, packet, begins_with_packet, first_packet, accepted_after, length-append}
+use Rattle.par2_spec.proofs.Common.{◌≡◌, ℕ, suc, ◌-◌, ◌+◌, ◌%◌, ◌^◌, ◌≤◌, ◌<◌, Bool, true, false, leb, eqb, ◌&&◌, List, [], ◌∷◌, ◌++◌, length, drop, refl, sym, ap, ◌∙◌, append_assoc, arith, length-append, flat_map, AllByRecursion, w64, to_le_bytes, bytes_eq, le-leb, eq-eqb, lt-leb, leb-true, and_parts, take_at, drop_at, from_le_bytes-to_le_bytes_8, bytes_eq-Decides, md5, length-md5, Kind, bytes_at, magic, type_of, kind_of, Packet, digest_input, claimed_length, accepted, IsPacket, u64_at, packet, begins_with_packet, first_packet, accepted_after}
 use Rattle.par2_spec.proofs.AcceptedLaws.{accepted-found, accepted-none}
 
 pub part_at : (front mid rest : List ℕ) (o n : ℕ) → length front ≡ o → length mid ≡ n → bytes_at o n (front ++ (mid ++ rest)) ≡ mid

@@ -1,4 +1,4 @@
-use Rattle.par2_spec.proofs.Common.{arith, value, with_roots, ◌≡◌}
+use Rattle.par2_spec.proofs.Common.{arith, ◌≡◌, value, with_roots}
 use Rattle.par2_spec.proofs.PolynomialLaws.{length-with_roots, with_roots_zero, with_roots_nonzero, with_roots_monic}
 
 pub returns : Rattle.par2_spec.proofs.polynomial_laws.roots.Goals.returns
