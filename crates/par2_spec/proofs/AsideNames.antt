@@ -159,11 +159,10 @@ no_low_numbered low name n h other small out = grind (arith, numbered_is, list_a
 
 -- what is dotless and stands at the front of a numbered name stands at the front of the name
 pub front_of_name : (front name rest : List ℕ) → is_dotless front ≡ true → starts_with nat_eq (name ++ 46 ∷ rest) front ≡ true → starts_with nat_eq name front ≡ true
-front_of_name [] name rest h k = refl
-front_of_name (b ∷ front) [] rest h k = grind (arith, clash, and_parts, not-true)
 front_of_name (b ∷ front) (c ∷ name) rest h k =
     let r = and_parts (eqb b c) (starts_with nat_eq (name ++ 46 ∷ rest) front) k in
     and_from _ _ r.0 (front_of_name front name rest (and_parts (not (b == 46)) _ h).1 r.1)
+front_of_name front name rest h k = grind arith
 
 -- of a front whose first byte alone is a dot
 front_of_numbered : (front name rest : List ℕ) → is_dotless front ≡ true → 0 < length name → starts_with nat_eq (name ++ 46 ∷ rest) (46 ∷ front) ≡ true → starts_with nat_eq name (46 ∷ front) ≡ true

@@ -9,7 +9,7 @@ pub use Rattle.std.proofs.lemmas.Bool.Decides.{Decides-eqb, nat_tests, same_from
 pub use Rattle.std.proofs.lemmas.Cmp.{nat_eq_equiv, nat_list_eq_equiv}
 pub use Rattle.std.proofs.lemmas.Grind.{common_steps, div_ceil_times, flat_map-append, reverse_onto}
 pub use Rattle.std.proofs.lemmas.Iterator.Adapters.{position_from-zero}
-pub use Rattle.std.proofs.lemmas.List.{drop-drop, drop_all, drop_at, ext_get_or, get_or-map, get_or-reverse, get_or-set_other, get_or-set_same, get_or-take, get_or_default, get_or_past, length-map, length-replicate, length-reverse, length-take, length-take-le, length_push, map-append, map-set, nil_from_length, replicate_more, reverse-append, reverse-reverse, take-append-drop, take-append-le, take-map, take-take, take_all, take_at, take_more}
+pub use Rattle.std.proofs.lemmas.List.{drop-drop, drop_all, drop_at, ext_get_or, get_or-map, get_or-reverse, get_or-set_other, get_or-set_same, get_or-take, get_or_default, get_or_past, length-map, length-replicate, length-reverse, length-take, length-take-le, length_push, map-append, map-id, map-set, nil_from_length, replicate_more, reverse-append, reverse-reverse, take-append-drop, take-append-le, take-map, take-take, take_all, take_at, take_more}
 pub use Rattle.std.proofs.lemmas.List.Elements.{All-contains, All-contains_itself, All-from_recursion, Contains-append_right, Contains-get_or, recursion_from_All}
 pub use Rattle.std.proofs.lemmas.List.Folds.{flat_map-map, list_all-append, list_all-map, list_any-append, prefix_len-append, prefix_len-replicate}
 pub use Rattle.std.proofs.lemmas.List.FromFn.{get_or-range_with_len, length-map-range_with_len, length-range_with_len}

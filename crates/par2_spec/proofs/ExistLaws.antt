@@ -37,10 +37,9 @@ at_lost-spread i (Some y ∷ ks) v e = at_lost-spread (i + 1) ks v e
 at_lost-spread i ks v e = absurd (omega (arith, e))
 
 zero_at_lost : (ks : List (Option (List ℕ))) (d : List ℕ) → AllByRecursion (λ x. x ≡ 0) d → AllByRecursion (λ x. x ≡ 0) (at_lost ks d)
-zero_at_lost [] d h = tt
-zero_at_lost (k ∷ ks) [] h = tt
 zero_at_lost (None ∷ ks) (x ∷ d) h = (h.0, zero_at_lost ks d h.1)
 zero_at_lost (Some y ∷ ks) (x ∷ d) h = zero_at_lost ks d h.1
+zero_at_lost ks d h = grind arith
 
 -- ---- an element added to the first word of a text
 
@@ -74,14 +73,12 @@ length-all_marked (x ∷ d) (text ∷ texts) = ap suc (length-all_marked d texts
 length-all_marked d texts = refl
 
 sizes-all_marked : (s : ℕ) (d : List ℕ) (texts : List (List ℕ)) → AllByRecursion (λ text. length text ≡ s) texts → AllByRecursion (λ text. length text ≡ s) (all_marked d texts)
-sizes-all_marked s [] texts h = h
-sizes-all_marked s (x ∷ d) [] h = tt
 sizes-all_marked s (x ∷ d) (text ∷ texts) h = grind (arith, sizes-all_marked s d texts h.1)
+sizes-all_marked s d texts h = grind arith
 
 bytes-all_marked : (d : List ℕ) (texts : List (List ℕ)) → AreElements d → AreTexts texts → AreTexts (all_marked d texts)
-bytes-all_marked [] texts small h = h
-bytes-all_marked (x ∷ d) [] small h = tt
 bytes-all_marked (x ∷ d) (text ∷ texts) small h = (bytes-marked x text small.0 h.0, bytes-all_marked d texts small.1 h.1)
+bytes-all_marked d texts small h = grind arith
 
 first_words : (s : ℕ) (d : List ℕ) (texts : List (List ℕ)) → 2 ≤ s → AllByRecursion (λ text. length text ≡ s) texts → length d ≡ length texts → map (word 0) (all_marked d texts) ≡ sums d (map (word 0) texts)
 first_words s [] [] some h e = refl
@@ -95,12 +92,10 @@ later_words p d texts = refl
 -- the known slices stay as they are
 known-all_marked : (ks : List (Option (List ℕ))) (v : List ℕ) (texts : List (List ℕ)) → AreTexts texts → AllZip (λ slice text. ForSome slice (λ found. text ≡ found)) ks texts
     → AllZip (λ slice text. ForSome slice (λ found. text ≡ found)) ks (all_marked (spread ks v) texts)
-known-all_marked [] v [] small h = tt
-known-all_marked [] v (text ∷ texts) small h = absurd h
-known-all_marked (k ∷ ks) v [] small h = absurd h
 known-all_marked (None ∷ ks) [] (text ∷ texts) small h = ((λ found e. absurd (false≢true (ap is_some e))), known-all_marked ks [] texts small.1 h.1)
 known-all_marked (None ∷ ks) (x ∷ v) (text ∷ texts) small h = ((λ found e. absurd (false≢true (ap is_some e))), known-all_marked ks v texts small.1 h.1)
 known-all_marked (Some y ∷ ks) v (text ∷ texts) small h = grind (arith, known-all_marked ks v texts small.1 h.1)
+known-all_marked ks v texts small h = grind arith
 
 -- ---- recovery slices
 
@@ -128,11 +123,10 @@ all_recovered s known d slices (r ∷ rs) some sizes long killed h = (same_recov
 -- ---- another list agrees
 
 no_change : (d u : List ℕ) → length d ≡ length u → sums d u ≡ u → AllByRecursion (λ x. x ≡ 0) d
-no_change [] u e h = tt
-no_change (x ∷ d) [] e h = absurd (omega (arith, e))
 no_change (x ∷ d) (y ∷ u) e h =
     let first : bit_xor x y ≡ y = ap (λ ws. slice_index ws 0) h in
     (sym (xor_assoc x y y ∙ ap (bit_xor x) (xor_self y) ∙ xor_zero_r x) ∙ ap (λ t. bit_xor t y) first ∙ xor_self y, no_change d u (omega (arith, e)) (ap (drop 1) h))
+no_change d u e h = grind arith
 
 pub another_agrees : (s : ℕ) (known : List (Option (List ℕ))) (rs : List (ℕ × List ℕ)) (slices : List (List ℕ)) → 2 ≤ s → (IsRepairable (lost known) (map (λ r. r.0) rs) → ⊥) → Agrees s known rs slices → AnotherAgrees s known rs slices
 another_agrees s known rs slices some unrepairable agrees = (
@@ -185,9 +179,8 @@ dot-scaled c (r ∷ row) (x ∷ v) small hr hv =
 dot-scaled c row v small hr hv = sym (product-zero c)
 
 pub length-sums : (u v : List ℕ) → length u ≡ length v → length (sums u v) ≡ length v
-length-sums [] [] e = refl
 length-sums (x ∷ u) (y ∷ v) e = ap suc (length-sums u v (omega (arith, e)))
-length-sums u v e = absurd (omega (arith, e))
+length-sums u v e = grind arith
 
 -- ---- a vector for which each kept exponent gives its number
 
@@ -316,9 +309,8 @@ dot-filled e p i j text v (None ∷ ks) same long =
 -- ---- slices that agree
 
 element_at : (v : List ℕ) (j : ℕ) → AreElements v → slice_index v j < 2 ^ 16
-element_at [] j h = omega arith
-element_at (x ∷ v) zero h = h.0
 element_at (x ∷ v) (suc j) h = element_at v j h.1
+element_at v j h = grind arith
 
 of_known-lt : (e i : ℕ) (ks : List (Option (List ℕ))) (p : ℕ) → AllByRecursion (λ slice. ForSome slice AreBytes) ks → of_known e i ks p < 2 ^ 16
 of_known-lt e i [] p h = omega arith

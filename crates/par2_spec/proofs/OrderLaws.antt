@@ -16,8 +16,6 @@ AreApart n [] = Unit {0}
 AreApart n (x ∷ xs) = AllByRecursion (λ y. n y ≡ n x → ⊥) xs × AreApart n xs
 
 rises-increasing : {A : Type 0} (n : A → ℕ) (xs : List A) → IsStrictlyIncreasing (map n xs) → Rises n xs
-rises-increasing n [] h = tt
-rises-increasing n (x ∷ []) h = (tt, tt)
 rises-increasing n (x ∷ y ∷ xs) h =
     let later : (k : ℕ) → k + 1 < length (map n (y ∷ xs)) → slice_index (map n (y ∷ xs)) k < slice_index (map n (y ∷ xs)) (k + 1) = (λ k l.
     let next : suc k + 1 ≡ suc (k + 1) = omega arith in
@@ -25,6 +23,7 @@ rises-increasing n (x ∷ y ∷ xs) h =
     let first : n x < n y = h 0 (omega arith) in
     let rest = rises-increasing n (y ∷ xs) (λ k l. later k l) in
     ((first, all_weaker (λ z. n y < n z) (λ z. n x < n z) (λ z l. omega (arith, first, l)) xs rest.0), rest)
+rises-increasing n xs h = grind arith
 
 -- what holds of all but the least ones of one list holds of those of the other
 all_but_least : {A : Type 0} (n : A → ℕ) (x y : A) (xs ys : List A) → n x ≡ n y → AllByRecursion (λ z. n y < n z) ys → ((P : A → Type 0) → AllByRecursion P (x ∷ xs) → AllByRecursion P (y ∷ ys))

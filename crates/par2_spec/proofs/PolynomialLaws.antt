@@ -11,9 +11,8 @@ value-lt (c ∷ p) z h small = xor_lt 16 c (mul z (value p z)) h.0 (product-lt z
 
 pub plus_elements : (p q : List ℕ) → AreElements p → AreElements q → AreElements (plus p q)
 unfolding plus
-plus_elements [] q h k = k
-plus_elements (a ∷ p) [] h k = h
 plus_elements (a ∷ p) (b ∷ q) h k = (xor_lt 16 a b h.0 k.0, plus_elements p q h.1 k.1)
+plus_elements p q h k = grind arith
 
 pub times_elements : (k : ℕ) (p : List ℕ) → k < 2 ^ 16 → AreElements p → AreElements (times k p)
 times_elements k [] small h = tt
@@ -32,15 +31,13 @@ quotient_elements c p small h = tt
 -- a sum with a polynomial that has no more coefficients
 pub length-plus : (p q : List ℕ) → length q ≡ suc (length p) → length (plus p q) ≡ suc (length p)
 unfolding plus
-length-plus [] q e = e
-length-plus (a ∷ p) [] e = absurd (omega (arith, e))
 length-plus (a ∷ p) (b ∷ q) e = ap suc (length-plus p q (omega (arith, e)))
+length-plus p q e = grind arith
 
 pub length-plus_same : (p q : List ℕ) → length p ≡ length q → length (plus p q) ≡ length p
 unfolding plus
-length-plus_same [] q e = sym e
-length-plus_same (a ∷ p) [] e = refl
 length-plus_same (a ∷ p) (b ∷ q) e = ap suc (length-plus_same p q (omega (arith, e)))
+length-plus_same p q e = grind arith
 
 pub length-times_root : (c : ℕ) (p : List ℕ) → length (times_root c p) ≡ suc (length p)
 length-times_root c p = grind (arith, length-plus, length-map)
@@ -144,9 +141,8 @@ AreZero p = AllByRecursion (λ x. x ≡ 0) p
 
 plus_zero : (p q : List ℕ) → AreZero p → AreZero q → AreZero (plus p q)
 unfolding plus
-plus_zero [] q h k = k
-plus_zero (a ∷ p) [] h k = h
 plus_zero (a ∷ p) (b ∷ q) h k = (ap₂ bit_xor h.0 k.0, plus_zero p q h.1 k.1)
+plus_zero p q h k = grind arith
 
 times_zero : (k : ℕ) (p : List ℕ) → AreZero p → AreZero (times k p)
 times_zero k [] h = tt
@@ -191,9 +187,8 @@ same_if_zero (a ∷ p) (b ∷ q) e h = ap₂ (λ x xs. x ∷ xs) (xor_same a b h
 same_if_zero p q e h = absurd (omega (arith, e))
 
 same_values : (p q points values : List ℕ) → map (value p) points ≡ values → map (value q) points ≡ values → AllByRecursion (λ z. value (plus p q) z ≡ 0) points
-same_values p q [] values e f = tt
-same_values p q (z ∷ points) [] e f = absurd (let long = ap length e in omega (arith, long))
 same_values p q (z ∷ points) (y ∷ values) e f = grind (arith, value_plus, xor_self, same_values p q points values (ap (drop 1) e) (ap (drop 1) f))
+same_values p q points values e f = grind arith
 
 pub one_polynomial : (points values p q : List ℕ) → ArePoints points → Interpolates points values p → Interpolates points values q → p ≡ q
 one_polynomial points values p q are first second =
@@ -251,9 +246,8 @@ some_polynomial (c ∷ points) (y ∷ values) are is =
 -- the last coefficient of a sum is that of the longer one
 plus_last : (p q : List ℕ) → length q ≡ suc (length p) → get_or (plus p q) (length p) 0 ≡ get_or q (length p) 0
 unfolding plus
-plus_last [] q e = refl
-plus_last (a ∷ p) [] e = absurd (omega (arith, e))
 plus_last (a ∷ p) (b ∷ q) e = plus_last p q (omega (arith, e))
+plus_last p q e = grind arith
 
 -- the last coefficient is 1
 pub with_roots_monic : (points : List ℕ) → AreElements points → get_or (with_roots points) (length points) 0 ≡ 1

@@ -136,16 +136,14 @@ one_known None text h = refl
 one_known (Some y) text h = subst (λ z. bytes_eq y z ≡ true) (sym (h y refl)) (itself y)
 
 as_known : (known : List (Option (List ℕ))) (slices : List (List ℕ)) → length slices ≡ length known → list_all is_as_known (zip known slices) ≡ true → AllZip (λ slice text. ForSome slice (λ found. text ≡ found)) known slices
-as_known [] [] e h = tt
 as_known (x ∷ xs) (y ∷ ys) e h =
     let r = and_parts (is_as_known (x, y)) (list_all is_as_known (zip xs ys)) h in
     (known_one x y r.0, as_known xs ys (omega (arith, e)) r.1)
-as_known known slices e h = absurd (omega (arith, e))
+as_known known slices e h = grind arith
 
 known_as : (known : List (Option (List ℕ))) (slices : List (List ℕ)) → AllZip (λ slice text. ForSome slice (λ found. text ≡ found)) known slices → list_all is_as_known (zip known slices) ≡ true
-known_as [] [] h = refl
 known_as (x ∷ xs) (y ∷ ys) h = and_from _ _ (one_known x y h.0) (known_as xs ys h.1)
-known_as known slices h = absurd h
+known_as known slices h = grind arith
 
 -- a list of texts of s bytes passes the test exactly if it agrees
 pub agrees-iff : (s : ℕ) (known : List (Option (List ℕ))) (recovered : List (ℕ × List ℕ)) (slices : List (List ℕ))

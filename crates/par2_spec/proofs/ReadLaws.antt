@@ -1,8 +1,8 @@
 -- What holds of a set that reads, and of the names that are searched.
-use Rattle.par2_spec.proofs.Common.{◌≡◌, ℕ, suc, ◌≤◌, List, [], ◌∷◌, ◌++◌, length, map, refl, sym, ap, ◌∙◌, subst, cond, true, false, Bool, not, ◌&&◌, ◌||◌, arith, length-append, ◌<◌, ◌+◌, ◌^◌, zero, ◌-◌, ◌*◌, take, drop, length-drop, ◌%◌, min, nat_lt, filter, filter_map, flat_map, find, sum_by, nat_le, Option, Some, unwrap_or, option_map, option_and_then, Result, Ok, Err, ok_or, ◌==◌, if◌then◌else◌, zip, list_all, AllByRecursion, Contains, concat, entries-insert, len-entries, len-empty, nat_cmp-IsAntisymmetric, nat_cmp_total, put, by_order, nat_cmp, Ordering, zero-div, zero-mod, bytes_eq, length-map, nil_from_length, length-take-le, sum_by-cons, list_all-map, recursion_from_All, All-contains_itself, and_parts, and_from, or_cases, or_left, or_right, false_from_ne_true, eqb-true, leb-true, ltb-true, false≢true, Fault, NoMain, NoDescription, NoChecksums, BadSet, Pair, slice_count, is_name, is_among, distinct, Packet, accepted, MainBody, DescBody, RecoveryBody, read_recovery, Folder, has, bytes_of, ParSet, Target, ◌>>=◌, unless, all_some, is_slice_size, packets_with, main_of, description_of, pairs_of, target_of, are_in_profile, recovery_of, other_par_names, IsSound, read_set, set_of, candidates, known, lost, AreFew, FitsRepair, lost_of_unmatched, cut_into, div_ceil, div_ceil_times, FilesHaveTheirSize}
+use Rattle.par2_spec.proofs.Common.{◌≡◌, ℕ, suc, ◌≤◌, List, [], ◌∷◌, ◌++◌, length, map, refl, sym, ap, ◌∙◌, subst, cond, true, false, Bool, not, ◌&&◌, ◌||◌, arith, length-append, ◌<◌, ◌+◌, ◌^◌, ◌-◌, ◌*◌, take, drop, length-drop, ◌%◌, min, nat_lt, filter, filter_map, flat_map, find, sum_by, nat_le, Option, Some, unwrap_or, option_map, option_and_then, Result, Ok, Err, ok_or, ◌==◌, if◌then◌else◌, zip, list_all, AllByRecursion, Contains, concat, entries-insert, len-entries, len-empty, nat_cmp-IsAntisymmetric, nat_cmp_total, put, by_order, nat_cmp, Ordering, zero-div, zero-mod, bytes_eq, length-map, nil_from_length, length-take-le, sum_by-cons, list_all-map, recursion_from_All, All-contains_itself, and_parts, and_from, or_cases, or_left, or_right, false_from_ne_true, eqb-true, leb-true, ltb-true, false≢true, Fault, NoMain, NoDescription, NoChecksums, BadSet, Pair, slice_count, is_name, is_among, distinct, Packet, accepted, MainBody, DescBody, RecoveryBody, read_recovery, Folder, has, bytes_of, ParSet, Target, ◌>>=◌, unless, all_some, is_slice_size, packets_with, main_of, description_of, pairs_of, target_of, are_in_profile, recovery_of, other_par_names, IsSound, read_set, set_of, candidates, known, lost, AreFew, FitsRepair, lost_of_unmatched, cut_into, div_ceil, div_ceil_times, FilesHaveTheirSize}
 use Rattle.par2_spec.proofs.NamesLaws.{same_name, itself, clash, among-filter, among-append, AreDistinct, std_from_distinct}
 use Rattle.par2_spec.proofs.FoundLaws.{AreSized, lost_is}
-use Rattle.par2_spec.proofs.ListsLaws.{found_one}
+use Rattle.par2_spec.proofs.ListsLaws.{found_one, all-take, all-drop}
 use Rattle.std.specs.FinMap as map_of
 use Rattle.par2_spec.proofs.TestLaws.{by_either}
 
@@ -249,17 +249,6 @@ lost_of folder base set extras h =
 length-concat : (s : ℕ) (texts : List (List ℕ)) → AllByRecursion (λ text. length text ≡ s) texts → length (concat texts) ≡ length texts * s
 length-concat s [] h = omega arith
 length-concat s (text ∷ texts) h = grind (arith, length-append, length-concat s texts h.1)
-
-all-take : (P : List ℕ → Type 0) (n : ℕ) (texts : List (List ℕ)) → AllByRecursion P texts → AllByRecursion P (take n texts)
-all-take P zero [] h = tt
-all-take P zero (text ∷ texts) h = tt
-all-take P (suc n) [] h = tt
-all-take P (suc n) (text ∷ texts) h = (h.0, all-take P n texts h.1)
-
-all-drop : (P : List ℕ → Type 0) (n : ℕ) (texts : List (List ℕ)) → AllByRecursion P texts → AllByRecursion P (drop n texts)
-all-drop P zero texts h = h
-all-drop P (suc n) [] h = tt
-all-drop P (suc n) (text ∷ texts) h = all-drop P n texts h.1
 
 -- the slices of a target hold its bytes
 cut_long : (s size n : ℕ) (texts : List (List ℕ)) → 0 < s → n ≡ slice_count s size → n ≤ length texts → AllByRecursion (λ text. length text ≡ s) texts → length (take size (concat (take n texts))) ≡ size

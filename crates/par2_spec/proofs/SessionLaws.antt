@@ -64,9 +64,8 @@ changed_older : (h next : History) (action : Action) → IsChanging action → h
 changed_older h next action is e = unfold history_after in grind arith
 
 drop_one_more : {A : Type 0} (n : ℕ) (xs : List A) (y : A) (ys : List A) → drop n xs ≡ y ∷ ys → drop (suc n) xs ≡ ys
-drop_one_more zero (x ∷ xs) y ys e = ap (drop 1) e
 drop_one_more (suc n) (x ∷ xs) y ys e = drop_one_more n xs y ys e
-drop_one_more n xs y ys e = absurd (let k : 0 ≡ suc (length ys) = ap length e in omega (arith, k))
+drop_one_more n xs y ys e = grind arith
 
 -- n accepted ones left the n folders before them
 pub run_leaves : (start end : History) (actions : List Action) (n : ℕ) → Run start actions n end → AllByRecursion IsChanging actions → drop n (folders end) ≡ folders start

@@ -10,14 +10,13 @@ use Rattle.par2_spec.proofs.Basics.{undo_changes, undo_change, undo_is_applicabl
 
 -- the least place of what stands at n
 place_from : (q : List ℕ) (i : ℕ) (all : List (List ℕ)) (n : ℕ) → n < length all → get_or all n q ≡ q → (k : ℕ) × (position_from (bytes_eq q) i all ≡ Some (i + k)) × (k ≤ n) × (get_or all k q ≡ q)
-place_from q i [] n lt here = absurd (omega (arith, lt))
-place_from q i (x ∷ all) zero lt here = grind (arith, itself)
 place_from q i (x ∷ all) (suc n) lt here = step (bytes_eq q x) refl (place_from q (i + 1) all n (omega (arith, lt)) here)
   where
     step : (b : Bool) → bytes_eq q x ≡ b → (k : ℕ) × (position_from (bytes_eq q) (i + 1) all ≡ Some ((i + 1) + k)) × (k ≤ n) × (get_or all k q ≡ q)
         → (k : ℕ) × (cond b (Some i) (position_from (bytes_eq q) (i + 1) all) ≡ Some (i + k)) × (k ≤ suc n) × (get_or (x ∷ all) k q ≡ q)
     step true e r = (0, ap Some (let z : i ≡ i + 0 = omega arith in z), omega arith, sym (same_name q x e))
     step false e r = (suc r.0, r.1 ∙ ap Some (let z : (i + 1) + r.0 ≡ i + suc r.0 = omega arith in z), (let l : r.0 ≤ n = r.2 in omega (arith, l)), r.3)
+place_from q i all n lt here = grind (arith, itself)
 
 least_place : (q : List ℕ) (all : List (List ℕ)) (n : ℕ) → n < length all → get_or all n q ≡ q → (k : ℕ) × (position (bytes_eq q) all ≡ Some k) × (k ≤ n) × (get_or all k q ≡ q)
 least_place q all n lt here =
@@ -43,9 +42,8 @@ length-passed folder (c ∷ cs) = let e : length (passed (effect folder c) cs) �
 
 passed_at : (folder : Folder) (cs : List Change) (j : ℕ) (d : Folder) → j ≤ length cs → get_or (passed folder cs) j d ≡ effects folder (take j cs)
 unfolding folders_after effects
-passed_at folder [] (suc j) d le = absurd (omega (arith, le))
 passed_at folder (c ∷ cs) (suc j) d le = passed_at (effect folder c) cs j d (omega (arith, le))
-passed_at folder cs j d le = refl
+passed_at folder cs j d le = grind arith
 
 -- told apart, two folders of one fingerprint are one
 one_folder : (folder : Folder) (cs : List Change) (a b : ℕ) → TellsApart folder cs → a ≤ length cs → b ≤ length cs → fingerprint (effects folder (take a cs)) ≡ fingerprint (effects folder (take b cs)) → effects folder (take a cs) ≡ effects folder (take b cs)
@@ -83,9 +81,8 @@ befores folder (c ∷ cs) = folder ∷ befores (effect folder c) cs
 
 take-passed : (folder : Folder) (cs : List Change) (k : ℕ) → k ≤ length cs → take k (passed folder cs) ≡ befores folder (take k cs)
 unfolding befores folders_after
-take-passed folder cs zero le = refl
-take-passed folder [] (suc k) le = absurd (omega (arith, le))
 take-passed folder (c ∷ cs) (suc k) le = ap (λ fs. folder ∷ fs) (take-passed (effect folder c) cs k (omega (arith, le)))
+take-passed folder cs k le = grind arith
 
 length-befores : (folder : Folder) (cs : List Change) → length (befores folder cs) ≡ length cs
 unfolding befores
@@ -237,11 +234,10 @@ through_at folder (c ∷ cs) (p ∷ ps) (suc m) d h lt = grind (arith, and_parts
 
 pub through_applies : (folder : Folder) (cs : List Change) (ps : List (List ℕ)) → leads_through folder cs ps ≡ true → are_applicable folder cs ≡ true
 unfolding leads_through are_applicable
-through_applies folder [] ps h = refl
-through_applies folder (c ∷ cs) [] h = absurd (false≢true h)
 through_applies folder (c ∷ cs) (p ∷ ps) h =
     let r = and_parts (is_applicable folder c && bytes_eq (fingerprint (effect folder c)) p) (leads_through (effect folder c) cs ps) h in
     and_from _ _ (and_parts (is_applicable folder c) (bytes_eq (fingerprint (effect folder c)) p) r.0).0 (through_applies (effect folder c) cs ps r.1)
+through_applies folder cs ps h = grind arith
 
 drop-reverse : (xs : List (List ℕ)) (k a : ℕ) → a ≤ k → k ≤ length xs → drop a (reverse (take k xs)) ≡ reverse (take (k - a) xs)
 drop-reverse xs k a le_a le_k =
@@ -286,9 +282,8 @@ rest_taken folder journal h s back k a le_k lt le_a last through session valid =
     ∙ ap (λ b. decided b s rest) valid
 
 within_all : (xs : List (List ℕ)) (k : ℕ) (d e : List ℕ) → k < length xs → get_or xs k d ≡ get_or xs k e
-within_all [] k d e lt = absurd (omega (arith, lt))
-within_all (x ∷ xs) zero d e lt = refl
 within_all (x ∷ xs) (suc k) d e lt = within_all xs k d e (omega (arith, lt))
+within_all xs k d e lt = grind arith
 
 still_taken : (journal : Journal) (folder : Folder) (h : HalfwayPart) (s : Session) (back : List Change) (k i : ℕ) → length h.fingerprints ≡ length h.back → k < length (journal.fingerprint ∷ h.fingerprints)
     → get_or (journal.fingerprint ∷ h.fingerprints) k (fingerprint folder) ≡ fingerprint folder

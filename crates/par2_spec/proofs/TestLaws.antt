@@ -54,9 +54,8 @@ where_none b fault h = grind arith
 
 -- where no fault is the first, there is none
 pub all_none : {A : Type 0} (os : List (Option A)) → first_fault os ≡ None → AllByRecursion (λ o. o ≡ None) os
-all_none [] h = tt
 all_none (None ∷ os) h = (refl, all_none os h)
-all_none (Some fault ∷ os) h = absurd (none-some fault (sym h))
+all_none os h = grind arith
 
 -- where no place is found, nothing passes
 pub no_place : {A : Type 0} (test : A → Bool) (n : ℕ) (xs : List A) → position_from test n xs ≡ None → AllByRecursion (λ x. test x ≡ false) xs

@@ -1,6 +1,6 @@
 -- Where the lost slices are determined, one list alone agrees.
 use Rattle.par2_spec.proofs.Basics.{by_either, xor_middle, product_linear_right, product-lt, product-zero, power-lt, constant-lt, clash, kept-iff, byte_at, word-lt, same_texts, xor_same, all-both, contained_first, contained_later}
-use Rattle.par2_spec.proofs.Common.{◌≡◌, ℕ, zero, suc, ◌+◌, ◌/◌, ◌%◌, ◌^◌, ◌<◌, ◌≤◌, List, [], ◌∷◌, length, map, take, drop, get_or, refl, sym, ap, ◌∙◌, subst, cond, true, Bool, arith, flat_map, filter, slice_index, ◌==◌, Option, Some, None, is_none, w16, to_le_bytes, from_le_bytes, xor_self, range_with_len, enumerate_from, list_any, AllByRecursion, AllZip, Contains, ForSome, xor_lt, from_le_bytes-to_le_bytes_2, length-map, or_left, or_right, eq-eqb, cases_eq, AllZip-long, mul, coefficient, word, coefficients, dot, combination, recovery, kept, IsVector, Kills, IsRepairable, Agrees, kept_slices, IsRebuilt, AreElements, ParSet, lost, survivors, AgreeingListsAreOne, bit_xor}
+use Rattle.par2_spec.proofs.Common.{◌≡◌, ℕ, zero, suc, ◌+◌, ◌/◌, ◌%◌, ◌^◌, ◌<◌, ◌≤◌, List, [], ◌∷◌, length, map, take, drop, get_or, refl, sym, ap, ◌∙◌, subst, cond, true, Bool, arith, flat_map, filter, slice_index, ◌==◌, Option, Some, None, is_none, w16, to_le_bytes, from_le_bytes, xor_self, range_with_len, enumerate_from, list_any, AllByRecursion, AllZip, Contains, ForSome, xor_lt, from_le_bytes-to_le_bytes_2, length-map, or_right, cases_eq, AllZip-long, mul, coefficient, word, coefficients, dot, combination, recovery, kept, IsVector, Kills, IsRepairable, Agrees, kept_slices, IsRebuilt, AreElements, ParSet, lost, survivors, AgreeingListsAreOne, bit_xor}
 use Rattle.std.specs.FinMap as map_of
 
 -- ---- sums of lists
@@ -13,13 +13,11 @@ sums (x ∷ u) (y ∷ v) = bit_xor x y ∷ sums u v
 
 pub dot-sums : (row u v : List ℕ) → length u ≡ length v → dot row (sums u v) ≡ bit_xor (dot row u) (dot row v)
 unfolding dot
-dot-sums (c ∷ row) [] (y ∷ v) e = absurd (omega (arith, e))
-dot-sums (c ∷ row) (x ∷ u) [] e = absurd (omega (arith, e))
 dot-sums (c ∷ row) (x ∷ u) (y ∷ v) e =
     ap (λ t. bit_xor t (dot row (sums u v))) ((product_linear_right c).on_xor x y)
     ∙ ap (bit_xor (bit_xor (mul c x) (mul c y))) (dot-sums row u v (omega (arith, e)))
     ∙ xor_middle (mul c x) (mul c y) (dot row u) (dot row v)
-dot-sums row u v e = refl
+dot-sums row u v e = grind arith
 
 pub dot-lt : (row v : List ℕ) → AreElements row → AreElements v → dot row v < 2 ^ 16
 unfolding dot
@@ -90,35 +88,29 @@ at_lost (None ∷ ks) (x ∷ d) = x ∷ at_lost ks d
 at_lost (Some y ∷ ks) (x ∷ d) = at_lost ks d
 
 length-at_lost : (i : ℕ) (ks : List (Option (List ℕ))) (d : List ℕ) → IsZeroAtKnown ks d → length (at_lost ks d) ≡ length (lost_from i ks)
-length-at_lost i [] d z = refl
-length-at_lost i (k ∷ ks) [] z = absurd z
 length-at_lost i (None ∷ ks) (x ∷ d) z = ap suc (length-at_lost (i + 1) ks d z)
 length-at_lost i (Some y ∷ ks) (x ∷ d) z = length-at_lost (i + 1) ks d z.1
+length-at_lost i ks d z = grind arith
 
 elements-at_lost : (ks : List (Option (List ℕ))) (d : List ℕ) → AreElements d → AreElements (at_lost ks d)
-elements-at_lost [] d h = tt
-elements-at_lost (k ∷ ks) [] h = tt
 elements-at_lost (None ∷ ks) (x ∷ d) h = (h.0, elements-at_lost ks d h.1)
 elements-at_lost (Some y ∷ ks) (x ∷ d) h = elements-at_lost ks d h.1
+elements-at_lost ks d h = grind arith
 
 -- the sum over all places is that over the lost ones
 pub dot-at_lost : (e i : ℕ) (ks : List (Option (List ℕ))) (d : List ℕ) → IsZeroAtKnown ks d → dot (coefficients (range_with_len i (length ks)) e) d ≡ dot (coefficients (lost_from i ks) e) (at_lost ks d)
 unfolding dot
-dot-at_lost e i [] [] z = refl
-dot-at_lost e i [] (x ∷ d) z = absurd z
-dot-at_lost e i (k ∷ ks) [] z = absurd z
 dot-at_lost e i (None ∷ ks) (x ∷ d) z = ap (bit_xor (mul (coefficient e i) x)) (dot-at_lost e (i + 1) ks d z)
 dot-at_lost e i (Some y ∷ ks) (x ∷ d) z =
     ap (λ t. bit_xor (mul (coefficient e i) t) (dot (coefficients (range_with_len (i + 1) (length ks)) e) d)) z.0
     ∙ ap (λ t. bit_xor t (dot (coefficients (range_with_len (i + 1) (length ks)) e) d)) (product-zero (coefficient e i))
     ∙ dot-at_lost e (i + 1) ks d z.1
+dot-at_lost e i ks d z = grind arith
 
 all_zero : (ks : List (Option (List ℕ))) (d : List ℕ) → IsZeroAtKnown ks d → AllByRecursion (λ x. x ≡ 0) (at_lost ks d) → AllByRecursion (λ x. x ≡ 0) d
-all_zero [] [] z h = tt
-all_zero [] (x ∷ d) z h = absurd z
-all_zero (k ∷ ks) [] z h = absurd z
 all_zero (None ∷ ks) (x ∷ d) z h = (h.0, all_zero ks d z h.1)
 all_zero (Some y ∷ ks) (x ∷ d) z h = (z.0, all_zero ks d z.1 h)
+all_zero ks d z h = grind arith
 
 pub no_difference : (u v : List ℕ) → length u ≡ length v → AllByRecursion (λ x. x ≡ 0) (sums u v) → u ≡ v
 no_difference [] [] e h = refl
@@ -132,13 +124,10 @@ sums-elements u v h k = tt
 -- two lists that agree with the known slices do not differ there
 zero_at_known : (ks : List (Option (List ℕ))) (a b : List (List ℕ)) (p : ℕ) → AllZip (λ slice text. ForSome slice (λ found. text ≡ found)) ks a → AllZip (λ slice text. ForSome slice (λ found. text ≡ found)) ks b
     → IsZeroAtKnown ks (sums (map (word p) a) (map (word p) b))
-zero_at_known [] [] [] p h k = tt
-zero_at_known [] [] (y ∷ b) p h k = absurd k
-zero_at_known (o ∷ ks) (x ∷ a) [] p h k = absurd k
 zero_at_known (None ∷ ks) (x ∷ a) (y ∷ b) p h k = zero_at_known ks a b p h.1 k.1
 zero_at_known (Some z ∷ ks) (x ∷ a) (y ∷ b) p h k =
     (ap (λ t. bit_xor (word p t) (word p y)) (h.0 z refl) ∙ ap (λ t. bit_xor (word p z) (word p t)) (k.0 z refl) ∙ xor_self (word p z), zero_at_known ks a b p h.1 k.1)
-zero_at_known ks a b p h k = absurd h
+zero_at_known ks a b p h k = grind arith
 
 -- ---- what all kept exponents kill, all survivors kill
 
@@ -165,9 +154,8 @@ at_key P t (r ∷ rs) e h i (suc k) lt here =
     at_key P t rs e (rest (t r.0) (filter (λ q. t q.0) rs) h) i k (omega (arith, lt)) here
 
 any_here : (xs : List ℕ) (e k : ℕ) → k < length xs → get_or xs k e ≡ e → list_any (λ x. x == e) xs ≡ true
-any_here [] e k lt here = absurd (omega (arith, lt))
-any_here (x ∷ xs) e zero lt here = or_left _ _ (eq-eqb x e here)
 any_here (x ∷ xs) e (suc k) lt here = or_right _ _ (any_here xs e k (omega (arith, lt)) here)
+any_here xs e k lt here = grind arith
 
 of_kept : (P : ℕ → Type 0) (is : List ℕ) (rs : List (ℕ × List ℕ)) → AllByRecursion (λ r. P r.0) (kept_slices is (map (λ r. r.0) rs) rs) → (e : ℕ) → Contains (kept is (map (λ r. r.0) rs)) e → P e
 of_kept P is rs h e c =

@@ -34,9 +34,8 @@ bytes-spelled f a zero = tt
 bytes-spelled f a (suc n) = (omega arith, (omega arith, bytes-spelled f (a + 1) n))
 
 word-spelled : (f : ℕ → ℕ) → ((p : ℕ) → f p < 2 ^ 16) → (a n p : ℕ) → p < n → word p (spelled f a n) ≡ f (a + p)
-word-spelled f small a zero p lt = absurd (omega (arith, lt))
-word-spelled f small a (suc n) zero lt = grind arith
 word-spelled f small a (suc n) (suc p) lt = grind (arith, word-spelled f small (a + 1) n p (omega (arith, lt)))
+word-spelled f small a n p lt = grind arith
 
 pub word_of : (f : ℕ → ℕ) → ((p : ℕ) → f p < 2 ^ 16) → (n p : ℕ) → p < n → word p (spelled f 0 n) ≡ f p
 word_of f small n p lt = let e : 0 + p ≡ p = omega arith in word-spelled f small 0 n p lt ∙ ap f e
