@@ -5,15 +5,16 @@ usage: proof_imports.py CRATE..     at the top of the repository
 
 A module from which two proof files take names, other than a proof file of the crate, goes to Common with those names.
 Where a name is to be had from several modules, Common takes it from the one that most files use. Names that a file
-unfolds or renames stay in that file, since the right to unfold is not passed on. So a new proof imports as it likes, and
-this tidies up behind it. What Common passes on is looked up first, so that a second run changes nothing.
+renames stay in that file; of those that a file unfolds, Common passes on the right to unfold, too. So a new proof
+imports as it likes, and this tidies up behind it. What Common passes on is looked up first, so that a second run
+changes nothing.
 """
 import collections
 import os
 import re
 import sys
 
-USE = re.compile(r"^(?:pub )?use (Rattle\.[\w.\-]+)\.\{(.*)\}\s*$")
+USE = re.compile(r"^(?:unfoldable )?(?:pub )?use (Rattle\.[\w.\-]+)\.\{(.*)\}\s*$")
 HEAD = "-- The names that proofs of this crate take from elsewhere.\n\n"
 
 
@@ -23,14 +24,16 @@ def names_in(text):
 
 def unfolded(lines):
     """Returns the names that a file unfolds."""
-    return {name for line in lines if line.strip().startswith("unfolding ") for name in line.split()[1:]}
+    words = [line.split()[1:] for line in lines if line.strip().startswith("unfolding ")]
+    words += [found.split() for line in lines for found in re.findall(r"\bunfold (.*?) in\b", line)]
+    return {name for found in words for name in found}
 
 
 class Crate:
     """The proof files of a crate, as lines, with what they import from Common looked up."""
 
     def __init__(self, name):
-        self.root, self.own = f"crates/{name}/proofs", f"Rattle.{name}.proofs."
+        self.root, self.own, self.opened = f"crates/{name}/proofs", f"Rattle.{name}.proofs.", set()
         self.common, self.files = f"{self.root}/Common.antt", {}
         homes = {}
         if os.path.isfile(self.common):
@@ -54,23 +57,29 @@ class Crate:
                 modules[homes[name]].append(name)
             yield from (f"use {module}.{{{', '.join(names)}}}" for module, names in modules.items())
 
-    def passed_on(self, line, kept):
+    def passed_on(self, line):
         """Returns the module of a `use` line and those of its names that Common may pass on."""
         found = USE.match(line)
         if not found or found[1].startswith(self.own) or ".contracts." in f"{found[1]}.":
             return None, []
-        return found[1], [it for it in names_in(found[2]) if " as " not in it and "." not in it and it not in kept]
+        return found[1], [it for it in names_in(found[2]) if " as " not in it and "." not in it]
 
     def modules(self):
         """Returns the modules that Common takes names from, each with these names."""
         users = collections.defaultdict(lambda: collections.defaultdict(set))
+        opened = set()
         for path, lines in self.files.items():
-            kept = unfolded(lines)
+            opens = unfolded(lines)
             for line in lines:
-                module, names = self.passed_on(line, kept)
+                module, names = self.passed_on(line)
                 for name in names:
                     users[name][module].add(path)
-        homes = {name: min(of, key=lambda it: (-len(of[it]), it)) for name, of in users.items()}
+                    if name in opens:
+                        opened.add((name, module))
+        homes = {
+            name: min(of, key=lambda it: ((name, it) not in opened, -len(of[it]), it)) for name, of in users.items()
+        }
+        self.opened = {name for name, module in opened if homes[name] == module}
         files, names = collections.defaultdict(set), collections.defaultdict(list)
         for name, module in homes.items():
             files[module] |= users[name][module]
@@ -78,9 +87,9 @@ class Crate:
         return {module: names[module] for module in files if len(files[module]) > 1}
 
     def rewritten(self, lines, homes):
-        kept, taken, out, place = unfolded(lines), [], [], None
+        taken, out, place = [], [], None
         for line in lines:
-            module, names = self.passed_on(line, kept)
+            module, names = self.passed_on(line)
             moved = [it for it in names if homes.get(it) == module]
             if not moved:
                 out.append(line)
@@ -103,7 +112,11 @@ class Crate:
             return
         order = sorted(modules, key=lambda it: (not it.startswith("Rattle.std."), it))
         with open(self.common, "w", encoding="utf8") as file:
-            file.write(HEAD + "".join(f"pub use {it}.{{{', '.join(sorted(modules[it]))}}}\n" for it in order))
+            file.write(HEAD)
+            for it in order:
+                for mark, opens in ("", False), ("unfoldable ", True):
+                    if names := sorted(name for name in modules[it] if (name in self.opened) == opens):
+                        file.write(f"{mark}pub use {it}.{{{', '.join(names)}}}\n")
         self.declare()
 
     def declare(self):

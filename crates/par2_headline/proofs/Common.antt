@@ -7,8 +7,11 @@ pub use Rattle.par2_laws.specs.Creates.{may_refuse}
 pub use Rattle.par2_spec.specs.Commands.{Action, Command, Do, Repair, Undo, Verify}
 pub use Rattle.par2_spec.specs.Folders.{Folder}
 pub use Rattle.par2_spec.specs.Opening.{Started}
+pub use Rattle.par2_spec.specs.Sessions.{Session, changes_unless}
+unfoldable pub use Rattle.par2_spec.specs.Sessions.{changes_asked, history_of}
 pub use Rattle.par2_spec.specs.Stores.{Contents}
-pub use Rattle.par2_spec.specs.Texts.{Outcome, status_of, status_of_fault}
+pub use Rattle.par2_spec.specs.Texts.{Outcome}
+unfoldable pub use Rattle.par2_spec.specs.Texts.{status_of, status_of_failure, status_of_fault}
 pub use Rattle.par2_spec.specs.declared.Failure.{Failure}
 pub use Rattle.par2_spec.specs.declared.Failure.TheVariants.{Arguments, FolderChanged, JournalInvalid, NothingToRedo, NothingToUndo, Refused, Store}
 pub use Rattle.par2_spec.specs.declared.Fault.{Fault}

@@ -1,7 +1,6 @@
 -- What the status of a run tells.
-use Rattle.par2_headline.proofs.Common.{◌≡◌, ◌≢◌, ◌⊎◌, inl, inr, ℕ, false, refl, arith, status_of, Failure, Refused, Store, Arguments, JournalInvalid, FolderChanged, NothingToUndo, NothingToRedo, Fault, BadSliceSize, BadCount, BadBase, NoInput, BadName, DuplicateInput, NoSuchFile, EmptyFile, TooManySlices, DuplicateId, NameTooLong, Exists, NoPackets, NoMain, NoDescription, NoChecksums, BadSet, NotRepairable, RepairFailed, NotComplete, Memory, may_refuse, Telling, Answered, Failed, IsShown}
-use Rattle.par2_spec.specs.Texts.{status_of_fault, status_of_failure}
-use Rattle.std.specs.Prelude.{List, Option}
+use Rattle.par2_spec.proofs.TestLaws.{by_either}
+use Rattle.par2_headline.proofs.Common.{◌≡◌, ◌≢◌, ◌⊎◌, inl, inr, ℕ, false, refl, arith, status_of, status_of_fault, status_of_failure, Failure, Refused, Fault, BadSliceSize, BadCount, BadBase, NoInput, BadName, DuplicateInput, NoSuchFile, EmptyFile, TooManySlices, DuplicateId, NameTooLong, Exists, NoPackets, NoMain, NoDescription, NoChecksums, BadSet, NotRepairable, RepairFailed, NotComplete, Memory, may_refuse, Telling, Answered, Failed, IsShown, List, Option}
 use Rattle.par2_printing.specs.declared.printer.Printer.{Printer}
 
 -- a fault with this status: it isn't 0; 2 and 5 have one fault alone; and a repair of what a create left has no fault
@@ -61,12 +60,7 @@ told_of Memory = eight Memory
 pub failure_is_told : (reason : Failure) → status_of_failure reason ≢ 0
 unfolding status_of_failure
 failure_is_told (Refused fault) e = (told_of fault).failed e
-failure_is_told Store e = omega (arith, e)
-failure_is_told Arguments e = omega (arith, e)
-failure_is_told JournalInvalid e = omega (arith, e)
-failure_is_told FolderChanged e = omega (arith, e)
-failure_is_told NothingToUndo e = omega (arith, e)
-failure_is_told NothingToRedo e = omega (arith, e)
+failure_is_told reason e = omega (arith, e)
 
 -- the status of what is reported
 abbrev pub own_status : Telling → ℕ
@@ -76,11 +70,5 @@ own_status (Failed spoken reason) = status_of_failure reason
 -- a run ends with it, or with 6, where a writer failed
 pub shown_status : {O E : Type 0} (told : Telling) (held : O → Option (List ℕ)) (out out_after : Printer O) (tells : E → Option (List ℕ)) (err err_after : Printer E) (status : ℕ)
     → IsShown told held out out_after tells err err_after status → (status ≡ own_status told) ⊎ (status ≡ 6)
-shown_status (Answered dropped outcome) held out out_after tells err err_after status shown = elim shown.0 [
-  | inl all ↦ inl all.1
-  | inr part ↦ inr part.1
-]
-shown_status (Failed spoken reason) held out out_after tells err err_after status shown = elim shown.0 [
-  | inl all ↦ inl all.1
-  | inr part ↦ inr part.1
-]
+shown_status (Answered dropped outcome) held out out_after tells err err_after status shown = by_either shown.0 (λ all. inl all.1) (λ part. inr part.1)
+shown_status (Failed spoken reason) held out out_after tells err err_after status shown = by_either shown.0 (λ all. inl all.1) (λ part. inr part.1)

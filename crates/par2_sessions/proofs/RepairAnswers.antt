@@ -1,8 +1,5 @@
 -- What a session's answer to a repair says of its folder.
-use Rattle.par2_sessions.proofs.Common.{◌≡◌, ◌∙◌, ℕ, List, ◌∷◌, map, Bool, Result, Ok, Err, refl, sym, ap, subst, Option, None, IsTrue, OnOk, IfOk, Command, Repair, Action, Do, Folder, History, folders, in_front, unless_refused, is_valid, changes_of, LeadsToAfter, LeadsToAfterAsked, refusal, after, Session, session_unless, changes_unless}
-use Rattle.std.specs.Prelude.{Some}
-use Rattle.par2_spec.specs.History.{history_after}
-use Rattle.par2_spec.specs.Sessions.{session_with, session_after, changes_asked, history_of}
+use Rattle.par2_sessions.proofs.Common.{◌≡◌, ◌∙◌, ℕ, List, ◌∷◌, map, Bool, Result, Ok, Err, refl, sym, ap, subst, Option, None, IsTrue, OnOk, IfOk, Command, Repair, Action, Do, Folder, History, folders, in_front, unless_refused, history_after, is_valid, changes_of, LeadsToAfter, LeadsToAfterAsked, refusal, after, Session, session_unless, changes_unless, session_with, session_after, changes_asked, history_of, Some}
 use Rattle.par2_spec.specs.Texts.{Step, step_of}
 use Rattle.par2_spec.specs.declared.Fault.{Fault}
 
@@ -31,8 +28,7 @@ module _ (s t : Session) (base : List ℕ) (extras : List (List ℕ)) (purge : B
   by_refusal (Some fault) step leads = absurd (cc)
 
   pub is_repaired : session_after s (Do command) ≡ Ok t → LeadsToAfterAsked s.folder (Do command) → IsRepaired s.folder t.folder command
-  unfolding session_after changes_asked
-  is_repaired step leads =
+  is_repaired step leads = unfold session_after changes_asked in
       let both = by_refusal (refusal s.folder command) step leads in
       record { accepted = both.0; left = both.1 }
 

@@ -1,10 +1,8 @@
 -- Undos, one after the other, lead through the older folders.
-use Rattle.par2_sessions.proofs.Common.{◌≡◌, ◌≢◌, ◌∙◌, ℕ, suc, ◌+◌, ◌-◌, ◌<◌, List, [], ◌∷◌, ◌++◌, drop, replicate, Result, Ok, Err, refl, sym, ap, subst, add-one, arith, ◌↔◌, IsErr, IsTrue, OnOk, Action, Undo, Folder, History, Run, Ended, Accepted, Passed, after_undo, folders, is_valid, LeadsToAfterAsked, KeptSession, Session, session_of_kept, session_with, kept_undone}
+use Rattle.par2_sessions.proofs.Common.{◌≡◌, ◌≢◌, ◌∙◌, ℕ, suc, ◌+◌, ◌-◌, ◌<◌, List, [], ◌∷◌, ◌++◌, drop, replicate, Result, Ok, Err, refl, sym, ap, subst, add-one, arith, ◌↔◌, IsErr, IsTrue, OnOk, Action, Undo, Folder, History, Run, Ended, Accepted, Passed, after_undo, folders, history_after, is_valid, LeadsToAfterAsked, KeptSession, Session, session_of_kept, session_with, kept_undone, folders_along, history_of, session_after, changes_asked}
 use Rattle.std.proofs.lemmas.Bool.{false≢true}
 use Rattle.std.proofs.lemmas.List.{replicate_more}
 use Rattle.par2_spec.specs.Changes.{Change}
-use Rattle.par2_spec.specs.History.{history_after}
-use Rattle.par2_spec.specs.Sessions.{folders_along, history_of, session_after, changes_asked}
 use Rattle.par2_journal.specs.Ready.{next_of}
 use Rattle.par2_sessions.proofs.RepairAnswers.{GoesAlong}
 use Rattle.par2_spec.proofs.SessionLaws.{none_dropped}
@@ -59,8 +57,7 @@ module _ (laws : AreLaws) (start end : History) (old new : KeptSession) (n i : �
 
   -- an accepted undo goes on
   goes_on : old.undos ≢ [] → new ≡ kept_undone old (next_of old.undos) → IsOnTheWay start end new n (i + 1)
-  unfolding left history_after history_of
-  goes_on some after_undo =
+  goes_on some after_undo = unfold left history_after history_of in
       let step = undo_by old.folder.files old.undos old.redos some ∙ ap Ok (sym (laws.kept old (next_of old.undos))) ∙ ap (λ (s : KeptSession). Ok (session_of_kept s)) (sym after_undo) in
       let next = laws.accepted (session_of_kept old) (session_of_kept new) Undo way.valid tt step in
       record {

@@ -1,9 +1,7 @@
 -- What a store is opened as for a command, and what comes of it.
-use Rattle.par2_tool.proofs.Common.{◌≡◌, inl, inr, ℕ, Bool, List, Some, None, Result, Ok, Err, refl, sym, ap, subst, ◌∙◌, IfOk, Action, Command, Do, Verify, Folder, Started, OpensAs, new_session, changes_of, LeadsToAfterAsked, refusal, report_in, Session, KeptSession, changes_unless, session_after, session_of_kept, Contents, Outcome, IsOpening, with_history, IsOpened, IsRead, StandsFor, started_of, IsAnswer, IsReport, IsVerify, IsWritten, IsRefused, failure_for, IsBack, IsDone, IsFailed, SameOutput, PerformFault, Store, Stands, Verifies}
+use Rattle.par2_spec.proofs.TestLaws.{by_either}
+use Rattle.par2_tool.proofs.Common.{◌≡◌, inl, inr, ℕ, Bool, List, Some, None, Result, Ok, Err, refl, sym, ap, subst, ◌∙◌, IfOk, Action, Command, Do, Verify, Folder, Started, OpensAs, new_session, changes_of, LeadsToAfterAsked, refusal, report_in, Session, KeptSession, changes_unless, session_after, session_of_kept, changes_asked, Contents, Outcome, output_of, IsOpening, with_history, IsOpened, IsRead, StandsFor, started_of, IsAnswer, IsReport, IsVerify, IsWritten, IsRefused, failure_for, IsBack, IsDone, IsFailed, SameOutput, PerformFault, Store, Stands, Verifies, Option, arith}
 use Rattle.std.specs.Borrow.{Bor}
-use Rattle.std.specs.Prelude.{Option}
-use Rattle.par2_spec.specs.Sessions.{changes_asked}
-use Rattle.par2_spec.specs.Texts.{output_of}
 use Rattle.par2_spec.specs.declared.commands.Command as given
 use Rattle.par2_tool.specs.declared.opening.Started as program
 use Rattle.par2_tool.specs.declared.performing.PerformFault.TheVariants.{Session as Refusing}
@@ -19,23 +17,18 @@ pub opened_on : (contents : Contents) (started : Started) → IsOpening contents
 opened_on contents started opens files = record { opens = opens; holds = record { files = files; opens = opens }; left = inl refl }
 
 pub opened_as_is : (contents : Contents) (files : Folder) (text : List ℕ) (started : Started) → IsRead contents files (Some text) → OpensAs files (Some text) (Ok started) → started.session.folder ≡ files → IsOpened contents contents started
-opened_as_is contents files text started read opens on =
-    opened_on contents started (subst (λ k. IsOpening k (Ok started)) (sym read) opens) (ap (λ (k : Contents). k.files) read ∙ sym on)
+opened_as_is contents files text started read opens on = grind arith
 
 pub opened_new : (contents : Contents) (files : Folder) → IsRead contents files None → IsOpened contents contents (with_history (new_session files))
-opened_new contents files read =
-    let same = ap (λ (k : Contents). k.files) read in
-    opened_on contents (with_history (new_session files)) (opens_new contents (new_session files) (ap (λ (k : Contents). k.journal) read) (ap new_session (sym same))) same
+opened_new contents files read = grind (arith, opened_on, opens_new)
 
 -- what a store was opened as stands for itself
 pub stands_itself : (command : Option (Bor given.Command)) (o : Started) → Stands command o o
-stands_itself None o = refl
-stands_itself (Some command) o = inl refl
+stands_itself command o = grind arith
 
 -- and for a verify, what is on the same folder
 pub stands_for_verify : (command : Option (Bor given.Command)) (o s : Started) → Verifies command → o.session.folder ≡ s.session.folder → Stands command o s
-stands_for_verify None o s is on = absurd is
-stands_for_verify (Some command) o s is on = inr (is, on)
+stands_for_verify command o s is on = grind arith
 
 pub stands : {E : Type 0} (command : Option (Bor given.Command)) (honest : Type 0) (result : Result program.Started E) (old new : Contents) → (honest → IfOk result (λ s. IsOpened old new (started_of s)))
     → IfOk result (λ s. (o : Started) × Stands command o (started_of s) × (honest → IsOpened old new o))
@@ -45,13 +38,11 @@ stands command honest (Ok s) old new opened = (started_of s, stands_itself comma
 -- where no command is given, the answer is what the store opens as
 pub starts : {E : Type 0} (honest : Type 0) (result : Result program.Started E) (old new : Contents) → IfOk result (λ s. (o : Started) × (o ≡ started_of s) × (honest → IsOpened old new o))
     → honest → IfOk result (λ s. IsOpened old new (started_of s))
-starts honest (Err e) old new opened h = tt
-starts honest (Ok s) old new opened h = subst (λ (o : Started). IsOpened old new o) opened.1 (opened.2 h)
+starts honest result old new opened h = grind arith
 
 -- the store is on the folder of what stands for it
 pub files_of : (action : Action) (old mid : Contents) (o s : Started) → StandsFor action o s → IsOpened old mid o → mid.files ≡ s.session.folder
-files_of action old mid o s (inl same) opened = opened.holds.files ∙ ap (λ (t : Started). t.session.folder) same
-files_of action old mid o s (inr verify) opened = opened.holds.files ∙ verify.1
+files_of action old mid o s h opened = grind arith
 
 -- ---- what a verify does on a folder
 
@@ -59,8 +50,7 @@ pub no_way_back : (action : Action) → IsVerify action → IsBack action → �
 no_way_back action is = for_verify (λ a. IsBack a → ⊥) (λ base extras back. back) action is
 
 same_asked : (s t : Session) (command : Command) → s.folder ≡ t.folder → changes_asked s (Do command) ≡ changes_asked t (Do command)
-unfolding changes_asked
-same_asked s t command on = ap (λ f. changes_unless (refusal f command) (changes_of f command)) on
+same_asked s t command on = unfold changes_asked in ap (λ f. changes_unless (refusal f command) (changes_of f command)) on
 
 -- a session that is kept, without room
 standing : Session → KeptSession
@@ -71,19 +61,16 @@ pub verify_failed : (action : Action) (old mid new : Contents) (o : Started) (s 
     → (before after : ℕ) (fault : PerformFault) → IsRefused action s later before after fault → IsFailed action old new (failure_for fault)
 unfolding standing
 verify_failed action old mid new o s later is on opening same before after fault refused =
+    let failed : (base : List ℕ) (extras : List (List ℕ)) → IsRefused (Do (Verify base extras)) s later before after fault → IsFailed (Do (Verify base extras)) old new (failure_for fault) =
+        λ base extras refused. perform_failed (Do (Verify base extras)) old mid new (standing o.session) (standing o.session) o.dropped opening (λ back. absurd back) before after fault (refused_on base extras fault refused) (λ _. same) (λ _. inl same) in
     for_verify (λ a. IsRefused a s later before after fault → IsFailed a old new (failure_for fault)) failed action is refused
   where
     refused_on : (base : List ℕ) (extras : List (List ℕ)) (f : PerformFault) → IsRefused (Do (Verify base extras)) s later before after f → IsRefused (Do (Verify base extras)) (standing o.session) (standing o.session) before after f
     refused_on base extras Store r = r
     refused_on base extras (Refusing reason) r =
-        elim r.0 [
-          | inl memory ↦ (inl memory, as_it_was (standing o.session), r.2)
-          | inr asked ↦ (inr (same_asked o.session (session_of_kept s) (Verify base extras) on ∙ asked), as_it_was (standing o.session), r.2)
-        ]
-
-    failed : (base : List ℕ) (extras : List (List ℕ)) → IsRefused (Do (Verify base extras)) s later before after fault → IsFailed (Do (Verify base extras)) old new (failure_for fault)
-    failed base extras refused =
-        perform_failed (Do (Verify base extras)) old mid new (standing o.session) (standing o.session) o.dropped opening (λ back. absurd back) before after fault (refused_on base extras fault refused) (λ _. same) (λ _. inl same)
+        by_either r.0
+        (λ memory. (inl memory, as_it_was (standing o.session), r.2))
+        (λ asked. (inr (same_asked o.session (session_of_kept s) (Verify base extras) on ∙ asked), as_it_was (standing o.session), r.2))
 
 -- ---- an accepted action
 
@@ -92,9 +79,7 @@ module _ (honest : Type 0) (old mid new : Contents) (o : Started) (s later : Ses
   Is action = (d : Bool) × SameOutput d dropped outcome × (honest → IsDone action old new d outcome)
 
   reported : (base : List ℕ) (extras : List (List ℕ)) → o.session.folder ≡ s.folder → IsReport s base extras outcome → LeadsToAfterAsked s.folder (Do (Verify base extras)) → (honest → mid.files ≡ s.folder → new ≡ mid) → Is (Do (Verify base extras))
-  unfolding output_of
-  reported base extras on answer leads written =
-      let report = answer.0 in
+  reported base extras on answer leads written = unfold output_of in
       let same = ap (λ f. report_in f base extras) on ∙ answer.1 in (
         o.dropped,
         ap (output_of o.dropped) answer.2 ∙ sym (ap (output_of dropped) answer.2),
@@ -102,9 +87,9 @@ module _ (honest : Type 0) (old mid new : Contents) (o : Started) (s later : Ses
           session = o.session;
           between = mid;
           opened = opening h;
-          answer = (report, same, answer.2);
+          answer = (answer.0, same, answer.2);
           after = o.session;
-          accepted = verify_leaves o.session base extras report same;
+          accepted = verify_leaves o.session base extras answer.0 same;
           leads = subst (λ f. LeadsToAfterAsked f (Do (Verify base extras))) (sym on) leads;
           written = written h ((opening h).holds.files ∙ on);
         },

@@ -20,18 +20,24 @@ pub use Rattle.par2_printing.specs.Writing.{TookAll, Wrote, seen}
 pub use Rattle.par2_spec.proofs.SessionLaws.{accepted_next, done_can_walk, grown_can_walk, ok_no_err, redone_can_walk, refused_alike, same_ok, same_session, undone_can_walk, walked_is_valid}
 pub use Rattle.par2_spec.proofs.StopLaws.{halfway_stored, settled_stored, still_stored, taken_back_leads}
 pub use Rattle.par2_spec.proofs.WritingLaws.{part_behind, shown_lines_cut, shown_lines_next, took_both, wrote_less, wrote_then}
-pub use Rattle.par2_spec.specs.Changes.{Change, FolderState, are_applicable, effects, takes_all}
+pub use Rattle.par2_spec.specs.Changes.{Change, FolderState, are_applicable, takes_all}
+unfoldable pub use Rattle.par2_spec.specs.Changes.{effects}
 pub use Rattle.par2_spec.specs.Commands.{Action, Command, Create, Do, Purge, Redo, Repair, Undo, Verify}
 pub use Rattle.par2_spec.specs.Folders.{Folder, fingerprint}
 pub use Rattle.par2_spec.specs.History.{Refusal, Refused, Run, history_after}
 pub use Rattle.par2_spec.specs.Journals.{HalfwayPart, Journal, Spells}
-pub use Rattle.par2_spec.specs.Opening.{Halfway, Opened, Opens, OpensAs, Settled, Started, TellsApart, halfway_where, is_valid, journals_of, leads_through, new_session, opened, opened_by_part, opened_if_found, session_of, settled_journal, started}
+pub use Rattle.par2_spec.specs.Opening.{Halfway, Opened, Settled, Started, TellsApart, halfway_where, is_valid, leads_through, new_session, opened_by_part, opened_if_found, session_of, settled_journal, started}
+unfoldable pub use Rattle.par2_spec.specs.Opening.{Opens, OpensAs, journals_of, leads, opened, taken_back}
 pub use Rattle.par2_spec.specs.Plans.{LeadsToAfterAsked, changes_of}
-pub use Rattle.par2_spec.specs.Refusals.{refusal, set_in}
-pub use Rattle.par2_spec.specs.Reports.{Report, report_in, verdict_of}
-pub use Rattle.par2_spec.specs.Sessions.{CanWalk, KeptSession, OnlyGrew, Session, changes_asked, changes_unless, history_of, session_after, session_of_kept, session_unless, session_with}
+pub use Rattle.par2_spec.specs.Refusals.{set_in}
+unfoldable pub use Rattle.par2_spec.specs.Refusals.{refusal}
+pub use Rattle.par2_spec.specs.Reports.{Report, verdict_of}
+unfoldable pub use Rattle.par2_spec.specs.Reports.{report_in}
+pub use Rattle.par2_spec.specs.Sessions.{CanWalk, KeptSession, OnlyGrew, Session, changes_unless, history_of, session_of_kept, session_unless, session_with}
+unfoldable pub use Rattle.par2_spec.specs.Sessions.{changes_asked, kept_done, kept_redone, kept_undone, session_after}
 pub use Rattle.par2_spec.specs.Stores.{Contents, with_change, with_journal}
 pub use Rattle.par2_spec.specs.Texts.{Outcome, line, status_of, step_line, target_line, verdict_text}
+unfoldable pub use Rattle.par2_spec.specs.Texts.{output_of, report_text}
 pub use Rattle.par2_spec.specs.Views.{action_of, command_of}
 pub use Rattle.par2_spec.specs.declared.Fault.{Fault}
 pub use Rattle.par2_spec.specs.declared.Fault.TheVariants.{Memory}

@@ -1,5 +1,5 @@
 -- Changes that were made one after the other in a store.
-use Rattle.par2_tool.proofs.Common.{◌≡◌, ◌<◌, ◌+◌, ℕ, zero, suc, List, [], ◌∷◌, ◌++◌, length, map, get_or, take, IsTrue, refl, sym, ap, subst, ◌∙◌, arith, map_more, and_parts, Contents, with_change, change_of, Folder, KeptSession, OnlyGrew, session_of_kept, new_session, Kind, Changing, Undoing, Redoing, changes_by_kind, next_of, with_all_changes}
+use Rattle.par2_tool.proofs.Common.{◌≡◌, ◌<◌, ◌+◌, ℕ, zero, suc, List, [], ◌∷◌, ◌++◌, length, map, get_or, take, IsTrue, refl, sym, ap, subst, ◌∙◌, arith, map_more, and_parts, Contents, with_change, change_of, Folder, KeptSession, OnlyGrew, session_of_kept, new_session, Kind, changes_by_kind, with_all_changes}
 use Rattle.par2_spec.specs.Changes as defined
 use Rattle.par2_folder.specs.declared.change.Change.{Change}
 
@@ -31,14 +31,11 @@ applicable_next k (c ∷ cs) (suc i) item within is all = applicable_next (with_
 -- so does it where they were made
 pub applicable_here : (k now : Contents) (changes : List Change) (i : ℕ) (item : Change) → now ≡ with_all_changes k (map change_of (take i changes)) → i < length changes → item ≡ get_or changes i item
     → IsTrue (defined.are_applicable k.files (map change_of changes)) → IsTrue (defined.is_applicable now.files (change_of item))
-applicable_here k now changes i item made within is all =
-    subst (λ (c : Contents). IsTrue (defined.is_applicable c.files (change_of item))) (sym made) (applicable_next k changes i item within is all)
+applicable_here k now changes i item made within is all = grind (arith, applicable_next)
 
 -- what was made ready applies the changes that were asked for
 pub same_changes : (old mid : KeptSession) (kind : Kind) → OnlyGrew old mid → changes_by_kind kind old ≡ changes_by_kind kind mid
-same_changes old mid (Changing changes) grew = refl
-same_changes old mid Undoing grew = ap next_of (sym grew.undos)
-same_changes old mid Redoing grew = ap next_of (sym grew.redos)
+same_changes old mid kind grew = grind arith
 
 -- a session that was opened
 pub is_new : (s : KeptSession) (f : Folder) → s.folder.files ≡ f → s.undos ≡ [] → s.redos ≡ [] → session_of_kept s ≡ new_session f

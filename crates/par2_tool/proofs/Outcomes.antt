@@ -1,7 +1,7 @@
 -- What comes of an action on a store that was opened.
-use Rattle.par2_tool.proofs.Common.{◌≡◌, inl, inr, ℕ, List, Option, Some, None, Result, Ok, Err, Bool, true, false, refl, sym, ap, subst, ◌∙◌, arith, false≢true, Change, Action, Do, Undo, Redo, Started, Session, KeptSession, session_of_kept, changes_unless, refusal, Contents, Fault, Memory, Plan, NothingToUndo, NothingToRedo, TellsApartAlong, TellsApartBack, OpensAsBefore, OpensAsBeforeOrAfter, IsOpened, IsUnopened, StandsFor, IsCounted, IsVerify, IsRefused, IsSession, failure_for, unopened_as, IsBack, IsCause, IsFailed, IsAtTheEnd, IsStopped, OpensAsBeforeOrAfterRun, OpenFault, PerformFault, Store}
+use Rattle.par2_spec.proofs.TestLaws.{by_either}
+use Rattle.par2_tool.proofs.Common.{◌≡◌, inl, inr, ℕ, List, Option, Result, Ok, Err, Bool, true, false, refl, sym, ap, subst, ◌∙◌, arith, false≢true, Change, Action, Started, Session, KeptSession, session_of_kept, changes_unless, changes_asked, Contents, Fault, Memory, Plan, NothingToUndo, NothingToRedo, TellsApartAlong, TellsApartBack, OpensAsBefore, OpensAsBeforeOrAfter, IsOpened, IsUnopened, StandsFor, IsCounted, IsVerify, IsRefused, IsSession, failure_for, unopened_as, IsBack, IsCause, IsFailed, IsAtTheEnd, IsStopped, OpensAsBeforeOrAfterRun, OpenFault, PerformFault, Store}
 use Rattle.par2_spec.specs.History as history
-use Rattle.par2_spec.specs.Sessions.{changes_asked}
 use Rattle.par2_journal.specs.declared.preparation.SessionFault.{SessionFault}
 use Rattle.par2_tool.specs.declared.opening.OpenFault.TheVariants as unopened
 use Rattle.par2_tool.specs.declared.performing.PerformFault.TheVariants.{Session as Refusing}
@@ -15,15 +15,10 @@ is_plan (Err history.NothingToUndo) = false
 is_plan (Err history.NothingToRedo) = false
 
 planned_is_plan : (o : Option Fault) (cs : List Change) → is_plan (changes_unless o cs) ≡ true
-unfolding is_plan
-planned_is_plan None cs = refl
-planned_is_plan (Some fault) cs = refl
+planned_is_plan o cs = unfold is_plan in grind arith
 
 at_an_end : (s : Session) (action : Action) (end : history.Refusal) → is_plan {A = List Change} (Err end) ≡ false → changes_asked s action ≡ Err end → IsBack action
-unfolding changes_asked
-at_an_end s (Do command) end is e = absurd (false≢true (sym is ∙ ap is_plan (sym e) ∙ planned_is_plan (refusal s.folder command) _))
-at_an_end s Undo end is e = tt
-at_an_end s Redo end is e = tt
+at_an_end s action end is e = unfold changes_asked in grind (arith, false≢true, is_plan, planned_is_plan)
 
 -- ---- stops
 
@@ -55,13 +50,11 @@ cut_of_command Honest action old mid left opened started honest (inr verify) fou
 
 memory_of : SessionFault → Fault
 memory_of (Plan fault) = fault
-memory_of NothingToUndo = Memory
-memory_of NothingToRedo = Memory
+memory_of fault = Memory
 
 is_plan_fault : SessionFault → Bool
 is_plan_fault (Plan fault) = true
-is_plan_fault NothingToUndo = false
-is_plan_fault NothingToRedo = false
+is_plan_fault fault = false
 
 module _ (action : Action) (old mid new : Contents) (s later : KeptSession) (dropped : Bool) (opened : IsOpened old mid (record { session = session_of_kept s; dropped = dropped })) (back : IsBack action → dropped ≡ false) where
   abbrev start : Started
@@ -82,20 +75,11 @@ module _ (action : Action) (old mid new : Contents) (s later : KeptSession) (dro
       → (TellsApartAlong (session_of_kept s) action → OpensAsBeforeOrAfter (session_of_kept s) action mid new) → IsFailed action old new (failure_for fault)
   unfolding memory_of is_plan_fault is_plan
   perform_failed before after (Refusing (Plan reason)) refused same stopped =
-      elim refused.0 [
-        | inl memory ↦ inl (ap memory_of memory, inr (start, unchanged (same tt)))
-        | inr asked ↦ inr (start, unchanged (same tt), asked)
-      ]
+      by_either refused.0 (λ memory. inl (ap memory_of memory, inr (start, unchanged (same tt)))) (λ asked. inr (start, unchanged (same tt), asked))
   perform_failed before after (Refusing NothingToUndo) refused same stopped =
-      elim refused.0 [
-        | inl memory ↦ absurd (false≢true (ap is_plan_fault memory))
-        | inr asked ↦ ended history.NothingToUndo refl asked (same tt)
-      ]
+      by_either refused.0 (λ memory. absurd (false≢true (ap is_plan_fault memory))) (λ asked. ended history.NothingToUndo refl asked (same tt))
   perform_failed before after (Refusing NothingToRedo) refused same stopped =
-      elim refused.0 [
-        | inl memory ↦ absurd (false≢true (ap is_plan_fault memory))
-        | inr asked ↦ ended history.NothingToRedo refl asked (same tt)
-      ]
+      by_either refused.0 (λ memory. absurd (false≢true (ap is_plan_fault memory))) (λ asked. ended history.NothingToRedo refl asked (same tt))
   perform_failed before after Store refused same stopped = stopped_command action old mid new start opened stopped
 
 pub opening_failed : (action : Action) (old new : Contents) (fault : OpenFault) → IsUnopened old new fault → (TellsApartBack old → OpensAsBefore old new) → IsFailed action old new (unopened_as fault)
@@ -107,26 +91,14 @@ opening_failed action old new unopened.Store is stopped = stopped_opening action
 -- ---- why, whatever the store does
 
 pub opening_cause : (action : Action) (before after : ℕ) (fault : OpenFault) → IsCounted before after fault → IsCause action before after (unopened_as fault)
-opening_cause action before after unopened.Store counted = counted
-opening_cause action before after unopened.Memory counted = (inl refl, counted)
-opening_cause action before after unopened.JournalInvalid counted = counted
-opening_cause action before after unopened.FolderChanged counted = counted
+opening_cause action before after fault counted = grind arith
 
 pub perform_cause : (action : Action) (s later : KeptSession) (before middle after : ℕ) (fault : PerformFault) → middle ≡ before → IsRefused action s later middle after fault → IsCause action before after (failure_for fault)
 unfolding memory_of is_plan_fault
 perform_cause action s later before middle after (Refusing (Plan reason)) steady refused =
-    elim refused.0 [
-      | inl memory ↦ (inl (ap memory_of memory), refused.2 ∙ steady)
-      | inr asked ↦ (inr (session_of_kept s, asked), refused.2 ∙ steady)
-    ]
+    by_either refused.0 (λ memory. (inl (ap memory_of memory), refused.2 ∙ steady)) (λ asked. (inr (session_of_kept s, asked), refused.2 ∙ steady))
 perform_cause action s later before middle after (Refusing NothingToUndo) steady refused =
-    elim refused.0 [
-      | inl memory ↦ absurd (false≢true (ap is_plan_fault memory))
-      | inr asked ↦ ((session_of_kept s, asked), refused.2 ∙ steady)
-    ]
+    by_either refused.0 (λ memory. absurd (false≢true (ap is_plan_fault memory))) (λ asked. ((session_of_kept s, asked), refused.2 ∙ steady))
 perform_cause action s later before middle after (Refusing NothingToRedo) steady refused =
-    elim refused.0 [
-      | inl memory ↦ absurd (false≢true (ap is_plan_fault memory))
-      | inr asked ↦ ((session_of_kept s, asked), refused.2 ∙ steady)
-    ]
+    by_either refused.0 (λ memory. absurd (false≢true (ap is_plan_fault memory))) (λ asked. ((session_of_kept s, asked), refused.2 ∙ steady))
 perform_cause action s later before middle after Store steady refused = omega (arith, steady, refused)

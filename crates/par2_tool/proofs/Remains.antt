@@ -7,14 +7,7 @@ use Rattle.par2_tool.proofs.MadeChanges.{made_next}
 -- where all changes were made, as many of them were as there are
 pub all_remain : (start now left : Contents) (changes : List Change) (i : ℕ) → length changes ≤ i → now ≡ with_all_changes start (map change_of (take i changes)) → left ≡ now
     → AreSomeWritten start (map change_of changes) left
-all_remain start now left changes i whole made is = (
-  length changes,
-  omega (arith, length-map changes change_of),
-  is
-      ∙ made
-      ∙ ap (λ cs. with_all_changes start (map change_of cs)) (take_all i changes whole ∙ sym (take_all (length changes) changes (omega arith)))
-      ∙ ap (with_all_changes start) (sym (take-map change_of (length changes) changes)),
-)
+all_remain start now left changes i whole made is = grind (arith, length-map, take_all, take-map)
 
 -- where the first ones were made, and the next one was or wasn't
 pub next_remains : (start now left : Contents) (changes : List Change) (i : ℕ) (item : Change) → i < length changes → item ≡ get_or changes i item → now ≡ with_all_changes start (map change_of (take i changes))
@@ -33,8 +26,7 @@ next_remains start now left changes i item within at made (inr one) = (
 module _ (old : Contents) (journals : Journals) where
   -- when the halfway journal was put
   pub begun_remains : (cs : List defined.Change) (left : Contents) → (left ≡ old) ⊎ (left ≡ with_halfway old journals.halfway) → IsStoppedAt old journals cs left
-  begun_remains cs left (inl none) = inl none
-  begun_remains cs left (inr begun) = inr (inl (0, omega arith, begun))
+  begun_remains cs left h = grind arith
 
   -- when the changes were made, or some of them
   pub some_remain : (cs : List defined.Change) (mid left : Contents) → mid ≡ with_halfway old journals.halfway → AreSomeWritten mid cs left → IsStoppedAt old journals cs left
@@ -43,6 +35,4 @@ module _ (old : Contents) (journals : Journals) where
   -- when the journal of afterwards was put
   pub ended_remains : (cs : List defined.Change) (mid done left : Contents) → mid ≡ with_halfway old journals.halfway → done ≡ with_all_changes mid cs → (left ≡ done) ⊎ (left ≡ with_journal done journals.after.items)
       → IsStoppedAt old journals cs left
-  ended_remains cs mid done left begun made (inl all) =
-      inr (inl (length cs, omega arith, all ∙ made ∙ ap (λ k. with_all_changes k cs) begun ∙ ap (with_all_changes (with_halfway old journals.halfway)) (sym (take_all (length cs) cs (omega arith)))))
-  ended_remains cs mid done left begun made (inr after) = inr (inr (after ∙ ap (λ k. with_journal k journals.after.items) (made ∙ ap (λ k. with_all_changes k cs) begun)))
+  ended_remains cs mid done left begun made h = grind (arith, take_all)

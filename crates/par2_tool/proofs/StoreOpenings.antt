@@ -1,32 +1,20 @@
 -- What opening does to a store that was only read, and to one that was read before.
-use Rattle.par2_tool.proofs.Common.{◌≡◌, inl, Result, Ok, Err, arith, refl, sym, subst, ◌∙◌, IfErr, CountsOpening, OpensAsBefore, TellsApartBack, LeavesUnopened, OpenFault, IsCounted, KeepsStore}
+use Rattle.par2_tool.proofs.Common.{◌≡◌, Result, arith, sym, subst, ◌∙◌, IfErr, CountsOpening, OpensAsBefore, TellsApartBack, LeavesUnopened, IsCounted, OpenFault, KeepsStore}
 use Rattle.par2_folder.specs.Stores.{OnlyReads}
 use Rattle.par2_folder.specs.declared.view.Store.{Ghosts as StoreOf}
 use Rattle.par2_tool.specs.StoreOpenings.{Opens}
-use Rattle.par2_tool.proofs.Calls.{no_calls}
 
 module _ {S T : Type 0} (store : StoreOf S) where
   -- whatever a power cut leaves of one that was only read is what was there
   pub reads_opens : (old new : S) (r : Result T OpenFault) → OnlyReads store old new → store.honest old → store.impossible new ≡ store.impossible old → LeavesUnopened (store.contents old) (store.contents new) r → Opens store old new r
-  reads_opens old new r reads honest possible unopened = record {
-    unopened = unopened;
-    cut = λ lasts apart left may. inl (lasts left (reads.remains honest left may));
-    possible = possible;
-    calls = no_calls (store.contents old) (store.writing_calls old) (store.writing_calls new) r reads.unwritten;
-  }
+  reads_opens old new r reads honest possible unopened = grind arith
 
   -- nothing was done at all
   pub stays_opens : (it : S) (r : Result T OpenFault) → LeavesUnopened (store.contents it) (store.contents it) r → Opens store it it r
-  stays_opens it r unopened = record {
-    unopened = unopened;
-    cut = λ lasts apart left may. inl (lasts left may);
-    possible = refl;
-    calls = no_calls (store.contents it) (store.writing_calls it) (store.writing_calls it) r refl;
-  }
+  stays_opens it r unopened = grind arith
 
   pub stays_keeps : (it : S) (r : Result T OpenFault) → IfErr r (IsCounted (store.failures it) (store.failures it)) → KeepsStore store it it r
-  stays_keeps it (Ok v) counted = record { honest = λ h. h; kept = λ h lasts. lasts; failures = record { later = omega arith; counted = tt; steady = refl } }
-  stays_keeps it (Err e) counted = record { honest = λ h. h; kept = λ h lasts. tt; failures = record { later = omega arith; counted = counted; steady = tt } }
+  stays_keeps it r counted = grind arith
 
   pub opens_after_reading : (old read new : S) (r : Result T OpenFault) → OnlyReads store old read → store.honest old → store.impossible read ≡ store.impossible old → Opens store read new r → Opens store old new r
   opens_after_reading old read new r reads honest possible opens =

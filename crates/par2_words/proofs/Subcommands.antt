@@ -1,6 +1,5 @@
 -- The subcommand that a parse met is one of the six.
-use Rattle.par2_words.proofs.Common.{◌≡◌, ◌∙◌, Bool, cond, true, false, true≢false, refl, ap, sym, subst, List, [], Option, Some, None, is_some, option_map, unwrap_or, Box, find, list_all, bytes_eq, App, HasMatchesOf, Row, Shape, Text, app_of, built, fault_of, found_of, is_simple, is_simple_and_free, rows_of, subcommand_name_of, subcommand_of, subcommand_rows, subcommand_rows_of, argument_words, entered, label_of, names_of, rows_at, Command, Action, Undo, Redo, create_meaning, meaning, purge_meaning, repair_meaning, verify_meaning}
-use Rattle.std.specs.Prelude.{codes}
+use Rattle.par2_words.proofs.Common.{◌≡◌, ◌∙◌, Bool, cond, true, false, true≢false, refl, ap, sym, subst, List, [], Option, Some, None, is_some, option_map, unwrap_or, Box, find, list_all, bytes_eq, App, HasMatchesOf, Row, Shape, Text, app_of, built, fault_of, found_of, is_simple, is_simple_and_free, rows_of, subcommand_name_of, subcommand_of, subcommand_rows, subcommand_rows_of, argument_words, entered, label_of, names_of, rows_at, Command, Action, Undo, Redo, create_meaning, meaning, purge_meaning, repair_meaning, verify_meaning, clap_on_literals, create_app, par2_app, purge_app, repair_app, start_app, verify_app, codes}
 use Rattle.std.specs.Box.{box_value}
 use Rattle.std.proofs.lemmas.Option.{none-some}
 use Rattle.std.proofs.lemmas.List.Elements.{recursion_from_All}
@@ -9,24 +8,19 @@ use Rattle.clap.specs.Walk.{answers_to, stop_after}
 use Rattle.clap.specs.declared.parser.matches.ArgMatches.{ArgMatches}
 use Rattle.clap.specs.declared.parser.matches.SubCommand.{SubCommand}
 use Rattle.clap.specs.declared.parser.matches.ArgMatches.TheViews.{out-ArgMatches, out-SubCommand}
-use Rattle.clap.proofs.OnLiterals.{clap_on_literals}
-use Rattle.par2_words.specs.Definition.{create_app, par2_app, purge_app, repair_app, start_app, verify_app}
 use Rattle.par2_spec.proofs.ListsLaws.{found_one}
 
 simple : is_simple par2_app ≡ true
-unfolding clap_on_literals create_app par2_app purge_app repair_app start_app verify_app
-simple = refl
+simple = unfold clap_on_literals create_app par2_app purge_app repair_app start_app verify_app in refl
 
 free : is_simple_and_free par2_app ≡ true
-unfolding clap_on_literals create_app par2_app purge_app repair_app start_app verify_app
-free = refl
+free = unfold clap_on_literals create_app par2_app purge_app repair_app start_app verify_app in refl
 
 abbrev is_known : Shape → Bool
 is_known s = is_some (meaning (s.name, []))
 
 all_known : list_all is_known (built par2_app).subs ≡ true
-unfolding clap_on_literals create_app par2_app purge_app repair_app start_app verify_app
-all_known = refl
+all_known = unfold clap_on_literals create_app par2_app purge_app repair_app start_app verify_app in refl
 
 find_all : {X : Type 0} (p q : X → Bool) (xs : List X) (x : X) → find p xs ≡ Some x → list_all q xs ≡ true → q x ≡ true
 find_all p q xs x e h = (found_one (λ y. q y ≡ true) p xs (recursion_from_All (λ y. q y ≡ true) xs (AllPass-from_list_all q xs h)) x e).0

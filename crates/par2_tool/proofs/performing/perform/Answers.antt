@@ -12,9 +12,8 @@ use Rattle.par2_tool.proofs.performing.perform.Goals as goal
 pub returns-in-Ok-clause-session : goal.returns-in-Ok-clause-session
 returns-in-Ok-clause-session g c =
     let s = session_of_kept c.args.session.now in
-    let report = rw c.as_str.ensures.value at (rw c.as_slice.ensures.value at c.in-Ok.ensures.report) in
     ap (λ (x : Command). session_after s (command_of x)) c.in-Verify.is
-    ∙ verify_leaves s _ _ (report_of c.in-Ok.report) report
+    ∙ verify_leaves s _ _ (report_of c.in-Ok.report) (rw c.as_str.ensures.value at (rw c.as_slice.ensures.value at c.in-Ok.ensures.report))
 
 pub returns-in-Ok-clause-leads : goal.returns-in-Ok-clause-leads
 returns-in-Ok-clause-leads g c =
@@ -178,12 +177,9 @@ returns-in-Ok-clause-calls g c =
 calls_so : (g : _) (c : After-write_down g) → calls_to_write c.in_ok-journals.journals (length c.changes.result.now) ≡ calls_asked (session_of_kept c.args.session.now) (command_of c.args.command.now)
 calls_so g c =
     let old = c.args.session.now in
-    let made = made_of g c in
-    let journals = c.in_ok-journals.journals in
-    let action = c.in-Act.action in
-    ap (calls_to_write journals) (sym (length-map c.changes.result.now change_of) ∙ ap length (changed_so g c))
-    ∙ ready_calls (action_of action) old c.in-Ok-prepare.prepared c.prepare.new.self made journals (spelled_so g c)
-    ∙ asked_calls action (session_of_kept old)
+    ap (calls_to_write c.in_ok-journals.journals) (sym (length-map c.changes.result.now change_of) ∙ ap length (changed_so g c))
+    ∙ ready_calls (action_of c.in-Act.action) old c.in-Ok-prepare.prepared c.prepare.new.self (made_of g c) c.in_ok-journals.journals (spelled_so g c)
+    ∙ asked_calls c.in-Act.action (session_of_kept old)
     ∙ ap (λ (x : Command). calls_asked (session_of_kept old) (command_of x)) (sym c.in-Act.is)
 
 pub returns-in-Ok-write_down-clause-calls : goal.returns-in-Ok-write_down-clause-calls

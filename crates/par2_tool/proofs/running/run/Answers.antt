@@ -1,3 +1,4 @@
+use Rattle.par2_spec.proofs.TestLaws.{by_either}
 use Rattle.par2_tool.proofs.Common.{◌≡◌, ◌+◌, map, inl, inr, [], arith, false, refl, sym, ap, subst, ◌∙◌, string_bytes, false≢true, same_Some, Action, Contents, Started, session_of_kept, command_of, status_of, AskFor, CountsFailedRun, calls_asked, started_of, IsOpened, outcome_of, failure_for, Answered, Failed, IsBack, IsCause, IsFailed, IsUnread, IsPrinted, IsStopped, IsKept}
 use Rattle.par2_spec.specs.declared.Failure.{Failure}
 use Rattle.par2_printing.specs.Views.{words_asked}
@@ -59,10 +60,9 @@ returns-then-is_back-clause-told g c =
       λ honest. inr (
         action,
         asked,
-        elim found.1 [
-          | inl same ↦ inr (back, found.0, found.2 honest, ap (λ (t : Started). t.dropped) same ∙ c.if-dropped.true)
-          | inr verify ↦ absurd (no_way_back action verify.0 back)
-        ],
+        by_either found.1
+        (λ same. inr (back, found.0, found.2 honest, ap (λ (t : Started). t.dropped) same ∙ c.if-dropped.true))
+        (λ verify. absurd (no_way_back action verify.0 back)),
       ),
       λ honest. let counted = (opened.opens honest).calls in inr (action, asked, (counted.0, counted.1, counted.2.opened)),
     )
