@@ -11,15 +11,6 @@ answer repairable long right missing rank =
     ∷ fault_where (not right) RepairFailed
     ∷ [])
 
-by_none : (repairable long right : Bool) (m r : ℕ) → answer repairable long right m r ≡ None → (repairable ≡ true) × (right ≡ true)
-by_none repairable long right m r e = grind arith
-
-by_failed : (repairable long right : Bool) (m r : ℕ) → answer repairable long right m r ≡ Some RepairFailed → (repairable ≡ true) × (right ≡ false)
-by_failed repairable long right m r e = grind arith
-
-by_unrepairable : (repairable long right : Bool) (m r missing rank : ℕ) → answer repairable long right m r ≡ Some (NotRepairable missing rank) → repairable ≡ false
-by_unrepairable repairable long right m r missing rank e = not-true repairable (first_cause (not repairable) long (not right) m r missing rank e)
-
 by_few : (repairable long right : Bool) (m r : ℕ) (fault : Fault) → (fault ≡ RepairFailed → ⊥) → answer repairable long right m r ≡ Some fault → may_refuse fault ≡ true
 by_few true false false m r fault never e = absurd (never (cc))
 by_few repairable long right m r fault never e = cc
@@ -49,13 +40,13 @@ module _ (folder : Folder) (set : ParSet) (searched : List (List ℕ)) where
   determined = (repairable-iff missing (survivors set)).0
 
   pub accepted_by : repair_refusal folder set searched ≡ None → IsRepairable missing (survivors set) × AllByRecursion (λ c. md5 c.1 ≡ c.0.md5) (rebuilt_targets folder set searched)
-  accepted_by e = unfold repair_refusal in let r = by_none repairable _ right _ _ e in (determined r.0, have_digests (rebuilt_targets folder set searched) r.1)
+  accepted_by e = unfold repair_refusal in grind (arith, determined, have_digests)
 
   pub failed_by : repair_refusal folder set searched ≡ Some RepairFailed → IsRepairable missing (survivors set) × (right ≡ false)
-  failed_by e = unfold repair_refusal in let r = by_failed repairable _ right _ _ e in (determined r.0, r.1)
+  failed_by e = unfold repair_refusal in grind (arith, determined)
 
   pub unrepairable_by : (missing rank : ℕ) → repair_refusal folder set searched ≡ Some (NotRepairable missing rank) → repairable ≡ false
-  unrepairable_by m r e = unfold repair_refusal in by_unrepairable repairable _ _ _ _ m r e
+  unrepairable_by m r e = unfold repair_refusal in grind (arith, not-true, first_cause)
 
   pub refused_by : (fault : Fault) → (fault ≡ RepairFailed → ⊥) → repair_refusal folder set searched ≡ Some fault → may_refuse fault ≡ true
   refused_by fault never e = unfold repair_refusal in by_few repairable _ right _ _ fault never e

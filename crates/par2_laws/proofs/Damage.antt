@@ -96,14 +96,10 @@ files_named : (folder : Folder) (inputs : List (List ℕ)) → AllByRecursion (�
 files_named folder [] h = tt
 files_named folder (name ∷ inputs) h = ((and_parts (is_name name) (not (is_par_name name)) (not-false (is_input_name name) h.0)).0, files_named folder inputs h.1)
 
--- a file with bytes has a slice
-some_slice : (s n : ℕ) → 0 < s → (n == 0) ≡ false → 1 ≤ slice_count s n
-some_slice s n positive full = grind (arith, div_ceil_times, eqb-false, zero-mul)
-
 -- no more files than slices
 count_small : (s : ℕ) (fs : List File) → 0 < s → AllByRecursion (λ file. (length file.1 == 0) ≡ false) fs → length fs ≤ sum_by (λ file. slice_count s (length file.1)) fs
 count_small s [] positive h = omega arith
-count_small s (file ∷ fs) positive h = search (arith, sum_by-cons, some_slice, count_small s fs positive h.1)
+count_small s (file ∷ fs) positive h = grind (arith, common_steps, sum_by-cons, div_ceil_times, eqb-false, zero-mul, count_small s fs positive h.1)
 
 pub inputs_taken : (folder : Folder) (a : CreateArgs) → refusal folder (Create a) ≡ None → FitsCreate folder a → AreInputs a.slice (files_of folder a.inputs)
 inputs_taken folder a accepted fits =
@@ -138,13 +134,10 @@ laid_cases (file ∷ files) folder q bytes h = grind (arith, by_either, bytes, c
 
 -- ---- the names of what a create writes
 
-par_volume : (base : List ℕ) (first n : ℕ) → is_par_name (volume_name base first n) ≡ true
-par_volume base first n = grind (arith, common_steps, length-append, drop-append_seam)
-
 par_volumes : (base : List ℕ) (first n : ℕ → ℕ) (texts : ℕ → List ℕ) (is : List ℕ)
     → AllByRecursion (λ name. is_par_name name ≡ true) (map (λ file. file.0) (map (λ i. let v : File = (volume_name base (first i) (n i), texts i) in v) is))
 par_volumes base first n texts [] = tt
-par_volumes base first n texts (i ∷ is) = (par_volume base (first i) (n i), par_volumes base first n texts is)
+par_volumes base first n texts (i ∷ is) = grind (arith, common_steps, length-append, drop-append_seam, par_volumes base first n texts is)
 
 par_outputs : (before : Folder) (a : CreateArgs) → is_par_name a.base ≡ true → AllByRecursion (λ name. is_par_name name ≡ true) (output_names before a)
 par_outputs before a h = unfold volumes in (h, par_volumes a.base (λ i. a.first + volumes_before i) (volume_size a.count) _ (volume_numbers a.count))

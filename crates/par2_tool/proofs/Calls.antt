@@ -1,18 +1,15 @@
 -- How many writing calls are made of a store.
-use Rattle.par2_tool.proofs.Common.{◌≡◌, inr, ℕ, ◌+◌, List, [], length, Option, Some, Result, Ok, Err, refl, sym, ap, subst, ◌∙◌, arith, Vec, Global, Change, Action, Do, Verify, Folder, Opens, Halfway, Started, halfway_where, journals_of, Session, KeptSession, changes_asked, session_of_kept, Contents, action_of, Two, Ready, changes_by_kind, SpellsWhere, AreSpelled, Plan, Journals, AreAtMost, AreCallsToOpen, AreCallsToRun, CountsCalls, CountsFailedRun, CountsOpening, IsCalled, calls_asked, calls_before, calls_for, calls_to_write, calls_unless, IsOpening, IsRead, StandsFor, IsVerify, IsSession, failure_for, unopened_as, OpenFault, PerformFault, Store}
+use Rattle.par2_tool.proofs.Common.{◌≡◌, inr, ℕ, ◌+◌, List, [], length, Some, Result, Ok, Err, refl, sym, ap, subst, ◌∙◌, arith, Change, Action, Do, Verify, Folder, Opens, Halfway, Started, journals_of, Session, KeptSession, changes_asked, session_of_kept, Contents, action_of, Two, Ready, changes_by_kind, AreSpelled, Plan, Journals, AreAtMost, AreCallsToOpen, AreCallsToRun, CountsCalls, CountsFailedRun, CountsOpening, IsCalled, calls_asked, calls_to_write, calls_unless, IsOpening, IsRead, StandsFor, IsVerify, IsSession, failure_for, unopened_as, OpenFault, PerformFault, Store}
 use Rattle.par2_spec.specs.declared.commands.Action as asking
 use Rattle.par2_tool.specs.declared.performing.PerformFault.TheVariants.{Session as Refusing}
 use Rattle.par2_tool.proofs.Stops.{IsMadeReady, asked_of_mid}
 
 -- ---- an action
 
-calls_where : (halfway : Option (Vec ℕ Global)) (s : Session) (changes : List Change) → SpellsWhere halfway (halfway_where Two s changes) → calls_before halfway + (length changes + 1) ≡ calls_for changes
-calls_where halfway s changes spells = grind arith
-
 -- what was made ready takes the calls of the changes that were asked for
 pub ready_calls : (action : Action) (old : KeptSession) (ready : Ready) (mid : KeptSession) → IsMadeReady action old ready mid → (journals : Journals) → AreSpelled journals (journals_of Two (session_of_kept mid) action (changes_by_kind ready.kind mid))
     → calls_to_write journals (length (changes_by_kind ready.kind mid)) ≡ calls_unless (changes_asked (session_of_kept old) action)
-ready_calls action old ready mid made journals spelled = unfold journals_of in grind (arith, calls_where, asked_of_mid)
+ready_calls action old ready mid made journals spelled = unfold journals_of in grind (arith, asked_of_mid)
 
 -- any action but a verify makes those of its changes
 pub asked_calls : (action : asking.Action) (s : Session) → calls_unless (changes_asked s (action_of action)) ≡ calls_asked s (action_of action)

@@ -1,6 +1,6 @@
 -- What comes of an action on a store that was opened.
 use Rattle.par2_spec.proofs.TestLaws.{by_either}
-use Rattle.par2_tool.proofs.Common.{◌≡◌, inl, inr, ℕ, List, Option, Result, Ok, Err, Bool, true, false, refl, sym, ap, subst, ◌∙◌, arith, false≢true, Change, Action, Started, Session, KeptSession, session_of_kept, changes_unless, changes_asked, Contents, Fault, Memory, Plan, NothingToUndo, NothingToRedo, TellsApartAlong, TellsApartBack, OpensAsBefore, OpensAsBeforeOrAfter, IsOpened, IsUnopened, StandsFor, IsCounted, IsVerify, IsRefused, IsSession, failure_for, unopened_as, IsBack, IsCause, IsFailed, IsAtTheEnd, IsStopped, OpensAsBeforeOrAfterRun, OpenFault, PerformFault, Store}
+use Rattle.par2_tool.proofs.Common.{◌≡◌, inl, inr, ℕ, List, Result, Ok, Err, Bool, true, false, refl, sym, ap, subst, ◌∙◌, arith, false≢true, Change, Action, Started, Session, KeptSession, session_of_kept, changes_asked, Contents, Fault, Memory, Plan, NothingToUndo, NothingToRedo, TellsApartAlong, TellsApartBack, OpensAsBefore, OpensAsBeforeOrAfter, IsOpened, IsUnopened, StandsFor, IsCounted, IsVerify, IsRefused, IsSession, failure_for, unopened_as, IsBack, IsCause, IsFailed, IsAtTheEnd, IsStopped, OpensAsBeforeOrAfterRun, OpenFault, PerformFault, Store}
 use Rattle.par2_spec.specs.History as history
 use Rattle.par2_journal.specs.declared.preparation.SessionFault.{SessionFault}
 use Rattle.par2_tool.specs.declared.opening.OpenFault.TheVariants as unopened
@@ -14,11 +14,8 @@ is_plan (Err (history.Refused fault)) = true
 is_plan (Err history.NothingToUndo) = false
 is_plan (Err history.NothingToRedo) = false
 
-planned_is_plan : (o : Option Fault) (cs : List Change) → is_plan (changes_unless o cs) ≡ true
-planned_is_plan o cs = unfold is_plan in grind arith
-
 at_an_end : (s : Session) (action : Action) (end : history.Refusal) → is_plan {A = List Change} (Err end) ≡ false → changes_asked s action ≡ Err end → IsBack action
-at_an_end s action end is e = unfold changes_asked in grind (arith, false≢true, is_plan, planned_is_plan)
+at_an_end s action end is e = unfold changes_asked is_plan in grind (arith, false≢true, is_plan)
 
 -- ---- stops
 

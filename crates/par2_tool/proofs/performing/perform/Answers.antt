@@ -149,17 +149,15 @@ returns-in-Err-write_down-clause-in_order g c honest =
     subst (λ (x : Command). AreSomeMade (changes_asked (session_of_kept c.args.session.now) (command_of x)) start.files new.files) (sym c.in-Act.is)
     (asked_in_order (action_of c.in-Act.action) c.args.session.now c.in-Ok-prepare.prepared c.prepare.new.self (made_of g at) start c.in_ok-journals.journals new (stop_of g at new (c.in-Err-write_down.ensures.written.stopped honest)))
 
+possible_so : (g : _) (c : After-write_down g) → g.S.Store.honest c.args.store.now → (g.S.Store.contents c.args.store.now).files ≡ c.args.session.now.folder.files → g.S.Store.impossible c.write_down.new.store ≡ g.S.Store.impossible c.args.store.now
+possible_so g c honest files = c.write_down.ensures.possible honest
+    (ready_applies (action_of c.in-Act.action) c.args.session.now c.in-Ok-prepare.prepared c.prepare.new.self (made_of g c) (g.S.Store.contents c.args.store.now) files _ (changed_so g c))
+
 pub returns-in-Ok-write_down-clause-possible : goal.returns-in-Ok-write_down-clause-possible
-returns-in-Ok-write_down-clause-possible g c honest files =
-    let at = (goal.at.returns-in-Ok-write_down-clause-possible g c).After-write_down in
-    c.write_down.ensures.possible honest
-    (ready_applies (action_of c.in-Act.action) c.args.session.now c.in-Ok-prepare.prepared c.prepare.new.self (made_of g at) (g.S.Store.contents c.args.store.now) files _ (changed_so g at))
+returns-in-Ok-write_down-clause-possible g c = possible_so g (goal.at.returns-in-Ok-write_down-clause-possible g c).After-write_down
 
 pub returns-in-Err-write_down-clause-possible : goal.returns-in-Err-write_down-clause-possible
-returns-in-Err-write_down-clause-possible g c honest files =
-    let at = (goal.at.returns-in-Err-write_down-clause-possible g c).After-write_down in
-    c.write_down.ensures.possible honest
-    (ready_applies (action_of c.in-Act.action) c.args.session.now c.in-Ok-prepare.prepared c.prepare.new.self (made_of g at) (g.S.Store.contents c.args.store.now) files _ (changed_so g at))
+returns-in-Err-write_down-clause-possible g c = possible_so g (goal.at.returns-in-Err-write_down-clause-possible g c).After-write_down
 
 pub returns-in-Ok-write_down-clause-cut : goal.returns-in-Ok-write_down-clause-cut
 returns-in-Ok-write_down-clause-cut g c honest lasts files apart left may = opens_so g (goal.at.returns-in-Ok-write_down-clause-cut g c).After-write_down files apart left (c.write_down.ensures.written.remains honest lasts left may)
