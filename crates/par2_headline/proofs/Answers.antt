@@ -1,5 +1,5 @@
 use Rattle.std.proofs.lemmas.Option.{same_Some}
-use Rattle.par2_headline.proofs.Common.{◌≡◌, ◌≢◌, ◌⊎◌, inl, inr, ℕ, ◌<◌, Bool, List, Option, Some, None, Ok, Err, refl, sym, ap, subst, ◌∙◌, arith, Action, Command, Do, Repair, Folder, Started, Contents, Outcome, status_of_fault, status_of, status_of_failure, Failure, Refused, Store, Arguments, JournalInvalid, FolderChanged, NothingToUndo, NothingToRedo, Fault, Memory, AskFor, IsOpening, TellsApartInRun, with_history, HasNoEffect, TakesEffect, Telling, Answered, Failed, IsDone, IsFailed, IsRefusedFor, IsUnread, Leaves, OpensAsBeforeOrAfterRun, AskForRepair, Session, changes_asked, changes_unless}
+use Rattle.par2_headline.proofs.Common.{◌≡◌, ◌≢◌, ◌⊎◌, inl, inr, ℕ, ◌<◌, Bool, List, Option, Some, Ok, Err, refl, sym, ap, subst, ◌∙◌, arith, Action, Command, Do, Repair, Folder, Started, Contents, Outcome, status_of_fault, status_of, status_of_failure, Failure, Refused, Store, Arguments, JournalInvalid, FolderChanged, NothingToUndo, NothingToRedo, Fault, Memory, AskFor, IsOpening, TellsApartInRun, with_history, HasNoEffect, TakesEffect, Telling, Answered, Failed, IsDone, IsFailed, IsRefusedFor, IsUnread, Leaves, OpensAsBeforeOrAfterRun, AskForRepair, Session, changes_asked, changes_unless}
 use Rattle.par2_spec.specs.History as history
 use Rattle.par2_spec.specs.Plans.{changes_of}
 use Rattle.par2_spec.specs.Refusals.{refusal}
@@ -63,8 +63,7 @@ module _ (words : List (List ℕ)) (old new : Contents) (action : Action) (asked
 
 -- why the session refuses it
 refused_of : (folder : Folder) (command : Command) (o : Option Fault) (fault : Fault) → changes_unless o (changes_of folder command) ≡ Err (history.Refused fault) → o ≡ Some fault
-refused_of folder command None fault e = let no : ⊥ = cc e in absurd no
-refused_of folder command (Some reason) fault e = let same : reason ≡ fault = cc in ap Some same
+refused_of folder command o fault e = grind arith
 
 session_refuses : (session : Session) (command : Command) (fault : Fault) → changes_asked session (Do command) ≡ Err (history.Refused fault) → refusal session.folder command ≡ Some fault
 session_refuses session command fault e = unfold changes_asked in refused_of session.folder command (refusal session.folder command) fault e
