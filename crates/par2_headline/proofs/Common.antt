@@ -1,6 +1,6 @@
 -- The names that proofs of this crate take from elsewhere.
 
-pub use Rattle.std.proofs.Common.{Bool, Err, List, None, Ok, Option, Some, [], ap, arith, drop, false, inl, inr, length, map, refl, replicate, subst, suc, sym, zero, ℕ, ◌+◌, ◌<◌, ◌∙◌, ◌∷◌, ◌≡◌, ◌≢◌, ◌≤◌, ◌⊎◌}
+pub use Rattle.std.proofs.Common.{Bool, Err, List, Ok, Option, Some, [], ap, arith, drop, false, inl, inr, length, map, refl, replicate, subst, suc, sym, zero, ℕ, ◌+◌, ◌<◌, ◌∙◌, ◌∷◌, ◌≡◌, ◌≢◌, ◌≤◌, ◌⊎◌}
 pub use Rattle.std.specs.List.{AllByRecursion}
 pub use Rattle.par2_headline.specs.Repairs.{AskForRepair}
 pub use Rattle.par2_laws.specs.Creates.{may_refuse}
@@ -15,7 +15,7 @@ unfoldable pub use Rattle.par2_spec.specs.Texts.{status_of, status_of_failure, s
 pub use Rattle.par2_spec.specs.declared.Failure.{Failure}
 pub use Rattle.par2_spec.specs.declared.Failure.TheVariants.{Arguments, FolderChanged, JournalInvalid, NothingToRedo, NothingToUndo, Refused, Store}
 pub use Rattle.par2_spec.specs.declared.Fault.{Fault}
-pub use Rattle.par2_spec.specs.declared.Fault.TheVariants.{BadBase, BadCount, BadName, BadSet, BadSliceSize, DuplicateId, DuplicateInput, EmptyFile, Exists, Memory, NameTooLong, NoChecksums, NoDescription, NoInput, NoMain, NoPackets, NoSuchFile, NotComplete, NotRepairable, RepairFailed, TooManySlices}
+pub use Rattle.par2_spec.specs.declared.Fault.TheVariants.{Memory, NotRepairable, RepairFailed}
 pub use Rattle.par2_tool.specs.Asking.{AskFor}
 pub use Rattle.par2_tool.specs.Holding.{IsOpening, IsSettled, TellsApartInRun, with_history}
 pub use Rattle.par2_tool.specs.Runs.{Effective, HasNoEffect, Runs, TakesEffect}

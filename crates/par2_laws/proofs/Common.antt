@@ -33,7 +33,7 @@ pub use Rattle.par2_spec.proofs.RankLaws.{all_weaker, repairable-iff, test_from_
 pub use Rattle.par2_spec.proofs.ReadLaws.{all-entries, by_checksums, by_descriptions, by_main, by_profile, by_size, distinct_by_length, finished, mapped, no_slices, read_by, set_with, size_parts, size_positive, target_with}
 pub use Rattle.par2_spec.proofs.RefusedLaws.{first_cause, size_two}
 pub use Rattle.par2_spec.proofs.TestLaws.{T-parts, all_none, at_none, by_either, some_if, where_none}
-pub use Rattle.par2_spec.proofs.WrittenSets.{desc_reads, ifsc_reads, index_reads, main_reads, recovery_reads, recovery_slices_read}
+pub use Rattle.par2_spec.proofs.WrittenSets.{desc_reads, ifsc_reads, index_reads, main_reads, recovery_slices_read}
 pub use Rattle.par2_spec.specs.Checksums.{IsPair, Pair, crc_byte, crc_step, crc_steps, pair_of}
 unfoldable pub use Rattle.par2_spec.specs.Checksums.{crc32}
 pub use Rattle.par2_spec.specs.Commands.{Create, CreateArgs, Repair, files_of, outputs_of}

@@ -68,8 +68,8 @@ unfolding IsDistinct
 each_new front [] h = (tt, tt)
 each_new front (x ∷ rest) h =
     let parts : (y : List ℕ) → is_among (front ++ x ∷ []) y ≡ false → (is_among front y ≡ false) × (bytes_eq y x ≡ false) = (λ y k.
-        let two = or_parts (is_among front y) (is_among (x ∷ []) y) (sym (list_any-append (bytes_eq y) front (x ∷ [])) ∙ k) in
-        (two.0, (or_parts (bytes_eq y x) false two.1).0)) in
+    let two = or_parts (is_among front y) (is_among (x ∷ []) y) (sym (list_any-append (bytes_eq y) front (x ∷ [])) ∙ k) in
+    (two.0, (or_parts (bytes_eq y x) false two.1).0)) in
     let longer = front ++ x ∷ [] in
     let whole : front ++ x ∷ rest ≡ longer ++ rest = sym (append_assoc front (x ∷ []) rest) in
     let place : length front + 1 ≡ length longer = sym (length-append front (x ∷ [])) in

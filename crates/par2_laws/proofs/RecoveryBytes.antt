@@ -1,5 +1,5 @@
 -- The recovery slices of a set that reads are bytes of its folder's files.
-use Rattle.par2_laws.proofs.Common.{ℕ, zero, suc, ◌+◌, ◌*◌, ◌/◌, ◌%◌, ◌^◌, ◌<◌, List, [], ◌∷◌, length, map, arith, ◌≡◌, sym, subst, refl, inl, inr, true, ◌-◌, drop, ap, ◌∙◌, T, cond, false, Bool, ◌&&◌, ◌⊎◌, bit_xor, fold, flat_map, slice_get, Result, Err, nat_lt, ◌==◌, if◌then◌else◌, AllByRecursion, range_with_len, list_all, length-md5, crc_step, crc_steps, crc_byte, pair_of, IsPair, Pair, crc32, slice_at, slice_count, slices, AreBytes, AreSurvivors, Agrees, get-entries, is_sorted, entries_sorted, nat_cmp, eq_by_cmp, is_lt, is_eq, slice_cmp, window, windows, is_match, found, Folder, bytes_of, has, ParSet, all_pairs, packets_with, recovery_of, other_par_names, all_some, is_slice_size, main_of, description_of, are_in_profile, target_of, IsSound, set_of, read_set, HoldsBytes, all-each, found_one, found_at_key, all-flat_map, all-take, all-drop, all-filter_map, all-map, all-both, cases_Bool, and_parts, Fault, accepted, Packet, RecoveryBody, begins_with_packet, claimed_length, accepted_after, first_packet, read_recovery, is_of_reading, bytes_eq, all-filter, T-parts, all-entries, all_weaker, NoSuchFile, set_in, recovery_slice, size_even, length-map, known, unwrap_or, Ok, Option, Some, None, common_steps}
+use Rattle.par2_laws.proofs.Common.{ℕ, zero, suc, ◌+◌, ◌*◌, ◌/◌, ◌%◌, ◌^◌, ◌<◌, List, [], ◌∷◌, length, map, arith, ◌≡◌, sym, subst, refl, inl, inr, true, ◌-◌, drop, ap, ◌∙◌, T, cond, false, Bool, ◌&&◌, ◌⊎◌, unwrap_or, Ok, Option, Some, None, bit_xor, fold, flat_map, slice_get, Result, Err, nat_lt, ◌==◌, if◌then◌else◌, AllByRecursion, range_with_len, list_all, length-md5, crc_step, crc_steps, crc_byte, pair_of, IsPair, Pair, crc32, slice_at, slice_count, slices, AreBytes, AreSurvivors, Agrees, get-entries, is_sorted, entries_sorted, nat_cmp, eq_by_cmp, is_lt, is_eq, slice_cmp, window, windows, is_match, found, Folder, bytes_of, has, ParSet, all_pairs, packets_with, recovery_of, other_par_names, all_some, is_slice_size, main_of, description_of, are_in_profile, target_of, IsSound, set_of, read_set, HoldsBytes, all-each, found_one, found_at_key, all-flat_map, all-take, all-drop, all-filter_map, all-map, all-both, cases_Bool, and_parts, Fault, accepted, Packet, RecoveryBody, begins_with_packet, claimed_length, accepted_after, first_packet, read_recovery, is_of_reading, bytes_eq, all-filter, T-parts, all-entries, all_weaker, NoSuchFile, set_in, recovery_slice, size_even, length-map, known, common_steps}
 use Rattle.std.specs.FinMap.{find}
 use Rattle.par2_spec.proofs.RestoredLaws.{bytes-slice_at, length-window, bytes-window}
 use Rattle.std.specs.Option.{ForSome}

@@ -145,14 +145,14 @@ unfolding IsDistinct
 one_by_id [] d a b i j e = absurd (omega (arith, i.1))
 one_by_id (x ∷ files) d a b i j e =
     let apart : (c : File) → Contains files c → id_of x ≡ id_of c → ⊥ = (λ c k same.
-        let other = of_contained (λ y. bytes_eq (id_of x) (id_of y) ≡ false) files c (all_unmap (λ n. bytes_eq (id_of x) n ≡ false) id_of files d.0) k in
-        false≢true (sym other ∙ subst (λ n. bytes_eq (id_of x) n ≡ true) same (itself (id_of x)))) in
+    let other = of_contained (λ y. bytes_eq (id_of x) (id_of y) ≡ false) files c (all_unmap (λ n. bytes_eq (id_of x) n ≡ false) id_of files d.0) k in
+    false≢true (sym other ∙ subst (λ n. bytes_eq (id_of x) n ≡ true) same (itself (id_of x)))) in
     elim (contained_cases x files a i) as (λ _. a ≡ b) [
-  | inl first ↦ by_either (contained_cases x files b j) (λ too. sym first ∙ too) (λ later. absurd (apart b later (ap id_of first ∙ e)))
-  | inr there ↦ by_either (contained_cases x files b j)
-      (λ too. absurd (apart a there (ap id_of too ∙ sym e)))
-      (λ later. one_by_id files d.1 a b there later e)
-]
+      | inl first ↦ by_either (contained_cases x files b j) (λ too. sym first ∙ too) (λ later. absurd (apart b later (ap id_of first ∙ e)))
+      | inr there ↦ by_either (contained_cases x files b j)
+          (λ too. absurd (apart a there (ap id_of too ∙ sym e)))
+          (λ later. one_by_id files d.1 a b there later e)
+    ]
 
 -- ---- steps of the reading
 

@@ -1,5 +1,5 @@
 -- What a session's answer to a repair says of its folder.
-use Rattle.par2_sessions.proofs.Common.{◌≡◌, ◌∙◌, ℕ, List, ◌∷◌, map, Bool, Result, Ok, Err, refl, sym, ap, subst, Option, None, IsTrue, OnOk, IfOk, Command, Repair, Action, Do, Folder, History, folders, in_front, unless_refused, history_after, is_valid, changes_of, LeadsToAfter, LeadsToAfterAsked, refusal, after, Session, session_unless, changes_unless, session_with, session_after, changes_asked, history_of, Some}
+use Rattle.par2_sessions.proofs.Common.{◌≡◌, ◌∙◌, ℕ, List, ◌∷◌, map, Bool, Result, Ok, Err, refl, sym, ap, subst, Some, Option, None, IsTrue, OnOk, IfOk, Command, Repair, Action, Do, Folder, History, folders, in_front, unless_refused, history_after, is_valid, changes_of, LeadsToAfter, LeadsToAfterAsked, refusal, after, Session, session_unless, changes_unless, session_with, session_after, changes_asked, history_of}
 use Rattle.par2_spec.specs.Texts.{Step, step_of}
 use Rattle.par2_spec.specs.declared.Fault.{Fault}
 

@@ -1,6 +1,5 @@
 -- What a store is opened as for a command, and what comes of it.
-use Rattle.par2_spec.proofs.TestLaws.{by_either}
-use Rattle.par2_tool.proofs.Common.{◌≡◌, inl, inr, ℕ, Bool, List, Some, None, Result, Ok, Err, refl, sym, ap, subst, ◌∙◌, IfOk, Action, Command, Do, Verify, Folder, Started, OpensAs, new_session, changes_of, LeadsToAfterAsked, refusal, report_in, Session, KeptSession, changes_unless, session_after, session_of_kept, changes_asked, Contents, Outcome, output_of, IsOpening, with_history, IsOpened, IsRead, StandsFor, started_of, IsAnswer, IsReport, IsVerify, IsWritten, IsRefused, failure_for, IsBack, IsDone, IsFailed, SameOutput, PerformFault, Store, Stands, Verifies, Option, arith}
+use Rattle.par2_tool.proofs.Common.{by_either, ◌≡◌, inl, inr, ℕ, Bool, List, Some, None, Result, Ok, Err, refl, sym, ap, subst, ◌∙◌, Option, arith, IfOk, Action, Command, Do, Verify, Folder, Started, OpensAs, new_session, changes_of, LeadsToAfterAsked, refusal, report_in, Session, KeptSession, changes_unless, session_after, session_of_kept, changes_asked, Contents, Outcome, output_of, IsOpening, with_history, IsOpened, IsRead, StandsFor, started_of, IsAnswer, IsReport, IsVerify, IsWritten, IsRefused, failure_for, IsBack, IsDone, IsFailed, SameOutput, PerformFault, Store, Stands, Verifies}
 use Rattle.std.specs.Borrow.{Bor}
 use Rattle.par2_spec.specs.declared.commands.Command as given
 use Rattle.par2_tool.specs.declared.opening.Started as program
@@ -62,7 +61,7 @@ pub verify_failed : (action : Action) (old mid new : Contents) (o : Started) (s 
 unfolding standing
 verify_failed action old mid new o s later is on opening same before after fault refused =
     let failed : (base : List ℕ) (extras : List (List ℕ)) → IsRefused (Do (Verify base extras)) s later before after fault → IsFailed (Do (Verify base extras)) old new (failure_for fault) =
-        λ base extras refused. perform_failed (Do (Verify base extras)) old mid new (standing o.session) (standing o.session) o.dropped opening (λ back. absurd back) before after fault (refused_on base extras fault refused) (λ _. same) (λ _. inl same) in
+    λ base extras refused. perform_failed (Do (Verify base extras)) old mid new (standing o.session) (standing o.session) o.dropped opening (λ back. absurd back) before after fault (refused_on base extras fault refused) (λ _. same) (λ _. inl same) in
     for_verify (λ a. IsRefused a s later before after fault → IsFailed a old new (failure_for fault)) failed action is refused
   where
     refused_on : (base : List ℕ) (extras : List (List ℕ)) (f : PerformFault) → IsRefused (Do (Verify base extras)) s later before after f → IsRefused (Do (Verify base extras)) (standing o.session) (standing o.session) before after f

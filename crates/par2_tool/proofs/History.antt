@@ -1,5 +1,6 @@
 -- Runs on one store keep one history.
-use Rattle.par2_tool.proofs.Common.{◌≡◌, inl, inr, List, Option, Some, None, Result, Ok, Err, Bool, true, false, refl, sym, ap, subst, ◌∙◌, Action, Do, Verify, Folder, Refusal, Run, history_after, Opened, Settled, Halfway, Started, opened, new_session, is_valid, started, OpensAs, Opens, leads, Session, history_of, session_unless, session_after, changes_asked, LeadsToAfterAsked, Contents, JournalFault, JournalInvalid, FolderChanged, Journal, Spells, accepted_next, refused_alike, same_ok, ok_no_err, taken_back_leads, IsOpened, IsWritten, IsOpening, IsSettled, Holds, with_history, IsRefusedFor, ℕ, length, arith}
+use Rattle.par2_tool.proofs.Common.{◌≡◌, inl, inr, List, Option, Some, None, Result, Ok, Err, Bool, true, false, refl, sym, ap, subst, ◌∙◌, ℕ, length, arith, Action, Do, Verify, Folder, Opened, Settled, Halfway, Started, opened, new_session, is_valid, started, OpensAs, Opens, leads, Session, history_of, session_unless, session_after, changes_asked, LeadsToAfterAsked, Contents, JournalFault, JournalInvalid, FolderChanged, Journal, Spells, accepted_next, refused_alike, same_ok, ok_no_err, taken_back_leads, IsOpened, IsWritten, IsOpening, IsSettled, Holds, with_history, IsRefusedFor}
+use Rattle.par2_spec.specs.History.{Refusal, Run, history_after}
 use Rattle.par2_spec.specs.History as history
 use Rattle.par2_spec.specs.declared.JournalFault.TheVariants.{Memory}
 use Rattle.par2_tool.specs.Runs.{HasNoEffect, Runs, Ended, Effective, Passed, TakesEffect}

@@ -1,6 +1,5 @@
 -- What comes of an action on a store that was opened.
-use Rattle.par2_spec.proofs.TestLaws.{by_either}
-use Rattle.par2_tool.proofs.Common.{◌≡◌, inl, inr, ℕ, List, Result, Ok, Err, Bool, true, false, refl, sym, ap, subst, ◌∙◌, arith, false≢true, Change, Action, Started, Session, KeptSession, session_of_kept, changes_asked, Contents, Fault, Memory, Plan, NothingToUndo, NothingToRedo, TellsApartAlong, TellsApartBack, OpensAsBefore, OpensAsBeforeOrAfter, IsOpened, IsUnopened, StandsFor, IsCounted, IsVerify, IsRefused, IsSession, failure_for, unopened_as, IsBack, IsCause, IsFailed, IsAtTheEnd, IsStopped, OpensAsBeforeOrAfterRun, OpenFault, PerformFault, Store}
+use Rattle.par2_tool.proofs.Common.{by_either, ◌≡◌, inl, inr, ℕ, List, Result, Ok, Err, Bool, true, false, refl, sym, ap, subst, ◌∙◌, arith, false≢true, Change, Action, Started, Session, KeptSession, session_of_kept, changes_asked, Contents, Fault, Memory, Plan, NothingToUndo, NothingToRedo, TellsApartAlong, TellsApartBack, OpensAsBefore, OpensAsBeforeOrAfter, IsOpened, IsUnopened, StandsFor, IsCounted, IsVerify, IsRefused, IsSession, failure_for, unopened_as, IsBack, IsCause, IsFailed, IsAtTheEnd, IsStopped, OpensAsBeforeOrAfterRun, OpenFault, PerformFault, Store}
 use Rattle.par2_spec.specs.History as history
 use Rattle.par2_journal.specs.declared.preparation.SessionFault.{SessionFault}
 use Rattle.par2_tool.specs.declared.opening.OpenFault.TheVariants as unopened

@@ -1,6 +1,5 @@
 -- A command that is stopped anywhere leaves a store that opens as before it or after it.
-use Rattle.par2_spec.proofs.TestLaws.{by_either}
-use Rattle.par2_tool.proofs.Common.{◌≡◌, ◌≢◌, ◌⊎◌, inl, inr, ℕ, ◌≤◌, List, [], ◌∷◌, length, take, Option, Some, None, Result, Ok, true, IsTrue, refl, sym, ap, subst, ◌∙◌, arith, Vec, IfOk, Global, take_all, Change, are_applicable, takes_all, effects, Action, Folder, Spells, LeadsToAfterAsked, OpensAs, TellsApart, halfway_where, settled_journal, journals_of, Session, KeptSession, CanWalk, OnlyGrew, session_of_kept, session_with, changes_asked, kept_done, kept_undone, kept_redone, Contents, with_journal, Two, done_can_walk, undone_can_walk, redone_can_walk, grown_can_walk, walked_is_valid, same_session, settled_stored, halfway_stored, Kind, Changing, Undoing, Redoing, Ready, CanBe, IsReady, changes_by_kind, after_commit, next_of, SpellsWhere, AreSpelled, Journals, with_all_changes, with_halfway, after_write_down, IsStoppedAt, IsOpening, Holds, HasJournalOf, with_history, TellsApartAlong, OpensAsBeforeOrAfter}
+use Rattle.par2_tool.proofs.Common.{by_either, ◌≡◌, ◌≢◌, ◌⊎◌, inl, inr, ℕ, ◌≤◌, List, [], ◌∷◌, length, take, Option, Some, None, Result, Ok, true, IsTrue, refl, sym, ap, subst, ◌∙◌, arith, Vec, IfOk, Global, take_all, Change, are_applicable, takes_all, effects, Action, Folder, Spells, LeadsToAfterAsked, OpensAs, TellsApart, halfway_where, settled_journal, journals_of, Session, KeptSession, CanWalk, OnlyGrew, session_of_kept, session_with, changes_asked, kept_done, kept_undone, kept_redone, Contents, with_journal, Two, done_can_walk, undone_can_walk, redone_can_walk, grown_can_walk, walked_is_valid, same_session, settled_stored, halfway_stored, Kind, Changing, Undoing, Redoing, Ready, CanBe, IsReady, changes_by_kind, after_commit, next_of, SpellsWhere, AreSpelled, Journals, with_all_changes, with_halfway, after_write_down, IsStoppedAt, IsOpening, Holds, HasJournalOf, with_history, TellsApartAlong, OpensAsBeforeOrAfter}
 use Rattle.par2_spec.proofs.FolderLaws.{state_files, taken_are_applicable}
 use Rattle.par2_tool.proofs.MadeChanges.{all_changed_is, same_changes}
 

@@ -1,5 +1,5 @@
 -- Words that aren't read.
-use Rattle.par2_tool.proofs.Common.{◌≡◌, Bool, List, true, false, is_some, IsUnread, arith}
+use Rattle.par2_tool.proofs.Common.{◌≡◌, Bool, List, true, false, arith, is_some, IsUnread}
 use Rattle.clap.specs.Words.{Text, takes, subcommand_of}
 use Rattle.par2_words.specs.Definition.{par2_app}
 use Rattle.par2_words.specs.Refusals.{unread_as}

@@ -1,6 +1,5 @@
 -- What a command has once an argument or a subcommand was added.
-use Rattle.std.proofs.Common.{arith}
-use Rattle.par2_words.proofs.Common.{App, Rule, AddsArg, AddsSubcommand, with_rule, with_subcommand, Command, IsApp, IsArg}
+use Rattle.par2_words.proofs.Common.{arith, App, Rule, AddsArg, AddsSubcommand, with_rule, with_subcommand, Command, IsApp, IsArg}
 use Rattle.clap.specs.declared.builder.arg.Arg.{Arg}
 
 pub with_argument : (old new : Command) (a : Arg) (app : App) (rule : Rule) → AddsArg old a new → IsApp old app → IsArg a rule → IsApp new (with_rule app rule)

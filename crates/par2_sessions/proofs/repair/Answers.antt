@@ -64,11 +64,11 @@ returns-clause-steps c =
 pub returns-clause-right : goal.returns-clause-right
 returns-clause-right c originals s original =
     IfErr-weaker c.repair.result _ _ (λ fault why failed. by_either why
-        (λ memory. let clash : Memory ≡ RepairFailed = sym memory ∙ failed in absurd (cc))
-        (λ refused. c.repair_never_fails.ensures _ _ _ c.args.purge originals s original (refused ∙ ap Some failed))) c.repair.ensures.repairs.refused
+    (λ memory. let clash : Memory ≡ RepairFailed = sym memory ∙ failed in absurd (cc))
+    (λ refused. c.repair_never_fails.ensures _ _ _ c.args.purge originals s original (refused ∙ ap Some failed))) c.repair.ensures.repairs.refused
 
 pub returns-clause-undetermined : goal.returns-clause-undetermined
 returns-clause-undetermined c originals s missing rank original =
     IfErr-weaker c.repair.result _ _ (λ fault why few. by_either why
-        (λ memory. let clash = sym memory ∙ few in absurd (cc))
-        (λ refused. c.refused_repair_leaves_a_choice.ensures _ _ _ c.args.purge originals s missing rank original (refused ∙ ap Some few))) c.repair.ensures.repairs.refused
+    (λ memory. let clash = sym memory ∙ few in absurd (cc))
+    (λ refused. c.refused_repair_leaves_a_choice.ensures _ _ _ c.args.purge originals s missing rank original (refused ∙ ap Some few))) c.repair.ensures.repairs.refused

@@ -1,4 +1,4 @@
-use Rattle.par2_laws.proofs.Common.{◌≡◌, ◌∙◌, List, sym, subst, inl, inr, true, false, AllByRecursion, Folder, File, candidates, Repair, after, Some}
+use Rattle.par2_laws.proofs.Common.{◌≡◌, ◌∙◌, List, sym, subst, inl, inr, true, false, Some, AllByRecursion, Folder, File, candidates, Repair, after}
 use Rattle.std.specs.FinMap as map_of
 
 -- the folder has each file with its bytes

@@ -1,4 +1,4 @@
-use Rattle.par2_tool.proofs.Common.{rules, Some, Ok, sym, ap, subst, ◌∙◌, IfOk, option_map, Global, Started, started_of, IsOpened, IsRead, LeavesUnopened, Vec, ℕ}
+use Rattle.par2_tool.proofs.Common.{rules, Some, Ok, sym, ap, subst, ◌∙◌, Vec, ℕ, IfOk, option_map, Global, Started, started_of, IsOpened, IsRead, LeavesUnopened}
 use Rattle.par2_tool.proofs.AsIs.{opened_as_is, opened_new, stands, stands_for_verify, stands_itself}
 use Rattle.par2_tool.proofs.Openings.{text_read}
 use Rattle.par2_tool.proofs.StoreOpenings.{opens_after_reading, reads_opens}

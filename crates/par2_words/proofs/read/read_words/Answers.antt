@@ -1,5 +1,5 @@
 use Rattle.par2_spec.proofs.TestLaws.{by_either}
-use Rattle.par2_words.proofs.Common.{◌≡◌, ◌∙◌, ap, subst, sym, true≢false, string_bytes, map, is_some, option_and_then, IfErr-weaker, IfOk-weaker, err_from_is_err_and, App, HasMatchesOf, fault_of, found_of, rows_of, subcommand_of, takes, meaning, par2_app, [], Some}
+use Rattle.par2_words.proofs.Common.{◌≡◌, ◌∙◌, ap, subst, sym, true≢false, string_bytes, map, [], Some, is_some, option_and_then, IfErr-weaker, IfOk-weaker, err_from_is_err_and, App, HasMatchesOf, fault_of, found_of, rows_of, subcommand_of, takes, meaning, par2_app}
 use Rattle.par2_words.proofs.Subcommands.{faultless, known, met, unmet}
 use Rattle.par2_words.proofs.read.read_words.Goals.{In-Ok, In-Some}
 use Rattle.par2_words.proofs.read.read_words.Goals as goal
