@@ -1,6 +1,6 @@
 -- The names that proofs of this crate take from elsewhere.
 
-pub use Rattle.std.proofs.Common.{Bool, Err, List, Ok, Result, Some, [], add-one, ap, arith, drop, map, refl, replicate, string_bytes, subst, suc, sym, ℕ, ◌++◌, ◌+◌, ◌-◌, ◌<◌, ◌∙◌, ◌∷◌, ◌≡◌, ◌≢◌}
+pub use Rattle.std.proofs.Common.{Bool, Err, List, Ok, Result, Some, [], add-one, ap, arith, drop, map, replicate, string_bytes, subst, suc, sym, ℕ, ◌++◌, ◌+◌, ◌-◌, ◌<◌, ◌∙◌, ◌∷◌, ◌≡◌, ◌≢◌}
 pub use Rattle.std.specs.List.{AllByRecursion}
 pub use Rattle.std.specs.Prelude.{IfOk, IsErr, IsTrue, None, OnOk, Option, ◌↔◌}
 pub use Rattle.par2_spec.specs.Commands.{Action, Command, Do, Repair, Undo}

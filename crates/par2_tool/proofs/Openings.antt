@@ -1,7 +1,10 @@
 -- What a store opens as, and what a stop leaves of it.
-use Rattle.par2_tool.proofs.Common.{◌≡◌, ◌⊎◌, inl, inr, ℕ, true, IsTrue, List, take, Option, Some, None, Result, Ok, Err, refl, sym, ap, subst, ◌∙◌, arith, Vec, option_map, OnErr, Global, Folder, Change, are_applicable, effects, Session, Journal, Spells, Opened, Settled, Halfway, Started, is_valid, new_session, settled_journal, started, TellsApart, Opens, OpensAs, opened, Contents, with_journal, JournalFault, Two, settled_stored, still_stored, taken_back_leads, Holds, IsOpening, OpensAsBefore, TellsApartBack, with_history, IsOpened, IsRead, IsStillHalfway, IsTakenBack, TakesBack, IsStoppedAt}
-use Rattle.par2_spec.specs.declared.JournalFault.TheVariants as fault
+use Rattle.par2_tool.proofs.Common.{◌≡◌, ◌⊎◌, inl, inr, ℕ, true, IsTrue, List, take, Option, Some, None, Result, Ok, Err, refl, sym, ap, subst, ◌∙◌, arith, Vec, option_map, OnErr, IfErr, Global, Folder, Change, are_applicable, effects, Session, Journal, Spells, Opened, Settled, Halfway, Started, is_valid, new_session, settled_journal, started, TellsApart, Opens, OpensAs, opened, Contents, with_journal, JournalFault, Two, settled_stored, still_stored, taken_back_leads, Holds, IsOpening, OpensAsBefore, TellsApartBack, with_history, IsOpened, IsRead, IsStillHalfway, IsTakenBack, TakesBack, LeavesUnopened, IsCounted, IsStoppedAt, CountsOpening, OpenFault, KeepsStore}
 use Rattle.par2_tool.proofs.MadeChanges.{all_changed_is}
+use Rattle.par2_folder.specs.Stores.{OnlyReads}
+use Rattle.par2_folder.specs.declared.view.Store.{Ghosts as StoreOf}
+use Rattle.par2_tool.specs.StoreOpenings.{Opens as OpensStore}
+use Rattle.par2_spec.specs.declared.JournalFault.TheVariants as fault
 
 -- ---- what a folder opens as
 
@@ -96,3 +99,31 @@ still_halfway old new s back after spells h = grind arith
 -- what holds in any case holds after a refusal
 pub any_err : {T E : Type 0} (r : Result T E) (P : Type 0) → P → OnErr r P
 any_err r P p = grind arith
+
+-- ---- what opening does to a store that was only read, and to one that was read before
+
+module _ {S T : Type 0} (store : StoreOf S) where
+  -- whatever a power cut leaves of one that was only read is what was there
+  pub reads_opens : (old new : S) (r : Result T OpenFault) → OnlyReads store old new → store.honest old → store.impossible new ≡ store.impossible old → LeavesUnopened (store.contents old) (store.contents new) r → OpensStore store old new r
+  reads_opens old new r reads honest possible unopened = grind arith
+
+  -- nothing was done at all
+  pub stays_opens : (it : S) (r : Result T OpenFault) → LeavesUnopened (store.contents it) (store.contents it) r → OpensStore store it it r
+  stays_opens it r unopened = grind arith
+
+  pub stays_keeps : (it : S) (r : Result T OpenFault) → IfErr r (IsCounted (store.failures it) (store.failures it)) → KeepsStore store it it r
+  stays_keeps it r counted = grind arith
+
+  pub opens_after_reading : (old read new : S) (r : Result T OpenFault) → OnlyReads store old read → store.honest old → store.impossible read ≡ store.impossible old → OpensStore store read new r → OpensStore store old new r
+  opens_after_reading old read new r reads honest possible opens =
+      let same = reads.same honest in
+      record {
+        unopened = subst (λ k. LeavesUnopened k (store.contents new) r) same opens.unopened;
+        cut = λ lasts apart left may.
+            subst (λ k. OpensAsBefore k left) same
+            (opens.cut (λ other may_be. lasts other (reads.remains honest other may_be) ∙ sym same) (subst TellsApartBack (sym same) apart) left may);
+        possible = opens.possible ∙ possible;
+        calls =
+            subst (λ before. CountsOpening (store.contents old) before (store.writing_calls new) r) reads.unwritten
+            (subst (λ k. CountsOpening k (store.writing_calls read) (store.writing_calls new) r) same opens.calls);
+      }

@@ -1,7 +1,6 @@
 use Rattle.par2_tool.proofs.Common.{rules, Some, Ok, sym, ap, subst, ◌∙◌, Vec, ℕ, IfOk, option_map, Global, Started, started_of, IsOpened, IsRead, LeavesUnopened}
-use Rattle.par2_tool.proofs.AsIs.{opened_as_is, opened_new, stands, stands_for_verify, stands_itself}
-use Rattle.par2_tool.proofs.Openings.{text_read}
-use Rattle.par2_tool.proofs.StoreOpenings.{opens_after_reading, reads_opens}
+use Rattle.par2_tool.proofs.Outcomes.{opened_as_is, opened_new, stands, stands_for_verify, stands_itself}
+use Rattle.par2_tool.proofs.Openings.{text_read, opens_after_reading, reads_opens}
 use Rattle.par2_tool.proofs.opening.open_for.Goals.{After-open_with}
 use Rattle.par2_tool.proofs.opening.open_for.Goals as goal
 

@@ -1,8 +1,7 @@
 use Rattle.par2_tool.proofs.Common.{inl, Ok, Err, true, false, refl, sym, ap, subst, rules, ◌∙◌, err_from_is_err_and, FolderState, Halfway, Opens, Started, Session, KeptSession, session_of_kept, Contents, JournalInvalid, FolderChanged, opened_of, session_before, way_left, OpensAsBefore, with_history, IsOpened}
 use Rattle.par2_tool.proofs.Calls.{back_calls, refused_calls}
 use Rattle.par2_tool.proofs.MadeChanges.{is_new}
-use Rattle.par2_tool.proofs.Openings.{any_err, holds_settled, opened_taken_back, opens_refused, opens_still, way_applies}
-use Rattle.par2_tool.proofs.StoreOpenings.{stays_keeps, stays_opens}
+use Rattle.par2_tool.proofs.Openings.{any_err, holds_settled, opened_taken_back, opens_refused, opens_still, way_applies, stays_keeps, stays_opens}
 use Rattle.par2_tool.proofs.opening.open_with.Goals.{In-Ok-Halfway}
 use Rattle.par2_tool.proofs.opening.open_with.Goals as goal
 
@@ -17,7 +16,7 @@ returns-in-Err-FolderChanged-false-default-clause-opened g c honest read =
     let session = c.new.result in
     let started : Started = record { session = session_of_kept session; dropped = true } in
     let same = ap (λ (f : FolderState). f.files) c.new.ensures.folder ∙ arm.ensures.files in
-    Rattle.par2_tool.proofs.AsIs.opened_on contents started
+    Rattle.par2_tool.proofs.Outcomes.opened_on contents started
     (opens_refused contents c.args.folder.files c.args.text.now arm.field-0-0 (FolderChanged false) (Ok started) read arm.ensures.refused
     (arm.field-0-0-is ∙ ap FolderChanged arm.field-0-0-0-test) (λ memory. cc)
     (ap (λ (s : Session). Ok (record { session = s; dropped = true })) (is_new session c.args.folder.files same c.new.ensures.undos c.new.ensures.redos)))

@@ -4,9 +4,8 @@ use Rattle.par2_tool.specs.Asking.{AskFor}
 use Rattle.par2_spec.specs.declared.Failure.{Failure}
 use Rattle.par2_printing.specs.Views.{words_asked}
 use Rattle.par2_spec.specs.declared.Failure.TheVariants as failure
-use Rattle.par2_tool.proofs.AsIs.{done_for, files_of, no_way_back, verify_failed}
+use Rattle.par2_tool.proofs.Outcomes.{done_for, files_of, no_way_back, verify_failed, cut_of_command, opening_cause, opening_failed, perform_cause, perform_failed, stopped_opening}
 use Rattle.par2_tool.proofs.Calls.{opening_calls, perform_calls, run_calls, stands_calls}
-use Rattle.par2_tool.proofs.Outcomes.{cut_of_command, opening_cause, opening_failed, perform_cause, perform_failed, stopped_opening}
 use Rattle.par2_tool.proofs.UnreadWords.{unread_words}
 use Rattle.par2_tool.proofs.running.run.Goals.{After-open_for, After-perform, else-dropped-via-then-dropped+else-is_back, else-dropped-via-else-dropped}
 use Rattle.par2_tool.proofs.running.run.Goals as goal

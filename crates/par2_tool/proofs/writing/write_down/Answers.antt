@@ -1,6 +1,6 @@
 use Rattle.par2_tool.proofs.Common.{◌≡◌, IsTrue, subst, map, Result, Ok, Err, ap, sym, ◌∙◌, true≢false, are_applicable, Contents, with_journal, OnOk, IsErr, on_err_weaker, on_ok_weaker, change_of, with_all_changes, IsStoppedAt}
 use Rattle.par2_tool.proofs.Openings.{any_err}
-use Rattle.par2_tool.proofs.Remains.{begun_remains, some_remain, ended_remains}
+use Rattle.par2_tool.proofs.MadeChanges.{begun_remains, some_remain, ended_remains}
 use Rattle.par2_tool.proofs.Stops.{halfway_files}
 use Rattle.par2_tool.proofs.writing.write_down.Goals.{After-write_changes}
 use Rattle.par2_tool.proofs.writing.write_down.Goals as goal
