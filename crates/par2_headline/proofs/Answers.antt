@@ -1,18 +1,17 @@
--- What a run did to the store by its words and its status.
-use Rattle.par2_headline.proofs.Common.{◌≡◌, ◌≢◌, ◌⊎◌, inl, inr, ℕ, ◌<◌, Bool, List, Option, Some, None, Ok, Err, refl, sym, ap, subst, ◌∙◌, arith, Action, Command, Do, Repair, Folder, Started, Contents, Outcome, status_of_fault, Failure, Refused, Store, Arguments, JournalInvalid, FolderChanged, NothingToUndo, NothingToRedo, Fault, Memory, AskFor, IsOpening, TellsApartInRun, with_history, HasNoEffect, TakesEffect, Telling, Answered, Failed, IsDone, IsFailed, IsRefusedFor, IsUnread, Leaves, OpensAsBeforeOrAfterRun, AskForRepair}
 use Rattle.std.proofs.lemmas.Option.{same_Some}
+use Rattle.par2_headline.proofs.Common.{◌≡◌, ◌≢◌, ◌⊎◌, inl, inr, ℕ, ◌<◌, Bool, List, Option, Some, Ok, Err, refl, sym, ap, subst, ◌∙◌, arith, Action, Command, Do, Repair, Folder, Started, Contents, Outcome, status_of_fault, status_of, status_of_failure, Failure, Refused, Store, Arguments, JournalInvalid, FolderChanged, NothingToUndo, NothingToRedo, Fault, Memory, AskFor, IsOpening, TellsApartInRun, with_history, HasNoEffect, TakesEffect, Telling, Answered, Failed, IsDone, IsFailed, IsRefusedFor, IsUnread, Leaves, OpensAsBeforeOrAfterRun, AskForRepair, Session, changes_asked, changes_unless}
 use Rattle.par2_spec.specs.History as history
 use Rattle.par2_spec.specs.Plans.{changes_of}
 use Rattle.par2_spec.specs.Refusals.{refusal}
-use Rattle.par2_spec.specs.Sessions.{Session, changes_asked, changes_unless}
-use Rattle.par2_spec.specs.Texts.{status_of, status_of_failure}
 use Rattle.par2_sessions.proofs.RepairAnswers.{IsRepaired, is_repaired}
 use Rattle.par2_tool.specs.Opening.{IsOpened, OnlyTakesBack}
 use Rattle.par2_headline.proofs.Statuses.{own_status, failure_is_told}
 
+-- What a run did to the store by its words and its status.
+
 -- words ask for one action
 pub one_action : (words : List (List ℕ)) (a b : Action) → AskFor words a → AskFor words b → a ≡ b
-one_action words a b first second = same_Some a b (sym first.asked ∙ second.asked)
+one_action words a b first second = Rattle.std.proofs.lemmas.Option.same_Some a b (sym first.asked ∙ second.asked)
 
 -- a store opens in one way
 abbrev pub OneWay : Type 0
@@ -64,12 +63,10 @@ module _ (words : List (List ℕ)) (old new : Contents) (action : Action) (asked
 
 -- why the session refuses it
 refused_of : (folder : Folder) (command : Command) (o : Option Fault) (fault : Fault) → changes_unless o (changes_of folder command) ≡ Err (history.Refused fault) → o ≡ Some fault
-refused_of folder command None fault e = let no : ⊥ = cc e in absurd no
-refused_of folder command (Some reason) fault e = let same : reason ≡ fault = cc in ap Some same
+refused_of folder command o fault e = grind arith
 
 session_refuses : (session : Session) (command : Command) (fault : Fault) → changes_asked session (Do command) ≡ Err (history.Refused fault) → refusal session.folder command ≡ Some fault
-unfolding changes_asked
-session_refuses session command fault e = refused_of session.folder command (refusal session.folder command) fault e
+session_refuses session command fault e = unfold changes_asked in refused_of session.folder command (refusal session.folder command) fault e
 
 -- what a repair that is refused tells and leaves
 pub record IsRefused (folder : Folder) (old new : Contents) (command : Command) (status : ℕ) : Type 0 where
@@ -105,8 +102,7 @@ module _ (one : OneWay) (words : List (List ℕ)) (old new : Contents) (folder :
 
   -- memory has another status
   not_memory : (fault : Fault) (status : ℕ) → status ≡ status_of_failure (Refused fault) → status < 6 → fault ≡ Memory → ⊥
-  unfolding status_of_failure
-  not_memory fault status own low memory = let eight : status ≡ 8 = own ∙ ap status_of_fault memory in omega (arith, eight, low)
+  not_memory fault status own low memory = unfold status_of_failure in let eight : status ≡ 8 = own ∙ ap status_of_fault memory in omega (arith, eight, low)
 
   refused_by : (reason : Failure) (status : ℕ) → status ≡ status_of_failure reason → status < 6 → status ≢ 3
       → (IsUnread words reason ⊎ IsFailed (Do command) old new reason) → IsRefused folder old new command status
@@ -115,12 +111,8 @@ module _ (one : OneWay) (words : List (List ℕ)) (old new : Contents) (folder :
   refused_by (Refused fault) status own low three (inl (inr memory)) = let is : fault ≡ Memory = cc in absurd (not_memory fault status own low is)
   refused_by (Refused fault) status own low three (inr (inl memory)) = absurd (not_memory fault status own low memory.0)
   refused_by (Refused fault) status own low three (inr (inr refused)) = refused_on fault status (sym own) refused
-  refused_by Store status own low three why = absurd (omega (arith, own, low))
   refused_by Arguments status own low three why = absurd (three own)
-  refused_by JournalInvalid status own low three why = absurd (omega (arith, own, low))
-  refused_by FolderChanged status own low three why = absurd (omega (arith, own, low))
-  refused_by NothingToUndo status own low three why = absurd (omega (arith, own, low))
-  refused_by NothingToRedo status own low three why = absurd (omega (arith, own, low))
+  refused_by reason status own low three why = absurd (omega (arith, own, low))
 
   -- an answer that isn't accepted ends with the status of why it is refused, or with 3, or 6 and above
   pub repair_refused : (told : Telling) (status : ℕ) → (status ≡ own_status told) ⊎ (status ≡ 6) → Leaves words told old new → status ≢ 0 → status ≢ 3 → status < 6 → IsRefused folder old new command status

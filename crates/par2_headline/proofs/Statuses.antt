@@ -1,7 +1,5 @@
 -- What the status of a run tells.
-use Rattle.par2_headline.proofs.Common.{◌≡◌, ◌≢◌, ◌⊎◌, inl, inr, ℕ, false, refl, arith, status_of, Failure, Refused, Store, Arguments, JournalInvalid, FolderChanged, NothingToUndo, NothingToRedo, Fault, BadSliceSize, BadCount, BadBase, NoInput, BadName, DuplicateInput, NoSuchFile, EmptyFile, TooManySlices, DuplicateId, NameTooLong, Exists, NoPackets, NoMain, NoDescription, NoChecksums, BadSet, NotRepairable, RepairFailed, NotComplete, Memory, may_refuse, Telling, Answered, Failed, IsShown}
-use Rattle.par2_spec.specs.Texts.{status_of_fault, status_of_failure}
-use Rattle.std.specs.Prelude.{List, Option}
+use Rattle.par2_headline.proofs.Common.{◌≡◌, ◌≢◌, ◌⊎◌, ℕ, false, refl, arith, List, Option, status_of, status_of_fault, status_of_failure, Failure, Fault, NotRepairable, RepairFailed, may_refuse, Telling, Answered, Failed, IsShown}
 use Rattle.par2_printing.specs.declared.printer.Printer.{Printer}
 
 -- a fault with this status: it isn't 0; 2 and 5 have one fault alone; and a repair of what a create left has no fault
@@ -34,39 +32,11 @@ five : Tells RepairFailed 5
 five = record { failed = λ e. omega (arith, e); few_left = λ e. absurd (omega (arith, e)); unread = λ e. absurd (omega (arith, e)); wrong = λ _. refl }
 
 pub told_of : (fault : Fault) → Tells fault (status_of_fault fault)
-unfolding status_of_fault
-told_of BadSliceSize = three BadSliceSize
-told_of BadCount = three BadCount
-told_of BadBase = three BadBase
-told_of NoInput = three NoInput
-told_of (BadName place) = three (BadName place)
-told_of (DuplicateInput place) = three (DuplicateInput place)
-told_of (NoSuchFile place) = three (NoSuchFile place)
-told_of (EmptyFile place) = three (EmptyFile place)
-told_of TooManySlices = three TooManySlices
-told_of DuplicateId = three DuplicateId
-told_of NameTooLong = three NameTooLong
-told_of Exists = three Exists
-told_of NoPackets = four NoPackets refl
-told_of NoMain = four NoMain refl
-told_of NoDescription = four NoDescription refl
-told_of NoChecksums = four NoChecksums refl
-told_of BadSet = four BadSet refl
-told_of (NotRepairable missing rank) = two missing rank
-told_of RepairFailed = five
-told_of NotComplete = one NotComplete
-told_of Memory = eight Memory
+told_of fault = unfold status_of_fault in grind arith
 
 -- no failure has status 0
 pub failure_is_told : (reason : Failure) → status_of_failure reason ≢ 0
-unfolding status_of_failure
-failure_is_told (Refused fault) e = (told_of fault).failed e
-failure_is_told Store e = omega (arith, e)
-failure_is_told Arguments e = omega (arith, e)
-failure_is_told JournalInvalid e = omega (arith, e)
-failure_is_told FolderChanged e = omega (arith, e)
-failure_is_told NothingToUndo e = omega (arith, e)
-failure_is_told NothingToRedo e = omega (arith, e)
+failure_is_told reason e = unfold status_of_failure in grind arith
 
 -- the status of what is reported
 abbrev pub own_status : Telling → ℕ
@@ -76,11 +46,4 @@ own_status (Failed spoken reason) = status_of_failure reason
 -- a run ends with it, or with 6, where a writer failed
 pub shown_status : {O E : Type 0} (told : Telling) (held : O → Option (List ℕ)) (out out_after : Printer O) (tells : E → Option (List ℕ)) (err err_after : Printer E) (status : ℕ)
     → IsShown told held out out_after tells err err_after status → (status ≡ own_status told) ⊎ (status ≡ 6)
-shown_status (Answered dropped outcome) held out out_after tells err err_after status shown = elim shown.0 [
-  | inl all ↦ inl all.1
-  | inr part ↦ inr part.1
-]
-shown_status (Failed spoken reason) held out out_after tells err err_after status shown = elim shown.0 [
-  | inl all ↦ inl all.1
-  | inr part ↦ inr part.1
-]
+shown_status told held out out_after tells err err_after status shown = grind arith

@@ -1,9 +1,7 @@
 -- As many undos as commands took effect lead back.
-use Rattle.par2_headline.proofs.Common.{◌≡◌, ℕ, zero, suc, ◌≤◌, List, [], ◌∷◌, length, drop, replicate, Ok, refl, sym, ap, subst, ◌∙◌, arith, AllByRecursion, Action, Undo, Folder, Started, Contents, IsOpening, IsSettled, Runs, TakesEffect, Effective}
+use Rattle.par2_headline.proofs.Common.{◌≡◌, ℕ, zero, suc, ◌≤◌, List, [], ◌∷◌, length, drop, replicate, Ok, refl, sym, ap, subst, ◌∙◌, arith, AllByRecursion, Action, Undo, Folder, Started, Contents, IsOpening, IsSettled, Runs, TakesEffect, Effective, history_of}
 use Rattle.std.proofs.lemmas.List.{length-replicate}
 use Rattle.par2_spec.specs.History.{History, Run, Ended, Accepted, Passed, IsChanging, folders, history_after}
-use Rattle.par2_spec.specs.History as history
-use Rattle.par2_spec.specs.Sessions.{history_of}
 use Rattle.par2_sessions.proofs.UndoRuns.{one_fewer}
 use Rattle.par2_tool.specs.Runs as runs
 use Rattle.par2_headline.proofs.Answers.{OneWay}
@@ -50,26 +48,15 @@ module _ (keep : KeepHistory) where
   -- where no command is halfway, the files are those of the session
   pub leave_files : OneWay → LeavesOlder → (old mid new : Contents) (asked done more : List Action) → IsSettled old → Runs old asked done mid → AllByRecursion IsChanging done → Runs mid more (replicate (length done) Undo) new → IsSettled new
       → new.files ≡ old.files
-  unfolding history_of
-  leave_files one older old mid new asked done more before commands changing undos after =
-      let back = lead_back older old mid new before.0 asked done more before.1.opens commands changing undos in
-      after.1.files ∙ ap (λ (x : Started). x.session.folder) (one new after.0 back.0 after.1.opens back.1)
-      ∙ same_first (history_of back.0.session) (history_of before.0.session) back.2 ∙ sym before.1.files
+  leave_files one older old mid new asked done more before commands changing undos after = unfold history_of in grind (arith, lead_back, same_first)
 
   -- an undo that takes effect leaves the first of the older folders
   older_of : (h next : History) → Run h (Undo ∷ []) 1 next → (rest : List Folder) × (h.older ≡ next.now ∷ rest)
-  unfolding history_after
-  older_of h next (Accepted step Ended) = by_older h.older step
-    where
-      by_older : (older : List Folder) → history.after_undo h.now older h.newer ≡ Ok next → (rest : List Folder) × (older ≡ next.now ∷ rest)
-      by_older [] step = absurd (cc)
-      by_older (folder ∷ older) step = (older, let same : folder ≡ next.now = cc in ap (λ f. f ∷ older) same)
-  older_of h next (Passed may run) = let most = at_most run in absurd (omega (arith, most))
+  older_of h next k = unfold history_after in grind arith
 
   pub leaves_older : OneWay → (old new : Contents) (started : Started) → IsOpening old (Ok started) → TakesEffect Undo old new → IsSettled new
       → (rest : List Folder) × ((history_of started.session).older ≡ new.files ∷ rest)
-  unfolding history_of
-  leaves_older one old new started opens effect after =
+  leaves_older one old new started opens effect after = unfold history_of in
       let end = keep old new started (Undo ∷ []) (Undo ∷ []) opens (Effective effect runs.Ended) in
       let older = older_of (history_of started.session) (history_of end.0.session) end.1 in
       let same = after.1.files ∙ ap (λ (x : Started). x.session.folder) (one new after.0 end.0 after.1.opens end.2) in

@@ -1,8 +1,6 @@
 -- What each answer to a repair says of the three tests of its set.
-use Rattle.par2_laws.proofs.Common.{◌≡◌, ℕ, List, [], ◌∷◌, refl, true, false, Bool, not, list_all, AllByRecursion, bytes_eq, and_parts, not-true, md5, Fault, NameTooLong, NotRepairable, RepairFailed, first_fault, fault_where, is_repairable, rank, IsRepairable, Folder, ParSet, Target, known, lost, survivors, rebuilt_targets, first_cause, repairable-iff, may_refuse}
-use Rattle.std.specs.Prelude.{Option, Some, None}
+use Rattle.par2_laws.proofs.Common.{◌≡◌, ℕ, List, [], ◌∷◌, true, false, Bool, not, Option, Some, None, arith, list_all, AllByRecursion, bytes_eq, and_parts, not-true, md5, Fault, NameTooLong, NotRepairable, RepairFailed, first_fault, fault_where, is_repairable, rank, IsRepairable, Folder, ParSet, Target, known, lost, survivors, rebuilt_targets, first_cause, repairable-iff, may_refuse, repair_refusal}
 use Rattle.std.proofs.lemmas.Slice.Eq.{bytes_eq-Decides}
-use Rattle.par2_spec.specs.Refusals.{repair_refusal}
 
 -- the answer by whether the set is repairable, a name is too long, and the digests are right
 abbrev answer : (repairable long right : Bool) (missing rank : ℕ) → Option Fault
@@ -12,17 +10,6 @@ answer repairable long right missing rank =
     ∷ fault_where long NameTooLong
     ∷ fault_where (not right) RepairFailed
     ∷ [])
-
-by_none : (repairable long right : Bool) (m r : ℕ) → answer repairable long right m r ≡ None → (repairable ≡ true) × (right ≡ true)
-by_none true false true m r e = (refl, refl)
-by_none repairable long right m r e = cc
-
-by_failed : (repairable long right : Bool) (m r : ℕ) → answer repairable long right m r ≡ Some RepairFailed → (repairable ≡ true) × (right ≡ false)
-by_failed true false false m r e = (refl, refl)
-by_failed repairable long right m r e = cc
-
-by_unrepairable : (repairable long right : Bool) (m r missing rank : ℕ) → answer repairable long right m r ≡ Some (NotRepairable missing rank) → repairable ≡ false
-by_unrepairable repairable long right m r missing rank e = not-true repairable (first_cause (not repairable) long (not right) m r missing rank e)
 
 by_few : (repairable long right : Bool) (m r : ℕ) (fault : Fault) → (fault ≡ RepairFailed → ⊥) → answer repairable long right m r ≡ Some fault → may_refuse fault ≡ true
 by_few true false false m r fault never e = absurd (never (cc))
@@ -53,17 +40,13 @@ module _ (folder : Folder) (set : ParSet) (searched : List (List ℕ)) where
   determined = (repairable-iff missing (survivors set)).0
 
   pub accepted_by : repair_refusal folder set searched ≡ None → IsRepairable missing (survivors set) × AllByRecursion (λ c. md5 c.1 ≡ c.0.md5) (rebuilt_targets folder set searched)
-  unfolding repair_refusal
-  accepted_by e = let r = by_none repairable _ right _ _ e in (determined r.0, have_digests (rebuilt_targets folder set searched) r.1)
+  accepted_by e = unfold repair_refusal in grind (arith, determined, have_digests)
 
   pub failed_by : repair_refusal folder set searched ≡ Some RepairFailed → IsRepairable missing (survivors set) × (right ≡ false)
-  unfolding repair_refusal
-  failed_by e = let r = by_failed repairable _ right _ _ e in (determined r.0, r.1)
+  failed_by e = unfold repair_refusal in grind (arith, determined)
 
   pub unrepairable_by : (missing rank : ℕ) → repair_refusal folder set searched ≡ Some (NotRepairable missing rank) → repairable ≡ false
-  unfolding repair_refusal
-  unrepairable_by m r e = by_unrepairable repairable _ _ _ _ m r e
+  unrepairable_by m r e = unfold repair_refusal in grind (arith, not-true, first_cause)
 
   pub refused_by : (fault : Fault) → (fault ≡ RepairFailed → ⊥) → repair_refusal folder set searched ≡ Some fault → may_refuse fault ≡ true
-  unfolding repair_refusal
-  refused_by fault never e = by_few repairable _ right _ _ fault never e
+  refused_by fault never e = unfold repair_refusal in by_few repairable _ right _ _ fault never e

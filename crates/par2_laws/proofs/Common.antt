@@ -11,15 +11,16 @@ pub use Rattle.std.proofs.lemmas.Option.{none-some, same_Some}
 pub use Rattle.std.proofs.lemmas.Simd.{map-map}
 pub use Rattle.std.specs.Cmp.Lexicographic.{slice_cmp}
 pub use Rattle.std.specs.FinMap.{entries_sorted, get-entries, is_sorted}
-pub use Rattle.std.specs.List.{AllByRecursion, Contains, cons_option, enumerate_from, list_all, list_any, range_with_len, slice_index_or}
-pub use Rattle.std.specs.Ordering.{eq_by_cmp, is_eq, is_lt, nat_cmp, ordering_reverse}
-pub use Rattle.std.specs.Prelude.{Err, IsPermutation, IsTrue, Result, bit_xor, codes, filter, filter_map, find, flat_map, fold, if◌then◌else◌, is_some, nat_le, nat_lt, ok_or, option_and_then, option_map, slice_get, sum_by, ◌==◌}
-pub use Rattle.std.specs.Str.{bytes_eq, str_to_ascii_lowercase}
+pub use Rattle.std.specs.List.{AllByRecursion, Contains, enumerate_from, list_all, list_any, range_with_len, slice_index_or}
+unfoldable pub use Rattle.std.specs.List.{IsDistinct}
+pub use Rattle.std.specs.Ordering.{eq_by_cmp, is_eq, is_lt, nat_cmp}
+pub use Rattle.std.specs.Prelude.{Err, IsPermutation, IsTrue, Result, bit_xor, filter, filter_map, find, flat_map, fold, if◌then◌else◌, is_some, nat_le, nat_lt, ok_or, option_and_then, option_map, slice_get, sum_by, ◌==◌}
+pub use Rattle.std.specs.Str.{bytes_eq}
 pub use Rattle.md5.proofs.StandardFacts.{length-md5}
 pub use Rattle.md5.specs.Md5.{md5}
 pub use Rattle.par2_laws.specs.Creates.{FitsCreate, FollowsCreate, IsDamage, may_refuse, output_names}
 pub use Rattle.par2_laws.specs.Faults.{is_of_reading}
-pub use Rattle.par2_laws.specs.Packets.{AreAllOf, AreDescribed, AreOf, IsOf, is_read}
+pub use Rattle.par2_laws.specs.Packets.{AreAllOf, AreDescribed, IsOf, is_read}
 pub use Rattle.par2_laws.specs.Premises.{HoldsBytes, IsTrueTo}
 pub use Rattle.par2_laws.specs.Slices.{kept_recovery, recovery_slice}
 pub use Rattle.par2_laws.specs.Volumes.{AreInputs, HoldsVolumes, IsOfOthers, IsVolume, IsVolumeOrOther, set_id_of}
@@ -32,20 +33,28 @@ pub use Rattle.par2_spec.proofs.RankLaws.{all_weaker, repairable-iff, test_from_
 pub use Rattle.par2_spec.proofs.ReadLaws.{all-entries, by_checksums, by_descriptions, by_main, by_profile, by_size, distinct_by_length, finished, mapped, no_slices, read_by, set_with, size_parts, size_positive, target_with}
 pub use Rattle.par2_spec.proofs.RefusedLaws.{first_cause, size_two}
 pub use Rattle.par2_spec.proofs.TestLaws.{T-parts, all_none, at_none, by_either, some_if, where_none}
-pub use Rattle.par2_spec.proofs.WrittenSets.{desc_reads, ifsc_reads, index_reads, main_reads, recovery_reads, recovery_slices_read}
+pub use Rattle.par2_spec.proofs.WrittenSets.{desc_reads, ifsc_reads, index_reads, main_reads, recovery_slices_read}
 pub use Rattle.par2_spec.specs.Checksums.{IsPair, Pair, crc_byte, crc_step, crc_steps, pair_of}
+unfoldable pub use Rattle.par2_spec.specs.Checksums.{crc32}
 pub use Rattle.par2_spec.specs.Commands.{Create, CreateArgs, Repair, files_of, outputs_of}
 pub use Rattle.par2_spec.specs.Faults.{fault_at, fault_where, first_fault}
-pub use Rattle.par2_spec.specs.Folders.{File, Folder, IsFolder, bytes_of, files, has, names, without}
-pub use Rattle.par2_spec.specs.Names.{distinct, is_among, is_name, is_par_name, par2_ending}
-pub use Rattle.par2_spec.specs.Packets.{DescBody, IfscBody, MainBody, Packet, RecoveryBody, accepted, begins_with_packet, claimed_length, packet, read_desc, read_ifsc, read_main}
+pub use Rattle.par2_spec.specs.Folders.{File, Folder, IsFolder, bytes_of, files, has, without}
+unfoldable pub use Rattle.par2_spec.specs.Folders.{laid_over}
+pub use Rattle.par2_spec.specs.Names.{distinct, is_among, is_name, is_par_name}
+pub use Rattle.par2_spec.specs.Packets.{DescBody, IfscBody, MainBody, Packet, RecoveryBody, accepted, begins_with_packet, claimed_length, packet}
+unfoldable pub use Rattle.par2_spec.specs.Packets.{accepted_after, first_packet, read_desc, read_ifsc, read_main, read_recovery}
 pub use Rattle.par2_spec.specs.Rank.{Agrees, AreBytes, AreSurvivors, IsRepairable, is_repairable, rank}
-pub use Rattle.par2_spec.specs.Refusals.{after, are_counts, is_input_name, set_in}
-pub use Rattle.par2_spec.specs.Repairs.{files_of_slices, names_without_match, rebuilt, rebuilt_targets}
-pub use Rattle.par2_spec.specs.Search.{NoCollision, candidates, known, lost, matches, survivors}
-pub use Rattle.par2_spec.specs.Sets.{IsSound, MadeFrom, ParSet, Target, all_pairs, all_some, are_in_profile, description_of, is_slice_size, main_of, other_par_names, packets_with, pairs_of, read_set, recovery_of, target_names, target_of, target_of_file, unless, ◌>>=◌}
+pub use Rattle.par2_spec.specs.Refusals.{are_counts, is_input_name, set_in}
+unfoldable pub use Rattle.par2_spec.specs.Refusals.{after, create_refusal, refusal, repair_refusal}
+pub use Rattle.par2_spec.specs.Repairs.{files_of_slices, names_without_match, rebuilt}
+unfoldable pub use Rattle.par2_spec.specs.Repairs.{rebuilt_targets}
+pub use Rattle.par2_spec.specs.Search.{NoCollision, candidates, lost, matches, survivors}
+unfoldable pub use Rattle.par2_spec.specs.Search.{known}
+pub use Rattle.par2_spec.specs.Sets.{IsSound, MadeFrom, ParSet, Target, all_pairs, all_some, are_in_profile, description_of, is_slice_size, main_of, other_par_names, packets_with, pairs_of, recovery_of, target_names, target_of, target_of_file, unless, ◌>>=◌}
+unfoldable pub use Rattle.par2_spec.specs.Sets.{read_set, set_of}
 pub use Rattle.par2_spec.specs.Slices.{slice_at, slice_count, slices}
-pub use Rattle.par2_spec.specs.Volumes.{FileRecord, IsFileRecord, all_slices, creator_bytes, desc_bytes, five_digits, id_of, ifsc_bytes, in_id_order, main_bytes, main_id, packet_of, recovery_bytes, recovery_packets, stem, volume_name, volume_numbers, volume_size, volumes_before}
+pub use Rattle.par2_spec.specs.Volumes.{FileRecord, IsFileRecord, all_slices, creator_bytes, desc_bytes, id_of, ifsc_bytes, in_id_order, main_bytes, main_id, packet_of, recovery_bytes, recovery_packets, volume_name, volume_numbers, volume_size, volumes_before}
+unfoldable pub use Rattle.par2_spec.specs.Volumes.{index_packets, packets_of, record_of, volumes}
 pub use Rattle.par2_spec.specs.Windows.{Matches, found, is_match, window, windows}
 pub use Rattle.par2_spec.specs.declared.Fault.{Fault}
 pub use Rattle.par2_spec.specs.declared.Fault.TheVariants.{BadBase, BadCount, BadName, BadSet, BadSliceSize, DuplicateId, DuplicateInput, EmptyFile, Exists, NameTooLong, NoChecksums, NoDescription, NoInput, NoMain, NoPackets, NoSuchFile, NotRepairable, RepairFailed, TooManySlices}

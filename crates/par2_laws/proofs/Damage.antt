@@ -1,15 +1,9 @@
 -- What damage leaves of the par files of a create.
-use Rattle.par2_laws.proofs.Common.{◌≡◌, ℕ, ◌+◌, ◌^◌, ◌<◌, ◌≤◌, true, false, not, ◌&&◌, List, [], ◌∷◌, ◌++◌, length, map, take, Option, None, sym, ap, ◌∙◌, subst, append_assoc, length-append, arith, Bool, cond, Some, refl, inl, inr, ◌⊎◌, ◌||◌, unwrap_or, sum_by, nat_lt, ◌==◌, is_some, filter, AllByRecursion, list_any, enumerate_from, Contains, bytes_eq, get-entries, nat_cmp, slice_cmp, not-false, and_parts, or_parts, eqb-true, eqb-false, ltb-false, false≢true, or_from, or_left, div_ceil_times, length-map, sum_by-cons, Fault, BadSliceSize, BadCount, BadBase, NoInput, BadName, DuplicateInput, NoSuchFile, EmptyFile, TooManySlices, DuplicateId, NameTooLong, Exists, fault_where, fault_at, slice_count, slices, is_name, is_par_name, is_among, distinct, Folder, File, IsFolder, has, bytes_of, files, without, id_of, volume_name, volume_numbers, volume_size, volumes_before, all_slices, in_id_order, is_slice_size, MadeFrom, target_of_file, target_names, CreateArgs, Create, files_of, outputs_of, are_counts, is_input_name, AreInputs, IsVolume, IsVolumeOrOther, IsOfOthers, set_id_of, HoldsVolumes, FitsCreate, IsDamage, output_names, FollowsCreate, all_weaker, size_positive, distinct_by_length, same_either_way, std_from_distinct, found_at_key, contained_first, contained_later, all-append, all-parts, all-flat_map, where_none, all_none, at_none, some_if, by_either, names_of_files, at_name, recursion_from_All, filter_passes, same_Some, IsPermutation-sym, IsPermutation-map, map-map, pair_of, Matches, windows, AreBytes, candidates, NoCollision, all-filter, moved-all, moved-ordered, IsTrueTo, common_steps}
+use Rattle.par2_laws.proofs.Common.{◌≡◌, ℕ, ◌+◌, ◌^◌, ◌<◌, ◌≤◌, true, false, not, ◌&&◌, List, [], ◌∷◌, ◌++◌, length, map, take, Option, None, sym, ap, ◌∙◌, subst, append_assoc, length-append, arith, Bool, cond, Some, refl, inl, inr, ◌⊎◌, ◌||◌, unwrap_or, sum_by, nat_lt, ◌==◌, is_some, filter, AllByRecursion, list_any, enumerate_from, Contains, IsDistinct, bytes_eq, get-entries, nat_cmp, slice_cmp, not-false, and_parts, or_parts, eqb-true, eqb-false, ltb-false, false≢true, or_from, or_left, div_ceil_times, common_steps, length-map, sum_by-cons, Fault, BadSliceSize, BadCount, BadBase, NoInput, BadName, DuplicateInput, NoSuchFile, EmptyFile, TooManySlices, DuplicateId, NameTooLong, Exists, fault_where, fault_at, slice_count, slices, is_name, is_par_name, is_among, distinct, Folder, File, IsFolder, has, bytes_of, files, without, laid_over, id_of, volume_name, volume_numbers, volume_size, volumes_before, all_slices, in_id_order, volumes, record_of, is_slice_size, MadeFrom, target_of_file, target_names, CreateArgs, Create, files_of, outputs_of, are_counts, is_input_name, refusal, create_refusal, after, AreInputs, IsVolume, IsVolumeOrOther, IsOfOthers, set_id_of, HoldsVolumes, FitsCreate, IsDamage, output_names, FollowsCreate, all_weaker, size_positive, distinct_by_length, same_either_way, std_from_distinct, found_at_key, contained_first, contained_later, all-append, all-parts, all-flat_map, where_none, all_none, at_none, some_if, by_either, names_of_files, at_name, recursion_from_All, filter_passes, same_Some, IsPermutation-sym, IsPermutation-map, map-map, pair_of, Matches, windows, AreBytes, candidates, NoCollision, all-filter, moved-all, moved-ordered, IsTrueTo, accepted_after}
 use Rattle.std.proofs.Math.Seq.{take-append_seam, drop-append_seam}
-use Rattle.par2_spec.specs.Refusals.{refusal}
 use Rattle.par2_spec.proofs.MovesLaws.{get_put, get_without}
-use Rattle.std.specs.List.{IsDistinct}
 use Rattle.std.proofs.lemmas.List.Folds.{list_any-append}
 use Rattle.std.proofs.Math.Nat.{zero-mul}
-use Rattle.par2_spec.specs.Refusals.{create_refusal, refusal, after}
-use Rattle.par2_spec.specs.Folders.{laid_over}
-use Rattle.par2_spec.specs.Packets.{accepted_after}
-use Rattle.par2_spec.specs.Volumes.{volumes, record_of}
 use Rattle.par2_laws.proofs.VolumeFolders.{set_made}
 use Rattle.std.specs.FinMap as map_of
 
@@ -46,8 +40,7 @@ tests folder a =
     ∷ []
 
 pub passes : (folder : Folder) (a : CreateArgs) → refusal folder (Create a) ≡ None → Passes folder a
-unfolding refusal create_refusal
-passes folder a h =
+passes folder a h = unfold refusal create_refusal in
     let fs = files_of folder a.inputs in
     let none = all_none (tests folder a) h in
     let later = none.1.1.1.1 in
@@ -74,6 +67,9 @@ each_new : (front rest : List (List ℕ)) → AllByRecursion (λ z. is_among (ta
 unfolding IsDistinct
 each_new front [] h = (tt, tt)
 each_new front (x ∷ rest) h =
+    let parts : (y : List ℕ) → is_among (front ++ x ∷ []) y ≡ false → (is_among front y ≡ false) × (bytes_eq y x ≡ false) = (λ y k.
+    let two = or_parts (is_among front y) (is_among (x ∷ []) y) (sym (list_any-append (bytes_eq y) front (x ∷ [])) ∙ k) in
+    (two.0, (or_parts (bytes_eq y x) false two.1).0)) in
     let longer = front ++ x ∷ [] in
     let whole : front ++ x ∷ rest ≡ longer ++ rest = sym (append_assoc front (x ∷ []) rest) in
     let place : length front + 1 ≡ length longer = sym (length-append front (x ∷ [])) in
@@ -84,11 +80,6 @@ each_new front (x ∷ rest) h =
       (here, all_weaker (λ y. is_among longer y ≡ false) (λ y. is_among front y ≡ false) (λ y k. (parts y k).0) rest later.0),
       (all_weaker (λ y. is_among longer y ≡ false) (λ y. bytes_eq x y ≡ false) (λ y k. same_either_way x y ∙ (parts y k).1) rest later.0, later.1),
     )
-  where
-    parts : (y : List ℕ) → is_among (front ++ x ∷ []) y ≡ false → (is_among front y ≡ false) × (bytes_eq y x ≡ false)
-    parts y k =
-        let two = or_parts (is_among front y) (is_among (x ∷ []) y) (sym (list_any-append (bytes_eq y) front (x ∷ [])) ∙ k) in
-        (two.0, (or_parts (bytes_eq y x) false two.1).0)
 
 -- ---- the files
 
@@ -105,14 +96,10 @@ files_named : (folder : Folder) (inputs : List (List ℕ)) → AllByRecursion (�
 files_named folder [] h = tt
 files_named folder (name ∷ inputs) h = ((and_parts (is_name name) (not (is_par_name name)) (not-false (is_input_name name) h.0)).0, files_named folder inputs h.1)
 
--- a file with bytes has a slice
-some_slice : (s n : ℕ) → 0 < s → (n == 0) ≡ false → 1 ≤ slice_count s n
-some_slice s n positive full = grind (arith, div_ceil_times, eqb-false, zero-mul)
-
 -- no more files than slices
 count_small : (s : ℕ) (fs : List File) → 0 < s → AllByRecursion (λ file. (length file.1 == 0) ≡ false) fs → length fs ≤ sum_by (λ file. slice_count s (length file.1)) fs
 count_small s [] positive h = omega arith
-count_small s (file ∷ fs) positive h = search (arith, sum_by-cons, some_slice, count_small s fs positive h.1)
+count_small s (file ∷ fs) positive h = grind (arith, common_steps, sum_by-cons, div_ceil_times, eqb-false, zero-mul, count_small s fs positive h.1)
 
 pub inputs_taken : (folder : Folder) (a : CreateArgs) → refusal folder (Create a) ≡ None → FitsCreate folder a → AreInputs a.slice (files_of folder a.inputs)
 inputs_taken folder a accepted fits =
@@ -147,17 +134,13 @@ laid_cases (file ∷ files) folder q bytes h = grind (arith, by_either, bytes, c
 
 -- ---- the names of what a create writes
 
-par_volume : (base : List ℕ) (first n : ℕ) → is_par_name (volume_name base first n) ≡ true
-par_volume base first n = grind (arith, common_steps, length-append, drop-append_seam)
-
 par_volumes : (base : List ℕ) (first n : ℕ → ℕ) (texts : ℕ → List ℕ) (is : List ℕ)
     → AllByRecursion (λ name. is_par_name name ≡ true) (map (λ file. file.0) (map (λ i. let v : File = (volume_name base (first i) (n i), texts i) in v) is))
 par_volumes base first n texts [] = tt
-par_volumes base first n texts (i ∷ is) = (par_volume base (first i) (n i), par_volumes base first n texts is)
+par_volumes base first n texts (i ∷ is) = grind (arith, common_steps, length-append, drop-append_seam, par_volumes base first n texts is)
 
 par_outputs : (before : Folder) (a : CreateArgs) → is_par_name a.base ≡ true → AllByRecursion (λ name. is_par_name name ≡ true) (output_names before a)
-unfolding volumes
-par_outputs before a h = (h, par_volumes a.base (λ i. a.first + volumes_before i) (volume_size a.count) _ (volume_numbers a.count))
+par_outputs before a h = unfold volumes in (h, par_volumes a.base (λ i. a.first + volumes_before i) (volume_size a.count) _ (volume_numbers a.count))
 
 -- ---- the par files of a damaged folder
 
@@ -170,8 +153,7 @@ module _ (before damaged : Folder) (a : CreateArgs) (base : List ℕ) (accepted 
 
   -- a par file that is there
   is_there : (name : List ℕ) → is_par_name name ≡ true → has damaged name ≡ true → map_of.get (laid_over (outputs_of before a) before) name ≡ Some (bytes_of damaged name)
-  unfolding after
-  is_there name par there = sym (damage.pars name par there) ∙ some_if [] (map_of.get damaged name) there
+  is_there name par there = unfold after in sym (damage.pars name par there) ∙ some_if [] (map_of.get damaged name) there
 
   is_volume_or_other : (name : List ℕ) → is_par_name name ≡ true → has damaged name ≡ true → IsVolumeOrOther a.slice inputs (bytes_of damaged name)
   is_volume_or_other name par there =
@@ -180,12 +162,7 @@ module _ (before damaged : Folder) (a : CreateArgs) (base : List ℕ) (accepted 
       (λ r. subst (IsVolumeOrOther a.slice inputs) (ap (λ o. unwrap_or o []) r.1) (fits.other_pars name par (ap is_some r.1) r.0))
 
   none_there : (name : List ℕ) → has damaged name ≡ false → IsOfOthers (set_id_of a.slice inputs) (bytes_of damaged name)
-  unfolding accepted_after
-  none_there name h = step (map_of.get damaged name) h
-    where
-      step : (o : Option (List ℕ)) → is_some o ≡ false → IsOfOthers (set_id_of a.slice inputs) (unwrap_or o [])
-      step None k = tt
-      step (Some bytes) k = absurd (false≢true (sym k))
+  none_there name h = unfold accepted_after in grind arith
 
   each_par : (name : List ℕ) → is_par_name name ≡ true → IsVolumeOrOther a.slice inputs (bytes_of damaged name)
   each_par name par = grind (arith, is_volume_or_other, none_there)
@@ -210,14 +187,9 @@ laid_there : (files : List File) (folder : Folder) (q : List ℕ) → (is_among 
 unfolding laid_over
 laid_there [] folder q h = h
 laid_there (file ∷ files) folder q h =
+    let step : (b c : Bool) (o : Option (List ℕ)) → ((b || c) || is_some o) ≡ true → (c || is_some (cond b (Some file.1) o)) ≡ true = λ b c o k. grind arith in
     laid_there files (map_of.insert folder file.0 file.1) q
     (ap (λ o. is_among (map (λ f. f.0) files) q || is_some o) (get_put folder file.0 file.1 q) ∙ step (bytes_eq q file.0) (is_among (map (λ f. f.0) files) q) (map_of.get folder q) h)
-  where
-    step : (b c : Bool) (o : Option (List ℕ)) → ((b || c) || is_some o) ≡ true → (c || is_some (cond b (Some file.1) o)) ≡ true
-    step true true o k = refl
-    step true false o k = refl
-    step false true o k = refl
-    step false false o k = k
 
 pub removal : (before : Folder) (a : CreateArgs) (base : List ℕ) (gone : List (List ℕ)) → is_among (output_names before a) base ≡ true → is_among gone base ≡ false
     → IsDamage before (without gone (after before (Create a))) a base
@@ -231,8 +203,7 @@ all_distinct P [] h = tt
 all_distinct P (x ∷ xs) h = (h.0, all-filter P (λ other. not (bytes_eq x other)) (distinct xs) (all_distinct P xs h.1))
 
 target_names_are : (s : ℕ) (files : List File) → map (λ t. t.name) (map (target_of_file s) files) ≡ map (λ file. file.0) files
-unfolding record_of
-target_names_are s files = map-map (λ t. t.name) (target_of_file s) files
+target_names_are s files = unfold record_of in map-map (λ t. t.name) (target_of_file s) files
 
 -- what holds of each slice of the files
 to_files : (P : List ℕ → Type 0) (s : ℕ) (files : List File) → AllByRecursion P (all_slices s files) → AllByRecursion (λ file. AllByRecursion P (slices s file.1)) files

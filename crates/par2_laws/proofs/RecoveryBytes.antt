@@ -1,20 +1,12 @@
 -- The recovery slices of a set that reads are bytes of its folder's files.
-use Rattle.par2_laws.proofs.Common.{ℕ, zero, suc, ◌+◌, ◌*◌, ◌/◌, ◌%◌, ◌^◌, ◌<◌, List, [], ◌∷◌, length, map, arith, ◌≡◌, sym, subst, refl, inl, inr, true, ◌-◌, drop, ap, ◌∙◌, T, cond, false, Bool, ◌&&◌, ◌⊎◌, bit_xor, fold, flat_map, slice_get, Result, Err, nat_lt, ◌==◌, if◌then◌else◌, AllByRecursion, range_with_len, list_all, length-md5, crc_step, crc_steps, crc_byte, pair_of, IsPair, Pair, slice_at, slice_count, slices, AreBytes, AreSurvivors, Agrees, get-entries, is_sorted, entries_sorted, nat_cmp, eq_by_cmp, is_lt, is_eq, slice_cmp, window, windows, is_match, found, Folder, bytes_of, has, ParSet, all_pairs, packets_with, recovery_of, other_par_names, all_some, is_slice_size, main_of, description_of, are_in_profile, target_of, IsSound, HoldsBytes, all-each, found_one, found_at_key, all-flat_map, all-take, all-drop, all-filter_map, all-map, all-both, cases_Bool, and_parts, Fault, accepted, Packet, RecoveryBody, begins_with_packet, claimed_length, is_of_reading, bytes_eq, all-filter, T-parts, all-entries, all_weaker, NoSuchFile, set_in, recovery_slice, size_even, length-map}
-use Rattle.std.specs.Prelude.{unwrap_or, Ok}
+use Rattle.par2_laws.proofs.Common.{ℕ, zero, suc, ◌+◌, ◌*◌, ◌/◌, ◌%◌, ◌^◌, ◌<◌, List, [], ◌∷◌, length, map, arith, ◌≡◌, sym, subst, refl, inl, inr, true, ◌-◌, drop, ap, ◌∙◌, T, cond, false, Bool, ◌&&◌, ◌⊎◌, unwrap_or, Ok, Option, Some, None, bit_xor, fold, flat_map, slice_get, Result, Err, nat_lt, ◌==◌, if◌then◌else◌, AllByRecursion, range_with_len, list_all, length-md5, crc_step, crc_steps, crc_byte, pair_of, IsPair, Pair, crc32, slice_at, slice_count, slices, AreBytes, AreSurvivors, Agrees, get-entries, is_sorted, entries_sorted, nat_cmp, eq_by_cmp, is_lt, is_eq, slice_cmp, window, windows, is_match, found, Folder, bytes_of, has, ParSet, all_pairs, packets_with, recovery_of, other_par_names, all_some, is_slice_size, main_of, description_of, are_in_profile, target_of, IsSound, set_of, read_set, HoldsBytes, all-each, found_one, found_at_key, all-flat_map, all-take, all-drop, all-filter_map, all-map, all-both, cases_Bool, and_parts, Fault, accepted, Packet, RecoveryBody, begins_with_packet, claimed_length, accepted_after, first_packet, read_recovery, is_of_reading, bytes_eq, all-filter, T-parts, all-entries, all_weaker, NoSuchFile, set_in, recovery_slice, size_even, length-map, known, common_steps}
+use Rattle.std.specs.FinMap.{find}
 use Rattle.par2_spec.proofs.RestoredLaws.{bytes-slice_at, length-window, bytes-window}
 use Rattle.std.specs.Option.{ForSome}
-use Rattle.par2_spec.specs.Sets.{set_of}
 use Rattle.par2_spec.proofs.AcceptedCommands.{missing, in_full, in_part, set_in_reads}
-use Rattle.par2_spec.specs.Search.{known}
 use Rattle.std.proofs.lemmas.Nat.{xor_lt}
-use Rattle.par2_spec.specs.Checksums.{crc32}
-use Rattle.par2_spec.specs.Search.{known}
-use Rattle.std.specs.Prelude.{ℕ, Option, Some, None}
-use Rattle.par2_spec.specs.Sets.{read_set, set_of}
-use Rattle.std.specs.FinMap.{find}
 use Rattle.std.specs.FinMap.Entries.{below_all}
 use Rattle.std.specs.Cmp.{nat_cmp_total, tied_itself}
-use Rattle.par2_spec.specs.Packets.{accepted_after, first_packet, read_recovery}
 use Rattle.std.proofs.lemmas.Slice.Zip.{AllZip-long}
 use Rattle.std.specs.FinMap as map_of
 
@@ -31,15 +23,12 @@ fold_small : (bytes : List ℕ) (c : ℕ) → AreBytes bytes → c < 2 ^ 32 → 
 fold_small [] c h low = low
 fold_small (b ∷ bytes) c h low = fold_small bytes (crc_byte c b) h.1 (steps_small 8 (bit_xor c b) (xor_lt 32 c b low (omega (arith, h.0))))
 
-crc_small : (bytes : List ℕ) → AreBytes bytes → crc32 bytes < 2 ^ 32
-unfolding crc32
-crc_small bytes h = xor_lt 32 (fold crc_byte 0xFFFFFFFF bytes) 0xFFFFFFFF (fold_small bytes 0xFFFFFFFF h (omega arith)) (omega arith)
-
 -- ---- the bytes of slices
 
 pairs_at : (s : ℕ) (text : List ℕ) (a n : ℕ) → AreBytes text → AllByRecursion IsPair (map pair_of (map (slice_at s text) (range_with_len a n)))
+unfolding crc32
 pairs_at s text a zero h = tt
-pairs_at s text a (suc n) h = grind (arith, length-md5, crc_small, bytes-slice_at, pairs_at s text (a + 1) n h)
+pairs_at s text a (suc n) h = grind (arith, common_steps, length-md5, bytes-slice_at, xor_lt, fold_small, pairs_at s text (a + 1) n h)
 
 -- the pairs of a text's slices
 pub pairs_are : (s : ℕ) (text : List ℕ) → AreBytes text → AllByRecursion IsPair (map pair_of (slices s text))
@@ -70,8 +59,7 @@ found_is folder searched s held pair =
 
 -- each known slice is a text of the slice size
 pub known_are : (folder : Folder) (set : ParSet) (searched : List (List ℕ)) → HoldsBytes folder → AllByRecursion (λ slice. ForSome slice (IsText set.slice_size)) (known folder set searched)
-unfolding known
-known_are folder set searched held = search (arith, all-each, found_is)
+known_are folder set searched held = unfold known in search (arith, all-each, found_is)
 
 -- ---- what reading a set answers: a set whose recovery slices are those of packets, or a fault of reading
 
@@ -84,12 +72,10 @@ IsAnswer texts (Ok set) = IsOfPackets texts set
 IsAnswer texts (Err fault) = is_of_reading fault ≡ true
 
 by_option : {A goal : Type 0} (o : Option A) → (o ≡ None → goal) → ((x : A) → o ≡ Some x → goal) → goal
-by_option None absent there = absent refl
-by_option (Some x) absent there = there x refl
+by_option o absent there = grind arith
 
 read_set_answers : (base : List ℕ) (others : List (List ℕ)) → IsAnswer (base ∷ others) (read_set base others)
-unfolding read_set
-read_set_answers base others =
+read_set_answers base others = unfold read_set in
     by_option (slice_get (accepted base) 0) (λ e. rw e refl) (λ first e.
     let packets = packets_with first.set_id (flat_map accepted (base ∷ others)) in
     rw e (by_option (main_of first.set_id packets) (λ k. rw k refl) (λ main k.
@@ -107,8 +93,7 @@ read_set_answers base others =
 
 -- the answer for a folder and a base
 pub set_of_answers : (folder : Folder) (base : List ℕ) (answer : Result ParSet Fault) → set_of folder base ≡ answer → IsAnswer (map (bytes_of folder) (base ∷ other_par_names folder base)) answer
-unfolding set_of
-set_of_answers folder base answer is = grind (arith, read_set_answers)
+set_of_answers folder base answer is = unfold set_of in grind (arith, read_set_answers)
 
 -- ---- packets
 
@@ -116,8 +101,7 @@ abbrev HasBytes : Packet → Type 0
 HasBytes p = AreBytes p.body
 
 first_has : (text : List ℕ) → AreBytes text → HasBytes (first_packet text)
-unfolding first_packet
-first_has text bytes = all-take (λ b. b < 256) _ (drop 64 text) (all-drop (λ b. b < 256) 64 text bytes)
+first_has text bytes = unfold first_packet in all-take (λ b. b < 256) _ (drop 64 text) (all-drop (λ b. b < 256) 64 text bytes)
 
 packets_have : (n : ℕ) (text : List ℕ) → AreBytes text → AllByRecursion HasBytes (accepted_after n text)
 unfolding accepted_after
@@ -128,12 +112,10 @@ packets_have zero (b ∷ text) bytes =
   where
     step : (begins : Bool) (p : Packet) → HasBytes p → AllByRecursion HasBytes (accepted_after (claimed_length (b ∷ text) - 1) text) → AllByRecursion HasBytes (accepted_after zero text)
         → AllByRecursion HasBytes (if begins then p ∷ accepted_after (claimed_length (b ∷ text) - 1) text else accepted_after zero text)
-    step true p is behind next = (is, behind)
-    step false p is behind next = next
+    step begins p is behind next = grind arith
 
 said_has : (p : Packet) → HasBytes p → ForSome (read_recovery p.kind p.body) (λ r. AreBytes r.bytes)
-unfolding read_recovery
-said_has p bytes = grind (arith, unwrap_or, all-drop)
+said_has p bytes = unfold read_recovery in grind (arith, unwrap_or, all-drop)
 
 -- ---- the map of recovery slices
 
@@ -224,6 +206,5 @@ survivors_are folder base set searched sound held reads =
 
 pub as_many_as_pairs : (folder : Folder) (set : ParSet) (searched : List (List ℕ)) (recovered : List (ℕ × List ℕ)) (slices : List (List ℕ))
     → Agrees set.slice_size (known folder set searched) recovered slices → length slices ≡ length (all_pairs set)
-unfolding known
-as_many_as_pairs folder set searched recovered slices agrees =
+as_many_as_pairs folder set searched recovered slices agrees = unfold known in
     AllZip-long _ (known folder set searched) slices agrees.as_known ∙ length-map (all_pairs set) (found set.slice_size (map (bytes_of folder) searched))

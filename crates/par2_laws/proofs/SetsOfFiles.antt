@@ -1,12 +1,7 @@
 -- A set whose packets are those of certain files was made from them.
-use Rattle.par2_laws.proofs.Common.{◌≡◌, ℕ, ◌<◌, ◌^◌, false, List, [], ◌∷◌, ◌++◌, length, map, Some, refl, sym, ap, ◌∙◌, subst, arith, Bool, true, Option, None, inl, inr, ◌⊎◌, ◌&&◌, Ok, IsTrue, ◌==◌, nat_lt, filter_map, find, slice_get, option_map, option_and_then, if◌then◌else◌, flat_map, AllByRecursion, Contains, list_any, range_with_len, length-map, recursion_from_All, All-contains_itself, same_Some, none-some, length-md5, Kind, Main, FileDesc, Ifsc, Recovery, Creator, Other, AreBytes, File, Folder, bytes_of, Packet, MainBody, DescBody, IfscBody, RecoveryBody, accepted, FileRecord, all_slices, main_bytes, desc_bytes, ifsc_bytes, recovery_bytes, id_of, AreDescribed, is_read, IsOf, AreAllOf, all-append, of_contained, all-map, all-filter_map, found_one, all_unmap, all-passing, all-flat_map-map, bytes_eq, false≢true, and_parts, eqb-true, map-map, md5, Pair, pair_of, slice_count, slice_at, slices, Target, all_some, main_of, description_of, pairs_of, target_of, recovery_of, target_of_file, ParSet, MadeFrom, packets_with, read_set, other_par_names, all_weaker, all-filter, mapped, target_with, no_slices, all-entries, read_by, same_name, itself, main_reads, ifsc_reads, recovery_reads, desc_reads, by_either, common_steps}
+use Rattle.par2_laws.proofs.Common.{◌≡◌, ℕ, ◌<◌, ◌^◌, false, List, [], ◌∷◌, ◌++◌, length, map, Some, refl, sym, ap, ◌∙◌, subst, arith, Bool, true, Option, None, inl, inr, ◌⊎◌, ◌&&◌, Ok, IsTrue, ◌==◌, nat_lt, filter_map, find, slice_get, option_map, option_and_then, if◌then◌else◌, flat_map, AllByRecursion, Contains, list_any, range_with_len, IsDistinct, length-map, recursion_from_All, All-contains_itself, same_Some, none-some, length-md5, Kind, Main, FileDesc, Ifsc, Recovery, Creator, Other, AreBytes, File, Folder, bytes_of, Packet, MainBody, DescBody, IfscBody, RecoveryBody, accepted, read_main, read_desc, read_ifsc, read_recovery, FileRecord, all_slices, main_bytes, desc_bytes, ifsc_bytes, recovery_bytes, id_of, record_of, packets_of, AreDescribed, is_read, IsOf, AreAllOf, all-append, of_contained, all-map, all-filter_map, found_one, all_unmap, all-passing, all-flat_map-map, bytes_eq, false≢true, and_parts, eqb-true, map-map, md5, Pair, pair_of, slice_count, slice_at, slices, Target, all_some, main_of, description_of, pairs_of, target_of, recovery_of, target_of_file, ParSet, MadeFrom, packets_with, read_set, other_par_names, set_of, all_weaker, all-filter, mapped, target_with, no_slices, all-entries, read_by, same_name, itself, main_reads, ifsc_reads, desc_reads, by_either, common_steps}
 use Rattle.par2_spec.specs.Recovery.{recovery}
-use Rattle.par2_spec.specs.Packets.{read_main, read_desc, read_ifsc, read_recovery}
-use Rattle.par2_spec.specs.Packets.{read_main, read_desc, read_ifsc, read_recovery}
-use Rattle.par2_spec.specs.Volumes.{record_of, packets_of}
 use Rattle.par2_laws.proofs.RecoveryBytes.{pairs_are}
-use Rattle.std.specs.List.{IsDistinct}
-use Rattle.par2_spec.specs.Sets.{set_of}
 use Rattle.std.specs.FinMap as map_of
 
 -- ---- what holds of each
@@ -82,16 +77,13 @@ ids_sixteen s [] = tt
 ids_sixteen s (file ∷ files) = (length-md5 _, ids_sixteen s files)
 
 pub main_written : (s : ℕ) (files : List File) → AreDescribed s files → read_main Main (main_bytes s (map (record_of s) files)) ≡ Some (main_of_files s files)
-unfolding main_of_files
-main_written s files d = grind (arith, main_reads, length-map, ids_sixteen)
+main_written s files d = unfold main_of_files in grind (arith, main_reads, length-map, ids_sixteen)
 
 pub desc_written : (s : ℕ) (file : File) → IsDescribed file → read_desc FileDesc (desc_bytes (record_of s file)) ≡ Some (desc_of_file s file)
-unfolding record_of desc_of_file
-desc_written s file d = desc_reads (record_of s file) (length-md5 _) (length-md5 _) (length-md5 _) d.size d.name
+desc_written s file d = unfold record_of desc_of_file in desc_reads (record_of s file) (length-md5 _) (length-md5 _) (length-md5 _) d.size d.name
 
 pub ifsc_written : (s : ℕ) (file : File) → IsDescribed file → read_ifsc Ifsc (ifsc_bytes (record_of s file)) ≡ Some (ifsc_of_file s file)
-unfolding record_of ifsc_of_file
-ifsc_written s file d = ifsc_reads (record_of s file) (length-md5 _) (pairs_are s file.1 d.bytes)
+ifsc_written s file d = unfold record_of ifsc_of_file in ifsc_reads (record_of s file) (length-md5 _) (pairs_are s file.1 d.bytes)
 
 pub main_said : (s : ℕ) (files : List File) → AreDescribed s files → (kind : Kind) (body : List ℕ) → Says s files kind body
     → (m : MainBody) → read_main kind body ≡ Some m → m ≡ main_of_files s files
@@ -127,9 +119,7 @@ IsTrueSlice s files r = r.bytes ≡ recovery s (all_slices s files) r.exponent
 
 pub recovery_said : (s : ℕ) (files : List File) → (kind : Kind) (body : List ℕ) → Says s files kind body
     → (r : RecoveryBody) → read_recovery kind body ≡ Some r → IsTrueSlice s files r
-unfolding read_recovery
-recovery_said s files Recovery body says r h = grind (arith, same_Some, recovery_reads)
-recovery_said s files kind body says r h = absurd (none-some r h)
+recovery_said s files kind body says r h = unfold read_recovery in grind arith
 
 -- ---- lists
 
@@ -143,9 +133,7 @@ all_there g f [] h ys e = sym (same_Some [] ys e)
 all_there {A = A} {B = B} g f (x ∷ xs) h ys e = step (g x) refl (all_some (map g xs)) (λ zs b. all_there g f xs h.1 zs b) e
   where
     step : (o : Option B) → g x ≡ o → (os : Option (List B)) → ((zs : List B) → os ≡ Some zs → zs ≡ map f xs) → option_and_then (λ y. option_map (λ zs. y ∷ zs) os) o ≡ Some ys → ys ≡ map f (x ∷ xs)
-    step (Some y) a (Some zs) b k =
-        sym (same_Some (y ∷ zs) ys k) ∙ ap (λ w. w ∷ zs) (h.0 y a) ∙ ap (λ ws. f x ∷ ws) (b zs refl)
-    step o a os b k = absurd (none-some ys k)
+    step o a os b k = grind arith
 
 -- ---- one file for each File ID
 
@@ -155,17 +143,16 @@ contained_cases {A = A} y xs x i = grind arith
 one_by_id : (files : List File) → IsDistinct bytes_eq (map id_of files) → (a b : File) → Contains files a → Contains files b → id_of a ≡ id_of b → a ≡ b
 unfolding IsDistinct
 one_by_id [] d a b i j e = absurd (omega (arith, i.1))
-one_by_id (x ∷ files) d a b i j e = elim (contained_cases x files a i) as (λ _. a ≡ b) [
-  | inl first ↦ by_either (contained_cases x files b j) (λ too. sym first ∙ too) (λ later. absurd (apart b later (ap id_of first ∙ e)))
-  | inr there ↦ by_either (contained_cases x files b j)
-      (λ too. absurd (apart a there (ap id_of too ∙ sym e)))
-      (λ later. one_by_id files d.1 a b there later e)
-]
-  where
-    apart : (c : File) → Contains files c → id_of x ≡ id_of c → ⊥
-    apart c k same =
-        let other = of_contained (λ y. bytes_eq (id_of x) (id_of y) ≡ false) files c (all_unmap (λ n. bytes_eq (id_of x) n ≡ false) id_of files d.0) k in
-        false≢true (sym other ∙ subst (λ n. bytes_eq (id_of x) n ≡ true) same (itself (id_of x)))
+one_by_id (x ∷ files) d a b i j e =
+    let apart : (c : File) → Contains files c → id_of x ≡ id_of c → ⊥ = (λ c k same.
+    let other = of_contained (λ y. bytes_eq (id_of x) (id_of y) ≡ false) files c (all_unmap (λ n. bytes_eq (id_of x) n ≡ false) id_of files d.0) k in
+    false≢true (sym other ∙ subst (λ n. bytes_eq (id_of x) n ≡ true) same (itself (id_of x)))) in
+    elim (contained_cases x files a i) as (λ _. a ≡ b) [
+      | inl first ↦ by_either (contained_cases x files b j) (λ too. sym first ∙ too) (λ later. absurd (apart b later (ap id_of first ∙ e)))
+      | inr there ↦ by_either (contained_cases x files b j)
+          (λ too. absurd (apart a there (ap id_of too ∙ sym e)))
+          (λ later. one_by_id files d.1 a b there later e)
+    ]
 
 -- ---- steps of the reading
 
@@ -204,8 +191,7 @@ module _ (s : ℕ) (files : List File) (d : AreDescribed s files) (packets : Lis
 
   -- the description of a file, where there is one
   pub description_is : (file : File) → Contains files file → (x : DescBody) → description_of packets (id_of file) ≡ Some x → x ≡ desc_of_file s file
-  unfolding desc_of_file record_of
-  description_is file i x e =
+  description_is file i x e = unfold desc_of_file record_of in
       let found = found_one (IsOfOne (desc_of_file s) files) (λ c. bytes_eq c.id (id_of file)) (filter_map (λ p. read_desc p.kind p.body) packets)
       (all-filter_map (λ p. Says s files p.kind p.body) (IsOfOne (desc_of_file s) files) (λ p. read_desc p.kind p.body) (λ p says. desc_said s files d p.kind p.body says) packets say) x e in
       let named : id_of found.0.0 ≡ id_of file = ap (λ c. c.id) (sym found.0.2) ∙ same_name x.id (id_of file) found.1 in
@@ -213,8 +199,7 @@ module _ (s : ℕ) (files : List File) (d : AreDescribed s files) (packets : Lis
 
   -- its checksums, where they are there
   pub pairs_are_its : (file : File) → Contains files file → (n : ℕ) (ps : List Pair) → pairs_of packets (id_of file) n ≡ Some ps → ps ≡ (record_of s file).pairs
-  unfolding ifsc_of_file record_of
-  pairs_are_its file i n ps e =
+  pairs_are_its file i n ps e = unfold ifsc_of_file record_of in
       let got = mapped (λ (c : IfscBody). c.pairs) (find (λ c. bytes_eq c.id (id_of file) && length c.pairs == n) (filter_map (λ p. read_ifsc p.kind p.body) packets)) ps e in
       let found = found_one (IsOfOne (ifsc_of_file s) files) (λ c. bytes_eq c.id (id_of file) && length c.pairs == n) (filter_map (λ p. read_ifsc p.kind p.body) packets)
       (all-filter_map (λ p. Says s files p.kind p.body) (IsOfOne (ifsc_of_file s) files) (λ p. read_ifsc p.kind p.body) (λ p says. ifsc_said s files d p.kind p.body says) packets say) got.0 got.1 in
@@ -261,15 +246,12 @@ IsTold s files set =
 -- a set of this identifier that reads, where all packets of the identifier say what the files do
 told : (base : List ℕ) (others : List (List ℕ)) (set : ParSet) (s : ℕ) (files : List File) (d : AreDescribed s files)
     → AllSay s files (packets_with set.id (flat_map accepted (base ∷ others))) → read_set base others ≡ Ok set → IsTold s files set
-unfolding main_of_files
-told base others set s files d say h =
+told base others set s files d say h = unfold main_of_files in
     let r = read_by base others set h in
-    let id = r.id in
-    let packets = packets_with id (flat_map accepted (base ∷ others)) in
-    let n = r.main.slice_size in
+    let packets = packets_with r.id (flat_map accepted (base ∷ others)) in
     let all : AllSay s files packets = subst (λ x. AllSay s files (packets_with x (flat_map accepted (base ∷ others)))) (ap (λ p. p.id) (sym r.made)) say in
-    let same_main : r.main ≡ main_of_files s files = main_is s files d packets all id r.main r.main_there in
-    let same_size : n ≡ s = ap (λ m. m.slice_size) same_main in
+    let same_main : r.main ≡ main_of_files s files = main_is s files d packets all r.id r.main r.main_there in
+    let same_size : r.main.slice_size ≡ s = ap (λ m. m.slice_size) same_main in
     let same_ds : r.described ≡ map (desc_of_file s) files =
     descriptions_are s files d packets all r.described (ap (λ m. all_some (map (description_of packets) m.ids)) (sym same_main) ∙ r.described_there) in
     let same_ts : r.targets ≡ map (target_of_file s) files =
@@ -298,8 +280,7 @@ folder_says folder base id s files h = kept id s files _ (all-flat_map-map (Says
 
 pub made_if_said : (folder : Folder) (base : List ℕ) (set : ParSet) (s : ℕ) (files : List File) → set_of folder base ≡ Ok set → AreDescribed s files
     → AllByRecursion (λ name. AllByRecursion (SaysIfOurs set.id s files) (accepted (bytes_of folder name))) (base ∷ other_par_names folder base) → MadeFrom folder base files s
-unfolding set_of
-made_if_said folder base set s files reads d all =
+made_if_said folder base set s files reads d all = unfold set_of in
     let is = told (bytes_of folder base) (map (bytes_of folder) (other_par_names folder base)) set s files d (folder_says folder base set.id s files all) reads in
     record { set = set; reads = reads; slice_size = is.0; targets = is.1; recovered = is.2 }
 

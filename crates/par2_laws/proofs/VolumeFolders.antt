@@ -1,9 +1,7 @@
 -- A folder of volumes holds the set that was made from their files.
-use Rattle.par2_laws.proofs.Common.{◌≡◌, ℕ, suc, ◌<◌, Bool, true, false, cond, ◌&&◌, List, [], ◌∷◌, ◌++◌, length, map, Option, Some, None, refl, sym, ap, ◌∙◌, subst, inl, inr, arith, ◌⊎◌, append_assoc, Ok, ◌==◌, filter, filter_map, find, slice_get, option_map, flat_map, ok_or, sum_by, AllByRecursion, Contains, slice_index_or, bytes_eq, false≢true, and_from, eq-eqb, le-leb, length-map, Contains-append_left, Contains-append_right, same_Some, map-map, md5, Kind, Main, FileDesc, Ifsc, Creator, slice_count, File, Folder, bytes_of, Packet, MainBody, IfscBody, read_main, read_desc, read_ifsc, accepted, DescBody, FileRecord, id_of, packet_of, main_id, main_bytes, desc_bytes, ifsc_bytes, creator_bytes, in_id_order, packets_with, main_of, description_of, pairs_of, target_of, target_of_file, all_some, ParSet, MadeFrom, ◌>>=◌, unless, are_in_profile, other_par_names, AreDescribed, all_weaker, test_from_all, itself, distinct_same, distinct_from_std, contained_first, contained_later, of_contained, all-map, target_with, set_with, finished, by_checksums, by_profile, by_descriptions, by_size, by_main, sum_by-cons, NoPackets, NoMain, NoDescription, NoChecksums, BadSet, is_name, AreInputs, IsVolume, set_id_of, IsOfOthers, HoldsVolumes, moved-ordered, by_either, common_steps}
-use Rattle.par2_spec.specs.Volumes.{record_of, index_packets}
+use Rattle.par2_laws.proofs.Common.{◌≡◌, ℕ, suc, ◌<◌, Bool, true, false, cond, ◌&&◌, List, [], ◌∷◌, ◌++◌, length, map, Option, Some, None, refl, sym, ap, ◌∙◌, subst, inl, inr, arith, ◌⊎◌, append_assoc, Ok, ◌==◌, filter, filter_map, find, slice_get, option_map, flat_map, ok_or, sum_by, AllByRecursion, Contains, slice_index_or, bytes_eq, false≢true, and_from, eq-eqb, le-leb, length-map, Contains-append_left, Contains-append_right, same_Some, map-map, Kind, Main, FileDesc, Ifsc, Creator, slice_count, File, Folder, bytes_of, Packet, IfscBody, read_desc, read_ifsc, accepted, DescBody, FileRecord, id_of, packet_of, main_id, main_bytes, desc_bytes, ifsc_bytes, creator_bytes, in_id_order, record_of, index_packets, packets_with, main_of, description_of, pairs_of, target_of, target_of_file, all_some, ParSet, MadeFrom, ◌>>=◌, unless, are_in_profile, other_par_names, read_set, set_of, AreDescribed, all_weaker, test_from_all, itself, distinct_same, distinct_from_std, contained_first, contained_later, of_contained, all-map, target_with, set_with, finished, by_checksums, by_profile, by_descriptions, by_size, by_main, sum_by-cons, NoPackets, NoMain, NoDescription, NoChecksums, BadSet, is_name, AreInputs, IsVolume, set_id_of, IsOfOthers, HoldsVolumes, moved-ordered, by_either, common_steps}
 use Rattle.par2_laws.proofs.SetsOfFiles.{all_contained, IsDescribed, each_described, main_of_files, desc_of_file, ifsc_of_file, main_written, desc_written, ifsc_written, AllSay, contained_cases, by_ids, description_is, pairs_are_its, target_is, SaysIfOurs, folder_says, made_if_said}
 use Rattle.par2_laws.proofs.VolumePackets.{pairs_count, index_of, moved, described, slices_of, IsReadAs, volumes_read, IsOurs, volume_ours}
-use Rattle.par2_spec.specs.Sets.{read_set, set_of}
 
 -- ---- one of a list
 
@@ -48,9 +46,6 @@ all_are g f (x ∷ xs) h = grind (arith, all_are g f xs h.1)
 
 -- ---- a Main in front
 
-main_first : (id : List ℕ) (p : Packet) (rest : List Packet) (m : MainBody) → bytes_eq p.set_id id ≡ true → bytes_eq (md5 p.body) id ≡ true → read_main p.kind p.body ≡ Some m → main_of id (packets_with id (p ∷ rest)) ≡ Some m
-main_first id p rest m own digest reads = grind arith
-
 -- ---- the packets of an index
 
 module _ (s : ℕ) (files : List File) (d : AreDescribed s files) (tail : List Packet) where
@@ -62,8 +57,7 @@ module _ (s : ℕ) (files : List File) (d : AreDescribed s files) (tail : List P
   packets = packets_with id (index_of s files ++ tail)
 
   pub main_there : main_of id packets ≡ Some (main_of_files s files)
-  unfolding index_packets
-  main_there = main_first id (packet_of id Main (main_bytes s (map (record_of s) files))) _ (main_of_files s files) (itself id) (itself id) (main_written s files d)
+  main_there = unfold index_packets in grind (arith, main_of_files, itself, main_written)
 
   of_index : (p : Packet) → Contains (index_of s files) p → p.set_id ≡ id → Contains packets p
   of_index p i own = grind (arith, common_steps, contained_filter, index_of, itself)
@@ -75,8 +69,7 @@ module _ (s : ℕ) (files : List File) (d : AreDescribed s files) (tail : List P
   among_each kind body file i = contained_map (λ (r : FileRecord). packet_of id kind (body r)) (map (record_of s) files) (record_of s file) (contained_map (record_of s) files file i)
 
   desc_there : (file : File) → Contains files file → Contains packets (packet_of id FileDesc (desc_bytes (record_of s file)))
-  unfolding index_packets
-  desc_there file i =
+  desc_there file i = unfold index_packets in
       let p = packet_of id FileDesc (desc_bytes (record_of s file)) in
       let main = packet_of id Main (main_bytes s (map (record_of s) files)) in
       let descs = of_each FileDesc desc_bytes in
@@ -86,8 +79,7 @@ module _ (s : ℕ) (files : List File) (d : AreDescribed s files) (tail : List P
       (Contains-append_left (main ∷ descs) ifscs p (contained_later main descs p (among_each FileDesc desc_bytes file i)))) refl
 
   ifsc_there : (file : File) → Contains files file → Contains packets (packet_of id Ifsc (ifsc_bytes (record_of s file)))
-  unfolding index_packets
-  ifsc_there file i =
+  ifsc_there file i = unfold index_packets in
       let p = packet_of id Ifsc (ifsc_bytes (record_of s file)) in
       let main = packet_of id Main (main_bytes s (map (record_of s) files)) in
       let descs = of_each FileDesc desc_bytes in
@@ -102,15 +94,13 @@ module _ (s : ℕ) (files : List File) (d : AreDescribed s files) (tail : List P
   -- where all packets say what the files do, each part is found
   module _ (say : AllSay s files packets) where
     description_found : (file : File) → Contains files file → description_of packets (id_of file) ≡ Some (desc_of_file s file)
-    unfolding desc_of_file record_of
-    description_found file i =
+    description_found file i = unfold desc_of_file record_of in
         let found = some_found (λ (p : Packet). read_desc p.kind p.body) (λ x. bytes_eq x.id (id_of file)) packets (packet_of id FileDesc (desc_bytes (record_of s file))) (desc_of_file s file)
         (desc_there file i) (desc_written s file (is_described file i)) (itself (id_of file)) in
         found.1 ∙ ap (λ x. Some x) (description_is s files d packets say file i found.0 found.1)
 
     pairs_found : (file : File) → Contains files file → pairs_of packets (id_of file) (slice_count s (length file.1)) ≡ Some (record_of s file).pairs
-    unfolding ifsc_of_file record_of
-    pairs_found file i =
+    pairs_found file i = unfold ifsc_of_file record_of in
         let n = slice_count s (length file.1) in
         let found = some_found (λ (p : Packet). read_ifsc p.kind p.body) (λ x. bytes_eq x.id (id_of file) && length x.pairs == n) packets (packet_of id Ifsc (ifsc_bytes (record_of s file))) (ifsc_of_file s file)
         (ifsc_there file i) (ifsc_written s file (is_described file i)) (and_from _ _ (itself (id_of file)) (eq-eqb _ n (pairs_count s file.1))) in
@@ -118,8 +108,7 @@ module _ (s : ℕ) (files : List File) (d : AreDescribed s files) (tail : List P
         these ∙ ap (λ ps. Some ps) (pairs_are_its s files d packets say file i n found.0.pairs these)
 
     target_found : (file : File) → Contains files file → target_of packets s (desc_of_file s file) ≡ Some (target_of_file s file)
-    unfolding desc_of_file record_of
-    target_found file i = grind (arith, common_steps, target_with, desc_of_file, target_is, pairs_found)
+    target_found file i = unfold desc_of_file record_of in grind (arith, common_steps, target_with, desc_of_file, target_is, pairs_found)
 
     pub descriptions_found : all_some (map (description_of packets) (main_of_files s files).ids) ≡ Some (map (desc_of_file s) files)
     descriptions_found =
@@ -135,13 +124,8 @@ module _ (s : ℕ) (files : List File) (d : AreDescribed s files) (tail : List P
 
 -- ---- what is described is in the profile
 
-names_described : (s : ℕ) (files : List File) → map (λ x. x.name) (map (desc_of_file s) files) ≡ map (λ file. file.0) files
-unfolding desc_of_file record_of
-names_described s files = map-map (λ x. x.name) (desc_of_file s) files
-
 are_names : (s : ℕ) (files : List File) → AllByRecursion (λ file. is_name file.0 ≡ true) files → AllByRecursion (λ (x : DescBody). is_name x.name ≡ true) (map (desc_of_file s) files)
-unfolding desc_of_file record_of
-are_names s files h = all-map (λ file. is_name file.0 ≡ true) (λ (x : DescBody). is_name x.name ≡ true) (desc_of_file s) (λ file k. k) files h
+are_names s files h = unfold desc_of_file record_of in all-map (λ file. is_name file.0 ≡ true) (λ (x : DescBody). is_name x.name ≡ true) (desc_of_file s) (λ file k. k) files h
 
 count_described : (s : ℕ) (files : List File) → sum_by (λ (x : DescBody). slice_count s x.length) (map (desc_of_file s) files) ≡ sum_by (λ file. slice_count s (length file.1)) files
 unfolding desc_of_file record_of
@@ -149,7 +133,7 @@ count_described s [] = refl
 count_described s (file ∷ files) = search (arith, sum_by-cons, desc_of_file, count_described s files)
 
 in_profile : (s : ℕ) (files : List File) → AreInputs s files → are_in_profile s (map (desc_of_file s) files) ≡ true
-in_profile s files is = grind (arith, desc_of_file, names_described, distinct_same, distinct_from_std, length-map, and_from, le-leb, count_described, test_from_all, are_names, eq-eqb)
+in_profile s files is = unfold desc_of_file record_of in grind (arith, desc_of_file, distinct_same, distinct_from_std, length-map, and_from, le-leb, count_described, test_from_all, are_names, eq-eqb, map-map)
 
 -- ---- the base is read
 
@@ -160,8 +144,7 @@ set_read s files packets = set_with (main_id s (map (record_of s) files)) packet
 base_reads : (s : ℕ) (files : List File) → AreInputs s files → (base : List ℕ) (others : List (List ℕ)) → IsReadAs s files base
     → AllSay s files (packets_with (main_id s (map (record_of s) files)) (flat_map accepted (base ∷ others)))
     → read_set base others ≡ Ok (set_read s files (packets_with (main_id s (map (record_of s) files)) (flat_map accepted (base ∷ others))))
-unfolding read_set index_packets main_of_files
-base_reads s files is base others r say =
+base_reads s files is base others r say = unfold read_set index_packets main_of_files in
     let id = main_id s (map (record_of s) files) in
     let d = described s files is in
     let tail = slices_of s files r.first r.count ++ flat_map accepted others in
@@ -195,12 +178,9 @@ module _ (folder : Folder) (base : List ℕ) (s : ℕ) (files : List File) (is :
   volume_says : (text : List ℕ) → IsVolume s files text → AllByRecursion (SaysIfOurs their_id s ordered) (accepted text)
   volume_says text v = all_weaker (IsOurs s ordered) (SaysIfOurs their_id s ordered) (λ p ours own. ours.1) (accepted text) (volume_ours s ordered text (volumes_read s files inputs text v))
 
-  others_say : (text : List ℕ) → IsOfOthers their_id text → AllByRecursion (SaysIfOurs their_id s ordered) (accepted text)
-  others_say text h = grind (arith, all_weaker, false≢true, itself)
-
   each_says : (text : List ℕ) → IsVolume s files text ⊎ IsOfOthers their_id text → AllByRecursion (SaysIfOurs their_id s ordered) (accepted text)
   each_says text (inl v) = volume_says text v
-  each_says text (inr h) = others_say text h
+  each_says text (inr h) = grind (arith, all_weaker, false≢true, itself)
 
   all_say : AllByRecursion (λ name. AllByRecursion (SaysIfOurs their_id s ordered) (accepted (bytes_of folder name))) (base ∷ other_par_names folder base)
   all_say = (
@@ -210,8 +190,7 @@ module _ (folder : Folder) (base : List ℕ) (s : ℕ) (files : List File) (is :
   )
 
   pub set_made : MadeFrom folder base ordered s
-  unfolding set_of
-  set_made =
+  set_made = unfold set_of in
       let texts = map (bytes_of folder) (other_par_names folder base) in
       made_if_said folder base (set_read s ordered (packets_with their_id (flat_map accepted (bytes_of folder base ∷ texts)))) s ordered
       (base_reads s ordered inputs (bytes_of folder base) texts (volumes_read s files inputs (bytes_of folder base) holds.of_base) (folder_says folder base their_id s ordered all_say))

@@ -1,9 +1,7 @@
 -- What is read of a volume: the packets that were written.
-use Rattle.par2_laws.proofs.Common.{◌≡◌, ℕ, ◌^◌, ◌<◌, ◌≤◌, true, false, List, [], ◌∷◌, length, map, sym, ◌∙◌, subst, arith, zero, suc, ◌+◌, min, ◌&&◌, ◌++◌, refl, ap, append-nil, IsTrue, IsPermutation, sum_by, ◌==◌, flat_map, nat_le, AllByRecursion, list_any, range_with_len, Contains, bytes_eq, not-true, leb-true, and_parts, length-map, sum_by-cons, IsPermutation-map, sum_by-IsPermutation, length_permutation, length-md5, pair_of, slice_count, slice_at, slices, is_name, AreBytes, File, IsFileRecord, id_of, FileRecord, all_slices, in_id_order, volumes_before, volume_size, volume_numbers, recovery_packets, packet_of, main_id, main_bytes, desc_bytes, ifsc_bytes, creator_bytes, AreDescribed, AreInputs, IsVolume, all-map, all-append, of_contained, all_weaker, moved-all, same_either_way, size_parts, flat_map-append, Kind, Main, FileDesc, Ifsc, Creator, Packet, packet, accepted, are_counts, index_reads, recovery_slices_read, common_steps}
-use Rattle.par2_spec.specs.Volumes.{record_of}
+use Rattle.par2_laws.proofs.Common.{◌≡◌, ℕ, ◌^◌, ◌<◌, ◌≤◌, true, false, List, [], ◌∷◌, length, map, sym, ◌∙◌, subst, arith, zero, suc, ◌+◌, min, ◌&&◌, ◌++◌, refl, ap, append-nil, IsTrue, IsPermutation, sum_by, ◌==◌, flat_map, nat_le, AllByRecursion, list_any, range_with_len, Contains, bytes_eq, not-true, leb-true, and_parts, length-map, sum_by-cons, IsPermutation-map, sum_by-IsPermutation, length_permutation, length-md5, pair_of, slice_count, slice_at, slices, is_name, AreBytes, File, IsFileRecord, id_of, FileRecord, all_slices, in_id_order, volumes_before, volume_size, volume_numbers, recovery_packets, packet_of, main_id, main_bytes, desc_bytes, ifsc_bytes, creator_bytes, record_of, volumes, index_packets, AreDescribed, AreInputs, IsVolume, all-map, all-append, of_contained, all_weaker, moved-all, same_either_way, size_parts, flat_map-append, common_steps, Kind, Main, FileDesc, Ifsc, Creator, Packet, packet, accepted, are_counts, index_reads, recovery_slices_read}
 use Rattle.std.proofs.lemmas.List.FromFn.{length-range_with_len}
 use Rattle.std.proofs.lemmas.Map.Keys.{IsDistinct-IsPermutation}
-use Rattle.par2_spec.specs.Volumes.{record_of, volumes, index_packets}
 use Rattle.par2_laws.proofs.RecoveryBytes.{pairs_are}
 use Rattle.par2_spec.proofs.NameTests.{tests_of}
 use Rattle.par2_spec.proofs.WrittenPackets.{none_short}
@@ -56,8 +54,7 @@ pub pairs_count : (s : ℕ) (text : List ℕ) → length (map pair_of (slices s 
 pairs_count s text = length-map (slices s text) pair_of ∙ length-map (range_with_len 0 (slice_count s (length text))) (slice_at s text) ∙ length-range_with_len 0 (slice_count s (length text))
 
 record_fits : (s : ℕ) (file : File) → IsInput s file → IsFileRecord (record_of s file)
-unfolding record_of
-record_fits s file is =
+record_fits s file is = unfold record_of in
     let name = name_parts file.0 is.name in
     let count = pairs_count s file.1 in
     record {
@@ -136,8 +133,7 @@ counts_end f c h = leb-true (f + c) 65536 (and_parts (nat_le c 65536 && nat_le f
 
 -- each volume of the files is read as its packets
 pub volumes_read : (s : ℕ) (files : List File) → AreInputs s (in_id_order files) → (text : List ℕ) → IsVolume s files text → IsReadAs s (in_id_order files) text
-unfolding volumes
-volumes_read s files is text v =
+volumes_read s files is text v = unfold volumes in
     let small = counts_end v.1 v.2 v.3 in
     let first : IsReadAs s (in_id_order files) (flat_map packet (index_of s (in_id_order files))) =
     record { first = 0; count = 0; low = λ k l. absurd (omega (arith, l)); packets = index_read s (in_id_order files) is } in
@@ -164,8 +160,7 @@ module _ (s : ℕ) (files : List File) where
   each_ours kind body says (file ∷ some) h = ((refl, says file h.0), each_ours kind body says some h.1)
 
   index_ours : AllByRecursion IsOurs (index_of s files)
-  unfolding index_packets
-  index_ours =
+  index_ours = unfold index_packets in
       let main = packet_of id Main (main_bytes s (map (record_of s) files)) in
       let descs = of_each FileDesc desc_bytes files in
       let ifscs = of_each Ifsc ifsc_bytes files in

@@ -1,8 +1,5 @@
 -- What a session's answer to a repair says of its folder.
-use Rattle.par2_sessions.proofs.Common.{◌≡◌, ◌∙◌, ℕ, List, ◌∷◌, map, Bool, Result, Ok, Err, refl, sym, ap, subst, Option, None, IsTrue, OnOk, IfOk, Command, Repair, Action, Do, Folder, History, folders, in_front, unless_refused, is_valid, changes_of, LeadsToAfter, LeadsToAfterAsked, refusal, after, Session, session_unless, changes_unless}
-use Rattle.std.specs.Prelude.{Some}
-use Rattle.par2_spec.specs.History.{history_after}
-use Rattle.par2_spec.specs.Sessions.{session_with, session_after, changes_asked, history_of}
+use Rattle.par2_sessions.proofs.Common.{◌≡◌, ℕ, List, ◌∷◌, map, Bool, Result, Ok, Err, arith, Option, None, IsTrue, OnOk, IfOk, Command, Repair, Action, Do, Folder, History, folders, in_front, unless_refused, history_after, is_valid, changes_of, LeadsToAfterAsked, refusal, after, Session, session_after, changes_asked, history_of}
 use Rattle.par2_spec.specs.Texts.{Step, step_of}
 use Rattle.par2_spec.specs.declared.Fault.{Fault}
 
@@ -21,42 +18,22 @@ module _ (s t : Session) (base : List ℕ) (extras : List (List ℕ)) (purge : B
   abbrev command : Command
   command = Repair base extras purge
 
-  -- by what the definitions answer
-  by_refusal : (refused : Option Fault) → session_unless s (Do command) (changes_unless refused (changes_of s.folder command)) ≡ Ok t
-      → (refused ≡ None → LeadsToAfter s.folder command) → (refused ≡ None) × (t.folder ≡ after s.folder command)
-  unfolding session_with
-  by_refusal None step leads =
-      let same : session_with s (Do command) (changes_of s.folder command) ≡ t = cc in
-      (refl, ap (λ (u : Session). u.folder) (sym same) ∙ (leads refl).1)
-  by_refusal (Some fault) step leads = absurd (cc)
-
   pub is_repaired : session_after s (Do command) ≡ Ok t → LeadsToAfterAsked s.folder (Do command) → IsRepaired s.folder t.folder command
-  unfolding session_after changes_asked
-  is_repaired step leads =
-      let both = by_refusal (refusal s.folder command) step leads in
-      record { accepted = both.0; left = both.1 }
+  is_repaired step leads = unfold session_after changes_asked in grind arith
 
   pub answered : {A E : Type 0} (r : Result A E) → OnOk r (session_after s (Do command) ≡ Ok t)
       → OnOk r (LeadsToAfterAsked s.folder (Do command)) → OnOk r (IsRepaired s.folder t.folder command)
-  answered (Ok a) step leads = is_repaired step leads
-  answered (Err e) step leads = tt
+  answered r step leads = grind (arith, is_repaired)
 
   -- the steps that are reported are the command's
   pub told : {E : Type 0} (r : Result (List Step) E) → OnOk r (IsRepaired s.folder t.folder command)
       → IfOk r (λ steps. IfOk (changes_asked s (Do command)) (λ changes. steps ≡ map step_of changes))
       → IfOk r (λ steps. steps ≡ map step_of (changes_of s.folder command))
-  unfolding changes_asked
-  told (Ok steps) is asked =
-      let Tells : Option Fault → Type 0 = λ refused. IfOk (changes_unless refused (changes_of s.folder command)) (λ changes. steps ≡ map step_of changes) in
-      subst Tells is.accepted asked
-  told (Err e) is asked = tt
+  told r is asked = unfold changes_asked in grind arith
 
   -- the folder stands in front of the older ones
   put_in_front : (h next : History) (refused : Option Fault) → unless_refused refused (in_front (after h.now command) h) ≡ Ok next → folders next ≡ next.now ∷ folders h
-  put_in_front h next None e =
-      let same : in_front (after h.now command) h ≡ next = cc in
-      ap (λ (k : History). next.now ∷ k.older) (sym same)
-  put_in_front h next (Some fault) e = absurd (cc)
+  put_in_front h next refused e = grind arith
 
   pub stands_in_front : {A E : Type 0} (r : Result A E) (law : GoesAlong) → IsTrue (is_valid s) → OnOk r (session_after s (Do command) ≡ Ok t)
       → OnOk r (LeadsToAfterAsked s.folder (Do command)) → OnOk r (folders (history_of t) ≡ t.folder ∷ folders (history_of s))
@@ -66,5 +43,4 @@ module _ (s t : Session) (base : List ℕ) (extras : List (List ℕ)) (purge : B
 
 -- two things that hold where a repair is accepted
 pub together : {A E : Type 0} (P Q : Type 0) (r : Result A E) → OnOk r P → OnOk r Q → OnOk r (P × Q)
-together P Q (Ok a) p q = (p, q)
-together P Q (Err e) p q = tt
+together P Q r p q = grind arith

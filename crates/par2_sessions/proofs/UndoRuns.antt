@@ -1,10 +1,8 @@
 -- Undos, one after the other, lead through the older folders.
-use Rattle.par2_sessions.proofs.Common.{◌≡◌, ◌≢◌, ◌∙◌, ℕ, suc, ◌+◌, ◌-◌, ◌<◌, List, [], ◌∷◌, ◌++◌, drop, replicate, Result, Ok, Err, refl, sym, ap, subst, add-one, arith, ◌↔◌, IsErr, IsTrue, OnOk, Action, Undo, Folder, History, Run, Ended, Accepted, Passed, after_undo, folders, is_valid, LeadsToAfterAsked, KeptSession, Session, session_of_kept, session_with, kept_undone}
+use Rattle.par2_sessions.proofs.Common.{◌≡◌, ◌≢◌, ◌∙◌, ℕ, suc, ◌+◌, ◌-◌, ◌<◌, List, [], ◌∷◌, ◌++◌, drop, replicate, Result, Ok, sym, ap, subst, add-one, arith, ◌↔◌, IsErr, IsTrue, OnOk, Action, Undo, Folder, History, Run, Ended, Accepted, Passed, after_undo, folders, history_after, is_valid, LeadsToAfterAsked, KeptSession, Session, session_of_kept, session_with, kept_undone, folders_along, history_of, session_after, changes_asked}
 use Rattle.std.proofs.lemmas.Bool.{false≢true}
 use Rattle.std.proofs.lemmas.List.{replicate_more}
 use Rattle.par2_spec.specs.Changes.{Change}
-use Rattle.par2_spec.specs.History.{history_after}
-use Rattle.par2_spec.specs.Sessions.{folders_along, history_of, session_after, changes_asked}
 use Rattle.par2_journal.specs.Ready.{next_of}
 use Rattle.par2_sessions.proofs.RepairAnswers.{GoesAlong}
 use Rattle.par2_spec.proofs.SessionLaws.{none_dropped}
@@ -25,9 +23,7 @@ pub record IsOnTheWay (start end : History) (here : KeptSession) (n i : ℕ) : T
 undo_by : (folder : Folder) (undos redos : List (List Change)) → undos ≢ []
     → let s : Session = record { folder = folder; undos = undos; redos = redos } in
     session_after s Undo ≡ Ok (session_with s Undo (next_of undos))
-unfolding session_after changes_asked
-undo_by folder [] redos some = absurd (some refl)
-undo_by folder (entry ∷ undos) redos some = refl
+undo_by folder undos redos some = unfold session_after changes_asked in grind arith
 
 -- a longer run
 run_on : {h mid end : History} {actions : List Action} {n : ℕ} (action : Action) → Run h actions n mid → history_after mid action ≡ Ok end → Run h (actions ++ action ∷ []) (suc n) end
@@ -42,10 +38,7 @@ one_more h mid end n run step =
 
 -- an accepted undo leaves one folder fewer
 pub one_fewer : (m : ℕ) (now : Folder) (older newer fs : List Folder) (next : History) → after_undo now older newer ≡ Ok next → drop (suc m) (now ∷ older) ≡ fs → drop m (folders next) ≡ fs
-one_fewer m now [] newer fs next step left = absurd (cc)
-one_fewer m now (folder ∷ older) newer fs next step left =
-    let same : record { older = older; now = folder; newer = now ∷ newer } ≡ next = cc in
-    ap (λ (h : History). drop m (folders h)) (sym same) ∙ left
+one_fewer m now older newer fs next step left = grind arith
 
 module _ (laws : AreLaws) (start end : History) (old new : KeptSession) (n i : ℕ) (more : i < n) (way : IsOnTheWay start end old n i) where
   left : ℕ
@@ -59,8 +52,7 @@ module _ (laws : AreLaws) (start end : History) (old new : KeptSession) (n i : �
 
   -- an accepted undo goes on
   goes_on : old.undos ≢ [] → new ≡ kept_undone old (next_of old.undos) → IsOnTheWay start end new n (i + 1)
-  unfolding left history_after history_of
-  goes_on some after_undo =
+  goes_on some after_undo = unfold left history_after history_of in
       let step = undo_by old.folder.files old.undos old.redos some ∙ ap Ok (sym (laws.kept old (next_of old.undos))) ∙ ap (λ (s : KeptSession). Ok (session_of_kept s)) (sym after_undo) in
       let next = laws.accepted (session_of_kept old) (session_of_kept new) Undo way.valid tt step in
       record {
@@ -71,7 +63,4 @@ module _ (laws : AreLaws) (start end : History) (old new : KeptSession) (n i : �
 
   -- and the next undo is accepted
   pub next_is_accepted : {A E : Type 0} (r : Result A E) → (IsErr r ↔ (old.undos ≡ [])) → OnOk r (new ≡ kept_undone old (next_of old.undos)) → IsOnTheWay start end new n (i + 1)
-  unfolding left history_of folders_along
-  next_is_accepted (Ok done) refused after_undo = goes_on (λ none. false≢true (refused.1 none)) after_undo
-  next_is_accepted (Err fault) refused after_undo =
-      absurd (none_dropped left start.now start.older (ap (λ undos. drop left (folders_along old.folder.files undos)) (sym (refused.0 refl)) ∙ ahead))
+  next_is_accepted r refused after_undo = unfold left history_of folders_along in grind (arith, goes_on, false≢true, none_dropped, left, ahead)

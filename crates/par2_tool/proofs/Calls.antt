@@ -1,61 +1,25 @@
 -- How many writing calls are made of a store.
-use Rattle.par2_tool.proofs.Common.{◌≡◌, inl, inr, ℕ, ◌+◌, List, [], ◌∷◌, length, Option, Some, None, Result, Ok, Err, refl, sym, ap, subst, ◌∙◌, arith, Vec, IfErr, OnOk, Global, Change, Action, Do, Undo, Redo, Create, Verify, Repair, Purge, Folder, Refusal, Opens, Halfway, Started, halfway_where, Session, KeptSession, changes_asked, session_of_kept, Contents, action_of, Two, Ready, changes_by_kind, SpellsWhere, AreSpelled, Plan, NothingToUndo, NothingToRedo, Journals, AreAtMost, AreCallsToOpen, AreCallsToRun, CountsCalls, CountsFailedRun, CountsOpening, IsCalled, calls_asked, calls_before, calls_for, calls_to_write, calls_unless, IsOpening, IsRead, StandsFor, IsVerify, IsSession, failure_for, unopened_as, OpenFault, PerformFault, Store}
-use Rattle.par2_spec.specs.Opening.{journals_of}
+use Rattle.par2_tool.proofs.Common.{◌≡◌, inr, ℕ, ◌+◌, List, [], length, Some, Result, Ok, Err, refl, sym, ap, subst, ◌∙◌, arith, Change, Action, Do, Verify, Folder, Opens, Halfway, Started, journals_of, Session, KeptSession, changes_asked, session_of_kept, Contents, action_of, Two, Ready, changes_by_kind, AreSpelled, Plan, Journals, AreAtMost, AreCallsToOpen, AreCallsToRun, CountsCalls, CountsFailedRun, CountsOpening, IsCalled, calls_asked, calls_to_write, calls_unless, IsOpening, IsRead, StandsFor, IsVerify, IsSession, failure_for, unopened_as, OpenFault, PerformFault, Store}
 use Rattle.par2_spec.specs.declared.commands.Action as asking
-use Rattle.par2_spec.specs.declared.commands.Action.TheVariants as given
-use Rattle.par2_tool.specs.declared.opening.OpenFault.TheVariants as unopened
 use Rattle.par2_tool.specs.declared.performing.PerformFault.TheVariants.{Session as Refusing}
 use Rattle.par2_tool.proofs.Stops.{IsMadeReady, asked_of_mid}
 
 -- ---- an action
 
-calls_where : (halfway : Option (Vec ℕ Global)) (s : Session) (changes : List Change) → SpellsWhere halfway (halfway_where Two s changes) → calls_before halfway + (length changes + 1) ≡ calls_for changes
-calls_where None s [] spells = refl
-calls_where None s (c ∷ cs) spells = absurd spells
-calls_where (Some text) s [] spells = absurd spells
-calls_where (Some text) s (c ∷ cs) spells = omega arith
-
 -- what was made ready takes the calls of the changes that were asked for
 pub ready_calls : (action : Action) (old : KeptSession) (ready : Ready) (mid : KeptSession) → IsMadeReady action old ready mid → (journals : Journals) → AreSpelled journals (journals_of Two (session_of_kept mid) action (changes_by_kind ready.kind mid))
     → calls_to_write journals (length (changes_by_kind ready.kind mid)) ≡ calls_unless (changes_asked (session_of_kept old) action)
-unfolding journals_of
-ready_calls action old ready mid made journals spelled =
-    calls_where journals.halfway (session_of_kept mid) (changes_by_kind ready.kind mid) spelled.0
-    ∙ ap (λ (r : Result (List Change) Refusal). calls_unless r) (sym (asked_of_mid action old ready mid made))
+ready_calls action old ready mid made journals spelled = unfold journals_of in grind (arith, asked_of_mid)
 
 -- any action but a verify makes those of its changes
 pub asked_calls : (action : asking.Action) (s : Session) → calls_unless (changes_asked s (action_of action)) ≡ calls_asked s (action_of action)
-asked_calls (given.Create a) s = refl
-asked_calls (given.Repair base extras purge) s = refl
-asked_calls (given.Purge base) s = refl
-asked_calls given.Undo s = refl
-asked_calls given.Redo s = refl
+asked_calls action s = grind arith
 
 -- what holds of each verify holds of an action that is one
 pub for_verify : (P : Action → Type 0) → ((base : List ℕ) (extras : List (List ℕ)) → P (Do (Verify base extras))) → (action : Action) → IsVerify action → P action
-for_verify P so (Do (Verify base extras)) is = so base extras
-for_verify P so (Do (Create args)) is = absurd is
-for_verify P so (Do (Repair base extras purge)) is = absurd is
-for_verify P so (Do (Purge base)) is = absurd is
-for_verify P so Undo is = absurd is
-for_verify P so Redo is = absurd is
+for_verify P so action is = grind arith
 
 -- ---- an opening
-
--- where none was made
-pub no_calls : {T : Type 0} (contents : Contents) (before after : ℕ) (r : Result T OpenFault) → after ≡ before → CountsOpening contents before after r
-no_calls {T} contents before after r same = (0, inl refl, record { opened = opened r; refused = refused r })
-  where
-    opened : (r : Result T OpenFault) → OnOk r (after ≡ before + 0)
-    opened (Ok x) = omega (arith, same)
-    opened (Err e) = tt
-
-    refused : (r : Result T OpenFault) → IfErr r (IsCalled 0 before after)
-    refused (Ok x) = tt
-    refused (Err unopened.Store) = record { later = omega (arith, same); within = omega (arith, same) }
-    refused (Err unopened.Memory) = same
-    refused (Err unopened.JournalInvalid) = same
-    refused (Err unopened.FolderChanged) = same
 
 -- where a halfway command was taken back, as far as that came
 pub back_calls : {T : Type 0} (contents : Contents) (files : Folder) (text : List ℕ) (s : Session) (back : List Change) (before after : ℕ) (r : Result T OpenFault) → IsRead contents files (Some text) → Opens files text (Ok (Halfway s back))
@@ -83,15 +47,11 @@ refused_calls calls before after r e y is same called = subst (λ x. CountsCalls
 
 -- the session that stands for the opened one takes as many
 pub stands_calls : (action : Action) (o s : Started) → StandsFor action o s → calls_asked s.session action ≡ calls_asked o.session action
-stands_calls action o s (inl same) = ap (λ (t : Started). calls_asked t.session action) (sym same)
-stands_calls action o s (inr verify) = for_verify (λ a. calls_asked s.session a ≡ calls_asked o.session a) (λ base extras. refl) action verify.0
+stands_calls action o s h = grind arith
 
 -- an opening that is refused
 pub opening_calls : {T : Type 0} (action : Action) (old : Contents) (before after : ℕ) (e : OpenFault) → CountsOpening {T = T} old before after (Err e) → CountsFailedRun action old before after (unopened_as e)
-opening_calls action old before after unopened.Store counted = (counted.0, inl counted.1, counted.2.refused)
-opening_calls action old before after unopened.Memory counted = (0, inl refl, let same = counted.2.refused in omega (arith, same))
-opening_calls action old before after unopened.JournalInvalid counted = (0, inl refl, let same = counted.2.refused in omega (arith, same))
-opening_calls action old before after unopened.FolderChanged counted = (0, inl refl, let same = counted.2.refused in omega (arith, same))
+opening_calls action old before after e counted = grind arith
 
 module _ (action : Action) (old : Contents) (before mid after opening : ℕ) (o : Started) (s : Session) (takes : AreCallsToOpen old opening) (opens : IsOpening old (Ok o)) (counted : mid ≡ before + opening) (alike : calls_asked s action ≡ calls_asked o.session action) where
   pub run_calls : AreCallsToRun action old (opening + calls_asked s action)
@@ -102,5 +62,4 @@ module _ (action : Action) (old : Contents) (before mid after opening : ℕ) (o 
   perform_calls Store most same =
       (opening + calls_asked s action, inr run_calls, record { later = omega (arith, counted, most.later); within = omega (arith, counted, most.within) })
   perform_calls (Refusing (Plan fault)) most same = (opening, takes, same tt ∙ counted)
-  perform_calls (Refusing NothingToUndo) most same = (opening, takes, same tt ∙ counted)
-  perform_calls (Refusing NothingToRedo) most same = (opening, takes, same tt ∙ counted)
+  perform_calls fault most same = (opening, takes, same tt ∙ counted)

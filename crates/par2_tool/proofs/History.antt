@@ -1,9 +1,7 @@
 -- Runs on one store keep one history.
-use Rattle.par2_tool.proofs.Common.{◌≡◌, inl, inr, List, Option, Some, None, Result, Ok, Err, Bool, true, false, refl, sym, ap, subst, ◌∙◌, Action, Do, Undo, Redo, Create, Verify, Repair, Purge, Folder, Refusal, Refused, Run, history_after, Opened, Settled, Halfway, Started, opened, new_session, is_valid, started, Session, history_of, session_unless, changes_unless, changes_of, LeadsToAfterAsked, refusal, Fault, Contents, JournalFault, JournalInvalid, FolderChanged, Journal, Spells, accepted_next, refused_alike, same_ok, ok_no_err, taken_back_leads, IsOpened, IsWritten, IsOpening, IsSettled, Holds, with_history, IsRefusedFor}
-use Rattle.std.specs.Prelude.{ℕ, length}
+use Rattle.par2_tool.proofs.Common.{◌≡◌, inl, inr, List, Option, Some, None, Result, Ok, Err, Bool, true, false, refl, sym, ap, subst, ◌∙◌, ℕ, length, arith, Action, Do, Verify, Folder, Opened, Settled, Halfway, Started, opened, new_session, is_valid, started, OpensAs, Opens, leads, Session, history_of, session_unless, session_after, changes_asked, LeadsToAfterAsked, Contents, JournalFault, JournalInvalid, FolderChanged, Journal, Spells, accepted_next, refused_alike, same_ok, ok_no_err, taken_back_leads, IsOpened, IsWritten, IsOpening, IsSettled, Holds, with_history, IsRefusedFor}
+use Rattle.par2_spec.specs.History.{Refusal, Run, history_after}
 use Rattle.par2_spec.specs.History as history
-use Rattle.par2_spec.specs.Opening.{OpensAs, Opens, leads}
-use Rattle.par2_spec.specs.Sessions.{session_after, changes_asked}
 use Rattle.par2_spec.specs.declared.JournalFault.TheVariants.{Memory}
 use Rattle.par2_tool.specs.Runs.{HasNoEffect, Runs, Ended, Effective, Passed, TakesEffect}
 use Rattle.par2_tool.proofs.Openings.{settled_on, halfway_by}
@@ -33,8 +31,7 @@ one_start one_reading folder (Some text) a b p q =
 -- ---- and as a session whose entries lead
 
 new_leads : (folder : Folder) → is_valid (new_session folder) ≡ true
-unfolding leads
-new_leads folder = refl
+new_leads folder = unfold leads in refl
 
 started_leads : (folder : Folder) (text : List ℕ) (o : Result Opened JournalFault) (a : Started) → Opens folder text o → Ok a ≡ started folder o → is_valid a.session ≡ true
 started_leads folder text (Ok (Settled s)) a opens e = ap (λ (x : Started). is_valid x.session) (same_ok a _ e) ∙ (settled_on folder text s opens).1
@@ -53,17 +50,11 @@ start_leads folder (Some text) a p = started_leads folder text p.0 a p.1 p.2
 
 -- what is refused of the session, the history refuses
 refused_after : (s : Session) (action : Action) (reason : Refusal) → changes_asked s action ≡ Err reason → history_after (history_of s) action ≡ Err reason
-unfolding session_after
-refused_after s action reason e = refused_alike s action reason (ap (session_unless s action) e)
+refused_after s action reason e = unfold session_after in refused_alike s action reason (ap (session_unless s action) e)
 
 -- a verify leaves the session
 verify_stays : (s after : Session) (base : List ℕ) (extras : List (List ℕ)) → session_after s (Do (Verify base extras)) ≡ Ok after → s ≡ after
-unfolding session_after changes_asked
-verify_stays s after base extras e = by_refusal (refusal s.folder (Verify base extras)) e
-  where
-    by_refusal : (o : Option Fault) → session_unless s (Do (Verify base extras)) (changes_unless o (changes_of s.folder (Verify base extras))) ≡ Ok after → s ≡ after
-    by_refusal None h = same_ok s after h
-    by_refusal (Some fault) h = absurd (ok_no_err after (Refused fault) (sym h))
+verify_stays s after base extras e = unfold session_after changes_asked in grind arith
 
 -- an accepted action leaves the session afterwards in the store, a verify of a folder with a dropped history that too
 written_holds : (action : Action) (s after : Session) (dropped : Bool) (old between new : Contents) → IsOpened old between (record { session = s; dropped = dropped }) → session_after s action ≡ Ok after → IsWritten action after between new
@@ -71,11 +62,7 @@ written_holds : (action : Action) (s after : Session) (dropped : Bool) (old betw
 written_holds (Do (Verify base extras)) s after dropped old between new opened leads written =
     let end : Started = record { session = s; dropped = dropped } in
     (end, verify_stays s after base extras leads, subst (λ (k : Contents). Holds k end) (sym written) opened.holds)
-written_holds (Do (Create a)) s after dropped old between new opened leads written = (with_history after, refl, written.0)
-written_holds (Do (Repair base extras purge)) s after dropped old between new opened leads written = (with_history after, refl, written.0)
-written_holds (Do (Purge base)) s after dropped old between new opened leads written = (with_history after, refl, written.0)
-written_holds Undo s after dropped old between new opened leads written = (with_history after, refl, written.0)
-written_holds Redo s after dropped old between new opened leads written = (with_history after, refl, written.0)
+written_holds action s after dropped old between new opened leads written = (with_history after, refl, written.0)
 
 -- ---- one run
 
@@ -83,9 +70,7 @@ written_holds Redo s after dropped old between new opened leads written = (with_
 module _ (one : OneStart) (old : Contents) (started : Started) (opens : IsOpening old (Ok started)) where
   takes_step : (action : Action) (session after : Session) (dropped : Bool) → IsOpening old (Ok (record { session = session; dropped = dropped })) → LeadsToAfterAsked session.folder action → session_after session action ≡ Ok after
       → history_after (history_of started.session) action ≡ Ok (history_of after)
-  takes_step action session after dropped opening leads accepted =
-      let same : started.session ≡ session = ap (λ (x : Started). x.session) (one old started _ opens opening) in
-      ap (λ s. history_after (history_of s) action) same ∙ (accepted_next session after action (start_leads old.files old.journal _ opening) leads accepted).0
+  takes_step action session after dropped opening leads accepted = grind (arith, accepted_next, start_leads)
 
   effective : (action : Action) (new : Contents) → TakesEffect action old new
       → (next : Started) × (history_after (history_of started.session) action ≡ Ok (history_of next.session)) × Holds new next

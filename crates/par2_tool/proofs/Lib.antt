@@ -2,11 +2,8 @@ mod Common
 mod MadeChanges
 mod VerifyRuns
 mod Openings
-mod StoreOpenings
 mod Stops
-mod Remains
 mod Outcomes
-mod AsIs
 mod Calls
 mod History
 mod UnreadWords

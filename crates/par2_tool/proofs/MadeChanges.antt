@@ -1,7 +1,7 @@
 -- Changes that were made one after the other in a store.
-use Rattle.par2_tool.proofs.Common.{◌≡◌, ◌<◌, ◌+◌, ℕ, zero, suc, List, [], ◌∷◌, ◌++◌, length, map, get_or, take, IsTrue, refl, sym, ap, subst, ◌∙◌, arith, map_more, and_parts, Contents, with_change, change_of, Folder, KeptSession, OnlyGrew, session_of_kept, new_session, Kind, Changing, Undoing, Redoing, changes_by_kind, next_of, with_all_changes}
-use Rattle.par2_spec.specs.Changes as defined
+use Rattle.par2_tool.proofs.Common.{◌≡◌, ◌<◌, ◌+◌, ℕ, zero, suc, List, [], ◌∷◌, ◌++◌, length, map, get_or, take, IsTrue, refl, sym, ap, subst, ◌∙◌, arith, ◌⊎◌, inl, inr, ◌≤◌, map_more, length-map, take_all, take-map, and_parts, Contents, with_change, with_journal, change_of, Folder, KeptSession, OnlyGrew, session_of_kept, new_session, Kind, changes_by_kind, with_all_changes, with_halfway, IsStoppedAt, Journals, AreSomeWritten}
 use Rattle.par2_folder.specs.declared.change.Change.{Change}
+use Rattle.par2_spec.specs.Changes as defined
 
 changed_more : (k : Contents) (cs : List defined.Change) (c : defined.Change) → with_all_changes k (cs ++ c ∷ []) ≡ with_change (with_all_changes k cs) c
 changed_more k [] c = refl
@@ -31,15 +31,47 @@ applicable_next k (c ∷ cs) (suc i) item within is all = applicable_next (with_
 -- so does it where they were made
 pub applicable_here : (k now : Contents) (changes : List Change) (i : ℕ) (item : Change) → now ≡ with_all_changes k (map change_of (take i changes)) → i < length changes → item ≡ get_or changes i item
     → IsTrue (defined.are_applicable k.files (map change_of changes)) → IsTrue (defined.is_applicable now.files (change_of item))
-applicable_here k now changes i item made within is all =
-    subst (λ (c : Contents). IsTrue (defined.is_applicable c.files (change_of item))) (sym made) (applicable_next k changes i item within is all)
+applicable_here k now changes i item made within is all = grind (arith, applicable_next)
 
 -- what was made ready applies the changes that were asked for
 pub same_changes : (old mid : KeptSession) (kind : Kind) → OnlyGrew old mid → changes_by_kind kind old ≡ changes_by_kind kind mid
-same_changes old mid (Changing changes) grew = refl
-same_changes old mid Undoing grew = ap next_of (sym grew.undos)
-same_changes old mid Redoing grew = ap next_of (sym grew.redos)
+same_changes old mid kind grew = grind arith
 
 -- a session that was opened
 pub is_new : (s : KeptSession) (f : Folder) → s.folder.files ≡ f → s.undos ≡ [] → s.redos ≡ [] → session_of_kept s ≡ new_session f
 is_new s f files undos redos = λ i. record { folder = files i; undos = undos i; redos = redos i }
+
+-- ---- what a power cut may leave of changes that are written down between two journals
+
+-- where all changes were made, as many of them were as there are
+pub all_remain : (start now left : Contents) (changes : List Change) (i : ℕ) → length changes ≤ i → now ≡ with_all_changes start (map change_of (take i changes)) → left ≡ now
+    → AreSomeWritten start (map change_of changes) left
+all_remain start now left changes i whole made is = grind (arith, length-map, take_all, take-map)
+
+-- where the first ones were made, and the next one was or wasn't
+pub next_remains : (start now left : Contents) (changes : List Change) (i : ℕ) (item : Change) → i < length changes → item ≡ get_or changes i item → now ≡ with_all_changes start (map change_of (take i changes))
+    → (left ≡ now) ⊎ (left ≡ with_change now (change_of item)) → AreSomeWritten start (map change_of changes) left
+next_remains start now left changes i item within at made (inl none) =
+    (i, omega (arith, within, length-map changes change_of), none ∙ made ∙ ap (with_all_changes start) (sym (take-map change_of i changes)))
+next_remains start now left changes i item within at made (inr one) = (
+  i + 1,
+  omega (arith, within, length-map changes change_of),
+  one
+      ∙ ap (λ (k : Contents). with_change k (change_of item)) made
+      ∙ made_next start changes i item within at
+      ∙ ap (with_all_changes start) (sym (take-map change_of (i + 1) changes)),
+)
+
+module _ (old : Contents) (journals : Journals) where
+  -- when the halfway journal was put
+  pub begun_remains : (cs : List defined.Change) (left : Contents) → (left ≡ old) ⊎ (left ≡ with_halfway old journals.halfway) → IsStoppedAt old journals cs left
+  begun_remains cs left h = grind arith
+
+  -- when the changes were made, or some of them
+  pub some_remain : (cs : List defined.Change) (mid left : Contents) → mid ≡ with_halfway old journals.halfway → AreSomeWritten mid cs left → IsStoppedAt old journals cs left
+  some_remain cs mid left begun some = inr (inl (some.0, some.1, some.2 ∙ ap (λ k. with_all_changes k (take some.0 cs)) begun))
+
+  -- when the journal of afterwards was put
+  pub ended_remains : (cs : List defined.Change) (mid done left : Contents) → mid ≡ with_halfway old journals.halfway → done ≡ with_all_changes mid cs → (left ≡ done) ⊎ (left ≡ with_journal done journals.after.items)
+      → IsStoppedAt old journals cs left
+  ended_remains cs mid done left begun made h = grind (arith, take_all)

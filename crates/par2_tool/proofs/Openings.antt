@@ -1,86 +1,44 @@
 -- What a store opens as, and what a stop leaves of it.
-use Rattle.par2_tool.proofs.Common.{◌≡◌, ◌⊎◌, inl, inr, ℕ, Bool, true, false, not, ◌&&◌, IsTrue, List, ◌∷◌, length, take, drop, ◌-◌, Option, Some, None, Result, Ok, Err, refl, sym, ap, subst, ◌∙◌, arith, reverse, position, option_map, OnErr, if◌then◌else◌, Global, Folder, fingerprint, Change, are_applicable, effects, Session, Journal, HalfwayPart, Spells, Opened, Settled, Halfway, Started, is_valid, leads_through, new_session, opened_if_found, opened_by_part, session_of, settled_journal, started, TellsApart, Contents, with_journal, JournalFault, JournalInvalid, FolderChanged, Two, settled_stored, still_stored, taken_back_leads, Holds, IsOpening, OpensAsBefore, TellsApartBack, with_history, IsOpened, IsRead, IsStillHalfway, IsTakenBack, TakesBack, IsStoppedAt}
-use Rattle.std.specs.Prelude.{Vec}
-use Rattle.std.specs.Str.{bytes_eq}
-use Rattle.par2_spec.specs.Opening.{Opens, OpensAs, opened, taken_back}
-use Rattle.par2_spec.specs.declared.JournalFault.TheVariants as fault
+use Rattle.par2_tool.proofs.Common.{◌≡◌, ◌⊎◌, inl, inr, ℕ, true, IsTrue, List, take, Option, Some, None, Result, Ok, Err, refl, sym, ap, subst, ◌∙◌, arith, Vec, option_map, OnErr, IfErr, Global, Folder, Change, are_applicable, effects, Session, Journal, Spells, Opened, Settled, Halfway, Started, is_valid, new_session, settled_journal, started, TellsApart, Opens, OpensAs, opened, Contents, with_journal, JournalFault, Two, settled_stored, still_stored, taken_back_leads, Holds, IsOpening, OpensAsBefore, TellsApartBack, with_history, IsOpened, IsRead, IsStillHalfway, IsTakenBack, TakesBack, LeavesUnopened, IsCounted, IsStoppedAt, CountsOpening, OpenFault, KeepsStore}
 use Rattle.par2_tool.proofs.MadeChanges.{all_changed_is}
+use Rattle.par2_folder.specs.Stores.{OnlyReads}
+use Rattle.par2_folder.specs.declared.view.Store.{Ghosts as StoreOf}
+use Rattle.par2_tool.specs.StoreOpenings.{Opens as OpensStore}
+use Rattle.par2_spec.specs.declared.JournalFault.TheVariants as fault
 
 -- ---- what a folder opens as
 
--- what is settled is a session on the folder itself, and its entries lead
-settled_leads : (folder : Folder) (j : Journal) (s : Session) → opened folder j ≡ Ok (Settled s) → (s.folder ≡ folder) × (is_valid s ≡ true)
-unfolding opened taken_back
-settled_leads folder j s e = by_halfway j.halfway e
-  where
-    by_valid : (b : Bool) → is_valid (session_of folder j) ≡ b → (if b then Ok (Settled (session_of folder j)) else Err JournalInvalid) ≡ Ok (Settled s) → (s.folder ≡ folder) × (is_valid s ≡ true)
-    by_valid false valid h = let no : ⊥ = cc h in absurd no
-    by_valid true valid h =
-        let same : session_of folder j ≡ s = cc in
-        (sym (ap (λ (t : Session). t.folder) same), sym (ap is_valid same) ∙ valid)
-
-    by_print : (b : Bool) → (if not b then Err (FolderChanged false) else if is_valid (session_of folder j) then Ok (Settled (session_of folder j)) else Err JournalInvalid) ≡ Ok (Settled s) → (s.folder ≡ folder) × (is_valid s ≡ true)
-    by_print false h = let no : ⊥ = cc h in absurd no
-    by_print true h = by_valid (is_valid (session_of folder j)) refl h
-
-    by_way : (b : Bool) (t : Session) (back : List Change) → (if b then Ok (Halfway t back) else Err JournalInvalid) ≡ Ok (Settled s) → ⊥
-    by_way false t back h = cc h
-    by_way true t back h = cc h
-
-    by_place : (w : HalfwayPart) (o : Option ℕ) → opened_if_found folder j w o ≡ Ok (Settled s) → ⊥
-    by_place w None h = cc h
-    by_place w (Some k) h =
-        let back = drop (length w.back - k) w.back in
-        let t = session_of (effects folder back) j in
-        by_way (leads_through folder back (reverse (take k (j.fingerprint ∷ w.fingerprints))) && is_valid t) t back h
-
-    by_halfway : (o : Option HalfwayPart) → opened_by_part folder j o ≡ Ok (Settled s) → (s.folder ≡ folder) × (is_valid s ≡ true)
-    by_halfway None h = by_print (bytes_eq (fingerprint folder) j.fingerprint) h
-    by_halfway (Some w) h = absurd (by_place w (position (bytes_eq (fingerprint folder)) (j.fingerprint ∷ w.fingerprints)) h)
-
--- so is what a text opens as, where it is settled
+-- what a text opens as, where it is settled, is a session on the folder itself, whose entries lead
 pub settled_on : (folder : Folder) (text : List ℕ) (s : Session) → Opens folder text (Ok (Settled s)) → (s.folder ≡ folder) × (is_valid s ≡ true)
-unfolding Opens
-settled_on folder text s (inl p) = settled_leads folder p.0 s (sym p.2)
-settled_on folder text s (inr p) = let no : ⊥ = cc p.1 in absurd no
+settled_on folder text s h = unfold Opens in grind arith
 
 -- the journal of what is to be taken back
 pub halfway_by : (folder : Folder) (text : List ℕ) (s : Session) (back : List Change) → Opens folder text (Ok (Halfway s back)) → (j : Journal) × Spells text j × (opened folder j ≡ Ok (Halfway s back))
-unfolding Opens
-halfway_by folder text s back (inl p) = (p.0, p.1, sym p.2)
-halfway_by folder text s back (inr p) = let no : ⊥ = cc p.1 in absurd no
+halfway_by folder text s back h = unfold Opens in grind arith
 
 -- ---- what a store opens as
 
 -- the text of the journal that was read
 pub text_read : (contents : Contents) (files : Folder) (journal : Option (Vec ℕ Global)) (text : Vec ℕ Global) (bytes : List ℕ) → IsRead contents files (option_map (λ bytes. bytes.items) journal) → journal ≡ Some text → bytes ≡ text.items
     → IsRead contents files (Some bytes)
-text_read contents files journal text bytes read some is =
-    subst (IsRead contents files) (ap (option_map (λ (v : Vec ℕ Global). v.items)) some ∙ ap Some (sym is)) read
+text_read contents files journal text bytes read some is = grind arith
 
 -- what is read opens as its journal does
 pub opens_read : (contents : Contents) (files : Folder) (text : List ℕ) (o : Result Opened JournalFault) (answer : Result Started JournalFault) → IsRead contents files (Some text) → Opens files text o → answer ≡ started files o → IsOpening contents answer
-unfolding OpensAs
-opens_read contents files text o answer read opens is = subst (λ k. IsOpening k answer) (sym read) (o, opens, is)
+opens_read contents files text o answer read opens is = unfold OpensAs in subst (λ k. IsOpening k answer) (sym read) (o, opens, is)
 
 -- a refusal that is not because memory ran out decides what the store opens as
 pub opens_refused : (contents : Contents) (files : Folder) (text : List ℕ) (e named : JournalFault) (answer : Result Started JournalFault) → IsRead contents files (Some text) → (e ≡ fault.Memory) ⊎ Opens files text (Err e) → e ≡ named → (named ≡ fault.Memory → ⊥) → answer ≡ started files (Err named)
     → IsOpening contents answer
-opens_refused contents files text e named answer read (inl memory) same other is = absurd (other (sym same ∙ memory))
-opens_refused contents files text e named answer read (inr opens) same other is =
-    opens_read contents files text (Err named) answer read (subst (λ f. Opens files text (Err f)) same opens) is
+opens_refused contents files text e named answer read h same other is = grind (arith, opens_read)
 
 -- without a journal a store opens as a new session
 pub opens_new : (contents : Contents) (s : Session) → contents.journal ≡ None → s ≡ new_session contents.files → IsOpening contents (Ok (with_history s))
-unfolding OpensAs
-opens_new contents s none is = subst (λ j. OpensAs contents.files j (Ok (with_history s))) (sym none) (ap (λ t. Ok (with_history t)) is)
+opens_new contents s none is = unfold OpensAs in subst (λ j. OpensAs contents.files j (Ok (with_history s))) (sym none) (ap (λ t. Ok (with_history t)) is)
 
 -- where no command is halfway, the store that was read holds the session
 pub holds_settled : (contents : Contents) (files : Folder) (text : List ℕ) (s : Session) → IsRead contents files (Some text) → Opens files text (Ok (Settled s)) → Holds contents (with_history s)
-holds_settled contents files text s read opens = record {
-  files = ap (λ (k : Contents). k.files) read ∙ sym (settled_on files text s opens).0;
-  opens = opens_read contents files text (Ok (Settled s)) (Ok (with_history s)) read opens refl;
-}
+holds_settled contents files text s read opens = grind (arith, settled_on, opens_read)
 
 -- ---- what is taken back
 
@@ -136,11 +94,36 @@ opens_still old new files text s back read opens apart stop = inr (with_history 
 
 -- a stop on the way back: before the changes, after some of them, or with everything done
 pub still_halfway : (old new : Contents) (s : Session) (back : List Change) (after : Vec ℕ Global) → Spells after.items (settled_journal Two s) → IsStoppedAt old (record { halfway = None; after = after }) back new → IsStillHalfway s back old new
-still_halfway old new s back after spells (inl same) = inl (0, omega arith, same)
-still_halfway old new s back after spells (inr (inl some)) = inl some
-still_halfway old new s back after spells (inr (inr all)) = inr (after.items, spells, all)
+still_halfway old new s back after spells h = grind arith
 
 -- what holds in any case holds after a refusal
 pub any_err : {T E : Type 0} (r : Result T E) (P : Type 0) → P → OnErr r P
-any_err (Ok v) P p = tt
-any_err (Err e) P p = p
+any_err r P p = grind arith
+
+-- ---- what opening does to a store that was only read, and to one that was read before
+
+module _ {S T : Type 0} (store : StoreOf S) where
+  -- whatever a power cut leaves of one that was only read is what was there
+  pub reads_opens : (old new : S) (r : Result T OpenFault) → OnlyReads store old new → store.honest old → store.impossible new ≡ store.impossible old → LeavesUnopened (store.contents old) (store.contents new) r → OpensStore store old new r
+  reads_opens old new r reads honest possible unopened = grind arith
+
+  -- nothing was done at all
+  pub stays_opens : (it : S) (r : Result T OpenFault) → LeavesUnopened (store.contents it) (store.contents it) r → OpensStore store it it r
+  stays_opens it r unopened = grind arith
+
+  pub stays_keeps : (it : S) (r : Result T OpenFault) → IfErr r (IsCounted (store.failures it) (store.failures it)) → KeepsStore store it it r
+  stays_keeps it r counted = grind arith
+
+  pub opens_after_reading : (old read new : S) (r : Result T OpenFault) → OnlyReads store old read → store.honest old → store.impossible read ≡ store.impossible old → OpensStore store read new r → OpensStore store old new r
+  opens_after_reading old read new r reads honest possible opens =
+      let same = reads.same honest in
+      record {
+        unopened = subst (λ k. LeavesUnopened k (store.contents new) r) same opens.unopened;
+        cut = λ lasts apart left may.
+            subst (λ k. OpensAsBefore k left) same
+            (opens.cut (λ other may_be. lasts other (reads.remains honest other may_be) ∙ sym same) (subst TellsApartBack (sym same) apart) left may);
+        possible = opens.possible ∙ possible;
+        calls =
+            subst (λ before. CountsOpening (store.contents old) before (store.writing_calls new) r) reads.unwritten
+            (subst (λ k. CountsOpening k (store.writing_calls read) (store.writing_calls new) r) same opens.calls);
+      }

@@ -1,10 +1,15 @@
--- What comes of an action on a store that was opened.
-use Rattle.par2_tool.proofs.Common.{◌≡◌, inl, inr, ℕ, List, Option, Some, None, Result, Ok, Err, Bool, true, false, refl, sym, ap, subst, ◌∙◌, arith, false≢true, Change, Action, Do, Undo, Redo, Started, Session, KeptSession, session_of_kept, changes_unless, refusal, Contents, Fault, Memory, Plan, NothingToUndo, NothingToRedo, TellsApartAlong, TellsApartBack, OpensAsBefore, OpensAsBeforeOrAfter, IsOpened, IsUnopened, StandsFor, IsCounted, IsVerify, IsRefused, IsSession, failure_for, unopened_as, IsBack, IsCause, IsFailed, IsAtTheEnd, IsStopped, OpensAsBeforeOrAfterRun, OpenFault, PerformFault, Store}
-use Rattle.par2_spec.specs.History as history
-use Rattle.par2_spec.specs.Sessions.{changes_asked}
+-- What a store is opened as for a command, and what comes of an action on it.
+use Rattle.par2_tool.proofs.Common.{by_either, ◌≡◌, inl, inr, ℕ, List, Result, Ok, Err, Bool, true, false, refl, sym, ap, subst, ◌∙◌, arith, Some, None, Option, false≢true, Change, Action, Command, Do, Verify, Started, OpensAs, new_session, Session, KeptSession, session_of_kept, changes_asked, changes_unless, session_after, Contents, Fault, Memory, Plan, NothingToUndo, NothingToRedo, TellsApartAlong, TellsApartBack, OpensAsBefore, OpensAsBeforeOrAfter, IsOpening, with_history, IsOpened, IsUnopened, StandsFor, IsCounted, IsRead, started_of, IsVerify, IsAnswer, IsReport, IsWritten, IsRefused, IsSession, failure_for, unopened_as, IsBack, IsCause, IsFailed, IsAtTheEnd, IsStopped, OpensAsBeforeOrAfterRun, IsDone, SameOutput, OpenFault, PerformFault, Store, IfOk, Folder, changes_of, LeadsToAfterAsked, refusal, report_in, Outcome, output_of, Stands, Verifies}
 use Rattle.par2_journal.specs.declared.preparation.SessionFault.{SessionFault}
-use Rattle.par2_tool.specs.declared.opening.OpenFault.TheVariants as unopened
 use Rattle.par2_tool.specs.declared.performing.PerformFault.TheVariants.{Session as Refusing}
+use Rattle.std.specs.Borrow.{Bor}
+use Rattle.par2_tool.proofs.Calls.{for_verify}
+use Rattle.par2_tool.proofs.Openings.{opens_new}
+use Rattle.par2_tool.proofs.VerifyRuns.{as_it_was, verify_leaves}
+use Rattle.par2_spec.specs.History as history
+use Rattle.par2_tool.specs.declared.opening.OpenFault.TheVariants as unopened
+use Rattle.par2_spec.specs.declared.commands.Command as given
+use Rattle.par2_tool.specs.declared.opening.Started as program
 
 -- ---- only an undo or redo has nothing to go back to
 
@@ -14,16 +19,8 @@ is_plan (Err (history.Refused fault)) = true
 is_plan (Err history.NothingToUndo) = false
 is_plan (Err history.NothingToRedo) = false
 
-planned_is_plan : (o : Option Fault) (cs : List Change) → is_plan (changes_unless o cs) ≡ true
-unfolding is_plan
-planned_is_plan None cs = refl
-planned_is_plan (Some fault) cs = refl
-
 at_an_end : (s : Session) (action : Action) (end : history.Refusal) → is_plan {A = List Change} (Err end) ≡ false → changes_asked s action ≡ Err end → IsBack action
-unfolding changes_asked
-at_an_end s (Do command) end is e = absurd (false≢true (sym is ∙ ap is_plan (sym e) ∙ planned_is_plan (refusal s.folder command) _))
-at_an_end s Undo end is e = tt
-at_an_end s Redo end is e = tt
+at_an_end s action end is e = unfold changes_asked is_plan in grind (arith, false≢true, is_plan)
 
 -- ---- stops
 
@@ -55,13 +52,11 @@ cut_of_command Honest action old mid left opened started honest (inr verify) fou
 
 memory_of : SessionFault → Fault
 memory_of (Plan fault) = fault
-memory_of NothingToUndo = Memory
-memory_of NothingToRedo = Memory
+memory_of fault = Memory
 
 is_plan_fault : SessionFault → Bool
 is_plan_fault (Plan fault) = true
-is_plan_fault NothingToUndo = false
-is_plan_fault NothingToRedo = false
+is_plan_fault fault = false
 
 module _ (action : Action) (old mid new : Contents) (s later : KeptSession) (dropped : Bool) (opened : IsOpened old mid (record { session = session_of_kept s; dropped = dropped })) (back : IsBack action → dropped ≡ false) where
   abbrev start : Started
@@ -82,20 +77,11 @@ module _ (action : Action) (old mid new : Contents) (s later : KeptSession) (dro
       → (TellsApartAlong (session_of_kept s) action → OpensAsBeforeOrAfter (session_of_kept s) action mid new) → IsFailed action old new (failure_for fault)
   unfolding memory_of is_plan_fault is_plan
   perform_failed before after (Refusing (Plan reason)) refused same stopped =
-      elim refused.0 [
-        | inl memory ↦ inl (ap memory_of memory, inr (start, unchanged (same tt)))
-        | inr asked ↦ inr (start, unchanged (same tt), asked)
-      ]
+      by_either refused.0 (λ memory. inl (ap memory_of memory, inr (start, unchanged (same tt)))) (λ asked. inr (start, unchanged (same tt), asked))
   perform_failed before after (Refusing NothingToUndo) refused same stopped =
-      elim refused.0 [
-        | inl memory ↦ absurd (false≢true (ap is_plan_fault memory))
-        | inr asked ↦ ended history.NothingToUndo refl asked (same tt)
-      ]
+      by_either refused.0 (λ memory. absurd (false≢true (ap is_plan_fault memory))) (λ asked. ended history.NothingToUndo refl asked (same tt))
   perform_failed before after (Refusing NothingToRedo) refused same stopped =
-      elim refused.0 [
-        | inl memory ↦ absurd (false≢true (ap is_plan_fault memory))
-        | inr asked ↦ ended history.NothingToRedo refl asked (same tt)
-      ]
+      by_either refused.0 (λ memory. absurd (false≢true (ap is_plan_fault memory))) (λ asked. ended history.NothingToRedo refl asked (same tt))
   perform_failed before after Store refused same stopped = stopped_command action old mid new start opened stopped
 
 pub opening_failed : (action : Action) (old new : Contents) (fault : OpenFault) → IsUnopened old new fault → (TellsApartBack old → OpensAsBefore old new) → IsFailed action old new (unopened_as fault)
@@ -107,26 +93,119 @@ opening_failed action old new unopened.Store is stopped = stopped_opening action
 -- ---- why, whatever the store does
 
 pub opening_cause : (action : Action) (before after : ℕ) (fault : OpenFault) → IsCounted before after fault → IsCause action before after (unopened_as fault)
-opening_cause action before after unopened.Store counted = counted
-opening_cause action before after unopened.Memory counted = (inl refl, counted)
-opening_cause action before after unopened.JournalInvalid counted = counted
-opening_cause action before after unopened.FolderChanged counted = counted
+opening_cause action before after fault counted = grind arith
 
 pub perform_cause : (action : Action) (s later : KeptSession) (before middle after : ℕ) (fault : PerformFault) → middle ≡ before → IsRefused action s later middle after fault → IsCause action before after (failure_for fault)
 unfolding memory_of is_plan_fault
 perform_cause action s later before middle after (Refusing (Plan reason)) steady refused =
-    elim refused.0 [
-      | inl memory ↦ (inl (ap memory_of memory), refused.2 ∙ steady)
-      | inr asked ↦ (inr (session_of_kept s, asked), refused.2 ∙ steady)
-    ]
+    by_either refused.0 (λ memory. (inl (ap memory_of memory), refused.2 ∙ steady)) (λ asked. (inr (session_of_kept s, asked), refused.2 ∙ steady))
 perform_cause action s later before middle after (Refusing NothingToUndo) steady refused =
-    elim refused.0 [
-      | inl memory ↦ absurd (false≢true (ap is_plan_fault memory))
-      | inr asked ↦ ((session_of_kept s, asked), refused.2 ∙ steady)
-    ]
+    by_either refused.0 (λ memory. absurd (false≢true (ap is_plan_fault memory))) (λ asked. ((session_of_kept s, asked), refused.2 ∙ steady))
 perform_cause action s later before middle after (Refusing NothingToRedo) steady refused =
-    elim refused.0 [
-      | inl memory ↦ absurd (false≢true (ap is_plan_fault memory))
-      | inr asked ↦ ((session_of_kept s, asked), refused.2 ∙ steady)
-    ]
+    by_either refused.0 (λ memory. absurd (false≢true (ap is_plan_fault memory))) (λ asked. ((session_of_kept s, asked), refused.2 ∙ steady))
 perform_cause action s later before middle after Store steady refused = omega (arith, steady, refused)
+
+-- ---- opening
+
+-- a store that is left alone, and opens on its own folder, is opened
+pub opened_on : (contents : Contents) (started : Started) → IsOpening contents (Ok started) → contents.files ≡ started.session.folder → IsOpened contents contents started
+opened_on contents started opens files = record { opens = opens; holds = record { files = files; opens = opens }; left = inl refl }
+
+pub opened_as_is : (contents : Contents) (files : Folder) (text : List ℕ) (started : Started) → IsRead contents files (Some text) → OpensAs files (Some text) (Ok started) → started.session.folder ≡ files → IsOpened contents contents started
+opened_as_is contents files text started read opens on = grind arith
+
+pub opened_new : (contents : Contents) (files : Folder) → IsRead contents files None → IsOpened contents contents (with_history (new_session files))
+opened_new contents files read = grind (arith, opened_on, opens_new)
+
+-- what a store was opened as stands for itself
+pub stands_itself : (command : Option (Bor given.Command)) (o : Started) → Stands command o o
+stands_itself command o = grind arith
+
+-- and for a verify, what is on the same folder
+pub stands_for_verify : (command : Option (Bor given.Command)) (o s : Started) → Verifies command → o.session.folder ≡ s.session.folder → Stands command o s
+stands_for_verify command o s is on = grind arith
+
+pub stands : {E : Type 0} (command : Option (Bor given.Command)) (honest : Type 0) (result : Result program.Started E) (old new : Contents) → (honest → IfOk result (λ s. IsOpened old new (started_of s)))
+    → IfOk result (λ s. (o : Started) × Stands command o (started_of s) × (honest → IsOpened old new o))
+stands command honest (Err e) old new opened = tt
+stands command honest (Ok s) old new opened = (started_of s, stands_itself command (started_of s), opened)
+
+-- where no command is given, the answer is what the store opens as
+pub starts : {E : Type 0} (honest : Type 0) (result : Result program.Started E) (old new : Contents) → IfOk result (λ s. (o : Started) × (o ≡ started_of s) × (honest → IsOpened old new o))
+    → honest → IfOk result (λ s. IsOpened old new (started_of s))
+starts honest result old new opened h = grind arith
+
+-- the store is on the folder of what stands for it
+pub files_of : (action : Action) (old mid : Contents) (o s : Started) → StandsFor action o s → IsOpened old mid o → mid.files ≡ s.session.folder
+files_of action old mid o s h opened = grind arith
+
+-- ---- what a verify does on a folder
+
+pub no_way_back : (action : Action) → IsVerify action → IsBack action → ⊥
+no_way_back action is = for_verify (λ a. IsBack a → ⊥) (λ base extras back. back) action is
+
+same_asked : (s t : Session) (command : Command) → s.folder ≡ t.folder → changes_asked s (Do command) ≡ changes_asked t (Do command)
+same_asked s t command on = unfold changes_asked in ap (λ f. changes_unless (refusal f command) (changes_of f command)) on
+
+-- a session that is kept, without room
+standing : Session → KeptSession
+standing s = record { folder = record { files = s.folder; vacant = 0 }; undos = s.undos; redos = s.redos; room = 0 }
+
+-- a verify that is refused on one session is refused on another one on the same folder
+pub verify_failed : (action : Action) (old mid new : Contents) (o : Started) (s later : KeptSession) → IsVerify action → o.session.folder ≡ s.folder.files → IsOpened old mid o → new ≡ mid
+    → (before after : ℕ) (fault : PerformFault) → IsRefused action s later before after fault → IsFailed action old new (failure_for fault)
+unfolding standing
+verify_failed action old mid new o s later is on opening same before after fault refused =
+    let failed : (base : List ℕ) (extras : List (List ℕ)) → IsRefused (Do (Verify base extras)) s later before after fault → IsFailed (Do (Verify base extras)) old new (failure_for fault) =
+    λ base extras refused. perform_failed (Do (Verify base extras)) old mid new (standing o.session) (standing o.session) o.dropped opening (λ back. absurd back) before after fault (refused_on base extras fault refused) (λ _. same) (λ _. inl same) in
+    for_verify (λ a. IsRefused a s later before after fault → IsFailed a old new (failure_for fault)) failed action is refused
+  where
+    refused_on : (base : List ℕ) (extras : List (List ℕ)) (f : PerformFault) → IsRefused (Do (Verify base extras)) s later before after f → IsRefused (Do (Verify base extras)) (standing o.session) (standing o.session) before after f
+    refused_on base extras Store r = r
+    refused_on base extras (Refusing reason) r =
+        by_either r.0
+        (λ memory. (inl memory, as_it_was (standing o.session), r.2))
+        (λ asked. (inr (same_asked o.session (session_of_kept s) (Verify base extras) on ∙ asked), as_it_was (standing o.session), r.2))
+
+-- ---- an accepted action
+
+module _ (honest : Type 0) (old mid new : Contents) (o : Started) (s later : Session) (dropped : Bool) (outcome : Outcome) (opening : honest → IsOpened old mid o) where
+  abbrev Is : Action → Type 0
+  Is action = (d : Bool) × SameOutput d dropped outcome × (honest → IsDone action old new d outcome)
+
+  reported : (base : List ℕ) (extras : List (List ℕ)) → o.session.folder ≡ s.folder → IsReport s base extras outcome → LeadsToAfterAsked s.folder (Do (Verify base extras)) → (honest → mid.files ≡ s.folder → new ≡ mid) → Is (Do (Verify base extras))
+  reported base extras on answer leads written = unfold output_of in
+      let same = ap (λ f. report_in f base extras) on ∙ answer.1 in (
+        o.dropped,
+        ap (output_of o.dropped) answer.2 ∙ sym (ap (output_of dropped) answer.2),
+        λ h. record {
+          session = o.session;
+          between = mid;
+          opened = opening h;
+          answer = (answer.0, same, answer.2);
+          after = o.session;
+          accepted = verify_leaves o.session base extras answer.0 same;
+          leads = subst (λ f. LeadsToAfterAsked f (Do (Verify base extras))) (sym on) leads;
+          written = written h ((opening h).holds.files ∙ on);
+        },
+      )
+
+  pub done_for : (action : Action) → StandsFor action o (record { session = s; dropped = dropped }) → IsAnswer s action outcome → session_after s action ≡ Ok later → LeadsToAfterAsked s.folder action
+      → (honest → mid.files ≡ s.folder → IsWritten action later mid new) → Is action
+  done_for action (inr verify) answer accepted leads written =
+      for_verify (λ a. IsAnswer s a outcome → LeadsToAfterAsked s.folder a → (honest → mid.files ≡ s.folder → IsWritten a later mid new) → Is a)
+      (λ base extras answer leads written. reported base extras verify.1 answer leads written) action verify.0 answer leads written
+  done_for action (inl same) answer accepted leads written = (
+    dropped,
+    refl,
+    λ h. record {
+      session = s;
+      between = mid;
+      opened = subst (λ t. IsOpened old mid t) same (opening h);
+      answer = answer;
+      after = later;
+      accepted = accepted;
+      leads = leads;
+      written = written h ((opening h).holds.files ∙ ap (λ (t : Started). t.session.folder) same);
+    },
+  )

@@ -1,8 +1,5 @@
 -- A command that is stopped anywhere leaves a store that opens as before it or after it.
-use Rattle.par2_tool.proofs.Common.{◌≡◌, ◌≢◌, ◌⊎◌, inl, inr, ℕ, ◌≤◌, List, [], ◌∷◌, length, take, Option, Some, None, Result, Ok, Err, true, IsTrue, refl, sym, ap, subst, ◌∙◌, arith, Vec, IfOk, Global, take_all, Change, are_applicable, takes_all, Action, Folder, Spells, LeadsToAfterAsked, OpensAs, TellsApart, halfway_where, settled_journal, Session, KeptSession, CanWalk, OnlyGrew, session_of_kept, session_with, changes_asked, Contents, with_journal, Two, done_can_walk, undone_can_walk, redone_can_walk, grown_can_walk, walked_is_valid, same_session, settled_stored, halfway_stored, Kind, Changing, Undoing, Redoing, Ready, CanBe, IsReady, changes_by_kind, after_commit, next_of, SpellsWhere, AreSpelled, Journals, with_all_changes, with_halfway, after_write_down, IsStoppedAt, IsOpening, Holds, HasJournalOf, with_history, TellsApartAlong, OpensAsBeforeOrAfter}
-use Rattle.par2_spec.specs.Changes.{effects}
-use Rattle.par2_spec.specs.Opening.{journals_of}
-use Rattle.par2_spec.specs.Sessions.{kept_done, kept_undone, kept_redone}
+use Rattle.par2_tool.proofs.Common.{by_either, ◌≡◌, ◌≢◌, ◌⊎◌, inl, inr, ℕ, ◌≤◌, List, [], ◌∷◌, length, take, Option, Some, None, Result, Ok, true, IsTrue, refl, sym, ap, subst, ◌∙◌, arith, Vec, IfOk, Global, take_all, Change, are_applicable, takes_all, effects, Action, Folder, Spells, LeadsToAfterAsked, OpensAs, TellsApart, halfway_where, settled_journal, journals_of, Session, KeptSession, CanWalk, OnlyGrew, session_of_kept, session_with, changes_asked, kept_done, kept_undone, kept_redone, Contents, with_journal, Two, done_can_walk, undone_can_walk, redone_can_walk, grown_can_walk, walked_is_valid, same_session, settled_stored, halfway_stored, Kind, Changing, Undoing, Redoing, Ready, CanBe, IsReady, changes_by_kind, after_commit, next_of, SpellsWhere, AreSpelled, Journals, with_all_changes, with_halfway, after_write_down, IsStoppedAt, IsOpening, Holds, HasJournalOf, with_history, TellsApartAlong, OpensAsBeforeOrAfter}
 use Rattle.par2_spec.proofs.FolderLaws.{state_files, taken_are_applicable}
 use Rattle.par2_tool.proofs.MadeChanges.{all_changed_is, same_changes}
 
@@ -22,16 +19,12 @@ committed_walks Undoing s walks can = undone_walks s s.undos refl can walks
 committed_walks Redoing s walks can = redone_walks s s.redos refl can walks
 
 committed_files : (kind : Kind) (s : KeptSession) → (after_commit kind s).folder.files ≡ effects s.folder.files (changes_by_kind kind s)
-unfolding kept_done kept_undone kept_redone
-committed_files (Changing cs) s = state_files s.folder cs
-committed_files Undoing s = state_files s.folder (next_of s.undos)
-committed_files Redoing s = state_files s.folder (next_of s.redos)
+committed_files kind s = unfold kept_done kept_undone kept_redone in grind (arith, state_files)
 
 -- ---- the contents
 
 pub halfway_files : (k : Contents) (halfway : Option (Vec ℕ Global)) → (with_halfway k halfway).files ≡ k.files
-halfway_files k None = refl
-halfway_files k (Some text) = refl
+halfway_files k halfway = grind arith
 
 changed_files : (k : Contents) (halfway : Option (Vec ℕ Global)) (cs : List Change) → (with_all_changes (with_halfway k halfway) cs).files ≡ effects k.files cs
 changed_files k halfway cs = ap (λ (x : Contents). x.files) (all_changed_is (with_halfway k halfway) cs) ∙ ap (λ f. effects f cs) (halfway_files k halfway)
@@ -45,9 +38,7 @@ in_order k journals cs new (inr (inr e)) =
     (length cs, ap (λ (x : Contents). x.files) e ∙ changed_files k journals.halfway cs ∙ ap (effects k.files) (sym (take_all (length cs) cs (omega arith))))
 
 pub none_made : {F : Type 0} (folder : Folder) (asked : Result (List Change) F) → IfOk asked (λ changes. (n : ℕ) × (folder ≡ effects folder (take n changes)))
-unfolding effects
-none_made folder (Ok cs) = (0, refl)
-none_made folder (Err fault) = tt
+none_made folder asked = unfold effects in grind arith
 
 -- the session's journal opens its folder as the session
 pub settled_holds : (k : Contents) (s : KeptSession) (text : List ℕ) → CanWalk s → Spells text (settled_journal Two (session_of_kept s)) → k.files ≡ s.folder.files → Holds (with_journal k text) (with_history (session_of_kept s))
@@ -87,8 +78,7 @@ module _ (action : Action) (old : KeptSession) (ready : Ready) (mid : KeptSessio
 
   -- it can be applied to a store with the session's folder
   pub ready_applies : (k : Contents) → k.files ≡ old.folder.files → (cs : List Change) → cs ≡ changes_by_kind ready.kind mid → IsTrue (are_applicable k.files cs)
-  ready_applies k files cs is =
-      subst (λ f. IsTrue (are_applicable f cs)) (made.grew.files ∙ sym files) (subst (λ l. IsTrue (are_applicable mid.folder.files l)) (sym is) (taken_are_applicable mid.folder _ made.applies))
+  ready_applies k files cs is = grind (arith, taken_are_applicable)
 
 module _ (action : Action) (old : KeptSession) (ready : Ready) (mid : KeptSession) (made : IsMadeReady action old ready mid) (journals : Journals)
     (spelled : AreSpelled journals (journals_of Two (session_of_kept mid) action (changes_by_kind ready.kind mid))) (k : Contents) (files : k.files ≡ old.folder.files) where
@@ -113,13 +103,12 @@ module _ (action : Action) (old : KeptSession) (ready : Ready) (mid : KeptSessio
   passed_opens : (halfway : Option (Vec ℕ Global)) (changes : List Change) (n : ℕ) → SpellsWhere halfway (halfway_where Two (session_of_kept mid) changes) → takes_all mid.folder changes ≡ true → TellsApart mid.folder.files changes → n ≤ length changes
       → (with_all_changes (with_halfway k halfway) (take n changes) ≡ k) ⊎ IsOpening (with_all_changes (with_halfway k halfway) (take n changes)) (Ok (with_history (session_of_kept mid)))
   passed_opens None [] n spells taken apart le = inl (ap (with_all_changes k) (take_all n [] (omega arith)))
-  passed_opens None (c ∷ rest) n spells taken apart le = absurd spells
-  passed_opens (Some text) [] n spells taken apart le = absurd spells
   passed_opens (Some text) (c ∷ rest) n spells taken apart le =
       let s = session_of_kept mid in
       let opens = halfway_stored Two s (c ∷ rest) n text.items (walked_is_valid mid made.walks) (taken_are_applicable mid.folder (c ∷ rest) taken) apart le spells in
       let is_there = all_changed_is (with_journal k text.items) (take n (c ∷ rest)) ∙ ap (λ f. record { files = effects f (take n (c ∷ rest)); journal = Some text.items }) (files ∙ sym made.grew.files) in
       inr (subst (λ (x : Contents). IsOpening x (Ok (with_history s))) (sym is_there) opens)
+  passed_opens halfway changes n spells taken apart le = absurd spells
 
   apart_from_mid : TellsApartAlong (session_of_kept old) action → TellsApart mid.folder.files (changes_by_kind ready.kind mid)
   apart_from_mid apart =
@@ -128,10 +117,9 @@ module _ (action : Action) (old : KeptSession) (ready : Ready) (mid : KeptSessio
   pub stopped_opens : (new : Contents) → IsStoppedAt k journals (changes_by_kind ready.kind mid) new → TellsApartAlong (session_of_kept old) action → LeadsToAfterAsked old.folder.files action → OpensAsBeforeOrAfter (session_of_kept old) action k new
   stopped_opens new (inl e) apart leads = inl e
   stopped_opens new (inr (inl s)) apart leads =
-      elim (passed_opens journals.halfway (changes_by_kind ready.kind mid) s.0 halfway_spelled made.applies (apart_from_mid apart) s.1) as (λ _. OpensAsBeforeOrAfter (session_of_kept old) action k new) [
-        | inl none ↦ inl (s.2 ∙ none)
-        | inr opens ↦ inr (inl (subst (λ (t : Session). IsOpening new (Ok (with_history t))) (same_session old mid made.grew) (subst (λ (x : Contents). IsOpening x (Ok (with_history (session_of_kept mid)))) (sym s.2) opens)))
-      ]
+      by_either (passed_opens journals.halfway (changes_by_kind ready.kind mid) s.0 halfway_spelled made.applies (apart_from_mid apart) s.1)
+      (λ none. inl (s.2 ∙ none))
+      (λ opens. inr (inl (subst (λ (t : Session). IsOpening new (Ok (with_history t))) (same_session old mid made.grew) (subst (λ (x : Contents). IsOpening x (Ok (with_history (session_of_kept mid)))) (sym s.2) opens))))
   stopped_opens new (inr (inr e)) apart leads =
       inr (inr (record {
         after = session_of_kept (after_commit ready.kind mid);

@@ -1,35 +1,26 @@
 -- What a verify answers and leaves, and what the other commands leave.
-use Rattle.par2_tool.proofs.Common.{◌≡◌, ◌⊎◌, inl, inr, ℕ, List, Some, None, Result, Ok, Err, refl, sym, ap, arith, false≢true, is_ok, Do, Verify, Folder, Contents, action_of, changes_of, set_in, Report, Session, KeptSession, OnlyGrew, session_unless, changes_unless, Fault, Memory, MayRefuse, Plan, HoldsJournaled, IsVerify, IsWritten}
+use Rattle.par2_tool.proofs.Common.{◌≡◌, ◌⊎◌, inl, inr, ℕ, List, Some, None, Result, Ok, Err, refl, ap, arith, Do, Verify, Folder, Contents, action_of, changes_of, set_in, refusal, Report, report_in, Session, KeptSession, OnlyGrew, session_unless, changes_unless, session_after, changes_asked, Fault, Memory, MayRefuse, Plan, HoldsJournaled, IsVerify, IsWritten}
 use Rattle.par2_spec.specs.declared.commands.Action.{Action}
-use Rattle.par2_spec.specs.declared.commands.Action.TheVariants as given
-use Rattle.par2_spec.specs.Refusals.{refusal}
-use Rattle.par2_spec.specs.Reports.{report_in, report_of}
+use Rattle.par2_spec.specs.Reports.{report_of}
 use Rattle.par2_spec.specs.Search.{candidates}
 use Rattle.par2_spec.specs.Sets.{ParSet, ◌>>=◌}
 use Rattle.par2_spec.specs.Faults.{fault_of}
-use Rattle.par2_spec.specs.Sessions.{session_after, changes_asked}
 
 module _ (folder : Folder) (base : List ℕ) (extras : List (List ℕ)) where
   answer_of : Result ParSet Fault → Result Report Fault
   answer_of found = found >>= (λ set. Ok (report_of folder set (candidates folder set extras)))
 
   read : (found : Result ParSet Fault) (report : Report) → answer_of found ≡ Ok report → fault_of found ≡ None
-  unfolding answer_of
-  read (Ok set) report e = refl
-  read (Err fault) report e = absurd (false≢true (ap is_ok e))
+  read found report e = unfold answer_of in grind arith
 
   unread : (found : Result ParSet Fault) (fault : Fault) → answer_of found ≡ Err fault → fault_of found ≡ Some fault
-  unfolding answer_of
-  unread (Ok set) fault e = absurd (false≢true (sym (ap is_ok e)))
-  unread (Err reason) fault e = cc
+  unread found fault e = unfold answer_of in grind arith
 
   accepted : (report : Report) → report_in folder base extras ≡ Ok report → refusal folder (Verify base extras) ≡ None
-  unfolding report_in refusal answer_of
-  accepted report e = read (set_in folder base extras) report e
+  accepted report e = unfold report_in refusal answer_of in read (set_in folder base extras) report e
 
   refused : (fault : Fault) → report_in folder base extras ≡ Err fault → refusal folder (Verify base extras) ≡ Some fault
-  unfolding report_in refusal answer_of
-  refused fault e = unread (set_in folder base extras) fault e
+  refused fault e = unfold report_in refusal answer_of in unread (set_in folder base extras) fault e
 
 -- its fault is one of the session
 pub verify_refused : (s : KeptSession) (base : List ℕ) (extras : List (List ℕ)) (fault : Fault) → (fault ≡ Memory) ⊎ (report_in s.folder.files base extras ≡ Err fault) → MayRefuse (Do (Verify base extras)) s (Plan fault)
@@ -39,8 +30,7 @@ verify_refused s base extras fault (inr e) = inr (ap (λ o. changes_unless o (ch
 
 -- the session stays
 pub verify_leaves : (s : Session) (base : List ℕ) (extras : List (List ℕ)) (report : Report) → report_in s.folder base extras ≡ Ok report → session_after s (Do (Verify base extras)) ≡ Ok s
-unfolding session_after changes_asked
-verify_leaves s base extras report e =
+verify_leaves s base extras report e = unfold session_after changes_asked in
     ap (λ o. session_unless s (Do (Verify base extras)) (changes_unless o (changes_of s.folder (Verify base extras)))) (accepted s.folder base extras report e)
 
 pub as_it_was : (s : KeptSession) → OnlyGrew s s
@@ -48,16 +38,8 @@ as_it_was s = record { files = refl; undos = refl; redos = refl; vacant = omega 
 
 -- each other command leaves the session afterwards in the store
 pub written_by : (action : Action) (after : Session) (old new : Contents) → HoldsJournaled after new → IsWritten (action_of action) after old new
-written_by (given.Create a) after old new holds = holds
-written_by (given.Repair base extras purge) after old new holds = holds
-written_by (given.Purge base) after old new holds = holds
-written_by given.Undo after old new holds = holds
-written_by given.Redo after old new holds = holds
+written_by action after old new holds = grind arith
 
 -- nor is one of them a verify
 pub not_verify : (action : Action) → IsVerify (action_of action) → ⊥
-not_verify (given.Create a) is = is
-not_verify (given.Repair base extras purge) is = is
-not_verify (given.Purge base) is = is
-not_verify given.Undo is = is
-not_verify given.Redo is = is
+not_verify action is = grind arith

@@ -1,6 +1,5 @@
 -- What the getters read of matches, by the rows.
-use Rattle.par2_words.proofs.Common.{◌≡◌, ◌∙◌, ◌^◌, ◌&&◌, ℕ, Bool, true, false, nat_lt, refl, ap, List, [], ◌∷◌, map, length, Option, Some, None, Result, Ok, Err, lt-ltb, ltb-true, unwrap_or, option_map, list_all, option_map_or, Bor, bytes_eq, AllDigits, ParsesUnsigned, digits_value, without_leading_plus, ReadsOne, Text, first_value, matched_of, one_text, raw_values, rows_of, flag_of, number, number_of, text_of, texts_of}
-use Rattle.std.specs.Prelude.{codes}
+use Rattle.par2_words.proofs.Common.{arith, ◌≡◌, ◌∙◌, ◌^◌, ◌&&◌, ℕ, Bool, true, false, nat_lt, refl, ap, List, [], ◌∷◌, map, Option, Some, None, Result, lt-ltb, ltb-true, codes, unwrap_or, option_map, list_all, option_map_or, Bor, bytes_eq, AllDigits, ParsesUnsigned, digits_value, ReadsOne, Text, first_value, matched_of, one_text, raw_values, rows_of, flag_of, number, number_of, text_of, texts_of}
 use Rattle.std.specs.Char.{digit_value}
 use Rattle.std.proofs.lemmas.Bool.{and_parts}
 use Rattle.clap.specs.ValueTests.{is_numeral}
@@ -9,20 +8,12 @@ use Rattle.clap.proofs.WalkLemmas.{first_value-rows, one_text-rows, raw_values-r
 
 pub text_read : (f : Found) (id : Text) (o : Option (Bor Text)) (d : Bor Text) → option_map (λ s. s.now) o ≡ first_value f id
     → d.now ≡ [] → (unwrap_or o d).now ≡ text_of id (rows_of f)
-text_read f id o d got none = go o ∙ ap (λ x. unwrap_or x []) (got ∙ first_value-rows f id)
-  where
-    go : (x : Option (Bor Text)) → (unwrap_or x d).now ≡ unwrap_or (option_map (λ s. s.now) x) []
-    go None = none
-    go (Some s) = refl
+text_read f id o d got none = grind (arith, first_value-rows)
 
 pub texts_read : (f : Found) (id : Text) (o : Option (Bor (List (Bor Text)))) (d : Bor (List (Bor Text)))
     → option_map (λ s. map (λ v. v.now) s.now) o ≡ option_map raw_values (matched_of f id) → d.now ≡ []
     → map (λ v. v.now) (unwrap_or o d).now ≡ texts_of id (rows_of f)
-texts_read f id o d got none = go o ∙ ap (λ x. unwrap_or x []) (got ∙ raw_values-rows f id)
-  where
-    go : (x : Option (Bor (List (Bor Text)))) → map (λ v. v.now) (unwrap_or x d).now ≡ unwrap_or (option_map (λ s. map (λ v. v.now) s.now) x) []
-    go None = ap (map (λ (v : Bor Text). v.now)) none
-    go (Some s) = refl
+texts_read f id o d got none = grind (arith, raw_values-rows)
 
 pub flag_read : (f : Found) (id : Text) (o : Option (Bor Text)) → option_map (λ s. s.now) o ≡ first_value f id
     → option_map_or (λ text. bytes_eq text (codes "true")) (option_map (λ s. s.now) o) false ≡ flag_of id (rows_of f)
@@ -45,23 +36,8 @@ fits k ds = is_numeral ds && nat_lt (digits_value 10 ds) (2 ^ k)
 
 module _ {E : Type 0} (G : List ℕ → Result ℕ E → Type 0) (k : ℕ) (only : (u : List ℕ) (x : Result ℕ E) → G u x → ParsesUnsigned k 10 u x) where
   one_read : (t : Text) (r : Option ℕ) → ReadsOne G t r → unwrap_or r 0 ≡ number k t
-  one_read t (Some v) h =
-      let ds = without_leading_plus t in
-      let parsed = only t (Ok v) h in
-      rw (lt-ltb 0 (length ds) parsed.0.0.0, digits_pass ds parsed.0.0.1, lt-ltb (digits_value 10 ds) (2 ^ k) parsed.0.1) parsed.1
-  one_read t None h = go (fits k (without_leading_plus t)) refl
-    where
-      go : (b : Bool) → fits k (without_leading_plus t) ≡ b → 0 ≡ number k t
-      go false e = rw e refl
-      go true e =
-          let outer = and_parts _ _ e in
-          let inner = and_parts _ _ outer.0 in
-          absurd (only t (Err h.0) h.1 ((ltb-true _ _ inner.0, digits_from (without_leading_plus t) inner.1), ltb-true _ _ outer.1))
+  one_read t r h = grind (arith, lt-ltb, digits_pass, and_parts, ltb-true, digits_from)
 
   pub number_read : (f : Found) (id : Text) (r : Option ℕ) → (one_text f id ≡ None → r ≡ None) → ((t : List ℕ) → one_text f id ≡ Some t → ReadsOne G t r)
       → unwrap_or r 0 ≡ number_of k id (rows_of f)
-  number_read f id r none value = go (one_text f id) refl ∙ ap (λ x. option_map_or (number k) x 0) (one_text-rows f id)
-    where
-      go : (o : Option Text) → one_text f id ≡ o → unwrap_or r 0 ≡ option_map_or (number k) (one_text f id) 0
-      go None e = rw e (ap (λ x. unwrap_or x 0) (none e))
-      go (Some t) e = rw e (one_read t r (value t e))
+  number_read f id r none value = grind (arith, one_text-rows, one_read)

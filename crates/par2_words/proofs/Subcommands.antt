@@ -1,6 +1,5 @@
 -- The subcommand that a parse met is one of the six.
-use Rattle.par2_words.proofs.Common.{◌≡◌, ◌∙◌, Bool, cond, true, false, true≢false, refl, ap, sym, subst, List, [], Option, Some, None, is_some, option_map, unwrap_or, Box, find, list_all, bytes_eq, App, HasMatchesOf, Row, Shape, Text, app_of, built, fault_of, found_of, is_simple, is_simple_and_free, rows_of, subcommand_name_of, subcommand_of, subcommand_rows, subcommand_rows_of, argument_words, entered, label_of, names_of, rows_at, Command, Action, Undo, Redo, create_meaning, meaning, purge_meaning, repair_meaning, verify_meaning}
-use Rattle.std.specs.Prelude.{codes}
+use Rattle.par2_words.proofs.Common.{arith, ◌≡◌, ◌∙◌, Bool, true, true≢false, refl, ap, sym, subst, List, [], Option, Some, None, is_some, option_map, unwrap_or, Box, find, list_all, App, HasMatchesOf, Row, Shape, Text, app_of, built, fault_of, is_simple, is_simple_and_free, subcommand_name_of, subcommand_of, subcommand_rows, subcommand_rows_of, argument_words, entered, label_of, names_of, rows_at, Command, Action, Undo, Redo, create_meaning, meaning, purge_meaning, repair_meaning, verify_meaning, clap_on_literals, create_app, par2_app, purge_app, repair_app, start_app, verify_app}
 use Rattle.std.specs.Box.{box_value}
 use Rattle.std.proofs.lemmas.Option.{none-some}
 use Rattle.std.proofs.lemmas.List.Elements.{recursion_from_All}
@@ -9,46 +8,28 @@ use Rattle.clap.specs.Walk.{answers_to, stop_after}
 use Rattle.clap.specs.declared.parser.matches.ArgMatches.{ArgMatches}
 use Rattle.clap.specs.declared.parser.matches.SubCommand.{SubCommand}
 use Rattle.clap.specs.declared.parser.matches.ArgMatches.TheViews.{out-ArgMatches, out-SubCommand}
-use Rattle.clap.proofs.OnLiterals.{clap_on_literals}
-use Rattle.par2_words.specs.Definition.{create_app, par2_app, purge_app, repair_app, start_app, verify_app}
 use Rattle.par2_spec.proofs.ListsLaws.{found_one}
 
 simple : is_simple par2_app ≡ true
-unfolding clap_on_literals create_app par2_app purge_app repair_app start_app verify_app
-simple = refl
+simple = unfold clap_on_literals create_app par2_app purge_app repair_app start_app verify_app in refl
 
 free : is_simple_and_free par2_app ≡ true
-unfolding clap_on_literals create_app par2_app purge_app repair_app start_app verify_app
-free = refl
+free = unfold clap_on_literals create_app par2_app purge_app repair_app start_app verify_app in refl
 
 abbrev is_known : Shape → Bool
 is_known s = is_some (meaning (s.name, []))
 
 all_known : list_all is_known (built par2_app).subs ≡ true
-unfolding clap_on_literals create_app par2_app purge_app repair_app start_app verify_app
-all_known = refl
+all_known = unfold clap_on_literals create_app par2_app purge_app repair_app start_app verify_app in refl
 
 find_all : {X : Type 0} (p q : X → Bool) (xs : List X) (x : X) → find p xs ≡ Some x → list_all q xs ≡ true → q x ≡ true
 find_all p q xs x e h = (found_one (λ y. q y ≡ true) p xs (recursion_from_All (λ y. q y ≡ true) xs (AllPass-from_list_all q xs h)) x e).0
-
-abbrev pick : {M : Type 0} → Bool → Bool → Bool → Bool → Bool → Bool → M × M × M × M × M × M → Option M
-pick a b c d e f x = cond a (Some x.0) (cond b (Some x.1) (cond c (Some x.2) (cond d (Some x.3) (cond e (Some x.4) (cond f (Some x.5) None)))))
-
-same_pick : {M : Type 0} (a b c d e f : Bool) (x y : M × M × M × M × M × M) → is_some (pick a b c d e f x) ≡ is_some (pick a b c d e f y)
-same_pick true b c d e f x y = refl
-same_pick false true c d e f x y = refl
-same_pick false false true d e f x y = refl
-same_pick false false false true e f x y = refl
-same_pick false false false false true f x y = refl
-same_pick false false false false false true x y = refl
-same_pick false false false false false false x y = refl
 
 abbrev choices : List Row → Action × Action × Action × Action × Action × Action
 choices rows = (create_meaning rows, verify_meaning rows, repair_meaning rows, purge_meaning rows, Undo, Redo)
 
 any_rows : (n : Text) (rows : List Row) → is_some (meaning (n, [])) ≡ is_some (meaning (n, rows))
-any_rows n rows = same_pick (bytes_eq n (codes "create")) (bytes_eq n (codes "verify")) (bytes_eq n (codes "repair"))
-    (bytes_eq n (codes "purge")) (bytes_eq n (codes "undo")) (bytes_eq n (codes "redo")) (choices []) (choices rows)
+any_rows n rows = grind arith
 
 known_in : (stop : Option (Text × List Text)) (p : Text × List Row) → entered (built par2_app) stop ≡ Some p → is_some (meaning p) ≡ true
 known_in None p e = absurd (none-some p e)
@@ -67,22 +48,14 @@ known words p e = known_in (stop_after (built par2_app).top.rules (names_of (bui
 
 named : {Z : Type 0} (o : Option (Box SubCommand Z)) (n : Text) (rows : List Row) → Some n ≡ option_map (λ b. (out-SubCommand (box_value b)).name.now) o
     → Some rows ≡ option_map (λ p. p.1) (subcommand_rows o) → subcommand_rows o ≡ Some (n, rows)
-named None n rows e f = absurd (none-some n (sym e))
-named (Some b) n rows e f =
-    let name_is : n ≡ (out-SubCommand (box_value b)).name.now = ap (λ o. unwrap_or o n) e in
-    let rows_are : rows ≡ rows_of (found_of (out-SubCommand (box_value b)).matches) = ap (λ o. unwrap_or o rows) f in
-    rw (name_is, rows_are) refl
+named o n rows e f = grind arith
 
 pub met : (m : ArgMatches) (words : List Text) (n : Text) (rows : List Row) → HasMatchesOf par2_app words m → Some n ≡ subcommand_name_of m
     → Some rows ≡ option_map (λ p. p.1) (subcommand_rows_of m) → subcommand_of par2_app words ≡ Some (n, rows)
 met m words n rows has name_is rows_are = sym (has simple).1 ∙ named (out-ArgMatches m).subcommand n rows name_is rows_are
 
 pub unmet : (m : ArgMatches) (words : List Text) → HasMatchesOf par2_app words m → None ≡ subcommand_name_of m → is_some (subcommand_of par2_app words) ≡ true → ⊥
-unmet m words has none there = go (out-ArgMatches m).subcommand none (ap is_some (has simple).1 ∙ there)
-  where
-    go : {Z : Type 0} (o : Option (Box SubCommand Z)) → None ≡ option_map (λ b. (out-SubCommand (box_value b)).name.now) o → is_some (subcommand_rows o) ≡ true → ⊥
-    go None e h = true≢false (sym h)
-    go (Some b) e h = none-some _ e
+unmet m words has none there = grind (arith, simple, true≢false, none-some)
 
 -- where the parse gave matches, no kind of fault was due
 pub faultless : (command : Command) (words : List Text) → app_of command ≡ par2_app

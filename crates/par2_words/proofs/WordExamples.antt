@@ -1,15 +1,12 @@
 -- Words that are written out, and what they ask for by clap's definition.
-use Rattle.par2_words.proofs.Common.{◌≡◌, refl, true, false, codes, List, [], ◌∷◌, Some, Text, fault_of, takes, Do, Create, Repair, Undo, asked_by}
+use Rattle.par2_words.proofs.Common.{◌≡◌, refl, true, false, codes, List, [], ◌∷◌, Some, Text, fault_of, takes, Do, Create, Repair, Undo, asked_by, clap_on_literals, create_app, par2_app, purge_app, repair_app, start_app, verify_app}
 use Rattle.clap.specs.declared.error.kind.ErrorKind.TheVariants as kind
-use Rattle.clap.proofs.OnLiterals.{clap_on_literals}
-use Rattle.par2_words.specs.Definition.{create_app, par2_app, purge_app, repair_app, start_app, verify_app}
 
 abbrev create_words : List Text
 create_words = codes "create" ∷ codes "-s4" ∷ codes "-c0" ∷ codes "t.par2" ∷ codes "a" ∷ []
 
 pub create_taken : takes par2_app create_words ≡ true
-unfolding clap_on_literals create_app par2_app purge_app repair_app start_app verify_app
-create_taken = refl
+create_taken = unfold clap_on_literals create_app par2_app purge_app repair_app start_app verify_app in refl
 
 pub create_asked : asked_by create_words ≡ Some (Do (Create (record {
   base = codes "t.par2";
@@ -25,17 +22,13 @@ create_asked = refl
 -- options may stand between the names
 pub repair_asked : asked_by (codes "repair" ∷ codes "t.par2" ∷ codes "x" ∷ codes "-p" ∷ codes "y" ∷ [])
     ≡ Some (Do (Repair (codes "t.par2") (codes "x" ∷ codes "y" ∷ []) true))
-unfolding clap_on_literals create_app par2_app purge_app repair_app start_app verify_app
-repair_asked = refl
+repair_asked = unfold clap_on_literals create_app par2_app purge_app repair_app start_app verify_app in refl
 
 pub undo_asked : asked_by (codes "undo" ∷ []) ≡ Some Undo
-unfolding clap_on_literals create_app par2_app purge_app repair_app start_app verify_app
-undo_asked = refl
+undo_asked = unfold clap_on_literals create_app par2_app purge_app repair_app start_app verify_app in refl
 
 pub repeat_refused : fault_of par2_app (codes "create" ∷ codes "-s4" ∷ codes "-s8" ∷ codes "-c0" ∷ codes "t.par2" ∷ []) ≡ kind.ArgumentConflict ∷ []
-unfolding clap_on_literals create_app par2_app purge_app repair_app start_app verify_app
-repeat_refused = refl
+repeat_refused = unfold clap_on_literals create_app par2_app purge_app repair_app start_app verify_app in refl
 
 pub help_refused : fault_of par2_app (codes "create" ∷ codes "--help" ∷ []) ≡ kind.DisplayHelp ∷ []
-unfolding clap_on_literals create_app par2_app purge_app repair_app start_app verify_app
-help_refused = refl
+help_refused = unfold clap_on_literals create_app par2_app purge_app repair_app start_app verify_app in refl

@@ -1,5 +1,5 @@
-use Rattle.par2_sessions.proofs.Common.{◌≡◌, ◌∙◌, Some, map, string_bytes, sym, ap, subst, inl, inr, AllByRecursion, Repair, Folder, AreFewFor, after, session_of_kept}
-use Rattle.std.proofs.Common.{OnOk}
+use Rattle.par2_spec.proofs.TestLaws.{by_either}
+use Rattle.par2_sessions.proofs.Common.{◌≡◌, ◌∙◌, Some, map, string_bytes, sym, ap, subst, AllByRecursion, Repair, Folder, AreFewFor, after, session_of_kept, OnOk}
 use Rattle.std.proofs.lemmas.Result.{on_ok_weaker, IfErr-weaker}
 use Rattle.std.specs.FinMap as map_of
 use Rattle.par2_spec.specs.Repairs.{HoldsRepaired}
@@ -63,14 +63,12 @@ returns-clause-steps c =
 
 pub returns-clause-right : goal.returns-clause-right
 returns-clause-right c originals s original =
-    IfErr-weaker c.repair.result _ _ (λ fault why failed. elim why [
-      | inl memory ↦ let clash : Memory ≡ RepairFailed = sym memory ∙ failed in absurd (cc)
-      | inr refused ↦ c.repair_never_fails.ensures _ _ _ c.args.purge originals s original (refused ∙ ap Some failed)
-    ]) c.repair.ensures.repairs.refused
+    IfErr-weaker c.repair.result _ _ (λ fault why failed. by_either why
+    (λ memory. let clash : Memory ≡ RepairFailed = sym memory ∙ failed in absurd (cc))
+    (λ refused. c.repair_never_fails.ensures _ _ _ c.args.purge originals s original (refused ∙ ap Some failed))) c.repair.ensures.repairs.refused
 
 pub returns-clause-undetermined : goal.returns-clause-undetermined
 returns-clause-undetermined c originals s missing rank original =
-    IfErr-weaker c.repair.result _ _ (λ fault why few. elim why [
-      | inl memory ↦ let clash = sym memory ∙ few in absurd (cc)
-      | inr refused ↦ c.refused_repair_leaves_a_choice.ensures _ _ _ c.args.purge originals s missing rank original (refused ∙ ap Some few)
-    ]) c.repair.ensures.repairs.refused
+    IfErr-weaker c.repair.result _ _ (λ fault why few. by_either why
+    (λ memory. let clash = sym memory ∙ few in absurd (cc))
+    (λ refused. c.refused_repair_leaves_a_choice.ensures _ _ _ c.args.purge originals s missing rank original (refused ∙ ap Some few))) c.repair.ensures.repairs.refused

@@ -1,11 +1,9 @@
 use Rattle.par2_laws.proofs.Common.{ap, sym, ◌∙◌, Some, candidates, files_of, in_id_order, by_either}
 use Rattle.par2_laws.proofs.Causes.{refused_by}
-use Rattle.par2_laws.proofs.Damage.{originals}
-use Rattle.par2_laws.proofs.creates.repair_of_created_files_is_refused_for_few_causes.Goals as goal
 
-pub returns : goal.returns
+pub returns : Rattle.par2_laws.proofs.creates.repair_of_created_files_is_refused_for_few_causes.Goals.returns
 returns c before damaged a base extras purge fault follows refused =
-    let true_to = originals before damaged a base extras follows in
+    let true_to = Rattle.par2_laws.proofs.Damage.originals before damaged a base extras follows in
     let set = true_to.made.set in
     let of_set = c.refusal_is_that_of_the_set.ensures in
     let never = c.repair_never_fails.ensures damaged base extras purge (in_id_order (files_of before a.inputs)) a.slice true_to in

@@ -1,11 +1,4 @@
-use Rattle.par2_laws.proofs.Common.{refl}
-use Rattle.par2_spec.specs.Refusals.{after}
-use Rattle.par2_laws.proofs.reading.folder_is_that_of_the_set.Goals as goal
+use Rattle.par2_laws.proofs.Common.{refl, after}
 
-pub returns-clause-repaired : goal.returns-clause-repaired
-unfolding after
-returns-clause-repaired c folder base extras set read = rw read refl
-
-pub returns-clause-purged : goal.returns-clause-purged
-unfolding after
-returns-clause-purged c folder base extras set read = rw read refl
+pub returns : Rattle.par2_laws.proofs.reading.folder_is_that_of_the_set.Goals.returns
+returns c = record { repaired = λ folder base extras set read. unfold after in rw read refl; purged = λ folder base extras set read. unfold after in rw read refl }

@@ -1,11 +1,4 @@
-use Rattle.par2_laws.proofs.Common.{refl}
-use Rattle.par2_spec.specs.Refusals.{refusal}
-use Rattle.par2_laws.proofs.reading.refusal_is_that_of_the_set.Goals as goal
+use Rattle.par2_laws.proofs.Common.{refl, refusal}
 
-pub returns-clause-read : goal.returns-clause-read
-unfolding refusal
-returns-clause-read c folder base extras purge set read = rw read refl
-
-pub returns-clause-unread : goal.returns-clause-unread
-unfolding refusal
-returns-clause-unread c folder base extras purge fault read = rw read refl
+pub returns : Rattle.par2_laws.proofs.reading.refusal_is_that_of_the_set.Goals.returns
+returns c = record { read = λ folder base extras purge set read. unfold refusal in rw read refl; unread = λ folder base extras purge fault read. unfold refusal in rw read refl }

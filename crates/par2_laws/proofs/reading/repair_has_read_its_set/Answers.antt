@@ -1,5 +1,4 @@
-use Rattle.par2_laws.proofs.Common.{◌≡◌, ◌∙◌, refl, sym, subst, true, ℕ, List, Result, Err, both_ways, Fault, ParSet, set_in, Folder, is_of_reading}
-use Rattle.std.specs.Prelude.{Ok}
+use Rattle.par2_laws.proofs.Common.{◌≡◌, ◌∙◌, refl, sym, subst, true, ℕ, List, Ok, Result, Err, both_ways, Fault, ParSet, set_in, Folder, is_of_reading}
 use Rattle.par2_laws.proofs.reading.repair_has_read_its_set.Goals as goal
 
 -- a set is read where no fault is the answer

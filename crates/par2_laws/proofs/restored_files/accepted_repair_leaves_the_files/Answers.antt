@@ -1,13 +1,11 @@
-use Rattle.par2_laws.proofs.Common.{◌≡◌, ◌∙◌, List, sym, subst, inl, inr, true, false, AllByRecursion, Folder, File, candidates, Repair, after}
-use Rattle.std.specs.Prelude.{Some}
+use Rattle.par2_laws.proofs.Common.{◌≡◌, ◌∙◌, List, sym, subst, inl, inr, true, false, Some, AllByRecursion, Folder, File, candidates, Repair, after}
 use Rattle.std.specs.FinMap as map_of
-use Rattle.par2_laws.proofs.restored_files.accepted_repair_leaves_the_files.Goals as goal
 
 -- the folder has each file with its bytes
 abbrev HasFiles : List File → Folder → Type 0
 HasFiles files folder = AllByRecursion (λ file. map_of.get folder file.0 ≡ Some file.1) files
 
-pub returns : goal.returns
+pub returns : Rattle.par2_laws.proofs.restored_files.accepted_repair_leaves_the_files.Goals.returns
 returns c folder base extras purge files s original accepted =
     let made = original.made in
     let set = made.set in

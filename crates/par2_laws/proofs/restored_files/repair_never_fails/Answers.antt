@@ -1,8 +1,6 @@
 use Rattle.par2_laws.proofs.Common.{◌∙◌, sym, inl, inr, list_all, both_ways, candidates, rebuilt_targets}
-use Rattle.par2_laws.proofs.Causes.{has_digest}
-use Rattle.par2_laws.proofs.restored_files.repair_never_fails.Goals as goal
 
-pub returns : goal.returns
+pub returns : Rattle.par2_laws.proofs.restored_files.repair_never_fails.Goals.returns
 returns c folder base extras purge files s original refused =
     let made = original.made in
     let set = made.set in
@@ -13,7 +11,7 @@ returns c folder base extras purge files s original refused =
           let failed = sym (of_set.read folder base extras purge set read) ∙ refused in
           let there = c.set_is_of_the_base.ensures.there folder base extras set read in
           let determined = c.failed_repair_is_wrong.ensures.repairable folder set searched failed in
-          both_ways (list_all has_digest (rebuilt_targets folder set searched))
+          both_ways (list_all Rattle.par2_laws.proofs.Causes.has_digest (rebuilt_targets folder set searched))
           (c.failed_repair_is_wrong.ensures.digests folder set searched failed)
           (c.repair_leaves_the_files.ensures.digests folder base extras files s made there original.no_collision original.bytes determined)
       | inr absent ↦

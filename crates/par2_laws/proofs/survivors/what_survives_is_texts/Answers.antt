@@ -1,6 +1,3 @@
-use Rattle.par2_laws.proofs.RecoveryBytes.{survivors_are}
-use Rattle.par2_laws.proofs.survivors.what_survives_is_texts.Goals as goal
-
-pub returns : goal.returns
+pub returns : Rattle.par2_laws.proofs.survivors.what_survives_is_texts.Goals.returns
 returns c folder base set searched held reads =
-    survivors_are folder base set searched (c.set_is_sound.ensures folder base set reads) held reads
+    Rattle.par2_laws.proofs.RecoveryBytes.survivors_are folder base set searched (c.set_is_sound.ensures folder base set reads) held reads

@@ -1,5 +1,2 @@
-use Rattle.par2_tool.proofs.History.{one_start}
-use Rattle.par2_tool.proofs.laws.stores_open_in_one_way.Goals as goal
-
-pub returns : goal.returns
-returns c = λ contents a b. one_start c.one_reading.ensures contents.files contents.journal a b
+pub returns : Rattle.par2_tool.proofs.laws.stores_open_in_one_way.Goals.returns
+returns c = λ contents a b. Rattle.par2_tool.proofs.History.one_start c.one_reading.ensures contents.files contents.journal a b

@@ -1,9 +1,6 @@
-use Rattle.par2_tool.proofs.Common.{rules, Some, Ok, sym, ap, subst, ◌∙◌, IfOk, option_map, Global, Started, started_of, IsOpened, IsRead, LeavesUnopened}
-use Rattle.std.specs.Prelude.{Vec}
-use Rattle.std.specs.Prelude.{ℕ}
-use Rattle.par2_tool.proofs.AsIs.{opened_as_is, opened_new, stands, stands_for_verify, stands_itself}
-use Rattle.par2_tool.proofs.Openings.{text_read}
-use Rattle.par2_tool.proofs.StoreOpenings.{opens_after_reading, reads_opens}
+use Rattle.par2_tool.proofs.Common.{rules, Some, Ok, sym, ap, subst, ◌∙◌, Vec, ℕ, IfOk, option_map, Global, Started, started_of, IsOpened, IsRead, LeavesUnopened}
+use Rattle.par2_tool.proofs.Outcomes.{opened_as_is, opened_new, stands, stands_for_verify, stands_itself}
+use Rattle.par2_tool.proofs.Openings.{text_read, opens_after_reading, reads_opens}
 use Rattle.par2_tool.proofs.opening.open_for.Goals.{After-open_with}
 use Rattle.par2_tool.proofs.opening.open_for.Goals as goal
 
@@ -44,10 +41,9 @@ read_so g c honest =
 
 pub returns-clause-opened : goal.returns-clause-opened
 returns-clause-opened g c =
-    let old = g.S.Store.contents c.args.store.now in
     let new = g.S.Store.contents c.open_with.new.store in
     let result = c.open_with.result in
-    stands c.args.command (g.S.Store.honest c.args.store.now) result old new
+    stands c.args.command (g.S.Store.honest c.args.store.now) result (g.S.Store.contents c.args.store.now) new
     (λ honest. subst (λ k. IsRead k c.needs_no_history.new.folder.files (Some c.deref-2.result.now) → IfOk result (λ s. IsOpened k new (started_of s))) (c.read_store.ensures.reads.same honest)
     (c.open_with.ensures.opened (c.read_store.ensures.reads.honest honest)) (read_so g (goal.at.returns-clause-opened g c).After-open_with honest))
 

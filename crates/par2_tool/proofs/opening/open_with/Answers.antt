@@ -1,9 +1,7 @@
 use Rattle.par2_tool.proofs.Common.{inl, Ok, Err, true, false, refl, sym, ap, subst, rules, ◌∙◌, err_from_is_err_and, FolderState, Halfway, Opens, Started, Session, KeptSession, session_of_kept, Contents, JournalInvalid, FolderChanged, opened_of, session_before, way_left, OpensAsBefore, with_history, IsOpened}
-use Rattle.par2_tool.proofs.AsIs.{opened_on}
 use Rattle.par2_tool.proofs.Calls.{back_calls, refused_calls}
 use Rattle.par2_tool.proofs.MadeChanges.{is_new}
-use Rattle.par2_tool.proofs.Openings.{any_err, holds_settled, opened_taken_back, opens_refused, opens_still, way_applies}
-use Rattle.par2_tool.proofs.StoreOpenings.{stays_keeps, stays_opens}
+use Rattle.par2_tool.proofs.Openings.{any_err, holds_settled, opened_taken_back, opens_refused, opens_still, way_applies, stays_keeps, stays_opens}
 use Rattle.par2_tool.proofs.opening.open_with.Goals.{In-Ok-Halfway}
 use Rattle.par2_tool.proofs.opening.open_with.Goals as goal
 
@@ -16,35 +14,30 @@ returns-in-Err-FolderChanged-false-default-clause-opened g c honest read =
     let arm = c.in-Err-FolderChanged-false-default in
     let contents = g.S.Store.contents c.args.store.now in
     let session = c.new.result in
-    let files = c.args.folder.files in
     let started : Started = record { session = session_of_kept session; dropped = true } in
     let same = ap (λ (f : FolderState). f.files) c.new.ensures.folder ∙ arm.ensures.files in
-    opened_on contents started
-    (opens_refused contents files c.args.text.now arm.field-0-0 (FolderChanged false) (Ok started) read arm.ensures.refused
+    Rattle.par2_tool.proofs.Outcomes.opened_on contents started
+    (opens_refused contents c.args.folder.files c.args.text.now arm.field-0-0 (FolderChanged false) (Ok started) read arm.ensures.refused
     (arm.field-0-0-is ∙ ap FolderChanged arm.field-0-0-0-test) (λ memory. cc)
-    (ap (λ (s : Session). Ok (record { session = s; dropped = true })) (is_new session files same c.new.ensures.undos c.new.ensures.redos)))
+    (ap (λ (s : Session). Ok (record { session = s; dropped = true })) (is_new session c.args.folder.files same c.new.ensures.undos c.new.ensures.redos)))
     (ap (λ (k : Contents). k.files) read ∙ sym same)
 
 pub returns-in-Ok-Settled-clause-opened : goal.returns-in-Ok-Settled-clause-opened
 returns-in-Ok-Settled-clause-opened g c honest read =
-    let files = c.args.folder.files in
-    let text = c.args.text.now in
-    let session = c.in-Ok-Settled.session in
-    let opens = subst (λ found. Opens files text (Ok (opened_of found))) c.in-Ok-Settled.field-0-is c.in-Ok-Settled.ensures.opened in
-    let holds = holds_settled (g.S.Store.contents c.args.store.now) files text (session_of_kept session) read opens in
+    let opens = subst (λ found. Opens c.args.folder.files c.args.text.now (Ok (opened_of found))) c.in-Ok-Settled.field-0-is c.in-Ok-Settled.ensures.opened in
+    let holds = holds_settled (g.S.Store.contents c.args.store.now) c.args.folder.files c.args.text.now (session_of_kept c.in-Ok-Settled.session) read opens in
     record { opens = holds.opens; holds = holds; left = inl refl }
 
 pub returns-in_ok-session-in-Ok-Halfway-clause-opened : goal.returns-in_ok-session-in-Ok-Halfway-clause-opened
 returns-in_ok-session-in-Ok-Halfway-clause-opened g c honest read =
     let old = g.S.Store.contents c.args.store.now in
     let new = g.S.Store.contents c.take_back.new.store in
-    let files = c.args.folder.files in
     let text = c.args.text.now in
     let halfway = c.in-Ok-Halfway.halfway in
     let arm = c.in_ok-session-in-Ok-Halfway in
     let opens = opens_so g (goal.at.returns-in_ok-session-in-Ok-Halfway-clause-opened g c).In-Ok-Halfway in
     subst (λ (s : KeptSession). IsOpened old new (with_history (session_of_kept s))) (sym arm.ensures.session)
-    (opened_taken_back old new files text (session_of_kept (session_before halfway)) (way_left halfway) read opens ((arm.ensures.taken honest).done))
+    (opened_taken_back old new c.args.folder.files text (session_of_kept (session_before halfway)) (way_left halfway) read opens ((arm.ensures.taken honest).done))
 
 -- a halfway command is taken back, or not
 pub returns-in_err-session-in-Ok-Halfway-clause-opens : goal.returns-in_err-session-in-Ok-Halfway-clause-opens
@@ -52,9 +45,8 @@ returns-in_err-session-in-Ok-Halfway-clause-opens g c honest read =
     let old = g.S.Store.contents c.args.store.now in
     let files = c.args.folder.files in
     let text = c.args.text.now in
-    let halfway = c.in-Ok-Halfway.halfway in
-    let session = session_of_kept (session_before halfway) in
-    let back = way_left halfway in
+    let session = session_of_kept (session_before c.in-Ok-Halfway.halfway) in
+    let back = way_left c.in-Ok-Halfway.halfway in
     let opens = opens_so g (goal.at.returns-in_err-session-in-Ok-Halfway-clause-opens g c).In-Ok-Halfway in
     let taken = c.take_back.ensures.taken honest in
     record {
@@ -77,9 +69,8 @@ returns-in_ok-session-in-Ok-Halfway-clause-opens g c honest read =
     let old = g.S.Store.contents c.args.store.now in
     let files = c.args.folder.files in
     let text = c.args.text.now in
-    let halfway = c.in-Ok-Halfway.halfway in
-    let session = session_of_kept (session_before halfway) in
-    let back = way_left halfway in
+    let session = session_of_kept (session_before c.in-Ok-Halfway.halfway) in
+    let back = way_left c.in-Ok-Halfway.halfway in
     let opens = opens_so g (goal.at.returns-in_ok-session-in-Ok-Halfway-clause-opens g c).In-Ok-Halfway in
     let taken = c.take_back.ensures.taken honest in
     record {

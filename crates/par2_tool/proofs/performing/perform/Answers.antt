@@ -12,9 +12,8 @@ use Rattle.par2_tool.proofs.performing.perform.Goals as goal
 pub returns-in-Ok-clause-session : goal.returns-in-Ok-clause-session
 returns-in-Ok-clause-session g c =
     let s = session_of_kept c.args.session.now in
-    let report = rw c.as_str.ensures.value at (rw c.as_slice.ensures.value at c.in-Ok.ensures.report) in
     ap (λ (x : Command). session_after s (command_of x)) c.in-Verify.is
-    ∙ verify_leaves s _ _ (report_of c.in-Ok.report) report
+    ∙ verify_leaves s _ _ (report_of c.in-Ok.report) (rw c.as_str.ensures.value at (rw c.as_slice.ensures.value at c.in-Ok.ensures.report))
 
 pub returns-in-Ok-clause-leads : goal.returns-in-Ok-clause-leads
 returns-in-Ok-clause-leads g c =
@@ -150,17 +149,15 @@ returns-in-Err-write_down-clause-in_order g c honest =
     subst (λ (x : Command). AreSomeMade (changes_asked (session_of_kept c.args.session.now) (command_of x)) start.files new.files) (sym c.in-Act.is)
     (asked_in_order (action_of c.in-Act.action) c.args.session.now c.in-Ok-prepare.prepared c.prepare.new.self (made_of g at) start c.in_ok-journals.journals new (stop_of g at new (c.in-Err-write_down.ensures.written.stopped honest)))
 
+possible_so : (g : _) (c : After-write_down g) → g.S.Store.honest c.args.store.now → (g.S.Store.contents c.args.store.now).files ≡ c.args.session.now.folder.files → g.S.Store.impossible c.write_down.new.store ≡ g.S.Store.impossible c.args.store.now
+possible_so g c honest files = c.write_down.ensures.possible honest
+    (ready_applies (action_of c.in-Act.action) c.args.session.now c.in-Ok-prepare.prepared c.prepare.new.self (made_of g c) (g.S.Store.contents c.args.store.now) files _ (changed_so g c))
+
 pub returns-in-Ok-write_down-clause-possible : goal.returns-in-Ok-write_down-clause-possible
-returns-in-Ok-write_down-clause-possible g c honest files =
-    let at = (goal.at.returns-in-Ok-write_down-clause-possible g c).After-write_down in
-    c.write_down.ensures.possible honest
-    (ready_applies (action_of c.in-Act.action) c.args.session.now c.in-Ok-prepare.prepared c.prepare.new.self (made_of g at) (g.S.Store.contents c.args.store.now) files _ (changed_so g at))
+returns-in-Ok-write_down-clause-possible g c = possible_so g (goal.at.returns-in-Ok-write_down-clause-possible g c).After-write_down
 
 pub returns-in-Err-write_down-clause-possible : goal.returns-in-Err-write_down-clause-possible
-returns-in-Err-write_down-clause-possible g c honest files =
-    let at = (goal.at.returns-in-Err-write_down-clause-possible g c).After-write_down in
-    c.write_down.ensures.possible honest
-    (ready_applies (action_of c.in-Act.action) c.args.session.now c.in-Ok-prepare.prepared c.prepare.new.self (made_of g at) (g.S.Store.contents c.args.store.now) files _ (changed_so g at))
+returns-in-Err-write_down-clause-possible g c = possible_so g (goal.at.returns-in-Err-write_down-clause-possible g c).After-write_down
 
 pub returns-in-Ok-write_down-clause-cut : goal.returns-in-Ok-write_down-clause-cut
 returns-in-Ok-write_down-clause-cut g c honest lasts files apart left may = opens_so g (goal.at.returns-in-Ok-write_down-clause-cut g c).After-write_down files apart left (c.write_down.ensures.written.remains honest lasts left may)
@@ -178,12 +175,9 @@ returns-in-Ok-clause-calls g c =
 calls_so : (g : _) (c : After-write_down g) → calls_to_write c.in_ok-journals.journals (length c.changes.result.now) ≡ calls_asked (session_of_kept c.args.session.now) (command_of c.args.command.now)
 calls_so g c =
     let old = c.args.session.now in
-    let made = made_of g c in
-    let journals = c.in_ok-journals.journals in
-    let action = c.in-Act.action in
-    ap (calls_to_write journals) (sym (length-map c.changes.result.now change_of) ∙ ap length (changed_so g c))
-    ∙ ready_calls (action_of action) old c.in-Ok-prepare.prepared c.prepare.new.self made journals (spelled_so g c)
-    ∙ asked_calls action (session_of_kept old)
+    ap (calls_to_write c.in_ok-journals.journals) (sym (length-map c.changes.result.now change_of) ∙ ap length (changed_so g c))
+    ∙ ready_calls (action_of c.in-Act.action) old c.in-Ok-prepare.prepared c.prepare.new.self (made_of g c) c.in_ok-journals.journals (spelled_so g c)
+    ∙ asked_calls c.in-Act.action (session_of_kept old)
     ∙ ap (λ (x : Command). calls_asked (session_of_kept old) (command_of x)) (sym c.in-Act.is)
 
 pub returns-in-Ok-write_down-clause-calls : goal.returns-in-Ok-write_down-clause-calls

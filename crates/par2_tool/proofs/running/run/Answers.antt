@@ -1,10 +1,11 @@
-use Rattle.par2_tool.proofs.Common.{◌≡◌, ◌+◌, map, inl, inr, [], arith, false, refl, sym, ap, subst, ◌∙◌, string_bytes, false≢true, same_Some, Action, Contents, Started, session_of_kept, command_of, status_of, AskFor, CountsFailedRun, calls_asked, started_of, IsOpened, outcome_of, failure_for, Answered, Failed, IsBack, IsCause, IsFailed, IsUnread, IsPrinted, IsStopped, IsKept}
+use Rattle.par2_tool.proofs.Common.{by_either, ◌≡◌, ◌+◌, map, inl, inr, [], arith, false, refl, sym, ap, subst, ◌∙◌, string_bytes, false≢true, Action, Contents, Started, session_of_kept, command_of, status_of, CountsFailedRun, calls_asked, started_of, IsOpened, outcome_of, failure_for, Answered, Failed, IsBack, IsCause, IsFailed, IsUnread, IsPrinted, IsStopped, IsKept}
+use Rattle.std.proofs.lemmas.Option.{same_Some}
+use Rattle.par2_tool.specs.Asking.{AskFor}
 use Rattle.par2_spec.specs.declared.Failure.{Failure}
 use Rattle.par2_printing.specs.Views.{words_asked}
 use Rattle.par2_spec.specs.declared.Failure.TheVariants as failure
-use Rattle.par2_tool.proofs.AsIs.{done_for, files_of, no_way_back, verify_failed}
+use Rattle.par2_tool.proofs.Outcomes.{done_for, files_of, no_way_back, verify_failed, cut_of_command, opening_cause, opening_failed, perform_cause, perform_failed, stopped_opening}
 use Rattle.par2_tool.proofs.Calls.{opening_calls, perform_calls, run_calls, stands_calls}
-use Rattle.par2_tool.proofs.Outcomes.{cut_of_command, opening_cause, opening_failed, perform_cause, perform_failed, stopped_opening}
 use Rattle.par2_tool.proofs.UnreadWords.{unread_words}
 use Rattle.par2_tool.proofs.running.run.Goals.{After-open_for, After-perform, else-dropped-via-then-dropped+else-is_back, else-dropped-via-else-dropped}
 use Rattle.par2_tool.proofs.running.run.Goals as goal
@@ -59,10 +60,9 @@ returns-then-is_back-clause-told g c =
       λ honest. inr (
         action,
         asked,
-        elim found.1 [
-          | inl same ↦ inr (back, found.0, found.2 honest, ap (λ (t : Started). t.dropped) same ∙ c.if-dropped.true)
-          | inr verify ↦ absurd (no_way_back action verify.0 back)
-        ],
+        by_either found.1
+            (λ same. inr (back, found.0, found.2 honest, ap (λ (t : Started). t.dropped) same ∙ c.if-dropped.true))
+            (λ verify. absurd (no_way_back action verify.0 back)),
       ),
       λ honest. let counted = (opened.opens honest).calls in inr (action, asked, (counted.0, counted.1, counted.2.opened)),
     )

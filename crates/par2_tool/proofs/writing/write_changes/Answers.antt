@@ -1,6 +1,5 @@
 use Rattle.par2_tool.proofs.Common.{map, ap, ◌∙◌, arith, take_all, Contents, with_change, change_of, with_all_changes}
-use Rattle.par2_tool.proofs.MadeChanges.{applicable_here, made_next}
-use Rattle.par2_tool.proofs.Remains.{all_remain, next_remains}
+use Rattle.par2_tool.proofs.MadeChanges.{applicable_here, made_next, all_remain, next_remains}
 use Rattle.par2_tool.proofs.writing.write_changes.Goals as goal
 
 pub returns-in-Err-clause-written : goal.returns-in-Err-clause-written

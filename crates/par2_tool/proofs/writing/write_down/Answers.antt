@@ -1,6 +1,6 @@
 use Rattle.par2_tool.proofs.Common.{◌≡◌, IsTrue, subst, map, Result, Ok, Err, ap, sym, ◌∙◌, true≢false, are_applicable, Contents, with_journal, OnOk, IsErr, on_err_weaker, on_ok_weaker, change_of, with_all_changes, IsStoppedAt}
 use Rattle.par2_tool.proofs.Openings.{any_err}
-use Rattle.par2_tool.proofs.Remains.{begun_remains, some_remain, ended_remains}
+use Rattle.par2_tool.proofs.MadeChanges.{begun_remains, some_remain, ended_remains}
 use Rattle.par2_tool.proofs.Stops.{halfway_files}
 use Rattle.par2_tool.proofs.writing.write_down.Goals.{After-write_changes}
 use Rattle.par2_tool.proofs.writing.write_down.Goals as goal
@@ -16,12 +16,11 @@ returns-in_err-begin-clause-written g c =
     let new = g.S.Store.contents c.begin.new.store in
     let journals = c.args.journals.now in
     let changes = map change_of c.args.changes.now in
-    let begun = c.begin.ensures.written in
     record {
-      honest = begun.honest;
+      honest = c.begin.ensures.written.honest;
       done = λ h. none_done c.from_residual.result _ c.from_residual.ensures.0;
       stopped = λ h. any_err c.from_residual.result (IsStoppedAt old journals changes new) (begun_remains old journals changes new (c.in_err-begin.ensures.written.stopped h));
-      remains = λ h lasts left may. begun_remains old journals changes left (begun.remains h lasts left may);
+      remains = λ h lasts left may. begun_remains old journals changes left (c.begin.ensures.written.remains h lasts left may);
     }
 
 pub returns-in_err-write_changes-clause-written : goal.returns-in_err-write_changes-clause-written

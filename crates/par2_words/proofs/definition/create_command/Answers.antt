@@ -1,10 +1,7 @@
-use Rattle.par2_words.proofs.Common.{rules, IsArg, count_rule, first_rule, slice_rule}
-use Rattle.par2_words.specs.Definition.{create_app}
-use Rattle.par2_words.proofs.definition.create_command.Goals as goal
+use Rattle.par2_words.proofs.Common.{rules, IsArg, count_rule, first_rule, slice_rule, create_app}
 
-pub returns : goal.returns
-unfolding create_app
-returns c =
+pub returns : Rattle.par2_words.proofs.definition.create_command.Goals.returns
+returns c = unfold create_app in
     let slice : IsArg c.required-slice.result slice_rule = search rules in
     let count : IsArg c.required-count.result count_rule = search rules in
     let first : IsArg c.default_value-first.result first_rule = search rules in

@@ -1,10 +1,7 @@
-use Rattle.par2_words.proofs.Common.{create_app, start_app}
-use Rattle.par2_words.specs.Definition.{par2_app, purge_app, repair_app, verify_app}
-use Rattle.par2_words.proofs.definition.par2_command.Goals as goal
+use Rattle.par2_words.proofs.Common.{create_app, start_app, par2_app, purge_app, repair_app, verify_app}
 
-pub returns : goal.returns
-unfolding par2_app verify_app repair_app purge_app
-returns c =
+pub returns : Rattle.par2_words.proofs.definition.par2_command.Goals.returns
+returns c = unfold par2_app verify_app repair_app purge_app in
     let create = c.with_command-command.ensures start_app create_app c.start_command.ensures c.create_command.ensures in
     let verify = c.with_command-command-2.ensures _ verify_app create (c.with_files.ensures _ (c.new.ensures.app, c.new.ensures.local)) in
     let repair = c.with_command-command-3.ensures _ repair_app verify (c.with_files-2.ensures _ (c.with_arg-repair.ensures _ _ (c.new-2.ensures.app, c.new-2.ensures.local) c.purge_arg.ensures)) in

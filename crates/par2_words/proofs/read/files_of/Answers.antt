@@ -1,9 +1,7 @@
 use Rattle.par2_words.proofs.Common.{◌∙◌, ap, map, codes, rules, Bor, Text, found_of}
 use Rattle.std.proofs.lemmas.List.{take_all}
-use Rattle.par2_words.proofs.RowReads.{texts_read}
-use Rattle.par2_words.proofs.read.files_of.Goals as goal
 
-pub returns : goal.returns
+pub returns : Rattle.par2_words.proofs.read.files_of.Goals.returns
 returns c = c.loop-text.invariant ∙ ap (map (λ (v : Bor Text). v.now)) (take_all c.loop-text.text-index c.unwrap_or-texts.result.now c.loop-text-test.false)
     ∙ ap (λ (s : Bor _). map (λ v. v.now) s.now) c.unwrap_or-texts.ensures
-    ∙ texts_read (found_of c.args.matches.now) (codes "files") c.get_strs.result _ c.get_strs.ensures (search rules)
+    ∙ Rattle.par2_words.proofs.RowReads.texts_read (found_of c.args.matches.now) (codes "files") c.get_strs.result _ c.get_strs.ensures (search rules)

@@ -1,5 +1,5 @@
-use Rattle.par2_words.proofs.Common.{◌≡◌, ◌∙◌, ap, inl, inr, subst, sym, true≢false, string_bytes, map, is_some, option_and_then, IfErr-weaker, IfOk-weaker, err_from_is_err_and, App, HasMatchesOf, fault_of, found_of, rows_of, subcommand_of, takes, meaning, par2_app}
-use Rattle.std.specs.Prelude.{[], Some}
+use Rattle.par2_spec.proofs.TestLaws.{by_either}
+use Rattle.par2_words.proofs.Common.{◌≡◌, ◌∙◌, ap, subst, sym, true≢false, string_bytes, map, [], Some, is_some, option_and_then, IfErr-weaker, IfOk-weaker, err_from_is_err_and, App, HasMatchesOf, fault_of, found_of, rows_of, subcommand_of, takes, meaning, par2_app}
 use Rattle.par2_words.proofs.Subcommands.{faultless, known, met, unmet}
 use Rattle.par2_words.proofs.read.read_words.Goals.{In-Ok, In-Some}
 use Rattle.par2_words.proofs.read.read_words.Goals as goal
@@ -32,10 +32,7 @@ returns-in-Some-clause-command c =
 pub returns-in-Some-clause-arguments : goal.returns-in-Some-clause-arguments
 returns-in-Some-clause-arguments c = λ taken there.
     let is = met_so (goal.at.returns-in-Some-clause-arguments c).In-Some (matches_so (goal.at.returns-in-Some-clause-arguments c).In-Ok) in
-    IfErr-weaker c.named.result _ _ (λ e h. elim h [
-      | inl memory ↦ memory
-      | inr none ↦ absurd (true≢false (sym (known _ _ is) ∙ ap is_some none))
-    ]) c.named.ensures.fault
+    IfErr-weaker c.named.result _ _ (λ e h. by_either h (λ memory. memory) (λ none. absurd (true≢false (sym (known _ _ is) ∙ ap is_some none)))) c.named.ensures.fault
 
 pub returns-clause-arguments : goal.returns-clause-arguments
 returns-clause-arguments c = λ taken there.
