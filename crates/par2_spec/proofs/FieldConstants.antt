@@ -34,7 +34,8 @@ abbrev fit : List ℕ → Bool
 fit powers = rises 0 65535 powers && eqb (length powers) 32768
 
 test_fit : fit constant_powers ≡ true
-test_fit = unfold rises constant_powers in refl
+unfolding rises constant_powers
+test_fit = refl
 
 both_fit : (rises 0 65535 constant_powers ≡ true) × (eqb (length constant_powers) 32768 ≡ true)
 both_fit = and_parts (rises 0 65535 constant_powers) (eqb (length constant_powers) 32768) test_fit

@@ -64,7 +64,8 @@ double_linear : IsLinear double
 double_linear = unfold double in record { on_xor = λ x y. ap₂ bit_xor (xor_shl 1 x y) (bit_xor_times x y 15 modulus) ∙ xor_middle (x * 2) (y * 2) _ _ }
 
 test_double : tested (λ i. eqb (double (2 ^ i)) (mul 2 (2 ^ i))) 16 ≡ true
-test_double = unfold double mul in refl
+unfolding double mul
+test_double = refl
 
 pub double_product : (x : ℕ) → x < 65536 → double x ≡ mul 2 x
 double_product x h = linear_same_tested double (λ y. mul 2 y) double_linear (product_linear_right 2) 16 test_double x h
@@ -118,10 +119,12 @@ leaves_one_at (suc n) x so_far e =
 
 -- the two computations: 65535 doublings lead from 1 to 1, and no fewer do
 test_around : walk 65535 1 ≡ 1
-test_around = unfold walk double in refl
+unfolding walk double
+test_around = refl
 
 test_no_sooner : leaves_one 65534 1 true ≡ true
-test_no_sooner = unfold leaves_one double in refl
+unfolding leaves_one double
+test_no_sooner = refl
 
 pub power-65535 : pow 2 65535 ≡ 1
 power-65535 = sym (walk_one 65535) ∙ test_around

@@ -31,16 +31,20 @@ product_linear_left b = unfold mul in record { on_xor = λ x y. ap (λ v. remain
 
 -- each of these is a computation over the powers of 2 alone
 test_comm : tested (λ i. tested (λ j. eqb (mul (2 ^ i) (2 ^ j)) (mul (2 ^ j) (2 ^ i))) 16) 16 ≡ true
-test_comm = unfold mul in refl
+unfolding mul
+test_comm = refl
 
 test_one : tested (λ i. eqb (mul (2 ^ i) 1) (2 ^ i)) 16 ≡ true
-test_one = unfold mul in refl
+unfolding mul
+test_one = refl
 
 test_lt : tested (λ i. tested (λ j. ltb (mul (2 ^ i) (2 ^ j)) 65536) 16) 16 ≡ true
-test_lt = unfold mul in refl
+unfolding mul
+test_lt = refl
 
 test_assoc : tested (λ i. tested (λ j. tested (λ k. eqb (mul (mul (2 ^ i) (2 ^ j)) (2 ^ k)) (mul (2 ^ i) (mul (2 ^ j) (2 ^ k)))) 16) 16) 16 ≡ true
-test_assoc = unfold mul in refl
+unfolding mul
+test_assoc = refl
 
 pub product-lt : (a b : ℕ) → a < 65536 → b < 65536 → mul a b < 65536
 product-lt a b ha hb =

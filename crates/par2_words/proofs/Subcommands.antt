@@ -11,16 +11,19 @@ use Rattle.clap.specs.declared.parser.matches.ArgMatches.TheViews.{out-ArgMatche
 use Rattle.par2_spec.proofs.ListsLaws.{found_one}
 
 simple : is_simple par2_app ≡ true
-simple = unfold clap_on_literals create_app par2_app purge_app repair_app start_app verify_app in refl
+unfolding clap_on_literals create_app par2_app purge_app repair_app start_app verify_app
+simple = refl
 
 free : is_simple_and_free par2_app ≡ true
-free = unfold clap_on_literals create_app par2_app purge_app repair_app start_app verify_app in refl
+unfolding clap_on_literals create_app par2_app purge_app repair_app start_app verify_app
+free = refl
 
 abbrev is_known : Shape → Bool
 is_known s = is_some (meaning (s.name, []))
 
 all_known : list_all is_known (built par2_app).subs ≡ true
-all_known = unfold clap_on_literals create_app par2_app purge_app repair_app start_app verify_app in refl
+unfolding clap_on_literals create_app par2_app purge_app repair_app start_app verify_app
+all_known = refl
 
 find_all : {X : Type 0} (p q : X → Bool) (xs : List X) (x : X) → find p xs ≡ Some x → list_all q xs ≡ true → q x ≡ true
 find_all p q xs x e h = (found_one (λ y. q y ≡ true) p xs (recursion_from_All (λ y. q y ≡ true) xs (AllPass-from_list_all q xs h)) x e).0

@@ -6,7 +6,8 @@ abbrev create_words : List Text
 create_words = codes "create" ∷ codes "-s4" ∷ codes "-c0" ∷ codes "t.par2" ∷ codes "a" ∷ []
 
 pub create_taken : takes par2_app create_words ≡ true
-create_taken = unfold clap_on_literals create_app par2_app purge_app repair_app start_app verify_app in refl
+unfolding clap_on_literals create_app par2_app purge_app repair_app start_app verify_app
+create_taken = refl
 
 pub create_asked : asked_by create_words ≡ Some (Do (Create (record {
   base = codes "t.par2";
@@ -22,13 +23,17 @@ create_asked = refl
 -- options may stand between the names
 pub repair_asked : asked_by (codes "repair" ∷ codes "t.par2" ∷ codes "x" ∷ codes "-p" ∷ codes "y" ∷ [])
     ≡ Some (Do (Repair (codes "t.par2") (codes "x" ∷ codes "y" ∷ []) true))
-repair_asked = unfold clap_on_literals create_app par2_app purge_app repair_app start_app verify_app in refl
+unfolding clap_on_literals create_app par2_app purge_app repair_app start_app verify_app
+repair_asked = refl
 
 pub undo_asked : asked_by (codes "undo" ∷ []) ≡ Some Undo
-undo_asked = unfold clap_on_literals create_app par2_app purge_app repair_app start_app verify_app in refl
+unfolding clap_on_literals create_app par2_app purge_app repair_app start_app verify_app
+undo_asked = refl
 
 pub repeat_refused : fault_of par2_app (codes "create" ∷ codes "-s4" ∷ codes "-s8" ∷ codes "-c0" ∷ codes "t.par2" ∷ []) ≡ kind.ArgumentConflict ∷ []
-repeat_refused = unfold clap_on_literals create_app par2_app purge_app repair_app start_app verify_app in refl
+unfolding clap_on_literals create_app par2_app purge_app repair_app start_app verify_app
+repeat_refused = refl
 
 pub help_refused : fault_of par2_app (codes "create" ∷ codes "--help" ∷ []) ≡ kind.DisplayHelp ∷ []
-help_refused = unfold clap_on_literals create_app par2_app purge_app repair_app start_app verify_app in refl
+unfolding clap_on_literals create_app par2_app purge_app repair_app start_app verify_app
+help_refused = refl
