@@ -47,13 +47,16 @@ constant_power-lt : (k : ℕ) → k < 32768 → get_or constant_powers k 0 < 655
 constant_power-lt k h = (rises_at 0 65535 constant_powers both_fit.0 k (omega (arith, length-constant_powers))).1
 
 pub constant-lt : (k : ℕ) → constant k < 65536
-constant-lt k = unfold constant in power-lt 2 (get_or constant_powers k 0) (omega arith)
+unfolding constant
+constant-lt k = power-lt 2 (get_or constant_powers k 0) (omega arith)
 
 pub constant-nonzero : (k : ℕ) → k < 32768 → constant k ≡ 0 → ⊥
-constant-nonzero k h = unfold constant in power-nonzero (get_or constant_powers k 0) (constant_power-lt k h)
+unfolding constant
+constant-nonzero k h = power-nonzero (get_or constant_powers k 0) (constant_power-lt k h)
 
 pub constant-injective : (i j : ℕ) → i < j → j < 32768 → constant i ≡ constant j → ⊥
-constant-injective i j h k = unfold constant in
+unfolding constant
+constant-injective i j h k =
     power-injective (get_or constant_powers i 0) (get_or constant_powers j 0)
     (rises_between 0 65535 constant_powers both_fit.0 i j h (omega (arith, length-constant_powers)))
     (constant_power-lt j k)

@@ -45,7 +45,8 @@ search_values f a (suc n) = elim (cases_eq a (f n)) [
 
 pub onto_from_injective : (f : ℕ → ℕ) (n : ℕ) → ((i : ℕ) → i < n → f i < n) → ((i j : ℕ) → i < j → j < n → f i ≡ f j → ⊥)
     → (a : ℕ) → a < n → (i : ℕ) × ((i < n) × (f i ≡ a))
-onto_from_injective f n fits apart a h = unfold IsDistinct in elim (search_values f a n) [
+unfolding IsDistinct
+onto_from_injective f n fits apart a h = elim (search_values f a n) [
   | inl found ↦ found
   | inr none ↦
       let long : length (a ∷ values f n) ≤ n =
@@ -61,7 +62,8 @@ unfoldable pub double : ℕ → ℕ
 double x = bit_xor (x * 2) (bit_at x 15 * modulus)
 
 double_linear : IsLinear double
-double_linear = unfold double in record { on_xor = λ x y. ap₂ bit_xor (xor_shl 1 x y) (bit_xor_times x y 15 modulus) ∙ xor_middle (x * 2) (y * 2) _ _ }
+unfolding double
+double_linear = record { on_xor = λ x y. ap₂ bit_xor (xor_shl 1 x y) (bit_xor_times x y 15 modulus) ∙ xor_middle (x * 2) (y * 2) _ _ }
 
 test_double : tested (λ i. eqb (double (2 ^ i)) (mul 2 (2 ^ i))) 16 ≡ true
 unfolding double mul
@@ -160,14 +162,17 @@ element zero = 0
 element (suc i) = pow 2 i
 
 element-lt : (i : ℕ) → i < 65536 → element i < 65536
-element-lt i h = unfold element in grind (arith, power-lt)
+unfolding element
+element-lt i h = grind (arith, power-lt)
 
 element_injective : (i j : ℕ) → i < j → j < 65536 → element i ≡ element j → ⊥
-element_injective i j h k e = unfold element in grind (arith, power-nonzero, power-injective)
+unfolding element
+element_injective i j h k e = grind (arith, power-nonzero, power-injective)
 
 -- each element but 0 is a power of 2
 pub logarithm : (a : ℕ) → 0 < a → a < 65536 → (i : ℕ) × ((i < 65535) × (pow 2 i ≡ a))
-logarithm a z h = unfold element in
+unfolding element
+logarithm a z h =
     let at : (i : ℕ) → i < 65536 → element i ≡ a → (j : ℕ) × ((j < 65535) × (pow 2 j ≡ a)) = λ i k e. grind arith in
     let found = onto_from_injective element 65536 element-lt element_injective a h in at found.0 found.1.0 found.1.1
 

@@ -24,10 +24,12 @@ remainder-xor (suc n) x y =
     ∙ remainder-xor n _ _
 
 pub product_linear_right : (a : ℕ) → IsLinear (λ b. mul a b)
-product_linear_right a = unfold mul in record { on_xor = λ x y. ap (λ v. remainder v 15) (product-right 16 a x y) ∙ remainder-xor 15 (product a x 16) (product a y 16) }
+unfolding mul
+product_linear_right a = record { on_xor = λ x y. ap (λ v. remainder v 15) (product-right 16 a x y) ∙ remainder-xor 15 (product a x 16) (product a y 16) }
 
 pub product_linear_left : (b : ℕ) → IsLinear (λ a. mul a b)
-product_linear_left b = unfold mul in record { on_xor = λ x y. ap (λ v. remainder v 15) (product-left 16 b x y) ∙ remainder-xor 15 (product x b 16) (product y b 16) }
+unfolding mul
+product_linear_left b = record { on_xor = λ x y. ap (λ v. remainder v 15) (product-left 16 b x y) ∙ remainder-xor 15 (product x b 16) (product y b 16) }
 
 -- each of these is a computation over the powers of 2 alone
 test_comm : tested (λ i. tested (λ j. eqb (mul (2 ^ i) (2 ^ j)) (mul (2 ^ j) (2 ^ i))) 16) 16 ≡ true
