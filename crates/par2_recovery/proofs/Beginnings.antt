@@ -3,7 +3,7 @@ use Rattle.par2_recovery.proofs.Common.{ℕ, zero, suc, ◌+◌, ◌-◌, ◌<�
 use Rattle.par2_spec.specs.Rank.{rank}
 use Rattle.par2_recovery.proofs.Inverting.{length-recovered_of}
 use Rattle.par2_recovery.proofs.Ranks.{is_kept}
-use Rattle.par2_recovery.proofs.Runs.{rises_between}
+use Rattle.par2_recovery.proofs.Runs.{rises_between, close_range}
 use Rattle.par2_recovery.proofs.Standing.{kept_slices_are}
 
 -- ---- the first exponents
@@ -27,19 +27,8 @@ exponents_at recs n some within = (
   get_or-map (λ (r : ℕ × List ℕ). r.0) recs (n - 1) (0, []) 0 (omega (arith, some, within)),
 )
 
--- an exponent of the run
-in_run : (f n e : ℕ) → Contains (range_with_len f n) e → (f ≤ e) × (e < f + n)
-in_run f n e among =
-    let i = among.0 in
-    let low : i < n = (let long = length-range_with_len f n in let h = among.1 in omega (arith, long, h)) in
-    let is : f + i ≡ e = sym (get_or-range_with_len f n i e low) ∙ among.2 in
-    (omega (arith, is), omega (arith, is, low))
-
 close_front : (xs : List ℕ) (f n : ℕ) → BeginsWithRun f n xs → AreClose n (take n xs)
-close_front xs f n front e g first second =
-    let a = in_run f n e (subst (λ ys. Contains ys e) front first) in
-    let b = in_run f n g (subst (λ ys. Contains ys g) front second) in
-    omega (arith, a.0, b.1)
+close_front xs f n front = subst (AreClose n) (sym front) (close_range f n)
 
 pub front_within : (xs : List ℕ) (f n : ℕ) → BeginsWithRun f n xs → n ≤ length xs
 front_within xs f n front =

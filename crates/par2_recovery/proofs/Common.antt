@@ -29,8 +29,8 @@ pub use Rattle.par2_recovery.specs.Inverses.{CutByUnit, GivesUnit, IsEliminated,
 pub use Rattle.par2_recovery.specs.Products.{Adds, AddsSource, AreBytes, products}
 pub use Rattle.par2_recovery.specs.Rebuilding.{AreRebuilt, CanRebuild, known_among}
 pub use Rattle.par2_recovery.specs.RunInverses.{AreScaledQuotients, BeginsWithRun, IsScaledQuotient}
-pub use Rattle.par2_recovery.specs.Survivors.{IsTrueFault, bytes_or_none, exponents_of, known_alone, known_from, known_of, lost_from, recovered_of, sum_at, with_lost_slices}
-pub use Rattle.par2_recovery.specs.Syndromes.{AreExtended, AreProducts, AreSolved, AreSyndromes, all_coefficients, syndrome, window}
+pub use Rattle.par2_recovery.specs.Survivors.{IsTrueFault, bytes_or_none, exponents_of, known_alone, known_of, lost_from, recovered_of, with_lost_slices}
+pub use Rattle.par2_recovery.specs.Syndromes.{AreExtended, AreProducts, AreSolved, all_coefficients, syndrome, window}
 pub use Rattle.par2_recovery.specs.Views.{AreBlank, AreRecords, names_of, texts_of}
 pub use Rattle.par2_spec.proofs.FieldOrder.{no_zero_divisor, power-lt, product-zero, zero-product}
 pub use Rattle.par2_spec.proofs.FieldProducts.{product-lt, product-one, product_assoc, product_comm, product_linear_left, product_linear_right}

@@ -1,17 +1,11 @@
 //! Lost slices are rebuilt.
 
-ghost use Rattle.std.specs.Prelude.{◌≡◌, ℕ, ◌+◌, ◌*◌, ◌%◌, ◌^◌, ◌<◌, ◌≤◌, length, map, slice_index_or, is_none, IfOk, IfSome, MatchResult, IfErr, IsOk, None};
-ghost use Rattle.std.specs.List.{AllByRecursion};
-ghost use Rattle.std.specs.List.Sorted.{IsStrictlyIncreasing};
+ghost use Rattle.std.specs.Prelude.{◌≡◌, ◌<◌, ◌≤◌, length, map, slice_index_or, is_none, IfOk, IfErr, IsOk, None};
 ghost use Rattle.par2_spec.specs.Search.{lost};
-ghost use Rattle.par2_spec.specs.Recovery.{coefficients};
-ghost use Rattle.par2_spec.specs.Sums.{list_at, lists_of};
-ghost use Rattle.par2_recovery.specs.Answers.{lost_among, HaveAtLeast, IsFaultOf, Rebuild};
-ghost use Rattle.par2_recovery.specs.Products.{AreBytes};
+ghost use Rattle.par2_recovery.specs.Answers.{lost_among, IsFaultOf, Rebuild};
 ghost use Rattle.par2_recovery.specs.Views.{texts_of};
-ghost use Rattle.par2_recovery.specs.Survivors.{known_of, recovered_of, exponents_of, with_lost_slices, lost_from, known_from, known_alone, bytes_or_none, IsTrueFault};
-ghost use Rattle.par2_recovery.specs.Syndromes.{AreSolved};
-ghost use Rattle.par2_recovery.specs.Rebuilding.{CanRebuild, known_among, AreRebuilt, AreEnough};
+ghost use Rattle.par2_recovery.specs.Survivors.{exponents_of, lost_from, bytes_or_none};
+ghost use Rattle.par2_recovery.specs.Rebuilding.{CanRebuild, AreEnough};
 
 use crate::inverse::{Inversion, bytes_of, exponents_of, invert};
 use crate::products::{fit_lists, fit_texts};

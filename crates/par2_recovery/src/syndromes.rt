@@ -2,10 +2,10 @@
 //! which is what the lost slices alone give to it. The inverse makes the lost slices of these, some columns at a time. A
 //! slice that is lost gives nothing, as an empty one does.
 
-ghost use Rattle.std.specs.Prelude.{◌≡◌, ℕ, ◌*◌, ◌%◌, ◌<◌, ◌≤◌, ◌++◌, length, map, IfOk};
+ghost use Rattle.std.specs.Prelude.{◌≡◌, ◌%◌, ◌<◌, ◌≤◌, ◌++◌, length, map, IfOk};
 ghost use Rattle.par2_spec.specs.Sums.{OneChanged, list_at, lists_of};
 ghost use Rattle.par2_recovery.specs.Answers.{AreOfSize, HaveAtLeast};
-ghost use Rattle.par2_recovery.specs.Syndromes.{all_coefficients, window, AreProducts, AreSolved, AreExtended};
+ghost use Rattle.par2_recovery.specs.Syndromes.{window, AreSolved, AreExtended};
 ghost use Rattle.par2_recovery.specs.Views.{texts_of, AreBlank};
 
 use crate::additions::with_recovery_slices;
@@ -71,8 +71,7 @@ fn solved_block(
     requires size { AreOfSize size recovery.now }
     requires even { size % 2 ≡ 0 }
     ensures { IfOk result (λ texts. AreSolved size (lists_of inverse.now)
-        (all_coefficients (length slices.now) exponents.now) (texts_of slices.now)
-        (texts_of recovery.now) (lists_of texts.items)) }
+        exponents.now (texts_of slices.now) (texts_of recovery.now) (lists_of texts.items)) }
 {
     let words = size / 2;
     let syndromes = with_recovery_slices(alloc, gf, slices, words, exponents, recovery, room)?;
@@ -130,8 +129,7 @@ pub(crate) fn solved(
     requires size { AreOfSize size recovery.now }
     requires even { size % 2 ≡ 0 }
     ensures { IfOk result (λ texts. AreSolved size (lists_of inverse.now)
-        (all_coefficients (length slices.now) exponents.now) (texts_of slices.now)
-        (texts_of recovery.now) (lists_of texts.items)) }
+        exponents.now (texts_of slices.now) (texts_of recovery.now) (lists_of texts.items)) }
 {
     let at_once = columns_at_once(slices, recovery.len(), size).max(LEAST);
     let room = rows_room(slices);

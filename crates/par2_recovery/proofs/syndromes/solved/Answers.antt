@@ -1,6 +1,6 @@
-use Rattle.par2_recovery.proofs.Common.{◌≡◌, ◌≤◌, ◌+◌, ◌∙◌, refl, sym, ap, subst, arith, rules, length, map, with_items_is, list_at, lists_of, length-lists_of, window, all_coefficients, AreSolved, AreExtended, texts_of}
+use Rattle.par2_recovery.proofs.Common.{◌≡◌, ◌≤◌, ◌+◌, ◌∙◌, refl, sym, ap, subst, arith, rules, length, map, with_items_is, list_at, lists_of, length-lists_of, window, AreSolved, AreExtended, texts_of}
 use Rattle.par2_recovery.proofs.Combinations.{length-texts_of}
-use Rattle.par2_recovery.proofs.Solving.{many_windows, none_solved, window_size, next_solved}
+use Rattle.par2_recovery.proofs.Solving.{many_windows, none_solved, window_size, more_solved}
 use Rattle.par2_recovery.proofs.syndromes.solved.Goals as goal
 
 pub solved_block-requires-clause-size : goal.solved_block-requires-clause-size
@@ -25,7 +25,7 @@ loop-from-preserved c =
     let from = c.loop-from.from in
     let n = c.min-count.result in
     let inverse = lists_of c.args.inverse.now in
-    let rows = all_coefficients (length c.args.slices.now) c.args.exponents.now in
+    let exponents = c.args.exponents.now in
     let slices = texts_of c.args.slices.now in
     let recovery = texts_of c.args.recovery.now in
     let old = lists_of c.loop-from.texts.items in
@@ -34,26 +34,23 @@ loop-from-preserved c =
     let size : length new ≡ c.loop-from.texts.len = search rules in
     let recovery_are : texts_of c.deref.result.now ≡ map (window from n) recovery = ap texts_of c.deref.ensures.value ∙ c.in_ok-recovery.ensures in
     let slices_are : texts_of c.deref-in-loop-from.result.now ≡ map (window from n) slices = ap texts_of c.deref-in-loop-from.ensures.value ∙ c.in_ok-slices.ensures in
-    let slices_count : length c.deref-in-loop-from.result.now ≡ length c.args.slices.now = many_windows from n c.args.slices.now c.deref-in-loop-from.result.now slices_are in
-    let same_rows = ap (λ n. all_coefficients n c.args.exponents.now) slices_count in
-    let block : AreSolved n inverse rows (texts_of c.deref-in-loop-from.result.now) (texts_of c.deref.result.now) blocks =
-    subst (λ xs. AreSolved n inverse xs (texts_of c.deref-in-loop-from.result.now) (texts_of c.deref.result.now) blocks) same_rows c.in_ok-lost.ensures in
+    let block : AreSolved n inverse exponents (map (window from n) slices) (map (window from n) recovery) blocks =
+    subst (λ xs. AreSolved n inverse exponents (map (window from n) slices) xs blocks) recovery_are (subst (λ xs. AreSolved n inverse exponents xs (texts_of c.deref.result.now) blocks) slices_are c.in_ok-lost.ensures) in
     let count : length c.deref-in-loop-from-2.result.now ≡ length blocks = ap length c.deref-in-loop-from-2.ensures.value ∙ sym (length-lists_of c.in_ok-lost.lost.items) in
     let extended : AreExtended old blocks (lists_of new) (length blocks) =
     subst (λ xs. AreExtended (lists_of xs) blocks (lists_of new) (length blocks)) c.as_mut_slice.ensures.value
     (subst (λ m. AreExtended (lists_of c.as_mut_slice.result.now) blocks (lists_of new) m) count
     (subst (λ xs. AreExtended (lists_of c.as_mut_slice.result.now) (lists_of xs) (lists_of new) (length c.deref-in-loop-from-2.result.now)) c.deref-in-loop-from-2.ensures.value c.in_ok-extend.ensures)) in
     record {
-      solved = subst (λ xs. AreSolved (from + n) inverse rows slices recovery (lists_of xs)) (sym (with_items_is c.loop-from.texts new size))
-          (next_solved from n from (from + n) inverse rows slices recovery old blocks (lists_of new) (texts_of c.deref-in-loop-from.result.now) (texts_of c.deref.result.now)
-          c.loop-from.invariant.even refl refl slices_are recovery_are c.loop-from.invariant.solved block extended);
+      solved = subst (λ xs. AreSolved (from + n) inverse exponents slices recovery (lists_of xs)) (sym (with_items_is c.loop-from.texts new size))
+          (more_solved from n exponents inverse slices recovery old blocks (lists_of new) c.loop-from.invariant.even c.loop-from.invariant.solved block extended);
       even = omega arith;
       within = omega arith;
     }
 
 pub loop-from-init : goal.loop-from-init
 loop-from-init c = record {
-  solved = none_solved (length c.args.inverse.now) (lists_of c.args.inverse.now) (all_coefficients (length c.args.slices.now) c.args.exponents.now) (texts_of c.args.slices.now) (texts_of c.args.recovery.now) (lists_of c.in_ok-texts.texts.items)
+  solved = none_solved (length c.args.inverse.now) c.args.exponents.now (lists_of c.args.inverse.now) (texts_of c.args.slices.now) (texts_of c.args.recovery.now) (lists_of c.in_ok-texts.texts.items)
       (sym (length-lists_of c.args.inverse.now)) c.in_ok-texts.ensures;
   even = refl;
   within = omega arith;
@@ -80,4 +77,4 @@ extend-requires c =
 pub returns : goal.returns
 returns c =
     let all : c.loop-from.from ≡ c.args.size = omega (arith, c.loop-from-test.false, c.loop-from.invariant.within) in
-    subst (λ n. AreSolved n (lists_of c.args.inverse.now) (all_coefficients (length c.args.slices.now) c.args.exponents.now) (texts_of c.args.slices.now) (texts_of c.args.recovery.now) (lists_of c.loop-from.texts.items)) all c.loop-from.invariant.solved
+    subst (λ n. AreSolved n (lists_of c.args.inverse.now) c.args.exponents.now (texts_of c.args.slices.now) (texts_of c.args.recovery.now) (lists_of c.loop-from.texts.items)) all c.loop-from.invariant.solved

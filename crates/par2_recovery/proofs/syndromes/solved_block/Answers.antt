@@ -1,5 +1,4 @@
-use Rattle.par2_recovery.proofs.Common.{◌≡◌, ◌/◌, ◌∙◌, sym, ap, subst, arith, length, IfOk-weaker, lists_of, all_coefficients, AreProducts, AreSolved, AreSyndromes, texts_of}
-use Rattle.par2_recovery.proofs.AdditionLaws.{syndromes_added}
+use Rattle.par2_recovery.proofs.Common.{◌≡◌, ◌<◌, ◌∙◌, ℕ, sym, ap, subst, arith, length, IfOk-weaker, lists_of, AreProducts, AreSolved, texts_of}
 use Rattle.par2_recovery.proofs.Combinations.{length-texts_of}
 use Rattle.par2_recovery.proofs.Solving.{words_solved}
 use Rattle.par2_recovery.proofs.syndromes.solved_block.Goals as goal
@@ -18,20 +17,13 @@ products_of-requires-clause-factors c = λ r h.
 
 pub returns : goal.returns
 returns c =
-    let size = c.args.size in
     let inverse = lists_of c.args.inverse.now in
     let slices = texts_of c.args.slices.now in
     let recovery = texts_of c.args.recovery.now in
-    let exponents = c.args.exponents.now in
-    let n = length c.args.slices.now in
-    let syndromes = lists_of c.in_ok-syndromes.syndromes.items in
-    let are : AreSyndromes (size / 2) (all_coefficients n exponents) slices recovery syndromes =
-    syndromes_added n (size / 2) exponents slices recovery syndromes (sym (length-texts_of c.args.slices.now)) (c.requires.exponents ∙ sym (length-texts_of c.args.recovery.now))
-    (λ j h. let fits = c.requires.size j (let m = length-texts_of c.args.recovery.now in omega (arith, m, h)) in omega (arith, fits, c.requires.even))
-    c.in_ok-syndromes.ensures in
+    let sizes = λ (j : ℕ) (h : j < length recovery). c.requires.size j (let m = length-texts_of c.args.recovery.now in omega (arith, m, h)) in
     let sources = ap texts_of c.deref-2.ensures.value ∙ c.in_ok-sources.ensures ∙ ap lists_of c.deref.ensures.value in
-    IfOk-weaker c.products_of.result (λ texts. AreProducts size inverse (texts_of c.deref-2.result.now) (lists_of texts.items))
-    (λ texts. AreSolved size inverse (all_coefficients n exponents) slices recovery (lists_of texts.items))
-    (λ texts sums. words_solved size inverse (all_coefficients n exponents) slices recovery syndromes (lists_of texts.items) c.requires.even are
-    (subst (λ xs. AreProducts size inverse xs (lists_of texts.items)) sources sums))
+    IfOk-weaker c.products_of.result (λ texts. AreProducts c.args.size inverse (texts_of c.deref-2.result.now) (lists_of texts.items))
+    (λ texts. AreSolved c.args.size inverse c.args.exponents.now slices recovery (lists_of texts.items))
+    (λ texts sums. words_solved c.args.size inverse slices recovery (lists_of c.in_ok-syndromes.syndromes.items) (lists_of texts.items) c.args.exponents.now sizes c.in_ok-syndromes.ensures
+    (subst (λ xs. AreProducts c.args.size inverse xs (lists_of texts.items)) sources sums))
     c.products_of.ensures
