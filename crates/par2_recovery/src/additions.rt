@@ -55,16 +55,11 @@ fn sum_columns(slices: usize, count: usize, room: usize) -> usize
 }
 
 /// The numbers from `first` on, `count` of them.
-#[tactic(auto, using(crate::proofs::Combinations::range_more))]
 pub(crate) fn numbers_from(alloc: Global, first: u32, count: u32) -> Result<Vec<u32>, AllocError>
     requires { first + count ≤ 2 ^ 32 }
     ensures { IfOk result (λ numbers. numbers.items ≡ range_with_len first count) }
 {
-    let mut numbers = Vec::with_capacity(alloc, count as usize)?;
-    for k in 0..count {
-        numbers.push(first + k)?;
-    }
-    Ok(numbers)
+    (0..count).map(|k| first + k).collect(alloc)
 }
 
 // For each exponent, what it multiplies the slices of these numbers by.
@@ -77,11 +72,7 @@ fn rows_over(
     requires { (i : ℕ) → slice_index numbers.now i < 32768 }
     ensures { IfOk result (λ it. lists_of it.items ≡ map (coefficients numbers.now) exponents.now) }
 {
-    let mut rows = Vec::with_capacity(alloc, exponents.len())?;
-    for i in 0..exponents.len() {
-        rows.push(coefficients(alloc, gf, numbers, exponents[i])?)?;
-    }
-    Ok(rows)
+    exponents.iter().map(|e| coefficients(alloc, gf, numbers, *e)).try_collect(alloc)
 }
 
 // To each output, adds the text at its place, in some columns.
@@ -281,11 +272,7 @@ pub(crate) fn add_recovery(
 fn copies(alloc: Global, texts: &[&[u8]]) -> Result<Vec<Vec<u8>>, AllocError>
     ensures { IfOk result (λ copies. lists_of copies.items ≡ texts_of texts.now) }
 {
-    let mut copies = Vec::with_capacity(alloc, texts.len())?;
-    for k in 0..texts.len() {
-        copies.push(Vec::from_slice(alloc, source_at(texts, k))?)?;
-    }
-    Ok(copies)
+    texts.iter().map(|text| Vec::from_slice(alloc, *text)).try_collect(alloc)
 }
 
 /// The texts, to each of which the recovery slice of the exponent at its place is added.

@@ -71,12 +71,7 @@ pub(crate) fn offer(
 fn rise(numbers: &[u32]) -> bool
     ensures { IsTrue result ↔ IsStrictlyIncreasing numbers.now }
 {
-    for i in 1..numbers.len() {
-        if numbers[i] <= numbers[i - 1] {
-            return false;
-        }
-    }
-    true
+    numbers.windows(2).all(|pair| pair[0] < pair[1])
 }
 
 // Whether any two of these exponents, which rise, differ by less than `count`: the last and the first do.

@@ -108,22 +108,14 @@ pub(crate) fn bytes_of<'a>(
     ensures { IfOk result (λ slices. texts_of slices.items
         ≡ map (λ r. r.1) (recovered_of kept.now)) }
 {
-    let mut slices = Vec::with_capacity(alloc, kept.len())?;
-    for j in 0..kept.len() {
-        slices.push(recovery_at(kept, j).1)?;
-    }
-    Ok(slices)
+    kept.iter().map(|slice| slice.1).collect(alloc)
 }
 
 /// The exponents of the recovery slices.
 pub(crate) fn exponents_of(alloc: Global, kept: &[(u32, &[u8])]) -> Result<Vec<u32>, AllocError>
     ensures { IfOk result (λ exponents. exponents.items ≡ exponents_of kept.now) }
 {
-    let mut exponents = Vec::with_capacity(alloc, kept.len())?;
-    for j in 0..kept.len() {
-        exponents.push(recovery_at(kept, j).0)?;
-    }
-    Ok(exponents)
+    kept.iter().map(|slice| slice.0).collect(alloc)
 }
 
 // The elements of a text.

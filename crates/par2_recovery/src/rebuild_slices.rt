@@ -68,12 +68,11 @@ fn lost_numbers(alloc: Global, known: &[Option<&[u8]>]) -> Result<Vec<u32>, Allo
     Ok(numbers)
 }
 
-// The bytes of slice i, none where it is lost.
-fn bytes_at<'a>(known: &[Option<&'a [u8]>], i: usize) -> &'a [u8]
-    requires { i < length known.now }
-    ensures { result.now ≡ bytes_or_none (slice_index_or known.now i None) }
+// The bytes of a slice, none where it is lost.
+fn bytes_of_slice<'a>(slice: Option<&'a [u8]>) -> &'a [u8]
+    ensures { result.now ≡ bytes_or_none slice.entry }
 {
-    match known[i] {
+    match slice {
         Some(bytes) => bytes,
         None => &[],
     }
@@ -86,11 +85,7 @@ fn slices_or_none<'a>(
 ) -> Result<Vec<&'a [u8]>, AllocError>
     ensures { IfOk result (λ slices. texts_of slices.items ≡ map bytes_or_none known.now) }
 {
-    let mut slices = Vec::with_capacity(alloc, known.len())?;
-    for i in 0..known.len() {
-        slices.push(bytes_at(known, i))?;
-    }
-    Ok(slices)
+    known.iter().map(|slice| bytes_of_slice(*slice)).collect(alloc)
 }
 
 /// The lost slices in order, with their padding. NotRepairable is answered where the recovery slices don't determine

@@ -88,11 +88,7 @@ fn value(gf: &Gf, p: &[u16], z: u16) -> u16
 fn scaled(alloc: Global, gf: &Gf, k: u16, p: &[u16]) -> Result<Vec<u16>, AllocError>
     ensures { IfOk result (λ multiple. multiple.items ≡ times k p.now) }
 {
-    let mut multiple = Vec::with_capacity(alloc, p.len())?;
-    for a in p {
-        multiple.push(gf.mul(k, *a))?;
-    }
-    Ok(multiple)
+    p.iter().map(|a| gf.mul(k, *a)).collect(alloc)
 }
 
 fn inverse_of(gf: &Gf, a: u16) -> u16

@@ -36,22 +36,14 @@ pub(crate) fn windows<'a>(
     ensures { IfOk result
         (λ windows. texts_of windows.items ≡ map (window from count) (texts_of texts.now)) }
 {
-    let mut windows = Vec::with_capacity(alloc, texts.len())?;
-    for k in 0..texts.len() {
-        windows.push(window_of(source_at(texts, k), from, count))?;
-    }
-    Ok(windows)
+    texts.iter().map(|text| window_of(*text, from, count)).collect(alloc)
 }
 
 // The same texts, by reference.
 fn borrowed(alloc: Global, texts: &[Vec<u8>]) -> Result<Vec<&[u8]>, AllocError>
     ensures { IfOk result (λ slices. texts_of slices.items ≡ lists_of texts.now) }
 {
-    let mut slices = Vec::with_capacity(alloc, texts.len())?;
-    for text in texts {
-        slices.push(text.as_slice())?;
-    }
-    Ok(slices)
+    texts.iter().map(|text| text.as_slice()).collect(alloc)
 }
 
 // The lost slices of these columns: the inverse times the syndromes.
@@ -83,11 +75,7 @@ fn solved_block(
 fn reserved(alloc: Global, count: usize, size: usize) -> Result<Vec<Vec<u8>>, AllocError>
     ensures { IfOk result (λ texts. AreBlank 0 count (lists_of texts.items)) }
 {
-    let mut texts = Vec::with_capacity(alloc, count)?;
-    for _i in 0..count {
-        texts.push(Vec::with_capacity(alloc, size)?)?;
-    }
-    Ok(texts)
+    (0..count).map(|_| Vec::with_capacity(alloc, size)).try_collect(alloc)
 }
 
 // Puts the block after text r.
