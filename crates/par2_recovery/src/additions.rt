@@ -72,7 +72,11 @@ fn rows_over(
     requires { (i : ℕ) → slice_index numbers.now i < 32768 }
     ensures { IfOk result (λ it. lists_of it.items ≡ map (coefficients numbers.now) exponents.now) }
 {
-    exponents.iter().map(|e| coefficients(alloc, gf, numbers, *e)).try_collect(alloc)
+    let mut rows = Vec::with_capacity(alloc, exponents.len())?;
+    for i in 0..exponents.len() {
+        rows.push(coefficients(alloc, gf, numbers, exponents[i])?)?;
+    }
+    Ok(rows)
 }
 
 // To each output, adds the text at its place, in some columns.
@@ -272,7 +276,11 @@ pub(crate) fn add_recovery(
 fn copies(alloc: Global, texts: &[&[u8]]) -> Result<Vec<Vec<u8>>, AllocError>
     ensures { IfOk result (λ copies. lists_of copies.items ≡ texts_of texts.now) }
 {
-    texts.iter().map(|text| Vec::from_slice(alloc, *text)).try_collect(alloc)
+    let mut copies = Vec::with_capacity(alloc, texts.len())?;
+    for k in 0..texts.len() {
+        copies.push(Vec::from_slice(alloc, source_at(texts, k))?)?;
+    }
+    Ok(copies)
 }
 
 /// The texts, to each of which the recovery slice of the exponent at its place is added.

@@ -27,7 +27,11 @@ use std::alloc::{AllocError, Global};
 pub(crate) fn blank(alloc: Global, count: usize, size: usize) -> Result<Vec<Vec<u8>>, AllocError>
     ensures { IfOk result (λ texts. AreBlank size count (lists_of texts.items)) }
 {
-    vec![in alloc; vec![in alloc; 0u8; size]?; count]
+    let mut texts = Vec::with_capacity(alloc, count)?;
+    for _i in 0..count {
+        texts.push(vec![in alloc; 0u8; size]?)?;
+    }
+    Ok(texts)
 }
 
 /// The recovery slices of `count` exponents from `first` on over slices of `size` bytes. Zeros follow a slice that is

@@ -75,7 +75,11 @@ fn solved_block(
 fn reserved(alloc: Global, count: usize, size: usize) -> Result<Vec<Vec<u8>>, AllocError>
     ensures { IfOk result (λ texts. AreBlank 0 count (lists_of texts.items)) }
 {
-    (0..count).map(|_| Vec::with_capacity(alloc, size)).try_collect(alloc)
+    let mut texts = Vec::with_capacity(alloc, count)?;
+    for _i in 0..count {
+        texts.push(Vec::with_capacity(alloc, size)?)?;
+    }
+    Ok(texts)
 }
 
 // Puts the block after text r.
