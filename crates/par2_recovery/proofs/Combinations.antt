@@ -50,12 +50,6 @@ recovered-lt lists e w bytes =
 
 -- ---- recovery slices
 
--- one text more
-pub texts_push : (xs : List (Bor (List ℕ))) (x : Bor (List ℕ)) {new : List (Bor (List ℕ))} {before : List (List ℕ)} {text : List ℕ} → new ≡ xs ++ x ∷ [] → texts_of xs ≡ before → x.now ≡ text
-    → texts_of new ≡ before ++ text ∷ []
-texts_push xs x pushed so_far is =
-    ap (λ (ts : List (Bor (List ℕ))). texts_of ts) pushed ∙ map_push (λ (t : Bor (List ℕ)). t.now) xs x ∙ ap₂ (λ (ts : List (List ℕ)) t. ts ++ t ∷ []) so_far is
-
 -- one list more
 pub lists_push : (xs : List (Vec ℕ Global)) (x : Vec ℕ Global) {new : List (Vec ℕ Global)} {before : List (List ℕ)} {list : List ℕ} → new ≡ xs ++ x ∷ [] → lists_of xs ≡ before → x.items ≡ list
     → lists_of new ≡ before ++ list ∷ []

@@ -72,9 +72,12 @@ pub are_inverse : (lost : List ℕ) (recs kept_ones : List (ℕ × List ℕ)) (s
 are_inverse lost recs kept_ones system texts rows found solution full are = record {
   square = length-map kept_ones (λ (r : ℕ × List ℕ). r.0) ∙ kept_count;
   count = are.count ∙ count;
-  vectors = λ i h. (row_size i h, all_from (λ y. y < 65536) 0 (list_at rows i) (λ k low.
-      let here : k < n = (let size = row_size i h in omega (arith, size, low)) in
-      subst (λ y. y < 65536) (read i k h here) (word-lt (list_at texts i) k (bytes_at texts solution.are_texts.bytes i))));
+  vectors = λ i h. (
+    row_size i h,
+    all_from (λ y. y < 65536) 0 (list_at rows i) (λ k low.
+        let here : k < n = (let size = row_size i h in omega (arith, size, low)) in
+        subst (λ y. y < 65536) (read i k h here) (word-lt (list_at texts i) k (bytes_at texts solution.are_texts.bytes i))),
+  );
   product = λ j k hj hk.
       let e : ℕ = (recovery_at kept_ones j).0 in
       let row : List ℕ = coefficients lost e in

@@ -10,7 +10,7 @@ ghost use Rattle.par2_transform.specs.Adding.{within, AddsAt, AddsToEach, HaveWo
 ghost use Rattle.par2_transform.specs.Columns.{recovered};
 ghost use Rattle.par2_recovery.specs.Answers.{AddsRecovery, HaveAll, HaveAtLeast, LieIn};
 ghost use Rattle.par2_recovery.specs.Products.{products};
-ghost use Rattle.par2_recovery.specs.Syndromes.{all_coefficients, AreRun};
+ghost use Rattle.par2_recovery.specs.Syndromes.{AreRun};
 ghost use Rattle.par2_recovery.specs.Views.{texts_of};
 
 use crate::exponents::coefficients;

@@ -85,7 +85,10 @@ fn slices_or_none<'a>(
 ) -> Result<Vec<&'a [u8]>, AllocError>
     ensures { IfOk result (λ slices. texts_of slices.items ≡ map bytes_or_none known.now) }
 {
-    known.iter().map(|slice| bytes_of_slice(*slice)).collect(alloc)
+    known
+        .iter()
+        .map(|slice| bytes_of_slice(*slice))
+        .collect(alloc)
 }
 
 /// The lost slices in order, with their padding. NotRepairable is answered where the recovery slices don't determine

@@ -16,7 +16,9 @@ const WIDEST: usize = 32;
 
 // How many bytes the slices have.
 fn total_len(slices: &[&[u8]]) -> usize {
-    slices.iter().fold(0usize, |total, slice| total.saturating_add(slice.len()))
+    slices
+        .iter()
+        .fold(0usize, |total, slice| total.saturating_add(slice.len()))
 }
 
 // A quarter of the room.

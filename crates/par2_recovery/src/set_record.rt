@@ -49,7 +49,10 @@ pub fn file_texts<'a>(
     ensures { IfOk result
         (λ it. texts_of it.items ≡ map (spec.bytes_of folder.now.files) names.now) }
 {
-    names.iter().map(|name| bytes_of(folder, name.as_str())).collect(alloc)
+    names
+        .iter()
+        .map(|name| bytes_of(folder, name.as_str()))
+        .collect(alloc)
 }
 
 /// What a set of slice size `s` says of the files of these names, in their order; the MD5 digests of the files are known.

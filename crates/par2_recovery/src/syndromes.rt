@@ -36,7 +36,10 @@ pub(crate) fn windows<'a>(
     ensures { IfOk result
         (λ windows. texts_of windows.items ≡ map (window from count) (texts_of texts.now)) }
 {
-    texts.iter().map(|text| window_of(*text, from, count)).collect(alloc)
+    texts
+        .iter()
+        .map(|text| window_of(*text, from, count))
+        .collect(alloc)
 }
 
 // The same texts, by reference.

@@ -1,4 +1,5 @@
-use Rattle.par2_recovery.proofs.Common.{◌<◌, length, MatchOption-at_some, all_from, BeginsWithRun, exponents_of}
+use Rattle.par2_recovery.proofs.Common.{◌<◌, ◌∙◌, subst, length, MatchOption-at_some, all_from, BeginsWithRun, exponents_of}
+use Rattle.std.specs.Prelude.{IfSome}
 use Rattle.par2_recovery.proofs.inverse.invert.Goals as goal
 
 pub invert_run-requires-clause-lost : goal.invert_run-requires-clause-lost
@@ -6,4 +7,5 @@ invert_run-requires-clause-lost c = record { rise = c.requires.rise; below = all
 
 pub invert_run-requires-clause-run : goal.invert_run-requires-clause-run
 invert_run-requires-clause-run c =
-    MatchOption-at_some _ (λ first. BeginsWithRun first (length c.args.lost.now) (exponents_of c.args.recovery.now)) c.in-Some.first c.in-Some.is c.run_at_front.ensures.run
+    MatchOption-at_some _ (λ first. BeginsWithRun first (length c.args.lost.now) (exponents_of c.args.recovery.now)) c.in-Some.first c.in-Some.is
+    (subst (λ es. IfSome c.run_at_front.result (λ first. BeginsWithRun first (length c.args.lost.now) es)) (c.deref.ensures.value ∙ c.in_ok-exponents.ensures) c.run_at_front.ensures.run)

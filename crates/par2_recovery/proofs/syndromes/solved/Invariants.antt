@@ -1,4 +1,4 @@
-use Rattle.par2_recovery.proofs.Common.{◌≡◌, ◌≤◌, ◌-◌, ◌%◌, length, lists_of, AreSolved, texts_of}
+use Rattle.par2_recovery.proofs.Common.{◌≡◌, ◌≤◌, ◌-◌, ◌%◌, lists_of, AreSolved, texts_of}
 use Rattle.par2_recovery.proofs.syndromes.solved.Given as goal
 
 abbrev pub invariant-loop-from : goal.invariant-loop-from
