@@ -1,6 +1,5 @@
 -- What is answered once the kept exponents are known.
-use Rattle.par2_recovery.proofs.Common.{ℕ, ◌+◌, ◌*◌, ◌<◌, ◌≤◌, ◌≡◌, sym, ap, ◌∙◌, subst, arith, List, [], Vec, Global, length, get_or, map, bit_xor, Bor, Option, AllByRecursion, get_or-map, length-map, xor_lt, word, Agrees, IsRepairable, kept_slices, lost, lists_of, list_at, field_sum, length-lists_of, word-lt, mul, all_from, all_get, all-filter, agreeing_are_one, recovery_at, IsInverse, AreBytes, CanRebuild, AreRebuilt, known_among, with_lost_slices, lost_from, recovered_of, exponents_of, recovered, bytes_or_none, syndrome, AreSolved, coefficients, recovery}
-use Rattle.par2_spec.specs.Recovery.{dot}
+use Rattle.par2_recovery.proofs.Common.{ℕ, ◌+◌, ◌*◌, ◌<◌, ◌≤◌, ◌≡◌, sym, ap, ◌∙◌, subst, arith, List, [], Vec, Global, length, get_or, map, bit_xor, Bor, Option, AllByRecursion, get_or-map, length-map, xor_lt, word, Agrees, IsRepairable, kept_slices, lost, lists_of, list_at, field_sum, length-lists_of, word-lt, mul, all_from, all_get, all-filter, agreeing_are_one, recovery_at, IsInverse, AreBytes, CanRebuild, AreRebuilt, known_among, with_lost_slices, lost_from, recovered_of, exponents_of, bytes_or_none, recovered, syndrome, AreSolved, coefficients, recovery, dot}
 use Rattle.par2_recovery.specs.declared.rebuild_slices.Survivors as code
 use Rattle.par2_recovery.proofs.Combinations.{recovered-lt}
 use Rattle.par2_recovery.proofs.Inverting.{gives_back, length-recovered_of, length-slices}

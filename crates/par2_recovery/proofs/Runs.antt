@@ -1,5 +1,6 @@
 -- Exponents that are close, and runs of them, by the places where they stand.
-use Rattle.par2_recovery.proofs.Common.{◌↔◌, IsTrue, false, eqb, ltb, ℕ, zero, suc, ◌+◌, ◌-◌, ◌<◌, ◌≤◌, ◌≡◌, sym, ap, ◌∙◌, subst, arith, inl, inr, List, length, get_or, take, drop, Contains, IsStrictlyIncreasing, cases_lt, eqb-false, ltb-true, lt-ltb, false≢true, get_or-take, get_or-drop, get_or_default, length-take-le, Contains-get_or, AreClose, HasRun, range_with_len, get_or-range_with_len, length-range_with_len}
+use Rattle.par2_recovery.proofs.Common.{◌↔◌, IsTrue, false, eqb, ltb, ℕ, zero, suc, ◌+◌, ◌-◌, ◌<◌, ◌≤◌, ◌≡◌, sym, ap, ◌∙◌, subst, arith, inl, inr, List, length, get_or, drop, Contains, range_with_len, IsStrictlyIncreasing, cases_lt, eqb-false, ltb-true, lt-ltb, false≢true, get_or-take, get_or-drop, get_or_default, length-take-le, Contains-get_or, AreClose, HasRun, get_or-range_with_len, length-range_with_len}
+use Rattle.std.proofs.Common.{take}
 use Rattle.std.proofs.Common.{length-drop}
 
 -- numbers that rise do so by one at least

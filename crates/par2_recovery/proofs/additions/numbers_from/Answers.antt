@@ -1,5 +1,4 @@
-use Rattle.par2_recovery.proofs.Common.{ℕ, zero, suc, ◌+◌, ◌-◌, ◌≡◌, ◌∙◌, refl, rules, ap, arith, map, ◌∷◌, range_with_len}
-use Rattle.std.proofs.lemmas.Iterator.{items_from_collect, YieldsList-from_map, YieldsList-from_range}
+use Rattle.par2_recovery.proofs.Common.{ℕ, zero, suc, ◌+◌, ◌-◌, ◌≡◌, ◌∙◌, refl, rules, ap, arith, map, ◌∷◌, range_with_len, items_from_collect, YieldsList-from_map, YieldsList-from_range}
 use Rattle.par2_recovery.proofs.additions.numbers_from.Goals as goal
 
 moved : (a b n : ℕ) → map (λ k. a + k) (range_with_len b n) ≡ range_with_len (a + b) n

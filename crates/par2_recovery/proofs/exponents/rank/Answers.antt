@@ -1,5 +1,4 @@
-use Rattle.par2_recovery.proofs.Common.{◌≡◌, ◌≤◌, ◌↔◌, sym, subst, length, IfOk-weaker, MatchOption-at_some, IsRepairable}
-use Rattle.par2_spec.specs.Rank.{rank}
+use Rattle.par2_recovery.proofs.Common.{◌≡◌, ◌≤◌, ◌↔◌, sym, subst, length, IfOk-weaker, MatchOption-at_some, IsRepairable, rank}
 use Rattle.par2_spec.proofs.FullRank.{rank-le, full-iff}
 use Rattle.par2_recovery.proofs.exponents.rank.Goals as goal
 

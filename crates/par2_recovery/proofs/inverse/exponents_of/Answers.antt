@@ -1,5 +1,4 @@
-use Rattle.par2_recovery.proofs.Common.{rules, ℕ, List, Bor, map-map}
-use Rattle.std.proofs.lemmas.Iterator.{items_from_collect, YieldsList-from_map, YieldsList-from_slice}
+use Rattle.par2_recovery.proofs.Common.{rules, ℕ, List, Bor, map-map, items_from_collect, YieldsList-from_map, YieldsList-from_slice}
 use Rattle.par2_recovery.proofs.inverse.exponents_of.Goals as goal
 
 pub returns : goal.returns

@@ -1,5 +1,4 @@
-use Rattle.par2_recovery.proofs.Common.{◌<◌, ◌∙◌, subst, length, MatchOption-at_some, all_from, BeginsWithRun, exponents_of}
-use Rattle.std.specs.Prelude.{IfSome}
+use Rattle.par2_recovery.proofs.Common.{◌<◌, ◌∙◌, subst, length, MatchOption-at_some, all_from, BeginsWithRun, exponents_of, IfSome}
 use Rattle.par2_recovery.proofs.inverse.invert.Goals as goal
 
 pub invert_run-requires-clause-lost : goal.invert_run-requires-clause-lost

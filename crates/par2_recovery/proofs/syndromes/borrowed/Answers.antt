@@ -1,6 +1,4 @@
-use Rattle.par2_recovery.proofs.Common.{rules, ℕ, List, Vec, Global, Bor}
-use Rattle.std.proofs.lemmas.Iterator.{YieldsList-from_map_by, YieldsList-from_slice}
-use Rattle.std.proofs.lemmas.Iterator.Consumers.{map_from_collect}
+use Rattle.par2_recovery.proofs.Common.{rules, ℕ, List, Vec, Global, Bor, YieldsList-from_map_by, YieldsList-from_slice, map_from_collect}
 use Rattle.par2_recovery.proofs.syndromes.borrowed.Goals as goal
 
 pub returns : goal.returns
