@@ -38,14 +38,10 @@ fn constants(alloc: Global, gf: &Gf, numbers: &[u32]) -> Result<Vec<u16>, AllocE
 fn times_root(alloc: Global, gf: &Gf, c: u16, p: &[u16]) -> Result<Vec<u16>, AllocError>
     ensures { IfOk result (λ product. product.items ≡ times_root c p.now) }
 {
-    let mut product = Vec::with_capacity(alloc, p.len() + 1)?;
-    let mut before = 0;
-    for a in p {
-        product.push(gf.mul(c, *a) ^ before)?;
-        before = *a;
-    }
-    product.push(before)?;
-    Ok(product)
+    let zero = [0u16];
+    let before = zero.iter().chain(p);
+    let pairs = p.iter().chain(&zero).zip(before);
+    pairs.map(|(a, b)| gf.mul(c, *a) ^ *b).collect(alloc)
 }
 
 // The polynomial of these roots.
