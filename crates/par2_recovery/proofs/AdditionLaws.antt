@@ -46,15 +46,19 @@ run_exponents first len exponents slices old new places many run added =
 abbrev pub sum_word : (from to : ℕ) (sums : List (List ℕ)) (t p : ℕ) → ℕ
 sum_word from to sums t p = within from to p (word (p - from) (list_at sums t))
 
--- the first n sums were added
-abbrev pub SumsAdded : List Place → (len from to n : ℕ) (sums was texts : List (List ℕ)) → Type 0
-SumsAdded places len from to n sums was texts = AddsAt places len (λ t p. within 0 n t (sum_word from to sums t p)) was texts
+-- to the first n outputs, others were added
+abbrev pub FirstAdded : List Place → (len n : ℕ) (other : ℕ → ℕ → ℕ) (was texts : List (List ℕ)) → Type 0
+FirstAdded places len n other was texts = AddsAt places len (λ t p. within 0 n t (other t p)) was texts
 
-pub no_sum : (places : List Place) (len from to : ℕ) (sums texts : List (List ℕ)) → SumsAdded places len from to 0 sums texts texts
-no_sum places len from to sums texts = adds_none places len (λ t p. within 0 0 t (sum_word from to sums t p)) texts (λ t p. within-above 0 0 t (sum_word from to sums t p) (omega arith))
+pub none_added : (places : List Place) (len : ℕ) (other : ℕ → ℕ → ℕ) (texts : List (List ℕ)) → FirstAdded places len 0 other texts texts
+none_added places len other texts = adds_none places len (λ t p. within 0 0 t (other t p)) texts (λ t p. within-above 0 0 t (other t p) (omega arith))
 
-pub next_sum : (places : List Place) (len from to n : ℕ) (row : List ℕ) (sums was half texts : List (List ℕ)) → row ≡ list_at sums n → AreBytes sums → SumsAdded places len from to n sums was half
-    → AddsAt places len (λ t p. within n (n + 1) t (within from to p (mul 1 (word (p - from) row)))) half texts → SumsAdded places len from to (n + 1) sums was texts
+pub all_added : (places : List Place) (len n : ℕ) (other : ℕ → ℕ → ℕ) (was texts : List (List ℕ)) → length places ≤ n → FirstAdded places len n other was texts → AddsAt places len other was texts
+all_added places len n other was texts enough added =
+    adds_same places len (λ t p. within 0 n t (other t p)) other was texts added (λ t p low _. within-in 0 n t (other t p) (omega arith) (omega (arith, low, enough)))
+
+pub next_sum : (places : List Place) (len from to n : ℕ) (row : List ℕ) (sums was half texts : List (List ℕ)) → row ≡ list_at sums n → AreBytes sums → FirstAdded places len n (sum_word from to sums) was half
+    → AddsAt places len (λ t p. within n (n + 1) t (within from to p (mul 1 (word (p - from) row)))) half texts → FirstAdded places len (n + 1) (sum_word from to sums) was texts
 next_sum places len from to n row sums was half texts is bytes so_far added =
     adds_more places len (λ t p. within 0 n t (sum_word from to sums t p)) (λ t p. within n (n + 1) t (within from to p (mul 1 (word (p - from) row)))) (λ t p. within 0 (n + 1) t (sum_word from to sums t p)) was half texts so_far added
     (λ t p _ _.
@@ -67,12 +71,6 @@ next_sum places len from to n row sums was half texts is bytes so_far added =
     once q =
         let small : word q (list_at sums n) < 65536 = word-lt (list_at sums n) q (bytes n) in
         ap (λ xs. mul 1 (word q xs)) is ∙ product_comm 1 (word q (list_at sums n)) (omega arith) small ∙ product-one (word q (list_at sums n)) small
-
-pub all_sums : (places : List Place) (len from to n : ℕ) (sums was texts : List (List ℕ)) → n ≡ length places → SumsAdded places len from to n sums was texts
-    → AddsAt places len (sum_word from to sums) was texts
-all_sums places len from to n sums was texts is added =
-    adds_same places len (λ t p. within 0 n t (sum_word from to sums t p)) (sum_word from to sums) was texts added
-    (λ t p low _. within-in 0 n t (sum_word from to sums t p) (omega arith) (omega (arith, low, is)))
 
 -- the sums are those of products of windows, which are parts of slices
 pub sums_are : (places : List Place) (len from to n : ℕ) (rows slices windows sums was texts : List (List ℕ)) → from ≤ to → windows ≡ map (window (2 * from) (2 * (to - from))) slices → n ≡ length slices
@@ -120,19 +118,11 @@ all_columns_added places len n other was texts enough added =
 abbrev pub group : {A : Type 0} → ℕ → ℕ → List A → List A
 group at to xs = take (to - at) (drop at xs)
 
--- the first n outputs got their recovery slices
-abbrev pub FirstAdded : List Place → (len n : ℕ) (exponents : List ℕ) (slices was texts : List (List ℕ)) → Type 0
-FirstAdded places len n exponents slices was texts = AddsAt places len (λ t p. within 0 n t (recovered slices (get_or exponents t 0) p)) was texts
-
-pub no_output_yet : (places : List Place) (len : ℕ) (exponents : List ℕ) (slices texts : List (List ℕ)) → FirstAdded places len 0 exponents slices texts texts
-no_output_yet places len exponents slices texts =
-    adds_none places len (λ t p. within 0 0 t (recovered slices (get_or exponents t 0) p)) texts (λ t p. within-above 0 0 t (recovered slices (get_or exponents t 0) p) (omega arith))
-
 -- a group more
 pub adds_group : (places part : List Place) (len words at to : ℕ) (exponents : List ℕ) (slices was half texts : List (List ℕ)) → at ≤ to → to ≤ length places → AreApart len places → part ≡ group at to places → words ≡ len
-    → FirstAdded places len at exponents slices was half
+    → FirstAdded places len at (λ t p. recovered slices (get_or exponents t 0) p) was half
     → AddsAt part words (λ t p. recovered slices (get_or (group at to exponents) t 0) p) half texts
-    → FirstAdded places len to exponents slices was texts
+    → FirstAdded places len to (λ t p. recovered slices (get_or exponents t 0) p) was texts
 adds_group places part len words at to exponents slices was half texts order fits apart part_is words_is so_far added =
     let other = λ (t p : ℕ). recovered slices (get_or exponents t 0) p in
     let given = λ (t p : ℕ). recovered slices (get_or (group at to exponents) t 0) p in
@@ -143,13 +133,6 @@ adds_group places part len words at to exponents slices was half texts order fit
     (λ t p low _. ap (λ e. recovered slices e p) (get_or-take (to - at) (drop at exponents) t 0 (let n = length-group at to places order fits in omega (arith, n, low)) ∙ get_or-drop at exponents t 0)) in
     adds_more places len (λ t p. within 0 at t (other t p)) (λ t p. within at to t (other t p)) (λ t p. within 0 to t (other t p)) was half texts so_far (adds_to_group at to len other places half texts order fits apart moved)
     (λ t p _ _. within_joined 0 at to t (other t p) (omega arith) order)
-
--- all of them
-pub adds_all : (places : List Place) (len n : ℕ) (exponents : List ℕ) (slices was texts : List (List ℕ)) → length places ≤ n → FirstAdded places len n exponents slices was texts
-    → AddsAt places len (λ t p. recovered slices (get_or exponents t 0) p) was texts
-adds_all places len n exponents slices was texts enough added =
-    adds_same places len (λ t p. within 0 n t (recovered slices (get_or exponents t 0) p)) (λ t p. recovered slices (get_or exponents t 0) p) was texts added
-    (λ t p low _. within-in 0 n t (recovered slices (get_or exponents t 0) p) (omega arith) (omega (arith, low, enough)))
 
 -- ---- outputs that were zeros
 

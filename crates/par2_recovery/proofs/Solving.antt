@@ -19,12 +19,12 @@ word-window from n p t q e low =
 pub many_windows : (from n : ℕ) (texts windows : List (Bor (List ℕ))) → texts_of windows ≡ map (window from n) (texts_of texts) → length windows ≡ length texts
 many_windows from n texts windows are = sym (length-texts_of windows) ∙ ap length are ∙ length-map (texts_of texts) (window from n) ∙ length-texts_of texts
 
-pub window_size : (from n size : ℕ) (texts windows : List (List ℕ)) → windows ≡ map (window from n) texts → ((j : ℕ) → j < length texts → length (list_at texts j) ≡ size) → from + n ≤ size
+pub window_size : (from n : ℕ) (texts windows : List (List ℕ)) → windows ≡ map (window from n) texts → ((j : ℕ) → j < length texts → from + n ≤ length (list_at texts j))
     → (j : ℕ) → j < length windows → length (list_at windows j) ≡ n
-window_size from n size texts windows are sizes fits j low =
+window_size from n texts windows are sizes j low =
     let here : j < length texts = (let many = ap length are ∙ length-map texts (window from n) in omega (arith, low, many)) in
     let t : List ℕ = list_at texts j in
-    let rest : n ≤ length (drop from t) = (let e = length-drop from t in let whole = sizes j here in omega (arith, e, whole, fits)) in
+    let rest : n ≤ length (drop from t) = (let e = length-drop from t in let whole = sizes j here in omega (arith, e, whole)) in
     ap (λ ws. length (list_at ws j)) are ∙ ap length (window_at from n texts j here) ∙ length-take-le n (drop from t) rest
 
 -- a syndrome of windows is one of the whole texts
