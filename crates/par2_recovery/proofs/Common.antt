@@ -3,8 +3,8 @@
 pub use Rattle.std.proofs.Common.{Bool, Global, IsTrue, List, T, Vec, [], ap, append-nil, append_assoc, ap₂, arith, bit_xor, cond, drop, eqb, eqb→eq, false, get_or, inl, inr, length, length-append, ltb, map, min, not, refl, replicate, rules, set, string_bytes, subst, suc, sym, true, zero, zero-add, ℕ, ◌%◌, ◌&&◌, ◌*◌, ◌++◌, ◌+◌, ◌-◌, ◌/◌, ◌<◌, ◌^◌, ◌||◌, ◌↔◌, ◌∙◌, ◌∷◌, ◌≡◌, ◌≢◌, ◌≤◌}
 pub use Rattle.std.proofs.Math.Facts.{Fits-lt-pow, and_yes, yes_and}
 pub use Rattle.std.proofs.lemmas.Bool.{cases_eq, cases_lt, eq-eqb, eqb-false, eqb-true, false_from_ne_true, false≢true, le-ltb, lt-ltb, ltb-true, ne_eqb}
-pub use Rattle.std.proofs.lemmas.Iterator.{YieldsList-from_map, YieldsList-from_map_by, YieldsList-from_range, YieldsList-from_slice, items_from_collect}
-pub use Rattle.std.proofs.lemmas.Iterator.Consumers.{map_from_collect}
+pub use Rattle.std.proofs.lemmas.Iterator.{YieldsList-from_map, YieldsList-from_map_by, YieldsList-from_range, YieldsList-from_slice, YieldsList-from_zip, items_from_collect}
+pub use Rattle.std.proofs.lemmas.Iterator.Consumers.{YieldsList-at, YieldsList-from_chain, map_from_collect}
 pub use Rattle.std.proofs.lemmas.List.{drop_more, ext_get_or, get_or-append_right, get_or-drop, get_or-map, get_or-replicate, get_or-set_other, get_or-set_same, get_or-take, get_or_append_left, get_or_at, get_or_default, get_or_past, get_or_push, length-drop, length-map, length-replicate, length-set, length-take, length-take-le, length_push, map-append, map_more, map_push, take-map, take_all, take_more, with_items_is}
 pub use Rattle.std.proofs.lemmas.List.Elements.{Contains-get_or, filter_more}
 pub use Rattle.std.proofs.lemmas.List.FromFn.{get_or-map-range_with_len, get_or-range_with_len, length-map-range_with_len, length-range_with_len, map-range_with_len_more}
@@ -16,7 +16,7 @@ pub use Rattle.std.proofs.lemmas.Simd.{map-map}
 pub use Rattle.std.specs.Borrow.{Bor}
 pub use Rattle.std.specs.Int.{div_ceil, from_le_bytes, w128}
 pub use Rattle.std.specs.Int.Bits.{xor_assoc, xor_zero_l, xor_zero_r}
-pub use Rattle.std.specs.List.{AllByRecursion, AllZip, Contains, IsDistinct, enumerate_from, list_all, list_any, range_with_len, slice_get}
+pub use Rattle.std.specs.List.{AllByRecursion, AllZip, Contains, IsDistinct, enumerate_from, list_all, list_any, range_with_len, slice_get, zip}
 pub use Rattle.std.specs.List.Sorted.{IsStrictlyIncreasing}
 pub use Rattle.std.specs.Prelude.{IfErr, IfSome, IsPermutation, None, Ok, Option, Result, Some, filter, is_none, slice_index, take, unwrap_or}
 pub use Rattle.md5.specs.Md5.{md5}
@@ -37,7 +37,7 @@ pub use Rattle.par2_spec.proofs.FieldOrder.{no_zero_divisor, power-lt, product-z
 pub use Rattle.par2_spec.proofs.FieldProducts.{product-lt, product-one, product_assoc, product_comm, product_linear_left, product_linear_right}
 pub use Rattle.par2_spec.proofs.FoundLaws.{all-filter, slice_begins}
 pub use Rattle.par2_spec.proofs.ListsLaws.{all-append, all-each, all-map, all-parts, all_at, all_from, all_get, all_unmap, filter-map, range-append, some_list}
-pub use Rattle.par2_spec.proofs.PolynomialLaws.{length-quotient, length-times_root, length-with_roots, quotient_elements, quotient_itself, quotient_others, times_elements, value-lt, value_times, with_roots_elements}
+pub use Rattle.par2_spec.proofs.PolynomialLaws.{length-quotient, length-with_roots, quotient_elements, quotient_itself, quotient_others, times_elements, value-lt, value_times, with_roots_elements}
 pub use Rattle.par2_spec.proofs.RunLaws.{close_kept, first_kept, run_determines, run_rank}
 pub use Rattle.par2_spec.proofs.SumLaws.{dot_sum, field_sum-lt, field_sum_head, field_sum_none, field_sum_one, field_sum_same, field_sum_scaled, field_sum_xor, product_at, xor_off}
 pub use Rattle.par2_spec.proofs.UniqueLaws.{agreeing_are_one, coefficients_are, dot-lt, words_are}

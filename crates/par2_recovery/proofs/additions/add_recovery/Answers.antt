@@ -1,4 +1,4 @@
-use Rattle.par2_recovery.proofs.Common.{◌≤◌, ◌-◌, ◌∙◌, ℕ, List, get_or, recovered, sym, ap, subst, arith, length, drop, length-take-le, length-drop, lists_of, LieWithin, Place, still_within, group_within, length-group, texts_of}
+use Rattle.par2_recovery.proofs.Common.{◌≤◌, ◌-◌, ◌∙◌, ℕ, List, get_or, sym, ap, subst, arith, length, drop, recovered, length-take-le, length-drop, lists_of, LieWithin, Place, still_within, group_within, length-group, texts_of}
 use Rattle.par2_recovery.proofs.AdditionLaws.{group, none_added, adds_group, all_added}
 use Rattle.par2_recovery.proofs.additions.add_recovery.Goals as goal
 

@@ -1,4 +1,4 @@
-use Rattle.par2_recovery.proofs.Common.{◌≡◌, ◌∙◌, ◌∷◌, ℕ, List, [], arith, sym, subst, get_or, false≢true, Option, BeginsWithRun, IfSome, slice_get}
+use Rattle.par2_recovery.proofs.Common.{◌≡◌, ◌∙◌, ◌∷◌, ℕ, List, [], arith, sym, subst, get_or, false≢true, Option, IfSome, BeginsWithRun, slice_get}
 use Rattle.par2_recovery.proofs.Beginnings.{begins, close_front, front_within}
 use Rattle.par2_recovery.proofs.inverse.run_at_front.Goals as goal
 

@@ -1,6 +1,4 @@
-use Rattle.par2_recovery.proofs.Common.{rules, ◌∷◌, [], ℕ, bit_xor, mul}
-use Rattle.std.proofs.lemmas.Iterator.{items_from_collect, YieldsList-from_map, YieldsList-from_slice, YieldsList-from_zip}
-use Rattle.std.proofs.lemmas.Iterator.Consumers.{YieldsList-at, YieldsList-from_chain}
+use Rattle.par2_recovery.proofs.Common.{rules, ◌∷◌, [], ℕ, bit_xor, mul, items_from_collect, YieldsList-from_map, YieldsList-from_slice, YieldsList-from_zip, YieldsList-at, YieldsList-from_chain}
 use Rattle.par2_recovery.proofs.Quotients.{root_by_pairs}
 use Rattle.par2_recovery.proofs.run_inverse.times_root.Goals as goal
 
