@@ -10,7 +10,6 @@ pub use Rattle.std.proofs.lemmas.List.Elements.{Contains-get_or, filter_more}
 pub use Rattle.std.proofs.lemmas.List.FromFn.{get_or-map-range_with_len, get_or-range_with_len, length-map-range_with_len, length-range_with_len, map-range_with_len_more}
 pub use Rattle.std.proofs.lemmas.List.Kept.{AllPairs-from_increasing}
 pub use Rattle.std.proofs.lemmas.Nat.{xor_comm, xor_lt}
-pub use Rattle.std.proofs.lemmas.Option.{MatchOption-at_some}
 pub use Rattle.std.proofs.lemmas.Result.{IfOk-weaker}
 pub use Rattle.std.proofs.lemmas.Simd.{map-map}
 pub use Rattle.std.specs.Borrow.{Bor}

@@ -1,4 +1,5 @@
-use Rattle.par2_recovery.proofs.Common.{◌≡◌, ◌≤◌, ◌↔◌, sym, subst, length, IfOk-weaker, MatchOption-at_some, IsRepairable, rank}
+use Rattle.par2_recovery.proofs.Common.{◌≡◌, ◌≤◌, ◌↔◌, sym, subst, length, IfOk-weaker, IsRepairable, rank}
+use Rattle.std.proofs.lemmas.Option.{MatchOption-at_some}
 use Rattle.par2_spec.proofs.FullRank.{rank-le, full-iff}
 use Rattle.par2_recovery.proofs.exponents.rank.Goals as goal
 

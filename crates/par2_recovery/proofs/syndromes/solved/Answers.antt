@@ -2,9 +2,6 @@ use Rattle.par2_recovery.proofs.Common.{◌≡◌, ◌+◌, ◌∙◌, refl, sym
 use Rattle.par2_recovery.proofs.Solving.{none_solved, more_solved}
 use Rattle.par2_recovery.proofs.syndromes.solved.Goals as goal
 
-pub solved_block-requires-clause-size : goal.solved_block-requires-clause-size
-solved_block-requires-clause-size c = λ j h. let whole = c.requires.size j h in omega (arith, whole)
-
 pub loop-from-preserved : goal.loop-from-preserved
 loop-from-preserved c =
     let from = c.loop-from.from in
@@ -36,14 +33,6 @@ loop-from-init c = record {
   even = refl;
   within = omega arith;
 }
-
-pub overflow_sub-size : goal.overflow_sub-size
-overflow_sub-size c = c.loop-from.invariant.within
-
-pub extend-requires : goal.extend-requires
-extend-requires c =
-    sym (length-lists_of c.deref.result.now) ∙ ap (λ xs. length (lists_of xs)) c.deref.ensures.value ∙ c.in_ok-lost.ensures.count
-    ∙ sym c.loop-from.invariant.solved.count ∙ length-lists_of c.loop-from.texts.items ∙ sym (ap (λ xs. length xs) c.as_mut_slice.ensures.value)
 
 pub returns : goal.returns
 returns c =
