@@ -1,113 +1,14 @@
--- Recovery slices, added to texts, and the syndromes over all slices, of which a lost one has no bytes.
-use Rattle.par2_recovery.proofs.Common.{inl, inr, ℕ, zero, suc, ◌+◌, ◌-◌, ◌*◌, ◌<◌, ◌≤◌, ◌≡◌, refl, sym, ap, ap₂, ◌∙◌, subst, arith, List, [], ◌∷◌, length, take, drop, get_or, map, min, bit_xor, zero-add, Option, Some, None, Bor, div_ceil, range_with_len, xor_zero_l, cases_lt, length-map, get_or-map, get_or-take, get_or-drop, get_or_past, length-take-le, length-drop, get_or-map-range_with_len, length-range_with_len, mul, coefficient, padded, word, coefficients, recovery, list_at, product-zero, slice_begins, product_comm, product-one, word-lt, field_sum_same, dot_sum, product_at, within, place_at, AddsAt, AddsToEach, AreApart, HaveWords, LieWithin, recovered, Place, adds_none, adds_more, adds_same, within-in, within-above, within_joined, within_same, length-group, adds_to_group, recovery_at, AreBytes, products, known_from, known_alone, bytes_or_none, sum_at, all_coefficients, syndrome, window, AreProducts, AreSyndromes, AreSolved, texts_of}
-use Rattle.par2_spec.specs.Recovery.{dot}
+-- Recovery slices, added to texts.
+use Rattle.par2_recovery.proofs.Common.{inl, inr, ℕ, ◌+◌, ◌-◌, ◌*◌, ◌<◌, ◌≤◌, ◌≡◌, refl, sym, ap, ap₂, ◌∙◌, subst, arith, List, [], length, drop, get_or, map, min, bit_xor, zero-add, div_ceil, range_with_len, xor_zero_l, cases_lt, length-map, get_or-map, get_or-take, get_or-drop, get_or_past, length-take-le, length-drop, get_or-map-range_with_len, mul, coefficient, padded, word, coefficients, recovery, list_at, slice_begins, product_comm, product-one, word-lt, field_sum_same, within, place_at, AddsAt, AddsToEach, AreApart, LieWithin, recovered, Place, adds_none, adds_more, adds_same, within-in, within-above, within_joined, within_same, length-group, adds_to_group, AreBytes, products, all_coefficients, window, AreProducts}
+use Rattle.std.proofs.Common.{take}
 use Rattle.par2_recovery.specs.Writing.{output_at, AreWritten, AreZeros}
 use Rattle.par2_recovery.proofs.Combinations.{blank_word, recovered_by_words}
-use Rattle.par2_recovery.proofs.Inverting.{length-slices}
-use Rattle.par2_recovery.proofs.Rebuilding.{length-present}
 use Rattle.par2_recovery.proofs.Solving.{word-window}
-
--- ---- what a slice gives that has no bytes
-
--- the products of all slices are those of the known ones
-known_dot : (e w a : ℕ) (known : List (Option (Bor (List ℕ))))
-    → dot (coefficients (range_with_len a (length known)) e) (map (word w) (map bytes_or_none known)) ≡ dot (coefficients (known_from a known) e) (map (word w) (texts_of (known_alone known)))
-unfolding dot
-known_dot e w a [] = refl
-known_dot e w a (None ∷ known) =
-    let rest = dot (coefficients (range_with_len (a + 1) (length known)) e) (map (word w) (map bytes_or_none known)) in
-    ap (λ x. bit_xor x rest) (product-zero (coefficient e a)) ∙ xor_zero_l rest ∙ known_dot e w (a + 1) known
-known_dot e w a (Some slice ∷ known) = ap (bit_xor (mul (coefficient e a) (word w slice.now))) (known_dot e w (a + 1) known)
-
--- the sum of products at a word, by places
-sum_is_dot : (row : List ℕ) (texts : List (List ℕ)) (w : ℕ) → length row ≤ length texts → dot row (map (word w) texts) ≡ sum_at row texts w
-sum_is_dot row texts w h =
-    dot_sum (length texts) row (map (word w) texts) h
-    ∙ field_sum_same (length texts) (product_at row (map (word w) texts)) (λ k. mul (get_or row k 0) (word w (list_at texts k)))
-    (λ k low. ap (mul (get_or row k 0)) (get_or-map (word w) texts k [] 0 low))
-
-known_sum : (e w : ℕ) (known : List (Option (Bor (List ℕ))))
-    → sum_at (coefficients (range_with_len 0 (length known)) e) (map bytes_or_none known) w ≡ sum_at (coefficients (known_from 0 known) e) (texts_of (known_alone known)) w
-known_sum e w known =
-    let all = map bytes_or_none known in
-    let some = texts_of (known_alone known) in
-    let row = coefficients (range_with_len 0 (length known)) e in
-    let many : length row ≡ length all = length-map (range_with_len 0 (length known)) (coefficient e) ∙ length-range_with_len 0 (length known) ∙ sym (length-map known bytes_or_none) in
-    let few : length (coefficients (known_from 0 known) e) ≡ length some =
-    length-map (known_from 0 known) (coefficient e) ∙ sym (length-present 0 known) ∙ sym (length-map (known_alone known) (λ (slice : Bor (List ℕ)). slice.now)) in
-    sym (sum_is_dot row all w (omega (arith, many))) ∙ known_dot e w 0 known ∙ sum_is_dot (coefficients (known_from 0 known) e) some w (omega (arith, few))
-
--- ---- from syndromes to syndromes
-
-row_at : (n : ℕ) (exponents : List ℕ) (j : ℕ) → j < length exponents → list_at (all_coefficients n exponents) j ≡ coefficients (range_with_len 0 n) (get_or exponents j 0)
-row_at n exponents j low = get_or-map (coefficients (range_with_len 0 n)) exponents j 0 [] low
-
-known_syndrome : (w j : ℕ) (exponents : List ℕ) (known : List (Option (Bor (List ℕ)))) (recovery : List (ℕ × List ℕ)) → exponents ≡ map (λ r. r.0) recovery → j < length recovery
-    → syndrome (all_coefficients (length known) exponents) (map bytes_or_none known) (map (λ r. r.1) recovery) w j
-    ≡ syndrome (map (λ r. coefficients (known_from 0 known) r.0) recovery) (texts_of (known_alone known)) (map (λ r. r.1) recovery) w j
-known_syndrome w j exponents known recovery are low =
-    let all = map bytes_or_none known in
-    let some = texts_of (known_alone known) in
-    let e : ℕ = (recovery_at recovery j).0 in
-    let count : length exponents ≡ length recovery = ap length are ∙ length-map recovery (λ (r : ℕ × List ℕ). r.0) in
-    let exponent : get_or exponents j 0 ≡ e = ap (λ es. get_or es j 0) are ∙ get_or-map (λ (r : ℕ × List ℕ). r.0) recovery j (0, []) 0 low in
-    let row : list_at (map (λ r. coefficients (known_from 0 known) r.0) recovery) j ≡ coefficients (known_from 0 known) e =
-    get_or-map (λ (r : ℕ × List ℕ). coefficients (known_from 0 known) r.0) recovery j (0, []) [] low in
-    ap (bit_xor (word w (list_at (map (λ r. r.1) recovery) j)))
-    (ap (λ xs. sum_at xs all w) (row_at (length known) exponents j (omega (arith, low, count)) ∙ ap (coefficients (range_with_len 0 (length known))) exponent)
-    ∙ known_sum e w known
-    ∙ ap (λ xs. sum_at xs some w) (sym row))
-
--- the same texts are solved where the syndromes are the same
-pub solved_same : (s : ℕ) (inverse rows known slices other_rows other_known texts : List (List ℕ))
-    → ((w j : ℕ) → j < length slices → syndrome rows known slices w j ≡ syndrome other_rows other_known slices w j)
-    → AreSolved s inverse rows known slices texts → AreSolved s inverse other_rows other_known slices texts
-solved_same s inverse rows known slices other_rows other_known texts same are = record {
-  count = are.count;
-  sizes = are.sizes;
-  words = λ r w h low.
-      are.words r w h low
-      ∙ field_sum_same (length slices) (λ j. mul (get_or (list_at inverse r) j 0) (syndrome rows known slices w j)) (λ j. mul (get_or (list_at inverse r) j 0) (syndrome other_rows other_known slices w j))
-      (λ j here. ap (mul (get_or (list_at inverse r) j 0)) (same w j here));
-}
-
--- over all slices, of which a lost one has no bytes, the same texts are solved as over the known ones
-pub known_solved : (s n : ℕ) (inverse texts : List (List ℕ)) (exponents : List ℕ) (known : List (Option (Bor (List ℕ)))) (recovery : List (ℕ × List ℕ)) → exponents ≡ map (λ r. r.0) recovery
-    → n ≡ length known
-    → AreSolved s inverse (all_coefficients n exponents) (map bytes_or_none known) (map (λ r. r.1) recovery) texts
-    → AreSolved s inverse (map (λ r. coefficients (known_from 0 known) r.0) recovery) (texts_of (known_alone known)) (map (λ r. r.1) recovery) texts
-known_solved s n inverse texts exponents known recovery are n_is solved =
-    let slices = map (λ (r : ℕ × List ℕ). r.1) recovery in
-    solved_same s inverse (all_coefficients n exponents) (map bytes_or_none known) slices (map (λ r. coefficients (known_from 0 known) r.0) recovery) (texts_of (known_alone known)) texts
-    (λ w j low.
-    ap (λ m. syndrome (all_coefficients m exponents) (map bytes_or_none known) slices w j) n_is
-    ∙ known_syndrome w j exponents known recovery are (let e = length-slices recovery in omega (arith, low, e)))
-    solved
-
--- what is bytes where lost slices have none, is so of the known ones alone
-pub known_bytes : (known : List (Option (Bor (List ℕ)))) → AreBytes (map bytes_or_none known) → AreBytes (texts_of (known_alone known))
-known_bytes [] are r k = are r k
-known_bytes (None ∷ known) are r k = known_bytes known (λ q i. are (suc q) i) r k
-known_bytes (Some slice ∷ known) are zero k = are zero k
-known_bytes (Some slice ∷ known) are (suc r) k = known_bytes known (λ q i. are (suc q) i) r k
 
 -- ---- what is added to texts
 
--- recovery slices over slices, added to texts, make syndromes of these
-pub syndromes_added : (n words : ℕ) (exponents : List ℕ) (slices recovery new : List (List ℕ)) → n ≡ length slices → length exponents ≡ length recovery → HaveWords words recovery
-    → AddsToEach (λ t p. recovered slices (get_or exponents t 0) p) recovery new → AreSyndromes words (all_coefficients n exponents) slices recovery new
-syndromes_added n words exponents slices recovery new e many sizes added = record {
-  count = added.count;
-  words = λ j w here low.
-      added.each j w here (let size = sizes j here in omega (arith, size, low))
-      ∙ ap (bit_xor (word w (list_at recovery j)))
-      (recovered_by_row n (get_or exponents j 0) w slices e ∙ ap (λ xs. sum_at xs slices w) (sym (row_at n exponents j (omega (arith, many, here)))));
-}
-  where
-    recovered_by_row : (n e w : ℕ) (slices : List (List ℕ)) → n ≡ length slices → recovered slices e w ≡ sum_at (coefficients (range_with_len 0 n) e) slices w
-    recovered_by_row n e w slices many =
-        field_sum_same (length slices) (λ i. mul (coefficient e i) (word w (list_at slices i))) (λ i. mul (get_or (coefficients (range_with_len 0 n) e) i 0) (word w (list_at slices i)))
-        (λ i at. ap (λ x. mul x (word w (list_at slices i))) (sym (get_or-map-range_with_len (coefficient e) 0 n i i 0 (omega (arith, many, at)) (zero-add i))))
+row_at : (n : ℕ) (exponents : List ℕ) (j : ℕ) → j < length exponents → list_at (all_coefficients n exponents) j ≡ coefficients (range_with_len 0 n) (get_or exponents j 0)
+row_at n exponents j low = get_or-map (coefficients (range_with_len 0 n)) exponents j 0 [] low
 
 -- the sums of products are recovery slices
 pub products_are : (n len : ℕ) (exponents : List ℕ) (rows slices old new : List (List ℕ)) (places : List Place) → rows ≡ all_coefficients n exponents → n ≡ length slices → length exponents ≡ length places
@@ -145,15 +46,19 @@ run_exponents first len exponents slices old new places many run added =
 abbrev pub sum_word : (from to : ℕ) (sums : List (List ℕ)) (t p : ℕ) → ℕ
 sum_word from to sums t p = within from to p (word (p - from) (list_at sums t))
 
--- the first n sums were added
-abbrev pub SumsAdded : List Place → (len from to n : ℕ) (sums was texts : List (List ℕ)) → Type 0
-SumsAdded places len from to n sums was texts = AddsAt places len (λ t p. within 0 n t (sum_word from to sums t p)) was texts
+-- to the first n outputs, others were added
+abbrev pub FirstAdded : List Place → (len n : ℕ) (other : ℕ → ℕ → ℕ) (was texts : List (List ℕ)) → Type 0
+FirstAdded places len n other was texts = AddsAt places len (λ t p. within 0 n t (other t p)) was texts
 
-pub no_sum : (places : List Place) (len from to : ℕ) (sums texts : List (List ℕ)) → SumsAdded places len from to 0 sums texts texts
-no_sum places len from to sums texts = adds_none places len (λ t p. within 0 0 t (sum_word from to sums t p)) texts (λ t p. within-above 0 0 t (sum_word from to sums t p) (omega arith))
+pub none_added : (places : List Place) (len : ℕ) (other : ℕ → ℕ → ℕ) (texts : List (List ℕ)) → FirstAdded places len 0 other texts texts
+none_added places len other texts = adds_none places len (λ t p. within 0 0 t (other t p)) texts (λ t p. within-above 0 0 t (other t p) (omega arith))
 
-pub next_sum : (places : List Place) (len from to n : ℕ) (row : List ℕ) (sums was half texts : List (List ℕ)) → row ≡ list_at sums n → AreBytes sums → SumsAdded places len from to n sums was half
-    → AddsAt places len (λ t p. within n (n + 1) t (within from to p (mul 1 (word (p - from) row)))) half texts → SumsAdded places len from to (n + 1) sums was texts
+pub all_added : (places : List Place) (len n : ℕ) (other : ℕ → ℕ → ℕ) (was texts : List (List ℕ)) → length places ≤ n → FirstAdded places len n other was texts → AddsAt places len other was texts
+all_added places len n other was texts enough added =
+    adds_same places len (λ t p. within 0 n t (other t p)) other was texts added (λ t p low _. within-in 0 n t (other t p) (omega arith) (omega (arith, low, enough)))
+
+pub next_sum : (places : List Place) (len from to n : ℕ) (row : List ℕ) (sums was half texts : List (List ℕ)) → row ≡ list_at sums n → AreBytes sums → FirstAdded places len n (sum_word from to sums) was half
+    → AddsAt places len (λ t p. within n (n + 1) t (within from to p (mul 1 (word (p - from) row)))) half texts → FirstAdded places len (n + 1) (sum_word from to sums) was texts
 next_sum places len from to n row sums was half texts is bytes so_far added =
     adds_more places len (λ t p. within 0 n t (sum_word from to sums t p)) (λ t p. within n (n + 1) t (within from to p (mul 1 (word (p - from) row)))) (λ t p. within 0 (n + 1) t (sum_word from to sums t p)) was half texts so_far added
     (λ t p _ _.
@@ -166,12 +71,6 @@ next_sum places len from to n row sums was half texts is bytes so_far added =
     once q =
         let small : word q (list_at sums n) < 65536 = word-lt (list_at sums n) q (bytes n) in
         ap (λ xs. mul 1 (word q xs)) is ∙ product_comm 1 (word q (list_at sums n)) (omega arith) small ∙ product-one (word q (list_at sums n)) small
-
-pub all_sums : (places : List Place) (len from to n : ℕ) (sums was texts : List (List ℕ)) → n ≡ length places → SumsAdded places len from to n sums was texts
-    → AddsAt places len (sum_word from to sums) was texts
-all_sums places len from to n sums was texts is added =
-    adds_same places len (λ t p. within 0 n t (sum_word from to sums t p)) (sum_word from to sums) was texts added
-    (λ t p low _. within-in 0 n t (sum_word from to sums t p) (omega arith) (omega (arith, low, is)))
 
 -- the sums are those of products of windows, which are parts of slices
 pub sums_are : (places : List Place) (len from to n : ℕ) (rows slices windows sums was texts : List (List ℕ)) → from ≤ to → windows ≡ map (window (2 * from) (2 * (to - from))) slices → n ≡ length slices
@@ -219,19 +118,11 @@ all_columns_added places len n other was texts enough added =
 abbrev pub group : {A : Type 0} → ℕ → ℕ → List A → List A
 group at to xs = take (to - at) (drop at xs)
 
--- the first n outputs got their recovery slices
-abbrev pub FirstAdded : List Place → (len n : ℕ) (exponents : List ℕ) (slices was texts : List (List ℕ)) → Type 0
-FirstAdded places len n exponents slices was texts = AddsAt places len (λ t p. within 0 n t (recovered slices (get_or exponents t 0) p)) was texts
-
-pub no_output_yet : (places : List Place) (len : ℕ) (exponents : List ℕ) (slices texts : List (List ℕ)) → FirstAdded places len 0 exponents slices texts texts
-no_output_yet places len exponents slices texts =
-    adds_none places len (λ t p. within 0 0 t (recovered slices (get_or exponents t 0) p)) texts (λ t p. within-above 0 0 t (recovered slices (get_or exponents t 0) p) (omega arith))
-
 -- a group more
 pub adds_group : (places part : List Place) (len words at to : ℕ) (exponents : List ℕ) (slices was half texts : List (List ℕ)) → at ≤ to → to ≤ length places → AreApart len places → part ≡ group at to places → words ≡ len
-    → FirstAdded places len at exponents slices was half
+    → FirstAdded places len at (λ t p. recovered slices (get_or exponents t 0) p) was half
     → AddsAt part words (λ t p. recovered slices (get_or (group at to exponents) t 0) p) half texts
-    → FirstAdded places len to exponents slices was texts
+    → FirstAdded places len to (λ t p. recovered slices (get_or exponents t 0) p) was texts
 adds_group places part len words at to exponents slices was half texts order fits apart part_is words_is so_far added =
     let other = λ (t p : ℕ). recovered slices (get_or exponents t 0) p in
     let given = λ (t p : ℕ). recovered slices (get_or (group at to exponents) t 0) p in
@@ -242,13 +133,6 @@ adds_group places part len words at to exponents slices was half texts order fit
     (λ t p low _. ap (λ e. recovered slices e p) (get_or-take (to - at) (drop at exponents) t 0 (let n = length-group at to places order fits in omega (arith, n, low)) ∙ get_or-drop at exponents t 0)) in
     adds_more places len (λ t p. within 0 at t (other t p)) (λ t p. within at to t (other t p)) (λ t p. within 0 to t (other t p)) was half texts so_far (adds_to_group at to len other places half texts order fits apart moved)
     (λ t p _ _. within_joined 0 at to t (other t p) (omega arith) order)
-
--- all of them
-pub adds_all : (places : List Place) (len n : ℕ) (exponents : List ℕ) (slices was texts : List (List ℕ)) → length places ≤ n → FirstAdded places len n exponents slices was texts
-    → AddsAt places len (λ t p. recovered slices (get_or exponents t 0) p) was texts
-adds_all places len n exponents slices was texts enough added =
-    adds_same places len (λ t p. within 0 n t (recovered slices (get_or exponents t 0) p)) (λ t p. recovered slices (get_or exponents t 0) p) was texts added
-    (λ t p low _. within-in 0 n t (recovered slices (get_or exponents t 0) p) (omega arith) (omega (arith, low, enough)))
 
 -- ---- outputs that were zeros
 

@@ -1,45 +1,38 @@
 -- Where the first exponents are a run of as many as slices are lost, these are the kept ones.
-use Rattle.par2_recovery.proofs.Common.{ℕ, zero, suc, ◌+◌, ◌-◌, ◌<◌, ◌≤◌, ◌≡◌, refl, sym, ap, ap₂, ◌∙◌, subst, arith, Bool, true, false, cond, List, [], ◌∷◌, length, get_or, map, take, filter, Option, Some, None, AllByRecursion, Contains, range_with_len, IsStrictlyIncreasing, length-map, length-take, get_or-map, ext_get_or, get_or-take, length-take-le, take_all, take-map, Contains-get_or, length-range_with_len, get_or-range_with_len, kept, kept_slices, AreSlices, AreClose, HasRun, all_unmap, filter-map, first_kept, run_rank, BeginsWithRun, lost_from, recovered_of, exponents_of, Bor}
-use Rattle.par2_spec.specs.Rank.{rank}
-use Rattle.par2_recovery.proofs.Inverting.{length-recovered_of}
+use Rattle.par2_recovery.proofs.Common.{ℕ, zero, suc, ◌+◌, ◌-◌, ◌<◌, ◌≤◌, ◌≡◌, refl, sym, ap, ◌∙◌, subst, arith, Bool, true, false, cond, List, [], ◌∷◌, length, get_or, map, filter, Option, Some, None, AllByRecursion, Contains, range_with_len, IsStrictlyIncreasing, length-map, length-take, ext_get_or, get_or-take, length-take-le, take_all, take-map, Contains-get_or, length-range_with_len, get_or-range_with_len, kept, kept_slices, rank, AreSlices, AreClose, HasRun, all_unmap, filter-map, first_kept, run_rank, BeginsWithRun, lost_from, recovered_of, exponents_of, Bor}
+use Rattle.std.proofs.Common.{take}
 use Rattle.par2_recovery.proofs.Ranks.{is_kept}
-use Rattle.par2_recovery.proofs.Runs.{rises_between}
+use Rattle.par2_recovery.proofs.Runs.{rises_between, close_ends, close_range}
 use Rattle.par2_recovery.proofs.Standing.{kept_slices_are}
 
 -- ---- the first exponents
 
-pub begins : (xs : List ℕ) (n : ℕ) → IsStrictlyIncreasing xs → 0 < n → n ≤ length xs → get_or xs (n - 1) 0 - get_or xs 0 0 ≡ n - 1 → BeginsWithRun (get_or xs 0 0) n xs
-begins xs n rise some within near =
-    ext_get_or 0 (take n xs) (range_with_len f n) (length-take-le n xs within ∙ sym (length-range_with_len f n)) (λ k h.
-    let low : k < n = (let long = length-take-le n xs within in omega (arith, h, long)) in
+pub take_rises : (xs : List ℕ) (n : ℕ) → IsStrictlyIncreasing xs → n ≤ length xs → IsStrictlyIncreasing (take n xs)
+take_rises xs n rise within k h =
+    let long = length-take-le n xs within in
+    let more = rise k (omega (arith, h, long, within)) in
+    omega (arith, more, get_or-take n xs k 0 (omega (arith, h, long)), get_or-take n xs (k + 1) 0 (omega (arith, h, long)))
+
+pub begins : (xs : List ℕ) (n : ℕ) → IsStrictlyIncreasing xs → n ≤ length xs → AreClose n (take n xs) → BeginsWithRun (get_or xs 0 0) n xs
+begins xs n rise within close =
+    ext_get_or 0 (take n xs) (range_with_len f n) (long ∙ sym (length-range_with_len f n)) (λ k h.
+    let low : k < n = omega (arith, h, long) in
+    let ends = close_ends (take n xs) n (omega (arith, h)) close in
+    let first = get_or-take n xs 0 0 (omega (arith, low)) in
+    let last : get_or (take n xs) (length (take n xs) - 1) 0 ≡ get_or xs (n - 1) 0 = ap (λ m. get_or (take n xs) (m - 1) 0) long ∙ get_or-take n xs (n - 1) 0 (omega (arith, low)) in
     let below = rises_between xs rise 0 k (omega arith) (omega (arith, low, within)) in
-    let above = rises_between xs rise k (n - 1) (omega (arith, low)) (omega (arith, some, within)) in
-    let at : get_or xs k 0 ≡ f + k = omega (arith, below, above, near, low) in
+    let above = rises_between xs rise k (n - 1) (omega (arith, low)) (omega (arith, low, within)) in
+    let at : get_or xs k 0 ≡ f + k = omega (arith, ends, first, last, below, above, low) in
     get_or-take n xs k 0 low ∙ at ∙ sym (get_or-range_with_len f n k 0 low))
   where
     f : ℕ
     f = get_or xs 0 0
 
-exponents_at : (recs : List (ℕ × List ℕ)) (n : ℕ) → 0 < n → n ≤ length recs
-    → (get_or (map (λ r. r.0) recs) 0 0 ≡ (get_or recs 0 (0, [])).0) × (get_or (map (λ r. r.0) recs) (n - 1) 0 ≡ (get_or recs (n - 1) (0, [])).0)
-exponents_at recs n some within = (
-  get_or-map (λ (r : ℕ × List ℕ). r.0) recs 0 (0, []) 0 (omega (arith, some, within)),
-  get_or-map (λ (r : ℕ × List ℕ). r.0) recs (n - 1) (0, []) 0 (omega (arith, some, within)),
-)
+    long : length (take n xs) ≡ n
+    long = length-take-le n xs within
 
--- an exponent of the run
-in_run : (f n e : ℕ) → Contains (range_with_len f n) e → (f ≤ e) × (e < f + n)
-in_run f n e among =
-    let i = among.0 in
-    let low : i < n = (let long = length-range_with_len f n in let h = among.1 in omega (arith, long, h)) in
-    let is : f + i ≡ e = sym (get_or-range_with_len f n i e low) ∙ among.2 in
-    (omega (arith, is), omega (arith, is, low))
-
-close_front : (xs : List ℕ) (f n : ℕ) → BeginsWithRun f n xs → AreClose n (take n xs)
-close_front xs f n front e g first second =
-    let a = in_run f n e (subst (λ ys. Contains ys e) front first) in
-    let b = in_run f n g (subst (λ ys. Contains ys g) front second) in
-    omega (arith, a.0, b.1)
+pub close_front : (xs : List ℕ) (f n : ℕ) → BeginsWithRun f n xs → AreClose n (take n xs)
+close_front xs f n front = subst (AreClose n) (sym front) (close_range f n)
 
 pub front_within : (xs : List ℕ) (f n : ℕ) → BeginsWithRun f n xs → n ≤ length xs
 front_within xs f n front =
@@ -52,41 +45,6 @@ has_run_front xs f n front i low =
     let within : i < length xs = (let most = front_within xs f n front in omega (arith, most, low)) in
     let at : get_or xs i 0 ≡ f + i = sym (get_or-take n xs i 0 low) ∙ ap (λ ys. get_or ys i 0) front ∙ get_or-range_with_len f n i 0 low in
     subst (Contains xs) at (Contains-get_or xs i 0 within)
-
--- the same by the recovery slices at the first place and at the last
-pub begins_at : (recs : List (ℕ × List ℕ)) (n first last : ℕ) → IsStrictlyIncreasing (map (λ r. r.0) recs) → 0 < n → n ≤ length recs
-    → first ≡ (get_or recs 0 (0, [])).0 → last ≡ (get_or recs (n - 1) (0, [])).0 → last - first ≡ n - 1 → BeginsWithRun first n (map (λ r. r.0) recs)
-begins_at recs n first last rise some within is_first is_last near =
-    let ends = exponents_at recs n some within in
-    let start = is_first ∙ sym ends.0 in
-    let near_here : get_or (map (λ r. r.0) recs) (n - 1) 0 - get_or (map (λ r. r.0) recs) 0 0 ≡ n - 1 = ap₂ (λ a b. a - b) (ends.1 ∙ sym is_last) (sym start) ∙ near in
-    subst (λ f. BeginsWithRun f n (map (λ r. r.0) recs)) (sym start)
-    (begins (map (λ r. r.0) recs) n rise some (let long = length-map recs (λ (r : ℕ × List ℕ). r.0) in omega (arith, long, within)) near_here)
-
-pub near_front : (recs : List (ℕ × List ℕ)) (n first last f : ℕ) → 0 < n → BeginsWithRun f n (map (λ r. r.0) recs)
-    → first ≡ (get_or recs 0 (0, [])).0 → last ≡ (get_or recs (n - 1) (0, [])).0 → last - first ≡ n - 1
-near_front recs n first last f some front is_first is_last =
-    let xs = map (λ (r : ℕ × List ℕ). r.0) recs in
-    let within : n ≤ length recs = (let most = front_within xs f n front in let long = length-map recs (λ (r : ℕ × List ℕ). r.0) in omega (arith, most, long)) in
-    let ends = exponents_at recs n some within in
-    let at : (i : ℕ) → i < n → get_or xs i 0 ≡ f + i = λ i low. sym (get_or-take n xs i 0 low) ∙ ap (λ ys. get_or ys i 0) front ∙ get_or-range_with_len f n i 0 low in
-    let start = at 0 some in
-    let end = at (n - 1) (omega (arith, some)) in
-    omega (arith, is_first, is_last, ends.0, ends.1, start, end)
-
-pub too_short : (recovery : List (ℕ × Bor (List ℕ))) (n f : ℕ) → length recovery < n → BeginsWithRun f n (exponents_of recovery) → ⊥
-too_short recovery n f short front =
-    let most = front_within (exponents_of recovery) f n front in
-    let inner = length-recovered_of recovery in
-    let outer = length-map (recovered_of recovery) (λ (r : ℕ × List ℕ). r.0) in
-    omega (arith, short, most, inner, outer)
-
-pub in_order : (recs : List (ℕ × List ℕ)) (n first last : ℕ) → IsStrictlyIncreasing (map (λ r. r.0) recs) → 0 < n → n ≤ length recs
-    → first ≡ (get_or recs 0 (0, [])).0 → last ≡ (get_or recs (n - 1) (0, [])).0 → first ≤ last
-in_order recs n first last rise some within is_first is_last =
-    let ends = exponents_at recs n some within in
-    let order = rises_between (map (λ r. r.0) recs) rise 0 (n - 1) (omega arith) (let long = length-map recs (λ (r : ℕ × List ℕ). r.0) in omega (arith, long, some, within)) in
-    omega (arith, order, is_first, is_last, ends.0, ends.1)
 
 -- ---- the kept exponents
 

@@ -1,6 +1,6 @@
 -- From added products to recovery slices.
-use Rattle.par2_recovery.proofs.Common.{cases_lt, inl, inr, ℕ, zero, suc, ◌+◌, ◌-◌, ◌*◌, ◌%◌, ◌<◌, ◌≤◌, ◌≡◌, refl, sym, ap, ap₂, ◌∙◌, subst, arith, List, [], ◌∷◌, ◌++◌, length, get_or, map, replicate, bit_xor, Vec, Global, append_assoc, zero-add, Bor, range_with_len, xor_zero_l, ext_get_or, get_or-map, get_or-replicate, length-map, length_push, map-append, map_push, get_or_append_left, get_or_push, get_or_past, length-replicate, map-range_with_len_more, get_or-map-range_with_len, length-map-range_with_len, length-range_with_len, get_or-range_with_len, mul, coefficient, padded, word, slice_at, dot, coefficients, combination, all_at, range-append, product-lt, field_sum, list_at, lists_of, field_sum_same, field_sum-lt, dot_sum, product_at, coefficients_are, combination_words, word-lt, AreBytes, AddsToEach, recovered, zeros_read, all_coefficients, texts_of, AreBlank}
-use Rattle.std.specs.Prelude.{take, drop}
+use Rattle.par2_recovery.proofs.Common.{cases_lt, inl, inr, ℕ, zero, suc, ◌+◌, ◌-◌, ◌*◌, ◌%◌, ◌<◌, ◌≤◌, ◌≡◌, refl, sym, ap, ap₂, ◌∙◌, subst, arith, List, [], ◌∷◌, ◌++◌, length, get_or, map, replicate, bit_xor, Vec, Global, append_assoc, zero-add, Bor, range_with_len, xor_zero_l, ext_get_or, get_or-map, get_or-replicate, length-map, length_push, map-append, map_push, get_or_append_left, get_or_push, get_or_past, length-replicate, map-range_with_len_more, get_or-map-range_with_len, length-map-range_with_len, length-range_with_len, get_or-range_with_len, mul, coefficient, padded, word, slice_at, dot, coefficients, combination, all_at, range-append, product-lt, field_sum, list_at, lists_of, field_sum_same, field_sum-lt, dot_sum, product_at, coefficients_are, combination_words, word-lt, AreBytes, AddsToEach, recovered, zeros_read, all_coefficients, texts_of, AreBlank, take}
+use Rattle.std.specs.Prelude.{drop}
 use Rattle.par2_spec.specs.Recovery.{recovery}
 
 -- ---- padding
@@ -14,37 +14,41 @@ padded_read (x ∷ t) m (suc i) = padded_read t m i
 pub word-padded : (s : ℕ) (t : List ℕ) (p : ℕ) → word p (padded s t) ≡ word p t
 word-padded s t p = ap₂ (λ x y. x + 256 * y) (padded_read t (s - length t) (2 * p)) (padded_read t (s - length t) (2 * p + 1))
 
-words_of_padded : (s : ℕ) (lists : List (List ℕ)) (p k : ℕ) → get_or (map (word p) (map (padded s) lists)) k 0 ≡ word p (list_at lists k)
-words_of_padded s [] p k = refl
-words_of_padded s (t ∷ lists) p zero = word-padded s t p
-words_of_padded s (t ∷ lists) p (suc k) = words_of_padded s lists p k
+-- padding changes no word of any text
+words_padded : (s w : ℕ) (lists : List (List ℕ)) → map (word w) (map (padded s) lists) ≡ map (word w) lists
+words_padded s w [] = refl
+words_padded s w (t ∷ lists) = ap₂ (λ x xs. x ∷ xs) (word-padded s t w) (words_padded s w lists)
 
 -- ---- coefficients
 
 pub coefficients-lt : (numbers : List ℕ) (e k : ℕ) → get_or (coefficients numbers e) k 0 < 65536
 coefficients-lt numbers e k = all_at (λ x. x < 65536) 0 (omega arith) (coefficients numbers e) (coefficients_are e numbers) k
 
--- the sum of products by a row of coefficients, at a word of padded texts
-pub dot_padded : (s : ℕ) (row : List ℕ) (lists : List (List ℕ)) (p : ℕ) → length row ≤ length lists
-    → dot row (map (word p) (map (padded s) lists)) ≡ field_sum (length lists) (λ k. mul (get_or row k 0) (word p (list_at lists k)))
-dot_padded s row lists p h =
-    dot_sum (length lists) row (map (word p) (map (padded s) lists)) h
-    ∙ field_sum_same (length lists) (product_at row (map (word p) (map (padded s) lists))) (λ k. mul (get_or row k 0) (word p (list_at lists k)))
-    (λ k low. ap (mul (get_or row k 0)) (words_of_padded s lists p k))
+words_of : (texts : List (List ℕ)) (w i : ℕ) → get_or (map (word w) texts) i 0 ≡ word w (list_at texts i)
+words_of [] w i = refl
+words_of (t ∷ texts) w zero = refl
+words_of (t ∷ texts) w (suc i) = words_of texts w i
 
-pub dot_padded-lt : (s : ℕ) (row : List ℕ) (lists : List (List ℕ)) (p : ℕ) → length row ≤ length lists → ((k : ℕ) → get_or row k 0 < 65536) → AreBytes lists
-    → dot row (map (word p) (map (padded s) lists)) < 65536
-dot_padded-lt s row lists p h small bytes =
-    subst (λ x. x < 65536) (sym (dot_padded s row lists p h))
-    (field_sum-lt (length lists) (λ k. mul (get_or row k 0) (word p (list_at lists k))) (λ k. product-lt _ _ (small k) (word-lt (list_at lists k) p (bytes k))))
+-- the sum of products at a word, by places
+pub dot_at : (n : ℕ) (row : List ℕ) (texts : List (List ℕ)) (w : ℕ) → length row ≤ n → dot row (map (word w) texts) ≡ field_sum n (λ i. mul (get_or row i 0) (word w (list_at texts i)))
+dot_at n row texts w h =
+    dot_sum n row (map (word w) texts) h
+    ∙ field_sum_same n (product_at row (map (word w) texts)) (λ i. mul (get_or row i 0) (word w (list_at texts i))) (λ i low. ap (mul (get_or row i 0)) (words_of texts w i))
+
+-- a word of a recovery slice is such a sum
+pub recovered_dot : (e : ℕ) (lists : List (List ℕ)) (w : ℕ) → dot (coefficients (range_with_len 0 (length lists)) e) (map (word w) lists) ≡ recovered lists e w
+recovered_dot e lists w =
+    let n = length lists in
+    let row = coefficients (range_with_len 0 n) e in
+    dot_at n row lists w (let long = length-map-range_with_len (coefficient e) 0 n in omega (arith, long))
+    ∙ field_sum_same n (λ i. mul (get_or row i 0) (word w (list_at lists i))) (λ i. mul (coefficient e i) (word w (list_at lists i)))
+    (λ i h. ap (λ c. mul c (word w (list_at lists i))) (get_or-map-range_with_len (coefficient e) 0 n i i 0 h (zero-add i)))
+
+pub recovered-lt : (lists : List (List ℕ)) (e w : ℕ) → AreBytes lists → recovered lists e w < 65536
+recovered-lt lists e w bytes =
+    field_sum-lt (length lists) (λ i. mul (coefficient e i) (word w (list_at lists i))) (λ i. product-lt _ _ (coefficients_are e (i ∷ [])).0 (word-lt (list_at lists i) w (bytes i)))
 
 -- ---- recovery slices
-
--- one text more
-pub texts_push : (xs : List (Bor (List ℕ))) (x : Bor (List ℕ)) {new : List (Bor (List ℕ))} {before : List (List ℕ)} {text : List ℕ} → new ≡ xs ++ x ∷ [] → texts_of xs ≡ before → x.now ≡ text
-    → texts_of new ≡ before ++ text ∷ []
-texts_push xs x pushed so_far is =
-    ap (λ (ts : List (Bor (List ℕ))). texts_of ts) pushed ∙ map_push (λ (t : Bor (List ℕ)). t.now) xs x ∙ ap₂ (λ (ts : List (List ℕ)) t. ts ++ t ∷ []) so_far is
 
 -- one list more
 pub lists_push : (xs : List (Vec ℕ Global)) (x : Vec ℕ Global) {new : List (Vec ℕ Global)} {before : List (List ℕ)} {list : List ℕ} → new ≡ xs ++ x ∷ [] → lists_of xs ≡ before → x.items ≡ list
@@ -90,21 +94,15 @@ pub recovered_by_words : (s e : ℕ) (lists : List (List ℕ)) (text : List ℕ)
     → ((w : ℕ) → 2 * w + 1 < s → word w text ≡ recovered lists e w) → text ≡ recovery s (map (padded s) lists) e
 unfolding recovery
 recovered_by_words s e lists text even bytes size fits words =
-    let row = coefficients (range_with_len 0 (length lists)) e in
-    let long : length row ≡ length lists = length-map (range_with_len 0 (length lists)) (coefficient e) ∙ length-range_with_len 0 (length lists) in
-    let entry : (k : ℕ) → k < length lists → get_or row k 0 ≡ coefficient e k =
-    λ k h. get_or-map-range_with_len (coefficient e) 0 (length lists) k k 0 h (zero-add k) in
-    let is : recovery s (map (padded s) lists) e ≡ text =
-    ap (λ n. combination s (coefficients (range_with_len 0 n) e) (map (padded s) lists)) (length-map lists (padded s))
-    ∙ (combination_words s row (map (padded s) lists) text even
-    (λ w. dot_padded-lt s row lists w (omega (arith, long)) (coefficients-lt (range_with_len 0 (length lists)) e) bytes)
-    size fits).1
-    (λ w low.
-    dot_padded s row lists w (omega (arith, long))
-    ∙ field_sum_same (length lists) (λ k. mul (get_or row k 0) (word w (list_at lists k))) (λ k. mul (coefficient e k) (word w (list_at lists k)))
-    (λ k h. ap (λ c. mul c (word w (list_at lists k))) (entry k h))
-    ∙ sym (words w (omega (arith, low)))) in
-    sym is
+    sym (ap (λ n. combination s (coefficients (range_with_len 0 n) e) (map (padded s) lists)) (length-map lists (padded s))
+    ∙ (combination_words s row (map (padded s) lists) text even (λ w. subst (λ x. x < 65536) (sym (dots w)) (recovered-lt lists e w bytes)) size fits).1
+    (λ w low. dots w ∙ sym (words w (omega (arith, low)))))
+  where
+    row : List ℕ
+    row = coefficients (range_with_len 0 (length lists)) e
+
+    dots : (w : ℕ) → dot row (map (word w) (map (padded s) lists)) ≡ recovered lists e w
+    dots w = ap (dot row) (words_padded s w lists) ∙ recovered_dot e lists w
 
 -- what was added to zeros, word by word, are the recovery slices
 pub are_recovered : (s first count : ℕ) (lists old new : List (List ℕ)) → s % 2 ≡ 0 → AreBytes lists → AreBytes new → AreBlank s count old

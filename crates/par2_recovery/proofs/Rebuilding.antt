@@ -1,37 +1,19 @@
 -- What a list of all slices says of the lost ones among them.
-use Rattle.par2_recovery.proofs.Common.{ℕ, zero, suc, ◌+◌, ◌*◌, ◌%◌, ◌<◌, ◌≤◌, ◌≡◌, ◌↔◌, refl, sym, ap, ◌∙◌, arith, List, [], ◌∷◌, length, get_or, map, bit_xor, Option, Some, None, option_map, is_none, filter, range_with_len, enumerate_from, AllByRecursion, AllZip, xor_assoc, xor_comm, mul, coefficient, word, coefficients, combination, Agrees, lost, xor_off, coefficients_are, dot-lt, words_are, combination_words, with_lost_slices, lost_from, known_from, known_alone}
+use Rattle.par2_recovery.proofs.Common.{ℕ, zero, suc, ◌+◌, ◌-◌, ◌*◌, ◌%◌, ◌<◌, ◌≤◌, ◌≡◌, refl, sym, ap, ap₂, ◌∙◌, arith, List, [], ◌∷◌, length, length-append, replicate, get_or, map, bit_xor, length-replicate, length-map, Bor, Option, Some, None, is_none, filter, range_with_len, enumerate_from, AllByRecursion, AllZip, xor_assoc, xor_zero_l, xor_comm, product-zero, mul, coefficient, padded, word, coefficients, combination, lost, xor_off, coefficients_are, dot-lt, words_are, combination_words, all-append, all_from, recovered, known_of, with_lost_slices, lost_from, known_alone, bytes_or_none, AreBytes}
 use Rattle.std.specs.Option.{ForSome}
 use Rattle.par2_spec.specs.Recovery.{dot, recovery}
+use Rattle.par2_spec.proofs.RestoredLaws.{bytes-zeros}
+use Rattle.par2_recovery.proofs.Combinations.{word-padded, recovered_dot}
 
 -- ---- the numbers of the lost slices
 
-lost_same : {A : Type 0} (a : ℕ) (known : List (Option A)) → map (λ z. z.0) (filter (λ z. is_none z.1) (enumerate_from a known)) ≡ lost_from a known
-lost_same a [] = refl
-lost_same a (None ∷ known) = ap (λ ns. a ∷ ns) (lost_same (a + 1) known)
-lost_same a (Some x ∷ known) = lost_same (a + 1) known
+numbered : (s a : ℕ) (raw : List (Option (Bor (List ℕ)))) → map (λ z. z.0) (filter (λ z. is_none z.1) (enumerate_from a (known_of s raw))) ≡ lost_from a raw
+numbered s a [] = refl
+numbered s a (None ∷ raw) = ap (λ ns. a ∷ ns) (numbered s (a + 1) raw)
+numbered s a (Some x ∷ raw) = numbered s (a + 1) raw
 
-pub lost_is : (known : List (Option (List ℕ))) → lost known ≡ lost_from 0 known
-lost_is known = lost_same 0 known
-
-pub lost_of_map : {A B : Type 0} (f : A → B) (a : ℕ) (known : List (Option A)) → lost_from a (map (option_map f) known) ≡ lost_from a known
-lost_of_map f a [] = refl
-lost_of_map f a (None ∷ known) = ap (λ ns. a ∷ ns) (lost_of_map f (a + 1) known)
-lost_of_map f a (Some x ∷ known) = lost_of_map f (a + 1) known
-
-pub known_of_map : {A B : Type 0} (f : A → B) (a : ℕ) (known : List (Option A)) → known_from a (map (option_map f) known) ≡ known_from a known
-known_of_map f a [] = refl
-known_of_map f a (None ∷ known) = known_of_map f (a + 1) known
-known_of_map f a (Some x ∷ known) = ap (λ ns. a ∷ ns) (known_of_map f (a + 1) known)
-
-pub present_of_map : {A B : Type 0} (f : A → B) (known : List (Option A)) → known_alone (map (option_map f) known) ≡ map f (known_alone known)
-present_of_map f [] = refl
-present_of_map f (None ∷ known) = present_of_map f known
-present_of_map f (Some x ∷ known) = ap (λ xs. f x ∷ xs) (present_of_map f known)
-
-pub length-present : {A : Type 0} (a : ℕ) (known : List (Option A)) → length (known_alone known) ≡ length (known_from a known)
-length-present a [] = refl
-length-present a (None ∷ known) = length-present (a + 1) known
-length-present a (Some x ∷ known) = ap suc (length-present (a + 1) known)
+pub lost_are : (s : ℕ) (raw : List (Option (Bor (List ℕ)))) → lost (known_of s raw) ≡ lost_from 0 raw
+lost_are s raw = numbered s 0 raw
 
 numbers-lt : {A : Type 0} (a bound : ℕ) (known : List (Option A)) → a + length known ≤ bound → 0 < bound → (i : ℕ) → get_or (lost_from a known) i 0 < bound
 numbers-lt a bound [] h some i = some
@@ -50,29 +32,30 @@ length-lost_from a (suc bound) (None ∷ known) h = let rest = length-lost_from 
 
 -- ---- all slices from the known and the lost ones
 
-pub length-filled : (a : ℕ) (known : List (Option (List ℕ))) (texts : List (List ℕ)) → length (with_lost_slices known texts) ≡ length known
-length-filled a [] texts = refl
-length-filled a (Some x ∷ known) texts = ap suc (length-filled a known texts)
-length-filled a (None ∷ known) [] = ap suc (length-filled a known [])
-length-filled a (None ∷ known) (t ∷ texts) = ap suc (length-filled a known texts)
+pub length-filled : (s : ℕ) (raw : List (Option (Bor (List ℕ)))) (texts : List (List ℕ)) → length (with_lost_slices (known_of s raw) texts) ≡ length raw
+length-filled s [] texts = refl
+length-filled s (Some x ∷ raw) texts = ap suc (length-filled s raw texts)
+length-filled s (None ∷ raw) [] = ap suc (length-filled s raw [])
+length-filled s (None ∷ raw) (t ∷ texts) = ap suc (length-filled s raw texts)
 
 -- the sum of a word's products over all slices is that over the known ones and that over the lost ones
-split : (e w a : ℕ) (known : List (Option (List ℕ))) (texts : List (List ℕ)) → length texts ≡ length (lost_from a known)
-    → dot (coefficients (range_with_len a (length known)) e) (map (word w) (with_lost_slices known texts))
-    ≡ bit_xor (dot (coefficients (known_from a known) e) (map (word w) (known_alone known))) (dot (coefficients (lost_from a known) e) (map (word w) texts))
+split : (s e w a : ℕ) (raw : List (Option (Bor (List ℕ)))) (texts : List (List ℕ)) → length texts ≡ length (lost_from a raw)
+    → dot (coefficients (range_with_len a (length raw)) e) (map (word w) (with_lost_slices (known_of s raw) texts))
+    ≡ bit_xor (dot (coefficients (range_with_len a (length raw)) e) (map (word w) (map bytes_or_none raw))) (dot (coefficients (lost_from a raw) e) (map (word w) texts))
 unfolding dot
-split e w a [] [] h = refl
-split e w a [] (t ∷ texts) h = absurd (omega arith)
-split e w a (Some x ∷ known) texts h =
-    ap (bit_xor (mul (coefficient e a) (word w x))) (split e w (a + 1) known texts h)
-    ∙ sym (xor_assoc (mul (coefficient e a) (word w x)) (dot (coefficients (known_from (a + 1) known) e) (map (word w) (known_alone known))) (dot (coefficients (lost_from (a + 1) known) e) (map (word w) texts)))
-split e w a (None ∷ known) [] h = absurd (omega arith)
-split e w a (None ∷ known) (t ∷ texts) h =
+split s e w a [] [] h = refl
+split s e w a [] (t ∷ texts) h = absurd (omega arith)
+split s e w a (Some x ∷ raw) texts h =
+    ap₂ (λ y rest. bit_xor (mul (coefficient e a) y) rest) (word-padded s x.now w) (split s e w (a + 1) raw texts h)
+    ∙ sym (xor_assoc (mul (coefficient e a) (word w x.now)) (dot (coefficients (range_with_len (a + 1) (length raw)) e) (map (word w) (map bytes_or_none raw))) (dot (coefficients (lost_from (a + 1) raw) e) (map (word w) texts)))
+split s e w a (None ∷ raw) [] h = absurd (omega arith)
+split s e w a (None ∷ raw) (t ∷ texts) h =
     let here = mul (coefficient e a) (word w t) in
-    let ours = dot (coefficients (known_from (a + 1) known) e) (map (word w) (known_alone known)) in
-    let others = dot (coefficients (lost_from (a + 1) known) e) (map (word w) texts) in
-    ap (bit_xor here) (split e w (a + 1) known texts (omega arith))
+    let ours = dot (coefficients (range_with_len (a + 1) (length raw)) e) (map (word w) (map bytes_or_none raw)) in
+    let others = dot (coefficients (lost_from (a + 1) raw) e) (map (word w) texts) in
+    ap (bit_xor here) (split s e w (a + 1) raw texts (omega arith))
     ∙ sym (xor_assoc here ours others) ∙ ap (λ x. bit_xor x others) (xor_comm here ours) ∙ xor_assoc ours here others
+    ∙ ap (λ x. bit_xor x (bit_xor here others)) (sym (ap (λ x. bit_xor x ours) (product-zero (coefficient e a)) ∙ xor_zero_l ours))
 
 -- ---- sizes
 
@@ -80,85 +63,46 @@ split e w a (None ∷ known) (t ∷ texts) h =
 abbrev pub AreSized : ℕ → List (List ℕ) → Type 0
 AreSized s texts = AllByRecursion (λ text. length text ≡ s) texts × AllByRecursion (λ text. AllByRecursion (λ b. b < 256) text) texts
 
--- known slices of s bytes
-abbrev pub AreKnown : ℕ → List (Option (List ℕ)) → Type 0
-AreKnown s known = AreSized s (known_alone known)
-
-sized_filled : (s : ℕ) (a : ℕ) (known : List (Option (List ℕ))) (texts : List (List ℕ)) → AreKnown s known → AreSized s texts → length texts ≡ length (lost_from a known) → AreSized s (with_lost_slices known texts)
-sized_filled s a [] texts k t h = (tt, tt)
-sized_filled s a (Some x ∷ known) texts k t h =
-    let rest = sized_filled s (a + 1) known texts (k.0.1, k.1.1) t h in
-    ((k.0.0, rest.0), (k.1.0, rest.1))
-sized_filled s a (None ∷ known) [] k t h = absurd (omega arith)
-sized_filled s a (None ∷ known) (x ∷ texts) k t h =
-    let rest = sized_filled s (a + 1) known texts k (t.0.1, t.1.1) (omega arith) in
+pub sized_filled : (s a : ℕ) (raw : List (Option (Bor (List ℕ)))) (texts : List (List ℕ)) → AllByRecursion (λ slice. length slice.now ≤ s) (known_alone raw) → AreBytes (map bytes_or_none raw)
+    → AreSized s texts → length texts ≡ length (lost_from a raw) → AreSized s (with_lost_slices (known_of s raw) texts)
+sized_filled s a [] texts k bytes t h = (tt, tt)
+sized_filled s a (Some x ∷ raw) texts k bytes t h =
+    let rest = sized_filled s (a + 1) raw texts k.1 (λ r i. bytes (suc r) i) t h in
+    let n = s - length x.now in
+    let size : length (padded s x.now) ≡ s = (let e = length-append x.now (replicate n 0) in let zeros = length-replicate {A = ℕ} n 0 in let short = k.0 in omega (arith, e, zeros, short)) in
+    ((size, rest.0), (all-append (λ b. b < 256) x.now (replicate n 0) (all_from (λ b. b < 256) 0 x.now (λ i low. bytes 0 i)) (bytes-zeros n), rest.1))
+sized_filled s a (None ∷ raw) [] k bytes t h = absurd (omega arith)
+sized_filled s a (None ∷ raw) (x ∷ texts) k bytes t h =
+    let rest = sized_filled s (a + 1) raw texts k (λ r i. bytes (suc r) i) (t.0.1, t.1.1) (omega arith) in
     ((t.0.0, rest.0), (t.1.0, rest.1))
 
 -- ---- an equation of the lost slices and the recovery slice that it comes from
 
-moved_back : (a b d : ℕ) → b ≡ bit_xor d a → bit_xor a b ≡ d
-moved_back a b d e = ap (bit_xor a) e ∙ xor_comm a (bit_xor d a) ∙ xor_off d a
-
--- a recovery slice of s bytes
-pub record IsFound (s : ℕ) (found : List ℕ) : Type 0 where
-  pub size : length found ≡ s
-  pub bytes : (k : ℕ) → get_or found k 0 < 256
-
--- the lost texts give at each word what the recovery slice lacks
-abbrev pub Meets : ℕ → List (Option (List ℕ)) → List (List ℕ) → ℕ × List ℕ → Type 0
-Meets s known texts r = (w : ℕ) → 2 * w + 1 < s → dot (coefficients (lost_from 0 known) r.0) (map (word w) texts)
-    ≡ bit_xor (word w r.1) (dot (coefficients (known_from 0 known) r.0) (map (word w) (known_alone known)))
-
-equation : (s e : ℕ) (known : List (Option (List ℕ))) (found : List ℕ) (texts : List (List ℕ)) → s % 2 ≡ 0 → AreKnown s known → AreSized s texts → length texts ≡ length (lost_from 0 known)
-    → IsFound s found → Meets s known texts (e, found) → recovery s (with_lost_slices known texts) e ≡ found
+-- where the lost texts give at each word what the recovery slice lacks without the known slices, all give the recovery slice
+pub equation : (s e : ℕ) (raw : List (Option (Bor (List ℕ)))) (found : List ℕ) (texts : List (List ℕ)) → s % 2 ≡ 0 → AreSized s (with_lost_slices (known_of s raw) texts)
+    → length texts ≡ length (lost_from 0 raw) → length found ≡ s → ((k : ℕ) → get_or found k 0 < 256)
+    → ((w : ℕ) → 2 * w + 1 < s → dot (coefficients (lost_from 0 raw) e) (map (word w) texts) ≡ bit_xor (word w found) (recovered (map bytes_or_none raw) e w))
+    → recovery s (with_lost_slices (known_of s raw) texts) e ≡ found
 unfolding recovery
-equation s e known found texts even are_known sized count is h = whole ∙ all_words.1 (λ w low. parts w ∙ moved_back (ours w) (others w) (word w found) (h w low))
+equation s e raw found texts even sized count size bytes h =
+    ap (λ n. combination s (coefficients (range_with_len 0 n) e) all) (length-filled s raw texts)
+    ∙ (combination_words s row all found even (λ w. dot-lt row (map (word w) all) (coefficients_are e (range_with_len 0 (length raw))) (words_are w all sized.1)) size bytes).1
+    (λ w low.
+    let known = recovered (map bytes_or_none raw) e w in
+    split s e w 0 raw texts count
+    ∙ ap₂ bit_xor (ap (λ n. dot (coefficients (range_with_len 0 n) e) (map (word w) (map bytes_or_none raw))) (sym (length-map raw bytes_or_none)) ∙ recovered_dot e (map bytes_or_none raw) w) (h w low)
+    ∙ xor_comm known (bit_xor (word w found) known) ∙ xor_off (word w found) known)
   where
-    ours : ℕ → ℕ
-    ours w = dot (coefficients (known_from 0 known) e) (map (word w) (known_alone known))
+    all : List (List ℕ)
+    all = with_lost_slices (known_of s raw) texts
 
-    others : ℕ → ℕ
-    others w = dot (coefficients (lost_from 0 known) e) (map (word w) texts)
+    row : List ℕ
+    row = coefficients (range_with_len 0 (length raw)) e
 
-    rows : List ℕ
-    rows = coefficients (range_with_len 0 (length known)) e
+-- ---- the slices that are known
 
-    whole : recovery s (with_lost_slices known texts) e ≡ combination s rows (with_lost_slices known texts)
-    whole = ap (λ n. combination s (coefficients (range_with_len 0 n) e) (with_lost_slices known texts)) (length-filled 0 known texts)
-
-    parts : (w : ℕ) → dot rows (map (word w) (with_lost_slices known texts)) ≡ bit_xor (ours w) (others w)
-    parts w = split e w 0 known texts count
-
-    all_words : (combination s rows (with_lost_slices known texts) ≡ found) ↔ ((w : ℕ) → 2 * w + 1 < s → dot rows (map (word w) (with_lost_slices known texts)) ≡ word w found)
-    all_words = combination_words s rows (with_lost_slices known texts) found even
-        (λ w. dot-lt rows (map (word w) (with_lost_slices known texts)) (coefficients_are e (range_with_len 0 (length known))) (words_are w (with_lost_slices known texts) (sized_filled s 0 known texts are_known sized count).1))
-        is.size is.bytes
-
-equations : (s : ℕ) (known : List (Option (List ℕ))) (texts : List (List ℕ)) (found : List (ℕ × List ℕ)) → s % 2 ≡ 0 → AreKnown s known → AreSized s texts → length texts ≡ length (lost_from 0 known)
-    → AllByRecursion (λ r. IsFound s r.1) found → AllByRecursion (λ r. Meets s known texts r) found → AllByRecursion (λ r. recovery s (with_lost_slices known texts) r.0 ≡ r.1) found
-equations s known texts [] even are_known sized count are h = tt
-equations s known texts (r ∷ found) even are_known sized count are h =
-    (equation s r.0 known r.1 texts even are_known sized count are.0 h.0, equations s known texts found even are_known sized count are.1 h.1)
-
--- ---- the slices that agree
-
-AsKnown : List (Option (List ℕ)) → List (List ℕ) → Type 0
-AsKnown known texts = AllZip (λ slice text. ForSome slice (λ found. text ≡ found)) known texts
-
-filled_known : (a : ℕ) (known : List (Option (List ℕ))) (texts : List (List ℕ)) → length texts ≡ length (lost_from a known) → AsKnown known (with_lost_slices known texts)
-unfolding AsKnown
-filled_known a [] texts h = tt
-filled_known a (Some x ∷ known) texts h = ((λ y e. (cc)), filled_known (a + 1) known texts h)
-filled_known a (None ∷ known) [] h = absurd (omega arith)
-filled_known a (None ∷ known) (t ∷ texts) h = ((λ y e. (cc)), filled_known (a + 1) known texts (omega arith))
-
-pub agrees_from : (s : ℕ) (known : List (Option (List ℕ))) (found : List (ℕ × List ℕ)) (texts : List (List ℕ)) → s % 2 ≡ 0 → AreKnown s known → AreSized s texts → length texts ≡ length (lost_from 0 known)
-    → AllByRecursion (λ r. IsFound s r.1) found → AllByRecursion (λ r. Meets s known texts r) found → Agrees s known found (with_lost_slices known texts)
-unfolding AsKnown
-agrees_from s known found texts even are_known sized count are meets =
-    let filled = sized_filled s 0 known texts are_known sized count in record {
-      sizes = filled.0;
-      bytes = filled.1;
-      as_known = filled_known 0 known texts count;
-      as_recovered = equations s known texts found even are_known sized count are meets;
-    }
+pub filled_known : (known : List (Option (List ℕ))) (texts : List (List ℕ)) → AllZip (λ slice text. ForSome slice (λ found. text ≡ found)) known (with_lost_slices known texts)
+filled_known [] texts = tt
+filled_known (Some x ∷ known) texts = ((λ y e. (cc)), filled_known known texts)
+filled_known (None ∷ known) [] = ((λ y e. (cc)), filled_known known [])
+filled_known (None ∷ known) (t ∷ texts) = ((λ y e. (cc)), filled_known known texts)

@@ -1,12 +1,16 @@
 -- The scaled quotients by the constants of the lost slices are the inverse of the equations of a run.
-use Rattle.par2_recovery.proofs.Common.{ℕ, zero, suc, ◌+◌, ◌^◌, ◌<◌, ◌≡◌, ◌≢◌, sym, ap, ap₂, ◌∙◌, subst, arith, List, [], ◌∷◌, ◌++◌, length, get_or, Vec, Global, map, bit_xor, cond, inl, inr, cases_lt, cases_eq, eq-eqb, ne_eqb, length-range_with_len, get_or-range_with_len, length-map, get_or-map, Contains-get_or, AllPairs-from_increasing, Contains, range_with_len, mul, constant, AreSlices, list_at, lists_of, times, with_roots, quotient, AreElements, ArePoints, power-lt, product-zero, no_zero_divisor, product_assoc, product_comm, product_linear_right, all_get, all-each, value-lt, value_times, with_roots_elements, length-with_roots, quotient_elements, length-quotient, times_elements, quotient_others, quotient_itself, field_sum_same, field_sum_head, IsInverse, IsScaledQuotient, AreScaledQuotients}
+use Rattle.par2_recovery.proofs.Common.{ℕ, zero, suc, ◌+◌, ◌^◌, ◌<◌, ◌≡◌, ◌≢◌, refl, sym, ap, ap₂, ◌∙◌, subst, arith, List, [], ◌∷◌, ◌++◌, length, get_or, Vec, Global, map, bit_xor, cond, inl, inr, cases_lt, cases_eq, eq-eqb, ne_eqb, length-range_with_len, get_or-range_with_len, length-map, get_or-map, Contains-get_or, AllPairs-from_increasing, Contains, range_with_len, mul, constant, AreSlices, list_at, lists_of, times, with_roots, quotient, AreElements, ArePoints, power-lt, product-zero, no_zero_divisor, product_assoc, product_comm, product_linear_right, product-one, all_get, all-each, all_at, value-lt, value_times, with_roots_elements, length-with_roots, quotient_elements, length-quotient, times_elements, quotient_others, quotient_itself, field_sum_same, field_sum_head, field_sum_one, dot_sum, close_kept, coefficients, IsInverse, identity, IsScaledQuotient, AreScaledQuotients}
 use Rattle.std.proofs.lemmas.Bool.Decides.{Decides-eqb}
 use Rattle.std.proofs.lemmas.Map.Made.{IsDistinct-from_AllPairs}
 use Rattle.par2_spec.specs.Field.{pow, coefficient}
 use Rattle.par2_spec.specs.Sums.{field_sum}
 use Rattle.par2_spec.specs.Polynomials.{value}
 use Rattle.par2_spec.proofs.FieldConstants.{constant-lt, constant-nonzero, constant-injective}
-use Rattle.par2_recovery.proofs.Combinations.{each_push}
+use Rattle.par2_spec.proofs.ExistLaws.{IsSolved, solved}
+use Rattle.par2_recovery.proofs.Combinations.{coefficients-lt, each_push}
+use Rattle.par2_recovery.proofs.Dots.{combined}
+use Rattle.par2_recovery.proofs.Inverting.{identity-lt, sum_of_row}
+use Rattle.par2_recovery.proofs.Runs.{close_range, range_has}
 
 -- ---- the sum over a run is a value
 
@@ -64,6 +68,19 @@ unfolding pow
 power-nonzero a zero h small e = omega (arith, e)
 power-nonzero a (suc n) h small e = power-nonzero a n h small (no_zero_divisor a (pow a n) (omega (arith, h)) small (power-lt a n small) e)
 
+-- ---- the identity
+
+sum_of_column : (n k : ℕ) (f : ℕ → ℕ) → k < n → ((i : ℕ) → f i < 65536) → field_sum n (λ i. mul (f i) (identity i k)) ≡ f k
+sum_of_column n k f low are =
+    field_sum_one n k (λ i. mul (f i) (identity i k)) low (λ i h other. ap (mul (f i)) (ap (λ b. cond b 1 0) (ne_eqb i k other)) ∙ product-zero (f i))
+    ∙ ap (mul (f k)) (ap (λ b. cond b 1 0) (eq-eqb k k refl)) ∙ product-one (f k) (are k)
+
+identity_moved : (f j k : ℕ) → identity (f + j) (f + k) ≡ identity j k
+identity_moved f j k = elim (cases_eq j k) [
+  | inl same ↦ ap (λ b. cond b 1 0) (eq-eqb (f + j) (f + k) (omega (arith, same)) ∙ sym (eq-eqb j k same))
+  | inr other ↦ ap (λ b. cond b 1 0) (ne_eqb (f + j) (f + k) (λ e. other (omega (arith, e))) ∙ sym (ne_eqb j k other))
+]
+
 -- ---- the rows
 
 -- what the quotient by one of the points gives at it
@@ -114,24 +131,26 @@ length-row c factor points =
 pub is_inverse : (ks : List ℕ) (f : ℕ) (rows : List (List ℕ)) → AreSlices ks → AreScaledQuotients f (with_roots (map constant ks)) (map constant ks) rows (length ks)
     → IsInverse ks (range_with_len f (length ks)) rows
 is_inverse ks f rows are rows_are = record {
-  square = length-range_with_len f (length ks);
+  square = length-range_with_len f n;
   count = rows_are.count;
   vectors = λ i h. (long i h, elements i h);
-  product = λ i k hi hk.
-      field_sum_same (length ks) (λ t. mul (get_or (list_at rows i) t 0) (coefficient (get_or (range_with_len f (length ks)) t 0) (get_or ks k 0))) (λ t. mul (get_or (list_at rows i) t 0) (coefficient (f + t) (get_or ks k 0)))
-      (λ t low. ap (λ e. mul (get_or (list_at rows i) t 0) (coefficient e (get_or ks k 0))) (get_or-range_with_len f (length ks) t 0 low))
-      ∙ ap (λ n. field_sum n (λ t. mul (get_or (list_at rows i) t 0) (coefficient (f + t) (get_or ks k 0)))) (sym (long i hi))
-      ∙ sum_is k i hk hi
-      ∙ (elim (cases_eq i k) [
-        | inl same ↦ subst (λ m. mul (pow (point m) f) (value (list_at rows i) (point m)) ≡ 1) same (is_one i hi) ∙ sym (ap (λ b. cond b 1 0) (eq-eqb i k same))
-        | inr other ↦
-            ap (mul (pow (point k) f)) (none k i hk hi (λ e. other (sym e))) ∙ product-zero (pow (point k) f)
-            ∙ sym (ap (λ b. cond b 1 0) (ne_eqb i k other))
-      ]);
+  product = λ j k hj hk.
+      ap (λ e. field_sum n (λ i. mul (get_or (coefficients ks e) i 0) (get_or (list_at rows i) k 0))) (get_or-range_with_len f n j 0 hj)
+      ∙ field_sum_same n (λ i. mul (a j i) (x i k)) (λ i. mul (a j i) (y k i)) (λ i hi. ap (mul (a j i)) (is_given i k hi hk))
+      ∙ given j k hj;
 }
   where
+    n : ℕ
+    n = length ks
+
     points : List ℕ
     points = map constant ks
+
+    a : ℕ → ℕ → ℕ
+    a j i = get_or (coefficients ks (f + j)) i 0
+
+    x : ℕ → ℕ → ℕ
+    x i k = get_or (list_at rows i) k 0
 
     point : ℕ → ℕ
     point j = constant (get_or ks j 0)
@@ -162,3 +181,44 @@ is_inverse ks f rows are rows_are = record {
           | inr high ↦ rising_differ ks are j i (omega (arith, high, other)) hi (sym same)
         ]))
         ∙ product-zero factor
+
+    -- the product of the inverse and these
+    left : (i k : ℕ) → i < n → k < n → field_sum n (λ t. mul (x i t) (a t k)) ≡ identity i k
+    left i k hi hk =
+        field_sum_same n (λ t. mul (x i t) (a t k)) (λ t. mul (x i t) (coefficient (f + t) (get_or ks k 0))) (λ t low. ap (mul (x i t)) (get_or-map (coefficient (f + t)) ks k 0 0 hk))
+        ∙ ap (λ m. field_sum m (λ t. mul (x i t) (coefficient (f + t) (get_or ks k 0)))) (sym (long i hi))
+        ∙ sum_is k i hk hi
+        ∙ (elim (cases_eq i k) [
+          | inl same ↦ subst (λ m. mul (pow (point m) f) (value (list_at rows i) (point m)) ≡ 1) same (is_one i hi) ∙ sym (ap (λ b. cond b 1 0) (eq-eqb i k same))
+          | inr other ↦
+              ap (mul (pow (point k) f)) (none k i hk hi (λ e. other (sym e))) ∙ product-zero (pow (point k) f)
+              ∙ sym (ap (λ b. cond b 1 0) (ne_eqb i k other))
+        ])
+
+    -- for some vector they give the exponent in place k 1, and the others 0
+    found : (k : ℕ) → IsSolved ks (range_with_len f n) (λ e. identity e (f + k)) (f + n)
+    found k = solved ks (range_with_len f n) (λ e. identity e (f + k)) (λ e. identity-lt e (f + k)) (f + n)
+
+    y : ℕ → ℕ → ℕ
+    y k i = get_or (found k).vector i 0
+
+    given : (j k : ℕ) → j < n → field_sum n (λ i. mul (a j i) (y k i)) ≡ identity j k
+    given j k hj =
+        sym (dot_sum n (coefficients ks (f + j)) (found k).vector (let size = length-map ks (coefficient (f + j)) in omega (arith, size)))
+        ∙ (found k).gives (f + j) (omega (arith, hj)) (subst (λ es. Contains es (f + j)) (sym (close_kept ks (range_with_len f n) are (close_range f n))) (range_has f n j hj))
+        ∙ identity_moved f j k
+
+    x-lt : (i t : ℕ) → i < n → x i t < 65536
+    x-lt i t hi = all_at (λ z. z < 65536) 0 (omega arith) (list_at rows i) (elements i hi) t
+
+    y-lt : (k m : ℕ) → y k m < 65536
+    y-lt k m = all_at (λ z. z < 65536) 0 (omega arith) (found k).vector (found k).is_vector.1 m
+
+    -- which is the column of the inverse
+    is_given : (i k : ℕ) → i < n → k < n → x i k ≡ y k i
+    is_given i k hi hk =
+        sym (sum_of_column n k (x i) hk (λ t. x-lt i t hi))
+        ∙ field_sum_same n (λ t. mul (x i t) (identity t k)) (λ t. mul (x i t) (field_sum n (λ m. mul (a t m) (y k m)))) (λ t ht. ap (mul (x i t)) (sym (given t k ht)))
+        ∙ combined n n (x i) a (y k) (λ t. x-lt i t hi) (λ t _. coefficients-lt ks (f + t)) (y-lt k)
+        ∙ field_sum_same n (λ m. mul (field_sum n (λ t. mul (x i t) (a t m))) (y k m)) (λ m. mul (identity i m) (y k m)) (λ m hm. ap (λ z. mul z (y k m)) (left i m hi hm))
+        ∙ sum_of_row n i (y k) hi (y-lt k)

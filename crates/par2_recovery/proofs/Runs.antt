@@ -1,5 +1,6 @@
 -- Exponents that are close, and runs of them, by the places where they stand.
-use Rattle.par2_recovery.proofs.Common.{◌↔◌, IsTrue, false, eqb, ltb, ℕ, zero, suc, ◌+◌, ◌-◌, ◌<◌, ◌≤◌, ◌≡◌, sym, ap, ◌∙◌, subst, arith, inl, inr, List, length, get_or, take, drop, Contains, IsStrictlyIncreasing, cases_lt, eqb-false, ltb-true, lt-ltb, false≢true, get_or-take, get_or-drop, get_or_default, length-take-le, Contains-get_or, AreClose, HasRun}
+use Rattle.par2_recovery.proofs.Common.{◌↔◌, IsTrue, false, eqb, ltb, ℕ, zero, suc, ◌+◌, ◌-◌, ◌<◌, ◌≤◌, ◌≡◌, sym, ap, ◌∙◌, subst, arith, inl, inr, List, length, get_or, drop, Contains, range_with_len, IsStrictlyIncreasing, cases_lt, eqb-false, ltb-true, lt-ltb, false≢true, get_or-take, get_or-drop, get_or_default, length-take-le, Contains-get_or, AreClose, HasRun, get_or-range_with_len, length-range_with_len}
+use Rattle.std.proofs.Common.{take}
 use Rattle.std.proofs.Common.{length-drop}
 
 -- numbers that rise do so by one at least
@@ -142,3 +143,18 @@ no_run xs n end rise none past = (
       let at : found.0 + n - n ≡ found.0 = omega arith in
       absurd (none (found.0 + n) (omega arith) (omega (arith, found.1, past)) (subst (λ m. AreClose n (part m n xs)) (sym at) found.2)),
 )
+
+-- ---- a run as a list
+
+pub range_has : (f n j : ℕ) → j < n → Contains (range_with_len f n) (f + j)
+range_has f n j low = subst (Contains (range_with_len f n)) (get_or-range_with_len f n j 0 low) (Contains-get_or (range_with_len f n) j 0 (omega (arith, length-range_with_len f n, low)))
+
+in_run : (f n e : ℕ) → Contains (range_with_len f n) e → (f ≤ e) × (e < f + n)
+in_run f n e among =
+    let i = placed (range_with_len f n) e among in
+    let low : i.0 < n = (let long = length-range_with_len f n in omega (arith, long, i.1)) in
+    let is = get_or-range_with_len f n i.0 0 low in
+    (omega (arith, is, i.2), omega (arith, is, i.2, low))
+
+pub close_range : (f n : ℕ) → AreClose n (range_with_len f n)
+close_range f n e g first second = let a = in_run f n e first in let b = in_run f n g second in omega (arith, a.0, b.1)

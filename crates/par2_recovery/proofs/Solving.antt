@@ -1,5 +1,5 @@
 -- The lost slices by their syndromes, one block of columns after the other.
-use Rattle.par2_recovery.proofs.Common.{inl, inr, ℕ, ◌+◌, ◌-◌, ◌*◌, ◌/◌, ◌%◌, ◌<◌, ◌≤◌, ◌≡◌, refl, sym, ap, ap₂, ◌∙◌, subst, arith, List, [], ◌++◌, length, length-append, get_or, map, bit_xor, Bor, cases_eq, cases_lt, get_or-take, get_or-drop, get_or-map, get_or_append_left, get_or-append_right, length-map, length-replicate, length-take-le, length-drop, mul, word, field_sum, list_at, OneChanged, field_sum_same, Adds, window, syndrome, AreSyndromes, AreProducts, AreSolved, AreExtended, texts_of, AreBlank}
+use Rattle.par2_recovery.proofs.Common.{inl, inr, ℕ, ◌+◌, ◌-◌, ◌*◌, ◌/◌, ◌%◌, ◌<◌, ◌≤◌, ◌≡◌, refl, sym, ap, ap₂, ◌∙◌, subst, arith, List, [], ◌++◌, length, length-append, get_or, map, bit_xor, Bor, cases_eq, cases_lt, get_or-take, get_or-drop, get_or-map, get_or_append_left, get_or-append_right, length-map, length-replicate, length-take-le, length-drop, mul, coefficient, word, field_sum, list_at, OneChanged, field_sum_same, recovered, Adds, AddsToEach, window, syndrome, AreProducts, AreSolved, AreExtended, texts_of, AreBlank}
 use Rattle.std.specs.Prelude.{drop}
 use Rattle.par2_recovery.proofs.Combinations.{length-texts_of}
 use Rattle.par2_recovery.proofs.Inverting.{from_zeros}
@@ -19,19 +19,19 @@ word-window from n p t q e low =
 pub many_windows : (from n : ℕ) (texts windows : List (Bor (List ℕ))) → texts_of windows ≡ map (window from n) (texts_of texts) → length windows ≡ length texts
 many_windows from n texts windows are = sym (length-texts_of windows) ∙ ap length are ∙ length-map (texts_of texts) (window from n) ∙ length-texts_of texts
 
-pub window_size : (from n size : ℕ) (texts windows : List (List ℕ)) → windows ≡ map (window from n) texts → ((j : ℕ) → j < length texts → length (list_at texts j) ≡ size) → from + n ≤ size
+pub window_size : (from n : ℕ) (texts windows : List (List ℕ)) → windows ≡ map (window from n) texts → ((j : ℕ) → j < length texts → from + n ≤ length (list_at texts j))
     → (j : ℕ) → j < length windows → length (list_at windows j) ≡ n
-window_size from n size texts windows are sizes fits j low =
+window_size from n texts windows are sizes j low =
     let here : j < length texts = (let many = ap length are ∙ length-map texts (window from n) in omega (arith, low, many)) in
     let t : List ℕ = list_at texts j in
-    let rest : n ≤ length (drop from t) = (let e = length-drop from t in let whole = sizes j here in omega (arith, e, whole, fits)) in
+    let rest : n ≤ length (drop from t) = (let e = length-drop from t in let whole = sizes j here in omega (arith, e, whole)) in
     ap (λ ws. length (list_at ws j)) are ∙ ap length (window_at from n texts j here) ∙ length-take-le n (drop from t) rest
 
 -- a syndrome of windows is one of the whole texts
-syndrome-window : (from n p : ℕ) (coefficients known slices : List (List ℕ)) (q j : ℕ) → from ≡ 2 * p → 2 * q + 1 < n → j < length slices
-    → syndrome coefficients (map (window from n) known) (map (window from n) slices) q j ≡ syndrome coefficients known slices (p + q) j
-syndrome-window from n p coefficients known slices q j e low here =
-    let factor : ℕ → ℕ = λ k. get_or (list_at coefficients j) k 0 in
+syndrome-window : (from n p : ℕ) (exponents : List ℕ) (known slices : List (List ℕ)) (q j : ℕ) → from ≡ 2 * p → 2 * q + 1 < n → j < length slices
+    → syndrome exponents (map (window from n) known) (map (window from n) slices) q j ≡ syndrome exponents known slices (p + q) j
+syndrome-window from n p exponents known slices q j e low here =
+    let factor = coefficient (get_or exponents j 0) in
     ap₂ bit_xor
     (ap (λ xs. word q xs) (window_at from n slices j here) ∙ word-window from n p (list_at slices j) q e low)
     (ap (λ m. field_sum m (λ k. mul (factor k) (word q (list_at (map (window from n) known) k)))) (length-map known (window from n))
@@ -72,32 +72,33 @@ products_added n m inverse texts zeros new e blank added = record {
   words = λ r w h low. from_zeros (2 * n) m n (length texts) inverse texts zeros new blank (omega arith) added r w (omega (arith, e)) (omega (arith, low));
 }
 
-pub words_solved : (s : ℕ) (inverse coefficients known slices syndromes new : List (List ℕ)) → s % 2 ≡ 0 → AreSyndromes (s / 2) coefficients known slices syndromes
-    → AreProducts s inverse syndromes new → AreSolved s inverse coefficients known slices new
-words_solved s inverse coefficients known slices syndromes new even are sums = record {
+-- recovery slices over the known slices, added to the texts, make syndromes of them
+pub words_solved : (s : ℕ) (inverse known slices syndromes new : List (List ℕ)) (exponents : List ℕ) → ((j : ℕ) → j < length slices → length (list_at slices j) ≡ s)
+    → AddsToEach (λ t p. recovered known (get_or exponents t 0) p) slices syndromes → AreProducts s inverse syndromes new → AreSolved s inverse exponents known slices new
+words_solved s inverse known slices syndromes new exponents sizes added sums = record {
   count = sums.count;
   sizes = sums.sizes;
   words = λ r w h low.
       sums.words r w h low
-      ∙ ap (λ k. field_sum k (λ j. mul (get_or (list_at inverse r) j 0) (word w (list_at syndromes j)))) are.count
-      ∙ field_sum_same (length slices) (λ j. mul (get_or (list_at inverse r) j 0) (word w (list_at syndromes j))) (λ j. mul (get_or (list_at inverse r) j 0) (syndrome coefficients known slices w j))
-      (λ j here. ap (mul (get_or (list_at inverse r) j 0)) (are.words j w here (omega (arith, low))));
+      ∙ ap (λ k. field_sum k (λ j. mul (get_or (list_at inverse r) j 0) (word w (list_at syndromes j)))) added.count
+      ∙ field_sum_same (length slices) (λ j. mul (get_or (list_at inverse r) j 0) (word w (list_at syndromes j))) (λ j. mul (get_or (list_at inverse r) j 0) (syndrome exponents known slices w j))
+      (λ j here. ap (mul (get_or (list_at inverse r) j 0)) (added.each j w here (let size = sizes j here in omega (arith, size, low))));
 }
 
 -- ---- block by block
 
-pub none_solved : (m : ℕ) (inverse coefficients known slices texts : List (List ℕ)) → m ≡ length inverse → AreBlank 0 m texts → AreSolved 0 inverse coefficients known slices texts
-none_solved m inverse coefficients known slices texts e blank = record {
+pub none_solved : (m : ℕ) (exponents : List ℕ) (inverse known slices texts : List (List ℕ)) → m ≡ length inverse → AreBlank 0 m texts → AreSolved 0 inverse exponents known slices texts
+none_solved m exponents inverse known slices texts e blank = record {
   count = blank.count ∙ e;
   sizes = λ r h. ap length (blank.each r (omega (arith, e)));
   words = λ r w h low. absurd (omega (arith, low));
 }
 
 -- a block more, of n bytes
-pub more_solved : (from n : ℕ) (inverse coefficients known slices old blocks new : List (List ℕ)) → from % 2 ≡ 0 → AreSolved from inverse coefficients known slices old
-    → AreSolved n inverse coefficients (map (window from n) known) (map (window from n) slices) blocks → AreExtended old blocks new (length blocks)
-    → AreSolved (from + n) inverse coefficients known slices new
-more_solved from n inverse coefficients known slices old blocks new even before more extended = record {
+pub more_solved : (from n : ℕ) (exponents : List ℕ) (inverse known slices old blocks new : List (List ℕ)) → from % 2 ≡ 0 → AreSolved from inverse exponents known slices old
+    → AreSolved n inverse exponents (map (window from n) known) (map (window from n) slices) blocks → AreExtended old blocks new (length blocks)
+    → AreSolved (from + n) inverse exponents known slices new
+more_solved from n exponents inverse known slices old blocks new even before more extended = record {
   count = extended.count ∙ before.count;
   sizes = λ r h. ap length (here r h) ∙ length-append (list_at old r) (list_at blocks r) ∙ ap₂ (λ a b. a + b) (before.sizes r h) (more.sizes r h);
   words = λ r w h low. elim (cases_lt w p) [
@@ -109,10 +110,10 @@ more_solved from n inverse coefficients known slices old blocks new even before 
         ap (λ xs. word w xs) (here r h)
         ∙ word_after p (list_at old r) (list_at blocks r) w (before.sizes r h ∙ half) late
         ∙ more.words r q h fits
-        ∙ ap (λ m. field_sum m (λ j. mul (get_or (list_at inverse r) j 0) (syndrome coefficients (map (window from n) known) (map (window from n) slices) q j))) (length-map slices (window from n))
-        ∙ field_sum_same (length slices) (λ j. mul (get_or (list_at inverse r) j 0) (syndrome coefficients (map (window from n) known) (map (window from n) slices) q j))
-        (λ j. mul (get_or (list_at inverse r) j 0) (syndrome coefficients known slices w j))
-        (λ j at. ap (mul (get_or (list_at inverse r) j 0)) (syndrome-window from n p coefficients known slices q j half fits at ∙ ap (λ x. syndrome coefficients known slices x j) same))
+        ∙ ap (λ m. field_sum m (λ j. mul (get_or (list_at inverse r) j 0) (syndrome exponents (map (window from n) known) (map (window from n) slices) q j))) (length-map slices (window from n))
+        ∙ field_sum_same (length slices) (λ j. mul (get_or (list_at inverse r) j 0) (syndrome exponents (map (window from n) known) (map (window from n) slices) q j))
+        (λ j. mul (get_or (list_at inverse r) j 0) (syndrome exponents known slices w j))
+        (λ j at. ap (mul (get_or (list_at inverse r) j 0)) (syndrome-window from n p exponents known slices q j half fits at ∙ ap (λ x. syndrome exponents known slices x j) same))
   ];
 }
   where
@@ -124,14 +125,3 @@ more_solved from n inverse coefficients known slices old blocks new even before 
 
     here : (r : ℕ) → r < length inverse → list_at new r ≡ list_at old r ++ list_at blocks r
     here r h = extended.each r (let n = more.count in omega (arith, n, h))
-
--- the same, from block to block
-pub next_solved : (from n at next : ℕ) (inverse coefficients known slices old blocks new windows_known windows : List (List ℕ)) → from % 2 ≡ 0 → from ≡ at → from + n ≡ next
-    → windows_known ≡ map (window from n) known → windows ≡ map (window from n) slices → AreSolved at inverse coefficients known slices old
-    → AreSolved n inverse coefficients windows_known windows blocks → AreExtended old blocks new (length blocks) → AreSolved next inverse coefficients known slices new
-next_solved from n at next inverse coefficients known slices old blocks new windows_known windows even e f known_are slices_are before more extended =
-    subst (λ m. AreSolved m inverse coefficients known slices new) f
-    (more_solved from n inverse coefficients known slices old blocks new even
-    (subst (λ m. AreSolved m inverse coefficients known slices old) (sym e) before)
-    (subst (λ ws. AreSolved n inverse coefficients (map (window from n) known) ws blocks) slices_are (subst (λ ws. AreSolved n inverse coefficients ws windows blocks) known_are more))
-    extended)

@@ -1,13 +1,11 @@
 -- The loop that offers the surviving recovery slices.
-use Rattle.par2_recovery.proofs.Common.{inl, inr, replicate, length-append, ◌-◌, ℕ, suc, ◌+◌, ◌*◌, ◌<◌, ◌≤◌, ◌≡◌, ◌↔◌, refl, sym, ap, ap₂, ◌∙◌, subst, arith, Bool, true, false, cond, eqb, ◌&&◌, ◌||◌, List, [], ◌∷◌, ◌++◌, length, get_or, map, append-nil, Option, filter, list_any, AllByRecursion, IsStrictlyIncreasing, eqb-true, eq-eqb, cases_lt, get_or-map, length-map, length-replicate, map-append, get_or_append_left, get_or_at, take_all, any-filter_same, map-map, padded, dot, coefficients, combination, IsVector, IsRepairable, Kills, kept, kept_slices, Equations, CutDown, IsIndependent, IsDependent, IsKilled, Solves, AreTexts, OnlyZeroIsKilled, recovered_of, known_of, known_alone, IsUnit, recovery_at, CutByUnit, GivesUnit, IsEliminated, AreBytes, texts_of, Bor, all-append, all_from, all-map, all_unmap}
+use Rattle.par2_recovery.proofs.Common.{inl, inr, length-append, ℕ, ◌+◌, ◌*◌, ◌<◌, ◌≡◌, ◌↔◌, refl, sym, ap, ap₂, ◌∙◌, subst, arith, Bool, true, false, cond, eqb, ◌&&◌, ◌||◌, List, [], ◌∷◌, ◌++◌, length, get_or, map, append-nil, filter, take, list_any, AllByRecursion, IsStrictlyIncreasing, eqb-true, eq-eqb, cases_lt, get_or-map, length-map, map-append, get_or_append_left, get_or_at, take_all, dot, coefficients, combination, IsVector, IsRepairable, Kills, kept, kept_slices, Equations, CutDown, IsIndependent, IsDependent, Solves, AreTexts, OnlyZeroIsKilled, recovered_of, IsUnit, recovery_at, CutByUnit, GivesUnit, IsEliminated, Bor, all-map, all_unmap}
+use Rattle.std.proofs.lemmas.Map.Views.{any-filter_same}
 use Rattle.par2_spec.proofs.RankLaws.{all_weaker}
-use Rattle.std.specs.Prelude.{take}
 use Rattle.std.proofs.Math.Bool.{and-true, or-true}
 use Rattle.par2_matrix.specs.Systems as systems
-use Rattle.par2_recovery.proofs.Ranks.{Eliminated, is_kept, kept_is, dependent_is, one_kept, none_kept, none_offered, all_offered, all_more, kept_more}
-use Rattle.par2_recovery.proofs.Rebuilding.{AreSized, AreKnown, present_of_map}
+use Rattle.par2_recovery.proofs.Ranks.{Eliminated, is_kept, kept_is, dependent_is, one_kept, none_kept, none_offered, all_offered, kept_more}
 use Rattle.par2_recovery.proofs.RankTests.{AllKill}
-use Rattle.par2_spec.proofs.RestoredLaws.{bytes-zeros}
 
 -- ---- the recovery slices of the kept exponents
 
@@ -40,7 +38,6 @@ pub record Standing (lost : List ℕ) (recs kept : List (ℕ × List ℕ)) (i : 
   pub bytes : system.bytes ≡ 2 * length lost
   pub are_kept : kept ≡ filter (λ r. is_kept lost (map (λ r. r.0) recs) r.0) (take i recs)
   pub count : systems.rank system ≡ length kept
-  pub kills : (v : List ℕ) → IsVector (length lost) v → AllByRecursion (λ r. dot (coefficients lost r.0) v ≡ 0) kept → IsKilled system v
   pub solves : (texts : List (List ℕ)) → AreTexts system texts → Solves system texts
       → (j : ℕ) → j < length kept → GivesUnit (length lost) j (coefficients lost (recovery_at kept j).0) texts
 
@@ -54,7 +51,6 @@ none_stands lost recs n b e size = record {
   bytes = size;
   are_kept = none_taken (λ r. is_kept lost (map (λ r. r.0) recs) r.0) recs;
   count = refl;
-  kills = λ v is all. tt;
   solves = λ texts are solved j h. absurd (omega arith);
 }
 
@@ -76,9 +72,6 @@ stands_more lost recs kept_ones i system new up h before columns new_bytes made 
       bytes = new_bytes ∙ before.bytes;
       are_kept = ap (λ xs. xs ++ found ∷ []) before.are_kept ∙ sym (kept_more (λ r. is_kept lost all r.0) recs i (0, []) true h yes_kept);
       count = made.cut.rank ∙ ap (λ n. n + 1) before.count ∙ sym (length-append kept_ones (found ∷ []));
-      kills = λ v is killed.
-          let both = (all_more (λ r. dot (coefficients lost r.0) v ≡ 0) kept_ones found).0 killed in
-          (made.cut.kills v (subst (λ n. IsVector n v) (sym before.so_far.columns) is)).1 (before.kills v is both.0, both.1);
       solves = λ texts are solved j hj.
           let are_old : AreTexts system texts = record {
             count = are.count ∙ columns;
@@ -117,7 +110,6 @@ stands_still lost recs kept_ones i system up h before follows =
       bytes = before.bytes;
       are_kept = before.are_kept ∙ sym (kept_more (λ r. is_kept lost all r.0) recs i (0, []) false h not_kept ∙ append-nil (filter (λ r. is_kept lost all r.0) (take i recs)));
       count = before.count;
-      kills = before.kills;
       solves = before.solves;
     }
 
@@ -160,28 +152,5 @@ eliminated lost recs kept_ones i system e stands =
       count = stands.count;
       rank = all_offered lost all i system at_end stands.so_far;
       repairable = repairable_iff lost all i system at_end stands.so_far;
-      kills = stands.kills;
       solves = stands.solves;
     }
-
--- ---- known slices
-
-length-padded-one : (s : ℕ) (t : List ℕ) → length t ≤ s → length (padded s t) ≡ s
-length-padded-one s t h = length-append t (replicate (s - length t) 0) ∙ (let e = length-replicate {A = ℕ} (s - length t) 0 in omega (arith, e))
-
-bytes_padded : (n : ℕ) (t : List ℕ) → ((k : ℕ) → get_or t k 0 < 256) → AllByRecursion (λ b. b < 256) (t ++ replicate n 0)
-bytes_padded n t h = all-append (λ b. b < 256) t (replicate n 0) (all_from (λ b. b < 256) 0 t (λ k low. h k)) (bytes-zeros n)
-
-known_padded : (s : ℕ) (slices : List (Bor (List ℕ))) → AllByRecursion (λ slice. length slice.now ≤ s) slices → AreBytes (texts_of slices) → AreSized s (map (λ slice. padded s slice.now) slices)
-known_padded s [] sizes bytes = (tt, tt)
-known_padded s (x ∷ slices) sizes bytes =
-    let rest = known_padded s slices sizes.1 (λ r k. bytes (suc r) k) in
-    ((length-padded-one s x.now sizes.0, rest.0), (bytes_padded (s - length x.now) x.now (bytes 0), rest.1))
-
-pub are_known : (s : ℕ) (known : List (Option (Bor (List ℕ)))) (slices : List (Bor (List ℕ))) → AllByRecursion (λ slice. length slice.now ≤ s) (known_alone known) → texts_of slices ≡ texts_of (known_alone known) → AreBytes (texts_of slices) → AreKnown s (known_of s known)
-are_known s known slices sizes same bytes =
-    subst (AreSized s) (sym (present_of_map (λ (slice : Bor (List ℕ)). padded s slice.now) known)) (known_padded s (known_alone known) sizes (subst AreBytes same bytes))
-
-pub slices_are : (s : ℕ) (known : List (Option (Bor (List ℕ)))) (slices : List (Bor (List ℕ))) → texts_of slices ≡ texts_of (known_alone known) → map (padded s) (texts_of slices) ≡ known_alone (known_of s known)
-slices_are s known slices same =
-    ap (map (padded s)) same ∙ map-map (padded s) (λ (slice : Bor (List ℕ)). slice.now) (known_alone known) ∙ sym (present_of_map (λ (slice : Bor (List ℕ)). padded s slice.now) known)

@@ -39,6 +39,10 @@ HaveItem k lists = (r : ℕ) → r < length lists → k < length (list_at (lists
 abbrev pub AreOfSize : ℕ → List (Bor (List ℕ)) → Type 0
 AreOfSize size texts = (j : ℕ) → j < length texts → length (list_at (texts_of texts) j) ≡ size
 
+-- each text has so many bytes at least
+abbrev pub HaveColumns : ℕ → List (Bor (List ℕ)) → Type 0
+HaveColumns n texts = (j : ℕ) → j < length texts → n ≤ length (list_at (texts_of texts) j)
+
 -- with zeros after those that are shorter, the texts are these slices
 abbrev pub ArePadded : ℕ → List (List ℕ) → List (Bor (List ℕ)) → Type 0
 ArePadded s slices texts = map (padded s) (texts_of texts) ≡ slices

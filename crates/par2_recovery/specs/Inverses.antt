@@ -1,12 +1,11 @@
 -- The equations of the kept exponents, and their inverse.
 use Rattle.std.specs.Prelude.{◌≡◌, ◌↔◌, ◌*◌, ◌<◌, ◌==◌, if◌then◌else◌, ℕ, List, [], length, map, slice_index, slice_index_or}
-use Rattle.std.specs.List.{AllByRecursion}
-use Rattle.par2_spec.specs.Field.{mul, coefficient}
-use Rattle.par2_spec.specs.Recovery.{dot, coefficients, combination}
+use Rattle.par2_spec.specs.Field.{mul}
+use Rattle.par2_spec.specs.Recovery.{coefficients, combination}
 use Rattle.par2_spec.specs.Rank as ranks
 use Rattle.par2_spec.specs.Rank.{IsVector, IsRepairable, kept_slices}
 use Rattle.par2_spec.specs.Sums.{field_sum, list_at}
-use Rattle.par2_matrix.specs.Systems.{Equations, CutDown, AreTexts, Solves, IsKilled, OnlyZeroIsKilled, rank}
+use Rattle.par2_matrix.specs.Systems.{Equations, CutDown, AreTexts, Solves, OnlyZeroIsKilled, rank}
 use Rattle.par2_recovery.specs.Elements.{IsUnit}
 
 -- recovery slice j with its exponent
@@ -34,7 +33,6 @@ pub record IsEliminated (lost : List ℕ) (recovery kept : List (ℕ × List ℕ
   pub count : rank system ≡ length kept
   pub rank : rank system ≡ ranks.rank lost (map (λ r. r.0) recovery)
   pub repairable : OnlyZeroIsKilled system ↔ IsRepairable lost (map (λ r. r.0) recovery)
-  pub kills : (v : List ℕ) → IsVector (length lost) v → AllByRecursion (λ r. dot (coefficients lost r.0) v ≡ 0) kept → IsKilled system v
   pub solves : (texts : List (List ℕ)) → AreTexts system texts → Solves system texts
       → (j : ℕ) → j < length kept → GivesUnit (length lost) j (coefficients lost (recovery_at kept j).0) texts
 
@@ -42,11 +40,11 @@ pub record IsEliminated (lost : List ℕ) (recovery kept : List (ℕ × List ℕ
 abbrev pub identity : ℕ → ℕ → ℕ
 identity i k = if i == k then 1 else 0
 
--- The inverse of what the exponents, as many as slices are lost, multiply the lost slices by: the product of the two is
--- the identity.
+-- The inverse of what the exponents, as many as slices are lost, multiply the lost slices by: the product of these and
+-- the inverse is the identity.
 pub record IsInverse (lost exponents : List ℕ) (inverse : List (List ℕ)) : Type 0 where
   pub square : length exponents ≡ length lost
   pub count : length inverse ≡ length lost
   pub vectors : (i : ℕ) → i < length lost → IsVector (length lost) (list_at inverse i)
-  pub product : (i k : ℕ) → i < length lost → k < length lost
-      → field_sum (length lost) (λ j. mul (slice_index (list_at inverse i) j) (coefficient (slice_index exponents j) (slice_index lost k))) ≡ identity i k
+  pub product : (j k : ℕ) → j < length lost → k < length lost
+      → field_sum (length lost) (λ i. mul (slice_index (coefficients lost (slice_index exponents j)) i) (slice_index (list_at inverse i) k)) ≡ identity j k

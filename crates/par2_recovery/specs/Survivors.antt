@@ -1,10 +1,8 @@
 -- What survives of a set's slices.
-use Rattle.std.specs.Prelude.{◌≡◌, ◌+◌, ℕ, List, [], ◌∷◌, length, map, slice_index, Option, Some, None, option_map}
+use Rattle.std.specs.Prelude.{◌≡◌, ◌+◌, ℕ, List, [], ◌∷◌, length, map, Option, Some, None, option_map}
 use Rattle.std.specs.Borrow.{Bor}
-use Rattle.par2_spec.specs.Field.{mul}
-use Rattle.par2_spec.specs.Slices.{padded, word}
+use Rattle.par2_spec.specs.Slices.{padded}
 use Rattle.par2_spec.specs.Rank as ranks
-use Rattle.par2_spec.specs.Sums.{field_sum, list_at}
 use Rattle.par2_recovery.specs.declared.rebuild_slices.RebuildFault.{RebuildFault}
 use Rattle.par2_recovery.specs.declared.rebuild_slices.RebuildFault.TheVariants.{NotRepairable, Memory}
 
@@ -26,16 +24,11 @@ with_lost_slices (Some slice ∷ known) texts = slice ∷ with_lost_slices known
 with_lost_slices (None ∷ known) [] = [] ∷ with_lost_slices known []
 with_lost_slices (None ∷ known) (text ∷ texts) = text ∷ with_lost_slices known texts
 
--- the numbers of the lost slices, the first slice having the number a, and those of the known ones
+-- the numbers of the lost slices, the first slice having the number a
 abbrev pub lost_from : {A : Type 0} → ℕ → List (Option A) → List ℕ
 lost_from a [] = []
 lost_from a (None ∷ known) = a ∷ lost_from (a + 1) known
 lost_from a (Some slice ∷ known) = lost_from (a + 1) known
-
-abbrev pub known_from : {A : Type 0} → ℕ → List (Option A) → List ℕ
-known_from a [] = []
-known_from a (None ∷ known) = known_from (a + 1) known
-known_from a (Some slice ∷ known) = a ∷ known_from (a + 1) known
 
 -- the known slices alone
 abbrev pub known_alone : {A : Type 0} → List (Option A) → List A
@@ -52,7 +45,3 @@ bytes_or_none (Some slice) = slice.now
 abbrev pub IsTrueFault : List ℕ → List ℕ → RebuildFault → Type 0
 IsTrueFault lost exponents (NotRepairable missing rank) = (missing ≡ length lost) × (rank ≡ ranks.rank lost exponents) × (ranks.IsRepairable lost exponents → ⊥)
 IsTrueFault lost exponents Memory = Unit {0}
-
--- at each word the sum of the texts, each times its factor
-abbrev pub sum_at : List ℕ → List (List ℕ) → ℕ → ℕ
-sum_at row texts w = field_sum (length texts) (λ k. mul (slice_index row k) (word w (list_at texts k)))

@@ -7,7 +7,7 @@ use Rattle.par2_spec.specs.Slices.{word}
 use Rattle.par2_spec.specs.Recovery.{coefficients}
 use Rattle.par2_spec.specs.Sums.{field_sum, list_at}
 use Rattle.par2_recovery.specs.Products.{products}
-use Rattle.par2_recovery.specs.Survivors.{sum_at}
+use Rattle.par2_transform.specs.Columns.{recovered}
 
 -- at most n bytes of a text, from `from` on
 abbrev pub window : ℕ → ℕ → List ℕ → List ℕ
@@ -21,15 +21,10 @@ all_coefficients n exponents = map (coefficients (range_with_len 0 n)) exponents
 abbrev pub AreRun : ℕ → List ℕ → Type 0
 AreRun first exponents = (j : ℕ) → j < length exponents → slice_index exponents j ≡ first + j
 
--- word w of syndrome j: that of recovery slice j and what the known slices give to it, each times its coefficient in
--- row j; so it is what the lost slices give to it
-abbrev pub syndrome : (coefficients known slices : List (List ℕ)) → ℕ → ℕ → ℕ
-syndrome coefficients known slices w j = bit_xor (word w (list_at slices j)) (sum_at (list_at coefficients j) known w)
-
--- the first n words of the texts are those of the syndromes
-pub record AreSyndromes (n : ℕ) (coefficients known slices texts : List (List ℕ)) : Type 0 where
-  pub count : length texts ≡ length slices
-  pub words : (j w : ℕ) → j < length slices → w < n → word w (list_at texts j) ≡ syndrome coefficients known slices w j
+-- word w of syndrome j: that of recovery slice j and what the known slices give to it; so it is what the lost slices
+-- give to it
+abbrev pub syndrome : (exponents : List ℕ) (known slices : List (List ℕ)) → ℕ → ℕ → ℕ
+syndrome exponents known slices w j = bit_xor (word w (list_at slices j)) (recovered known (slice_index exponents j) w)
 
 -- sums of s bytes: the inverse times the texts
 pub record AreProducts (s : ℕ) (inverse texts sums : List (List ℕ)) : Type 0 where
@@ -38,11 +33,11 @@ pub record AreProducts (s : ℕ) (inverse texts sums : List (List ℕ)) : Type 0
   pub words : (r w : ℕ) → r < length inverse → 2 * w + 1 < s → word w (list_at sums r) ≡ products (length texts) inverse texts r w
 
 -- texts of s bytes: the inverse times the syndromes
-pub record AreSolved (s : ℕ) (inverse coefficients known slices texts : List (List ℕ)) : Type 0 where
+pub record AreSolved (s : ℕ) (inverse : List (List ℕ)) (exponents : List ℕ) (known slices texts : List (List ℕ)) : Type 0 where
   pub count : length texts ≡ length inverse
   pub sizes : (r : ℕ) → r < length inverse → length (list_at texts r) ≡ s
   pub words : (r w : ℕ) → r < length inverse → 2 * w + 1 < s
-      → word w (list_at texts r) ≡ field_sum (length slices) (λ j. mul (slice_index (list_at inverse r) j) (syndrome coefficients known slices w j))
+      → word w (list_at texts r) ≡ field_sum (length slices) (λ j. mul (slice_index (list_at inverse r) j) (syndrome exponents known slices w j))
 
 -- after each of the first n texts there is the block at its place
 pub record AreExtended (old blocks new : List (List ℕ)) (n : ℕ) : Type 0 where

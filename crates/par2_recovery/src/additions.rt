@@ -10,7 +10,7 @@ ghost use Rattle.par2_transform.specs.Adding.{within, AddsAt, AddsToEach, HaveWo
 ghost use Rattle.par2_transform.specs.Columns.{recovered};
 ghost use Rattle.par2_recovery.specs.Answers.{AddsRecovery, HaveAll, HaveAtLeast, LieIn};
 ghost use Rattle.par2_recovery.specs.Products.{products};
-ghost use Rattle.par2_recovery.specs.Syndromes.{all_coefficients, AreRun};
+ghost use Rattle.par2_recovery.specs.Syndromes.{AreRun};
 ghost use Rattle.par2_recovery.specs.Views.{texts_of};
 
 use crate::exponents::coefficients;
@@ -55,16 +55,11 @@ fn sum_columns(slices: usize, count: usize, room: usize) -> usize
 }
 
 /// The numbers from `first` on, `count` of them.
-#[tactic(auto, using(crate::proofs::Combinations::range_more))]
 pub(crate) fn numbers_from(alloc: Global, first: u32, count: u32) -> Result<Vec<u32>, AllocError>
     requires { first + count ≤ 2 ^ 32 }
     ensures { IfOk result (λ numbers. numbers.items ≡ range_with_len first count) }
 {
-    let mut numbers = Vec::with_capacity(alloc, count as usize)?;
-    for k in 0..count {
-        numbers.push(first + k)?;
-    }
-    Ok(numbers)
+    (0..count).map(|k| first + k).collect(alloc)
 }
 
 // For each exponent, what it multiplies the slices of these numbers by.

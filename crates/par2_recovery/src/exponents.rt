@@ -1,6 +1,6 @@
 //! Which lost slices the surviving recovery slices determine.
 
-ghost use Rattle.std.specs.Prelude.{◌≡◌, ◌≢◌, ◌↔◌, ◌<◌, ◌≤◌, ℕ, length, slice_index, map, IfOk, IfSome, IsTrue, Ok};
+ghost use Rattle.std.specs.Prelude.{◌≡◌, ◌≢◌, ◌↔◌, ◌<◌, ◌≤◌, ℕ, length, slice_index, IfOk, IfSome, IsTrue, Ok};
 ghost use Rattle.std.specs.List.Sorted.{IsStrictlyIncreasing};
 ghost use Rattle.par2_spec.specs.Field.{coefficient};
 ghost use Rattle.par2_spec.specs.Recovery.{coefficients};
@@ -71,16 +71,11 @@ pub(crate) fn offer(
 fn rise(numbers: &[u32]) -> bool
     ensures { IsTrue result ↔ IsStrictlyIncreasing numbers.now }
 {
-    for i in 1..numbers.len() {
-        if numbers[i] <= numbers[i - 1] {
-            return false;
-        }
-    }
-    true
+    numbers.windows(2).all(|pair| pair[0] < pair[1])
 }
 
-// Whether any two of these exponents, which rise, differ by less than `count`: the last and the first do.
-fn are_close(exponents: &[u32], count: usize) -> bool
+/// Whether any two of these exponents, which rise, differ by less than `count`: the last and the first do.
+pub(crate) fn are_close(exponents: &[u32], count: usize) -> bool
     requires { IsStrictlyIncreasing exponents.now }
     ensures { IsTrue result ↔ AreClose count exponents.now }
 {

@@ -1,19 +1,19 @@
 //! The equations of the kept exponents, and their inverse.
 
-ghost use Rattle.std.specs.Prelude.{◌≡◌, ℕ, ◌*◌, ◌<◌, ◌≤◌, length, map, slice_index, slice_index_or, [], IfErr, IfOk, IsOk, Ok, ◌+◌, ◌%◌, take, IfSome, IsNone};
+ghost use Rattle.std.specs.Prelude.{◌≡◌, ℕ, ◌*◌, ◌<◌, ◌≤◌, length, map, slice_index, slice_index_or, [], IfErr, IfOk, IsOk, Ok, ◌%◌, IfSome, IsNone};
 ghost use Rattle.std.specs.List.Sorted.{IsStrictlyIncreasing};
-ghost use Rattle.par2_spec.specs.Rank.{IsRepairable, kept_slices};
+ghost use Rattle.par2_spec.specs.Rank.{IsRepairable};
 ghost use Rattle.par2_spec.specs.Sums.{lists_of, list_at};
 ghost use Rattle.par2_recovery.specs.Answers.{HasInverse, KeepsThose};
 ghost use Rattle.par2_recovery.specs.Views.{texts_of};
 ghost use Rattle.par2_recovery.specs.Survivors.{recovered_of, exponents_of, IsTrueFault};
-ghost use Rattle.par2_recovery.specs.Inverses.{IsEliminated, IsInverse};
+ghost use Rattle.par2_recovery.specs.Inverses.{IsEliminated};
 ghost use Rattle.par2_matrix.specs.Echelon.{Spells};
 ghost use Rattle.par2_recovery.specs.Elements.{AreRows, IsUnit};
 ghost use Rattle.par2_spec.specs.Runs.{AreSlices};
 ghost use Rattle.par2_recovery.specs.RunInverses.{BeginsWithRun};
 
-use crate::exponents::offer;
+use crate::exponents::{are_close, offer};
 use crate::products::text_at;
 use crate::rebuild_slices::RebuildFault;
 use crate::run_inverse::run_inverse;
@@ -108,22 +108,14 @@ pub(crate) fn bytes_of<'a>(
     ensures { IfOk result (λ slices. texts_of slices.items
         ≡ map (λ r. r.1) (recovered_of kept.now)) }
 {
-    let mut slices = Vec::with_capacity(alloc, kept.len())?;
-    for j in 0..kept.len() {
-        slices.push(recovery_at(kept, j).1)?;
-    }
-    Ok(slices)
+    kept.iter().map(|slice| slice.1).collect(alloc)
 }
 
 /// The exponents of the recovery slices.
 pub(crate) fn exponents_of(alloc: Global, kept: &[(u32, &[u8])]) -> Result<Vec<u32>, AllocError>
     ensures { IfOk result (λ exponents. exponents.items ≡ exponents_of kept.now) }
 {
-    let mut exponents = Vec::with_capacity(alloc, kept.len())?;
-    for j in 0..kept.len() {
-        exponents.push(recovery_at(kept, j).0)?;
-    }
-    Ok(exponents)
+    kept.iter().map(|slice| slice.0).collect(alloc)
 }
 
 // The elements of a text.
@@ -166,21 +158,19 @@ fn unit(alloc: Global, n: usize, i: usize) -> Result<Vec<u8>, AllocError>
     Ok(text)
 }
 
-// The first of `count` exponents, where these are the first of the recovery slices and follow one another without a gap:
-// as they rise, the last one is then as near to the first as it can be.
-fn run_at_front(recovery: &[(u32, &[u8])], count: usize) -> Option<u32>
-    requires { IsStrictlyIncreasing (exponents_of recovery.now) }
-    ensures run { IfSome result (λ first. BeginsWithRun first count (exponents_of recovery.now)) }
+// The first of `count` exponents, where these are the first ones and follow one another without a gap: they rise, so they
+// do where any two of them differ by less than `count`.
+fn run_at_front(exponents: &[u32], count: usize) -> Option<u32>
+    requires { IsStrictlyIncreasing exponents.now }
+    ensures run { IfSome result (λ first. BeginsWithRun first count exponents.now) }
     ensures none { IsNone result → (first : ℕ) → 0 < count
-        → BeginsWithRun first count (exponents_of recovery.now) → ⊥ }
+        → BeginsWithRun first count exponents.now → ⊥ }
 {
-    if count == 0 || recovery.len() < count {
+    if exponents.len() < count {
         return None;
     }
-    let first = recovery_at(recovery, 0).0;
-    let last = recovery_at(recovery, count - 1).0;
-    if (last - first) as usize == count - 1 {
-        Some(first)
+    if are_close(&exponents[..count], count) {
+        exponents.first().copied()
     } else {
         None
     }
@@ -223,7 +213,8 @@ pub(crate) fn invert<'a>(
     ensures enough { IsOk result → IsRepairable lost.now (exponents_of recovery.now) }
     ensures refused { IfErr result (IsTrueFault lost.now (exponents_of recovery.now)) }
 {
-    match run_at_front(recovery, lost.len()) {
+    let exponents = exponents_of(alloc, recovery)?;
+    match run_at_front(&exponents, lost.len()) {
         Some(first) => Ok(invert_run(alloc, gf, lost, recovery, first)?),
         None => invert_by_elimination(alloc, gf, lost, recovery),
     }

@@ -1,17 +1,11 @@
 //! Lost slices are rebuilt.
 
-ghost use Rattle.std.specs.Prelude.{◌≡◌, ℕ, ◌+◌, ◌*◌, ◌%◌, ◌^◌, ◌<◌, ◌≤◌, length, map, slice_index_or, is_none, IfOk, IfSome, MatchResult, IfErr, IsOk, None};
-ghost use Rattle.std.specs.List.{AllByRecursion};
-ghost use Rattle.std.specs.List.Sorted.{IsStrictlyIncreasing};
+ghost use Rattle.std.specs.Prelude.{◌≡◌, ◌<◌, ◌≤◌, length, map, slice_index_or, is_none, IfOk, IfErr, IsOk, None};
 ghost use Rattle.par2_spec.specs.Search.{lost};
-ghost use Rattle.par2_spec.specs.Recovery.{coefficients};
-ghost use Rattle.par2_spec.specs.Sums.{list_at, lists_of};
-ghost use Rattle.par2_recovery.specs.Answers.{lost_among, HaveAtLeast, IsFaultOf, Rebuild};
-ghost use Rattle.par2_recovery.specs.Products.{AreBytes};
+ghost use Rattle.par2_recovery.specs.Answers.{lost_among, IsFaultOf, Rebuild};
 ghost use Rattle.par2_recovery.specs.Views.{texts_of};
-ghost use Rattle.par2_recovery.specs.Survivors.{known_of, recovered_of, exponents_of, with_lost_slices, lost_from, known_from, known_alone, bytes_or_none, IsTrueFault};
-ghost use Rattle.par2_recovery.specs.Syndromes.{AreSolved};
-ghost use Rattle.par2_recovery.specs.Rebuilding.{CanRebuild, known_among, AreRebuilt, AreEnough};
+ghost use Rattle.par2_recovery.specs.Survivors.{exponents_of, lost_from, bytes_or_none};
+ghost use Rattle.par2_recovery.specs.Rebuilding.{CanRebuild, AreEnough};
 
 use crate::inverse::{Inversion, bytes_of, exponents_of, invert};
 use crate::products::{fit_lists, fit_texts};
@@ -74,12 +68,11 @@ fn lost_numbers(alloc: Global, known: &[Option<&[u8]>]) -> Result<Vec<u32>, Allo
     Ok(numbers)
 }
 
-// The bytes of slice i, none where it is lost.
-fn bytes_at<'a>(known: &[Option<&'a [u8]>], i: usize) -> &'a [u8]
-    requires { i < length known.now }
-    ensures { result.now ≡ bytes_or_none (slice_index_or known.now i None) }
+// The bytes of a slice, none where it is lost.
+fn bytes_of_slice<'a>(slice: Option<&'a [u8]>) -> &'a [u8]
+    ensures { result.now ≡ bytes_or_none slice.entry }
 {
-    match known[i] {
+    match slice {
         Some(bytes) => bytes,
         None => &[],
     }
@@ -92,11 +85,10 @@ fn slices_or_none<'a>(
 ) -> Result<Vec<&'a [u8]>, AllocError>
     ensures { IfOk result (λ slices. texts_of slices.items ≡ map bytes_or_none known.now) }
 {
-    let mut slices = Vec::with_capacity(alloc, known.len())?;
-    for i in 0..known.len() {
-        slices.push(bytes_at(known, i))?;
-    }
-    Ok(slices)
+    known
+        .iter()
+        .map(|slice| bytes_of_slice(*slice))
+        .collect(alloc)
 }
 
 /// The lost slices in order, with their padding. NotRepairable is answered where the recovery slices don't determine

@@ -1,14 +1,11 @@
 //! Recovery slices over the files of a set (Parity Volume Set Specification 2.0, "Recovery Slice packet").
 
-ghost use Rattle.std.specs.Prelude.{◌≡◌, ℕ, ◌+◌, ◌*◌, ◌%◌, ◌^◌, ◌<◌, ◌≤◌, ◌++◌, length, map, replicate, slice_index_or, [], IfOk, IsTrue};
+ghost use Rattle.std.specs.Prelude.{◌≡◌, ◌+◌, ◌%◌, ◌^◌, ◌<◌, ◌≤◌, ◌++◌, length, map, slice_index_or, [], IfOk};
 ghost use Rattle.std.specs.List.{range_with_len};
 ghost use Rattle.par2_spec.specs.Folders.{bytes_of};
 ghost use Rattle.par2_spec.specs.Slices as spec;
-ghost use Rattle.par2_spec.specs.Volumes.{all_slices};
-ghost use Rattle.par2_spec.specs.Commands.{files_of};
 ghost use Rattle.par2_spec.specs.Recovery.{recovery};
 ghost use Rattle.par2_spec.specs.Sums.{lists_of};
-ghost use Rattle.par2_transform.specs.Adding.{LieWithin};
 ghost use Rattle.par2_recovery.specs.Answers.{slices_of_set, ArePadded, LieIn};
 ghost use Rattle.par2_recovery.specs.Views.{texts_of, names_of, AreBlank};
 ghost use Rattle.par2_recovery.specs.Writing.{AreWritten, AreZeros};

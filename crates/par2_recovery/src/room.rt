@@ -16,11 +16,9 @@ const WIDEST: usize = 32;
 
 // How many bytes the slices have.
 fn total_len(slices: &[&[u8]]) -> usize {
-    let mut total = 0usize;
-    for slice in slices {
-        total = total.saturating_add(slice.len());
-    }
-    total
+    slices
+        .iter()
+        .fold(0usize, |total, slice| total.saturating_add(slice.len()))
 }
 
 // A quarter of the room.

@@ -38,14 +38,10 @@ fn constants(alloc: Global, gf: &Gf, numbers: &[u32]) -> Result<Vec<u16>, AllocE
 fn times_root(alloc: Global, gf: &Gf, c: u16, p: &[u16]) -> Result<Vec<u16>, AllocError>
     ensures { IfOk result (λ product. product.items ≡ times_root c p.now) }
 {
-    let mut product = Vec::with_capacity(alloc, p.len() + 1)?;
-    let mut before = 0;
-    for a in p {
-        product.push(gf.mul(c, *a) ^ before)?;
-        before = *a;
-    }
-    product.push(before)?;
-    Ok(product)
+    let zero = [0u16];
+    let before = zero.iter().chain(p);
+    let pairs = p.iter().chain(&zero).zip(before);
+    pairs.map(|(a, b)| gf.mul(c, *a) ^ *b).collect(alloc)
 }
 
 // The polynomial of these roots.
@@ -88,11 +84,7 @@ fn value(gf: &Gf, p: &[u16], z: u16) -> u16
 fn scaled(alloc: Global, gf: &Gf, k: u16, p: &[u16]) -> Result<Vec<u16>, AllocError>
     ensures { IfOk result (λ multiple. multiple.items ≡ times k p.now) }
 {
-    let mut multiple = Vec::with_capacity(alloc, p.len())?;
-    for a in p {
-        multiple.push(gf.mul(k, *a))?;
-    }
-    Ok(multiple)
+    p.iter().map(|a| gf.mul(k, *a)).collect(alloc)
 }
 
 fn inverse_of(gf: &Gf, a: u16) -> u16

@@ -49,11 +49,10 @@ pub fn file_texts<'a>(
     ensures { IfOk result
         (λ it. texts_of it.items ≡ map (spec.bytes_of folder.now.files) names.now) }
 {
-    let mut texts = Vec::with_capacity(alloc, names.len())?;
-    for i in 0..names.len() {
-        texts.push(bytes_of(folder, text_at(names, i)))?;
-    }
-    Ok(texts)
+    names
+        .iter()
+        .map(|name| bytes_of(folder, name.as_str()))
+        .collect(alloc)
 }
 
 /// What a set of slice size `s` says of the files of these names, in their order; the MD5 digests of the files are known.

@@ -2,10 +2,10 @@
 //! which is what the lost slices alone give to it. The inverse makes the lost slices of these, some columns at a time. A
 //! slice that is lost gives nothing, as an empty one does.
 
-ghost use Rattle.std.specs.Prelude.{◌≡◌, ℕ, ◌*◌, ◌%◌, ◌<◌, ◌≤◌, ◌++◌, length, map, IfOk};
+ghost use Rattle.std.specs.Prelude.{◌≡◌, ◌%◌, ◌<◌, ◌≤◌, ◌+◌, ◌++◌, length, map, IfOk};
 ghost use Rattle.par2_spec.specs.Sums.{OneChanged, list_at, lists_of};
-ghost use Rattle.par2_recovery.specs.Answers.{AreOfSize, HaveAtLeast};
-ghost use Rattle.par2_recovery.specs.Syndromes.{all_coefficients, window, AreProducts, AreSolved, AreExtended};
+ghost use Rattle.par2_recovery.specs.Answers.{AreOfSize, HaveAtLeast, HaveColumns};
+ghost use Rattle.par2_recovery.specs.Syndromes.{window, AreSolved, AreExtended};
 ghost use Rattle.par2_recovery.specs.Views.{texts_of, AreBlank};
 
 use crate::additions::with_recovery_slices;
@@ -36,25 +36,20 @@ pub(crate) fn windows<'a>(
     ensures { IfOk result
         (λ windows. texts_of windows.items ≡ map (window from count) (texts_of texts.now)) }
 {
-    let mut windows = Vec::with_capacity(alloc, texts.len())?;
-    for k in 0..texts.len() {
-        windows.push(window_of(source_at(texts, k), from, count))?;
-    }
-    Ok(windows)
+    texts
+        .iter()
+        .map(|text| window_of(*text, from, count))
+        .collect(alloc)
 }
 
 // The same texts, by reference.
 fn borrowed(alloc: Global, texts: &[Vec<u8>]) -> Result<Vec<&[u8]>, AllocError>
     ensures { IfOk result (λ slices. texts_of slices.items ≡ lists_of texts.now) }
 {
-    let mut slices = Vec::with_capacity(alloc, texts.len())?;
-    for text in texts {
-        slices.push(text.as_slice())?;
-    }
-    Ok(slices)
+    texts.iter().map(|text| text.as_slice()).collect(alloc)
 }
 
-// The lost slices of these columns: the inverse times the syndromes.
+// The lost slices of the `count` columns from `from` on: the inverse times the syndromes.
 fn solved_block(
     alloc: Global,
     gf: &Gf,
@@ -62,22 +57,25 @@ fn solved_block(
     exponents: &[u32],
     recovery: &[&[u8]],
     slices: &[&[u8]],
-    size: usize,
+    from: usize,
+    count: usize,
     room: usize,
 ) -> Result<Vec<Vec<u8>>, AllocError>
     requires inverse { HaveAtLeast (length recovery.now) inverse.now }
     requires count { length slices.now ≤ 32768 }
     requires exponents { length exponents.now ≡ length recovery.now }
-    requires size { AreOfSize size recovery.now }
-    requires even { size % 2 ≡ 0 }
-    ensures { IfOk result (λ texts. AreSolved size (lists_of inverse.now)
-        (all_coefficients (length slices.now) exponents.now) (texts_of slices.now)
-        (texts_of recovery.now) (lists_of texts.items)) }
+    requires size { HaveColumns (from + count) recovery.now }
+    requires even { count % 2 ≡ 0 }
+    ensures { IfOk result (λ texts. AreSolved count (lists_of inverse.now) exponents.now
+        (map (window from count) (texts_of slices.now))
+        (map (window from count) (texts_of recovery.now)) (lists_of texts.items)) }
 {
-    let words = size / 2;
-    let syndromes = with_recovery_slices(alloc, gf, slices, words, exponents, recovery, room)?;
+    let recovery = windows(alloc, recovery, from, count)?;
+    let slices = windows(alloc, slices, from, count)?;
+    let words = count / 2;
+    let syndromes = with_recovery_slices(alloc, gf, &slices, words, exponents, &recovery, room)?;
     let sources = borrowed(alloc, &syndromes)?;
-    products_of(alloc, gf, inverse, &sources, size)
+    products_of(alloc, gf, inverse, &sources, count)
 }
 
 // Empty texts, with room for so many bytes each.
@@ -130,8 +128,7 @@ pub(crate) fn solved(
     requires size { AreOfSize size recovery.now }
     requires even { size % 2 ≡ 0 }
     ensures { IfOk result (λ texts. AreSolved size (lists_of inverse.now)
-        (all_coefficients (length slices.now) exponents.now) (texts_of slices.now)
-        (texts_of recovery.now) (lists_of texts.items)) }
+        exponents.now (texts_of slices.now) (texts_of recovery.now) (lists_of texts.items)) }
 {
     let at_once = columns_at_once(slices, recovery.len(), size).max(LEAST);
     let room = rows_room(slices);
@@ -139,10 +136,8 @@ pub(crate) fn solved(
     let mut from = 0;
     while from < size {
         let count = at_once.min(size - from);
-        let recovery = windows(alloc, recovery, from, count)?;
-        let slices = windows(alloc, slices, from, count)?;
         let lost = solved_block(
-            alloc, gf, inverse, exponents, &recovery, &slices, count, room,
+            alloc, gf, inverse, exponents, recovery, slices, from, count, room,
         )?;
         extend(texts.as_mut_slice(), &lost)?;
         from += count;

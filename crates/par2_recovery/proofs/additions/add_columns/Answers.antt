@@ -1,22 +1,7 @@
-use Rattle.par2_recovery.proofs.Common.{◌≤◌, ◌<◌, ◌-◌, ◌*◌, ◌∙◌, ℕ, List, Vec, Global, sym, ap, subst, length, list_at, lists_of, length-lists_of, AreProducts, texts_of}
+use Rattle.par2_recovery.proofs.Common.{◌-◌, ◌*◌, ◌∙◌, ℕ, List, Vec, Global, sym, ap, subst, length, lists_of, length-lists_of, AreProducts, texts_of}
 use Rattle.par2_recovery.proofs.AdditionLaws.{sums_are}
 use Rattle.par2_recovery.proofs.Combinations.{length-texts_of}
-use Rattle.par2_recovery.proofs.Solving.{many_windows}
 use Rattle.par2_recovery.proofs.additions.add_columns.Goals as goal
-
-pub products_of-requires-clause-factors : goal.products_of-requires-clause-factors
-products_of-requires-clause-factors c = λ r h.
-    let many = many_windows (2 * c.args.from) (2 * (c.args.to - c.args.from)) c.args.slices.now c.deref.result.now (ap texts_of c.deref.ensures.value ∙ c.in_ok-windows.ensures) in
-    subst (λ n. n ≤ length (list_at (lists_of c.args.rows.now) r)) (sym many) (c.requires.factors r h)
-
-pub add_sums-requires-clause-count : goal.add_sums-requires-clause-count
-add_sums-requires-clause-count c =
-    sym (length-lists_of c.deref-2.result.now) ∙ ap (λ (xs : List (Vec ℕ Global)). length (lists_of xs)) c.deref-2.ensures.value ∙ c.in_ok-sums.ensures.count ∙ length-lists_of c.args.rows.now ∙ c.requires.rows
-
-pub add_sums-requires-clause-sizes : goal.add_sums-requires-clause-sizes
-add_sums-requires-clause-sizes c = λ t h.
-    let count = sym (length-lists_of c.deref-2.result.now) ∙ ap (λ (xs : List (Vec ℕ Global)). length (lists_of xs)) c.deref-2.ensures.value ∙ c.in_ok-sums.ensures.count in
-    ap (λ (xs : List (Vec ℕ Global)). length (list_at (lists_of xs) t)) c.deref-2.ensures.value ∙ c.in_ok-sums.ensures.sizes t (subst (λ n. t < n) count h)
 
 pub returns : goal.returns
 returns c =

@@ -1,10 +1,10 @@
-use Rattle.par2_recovery.proofs.Common.{◌≤◌, ◌-◌, ◌∙◌, ℕ, List, sym, ap, subst, arith, length, drop, length-take-le, length-drop, lists_of, LieWithin, Place, still_within, group_within, length-group, texts_of}
-use Rattle.par2_recovery.proofs.AdditionLaws.{group, no_output_yet, adds_group, adds_all}
+use Rattle.par2_recovery.proofs.Common.{◌≤◌, ◌-◌, ◌∙◌, ℕ, List, get_or, sym, ap, subst, arith, length, drop, recovered, length-take-le, length-drop, lists_of, LieWithin, Place, still_within, group_within, length-group, texts_of}
+use Rattle.par2_recovery.proofs.AdditionLaws.{group, none_added, adds_group, all_added}
 use Rattle.par2_recovery.proofs.additions.add_recovery.Goals as goal
 
 pub loop-at-init : goal.loop-at-init
 loop-at-init c = record {
-  added = no_output_yet c.args.outputs.now.places.now c.args.outputs.now.words c.args.exponents.now (texts_of c.args.slices.now) (lists_of c.args.texts.now);
+  added = none_added c.args.outputs.now.places.now c.args.outputs.now.words (λ t p. recovered (texts_of c.args.slices.now) (get_or c.args.exponents.now t 0) p) (lists_of c.args.texts.now);
   within = omega arith;
 }
 
@@ -45,5 +45,5 @@ loop-at-preserved c =
 
 pub returns : goal.returns
 returns c =
-    adds_all c.args.outputs.now.places.now c.args.outputs.now.words c.loop-at.at c.args.exponents.now (texts_of c.args.slices.now) (lists_of c.args.texts.now) (lists_of c.loop-at.texts)
+    all_added c.args.outputs.now.places.now c.args.outputs.now.words c.loop-at.at (λ t p. recovered (texts_of c.args.slices.now) (get_or c.args.exponents.now t 0) p) (lists_of c.args.texts.now) (lists_of c.loop-at.texts)
     (let h = c.loop-at-test.false in let e = c.requires.count in omega (arith, h, e)) c.loop-at.invariant.added

@@ -1,18 +1,9 @@
-use Rattle.par2_recovery.proofs.Common.{◌≡◌, ap, arith, length, lists_of, still_within}
-use Rattle.par2_recovery.proofs.AdditionLaws.{no_sum, next_sum, all_sums}
+use Rattle.par2_recovery.proofs.Common.{arith, lists_of}
+use Rattle.par2_recovery.proofs.AdditionLaws.{sum_word, none_added, next_sum, all_added}
 use Rattle.par2_recovery.proofs.additions.add_sums.Goals as goal
 
-pub add_to_output-requires-clause-row : goal.add_to_output-requires-clause-row
-add_to_output-requires-clause-row c =
-    let same = ap length c.text_at.ensures in
-    let size = c.requires.sizes c.loop-t.t c.loop-t-test.true in
-    omega (arith, same, size, c.requires.order)
-
-pub add_to_output-requires-clause-room : goal.add_to_output-requires-clause-room
-add_to_output-requires-clause-room c = still_within c.args.outputs.now.places.now c.args.outputs.now.words c.args.outputs.now.words _ (lists_of c.args.texts.now) (lists_of c.loop-t.texts) c.loop-t.invariant c.requires.room
-
 pub loop-t-init : goal.loop-t-init
-loop-t-init c = no_sum c.args.outputs.now.places.now c.args.outputs.now.words c.args.from c.args.to (lists_of c.args.sums.now) (lists_of c.args.texts.now)
+loop-t-init c = none_added c.args.outputs.now.places.now c.args.outputs.now.words (sum_word c.args.from c.args.to (lists_of c.args.sums.now)) (lists_of c.args.texts.now)
 
 pub loop-t-preserved : goal.loop-t-preserved
 loop-t-preserved c =
@@ -21,5 +12,5 @@ loop-t-preserved c =
 
 pub returns : goal.returns
 returns c =
-    let end : c.loop-t.t ≡ length c.args.outputs.now.places.now = omega (arith, c.loop-t-test.false, c.loop-t.auto.t-end, c.requires.count) in
-    all_sums c.args.outputs.now.places.now c.args.outputs.now.words c.args.from c.args.to c.loop-t.t (lists_of c.args.sums.now) (lists_of c.args.texts.now) (lists_of c.loop-t.texts) end c.loop-t.invariant
+    all_added c.args.outputs.now.places.now c.args.outputs.now.words c.loop-t.t (sum_word c.args.from c.args.to (lists_of c.args.sums.now)) (lists_of c.args.texts.now) (lists_of c.loop-t.texts)
+    (omega (arith, c.loop-t-test.false, c.requires.count)) c.loop-t.invariant

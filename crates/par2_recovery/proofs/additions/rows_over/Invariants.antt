@@ -1,4 +1,5 @@
-use Rattle.par2_recovery.proofs.Common.{◌≡◌, map, take, coefficients, lists_of}
+use Rattle.par2_recovery.proofs.Common.{◌≡◌, map, coefficients, lists_of}
+use Rattle.std.proofs.Common.{take}
 use Rattle.par2_recovery.proofs.additions.rows_over.Given as goal
 
 abbrev pub invariant-loop-i : goal.invariant-loop-i

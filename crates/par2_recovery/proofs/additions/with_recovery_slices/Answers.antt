@@ -1,18 +1,7 @@
-use Rattle.par2_recovery.proofs.Common.{ℕ, ◌≡◌, ◌∙◌, List, Vec, Global, sym, ap, subst, arith, rules, get_or, length, with_items_is, lists_of, AddsAt, AddsToEach, AreApart, AreWholeTexts, LieWithin, recovered, Place, texts_of}
-use Rattle.par2_transform.proofs.WholeTexts.{whole_apart, whole_within, whole_added}
+use Rattle.par2_recovery.proofs.Common.{ℕ, ◌≡◌, ◌∙◌, List, Vec, Global, sym, ap, subst, rules, get_or, length, with_items_is, lists_of, AddsAt, AddsToEach, AreWholeTexts, LieWithin, recovered, Place, texts_of}
+use Rattle.par2_transform.proofs.WholeTexts.{whole_within, whole_added}
 use Rattle.par2_recovery.proofs.Combinations.{length-texts_of}
 use Rattle.par2_recovery.proofs.additions.with_recovery_slices.Goals as goal
-
-pub new-outputs-requires : goal.new-outputs-requires
-new-outputs-requires c = record {
-  apart = subst (λ (places : List Place). AreApart c.args.words places) (sym c.deref.ensures.value) (whole_apart c.args.words (length c.args.texts.now) c.in_ok-places.places.items c.in_ok-places.ensures);
-}
-
-pub add_recovery-requires-clause-count : goal.add_recovery-requires-clause-count
-add_recovery-requires-clause-count c =
-    let same = ap (λ (places : List Place). length places) (c.new-outputs.ensures.places ∙ c.deref.ensures.value) in
-    let count = c.in_ok-places.ensures.count in
-    omega (arith, same, count, c.requires.count)
 
 pub add_recovery-requires-clause-room : goal.add_recovery-requires-clause-room
 add_recovery-requires-clause-room c =

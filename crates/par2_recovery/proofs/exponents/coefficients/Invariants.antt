@@ -1,5 +1,4 @@
-use Rattle.par2_recovery.proofs.Common.{◌≡◌, map, coefficient}
-use Rattle.std.specs.Prelude.{take}
+use Rattle.par2_recovery.proofs.Common.{◌≡◌, map, coefficient, take}
 use Rattle.par2_recovery.proofs.exponents.coefficients.Given as goal
 
 abbrev pub invariant-loop-k : goal.invariant-loop-k

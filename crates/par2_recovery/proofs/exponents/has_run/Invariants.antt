@@ -1,4 +1,5 @@
-use Rattle.par2_recovery.proofs.Common.{ℕ, ◌-◌, ◌<◌, ◌≤◌, take, drop, AreClose}
+use Rattle.par2_recovery.proofs.Common.{ℕ, ◌-◌, ◌<◌, ◌≤◌, drop, AreClose}
+use Rattle.std.proofs.Common.{take}
 use Rattle.par2_recovery.proofs.exponents.has_run.Given as goal
 
 abbrev pub invariant-loop-end : goal.invariant-loop-end

@@ -1,5 +1,5 @@
-use Rattle.par2_recovery.proofs.Common.{◌≡◌, ◌≤◌, ◌↔◌, sym, subst, length, IfOk-weaker, MatchOption-at_some, IsRepairable}
-use Rattle.par2_spec.specs.Rank.{rank}
+use Rattle.par2_recovery.proofs.Common.{◌≡◌, ◌≤◌, ◌↔◌, sym, subst, length, IfOk-weaker, IsRepairable, rank}
+use Rattle.std.proofs.lemmas.Option.{MatchOption-at_some}
 use Rattle.par2_spec.proofs.FullRank.{rank-le, full-iff}
 use Rattle.par2_recovery.proofs.exponents.rank.Goals as goal
 

@@ -1,4 +1,5 @@
-use Rattle.par2_recovery.proofs.Common.{coefficients, IsUnit, ◌≡◌, ◌<◌, ◌∙◌, ◌++◌, ◌∷◌, [], ℕ, List, Vec, Global, ap, sym, subst, arith, length, Bor, Ok, Kept, Dependent, recovered_of, rank}
+use Rattle.par2_recovery.proofs.Common.{coefficients, IsUnit, ◌≡◌, ◌<◌, ◌∙◌, ◌++◌, ◌∷◌, [], ℕ, List, Vec, Global, ap, sym, subst, arith, length, Bor, Ok, Kept, Dependent, recovered_of}
+use Rattle.par2_matrix.specs.Systems.{rank}
 use Rattle.par2_recovery.proofs.Inverting.{length-recovered_of}
 use Rattle.par2_recovery.proofs.Ranks.{dependent_is_not_kept, independent_below}
 use Rattle.par2_recovery.proofs.Standing.{Standing, kept_turn, dropped_turn, eliminated}

@@ -1,10 +1,8 @@
-use Rattle.par2_recovery.proofs.Common.{◌∙◌, ◌<◌, ◌++◌, ◌∷◌, [], ℕ, List, length, sym, ap₂, subst, map_more, recovered_of}
-use Rattle.par2_recovery.proofs.Inverting.{length-recovered_of}
+use Rattle.par2_recovery.proofs.Common.{rules, ℕ, List, Bor, map-map, items_from_collect, YieldsList-from_map, YieldsList-from_slice}
 use Rattle.par2_recovery.proofs.inverse.exponents_of.Goals as goal
 
-pub loop-j-preserved : goal.loop-j-preserved
-loop-j-preserved c =
-    let recs = recovered_of c.args.kept.now in
-    let low : c.loop-j.j < length recs = subst (λ n. c.loop-j.j < n) (sym (length-recovered_of c.args.kept.now)) c.loop-j-test.true in
-    c.in_ok-push.ensures.items ∙ ap₂ (λ (exponents : List ℕ) x. exponents ++ x ∷ []) c.loop-j.invariant c.recovery_at.ensures.exponent
-    ∙ sym (map_more (λ (r : ℕ × List ℕ). r.0) recs c.loop-j.j (0, []) low)
+pub returns : goal.returns
+returns c =
+    rw (map-map (λ (r : ℕ × List ℕ). r.0) (λ (r : ℕ × Bor (List ℕ)). (r.0, r.1.now)) c.args.kept.now)
+    (items_from_collect _ c.collect.ensures.ran
+    (YieldsList-from_map _ (λ (r : ℕ × Bor (List ℕ)). r.0) (YieldsList-from_slice c.args.kept.now (cc)) c.map.ensures.closure (λ x r q k. search rules)))

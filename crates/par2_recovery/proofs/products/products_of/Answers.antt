@@ -3,10 +3,6 @@ use Rattle.par2_recovery.proofs.Combinations.{blank_room, length-texts_of}
 use Rattle.par2_recovery.proofs.Solving.{products_added}
 use Rattle.par2_recovery.proofs.products.products_of.Goals as goal
 
-pub add_products-requires-clause-rows : goal.add_products-requires-clause-rows
-add_products-requires-clause-rows c =
-    sym (ap (λ (xs : List (Vec ℕ Global)). length xs) c.as_mut_slice.ensures.value ∙ sym (length-lists_of c.in_ok-sums.sums.items) ∙ c.in_ok-sums.ensures.count)
-
 pub add_products-requires-clause-room : goal.add_products-requires-clause-room
 add_products-requires-clause-room c = λ r h.
     let size = c.args.size in

@@ -1,9 +1,9 @@
-use Rattle.par2_recovery.proofs.Common.{ℕ, ◌≡◌, ◌<◌, ◌≤◌, ◌∙◌, [], List, refl, sym, ap, subst, arith, get_or, length, map, rules, get_or-map, length-map, IfErr, AllByRecursion, IsStrictlyIncreasing, IsRepairable, kept_slices, lost, list_at, lists_of, all_get, all-filter, length-lists_of, AreBytes, AreSolved, all_coefficients, AreRebuilt, known_among, bytes_or_none, with_lost_slices, recovered_of, exponents_of, lost_from, IsTrueFault, texts_of}
+use Rattle.par2_recovery.proofs.Common.{ℕ, ◌≡◌, ◌<◌, ◌≤◌, ◌∙◌, [], List, refl, sym, ap, subst, arith, get_or, length, map, rules, get_or-map, length-map, IfErr, AllByRecursion, IsStrictlyIncreasing, IsRepairable, kept_slices, lost, list_at, lists_of, all_get, all-filter, length-lists_of, AreBytes, AreSolved, AreRebuilt, known_among, bytes_or_none, with_lost_slices, recovered_of, exponents_of, lost_from, IsTrueFault, texts_of}
 use Rattle.par2_recovery.proofs.Beginnings.{lost_rise}
 use Rattle.par2_recovery.proofs.Combinations.{length-texts_of}
-use Rattle.par2_recovery.proofs.Finishing.{lost_among, answer, inverse_long}
+use Rattle.par2_recovery.proofs.Finishing.{answer, inverse_long}
 use Rattle.par2_recovery.proofs.Inverting.{length-recovered_of, many_texts}
-use Rattle.par2_recovery.proofs.Rebuilding.{lost-lt, length-lost_from}
+use Rattle.par2_recovery.proofs.Rebuilding.{lost_are, lost-lt, length-lost_from}
 use Rattle.par2_recovery.proofs.rebuild_slices.rebuild.Goals.{After-deref-12}
 use Rattle.par2_recovery.proofs.rebuild_slices.rebuild.Goals as goal
 
@@ -31,7 +31,7 @@ returns-in_err-kept-clause-refused c =
     let exponents = exponents_of survivors.recovery.items in
     let missing : c.deref-2.result.now ≡ lost_from 0 survivors.known.items = c.deref-2.ensures.value ∙ c.in_ok-lost.ensures ∙ ap (lost_from 0) c.deref.ensures.value in
     let told : IfErr c.from_residual-in_err-kept.result (IsTrueFault c.deref-2.result.now (exponents_of c.deref-3.result.now)) = search rules in
-    subst (λ ls. IfErr c.from_residual-in_err-kept.result (IsTrueFault ls exponents)) (missing ∙ sym (lost_among survivors))
+    subst (λ ls. IfErr c.from_residual-in_err-kept.result (IsTrueFault ls exponents)) (missing ∙ sym (lost_are survivors.slice survivors.known.items))
     (subst (λ rs. IfErr c.from_residual-in_err-kept.result (IsTrueFault c.deref-2.result.now (exponents_of rs))) c.deref-3.ensures.value told)
 
 exponents_are : (c : After-deref-12) → c.deref-10.result.now ≡ exponents_of c.in_ok-kept.field-0.kept.items
@@ -77,20 +77,23 @@ solved-requires-clause-size c = λ j h.
     let sizes = subst (λ rs. AllByRecursion (λ r. length r.1 ≡ s) rs) (sym (chosen at)) (all-filter (λ r. length r.1 ≡ s) _ (recovered_of c.args.survivors.now.recovery.items) c.requires.recovery) in
     ap (λ xs. length (list_at xs j)) (recovery_are at) ∙ ap length (get_or-map (λ (r : ℕ × List ℕ). r.1) recs j (0, []) [] low) ∙ all_get (λ (r : ℕ × List ℕ). length r.1 ≡ s) recs j (0, []) low sizes
 
-made : (c : After-deref-12) (texts : List (List ℕ)) → AreSolved c.args.survivors.now.slice (lists_of c.deref-9.result.now) (all_coefficients (length c.deref-12.result.now) c.deref-10.result.now) (texts_of c.deref-12.result.now) (texts_of c.deref-11.result.now) texts → AreBytes texts
+made : (c : After-deref-12) (texts : List (List ℕ)) → AreSolved c.args.survivors.now.slice (lists_of c.deref-9.result.now) c.deref-10.result.now (texts_of c.deref-12.result.now) (texts_of c.deref-11.result.now) texts → AreBytes texts
     → AreRebuilt c.args.survivors.now (with_lost_slices (known_among c.args.survivors.now) texts) × (length texts ≡ length (lost (known_among c.args.survivors.now)))
 made c texts solved fit =
     let survivors = c.args.survivors.now in
     let missing = c.deref-2.result.now in
-    let exponents = c.deref-10.result.now in
-    let slices = c.deref-12.result.now in
-    let recovery = texts_of c.deref-11.result.now in
+    let inverse = lists_of c.in_ok-kept.field-0.inverse.items in
+    let kept = recovered_of c.in_ok-kept.field-0.kept.items in
+    let known = map bytes_or_none survivors.known.items in
     let enough = subst (λ rs. IsRepairable missing (exponents_of rs)) c.deref-3.ensures.value (c.in_ok-kept.ensures.enough refl) in
-    let lost_are = c.deref-2.ensures.value ∙ c.in_ok-lost.ensures ∙ ap (lost_from 0) c.deref.ensures.value in
-    answer survivors c.requires missing c.in_ok-kept.field-0.kept.items exponents (lists_of c.in_ok-kept.field-0.inverse.items) recovery texts slices lost_are (chosen c) c.in_ok-kept.ensures.inverse enough (exponents_are c) (recovery_are c) (slices_are c)
-    (subst (λ xs. AreBytes (texts_of xs)) (c.deref-7.ensures.value ∙ sym c.deref-11.ensures.value) c.fit_texts.ensures)
-    (subst (λ xs. AreBytes (texts_of xs)) (c.deref-8.ensures.value ∙ sym c.deref-12.ensures.value) c.fit_texts-2.ensures)
-    (subst (λ xs. AreSolved survivors.slice (lists_of xs) (all_coefficients (length slices) exponents) (texts_of slices) recovery texts) c.deref-9.ensures.value solved)
+    let lost_is = c.deref-2.ensures.value ∙ c.in_ok-lost.ensures ∙ ap (lost_from 0) c.deref.ensures.value in
+    answer survivors c.requires missing kept inverse texts lost_is (chosen c) c.in_ok-kept.ensures.inverse enough
+    (subst AreBytes (ap texts_of (c.deref-8.ensures.value ∙ sym c.deref-12.ensures.value) ∙ slices_are c) c.fit_texts-2.ensures)
+    (subst AreBytes (ap texts_of (c.deref-7.ensures.value ∙ sym c.deref-11.ensures.value) ∙ recovery_are c) c.fit_texts.ensures)
+    (subst (λ es. AreSolved survivors.slice inverse es known (map (λ r. r.1) kept) texts) (exponents_are c)
+    (subst (λ xs. AreSolved survivors.slice inverse c.deref-10.result.now xs (map (λ r. r.1) kept) texts) (slices_are c)
+    (subst (λ xs. AreSolved survivors.slice inverse c.deref-10.result.now (texts_of c.deref-12.result.now) xs texts) (recovery_are c)
+    (subst (λ xs. AreSolved survivors.slice (lists_of xs) c.deref-10.result.now (texts_of c.deref-12.result.now) (texts_of c.deref-11.result.now) texts) c.deref-9.ensures.value solved))))
     fit
 
 pub returns-clause-rebuilt : goal.returns-clause-rebuilt
@@ -107,4 +110,4 @@ returns-clause-enough c = λ _.
     let exponents = exponents_of survivors.recovery.items in
     let missing : c.deref-2.result.now ≡ lost_from 0 survivors.known.items = c.deref-2.ensures.value ∙ c.in_ok-lost.ensures ∙ ap (lost_from 0) c.deref.ensures.value in
     let enough : IsRepairable c.deref-2.result.now exponents = subst (λ rs. IsRepairable c.deref-2.result.now (exponents_of rs)) c.deref-3.ensures.value (c.in_ok-kept.ensures.enough refl) in
-    subst (λ ls. IsRepairable ls exponents) (missing ∙ sym (lost_among survivors)) enough
+    subst (λ ls. IsRepairable ls exponents) (missing ∙ sym (lost_are survivors.slice survivors.known.items)) enough

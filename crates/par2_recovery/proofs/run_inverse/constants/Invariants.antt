@@ -1,5 +1,4 @@
-use Rattle.par2_recovery.proofs.Common.{◌≡◌, map, constant}
-use Rattle.std.specs.Prelude.{take}
+use Rattle.par2_recovery.proofs.Common.{◌≡◌, map, constant, take}
 use Rattle.par2_recovery.proofs.run_inverse.constants.Given as goal
 
 abbrev pub invariant-loop-k : goal.invariant-loop-k

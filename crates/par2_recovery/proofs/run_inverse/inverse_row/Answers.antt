@@ -2,11 +2,6 @@ use Rattle.par2_recovery.proofs.Common.{◌≡◌, ◌<◌, ◌∙◌, ◌^◌, 
 use Rattle.par2_recovery.proofs.RunInverses.{scaled_is}
 use Rattle.par2_recovery.proofs.run_inverse.inverse_row.Goals as goal
 
-pub inverse_of-requires : goal.inverse_of-requires
-inverse_of-requires c =
-    let q : c.deref.result.now ≡ quotient c.args.c c.args.p.now = c.deref.ensures.value ∙ c.in_ok-quotient.ensures in
-    λ e. c.requires (sym (c.mul-at_c.ensures ∙ ap₂ mul c.pow.ensures (c.value.ensures ∙ ap (λ xs. value xs c.args.c) q)) ∙ e)
-
 pub returns : goal.returns
 returns c =
     let p = c.args.p.now in

@@ -1,5 +1,4 @@
-use Rattle.par2_recovery.proofs.Common.{arith, ◌≡◌, ◌++◌, ◌∷◌, ◌+◌, ◌∙◌, [], ap, sym, subst, map, md5, bytes_of, record_of, files_of, file_record_of}
-use Rattle.std.specs.Prelude.{take}
+use Rattle.par2_recovery.proofs.Common.{arith, ◌≡◌, ◌++◌, ◌∷◌, ◌+◌, ◌∙◌, [], ap, sym, subst, map, md5, bytes_of, record_of, files_of, file_record_of, take}
 use Rattle.par2_recovery.proofs.Records.{digest_at_name, many_digests, record_push}
 use Rattle.par2_recovery.proofs.set_record.file_records.Goals as goal
 

@@ -1,9 +1,7 @@
-use Rattle.par2_recovery.proofs.Common.{◌∙◌, [], sym, ap, map_more, bytes_of}
-use Rattle.par2_recovery.proofs.Combinations.{texts_push}
+use Rattle.par2_recovery.proofs.Common.{rules, ℕ, List, Bor, bytes_of, YieldsList-from_map_by, YieldsList-from_slice, map_from_collect}
 use Rattle.par2_recovery.proofs.set_record.file_texts.Goals as goal
 
-pub loop-i-preserved : goal.loop-i-preserved
-loop-i-preserved c =
-    let bytes = bytes_of c.args.folder.now.files in
-    texts_push c.loop-i.texts.items c.bytes_of.result c.in_ok-push.ensures.items c.loop-i.invariant (c.bytes_of.ensures ∙ ap bytes c.text_at.ensures)
-    ∙ sym (map_more bytes c.args.names.now c.loop-i.i [] c.loop-i-test.true)
+pub returns : goal.returns
+returns c =
+    map_from_collect _ c.collect.ensures.ran
+    (YieldsList-from_map_by _ (λ (t : Bor (List ℕ)). t.now) (bytes_of c.args.folder.now.files) (YieldsList-from_slice c.args.names.now (cc)) c.map.ensures.closure (λ x r q k. search rules))

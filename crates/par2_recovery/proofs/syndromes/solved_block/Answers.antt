@@ -1,37 +1,42 @@
-use Rattle.par2_recovery.proofs.Common.{◌≡◌, ◌/◌, ◌∙◌, sym, ap, subst, arith, length, IfOk-weaker, lists_of, all_coefficients, AreProducts, AreSolved, AreSyndromes, texts_of}
-use Rattle.par2_recovery.proofs.AdditionLaws.{syndromes_added}
+use Rattle.par2_recovery.proofs.Common.{◌≡◌, ◌<◌, ◌≤◌, ◌∙◌, ℕ, sym, ap, subst, arith, length, map, IfOk-weaker, list_at, lists_of, window, AreProducts, AreSolved, texts_of}
 use Rattle.par2_recovery.proofs.Combinations.{length-texts_of}
-use Rattle.par2_recovery.proofs.Solving.{words_solved}
+use Rattle.par2_recovery.proofs.Solving.{many_windows, window_size, words_solved}
+use Rattle.par2_recovery.proofs.syndromes.solved_block.Goals.{After-deref-2}
 use Rattle.par2_recovery.proofs.syndromes.solved_block.Goals as goal
 
-pub with_recovery_slices-requires-clause-size : goal.with_recovery_slices-requires-clause-size
-with_recovery_slices-requires-clause-size c = λ j h.
-    let size = c.requires.size j (let n = length-texts_of c.args.recovery.now in omega (arith, n, h)) in
-    omega (arith, size, c.requires.even)
+recovery_are : (c : After-deref-2) → texts_of c.deref-2.result.now ≡ map (window c.args.from c.args.count) (texts_of c.args.recovery.now)
+recovery_are c = ap texts_of c.deref-2.ensures.value ∙ c.in_ok-recovery.ensures
 
-pub products_of-requires-clause-factors : goal.products_of-requires-clause-factors
-products_of-requires-clause-factors c = λ r h.
-    let count : length c.deref-2.result.now ≡ length c.args.recovery.now =
-    sym (length-texts_of c.deref-2.result.now) ∙ ap length (ap texts_of c.deref-2.ensures.value ∙ c.in_ok-sources.ensures ∙ ap lists_of c.deref.ensures.value) ∙ c.in_ok-syndromes.ensures.count ∙ length-texts_of c.args.recovery.now in
-    let fits = c.requires.inverse r h in
-    omega (arith, count, fits)
+slices_are : (c : After-deref-2) → texts_of c.deref.result.now ≡ map (window c.args.from c.args.count) (texts_of c.args.slices.now)
+slices_are c = ap texts_of c.deref.ensures.value ∙ c.in_ok-slices.ensures
+
+many : (c : After-deref-2) → length c.deref-2.result.now ≡ length c.args.recovery.now
+many c = many_windows c.args.from c.args.count c.args.recovery.now c.deref-2.result.now (recovery_are c)
+
+sizes : (c : After-deref-2) (j : ℕ) → j < length (texts_of c.deref-2.result.now) → length (list_at (texts_of c.deref-2.result.now) j) ≡ c.args.count
+sizes c j h = window_size c.args.from c.args.count (texts_of c.args.recovery.now) (texts_of c.deref-2.result.now) (recovery_are c)
+    (λ i low. c.requires.size i (let n = length-texts_of c.args.recovery.now in omega (arith, low, n))) j h
+
+pub with_recovery_slices-requires-clause-slices : goal.with_recovery_slices-requires-clause-slices
+with_recovery_slices-requires-clause-slices c = subst (λ n. n ≤ 32768) (sym (many_windows c.args.from c.args.count c.args.slices.now c.deref.result.now (slices_are c))) c.requires.count
+
+pub with_recovery_slices-requires-clause-size : goal.with_recovery_slices-requires-clause-size
+with_recovery_slices-requires-clause-size c = λ j h. let size = sizes c j h in omega (arith, size, c.requires.even)
 
 pub returns : goal.returns
 returns c =
-    let size = c.args.size in
+    let at = (goal.at.returns c).After-deref-2 in
+    let n = c.args.count in
     let inverse = lists_of c.args.inverse.now in
-    let slices = texts_of c.args.slices.now in
-    let recovery = texts_of c.args.recovery.now in
     let exponents = c.args.exponents.now in
-    let n = length c.args.slices.now in
-    let syndromes = lists_of c.in_ok-syndromes.syndromes.items in
-    let are : AreSyndromes (size / 2) (all_coefficients n exponents) slices recovery syndromes =
-    syndromes_added n (size / 2) exponents slices recovery syndromes (sym (length-texts_of c.args.slices.now)) (c.requires.exponents ∙ sym (length-texts_of c.args.recovery.now))
-    (λ j h. let fits = c.requires.size j (let m = length-texts_of c.args.recovery.now in omega (arith, m, h)) in omega (arith, fits, c.requires.even))
-    c.in_ok-syndromes.ensures in
-    let sources = ap texts_of c.deref-2.ensures.value ∙ c.in_ok-sources.ensures ∙ ap lists_of c.deref.ensures.value in
-    IfOk-weaker c.products_of.result (λ texts. AreProducts size inverse (texts_of c.deref-2.result.now) (lists_of texts.items))
-    (λ texts. AreSolved size inverse (all_coefficients n exponents) slices recovery (lists_of texts.items))
-    (λ texts sums. words_solved size inverse (all_coefficients n exponents) slices recovery syndromes (lists_of texts.items) c.requires.even are
-    (subst (λ xs. AreProducts size inverse xs (lists_of texts.items)) sources sums))
+    let slices = texts_of c.deref.result.now in
+    let recovery = map (window c.args.from n) (texts_of c.args.recovery.now) in
+    let sources = ap texts_of c.deref-4.ensures.value ∙ c.in_ok-sources.ensures ∙ ap lists_of c.deref-3.ensures.value in
+    IfOk-weaker c.products_of.result (λ texts. AreProducts n inverse (texts_of c.deref-4.result.now) (lists_of texts.items))
+    (λ texts. AreSolved n inverse exponents (map (window c.args.from n) (texts_of c.args.slices.now)) recovery (lists_of texts.items))
+    (λ texts sums.
+    subst (λ xs. AreSolved n inverse exponents xs recovery (lists_of texts.items)) (slices_are at)
+    (subst (λ xs. AreSolved n inverse exponents slices xs (lists_of texts.items)) (recovery_are at)
+    (words_solved n inverse slices (texts_of c.deref-2.result.now) (lists_of c.in_ok-syndromes.syndromes.items) (lists_of texts.items) exponents (sizes at) c.in_ok-syndromes.ensures
+    (subst (λ xs. AreProducts n inverse xs (lists_of texts.items)) sources sums))))
     c.products_of.ensures
