@@ -5,7 +5,7 @@ use Rattle.par2_spec.specs.declared.Fault.TheVariants.{NoMain, BadSet, NoDescrip
 use Rattle.par2_spec.specs.Checksums.{Pair}
 use Rattle.par2_spec.specs.Slices.{slice_count}
 use Rattle.par2_spec.specs.Folders.{Folder, bytes_of}
-use Rattle.par2_spec.specs.Packets.{Packet, MainBody, DescBody, accepted}
+use Rattle.par2_spec.specs.Packets.{Packet, DescBody, accepted}
 use Rattle.par2_spec.specs.Sets.{ParSet, Target, ◌>>=◌, unless, is_slice_size, main_of, all_some, packets_with, are_in_profile, description_of, pairs_of, target_of, recovery_of, other_par_names}
 
 -- what a call answers: the value of its step or the step's fault, or that there was no memory
@@ -40,23 +40,12 @@ target_or_fault packets s d = ok_or (target_of packets s d) NoChecksums
 abbrev pub targets_or_fault : List Packet → ℕ → List DescBody → Result (List Target) Fault
 targets_or_fault packets s ds = ok_or (all_some (map (target_of packets s) ds)) NoChecksums
 
--- the Main of a set, whose slice size a set may have
-abbrev pub main_or_fault : List ℕ → List Packet → Result MainBody Fault
-main_or_fault id packets =
-    ok_or (main_of id packets) NoMain >>= (λ main. unless (is_slice_size main.slice_size) BadSet >>= (λ _. Ok main))
-
--- the targets that the Main names
-abbrev pub targets_in : List Packet → MainBody → Result (List Target) Fault
-targets_in packets main =
-    descriptions_of packets main.ids
-    >>= (λ ds. unless (are_in_profile main.slice_size ds) BadSet >>= (λ _. targets_or_fault packets main.slice_size ds))
-
--- the set of these targets
-abbrev pub with_targets : List ℕ → List Packet → ℕ → List Target → Result ParSet Fault
-with_targets id packets s targets =
-    Ok (record { id = id; slice_size = s; targets = targets; recovery = recovery_of packets s })
-
 -- the set of the packets that have its identifier
 abbrev pub set_in : List ℕ → List Packet → Result ParSet Fault
-set_in id packets =
-    main_or_fault id packets >>= (λ main. targets_in packets main >>= with_targets id packets main.slice_size)
+set_in id packets = do
+  main ← ok_or (main_of id packets) NoMain
+  right_size ← unless (is_slice_size main.slice_size) BadSet
+  described ← descriptions_of packets main.ids
+  in_profile ← unless (are_in_profile main.slice_size described) BadSet
+  targets ← targets_or_fault packets main.slice_size described
+  Ok (record { id = id; slice_size = main.slice_size; targets = targets; recovery = recovery_of packets main.slice_size })
