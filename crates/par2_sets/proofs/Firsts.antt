@@ -1,11 +1,8 @@
 -- Maps of what packets hold: the packets come in reverse, so that the first value of each key is kept.
-use Rattle.par2_sets.proofs.Common.{◌≡◌, ℕ, ◌&&◌, ◌==◌, Bool, true, false, cond, List, [], ◌∷◌, ◌++◌, Option, Some, None, map, refl, sym, ap, ap₂, ◌∙◌, arith, filter_map, find, option_map, option_and_then, BTreeMap, get, IsTotalOrder, IsEquivalence, eq_by_cmp_equiv, append-nil, cons_option, lookup, eq_by_cmp, is_eq, nat_cmp, ordering_then, bytes_eq, Ordering, Less, Equal, Greater, filter_map-append, same_either_way, id_cmp, count_cmp}
-use Rattle.std.specs.Prelude.{reverse}
-use Rattle.std.specs.BTreeMap.{IsFromIterResult}
-use Rattle.std.specs.Map.{update, update_all}
-use Rattle.std.proofs.lemmas.Grind.{reverse_onto}
+use Rattle.par2_sets.proofs.Common.{◌≡◌, ℕ, ◌&&◌, ◌==◌, Bool, true, false, cond, List, [], ◌∷◌, ◌++◌, Option, Some, None, map, refl, sym, ap, ap₂, ◌∙◌, arith, filter_map, find, option_map, option_and_then, BTreeMap, get, IsTotalOrder, IsEquivalence, eq_by_cmp_equiv, append-nil, cons_option, lookup, eq_by_cmp, is_eq, nat_cmp, ordering_then, bytes_eq, Less, Equal, Greater, same_either_way, id_cmp, count_cmp, reverse, IsFromIterResult, update, update_all, reverse_onto, is_eq-slice_cmp}
+use Rattle.std.specs.declared.cmp.Ordering.{Ordering}
+use Rattle.std.proofs.lemmas.List.Elements.{filter_map-append}
 use Rattle.std.proofs.lemmas.List.Sums.{fold-append}
-use Rattle.std.proofs.lemmas.Map.Text.{is_eq-slice_cmp}
 
 -- ---- entries in reverse
 

@@ -145,8 +145,8 @@ pub(crate) fn pairs_for(
 fn recovery_in<'a>(packet: &Packet<'a>, s: u64) -> Option<RecoveryView<'a>>
     ensures { result ≡ usable s (packet_of packet.now) }
 {
-    read_recovery(packet)
-        .filter(|recovery| recovery.exponent() < 65536 && recovery.bytes().len() as u64 == s)
+    read_recovery(packet).filter(|recovery| recovery.exponent() < 65536
+        && recovery.bytes().len() as u64 == s)
 }
 
 // The entries of the map, in the order of the exponents.

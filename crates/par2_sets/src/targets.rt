@@ -129,9 +129,7 @@ fn have_few_slices(s: u64, descriptions: &[DescView]) -> bool
 fn have_names(descriptions: &[DescView]) -> bool
     ensures { result ≡ list_all (λ d. is_name d.name) descriptions.now }
 {
-    descriptions
-        .iter()
-        .all(|description| Name::from_bytes(description.name_bytes()).is_some())
+    descriptions.iter().all(|description| Name::from_bytes(description.name_bytes()).is_some())
 }
 
 // Whether each name stands there once.

@@ -1,5 +1,5 @@
-use Rattle.par2_sets.proofs.Common.{◌≡◌, ◌<◌, ◌∙◌, ◌⊎◌, ◌++◌, ◌∷◌, [], ℕ, List, Some, None, IsTrue, ap, inl, inr, length, map, refl, subst, arith, rules, take_all, Fault, Memory, is_name, aside, long_aside}
-use Rattle.par2_sets.proofs.TakenNames.{no_value, one_more_aside, one_more_short, one_too_long, passed_on}
+use Rattle.par2_sets.proofs.Common.{◌≡◌, ◌<◌, ◌∙◌, ◌++◌, ◌∷◌, [], IsTrue, length, rules, is_name, aside}
+use Rattle.par2_sets.proofs.TakenNames.{one_more_aside, one_more_short}
 use Rattle.par2_sets.proofs.listing.asides.Goals as goal
 
 pub loop-name-preserved : goal.loop-name-preserved

@@ -1,9 +1,5 @@
-use Rattle.par2_sets.proofs.Common.{◌∙◌, List, ap, map, rules, IfOk-weaker, list_any, is_among, nat_cmp, Target, HoldsNames, target_names}
+use Rattle.par2_sets.proofs.Common.{◌∙◌, List, ap, map, rules, IfOk-weaker, list_any, is_among, nat_cmp, Target, target_names, HoldsNames, slice_cmp, YieldsList-from_map, YieldsList-from_slice, fact_from_collect, is_eq-slice_cmp}
 use Rattle.std.specs.BTreeSet.{IsFromIterResult}
-use Rattle.std.specs.Cmp.Lexicographic.{slice_cmp}
-use Rattle.std.proofs.lemmas.Iterator.{YieldsList-from_map, YieldsList-from_slice}
-use Rattle.std.proofs.lemmas.Iterator.Adapters.{fact_from_collect}
-use Rattle.std.proofs.lemmas.Map.Text.{is_eq-slice_cmp}
 use Rattle.par2_sets.proofs.listing.target_names.Goals as goal
 
 pub returns : goal.returns

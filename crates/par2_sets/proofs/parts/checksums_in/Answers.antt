@@ -1,13 +1,8 @@
-use Rattle.par2_sets.proofs.Common.{◌≡◌, ◌∙◌, ◌==◌, ◌&&◌, List, ℕ, length, Some, None, refl, sym, ap, find, filter_map, option_map, option_and_then, eq_by_cmp, nat_cmp_total, nat_list_cmp_total, on_total, IfOk-weaker, bytes_eq, IfscBody, read_ifsc, packet_of, count_cmp, map, rules}
-use Rattle.std.specs.Prelude.{Option, reverse}
-use Rattle.std.specs.BTreeMap.{IsFromIterResult}
+use Rattle.par2_sets.proofs.Common.{◌≡◌, ◌∙◌, ◌==◌, ◌&&◌, List, ℕ, length, Some, None, refl, sym, ap, map, rules, find, filter_map, option_map, option_and_then, eq_by_cmp, nat_cmp_total, on_total, nat_list_cmp_total, IfOk-weaker, bytes_eq, IfscBody, read_ifsc, packet_of, count_cmp, reverse, IsFromIterResult, YieldsList-from_rev_slice, fact_from_collect, YieldsList-from_filter_map, HoldChecksums, filter_map-map}
+use Rattle.std.specs.Prelude.{Option}
 use Rattle.std.proofs.lemmas.Cmp.{then_total}
-use Rattle.std.proofs.lemmas.Iterator.Adapters.{YieldsList-from_rev_slice, fact_from_collect}
-use Rattle.std.proofs.lemmas.Iterator.Consumers.{YieldsList-from_filter_map}
 use Rattle.par2_packets.specs.declared.scan.Packet as scan
-use Rattle.par2_sets.specs.Firsts.{HoldChecksums}
 use Rattle.par2_sets.proofs.Firsts.{has_first, found, same_count}
-use Rattle.par2_spec.proofs.ListsLaws.{filter_map-map}
 use Rattle.par2_sets.proofs.parts.checksums_in.Goals as goal
 
 -- what was kept is what was read

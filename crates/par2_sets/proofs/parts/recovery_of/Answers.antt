@@ -1,13 +1,7 @@
-use Rattle.par2_sets.proofs.Common.{lookup, ◌≡◌, ◌∙◌, ℕ, List, map, None, sym, ap, subst, filter_map, option_map, nat_cmp, nat_cmp_total, eq_by_cmp, eq_by_cmp_equiv, entries, IsStrictlyIncreasing, IfOk-weaker, recovery_of, packet_of, entry_of, exponents_of, recovered_of, rules}
-use Rattle.std.specs.Map.{update_all}
-use Rattle.std.proofs.lemmas.Iterator.{YieldsList-from_map_by, items_from_drains}
-use Rattle.std.proofs.lemmas.Iterator.Adapters.{YieldsList-from_rev_slice}
-use Rattle.std.proofs.lemmas.Iterator.Consumers.{YieldsList-at, YieldsList-from_filter_map}
+use Rattle.par2_sets.proofs.Common.{lookup, ◌≡◌, ◌∙◌, ℕ, List, map, None, sym, ap, subst, rules, filter_map, option_map, nat_cmp, eq_by_cmp, nat_cmp_total, eq_by_cmp_equiv, entries, IsStrictlyIncreasing, IfOk-weaker, recovery_of, packet_of, entry_of, exponents_of, recovered_of, update_all, YieldsList-from_map_by, items_from_drains, YieldsList-from_rev_slice, YieldsList-at, YieldsList-from_filter_map, usable, filter_map-map, map-reverse}
 use Rattle.par2_packets.specs.declared.scan.Packet as scan
-use Rattle.par2_sets.specs.Slices.{usable}
 use Rattle.par2_sets.proofs.Exponents.{slices_in, pair_of, first_slices, rising}
 use Rattle.par2_sets.proofs.Firsts.{first_of, filter_map-reverse, viewed}
-use Rattle.par2_spec.proofs.ListsLaws.{filter_map-map, map-reverse}
 use Rattle.par2_sets.proofs.parts.recovery_of.Goals as goal
 
 pub returns : goal.returns

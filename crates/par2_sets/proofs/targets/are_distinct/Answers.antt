@@ -1,6 +1,4 @@
-use Rattle.par2_sets.proofs.Common.{◌≡◌, ◌∙◌, ◌==◌, length, map, sym, ap, subst, rules, on_total, nat_list_cmp_total, texts_ties, distinct, distinct_count, bytes_eq, DescBody, List, ℕ}
-use Rattle.std.proofs.lemmas.Iterator.{YieldsList-from_slice, YieldsList-from_map_by, items_from_drains}
-use Rattle.std.proofs.lemmas.List.{length-map}
+use Rattle.par2_sets.proofs.Common.{◌≡◌, ◌∙◌, ◌==◌, length, map, sym, ap, subst, rules, List, ℕ, on_total, nat_list_cmp_total, texts_ties, distinct, distinct_count, bytes_eq, DescBody, YieldsList-from_slice, YieldsList-from_map_by, items_from_drains, length-map}
 use Rattle.std.proofs.lemmas.Map.Views.{btree_set_len-from_list}
 use Rattle.par2_sets.proofs.Names.{distinct_count-map, counted}
 use Rattle.par2_sets.proofs.targets.are_distinct.Goals as goal
