@@ -427,9 +427,6 @@ tally_settled pairs md5 crc spot old new left count filter after tally size each
       ];
 }
 
-pub is_open : (answer : Option Spot) → is_none answer ≡ false → answer ≡ None → ⊥
-is_open answer is none = let both : true ≡ false = sym (ap is_none none) ∙ is in cc
-
 pub has_is : (pair : Pair) (md5 : List ℕ) (crc : ℕ) → pair.1 ≡ crc → bytes_eq md5 pair.0 ≡ true → has_checksums md5 crc pair ≡ true
 has_is pair md5 crc same equal = and_from (crc == pair.1) _ (eq-eqb crc pair.1 (sym same)) equal
 
@@ -437,11 +434,10 @@ has_is pair md5 crc same equal = and_from (crc == pair.1) _ (eq-eqb crc pair.1 (
 pub awaited_is : (crc : ℕ) (found : List (Option Spot)) (place : Place) → place.crc ≡ crc → is_none (answer_at found place.index) ≡ true → is_awaited crc found place ≡ true
 awaited_is crc found place same none = and_from (place.crc == crc) _ (eq-eqb place.crc crc same) none
 
-pub other_crc : (crc : ℕ) (found : List (Option Spot)) (place : Place) → (place.crc ≡ crc → ⊥) → is_awaited crc found place ≡ false
-other_crc crc found place other = and_left (place.crc == crc) _ (ne_eqb place.crc crc other)
-
-pub not_open : (crc : ℕ) (found : List (Option Spot)) (place : Place) → is_none (answer_at found place.index) ≡ false → is_awaited crc found place ≡ false
-not_open crc found place answered = and_right (place.crc == crc) _ answered
+-- a pair without an answer that isn't awaited has another checksum
+pub not_awaited : (crc : ℕ) (found : List (Option Spot)) (place : Place) (pair : Pair) (md5 : List ℕ) → pair.1 ≡ place.crc → is_awaited crc found place ≡ false → answer_at found place.index ≡ None → has_checksums md5 crc pair ≡ false
+not_awaited crc found place pair md5 same waits none =
+    no_crc pair md5 crc (λ is. let both : true ≡ false = sym (awaited_is crc found place (sym same ∙ is) (ap is_none none)) ∙ waits in cc)
 
 pub no_md5 : (pair : Pair) (md5 : List ℕ) (crc : ℕ) → bytes_eq md5 pair.0 ≡ false → has_checksums md5 crc pair ≡ false
 no_md5 pair md5 crc differs = and_right (crc == pair.1) _ differs

@@ -20,16 +20,12 @@ use std::alloc::{AllocError, Global};
 
 /// How many pairs of the group have this CRC-32 and no answer yet.
 fn awaited(group: &[Place], crc: u32, found: &[Option<Spot>]) -> usize
-    requires { AreAmong found.now group.now }
     ensures { result ≡ count_by (is_awaited crc found.now) group.now }
 {
-    let mut count = 0;
-    for place in group {
-        if place.crc == crc && found[place.index].is_none() {
-            count += 1;
-        }
-    }
-    count
+    group
+        .iter()
+        .filter(|place| place.is_awaited(crc, found))
+        .count()
 }
 
 /// Whether a pair of the group, whose CRC-32 has the same low six bits, has no answer yet.
@@ -68,7 +64,7 @@ fn settle(
 {
     let mut count = 0;
     for place in group {
-        if place.crc == crc && found[place.index].is_none() && *md5 == pairs[place.index].0 {
+        if place.is_awaited(crc, found) && *md5 == pairs[place.index].0 {
             found[place.index] = Some(spot);
             count += 1;
         }
