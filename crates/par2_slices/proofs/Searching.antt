@@ -382,11 +382,6 @@ one_settled pairs md5 crc spot old group n found count so_far size inside none m
       total = omega (arith, weighed, heavy, so_far.total);
     }
 
--- a list whose items were written in place
-pub written : (new old : List (Option Spot)) (n : ℕ) → n ≡ length old → length new ≡ length old → take n (new ++ drop (length new) old) ≡ new
-written new old n len size =
-    ap (take n) (ap (λ xs. new ++ xs) (ap (λ k. drop k old) size ∙ drop-length old) ∙ append-nil new) ∙ take_all n new (omega (arith, len, size))
-
 -- each place of the group has been settled, so each pair has
 pub all_settled : (pairs : List Pair) (md5 : List ℕ) (crc : ℕ) (spot : Spot) (old new : List (Option Spot)) (group : List Place) → HoldsGroup pairs crc group
     → ((i : ℕ) → i < length pairs → (answer_at new i ≡ answer_at old i) ⊎ (answer_at new i ≡ after_window (has_checksums md5 crc (pair_at pairs i)) spot (answer_at old i)))
