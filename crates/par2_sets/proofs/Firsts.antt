@@ -1,5 +1,5 @@
 -- Maps of what packets hold: the packets come in reverse, so that the first value of each key is kept.
-use Rattle.par2_sets.proofs.Common.{◌≡◌, ℕ, ◌&&◌, ◌==◌, Bool, true, false, cond, List, [], ◌∷◌, ◌++◌, Option, Some, None, map, refl, sym, ap, ap₂, ◌∙◌, arith, filter_map, find, option_map, option_and_then, BTreeMap, get, IsTotalOrder, IsEquivalence, eq_by_cmp_equiv, append-nil, cons_option, lookup, eq_by_cmp, is_eq, nat_cmp, ordering_then, bytes_eq, Less, Equal, Greater, same_either_way, id_cmp, count_cmp, reverse, IsFromIterResult, update, update_all, reverse_onto, is_eq-slice_cmp}
+use Rattle.par2_sets.proofs.Common.{◌≡◌, ℕ, ◌&&◌, ◌==◌, Bool, true, false, cond, List, [], ◌∷◌, ◌++◌, Option, Some, None, map, refl, sym, ap, ap₂, ◌∙◌, arith, filter_map, find, option_map, option_and_then, reverse, BTreeMap, get, IsFromIterResult, IsTotalOrder, IsEquivalence, eq_by_cmp_equiv, append-nil, cons_option, lookup, update, update_all, eq_by_cmp, is_eq, nat_cmp, ordering_then, bytes_eq, Less, Equal, Greater, same_either_way, id_cmp, count_cmp, reverse_onto, is_eq-slice_cmp}
 use Rattle.std.specs.declared.cmp.Ordering.{Ordering}
 use Rattle.std.proofs.lemmas.List.Elements.{filter_map-append}
 use Rattle.std.proofs.lemmas.List.Sums.{fold-append}

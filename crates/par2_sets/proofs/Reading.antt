@@ -1,7 +1,11 @@
 -- The steps of the reading, one after the other.
-use Rattle.par2_sets.proofs.Common.{◌≡◌, ◌⊎◌, inl, inr, ℕ, List, true, Option, Some, None, Result, Ok, Err, sym, ap, ◌∙◌, slice_get, option_map, ok_or, unwrap_or, is_some, IfOk, IfErr, false≢true, Fault, NoPackets, NoMain, BadSet, Memory, Folder, bytes_of, Packet, MainBody, DescBody, accepted, ParSet, Target, ◌>>=◌, unless, is_slice_size, main_of, are_in_profile, recovery_of, IsSound, Bor, entries, recovered_of, set_view, Gives, first_id, set_packets, descriptions_of, targets_or_fault, set_in}
+use Rattle.par2_sets.proofs.Common.{◌≡◌, ◌⊎◌, inl, inr, ℕ, List, true, Option, Some, None, Result, Ok, Err, sym, ap, ◌∙◌, slice_get, option_map, ok_or, unwrap_or, is_some, IfOk, IfErr, false≢true, Fault, NoPackets, NoMain, BadSet, Memory, Folder, bytes_of, Packet, MainBody, DescBody, accepted, ParSet, Target, ◌>>=◌, unless, is_slice_size, main_of, are_in_profile, recovery_of, IsSound, Bor, entries, recovered_of, set_view, Gives, set_packets, descriptions_of, targets_or_fault, set_in}
 use Rattle.par2_spec.specs.Sets.{read_set, set_of}
 use Rattle.par2_sets.proofs.Exponents.{made_of}
+
+-- the identifier of the first packet of a base
+abbrev pub first_id : Folder → List ℕ → Option (List ℕ)
+first_id files base = option_map (λ p. p.set_id) (slice_get (accepted (bytes_of files base)) 0)
 
 -- a set whose base has a packet
 pub at_packets : (files : Folder) (base id : List ℕ) → first_id files base ≡ Some id → set_of files base ≡ set_in id (set_packets files base id)

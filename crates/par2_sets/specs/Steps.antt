@@ -1,5 +1,5 @@
 -- The steps by which a set is read, each with the fault that it may end in.
-use Rattle.std.specs.Prelude.{◌≡◌, ◌⊎◌, ℕ, ◌==◌, List, [], ◌∷◌, map, flat_map, slice_get, Option, Some, Result, Ok, Err, ok_or, option_map, if◌then◌else◌}
+use Rattle.std.specs.Prelude.{◌≡◌, ◌⊎◌, ℕ, ◌==◌, List, [], ◌∷◌, map, flat_map, Some, Result, Ok, Err, ok_or, if◌then◌else◌}
 use Rattle.par2_spec.specs.declared.Fault.{Fault}
 use Rattle.par2_spec.specs.declared.Fault.TheVariants.{NoMain, BadSet, NoDescription, NoChecksums, Memory}
 use Rattle.par2_spec.specs.Checksums.{Pair}
@@ -12,10 +12,6 @@ use Rattle.par2_spec.specs.Sets.{ParSet, Target, ◌>>=◌, unless, is_slice_siz
 abbrev pub Gives : {X Y : Type 0} → (X → Y) → Result X Fault → Result Y Fault → Type 0
 Gives view (Ok x) step = step ≡ Ok (view x)
 Gives view (Err fault) step = (fault ≡ Memory) ⊎ (step ≡ Err fault)
-
--- the identifier of the first packet of a base
-abbrev pub first_id : Folder → List ℕ → Option (List ℕ)
-first_id folder base = option_map (λ p. p.set_id) (slice_get (accepted (bytes_of folder base)) 0)
 
 -- the packets of a set, those of the base first
 abbrev pub set_packets : Folder → List ℕ → List ℕ → List Packet

@@ -5,19 +5,11 @@ ghost use Rattle.par2_spec.specs.Answers.{Lists};
 ghost use Rattle.par2_spec.specs.Sets.{packets_with, other_par_names};
 ghost use Rattle.par2_packets.specs.Views as views;
 ghost use Rattle.par2_packets.specs.Views.{packet_of};
-ghost use Rattle.par2_sets.specs.Steps.{first_id, set_packets};
+ghost use Rattle.par2_sets.specs.Steps.{set_packets};
 
 use par2_folder::{Folder, Name};
 use par2_packets::{Packet, Packets};
 use std::alloc::{AllocError, Global};
-
-/// The identifier of the first packet of the base.
-pub(crate) fn first_id(folder: &Folder, base: &Name) -> Option<[u8; 16]>
-    ensures { result ≡ first_id folder.now.files base.now }
-{
-    let first = Packets::new(folder.bytes_of(base)).next()?;
-    Some(first.set_id)
-}
 
 // Adds the packets that have the identifier.
 fn add_packets<'a>(

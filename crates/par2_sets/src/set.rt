@@ -11,11 +11,11 @@ ghost use Rattle.par2_sets.specs.Slices.{recovered_of, exponents_of};
 ghost use Rattle.par2_sets.specs.Steps.{Gives, set_in};
 
 use crate::Target;
-use crate::packets::{first_id, packets_of};
+use crate::packets::packets_of;
 use crate::parts::{descriptions, main_of, recovery_of};
 use crate::targets::{are_in_profile, targets_of};
 use par2_folder::{Folder, Name};
-use par2_packets::Packet;
+use par2_packets::{Packet, Packets};
 use par2_slices::is_slice_size;
 use par2_spec::Fault;
 use par2_spec::search_laws::set_is_sound;
@@ -115,7 +115,8 @@ pub fn set_of<'a>(alloc: Global, folder: &'a Folder, base: &Name) -> Result<ParS
 {
     // By this law the set is sound.
     set_is_sound();
-    let id = first_id(folder, base).ok_or(Fault::NoPackets)?;
+    let first = Packets::new(folder.bytes_of(base)).next();
+    let id = first.ok_or(Fault::NoPackets)?.set_id;
     let packets = packets_of(alloc, folder, base, &id)?;
     set_in(alloc, id, &packets)
 }

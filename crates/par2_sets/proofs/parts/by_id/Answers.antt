@@ -1,4 +1,4 @@
-use Rattle.par2_sets.proofs.Common.{◌∙◌, List, ℕ, sym, ap, map, rules, find, filter_map, option_map, option_and_then, eq_by_cmp, nat_list_cmp_total, IfOk-weaker, bytes_eq, DescBody, read_desc, packet_of, id_cmp, reverse, IsFromIterResult, YieldsList-from_rev_slice, fact_from_collect, YieldsList-from_filter_map, HoldDescriptions, filter_map-map}
+use Rattle.par2_sets.proofs.Common.{◌∙◌, List, ℕ, sym, ap, map, rules, find, filter_map, option_map, option_and_then, reverse, eq_by_cmp, nat_list_cmp_total, IfOk-weaker, bytes_eq, DescBody, read_desc, packet_of, id_cmp, HoldDescriptions, IsFromIterResult, YieldsList-from_rev_slice, fact_from_collect, YieldsList-from_filter_map, filter_map-map}
 use Rattle.std.specs.Prelude.{Option}
 use Rattle.par2_packets.specs.declared.scan.Packet as scan
 use Rattle.par2_sets.proofs.Firsts.{has_first, found, same_id}

@@ -1,4 +1,4 @@
-use Rattle.par2_sets.proofs.Common.{◌≡◌, ◌∙◌, ◌==◌, ◌&&◌, List, ℕ, length, Some, None, refl, sym, ap, map, rules, find, filter_map, option_map, option_and_then, eq_by_cmp, nat_cmp_total, on_total, nat_list_cmp_total, IfOk-weaker, bytes_eq, IfscBody, read_ifsc, packet_of, count_cmp, reverse, IsFromIterResult, YieldsList-from_rev_slice, fact_from_collect, YieldsList-from_filter_map, HoldChecksums, filter_map-map}
+use Rattle.par2_sets.proofs.Common.{◌≡◌, ◌∙◌, ◌==◌, ◌&&◌, List, ℕ, length, Some, None, refl, sym, ap, map, rules, find, filter_map, option_map, option_and_then, reverse, eq_by_cmp, nat_cmp_total, on_total, nat_list_cmp_total, IfOk-weaker, bytes_eq, IfscBody, read_ifsc, packet_of, count_cmp, HoldChecksums, IsFromIterResult, YieldsList-from_rev_slice, fact_from_collect, YieldsList-from_filter_map, filter_map-map}
 use Rattle.std.specs.Prelude.{Option}
 use Rattle.std.proofs.lemmas.Cmp.{then_total}
 use Rattle.par2_packets.specs.declared.scan.Packet as scan

@@ -1,4 +1,4 @@
-use Rattle.par2_sets.proofs.Common.{lookup, ◌≡◌, ◌∙◌, ℕ, List, map, None, sym, ap, subst, rules, filter_map, option_map, nat_cmp, eq_by_cmp, nat_cmp_total, eq_by_cmp_equiv, entries, IsStrictlyIncreasing, IfOk-weaker, recovery_of, packet_of, entry_of, exponents_of, recovered_of, update_all, YieldsList-from_map_by, items_from_drains, YieldsList-from_rev_slice, YieldsList-at, YieldsList-from_filter_map, usable, filter_map-map, map-reverse}
+use Rattle.par2_sets.proofs.Common.{lookup, update_all, ◌≡◌, ◌∙◌, ℕ, List, map, None, sym, ap, subst, rules, filter_map, option_map, nat_cmp, eq_by_cmp, nat_cmp_total, eq_by_cmp_equiv, entries, IsStrictlyIncreasing, IfOk-weaker, recovery_of, packet_of, entry_of, exponents_of, recovered_of, usable, YieldsList-from_map_by, items_from_drains, YieldsList-from_rev_slice, YieldsList-at, YieldsList-from_filter_map, filter_map-map, map-reverse}
 use Rattle.par2_packets.specs.declared.scan.Packet as scan
 use Rattle.par2_sets.proofs.Exponents.{slices_in, pair_of, first_slices, rising}
 use Rattle.par2_sets.proofs.Firsts.{first_of, filter_map-reverse, viewed}
