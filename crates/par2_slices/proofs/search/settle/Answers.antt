@@ -1,4 +1,4 @@
-use Rattle.par2_slices.proofs.Common.{◌≡◌, ◌∙◌, ◌+◌, ℕ, List, false, true, set, ap, sym, subst, arith, ◌==◌, Option, Some, None, eqb-true, is_none, bytes_eq, Pair, answer_at, is_awaited, pair_at, place_at, has_checksums, IsPlace, Spot, Place, none_from, and_parts}
+use Rattle.par2_slices.proofs.Common.{◌≡◌, ◌∙◌, ◌+◌, ℕ, List, false, true, set, ap, sym, subst, arith, ◌==◌, Option, Some, None, eqb-true, and_parts, is_none, bytes_eq, Pair, answer_at, is_awaited, pair_at, place_at, has_checksums, IsPlace, Spot, Place, none_from}
 use Rattle.par2_slices.proofs.Searching.{Settled, all_settled, not_settled, one_settled, has_is, no_md5, not_awaited}
 use Rattle.par2_slices.proofs.search.settle.Goals as goal
 use Rattle.par2_slices.proofs.search.settle.Goals.{then-is_awaited+then-eq, else-is_awaited, else-is_awaited-via-then-is_awaited+else-eq, else-is_awaited-via-else-is_awaited}
