@@ -4,7 +4,7 @@ pub use Rattle.std.proofs.Common.{Bool, List, Some, [], ap, append-nil, append_a
 pub use Rattle.std.proofs.lemmas.Bool.{and_parts, cases_lt, cond_above, cond_below, false_from_ne_true, leb-true}
 pub use Rattle.std.proofs.lemmas.Grind.{common_steps, flat_map-append}
 pub use Rattle.std.proofs.lemmas.List.{drop-append-le, drop-drop, drop-take, flat_map_more, get_or-map, get_or_default, length-drop, length-map, length-replicate, length-take-le, map-append, take-append-le, take-take, take_all, take_at, take_more}
-pub use Rattle.std.proofs.lemmas.List.FromFn.{get_or-map-range_with_len, length-map-range_with_len, map-range_with_len_more}
+pub use Rattle.std.proofs.lemmas.List.FromFn.{get_or-map-range_with_len, length-map-range_with_len}
 pub use Rattle.std.proofs.lemmas.List.Sorted.{IsNonDecreasingBy-from_sort_by_key, IsPermutation-map, IsPermutation-sym, all_adjacent_more}
 pub use Rattle.std.proofs.lemmas.Result.{IfOk-weaker, on_ok_weaker}
 pub use Rattle.std.proofs.lemmas.Slice.Eq.{bytes_eq-Decides}
@@ -13,7 +13,6 @@ pub use Rattle.std.specs.List.{AllAdjacentBelow, AllPairs, IsDistinct, range_wit
 pub use Rattle.std.specs.Prelude.{flat_map}
 pub use Rattle.std.specs.Str.{bytes_eq}
 pub use Rattle.md5.specs.Md5.{Holds, md5}
-pub use Rattle.par2_digests.specs.Texts.{texts_of}
 pub use Rattle.par2_packets.specs.Cursors.{rest_of}
 pub use Rattle.par2_packets.specs.Pieces.{ArePieces, changed_below, overwritten}
 pub use Rattle.par2_packets.specs.Recoveries.{AreDigested, digest_put, digested, recovery_packet, undigested}

@@ -1,5 +1,5 @@
 -- Pieces of equal length, one after the other: which bytes are those of a piece, and what is written into one.
-use Rattle.par2_packets.proofs.Common.{◌≡◌, ◌≢◌, ℕ, zero, suc, ◌+◌, ◌-◌, ◌*◌, ◌<◌, ◌≤◌, List, [], ◌∷◌, ◌++◌, length, take, drop, inl, inr, refl, sym, ap, ap₂, ◌∙◌, subst, arith, append_assoc, length-append, mul-le-mul_right, flat_map, range_with_len, cases_lt, cond_below, cond_above, take-append-le, drop-append-le, take_at, length-take-le, length-drop, flat_map_more, bytes_at, range-append, overwritten, ArePieces, changed_below}
+use Rattle.par2_packets.proofs.Common.{◌≡◌, ◌≢◌, ℕ, zero, suc, ◌+◌, ◌*◌, ◌<◌, ◌≤◌, List, [], ◌∷◌, ◌++◌, length, take, drop, inl, inr, refl, sym, ap, ap₂, ◌∙◌, subst, arith, append_assoc, length-append, mul-le-mul_right, flat_map, range_with_len, cases_lt, cond_below, cond_above, take-append-le, drop-append-le, take_at, length-take-le, length-drop, flat_map_more, bytes_at, range-append, overwritten, ArePieces, changed_below}
 
 -- ---- what is written into one of two texts
 

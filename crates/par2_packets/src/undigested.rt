@@ -98,10 +98,9 @@ fn digests(
     ensures { IfOk result (λ digests. digests.items ≡ map
         (λ k. md5 (drop 32 (bytes_at (k * len) len packets.now))) (range_with_len first count)) }
 {
-    let mut inputs = Vec::with_capacity(alloc, count)?;
-    for k in 0..count {
-        inputs.push(digest_input(packets, len, first + k))?;
-    }
+    let inputs = (first..first + count)
+        .map(|k| digest_input(packets, len, k))
+        .collect::<Vec<&[u8]>>(alloc)?;
     text_digests(alloc, &inputs)
 }
 

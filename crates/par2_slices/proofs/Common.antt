@@ -2,7 +2,6 @@
 
 pub use Rattle.std.proofs.Common.{Bool, Decides, List, [], ap, ap₂, arith, below_more, cond, drop, false, fold, get_or, get_or-set_other, get_or-set_same, inl, inr, length, length-set, map, min, not, refl, replicate, rules, set, subst, suc, sym, take, true, zero, zero-add, ℕ, ◌%◌, ◌&&◌, ◌*◌, ◌++◌, ◌+◌, ◌-◌, ◌/◌, ◌<◌, ◌^◌, ◌||◌, ◌∙◌, ◌∷◌, ◌≡◌, ◌≢◌, ◌≤◌}
 pub use Rattle.std.proofs.Math.Nat.{div-mul-le_self, lt_of_not-le, mul-le-mul_right, mul_assoc, ne_of_lt, pow-suc, suc-ne-zero}
-pub use Rattle.std.proofs.Math.Seq.{drop-length, take-add}
 pub use Rattle.std.proofs.lemmas.Bool.{and_from, and_left, and_parts, and_right, cases_eq, cases_lt, eq-eqb, eqb-true, false_from_ne_true, false≢true, ne_eqb, not-false}
 pub use Rattle.std.proofs.lemmas.Bool.Decides.{same_from_decides}
 pub use Rattle.std.proofs.lemmas.Grind.{div_ceil_times, flat_map-append}
@@ -11,7 +10,6 @@ pub use Rattle.std.proofs.lemmas.List.Elements.{All-filter, All-from_get_or, All
 pub use Rattle.std.proofs.lemmas.List.Folds.{concat-append, find-append, list_all_at, sum_by-replicate, sum_by-zero}
 pub use Rattle.std.proofs.lemmas.List.FromFn.{get_or-map-range_with_len, get_or-range_with_len, length-map-range_with_len, length-range_with_len, map-range_with_len_more}
 pub use Rattle.std.proofs.lemmas.List.Sorted.{All-permutation, Contains-permutation, IsNonDecreasingBy-from_sort_by_key}
-pub use Rattle.std.proofs.lemmas.List.Sums.{count_by_more_no, count_by_more_yes, sum_by-set}
 pub use Rattle.std.proofs.lemmas.Nat.{le_bytes_4, mod-pow-add, mod_below, pow-add, pow_pos, shl_below, shr-shr, shr_below, xor_comm, xor_lt}
 pub use Rattle.std.proofs.lemmas.Slice.Eq.{bytes_eq-Decides}
 pub use Rattle.std.specs.Borrow.{Bor}
@@ -20,7 +18,7 @@ pub use Rattle.std.specs.Int.Bits.{xor_assoc, xor_zero_r}
 pub use Rattle.std.specs.List.{All, IsDistinct, concat, count_by, list_all, range_with_len}
 pub use Rattle.std.specs.List.Sorted.{IsNonDecreasingBy, IsPermutation}
 pub use Rattle.std.specs.Option.{is_none, option_or}
-pub use Rattle.std.specs.Prelude.{IfSome, None, Option, Some, bit_and, bit_or, bit_xor, filter, find, flat_map, option_map, option_to_list, slice_index, slice_index_or, zip, ◌==◌, ◌⊎◌}
+pub use Rattle.std.specs.Prelude.{IfSome, None, Option, Some, bit_and, bit_or, bit_xor, filter, find, flat_map, option_map, option_to_list, slice_index, zip, ◌==◌, ◌⊎◌}
 pub use Rattle.std.specs.Simd.{first_chunks}
 pub use Rattle.std.specs.Str.{bytes_eq}
 pub use Rattle.md5.specs.Md5.{Holds, md5}

@@ -1,5 +1,6 @@
 -- A search under way.
-use Rattle.par2_slices.proofs.Common.{◌≡◌, ℕ, zero, suc, ◌+◌, ◌-◌, ◌*◌, ◌/◌, ◌%◌, ◌^◌, ◌<◌, Bool, true, false, cond, List, [], ◌∷◌, ◌++◌, length, map, drop, take, get_or, set, replicate, refl, sym, ap, subst, ◌∙◌, get_or-set_same, get_or-set_other, inl, inr, arith, ◌⊎◌, ◌==◌, Option, Some, None, find, option_map, bit_at, count_by, list_all, range_with_len, is_none, option_or, bytes_eq, and_from, and_left, and_right, cases_eq, cases_lt, eq-eqb, ne_eqb, drop-length, append-nil, take_all, length-replicate, length-map, get_or-map, ext_get_or, get_or_append_left, get_or_at, length_push, drop_more, take_more, find-append, sum_by-zero, sum_by-replicate, list_all_at, sum_by-set, md5, Pair, crc32, is_match, window, first_match, range-append, or_nothing, AreAlike, Groups, Marks, no_pair, IsOfOpenPair, no_place, no_candidate, pair_at, place_at, candidate_at, answer_at, answer_below, spot_in, first_spot, first_spot_from, HoldsGroup, is_awaited, after_window, has_checksums, Earlier, IsWindow, IsTally, IsAt, Candidate, Spot, Place}
+use Rattle.par2_slices.proofs.Common.{◌≡◌, ℕ, zero, suc, ◌+◌, ◌-◌, ◌*◌, ◌/◌, ◌%◌, ◌^◌, ◌<◌, Bool, true, false, cond, List, [], ◌∷◌, ◌++◌, length, map, drop, take, get_or, set, replicate, refl, sym, ap, subst, ◌∙◌, get_or-set_same, get_or-set_other, inl, inr, arith, ◌⊎◌, ◌==◌, Option, Some, None, find, option_map, bit_at, count_by, list_all, range_with_len, is_none, option_or, bytes_eq, and_from, and_left, and_right, cases_eq, cases_lt, eq-eqb, ne_eqb, length-replicate, length-map, get_or-map, ext_get_or, get_or_append_left, get_or_at, length_push, drop_more, take_more, find-append, sum_by-zero, sum_by-replicate, list_all_at, md5, Pair, crc32, is_match, window, first_match, range-append, or_nothing, AreAlike, Groups, Marks, no_pair, IsOfOpenPair, no_place, no_candidate, pair_at, place_at, candidate_at, answer_at, answer_below, spot_in, first_spot, first_spot_from, HoldsGroup, is_awaited, after_window, has_checksums, Earlier, IsWindow, IsTally, IsAt, Candidate, Spot, Place}
+use Rattle.std.proofs.lemmas.List.Sums.{sum_by-set}
 use Rattle.std.proofs.Common.{length-take}
 use Rattle.std.specs.Prelude.{◌&&◌}
 use Rattle.std.proofs.lemmas.List.{length-set}
@@ -382,11 +383,6 @@ one_settled pairs md5 crc spot old group n found count so_far size inside none m
       total = omega (arith, weighed, heavy, so_far.total);
     }
 
--- a list whose items were written in place
-pub written : (new old : List (Option Spot)) (n : ℕ) → n ≡ length old → length new ≡ length old → take n (new ++ drop (length new) old) ≡ new
-written new old n len size =
-    ap (take n) (ap (λ xs. new ++ xs) (ap (λ k. drop k old) size ∙ drop-length old) ∙ append-nil new) ∙ take_all n new (omega (arith, len, size))
-
 -- each place of the group has been settled, so each pair has
 pub all_settled : (pairs : List Pair) (md5 : List ℕ) (crc : ℕ) (spot : Spot) (old new : List (Option Spot)) (group : List Place) → HoldsGroup pairs crc group
     → ((i : ℕ) → i < length pairs → (answer_at new i ≡ answer_at old i) ⊎ (answer_at new i ≡ after_window (has_checksums md5 crc (pair_at pairs i)) spot (answer_at old i)))
@@ -427,9 +423,6 @@ tally_settled pairs md5 crc spot old new left count filter after tally size each
       ];
 }
 
-pub is_open : (answer : Option Spot) → is_none answer ≡ false → answer ≡ None → ⊥
-is_open answer is none = let both : true ≡ false = sym (ap is_none none) ∙ is in cc
-
 pub has_is : (pair : Pair) (md5 : List ℕ) (crc : ℕ) → pair.1 ≡ crc → bytes_eq md5 pair.0 ≡ true → has_checksums md5 crc pair ≡ true
 has_is pair md5 crc same equal = and_from (crc == pair.1) _ (eq-eqb crc pair.1 (sym same)) equal
 
@@ -437,11 +430,10 @@ has_is pair md5 crc same equal = and_from (crc == pair.1) _ (eq-eqb crc pair.1 (
 pub awaited_is : (crc : ℕ) (found : List (Option Spot)) (place : Place) → place.crc ≡ crc → is_none (answer_at found place.index) ≡ true → is_awaited crc found place ≡ true
 awaited_is crc found place same none = and_from (place.crc == crc) _ (eq-eqb place.crc crc same) none
 
-pub other_crc : (crc : ℕ) (found : List (Option Spot)) (place : Place) → (place.crc ≡ crc → ⊥) → is_awaited crc found place ≡ false
-other_crc crc found place other = and_left (place.crc == crc) _ (ne_eqb place.crc crc other)
-
-pub not_open : (crc : ℕ) (found : List (Option Spot)) (place : Place) → is_none (answer_at found place.index) ≡ false → is_awaited crc found place ≡ false
-not_open crc found place answered = and_right (place.crc == crc) _ answered
+-- a pair without an answer that isn't awaited has another checksum
+pub not_awaited : (crc : ℕ) (found : List (Option Spot)) (place : Place) (pair : Pair) (md5 : List ℕ) → pair.1 ≡ place.crc → is_awaited crc found place ≡ false → answer_at found place.index ≡ None → has_checksums md5 crc pair ≡ false
+not_awaited crc found place pair md5 same waits none =
+    no_crc pair md5 crc (λ is. let both : true ≡ false = sym (awaited_is crc found place (sym same ∙ is) (ap is_none none)) ∙ waits in cc)
 
 pub no_md5 : (pair : Pair) (md5 : List ℕ) (crc : ℕ) → bytes_eq md5 pair.0 ≡ false → has_checksums md5 crc pair ≡ false
 no_md5 pair md5 crc differs = and_right (crc == pair.1) _ differs

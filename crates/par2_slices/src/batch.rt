@@ -9,6 +9,7 @@ ghost use Rattle.par2_slices.specs.Searches.{candidate_at};
 use crate::cutting::window_bytes;
 use crate::pairs::padded_md5;
 use par2_digests::{LANES, window_digests};
+use std::array;
 
 /// Where a window begins: the number of its text among those that are searched, and its offset there.
 #[derive(Clone, Copy, Default, PartialEq, Eq, Debug, Drop)]
@@ -24,7 +25,7 @@ pub(crate) struct Candidate {
     pub(crate) crc: u32,
 }
 
-/// The offsets of the candidates; the first of them again in the lanes that are left.
+/// The offsets of the candidates; the last of them again in the lanes that are left.
 fn starts(batch: &[Candidate]) -> [usize; LANES]
     requires some { 1 ≤ length batch.now }
     requires fit { length batch.now ≤ 8 }
@@ -33,11 +34,7 @@ fn starts(batch: &[Candidate]) -> [usize; LANES]
     ensures among { (k : ℕ) → k < 8 → (j : ℕ)
         × (j < length batch.now) × (slice_index result k ≡ (candidate_at batch.now j).spot.offset) }
 {
-    let mut starts = [batch[0].spot.offset; LANES];
-    for (lane, candidate) in batch.iter().enumerate() {
-        starts[lane] = candidate.spot.offset;
-    }
-    starts
+    array::from_fn(|lane| batch[lane.min(batch.len() - 1)].spot.offset)
 }
 
 /// The MD5s of the candidates' windows, which are whole.

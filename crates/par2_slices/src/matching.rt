@@ -117,11 +117,10 @@ fn first_crc32s(
     requires { 1 ≤ s }
     ensures { IfOk result (λ firsts. AreFirst s (texts_of texts.now) firsts.items) }
 {
-    let mut firsts = Vec::with_capacity(alloc, texts.len())?;
-    for i in 0..texts.len() {
-        firsts.push(first_crc32(texts[i], s, targets))?;
-    }
-    Ok(firsts)
+    texts
+        .iter()
+        .map(|text| first_crc32(text, s, targets))
+        .collect(alloc)
 }
 
 // Whether the text is intact for the target, by the CRC-32 of its first slice where that is known and another.

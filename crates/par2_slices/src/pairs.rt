@@ -12,6 +12,7 @@ use crate::cutting::{slice_bytes, slice_count};
 use md5::{Digest, Md5};
 use par2_digests::{LANES, window_digests};
 use std::alloc::{AllocError, Global};
+use std::array;
 
 /// The checksums of a slice: its MD5, then its CRC-32.
 pub type Pair = ([u8; 16], u32);
@@ -63,11 +64,7 @@ fn starts_from(first: usize, count: usize, s: usize) -> [usize; LANES]
     requires end { (first + count) * s < 2 ^ 64 }
     ensures { (k : ℕ) → k < 8 → slice_index result k ≡ (first + min k (count - 1)) * s }
 {
-    let mut starts = [0; LANES];
-    for lane in 0..LANES {
-        starts[lane] = (first + lane.min(count - 1)) * s;
-    }
-    starts
+    array::from_fn(|lane| (first + lane.min(count - 1)) * s)
 }
 
 /// The MD5s of `count` whole slices, eight at most, of which the first is slice `first`, side by side.

@@ -20,16 +20,12 @@ use std::alloc::{AllocError, Global};
 
 /// How many pairs of the group have this CRC-32 and no answer yet.
 fn awaited(group: &[Place], crc: u32, found: &[Option<Spot>]) -> usize
-    requires { AreAmong found.now group.now }
     ensures { result ≡ count_by (is_awaited crc found.now) group.now }
 {
-    let mut count = 0;
-    for place in group {
-        if place.crc == crc && found[place.index].is_none() {
-            count += 1;
-        }
-    }
-    count
+    group
+        .iter()
+        .filter(|place| place.is_awaited(crc, found))
+        .count()
 }
 
 /// Whether a pair of the group, whose CRC-32 has the same low six bits, has no answer yet.
@@ -45,31 +41,26 @@ fn is_waiting(group: &[Place], crc: u32, found: &[Option<Spot>]) -> bool
     false
 }
 
-/// Gives each pair of the group that has these checksums and no answer yet the answer `spot`, and counts them.
+/// Gives each pair that has these checksums and no answer yet the candidate's spot, and counts them.
 fn settle(
-    group: &[Place],
-    pairs: &[Pair],
+    wanted: &Wanted,
+    candidate: Candidate,
     md5: &[u8; 16],
-    crc: u32,
-    spot: Spot,
-    found: &mut [Option<Spot>],
+    found: &mut Vec<Option<Spot>>,
 ) -> usize
-    requires places { ArePlaces pairs.now group.now }
-    requires len { length found.old ≡ length pairs.now }
-    ensures each { (i : ℕ) → i < length pairs.now
-        → (answer_at found.new i ≡ answer_at found.old i) ⊎ (answer_at found.new i
-        ≡ after_window (has_checksums md5.now crc (pair_at pairs.now i)) spot (answer_at found.old
-        i)) }
-    ensures group { (k : ℕ) → k < length group.now → let i = (place_at group.now k).index in
-        answer_at found.new i
-        ≡ after_window (has_checksums md5.now crc (pair_at pairs.now i)) spot (answer_at found.old
-        i) }
-    ensures count { result + count_by is_none found.new ≡ count_by is_none found.old }
+    requires { length found.old.items ≡ length wanted.now }
+    ensures each { (i : ℕ) → i < length wanted.now → answer_at found.new.items i
+        ≡ after_window (has_checksums md5.now candidate.crc (pair_at wanted.now i))
+        candidate.spot
+        (answer_at found.old.items i) }
+    ensures len { length found.new.items ≡ length found.old.items }
+    ensures count { result + count_by is_none found.new.items ≡ count_by is_none found.old.items }
 {
+    let pairs = wanted.pairs();
     let mut count = 0;
-    for place in group {
-        if place.crc == crc && found[place.index].is_none() && *md5 == pairs[place.index].0 {
-            found[place.index] = Some(spot);
+    for place in wanted.group(candidate.crc) {
+        if place.is_awaited(candidate.crc, found) && *md5 == pairs[place.index].0 {
+            found[place.index] = Some(candidate.spot);
             count += 1;
         }
     }
@@ -127,10 +118,9 @@ impl Search {
             (answer_at self.old.found.items i) }
         ensures batch { self.new.batch.items ≡ self.old.batch.items }
     {
-        let Candidate { spot, crc } = candidate;
-        let group = wanted.group(crc);
-        self.left -= settle(group, wanted.pairs(), md5, crc, spot, &mut self.found);
-        if !is_waiting(group, crc, &self.found) {
+        self.left -= settle(wanted, candidate, md5, &mut self.found);
+        let crc = candidate.crc;
+        if !is_waiting(wanted.group(crc), crc, &self.found) {
             self.filter.remove(crc);
         }
     }

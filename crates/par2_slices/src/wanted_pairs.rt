@@ -2,8 +2,9 @@
 
 ghost use Rattle.std.specs.Prelude.{◌≡◌, ◌≤◌, ◌<◌, ◌/◌, ◌^◌, ℕ, IfOk, length};
 ghost use Rattle.std.specs.List.Sorted.{IsNonDecreasingBy};
-ghost use Rattle.par2_slices.specs.Searches.{place_at, AreStarts, HoldsGroup, IsStart};
+ghost use Rattle.par2_slices.specs.Searches.{is_awaited, place_at, AreStarts, HoldsGroup, IsStart};
 
+use crate::batch::Spot;
 use crate::filter::{SHIFT, WORDS};
 use crate::pairs::Pair;
 use std::alloc::{AllocError, Global};
@@ -14,6 +15,15 @@ use std::marker::Model;
 pub(crate) struct Place {
     pub(crate) crc: u32,
     pub(crate) index: usize,
+}
+
+impl Place {
+    /// Whether the pair has this CRC-32 and no answer yet.
+    pub(crate) fn is_awaited(&self, crc: u32, found: &[Option<Spot>]) -> bool
+        ensures { result ≡ is_awaited crc found.now self.now }
+    {
+        self.crc == crc && found.get(self.index).copied().flatten().is_none()
+    }
 }
 
 /// The pairs that a search looks for, in order. A pair may be there more than once.

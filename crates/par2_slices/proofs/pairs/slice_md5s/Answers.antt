@@ -1,4 +1,4 @@
-use Rattle.par2_slices.proofs.Common.{◌≢◌, ◌∙◌, ◌+◌, ◌*◌, ◌/◌, ◌≤◌, [], length, ap, arith, get_or-set_other, get_or-set_same, mul-le-mul_right, md5, padded, below_more, div-mul-le_self}
+use Rattle.par2_slices.proofs.Common.{◌≢◌, ◌∙◌, ◌+◌, ◌*◌, ◌/◌, ◌≤◌, [], length, ap, arith, get_or-set_other, get_or-set_same, below_more, mul-le-mul_right, div-mul-le_self, md5, padded}
 use Rattle.std.proofs.lemmas.List.{length-set}
 use Rattle.par2_slices.proofs.pairs.slice_md5s.Goals as goal
 

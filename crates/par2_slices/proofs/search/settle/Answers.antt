@@ -1,40 +1,47 @@
-use Rattle.par2_slices.proofs.Common.{◌≡◌, ◌∙◌, ◌+◌, ℕ, List, true, false, set, not, ap, sym, subst, Option, Some, None, Pair, answer_at, pair_at, place_at, has_checksums, IsPlace, Spot, Place, none_from}
-use Rattle.par2_slices.proofs.Searching.{Settled, not_settled, one_settled, is_open, has_is, no_md5, no_crc}
+use Rattle.par2_slices.proofs.Common.{◌≡◌, ◌∙◌, ◌+◌, ℕ, List, false, true, set, ap, sym, subst, arith, ◌==◌, Option, Some, None, eqb-true, and_parts, is_none, bytes_eq, Pair, answer_at, is_awaited, pair_at, place_at, has_checksums, IsPlace, Spot, Place, none_from}
+use Rattle.par2_slices.proofs.Searching.{Settled, all_settled, not_settled, one_settled, has_is, no_md5, not_awaited}
 use Rattle.par2_slices.proofs.search.settle.Goals as goal
-use Rattle.par2_slices.proofs.search.settle.Goals.{then-place-crc+then-is_none+then-eq, else-place-crc, else-place-crc-via-then-place-crc+then-is_none+else-eq, else-place-crc-via-then-place-crc+else-is_none, else-place-crc-via-else-place-crc}
+use Rattle.par2_slices.proofs.search.settle.Goals.{then-is_awaited+then-eq, else-is_awaited, else-is_awaited-via-then-is_awaited+else-eq, else-is_awaited-via-else-is_awaited}
 
 pub loop-place-preserved : goal.loop-place-preserved
 loop-place-preserved c =
-    let pairs : List Pair = c.args.pairs.now in
+    let pairs : List Pair = c.args.wanted.now in
     let md5 : List ℕ = c.args.md5.now in
-    let crc : ℕ = c.args.crc in
-    let spot : Spot = c.args.spot in
-    let old : List (Option Spot) = c.args.found.now in
-    let group : List Place = c.args.group.now in
+    let crc : ℕ = c.args.candidate.crc in
+    let spot : Spot = c.args.candidate.spot in
+    let old : List (Option Spot) = c.args.found.now.items in
+    let group : List Place = c.group-place-items.result.now in
     let n : ℕ = c.loop-place.place-index in
-    let found : List (Option Spot) = c.loop-place.found in
+    let found : List (Option Spot) = c.loop-place.found.items in
     let count : ℕ = c.loop-place.count in
     let place : Place = place_at group n in
-    let its : IsPlace pairs place = c.requires.places n c.loop-place-test.true in
+    let its : IsPlace pairs place = c.group-place-items.ensures.each n c.loop-place-test.true in
     let pair : Pair = pair_at pairs place.index in
+    let waits : c.is_awaited.result ≡ is_awaited crc found place = c.is_awaited.ensures ∙ ap (λ f. is_awaited crc f place) c.deref.ensures.value in
+    let read : bytes_eq md5 (pair_at c.pairs-pairs.result.now place.index).0 ≡ bytes_eq md5 pair.0 = ap (λ ps. bytes_eq md5 (pair_at ps place.index).0) c.pairs-pairs.ensures in
     let After : List (Option Spot) → ℕ → Type 0 = λ f k. Settled pairs md5 crc spot old group (n + 1) f k in
-    let same_after : c.if-place-crc.found ≡ found → c.if-place-crc.count ≡ count → (answer_at found place.index ≡ None → has_checksums md5 crc pair ≡ false) → After c.if-place-crc.found c.if-place-crc.count = λ f k fails.
-    let Found : List (Option Spot) → Type 0 = λ g. After g c.if-place-crc.count in
-    let Count : ℕ → Type 0 = λ j. After found j in
-    subst Found (sym f) (subst Count (sym k) (not_settled pairs md5 crc spot old group n found count c.loop-place.invariant its.within fails))
-    in
-    elim c.if-place-crc.branch [
-      | then-place-crc+then-is_none+then-eq w ↦ (
-          let new : List (Option Spot) = set found place.index (Some spot) in
-          let Found : List (Option Spot) → Type 0 = λ g. After g c.if-place-crc.count in
-          let Count : ℕ → Type 0 = λ j. After new j in
-          let open_place : answer_at found place.index ≡ None = none_from (answer_at found place.index) (ap not (w.is_none.ensures ∙ ap not w.if-is_none.true)) in
-          let matched : has_checksums md5 crc pair ≡ true = has_is pair md5 crc (its.crc ∙ w.if-place-crc.true) (sym w.eq.ensures ∙ w.if-eq.true) in
-          subst Found (sym w.found-is) (subst Count (sym w.count-is) (one_settled pairs md5 crc spot old group n found count c.loop-place.invariant c.requires.len its.within open_place matched))
+    let moved : (f : List (Option Spot)) (k : ℕ) → c.if-is_awaited.found.items ≡ f → c.if-is_awaited.count ≡ k → After f k → After c.if-is_awaited.found.items c.if-is_awaited.count = λ f k same is after.
+    subst (λ g. After g c.if-is_awaited.count) (sym same) (subst (After f) (sym is) after) in
+    elim c.if-is_awaited.branch [
+      | then-is_awaited+then-eq w ↦ (
+          let items : c.if-is_awaited.found.items ≡ set found place.index (Some spot) = ap (λ v. v.items) w.found-is in
+          let awaited = and_parts (place.crc == crc) (is_none (answer_at found place.index)) (sym waits ∙ w.if-is_awaited.true) in
+          let matched : has_checksums md5 crc pair ≡ true = has_is pair md5 crc (its.crc ∙ eqb-true _ _ awaited.0) (sym read ∙ sym w.eq.ensures ∙ w.if-eq.true) in
+          moved _ _ items w.count-is (one_settled pairs md5 crc spot old group n found count c.loop-place.invariant c.requires its.within (none_from (answer_at found place.index) awaited.1) matched)
           )
-      | else-place-crc w ↦ elim w.else-place-crc.branch [
-        | else-place-crc-via-then-place-crc+then-is_none+else-eq w' ↦ same_after w.found-is w.count-is (λ none. no_md5 pair md5 crc (sym w'.eq.ensures ∙ w'.if-eq.false))
-        | else-place-crc-via-then-place-crc+else-is_none w' ↦ same_after w.found-is w.count-is (λ none. absurd (is_open (answer_at found place.index) (ap not (w'.is_none.ensures ∙ ap not w'.if-is_none.false)) none))
-        | else-place-crc-via-else-place-crc w' ↦ same_after w.found-is w.count-is (λ none. no_crc pair md5 crc (λ same. w'.if-place-crc.false (sym its.crc ∙ same)))
-      ]
+      | else-is_awaited w ↦ (
+          let items : c.if-is_awaited.found.items ≡ found = ap (λ v. v.items) w.found-is in
+          let stays : (answer_at found place.index ≡ None → has_checksums md5 crc pair ≡ false) → After c.if-is_awaited.found.items c.if-is_awaited.count = λ fails.
+          moved _ _ items w.count-is (not_settled pairs md5 crc spot old group n found count c.loop-place.invariant its.within fails)
+          in
+          elim w.else-is_awaited.branch [
+            | else-is_awaited-via-then-is_awaited+else-eq w' ↦ stays (λ none. no_md5 pair md5 crc (sym read ∙ sym w'.eq.ensures ∙ w'.if-eq.false))
+            | else-is_awaited-via-else-is_awaited w' ↦ stays (not_awaited crc found place pair md5 its.crc (sym waits ∙ w'.if-is_awaited.false))
+          ]
+          )
     ]
+
+pub returns-clause-each : goal.returns-clause-each
+returns-clause-each c =
+    all_settled c.args.wanted.now c.args.md5.now c.args.candidate.crc c.args.candidate.spot c.args.found.now.items c.loop-place.found.items c.group-place-items.result.now c.group-place-items.ensures
+    c.loop-place.invariant.each (λ k h. c.loop-place.invariant.done k (omega (arith, h, c.loop-place-test.false)))
