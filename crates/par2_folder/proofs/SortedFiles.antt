@@ -1,8 +1,8 @@
 -- Files sorted by their names: what a search finds in them, and what an edit at a place does to the folder that
 -- they make.
-use Rattle.par2_folder.proofs.Common.{◌≡◌, ℕ, zero, suc, ◌+◌, ◌<◌, ◌≤◌, Bool, true, false, cond, not, List, [], ◌∷◌, ◌++◌, length, take, drop, get_or, set, is_some, Option, Some, None, inl, inr, Result, Ok, Err, IfOk, IfErr, IsTrue, T, refl, sym, ap, subst, ◌∙◌, arith, insert, remove, AllByRecursion, IsSearchInRange, IsBinarySearchResult, IsNonDecreasingBy, ordering_index, ordering_reverse, eq_by_cmp, is_lt, is_eq, Ordering, Less, Equal, Greater, tied_itself, alike_right, eq_by_cmp_equiv, cases_lt, and_parts, nat_list_cmp_total, entries, is_sorted, find, put, IsAntisymmetric, slice_cmp-IsAntisymmetric, nat_cmp-IsAntisymmetric, same_entries_map, same_map, entries_sorted, entries-from_sorted, get-from_sorted, entries-insert, get-remove, get-empty, where_key, find-where_key, is_sorted-where_key, length-map, get_or-map, length-take-le, get_or-take, take_all, drop_all, take_more, get_or_default, All-from_recursion, recursion_from_All, All-set, File, Folder, IsFolder, has, names, name_cmp, IsSortedByName, folder_of, file_at, IsAt, IsGapFor, IsFile, IsKept, by_true, is_true, cond-not}
+use Rattle.par2_folder.proofs.Common.{◌≡◌, ℕ, zero, suc, ◌+◌, ◌<◌, ◌≤◌, Bool, true, false, cond, not, List, [], ◌∷◌, ◌++◌, length, take, drop, get_or, set, is_some, Option, Some, None, Result, Ok, Err, IfOk, IfErr, IsTrue, T, refl, sym, ap, subst, ◌∙◌, arith, insert, remove, AllByRecursion, IsSearchInRange, IsBinarySearchResult, IsNonDecreasingBy, ordering_index, ordering_reverse, eq_by_cmp, is_lt, is_eq, Ordering, Less, Equal, Greater, tied_itself, alike_right, eq_by_cmp_equiv, and_parts, nat_list_cmp_total, entries, is_sorted, find, put, IsAntisymmetric, slice_cmp-IsAntisymmetric, nat_cmp-IsAntisymmetric, same_entries_map, same_map, entries_sorted, entries-from_sorted, get-from_sorted, entries-insert, get-remove, get-empty, where_key, find-where_key, is_sorted-where_key, length-map, get_or-map, length-take-le, get_or-take, take_all, drop_all, take_more, get_or_default, All-from_recursion, recursion_from_All, All-set, File, Folder, IsFolder, has, names, name_cmp, IsSortedByName, folder_of, file_at, IsAt, IsGapFor, IsFile, IsKept, by_true, is_true, cond-not}
 use Rattle.std.specs.FinMap as map_of
-use Rattle.std.proofs.lemmas.List.Sorted.{IsNonDecreasingBy-from_default}
+use Rattle.std.proofs.lemmas.List.Sorted.{searchable_from_sorted}
 
 pub same_names : IsAntisymmetric name_cmp
 same_names = slice_cmp-IsAntisymmetric nat_cmp-IsAntisymmetric
@@ -23,41 +23,28 @@ tail_gap e files name i gap = record {
 }
 
 -- a file of a sorted list comes before each that follows it
-below : (name : List ℕ) (files : List File) (i : ℕ) → IsTrue (map_of.Entries.below_all name_cmp name files) → i < length files → name_cmp name (file_at files i).0 ≡ Less
-below name [] i h lt = absurd (omega arith)
-below name (e ∷ files) zero h lt = less _ (and_parts _ _ h).0
-below name (e ∷ files) (suc i) h lt = below name files i (and_parts _ _ h).1 (omega arith)
+below : (name : List ℕ) (files : List File) (i : ℕ) (d : File) → IsTrue (map_of.Entries.below_all name_cmp name files) → i < length files → name_cmp name (get_or files i d).0 ≡ Less
+below name [] i d h lt = absurd (omega arith)
+below name (e ∷ files) zero d h lt = less _ (and_parts _ _ h).0
+below name (e ∷ files) (suc i) d h lt = below name files i d (and_parts _ _ h).1 (omega arith)
 
-pub rises : (files : List File) → IsSortedByName files → (i j : ℕ) → i < j → j < length files → name_cmp (file_at files i).0 (file_at files j).0 ≡ Less
-rises [] h i j lt in_range = absurd (omega arith)
-rises (e ∷ files) h i zero lt in_range = absurd (omega arith)
-rises (e ∷ files) h zero (suc j) lt in_range = below e.0 files j (and_parts _ _ h).0 (omega arith)
-rises (e ∷ files) h (suc i) (suc j) lt in_range = rises files (and_parts _ _ h).1 i j (omega arith) (omega arith)
+pub rises : (files : List File) → IsSortedByName files → (i j : ℕ) (d : File) → i < j → j < length files → name_cmp (get_or files i d).0 (get_or files j d).0 ≡ Less
+rises [] h i j d lt in_range = absurd (omega arith)
+rises (e ∷ files) h i zero d lt in_range = absurd (omega arith)
+rises (e ∷ files) h zero (suc j) d lt in_range = below e.0 files j d (and_parts _ _ h).0 (omega arith)
+rises (e ∷ files) h (suc i) (suc j) d lt in_range = rises files (and_parts _ _ h).1 i j d (omega arith) (omega arith)
+
+-- a name that comes earlier comes before
+pub turned : (a b : List ℕ) → name_cmp a b ≡ Less → name_cmp b a ≡ Greater
+turned a b h = nat_list_cmp_total.antisymm b a ∙ ap ordering_reverse h
+
+pub turned_back : (a b : List ℕ) → name_cmp a b ≡ Greater → name_cmp b a ≡ Less
+turned_back a b h = nat_list_cmp_total.antisymm b a ∙ ap ordering_reverse h
 
 module _ (files : List File) (sorted : IsSortedByName files) (name : List ℕ) where
-  by_case : (a b c : List ℕ) (s : Ordering) → name_cmp b c ≡ s → name_cmp a b ≡ Less → ordering_index (name_cmp a c) ≤ ordering_index s
-  by_case a b c Less e p = rw (nat_list_cmp_total.trans a b c p e) (omega arith)
-  by_case a b c Equal e p = rw (sym (alike_right nat_list_cmp_total b c a e) ∙ p) (omega arith)
-  by_case a b c Greater e p = at_most (name_cmp a c)
-    where
-      at_most : (o : Ordering) → ordering_index o ≤ 2
-      at_most Less = omega arith
-      at_most Equal = omega arith
-      at_most Greater = omega arith
-
   -- the comparisons with the name rise along the files, as a binary search asks
   comparisons_rise : IsNonDecreasingBy (λ file. ordering_index (name_cmp file.0 name)) files
-  comparisons_rise = IsNonDecreasingBy-from_default (λ file. ordering_index (name_cmp file.0 name)) files ([], []) steps
-    where
-      step : (i j : ℕ) (s : Ordering) → name_cmp (file_at files j).0 name ≡ s → i < j → j < length files → ordering_index (name_cmp (file_at files i).0 name) ≤ ordering_index s
-      step i j s e lt in_range = by_case _ _ name s e (rises files sorted i j lt in_range)
-
-      steps : (i j : ℕ) → i ≤ j → j < length files → ordering_index (name_cmp (file_at files i).0 name) ≤ ordering_index (name_cmp (file_at files j).0 name)
-      steps i j le in_range =
-          elim (cases_lt i j) [
-            | inl lt ↦ step i j _ refl lt in_range
-            | inr ge ↦ let same : i ≡ j = omega arith in subst (λ k. ordering_index (name_cmp (file_at files i).0 name) ≤ ordering_index (name_cmp (file_at files k).0 name)) same (omega arith)
-          ]
+  comparisons_rise = searchable_from_sorted nat_list_cmp_total (λ (file : File). file.0) files name (λ k d _ lt. ap is_lt (turned (get_or files k d).0 (get_or files (k + 1) d).0 (rises files sorted k (k + 1) d (omega arith) lt)))
 
   -- a binary search ends at the file of the name, or where it would go
   pub searched : (r : Result ℕ ℕ) → IsSearchInRange r (length files) → IsBinarySearchResult (λ file. name_cmp file.0 name) files r → record { found : IfOk r (IsAt files name); absent : IfErr r (IsGapFor files name) }
@@ -71,13 +58,6 @@ module _ (files : List File) (sorted : IsSortedByName files) (name : List ℕ) w
     };
   }
 
--- a name that comes earlier comes before
-pub turned : (a b : List ℕ) → name_cmp a b ≡ Less → name_cmp b a ≡ Greater
-turned a b h = nat_list_cmp_total.antisymm b a ∙ ap ordering_reverse h
-
-pub turned_back : (a b : List ℕ) → name_cmp a b ≡ Greater → name_cmp b a ≡ Less
-turned_back a b h = nat_list_cmp_total.antisymm b a ∙ ap ordering_reverse h
-
 -- ---- what is found
 
 pub find_at : (files : List File) → IsSortedByName files → (name : List ℕ) (at : ℕ) → IsAt files name at → find name_cmp name files ≡ Some (file_at files at).1
@@ -85,7 +65,7 @@ find_at [] h name at here = absurd (omega (arith, here.in_range))
 find_at (e ∷ files) h name zero here = ap (λ o. cond (is_eq o) (Some e.1) (find name_cmp name files)) (subst (λ n. name_cmp n e.0 ≡ Equal) here.has_name (tied_itself nat_list_cmp_total e.0))
 find_at (e ∷ files) h name (suc at) here =
     let inside = tail_at e files name at here in
-    let before : name_cmp e.0 name ≡ Less = subst (λ n. name_cmp e.0 n ≡ Less) inside.has_name (below e.0 files at (and_parts _ _ h).0 inside.in_range) in
+    let before : name_cmp e.0 name ≡ Less = subst (λ n. name_cmp e.0 n ≡ Less) inside.has_name (below e.0 files at ([], []) (and_parts _ _ h).0 inside.in_range) in
     ap (λ o. cond (is_eq o) (Some e.1) (find name_cmp name files)) (turned e.0 name before) ∙ find_at files (and_parts _ _ h).1 name at inside
 
 apart : (a b : List ℕ) (at : ℕ) (o : Ordering) → name_cmp a b ≡ o → is_eq o ≡ false → is_eq (name_cmp b a) ≡ false
@@ -119,7 +99,7 @@ put_at (e ∷ files) h name bytes zero here =
     ∙ ap (λ n. (n, bytes) ∷ files) here.has_name
 put_at (e ∷ files) h name bytes (suc at) here =
     let inside = tail_at e files name at here in
-    let before : name_cmp e.0 name ≡ Less = subst (λ n. name_cmp e.0 n ≡ Less) inside.has_name (below e.0 files at (and_parts _ _ h).0 inside.in_range) in
+    let before : name_cmp e.0 name ≡ Less = subst (λ n. name_cmp e.0 n ≡ Less) inside.has_name (below e.0 files at ([], []) (and_parts _ _ h).0 inside.in_range) in
     ap (λ o. map_of.Entries.by_order o ((name, bytes) ∷ e ∷ files) ((e.0, bytes) ∷ files) (e ∷ put name_cmp name bytes files)) (turned e.0 name before)
     ∙ ap (λ rest. e ∷ rest) (put_at files (and_parts _ _ h).1 name bytes at inside)
 
@@ -139,7 +119,7 @@ others_at (e ∷ files) h name zero here =
     ∙ all_others files name (subst (λ n. IsTrue (map_of.Entries.below_all name_cmp n files)) here.has_name (and_parts _ _ h).0)
 others_at (e ∷ files) h name (suc at) here =
     let inside = tail_at e files name at here in
-    let before : name_cmp e.0 name ≡ Less = subst (λ n. name_cmp e.0 n ≡ Less) inside.has_name (below e.0 files at (and_parts _ _ h).0 inside.in_range) in
+    let before : name_cmp e.0 name ≡ Less = subst (λ n. name_cmp e.0 n ≡ Less) inside.has_name (below e.0 files at ([], []) (and_parts _ _ h).0 inside.in_range) in
     ap (λ o. cond (not (is_eq o)) (e ∷ where_key name_cmp (other name) files) (where_key name_cmp (other name) files)) (turned e.0 name before)
     ∙ ap (λ rest. e ∷ rest) (others_at files (and_parts _ _ h).1 name at inside)
 
@@ -270,7 +250,7 @@ next_file whole folder i name bytes d so_far lt is found =
     let so_many : length (take i all) ≡ i = length-take-le i all (omega arith) in
     let gap : IsGapFor (take i all) name i = record {
       in_range = omega arith;
-      smaller_before = λ j before. rw (get_or-take i all j ([], []) before) (subst (λ n. name_cmp (file_at all j).0 n ≡ Less) named (rises all sorted j i before in_range));
+      smaller_before = λ j before. rw (get_or-take i all j ([], []) before) (subst (λ n. name_cmp (file_at all j).0 n ≡ Less) named (rises all sorted j i ([], []) before in_range));
       greater_after = λ j after within. absurd (omega arith);
     } in
     record {
