@@ -41,22 +41,11 @@ turned a b h = nat_list_cmp_total.antisymm b a ∙ ap ordering_reverse h
 pub turned_back : (a b : List ℕ) → name_cmp a b ≡ Greater → name_cmp b a ≡ Less
 turned_back a b h = nat_list_cmp_total.antisymm b a ∙ ap ordering_reverse h
 
-module _ (files : List File) (sorted : IsSortedByName files) (name : List ℕ) where
-  -- the comparisons with the name rise along the files, as a binary search asks
-  comparisons_rise : IsNonDecreasingBy (λ file. ordering_index (name_cmp file.0 name)) files
-  comparisons_rise = searchable_from_sorted nat_list_cmp_total (λ (file : File). file.0) files name (λ k d _ lt. ap is_lt (turned (get_or files k d).0 (get_or files (k + 1) d).0 (rises files sorted k (k + 1) d (omega arith) lt)))
-
-  -- a binary search ends at the file of the name, or where it would go
-  pub searched : (r : Result ℕ ℕ) → IsSearchInRange r (length files) → IsBinarySearchResult (λ file. name_cmp file.0 name) files r → record { found : IfOk r (IsAt files name); absent : IfErr r (IsGapFor files name) }
-  searched (Ok at) in_range equal = record { found = record { in_range = in_range; has_name = same_names _ _ (equal ([], [])) }; absent = tt }
-  searched (Err at) in_range parted = record {
-    found = tt;
-    absent = record {
-      in_range = in_range;
-      smaller_before = λ j lt. (parted comparisons_rise).0 j ([], []) (omega arith) lt;
-      greater_after = λ j le lt. (parted comparisons_rise).1 j ([], []) le lt;
-    };
-  }
+-- the comparisons with a name rise along the files, as a binary search asks
+comparisons_rise : (files : List File) → IsSortedByName files → (name : List ℕ) → IsNonDecreasingBy (λ file. ordering_index (name_cmp file.0 name)) files
+comparisons_rise files sorted name =
+    searchable_from_sorted nat_list_cmp_total (λ (file : File). file.0) files name
+    (λ k d _ lt. ap is_lt (turned (get_or files k d).0 (get_or files (k + 1) d).0 (rises files sorted k (k + 1) d (omega arith) lt)))
 
 -- ---- what is found
 
@@ -154,14 +143,8 @@ is_made_of files folder e =
     let sorted = subst (λ l. T (is_sorted name_cmp l)) e (entries_sorted folder) in
     record { sorted = is_true sorted; folder = same_entries_map _ _ (entries-from_sorted name_cmp files sorted ∙ sym e) }
 
-get_at : (files : List File) → IsSortedByName files → (name : List ℕ) (at : ℕ) → IsAt files name at → map_of.get (folder_of files) name ≡ Some (file_at files at).1
-get_at files h name at here = get-from_sorted name_cmp files name (by_true h) ∙ find_at files h name at here
-
-get_in_gap : (files : List File) → IsSortedByName files → (name : List ℕ) (at : ℕ) → IsGapFor files name at → map_of.get (folder_of files) name ≡ None
-get_in_gap files h name at gap = get-from_sorted name_cmp files name (by_true h) ∙ find_in_gap files name at gap
-
 pub bytes_at : (files : List File) → IsKept files → (name : List ℕ) (at : ℕ) → IsAt files name at → map_of.get (folder_of files) name ≡ Some (file_at files at).1
-bytes_at files h = get_at files h.sorted
+bytes_at files h name at here = get-from_sorted name_cmp files name (by_true h.sorted) ∙ find_at files h.sorted name at here
 
 -- the edited files are kept, and make this folder
 pub record Makes (files : List File) (folder : Folder) : Type 0 where
@@ -192,15 +175,16 @@ removed files h name at here =
           ∙ sym (get-remove nat_list_cmp_total (folder_of files) name q ∙ ap (cond (eq_by_cmp name_cmp q name) None) (get-from_sorted name_cmp files q (by_true h.sorted))));
     }
 
--- a binary search, and what the folder has at the name
+-- a binary search ends at the file of the name, or where it would go, and tells what the folder has there
 pub searched_folder : (files : List File) → IsKept files → (name : List ℕ) (r : Result ℕ ℕ) → IsSearchInRange r (length files) → IsBinarySearchResult (λ file. name_cmp file.0 name) files r
     → record { found : IfOk r (IsAt files name); absent : IfErr r (IsGapFor files name); there : IfOk r (λ at. map_of.get (folder_of files) name ≡ Some (file_at files at).1); not_there : IfErr r (λ _. map_of.get (folder_of files) name ≡ None) }
-searched_folder files h name (Ok at) in_range found =
-    let is = searched files h.sorted name (Ok at) in_range found in
-    record { found = is.found; absent = tt; there = get_at files h.sorted name at is.found; not_there = tt }
-searched_folder files h name (Err at) in_range found =
-    let is = searched files h.sorted name (Err at) in_range found in
-    record { found = tt; absent = is.absent; there = tt; not_there = get_in_gap files h.sorted name at is.absent }
+searched_folder files h name (Ok at) in_range equal =
+    let here : IsAt files name at = record { in_range = in_range; has_name = same_names _ _ (equal ([], [])) } in
+    record { found = here; absent = tt; there = bytes_at files h name at here; not_there = tt }
+searched_folder files h name (Err at) in_range parted =
+    let places = parted (comparisons_rise files h.sorted name) in
+    let gap : IsGapFor files name at = record { in_range = in_range; smaller_before = λ j lt. places.0 j ([], []) (omega arith) lt; greater_after = λ j le lt. places.1 j ([], []) le lt } in
+    record { found = tt; absent = gap; there = tt; not_there = get-from_sorted name_cmp files name (by_true h.sorted) ∙ find_in_gap files name at gap }
 
 pub no_files : folder_of [] ≡ map_of.empty
 no_files = same_map nat_list_cmp_total same_names _ _ (λ q. get-from_sorted name_cmp [] q tt ∙ sym (get-empty name_cmp q))
