@@ -45,12 +45,12 @@ pub front_at : (files : List File) → IsKept files → (name : List ℕ) (at : 
 front_at files kept name at here = record { within = omega (arith, here.in_range); before = before; behind = behind }
   where
     before : (j : ℕ) → j < at → is_below name (file_at files j).0 ≡ true
-    before j lt = ap is_lt (subst (λ n. name_cmp (file_at files j).0 n ≡ Less) here.has_name (rises files kept.sorted j at lt here.in_range))
+    before j lt = ap is_lt (subst (λ n. name_cmp (file_at files j).0 n ≡ Less) here.has_name (rises files kept.sorted j at ([], []) lt here.in_range))
 
     behind : (j : ℕ) → at ≤ j → j < length files → is_below name (file_at files j).0 ≡ false
     behind j le lt =
         elim (cases_lt at j) [
-          | inl later ↦ ap is_lt (turned name (file_at files j).0 (subst (λ n. name_cmp n (file_at files j).0 ≡ Less) here.has_name (rises files kept.sorted at j later lt)))
+          | inl later ↦ ap is_lt (turned name (file_at files j).0 (subst (λ n. name_cmp n (file_at files j).0 ≡ Less) here.has_name (rises files kept.sorted at j ([], []) later lt)))
           | inr ge ↦ let same : at ≡ j = omega arith in
               subst (λ i. is_below name (file_at files i).0 ≡ false) same (ap is_lt (ap (λ n. name_cmp n name) here.has_name ∙ tied_itself nat_list_cmp_total name))
         ]

@@ -1,5 +1,5 @@
 -- States side by side and the texts that they absorb.
-use Rattle.par2_folder.proofs.Common.{ℕ, suc, ◌<◌, ◌≤◌, List, [], ◌∷◌, ◌++◌, length, take, get_or, subst, arith, HasAbsorbed, message_of, Reaches, Midstate, Pending, ReachEach}
+use Rattle.par2_folder.proofs.Common.{ℕ, suc, ◌<◌, ◌≤◌, List, [], ◌∷◌, ◌++◌, length, take, get_or, subst, arith, HasAbsorbed, message_of, Reaches, ReachEach, Midstate, Pending}
 
 -- one more
 pub one_more : (states : List Midstate) (pendings : List Pending) (texts : List (List ℕ)) (pending : Pending) (text : List ℕ) → ReachEach states pendings texts → Reaches pending text

@@ -1,8 +1,8 @@
 -- Files sorted by their names: what a search finds in them, and what an edit at a place does to the folder that
 -- they make.
-use Rattle.par2_folder.proofs.Common.{◌≡◌, ℕ, zero, suc, ◌+◌, ◌<◌, ◌≤◌, Bool, true, false, cond, not, List, [], ◌∷◌, ◌++◌, length, take, drop, get_or, set, is_some, Option, Some, None, inl, inr, Result, Ok, Err, IfOk, IfErr, IsTrue, T, refl, sym, ap, subst, ◌∙◌, arith, insert, remove, AllByRecursion, IsSearchInRange, IsBinarySearchResult, IsNonDecreasingBy, ordering_index, ordering_reverse, eq_by_cmp, is_lt, is_eq, Ordering, Less, Equal, Greater, tied_itself, alike_right, eq_by_cmp_equiv, cases_lt, and_parts, nat_list_cmp_total, entries, is_sorted, find, put, IsAntisymmetric, slice_cmp-IsAntisymmetric, nat_cmp-IsAntisymmetric, same_entries_map, same_map, entries_sorted, entries-from_sorted, get-from_sorted, entries-insert, get-remove, get-empty, where_key, find-where_key, is_sorted-where_key, length-map, get_or-map, length-take-le, get_or-take, take_all, drop_all, take_more, get_or_default, All-from_recursion, recursion_from_All, All-set, File, Folder, IsFolder, has, names, name_cmp, IsSortedByName, folder_of, file_at, IsAt, IsGapFor, IsFile, IsKept, by_true, is_true, cond-not}
+use Rattle.par2_folder.proofs.Common.{◌≡◌, ℕ, zero, suc, ◌+◌, ◌<◌, ◌≤◌, Bool, true, false, cond, not, List, [], ◌∷◌, ◌++◌, length, take, drop, get_or, set, is_some, Option, Some, None, Result, Ok, Err, IfOk, IfErr, IsTrue, T, refl, sym, ap, subst, ◌∙◌, arith, insert, remove, AllByRecursion, IsSearchInRange, IsBinarySearchResult, IsNonDecreasingBy, ordering_index, ordering_reverse, eq_by_cmp, is_lt, is_eq, Ordering, Less, Equal, Greater, tied_itself, alike_right, eq_by_cmp_equiv, and_parts, nat_list_cmp_total, entries, is_sorted, find, put, IsAntisymmetric, slice_cmp-IsAntisymmetric, nat_cmp-IsAntisymmetric, same_entries_map, same_map, entries_sorted, entries-from_sorted, get-from_sorted, entries-insert, get-remove, get-empty, where_key, find-where_key, is_sorted-where_key, length-map, get_or-map, length-take-le, get_or-take, take_all, drop_all, take_more, get_or_default, All-from_recursion, recursion_from_All, All-set, File, Folder, IsFolder, has, names, name_cmp, IsSortedByName, folder_of, file_at, IsAt, IsGapFor, IsFile, IsKept, by_true, is_true, cond-not}
 use Rattle.std.specs.FinMap as map_of
-use Rattle.std.proofs.lemmas.List.Sorted.{IsNonDecreasingBy-from_default}
+use Rattle.std.proofs.lemmas.List.Sorted.{searchable_from_sorted}
 
 pub same_names : IsAntisymmetric name_cmp
 same_names = slice_cmp-IsAntisymmetric nat_cmp-IsAntisymmetric
@@ -23,53 +23,16 @@ tail_gap e files name i gap = record {
 }
 
 -- a file of a sorted list comes before each that follows it
-below : (name : List ℕ) (files : List File) (i : ℕ) → IsTrue (map_of.Entries.below_all name_cmp name files) → i < length files → name_cmp name (file_at files i).0 ≡ Less
-below name [] i h lt = absurd (omega arith)
-below name (e ∷ files) zero h lt = less _ (and_parts _ _ h).0
-below name (e ∷ files) (suc i) h lt = below name files i (and_parts _ _ h).1 (omega arith)
+below : (name : List ℕ) (files : List File) (i : ℕ) (d : File) → IsTrue (map_of.Entries.below_all name_cmp name files) → i < length files → name_cmp name (get_or files i d).0 ≡ Less
+below name [] i d h lt = absurd (omega arith)
+below name (e ∷ files) zero d h lt = less _ (and_parts _ _ h).0
+below name (e ∷ files) (suc i) d h lt = below name files i d (and_parts _ _ h).1 (omega arith)
 
-pub rises : (files : List File) → IsSortedByName files → (i j : ℕ) → i < j → j < length files → name_cmp (file_at files i).0 (file_at files j).0 ≡ Less
-rises [] h i j lt in_range = absurd (omega arith)
-rises (e ∷ files) h i zero lt in_range = absurd (omega arith)
-rises (e ∷ files) h zero (suc j) lt in_range = below e.0 files j (and_parts _ _ h).0 (omega arith)
-rises (e ∷ files) h (suc i) (suc j) lt in_range = rises files (and_parts _ _ h).1 i j (omega arith) (omega arith)
-
-module _ (files : List File) (sorted : IsSortedByName files) (name : List ℕ) where
-  by_case : (a b c : List ℕ) (s : Ordering) → name_cmp b c ≡ s → name_cmp a b ≡ Less → ordering_index (name_cmp a c) ≤ ordering_index s
-  by_case a b c Less e p = rw (nat_list_cmp_total.trans a b c p e) (omega arith)
-  by_case a b c Equal e p = rw (sym (alike_right nat_list_cmp_total b c a e) ∙ p) (omega arith)
-  by_case a b c Greater e p = at_most (name_cmp a c)
-    where
-      at_most : (o : Ordering) → ordering_index o ≤ 2
-      at_most Less = omega arith
-      at_most Equal = omega arith
-      at_most Greater = omega arith
-
-  -- the comparisons with the name rise along the files, as a binary search asks
-  comparisons_rise : IsNonDecreasingBy (λ file. ordering_index (name_cmp file.0 name)) files
-  comparisons_rise = IsNonDecreasingBy-from_default (λ file. ordering_index (name_cmp file.0 name)) files ([], []) steps
-    where
-      step : (i j : ℕ) (s : Ordering) → name_cmp (file_at files j).0 name ≡ s → i < j → j < length files → ordering_index (name_cmp (file_at files i).0 name) ≤ ordering_index s
-      step i j s e lt in_range = by_case _ _ name s e (rises files sorted i j lt in_range)
-
-      steps : (i j : ℕ) → i ≤ j → j < length files → ordering_index (name_cmp (file_at files i).0 name) ≤ ordering_index (name_cmp (file_at files j).0 name)
-      steps i j le in_range =
-          elim (cases_lt i j) [
-            | inl lt ↦ step i j _ refl lt in_range
-            | inr ge ↦ let same : i ≡ j = omega arith in subst (λ k. ordering_index (name_cmp (file_at files i).0 name) ≤ ordering_index (name_cmp (file_at files k).0 name)) same (omega arith)
-          ]
-
-  -- a binary search ends at the file of the name, or where it would go
-  pub searched : (r : Result ℕ ℕ) → IsSearchInRange r (length files) → IsBinarySearchResult (λ file. name_cmp file.0 name) files r → record { found : IfOk r (IsAt files name); absent : IfErr r (IsGapFor files name) }
-  searched (Ok at) in_range equal = record { found = record { in_range = in_range; has_name = same_names _ _ (equal ([], [])) }; absent = tt }
-  searched (Err at) in_range parted = record {
-    found = tt;
-    absent = record {
-      in_range = in_range;
-      smaller_before = λ j lt. (parted comparisons_rise).0 j ([], []) (omega arith) lt;
-      greater_after = λ j le lt. (parted comparisons_rise).1 j ([], []) le lt;
-    };
-  }
+pub rises : (files : List File) → IsSortedByName files → (i j : ℕ) (d : File) → i < j → j < length files → name_cmp (get_or files i d).0 (get_or files j d).0 ≡ Less
+rises [] h i j d lt in_range = absurd (omega arith)
+rises (e ∷ files) h i zero d lt in_range = absurd (omega arith)
+rises (e ∷ files) h zero (suc j) d lt in_range = below e.0 files j d (and_parts _ _ h).0 (omega arith)
+rises (e ∷ files) h (suc i) (suc j) d lt in_range = rises files (and_parts _ _ h).1 i j d (omega arith) (omega arith)
 
 -- a name that comes earlier comes before
 pub turned : (a b : List ℕ) → name_cmp a b ≡ Less → name_cmp b a ≡ Greater
@@ -78,6 +41,12 @@ turned a b h = nat_list_cmp_total.antisymm b a ∙ ap ordering_reverse h
 pub turned_back : (a b : List ℕ) → name_cmp a b ≡ Greater → name_cmp b a ≡ Less
 turned_back a b h = nat_list_cmp_total.antisymm b a ∙ ap ordering_reverse h
 
+-- the comparisons with a name rise along the files, as a binary search asks
+comparisons_rise : (files : List File) → IsSortedByName files → (name : List ℕ) → IsNonDecreasingBy (λ file. ordering_index (name_cmp file.0 name)) files
+comparisons_rise files sorted name =
+    searchable_from_sorted nat_list_cmp_total (λ (file : File). file.0) files name
+    (λ k d _ lt. ap is_lt (turned (get_or files k d).0 (get_or files (k + 1) d).0 (rises files sorted k (k + 1) d (omega arith) lt)))
+
 -- ---- what is found
 
 pub find_at : (files : List File) → IsSortedByName files → (name : List ℕ) (at : ℕ) → IsAt files name at → find name_cmp name files ≡ Some (file_at files at).1
@@ -85,7 +54,7 @@ find_at [] h name at here = absurd (omega (arith, here.in_range))
 find_at (e ∷ files) h name zero here = ap (λ o. cond (is_eq o) (Some e.1) (find name_cmp name files)) (subst (λ n. name_cmp n e.0 ≡ Equal) here.has_name (tied_itself nat_list_cmp_total e.0))
 find_at (e ∷ files) h name (suc at) here =
     let inside = tail_at e files name at here in
-    let before : name_cmp e.0 name ≡ Less = subst (λ n. name_cmp e.0 n ≡ Less) inside.has_name (below e.0 files at (and_parts _ _ h).0 inside.in_range) in
+    let before : name_cmp e.0 name ≡ Less = subst (λ n. name_cmp e.0 n ≡ Less) inside.has_name (below e.0 files at ([], []) (and_parts _ _ h).0 inside.in_range) in
     ap (λ o. cond (is_eq o) (Some e.1) (find name_cmp name files)) (turned e.0 name before) ∙ find_at files (and_parts _ _ h).1 name at inside
 
 apart : (a b : List ℕ) (at : ℕ) (o : Ordering) → name_cmp a b ≡ o → is_eq o ≡ false → is_eq (name_cmp b a) ≡ false
@@ -119,7 +88,7 @@ put_at (e ∷ files) h name bytes zero here =
     ∙ ap (λ n. (n, bytes) ∷ files) here.has_name
 put_at (e ∷ files) h name bytes (suc at) here =
     let inside = tail_at e files name at here in
-    let before : name_cmp e.0 name ≡ Less = subst (λ n. name_cmp e.0 n ≡ Less) inside.has_name (below e.0 files at (and_parts _ _ h).0 inside.in_range) in
+    let before : name_cmp e.0 name ≡ Less = subst (λ n. name_cmp e.0 n ≡ Less) inside.has_name (below e.0 files at ([], []) (and_parts _ _ h).0 inside.in_range) in
     ap (λ o. map_of.Entries.by_order o ((name, bytes) ∷ e ∷ files) ((e.0, bytes) ∷ files) (e ∷ put name_cmp name bytes files)) (turned e.0 name before)
     ∙ ap (λ rest. e ∷ rest) (put_at files (and_parts _ _ h).1 name bytes at inside)
 
@@ -139,7 +108,7 @@ others_at (e ∷ files) h name zero here =
     ∙ all_others files name (subst (λ n. IsTrue (map_of.Entries.below_all name_cmp n files)) here.has_name (and_parts _ _ h).0)
 others_at (e ∷ files) h name (suc at) here =
     let inside = tail_at e files name at here in
-    let before : name_cmp e.0 name ≡ Less = subst (λ n. name_cmp e.0 n ≡ Less) inside.has_name (below e.0 files at (and_parts _ _ h).0 inside.in_range) in
+    let before : name_cmp e.0 name ≡ Less = subst (λ n. name_cmp e.0 n ≡ Less) inside.has_name (below e.0 files at ([], []) (and_parts _ _ h).0 inside.in_range) in
     ap (λ o. cond (not (is_eq o)) (e ∷ where_key name_cmp (other name) files) (where_key name_cmp (other name) files)) (turned e.0 name before)
     ∙ ap (λ rest. e ∷ rest) (others_at files (and_parts _ _ h).1 name at inside)
 
@@ -174,14 +143,8 @@ is_made_of files folder e =
     let sorted = subst (λ l. T (is_sorted name_cmp l)) e (entries_sorted folder) in
     record { sorted = is_true sorted; folder = same_entries_map _ _ (entries-from_sorted name_cmp files sorted ∙ sym e) }
 
-get_at : (files : List File) → IsSortedByName files → (name : List ℕ) (at : ℕ) → IsAt files name at → map_of.get (folder_of files) name ≡ Some (file_at files at).1
-get_at files h name at here = get-from_sorted name_cmp files name (by_true h) ∙ find_at files h name at here
-
-get_in_gap : (files : List File) → IsSortedByName files → (name : List ℕ) (at : ℕ) → IsGapFor files name at → map_of.get (folder_of files) name ≡ None
-get_in_gap files h name at gap = get-from_sorted name_cmp files name (by_true h) ∙ find_in_gap files name at gap
-
 pub bytes_at : (files : List File) → IsKept files → (name : List ℕ) (at : ℕ) → IsAt files name at → map_of.get (folder_of files) name ≡ Some (file_at files at).1
-bytes_at files h = get_at files h.sorted
+bytes_at files h name at here = get-from_sorted name_cmp files name (by_true h.sorted) ∙ find_at files h.sorted name at here
 
 -- the edited files are kept, and make this folder
 pub record Makes (files : List File) (folder : Folder) : Type 0 where
@@ -212,15 +175,16 @@ removed files h name at here =
           ∙ sym (get-remove nat_list_cmp_total (folder_of files) name q ∙ ap (cond (eq_by_cmp name_cmp q name) None) (get-from_sorted name_cmp files q (by_true h.sorted))));
     }
 
--- a binary search, and what the folder has at the name
+-- a binary search ends at the file of the name, or where it would go, and tells what the folder has there
 pub searched_folder : (files : List File) → IsKept files → (name : List ℕ) (r : Result ℕ ℕ) → IsSearchInRange r (length files) → IsBinarySearchResult (λ file. name_cmp file.0 name) files r
     → record { found : IfOk r (IsAt files name); absent : IfErr r (IsGapFor files name); there : IfOk r (λ at. map_of.get (folder_of files) name ≡ Some (file_at files at).1); not_there : IfErr r (λ _. map_of.get (folder_of files) name ≡ None) }
-searched_folder files h name (Ok at) in_range found =
-    let is = searched files h.sorted name (Ok at) in_range found in
-    record { found = is.found; absent = tt; there = get_at files h.sorted name at is.found; not_there = tt }
-searched_folder files h name (Err at) in_range found =
-    let is = searched files h.sorted name (Err at) in_range found in
-    record { found = tt; absent = is.absent; there = tt; not_there = get_in_gap files h.sorted name at is.absent }
+searched_folder files h name (Ok at) in_range equal =
+    let here : IsAt files name at = record { in_range = in_range; has_name = same_names _ _ (equal ([], [])) } in
+    record { found = here; absent = tt; there = bytes_at files h name at here; not_there = tt }
+searched_folder files h name (Err at) in_range parted =
+    let places = parted (comparisons_rise files h.sorted name) in
+    let gap : IsGapFor files name at = record { in_range = in_range; smaller_before = λ j lt. places.0 j ([], []) (omega arith) lt; greater_after = λ j le lt. places.1 j ([], []) le lt } in
+    record { found = tt; absent = gap; there = tt; not_there = get-from_sorted name_cmp files name (by_true h.sorted) ∙ find_in_gap files name at gap }
 
 pub no_files : folder_of [] ≡ map_of.empty
 no_files = same_map nat_list_cmp_total same_names _ _ (λ q. get-from_sorted name_cmp [] q tt ∙ sym (get-empty name_cmp q))
@@ -270,7 +234,7 @@ next_file whole folder i name bytes d so_far lt is found =
     let so_many : length (take i all) ≡ i = length-take-le i all (omega arith) in
     let gap : IsGapFor (take i all) name i = record {
       in_range = omega arith;
-      smaller_before = λ j before. rw (get_or-take i all j ([], []) before) (subst (λ n. name_cmp (file_at all j).0 n ≡ Less) named (rises all sorted j i before in_range));
+      smaller_before = λ j before. rw (get_or-take i all j ([], []) before) (subst (λ n. name_cmp (file_at all j).0 n ≡ Less) named (rises all sorted j i ([], []) before in_range));
       greater_after = λ j after within. absurd (omega arith);
     } in
     record {

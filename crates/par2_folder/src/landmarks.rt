@@ -39,12 +39,7 @@ fn are_behind(border: Border<'_>, changes: &[Change]) -> bool
     ensures behind { IsTrue result → AreBehind border.entry changes.now }
     ensures all { AreBehind border.entry changes.now → IsTrue result }
 {
-    for change in changes {
-        if touches(border, change) {
-            return false;
-        }
-    }
-    true
+    !changes.iter().any(|change| touches(border, change))
 }
 
 impl Landmarks {
@@ -135,13 +130,10 @@ fn landmark_names(alloc: Global, snapshot: &Snapshot) -> Result<Vec<Name>, Alloc
 
 // How many bytes the parts lend, as far as a number tells.
 fn bytes_lent(parts: &[Part]) -> usize {
-    let mut count: usize = 0;
-    for part in parts {
-        if let Part::Bytes(bytes) = part {
-            count = count.saturating_add(bytes.len());
-        }
-    }
-    count
+    parts.iter().fold(0, |count: usize, part| match part {
+        Part::Length(_) => count,
+        Part::Bytes(bytes) => count.saturating_add(bytes.len()),
+    })
 }
 
 // Goes on to the next border, and in the text by as many bytes as the files on the way have.

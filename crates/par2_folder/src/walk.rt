@@ -82,10 +82,8 @@ const MOST_BORDERS: usize = 64;
 
 // The names where borders are: of the first names that the changes touch, the least and others in order.
 fn border_names(alloc: Global, changes: &[Change]) -> Result<Vec<Name>, AllocError> {
-    let mut names = Vec::with_capacity(alloc, changes.len())?;
-    for change in changes {
-        names.push(change.first_name())?;
-    }
+    let first_names = changes.iter().map(|change| change.first_name());
+    let mut names: Vec<Name> = first_names.collect(alloc)?;
     names.sort()?;
     let step = names.len().div_ceil(MOST_BORDERS).max(1);
     names.into_iter().step_by(step).collect(alloc)

@@ -40,11 +40,7 @@ counted_takes bytes x fits e =
 
 counted_again : (text rest : List ℕ) → IsFileBytes text → behind_length_at (behind_length text ++ rest) ≡ Some (text, rest)
 unfolding behind_length_at
-counted_again text rest h =
-    let apart : behind_length text ++ rest ≡ to_le_bytes w64 (length text) ++ (text ++ rest) = append_assoc (to_le_bytes w64 (length text)) text rest in
-    ap (λ (s : List ℕ). number_at s >>= λ n. block_at n.0 n.1) apart
-    ∙ ap (λ (o : Option (ℕ × List ℕ)). o >>= λ n. block_at n.0 n.1) (number_again (length text) (text ++ rest) h)
-    ∙ block_again (length text) text rest refl
+counted_again text rest h = rw (append_assoc (to_le_bytes w64 (length text)) text rest, number_again (length text) (text ++ rest) h, block_again (length text) text rest refl) refl
 
 counted_read : IsRead behind_length_at behind_length IsFileBytes
 counted_read = record { takes = counted_takes; again = counted_again }
@@ -116,9 +112,8 @@ entry_takes bytes x fits e =
 entry_again : (cs : List Change) (rest : List ℕ) → IsEntry cs → entry_at (entry_bytes cs ++ rest) ≡ Some (cs, rest)
 unfolding entry_at
 entry_again cs rest h =
-    ap (λ (s : List ℕ). number_at s >>= λ n. many_at change_at n.0 n.1) (append_assoc (to_le_bytes w64 (length cs)) (flat_map change_bytes cs) rest)
-    ∙ ap (λ (o : Option (ℕ × List ℕ)). o >>= λ n. many_at change_at n.0 n.1) (number_again (length cs) (flat_map change_bytes cs ++ rest) h.0)
-    ∙ (many_read change_at change_bytes IsChange change_read (length cs)).again cs rest (refl, h.1)
+    rw (append_assoc (to_le_bytes w64 (length cs)) (flat_map change_bytes cs) rest, number_again (length cs) (flat_map change_bytes cs ++ rest) h.0)
+    ((many_read change_at change_bytes IsChange change_read (length cs)).again cs rest (refl, h.1))
 
 pub entry_read : IsRead entry_at entry_bytes IsEntry
 entry_read = record { takes = entry_takes; again = entry_again }
@@ -180,11 +175,7 @@ halfway_again (Some b) rest given =
     ∙ ap (λ (s : List ℕ). to_le_bytes w64 n ++ s) (append_assoc (digests_text b.fingerprints) ways rest) in
     let prints = (many_read (block_at 16) (λ (p : List ℕ). p) IsDigest (block_read 16) n).again b.fingerprints (ways ++ rest) (h.each, h.fingerprints) in
     let back = (many_read change_at change_bytes IsChange change_read n).again b.back rest (refl, h.back.1) in
-    ap (λ (s : List ℕ). number_at s >>= behind_count) apart
-    ∙ ap (λ (o : Option (ℕ × List ℕ)). o >>= behind_count) (number_again n (digests_text b.fingerprints ++ (ways ++ rest)) h.back.0)
-    ∙ ap (λ (o : Option (List (List ℕ) × List ℕ)). o >>= behind_prints n) prints
-    ∙ ap (λ (o : Option (List Change × List ℕ)). o >>= halfway_with n (b.fingerprints, ways ++ rest)) back
-    ∙ ap (λ (t : Bool). some_where t (Some b, rest)) (le-leb 1 n h.some)
+    rw (apart, number_again n (digests_text b.fingerprints ++ (ways ++ rest)) h.back.0, prints, back) (ap (λ (t : Bool). some_where t (Some b, rest)) (le-leb 1 n h.some))
 
 pub halfway_read : IsRead halfway_at halfway_bytes (λ o. IfSome o IsHalfwayPart)
 halfway_read = record { takes = halfway_takes; again = halfway_again }

@@ -1,6 +1,6 @@
 use Rattle.par2_folder.proofs.Common.{◌≡◌, ◌+◌, ◌∙◌, Bool, true, false, [], ◌∷◌, IsTrue, ap, cond, map, subst, sym, append-nil, are_applicable, change_of, text_before, touches, run_texts, AreTo, HaveAbsorbed, folder_in}
 use Rattle.par2_folder.proofs.Walks.{absorbed_here, arrived, goes_on, in_range, next_applicable, parents_then}
-use Rattle.par2_folder.proofs.walk.runs_before.Goals.{then-touches, else-touches, then-touches-2+in_ok-run_between-2+in_ok-push-2, else-touches-2}
+use Rattle.par2_folder.proofs.walk.runs_before.Goals.{After-touches-in-loop-change, then-touches, else-touches, then-touches-2+in_ok-run_between-2+in_ok-push-2, else-touches-2}
 use Rattle.par2_folder.proofs.walk.runs_before.Goals as goal
 
 pub loop-change-init : goal.loop-change-init
@@ -23,23 +23,25 @@ loop-change-init c =
 pub apply-requires-clause-applicable : goal.apply-requires-clause-applicable
 apply-requires-clause-applicable c = next_applicable c.loop-change.invariant c.loop-change-test.true c.change-item.is
 
+-- one state further where the change touches a name before the first border
+place : (c : After-touches-in-loop-change) → c.if-touches.place ≡ cond (touches c.args.from (change_of c.change-item.result)) (c.loop-change.place + 1) c.loop-change.place
+place c =
+    let at = λ (t : Bool). cond t (c.loop-change.place + 1) c.loop-change.place in
+    elim c.if-touches.branch [
+      | then-touches w ↦ w.place-is ∙ sym (ap at (sym c.touches.ensures ∙ w.if-touches.true))
+      | else-touches w ↦ w.place-is ∙ sym (ap at (sym c.touches.ensures ∙ w.if-touches.false))
+    ]
+
 pub bounds-states-place : goal.bounds-states-place
 bounds-states-place c =
     let walk = c.loop-change in
-    let place : c.if-touches.place ≡ cond (touches c.args.from (change_of c.change-item.result)) (walk.place + 1) walk.place = elim c.if-touches.branch [
-      | then-touches w ↦ w.place-is ∙ sym (ap (λ (t : Bool). cond t (walk.place + 1) walk.place) (sym c.touches.ensures ∙ w.if-touches.true))
-      | else-touches w ↦ w.place-is ∙ sym (ap (λ (t : Bool). cond t (walk.place + 1) walk.place) (sym c.touches.ensures ∙ w.if-touches.false))
-    ] in
     in_range c.args.states.now c.if-touches.place _ _
-    (parents_then walk.invariant c.loop-change-test.true c.change-item.is place)
+    (parents_then walk.invariant c.loop-change-test.true c.change-item.is (place (goal.at.bounds-states-place c).After-touches-in-loop-change))
 
 pub loop-change-preserved : goal.loop-change-preserved
 loop-change-preserved c =
     let walk = c.loop-change in
-    let place : c.if-touches.place ≡ cond (touches c.args.from (change_of c.change-item.result)) (walk.place + 1) walk.place = elim c.if-touches.branch [
-      | then-touches w ↦ w.place-is ∙ sym (ap (λ (t : Bool). cond t (walk.place + 1) walk.place) (sym c.touches.ensures ∙ w.if-touches.true))
-      | else-touches w ↦ w.place-is ∙ sym (ap (λ (t : Bool). cond t (walk.place + 1) walk.place) (sym c.touches.ensures ∙ w.if-touches.false))
-    ] in
+    let place = place (goal.at.loop-change-preserved c).After-touches-in-loop-change in
     let next = c.apply.new.self in
     let after = c.in_ok-apply.ensures.folder in
     let parents = parents_then walk.invariant c.loop-change-test.true c.change-item.is place in
