@@ -40,7 +40,7 @@ pub use Rattle.par2_plan.specs.Repairing.{AreRestored, HoldsAsides, IsAsDescribe
 pub use Rattle.par2_plan.specs.Restoring.{chosen_at, known_in, md5s_of, target_at, targets_among, undetermined_fault}
 pub use Rattle.par2_plan.specs.SliceTexts.{slices_of, text_of, windows_and_texts}
 pub use Rattle.par2_plan.specs.Views.{GoesOn, given_of, intact_by, matches_in, missing_in, report_of, standing_of, standings_of, state_of, target_report_of, windows_in}
-pub use Rattle.par2_plan.specs.Volumes.{HavePackets, blank_volume, exponents_in, exponents_of, length_with, nth_volume, place_in, places_from, places_in, slice_of, volume_with, with_slices}
+pub use Rattle.par2_plan.specs.Volumes.{HavePackets, blank_volume, exponents_in, exponents_of, length_with, nth_volume, place_in, places_in, places_of, slice_of, volume_with, with_slices}
 pub use Rattle.par2_plan.specs.Written.{bytes_written, texts_written}
 pub use Rattle.par2_plan.specs.declared.names.Volume.{Volume}
 pub use Rattle.par2_plan.specs.declared.outputs.Parts.{Parts}

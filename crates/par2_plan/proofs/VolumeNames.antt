@@ -1,5 +1,5 @@
 -- The name of a volume is a name, where it has at most 255 bytes.
-use Rattle.par2_plan.proofs.Common.{◌≡◌, ℕ, ◌+◌, ◌-◌, ◌/◌, ◌%◌, ◌^◌, ◌<◌, ◌≤◌, List, [], ◌∷◌, ◌++◌, length, take, drop, refl, sym, ap, ◌∙◌, subst, Bool, true, false, eqb, arith, length-append, codes, nat_eq, ◌==◌, list_any, starts_with, is_utf8, and_parts, and_from, or_from, or_parts, false_from_ne_true, not_from_false, ne_eqb, le-leb, not-true, take-append-drop, list_any-append, is_name, five_digits, stem, volume_name, clash, tests_of, name_of}
+use Rattle.par2_plan.proofs.Common.{◌≡◌, ℕ, ◌+◌, ◌-◌, ◌/◌, ◌%◌, ◌^◌, ◌<◌, ◌≤◌, List, [], ◌∷◌, ◌++◌, length, length-take-le, take, drop, refl, sym, ap, ◌∙◌, subst, Bool, true, false, eqb, arith, length-append, codes, nat_eq, ◌==◌, list_any, starts_with, is_utf8, and_parts, and_from, or_from, or_parts, false_from_ne_true, not_from_false, ne_eqb, le-leb, not-true, take-append-drop, list_any-append, is_name, five_digits, stem, volume_name, clash, tests_of, name_of}
 use Rattle.std.proofs.lemmas.List.{append_assoc}
 use Rattle.par2_spec.proofs.AsideNames.{front_of_name, longer}
 
@@ -66,16 +66,14 @@ not_undo base x n h = false_from_ne_true _ (λ k.
     let whole : starts_with nat_eq (stem base ++ drop (length base - 5) base) (codes ".par2undo") ≡ true = front_of_longer (codes ".par2undo") (stem base) (drop (length base - 5) base) front in
     clash (subst (λ text. starts_with nat_eq text (codes ".par2undo") ≡ true) (take-append-drop (length base - 5) base) whole) h)
 
-long_enough : (base : List ℕ) (x n : ℕ) → 20 ≤ length (volume_name base x n)
-long_enough base x n =
-    let size : length (volume_name base x n) ≡ length (stem base) + 20 = ap length (name_is base x n) ∙ length-append (stem base) (rest_of x n) in
-    omega (arith, size)
+pub length-name : (base : List ℕ) (x n : ℕ) → length (volume_name base x n) ≡ length base - 5 + 20
+length-name base x n = ap length (name_is base x n) ∙ length-append (stem base) (rest_of x n) ∙ (let front = length-take-le (length base - 5) base (omega arith) in omega (arith, front))
 
 pub volume_is_name : (base : List ℕ) (x n : ℕ) → is_name base ≡ true → is_utf8 (volume_name base x n) ≡ true → length (volume_name base x n) ≤ 255 → is_name (volume_name base x n) ≡ true
 volume_is_name base x n h text short =
     let t = tests_of base h in
     let name = volume_name base x n in
-    let long : 20 ≤ length name = long_enough base x n in
+    let long : 20 ≤ length name = omega (arith, length-name base x n) in
     name_of name (record {
       some = le-leb 1 (length name) (omega (arith, long));
       short = le-leb (length name) 255 short;

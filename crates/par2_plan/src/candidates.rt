@@ -47,9 +47,7 @@ pub fn candidates(
     ensures { Lists (search.candidates folder.now.files set.now extras.now) result }
 {
     let mut names = present_targets(alloc, folder, set)?;
-    for extra in extras {
-        names.push(extra.copied())?;
-    }
+    names.extend(extras.iter().map(|extra| extra.copied()))?;
     distinct(alloc, &names)
 }
 
@@ -62,9 +60,8 @@ pub fn texts_of<'a>(
     ensures { let bytes = map (bytes_of folder.now.files) names.now in
         IfOk result (λ texts. texts_of texts.items ≡ bytes) }
 {
-    let mut texts = Vec::with_capacity(alloc, names.len())?;
-    for name in names {
-        texts.push(folder.bytes_of(name))?;
-    }
-    Ok(texts)
+    names
+        .iter()
+        .map(|name| folder.bytes_of(name))
+        .collect(alloc)
 }

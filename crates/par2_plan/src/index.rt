@@ -57,11 +57,9 @@ fn file_len(file: &FileRecord) -> usize {
 
 // How many bytes the index of these files has, so that its room is taken once.
 fn index_len(files: &[FileRecord]) -> usize {
-    let mut len = FRAME_LEN;
-    for file in files {
-        len = len.saturating_add(file_len(file));
-    }
-    len
+    files
+        .iter()
+        .fold(FRAME_LEN, |len, file| len.saturating_add(file_len(file)))
 }
 
 /// The index of a set of these files, whose order it keeps: Main, the FileDescs, the IFSCs, Creator.

@@ -3,12 +3,11 @@ ghost use Rattle.std.specs.Prelude.{◌≡◌, ◌<◌, ◌&&◌, not, position,
 ghost use Rattle.par2_spec.specs.Names as names;
 ghost use Rattle.par2_spec.specs.Views.{create_args_of};
 ghost use Rattle.par2_spec.specs.Refusals.{are_counts, is_input_name, head_fault, bad_name};
-ghost use Rattle.par2_spec.specs.Answers.{FailsFor};
 
 use par2_folder::Name;
 use par2_slices::is_slice_size;
 use par2_spec::{CreateArgs, Fault};
-use std::alloc::Global;
+use std::alloc::{AllocError, Global};
 
 // Whether there are so many exponents from the first one on, all below 65,536.
 fn are_counts(first: u32, count: u32) -> bool
@@ -79,18 +78,10 @@ pub fn bad_name(words: &[String]) -> Option<Fault>
     }
 }
 
-/// The names of the inputs.
-pub fn input_names(alloc: Global, words: &[String]) -> Result<Vec<Name>, Fault>
-    ensures refused { FailsFor (bad_name (map string_bytes words.now)) result }
-    ensures accepted { IfOk result (λ _. bad_name (map string_bytes words.now) ≡ None) }
-    ensures names { IfOk result (λ names. names.items ≡ map string_bytes words.now) }
+/// The names of the inputs, where each word can be one.
+pub(crate) fn input_names(alloc: Global, words: &[String]) -> Result<Vec<Name>, AllocError>
+    requires { bad_name (map string_bytes words.now) ≡ None }
+    ensures { IfOk result (λ names. names.items ≡ map string_bytes words.now) }
 {
-    let mut names = Vec::new(alloc);
-    for i in 0..words.len() {
-        let Some(name) = input_name(&words[i]) else {
-            return Err(Fault::BadName(i + 1));
-        };
-        names.push(name)?;
-    }
-    Ok(names)
+    words.iter().filter_map(|word| input_name(word)).collect(alloc)
 }

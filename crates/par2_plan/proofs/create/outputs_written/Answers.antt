@@ -1,4 +1,5 @@
 use Rattle.par2_plan.proofs.Common.{◌≡◌, ℕ, List, ◌∙◌, ◌≤◌, ◌%◌, length, map, sym, ap, ap₂, subst, string_bytes, flat_map, IfOk, length-map, Folder, packet, index_packets, main_id, record_of, in_id_order, all_slices, files_of, create_args_of, file_record_of, FileRecord, HaveExponents}
+use Rattle.md5.proofs.StandardFacts.{length-md5}
 use Rattle.par2_recovery.specs.Views.{names_of}
 use Rattle.par2_plan.proofs.VolumeNumbers.{volumes_end}
 use Rattle.par2_plan.proofs.GoodWords.{IsHead, AreInputs, head_passed, inputs_passed, few_slices, few_in_order}
@@ -31,6 +32,7 @@ changes_of-requires-clause-parts c =
     let head : IsHead (create_args_of c.args.args.now) = head_passed _ c.requires.head in
     let are : AreInputs folder s inputs = inputs_passed _ _ _ c.requires.inputs in
     record {
+      sixteen = ap length c.main_id.ensures ∙ length-md5 _;
       positive = subst (λ n. 1 ≤ n) (sym slice) head.positive;
       fours = subst (λ n. n % 4 ≡ 0) (sym slice) head.fours;
       few = subst (λ n. n ≤ 32768) (sym (ap₂ (λ n files. length (all_slices n files)) slice c.requires.set.order)) (few_slices folder s inputs are);
