@@ -1,5 +1,5 @@
 -- Lists of slices and of packets, part by part.
-use Rattle.par2_plan.proofs.Common.{◌≡◌, ℕ, ◌+◌, ◌≤◌, ◌<◌, List, [], ◌∷◌, ◌++◌, length, map, get_or, take, drop, sym, ap, ◌∙◌, arith, Vec, Global, flat_map, sum_by, take_more, get_or-map, length-map, take-map, flat_map_more, sum_by_more_le, lists_of, drop_more, length-drop}
+use Rattle.par2_plan.proofs.Common.{◌≡◌, ℕ, ◌+◌, ◌≤◌, ◌<◌, List, [], ◌∷◌, ◌++◌, length, map, get_or, take, drop, sym, ap, ◌∙◌, arith, Vec, Global, flat_map, sum_by, take_more, get_or-map, length-map, take-map, flat_map_more, drop_more, length-drop, sum_by_more_le, lists_of}
 
 -- the heads and the tails of equal lists
 pub heads : {X : Type 0} (x y : X) (xs ys : List X) → x ∷ xs ≡ y ∷ ys → (x ≡ y) × (xs ≡ ys)

@@ -1,5 +1,5 @@
 -- The packets of a volume, whose MD5s are put in.
-use Rattle.par2_plan.proofs.Common.{◌≡◌, ℕ, ◌+◌, ◌-◌, ◌*◌, ◌<◌, ◌≤◌, List, [], ◌++◌, length, take, drop, inl, inr, refl, sym, ap, ap₂, ◌∙◌, subst, arith, append-nil, length-append, flat_map, range_with_len, cases_eq, ext_get_or, take_at, drop_at, take_all, drop_all, length-drop, flat_map-map, packet, OneChanged, list_at, packet_of, recovery_bytes, Recovery, ArePieces, undigested, digested, length-pieces, length-undigested, Parts, HasSlices, inputs_of, packets_between, slice_of}
+use Rattle.par2_plan.proofs.Common.{◌≡◌, ℕ, ◌+◌, ◌-◌, ◌*◌, ◌≤◌, List, [], ◌++◌, length, take, drop, sym, ap, ap₂, ◌∙◌, arith, append-nil, length-append, flat_map, range_with_len, take_at, drop_at, take_all, drop_all, length-drop, flat_map-map, packet, packet_of, recovery_bytes, Recovery, ArePieces, undigested, digested, length-pieces, length-undigested, Parts, HasSlices, inputs_of, packets_between, slice_of}
 use borrow.Rule.Slice.PartMut.{put_mid}
 use Rattle.par2_spec.proofs.WrittenSets.{recovery_length}
 

@@ -178,28 +178,6 @@ fn digested(
     Ok(digested)
 }
 
-// The bytes of the volumes in order, over the slices of the inputs.
-fn texts_over(
-    alloc: Global,
-    gf: &Gf,
-    parts: &Parts,
-    inputs: &[&[u8]],
-    volumes: &[Volume],
-) -> Result<Vec<Vec<u8>>, AllocError>
-    requires parts { HasSlices parts.now }
-    requires inputs { ListsInputs parts.now inputs.now }
-    requires exponents { HaveExponents volumes.now }
-    ensures { IfOk result (AreTexts (volume_text parts.now) volumes.now) }
-{
-    // Memory holds no packet that is longer.
-    if parts.set.slice > (usize::MAX - RECOVERY_HEAD) as u64 {
-        return Err(AllocError);
-    }
-    let mut texts = blank_volumes(alloc, parts, volumes)?;
-    write_slices(alloc, gf, parts, inputs, volumes, texts.as_mut_slice())?;
-    digested(alloc, texts, parts, volumes)
-}
-
 /// The bytes of the volumes in order. Where there are none, no table is made and no input looked up.
 pub(crate) fn volume_texts(
     alloc: Global,
@@ -213,7 +191,13 @@ pub(crate) fn volume_texts(
     if volumes.is_empty() {
         return Ok(Vec::new(alloc));
     }
+    // Memory holds no packet that is longer.
+    if parts.set.slice > (usize::MAX - RECOVERY_HEAD) as u64 {
+        return Err(AllocError);
+    }
     let gf = Gf::new(alloc)?;
     let inputs = input_slices(alloc, parts.set, parts.folder)?;
-    texts_over(alloc, &gf, parts, &inputs, volumes)
+    let mut texts = blank_volumes(alloc, parts, volumes)?;
+    write_slices(alloc, &gf, parts, &inputs, volumes, texts.as_mut_slice())?;
+    digested(alloc, texts, parts, volumes)
 }

@@ -83,5 +83,8 @@ pub(crate) fn input_names(alloc: Global, words: &[String]) -> Result<Vec<Name>, 
     requires { bad_name (map string_bytes words.now) ≡ None }
     ensures { IfOk result (λ names. names.items ≡ map string_bytes words.now) }
 {
-    words.iter().filter_map(|word| input_name(word)).collect(alloc)
+    words
+        .iter()
+        .filter_map(|word| input_name(word))
+        .collect(alloc)
 }

@@ -1,8 +1,4 @@
-use Rattle.par2_plan.proofs.Common.{◌≡◌, ◌∙◌, ◌++◌, List, ℕ, Vec, Global, map, refl, sym, ap, ap₂, subst, rules, OnOk, on_ok_weaker, IfOk-weaker, filter, has, Target, distinct, filter-map}
-use Rattle.std.proofs.lemmas.Iterator.{YieldsList-from_map, YieldsList-from_slice}
-use Rattle.std.proofs.lemmas.Iterator.Adapters.{items_from_extend}
-use Rattle.std.proofs.lemmas.Iterator.Consumers.{YieldsList-at}
-use Rattle.std.proofs.lemmas.List.Folds.{map_fixed}
+use Rattle.par2_plan.proofs.Common.{◌≡◌, ◌∙◌, ◌++◌, List, ℕ, map, refl, sym, ap, ap₂, subst, rules, OnOk, on_ok_weaker, IfOk-weaker, has, Target, distinct, filter-map, YieldsList-from_map, YieldsList-from_slice, items_from_extend, YieldsList-at, map_fixed}
 use Rattle.par2_plan.proofs.candidates.candidates.Goals as goal
 
 pub returns : goal.returns

@@ -1,6 +1,4 @@
-use Rattle.par2_plan.proofs.Common.{Bor, List, ℕ, rules, bytes_of}
-use Rattle.std.proofs.lemmas.Iterator.{YieldsList-from_map_by, YieldsList-from_slice}
-use Rattle.std.proofs.lemmas.Iterator.Consumers.{YieldsList-at, map_from_collect}
+use Rattle.par2_plan.proofs.Common.{Bor, List, ℕ, rules, bytes_of, YieldsList-from_map_by, YieldsList-from_slice, YieldsList-at, map_from_collect}
 use Rattle.par2_plan.proofs.candidates.texts_of.Goals as goal
 
 pub returns : goal.returns

@@ -1,8 +1,6 @@
-use Rattle.par2_plan.proofs.Common.{◌≡◌, ◌∙◌, ◌∷◌, inr, refl, sym, ap, ap₂, subst, true, Some, Err, List, ℕ, map, string_bytes, is_par_name, err_from_is_err_and, Folder, Create, CreateArgs, bad_name, early_refusal, refusal, create_args_of, Fault, Volume, long_name, there_already, volumes_of, names_of, output_names}
+use Rattle.par2_plan.proofs.Common.{◌≡◌, ◌∙◌, ◌∷◌, inr, refl, sym, ap, ap₂, subst, true, Some, Err, List, ℕ, map, string_bytes, is_par_name, err_from_is_err_and, Folder, Create, CreateArgs, bad_name, early_refusal, refusal, create_args_of, Fault, Volume, long_name, there_already, volumes_of, names_of, output_names, inputs_fault, refused_early}
 use Rattle.std.proofs.Common.{Option, None}
-use Rattle.par2_plan.specs.Faults.{inputs_fault}
 use Rattle.par2_plan.proofs.GoodWords.{head_passed}
-use Rattle.par2_spec.proofs.EarlyLaws.{refused_early}
 use Rattle.par2_plan.proofs.VolumeNumbers.{long_without_base}
 use Rattle.par2_plan.proofs.RefusalGroups.{early_by, refused_by, are_planned, apply_in_order, lead_to_folder}
 use Rattle.par2_plan.proofs.PassedAnswers as passed

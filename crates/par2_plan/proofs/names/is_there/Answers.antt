@@ -1,6 +1,4 @@
-use Rattle.par2_plan.proofs.Common.{◌≡◌, ◌∙◌, ◌||◌, sym, ap, false, rules, tests, list_any, has, names_of, Volume}
-use Rattle.std.proofs.lemmas.Iterator.{YieldsList-from_slice}
-use Rattle.std.proofs.lemmas.Iterator.Search.{any_from_yields_List}
+use Rattle.par2_plan.proofs.Common.{◌≡◌, ◌∙◌, ◌||◌, sym, ap, false, rules, tests, list_any, has, names_of, Volume, YieldsList-from_slice, any_from_yields_List}
 use Rattle.par2_plan.proofs.VolumeNumbers.{any_named}
 use Rattle.par2_plan.proofs.names.is_there.Goals as goal
 

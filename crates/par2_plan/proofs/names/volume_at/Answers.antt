@@ -1,4 +1,4 @@
-use Rattle.par2_plan.proofs.Common.{◌≡◌, ◌<◌, ◌∙◌, List, ℕ, refl, sym, subst, ap, inl, inr, length, true, cases_lt, false≢true, is_utf8, is_name, rules, volume_at}
+use Rattle.par2_plan.proofs.Common.{◌≡◌, ◌<◌, refl, sym, subst, inl, inr, length, true, rules, cases_lt, false≢true, is_utf8, is_name, volume_at}
 use Rattle.std.proofs.lemmas.Str.{is_utf8-from_IsUtf8}
 use Rattle.par2_plan.proofs.VolumeNames.{volume_is_name}
 use Rattle.par2_plan.proofs.names.volume_at.Goals as goal

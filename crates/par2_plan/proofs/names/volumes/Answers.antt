@@ -1,4 +1,4 @@
-use Rattle.par2_plan.proofs.Common.{◌≡◌, ◌<◌, ◌≤◌, ◌++◌, ◌∷◌, [], ◌∙◌, ◌||◌, List, ℕ, Bool, true, false, cond, length, sym, ap, ap₂, subst, append-nil, rules, Some, arith, lt-ltb, le-ltb, err_from_is_err_and, Fault, NameTooLong, fault_where, volumes_before, long_name, volume_at, volume_if, volumes_of, names_of, Volume}
+use Rattle.par2_plan.proofs.Common.{◌≡◌, ◌<◌, ◌≤◌, ◌++◌, ◌∷◌, [], ◌∙◌, ◌||◌, List, Bool, true, false, cond, length, sym, ap, ap₂, subst, append-nil, rules, Some, arith, lt-ltb, le-ltb, err_from_is_err_and, Fault, NameTooLong, fault_where, volumes_before, long_name, volume_at, volumes_of, names_of, Volume}
 use Rattle.std.proofs.Common.{None}
 use Rattle.par2_plan.proofs.PassedAnswers.{refused_by}
 use Rattle.par2_plan.proofs.VolumeNumbers.{volumes_below, volumes_more, none_long, one_is_long}

@@ -1,4 +1,4 @@
-use Rattle.par2_plan.proofs.Common.{◌≡◌, ◌∙◌, ◌+◌, ◌<◌, ◌++◌, ◌∷◌, [], List, ℕ, Vec, Global, length, map, take, drop, sym, ap, ap₂, append_assoc, append-nil, arith, rules, map_more, drop_more, length-map, take_all, Change, change_of, lists_of, volume_text, put_change, Volume}
+use Rattle.par2_plan.proofs.Common.{◌≡◌, ◌∙◌, ◌++◌, ◌∷◌, [], List, ℕ, map, take, sym, ap, ap₂, append_assoc, append-nil, arith, rules, map_more, take_all, Change, change_of, lists_of, volume_text, put_change, Volume}
 use Rattle.par2_plan.proofs.SliceLists.{some_left, taken}
 use Rattle.par2_plan.proofs.outputs.changes_of.Goals as goal
 

@@ -1,4 +1,5 @@
-use Rattle.par2_plan.proofs.Common.{◌≡◌, ◌∙◌, ◌<◌, [], List, ℕ, sym, ap, ap₂, arith, length, get_or, zero-add, take_all, flat_map, enumerate_from, length-enumerate_from, get_or-enumerate_from, read_at, length-lists_of, length_with, places_in, Volume}
+use Rattle.par2_plan.proofs.Common.{◌≡◌, ◌∙◌, ◌<◌, [], List, ℕ, sym, ap, ap₂, arith, length, get_or, zero-add, take_all, flat_map, enumerate_from, length-enumerate_from, get_or-enumerate_from, length_with, places_in, Volume}
+use Rattle.par2_spec.proofs.WordLaws.{read_at, length-lists_of}
 use Rattle.par2_plan.proofs.SliceLists.{appended_next}
 use Rattle.par2_plan.proofs.VolumePlaces.{nth_is}
 use Rattle.par2_plan.proofs.volumes.places_of.Goals as goal

@@ -1,6 +1,4 @@
-use Rattle.par2_plan.proofs.Common.{◌≡◌, ◌∙◌, ℕ, List, [], ◌∷◌, Bool, true, false, not, map, refl, sym, ap, ap₂, rules, cond, string_bytes, Some, None, Option, is_some, IfSome, IfOk-weaker, filter_map, cons_option, AllByRecursion, at_none, is_input_name, BadName}
-use Rattle.std.proofs.lemmas.Iterator.{YieldsList-from_slice, items_from_collect}
-use Rattle.std.proofs.lemmas.Iterator.Consumers.{YieldsList-at, YieldsList-from_filter_map}
+use Rattle.par2_plan.proofs.Common.{◌≡◌, ◌∙◌, ℕ, List, [], ◌∷◌, Bool, true, false, not, map, refl, ap, rules, cond, string_bytes, Some, None, Option, is_some, IfSome, filter_map, IfOk-weaker, cons_option, AllByRecursion, at_none, is_input_name, BadName, YieldsList-from_slice, items_from_collect, YieldsList-at, YieldsList-from_filter_map}
 use Rattle.par2_plan.proofs.words.input_names.Goals as goal
 
 -- the name that a word is
