@@ -1,6 +1,8 @@
 -- Where the recovery slices of volumes lie, and what the volumes are once they are written there.
-use Rattle.par2_plan.proofs.Common.{inl, inr, ℕ, zero, suc, ◌+◌, ◌-◌, ◌*◌, ◌/◌, ◌%◌, ◌<◌, ◌≤◌, ◌≡◌, refl, sym, ap, ap₂, subst, ◌∙◌, arith, List, [], ◌∷◌, ◌++◌, length, length-append, get_or, map, take, drop, zero-add, mul-le-mul_right, flat_map, range_with_len, enumerate_from, cases_lt, ext_get_or, get_or_default, get_or-take, get_or-drop, get_or_append_left, get_or-append_right, length-map, get_or-map, length-replicate, get_or-replicate, length-drop, length-take-le, take_all, length-map-range_with_len, get_or-map-range_with_len, length-range_with_len, get_or-range_with_len, length-enumerate_from, get_or-enumerate_from, padded, list_at, ArePieces, undigested, length-pieces, piece_at, head_of, length-head, length-undigested, undigested_is, place_at, AreApart, HasByte, LieWithin, Place, output_at, AreWritten, AreZeros, HasSlices, inputs_of, HavePackets, exponents_in, length_with, nth_volume, place_in, places_in, places_of, slice_of, volume_with, Volume, Parts, length-flat_map-take}
+use Rattle.par2_plan.proofs.Common.{drop_at, inl, inr, ℕ, zero, suc, ◌+◌, ◌-◌, ◌*◌, ◌/◌, ◌%◌, ◌<◌, ◌≤◌, ◌≡◌, refl, sym, ap, ap₂, subst, ◌∙◌, arith, List, [], ◌∷◌, ◌++◌, length, length-append, get_or, map, take, drop, zero-add, mul-le-mul_right, flat_map, range_with_len, enumerate_from, cases_lt, ext_get_or, get_or_default, get_or-take, get_or-drop, get_or_append_left, get_or-append_right, length-map, get_or-map, length-replicate, get_or-replicate, length-drop, length-take-le, take_all, length-map-range_with_len, get_or-map-range_with_len, length-range_with_len, get_or-range_with_len, length-enumerate_from, get_or-enumerate_from, padded, list_at, ArePieces, undigested, length-pieces, piece_at, head_of, length-head, length-undigested, undigested_is, place_at, AreApart, HasByte, LieWithin, Place, output_at, AreWritten, AreZeros, HasSlices, inputs_of, HavePackets, exponents_in, length_with, nth_volume, place_in, places_in, places_of, slice_of, volume_with, Volume, Parts, length-flat_map-take}
 use Rattle.par2_plan.specs.Volumes.{exponents_of}
+use Rattle.par2_packets.proofs.LaterDigests.{part_from}
+use Rattle.par2_packets.proofs.Pieces.{drop_behind}
 use Rattle.par2_spec.specs.Recovery.{recovery}
 use Rattle.std.proofs.Common.{replicate}
 use Rattle.std.proofs.lemmas.List.Concat.{get_or-flat_map}
@@ -163,12 +165,6 @@ byte_of_head id e r slice sixteen low =
     ap (λ (xs : List ℕ). get_or xs r 0) (undigested_is id e slice)
     ∙ get_or_append_left (head_of id e (length slice)) slice 0 r (let size = length-head id e (length slice) sixteen in omega (arith, size, low))
 
-byte_of_slice : (id : List ℕ) (e r : ℕ) (slice : List ℕ) → length id ≡ 16 → get_or (undigested id e slice) (68 + r) 0 ≡ get_or slice r 0
-byte_of_slice id e r slice sixteen =
-    ap (λ (xs : List ℕ). get_or xs (68 + r) 0) (undigested_is id e slice)
-    ∙ get_or-append_right (head_of id e (length slice)) slice 68 (68 + r) 0 (length-head id e (length slice) sixteen) (omega arith)
-    ∙ ap (λ k. get_or slice k 0) (let e : 68 + r - 68 ≡ r = omega arith in e)
-
 -- ---- volumes
 
 sized : (parts : Parts) (f : ℕ → List ℕ) → length parts.set_id ≡ 16 → ((e : ℕ) → length (f e) ≡ parts.set.now.slice) → (e : ℕ) → length (undigested parts.set_id e (f e)) ≡ 68 + parts.set.now.slice
@@ -190,52 +186,40 @@ blank_packets parts volumes texts sixteen are =
           ∙ length-volume parts zeros (nth_volume volumes j) sixteen (λ e. length-replicate {A = ℕ} parts.set.now.slice 0),
     )
 
--- a byte of a slice in a volume
-pub byte_in_volume : (parts : Parts) (f : ℕ → List ℕ) (volume : Volume) (k r : ℕ) → length parts.set_id ≡ 16 → ((e : ℕ) → length (f e) ≡ parts.set.now.slice) → k < volume.count → r < parts.set.now.slice
-    → get_or (volume_with parts f volume) (length_with parts k + 68 + r) 0 ≡ get_or (f (volume.first + k)) r 0
-byte_in_volume parts f volume k r sixteen sizes low here =
-    let m : ℕ = 68 + parts.set.now.slice in
+-- a slice in a volume
+slice_in_volume : (parts : Parts) (f : ℕ → List ℕ) (volume : Volume) (k : ℕ) → length parts.set_id ≡ 16 → ((e : ℕ) → length (f e) ≡ parts.set.now.slice) → k < volume.count
+    → take parts.set.now.slice (drop (length_with parts k + 68) (volume_with parts f volume)) ≡ f (volume.first + k)
+slice_in_volume parts f volume k sixteen sizes low =
+    let s : ℕ = parts.set.now.slice in
+    let m : ℕ = 68 + s in
+    let id : List ℕ = parts.set_id in
     let e : ℕ = volume.first + k in
-    ap (λ b. get_or (volume_with parts f volume) b 0) (let same : length parts.index.items + k * m + 68 + r ≡ length parts.index.items + k * m + (68 + r) = omega arith in same)
-    ∙ byte_of_packet parts.index.items m (λ (e : ℕ). undigested parts.set_id e (f e)) volume.first volume.count k (68 + r) (sized parts f sixteen sizes) low (omega (arith, here))
-    ∙ byte_of_slice parts.set_id e r (f e) sixteen
+    let packet = λ (e : ℕ). undigested id e (f e) in
+    let packets = flat_map packet (range_with_len volume.first volume.count) in
+    ap (take s) (drop_behind (length_with parts k + 68) (k * m + 68) parts.index.items packets (omega arith))
+    ∙ ap (λ n. take n (drop (k * m + 68) packets)) (slice_end k m s refl) ∙ part_from k m 68 packets (omega arith)
+    ∙ ap (drop 68) (piece_at m packet volume.first volume.count k packets (record { sizes = sized parts f sixteen sizes; is = refl }) low ∙ undigested_is id e (f e))
+    ∙ drop_at (head_of id e (length (f e))) (f e) 68 (length-head id e (length (f e)) sixteen)
+  where
+    slice_end : (k m s : ℕ) → m ≡ 68 + s → s ≡ (k + 1) * m - (k * m + 68)
+    slice_end k m s e = omega (arith, e)
+
+-- texts with a part in common have its bytes in common
+same_at : (a n r : ℕ) (xs ys : List ℕ) → r < n → take n (drop a xs) ≡ take n (drop a ys) → get_or xs (a + r) 0 ≡ get_or ys (a + r) 0
+same_at a n r xs ys low e =
+    sym (get_or-drop a xs r 0) ∙ sym (get_or-take n (drop a xs) r 0 low) ∙ ap (λ (zs : List ℕ). get_or zs r 0) e ∙ get_or-take n (drop a ys) r 0 low ∙ get_or-drop a ys r 0
 
 -- the outputs of blank volumes are zeros
 pub places_blank : (parts : Parts) (words : ℕ) (volumes : List Volume) (texts : List (List ℕ)) → 2 * words ≡ parts.set.now.slice → length parts.set_id ≡ 16
     → texts ≡ map (volume_with parts (λ e. replicate parts.set.now.slice 0)) volumes → AreZeros words (places_of parts volumes) texts
 places_blank parts words volumes texts size sixteen are t low =
-    subst (λ (place : Place). output_at (2 * words) place texts ≡ replicate (2 * words) 0) (sym is)
-    (ext_get_or 0 (output_at (2 * words) here texts) (replicate (2 * words) 0) (whole ∙ sym (length-replicate {A = ℕ} (2 * words) 0))
-    (λ r r_low. let inside : r < 2 * words = omega (arith, r_low, whole) in
-    get_or-take (2 * words) (drop here.at (list_at texts x.volume)) r 0 inside ∙ get_or-drop here.at (list_at texts x.volume) r 0
-    ∙ ap (λ (xs : List ℕ). get_or xs (here.at + r) 0) text
-    ∙ byte_in_volume parts zeros volume x.packet r sixteen (λ e. length-replicate {A = ℕ} parts.set.now.slice 0) x.in_packets (omega (arith, inside, size))
-    ∙ get_or-replicate parts.set.now.slice r 0 0 (omega (arith, inside, size)) ∙ sym (get_or-replicate (2 * words) r 0 0 inside)))
-  where
-    zeros : ℕ → List ℕ
-    zeros e = replicate parts.set.now.slice 0
-
-    x : Located volumes t
-    x = among parts volumes t low
-
-    volume : Volume
-    volume = nth_volume volumes x.volume
-
-    here : Place
-    here = place_in parts x.volume x.packet
-
-    is : place_at (places_of parts volumes) t ≡ here
-    is = stands parts volumes t x
-
-    text : list_at texts x.volume ≡ volume_with parts zeros volume
-    text = ap (λ (xs : List (List ℕ)). list_at xs x.volume) are ∙ get_or-map (volume_with parts zeros) volumes x.volume no_volume [] x.in_volumes
-
-    whole : length (output_at (2 * words) here texts) ≡ 2 * words
-    whole =
-        let long = ap length text ∙ length-volume parts zeros volume sixteen (λ e. length-replicate {A = ℕ} parts.set.now.slice 0) in
-        let ends = packet_ends (length parts.index.items) x.packet volume.count (68 + parts.set.now.slice) (length (list_at texts x.volume)) x.in_packets long in
-        let left = length-drop here.at (list_at texts x.volume) in
-        length-take-le (2 * words) (drop here.at (list_at texts x.volume)) (omega (arith, ends, left, size))
+    let zeros = λ (e : ℕ). replicate {A = ℕ} parts.set.now.slice 0 in
+    let x = among parts volumes t low in
+    let text = ap (λ (xs : List (List ℕ)). list_at xs x.volume) are ∙ get_or-map (volume_with parts zeros) volumes x.volume no_volume [] x.in_volumes in
+    ap (λ (place : Place). output_at (2 * words) place texts) (stands parts volumes t x)
+    ∙ ap₂ (λ (n : ℕ) (xs : List ℕ). take n (drop (length_with parts x.packet + 68) xs)) size text
+    ∙ slice_in_volume parts zeros (nth_volume volumes x.volume) x.packet sixteen (λ e. length-replicate {A = ℕ} parts.set.now.slice 0) x.in_packets
+    ∙ ap (λ n. replicate n 0) (sym size)
 
 -- the written volumes are those with the recovery slices
 pub volumes_written : (parts : Parts) (words : ℕ) (volumes : List Volume) (slices : List (List ℕ)) (exponents : List ℕ) (old new : List (List ℕ)) → HasSlices parts → 2 * words ≡ parts.set.now.slice → length parts.set_id ≡ 16
@@ -294,17 +278,12 @@ volumes_written parts words volumes slices exponents old new can size sixteen in
     in_slice i k r low here small =
         let volume = nth_volume volumes i in
         let at : ℕ = length_with parts k + 68 in
-        let t : ℕ = before volumes i + k in
         let number = numbered parts volumes i k low here in
-        let inside : r < 2 * words = omega (arith, small, size) in
-        let place : place_at (places_of parts volumes) t ≡ place_in parts i k = number.place in
-        let given : output_at (2 * words) (place_in parts i k) new ≡ slice_of parts (volume.first + k) =
-        ap (λ (at : Place). output_at (2 * words) at new) (sym place) ∙ written.each t number.low
-        ∙ ap (λ n. recovery n (map (padded n) slices) (get_or exponents t 0)) size
-        ∙ ap₂ (λ (xs : List (List ℕ)) (e : ℕ). recovery parts.set.now.slice xs e) inputs (ap (λ (es : List ℕ). get_or es t 0) numbers ∙ number.exponent) in
-        sym (get_or-drop at (list_at new i) r 0) ∙ sym (get_or-take (2 * words) (drop at (list_at new i)) r 0 inside)
-        ∙ ap (λ (xs : List ℕ). get_or xs r 0) given
-        ∙ sym (byte_in_volume parts (slice_of parts) volume k r sixteen slice_size here small)
+        let given : take parts.set.now.slice (drop at (list_at new i)) ≡ slice_of parts (volume.first + k) =
+        ap (λ n. take n (drop at (list_at new i))) (sym size) ∙ ap (λ (at : Place). output_at (2 * words) at new) (sym number.place) ∙ written.each (before volumes i + k) number.low
+        ∙ ap (λ n. recovery n (map (padded n) slices) (get_or exponents (before volumes i + k) 0)) size
+        ∙ ap₂ (λ (xs : List (List ℕ)) (e : ℕ). recovery parts.set.now.slice xs e) inputs (ap (λ (es : List ℕ). get_or es (before volumes i + k) 0) numbers ∙ number.exponent) in
+        same_at at parts.set.now.slice r (list_at new i) (volume_with parts (slice_of parts) volume) small (given ∙ sym (slice_in_volume parts (slice_of parts) volume k sixteen slice_size here))
 
     in_packets : (i q : ℕ) → i < length volumes → q < (nth_volume volumes i).count * (68 + parts.set.now.slice) → get_or (list_at new i) (length parts.index.items + q) 0 ≡ get_or (volume_with parts (slice_of parts) (nth_volume volumes i)) (length parts.index.items + q) 0
     in_packets i q low inside =

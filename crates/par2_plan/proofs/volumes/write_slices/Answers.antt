@@ -32,24 +32,16 @@ write_recovery_slices-requires-clause-count c =
 pub write_recovery_slices-requires-clause-room : goal.write_recovery_slices-requires-clause-room
 write_recovery_slices-requires-clause-room c =
     let parts = c.args.parts.now in
-    let volumes : List Volume = c.args.volumes.now in
-    let outputs = c.new-outputs.result in
-    let words : ℕ = parts.set.now.slice / 2 in
     let texts = lists_of c.args.texts.now in
-    subst (λ (all : List Place). LieWithin outputs.words all texts) (sym (c.new-outputs.ensures.places ∙ c.deref.ensures.value ∙ c.in_ok-places.ensures))
-    (subst (λ (n : ℕ). LieWithin n (places_of parts volumes) texts) (sym c.new-outputs.ensures.words)
-    (places_within parts words volumes texts (omega (arith, c.requires.parts.fours)) (blank_packets parts volumes texts c.requires.parts.sixteen c.requires.before)))
+    subst (λ (all : List Place). LieWithin c.new-outputs.result.words all texts) (sym (c.new-outputs.ensures.places ∙ c.deref.ensures.value ∙ c.in_ok-places.ensures))
+    (rw c.new-outputs.ensures.words (places_within parts (parts.set.now.slice / 2) c.args.volumes.now texts (omega (arith, c.requires.parts.fours)) (blank_packets parts c.args.volumes.now texts c.requires.parts.sixteen c.requires.before)))
 
 pub write_recovery_slices-requires-clause-zeros : goal.write_recovery_slices-requires-clause-zeros
 write_recovery_slices-requires-clause-zeros c =
     let parts = c.args.parts.now in
-    let volumes : List Volume = c.args.volumes.now in
-    let outputs = c.new-outputs.result in
-    let words : ℕ = parts.set.now.slice / 2 in
     let texts = lists_of c.args.texts.now in
-    subst (λ (all : List Place). AreZeros outputs.words all texts) (sym (c.new-outputs.ensures.places ∙ c.deref.ensures.value ∙ c.in_ok-places.ensures))
-    (subst (λ (n : ℕ). AreZeros n (places_of parts volumes) texts) (sym c.new-outputs.ensures.words)
-    (places_blank parts words volumes texts (omega (arith, c.requires.parts.fours)) c.requires.parts.sixteen c.requires.before))
+    subst (λ (all : List Place). AreZeros c.new-outputs.result.words all texts) (sym (c.new-outputs.ensures.places ∙ c.deref.ensures.value ∙ c.in_ok-places.ensures))
+    (rw c.new-outputs.ensures.words (places_blank parts (parts.set.now.slice / 2) c.args.volumes.now texts (omega (arith, c.requires.parts.fours)) c.requires.parts.sixteen c.requires.before))
 
 pub returns : goal.returns
 returns c =
