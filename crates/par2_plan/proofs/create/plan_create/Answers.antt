@@ -90,18 +90,6 @@ returns-in-Some-there_already-clause-refused c =
     let is = named (goal.at.returns-in-Some-there_already-clause-refused c).After-there_already in
     inr (refused_by c.args.folder.now.files (create_args_of c.args.args.now) None None None (Some c.in-Some-there_already.fault) c.in_ok-base.ensures.accepted c.in_ok-set.ensures.accepted is.0 (is.1 ∙ c.in-Some-there_already.is))
 
-pub outputs_written-requires-clause-head : goal.outputs_written-requires-clause-head
-outputs_written-requires-clause-head c = c.in_ok-base.ensures.accepted
-
-pub outputs_written-requires-clause-inputs : goal.outputs_written-requires-clause-inputs
-outputs_written-requires-clause-inputs c = c.in_ok-set.ensures.accepted
-
-pub outputs_written-requires-clause-base : goal.outputs_written-requires-clause-base
-outputs_written-requires-clause-base c = c.in_ok-base.ensures.name
-
-pub outputs_written-requires-clause-set : goal.outputs_written-requires-clause-set
-outputs_written-requires-clause-set c = c.in_ok-set.ensures.set
-
 pub returns-clause-accepted : goal.returns-clause-accepted
 returns-clause-accepted c =
     let is = named (goal.at.returns-clause-accepted c).After-there_already in
@@ -131,7 +119,13 @@ returns-in_err-changes-clause-early c fault early = absurd (never_found _ fault 
 pub returns-clause-early : goal.returns-clause-early
 returns-clause-early c fault early = absurd (never_found _ fault (none_early (goal.at.returns-clause-early c).After-set_of_inputs) early)
 
-pub outputs_written-requires-clause-volumes : goal.outputs_written-requires-clause-volumes
-outputs_written-requires-clause-volumes c =
+pub outputs_written-requires : goal.outputs_written-requires
+outputs_written-requires c =
     let a = create_args_of c.args.args.now in
-    c.deref-3.ensures.value ∙ c.in_ok-volumes.ensures.volumes ∙ ap (λ base. volumes_of base a.first a.count) c.in_ok-base.ensures.name
+    record {
+      head = c.in_ok-base.ensures.accepted;
+      inputs = c.in_ok-set.ensures.accepted;
+      base = c.in_ok-base.ensures.name;
+      set = c.in_ok-set.ensures.set;
+      volumes = c.deref-3.ensures.value ∙ c.in_ok-volumes.ensures.volumes ∙ ap (λ base. volumes_of base a.first a.count) c.in_ok-base.ensures.name;
+    }
