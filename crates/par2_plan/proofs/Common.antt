@@ -7,7 +7,7 @@ pub use Rattle.std.proofs.lemmas.Iterator.{YieldsList-from_map, YieldsList-from_
 pub use Rattle.std.proofs.lemmas.Iterator.Adapters.{items_from_extend, position_from-zero}
 pub use Rattle.std.proofs.lemmas.Iterator.Consumers.{YieldsList-at, YieldsList-from_filter, YieldsList-from_filter_map, map_from_collect}
 pub use Rattle.std.proofs.lemmas.Iterator.Search.{any_from_yields_List}
-pub use Rattle.std.proofs.lemmas.List.{drop-drop, drop-map, drop_all, drop_at, drop_more, ext_get_or, flat_map_more, get_or-append_right, get_or-drop, get_or-map, get_or-replicate, get_or-take, get_or_append_left, get_or_default, length-drop, length-map, length-replicate, length-take, length-take-le, map-append, map_more, nil_from_length, take-append-drop, take-map, take-replicate, take_all, take_at, take_min, take_more, with_items_is}
+pub use Rattle.std.proofs.lemmas.List.{drop-drop, drop-map, drop_all, drop_at, drop_more, ext_get_or, flat_map_more, get_or-append_right, get_or-drop, get_or-map, get_or-take, get_or_append_left, get_or_default, length-drop, length-map, length-replicate, length-take, length-take-le, map-append, map_more, nil_from_length, take-append-drop, take-map, take-replicate, take_all, take_at, take_min, take_more, with_items_is}
 pub use Rattle.std.proofs.lemmas.List.Elements.{All-from_recursion, All-head, All-map, All-tail, All-weaker, filter-append, filter_map-append, filter_passes}
 pub use Rattle.std.proofs.lemmas.List.Folds.{concat-append, flat_map-map, length-flat_map-take, list_all-map, list_any-append, map_fixed}
 pub use Rattle.std.proofs.lemmas.List.FromFn.{get_or-enumerate_from, get_or-map-range_with_len, get_or-range_with_len, length-enumerate_from, length-map-range_with_len, length-range_with_len, map-range_with_len_more}
@@ -27,8 +27,8 @@ pub use Rattle.std.specs.Slice.Iter.{iter_rest}
 pub use Rattle.std.specs.Str.{bytes_eq, is_utf8}
 pub use Rattle.std.specs.Vec.Iter.{into_iter_items, into_iter_len}
 pub use Rattle.par2_folder.specs.Views.{change_of}
-pub use Rattle.par2_packets.proofs.LaterDigests.{head_of, length-head, length-undigested, undigested_is}
-pub use Rattle.par2_packets.proofs.Pieces.{length-pieces, piece_at}
+pub use Rattle.par2_packets.proofs.LaterDigests.{head_of, length-head, length-undigested, part_from, undigested_is}
+pub use Rattle.par2_packets.proofs.Pieces.{drop_behind, length-pieces, piece_at}
 pub use Rattle.par2_packets.specs.Pieces.{ArePieces}
 pub use Rattle.par2_packets.specs.Recoveries.{digested, undigested}
 pub use Rattle.par2_packets.specs.Views.{file_record_of}
@@ -37,7 +37,7 @@ pub use Rattle.par2_plan.specs.Drafts.{HasItsMd5s, IsDraft, IsDraftBy, has_diges
 pub use Rattle.par2_plan.specs.Faults.{duplicate_input, inputs_fault, long_name, there_already}
 pub use Rattle.par2_plan.specs.Findings.{AreSized, Intact, Matched, Standing, Unmatched, matches_given, needing_standing, needs, pairs_sought, pairs_unless, sought_by, standing_by, standings, standings_by}
 pub use Rattle.par2_plan.specs.Matches.{ArePlaces, HoldsNames, name_cmp}
-pub use Rattle.par2_plan.specs.Outputs.{HasExponents, HasSlices, HaveExponents, inputs_of, names_of, output_names, packets_between, put_change, volume_at, volume_if, volume_text, volumes_asked, volumes_of}
+pub use Rattle.par2_plan.specs.Outputs.{HasExponents, HasSlices, HaveExponents, RecordsInputs, inputs_of, names_of, output_names, packets_between, put_change, volume_at, volume_if, volume_text, volumes_asked, volumes_of}
 pub use Rattle.par2_plan.specs.Parts.{found_by, lost_from, missing_from, report_by, target_report_by, target_reports_by}
 pub use Rattle.par2_plan.specs.Readings.{present_from}
 pub use Rattle.par2_plan.specs.Repairing.{AreRestored, HoldsAsides, IsAsDescribed, IsWholeWhereMatched, WritesAsDescribed, asides_removed, files_removed, known_by, matches_taken, place_by, repair_by, writes}

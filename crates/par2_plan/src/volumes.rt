@@ -65,17 +65,6 @@ fn exponents_of(alloc: Global, volumes: &[Volume]) -> Result<Vec<u32>, AllocErro
         .collect(alloc)
 }
 
-// Where recovery slice `k` of a volume stands in its bytes.
-fn place_of(parts: &Parts, volume: &Volume, text: &[u8], k: u32) -> usize
-    requires fits { 68 + parts.now.set.now.slice ≤ usize.MAX }
-    requires packet { k < volume.now.count }
-    requires text { length text.now ≡ length_with parts.now volume.now.count }
-    ensures { result ≡ length_with parts.now k + 68 }
-{
-    let packet = RECOVERY_HEAD + parts.set.slice as usize;
-    parts.index.len() + k as usize * packet + RECOVERY_HEAD
-}
-
 // Adds the places of a volume's recovery slices, which is volume `i`.
 fn append_places(
     places: &mut Vec<Place>,
@@ -88,8 +77,9 @@ fn append_places(
     requires text { length text.now ≡ length_with parts.now volume.now.count }
     ensures { Appends (places_in parts.now (i, volume.now)) places.old places.new result }
 {
+    let packet = RECOVERY_HEAD + parts.set.slice as usize;
     for k in 0..volume.count {
-        let at = place_of(parts, volume, text, k);
+        let at = parts.index.len() + k as usize * packet + RECOVERY_HEAD;
         places.push(Place { text: i, at })?;
     }
     Ok(())

@@ -1,4 +1,4 @@
-use Rattle.par2_plan.proofs.Common.{◌≡◌, ◌∙◌, ◌++◌, List, ℕ, map, refl, sym, ap, ap₂, subst, rules, tests, OnOk, IfOk, on_ok_weaker, IfOk-weaker, filter, has, Target, distinct, filter-map, map_fixed, YieldsList-at, YieldsList-from_filter, YieldsList-from_map, YieldsList-from_slice, items_from_collect, items_from_extend}
+use Rattle.par2_plan.proofs.Common.{◌≡◌, ◌∙◌, ◌++◌, List, ℕ, map, refl, sym, ap, ap₂, subst, rules, tests, OnOk, IfOk, filter, on_ok_weaker, IfOk-weaker, has, Target, distinct, filter-map, map_fixed, YieldsList-at, YieldsList-from_filter, YieldsList-from_map, YieldsList-from_slice, items_from_collect, items_from_extend}
 use Rattle.par2_plan.proofs.candidates.candidates.Goals as goal
 
 pub returns : goal.returns

@@ -1,8 +1,7 @@
-use Rattle.par2_plan.proofs.Common.{create_changes, CreateArgs, None, head_fault, inputs_fault, ◌≡◌, ℕ, List, ◌∙◌, ◌≤◌, ◌%◌, length, map, sym, ap, ap₂, subst, string_bytes, flat_map, IfOk, length-map, Folder, packet, index_packets, main_id, record_of, in_id_order, all_slices, files_of, create_args_of, file_record_of, FileRecord, HaveExponents}
+use Rattle.par2_plan.proofs.Common.{create_changes, CreateArgs, files_of, None, flat_map, IfOk, head_fault, inputs_fault, ◌≡◌, List, ◌∙◌, ◌≤◌, ◌%◌, length, map, sym, ap, ap₂, subst, string_bytes, length-map, Folder, packet, index_packets, main_id, record_of, in_id_order, all_slices, create_args_of, file_record_of, FileRecord, HaveExponents, RecordsInputs}
 use Rattle.md5.proofs.StandardFacts.{length-md5}
 use Rattle.par2_recovery.specs.Views.{names_of}
 use Rattle.par2_recovery.specs.declared.set_record.SetRecord.{SetRecord}
-use Rattle.par2_plan.specs.Outputs.{RecordsInputs}
 use Rattle.par2_plan.proofs.VolumeNumbers.{volumes_end}
 use Rattle.par2_plan.proofs.GoodWords.{IsHead, AreInputs, head_passed, inputs_passed, few_slices, few_in_order}
 use Rattle.par2_plan.proofs.OutputChanges.{written, create_written}

@@ -1,4 +1,4 @@
-use Rattle.par2_plan.proofs.Common.{◌≡◌, ◌∙◌, ◌∷◌, inr, refl, sym, ap, ap₂, subst, true, Some, Err, List, ℕ, map, string_bytes, is_par_name, err_from_is_err_and, Folder, Create, CreateArgs, bad_name, early_refusal, refusal, create_args_of, Fault, Volume, long_name, there_already, volumes_of, names_of, output_names, inputs_fault, refused_early}
+use Rattle.par2_plan.proofs.Common.{◌≡◌, ◌∙◌, ◌∷◌, inr, refl, sym, ap, ap₂, subst, true, Some, Err, List, ℕ, map, string_bytes, is_par_name, err_from_is_err_and, Folder, Create, CreateArgs, bad_name, early_refusal, refusal, create_args_of, Fault, Volume, long_name, there_already, inputs_fault, volumes_of, names_of, output_names, refused_early}
 use Rattle.std.proofs.Common.{Option, None}
 use Rattle.par2_plan.proofs.GoodWords.{head_passed}
 use Rattle.par2_plan.proofs.VolumeNumbers.{long_without_base}

@@ -1,4 +1,4 @@
-use Rattle.par2_plan.proofs.Common.{◌∙◌, ◌/◌, List, ℕ, sym, ap, subst, arith, length, length-map, on_ok_weaker, padded, lists_of, AreApart, LieWithin, Place, AreWritten, AreZeros, places_of, Volume}
+use Rattle.par2_plan.proofs.Common.{◌∙◌, ◌/◌, List, ℕ, sym, ap, subst, arith, length, length-map, on_ok_weaker, padded, lists_of, AreApart, LieWithin, Place, AreWritten, AreZeros, Volume}
 use Rattle.std.specs.Borrow.{Bor}
 use Rattle.par2_recovery.specs.Views.{texts_of}
 use Rattle.par2_plan.proofs.VolumePlaces.{blank_packets, places_apart, places_blank, places_within, length-places, volumes_written}
