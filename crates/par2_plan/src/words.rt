@@ -2,19 +2,12 @@
 ghost use Rattle.std.specs.Prelude.{◌≡◌, ◌<◌, ◌&&◌, not, position, map, string_bytes, is_some, if◌then◌else◌, IfOk, IfErr, IfSome, Some, None};
 ghost use Rattle.par2_spec.specs.Names as names;
 ghost use Rattle.par2_spec.specs.Views.{create_args_of};
-ghost use Rattle.par2_spec.specs.Refusals.{are_counts, is_input_name, head_fault, bad_name};
+ghost use Rattle.par2_spec.specs.Refusals.{is_input_name, head_fault, bad_name};
 
 use par2_folder::Name;
 use par2_slices::is_slice_size;
 use par2_spec::{CreateArgs, Fault};
 use std::alloc::{AllocError, Global};
-
-// Whether there are so many exponents from the first one on, all below 65,536.
-fn are_counts(first: u32, count: u32) -> bool
-    ensures { result ≡ are_counts first count }
-{
-    count <= 65536 && first <= 65535 && first + count <= 65536
-}
 
 // The name that the word is, where it can be one of an index, or else one of an input.
 fn name_of(word: &str, is_index: bool) -> Option<Name>
@@ -38,7 +31,9 @@ pub fn index_name(args: &CreateArgs) -> Result<Name, Fault>
     if !is_slice_size(args.slice) {
         return Err(Fault::BadSliceSize);
     }
-    if !are_counts(args.first, args.count) {
+    // All exponents are below 65,536.
+    let (first, count) = (args.first, args.count);
+    if count > 65536 || first > 65535 || first + count > 65536 {
         return Err(Fault::BadCount);
     }
     let Some(name) = name_of(&args.base, true) else {
