@@ -1,7 +1,6 @@
 -- The base and the further files that are there.
-use Rattle.par2_plan.proofs.Common.{◌≡◌, ℕ, ◌+◌, List, [], ◌∷◌, refl, sym, ap, ◌∙◌, Bool, true, false, not, cond, arith, Option, None, option_map, position_from, Fault, NoSuchFile, or_fault, Folder, has, ParSet, set_of, absent_file, set_in, missing, in_full, in_part, present_from}
+use Rattle.par2_plan.proofs.Common.{◌≡◌, ℕ, ◌+◌, List, [], ◌∷◌, refl, sym, ap, ◌∙◌, Bool, true, false, not, cond, arith, Option, None, option_map, position_from, Fault, NoSuchFile, or_fault, Folder, has, ParSet, set_of, absent_file, set_in, missing, in_full, in_part, present_from, position_from-zero}
 use Rattle.std.specs.Prelude.{Some, Result, Ok, Err}
-use Rattle.std.proofs.lemmas.Iterator.Adapters.{position_from-zero}
 
 -- ---- the first word that is absent
 

@@ -1,4 +1,4 @@
-use Rattle.par2_plan.proofs.Common.{◌∙◌, ◌+◌, ◌++◌, ◌∷◌, [], List, ℕ, sym, ap, ap₂, take, take_more, take_all, flat_map_more, flat_map, Option, Pair, Target, pairs_unless}
+use Rattle.par2_plan.proofs.Common.{◌∙◌, ◌++◌, ◌∷◌, [], List, ℕ, sym, ap, ap₂, take, take_more, take_all, flat_map_more, flat_map, Option, Pair, Target, pairs_unless}
 use Rattle.par2_plan.proofs.finding.sought_pairs.Goals as goal
 
 abbrev sought : List (Target × Option (List ℕ)) → List Pair

@@ -1,4 +1,4 @@
-use Rattle.par2_plan.proofs.Common.{◌≡◌, ◌∙◌, ◌<◌, ◌+◌, ◌++◌, ◌∷◌, [], List, ℕ, length, map, take, sym, ap, ap₂, arith, get_or, length-map, length-take-le, take_all, map_more, Option, None, IfSome, zip, option_map, All-from_recursion, text_at, Target}
+use Rattle.par2_plan.proofs.Common.{◌≡◌, ◌∙◌, ◌<◌, ◌++◌, ◌∷◌, [], List, ℕ, length, map, take, sym, ap, ap₂, arith, get_or, length-map, length-take-le, take_all, map_more, Option, None, IfSome, zip, option_map, All-from_recursion, text_at, Target}
 use Rattle.par2_plan.proofs.Pairs.{zip_push}
 use Rattle.par2_plan.proofs.matching.with_matches.Goals as goal
 
