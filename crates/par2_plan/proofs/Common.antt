@@ -31,15 +31,13 @@ pub use Rattle.par2_packets.specs.Views.{file_record_of}
 pub use Rattle.par2_packets.specs.declared.record.FileRecord.{FileRecord}
 pub use Rattle.par2_plan.specs.Drafts.{HasItsMd5s, IsDraft, IsDraftBy, has_digest, wrong_digest}
 pub use Rattle.par2_plan.specs.Faults.{duplicate_input, long_name, there_already}
-pub use Rattle.par2_plan.specs.Findings.{AreSized, Intact, Matched, Standing, Unmatched, matches_given, needing_standing, needs, pairs_sought, pairs_unless, sought_by, standing_by, standings, standings_by}
-pub use Rattle.par2_plan.specs.Matches.{ArePlaces, HoldsNames, name_cmp}
+pub use Rattle.par2_plan.specs.Matches.{HoldsNames, name_cmp}
 pub use Rattle.par2_plan.specs.Outputs.{HasExponents, HasSlices, HaveExponents, inputs_of, names_of, output_names, packets_between, put_change, volume_at, volume_if, volume_text, volumes_of}
-pub use Rattle.par2_plan.specs.Parts.{found_by, lost_from, missing_from, report_by, target_report_by, target_reports_by}
 pub use Rattle.par2_plan.specs.Readings.{present_from}
 pub use Rattle.par2_plan.specs.Repairing.{AreRestored, HoldsAsides, IsAsDescribed, IsWholeWhereMatched, WritesAsDescribed, asides_removed, files_removed, known_by, matches_taken, place_by, repair_by, writes}
 pub use Rattle.par2_plan.specs.Restoring.{chosen_at, known_in, md5s_of, target_at, targets_among, undetermined_fault}
 pub use Rattle.par2_plan.specs.SliceTexts.{slices_of, text_of, windows_and_texts}
-pub use Rattle.par2_plan.specs.Views.{GoesOn, given_of, intact_by, matches_in, missing_in, report_of, standing_of, standings_of, state_of, target_report_of, windows_in}
+pub use Rattle.par2_plan.specs.Views.{report_of, state_of, target_report_of}
 pub use Rattle.par2_plan.specs.Volumes.{HavePackets, blank_volume, exponents_in, exponents_of, length_with, nth_volume, place_in, places_from, places_in, slice_of, volume_with, with_slices}
 pub use Rattle.par2_plan.specs.Written.{bytes_written, texts_written}
 pub use Rattle.par2_plan.specs.declared.names.Volume.{Volume}

@@ -26,7 +26,7 @@ pub struct Moves<'n, 's> {
     /// The names of those whose files are there, and are put aside.
     pub put_aside: &'n [Name],
     /// Where these files stand then.
-    pub asides: BTreeMap<&'n Name, &'n Name>,
+    pub asides: BTreeMap<Name, Name>,
 }
 
 /// The names of the needing targets whose files are there.
@@ -42,8 +42,8 @@ pub fn present(alloc: Global, folder: &Folder, needing: &[Needing]) -> Result<Ve
 }
 
 /// The names of the needing targets that have no match.
-pub fn unmatched(alloc: Global, needing: &[Needing]) -> Result<Vec<Name>, AllocError>
-    ensures { Lists (names_without_match needing.now) result }
+pub fn unmatched(alloc: Global, needing: &[Needing]) -> Result<BTreeSet<Name>, AllocError>
+    ensures { IfOk result (λ tree. HoldsNames tree (names_without_match needing.now)) }
 {
     needing
         .iter()
@@ -53,50 +53,47 @@ pub fn unmatched(alloc: Global, needing: &[Needing]) -> Result<Vec<Name>, AllocE
 }
 
 /// The asides by the names of the files that are put aside.
-pub fn asides_by_name<'n>(
+pub fn asides_by_name(
     alloc: Global,
-    names: &'n [Name],
-    asides: &'n [Name],
-) -> Result<BTreeMap<&'n Name, &'n Name>, AllocError>
+    names: &[Name],
+    asides: &[Name],
+) -> Result<BTreeMap<Name, Name>, AllocError>
     ensures { IfOk result (λ tree. (aside : List ℕ → List ℕ) →
         asides.now ≡ map aside names.now → HoldsAsides aside names.now tree) }
 {
-    let mut tree = BTreeMap::new(alloc);
-    for (name, aside) in names.iter().zip(asides) {
-        tree.insert(name, aside)?;
-    }
-    Ok(tree)
+    names
+        .iter()
+        .zip(asides)
+        .map(|(name, aside)| (name.copied(), aside.copied()))
+        .collect(alloc)
 }
 
 // The names of the matches.
 fn matching(alloc: Global, targets: &[Needing]) -> Result<BTreeSet<Name>, AllocError>
     ensures { IfOk result (λ names. HoldsNames names (filter_map (λ m. m.1) targets.now)) }
 {
-    let mut names = BTreeSet::new(alloc);
-    for needing in targets {
-        if let Some(name) = needing.found() {
-            names.insert(name.copied())?;
-        }
-    }
-    Ok(names)
+    targets
+        .iter()
+        .filter_map(|needing| needing.copied_match())
+        .collect(alloc)
 }
 
 // Where a file stands once others are put aside.
-fn now_at<'n>(asides: &BTreeMap<&'n Name, &'n Name>, name: &'n Name) -> Name
+fn now_at(asides: &BTreeMap<Name, Name>, name: &Name) -> Name
     ensures { (aside : List ℕ → List ℕ) (names : List (List ℕ)) →
         HoldsAsides aside names asides.now → result ≡ place_by aside names name.now }
 {
-    match asides.get(&name) {
+    match asides.get(name) {
         Some(aside) => aside.copied(),
         None => name.copied(),
     }
 }
 
 // Files are put aside.
-fn push_asides<'n>(
+fn push_asides(
     changes: &mut Changes,
-    names: &'n [Name],
-    asides: &BTreeMap<&'n Name, &'n Name>,
+    names: &[Name],
+    asides: &BTreeMap<Name, Name>,
 ) -> Result<(), AllocError>
     ensures { (aside : List ℕ → List ℕ) (all : List (List ℕ)) →
         HoldsAsides aside all asides.now →
@@ -110,10 +107,10 @@ fn push_asides<'n>(
 }
 
 // Each target that has a match takes it. A match that was put aside is taken from there.
-fn push_matches<'n>(
+fn push_matches(
     changes: &mut Changes,
-    targets: &'n [Needing],
-    asides: &BTreeMap<&'n Name, &'n Name>,
+    targets: &[Needing],
+    asides: &BTreeMap<Name, Name>,
 ) -> Result<(), AllocError>
     ensures { (aside : List ℕ → List ℕ) (all : List (List ℕ)) →
         HoldsAsides aside all asides.now →
@@ -140,10 +137,10 @@ fn push_writes(changes: &mut Changes, restored: Vec<Restored>) -> Result<(), All
 }
 
 // The asides of files that are nobody's match are removed.
-fn remove_asides<'n>(
+fn remove_asides(
     changes: &mut Changes,
-    names: &'n [Name],
-    asides: &BTreeMap<&'n Name, &'n Name>,
+    names: &[Name],
+    asides: &BTreeMap<Name, Name>,
     matching: &BTreeSet<Name>,
 ) -> Result<(), AllocError>
     ensures { (aside : List ℕ → List ℕ) (all given : List (List ℕ)) →

@@ -3,13 +3,12 @@ ghost use Rattle.std.specs.Prelude.{◌≡◌, map, string_bytes, IfOk, Ok};
 ghost use Rattle.par2_spec.specs.Reports.{report_in, verdict_of, IsVerdictIn, RefusedAsReported};
 ghost use Rattle.par2_spec.specs.Search as search;
 ghost use Rattle.par2_plan.specs.Answers.{FailsIn, RefusesEarly, verify_of};
-ghost use Rattle.par2_plan.specs.Findings.{standings};
-ghost use Rattle.par2_plan.specs.Parts.{report_by};
+ghost use Rattle.par2_plan.specs.Findings.{report_by};
 ghost use Rattle.par2_plan.specs.Views.{report_of};
 
 use crate::Report;
 use crate::candidates::candidates;
-use crate::finding::standings;
+use crate::finding::findings_of;
 use crate::reading::read;
 use crate::report::report_on;
 use par2_folder::{Folder, Name};
@@ -25,12 +24,11 @@ fn report_with(
     extras: &[Name],
 ) -> Result<Report, AllocError>
     ensures { let searched = search.candidates folder.now.files set.now extras.now in
-        let all = standings folder.now.files set.now searched in
-        IfOk result (λ report. report_of report ≡ report_by folder.now.files set.now all) }
+        IfOk result (λ report. report_of report ≡ report_by folder.now.files set.now searched) }
 {
     let candidates = candidates(alloc, folder, set, extras)?;
-    let standings = standings(alloc, folder, set, &candidates)?;
-    report_on(alloc, folder, set, &standings)
+    let findings = findings_of(alloc, folder, set, &candidates)?;
+    report_on(alloc, folder, set, &findings)
 }
 
 /// What a verify says of the set of a base, which is searched for in the files of its targets and in further ones. The

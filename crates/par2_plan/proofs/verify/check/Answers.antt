@@ -1,5 +1,6 @@
-use Rattle.par2_plan.proofs.Common.{◌≡◌, ◌∙◌, List, ℕ, Ok, Err, Some, Result, map, string_bytes, sym, ap, err_from_is_err_and, Verify, early_refusal, set_in, candidates, standings, report_by, Fault, report_in, ok_no_err, verdict_by_words, refused_as_reported, report_of}
+use Rattle.par2_plan.proofs.Common.{◌≡◌, ◌∙◌, List, ℕ, Ok, Err, Some, Result, map, string_bytes, sym, ap, err_from_is_err_and, Verify, early_refusal, set_in, candidates, Fault, report_in, ok_no_err, verdict_by_words, refused_as_reported, report_of}
 use Rattle.par2_spec.specs.Reports as reports
+use Rattle.par2_plan.specs.Findings.{report_by}
 use Rattle.par2_plan.proofs.PassedAnswers.{refused_by, err_passed}
 use Rattle.par2_plan.proofs.PlanParts.{early_verify}
 use Rattle.par2_plan.proofs.ReportValues.{refused_in, answered}
@@ -44,7 +45,7 @@ returns-clause-report c =
     let set = c.in_ok-reading.reading.set in
     let is = answered folder base extras set c.in_ok-reading.ensures.set in
     let names : c.deref.result.now ≡ extras = c.deref.ensures.value ∙ c.in_ok-reading.ensures.extras in
-    is ∙ ap (λ (xs : List (List ℕ)). let r : Result reports.Report Fault = Ok (report_by folder set (standings folder set (candidates folder set xs))) in r) (sym names) ∙ ap Ok (sym c.in_ok-report_with.ensures)
+    is ∙ ap (λ (xs : List (List ℕ)). let r : Result reports.Report Fault = Ok (report_by folder set (candidates folder set xs)) in r) (sym names) ∙ ap Ok (sym c.in_ok-report_with.ensures)
 
 pub returns-clause-verdict : goal.returns-clause-verdict
 returns-clause-verdict c =

@@ -1,0 +1,17 @@
+use Rattle.par2_plan.proofs.Common.{ℕ, List, Option, is_none, IfOk-weaker, rules, tests, Target, names_without_match}
+use Rattle.std.proofs.lemmas.Iterator.{YieldsList-from_map, YieldsList-from_slice}
+use Rattle.std.proofs.lemmas.Iterator.Adapters.{fact_from_collect}
+use Rattle.std.proofs.lemmas.Iterator.Consumers.{YieldsList-at, YieldsList-from_filter}
+use Rattle.std.specs.BTreeSet.{IsFromIterResult}
+use Rattle.std.specs.Cmp.Lexicographic.{slice_cmp}
+use Rattle.std.specs.Ordering.{nat_cmp}
+use Rattle.par2_plan.proofs.Trees.{holds}
+use Rattle.par2_plan.proofs.moves.unmatched.Goals as goal
+
+pub returns : goal.returns
+returns c =
+    IfOk-weaker c.collect.result _ _ (holds (names_without_match c.args.needing.now))
+    (fact_from_collect (IsFromIterResult (slice_cmp nat_cmp)) c.collect.result c.collect.ensures.ran
+    (YieldsList-from_map _ (λ (m : Target × Option (List ℕ)). m.0.name)
+    (YieldsList-at c.map.ensures.source (YieldsList-from_filter _ (λ (m : Target × Option (List ℕ)). is_none m.1) (YieldsList-from_slice c.args.needing.now cc) c.filter.ensures.closure (λ x b q k. search (rules, tests))))
+    c.map.ensures.closure (λ x r q k. search rules)))
