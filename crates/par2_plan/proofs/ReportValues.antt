@@ -30,28 +30,28 @@ of_each Q test (t ∷ ts) h = step (test t) refl h (of_each Q test ts)
     step false e h later = (λ k. absurd (clash k e), later h)
 
 module _ (folder : Folder) (base : List ℕ) (set : ParSet) (extras : List (List ℕ)) where
-  abbrev searched : List (List ℕ)
-  searched = candidates folder set extras
+  abbrev names : List (List ℕ)
+  names = candidates folder set extras
 
   abbrev find_slice : Pair → Option (List ℕ)
-  find_slice = found set.slice_size (map (bytes_of folder) searched)
+  find_slice = found set.slice_size (map (bytes_of folder) names)
 
   abbrev IsTold : Pair → Type 0
-  IsTold pair = is_missing folder set searched pair ≡ is_none (find_slice pair)
+  IsTold pair = is_missing folder set names pair ≡ is_none (find_slice pair)
 
   told : set_of folder base ≡ Ok set → AllByRecursion (λ t. AllByRecursion IsTold t.pairs) set.targets
   told reads =
       let sound = sound_of folder base set reads in
-      let unmatched = λ (t : Target). is_among (names_without_match (matches folder set searched)) t.name in
-      let member = λ (pair : Pair). list_any (eq_by_cmp pair_cmp pair) (sought_pairs folder set searched) ≡ true in
-      all-both (λ t. unmatched t ≡ false → IsFound folder set.slice_size searched t) (λ t. unmatched t ≡ true → AllByRecursion member t.pairs) (λ t. AllByRecursion IsTold t.pairs)
+      let unmatched = λ (t : Target). is_among (names_without_match (matches folder set names)) t.name in
+      let member = λ (pair : Pair). list_any (eq_by_cmp pair_cmp pair) (sought_pairs folder set names) ≡ true in
+      all-both (λ t. unmatched t ≡ false → IsFound folder set.slice_size names t) (λ t. unmatched t ≡ true → AllByRecursion member t.pairs) (λ t. AllByRecursion IsTold t.pairs)
       (λ t there sought. step (unmatched t) t refl there sought) set.targets
-      (targets_found folder set searched (size_positive set.slice_size sound.size) (sized_from_counted set.slice_size set.targets sound.pairs) (present_searched folder set extras))
-      (of_each member unmatched set.targets (recursion_from_All member _ (All-is_member (eq_by_cmp_equiv (then_total (on_total (λ p. p.0) nat_list_cmp_total) (on_total (λ p. p.1) nat_cmp_total))) (sought_pairs folder set searched))))
+      (targets_found folder set names (size_positive set.slice_size sound.size) (sized_from_counted set.slice_size set.targets sound.pairs) (present_searched folder set extras))
+      (of_each member unmatched set.targets (recursion_from_All member _ (All-is_member (eq_by_cmp_equiv (then_total (on_total (λ p. p.0) nat_list_cmp_total) (on_total (λ p. p.1) nat_cmp_total))) (sought_pairs folder set names))))
     where
-      step : (b : Bool) (t : Target) → is_among (names_without_match (matches folder set searched)) t.name ≡ b
-          → (is_among (names_without_match (matches folder set searched)) t.name ≡ false → IsFound folder set.slice_size searched t)
-          → (is_among (names_without_match (matches folder set searched)) t.name ≡ true → AllByRecursion (λ pair. list_any (eq_by_cmp pair_cmp pair) (sought_pairs folder set searched) ≡ true) t.pairs)
+      step : (b : Bool) (t : Target) → is_among (names_without_match (matches folder set names)) t.name ≡ b
+          → (is_among (names_without_match (matches folder set names)) t.name ≡ false → IsFound folder set.slice_size names t)
+          → (is_among (names_without_match (matches folder set names)) t.name ≡ true → AllByRecursion (λ pair. list_any (eq_by_cmp pair_cmp pair) (sought_pairs folder set names) ≡ true) t.pairs)
           → AllByRecursion IsTold t.pairs
       step true t e there sought = all-both _ _ IsTold (λ p h _. ap (λ b. b && is_none (find_slice p)) h) t.pairs (sought e) (sought e)
       step false t e there sought = all-both _ _ IsTold (λ p h _. not_none (find_slice p) _ h) t.pairs (there e) (there e)

@@ -53,13 +53,9 @@ matches_taken place ms = filter_map (λ m. option_map (λ name. Rename (place na
 abbrev pub writes : List (Target × List ℕ) → List Change
 writes targets = map (λ c. Write c.0.name c.1) targets
 
--- the asides of files that are nobody's match are removed
-abbrev pub asides_removed : (List ℕ → List ℕ) → List (List ℕ) → List (List ℕ) → List Change
-asides_removed place matching names = map (λ name. Remove (place name)) (filter (λ name. not (is_among matching name)) names)
-
--- files that are nobody's match are removed
-abbrev pub files_removed : List (List ℕ) → List (List ℕ) → List Change
-files_removed matching names = map Remove (filter (λ name. not (is_among matching name)) names)
+-- files that are nobody's match are removed, from where they stand
+abbrev pub files_removed : (List ℕ → List ℕ) → List (List ℕ) → List (List ℕ) → List Change
+files_removed place matching names = map (λ name. Remove (place name)) (filter (λ name. not (is_among matching name)) names)
 
 -- where a file stands once those of these names are put aside
 abbrev pub place_by : (List ℕ → List ℕ) → List (List ℕ) → List ℕ → List ℕ

@@ -51,7 +51,7 @@ fn by_name(alloc: Global, needing: &[Needing]) -> Result<BTreeMap<Name, Option<N
 {
     needing
         .iter()
-        .map(|needing| (needing.target().name().copied(), needing.copied_match()))
+        .map(|needing| (needing.target().name().copied(), needing.found()))
         .collect(alloc)
 }
 

@@ -1,5 +1,5 @@
 //! Which targets of a set are needing, and which other files are intact for them.
-ghost use Rattle.std.specs.Prelude.{◌≡◌, not, map, filter, IfOk, option_map, option_and_then, is_none, slice_get, zip};
+ghost use Rattle.std.specs.Prelude.{◌≡◌, not, map, filter, IfOk, option_and_then, is_none, slice_get, zip};
 ghost use Rattle.std.specs.BTreeSet.{contains};
 ghost use Rattle.std.specs.Cmp.Lexicographic.{slice_cmp};
 ghost use Rattle.std.specs.List.{IsDistinct};
@@ -42,17 +42,7 @@ impl<'s> Needing<'s> {
     }
 
     /// The name of its match.
-    pub fn found(&self) -> Option<&Name>
-        ensures { option_map (λ name. name.now) result ≡ self.now.1 }
-    {
-        match &self.found {
-            Some(name) => Some(name),
-            None => None,
-        }
-    }
-
-    /// The same, copied.
-    pub fn copied_match(&self) -> Option<Name>
+    pub fn found(&self) -> Option<Name>
         ensures { result ≡ self.now.1 }
     {
         Some(self.found.as_ref()?.copied())

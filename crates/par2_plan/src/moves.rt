@@ -5,7 +5,7 @@ ghost use Rattle.par2_spec.specs.Changes as spec;
 ghost use Rattle.par2_spec.specs.Folders.{has};
 ghost use Rattle.par2_spec.specs.Repairs.{names_without_match};
 ghost use Rattle.par2_sets.specs.Asides.{HoldsNames};
-ghost use Rattle.par2_plan.specs.Repairing.{AreMoves, HoldsAsides, asides_removed, files_removed, matches_taken, place_by, writes};
+ghost use Rattle.par2_plan.specs.Repairing.{AreMoves, HoldsAsides, files_removed, matches_taken, place_by, writes};
 ghost use Rattle.par2_spec.specs.Folders as folders;
 ghost use Rattle.par2_spec.specs.Plans.{repair_changes, repair_removals};
 ghost use Rattle.par2_spec.specs.Repairs.{par_files, rebuilt_targets};
@@ -74,7 +74,7 @@ fn matching(alloc: Global, targets: &[Needing]) -> Result<BTreeSet<Name>, AllocE
 {
     targets
         .iter()
-        .filter_map(|needing| needing.copied_match())
+        .filter_map(|needing| needing.found())
         .collect(alloc)
 }
 
@@ -119,7 +119,7 @@ fn push_matches(
 {
     for needing in targets {
         if let Some(found) = needing.found() {
-            let from = now_at(asides, found);
+            let from = now_at(asides, &found);
             changes.push(Change::Rename(from, needing.target().name().copied()))?;
         }
     }
@@ -136,8 +136,8 @@ fn push_writes(changes: &mut Changes, restored: Vec<Restored>) -> Result<(), All
     Ok(())
 }
 
-// The asides of files that are nobody's match are removed.
-fn remove_asides(
+// Files that are nobody's match are removed, from where they stand.
+fn push_removed(
     changes: &mut Changes,
     names: &[Name],
     asides: &BTreeMap<Name, Name>,
@@ -145,30 +145,12 @@ fn remove_asides(
 ) -> Result<(), AllocError>
     ensures { (aside : List ℕ → List ℕ) (all given : List (List ℕ)) →
         HoldsAsides aside all asides.now → HoldsNames matching.now given →
-        let removed = asides_removed (place_by aside all) given names.now in
+        let removed = files_removed (place_by aside all) given names.now in
         OnOk result (changes.new ≡ changes.old ++ removed) }
 {
     for name in names {
         if !matching.contains(name) {
             changes.push(Change::Remove(now_at(asides, name)))?;
-        }
-    }
-    Ok(())
-}
-
-// Files that are nobody's match are removed.
-fn remove_files(
-    changes: &mut Changes,
-    names: &[Name],
-    matching: &BTreeSet<Name>,
-) -> Result<(), AllocError>
-    ensures { (given : List (List ℕ)) → HoldsNames matching.now given →
-        let removed = files_removed given names.now in
-        OnOk result (changes.new ≡ changes.old ++ removed) }
-{
-    for name in names {
-        if !matching.contains(name) {
-            changes.push(Change::Remove(name.copied()))?;
         }
     }
     Ok(())
@@ -205,6 +187,6 @@ pub fn push_removals(
         → OnOk result (changes.new ≡ changes.old ++ repair_removals folder set searched) }
 {
     let matching = matching(alloc, moves.needing)?;
-    remove_asides(changes, moves.put_aside, &moves.asides, &matching)?;
-    remove_files(changes, files, &matching)
+    push_removed(changes, moves.put_aside, &moves.asides, &matching)?;
+    push_removed(changes, files, &moves.asides, &matching)
 }
