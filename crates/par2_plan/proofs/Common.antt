@@ -33,7 +33,6 @@ pub use Rattle.par2_plan.specs.Drafts.{HasItsMd5s, IsDraft, IsDraftBy, has_diges
 pub use Rattle.par2_plan.specs.Faults.{duplicate_input, long_name, there_already}
 pub use Rattle.par2_plan.specs.Matches.{HoldsNames, name_cmp}
 pub use Rattle.par2_plan.specs.Outputs.{HasExponents, HasSlices, HaveExponents, inputs_of, names_of, output_names, packets_between, put_change, volume_at, volume_if, volume_text, volumes_of}
-pub use Rattle.par2_plan.specs.Readings.{present_from}
 pub use Rattle.par2_plan.specs.Repairing.{AreRestored, HoldsAsides, IsAsDescribed, IsWholeWhereMatched, WritesAsDescribed, files_removed, known_by, matches_taken, place_by, repair_by, writes}
 pub use Rattle.par2_plan.specs.Restoring.{chosen_at, known_in, md5s_of, target_at, targets_among, undetermined_fault}
 pub use Rattle.par2_plan.specs.SliceTexts.{slices_of, text_of, windows_and_texts}
