@@ -1,8 +1,7 @@
 -- The matches of needing targets, by numbers and by names.
-use Rattle.par2_plan.proofs.Common.{◌≡◌, ℕ, Bool, cond, sym, map-cond, ◌<◌, List, [], ◌∷◌, length, map, refl, ap, ap₂, not, ◌∙◌, subst, length-map, Option, None, filter, zip, option_map, ◌==◌, AllByRecursion, IsDistinct, range_with_len, bytes_eq, is_among, Folder, bytes_of, ParSet, Target, needing, intact_names, all-filter, distinct_from_std, std_from_distinct, distinct-filter, text_at, first_intact, without, matched_from, matched_numbers, NumbersAreNames, all_below_are, found_one}
-use Rattle.std.specs.Option.{option_and_then}
-use Rattle.std.specs.Prelude.{Some, slice_get}
-use Rattle.std.proofs.lemmas.Option.{slice_get-get_or}
+use Rattle.par2_plan.proofs.Common.{◌≡◌, ℕ, Bool, cond, sym, ◌<◌, List, [], ◌∷◌, length, map, refl, ap, ap₂, not, ◌∙◌, subst, map-cond, all_below_are, found_one, length-map, Option, filter, zip, option_map, ◌==◌, AllByRecursion, IsDistinct, range_with_len, bytes_eq, is_among, Folder, bytes_of, ParSet, Target, needing, intact_names, all-filter, distinct_from_std, std_from_distinct, distinct-filter, text_at, first_intact, without, matched_from, matched_numbers, NumbersAreNames, option_and_then, slice_get, slice_get-get_or}
+use Rattle.std.specs.Prelude.{None}
+use Rattle.std.specs.Prelude.{Some}
 use Rattle.par2_spec.specs.Search.{matches}
 use Rattle.par2_spec.specs.Lists.{all_below}
 

@@ -1,8 +1,7 @@
 -- The base and the further files that are there.
-use Rattle.par2_plan.proofs.Common.{◌≡◌, ℕ, ◌+◌, List, [], ◌∷◌, refl, sym, ap, ap₂, ◌∙◌, Bool, true, false, not, not-false, cond, arith, filter, Option, None, option_map, position_from, AllByRecursion, Fault, NoSuchFile, Folder, has, set_of, absent_file, set_in, missing, in_full, in_part}
+use Rattle.par2_plan.proofs.Common.{◌≡◌, ℕ, ◌+◌, List, [], ◌∷◌, refl, sym, ap, ap₂, ◌∙◌, Bool, true, false, not, cond, arith, not-false, filter, Option, option_map, position_from, AllByRecursion, Fault, NoSuchFile, Folder, has, set_of, absent_file, set_in, missing, in_full, in_part, position_from-zero, no_place}
+use Rattle.std.specs.Prelude.{None}
 use Rattle.std.specs.Prelude.{Some, Err}
-use Rattle.std.proofs.lemmas.Iterator.Adapters.{position_from-zero}
-use Rattle.par2_spec.proofs.TestLaws.{no_place}
 
 -- ---- the first word that is absent
 

@@ -1,21 +1,13 @@
 -- Trees that are made of lists.
-use Rattle.par2_plan.proofs.Common.{◌≡◌, ℕ, List, [], ◌∷◌, map, refl, sym, ap, ap₂, ◌∙◌, ◌&&◌, ◌||◌, Bool, true, false, cond, None, is_none, filter, zip, option_map, list_any, find, bytes_eq, BTreeMap, HoldsAsides, Pair, Target, Option, Window, itself, same_name, same_either_way, is_among, padded_window, padded_windows, AreDistinct, std_from_distinct, map-map, subst}
+use Rattle.par2_plan.proofs.Common.{◌≡◌, ℕ, List, [], ◌∷◌, map, refl, sym, ap, ap₂, ◌∙◌, ◌&&◌, ◌||◌, Bool, true, false, cond, subst, is_none, filter, zip, option_map, find, Option, list_any, bytes_eq, BTreeMap, HoldsAsides, Pair, Target, Window, padded_window, padded_windows, itself, same_name, same_either_way, AreDistinct, std_from_distinct, is_among, map-map, BTreeSet, IsFromIterResult, IsEquivalence, eq_by_cmp_equiv, slice_cmp, nat_list_cmp_total, option_and_then, eq_by_cmp, nat_cmp, update_all_none, update_all_pairs, clash, kept, match_of, pair_cmp}
+use Rattle.std.specs.Prelude.{None}
 use Rattle.std.specs.BTreeMap as trees
-use Rattle.std.specs.BTreeSet.{BTreeSet, IsFromIterResult}
-use Rattle.std.specs.Cmp.{IsEquivalence, eq_by_cmp_equiv}
-use Rattle.std.specs.Cmp.Lexicographic.{slice_cmp, nat_list_cmp_total}
 use Rattle.std.specs.Map.{lookup, update_all}
-use Rattle.std.specs.Option.{option_and_then}
-use Rattle.std.specs.Ordering.{eq_by_cmp, nat_cmp}
 use Rattle.std.specs.Prelude.{Some}
 use Rattle.std.proofs.lemmas.Map.Lookups.{exact_bytes, exact_pairs, exact_unsigned}
-use Rattle.std.proofs.lemmas.Map.Made.{update_all_none, update_all_pairs}
 use Rattle.std.proofs.lemmas.Map.Text.{is_eq-slice_cmp}
 use Rattle.std.proofs.lemmas.Map.Views.{tells_apart}
-use Rattle.par2_spec.proofs.NamesLaws.{clash, kept}
 use Rattle.par2_sets.specs.Asides.{HoldsNames}
-use Rattle.par2_spec.specs.Search.{match_of}
-use Rattle.par2_plan.specs.Findings.{pair_cmp}
 use Rattle.par2_plan.proofs.SliceLists.{heads}
 
 member_among : (names : List (List ℕ)) (q : List ℕ) → list_any (eq_by_cmp (slice_cmp nat_cmp) q) names ≡ is_among names q

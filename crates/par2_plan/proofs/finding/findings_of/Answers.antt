@@ -1,10 +1,5 @@
-use Rattle.par2_plan.proofs.Common.{◌≡◌, ◌∙◌, ◌&&◌, List, ℕ, map, filter, flat_map, sym, ap, ap₂, subst, is_none, list_any, Option, bytes_of, found, is_among, Pair, Target, is_needing, names_without_match, matches, AreDistinct, distinct_from_std, padded_windows, texts_of}
-use Rattle.std.proofs.lemmas.List.Elements.{filter_agree}
+use Rattle.par2_plan.proofs.Common.{◌≡◌, ◌∙◌, ◌&&◌, List, ℕ, map, sym, ap, ap₂, subst, filter, flat_map, is_none, Option, list_any, bytes_of, found, is_among, Pair, Target, is_needing, matches, names_without_match, AreDistinct, distinct_from_std, padded_windows, texts_of, filter_agree, slice_cmp, eq_by_cmp, nat_cmp, distinct_some, pair_cmp, sought_pairs}
 use Rattle.std.specs.BTreeMap.{IsFromIterResult}
-use Rattle.std.specs.Cmp.Lexicographic.{slice_cmp}
-use Rattle.std.specs.Ordering.{eq_by_cmp, nat_cmp}
-use Rattle.par2_spec.proofs.NamesLaws.{distinct_some}
-use Rattle.par2_plan.specs.Findings.{pair_cmp, sought_pairs}
 use Rattle.par2_plan.proofs.RepairParts.{names_in_pairs}
 use Rattle.par2_plan.proofs.Trees.{by_name, holds_matches, missing_among}
 use Rattle.par2_plan.proofs.finding.findings_of.Goals as goal

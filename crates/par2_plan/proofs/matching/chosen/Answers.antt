@@ -1,6 +1,4 @@
-use Rattle.par2_plan.proofs.Common.{Bor, rules, tests, Target, Bool}
-use Rattle.std.proofs.lemmas.Iterator.{YieldsList-from_map_by, YieldsList-from_slice, YieldsList-from_zip}
-use Rattle.std.proofs.lemmas.Iterator.Consumers.{YieldsList-at, YieldsList-from_filter, map_from_collect}
+use Rattle.par2_plan.proofs.Common.{Bor, rules, tests, Bool, Target, YieldsList-from_map_by, YieldsList-from_slice, YieldsList-from_zip, YieldsList-at, YieldsList-from_filter, map_from_collect}
 use Rattle.par2_plan.proofs.matching.chosen.Goals as goal
 
 pub returns : goal.returns

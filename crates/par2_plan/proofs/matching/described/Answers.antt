@@ -1,6 +1,4 @@
-use Rattle.par2_plan.proofs.Common.{◌≡◌, List, [], ◌∷◌, ℕ, Bor, map, ap, sym, rules, IfOk-weaker, Pair, Target, Describe}
-use Rattle.std.proofs.lemmas.Iterator.{YieldsList-from_map_by, YieldsList-from_slice}
-use Rattle.std.proofs.lemmas.Iterator.Consumers.{map_from_collect}
+use Rattle.par2_plan.proofs.Common.{◌≡◌, List, [], ◌∷◌, ℕ, Bor, map, ap, sym, rules, IfOk-weaker, Pair, Target, Describe, YieldsList-from_map_by, YieldsList-from_slice, map_from_collect}
 use Rattle.par2_slices.specs.declared.matching.Target as search
 use Rattle.par2_plan.proofs.SliceLists.{heads}
 use Rattle.par2_plan.proofs.matching.described.Goals as goal

@@ -1,10 +1,4 @@
-use Rattle.par2_plan.proofs.Common.{Bool, map, filter, not, zip, IfOk-weaker, rules, tests, Target}
-use Rattle.std.proofs.lemmas.Iterator.{YieldsList-from_map, YieldsList-from_slice, YieldsList-from_zip}
-use Rattle.std.proofs.lemmas.Iterator.Adapters.{fact_from_collect}
-use Rattle.std.proofs.lemmas.Iterator.Consumers.{YieldsList-at, YieldsList-from_filter}
-use Rattle.std.specs.BTreeSet.{IsFromIterResult}
-use Rattle.std.specs.Cmp.Lexicographic.{slice_cmp}
-use Rattle.std.specs.Ordering.{nat_cmp}
+use Rattle.par2_plan.proofs.Common.{Bool, map, not, rules, tests, filter, zip, IfOk-weaker, Target, YieldsList-from_map, YieldsList-from_slice, YieldsList-from_zip, fact_from_collect, YieldsList-at, YieldsList-from_filter, IsFromIterResult, slice_cmp, nat_cmp}
 use Rattle.par2_plan.proofs.Trees.{holds}
 use Rattle.par2_plan.proofs.matching.intact_names.Goals as goal
 

@@ -1,8 +1,4 @@
-use Rattle.par2_plan.proofs.Common.{◌≡◌, ◌∙◌, List, [], ◌∷◌, ℕ, Bor, map, ap, refl, zip, rules, IfOk-weaker, Option, Target}
-use Rattle.std.specs.Option.{option_and_then}
-use Rattle.std.specs.Prelude.{slice_get}
-use Rattle.std.proofs.lemmas.Iterator.{YieldsList-from_map, YieldsList-from_slice, YieldsList-from_zip, items_from_collect}
-use Rattle.std.proofs.lemmas.Iterator.Consumers.{YieldsList-at}
+use Rattle.par2_plan.proofs.Common.{◌≡◌, ◌∙◌, List, [], ◌∷◌, ℕ, Bor, map, ap, refl, rules, zip, Option, IfOk-weaker, Target, option_and_then, slice_get, YieldsList-from_map, YieldsList-from_slice, YieldsList-from_zip, items_from_collect, YieldsList-at}
 use Rattle.par2_plan.proofs.matching.with_matches.Goals as goal
 
 abbrev with_name : List (List ℕ) → Bor Target × Option ℕ → Target × Option (List ℕ)

@@ -1,10 +1,5 @@
-use Rattle.par2_plan.proofs.Common.{IfOk-weaker, rules}
-use Rattle.std.proofs.lemmas.Iterator.{YieldsList-from_map, YieldsList-from_slice, YieldsList-from_zip}
-use Rattle.std.proofs.lemmas.Iterator.Adapters.{fact_from_collect}
-use Rattle.std.proofs.lemmas.Iterator.Consumers.{YieldsList-at}
+use Rattle.par2_plan.proofs.Common.{IfOk-weaker, rules, YieldsList-from_map, YieldsList-from_slice, YieldsList-from_zip, fact_from_collect, YieldsList-at, slice_cmp, nat_cmp}
 use Rattle.std.specs.BTreeMap.{IsFromIterResult}
-use Rattle.std.specs.Cmp.Lexicographic.{slice_cmp}
-use Rattle.std.specs.Ordering.{nat_cmp}
 use Rattle.par2_plan.proofs.Trees.{as_pair, holds_asides}
 use Rattle.par2_plan.proofs.moves.asides_by_name.Goals as goal
 

@@ -1,10 +1,4 @@
-use Rattle.par2_plan.proofs.Common.{ℕ, List, Option, IfOk-weaker, rules, tests, filter_map, Target}
-use Rattle.std.proofs.lemmas.Iterator.{YieldsList-from_slice}
-use Rattle.std.proofs.lemmas.Iterator.Adapters.{fact_from_collect}
-use Rattle.std.proofs.lemmas.Iterator.Consumers.{YieldsList-from_filter_map}
-use Rattle.std.specs.BTreeSet.{IsFromIterResult}
-use Rattle.std.specs.Cmp.Lexicographic.{slice_cmp}
-use Rattle.std.specs.Ordering.{nat_cmp}
+use Rattle.par2_plan.proofs.Common.{ℕ, List, rules, tests, Option, filter_map, IfOk-weaker, Target, YieldsList-from_slice, fact_from_collect, YieldsList-from_filter_map, IsFromIterResult, slice_cmp, nat_cmp}
 use Rattle.par2_plan.proofs.Trees.{holds}
 use Rattle.par2_plan.proofs.moves.matching.Goals as goal
 

@@ -1,10 +1,4 @@
-use Rattle.par2_plan.proofs.Common.{ℕ, List, Option, is_none, IfOk-weaker, rules, tests, Target, names_without_match}
-use Rattle.std.proofs.lemmas.Iterator.{YieldsList-from_map, YieldsList-from_slice}
-use Rattle.std.proofs.lemmas.Iterator.Adapters.{fact_from_collect}
-use Rattle.std.proofs.lemmas.Iterator.Consumers.{YieldsList-at, YieldsList-from_filter}
-use Rattle.std.specs.BTreeSet.{IsFromIterResult}
-use Rattle.std.specs.Cmp.Lexicographic.{slice_cmp}
-use Rattle.std.specs.Ordering.{nat_cmp}
+use Rattle.par2_plan.proofs.Common.{ℕ, List, rules, tests, Option, is_none, IfOk-weaker, Target, names_without_match, YieldsList-from_map, YieldsList-from_slice, fact_from_collect, YieldsList-at, YieldsList-from_filter, IsFromIterResult, slice_cmp, nat_cmp}
 use Rattle.par2_plan.proofs.Trees.{holds}
 use Rattle.par2_plan.proofs.moves.unmatched.Goals as goal
 

@@ -1,8 +1,5 @@
-use Rattle.par2_plan.proofs.Common.{◌≡◌, ◌∙◌, ◌∷◌, [], ℕ, List, Bool, map, refl, ap, cond, filter, filter_map, cons_option, is_some, IfSome, rules, tests, string_bytes, Global, Option, true, false, Folder, has, IfOk-weaker}
-use Rattle.std.proofs.Common.{None}
-use Rattle.std.specs.Prelude.{Some, String}
-use Rattle.std.proofs.lemmas.Iterator.{YieldsList-from_slice, items_from_collect}
-use Rattle.std.proofs.lemmas.Iterator.Consumers.{YieldsList-from_filter_map}
+use Rattle.par2_plan.proofs.Common.{◌≡◌, ◌∙◌, ◌∷◌, [], ℕ, List, Bool, map, refl, ap, cond, rules, tests, string_bytes, Global, true, false, filter, filter_map, is_some, IfSome, Option, cons_option, Folder, has, IfOk-weaker, None, String, YieldsList-from_slice, items_from_collect, YieldsList-from_filter_map}
+use Rattle.std.specs.Prelude.{Some}
 use Rattle.par2_plan.proofs.reading.present_extras.Goals as goal
 
 -- the name of a file, where the word is one

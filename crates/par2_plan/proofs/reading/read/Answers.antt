@@ -1,5 +1,5 @@
-use Rattle.par2_plan.proofs.Common.{◌≡◌, ◌⊎◌, ◌+◌, ◌∙◌, refl, sym, ap, inl, inr, map, string_bytes, true, false, not, Some, Err, rules, ok_or, position, err_from_is_err_and, Fault, NoSuchFile, Memory, has, ParSet, set_of, absent_file, set_in, err_again, Gives}
-use Rattle.std.proofs.Common.{None}
+use Rattle.par2_plan.proofs.Common.{◌≡◌, ◌⊎◌, ◌+◌, ◌∙◌, refl, sym, ap, inl, inr, map, string_bytes, true, false, not, Some, Err, rules, ok_or, position, err_from_is_err_and, Fault, NoSuchFile, Memory, has, ParSet, set_of, absent_file, set_in, err_again, None}
+use Rattle.par2_sets.specs.Steps.{Gives}
 use Rattle.std.specs.Prelude.{Result}
 use Rattle.par2_plan.proofs.PassedAnswers.{answered_so, never_found}
 use Rattle.par2_plan.proofs.Places.{position-map}

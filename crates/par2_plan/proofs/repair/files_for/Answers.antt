@@ -1,6 +1,4 @@
-use Rattle.par2_plan.proofs.Common.{◌≡◌, ◌∙◌, List, [], ℕ, Bor, list_any, is_at, length, nil_from_length, sym, ap, subst, inr, rules, Some, AllByRecursion, err_from_is_err_and, rebuilt, texts_of, known_in, targets_among, undetermined_fault, known_by}
-use Rattle.std.specs.Cmp.Lexicographic.{slice_cmp}
-use Rattle.std.specs.Ordering.{nat_cmp}
+use Rattle.par2_plan.proofs.Common.{◌≡◌, ◌∙◌, List, [], ℕ, Bor, length, sym, ap, subst, inr, rules, Some, list_any, AllByRecursion, is_at, nil_from_length, err_from_is_err_and, rebuilt, texts_of, known_in, targets_among, undetermined_fault, known_by, slice_cmp, nat_cmp}
 use Rattle.par2_plan.proofs.PassedAnswers.{refused_by}
 use Rattle.par2_plan.proofs.RepairParts.{none_restored}
 use Rattle.par2_plan.proofs.Trees.{no_names}

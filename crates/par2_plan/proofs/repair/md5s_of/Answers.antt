@@ -1,5 +1,4 @@
-use Rattle.par2_plan.proofs.Common.{List, ℕ, rules, Target}
-use Rattle.std.proofs.lemmas.Iterator.{YieldsList-from_map, YieldsList-from_slice, items_from_collect}
+use Rattle.par2_plan.proofs.Common.{List, ℕ, rules, Target, YieldsList-from_map, YieldsList-from_slice, items_from_collect}
 use Rattle.par2_plan.proofs.repair.md5s_of.Goals as goal
 
 pub returns : goal.returns

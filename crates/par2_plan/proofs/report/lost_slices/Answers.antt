@@ -1,8 +1,4 @@
-use Rattle.par2_plan.proofs.Common.{◌≡◌, ◌∙◌, ◌+◌, List, [], ◌∷◌, ℕ, map, ap, refl, length, filter, zip, arith, rules, tests, enumerate_from, range_with_len, IfOk-weaker, Pair}
-use Rattle.std.proofs.lemmas.Iterator.{YieldsList-from_map, YieldsList-from_range, YieldsList-from_slice, YieldsList-from_zip, items_from_collect}
-use Rattle.std.proofs.lemmas.Iterator.Consumers.{YieldsList-at, YieldsList-from_filter}
-use Rattle.std.specs.BTreeSet.{contains}
-use Rattle.par2_plan.specs.Findings.{pair_cmp}
+use Rattle.par2_plan.proofs.Common.{◌≡◌, ◌∙◌, ◌+◌, List, [], ◌∷◌, ℕ, map, ap, refl, length, arith, rules, tests, filter, zip, enumerate_from, range_with_len, IfOk-weaker, Pair, YieldsList-from_map, YieldsList-from_range, YieldsList-from_slice, YieldsList-from_zip, items_from_collect, YieldsList-at, YieldsList-from_filter, contains, pair_cmp}
 use Rattle.par2_plan.proofs.report.lost_slices.Goals as goal
 
 numbered : (n : ℕ) (pairs : List Pair) → zip (range_with_len n (length pairs)) pairs ≡ enumerate_from n pairs

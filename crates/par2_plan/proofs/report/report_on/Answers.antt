@@ -1,7 +1,4 @@
-use Rattle.par2_plan.proofs.Common.{◌≡◌, ◌∙◌, ◌<◌, ◌≤◌, ◌+◌, List, ℕ, length, map, filter, zip, sym, ap, subst, arith, rules, enumerate_from, AllByRecursion, Bool, Pair, Target, all_at, all_pairs, rank, survivors, is_needing, Report, TargetReport, target_report_of}
-use Rattle.std.proofs.lemmas.List.Elements.{filter_agree}
-use Rattle.std.specs.BTreeSet.{contains}
-use Rattle.par2_plan.specs.Findings.{is_missing, lost_by, pair_cmp, said_of, target_report_by}
+use Rattle.par2_plan.proofs.Common.{◌≡◌, ◌∙◌, ◌<◌, ◌≤◌, ◌+◌, List, ℕ, length, map, sym, ap, subst, arith, rules, Bool, filter, zip, enumerate_from, AllByRecursion, Pair, Target, all_pairs, all_at, rank, survivors, is_needing, Report, TargetReport, target_report_of, filter_agree, contains, is_missing, lost_by, pair_cmp, said_of, target_report_by}
 use Rattle.par2_plan.proofs.ReportValues.{lost_below, said_by}
 use Rattle.par2_plan.proofs.report.report_on.Goals as goal
 

@@ -1,7 +1,4 @@
-use Rattle.par2_plan.proofs.Common.{rules, target_report_of}
-use Rattle.std.proofs.lemmas.Iterator.{YieldsList-from_map_by, YieldsList-from_slice, YieldsList-from_zip}
-use Rattle.std.proofs.lemmas.Iterator.Consumers.{YieldsList-at, map_from_collect}
-use Rattle.par2_plan.specs.Findings.{said_of}
+use Rattle.par2_plan.proofs.Common.{rules, target_report_of, YieldsList-from_map_by, YieldsList-from_slice, YieldsList-from_zip, YieldsList-at, map_from_collect, said_of}
 use Rattle.par2_plan.proofs.report.target_reports.Goals as goal
 
 pub returns : goal.returns

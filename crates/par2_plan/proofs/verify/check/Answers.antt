@@ -1,6 +1,5 @@
-use Rattle.par2_plan.proofs.Common.{◌≡◌, ◌∙◌, List, ℕ, Ok, Err, Some, Result, map, string_bytes, sym, ap, err_from_is_err_and, Verify, early_refusal, set_in, candidates, Fault, report_in, ok_no_err, verdict_by_words, refused_as_reported, report_of}
+use Rattle.par2_plan.proofs.Common.{◌≡◌, ◌∙◌, List, ℕ, Ok, Err, Some, Result, map, string_bytes, sym, ap, err_from_is_err_and, Verify, early_refusal, set_in, candidates, Fault, report_in, ok_no_err, verdict_by_words, refused_as_reported, report_of, report_by}
 use Rattle.par2_spec.specs.Reports as reports
-use Rattle.par2_plan.specs.Findings.{report_by}
 use Rattle.par2_plan.proofs.PassedAnswers.{refused_by, err_passed}
 use Rattle.par2_plan.proofs.PlanParts.{early_verify}
 use Rattle.par2_plan.proofs.ReportValues.{refused_in, answered}

@@ -1,5 +1,4 @@
-use Rattle.par2_plan.proofs.Common.{◌≡◌, ◌∙◌, List, ℕ, sym, subst, IfOk, IsDistinct, bytes_eq, candidates, std_from_distinct, report_of}
-use Rattle.par2_plan.specs.Findings.{report_by}
+use Rattle.par2_plan.proofs.Common.{◌≡◌, ◌∙◌, List, ℕ, sym, subst, IfOk, IsDistinct, bytes_eq, candidates, std_from_distinct, report_of, report_by}
 use Rattle.par2_plan.proofs.Choices.{distinct_once}
 use Rattle.par2_plan.proofs.verify.report_with.Goals as goal
 
