@@ -1,5 +1,5 @@
 //! Which targets of a set are needing, and which other files are intact for them.
-ghost use Rattle.std.specs.Prelude.{◌≡◌, not, map, filter, IfOk, option_and_then, is_none, slice_get, zip};
+ghost use Rattle.std.specs.Prelude.{◌≡◌, not, map, filter, IfOk, option_and_then, slice_get, zip};
 ghost use Rattle.std.specs.BTreeSet.{contains};
 ghost use Rattle.std.specs.Cmp.Lexicographic.{slice_cmp};
 ghost use Rattle.std.specs.List.{IsDistinct};
@@ -46,13 +46,6 @@ impl<'s> Needing<'s> {
         ensures { result ≡ self.now.1 }
     {
         Some(self.found.as_ref()?.copied())
-    }
-
-    /// Whether it has no match.
-    pub fn is_unmatched(&self) -> bool
-        ensures { result ≡ is_none self.now.1 }
-    {
-        self.found.is_none()
     }
 }
 

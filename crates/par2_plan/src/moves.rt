@@ -47,7 +47,7 @@ pub fn unmatched(alloc: Global, needing: &[Needing]) -> Result<BTreeSet<Name>, A
 {
     needing
         .iter()
-        .filter(|needing| needing.is_unmatched())
+        .filter(|needing| needing.found().is_none())
         .map(|needing| needing.target().name().copied())
         .collect(alloc)
 }
