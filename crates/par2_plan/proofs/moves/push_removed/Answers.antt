@@ -1,7 +1,7 @@
-use Rattle.par2_plan.proofs.Common.{◌≡◌, ◌∙◌, ◌+◌, ◌++◌, ◌∷◌, [], List, ℕ, true, false, not, cond, sym, ap, take, append-nil, append_assoc, rules, take_more, Change, Remove, is_among, asides_removed, place_by}
+use Rattle.par2_plan.proofs.Common.{◌≡◌, ◌∙◌, ◌+◌, ◌++◌, ◌∷◌, [], List, ℕ, true, false, not, cond, sym, ap, take, append-nil, append_assoc, rules, take_more, Change, Remove, is_among, files_removed, place_by}
 use Rattle.par2_plan.proofs.Pairs.{removed_push}
-use Rattle.par2_plan.proofs.moves.remove_asides.Goals as goal
-use Rattle.par2_plan.proofs.moves.remove_asides.Goals.{then-not-contains+in_ok-push, else-not-contains}
+use Rattle.par2_plan.proofs.moves.push_removed.Goals as goal
+use Rattle.par2_plan.proofs.moves.push_removed.Goals.{then-not-contains+in_ok-push, else-not-contains}
 
 pub loop-name-preserved : goal.loop-name-preserved
 loop-name-preserved c = λ aside all given put h.
@@ -13,7 +13,7 @@ loop-name-preserved c = λ aside all given put h.
     let test : c.contains.result ≡ is_among given item = c.contains.ensures ∙ h item in
     let old : List Change = c.args.changes.now in
     let list : List Change = c.if-not-contains.changes in
-    let some : List Change = asides_removed (place_by aside all) given before in
+    let some : List Change = files_removed (place_by aside all) given before in
     let step : list ≡ old ++ (some ++ cond (not (is_among given item)) (Remove (place_by aside all item) ∷ []) []) =
     elim c.if-not-contains.branch as (λ _. list ≡ old ++ (some ++ cond (not (is_among given item)) (Remove (place_by aside all item) ∷ []) [])) [
       | then-not-contains+in_ok-push w ↦
@@ -27,4 +27,4 @@ loop-name-preserved c = λ aside all given put h.
           same ∙ c.loop-name.invariant aside all given put h ∙ ap (λ (cs : List Change). old ++ cs) (sym (append-nil some))
           ∙ ap (λ b. old ++ (some ++ cond (not b) (Remove (place_by aside all item) ∷ []) [])) (sym there)
     ] in
-    step ∙ ap (λ (cs : List Change). old ++ cs) (sym (removed_push (λ n. Remove (place_by aside all n)) given before item) ∙ ap (asides_removed (place_by aside all) given) (sym more))
+    step ∙ ap (λ (cs : List Change). old ++ cs) (sym (removed_push (λ n. Remove (place_by aside all n)) given before item) ∙ ap (files_removed (place_by aside all) given) (sym more))
