@@ -1,11 +1,8 @@
 -- The refusal of a create, by its groups of causes.
-use Rattle.par2_plan.proofs.Common.{◌≡◌, ℕ, List, [], ◌∷◌, ◌++◌, length, map, refl, sym, ap, ap₂, ◌∙◌, Bool, true, not, ◌&&◌, Some, nat_lt, ◌==◌, sum_by, list_any, map-map, first_fault, fault_where, fault_at, is_name, is_par_name, slice_count, Folder, File, has, is_slice_size, volume_numbers, CreateArgs, Create, files_of, outputs_of, bad_name, are_counts, Change, effects, are_applicable, create_changes, any-map, Fault, BadSliceSize, BadCount, BadBase, NoInput, NoSuchFile, EmptyFile, TooManySlices, duplicate_input, long_name, there_already, volume_at, output_names, first-append}
-use Rattle.std.proofs.Common.{Option, None}
-use Rattle.par2_spec.specs.Refusals.{head_fault, create_refusal, refusal, early_refusal, after}
-use Rattle.par2_spec.specs.Plans.{changes_of}
+use Rattle.par2_plan.proofs.Common.{◌≡◌, ℕ, List, [], ◌∷◌, ◌++◌, length, map, refl, sym, ap, ap₂, ◌∙◌, Bool, true, not, ◌&&◌, Some, nat_lt, None, ◌==◌, sum_by, list_any, map-map, first_fault, fault_where, fault_at, is_name, is_par_name, slice_count, Folder, File, has, is_slice_size, volume_numbers, CreateArgs, Create, files_of, outputs_of, bad_name, are_counts, head_fault, create_refusal, refusal, early_refusal, after, Change, effects, are_applicable, create_changes, changes_of, any-map, Fault, BadSliceSize, BadCount, BadBase, NoInput, NoSuchFile, EmptyFile, TooManySlices, duplicate_input, long_name, there_already, files_fault, ids_fault, inputs_fault, create_fault, volume_at, output_names, first-append}
+use Rattle.std.proofs.Common.{Option}
 use Rattle.par2_spec.proofs.CreateLaws.{names_of_outputs, create_applies}
 use Rattle.par2_spec.proofs.CommandLaws.{create_leads}
-use Rattle.par2_plan.specs.Faults.{files_fault, ids_fault, inputs_fault, create_fault}
 
 pub behind : {F : Type 0} (x : Option F) (xs ys : List (Option F)) → first_fault xs ≡ first_fault ys → first_fault (x ∷ xs) ≡ first_fault (x ∷ ys)
 behind None xs ys e = e

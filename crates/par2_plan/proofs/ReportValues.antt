@@ -1,10 +1,7 @@
 -- A report by what is found is that of the definitions.
-use Rattle.par2_plan.proofs.Common.{◌≡◌, ◌<◌, ◌≤◌, ℕ, suc, arith, ◌+◌, List, [], ◌∷◌, length, map, refl, sym, ap, ap₂, ◌∙◌, Bool, true, false, not, cond, ◌&&◌, Option, is_none, is_some, filter, flat_map, zip, list_any, enumerate_from, AllByRecursion, recursion_from_All, length-map, map-append, Fault, Pair, found, rank, Folder, bytes_of, has, is_among, names_without_match, ParSet, Target, all_pairs, set_of, is_needing, matches, lost, survivors, candidates, set_in, Complete, State, Report, TargetReport, needing_state, set_in_reads, sound_of, all-append, map-cond, and-false, filter_agree, All-is_member, eq_by_cmp_equiv, nat_cmp_total, on_total, then_total, nat_list_cmp_total, eq_by_cmp, IsFound, targets_found, all-both, all-parts, clash, present_searched, size_positive, sized_from_counted, AreFindings, is_missing, lost_by, pair_cmp, report_by, said_of, sought_pairs, target_report_by}
-use Rattle.std.specs.Prelude.{None}
+use Rattle.par2_plan.proofs.Common.{◌≡◌, ◌<◌, ◌≤◌, ℕ, suc, arith, ◌+◌, List, [], ◌∷◌, length, map, refl, sym, ap, ap₂, ◌∙◌, Bool, true, false, not, cond, ◌&&◌, Option, is_none, is_some, filter, flat_map, zip, list_any, enumerate_from, AllByRecursion, recursion_from_All, filter_agree, length-map, map-append, Fault, Pair, found, rank, Folder, bytes_of, has, is_among, names_without_match, ParSet, Target, all_pairs, set_of, is_needing, matches, lost, survivors, candidates, known, set_in, Complete, State, Report, TargetReport, needing_state, IsFound, state_of, report_of_target, report_of, report_in, set_in_reads, sound_of, present_searched, size_positive, sized_from_counted, all-append, map-cond, all-both, all-parts, and-false, All-is_member, eq_by_cmp_equiv, nat_cmp_total, on_total, then_total, nat_list_cmp_total, eq_by_cmp, targets_found, clash, AreFindings, is_missing, lost_by, pair_cmp, report_by, said_of, sought_pairs, target_report_by}
+use Rattle.std.specs.Prelude.{None, Some, Ok, Err}
 use Rattle.par2_spec.proofs.ReportLaws.{by_target}
-use Rattle.std.specs.Prelude.{Some, Ok, Err}
-use Rattle.par2_spec.specs.Search.{known}
-use Rattle.par2_spec.specs.Reports.{state_of, report_of_target, report_of, report_in}
 use Rattle.par2_plan.specs.declared.finding.Findings.{Findings}
 
 -- ---- a slice is missing exactly where it isn't found

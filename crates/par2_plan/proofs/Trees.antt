@@ -1,14 +1,13 @@
 -- Trees that are made of lists.
-use Rattle.par2_plan.proofs.Common.{◌≡◌, ℕ, List, [], ◌∷◌, map, refl, sym, ap, ap₂, ◌∙◌, ◌&&◌, ◌||◌, Bool, true, false, cond, subst, is_none, filter, zip, option_map, find, Option, list_any, bytes_eq, BTreeMap, HoldsAsides, Pair, Target, Window, padded_window, padded_windows, itself, same_name, same_either_way, AreDistinct, std_from_distinct, is_among, map-map, BTreeSet, IsFromIterResult, IsEquivalence, eq_by_cmp_equiv, slice_cmp, nat_list_cmp_total, option_and_then, eq_by_cmp, nat_cmp, update_all_none, update_all_pairs, clash, kept, match_of, pair_cmp}
-use Rattle.std.specs.Prelude.{None}
-use Rattle.std.specs.BTreeMap as trees
+use Rattle.par2_plan.proofs.Common.{◌≡◌, ℕ, List, [], ◌∷◌, map, refl, sym, ap, ap₂, ◌∙◌, ◌&&◌, ◌||◌, Bool, true, false, cond, subst, is_none, filter, zip, option_map, find, Option, list_any, bytes_eq, BTreeMap, HoldsAsides, Pair, Target, Window, padded_window, padded_windows, itself, same_name, same_either_way, AreDistinct, std_from_distinct, clash, kept, is_among, map-map, BTreeSet, IsFromIterResult, IsEquivalence, eq_by_cmp_equiv, slice_cmp, nat_list_cmp_total, option_and_then, eq_by_cmp, nat_cmp, update_all_none, update_all_pairs, match_of, pair_cmp}
+use Rattle.std.specs.Prelude.{None, Some}
 use Rattle.std.specs.Map.{lookup, update_all}
-use Rattle.std.specs.Prelude.{Some}
 use Rattle.std.proofs.lemmas.Map.Lookups.{exact_bytes, exact_pairs, exact_unsigned}
 use Rattle.std.proofs.lemmas.Map.Text.{is_eq-slice_cmp}
 use Rattle.std.proofs.lemmas.Map.Views.{tells_apart}
 use Rattle.par2_sets.specs.Asides.{HoldsNames}
 use Rattle.par2_plan.proofs.SliceLists.{heads}
+use Rattle.std.specs.BTreeMap as trees
 
 member_among : (names : List (List ℕ)) (q : List ℕ) → list_any (eq_by_cmp (slice_cmp nat_cmp) q) names ≡ is_among names q
 member_among [] q = refl

@@ -1,7 +1,7 @@
 -- The packets of a volume, whose MD5s are put in.
 use Rattle.par2_plan.proofs.Common.{◌≡◌, ℕ, ◌+◌, ◌-◌, ◌*◌, ◌≤◌, List, [], ◌++◌, length, take, drop, sym, ap, ap₂, ◌∙◌, arith, append-nil, length-append, flat_map, range_with_len, take_at, drop_at, take_all, drop_all, length-drop, flat_map-map, packet, packet_of, recovery_bytes, Recovery, ArePieces, undigested, digested, length-pieces, length-undigested, Parts, HasSlices, inputs_of, packets_between, slice_of}
-use borrow.Rule.Slice.PartMut.{put_mid}
 use Rattle.par2_spec.proofs.WrittenSets.{recovery_length}
+use borrow.Rule.Slice.PartMut.{put_mid}
 
 pub length-slice : (parts : Parts) → HasSlices parts → (e : ℕ) → length (slice_of parts e) ≡ parts.set.now.slice
 length-slice parts can e = recovery_length parts.set.now.slice (inputs_of parts) e (omega (arith, can.fours))

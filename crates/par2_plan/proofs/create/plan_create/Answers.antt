@@ -1,11 +1,11 @@
-use Rattle.par2_plan.proofs.Common.{◌≡◌, ◌∙◌, ◌∷◌, inr, refl, sym, ap, ap₂, subst, true, Some, Err, List, ℕ, map, string_bytes, is_par_name, err_from_is_err_and, Folder, Create, CreateArgs, bad_name, early_refusal, refusal, create_args_of, Fault, Volume, long_name, there_already, inputs_fault, volumes_of, names_of, output_names, refused_early}
-use Rattle.std.proofs.Common.{Option, None}
+use Rattle.par2_plan.proofs.Common.{◌≡◌, ◌∙◌, ◌∷◌, inr, refl, sym, ap, ap₂, subst, true, Some, Err, List, ℕ, map, string_bytes, None, is_par_name, err_from_is_err_and, Folder, Create, CreateArgs, bad_name, early_refusal, refusal, create_args_of, Fault, Volume, long_name, there_already, inputs_fault, volumes_of, names_of, output_names, refused_early}
+use Rattle.std.proofs.Common.{Option}
 use Rattle.par2_plan.proofs.GoodWords.{head_passed}
 use Rattle.par2_plan.proofs.VolumeNumbers.{long_without_base}
 use Rattle.par2_plan.proofs.RefusalGroups.{early_by, refused_by, are_planned, apply_in_order, lead_to_folder}
-use Rattle.par2_plan.proofs.PassedAnswers as passed
 use Rattle.par2_plan.proofs.PassedAnswers.{answered_so, never_found}
 use Rattle.par2_plan.proofs.create.plan_create.Goals.{In-Some, After-set_of_inputs, After-there_already}
+use Rattle.par2_plan.proofs.PassedAnswers as passed
 use Rattle.par2_plan.proofs.create.plan_create.Goals as goal
 
 -- a word is bad: that is answered before memory is wanted

@@ -1,4 +1,4 @@
-use Rattle.par2_plan.proofs.Common.{◌≡◌, ◌∙◌, ◌&&◌, List, ℕ, map, sym, ap, ap₂, subst, filter, flat_map, is_none, Option, list_any, bytes_of, found, is_among, Pair, Target, is_needing, matches, names_without_match, AreDistinct, distinct_from_std, padded_windows, texts_of, filter_agree, slice_cmp, eq_by_cmp, nat_cmp, distinct_some, pair_cmp, sought_pairs}
+use Rattle.par2_plan.proofs.Common.{◌≡◌, ◌∙◌, ◌&&◌, List, ℕ, map, sym, ap, ap₂, subst, filter, flat_map, is_none, Option, list_any, bytes_of, found, is_among, Pair, Target, is_needing, matches, names_without_match, AreDistinct, distinct_from_std, distinct_some, padded_windows, texts_of, filter_agree, slice_cmp, eq_by_cmp, nat_cmp, pair_cmp, sought_pairs}
 use Rattle.std.specs.BTreeMap.{IsFromIterResult}
 use Rattle.par2_plan.proofs.RepairParts.{names_in_pairs}
 use Rattle.par2_plan.proofs.Trees.{by_name, holds_matches, missing_among}

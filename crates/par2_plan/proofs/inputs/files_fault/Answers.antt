@@ -1,4 +1,5 @@
-use Rattle.par2_plan.proofs.Common.{◌≡◌, ◌+◌, ◌∙◌, ap, sym, refl, arith, true, false, Some, None, EmptyFile}
+use Rattle.par2_plan.proofs.Common.{◌≡◌, ◌+◌, ◌∙◌, ap, sym, refl, arith, true, false, Some, EmptyFile}
+use Rattle.std.specs.Prelude.{None}
 use Rattle.par2_plan.proofs.Places.{files_by}
 use Rattle.par2_plan.proofs.inputs.files_fault.Goals as goal
 

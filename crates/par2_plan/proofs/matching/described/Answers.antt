@@ -1,6 +1,6 @@
 use Rattle.par2_plan.proofs.Common.{◌≡◌, List, [], ◌∷◌, ℕ, Bor, map, ap, sym, rules, IfOk-weaker, Pair, Target, Describe, YieldsList-from_map_by, YieldsList-from_slice, map_from_collect}
-use Rattle.par2_slices.specs.declared.matching.Target as search
 use Rattle.par2_plan.proofs.SliceLists.{heads}
+use Rattle.par2_slices.specs.declared.matching.Target as search
 use Rattle.par2_plan.proofs.matching.described.Goals as goal
 
 describe : (xs : List search.Target) (ts : List (Bor Target)) → ◌≡◌ {A = List (ℕ × List Pair)} (map (λ x. (x.length, x.pairs.now)) xs) (map (λ t. (t.now.length, t.now.pairs)) ts) → Describe xs (map (λ t. t.now) ts)

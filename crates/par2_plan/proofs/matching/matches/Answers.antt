@@ -1,4 +1,4 @@
-use Rattle.par2_plan.proofs.Common.{◌≡◌, ◌∙◌, Bool, Bor, List, ℕ, map, not, sym, ap, ap₂, subst, filter, zip, Option, bytes_of, is_among, Target, is_needing, needing, intact_names, matched_numbers, Describe, texts_of, filter_agree, option_and_then, slice_get}
+use Rattle.par2_plan.proofs.Common.{◌≡◌, ◌∙◌, Bool, Bor, List, ℕ, map, not, sym, ap, ap₂, subst, filter, zip, Option, slice_get, bytes_of, is_among, Target, is_needing, needing, intact_names, matched_numbers, Describe, texts_of, filter_agree, option_and_then}
 use Rattle.par2_plan.proofs.MatchNumbers.{passed, left_out, matches_by_numbers, free_by}
 use Rattle.par2_plan.proofs.matching.matches.Goals as goal
 

@@ -1,4 +1,4 @@
-use Rattle.par2_plan.proofs.Common.{◌≡◌, ◌∙◌, List, [], ◌∷◌, ℕ, Bor, map, ap, refl, rules, zip, Option, IfOk-weaker, Target, option_and_then, slice_get, YieldsList-from_map, YieldsList-from_slice, YieldsList-from_zip, items_from_collect, YieldsList-at}
+use Rattle.par2_plan.proofs.Common.{◌≡◌, ◌∙◌, List, [], ◌∷◌, ℕ, Bor, map, ap, refl, rules, zip, Option, slice_get, IfOk-weaker, Target, option_and_then, YieldsList-from_map, YieldsList-from_slice, YieldsList-from_zip, items_from_collect, YieldsList-at}
 use Rattle.par2_plan.proofs.matching.with_matches.Goals as goal
 
 abbrev with_name : List (List ℕ) → Bor Target × Option ℕ → Target × Option (List ℕ)

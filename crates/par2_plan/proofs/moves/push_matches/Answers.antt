@@ -1,6 +1,6 @@
 use Rattle.par2_plan.proofs.Common.{◌≡◌, ◌∙◌, ◌+◌, ◌++◌, ◌∷◌, [], List, ℕ, sym, ap, ap₂, take, append-nil, append_assoc, Option, option_map, cons_option, filter_map-append, take_more, Change, Rename, Target, matches_taken, place_by}
-use Rattle.par2_plan.proofs.moves.push_matches.Goals as goal
 use Rattle.par2_plan.proofs.moves.push_matches.Goals.{in-Some+in_ok-push, in_default}
+use Rattle.par2_plan.proofs.moves.push_matches.Goals as goal
 
 pub loop-needing-preserved : goal.loop-needing-preserved
 loop-needing-preserved c = λ aside all h.

@@ -1,7 +1,7 @@
 use Rattle.par2_plan.proofs.Common.{◌≡◌, ◌∙◌, ◌+◌, ◌++◌, ◌∷◌, [], List, ℕ, true, false, not, cond, sym, ap, take, append-nil, append_assoc, rules, take_more, Change, Remove, is_among, files_removed, place_by}
 use Rattle.par2_plan.proofs.Pairs.{removed_push}
-use Rattle.par2_plan.proofs.moves.push_removed.Goals as goal
 use Rattle.par2_plan.proofs.moves.push_removed.Goals.{then-not-contains+in_ok-push, else-not-contains}
+use Rattle.par2_plan.proofs.moves.push_removed.Goals as goal
 
 pub loop-name-preserved : goal.loop-name-preserved
 loop-name-preserved c = λ aside all given put h.

@@ -1,10 +1,9 @@
-use Rattle.par2_plan.proofs.Common.{◌≡◌, ◌<◌, ◌≤◌, ◌++◌, ◌∷◌, [], ◌∙◌, ◌||◌, List, Bool, true, false, cond, length, sym, ap, ap₂, subst, append-nil, rules, Some, arith, lt-ltb, le-ltb, err_from_is_err_and, Fault, NameTooLong, fault_where, volumes_before, long_name, volume_at, volumes_of, names_of, Volume}
-use Rattle.std.proofs.Common.{None}
+use Rattle.par2_plan.proofs.Common.{◌≡◌, ◌<◌, ◌≤◌, ◌++◌, ◌∷◌, [], ◌∙◌, ◌||◌, List, Bool, true, false, cond, length, sym, ap, ap₂, subst, append-nil, rules, Some, arith, None, lt-ltb, le-ltb, err_from_is_err_and, Fault, NameTooLong, fault_where, volumes_before, long_name, volume_at, volumes_of, names_of, Volume}
 use Rattle.par2_plan.proofs.PassedAnswers.{refused_by}
 use Rattle.par2_plan.proofs.VolumeNumbers.{volumes_below, volumes_more, none_long, one_is_long}
 use Rattle.par2_plan.proofs.names.volumes.Goals.{then-volumes_before-count+in_ok-volume_at+in_ok-push, else-volumes_before-count}
-use Rattle.par2_plan.proofs.names.volumes.Goals as goal
 use Rattle.std.specs.Prelude.{nat_lt}
+use Rattle.par2_plan.proofs.names.volumes.Goals as goal
 
 pub loop-i-preserved : goal.loop-i-preserved
 loop-i-preserved c =

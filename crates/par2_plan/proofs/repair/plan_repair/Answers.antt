@@ -1,4 +1,4 @@
-use Rattle.par2_plan.proofs.Common.{◌≡◌, List, map, string_bytes, IsTrue, Change, effects, are_applicable, Repair, changes_of, AreFewFor, refusal, after, RepairFailed, HasItsMd5s, WritesAsDescribed, None}
+use Rattle.par2_plan.proofs.Common.{◌≡◌, List, map, string_bytes, IsTrue, None, Change, effects, are_applicable, Repair, changes_of, AreFewFor, refusal, after, RepairFailed, HasItsMd5s, WritesAsDescribed}
 use Rattle.par2_plan.proofs.PassedAnswers.{passed, not_passed}
 use Rattle.par2_plan.proofs.repair.plan_repair.Goals as goal
 
