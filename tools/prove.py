@@ -10,12 +10,14 @@ nothing is taken and nothing is kept, which is how to measure. The program is bu
 builds it by a second one too and compares, so a program that was built here isn't kept for it.
 
 The gate's own order fits many proofs, tests and edits; here one chain of libraries decides when the program is there.
-So this loads the command rt as a module and has it use another order (`in_lanes`): a crate on the longest chain, or on
-one that is nearly as long, has up to four processes, the others have one, and where both want a processor the chain
-comes first (nice). RT_JOBS says how many processors there are to use. A line of progress says which crate was proved,
-how many are left, and about how long they take, by tools/seconds.txt and by how fast this run has been so far.
+So this loads the command rt as a module and has it use another order (`in_lanes`). The shorter the chain that waits
+for a crate is beside the longest one, the nicer its processes are to the others. An urgent crate begins wherever
+memory holds it, and up to four processes share its proof; any other has one, and waits for a processor. RT_JOBS says
+how many processors there are to use. A line of progress says which crate was proved, how many are left, and about how
+long they take, by tools/seconds.txt and by how fast this run has been so far.
 """
 import contextlib
+import math
 import os
 import re
 import shutil
@@ -29,8 +31,9 @@ import rt_module
 DEFAULT = "x86-64-v2"
 # The most processes that share a proof, what sharing costs, and the part of a proof that can't be shared.
 SHARERS, SHARING, ALONE = 4, 1.1, 0.3
-# A chain of this part of the longest is as urgent, and what isn't urgent is as nice as this.
-NEARLY, NICE = 0.9, 5
+# How nice a crate's processes are: none for the longest chain, 5 for one of four fifths, 19 for one of half. What is nicer
+# than `URGENT` has one process, so that there is memory for what is urgent.
+STEEP, NICEST, URGENT = 25, 19, 12
 TOP = os.path.join(os.path.dirname(os.path.realpath(__file__)), "..")
 
 
@@ -123,9 +126,9 @@ def in_lanes(clock, memory, say):
     def lanes(tasks):
         given, running, turn = {}, {}, threading.Condition()
 
-        def work(key, jobs, is_first):
+        def work(key, jobs, nice):
             with contextlib.suppress(OSError):
-                os.setpriority(os.PRIO_PROCESS, threading.get_native_id(), 0 if is_first else NICE)
+                os.setpriority(os.PRIO_PROCESS, threading.get_native_id(), nice)
             result = False
             try:
                 result = tasks[key][3](dict(given), jobs)
@@ -140,7 +143,7 @@ def in_lanes(clock, memory, say):
                     turn.notify_all()
 
         def next_one():
-            """Returns a task that can begin, and how many jobs it gets, or None."""
+            """Returns a task that can begin, how many jobs it gets and how nice it is, or None."""
             waiting = [it for it in tasks if it not in given and it not in running]
             ready = [it for it in waiting if all(below in given for below in tasks[it][0])]
             ready.sort(key=lambda it: (it[1] == "proof", -chains[it[0]]))
@@ -149,14 +152,14 @@ def in_lanes(clock, memory, say):
             room = memory - sum(running.values())
             for key in ready:
                 if key[1] != "proof":
-                    return key, 1, False
-                is_first = chains[key[0]] >= NEARLY * longest
-                jobs = min(SHARERS, clock.processors) if is_first else 1
+                    return key, 1, 0
+                nice = min(NICEST, round(STEEP * math.log(longest / chains[key[0]])))
+                jobs = min(SHARERS, clock.processors) if nice <= URGENT else 1
                 while jobs > 1 and tasks[key][2] * (1 + 0.6 * (jobs - 1)) > room:
                     jobs -= 1
-                # (the chain's proof and one for each processor, where the chain's waits for its own processes)
-                if not proofs or (len(proofs) < clock.processors and tasks[key][2] <= room):
-                    return key, jobs, is_first
+                has_room = tasks[key][2] <= room and (nice <= URGENT or len(proofs) < clock.processors)
+                if not proofs or has_room:
+                    return key, jobs, nice
                 break
             return None
 
@@ -166,11 +169,11 @@ def in_lanes(clock, memory, say):
                 if not begins:
                     turn.wait()
                     continue
-                key, jobs, is_first = begins
+                key, jobs, nice = begins
                 running[key] = tasks[key][2] * (1 + 0.6 * (jobs - 1)) if key[1] == "proof" else 0
                 if key[1] == "proof":
                     clock.begun[key[0]] = time.time()
-                threading.Thread(target=work, args=(key, jobs, is_first), daemon=True).start()
+                threading.Thread(target=work, args=(key, jobs, nice), daemon=True).start()
         return given
 
     return lanes

@@ -6,10 +6,9 @@ ghost use Rattle.std.specs.IoError.{error_kind};
 ghost use Rattle.std.specs.Vec.Iter.{into_iter_items};
 
 use par2_folder::DiskStore;
-use par2_headline::run;
 use par2_printing::Printer;
 use par2_spec::{Failure, Fault};
-use par2_tool::fail;
+use par2_tool::{fail, run};
 use std::alloc::{AllocError, Global};
 use std::env::Args;
 use std::io::ErrorKind;

@@ -14,7 +14,7 @@ pub use Rattle.std.specs.FinMap.{entries_sorted, get-entries, is_sorted}
 pub use Rattle.std.specs.List.{AllByRecursion, Contains, enumerate_from, list_all, list_any, range_with_len, slice_index_or}
 unfoldable pub use Rattle.std.specs.List.{IsDistinct}
 pub use Rattle.std.specs.Ordering.{eq_by_cmp, is_eq, is_lt, nat_cmp}
-pub use Rattle.std.specs.Prelude.{Err, IsPermutation, IsTrue, Result, bit_xor, filter, filter_map, find, flat_map, fold, if◌then◌else◌, is_some, nat_le, nat_lt, ok_or, option_and_then, option_map, slice_get, sum_by, ◌==◌}
+pub use Rattle.std.specs.Prelude.{Err, IfOk, IsPermutation, IsTrue, OnOk, Result, bit_xor, filter, filter_map, find, flat_map, fold, if◌then◌else◌, is_some, nat_le, nat_lt, ok_or, option_and_then, option_map, slice_get, sum_by, ◌==◌}
 pub use Rattle.std.specs.Str.{bytes_eq}
 pub use Rattle.md5.proofs.StandardFacts.{length-md5}
 pub use Rattle.md5.specs.Md5.{md5}
@@ -36,10 +36,12 @@ pub use Rattle.par2_spec.proofs.TestLaws.{T-parts, all_none, at_none, by_either,
 pub use Rattle.par2_spec.proofs.WrittenSets.{desc_reads, ifsc_reads, index_reads, main_reads, recovery_slices_read}
 pub use Rattle.par2_spec.specs.Checksums.{IsPair, Pair, crc_byte, crc_step, crc_steps, pair_of}
 unfoldable pub use Rattle.par2_spec.specs.Checksums.{crc32}
-pub use Rattle.par2_spec.specs.Commands.{Create, CreateArgs, Repair, files_of, outputs_of}
+pub use Rattle.par2_spec.specs.Commands.{Action, Command, Create, CreateArgs, Do, Repair, files_of, outputs_of}
 pub use Rattle.par2_spec.specs.Faults.{fault_at, fault_where, first_fault}
 pub use Rattle.par2_spec.specs.Folders.{File, Folder, IsFolder, bytes_of, files, has, without}
 unfoldable pub use Rattle.par2_spec.specs.Folders.{laid_over}
+pub use Rattle.par2_spec.specs.History.{History, after_undo, folders, in_front, unless_refused}
+unfoldable pub use Rattle.par2_spec.specs.History.{history_after}
 pub use Rattle.par2_spec.specs.Names.{distinct, is_among, is_name, is_par_name}
 pub use Rattle.par2_spec.specs.Packets.{DescBody, IfscBody, MainBody, Packet, RecoveryBody, accepted, begins_with_packet, claimed_length, packet}
 unfoldable pub use Rattle.par2_spec.specs.Packets.{accepted_after, first_packet, read_desc, read_ifsc, read_main, read_recovery}

@@ -5,3 +5,5 @@ mod SetsOfFiles
 mod VolumePackets
 mod VolumeFolders
 mod Damage
+pub mod RepairAnswers
+pub mod UndoneFolders

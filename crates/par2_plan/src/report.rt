@@ -109,14 +109,16 @@ fn state_of(folder: &Folder, target: &Target, needs: bool, found: Option<Name>) 
 
 // How many of these slices are not missing.
 fn count_found(pairs: &[Pair], missing: &BTreeSet<Pair>) -> usize
-    ensures { result ≡ length (filter (λ pair. not (contains pair_cmp missing.now pair)) pairs.now) }
+    ensures { result
+        ≡ length (filter (λ pair. not (contains pair_cmp missing.now pair)) pairs.now) }
 {
     pairs.iter().filter(|pair| !missing.contains(*pair)).count()
 }
 
 // What is said of a target.
 fn target_report(folder: &Folder, target: &Target, needs: bool, findings: &Findings) -> TargetReport
-    ensures { target_report_of result ≡ said_of folder.now.files findings.now (target.now, needs) }
+    ensures { target_report_of result
+        ≡ said_of folder.now.files findings.now (target.now, needs) }
 {
     TargetReport {
         name: target.name().copied(),

@@ -1,3 +1,2 @@
 mod Common
-pub mod RepairAnswers
 pub mod UndoRuns

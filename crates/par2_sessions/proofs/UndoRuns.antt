@@ -1,10 +1,11 @@
 -- Undos, one after the other, lead through the older folders.
-use Rattle.par2_sessions.proofs.Common.{◌≡◌, ◌≢◌, ◌∙◌, ℕ, suc, ◌+◌, ◌-◌, ◌<◌, List, [], ◌∷◌, ◌++◌, drop, replicate, Result, Ok, sym, ap, subst, add-one, arith, ◌↔◌, IsErr, IsTrue, OnOk, Action, Undo, Folder, History, Run, Ended, Accepted, Passed, after_undo, folders, history_after, is_valid, LeadsToAfterAsked, KeptSession, Session, session_of_kept, session_with, kept_undone, folders_along, history_of, session_after, changes_asked}
+use Rattle.par2_sessions.proofs.Common.{◌≡◌, ◌≢◌, ◌∙◌, ℕ, suc, ◌+◌, ◌-◌, ◌<◌, List, [], ◌∷◌, ◌++◌, drop, replicate, Result, Ok, sym, ap, subst, add-one, arith, ◌↔◌, IsErr, IsTrue, OnOk, Action, Undo, Folder, History, Run, Ended, Accepted, Passed, after_undo, folders, history_after, LeadsToAfterAsked, KeptSession, Session, session_of_kept, session_with, kept_undone, folders_along, history_of, session_after, changes_asked, GoesAlong}
+use Rattle.par2_spec.specs.Opening.{is_valid}
 use Rattle.std.proofs.lemmas.Bool.{false≢true}
 use Rattle.std.proofs.lemmas.List.{replicate_more}
 use Rattle.par2_spec.specs.Changes.{Change}
 use Rattle.par2_journal.specs.Ready.{next_of}
-use Rattle.par2_sessions.proofs.RepairAnswers.{GoesAlong}
+use Rattle.par2_laws.proofs.UndoneFolders.{one_fewer}
 use Rattle.par2_spec.proofs.SessionLaws.{none_dropped}
 
 -- the laws that a session goes where its history goes, and a kept session where the session goes
@@ -35,10 +36,6 @@ one_more : (h mid end : History) (n : ℕ) → Run h (replicate n Undo) n mid �
 one_more h mid end n run step =
     subst (λ actions. Run h actions (n + 1) end) (replicate_more n Undo)
     (subst (λ k. Run h (replicate n Undo ++ Undo ∷ []) k end) (sym (add-one n)) (run_on Undo run step))
-
--- an accepted undo leaves one folder fewer
-pub one_fewer : (m : ℕ) (now : Folder) (older newer fs : List Folder) (next : History) → after_undo now older newer ≡ Ok next → drop (suc m) (now ∷ older) ≡ fs → drop m (folders next) ≡ fs
-one_fewer m now older newer fs next step left = grind arith
 
 module _ (laws : AreLaws) (start end : History) (old new : KeptSession) (n i : ℕ) (more : i < n) (way : IsOnTheWay start end old n i) where
   left : ℕ

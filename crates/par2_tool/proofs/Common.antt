@@ -1,9 +1,11 @@
 -- The names that proofs of this crate take from elsewhere.
 
-pub use Rattle.std.proofs.Common.{Bool, Err, IsTrue, List, None, Ok, Option, Result, Some, Vec, [], ap, arith, false, get_or, inl, inr, length, map, refl, rules, subst, suc, sym, take, true, true≢false, zero, ℕ, ◌++◌, ◌+◌, ◌<◌, ◌∙◌, ◌∷◌, ◌≡◌, ◌≢◌, ◌≤◌, ◌⊎◌}
+pub use Rattle.std.proofs.Common.{Bool, Err, IsTrue, List, None, Ok, Option, Result, Some, Vec, [], ap, arith, drop, false, get_or, inl, inr, length, map, refl, replicate, rules, subst, suc, sym, take, true, true≢false, zero, ℕ, ◌++◌, ◌+◌, ◌<◌, ◌∙◌, ◌∷◌, ◌≡◌, ◌≢◌, ◌≤◌, ◌⊎◌}
 pub use Rattle.std.proofs.lemmas.Bool.{and_parts, false≢true}
-pub use Rattle.std.proofs.lemmas.List.{length-map, map_more, take-map, take_all}
+pub use Rattle.std.proofs.lemmas.List.{length-map, length-replicate, map_more, take-map, take_all}
+pub use Rattle.std.proofs.lemmas.Option.{same_Some}
 pub use Rattle.std.proofs.lemmas.Result.{err_from_is_err_and, on_err_weaker, on_ok_weaker}
+pub use Rattle.std.specs.List.{AllByRecursion}
 pub use Rattle.std.specs.Prelude.{IfErr, IfOk, IsErr, OnErr, OnOk, codes, flat_map, is_some, option_map, string_bytes}
 pub use Rattle.std.specs.declared.alloc.Global.{Global}
 pub use Rattle.par2_folder.specs.Views.{change_of}
@@ -12,8 +14,9 @@ pub use Rattle.par2_journal.specs.Ready.{CanBe, Changing, IsReady, Kind, Ready, 
 pub use Rattle.par2_journal.specs.Refusals.{MayRefuse}
 pub use Rattle.par2_journal.specs.Spelling.{AreSpelled, SpellsWhere}
 pub use Rattle.par2_journal.specs.Steps.{step_view}
-pub use Rattle.par2_journal.specs.declared.preparation.SessionFault.TheVariants.{NothingToRedo, NothingToUndo, Plan}
+pub use Rattle.par2_journal.specs.declared.preparation.SessionFault.TheVariants.{Plan}
 pub use Rattle.par2_journal.specs.declared.spelling.Journals.{Journals}
+pub use Rattle.par2_laws.specs.Creates.{may_refuse}
 pub use Rattle.par2_plan.specs.Views.{report_of, target_report_of}
 pub use Rattle.par2_printing.specs.Writing.{TookAll, Wrote, seen}
 pub use Rattle.par2_spec.proofs.SessionLaws.{accepted_next, done_can_walk, grown_can_walk, ok_no_err, redone_can_walk, refused_alike, same_ok, same_session, undone_can_walk, walked_is_valid}
@@ -22,8 +25,10 @@ pub use Rattle.par2_spec.proofs.TestLaws.{by_either}
 pub use Rattle.par2_spec.proofs.WritingLaws.{part_behind, shown_lines_cut, shown_lines_next, took_both, wrote_less, wrote_then}
 pub use Rattle.par2_spec.specs.Changes.{Change, FolderState, are_applicable, takes_all}
 unfoldable pub use Rattle.par2_spec.specs.Changes.{effects}
-pub use Rattle.par2_spec.specs.Commands.{Action, Command, Do, Verify}
+pub use Rattle.par2_spec.specs.Commands.{Action, Command, Do, Repair, Undo, Verify}
 pub use Rattle.par2_spec.specs.Folders.{Folder}
+pub use Rattle.par2_spec.specs.History.{Accepted, Ended, History, IsChanging, Passed, Refusal, Run, folders}
+unfoldable pub use Rattle.par2_spec.specs.History.{history_after}
 pub use Rattle.par2_spec.specs.Journals.{Journal, Spells}
 pub use Rattle.par2_spec.specs.Opening.{Halfway, Opened, Settled, Started, TellsApart, halfway_where, is_valid, new_session, opened, settled_journal, started}
 unfoldable pub use Rattle.par2_spec.specs.Opening.{Opens, OpensAs, journals_of, leads}
@@ -32,25 +37,28 @@ pub use Rattle.par2_spec.specs.Refusals.{set_in}
 unfoldable pub use Rattle.par2_spec.specs.Refusals.{refusal}
 pub use Rattle.par2_spec.specs.Reports.{Report, verdict_of}
 unfoldable pub use Rattle.par2_spec.specs.Reports.{report_in}
-pub use Rattle.par2_spec.specs.Sessions.{CanWalk, KeptSession, OnlyGrew, Session, changes_unless, history_of, session_of_kept, session_unless, session_with}
-unfoldable pub use Rattle.par2_spec.specs.Sessions.{changes_asked, kept_done, kept_redone, kept_undone, session_after}
+pub use Rattle.par2_spec.specs.Sessions.{CanWalk, KeptSession, OnlyGrew, Session, changes_unless, session_of_kept, session_unless, session_with}
+unfoldable pub use Rattle.par2_spec.specs.Sessions.{changes_asked, history_of, kept_done, kept_redone, kept_undone, session_after}
 pub use Rattle.par2_spec.specs.Stores.{Contents, with_change, with_journal}
-pub use Rattle.par2_spec.specs.Texts.{Outcome, line, status_of, step_line, target_line, verdict_text}
-unfoldable pub use Rattle.par2_spec.specs.Texts.{output_of, report_text}
+pub use Rattle.par2_spec.specs.Texts.{Outcome, line, step_line, target_line, verdict_text}
+unfoldable pub use Rattle.par2_spec.specs.Texts.{output_of, report_text, status_of, status_of_failure, status_of_fault}
 pub use Rattle.par2_spec.specs.Views.{action_of, command_of}
+pub use Rattle.par2_spec.specs.declared.Failure.{Failure}
+pub use Rattle.par2_spec.specs.declared.Failure.TheVariants.{Arguments, FolderChanged, JournalInvalid, NothingToRedo, NothingToUndo, Refused, Store}
 pub use Rattle.par2_spec.specs.declared.Fault.{Fault}
-pub use Rattle.par2_spec.specs.declared.Fault.TheVariants.{Memory}
+pub use Rattle.par2_spec.specs.declared.Fault.TheVariants.{Memory, NotRepairable, RepairFailed}
 pub use Rattle.par2_spec.specs.declared.JournalFault.{JournalFault}
-pub use Rattle.par2_spec.specs.declared.JournalFault.TheVariants.{FolderChanged, JournalInvalid}
 pub use Rattle.par2_spec.specs.declared.Version.TheVariants.{Two}
-pub use Rattle.par2_tool.specs.Calls.{AreAtMost, AreCallsToOpen, AreCallsToRun, CountsCalls, CountsFailedRun, CountsOpening, IsCalled, calls_asked, calls_to_write, calls_unless}
-pub use Rattle.par2_tool.specs.Holding.{HasJournalOf, Holds, IsOpening, IsSettled, OpensAsBefore, OpensAsBeforeOrAfter, TellsApartAlong, TellsApartBack, with_history}
-pub use Rattle.par2_tool.specs.Opening.{IsCounted, IsOpened, IsRead, IsStillHalfway, IsTakenBack, IsUnopened, LeavesUnopened, StandsFor, TakesBack, started_of}
+pub use Rattle.par2_tool.specs.Asking.{AskFor}
+pub use Rattle.par2_tool.specs.Calls.{AreAtMost, AreCallsToOpen, AreCallsToRun, CountsCalls, CountsFailedRun, CountsOpening, CountsRefusedRun, IsCalled, IsHalfway, calls_asked, calls_to_write, calls_unless}
+pub use Rattle.par2_tool.specs.Holding.{HasJournalOf, Holds, IsOpening, IsSettled, OpensAsBefore, OpensAsBeforeOrAfter, TellsApartAlong, TellsApartBack, TellsApartInRun, with_history}
+pub use Rattle.par2_tool.specs.Opening.{IsCounted, IsOpened, IsRead, IsStillHalfway, IsTakenBack, IsUnopened, LeavesUnopened, OnlyTakesBack, StandsFor, TakesBack, started_of}
 pub use Rattle.par2_tool.specs.Performing.{AreSomeMade, HoldsJournaled, IsAnswer, IsReport, IsStoppedAt, IsVerify, IsWritten, after_write_down, outcome_of, with_all_changes, with_halfway}
 pub use Rattle.par2_tool.specs.Refusals.{IsRefused, IsSession, failure_for, unopened_as}
+pub use Rattle.par2_tool.specs.Repairs.{AskForRepair}
+pub use Rattle.par2_tool.specs.Runs.{Effective, HasNoEffect, Runs, TakesEffect}
 pub use Rattle.par2_tool.specs.StoreOpenings.{KeepsStore, Stands, Verifies}
-pub use Rattle.par2_tool.specs.Telling.{Answered, Failed, IsAtTheEnd, IsBack, IsCause, IsDone, IsFailed, IsPrinted, IsRefusedFor, IsStopped, IsUnread, OpensAsBeforeOrAfterRun, SameOutput}
+pub use Rattle.par2_tool.specs.Telling.{Answered, Failed, IsAtTheEnd, IsBack, IsCause, IsDone, IsFailed, IsPrinted, IsRefusedFor, IsShown, IsStopped, IsUnread, Leaves, MakesCalls, OpensAsBeforeOrAfterRun, SameOutput, Telling}
 pub use Rattle.par2_tool.specs.Writing.{AreSomeWritten, IsKept}
 pub use Rattle.par2_tool.specs.declared.opening.OpenFault.{OpenFault}
 pub use Rattle.par2_tool.specs.declared.performing.PerformFault.{PerformFault}
-pub use Rattle.par2_tool.specs.declared.performing.PerformFault.TheVariants.{Store}

@@ -1,9 +1,9 @@
 -- Runs on one store keep one history.
-use Rattle.par2_tool.proofs.Common.{◌≡◌, inl, inr, List, Option, Some, None, Result, Ok, Err, Bool, true, false, refl, sym, ap, subst, ◌∙◌, ℕ, length, arith, Action, Do, Verify, Folder, Opened, Settled, Halfway, Started, opened, new_session, is_valid, started, OpensAs, Opens, leads, Session, history_of, session_unless, session_after, changes_asked, LeadsToAfterAsked, Contents, JournalFault, JournalInvalid, FolderChanged, Journal, Spells, accepted_next, refused_alike, same_ok, ok_no_err, taken_back_leads, IsOpened, IsWritten, IsOpening, IsSettled, Holds, with_history, IsRefusedFor}
-use Rattle.par2_spec.specs.History.{Refusal, Run, history_after}
+use Rattle.par2_tool.proofs.Common.{◌≡◌, inl, inr, List, Option, Some, None, Result, Ok, Err, Bool, true, false, refl, sym, ap, subst, ◌∙◌, ℕ, length, arith, Action, Do, Verify, Folder, Opened, Settled, Halfway, Started, opened, new_session, is_valid, started, OpensAs, Opens, leads, Session, history_of, session_unless, session_after, changes_asked, LeadsToAfterAsked, Contents, JournalFault, Journal, Spells, accepted_next, refused_alike, same_ok, ok_no_err, taken_back_leads, IsOpened, IsWritten, IsOpening, IsSettled, Holds, with_history, IsRefusedFor, Refusal, Run, history_after, HasNoEffect, Runs, Effective, TakesEffect}
+use Rattle.par2_spec.specs.declared.JournalFault.TheVariants.{JournalInvalid, FolderChanged}
 use Rattle.par2_spec.specs.History as history
 use Rattle.par2_spec.specs.declared.JournalFault.TheVariants.{Memory}
-use Rattle.par2_tool.specs.Runs.{HasNoEffect, Runs, Ended, Effective, Passed, TakesEffect}
+use Rattle.par2_tool.specs.Runs.{Ended, Passed}
 use Rattle.par2_tool.proofs.Openings.{settled_on, halfway_by}
 
 -- ---- a store opens in one way

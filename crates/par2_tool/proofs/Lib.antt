@@ -7,3 +7,7 @@ mod Outcomes
 mod Calls
 mod History
 mod UnreadWords
+mod Statuses
+mod RunEffects
+mod UndoneRuns
+mod RunCalls

@@ -9,3 +9,4 @@ pub mod Refusals
 pub mod Asking
 pub mod Telling
 pub mod Runs
+pub mod Repairs

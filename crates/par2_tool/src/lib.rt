@@ -2,6 +2,7 @@
 //! and what comes of it is printed.
 #![tactic(auto)]
 
+mod headline;
 mod laws;
 mod opening;
 mod performing;
@@ -9,7 +10,8 @@ mod printing;
 mod running;
 mod writing;
 
-pub use laws::{runs_keep_one_history, stores_open_in_one_way};
+pub use headline::run;
+pub use laws::{runs_keep_one_history, stores_open_in_one_way, undone_runs_lead_back};
 pub use opening::{OpenFault, Started, open_store};
 pub use par2_journal::{Report, Session, SessionFault, State, Step, Steps, TargetReport};
 pub use par2_printing::Printer;
@@ -17,4 +19,3 @@ pub use par2_spec::{Action, Command, CreateArgs, Failure, Fault};
 pub use par2_words::{WordsFault, read_words};
 pub use performing::{Outcome, PerformFault, perform};
 pub use printing::fail;
-pub use running::run;

@@ -28,7 +28,7 @@ fn is_back(command: &Command) -> bool
 /// A run of the program: the words are read, the store is opened, what they ask for is performed on it, and what
 /// comes of it is printed on one of the two writers. Answers the status. What is said of the store's contents holds
 /// where it is honest. What a power cut leaves at any moment opens as before the run or as after it.
-pub fn run<S: FolderStore, O: Write, E: Write>(
+pub(crate) fn run<S: FolderStore, O: Write, E: Write>(
     alloc: Global,
     words: &[String],
     store: &mut S,

@@ -1,11 +1,11 @@
 use Rattle.par2_spec.proofs.TestLaws.{by_either}
-use Rattle.par2_sessions.proofs.Common.{◌≡◌, ◌∙◌, Some, map, string_bytes, sym, ap, subst, AllByRecursion, Repair, Folder, AreFewFor, after, session_of_kept, OnOk}
+use Rattle.par2_sessions.proofs.Common.{◌≡◌, ◌∙◌, Some, map, string_bytes, sym, ap, subst, AllByRecursion, Repair, Folder, AreFewFor, session_of_kept, OnOk, IsRepaired, answered, told, stands_in_front, together}
+use Rattle.par2_spec.specs.Refusals.{after}
 use Rattle.std.proofs.lemmas.Result.{on_ok_weaker, IfErr-weaker}
 use Rattle.std.specs.FinMap as map_of
 use Rattle.par2_spec.specs.Repairs.{HoldsRepaired}
 use Rattle.par2_spec.specs.Search.{candidates}
 use Rattle.par2_spec.specs.declared.Fault.TheVariants.{Memory, RepairFailed}
-use Rattle.par2_sessions.proofs.RepairAnswers.{IsRepaired, answered, told, stands_in_front, together}
 use Rattle.par2_sessions.proofs.repair.Goals as goal
 
 abbrev Is : goal.After-repair → Type 0

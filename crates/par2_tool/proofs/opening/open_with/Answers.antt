@@ -1,4 +1,5 @@
-use Rattle.par2_tool.proofs.Common.{inl, Ok, Err, true, false, refl, sym, ap, subst, rules, ◌∙◌, err_from_is_err_and, FolderState, Halfway, Opens, Started, Session, KeptSession, session_of_kept, Contents, JournalInvalid, FolderChanged, opened_of, session_before, way_left, OpensAsBefore, with_history, IsOpened}
+use Rattle.par2_tool.proofs.Common.{inl, Ok, Err, true, false, refl, sym, ap, subst, rules, ◌∙◌, err_from_is_err_and, FolderState, Halfway, Opens, Started, Session, KeptSession, session_of_kept, Contents, opened_of, session_before, way_left, OpensAsBefore, with_history, IsOpened}
+use Rattle.par2_spec.specs.declared.JournalFault.TheVariants.{JournalInvalid, FolderChanged}
 use Rattle.par2_tool.proofs.Calls.{back_calls, refused_calls}
 use Rattle.par2_tool.proofs.MadeChanges.{is_new}
 use Rattle.par2_tool.proofs.Openings.{any_err, holds_settled, opened_taken_back, opens_refused, opens_still, way_applies, stays_keeps, stays_opens}

@@ -1,7 +1,4 @@
-use Rattle.par2_tool.proofs.Common.{by_either, ◌≡◌, ◌+◌, map, inl, inr, [], arith, false, refl, sym, ap, subst, ◌∙◌, string_bytes, false≢true, Action, Contents, Started, session_of_kept, command_of, status_of, CountsFailedRun, calls_asked, started_of, IsOpened, outcome_of, failure_for, Answered, Failed, IsBack, IsCause, IsFailed, IsUnread, IsPrinted, IsStopped, IsKept}
-use Rattle.std.proofs.lemmas.Option.{same_Some}
-use Rattle.par2_tool.specs.Asking.{AskFor}
-use Rattle.par2_spec.specs.declared.Failure.{Failure}
+use Rattle.par2_tool.proofs.Common.{by_either, ◌≡◌, ◌+◌, map, inl, inr, [], arith, false, refl, sym, ap, subst, ◌∙◌, string_bytes, false≢true, Action, Contents, Started, session_of_kept, command_of, status_of, CountsFailedRun, calls_asked, started_of, IsOpened, outcome_of, failure_for, Answered, Failed, IsBack, IsCause, IsFailed, IsUnread, IsPrinted, IsStopped, IsKept, same_Some, AskFor, Failure}
 use Rattle.par2_printing.specs.Views.{words_asked}
 use Rattle.par2_spec.specs.declared.Failure.TheVariants as failure
 use Rattle.par2_tool.proofs.Outcomes.{done_for, files_of, no_way_back, verify_failed, cut_of_command, opening_cause, opening_failed, perform_cause, perform_failed, stopped_opening}

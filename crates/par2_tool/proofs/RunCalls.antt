@@ -1,8 +1,6 @@
 -- How many writing calls a run made.
-use Rattle.par2_headline.proofs.Common.{◌≡◌, ◌+◌, inl, inr, ℕ, List, subst, arith, Action, Do, Verify, Contents, Failure, Refused, Store, Arguments, JournalInvalid, FolderChanged, NothingToUndo, NothingToRedo, AskFor, Telling, Answered, Failed, MakesCalls}
-use Rattle.par2_spec.specs.Changes.{Change}
-use Rattle.par2_tool.specs.Calls.{AreCallsToOpen, AreCallsToRun, CountsFailedRun, CountsRefusedRun, IsHalfway}
-use Rattle.par2_headline.proofs.Answers.{one_action}
+use Rattle.par2_tool.proofs.Common.{◌≡◌, ◌+◌, inl, inr, ℕ, List, subst, arith, Action, Do, Verify, Contents, Answered, Failed, Failure, Refused, Store, Arguments, JournalInvalid, FolderChanged, NothingToUndo, NothingToRedo, AskFor, Telling, MakesCalls, Change, AreCallsToOpen, AreCallsToRun, CountsFailedRun, CountsRefusedRun, IsHalfway}
+use Rattle.par2_tool.proofs.RunEffects.{one_action}
 
 module _ (words : List (List ℕ)) (old : Contents) (before after : ℕ) (base : List ℕ) (extras : List (List ℕ)) (none : (back : List Change) → IsHalfway old back → ⊥) where
   abbrev verify : Action

@@ -1,10 +1,8 @@
 -- As many undos as commands took effect lead back.
-use Rattle.par2_headline.proofs.Common.{◌≡◌, ℕ, zero, suc, ◌≤◌, List, [], ◌∷◌, length, drop, replicate, Ok, refl, sym, ap, subst, ◌∙◌, arith, AllByRecursion, Action, Undo, Folder, Started, Contents, IsOpening, IsSettled, Runs, TakesEffect, Effective, history_of}
-use Rattle.std.proofs.lemmas.List.{length-replicate}
-use Rattle.par2_spec.specs.History.{History, Run, Ended, Accepted, Passed, IsChanging, folders, history_after}
-use Rattle.par2_sessions.proofs.UndoRuns.{one_fewer}
+use Rattle.par2_tool.proofs.Common.{◌≡◌, ℕ, zero, suc, ◌≤◌, List, [], ◌∷◌, length, Ok, refl, sym, ap, subst, ◌∙◌, arith, Action, Folder, Started, Contents, IsOpening, IsSettled, history_of, drop, replicate, AllByRecursion, Undo, Runs, TakesEffect, Effective, length-replicate, History, Run, Ended, Accepted, Passed, IsChanging, folders, history_after}
+use Rattle.par2_laws.proofs.UndoneFolders.{one_fewer}
 use Rattle.par2_tool.specs.Runs as runs
-use Rattle.par2_headline.proofs.Answers.{OneWay}
+use Rattle.par2_tool.proofs.RunEffects.{OneWay}
 
 -- of some actions at most all are accepted
 at_most : {h end : History} {actions : List Action} {n : ℕ} → Run h actions n end → n ≤ length actions

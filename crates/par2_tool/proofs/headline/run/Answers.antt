@@ -1,13 +1,11 @@
-use Rattle.par2_headline.proofs.Common.{◌≡◌, ◌≢◌, ◌⊎◌, ◌<◌, inl, ℕ, List, Some, sym, ap, subst, ◌∙◌, map, arith, AllByRecursion, Repair, Undo, Folder, may_refuse, TakesEffect, AskForRepair}
-use Rattle.std.specs.Prelude.{string_bytes}
+use Rattle.par2_tool.proofs.Common.{◌≡◌, ◌≢◌, ◌⊎◌, ◌<◌, inl, ℕ, List, Some, sym, ap, subst, ◌∙◌, map, arith, Folder, AllByRecursion, Repair, Undo, may_refuse, TakesEffect, AskForRepair, string_bytes, false≢true}
 use Rattle.std.specs.FinMap as map_of
-use Rattle.std.proofs.lemmas.Bool.{false≢true}
-use Rattle.par2_headline.proofs.Answers.{IsRefused, accepted_with_zero, effect_of, repair_refused, repaired, stopped_effect}
-use Rattle.par2_headline.proofs.Calls.{verify_makes_none}
-use Rattle.par2_headline.proofs.Statuses.{own_status, shown_status, told_of}
-use Rattle.par2_headline.proofs.UndoneRuns.{leaves_older}
-use Rattle.par2_headline.proofs.running.run.Goals.{After-run}
-use Rattle.par2_headline.proofs.running.run.Goals as goal
+use Rattle.par2_tool.proofs.RunEffects.{IsRefused, accepted_with_zero, effect_of, repair_refused, repaired, stopped_effect}
+use Rattle.par2_tool.proofs.RunCalls.{verify_makes_none}
+use Rattle.par2_tool.proofs.Statuses.{own_status, shown_status, told_of}
+use Rattle.par2_tool.proofs.UndoneRuns.{leaves_older}
+use Rattle.par2_tool.proofs.headline.run.Goals.{After-run}
+use Rattle.par2_tool.proofs.headline.run.Goals as goal
 
 -- the status of what was reported, or that of a writer that failed
 status_of_run : (g : _) (c : After-run g) → (c.run.result ≡ own_status c.run.ensures.told.0) ⊎ (c.run.result ≡ 6)

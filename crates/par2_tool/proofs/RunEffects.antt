@@ -1,11 +1,7 @@
-use Rattle.std.proofs.lemmas.Option.{same_Some}
-use Rattle.par2_headline.proofs.Common.{◌≡◌, ◌≢◌, ◌⊎◌, inl, inr, ℕ, ◌<◌, Bool, List, Option, Some, Ok, Err, refl, sym, ap, subst, ◌∙◌, arith, Action, Command, Do, Repair, Folder, Started, Contents, Outcome, status_of_fault, status_of, status_of_failure, Failure, Refused, Store, Arguments, JournalInvalid, FolderChanged, NothingToUndo, NothingToRedo, Fault, Memory, AskFor, IsOpening, TellsApartInRun, with_history, HasNoEffect, TakesEffect, Telling, Answered, Failed, IsDone, IsFailed, IsRefusedFor, IsUnread, Leaves, OpensAsBeforeOrAfterRun, AskForRepair, Session, changes_asked, changes_unless}
+use Rattle.par2_tool.proofs.Common.{same_Some, ◌≡◌, ◌≢◌, ◌⊎◌, inl, inr, ℕ, ◌<◌, Bool, List, Option, Some, Ok, Err, refl, sym, ap, subst, ◌∙◌, arith, Action, Command, Do, Folder, Started, Contents, Outcome, status_of, Fault, Memory, IsOpening, with_history, Answered, Failed, IsDone, IsFailed, IsRefusedFor, IsUnread, OpensAsBeforeOrAfterRun, Session, changes_asked, changes_unless, Repair, status_of_fault, status_of_failure, Failure, Refused, Store, Arguments, JournalInvalid, FolderChanged, NothingToUndo, NothingToRedo, AskFor, TellsApartInRun, HasNoEffect, TakesEffect, Telling, Leaves, AskForRepair, changes_of, refusal, IsOpened, OnlyTakesBack}
 use Rattle.par2_spec.specs.History as history
-use Rattle.par2_spec.specs.Plans.{changes_of}
-use Rattle.par2_spec.specs.Refusals.{refusal}
-use Rattle.par2_sessions.proofs.RepairAnswers.{IsRepaired, is_repaired}
-use Rattle.par2_tool.specs.Opening.{IsOpened, OnlyTakesBack}
-use Rattle.par2_headline.proofs.Statuses.{own_status, failure_is_told}
+use Rattle.par2_laws.proofs.RepairAnswers.{IsRepaired, is_repaired}
+use Rattle.par2_tool.proofs.Statuses.{own_status, failure_is_told}
 
 -- What a run did to the store by its words and its status.
 

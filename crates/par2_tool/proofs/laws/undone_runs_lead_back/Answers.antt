@@ -1,5 +1,5 @@
-use Rattle.par2_headline.proofs.UndoneRuns.{lead_back, leave_files}
-use Rattle.par2_headline.proofs.laws.undone_runs_lead_back.Goals as goal
+use Rattle.par2_tool.proofs.UndoneRuns.{lead_back, leave_files}
+use Rattle.par2_tool.proofs.laws.undone_runs_lead_back.Goals as goal
 
 pub returns-clause-opens : goal.returns-clause-opens
 returns-clause-opens c = lead_back c.runs_keep_one_history.ensures.kept c.undos_lead_back.ensures.folders

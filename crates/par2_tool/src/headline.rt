@@ -1,4 +1,4 @@
-//! A run of the program.
+//! What par2 promises whoever runs it: the contract of the call that the program makes.
 ghost use Rattle.std.specs.Prelude.{◌≡◌, ◌≢◌, ◌⊎◌, ◌≤◌, ◌∷◌, ℕ, List, Some, Ok, map, string_bytes};
 ghost use Rattle.std.specs.List.{AllByRecursion};
 ghost use Rattle.std.specs.FinMap as map_of;
@@ -20,8 +20,10 @@ ghost use Rattle.par2_tool.specs.Holding.{IsOpening, IsSettled, TellsApartInRun}
 ghost use Rattle.par2_tool.specs.Opening.{OnlyTakesBack};
 ghost use Rattle.par2_tool.specs.Runs.{HasNoEffect, TakesEffect};
 ghost use Rattle.par2_tool.specs.Telling.{Telling, IsTold, IsShown, Leaves, MakesCalls};
-ghost use Rattle.par2_headline.specs.Repairs.{AskForRepair};
+ghost use Rattle.par2_tool.specs.Repairs.{AskForRepair};
 
+use crate::laws::{runs_keep_one_history, stores_open_in_one_way};
+use crate::running;
 use par2_folder::FolderStore;
 use par2_laws::creates::{
     created_files_not_repairable_have_a_choice, repair_gives_the_created_files_back,
@@ -31,7 +33,6 @@ use par2_laws::restored_files::{
     accepted_repair_leaves_the_files, refused_repair_leaves_a_choice, repair_never_fails,
 };
 use par2_printing::Printer;
-use par2_tool::{runs_keep_one_history, stores_open_in_one_way};
 use std::alloc::Global;
 use std::io::Write;
 
@@ -141,5 +142,5 @@ pub fn run<S: FolderStore, O: Write, E: Write>(
     created_files_not_repairable_have_a_choice();
     stores_open_in_one_way();
     runs_keep_one_history();
-    par2_tool::run(alloc, words, store, out, err)
+    running::run(alloc, words, store, out, err)
 }

@@ -1,7 +1,9 @@
 -- What a session's answer to a repair says of its folder.
-use Rattle.par2_sessions.proofs.Common.{◌≡◌, ℕ, List, ◌∷◌, map, Bool, Result, Ok, Err, arith, Option, None, IsTrue, OnOk, IfOk, Command, Repair, Action, Do, Folder, History, folders, in_front, unless_refused, history_after, is_valid, changes_of, LeadsToAfterAsked, refusal, after, Session, session_after, changes_asked, history_of}
+use Rattle.par2_laws.proofs.Common.{◌≡◌, ℕ, List, ◌∷◌, map, Bool, Ok, arith, Option, None, Result, Err, IsTrue, Repair, Folder, refusal, after, OnOk, IfOk, Command, Action, Do, History, folders, in_front, unless_refused, history_after, Fault}
+use Rattle.par2_spec.specs.Opening.{is_valid}
+use Rattle.par2_spec.specs.Plans.{changes_of, LeadsToAfterAsked}
+use Rattle.par2_spec.specs.Sessions.{Session, session_after, changes_asked, history_of}
 use Rattle.par2_spec.specs.Texts.{Step, step_of}
-use Rattle.par2_spec.specs.declared.Fault.{Fault}
 
 -- the law that the history goes along with the session
 abbrev pub GoesAlong : Type 0

@@ -1,5 +1,0 @@
-mod Common
-mod Statuses
-mod Answers
-mod UndoneRuns
-mod Calls
