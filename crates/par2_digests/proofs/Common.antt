@@ -8,8 +8,10 @@ pub use Rattle.std.proofs.lemmas.Nat.{and_assoc, and_comm, from_le_bytes-to_le_b
 pub use Rattle.std.proofs.lemmas.Simd.{Each1-get_or, below_from_Fits, get_or-replicate, get_or-zip2, length-zip2, shifts_fit_splat}
 pub use Rattle.std.specs.Int.{bit_not, to_le_bytes, w32, w64}
 pub use Rattle.std.specs.Prelude.{bit_and, bit_or, bit_xor, slice_index_or}
-pub use Rattle.md5.specs.Md5.{add32, add_state, block_words, digest_bytes, f_fn, g_fn, h_fn, hash_after, i_fn, md5, padded_message, padding, round, rounds, step_constants, step_fn, step_shifts, word_at, word_place}
-pub use Rattle.par2_digests.specs.Feeds.{bytes_left, hash_behind}
+pub use Rattle.md5.specs.Md5.{add32, add_state, f_fn, g_fn, h_fn, i_fn, padded_message, padding, round, step_constants, step_fn, step_shifts, word_at, word_place}
+unfoldable pub use Rattle.md5.specs.Md5.{block_words, compress, digest_bytes, hash_after, md5, rounds}
+pub use Rattle.par2_digests.specs.Feeds.{bytes_left}
+unfoldable pub use Rattle.par2_digests.specs.Feeds.{hash_behind}
 pub use Rattle.par2_digests.specs.Lanes.{AreOfFour, four_words_at, lane, lane_words}
 pub use Rattle.par2_digests.specs.Messages.{HasAbsorbed, message_of, part_bytes}
 pub use Rattle.par2_digests.specs.Pendings.{TakeAll, TakesAll, bytes_to_absorb}

@@ -1,7 +1,5 @@
 -- The hash value after the blocks of some bytes.
-use Rattle.par2_digests.proofs.Common.{◌≡◌, ℕ, zero, suc, min, ◌++◌, length-append, ◌+◌, ◌*◌, ◌/◌, ◌%◌, ◌≤◌, List, length, take, drop, [], ◌∷◌, slice_index, subst, ap, ap₂, sym, refl, ◌∙◌, arith, length-drop, drop-append-le, take-append-le, drop-drop, drop-take, take-append-drop, take-take}
-use Rattle.md5.specs.Md5.{compress, hash_after}
-use Rattle.par2_digests.specs.Feeds.{hash_behind}
+use Rattle.par2_digests.proofs.Common.{◌≡◌, ℕ, zero, suc, min, ◌++◌, length-append, ◌+◌, ◌*◌, ◌/◌, ◌%◌, ◌≤◌, List, length, take, drop, [], ◌∷◌, slice_index, subst, ap, ap₂, sym, refl, ◌∙◌, arith, length-drop, drop-append-le, take-append-le, drop-drop, drop-take, take-append-drop, take-take, compress, hash_after, hash_behind}
 use Rattle.par2_digests.proofs.BlockLaws.{same_parts}
 
 -- the blocks from block a on

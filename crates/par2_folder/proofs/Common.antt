@@ -24,6 +24,7 @@ pub use Rattle.par2_digests.specs.declared.midstate.Midstate.{Midstate}
 pub use Rattle.par2_digests.specs.declared.pending.Pending.{Pending}
 pub use Rattle.par2_folder.specs.Below.{IsFrom, IsFront, fingerprint_input, folder_below, is_below}
 pub use Rattle.par2_folder.specs.Borders.{IsFurther, comes_before, is_before, new_run, run_texts, text_before, touches}
+unfoldable pub use Rattle.par2_folder.specs.Borders.{later_texts}
 pub use Rattle.par2_folder.specs.Filling.{IsTried}
 pub use Rattle.par2_folder.specs.Landmarks.{AreBehind, AreLandmarksOf, IsLandmarkOf}
 pub use Rattle.par2_folder.specs.Runs.{AreTo, HaveAbsorbed, ReachEach, Reaches}
@@ -37,5 +38,7 @@ pub use Rattle.par2_folder.specs.declared.snapshot.Border.TheVariants.{At, Begin
 pub use Rattle.par2_folder.specs.declared.snapshot.BorrowedFile.{BorrowedFile}
 pub use Rattle.par2_spec.proofs.FolderLaws.{taken_are_applicable, takes_first, takes_rest}
 pub use Rattle.par2_spec.proofs.TestLaws.{by_true, cond-not, is_true}
-pub use Rattle.par2_spec.specs.Changes.{FolderState, Remove, Rename, Replace, Write, are_applicable, change_refusal, effect, folders_after, inverse, is_applicable, state_after, takes_all}
-pub use Rattle.par2_spec.specs.Folders.{File, Folder, IsFolder, behind_length, bytes_of, fingerprint, has, names}
+pub use Rattle.par2_spec.specs.Changes.{FolderState, Remove, Rename, Replace, Write, inverse, is_applicable, state_after}
+unfoldable pub use Rattle.par2_spec.specs.Changes.{are_applicable, change_refusal, effect, folders_after, state_after_all, takes_all, way_back}
+pub use Rattle.par2_spec.specs.Folders.{File, Folder, IsFolder, behind_length, bytes_of, has, names}
+unfoldable pub use Rattle.par2_spec.specs.Folders.{fingerprint}

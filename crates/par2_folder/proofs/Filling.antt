@@ -1,7 +1,6 @@
 -- A write that may be refused, as a folder is filled.
-use Rattle.par2_folder.proofs.Common.{◌≡◌, ℕ, true, List, Some, Result, Ok, Err, IfErr, OnOk, OnErr, nat_lt, ap, arith, FolderState, Write, state_after, IsTried}
+use Rattle.par2_folder.proofs.Common.{◌≡◌, ℕ, true, List, Some, Result, Ok, Err, IfErr, OnOk, OnErr, nat_lt, ap, arith, FolderState, Write, state_after, IsTried, change_refusal, effect}
 use Rattle.std.proofs.lemmas.Bool.Decides.{nat_tests}
-use Rattle.par2_spec.specs.Changes.{change_refusal, effect}
 use Rattle.par2_spec.specs.declared.ChangeFault.{ChangeFault}
 
 pub tried : (C : Type 0) (old new : FolderState) (name bytes : List ℕ) (r : Result (Unit {0}) ChangeFault) → IfErr r (λ fault. change_refusal old (Write name bytes) ≡ Some fault) → OnErr r ((new ≡ old) × C) → OnOk r (new ≡ state_after old (Write name bytes)) → IsTried old new name bytes

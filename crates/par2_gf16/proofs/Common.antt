@@ -13,10 +13,12 @@ pub use Rattle.par2_gf16.specs.Nibbles.{AreSplit, HasNibbles}
 pub use Rattle.par2_gf16.specs.Products.{AddsProducts, IsInverse}
 pub use Rattle.par2_gf16.specs.Steps.{AddsLanes, AddsWithin, IsInterleaving, IsTable, LanesSoFar}
 pub use Rattle.par2_gf16.specs.Tables.{AreTables, FirstRound, LogsBelow, PowersBelow, SecondRound}
+unfoldable pub use Rattle.par2_gf16.specs.Tables.{constants_below}
 pub use Rattle.par2_spec.proofs.FieldBits.{bit_cases, tested, tested_at, xor_shl}
 pub use Rattle.par2_spec.proofs.FieldOrder.{double_product, logarithm, one_inverse, power-65535, power-add, power-injective, power-lt, product-zero, zero-product}
 pub use Rattle.par2_spec.proofs.FieldProducts.{product-lt, product-one, product_assoc, product_comm, product_linear_right}
 pub use Rattle.par2_spec.proofs.FieldSteps.{double_high, double_low, one-power, power-mul}
 pub use Rattle.par2_spec.proofs.TestLaws.{by_either}
-pub use Rattle.par2_spec.specs.Field.{is_spared, mul, pow}
+pub use Rattle.par2_spec.specs.Field.{is_spared}
+unfoldable pub use Rattle.par2_spec.specs.Field.{constant, constant_powers, mul, pow}
 pub use Rattle.par2_spec.specs.Slices.{word}

@@ -1,6 +1,5 @@
 -- The product of a word, nibble by nibble.
-use Rattle.par2_gf16.proofs.Common.{ℕ, ◌+◌, ◌*◌, ◌/◌, ◌%◌, ◌<◌, ◌≡◌, refl, sym, ap, ap₂, ◌∙◌, arith, List, ◌++◌, map, length, get_or, eqb, true, eqb-true, xor_mod, xor_shr, xor_comm, get_or-map, length-map, range_with_len, bit_xor, xor_shifted, tested, tested_at, xor_shl, product-lt, product_comm, product_assoc, product_linear_right, IsTable}
-use Rattle.par2_spec.specs.Field.{mul}
+use Rattle.par2_gf16.proofs.Common.{ℕ, ◌+◌, ◌*◌, ◌/◌, ◌%◌, ◌<◌, ◌≡◌, refl, sym, ap, ap₂, ◌∙◌, arith, List, ◌++◌, map, length, get_or, eqb, true, eqb-true, xor_mod, xor_shr, xor_comm, get_or-map, length-map, range_with_len, bit_xor, xor_shifted, tested, tested_at, xor_shl, product-lt, product_comm, product_assoc, product_linear_right, IsTable, mul}
 
 test_16 : tested (λ n. eqb (mul 16 n) (n * 16)) 16 ≡ true
 unfolding mul

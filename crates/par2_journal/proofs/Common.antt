@@ -28,14 +28,17 @@ pub use Rattle.par2_journal_bytes.specs.Views.{changes_in, halfway_of, journal_f
 pub use Rattle.par2_spec.proofs.FolderLaws.{changes_back, gone, more_room_all, state_all_back, state_files, takes_applicable, takes_none, way_back_taken, written}
 pub use Rattle.par2_spec.proofs.SessionLaws.{accepted_next, done_can_walk, done_of_kept, grown_can_walk, leading_walks, next_taken, redone_can_walk, redone_of_kept, refused_alike, run_leaves, same_ok, same_session, undone_can_walk, undone_of_kept, walked_is_valid}
 pub use Rattle.par2_spec.proofs.TestLaws.{err_again, none_if}
-pub use Rattle.par2_spec.specs.Changes.{Change, FolderState, Remove, Rename, Replace, Write, are_applicable, effect, effects, inverse, is_applicable, places_taken, state_after, state_after_all, takes_all, way_back}
+pub use Rattle.par2_spec.specs.Changes.{Change, FolderState, Remove, Rename, Replace, Write, inverse, places_taken, state_after, state_after_all}
+unfoldable pub use Rattle.par2_spec.specs.Changes.{are_applicable, effect, effects, folders_after, is_applicable, takes_all, way_back}
 pub use Rattle.par2_spec.specs.Commands.{Action, Command, Create, Do, Purge, Redo, Repair, Undo}
 pub use Rattle.par2_spec.specs.Folders.{Folder, bytes_of, fingerprint, has}
 pub use Rattle.par2_spec.specs.History.{Accepted, Ended, History, IsChanging, MayBeRefused, Passed, Refusal, Run, history_after}
 pub use Rattle.par2_spec.specs.Journals.{HalfwayPart, Journal, Spells}
-pub use Rattle.par2_spec.specs.Opening.{halfway_where, is_valid, leads, leads_through, opened_by_part, settled_journal}
+pub use Rattle.par2_spec.specs.Opening.{halfway_where, is_valid, opened_by_part}
+unfoldable pub use Rattle.par2_spec.specs.Opening.{halfway_journal, journals_of, leads, leads_through, settled_journal}
 pub use Rattle.par2_spec.specs.Plans.{LeadsToAfterAsked}
-pub use Rattle.par2_spec.specs.Sessions.{CanWalk, KeptSession, OnlyGrew, Session, changes_unless, first_entry, history_of, kept_redone, kept_undone, others, session_of_kept, session_unless, session_with, walks}
+pub use Rattle.par2_spec.specs.Sessions.{CanWalk, KeptSession, OnlyGrew, Session, changes_unless, first_entry, history_of, others, session_of_kept, session_unless, session_with}
+unfoldable pub use Rattle.par2_spec.specs.Sessions.{changes_asked, kept_done, kept_redone, kept_undone, session_after, walks}
 pub use Rattle.par2_spec.specs.Texts.{Step, step_of}
 pub use Rattle.par2_spec.specs.Views.{action_of, create_args_of}
 pub use Rattle.par2_spec.specs.declared.Version.TheVariants.{Two}

@@ -1,8 +1,6 @@
 -- What a journal opens as.
-use Rattle.par2_journal.proofs.Common.{◌≡◌, inl, inr, ℕ, ◌+◌, ◌-◌, ◌≤◌, Bool, true, false, not, ◌&&◌, List, [], ◌∷◌, length, map, take, drop, Option, Some, None, Result, Ok, Err, refl, sym, ap, subst, ◌∙◌, arith, and_parts, both_ways, false_from_ne_true, ⊎_map, reverse, position, if◌then◌else◌, pointwise, bytes_eq, Folder, fingerprint, Change, FolderState, effect, effects, is_applicable, takes_all, state_after_all, Journal, HalfwayPart, Spells, is_valid, session_at, AnswersWhere, OpensAsIs, more_room_all, state_files, ◌↔◌}
-use Rattle.par2_spec.specs.Changes.{are_applicable, folders_after}
+use Rattle.par2_journal.proofs.Common.{◌≡◌, inl, inr, ℕ, ◌+◌, ◌-◌, ◌≤◌, Bool, true, false, not, ◌&&◌, List, [], ◌∷◌, length, map, take, drop, Option, Some, None, Result, Ok, Err, refl, sym, ap, subst, ◌∙◌, arith, and_parts, both_ways, false_from_ne_true, ⊎_map, reverse, position, if◌then◌else◌, ◌↔◌, pointwise, bytes_eq, Folder, fingerprint, Change, FolderState, effect, effects, is_applicable, takes_all, state_after_all, Journal, HalfwayPart, Spells, is_valid, session_at, AnswersWhere, OpensAsIs, more_room_all, state_files, are_applicable, folders_after, leads_through}
 use Rattle.par2_spec.specs.Opening as defined
-use Rattle.par2_spec.specs.Opening.{leads_through}
 use Rattle.par2_spec.specs.declared.JournalFault.{JournalFault}
 use Rattle.par2_spec.specs.declared.JournalFault.TheVariants.{JournalInvalid, FolderChanged}
 use Rattle.par2_journal_bytes.specs.Reading.{IsSealed}

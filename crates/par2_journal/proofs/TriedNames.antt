@@ -1,12 +1,10 @@
 -- The names of a folder's files, through changes.
-use Rattle.par2_journal.proofs.Common.{◌≡◌, ℕ, ◌+◌, ◌<◌, ◌≤◌, Bool, true, false, ◌&&◌, not, List, [], ◌∷◌, length, drop, get_or, Option, Some, None, refl, sym, ap, subst, ◌∙◌, and_right, false≢true, drop_all, drop_more, Folder, Change, Write, Rename, Remove, AreNamesOf, IsTried, cond, is_some, BTreeSet, contains, slice_cmp, nat_list_cmp_total, eq_by_cmp, nat_cmp, Replace, bytes_of, has, written, gone}
+use Rattle.par2_journal.proofs.Common.{◌≡◌, ℕ, ◌+◌, ◌<◌, ◌≤◌, Bool, true, false, ◌&&◌, not, List, [], ◌∷◌, length, drop, get_or, Option, Some, None, refl, sym, ap, subst, ◌∙◌, cond, is_some, and_right, false≢true, drop_all, drop_more, Folder, bytes_of, has, Change, Write, Rename, Remove, Replace, AreNamesOf, IsTried, BTreeSet, contains, slice_cmp, nat_list_cmp_total, eq_by_cmp, nat_cmp, written, gone, are_applicable, effect, effects, is_applicable, leads}
 use Rattle.std.proofs.lemmas.Map.Text.{is_eq-slice_cmp}
 use Rattle.std.proofs.lemmas.Slice.Eq.{bytes_eq-Decides}
 use Rattle.std.specs.BTreeMap.{is_at}
 use Rattle.std.specs.Cmp.{eq_by_cmp_equiv}
 use Rattle.std.specs.FinMap as map_of
-use Rattle.par2_spec.specs.Changes.{are_applicable, effect, effects, is_applicable}
-use Rattle.par2_spec.specs.Opening.{leads}
 
 some_where : (b : Bool) (o g : Option (List ℕ)) → is_some (cond b o g) ≡ cond b (is_some o) (is_some g)
 some_where true o g = refl

@@ -11,7 +11,10 @@ pub use Rattle.std.specs.List.{AllByRecursion, concat}
 pub use Rattle.std.specs.Prelude.{IfOk, IfSome, IsTrue, flat_map, if◌then◌else◌, ◌↔◌, ◌⊎◌}
 pub use Rattle.md5.specs.Md5.{md5}
 pub use Rattle.par2_folder.specs.Views.{change_of}
-pub use Rattle.par2_journal_bytes.specs.Reading.{Fails, IsSealed, block_at, change_at, cursor_in, entry_at, halfway_at, many_at, number_at, parts_at, some_where, ◌>>=◌}
+pub use Rattle.par2_journal_bytes.specs.Fronts.{Begins, Continues, with_halfway}
+unfoldable pub use Rattle.par2_journal_bytes.specs.Fronts.{front_bytes}
+pub use Rattle.par2_journal_bytes.specs.Reading.{Fails, IsSealed, cursor_in, some_where, ◌>>=◌}
+unfoldable pub use Rattle.par2_journal_bytes.specs.Reading.{behind_cursor_at, behind_length_at, block_at, change_at, cursor_at, entry_at, halfway_at, heading_at, many_at, name_at, number_at, parts_at}
 pub use Rattle.par2_journal_bytes.specs.Views.{changes_in, halfway_from, journal_from, journal_of, part_from}
 pub use Rattle.par2_journal_bytes.specs.declared.fault.DecodeFault.{DecodeFault}
 pub use Rattle.par2_journal_bytes.specs.declared.fault.DecodeFault.TheVariants.{JournalInvalid, Memory}
@@ -19,4 +22,5 @@ pub use Rattle.par2_spec.proofs.ListsLaws.{all-append, all_at, all_from}
 pub use Rattle.par2_spec.proofs.RestoredLaws.{bytes-drop, bytes-take}
 pub use Rattle.par2_spec.specs.Changes.{Change, Remove, Rename, Replace, Write}
 pub use Rattle.par2_spec.specs.Journals.{HalfwayPart, IsChange, IsCursor, IsDigest, IsEntry, IsFileBytes, IsHalfwayPart, IsJournal, Journal, Spells, change_bytes, cursor_bytes, entry_bytes, halfway_bytes, heading, name_bytes}
+unfoldable pub use Rattle.par2_spec.specs.Journals.{journal_bytes, spelling}
 pub use Rattle.par2_spec.specs.Rank.{AreBytes}

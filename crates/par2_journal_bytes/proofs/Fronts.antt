@@ -1,8 +1,6 @@
 -- Journals that are written in two parts.
-use Rattle.par2_journal_bytes.proofs.Common.{◌≡◌, ℕ, List, ◌++◌, Option, None, Result, Ok, Err, Vec, ap, ◌∙◌, IfOk, md5, HalfwayPart, Spells, Journal}
+use Rattle.par2_journal_bytes.proofs.Common.{◌≡◌, ℕ, List, ◌++◌, Option, None, Result, Ok, Err, Vec, ap, ◌∙◌, IfOk, md5, HalfwayPart, Spells, Journal, spelling, Begins, Continues, with_halfway}
 use Rattle.std.specs.declared.alloc.Global.{Global}
-use Rattle.par2_spec.specs.Journals.{spelling}
-use Rattle.par2_journal_bytes.specs.Fronts.{Begins, Continues, with_halfway}
 
 -- after the digest of all but it, the journal is spelled
 pub spelled : (front : List ℕ) (halfway : Option HalfwayPart) (body : List ℕ) → Continues front halfway body → (text : List ℕ) → text ≡ body ++ md5 body

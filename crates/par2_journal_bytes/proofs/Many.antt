@@ -1,6 +1,5 @@
 -- Reading and writing values one after the other, as a loop does.
-use Rattle.par2_journal_bytes.proofs.Common.{◌≡◌, ℕ, suc, ◌-◌, ◌+◌, ◌≤◌, ◌<◌, List, [], ◌∷◌, ◌++◌, length, take, get_or, Option, Some, None, refl, sym, ap, subst, ◌∙◌, append_assoc, arith, flat_map, AllByRecursion, append-nil, flat_map_more, take_more, take_all, all-append, DecodeFault, JournalInvalid, Memory, ◌>>=◌, Fails}
-use Rattle.par2_journal_bytes.specs.Reading.{many_at}
+use Rattle.par2_journal_bytes.proofs.Common.{◌≡◌, ℕ, suc, ◌-◌, ◌+◌, ◌≤◌, ◌<◌, List, [], ◌∷◌, ◌++◌, length, take, get_or, Option, Some, None, refl, sym, ap, subst, ◌∙◌, append_assoc, arith, flat_map, AllByRecursion, append-nil, flat_map_more, take_more, take_all, all-append, DecodeFault, JournalInvalid, Memory, ◌>>=◌, Fails, many_at}
 
 abbrev pub Reader : Type 0 → Type 0
 Reader A = List ℕ → Option (A × List ℕ)

@@ -1,5 +1,5 @@
 -- What a session's answer to a repair says of its folder.
-use Rattle.par2_laws.proofs.Common.{◌≡◌, ℕ, List, ◌∷◌, map, Bool, Ok, arith, Option, None, Result, Err, IsTrue, Repair, Folder, refusal, after, OnOk, IfOk, Command, Action, Do, History, folders, in_front, unless_refused, history_after, Fault}
+use Rattle.par2_laws.proofs.Common.{◌≡◌, ℕ, List, ◌∷◌, map, Bool, Ok, arith, Option, None, Result, Err, IsTrue, OnOk, IfOk, Repair, Command, Action, Do, Folder, refusal, after, History, folders, in_front, unless_refused, history_after, Fault}
 use Rattle.par2_spec.specs.Opening.{is_valid}
 use Rattle.par2_spec.specs.Plans.{changes_of, LeadsToAfterAsked}
 use Rattle.par2_spec.specs.Sessions.{Session, session_after, changes_asked, history_of}

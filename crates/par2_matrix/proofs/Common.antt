@@ -10,7 +10,8 @@ pub use Rattle.std.specs.Int.Bits.{xor_self, xor_zero_r}
 pub use Rattle.std.specs.List.{AllByRecursion, range_with_len}
 pub use Rattle.std.specs.Vec.{with_items}
 pub use Rattle.par2_gf16.specs.Products.{AddsProducts, IsInverse}
-pub use Rattle.par2_matrix.specs.Echelon.{AllEmpty, ClearedBelow, Echelon, IsMultiple, IsPrepared, IsReduced, Meets, PutAt, ReducedBelow, Scaled, Spells, Vanishes, count_present, echelon, echelon_of, system_of}
+pub use Rattle.par2_matrix.specs.Echelon.{AllEmpty, ClearedBelow, Echelon, IsMultiple, IsPrepared, IsReduced, Meets, PutAt, ReducedBelow, Scaled, Spells, Vanishes, echelon, echelon_of, system_of}
+unfoldable pub use Rattle.par2_matrix.specs.Echelon.{count_present, equations}
 pub use Rattle.par2_matrix.specs.Systems.{AreTexts, CutDown, Equations, IsDependent, IsIndependent, IsKilled, IsTheSolution, IsUndetermined, OnlyZeroIsKilled, Solves, no_equations, rank}
 pub use Rattle.par2_spec.proofs.FieldOrder.{cancel, product-zero, zero-product}
 pub use Rattle.par2_spec.proofs.FieldProducts.{product-lt, product-one, product_comm}

@@ -15,10 +15,12 @@ pub use Rattle.std.specs.Str.{bytes_eq}
 pub use Rattle.md5.specs.Md5.{Holds, md5}
 pub use Rattle.par2_packets.specs.Cursors.{rest_of}
 pub use Rattle.par2_packets.specs.Pieces.{ArePieces, changed_below, overwritten}
-pub use Rattle.par2_packets.specs.Recoveries.{AreDigested, digest_put, digested, recovery_packet, undigested}
+pub use Rattle.par2_packets.specs.Recoveries.{AreDigested, digest_put, digested, recovery_packet}
+unfoldable pub use Rattle.par2_packets.specs.Recoveries.{undigested}
 pub use Rattle.par2_packets.specs.Views.{file_record_of, id_number, packet_of}
 pub use Rattle.par2_packets.specs.declared.record.FileRecord.{FileRecord}
 pub use Rattle.par2_spec.proofs.ListsLaws.{increasing, range-append}
 pub use Rattle.par2_spec.specs.Checksums.{Pair}
-pub use Rattle.par2_spec.specs.Packets.{DescBody, IfscBody, MainBody, Packet, accepted, bytes_at, claimed_length, digest_input, items_at, magic, type_of, u32_at, without_end_zeros}
+pub use Rattle.par2_spec.specs.Packets.{DescBody, IfscBody, MainBody, Packet, accepted, bytes_at, claimed_length, digest_input, items_at, magic, type_of, without_end_zeros}
+unfoldable pub use Rattle.par2_spec.specs.Packets.{accepted_after, begins_with_packet, first_packet, packet, u32_at}
 pub use Rattle.par2_spec.specs.declared.Kind.TheVariants.{Recovery}

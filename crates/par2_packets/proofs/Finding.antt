@@ -1,9 +1,8 @@
 -- Going over a text from packet to packet.
-use Rattle.par2_packets.proofs.Common.{◌≡◌, ℕ, zero, suc, ◌-◌, ◌+◌, ◌≤◌, ◌<◌, ◌%◌, Bool, true, false, leb, eqb, ◌&&◌, List, [], ◌∷◌, length, drop, refl, sym, ap, subst, ◌∙◌, arith, bytes_eq, leb-true, and_parts, false_from_ne_true, length-take-le, length-drop, drop-drop, bytes_eq-Decides, md5, Packet, bytes_at, magic, claimed_length, accepted}
+use Rattle.par2_packets.proofs.Common.{◌≡◌, ℕ, zero, suc, ◌-◌, ◌+◌, ◌≤◌, ◌<◌, ◌%◌, Bool, true, false, leb, eqb, ◌&&◌, List, [], ◌∷◌, length, drop, refl, sym, ap, subst, ◌∙◌, arith, bytes_eq, leb-true, and_parts, false_from_ne_true, length-take-le, length-drop, drop-drop, bytes_eq-Decides, md5, Packet, bytes_at, magic, claimed_length, accepted, begins_with_packet, first_packet, accepted_after}
 use Rattle.std.proofs.Math.Seq.{drop-length}
 use Rattle.memchr.specs.Find.{OccursAt, NoneBefore, Nowhere}
 use Rattle.memchr.proofs.lemmas.MatchLemmas.{OccursAt-from_part}
-use Rattle.par2_spec.specs.Packets.{begins_with_packet, first_packet, accepted_after}
 use Rattle.par2_spec.proofs.AcceptedLaws.{accepted-none}
 use Rattle.par2_spec.proofs.WrittenPackets.{in_front}
 

@@ -42,16 +42,22 @@ pub use Rattle.par2_spec.proofs.SumLaws.{dot_sum, field_sum-lt, field_sum_head, 
 pub use Rattle.par2_spec.proofs.UniqueLaws.{agreeing_are_one, coefficients_are, dot-lt, words_are}
 pub use Rattle.par2_spec.proofs.WordLaws.{bytes_at, combination_words, length-lists_of, read_at, word-lt, written_changed, written_here}
 pub use Rattle.par2_spec.specs.Commands.{files_of}
-pub use Rattle.par2_spec.specs.Field.{coefficient, constant, mul, pow}
+pub use Rattle.par2_spec.specs.Field.{constant, mul}
+unfoldable pub use Rattle.par2_spec.specs.Field.{coefficient, pow}
 pub use Rattle.par2_spec.specs.Folders.{File, Folder, bytes_of}
-pub use Rattle.par2_spec.specs.Polynomials.{AreElements, ArePoints, quotient, times, times_root, value, with_roots}
-pub use Rattle.par2_spec.specs.Rank.{Agrees, IsRepairable, IsVector, Kills, is_independent, kept, kept_slices, kills, rank, smaller}
-pub use Rattle.par2_spec.specs.Recovery.{coefficients, combination, dot, recovery}
+pub use Rattle.par2_spec.specs.Polynomials.{AreElements, ArePoints, times, times_root}
+unfoldable pub use Rattle.par2_spec.specs.Polynomials.{plus, quotient, value, with_roots}
+pub use Rattle.par2_spec.specs.Rank.{Agrees, IsRepairable, IsVector, Kills, kept, kept_slices, kills, rank, smaller}
+unfoldable pub use Rattle.par2_spec.specs.Rank.{is_independent}
+pub use Rattle.par2_spec.specs.Recovery.{coefficients, combination}
+unfoldable pub use Rattle.par2_spec.specs.Recovery.{dot, recovery}
 pub use Rattle.par2_spec.specs.Runs.{AreClose, AreSlices, HasRun}
 pub use Rattle.par2_spec.specs.Search.{lost}
 pub use Rattle.par2_spec.specs.Slices.{padded, slice_at, word}
-pub use Rattle.par2_spec.specs.Sums.{OneChanged, field_sum, list_at, lists_of}
-pub use Rattle.par2_spec.specs.Volumes.{all_slices, id_of, in_id_order, record_of}
+pub use Rattle.par2_spec.specs.Sums.{OneChanged, list_at, lists_of}
+unfoldable pub use Rattle.par2_spec.specs.Sums.{field_sum}
+pub use Rattle.par2_spec.specs.Volumes.{all_slices, id_of, in_id_order}
+unfoldable pub use Rattle.par2_spec.specs.Volumes.{record_of}
 pub use Rattle.par2_transform.proofs.AddingLaws.{adds_more, adds_none, adds_same, still_within, within-above, within-in, within_joined, within_same, zeros_read}
 pub use Rattle.par2_transform.proofs.GroupLaws.{adds_to_group, group_within, length-group}
 pub use Rattle.par2_transform.specs.Adding.{AddsAt, AddsToEach, AreApart, AreWholeTexts, LieWithin, place_at, within}

@@ -1,7 +1,6 @@
 -- Coefficients of products and quotients, one after the other.
-use Rattle.par2_recovery.proofs.Common.{zip, ℕ, zero, suc, ◌+◌, ◌-◌, ◌<◌, ◌≤◌, ◌≡◌, set, refl, sym, ap, ◌∙◌, arith, List, [], ◌∷◌, ◌++◌, length, get_or, drop, bit_xor, inl, inr, xor_zero_l, cases_eq, ext_get_or, drop_more, get_or-set_same, get_or-set_other, mul, times, times_root, product-zero, length-quotient}
+use Rattle.par2_recovery.proofs.Common.{zip, ℕ, zero, suc, ◌+◌, ◌-◌, ◌<◌, ◌≤◌, ◌≡◌, set, refl, sym, ap, ◌∙◌, arith, List, [], ◌∷◌, ◌++◌, length, get_or, drop, bit_xor, inl, inr, xor_zero_l, cases_eq, ext_get_or, drop_more, get_or-set_same, get_or-set_other, mul, times, times_root, product-zero, length-quotient, value, plus, with_roots, quotient}
 use Rattle.std.specs.Prelude.{map}
-use Rattle.par2_spec.specs.Polynomials.{value, plus, with_roots, quotient}
 
 -- the sums of the coefficients, each times the constant, and those before them
 product_by_pairs : (c : ℕ) (p q : List ℕ) → length q ≡ suc (length p) → map (λ (z : ℕ × ℕ). bit_xor (mul c z.0) z.1) (zip (p ++ 0 ∷ []) q) ≡ plus (times c p) q

@@ -18,6 +18,7 @@ pub use Rattle.std.specs.Cmp.Lexicographic.{nat_list_cmp_total, nat_list_eq_equi
 pub use Rattle.std.specs.FinMap.{FinMap, entries, entries-from_sorted, entries_sorted, get-from_entries, get-from_sorted, is_sorted, nat_cmp-IsAntisymmetric, same_entries_map, same_map}
 pub use Rattle.std.specs.List.{AllByRecursion, IsDistinct, cons_option, list_all, list_any, range_with_len}
 pub use Rattle.std.specs.List.Sorted.{IsStrictlyIncreasing}
+unfoldable pub use Rattle.std.specs.List.Sorted.{IsStrictlySortedBy}
 pub use Rattle.std.specs.Map.{keys_of, lookup, update, update_all}
 pub use Rattle.std.specs.Ordering.{eq_by_cmp, is_eq, is_lt, nat_cmp, ordering_then}
 pub use Rattle.std.specs.Prelude.{IfErr, IfOk, IsErrAnd, IsOk, filter, filter_map, find, if◌then◌else◌, is_ok, is_some, nat_lt, ok_or, option_and_then, option_map, reverse, slice_get, unwrap_or}
@@ -37,7 +38,9 @@ pub use Rattle.par2_spec.proofs.TestLaws.{err_again, where_none}
 pub use Rattle.par2_spec.specs.Folders.{File, Folder, IsFolder, bytes_of, files, names}
 pub use Rattle.par2_spec.specs.Names.{distinct, is_among, is_name, is_par_name, numbered}
 pub use Rattle.par2_spec.specs.Packets.{DescBody, IfscBody, MainBody, Packet, RecoveryBody, accepted, read_desc, read_ifsc, read_main, read_recovery}
-pub use Rattle.par2_spec.specs.Repairs.{aside, is_par_file, taken_for}
+pub use Rattle.par2_spec.specs.Repairs.{is_par_file, taken_for}
+unfoldable pub use Rattle.par2_spec.specs.Repairs.{aside}
 pub use Rattle.par2_spec.specs.Sets.{IsSound, ParSet, Target, all_some, are_in_profile, description_of, is_slice_size, main_of, packets_with, recovery_of, target_names, target_of, unless, ◌>>=◌}
+unfoldable pub use Rattle.par2_spec.specs.Sets.{read_set, set_of}
 pub use Rattle.par2_spec.specs.declared.Fault.{Fault}
 pub use Rattle.par2_spec.specs.declared.Fault.TheVariants.{BadSet, Memory, NameTooLong, NoChecksums, NoDescription, NoMain, NoPackets}

@@ -1,6 +1,5 @@
 -- The steps of the reading, one after the other.
-use Rattle.par2_sets.proofs.Common.{◌≡◌, ◌⊎◌, inl, inr, ℕ, List, true, Option, Some, None, Result, Ok, Err, sym, ap, ◌∙◌, slice_get, option_map, ok_or, unwrap_or, is_some, IfOk, IfErr, false≢true, Fault, NoPackets, NoMain, BadSet, Memory, Folder, bytes_of, Packet, MainBody, DescBody, accepted, ParSet, Target, ◌>>=◌, unless, is_slice_size, main_of, are_in_profile, recovery_of, IsSound, Bor, entries, recovered_of, set_view, Gives, set_packets, descriptions_of, targets_or_fault, set_in}
-use Rattle.par2_spec.specs.Sets.{read_set, set_of}
+use Rattle.par2_sets.proofs.Common.{◌≡◌, ◌⊎◌, inl, inr, ℕ, List, true, Option, Some, None, Result, Ok, Err, sym, ap, ◌∙◌, slice_get, option_map, ok_or, unwrap_or, is_some, IfOk, IfErr, false≢true, Fault, NoPackets, NoMain, BadSet, Memory, Folder, bytes_of, Packet, MainBody, DescBody, accepted, ParSet, Target, ◌>>=◌, unless, is_slice_size, main_of, are_in_profile, recovery_of, IsSound, Bor, entries, recovered_of, set_view, Gives, set_packets, descriptions_of, targets_or_fault, set_in, read_set, set_of}
 use Rattle.par2_sets.proofs.Exponents.{made_of}
 
 -- the identifier of the first packet of a base

@@ -1,9 +1,8 @@
 -- Names that are taken, and the first number that is free.
-use Rattle.par2_sets.proofs.Common.{◌≡◌, ℕ, suc, ◌+◌, ◌-◌, ◌^◌, ◌<◌, ◌≤◌, length, List, [], ◌∷◌, ◌++◌, map, take, refl, sym, ap, ◌∙◌, ◌⊎◌, Bool, true, false, not, cond, ◌||◌, arith, inl, inr, IsTrue, Ok, Err, Result, find, IfErr, IsErrAnd, IsOk, nat_lt, unwrap_or, AllByRecursion, list_all, range_with_len, and_from, cases_lt, false_from_ne_true, false≢true, leb-true, lt-ltb, ltb-true, map_more, err_from_is_err_and, Fault, Memory, NameTooLong, Folder, File, IsFolder, files, names, is_among, is_name, numbered, taken_for, IsSound, target_names, ParSet, name_is_short, err_again, where_none, long_aside}
+use Rattle.par2_sets.proofs.Common.{◌≡◌, ℕ, suc, ◌+◌, ◌-◌, ◌^◌, ◌<◌, ◌≤◌, length, List, [], ◌∷◌, ◌++◌, map, take, refl, sym, ap, ◌∙◌, ◌⊎◌, Bool, true, false, not, cond, ◌||◌, arith, inl, inr, IsTrue, Ok, Err, Result, find, IfErr, IsErrAnd, IsOk, nat_lt, unwrap_or, AllByRecursion, list_all, range_with_len, and_from, cases_lt, false_from_ne_true, false≢true, leb-true, lt-ltb, ltb-true, map_more, err_from_is_err_and, Fault, Memory, NameTooLong, Folder, File, IsFolder, files, names, is_among, is_name, numbered, taken_for, IsSound, target_names, ParSet, name_is_short, err_again, where_none, long_aside, aside}
 use Rattle.std.proofs.lemmas.List.Folds.{list_all-append, list_any_more}
 use Rattle.std.specs.Prelude.{get_or, Option, Some, None}
 use Rattle.par2_spec.specs.Faults.{fault_where}
-use Rattle.par2_spec.specs.Repairs.{aside}
 use Rattle.par2_spec.proofs.AsideNames.{numbered_is_name}
 
 -- ---- what is taken

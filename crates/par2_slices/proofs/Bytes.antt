@@ -1,8 +1,7 @@
 -- Bytes taken in by eights.
-use Rattle.par2_slices.proofs.Common.{◌≡◌, ℕ, zero, suc, ◌+◌, ◌*◌, ◌^◌, ◌<◌, ◌%◌, ◌/◌, List, [], ◌∷◌, ◌++◌, length, take, drop, get_or, sym, ap, ◌∙◌, arith, bit_xor, concat, first_chunks, w64, from_le_bytes, xor_assoc, xor_zero_r, shr-shr, xor_comm, take_more, take_all, take-append-drop, append-nil, concat-append, crc_byte, crc_steps, crc_steps-split, crc_byte-steps, fold-append, joined}
+use Rattle.par2_slices.proofs.Common.{◌≡◌, ℕ, zero, suc, ◌+◌, ◌*◌, ◌^◌, ◌<◌, ◌%◌, ◌/◌, List, [], ◌∷◌, ◌++◌, length, take, drop, get_or, sym, ap, ◌∙◌, arith, bit_xor, concat, first_chunks, w64, from_le_bytes, xor_assoc, xor_zero_r, shr-shr, xor_comm, take_more, take_all, take-append-drop, append-nil, concat-append, crc_byte, crc_steps, crc_steps-split, crc_byte-steps, fold-append, joined, steps}
 use Rattle.std.proofs.Math.Seq.{take-add}
 use Rattle.std.specs.Prelude.{fold}
-use Rattle.par2_slices.specs.Steps.{steps}
 use Rattle.par2_slices.proofs.Sliding.{none_less}
 
 split : (m x : ℕ) → steps (8 + m) x ≡ bit_xor (steps (8 + m) (x % 256)) (steps m (x / 256))

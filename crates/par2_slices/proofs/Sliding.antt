@@ -1,7 +1,5 @@
 -- A window moves on by a byte, or by two.
-use Rattle.par2_slices.proofs.Common.{◌≡◌, ℕ, zero, suc, ◌+◌, ◌*◌, ◌<◌, List, [], ◌∷◌, ◌++◌, length, get_or, refl, sym, ap, ◌∙◌, arith, bit_xor, xor_assoc, xor_zero_r, xor_comm, crc_byte, crc_steps, crc32, crc32-slide, crc_byte-xor, crc_steps-xor, crc_steps-add}
-use Rattle.par2_slices.specs.Steps.{steps}
-use Rattle.par2_slices.specs.Rolls.{after_slide, leaving}
+use Rattle.par2_slices.proofs.Common.{◌≡◌, ℕ, zero, suc, ◌+◌, ◌*◌, ◌<◌, List, [], ◌∷◌, ◌++◌, length, get_or, refl, sym, ap, ◌∙◌, arith, bit_xor, xor_assoc, xor_zero_r, xor_comm, crc_byte, crc_steps, crc32, crc32-slide, crc_byte-xor, crc_steps-xor, crc_steps-add, steps, after_slide, leaving}
 
 pub slid : (s out next before : ℕ) (rest : List ℕ) → length rest + 1 ≡ s → before ≡ crc32 (out ∷ rest) → after_slide s before out next ≡ crc32 (rest ++ next ∷ [])
 unfolding after_slide leaving steps

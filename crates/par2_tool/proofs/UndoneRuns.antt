@@ -1,5 +1,5 @@
 -- As many undos as commands took effect lead back.
-use Rattle.par2_tool.proofs.Common.{◌≡◌, ℕ, zero, suc, ◌≤◌, List, [], ◌∷◌, length, Ok, refl, sym, ap, subst, ◌∙◌, arith, Action, Folder, Started, Contents, IsOpening, IsSettled, history_of, drop, replicate, AllByRecursion, Undo, Runs, TakesEffect, Effective, length-replicate, History, Run, Ended, Accepted, Passed, IsChanging, folders, history_after}
+use Rattle.par2_tool.proofs.Common.{◌≡◌, ℕ, zero, suc, ◌≤◌, List, [], ◌∷◌, length, Ok, refl, sym, ap, subst, ◌∙◌, arith, drop, replicate, Action, Undo, Folder, Started, Contents, IsOpening, IsSettled, history_of, AllByRecursion, Runs, TakesEffect, Effective, length-replicate, History, Run, Ended, Accepted, Passed, IsChanging, folders, history_after}
 use Rattle.par2_laws.proofs.UndoneFolders.{one_fewer}
 use Rattle.par2_tool.specs.Runs as runs
 use Rattle.par2_tool.proofs.RunEffects.{OneWay}

@@ -1,6 +1,5 @@
 -- Powers of 2 are the same again after 65,535 of them, and so are chirps.
-use Rattle.par2_transform.proofs.Common.{ℕ, zero, suc, ◌+◌, ◌-◌, ◌*◌, ◌/◌, ◌%◌, ◌<◌, ◌≡◌, refl, sym, ap, ◌∙◌, arith, mul_comm, mul_assoc, mul-add, mul, pow, power-lt, power-add, power-65535, product_comm, product-one, power-mul, one-power}
-use Rattle.par2_transform.specs.Chirps.{triangle, chirp}
+use Rattle.par2_transform.proofs.Common.{ℕ, zero, suc, ◌+◌, ◌-◌, ◌*◌, ◌/◌, ◌%◌, ◌<◌, ◌≡◌, refl, sym, ap, ◌∙◌, arith, mul_comm, mul_assoc, mul-add, mul, pow, power-lt, power-add, power-65535, product_comm, product-one, power-mul, one-power, triangle, chirp}
 use Rattle.par2_transform.proofs.Chirps.{chirp-lt, chirp_product}
 
 pub power_whole_rounds : (q : ℕ) → pow 2 (q * 65535) ≡ 1

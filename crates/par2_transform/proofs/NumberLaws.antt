@@ -1,6 +1,5 @@
 -- The numbers of slices by the exponents of their constants.
-use Rattle.par2_transform.proofs.Common.{inl, inr, ℕ, suc, ◌+◌, ◌*◌, ◌<◌, ◌≤◌, ◌≡◌, refl, sym, ap, ap₂, subst, ◌∙◌, arith, Bool, true, false, List, [], ◌∷◌, ◌++◌, length, get_or, drop, length-append, if◌then◌else◌, cases_lt, get_or_append_left, get_or_at, get_or_past, get_or-drop, get_or_default, is_spared, word, list_at, words_at, AreNumbers}
-use Rattle.par2_transform.specs.Chirps.{spared_below, word_at_power}
+use Rattle.par2_transform.proofs.Common.{inl, inr, ℕ, suc, ◌+◌, ◌*◌, ◌<◌, ◌≤◌, ◌≡◌, refl, sym, ap, ap₂, subst, ◌∙◌, arith, Bool, true, false, List, [], ◌∷◌, ◌++◌, length, get_or, drop, length-append, if◌then◌else◌, cases_lt, get_or_append_left, get_or_at, get_or_past, get_or-drop, get_or_default, is_spared, word, list_at, words_at, AreNumbers, spared_below, word_at_power}
 use Rattle.par2_transform.proofs.SparedSums.{spared_below_all, spared_below-mono}
 
 -- what is pushed for an exponent

@@ -1,9 +1,6 @@
 -- What holds of a Cantor basis, and of the polynomials that vanish on its subspaces.
-use Rattle.par2_transform.proofs.Common.{ℕ, zero, suc, ◌+◌, ◌*◌, ◌/◌, ◌%◌, ◌^◌, ◌<◌, ◌≡◌, refl, sym, ap, ap₂, ◌∙◌, true, eqb, ltb, arith, get_or, bit_xor, inl, inr, zero-mul, one-mul, pow-suc, eqb-true, ltb-true, cases_lt, get_or_past, div-le_self, div-div-eq-div-mul, xor_comm, xor_lt, bit_at, xor_assoc, xor_zero_r, xor_zero_l, xor_self, IsLinear, xor_middle, bit_cases, bit_xor_times, bits_ind, linear-zero, tested, tested_at, power-lt, power-add, zero-product, product-lt, product_comm, product-one, product_linear_left, product_linear_right, field_sum_same, field_sum_xor, field_sum-lt, field_sum_head, xor_off}
+use Rattle.par2_transform.proofs.Common.{ℕ, zero, suc, ◌+◌, ◌*◌, ◌/◌, ◌%◌, ◌^◌, ◌<◌, ◌≡◌, refl, sym, ap, ap₂, ◌∙◌, true, eqb, ltb, arith, get_or, bit_xor, inl, inr, zero-mul, one-mul, pow-suc, eqb-true, ltb-true, cases_lt, get_or_past, div-le_self, div-div-eq-div-mul, xor_comm, xor_lt, bit_at, xor_assoc, xor_zero_r, xor_zero_l, xor_self, IsLinear, xor_middle, bit_cases, bit_xor_times, bits_ind, linear-zero, tested, tested_at, power-lt, power-add, zero-product, product-lt, product_comm, product-one, product_linear_left, product_linear_right, field_sum_same, field_sum_xor, field_sum-lt, field_sum_head, xor_off, mul, pow, field_sum, basis, point, vanishing, powers_in}
 use Rattle.std.proofs.lemmas.Nat.Bits.{bit_at-suc, bit_at_above, bit_at_xor, bit_at_lowest}
-use Rattle.par2_spec.specs.Field.{mul, pow}
-use Rattle.par2_spec.specs.Sums.{field_sum}
-use Rattle.par2_transform.specs.Subspaces.{basis, point, vanishing, powers_in}
 
 abbrev pub basis_at : ℕ → ℕ
 basis_at i = get_or basis i 0

@@ -1,6 +1,5 @@
 -- Sums in the field, put together and exchanged.
-use Rattle.par2_transform.proofs.Common.{ℕ, zero, suc, ◌+◌, ◌*◌, ◌≡◌, refl, sym, ap, ◌∙◌, arith, bit_xor, add-zero, inl, inr, zero-mul, one-mul, mul-zero, bit_at, xor_assoc, xor_zero_r, mul, IsLinear, linear-zero, bit_cases, bit_times_xor, product-zero, zero-product, field_sum_xor, field_sum_none}
-use Rattle.par2_spec.specs.Sums.{field_sum}
+use Rattle.par2_transform.proofs.Common.{ℕ, zero, suc, ◌+◌, ◌*◌, ◌≡◌, refl, sym, ap, ◌∙◌, arith, bit_xor, add-zero, inl, inr, zero-mul, one-mul, mul-zero, bit_at, xor_assoc, xor_zero_r, mul, IsLinear, linear-zero, bit_cases, bit_times_xor, product-zero, zero-product, field_sum_xor, field_sum_none, field_sum}
 
 -- a sum in two parts
 pub field_sum_join : (m n : ℕ) (f : ℕ → ℕ) → field_sum (m + n) f ≡ bit_xor (field_sum m f) (field_sum n (λ i. f (m + i)))

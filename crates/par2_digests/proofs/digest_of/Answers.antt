@@ -1,5 +1,4 @@
-use Rattle.par2_digests.proofs.Common.{refl}
-use Rattle.md5.specs.Md5.{digest_bytes}
+use Rattle.par2_digests.proofs.Common.{refl, digest_bytes}
 use Rattle.par2_digests.proofs.digest_of.Goals as goal
 
 pub returns : goal.returns

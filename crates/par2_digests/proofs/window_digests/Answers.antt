@@ -1,5 +1,4 @@
-use Rattle.par2_digests.proofs.Common.{◌≢◌, ◌<◌, ◌∙◌, [], ap, length, below_more, get_or-set_other, get_or-set_same, length-set, arith, digest_bytes}
-use Rattle.md5.specs.Md5.{md5}
+use Rattle.par2_digests.proofs.Common.{◌≢◌, ◌<◌, ◌∙◌, [], ap, length, below_more, get_or-set_other, get_or-set_same, length-set, arith, digest_bytes, md5}
 use Rattle.par2_digests.proofs.window_digests.Goals as goal
 
 pub loop-k-preserved : goal.loop-k-preserved

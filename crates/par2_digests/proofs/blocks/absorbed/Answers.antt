@@ -1,5 +1,4 @@
-use Rattle.par2_digests.proofs.Common.{◌≡◌, ◌+◌, ◌*◌, ℕ, ap, arith, drop, refl, slice_index, take, ◌∙◌, hash_after, lane}
-use Rattle.par2_digests.specs.Feeds.{hash_behind}
+use Rattle.par2_digests.proofs.Common.{◌≡◌, ◌+◌, ◌*◌, ℕ, ap, arith, drop, refl, slice_index, take, ◌∙◌, hash_after, lane, hash_behind}
 use Rattle.par2_digests.proofs.BlockLaws.{after_words, one_block_more}
 use Rattle.par2_digests.proofs.FeedLaws.{hash_one_more}
 use Rattle.par2_digests.proofs.blocks.absorbed.Goals as goal

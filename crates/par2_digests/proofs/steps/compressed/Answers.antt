@@ -1,5 +1,4 @@
-use Rattle.par2_digests.proofs.Common.{ap, refl, add_state, lane}
-use Rattle.md5.specs.Md5.{rounds}
+use Rattle.par2_digests.proofs.Common.{ap, refl, add_state, lane, rounds}
 use Rattle.par2_digests.proofs.steps.compressed.Goals as goal
 
 pub returns : goal.returns

@@ -1,4 +1,4 @@
-use Rattle.par2_spec.specs.Texts.{error_of, failure_text}
+use Rattle.par2_printing.proofs.Common.{error_of, failure_text}
 use Rattle.par2_printing.proofs.failure.write_failure.Goals as goal
 
 pub returns-in-Arguments : goal.returns-in-Arguments

@@ -1,5 +1,4 @@
-use Rattle.par2_slices.proofs.Common.{◌≡◌, ◌≢◌, ◌<◌, ◌*◌, ◌∙◌, length, below_more, get_or-set_other, get_or-set_same, length-set, ap, arith, bit_xor, steps}
-use Rattle.par2_slices.specs.Rolls.{leaving}
+use Rattle.par2_slices.proofs.Common.{◌≡◌, ◌≢◌, ◌<◌, ◌*◌, ◌∙◌, length, below_more, get_or-set_other, get_or-set_same, length-set, ap, arith, bit_xor, steps, leaving}
 use Rattle.par2_slices.proofs.rolling.leaving_table.Goals as goal
 
 pub loop-byte-preserved : goal.loop-byte-preserved

@@ -1,5 +1,4 @@
-use Rattle.par2_transform.proofs.Common.{refl}
-use Rattle.par2_transform.specs.Subspaces.{basis}
+use Rattle.par2_transform.proofs.Common.{refl, basis}
 use Rattle.par2_transform.proofs.basis.element.Goals as goal
 
 pub returns : goal.returns

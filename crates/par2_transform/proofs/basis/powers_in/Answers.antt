@@ -1,5 +1,4 @@
-use Rattle.par2_transform.proofs.Common.{◌≡◌, ◌<◌, ◌≤◌, ◌+◌, ◌*◌, ◌^◌, ◌%◌, suc, sym, ap, ◌∙◌, arith, bit_xor, refl, pow-le-pow_right, xor_comm}
-use Rattle.par2_transform.specs.Subspaces.{powers_in}
+use Rattle.par2_transform.proofs.Common.{◌≡◌, ◌<◌, ◌≤◌, ◌+◌, ◌*◌, ◌^◌, ◌%◌, suc, sym, ap, ◌∙◌, arith, bit_xor, refl, pow-le-pow_right, xor_comm, powers_in}
 use Rattle.par2_transform.proofs.Subspaces.{powers_in-lt}
 use Rattle.par2_transform.proofs.basis.powers_in.Goals as goal
 

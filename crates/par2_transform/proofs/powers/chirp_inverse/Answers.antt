@@ -1,5 +1,4 @@
-use Rattle.par2_transform.proofs.Common.{◌∙◌, ap, pow}
-use Rattle.par2_transform.specs.Chirps.{chirp_inverse}
+use Rattle.par2_transform.proofs.Common.{◌∙◌, ap, pow, chirp_inverse}
 use Rattle.par2_transform.proofs.powers.chirp_inverse.Goals as goal
 
 pub returns : goal.returns

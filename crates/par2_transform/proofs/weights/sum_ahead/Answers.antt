@@ -1,5 +1,4 @@
-use Rattle.par2_transform.proofs.Common.{ℕ, ◌+◌, ◌*◌, ◌%◌, ◌^◌, ◌≤◌, ◌≡◌, refl, sym, ap, ◌∙◌, arith, bit_xor, slice_index, powers_in}
-use Rattle.par2_spec.specs.Sums.{field_sum}
+use Rattle.par2_transform.proofs.Common.{ℕ, ◌+◌, ◌*◌, ◌%◌, ◌^◌, ◌≤◌, ◌≡◌, refl, sym, ap, ◌∙◌, arith, bit_xor, slice_index, powers_in, field_sum}
 use Rattle.par2_transform.proofs.Sums.{field_sum_bit_set, field_sum_bit_unset}
 use Rattle.par2_transform.proofs.StepLaws.{shifted, power_below, ahead_below}
 use Rattle.par2_transform.proofs.weights.sum_ahead.Goals.{then-powers-j-eq1, else-powers-j-eq1}

@@ -1,5 +1,4 @@
-use Rattle.par2_digests.proofs.Common.{◌++◌, ◌/◌, ap, length, sym, ◌∙◌, digest_bytes, hash_after}
-use Rattle.md5.specs.Md5.{md5}
+use Rattle.par2_digests.proofs.Common.{◌++◌, ◌/◌, ap, length, sym, ◌∙◌, digest_bytes, hash_after, md5}
 use Rattle.par2_digests.proofs.midstate.Midstate.digest.Goals as goal
 
 pub returns : goal.returns

@@ -1,5 +1,4 @@
-use Rattle.par2_folder.proofs.Common.{refl, rules}
-use Rattle.par2_spec.specs.Changes.{takes_all}
+use Rattle.par2_folder.proofs.Common.{refl, rules, takes_all}
 use Rattle.par2_folder.proofs.folder.Folder.fingerprint.Goals as goal
 
 pub fingerprints-requires-clause-taken : goal.fingerprints-requires-clause-taken

@@ -1,5 +1,4 @@
-use Rattle.par2_gf16.proofs.Common.{◌<◌, ap, sym, ◌∙◌, arith}
-use Rattle.par2_spec.specs.Field.{pow}
+use Rattle.par2_gf16.proofs.Common.{◌<◌, ap, sym, ◌∙◌, arith, pow}
 use Rattle.par2_gf16.proofs.TableLaws.{power_is, zero_power}
 use Rattle.par2_gf16.proofs.tables.Gf.pow.Goals as goal
 
