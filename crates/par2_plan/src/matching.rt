@@ -110,8 +110,8 @@ fn free_names(
     intact: &BTreeSet<Name>,
     candidates: &[Name],
 ) -> Result<Vec<Name>, AllocError>
-    ensures { let is_free = λ name. not (contains (slice_cmp nat_cmp) intact.now name) in
-        Lists (filter is_free candidates.now) result }
+    ensures { Lists (filter (λ name. not (contains (slice_cmp nat_cmp) intact.now name))
+        candidates.now) result }
 {
     candidates
         .iter()
