@@ -31,7 +31,7 @@ import rt_module
 DEFAULT = "x86-64-v2"
 # The most processes that share a proof, what sharing costs, and the part of a proof that can't be shared.
 SHARERS, SHARING, ALONE = 4, 1.1, 0.3
-# How nice a crate's processes are: none for the longest chain, 5 for one of four fifths, 19 for one of half. What is nicer
+# How nice a crate's processes are: not at all for the longest chain, 6 for one of four fifths, 17 for one of half. What is nicer
 # than `URGENT` has one process, so that there is memory for what is urgent.
 STEEP, NICEST, URGENT = 25, 19, 12
 TOP = os.path.join(os.path.dirname(os.path.realpath(__file__)), "..")
