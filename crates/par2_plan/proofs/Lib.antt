@@ -6,6 +6,7 @@ mod MatchNumbers
 mod Ids
 mod IndexBytes
 mod SliceLists
+mod LostSlices
 mod VolumeNumbers
 mod SliceCounts
 mod Pairs
@@ -16,7 +17,7 @@ mod PlanParts
 mod Present
 mod RefusalGroups
 mod RepairParts
-mod Trees
+mod Standings
 mod VolumeNames
 mod OutputChanges
 mod VolumeStages

@@ -2,7 +2,8 @@ mod Common
 pub mod Lists
 pub mod Names
 pub mod Exponents
-pub mod Firsts
+pub mod Keeping
+pub mod KeptPackets
 pub mod Refusals
 pub mod Reading
 pub mod TakenNames
