@@ -1,8 +1,7 @@
 -- What an accepted action makes of a session, and a run of them.
-use Rattle.par2_journal.proofs.Common.{◌≡◌, ◌≢◌, ℕ, suc, ◌+◌, ◌<◌, ◌≤◌, List, [], ◌∷◌, length, map, get_or, drop, Ok, Err, Result, true, refl, sym, ap, subst, ◌∙◌, arith, IsErr, OnErr, get_or-map, length-map, drop_all, drop_more, action_of, Change, Action, Do, Undo, Redo, Command, History, history_after, Run, Accepted, Passed, MayBeRefused, IsChanging, Refusal, Session, KeptSession, OnlyGrew, CanWalk, session_of_kept, session_with, session_unless, first_entry, history_of, kept_undone, kept_redone, accepted_next, refused_alike, done_of_kept, undone_of_kept, redone_of_kept, walked_is_valid, same_session, Kind, Changing, Undoing, Redoing, IsKindOf, changes_by_kind, after_commit, next_of, is_valid, LeadsToAfterAsked}
+use Rattle.par2_journal.proofs.Common.{◌≡◌, ◌≢◌, ℕ, suc, ◌+◌, ◌<◌, ◌≤◌, List, [], ◌∷◌, length, map, get_or, drop, Ok, Err, Result, Bool, true, IsTrue, refl, sym, ap, subst, ◌∙◌, arith, false≢true, IsFalse, IsErr, ◌↔◌, OnOk, is_ok, get_or-map, length-map, drop_all, drop_more, action_of, Change, Action, Do, Undo, Redo, Command, History, history_after, Run, Accepted, Passed, MayBeRefused, IsChanging, Refusal, Session, KeptSession, OnlyGrew, CanWalk, session_of_kept, session_with, session_unless, first_entry, history_of, kept_undone, kept_redone, accepted_next, refused_alike, done_of_kept, undone_of_kept, redone_of_kept, walked_is_valid, same_session, Kind, Changing, Undoing, Redoing, IsKindOf, changes_by_kind, after_commit, next_of, is_valid, LeadsToAfterAsked, session_after, changes_asked}
 use Rattle.par2_spec.specs.declared.commands.Action as given
 use Rattle.par2_spec.specs.History.{NothingToUndo, NothingToRedo}
-use Rattle.par2_spec.specs.Sessions.{session_after, changes_asked}
 
 -- a command that was made ready
 pub command_done : (old mid : KeptSession) (command : Command) (kind : Kind) → IsChanging (Do command) → OnlyGrew old mid → IsKindOf (Do command) kind
@@ -15,6 +14,10 @@ command_done old mid command (Changing changes) changing grew is asked =
     ∙ ap Ok (sym (done_of_kept mid command changes changing))
 command_done old mid command Undoing changing grew is asked = absurd is
 command_done old mid command Redoing changing grew is asked = absurd is
+
+abbrev HasActed : Action → KeptSession → KeptSession → Bool → Type 0
+HasActed action old new acted =
+    (IsTrue acted → session_after (session_of_kept old) action ≡ Ok (session_of_kept new)) × (IsFalse acted → MayBeRefused (history_of (session_of_kept old)) action)
 
 with_undos : KeptSession → List (List Change) → KeptSession
 with_undos s undos = record { folder = s.folder; undos = undos; redos = s.redos; room = s.room }
@@ -55,10 +58,14 @@ undo_refused s none = subst (λ (r : Result History Refusal). IsErr r) (sym (ref
 pub redo_refused : (s : KeptSession) → s.redos ≡ [] → MayBeRefused (history_of (session_of_kept s)) Redo
 redo_refused s none = subst (λ (r : Result History Refusal). IsErr r) (sym (refused_alike (session_of_kept s) Redo NothingToRedo (no_redo s none))) refl
 
--- what holds anyway holds of an error
-pub of_error : {A E : Type 0} (r : Result A E) {P : Type 0} → P → OnErr r P
-of_error (Ok a) h = tt
-of_error (Err e) h = h
+-- whether it was done or refused
+pub undo_acted : {E : Type 0} (old new : KeptSession) (r : Result (Unit {0}) E) → IsErr r ↔ (old.undos ≡ []) → OnOk r (new ≡ kept_undone old (next_of old.undos)) → HasActed Undo old new (is_ok r)
+undo_acted old new (Ok u) refused undone = (λ _. undo_done old (λ none. false≢true (refused.1 none)) ∙ ap (λ (s : KeptSession). Ok (session_of_kept s)) (sym undone), λ h. absurd (false≢true (sym h)))
+undo_acted old new (Err e) refused undone = (λ h. absurd (false≢true h), λ _. undo_refused old (refused.0 refl))
+
+pub redo_acted : {E : Type 0} (old new : KeptSession) (r : Result (Unit {0}) E) → IsErr r ↔ (old.redos ≡ []) → OnOk r (new ≡ kept_redone old (next_of old.redos)) → HasActed Redo old new (is_ok r)
+redo_acted old new (Ok u) refused redone = (λ _. redo_done old (λ none. false≢true (refused.1 none)) ∙ ap (λ (s : KeptSession). Ok (session_of_kept s)) (sym redone), λ h. absurd (false≢true (sym h)))
+redo_acted old new (Err e) refused redone = (λ h. absurd (false≢true h), λ _. redo_refused old (refused.0 refl))
 
 -- the history goes along
 leads_asked : (s t : Session) (action : Action) → is_valid s ≡ true → LeadsToAfterAsked s.folder action → session_after s action ≡ Ok t → history_after (history_of s) action ≡ Ok (history_of t)

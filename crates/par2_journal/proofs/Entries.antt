@@ -1,5 +1,5 @@
 -- The entries of a session before and after one of them was turned.
-use Rattle.par2_journal.proofs.Common.{◌≡◌, ℕ, ◌+◌, ◌<◌, ◌≤◌, List, [], ◌∷◌, ◌++◌, length, get_or, set, take, drop, sym, ap, ◌∙◌, arith, length-take, reverse, insert, take_all, drop_all, take_more, take_more_set, take-set, reverse-append, drop-set-lt, take-append_seam, Change, with_changes}
+use Rattle.par2_journal.proofs.Common.{◌≡◌, ℕ, ◌+◌, ◌<◌, ◌≤◌, List, [], ◌∷◌, ◌++◌, length, get_or, set, take, drop, sym, ap, ◌∙◌, arith, length-take, reverse, insert, take_all, drop_all, take_more, take_more_set, take-set, reverse-append, drop-set-lt}
 use Rattle.std.proofs.lemmas.List.Edits.{insert_end, length-insert}
 
 module _ {X : Type 0} (xs : List X) (i : ℕ) (within : i < length xs) where
@@ -15,10 +15,6 @@ module _ {X : Type 0} (xs : List X) (i : ℕ) (within : i < length xs) where
 
   pub redos_more_set : (y : X) → drop (i + 1) (set xs i y) ≡ drop (i + 1) xs
   redos_more_set y = drop-set-lt (i + 1) xs i y (omega arith)
-
--- as many changes, lent to be written, end as the new ones
-pub lent_whole : (old new : List Change) → length new ≡ length old → with_changes old new ≡ new
-lent_whole old new same = ap (λ n. take n (new ++ drop (length new) old)) (sym same) ∙ take-append_seam new (drop (length new) old)
 
 -- a new entry at the cursor, after those from there on were dropped
 module _ {X : Type 0} (xs : List X) (i : ℕ) (within : i ≤ length xs) (y : X) where

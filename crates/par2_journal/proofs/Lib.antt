@@ -4,9 +4,8 @@ mod Turns
 mod Readiness
 pub mod Actions
 pub mod SessionJournals
-mod Each
 mod Ways
-mod Trials
 mod Prints
 mod SessionEntries
 mod Openings
+mod TriedNames

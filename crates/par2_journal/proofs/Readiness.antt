@@ -1,10 +1,8 @@
 -- What is asked of a session, and what it makes ready.
-use Rattle.par2_journal.proofs.Common.{◌≡◌, ◌≢◌, inl, inr, ℕ, Bool, ◌<◌, ◌≤◌, List, [], ◌∷◌, length, map, None, Some, IsTrue, Result, Ok, Err, true, refl, sym, ap, subst, ◌∙◌, arith, nil_from_length, IfOk, IfErr, IsErrAnd, Change, Write, Rename, Remove, places_taken, are_applicable, effects, Command, Do, Undo, Redo, Repair, Folder, LeadsToAfterAsked, KeptSession, OnlyGrew, session_of_kept, changes_unless, first_entry, Step, step_of, takes_applicable, AreAlong, prints_of, MakesReady, Prepares, Fingerprints, Kind, Ready, Changing, Undoing, Redoing, CanBe, Fits, IsKindOf, IsReady, changes_by_kind, next_of, IsChanging}
-use Rattle.par2_spec.specs.Changes.{Replace}
+use Rattle.par2_journal.proofs.Common.{◌≡◌, ◌≢◌, inl, inr, ℕ, Bool, ◌<◌, ◌≤◌, List, [], ◌∷◌, length, map, None, Some, IsTrue, Result, Ok, Err, true, refl, sym, ap, subst, ◌∙◌, arith, nil_from_length, IfOk, IfErr, IsErrAnd, Change, Write, Rename, Remove, places_taken, are_applicable, effects, Replace, Command, Do, Undo, Redo, Repair, Folder, LeadsToAfterAsked, KeptSession, OnlyGrew, session_of_kept, changes_unless, first_entry, Step, step_of, takes_applicable, AreAlong, prints_of, MakesReady, Prepares, Fingerprints, Kind, Ready, Changing, Undoing, Redoing, CanBe, Fits, IsKindOf, IsReady, changes_by_kind, next_of, IsChanging, changes_asked}
 use Rattle.par2_spec.specs.Refusals.{refusal, after, early_refusal}
 use Rattle.par2_spec.specs.Plans as plans
 use Rattle.par2_spec.specs.History as history
-use Rattle.par2_spec.specs.Sessions.{changes_asked}
 use Rattle.par2_spec.specs.declared.Fault.{Fault}
 use Rattle.par2_spec.specs.declared.Fault.TheVariants.{Memory, RepairFailed}
 use Rattle.par2_plan.specs.Drafts.{HasItsMd5s, IsDraft}

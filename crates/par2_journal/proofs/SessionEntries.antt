@@ -1,11 +1,7 @@
 -- Entries that can be those of a session.
-use Rattle.par2_journal.proofs.Common.{◌≡◌, ℕ, ◌+◌, ◌<◌, ◌≤◌, List, [], ◌∷◌, length, take, drop, get_or, ap, ◌∙◌, arith, reverse, sum_by, take_more, Change, FolderState, places_taken, walks, leads, walked_leads, leading_walks, same_tests}
+use Rattle.par2_journal.proofs.Common.{◌≡◌, ℕ, ◌+◌, ◌<◌, ◌≤◌, List, [], ◌∷◌, length, take, drop, get_or, ap, ◌∙◌, arith, reverse, sum_by, take_more, Change, places_taken}
 use Rattle.std.proofs.lemmas.List.Sums.{sum_by-take-drop, sum_by-append, sum_by-cons}
 use Rattle.std.proofs.lemmas.List.Sorted.{sum_by-IsPermutation, IsPermutation-reverse}
-
--- with room enough it is a matter of the files
-pub walks_as_leads : (f : FolderState) (es : List (List Change)) → sum_by places_taken es ≤ f.vacant → walks f es ≡ leads f.files es
-walks_as_leads f es room = same_tests (walks f es) (leads f.files es) (walked_leads f es) (λ h. leading_walks f es h room)
 
 -- the places of one side are among those of all
 pub places_before : (es : List (List Change)) (n : ℕ) → sum_by places_taken (reverse (take n es)) ≤ sum_by places_taken es

@@ -1,22 +1,19 @@
 -- What a session opens as.
-use Rattle.std.specs.Prelude.{◌≡◌, ◌≤◌, ◌⊎◌, ℕ, Bool, List, ◌∷◌, length, take, drop, reverse, position, Option, Result, Ok, Err, IfOk, IfErr, OnOk, IsTrue, IsFalse, MatchResult, Some, None, Vec, false}
+use Rattle.std.specs.Prelude.{◌≡◌, ◌≤◌, ◌⊎◌, ℕ, Bool, List, ◌∷◌, length, take, drop, reverse, position, Option, Result, Ok, Err, IfOk, IfErr, OnOk, IsTrue, IsFalse, MatchResult, Some, Vec}
 use Rattle.std.specs.declared.alloc.Global.{Global}
 use Rattle.std.specs.Str.{bytes_eq}
 use Rattle.par2_spec.specs.Folders.{Folder, fingerprint}
 use Rattle.par2_spec.specs.Changes.{Change, FolderState, effects}
 use Rattle.par2_spec.specs.Sessions.{Session, KeptSession, session_of_kept}
-use Rattle.par2_spec.specs.Journals as journals
 use Rattle.par2_spec.specs.Opening as defined
 use Rattle.par2_spec.specs.Opening.{is_valid, leads_through}
 use Rattle.par2_spec.specs.declared.JournalFault.{JournalFault}
-use Rattle.par2_spec.specs.declared.JournalFault.TheVariants.{JournalInvalid, FolderChanged, Memory}
-use Rattle.par2_spec.specs.declared.Version.TheVariants.{Two}
+use Rattle.par2_spec.specs.declared.JournalFault.TheVariants.{JournalInvalid, Memory}
 use Rattle.par2_journal_bytes.specs.Reading.{IsSealed}
 use Rattle.par2_journal_bytes.specs.Views.{changes_in}
 use Rattle.par2_folder.specs.declared.change.Change as given
 use Rattle.par2_journal.specs.declared.opening.Opened.{Opened}
 use Rattle.par2_journal.specs.declared.opening.Opened.TheVariants as opening
-use Rattle.par2_journal.specs.declared.session.Digests.{Digests}
 use Rattle.par2_journal.specs.declared.taking_back.Halfway.{Halfway}
 
 -- the session of these entries, n of which an undo applies
@@ -39,10 +36,6 @@ go_through folder way prints = leads_through folder (changes_in way) prints
 abbrev pub has_print : Folder → List ℕ → Bool
 has_print folder print = bytes_eq (fingerprint folder) print
 
--- the parts of a journal that are looked at
-abbrev pub journal_with : List ℕ → ℕ → List (List Change) → journals.Journal
-journal_with print n entries = record { version = Two; fingerprint = print; cursor = n; entries = entries; halfway = None }
-
 -- the session that finishing gives
 abbrev pub session_before : Halfway → KeptSession
 session_before halfway = halfway.session
@@ -51,20 +44,9 @@ session_before halfway = halfway.session
 abbrev pub way_left : Halfway → List Change
 way_left halfway = changes_in halfway.back.items
 
-abbrev pub settled_by : KeptSession → defined.Opened
-settled_by session = defined.Settled (session_of_kept session)
-
-abbrev pub halfway_by : Halfway → defined.Opened
-halfway_by halfway = defined.Halfway (session_of_kept (session_before halfway)) (way_left halfway)
-
 abbrev pub opened_of : Opened → defined.Opened
-opened_of (opening.Settled session) = settled_by session
-opened_of (opening.Halfway halfway) = halfway_by halfway
-
--- what a halfway command opens as, prints being the fingerprints after each of its changes
-abbrev pub halfway_as : Folder → List ℕ → ℕ → List (List Change) → List (List ℕ) → List Change → Result defined.Opened JournalFault
-halfway_as folder print n entries prints back =
-    defined.opened_if_found folder (journal_with print n entries) (record { fingerprints = prints; back = back }) (position (bytes_eq (fingerprint folder)) (print ∷ prints))
+opened_of (opening.Settled session) = defined.Settled (session_of_kept session)
+opened_of (opening.Halfway halfway) = defined.Halfway (session_of_kept (session_before halfway)) (way_left halfway)
 
 -- where the fingerprint of the folder stands in a journal: that of the folder before a command first, and then those
 -- after each of its changes
@@ -90,19 +72,11 @@ pub record AnswersTest (folder : FolderState) (test : Bool) (wanted : Session) (
   pub refused : IfErr result (λ e. FailsTest test e.0)
   pub files : IfErr result (λ e. e.1.files ≡ folder.files)
 
--- the answer of the definitions, as this view says it, or that memory ran out
-pub record Answers {A : Type 0} (view : A → defined.Opened) (folder : Folder) (answer : Result defined.Opened JournalFault) (result : Result A (JournalFault × FolderState)) : Type 0 where
-  pub opened : IfOk result (λ found. answer ≡ Ok (view found))
-  pub refused : IfErr result (λ e. (e.0 ≡ Memory) ⊎ (answer ≡ Err e.0))
+-- what answers, or that memory ran out, where this holds; and nothing opens elsewhere
+pub record AnswersWhere (holds : Type 0) (folder : Folder) (Answers : Result defined.Opened JournalFault → Type 0) (result : Result Opened (JournalFault × FolderState)) : Type 0 where
+  pub opened : IfOk result (λ found. holds × Answers (Ok (opened_of found)))
+  pub refused : IfErr result (λ e. holds → (e.0 ≡ Memory) ⊎ Answers (Err e.0))
   pub files : IfErr result (λ e. e.1.files ≡ folder)
-
--- the session, where the text of its journal ends with its digest, and the folder has the fingerprint in it
-pub record AnswersDigests (kept : KeptSession) (found : Digests) (print digest : List ℕ) (result : Result Opened (JournalFault × FolderState)) : Type 0 where
-  pub session : IfOk result (λ opened. opened_of opened ≡ settled_by kept)
-  pub right : OnOk result (digest ≡ found.text)
-  pub same : OnOk result (IsTrue (bytes_eq found.folder print))
-  pub refused : IfErr result (λ e. ((e.0 ≡ JournalInvalid) × ¬ (digest ≡ found.text)) ⊎ ((e.0 ≡ FolderChanged false) × (digest ≡ found.text) × IsFalse (bytes_eq found.folder print)))
-  pub files : IfErr result (λ e. e.1.files ≡ kept.folder.files)
 
 -- what the opening of a folder with these bytes as its journal answers
 pub record AnswersOpening (folder : FolderState) (text : List ℕ) (result : Result Opened (JournalFault × FolderState)) : Type 0 where

@@ -8,7 +8,7 @@ use par2_spec::Action;
 use std::alloc::AllocError;
 
 impl Session {
-    ghost use Rattle.std.specs.Prelude.{◌≡◌, [], map, IfOk, IfErr, IsErrOf, IsTrue, drop, OnOk, OnErr};
+    ghost use Rattle.std.specs.Prelude.{◌≡◌, [], map, IfOk, IfErr, IsErrOf, IsTrue, IsFalse, drop, OnOk};
     ghost use Rattle.std.specs.List.{AllByRecursion};
     ghost use Rattle.par2_spec.specs.Changes.{are_applicable};
     ghost use Rattle.par2_spec.specs.Commands.{Undo, Redo, Create, Purge};
@@ -166,33 +166,26 @@ impl Session {
         Ok(self.commit(prepared))
     }
 
-    // One action. Undo and redo take no memory.
-    fn act(&mut self, action: &Action) -> Result<(), SessionFault>
-        ensures done { OnOk result (IsAfter (action_of action.now) self.old self.new) }
-        ensures leads { OnOk result (LeadsFrom (action_of action.now) self.old) }
-        ensures unchanged { OnErr result (OnlyGrew self.old self.new) }
-        ensures refused { OnErr result (MayBePassed (action_of action.now) self.old) }
+    // Whether an action was done. Undo and redo take no memory.
+    fn act(&mut self, action: &Action) -> bool
+        ensures done { IsTrue result → IsAfter (action_of action.now) self.old self.new }
+        ensures leads { IsTrue result → LeadsFrom (action_of action.now) self.old }
+        ensures unchanged { IsFalse result → OnlyGrew self.old self.new }
+        ensures refused { IsFalse result → MayBePassed (action_of action.now) self.old }
         ensures walks { CanWalk self.old }
     {
         let _folder = self.folder();
         match action {
-            Action::Create(args) => {
-                let _steps = self.create(args)?;
-            }
+            Action::Create(args) => self.create(args).is_ok(),
             Action::Repair {
                 base,
                 extras,
                 purge,
-            } => {
-                let _steps = self.repair(base, extras, *purge)?;
-            }
-            Action::Purge { base } => {
-                let _steps = self.purge(base)?;
-            }
-            Action::Undo => self.undo()?,
-            Action::Redo => self.redo()?,
+            } => self.repair(base, extras, *purge).is_ok(),
+            Action::Purge { base } => self.purge(base).is_ok(),
+            Action::Undo => self.undo().is_ok(),
+            Action::Redo => self.redo().is_ok(),
         }
-        Ok(())
     }
 
     /// Performs the actions in order, goes on after a refused one, and answers how many were accepted. As many
@@ -205,9 +198,9 @@ impl Session {
     {
         let mut accepted = 0;
         for action in actions {
-            match self.act(action) {
-                Ok(()) => accepted += 1,
-                Err(_) => continue,
+            let done = self.act(action);
+            if done {
+                accepted += 1;
             }
         }
         accepted

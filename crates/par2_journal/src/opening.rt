@@ -1,103 +1,88 @@
 //! A folder with a journal is opened as a session.
-ghost use Rattle.std.specs.Prelude.{◌≡◌, ◌≤◌, ◌<◌, ◌⊎◌, if◌then◌else◌, IfSome, IfOk, IfErr, OnOk, IsTrue, IsFalse, length, Ok, None, true, false, sum_by};
-ghost use Rattle.par2_spec.specs.Changes.{places_taken, takes_all};
-ghost use Rattle.par2_spec.specs.Sessions.{walks};
-ghost use Rattle.par2_spec.specs.Journals.{IsJournal};
-ghost use Rattle.par2_spec.specs.Opening.{is_valid, opened, opened_by_part};
+ghost use Rattle.std.specs.Prelude.{◌≡◌, ◌≤◌, ◌⊎◌, if◌then◌else◌, IfSome, IfOk, IfErr, OnOk, length, Ok, None, true, false, sum_by};
+ghost use Rattle.md5.specs.Md5.{md5};
+ghost use Rattle.par2_spec.specs.Changes.{are_applicable, effect, effects, is_applicable, places_taken};
+ghost use Rattle.par2_spec.specs.Folders.{Folder as Files};
+ghost use Rattle.par2_spec.specs.Opening.{Opens, is_valid, leads, opened_by_part};
 ghost use Rattle.par2_spec.specs.declared.JournalFault.TheVariants.{JournalInvalid, FolderChanged, Memory};
 ghost use Rattle.par2_journal_bytes.specs.Reading.{IsSealed};
 ghost use Rattle.par2_journal_bytes.specs.Views.{changes_in, journal_of};
-ghost use Rattle.par2_journal.specs.Opening.{Answers, AnswersDigests, AnswersOpening, AnswersTest, OpensAsIs, are_valid, has_print, journal_with, opened_of, session_at, settled_by};
-ghost use Rattle.par2_journal.specs.Walks.{AreFirstMade, AreFirstWalked, AreMade, AreUntouched, EntriesWalk, walk_both};
+ghost use Rattle.par2_journal.specs.Opening.{AnswersOpening, AnswersTest, AnswersWhere, OpensAsIs, are_valid, has_print, session_at};
+ghost use Rattle.par2_folder.specs.Views.{change_of};
+ghost use Rattle.par2_journal.specs.Walks.{AreNamesOf, EntriesWalk, IsTried};
 
-use crate::session::Digests;
 use crate::taking_back::{Halfway, open_halfway};
 use crate::{Changes, Next, Session};
-use par2_folder::{Change, Folder};
-use par2_journal_bytes::{DecodeFault, Journal, Untested, decode, decode_untested};
+use par2_folder::{Change, Folder, Name};
+use par2_journal_bytes::{DecodeFault, Journal, decode, decode_untested, is_sealed};
 use par2_spec::JournalFault;
 use std::alloc::{AllocError, Global};
+use std::collections::BTreeSet;
 
-// Whether changes and entries can be applied: it is tried on the folder itself, and turned back.
+// Whether changes and entries can be applied: it is tried on the names of the files.
 
-// Applies the changes in order up to the first that is refused, and answers how many were applied. Each of these has
-// become the change that takes it back.
-fn apply_first(folder: &mut Folder, changes: &mut [Change]) -> usize
-    ensures within { result ≤ length changes.old }
-    ensures first { AreFirstMade folder.old folder.new changes.old changes.new result }
-    ensures refused { result < length changes.old
-        → IsFalse (takes_all folder.old (changes_in changes.old)) }
+// Whether the change can be made among files of these names, which become those after it.
+fn go_on(names: &mut BTreeSet<Name>, change: &Change) -> Result<bool, AllocError>
+    ensures { let change = change_of change.now in
+        (files : Files) → AreNamesOf files names.old →
+        IfOk result (IsTried (is_applicable files change) (effect files change) names.new) }
 {
-    let mut applied = 0;
-    for change in changes.iter_mut() {
-        match folder.apply(change) {
-            Ok(()) => applied += 1,
-            Err(_) => return applied,
+    match change {
+        Change::Write(name, _) => Ok(names.insert(name.copied())?),
+        Change::Replace(name, _) => Ok(names.contains(name)),
+        Change::Rename(from, to) => {
+            if names.contains(to) {
+                return Ok(false);
+            }
+            Ok(names.remove(from) && names.insert(to.copied())?)
+        }
+        Change::Remove(name) => Ok(names.remove(name)),
+    }
+}
+
+// Whether the changes can be made in order among files of these names, which become those after them.
+fn go_along(names: &mut BTreeSet<Name>, changes: &[Change]) -> Result<bool, AllocError>
+    ensures { let changes = changes_in changes.now in
+        (files : Files) → AreNamesOf files names.old →
+        IfOk result (IsTried (are_applicable files changes) (effects files changes) names.new) }
+{
+    for change in changes {
+        if !go_on(names, change)? {
+            return Ok(false);
         }
     }
-    applied
+    Ok(true)
 }
 
-// Applies all of the changes in order, so that they become the way back, or none where one is refused.
-fn turn_whole(folder: &mut Folder, changes: &mut [Change]) -> bool
-    ensures result { result ≡ takes_all folder.old (changes_in changes.old) }
-    ensures made { IsTrue result → AreMade folder.old folder.new changes.old changes.new }
-    ensures same { IsFalse result → AreUntouched folder.old folder.new changes.old changes.new }
+// The names of the files.
+fn names_of(alloc: Global, folder: &Folder) -> Result<BTreeSet<Name>, AllocError>
+    ensures { IfOk result (AreNamesOf folder.now.files) }
 {
-    let applied = apply_first(folder, changes);
-    if applied == changes.len() {
-        changes.reverse();
-        return true;
-    }
-    let (front, _) = changes.split_at_mut(applied);
-    front.reverse();
-    folder.apply_all(front);
-    false
+    folder.names()?.into_iter().collect(alloc)
 }
 
-// Whether all of the changes can be applied in order. Folder and changes are as before.
-pub(crate) fn can_apply(folder: &mut Folder, changes: &mut [Change]) -> bool
-    ensures result { result ≡ takes_all folder.old (changes_in changes.old) }
-    ensures same { AreUntouched folder.old folder.new changes.old changes.new }
+// Whether all of the changes can be made in order.
+pub(crate) fn can_apply(
+    alloc: Global,
+    folder: &Folder,
+    changes: &[Change],
+) -> Result<bool, AllocError>
+    ensures { IfOk result (λ x. x ≡ are_applicable folder.now.files (changes_in changes.now)) }
 {
-    if !turn_whole(folder, changes) {
-        return false;
-    }
-    folder.apply_all(changes);
-    true
+    go_along(&mut names_of(alloc, folder)?, changes)
 }
 
-// Applies the entries in order up to the first that is refused, and answers how many were applied. Each of these has
-// become its way back.
-fn walk_first(folder: &mut Folder, entries: &mut [Changes]) -> usize
-    ensures within { result ≤ length entries.old }
-    ensures first { AreFirstWalked folder.old folder.new entries.old entries.new result }
-    ensures refused { result < length entries.old
-        → IsFalse (walks folder.old entries.old) }
+// Whether the entries can be applied one after the other.
+fn can_walk(alloc: Global, folder: &Folder, entries: &[Changes]) -> Result<bool, AllocError>
+    ensures { IfOk result (λ x. x ≡ leads folder.now.files entries.now) }
 {
-    let mut walked = 0;
-    for entry in entries.iter_mut() {
-        if !turn_whole(folder, entry.as_mut_slice()) {
-            return walked;
+    let mut names = names_of(alloc, folder)?;
+    for entry in entries {
+        if !go_along(&mut names, entry.as_slice())? {
+            return Ok(false);
         }
-        walked += 1;
     }
-    walked
-}
-
-// Whether the entries can be applied one after the other. Folder and entries are as before.
-fn can_walk(folder: &mut Folder, entries: &mut [Changes]) -> bool
-    ensures result { result ≡ walks folder.old entries.old }
-    ensures folder { folder.new ≡ folder.old }
-    ensures entries { entries.new ≡ entries.old }
-{
-    let count = entries.len();
-    let walked = walk_first(folder, entries);
-    let (front, _) = entries.split_at_mut(walked);
-    front.reverse();
-    let _back = walk_first(folder, front);
-    front.reverse();
-    walked == count
+    Ok(true)
 }
 
 // Whether the entries of a journal can be those of a session.
@@ -113,29 +98,18 @@ fn change_count(entries: &[Changes]) -> Option<usize>
     Some(count)
 }
 
-// Whether those before the cursor can be applied, the last one first, and those from it on. Folder and entries are as
-// before.
-fn can_walk_both(folder: &mut Folder, entries: &mut [Changes], cursor: usize) -> bool
-    requires { cursor ≤ length entries.old }
-    ensures result { result ≡ walk_both folder.old cursor entries.old }
-    ensures folder { folder.new ≡ folder.old }
-    ensures entries { entries.new ≡ entries.old }
-{
-    let (undos, redos) = entries.split_at_mut(cursor);
-    undos.reverse();
-    let back = can_walk(folder, undos);
-    undos.reverse();
-    let forth = can_walk(folder, redos);
-    back && forth
-}
-
 // Whether the entries can be those of a session on the folder, with this cursor. If so, the folder has got the room
 // that they take.
-fn settle(folder: &mut Folder, entries: &mut [Changes], cursor: usize) -> Result<bool, AllocError>
+fn settle(
+    alloc: Global,
+    folder: &mut Folder,
+    entries: &mut [Changes],
+    cursor: usize,
+) -> Result<bool, AllocError>
     requires { cursor ≤ length entries.old }
     ensures files { folder.new.files ≡ folder.old.files }
     ensures vacant { folder.old.vacant ≤ folder.new.vacant }
-    ensures entries { entries.new ≡ entries.old }
+    ensures entries { OnOk result (entries.new ≡ entries.old) }
     ensures valid { IfOk result (λ x. x ≡ are_valid folder.old.files cursor entries.old) }
     ensures walks { result ≡ Ok true → EntriesWalk folder.new cursor entries.old }
 {
@@ -143,11 +117,16 @@ fn settle(folder: &mut Folder, entries: &mut [Changes], cursor: usize) -> Result
         return Err(AllocError);
     };
     folder.reserve(count)?;
-    Ok(can_walk_both(folder, entries, cursor))
+    let (undos, redos) = entries.split_at_mut(cursor);
+    undos.reverse();
+    let back = can_walk(alloc, folder, undos)?;
+    undos.reverse();
+    Ok(back && can_walk(alloc, folder, redos)?)
 }
 
 // The session of these entries, where they can be applied.
 pub(crate) fn session_from(
+    alloc: Global,
     mut folder: Folder,
     mut entries: Vec<Changes>,
     cursor: usize,
@@ -157,7 +136,7 @@ pub(crate) fn session_from(
         AnswersTest folder (is_valid wanted) wanted result }
     ensures vacant { IfErr result (λ e. folder.vacant ≤ e.1.vacant) }
 {
-    match settle(&mut folder, &mut entries, cursor) {
+    match settle(alloc, &mut folder, &mut entries, cursor) {
         Ok(true) => Ok(Session::from_entries(folder, entries, cursor)),
         Ok(false) => Err((JournalFault::JournalInvalid, folder)),
         Err(AllocError) => Err((JournalFault::Memory, folder)),
@@ -174,119 +153,44 @@ pub enum Opened {
     Halfway(Halfway),
 }
 
-// The session, where its folder has this fingerprint.
-fn unless_changed(session: Session, wanted: [u8; 16]) -> Result<Session, (JournalFault, Folder)>
-    ensures session { IfOk result (λ kept. kept ≡ session) }
-    ensures same { OnOk result (IsTrue (has_print session.folder.files wanted)) }
-    ensures refused { IfErr result (λ e. (e.0 ≡ Memory)
-        ⊎ ((e.0 ≡ FolderChanged false) × IsFalse (has_print session.folder.files wanted))) }
-    ensures files { IfErr result (λ e. e.1.files ≡ session.folder.files) }
-{
-    let print = match session.fingerprint() {
-        Ok(print) => print,
-        Err(AllocError) => return Err((JournalFault::Memory, session.into_folder())),
-    };
-    if print.as_slice() != wanted.as_slice() {
-        let fault = JournalFault::FolderChanged { halfway: false };
-        return Err((fault, session.into_folder()));
-    }
-    Ok(session)
-}
-
 // Why nothing opens by a journal whose entries can't be applied to the folder: that it changed comes first.
-fn invalid_unless_changed(alloc: Global, folder: Folder, wanted: [u8; 16]) -> (JournalFault, Folder)
-    ensures cause { let same = has_print folder.files wanted in (result.0 ≡ Memory)
-        ⊎ (result.0 ≡ (if same then JournalInvalid else FolderChanged false)) }
-    ensures files { result.1.files ≡ folder.files }
+fn why_invalid(folder: &Folder, wanted: [u8; 16]) -> JournalFault
+    ensures { let same = has_print folder.now.files wanted in (result ≡ Memory)
+        ⊎ (result ≡ (if same then JournalInvalid else FolderChanged false)) }
 {
-    match unless_changed(Session::new(alloc, folder), wanted) {
-        Ok(session) => (JournalFault::JournalInvalid, session.into_folder()),
-        Err(refused) => refused,
+    match folder.fingerprint() {
+        Ok(print) if print.as_slice() == wanted.as_slice() => JournalFault::JournalInvalid,
+        Ok(_) => JournalFault::FolderChanged { halfway: false },
+        Err(AllocError) => JournalFault::Memory,
     }
 }
 
-// Opens by a journal of a session that no command has left. The entries are tried before the folder is digested.
+// Opens by a journal of a session that no command has left. The entries are tried before anything is digested; then the
+// text of the journal and the folder are digested side by side.
 fn open_settled(
     alloc: Global,
     folder: Folder,
-    fingerprint: [u8; 16],
-    entries: Vec<Changes>,
-    cursor: usize,
-) -> Result<Session, (JournalFault, Folder)>
-    requires { cursor ≤ length entries.items }
-    ensures { let journal = journal_with fingerprint cursor entries.items in
-        Answers settled_by folder.files (opened_by_part folder.files journal None) result }
-{
-    match session_from(folder, entries, cursor) {
-        Ok(session) => unless_changed(session, fingerprint),
-        Err((JournalFault::JournalInvalid, folder)) => {
-            Err(invalid_unless_changed(alloc, folder, fingerprint))
-        }
-        Err(refused) => Err(refused),
-    }
-}
-
-// Opens by a journal.
-fn open_journal(
-    alloc: Global,
-    folder: Folder,
     journal: Journal,
-) -> Result<Opened, (JournalFault, Folder)>
-    requires { IsJournal (journal_of journal) }
-    ensures { Answers opened_of folder.files (opened folder.files (journal_of journal)) result }
-{
-    let Journal {
-        fingerprint,
-        cursor,
-        entries,
-        halfway,
-        ..
-    } = journal;
-    match halfway {
-        None => {
-            let session = open_settled(alloc, folder, fingerprint, entries, cursor)?;
-            Ok(Opened::Settled(session))
-        }
-        Some(part) => {
-            let prints = part.fingerprints;
-            let found = open_halfway(
-                alloc,
-                folder,
-                fingerprint,
-                &prints,
-                part.back,
-                entries,
-                cursor,
-            )?;
-            Ok(Opened::Halfway(found))
-        }
-    }
-}
-
-// Opens by the bytes of a journal, whose digest is tested first.
-fn open_tested(
-    alloc: Global,
-    folder: Folder,
-    bytes: &[u8],
-) -> Result<Opened, (JournalFault, Folder)>
-    ensures { AnswersOpening folder bytes.now result }
-{
-    match decode(alloc, bytes) {
-        Ok(journal) => open_journal(alloc, folder, journal),
-        Err(DecodeFault::JournalInvalid) => Err((JournalFault::JournalInvalid, folder)),
-        Err(DecodeFault::Memory) => Err((JournalFault::Memory, folder)),
-    }
-}
-
-// What a session opens as that is of a journal with this fingerprint, if the digest at the end of its text is right.
-fn answer_of(
-    session: Session,
-    found: &Digests,
-    fingerprint: [u8; 16],
+    body: &[u8],
     digest: &[u8],
+    next: Option<Next>,
 ) -> Result<Opened, (JournalFault, Folder)>
-    ensures { AnswersDigests session found.now fingerprint digest.now result }
+    requires cursor { journal.cursor ≤ length journal.entries.items }
+    ensures { let answer = opened_by_part folder.files (journal_of journal) None in
+        AnswersWhere (digest.now ≡ md5 body.now) folder.files (λ given. given ≡ answer) result }
 {
+    let fingerprint = journal.fingerprint;
+    let mut session = match session_from(alloc, folder, journal.entries, journal.cursor) {
+        Ok(session) => session,
+        Err((JournalFault::JournalInvalid, folder)) => {
+            return Err((why_invalid(&folder, fingerprint), folder));
+        }
+        Err(refused) => return Err(refused),
+    };
+    let found = match session.digests_before(next, body) {
+        Ok(found) => found,
+        Err(AllocError) => return Err((JournalFault::Memory, session.into_folder())),
+    };
     if digest != found.text.as_slice() {
         return Err((JournalFault::JournalInvalid, session.into_folder()));
     }
@@ -297,43 +201,25 @@ fn answer_of(
     Ok(Opened::Settled(session))
 }
 
-// Opens by the bytes of a journal of a session that no command has left. Their digest is computed side by side with
-// that of the folder, so it is tested last. Where the entries can't be applied, or memory runs out before, nothing is
-// reported, and the folder is given back.
+// Opens by the bytes of a journal. What is refused counts only where they end with their digest.
 fn open_untested(
     alloc: Global,
     folder: Folder,
     bytes: &[u8],
     next: Option<Next>,
-) -> Result<Result<Opened, (JournalFault, Folder)>, Folder>
-    ensures told { IfOk result (AnswersOpening folder bytes.now) }
-    ensures files { IfErr result (λ kept. kept.files ≡ folder.files) }
+) -> Result<Opened, (JournalFault, Folder)>
+    ensures { AnswersWhere (IsSealed bytes.now) folder.files (Opens folder.files bytes.now) result }
 {
-    let Ok(untested) = decode_untested(alloc, bytes) else {
-        return Err(folder);
+    let untested = match decode_untested(alloc, bytes) {
+        Ok(untested) => untested,
+        Err(DecodeFault::JournalInvalid) => return Err((JournalFault::JournalInvalid, folder)),
+        Err(DecodeFault::Memory) => return Err((JournalFault::Memory, folder)),
     };
-    let Untested {
-        journal,
-        body,
-        digest,
-    } = untested;
-    let Journal {
-        fingerprint,
-        cursor,
-        entries,
-        halfway,
-        ..
-    } = journal;
-    if halfway.is_some() {
-        return Err(folder);
-    }
-    let mut session = match session_from(folder, entries, cursor) {
-        Ok(session) => session,
-        Err((_, folder)) => return Err(folder),
-    };
-    match session.digests_before(next, body) {
-        Ok(found) => Ok(answer_of(session, &found, fingerprint, digest)),
-        Err(AllocError) => Err(session.into_folder()),
+    let mut journal = untested.journal;
+    match journal.halfway.take() {
+        None => open_settled(alloc, folder, journal, untested.body, untested.digest, next),
+        Some(part) if is_sealed(bytes) => open_halfway(alloc, folder, journal, part),
+        Some(_) => Err((JournalFault::JournalInvalid, folder)),
     }
 }
 
@@ -361,32 +247,27 @@ impl Session {
         ensures { AnswersOpening folder bytes.now result }
     {
         match open_untested(alloc, folder, bytes, next) {
-            Ok(answer) => answer,
-            Err(folder) => open_tested(alloc, folder, bytes),
+            Err((_, folder)) if !is_sealed(bytes) => Err((JournalFault::JournalInvalid, folder)),
+            answer => answer,
         }
     }
 }
 
 /// Whether a folder with the bytes of a journal opens as a session on this very folder. No digest of its files is
 /// taken, so that it is not said whether the session has the history of the journal or a new one. An answer of false
-/// says nothing: the folder is then to be opened. The entries are applied and taken back, and the folder may get room.
+/// says nothing: the folder is then to be opened. The folder may get room.
 pub fn opens_as_is(alloc: Global, folder: &mut Folder, bytes: &[u8]) -> Result<bool, AllocError>
     ensures files { folder.new.files ≡ folder.old.files }
     ensures opens { result ≡ Ok true → OpensAsIs folder.old.files bytes.now }
     ensures unsealed { ¬ (IsSealed bytes.now) → result ≡ Ok false }
 {
-    let Journal {
-        cursor,
-        mut entries,
-        halfway: command,
-        ..
-    } = match decode(alloc, bytes) {
+    let mut journal = match decode(alloc, bytes) {
         Ok(journal) => journal,
         Err(DecodeFault::JournalInvalid) => return Ok(false),
         Err(DecodeFault::Memory) => return Err(AllocError),
     };
-    if command.is_some() {
+    if journal.halfway.is_some() {
         return Ok(false);
     }
-    settle(folder, &mut entries, cursor)
+    settle(alloc, folder, &mut journal.entries, journal.cursor)
 }

@@ -1,6 +1,5 @@
 //! What a session has made ready, and the steps that are reported of it.
 use crate::spelling::Fingerprints;
-use crate::{NothingToRedo, NothingToUndo};
 use par2_folder::{Change, Name};
 use par2_plan::{Changes, Fault};
 use std::alloc::{AllocError, Global};
@@ -118,28 +117,6 @@ impl From<AllocError> for SessionFault {
 
     fn from(_: AllocError) -> Self {
         SessionFault::Plan(Fault::Memory)
-    }
-}
-
-impl From<NothingToUndo> for SessionFault {
-    ghost use Rattle.std.specs.Prelude.{◌≡◌};
-    ghost use Rattle.par2_journal.specs.declared.preparation.SessionFault.TheVariants as faults;
-
-    ghost from_gives = { λ _ refused. refused ≡ faults.NothingToUndo };
-
-    fn from(_fault: NothingToUndo) -> Self {
-        SessionFault::NothingToUndo
-    }
-}
-
-impl From<NothingToRedo> for SessionFault {
-    ghost use Rattle.std.specs.Prelude.{◌≡◌};
-    ghost use Rattle.par2_journal.specs.declared.preparation.SessionFault.TheVariants as faults;
-
-    ghost from_gives = { λ _ refused. refused ≡ faults.NothingToRedo };
-
-    fn from(_fault: NothingToRedo) -> Self {
-        SessionFault::NothingToRedo
     }
 }
 

@@ -1,17 +1,18 @@
 //! A command that a stop left halfway is taken back.
-ghost use Rattle.std.specs.Prelude.{◌≡◌, ◌≤◌, ◌<◌, ◌&&◌, IfSome, IfOk, IfErr, OnOk, OnErr, IsTrue, length, position, Ok, None};
+ghost use Rattle.std.specs.Prelude.{◌≡◌, ◌≤◌, ◌<◌, ◌&&◌, ⊤, IfSome, IfOk, IfErr, OnOk, OnErr, IsTrue, length, position, Ok, None, Some};
 ghost use Rattle.std.specs.Str.{bytes_eq};
 ghost use Rattle.par2_spec.specs.Journals.{Spells};
-ghost use Rattle.par2_spec.specs.Opening.{is_valid};
-ghost use Rattle.par2_journal_bytes.specs.Views.{changes_in};
-ghost use Rattle.par2_journal.specs.Opening.{Answers, AnswersTest, FailsTest, LeadBack, go_through, halfway_as, halfway_by, place_among, session_after_way, session_before, way_left};
+ghost use Rattle.par2_spec.specs.Opening.{is_valid, opened_by_part};
+ghost use Rattle.par2_journal_bytes.specs.Views.{changes_in, halfway_of, journal_of};
+ghost use Rattle.par2_journal.specs.Opening.{AnswersTest, AnswersWhere, FailsTest, LeadBack, go_through, place_among, session_after_way, session_before, way_left};
 ghost use Rattle.par2_journal.specs.Ready.{kept_journal};
 ghost use Rattle.par2_journal.specs.Walks.{WentForth};
 
-use crate::opening::{can_apply, session_from};
+use crate::opening::{Opened, can_apply, session_from};
 use crate::spelling::Fingerprints;
 use crate::{Changes, Session};
 use par2_folder::{Change, Folder, copies_of};
+use par2_journal_bytes::{HalfwayPart, Journal};
 use par2_spec::JournalFault;
 use std::alloc::{AllocError, Global};
 
@@ -59,7 +60,7 @@ fn go_back(
     ensures files { OnErr result (folder.new.files ≡ folder.old.files) }
 {
     folder.reserve(way.len())?;
-    if !can_apply(folder, way) {
+    if !can_apply(alloc, folder, way)? {
         return Err(JournalFault::JournalInvalid);
     }
     let prints = Fingerprints::of(alloc, None, folder, way)?;
@@ -89,7 +90,7 @@ fn take_back(
         Ok(()) => {}
         Err(fault) => return Err((fault, folder)),
     }
-    match session_from(folder, entries, cursor) {
+    match session_from(alloc, folder, entries, cursor) {
         Ok(session) => Ok(session),
         Err((fault, mut after)) => {
             after.apply_all(way);
@@ -131,35 +132,29 @@ fn fingerprints_back(
     Ok(Some(known))
 }
 
-// Opens by the journal of a halfway command.
+// Opens by the journal of a halfway command, which has this part.
 pub(crate) fn open_halfway(
     alloc: Global,
     folder: Folder,
-    first: [u8; 16],
-    others: &[[u8; 16]],
-    mut back: Changes,
-    entries: Vec<Changes>,
-    cursor: usize,
-) -> Result<Halfway, (JournalFault, Folder)>
-    requires cursor { cursor ≤ length entries.items }
-    requires each { length others.now ≡ length back }
-    ensures { let answer = halfway_as folder.files first cursor entries.items others.now back in
-        Answers halfway_by folder.files answer result }
+    journal: Journal,
+    mut part: HalfwayPart,
+) -> Result<Opened, (JournalFault, Folder)>
+    requires cursor { journal.cursor ≤ length journal.entries.items }
+    requires each { length part.fingerprints.items ≡ length part.back }
+    ensures { let answer = opened_by_part folder.files (journal_of journal) (halfway_of (Some part)) in
+        AnswersWhere ⊤ folder.files (λ given. given ≡ answer) result }
 {
-    let wanted = match fingerprints_back(alloc, &folder, first, others) {
+    let wanted = match fingerprints_back(alloc, &folder, journal.fingerprint, &part.fingerprints) {
         Ok(Some(wanted)) => wanted,
         Ok(None) => return Err((JournalFault::FolderChanged { halfway: true }, folder)),
         Err(AllocError) => return Err((JournalFault::Memory, folder)),
     };
-    let start = back.len() - wanted.len();
-    let (_, way) = back.as_mut_slice().split_at_mut(start);
-    let left = match copies_of(alloc, way) {
-        Ok(left) => left,
+    let start = part.back.len() - wanted.len();
+    let (_, way) = part.back.as_mut_slice().split_at_mut(start);
+    let back = match copies_of(alloc, way) {
+        Ok(back) => back,
         Err(AllocError) => return Err((JournalFault::Memory, folder)),
     };
-    let session = take_back(alloc, folder, way, &wanted, entries, cursor)?;
-    Ok(Halfway {
-        session,
-        back: left,
-    })
+    let session = take_back(alloc, folder, way, &wanted, journal.entries, journal.cursor)?;
+    Ok(Opened::Halfway(Halfway { session, back }))
 }

@@ -1,13 +1,5 @@
 -- Lists that grow item by item, and a list whose items come once.
-use Rattle.par2_plan.proofs.Common.{◌≡◌, ℕ, List, [], ◌∷◌, ◌++◌, refl, ap, ◌∙◌, Bool, true, false, not, cond, ◌||◌, ◌&&◌, append-nil, filter, bytes_eq, bytes_eq-Decides, filter-append, is_among, distinct, Target, same_either_way, AreDistinct, among-filter, distinct-filter, Describe, Describes}
-use Rattle.std.proofs.Math.Bool.{and-false}
-use Rattle.par2_slices.specs.declared.matching.Target as search
-
-pub Describe-more : (xs : List search.Target) (ts : List Target) (x : search.Target) (t : Target) → Describe xs ts → Describes x t → Describe (xs ++ x ∷ []) (ts ++ t ∷ [])
-Describe-more [] [] x t h d = (d, tt)
-Describe-more [] (u ∷ ts) x t h d = absurd h
-Describe-more (y ∷ xs) [] x t h d = absurd h
-Describe-more (y ∷ xs) (u ∷ ts) x t h d = (h.0, Describe-more xs ts x t h.1 d)
+use Rattle.par2_plan.proofs.Common.{◌≡◌, ℕ, List, [], ◌∷◌, ◌++◌, refl, ap, ◌∙◌, Bool, true, false, not, cond, ◌||◌, ◌&&◌, append-nil, filter, bytes_eq, bytes_eq-Decides, filter-append, is_among, distinct, Target, same_either_way, AreDistinct, among-filter, distinct-filter, and-false}
 
 -- ---- each once
 

@@ -1,11 +1,8 @@
 -- What holds of the words of a create with which nothing is wrong.
-use Rattle.par2_plan.proofs.Common.{◌≡◌, ℕ, ◌+◌, ◌%◌, ◌≤◌, List, [], ◌∷◌, length, ◌∙◌, true, false, not, ◌&&◌, nat_lt, nat_le, arith, ◌==◌, sum_by, AllByRecursion, and_parts, leb-true, ltb-false, not-false, fault_where, fault_at, is_name, is_par_name, slice_count, Folder, File, has, in_id_order, all_slices, is_slice_size, CreateArgs, files_of, are_counts, bad_name, BadSliceSize, BadCount, BadBase, NoInput, NoSuchFile, EmptyFile, TooManySlices, where_none, all_none, at_none, size_parts, duplicate_input}
-use Rattle.std.proofs.Common.{None}
+use Rattle.par2_plan.proofs.Common.{◌≡◌, ℕ, ◌+◌, ◌%◌, ◌≤◌, List, [], ◌∷◌, length, ◌∙◌, true, false, not, ◌&&◌, nat_lt, nat_le, arith, None, ◌==◌, sum_by, AllByRecursion, and_parts, leb-true, ltb-false, not-false, fault_where, fault_at, is_name, is_par_name, slice_count, Folder, File, has, in_id_order, all_slices, is_slice_size, CreateArgs, files_of, are_counts, bad_name, head_fault, BadSliceSize, BadCount, BadBase, NoInput, NoSuchFile, EmptyFile, TooManySlices, where_none, all_none, at_none, size_parts, duplicate_input, files_fault, ids_fault, inputs_fault}
 use Rattle.std.proofs.lemmas.List.Sorted.{length_permutation, sum_by-IsPermutation}
-use Rattle.par2_spec.specs.Refusals.{head_fault}
 use Rattle.par2_spec.proofs.OrderLaws.{moved-ordered}
 use Rattle.par2_plan.proofs.SliceCounts.{slices_counted, few_files}
-use Rattle.par2_plan.specs.Faults.{files_fault, ids_fault, inputs_fault}
 
 -- ---- the head
 

@@ -1,6 +1,5 @@
 -- The bytes of an index, packet by packet.
-use Rattle.par2_plan.proofs.Common.{◌≡◌, ℕ, List, [], ◌∷◌, ◌++◌, map, ap, ◌∙◌, append-nil, flat_map, flat_map-append, flat_map-map, packet, packet_of, main_id, main_bytes, desc_bytes, ifsc_bytes, creator_bytes, Main, FileDesc, Ifsc, Creator, file_record_of, FileRecord}
-use Rattle.par2_spec.specs.Volumes.{index_packets}
+use Rattle.par2_plan.proofs.Common.{◌≡◌, ℕ, List, [], ◌∷◌, ◌++◌, map, ap, ◌∙◌, append-nil, flat_map, flat_map-append, flat_map-map, packet, packet_of, main_id, main_bytes, desc_bytes, ifsc_bytes, creator_bytes, index_packets, Main, FileDesc, Ifsc, Creator, file_record_of, FileRecord}
 use Rattle.par2_spec.specs.Volumes as volumes
 
 -- a packet, packets made of items twice over, and a last packet

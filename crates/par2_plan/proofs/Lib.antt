@@ -6,7 +6,6 @@ mod MatchNumbers
 mod Ids
 mod IndexBytes
 mod SliceLists
-mod LostSlices
 mod VolumeNumbers
 mod SliceCounts
 mod Pairs
@@ -17,7 +16,7 @@ mod PlanParts
 mod Present
 mod RefusalGroups
 mod RepairParts
-mod Standings
+mod Trees
 mod VolumeNames
 mod OutputChanges
 mod VolumeStages

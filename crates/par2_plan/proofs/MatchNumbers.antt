@@ -1,38 +1,37 @@
 -- The matches of needing targets, by numbers and by names.
-use Rattle.par2_plan.proofs.Common.{◌≡◌, ℕ, Bool, suc, ◌<◌, List, [], ◌∷◌, length, map, refl, ap, not, sym, ◌∙◌, Option, None, IfSome, filter, find, zip, option_map, ◌==◌, flat_map, AllByRecursion, IsDistinct, range_with_len, bytes_eq, is_among, Folder, bytes_of, ParSet, Target, is_needing, needing, intact_names, matched, needs, matches_given, pairs_unless, sought_by, matched_count, seconds-zip, all-filter, distinct_from_std, std_from_distinct, distinct-filter, text_at, first_intact, without, matched_from, matched_numbers, NumbersAreNames, ArePlaces, all_below_are, found_one}
-use Rattle.std.specs.Prelude.{Some}
-use Rattle.par2_spec.specs.Search.{matches}
+use Rattle.par2_plan.proofs.Common.{◌≡◌, ℕ, Bool, cond, sym, ◌<◌, List, [], ◌∷◌, length, map, refl, ap, ap₂, not, ◌∙◌, subst, map-cond, all_below_are, found_one, length-map, Option, filter, zip, option_map, ◌==◌, slice_get, AllByRecursion, IsDistinct, range_with_len, bytes_eq, is_among, Folder, bytes_of, ParSet, Target, needing, intact_names, matches, all-filter, distinct_from_std, std_from_distinct, distinct-filter, text_at, first_intact, without, matched_from, matched_numbers, NumbersAreNames, option_and_then, slice_get-get_or}
+use Rattle.std.specs.Prelude.{None, Some}
 use Rattle.par2_spec.specs.Lists.{all_below}
-use Rattle.par2_plan.proofs.Standings.{sought_in_pairs}
 
 -- ---- numbers are places
-
-found_holds : (P : ℕ → Type 0) (p : ℕ → Bool) (xs : List ℕ) → AllByRecursion P xs → IfSome (find p xs) P
-found_holds P p xs h = step (find p xs) refl
-  where
-    step : (o : Option ℕ) → find p xs ≡ o → IfSome o P
-    step None e = tt
-    step (Some x) e = (found_one P p xs h x e).0
 
 left_hold : (P : ℕ → Type 0) (o : Option ℕ) (free : List ℕ) → AllByRecursion P free → AllByRecursion P (without o free)
 left_hold P None free h = h
 left_hold P (Some taken) free h = all-filter P (λ i. not (i == taken)) free h
 
-places_from : (n s : ℕ) (texts : List (List ℕ)) (ts : List Target) (free : List ℕ) → AllByRecursion (λ i. i < n) free → ArePlaces n (matched_from s texts free ts)
-places_from n s texts [] free h = tt
-places_from n s texts (t ∷ ts) free h =
-    (found_holds (λ i. i < n) _ free h, places_from n s texts ts (without (first_intact s texts t free) free) (left_hold (λ i. i < n) (first_intact s texts t free) free h))
+-- the names of the numbers are all there
+named : (names : List (List ℕ)) (s : ℕ) (texts : List (List ℕ)) (ts : List Target) (free : List ℕ) → AllByRecursion (λ i. i < length names) free
+    → map (option_and_then (slice_get names)) (matched_from s texts free ts) ≡ map (option_map (text_at names)) (matched_from s texts free ts)
+named names s texts [] free h = refl
+named names s texts (t ∷ ts) free h =
+    ap₂ (λ (name : Option (List ℕ)) (found : List (Option (List ℕ))). name ∷ found) (one (first_intact s texts t free) (λ i e. (found_one (λ i. i < length names) _ free h i e).0))
+    (named names s texts ts (without (first_intact s texts t free) free) (left_hold (λ i. i < length names) (first_intact s texts t free) free h))
+  where
+    one : (o : Option ℕ) → ((i : ℕ) → o ≡ Some i → i < length names) → option_and_then (slice_get names) o ≡ option_map (text_at names) o
+    one None h = refl
+    one (Some i) h = slice_get-get_or names i [] (h i refl)
 
-pub are_places : (s : ℕ) (texts : List (List ℕ)) (ts : List Target) → ArePlaces (length texts) (matched_numbers s texts ts)
-unfolding all_below
-are_places s texts ts = places_from (length texts) s texts ts (range_with_len 0 (length texts)) (all_below_are (length texts))
+-- ---- targets beside what is answered of each
 
-places_count : (s : ℕ) (texts : List (List ℕ)) (free : List ℕ) (ts : List Target) → length (matched_from s texts free ts) ≡ length ts
-places_count s texts free [] = refl
-places_count s texts free (t ∷ ts) = ap suc (places_count s texts (without (first_intact s texts t free) free) ts)
+pub passed : (p : Target → Bool) (ts : List Target) → map (λ z. z.0) (filter (λ z. z.1) (zip ts (map p ts))) ≡ filter p ts
+passed p [] = refl
+passed p (t ∷ ts) = map-cond (λ (z : Target × Bool). z.0) (p t) (t, p t) _ ∙ ap (λ (us : List Target). cond (p t) (t ∷ us) us) (passed p ts)
 
-pub as_many : (s : ℕ) (texts : List (List ℕ)) (ts : List Target) → length (matched_numbers s texts ts) ≡ length ts
-as_many s texts ts = places_count s texts (range_with_len 0 (length texts)) ts
+pub left_out : (p : Target → Bool) (ts : List Target) → map (λ z. z.0.name) (filter (λ z. not z.1) (zip ts (map p ts))) ≡ map (λ t. t.name) (filter (λ t. not (p t)) ts)
+left_out p [] = refl
+left_out p (t ∷ ts) =
+    map-cond (λ (z : Target × Bool). z.0.name) (not (p t)) (t, p t) _ ∙ ap (λ (names : List (List ℕ)). cond (not (p t)) (t.name ∷ names) names) (left_out p ts)
+    ∙ sym (map-cond (λ (u : Target). u.name) (not (p t)) t (filter (λ u. not (p u)) ts))
 
 -- ---- the matches of a set
 
@@ -42,16 +41,11 @@ module _ (folder : Folder) (set : ParSet) (searched : List (List ℕ)) where
   free_by = filter (λ name. not (is_among (intact_names folder set) name)) searched
 
   pub matches_by_numbers : IsDistinct bytes_eq searched → NumbersAreNames folder set.slice_size free_by (needing folder set)
-      → zip (needing folder set) (map (option_map (text_at free_by)) (matched_numbers set.slice_size (map (bytes_of folder) free_by) (needing folder set))) ≡ matches folder set searched
-  unfolding matches
+      → zip (needing folder set) (map (option_and_then (slice_get free_by)) (matched_numbers set.slice_size (map (bytes_of folder) free_by) (needing folder set))) ≡ matches folder set searched
+  unfolding matches all_below
   matches_by_numbers once law =
-      ap (λ found. zip (needing folder set) found) (law (std_from_distinct free_by (distinct-filter _ searched (distinct_from_std searched once))))
-
-  -- the pairs that are sought are those of the needing targets without a match
-  pub sought_are : flat_map (λ (m : Target × Option (List ℕ)). pairs_unless m.1 m.0.pairs) (matches folder set searched) ≡ sought_by (needs folder set) set.targets (matches_given folder set searched)
-  unfolding matches
-  sought_are =
-      let given = matched folder set.slice_size free_by (needing folder set) in
-      let count = matched_count folder set.slice_size free_by (needing folder set) in
-      sought_in_pairs (is_needing folder set) set.targets given count
-      ∙ ap (sought_by (needs folder set) set.targets) (sym (seconds-zip (needing folder set) given count))
+      let texts : List (List ℕ) = map (bytes_of folder) free_by in
+      let low : AllByRecursion (λ i. i < length free_by) (range_with_len 0 (length texts)) = subst (λ n. AllByRecursion (λ i. i < n) (range_with_len 0 (length texts))) (length-map free_by (bytes_of folder)) (all_below_are (length texts)) in
+      ap (λ found. zip (needing folder set) found)
+      (named free_by set.slice_size texts (needing folder set) (range_with_len 0 (length texts)) low
+      ∙ law (std_from_distinct free_by (distinct-filter _ searched (distinct_from_std searched once))))

@@ -1,6 +1,5 @@
 -- The changes that write the outputs are those of the create.
-use Rattle.par2_plan.proofs.Common.{◌≡◌, ℕ, ◌+◌, List, ◌∷◌, ◌++◌, map, sym, ap, ◌∙◌, flat_map, flat_map-append, map-map, Folder, File, Change, packet, index_packets, main_id, record_of, in_id_order, all_slices, volume_numbers, volumes_before, volume_size, volume_name, recovery_packets, CreateArgs, files_of, create_changes, Volume, volume_at, volumes_of, put_change}
-use Rattle.par2_spec.specs.Volumes.{volumes}
+use Rattle.par2_plan.proofs.Common.{◌≡◌, ℕ, ◌+◌, List, ◌∷◌, ◌++◌, map, sym, ap, ◌∙◌, flat_map, flat_map-append, map-map, Folder, File, Change, packet, index_packets, main_id, record_of, in_id_order, all_slices, volume_numbers, volumes_before, volume_size, volume_name, recovery_packets, volumes, CreateArgs, files_of, create_changes, Volume, volume_at, volumes_of, put_change}
 
 -- the outputs, by what they are made of
 abbrev pub written : Folder → List ℕ → List ℕ → List ℕ → ℕ → List (List ℕ) → List Volume → List Change

@@ -1,7 +1,7 @@
 -- Answers that are passed on.
-use Rattle.par2_plan.proofs.Common.{◌≡◌, ◌⊎◌, ◌∙◌, inr, sym, ap, subst, Result, Ok, Err, none-some, same_Some, Option, None, IfOk, IfErr, IsErrOf, OnOk, OnErr, Fault, Memory, err_again}
+use Rattle.par2_plan.proofs.Common.{◌≡◌, ◌⊎◌, ◌∙◌, inr, sym, ap, subst, Result, Ok, Err, none-some, same_Some, Option, IfOk, IfErr, IsErrOf, OnOk, OnErr, Fault, Memory, err_again}
+use Rattle.std.specs.Prelude.{None, Some}
 use Rattle.std.proofs.Math.Logic.{⊎_map}
-use Rattle.std.specs.Prelude.{Some}
 
 -- a fault that is passed on has the cause of the whole, where the cause of its step is one
 pub refused_by : {X : Type 0} (P Q : Fault → Type 0) (r : Result X Fault) (fault : Fault)

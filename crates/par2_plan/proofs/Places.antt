@@ -1,7 +1,6 @@
 -- The first place whose item passes a test.
-use Rattle.par2_plan.proofs.Common.{◌≡◌, ℕ, ◌+◌, ◌<◌, List, [], ◌∷◌, length, map, get_or, take, refl, sym, ap, ap₂, ◌∙◌, Bool, true, false, not, cond, Some, nat_lt, arith, position, option_map, sum_by, ◌==◌, position_or_len, enumerate_from, lt-ltb, le-ltb, length-map, position_or_len_is, get_or-enumerate_from, length-enumerate_from, first_fault, fault_where, is_among, slice_count, Folder, File, has, bytes_of, files_of, NoSuchFile, EmptyFile, TooManySlices}
-use Rattle.std.proofs.Common.{Option, None}
-use Rattle.par2_plan.specs.Faults.{files_fault}
+use Rattle.par2_plan.proofs.Common.{◌≡◌, ℕ, ◌+◌, ◌<◌, List, [], ◌∷◌, length, map, get_or, take, refl, sym, ap, ap₂, ◌∙◌, Bool, true, false, not, cond, Some, nat_lt, arith, None, position, option_map, sum_by, ◌==◌, position_or_len, enumerate_from, lt-ltb, le-ltb, length-map, position_or_len_is, get_or-enumerate_from, length-enumerate_from, first_fault, fault_where, is_among, slice_count, Folder, File, has, bytes_of, files_of, NoSuchFile, EmptyFile, TooManySlices, files_fault}
+use Rattle.std.proofs.Common.{Option}
 
 pub found_at : {X : Type 0} (p : X → Bool) (xs : List X) (i : ℕ) (d : X) → i < length xs → ((k : ℕ) → k < i → p (get_or xs k d) ≡ false) → p (get_or xs i d) ≡ true → position p xs ≡ Some i
 found_at p xs i d low none here =
@@ -43,35 +42,11 @@ again_nowhere names none =
 
 -- ---- what is wrong with files, by the first places
 
-module _ (folder : Folder) (size : ℕ) (names : List (List ℕ)) where
-  abbrev no_such : Option ℕ
-  no_such = position (λ name. not (has folder name)) names
-
-  abbrev no_bytes : Option ℕ
-  no_bytes = position (λ name. length (bytes_of folder name) == 0) names
-
-  abbrev too_many : Bool
-  too_many = nat_lt 32768 (sum_by (λ (file : File). slice_count size (length file.1)) (files_of folder names))
-
-  by_places : files_fault folder size names ≡ first_fault (option_map (λ k. NoSuchFile (1 + k)) no_such ∷ option_map (λ k. EmptyFile (1 + k)) no_bytes ∷ fault_where too_many TooManySlices ∷ [])
-  unfolding files_fault
-  by_places =
-      ap (λ o. first_fault (option_map (λ k. NoSuchFile (1 + k)) no_such ∷ option_map (λ k. EmptyFile (1 + k)) o ∷ fault_where too_many TooManySlices ∷ []))
-      (position-map (λ (file : File). length file.1 == 0) (λ name. (name, bytes_of folder name)) names)
-
-  pub empty_found : (k : ℕ) → None ≡ no_such → Some k ≡ no_bytes → Some (EmptyFile (k + 1)) ≡ files_fault folder size names
-  empty_found k there empty =
-      ap (λ n. Some (EmptyFile n)) (let e : k + 1 ≡ 1 + k = omega arith in e)
-      ∙ ap₂ (λ x y. first_fault (option_map (λ k. NoSuchFile (1 + k)) x ∷ option_map (λ k. EmptyFile (1 + k)) y ∷ fault_where too_many TooManySlices ∷ [])) there empty
-      ∙ sym by_places
-
-  pub slices_tested : (b : Bool) → None ≡ no_such → None ≡ no_bytes → b ≡ too_many → fault_where b TooManySlices ≡ files_fault folder size names
-  slices_tested b there filled many =
-      last b
-      ∙ ap₂ (λ x y. first_fault (option_map (λ k. NoSuchFile (1 + k)) x ∷ option_map (λ k. EmptyFile (1 + k)) y ∷ fault_where b TooManySlices ∷ [])) there filled
-      ∙ ap (λ t. first_fault (option_map (λ k. NoSuchFile (1 + k)) no_such ∷ option_map (λ k. EmptyFile (1 + k)) no_bytes ∷ fault_where t TooManySlices ∷ [])) many
-      ∙ sym by_places
-    where
-      last : (t : Bool) → fault_where t TooManySlices ≡ first_fault (None ∷ None ∷ fault_where t TooManySlices ∷ [])
-      last true = refl
-      last false = refl
+pub files_by : (folder : Folder) (size : ℕ) (names : List (List ℕ)) (absent empty : Option ℕ) (many : Bool)
+    → absent ≡ position (λ name. not (has folder name)) names → empty ≡ position (λ name. length (bytes_of folder name) == 0) names
+    → many ≡ nat_lt 32768 (sum_by (λ file. slice_count size (length file.1)) (files_of folder names))
+    → first_fault (option_map (λ k. NoSuchFile (1 + k)) absent ∷ option_map (λ k. EmptyFile (1 + k)) empty ∷ fault_where many TooManySlices ∷ []) ≡ files_fault folder size names
+unfolding files_fault
+files_by folder size names absent empty many there filled few =
+    let why = λ (a b : Option ℕ) (t : Bool). first_fault (option_map (λ k. NoSuchFile (1 + k)) a ∷ option_map (λ k. EmptyFile (1 + k)) b ∷ fault_where t TooManySlices ∷ []) in
+    ap₂ (λ a b. why a b many) there (filled ∙ sym (position-map (λ (file : File). length file.1 == 0) (λ name. (name, bytes_of folder name)) names)) ∙ ap (why _ _) few

@@ -1,7 +1,6 @@
 -- The base and the further files that are there.
-use Rattle.par2_plan.proofs.Common.{◌≡◌, ℕ, ◌+◌, List, [], ◌∷◌, refl, sym, ap, ◌∙◌, Bool, true, false, not, cond, arith, Option, None, option_map, position_from, Fault, NoSuchFile, or_fault, Folder, has, ParSet, set_of, absent_file, set_in, missing, in_full, in_part, present_from}
-use Rattle.std.specs.Prelude.{Some, Result, Ok, Err}
-use Rattle.std.proofs.lemmas.Iterator.Adapters.{position_from-zero}
+use Rattle.par2_plan.proofs.Common.{◌≡◌, ℕ, ◌+◌, List, [], ◌∷◌, refl, sym, ap, ap₂, ◌∙◌, Bool, true, false, not, cond, arith, not-false, filter, Option, option_map, position_from, AllByRecursion, Fault, NoSuchFile, Folder, has, set_of, absent_file, set_in, missing, in_full, in_part, position_from-zero, no_place}
+use Rattle.std.specs.Prelude.{None, Some, Err}
 
 -- ---- the first word that is absent
 
@@ -48,28 +47,14 @@ module _ (folder : Folder) (base : List ℕ) (extras : List (List ℕ)) where
       in_part folder base extras 0 (position_from-zero test (base ∷ extras) ∙ ap (λ b. cond (not b) (Some 0) (position_from test 1 extras)) gone)
 
   module _ (there : has folder base ≡ true) where
-    pub extra_absent : (fault : Fault) → present_from 1 folder extras ≡ Err fault → set_in folder base extras ≡ Err fault
-    extra_absent fault h = step (missing folder extras) refl
-      where
-        refused : (k : ℕ) → ◌≡◌ {A = Result (List (List ℕ)) Fault} (Err (NoSuchFile (1 + k))) (Err fault) → ◌≡◌ {A = Result ParSet Fault} (Err (NoSuchFile (1 + k))) (Err fault)
-        refused k e = cc
+    -- where no word is absent, the set is that of the base
+    pub all_present : missing folder extras ≡ None → set_in folder base extras ≡ set_of folder base
+    all_present e = in_full folder base extras (missing_behind folder base extras there ∙ ap (option_map (λ k. 1 + k)) e)
 
-        step : (o : Option ℕ) → missing folder extras ≡ o → set_in folder base extras ≡ Err fault
-        step None e = absurd (let answer : or_fault (option_map (λ k. NoSuchFile (1 + k)) None) extras ≡ Err fault = ap (λ m. or_fault (option_map (λ k. NoSuchFile (1 + k)) m) extras) (sym e) ∙ h in let no : ⊥ = cc in no)
-        step (Some k) e =
-            in_part folder base extras (1 + k) (missing_behind folder base extras there ∙ ap (option_map (λ k. 1 + k)) e)
-            ∙ ap (λ n. Err (NoSuchFile n)) (let n : 0 + (1 + k) ≡ 1 + k = omega arith in n)
-            ∙ refused k (ap (λ m. or_fault (option_map (λ k. NoSuchFile (1 + k)) m) extras) (sym e) ∙ h)
-
-    pub all_present : (names : List (List ℕ)) → present_from 1 folder extras ≡ Ok names → (set_in folder base extras ≡ set_of folder base) × (names ≡ extras)
-    all_present names h = step (missing folder extras) refl
-      where
-        taken : ◌≡◌ {A = Result (List (List ℕ)) Fault} (Ok extras) (Ok names) → names ≡ extras
-        taken e = cc
-
-        step : (o : Option ℕ) → missing folder extras ≡ o → (set_in folder base extras ≡ set_of folder base) × (names ≡ extras)
-        step None e = (
-          in_full folder base extras (missing_behind folder base extras there ∙ ap (option_map (λ k. 1 + k)) e),
-          taken (ap (λ m. or_fault (option_map (λ k. NoSuchFile (1 + k)) m) extras) (sym e) ∙ h),
-        )
-        step (Some k) e = absurd (let answer : or_fault (option_map (λ k. NoSuchFile (1 + k)) (Some k)) extras ≡ Ok names = ap (λ m. or_fault (option_map (λ k. NoSuchFile (1 + k)) m) extras) (sym e) ∙ h in let no : ⊥ = cc in no)
+-- and each word is a file's name
+pub all_there : (folder : Folder) (words : List (List ℕ)) → missing folder words ≡ None → filter (has folder) words ≡ words
+all_there folder words e = kept words (no_place (λ word. not (has folder word)) 0 words (sym (position_from-zero (λ word. not (has folder word)) words) ∙ e))
+  where
+    kept : (words : List (List ℕ)) → AllByRecursion (λ word. not (has folder word) ≡ false) words → filter (has folder) words ≡ words
+    kept [] h = refl
+    kept (word ∷ words) h = ap₂ (λ b (rest : List (List ℕ)). cond b (word ∷ rest) rest) (not-false (has folder word) h.0) (kept words h.1)

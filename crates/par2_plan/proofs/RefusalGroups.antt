@@ -1,14 +1,8 @@
 -- The refusal of a create, by its groups of causes.
-use Rattle.par2_plan.proofs.Common.{◌≡◌, ℕ, List, [], ◌∷◌, ◌++◌, length, map, refl, sym, ap, ◌∙◌, Bool, true, not, ◌&&◌, Some, nat_lt, ◌==◌, sum_by, list_any, map-map, first_fault, fault_where, fault_at, is_name, is_par_name, slice_count, Folder, File, has, is_slice_size, volume_numbers, CreateArgs, Create, files_of, outputs_of, bad_name, are_counts, Change, effects, are_applicable, create_changes, any-map, Fault, BadSliceSize, BadCount, BadBase, NoInput, NoSuchFile, EmptyFile, TooManySlices, duplicate_input, long_name, there_already, volume_at, volumes_of, names_of, output_names}
-use Rattle.std.proofs.Common.{Option, None}
-use Rattle.par2_spec.specs.Refusals.{head_fault, create_refusal, refusal, early_refusal, after}
-use Rattle.par2_spec.specs.Plans.{changes_of}
+use Rattle.par2_plan.proofs.Common.{◌≡◌, ℕ, List, [], ◌∷◌, ◌++◌, length, map, refl, sym, ap, ap₂, ◌∙◌, Bool, true, not, ◌&&◌, Some, nat_lt, None, ◌==◌, sum_by, list_any, map-map, first_fault, fault_where, fault_at, is_name, is_par_name, slice_count, Folder, File, has, is_slice_size, volume_numbers, CreateArgs, Create, files_of, outputs_of, bad_name, are_counts, head_fault, create_refusal, refusal, early_refusal, after, Change, effects, are_applicable, create_changes, changes_of, any-map, Fault, BadSliceSize, BadCount, BadBase, NoInput, NoSuchFile, EmptyFile, TooManySlices, duplicate_input, long_name, there_already, files_fault, ids_fault, inputs_fault, create_fault, volume_at, output_names, first-append}
+use Rattle.std.proofs.Common.{Option}
 use Rattle.par2_spec.proofs.CreateLaws.{names_of_outputs, create_applies}
 use Rattle.par2_spec.proofs.CommandLaws.{create_leads}
-use Rattle.par2_spec.proofs.EarlyLaws.{first-append, refused_early}
-use Rattle.par2_plan.specs.Faults.{files_fault, ids_fault, inputs_fault, create_fault}
-use Rattle.par2_plan.proofs.VolumeNumbers.{long_without_base}
-use Rattle.par2_plan.proofs.GoodWords.{head_passed}
 
 pub behind : {F : Type 0} (x : Option F) (xs ys : List (Option F)) → first_fault xs ≡ first_fault ys → first_fault (x ∷ xs) ≡ first_fault (x ∷ ys)
 behind None xs ys e = e
@@ -53,53 +47,17 @@ create_causes folder a =
 -- ---- by groups
 
 module _ (folder : Folder) (a : CreateArgs) where
-  by_causes : refusal folder (Create a) ≡ create_fault folder a
-  unfolding refusal
-  by_causes = create_causes folder a
-
-  pub refused_by_head : (fault : Fault) → head_fault a ≡ Some fault → refusal folder (Create a) ≡ Some fault
-  unfolding create_fault
-  refused_by_head fault h = by_causes ∙ ap (λ f. first_fault (f ∷ inputs_fault folder a.slice a.inputs ∷ long_name (output_names a) ∷ there_already folder a.overwrite (output_names a) ∷ [])) h
-
-  pub early_by_head : (fault : Fault) → head_fault a ≡ Some fault → early_refusal folder (Create a) ≡ Some fault
+  pub early_by : (head bad : Option Fault) → head_fault a ≡ head → bad_name a.inputs ≡ bad → early_refusal folder (Create a) ≡ first_fault (head ∷ bad ∷ [])
   unfolding early_refusal
-  early_by_head fault h = ap (λ f. first_fault (f ∷ bad_name a.inputs ∷ [])) h
+  early_by head bad h b = ap₂ (λ x y. first_fault (x ∷ y ∷ [])) h b
 
-  module _ (head : head_fault a ≡ None) where
-    early_by_names : early_refusal folder (Create a) ≡ first_fault (bad_name a.inputs ∷ [])
-    unfolding early_refusal
-    early_by_names = ap (λ f. first_fault (f ∷ bad_name a.inputs ∷ [])) head
-
-    pub early_by_name : (fault : Fault) → bad_name a.inputs ≡ Some fault → early_refusal folder (Create a) ≡ Some fault
-    early_by_name fault h = early_by_names ∙ ap (λ f. first_fault (f ∷ [])) h
-
-    pub not_early : bad_name a.inputs ≡ None → early_refusal folder (Create a) ≡ None
-    not_early h = early_by_names ∙ ap (λ f. first_fault (f ∷ [])) h
-
-    past_head : refusal folder (Create a) ≡ first_fault (inputs_fault folder a.slice a.inputs ∷ long_name (output_names a) ∷ there_already folder a.overwrite (output_names a) ∷ [])
-    unfolding create_fault
-    past_head = by_causes ∙ ap (λ f. first_fault (f ∷ inputs_fault folder a.slice a.inputs ∷ long_name (output_names a) ∷ there_already folder a.overwrite (output_names a) ∷ [])) head
-
-    pub refused_by_inputs : (fault : Fault) → inputs_fault folder a.slice a.inputs ≡ Some fault → refusal folder (Create a) ≡ Some fault
-    refused_by_inputs fault h = past_head ∙ ap (λ f. first_fault (f ∷ long_name (output_names a) ∷ there_already folder a.overwrite (output_names a) ∷ [])) h
-
-    pub refused_by_name : (fault : Fault) → bad_name a.inputs ≡ Some fault → refusal folder (Create a) ≡ Some fault
-    refused_by_name fault h = refused_early folder (Create a) fault (early_by_name fault h)
-
-    module _ (inputs : inputs_fault folder a.slice a.inputs ≡ None) where
-      past_inputs : refusal folder (Create a) ≡ first_fault (long_name (names_of (volumes_of a.base a.first a.count)) ∷ there_already folder a.overwrite (output_names a) ∷ [])
-      past_inputs =
-          past_head ∙ ap (λ f. first_fault (f ∷ long_name (output_names a) ∷ there_already folder a.overwrite (output_names a) ∷ [])) inputs
-          ∙ ap (λ f. first_fault (f ∷ there_already folder a.overwrite (output_names a) ∷ [])) (long_without_base a.base (names_of (volumes_of a.base a.first a.count)) (head_passed a head).name)
-
-      pub refused_by_length : (fault : Fault) → long_name (names_of (volumes_of a.base a.first a.count)) ≡ Some fault → refusal folder (Create a) ≡ Some fault
-      refused_by_length fault h = past_inputs ∙ ap (λ f. first_fault (f ∷ there_already folder a.overwrite (output_names a) ∷ [])) h
-
-      pub refused_by_there : (fault : Fault) → long_name (names_of (volumes_of a.base a.first a.count)) ≡ None → there_already folder a.overwrite (output_names a) ≡ Some fault → refusal folder (Create a) ≡ Some fault
-      refused_by_there fault short h = past_inputs ∙ ap (λ f. first_fault (f ∷ there_already folder a.overwrite (output_names a) ∷ [])) short ∙ ap (λ f. first_fault (f ∷ [])) h
-
-      pub not_refused : long_name (names_of (volumes_of a.base a.first a.count)) ≡ None → there_already folder a.overwrite (output_names a) ≡ None → refusal folder (Create a) ≡ None
-      not_refused short h = past_inputs ∙ ap (λ f. first_fault (f ∷ there_already folder a.overwrite (output_names a) ∷ [])) short ∙ ap (λ f. first_fault (f ∷ [])) h
+  pub refused_by : (head inputs long there : Option Fault) → head_fault a ≡ head → inputs_fault folder a.slice a.inputs ≡ inputs → long_name (output_names a) ≡ long → there_already folder a.overwrite (output_names a) ≡ there
+      → refusal folder (Create a) ≡ first_fault (head ∷ inputs ∷ long ∷ there ∷ [])
+  unfolding refusal create_fault
+  refused_by head inputs long there h i l t =
+      create_causes folder a
+      ∙ ap₂ (λ x y. first_fault (x ∷ y ∷ long_name (output_names a) ∷ there_already folder a.overwrite (output_names a) ∷ [])) h i
+      ∙ ap₂ (λ x y. first_fault (head ∷ inputs ∷ x ∷ y ∷ [])) l t
 
   -- ---- and its changes
 

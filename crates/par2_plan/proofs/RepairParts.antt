@@ -1,11 +1,8 @@
 -- The parts of a repair are those of the definitions.
-use Rattle.par2_plan.proofs.Common.{◌≡◌, ◌⊎◌, inl, inr, subst, ℕ, List, [], ◌∷◌, ◌++◌, length, map, refl, sym, ap, ap₂, ◌∙◌, Bool, true, false, not, cond, ◌&&◌, ◌||◌, ◌+◌, suc, arith, Ok, Option, None, is_none, filter, filter_map, flat_map, AllByRecursion, enumerate_from, list_any, bytes_eq, ne_eqb, or_right, map-map, Change, Rename, Remove, Pair, first_fault, fault_where, Folder, bytes_of, has, is_among, now_at, matching, matches, lost, survivors, candidates, needing_names, is_repairable, rank, aside, put_aside, names_without_match, rebuilt, par_files, files_of_slices, ParSet, Target, set_of, found, Fault, NotRepairable, all-append, filter-map, all-each, all-filter, lost_of, long_aside, undetermined_fault, targets_among, wrong_digest, AreRestored, IsWholeWhereMatched, matches_taken, writes, asides_removed, files_removed, place_by, known_by, itself}
+use Rattle.par2_plan.proofs.Common.{◌≡◌, ◌⊎◌, inl, inr, subst, ℕ, List, [], ◌∷◌, ◌++◌, length, map, refl, sym, ap, ap₂, ◌∙◌, Bool, true, false, not, cond, ◌&&◌, ◌||◌, ◌+◌, suc, arith, Ok, Option, is_none, filter, filter_map, flat_map, AllByRecursion, enumerate_from, list_any, bytes_eq, ne_eqb, or_right, and_parts, not-true, false_from_ne_true, is_needing, matching, matches, lost, survivors, candidates, needing_names, known, is_par_name, is_among, map-map, Change, Rename, Remove, Pair, first_fault, fault_where, Folder, bytes_of, has, now_at, repair_changes, repair_removals, is_repairable, rank, aside, put_aside, names_without_match, rebuilt, par_files, files_of_slices, is_par_file, rebuilt_targets, ParSet, Target, set_of, found, Fault, NotRepairable, all-append, filter-map, all-each, all-filter, lost_of, long_aside, undetermined_fault, targets_among, wrong_digest, AreRestored, IsWholeWhereMatched, matches_taken, writes, files_removed, place_by, known_by, itself, among-filter, among_some, clash, accepted, repair_refusal}
 use Rattle.std.proofs.Common.{◌==◌}
-use Rattle.std.specs.Prelude.{Some}
-use Rattle.par2_spec.specs.Plans.{repair_changes, repair_removals}
-use Rattle.par2_spec.specs.Search.{known}
-use Rattle.par2_spec.specs.Refusals.{repair_refusal}
-use Rattle.par2_spec.specs.Repairs.{rebuilt_targets}
+use Rattle.std.specs.Prelude.{None, Some}
+use Rattle.par2_spec.specs.Folders.{names as names_in}
 use Rattle.par2_spec.proofs.RankLaws.{repairable-iff}
 use Rattle.par2_spec.proofs.SearchLaws.{matches_of_needing}
 
@@ -19,6 +16,21 @@ own_places : (aside : List ℕ → List ℕ) (all : List (List ℕ)) (change : L
 own_places aside all change [] h = refl
 own_places aside all change (name ∷ names) h =
     ap₂ (λ (place : List ℕ) (changes : List Change). change name place ∷ changes) (ap (λ b. cond b (aside name) name) h.0) (own_places aside all change names h.1)
+
+-- the others stand where they stood
+old_places : (aside : List ℕ → List ℕ) (all : List (List ℕ)) (change : List ℕ → Change) (names : List (List ℕ)) → AllByRecursion (λ n. is_among all n ≡ false) names
+    → map (λ n. change (place_by aside all n)) names ≡ map change names
+old_places aside all change [] h = refl
+old_places aside all change (name ∷ names) h =
+    ap₂ (λ (place : List ℕ) (changes : List Change). change place ∷ changes) (ap (λ b. cond b (aside name) name) h.0) (old_places aside all change names h.1)
+
+all_passing : (P : List ℕ → Type 0) (test : List ℕ → Bool) → ((n : List ℕ) → test n ≡ true → P n) → (names : List (List ℕ)) → AllByRecursion P (filter test names)
+all_passing P test h [] = tt
+all_passing P test h (name ∷ names) = step (test name) refl (all_passing P test h names)
+  where
+    step : (b : Bool) → test name ≡ b → AllByRecursion P (filter test names) → AllByRecursion P (cond b (name ∷ filter test names) (filter test names))
+    step true e all = (h name e, all)
+    step false e all = all
 
 all_own : (names more : List (List ℕ)) → ((q : List ℕ) → is_among names q ≡ true → is_among more q ≡ true) → AllByRecursion (λ n. is_among more n ≡ true) names
 all_own [] more h = tt
@@ -130,16 +142,26 @@ module _ (folder : Folder) (set : ParSet) (searched : List (List ℕ)) where
       (ap (matches_taken (now_at folder set)) of_needing))
       (ap writes of_targets)
 
+  -- a par file is no target, so that it isn't put aside
+  par_file_stays : (n : List ℕ) → is_par_file folder set n ≡ true → is_among (put_aside folder set) n ≡ false
+  par_file_stays n e =
+      let targets = map (λ (t : Target). t.name) set.targets in
+      let some = (and_parts (is_par_name n && not (is_among targets n) && list_any (λ p. bytes_eq p.set_id set.id) (accepted (bytes_of folder n))) _ e).0 in
+      let other = not-true (is_among targets n) (and_parts (is_par_name n) _ (and_parts (is_par_name n && not (is_among targets n)) _ some).0).1 in
+      false_from_ne_true _ (λ h. clash (among_some (λ (t : Target). t.name) (is_needing folder set) set.targets n (and_parts _ _ (sym (among-filter (has folder) (needing_names folder set) n) ∙ h)).0) other)
+
   pub removals_are : (needing : Pairs) (names files : List (List ℕ)) → needing ≡ ms → names ≡ put_aside folder set → files ≡ par_files folder set
-      → asides_removed (now_at folder set) (filter_map (λ m. m.1) needing) names ++ files_removed (filter_map (λ m. m.1) needing) files ≡ repair_removals folder set searched
+      → files_removed (now_at folder set) (filter_map (λ m. m.1) needing) names ++ files_removed (now_at folder set) (filter_map (λ m. m.1) needing) files ≡ repair_removals folder set searched
   unfolding repair_removals
   removals_are needing names files of_needing of_names of_files =
       let free = λ (n : List ℕ). not (is_among (matching folder set searched) n) in
-      ap₂ (λ (ms : Pairs) (ns : List (List ℕ)). asides_removed (now_at folder set) (filter_map (λ m. m.1) ms) ns ++ files_removed (filter_map (λ m. m.1) ms) files) of_needing of_names
+      ap₂ (λ (ms : Pairs) (ns : List (List ℕ)). files_removed (now_at folder set) (filter_map (λ m. m.1) ms) ns ++ files_removed (now_at folder set) (filter_map (λ m. m.1) ms) files) of_needing of_names
       ∙ ap₂ (λ (a b : List Change). a ++ b)
       (own_places (aside folder set) (put_aside folder set) (λ n other. Remove other) (filter free (put_aside folder set))
       (all-filter (λ n. is_among (put_aside folder set) n ≡ true) free (put_aside folder set) (all_own (put_aside folder set) (put_aside folder set) (λ q h. h))))
-      (ap (files_removed (matching folder set searched)) of_files)
+      (ap (files_removed (now_at folder set) (matching folder set searched)) of_files
+      ∙ old_places (aside folder set) (put_aside folder set) Remove (filter free (par_files folder set))
+      (all-filter (λ n. is_among (put_aside folder set) n ≡ false) free (par_files folder set) (all_passing (λ n. is_among (put_aside folder set) n ≡ false) (is_par_file folder set) par_file_stays (names_in folder))))
 
   pub put_aside_in : (needing : Pairs) → needing ≡ ms → map (λ m. m.0.name) (filter (λ m. has folder m.0.name) needing) ≡ put_aside folder set
   put_aside_in needing e =

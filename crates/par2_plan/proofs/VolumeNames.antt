@@ -1,5 +1,5 @@
 -- The name of a volume is a name, where it has at most 255 bytes.
-use Rattle.par2_plan.proofs.Common.{◌≡◌, ℕ, ◌+◌, ◌-◌, ◌/◌, ◌%◌, ◌^◌, ◌<◌, ◌≤◌, List, [], ◌∷◌, ◌++◌, length, take, drop, refl, sym, ap, ◌∙◌, subst, Bool, true, false, eqb, arith, length-append, codes, nat_eq, ◌==◌, list_any, starts_with, is_utf8, and_parts, and_from, or_from, or_parts, false_from_ne_true, not_from_false, ne_eqb, le-leb, not-true, take-append-drop, list_any-append, is_name, five_digits, stem, volume_name, clash, tests_of, name_of}
+use Rattle.par2_plan.proofs.Common.{◌≡◌, ℕ, ◌+◌, ◌-◌, ◌<◌, ◌≤◌, List, [], ◌∷◌, ◌++◌, length, take, drop, refl, sym, ap, ◌∙◌, subst, Bool, true, false, eqb, arith, length-append, length-take-le, take-append-drop, codes, nat_eq, ◌==◌, list_any, starts_with, is_utf8, and_parts, and_from, or_from, or_parts, false_from_ne_true, not_from_false, ne_eqb, le-leb, not-true, list_any-append, is_name, five_digits, stem, volume_name, clash, tests_of, name_of}
 use Rattle.std.proofs.lemmas.List.{append_assoc}
 use Rattle.par2_spec.proofs.AsideNames.{front_of_name, longer}
 
@@ -8,32 +8,21 @@ abbrev rest_of : ℕ → ℕ → List ℕ
 rest_of x n = codes ".vol" ++ (five_digits x ++ (codes "+" ++ (five_digits n ++ codes ".par2")))
 
 name_is : (base : List ℕ) (x n : ℕ) → volume_name base x n ≡ stem base ++ rest_of x n
-name_is base x n =
-    append_assoc (stem base ++ codes ".vol" ++ five_digits x ++ codes "+") (five_digits n) (codes ".par2")
-    ∙ append_assoc (stem base ++ codes ".vol" ++ five_digits x) (codes "+") (five_digits n ++ codes ".par2")
-    ∙ append_assoc (stem base ++ codes ".vol") (five_digits x) (codes "+" ++ (five_digits n ++ codes ".par2"))
-    ∙ append_assoc (stem base) (codes ".vol") (five_digits x ++ (codes "+" ++ (five_digits n ++ codes ".par2")))
+name_is base x n = simp append_assoc
 
 -- a byte below the digits is none of them
 no_digit : (low d : ℕ) → low < 48 → ((48 + d) == low) ≡ false
 no_digit low d h = ne_eqb (48 + d) low (λ e. absurd (omega (arith, e, h)))
 
 no_digits : (low n : ℕ) → low < 48 → list_any (λ b. b == low) (five_digits n) ≡ false
-no_digits low n h =
-    or_from _ _ (no_digit low (n / 10 ^ 4 % 10) h)
-    (or_from _ _ (no_digit low (n / 10 ^ 3 % 10) h)
-    (or_from _ _ (no_digit low (n / 10 ^ 2 % 10) h)
-    (or_from _ _ (no_digit low (n / 10 ^ 1 % 10) h)
-    (or_from _ _ (no_digit low (n / 10 ^ 0 % 10) h) refl))))
+no_digits low n h = grind (arith, or_from, no_digit)
 
 not_in_rest : (low x n : ℕ) → low < 48 → list_any (λ b. b == low) (codes ".vol") ≡ false → list_any (λ b. b == low) (codes "+") ≡ false → list_any (λ b. b == low) (codes ".par2") ≡ false
     → list_any (λ b. b == low) (rest_of x n) ≡ false
 not_in_rest low x n h vol plus par =
-    let test = λ (b : ℕ). b == low in
-    list_any-append test (codes ".vol") (five_digits x ++ (codes "+" ++ (five_digits n ++ codes ".par2"))) ∙ or_from _ _ vol
-    (list_any-append test (five_digits x) (codes "+" ++ (five_digits n ++ codes ".par2")) ∙ or_from _ _ (no_digits low x h)
-    (list_any-append test (codes "+") (five_digits n ++ codes ".par2") ∙ or_from _ _ plus
-    (list_any-append test (five_digits n) (codes ".par2") ∙ or_from _ _ (no_digits low n h) par)))
+    let a = no_digits low x h in
+    let b = no_digits low n h in
+    grind (arith, list_any-append, or_from, a, b)
 
 not_in_front : (test : ℕ → Bool) (k : ℕ) (xs : List ℕ) → list_any test xs ≡ false → list_any test (take k xs) ≡ false
 not_in_front test k xs h =
@@ -66,16 +55,14 @@ not_undo base x n h = false_from_ne_true _ (λ k.
     let whole : starts_with nat_eq (stem base ++ drop (length base - 5) base) (codes ".par2undo") ≡ true = front_of_longer (codes ".par2undo") (stem base) (drop (length base - 5) base) front in
     clash (subst (λ text. starts_with nat_eq text (codes ".par2undo") ≡ true) (take-append-drop (length base - 5) base) whole) h)
 
-long_enough : (base : List ℕ) (x n : ℕ) → 20 ≤ length (volume_name base x n)
-long_enough base x n =
-    let size : length (volume_name base x n) ≡ length (stem base) + 20 = ap length (name_is base x n) ∙ length-append (stem base) (rest_of x n) in
-    omega (arith, size)
+pub length-name : (base : List ℕ) (x n : ℕ) → length (volume_name base x n) ≡ length base - 5 + 20
+length-name base x n = ap length (name_is base x n) ∙ length-append (stem base) (rest_of x n) ∙ (let front = length-take-le (length base - 5) base (omega arith) in omega (arith, front))
 
 pub volume_is_name : (base : List ℕ) (x n : ℕ) → is_name base ≡ true → is_utf8 (volume_name base x n) ≡ true → length (volume_name base x n) ≤ 255 → is_name (volume_name base x n) ≡ true
 volume_is_name base x n h text short =
     let t = tests_of base h in
     let name = volume_name base x n in
-    let long : 20 ≤ length name = long_enough base x n in
+    let long : 20 ≤ length name = omega (arith, length-name base x n) in
     name_of name (record {
       some = le-leb 1 (length name) (omega (arith, long));
       short = le-leb (length name) 255 short;

@@ -1,7 +1,8 @@
 -- The volumes, one after the other.
-use Rattle.par2_plan.proofs.Common.{◌≡◌, ℕ, zero, suc, ◌+◌, ◌-◌, ◌≤◌, ◌<◌, List, [], ◌∷◌, ◌++◌, length, map, sym, ap, ◌∙◌, subst, Bool, true, false, cond, ◌||◌, Some, arith, filter, range_with_len, list_any, ltb-true, le-ltb, leb-true, map-append, list_any-append, filter-append, filter_passes, recursion_from_All, fault_where, is_name, volume_numbers, volumes_before, Fault, NameTooLong, all-map, any-map, range-append, map-cond, name_is_short, Volume, long_name, HasExponents, HaveExponents, volume_at, volume_if, volumes_of, names_of}
-use Rattle.std.proofs.Common.{None}
+use Rattle.par2_plan.proofs.Common.{or_from, lt-ltb, ltb-true, le-ltb, leb-true, where_none, CreateArgs, volume_size, volume_numbers, volumes_before, output_names, HasExponents, HaveExponents, volume_at, volume_if, volumes_of, names_of, volumes_asked, ◌≡◌, ℕ, ◌+◌, ◌≤◌, ◌<◌, List, [], ◌∷◌, ◌++◌, length, map, sym, ap, ◌∙◌, Bool, true, cond, ◌||◌, Some, arith, None, filter, range_with_len, list_any, map-append, list_any-append, filter-append, filter_passes, All-map, All-weaker, fault_where, NameTooLong, any-map, range-append, map-cond, name_is_short, Volume, long_name, head_fault}
 use Rattle.std.specs.Prelude.{nat_lt}
+use Rattle.par2_plan.proofs.GoodWords.{head_passed}
+use Rattle.par2_plan.proofs.VolumeNames.{length-name}
 
 -- those with numbers below n
 abbrev pub volumes_below : List ℕ → ℕ → ℕ → ℕ → List Volume
@@ -20,54 +21,33 @@ any_named test volumes = any-map test (λ (volume : Volume). volume.name) volume
 
 -- ---- names that are too long
 
-from_parts : (a b c : Bool) → c ≡ (a || b) → fault_where a NameTooLong ≡ None → fault_where b NameTooLong ≡ None → fault_where c NameTooLong ≡ None
-from_parts true b c e h k = absurd (let no : ⊥ = cc in no)
-from_parts false true c e h k = absurd (let no : ⊥ = cc in no)
-from_parts false false c e h k = ap (λ x. fault_where x NameTooLong) e
-
-from_front : (a b c : Bool) (fault : Fault) → c ≡ (a || b) → fault_where a NameTooLong ≡ Some fault → fault_where c NameTooLong ≡ Some fault
-from_front true b c fault e h = ap (λ x. fault_where x NameTooLong) e ∙ h
-from_front false b c fault e h = absurd (let no : ⊥ = cc in no)
-
-from_back : (a b c : Bool) (fault : Fault) → c ≡ (a || b) → fault_where b NameTooLong ≡ Some fault → fault_where c NameTooLong ≡ Some fault
-from_back true true c fault e h = ap (λ x. fault_where x NameTooLong) e ∙ h
-from_back false true c fault e h = ap (λ x. fault_where x NameTooLong) e ∙ h
-from_back a false c fault e h = absurd (let no : ⊥ = cc in no)
-
-any_of_both : (test : List ℕ → Bool) (vs ws : List Volume) → list_any test (names_of (vs ++ ws)) ≡ (list_any test (names_of vs) || list_any test (names_of ws))
-any_of_both test vs ws = ap (list_any test) (map-append (λ (v : Volume). v.name) vs ws) ∙ list_any-append test (names_of vs) (names_of ws)
+abbrev is_long : List ℕ → Bool
+is_long name = nat_lt 255 (length name)
 
 pub none_long : (vs ws : List Volume) → long_name (names_of vs) ≡ None → long_name (names_of ws) ≡ None → long_name (names_of (vs ++ ws)) ≡ None
-none_long vs ws h k = from_parts _ _ _ (any_of_both (λ name. nat_lt 255 (length name)) vs ws) h k
+none_long vs ws h k =
+    ap (λ b. fault_where b NameTooLong)
+    (ap (list_any is_long) (map-append (λ (v : Volume). v.name) vs ws) ∙ list_any-append is_long (names_of vs) (names_of ws) ∙ or_from _ _ (where_none _ _ h) (where_none _ _ k))
 
-long_before : (vs ws : List Volume) (fault : Fault) → long_name (names_of vs) ≡ Some fault → long_name (names_of (vs ++ ws)) ≡ Some fault
-long_before vs ws fault h = from_front _ _ _ fault (any_of_both (λ name. nat_lt 255 (length name)) vs ws) h
-
-long_behind : (vs ws : List Volume) (fault : Fault) → long_name (names_of ws) ≡ Some fault → long_name (names_of (vs ++ ws)) ≡ Some fault
-long_behind vs ws fault h = from_back (list_any (λ name. nat_lt 255 (length name)) (names_of vs)) _ _ fault (any_of_both (λ name. nat_lt 255 (length name)) vs ws) h
-
--- a long name stays
-stays_long : (base : List ℕ) (f c : ℕ) (fault : Fault) (k n m : ℕ) → n + k ≡ m → long_name (names_of (volumes_below base f c n)) ≡ Some fault → long_name (names_of (volumes_below base f c m)) ≡ Some fault
-stays_long base f c fault zero n m e h = subst (λ j. long_name (names_of (volumes_below base f c j)) ≡ Some fault) (let same : n ≡ m = omega (arith, e) in same) h
-stays_long base f c fault (suc k) n m e h =
-    stays_long base f c fault k (n + 1) m (omega (arith, e))
-    (subst (λ vs. long_name (names_of vs) ≡ Some fault) (sym (volumes_more base f c n)) (long_before (volumes_below base f c n) (volume_if base f c n) fault h))
-
-pub one_is_long : (base : List ℕ) (f c i : ℕ) (fault : Fault) → i < 17 → long_name (names_of (volume_if base f c i)) ≡ Some fault → long_name (names_of (volumes_of base f c)) ≡ Some fault
-one_is_long base f c i fault low h =
-    stays_long base f c fault (16 - i) (i + 1) 17 (omega (arith, low))
-    (subst (λ vs. long_name (names_of vs) ≡ Some fault) (sym (volumes_more base f c i)) (long_behind (volumes_below base f c i) (volume_if base f c i) fault h))
+-- all have names of one length
+pub one_is_long : (base : List ℕ) (f c i : ℕ) → 0 < c → 255 < length (volume_at base f c i).name → long_name (names_of (volumes_of base f c)) ≡ Some NameTooLong
+one_is_long base f c i some long =
+    let rest = filter (λ i. nat_lt (volumes_before i) c) (range_with_len 1 16) in
+    let first = (volume_at base f c 0).name in
+    let same : length first ≡ length (volume_at base f c i).name = length-name base (f + 0) (volume_size c 0) ∙ sym (length-name base (f + volumes_before i) (volume_size c i)) in
+    ap (λ b. long_name (names_of (map (volume_at base f c) (cond b (0 ∷ rest) rest)))) (lt-ltb 0 c some)
+    ∙ ap (λ b. fault_where (b || list_any is_long (names_of (map (volume_at base f c) rest))) NameTooLong) (lt-ltb 255 (length first) (omega (arith, same, long)))
 
 -- the base itself is short
-pub long_without_base : (base : List ℕ) (names : List (List ℕ)) → is_name base ≡ true → long_name (base ∷ names) ≡ long_name names
-long_without_base base names h =
-    ap (λ b. fault_where (b || list_any (λ name. nat_lt 255 (length name)) names) NameTooLong)
-    (le-ltb 255 (length base) (leb-true (length base) 255 (name_is_short base h)))
+pub long_without_base : (a : CreateArgs) → head_fault a ≡ None → long_name (output_names a) ≡ long_name (names_of (volumes_asked a))
+long_without_base a h =
+    ap (λ b. fault_where (b || list_any (λ name. nat_lt 255 (length name)) (names_of (volumes_asked a))) NameTooLong)
+    (le-ltb 255 (length a.base) (leb-true (length a.base) 255 (name_is_short a.base (head_passed a h).name)))
 
 -- ---- their exponents
 
 pub volumes_end : (base : List ℕ) (f c : ℕ) → f + c ≤ 65536 → HaveExponents (volumes_of base f c)
 volumes_end base f c few =
-    all-map (λ i. nat_lt (volumes_before i) c ≡ true) HasExponents (volume_at base f c)
-    (λ i low. omega (arith, ltb-true (volumes_before i) c low, few)) (volume_numbers c)
-    (recursion_from_All (λ i. nat_lt (volumes_before i) c ≡ true) (volume_numbers c) (filter_passes (λ i. nat_lt (volumes_before i) c) (range_with_len 0 17)))
+    let p = λ (i : ℕ). nat_lt (volumes_before i) c in
+    All-map HasExponents (volume_at base f c) (volume_numbers c)
+    (All-weaker (λ i. p i ≡ true) (λ i. HasExponents (volume_at base f c i)) (λ i low. omega (arith, ltb-true (volumes_before i) c low, few)) (volume_numbers c) (filter_passes p (range_with_len 0 17)))

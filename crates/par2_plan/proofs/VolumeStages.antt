@@ -1,7 +1,7 @@
--- Volumes, whose MD5s are put in one after the other.
-use Rattle.par2_plan.proofs.Common.{◌≡◌, ℕ, ◌+◌, ◌-◌, ◌*◌, ◌<◌, ◌≤◌, List, [], ◌++◌, length, take, drop, inl, inr, refl, sym, ap, ap₂, ◌∙◌, subst, arith, append-nil, length-append, flat_map, range_with_len, cases_eq, ext_get_or, take_at, drop_at, take_all, drop_all, length-drop, flat_map-map, packet, OneChanged, list_at, packet_of, recovery_bytes, Recovery, ArePieces, undigested, digested, length-pieces, length-undigested, Parts, HasSlices, inputs_of, packets_between, slice_of}
-use borrow.Rule.Slice.PartMut.{put_mid}
+-- The packets of a volume, whose MD5s are put in.
+use Rattle.par2_plan.proofs.Common.{◌≡◌, ℕ, ◌+◌, ◌-◌, ◌*◌, ◌≤◌, List, [], ◌++◌, length, take, drop, sym, ap, ap₂, ◌∙◌, arith, append-nil, length-append, flat_map, range_with_len, take_at, drop_at, take_all, drop_all, length-drop, flat_map-map, packet, packet_of, recovery_bytes, Recovery, ArePieces, undigested, digested, length-pieces, length-undigested, Parts, HasSlices, inputs_of, packets_between, slice_of}
 use Rattle.par2_spec.proofs.WrittenSets.{recovery_length}
+use borrow.Rule.Slice.PartMut.{put_mid}
 
 pub length-slice : (parts : Parts) → HasSlices parts → (e : ℕ) → length (slice_of parts e) ≡ parts.set.now.slice
 length-slice parts can e = recovery_length parts.set.now.slice (inputs_of parts) e (omega (arith, can.fours))
@@ -43,28 +43,3 @@ packets_digested parts first count old new can sixteen put is =
       is = is;
     } in
     (put id first slice pieces).is ∙ sym (flat_map-map packet (λ (e : ℕ). packet_of id Recovery (recovery_bytes e (slice e))) (range_with_len first count))
-
--- ---- texts that are changed one after the other
-
--- the first n texts became those of the target
-pub record ChangedTo (target old new : List (List ℕ)) (n : ℕ) : Type 0 where
-  pub count : length new ≡ length old
-  pub each : (i : ℕ) → i < n → list_at new i ≡ list_at target i
-  pub rest : (i : ℕ) → n ≤ i → list_at new i ≡ list_at old i
-
-pub none_changed_to : (target old : List (List ℕ)) → ChangedTo target old old 0
-none_changed_to target old = record { count = refl; each = λ i low. absurd (omega arith); rest = λ i high. refl }
-
-pub next_changed_to : (target old now new : List (List ℕ)) (n : ℕ) → ChangedTo target old now n → OneChanged now new n → list_at new n ≡ list_at target n → ChangedTo target old new (n + 1)
-next_changed_to target old now new n so_far changed here = record {
-  count = changed.count ∙ so_far.count;
-  each = λ i low. elim (cases_eq i n) [
-    | inl same ↦ subst (λ k. list_at new k ≡ list_at target k) (sym same) here
-    | inr other ↦ changed.others i other ∙ so_far.each i (omega arith)
-  ];
-  rest = λ i high. changed.others i (λ e. omega arith) ∙ so_far.rest i (omega arith);
-}
-
-pub all_changed_to : (target old new : List (List ℕ)) (n : ℕ) → length target ≡ length old → length target ≤ n → ChangedTo target old new n → new ≡ target
-all_changed_to target old new n same all changed =
-    ext_get_or [] new target (changed.count ∙ sym same) (λ i low. changed.each i (omega (arith, low, changed.count, same, all)))

@@ -1,69 +1,71 @@
--- How it stands with the targets of a set.
-use Rattle.std.specs.Prelude.{◌≡◌, ℕ, length, Bool, true, false, List, [], ◌∷◌, ◌++◌, drop, map, slice_index_or, Option, Some, None}
+-- What is found of a set.
+use Rattle.std.specs.Prelude.{◌≡◌, ℕ, ◌&&◌, Bool, List, map, flat_map, filter, not, length, Option, is_none, option_and_then, if◌then◌else◌}
+use Rattle.std.specs.BTreeMap.{get}
+use Rattle.std.specs.BTreeSet.{contains}
+use Rattle.std.specs.Cmp.Lexicographic.{slice_cmp}
+use Rattle.std.specs.List.{list_any, enumerate_from}
+use Rattle.std.specs.Ordering.{eq_by_cmp, nat_cmp, ordering_then}
+use Rattle.std.specs.declared.cmp.Ordering.{Ordering}
 use Rattle.par2_spec.specs.Checksums.{Pair}
+use Rattle.par2_spec.specs.Folders.{Folder, bytes_of, has}
+use Rattle.par2_spec.specs.Names.{is_among}
+use Rattle.par2_spec.specs.Rank.{rank}
+use Rattle.par2_spec.specs.Repairs.{names_without_match}
+use Rattle.par2_spec.specs.Reports.{Complete, Report, TargetReport, needing_state, state_of}
+use Rattle.par2_spec.specs.Search.{is_needing, matches, match_of, survivors}
+use Rattle.par2_spec.specs.Sets.{ParSet, Target, all_pairs}
 use Rattle.par2_spec.specs.Windows.{found}
-use Rattle.par2_spec.specs.Folders.{Folder, bytes_of}
-use Rattle.par2_spec.specs.Sets.{ParSet, Target}
-use Rattle.par2_spec.specs.Search.{is_needing, matches}
+use Rattle.par2_plan.specs.declared.finding.Findings.{Findings}
 
--- a target's own file is intact; or another file is its match; or neither, and its slices are found so
-pub data Standing : Type 0 where
-  Intact : Standing
-  Matched : List ℕ → Standing
-  Unmatched : List (Option (List ℕ)) → Standing
+-- the order of pairs
+abbrev pub pair_cmp : Pair → Pair → Ordering
+pair_cmp a b = ordering_then (slice_cmp nat_cmp a.0 b.0) (nat_cmp a.1 b.1)
 
--- a target that needs a match, by it and by the slices that are found
-abbrev pub needing_standing : Option (List ℕ) → List (Option (List ℕ)) → Standing
-needing_standing (Some name) slices = Matched name
-needing_standing None slices = Unmatched slices
+-- the pairs of the needing targets that have no match, which are searched for
+abbrev pub sought_pairs : Folder → ParSet → List (List ℕ) → List Pair
+sought_pairs folder set searched =
+    flat_map (λ t. t.pairs) (filter (λ t. is_among (names_without_match (matches folder set searched)) t.name) set.targets)
 
--- a target that may need a match
-abbrev pub standing_by : Bool → Option (List ℕ) → List (Option (List ℕ)) → Standing
-standing_by true given slices = needing_standing given slices
-standing_by false given slices = Intact
+-- the slice of a pair was searched for and not found
+abbrev pub is_missing : Folder → ParSet → List (List ℕ) → Pair → Bool
+is_missing folder set searched pair =
+    list_any (eq_by_cmp pair_cmp pair) (sought_pairs folder set searched) && is_none (found set.slice_size (map (bytes_of folder) searched) pair)
 
--- the standings of targets of which some need a match, by those matches in order
-abbrev pub standings_by : (Pair → Option (List ℕ)) → List Bool → List Target → List (Option (List ℕ)) → List Standing
-standings_by find_slice (true ∷ needing) (t ∷ ts) given =
-    needing_standing (slice_index_or given 0 None) (map find_slice t.pairs) ∷ standings_by find_slice needing ts (drop 1 given)
-standings_by find_slice (false ∷ needing) (t ∷ ts) given = Intact ∷ standings_by find_slice needing ts given
-standings_by find_slice (b ∷ needing) [] given = []
-standings_by find_slice [] ts given = []
+-- what is found of a set by the names that are searched
+pub record AreFindings (folder : Folder) (set : ParSet) (searched : List (List ℕ)) (findings : Findings) : Type 0 where
+  pub needs : findings.needs.items ≡ map (is_needing folder set) set.targets
+  pub matches : (name : List ℕ) → option_and_then (λ o. o) (get (slice_cmp nat_cmp) findings.matches name) ≡ match_of (matches folder set searched) name
+  pub missing : (pair : Pair) → contains pair_cmp findings.missing pair ≡ is_missing folder set searched pair
 
--- the pairs of a target, where it has no match
-abbrev pub pairs_unless : Option (List ℕ) → List Pair → List Pair
-pairs_unless (Some name) pairs = []
-pairs_unless None pairs = pairs
+-- what is said of a target by whether it is needing and by what is found
+abbrev pub said_of : Folder → Findings → Target × Bool → TargetReport
+said_of folder findings z = record {
+  name = z.0.name;
+  state = if z.1 then needing_state (has folder z.0.name) (option_and_then (λ o. o) (get (slice_cmp nat_cmp) findings.matches z.0.name)) else Complete;
+  found = length (filter (λ pair. not (contains pair_cmp findings.missing pair)) z.0.pairs);
+  total = length z.0.pairs;
+}
 
--- the same, where it may need none
-abbrev pub pairs_sought : Bool → Option (List ℕ) → List Pair → List Pair
-pairs_sought true given pairs = pairs_unless given pairs
-pairs_sought false given pairs = []
+-- what is said of a target, where these pairs are missing
+abbrev pub target_report_by : Folder → ParSet → List (List ℕ) → Target → TargetReport
+target_report_by folder set searched t = record {
+  name = t.name;
+  state = state_of folder set searched t;
+  found = length (filter (λ pair. not (is_missing folder set searched pair)) t.pairs);
+  total = length t.pairs;
+}
 
--- the pairs of those targets that need a match and have none
-abbrev pub sought_by : List Bool → List Target → List (Option (List ℕ)) → List Pair
-sought_by (true ∷ needing) (t ∷ ts) given =
-    pairs_unless (slice_index_or given 0 None) t.pairs ++ sought_by needing ts (drop 1 given)
-sought_by (false ∷ needing) (t ∷ ts) given = sought_by needing ts given
-sought_by (b ∷ needing) [] given = []
-sought_by [] ts given = []
+-- the numbers of the missing slices
+abbrev pub lost_by : (Pair → Bool) → List Pair → List ℕ
+lost_by missing pairs = map (λ z. z.0) (filter (λ z. missing z.1) (enumerate_from 0 pairs))
 
--- which targets are needing
-abbrev pub needs : Folder → ParSet → List Bool
-needs folder set = map (is_needing folder set) set.targets
-
--- the matches of the needing targets, in order
-abbrev pub matches_given : Folder → ParSet → List (List ℕ) → List (Option (List ℕ))
-matches_given folder set searched = map (λ m. m.1) (matches folder set searched)
-
--- the standings of the targets of a set
-abbrev pub standings : Folder → ParSet → List (List ℕ) → List Standing
-standings folder set searched =
-    standings_by (found set.slice_size (map (bytes_of folder) searched)) (needs folder set) set.targets (matches_given folder set searched)
-
--- each target without a match has a place for each of its slices
-abbrev pub AreSized : List Target → List Standing → Type 0
-AreSized (t ∷ ts) (Unmatched slices ∷ standings) = (length slices ≡ length t.pairs) × AreSized ts standings
-AreSized (t ∷ ts) (standing ∷ standings) = AreSized ts standings
-AreSized (t ∷ ts) [] = Unit {0}
-AreSized [] standings = Unit {0}
+-- what is said of a set
+abbrev pub report_by : Folder → ParSet → List (List ℕ) → Report
+report_by folder set searched =
+    let lost = lost_by (is_missing folder set searched) (all_pairs set) in
+    record {
+      set_id = set.id;
+      targets = map (target_report_by folder set searched) set.targets;
+      lost = length lost;
+      rank = rank lost (survivors set);
+    }

@@ -1,8 +1,7 @@
--- What leads to the matches of a set's targets.
-use Rattle.std.specs.Prelude.{◌≡◌, ℕ, ◌<◌, List, Option, IfSome}
+-- Trees of names, by reference.
+use Rattle.std.specs.Prelude.{◌≡◌, ℕ, List}
 use Rattle.std.specs.Borrow.{Bor}
 use Rattle.std.specs.BTreeSet.{BTreeSet, contains}
-use Rattle.std.specs.List.{AllByRecursion}
 use Rattle.std.specs.Ordering.{nat_cmp}
 use Rattle.std.specs.declared.cmp.Ordering.{Ordering}
 use Rattle.std.specs.Cmp.Lexicographic.{slice_cmp}
@@ -15,7 +14,3 @@ name_cmp a b = slice_cmp nat_cmp a.now b.now
 -- a tree holds exactly these names
 abbrev pub HoldsNames : BTreeSet (Bor (List ℕ)) → List (List ℕ) → Type 0
 HoldsNames tree names = (name : Bor (List ℕ)) → contains name_cmp tree name ≡ is_among names name.now
-
--- the numbers that are there are below n
-abbrev pub ArePlaces : ℕ → List (Option ℕ) → Type 0
-ArePlaces n numbers = AllByRecursion (λ number. IfSome number (λ i. i < n)) numbers

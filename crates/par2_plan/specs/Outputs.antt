@@ -1,6 +1,6 @@
 -- The outputs of a create, by parts.
 use Rattle.std.specs.Prelude.{ℕ, ◌≡◌, ◌≤◌, ◌+◌, ◌%◌, nat_lt, List, [], ◌∷◌, ◌++◌, length, map, flat_map, if◌then◌else◌}
-use Rattle.std.specs.List.{AllByRecursion}
+use Rattle.std.specs.List.{All}
 use Rattle.std.specs.Borrow.{Bor}
 use Rattle.par2_spec.specs.Packets.{Packet, packet}
 use Rattle.par2_spec.specs.Folders.{Folder, File, has}
@@ -41,7 +41,7 @@ HasExponents volume = volume.first + volume.count ≤ 65536
 
 -- so are those of all volumes
 abbrev pub HaveExponents : List Volume → Type 0
-HaveExponents volumes = AllByRecursion HasExponents volumes
+HaveExponents volumes = All HasExponents volumes
 
 abbrev pub names_of : List Volume → List (List ℕ)
 names_of volumes = map (λ volume. volume.name) volumes
@@ -60,8 +60,9 @@ pub record RecordsInputs (folder : Folder) (a : CreateArgs) (set : SetRecord) : 
 abbrev pub inputs_of : Parts → List (List ℕ)
 inputs_of parts = all_slices parts.set.now.slice (files_of parts.folder.now.files (records.names_of parts.set.now))
 
--- recovery slices can be made of them
+-- recovery slices can be made of them, and packets
 pub record HasSlices (parts : Parts) : Type 0 where
+  pub sixteen : length parts.set_id ≡ 16
   pub positive : 1 ≤ parts.set.now.slice
   pub fours : parts.set.now.slice % 4 ≡ 0
   pub few : length (inputs_of parts) ≤ 32768

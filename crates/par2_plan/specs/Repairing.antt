@@ -1,8 +1,9 @@
 -- The parts of a repair.
 use Rattle.std.specs.Prelude.{◌≡◌, ◌⊎◌, ℕ, ◌++◌, Bool, not, List, [], length, map, filter, filter_map, Option, Some, None, option_map, Ok, if◌then◌else◌}
-use Rattle.std.specs.Borrow.{Bor}
 use Rattle.std.specs.BTreeMap.{BTreeMap, get}
+use Rattle.std.specs.Cmp.Lexicographic.{slice_cmp}
 use Rattle.std.specs.List.{AllByRecursion}
+use Rattle.std.specs.Ordering.{nat_cmp}
 use Rattle.md5.specs.Md5.{md5}
 use Rattle.par2_spec.specs.Changes.{Change, Write, Rename, Remove}
 use Rattle.par2_spec.specs.Folders.{Folder, bytes_of}
@@ -14,7 +15,6 @@ use Rattle.par2_spec.specs.Search.{known, lost}
 use Rattle.par2_spec.specs.Search as search
 use Rattle.par2_spec.specs.Sets.{ParSet, Target}
 use Rattle.par2_plan.specs.Restoring.{known_in, targets_among, undetermined_fault}
-use Rattle.par2_plan.specs.Matches.{name_cmp}
 use Rattle.par2_plan.specs.declared.moves.Moves.{Moves}
 
 -- where each needing target has a match, nothing is lost
@@ -53,22 +53,18 @@ matches_taken place ms = filter_map (λ m. option_map (λ name. Rename (place na
 abbrev pub writes : List (Target × List ℕ) → List Change
 writes targets = map (λ c. Write c.0.name c.1) targets
 
--- the asides of files that are nobody's match are removed
-abbrev pub asides_removed : (List ℕ → List ℕ) → List (List ℕ) → List (List ℕ) → List Change
-asides_removed place matching names = map (λ name. Remove (place name)) (filter (λ name. not (is_among matching name)) names)
-
--- files that are nobody's match are removed
-abbrev pub files_removed : List (List ℕ) → List (List ℕ) → List Change
-files_removed matching names = map Remove (filter (λ name. not (is_among matching name)) names)
+-- files that are nobody's match are removed, from where they stand
+abbrev pub files_removed : (List ℕ → List ℕ) → List (List ℕ) → List (List ℕ) → List Change
+files_removed place matching names = map (λ name. Remove (place name)) (filter (λ name. not (is_among matching name)) names)
 
 -- where a file stands once those of these names are put aside
 abbrev pub place_by : (List ℕ → List ℕ) → List (List ℕ) → List ℕ → List ℕ
 place_by aside names name = if is_among names name then aside name else name
 
 -- a tree holds for exactly these names their asides
-abbrev pub HoldsAsides : (List ℕ → List ℕ) → List (List ℕ) → BTreeMap (Bor (List ℕ)) (Bor (List ℕ)) → Type 0
+abbrev pub HoldsAsides : (List ℕ → List ℕ) → List (List ℕ) → BTreeMap (List ℕ) (List ℕ) → Type 0
 HoldsAsides aside names tree =
-    (name : Bor (List ℕ)) → option_map (λ found. found.now) (get name_cmp tree name) ≡ (if is_among names name.now then Some (aside name.now) else None)
+    (name : List ℕ) → get (slice_cmp nat_cmp) tree name ≡ (if is_among names name then Some (aside name) else None)
 
 -- what a repair moves in a folder, by the names that are searched
 pub record AreMoves (folder : Folder) (set : ParSet) (searched : List (List ℕ)) (moves : Moves) : Type 0 where

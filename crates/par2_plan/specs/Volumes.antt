@@ -1,7 +1,7 @@
 -- Volumes, into which recovery slices are written, and where these lie.
-use Rattle.std.specs.Prelude.{ℕ, ◌≡◌, ◌<◌, ◌+◌, ◌*◌, List, [], ◌∷◌, ◌++◌, length, map, flat_map, replicate, slice_index_or, Vec}
+use Rattle.std.specs.Prelude.{ℕ, ◌≡◌, ◌<◌, ◌+◌, ◌*◌, List, [], ◌++◌, length, map, flat_map, replicate, slice_index_or, Vec}
 use Rattle.std.specs.declared.alloc.Global.{Global}
-use Rattle.std.specs.List.{range_with_len}
+use Rattle.std.specs.List.{enumerate_from, range_with_len}
 use Rattle.par2_spec.specs.Recovery.{recovery}
 use Rattle.par2_spec.specs.Sums.{list_at, lists_of}
 use Rattle.par2_packets.specs.Recoveries.{undigested}
@@ -50,14 +50,13 @@ length_with parts packets = length parts.index.items + packets * (68 + parts.set
 abbrev pub place_in : Parts → (i k : ℕ) → Place
 place_in parts i k = record { text = i; at = length_with parts k + 68 }
 
--- where those of volume i lie, in order
-abbrev pub places_in : Parts → ℕ → Volume → List Place
-places_in parts i volume = map (place_in parts i) (range_with_len 0 volume.count)
+-- where those of a volume lie, in order, with the volume's number
+abbrev pub places_in : Parts → ℕ × Volume → List Place
+places_in parts z = map (place_in parts z.0) (range_with_len 0 z.1.count)
 
--- where those of volumes lie, in order, of which the first one has the number i
-abbrev pub places_from : Parts → ℕ → List Volume → List Place
-places_from parts i [] = []
-places_from parts i (volume ∷ volumes) = places_in parts i volume ++ places_from parts (i + 1) volumes
+-- where those of all volumes lie, in order
+abbrev pub places_of : Parts → List Volume → List Place
+places_of parts volumes = flat_map (places_in parts) (enumerate_from 0 volumes)
 
 -- the texts are as long as the volumes
 abbrev pub HavePackets : Parts → List Volume → List (List ℕ) → Type 0

@@ -1,6 +1,6 @@
 //! The files that are searched for what is left of a set's files.
-ghost use Rattle.std.specs.Prelude.{◌≡◌, map, filter, IfOk};
-ghost use Rattle.par2_spec.specs.Folders.{has, bytes_of};
+ghost use Rattle.std.specs.Prelude.{◌≡◌, map, IfOk};
+ghost use Rattle.par2_spec.specs.Folders.{bytes_of};
 ghost use Rattle.par2_spec.specs.Names.{distinct};
 ghost use Rattle.par2_spec.specs.Search as search;
 ghost use Rattle.par2_slices.specs.Texts.{texts_of};
@@ -10,18 +10,6 @@ use par2_folder::{Folder, Name};
 use par2_sets::ParSet;
 use std::alloc::{AllocError, Global};
 use std::collections::BTreeSet;
-
-// The names of the targets that are in the folder.
-fn present_targets(alloc: Global, folder: &Folder, set: &ParSet) -> Result<Vec<Name>, AllocError>
-    ensures { let there = filter (λ t. has folder.now.files t.name) set.now.targets in
-        IfOk result (λ names. names.items ≡ map (λ t. t.name) there) }
-{
-    let targets = set.targets().iter();
-    targets
-        .filter(|target| folder.get(target.name()).is_some())
-        .map(|target| target.name().copied())
-        .collect(alloc)
-}
 
 // Each name once, where it comes first.
 fn distinct(alloc: Global, names: &[Name]) -> Result<Vec<Name>, AllocError>
@@ -46,10 +34,12 @@ pub fn candidates(
 ) -> Result<Vec<Name>, AllocError>
     ensures { Lists (search.candidates folder.now.files set.now extras.now) result }
 {
-    let mut names = present_targets(alloc, folder, set)?;
-    for extra in extras {
-        names.push(extra.copied())?;
-    }
+    let targets = set.targets().iter();
+    let mut names: Vec<Name> = targets
+        .filter(|target| folder.get(target.name()).is_some())
+        .map(|target| target.name().copied())
+        .collect(alloc)?;
+    names.extend(extras.iter().map(|extra| extra.copied()))?;
     distinct(alloc, &names)
 }
 
@@ -62,9 +52,8 @@ pub fn texts_of<'a>(
     ensures { let bytes = map (bytes_of folder.now.files) names.now in
         IfOk result (λ texts. texts_of texts.items ≡ bytes) }
 {
-    let mut texts = Vec::with_capacity(alloc, names.len())?;
-    for name in names {
-        texts.push(folder.bytes_of(name))?;
-    }
-    Ok(texts)
+    names
+        .iter()
+        .map(|name| folder.bytes_of(name))
+        .collect(alloc)
 }

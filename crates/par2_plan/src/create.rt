@@ -2,7 +2,7 @@
 ghost use Rattle.std.specs.Prelude.{◌≡◌, ◌≤◌, ◌⊎◌, Some, None, map, string_bytes, IsTrue, IfOk, IfErr, OnOk};
 ghost use Rattle.par2_spec.specs.Changes.{effects, are_applicable};
 ghost use Rattle.par2_spec.specs.Commands.{Create, files_of};
-ghost use Rattle.par2_spec.specs.Refusals.{head_fault, after};
+ghost use Rattle.par2_spec.specs.Refusals.{head_fault, bad_name, after};
 ghost use Rattle.par2_spec.specs.Plans as plans;
 ghost use Rattle.par2_spec.specs.Views.{create_args_of};
 ghost use Rattle.par2_recovery.specs.Views.{AreRecords};
@@ -63,6 +63,7 @@ fn set_of_inputs(
     name: &Name,
 ) -> Result<(SetRecord, Landmarks), Fault>
     requires slice { 1 ≤ args.now.slice }
+    requires words { bad_name (map string_bytes args.now.inputs.items) ≡ None }
     requires landmarks { AreLandmarksOf folder.now.files from.now }
     ensures refused { let names = map string_bytes args.now.inputs.items in
         let cause = inputs_fault folder.now.files args.now.slice names in

@@ -40,13 +40,11 @@ impl Draft {
     pub fn texts(&self, alloc: Global) -> Result<Vec<&[u8]>, AllocError>
         ensures { IfOk result (λ texts. texts_of texts.items ≡ texts_written self.now.changes) }
     {
-        let mut texts = Vec::with_capacity(alloc, self.md5s.len())?;
-        for change in self.changes.as_slice() {
-            if let Some(bytes) = bytes_of(change) {
-                texts.push(bytes)?;
-            }
-        }
-        Ok(texts)
+        let changes = self.changes.as_slice().iter();
+        changes
+            .filter(|change| bytes_of(change).is_some())
+            .map(|change| bytes_of(change).unwrap_or(&[]))
+            .collect(alloc)
     }
 
     /// The changes, by the MD5s of the texts that they write: where one is wrong, the repair is refused.

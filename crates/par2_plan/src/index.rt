@@ -55,15 +55,6 @@ fn file_len(file: &FileRecord) -> usize {
     pairs.saturating_add(name).saturating_add(FILE_LEN)
 }
 
-// How many bytes the index of these files has, so that its room is taken once.
-fn index_len(files: &[FileRecord]) -> usize {
-    let mut len = FRAME_LEN;
-    for file in files {
-        len = len.saturating_add(file_len(file));
-    }
-    len
-}
-
 /// The index of a set of these files, whose order it keeps: Main, the FileDescs, the IFSCs, Creator.
 #[tactic(auto, unfolding(par2_spec::specs::Volumes::index_packets))]
 pub fn index_of(alloc: Global, s: u64, files: &[FileRecord]) -> Result<Vec<u8>, AllocError>
@@ -71,7 +62,9 @@ pub fn index_of(alloc: Global, s: u64, files: &[FileRecord]) -> Result<Vec<u8>, 
     ensures { Lists (flat_map packet (index_packets s (map file_record_of files.now))) result }
 {
     let set_id = main_id(s, files);
-    let mut index = Vec::with_capacity(alloc, index_len(files))?;
+    let lens = files.iter().map(file_len);
+    let len = lens.fold(FRAME_LEN, |sum, len| sum.saturating_add(len));
+    let mut index = Vec::with_capacity(alloc, len)?;
     append_main(alloc, &mut index, s, files)?;
     append_descs(alloc, &mut index, &set_id, files)?;
     append_ifscs(alloc, &mut index, &set_id, files)?;

@@ -20,30 +20,18 @@ use par2_spec::Fault;
 use std::alloc::{AllocError, Global};
 use std::collections::BTreeSet;
 
-// The first of the names that was there before.
-fn first_repeated(alloc: Global, names: &[Name]) -> Result<Option<usize>, AllocError>
-    ensures place { let first = position (λ z. is_among (take z.0 names.now) z.1)
-        (enumerate_from 0 names.now) in IfOk result (λ place. place ≡ first) }
-    ensures fits { IfOk result (λ place. IfSome place (λ i. i < usize.MAX)) }
-{
-    let mut seen = BTreeSet::new(alloc);
-    for i in 0..names.len() {
-        if !seen.insert(&names[i])? {
-            return Ok(Some(i));
-        }
-    }
-    Ok(None)
-}
-
 /// Refuses an input that was given before.
 pub fn no_duplicate(alloc: Global, names: &[Name]) -> Result<(), Fault>
     ensures refused { FailsFor (duplicate_input names.now) result }
     ensures accepted { IfOk result (λ _. duplicate_input names.now ≡ None) }
 {
-    match first_repeated(alloc, names)? {
-        None => Ok(()),
-        Some(place) => Err(Fault::DuplicateInput(place + 1)),
+    let mut seen = BTreeSet::new(alloc);
+    for i in 0..names.len() {
+        if !seen.insert(&names[i])? {
+            return Err(Fault::DuplicateInput(i + 1));
+        }
     }
+    Ok(())
 }
 
 // The first of the names that no file has.

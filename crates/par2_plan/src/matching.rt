@@ -1,18 +1,19 @@
 //! Which targets of a set are needing, and which other files are intact for them.
-ghost use Rattle.std.specs.Prelude.{◌≡◌, ℕ, List, not, map, filter, length, IfOk, option_map, IfSome, is_none, zip, ◌<◌};
+ghost use Rattle.std.specs.Prelude.{◌≡◌, not, map, filter, IfOk, option_and_then, slice_get, zip};
+ghost use Rattle.std.specs.BTreeSet.{contains};
+ghost use Rattle.std.specs.Cmp.Lexicographic.{slice_cmp};
 ghost use Rattle.std.specs.List.{IsDistinct};
+ghost use Rattle.std.specs.Ordering.{nat_cmp};
 ghost use Rattle.std.specs.Str.{bytes_eq};
-ghost use Rattle.par2_spec.specs.Names.{is_among};
 ghost use Rattle.par2_spec.specs.Search as search;
-ghost use Rattle.par2_slices.specs.Matching.{Describe, text_at};
+ghost use Rattle.par2_slices.specs.Matching.{Describe};
 ghost use Rattle.par2_spec.specs.Answers.{Lists};
-ghost use Rattle.par2_plan.specs.Findings.{pairs_unless};
-ghost use Rattle.par2_plan.specs.Matches.{HoldsNames, ArePlaces};
+ghost use Rattle.par2_sets.specs.Asides.{HoldsNames};
 
 use crate::candidates::texts_of;
 use par2_folder::{Folder, Name};
 use par2_sets::{ParSet, Target};
-use par2_slices::{Pair, is_intact, matched, matches_by_number_are_by_name};
+use par2_slices::{is_intact, matched, matches_by_number_are_by_name};
 use std::alloc::{AllocError, Global};
 use std::collections::BTreeSet;
 use std::marker::Model;
@@ -41,40 +42,20 @@ impl<'s> Needing<'s> {
     }
 
     /// The name of its match.
-    pub fn found(&self) -> Option<&Name>
-        ensures { option_map (λ name. name.now) result ≡ self.now.1 }
+    pub fn found(&self) -> Option<Name>
+        ensures { result ≡ self.now.1 }
     {
-        match &self.found {
-            Some(name) => Some(name),
-            None => None,
-        }
-    }
-
-    /// Whether it has no match.
-    pub fn is_unmatched(&self) -> bool
-        ensures { result ≡ is_none self.now.1 }
-    {
-        self.found.is_none()
-    }
-
-    /// The pairs of its slices, where it has no match.
-    pub fn sought(&self) -> &'s [Pair]
-        ensures { result.now ≡ pairs_unless self.now.1 self.now.0.pairs }
-    {
-        match self.found {
-            Some(_) => &[],
-            None => self.target.pairs(),
-        }
+        Some(self.found.as_ref()?.copied())
     }
 }
 
-/// The targets of a set, by whether they are needing.
+/// The targets of a set.
 #[derive(Drop)]
 pub struct Targets<'s> {
-    /// In target order.
+    /// Whether each one is needing.
+    pub needs: Vec<bool>,
+    /// The needing ones, in target order.
     pub needing: Vec<Needing<'s>>,
-    /// The names of the others.
-    pub intact: BTreeSet<&'s Name>,
 }
 
 /// Whether the file of the target's name is absent or not intact.
@@ -87,95 +68,99 @@ pub fn is_needing(folder: &Folder, set: &ParSet, target: &Target) -> bool
     }
 }
 
-// The targets of a set before they have matches.
-fn targets_of<'s>(
-    alloc: Global,
-    folder: &Folder,
-    set: &'s ParSet,
-) -> Result<Targets<'s>, AllocError>
-    ensures needing { let needing = search.needing folder.now.files set.now in
-        IfOk result (λ targets. map (λ m. m.0) targets.needing.items ≡ needing) }
-    ensures intact { let names = search.intact_names folder.now.files set.now in
-        IfOk result (λ targets. HoldsNames targets.intact names) }
+// Whether each target of a set is needing.
+fn needs(alloc: Global, folder: &Folder, set: &ParSet) -> Result<Vec<bool>, AllocError>
+    ensures { Lists (map (search.is_needing folder.now.files set.now) set.now.targets) result }
 {
-    let mut needing = Vec::new(alloc);
-    let mut intact = BTreeSet::new(alloc);
-    for target in set.targets() {
-        if is_needing(folder, set, target) {
-            needing.push(Needing {
-                target,
-                found: None,
-            })?;
-        } else {
-            intact.insert(target.name())?;
-        }
-    }
-    Ok(Targets { needing, intact })
+    set.targets()
+        .iter()
+        .map(|target| is_needing(folder, set, target))
+        .collect(alloc)
+}
+
+// The targets of a set that are needing by these answers.
+fn chosen<'s>(alloc: Global, set: &'s ParSet, needs: &[bool]) -> Result<Vec<&'s Target>, AllocError>
+    ensures { let chosen = filter (λ z. z.1) (zip set.now.targets needs.now) in
+        IfOk result (λ targets. map (λ t. t.now) targets.items ≡ map (λ z. z.0) chosen) }
+{
+    set.targets()
+        .iter()
+        .zip(needs)
+        .filter(|(_, needs)| **needs)
+        .map(|(target, _)| target)
+        .collect(alloc)
+}
+
+// The names of the other ones.
+fn intact_names(alloc: Global, set: &ParSet, needs: &[bool]) -> Result<BTreeSet<Name>, AllocError>
+    ensures { let intact = filter (λ z. not z.1) (zip set.now.targets needs.now) in
+        IfOk result (λ tree. HoldsNames tree (map (λ z. z.0.name) intact)) }
+{
+    set.targets()
+        .iter()
+        .zip(needs)
+        .filter(|(_, needs)| !**needs)
+        .map(|(target, _)| target.name().copied())
+        .collect(alloc)
 }
 
 // The candidates that are no intact target's.
-fn free_names<'n>(
+fn free_names(
     alloc: Global,
-    intact: &BTreeSet<&'n Name>,
-    candidates: &'n [Name],
+    intact: &BTreeSet<Name>,
+    candidates: &[Name],
 ) -> Result<Vec<Name>, AllocError>
-    ensures { (names : List (List ℕ)) → HoldsNames intact.now names →
-        Lists (filter (λ name. not (is_among names name)) candidates.now) result }
+    ensures { Lists (filter (λ name. not (contains (slice_cmp nat_cmp) intact.now name))
+        candidates.now) result }
 {
-    let mut names = Vec::new(alloc);
-    for name in candidates {
-        if !intact.contains(&name) {
-            names.push(name.copied())?;
-        }
-    }
-    Ok(names)
+    candidates
+        .iter()
+        .filter(|name| !intact.contains(*name))
+        .map(|name| name.copied())
+        .collect(alloc)
 }
 
 // The needing targets, as the search knows them.
 fn described<'s>(
     alloc: Global,
-    all: &[Needing<'s>],
+    targets: &[&'s Target],
 ) -> Result<Vec<par2_slices::Target<'s>>, AllocError>
-    ensures { IfOk result (λ targets. Describe targets.items (map (λ m. m.0) all.now)) }
+    ensures { IfOk result (λ list. Describe list.items (map (λ t. t.now) targets.now)) }
 {
-    let mut targets = Vec::with_capacity(alloc, all.len())?;
-    for needing in all {
-        targets.push(par2_slices::Target {
-            length: needing.target().length(),
-            pairs: needing.target().pairs(),
-        })?;
-    }
-    Ok(targets)
+    targets
+        .iter()
+        .map(|target| par2_slices::Target {
+            length: target.length(),
+            pairs: target.pairs(),
+        })
+        .collect(alloc)
 }
 
-// The name of a number.
+// The name of a number, where there is one.
 fn name_at(names: &[Name], number: Option<usize>) -> Option<Name>
-    requires { IfSome number (λ i. i < length names.now) }
-    ensures { result ≡ option_map (text_at names.now) number }
+    ensures { result ≡ option_and_then (slice_get names.now) number }
 {
-    Some(names[number?].copied())
+    Some(names.get(number?)?.copied())
 }
 
 // The needing targets with their matches, which have these numbers.
 fn with_matches<'s>(
     alloc: Global,
-    all: &[Needing<'s>],
+    targets: &[&'s Target],
     names: &[Name],
     numbers: &[Option<usize>],
 ) -> Result<Vec<Needing<'s>>, AllocError>
-    requires count { length numbers.now ≡ length all.now }
-    requires places { ArePlaces (length names.now) numbers.now }
-    ensures { let found = map (option_map (text_at names.now)) numbers.now in
-        Lists (zip (map (λ m. m.0) all.now) found) result }
+    ensures { let found = map (option_and_then (slice_get names.now)) numbers.now in
+        Lists (zip (map (λ t. t.now) targets.now) found) result }
 {
-    let mut list = Vec::with_capacity(alloc, all.len())?;
-    for i in 0..all.len() {
-        list.push(Needing {
-            target: all[i].target(),
-            found: name_at(names, numbers[i]),
-        })?;
-    }
-    Ok(list)
+    targets
+        .iter()
+        .zip(numbers)
+        .map(|(target, number)| Needing {
+            target,
+            found: name_at(names, *number),
+        })
+        .collect(alloc)
 }
 
 /// The targets of a set. The match of each needing one is among the candidates that are no intact target's, of which each
@@ -184,22 +169,23 @@ pub fn matches<'s>(
     alloc: Global,
     folder: &Folder,
     set: &'s ParSet,
-    candidates: &'s [Name],
+    candidates: &[Name],
 ) -> Result<Targets<'s>, AllocError>
     requires { IsDistinct bytes_eq candidates.now }
+    ensures needs { let needs = map (search.is_needing folder.now.files set.now) set.now.targets in
+        IfOk result (λ targets. targets.needs.items ≡ needs) }
     ensures needing { let matches = search.matches folder.now.files set.now candidates.now in
         IfOk result (λ targets. targets.needing.items ≡ matches) }
-    ensures intact { let names = search.intact_names folder.now.files set.now in
-        IfOk result (λ targets. HoldsNames targets.intact names) }
 {
     // The law goes from the numbers of texts to their names.
     matches_by_number_are_by_name();
-    let targets = targets_of(alloc, folder, set)?;
-    let free = free_names(alloc, &targets.intact, candidates)?;
+    let needs = needs(alloc, folder, set)?;
+    let intact = intact_names(alloc, set, &needs)?;
+    let free = free_names(alloc, &intact, candidates)?;
     let texts = texts_of(alloc, folder, &free)?;
-    let described = described(alloc, &targets.needing)?;
+    let chosen = chosen(alloc, set, &needs)?;
+    let described = described(alloc, &chosen)?;
     let numbers = matched(alloc, &texts, set.slice_size(), &described)?;
-    let needing = with_matches(alloc, &targets.needing, &free, &numbers)?;
-    let intact = targets.intact;
-    Ok(Targets { needing, intact })
+    let needing = with_matches(alloc, &chosen, &free, &numbers)?;
+    Ok(Targets { needs, needing })
 }

@@ -5,7 +5,7 @@ ghost use Rattle.par2_spec.specs.Changes as spec;
 ghost use Rattle.par2_spec.specs.Folders.{has};
 ghost use Rattle.par2_spec.specs.Repairs.{names_without_match};
 ghost use Rattle.par2_sets.specs.Asides.{HoldsNames};
-ghost use Rattle.par2_plan.specs.Repairing.{AreMoves, HoldsAsides, asides_removed, files_removed, matches_taken, place_by, writes};
+ghost use Rattle.par2_plan.specs.Repairing.{AreMoves, HoldsAsides, files_removed, matches_taken, place_by, writes};
 ghost use Rattle.par2_spec.specs.Folders as folders;
 ghost use Rattle.par2_spec.specs.Plans.{repair_changes, repair_removals};
 ghost use Rattle.par2_spec.specs.Repairs.{par_files, rebuilt_targets};
@@ -26,7 +26,7 @@ pub struct Moves<'n, 's> {
     /// The names of those whose files are there, and are put aside.
     pub put_aside: &'n [Name],
     /// Where these files stand then.
-    pub asides: BTreeMap<&'n Name, &'n Name>,
+    pub asides: BTreeMap<Name, Name>,
 }
 
 /// The names of the needing targets whose files are there.
@@ -42,61 +42,58 @@ pub fn present(alloc: Global, folder: &Folder, needing: &[Needing]) -> Result<Ve
 }
 
 /// The names of the needing targets that have no match.
-pub fn unmatched(alloc: Global, needing: &[Needing]) -> Result<Vec<Name>, AllocError>
-    ensures { Lists (names_without_match needing.now) result }
+pub fn unmatched(alloc: Global, needing: &[Needing]) -> Result<BTreeSet<Name>, AllocError>
+    ensures { IfOk result (λ tree. HoldsNames tree (names_without_match needing.now)) }
 {
     needing
         .iter()
-        .filter(|needing| needing.is_unmatched())
+        .filter(|needing| needing.found().is_none())
         .map(|needing| needing.target().name().copied())
         .collect(alloc)
 }
 
 /// The asides by the names of the files that are put aside.
-pub fn asides_by_name<'n>(
+pub fn asides_by_name(
     alloc: Global,
-    names: &'n [Name],
-    asides: &'n [Name],
-) -> Result<BTreeMap<&'n Name, &'n Name>, AllocError>
+    names: &[Name],
+    asides: &[Name],
+) -> Result<BTreeMap<Name, Name>, AllocError>
     ensures { IfOk result (λ tree. (aside : List ℕ → List ℕ) →
         asides.now ≡ map aside names.now → HoldsAsides aside names.now tree) }
 {
-    let mut tree = BTreeMap::new(alloc);
-    for (name, aside) in names.iter().zip(asides) {
-        tree.insert(name, aside)?;
-    }
-    Ok(tree)
+    names
+        .iter()
+        .zip(asides)
+        .map(|(name, aside)| (name.copied(), aside.copied()))
+        .collect(alloc)
 }
 
 // The names of the matches.
 fn matching(alloc: Global, targets: &[Needing]) -> Result<BTreeSet<Name>, AllocError>
     ensures { IfOk result (λ names. HoldsNames names (filter_map (λ m. m.1) targets.now)) }
 {
-    let mut names = BTreeSet::new(alloc);
-    for needing in targets {
-        if let Some(name) = needing.found() {
-            names.insert(name.copied())?;
-        }
-    }
-    Ok(names)
+    targets
+        .iter()
+        .filter_map(|needing| needing.found())
+        .collect(alloc)
 }
 
 // Where a file stands once others are put aside.
-fn now_at<'n>(asides: &BTreeMap<&'n Name, &'n Name>, name: &'n Name) -> Name
+fn now_at(asides: &BTreeMap<Name, Name>, name: &Name) -> Name
     ensures { (aside : List ℕ → List ℕ) (names : List (List ℕ)) →
         HoldsAsides aside names asides.now → result ≡ place_by aside names name.now }
 {
-    match asides.get(&name) {
+    match asides.get(name) {
         Some(aside) => aside.copied(),
         None => name.copied(),
     }
 }
 
 // Files are put aside.
-fn push_asides<'n>(
+fn push_asides(
     changes: &mut Changes,
-    names: &'n [Name],
-    asides: &BTreeMap<&'n Name, &'n Name>,
+    names: &[Name],
+    asides: &BTreeMap<Name, Name>,
 ) -> Result<(), AllocError>
     ensures { (aside : List ℕ → List ℕ) (all : List (List ℕ)) →
         HoldsAsides aside all asides.now →
@@ -110,10 +107,10 @@ fn push_asides<'n>(
 }
 
 // Each target that has a match takes it. A match that was put aside is taken from there.
-fn push_matches<'n>(
+fn push_matches(
     changes: &mut Changes,
-    targets: &'n [Needing],
-    asides: &BTreeMap<&'n Name, &'n Name>,
+    targets: &[Needing],
+    asides: &BTreeMap<Name, Name>,
 ) -> Result<(), AllocError>
     ensures { (aside : List ℕ → List ℕ) (all : List (List ℕ)) →
         HoldsAsides aside all asides.now →
@@ -122,7 +119,7 @@ fn push_matches<'n>(
 {
     for needing in targets {
         if let Some(found) = needing.found() {
-            let from = now_at(asides, found);
+            let from = now_at(asides, &found);
             changes.push(Change::Rename(from, needing.target().name().copied()))?;
         }
     }
@@ -139,39 +136,21 @@ fn push_writes(changes: &mut Changes, restored: Vec<Restored>) -> Result<(), All
     Ok(())
 }
 
-// The asides of files that are nobody's match are removed.
-fn remove_asides<'n>(
+// Files that are nobody's match are removed, from where they stand.
+fn push_removed(
     changes: &mut Changes,
-    names: &'n [Name],
-    asides: &BTreeMap<&'n Name, &'n Name>,
+    names: &[Name],
+    asides: &BTreeMap<Name, Name>,
     matching: &BTreeSet<Name>,
 ) -> Result<(), AllocError>
     ensures { (aside : List ℕ → List ℕ) (all given : List (List ℕ)) →
         HoldsAsides aside all asides.now → HoldsNames matching.now given →
-        let removed = asides_removed (place_by aside all) given names.now in
+        let removed = files_removed (place_by aside all) given names.now in
         OnOk result (changes.new ≡ changes.old ++ removed) }
 {
     for name in names {
         if !matching.contains(name) {
             changes.push(Change::Remove(now_at(asides, name)))?;
-        }
-    }
-    Ok(())
-}
-
-// Files that are nobody's match are removed.
-fn remove_files(
-    changes: &mut Changes,
-    names: &[Name],
-    matching: &BTreeSet<Name>,
-) -> Result<(), AllocError>
-    ensures { (given : List (List ℕ)) → HoldsNames matching.now given →
-        let removed = files_removed given names.now in
-        OnOk result (changes.new ≡ changes.old ++ removed) }
-{
-    for name in names {
-        if !matching.contains(name) {
-            changes.push(Change::Remove(name.copied()))?;
         }
     }
     Ok(())
@@ -208,6 +187,6 @@ pub fn push_removals(
         → OnOk result (changes.new ≡ changes.old ++ repair_removals folder set searched) }
 {
     let matching = matching(alloc, moves.needing)?;
-    remove_asides(changes, moves.put_aside, &moves.asides, &matching)?;
-    remove_files(changes, files, &matching)
+    push_removed(changes, moves.put_aside, &moves.asides, &matching)?;
+    push_removed(changes, files, &moves.asides, &matching)
 }

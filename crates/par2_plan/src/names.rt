@@ -4,9 +4,9 @@ ghost use Rattle.std.specs.List.{list_any};
 ghost use Rattle.par2_spec.specs.Names.{is_par_name};
 ghost use Rattle.par2_spec.specs.Folders.{has};
 ghost use Rattle.par2_spec.specs.Volumes as spec;
-ghost use Rattle.par2_spec.specs.Answers.{Appends, FailsFor};
+ghost use Rattle.par2_spec.specs.Answers.{FailsFor};
 ghost use Rattle.par2_plan.specs.Faults.{long_name, there_already};
-ghost use Rattle.par2_plan.specs.Outputs.{volume_at, volume_if, volumes_of, names_of};
+ghost use Rattle.par2_plan.specs.Outputs.{volume_at, volumes_of, names_of};
 
 use par2_folder::{Folder, Name};
 use par2_spec::Fault;
@@ -31,15 +31,6 @@ fn volumes_before(i: u32) -> u32
     (1 << i) - 1
 }
 
-// How many of this many recovery slices volume i has.
-fn volume_size(count: u32, i: u32) -> u32
-    requires number { i ≤ 17 }
-    requires some { spec.volumes_before i ≤ count }
-    ensures { result ≡ spec.volume_size count i }
-{
-    (1u32 << i).min(count - volumes_before(i))
-}
-
 // Adds a number as five digits.
 fn push_five_digits(text: &mut String, n: u32) -> Result<(), AllocError>
     ensures { OnOk result (string_bytes text.new ≡ string_bytes text.old ++ spec.five_digits n) }
@@ -50,41 +41,18 @@ fn push_five_digits(text: &mut String, n: u32) -> Result<(), AllocError>
     Ok(())
 }
 
-// The base without `.par2`.
-fn stem(base: &str) -> &str
-    requires { IsTrue (is_par_name base.now) }
-    ensures { result.now ≡ spec.stem base.now }
-{
-    &base[..base.len() - 5]
-}
-
 // The text of a volume's name.
 fn volume_text(alloc: Global, base: &str, first: u32, count: u32) -> Result<String, AllocError>
     requires { IsTrue (is_par_name base.now) }
     ensures { IfOk result (λ text. string_bytes text ≡ spec.volume_name base.now first count) }
 {
-    let mut text = String::from_str(alloc, stem(base))?;
+    let mut text = String::from_str(alloc, &base[..base.len() - 5])?;
     text.push_str(".vol")?;
     push_five_digits(&mut text, first)?;
     text.push_str("+")?;
     push_five_digits(&mut text, count)?;
     text.push_str(".par2")?;
     Ok(text)
-}
-
-// The name of a volume.
-fn volume_name(alloc: Global, base: &Name, first: u32, count: u32) -> Result<Name, Fault>
-    requires { IsTrue (is_par_name base.now) }
-    ensures refused { IfErr result (λ fault. (fault ≡ Fault.Memory)
-        ⊎ ((fault ≡ Fault.NameTooLong) × (255 < length (spec.volume_name base.now first count)))) }
-    ensures accepted { IfOk result (λ _. length (spec.volume_name base.now first count) ≤ 255) }
-    ensures name { IfOk result (λ name. name ≡ spec.volume_name base.now first count) }
-{
-    let text = volume_text(alloc, base.as_str(), first, count)?;
-    match Name::new(&text) {
-        Ok(name) => Ok(name),
-        Err(_) => Err(Fault::NameTooLong),
-    }
 }
 
 // Volume i of `count` recovery slices from exponent `first` on.
@@ -98,35 +66,13 @@ fn volume_at(alloc: Global, base: &Name, first: u32, count: u32, i: u32) -> Resu
     ensures accepted { IfOk result (λ volume. length volume.name ≤ 255) }
     ensures volume { IfOk result (λ volume. volume ≡ volume_at base.now first count i) }
 {
-    let first = first + volumes_before(i);
-    let count = volume_size(count, i);
-    let name = volume_name(alloc, base, first, count)?;
-    Ok(Volume { name, first, count })
-}
-
-// Adds volume i, where there is one.
-fn add_volume(
-    alloc: Global,
-    volumes: &mut Vec<Volume>,
-    base: &Name,
-    first: u32,
-    count: u32,
-    i: u32,
-) -> Result<(), Fault>
-    requires base { IsTrue (is_par_name base.now) }
-    requires exponents { first + count ≤ 65536 }
-    requires number { i ≤ 17 }
-    ensures refused { FailsFor (long_name (names_of (volume_if base.now first count i))) result }
-    ensures accepted { OnOk result (long_name (names_of (volume_if base.now first count i))
-        ≡ None) }
-    ensures volumes { Appends (volume_if base.now first count i) volumes.old volumes.new result }
-{
-    if volumes_before(i) >= count {
-        return Ok(());
+    let before = volumes_before(i);
+    let (first, count) = (first + before, (1 << i).min(count - before));
+    let text = volume_text(alloc, base.as_str(), first, count)?;
+    match Name::new(&text) {
+        Ok(name) => Ok(Volume { name, first, count }),
+        Err(_) => Err(Fault::NameTooLong),
     }
-    let volume = volume_at(alloc, base, first, count, i)?;
-    volumes.push(volume)?;
-    Ok(())
 }
 
 /// The volumes of `count` recovery slices from exponent `first` on, in order.
@@ -139,26 +85,21 @@ pub fn volumes(alloc: Global, base: &Name, first: u32, count: u32) -> Result<Vec
 {
     let mut volumes = Vec::new(alloc);
     for i in 0..MOST_VOLUMES {
-        add_volume(alloc, &mut volumes, base, first, count, i)?;
+        if volumes_before(i) < count {
+            volumes.push(volume_at(alloc, base, first, count, i)?)?;
+        }
     }
     Ok(volumes)
 }
 
-// Whether a volume is there already.
-fn is_volume_there(folder: &Folder, volumes: &[Volume]) -> bool
-    ensures { result ≡ list_any (λ volume. has folder.now.files volume.name) volumes.now }
-{
-    volumes
-        .iter()
-        .any(|volume| folder.get(&volume.name).is_some())
-}
-
 // Whether the index or a volume is there already.
-#[tactic(auto, using(crate::proofs::VolumeNumbers::any_named))]
 fn is_there(folder: &Folder, base: &Name, volumes: &[Volume]) -> bool
     ensures { result ≡ list_any (has folder.now.files) (base.now ∷ names_of volumes.now) }
 {
-    folder.get(base).is_some() || is_volume_there(folder, volumes)
+    folder.get(base).is_some()
+        || volumes
+            .iter()
+            .any(|volume| folder.get(&volume.name).is_some())
 }
 
 /// What is wrong where an output is there already: nothing, if it may be replaced.

@@ -13,18 +13,7 @@ use crate::reading::read;
 use par2_folder::{Change, Folder};
 use par2_sets::{ParSet, par_files};
 use par2_spec::Fault;
-use std::alloc::{AllocError, Global};
-
-// The changes that remove the par files of a set.
-fn removals(alloc: Global, folder: &Folder, set: &ParSet) -> Result<Changes, AllocError>
-    ensures { IfOk result (λ changes. changes ≡ purge_changes folder.now.files set.now) }
-{
-    let mut changes = Changes::new(alloc);
-    for name in &par_files(alloc, folder, set)? {
-        changes.push(Change::Remove(name.copied()))?;
-    }
-    Ok(changes)
-}
+use std::alloc::Global;
 
 // The changes of a purge of this set.
 fn purge_of(alloc: Global, folder: &Folder, set: &ParSet) -> Result<Changes, Fault>
@@ -39,7 +28,11 @@ fn purge_of(alloc: Global, folder: &Folder, set: &ParSet) -> Result<Changes, Fau
     {
         return Err(Fault::NotComplete);
     }
-    Ok(removals(alloc, folder, set)?)
+    let mut changes = Changes::new(alloc);
+    for name in &par_files(alloc, folder, set)? {
+        changes.push(Change::Remove(name.copied()))?;
+    }
+    Ok(changes)
 }
 
 /// The changes of a purge: the set's par files are removed, where each target is complete. Memory is answered only where

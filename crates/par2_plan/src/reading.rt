@@ -1,14 +1,14 @@
 //! What a command reads first: the set of its base, and the names of its further files.
-ghost use Rattle.std.specs.Prelude.{◌≡◌, ◌<◌, Some, not, map, position, string_bytes, is_some, IfOk, IfSome, IsErrOf};
+ghost use Rattle.std.specs.Prelude.{◌≡◌, ◌<◌, Some, not, map, filter, position, string_bytes, is_some, IfOk, IfSome, IsErrOf};
+ghost use Rattle.par2_spec.specs.Answers.{Lists};
 ghost use Rattle.par2_spec.specs.Folders.{has};
 ghost use Rattle.par2_spec.specs.Refusals.{absent_file, set_in};
 ghost use Rattle.par2_sets.specs.Steps.{Gives};
-ghost use Rattle.par2_plan.specs.Readings.{present_from};
 
 use par2_folder::{Folder, Name};
 use par2_sets::{ParSet, set_of};
 use par2_spec::Fault;
-use std::alloc::Global;
+use std::alloc::{AllocError, Global};
 
 /// The set of a base, and the names of further files.
 #[derive(Drop)]
@@ -39,17 +39,18 @@ fn first_absent(folder: &Folder, words: &[String]) -> Option<usize>
         .position(|word| present(folder, word).is_none())
 }
 
-// The names of the further files.
-fn present_extras(alloc: Global, folder: &Folder, extras: &[String]) -> Result<Vec<Name>, Fault>
-    ensures { let names = present_from 1 folder.now.files (map string_bytes extras.now) in
-        Gives (λ list. list.items) result names }
+// The names of those words that are files' names.
+fn present_extras(
+    alloc: Global,
+    folder: &Folder,
+    extras: &[String],
+) -> Result<Vec<Name>, AllocError>
+    ensures { Lists (filter (has folder.now.files) (map string_bytes extras.now)) result }
 {
-    let mut names = Vec::new(alloc);
-    for i in 0..extras.len() {
-        let name = present(folder, &extras[i]).ok_or(Fault::NoSuchFile(i + 1))?;
-        names.push(name)?;
-    }
-    Ok(names)
+    extras
+        .iter()
+        .filter_map(|word| present(folder, word))
+        .collect(alloc)
 }
 
 /// Reads the set of the base, where the base and the further files are there. Whether they are is found without memory.

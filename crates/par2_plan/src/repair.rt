@@ -7,6 +7,7 @@ ghost use Rattle.par2_spec.specs.Refusals.{repair_refusal};
 ghost use Rattle.par2_spec.specs.Repairs.{rebuilt_targets};
 ghost use Rattle.par2_spec.specs.Search as search;
 ghost use Rattle.par2_plan.specs.Restoring.{md5s_of, undetermined_fault};
+ghost use Rattle.par2_sets.specs.Asides.{HoldsNames};
 ghost use Rattle.par2_spec.specs.Answers.{FailsFor, Lists};
 ghost use Rattle.par2_plan.specs.Answers.{FailsAs, GivesChanges, LeadsAs, RefusesEarly, SucceedsAs, repair_of};
 ghost use Rattle.par2_plan.specs.Drafts.{IsDraft, IsDraftBy};
@@ -25,6 +26,7 @@ use par2_folder::{Folder, Name};
 use par2_sets::{ParSet, asides, par_files};
 use par2_spec::Fault;
 use std::alloc::{AllocError, Global};
+use std::collections::BTreeSet;
 
 // The targets without a match, by slices that are found or rebuilt. Where there are none, nothing is searched.
 fn files_for<'s>(
@@ -32,12 +34,13 @@ fn files_for<'s>(
     folder: &Folder,
     set: &'s ParSet,
     candidates: &[Name],
-    unmatched: &'s [Name],
+    unmatched: &BTreeSet<Name>,
 ) -> Result<Vec<Restored<'s>>, Fault>
     ensures refused { let known = known_by folder.now.files set.now candidates.now in
         FailsFor (undetermined_fault set.now known) result }
     ensures restored { let known = known_by folder.now.files set.now candidates.now in
-        IfOk result (λ restored. AreRestored set.now known unmatched.now restored.items) }
+        (names : List (List ℕ)) → HoldsNames unmatched.now names →
+        IfOk result (λ restored. AreRestored set.now known names restored.items) }
 {
     if unmatched.is_empty() {
         return Ok(Vec::new(alloc));
@@ -51,11 +54,7 @@ fn files_for<'s>(
 fn md5s_of(alloc: Global, restored: &[Restored]) -> Result<Vec<[u8; 16]>, AllocError>
     ensures { Lists (md5s_of restored.now) result }
 {
-    let mut md5s = Vec::with_capacity(alloc, restored.len())?;
-    for file in restored {
-        md5s.push(file.target.md5())?;
-    }
-    Ok(md5s)
+    restored.iter().map(Restored::md5).collect(alloc)
 }
 
 // The changes of a repair, which may purge.
@@ -107,26 +106,6 @@ fn draft_with(
     Ok(Draft { changes, md5s })
 }
 
-// The draft of a repair of this set, with further files.
-fn draft_of(
-    alloc: Global,
-    folder: &Folder,
-    set: &ParSet,
-    extras: &[Name],
-    purge: bool,
-) -> Result<Draft, Fault>
-    requires { let searched = search.candidates folder.now.files set.now extras.now in
-        IsWholeWhereMatched folder.now.files set.now searched }
-    ensures refused { let searched = search.candidates folder.now.files set.now extras.now in
-        FailsFor (repair_refusal folder.now.files set.now searched) result }
-    ensures draft { let searched = search.candidates folder.now.files set.now extras.now in
-        IfOk result (IsDraftBy purge folder.now.files set.now searched) }
-{
-    let candidates = candidates(alloc, folder, set, extras)?;
-    let targets = matches(alloc, folder, set, &candidates)?;
-    draft_with(alloc, folder, set, &candidates, &targets.needing, purge)
-}
-
 /// The changes of a repair: the files of needing targets are put aside, targets that have a match take it, and the others
 /// are written from slices that are found or rebuilt. A repair that purges then removes the asides that are left and the
 /// set's par files. The MD5s of what is written are left to be tested, and a wrong one is the last cause of a refusal.
@@ -145,7 +124,16 @@ pub fn draft_repair(
         IfOk result (IsDraft folder.now.files base.now words purge) }
 {
     let reading = read(alloc, folder, base, extras)?;
-    draft_of(alloc, folder, &reading.set, &reading.extras, purge)
+    let candidates = candidates(alloc, folder, &reading.set, &reading.extras)?;
+    let targets = matches(alloc, folder, &reading.set, &candidates)?;
+    draft_with(
+        alloc,
+        folder,
+        &reading.set,
+        &candidates,
+        &targets.needing,
+        purge,
+    )
 }
 
 // The MD5s of what a draft's changes write, side by side.

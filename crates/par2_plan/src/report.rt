@@ -1,23 +1,26 @@
 //! What a verify reports.
-ghost use Rattle.std.specs.Prelude.{◌≡◌, ◌+◌, ◌≤◌, ◌<◌, ◌++◌, ℕ, List, length, map, slice_index, filter, is_some, Ok, IfOk, OnOk};
+ghost use Rattle.std.specs.Prelude.{◌≡◌, ◌≤◌, ◌<◌, ℕ, List, length, map, slice_index, filter, not, zip, Ok, IfOk, if◌then◌else◌};
+ghost use Rattle.std.specs.BTreeSet.{contains};
 ghost use Rattle.std.specs.List.{list_all};
-ghost use Rattle.par2_spec.specs.Answers.{Appends};
+ghost use Rattle.par2_spec.specs.Answers.{Lists};
 ghost use Rattle.par2_spec.specs.Folders as folders;
 ghost use Rattle.par2_spec.specs.Folders.{has};
 ghost use Rattle.par2_spec.specs.Rank as ranks;
-ghost use Rattle.par2_spec.specs.Reports.{is_complete, verdict_of, report_in, IsVerdictIn};
+ghost use Rattle.par2_spec.specs.Reports.{Complete, is_complete, needing_state, verdict_of, report_in, IsVerdictIn};
 ghost use Rattle.par2_spec.specs.Search.{survivors};
-ghost use Rattle.par2_plan.specs.Findings.{AreSized};
-ghost use Rattle.par2_plan.specs.Parts.{state_by, found_by, target_report_by, target_reports_by, missing_from, lost_from, report_by};
-ghost use Rattle.par2_plan.specs.Views.{windows_in, missing_in, standing_of, standings_of, state_of, target_report_of, report_of};
+ghost use Rattle.par2_plan.specs.Findings.{AreFindings, lost_by, pair_cmp, report_by, said_of};
+ghost use Rattle.par2_plan.specs.Views.{state_of, target_report_of, report_of};
 
-use crate::finding::Standing;
+use crate::finding::Findings;
+use crate::restored_slices::all_pairs;
 use par2_folder::{Folder, Name};
 use par2_gf16::Gf;
 use par2_recovery::{rank, rank_by_runs};
 use par2_sets::{ParSet, Target};
+use par2_slices::Pair;
 use par2_spec::Verdict;
 use std::alloc::{AllocError, Global};
+use std::collections::BTreeSet;
 
 /// How it is with a target.
 #[derive(Debug, PartialEq, Eq, Drop)]
@@ -91,46 +94,36 @@ impl Report {
     }
 }
 
-// The state of a target.
-fn state_of(folder: &Folder, target: &Target, standing: &Standing) -> State
+// The state of a target, by whether it is needing, and its match.
+fn state_of(folder: &Folder, target: &Target, needs: bool, found: Option<Name>) -> State
     ensures { let is_there = has folder.now.files target.now.name in
-        (s : ℕ) → state_of result ≡ state_by is_there (standing_of s standing.now) }
+        state_of result ≡ if needs then needing_state is_there found else Complete }
 {
-    match standing {
-        Standing::Intact => State::Complete,
-        Standing::Matched(name) => State::Misplaced(name.copied()),
-        Standing::Unmatched(_) if folder.get(target.name()).is_some() => State::Damaged,
-        Standing::Unmatched(_) => State::Missing,
+    match found {
+        _ if !needs => State::Complete,
+        Some(name) => State::Misplaced(name),
+        None if folder.get(target.name()).is_some() => State::Damaged,
+        None => State::Missing,
     }
 }
 
-// How many windows are there.
-fn count_found(windows: &[Option<&[u8]>]) -> usize
-    ensures { result ≡ length (filter (λ window. is_some window) windows.now) }
+// How many of these slices are not missing.
+fn count_found(pairs: &[Pair], missing: &BTreeSet<Pair>) -> usize
+    ensures { result
+        ≡ length (filter (λ pair. not (contains pair_cmp missing.now pair)) pairs.now) }
 {
-    windows.iter().filter(|window| window.is_some()).count()
-}
-
-// How many slices of a target are found.
-fn found_of(target: &Target, standing: &Standing) -> usize
-    ensures { let total = length target.now.pairs in
-        (s : ℕ) → result ≡ found_by total (standing_of s standing.now) }
-{
-    match standing {
-        Standing::Unmatched(windows) => count_found(windows),
-        _ => target.pairs().len(),
-    }
+    pairs.iter().filter(|pair| !missing.contains(*pair)).count()
 }
 
 // What is said of a target.
-fn target_report(folder: &Folder, target: &Target, standing: &Standing) -> TargetReport
-    ensures { (s : ℕ) → target_report_of result
-        ≡ target_report_by folder.now.files target.now (standing_of s standing.now) }
+fn target_report(folder: &Folder, target: &Target, needs: bool, findings: &Findings) -> TargetReport
+    ensures { target_report_of result
+        ≡ said_of folder.now.files findings.now (target.now, needs) }
 {
     TargetReport {
         name: target.name().copied(),
-        state: state_of(folder, target, standing),
-        found: found_of(target, standing),
+        state: state_of(folder, target, needs, findings.match_of(target.name())),
+        found: count_found(target.pairs(), &findings.missing),
         total: target.pairs().len(),
     }
 }
@@ -139,62 +132,34 @@ fn target_report(folder: &Folder, target: &Target, standing: &Standing) -> Targe
 fn target_reports(
     alloc: Global,
     folder: &Folder,
-    set: &ParSet,
-    standings: &[Standing],
+    targets: &[Target],
+    findings: &Findings,
 ) -> Result<Vec<TargetReport>, AllocError>
-    ensures { let all = standings_of set.now.slice_size standings.now in
-        let reports = target_reports_by folder.now.files set.now.targets all in
+    ensures { let targets = zip targets.now findings.now.needs.items in
+        let reports = map (said_of folder.now.files findings.now) targets in
         IfOk result (λ list. map target_report_of list.items ≡ reports) }
 {
-    let mut reports = Vec::with_capacity(alloc, standings.len())?;
-    for (target, standing) in set.targets().iter().zip(standings) {
-        reports.push(target_report(folder, target, standing))?;
-    }
-    Ok(reports)
+    targets
+        .iter()
+        .zip(&findings.needs)
+        .map(|(target, needs)| target_report(folder, target, *needs, findings))
+        .collect(alloc)
 }
 
-// Adds the numbers of slices that are not found. The first one has number `first`.
-fn push_missing(
-    lost: &mut Vec<u32>,
-    first: u32,
-    windows: &[Option<&[u8]>],
-) -> Result<(), AllocError>
-    requires { first + length windows.now ≤ 32768 }
-    ensures { Appends (missing_from first windows.now) lost.old lost.new result }
+// The numbers of the missing slices, rising.
+fn lost_slices(
+    alloc: Global,
+    pairs: &[Pair],
+    missing: &BTreeSet<Pair>,
+) -> Result<Vec<u32>, AllocError>
+    requires { length pairs.now ≤ 32768 }
+    ensures { Lists (lost_by (contains pair_cmp missing.now) pairs.now) result }
 {
-    for (i, window) in windows.iter().enumerate() {
-        if window.is_none() {
-            lost.push(first + i as u32)?;
-        }
-    }
-    Ok(())
-}
-
-// Adds the numbers of a target's lost slices. The first slice has number `first`.
-fn push_lost(lost: &mut Vec<u32>, first: u32, standing: &Standing) -> Result<(), AllocError>
-    requires { first + windows_in standing.now ≤ 32768 }
-    ensures { Appends (missing_in first standing.now) lost.old lost.new result }
-{
-    match standing {
-        Standing::Unmatched(windows) => push_missing(lost, first, windows),
-        _ => Ok(()),
-    }
-}
-
-// The numbers of the lost slices, rising.
-fn lost_slices(alloc: Global, set: &ParSet, standings: &[Standing]) -> Result<Vec<u32>, AllocError>
-    requires { AreSized set.now.targets (standings_of set.now.slice_size standings.now) }
-    ensures numbers { let all = standings_of set.now.slice_size standings.now in
-        IfOk result (λ lost. lost.items ≡ lost_from 0 set.now.targets all) }
-    ensures low { IfOk result (λ lost. (i : ℕ) → slice_index lost.items i < 32768) }
-{
-    let mut lost = Vec::new(alloc);
-    let mut first = 0;
-    for (target, standing) in set.targets().iter().zip(standings) {
-        push_lost(&mut lost, first, standing)?;
-        first += target.pairs().len() as u32;
-    }
-    Ok(lost)
+    (0..pairs.len() as u32)
+        .zip(pairs)
+        .filter(|(_, pair)| missing.contains(*pair))
+        .map(|(number, _)| number)
+        .collect(alloc)
 }
 
 // The exponents of recovery slices.
@@ -217,19 +182,20 @@ fn rank_of(alloc: Global, set: &ParSet, lost: &[u32]) -> Result<usize, AllocErro
     }
 }
 
-/// What is said of a set, by how it stands with each of its targets.
+/// What is said of a set, by what is found of it.
 pub(crate) fn report_on(
     alloc: Global,
     folder: &Folder,
     set: &ParSet,
-    standings: &[Standing],
+    findings: &Findings,
 ) -> Result<Report, AllocError>
-    requires { AreSized set.now.targets (standings_of set.now.slice_size standings.now) }
-    ensures { let all = standings_of set.now.slice_size standings.now in
-        IfOk result (λ report. report_of report ≡ report_by folder.now.files set.now all) }
+    ensures { (searched : List (List ℕ)) →
+        AreFindings folder.now.files set.now searched findings.now →
+        IfOk result (λ report. report_of report ≡ report_by folder.now.files set.now searched) }
 {
-    let targets = target_reports(alloc, folder, set, standings)?;
-    let lost = lost_slices(alloc, set, standings)?;
+    let targets = target_reports(alloc, folder, set.targets(), findings)?;
+    let pairs = all_pairs(alloc, set)?;
+    let lost = lost_slices(alloc, &pairs, &findings.missing)?;
     let rank = rank_of(alloc, set, &lost)?;
     Ok(Report {
         set_id: set.id(),

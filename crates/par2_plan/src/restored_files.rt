@@ -3,7 +3,7 @@ ghost use Rattle.std.specs.Prelude.{◌≡◌, ◌+◌, ◌≤◌, ℕ, List, le
 ghost use Rattle.std.specs.List.{AllByRecursion};
 ghost use Rattle.par2_spec.specs.Answers.{Appends, Lists};
 ghost use Rattle.par2_spec.specs.Sets.{all_pairs};
-ghost use Rattle.par2_plan.specs.Matches.{HoldsNames};
+ghost use Rattle.par2_sets.specs.Asides.{HoldsNames};
 ghost use Rattle.par2_plan.specs.Restoring.{targets_among, chosen_at};
 
 use crate::restored_slices::Slices;
@@ -30,31 +30,31 @@ impl<'s> Model for Restored<'s> {
     ghost view = { λ r. (r.target.now, r.bytes) };
 }
 
-// The names as a tree.
-fn tree_of<'n>(alloc: Global, names: &'n [Name]) -> Result<BTreeSet<&'n Name>, AllocError>
-    ensures { IfOk result (λ tree. HoldsNames tree names.now) }
-{
-    let mut tree = BTreeSet::new(alloc);
-    for name in names {
-        tree.insert(name)?;
+impl<'s> Restored<'s> {
+    ghost use Rattle.std.specs.Prelude.{◌≡◌};
+
+    /// The MD5 that the target describes.
+    pub fn md5(&self) -> [u8; 16]
+        ensures { result ≡ self.now.0.md5 }
+    {
+        self.target.md5()
     }
-    Ok(tree)
 }
 
 // Adds the target with its bytes, if it is among these names. Its slices begin with that of number `first`.
 fn push_among<'s>(
     alloc: Global,
     restored: &mut Vec<Restored<'s>>,
-    tree: &BTreeSet<&'s Name>,
+    among: &BTreeSet<Name>,
     target: &'s Target,
     slices: &Slices,
     first: usize,
 ) -> Result<(), AllocError>
     requires { first + length target.now.pairs ≤ length slices.now }
-    ensures { (names : List (List ℕ)) → HoldsNames tree.now names →
+    ensures { (names : List (List ℕ)) → HoldsNames among.now names →
         Appends (chosen_at names slices.now first target.now) restored.old restored.new result }
 {
-    if !tree.contains(&target.name()) {
+    if !among.contains(target.name()) {
         return Ok(());
     }
     let bytes = slices.file(alloc, first, target.pairs().len(), target.length())?;
@@ -69,21 +69,22 @@ pub fn restored_files<'s>(
     alloc: Global,
     set: &'s ParSet,
     slices: &Slices,
-    names: &'s [Name],
+    among: &BTreeSet<Name>,
 ) -> Result<Vec<Restored<'s>>, AllocError>
     requires count { length slices.now ≡ length (all_pairs set.now) }
     requires sizes { AllByRecursion (λ slice. length slice ≡ set.now.slice_size) slices.now }
-    ensures targets { Lists (targets_among set.now slices.now names.now) result }
-    ensures lengths { let targets = targets_among set.now slices.now names.now in
+    ensures targets { (names : List (List ℕ)) → HoldsNames among.now names →
+        Lists (targets_among set.now slices.now names) result }
+    ensures lengths { (names : List (List ℕ)) →
+        let targets = targets_among set.now slices.now names in
         IfOk result (λ _. AllByRecursion (λ c. length c.1 ≡ c.0.length) targets) }
 {
     // The law that says so.
     written_files_have_their_length();
-    let tree = tree_of(alloc, names)?;
-    let mut restored = Vec::with_capacity(alloc, names.len())?;
+    let mut restored = Vec::with_capacity(alloc, among.len())?;
     let mut first = 0;
     for target in set.targets() {
-        push_among(alloc, &mut restored, &tree, target, slices, first)?;
+        push_among(alloc, &mut restored, among, target, slices, first)?;
         first += target.pairs().len();
     }
     Ok(restored)

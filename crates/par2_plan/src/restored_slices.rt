@@ -113,15 +113,15 @@ impl<'a> Slices<'a> {
     }
 }
 
-// The pairs of all slices of a set.
-fn all_pairs(alloc: Global, set: &ParSet) -> Result<Vec<Pair>, AllocError>
+/// The pairs of all slices of a set.
+pub fn all_pairs(alloc: Global, set: &ParSet) -> Result<Vec<Pair>, AllocError>
     ensures { IfOk result (λ pairs. pairs.items ≡ all_pairs set.now) }
 {
-    let mut pairs = Vec::new(alloc);
-    for target in set.targets() {
-        pairs.extend_from_slice(target.pairs())?;
-    }
-    Ok(pairs)
+    set.targets()
+        .iter()
+        .flat_map(|target| target.pairs())
+        .copied()
+        .collect(alloc)
 }
 
 // What survives of a set's slices, which are found in these texts.

@@ -1,37 +1,17 @@
 //! What a verify answers.
 ghost use Rattle.std.specs.Prelude.{◌≡◌, map, string_bytes, IfOk, Ok};
 ghost use Rattle.par2_spec.specs.Reports.{report_in, verdict_of, IsVerdictIn, RefusedAsReported};
-ghost use Rattle.par2_spec.specs.Search as search;
 ghost use Rattle.par2_plan.specs.Answers.{FailsIn, RefusesEarly, verify_of};
-ghost use Rattle.par2_plan.specs.Findings.{standings};
-ghost use Rattle.par2_plan.specs.Parts.{report_by};
 ghost use Rattle.par2_plan.specs.Views.{report_of};
 
 use crate::Report;
 use crate::candidates::candidates;
-use crate::finding::standings;
+use crate::finding::findings_of;
 use crate::reading::read;
 use crate::report::report_on;
-use par2_folder::{Folder, Name};
-use par2_sets::ParSet;
+use par2_folder::Folder;
 use par2_spec::Fault;
-use std::alloc::{AllocError, Global};
-
-// What is said of a set, with further files.
-fn report_with(
-    alloc: Global,
-    folder: &Folder,
-    set: &ParSet,
-    extras: &[Name],
-) -> Result<Report, AllocError>
-    ensures { let searched = search.candidates folder.now.files set.now extras.now in
-        let all = standings folder.now.files set.now searched in
-        IfOk result (λ report. report_of report ≡ report_by folder.now.files set.now all) }
-{
-    let candidates = candidates(alloc, folder, set, extras)?;
-    let standings = standings(alloc, folder, set, &candidates)?;
-    report_on(alloc, folder, set, &standings)
-}
+use std::alloc::Global;
 
 /// What a verify says of the set of a base, which is searched for in the files of its targets and in further ones. The
 /// verdict on it is complete exactly where no target is needing, else repairable exactly where the surviving recovery
@@ -52,5 +32,7 @@ pub fn check(alloc: Global, folder: &Folder, base: &str, extras: &[String]) -> R
         IfOk result (λ report. is_refused (report_of report)) }
 {
     let reading = read(alloc, folder, base, extras)?;
-    Ok(report_with(alloc, folder, &reading.set, &reading.extras)?)
+    let candidates = candidates(alloc, folder, &reading.set, &reading.extras)?;
+    let findings = findings_of(alloc, folder, &reading.set, &candidates)?;
+    Ok(report_on(alloc, folder, &reading.set, &findings)?)
 }

@@ -3,9 +3,9 @@
 
 ghost use Rattle.std.specs.Prelude.{◌≡◌, ◌≤◌, ◌<◌, ◌+◌, ◌++◌, length, map, IfOk, OnOk};
 ghost use Rattle.par2_spec.specs.Answers.{Appends};
-ghost use Rattle.par2_spec.specs.Sums.{OneChanged, list_at, lists_of};
+ghost use Rattle.par2_spec.specs.Sums.{lists_of};
 ghost use Rattle.par2_plan.specs.Outputs.{HasExponents, HasSlices, HaveExponents, ListsInputs, volume_text};
-ghost use Rattle.par2_plan.specs.Volumes.{AreTexts, HavePackets, blank_volume, exponents_in, exponents_of, length_with, places_from, places_in, with_slices};
+ghost use Rattle.par2_plan.specs.Volumes.{AreTexts, HavePackets, blank_volume, exponents_of, length_with, places_in, places_of, with_slices};
 
 use crate::names::Volume;
 use crate::outputs::Parts;
@@ -54,45 +54,15 @@ fn blank_volumes(
     Ok(texts)
 }
 
-// What the type says of an identifier, for proofs.
-fn fit_id(id: &[u8; 16])
-    ensures { length id.now ≡ 16 }
-{
-    let _ = id.len();
-}
-
-// Adds the exponents of a volume's recovery slices.
-fn append_exponents(exponents: &mut Vec<u32>, volume: &Volume) -> Result<(), AllocError>
-    requires { HasExponents volume.now }
-    ensures { OnOk result (exponents.new.items ≡ exponents.old.items ++ exponents_in volume.now) }
-{
-    for k in 0..volume.count {
-        exponents.push(volume.first + k)?;
-    }
-    Ok(())
-}
-
-// Those of all volumes, in order.
+// The exponents of all volumes' recovery slices, in order.
 fn exponents_of(alloc: Global, volumes: &[Volume]) -> Result<Vec<u32>, AllocError>
     requires exponents { HaveExponents volumes.now }
     ensures { IfOk result (λ exponents. exponents.items ≡ exponents_of volumes.now) }
 {
-    let mut exponents = Vec::new(alloc);
-    for volume in volumes {
-        append_exponents(&mut exponents, volume)?;
-    }
-    Ok(exponents)
-}
-
-// Where recovery slice `k` of a volume stands in its bytes.
-fn place_of(parts: &Parts, volume: &Volume, text: &[u8], k: u32) -> usize
-    requires fits { 68 + parts.now.set.now.slice ≤ usize.MAX }
-    requires packet { k < volume.now.count }
-    requires text { length text.now ≡ length_with parts.now volume.now.count }
-    ensures { result ≡ length_with parts.now k + 68 }
-{
-    let packet = RECOVERY_HEAD + parts.set.slice as usize;
-    parts.index.len() + k as usize * packet + RECOVERY_HEAD
+    volumes
+        .iter()
+        .flat_map(|volume| volume.first..volume.first + volume.count)
+        .collect(alloc)
 }
 
 // Adds the places of a volume's recovery slices, which is volume `i`.
@@ -105,10 +75,11 @@ fn append_places(
 ) -> Result<(), AllocError>
     requires fits { 68 + parts.now.set.now.slice ≤ usize.MAX }
     requires text { length text.now ≡ length_with parts.now volume.now.count }
-    ensures { Appends (places_in parts.now i volume.now) places.old places.new result }
+    ensures { Appends (places_in parts.now (i, volume.now)) places.old places.new result }
 {
+    let packet = RECOVERY_HEAD + parts.set.slice as usize;
     for k in 0..volume.count {
-        let at = place_of(parts, volume, text, k);
+        let at = parts.index.len() + k as usize * packet + RECOVERY_HEAD;
         places.push(Place { text: i, at })?;
     }
     Ok(())
@@ -123,7 +94,7 @@ fn places_of(
 ) -> Result<Vec<Place>, AllocError>
     requires fits { 68 + parts.now.set.now.slice ≤ usize.MAX }
     requires texts { HavePackets parts.now volumes.now (lists_of texts.now) }
-    ensures { IfOk result (λ places. places.items ≡ places_from parts.now 0 volumes.now) }
+    ensures { IfOk result (λ places. places.items ≡ places_of parts.now volumes.now) }
 {
     let mut places = Vec::new(alloc);
     for i in 0..volumes.len() {
@@ -148,7 +119,6 @@ fn write_slices(
     requires before { lists_of texts.old ≡ map (blank_volume parts.now) volumes.now }
     ensures { OnOk result (lists_of texts.new ≡ map (with_slices parts.now) volumes.now) }
 {
-    fit_id(&parts.set_id);
     let exponents = exponents_of(alloc, volumes)?;
     let places = places_of(alloc, parts, volumes, texts)?;
     let outputs = Places::new(&places, parts.set.slice as usize / 2);
@@ -167,7 +137,6 @@ fn digest_volume(
     requires before { text.old ≡ with_slices parts.now volume.now }
     ensures { OnOk result (text.new ≡ volume_text parts.now volume.now) }
 {
-    fit_id(&parts.set_id);
     let size = parts.set.slice as usize;
     digest_recoveries(
         alloc,
@@ -177,64 +146,26 @@ fn digest_volume(
     )
 }
 
-// Puts them into volume `i`.
-fn digest_at(
+// Volumes with the MD5s in them.
+fn digested(
     alloc: Global,
-    texts: &mut [Vec<u8>],
-    i: usize,
+    texts: Vec<Vec<u8>>,
     parts: &Parts,
-    volume: &Volume,
-) -> Result<(), AllocError>
-    requires place { i < length texts.old }
-    requires parts { HasSlices parts.now }
-    requires fits { 68 + parts.now.set.now.slice ≤ usize.MAX }
-    requires before { list_at (lists_of texts.old) i ≡ with_slices parts.now volume.now }
-    ensures changed { OneChanged (lists_of texts.old) (lists_of texts.new) i }
-    ensures here { OnOk result (list_at (lists_of texts.new) i ≡ volume_text parts.now volume.now) }
-{
-    digest_volume(alloc, texts[i].as_mut_slice(), parts, volume)
-}
-
-// Puts them into all volumes.
-fn digest_volumes(
-    alloc: Global,
-    texts: &mut [Vec<u8>],
-    parts: &Parts,
-    volumes: &[Volume],
-) -> Result<(), AllocError>
-    requires parts { HasSlices parts.now }
-    requires fits { 68 + parts.now.set.now.slice ≤ usize.MAX }
-    requires before { lists_of texts.old ≡ map (with_slices parts.now) volumes.now }
-    ensures { OnOk result (lists_of texts.new ≡ map (volume_text parts.now) volumes.now) }
-{
-    for i in 0..volumes.len() {
-        digest_at(alloc, texts, i, parts, &volumes[i])?;
-    }
-    Ok(())
-}
-
-// The bytes of the volumes in order, over the slices of the inputs.
-fn texts_over(
-    alloc: Global,
-    gf: &Gf,
-    parts: &Parts,
-    inputs: &[&[u8]],
     volumes: &[Volume],
 ) -> Result<Vec<Vec<u8>>, AllocError>
     requires parts { HasSlices parts.now }
-    requires inputs { ListsInputs parts.now inputs.now }
-    requires exponents { HaveExponents volumes.now }
+    requires fits { 68 + parts.now.set.now.slice ≤ usize.MAX }
+    requires before { AreTexts (with_slices parts.now) volumes.now texts }
     ensures { IfOk result (AreTexts (volume_text parts.now) volumes.now) }
 {
-    // Memory holds no packet that is longer.
-    if parts.set.slice > (usize::MAX - RECOVERY_HEAD) as u64 {
-        return Err(AllocError);
+    let mut texts = texts;
+    let mut digested = Vec::with_capacity(alloc, volumes.len())?;
+    for volume in volumes {
+        let mut text = texts.remove(0);
+        digest_volume(alloc, text.as_mut_slice(), parts, volume)?;
+        digested.push(text)?;
     }
-    let mut texts = blank_volumes(alloc, parts, volumes)?;
-    let bytes = texts.as_mut_slice();
-    write_slices(alloc, gf, parts, inputs, volumes, bytes)?;
-    digest_volumes(alloc, bytes, parts, volumes)?;
-    Ok(texts)
+    Ok(digested)
 }
 
 /// The bytes of the volumes in order. Where there are none, no table is made and no input looked up.
@@ -250,7 +181,13 @@ pub(crate) fn volume_texts(
     if volumes.is_empty() {
         return Ok(Vec::new(alloc));
     }
+    // Memory holds no packet that is longer.
+    if parts.set.slice > (usize::MAX - RECOVERY_HEAD) as u64 {
+        return Err(AllocError);
+    }
     let gf = Gf::new(alloc)?;
     let inputs = input_slices(alloc, parts.set, parts.folder)?;
-    texts_over(alloc, &gf, parts, &inputs, volumes)
+    let mut texts = blank_volumes(alloc, parts, volumes)?;
+    write_slices(alloc, &gf, parts, &inputs, volumes, texts.as_mut_slice())?;
+    digested(alloc, texts, parts, volumes)
 }

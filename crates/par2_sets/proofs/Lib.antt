@@ -2,8 +2,7 @@ mod Common
 pub mod Lists
 pub mod Names
 pub mod Exponents
-pub mod Keeping
-pub mod KeptPackets
+pub mod Firsts
 pub mod Refusals
 pub mod Reading
 pub mod TakenNames

@@ -1,8 +1,7 @@
 -- When names stand in a list once each.
-use Rattle.par2_sets.proofs.Common.{◌≡◌, ℕ, suc, ◌==◌, Bool, true, false, ◌||◌, cond, List, [], ◌∷◌, length, map, refl, ap, ap₂, ◌∙◌, eq-eqb, IsDistinct, distinct_count, unique_keys, is_member, bytes_eq, nat_list_eq_equiv, eqb-true, distinct, distinct_from_std, distinct_same, std_from_distinct, distinct_by_length}
+use Rattle.par2_sets.proofs.Common.{◌≡◌, ℕ, suc, ◌==◌, Bool, true, false, ◌||◌, cond, List, [], ◌∷◌, length, map, refl, ap, ap₂, ◌∙◌, eq-eqb, IsDistinct, distinct_count, unique_keys, is_member, bytes_eq, nat_list_eq_equiv, eqb-true, distinct, distinct_from_std, distinct_same, std_from_distinct, distinct_by_length, IsDistinct-from_count, distinct_count-from_IsDistinct}
 use Rattle.std.specs.Bool.{Decides}
 use Rattle.std.proofs.lemmas.Bool.Decides.{same_from_decides}
-use Rattle.std.proofs.lemmas.Map.Made.{IsDistinct-from_count, distinct_count-from_IsDistinct}
 
 -- ---- keys that are compared by their names
 

@@ -1,57 +1,19 @@
 -- The steps of the reading, one after the other.
-use Rattle.par2_sets.proofs.Common.{◌≡◌, ◌⊎◌, inl, inr, ℕ, List, Bool, true, Option, Some, None, Result, Ok, Err, refl, sym, ap, ◌∙◌, slice_get, option_map, ok_or, unwrap_or, is_some, IfOk, IfErr, false≢true, Fault, NoPackets, NoMain, BadSet, Memory, Folder, bytes_of, Packet, MainBody, DescBody, accepted, ParSet, Target, ◌>>=◌, unless, is_slice_size, main_of, are_in_profile, recovery_of, IsSound, Bor, entries, recovered_of, set_view, Gives, first_id, set_packets, descriptions_of, targets_or_fault, main_or_fault, targets_in, with_targets, set_in}
-use Rattle.par2_spec.specs.Sets.{read_set, set_of}
+use Rattle.par2_sets.proofs.Common.{◌≡◌, ◌⊎◌, inl, inr, ℕ, List, true, Option, Some, None, Result, Ok, Err, sym, ap, ◌∙◌, slice_get, option_map, ok_or, unwrap_or, is_some, IfOk, IfErr, false≢true, Fault, NoPackets, NoMain, BadSet, Memory, Folder, bytes_of, Packet, MainBody, DescBody, accepted, ParSet, Target, ◌>>=◌, unless, is_slice_size, main_of, are_in_profile, recovery_of, IsSound, Bor, entries, recovered_of, set_view, Gives, set_packets, descriptions_of, targets_or_fault, set_in, read_set, set_of}
 use Rattle.par2_sets.proofs.Exponents.{made_of}
 
-abbrev with_names : List ℕ → List Packet → ℕ → List DescBody → Result ParSet Fault
-with_names id packets s ds = targets_or_fault packets s ds >>= with_targets id packets s
-
-abbrev with_descriptions : List ℕ → List Packet → ℕ → List DescBody → Result ParSet Fault
-with_descriptions id packets s ds = unless (are_in_profile s ds) BadSet >>= (λ _. with_names id packets s ds)
-
-abbrev with_size : List ℕ → List Packet → MainBody → Result ParSet Fault
-with_size id packets main = descriptions_of packets main.ids >>= with_descriptions id packets main.slice_size
-
-abbrev with_main : List ℕ → List Packet → MainBody → Result ParSet Fault
-with_main id packets main = unless (is_slice_size main.slice_size) BadSet >>= (λ _. with_size id packets main)
-
-abbrev with_packets : List ℕ → List Packet → Result ParSet Fault
-with_packets id packets = ok_or (main_of id packets) NoMain >>= with_main id packets
-
--- the set is read in parts
-in_parts : (id : List ℕ) (packets : List Packet) → set_in id packets ≡ with_packets id packets
-in_parts id packets = at_main (ok_or (main_of id packets) NoMain)
-  where
-    at_names : (main : MainBody) (ds : List DescBody) (r : Result Bool Fault)
-        → ((r >>= (λ _. targets_or_fault packets main.slice_size ds)) >>= with_targets id packets main.slice_size) ≡ (r >>= (λ _. with_names id packets main.slice_size ds))
-    at_names main ds (Ok b) = refl
-    at_names main ds (Err e) = refl
-
-    at_descriptions : (main : MainBody) (r : Result (List DescBody) Fault)
-        → ((r >>= (λ ds. unless (are_in_profile main.slice_size ds) BadSet >>= (λ _. targets_or_fault packets main.slice_size ds))) >>= with_targets id packets main.slice_size)
-        ≡ (r >>= with_descriptions id packets main.slice_size)
-    at_descriptions main (Ok ds) = at_names main ds (unless (are_in_profile main.slice_size ds) BadSet)
-    at_descriptions main (Err e) = refl
-
-    at_size : (main : MainBody) (r : Result Bool Fault)
-        → ((r >>= (λ _. Ok main)) >>= (λ m. targets_in packets m >>= with_targets id packets m.slice_size)) ≡ (r >>= (λ _. with_size id packets main))
-    at_size main (Ok b) = at_descriptions main (descriptions_of packets main.ids)
-    at_size main (Err e) = refl
-
-    at_main : (r : Result MainBody Fault)
-        → ((r >>= (λ main. unless (is_slice_size main.slice_size) BadSet >>= (λ _. Ok main))) >>= (λ m. targets_in packets m >>= with_targets id packets m.slice_size))
-        ≡ (r >>= with_main id packets)
-    at_main (Ok main) = at_size main (unless (is_slice_size main.slice_size) BadSet)
-    at_main (Err e) = refl
+-- the identifier of the first packet of a base
+abbrev pub first_id : Folder → List ℕ → Option (List ℕ)
+first_id files base = option_map (λ p. p.set_id) (slice_get (accepted (bytes_of files base)) 0)
 
 -- a set whose base has a packet
 pub at_packets : (files : Folder) (base id : List ℕ) → first_id files base ≡ Some id → set_of files base ≡ set_in id (set_packets files base id)
 unfolding set_of read_set
-at_packets files base id h = step (slice_get (accepted (bytes_of files base)) 0) h ∙ sym (in_parts id (set_packets files base id))
+at_packets files base id h = step (slice_get (accepted (bytes_of files base)) 0) h
   where
-    step : (o : Option Packet) → option_map (λ p. p.set_id) o ≡ Some id → (ok_or o NoPackets >>= (λ first. with_packets first.set_id (set_packets files base first.set_id))) ≡ with_packets id (set_packets files base id)
+    step : (o : Option Packet) → option_map (λ p. p.set_id) o ≡ Some id → (ok_or o NoPackets >>= (λ first. set_in first.set_id (set_packets files base first.set_id))) ≡ set_in id (set_packets files base id)
     step None e = absurd (false≢true (ap is_some e))
-    step (Some p) e = ap (λ i. with_packets i (set_packets files base i)) (ap (λ o. unwrap_or o id) e)
+    step (Some p) e = ap (λ i. set_in i (set_packets files base i)) (ap (λ o. unwrap_or o id) e)
 
 -- what a `?` passes on of the set of some packets
 pub refused : (whole step r : Result ParSet Fault) → whole ≡ step → Gives (λ set. set) r step → IfErr r (λ fault. (fault ≡ Memory) ⊎ (whole ≡ Err fault))
@@ -66,40 +28,21 @@ pub sound : (whole step r : Result ParSet Fault) → whole ≡ step → Gives (�
 sound whole step (Ok set) e h law = law set (e ∙ h)
 sound whole step (Err fault) e h law = tt
 
--- ---- the set of some packets
+-- the set of some packets, once each part of it has been read
+pub all_read : (id : List ℕ) (packets : List Packet) (main : MainBody) (size : ℕ) (ds : List DescBody) (targets : List Target) (recovery : List (ℕ × Bor (List ℕ)))
+    → main_of id packets ≡ Some main → size ≡ main.slice_size → is_slice_size size ≡ true → descriptions_of packets main.ids ≡ Ok ds → are_in_profile size ds ≡ true
+    → targets_or_fault packets size ds ≡ Ok targets → recovered_of recovery ≡ entries (recovery_of packets size) → set_in id packets ≡ Ok (set_view id size targets recovery)
+all_read id packets main size ds targets recovery has is sized described taken made recovered =
+    ap (λ o. ok_or o NoMain >>= (λ m. unless (is_slice_size m.slice_size) BadSet >>= (λ _. descriptions_of packets m.ids >>= with_described m.slice_size))) has
+    ∙ ap (λ n. unless (is_slice_size n) BadSet >>= (λ _. descriptions_of packets main.ids >>= with_described n)) (sym is)
+    ∙ ap (λ b. unless b BadSet >>= (λ _. descriptions_of packets main.ids >>= with_described size)) sized
+    ∙ ap (λ r. r >>= with_described size) described
+    ∙ ap (λ b. unless b BadSet >>= (λ _. targets_or_fault packets size ds >>= with_targets size)) taken
+    ∙ ap (λ r. r >>= with_targets size) made
+    ∙ ap (λ m. Ok (record { id = id; slice_size = size; targets = targets; recovery = m })) (sym (made_of recovery (recovery_of packets size) recovered))
+  where
+    with_targets : ℕ → List Target → Result ParSet Fault
+    with_targets s ts = Ok (record { id = id; slice_size = s; targets = ts; recovery = recovery_of packets s })
 
-module _ (id : List ℕ) (packets : List Packet) where
-  pub no_main : (fault : Fault) → main_or_fault id packets ≡ Err fault → set_in id packets ≡ Err fault
-  no_main fault h = ap (λ r. r >>= (λ main. targets_in packets main >>= with_targets id packets main.slice_size)) h
-
-  module _ (main : MainBody) (has : main_or_fault id packets ≡ Ok main) where
-    at_main : set_in id packets ≡ targets_in packets main >>= with_targets id packets main.slice_size
-    at_main = ap (λ r. r >>= (λ (m : MainBody). targets_in packets m >>= with_targets id packets m.slice_size)) has
-
-    pub no_targets : (fault : Fault) → targets_in packets main ≡ Err fault → set_in id packets ≡ Err fault
-    no_targets fault h = at_main ∙ ap (λ r. r >>= with_targets id packets main.slice_size) h
-
-    pub all_read : (targets : List Target) → targets_in packets main ≡ Ok targets → set_in id packets ≡ with_targets id packets main.slice_size targets
-    all_read targets h = at_main ∙ ap (λ r. r >>= with_targets id packets main.slice_size) h
-
--- ---- the targets
-
-module _ (packets : List Packet) (main : MainBody) where
-  pub not_described : (fault : Fault) → descriptions_of packets main.ids ≡ Err fault → targets_in packets main ≡ Err fault
-  not_described fault h = ap (λ r. r >>= (λ (ds : List DescBody). unless (are_in_profile main.slice_size ds) BadSet >>= (λ _. targets_or_fault packets main.slice_size ds))) h
-
-  module _ (ds : List DescBody) (described : descriptions_of packets main.ids ≡ Ok ds) where
-    at_descriptions : targets_in packets main ≡ unless (are_in_profile main.slice_size ds) BadSet >>= (λ _. targets_or_fault packets main.slice_size ds)
-    at_descriptions = ap (λ r. r >>= (λ (xs : List DescBody). unless (are_in_profile main.slice_size xs) BadSet >>= (λ _. targets_or_fault packets main.slice_size xs))) described
-
-    -- the profile does not take them
-    pub not_taken : (fault : Fault) → unless (are_in_profile main.slice_size ds) BadSet ≡ Err fault → targets_in packets main ≡ Err fault
-    not_taken fault h = at_descriptions ∙ ap (λ r. r >>= (λ _. targets_or_fault packets main.slice_size ds)) h
-
-    pub taken : unless (are_in_profile main.slice_size ds) BadSet ≡ Ok true → targets_in packets main ≡ targets_or_fault packets main.slice_size ds
-    taken h = at_descriptions ∙ ap (λ r. r >>= (λ _. targets_or_fault packets main.slice_size ds)) h
-
--- the parts make the set
-pub the_set : (id : List ℕ) (packets : List Packet) (s size : ℕ) (targets : List Target) (recovery : List (ℕ × Bor (List ℕ)))
-    → size ≡ s → recovered_of recovery ≡ entries (recovery_of packets s) → with_targets id packets s targets ≡ Ok (set_view id size targets recovery)
-the_set id packets s size targets recovery is same = λ i. Ok (record { id = id; slice_size = sym is i; targets = targets; recovery = sym (made_of recovery (recovery_of packets s) same) i })
+    with_described : ℕ → List DescBody → Result ParSet Fault
+    with_described s xs = unless (are_in_profile s xs) BadSet >>= (λ _. targets_or_fault packets s xs >>= with_targets s)

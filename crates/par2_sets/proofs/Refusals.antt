@@ -1,5 +1,5 @@
 -- Faults that are passed on.
-use Rattle.par2_sets.proofs.Common.{◌≡◌, ◌⊎◌, ◌<◌, ℕ, List, length, get_or, map, refl, sym, ap, ◌∙◌, subst, None, Some, Option, Ok, Err, Result, ok_or, is_ok, IsErrAnd, false≢true, err_from_is_err_and, Fault, Memory, all_some, err_again, Gives}
+use Rattle.par2_sets.proofs.Common.{◌≡◌, ◌⊎◌, ◌<◌, ℕ, List, length, get_or, map, refl, sym, ap, ◌∙◌, None, Some, Option, Ok, Err, Result, ok_or, is_ok, IsErrAnd, false≢true, err_from_is_err_and, Fault, Memory, all_some, err_again, Gives}
 use Rattle.par2_sets.proofs.Lists.{all_some_none}
 
 -- what a `?` answers, where a step has ended in a fault
@@ -22,7 +22,3 @@ pub one_missing : {A B : Type 0} (f : A → Option B) (xs : List A) (i : ℕ) (x
 one_missing f xs i x missing fault low is h =
     let m = missing_one (f x) missing fault h in
     ap (λ o. ok_or o missing) (all_some_none f xs i x low is m.0) ∙ ap Err (sym m.1)
-
--- a step in other words
-pub same_step : {X Y : Type 0} (view : X → Y) (r : Result X Fault) (step whole : Result Y Fault) → step ≡ whole → Gives view r step → Gives view r whole
-same_step view r step whole e h = subst (Gives view r) e h

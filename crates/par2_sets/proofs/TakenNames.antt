@@ -1,8 +1,8 @@
 -- Names that are taken, and the first number that is free.
-use Rattle.par2_sets.proofs.Common.{◌≡◌, ℕ, suc, ◌+◌, ◌-◌, ◌^◌, ◌<◌, ◌≤◌, length, List, [], ◌∷◌, ◌++◌, map, take, refl, sym, ap, ◌∙◌, ◌⊎◌, Bool, true, false, not, cond, ◌||◌, arith, inl, inr, IsTrue, Ok, Err, Result, find, IfErr, IfOk, IsErrAnd, IsOk, nat_lt, unwrap_or, AllByRecursion, list_all, list_any, range_with_len, and_from, cases_lt, false_from_ne_true, false≢true, leb-true, lt-ltb, ltb-true, map_more, list_all-append, list_any_at, list_any_more, err_from_is_err_and, Fault, Memory, NameTooLong, Folder, File, IsFolder, files, names, is_among, is_name, numbered, taken_for, IsSound, target_names, ParSet, name_is_short, err_again, where_none, long_aside}
+use Rattle.par2_sets.proofs.Common.{◌≡◌, ℕ, suc, ◌+◌, ◌-◌, ◌^◌, ◌<◌, ◌≤◌, length, List, [], ◌∷◌, ◌++◌, map, take, refl, sym, ap, ◌∙◌, ◌⊎◌, Bool, true, false, not, cond, ◌||◌, arith, inl, inr, IsTrue, Ok, Err, Result, find, IfErr, IsErrAnd, IsOk, nat_lt, unwrap_or, AllByRecursion, list_all, range_with_len, and_from, cases_lt, false_from_ne_true, false≢true, leb-true, lt-ltb, ltb-true, map_more, err_from_is_err_and, Fault, Memory, NameTooLong, Folder, File, IsFolder, files, names, is_among, is_name, numbered, taken_for, IsSound, target_names, ParSet, name_is_short, err_again, where_none, long_aside, aside}
+use Rattle.std.proofs.lemmas.List.Folds.{list_all-append, list_any_more}
 use Rattle.std.specs.Prelude.{get_or, Option, Some, None}
 use Rattle.par2_spec.specs.Faults.{fault_where}
-use Rattle.par2_spec.specs.Repairs.{aside}
 use Rattle.par2_spec.proofs.AsideNames.{numbered_is_name}
 
 -- ---- what is taken
@@ -57,24 +57,9 @@ pub passed_on : {X : Type 0} (r : Result X Fault) (fault : Fault) (long : Option
     → (fault ≡ Memory) ⊎ (long ≡ Some fault) → IfErr r (λ f. (f ≡ Memory) ⊎ (long ≡ Some f))
 passed_on r fault long is h = err_again (λ x. IfErr x (λ f. (f ≡ Memory) ⊎ (long ≡ Some f))) r fault (err_from_is_err_and r is) h
 
--- a `?` that ends in a fault answers no value
-pub no_value : {X : Type 0} (r : Result X Fault) (fault : Fault) (P : X → Type 0) → IsErrAnd r (λ y. y ≡ fault) → IfOk r P
-no_value r fault P is = err_again (λ x. IfOk x P) r fault (err_from_is_err_and r is) tt
-
 -- a name whose aside is too long
 pub too_long : (folder : Folder) (set : ParSet) (name : List ℕ) → 255 < length (aside folder set name) → long_aside folder set (name ∷ []) ≡ Some NameTooLong
 too_long folder set name h = ap (λ b. fault_where (b || false) NameTooLong) (lt-ltb 255 (length (aside folder set name)) h)
-
-settled : (one all : Bool) (fault : Fault) → (one ≡ true → all ≡ true) → fault_where (one || false) NameTooLong ≡ Some fault → fault_where all NameTooLong ≡ Some fault
-settled true all fault every h = ap (λ b. fault_where b NameTooLong) (every refl) ∙ h
-settled false all fault every h = cc
-
--- one such name settles what is said of all
-pub one_too_long : (folder : Folder) (set : ParSet) (names : List (List ℕ)) (i : ℕ) (name : List ℕ) (fault : Fault) → i < length names → name ≡ get_or names i name
-    → long_aside folder set (name ∷ []) ≡ Some fault → long_aside folder set names ≡ Some fault
-one_too_long folder set names i name fault low is h =
-    let test : List ℕ → Bool = λ other. nat_lt 255 (length (aside folder set other)) in
-    settled (test name) (list_any test names) fault (λ long. list_any_at test names i name low (ap test (sym is) ∙ long)) h
 
 -- what is too long is no name
 pub long_is_no_name : (text : List ℕ) → 255 < length text → is_name text ≡ false

@@ -1,18 +1,12 @@
 -- Maps that keep the first value of each key.
-use Rattle.std.specs.Prelude.{◌≡◌, ℕ, List, Some, None, cond, option_and_then, option_map}
+use Rattle.std.specs.Prelude.{◌≡◌, ℕ, List, option_and_then, option_map}
 use Rattle.std.specs.BTreeMap.{BTreeMap, get}
 use Rattle.std.specs.Cmp.Lexicographic.{slice_cmp}
-use Rattle.std.specs.Option.{option_or}
-use Rattle.std.specs.Ordering.{eq_by_cmp, nat_cmp, ordering_then}
+use Rattle.std.specs.Ordering.{nat_cmp, ordering_then}
 use Rattle.std.specs.declared.cmp.Ordering.{Ordering}
 use Rattle.par2_spec.specs.Packets.{Packet, IfscBody, read_desc}
 use Rattle.par2_spec.specs.Sets.{description_of, pairs_of}
 use Rattle.par2_packets.specs.declared.scan.Packet as scan
-
--- where a key had no value, it has this one
-abbrev pub KeepsFirst : {K X : Type 0} → (K → K → Ordering) → BTreeMap K X → BTreeMap K X → K → X → Type 0
-KeepsFirst {K} R old new key value =
-    (q : K) → get R new q ≡ option_or (get R old q) (cond (eq_by_cmp R q key) (Some value) None)
 
 -- the order of File IDs
 abbrev pub id_cmp : List ℕ → List ℕ → Ordering

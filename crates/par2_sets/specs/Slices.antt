@@ -1,10 +1,8 @@
 -- Recovery slices with their exponents.
-use Rattle.std.specs.Prelude.{ℕ, ◌==◌, ◌&&◌, nat_lt, List, length, map, Option, Some, None, option_map, option_and_then, if◌then◌else◌}
+use Rattle.std.specs.Prelude.{ℕ, ◌==◌, ◌&&◌, nat_lt, List, length, map, Option, Some, None, option_and_then, if◌then◌else◌}
 use Rattle.std.specs.Borrow.{Bor}
 use Rattle.std.specs.FinMap.{from_sorted}
-use Rattle.std.specs.Map.{lookup}
-use Rattle.std.specs.Ordering.{nat_cmp, eq_by_cmp}
-use Rattle.par2_spec.specs.Packets.{Packet, read_recovery}
+use Rattle.par2_spec.specs.Packets.{Packet, RecoveryBody, read_recovery}
 use Rattle.par2_spec.specs.Sets.{ParSet, Target, IsSound}
 use Rattle.std.specs.List.Sorted.{IsStrictlyIncreasing}
 
@@ -20,15 +18,11 @@ recovered_of recovery = map entry_of recovery
 abbrev pub exponents_of : List (ℕ × Bor (List ℕ)) → List ℕ
 exponents_of recovery = map (λ r. r.0) (recovered_of recovery)
 
--- the exponent and the recovery slice of a packet, where a set of slice size s has a use for it
-abbrev pub slice_if : ℕ → Packet → Option (ℕ × List ℕ)
-slice_if s p =
-    option_and_then (λ r. if nat_lt r.exponent 65536 && length r.bytes == s then Some (r.exponent, r.bytes) else None)
+-- the recovery slice of a packet, where a set of slice size s has a use for it and its exponent
+abbrev pub usable : ℕ → Packet → Option RecoveryBody
+usable s p =
+    option_and_then (λ r. if nat_lt r.exponent 65536 && length r.bytes == s then Some r else None)
     (read_recovery p.kind p.body)
-
--- the recovery slice of an exponent
-abbrev pub slice_at : List (ℕ × Bor (List ℕ)) → ℕ → Option (List ℕ)
-slice_at recovery q = option_map (λ bytes. bytes.now) (lookup (eq_by_cmp nat_cmp q) recovery)
 
 -- a set of these parts
 abbrev pub set_view : List ℕ → ℕ → List Target → List (ℕ × Bor (List ℕ)) → ParSet

@@ -1,21 +1,17 @@
 -- The steps by which a set is read, each with the fault that it may end in.
-use Rattle.std.specs.Prelude.{◌≡◌, ◌⊎◌, ℕ, ◌==◌, List, [], ◌∷◌, map, flat_map, slice_get, Option, Some, Result, Ok, Err, ok_or, option_map, if◌then◌else◌}
+use Rattle.std.specs.Prelude.{◌≡◌, ◌⊎◌, ℕ, ◌==◌, List, [], ◌∷◌, map, flat_map, Some, Result, Ok, Err, ok_or, if◌then◌else◌}
 use Rattle.par2_spec.specs.declared.Fault.{Fault}
 use Rattle.par2_spec.specs.declared.Fault.TheVariants.{NoMain, BadSet, NoDescription, NoChecksums, Memory}
 use Rattle.par2_spec.specs.Checksums.{Pair}
 use Rattle.par2_spec.specs.Slices.{slice_count}
 use Rattle.par2_spec.specs.Folders.{Folder, bytes_of}
-use Rattle.par2_spec.specs.Packets.{Packet, MainBody, DescBody, accepted}
+use Rattle.par2_spec.specs.Packets.{Packet, DescBody, accepted}
 use Rattle.par2_spec.specs.Sets.{ParSet, Target, ◌>>=◌, unless, is_slice_size, main_of, all_some, packets_with, are_in_profile, description_of, pairs_of, target_of, recovery_of, other_par_names}
 
 -- what a call answers: the value of its step or the step's fault, or that there was no memory
 abbrev pub Gives : {X Y : Type 0} → (X → Y) → Result X Fault → Result Y Fault → Type 0
 Gives view (Ok x) step = step ≡ Ok (view x)
 Gives view (Err fault) step = (fault ≡ Memory) ⊎ (step ≡ Err fault)
-
--- the identifier of the first packet of a base
-abbrev pub first_id : Folder → List ℕ → Option (List ℕ)
-first_id folder base = option_map (λ p. p.set_id) (slice_get (accepted (bytes_of folder base)) 0)
 
 -- the packets of a set, those of the base first
 abbrev pub set_packets : Folder → List ℕ → List ℕ → List Packet
@@ -40,23 +36,12 @@ target_or_fault packets s d = ok_or (target_of packets s d) NoChecksums
 abbrev pub targets_or_fault : List Packet → ℕ → List DescBody → Result (List Target) Fault
 targets_or_fault packets s ds = ok_or (all_some (map (target_of packets s) ds)) NoChecksums
 
--- the Main of a set, whose slice size a set may have
-abbrev pub main_or_fault : List ℕ → List Packet → Result MainBody Fault
-main_or_fault id packets =
-    ok_or (main_of id packets) NoMain >>= (λ main. unless (is_slice_size main.slice_size) BadSet >>= (λ _. Ok main))
-
--- the targets that the Main names
-abbrev pub targets_in : List Packet → MainBody → Result (List Target) Fault
-targets_in packets main =
-    descriptions_of packets main.ids
-    >>= (λ ds. unless (are_in_profile main.slice_size ds) BadSet >>= (λ _. targets_or_fault packets main.slice_size ds))
-
--- the set of these targets
-abbrev pub with_targets : List ℕ → List Packet → ℕ → List Target → Result ParSet Fault
-with_targets id packets s targets =
-    Ok (record { id = id; slice_size = s; targets = targets; recovery = recovery_of packets s })
-
 -- the set of the packets that have its identifier
 abbrev pub set_in : List ℕ → List Packet → Result ParSet Fault
-set_in id packets =
-    main_or_fault id packets >>= (λ main. targets_in packets main >>= with_targets id packets main.slice_size)
+set_in id packets = do
+  main ← ok_or (main_of id packets) NoMain
+  right_size ← unless (is_slice_size main.slice_size) BadSet
+  described ← descriptions_of packets main.ids
+  in_profile ← unless (are_in_profile main.slice_size described) BadSet
+  targets ← targets_or_fault packets main.slice_size described
+  Ok (record { id = id; slice_size = main.slice_size; targets = targets; recovery = recovery_of packets main.slice_size })

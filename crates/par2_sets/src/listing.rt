@@ -1,10 +1,10 @@
 //! The names of a set's targets and par files, and those under which files are put aside.
 
-ghost use Rattle.std.specs.Prelude.{◌≡◌, ◌&&◌, ℕ, List, IfOk, ◌⊎◌, ◌<◌, ◌+◌, ◌++◌, ◌∷◌, [], Some, None, IsTrue, length, map, string_bytes, IfErr};
+ghost use Rattle.std.specs.Prelude.{◌≡◌, ◌&&◌, ℕ, List, IfOk, ◌⊎◌, ◌<◌, ◌+◌, ◌++◌, ◌∷◌, [], Some, None, length, map, IfErr};
 ghost use Rattle.std.specs.List.{list_any, list_all};
 ghost use Rattle.std.specs.Str.{bytes_eq};
 ghost use Rattle.par2_spec.specs.Answers.{Lists, FailsFor};
-ghost use Rattle.par2_spec.specs.Names.{is_among, is_name};
+ghost use Rattle.par2_spec.specs.Names.{is_among};
 ghost use Rattle.par2_spec.specs.Packets.{accepted};
 ghost use Rattle.par2_spec.specs.Sets.{target_names};
 ghost use Rattle.par2_sets.specs.Asides.{HoldsNames, long_aside};
@@ -38,20 +38,13 @@ fn has_only_packets_of(bytes: &[u8], id: &[u8; 16]) -> bool
     found
 }
 
-// Whether the name is a target's.
-fn is_target(targets: &BTreeSet<Name>, name: &Name) -> bool
-    ensures { (all : List (List ℕ)) → HoldsNames targets.now all → result ≡ is_among all name.now }
-{
-    targets.contains(name)
-}
-
 // Whether the name is that of a par file of the set.
 fn is_par_file(folder: &Folder, set: &ParSet, targets: &BTreeSet<Name>, name: &Name) -> bool
     requires { HoldsNames targets.now (target_names set.now) }
     ensures { result ≡ repairs.is_par_file folder.now.files set.now name.now }
 {
     name.is_par()
-        && !is_target(targets, name)
+        && !targets.contains(name)
         && has_only_packets_of(folder.bytes_of(name), &set.id())
 }
 
@@ -70,22 +63,10 @@ pub fn par_files(alloc: Global, folder: &Folder, set: &ParSet) -> Result<Vec<Nam
 fn target_names(alloc: Global, set: &ParSet) -> Result<BTreeSet<Name>, AllocError>
     ensures { IfOk result (λ names. HoldsNames names (target_names set.now)) }
 {
-    let mut names = BTreeSet::new(alloc);
-    for target in set.targets() {
-        names.insert(target.name().copied())?;
-    }
-    Ok(names)
-}
-
-// The text NAME.n.
-fn numbered_text(alloc: Global, name: &Name, n: usize) -> Result<String, AllocError>
-    ensures text { IfOk result (λ text. string_bytes text ≡ names.numbered name.now n) }
-    ensures name { IsTrue (is_name name.now) }
-{
-    let mut text = String::from_str(alloc, name.as_str())?;
-    text.push_str(".")?;
-    text.push_str(Buffer::new().format(n))?;
-    Ok(text)
+    set.targets()
+        .iter()
+        .map(|target| target.name().copied())
+        .collect(alloc)
 }
 
 // The name NAME.n, where that is not too long.
@@ -94,7 +75,9 @@ fn numbered(alloc: Global, name: &Name, n: usize) -> Result<Name, Fault>
         IfErr result (λ fault. (fault ≡ Fault.Memory) ⊎ ((fault ≡ Fault.NameTooLong) × long)) }
     ensures name { IfOk result (λ other. other ≡ names.numbered name.now n) }
 {
-    let text = numbered_text(alloc, name, n)?;
+    let mut text = String::from_str(alloc, name.as_str())?;
+    text.push_str(".")?;
+    text.push_str(Buffer::new().format(n))?;
     Name::new(&text).map_err(|_| Fault::NameTooLong)
 }
 
@@ -134,13 +117,6 @@ fn aside(
     unreachable!()
 }
 
-// How many numbers to try for an aside: one more than there are names to keep away from.
-fn tries(folder: &Folder, set: &ParSet) -> usize
-    ensures { result ≡ length (taken_for folder.now.files set.now) + 1 }
-{
-    folder.len() + set.targets().len() + 1
-}
-
 /// The names under which the files of these names are put aside: each the name with the least number from 1 on that is
 /// neither in the folder nor a target's. The answer is `NameTooLong` where one of them has more than 255 bytes.
 pub fn asides(
@@ -155,11 +131,11 @@ pub fn asides(
     ensures few { IfOk result (λ _. AreFew folder.now.files set.now) }
 {
     let targets = target_names(alloc, set)?;
-    let most = tries(folder, set);
-    let mut asides = Vec::with_capacity(alloc, names.len())?;
+    // One number more than there are names to keep away from.
+    let most = folder.len() + set.targets().len() + 1;
+    let mut asides = Vec::new(alloc);
     for name in names {
-        let other = aside(alloc, folder, set, &targets, most, name)?;
-        asides.push(other)?;
+        asides.push(aside(alloc, folder, set, &targets, most, name)?)?;
     }
     Ok(asides)
 }

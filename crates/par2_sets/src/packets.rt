@@ -1,25 +1,15 @@
 //! The packets of a set, where the files of a folder hold them.
 
-ghost use Rattle.std.specs.Prelude.{◌≡◌, ◌++◌, ◌&&◌, not, map, IfOk, OnOk};
-ghost use Rattle.std.specs.Str.{bytes_eq};
+ghost use Rattle.std.specs.Prelude.{◌≡◌, ◌++◌, map, IfOk, OnOk};
 ghost use Rattle.par2_spec.specs.Answers.{Lists};
-ghost use Rattle.par2_spec.specs.Names.{is_par_name};
 ghost use Rattle.par2_spec.specs.Sets.{packets_with, other_par_names};
 ghost use Rattle.par2_packets.specs.Views as views;
 ghost use Rattle.par2_packets.specs.Views.{packet_of};
-ghost use Rattle.par2_sets.specs.Steps.{first_id, set_packets};
+ghost use Rattle.par2_sets.specs.Steps.{set_packets};
 
 use par2_folder::{Folder, Name};
 use par2_packets::{Packet, Packets};
 use std::alloc::{AllocError, Global};
-
-/// The identifier of the first packet of the base.
-pub(crate) fn first_id(folder: &Folder, base: &Name) -> Option<[u8; 16]>
-    ensures { result ≡ first_id folder.now.files base.now }
-{
-    let first = Packets::new(folder.bytes_of(base)).next()?;
-    Some(first.set_id)
-}
 
 // Adds the packets that have the identifier.
 fn add_packets<'a>(
@@ -38,19 +28,12 @@ fn add_packets<'a>(
     Ok(())
 }
 
-// Whether the name is that of a `.par2` file other than the base.
-fn is_other(name: &Name, base: &Name) -> bool
-    ensures { result ≡ (is_par_name name.now && not (bytes_eq name.now base.now)) }
-{
-    name.is_par() && name != base
-}
-
 // The names of the other `.par2` files, in order.
 fn other_par_names(folder: &Folder, base: &Name) -> Result<Vec<Name>, AllocError>
     ensures { Lists (other_par_names folder.now.files base.now) result }
 {
     let mut names = folder.names()?;
-    names.retain(|name| is_other(name, base));
+    names.retain(|name| name.is_par() && name != base);
     Ok(names)
 }
 

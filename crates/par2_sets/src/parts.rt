@@ -1,28 +1,29 @@
 //! What the packets of a set say: its Main, and the first description, checksums or recovery slice of each key.
 
-ghost use Rattle.std.specs.Prelude.{◌≡◌, ◌≤◌, map, IfOk, OnOk, List, ℕ, option_map};
+ghost use Rattle.std.specs.Prelude.{◌≡◌, ◌≤◌, length, map, IfOk, List, option_map};
 ghost use Rattle.par2_spec.specs.Sets.{main_of, description_of, pairs_of, recovery_of};
 ghost use Rattle.par2_packets.specs.Views.{packet_of};
-ghost use Rattle.par2_sets.specs.Steps.{Gives, main_or_fault, descriptions_of, checksums_for};
-ghost use Rattle.par2_sets.specs.Firsts.{KeepsFirst, HoldDescriptions, HoldChecksums};
+ghost use Rattle.par2_sets.specs.Steps.{Gives, descriptions_of, checksums_for};
+ghost use Rattle.par2_sets.specs.Firsts.{HoldDescriptions, HoldChecksums};
 ghost use Rattle.std.specs.BTreeMap.{IsOrdered};
 ghost use Rattle.std.specs.FinMap.{entries};
 ghost use Rattle.std.specs.List.Sorted.{IsStrictlyIncreasing};
 ghost use Rattle.std.specs.Ordering.{nat_cmp};
-ghost use Rattle.par2_sets.specs.Slices.{slice_if, entry_of, exponents_of, recovered_of};
+ghost use Rattle.par2_sets.specs.Slices.{exponents_of, recovered_of, usable};
 ghost use Rattle.par2_spec.specs.Packets as spec;
 
 use md5::{Digest, Md5};
 use par2_packets::{
-    DescView, IfscView, MainView, Packet, Pair, read_desc, read_ifsc, read_main, read_recovery,
+    DescView, IfscView, MainView, Packet, Pair, RecoveryView, read_desc, read_ifsc, read_main,
+    read_recovery,
 };
-use par2_slices::{is_slice_size, slice_count};
+use par2_slices::slice_count;
 use par2_spec::Fault;
 use std::alloc::{AllocError, Global};
 use std::collections::BTreeMap;
 
-// The first well-formed Main whose body has the identifier as its MD5.
-fn main_of<'a>(packets: &[Packet<'a>], id: &[u8; 16]) -> Option<MainView<'a>>
+/// The first well-formed Main whose body has the identifier as its MD5.
+pub(crate) fn main_of<'a>(packets: &[Packet<'a>], id: &[u8; 16]) -> Option<MainView<'a>>
     ensures { result ≡ main_of id.now (map packet_of packets.now) }
 {
     for packet in packets {
@@ -35,46 +36,18 @@ fn main_of<'a>(packets: &[Packet<'a>], id: &[u8; 16]) -> Option<MainView<'a>>
     None
 }
 
-/// The Main of the packets, where a set may have its slice size.
-pub(crate) fn sized_main<'a>(packets: &[Packet<'a>], id: &[u8; 16]) -> Result<MainView<'a>, Fault>
-    ensures main { Gives (λ main. main) result (main_or_fault id.now (map packet_of packets.now)) }
-    ensures size { IfOk result (λ main. 1 ≤ main.slice_size) }
-{
-    let main = main_of(packets, id).ok_or(Fault::NoMain)?;
-    if !is_slice_size(main.slice_size()) {
-        return Err(Fault::BadSet);
-    }
-    Ok(main)
-}
-
-// Puts a value into the map, unless there is one of its key.
-fn keep_first<K: Ord + Drop, V: Drop>(
-    firsts: &mut BTreeMap<K, V>,
-    key: K,
-    value: V,
-) -> Result<(), AllocError>
-    ensures { OnOk result (KeepsFirst K.cmp firsts.old firsts.new key value) }
-{
-    if !firsts.contains_key(&key) {
-        firsts.insert(key, value)?;
-    }
-    Ok(())
-}
-
-// The first well-formed FileDesc of each File ID.
+// The first well-formed FileDesc of each File ID. The map takes the last of each, so they come in reverse.
 fn by_id<'a>(
     alloc: Global,
     packets: &[Packet<'a>],
 ) -> Result<BTreeMap<[u8; 16], Packet<'a>>, AllocError>
     ensures { IfOk result (HoldDescriptions (map packet_of packets.now)) }
 {
-    let mut firsts = BTreeMap::new(alloc);
-    for packet in packets {
-        if let Some(description) = read_desc(packet) {
-            keep_first(&mut firsts, description.id(), *packet)?;
-        }
-    }
-    Ok(firsts)
+    packets
+        .iter()
+        .rev()
+        .filter_map(|packet| Some((read_desc(packet)?.id(), *packet)))
+        .collect(alloc)
 }
 
 // The description of this File ID.
@@ -116,14 +89,14 @@ pub(crate) fn checksums_in<'a>(
 ) -> Result<Checksums<'a>, AllocError>
     ensures { IfOk result (HoldChecksums (map packet_of packets.now)) }
 {
-    let mut firsts = BTreeMap::new(alloc);
-    for packet in packets {
-        if let Some(checksums) = read_ifsc(packet) {
-            let count = checksums.count() as u64;
-            keep_first(&mut firsts, (checksums.id(), count), checksums)?;
-        }
-    }
-    Ok(firsts)
+    packets
+        .iter()
+        .rev()
+        .filter_map(|packet| {
+            let checksums = read_ifsc(packet)?;
+            Some(((checksums.id(), checksums.count() as u64), checksums))
+        })
+        .collect(alloc)
 }
 
 // The checksums of this File ID with so many slices.
@@ -168,13 +141,12 @@ pub(crate) fn pairs_for(
     Ok(pairs_in(alloc, checksums)?)
 }
 
-// The recovery slice of a packet with its exponent, where both can be used.
-fn recovery_slice<'a>(packet: &Packet<'a>, s: u64) -> Option<(u32, &'a [u8])>
-    ensures { option_map entry_of result ≡ slice_if s (packet_of packet.now) }
+// The recovery slice of a packet, where it and its exponent can be used.
+fn recovery_in<'a>(packet: &Packet<'a>, s: u64) -> Option<RecoveryView<'a>>
+    ensures { result ≡ usable s (packet_of packet.now) }
 {
-    let recovery = read_recovery(packet)?;
-    let (exponent, bytes) = (recovery.exponent(), recovery.bytes());
-    (exponent < 65536 && bytes.len() as u64 == s).then_some((exponent, bytes))
+    read_recovery(packet).filter(|recovery| recovery.exponent() < 65536
+        && recovery.bytes().len() as u64 == s)
 }
 
 // The entries of the map, in the order of the exponents.
@@ -202,11 +174,11 @@ pub(crate) fn recovery_of<'a>(
         IfOk result (λ recovery. recovered_of recovery.items ≡ entries all) }
     ensures rising { IfOk result (λ recovery. IsStrictlyIncreasing (exponents_of recovery.items)) }
 {
-    let mut slices = BTreeMap::new(alloc);
-    for packet in packets {
-        if let Some((exponent, bytes)) = recovery_slice(packet, s) {
-            keep_first(&mut slices, exponent, bytes)?;
-        }
-    }
+    let slices = packets
+        .iter()
+        .rev()
+        .filter_map(|packet| recovery_in(packet, s))
+        .map(|recovery| (recovery.exponent(), recovery.bytes()))
+        .collect::<BTreeMap<u32, &[u8]>>(alloc)?;
     in_order(alloc, &slices)
 }

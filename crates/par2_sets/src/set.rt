@@ -1,6 +1,6 @@
 //! The set of a base.
 
-ghost use Rattle.std.specs.Prelude.{◌≡◌, ◌≤◌, ◌⊎◌, length, map, Ok, Err, IfOk, IfErr};
+ghost use Rattle.std.specs.Prelude.{◌≡◌, ◌⊎◌, length, map, Ok, Err, IfOk, IfErr};
 ghost use Rattle.std.specs.List.{AllByRecursion};
 ghost use Rattle.std.specs.List.Sorted.{IsStrictlyIncreasing};
 ghost use Rattle.std.specs.FinMap.{entries};
@@ -8,14 +8,15 @@ ghost use Rattle.par2_spec.specs.Sets as sets;
 ghost use Rattle.par2_spec.specs.Sets.{IsSound};
 ghost use Rattle.par2_packets.specs.Views.{packet_of};
 ghost use Rattle.par2_sets.specs.Slices.{recovered_of, exponents_of};
-ghost use Rattle.par2_sets.specs.Steps.{Gives, targets_in, set_in};
+ghost use Rattle.par2_sets.specs.Steps.{Gives, set_in};
 
 use crate::Target;
-use crate::packets::{first_id, packets_of};
-use crate::parts::{descriptions, recovery_of, sized_main};
-use crate::targets::{names_in_profile, targets_of};
+use crate::packets::packets_of;
+use crate::parts::{descriptions, main_of, recovery_of};
+use crate::targets::{are_in_profile, targets_of};
 use par2_folder::{Folder, Name};
-use par2_packets::{MainView, Packet};
+use par2_packets::{Packet, Packets};
+use par2_slices::is_slice_size;
 use par2_spec::Fault;
 use par2_spec::search_laws::set_is_sound;
 use std::alloc::Global;
@@ -79,26 +80,21 @@ impl<'a> ParSet<'a> {
     }
 }
 
-// The targets that the Main names.
-fn targets_in(alloc: Global, packets: &[Packet], main: &MainView) -> Result<Vec<Target>, Fault>
-    requires { 1 ≤ main.now.slice_size }
-    ensures { Gives (λ targets. targets.items) result
-        (targets_in (map packet_of packets.now) main.now) }
-{
-    let slice_size = main.slice_size();
-    let described = descriptions(alloc, packets, main)?;
-    let names = names_in_profile(alloc, slice_size, &described)?;
-    targets_of(alloc, packets, slice_size, &described, &names)
-}
-
 // The set of the packets that have its identifier.
 fn set_in<'a>(alloc: Global, id: [u8; 16], packets: &[Packet<'a>]) -> Result<ParSet<'a>, Fault>
     requires { (set : sets.ParSet) → set_in id (map packet_of packets.now) ≡ Ok set → IsSound set }
     ensures { Gives (λ set. set) result (set_in id (map packet_of packets.now)) }
 {
-    let main = sized_main(packets, &id)?;
+    let main = main_of(packets, &id).ok_or(Fault::NoMain)?;
     let slice_size = main.slice_size();
-    let targets = targets_in(alloc, packets, &main)?;
+    if !is_slice_size(slice_size) {
+        return Err(Fault::BadSet);
+    }
+    let described = descriptions(alloc, packets, &main)?;
+    if !are_in_profile(alloc, slice_size, &described)? {
+        return Err(Fault::BadSet);
+    }
+    let targets = targets_of(alloc, packets, slice_size, &described)?;
     let recovery = recovery_of(alloc, packets, slice_size)?;
     Ok(ParSet {
         id,
@@ -119,7 +115,8 @@ pub fn set_of<'a>(alloc: Global, folder: &'a Folder, base: &Name) -> Result<ParS
 {
     // By this law the set is sound.
     set_is_sound();
-    let id = first_id(folder, base).ok_or(Fault::NoPackets)?;
+    let first = Packets::new(folder.bytes_of(base)).next();
+    let id = first.ok_or(Fault::NoPackets)?.set_id;
     let packets = packets_of(alloc, folder, base, &id)?;
     set_in(alloc, id, &packets)
 }

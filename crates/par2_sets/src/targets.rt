@@ -1,14 +1,13 @@
 //! The files that a set describes.
 
-ghost use Rattle.std.specs.Prelude.{◌≡◌, ◌≤◌, List, map, ◌==◌, nat_le, length, sum_by, true, is_some, IfOk, IfSome};
+ghost use Rattle.std.specs.Prelude.{◌≡◌, ◌≤◌, List, map, ◌==◌, nat_le, length, sum_by, IfOk, IsTrue};
 ghost use Rattle.par2_packets.specs.Views.{packet_of};
 ghost use Rattle.par2_sets.specs.Firsts.{HoldChecksums};
 ghost use Rattle.par2_sets.specs.Steps.{Gives, targets_or_fault, target_or_fault};
 ghost use Rattle.std.specs.List.{list_all};
 ghost use Rattle.par2_spec.specs.Names.{distinct, is_name};
-ghost use Rattle.par2_spec.specs.Sets.{are_in_profile, unless};
+ghost use Rattle.par2_spec.specs.Sets.{are_in_profile};
 ghost use Rattle.par2_spec.specs.Slices.{slice_count};
-ghost use Rattle.par2_spec.specs.declared.Fault.TheVariants.{BadSet};
 ghost use Rattle.par2_spec.specs.Packets as spec;
 
 use crate::parts::{Checksums, checksums_in, pairs_for};
@@ -67,45 +66,45 @@ impl Target {
     }
 }
 
-// The target of a description and its name.
+// The target of a description.
 fn target_of(
     alloc: Global,
     checksums: &Checksums,
     s: u64,
     description: &DescView,
-    name: &Name,
 ) -> Result<Target, Fault>
     requires size { 1 ≤ s }
-    requires name { name.now ≡ description.now.name }
+    requires name { IsTrue (is_name description.now.name) }
     ensures { (packets : List spec.Packet) → HoldChecksums packets checksums.now →
         Gives (λ t. t) result (target_or_fault packets s description.now) }
 {
+    let Some(name) = Name::from_bytes(description.name_bytes()) else {
+        unreachable!()
+    };
     Ok(Target {
-        name: name.copied(),
+        name,
         length: description.length(),
         md5: description.md5(),
         pairs: pairs_for(alloc, checksums, s, description)?,
     })
 }
 
-/// The targets of the descriptions and their names, in order.
+/// The targets of the descriptions, in order.
 pub(crate) fn targets_of(
     alloc: Global,
     packets: &[Packet],
     s: u64,
     descriptions: &[DescView],
-    names: &[Name],
 ) -> Result<Vec<Target>, Fault>
     requires size { 1 ≤ s }
-    requires names { names.now ≡ map (λ d. d.name) descriptions.now }
+    requires names { IsTrue (list_all (λ d. is_name d.name) descriptions.now) }
     ensures { let all = targets_or_fault (map packet_of packets.now) s descriptions.now in
         Gives (λ targets. targets.items) result all }
 {
     let checksums = checksums_in(alloc, packets)?;
     let mut targets = Vec::new(alloc);
-    for (description, name) in descriptions.iter().zip(names) {
-        let target = target_of(alloc, &checksums, s, description, name)?;
-        targets.push(target)?;
+    for description in descriptions {
+        targets.push(target_of(alloc, &checksums, s, description)?)?;
     }
     Ok(targets)
 }
@@ -126,44 +125,34 @@ fn have_few_slices(s: u64, descriptions: &[DescView]) -> bool
     true
 }
 
-// The names of the files, where the bytes of each are one.
-fn names_of(alloc: Global, descriptions: &[DescView]) -> Result<Vec<Name>, Fault>
-    ensures test { let test = unless (list_all (λ d. is_name d.name) descriptions.now) BadSet in
-        Gives (λ _. true) result test }
-    ensures value { IfOk result (λ names. names.items ≡ map (λ d. d.name) descriptions.now) }
+// Whether the bytes of each name are one.
+fn have_names(descriptions: &[DescView]) -> bool
+    ensures { result ≡ list_all (λ d. is_name d.name) descriptions.now }
 {
-    let mut names = Vec::new(alloc);
-    for description in descriptions {
-        let name = Name::from_bytes(description.name_bytes()).ok_or(Fault::BadSet)?;
-        names.push(name)?;
-    }
-    Ok(names)
+    descriptions.iter().all(|description| Name::from_bytes(description.name_bytes()).is_some())
 }
 
 // Whether each name stands there once.
-fn are_distinct(alloc: Global, names: &[Name]) -> Result<bool, AllocError>
-    ensures { IfOk result (λ b. b ≡ (length (distinct names.now) == length names.now)) }
+fn are_distinct(alloc: Global, descriptions: &[DescView]) -> Result<bool, AllocError>
+    ensures { let names = map (λ d. d.name) descriptions.now in
+        IfOk result (λ b. b ≡ (length (distinct names) == length descriptions.now)) }
 {
-    let set = names.iter().collect::<BTreeSet<&Name>>(alloc)?;
-    Ok(set.len() == names.len())
+    let names = descriptions
+        .iter()
+        .map(|description| description.name_bytes())
+        .collect::<BTreeSet<&[u8]>>(alloc)?;
+    Ok(names.len() == descriptions.len())
 }
 
-/// The names of the files, where the profile takes the files.
-pub(crate) fn names_in_profile(
+/// Whether the profile takes the files.
+pub(crate) fn are_in_profile(
     alloc: Global,
     s: u64,
     descriptions: &[DescView],
-) -> Result<Vec<Name>, Fault>
+) -> Result<bool, AllocError>
     requires { 1 ≤ s }
-    ensures test { Gives (λ _. true) result (unless (are_in_profile s descriptions.now) BadSet) }
-    ensures value { IfOk result (λ names. names.items ≡ map (λ d. d.name) descriptions.now) }
+    ensures { IfOk result (λ b. b ≡ are_in_profile s descriptions.now) }
 {
-    if !have_few_slices(s, descriptions) {
-        return Err(Fault::BadSet);
-    }
-    let names = names_of(alloc, descriptions)?;
-    if !are_distinct(alloc, &names)? {
-        return Err(Fault::BadSet);
-    }
-    Ok(names)
+    let are_distinct = are_distinct(alloc, descriptions)?;
+    Ok(have_few_slices(s, descriptions) && have_names(descriptions) && are_distinct)
 }

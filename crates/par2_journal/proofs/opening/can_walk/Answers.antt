@@ -1,20 +1,24 @@
-use Rattle.par2_journal.proofs.Common.{◌++◌, ap, ◌∙◌, reverse}
-use Rattle.par2_journal.proofs.Trials.{walked_home, entries_home}
+use Rattle.par2_journal.proofs.Common.{subst, leads, IsTried, are_applicable, effects}
+use Rattle.par2_journal.proofs.TriedNames.{along, sets_out, goes_on, stops, ends, leads_next, along_next, leads_none, along_none}
 use Rattle.par2_journal.proofs.opening.can_walk.Goals as goal
 
-pub returns-clause-folder : goal.returns-clause-folder
-returns-clause-folder c =
-    let e = c.walk_first-walked.ensures in
-    let b = c.walk_first-back.ensures in
-    let turned = c.reverse.ensures.after ∙ ap reverse c.split_at_mut-front.ensures.front in
-    walked_home c.args.folder.now _ c.args.entries.now _ _ e.within e.first.taken e.first.state e.first.items
-    _ turned _ c.walk_first-back.new.entries _ b.refused b.first.state b.first.items
+pub loop-entry-init : goal.loop-entry-init
+loop-entry-init c = sets_out are_applicable effects leads along c.args.folder.now.files c.args.entries.now c.in_ok-names.names c.in_ok-names.ensures
 
-pub returns-clause-entries : goal.returns-clause-entries
-returns-clause-entries c =
-    let e = c.walk_first-walked.ensures in
-    let b = c.walk_first-back.ensures in
-    let turned = c.reverse.ensures.after ∙ ap reverse c.split_at_mut-front.ensures.front in
-    (λ i. c.reverse-2.ensures.after i ++ c.split_at_mut-front.ensures.back i)
-    ∙ entries_home c.args.folder.now _ c.args.entries.now _ _ e.within e.first.taken e.first.state e.first.items
-    _ turned _ c.walk_first-back.new.entries _ b.refused b.first.state b.first.items
+pub returns-then-not-branch : goal.returns-then-not-branch
+returns-then-not-branch c =
+    let so_far = c.loop-entry.invariant in
+    let tried = c.in_ok-go_along.ensures so_far.now so_far.are in
+    (stops are_applicable effects leads along c.args.folder.now.files c.args.entries.now leads_next along_next c.loop-entry.entry-index c.loop-entry.names c.go_along.new.names so_far c.loop-entry-test.true c.entry-item.result c.entry-item.is
+    (subst (IsTried _ _ c.go_along.new.names) c.if-not-branch.true (rw c.as_slice.ensures at tried))).told
+
+pub loop-entry-preserved : goal.loop-entry-preserved
+loop-entry-preserved c =
+    let so_far = c.loop-entry.invariant in
+    let tried = c.in_ok-go_along.ensures so_far.now so_far.are in
+    goes_on are_applicable effects leads along c.args.folder.now.files c.args.entries.now leads_next along_next c.loop-entry.entry-index c.loop-entry.names c.go_along.new.names so_far c.loop-entry-test.true c.entry-item.result c.entry-item.is
+    (subst (IsTried _ _ c.go_along.new.names) c.if-not-branch.false (rw c.as_slice.ensures at tried))
+
+pub returns : goal.returns
+returns c =
+    (ends are_applicable effects leads along c.args.folder.now.files c.args.entries.now leads_none along_none c.loop-entry.entry-index c.loop-entry.names c.loop-entry.invariant c.loop-entry-test.false).told

@@ -1,15 +1,25 @@
-use Rattle.par2_journal.proofs.Common.{refl, sym, ap, ◌∙◌, fingerprint, KeptSession, session_of_kept, none_if, halfway_of, journal_of}
-use Rattle.par2_journal.proofs.Openings.{answers}
+use Rattle.par2_journal.proofs.Common.{Err, inr, None, Some, refl, sym, ap, ◌∙◌, halfway_of, journal_of, opened_by_part}
+use Rattle.par2_journal.proofs.Openings.{by_journal, no_journal, opened_with}
 use Rattle.par2_journal.proofs.opening.open_untested.Goals as goal
 
-pub returns-in-Ok-digests_before-clause-told : goal.returns-in-Ok-digests_before-clause-told
-returns-in-Ok-digests_before-clause-told c =
-    let untested = c.in-Ok.untested in
-    let found = c.in-Ok-digests_before.found in
-    let opened = c.in-Ok-session_from in
-    let settled = ap halfway_of (none_if untested.journal.halfway (sym c.is_some.ensures ∙ c.if-is_some.false)) in
-    let still = c.in-Ok-digests_before.ensures.unchanged in
-    let print = c.in-Ok-digests_before.ensures.folder ∙ ap (λ (kept : KeptSession). fingerprint kept.folder.files) (sym still) in
-    answers c.args.folder c.args.bytes.now untested (journal_of untested.journal) found c.digests_before.new.self c.in-Ok.ensures.found refl settled
-    c.in-Ok-digests_before.ensures.text print (ap session_of_kept still ∙ opened.ensures.answer.session) opened.ensures.answer.passed
-    c.answer_of.result c.answer_of.ensures
+pub returns-in-Err-JournalInvalid : goal.returns-in-Err-JournalInvalid
+returns-in-Err-JournalInvalid c = record {
+  opened = tt;
+  refused = λ _. inr (no_journal c.args.folder.files c.args.bytes.now (c.decode_untested.ensures.invalid (c.in-Err-JournalInvalid.is ∙ ap Err c.in-Err-JournalInvalid.field-0-is)));
+  files = refl;
+}
+
+pub returns-in-None : goal.returns-in-None
+returns-in-None c =
+    let found = c.in-Ok.ensures.found in
+    let j = journal_of c.in-Ok.untested.journal in
+    by_journal c.args.folder.files c.args.bytes.now j (opened_by_part c.args.folder.files j None) found.right
+    (opened_with c.args.folder.files j None None (ap halfway_of (sym c.take.ensures.value ∙ c.in-None.is))) found.sealed c.open_settled.result c.open_settled.ensures
+
+pub returns-in-Some : goal.returns-in-Some
+returns-in-Some c =
+    let found = c.in-Ok.ensures.found in
+    let j = journal_of c.in-Ok.untested.journal in
+    let part = halfway_of (Some c.in-Some.part) in
+    by_journal c.args.folder.files c.args.bytes.now j _ found.right
+    (opened_with c.args.folder.files j (halfway_of c.take.new.self) part (ap halfway_of (sym c.take.ensures.value ∙ c.in-Some.is))) ((λ _. c.is_sealed.ensures.0 c.if-is_sealed.true), (λ _. tt)) c.open_halfway.result c.open_halfway.ensures

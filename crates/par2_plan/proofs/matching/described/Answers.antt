@@ -1,20 +1,16 @@
-use Rattle.par2_plan.proofs.Common.{◌≡◌, ◌∙◌, ◌+◌, ◌++◌, ◌∷◌, [], List, ℕ, map, take, sym, ap, subst, map_more, take_all, Option, Target, Describe}
-use Rattle.par2_plan.proofs.Choices.{Describe-more}
+use Rattle.par2_plan.proofs.Common.{◌≡◌, List, [], ◌∷◌, ℕ, Bor, map, ap, sym, rules, IfOk-weaker, Pair, Target, Describe, YieldsList-from_map_by, YieldsList-from_slice, map_from_collect}
+use Rattle.par2_plan.proofs.SliceLists.{heads}
+use Rattle.par2_slices.specs.declared.matching.Target as search
 use Rattle.par2_plan.proofs.matching.described.Goals as goal
 
-abbrev targets_in : List (Target × Option (List ℕ)) → List Target
-targets_in ms = map (λ m. m.0) ms
-
-pub loop-needing-preserved : goal.loop-needing-preserved
-loop-needing-preserved c =
-    let ms : List (Target × Option (List ℕ)) = c.args.all.now in
-    let i = c.loop-needing.needing-index in
-    let m : Target × Option (List ℕ) = c.needing-item.result in
-    let more : targets_in (take (i + 1) ms) ≡ targets_in (take i ms) ++ m.0 ∷ [] =
-    map_more (λ (m : Target × Option (List ℕ)). m.0) ms i m c.loop-needing-test.true ∙ ap (λ (m : Target × Option (List ℕ)). targets_in (take i ms) ++ m.0 ∷ []) (sym c.needing-item.is) in
-    subst (λ xs. Describe xs (targets_in (take (i + 1) ms))) (sym c.in_ok-push.ensures.items)
-    (subst (Describe (c.loop-needing.targets.items ++ _ ∷ [])) (sym more)
-    (Describe-more c.loop-needing.targets.items (targets_in (take i ms)) _ m.0 c.loop-needing.invariant (record { length = ap (λ (t : Target). t.length) (sym c.target.ensures) ∙ sym c.length.ensures; pairs = ap (λ (t : Target). t.pairs) (sym c.target-in-loop-needing.ensures) ∙ sym c.pairs.ensures })))
+describe : (xs : List search.Target) (ts : List (Bor Target)) → ◌≡◌ {A = List (ℕ × List Pair)} (map (λ x. (x.length, x.pairs.now)) xs) (map (λ t. (t.now.length, t.now.pairs)) ts) → Describe xs (map (λ t. t.now) ts)
+describe [] [] e = tt
+describe [] (t ∷ ts) e = absurd (let no : ⊥ = cc in no)
+describe (x ∷ xs) [] e = absurd (let no : ⊥ = cc in no)
+describe (x ∷ xs) (t ∷ ts) e = let r = heads _ _ _ _ e in (record { length = ap (λ p. p.0) (sym r.0); pairs = ap (λ p. p.1) (sym r.0) }, describe xs ts r.1)
 
 pub returns : goal.returns
-returns c = subst (λ ms. Describe c.loop-needing.targets.items (targets_in ms)) (take_all c.loop-needing.needing-index c.args.all.now c.loop-needing-test.false) c.loop-needing.invariant
+returns c =
+    IfOk-weaker c.collect.result _ _ (λ list e. describe list.items c.args.targets.now e)
+    (map_from_collect _ c.collect.ensures.ran
+    (YieldsList-from_map_by _ (λ (x : search.Target). (x.length, x.pairs.now)) (λ (t : Bor Target). (t.now.length, t.now.pairs)) (YieldsList-from_slice c.args.targets.now cc) c.map.ensures.closure (λ x r q k. search rules)))

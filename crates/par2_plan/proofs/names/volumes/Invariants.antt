@@ -1,5 +1,4 @@
-use Rattle.par2_plan.proofs.Common.{◌≡◌, long_name, names_of}
-use Rattle.std.proofs.Common.{None}
+use Rattle.par2_plan.proofs.Common.{◌≡◌, None, long_name, names_of}
 use Rattle.par2_plan.proofs.VolumeNumbers.{volumes_below}
 use Rattle.par2_plan.proofs.names.volumes.Given as goal
 

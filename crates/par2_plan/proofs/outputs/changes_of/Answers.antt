@@ -1,6 +1,5 @@
-use Rattle.par2_plan.proofs.Common.{◌≡◌, ◌∙◌, ◌+◌, ◌<◌, ◌++◌, ◌∷◌, [], List, ℕ, Vec, Global, length, map, take, drop, sym, ap, ap₂, append_assoc, append-nil, arith, rules, map_more, drop_more, length-map, take_all, Change, change_of, lists_of, volume_text, put_change, Volume}
-use Rattle.std.proofs.Common.{length-drop}
-use Rattle.par2_plan.proofs.SliceLists.{first_of}
+use Rattle.par2_plan.proofs.Common.{◌≡◌, ◌∙◌, ◌++◌, ◌∷◌, [], List, ℕ, map, take, sym, ap, ap₂, append_assoc, append-nil, arith, rules, map_more, take_all, Change, change_of, lists_of, volume_text, put_change, Volume}
+use Rattle.par2_plan.proofs.SliceLists.{some_left, taken}
 use Rattle.par2_plan.proofs.outputs.changes_of.Goals as goal
 
 pub loop-volume-init : goal.loop-volume-init
@@ -8,12 +7,7 @@ loop-volume-init c = record { changes = sym (append-nil c.push.new.self); texts 
 
 pub remove-bytes-requires : goal.remove-bytes-requires
 remove-bytes-requires c =
-    let text = volume_text c.args.parts in
-    let volumes : List Volume = c.args.volumes.now in
-    let i = c.loop-volume.volume-index in
-    let left = ap length c.loop-volume.invariant.texts in
-    let some : 0 < length c.loop-volume.texts.items =
-    omega (arith, left, length-map c.loop-volume.texts.items (λ (v : Vec ℕ Global). v.items), length-map (drop i volumes) text, length-drop i volumes, c.loop-volume-test.true) in
+    let some = some_left (volume_text c.args.parts) c.args.volumes.now c.loop-volume.volume-index c.loop-volume.texts.items c.loop-volume-test.true c.loop-volume.invariant.texts in
     search (rules, some)
 
 pub loop-volume-preserved : goal.loop-volume-preserved
@@ -26,8 +20,7 @@ loop-volume-preserved c =
     let volume : Volume = c.volume-item.result in
     let i = c.loop-volume.volume-index in
     let low = c.loop-volume-test.true in
-    let here : drop i volumes ≡ volume ∷ drop (i + 1) volumes = drop_more volumes i volume low ∙ ap (λ v. v ∷ drop (i + 1) volumes) (sym c.volume-item.is) in
-    let first = first_of c.loop-volume.texts.items c.remove-bytes.result (text volume) (map text (drop (i + 1) volumes)) (kept.texts ∙ ap (map text) here) c.remove-bytes.ensures.value in
+    let first = taken text volumes i volume c.loop-volume.texts.items c.remove-bytes.result low c.volume-item.is kept.texts c.remove-bytes.ensures.value in
     let made : change_of c.put-in-loop-volume.result ≡ change volume = c.put-in-loop-volume.ensures ∙ ap₂ (λ (name bytes : List ℕ). put_change folder (name, bytes)) c.copied.ensures first.0 in
     let before : List Change = c.push.new.self in
     record {

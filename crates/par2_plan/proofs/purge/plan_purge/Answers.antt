@@ -1,5 +1,5 @@
-use Rattle.par2_plan.proofs.Common.{◌≡◌, ◌⊎◌, ◌∙◌, List, [], sym, ap, subst, Some, Err, IsTrue, IfOk, IfErr, err_from_is_err_and, IfOk-weaker, Change, effects, are_applicable, Purge, changes_of, set_in, refusal, after, Fault, Memory, ok_no_err}
-use Rattle.std.proofs.Common.{Option, None}
+use Rattle.par2_plan.proofs.Common.{◌≡◌, ◌⊎◌, ◌∙◌, List, [], sym, ap, subst, Some, Err, IsTrue, None, IfOk, IfErr, err_from_is_err_and, IfOk-weaker, Change, effects, are_applicable, Purge, changes_of, set_in, refusal, after, Fault, Memory, ok_no_err}
+use Rattle.std.proofs.Common.{Option}
 use Rattle.par2_plan.proofs.PassedAnswers.{refused_by, err_passed}
 use Rattle.par2_plan.proofs.PlanParts.{early_purge, purge_unread, purge_refused, purge_by_set, purge_leads}
 use Rattle.par2_plan.proofs.purge.plan_purge.Goals as goal

@@ -1,12 +1,12 @@
-use Rattle.par2_plan.proofs.Common.{◌≡◌, ◌⊎◌, ◌+◌, ◌∙◌, refl, sym, ap, inl, inr, map, string_bytes, true, false, not, Some, Err, rules, ok_or, position, err_from_is_err_and, Fault, NoSuchFile, Memory, has, ParSet, set_of, absent_file, set_in, err_again, Gives}
-use Rattle.std.proofs.Common.{None}
+use Rattle.par2_plan.proofs.Common.{◌≡◌, ◌⊎◌, ◌+◌, ◌∙◌, refl, sym, ap, inl, inr, map, string_bytes, true, false, not, Some, Err, rules, None, ok_or, position, err_from_is_err_and, Fault, NoSuchFile, Memory, has, ParSet, set_of, absent_file, set_in, err_again}
 use Rattle.std.specs.Prelude.{Result}
+use Rattle.par2_sets.specs.Steps.{Gives}
 use Rattle.par2_plan.proofs.PassedAnswers.{answered_so, never_found}
 use Rattle.par2_plan.proofs.Places.{position-map}
-use Rattle.par2_plan.proofs.Present.{base_first, extra_first, none_absent, extra_refused, base_absent, extra_absent, all_present}
+use Rattle.par2_plan.proofs.Present.{base_first, extra_first, none_absent, extra_refused, base_absent, all_present, all_there}
 use Rattle.par2_plan.proofs.reading.read.Goals.{In_err-base, After-first_absent, In-Some, After-present_extras, After-set_of}
-use Rattle.par2_plan.proofs.reading.read.Goals as goal
 use Rattle.par2_plan.specs.declared.reading.Reading.{Reading}
+use Rattle.par2_plan.proofs.reading.read.Goals as goal
 
 -- a set that was read, or the fault of that
 abbrev Answers : Result ParSet Fault → Result Reading Fault → Type 0
@@ -25,17 +25,20 @@ there c = sym c.present.ensures.variant ∙ sym c.in_ok-base.ensures.variant
 first : (c : In-Some) → position (λ word. not (has c.args.folder.now.files word)) (map string_bytes c.args.extras.now) ≡ Some c.in-Some.place
 first c = position-map (λ word. not (has c.args.folder.now.files word)) string_bytes c.args.extras.now ∙ sym c.first_absent.ensures.place ∙ c.in-Some.is
 
+-- no further word is absent
+here : (c : After-present_extras) → position (λ word. not (has c.args.folder.now.files word)) (map string_bytes c.args.extras.now) ≡ None
+here c = position-map (λ word. not (has c.args.folder.now.files word)) string_bytes c.args.extras.now ∙ sym c.first_absent.ensures.place ∙ c.in_default.is
+
 -- nothing is absent, where the base is there
 none : (c : After-present_extras) → has c.args.folder.now.files c.args.base.now ≡ true → absent_file c.args.folder.now.files c.args.base.now (map string_bytes c.args.extras.now) ≡ None
-none c there =
-    none_absent c.args.folder.now.files c.args.base.now (map string_bytes c.args.extras.now) there
-    (position-map (λ word. not (has c.args.folder.now.files word)) string_bytes c.args.extras.now ∙ sym c.first_absent.ensures.place ∙ c.in_default.is)
+none c there = none_absent c.args.folder.now.files c.args.base.now (map string_bytes c.args.extras.now) there (here c)
 
 -- then the set is that of the base
-of_base : (c : After-set_of) → has c.args.folder.now.files c.args.base.now ≡ true → set_in c.args.folder.now.files c.args.base.now (map string_bytes c.args.extras.now) ≡ set_of c.args.folder.now.files c.in_ok-base.base
-of_base c there =
+of_base : (c : After-set_of) → position (λ word. not (has c.args.folder.now.files word)) (map string_bytes c.args.extras.now) ≡ None → has c.args.folder.now.files c.args.base.now ≡ true
+    → set_in c.args.folder.now.files c.args.base.now (map string_bytes c.args.extras.now) ≡ set_of c.args.folder.now.files c.in_ok-base.base
+of_base c here there =
     let name : c.in_ok-base.base ≡ c.args.base.now = search rules in
-    (all_present c.args.folder.now.files c.args.base.now (map string_bytes c.args.extras.now) there _ c.in_ok-extras.ensures).0 ∙ ap (set_of c.args.folder.now.files) (sym name)
+    all_present c.args.folder.now.files c.args.base.now (map string_bytes c.args.extras.now) there here ∙ ap (set_of c.args.folder.now.files) (sym name)
 
 pub returns-in_err-base-clause-set : goal.returns-in_err-base-clause-set
 returns-in_err-base-clause-set c =
@@ -60,19 +63,6 @@ returns-in-Some-clause-early c fault early =
     answered_so _ _ (NoSuchFile (c.in-Some.place + 1)) fault refl
     (extra_first c.args.folder.now.files c.args.base.now (map string_bytes c.args.extras.now) (there at.After-first_absent) c.in-Some.place (first at.In-Some)) early
 
-pub returns-in_err-extras-clause-set : goal.returns-in_err-extras-clause-set
-returns-in_err-extras-clause-set c =
-    let folder = c.args.folder.now.files in
-    let base = c.args.base.now in
-    let extras = map string_bytes c.args.extras.now in
-    let fault = c.in_err-extras.field-0.0 in
-    let here = there (goal.at.returns-in_err-extras-clause-set c).After-first_absent in
-    err_again (Answers (set_in folder base extras)) c.from_residual-in_err-extras.result fault (err_from_is_err_and c.from_residual-in_err-extras.result c.from_residual-in_err-extras.ensures.1) (
-    elim c.in_err-extras.ensures as (λ _. (fault ≡ Memory) ⊎ (set_in folder base extras ≡ Err fault)) [
-      | inl memory ↦ inl memory
-      | inr refused ↦ inr (extra_absent folder base extras here fault refused)
-    ])
-
 pub returns-in_err-set-clause-set : goal.returns-in_err-set-clause-set
 returns-in_err-set-clause-set c =
     let at = goal.at.returns-in_err-set-clause-set c in
@@ -80,13 +70,13 @@ returns-in_err-set-clause-set c =
     err_again (Answers (set_in c.args.folder.now.files c.args.base.now (map string_bytes c.args.extras.now))) c.from_residual-in_err-set.result fault (err_from_is_err_and c.from_residual-in_err-set.result c.from_residual-in_err-set.ensures.1) (
     elim c.in_err-set.ensures.refused as (λ _. (fault ≡ Memory) ⊎ (set_in c.args.folder.now.files c.args.base.now (map string_bytes c.args.extras.now) ≡ Err fault)) [
       | inl memory ↦ inl memory
-      | inr refused ↦ inr (of_base at.After-set_of (there at.After-first_absent) ∙ refused)
+      | inr refused ↦ inr (of_base at.After-set_of (here at.After-present_extras) (there at.After-first_absent) ∙ refused)
     ])
 
 pub returns-clause-set : goal.returns-clause-set
 returns-clause-set c =
     let at = goal.at.returns-clause-set c in
-    of_base at.After-set_of (there at.After-first_absent) ∙ c.in_ok-set.ensures.read
+    of_base at.After-set_of (here at.After-present_extras) (there at.After-first_absent) ∙ c.in_ok-set.ensures.read
 
 pub returns-in_err-extras-clause-early : goal.returns-in_err-extras-clause-early
 returns-in_err-extras-clause-early c fault early =
@@ -102,3 +92,6 @@ pub returns-clause-early : goal.returns-clause-early
 returns-clause-early c fault early =
     let at = goal.at.returns-clause-early c in
     absurd (never_found _ fault (none at.After-present_extras (there at.After-first_absent)) early)
+
+pub returns-clause-extras : goal.returns-clause-extras
+returns-clause-extras c = c.in_ok-extras.ensures ∙ all_there c.args.folder.now.files (map string_bytes c.args.extras.now) (here (goal.at.returns-clause-extras c).After-present_extras)

@@ -13,7 +13,6 @@ pairs_left items i t low is =
 
 pub loop-target-preserved : goal.loop-target-preserved
 loop-target-preserved c =
-    let names : List (List ℕ) = c.args.names.now in
     let slices : List (List ℕ) = c.args.slices.now in
     let items : List Target = c.targets-target-items.result.now in
     let i = c.loop-target.target-index in
@@ -26,16 +25,16 @@ loop-target-preserved c =
     let new : List (Target × List ℕ) = c.push_among.new.restored.items in
     let left = pairs_left items i t c.loop-target-test.true c.target-item.is in
     record {
-      targets =
+      targets = λ names holds.
           ap (λ n. new ++ among names ts (drop (first + n) slices)) many
-          ∙ target_more names t ts slices first old new (c.in_ok-push_among.ensures names c.in_ok-tree.ensures)
-          ∙ ap (λ us. old ++ among names us (drop first slices)) (sym here) ∙ c.loop-target.invariant.targets;
+          ∙ target_more names t ts slices first old new (c.in_ok-push_among.ensures names holds)
+          ∙ ap (λ us. old ++ among names us (drop first slices)) (sym here) ∙ c.loop-target.invariant.targets names holds;
       long = omega (arith, many, left, c.loop-target.invariant.long);
     }
 
 pub loop-target-init : goal.loop-target-init
 loop-target-init c = record {
-  targets = ap (λ (targets : List (Target × List ℕ)). targets ++ among c.args.names.now c.targets-target-items.result.now c.args.slices.now) c.in_ok-restored.ensures.items;
+  targets = λ names holds. ap (λ (targets : List (Target × List ℕ)). targets ++ among names c.targets-target-items.result.now c.args.slices.now) c.in_ok-restored.ensures.items;
   long = omega (arith, ap (λ (ts : List Target). length (pairs_of ts)) c.targets-target-items.ensures.value, c.requires.count);
 }
 
@@ -51,15 +50,14 @@ overflow_add-first c =
     omega (arith, left, few, c.requires.count, c.loop-target.invariant.long, ap (λ (ps : List Pair). length ps) c.pairs.ensures)
 
 pub returns-clause-lengths : goal.returns-clause-lengths
-returns-clause-lengths c =
+returns-clause-lengths c = λ names.
     let all = c.written_files_have_their_length.ensures c.args.set.now c.args.slices.now c.targets-target-items.ensures.sound c.requires.count c.requires.sizes in
-    all-filter _ (λ t. is_among c.args.names.now t.0.name) (files_of_slices c.args.set.now c.args.slices.now) all
+    all-filter _ (λ t. is_among names t.0.name) (files_of_slices c.args.set.now c.args.slices.now) all
 
 pub returns-clause-targets : goal.returns-clause-targets
-returns-clause-targets c =
-    let names : List (List ℕ) = c.args.names.now in
+returns-clause-targets c = λ names holds.
     let slices : List (List ℕ) = c.args.slices.now in
     let targets : List (Target × List ℕ) = c.loop-target.restored.items in
     let none = drop_all c.loop-target.target-index c.targets-target-items.result.now c.loop-target-test.false in
     sym (append-nil targets) ∙ ap (λ (ts : List Target). targets ++ among names ts (drop c.loop-target.first slices)) (sym none)
-    ∙ c.loop-target.invariant.targets ∙ ap (λ (ts : List Target). among names ts slices) c.targets-target-items.ensures.value
+    ∙ c.loop-target.invariant.targets names holds ∙ ap (λ (ts : List Target). among names ts slices) c.targets-target-items.ensures.value

@@ -1,6 +1,5 @@
-use Rattle.par2_plan.proofs.Common.{◌≡◌, ◌∙◌, ◌%◌, List, length, map, sym, ap, subst, arith, AllByRecursion, IsStrictlyIncreasing, length-map, Pair, all_pairs, found, Window, padded_window, texts_of, known_of, recovered_of, known_in}
+use Rattle.par2_plan.proofs.Common.{◌≡◌, ◌∙◌, ◌%◌, List, length, map, sym, ap, subst, arith, AllByRecursion, IsStrictlyIncreasing, length-map, Pair, all_pairs, found, Window, padded_window, texts_of, known_of, recovered_of, exponents_of, known_in}
 use Rattle.par2_spec.proofs.FilesLaws.{size_even}
-use Rattle.par2_recovery.specs.Survivors.{exponents_of}
 use Rattle.par2_plan.proofs.Merging.{short_present}
 use Rattle.par2_plan.proofs.restored_slices.survivors_of.Goals as goal
 

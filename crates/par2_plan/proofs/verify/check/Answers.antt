@@ -1,9 +1,11 @@
-use Rattle.par2_plan.proofs.Common.{◌≡◌, ◌∙◌, List, ℕ, Ok, Err, Some, Result, map, string_bytes, sym, ap, err_from_is_err_and, Verify, early_refusal, set_in, candidates, standings, report_by, Fault, report_in, ok_no_err, verdict_by_words, refused_as_reported, report_of}
-use Rattle.par2_spec.specs.Reports as reports
+use Rattle.par2_plan.proofs.Common.{◌≡◌, ◌∙◌, List, ℕ, Ok, Err, Some, Result, map, string_bytes, sym, ap, subst, IsDistinct, bytes_eq, std_from_distinct, err_from_is_err_and, Verify, early_refusal, set_in, candidates, Fault, report_in, ok_no_err, verdict_by_words, refused_as_reported, report_by}
+use Rattle.par2_plan.specs.Views.{report_of}
+use Rattle.par2_plan.proofs.Choices.{distinct_once}
 use Rattle.par2_plan.proofs.PassedAnswers.{refused_by, err_passed}
 use Rattle.par2_plan.proofs.PlanParts.{early_verify}
 use Rattle.par2_plan.proofs.ReportValues.{refused_in, answered}
-use Rattle.par2_plan.proofs.verify.check.Goals.{After-report_with}
+use Rattle.par2_plan.proofs.verify.check.Goals.{In_ok-reading}
+use Rattle.par2_spec.specs.Reports as reports
 use Rattle.par2_plan.proofs.verify.check.Goals as goal
 
 pub returns-in_err-reading-clause-early : goal.returns-in_err-reading-clause-early
@@ -15,16 +17,25 @@ returns-in_err-reading-clause-early c fault early =
     (sym c.in_err-reading.was ∙ c.read.ensures.early fault (sym (early_verify folder base extras) ∙ early))
 
 -- what was read is refused by nothing that is refused first
-none_early : (c : After-report_with) (fault : Fault) → early_refusal c.args.folder.now.files (Verify c.args.base.now (map string_bytes c.args.extras.now)) ≡ Some fault → ⊥
+none_early : (c : In_ok-reading) (fault : Fault) → early_refusal c.args.folder.now.files (Verify c.args.base.now (map string_bytes c.args.extras.now)) ≡ Some fault → ⊥
 none_early c fault early =
     ok_no_err c.in_ok-reading.reading fault
     (c.in_ok-reading.ensures.early fault (sym (early_verify c.args.folder.now.files c.args.base.now (map string_bytes c.args.extras.now)) ∙ early))
 
-pub returns-in_err-report_with-clause-early : goal.returns-in_err-report_with-clause-early
-returns-in_err-report_with-clause-early c fault early = absurd (none_early (goal.at.returns-in_err-report_with-clause-early c).After-report_with fault early)
+pub returns-in_err-candidates-clause-early : goal.returns-in_err-candidates-clause-early
+returns-in_err-candidates-clause-early c fault early = absurd (none_early (goal.at.returns-in_err-candidates-clause-early c).In_ok-reading fault early)
+
+pub returns-in_err-findings-clause-early : goal.returns-in_err-findings-clause-early
+returns-in_err-findings-clause-early c fault early = absurd (none_early (goal.at.returns-in_err-findings-clause-early c).In_ok-reading fault early)
+
+pub returns-in_err-report_on-clause-early : goal.returns-in_err-report_on-clause-early
+returns-in_err-report_on-clause-early c fault early = absurd (none_early (goal.at.returns-in_err-report_on-clause-early c).In_ok-reading fault early)
 
 pub returns-clause-early : goal.returns-clause-early
-returns-clause-early c fault early = absurd (none_early (goal.at.returns-clause-early c).After-report_with fault early)
+returns-clause-early c fault early = absurd (none_early (goal.at.returns-clause-early c).In_ok-reading fault early)
+
+pub findings_of-requires : goal.findings_of-requires
+findings_of-requires c = subst (IsDistinct bytes_eq) (sym (c.deref-2.ensures.value ∙ c.in_ok-candidates.ensures)) (std_from_distinct _ (distinct_once _))
 
 pub returns-in_err-reading-clause-refused : goal.returns-in_err-reading-clause-refused
 returns-in_err-reading-clause-refused c =
@@ -44,12 +55,13 @@ returns-clause-report c =
     let set = c.in_ok-reading.reading.set in
     let is = answered folder base extras set c.in_ok-reading.ensures.set in
     let names : c.deref.result.now ≡ extras = c.deref.ensures.value ∙ c.in_ok-reading.ensures.extras in
-    is ∙ ap (λ (xs : List (List ℕ)). let r : Result reports.Report Fault = Ok (report_by folder set (standings folder set (candidates folder set xs))) in r) (sym names) ∙ ap Ok (sym c.in_ok-report_with.ensures)
+    is ∙ ap (λ (xs : List (List ℕ)). let r : Result reports.Report Fault = Ok (report_by folder set (candidates folder set xs)) in r) (sym names)
+    ∙ ap Ok (sym (c.in_ok-report_on.ensures c.deref-2.result.now c.in_ok-findings.ensures ∙ ap (report_by folder set) (c.deref-2.ensures.value ∙ c.in_ok-candidates.ensures)))
 
 pub returns-clause-verdict : goal.returns-clause-verdict
 returns-clause-verdict c =
-    verdict_by_words c.args.folder.now.files c.args.base.now (map string_bytes c.args.extras.now) (report_of c.in_ok-report_with.field-0) (returns-clause-report c)
+    verdict_by_words c.args.folder.now.files c.args.base.now (map string_bytes c.args.extras.now) (report_of c.in_ok-report_on.field-0) (returns-clause-report c)
 
 pub returns-clause-repair : goal.returns-clause-repair
 returns-clause-repair c =
-    refused_as_reported c.args.folder.now.files c.args.base.now (map string_bytes c.args.extras.now) (report_of c.in_ok-report_with.field-0) (returns-clause-report c)
+    refused_as_reported c.args.folder.now.files c.args.base.now (map string_bytes c.args.extras.now) (report_of c.in_ok-report_on.field-0) (returns-clause-report c)

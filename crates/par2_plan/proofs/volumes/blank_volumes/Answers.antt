@@ -1,10 +1,9 @@
-use Rattle.par2_plan.proofs.Common.{◌∙◌, ◌++◌, ◌∷◌, [], List, ℕ, Vec, Global, map, sym, ap, ap₂, subst, map-append, map_more, take_all, All-from_recursion, lists_of, HasExponents, blank_volume, Volume}
+use Rattle.par2_plan.proofs.Common.{◌∙◌, ◌++◌, ◌∷◌, [], List, ℕ, Vec, Global, map, sym, ap, ap₂, subst, map-append, map_more, take_all, lists_of, HasExponents, blank_volume, Volume}
 use Rattle.par2_plan.proofs.volumes.blank_volumes.Goals as goal
 
 pub blank_volume-requires-clause-exponents : goal.blank_volume-requires-clause-exponents
 blank_volume-requires-clause-exponents c =
-    let volumes : List Volume = c.args.volumes.now in
-    subst HasExponents (sym c.volume-item.is) (All-from_recursion HasExponents volumes c.requires.exponents c.loop-volume.volume-index _ c.loop-volume-test.true)
+    subst HasExponents (sym c.volume-item.is) (c.requires.exponents c.loop-volume.volume-index _ c.loop-volume-test.true)
 
 pub loop-volume-init : goal.loop-volume-init
 loop-volume-init c = ap (λ (texts : List (Vec ℕ Global)). lists_of texts) c.in_ok-texts.ensures.items

@@ -9,7 +9,7 @@ digest_recoveries-requires-clause-packets c =
     let packets = flat_map (λ (e : ℕ). undigested parts.set_id e (slice_of parts e)) (range_with_len volume.first volume.count) in
     let n : c.len.result ≡ length parts.index.items = search rules in
     let part = ap length (behind_index c.args.text.now parts.index.items packets c.len.result n c.requires.before) in
-    let size = length-packets parts c.requires.parts c.fit_id.ensures volume.first volume.count in
+    let size = length-packets parts c.requires.parts c.requires.parts.sixteen volume.first volume.count in
     omega (arith, part, size)
 
 pub returns : goal.returns
@@ -23,5 +23,5 @@ returns c =
     on_ok_weaker c.digest_recoveries.result
     (λ put. index_kept c.args.text.now index packets new c.len.result n c.requires.before
     ∙ ap (λ (xs : List ℕ). index ++ xs)
-    (packets_digested parts volume.first volume.count _ new c.requires.parts c.fit_id.ensures put (behind_index c.args.text.now index packets c.len.result n c.requires.before)))
+    (packets_digested parts volume.first volume.count _ new c.requires.parts c.requires.parts.sixteen put (behind_index c.args.text.now index packets c.len.result n c.requires.before)))
     c.digest_recoveries.ensures

@@ -1,5 +1,7 @@
-use Rattle.par2_plan.proofs.Common.{◌∙◌, ◌<◌, ◌++◌, List, ℕ, sym, ap, arith, length, take_all, read_at, length-lists_of, Place, length_with, places_from, places_in, Volume}
-use Rattle.par2_plan.proofs.VolumePlaces.{places_more, nth_is}
+use Rattle.par2_plan.proofs.Common.{◌≡◌, ◌∙◌, ◌<◌, [], List, ℕ, sym, ap, ap₂, arith, length, get_or, zero-add, take_all, flat_map, enumerate_from, length-enumerate_from, get_or-enumerate_from, length_with, places_in, Volume}
+use Rattle.par2_spec.proofs.WordLaws.{read_at, length-lists_of}
+use Rattle.par2_plan.proofs.SliceLists.{appended_next}
+use Rattle.par2_plan.proofs.VolumePlaces.{nth_is}
 use Rattle.par2_plan.proofs.volumes.places_of.Goals as goal
 
 pub bounds-texts-i : goal.bounds-texts-i
@@ -22,9 +24,12 @@ loop-i-preserved c =
     let i : ℕ = c.loop-i.i in
     let volumes : List Volume = c.args.volumes.now in
     let volume : Volume = c.index-volumes-i.result in
-    c.in_ok-append_places.ensures
-    ∙ ap (λ (xs : List Place). xs ++ places_in c.args.parts.now i volume) c.loop-i.invariant
-    ∙ places_more c.args.parts.now volumes i volume c.loop-i-test.true c.index-volumes-i.is
+    let zs = enumerate_from 0 volumes in
+    let low : i < length zs = omega (arith, length-enumerate_from 0 volumes, c.loop-i-test.true) in
+    let at : (i, volume) ≡ get_or zs i (i, volume) = ap₂ (λ (n : ℕ) (v : Volume). (n, v)) (sym (zero-add i)) c.index-volumes-i.is ∙ sym (get_or-enumerate_from 0 volumes i (i, volume) c.loop-i-test.true) in
+    appended_next (places_in c.args.parts.now) zs i (i, volume) [] _ _ low at c.loop-i.invariant c.in_ok-append_places.ensures
 
 pub returns : goal.returns
-returns c = c.loop-i.invariant ∙ ap (places_from c.args.parts.now 0) (take_all c.loop-i.i c.args.volumes.now (omega (arith, c.loop-i-test.false)))
+returns c =
+    let size = length-enumerate_from 0 c.args.volumes.now in
+    c.loop-i.invariant ∙ ap (flat_map (places_in c.args.parts.now)) (take_all c.loop-i.i (enumerate_from 0 c.args.volumes.now) (omega (arith, size, c.loop-i-test.false)))

@@ -1,13 +1,22 @@
+use Rattle.par2_plan.proofs.Common.{◌≡◌, ◌∙◌, List, ℕ, Vec, Global, length, ap, arith, rules, with_items_is, lists_of}
 use Rattle.par2_plan.proofs.volumes.volume_texts.Goals as goal
 
 pub input_slices-requires : goal.input_slices-requires
 input_slices-requires c = c.requires.parts.positive
 
-pub texts_over-requires-clause-parts : goal.texts_over-requires-clause-parts
-texts_over-requires-clause-parts c = c.requires.parts
+pub blank_volumes-requires-clause-fits : goal.blank_volumes-requires-clause-fits
+blank_volumes-requires-clause-fits c = omega arith
 
-pub texts_over-requires-clause-exponents : goal.texts_over-requires-clause-exponents
-texts_over-requires-clause-exponents c = c.requires.exponents
+pub write_slices-requires-clause-fits : goal.write_slices-requires-clause-fits
+write_slices-requires-clause-fits c = omega arith
 
-pub returns : goal.returns
-returns c = c.texts_over.ensures
+pub write_slices-requires-clause-before : goal.write_slices-requires-clause-before
+write_slices-requires-clause-before c = ap (λ (texts : List (Vec ℕ Global)). lists_of texts) c.as_mut_slice.ensures.value ∙ c.in_ok-texts.ensures
+
+pub digested-requires-clause-fits : goal.digested-requires-clause-fits
+digested-requires-clause-fits c = omega arith
+
+pub digested-requires-clause-before : goal.digested-requires-clause-before
+digested-requires-clause-before c =
+    let size : length c.write_slices.new.texts ≡ c.in_ok-texts.texts.len = search rules in
+    ap (λ (texts : List (Vec ℕ Global)). lists_of texts) (with_items_is c.in_ok-texts.texts c.write_slices.new.texts size) ∙ c.in_ok-write_slices.ensures

@@ -1,11 +1,11 @@
-use Rattle.par2_plan.proofs.Common.{◌∙◌, ◌/◌, List, ℕ, sym, ap, subst, arith, length, length-map, on_ok_weaker, padded, lists_of, AreApart, LieWithin, Place, AreWritten, AreZeros, places_from, Volume}
+use Rattle.par2_plan.proofs.Common.{◌∙◌, ◌/◌, List, ℕ, sym, ap, subst, arith, length, length-map, on_ok_weaker, padded, lists_of, AreApart, LieWithin, Place, AreWritten, AreZeros, Volume}
 use Rattle.std.specs.Borrow.{Bor}
 use Rattle.par2_recovery.specs.Views.{texts_of}
 use Rattle.par2_plan.proofs.VolumePlaces.{blank_packets, places_apart, places_blank, places_within, length-places, volumes_written}
 use Rattle.par2_plan.proofs.volumes.write_slices.Goals as goal
 
 pub places_of-requires-clause-texts : goal.places_of-requires-clause-texts
-places_of-requires-clause-texts c = blank_packets c.args.parts.now c.args.volumes.now (lists_of c.args.texts.now) c.fit_id.ensures c.requires.before
+places_of-requires-clause-texts c = blank_packets c.args.parts.now c.args.volumes.now (lists_of c.args.texts.now) c.requires.parts.sixteen c.requires.before
 
 pub new-outputs-requires : goal.new-outputs-requires
 new-outputs-requires c =
@@ -27,29 +27,21 @@ pub write_recovery_slices-requires-clause-count : goal.write_recovery_slices-req
 write_recovery_slices-requires-clause-count c =
     let numbers = ap length (c.deref-2.ensures.value ∙ c.in_ok-exponents.ensures) in
     let places = ap (λ (all : List Place). length all) (c.new-outputs.ensures.places ∙ c.deref.ensures.value ∙ c.in_ok-places.ensures) in
-    numbers ∙ length-places c.args.parts.now 0 c.args.volumes.now ∙ sym places
+    numbers ∙ length-places c.args.parts.now c.args.volumes.now ∙ sym places
 
 pub write_recovery_slices-requires-clause-room : goal.write_recovery_slices-requires-clause-room
 write_recovery_slices-requires-clause-room c =
     let parts = c.args.parts.now in
-    let volumes : List Volume = c.args.volumes.now in
-    let outputs = c.new-outputs.result in
-    let words : ℕ = parts.set.now.slice / 2 in
     let texts = lists_of c.args.texts.now in
-    subst (λ (all : List Place). LieWithin outputs.words all texts) (sym (c.new-outputs.ensures.places ∙ c.deref.ensures.value ∙ c.in_ok-places.ensures))
-    (subst (λ (n : ℕ). LieWithin n (places_from parts 0 volumes) texts) (sym c.new-outputs.ensures.words)
-    (places_within parts words volumes texts (omega (arith, c.requires.parts.fours)) (blank_packets parts volumes texts c.fit_id.ensures c.requires.before)))
+    subst (λ (all : List Place). LieWithin c.new-outputs.result.words all texts) (sym (c.new-outputs.ensures.places ∙ c.deref.ensures.value ∙ c.in_ok-places.ensures))
+    (rw c.new-outputs.ensures.words (places_within parts (parts.set.now.slice / 2) c.args.volumes.now texts (omega (arith, c.requires.parts.fours)) (blank_packets parts c.args.volumes.now texts c.requires.parts.sixteen c.requires.before)))
 
 pub write_recovery_slices-requires-clause-zeros : goal.write_recovery_slices-requires-clause-zeros
 write_recovery_slices-requires-clause-zeros c =
     let parts = c.args.parts.now in
-    let volumes : List Volume = c.args.volumes.now in
-    let outputs = c.new-outputs.result in
-    let words : ℕ = parts.set.now.slice / 2 in
     let texts = lists_of c.args.texts.now in
-    subst (λ (all : List Place). AreZeros outputs.words all texts) (sym (c.new-outputs.ensures.places ∙ c.deref.ensures.value ∙ c.in_ok-places.ensures))
-    (subst (λ (n : ℕ). AreZeros n (places_from parts 0 volumes) texts) (sym c.new-outputs.ensures.words)
-    (places_blank parts words volumes texts (omega (arith, c.requires.parts.fours)) c.fit_id.ensures c.requires.before))
+    subst (λ (all : List Place). AreZeros c.new-outputs.result.words all texts) (sym (c.new-outputs.ensures.places ∙ c.deref.ensures.value ∙ c.in_ok-places.ensures))
+    (rw c.new-outputs.ensures.words (places_blank parts (parts.set.now.slice / 2) c.args.volumes.now texts (omega (arith, c.requires.parts.fours)) c.requires.parts.sixteen c.requires.before))
 
 pub returns : goal.returns
 returns c =
@@ -64,7 +56,7 @@ returns c =
     let places = c.new-outputs.ensures.places ∙ c.deref.ensures.value ∙ c.in_ok-places.ensures in
     let numbers = c.deref-2.ensures.value ∙ c.in_ok-exponents.ensures in
     on_ok_weaker c.write_recovery_slices.result
-    (λ written. volumes_written parts words volumes slices exponents old new c.requires.parts (omega (arith, c.requires.parts.fours)) c.fit_id.ensures c.requires.inputs numbers c.requires.before
+    (λ written. volumes_written parts words volumes slices exponents old new c.requires.parts (omega (arith, c.requires.parts.fours)) c.requires.parts.sixteen c.requires.inputs numbers c.requires.before
     (subst (λ (all : List Place). AreWritten words slices exponents all old new) places
     (subst (λ (n : ℕ). AreWritten n slices exponents outputs.places.now old new) c.new-outputs.ensures.words written)))
     c.write_recovery_slices.ensures

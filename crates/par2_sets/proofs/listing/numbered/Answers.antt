@@ -7,5 +7,5 @@ pub returns-clause-refused : goal.returns-clause-refused
 returns-clause-refused c =
     let text = numbered c.args.name.now c.args.n in
     let is : c.deref.result.now ≡ text = search rules in
-    let long : IfErr c.new.result (λ _. 255 < length text) = long_where_err c.new.result c.args.name.now c.args.n c.deref.result.now c.ranges.n.fits c.numbered_text.ensures.name is c.new.ensures.variant.1 in
+    let long : IfErr c.new-2.result (λ _. 255 < length text) = long_where_err c.new-2.result c.args.name.now c.args.n c.deref.result.now c.ranges.n.fits c.as_str.ensures.name is c.new-2.ensures.variant.1 in
     search rules

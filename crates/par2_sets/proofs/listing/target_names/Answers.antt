@@ -1,17 +1,13 @@
-use Rattle.par2_sets.proofs.Common.{◌≡◌, ◌∙◌, ◌+◌, ◌++◌, ◌∷◌, [], ℕ, List, map, take, sym, ap, subst, map_more, Target, HoldsNames}
-use Rattle.par2_spec.proofs.TreeLaws.{holds_more}
+use Rattle.par2_sets.proofs.Common.{◌∙◌, List, ap, map, rules, IfOk-weaker, list_any, is_among, nat_cmp, Target, target_names, HoldsNames, slice_cmp, YieldsList-from_map, YieldsList-from_slice, fact_from_collect, is_eq-slice_cmp}
+use Rattle.std.specs.BTreeSet.{IsFromIterResult}
 use Rattle.par2_sets.proofs.listing.target_names.Goals as goal
 
-pub loop-target-preserved : goal.loop-target-preserved
-loop-target-preserved c =
-    let ts : List Target = c.targets-target-items.result.now in
-    let i = c.loop-target.target-index in
-    let name_of : Target → List ℕ = λ t. t.name in
-    let key : List ℕ = c.copied.result in
-    let all : c.args.set.now.targets ≡ ts = sym c.targets-target-items.ensures.value in
-    let before : HoldsNames c.loop-target.names (map name_of (take i ts)) =
-    subst (λ (xs : List Target). HoldsNames c.loop-target.names (map name_of (take i xs))) all c.loop-target.invariant in
-    let more : map name_of (take i ts) ++ key ∷ [] ≡ map name_of (take (i + 1) ts) =
-    ap (λ k. map name_of (take i ts) ++ k ∷ []) (c.copied.ensures ∙ c.name.ensures ∙ ap name_of c.target-item.is) ∙ sym (map_more name_of ts i _ c.loop-target-test.true) in
-    subst (HoldsNames c.insert.new.self) (more ∙ ap (λ (xs : List Target). map name_of (take (i + 1) xs)) (sym all))
-    (holds_more (λ (name : List ℕ). name) c.loop-target.names c.insert.new.self key (map name_of (take i ts)) c.in_ok-insert.ensures.updates.0 before)
+pub returns : goal.returns
+returns c =
+    let ts : List Target = c.targets.result.now in
+    let order = slice_cmp nat_cmp in
+    IfOk-weaker c.collect.result (IsFromIterResult order (map (λ t. t.name) ts)) (λ names. HoldsNames names (target_names c.args.set.now)) (λ names made name.
+    made.0 name ∙ (λ i. list_any (λ other. is_eq-slice_cmp name other i) (map (λ t. t.name) ts))
+    ∙ ap (λ (xs : List Target). is_among (map (λ t. t.name) xs) name) c.targets.ensures.value)
+    (fact_from_collect (IsFromIterResult order) c.collect.result c.collect.ensures.ran
+    (YieldsList-from_map _ (λ (t : Target). t.name) (YieldsList-from_slice ts cc) c.map.ensures.closure (λ x r q k. search rules)))

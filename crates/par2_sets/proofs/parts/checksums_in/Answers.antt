@@ -1,29 +1,25 @@
-use Rattle.par2_sets.proofs.Common.{Bool, ◌∙◌, ◌&&◌, ◌==◌, ℕ, List, length, map, Some, None, cond, sym, ap, ap₂, option_map, get, option_or, eq_by_cmp, bytes_eq, take_all, Packet, IfscBody, read_ifsc, packet_of, count_cmp}
+use Rattle.par2_sets.proofs.Common.{◌≡◌, ◌∙◌, ◌==◌, ◌&&◌, List, ℕ, length, Some, None, refl, sym, ap, map, rules, find, filter_map, option_map, option_and_then, reverse, eq_by_cmp, nat_cmp_total, on_total, nat_list_cmp_total, IfOk-weaker, bytes_eq, IfscBody, read_ifsc, packet_of, count_cmp, HoldChecksums, IsFromIterResult, YieldsList-from_rev_slice, fact_from_collect, YieldsList-from_filter_map, filter_map-map}
 use Rattle.std.specs.Prelude.{Option}
-use Rattle.par2_sets.proofs.KeptPackets.{checksums_of}
-use Rattle.par2_sets.proofs.Keeping.{one_more, nothing_more, same_count}
+use Rattle.std.proofs.lemmas.Cmp.{then_total}
+use Rattle.par2_packets.specs.declared.scan.Packet as scan
+use Rattle.par2_sets.proofs.Firsts.{has_first, found, same_count}
 use Rattle.par2_sets.proofs.parts.checksums_in.Goals as goal
-use Rattle.par2_sets.proofs.parts.checksums_in.Goals.{in-Some+in_ok-keep_first, in_default}
 
-pub loop-packet-preserved : goal.loop-packet-preserved
-loop-packet-preserved c =
-    let read : Packet → Option IfscBody = λ p. read_ifsc p.kind p.body in
-    let i = c.loop-packet.packet-index in
-    elim c.match-read_ifsc.branch [
-      | in-Some+in_ok-keep_first w ↦ λ id n.
-          let d : IfscBody = w.in-Some.checksums in
-          let test : IfscBody → Bool = λ x. bytes_eq x.id id && length x.pairs == n in
-          ap (λ m. get count_cmp m (id, n)) w.firsts-is ∙ w.in_ok-keep_first.ensures (id, n)
-          ∙ ap (λ b. option_or (get count_cmp c.loop-packet.firsts (id, n)) (cond b (Some d) None)) (ap₂ (λ (k : List ℕ) m. eq_by_cmp count_cmp (id, n) (k, m)) w.id.ensures w.count-count.ensures ∙ same_count id d.id n (length d.pairs))
-          ∙ ap (λ o. option_or o (cond (test d) (Some d) None)) (c.loop-packet.invariant id n)
-          ∙ sym (one_more read packet_of c.args.packets.now i _ test d c.loop-packet-test.true (sym c.read_ifsc.ensures ∙ w.in-Some.is))
-      | in_default w ↦ λ id n.
-          let test : IfscBody → Bool = λ x. bytes_eq x.id id && length x.pairs == n in
-          ap (λ m. get count_cmp m (id, n)) w.firsts-is ∙ c.loop-packet.invariant id n
-          ∙ sym (nothing_more read packet_of c.args.packets.now i _ test c.loop-packet-test.true (sym c.read_ifsc.ensures ∙ w.in_default.is))
-    ]
+-- what was kept is what was read
+itself : {A : Type 0} (o : Option A) → o ≡ option_and_then Some o
+itself None = refl
+itself (Some x) = refl
 
 pub returns : goal.returns
-returns c id n =
-    ap (option_map (λ x. x.pairs)) (c.loop-packet.invariant id n
-    ∙ ap (λ xs. checksums_of (map packet_of xs) id n) (take_all c.loop-packet.packet-index c.args.packets.now c.loop-packet-test.false))
+returns c =
+    let ps : List scan.Packet = c.args.packets.now in
+    let read : scan.Packet → Option IfscBody = λ p. read_ifsc p.kind p.body.now in
+    let entry : scan.Packet → Option ((List ℕ × ℕ) × IfscBody) = λ p. option_map (λ x. ((x.id, length x.pairs), x)) (read p) in
+    IfOk-weaker c.collect.result (IsFromIterResult count_cmp (filter_map entry (reverse ps))) (HoldChecksums (map packet_of ps)) (λ firsts made id n.
+    ap (option_map (λ x. x.pairs)) (
+    has_first (then_total (on_total (λ k. k.0) nat_list_cmp_total) (on_total (λ k. k.1) nat_cmp_total)) entry ps firsts made (id, n) ∙ itself _
+    ∙ found (eq_by_cmp count_cmp (id, n)) read (λ x. (x.id, length x.pairs)) (λ p x. x) Some (λ p x e. refl) ps
+    ∙ (λ i. find (λ x. same_count id x.id n (length x.pairs) i) (filter_map read ps))
+    ∙ ap (find (λ x. bytes_eq x.id id && length x.pairs == n)) (sym (filter_map-map (λ p. read_ifsc p.kind p.body) packet_of ps))))
+    (fact_from_collect (IsFromIterResult count_cmp) c.collect.result c.collect.ensures.ran
+    (YieldsList-from_filter_map _ entry (YieldsList-from_rev_slice ps cc) c.filter_map.ensures.closure (λ x r q k. search rules)))

@@ -1,5 +1,4 @@
-use Rattle.par2_journal.proofs.Common.{refl}
-use Rattle.par2_spec.specs.Changes.{takes_all}
+use Rattle.par2_journal.proofs.Common.{refl, takes_all}
 use Rattle.par2_journal.proofs.session.Session.fingerprint.Goals as goal
 
 pub of-requires-clause-applies : goal.of-requires-clause-applies

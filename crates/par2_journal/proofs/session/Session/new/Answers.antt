@@ -1,5 +1,4 @@
-use Rattle.par2_journal.proofs.Common.{refl, arith}
-use Rattle.par2_spec.specs.Sessions.{walks}
+use Rattle.par2_journal.proofs.Common.{refl, arith, walks}
 use Rattle.par2_journal.proofs.session.Session.new.Goals as goal
 
 pub invariant_of-result : goal.invariant_of-result

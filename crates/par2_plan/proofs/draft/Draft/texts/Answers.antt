@@ -1,50 +1,29 @@
-use Rattle.par2_plan.proofs.Common.{◌≡◌, ◌∙◌, ◌<◌, ◌+◌, ◌++◌, ◌∷◌, [], List, ℕ, Bor, length, map, take, get_or, refl, sym, ap, append-nil, rules, Option, None, option_to_list, cons_option, map-append, map_more, take_all, filter_map-append, change_of, bytes_written, texts_written}
-use Rattle.std.specs.Prelude.{Some}
-use Rattle.std.specs.Option.{option_copied}
-use Rattle.par2_digests.specs.Texts.{texts_of}
+use Rattle.par2_plan.proofs.Common.{◌≡◌, ◌∙◌, ◌∷◌, [], List, ℕ, Bool, Bor, cond, map, refl, ap, ap₂, rules, tests, Option, is_some, filter, cons_option, IfOk-weaker, change_of, bytes_written, texts_written, YieldsList-from_map_by, YieldsList-from_slice, YieldsList-at, YieldsList-from_filter, map_from_collect, unwrap_or}
+use Rattle.std.specs.Prelude.{None, Some}
 use Rattle.par2_folder.specs.declared.change.Change.{Change}
-use Rattle.par2_plan.proofs.draft.Draft.texts.Goals.{in-Some+in_ok-push, in_default}
 use Rattle.par2_plan.proofs.draft.Draft.texts.Goals as goal
 
--- what one more change writes
-written_more : (items : List Change) (i : ℕ) (item : Change) → i < length items → item ≡ get_or items i item
-    → texts_written (map change_of (take (i + 1) items)) ≡ texts_written (map change_of (take i items)) ++ option_to_list (bytes_written (change_of item))
-written_more items i item within is =
-    ap texts_written (map_more change_of items i item within ∙ ap (λ x. map change_of (take i items) ++ change_of x ∷ []) (sym is))
-    ∙ filter_map-append bytes_written (map change_of (take i items)) (change_of item ∷ [])
-    ∙ ap (λ (l : List (List ℕ)). texts_written (map change_of (take i items)) ++ l) (alone (bytes_written (change_of item)))
+-- whether a change writes, and what
+abbrev is_write : Change → Bool
+is_write change = is_some (bytes_written (change_of change))
+
+abbrev bytes : Change → List ℕ
+bytes change = unwrap_or (bytes_written (change_of change)) []
+
+written : (changes : List Change) → map bytes (filter is_write changes) ≡ texts_written (map change_of changes)
+written [] = refl
+written (change ∷ changes) = step (bytes_written (change_of change)) refl (written changes)
   where
-    alone : (o : Option (List ℕ)) → cons_option o [] ≡ option_to_list o
-    alone None = refl
-    alone (Some text) = refl
-
-pub loop-change-preserved : goal.loop-change-preserved
-loop-change-preserved c =
-    let items : List Change = c.as_slice-change-items.result.now in
-    let i = c.loop-change.change-index in
-    let item : Change = c.change-item.result in
-    let before : List (List ℕ) = texts_written (map change_of (take i items)) in
-    let more : texts_written (map change_of (take (i + 1) items)) ≡ before ++ option_to_list (bytes_written (change_of item)) =
-    written_more items i item c.loop-change-test.true c.change-item.is in
-    elim c.match-bytes_of.branch as (λ _. texts_of c.match-bytes_of.texts.items ≡ texts_written (map change_of (take (i + 1) items))) [
-      | in-Some+in_ok-push w ↦
-          let pushed : c.match-bytes_of.texts.items ≡ c.loop-change.texts.items ++ w.in-Some.bytes ∷ [] = search rules in
-          let known : bytes_written (change_of item) ≡ Some w.in-Some.bytes.now = sym c.bytes_of.ensures ∙ ap (λ (o : Option (Bor (List ℕ))). option_copied o) w.in-Some.is in
-          ap (λ (l : List (Bor (List ℕ))). texts_of l) pushed
-          ∙ map-append (λ (text : Bor (List ℕ)). text.now) c.loop-change.texts.items (w.in-Some.bytes ∷ [])
-          ∙ ap (λ (l : List (List ℕ)). l ++ w.in-Some.bytes.now ∷ []) c.loop-change.invariant
-          ∙ sym (more ∙ ap (λ o. before ++ option_to_list o) known)
-      | in_default w ↦
-          let same : c.match-bytes_of.texts.items ≡ c.loop-change.texts.items = search rules in
-          let known : bytes_written (change_of item) ≡ None = sym c.bytes_of.ensures ∙ ap (λ (o : Option (Bor (List ℕ))). option_copied o) w.in_default.is in
-          ap (λ (l : List (Bor (List ℕ))). texts_of l) same ∙ c.loop-change.invariant ∙ sym (more ∙ ap (λ o. before ++ option_to_list o) known ∙ append-nil before)
-    ]
-
-pub loop-change-init : goal.loop-change-init
-loop-change-init c = ap (λ (texts : List (Bor (List ℕ))). texts_of texts) c.in_ok-texts.ensures.items
+    step : (o : Option (List ℕ)) → bytes_written (change_of change) ≡ o → map bytes (filter is_write changes) ≡ texts_written (map change_of changes)
+        → map bytes (cond (is_some o) (change ∷ filter is_write changes) (filter is_write changes)) ≡ cons_option o (texts_written (map change_of changes))
+    step None e rest = rest
+    step (Some text) e rest = ap₂ (λ t ts. t ∷ ts) (ap (λ o. unwrap_or o []) e) rest
 
 pub returns : goal.returns
 returns c =
-    c.loop-change.invariant
-    ∙ ap (λ (changes : List Change). texts_written (map change_of changes)) (take_all c.loop-change.change-index c.as_slice-change-items.result.now c.loop-change-test.false)
-    ∙ ap texts_written c.as_slice-change-items.ensures
+    let changes : List Change = c.as_slice.result.now in
+    IfOk-weaker c.collect.result _ _ (λ texts e. e ∙ written changes ∙ ap texts_written c.as_slice.ensures)
+    (map_from_collect _ c.collect.ensures.ran
+    (YieldsList-from_map_by _ (λ (text : Bor (List ℕ)). text.now) bytes
+    (YieldsList-at c.map.ensures.source
+    (YieldsList-from_filter _ is_write (YieldsList-at c.filter.ensures.source (YieldsList-from_slice changes c.iter-changes.ensures.rest)) c.filter.ensures.closure (λ x b q k. search (rules, tests)))) c.map.ensures.closure (λ x r q k. search rules)))
