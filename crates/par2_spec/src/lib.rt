@@ -22,6 +22,9 @@ use std::alloc::{AllocError, AllocFailed};
 use std::fmt::{self, Display, Formatter, Write};
 use thiserror::Error;
 
+/// An answer where memory alone may be wanting, or one with a fault of its own.
+pub type Result<T, E = AllocError> = std::result::Result<T, E>;
+
 /// The type of a packet.
 #[derive(Clone, Copy, PartialEq, Eq, Debug, Drop)]
 pub enum Kind {
