@@ -5,9 +5,10 @@ usage: prove.py PROGRAM CPU TO     CPU is a level of x86-64, and TO the file tha
 
 It does what the gate (`rt ci`) does with these crates alone, on a copy of their files without must-fail edits: each is
 proved from nothing, a crate above a library reads its statements alone, the program is built and run, and each library
-that passes is kept for later runs on this machine, of the gate too. What an earlier run kept is taken. With PROVE_ANEW=1
-nothing is taken and nothing is kept, which is how to measure. The program is built by one compiler, LLVM; the gate
-builds it by a second one too and compares, so a program that was built here isn't kept for it.
+that passes is kept for later runs of this command on this machine. What an earlier run kept is taken, and what the gate
+kept. With PROVE_ANEW=1 nothing is taken and nothing is kept, which is how to measure. Two things are left to the gate,
+so it takes nothing of what is kept here: it looks for contracts that no call can meet, on which no proof rests; and it
+builds the program by a second compiler, beside LLVM, and compares.
 
 The gate's own order fits many proofs, tests and edits; here one chain of libraries decides when the program is there.
 So this loads the command rt as a module and has it use another order (`in_lanes`). The shorter the chain that waits
