@@ -92,8 +92,7 @@ not_before name a b h k = by_case (name_cmp b a) (name_cmp b name) refl refl h
 
 not_after : (a b : List ℕ) (r : Ordering) → name_cmp b a ≡ r → is_lt r ≡ true → is_below b a ≡ false
 not_after a b Less e h = ap is_lt (turned b a e)
-not_after a b Equal e h = cc
-not_after a b Greater e h = cc
+not_after a b r e h = cc
 
 both_from : (name a b : List ℕ) → is_below name (ord_min name_cmp a b) ≡ false → (is_below name a ≡ false) × (is_below name b ≡ false)
 both_from name a b = by_case (is_below a b) refl
@@ -110,11 +109,10 @@ elsewhere : (name n q : List ℕ) (o g : Option (List ℕ)) → is_below name n 
 elsewhere name n q o g h = by_case (name_cmp q n) refl
   where
     by_case : (r : Ordering) → name_cmp q n ≡ r → cond (is_below name q) (cond (is_eq r) o g) None ≡ cond (is_below name q) g None
-    by_case Less e = refl
-    by_case Greater e = refl
     by_case Equal e =
         let off : is_below name q ≡ false = ap (is_below name) (same_names q n e) ∙ h in
         ap (λ t. cond t o None) off ∙ sym (ap (λ t. cond t g None) off)
+    by_case r e = refl
 
 module _ (name n : List ℕ) (folder : Folder) (h : is_below name n ≡ false) where
   put_from : (bytes : List ℕ) → folder_below name (map_of.insert folder n bytes) ≡ folder_below name folder

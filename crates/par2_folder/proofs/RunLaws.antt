@@ -5,11 +5,9 @@ use Rattle.par2_folder.proofs.Common.{ℕ, suc, ◌<◌, ◌≤◌, List, [], �
 pub one_more : (states : List Midstate) (pendings : List Pending) (texts : List (List ℕ)) (pending : Pending) (text : List ℕ) → ReachEach states pendings texts → Reaches pending text
     → ReachEach states (pendings ++ pending ∷ []) (texts ++ text ∷ [])
 one_more (s ∷ states) pendings (t ∷ texts) pending text held reached = (held.0, one_more states pendings texts pending text held.1 reached)
-one_more (s ∷ states) pendings [] pending text held reached = absurd held
 one_more [] (p ∷ pendings) (t ∷ texts) pending text held reached = (held.0, one_more [] pendings texts pending text held.1 reached)
-one_more [] (p ∷ pendings) [] pending text held reached = absurd held
-one_more [] [] (t ∷ texts) pending text held reached = absurd held
 one_more [] [] [] pending text held reached = (reached, tt)
+one_more states pendings texts pending text held reached = absurd held
 
 -- the states after the parts of all
 abbrev pub AreBehind : List Pending → List Midstate → Type 0

@@ -9,8 +9,7 @@ same_names = slice_cmp-IsAntisymmetric nat_cmp-IsAntisymmetric
 
 pub less : (o : Ordering) → IsTrue (is_lt o) → o ≡ Less
 less Less h = refl
-less Equal h = cc
-less Greater h = cc
+less o h = cc
 
 tail_at : (e : File) (files : List File) (name : List ℕ) (i : ℕ) → IsAt (e ∷ files) name (suc i) → IsAt files name i
 tail_at e files name i here = record { in_range = omega (arith, here.in_range); has_name = here.has_name }

@@ -9,9 +9,8 @@ use Rattle.par2_folder.proofs.Borders.{no_text, text_on, whole_text}
 
 pub as_many : (states : List Midstate) (texts : List (List ℕ)) → HaveAbsorbed states texts → length texts ≡ length states
 as_many [] [] held = refl
-as_many [] (t ∷ texts) held = absurd held
-as_many (s ∷ states) [] held = absurd held
 as_many (s ∷ states) (t ∷ texts) held = ap suc (as_many states texts held.1)
+as_many states texts held = absurd held
 
 pub absorbed_at : (states : List Midstate) (texts : List (List ℕ)) (i : ℕ) (d : Midstate) → HaveAbsorbed states texts → i < length states → HasAbsorbed (get_or states i d) (get_or texts i [])
 absorbed_at [] texts i d held lt = absurd (omega arith)

@@ -105,11 +105,8 @@ impl Folder {
     pub fn names(&self) -> Result<Vec<Name>>
         ensures { IfOk result (λ list. list.items ≡ names self.now.files) }
     {
-        let mut names = Vec::with_capacity(*self.files.allocator(), self.files.len())?;
-        for file in &self.files {
-            names.push(file.0.copied())?;
-        }
-        Ok(names)
+        let names = self.files.iter().map(|file| file.0.copied());
+        names.collect(*self.files.allocator())
     }
 
     /// What tells folders apart: the MD5 of names and bytes, in the order of the names, each after its length as
@@ -126,10 +123,8 @@ impl Folder {
         ensures kept { IfOk result (λ snapshot. IsKept (files_in snapshot)) }
         ensures folder { IfOk result (λ snapshot. folder_in snapshot ≡ self.now.files) }
     {
-        let mut files = Vec::with_capacity(*self.files.allocator(), self.files.len())?;
-        for file in &self.files {
-            files.push(borrowed(file))?;
-        }
+        let files = self.files.iter().map(|file| borrowed(file));
+        let files = files.collect(*self.files.allocator())?;
         Ok(Snapshot { files })
     }
 

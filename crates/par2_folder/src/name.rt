@@ -1,5 +1,5 @@
 //! Names of files, in place.
-ghost use Rattle.std.specs.Prelude.{◌≡◌, ◌↔◌, ◌==◌, ◌≤◌, ◌||◌, length, is_some, IfOk, IfSome, IsOk, IsErr, IsTrue, IsFalse, Ok, Some, None, nat_eq, refl, codes};
+ghost use Rattle.std.specs.Prelude.{◌≡◌, ◌↔◌, ◌==◌, ◌≤◌, ◌&&◌, ◌||◌, nat_le, length, is_some, IfOk, IfSome, IsOk, IsErr, IsTrue, IsFalse, Ok, Some, None, nat_eq, refl, codes};
 ghost use Rattle.std.specs.Ordering.{nat_cmp};
 ghost use Rattle.std.specs.Cmp.{on_equiv, on_total, on_po, on_per, partial_equiv_from_equiv};
 ghost use Rattle.std.specs.Cmp.Lexicographic.{pointwise, slice_cmp, nat_list_eq_equiv, nat_list_cmp_total, texts_po, texts_ties};
@@ -35,6 +35,13 @@ impl Model for Name {
 #[error("the text is no name of a file")]
 pub struct BadName;
 
+// Whether the text has 1 to 255 bytes.
+fn has_length(bytes: &[u8]) -> bool
+    ensures { result ≡ (nat_le 1 (length bytes.now) && nat_le (length bytes.now) 255) }
+{
+    !bytes.is_empty() && bytes.len() <= 255
+}
+
 // Whether a byte stands in the text.
 fn has_byte(bytes: &[u8], barred: u8) -> bool
     ensures { result ≡ list_any (λ b. b == barred) bytes.now }
@@ -56,7 +63,7 @@ fn is_name(text: &str) -> bool
     ensures fits { IsTrue result → length text.now ≤ 255 }
 {
     let bytes = text.as_bytes();
-    if bytes.is_empty() || bytes.len() > 255 {
+    if !has_length(bytes) {
         return false;
     }
     if has_byte(bytes, b'/') || has_byte(bytes, 0) {
