@@ -39,12 +39,8 @@ word_of_lane at words k i none h = sym (get_or-map (λ word. at word k) words i 
 -- ---- four lanes
 
 all_of_four : (x : List ℕ) → IsVector 4 x → get_or x 0 0 ∷ get_or x 1 0 ∷ get_or x 2 0 ∷ get_or x 3 0 ∷ [] ≡ x
-all_of_four [] count = absurd (omega (arith, count))
-all_of_four (a ∷ []) count = absurd (omega (arith, count))
-all_of_four (a ∷ b ∷ []) count = absurd (omega (arith, count))
-all_of_four (a ∷ b ∷ c ∷ []) count = absurd (omega (arith, count))
 all_of_four (a ∷ b ∷ c ∷ d ∷ []) count = refl
-all_of_four (a ∷ b ∷ c ∷ d ∷ e ∷ others) count = absurd (omega (arith, count))
+all_of_four x count = absurd (omega (arith, count))
 
 -- the lanes of two vectors of four
 pub first_four : (x y : List ℕ) → IsVector 4 x → get_or (x ++ y) 0 0 ∷ get_or (x ++ y) 1 0 ∷ get_or (x ++ y) 2 0 ∷ get_or (x ++ y) 3 0 ∷ [] ≡ x
