@@ -1,5 +1,5 @@
 -- The blocks of a message and their words.
-use Rattle.par2_digests.proofs.Common.{◌≡◌, ℕ, suc, ◌+◌, ◌*◌, ◌<◌, ◌≤◌, List, [], ◌∷◌, ◌++◌, take, drop, get_or, ap, ap₂, refl, sym, ◌∙◌, arith, get_or-take, get_or-drop, drop-take, take-take, drop-drop, add_state, rounds, word_at, four_words_at, block_words, compress, hash_after}
+use Rattle.par2_digests.proofs.Common.{◌≡◌, ℕ, suc, ◌+◌, ◌*◌, ◌<◌, ◌≤◌, List, [], ◌∷◌, ◌++◌, take, drop, get_or, ap, ap₂, refl, sym, ◌∙◌, arith, get_or-take, get_or-drop, drop-take, take-take, drop-drop, add_state, rounds, word_at, block_words, compress, hash_after, four_words_at}
 
 -- ---- words
 

@@ -1,9 +1,8 @@
 -- Operations on vectors, read at one lane.
-use Rattle.par2_digests.proofs.Common.{below_more, ◌≡◌, ℕ, ◌-◌, ◌<◌, ◌≤◌, List, [], ◌∷◌, ◌++◌, map, length, get_or, sym, arith, get_or-append_right, get_or-map, get_or_append_left, length-map, get_or-zip2, length-zip2, AreOfFour, lane_words, lane}
+use Rattle.par2_digests.proofs.Common.{below_more, ◌≡◌, ℕ, ◌-◌, ◌<◌, ◌≤◌, List, [], ◌∷◌, ◌++◌, map, length, get_or, sym, arith, get_or-append_right, get_or-map, get_or_append_left, length-map, get_or-zip2, length-zip2, AreOfFour, lane_words, lane, common_steps}
 use Rattle.std.specs.Prelude.{slice_index}
 use Rattle.par2_digests.specs.declared.steps.State.{State}
 use lib.Lanes.{zip2}
-use Rattle.std.proofs.lemmas.Grind.{common_steps}
 
 -- what holds at each of eight lanes
 pub each_lane : (P : ℕ → Type 0) → P 0 → P 1 → P 2 → P 3 → P 4 → P 5 → P 6 → P 7 → (k : ℕ) → k < 8 → P k

@@ -1,5 +1,5 @@
 -- Hash values as bytes, read back word by word, and texts one after the other.
-use Rattle.par2_digests.proofs.Common.{◌≡◌, ℕ, ◌+◌, ◌<◌, ◌≤◌, ◌^◌, List, [], ◌∷◌, ◌++◌, length, take, drop, slice_index, sym, ap, ◌∙◌, arith, cases_lt, get_or_append_left, get_or_push, length_push, from_le_bytes-to_le_bytes_4, word_at, four_words_at, TakeAll, TakesAll, Pending, compress, digest_bytes, hash_after}
+use Rattle.par2_digests.proofs.Common.{◌≡◌, ℕ, ◌+◌, ◌<◌, ◌≤◌, ◌^◌, List, [], ◌∷◌, ◌++◌, length, take, drop, slice_index, sym, ap, ◌∙◌, arith, cases_lt, get_or_append_left, get_or_push, length_push, from_le_bytes-to_le_bytes_4, word_at, compress, digest_bytes, hash_after, four_words_at, TakeAll, TakesAll, Pending}
 use Rattle.par2_digests.proofs.BlockLaws.{word_in_text}
 use Rattle.par2_digests.proofs.FeedLaws.{four_words}
 

@@ -1,5 +1,5 @@
 -- A message on its way to its digest.
-use Rattle.par2_digests.proofs.Common.{◌≡◌, ℕ, ◌+◌, ◌-◌, ◌*◌, ◌/◌, ◌%◌, ◌≤◌, ◌<◌, List, Option, Some, None, length, take, drop, ◌++◌, sym, subst, arith, get_or, length-drop, drop_at, drop-drop, get_or-map, length-take-le, take-append-le, take_all, hash_after, bytes_left, HasBlocks, HaveBlocks, LeadsTo, LeadsWith, work, work_of, works, Task, hash_behind}
+use Rattle.par2_digests.proofs.Common.{◌≡◌, ℕ, ◌+◌, ◌-◌, ◌*◌, ◌/◌, ◌%◌, ◌≤◌, ◌<◌, List, Option, Some, None, length, take, drop, ◌++◌, sym, subst, arith, get_or, length-drop, drop_at, drop-drop, get_or-map, length-take-le, take-append-le, take_all, hash_after, bytes_left, hash_behind, HasBlocks, HaveBlocks, LeadsTo, LeadsWith, work, work_of, works, Task}
 use Rattle.par2_digests.proofs.FeedLaws.{blocks_alike, blocks_first, end_goes_on, goes_on}
 use Rattle.par2_digests.proofs.LaneLaws.{each_lane}
 use borrow.Rule.Slice.PartMut.{put_mid}

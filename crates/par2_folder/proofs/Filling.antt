@@ -1,5 +1,5 @@
 -- A write that may be refused, as a folder is filled.
-use Rattle.par2_folder.proofs.Common.{◌≡◌, ℕ, List, Some, Result, IfErr, OnOk, OnErr, nat_lt, arith, FolderState, Write, state_after, IsTried, change_refusal, effect}
+use Rattle.par2_folder.proofs.Common.{◌≡◌, ℕ, List, Some, Result, IfErr, OnOk, OnErr, nat_lt, arith, FolderState, Write, state_after, change_refusal, effect, IsTried}
 use Rattle.std.proofs.lemmas.Bool.Decides.{nat_tests}
 use Rattle.par2_spec.specs.declared.ChangeFault.{ChangeFault}
 

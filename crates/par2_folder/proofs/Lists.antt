@@ -1,8 +1,7 @@
 -- Changes in order, one by one.
-use Rattle.par2_folder.proofs.Common.{◌≡◌, ℕ, suc, ◌+◌, ◌<◌, ◌≤◌, List, [], ◌∷◌, ◌++◌, length, map, take, drop, get_or, set, None, IsTrue, refl, sym, ap, subst, ◌∙◌, append_assoc, append-nil, add-one, drop-cons, arith, reverse, take-suc-set, reverse-append, map-append, drop-set-lt, take_all, drop_all, Folder, FolderState, change_refusal, effect, inverse, state_after, takes_all, takes_first, takes_rest, state_after_all, way_back}
-use Rattle.par2_spec.specs.Changes.{Change}
+use Rattle.par2_folder.proofs.Common.{◌≡◌, ℕ, suc, ◌+◌, ◌<◌, ◌≤◌, List, [], ◌∷◌, ◌++◌, length, map, take, drop, get_or, set, None, IsTrue, refl, sym, ap, subst, ◌∙◌, append_assoc, append-nil, add-one, drop-cons, arith, take-suc-set, reverse-append, map-append, drop-set-lt, take_all, drop_all, Folder, FolderState, change_refusal, effect, inverse, state_after, takes_all, state_after_all, way_back, Change, takes_first, takes_rest, common_steps}
+use Rattle.std.specs.Prelude.{reverse}
 use Rattle.par2_spec.proofs.ListsLaws.{map-reverse}
-use Rattle.std.proofs.lemmas.Grind.{common_steps}
 
 after_first : (state : FolderState) (change : Change) (changes : List Change) → state_after_all state (change ∷ changes) ≡ state_after_all (state_after state change) changes
 unfolding state_after_all

@@ -1,8 +1,7 @@
 -- A snapshot's files, through searches and edits.
-use Rattle.par2_folder.proofs.Common.{◌≡◌, ℕ, suc, ◌<◌, false, List, [], ◌∷◌, length, map, get_or, set, Some, None, is_some, Result, Ok, Err, IfOk, IfErr, IsTrue, sym, ap, subst, ◌∙◌, arith, insert, remove, IsSearchInRange, IsBinarySearchResult, Ordering, length-map, get_or-map, map-set, File, Folder, has, bytes_of, name_cmp, folder_of, file_at, IsAt, IsGapFor, IsFile, IsKept, BorrowedFile, file_of}
+use Rattle.par2_folder.proofs.Common.{◌≡◌, ℕ, suc, ◌<◌, false, List, [], ◌∷◌, length, map, get_or, set, Some, None, is_some, Result, Ok, Err, IfOk, IfErr, IsTrue, sym, ap, subst, ◌∙◌, arith, insert, remove, IsSearchInRange, IsBinarySearchResult, Ordering, length-map, get_or-map, map-set, File, Folder, has, bytes_of, name_cmp, folder_of, file_at, IsAt, IsGapFor, IsFile, IsKept, BorrowedFile, file_of, common_steps}
 use Rattle.std.specs.FinMap as map_of
 use Rattle.par2_folder.proofs.SortedFiles.{Makes, searched_folder, inserted, exchanged, removed, bytes_at}
-use Rattle.std.proofs.lemmas.Grind.{common_steps}
 
 -- ---- lists seen through a function
 

@@ -1,9 +1,8 @@
 -- A survey on its way.
-use Rattle.par2_folder.proofs.Common.{◌≡◌, ◌⊎◌, false, arith, ℕ, ◌-◌, ◌<◌, ◌≤◌, List, [], ◌∷◌, ◌++◌, length, take, drop, get_or, sym, ap, subst, ◌∙◌, entries, false≢true, All-push, HasAbsorbed, message_of, Reaches, Midstate, Pending, Folder, fingerprint_input, folder_below, comes_before, AreLandmarksOf, IsLandmarkOf, Border, Beginning}
+use Rattle.par2_folder.proofs.Common.{◌≡◌, ◌⊎◌, false, arith, ℕ, ◌-◌, ◌<◌, ◌≤◌, List, [], ◌∷◌, ◌++◌, length, take, drop, get_or, sym, ap, subst, ◌∙◌, entries, false≢true, All-push, HasAbsorbed, message_of, Reaches, Midstate, Pending, Folder, fingerprint_input, folder_below, comes_before, AreLandmarksOf, IsLandmarkOf, Border, Beginning, common_steps}
 use Rattle.par2_folder.specs.declared.landmarks.Landmark.{Landmark}
 use Rattle.par2_folder.specs.declared.landmarks.Landmarks.{Landmarks}
 use Rattle.par2_folder.proofs.Borders.{taken_on}
-use Rattle.std.proofs.lemmas.Grind.{common_steps}
 
 -- the state after the parts of a pending one has absorbed what that reaches
 pub behind : (pending : Pending) (text : List ℕ) (state : Midstate) → Reaches pending text

@@ -1,10 +1,10 @@
 -- States of runs of folders, on their way from a border to the next along changes.
-use Rattle.par2_folder.proofs.Common.{◌≡◌, ℕ, suc, ◌+◌, ◌<◌, ◌≤◌, Bool, cond, IsTrue, List, [], ◌∷◌, ◌++◌, Bor, length, map, take, drop, get_or, refl, sym, ap, subst, ◌∙◌, append_assoc, append-nil, add-one, drop-cons, arith, drop_all, map-append, take_more, and_parts, md5, HasAbsorbed, texts_of, Midstate, Folder, effect, is_applicable, IsKept, change_of, new_run, run_texts, text_before, touches, AreBehind, AreTo, HaveAbsorbed, files_in, folder_in, Border, Beginning, End, Change, fingerprint, are_applicable, folders_after, later_texts}
+use Rattle.par2_folder.proofs.Common.{◌≡◌, ℕ, suc, ◌+◌, ◌<◌, ◌≤◌, Bool, cond, IsTrue, List, [], ◌∷◌, ◌++◌, Bor, length, map, take, drop, get_or, refl, sym, ap, subst, ◌∙◌, append_assoc, append-nil, add-one, drop-cons, arith, drop_all, map-append, take_more, and_parts, md5, HasAbsorbed, texts_of, Midstate, Folder, fingerprint, effect, is_applicable, are_applicable, folders_after, IsKept, change_of, new_run, run_texts, text_before, touches, later_texts, AreBehind, AreTo, HaveAbsorbed, files_in, folder_in, Border, Beginning, End, common_steps}
+use Rattle.par2_folder.specs.declared.change.Change.{Change}
 use Rattle.par2_spec.specs.Changes as defined
 use Rattle.par2_folder.specs.declared.walk.Runs.{Runs}
 use Rattle.par2_folder.specs.declared.snapshot.Snapshot.{Snapshot}
 use Rattle.par2_folder.proofs.Borders.{no_text, text_on, whole_text}
-use Rattle.std.proofs.lemmas.Grind.{common_steps}
 
 -- ---- states and texts one by one
 

@@ -1,6 +1,4 @@
-use Rattle.par2_folder.proofs.Common.{◌≡◌, ◌∙◌, ap, map, rules, subst, sym, File, FolderState, IsKept, folder_of, file_of}
-use Rattle.std.proofs.Common.{map-id}
-use Rattle.std.proofs.lemmas.Iterator.{YieldsList-from_map_by, YieldsList-from_slice, items_from_drains}
+use Rattle.par2_folder.proofs.Common.{◌≡◌, ◌∙◌, ap, map, rules, subst, sym, map-id, File, FolderState, IsKept, folder_of, file_of, YieldsList-from_map_by, YieldsList-from_slice, items_from_drains}
 use Rattle.par2_folder.proofs.folder.Folder.snapshot.Goals as goal
 
 pub returns : goal.returns

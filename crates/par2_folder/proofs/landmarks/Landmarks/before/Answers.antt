@@ -1,4 +1,4 @@
-use Rattle.par2_folder.proofs.Common.{◌≡◌, IsTrue, get_or, rules, subst, sym, false≢true, IsLandmarkOf, arith}
+use Rattle.par2_folder.proofs.Common.{◌≡◌, IsTrue, get_or, rules, subst, sym, arith, false≢true, IsLandmarkOf}
 use Rattle.par2_folder.proofs.Borders.{no_text}
 use Rattle.par2_folder.proofs.landmarks.Landmarks.before.Goals as goal
 
