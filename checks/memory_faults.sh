@@ -44,7 +44,7 @@ made_otherwise() {
             }
             above = line
             # Types name AllocError too.
-            gsub(/<AllocError>|, AllocError>|: AllocError\)/, "", made)
+            gsub(/<AllocError>|, (E = )?AllocError>|: AllocError\)/, "", made)
             if (made !~ /::Memory|AllocError/ || in_from) next
             if (pattern ~ /AllocError|AllocFailed|::Memory|OutOfMemory/) next
             if (FILENAME ~ /par2_(journal\/src\/opening|plan\/src\/volumes)\.rt$/ && above ~ /return Err\(AllocError\);$/) next

@@ -1,19 +1,14 @@
 -- The blocks of a message and their words.
-use Rattle.par2_digests.proofs.Common.{◌≡◌, ℕ, suc, ◌+◌, ◌*◌, ◌<◌, ◌≤◌, List, [], ◌∷◌, ◌++◌, take, drop, get_or, ap, ap₂, refl, sym, ◌∙◌, arith, get_or-take, get_or-drop, drop-take, take-take, drop-drop, add_state, rounds, word_at, four_words_at, block_words, compress, hash_after}
+use Rattle.par2_digests.proofs.Common.{◌≡◌, ℕ, suc, ◌+◌, ◌*◌, ◌<◌, ◌≤◌, List, [], ◌∷◌, ◌++◌, take, drop, get_or, ap, ap₂, refl, sym, ◌∙◌, arith, get_or-take, get_or-drop, drop-take, take-take, drop-drop, add_state, rounds, word_at, block_words, compress, hash_after, four_words_at}
 
 -- ---- words
 
 byte_of_part : (text : List ℕ) (n at i j : ℕ) → i + j < n → get_or (take n (drop at text)) (i + j) 0 ≡ get_or text (at + i + j) 0
-byte_of_part text n at i j h =
-    let place : at + (i + j) ≡ at + i + j = omega arith in
-    get_or-take n (drop at text) (i + j) 0 h ∙ get_or-drop at text (i + j) 0 ∙ ap (λ (k : ℕ). get_or text k 0) place
+byte_of_part text n at i j h = grind (arith, get_or-take, get_or-drop)
 
 -- a word of the part that stands at `at` in a text
 pub word_in_text : (text : List ℕ) (n at i : ℕ) → i + 4 ≤ n → word_at (take n (drop at text)) i ≡ word_at text (at + i)
-word_in_text text n at i h =
-    let first : get_or (take n (drop at text)) i 0 ≡ get_or text (at + i) 0 =
-    get_or-take n (drop at text) i 0 (omega arith) ∙ get_or-drop at text i 0 in
-    rw (first, byte_of_part text n at i 1 (omega arith), byte_of_part text n at i 2 (omega arith), byte_of_part text n at i 3 (omega arith)) refl
+word_in_text text n at i h = grind (arith, get_or-take, get_or-drop, byte_of_part)
 
 four_alike : (a b c d x y z w : ℕ) → a ≡ x → b ≡ y → c ≡ z → d ≡ w → a ∷ b ∷ c ∷ d ∷ [] ≡ x ∷ y ∷ z ∷ w ∷ []
 four_alike a b c d x y z w ax by cz dw = rw (ax, by, cz, dw) refl

@@ -1,8 +1,9 @@
 -- The names that proofs of this crate take from elsewhere.
 
-pub use Rattle.std.proofs.Common.{Bor, List, None, Option, Some, [], add-one, ap, append-nil, append_assoc, ap₂, arith, below_more, drop, false, get_or, get_or-set_other, get_or-set_same, inl, inr, length, length-append, length-drop, length-set, map, min, nat_lt, refl, replicate, rules, slice_index, subst, suc, sym, take, true, zero, ℕ, ◌%◌, ◌*◌, ◌++◌, ◌+◌, ◌-◌, ◌/◌, ◌<◌, ◌^◌, ◌∙◌, ◌∷◌, ◌≡◌, ◌≢◌, ◌≤◌}
+pub use Rattle.std.proofs.Common.{Bor, List, None, Option, Some, [], add-one, ap, append-nil, append_assoc, ap₂, arith, below_more, drop, get_or, get_or-set_other, get_or-set_same, inl, inr, length, length-append, length-drop, length-set, map, min, nat_lt, refl, replicate, rules, slice_index, subst, suc, sym, take, true, zero, ℕ, ◌%◌, ◌*◌, ◌++◌, ◌+◌, ◌-◌, ◌/◌, ◌<◌, ◌^◌, ◌∙◌, ◌∷◌, ◌≡◌, ◌≢◌, ◌≤◌}
 pub use Rattle.std.proofs.Math.ListN.{set}
 pub use Rattle.std.proofs.lemmas.Bool.{cases_eq, cases_lt}
+pub use Rattle.std.proofs.lemmas.Grind.{and-not_self, common_steps}
 pub use Rattle.std.proofs.lemmas.List.{drop-append-le, drop-drop, drop-take, drop_all, drop_at, get_or-append_right, get_or-drop, get_or-map, get_or-take, get_or_append_left, get_or_default, get_or_push, length-map, length-replicate, length-take-le, length_push, map-append, map_more, take-append-drop, take-append-le, take-replicate, take-take, take_all}
 pub use Rattle.std.proofs.lemmas.Nat.{and_assoc, and_comm, from_le_bytes-to_le_bytes_4, or_disjoint}
 pub use Rattle.std.proofs.lemmas.Simd.{Each1-get_or, below_from_Fits, get_or-replicate, get_or-zip2, length-zip2, shifts_fit_splat}

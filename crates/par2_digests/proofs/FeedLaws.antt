@@ -33,11 +33,7 @@ blocks_first hash bytes a (suc n) =
 -- a block more, which stands in a text after a start
 pub hash_one_more : (hash text : List ℕ) (start n : ℕ) → compress (hash_behind hash (drop start text) n) (take 64 (drop (start + 64 * n) text)) ≡ hash_behind hash (drop start text) (n + 1)
 unfolding hash_behind
-hash_one_more hash text start n =
-    let next : suc n ≡ n + 1 = omega arith in
-    let place : start + 64 * n ≡ start + n * 64 = omega arith in
-    ap (compress (hash_behind hash (drop start text) n)) (ap (take 64) (ap (λ (m : ℕ). drop m text) place ∙ sym (drop-drop (n * 64) start text)))
-    ∙ ap (hash_behind hash (drop start text)) next
+hash_one_more hash text start n = grind (arith, compress, hash_behind, drop-drop)
 
 -- bytes that begin alike
 pub blocks_alike : (hash x y : List ℕ) (n m : ℕ) → n * 64 ≤ m → take m x ≡ take m y → hash_behind hash x n ≡ hash_behind hash y n
@@ -80,9 +76,7 @@ hash_more bytes rest block hash count counted full same rest_is =
 
 pub same_rest : (bytes rest : List ℕ) (count : ℕ) → count ≡ min 64 (length bytes) → count ≡ 64 → rest ≡ drop count bytes
     → drop (length rest / 64 * 64) rest ≡ drop (length bytes / 64 * 64) bytes
-same_rest bytes rest count counted full rest_is =
-    let place : count + length rest / 64 * 64 ≡ length bytes / 64 * 64 = omega (arith, size_behind bytes rest count counted full rest_is) in
-    ap (drop (length rest / 64 * 64)) rest_is ∙ drop-drop (length rest / 64 * 64) count bytes ∙ ap (λ (n : ℕ). drop n bytes) place
+same_rest bytes rest count counted full rest_is = grind (arith, size_behind, drop-drop)
 
 -- what was taken in as a longer message's beginning
 pub hash_of_longer : (p x : List ℕ) (n : ℕ) → n * 64 ≤ length p → hash_after p n ≡ hash_after (p ++ x) n
@@ -118,16 +112,11 @@ end_goes_on m x bytes bytes_is =
 
 pub rest_goes_on : (m x bytes block : List ℕ) → bytes ≡ drop (length m / 64 * 64) m ++ x → take (length bytes % 64) block ≡ drop (length bytes / 64 * 64) bytes
     → take (length (m ++ x) % 64) block ≡ drop (length (m ++ x) / 64 * 64) (m ++ x)
-rest_goes_on m x bytes block bytes_is held =
-    let q : ℕ = length m / 64 in
-    let size : length bytes + q * 64 ≡ length (m ++ x) = omega (arith, ap length bytes_is, length-append m x, length-append (drop (q * 64) m) x, length-drop (q * 64) m) in
-    let few : length (m ++ x) % 64 ≡ length bytes % 64 = omega (arith, size) in
-    ap (λ (n : ℕ). take n block) few ∙ held ∙ end_goes_on m x bytes bytes_is
+rest_goes_on m x bytes block bytes_is held = grind (arith, length-append, length-drop, end_goes_on)
 
 four : (p : List ℕ) (n : ℕ) → slice_index (hash_after p n) 0 ∷ slice_index (hash_after p n) 1 ∷ slice_index (hash_after p n) 2 ∷ slice_index (hash_after p n) 3 ∷ [] ≡ hash_after p n
 unfolding hash_after compress
-four p zero = refl
-four p (suc n) = refl
+four p n = grind (arith)
 
 -- a hash value is four words
 pub four_words : (hash p : List ℕ) (n : ℕ) → hash ≡ hash_after p n → slice_index hash 0 ∷ slice_index hash 1 ∷ slice_index hash 2 ∷ slice_index hash 3 ∷ [] ≡ hash

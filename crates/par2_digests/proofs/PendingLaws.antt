@@ -1,5 +1,5 @@
 -- Hash values as bytes, read back word by word, and texts one after the other.
-use Rattle.par2_digests.proofs.Common.{◌≡◌, ℕ, zero, suc, ◌+◌, ◌<◌, ◌≤◌, ◌^◌, List, [], ◌∷◌, ◌++◌, get_or, length, take, drop, slice_index, inl, inr, subst, sym, ap, ◌∙◌, arith, cases_lt, get_or_append_left, get_or_push, length_push, from_le_bytes-to_le_bytes_4, word_at, four_words_at, TakeAll, TakesAll, Pending, compress, digest_bytes, hash_after}
+use Rattle.par2_digests.proofs.Common.{◌≡◌, ℕ, ◌+◌, ◌<◌, ◌≤◌, ◌^◌, List, [], ◌∷◌, ◌++◌, length, take, drop, slice_index, sym, ap, ◌∙◌, arith, cases_lt, get_or_append_left, get_or_push, length_push, from_le_bytes-to_le_bytes_4, word_at, compress, digest_bytes, hash_after, four_words_at, TakeAll, TakesAll, Pending}
 use Rattle.par2_digests.proofs.BlockLaws.{word_in_text}
 use Rattle.par2_digests.proofs.FeedLaws.{four_words}
 
@@ -12,8 +12,7 @@ record AreWords (hash : List ℕ) : Type 0 where
 
 are_words : (p : List ℕ) (n : ℕ) → AreWords (hash_after p n)
 unfolding hash_after compress
-are_words p zero = record { a = omega arith; b = omega arith; c = omega arith; d = omega arith }
-are_words p (suc n) = record { a = omega arith; b = omega arith; c = omega arith; d = omega arith }
+are_words p n = grind (arith)
 
 module _ (hash : List ℕ) (fit : AreWords hash) where
   first_word : word_at (digest_bytes hash 4) 0 ≡ slice_index hash 0
@@ -49,12 +48,4 @@ hash_in_text text hash p words at n here is words_are =
 -- a text more after others
 pub takes_more : (pendings new : List Pending) (pending : Pending) (text : ℕ → List ℕ) → new ≡ pendings ++ pending ∷ [] → TakeAll pendings text
     → TakesAll pending (text (length pendings)) → TakeAll new text
-takes_more pendings new pending text pushed before its = λ k none low.
-    let here = λ (one : Pending) (is : get_or new k none ≡ one) (held : TakesAll one (text k)). subst (λ (p : Pending). TakesAll p (text k)) (sym is) held in
-    let there = ap (λ (all : List Pending). get_or all k none) pushed in
-    elim (cases_lt k (length pendings)) [
-      | inl early ↦ here (get_or pendings k none) (there ∙ get_or_append_left pendings (pending ∷ []) none k early) (before k none early)
-      | inr late ↦
-          let place : length pendings ≡ k = omega (arith, late, low, ap length pushed, length_push pendings pending) in
-          here pending (there ∙ get_or_push pendings pending none k place) (subst (λ (i : ℕ). TakesAll pending (text i)) place its)
-    ]
+takes_more pendings new pending text pushed before its = grind (arith, cases_lt, get_or_append_left, length_push, get_or_push)

@@ -1,5 +1,5 @@
 -- A message is its whole blocks and its tail, which ends with the padding.
-use Rattle.par2_digests.proofs.Common.{◌≡◌, ℕ, suc, min, ◌+◌, ◌-◌, ◌*◌, ◌/◌, ◌%◌, ◌^◌, ◌≤◌, List, ◌∷◌, ◌++◌, length, take, drop, replicate, ap, refl, sym, ◌∙◌, arith, w64, to_le_bytes, drop-append-le, drop_at, length-replicate, length-take-le, take-append-le, take-replicate, take-take, take_all, padding, tail_len}
+use Rattle.par2_digests.proofs.Common.{◌≡◌, ℕ, suc, min, ◌+◌, ◌-◌, ◌*◌, ◌/◌, ◌%◌, ◌≤◌, List, ◌∷◌, ◌++◌, length, take, drop, replicate, ap, ◌∙◌, arith, drop-append-le, drop_at, length-replicate, length-take-le, take-append-le, take-replicate, take-take, take_all, padding, tail_len}
 use Rattle.std.proofs.lemmas.List.{length-append, length-drop}
 use Rattle.std.proofs.lemmas.Slice.{take-put_mid_below}
 use Rattle.par2_digests.proofs.BlockLaws.{same_parts}
@@ -11,11 +11,7 @@ zeros len = (119 - len % 64) % 64
 
 padding_len : (len : ℕ) → length (padding len) ≡ zeros len + 9
 unfolding zeros
-padding_len len =
-    let zero_bytes : List ℕ = replicate (zeros len) 0 in
-    let bits : List ℕ = to_le_bytes w64 (len * 8 % 2 ^ 64) in
-    let eight : length bits ≡ 8 = refl in
-    omega (arith, length-append zero_bytes bits, length-replicate {A = ℕ} (zeros len) 0, eight)
+padding_len len = grind (arith, replicate, zeros, length-append, length-replicate)
 
 -- the byte 0x80 and the zeros of the padding, from 64 bytes
 pub marks_are : (n : ℕ) → n ≤ 63 → let marks : List ℕ = 0x80 ∷ replicate 63 0 in take (n + 1) marks ≡ 0x80 ∷ replicate n 0
@@ -28,37 +24,24 @@ marks_are n low =
 
 -- a tail at `at` in the room of all
 pub tail_at : (tails tail : List ℕ) (at j n : ℕ) → at + 128 ≤ length tails → length tail ≡ 128 → n ≤ 128 → take n (drop at (put_mid at j tails tail)) ≡ take n tail
-tail_at tails tail at j n room size low =
-    ap (take n) (drop_at (take at tails) (tail ++ drop j (drop at tails)) at (length-take-le at tails (omega arith)))
-    ∙ take-append-le n tail (drop j (drop at tails)) (omega arith)
+tail_at tails tail at j n room size low = grind (arith, drop_at, length-take-le, take-append-le)
 
 -- the tails before `at` stay
 pub tail_before : (tails tail : List ℕ) (at j before n : ℕ) → at ≤ length tails → before + n ≤ at
     → take n (drop before (put_mid at j tails tail)) ≡ take n (drop before tails)
-tail_before tails tail at j before n room low =
-    same_parts (put_mid at j tails tail) tails at before n low (take-put_mid_below at j tails tail at (omega arith) room)
+tail_before tails tail at j before n room low = grind (arith, same_parts, take-put_mid_below)
 
 -- ---- a padded message p
 
 -- its whole blocks stand in the text
 pub whole_blocks : (text m pad p : List ℕ) (start len : ℕ) → p ≡ m ++ pad → m ≡ take len (drop start text) → length m ≡ len
     → take (len / 64 * 64) (drop (0 * 64) p) ≡ take (len / 64 * 64) (drop start text)
-whole_blocks text m pad p start len p_is m_is size =
-    ap (take (len / 64 * 64)) p_is
-    ∙ take-append-le (len / 64 * 64) m pad (omega arith)
-    ∙ ap (take (len / 64 * 64)) m_is
-    ∙ take-take (len / 64 * 64) len (drop start text) (omega arith)
+whole_blocks text m pad p start len p_is m_is size = grind (arith, take-append-le, take-take)
 
 -- the blocks after them are its tail
 pub last_blocks : (m pad p tail : List ℕ) (len count : ℕ) → p ≡ m ++ pad → length m ≡ len → count * 64 ≡ len % 64 + length pad
     → tail ≡ drop (len / 64 * 64) m ++ pad → take (count * 64) (drop ((0 + len / 64) * 64) p) ≡ tail
-last_blocks m pad p tail len count p_is size whole tail_is =
-    let place : (0 + len / 64) * 64 ≡ len / 64 * 64 = omega arith in
-    let rest : drop ((0 + len / 64) * 64) p ≡ tail =
-    ap (λ (n : ℕ). drop n p) place ∙ ap (drop (len / 64 * 64)) p_is ∙ drop-append-le (len / 64 * 64) m pad (omega arith) ∙ sym tail_is in
-    let tail_len : length tail ≤ count * 64 =
-    omega (arith, ap length tail_is, length-append (drop (len / 64 * 64) m) pad, length-drop (len / 64 * 64) m) in
-    ap (take (count * 64)) rest ∙ take_all (count * 64) tail tail_len
+last_blocks m pad p tail len count p_is size whole tail_is = grind (arith, drop-append-le, length-append, length-drop, take_all)
 
 pub all_blocks : (m pad p : List ℕ) (len count : ℕ) → p ≡ m ++ pad → length m ≡ len → count * 64 ≡ len % 64 + length pad
     → 0 + len / 64 + count ≡ length p / 64
@@ -70,7 +53,4 @@ tail_fits len = omega (arith, padding_len len)
 
 -- the tail that is left in a feed is put into its room as a whole
 pub tail_put : (left rest block : List ℕ) (n len : ℕ) → left ≡ rest ++ padding len → length rest ≡ len % 64 → n ≡ min 128 (length left) → take n block ≡ take n left → take (tail_len len) block ≡ rest ++ padding len
-tail_put left rest block n len left_is size count put =
-    let long : length left ≡ tail_len len = ap length left_is ∙ (let e = length-append rest (padding len) in omega (arith, e, size)) in
-    let all : n ≡ tail_len len = omega (arith, count, long, tail_fits len) in
-    ap (λ k. take k block) (sym all) ∙ put ∙ take_all n left (omega (arith, all, long)) ∙ left_is
+tail_put left rest block n len left_is size count put = grind (arith, length-append, tail_fits, take_all)

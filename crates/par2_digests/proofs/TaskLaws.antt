@@ -1,47 +1,30 @@
 -- A message on its way to its digest.
-use Rattle.par2_digests.proofs.Common.{◌≡◌, ℕ, ◌+◌, ◌-◌, ◌*◌, ◌/◌, ◌%◌, ◌≤◌, ◌<◌, List, [], ◌∷◌, Option, Some, None, length, take, drop, ◌++◌, refl, ap, ap₂, sym, subst, ◌∙◌, arith, get_or, length-drop, drop_at, drop-drop, get_or-map, length-take-le, take-append-le, take_all, hash_after, bytes_left, HasBlocks, HaveBlocks, LeadsTo, LeadsWith, work, work_of, works, Task, hash_behind}
+use Rattle.par2_digests.proofs.Common.{◌≡◌, ℕ, ◌+◌, ◌-◌, ◌*◌, ◌/◌, ◌%◌, ◌≤◌, ◌<◌, List, Option, Some, None, length, take, drop, ◌++◌, sym, subst, arith, get_or, length-drop, drop_at, drop-drop, get_or-map, length-take-le, take-append-le, take_all, hash_after, bytes_left, hash_behind, HasBlocks, HaveBlocks, LeadsTo, LeadsWith, work, work_of, works, Task}
 use Rattle.par2_digests.proofs.FeedLaws.{blocks_alike, blocks_first, end_goes_on, goes_on}
 use Rattle.par2_digests.proofs.LaneLaws.{each_lane}
 use borrow.Rule.Slice.PartMut.{put_mid}
 
 drop_none : (bytes : List ℕ) → bytes ≡ drop 0 bytes
-drop_none [] = refl
-drop_none (b ∷ bytes) = refl
+drop_none bytes = cc
 
 -- fewer bytes than a block are what is after the blocks
 pub at_the_end : (done : Option (List ℕ)) (kept bytes hash last rest : List ℕ) (count : ℕ) → done ≡ None → count ≡ length bytes → count < 64
     → LeadsWith done kept bytes hash last rest → (hash ≡ last) × (bytes ≡ rest)
 unfolding hash_behind
-at_the_end (Some x) kept bytes hash last rest count is counted short held = (cc)
-at_the_end None kept bytes hash last rest count is counted short held =
-    let none : length bytes / 64 ≡ 0 = omega arith in (rw none at held.0, drop_none bytes ∙ (rw none at held.1))
+at_the_end done kept bytes hash last rest count is counted short held = grind (arith, drop_none)
 
 -- some blocks more
 pub blocks_more : (done : Option (List ℕ)) (kept bytes behind blocks hash last rest : List ℕ) (n count : ℕ) → done ≡ None → count ≡ n * 64
     → count ≤ length bytes → take count blocks ≡ take count bytes → behind ≡ drop count bytes
     → LeadsWith done kept bytes hash last rest → LeadsWith done kept behind (hash_behind hash blocks n) last rest
-blocks_more (Some x) kept bytes behind blocks hash last rest n count is counted full same behind_is held = (cc)
-blocks_more None kept bytes behind blocks hash last rest n count is counted full same behind_is held =
-    let later : behind ≡ drop (n * 64) bytes = behind_is ∙ ap (λ (m : ℕ). drop m bytes) counted in
-    let size_of : length behind ≡ length bytes - n * 64 = ap length later ∙ length-drop (n * 64) bytes in
-    let m : ℕ = length behind / 64 in
-    let all : n + m ≡ length bytes / 64 = omega arith in
-    let place : n * 64 + m * 64 ≡ length bytes / 64 * 64 = omega arith in (
-      ap₂ (λ (h b : List ℕ). hash_behind h b m) (blocks_alike hash blocks bytes n count (omega arith) same) later
-          ∙ blocks_first hash bytes n m
-          ∙ ap (hash_behind hash bytes) all
-          ∙ held.0,
-      ap (drop (m * 64)) later ∙ drop-drop (m * 64) (n * 64) bytes ∙ ap (λ (i : ℕ). drop i bytes) place ∙ held.1,
-    )
+blocks_more done kept bytes behind blocks hash last rest n count is counted full same behind_is held = grind (arith, length-drop, hash_behind, blocks_alike, blocks_first, drop-drop)
 
 -- where blocks are left, and no hash value is there
 pub left_blocks : (digest : Option (List ℕ)) (bytes : List ℕ) (n : ℕ) → digest ≡ None → HaveBlocks digest bytes n → n * 64 ≤ length bytes
-left_blocks (Some x) bytes n is held = (cc)
-left_blocks None bytes n is held = held
+left_blocks digest bytes n is held = grind (arith)
 
 fewer_left : (digest : Option (List ℕ)) (bytes : List ℕ) (n m : ℕ) → m ≤ n → HaveBlocks digest bytes n → HaveBlocks digest bytes m
-fewer_left (Some x) bytes n m few held = tt
-fewer_left None bytes n m few held = omega (arith, held)
+fewer_left digest bytes n m few held = grind (arith)
 
 pub fewer_blocks : (task : Task) (n m : ℕ) → m ≤ n → HasBlocks task n → HasBlocks task m
 fewer_blocks task n m few held = fewer_left task.hash (bytes_left task.feed) n m few held
@@ -49,28 +32,22 @@ fewer_blocks task n m few held = fewer_left task.hash (bytes_left task.feed) n m
 -- all blocks that are left
 pub all_blocks_more : (done : Option (List ℕ)) (kept bytes hash last rest : List ℕ) → done ≡ None → LeadsWith done kept bytes hash last rest
     → (hash_behind hash bytes (length bytes / 64) ≡ last) × (drop (length bytes / 64 * 64) bytes ≡ rest)
-all_blocks_more (Some x) kept bytes hash last rest is held = (cc)
-all_blocks_more None kept bytes hash last rest is held = held
+all_blocks_more done kept bytes hash last rest is held = grind (arith)
 
 -- where no work is left, there is the last hash value
 pub finished : (done : Option (List ℕ)) (kept bytes hash last rest : List ℕ) → work_of done bytes ≡ 0 → LeadsWith done kept bytes hash last rest
     → (done ≡ Some last) × (take (length rest) kept ≡ rest)
-finished (Some x) kept bytes hash last rest idle held = (ap Some held.0, held.1)
-finished None kept bytes hash last rest idle held = absurd (omega arith)
+finished done kept bytes hash last rest idle held = grind (arith)
 
 -- what is after the blocks, where a block begins with it
 pub ended_at : (bytes block rest : List ℕ) → drop (length bytes / 64 * 64) bytes ≡ rest → take (length bytes % 64) block ≡ drop (length bytes / 64 * 64) bytes
     → take (length rest) block ≡ rest
-ended_at bytes block rest is held =
-    let size : length rest ≡ length bytes % 64 = omega (arith, ap length is, length-drop (length bytes / 64 * 64) bytes) in
-    ap (λ (n : ℕ). take n block) size ∙ held ∙ is
+ended_at bytes block rest is held = grind (arith, length-drop)
 
 -- what is after the blocks, copied
 pub kept_rest : (bytes rest block copied others : List ℕ) (count : ℕ) → copied ≡ take count block → take count block ≡ take count bytes → count ≡ length bytes → bytes ≡ rest
     → take (length rest) (copied ++ others) ≡ rest
-kept_rest bytes rest block copied others count copy same all is =
-    let copy_is : copied ≡ rest = copy ∙ same ∙ take_all count bytes (omega arith) ∙ is in
-    ap (λ (l : List ℕ). take (length rest) (l ++ others)) copy_is ∙ take-append-le (length rest) rest others (omega arith) ∙ take_all (length rest) rest (omega arith)
+kept_rest bytes rest block copied others count copy same all is = grind (arith, take_all, take-append-le)
 
 -- ---- tasks and blocks beside each other
 
@@ -78,17 +55,13 @@ pub leads_same : (a b : Task) (hash last rest : List ℕ) → a ≡ b → LeadsT
 leads_same a b hash last rest same held = subst (λ (t : Task). LeadsTo t hash last rest) (sym same) held
 
 pub leads_alike : (a b : Task) (x y hash last rest : List ℕ) (n : ℕ) → a ≡ b → x ≡ y → LeadsTo b (hash_behind hash y n) last rest → LeadsTo a (hash_behind hash x n) last rest
-leads_alike a b x y hash last rest n same bytes held =
-    leads_same a b (hash_behind hash x n) last rest same (subst (λ (z : List ℕ). LeadsTo b (hash_behind hash z n) last rest) (sym bytes) held)
+leads_alike a b x y hash last rest n same bytes held = grind (arith, leads_same, hash_behind)
 
 pub works_at : (tasks : List Task) (k : ℕ) (none : Task) → k < length tasks → get_or (works tasks) k 0 ≡ work (get_or tasks k none)
 works_at tasks k none h = get_or-map work tasks k none 0 h
 
 pub blocks_at : (blocks some : List ℕ) (at j : ℕ) → at + j ≤ length blocks → length some ≡ j → take j (drop at (put_mid at j blocks some)) ≡ some
-blocks_at blocks some at j room size =
-    ap (take j) (drop_at (take at blocks) (some ++ drop j (drop at blocks)) at (length-take-le at blocks (omega arith)))
-    ∙ take-append-le j some (drop j (drop at blocks)) (omega arith)
-    ∙ take_all j some (omega arith)
+blocks_at blocks some at j room size = grind (arith, drop_at, length-take-le, take-append-le, take_all)
 
 pub shrink_same : (at : Task → Task) (new old : Task) → ((d : Task) → at d ≡ old) → (d : Task) → work new ≤ work (at d) - 1 → work new ≤ work old - 1
 shrink_same at new old same d held = subst (λ (t : Task). work new ≤ work t - 1) (same d) held
@@ -102,21 +75,14 @@ pub eight_begin : (n : ℕ) (bytes : ℕ → List ℕ) (tasks : List Task) (none
     → Begins n bytes 0 (get_or tasks 0 none) → Begins n bytes 1 (get_or tasks 1 none) → Begins n bytes 2 (get_or tasks 2 none) → Begins n bytes 3 (get_or tasks 3 none)
     → Begins n bytes 4 (get_or tasks 4 none) → Begins n bytes 5 (get_or tasks 5 none) → Begins n bytes 6 (get_or tasks 6 none) → Begins n bytes 7 (get_or tasks 7 none)
     → (k : ℕ) → k < 8 → k < n → ((get_or tasks k none).hash ≡ None) × (bytes_left (get_or tasks k none).feed ≡ bytes k)
-eight_begin n bytes tasks none b0 b1 b2 b3 b4 b5 b6 b7 k low within =
-    let begins = each_lane (λ i. Begins n bytes i (get_or tasks i none)) b0 b1 b2 b3 b4 b5 b6 b7 k low in
-    (begins.0, begins.1 within)
+eight_begin n bytes tasks none b0 b1 b2 b3 b4 b5 b6 b7 k low within = grind (arith, each_lane)
 
 -- ---- the beginning of a task: q blocks of m are taken in, and the rest of m and x are left
 
 pub ready : (done : Option (List ℕ)) (m x taken kept bytes hash p : List ℕ) → done ≡ None → bytes ≡ taken ++ x
     → taken ≡ drop (length m / 64 * 64) m → hash ≡ hash_after m (length m / 64) → m ++ x ≡ p
     → LeadsWith done kept bytes hash (hash_after p (length p / 64)) (drop (length p / 64 * 64) p)
-ready (Some y) m x taken kept bytes hash p is bytes_is taken_is hash_is whole = (cc)
-ready None m x taken kept bytes hash p is bytes_is taken_is hash_is whole =
-    let behind : bytes ≡ drop (length m / 64 * 64) m ++ x = bytes_is ∙ ap (λ (t : List ℕ). t ++ x) taken_is in (
-      goes_on m x bytes hash hash_is behind ∙ ap (λ (b : List ℕ). hash_after b (length b / 64)) whole,
-      end_goes_on m x bytes behind ∙ ap (λ (b : List ℕ). drop (length b / 64 * 64) b) whole,
-    )
+ready done m x taken kept bytes hash p is bytes_is taken_is hash_is whole = grind (arith, goes_on, hash_after, end_goes_on)
 
 pub has_blocks_same : (at start : Task → Task) (n m : ℕ) → n ≡ m → ((d : Task) → at d ≡ start d) → (d : Task) → HasBlocks (start d) m → HasBlocks (at d) n
 has_blocks_same at start n m count same d held = subst (λ (k : ℕ). HasBlocks (at d) k) (sym count) (subst (λ (t : Task). HasBlocks t m) (sym (same d)) held)

@@ -1,5 +1,5 @@
 -- Texts and their digests.
-use Rattle.par2_digests.proofs.Common.{◌≡◌, ℕ, ◌+◌, List, [], ◌++◌, Bor, map, take, drop, ap, sym, ◌∙◌, map-append, md5, texts_of}
+use Rattle.par2_digests.proofs.Common.{◌≡◌, ℕ, ◌+◌, List, ◌++◌, Bor, map, take, drop, ap, sym, ◌∙◌, map-append, md5, texts_of}
 use Rattle.std.proofs.Math.Seq.{take-add}
 
 -- some texts more

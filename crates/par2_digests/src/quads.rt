@@ -121,13 +121,8 @@ pub(crate) fn four_words<const N: usize>(
             joined(low.d, high.d),
         )
     } else if N == 4 {
-        let words = words_of_four(bytes, starts, offset);
-        state_of(
-            with_lanes(words.a),
-            with_lanes(words.b),
-            with_lanes(words.c),
-            with_lanes(words.d),
-        )
+        let State { a, b, c, d } = words_of_four(bytes, starts, offset);
+        state_of(with_lanes(a), with_lanes(b), with_lanes(c), with_lanes(d))
     } else {
         state_of(
             gathered_words(bytes, starts, offset),

@@ -131,12 +131,8 @@ fn h_step<V: Lanes>(state: State<V>, words: &Words<V>, t: usize) -> State<V>
     requires to { t < 48 }
     ensures { GoesOn V.count V.at words.now t state (t + 1) result }
 {
-    stepped(
-        state,
-        V::h(state.b, state.c, state.d),
-        words[(3 * t + 5) % 16],
-        t,
-    )
+    let word = words[(3 * t + 5) % 16];
+    stepped(state, V::h(state.b, state.c, state.d), word, t)
 }
 
 #[inline(always)]

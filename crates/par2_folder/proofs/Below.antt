@@ -1,8 +1,6 @@
 -- The files of a folder before a name, which changes from the name on leave as they are, and what is hashed of them.
-use Rattle.par2_folder.proofs.Common.{◌≡◌, ℕ, zero, suc, ◌<◌, ◌≤◌, Bool, true, false, cond, List, [], ◌∷◌, ◌++◌, length, take, Option, Some, None, inl, inr, refl, sym, ap, subst, ◌∙◌, arith, is_lt, is_eq, eq_by_cmp, ord_min, Ordering, Less, Equal, Greater, tied_itself, nat_list_cmp_total, entries, same_map, entries-from_sorted, get-from_sorted, get-retain_keys, get-insert, get-remove, where_key, find-where_key, is_sorted-where_key, cases_lt, File, Folder, bytes_of, behind_length, Write, Replace, Rename, Remove, name_cmp, IsSortedByName, folder_of, file_at, IsAt, IsGapFor, IsKept, is_below, folder_below, fingerprint_input, IsFrom, IsFront, by_true, effect}
+use Rattle.par2_folder.proofs.Common.{◌≡◌, ℕ, zero, suc, ◌<◌, ◌≤◌, Bool, true, false, cond, List, ◌∷◌, ◌++◌, length, take, Option, Some, None, refl, sym, ap, ◌∙◌, arith, is_lt, is_eq, eq_by_cmp, ord_min, Ordering, Less, Equal, Greater, nat_list_cmp_total, entries, same_map, entries-from_sorted, get-from_sorted, get-retain_keys, get-insert, get-remove, where_key, find-where_key, is_sorted-where_key, cases_lt, File, Folder, behind_length, name_cmp, IsSortedByName, folder_of, file_at, IsAt, IsGapFor, IsKept, is_below, folder_below, fingerprint_input, IsFrom, IsFront, by_true, effect, Change, flat_map-append}
 use Rattle.std.specs.FinMap as map_of
-use Rattle.std.proofs.lemmas.Grind.{flat_map-append}
-use Rattle.par2_spec.specs.Changes.{Change}
 use Rattle.par2_folder.proofs.SortedFiles.{same_names, rises, turned, turned_back}
 
 -- ---- the files before a place
@@ -10,14 +8,13 @@ use Rattle.par2_folder.proofs.SortedFiles.{same_names, rises, turned, turned_bac
 -- a test that holds of the names before a place alone
 front_only : (p : List ℕ → Bool) (files : List File) (at : ℕ) → at ≤ length files → ((j : ℕ) → j < at → p (file_at files j).0 ≡ true)
     → ((j : ℕ) → at ≤ j → j < length files → p (file_at files j).0 ≡ false) → where_key name_cmp p files ≡ take at files
-front_only p [] zero le before after = refl
-front_only p [] (suc at) le before after = absurd (omega (arith, le))
 front_only p (f ∷ files) zero le before after =
     ap (λ t. cond t (f ∷ where_key name_cmp p files) (where_key name_cmp p files)) (after 0 (omega arith) (omega arith))
     ∙ front_only p files zero (omega arith) (λ j lt. absurd (omega arith)) (λ j ge lt. after (suc j) (omega arith) (omega arith))
 front_only p (f ∷ files) (suc at) le before after =
     ap (λ t. cond t (f ∷ where_key name_cmp p files) (where_key name_cmp p files)) (before 0 (omega arith))
     ∙ ap (λ l. f ∷ l) (front_only p files at (omega (arith, le)) (λ j lt. before (suc j) (omega arith)) (λ j ge lt. after (suc j) (omega arith) (omega arith)))
+front_only p files at le before after = grind (arith)
 
 -- a test counts for a name as for one that is equal to it
 alike : (p : List ℕ → Bool) (q x : List ℕ) → name_cmp q x ≡ Equal → p x ≡ p q
@@ -35,42 +32,20 @@ kept_where p files h =
 
 -- a search tells how many names come before the name
 pub front_gap : (files : List File) (name : List ℕ) (at : ℕ) → IsGapFor files name at → IsFront (is_below name) files at
-front_gap files name at gap = record {
-  within = gap.in_range;
-  before = λ j lt. ap is_lt (gap.smaller_before j lt);
-  behind = λ j le lt. ap is_lt (gap.greater_after j le lt);
-}
+front_gap files name at gap = grind (arith)
 
 pub front_at : (files : List File) → IsKept files → (name : List ℕ) (at : ℕ) → IsAt files name at → IsFront (is_below name) files at
-front_at files kept name at here = record { within = omega (arith, here.in_range); before = before; behind = behind }
-  where
-    before : (j : ℕ) → j < at → is_below name (file_at files j).0 ≡ true
-    before j lt = ap is_lt (subst (λ n. name_cmp (file_at files j).0 n ≡ Less) here.has_name (rises files kept.sorted j at ([], []) lt here.in_range))
-
-    behind : (j : ℕ) → at ≤ j → j < length files → is_below name (file_at files j).0 ≡ false
-    behind j le lt =
-        elim (cases_lt at j) [
-          | inl later ↦ ap is_lt (turned name (file_at files j).0 (subst (λ n. name_cmp n (file_at files j).0 ≡ Less) here.has_name (rises files kept.sorted at j ([], []) later lt)))
-          | inr ge ↦ let same : at ≡ j = omega arith in
-              subst (λ i. is_below name (file_at files i).0 ≡ false) same (ap is_lt (ap (λ n. name_cmp n name) here.has_name ∙ tied_itself nat_list_cmp_total name))
-        ]
+front_at files kept name at here = grind (arith, rises, cases_lt, turned)
 
 -- the files that pass a test are those before a place
 pub front_entries : (test : List ℕ → Bool) (files : List File) → IsKept files → (count : ℕ) → IsFront test files count
     → entries (map_of.retain_keys (folder_of files) test) ≡ take count files
-front_entries test files kept count front =
-    kept_where test files kept.sorted ∙ front_only test files count front.within front.before front.behind
+front_entries test files kept count front = grind (arith, kept_where, front_only)
 
 -- a test that more names pass has a longer front
 pub front_further : (test wider : List ℕ → Bool) (files : List File) (a b : ℕ) → IsFront test files a → IsFront wider files b
     → ((name : List ℕ) → test name ≡ true → wider name ≡ true) → a ≤ b
-front_further test wider files a b front longer further = elim (cases_lt b a) [
-  | inl less ↦
-      let within : b < length files = omega (arith, front.within) in
-      let passes = further (file_at files b).0 (front.before b less) in
-      let fails = longer.behind b (omega arith) within in cc
-  | inr ge ↦ ge
-]
+front_further test wider files a b front longer further = grind (arith, cases_lt)
 
 -- ---- what is hashed
 
@@ -91,16 +66,10 @@ not_before name a b h k = by_case (name_cmp b a) (name_cmp b name) refl refl h
     by_case Greater Less e f h = ap is_lt (sym (nat_list_cmp_total.trans a b name (turned_back b a e) f)) ∙ k
 
 not_after : (a b : List ℕ) (r : Ordering) → name_cmp b a ≡ r → is_lt r ≡ true → is_below b a ≡ false
-not_after a b Less e h = ap is_lt (turned b a e)
-not_after a b Equal e h = cc
-not_after a b Greater e h = cc
+not_after a b r e h = grind (arith, turned)
 
 both_from : (name a b : List ℕ) → is_below name (ord_min name_cmp a b) ≡ false → (is_below name a ≡ false) × (is_below name b ≡ false)
-both_from name a b = by_case (is_below a b) refl
-  where
-    by_case : (t : Bool) → is_below a b ≡ t → is_below name (cond t b a) ≡ false → (is_below name a ≡ false) × (is_below name b ≡ false)
-    by_case true e h = (not_before name b a (not_after a b _ refl e) h, h)
-    by_case false e h = (h, not_before name a b e h)
+both_from name a b = grind (arith, not_before, not_after)
 
 get_below : (name : List ℕ) (folder : Folder) (q : List ℕ) → map_of.get (folder_below name folder) q ≡ cond (is_below name q) (map_of.get folder q) None
 get_below name folder q = get-retain_keys folder (is_below name) q (alike (is_below name) q)
@@ -134,9 +103,4 @@ module _ (name n : List ℕ) (folder : Folder) (h : is_below name n ≡ false) w
 -- a change from the name on leaves what is before it
 pub effect_below : (name : List ℕ) (folder : Folder) (change : Change) → IsFrom name change → folder_below name (effect folder change) ≡ folder_below name folder
 unfolding effect
-effect_below name folder (Write n bytes) h = put_from name n folder h bytes
-effect_below name folder (Replace n bytes) h = put_from name n folder h bytes
-effect_below name folder (Rename a b) h =
-    let from = both_from name a b h in
-    put_from name b (map_of.remove folder a) from.1 (bytes_of folder a) ∙ gone_from name a folder from.0
-effect_below name folder (Remove n) h = gone_from name n folder h
+effect_below name folder change h = grind (arith, put_from, both_from, gone_from)

@@ -1,6 +1,6 @@
 -- Changes in order, one by one.
-use Rattle.par2_folder.proofs.Common.{◌≡◌, ℕ, suc, ◌+◌, ◌<◌, ◌≤◌, List, [], ◌∷◌, ◌++◌, length, map, take, drop, get_or, set, None, IsTrue, refl, sym, ap, subst, ◌∙◌, append_assoc, append-nil, add-one, drop-cons, arith, reverse, take-suc-set, reverse-append, map-append, drop-set-lt, take_all, drop_all, Folder, FolderState, change_refusal, effect, inverse, state_after, takes_all, takes_first, takes_rest, state_after_all, way_back}
-use Rattle.par2_spec.specs.Changes.{Change}
+use Rattle.par2_folder.proofs.Common.{◌≡◌, ℕ, suc, ◌+◌, ◌<◌, ◌≤◌, List, [], ◌∷◌, ◌++◌, length, map, take, drop, get_or, set, None, IsTrue, refl, sym, ap, subst, ◌∙◌, append_assoc, append-nil, add-one, drop-cons, arith, take-suc-set, reverse-append, map-append, drop-set-lt, take_all, drop_all, Folder, FolderState, change_refusal, effect, inverse, state_after, takes_all, state_after_all, way_back, Change, takes_first, takes_rest, common_steps}
+use Rattle.std.specs.Prelude.{reverse}
 use Rattle.par2_spec.proofs.ListsLaws.{map-reverse}
 
 after_first : (state : FolderState) (change : Change) (changes : List Change) → state_after_all state (change ∷ changes) ≡ state_after_all (state_after state change) changes
@@ -27,8 +27,7 @@ inverses_first folder change changes = refl
 inverses_reversed : (folder : Folder) (changes : List Change) → reverse (inverses folder changes) ≡ way_back folder changes
 unfolding inverses way_back
 inverses_reversed folder [] = refl
-inverses_reversed folder (change ∷ changes) =
-    reverse-append (inverse folder change ∷ []) (inverses (effect folder change) changes) ∙ ap (λ l. l ++ inverse folder change ∷ []) (inverses_reversed (effect folder change) changes)
+inverses_reversed folder (change ∷ changes) = grind (arith, common_steps, reverse-append, inverses, effect, inverses_reversed (effect folder change) changes)
 
 -- ---- a loop that applies changes in turn, seen through v: given is what it began with, and now what stands there at
 -- the place i
@@ -80,7 +79,4 @@ module _ {A : Type 0} (v : A → Change) where
   arrived start state given now i so_far over = sym (after_none state) ∙ ap (λ l. state_after_all state (map v l)) (sym (drop_all i given over)) ∙ so_far.after
 
   pub turned_round : (start state : FolderState) (given now : List A) (i : ℕ) → IsOnItsWay start state given now i → length given ≤ i → length now ≤ i → map v (reverse now) ≡ way_back start.files (map v given)
-  turned_round start state given now i so_far over over_now =
-      map-reverse v now
-      ∙ ap reverse (ap (map v) (sym (take_all i now over_now)) ∙ sym (append-nil (map v (take i now))) ∙ ap (λ l. map v (take i now) ++ l) (sym (inverses_none state.files) ∙ ap (λ l. inverses state.files (map v l)) (sym (drop_all i given over))) ∙ so_far.back)
-      ∙ inverses_reversed start.files (map v given)
+  turned_round start state given now i so_far over over_now = grind (arith, map-reverse, take_all, append-nil, inverses_none, inverses, drop_all, inverses_reversed)

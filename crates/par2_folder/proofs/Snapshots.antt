@@ -1,21 +1,17 @@
 -- A snapshot's files, through searches and edits.
-use Rattle.par2_folder.proofs.Common.{◌≡◌, ℕ, zero, suc, ◌<◌, false, List, [], ◌∷◌, length, map, get_or, set, Some, None, is_some, Result, Ok, Err, IfOk, IfErr, IsTrue, refl, sym, ap, subst, ◌∙◌, arith, unwrap_or, insert, remove, IsSearchInRange, IsBinarySearchResult, Ordering, length-map, get_or-map, map-set, File, Folder, has, bytes_of, name_cmp, folder_of, file_at, IsAt, IsGapFor, IsFile, IsKept, BorrowedFile, file_of}
+use Rattle.par2_folder.proofs.Common.{◌≡◌, ℕ, suc, ◌<◌, false, List, [], ◌∷◌, length, map, get_or, set, Some, None, is_some, Result, Ok, Err, IfOk, IfErr, IsTrue, sym, ap, subst, ◌∙◌, arith, insert, remove, IsSearchInRange, IsBinarySearchResult, Ordering, length-map, get_or-map, map-set, File, Folder, has, bytes_of, name_cmp, folder_of, file_at, IsAt, IsGapFor, IsFile, IsKept, BorrowedFile, file_of, common_steps}
 use Rattle.std.specs.FinMap as map_of
 use Rattle.par2_folder.proofs.SortedFiles.{Makes, searched_folder, inserted, exchanged, removed, bytes_at}
 
 -- ---- lists seen through a function
 
 map-insert : {A B : Type 0} (v : A → B) (xs : List A) (i : ℕ) (x : A) → map v (insert xs i x) ≡ insert (map v xs) i (v x)
-map-insert v [] zero x = refl
-map-insert v [] (suc i) x = refl
-map-insert v (y ∷ xs) zero x = refl
 map-insert v (y ∷ xs) (suc i) x = ap (λ l. v y ∷ l) (map-insert v xs i x)
+map-insert v xs i x = grind (arith, common_steps)
 
 map-remove : {A B : Type 0} (v : A → B) (xs : List A) (i : ℕ) → map v (remove xs i) ≡ remove (map v xs) i
-map-remove v [] zero = refl
-map-remove v [] (suc i) = refl
-map-remove v (y ∷ xs) zero = refl
 map-remove v (y ∷ xs) (suc i) = ap (λ l. v y ∷ l) (map-remove v xs i)
+map-remove v xs i = grind (arith, common_steps)
 
 -- an item whose view stands in the list of the views
 some_item : {A B : Type 0} (v : A → B) (xs : List A) (i : ℕ) (d : B) → i < length xs → (x : A) × (v (get_or xs i x) ≡ get_or (map v xs) i d)
@@ -61,15 +57,10 @@ module _ (items : List BorrowedFile) (kept : IsKept (map file_of items)) (name :
       (exchanged (map file_of items) kept name file.bytes.now at here is)
 
   pub taken_from : (at : ℕ) → IsAt (map file_of items) name at → Makes (map file_of (remove items at)) (map_of.remove (folder_of (map file_of items)) name)
-  taken_from at here =
-      subst (λ l. Makes l (map_of.remove (folder_of (map file_of items)) name)) (sym (map-remove file_of items at))
-      (removed (map file_of items) kept name at here)
+  taken_from at here = search (arith, map-remove, removed)
 
   pub bytes_taken : (at : ℕ) (file : BorrowedFile) → IsAt (map file_of items) name at → file ≡ get_or items at file → file.bytes.now ≡ bytes_of (folder_of (map file_of items)) name
-  bytes_taken at file here is =
-      let lt : at < length items = omega (arith, here.in_range, length-map items file_of) in
-      let read : file_of file ≡ file_at (map file_of items) at = ap file_of is ∙ sym (get_or-map file_of items at file ([], []) lt) in
-      ap (λ (f : File). f.1) read ∙ ap (λ o. unwrap_or o []) (sym (bytes_at (map file_of items) kept name at here))
+  bytes_taken at file here is = grind (arith, length-map, get_or-map, bytes_at)
 
 -- a name that a search doesn't find is none of a file
 pub not_absent : (folder : Folder) (name : List ℕ) → IsTrue (has folder name) → map_of.get folder name ≡ None → ⊥

@@ -1,6 +1,7 @@
 -- Files sorted by their names: what a search finds in them, and what an edit at a place does to the folder that
 -- they make.
-use Rattle.par2_folder.proofs.Common.{◌≡◌, ℕ, zero, suc, ◌+◌, ◌<◌, ◌≤◌, Bool, true, false, cond, not, List, [], ◌∷◌, ◌++◌, length, take, drop, get_or, set, is_some, Option, Some, None, Result, Ok, Err, IfOk, IfErr, IsTrue, T, refl, sym, ap, subst, ◌∙◌, arith, insert, remove, AllByRecursion, IsSearchInRange, IsBinarySearchResult, IsNonDecreasingBy, ordering_index, ordering_reverse, eq_by_cmp, is_lt, is_eq, Ordering, Less, Equal, Greater, tied_itself, alike_right, eq_by_cmp_equiv, and_parts, nat_list_cmp_total, entries, is_sorted, find, put, IsAntisymmetric, slice_cmp-IsAntisymmetric, nat_cmp-IsAntisymmetric, same_entries_map, same_map, entries_sorted, entries-from_sorted, get-from_sorted, entries-insert, get-remove, get-empty, where_key, find-where_key, is_sorted-where_key, length-map, get_or-map, length-take-le, get_or-take, take_all, drop_all, take_more, get_or_default, All-from_recursion, recursion_from_All, All-set, File, Folder, IsFolder, has, names, name_cmp, IsSortedByName, folder_of, file_at, IsAt, IsGapFor, IsFile, IsKept, by_true, is_true, cond-not}
+use Rattle.par2_folder.proofs.Common.{◌≡◌, ℕ, zero, suc, ◌+◌, ◌<◌, ◌≤◌, Bool, true, false, cond, not, List, [], ◌∷◌, ◌++◌, length, take, drop, get_or, set, is_some, Option, Some, None, Result, Ok, Err, IfOk, IfErr, IsTrue, T, refl, sym, ap, subst, ◌∙◌, arith, insert, remove, AllByRecursion, IsSearchInRange, IsBinarySearchResult, IsNonDecreasingBy, ordering_index, ordering_reverse, eq_by_cmp, is_lt, is_eq, Ordering, Less, Equal, Greater, and_parts, nat_list_cmp_total, entries, is_sorted, find, put, IsAntisymmetric, slice_cmp-IsAntisymmetric, nat_cmp-IsAntisymmetric, same_entries_map, same_map, entries_sorted, entries-from_sorted, get-from_sorted, entries-insert, get-remove, get-empty, where_key, find-where_key, is_sorted-where_key, length-map, get_or-map, length-take-le, get_or-take, take_all, drop_all, take_more, get_or_default, All-from_recursion, recursion_from_All, All-set, File, Folder, IsFolder, has, names, name_cmp, IsSortedByName, folder_of, file_at, IsAt, IsGapFor, IsFile, IsKept, by_true, is_true, cond-not, common_steps}
+use Rattle.std.specs.Cmp.{tied_itself, alike_right, eq_by_cmp_equiv}
 use Rattle.std.specs.FinMap as map_of
 use Rattle.std.proofs.lemmas.List.Sorted.{searchable_from_sorted}
 
@@ -8,9 +9,7 @@ pub same_names : IsAntisymmetric name_cmp
 same_names = slice_cmp-IsAntisymmetric nat_cmp-IsAntisymmetric
 
 pub less : (o : Ordering) → IsTrue (is_lt o) → o ≡ Less
-less Less h = refl
-less Equal h = cc
-less Greater h = cc
+less o h = grind (arith)
 
 tail_at : (e : File) (files : List File) (name : List ℕ) (i : ℕ) → IsAt (e ∷ files) name (suc i) → IsAt files name i
 tail_at e files name i here = record { in_range = omega (arith, here.in_range); has_name = here.has_name }
@@ -24,15 +23,12 @@ tail_gap e files name i gap = record {
 
 -- a file of a sorted list comes before each that follows it
 below : (name : List ℕ) (files : List File) (i : ℕ) (d : File) → IsTrue (map_of.Entries.below_all name_cmp name files) → i < length files → name_cmp name (get_or files i d).0 ≡ Less
-below name [] i d h lt = absurd (omega arith)
-below name (e ∷ files) zero d h lt = less _ (and_parts _ _ h).0
 below name (e ∷ files) (suc i) d h lt = below name files i d (and_parts _ _ h).1 (omega arith)
+below name files i d h lt = grind (arith, less, and_parts)
 
 pub rises : (files : List File) → IsSortedByName files → (i j : ℕ) (d : File) → i < j → j < length files → name_cmp (get_or files i d).0 (get_or files j d).0 ≡ Less
-rises [] h i j d lt in_range = absurd (omega arith)
-rises (e ∷ files) h i zero d lt in_range = absurd (omega arith)
-rises (e ∷ files) h zero (suc j) d lt in_range = below e.0 files j d (and_parts _ _ h).0 (omega arith)
 rises (e ∷ files) h (suc i) (suc j) d lt in_range = rises files (and_parts _ _ h).1 i j d (omega arith) (omega arith)
+rises files h i j d lt in_range = grind (arith, below, and_parts)
 
 -- a name that comes earlier comes before
 pub turned : (a b : List ℕ) → name_cmp a b ≡ Less → name_cmp b a ≡ Greater
@@ -58,9 +54,7 @@ find_at (e ∷ files) h name (suc at) here =
     ap (λ o. cond (is_eq o) (Some e.1) (find name_cmp name files)) (turned e.0 name before) ∙ find_at files (and_parts _ _ h).1 name at inside
 
 apart : (a b : List ℕ) (at : ℕ) (o : Ordering) → name_cmp a b ≡ o → is_eq o ≡ false → is_eq (name_cmp b a) ≡ false
-apart a b at Less e h = ap is_eq (turned a b e)
-apart a b at Equal e h = cc
-apart a b at Greater e h = ap is_eq (turned_back a b e)
+apart a b at o e h = grind (arith, turned, turned_back)
 
 pub find_in_gap : (files : List File) (name : List ℕ) (at : ℕ) → IsGapFor files name at → find name_cmp name files ≡ None
 find_in_gap [] name at gap = refl
@@ -115,16 +109,12 @@ others_at (e ∷ files) h name (suc at) here =
 -- ---- each file is a file
 
 each_insert : (files : List File) (at : ℕ) (file : File) → AllByRecursion IsFile files → IsFile file → AllByRecursion IsFile (insert files at file)
-each_insert [] zero file each is = (is, tt)
-each_insert [] (suc at) file each is = (is, tt)
-each_insert (e ∷ files) zero file each is = (is, each)
 each_insert (e ∷ files) (suc at) file each is = (each.0, each_insert files at file each.1 is)
+each_insert files at file each is = grind (arith, common_steps)
 
 each_remove : (files : List File) (at : ℕ) → AllByRecursion IsFile files → AllByRecursion IsFile (remove files at)
-each_remove [] zero each = tt
-each_remove [] (suc at) each = tt
-each_remove (e ∷ files) zero each = each.1
 each_remove (e ∷ files) (suc at) each = (each.0, each_remove files at each.1)
+each_remove files at each = grind (arith, common_steps)
 
 -- ---- the same of the folder
 
@@ -178,9 +168,7 @@ removed files h name at here =
 -- a binary search ends at the file of the name, or where it would go, and tells what the folder has there
 pub searched_folder : (files : List File) → IsKept files → (name : List ℕ) (r : Result ℕ ℕ) → IsSearchInRange r (length files) → IsBinarySearchResult (λ file. name_cmp file.0 name) files r
     → record { found : IfOk r (IsAt files name); absent : IfErr r (IsGapFor files name); there : IfOk r (λ at. map_of.get (folder_of files) name ≡ Some (file_at files at).1); not_there : IfErr r (λ _. map_of.get (folder_of files) name ≡ None) }
-searched_folder files h name (Ok at) in_range equal =
-    let here : IsAt files name at = record { in_range = in_range; has_name = same_names _ _ (equal ([], [])) } in
-    record { found = here; absent = tt; there = bytes_at files h name at here; not_there = tt }
+searched_folder files h name (Ok at) in_range equal = grind (arith, same_names, bytes_at)
 searched_folder files h name (Err at) in_range parted =
     let places = parted (comparisons_rise files h.sorted name) in
     let gap : IsGapFor files name at = record { in_range = in_range; smaller_before = λ j lt. places.0 j ([], []) (omega arith) lt; greater_after = λ j le lt. places.1 j ([], []) le lt } in
@@ -207,10 +195,7 @@ pub record IsNext (whole folder : Folder) (i : ℕ) (name bytes : List ℕ) : Ty
   pub files : entries (map_of.insert folder name bytes) ≡ take (i + 1) (entries whole)
 
 listed_at : (whole : Folder) (i : ℕ) (name d : List ℕ) → i < length (names whole) → name ≡ get_or (names whole) i d → IsAt (entries whole) name i
-listed_at whole i name d lt is =
-    let all = entries whole in
-    let in_range : i < length all = omega (arith, length-map all (λ (file : File). file.0)) in
-    record { in_range = in_range; has_name = sym (is ∙ get_or_default (names whole) i d [] lt ∙ get_or-map (λ (file : File). file.0) all i ([], []) [] in_range) }
+listed_at whole i name d lt is = grind (arith, entries, length-map, get_or_default, get_or-map)
 
 listed_is_there : (whole : Folder) (i : ℕ) (name d : List ℕ) → i < length (names whole) → name ≡ get_or (names whole) i d → IsTrue (has whole name)
 listed_is_there whole i name d lt is =
@@ -219,9 +204,7 @@ listed_is_there whole i name d lt is =
 
 -- a name that was listed is that of a file, as long as the folder stays
 pub still_there : (whole folder : Folder) (list : List (List ℕ)) (i : ℕ) (name : List ℕ) → folder ≡ whole → list ≡ names whole → i < length list → name ≡ get_or list i name → IsTrue (has folder name)
-still_there whole folder list i name same listed lt is =
-    subst (λ (f : Folder). IsTrue (has f name)) (sym same)
-    (listed_is_there whole i name name (subst (λ l. i < length l) listed lt) (is ∙ ap (λ l. get_or l i name) listed))
+still_there whole folder list i name same listed lt is = grind (arith, listed_is_there)
 
 pub next_file : (whole folder : Folder) (i : ℕ) (name bytes d : List ℕ) → entries folder ≡ take i (entries whole) → i < length (names whole) → name ≡ get_or (names whole) i d → map_of.get whole name ≡ Some bytes → IsNext whole folder i name bytes
 next_file whole folder i name bytes d so_far lt is found =

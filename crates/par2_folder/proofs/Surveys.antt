@@ -1,5 +1,5 @@
 -- A survey on its way.
-use Rattle.par2_folder.proofs.Common.{◌≡◌, ◌⊎◌, inl, inr, false, arith, ℕ, ◌-◌, ◌<◌, ◌≤◌, List, [], ◌∷◌, ◌++◌, length, take, drop, get_or, sym, ap, subst, ◌∙◌, entries, false≢true, All-push, HasAbsorbed, message_of, Reaches, Midstate, Pending, Folder, fingerprint_input, folder_below, comes_before, AreLandmarksOf, IsLandmarkOf, Border, Beginning}
+use Rattle.par2_folder.proofs.Common.{◌≡◌, ◌⊎◌, false, arith, ℕ, ◌-◌, ◌<◌, ◌≤◌, List, [], ◌∷◌, ◌++◌, length, take, drop, get_or, sym, ap, subst, ◌∙◌, entries, false≢true, All-push, HasAbsorbed, message_of, Reaches, Midstate, Pending, Folder, fingerprint_input, folder_below, comes_before, AreLandmarksOf, IsLandmarkOf, Border, Beginning, common_steps}
 use Rattle.par2_folder.specs.declared.landmarks.Landmark.{Landmark}
 use Rattle.par2_folder.specs.declared.landmarks.Landmarks.{Landmarks}
 use Rattle.par2_folder.proofs.Borders.{taken_on}
@@ -26,10 +26,8 @@ is_mark name copy folder state copied held = subst (λ n. HasAbsorbed state (fin
 
 -- where one was added, there is one
 pub some_pushed : (old : List Landmark) (mark : Landmark) → 0 < length (old ++ mark ∷ [])
-some_pushed [] mark = omega arith
-some_pushed (m ∷ old) mark = omega arith
+some_pushed old mark = grind (arith, common_steps)
 
 -- where a name isn't further, the border isn't the first one
 pub one_before : (border : Border) (name : List ℕ) (n : ℕ) → comes_before border name ≡ false → (border ≡ Beginning) ⊎ (0 < n) → 0 < n
-one_before border name n behind (inl first) = absurd (false≢true (sym behind ∙ ap (λ b. comes_before b name) first))
-one_before border name n behind (inr some) = some
+one_before border name n behind either = grind (arith, false≢true, behind)

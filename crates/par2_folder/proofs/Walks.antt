@@ -1,5 +1,6 @@
 -- States of runs of folders, on their way from a border to the next along changes.
-use Rattle.par2_folder.proofs.Common.{◌≡◌, ℕ, zero, suc, ◌+◌, ◌<◌, ◌≤◌, Bool, true, false, cond, IsTrue, List, [], ◌∷◌, ◌++◌, Bor, length, map, take, drop, get_or, refl, sym, ap, subst, ◌∙◌, append_assoc, append-nil, add-one, drop-cons, arith, drop_all, map-append, take_more, and_parts, md5, HasAbsorbed, texts_of, Midstate, Folder, effect, is_applicable, IsKept, change_of, new_run, run_texts, text_before, touches, AreBehind, AreTo, HaveAbsorbed, files_in, folder_in, Border, Beginning, End, Change, fingerprint, are_applicable, folders_after, later_texts}
+use Rattle.par2_folder.proofs.Common.{◌≡◌, ℕ, suc, ◌+◌, ◌<◌, ◌≤◌, Bool, cond, IsTrue, List, [], ◌∷◌, ◌++◌, Bor, length, map, take, drop, get_or, refl, sym, ap, subst, ◌∙◌, append_assoc, append-nil, add-one, drop-cons, arith, drop_all, map-append, take_more, and_parts, md5, HasAbsorbed, texts_of, Midstate, Folder, fingerprint, effect, is_applicable, are_applicable, folders_after, IsKept, change_of, new_run, run_texts, text_before, touches, later_texts, AreBehind, AreTo, HaveAbsorbed, files_in, folder_in, Border, Beginning, End, common_steps}
+use Rattle.par2_folder.specs.declared.change.Change.{Change}
 use Rattle.par2_spec.specs.Changes as defined
 use Rattle.par2_folder.specs.declared.walk.Runs.{Runs}
 use Rattle.par2_folder.specs.declared.snapshot.Snapshot.{Snapshot}
@@ -8,51 +9,35 @@ use Rattle.par2_folder.proofs.Borders.{no_text, text_on, whole_text}
 -- ---- states and texts one by one
 
 pub as_many : (states : List Midstate) (texts : List (List ℕ)) → HaveAbsorbed states texts → length texts ≡ length states
-as_many [] [] held = refl
-as_many [] (t ∷ texts) held = absurd held
-as_many (s ∷ states) [] held = absurd held
 as_many (s ∷ states) (t ∷ texts) held = ap suc (as_many states texts held.1)
+as_many states texts held = grind (arith)
 
 pub absorbed_at : (states : List Midstate) (texts : List (List ℕ)) (i : ℕ) (d : Midstate) → HaveAbsorbed states texts → i < length states → HasAbsorbed (get_or states i d) (get_or texts i [])
-absorbed_at [] texts i d held lt = absurd (omega arith)
-absorbed_at (s ∷ states) [] i d held lt = absurd held
-absorbed_at (s ∷ states) (t ∷ texts) zero d held lt = held.0
 absorbed_at (s ∷ states) (t ∷ texts) (suc i) d held lt = absorbed_at states texts i d held.1 (omega (arith, lt))
+absorbed_at states texts i d held lt = grind (arith)
 
 -- one text more behind others
 pub text_more : (before : List (List ℕ)) (texts : List (Bor (List ℕ))) (i : ℕ) (none : Bor (List ℕ)) → i < length texts
     → (before ++ texts_of (take i texts)) ++ (get_or texts i none).now ∷ [] ≡ before ++ texts_of (take (i + 1) texts)
-text_more before texts i none low =
-    append_assoc before (texts_of (take i texts)) ((get_or texts i none).now ∷ [])
-    ∙ ap (λ (some : List (List ℕ)). before ++ some) (sym (ap texts_of (take_more texts i none low) ∙ map-append (λ (t : Bor (List ℕ)). t.now) (take i texts) (get_or texts i none ∷ [])))
+text_more before texts i none low = grind (arith, common_steps, append_assoc, take_more, map-append)
 
 -- the state at a place where a text is to come
 pub in_range : (states : List Midstate) (place : ℕ) (text : List ℕ) (texts : List (List ℕ)) → HaveAbsorbed (drop place states) (text ∷ texts) → place < length states
-in_range [] zero text texts held = absurd held
-in_range [] (suc place) text texts held = absurd held
-in_range (s ∷ states) zero text texts held = omega arith
 in_range (s ∷ states) (suc place) text texts held = let low = in_range states place text texts held in omega arith
+in_range states place text texts held = grind (arith, common_steps)
 
 pub absorbed_here : (states : List Midstate) (place : ℕ) (d : Midstate) (text : List ℕ) (texts : List (List ℕ)) → HaveAbsorbed (drop place states) (text ∷ texts) → HasAbsorbed (get_or states place d) text
-absorbed_here [] zero d text texts held = absurd held
-absorbed_here [] (suc place) d text texts held = absurd held
-absorbed_here (s ∷ states) zero d text texts held = held.0
 absorbed_here (s ∷ states) (suc place) d text texts held = absorbed_here states place d text texts held
+absorbed_here states place d text texts held = grind (arith, common_steps)
 
 pub absorbed_behind : (states : List Midstate) (place : ℕ) (text : List ℕ) (texts : List (List ℕ)) → HaveAbsorbed (drop place states) (text ∷ texts) → HaveAbsorbed (drop (suc place) states) texts
-absorbed_behind [] zero text texts held = absurd held
-absorbed_behind [] (suc place) text texts held = absurd held
-absorbed_behind (s ∷ []) zero text texts held = held.1
-absorbed_behind (s ∷ t ∷ states) zero text texts held = held.1
 absorbed_behind (s ∷ states) (suc place) text texts held = absorbed_behind states place text texts held
+absorbed_behind states place text texts held = grind (arith, common_steps)
 
 -- one more digest
 pub digested_more : (digests new : List (List ℕ)) (digest : List ℕ) (texts : List (List ℕ)) (i : ℕ) → i < length texts → new ≡ digests ++ digest ∷ []
     → digests ≡ map md5 (take i texts) → digest ≡ md5 (get_or texts i []) → new ≡ map md5 (take (i + 1) texts)
-digested_more digests new digest texts i lt pushed so_far is =
-    pushed
-    ∙ (λ k. so_far k ++ is k ∷ [])
-    ∙ sym (ap (map md5) (take_more texts i [] lt) ∙ map-append md5 (take i texts) (get_or texts i [] ∷ []))
+digested_more digests new digest texts i lt pushed so_far is = grind (arith, common_steps, take_more, map-append)
 
 -- ---- a change
 
@@ -77,16 +62,7 @@ later_none border folder = refl
 next_parents : (from : Border) (folder : Folder) (change : defined.Change) (rest : List defined.Change) (states : List Midstate) (place : ℕ)
     → HaveAbsorbed (drop place states) (run_texts from folder (change ∷ rest))
     → HaveAbsorbed (drop (cond (touches from change) (place + 1) place) states) (run_texts from (effect folder change) rest)
-next_parents from folder change rest states place held = by_case (touches from change) refl (subst (λ l. HaveAbsorbed (drop place states) (text_before from folder ∷ l)) (later_first from folder change rest) held)
-  where
-    next : Folder
-    next = effect folder change
-
-    by_case : (t : Bool) → touches from change ≡ t
-        → HaveAbsorbed (drop place states) (text_before from folder ∷ cond t (text_before from (effect folder change) ∷ []) [] ++ later_texts from (effect folder change) rest)
-        → HaveAbsorbed (drop (cond t (place + 1) place) states) (run_texts from (effect folder change) rest)
-    by_case true is h = rw add-one (absorbed_behind states place (text_before from folder) _ h)
-    by_case false is h = subst (λ text. HaveAbsorbed (drop place states) (text ∷ later_texts from (effect folder change) rest)) (sym (text_on from folder change is)) h
+next_parents from folder change rest states place held = grind (arith, later_first, rest, effect, later_texts, add-one, absorbed_behind, text_on)
 
 -- ---- a walk from a border to another
 
@@ -113,38 +89,17 @@ module _ {from to : Border} {states : List Midstate} {folder : Folder} {changes 
 
     module _ {there : ℕ} (place_is : there ≡ cond (touches from (change_of change)) (place + 1) place) where
       pub parents_then : HaveAbsorbed (drop there states) (run_texts from (effect (folder_in snapshot) (change_of change)) (map change_of (drop (suc i) changes)))
-      parents_then =
-          subst (λ n. HaveAbsorbed (drop n states) (run_texts from (effect (folder_in snapshot) (change_of change)) (map change_of (drop (suc i) changes)))) (sym place_is)
-          (next_parents from (folder_in snapshot) (change_of change) (map change_of (drop (suc i) changes)) states place
-          (subst (λ l. HaveAbsorbed (drop place states) (run_texts from (folder_in snapshot) (map change_of l))) split within.parents))
+      parents_then = grind (arith, effect, next_parents, split)
 
       pub goes_on : (next : Snapshot) → folder_in next ≡ effect (folder_in snapshot) (change_of change) → IsKept (files_in next) → (more : Runs) → length more.pendings.items ≤ 8
           → (begins : Bool) → touches to (change_of change) ≡ begins → AreTo more (within.done ++ cond begins (text_before to (folder_in next) ∷ []) [])
           → IsWithin from to states folder changes next more there (drop (i + 1) changes)
-      goes_on next after kept more few begins is_begun reached =
-          let rest = map change_of (drop (suc i) changes) in
-          rw add-one (record {
-            kept = kept;
-            few = few;
-            applicable = subst (λ f. IsTrue (are_applicable f rest)) (sym after)
-                (rest_applicable _ _ _ (subst (λ l. IsTrue (are_applicable (folder_in snapshot) (map change_of l))) split within.applicable));
-            parents = subst (λ f. HaveAbsorbed (drop there states) (run_texts from f rest)) (sym after) parents_then;
-            done = within.done ++ new_run to (folder_in next) (change_of change);
-            reached = subst (λ t. AreTo more (within.done ++ cond t (text_before to (folder_in next) ∷ []) [])) (sym is_begun) reached;
-            whole = append_assoc within.done (new_run to (folder_in next) (change_of change)) (later_texts to (folder_in next) rest)
-                ∙ ap (λ f. within.done ++ (new_run to f (change_of change) ++ later_texts to f rest)) after
-                ∙ ap (λ l. within.done ++ l) (sym (later_first to (folder_in snapshot) (change_of change) rest))
-                ∙ ap (λ l. within.done ++ later_texts to (folder_in snapshot) (map change_of l)) (sym split)
-                ∙ within.whole;
-          })
+      goes_on next after kept more few begins is_begun reached = grind (arith, common_steps, rest, add-one, are_applicable, rest_applicable, split, parents_then, append_assoc, later_texts, later_first)
 
   -- at the end
   pub arrived : {snapshot : Snapshot} {runs : Runs} {place i : ℕ} → IsWithin from to states folder changes snapshot runs place (drop i changes) → length changes ≤ i
       → AreTo runs (run_texts to folder (map change_of changes))
-  arrived {snapshot = snapshot} {runs = runs} {i = i} within over =
-      let none : later_texts to (folder_in snapshot) (map change_of (drop i changes)) ≡ [] =
-      ap (λ l. later_texts to (folder_in snapshot) (map change_of l)) (drop_all i changes over) ∙ later_none to (folder_in snapshot) in
-      subst (AreTo runs) (sym (append-nil within.done) ∙ ap (λ l. within.done ++ l) (sym none) ∙ within.whole) within.reached
+  arrived {snapshot = snapshot} {runs = runs} {i = i} within over = grind (arith, later_texts, drop_all, later_none, append-nil)
 
 -- ---- where a walk sets out
 
@@ -159,8 +114,7 @@ none_later border folder (change ∷ changes) behind =
 -- one state, at a border that no change lies before
 pub sets_out : (border : Border) (folder : Folder) (changes : List Change) (state : Midstate) → AreBehind border changes → HasAbsorbed state (text_before border folder)
     → HaveAbsorbed (state ∷ []) (run_texts border folder (map change_of changes))
-sets_out border folder changes state behind held =
-    subst (λ l. HaveAbsorbed (state ∷ []) (text_before border folder ∷ l)) (sym (none_later border folder changes behind)) (held, tt)
+sets_out border folder changes state behind held = grind (arith, none_later)
 
 -- before all names the state has absorbed nothing
 pub sets_out_first : (folder : Folder) (changes : List Change) (state : Midstate) → HasAbsorbed state [] → HaveAbsorbed (state ∷ []) (run_texts Beginning folder (map change_of changes))

@@ -1,11 +1,9 @@
 pub mod Sorting
 pub mod Views
-pub mod Memory
 pub mod Cuts
 pub mod Stores
 pub mod Directories
 pub mod Disk
-pub mod Fuse
 pub mod Filling
 pub mod Below
 pub mod Lending

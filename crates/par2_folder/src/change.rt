@@ -3,7 +3,8 @@ ghost use Rattle.std.specs.Prelude.{◌≡◌, map, IfOk};
 ghost use Rattle.par2_folder.specs.Views.{change_of};
 
 use crate::{Folder, Name};
-use std::alloc::{AllocError, Global};
+use par2_spec::Result;
+use std::alloc::Global;
 use std::cmp::min;
 use std::marker::Model;
 
@@ -43,7 +44,7 @@ impl Bytes {
     }
 
     /// A copy of the bytes.
-    pub fn copy_of(alloc: Global, items: &[u8]) -> Result<Self, AllocError>
+    pub fn copy_of(alloc: Global, items: &[u8]) -> Result<Self>
         ensures { IfOk result (λ bytes. bytes ≡ items.now) }
     {
         Ok(Bytes {
@@ -70,7 +71,7 @@ impl Change {
     ghost use Rattle.par2_folder.specs.Views.{change_of};
     ghost use Rattle.par2_folder.specs.Below.{first_name};
 
-    pub(crate) fn copy_of(alloc: Global, change: &Change) -> Result<Change, AllocError>
+    pub(crate) fn copy_of(alloc: Global, change: &Change) -> Result<Change>
         ensures { IfOk result (λ copy. change_of copy ≡ change_of change.now) }
     {
         match change {
@@ -137,7 +138,7 @@ impl Changes {
     }
 
     /// One more change, after the others.
-    pub fn push(&mut self, change: Change) -> Result<(), AllocError>
+    pub fn push(&mut self, change: Change) -> Result<()>
         ensures ok { OnOk result (self.new ≡ self.old ++ change_of change ∷ []) }
         ensures err { OnErr result (self.new ≡ self.old) }
     {
@@ -184,7 +185,7 @@ impl Changes {
 }
 
 /// Copies of the changes, in order.
-pub fn copies_of(alloc: Global, changes: &[Change]) -> Result<Vec<Change>, AllocError>
+pub fn copies_of(alloc: Global, changes: &[Change]) -> Result<Vec<Change>>
     ensures { IfOk result (λ copies. map change_of copies.items ≡ map change_of changes.now) }
 {
     let mut copies = Vec::new(alloc);

@@ -43,10 +43,8 @@ fn has_no_links(error: &Error) -> bool
     ensures { IsTrue result → (error_kind error.now ≡ ErrorKind.PermissionDenied)
         ⊎ (error_kind error.now ≡ ErrorKind.Unsupported) }
 {
-    matches!(
-        error.kind(),
-        ErrorKind::PermissionDenied | ErrorKind::Unsupported
-    )
+    let kind = error.kind();
+    matches!(kind, ErrorKind::PermissionDenied | ErrorKind::Unsupported)
 }
 
 impl<'r, R: Files + AllocGlobal> CurrentDirectory<'r, R> {

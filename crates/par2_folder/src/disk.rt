@@ -86,10 +86,8 @@ impl<D: Directory> DiskStore<D> {
     fn is_free(&self, place: Place<'_>) -> bool
         ensures { TellsFree D.Disk (directory_of self.now) place.entry result }
     {
-        matches!(
-            self.directory.find(place),
-            Ok(Found::Nothing | Found::File(_))
-        )
+        let found = self.directory.find(place);
+        matches!(found, Ok(Found::Nothing | Found::File(_)))
     }
 
     // Writes the temporary file, and waits until its bytes are kept.

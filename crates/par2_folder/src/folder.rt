@@ -7,8 +7,8 @@ use crate::landmarks::Landmarks;
 use crate::snapshot::{Snapshot, borrowed};
 use crate::walk::fingerprints;
 use crate::{Bytes, Change, Name};
-use par2_spec::ChangeFault;
-use std::alloc::{AllocError, Global};
+use par2_spec::{ChangeFault, Result};
+use std::alloc::Global;
 use std::marker::Model;
 use std::mem;
 
@@ -74,7 +74,7 @@ impl Folder {
     }
 
     /// Makes places for at least `n` more files.
-    pub fn reserve(&mut self, n: usize) -> Result<(), AllocError>
+    pub fn reserve(&mut self, n: usize) -> Result<()>
         ensures files { self.new.files ≡ self.old.files }
         ensures ok { OnOk result (self.new.vacant ≡ max self.old.vacant n) }
         ensures err { OnErr result (self.new ≡ self.old) }
@@ -102,19 +102,16 @@ impl Folder {
     }
 
     /// The names of the files, in order.
-    pub fn names(&self) -> Result<Vec<Name>, AllocError>
+    pub fn names(&self) -> Result<Vec<Name>>
         ensures { IfOk result (λ list. list.items ≡ names self.now.files) }
     {
-        let mut names = Vec::with_capacity(*self.files.allocator(), self.files.len())?;
-        for file in &self.files {
-            names.push(file.0.copied())?;
-        }
-        Ok(names)
+        let names = self.files.iter().map(|file| file.0.copied());
+        names.collect(*self.files.allocator())
     }
 
     /// What tells folders apart: the MD5 of names and bytes, in the order of the names, each after its length as
     /// eight bytes.
-    pub fn fingerprint(&self) -> Result<[u8; 16], AllocError>
+    pub fn fingerprint(&self) -> Result<[u8; 16]>
         ensures { IfOk result (λ digest. digest ≡ fingerprint self.now.files) }
     {
         let alloc = *self.files.allocator();
@@ -122,14 +119,12 @@ impl Folder {
     }
 
     // The files where they lie.
-    pub(crate) fn snapshot(&self) -> Result<Snapshot<'_>, AllocError>
+    pub(crate) fn snapshot(&self) -> Result<Snapshot<'_>>
         ensures kept { IfOk result (λ snapshot. IsKept (files_in snapshot)) }
         ensures folder { IfOk result (λ snapshot. folder_in snapshot ≡ self.now.files) }
     {
-        let mut files = Vec::with_capacity(*self.files.allocator(), self.files.len())?;
-        for file in &self.files {
-            files.push(borrowed(file))?;
-        }
+        let files = self.files.iter().map(|file| borrowed(file));
+        let files = files.collect(*self.files.allocator())?;
         Ok(Snapshot { files })
     }
 

@@ -18,7 +18,8 @@ use crate::snapshot::{Border, Snapshot, is_further, run_between, touches};
 use crate::walk::{Runs, digests_of, run_of_text, states_with};
 use crate::{Change, Folder, Name};
 use par2_digests::{Midstate, Part, absorb_each};
-use std::alloc::{AllocError, Global};
+use par2_spec::Result;
+use std::alloc::Global;
 
 /// The state after the files before a name.
 #[derive(Debug, Drop)]
@@ -53,7 +54,7 @@ impl Landmarks {
     }
 
     /// Adds a landmark at a name, after the others.
-    pub(crate) fn mark(&mut self, name: &Name, state: Midstate) -> Result<(), AllocError>
+    pub(crate) fn mark(&mut self, name: &Name, state: Midstate) -> Result<()>
         ensures landmarks { (folder : defined.Folder) → AreLandmarksOf folder self.old
             → HasAbsorbed state (text_before (At name.entry) folder)
             → OnOk result (AreLandmarksOf folder self.new) }
@@ -120,7 +121,7 @@ struct Progress {
 }
 
 // The names where landmarks stand: of the folder's names, in order, the first and others as far apart as they are.
-fn landmark_names(alloc: Global, snapshot: &Snapshot) -> Result<Vec<Name>, AllocError>
+fn landmark_names(alloc: Global, snapshot: &Snapshot) -> Result<Vec<Name>>
     ensures { 0 < length (files_in snapshot.now) → IfOk result (λ names. 0 < length names.items) }
 {
     let step = snapshot.files.len().div_ceil(MOST_LANDMARKS).max(1);
@@ -144,16 +145,15 @@ fn go_on<'a>(
     progress: Progress,
     from: Border<'_>,
     to: Border<'_>,
-) -> Result<Progress, AllocError>
+) -> Result<Progress>
     requires kept { IsKept (files_in snapshot.now) }
     requires further { IsFurther from to }
     requires here { IsAt from (folder_in snapshot.now) text.now progress }
     ensures there { IfOk result (IsAt to.entry (folder_in snapshot.now) text.now) }
 {
     let files = run_between(alloc, progress.folder, snapshot, from, to)?;
-    let end = text
-        .len()
-        .min(progress.taken.saturating_add(bytes_lent(&files.parts)));
+    let reached = progress.taken.saturating_add(bytes_lent(&files.parts));
+    let end = text.len().min(reached);
     let bytes = run_of_text(alloc, progress.text, &text[progress.taken..end])?;
     let states = absorb_each(&[files, bytes]);
     Ok(Progress {
@@ -164,11 +164,7 @@ fn go_on<'a>(
 }
 
 /// The folder's fingerprint and the digest of a text, which are computed side by side, and landmarks of the folder.
-pub fn survey_folder<'a>(
-    alloc: Global,
-    folder: &'a Folder,
-    text: &'a [u8],
-) -> Result<Survey, AllocError>
+pub fn survey_folder<'a>(alloc: Global, folder: &'a Folder, text: &'a [u8]) -> Result<Survey>
     ensures fingerprint { IfOk result (λ found. found.fingerprint ≡ fingerprint folder.now.files) }
     ensures digest { IfOk result (λ found. found.digest ≡ md5 text.now) }
     ensures landmarks { IfOk result (λ found. AreLandmarksOf folder.now.files found.landmarks) }
@@ -216,7 +212,7 @@ pub fn mark_folder(
     from: &Landmarks,
     name: &Name,
     beside: &[&[u8]],
-) -> Result<Marked, AllocError>
+) -> Result<Marked>
     requires { AreLandmarksOf folder.now.files from.now }
     ensures landmarks { IfOk result (λ marked. AreLandmarksOf folder.now.files marked.landmarks) }
     ensures some { IfOk result (λ marked. HasLandmark folder.now.files marked.landmarks) }

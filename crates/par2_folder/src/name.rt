@@ -84,10 +84,8 @@ impl Name {
         if !is_name(text) {
             return Err(BadName);
         }
-        match ArrayString::from(text) {
-            Ok(text) => Ok(Name { text }),
-            Err(_) => Err(BadName),
-        }
+        let text = ArrayString::from(text).map_err(|_| BadName)?;
+        Ok(Name { text })
     }
 
     /// The name with these bytes, where they are a name.

@@ -14,7 +14,8 @@ ghost use Rattle.par2_folder.specs.declared.snapshot.Border.TheVariants.{At};
 
 use crate::{Bytes, Change, Name};
 use par2_digests::{Midstate, Part, Pending};
-use std::alloc::{AllocError, Global};
+use par2_spec::Result;
+use std::alloc::Global;
 
 /// A file by its name and its bytes, where they lie.
 #[derive(Clone, Copy)]
@@ -54,7 +55,7 @@ fn search_borrowed(files: &[BorrowedFile], name: &Name) -> Result<usize, usize>
 
 impl<'a> Snapshot<'a> {
     // Puts a file of this name and these bytes in, in place of one of the name.
-    fn put(&mut self, name: &'a Name, bytes: &'a Bytes) -> Result<(), AllocError>
+    fn put(&mut self, name: &'a Name, bytes: &'a Bytes) -> Result<()>
         requires { IsKept (files_in self.old) }
         ensures kept { OnOk result (IsKept (files_in self.new)) }
         ensures folder { OnOk result
@@ -86,7 +87,7 @@ impl<'a> Snapshot<'a> {
 
     /// Goes on to the folder after the change.
     #[tactic(auto, unfolding(par2_spec::specs::Changes::is_applicable, par2_spec::specs::Changes::effect))]
-    pub fn apply(&mut self, change: &'a Change) -> Result<(), AllocError>
+    pub fn apply(&mut self, change: &'a Change) -> Result<()>
         requires kept { IsKept (files_in self.old) }
         requires applicable { IsTrue (is_applicable (folder_in self.old) (change_of change.now)) }
         ensures kept { OnOk result (IsKept (files_in self.new)) }
@@ -155,7 +156,7 @@ fn count_before(files: &[BorrowedFile], border: Border<'_>) -> usize
 }
 
 // Adds the file's name and its bytes, each after its length.
-fn push_file<'a>(parts: &mut Vec<Part<'a>>, file: &BorrowedFile<'a>) -> Result<(), AllocError>
+fn push_file<'a>(parts: &mut Vec<Part<'a>>, file: &BorrowedFile<'a>) -> Result<()>
     ensures { OnOk result (message_of parts.new.items
         ≡ message_of parts.old.items ++ fingerprint_input (file_of file.now ∷ [])) }
 {
@@ -169,7 +170,7 @@ fn push_file<'a>(parts: &mut Vec<Part<'a>>, file: &BorrowedFile<'a>) -> Result<(
 }
 
 // The files as parts of a message.
-fn parts_of<'a>(alloc: Global, files: &[BorrowedFile<'a>]) -> Result<Vec<Part<'a>>, AllocError>
+fn parts_of<'a>(alloc: Global, files: &[BorrowedFile<'a>]) -> Result<Vec<Part<'a>>>
     ensures { IfOk result (λ parts. message_of parts.items ≡ fingerprint_input (map file_of
         files.now)) }
 {
@@ -187,7 +188,7 @@ pub fn run_between<'a>(
     snapshot: &Snapshot<'a>,
     from: Border<'_>,
     to: Border<'_>,
-) -> Result<Pending<'a>, AllocError>
+) -> Result<Pending<'a>>
     requires kept { IsKept (files_in snapshot.now) }
     requires further { IsFurther from to }
     ensures { let folder = folder_in snapshot.now in

@@ -18,7 +18,8 @@ use crate::landmarks::Landmarks;
 use crate::snapshot::{Border, is_further, run_between, touches};
 use crate::{Change, Folder, Name};
 use par2_digests::{LANES, Midstate, Part, Pending, absorb_each};
-use std::alloc::{AllocError, Global};
+use par2_spec::Result;
+use std::alloc::Global;
 
 /// States, after which others have parts to absorb yet.
 #[derive(Drop)]
@@ -39,7 +40,7 @@ impl<'a> Runs<'a> {
     }
 
     // Absorbs all parts.
-    fn settle(&mut self) -> Result<(), AllocError>
+    fn settle(&mut self) -> Result<()>
         requires few { length self.old.pendings.items ≤ 8 }
         ensures empty { OnOk result (self.new.pendings.items ≡ []) }
         ensures texts { (texts : List (List ℕ))
@@ -53,7 +54,7 @@ impl<'a> Runs<'a> {
     }
 
     /// Adds a state and the parts that it has to absorb.
-    pub(crate) fn push(&mut self, pending: Pending<'a>) -> Result<(), AllocError>
+    pub(crate) fn push(&mut self, pending: Pending<'a>) -> Result<()>
         requires few { length self.old.pendings.items ≤ 8 }
         ensures few { OnOk result (length self.new.pendings.items ≤ 8) }
         ensures texts { (texts : List (List ℕ)) (text : List ℕ)
@@ -67,7 +68,7 @@ impl<'a> Runs<'a> {
     }
 
     /// The states after all parts.
-    pub(crate) fn finish(mut self) -> Result<Vec<Midstate>, AllocError>
+    pub(crate) fn finish(mut self) -> Result<Vec<Midstate>>
         requires few { length self.pendings.items ≤ 8 }
         ensures { (texts : List (List ℕ)) → AreTo self.entry texts
             → IfOk result (λ states. HaveAbsorbed states.items texts) }
@@ -81,7 +82,7 @@ impl<'a> Runs<'a> {
 const MOST_BORDERS: usize = 64;
 
 // The names where borders are: of the first names that the changes touch, the least and others in order.
-fn border_names(alloc: Global, changes: &[Change]) -> Result<Vec<Name>, AllocError> {
+fn border_names(alloc: Global, changes: &[Change]) -> Result<Vec<Name>> {
     let first_names = changes.iter().map(|change| change.first_name());
     let mut names: Vec<Name> = first_names.collect(alloc)?;
     names.sort()?;
@@ -97,7 +98,7 @@ fn runs_before<'a>(
     states: &[Midstate],
     from: Border<'_>,
     to: Border<'_>,
-) -> Result<Runs<'a>, AllocError>
+) -> Result<Runs<'a>>
     requires further { IsFurther from to }
     requires applicable { IsTrue (are_applicable folder.now.files (map change_of changes.now)) }
     requires absorbed { HaveAbsorbed states.now (texts_by from folder.now.files changes.now) }
@@ -126,7 +127,7 @@ fn runs_along<'a>(
     landmarks: &Landmarks,
     folder: &'a Folder,
     changes: &'a [Change],
-) -> Result<Runs<'a>, AllocError>
+) -> Result<Runs<'a>>
     requires landmarks { AreLandmarksOf folder.now.files landmarks.now }
     requires applicable { IsTrue (are_applicable folder.now.files (map change_of changes.now)) }
     ensures few { IfOk result (λ runs. length runs.pendings.items ≤ 8) }
@@ -146,7 +147,7 @@ fn runs_along<'a>(
 }
 
 /// The state, with the bytes of a text after it.
-pub fn run_of_text(alloc: Global, state: Midstate, text: &[u8]) -> Result<Pending<'_>, AllocError>
+pub fn run_of_text(alloc: Global, state: Midstate, text: &[u8]) -> Result<Pending<'_>>
     ensures { (m : List ℕ) → HasAbsorbed state m
         → IfOk result (λ run. Reaches run (m ++ text.now)) }
 {
@@ -156,7 +157,7 @@ pub fn run_of_text(alloc: Global, state: Midstate, text: &[u8]) -> Result<Pendin
 }
 
 /// The digests of what the states have absorbed.
-pub fn digests_of(alloc: Global, states: &[Midstate]) -> Result<Vec<[u8; 16]>, AllocError>
+pub fn digests_of(alloc: Global, states: &[Midstate]) -> Result<Vec<[u8; 16]>>
     ensures { (texts : List (List ℕ)) → HaveAbsorbed states.now texts
         → IfOk result (λ digests. digests.items ≡ map md5 texts) }
 {
@@ -172,7 +173,7 @@ pub fn states_with<'a>(
     alloc: Global,
     mut runs: Runs<'a>,
     texts: &[&'a [u8]],
-) -> Result<Vec<Midstate>, AllocError>
+) -> Result<Vec<Midstate>>
     requires { length runs.pendings.items ≤ 8 }
     ensures { (before : List (List ℕ)) → AreTo runs.entry before
         → IfOk result (λ states. HaveAbsorbed states.items (before ++ texts_of texts.now)) }
@@ -201,7 +202,7 @@ pub fn fingerprints(
     changes: &[Change],
     from: &Landmarks,
     beside: &[&[u8]],
-) -> Result<Digests, AllocError>
+) -> Result<Digests>
     requires landmarks { AreLandmarksOf folder.now.files from.now }
     requires taken { IsTrue (takes_all folder.now (map change_of changes.now)) }
     ensures along { let after = folders_after folder.now.files (map change_of changes.now) in

@@ -10,7 +10,7 @@ use crate::stopping_output::stop_output;
 use crate::stops::{stop, stop_and_repeat, stop_each, told_stop};
 use crate::words::read;
 use anyhow::{Error, Result};
-use par2_folder::MemoryStore;
+use par2_stores::MemoryStore;
 
 // Prints a text.
 fn say(rt: &HostRuntime, text: &str) -> Result<()> {

@@ -4,7 +4,8 @@ ghost use Rattle.std.specs.Prelude.{◌≡◌};
 use crate::files::copy_of;
 use crate::rows::{show, status_told};
 use anyhow::Result;
-use par2_folder::{FolderStore, MemoryStore, Name, ReadFault, Store, StoreFault};
+use par2_folder::{FolderStore, Name, ReadFault, Store, StoreFault};
+use par2_stores::MemoryStore;
 use std::alloc::Global;
 
 // More reading calls than a run below makes of its store.
@@ -46,7 +47,7 @@ impl WantingStore {
 impl Store for WantingStore {
     ghost use Rattle.std.specs.Prelude.{None};
     ghost use Rattle.std.specs.FinMap.{empty};
-    ghost use Rattle.par2_folder.specs.Memory.{memory_failures, memory_impossible, memory_writing_calls};
+    ghost use Rattle.par2_stores.specs.Memory.{memory_failures, memory_impossible, memory_writing_calls};
 
     ghost honest = { λ _. ⊥ };
 

@@ -3,7 +3,7 @@ ghost use Rattle.std.specs.Prelude.{Some};
 
 use crate::rows::{parted, printer, show, show_text, status_of};
 use anyhow::Result;
-use par2_folder::MemoryStore;
+use par2_stores::MemoryStore;
 use par2_tool::Printer;
 use std::alloc::Global;
 use std::io::{self, ErrorKind, Write};

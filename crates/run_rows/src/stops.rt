@@ -3,7 +3,7 @@
 use crate::files::{copy_of, fingerprint_of};
 use crate::rows::{Answer, answer_of, row, show, status_told, told};
 use anyhow::Result;
-use par2_folder::{FuseStore, MemoryStore};
+use par2_stores::{FuseStore, MemoryStore};
 use std::alloc::Global;
 
 // More calls than a run makes of its store.

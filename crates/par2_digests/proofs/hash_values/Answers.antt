@@ -1,4 +1,4 @@
-use Rattle.par2_digests.proofs.Common.{refl, ◌≡◌, ◌+◌, ◌*◌, ◌/◌, ◌++◌, ℕ, List, [], ◌∷◌, ap, sym, arith, length, take, drop, length-drop, slice_index, ◌∙◌, length-take-le, padded_message, padding, tail_len, tail_of, hash_after}
+use Rattle.par2_digests.proofs.Common.{refl, ◌≡◌, ◌+◌, ◌*◌, ◌/◌, ◌++◌, ℕ, List, [], ◌∷◌, ap, sym, arith, length, take, drop, length-drop, slice_index, ◌∙◌, length-take-le, padded_message, padding, hash_after, tail_len, tail_of}
 use Rattle.par2_digests.proofs.LaneLaws.{each_lane}
 use Rattle.par2_digests.proofs.TailLaws.{all_blocks, last_blocks, whole_blocks}
 use Rattle.par2_digests.proofs.hash_values.Goals as goal

@@ -1,14 +1,11 @@
-use Rattle.par2_digests.proofs.Common.{◌≡◌, ◌+◌, ◌*◌, ℕ, ap, arith, drop, refl, slice_index, take, ◌∙◌, hash_after, lane, hash_behind}
+use Rattle.par2_digests.proofs.Common.{◌≡◌, ◌+◌, ◌*◌, ℕ, ap, arith, drop, slice_index, take, ◌∙◌, rules, hash_after, lane, hash_behind}
 use Rattle.par2_digests.proofs.BlockLaws.{after_words, one_block_more}
 use Rattle.par2_digests.proofs.FeedLaws.{hash_one_more}
 use Rattle.par2_digests.proofs.blocks.absorbed.Goals as goal
 
 pub loop-block-init : goal.loop-block-init
 unfolding hash_behind
-loop-block-init g c = record {
-  message = λ k n p low held same. let start : n ≡ n + 0 = omega arith in held ∙ ap (hash_after p) start;
-  behind = λ k low. refl;
-}
+loop-block-init g c = search (rules, arith, hash_after)
 
 pub loop-block-preserved : goal.loop-block-preserved
 loop-block-preserved g c =
@@ -30,6 +27,4 @@ returns-clause-message g c = λ k n p low held same.
     c.loop-block.invariant.message k n p low held same ∙ ap (hash_after p) end
 
 pub returns-clause-behind : goal.returns-clause-behind
-returns-clause-behind g c = λ k low.
-    let end : c.loop-block.block ≡ c.args.count = omega arith in
-    c.loop-block.invariant.behind k low ∙ ap (hash_behind (lane g.V.Lanes.at k c.args.state) (drop (slice_index c.args.starts.now k) c.args.bytes.now)) end
+returns-clause-behind g c = grind (arith, hash_behind, slice_index)

@@ -1,4 +1,4 @@
-use Rattle.par2_digests.proofs.Common.{◌≡◌, ◌/◌, ◌%◌, ◌*◌, ◌∙◌, ℕ, min, arith, ap, length, take, slice_index, take_all, bytes_left, lane, hash_behind}
+use Rattle.par2_digests.proofs.Common.{◌≡◌, ◌/◌, ◌%◌, ◌*◌, ◌∙◌, ℕ, min, arith, ap, length, take, slice_index, take_all, bytes_left, hash_behind, lane}
 use Rattle.par2_digests.proofs.FeedLaws.{hash_more, same_rest, size_behind}
 use Rattle.par2_digests.proofs.blocks.hashed.Goals as goal
 

@@ -3,10 +3,7 @@ use Rattle.par2_digests.proofs.LaneLaws.{ArePairs, high_lane, low_lane}
 use Rattle.par2_digests.proofs.quads.four_words.Goals as goal
 
 pub words_of_four-high-requires-clause-within : goal.words_of_four-high-requires-clause-within
-words_of_four-high-requires-clause-within g c = λ k low.
-    let starts = c.args.starts.now in
-    let there = get_or-take (length starts - 4) (drop 4 starts) k 0 (omega (arith, c.requires.enough, c.if-this-eq8.true, low)) ∙ get_or-drop 4 starts k 0 in
-    omega (arith, there, c.requires.within (4 + k) (omega (arith, low, c.if-this-eq8.true)))
+words_of_four-high-requires-clause-within g c = grind (arith, get_or-take, get_or-drop)
 
 pub returns-then-this-eq8 : goal.returns-then-this-eq8
 returns-then-this-eq8 g c = λ k h.

@@ -1,4 +1,4 @@
-use Rattle.par2_digests.proofs.Common.{ap, refl, add_state, lane, rounds}
+use Rattle.par2_digests.proofs.Common.{ap, refl, add_state, rounds, lane}
 use Rattle.par2_digests.proofs.steps.compressed.Goals as goal
 
 pub returns : goal.returns

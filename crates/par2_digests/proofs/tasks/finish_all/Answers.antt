@@ -1,4 +1,4 @@
-use Rattle.par2_digests.proofs.Common.{◌≡◌, ◌<◌, ◌∙◌, ℕ, List, ap, sym, subst, length, length-set, get_or, get_or-set_other, get_or-set_same, inl, inr, arith, below_more, cases_eq, get_or_default, set, bytes_left, lane, LeadsTo, work, works}
+use Rattle.par2_digests.proofs.Common.{◌≡◌, ◌<◌, ◌∙◌, ℕ, List, ap, sym, subst, length, length-set, get_or, get_or-set_other, get_or-set_same, inl, inr, arith, below_more, cases_eq, get_or_default, set, lane, LeadsTo, work, works}
 use Rattle.par2_digests.proofs.TaskLaws.{finished, leads_same, works_at}
 use Rattle.par2_digests.proofs.tasks.finish_all.Goals as goal
 
@@ -36,8 +36,4 @@ loop-k-preserved g c =
     }
 
 pub returns : goal.returns
-returns g c = λ k none last rest low held.
-    let tasks = c.loop-k.tasks in
-    let task = get_or tasks k none in
-    let idle : work task ≡ 0 = sym (works_at tasks k none (omega (arith, c.loop-k.invariant.tasks))) ∙ c.loop-k.invariant.done k (omega arith) in
-    finished task.hash task.rest (bytes_left task.feed) (lane g.V.Lanes.at k c.loop-k.state) last rest idle (c.loop-k.invariant.leads k none last rest low held)
+returns g c = grind (arith, works_at, finished)

@@ -1,4 +1,4 @@
-use Rattle.par2_folder.proofs.Common.{[], ◌++◌, List, ℕ, append-nil, ap, arith, subst, sym, take_all, texts_of, AreTo}
+use Rattle.par2_folder.proofs.Common.{[], append-nil, arith, subst, sym, take_all, AreTo}
 use Rattle.par2_folder.proofs.Walks.{text_more}
 use Rattle.par2_folder.proofs.walk.states_with.Goals as goal
 
@@ -14,6 +14,4 @@ loop-text-preserved c = record {
 }
 
 pub returns : goal.returns
-returns c = λ before are.
-    let all = ap texts_of (take_all c.loop-text.text-index c.args.texts.now (omega (arith, c.loop-text-test.false))) in
-    c.finish.ensures _ (subst (λ (texts : List (List ℕ)). AreTo c.loop-text.runs (before ++ texts)) all (c.loop-text.invariant.texts before are))
+returns c = grind (arith, take_all)

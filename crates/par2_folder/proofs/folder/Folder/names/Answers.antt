@@ -1,9 +1,11 @@
-use Rattle.par2_folder.proofs.Common.{◌∙◌, map, ap, sym, take_all, File}
+use Rattle.par2_folder.proofs.Common.{◌∙◌, ap, map, rules, sym, File, YieldsList-from_map, YieldsList-from_slice, items_from_collect}
+use Rattle.std.proofs.lemmas.Result.{IfOk-weaker}
 use Rattle.par2_folder.proofs.SortedFiles.{files_of}
 use Rattle.par2_folder.proofs.folder.Folder.names.Goals as goal
 
 pub returns : goal.returns
 returns c =
-    let files = c.deref-file-items.result.now in
-    let same = c.deref-file-items.ensures.value in
-    rw (← c.self.view_is) (c.loop-file.invariant ∙ ap (map (λ (file : File). file.0)) (take_all c.loop-file.file-index files c.loop-file-test.false ∙ same ∙ sym (files_of c.self.inside.files.items c.self.invariant.sorted)))
+    let files = c.self.inside.files.items in
+    let name = λ (file : File). file.0 in
+    rw (← c.self.view_is) (IfOk-weaker c.collect.result _ _ (λ list e. e ∙ ap (map name) (sym (files_of files c.self.invariant.sorted)))
+    (items_from_collect _ c.collect.ensures.ran (YieldsList-from_map _ name (YieldsList-from_slice files cc) c.map-names.ensures.closure (λ x r q k. search rules))))

@@ -1,17 +1,12 @@
-use Rattle.par2_folder.proofs.Common.{◌≡◌, ◌∙◌, ◌++◌, [], ◌∷◌, ap, map, subst, sym, map-append, take_all, take_more, FolderState, IsKept, folder_of, file_of}
+use Rattle.par2_folder.proofs.Common.{◌≡◌, ◌∙◌, ap, map, rules, subst, sym, map-id, File, FolderState, IsKept, folder_of, file_of, YieldsList-from_map_by, YieldsList-from_slice, items_from_drains}
 use Rattle.par2_folder.proofs.folder.Folder.snapshot.Goals as goal
-
-pub loop-file-preserved : goal.loop-file-preserved
-loop-file-preserved c =
-    ap (map file_of) c.in_ok-push.ensures.items
-    ∙ map-append file_of c.loop-file.files.items (c.borrowed.result ∷ [])
-    ∙ (λ k. c.loop-file.invariant k ++ (c.borrowed.ensures ∙ c.file-item.is) k ∷ [])
-    ∙ sym (take_more c.deref-file-items.result.now c.loop-file.file-index c.file-item.result c.loop-file-test.true)
 
 pub returns : goal.returns
 returns c =
-    let whole = take_all c.loop-file.file-index c.deref-file-items.result.now c.loop-file-test.false ∙ c.deref-file-items.ensures.value in
-    let all : map file_of c.loop-file.files.items ≡ c.self.inside.files.items = c.loop-file.invariant ∙ whole in
+    let ran = c.in_ok-files.ensures.ran in
+    let files = c.self.inside.files.items in
+    let all : map file_of c.in_ok-files.files.items ≡ files =
+    ap (map file_of) ran.2.0 ∙ items_from_drains ran.0 ran.1 (YieldsList-from_map_by _ file_of (λ (file : File). file) (YieldsList-from_slice files cc) c.map-files.ensures.closure (λ x r q k. search rules)) ∙ map-id files in
     record {
       kept = subst IsKept (sym all) c.self.invariant;
       folder = ap folder_of all ∙ ap (λ (state : FolderState). state.files) c.self.view_is;

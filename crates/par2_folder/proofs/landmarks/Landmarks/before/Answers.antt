@@ -1,12 +1,9 @@
-use Rattle.par2_folder.proofs.Common.{◌≡◌, IsTrue, get_or, rules, subst, sym, false≢true, HasAbsorbed, IsLandmarkOf}
+use Rattle.par2_folder.proofs.Common.{◌≡◌, IsTrue, get_or, rules, subst, sym, arith, false≢true, IsLandmarkOf}
 use Rattle.par2_folder.proofs.Borders.{no_text}
 use Rattle.par2_folder.proofs.landmarks.Landmarks.before.Goals as goal
 
 pub loop-mark-init : goal.loop-mark-init
-loop-mark-init c = record {
-  further = λ other is. absurd (false≢true is);
-  absorbed = λ folder are. subst (HasAbsorbed c.new.result) (sym (no_text folder)) c.new.ensures;
-}
+loop-mark-init c = grind (arith, false≢true, no_text)
 
 pub loop-mark-preserved : goal.loop-mark-preserved
 loop-mark-preserved c =

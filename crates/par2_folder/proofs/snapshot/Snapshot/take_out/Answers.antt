@@ -1,10 +1,9 @@
+use Rattle.par2_folder.proofs.Common.{arith}
 use Rattle.par2_folder.proofs.Snapshots.{not_absent, taken_from, bytes_taken}
 use Rattle.par2_folder.proofs.snapshot.Snapshot.take_out.Goals as goal
 
 pub unreachable-requires : goal.unreachable-requires
-unreachable-requires c =
-    let missing = rw c.deref.ensures.value at c.in-Err.ensures.not_there in
-    not_absent _ _ c.requires.there missing
+unreachable-requires c = grind (arith, not_absent)
 
 pub returns : goal.returns
 returns c =

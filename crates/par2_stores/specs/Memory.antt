@@ -2,7 +2,7 @@
 -- writing calls were made of it.
 use Rattle.std.specs.Prelude.{ℕ}
 use Rattle.par2_spec.specs.Stores.{Contents}
-use Rattle.par2_folder.specs.declared.memory.MemoryStore.{MemoryStore}
+use Rattle.par2_stores.specs.declared.memory.MemoryStore.{MemoryStore}
 
 abbrev pub memory_contents : MemoryStore → Contents
 memory_contents store = record { files = store.folder.files; journal = store.journal }

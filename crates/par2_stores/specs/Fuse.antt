@@ -2,11 +2,11 @@
 use Rattle.std.specs.Prelude.{◌≡◌, ◌⊎◌, ℕ, ◌+◌, ◌<◌, Bool, true, false, List, Result, IsErr, IsErrOf}
 use Rattle.par2_spec.specs.Changes.{Change, Write, Replace, Rename, Remove}
 use Rattle.par2_spec.specs.Stores.{Contents, with_change, with_journal}
-use Rattle.par2_folder.specs.declared.fuse.BorrowedChange.{BorrowedChange}
-use Rattle.par2_folder.specs.declared.fuse.BorrowedChange.TheVariants as borrowed
-use Rattle.par2_folder.specs.declared.fuse.Fate.{Fate}
-use Rattle.par2_folder.specs.declared.fuse.Fate.TheVariants.{Passes, Works, Fails}
-use Rattle.par2_folder.specs.declared.fuse.FuseStore.{FuseStore}
+use Rattle.par2_stores.specs.declared.fuse.BorrowedChange.{BorrowedChange}
+use Rattle.par2_stores.specs.declared.fuse.BorrowedChange.TheVariants as borrowed
+use Rattle.par2_stores.specs.declared.fuse.Fate.{Fate}
+use Rattle.par2_stores.specs.declared.fuse.Fate.TheVariants.{Passes, Works, Fails}
+use Rattle.par2_stores.specs.declared.fuse.FuseStore.{FuseStore}
 use Rattle.par2_folder.specs.declared.store.ReadFault.{ReadFault}
 use Rattle.par2_folder.specs.declared.store.ReadFault.TheVariants.{Store}
 use Rattle.par2_folder.specs.declared.store.StoreFault.{StoreFault}

@@ -1,9 +1,9 @@
 //! A store that passes some calls on, and then fails.
 ghost use Rattle.std.specs.Prelude.{◌≡◌, ◌+◌};
-ghost use Rattle.par2_folder.specs.Fuse.{fuse, inner_store, fuse_writing_calls, calls_left, change_in, does_work, Becomes, FusesChange};
+ghost use Rattle.par2_stores.specs.Fuse.{fuse, inner_store, fuse_writing_calls, calls_left, change_in, does_work, Becomes, FusesChange};
 ghost use Rattle.par2_folder.specs.Stores.{CountsFailures, Makes};
 
-use crate::{Count, FolderStore, Name, ReadFault, Store, StoreFault};
+use par2_folder::{Count, FolderStore, Name, ReadFault, Store, StoreFault};
 use std::alloc::Global;
 use std::mem;
 
@@ -112,7 +112,7 @@ impl<S: FolderStore> FuseStore<S> {
 
 impl<S: FolderStore> Store for FuseStore<S> {
     ghost use Rattle.std.specs.Prelude.{◌+◌};
-    ghost use Rattle.par2_folder.specs.Fuse.{inner_store, fuse_failures, fuse_writing_calls};
+    ghost use Rattle.par2_stores.specs.Fuse.{inner_store, fuse_failures, fuse_writing_calls};
 
     ghost honest = { λ store. S.honest (inner_store store) };
 
@@ -130,7 +130,7 @@ impl<S: FolderStore> Store for FuseStore<S> {
 impl<S: FolderStore> FolderStore for FuseStore<S> {
     ghost use Rattle.std.specs.Prelude.{◌≡◌, ◌+◌};
     ghost use Rattle.par2_spec.specs.Changes.{Write, Replace, Rename, Remove};
-    ghost use Rattle.par2_folder.specs.Fuse.{fuse, fuse_writing_calls, FusesChange, FusesJournal, FusesRead};
+    ghost use Rattle.par2_stores.specs.Fuse.{fuse, fuse_writing_calls, FusesChange, FusesJournal, FusesRead};
     ghost use Rattle.par2_folder.specs.Stores.{CountsFailures, CountsReadFailures, Makes, OnlyReads, PutsJournal, ReadsFile, ReadsJournal, ReadsNames};
 
     fn names(&mut self, alloc: Global) -> Result<Vec<Name>, ReadFault>

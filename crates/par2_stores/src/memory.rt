@@ -1,5 +1,6 @@
 //! A store in memory.
-use crate::{Bytes, Change, Count, Folder, FolderStore, Name, ReadFault, Store, StoreFault};
+use par2_folder::{Bytes, Change, Count, Folder, FolderStore, Name, ReadFault, Store, StoreFault};
+use par2_spec::Result;
 use std::alloc::{AllocError, Global};
 
 /// A folder and a journal in memory. It is honest, and where a growth is refused in a writing call it fails. It has no
@@ -20,7 +21,7 @@ impl MemoryStore {
     ghost use Rattle.std.specs.FinMap.{empty};
     ghost use Rattle.par2_spec.specs.Changes.{is_applicable, places_taken};
     ghost use Rattle.par2_spec.specs.Stores.{Contents, with_change};
-    ghost use Rattle.par2_folder.specs.Memory.{memory_contents, memory_failures, memory_impossible, memory_writing_calls};
+    ghost use Rattle.par2_stores.specs.Memory.{memory_contents, memory_failures, memory_impossible, memory_writing_calls};
     ghost use Rattle.par2_folder.specs.Views.{change_of};
 
     /// A store without files and without a journal, which has not failed yet.
@@ -65,7 +66,7 @@ impl MemoryStore {
 
     // Copies the bytes and makes a place for them: as many as there are files, so that many puts copy each file a few
     // times.
-    fn make_place(&mut self, bytes: &[u8]) -> Result<Bytes, AllocError>
+    fn make_place(&mut self, bytes: &[u8]) -> Result<Bytes>
         ensures contents { memory_contents self.new ≡ memory_contents self.old }
         ensures failures { memory_failures self.new ≡ memory_failures self.old }
         ensures impossible { memory_impossible self.new ≡ memory_impossible self.old }
@@ -107,7 +108,7 @@ impl MemoryStore {
 
 impl Store for MemoryStore {
     ghost use Rattle.std.specs.Prelude.{◌≡◌};
-    ghost use Rattle.par2_folder.specs.Memory.{memory_contents, memory_failures, memory_impossible, memory_writing_calls};
+    ghost use Rattle.par2_stores.specs.Memory.{memory_contents, memory_failures, memory_impossible, memory_writing_calls};
 
     ghost honest = { λ _. Unit {0} };
 
