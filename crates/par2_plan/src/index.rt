@@ -7,7 +7,8 @@ ghost use Rattle.par2_spec.specs.declared.Kind.TheVariants.{FileDesc, Ifsc};
 ghost use Rattle.par2_packets.specs.Views.{file_record_of};
 
 use par2_packets::{FileRecord, append_creator, append_desc, append_ifsc, append_main, main_id};
-use std::alloc::{AllocError, Global};
+use par2_spec::Result;
+use std::alloc::Global;
 
 // The FileDescs of these files, in order.
 fn append_descs(
@@ -15,7 +16,7 @@ fn append_descs(
     out: &mut Vec<u8>,
     set_id: &[u8; 16],
     files: &[FileRecord],
-) -> Result<(), AllocError>
+) -> Result<()>
     ensures { OnOk result (out.new.items ≡ out.old.items ++ flat_map (λ file.
         packet (packet_of set_id.now FileDesc (desc_bytes (file_record_of file)))) files.now) }
 {
@@ -31,7 +32,7 @@ fn append_ifscs(
     out: &mut Vec<u8>,
     set_id: &[u8; 16],
     files: &[FileRecord],
-) -> Result<(), AllocError>
+) -> Result<()>
     ensures { OnOk result (out.new.items ≡ out.old.items ++ flat_map
         (λ file. packet (packet_of set_id.now Ifsc (ifsc_bytes (file_record_of file)))) files.now) }
 {
@@ -57,7 +58,7 @@ fn file_len(file: &FileRecord) -> usize {
 
 /// The index of a set of these files, whose order it keeps: Main, the FileDescs, the IFSCs, Creator.
 #[tactic(auto, unfolding(par2_spec::specs::Volumes::index_packets))]
-pub fn index_of(alloc: Global, s: u64, files: &[FileRecord]) -> Result<Vec<u8>, AllocError>
+pub fn index_of(alloc: Global, s: u64, files: &[FileRecord]) -> Result<Vec<u8>>
     requires { length files.now ≤ 32768 }
     ensures { Lists (flat_map packet (index_packets s (map file_record_of files.now))) result }
 {

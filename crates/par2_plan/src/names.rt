@@ -1,5 +1,5 @@
 //! The names of the outputs of a create, and why they can't be taken.
-ghost use Rattle.std.specs.Prelude.{◌≡◌, ◌≤◌, ◌<◌, ◌+◌, ◌-◌, ◌++◌, ◌∷◌, ◌⊎◌, ◌&&◌, ◌||◌, [], length, string_bytes, IsTrue, IfOk, IfErr, OnOk, Some, None};
+ghost use Rattle.std.specs.Prelude.{◌≡◌, ◌≤◌, ◌<◌, ◌+◌, ◌-◌, ◌++◌, ◌∷◌, ◌⊎◌, ◌&&◌, ◌||◌, [], length, string_bytes, IsTrue, IfOk, IfErr, OnOk, None};
 ghost use Rattle.std.specs.List.{list_any};
 ghost use Rattle.par2_spec.specs.Names.{is_par_name};
 ghost use Rattle.par2_spec.specs.Folders.{has};
@@ -9,8 +9,8 @@ ghost use Rattle.par2_plan.specs.Faults.{long_name, there_already};
 ghost use Rattle.par2_plan.specs.Outputs.{volume_at, volumes_of, names_of};
 
 use par2_folder::{Folder, Name};
-use par2_spec::Fault;
-use std::alloc::{AllocError, Global};
+use par2_spec::{Fault, Result};
+use std::alloc::Global;
 
 // How many volumes there are at most: the first 17 would hold 131,071 recovery slices.
 const MOST_VOLUMES: u32 = 17;
@@ -32,7 +32,7 @@ fn volumes_before(i: u32) -> u32
 }
 
 // Adds a number as five digits.
-fn push_five_digits(text: &mut String, n: u32) -> Result<(), AllocError>
+fn push_five_digits(text: &mut String, n: u32) -> Result<()>
     ensures { OnOk result (string_bytes text.new ≡ string_bytes text.old ++ spec.five_digits n) }
 {
     for power in [10000, 1000, 100, 10, 1] {
@@ -42,7 +42,7 @@ fn push_five_digits(text: &mut String, n: u32) -> Result<(), AllocError>
 }
 
 // The text of a volume's name.
-fn volume_text(alloc: Global, base: &str, first: u32, count: u32) -> Result<String, AllocError>
+fn volume_text(alloc: Global, base: &str, first: u32, count: u32) -> Result<String>
     requires { IsTrue (is_par_name base.now) }
     ensures { IfOk result (λ text. string_bytes text ≡ spec.volume_name base.now first count) }
 {
@@ -96,10 +96,8 @@ pub fn volumes(alloc: Global, base: &Name, first: u32, count: u32) -> Result<Vec
 fn is_there(folder: &Folder, base: &Name, volumes: &[Volume]) -> bool
     ensures { result ≡ list_any (has folder.now.files) (base.now ∷ names_of volumes.now) }
 {
-    folder.get(base).is_some()
-        || volumes
-            .iter()
-            .any(|volume| folder.get(&volume.name).is_some())
+    let mut volumes = volumes.iter();
+    folder.get(base).is_some() || volumes.any(|volume| folder.get(&volume.name).is_some())
 }
 
 /// What is wrong where an output is there already: nothing, if it may be replaced.
@@ -111,9 +109,5 @@ pub fn there_already(
 ) -> Option<Fault>
     ensures { result ≡ there_already folder.now.files overwrite (base.now ∷ names_of volumes.now) }
 {
-    if !overwrite && is_there(folder, base, volumes) {
-        Some(Fault::Exists)
-    } else {
-        None
-    }
+    (!overwrite && is_there(folder, base, volumes)).then_some(Fault::Exists)
 }

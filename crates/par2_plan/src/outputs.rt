@@ -8,7 +8,8 @@ use crate::names::Volume;
 use crate::volumes::volume_texts;
 use par2_folder::{Bytes, Change, Folder, Name};
 use par2_recovery::SetRecord;
-use std::alloc::{AllocError, Global};
+use par2_spec::Result;
+use std::alloc::Global;
 
 /// What the outputs are made of: the bytes of the index, the set's identifier, and the set whose files stand in the
 /// folder.
@@ -32,12 +33,7 @@ fn put(folder: &Folder, name: Name, bytes: Vec<u8>) -> Change
 }
 
 /// The changes that write the outputs: the index, and the volumes in order.
-pub fn changes_of(
-    alloc: Global,
-    base: Name,
-    parts: Parts,
-    volumes: &[Volume],
-) -> Result<Changes, AllocError>
+pub fn changes_of(alloc: Global, base: Name, parts: Parts, volumes: &[Volume]) -> Result<Changes>
     requires parts { HasSlices parts }
     requires exponents { HaveExponents volumes.now }
     ensures { IfOk result (λ changes. changes ≡ output_changes base parts.entry volumes.now) }

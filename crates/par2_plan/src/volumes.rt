@@ -12,6 +12,7 @@ use crate::outputs::Parts;
 use par2_gf16::Gf;
 use par2_packets::{digest_recoveries, with_undigested};
 use par2_recovery::{input_slices, write_recovery_slices};
+use par2_spec::Result;
 use par2_transform::{Place, Places};
 use std::alloc::{AllocError, Global};
 
@@ -26,7 +27,7 @@ fn volume_len(parts: &Parts, count: u32) -> usize {
 }
 
 // The bytes of a volume whose recovery slices and MD5s are still to come.
-fn blank_volume(alloc: Global, parts: &Parts, volume: &Volume) -> Result<Vec<u8>, AllocError>
+fn blank_volume(alloc: Global, parts: &Parts, volume: &Volume) -> Result<Vec<u8>>
     requires fits { 68 + parts.now.set.now.slice ≤ usize.MAX }
     requires exponents { HasExponents volume.now }
     ensures { IfOk result (λ bytes. bytes.items ≡ blank_volume parts.now volume.now) }
@@ -38,11 +39,7 @@ fn blank_volume(alloc: Global, parts: &Parts, volume: &Volume) -> Result<Vec<u8>
 }
 
 // Those of all volumes.
-fn blank_volumes(
-    alloc: Global,
-    parts: &Parts,
-    volumes: &[Volume],
-) -> Result<Vec<Vec<u8>>, AllocError>
+fn blank_volumes(alloc: Global, parts: &Parts, volumes: &[Volume]) -> Result<Vec<Vec<u8>>>
     requires fits { 68 + parts.now.set.now.slice ≤ usize.MAX }
     requires exponents { HaveExponents volumes.now }
     ensures { IfOk result (AreTexts (blank_volume parts.now) volumes.now) }
@@ -55,7 +52,7 @@ fn blank_volumes(
 }
 
 // The exponents of all volumes' recovery slices, in order.
-fn exponents_of(alloc: Global, volumes: &[Volume]) -> Result<Vec<u32>, AllocError>
+fn exponents_of(alloc: Global, volumes: &[Volume]) -> Result<Vec<u32>>
     requires exponents { HaveExponents volumes.now }
     ensures { IfOk result (λ exponents. exponents.items ≡ exponents_of volumes.now) }
 {
@@ -72,7 +69,7 @@ fn append_places(
     volume: &Volume,
     i: usize,
     text: &[u8],
-) -> Result<(), AllocError>
+) -> Result<()>
     requires fits { 68 + parts.now.set.now.slice ≤ usize.MAX }
     requires text { length text.now ≡ length_with parts.now volume.now.count }
     ensures { Appends (places_in parts.now (i, volume.now)) places.old places.new result }
@@ -91,7 +88,7 @@ fn places_of(
     parts: &Parts,
     volumes: &[Volume],
     texts: &[Vec<u8>],
-) -> Result<Vec<Place>, AllocError>
+) -> Result<Vec<Place>>
     requires fits { 68 + parts.now.set.now.slice ≤ usize.MAX }
     requires texts { HavePackets parts.now volumes.now (lists_of texts.now) }
     ensures { IfOk result (λ places. places.items ≡ places_of parts.now volumes.now) }
@@ -111,7 +108,7 @@ fn write_slices(
     inputs: &[&[u8]],
     volumes: &[Volume],
     texts: &mut [Vec<u8>],
-) -> Result<(), AllocError>
+) -> Result<()>
     requires parts { HasSlices parts.now }
     requires fits { 68 + parts.now.set.now.slice ≤ usize.MAX }
     requires inputs { ListsInputs parts.now inputs.now }
@@ -126,24 +123,15 @@ fn write_slices(
 }
 
 // Puts the MD5s into a volume.
-fn digest_volume(
-    alloc: Global,
-    text: &mut [u8],
-    parts: &Parts,
-    volume: &Volume,
-) -> Result<(), AllocError>
+fn digest_volume(alloc: Global, text: &mut [u8], parts: &Parts, volume: &Volume) -> Result<()>
     requires parts { HasSlices parts.now }
     requires fits { 68 + parts.now.set.now.slice ≤ usize.MAX }
     requires before { text.old ≡ with_slices parts.now volume.now }
     ensures { OnOk result (text.new ≡ volume_text parts.now volume.now) }
 {
+    let packets = &mut text[parts.index.len()..];
     let size = parts.set.slice as usize;
-    digest_recoveries(
-        alloc,
-        &mut text[parts.index.len()..],
-        size,
-        volume.count as usize,
-    )
+    digest_recoveries(alloc, packets, size, volume.count as usize)
 }
 
 // Volumes with the MD5s in them.
@@ -152,7 +140,7 @@ fn digested(
     texts: Vec<Vec<u8>>,
     parts: &Parts,
     volumes: &[Volume],
-) -> Result<Vec<Vec<u8>>, AllocError>
+) -> Result<Vec<Vec<u8>>>
     requires parts { HasSlices parts.now }
     requires fits { 68 + parts.now.set.now.slice ≤ usize.MAX }
     requires before { AreTexts (with_slices parts.now) volumes.now texts }
@@ -169,11 +157,7 @@ fn digested(
 }
 
 /// The bytes of the volumes in order. Where there are none, no table is made and no input looked up.
-pub(crate) fn volume_texts(
-    alloc: Global,
-    parts: &Parts,
-    volumes: &[Volume],
-) -> Result<Vec<Vec<u8>>, AllocError>
+pub(crate) fn volume_texts(alloc: Global, parts: &Parts, volumes: &[Volume]) -> Result<Vec<Vec<u8>>>
     requires parts { HasSlices parts.now }
     requires exponents { HaveExponents volumes.now }
     ensures { IfOk result (AreTexts (volume_text parts.now) volumes.now) }

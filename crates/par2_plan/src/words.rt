@@ -6,8 +6,8 @@ ghost use Rattle.par2_spec.specs.Refusals.{is_input_name, head_fault, bad_name};
 
 use par2_folder::Name;
 use par2_slices::is_slice_size;
-use par2_spec::{CreateArgs, Fault};
-use std::alloc::{AllocError, Global};
+use par2_spec::{CreateArgs, Fault, Result};
+use std::alloc::Global;
 
 // The name that the word is, where it can be one of an index, or else one of an input.
 fn name_of(word: &str, is_index: bool) -> Option<Name>
@@ -64,12 +64,10 @@ pub fn bad_name(words: &[String]) -> Option<Fault>
 }
 
 /// The names of the inputs, where each word can be one.
-pub(crate) fn input_names(alloc: Global, words: &[String]) -> Result<Vec<Name>, AllocError>
+pub(crate) fn input_names(alloc: Global, words: &[String]) -> Result<Vec<Name>>
     requires { bad_name (map string_bytes words.now) ≡ None }
     ensures { IfOk result (λ names. names.items ≡ map string_bytes words.now) }
 {
-    words
-        .iter()
-        .filter_map(|word| name_of(word, false))
-        .collect(alloc)
+    let names = words.iter().filter_map(|word| name_of(word, false));
+    names.collect(alloc)
 }

@@ -22,4 +22,4 @@ pub returns : goal.returns
 returns c =
     IfOk-weaker c.collect.result _ _ (λ names e. e ∙ all_given string_bytes c.args.words.now (at_none 1 BadName (λ word. not (is_input_name word)) (map string_bytes c.args.words.now) c.requires))
     (items_from_collect _ c.collect.ensures.ran
-    (YieldsList-from_filter_map _ (λ word. name_in (string_bytes word)) (YieldsList-at c.filter_map.ensures.source (YieldsList-from_slice c.args.words.now c.iter.ensures.rest)) c.filter_map.ensures.closure (λ x r q k. search (rules, given))))
+    (YieldsList-from_filter_map _ (λ word. name_in (string_bytes word)) (YieldsList-at c.filter_map-names.ensures.source (YieldsList-from_slice c.args.words.now c.iter.ensures.rest)) c.filter_map-names.ensures.closure (λ x r q k. search (rules, given))))
