@@ -1,10 +1,11 @@
 //! What a create writes.
 ghost use Rattle.std.specs.Prelude.{◌≡◌, ◌≤◌, ◌⊎◌, Some, None, map, string_bytes, IsTrue, IfOk, IfErr, OnOk};
 ghost use Rattle.par2_spec.specs.Changes.{effects, are_applicable};
-ghost use Rattle.par2_spec.specs.Commands.{Create};
+ghost use Rattle.par2_spec.specs.Commands.{Create, files_of};
 ghost use Rattle.par2_spec.specs.Refusals.{head_fault, bad_name, after};
 ghost use Rattle.par2_spec.specs.Plans as plans;
 ghost use Rattle.par2_spec.specs.Views.{create_args_of};
+ghost use Rattle.par2_recovery.specs.Views.{AreRecords};
 ghost use Rattle.par2_folder.specs.Landmarks.{AreLandmarksOf};
 ghost use Rattle.par2_creation.specs.Answers.{FailsAs, RefusesEarly, SucceedsAs};
 ghost use Rattle.par2_creation.specs.Faults.{inputs_fault};
@@ -17,7 +18,7 @@ use crate::names::{Volume, there_already, volumes};
 use crate::outputs::{Parts, changes_of};
 use crate::words::{bad_name, index_name, input_names};
 use par2_folder::{Folder, Landmarks, Name, mark_folder};
-use par2_packets::main_id;
+use par2_packets::{FileRecord, main_id};
 use par2_recovery::{SetRecord, file_records, file_texts};
 use par2_spec::{CreateArgs, Fault, Result};
 use std::alloc::Global;
@@ -31,8 +32,28 @@ pub struct Creation {
     pub landmarks: Landmarks,
 }
 
-// What a set says of the inputs, where nothing is wrong with them, and a landmark of the folder at a name. The MD5s of
-// the inputs are computed side by side with it.
+// What a set says of files. Their MD5s are computed side by side with a landmark of the folder at a name.
+fn records_beside(
+    alloc: Global,
+    folder: &Folder,
+    names: &[Name],
+    size: u64,
+    from: &Landmarks,
+    name: &Name,
+) -> Result<(Vec<FileRecord>, Landmarks)>
+    requires size { 1 ≤ size }
+    requires landmarks { AreLandmarksOf folder.now.files from.now }
+    ensures records { let files = files_of folder.now.files names.now in
+        IfOk result (λ found. AreRecords size files found.0.items) }
+    ensures landmarks { IfOk result (λ found. AreLandmarksOf folder.now.files found.1) }
+{
+    let texts = file_texts(alloc, folder, names)?;
+    let marked = mark_folder(alloc, folder, from, name, &texts)?;
+    let records = file_records(alloc, folder, names, &marked.beside, size)?;
+    Ok((records, marked.landmarks))
+}
+
+// What a set says of the inputs, where nothing is wrong with them, and a landmark of the folder at a name.
 #[tactic(auto, unfolding(crate::specs::Faults::inputs_fault))]
 fn set_of_inputs(
     alloc: Global,
@@ -58,10 +79,8 @@ fn set_of_inputs(
     if let Some(fault) = files_fault(folder, &names, args.slice) {
         return Err(fault);
     }
-    let texts = file_texts(alloc, folder, &names)?;
-    let marked = mark_folder(alloc, folder, from, name, &texts)?;
-    let records = file_records(alloc, folder, &names, &marked.beside, args.slice)?;
-    Ok((set_of(records, args.slice)?, marked.landmarks))
+    let (records, landmarks) = records_beside(alloc, folder, &names, args.slice, from, name)?;
+    Ok((set_of(records, args.slice)?, landmarks))
 }
 
 // The changes that write the outputs of a create with which nothing is wrong.
