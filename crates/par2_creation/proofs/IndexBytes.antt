@@ -1,18 +1,11 @@
 -- The bytes of an index, packet by packet.
-use Rattle.par2_creation.proofs.Common.{◌≡◌, ℕ, List, [], ◌∷◌, ◌++◌, map, ap, ◌∙◌, append-nil, flat_map, flat_map-append, flat_map-map, packet, packet_of, main_id, main_bytes, desc_bytes, ifsc_bytes, creator_bytes, index_packets, Main, FileDesc, Ifsc, Creator, file_record_of, FileRecord}
-use Rattle.par2_spec.specs.Volumes as volumes
+use Rattle.par2_creation.proofs.Common.{◌≡◌, ℕ, List, [], ◌∷◌, ◌++◌, map, append-nil, flat_map, flat_map-append, flat_map-map, packet, packet_of, main_id, main_bytes, desc_bytes, ifsc_bytes, creator_bytes, index_packets, Main, FileDesc, Ifsc, Creator, file_record_of, FileRecord}
 
 -- a packet, packets made of items twice over, and a last packet
-in_turn : {A B : Type 0} (f : B → List ℕ) (first last : B) (g h : A → B) (xs : List A)
-    → flat_map f (first ∷ map g xs ++ map h xs ++ last ∷ [])
-    ≡ f first ++ flat_map (λ x. f (g x)) xs ++ flat_map (λ x. f (h x)) xs ++ f last
-in_turn f first last g h xs =
-    flat_map-append f (first ∷ map g xs ++ map h xs) (last ∷ [])
-    ∙ ap (λ o. o ++ flat_map f (last ∷ [])) (
-    flat_map-append f (first ∷ map g xs) (map h xs)
-    ∙ ap (λ o. o ++ flat_map f (map h xs)) (ap (λ o. f first ++ o) (flat_map-map f g xs))
-    ∙ ap (λ o. f first ++ flat_map (λ x. f (g x)) xs ++ o) (flat_map-map f h xs))
-    ∙ ap (λ o. f first ++ flat_map (λ x. f (g x)) xs ++ flat_map (λ x. f (h x)) xs ++ o) (append-nil (f last))
+in_turn : {A B C : Type 0} (f : B → List ℕ) (first last : B) (g h : A → B) (v : C → A) (xs : List C)
+    → flat_map f (first ∷ map g (map v xs) ++ map h (map v xs) ++ last ∷ [])
+    ≡ f first ++ flat_map (λ x. f (g (v x))) xs ++ flat_map (λ x. f (h (v x))) xs ++ f last
+in_turn f first last g h v xs = simp (flat_map-append, flat_map-map, append-nil)
 
 pub index_bytes : (s : ℕ) (files : List FileRecord)
     → let records = map file_record_of files in
@@ -26,10 +19,4 @@ unfolding index_packets
 index_bytes s files =
     let records = map file_record_of files in
     let of_set = packet_of (main_id s records) in
-    let first = packet (of_set Main (main_bytes s records)) in
-    let last = packet (of_set Creator creator_bytes) in
-    let descs = (λ (file : volumes.FileRecord). packet (of_set FileDesc (desc_bytes file))) in
-    let ifscs = (λ (file : volumes.FileRecord). packet (of_set Ifsc (ifsc_bytes file))) in
-    in_turn packet (of_set Main (main_bytes s records)) (of_set Creator creator_bytes) (λ file. of_set FileDesc (desc_bytes file)) (λ file. of_set Ifsc (ifsc_bytes file)) records
-    ∙ ap (λ o. first ++ o ++ flat_map ifscs records ++ last) (flat_map-map descs file_record_of files)
-    ∙ ap (λ o. first ++ flat_map (λ file. descs (file_record_of file)) files ++ o ++ last) (flat_map-map ifscs file_record_of files)
+    in_turn packet (of_set Main (main_bytes s records)) (of_set Creator creator_bytes) (λ file. of_set FileDesc (desc_bytes file)) (λ file. of_set Ifsc (ifsc_bytes file)) file_record_of files

@@ -1,5 +1,5 @@
 -- How many slices files have, and how many files there are by that.
-use Rattle.par2_creation.proofs.Common.{◌≡◌, ℕ, ◌+◌, ◌≤◌, List, [], ◌∷◌, length, refl, sym, ap₂, ◌∙◌, subst, false, arith, length-append, inl, inr, ◌*◌, ◌==◌, sum_by, AllByRecursion, cases_lt, eqb-false, div_ceil_times, sum_by-cons, length-map-range_with_len, slice_count, slice_at, slices, File, all_slices}
+use Rattle.par2_creation.proofs.Common.{◌≡◌, zero, suc, ℕ, ◌+◌, ◌≤◌, List, [], ◌∷◌, length, refl, sym, ap₂, ◌∙◌, false, arith, length-append, ◌*◌, ◌==◌, sum_by, AllByRecursion, eqb-false, div_ceil_times, sum_by-cons, length-map-range_with_len, slice_count, slice_at, slices, File, all_slices}
 
 -- how many slices the files have
 pub slices_counted : (s : ℕ) (files : List File) → length (all_slices s files) ≡ sum_by (λ file. slice_count s (length file.1)) files
@@ -19,12 +19,8 @@ few_files s (file ∷ files) some h =
     omega (arith, rest, here, whole)
   where
     one_slice : (n s : ℕ) → 1 ≤ s → (n ≡ 0 → ⊥) → 1 ≤ slice_count s n
-    one_slice n s some h = elim (cases_lt 0 (slice_count s n)) as (λ _. 1 ≤ slice_count s n) [
-      | inl more ↦ omega (arith, more)
-      | inr none ↦
-          let e : slice_count s n ≡ 0 = omega (arith, none) in
-          let up : n ≤ slice_count s n * s = (div_ceil_times n s some).0 in
-          let low : n ≤ 0 * s = subst (λ k. n ≤ k * s) e up in
-          let zero : n ≡ 0 = omega (arith, low) in
-          absurd (h zero)
-    ]
+    one_slice n s some h = more (slice_count s n) (div_ceil_times n s some).0
+      where
+        more : (k : ℕ) → n ≤ k * s → 1 ≤ k
+        more zero up = absurd (h (omega (arith, up)))
+        more (suc k) up = omega arith

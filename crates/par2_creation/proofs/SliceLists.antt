@@ -1,11 +1,14 @@
 -- Lists of slices and of packets, part by part.
-use Rattle.par2_creation.proofs.Common.{◌≡◌, ℕ, ◌+◌, ◌≤◌, ◌<◌, List, [], ◌∷◌, ◌++◌, length, map, get_or, take, drop, sym, ap, ◌∙◌, arith, Vec, Global, flat_map, sum_by, take_more, get_or-map, length-map, take-map, flat_map_more, drop_more, length-drop, sum_by_more_le, lists_of}
+use Rattle.par2_creation.proofs.Common.{◌≡◌, ℕ, ◌+◌, ◌≤◌, ◌<◌, List, [], ◌∷◌, ◌++◌, length, map, get_or, take, drop, sym, ap, take_all, ◌∙◌, arith, Vec, Global, flat_map, sum_by, take_more, get_or-map, length-map, take-map, flat_map_more, drop_more, length-drop, sum_by_more_le, lists_of}
 
 pub appended_next : {X A : Type 0} (f : X → List A) (xs : List X) (i : ℕ) (x : X) (old out new : List A) → i < length xs → x ≡ get_or xs i x → out ≡ old ++ flat_map f (take i xs) → new ≡ out ++ f x
     → new ≡ old ++ flat_map f (take (i + 1) xs)
 appended_next f xs i x old out new low is so_far step =
     step ∙ ap (λ o. o ++ f x) so_far ∙ flat_map_more f old (take i xs) x
     ∙ ap (λ ys. old ++ flat_map f ys) (ap (λ y. take i xs ++ y ∷ []) is ∙ sym (take_more xs i x low))
+
+pub appended_all : {X A : Type 0} (f : X → List A) (xs : List X) (i : ℕ) (old out : List A) → length xs ≤ i → out ≡ old ++ flat_map f (take i xs) → out ≡ old ++ flat_map f xs
+appended_all f xs i old out done so_far = so_far ∙ ap (λ ys. old ++ flat_map f ys) (take_all i xs done)
 
 -- the sum so far, and that of the next one, are part of the whole
 pub part_of_sum : {X Y : Type 0} (f : Y → ℕ) (g : X → Y) (xs : List X) (i : ℕ) (d : X) → i < length xs → sum_by f (map g (take i xs)) + f (g (get_or xs i d)) ≤ sum_by f (map g xs)

@@ -1,5 +1,5 @@
 -- Where the recovery slices of volumes lie, and what the volumes are once they are written there.
-use Rattle.par2_creation.proofs.Common.{drop_at, ext_get_or, get_or_default, get_or-take, get_or-drop, get_or_append_left, get_or-append_right, length-map, get_or-map, length-replicate, take_all, inl, inr, ℕ, zero, suc, ◌+◌, ◌-◌, ◌*◌, ◌/◌, ◌%◌, ◌<◌, ◌≤◌, ◌≡◌, refl, sym, ap, ap₂, subst, ◌∙◌, arith, List, [], ◌∷◌, ◌++◌, length, length-append, get_or, map, take, drop, zero-add, mul-le-mul_right, flat_map, range_with_len, enumerate_from, cases_lt, length-map-range_with_len, get_or-map-range_with_len, length-range_with_len, get_or-range_with_len, length-enumerate_from, get_or-enumerate_from, padded, list_at, ArePieces, undigested, length-pieces, piece_at, drop_behind, head_of, length-head, length-undigested, undigested_is, part_from, place_at, AreApart, HasByte, LieWithin, Place, output_at, AreWritten, AreZeros, HasSlices, inputs_of, HavePackets, exponents_in, length_with, nth_volume, place_in, places_in, places_of, slice_of, volume_with, Volume, Parts, length-flat_map-take}
+use Rattle.par2_creation.proofs.Common.{drop_at, ext_get_or, get_or-take, get_or-drop, get_or_append_left, get_or-append_right, length-map, get_or-map, length-replicate, take_all, inl, inr, ℕ, zero, suc, ◌+◌, ◌-◌, ◌*◌, ◌/◌, ◌%◌, ◌<◌, ◌≤◌, ◌≡◌, refl, sym, ap, ap₂, subst, ◌∙◌, arith, List, [], ◌∷◌, ◌++◌, length, length-append, get_or, map, take, drop, zero-add, mul-le-mul_right, flat_map, range_with_len, enumerate_from, cases_lt, length-map-range_with_len, get_or-map-range_with_len, length-range_with_len, get_or-range_with_len, length-enumerate_from, get_or-enumerate_from, padded, list_at, ArePieces, undigested, length-pieces, piece_at, drop_behind, head_of, length-head, length-undigested, undigested_is, part_from, place_at, AreApart, HasByte, LieWithin, Place, output_at, AreWritten, AreZeros, HasSlices, inputs_of, exponents_in, length_with, nth_volume, place_in, places_in, places_of, slice_of, volume_with, Volume, Parts, length-flat_map-take}
 use Rattle.std.proofs.Common.{replicate}
 use Rattle.par2_creation.specs.Volumes.{exponents_of}
 use Rattle.par2_spec.specs.Recovery.{recovery}
@@ -89,22 +89,21 @@ among parts volumes t low = located volumes t (omega (arith, low, length-places 
 stands : (parts : Parts) (volumes : List Volume) (t : ℕ) (x : Located volumes t) → place_at (places_of parts volumes) t ≡ place_in parts x.volume x.packet
 stands parts volumes t x = ap (place_at (places_of parts volumes)) x.number ∙ (numbered parts volumes x.volume x.packet x.in_volumes x.in_packets).place
 
-pub nth_is : (volumes : List Volume) (i : ℕ) (volume : Volume) → i < length volumes → volume ≡ get_or volumes i volume → volume ≡ nth_volume volumes i
-nth_is volumes i volume low is = is ∙ get_or_default volumes i volume no_volume low
-
 -- ---- places
+
+-- a packet ends in its volume
+pub packet_ends : (a k n m size : ℕ) → k < n → size ≡ a + n * m → a + k * m + m ≤ size
+packet_ends a k n m size low is =
+    let more : suc k * m ≤ n * m = mul-le-mul_right m (let e : suc k ≤ n = omega (arith, low) in e) in
+    let next : suc k * m ≡ k * m + m = omega arith in
+    omega (arith, more, next, is)
 
 -- a byte is one of a single packet
 same_packet : (m a k l b : ℕ) → a + k * m ≤ b → b < a + k * m + m → a + l * m ≤ b → b < a + l * m + m → k ≡ l
-same_packet m a k l b k_low k_high l_low l_high = elim (cases_lt k l) [
-  | inl less ↦ (let more : suc k * m ≤ l * m = mul-le-mul_right m (let e : suc k ≤ l = omega (arith, less) in e) in
-      let next : suc k * m ≡ k * m + m = omega arith in absurd (omega (arith, more, next, k_high, l_low)))
-  | inr not_less ↦ elim (cases_lt l k) [
-    | inl less ↦ (let more : suc l * m ≤ k * m = mul-le-mul_right m (let e : suc l ≤ k = omega (arith, less) in e) in
-        let next : suc l * m ≡ l * m + m = omega arith in absurd (omega (arith, more, next, l_high, k_low)))
-    | inr not_more ↦ (let e : k ≡ l = omega (arith, not_less, not_more) in e)
-  ]
-]
+same_packet m a k l b k_low k_high l_low l_high =
+    let below : k < l → ⊥ = λ less. omega (arith, packet_ends a k l m (a + l * m) less refl, k_high, l_low) in
+    let above : l < k → ⊥ = λ less. omega (arith, packet_ends a l k m (a + k * m) less refl, l_high, k_low) in
+    omega (arith, below, above)
 
 -- a byte of a recovery slice is one of its packet
 in_packet : (parts : Parts) (words i j k b : ℕ) (place : Place) → 2 * words ≡ parts.set.now.slice → place ≡ place_in parts j k → HasByte words place i b
@@ -125,24 +124,6 @@ places_apart parts words volumes size s t i b s_low t_low in_s in_t =
     let volume : x.volume ≡ y.volume = p.0 ∙ sym q.0 in
     let packet : x.packet ≡ y.packet = same_packet m (length parts.index.items) x.packet y.packet b (let l = p.1.0 in omega (arith, l)) p.1.1 (let l = q.1.0 in omega (arith, l)) q.1.1 in
     x.number ∙ ap₂ (λ (j k : ℕ). before volumes j + k) volume packet ∙ sym y.number
-
--- a packet ends in its volume
-pub packet_ends : (a k n m size : ℕ) → k < n → size ≡ a + n * m → a + k * m + m ≤ size
-packet_ends a k n m size low is =
-    let more : suc k * m ≤ n * m = mul-le-mul_right m (let e : suc k ≤ n = omega (arith, low) in e) in
-    let next : suc k * m ≡ k * m + m = omega arith in
-    omega (arith, more, next, is)
-
-pub places_within : (parts : Parts) (words : ℕ) (volumes : List Volume) (texts : List (List ℕ)) → 2 * words ≡ parts.set.now.slice → HavePackets parts volumes texts → LieWithin words (places_of parts volumes) texts
-places_within parts words volumes texts size have t low =
-    let m : ℕ = 68 + parts.set.now.slice in
-    let x = among parts volumes t low in
-    let count = have.0 in
-    let j = x.in_volumes in
-    let long = have.1 x.volume x.in_volumes in
-    let ends = packet_ends (length parts.index.items) x.packet (nth_volume volumes x.volume).count m (length (list_at texts x.volume)) x.in_packets long in
-    let here : (x.volume < length texts) × (length_with parts x.packet + 68 + 2 * words ≤ length (list_at texts x.volume)) = (omega (arith, count, j), omega (arith, ends, size)) in
-    subst (λ (place : Place). (place.text < length texts) × (place.at + 2 * words ≤ length (list_at texts place.text))) (sym (stands parts volumes t x)) here
 
 -- ---- bytes of packets
 
@@ -174,15 +155,20 @@ length-volume parts f volume sixteen sizes =
     let packets = length-pieces (68 + parts.set.now.slice) (λ (e : ℕ). undigested parts.set_id e (f e)) (sized parts f sixteen sizes) volume.first volume.count in
     length-append parts.index.items (flat_map (λ (e : ℕ). undigested parts.set_id e (f e)) (range_with_len volume.first volume.count)) ∙ ap (λ n. length parts.index.items + n) packets
 
--- blank volumes have all packets
-pub blank_packets : (parts : Parts) (volumes : List Volume) (texts : List (List ℕ)) → length parts.set_id ≡ 16 → texts ≡ map (volume_with parts (λ e. replicate parts.set.now.slice 0)) volumes → HavePackets parts volumes texts
-blank_packets parts volumes texts sixteen are =
-    let zeros = λ (e : ℕ). replicate {A = ℕ} parts.set.now.slice 0 in (
-      ap length are ∙ length-map volumes (volume_with parts zeros),
-      λ j low.
-          ap (λ (xs : List (List ℕ)). length (list_at xs j)) are ∙ ap length (get_or-map (volume_with parts zeros) volumes j no_volume [] low)
-          ∙ length-volume parts zeros (nth_volume volumes j) sixteen (λ e. length-replicate {A = ℕ} parts.set.now.slice 0),
-    )
+pub places_within : (parts : Parts) (words : ℕ) (volumes : List Volume) (texts : List (List ℕ)) → 2 * words ≡ parts.set.now.slice → length parts.set_id ≡ 16
+    → texts ≡ map (volume_with parts (λ e. replicate parts.set.now.slice 0)) volumes → LieWithin words (places_of parts volumes) texts
+places_within parts words volumes texts size sixteen are t low =
+    let x = among parts volumes t low in
+    let j = x.in_volumes in
+    let volume = nth_volume volumes x.volume in
+    let zeros = λ (e : ℕ). replicate {A = ℕ} parts.set.now.slice 0 in
+    let count = ap length are in
+    let long : length (list_at texts x.volume) ≡ length_with parts volume.count =
+    ap (λ (xs : List (List ℕ)). length (list_at xs x.volume)) are ∙ ap length (get_or-map (volume_with parts zeros) volumes x.volume no_volume [] j)
+    ∙ length-volume parts zeros volume sixteen (λ e. length-replicate {A = ℕ} parts.set.now.slice 0) in
+    let ends = packet_ends (length parts.index.items) x.packet volume.count (68 + parts.set.now.slice) (length (list_at texts x.volume)) x.in_packets long in
+    let here : (x.volume < length texts) × (length_with parts x.packet + 68 + 2 * words ≤ length (list_at texts x.volume)) = (omega (arith, count, length-map volumes (volume_with parts zeros), j), omega (arith, ends, size)) in
+    subst (λ (place : Place). (place.text < length texts) × (place.at + 2 * words ≤ length (list_at texts place.text))) (sym (stands parts volumes t x)) here
 
 -- a slice in a volume
 slice_in_volume : (parts : Parts) (f : ℕ → List ℕ) (volume : Volume) (k : ℕ) → length parts.set_id ≡ 16 → ((e : ℕ) → length (f e) ≡ parts.set.now.slice) → k < volume.count

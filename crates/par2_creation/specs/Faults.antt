@@ -6,9 +6,8 @@ use Rattle.par2_spec.specs.Names.{is_among, distinct}
 use Rattle.par2_spec.specs.Slices.{slice_count}
 use Rattle.par2_spec.specs.Folders.{File, Folder, has}
 use Rattle.par2_spec.specs.Volumes.{id_of}
-use Rattle.par2_spec.specs.Commands.{CreateArgs, files_of}
-use Rattle.par2_spec.specs.Refusals.{head_fault, bad_name}
-use Rattle.par2_creation.specs.Outputs.{output_names}
+use Rattle.par2_spec.specs.Commands.{files_of}
+use Rattle.par2_spec.specs.Refusals.{bad_name}
 use Rattle.par2_spec.specs.declared.Fault.{Fault}
 use Rattle.par2_spec.specs.declared.Fault.TheVariants.{DuplicateInput, NoSuchFile, EmptyFile, TooManySlices, DuplicateId, NameTooLong, Exists}
 
@@ -42,13 +41,3 @@ long_name names = fault_where (list_any (λ name. nat_lt 255 (length name)) name
 -- a file that would be replaced and may not be
 abbrev pub there_already : Folder → Bool → List (List ℕ) → Option Fault
 there_already folder overwrite names = fault_where (not overwrite && list_any (has folder) names) Exists
-
--- all of them
-unfoldable pub create_fault : Folder → CreateArgs → Option Fault
-unfolding head_fault inputs_fault
-create_fault folder a = first_fault (
-    head_fault a
-    ∷ inputs_fault folder a.slice a.inputs
-    ∷ long_name (output_names a)
-    ∷ there_already folder a.overwrite (output_names a)
-    ∷ [])

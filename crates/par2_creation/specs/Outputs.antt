@@ -79,6 +79,10 @@ packets_between parts e n = recovery_packets parts.set.now.slice parts.set_id (i
 abbrev pub volume_text : Parts → Volume → List ℕ
 volume_text parts volume = parts.index.items ++ flat_map packet (packets_between parts volume.first volume.count)
 
+-- it as a file
+abbrev pub volume_file : Parts → Volume → File
+volume_file parts volume = (volume.name, volume_text parts volume)
+
 -- a file is replaced where it is there already
 abbrev pub put_change : Folder → File → Change
 put_change folder file = if has folder file.0 then Replace file.0 file.1 else Write file.0 file.1
@@ -88,4 +92,4 @@ abbrev pub output_changes : List ℕ → Parts → List Volume → List Change
 output_changes base parts volumes =
     let folder = parts.folder.now.files in
     put_change folder (base, parts.index.items)
-    ∷ map (λ volume. put_change folder (volume.name, volume_text parts volume)) volumes
+    ∷ map (λ volume. put_change folder (volume_file parts volume)) volumes

@@ -1,12 +1,13 @@
 -- Volumes, into which recovery slices are written, and where these lie.
-use Rattle.std.specs.Prelude.{ℕ, ◌≡◌, ◌<◌, ◌+◌, ◌*◌, List, [], ◌++◌, length, map, flat_map, replicate, slice_index_or, Vec}
+use Rattle.std.specs.Prelude.{ℕ, ◌≡◌, ◌+◌, ◌*◌, List, [], ◌++◌, length, map, flat_map, replicate, slice_index_or, Vec}
 use Rattle.std.specs.declared.alloc.Global.{Global}
 use Rattle.std.specs.List.{enumerate_from, range_with_len}
+use Rattle.par2_spec.specs.Folders.{File}
 use Rattle.par2_spec.specs.Recovery.{recovery}
-use Rattle.par2_spec.specs.Sums.{list_at, lists_of}
+use Rattle.par2_spec.specs.Sums.{lists_of}
 use Rattle.par2_packets.specs.Recoveries.{undigested}
 use Rattle.par2_transform.specs.declared.outputs.Place.{Place}
-use Rattle.par2_creation.specs.Outputs.{inputs_of}
+use Rattle.par2_creation.specs.Outputs.{inputs_of, volume_file}
 use Rattle.par2_creation.specs.declared.names.Volume.{Volume}
 use Rattle.par2_creation.specs.declared.outputs.Parts.{Parts}
 
@@ -29,6 +30,14 @@ with_slices parts volume = volume_with parts (slice_of parts) volume
 -- the texts of volumes, in order
 abbrev pub AreTexts : {Z : Type 0} → (Volume → List ℕ) → List Volume → Vec (Vec ℕ Global) Z → Type 0
 AreTexts text_of volumes texts = lists_of texts.items ≡ map text_of volumes
+
+-- a text under a name, as a file
+abbrev pub as_file : List ℕ × Vec ℕ Global → File
+as_file file = (file.0, file.1.items)
+
+-- the volumes as files, in order
+abbrev pub AreFiles : {Z : Type 0} → Parts → List Volume → Vec (List ℕ × Vec ℕ Global) Z → Type 0
+AreFiles parts volumes files = map as_file files.items ≡ map (volume_file parts) volumes
 
 -- volume j, or one with nothing
 abbrev pub nth_volume : List Volume → ℕ → Volume
@@ -57,8 +66,3 @@ places_in parts z = map (place_in parts z.0) (range_with_len 0 z.1.count)
 -- where those of all volumes lie, in order
 abbrev pub places_of : Parts → List Volume → List Place
 places_of parts volumes = flat_map (places_in parts) (enumerate_from 0 volumes)
-
--- the texts are as long as the volumes
-abbrev pub HavePackets : Parts → List Volume → List (List ℕ) → Type 0
-HavePackets parts volumes texts =
-    (length texts ≡ length volumes) × ((j : ℕ) → j < length volumes → length (list_at texts j) ≡ length_with parts (nth_volume volumes j).count)

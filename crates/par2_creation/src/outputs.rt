@@ -5,7 +5,7 @@ ghost use Rattle.par2_creation.specs.Outputs.{HasSlices, HaveExponents, put_chan
 
 use crate::Changes;
 use crate::names::Volume;
-use crate::volumes::volume_texts;
+use crate::volumes::volume_files;
 use par2_folder::{Bytes, Change, Folder, Name};
 use par2_recovery::SetRecord;
 use par2_spec::Result;
@@ -38,13 +38,12 @@ pub fn changes_of(alloc: Global, base: Name, parts: Parts, volumes: &[Volume]) -
     requires exponents { HaveExponents volumes.now }
     ensures { IfOk result (λ changes. changes ≡ output_changes base parts.entry volumes.now) }
 {
-    let mut texts = volume_texts(alloc, &parts, volumes)?;
+    let files = volume_files(alloc, &parts, volumes)?;
     let folder = parts.folder;
     let mut changes = Changes::new(alloc);
     changes.push(put(folder, base, parts.index))?;
-    for volume in volumes {
-        let bytes = texts.remove(0);
-        changes.push(put(folder, volume.name.copied(), bytes))?;
+    for (name, bytes) in files {
+        changes.push(put(folder, name, bytes))?;
     }
     Ok(changes)
 }

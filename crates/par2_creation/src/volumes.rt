@@ -5,10 +5,11 @@ ghost use Rattle.std.specs.Prelude.{◌≡◌, ◌≤◌, ◌<◌, ◌+◌, ◌+
 ghost use Rattle.par2_spec.specs.Answers.{Appends};
 ghost use Rattle.par2_spec.specs.Sums.{lists_of};
 ghost use Rattle.par2_creation.specs.Outputs.{HasExponents, HasSlices, HaveExponents, ListsInputs, volume_text};
-ghost use Rattle.par2_creation.specs.Volumes.{AreTexts, HavePackets, blank_volume, exponents_of, length_with, places_in, places_of, with_slices};
+ghost use Rattle.par2_creation.specs.Volumes.{AreFiles, AreTexts, blank_volume, exponents_of, length_with, places_in, places_of, with_slices};
 
 use crate::names::Volume;
 use crate::outputs::Parts;
+use par2_folder::Name;
 use par2_gf16::Gf;
 use par2_packets::{digest_recoveries, with_undigested};
 use par2_recovery::{input_slices, write_recovery_slices};
@@ -38,30 +39,6 @@ fn blank_volume(alloc: Global, parts: &Parts, volume: &Volume) -> Result<Vec<u8>
     with_undigested(text, &parts.set_id, volume.first, volume.count, size)
 }
 
-// Those of all volumes.
-fn blank_volumes(alloc: Global, parts: &Parts, volumes: &[Volume]) -> Result<Vec<Vec<u8>>>
-    requires fits { 68 + parts.now.set.now.slice ≤ usize.MAX }
-    requires exponents { HaveExponents volumes.now }
-    ensures { IfOk result (AreTexts (blank_volume parts.now) volumes.now) }
-{
-    let mut texts = Vec::with_capacity(alloc, volumes.len())?;
-    for volume in volumes {
-        texts.push(blank_volume(alloc, parts, volume)?)?;
-    }
-    Ok(texts)
-}
-
-// The exponents of all volumes' recovery slices, in order.
-fn exponents_of(alloc: Global, volumes: &[Volume]) -> Result<Vec<u32>>
-    requires exponents { HaveExponents volumes.now }
-    ensures { IfOk result (λ exponents. exponents.items ≡ exponents_of volumes.now) }
-{
-    volumes
-        .iter()
-        .flat_map(|volume| volume.first..volume.first + volume.count)
-        .collect(alloc)
-}
-
 // Adds the places of a volume's recovery slices, which is volume `i`.
 fn append_places(
     places: &mut Vec<Place>,
@@ -82,22 +59,37 @@ fn append_places(
     Ok(())
 }
 
-// Those of all volumes, in order.
-fn places_of(
+// Those of all volumes, and the places of their recovery slices, in order.
+fn blank_volumes(
     alloc: Global,
     parts: &Parts,
     volumes: &[Volume],
-    texts: &[Vec<u8>],
-) -> Result<Vec<Place>>
+) -> Result<(Vec<Vec<u8>>, Vec<Place>)>
+    requires parts { HasSlices parts.now }
     requires fits { 68 + parts.now.set.now.slice ≤ usize.MAX }
-    requires texts { HavePackets parts.now volumes.now (lists_of texts.now) }
-    ensures { IfOk result (λ places. places.items ≡ places_of parts.now volumes.now) }
+    requires exponents { HaveExponents volumes.now }
+    ensures texts { IfOk result (λ made. AreTexts (blank_volume parts.now) volumes.now made.0) }
+    ensures places { IfOk result (λ made. made.1.items ≡ places_of parts.now volumes.now) }
 {
+    let mut texts = Vec::with_capacity(alloc, volumes.len())?;
     let mut places = Vec::new(alloc);
-    for i in 0..volumes.len() {
-        append_places(&mut places, parts, &volumes[i], i, &texts[i])?;
+    for volume in volumes {
+        let text = blank_volume(alloc, parts, volume)?;
+        append_places(&mut places, parts, volume, texts.len(), &text)?;
+        texts.push(text)?;
     }
-    Ok(places)
+    Ok((texts, places))
+}
+
+// The exponents of all volumes' recovery slices, in order.
+fn exponents_of(alloc: Global, volumes: &[Volume]) -> Result<Vec<u32>>
+    requires exponents { HaveExponents volumes.now }
+    ensures { IfOk result (λ exponents. exponents.items ≡ exponents_of volumes.now) }
+{
+    volumes
+        .iter()
+        .flat_map(|volume| volume.first..volume.first + volume.count)
+        .collect(alloc)
 }
 
 // Writes the recovery slices of all volumes where they belong.
@@ -107,18 +99,19 @@ fn write_slices(
     parts: &Parts,
     inputs: &[&[u8]],
     volumes: &[Volume],
+    places: &[Place],
     texts: &mut [Vec<u8>],
 ) -> Result<()>
     requires parts { HasSlices parts.now }
     requires fits { 68 + parts.now.set.now.slice ≤ usize.MAX }
     requires inputs { ListsInputs parts.now inputs.now }
     requires exponents { HaveExponents volumes.now }
+    requires places { places.now ≡ places_of parts.now volumes.now }
     requires before { lists_of texts.old ≡ map (blank_volume parts.now) volumes.now }
     ensures { OnOk result (lists_of texts.new ≡ map (with_slices parts.now) volumes.now) }
 {
     let exponents = exponents_of(alloc, volumes)?;
-    let places = places_of(alloc, parts, volumes, texts)?;
-    let outputs = Places::new(&places, parts.set.slice as usize / 2);
+    let outputs = Places::new(places, parts.set.slice as usize / 2);
     write_recovery_slices(alloc, gf, inputs, &exponents, texts, &outputs)
 }
 
@@ -134,33 +127,37 @@ fn digest_volume(alloc: Global, text: &mut [u8], parts: &Parts, volume: &Volume)
     digest_recoveries(alloc, packets, size, volume.count as usize)
 }
 
-// Volumes with the MD5s in them.
+// Volumes with the MD5s in them, under their names.
 fn digested(
     alloc: Global,
     texts: Vec<Vec<u8>>,
     parts: &Parts,
     volumes: &[Volume],
-) -> Result<Vec<Vec<u8>>>
+) -> Result<Vec<(Name, Vec<u8>)>>
     requires parts { HasSlices parts.now }
     requires fits { 68 + parts.now.set.now.slice ≤ usize.MAX }
     requires before { AreTexts (with_slices parts.now) volumes.now texts }
-    ensures { IfOk result (AreTexts (volume_text parts.now) volumes.now) }
+    ensures { IfOk result (AreFiles parts.now volumes.now) }
 {
     let mut texts = texts;
-    let mut digested = Vec::with_capacity(alloc, volumes.len())?;
+    let mut files = Vec::with_capacity(alloc, volumes.len())?;
     for volume in volumes {
         let mut text = texts.remove(0);
         digest_volume(alloc, text.as_mut_slice(), parts, volume)?;
-        digested.push(text)?;
+        files.push((volume.name.copied(), text))?;
     }
-    Ok(digested)
+    Ok(files)
 }
 
-/// The bytes of the volumes in order. Where there are none, no table is made and no input looked up.
-pub(crate) fn volume_texts(alloc: Global, parts: &Parts, volumes: &[Volume]) -> Result<Vec<Vec<u8>>>
+/// The volumes as files, in order. Where there are none, no table is made and no input looked up.
+pub(crate) fn volume_files(
+    alloc: Global,
+    parts: &Parts,
+    volumes: &[Volume],
+) -> Result<Vec<(Name, Vec<u8>)>>
     requires parts { HasSlices parts.now }
     requires exponents { HaveExponents volumes.now }
-    ensures { IfOk result (AreTexts (volume_text parts.now) volumes.now) }
+    ensures { IfOk result (AreFiles parts.now volumes.now) }
 {
     if volumes.is_empty() {
         return Ok(Vec::new(alloc));
@@ -171,7 +168,8 @@ pub(crate) fn volume_texts(alloc: Global, parts: &Parts, volumes: &[Volume]) -> 
     }
     let gf = Gf::new(alloc)?;
     let inputs = input_slices(alloc, parts.set, parts.folder)?;
-    let mut texts = blank_volumes(alloc, parts, volumes)?;
-    write_slices(alloc, &gf, parts, &inputs, volumes, texts.as_mut_slice())?;
+    let (mut texts, places) = blank_volumes(alloc, parts, volumes)?;
+    let blank = texts.as_mut_slice();
+    write_slices(alloc, &gf, parts, &inputs, volumes, &places, blank)?;
     digested(alloc, texts, parts, volumes)
 }

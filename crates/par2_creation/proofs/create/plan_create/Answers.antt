@@ -1,8 +1,13 @@
 use Rattle.par2_creation.proofs.Common.{◌≡◌, ◌∙◌, ◌∷◌, inr, refl, sym, ap, ap₂, subst, true, Some, Err, List, ℕ, map, string_bytes, None, is_par_name, err_from_is_err_and, Folder, Create, CreateArgs, bad_name, early_refusal, refusal, create_args_of, Fault, Volume, long_name, there_already, inputs_fault, volumes_of, names_of, output_names, refused_early}
 use Rattle.std.proofs.Common.{Option}
+use Rattle.par2_spec.specs.Changes.{are_applicable, effects}
+use Rattle.par2_spec.specs.Plans.{changes_of}
+use Rattle.par2_spec.specs.Refusals.{after}
+use Rattle.par2_spec.proofs.CreateLaws.{create_applies}
+use Rattle.par2_spec.proofs.CommandLaws.{create_leads}
 use Rattle.par2_creation.proofs.GoodWords.{head_passed}
 use Rattle.par2_creation.proofs.VolumeNumbers.{long_without_base}
-use Rattle.par2_creation.proofs.RefusalGroups.{early_by, refused_by, are_planned, apply_in_order, lead_to_folder}
+use Rattle.par2_creation.proofs.RefusalGroups.{early_by, refused_by}
 use Rattle.par2_creation.proofs.PassedAnswers.{answered_so, never_found}
 use Rattle.par2_creation.proofs.create.plan_create.Goals.{In-Some, After-set_of_inputs, After-there_already}
 use Rattle.par2_creation.proofs.PassedAnswers as passed
@@ -96,13 +101,17 @@ returns-clause-accepted c =
     refused_by c.args.folder.now.files (create_args_of c.args.args.now) None None None None c.in_ok-base.ensures.accepted c.in_ok-set.ensures.accepted is.0 (is.1 ∙ c.in_default-there_already.is)
 
 pub returns-clause-changes : goal.returns-clause-changes
-returns-clause-changes c = are_planned c.args.folder.now.files (create_args_of c.args.args.now) _ c.in_ok-changes.ensures
+unfolding changes_of
+returns-clause-changes c = c.in_ok-changes.ensures
 
 pub returns-clause-applies : goal.returns-clause-applies
-returns-clause-applies c = apply_in_order c.args.folder.now.files (create_args_of c.args.args.now) _ c.in_ok-changes.ensures
+returns-clause-applies c =
+    ap (are_applicable c.args.folder.now.files) c.in_ok-changes.ensures ∙ create_applies c.args.folder.now.files (create_args_of c.args.args.now)
 
 pub returns-clause-leads : goal.returns-clause-leads
-returns-clause-leads c = lead_to_folder c.args.folder.now.files (create_args_of c.args.args.now) _ c.in_ok-changes.ensures
+unfolding after
+returns-clause-leads c =
+    ap (effects c.args.folder.now.files) c.in_ok-changes.ensures ∙ create_leads c.args.folder.now.files (create_args_of c.args.args.now)
 
 pub returns-in_err-set-clause-early : goal.returns-in_err-set-clause-early
 returns-in_err-set-clause-early c fault early = absurd (never_found _ fault (none_early (goal.at.returns-in_err-set-clause-early c).After-set_of_inputs) early)

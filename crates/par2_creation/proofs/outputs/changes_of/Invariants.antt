@@ -1,8 +1,11 @@
-use Rattle.par2_creation.proofs.Common.{◌≡◌, ◌++◌, map, take, drop, lists_of, volume_text, put_change}
+use Rattle.par2_creation.proofs.Common.{◌≡◌, ◌++◌, length, map, put_change}
+use Rattle.par2_creation.specs.Volumes.{as_file}
+use Rattle.std.specs.Vec.Iter.{into_iter_items, into_iter_len}
 use Rattle.par2_creation.proofs.outputs.changes_of.Given as goal
 
-abbrev pub invariant-loop-volume : goal.invariant-loop-volume
-invariant-loop-volume l = record {
-  changes : l.changes ≡ l.initial.changes ++ map (λ volume. put_change l.folder.files (volume.name, volume_text l.fn.parts volume)) (take l.volume-index l.volumes);
-  texts : lists_of l.texts.items ≡ map (volume_text l.fn.parts) (drop l.volume-index l.volumes);
+abbrev pub invariant-loop-name : goal.invariant-loop-name
+invariant-loop-name l = record {
+  left : l.yielded ++ into_iter_items l.name-iterator ≡ into_iter_items l.initial.name-iterator;
+  count : into_iter_len l.name-iterator ≡ length (into_iter_items l.name-iterator);
+  so_far : l.changes ≡ l.initial.changes ++ map (λ file. put_change l.folder.files (as_file file)) l.yielded;
 }

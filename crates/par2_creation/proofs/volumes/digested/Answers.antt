@@ -1,10 +1,12 @@
-use Rattle.par2_creation.proofs.Common.{◌≡◌, ◌∙◌, ◌++◌, ◌∷◌, [], List, ℕ, Vec, Global, length, map, sym, ap, ap₂, rules, map-append, map_more, take_all, with_items_is, lists_of, volume_text, with_slices, Volume}
+use Rattle.par2_creation.proofs.Common.{◌≡◌, ◌∙◌, ◌++◌, ◌∷◌, [], List, ℕ, length, map, sym, ap, ap₂, rules, map-append, map_more, take_all, with_items_is, lists_of, with_slices, Volume}
 use Rattle.std.specs.Vec.{with_items}
+use Rattle.par2_creation.specs.Outputs.{volume_file}
+use Rattle.par2_creation.specs.Volumes.{as_file}
 use Rattle.par2_creation.proofs.SliceLists.{some_left, taken}
 use Rattle.par2_creation.proofs.volumes.digested.Goals as goal
 
 pub loop-volume-init : goal.loop-volume-init
-loop-volume-init c = record { done = ap (λ (texts : List (Vec ℕ Global)). lists_of texts) c.in_ok-digested.ensures.items; left = c.requires.before }
+loop-volume-init c = record { done = ap (map as_file) c.in_ok-files.ensures.items; left = c.requires.before }
 
 pub remove-text-requires : goal.remove-text-requires
 remove-text-requires c =
@@ -22,10 +24,11 @@ loop-volume-preserved c =
     let text = with_items c.remove-text.result c.digest_volume.new.text in
     record {
       done =
-          ap (λ (texts : List (Vec ℕ Global)). lists_of texts) c.in_ok-push.ensures.items
-          ∙ map-append (λ (text : Vec ℕ Global). text.items) c.loop-volume.digested.items (text ∷ [])
-          ∙ ap₂ (λ (texts : List (List ℕ)) bytes. texts ++ bytes ∷ []) c.loop-volume.invariant.done (with_items_is c.remove-text.result c.digest_volume.new.text size ∙ c.in_ok-digest_volume.ensures ∙ ap (volume_text parts) c.volume-item.is)
-          ∙ sym (map_more (volume_text parts) volumes i volume low);
+          ap (map as_file) c.in_ok-push.ensures.items
+          ∙ map-append as_file c.loop-volume.files.items ((c.copied.result, text) ∷ [])
+          ∙ ap₂ (λ files file. files ++ file ∷ []) c.loop-volume.invariant.done
+          (ap₂ (λ (name bytes : List ℕ). (name, bytes)) c.copied.ensures (with_items_is c.remove-text.result c.digest_volume.new.text size ∙ c.in_ok-digest_volume.ensures) ∙ ap (volume_file parts) c.volume-item.is)
+          ∙ sym (map_more (volume_file parts) volumes i volume low);
       left = ap lists_of c.remove-text.ensures.items ∙ (taken (with_slices parts) volumes i volume c.loop-volume.texts.items c.remove-text.result low c.volume-item.is c.loop-volume.invariant.left c.remove-text.ensures.value).1;
     }
 
@@ -35,4 +38,4 @@ digest_volume-requires-clause-before c =
     ∙ (taken (with_slices c.args.parts.now) c.args.volumes.now c.loop-volume.volume-index c.volume-item.result c.loop-volume.texts.items c.remove-text.result c.loop-volume-test.true c.volume-item.is c.loop-volume.invariant.left c.remove-text.ensures.value).0
 
 pub returns : goal.returns
-returns c = c.loop-volume.invariant.done ∙ ap (map (volume_text c.args.parts.now)) (take_all c.loop-volume.volume-index c.args.volumes.now c.loop-volume-test.false)
+returns c = c.loop-volume.invariant.done ∙ ap (map (volume_file c.args.parts.now)) (take_all c.loop-volume.volume-index c.args.volumes.now c.loop-volume-test.false)

@@ -1,18 +1,15 @@
 use Rattle.par2_creation.proofs.Common.{◌∙◌, ◌/◌, List, ℕ, sym, ap, subst, arith, length, length-map, on_ok_weaker, padded, lists_of, AreApart, LieWithin, Place, AreWritten, AreZeros, Volume}
 use Rattle.std.specs.Borrow.{Bor}
 use Rattle.par2_recovery.specs.Views.{texts_of}
-use Rattle.par2_creation.proofs.VolumePlaces.{blank_packets, places_apart, places_blank, places_within, length-places, volumes_written}
+use Rattle.par2_creation.proofs.VolumePlaces.{places_apart, places_blank, places_within, length-places, volumes_written}
 use Rattle.par2_creation.proofs.volumes.write_slices.Goals as goal
-
-pub places_of-requires-clause-texts : goal.places_of-requires-clause-texts
-places_of-requires-clause-texts c = blank_packets c.args.parts.now c.args.volumes.now (lists_of c.args.texts.now) c.requires.parts.sixteen c.requires.before
 
 pub new-outputs-requires : goal.new-outputs-requires
 new-outputs-requires c =
     let parts = c.args.parts.now in
     let words : ℕ = parts.set.now.slice / 2 in
     record {
-      apart = subst (λ (places : List Place). AreApart words places) (sym (c.deref.ensures.value ∙ c.in_ok-places.ensures))
+      apart = subst (λ (places : List Place). AreApart words places) (sym c.requires.places)
           (places_apart parts words c.args.volumes.now (omega (arith, c.requires.parts.fours)));
     }
 
@@ -25,22 +22,22 @@ write_recovery_slices-requires-clause-slices c =
 
 pub write_recovery_slices-requires-clause-count : goal.write_recovery_slices-requires-clause-count
 write_recovery_slices-requires-clause-count c =
-    let numbers = ap length (c.deref-2.ensures.value ∙ c.in_ok-exponents.ensures) in
-    let places = ap (λ (all : List Place). length all) (c.new-outputs.ensures.places ∙ c.deref.ensures.value ∙ c.in_ok-places.ensures) in
+    let numbers = ap length (c.deref.ensures.value ∙ c.in_ok-exponents.ensures) in
+    let places = ap (λ (all : List Place). length all) (c.new-outputs.ensures.places ∙ c.requires.places) in
     numbers ∙ length-places c.args.parts.now c.args.volumes.now ∙ sym places
 
 pub write_recovery_slices-requires-clause-room : goal.write_recovery_slices-requires-clause-room
 write_recovery_slices-requires-clause-room c =
     let parts = c.args.parts.now in
     let texts = lists_of c.args.texts.now in
-    subst (λ (all : List Place). LieWithin c.new-outputs.result.words all texts) (sym (c.new-outputs.ensures.places ∙ c.deref.ensures.value ∙ c.in_ok-places.ensures))
-    (rw c.new-outputs.ensures.words (places_within parts (parts.set.now.slice / 2) c.args.volumes.now texts (omega (arith, c.requires.parts.fours)) (blank_packets parts c.args.volumes.now texts c.requires.parts.sixteen c.requires.before)))
+    subst (λ (all : List Place). LieWithin c.new-outputs.result.words all texts) (sym (c.new-outputs.ensures.places ∙ c.requires.places))
+    (rw c.new-outputs.ensures.words (places_within parts (parts.set.now.slice / 2) c.args.volumes.now texts (omega (arith, c.requires.parts.fours)) c.requires.parts.sixteen c.requires.before))
 
 pub write_recovery_slices-requires-clause-zeros : goal.write_recovery_slices-requires-clause-zeros
 write_recovery_slices-requires-clause-zeros c =
     let parts = c.args.parts.now in
     let texts = lists_of c.args.texts.now in
-    subst (λ (all : List Place). AreZeros c.new-outputs.result.words all texts) (sym (c.new-outputs.ensures.places ∙ c.deref.ensures.value ∙ c.in_ok-places.ensures))
+    subst (λ (all : List Place). AreZeros c.new-outputs.result.words all texts) (sym (c.new-outputs.ensures.places ∙ c.requires.places))
     (rw c.new-outputs.ensures.words (places_blank parts (parts.set.now.slice / 2) c.args.volumes.now texts (omega (arith, c.requires.parts.fours)) c.requires.parts.sixteen c.requires.before))
 
 pub returns : goal.returns
@@ -50,11 +47,11 @@ returns c =
     let outputs = c.new-outputs.result in
     let words : ℕ = parts.set.now.slice / 2 in
     let slices = texts_of c.args.inputs.now in
-    let exponents : List ℕ = c.deref-2.result.now in
+    let exponents : List ℕ = c.deref.result.now in
     let old = lists_of c.args.texts.now in
     let new = lists_of c.write_recovery_slices.new.texts in
-    let places = c.new-outputs.ensures.places ∙ c.deref.ensures.value ∙ c.in_ok-places.ensures in
-    let numbers = c.deref-2.ensures.value ∙ c.in_ok-exponents.ensures in
+    let places = c.new-outputs.ensures.places ∙ c.requires.places in
+    let numbers = c.deref.ensures.value ∙ c.in_ok-exponents.ensures in
     on_ok_weaker c.write_recovery_slices.result
     (λ written. volumes_written parts words volumes slices exponents old new c.requires.parts (omega (arith, c.requires.parts.fours)) c.requires.parts.sixteen c.requires.inputs numbers c.requires.before
     (subst (λ (all : List Place). AreWritten words slices exponents all old new) places
