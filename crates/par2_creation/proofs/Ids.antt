@@ -1,7 +1,6 @@
 -- Whether File IDs are distinct.
-use Rattle.par2_creation.proofs.Common.{◌≡◌, ℕ, List, length, map, sym, ap, ◌∙◌, subst, Some, None, ◌==◌, IsDistinct, bytes_eq, not_from_true, not_from_false, eqb-true, eq-eqb, false_from_ne_true, length-map, map-map, fault_where, distinct, File, id_of, record_of, DuplicateId, AreDistinct, distinct_from_std, std_from_distinct, distinct_same, distinct_by_length, file_record_of, ids_fault}
+use Rattle.par2_creation.proofs.Common.{◌≡◌, ℕ, List, length, map, sym, ap, ◌∙◌, subst, Some, None, ◌==◌, IsDistinct, bytes_eq, not_from_true, not_from_false, eqb-true, eq-eqb, false_from_ne_true, length-map, map-map, fault_where, distinct, File, id_of, record_of, DuplicateId, AreDistinct, distinct_from_std, std_from_distinct, distinct_same, distinct_by_length, file_record_of, ids_fault, AreRecords}
 use Rattle.par2_spec.specs.Volumes.{FileRecord}
-use Rattle.par2_recovery.specs.Views.{AreRecords}
 use Rattle.par2_packets.specs.declared.record.FileRecord as packets
 
 ids_of_records : (s : ℕ) (files : List File) → map (λ (file : FileRecord). file.id) (map (record_of s) files) ≡ map id_of files

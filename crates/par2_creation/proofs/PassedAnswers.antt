@@ -1,5 +1,7 @@
 -- Answers that are passed on.
-use Rattle.par2_creation.proofs.Common.{◌≡◌, ◌⊎◌, ◌∙◌, sym, ap, Result, Err, none-some, same_Some, Option, IfErr, IsErrOf, Fault, Memory, err_again}
+use Rattle.par2_creation.proofs.Common.{◌≡◌, ◌⊎◌, ◌∙◌, sym, ap, Result, Err, IfErr, IsErrOf, Fault, Memory, err_again}
+use Rattle.std.proofs.lemmas.Option.{none-some, same_Some}
+use Rattle.std.specs.Prelude.{Option}
 use Rattle.std.specs.Prelude.{None, Some}
 use Rattle.std.proofs.Math.Logic.{⊎_map}
 

@@ -1,5 +1,5 @@
 -- Lists of slices and of packets, part by part.
-use Rattle.par2_creation.proofs.Common.{◌≡◌, ℕ, ◌+◌, ◌≤◌, ◌<◌, List, [], ◌∷◌, ◌++◌, length, map, get_or, take, drop, sym, ap, take_all, ◌∙◌, arith, Vec, Global, flat_map, sum_by, take_more, get_or-map, length-map, take-map, flat_map_more, drop_more, length-drop, sum_by_more_le, lists_of}
+use Rattle.par2_creation.proofs.Common.{◌≡◌, ℕ, ◌+◌, ◌≤◌, ◌<◌, List, [], ◌∷◌, ◌++◌, length, map, get_or, take, drop, sym, ap, ◌∙◌, arith, Vec, Global, take_all, take_more, get_or-map, length-map, take-map, flat_map_more, drop_more, length-drop, flat_map, sum_by, sum_by_more_le, lists_of}
 
 pub appended_next : {X A : Type 0} (f : X → List A) (xs : List X) (i : ℕ) (x : X) (old out new : List A) → i < length xs → x ≡ get_or xs i x → out ≡ old ++ flat_map f (take i xs) → new ≡ out ++ f x
     → new ≡ old ++ flat_map f (take (i + 1) xs)

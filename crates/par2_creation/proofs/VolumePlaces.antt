@@ -1,7 +1,6 @@
 -- Where the recovery slices of volumes lie, and what the volumes are once they are written there.
-use Rattle.par2_creation.proofs.Common.{drop_at, ext_get_or, get_or-take, get_or-drop, get_or_append_left, get_or-append_right, length-map, get_or-map, length-replicate, take_all, inl, inr, ℕ, zero, suc, ◌+◌, ◌-◌, ◌*◌, ◌/◌, ◌%◌, ◌<◌, ◌≤◌, ◌≡◌, refl, sym, ap, ap₂, subst, ◌∙◌, arith, List, [], ◌∷◌, ◌++◌, length, length-append, get_or, map, take, drop, zero-add, mul-le-mul_right, flat_map, range_with_len, enumerate_from, cases_lt, length-map-range_with_len, get_or-map-range_with_len, length-range_with_len, get_or-range_with_len, length-enumerate_from, get_or-enumerate_from, padded, list_at, ArePieces, undigested, length-pieces, piece_at, drop_behind, head_of, length-head, length-undigested, undigested_is, part_from, place_at, AreApart, HasByte, LieWithin, Place, output_at, AreWritten, AreZeros, HasSlices, inputs_of, exponents_in, length_with, nth_volume, place_in, places_in, places_of, slice_of, volume_with, Volume, Parts, length-flat_map-take}
-use Rattle.std.proofs.Common.{replicate}
-use Rattle.par2_creation.specs.Volumes.{exponents_of}
+use Rattle.par2_creation.proofs.Common.{drop_at, ext_get_or, get_or-take, get_or-drop, get_or_append_left, get_or-append_right, length-map, get_or-map, length-replicate, take_all, inl, inr, ℕ, zero, suc, ◌+◌, ◌-◌, ◌*◌, ◌/◌, ◌%◌, ◌<◌, ◌≤◌, ◌≡◌, refl, sym, ap, ap₂, subst, ◌∙◌, arith, List, [], ◌∷◌, ◌++◌, length, length-append, get_or, map, take, drop, zero-add, mul-le-mul_right, flat_map, range_with_len, enumerate_from, cases_lt, length-map-range_with_len, get_or-map-range_with_len, length-range_with_len, get_or-range_with_len, length-enumerate_from, get_or-enumerate_from, padded, list_at, ArePieces, undigested, length-pieces, piece_at, drop_behind, head_of, length-head, length-undigested, undigested_is, part_from, Place, output_at, AreWritten, AreZeros, HasSlices, inputs_of, exponents_in, length_with, nth_volume, place_in, places_in, places_of, slice_of, volume_with, Volume, Parts, length-flat_map-take, replicate, exponents_of}
+use Rattle.par2_transform.specs.Adding.{place_at, AreApart, HasByte, LieWithin}
 use Rattle.par2_spec.specs.Recovery.{recovery}
 use Rattle.std.proofs.lemmas.List.Concat.{get_or-flat_map}
 use Rattle.std.proofs.lemmas.Nat.{div-add-mod'}
@@ -138,12 +137,6 @@ byte_of_packet index m f e n k r sizes low here =
     ∙ sym (get_or-drop (k * m) packets r 0) ∙ sym (get_or-take m (drop (k * m) packets) r 0 here)
     ∙ ap (λ (xs : List ℕ). get_or xs r 0) (piece_at m f e n k packets pieces low)
 
--- of the head, and of the slice
-byte_of_head : (id : List ℕ) (e r : ℕ) (slice : List ℕ) → length id ≡ 16 → r < 68 → get_or (undigested id e slice) r 0 ≡ get_or (head_of id e (length slice)) r 0
-byte_of_head id e r slice sixteen low =
-    ap (λ (xs : List ℕ). get_or xs r 0) (undigested_is id e slice)
-    ∙ get_or_append_left (head_of id e (length slice)) slice 0 r (let size = length-head id e (length slice) sixteen in omega (arith, size, low))
-
 -- ---- volumes
 
 sized : (parts : Parts) (f : ℕ → List ℕ) → length parts.set_id ≡ 16 → ((e : ℕ) → length (f e) ≡ parts.set.now.slice) → (e : ℕ) → length (undigested parts.set_id e (f e)) ≡ 68 + parts.set.now.slice
@@ -240,21 +233,25 @@ volumes_written parts words volumes slices exponents old new can size sixteen in
         none x.packet (subst (λ (j : ℕ). x.packet < (nth_volume volumes j).count) at.0 x.in_packets) at.1.0 at.1.1)
         ∙ ap (λ (xs : List ℕ). get_or xs b 0) (was i low)
 
-    -- a byte of a packet's head
+    -- a byte of a packet's head, whatever its slice
+    head_byte : (f : ℕ → List ℕ) (volume : Volume) (k r : ℕ) → ((e : ℕ) → length (f e) ≡ parts.set.now.slice) → k < volume.count → r < 68
+        → get_or (volume_with parts f volume) (length_with parts k + r) 0 ≡ get_or (head_of parts.set_id (volume.first + k) parts.set.now.slice) r 0
+    head_byte f volume k r sizes here small =
+        let e : ℕ = volume.first + k in
+        let head = head_of parts.set_id e (length (f e)) in
+        byte_of_packet parts.index.items (68 + parts.set.now.slice) (λ (e : ℕ). undigested parts.set_id e (f e)) volume.first volume.count k r (sized parts f sixteen sizes) here (omega (arith, small))
+        ∙ ap (λ (xs : List ℕ). get_or xs r 0) (undigested_is parts.set_id e (f e))
+        ∙ get_or_append_left head (f e) 0 r (let long = length-head parts.set_id e (length (f e)) sixteen in omega (arith, long, small)) ∙ ap (λ n. get_or (head_of parts.set_id e n) r 0) (sizes e)
+
     in_head : (i k r : ℕ) → i < length volumes → k < (nth_volume volumes i).count → r < 68
         → get_or (list_at new i) (length_with parts k + r) 0 ≡ get_or (volume_with parts (slice_of parts) (nth_volume volumes i)) (length_with parts k + r) 0
     in_head i k r low here small =
         let volume = nth_volume volumes i in
-        let e : ℕ = volume.first + k in
         kept i (length_with parts k + r) low (λ l _ l_low l_high.
         let same : l ≡ k = same_packet (68 + parts.set.now.slice) (length parts.index.items) l k (length_with parts k + r) (omega (arith, l_low)) l_high (omega arith) (omega (arith, small)) in
         let place : l * (68 + parts.set.now.slice) ≡ k * (68 + parts.set.now.slice) = ap (λ n. n * (68 + parts.set.now.slice)) same in
         omega (arith, place, l_low, small))
-        ∙ byte_of_packet parts.index.items (68 + parts.set.now.slice) (λ (e : ℕ). undigested parts.set_id e (zeros e)) volume.first volume.count k r (sized parts zeros sixteen zeros_size) here (omega (arith, small))
-        ∙ byte_of_head parts.set_id e r (zeros e) sixteen small
-        ∙ ap (λ n. get_or (head_of parts.set_id e n) r 0) (zeros_size e ∙ sym (slice_size e))
-        ∙ sym (byte_of_head parts.set_id e r (slice_of parts e) sixteen small)
-        ∙ sym (byte_of_packet parts.index.items (68 + parts.set.now.slice) (λ (e : ℕ). undigested parts.set_id e (slice_of parts e)) volume.first volume.count k r (sized parts (slice_of parts) sixteen slice_size) here (omega (arith, small)))
+        ∙ head_byte zeros volume k r zeros_size here small ∙ sym (head_byte (slice_of parts) volume k r slice_size here small)
 
     -- a byte of its slice
     in_slice : (i k r : ℕ) → i < length volumes → k < (nth_volume volumes i).count → r < parts.set.now.slice

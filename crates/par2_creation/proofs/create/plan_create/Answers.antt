@@ -1,9 +1,5 @@
-use Rattle.par2_creation.proofs.Common.{◌≡◌, ◌∙◌, ◌∷◌, inr, refl, sym, ap, ap₂, subst, true, Some, Err, List, ℕ, map, string_bytes, None, is_par_name, err_from_is_err_and, Folder, Create, CreateArgs, bad_name, early_refusal, refusal, create_args_of, Fault, Volume, long_name, there_already, inputs_fault, volumes_of, names_of, output_names, refused_early}
-use Rattle.std.proofs.Common.{Option}
-use Rattle.par2_spec.specs.Changes.{are_applicable, effects}
-use Rattle.par2_spec.specs.Plans.{changes_of}
-use Rattle.par2_spec.specs.Refusals.{after}
-use Rattle.par2_spec.proofs.CreateLaws.{create_applies}
+use Rattle.par2_creation.proofs.Common.{◌≡◌, ◌∙◌, ◌∷◌, inr, refl, sym, ap, ap₂, subst, true, Some, Err, List, ℕ, map, string_bytes, None, is_par_name, err_from_is_err_and, Folder, Create, CreateArgs, bad_name, early_refusal, refusal, create_args_of, Fault, Volume, long_name, there_already, inputs_fault, volumes_of, names_of, output_names, Option, are_applicable, effects, changes_of, after, create_applies}
+use Rattle.par2_spec.proofs.EarlyLaws.{refused_early}
 use Rattle.par2_spec.proofs.CommandLaws.{create_leads}
 use Rattle.par2_creation.proofs.GoodWords.{head_passed}
 use Rattle.par2_creation.proofs.VolumeNumbers.{long_without_base}

@@ -1,4 +1,5 @@
-use Rattle.par2_creation.proofs.Common.{◌≡◌, ◌∙◌, ◌||◌, sym, ap, false, rules, tests, list_any, has, names_of, Volume, YieldsList-from_slice, any_from_yields_List}
+use Rattle.par2_creation.proofs.Common.{◌≡◌, ◌∙◌, ◌||◌, sym, ap, false, rules, tests, list_any, has, names_of, Volume, YieldsList-from_slice}
+use Rattle.std.proofs.lemmas.Iterator.Search.{any_from_yields_List}
 use Rattle.par2_creation.proofs.VolumeNumbers.{any_named}
 use Rattle.par2_creation.proofs.names.is_there.Goals as goal
 

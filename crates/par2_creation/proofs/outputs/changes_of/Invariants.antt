@@ -1,6 +1,4 @@
-use Rattle.par2_creation.proofs.Common.{◌≡◌, ◌++◌, length, map, put_change}
-use Rattle.par2_creation.specs.Volumes.{as_file}
-use Rattle.std.specs.Vec.Iter.{into_iter_items, into_iter_len}
+use Rattle.par2_creation.proofs.Common.{◌≡◌, ◌++◌, length, map, put_change, as_file, into_iter_items, into_iter_len}
 use Rattle.par2_creation.proofs.outputs.changes_of.Given as goal
 
 abbrev pub invariant-loop-name : goal.invariant-loop-name

@@ -1,6 +1,6 @@
-use Rattle.par2_creation.proofs.Common.{◌≡◌, ◌∙◌, ◌++◌, ◌∷◌, [], List, ℕ, Vec, Global, length, map, take, get_or, sym, ap, ap₂, subst, arith, zero-add, length-map, length-replicate, length-take-le, map-append, map_more, take_all, flat_map, enumerate_from, length-enumerate_from, get_or-enumerate_from, lists_of, HasExponents, blank_volume, places_in, Volume}
+use Rattle.par2_creation.proofs.Common.{◌≡◌, ◌∙◌, ◌++◌, ◌∷◌, [], List, ℕ, Vec, Global, length, map, take, get_or, sym, ap, ap₂, subst, arith, zero-add, length-map, length-replicate, length-take-le, map-append, map_more, take_all, enumerate_from, length-enumerate_from, get_or-enumerate_from, lists_of, HasExponents, blank_volume, places_in, Volume}
 use Rattle.par2_spec.proofs.WordLaws.{length-lists_of}
-use Rattle.par2_creation.proofs.SliceLists.{appended_next}
+use Rattle.par2_creation.proofs.SliceLists.{appended_all, appended_next}
 use Rattle.par2_creation.proofs.VolumePlaces.{length-volume}
 use Rattle.par2_creation.proofs.volumes.blank_volumes.Goals as goal
 
@@ -42,5 +42,4 @@ returns-clause-texts c =
 
 pub returns-clause-places : goal.returns-clause-places
 returns-clause-places c =
-    let size = length-enumerate_from 0 c.args.volumes.now in
-    c.loop-volume.invariant.places ∙ ap (flat_map (places_in c.args.parts.now)) (take_all c.loop-volume.volume-index (enumerate_from 0 c.args.volumes.now) (omega (arith, size, c.loop-volume-test.false)))
+    appended_all (places_in c.args.parts.now) (enumerate_from 0 c.args.volumes.now) c.loop-volume.volume-index [] _ (omega (arith, length-enumerate_from 0 c.args.volumes.now, c.loop-volume-test.false)) c.loop-volume.invariant.places
