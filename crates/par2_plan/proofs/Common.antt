@@ -40,7 +40,7 @@ pub use Rattle.par2_packets.specs.declared.record.FileRecord.{FileRecord}
 pub use Rattle.par2_plan.specs.Drafts.{HasItsMd5s, IsDraft, IsDraftBy, has_digest, wrong_digest}
 pub use Rattle.par2_plan.specs.Faults.{duplicate_input, long_name, there_already}
 unfoldable pub use Rattle.par2_plan.specs.Faults.{create_fault, files_fault, ids_fault, inputs_fault}
-pub use Rattle.par2_plan.specs.Findings.{AreFindings, is_missing, lost_by, pair_cmp, report_by, said_of, sought_pairs, target_report_by}
+pub use Rattle.par2_plan.specs.Findings.{AreFindings, GoesOn, found_by, is_sought, lost_by, pairs_of, report_by, reports_by, said_by, said_of}
 pub use Rattle.par2_plan.specs.Matches.{HoldsNames}
 pub use Rattle.par2_plan.specs.Outputs.{HasExponents, HasSlices, HaveExponents, RecordsInputs, inputs_of, names_of, output_names, packets_between, put_change, volume_at, volume_if, volume_text, volumes_asked, volumes_of}
 pub use Rattle.par2_plan.specs.Repairing.{AreRestored, HoldsAsides, IsAsDescribed, IsWholeWhereMatched, WritesAsDescribed, files_removed, known_by, matches_taken, place_by, repair_by, writes}
