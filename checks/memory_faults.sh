@@ -47,7 +47,7 @@ made_otherwise() {
             gsub(/<AllocError>|, AllocError>|: AllocError\)/, "", made)
             if (made !~ /::Memory|AllocError/ || in_from) next
             if (pattern ~ /AllocError|AllocFailed|::Memory|OutOfMemory/) next
-            if (FILENAME ~ /par2_(journal\/src\/opening|plan\/src\/volumes)\.rt$/ && above ~ /return Err\(AllocError\);$/) next
+            if (FILENAME ~ /par2_(journal\/src\/opening|creation\/src\/volumes)\.rt$/ && above ~ /return Err\(AllocError\);$/) next
             print FILENAME ":" FNR ": " $0
         }' {} +
 }

@@ -4,9 +4,10 @@ use crate::calls::{folder_in, names_of, put_journal, read, read_journal, replace
 use crate::inputs::{args_of, damaged, name_of, protected};
 use crate::scene::{Refusal, Scene};
 use anyhow::Result;
+use par2_creation::plan_create;
 use par2_folder::{Change, Folder, Landmarks, MemoryStore, Name};
 use par2_journal::CreateArgs;
-use par2_plan::{Changes, check, plan_create, plan_purge, plan_repair};
+use par2_plan::{Changes, check, plan_purge, plan_repair};
 use par2_slices::crc32;
 use std::alloc::Global;
 

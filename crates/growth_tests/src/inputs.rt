@@ -1,9 +1,9 @@
 //! Folders and words that the calls work on.
 
 use anyhow::{Error, Result};
+use par2_creation::plan_create;
 use par2_folder::{Bytes, Change, Folder, Landmarks, Name, copies_of};
 use par2_journal::CreateArgs;
-use par2_plan::plan_create;
 use recovery_calls::folder_of;
 use std::alloc::{AllocError, Global};
 

@@ -2,8 +2,9 @@
 //! committed, or is carried out at once; runs of actions are made of these.
 use crate::preparation::Task;
 use crate::{Changes, CreateArgs, Prepared, Session, SessionFault, Steps};
+use par2_creation::plan_create;
 use par2_folder::Landmarks;
-use par2_plan::{Fault, Report, check, draft_repair, plan_create, plan_purge};
+use par2_plan::{Fault, Report, check, draft_repair, plan_purge};
 use par2_spec::Action;
 use std::alloc::AllocError;
 

@@ -1,13 +1,10 @@
 pub mod Answers
 pub mod Drafts
-pub mod Faults
 pub mod Findings
 pub mod Matches
-pub mod Outputs
 pub mod Repairing
 pub mod Restoring
 pub mod SliceTexts
 pub mod Survivors
 pub mod Views
-pub mod Volumes
 pub mod Written

@@ -1,16 +1,11 @@
-//! What a command changes in a folder, or why it is refused.
+//! What a verify reports, what a repair and a purge change in a folder, or why they are refused.
 #![tactic(auto)]
 
 mod candidates;
-mod create;
 mod draft;
 mod finding;
-mod index;
-mod inputs;
 mod matching;
 mod moves;
-mod names;
-mod outputs;
 mod purge;
 mod reading;
 mod repair;
@@ -18,13 +13,10 @@ mod report;
 mod restored_files;
 mod restored_slices;
 mod verify;
-mod volumes;
-mod words;
 
-pub use create::{Creation, plan_create};
 pub use draft::Draft;
 pub use par2_folder::Changes;
-pub use par2_spec::{CreateArgs, Fault, Verdict};
+pub use par2_spec::{Fault, Verdict};
 pub use purge::plan_purge;
 pub use repair::{draft_repair, plan_repair};
 pub use report::{Report, State, TargetReport};

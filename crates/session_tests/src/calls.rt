@@ -3,12 +3,12 @@
 ghost use Rattle.std.specs.Prelude.{IfOk};
 ghost use Rattle.par2_journal.specs.Ready.{Fits};
 
+use par2_creation::{Changes, plan_create};
 use par2_folder::{Change, Folder, Landmarks, Name};
 use par2_journal::{
     Action, CreateArgs, Fault, Halfway, Journals, Next, Opened, Prepared, Session, SessionFault,
     Steps,
 };
-use par2_plan::Changes;
 use par2_spec::JournalFault;
 use std::alloc::{AllocError, Global};
 
@@ -30,7 +30,7 @@ pub fn fingerprint(folder: &Folder) -> Result<[u8; 16], AllocError> {
 }
 
 pub fn plan_of(alloc: Global, folder: &Folder, args: &CreateArgs) -> Result<Changes, Fault> {
-    Ok(par2_plan::plan_create(alloc, folder, args, &Landmarks::none(alloc))?.changes)
+    Ok(plan_create(alloc, folder, args, &Landmarks::none(alloc))?.changes)
 }
 
 pub fn new_session(alloc: Global, folder: Folder) -> Session {

@@ -1,0 +1,43 @@
+-- The causes by which a create is refused, in groups and in order.
+use Rattle.std.specs.Prelude.{ℕ, ◌==◌, ◌&&◌, nat_lt, Bool, not, List, [], ◌∷◌, length, take, map, sum_by, Option}
+use Rattle.std.specs.List.{list_any, enumerate_from}
+use Rattle.par2_spec.specs.Faults.{first_fault, fault_where, fault_at}
+use Rattle.par2_spec.specs.Names.{is_among, distinct}
+use Rattle.par2_spec.specs.Slices.{slice_count}
+use Rattle.par2_spec.specs.Folders.{File, Folder, has}
+use Rattle.par2_spec.specs.Volumes.{id_of}
+use Rattle.par2_spec.specs.Commands.{files_of}
+use Rattle.par2_spec.specs.Refusals.{bad_name}
+use Rattle.par2_spec.specs.declared.Fault.{Fault}
+use Rattle.par2_spec.specs.declared.Fault.TheVariants.{DuplicateInput, NoSuchFile, EmptyFile, TooManySlices, DuplicateId, NameTooLong, Exists}
+
+-- an input that was given before
+abbrev pub duplicate_input : List (List ℕ) → Option Fault
+duplicate_input inputs = fault_at 1 DuplicateInput (λ z. is_among (take z.0 inputs) z.1) (enumerate_from 0 inputs)
+
+-- those of the files that the inputs name
+unfoldable pub files_fault : Folder → ℕ → List (List ℕ) → Option Fault
+files_fault folder size inputs =
+    let files = files_of folder inputs in
+    first_fault (
+    fault_at 1 NoSuchFile (λ word. not (has folder word)) inputs
+    ∷ fault_at 1 EmptyFile (λ file. length file.1 == 0) files
+    ∷ fault_where (nat_lt 32768 (sum_by (λ file. slice_count size (length file.1)) files)) TooManySlices
+    ∷ [])
+
+-- that of their File IDs
+unfoldable pub ids_fault : List File → Option Fault
+ids_fault files = fault_where (not (length (distinct (map id_of files)) == length files)) DuplicateId
+
+-- all those of the inputs
+unfoldable pub inputs_fault : Folder → ℕ → List (List ℕ) → Option Fault
+unfolding files_fault ids_fault
+inputs_fault folder size inputs = first_fault (bad_name inputs ∷ duplicate_input inputs ∷ files_fault folder size inputs ∷ ids_fault (files_of folder inputs) ∷ [])
+
+-- a name that is too long
+abbrev pub long_name : List (List ℕ) → Option Fault
+long_name names = fault_where (list_any (λ name. nat_lt 255 (length name)) names) NameTooLong
+
+-- a file that would be replaced and may not be
+abbrev pub there_already : Folder → Bool → List (List ℕ) → Option Fault
+there_already folder overwrite names = fault_where (not overwrite && list_any (has folder) names) Exists

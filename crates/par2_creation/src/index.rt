@@ -1,0 +1,74 @@
+//! The index file of a set.
+ghost use Rattle.std.specs.Prelude.{◌≡◌, ◌≤◌, ◌++◌, length, map, flat_map, IfOk, OnOk};
+ghost use Rattle.par2_spec.specs.Answers.{Lists};
+ghost use Rattle.par2_spec.specs.Packets.{packet};
+ghost use Rattle.par2_spec.specs.Volumes.{packet_of, index_packets, desc_bytes, ifsc_bytes};
+ghost use Rattle.par2_spec.specs.declared.Kind.TheVariants.{FileDesc, Ifsc};
+ghost use Rattle.par2_packets.specs.Views.{file_record_of};
+
+use par2_packets::{FileRecord, append_creator, append_desc, append_ifsc, append_main, main_id};
+use par2_spec::Result;
+use std::alloc::Global;
+
+// The FileDescs of these files, in order.
+fn append_descs(
+    alloc: Global,
+    out: &mut Vec<u8>,
+    set_id: &[u8; 16],
+    files: &[FileRecord],
+) -> Result<()>
+    ensures { OnOk result (out.new.items ≡ out.old.items ++ flat_map (λ file.
+        packet (packet_of set_id.now FileDesc (desc_bytes (file_record_of file)))) files.now) }
+{
+    for file in files {
+        append_desc(alloc, out, set_id, file)?;
+    }
+    Ok(())
+}
+
+// Their IFSCs, in order.
+fn append_ifscs(
+    alloc: Global,
+    out: &mut Vec<u8>,
+    set_id: &[u8; 16],
+    files: &[FileRecord],
+) -> Result<()>
+    ensures { OnOk result (out.new.items ≡ out.old.items ++ flat_map
+        (λ file. packet (packet_of set_id.now Ifsc (ifsc_bytes (file_record_of file)))) files.now) }
+{
+    for file in files {
+        append_ifsc(alloc, out, set_id, file)?;
+    }
+    Ok(())
+}
+
+// What a file adds to an index beside its name and the checksums of its slices: two headers, the file's FileDesc without
+// its name, and its File ID once more in its IFSC and in Main.
+const FILE_LEN: usize = 64 + 56 + 64 + 16 + 16;
+
+// The other packets: two headers, the slice size, the number of files, and the name of this program.
+const FRAME_LEN: usize = 64 + 12 + 64 + 20;
+
+// How many bytes a file adds to an index: five words for each slice, and the name with its padding.
+fn file_len(file: &FileRecord) -> usize {
+    let pairs = file.pairs.len().saturating_mul(20);
+    let name = file.name.len().div_ceil(4).saturating_mul(4);
+    pairs.saturating_add(name).saturating_add(FILE_LEN)
+}
+
+/// The index of a set of these files, whose order it keeps: Main, the FileDescs, the IFSCs, Creator.
+#[tactic(auto, unfolding(par2_spec::specs::Volumes::index_packets))]
+pub fn index_of(alloc: Global, s: u64, files: &[FileRecord]) -> Result<Vec<u8>>
+    requires { length files.now ≤ 32768 }
+    ensures { Lists (flat_map packet (index_packets s (map file_record_of files.now))) result }
+{
+    let set_id = main_id(s, files);
+    let lens = files.iter().map(file_len);
+    let len = lens.fold(FRAME_LEN, |sum, len| sum.saturating_add(len));
+    let mut index = Vec::with_capacity(alloc, len)?;
+    append_main(alloc, &mut index, s, files)?;
+    append_descs(alloc, &mut index, &set_id, files)?;
+    append_ifscs(alloc, &mut index, &set_id, files)?;
+    append_creator(alloc, &mut index, &set_id)?;
+    Ok(index)
+}

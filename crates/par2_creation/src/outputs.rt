@@ -1,0 +1,49 @@
+//! The files that a create writes.
+ghost use Rattle.std.specs.Prelude.{◌≡◌, IfOk};
+ghost use Rattle.par2_folder.specs.Views.{change_of};
+ghost use Rattle.par2_creation.specs.Outputs.{HasSlices, HaveExponents, put_change, output_changes};
+
+use crate::Changes;
+use crate::names::Volume;
+use crate::volumes::volume_files;
+use par2_folder::{Bytes, Change, Folder, Name};
+use par2_recovery::SetRecord;
+use par2_spec::Result;
+use std::alloc::Global;
+
+/// What the outputs are made of: the bytes of the index, the set's identifier, and the set whose files stand in the
+/// folder.
+#[derive(Drop)]
+pub struct Parts<'a> {
+    pub index: Vec<u8>,
+    pub set_id: [u8; 16],
+    pub set: &'a SetRecord,
+    pub folder: &'a Folder,
+}
+
+// A file is written, or replaced where it is there already.
+fn put(folder: &Folder, name: Name, bytes: Vec<u8>) -> Change
+    ensures { change_of result ≡ put_change folder.now.files (name, bytes.items) }
+{
+    if folder.get(&name).is_some() {
+        Change::Replace(name, Bytes::from(bytes))
+    } else {
+        Change::Write(name, Bytes::from(bytes))
+    }
+}
+
+/// The changes that write the outputs: the index, and the volumes in order.
+pub fn changes_of(alloc: Global, base: Name, parts: Parts, volumes: &[Volume]) -> Result<Changes>
+    requires parts { HasSlices parts }
+    requires exponents { HaveExponents volumes.now }
+    ensures { IfOk result (λ changes. changes ≡ output_changes base parts.entry volumes.now) }
+{
+    let files = volume_files(alloc, &parts, volumes)?;
+    let folder = parts.folder;
+    let mut changes = Changes::new(alloc);
+    changes.push(put(folder, base, parts.index))?;
+    for (name, bytes) in files {
+        changes.push(put(folder, name, bytes))?;
+    }
+    Ok(changes)
+}
