@@ -1,5 +1,5 @@
 -- Trees that are made of lists.
-use Rattle.par2_plan.proofs.Common.{◌≡◌, ◌∙◌, ◌||◌, ℕ, List, [], ◌∷◌, map, refl, ap, ap₂, Bool, true, false, cond, subst, zip, Option, list_any, BTreeMap, HoldsAsides, itself, clash, is_among, BTreeSet, IsFromIterResult, slice_cmp, nat_cmp, nat_list_cmp_total, eq_by_cmp, eq_by_cmp_equiv, update_all_pairs}
+use Rattle.par2_plan.proofs.Common.{◌≡◌, ◌∙◌, ◌||◌, ℕ, List, [], ◌∷◌, map, refl, ap, ap₂, false, cond, subst, zip, Option, list_any, BTreeMap, HoldsAsides, itself, clash, is_among, BTreeSet, IsFromIterResult, slice_cmp, nat_cmp, nat_list_cmp_total, eq_by_cmp, eq_by_cmp_equiv, update_all_pairs}
 use Rattle.std.specs.Borrow.{Bor}
 use Rattle.std.specs.Prelude.{None, Some, Ok, Err, IfOk, Result}
 use Rattle.std.specs.Map.{update_all}

@@ -1,4 +1,4 @@
-use Rattle.par2_plan.proofs.Common.{◌≡◌, ◌∙◌, List, ℕ, map, sym, ap, ap₂, filter, flat_map, is_some, Option, bytes_of, found, is_among, Pair, Target, names_without_match, padded_windows, texts_of, filter_agree, contains, slice_cmp, nat_cmp, found_by, is_sought, pairs_of}
+use Rattle.par2_plan.proofs.Common.{◌≡◌, ◌∙◌, List, ℕ, map, ap, ap₂, flat_map, is_some, Option, bytes_of, found, is_among, Target, names_without_match, padded_windows, texts_of, filter_agree, contains, slice_cmp, nat_cmp, found_by, is_sought, pairs_of}
 use Rattle.par2_plan.proofs.FoundSlices.{found_agree, windows_there}
 use Rattle.par2_plan.proofs.finding.findings_of.Goals as goal
 

@@ -1,4 +1,4 @@
-use Rattle.par2_plan.proofs.Common.{◌≡◌, ◌∙◌, ◌+◌, ◌++◌, ◌∷◌, [], List, Bool, ℕ, cond, true, length, map, take, drop, sym, ap, ap₂, append-nil, append_assoc, drop_all, drop_more, Pair, Target, contains, slice_cmp, nat_cmp, found_by}
+use Rattle.par2_plan.proofs.Common.{◌≡◌, ◌∙◌, ◌+◌, ◌++◌, ◌∷◌, [], List, Bool, cond, true, length, map, take, drop, sym, ap, ap₂, append-nil, append_assoc, drop_all, drop_more, Pair, Target, contains, slice_cmp, nat_cmp, found_by}
 use Rattle.par2_plan.proofs.finding.found_slices.Goals as goal
 
 pub loop-target-preserved : goal.loop-target-preserved
