@@ -1,4 +1,5 @@
 mod Common
+mod FoundSlices
 mod ReportValues
 mod Choices
 mod Drafts

@@ -1,71 +1,81 @@
 -- What is found of a set.
-use Rattle.std.specs.Prelude.{◌≡◌, ℕ, ◌&&◌, Bool, List, map, flat_map, filter, not, length, Option, is_none, option_and_then, if◌then◌else◌}
-use Rattle.std.specs.BTreeMap.{get}
-use Rattle.std.specs.BTreeSet.{contains}
-use Rattle.std.specs.Cmp.Lexicographic.{slice_cmp}
-use Rattle.std.specs.List.{list_any, enumerate_from}
-use Rattle.std.specs.Ordering.{eq_by_cmp, nat_cmp, ordering_then}
-use Rattle.std.specs.declared.cmp.Ordering.{Ordering}
+use Rattle.std.specs.Prelude.{◌≡◌, ℕ, Bool, true, false, List, [], ◌∷◌, ◌++◌, length, map, flat_map, filter, not, take, drop, zip, slice_index_or, Option, None, option_map, is_some, if◌then◌else◌}
+use Rattle.std.specs.Borrow.{Bor}
+use Rattle.std.specs.List.{enumerate_from}
 use Rattle.par2_spec.specs.Checksums.{Pair}
 use Rattle.par2_spec.specs.Folders.{Folder, bytes_of, has}
 use Rattle.par2_spec.specs.Names.{is_among}
 use Rattle.par2_spec.specs.Rank.{rank}
 use Rattle.par2_spec.specs.Repairs.{names_without_match}
-use Rattle.par2_spec.specs.Reports.{Complete, Report, TargetReport, needing_state, state_of}
-use Rattle.par2_spec.specs.Search.{is_needing, matches, match_of, survivors}
-use Rattle.par2_spec.specs.Sets.{ParSet, Target, all_pairs}
+use Rattle.par2_spec.specs.Reports.{Complete, Report, TargetReport, needing_state}
+use Rattle.par2_spec.specs.Search.{is_needing, matches, survivors}
+use Rattle.par2_spec.specs.Sets.{ParSet, Target}
 use Rattle.par2_spec.specs.Windows.{found}
 use Rattle.par2_plan.specs.declared.finding.Findings.{Findings}
 
--- the order of pairs
-abbrev pub pair_cmp : Pair → Pair → Ordering
-pair_cmp a b = ordering_then (slice_cmp nat_cmp a.0 b.0) (nat_cmp a.1 b.1)
+-- the slices of a target are searched for: it is needing and has no match
+abbrev pub is_sought : Folder → ParSet → List (List ℕ) → Target → Bool
+is_sought folder set searched t = is_among (names_without_match (matches folder set searched)) t.name
 
--- the pairs of the needing targets that have no match, which are searched for
-abbrev pub sought_pairs : Folder → ParSet → List (List ℕ) → List Pair
-sought_pairs folder set searched =
-    flat_map (λ t. t.pairs) (filter (λ t. is_among (names_without_match (matches folder set searched)) t.name) set.targets)
+-- the pairs of the targets that are sought
+abbrev pub pairs_of : (Target → Bool) → List Target → List Pair
+pairs_of sought targets = flat_map (λ t. t.pairs) (filter sought targets)
 
--- the slice of a pair was searched for and not found
-abbrev pub is_missing : Folder → ParSet → List (List ℕ) → Pair → Bool
-is_missing folder set searched pair =
-    list_any (eq_by_cmp pair_cmp pair) (sought_pairs folder set searched) && is_none (found set.slice_size (map (bytes_of folder) searched) pair)
+-- whether each slice of these targets is found: those of the sought ones by these answers in order, all of the others
+abbrev pub found_by : (Target → Bool) → List Target → List Bool → List Bool
+found_by sought [] answers = []
+found_by sought (t ∷ ts) answers =
+    let own = if sought t then t.pairs else [] in
+    let others = if sought t then [] else t.pairs in
+    (take (length own) answers ++ map (λ pair. true) others) ++ found_by sought ts (drop (length own) answers)
 
 -- what is found of a set by the names that are searched
 pub record AreFindings (folder : Folder) (set : ParSet) (searched : List (List ℕ)) (findings : Findings) : Type 0 where
-  pub needs : findings.needs.items ≡ map (is_needing folder set) set.targets
-  pub matches : (name : List ℕ) → option_and_then (λ o. o) (get (slice_cmp nat_cmp) findings.matches name) ≡ match_of (matches folder set searched) name
-  pub missing : (pair : Pair) → contains pair_cmp findings.missing pair ≡ is_missing folder set searched pair
+  pub needs : findings.targets.needs.items ≡ map (is_needing folder set) set.targets
+  pub needing : findings.targets.needing.items ≡ matches folder set searched
+  pub found :
+      let sought = is_sought folder set searched in
+      let slices = map (found set.slice_size (map (bytes_of folder) searched)) (pairs_of sought set.targets) in
+      findings.found.items ≡ found_by sought set.targets (map is_some slices)
 
--- what is said of a target by whether it is needing and by what is found
-abbrev pub said_of : Folder → Findings → Target × Bool → TargetReport
-said_of folder findings z = record {
+-- the needing targets go on after one of them, whose match is given
+abbrev pub GoesOn : Bool → List (Target × Option (List ℕ)) → Option (Bor (List ℕ)) → List (Target × Option (List ℕ)) → Type 0
+GoesOn true needing given later =
+    (option_map (λ name. name.now) given ≡ slice_index_or (map (λ m. m.1) needing) 0 None) × (map (λ m. m.1) later ≡ drop 1 (map (λ m. m.1) needing))
+GoesOn false needing given later = later ≡ needing
+
+-- what is said of a target by whether it is needing, its match, and whether each of its slices is found
+abbrev pub said_of : Folder → Target × Bool → Option (List ℕ) → List Bool → TargetReport
+said_of folder z given found = record {
   name = z.0.name;
-  state = if z.1 then needing_state (has folder z.0.name) (option_and_then (λ o. o) (get (slice_cmp nat_cmp) findings.matches z.0.name)) else Complete;
-  found = length (filter (λ pair. not (contains pair_cmp findings.missing pair)) z.0.pairs);
+  state = if z.1 then needing_state (has folder z.0.name) given else Complete;
+  found = length (filter (λ b. b) found);
   total = length z.0.pairs;
 }
 
--- what is said of a target, where these pairs are missing
-abbrev pub target_report_by : Folder → ParSet → List (List ℕ) → Target → TargetReport
-target_report_by folder set searched t = record {
-  name = t.name;
-  state = state_of folder set searched t;
-  found = length (filter (λ pair. not (is_missing folder set searched pair)) t.pairs);
-  total = length t.pairs;
-}
+-- what is said of these targets, by the matches of the needing ones in order
+abbrev pub said_by : Folder → List (Target × Bool) → List (Option (List ℕ)) → List Bool → List TargetReport
+said_by folder [] given found = []
+said_by folder (z ∷ zs) given found =
+    said_of folder z (slice_index_or given 0 None) (take (length z.0.pairs) found)
+    ∷ said_by folder zs (if z.1 then drop 1 given else given) (drop (length z.0.pairs) found)
 
--- the numbers of the missing slices
-abbrev pub lost_by : (Pair → Bool) → List Pair → List ℕ
-lost_by missing pairs = map (λ z. z.0) (filter (λ z. missing z.1) (enumerate_from 0 pairs))
+-- what is said of these targets, by what is found
+abbrev pub reports_by : Folder → List Target → Findings → List TargetReport
+reports_by folder targets findings =
+    said_by folder (zip targets findings.targets.needs.items) (map (λ m. m.1) findings.targets.needing.items) findings.found.items
+
+-- the numbers of the slices that aren't found
+abbrev pub lost_by : List Bool → List ℕ
+lost_by found = map (λ z. z.0) (filter (λ z. not z.1) (enumerate_from 0 found))
 
 -- what is said of a set
-abbrev pub report_by : Folder → ParSet → List (List ℕ) → Report
-report_by folder set searched =
-    let lost = lost_by (is_missing folder set searched) (all_pairs set) in
+abbrev pub report_by : Folder → ParSet → Findings → Report
+report_by folder set findings =
+    let lost = lost_by findings.found.items in
     record {
       set_id = set.id;
-      targets = map (target_report_by folder set searched) set.targets;
+      targets = reports_by folder set.targets findings;
       lost = length lost;
       rank = rank lost (survivors set);
     }

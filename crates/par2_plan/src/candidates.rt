@@ -1,18 +1,17 @@
 //! The files that are searched for what is left of a set's files.
-ghost use Rattle.std.specs.Prelude.{◌≡◌, map, IfOk};
-ghost use Rattle.par2_spec.specs.Folders.{bytes_of};
+ghost use Rattle.std.specs.Prelude.{◌≡◌, IfOk};
 ghost use Rattle.par2_spec.specs.Names.{distinct};
 ghost use Rattle.par2_spec.specs.Search as search;
-ghost use Rattle.par2_slices.specs.Texts.{texts_of};
 ghost use Rattle.par2_spec.specs.Answers.{Lists};
 
 use par2_folder::{Folder, Name};
 use par2_sets::ParSet;
-use std::alloc::{AllocError, Global};
+use par2_spec::Result;
+use std::alloc::Global;
 use std::collections::BTreeSet;
 
 // Each name once, where it comes first.
-fn distinct(alloc: Global, names: &[Name]) -> Result<Vec<Name>, AllocError>
+fn distinct(alloc: Global, names: &[Name]) -> Result<Vec<Name>>
     ensures { IfOk result (λ list. list.items ≡ distinct names.now) }
 {
     let mut seen = BTreeSet::new(alloc);
@@ -31,7 +30,7 @@ pub fn candidates(
     folder: &Folder,
     set: &ParSet,
     extras: &[Name],
-) -> Result<Vec<Name>, AllocError>
+) -> Result<Vec<Name>>
     ensures { Lists (search.candidates folder.now.files set.now extras.now) result }
 {
     let targets = set.targets().iter();
@@ -41,19 +40,4 @@ pub fn candidates(
         .collect(alloc)?;
     names.extend(extras.iter().map(|extra| extra.copied()))?;
     distinct(alloc, &names)
-}
-
-/// The bytes of the files of these names.
-pub fn texts_of<'a>(
-    alloc: Global,
-    folder: &'a Folder,
-    names: &[Name],
-) -> Result<Vec<&'a [u8]>, AllocError>
-    ensures { let bytes = map (bytes_of folder.now.files) names.now in
-        IfOk result (λ texts. texts_of texts.items ≡ bytes) }
-{
-    names
-        .iter()
-        .map(|name| folder.bytes_of(name))
-        .collect(alloc)
 }

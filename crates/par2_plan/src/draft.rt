@@ -5,8 +5,8 @@ ghost use Rattle.par2_folder.specs.Views.{change_of};
 ghost use Rattle.par2_plan.specs.Written.{bytes_written};
 
 use par2_folder::{Change, Changes};
-use par2_spec::Fault;
-use std::alloc::{AllocError, Global};
+use par2_spec::{Fault, Result};
+use std::alloc::Global;
 
 /// What a repair changes, before it is known whether the files that it writes have their MD5s, which can be computed
 /// side by side with other digests.
@@ -37,7 +37,7 @@ impl Draft {
     ghost use Rattle.par2_plan.specs.Written.{texts_written};
 
     /// The texts that the changes write, in order.
-    pub fn texts(&self, alloc: Global) -> Result<Vec<&[u8]>, AllocError>
+    pub fn texts(&self, alloc: Global) -> Result<Vec<&[u8]>>
         ensures { IfOk result (λ texts. texts_of texts.items ≡ texts_written self.now.changes) }
     {
         let changes = self.changes.as_slice().iter();

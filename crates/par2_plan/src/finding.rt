@@ -1,115 +1,118 @@
-//! What is found of a set: the matches of its targets, and which of its slices are missing.
-ghost use Rattle.std.specs.Prelude.{map, filter, flat_map, zip, is_none, IfOk};
-ghost use Rattle.std.specs.BTreeMap.{IsFromIterResult};
-ghost use Rattle.std.specs.BTreeSet as sets;
+//! What is found of a set: the matches of its targets, and which of its slices are found.
+ghost use Rattle.std.specs.Prelude.{◌≡◌, ◌++◌, [], true, map, take, drop, is_some, IfOk, OnOk, if◌then◌else◌};
+ghost use Rattle.std.specs.BTreeSet.{contains};
 ghost use Rattle.std.specs.Cmp.Lexicographic.{slice_cmp};
 ghost use Rattle.std.specs.List.{IsDistinct};
 ghost use Rattle.std.specs.Ordering.{nat_cmp};
 ghost use Rattle.std.specs.Str.{bytes_eq};
 ghost use Rattle.par2_spec.specs.Answers.{Lists};
-ghost use Rattle.par2_plan.specs.Findings.{AreFindings, pair_cmp};
+ghost use Rattle.par2_plan.specs.Findings.{AreFindings, found_by, pairs_of};
 
-use crate::candidates::texts_of;
-use crate::matching::{Needing, matches};
+use crate::matching::{Targets, matches};
 use crate::moves::unmatched;
 use par2_folder::{Folder, Name};
-use par2_sets::ParSet;
+use par2_recovery::file_texts;
+use par2_sets::{ParSet, Target};
 use par2_slices::{Pair, found_windows};
-use std::alloc::{AllocError, Global};
-use std::collections::{BTreeMap, BTreeSet};
+use par2_spec::Result;
+use std::alloc::Global;
+use std::collections::BTreeSet;
 
 /// What is found of a set.
 #[derive(Drop)]
-pub struct Findings {
-    /// Whether each of its targets is needing.
-    pub needs: Vec<bool>,
-    /// The matches of the needing ones, by their names.
-    pub matches: BTreeMap<Name, Option<Name>>,
-    /// The pairs of slices that were searched for and not found.
-    pub missing: BTreeSet<Pair>,
-}
-
-impl Findings {
-    ghost use Rattle.std.specs.Prelude.{◌≡◌, option_and_then};
-    ghost use Rattle.std.specs.BTreeMap.{get};
-    ghost use Rattle.std.specs.Cmp.Lexicographic.{slice_cmp};
-    ghost use Rattle.std.specs.Ordering.{nat_cmp};
-
-    /// The match of the target of this name, where it has one.
-    pub fn match_of(&self, name: &Name) -> Option<Name>
-        ensures { let found = get (slice_cmp nat_cmp) self.now.matches name.now in
-            result ≡ option_and_then (λ o. o) found }
-    {
-        Some(self.matches.get(name)?.as_ref()?.copied())
-    }
-}
-
-// The matches by the names of their targets.
-fn by_name(alloc: Global, needing: &[Needing]) -> Result<BTreeMap<Name, Option<Name>>, AllocError>
-    ensures { let matches = map (λ m. (m.0.name, m.1)) needing.now in
-        IfOk result (IsFromIterResult (slice_cmp nat_cmp) matches) }
-{
-    needing
-        .iter()
-        .map(|needing| (needing.target().name().copied(), needing.found()))
-        .collect(alloc)
+pub struct Findings<'s> {
+    /// Its targets, with the matches of the needing ones.
+    pub targets: Targets<'s>,
+    /// Whether each of its slices is found, in order. No slice of an intact or matched target is searched for.
+    pub found: Vec<bool>,
 }
 
 // The pairs of the targets of these names.
-fn sought_pairs(
+fn sought_pairs(alloc: Global, set: &ParSet, names: &BTreeSet<Name>) -> Result<Vec<Pair>>
+    ensures { Lists (pairs_of (λ t. contains (slice_cmp nat_cmp) names.now t.name)
+        set.now.targets) result }
+{
+    let targets = set.targets().iter();
+    let sought = targets.filter(|target| names.contains(target.name()));
+    let pairs = sought.flat_map(|target| target.pairs());
+    pairs.copied().collect(alloc)
+}
+
+/// The first items, so many or all that there are, and the others.
+pub fn parts<T>(items: &[T], count: usize) -> (&[T], &[T])
+    ensures first { result.0.now ≡ take count items.now }
+    ensures others { result.1.now ≡ drop count items.now }
+{
+    items.split_at(count.min(items.len()))
+}
+
+// The pairs of a target that are searched for, if it has one of these names, and those that aren't.
+fn sought_and_others<'t>(target: &'t Target, names: &BTreeSet<Name>) -> (&'t [Pair], &'t [Pair])
+    ensures sought { let is_sought = contains (slice_cmp nat_cmp) names.now target.now.name in
+        result.0.now ≡ if is_sought then target.now.pairs else [] }
+    ensures others { let is_sought = contains (slice_cmp nat_cmp) names.now target.now.name in
+        result.1.now ≡ if is_sought then [] else target.now.pairs }
+{
+    if names.contains(target.name()) {
+        (target.pairs(), &[])
+    } else {
+        (&[], target.pairs())
+    }
+}
+
+// Whether there is a window, of each.
+fn are_there(alloc: Global, windows: &[Option<&[u8]>]) -> Result<Vec<bool>>
+    ensures { Lists (map is_some windows.now) result }
+{
+    windows.iter().map(|window| window.is_some()).collect(alloc)
+}
+
+// Adds whether slices are found: these answers, and that the slices of these pairs are.
+fn push_found(found: &mut Vec<bool>, answers: &[bool], others: &[Pair]) -> Result<()>
+    ensures { let more = answers.now ++ map (λ pair. true) others.now in
+        OnOk result (found.new.items ≡ found.old.items ++ more) }
+{
+    found.extend_from_slice(answers)?;
+    found.extend(others.iter().map(|_| true))
+}
+
+// Whether each slice of these targets is found: those of the targets of these names by the answers, all of the others.
+fn found_slices(
     alloc: Global,
-    set: &ParSet,
+    targets: &[Target],
     names: &BTreeSet<Name>,
-) -> Result<Vec<Pair>, AllocError>
-    ensures { Lists (flat_map (λ t. t.pairs)
-        (filter (λ t. sets.contains (slice_cmp nat_cmp) names.now t.name) set.now.targets)) result }
+    answers: &[bool],
+) -> Result<Vec<bool>>
+    ensures { Lists (found_by (λ t. contains (slice_cmp nat_cmp) names.now t.name)
+        targets.now answers.now) result }
 {
-    set.targets()
-        .iter()
-        .filter(|target| names.contains(target.name()))
-        .flat_map(|target| target.pairs())
-        .copied()
-        .collect(alloc)
+    let mut found = Vec::new(alloc);
+    let mut rest = answers;
+    for target in targets {
+        let (sought, others) = sought_and_others(target, names);
+        let (own, left) = parts(rest, sought.len());
+        rest = left;
+        push_found(&mut found, own, others)?;
+    }
+    Ok(found)
 }
 
-// The pairs for which there is no window.
-fn missing_pairs(
-    alloc: Global,
-    pairs: &[Pair],
-    windows: &[Option<&[u8]>],
-) -> Result<BTreeSet<Pair>, AllocError>
-    ensures { let missing = filter (λ z. is_none z.1) (zip pairs.now windows.now) in
-        IfOk result (sets.IsFromIterResult pair_cmp (map (λ z. z.0) missing)) }
-{
-    pairs
-        .iter()
-        .zip(windows)
-        .filter(|(_, window)| window.is_none())
-        .map(|(pair, _)| *pair)
-        .collect(alloc)
-}
-
-/// What is found of a set by the files of these names. No slice of an intact or matched target is searched for.
-pub fn findings_of(
+/// What is found of a set by the files of these names.
+pub fn findings_of<'s>(
     alloc: Global,
     folder: &Folder,
-    set: &ParSet,
-    candidates: &[Name],
-) -> Result<Findings, AllocError>
+    set: &'s ParSet,
+    candidates: &'s [Name],
+) -> Result<Findings<'s>>
     requires { IsDistinct bytes_eq candidates.now }
     ensures { IfOk result (AreFindings folder.now.files set.now candidates.now) }
 {
     let targets = matches(alloc, folder, set, candidates)?;
-    let matches = by_name(alloc, &targets.needing)?;
     let unmatched = unmatched(alloc, &targets.needing)?;
     let pairs = sought_pairs(alloc, set, &unmatched)?;
-    let texts = texts_of(alloc, folder, candidates)?;
+    let texts = file_texts(alloc, folder, candidates)?;
     let windows = found_windows(alloc, &texts, set.slice_size(), &pairs)?;
-    let missing = missing_pairs(alloc, &pairs, &windows)?;
-    let needs = targets.needs;
-    Ok(Findings {
-        needs,
-        matches,
-        missing,
-    })
+    let answers = are_there(alloc, &windows)?;
+    let found = found_slices(alloc, set.targets(), &unmatched, &answers)?;
+    Ok(Findings { targets, found })
 }

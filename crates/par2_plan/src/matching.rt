@@ -1,20 +1,19 @@
 //! Which targets of a set are needing, and which other files are intact for them.
-ghost use Rattle.std.specs.Prelude.{◌≡◌, not, map, filter, IfOk, option_and_then, slice_get, zip};
-ghost use Rattle.std.specs.BTreeSet.{contains};
-ghost use Rattle.std.specs.Cmp.Lexicographic.{slice_cmp};
+ghost use Rattle.std.specs.Prelude.{◌≡◌, ℕ, List, not, map, filter, IfOk, option_and_then, option_map, slice_get, zip};
 ghost use Rattle.std.specs.List.{IsDistinct};
-ghost use Rattle.std.specs.Ordering.{nat_cmp};
 ghost use Rattle.std.specs.Str.{bytes_eq};
 ghost use Rattle.par2_spec.specs.Search as search;
 ghost use Rattle.par2_slices.specs.Matching.{Describe};
 ghost use Rattle.par2_spec.specs.Answers.{Lists};
-ghost use Rattle.par2_sets.specs.Asides.{HoldsNames};
+ghost use Rattle.par2_spec.specs.Names.{is_among};
+ghost use Rattle.par2_plan.specs.Matches.{HoldsNames};
 
-use crate::candidates::texts_of;
 use par2_folder::{Folder, Name};
+use par2_recovery::file_texts;
 use par2_sets::{ParSet, Target};
 use par2_slices::{is_intact, matched, matches_by_number_are_by_name};
-use std::alloc::{AllocError, Global};
+use par2_spec::Result;
+use std::alloc::Global;
 use std::collections::BTreeSet;
 use std::marker::Model;
 
@@ -42,10 +41,10 @@ impl<'s> Needing<'s> {
     }
 
     /// The name of its match.
-    pub fn found(&self) -> Option<Name>
-        ensures { result ≡ self.now.1 }
+    pub fn found(&self) -> Option<&Name>
+        ensures { option_map (λ name. name.now) result ≡ self.now.1 }
     {
-        Some(self.found.as_ref()?.copied())
+        self.found.as_ref()
     }
 }
 
@@ -69,7 +68,7 @@ pub fn is_needing(folder: &Folder, set: &ParSet, target: &Target) -> bool
 }
 
 // Whether each target of a set is needing.
-fn needs(alloc: Global, folder: &Folder, set: &ParSet) -> Result<Vec<bool>, AllocError>
+fn needs(alloc: Global, folder: &Folder, set: &ParSet) -> Result<Vec<bool>>
     ensures { Lists (map (search.is_needing folder.now.files set.now) set.now.targets) result }
 {
     set.targets()
@@ -79,52 +78,45 @@ fn needs(alloc: Global, folder: &Folder, set: &ParSet) -> Result<Vec<bool>, Allo
 }
 
 // The targets of a set that are needing by these answers.
-fn chosen<'s>(alloc: Global, set: &'s ParSet, needs: &[bool]) -> Result<Vec<&'s Target>, AllocError>
+fn chosen<'s>(alloc: Global, set: &'s ParSet, needs: &[bool]) -> Result<Vec<&'s Target>>
     ensures { let chosen = filter (λ z. z.1) (zip set.now.targets needs.now) in
         IfOk result (λ targets. map (λ t. t.now) targets.items ≡ map (λ z. z.0) chosen) }
 {
-    set.targets()
-        .iter()
-        .zip(needs)
-        .filter(|(_, needs)| **needs)
-        .map(|(target, _)| target)
-        .collect(alloc)
+    let targets = set.targets().iter().zip(needs);
+    let chosen = targets.filter(|(_, needs)| **needs);
+    chosen.map(|(target, _)| target).collect(alloc)
 }
 
 // The names of the other ones.
-fn intact_names(alloc: Global, set: &ParSet, needs: &[bool]) -> Result<BTreeSet<Name>, AllocError>
+fn intact_names<'s>(alloc: Global, set: &'s ParSet, needs: &[bool]) -> Result<BTreeSet<&'s Name>>
     ensures { let intact = filter (λ z. not z.1) (zip set.now.targets needs.now) in
         IfOk result (λ tree. HoldsNames tree (map (λ z. z.0.name) intact)) }
 {
-    set.targets()
-        .iter()
-        .zip(needs)
-        .filter(|(_, needs)| !**needs)
-        .map(|(target, _)| target.name().copied())
-        .collect(alloc)
+    let targets = set.targets().iter().zip(needs);
+    let intact = targets.filter(|(_, needs)| !**needs);
+    intact.map(|(target, _)| target.name()).collect(alloc)
 }
 
 // The candidates that are no intact target's.
-fn free_names(
+fn free_names<'n>(
     alloc: Global,
-    intact: &BTreeSet<Name>,
-    candidates: &[Name],
-) -> Result<Vec<Name>, AllocError>
-    ensures { Lists (filter (λ name. not (contains (slice_cmp nat_cmp) intact.now name))
-        candidates.now) result }
+    intact: &BTreeSet<&'n Name>,
+    candidates: &'n [Name],
+) -> Result<Vec<Name>>
+    ensures { (names : List (List ℕ)) → HoldsNames intact.now names →
+        Lists (filter (λ name. not (is_among names name)) candidates.now) result }
 {
-    candidates
-        .iter()
-        .filter(|name| !intact.contains(*name))
-        .map(|name| name.copied())
-        .collect(alloc)
+    let mut names = Vec::new(alloc);
+    for name in candidates {
+        if !intact.contains(&name) {
+            names.push(name.copied())?;
+        }
+    }
+    Ok(names)
 }
 
 // The needing targets, as the search knows them.
-fn described<'s>(
-    alloc: Global,
-    targets: &[&'s Target],
-) -> Result<Vec<par2_slices::Target<'s>>, AllocError>
+fn described<'s>(alloc: Global, targets: &[&'s Target]) -> Result<Vec<par2_slices::Target<'s>>>
     ensures { IfOk result (λ list. Describe list.items (map (λ t. t.now) targets.now)) }
 {
     targets
@@ -149,7 +141,7 @@ fn with_matches<'s>(
     targets: &[&'s Target],
     names: &[Name],
     numbers: &[Option<usize>],
-) -> Result<Vec<Needing<'s>>, AllocError>
+) -> Result<Vec<Needing<'s>>>
     ensures { let found = map (option_and_then (slice_get names.now)) numbers.now in
         Lists (zip (map (λ t. t.now) targets.now) found) result }
 {
@@ -169,8 +161,8 @@ pub fn matches<'s>(
     alloc: Global,
     folder: &Folder,
     set: &'s ParSet,
-    candidates: &[Name],
-) -> Result<Targets<'s>, AllocError>
+    candidates: &'s [Name],
+) -> Result<Targets<'s>>
     requires { IsDistinct bytes_eq candidates.now }
     ensures needs { let needs = map (search.is_needing folder.now.files set.now) set.now.targets in
         IfOk result (λ targets. targets.needs.items ≡ needs) }
@@ -182,7 +174,7 @@ pub fn matches<'s>(
     let needs = needs(alloc, folder, set)?;
     let intact = intact_names(alloc, set, &needs)?;
     let free = free_names(alloc, &intact, candidates)?;
-    let texts = texts_of(alloc, folder, &free)?;
+    let texts = file_texts(alloc, folder, &free)?;
     let chosen = chosen(alloc, set, &needs)?;
     let described = described(alloc, &chosen)?;
     let numbers = matched(alloc, &texts, set.slice_size(), &described)?;

@@ -15,7 +15,8 @@ use crate::Changes;
 use crate::matching::Needing;
 use crate::restored_files::Restored;
 use par2_folder::{Change, Folder, Name};
-use std::alloc::{AllocError, Global};
+use par2_spec::Result;
+use std::alloc::Global;
 use std::collections::{BTreeMap, BTreeSet};
 
 /// What a repair moves.
@@ -30,7 +31,7 @@ pub struct Moves<'n, 's> {
 }
 
 /// The names of the needing targets whose files are there.
-pub fn present(alloc: Global, folder: &Folder, needing: &[Needing]) -> Result<Vec<Name>, AllocError>
+pub fn present(alloc: Global, folder: &Folder, needing: &[Needing]) -> Result<Vec<Name>>
     ensures { let there = filter (λ m. has folder.now.files m.0.name) needing.now in
         Lists (map (λ m. m.0.name) there) result }
 {
@@ -42,14 +43,12 @@ pub fn present(alloc: Global, folder: &Folder, needing: &[Needing]) -> Result<Ve
 }
 
 /// The names of the needing targets that have no match.
-pub fn unmatched(alloc: Global, needing: &[Needing]) -> Result<BTreeSet<Name>, AllocError>
+pub fn unmatched(alloc: Global, needing: &[Needing]) -> Result<BTreeSet<Name>>
     ensures { IfOk result (λ tree. HoldsNames tree (names_without_match needing.now)) }
 {
-    needing
-        .iter()
-        .filter(|needing| needing.found().is_none())
-        .map(|needing| needing.target().name().copied())
-        .collect(alloc)
+    let unmatched = needing.iter().filter(|needing| needing.found().is_none());
+    let names = unmatched.map(|needing| needing.target().name().copied());
+    names.collect(alloc)
 }
 
 /// The asides by the names of the files that are put aside.
@@ -57,25 +56,23 @@ pub fn asides_by_name(
     alloc: Global,
     names: &[Name],
     asides: &[Name],
-) -> Result<BTreeMap<Name, Name>, AllocError>
+) -> Result<BTreeMap<Name, Name>>
     ensures { IfOk result (λ tree. (aside : List ℕ → List ℕ) →
         asides.now ≡ map aside names.now → HoldsAsides aside names.now tree) }
 {
-    names
-        .iter()
-        .zip(asides)
-        .map(|(name, aside)| (name.copied(), aside.copied()))
-        .collect(alloc)
+    let names = names.iter().zip(asides);
+    let pairs = names.map(|(name, aside)| (name.copied(), aside.copied()));
+    pairs.collect(alloc)
 }
 
 // The names of the matches.
-fn matching(alloc: Global, targets: &[Needing]) -> Result<BTreeSet<Name>, AllocError>
+fn matching(alloc: Global, targets: &[Needing]) -> Result<BTreeSet<Name>>
     ensures { IfOk result (λ names. HoldsNames names (filter_map (λ m. m.1) targets.now)) }
 {
-    targets
+    let names = targets
         .iter()
-        .filter_map(|needing| needing.found())
-        .collect(alloc)
+        .filter_map(|needing| Some(needing.found()?.copied()));
+    names.collect(alloc)
 }
 
 // Where a file stands once others are put aside.
@@ -90,11 +87,7 @@ fn now_at(asides: &BTreeMap<Name, Name>, name: &Name) -> Name
 }
 
 // Files are put aside.
-fn push_asides(
-    changes: &mut Changes,
-    names: &[Name],
-    asides: &BTreeMap<Name, Name>,
-) -> Result<(), AllocError>
+fn push_asides(changes: &mut Changes, names: &[Name], asides: &BTreeMap<Name, Name>) -> Result<()>
     ensures { (aside : List ℕ → List ℕ) (all : List (List ℕ)) →
         HoldsAsides aside all asides.now →
         let renames = map (λ name. spec.Rename name (place_by aside all name)) names.now in
@@ -111,7 +104,7 @@ fn push_matches(
     changes: &mut Changes,
     targets: &[Needing],
     asides: &BTreeMap<Name, Name>,
-) -> Result<(), AllocError>
+) -> Result<()>
     ensures { (aside : List ℕ → List ℕ) (all : List (List ℕ)) →
         HoldsAsides aside all asides.now →
         let taken = matches_taken (place_by aside all) targets.now in
@@ -119,7 +112,7 @@ fn push_matches(
 {
     for needing in targets {
         if let Some(found) = needing.found() {
-            let from = now_at(asides, &found);
+            let from = now_at(asides, found);
             changes.push(Change::Rename(from, needing.target().name().copied()))?;
         }
     }
@@ -127,7 +120,7 @@ fn push_matches(
 }
 
 // Targets are written, in order.
-fn push_writes(changes: &mut Changes, restored: Vec<Restored>) -> Result<(), AllocError>
+fn push_writes(changes: &mut Changes, restored: Vec<Restored>) -> Result<()>
     ensures { OnOk result (changes.new ≡ changes.old ++ writes restored.entry.items) }
 {
     for file in restored {
@@ -142,7 +135,7 @@ fn push_removed(
     names: &[Name],
     asides: &BTreeMap<Name, Name>,
     matching: &BTreeSet<Name>,
-) -> Result<(), AllocError>
+) -> Result<()>
     ensures { (aside : List ℕ → List ℕ) (all given : List (List ℕ)) →
         HoldsAsides aside all asides.now → HoldsNames matching.now given →
         let removed = files_removed (place_by aside all) given names.now in
@@ -157,11 +150,7 @@ fn push_removed(
 }
 
 /// The changes of a repair that doesn't purge: files are put aside, targets take their matches, and the others are written.
-pub fn repair_changes(
-    alloc: Global,
-    moves: &Moves,
-    restored: Vec<Restored>,
-) -> Result<Changes, AllocError>
+pub fn repair_changes(alloc: Global, moves: &Moves, restored: Vec<Restored>) -> Result<Changes>
     ensures { (folder : folders.Folder) (set : sets.ParSet) (searched : List (List ℕ))
         → AreMoves folder set searched moves.now
         → restored.entry.items ≡ rebuilt_targets folder set searched
@@ -180,7 +169,7 @@ pub fn push_removals(
     changes: &mut Changes,
     moves: &Moves,
     files: &[Name],
-) -> Result<(), AllocError>
+) -> Result<()>
     ensures { (folder : folders.Folder) (set : sets.ParSet) (searched : List (List ℕ))
         → AreMoves folder set searched moves.now
         → files.now ≡ par_files folder set

@@ -21,11 +21,8 @@ fn purge_of(alloc: Global, folder: &Folder, set: &ParSet) -> Result<Changes, Fau
     ensures accepted { OnOk result (purge_refusal folder.now.files set.now ≡ None) }
     ensures changes { IfOk result (λ changes. changes ≡ purge_changes folder.now.files set.now) }
 {
-    if set
-        .targets()
-        .iter()
-        .any(|target| is_needing(folder, set, target))
-    {
+    let mut targets = set.targets().iter();
+    if targets.any(|target| is_needing(folder, set, target)) {
         return Err(Fault::NotComplete);
     }
     let mut changes = Changes::new(alloc);

@@ -7,8 +7,8 @@ ghost use Rattle.par2_sets.specs.Steps.{Gives};
 
 use par2_folder::{Folder, Name};
 use par2_sets::{ParSet, set_of};
-use par2_spec::Fault;
-use std::alloc::{AllocError, Global};
+use par2_spec::{Fault, Result};
+use std::alloc::Global;
 
 /// The set of a base, and the names of further files.
 #[derive(Drop)]
@@ -40,17 +40,11 @@ fn first_absent(folder: &Folder, words: &[String]) -> Option<usize>
 }
 
 // The names of those words that are files' names.
-fn present_extras(
-    alloc: Global,
-    folder: &Folder,
-    extras: &[String],
-) -> Result<Vec<Name>, AllocError>
+fn present_extras(alloc: Global, folder: &Folder, extras: &[String]) -> Result<Vec<Name>>
     ensures { Lists (filter (has folder.now.files) (map string_bytes extras.now)) result }
 {
-    extras
-        .iter()
-        .filter_map(|word| present(folder, word))
-        .collect(alloc)
+    let names = extras.iter().filter_map(|word| present(folder, word));
+    names.collect(alloc)
 }
 
 /// Reads the set of the base, where the base and the further files are there. Whether they are is found without memory.

@@ -1,6 +1,5 @@
 //! What a repair changes.
 ghost use Rattle.std.specs.Prelude.{◌≡◌, ℕ, List, map, string_bytes, IsTrue, IfOk, OnOk};
-ghost use Rattle.md5.specs.Md5.{md5};
 ghost use Rattle.par2_spec.specs.Changes.{are_applicable};
 ghost use Rattle.par2_spec.specs.Plans.{AreFewFor};
 ghost use Rattle.par2_spec.specs.Refusals.{repair_refusal};
@@ -12,9 +11,8 @@ ghost use Rattle.par2_spec.specs.Answers.{FailsFor, Lists};
 ghost use Rattle.par2_plan.specs.Answers.{FailsAs, GivesChanges, LeadsAs, RefusesEarly, SucceedsAs, repair_of};
 ghost use Rattle.par2_plan.specs.Drafts.{IsDraft, IsDraftBy};
 ghost use Rattle.par2_plan.specs.Repairing.{IsWholeWhereMatched, AreMoves, AreRestored, known_by, repair_by, WritesAsDescribed};
-ghost use Rattle.par2_plan.specs.Written.{texts_written};
 
-use crate::candidates::{candidates, texts_of};
+use crate::candidates::candidates;
 use crate::matching::{Needing, matches};
 use crate::moves::{Moves, asides_by_name, present, push_removals, repair_changes, unmatched};
 use crate::reading::read;
@@ -23,9 +21,10 @@ use crate::restored_slices::restored_slices;
 use crate::{Changes, Draft};
 use par2_digests::text_digests;
 use par2_folder::{Folder, Name};
+use par2_recovery::file_texts;
 use par2_sets::{ParSet, asides, par_files};
-use par2_spec::Fault;
-use std::alloc::{AllocError, Global};
+use par2_spec::{Fault, Result};
+use std::alloc::Global;
 use std::collections::BTreeSet;
 
 // The targets without a match, by slices that are found or rebuilt. Where there are none, nothing is searched.
@@ -45,13 +44,13 @@ fn files_for<'s>(
     if unmatched.is_empty() {
         return Ok(Vec::new(alloc));
     }
-    let texts = texts_of(alloc, folder, candidates)?;
+    let texts = file_texts(alloc, folder, candidates)?;
     let slices = restored_slices(alloc, set, &texts)?;
     Ok(restored_files(alloc, set, &slices, unmatched)?)
 }
 
 // The MD5s that targets describe.
-fn md5s_of(alloc: Global, restored: &[Restored]) -> Result<Vec<[u8; 16]>, AllocError>
+fn md5s_of(alloc: Global, restored: &[Restored]) -> Result<Vec<[u8; 16]>>
     ensures { Lists (md5s_of restored.now) result }
 {
     restored.iter().map(Restored::md5).collect(alloc)
@@ -65,7 +64,7 @@ fn changes_with(
     moves: &Moves,
     restored: Vec<Restored>,
     purge: bool,
-) -> Result<Changes, AllocError>
+) -> Result<Changes>
     ensures { (searched : List (List ℕ)) → AreMoves folder.now.files set.now searched moves.now
         → restored.entry.items ≡ rebuilt_targets folder.now.files set.now searched
         → IfOk result (λ changes. changes ≡ repair_by purge folder.now.files set.now searched) }
@@ -124,24 +123,10 @@ pub fn draft_repair(
         IfOk result (IsDraft folder.now.files base.now words purge) }
 {
     let reading = read(alloc, folder, base, extras)?;
-    let candidates = candidates(alloc, folder, &reading.set, &reading.extras)?;
-    let targets = matches(alloc, folder, &reading.set, &candidates)?;
-    draft_with(
-        alloc,
-        folder,
-        &reading.set,
-        &candidates,
-        &targets.needing,
-        purge,
-    )
-}
-
-// The MD5s of what a draft's changes write, side by side.
-fn md5s_written(alloc: Global, draft: &Draft) -> Result<Vec<[u8; 16]>, AllocError>
-    ensures { IfOk result (λ md5s. md5s.items ≡ map md5 (texts_written draft.now.changes)) }
-{
-    let texts = draft.texts(alloc)?;
-    text_digests(alloc, &texts)
+    let set = &reading.set;
+    let candidates = candidates(alloc, folder, set, &reading.extras)?;
+    let targets = matches(alloc, folder, set, &candidates)?;
+    draft_with(alloc, folder, set, &candidates, &targets.needing, purge)
 }
 
 /// The changes of a repair, as its draft has them, whose written files are tested.
@@ -167,6 +152,6 @@ pub fn plan_repair(
     ensures few { OnOk result (AreFewFor folder.now.files (repair_of base.now extras.now purge)) }
 {
     let draft = draft_repair(alloc, folder, base, extras, purge)?;
-    let md5s = md5s_written(alloc, &draft)?;
+    let md5s = text_digests(alloc, &draft.texts(alloc)?)?;
     draft.tested(&md5s)
 }

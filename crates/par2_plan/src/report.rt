@@ -1,26 +1,25 @@
 //! What a verify reports.
-ghost use Rattle.std.specs.Prelude.{◌≡◌, ◌≤◌, ◌<◌, ℕ, List, length, map, slice_index, filter, not, zip, Ok, IfOk, if◌then◌else◌};
-ghost use Rattle.std.specs.BTreeSet.{contains};
+ghost use Rattle.std.specs.Prelude.{◌≡◌, ◌≤◌, ◌<◌, ℕ, List, length, map, filter, slice_index, option_map, Ok, IfOk, if◌then◌else◌};
 ghost use Rattle.std.specs.List.{list_all};
+ghost use Rattle.std.specs.Slice.Iter.{iter_rest};
 ghost use Rattle.par2_spec.specs.Answers.{Lists};
 ghost use Rattle.par2_spec.specs.Folders as folders;
 ghost use Rattle.par2_spec.specs.Folders.{has};
 ghost use Rattle.par2_spec.specs.Rank as ranks;
 ghost use Rattle.par2_spec.specs.Reports.{Complete, is_complete, needing_state, verdict_of, report_in, IsVerdictIn};
 ghost use Rattle.par2_spec.specs.Search.{survivors};
-ghost use Rattle.par2_plan.specs.Findings.{AreFindings, lost_by, pair_cmp, report_by, said_of};
+ghost use Rattle.par2_plan.specs.Findings.{GoesOn, lost_by, report_by, reports_by, said_of};
 ghost use Rattle.par2_plan.specs.Views.{state_of, target_report_of, report_of};
 
-use crate::finding::Findings;
-use crate::restored_slices::all_pairs;
+use crate::finding::{Findings, parts};
+use crate::matching::Needing;
 use par2_folder::{Folder, Name};
 use par2_gf16::Gf;
 use par2_recovery::{rank, rank_by_runs};
 use par2_sets::{ParSet, Target};
-use par2_slices::Pair;
-use par2_spec::Verdict;
-use std::alloc::{AllocError, Global};
-use std::collections::BTreeSet;
+use par2_spec::{Result, Verdict};
+use std::alloc::Global;
+use std::slice::Iter;
 
 /// How it is with a target.
 #[derive(Debug, PartialEq, Eq, Drop)]
@@ -94,36 +93,52 @@ impl Report {
     }
 }
 
+// The match of the next of these needing targets, where the target is needing.
+fn next_match<'n>(needs: bool, needing: &mut Iter<'n, Needing>) -> Option<&'n Name>
+    ensures { GoesOn needs (iter_rest needing.old) result (iter_rest needing.new) }
+{
+    if !needs {
+        return None;
+    }
+    needing.next()?.found()
+}
+
 // The state of a target, by whether it is needing, and its match.
-fn state_of(folder: &Folder, target: &Target, needs: bool, found: Option<Name>) -> State
+fn state_of(folder: &Folder, target: &Target, needs: bool, found: Option<&Name>) -> State
     ensures { let is_there = has folder.now.files target.now.name in
+        let found = option_map (λ name. name.now) found.entry in
         state_of result ≡ if needs then needing_state is_there found else Complete }
 {
     match found {
         _ if !needs => State::Complete,
-        Some(name) => State::Misplaced(name),
+        Some(name) => State::Misplaced(name.copied()),
         None if folder.get(target.name()).is_some() => State::Damaged,
         None => State::Missing,
     }
 }
 
-// How many of these slices are not missing.
-fn count_found(pairs: &[Pair], missing: &BTreeSet<Pair>) -> usize
-    ensures { result
-        ≡ length (filter (λ pair. not (contains pair_cmp missing.now pair)) pairs.now) }
+// How many of these slices are found.
+fn count_found(found: &[bool]) -> usize
+    ensures { result ≡ length (filter (λ b. b) found.now) }
 {
-    pairs.iter().filter(|pair| !missing.contains(*pair)).count()
+    found.iter().filter(|found| **found).count()
 }
 
-// What is said of a target.
-fn target_report(folder: &Folder, target: &Target, needs: bool, findings: &Findings) -> TargetReport
-    ensures { target_report_of result
-        ≡ said_of folder.now.files findings.now (target.now, needs) }
+// What is said of a target, by whether it is needing, its match, and whether each of its slices is found.
+fn target_report(
+    folder: &Folder,
+    target: &Target,
+    needs: bool,
+    given: Option<&Name>,
+    found: &[bool],
+) -> TargetReport
+    ensures { let given = option_map (λ name. name.now) given.entry in
+        target_report_of result ≡ said_of folder.now.files (target.now, needs) given found.now }
 {
     TargetReport {
         name: target.name().copied(),
-        state: state_of(folder, target, needs, findings.match_of(target.name())),
-        found: count_found(target.pairs(), &findings.missing),
+        state: state_of(folder, target, needs, given),
+        found: count_found(found),
         total: target.pairs().len(),
     }
 }
@@ -134,36 +149,34 @@ fn target_reports(
     folder: &Folder,
     targets: &[Target],
     findings: &Findings,
-) -> Result<Vec<TargetReport>, AllocError>
-    ensures { let targets = zip targets.now findings.now.needs.items in
-        let reports = map (said_of folder.now.files findings.now) targets in
+) -> Result<Vec<TargetReport>>
+    ensures { let reports = reports_by folder.now.files targets.now findings.now in
         IfOk result (λ list. map target_report_of list.items ≡ reports) }
 {
-    targets
-        .iter()
-        .zip(&findings.needs)
-        .map(|(target, needs)| target_report(folder, target, *needs, findings))
-        .collect(alloc)
+    let mut reports = Vec::with_capacity(alloc, targets.len())?;
+    let mut needing = findings.targets.needing.iter();
+    let mut found = findings.found.as_slice();
+    for (target, needs) in targets.iter().zip(&findings.targets.needs) {
+        let (own, others) = parts(found, target.pairs().len());
+        found = others;
+        let given = next_match(*needs, &mut needing);
+        reports.push(target_report(folder, target, *needs, given, own))?;
+    }
+    Ok(reports)
 }
 
-// The numbers of the missing slices, rising.
-fn lost_slices(
-    alloc: Global,
-    pairs: &[Pair],
-    missing: &BTreeSet<Pair>,
-) -> Result<Vec<u32>, AllocError>
-    requires { length pairs.now ≤ 32768 }
-    ensures { Lists (lost_by (contains pair_cmp missing.now) pairs.now) result }
+// The numbers of the slices that aren't found, rising.
+fn lost_slices(alloc: Global, found: &[bool]) -> Result<Vec<u32>>
+    requires { length found.now ≤ 32768 }
+    ensures { Lists (lost_by found.now) result }
 {
-    (0..pairs.len() as u32)
-        .zip(pairs)
-        .filter(|(_, pair)| missing.contains(*pair))
-        .map(|(number, _)| number)
-        .collect(alloc)
+    let slices = (0..found.len() as u32).zip(found);
+    let lost = slices.filter(|(_, found)| !**found);
+    lost.map(|(number, _)| number).collect(alloc)
 }
 
 // The exponents of recovery slices.
-fn exponents(alloc: Global, recovery: &[(u32, &[u8])]) -> Result<Vec<u32>, AllocError>
+fn exponents(alloc: Global, recovery: &[(u32, &[u8])]) -> Result<Vec<u32>>
     ensures { IfOk result (λ list. list.items ≡ map (λ slice. slice.0) recovery.now) }
 {
     recovery.iter().map(|slice| slice.0).collect(alloc)
@@ -171,7 +184,7 @@ fn exponents(alloc: Global, recovery: &[(u32, &[u8])]) -> Result<Vec<u32>, Alloc
 
 // How many of these lost slices the surviving recovery slices tell. The field's tables are made only where equations
 // must decide it.
-fn rank_of(alloc: Global, set: &ParSet, lost: &[u32]) -> Result<usize, AllocError>
+fn rank_of(alloc: Global, set: &ParSet, lost: &[u32]) -> Result<usize>
     requires { (i : ℕ) → slice_index lost.now i < 32768 }
     ensures { IfOk result (λ n. n ≡ ranks.rank lost.now (survivors set.now)) }
 {
@@ -188,14 +201,13 @@ pub(crate) fn report_on(
     folder: &Folder,
     set: &ParSet,
     findings: &Findings,
-) -> Result<Report, AllocError>
-    ensures { (searched : List (List ℕ)) →
-        AreFindings folder.now.files set.now searched findings.now →
-        IfOk result (λ report. report_of report ≡ report_by folder.now.files set.now searched) }
+) -> Result<Report>
+    requires { length findings.now.found.items ≤ 32768 }
+    ensures { let report = report_by folder.now.files set.now findings.now in
+        IfOk result (λ said. report_of said ≡ report) }
 {
     let targets = target_reports(alloc, folder, set.targets(), findings)?;
-    let pairs = all_pairs(alloc, set)?;
-    let lost = lost_slices(alloc, &pairs, &findings.missing)?;
+    let lost = lost_slices(alloc, &findings.found)?;
     let rank = rank_of(alloc, set, &lost)?;
     Ok(Report {
         set_id: set.id(),

@@ -9,8 +9,9 @@ ghost use Rattle.par2_plan.specs.Restoring.{targets_among, chosen_at};
 use crate::restored_slices::Slices;
 use par2_folder::{Bytes, Name};
 use par2_sets::{ParSet, Target};
+use par2_spec::Result;
 use par2_spec::repair_laws::written_files_have_their_length;
-use std::alloc::{AllocError, Global};
+use std::alloc::Global;
 use std::collections::BTreeSet;
 use std::marker::Model;
 
@@ -49,7 +50,7 @@ fn push_among<'s>(
     target: &'s Target,
     slices: &Slices,
     first: usize,
-) -> Result<(), AllocError>
+) -> Result<()>
     requires { first + length target.now.pairs ≤ length slices.now }
     ensures { (names : List (List ℕ)) → HoldsNames among.now names →
         Appends (chosen_at names slices.now first target.now) restored.old restored.new result }
@@ -70,7 +71,7 @@ pub fn restored_files<'s>(
     set: &'s ParSet,
     slices: &Slices,
     among: &BTreeSet<Name>,
-) -> Result<Vec<Restored<'s>>, AllocError>
+) -> Result<Vec<Restored<'s>>>
     requires count { length slices.now ≡ length (all_pairs set.now) }
     requires sizes { AllByRecursion (λ slice. length slice ≡ set.now.slice_size) slices.now }
     ensures targets { (names : List (List ℕ)) → HoldsNames among.now names →

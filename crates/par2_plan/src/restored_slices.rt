@@ -17,9 +17,9 @@ ghost use Rattle.par2_plan.specs.SliceTexts.{windows_and_texts, slices_of, text_
 use par2_recovery::{RebuildFault, Survivors, rebuild_lost};
 use par2_sets::ParSet;
 use par2_slices::{Pair, found_windows};
-use par2_spec::Fault;
 use par2_spec::rank_laws::{rebuilt_slices_agree, tests_say_the_words};
-use std::alloc::{AllocError, Global};
+use par2_spec::{Fault, Result};
+use std::alloc::Global;
 use std::marker::Model;
 use std::vec::IntoIter;
 
@@ -61,12 +61,7 @@ impl<'a> Model for Slices<'a> {
 }
 
 // Adds a slice to the first bytes of a file, with the zeros that are missing in it, as far as the file goes.
-fn push_slice(
-    file: &mut Vec<u8>,
-    slice: &[u8],
-    slice_size: usize,
-    size: usize,
-) -> Result<(), AllocError>
+fn push_slice(file: &mut Vec<u8>, slice: &[u8], slice_size: usize, size: usize) -> Result<()>
     requires { length file.old.items ≤ size }
     ensures { let longer = file.old.items ++ padded slice_size slice.now in
         OnOk result (file.new.items ≡ take size longer) }
@@ -79,12 +74,7 @@ fn push_slice(
 }
 
 // The bytes of a file of this size by its slices.
-fn joined(
-    alloc: Global,
-    slices: &[Slice],
-    slice_size: usize,
-    size: usize,
-) -> Result<Vec<u8>, AllocError>
+fn joined(alloc: Global, slices: &[Slice], slice_size: usize, size: usize) -> Result<Vec<u8>>
     ensures { let slices = slices_of slice_size slices.now in
         IfOk result (λ file. file.items ≡ take size (concat slices)) }
 {
@@ -103,7 +93,7 @@ impl<'a> Slices<'a> {
         first: usize,
         count: usize,
         size: u64,
-    ) -> Result<Vec<u8>, AllocError>
+    ) -> Result<Vec<u8>>
         requires { first + count ≤ length self.now }
         ensures { let slices = take count (drop first self.now) in
             IfOk result (λ file. file.items ≡ take size (concat slices)) }
@@ -114,22 +104,15 @@ impl<'a> Slices<'a> {
 }
 
 /// The pairs of all slices of a set.
-pub fn all_pairs(alloc: Global, set: &ParSet) -> Result<Vec<Pair>, AllocError>
+pub fn all_pairs(alloc: Global, set: &ParSet) -> Result<Vec<Pair>>
     ensures { IfOk result (λ pairs. pairs.items ≡ all_pairs set.now) }
 {
-    set.targets()
-        .iter()
-        .flat_map(|target| target.pairs())
-        .copied()
-        .collect(alloc)
+    let pairs = set.targets().iter().flat_map(|target| target.pairs());
+    pairs.copied().collect(alloc)
 }
 
 // What survives of a set's slices, which are found in these texts.
-fn survivors_of<'a>(
-    alloc: Global,
-    set: &ParSet<'a>,
-    texts: &[&'a [u8]],
-) -> Result<Survivors<'a>, AllocError>
+fn survivors_of<'a>(alloc: Global, set: &ParSet<'a>, texts: &[&'a [u8]]) -> Result<Survivors<'a>>
     ensures fit { IfOk result CanRebuild }
     ensures these { let known = known_in set.now (texts_of texts.now) in
         IfOk result (AreSurvivors set.now known) }
@@ -161,7 +144,7 @@ fn merged<'a>(
     alloc: Global,
     windows: &[Option<&'a [u8]>],
     rebuilt: Vec<Vec<u8>>,
-) -> Result<Vec<Slice<'a>>, AllocError>
+) -> Result<Vec<Slice<'a>>>
     ensures { let texts = windows_and_texts windows.now (lists_of rebuilt.items) in
         IfOk result (λ slices. map text_of slices.items ≡ texts) }
 {

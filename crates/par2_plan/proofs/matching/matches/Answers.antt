@@ -1,4 +1,4 @@
-use Rattle.par2_plan.proofs.Common.{◌≡◌, ◌∙◌, Bool, Bor, List, ℕ, map, not, sym, ap, ap₂, subst, filter, zip, Option, slice_get, bytes_of, is_among, Target, is_needing, needing, intact_names, matched_numbers, Describe, texts_of, filter_agree, option_and_then}
+use Rattle.par2_plan.proofs.Common.{◌≡◌, ◌∙◌, Bool, Bor, List, ℕ, map, not, sym, ap, ap₂, subst, filter, zip, Option, slice_get, bytes_of, is_among, Target, is_needing, needing, intact_names, matched_numbers, Describe, texts_of, option_and_then}
 use Rattle.par2_plan.proofs.MatchNumbers.{passed, left_out, matches_by_numbers, free_by}
 use Rattle.par2_plan.proofs.matching.matches.Goals as goal
 
@@ -18,7 +18,7 @@ returns-clause-needing c =
     let intact : map (λ (z : Target × Bool). z.0.name) (filter (λ z. not z.1) (zip set.targets c.deref.result.now)) ≡ intact_names folder set =
     ap (λ (flags : List Bool). map (λ (z : Target × Bool). z.0.name) (filter (λ z. not z.1) (zip set.targets flags))) (c.deref.ensures.value ∙ c.in_ok-needs.ensures) ∙ left_out p set.targets in
     let free : c.in_ok-free.free.items ≡ names =
-    c.in_ok-free.ensures ∙ filter_agree _ (λ name. not (is_among (intact_names folder set) name)) (λ name. ap not (c.in_ok-intact.ensures name ∙ ap (λ ns. is_among ns name) intact)) searched in
+    c.in_ok-free.ensures _ c.in_ok-intact.ensures ∙ ap (λ (ns : List (List ℕ)). filter (λ name. not (is_among ns name)) searched) intact in
     let texts : texts_of c.deref-5.result.now ≡ map (bytes_of folder) names =
     ap texts_of c.deref-5.ensures.value ∙ c.in_ok-texts.ensures ∙ ap (map (bytes_of folder)) (c.deref-2.ensures.value ∙ free) in
     let told : Describe c.deref-6.result.now ts =

@@ -8,5 +8,5 @@ returns c =
     IfOk-weaker c.collect.result _ _ (λ tree is aside e. holds_asides aside c.args.names.now c.args.asides.now tree e is)
     (fact_from_collect (IsFromIterResult (slice_cmp nat_cmp)) c.collect.result c.collect.ensures.ran
     (YieldsList-from_map _ as_pair
-    (YieldsList-at c.map.ensures.source (YieldsList-from_zip (YieldsList-from_slice c.args.names.now cc) (YieldsList-from_slice c.args.asides.now cc)))
-    c.map.ensures.closure (λ x r q k. search rules)))
+    (YieldsList-at c.map-pairs.ensures.source (YieldsList-from_zip (YieldsList-from_slice c.args.names.now cc) (YieldsList-from_slice c.args.asides.now cc)))
+    c.map-pairs.ensures.closure (λ x r q k. search rules)))

@@ -1,6 +1,6 @@
-use Rattle.par2_plan.proofs.Common.{◌≡◌, ◌∙◌, ◌+◌, ◌++◌, ◌∷◌, [], List, ℕ, sym, ap, ap₂, take, append-nil, append_assoc, Option, option_map, cons_option, filter_map-append, take_more, Change, Rename, Target, matches_taken, place_by}
-use Rattle.par2_plan.proofs.moves.push_matches.Goals.{in-Some+in_ok-push, in_default}
+use Rattle.par2_plan.proofs.Common.{◌≡◌, ◌∙◌, ◌+◌, ◌++◌, ◌∷◌, [], List, ℕ, Bor, sym, ap, ap₂, take, append-nil, append_assoc, Option, option_map, cons_option, filter_map-append, take_more, Change, Rename, Target, matches_taken, place_by}
 use Rattle.par2_plan.proofs.moves.push_matches.Goals as goal
+use Rattle.par2_plan.proofs.moves.push_matches.Goals.{in-Some+in_ok-push, in_default}
 
 pub loop-needing-preserved : goal.loop-needing-preserved
 loop-needing-preserved c = λ aside all h.
@@ -18,14 +18,14 @@ loop-needing-preserved c = λ aside all h.
     let step : list ≡ old ++ (some ++ next item.1) =
     elim c.match-found.branch as (λ _. list ≡ old ++ (some ++ next item.1)) [
       | in-Some+in_ok-push w ↦
-          let found : List ℕ = w.in-Some.found in
+          let found : Bor (List ℕ) = w.in-Some.found in
           w.changes-is ∙ w.in_ok-push.ensures.ok
           ∙ ap₂ (λ from to. c.loop-needing.changes ++ Rename from to ∷ []) (w.now_at-from.ensures aside all h) (w.copied.ensures ∙ w.name.ensures ∙ ap (λ (t : Target). t.name) w.target.ensures)
-          ∙ ap (λ (cs : List Change). cs ++ Rename (place found) item.0.name ∷ []) (c.loop-needing.invariant aside all h)
-          ∙ append_assoc old some (Rename (place found) item.0.name ∷ [])
-          ∙ ap (λ o. old ++ (some ++ next o)) (sym (sym c.found.ensures ∙ w.in-Some.is))
+          ∙ ap (λ (cs : List Change). cs ++ Rename (place found.now) item.0.name ∷ []) (c.loop-needing.invariant aside all h)
+          ∙ append_assoc old some (Rename (place found.now) item.0.name ∷ [])
+          ∙ ap (λ o. old ++ (some ++ next o)) (sym (sym c.found.ensures ∙ ap (option_map (λ (n : Bor (List ℕ)). n.now)) w.in-Some.is))
       | in_default w ↦
           w.changes-is ∙ c.loop-needing.invariant aside all h ∙ ap (λ (cs : List Change). old ++ cs) (sym (append-nil some))
-          ∙ ap (λ o. old ++ (some ++ next o)) (sym (sym c.found.ensures ∙ w.in_default.is))
+          ∙ ap (λ o. old ++ (some ++ next o)) (sym (sym c.found.ensures ∙ ap (option_map (λ (n : Bor (List ℕ)). n.now)) w.in_default.is))
     ] in
     step ∙ ap (λ (cs : List Change). old ++ cs) (sym more)

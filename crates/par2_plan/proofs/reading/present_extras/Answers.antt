@@ -25,4 +25,4 @@ pub returns : goal.returns
 returns c =
     IfOk-weaker c.collect.result _ _ (λ list e. e ∙ present c.args.folder.now.files c.args.extras.now)
     (items_from_collect _ c.collect.ensures.ran
-    (YieldsList-from_filter_map _ (named c.args.folder.now.files) (YieldsList-from_slice c.args.extras.now cc) c.filter_map.ensures.closure (λ x r q k. search (rules, tests, is_named))))
+    (YieldsList-from_filter_map _ (named c.args.folder.now.files) (YieldsList-from_slice c.args.extras.now cc) c.filter_map-names.ensures.closure (λ x r q k. search (rules, tests, is_named))))

@@ -1,11 +1,10 @@
-use Rattle.par2_plan.proofs.Common.{◌≡◌, ◌∙◌, List, ℕ, Ok, Err, Some, Result, map, string_bytes, sym, ap, subst, IsDistinct, bytes_eq, std_from_distinct, err_from_is_err_and, Verify, early_refusal, set_in, candidates, Fault, report_in, ok_no_err, verdict_by_words, refused_as_reported, report_by}
+use Rattle.par2_plan.proofs.Common.{◌≡◌, ◌∙◌, List, ℕ, Ok, Err, Some, map, string_bytes, sym, ap, subst, IsDistinct, bytes_eq, std_from_distinct, err_from_is_err_and, Verify, early_refusal, set_in, candidates, Fault, report_in, ok_no_err, verdict_by_words, refused_as_reported, AreFindings}
 use Rattle.par2_plan.specs.Views.{report_of}
 use Rattle.par2_plan.proofs.Choices.{distinct_once}
 use Rattle.par2_plan.proofs.PassedAnswers.{refused_by, err_passed}
 use Rattle.par2_plan.proofs.PlanParts.{early_verify}
-use Rattle.par2_plan.proofs.ReportValues.{refused_in, answered}
-use Rattle.par2_plan.proofs.verify.check.Goals.{In_ok-reading}
-use Rattle.par2_spec.specs.Reports as reports
+use Rattle.par2_plan.proofs.ReportValues.{refused_in, answered, few_found}
+use Rattle.par2_plan.proofs.verify.check.Goals.{In_ok-findings, In_ok-reading}
 use Rattle.par2_plan.proofs.verify.check.Goals as goal
 
 pub returns-in_err-reading-clause-early : goal.returns-in_err-reading-clause-early
@@ -47,16 +46,23 @@ returns-in_err-reading-clause-refused c =
     (err_from_is_err_and c.from_residual.result c.from_residual.ensures.1) c.in_err-reading.ensures.set
     (refused_in folder base extras fault)
 
+-- what is found, by the names of the definitions
+are_findings : (c : In_ok-findings) → AreFindings c.args.folder.now.files c.in_ok-reading.reading.set (candidates c.args.folder.now.files c.in_ok-reading.reading.set (map string_bytes c.args.extras.now)) c.in_ok-findings.findings
+are_findings c =
+    let folder = c.args.folder.now.files in
+    let set = c.in_ok-reading.reading.set in
+    subst (λ (ns : List (List ℕ)). AreFindings folder set ns c.in_ok-findings.findings)
+    (c.deref-2.ensures.value ∙ c.in_ok-candidates.ensures ∙ ap (candidates folder set) (c.deref.ensures.value ∙ c.in_ok-reading.ensures.extras)) c.in_ok-findings.ensures
+
+pub report_on-requires : goal.report_on-requires
+report_on-requires c =
+    few_found c.args.folder.now.files c.args.base.now (map string_bytes c.args.extras.now) c.in_ok-reading.reading.set c.in_ok-reading.ensures.set c.in_ok-findings.findings
+    (are_findings (goal.at.report_on-requires c).In_ok-findings)
+
 pub returns-clause-report : goal.returns-clause-report
 returns-clause-report c =
-    let folder = c.args.folder.now.files in
-    let base = c.args.base.now in
-    let extras : List (List ℕ) = map string_bytes c.args.extras.now in
-    let set = c.in_ok-reading.reading.set in
-    let is = answered folder base extras set c.in_ok-reading.ensures.set in
-    let names : c.deref.result.now ≡ extras = c.deref.ensures.value ∙ c.in_ok-reading.ensures.extras in
-    is ∙ ap (λ (xs : List (List ℕ)). let r : Result reports.Report Fault = Ok (report_by folder set (candidates folder set xs)) in r) (sym names)
-    ∙ ap Ok (sym (c.in_ok-report_on.ensures c.deref-2.result.now c.in_ok-findings.ensures ∙ ap (report_by folder set) (c.deref-2.ensures.value ∙ c.in_ok-candidates.ensures)))
+    answered c.args.folder.now.files c.args.base.now (map string_bytes c.args.extras.now) c.in_ok-reading.reading.set c.in_ok-reading.ensures.set c.in_ok-findings.findings
+    (are_findings (goal.at.returns-clause-report c).In_ok-findings) ∙ ap Ok (sym c.in_ok-report_on.ensures)
 
 pub returns-clause-verdict : goal.returns-clause-verdict
 returns-clause-verdict c =
