@@ -1,11 +1,16 @@
 -- What a journal opens as.
-use Rattle.par2_journal.proofs.Common.{◌≡◌, inl, inr, ℕ, ◌+◌, ◌-◌, ◌≤◌, Bool, true, false, not, ◌&&◌, List, [], ◌∷◌, length, map, take, drop, Option, Some, None, Result, Ok, Err, refl, sym, ap, subst, ◌∙◌, arith, and_parts, both_ways, false_from_ne_true, ⊎_map, reverse, position, if◌then◌else◌, ◌↔◌, pointwise, bytes_eq, Folder, fingerprint, Change, FolderState, effect, effects, is_applicable, takes_all, state_after_all, Journal, HalfwayPart, Spells, is_valid, session_at, AnswersWhere, OpensAsIs, more_room_all, state_files, are_applicable, folders_after, leads_through}
+use Rattle.par2_journal.proofs.Common.{◌≡◌, ◌⊎◌, inl, inr, ℕ, ◌+◌, ◌-◌, ◌<◌, ◌≤◌, Bool, true, false, not, ◌&&◌, List, [], ◌∷◌, length, map, take, drop, Option, Some, None, Result, Ok, Err, refl, sym, ap, subst, ◌∙◌, arith, and_parts, both_ways, false_from_ne_true, cases_lt, ⊎_map, IfErr, reverse, position, if◌then◌else◌, ◌↔◌, pointwise, bytes_eq, Folder, fingerprint, Change, FolderState, effect, effects, is_applicable, takes_all, state_after_all, Journal, HalfwayPart, Spells, is_valid, session_at, AnswersWhere, OpensAsIs, more_room_all, state_files, are_applicable, folders_after, leads_through}
 use Rattle.par2_spec.specs.Opening as defined
 use Rattle.par2_spec.specs.declared.JournalFault.{JournalFault}
-use Rattle.par2_spec.specs.declared.JournalFault.TheVariants.{JournalInvalid, FolderChanged}
+use Rattle.par2_spec.specs.declared.JournalFault.TheVariants.{JournalInvalid, FolderChanged, Memory}
 use Rattle.par2_journal_bytes.specs.Reading.{IsSealed}
 use Rattle.par2_journal.specs.declared.opening.Opened.{Opened}
 use Rattle.par2_spec.proofs.StopLaws.{through_applies}
+use Rattle.std.proofs.lemmas.Bool.{cases_Bool}
+use Rattle.std.proofs.lemmas.Slice.Eq.{bytes_eq-Decides}
+use Rattle.md5.specs.Md5.{md5}
+use Rattle.par2_journal_bytes.proofs.Whole.{spells_sealed}
+use Rattle.par2_journal.specs.Opening.{AnswersOpening, IsToldWhere}
 
 -- changes that apply lead through these fingerprints where they leave them
 through_is : (f : Folder) (cs : List Change) (ps : List (List ℕ)) → length ps ≡ length cs → are_applicable f cs ≡ true → leads_through f cs ps ≡ pointwise bytes_eq (map fingerprint (folders_after f cs)) ps
@@ -63,13 +68,54 @@ pub by_journal : {P : Type 0} (f : Folder) (text : List ℕ) (j : Journal) (a : 
 unfolding defined.Opens
 by_journal f text j a spells is holds (Ok found) told =
     let sealed = holds.0 told.opened.0 in
-    record { opened = (sealed, inl (j, spells sealed, told.opened.1 ∙ is)); refused = tt; files = tt }
-by_journal f text j a spells is holds (Err e) told =
-    record { opened = tt; refused = λ sealed. ⊎_map (λ memory. memory) (λ same. inl (j, spells sealed, same ∙ is)) (told.refused (holds.1 sealed)); files = told.files }
+    record { opened = (sealed, inl (j, spells sealed, told.opened.1 ∙ is)); refused = tt; told = tt; files = tt }
+by_journal f text j a spells is holds (Err e) given = record {
+  opened = tt;
+  refused = λ sealed. ⊎_map (λ memory. memory) (λ same. inl (j, spells sealed, same ∙ is)) (given.refused (holds.1 sealed));
+  told = ⊎_map (λ invalid. invalid) (⊎_map (λ memory. memory) holds.0) given.told;
+  files = given.files;
+}
 
 pub no_journal : (f : Folder) (text : List ℕ) → ((j : Journal) → Spells text j → ⊥) → defined.Opens f text (Err JournalInvalid)
 unfolding defined.Opens
 no_journal f text none = inr (none, refl)
+
+sealed_or_not : (text : List ℕ) → IsSealed text ⊎ ¬ (IsSealed text)
+sealed_or_not text = by_length (cases_lt (length text) 16)
+  where
+    end : List ℕ
+    end = drop (length text - 16) text
+
+    digest : List ℕ
+    digest = md5 (take (length text - 16) text)
+
+    by_digest : 16 ≤ length text → (bytes_eq end digest ≡ true) ⊎ (bytes_eq end digest ≡ false) → IsSealed text ⊎ ¬ (IsSealed text)
+    by_digest long (inl same) = inl (record { long = long; digest = (bytes_eq-Decides end digest).0 same })
+    by_digest long (inr other) = inr (λ sealed. both_ways _ other ((bytes_eq-Decides end digest).1 sealed.digest))
+
+    by_length : (length text < 16) ⊎ (16 ≤ length text) → IsSealed text ⊎ ¬ (IsSealed text)
+    by_length (inl short) = inr (λ sealed. absurd (omega (arith, short, sealed.long)))
+    by_length (inr long) = by_digest long (cases_Bool (bytes_eq end digest))
+
+-- what answers where the text ends with its digest is the opening's answer, where memory is told of only then
+pub opening_is : (folder : FolderState) (text : List ℕ) (r : Result Opened (JournalFault × FolderState)) → AnswersWhere (IsSealed text) folder.files (defined.Opens folder.files text) r
+    → IfErr r (λ e. e.0 ≡ Memory → IsSealed text) → AnswersOpening folder text r
+opening_is folder text (Ok found) given _ = record { opened = given.opened.1; refused = tt; unsealed = λ none. none given.opened.0; files = tt }
+opening_is folder text (Err e) given memory = by (sealed_or_not text)
+  where
+    invalid : ¬ (IsSealed text) → IsToldWhere (IsSealed text) e.0 → e.0 ≡ JournalInvalid
+    invalid none (inl is) = is
+    invalid none (inr (inl is)) = absurd (none (memory is))
+    invalid none (inr (inr sealed)) = absurd (none sealed)
+
+    by : IsSealed text ⊎ ¬ (IsSealed text) → AnswersOpening folder text (Err e)
+    by (inl sealed) = record { opened = tt; refused = given.refused sealed; unsealed = λ none. absurd (none sealed); files = given.files }
+    by (inr none) = record {
+      opened = tt;
+      refused = inr (rw (invalid none given.told) (no_journal folder.files text (λ j spells. none (spells_sealed text j spells))));
+      unsealed = λ _. invalid none given.told;
+      files = given.files;
+    }
 
 -- ---- of a folder as it is
 
