@@ -1,5 +1,5 @@
 -- What a journal opens as.
-use Rattle.par2_journal.proofs.Common.{◌≡◌, ◌⊎◌, inl, inr, ℕ, ◌+◌, ◌-◌, ◌<◌, ◌≤◌, Bool, true, false, not, ◌&&◌, List, [], ◌∷◌, length, map, take, drop, Option, Some, None, Result, Ok, Err, refl, sym, ap, subst, ◌∙◌, arith, and_parts, both_ways, false_from_ne_true, cases_lt, ⊎_map, IfErr, reverse, position, if◌then◌else◌, ◌↔◌, pointwise, bytes_eq, Folder, fingerprint, Change, FolderState, effect, effects, is_applicable, takes_all, state_after_all, Journal, HalfwayPart, Spells, is_valid, session_at, AnswersWhere, OpensAsIs, more_room_all, state_files, are_applicable, folders_after, leads_through}
+use Rattle.par2_journal.proofs.Common.{◌≡◌, inl, inr, ℕ, ◌+◌, ◌-◌, ◌<◌, ◌≤◌, Bool, true, false, not, ◌&&◌, List, [], ◌∷◌, length, map, take, drop, Option, Some, None, Result, Ok, Err, refl, sym, ap, subst, ◌∙◌, arith, and_parts, both_ways, false_from_ne_true, cases_lt, ⊎_map, IfErr, reverse, position, if◌then◌else◌, ◌↔◌, pointwise, bytes_eq, Folder, fingerprint, Change, FolderState, effect, effects, is_applicable, takes_all, state_after_all, Journal, HalfwayPart, Spells, is_valid, session_at, AnswersWhere, OpensAsIs, more_room_all, state_files, are_applicable, folders_after, leads_through}
 use Rattle.par2_spec.specs.Opening as defined
 use Rattle.par2_spec.specs.declared.JournalFault.{JournalFault}
 use Rattle.par2_spec.specs.declared.JournalFault.TheVariants.{JournalInvalid, FolderChanged, Memory}
@@ -9,6 +9,7 @@ use Rattle.par2_spec.proofs.StopLaws.{through_applies}
 use Rattle.std.proofs.lemmas.Bool.{cases_Bool}
 use Rattle.std.proofs.lemmas.Slice.Eq.{bytes_eq-Decides}
 use Rattle.md5.specs.Md5.{md5}
+use Rattle.std.specs.Prelude.{◌⊎◌}
 use Rattle.par2_journal_bytes.proofs.Whole.{spells_sealed}
 use Rattle.par2_journal.specs.Opening.{AnswersOpening, IsToldWhere}
 
@@ -97,25 +98,25 @@ sealed_or_not text = by_length (cases_lt (length text) 16)
     by_length (inl short) = inr (λ sealed. absurd (omega (arith, short, sealed.long)))
     by_length (inr long) = by_digest long (cases_Bool (bytes_eq end digest))
 
--- what answers where the text ends with its digest is the opening's answer, where memory is told of only then
-pub opening_is : (folder : FolderState) (text : List ℕ) (r : Result Opened (JournalFault × FolderState)) → AnswersWhere (IsSealed text) folder.files (defined.Opens folder.files text) r
-    → IfErr r (λ e. e.0 ≡ Memory → IsSealed text) → AnswersOpening folder text r
-opening_is folder text (Ok found) given _ = record { opened = given.opened.1; refused = tt; unsealed = λ none. none given.opened.0; files = tt }
-opening_is folder text (Err e) given memory = by (sealed_or_not text)
+-- what is refused where a text ends with its digest is the opening's refusal, where elsewhere the text is refused as such
+pub refused_as : (folder : FolderState) (text : List ℕ) (e : JournalFault × FolderState) (fault : JournalFault) → AnswersWhere (IsSealed text) folder.files (defined.Opens folder.files text) (Err e)
+    → (IsSealed text → fault ≡ e.0) → (¬ (IsSealed text) → fault ≡ JournalInvalid) → AnswersOpening folder text (Err (fault, e.1))
+refused_as folder text e fault given sealed unsealed = by (sealed_or_not text)
   where
-    invalid : ¬ (IsSealed text) → IsToldWhere (IsSealed text) e.0 → e.0 ≡ JournalInvalid
-    invalid none (inl is) = is
-    invalid none (inr (inl is)) = absurd (none (memory is))
-    invalid none (inr (inr sealed)) = absurd (none sealed)
-
-    by : IsSealed text ⊎ ¬ (IsSealed text) → AnswersOpening folder text (Err e)
-    by (inl sealed) = record { opened = tt; refused = given.refused sealed; unsealed = λ none. absurd (none sealed); files = given.files }
+    by : IsSealed text ⊎ ¬ (IsSealed text) → AnswersOpening folder text (Err (fault, e.1))
+    by (inl is) = record { opened = tt; refused = rw (sealed is) (given.refused is); unsealed = λ none. absurd (none is); files = given.files }
     by (inr none) = record {
       opened = tt;
-      refused = inr (rw (invalid none given.told) (no_journal folder.files text (λ j spells. none (spells_sealed text j spells))));
-      unsealed = λ _. invalid none given.told;
+      refused = inr (rw (unsealed none) (no_journal folder.files text (λ j spells. none (spells_sealed text j spells))));
+      unsealed = λ _. unsealed none;
       files = given.files;
     }
+
+-- of what isn't told elsewhere
+pub invalid_elsewhere : {P : Type 0} (fault : JournalFault) → IsToldWhere P fault → (fault ≡ Memory → ⊥) → ¬ P → fault ≡ JournalInvalid
+invalid_elsewhere fault (inl is) memory none = is
+invalid_elsewhere fault (inr (inl is)) memory none = absurd (memory is)
+invalid_elsewhere fault (inr (inr holds)) memory none = absurd (none holds)
 
 -- ---- of a folder as it is
 

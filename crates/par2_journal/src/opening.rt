@@ -11,7 +11,7 @@ ghost use Rattle.par2_journal.specs.Walks.{EntriesWalk};
 
 use crate::taking_back::{Halfway, open_halfway};
 use crate::{Changes, Next, Session};
-use md5::Md5;
+use md5::{Digest, Md5};
 use par2_folder::{Change, Folder, Name};
 use par2_journal_bytes::{DecodeFault, Journal, decode, decode_untested, is_sealed};
 use par2_spec::{JournalFault, Result};
@@ -95,8 +95,9 @@ impl<'a> Names<'a> {
     // Whether the changes can be made in order. If so, they are.
     fn go_along(&mut self, changes: &'a [Change]) -> Result<bool>
         ensures { let changes = changes_in changes.now in
+            let new = names_in self.new in
             (files : Files) → AreNamesOf files (names_in self.old) →
-            IfOk result (IsTried (are_applicable files changes) (effects files changes) (names_in self.new)) }
+            IfOk result (IsTried (are_applicable files changes) (effects files changes) new) }
     {
         for change in changes {
             if !self.can_take(change) {
@@ -265,6 +266,24 @@ fn open_untested(alloc: Global, folder: Folder, bytes: &[u8], next: Option<Next>
     }
 }
 
+// The fault. Bytes that don't end with their digest are refused as such, also where memory ran out.
+fn where_sealed(fault: JournalFault, bytes: &[u8]) -> JournalFault
+    ensures sealed { IsSealed bytes.now → result ≡ fault }
+    ensures unsealed { let sealed = IsSealed bytes.now in
+        ¬ sealed → IsToldWhere sealed fault → result ≡ JournalInvalid }
+{
+    match fault {
+        JournalFault::Memory => {
+            if is_sealed(bytes) {
+                JournalFault::Memory
+            } else {
+                JournalFault::JournalInvalid
+            }
+        }
+        _ => fault,
+    }
+}
+
 impl Session {
     /// Opens a folder with the bytes of a journal, in either version. At a refusal the folder is given back, names and
     /// bytes as they were. Bytes that don't end with their digest are refused as such, also where memory runs out.
@@ -280,10 +299,8 @@ impl Session {
         ensures { AnswersOpening folder bytes.now result }
     {
         match open_untested(alloc, folder, bytes, next) {
-            Err((JournalFault::Memory, folder)) if !is_sealed(bytes) => {
-                Err((JournalFault::JournalInvalid, folder))
-            }
-            answer => answer,
+            Err((fault, folder)) => Err((where_sealed(fault, bytes), folder)),
+            Ok(opened) => Ok(opened),
         }
     }
 }
