@@ -1,5 +1,5 @@
 -- The entries of a session before and after one of them was turned.
-use Rattle.par2_journal.proofs.Common.{map, drop_more, length-map, get_or-map, ◌≡◌, ℕ, ◌+◌, ◌<◌, ◌≤◌, List, [], ◌∷◌, ◌++◌, length, get_or, set, take, drop, sym, ap, ◌∙◌, arith, length-take, reverse, insert, take_all, drop_all, take_more, take_more_set, take-set, reverse-append, drop-set-lt}
+use Rattle.par2_journal.proofs.Common.{map, ◌≡◌, ℕ, ◌+◌, ◌<◌, ◌≤◌, List, [], ◌∷◌, ◌++◌, length, get_or, set, take, drop, sym, ap, ◌∙◌, arith, length-take, drop_more, length-map, get_or-map, take_all, drop_all, take_more, take_more_set, take-set, reverse-append, drop-set-lt, reverse, insert}
 use Rattle.std.proofs.lemmas.List.Edits.{insert_end, length-insert}
 
 module _ {X : Type 0} (xs : List X) (i : ℕ) (within : i < length xs) where

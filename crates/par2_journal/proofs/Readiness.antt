@@ -1,5 +1,7 @@
 -- What is asked of a session, and what it makes ready.
-use Rattle.par2_journal.proofs.Common.{◌≡◌, ◌≢◌, inl, inr, ℕ, Bool, ◌<◌, ◌≤◌, List, [], ◌∷◌, length, map, None, Some, IsTrue, Result, Ok, Err, true, refl, sym, ap, subst, ◌∙◌, arith, nil_from_length, IfOk, IfErr, IsErrAnd, Change, Write, Rename, Remove, places_taken, are_applicable, effects, Replace, Command, Do, Undo, Redo, Repair, Folder, LeadsToAfterAsked, KeptSession, OnlyGrew, session_of_kept, changes_unless, first_entry, Step, step_of, takes_applicable, AreAlong, prints_of, MakesReady, Prepares, Fingerprints, Kind, Ready, Changing, Undoing, Redoing, CanBe, Fits, IsKindOf, IsReady, changes_by_kind, next_of, IsChanging, changes_asked}
+use Rattle.par2_journal.proofs.Common.{Action, Command, Do, Undo, Redo, Repair, ◌≡◌, ◌≢◌, inl, inr, ℕ, Bool, ◌<◌, ◌≤◌, List, [], ◌∷◌, length, map, None, Some, IsTrue, Result, Ok, Err, true, refl, sym, ap, subst, ◌∙◌, arith, nil_from_length, IfOk, IfErr, IsErrAnd, Change, Write, Rename, Remove, places_taken, are_applicable, effects, Folder, LeadsToAfterAsked, KeptSession, OnlyGrew, session_of_kept, changes_unless, first_entry, changes_asked, Step, step_of, takes_applicable, AreAlong, prints_of, Fingerprints, Kind, Ready, Changing, Undoing, Redoing, CanBe, Fits, IsKindOf, IsReady, changes_by_kind, next_of, IsChanging}
+use Rattle.par2_journal.specs.Commands.{MakesReady, Prepares}
+use Rattle.par2_spec.specs.Changes.{Replace}
 use Rattle.par2_spec.specs.Refusals.{refusal, after, early_refusal}
 use Rattle.par2_spec.specs.Plans as plans
 use Rattle.par2_spec.specs.History as history
@@ -18,10 +20,10 @@ unfolding changes_asked
 refused_plan s command fault (inl memory) = inl (ap Plan memory)
 refused_plan s command fault (inr cause) = inr (ap (λ r. changes_unless r (plans.changes_of s.folder.files command)) cause)
 
-pub refused_for : (r : Result Ready SessionFault) (old new : KeptSession) (command : Command) (fault : Fault) → IsErrAnd r (λ e. e ≡ Plan fault) → MakesReady command old new (Err fault)
-    → Prepares (Do command) old new r
-refused_for (Ok ready) old new command fault is made = absurd is
-refused_for (Err e) old new command fault is made = record {
+pub refused_for : (r : Result Ready SessionFault) (old new : KeptSession) (command : Command) (fault : Fault) (action : Action) → action ≡ Do command → IsErrAnd r (λ e. e ≡ Plan fault)
+    → MakesReady command old new (Err fault) → Prepares action old new r
+refused_for (Ok ready) old new command fault action asked is made = absurd is
+refused_for (Err e) old new command fault action asked is made = subst (λ (a : Action). Prepares a old new (Err e)) (sym asked) (record {
   kept = made.kept;
   ready = tt;
   leads = tt;
@@ -29,7 +31,7 @@ refused_for (Err e) old new command fault is made = record {
   early = λ found first. let same = made.early found first in cc;
   nothing_to_undo = λ asked none. absurd (cc);
   nothing_to_redo = λ asked none. absurd (cc);
-}
+})
 
 -- each write takes one place
 pub places_within : (changes : List Change) → places_taken changes ≤ length changes

@@ -1,5 +1,5 @@
 -- A session's journals, by the session's fields.
-use Rattle.par2_journal.proofs.Common.{◌≡◌, ℕ, zero, suc, ◌+◌, ◌-◌, ◌<◌, ◌≤◌, List, [], ◌∷◌, ◌++◌, length, map, take, drop, get_or, set, inl, inr, Option, Some, None, Result, Ok, Err, Vec, true, refl, sym, ap, subst, ◌∙◌, append-nil, length-set, arith, reverse, IfOk, Global, reverse-reverse, take-append-drop, length-reverse, length-take-le, reverse-append, get_or_default, drop_all, cases_lt, Folder, fingerprint, Change, FolderState, effect, state_after_all, takes_all, Action, KeptSession, OnlyGrew, CanWalk, walks, session_of_kept, session_with, session_unless, kept_undone, kept_redone, Journal, Spells, halfway_where, Two, Kind, Changing, Undoing, Redoing, Ready, IsReady, CanBe, next_of, changes_by_kind, after_commit, next_changes, Next, Turn, SpellsAction, SpellsReady, SpellsTurn, SpellsWhere, AreSpelled, HasNext, turn_of, entries_with, halfway_with, settled_with, state_files, takes_none, next_taken, same_session, same_ok, folders_after, way_back, session_after, kept_done, settled_journal, halfway_journal, journals_of}
+use Rattle.par2_journal.proofs.Common.{◌≡◌, ℕ, zero, suc, ◌+◌, ◌-◌, ◌<◌, ◌≤◌, List, [], ◌∷◌, ◌++◌, length, map, take, drop, get_or, set, inl, inr, Option, Some, None, Result, Ok, Err, Vec, true, refl, sym, ap, subst, ◌∙◌, append-nil, length-set, arith, reverse, IfOk, Global, reverse-reverse, take-append-drop, length-reverse, length-take-le, reverse-append, get_or_default, drop_all, cases_lt, Folder, fingerprint, Change, FolderState, effect, state_after_all, takes_all, folders_after, way_back, Action, KeptSession, OnlyGrew, CanWalk, walks, session_of_kept, session_with, session_unless, kept_undone, kept_redone, session_after, kept_done, Journal, Spells, halfway_where, settled_journal, halfway_journal, journals_of, Two, Kind, Changing, Undoing, Redoing, Ready, IsReady, CanBe, next_of, changes_by_kind, after_commit, next_changes, Next, Turn, SpellsAction, SpellsReady, SpellsTurn, SpellsWhere, AreSpelled, HasNext, turn_of, entries_with, halfway_with, settled_with, state_files, takes_none, next_taken, same_session, same_ok}
 use Rattle.par2_journal.proofs.Readiness.{same_changes}
 use Rattle.par2_journal.specs.declared.ahead.Next.TheVariants as ahead
 use Rattle.par2_journal.specs.declared.spelling.Journals.{Journals}

@@ -1,10 +1,9 @@
 -- The names of a folder's files, through changes.
-use Rattle.par2_journal.proofs.Common.{◌≡◌, ℕ, ◌+◌, ◌<◌, ◌≤◌, Bool, true, false, ◌&&◌, List, [], ◌∷◌, length, map, drop, get_or, Option, Some, None, refl, sym, ap, ◌∙◌, arith, cond, is_some, drop_all, length-map, bytes_eq, Folder, has, Change, slice_cmp, nat_list_cmp_total, eq_by_cmp, nat_cmp, written, gone, are_applicable, effect, effects, is_applicable, leads}
-use Rattle.std.proofs.lemmas.Map.Text.{is_eq-slice_cmp}
+use Rattle.par2_journal.proofs.Common.{◌≡◌, ℕ, ◌+◌, ◌<◌, ◌≤◌, Bool, true, false, ◌&&◌, List, [], ◌∷◌, length, map, drop, get_or, Option, Some, None, refl, sym, ap, ◌∙◌, arith, cond, is_some, drop_all, length-map, bytes_eq, Folder, has, Change, are_applicable, effect, effects, is_applicable, slice_cmp, nat_list_cmp_total, written, gone, leads, is_eq-slice_cmp, AreNamesOf, IsSet}
+use Rattle.std.specs.Ordering.{eq_by_cmp, nat_cmp}
 use Rattle.std.specs.Cmp.{eq_by_cmp_equiv}
 use Rattle.std.specs.FinMap as map_of
 use Rattle.par2_journal.proofs.Entries.{left_at}
-use Rattle.par2_journal.specs.Walks.{AreNamesOf, IsSet}
 
 -- ---- one change
 

@@ -1,5 +1,5 @@
 -- A session before and after an entry at the cursor was turned.
-use Rattle.par2_journal.proofs.Common.{◌≡◌, ℕ, ◌+◌, ◌<◌, ◌≤◌, List, ◌∷◌, length, get_or, set, take, drop, sym, ap, subst, ◌∙◌, true, drop_more, drop-set, reverse, insert, Change, FolderState, takes_all, state_after_all, way_back, KeptSession, CanWalk, others, undone_can_walk, redone_can_walk, done_can_walk, next_taken, next_of, walks, kept_undone, kept_redone, kept_done}
+use Rattle.par2_journal.proofs.Common.{◌≡◌, ℕ, ◌+◌, ◌<◌, ◌≤◌, List, ◌∷◌, length, get_or, set, take, drop, sym, ap, subst, ◌∙◌, true, drop_more, drop-set, reverse, insert, Change, FolderState, takes_all, state_after_all, way_back, KeptSession, CanWalk, others, walks, kept_undone, kept_redone, kept_done, undone_can_walk, redone_can_walk, done_can_walk, next_taken, next_of}
 use Rattle.par2_journal.proofs.Entries.{undos_at, undos_set, undos_more_set, redos_more_set, undos_added, redos_added}
 
 -- the session whose cursor stands at n

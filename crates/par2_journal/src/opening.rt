@@ -160,7 +160,9 @@ fn settle(alloc: Global, folder: &mut Folder, entries: &[Changes], cursor: usize
     ensures valid { IfOk result (λ x. x ≡ are_valid folder.old.files cursor entries.now) }
     ensures walks { result ≡ Ok true → EntriesWalk folder.new cursor entries.now }
 {
-    let count = change_count(entries).ok_or(AllocError)?;
+    let Some(count) = change_count(entries) else {
+        return Err(AllocError);
+    };
     folder.reserve(count)?;
     are_valid(alloc, folder, entries, cursor)
 }
@@ -273,13 +275,8 @@ fn where_sealed(fault: JournalFault, bytes: &[u8]) -> JournalFault
         ¬ sealed → IsToldWhere sealed fault → result ≡ JournalInvalid }
 {
     match fault {
-        JournalFault::Memory => {
-            if is_sealed(bytes) {
-                JournalFault::Memory
-            } else {
-                JournalFault::JournalInvalid
-            }
-        }
+        JournalFault::Memory if is_sealed(bytes) => fault,
+        JournalFault::Memory => JournalFault::JournalInvalid,
         _ => fault,
     }
 }

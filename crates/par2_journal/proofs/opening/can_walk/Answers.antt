@@ -1,4 +1,4 @@
-use Rattle.par2_journal.proofs.Common.{◌≡◌, ◌+◌, false, true, List, drop, map, sym, ◌∙◌, Bor, Change, are_applicable, effects, leads}
+use Rattle.par2_journal.proofs.Common.{◌+◌, List, drop, map, sym, ◌∙◌, Bor, Change, effects, leads}
 use Rattle.par2_journal.proofs.TriedNames.{goes_on, here, ends, entry_made, entry_refused, all_entries_made}
 use Rattle.par2_journal.proofs.opening.can_walk.Goals as goal
 

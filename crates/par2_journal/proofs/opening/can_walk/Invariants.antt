@@ -1,5 +1,4 @@
-use Rattle.par2_journal.proofs.Common.{leads, List, Bor, Change}
-use Rattle.par2_journal.specs.Walks.{names_in}
+use Rattle.par2_journal.proofs.Common.{leads, List, Bor, Change, names_in}
 use Rattle.par2_journal.proofs.TriedNames.{IsSoFar}
 use Rattle.par2_journal.proofs.opening.can_walk.Given as goal
 

@@ -1,5 +1,4 @@
-use Rattle.par2_journal.proofs.Common.{◌≡◌, ℕ, Bool, true, false, List, Option, Some, refl, ap, ◌∙◌, bytes_eq, cond, has, unwrap_or}
-use Rattle.std.proofs.lemmas.Map.Text.{btree_map_updates_str}
+use Rattle.par2_journal.proofs.Common.{◌≡◌, Bool, true, false, Option, Some, refl, ap, ◌∙◌, cond, bytes_eq, has, unwrap_or, btree_map_updates_str}
 use Rattle.par2_journal.proofs.opening.Names.set.Goals as goal
 
 chosen : (b : Bool) (there : Bool) (others : Option Bool) (d : Bool) → unwrap_or (cond b (Some there) others) d ≡ cond b there (unwrap_or others d)

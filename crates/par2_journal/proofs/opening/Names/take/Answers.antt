@@ -1,7 +1,5 @@
-use Rattle.par2_journal.proofs.Common.{effect, bytes_of}
-use Rattle.std.proofs.lemmas.Result.{on_ok_weaker}
+use Rattle.par2_journal.proofs.Common.{effect, bytes_of, on_ok_weaker, names_in}
 use Rattle.std.specs.FinMap as map_of
-use Rattle.par2_journal.specs.Walks.{names_in}
 use Rattle.par2_journal.proofs.TriedNames.{put_in, taken_out}
 use Rattle.par2_journal.proofs.opening.Names.take.Goals as goal
 
