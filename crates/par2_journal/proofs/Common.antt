@@ -1,8 +1,8 @@
 -- The names that proofs of this crate take from elsewhere.
 
-pub use Rattle.std.proofs.Common.{Bool, Bor, Err, IsTrue, List, None, Ok, Option, Result, Some, Vec, [], ap, append-nil, arith, cond, drop, false, get_or, inl, inr, is_some, length, length-append, length-set, length-take, map, not, refl, set, string_bytes, subst, suc, sym, take, true, vec_capacity, vec_len, zero, ℕ, ◌&&◌, ◌++◌, ◌+◌, ◌-◌, ◌<◌, ◌∙◌, ◌∷◌, ◌≡◌, ◌≢◌, ◌≤◌}
+pub use Rattle.std.proofs.Common.{Bool, Bor, Err, IsTrue, List, None, Ok, Option, Result, Some, Vec, [], ap, append-nil, arith, cond, drop, false, get_or, inl, inr, is_some, leb, length, length-append, length-set, length-take, map, not, refl, set, string_bytes, subst, suc, sym, take, true, vec_capacity, vec_len, zero, ℕ, ◌&&◌, ◌++◌, ◌+◌, ◌-◌, ◌<◌, ◌∙◌, ◌∷◌, ◌≡◌, ◌≢◌, ◌≤◌}
 pub use Rattle.std.proofs.Math.Logic.{⊎_map}
-pub use Rattle.std.proofs.lemmas.Bool.{and_from, and_parts, and_right, both_ways, cases_Bool, cases_lt, false_from_ne_true, false≢true, not-false, not-true}
+pub use Rattle.std.proofs.lemmas.Bool.{and_from, and_parts, and_right, both_ways, cases_Bool, cases_lt, false_from_ne_true, false≢true, le-leb, leb-true, not-false, not-true}
 pub use Rattle.std.proofs.lemmas.List.{drop-map, drop-set, drop-set-lt, drop_all, drop_more, get_or-map, get_or-set_same, get_or_default, length-map, length-reverse, length-take-le, map-append, map_push, nil_from_length, reverse-append, reverse-reverse, set-get_or, set-set, take-append-drop, take-set, take_all, take_more, take_more_set}
 pub use Rattle.std.proofs.lemmas.Map.Text.{btree_map_updates_str, is_eq-slice_cmp}
 pub use Rattle.std.proofs.lemmas.Result.{err_from_is_err_and, on_ok_weaker}

@@ -1,5 +1,5 @@
 -- What a journal opens as.
-use Rattle.par2_journal.proofs.Common.{◌≡◌, inl, inr, ℕ, ◌+◌, ◌-◌, ◌<◌, ◌≤◌, Bool, true, false, not, ◌&&◌, List, [], ◌∷◌, length, map, take, drop, Option, Some, None, Result, Ok, Err, refl, sym, ap, subst, ◌∙◌, arith, and_parts, both_ways, false_from_ne_true, cases_lt, cases_Bool, ⊎_map, reverse, position, if◌then◌else◌, ◌↔◌, ◌⊎◌, pointwise, bytes_eq, Folder, fingerprint, Change, FolderState, effect, effects, is_applicable, takes_all, state_after_all, are_applicable, folders_after, Journal, HalfwayPart, Spells, is_valid, leads_through, session_at, AnswersWhere, OpensAsIs, AnswersOpening, IsToldWhere, more_room_all, state_files}
+use Rattle.par2_journal.proofs.Common.{◌≡◌, inl, inr, ℕ, ◌+◌, ◌-◌, ◌≤◌, Bool, true, false, not, ◌&&◌, List, [], ◌∷◌, length, map, take, drop, Option, Some, None, Result, Ok, Err, refl, sym, ap, subst, ◌∙◌, arith, and_from, and_parts, both_ways, false_from_ne_true, cases_Bool, ⊎_map, reverse, position, if◌then◌else◌, ◌↔◌, ◌⊎◌, pointwise, bytes_eq, Folder, fingerprint, Change, FolderState, effect, effects, is_applicable, takes_all, state_after_all, are_applicable, folders_after, Journal, HalfwayPart, Spells, is_valid, leads_through, session_at, AnswersWhere, OpensAsIs, AnswersOpening, IsToldWhere, more_room_all, state_files, leb, le-leb, leb-true}
 use Rattle.par2_spec.specs.Opening as defined
 use Rattle.par2_spec.specs.declared.JournalFault.{JournalFault}
 use Rattle.par2_spec.specs.declared.JournalFault.TheVariants.{JournalInvalid, FolderChanged, Memory}
@@ -79,35 +79,21 @@ unfolding defined.Opens
 no_journal f text none = inr (none, refl)
 
 sealed_or_not : (text : List ℕ) → IsSealed text ⊎ ¬ (IsSealed text)
-sealed_or_not text = by_length (cases_lt (length text) 16)
-  where
-    end : List ℕ
-    end = drop (length text - 16) text
-
-    digest : List ℕ
-    digest = md5 (take (length text - 16) text)
-
-    by_digest : 16 ≤ length text → (bytes_eq end digest ≡ true) ⊎ (bytes_eq end digest ≡ false) → IsSealed text ⊎ ¬ (IsSealed text)
-    by_digest long (inl same) = inl (record { long = long; digest = (bytes_eq-Decides end digest).0 same })
-    by_digest long (inr other) = inr (λ sealed. both_ways _ other ((bytes_eq-Decides end digest).1 sealed.digest))
-
-    by_length : (length text < 16) ⊎ (16 ≤ length text) → IsSealed text ⊎ ¬ (IsSealed text)
-    by_length (inl short) = inr (λ sealed. absurd (omega (arith, short, sealed.long)))
-    by_length (inr long) = by_digest long (cases_Bool (bytes_eq end digest))
+sealed_or_not text =
+    let end = drop (length text - 16) text in
+    let digest = md5 (take (length text - 16) text) in
+    elim (cases_Bool (leb 16 (length text) && bytes_eq end digest)) as (λ _. IsSealed text ⊎ ¬ (IsSealed text)) [
+      | inl is ↦ inl (record { long = leb-true 16 (length text) (and_parts _ _ is).0; digest = (bytes_eq-Decides end digest).0 (and_parts _ _ is).1 })
+      | inr other ↦ inr (λ sealed. both_ways _ other (and_from _ _ (le-leb 16 (length text) sealed.long) ((bytes_eq-Decides end digest).1 sealed.digest)))
+    ]
 
 -- what is refused where a text ends with its digest is the opening's refusal, where elsewhere the text is refused as such
 pub refused_as : (folder : FolderState) (text : List ℕ) (e : JournalFault × FolderState) (fault : JournalFault) → AnswersWhere (IsSealed text) folder.files (defined.Opens folder.files text) (Err e)
     → (IsSealed text → fault ≡ e.0) → (¬ (IsSealed text) → fault ≡ JournalInvalid) → AnswersOpening folder text (Err (fault, e.1))
-refused_as folder text e fault given sealed unsealed = by (sealed_or_not text)
-  where
-    by : IsSealed text ⊎ ¬ (IsSealed text) → AnswersOpening folder text (Err (fault, e.1))
-    by (inl is) = record { opened = tt; refused = rw (sealed is) (given.refused is); unsealed = λ none. absurd (none is); files = given.files }
-    by (inr none) = record {
-      opened = tt;
-      refused = inr (rw (unsealed none) (no_journal folder.files text (λ j spells. none (spells_sealed text j spells))));
-      unsealed = λ _. unsealed none;
-      files = given.files;
-    }
+refused_as folder text e fault given sealed unsealed = elim (sealed_or_not text) as (λ _. AnswersOpening folder text (Err (fault, e.1))) [
+  | inl is ↦ record { opened = tt; refused = rw (sealed is) (given.refused is); unsealed = λ none. absurd (none is); files = given.files }
+  | inr none ↦ record { opened = tt; refused = inr (rw (unsealed none) (no_journal folder.files text (λ j spells. none (spells_sealed text j spells)))); unsealed = λ _. unsealed none; files = given.files }
+]
 
 -- of what isn't told elsewhere
 pub invalid_elsewhere : {P : Type 0} (fault : JournalFault) → IsToldWhere P fault → (fault ≡ Memory → ⊥) → ¬ P → fault ≡ JournalInvalid
