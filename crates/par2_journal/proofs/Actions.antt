@@ -1,7 +1,8 @@
 -- What an accepted action makes of a session, and a run of them.
-use Rattle.par2_journal.proofs.Common.{◌≡◌, ◌≢◌, ℕ, suc, ◌+◌, ◌<◌, ◌≤◌, List, [], ◌∷◌, length, map, get_or, drop, Ok, Err, Result, Bool, true, IsTrue, refl, sym, ap, subst, ◌∙◌, arith, false≢true, IsFalse, IsErr, ◌↔◌, OnOk, is_ok, get_or-map, length-map, drop_all, drop_more, action_of, Change, Action, Do, Undo, Redo, Command, History, history_after, Run, Accepted, Passed, MayBeRefused, IsChanging, Refusal, Session, KeptSession, OnlyGrew, CanWalk, session_of_kept, session_with, session_unless, first_entry, history_of, kept_undone, kept_redone, accepted_next, refused_alike, done_of_kept, undone_of_kept, redone_of_kept, walked_is_valid, same_session, Kind, Changing, Undoing, Redoing, IsKindOf, changes_by_kind, after_commit, next_of, is_valid, LeadsToAfterAsked, session_after, changes_asked}
+use Rattle.par2_journal.proofs.Common.{◌≡◌, ◌≢◌, ℕ, suc, ◌+◌, ◌<◌, ◌≤◌, List, [], ◌∷◌, length, map, get_or, drop, Ok, Err, Result, Bool, true, IsTrue, refl, sym, ap, subst, ◌∙◌, arith, false≢true, IsFalse, IsErr, ◌↔◌, OnOk, is_ok, length-map, drop_all, action_of, Change, Action, Do, Undo, Redo, Command, History, history_after, Run, Accepted, Passed, MayBeRefused, IsChanging, Refusal, Session, KeptSession, OnlyGrew, CanWalk, session_of_kept, session_with, session_unless, first_entry, history_of, kept_undone, kept_redone, session_after, changes_asked, accepted_next, refused_alike, done_of_kept, undone_of_kept, redone_of_kept, walked_is_valid, same_session, Kind, Changing, Undoing, Redoing, IsKindOf, changes_by_kind, after_commit, next_of, is_valid, LeadsToAfterAsked}
 use Rattle.par2_spec.specs.declared.commands.Action as given
 use Rattle.par2_spec.specs.History.{NothingToUndo, NothingToRedo}
+use Rattle.par2_journal.proofs.Entries.{left_at}
 
 -- a command that was made ready
 pub command_done : (old mid : KeptSession) (command : Command) (kind : Kind) → IsChanging (Do command) → OnlyGrew old mid → IsKindOf (Do command) kind
@@ -19,44 +20,29 @@ abbrev HasActed : Action → KeptSession → KeptSession → Bool → Type 0
 HasActed action old new acted =
     (IsTrue acted → session_after (session_of_kept old) action ≡ Ok (session_of_kept new)) × (IsFalse acted → MayBeRefused (history_of (session_of_kept old)) action)
 
-with_undos : KeptSession → List (List Change) → KeptSession
-with_undos s undos = record { folder = s.folder; undos = undos; redos = s.redos; room = s.room }
-
-with_redos : KeptSession → List (List Change) → KeptSession
-with_redos s redos = record { folder = s.folder; undos = s.undos; redos = redos; room = s.room }
-
-undo_by : (s : KeptSession) (undos : List (List Change)) → undos ≢ [] → session_after (session_of_kept (with_undos s undos)) Undo ≡ Ok (session_of_kept (kept_undone (with_undos s undos) (next_of undos)))
-unfolding session_after changes_asked with_undos
-undo_by s [] some = absurd (some refl)
-undo_by s (entry ∷ undos) some = ap Ok (sym (undone_of_kept (with_undos s (entry ∷ undos)) entry))
+-- the next entry is the first one
+pub first_is_next : {F : Type 0} (fault : F) (entries : List (List Change)) → entries ≢ [] → first_entry fault entries ≡ Ok (next_of entries)
+first_is_next fault [] some = absurd (some refl)
+first_is_next fault (entry ∷ entries) some = refl
 
 pub undo_done : (s : KeptSession) → s.undos ≢ [] → session_after (session_of_kept s) Undo ≡ Ok (session_of_kept (kept_undone s (next_of s.undos)))
-unfolding with_undos
-undo_done s some = undo_by s s.undos some
-
-redo_by : (s : KeptSession) (redos : List (List Change)) → redos ≢ [] → session_after (session_of_kept (with_redos s redos)) Redo ≡ Ok (session_of_kept (kept_redone (with_redos s redos) (next_of redos)))
-unfolding session_after changes_asked with_redos
-redo_by s [] some = absurd (some refl)
-redo_by s (entry ∷ redos) some = ap Ok (sym (redone_of_kept (with_redos s (entry ∷ redos)) entry))
+unfolding session_after changes_asked
+undo_done s some = ap (session_unless (session_of_kept s) Undo) (first_is_next NothingToUndo s.undos some) ∙ ap Ok (sym (undone_of_kept s (next_of s.undos)))
 
 pub redo_done : (s : KeptSession) → s.redos ≢ [] → session_after (session_of_kept s) Redo ≡ Ok (session_of_kept (kept_redone s (next_of s.redos)))
-unfolding with_redos
-redo_done s some = redo_by s s.redos some
+unfolding session_after changes_asked
+redo_done s some = ap (session_unless (session_of_kept s) Redo) (first_is_next NothingToRedo s.redos some) ∙ ap Ok (sym (redone_of_kept s (next_of s.redos)))
 
 -- an empty side refuses
-no_undo : (s : KeptSession) → s.undos ≡ [] → session_after (session_of_kept s) Undo ≡ Err NothingToUndo
-unfolding session_after changes_asked
-no_undo s none = ap (λ entries. session_unless (session_of_kept s) Undo (first_entry NothingToUndo entries)) none
-
-no_redo : (s : KeptSession) → s.redos ≡ [] → session_after (session_of_kept s) Redo ≡ Err NothingToRedo
-unfolding session_after changes_asked
-no_redo s none = ap (λ entries. session_unless (session_of_kept s) Redo (first_entry NothingToRedo entries)) none
-
 pub undo_refused : (s : KeptSession) → s.undos ≡ [] → MayBeRefused (history_of (session_of_kept s)) Undo
-undo_refused s none = subst (λ (r : Result History Refusal). IsErr r) (sym (refused_alike (session_of_kept s) Undo NothingToUndo (no_undo s none))) refl
+unfolding session_after changes_asked
+undo_refused s none =
+    subst (λ (r : Result History Refusal). IsErr r) (sym (refused_alike (session_of_kept s) Undo NothingToUndo (ap (λ entries. session_unless (session_of_kept s) Undo (first_entry NothingToUndo entries)) none))) refl
 
 pub redo_refused : (s : KeptSession) → s.redos ≡ [] → MayBeRefused (history_of (session_of_kept s)) Redo
-redo_refused s none = subst (λ (r : Result History Refusal). IsErr r) (sym (refused_alike (session_of_kept s) Redo NothingToRedo (no_redo s none))) refl
+unfolding session_after changes_asked
+redo_refused s none =
+    subst (λ (r : Result History Refusal). IsErr r) (sym (refused_alike (session_of_kept s) Redo NothingToRedo (ap (λ entries. session_unless (session_of_kept s) Redo (first_entry NothingToRedo entries)) none))) refl
 
 -- whether it was done or refused
 pub undo_acted : {E : Type 0} (old new : KeptSession) (r : Result (Unit {0}) E) → IsErr r ↔ (old.undos ≡ []) → OnOk r (new ≡ kept_undone old (next_of old.undos)) → HasActed Undo old new (is_ok r)
@@ -72,31 +58,23 @@ leads_asked : (s t : Session) (action : Action) → is_valid s ≡ true → Lead
 leads_asked s t action valid leads h = (accepted_next s t action valid leads h).0
 
 -- a run of what is left goes on from an accepted and from a refused action
-module _ (all : List Action) (i : ℕ) (within : i < length all) (action : Action) (read : action ≡ get_or all i action) (start : History) (old new : KeptSession) (n : ℕ)
-    (on : (k : ℕ) (end : History) → Run (history_of (session_of_kept old)) (drop i all) k end → Run start all (n + k) end) where
-  left : drop i all ≡ action ∷ drop (i + 1) all
-  left = drop_more all i action within ∙ ap (λ a. a ∷ drop (i + 1) all) (sym read)
+module _ (actions : List given.Action) (i : ℕ) (within : i < length actions) (item : given.Action) (is : item ≡ get_or actions i item) (start : History) (old new : KeptSession) (n : ℕ)
+    (on : (k : ℕ) (end : History) → Run (history_of (session_of_kept old)) (drop i (map action_of actions)) k end → Run start (map action_of actions) (n + k) end) where
+  left : drop i (map action_of actions) ≡ action_of item ∷ drop (i + 1) (map action_of actions)
+  left = left_at action_of actions i within item is
 
-  pub on_accepted : LeadsToAfterAsked old.folder.files action → CanWalk old → session_after (session_of_kept old) action ≡ Ok (session_of_kept new)
-      → (k : ℕ) (end : History) → Run (history_of (session_of_kept new)) (drop (i + 1) all) k end → Run start all (n + 1 + k) end
+  pub on_accepted : LeadsToAfterAsked old.folder.files (action_of item) → CanWalk old → session_after (session_of_kept old) (action_of item) ≡ Ok (session_of_kept new)
+      → (k : ℕ) (end : History) → Run (history_of (session_of_kept new)) (drop (i + 1) (map action_of actions)) k end → Run start (map action_of actions) (n + 1 + k) end
   on_accepted leads walks step k end run =
       let sum : n + suc k ≡ n + 1 + k = omega arith in
-      let next = leads_asked (session_of_kept old) (session_of_kept new) action (walked_is_valid old walks) leads step in
-      subst (λ m. Run start all m end) sum (on (suc k) end (subst (λ l. Run (history_of (session_of_kept old)) l (suc k) end) (sym left) (Accepted next run)))
+      let next = leads_asked (session_of_kept old) (session_of_kept new) (action_of item) (walked_is_valid old walks) leads step in
+      subst (λ m. Run start (map action_of actions) m end) sum (on (suc k) end (subst (λ l. Run (history_of (session_of_kept old)) l (suc k) end) (sym left) (Accepted next run)))
 
-  pub on_refused : MayBeRefused (history_of (session_of_kept old)) action → OnlyGrew old new
-      → (k : ℕ) (end : History) → Run (history_of (session_of_kept new)) (drop (i + 1) all) k end → Run start all (n + k) end
+  pub on_refused : MayBeRefused (history_of (session_of_kept old)) (action_of item) → OnlyGrew old new
+      → (k : ℕ) (end : History) → Run (history_of (session_of_kept new)) (drop (i + 1) (map action_of actions)) k end → Run start (map action_of actions) (n + k) end
   on_refused may grew k end run =
       on k end (subst (λ l. Run (history_of (session_of_kept old)) l k end) (sym left)
-      (Passed may (subst (λ s. Run (history_of s) (drop (i + 1) all) k end) (same_session old new grew) run)))
-
--- ---- the actions as they are handed in
-
-pub read_at : (actions : List given.Action) (i : ℕ) (item : given.Action) → i < length actions → item ≡ get_or actions i item → action_of item ≡ get_or (map action_of actions) i (action_of item)
-read_at actions i item within is = ap action_of is ∙ sym (get_or-map action_of actions i item (action_of item) within)
-
-pub within_all : (actions : List given.Action) (i : ℕ) → i < length actions → i < length (map action_of actions)
-within_all actions i within = rw (length-map actions action_of) within
+      (Passed may (subst (λ s. Run (history_of s) (drop (i + 1) (map action_of actions)) k end) (same_session old new grew) run)))
 
 pub none_left : (actions : List given.Action) (i : ℕ) → length actions ≤ i → drop i (map action_of actions) ≡ []
 none_left actions i all = drop_all i (map action_of actions) (rw (length-map actions action_of) all)

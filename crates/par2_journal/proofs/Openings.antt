@@ -1,11 +1,14 @@
 -- What a journal opens as.
-use Rattle.par2_journal.proofs.Common.{◌≡◌, inl, inr, ℕ, ◌+◌, ◌-◌, ◌≤◌, Bool, true, false, not, ◌&&◌, List, [], ◌∷◌, length, map, take, drop, Option, Some, None, Result, Ok, Err, refl, sym, ap, subst, ◌∙◌, arith, and_parts, both_ways, false_from_ne_true, ⊎_map, reverse, position, if◌then◌else◌, ◌↔◌, pointwise, bytes_eq, Folder, fingerprint, Change, FolderState, effect, effects, is_applicable, takes_all, state_after_all, Journal, HalfwayPart, Spells, is_valid, session_at, AnswersWhere, OpensAsIs, more_room_all, state_files, are_applicable, folders_after, leads_through}
+use Rattle.par2_journal.proofs.Common.{◌≡◌, inl, inr, ℕ, ◌+◌, ◌-◌, ◌≤◌, Bool, true, false, not, ◌&&◌, List, [], ◌∷◌, length, map, take, drop, Option, Some, None, Result, Ok, Err, refl, sym, ap, subst, ◌∙◌, arith, and_from, and_parts, both_ways, false_from_ne_true, cases_Bool, ⊎_map, reverse, position, if◌then◌else◌, ◌↔◌, ◌⊎◌, pointwise, bytes_eq, Folder, fingerprint, Change, FolderState, effect, effects, is_applicable, takes_all, state_after_all, are_applicable, folders_after, Journal, HalfwayPart, Spells, is_valid, leads_through, session_at, AnswersWhere, OpensAsIs, AnswersOpening, IsToldWhere, more_room_all, state_files, leb, le-leb, leb-true}
 use Rattle.par2_spec.specs.Opening as defined
 use Rattle.par2_spec.specs.declared.JournalFault.{JournalFault}
-use Rattle.par2_spec.specs.declared.JournalFault.TheVariants.{JournalInvalid, FolderChanged}
+use Rattle.par2_spec.specs.declared.JournalFault.TheVariants.{JournalInvalid, FolderChanged, Memory}
 use Rattle.par2_journal_bytes.specs.Reading.{IsSealed}
 use Rattle.par2_journal.specs.declared.opening.Opened.{Opened}
 use Rattle.par2_spec.proofs.StopLaws.{through_applies}
+use Rattle.std.proofs.lemmas.Slice.Eq.{bytes_eq-Decides}
+use Rattle.md5.specs.Md5.{md5}
+use Rattle.par2_journal_bytes.proofs.Whole.{spells_sealed}
 
 -- changes that apply lead through these fingerprints where they leave them
 through_is : (f : Folder) (cs : List Change) (ps : List (List ℕ)) → length ps ≡ length cs → are_applicable f cs ≡ true → leads_through f cs ps ≡ pointwise bytes_eq (map fingerprint (folders_after f cs)) ps
@@ -63,13 +66,40 @@ pub by_journal : {P : Type 0} (f : Folder) (text : List ℕ) (j : Journal) (a : 
 unfolding defined.Opens
 by_journal f text j a spells is holds (Ok found) told =
     let sealed = holds.0 told.opened.0 in
-    record { opened = (sealed, inl (j, spells sealed, told.opened.1 ∙ is)); refused = tt; files = tt }
-by_journal f text j a spells is holds (Err e) told =
-    record { opened = tt; refused = λ sealed. ⊎_map (λ memory. memory) (λ same. inl (j, spells sealed, same ∙ is)) (told.refused (holds.1 sealed)); files = told.files }
+    record { opened = (sealed, inl (j, spells sealed, told.opened.1 ∙ is)); refused = tt; told = tt; files = tt }
+by_journal f text j a spells is holds (Err e) given = record {
+  opened = tt;
+  refused = λ sealed. ⊎_map (λ memory. memory) (λ same. inl (j, spells sealed, same ∙ is)) (given.refused (holds.1 sealed));
+  told = ⊎_map (λ invalid. invalid) (⊎_map (λ memory. memory) holds.0) given.told;
+  files = given.files;
+}
 
 pub no_journal : (f : Folder) (text : List ℕ) → ((j : Journal) → Spells text j → ⊥) → defined.Opens f text (Err JournalInvalid)
 unfolding defined.Opens
 no_journal f text none = inr (none, refl)
+
+sealed_or_not : (text : List ℕ) → IsSealed text ⊎ ¬ (IsSealed text)
+sealed_or_not text =
+    let end = drop (length text - 16) text in
+    let digest = md5 (take (length text - 16) text) in
+    elim (cases_Bool (leb 16 (length text) && bytes_eq end digest)) as (λ _. IsSealed text ⊎ ¬ (IsSealed text)) [
+      | inl is ↦ inl (record { long = leb-true 16 (length text) (and_parts _ _ is).0; digest = (bytes_eq-Decides end digest).0 (and_parts _ _ is).1 })
+      | inr other ↦ inr (λ sealed. both_ways _ other (and_from _ _ (le-leb 16 (length text) sealed.long) ((bytes_eq-Decides end digest).1 sealed.digest)))
+    ]
+
+-- what is refused where a text ends with its digest is the opening's refusal, where elsewhere the text is refused as such
+pub refused_as : (folder : FolderState) (text : List ℕ) (e : JournalFault × FolderState) (fault : JournalFault) → AnswersWhere (IsSealed text) folder.files (defined.Opens folder.files text) (Err e)
+    → (IsSealed text → fault ≡ e.0) → (¬ (IsSealed text) → fault ≡ JournalInvalid) → AnswersOpening folder text (Err (fault, e.1))
+refused_as folder text e fault given sealed unsealed = elim (sealed_or_not text) as (λ _. AnswersOpening folder text (Err (fault, e.1))) [
+  | inl is ↦ record { opened = tt; refused = rw (sealed is) (given.refused is); unsealed = λ none. absurd (none is); files = given.files }
+  | inr none ↦ record { opened = tt; refused = inr (rw (unsealed none) (no_journal folder.files text (λ j spells. none (spells_sealed text j spells)))); unsealed = λ _. unsealed none; files = given.files }
+]
+
+-- of what isn't told elsewhere
+pub invalid_elsewhere : {P : Type 0} (fault : JournalFault) → IsToldWhere P fault → (fault ≡ Memory → ⊥) → ¬ P → fault ≡ JournalInvalid
+invalid_elsewhere fault (inl is) memory none = is
+invalid_elsewhere fault (inr (inl is)) memory none = absurd (memory is)
+invalid_elsewhere fault (inr (inr holds)) memory none = absurd (none holds)
 
 -- ---- of a folder as it is
 

@@ -1,5 +1,5 @@
 -- The fingerprints before changes and after each.
-use Rattle.par2_journal.proofs.Common.{◌≡◌, ℕ, List, [], ◌∷◌, length, map, Option, Some, None, Vec, refl, sym, ap, subst, ◌∙◌, Bor, IfSome, option_map, slice_get, unwrap_or, Global, Folder, fingerprint, Change, effect, KeptSession, OnlyGrew, IsAhead, next_changes, AreAlong, ArePrintsAlong, Prints, prints_of, Fingerprints, next_of, Next, effects, folders_after}
+use Rattle.par2_journal.proofs.Common.{◌≡◌, ℕ, List, [], ◌∷◌, length, map, Option, Some, None, Vec, refl, sym, ap, subst, ◌∙◌, Bor, IfSome, option_map, slice_get, unwrap_or, Global, Folder, fingerprint, Change, effect, effects, folders_after, KeptSession, OnlyGrew, IsAhead, next_changes, AreAlong, ArePrintsAlong, Prints, prints_of, Fingerprints, next_of, Next}
 use Rattle.std.specs.Option.{option_copied}
 use Rattle.par2_folder.specs.Landmarks.{AreLandmarksOf}
 use Rattle.par2_journal.specs.declared.ahead.Ahead.{Ahead}

@@ -1,5 +1,7 @@
 -- What is asked of a session, and what it makes ready.
-use Rattle.par2_journal.proofs.Common.{◌≡◌, ◌≢◌, inl, inr, ℕ, Bool, ◌<◌, ◌≤◌, List, [], ◌∷◌, length, map, None, Some, IsTrue, Result, Ok, Err, true, refl, sym, ap, subst, ◌∙◌, arith, nil_from_length, IfOk, IfErr, IsErrAnd, Change, Write, Rename, Remove, places_taken, are_applicable, effects, Replace, Command, Do, Undo, Redo, Repair, Folder, LeadsToAfterAsked, KeptSession, OnlyGrew, session_of_kept, changes_unless, first_entry, Step, step_of, takes_applicable, AreAlong, prints_of, MakesReady, Prepares, Fingerprints, Kind, Ready, Changing, Undoing, Redoing, CanBe, Fits, IsKindOf, IsReady, changes_by_kind, next_of, IsChanging, changes_asked}
+use Rattle.par2_journal.proofs.Common.{Action, Command, Do, Undo, Redo, Repair, ◌≡◌, ◌≢◌, inl, inr, ℕ, Bool, ◌<◌, ◌≤◌, List, [], ◌∷◌, length, map, None, Some, IsTrue, Result, Ok, Err, true, refl, sym, ap, subst, ◌∙◌, arith, nil_from_length, IfOk, IfErr, IsErrAnd, Change, Write, Rename, Remove, places_taken, are_applicable, effects, Folder, LeadsToAfterAsked, KeptSession, OnlyGrew, session_of_kept, changes_unless, first_entry, changes_asked, Step, step_of, takes_applicable, AreAlong, prints_of, Fingerprints, Kind, Ready, Changing, Undoing, Redoing, CanBe, Fits, IsKindOf, IsReady, changes_by_kind, next_of, IsChanging}
+use Rattle.par2_journal.specs.Commands.{MakesReady, Prepares}
+use Rattle.par2_spec.specs.Changes.{Replace}
 use Rattle.par2_spec.specs.Refusals.{refusal, after, early_refusal}
 use Rattle.par2_spec.specs.Plans as plans
 use Rattle.par2_spec.specs.History as history
@@ -8,7 +10,7 @@ use Rattle.par2_spec.specs.declared.Fault.TheVariants.{Memory, RepairFailed}
 use Rattle.par2_plan.specs.Drafts.{HasItsMd5s, IsDraft}
 use Rattle.par2_plan.specs.declared.draft.Draft.{Draft}
 use Rattle.par2_journal.specs.Refusals.{MayFail, MayRefuse}
-use Rattle.par2_journal.proofs.Actions.{command_done, undo_done, redo_done}
+use Rattle.par2_journal.proofs.Actions.{command_done, first_is_next, undo_done, redo_done}
 use Rattle.par2_journal.specs.declared.preparation.SessionFault.{SessionFault}
 use Rattle.par2_journal.specs.declared.preparation.SessionFault.TheVariants.{Plan, NothingToUndo, NothingToRedo}
 
@@ -18,10 +20,10 @@ unfolding changes_asked
 refused_plan s command fault (inl memory) = inl (ap Plan memory)
 refused_plan s command fault (inr cause) = inr (ap (λ r. changes_unless r (plans.changes_of s.folder.files command)) cause)
 
-pub refused_for : (r : Result Ready SessionFault) (old new : KeptSession) (command : Command) (fault : Fault) → IsErrAnd r (λ e. e ≡ Plan fault) → MakesReady command old new (Err fault)
-    → Prepares (Do command) old new r
-refused_for (Ok ready) old new command fault is made = absurd is
-refused_for (Err e) old new command fault is made = record {
+pub refused_for : (r : Result Ready SessionFault) (old new : KeptSession) (command : Command) (fault : Fault) (action : Action) → action ≡ Do command → IsErrAnd r (λ e. e ≡ Plan fault)
+    → MakesReady command old new (Err fault) → Prepares action old new r
+refused_for (Ok ready) old new command fault action asked is made = absurd is
+refused_for (Err e) old new command fault action asked is made = subst (λ (a : Action). Prepares a old new (Err e)) (sym asked) (record {
   kept = made.kept;
   ready = tt;
   leads = tt;
@@ -29,7 +31,7 @@ refused_for (Err e) old new command fault is made = record {
   early = λ found first. let same = made.early found first in cc;
   nothing_to_undo = λ asked none. absurd (cc);
   nothing_to_redo = λ asked none. absurd (cc);
-}
+})
 
 -- each write takes one place
 pub places_within : (changes : List Change) → places_taken changes ≤ length changes
@@ -100,13 +102,8 @@ draft_ready old new base extras purge draft changes steps prints grew is has sam
       steps = told ∙ ap (map step_of) (sym same);
       known = subst (λ (cs : List Change). AreAlong new.folder.files cs prints) (sym same) along;
     } in
-    record {
-      kept = grew;
-      ready = ready_command old new (Repair base extras purge) changes tt grew (is.accepted has) (same ∙ is.changes) ready refl fits;
-      leads = leads_asked_by old.folder.files (Repair base extras purge) draft.changes is.changes is.applies is.leads;
-      refused = tt;
-      early = λ fault found. absurd (early fault found);
-    }
+    plan_ready old new (Repair base extras purge) changes tt grew (is.accepted has) (same ∙ is.changes) (subst (λ (cs : List Change). IsTrue (are_applicable old.folder.files cs)) (sym same) is.applies)
+    (ap (effects old.folder.files) same ∙ is.leads) early (Ok ready) refl fits tt
 
 -- a repair is refused whose draft has a wrong MD5
 pub draft_refused : (r : Result Ready Fault) (old new : KeptSession) (base : List ℕ) (extras : List (List ℕ)) (purge : Bool) (draft : Draft) (fault : Fault) → (y : Fault) × (r ≡ Err y) × (y ≡ fault) → OnlyGrew old new
@@ -121,43 +118,30 @@ draft_refused r old new base extras purge draft fault p grew is lacks same early
       early = λ fault found. absurd (early fault found);
     })
 
-none_is_first : {F : Type 0} (fault : F) (entries : List (List Change)) → length entries ≡ 0 → first_entry fault entries ≡ Err fault
-none_is_first fault entries h = ap (first_entry fault) (nil_from_length entries h)
-
 pub nothing_to_undo : (s : KeptSession) → length s.undos ≡ 0 → MayRefuse Undo s NothingToUndo
 unfolding changes_asked
-nothing_to_undo s none = inr (none_is_first history.NothingToUndo s.undos none)
+nothing_to_undo s none = inr (ap (first_entry history.NothingToUndo) (nil_from_length s.undos none))
 
 pub nothing_to_redo : (s : KeptSession) → length s.redos ≡ 0 → MayRefuse Redo s NothingToRedo
 unfolding changes_asked
-nothing_to_redo s none = inr (none_is_first history.NothingToRedo s.redos none)
+nothing_to_redo s none = inr (ap (first_entry history.NothingToRedo) (nil_from_length s.redos none))
 
-some_there : (entries : List (List Change)) → 0 < length entries → entries ≢ []
-some_there [] h e = absurd (omega (arith, h))
-some_there (entry ∷ entries) h e = cc
-
-first_is_next : {F : Type 0} (fault : F) (entries : List (List Change)) → 0 < length entries → first_entry fault entries ≡ Ok (next_of entries)
-first_is_next fault [] h = absurd (omega (arith, h))
-first_is_next fault (entry ∷ entries) h = refl
-
-pub ready_undo : (s : KeptSession) (steps : List Step) → 0 < length s.undos → steps ≡ map step_of (next_of s.undos)
-    → IsReady Undo s (record { kind = Undoing; steps = steps; known = None }) s
+pub ready_undo : (s : KeptSession) (steps : List Step) → s.undos ≢ [] → steps ≡ map step_of (next_of s.undos) → IsReady Undo s (record { kind = Undoing; steps = steps; known = None }) s
 unfolding changes_asked
 ready_undo s steps some told = record {
-  fits = record { can = some_there s.undos some; steps = told; known = tt };
+  fits = record { can = some; steps = told; known = tt };
   kind = tt;
   asked = first_is_next history.NothingToUndo s.undos some;
-  leads = undo_done s (some_there s.undos some);
+  leads = undo_done s some;
 }
 
-pub ready_redo : (s : KeptSession) (steps : List Step) → 0 < length s.redos → steps ≡ map step_of (next_of s.redos)
-    → IsReady Redo s (record { kind = Redoing; steps = steps; known = None }) s
+pub ready_redo : (s : KeptSession) (steps : List Step) → s.redos ≢ [] → steps ≡ map step_of (next_of s.redos) → IsReady Redo s (record { kind = Redoing; steps = steps; known = None }) s
 unfolding changes_asked
 ready_redo s steps some told = record {
-  fits = record { can = some_there s.redos some; steps = told; known = tt };
+  fits = record { can = some; steps = told; known = tt };
   kind = tt;
   asked = first_is_next history.NothingToRedo s.redos some;
-  leads = redo_done s (some_there s.redos some);
+  leads = redo_done s some;
 }
 
 -- ---- what is ready while the session only grew

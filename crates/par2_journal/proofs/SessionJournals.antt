@@ -1,5 +1,5 @@
 -- A session's journals, by the session's fields.
-use Rattle.par2_journal.proofs.Common.{◌≡◌, ℕ, zero, suc, ◌+◌, ◌-◌, ◌<◌, ◌≤◌, List, [], ◌∷◌, ◌++◌, length, map, take, drop, get_or, set, inl, inr, Option, Some, None, Result, Ok, Err, Vec, true, refl, sym, ap, subst, ◌∙◌, append-nil, length-set, arith, reverse, IfOk, Global, reverse-reverse, take-append-drop, length-reverse, length-take-le, reverse-append, get_or_default, drop_all, cases_lt, Folder, fingerprint, Change, FolderState, effect, state_after_all, takes_all, Action, KeptSession, OnlyGrew, CanWalk, walks, session_of_kept, session_with, session_unless, kept_undone, kept_redone, Journal, Spells, halfway_where, Two, Kind, Changing, Undoing, Redoing, Ready, IsReady, CanBe, next_of, changes_by_kind, after_commit, next_changes, Next, Turn, SpellsAction, SpellsReady, SpellsTurn, SpellsWhere, AreSpelled, HasNext, turn_of, entries_with, halfway_with, settled_with, state_files, takes_none, next_taken, same_session, same_ok, folders_after, way_back, session_after, kept_done, settled_journal, halfway_journal, journals_of}
+use Rattle.par2_journal.proofs.Common.{◌≡◌, ℕ, zero, suc, ◌+◌, ◌-◌, ◌<◌, ◌≤◌, List, [], ◌∷◌, ◌++◌, length, map, take, drop, get_or, set, inl, inr, Option, Some, None, Result, Ok, Err, Vec, true, refl, sym, ap, subst, ◌∙◌, append-nil, length-set, arith, reverse, IfOk, Global, reverse-reverse, take-append-drop, length-reverse, length-take-le, reverse-append, get_or_default, drop_all, cases_lt, Folder, fingerprint, Change, FolderState, effect, state_after_all, takes_all, folders_after, way_back, Action, KeptSession, OnlyGrew, CanWalk, walks, session_of_kept, session_with, session_unless, kept_undone, kept_redone, session_after, kept_done, Journal, Spells, halfway_where, settled_journal, halfway_journal, journals_of, Two, Kind, Changing, Undoing, Redoing, Ready, IsReady, CanBe, next_of, changes_by_kind, after_commit, next_changes, Next, Turn, SpellsAction, SpellsReady, SpellsTurn, SpellsWhere, AreSpelled, HasNext, turn_of, entries_with, halfway_with, settled_with, state_files, takes_none, next_taken, same_session, same_ok}
 use Rattle.par2_journal.proofs.Readiness.{same_changes}
 use Rattle.par2_journal.specs.declared.ahead.Next.TheVariants as ahead
 use Rattle.par2_journal.specs.declared.spelling.Journals.{Journals}
@@ -46,17 +46,6 @@ folders_count f (c ∷ cs) = omega (arith, folders_count (effect f c) cs)
 
 -- ---- afterwards
 
-module _ (xs : List (List Change)) (i : ℕ) (lt : i < length xs) (folder : FolderState) (room : ℕ) (entry : List Change) (is : entry ≡ get_or xs i entry) where
-  undone_after : settled_with (fingerprint (state_after_all folder entry).files) (set xs i (way_back folder.files entry), i) ≡ settled_journal Two (session_of_kept (kept_undone (at folder xs (i + 1) room) entry))
-  undone_after =
-      settled_at (set xs i (way_back folder.files entry)) i (omega (arith, lt, length-set xs i (way_back folder.files entry))) (state_after_all folder entry) room
-      ∙ ap (λ s. settled_journal Two (session_of_kept s)) (undone_to xs i lt entry is folder (state_after_all folder entry) room (way_back folder.files entry) refl refl (i + 1) refl)
-
-  redone_after : settled_with (fingerprint (state_after_all folder entry).files) (set xs i (way_back folder.files entry), i + 1) ≡ settled_journal Two (session_of_kept (kept_redone (at folder xs i room) entry))
-  redone_after =
-      settled_at (set xs i (way_back folder.files entry)) (i + 1) (omega (arith, lt, length-set xs i (way_back folder.files entry))) (state_after_all folder entry) room
-      ∙ ap (λ s. settled_journal Two (session_of_kept s)) (redone_to xs i lt entry is folder (state_after_all folder entry) room (way_back folder.files entry) refl refl)
-
 done_after : (xs : List (List Change)) (n : ℕ) → n ≤ length xs → (folder : FolderState) (room : ℕ) (cs : List Change)
     → settled_with (fingerprint (state_after_all folder cs).files) (take n xs ++ way_back folder.files cs ∷ [], n + 1) ≡ settled_journal Two (session_of_kept (kept_done (at folder xs n room) cs))
 unfolding settled_journal kept_done
@@ -78,13 +67,15 @@ after_at xs n folder room Undoing next =
     let is : entry ≡ get_or xs i entry = get_or_default xs i [] entry lt in
     let same : entry ≡ next_of (reverse (take n xs)) = sym (next_undo_is xs i lt entry is n one) in
     subst (λ e. settled_with (fingerprint (state_after_all folder e).files) (set xs i (way_back folder.files e), i) ≡ settled_journal Two (session_of_kept (kept_undone (at folder xs n room) e))) same
-    (undone_after xs i lt folder room entry is ∙ ap (λ m. settled_journal Two (session_of_kept (kept_undone (at folder xs m room) entry))) one)
+    (settled_at (set xs i (way_back folder.files entry)) i (omega (arith, lt, length-set xs i (way_back folder.files entry))) (state_after_all folder entry) room
+    ∙ ap (λ s. settled_journal Two (session_of_kept s)) (undone_to xs i lt entry is folder (state_after_all folder entry) room (way_back folder.files entry) refl refl n one))
 after_at xs n folder room Redoing next =
     let entry = get_or xs n [] in
     let is : entry ≡ get_or xs n entry = get_or_default xs n [] entry next in
     let same : entry ≡ next_of (drop n xs) = sym (next_redo_is xs n next entry is) in
     subst (λ e. settled_with (fingerprint (state_after_all folder e).files) (set xs n (way_back folder.files e), n + 1) ≡ settled_journal Two (session_of_kept (kept_redone (at folder xs n room) e))) same
-    (redone_after xs n next folder room entry is)
+    (settled_at (set xs n (way_back folder.files entry)) (n + 1) (omega (arith, next, length-set xs n (way_back folder.files entry))) (state_after_all folder entry) room
+    ∙ ap (λ s. settled_journal Two (session_of_kept s)) (redone_to xs n next entry is folder (state_after_all folder entry) room (way_back folder.files entry) refl refl))
 
 -- what fits has an entry at its cursor
 has_next : (xs : List (List Change)) (n : ℕ) (folder : FolderState) (room : ℕ) (kind : Kind) → n ≤ length xs → CanBe kind (at folder xs n room) → HasNext kind n (length xs)

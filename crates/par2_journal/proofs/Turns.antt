@@ -1,5 +1,5 @@
 -- A session before and after an entry at the cursor was turned.
-use Rattle.par2_journal.proofs.Common.{◌≡◌, ℕ, ◌+◌, ◌<◌, ◌≤◌, List, ◌∷◌, length, get_or, set, take, drop, sym, ap, subst, ◌∙◌, true, drop_more, drop-set, reverse, insert, Change, FolderState, takes_all, state_after_all, way_back, KeptSession, CanWalk, others, undone_can_walk, redone_can_walk, done_can_walk, next_taken, next_of, walks, kept_undone, kept_redone, kept_done}
+use Rattle.par2_journal.proofs.Common.{◌≡◌, ℕ, ◌+◌, ◌<◌, ◌≤◌, List, ◌∷◌, length, get_or, set, take, drop, sym, ap, subst, ◌∙◌, true, drop_more, drop-set, reverse, insert, Change, FolderState, takes_all, state_after_all, way_back, KeptSession, CanWalk, others, walks, kept_undone, kept_redone, kept_done, undone_can_walk, redone_can_walk, done_can_walk, next_taken, next_of}
 use Rattle.par2_journal.proofs.Entries.{undos_at, undos_set, undos_more_set, redos_more_set, undos_added, redos_added}
 
 -- the session whose cursor stands at n
@@ -28,18 +28,14 @@ module _ (xs : List (List Change)) (i : ℕ) (within : i < length xs) (entry : L
   next_redo_is = ap next_of next_redo
 
   module _ (folder new : FolderState) (room : ℕ) (turned : List Change) (after : new ≡ state_after_all folder entry) (back : turned ≡ way_back folder.files entry) where
-    undone_here : at new (set xs i turned) i room ≡ kept_undone (at folder xs (i + 1) room) entry
+    pub undone_to : (n : ℕ) → i + 1 ≡ n → at new (set xs i turned) i room ≡ kept_undone (at folder xs n room) entry
     unfolding kept_undone
-    undone_here = λ j. record {
+    undone_to n one = λ j. record {
       folder = after j;
-      undos = (undos_set xs i within turned ∙ ap others (sym next_undo)) j;
-      redos = (drop-set xs i turned within ∙ ap (λ b. b ∷ drop (i + 1) xs) back) j;
+      undos = (undos_set xs i within turned ∙ ap others (sym next_undo ∙ ap (λ m. reverse (take m xs)) one)) j;
+      redos = (drop-set xs i turned within ∙ ap (λ b. b ∷ drop (i + 1) xs) back ∙ ap (λ m. way_back folder.files entry ∷ drop m xs) one) j;
       room = room;
     }
-
-    pub undone_to : (n : ℕ) → i + 1 ≡ n → at new (set xs i turned) i room ≡ kept_undone (at folder xs n room) entry
-    undone_to n one =
-        undone_here ∙ ap (λ m. kept_undone (at folder xs m room) entry) one
 
     pub redone_to : at new (set xs i turned) (i + 1) room ≡ kept_redone (at folder xs i room) entry
     unfolding kept_redone

@@ -72,10 +72,15 @@ pub record AnswersTest (folder : FolderState) (test : Bool) (wanted : Session) (
   pub refused : IfErr result (λ e. FailsTest test e.0)
   pub files : IfErr result (λ e. e.1.files ≡ folder.files)
 
+-- more than that the journal isn't valid, or that memory ran out, is told only where this holds
+abbrev pub IsToldWhere : Type 0 → JournalFault → Type 0
+IsToldWhere holds fault = (fault ≡ JournalInvalid) ⊎ (fault ≡ Memory) ⊎ holds
+
 -- what answers, or that memory ran out, where this holds; and nothing opens elsewhere
 pub record AnswersWhere (holds : Type 0) (folder : Folder) (Answers : Result defined.Opened JournalFault → Type 0) (result : Result Opened (JournalFault × FolderState)) : Type 0 where
   pub opened : IfOk result (λ found. holds × Answers (Ok (opened_of found)))
   pub refused : IfErr result (λ e. holds → (e.0 ≡ Memory) ⊎ Answers (Err e.0))
+  pub told : IfErr result (λ e. IsToldWhere holds e.0)
   pub files : IfErr result (λ e. e.1.files ≡ folder)
 
 -- what the opening of a folder with these bytes as its journal answers

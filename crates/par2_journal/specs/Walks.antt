@@ -1,6 +1,7 @@
 -- Changes and entries that a folder takes one after the other.
-use Rattle.std.specs.Prelude.{◌≡◌, ℕ, Bool, List, take, drop, reverse, IsTrue}
-use Rattle.std.specs.BTreeSet.{BTreeSet, contains}
+use Rattle.std.specs.Prelude.{◌≡◌, ℕ, Bool, cond, List, take, drop, reverse, unwrap_or, IsTrue}
+use Rattle.std.specs.BTreeMap.{get_by}
+use Rattle.std.specs.Str.{bytes_eq}
 use Rattle.std.specs.Cmp.Lexicographic.{slice_cmp}
 use Rattle.std.specs.Ordering.{nat_cmp}
 use Rattle.par2_spec.specs.Folders.{Folder, has}
@@ -8,13 +9,22 @@ use Rattle.par2_spec.specs.Changes.{Change, FolderState, effects, state_after_al
 use Rattle.par2_spec.specs.Sessions.{walks}
 use Rattle.par2_folder.specs.declared.change.Change as given
 use Rattle.par2_journal_bytes.specs.Views.{changes_in}
+use Rattle.par2_journal.specs.declared.opening.Names.{Names}
 
--- the names of the files
-abbrev pub AreNamesOf : Folder → BTreeSet (List ℕ) → Type 0
-AreNamesOf files names = (name : List ℕ) → contains (slice_cmp nat_cmp) names name ≡ has files name
+-- whether there is a file of the name, as changes of the folder leave it
+abbrev pub names_in : Names → List ℕ → Bool
+names_in names name = unwrap_or (get_by (λ k. slice_cmp nat_cmp name k.now) names.touched) (has names.folder.now.files name)
+
+-- these are the names of the files
+abbrev pub AreNamesOf : Folder → (List ℕ → Bool) → Type 0
+AreNamesOf files names = (name : List ℕ) → names name ≡ has files name
+
+-- names are as before, but for this one
+abbrev pub IsSet : (List ℕ → Bool) → (List ℕ → Bool) → List ℕ → Bool → Type 0
+IsSet old new name there = (other : List ℕ) → new other ≡ cond (bytes_eq name other) there (old other)
 
 -- whether it is so is what was found, and if it is, these are the names of the files afterwards
-pub record IsTried (is_so : Bool) (after : Folder) (names : BTreeSet (List ℕ)) (found : Bool) : Type 0 where
+pub record IsTried (is_so : Bool) (after : Folder) (names : List ℕ → Bool) (found : Bool) : Type 0 where
   pub told : found ≡ is_so
   pub are : IsTrue found → AreNamesOf after names
 

@@ -5,8 +5,7 @@ use crate::{Changes, CreateArgs, Prepared, Session, SessionFault, Steps};
 use par2_creation::plan_create;
 use par2_folder::Landmarks;
 use par2_plan::{Fault, Report, check, draft_repair, plan_purge};
-use par2_spec::Action;
-use std::alloc::AllocError;
+use par2_spec::{Action, Result};
 
 impl Session {
     ghost use Rattle.std.specs.Prelude.{◌≡◌, [], map, IfOk, IfErr, IsErrOf, IsTrue, IsFalse, drop, OnOk};
@@ -22,7 +21,7 @@ impl Session {
     ghost use Rattle.par2_journal.specs.Ready.{CanBe, Changing, Fits, IsReady};
 
     // The steps of a command with these changes, and room for it.
-    fn make_way(&mut self, changes: &Changes) -> Result<Steps, AllocError>
+    fn make_way(&mut self, changes: &Changes) -> Result<Steps>
         requires { IsTrue (are_applicable self.old.folder.files changes.now) }
         ensures kept { OnlyGrew self.old self.new }
         ensures can { OnOk result (CanBe (Changing changes.now) self.new) }
@@ -42,10 +41,8 @@ impl Session {
         ensures refused { IfErr result (λ fault. fault ≡ Fault.Memory) }
     {
         let steps = self.make_way(&changes)?;
-        Ok(Prepared {
-            task: Task::Change(changes, None),
-            steps,
-        })
+        let task = Task::Change(changes, None);
+        Ok(Prepared { task, steps })
     }
 
     // The landmark that is computed side by side with the MD5s of the inputs is kept for the create's journals.
@@ -73,10 +70,8 @@ impl Session {
         let steps = self.make_way(&draft.changes)?;
         let (fingerprints, md5s) = self.digests_along(&draft)?;
         let changes = draft.tested(&md5s)?;
-        Ok(Prepared {
-            task: Task::Change(changes, Some(fingerprints)),
-            steps,
-        })
+        let task = Task::Change(changes, Some(fingerprints));
+        Ok(Prepared { task, steps })
     }
 
     pub(crate) fn prepare_purge(&mut self, base: &str) -> Result<Prepared, Fault>
@@ -95,10 +90,8 @@ impl Session {
             return Err(SessionFault::NothingToUndo);
         }
         let steps = Steps::of(self.allocator(), self.next_undo())?;
-        Ok(Prepared {
-            task: Task::Undo,
-            steps,
-        })
+        let task = Task::Undo;
+        Ok(Prepared { task, steps })
     }
 
     fn prepare_redo(&self) -> Result<Prepared, SessionFault>
@@ -110,10 +103,8 @@ impl Session {
             return Err(SessionFault::NothingToRedo);
         }
         let steps = Steps::of(self.allocator(), self.next_redo())?;
-        Ok(Prepared {
-            task: Task::Redo,
-            steps,
-        })
+        let task = Task::Redo;
+        Ok(Prepared { task, steps })
     }
 
     /// Makes ready what committing an action will need, memory included. Names, bytes and history stay as they are.
@@ -199,8 +190,7 @@ impl Session {
     {
         let mut accepted = 0;
         for action in actions {
-            let done = self.act(action);
-            if done {
+            if self.act(action) {
                 accepted += 1;
             }
         }

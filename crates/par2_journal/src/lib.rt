@@ -13,7 +13,7 @@ mod taking_back;
 
 pub use ahead::Next;
 pub use laws::ready_changes_apply;
-pub use opening::{Opened, opens_as_is};
+pub use opening::{Opened, Opening, opens_as_is};
 pub use par2_creation::CreateArgs;
 pub use par2_plan::{Changes, Fault, Report, State, TargetReport};
 pub use par2_spec::Action;

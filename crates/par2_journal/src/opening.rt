@@ -1,84 +1,128 @@
 //! A folder with a journal is opened as a session.
-ghost use Rattle.std.specs.Prelude.{◌≡◌, ◌≤◌, ◌⊎◌, if◌then◌else◌, IfSome, IfOk, IfErr, OnOk, length, Ok, None, true, false, sum_by};
+ghost use Rattle.std.specs.Prelude.{◌≡◌, ◌≤◌, ◌⊎◌, if◌then◌else◌, IfSome, IfOk, IfErr, length, map, Ok, None, true, false, sum_by};
 ghost use Rattle.md5.specs.Md5.{md5};
-ghost use Rattle.par2_spec.specs.Changes.{are_applicable, effect, effects, is_applicable, places_taken};
-ghost use Rattle.par2_spec.specs.Folders.{Folder as Files};
+ghost use Rattle.par2_spec.specs.Changes.{are_applicable, places_taken};
 ghost use Rattle.par2_spec.specs.Opening.{Opens, is_valid, leads, opened_by_part};
 ghost use Rattle.par2_spec.specs.declared.JournalFault.TheVariants.{JournalInvalid, FolderChanged, Memory};
 ghost use Rattle.par2_journal_bytes.specs.Reading.{IsSealed};
 ghost use Rattle.par2_journal_bytes.specs.Views.{changes_in, journal_of};
-ghost use Rattle.par2_journal.specs.Opening.{AnswersOpening, AnswersTest, AnswersWhere, OpensAsIs, are_valid, has_print, session_at};
-ghost use Rattle.par2_folder.specs.Views.{change_of};
-ghost use Rattle.par2_journal.specs.Walks.{AreNamesOf, EntriesWalk, IsTried};
+ghost use Rattle.par2_journal.specs.Opening.{AnswersOpening, AnswersTest, AnswersWhere, IsToldWhere, OpensAsIs, are_valid, has_print, session_at};
+ghost use Rattle.par2_journal.specs.Walks.{EntriesWalk};
 
 use crate::taking_back::{Halfway, open_halfway};
 use crate::{Changes, Next, Session};
+use md5::{Digest, Md5};
 use par2_folder::{Change, Folder, Name};
 use par2_journal_bytes::{DecodeFault, Journal, decode, decode_untested, is_sealed};
-use par2_spec::JournalFault;
+use par2_spec::{JournalFault, Result};
 use std::alloc::{AllocError, Global};
-use std::collections::BTreeSet;
+use std::collections::BTreeMap;
 
 // Whether changes and entries can be applied: it is tried on the names of the files.
 
-// Whether the change can be made among files of these names, which become those after it.
-fn go_on(names: &mut BTreeSet<Name>, change: &Change) -> Result<bool, AllocError>
-    ensures { let change = change_of change.now in
-        (files : Files) → AreNamesOf files names.old →
-        IfOk result (IsTried (is_applicable files change) (effect files change) names.new) }
-{
-    match change {
-        Change::Write(name, _) => Ok(names.insert(name.copied())?),
-        Change::Replace(name, _) => Ok(names.contains(name)),
-        Change::Rename(from, to) => {
-            if names.contains(to) {
+// The names of a folder's files, as changes leave them.
+#[derive(Drop)]
+pub struct Names<'a> {
+    folder: &'a Folder,
+    // Whether there is a file of each name that a change touched.
+    touched: BTreeMap<&'a Name, bool>,
+}
+
+impl<'a> Names<'a> {
+    ghost use Rattle.std.specs.Prelude.{◌≡◌, OnOk, IfOk};
+    ghost use Rattle.par2_spec.specs.Changes.{are_applicable, effect, effects, is_applicable};
+    ghost use Rattle.par2_spec.specs.Folders.{Folder as Files};
+    ghost use Rattle.par2_folder.specs.Views.{change_of};
+    ghost use Rattle.par2_journal_bytes.specs.Views.{changes_in};
+    ghost use Rattle.par2_journal.specs.Walks.{AreNamesOf, IsSet, IsTried, names_in};
+
+    // The names before any change.
+    fn of(alloc: Global, folder: &'a Folder) -> Names<'a>
+        ensures { AreNamesOf folder.now.files (names_in result) }
+    {
+        let touched = BTreeMap::new(alloc);
+        Names { folder, touched }
+    }
+
+    // Whether there is a file of the name.
+    fn has(&self, name: &'a Name) -> bool
+        ensures { result ≡ names_in self.now name.now }
+    {
+        match self.touched.get(&name) {
+            Some(there) => *there,
+            None => self.folder.get(name).is_some(),
+        }
+    }
+
+    // From now on there is a file of the name, or there is none.
+    fn set(&mut self, name: &'a Name, there: bool) -> Result<()>
+        ensures { OnOk result (IsSet (names_in self.old) (names_in self.new) name.now there) }
+    {
+        self.touched.insert(name, there)?;
+        Ok(())
+    }
+
+    // Whether the change can be made.
+    #[tactic(auto, unfolding(par2_spec::specs::Changes::is_applicable))]
+    fn can_take(&self, change: &'a Change) -> bool
+        ensures { (files : Files) → AreNamesOf files (names_in self.now) →
+            result ≡ is_applicable files (change_of change.now) }
+    {
+        match change {
+            Change::Write(name, _) => !self.has(name),
+            Change::Replace(name, _) => self.has(name),
+            Change::Rename(from, to) => self.has(from) && !self.has(to),
+            Change::Remove(name) => self.has(name),
+        }
+    }
+
+    // Makes the change.
+    fn take(&mut self, change: &'a Change) -> Result<()>
+        ensures { (files : Files) → AreNamesOf files (names_in self.old) →
+            OnOk result (AreNamesOf (effect files (change_of change.now)) (names_in self.new)) }
+    {
+        match change {
+            Change::Write(name, _) => self.set(name, true),
+            Change::Replace(name, _) => self.set(name, true),
+            Change::Rename(from, to) => {
+                self.set(from, false)?;
+                self.set(to, true)
+            }
+            Change::Remove(name) => self.set(name, false),
+        }
+    }
+
+    // Whether the changes can be made in order. If so, they are.
+    fn go_along(&mut self, changes: &'a [Change]) -> Result<bool>
+        ensures { let changes = changes_in changes.now in
+            let new = names_in self.new in
+            (files : Files) → AreNamesOf files (names_in self.old) →
+            IfOk result (IsTried (are_applicable files changes) (effects files changes) new) }
+    {
+        for change in changes {
+            if !self.can_take(change) {
                 return Ok(false);
             }
-            Ok(names.remove(from) && names.insert(to.copied())?)
+            self.take(change)?;
         }
-        Change::Remove(name) => Ok(names.remove(name)),
+        Ok(true)
     }
-}
-
-// Whether the changes can be made in order among files of these names, which become those after them.
-fn go_along(names: &mut BTreeSet<Name>, changes: &[Change]) -> Result<bool, AllocError>
-    ensures { let changes = changes_in changes.now in
-        (files : Files) → AreNamesOf files names.old →
-        IfOk result (IsTried (are_applicable files changes) (effects files changes) names.new) }
-{
-    for change in changes {
-        if !go_on(names, change)? {
-            return Ok(false);
-        }
-    }
-    Ok(true)
-}
-
-// The names of the files.
-fn names_of(alloc: Global, folder: &Folder) -> Result<BTreeSet<Name>, AllocError>
-    ensures { IfOk result (AreNamesOf folder.now.files) }
-{
-    folder.names()?.into_iter().collect(alloc)
 }
 
 // Whether all of the changes can be made in order.
-pub(crate) fn can_apply(
-    alloc: Global,
-    folder: &Folder,
-    changes: &[Change],
-) -> Result<bool, AllocError>
+pub(crate) fn can_apply(alloc: Global, folder: &Folder, changes: &[Change]) -> Result<bool>
     ensures { IfOk result (λ x. x ≡ are_applicable folder.now.files (changes_in changes.now)) }
 {
-    go_along(&mut names_of(alloc, folder)?, changes)
+    Names::of(alloc, folder).go_along(changes)
 }
 
 // Whether the entries can be applied one after the other.
-fn can_walk(alloc: Global, folder: &Folder, entries: &[Changes]) -> Result<bool, AllocError>
-    ensures { IfOk result (λ x. x ≡ leads folder.now.files entries.now) }
+fn can_walk(alloc: Global, folder: &Folder, entries: &[&Changes]) -> Result<bool>
+    ensures { IfOk result (λ x. x ≡ leads folder.now.files (map (λ e. e.now) entries.now)) }
 {
-    let mut names = names_of(alloc, folder)?;
+    let mut names = Names::of(alloc, folder);
     for entry in entries {
-        if !go_along(&mut names, entry.as_slice())? {
+        if !names.go_along(entry.as_slice())? {
             return Ok(false);
         }
     }
@@ -86,6 +130,16 @@ fn can_walk(alloc: Global, folder: &Folder, entries: &[Changes]) -> Result<bool,
 }
 
 // Whether the entries of a journal can be those of a session.
+
+// Whether the entries can be those of a session on the folder, with this cursor.
+fn are_valid(alloc: Global, folder: &Folder, entries: &[Changes], cursor: usize) -> Result<bool>
+    requires { cursor ≤ length entries.now }
+    ensures { IfOk result (λ x. x ≡ are_valid folder.now.files cursor entries.now) }
+{
+    let undos: Vec<&Changes> = entries[..cursor].iter().rev().collect(alloc)?;
+    let redos: Vec<&Changes> = entries[cursor..].iter().collect(alloc)?;
+    Ok(can_walk(alloc, folder, &undos)? && can_walk(alloc, folder, &redos)?)
+}
 
 // How many changes the entries have, where the number fits.
 fn change_count(entries: &[Changes]) -> Option<usize>
@@ -98,37 +152,26 @@ fn change_count(entries: &[Changes]) -> Option<usize>
     Some(count)
 }
 
-// Whether the entries can be those of a session on the folder, with this cursor. If so, the folder has got the room
-// that they take.
-fn settle(
-    alloc: Global,
-    folder: &mut Folder,
-    entries: &mut [Changes],
-    cursor: usize,
-) -> Result<bool, AllocError>
-    requires { cursor ≤ length entries.old }
+// The same, where the folder gets the room that the entries take.
+fn settle(alloc: Global, folder: &mut Folder, entries: &[Changes], cursor: usize) -> Result<bool>
+    requires { cursor ≤ length entries.now }
     ensures files { folder.new.files ≡ folder.old.files }
     ensures vacant { folder.old.vacant ≤ folder.new.vacant }
-    ensures entries { OnOk result (entries.new ≡ entries.old) }
-    ensures valid { IfOk result (λ x. x ≡ are_valid folder.old.files cursor entries.old) }
-    ensures walks { result ≡ Ok true → EntriesWalk folder.new cursor entries.old }
+    ensures valid { IfOk result (λ x. x ≡ are_valid folder.old.files cursor entries.now) }
+    ensures walks { result ≡ Ok true → EntriesWalk folder.new cursor entries.now }
 {
     let Some(count) = change_count(entries) else {
         return Err(AllocError);
     };
     folder.reserve(count)?;
-    let (undos, redos) = entries.split_at_mut(cursor);
-    undos.reverse();
-    let back = can_walk(alloc, folder, undos)?;
-    undos.reverse();
-    Ok(back && can_walk(alloc, folder, redos)?)
+    are_valid(alloc, folder, entries, cursor)
 }
 
 // The session of these entries, where they can be applied.
 pub(crate) fn session_from(
     alloc: Global,
     mut folder: Folder,
-    mut entries: Vec<Changes>,
+    entries: Vec<Changes>,
     cursor: usize,
 ) -> Result<Session, (JournalFault, Folder)>
     requires { cursor ≤ length entries.items }
@@ -136,7 +179,7 @@ pub(crate) fn session_from(
         AnswersTest folder (is_valid wanted) wanted result }
     ensures vacant { IfErr result (λ e. folder.vacant ≤ e.1.vacant) }
 {
-    match settle(alloc, &mut folder, &mut entries, cursor) {
+    match settle(alloc, &mut folder, &entries, cursor) {
         Ok(true) => Ok(Session::from_entries(folder, entries, cursor)),
         Ok(false) => Err((JournalFault::JournalInvalid, folder)),
         Err(AllocError) => Err((JournalFault::Memory, folder)),
@@ -153,13 +196,20 @@ pub enum Opened {
     Halfway(Halfway),
 }
 
-// Why nothing opens by a journal whose entries can't be applied to the folder: that it changed comes first.
-fn why_invalid(folder: &Folder, wanted: [u8; 16]) -> JournalFault
-    ensures { let same = has_print folder.now.files wanted in (result ≡ Memory)
-        ⊎ (result ≡ (if same then JournalInvalid else FolderChanged false)) }
+/// A session of the folder, or why there is none, and the folder.
+pub type Opening = Result<Opened, (JournalFault, Folder)>;
+
+// Why nothing opens by a journal whose entries can't be applied to the folder: that it changed comes first, and is told
+// only where the text of the journal has this digest.
+fn why_invalid(folder: &Folder, wanted: [u8; 16], body: &[u8], digest: &[u8]) -> JournalFault
+    ensures right { let same = has_print folder.now.files wanted in
+        digest.now ≡ md5 body.now →
+        (result ≡ Memory) ⊎ (result ≡ (if same then JournalInvalid else FolderChanged false)) }
+    ensures told { IsToldWhere (digest.now ≡ md5 body.now) result }
 {
     match folder.fingerprint() {
         Ok(print) if print.as_slice() == wanted.as_slice() => JournalFault::JournalInvalid,
+        Ok(_) if digest != Md5::digest(body).as_slice() => JournalFault::JournalInvalid,
         Ok(_) => JournalFault::FolderChanged { halfway: false },
         Err(AllocError) => JournalFault::Memory,
     }
@@ -174,7 +224,7 @@ fn open_settled(
     body: &[u8],
     digest: &[u8],
     next: Option<Next>,
-) -> Result<Opened, (JournalFault, Folder)>
+) -> Opening
     requires cursor { journal.cursor ≤ length journal.entries.items }
     ensures { let answer = opened_by_part folder.files (journal_of journal) None in
         AnswersWhere (digest.now ≡ md5 body.now) folder.files (λ given. given ≡ answer) result }
@@ -183,7 +233,7 @@ fn open_settled(
     let mut session = match session_from(alloc, folder, journal.entries, journal.cursor) {
         Ok(session) => session,
         Err((JournalFault::JournalInvalid, folder)) => {
-            return Err((why_invalid(&folder, fingerprint), folder));
+            return Err((why_invalid(&folder, fingerprint, body, digest), folder));
         }
         Err(refused) => return Err(refused),
     };
@@ -201,13 +251,8 @@ fn open_settled(
     Ok(Opened::Settled(session))
 }
 
-// Opens by the bytes of a journal. What is refused counts only where they end with their digest.
-fn open_untested(
-    alloc: Global,
-    folder: Folder,
-    bytes: &[u8],
-    next: Option<Next>,
-) -> Result<Opened, (JournalFault, Folder)>
+// Opens by the bytes of a journal. That memory ran out counts only where they end with their digest.
+fn open_untested(alloc: Global, folder: Folder, bytes: &[u8], next: Option<Next>) -> Opening
     ensures { AnswersWhere (IsSealed bytes.now) folder.files (Opens folder.files bytes.now) result }
 {
     let untested = match decode_untested(alloc, bytes) {
@@ -223,14 +268,23 @@ fn open_untested(
     }
 }
 
+// The fault. Bytes that don't end with their digest are refused as such, also where memory ran out.
+fn where_sealed(fault: JournalFault, bytes: &[u8]) -> JournalFault
+    ensures sealed { IsSealed bytes.now → result ≡ fault }
+    ensures unsealed { let sealed = IsSealed bytes.now in
+        ¬ sealed → IsToldWhere sealed fault → result ≡ JournalInvalid }
+{
+    match fault {
+        JournalFault::Memory if is_sealed(bytes) => fault,
+        JournalFault::Memory => JournalFault::JournalInvalid,
+        _ => fault,
+    }
+}
+
 impl Session {
     /// Opens a folder with the bytes of a journal, in either version. At a refusal the folder is given back, names and
     /// bytes as they were. Bytes that don't end with their digest are refused as such, also where memory runs out.
-    pub fn open(
-        alloc: Global,
-        folder: Folder,
-        bytes: &[u8],
-    ) -> Result<Opened, (JournalFault, Folder)>
+    pub fn open(alloc: Global, folder: Folder, bytes: &[u8]) -> Opening
         ensures { AnswersOpening folder bytes.now result }
     {
         Session::open_before(alloc, folder, bytes, None)
@@ -238,30 +292,24 @@ impl Session {
 
     /// Opens as [`Session::open`] does. Where an undo or redo is next, the fingerprints that its journals name are
     /// computed with that of the folder, side by side, so that [`Session::journals`] has no digest left to take.
-    pub fn open_before(
-        alloc: Global,
-        folder: Folder,
-        bytes: &[u8],
-        next: Option<Next>,
-    ) -> Result<Opened, (JournalFault, Folder)>
+    pub fn open_before(alloc: Global, folder: Folder, bytes: &[u8], next: Option<Next>) -> Opening
         ensures { AnswersOpening folder bytes.now result }
     {
         match open_untested(alloc, folder, bytes, next) {
-            Err((_, folder)) if !is_sealed(bytes) => Err((JournalFault::JournalInvalid, folder)),
-            answer => answer,
+            Err((fault, folder)) => Err((where_sealed(fault, bytes), folder)),
+            Ok(opened) => Ok(opened),
         }
     }
 }
 
 /// Whether a folder with the bytes of a journal opens as a session on this very folder. No digest of its files is
 /// taken, so that it is not said whether the session has the history of the journal or a new one. An answer of false
-/// says nothing: the folder is then to be opened. The folder may get room.
-pub fn opens_as_is(alloc: Global, folder: &mut Folder, bytes: &[u8]) -> Result<bool, AllocError>
-    ensures files { folder.new.files ≡ folder.old.files }
-    ensures opens { result ≡ Ok true → OpensAsIs folder.old.files bytes.now }
+/// says nothing: the folder is then to be opened.
+pub fn opens_as_is(alloc: Global, folder: &Folder, bytes: &[u8]) -> Result<bool>
+    ensures opens { result ≡ Ok true → OpensAsIs folder.now.files bytes.now }
     ensures unsealed { ¬ (IsSealed bytes.now) → result ≡ Ok false }
 {
-    let mut journal = match decode(alloc, bytes) {
+    let journal = match decode(alloc, bytes) {
         Ok(journal) => journal,
         Err(DecodeFault::JournalInvalid) => return Ok(false),
         Err(DecodeFault::Memory) => return Err(AllocError),
@@ -269,5 +317,5 @@ pub fn opens_as_is(alloc: Global, folder: &mut Folder, bytes: &[u8]) -> Result<b
     if journal.halfway.is_some() {
         return Ok(false);
     }
-    settle(alloc, folder, &mut journal.entries, journal.cursor)
+    are_valid(alloc, folder, &journal.entries, journal.cursor)
 }

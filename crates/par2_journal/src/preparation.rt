@@ -2,6 +2,7 @@
 use crate::spelling::Fingerprints;
 use par2_folder::{Change, Name};
 use par2_plan::{Changes, Fault};
+use par2_spec::Result;
 use std::alloc::{AllocError, Global};
 use std::marker::Model;
 use thiserror::Error;
@@ -61,7 +62,7 @@ impl Steps {
     ghost use Rattle.par2_journal.specs.Steps.{step_view};
 
     /// The steps of these changes.
-    pub fn of(alloc: Global, changes: &[Change]) -> Result<Steps, AllocError>
+    pub fn of(alloc: Global, changes: &[Change]) -> Result<Steps>
         ensures { IfOk result (λ steps. steps ≡ map step_of (map change_of changes.now)) }
     {
         let mut items = Vec::new(alloc);

@@ -6,7 +6,8 @@ use crate::{Changes, Journals, Next, Prepared, Steps};
 use par2_folder::{Change, Folder, Landmarks, survey_folder};
 use par2_journal_bytes::encode;
 use par2_plan::Draft;
-use std::alloc::{AllocError, Global};
+use par2_spec::Result;
+use std::alloc::Global;
 use std::marker::Model;
 use thiserror::Error;
 
@@ -167,7 +168,7 @@ impl Session {
     }
 
     // The folder's fingerprint.
-    pub(crate) fn fingerprint(&self) -> Result<[u8; 16], AllocError>
+    pub(crate) fn fingerprint(&self) -> Result<[u8; 16]>
         ensures { IfOk result (λ print. print ≡ fingerprint self.now.folder.files) }
     {
         let alloc = self.allocator();
@@ -176,7 +177,7 @@ impl Session {
     }
 
     /// The bytes of the session's journal. Nothing but the result is made of the bytes of its changes.
-    pub fn encode(&self) -> Result<Vec<u8>, AllocError>
+    pub fn encode(&self) -> Result<Vec<u8>>
         ensures { IfOk result (λ bytes. Spells bytes.items (kept_journal self.now)) }
     {
         let fingerprint = self.fingerprint()?;
@@ -185,7 +186,7 @@ impl Session {
     }
 
     // Room for as many files and one more entry.
-    pub(crate) fn make_room(&mut self, files: usize) -> Result<(), AllocError>
+    pub(crate) fn make_room(&mut self, files: usize) -> Result<()>
         ensures kept { OnlyGrew self.old self.new }
         ensures vacant { OnOk result (files ≤ self.new.folder.vacant) }
         ensures room { OnOk result (0 < self.new.room) }
@@ -258,11 +259,7 @@ impl Session {
 
     // The digests of the folder and of a text, side by side. Where an undo or redo is next, the fingerprints along its
     // changes, side by side with these, take little longer, and are kept for its journals; else landmarks are kept.
-    pub(crate) fn digests_before(
-        &mut self,
-        next: Option<Next>,
-        text: &[u8],
-    ) -> Result<Digests, AllocError>
+    pub(crate) fn digests_before(&mut self, next: Option<Next>, text: &[u8]) -> Result<Digests>
         ensures unchanged { self.new ≡ self.old }
         ensures folder { IfOk result (λ x. x.folder ≡ fingerprint self.old.folder.files) }
         ensures text { IfOk result (λ x. x.text ≡ md5 text.now) }
@@ -276,23 +273,14 @@ impl Session {
         };
         let changes = self.next_changes(next);
         let folder = self.folder();
-        let (fingerprints, digests) = Fingerprints::and_digests(
-            alloc,
-            None,
-            folder,
-            changes,
-            &[text],
-        )?;
-        let (folder, text) = (fingerprints.before, digests[0]);
-        self.ahead = Some(Ahead::Fingerprints(next, fingerprints));
+        let (prints, digests) = Fingerprints::and_digests(alloc, None, folder, changes, &[text])?;
+        let (folder, text) = (prints.before, digests[0]);
+        self.ahead = Some(Ahead::Fingerprints(next, prints));
         Ok(Digests { folder, text })
     }
 
     // The fingerprints along a draft's changes, and the MD5s of the texts that these write, side by side with them.
-    pub(crate) fn digests_along(
-        &self,
-        draft: &Draft,
-    ) -> Result<(Fingerprints, Vec<[u8; 16]>), AllocError>
+    pub(crate) fn digests_along(&self, draft: &Draft) -> Result<(Fingerprints, Vec<[u8; 16]>)>
         requires { IsTrue (takes_all self.now.folder draft.now.changes) }
         ensures along { IfOk result (λ x. AreAlong self.now.folder.files draft.now.changes x.0) }
         ensures md5s { IfOk result (λ x. x.1.items ≡ map md5 (texts_written draft.now.changes)) }
@@ -319,7 +307,7 @@ impl Session {
     /// The journals of what was prepared for an action. The folder makes the changes and is turned back, also where
     /// memory runs out. Of the changes no bytes are copied but into the journals. Fingerprints that stand ready for an
     /// undo or redo are used once.
-    pub fn journals(&mut self, prepared: &mut Prepared) -> Result<Journals, AllocError>
+    pub fn journals(&mut self, prepared: &mut Prepared) -> Result<Journals>
         requires { Fits prepared.old self.old }
         ensures unchanged { self.new ≡ self.old }
         ensures prepared { prepared.new ≡ prepared.old }
@@ -333,15 +321,8 @@ impl Session {
             Task::Change(changes, known) => {
                 let known = known.as_ref();
                 let landmarks = landmarks_in(&self.ahead);
-                spell_command(
-                    alloc,
-                    known,
-                    landmarks,
-                    &self.entries,
-                    cursor,
-                    folder,
-                    changes,
-                )
+                let entries = &self.entries;
+                spell_command(alloc, known, landmarks, entries, cursor, folder, changes)
             }
             Task::Undo => {
                 let at = cursor - 1;
@@ -349,17 +330,9 @@ impl Session {
                 spell_entry(alloc, known, &mut self.entries, at, cursor, at, folder)
             }
             Task::Redo => {
-                let next = cursor + 1;
+                let to = cursor + 1;
                 let known = fingerprints_for(self.ahead.take(), Next::Redo);
-                spell_entry(
-                    alloc,
-                    known,
-                    &mut self.entries,
-                    cursor,
-                    cursor,
-                    next,
-                    folder,
-                )
+                spell_entry(alloc, known, &mut self.entries, cursor, cursor, to, folder)
             }
         }
     }

@@ -14,7 +14,8 @@ ghost use Rattle.par2_journal.specs.Spelling.{CompletesHalfway, SpellsCommand, S
 use crate::Changes;
 use par2_folder::{Change, Folder, Landmarks, fingerprints};
 use par2_journal_bytes::{HalfwayPartView, JournalView, begin, encode, finish_both};
-use std::alloc::{AllocError, Global};
+use par2_spec::Result;
+use std::alloc::Global;
 use std::slice::from_ref;
 
 // The fingerprints of a folder along some changes.
@@ -57,7 +58,7 @@ impl Fingerprints {
         folder: &Folder,
         changes: &[Change],
         texts: &[&[u8]],
-    ) -> Result<(Fingerprints, Vec<[u8; 16]>), AllocError>
+    ) -> Result<(Fingerprints, Vec<[u8; 16]>)>
         requires landmarks { IfSome landmarks (λ from. AreLandmarksOf folder.now.files from.now) }
         requires applies { IsTrue (takes_all folder.now (changes_in changes.now)) }
         ensures along { IfOk result (λ x. ArePrintsOf folder.now changes.now x.0) }
@@ -76,19 +77,12 @@ impl Fingerprints {
         landmarks: Option<&Landmarks>,
         folder: &Folder,
         changes: &[Change],
-    ) -> Result<Fingerprints, AllocError>
+    ) -> Result<Fingerprints>
         requires landmarks { IfSome landmarks (λ from. AreLandmarksOf folder.now.files from.now) }
         requires applies { IsTrue (takes_all folder.now (changes_in changes.now)) }
         ensures { IfOk result (ArePrintsOf folder.now changes.now) }
     {
-        let (fingerprints, _digests) = Fingerprints::and_digests(
-            alloc,
-            landmarks,
-            folder,
-            changes,
-            &[],
-        )?;
-        Ok(fingerprints)
+        Ok(Fingerprints::and_digests(alloc, landmarks, folder, changes, &[])?.0)
     }
 
     // The same, computed only where they aren't known.
@@ -97,7 +91,7 @@ impl Fingerprints {
         known: Option<Fingerprints>,
         folder: &Folder,
         changes: &[Change],
-    ) -> Result<Fingerprints, AllocError>
+    ) -> Result<Fingerprints>
         requires applies { IsTrue (takes_all folder.now (changes_in changes.now)) }
         requires known { IfSome known (ArePrintsOf folder.now changes.now) }
         ensures along { IfOk result (ArePrintsOf folder.now changes.now) }
@@ -149,7 +143,7 @@ fn both(
     fingerprints: &Fingerprints,
     back: &Changes,
     after: &JournalView<'_>,
-) -> Result<Journals, AllocError>
+) -> Result<Journals>
     requires cursor { let entries = after.now.entries.now in
         after.now.cursor ≤ length entries + length after.now.newer.now }
     requires each { length fingerprints.now.after_each.items ≡ length back.now }
@@ -158,20 +152,14 @@ fn both(
     ensures after { IfOk result (λ x. Spells x.after.items (journal_from after.now)) }
 {
     if back.is_empty() {
-        return Ok(Journals {
-            halfway: None,
-            after: encode(alloc, after)?,
-        });
+        let (halfway, after) = (None, encode(alloc, after)?);
+        return Ok(Journals { halfway, after });
     }
-    let part = HalfwayPartView {
-        fingerprints: &fingerprints.after_each,
-        back,
-    };
+    let fingerprints = fingerprints.after_each.as_slice();
+    let part = HalfwayPartView { fingerprints, back };
     let texts = finish_both(alloc, front, &part, after)?;
-    Ok(Journals {
-        halfway: Some(texts.halfway),
-        after: texts.after,
-    })
+    let (halfway, after) = (Some(texts.halfway), texts.after);
+    Ok(Journals { halfway, after })
 }
 
 // The journals of a command with these changes, along which these are the fingerprints. The changes are made and turned
@@ -183,7 +171,7 @@ fn spell_along(
     cursor: usize,
     folder: &mut Folder,
     changes: &mut Changes,
-) -> Result<Journals, AllocError>
+) -> Result<Journals>
     requires along { AreAlong folder.old.files changes.old fingerprints.now }
     requires applies { IsTrue (takes_all folder.old changes.old) }
     requires cursor { cursor ≤ length entries.now }
@@ -194,12 +182,8 @@ fn spell_along(
     let front = begin(alloc, &settled(fingerprints.before, cursor, entries, &[]))?;
     changes.turn(folder);
     let newer = from_ref(&*changes);
-    let after = settled(
-        fingerprints.after_all,
-        cursor + 1,
-        &entries[..cursor],
-        newer,
-    );
+    let kept = &entries[..cursor];
+    let after = settled(fingerprints.after_all, cursor + 1, kept, newer);
     let answer = both(alloc, front, fingerprints, changes, &after);
     changes.turn(folder);
     answer
@@ -214,7 +198,7 @@ pub(crate) fn spell_command(
     cursor: usize,
     folder: &mut Folder,
     changes: &mut Changes,
-) -> Result<Journals, AllocError>
+) -> Result<Journals>
     requires known { IfSome known (λ prints. AreAlong folder.old.files changes.old prints.now) }
     requires landmarks { IfSome landmarks (λ from. AreLandmarksOf folder.old.files from.now) }
     requires applies { IsTrue (takes_all folder.old changes.old) }
@@ -241,7 +225,7 @@ pub(crate) fn spell_entry(
     cursor: usize,
     next: usize,
     folder: &mut Folder,
-) -> Result<Journals, AllocError>
+) -> Result<Journals>
     requires applies { IsTrue (takes_all folder.old (get_or entries.old at [])) }
     requires known { IfSome known (AreAlong folder.old.files (get_or entries.old at [])) }
     requires place { at < length entries.old }

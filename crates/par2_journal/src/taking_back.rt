@@ -8,12 +8,12 @@ ghost use Rattle.par2_journal.specs.Opening.{AnswersTest, AnswersWhere, FailsTes
 ghost use Rattle.par2_journal.specs.Ready.{kept_journal};
 ghost use Rattle.par2_journal.specs.Walks.{WentForth};
 
-use crate::opening::{Opened, can_apply, session_from};
+use crate::opening::{Opened, Opening, can_apply, session_from};
 use crate::spelling::Fingerprints;
 use crate::{Changes, Session};
 use par2_folder::{Change, Folder, copies_of};
 use par2_journal_bytes::{HalfwayPart, Journal};
-use par2_spec::JournalFault;
+use par2_spec::{JournalFault, Result};
 use std::alloc::{AllocError, Global};
 
 /// A session of which a stop left a command halfway, as it was before the command.
@@ -39,7 +39,7 @@ impl Halfway {
     }
 
     /// The journal that is to stand then.
-    pub fn settled(&self) -> Result<Vec<u8>, AllocError>
+    pub fn settled(&self) -> Result<Vec<u8>>
         ensures { IfOk result (λ x. Spells x.items (kept_journal (session_before self.now))) }
     {
         self.session.encode()
@@ -116,7 +116,7 @@ fn fingerprints_back(
     folder: &Folder,
     first: [u8; 16],
     others: &[[u8; 16]],
-) -> Result<Option<Vec<[u8; 16]>>, AllocError>
+) -> Result<Option<Vec<[u8; 16]>>>
     ensures none { result ≡ Ok None → place_among folder.now.files first others.now ≡ None }
     ensures back { IfOk result (λ x. IfSome x (LeadBack folder.now.files first others.now)) }
 {
@@ -138,7 +138,7 @@ pub(crate) fn open_halfway(
     folder: Folder,
     journal: Journal,
     mut part: HalfwayPart,
-) -> Result<Opened, (JournalFault, Folder)>
+) -> Opening
     requires cursor { journal.cursor ≤ length journal.entries.items }
     requires each { length part.fingerprints.items ≡ length part.back }
     ensures { let answer = opened_by_part folder.files (journal_of journal) (halfway_of (Some part)) in

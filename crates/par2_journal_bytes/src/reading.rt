@@ -15,6 +15,9 @@ use par2_folder::{Bytes, Change, Changes, Name};
 use par2_spec::Version;
 use std::alloc::Global;
 
+// What a reader takes from the front, and the bytes after it.
+type Read<'a, T> = Result<(T, &'a [u8]), DecodeFault>;
+
 // As many bytes. Nothing is asked for before they are known to be there.
 #[tactic(auto, unfolding(crate::specs::Reading::block_at))]
 fn read_block(bytes: &[u8], len: usize) -> Result<(&[u8], &[u8]), DecodeFault>
@@ -61,10 +64,8 @@ fn read_name(bytes: &[u8]) -> Result<(Name, &[u8]), DecodeFault>
         return Err(DecodeFault::JournalInvalid);
     };
     let (text, rest) = read_block(rest, *len as usize)?;
-    match Name::from_bytes(text) {
-        Some(name) => Ok((name, rest)),
-        None => Err(DecodeFault::JournalInvalid),
-    }
+    let name = Name::from_bytes(text).ok_or(DecodeFault::JournalInvalid)?;
+    Ok((name, rest))
 }
 
 #[tactic(auto, unfolding(crate::specs::Reading::behind_length_at))]
@@ -128,11 +129,7 @@ fn read_entry(alloc: Global, bytes: &[u8]) -> Result<(Changes, &[u8]), DecodeFau
 }
 
 // As many entries, as `read_changes`.
-fn read_entries(
-    alloc: Global,
-    count: u64,
-    bytes: &[u8],
-) -> Result<(Vec<Changes>, &[u8]), DecodeFault>
+fn read_entries(alloc: Global, count: u64, bytes: &[u8]) -> Read<'_, Vec<Changes>>
     ensures { Gives (λ x. (x.0.items, x.1.now)) result
         (reads.many_at reads.entry_at count bytes.now) }
 {
@@ -147,11 +144,7 @@ fn read_entries(
 }
 
 // As many digests, as `read_changes`.
-fn read_digests(
-    alloc: Global,
-    count: u64,
-    bytes: &[u8],
-) -> Result<(Vec<[u8; 16]>, &[u8]), DecodeFault>
+fn read_digests(alloc: Global, count: u64, bytes: &[u8]) -> Read<'_, Vec<[u8; 16]>>
     ensures { Gives
         (λ x. (x.0.items, x.1.now)) result (reads.many_at (reads.block_at 16) count bytes.now) }
 {

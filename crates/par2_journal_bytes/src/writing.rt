@@ -16,16 +16,16 @@ use crate::{HalfwayPartView, JournalView};
 use md5::{Digest, Md5};
 use par2_digests::text_digests;
 use par2_folder::{Bytes, Change, Changes, Name};
-use par2_spec::Version;
-use std::alloc::{AllocError, Global};
+use par2_spec::{Result, Version};
+use std::alloc::Global;
 
-fn append_number(out: &mut Vec<u8>, number: u64) -> Result<(), AllocError>
+fn append_number(out: &mut Vec<u8>, number: u64) -> Result<()>
     ensures { Appends (to_le_bytes w64 number) out.old out.new result }
 {
     out.extend_from_slice(&number.to_le_bytes())
 }
 
-fn append_name(out: &mut Vec<u8>, name: &Name) -> Result<(), AllocError>
+fn append_name(out: &mut Vec<u8>, name: &Name) -> Result<()>
     ensures bytes { Appends (journals.name_bytes name.now) out.old out.new result }
     ensures name { IsTrue (is_name name.now) }
 {
@@ -34,7 +34,7 @@ fn append_name(out: &mut Vec<u8>, name: &Name) -> Result<(), AllocError>
     out.extend_from_slice(text.as_bytes())
 }
 
-fn append_bytes(out: &mut Vec<u8>, bytes: &Bytes) -> Result<(), AllocError>
+fn append_bytes(out: &mut Vec<u8>, bytes: &Bytes) -> Result<()>
     ensures bytes { Appends (behind_length bytes.now) out.old out.new result }
     ensures fits { journals.IsFileBytes bytes.now }
 {
@@ -44,7 +44,7 @@ fn append_bytes(out: &mut Vec<u8>, bytes: &Bytes) -> Result<(), AllocError>
 }
 
 // The byte of a change's kind, and its name.
-fn append_kind_and_name(out: &mut Vec<u8>, kind: u8, name: &Name) -> Result<(), AllocError>
+fn append_kind_and_name(out: &mut Vec<u8>, kind: u8, name: &Name) -> Result<()>
     ensures bytes { Appends (kind ∷ journals.name_bytes name.now) out.old out.new result }
     ensures name { OnOk result (IsTrue (is_name name.now)) }
 {
@@ -52,7 +52,7 @@ fn append_kind_and_name(out: &mut Vec<u8>, kind: u8, name: &Name) -> Result<(), 
     append_name(out, name)
 }
 
-fn append_change(out: &mut Vec<u8>, change: &Change) -> Result<(), AllocError>
+fn append_change(out: &mut Vec<u8>, change: &Change) -> Result<()>
     ensures bytes { Appends (journals.change_bytes (change_of change.now)) out.old out.new result }
     ensures change { OnOk result (journals.IsChange (change_of change.now)) }
 {
@@ -73,7 +73,7 @@ fn append_change(out: &mut Vec<u8>, change: &Change) -> Result<(), AllocError>
     }
 }
 
-fn append_changes(out: &mut Vec<u8>, changes: &[Change]) -> Result<(), AllocError>
+fn append_changes(out: &mut Vec<u8>, changes: &[Change]) -> Result<()>
     ensures bytes { let changes = changes_in changes.now in
         Appends (flat_map journals.change_bytes changes) out.old out.new result }
     ensures changes { OnOk result (journals.IsEntry (changes_in changes.now)) }
@@ -84,7 +84,7 @@ fn append_changes(out: &mut Vec<u8>, changes: &[Change]) -> Result<(), AllocErro
     Ok(())
 }
 
-fn append_entries(out: &mut Vec<u8>, entries: &[Changes]) -> Result<(), AllocError>
+fn append_entries(out: &mut Vec<u8>, entries: &[Changes]) -> Result<()>
     ensures bytes { Appends (flat_map journals.entry_bytes entries.now) out.old out.new result }
     ensures entries { OnOk result (AllByRecursion journals.IsEntry entries.now) }
 {
@@ -95,20 +95,15 @@ fn append_entries(out: &mut Vec<u8>, entries: &[Changes]) -> Result<(), AllocErr
     Ok(())
 }
 
-fn append_digests(out: &mut Vec<u8>, digests: &[[u8; 16]]) -> Result<(), AllocError>
+#[tactic(auto, using(std::proofs::lemmas::List::Concat::concat_is))]
+fn append_digests(out: &mut Vec<u8>, digests: &[[u8; 16]]) -> Result<()>
     ensures bytes { Appends (concat digests.now) out.old out.new result }
-    ensures digests { OnOk result (AllByRecursion journals.IsDigest digests.now) }
+    ensures digests { AllByRecursion journals.IsDigest digests.now }
 {
-    for digest in digests {
-        out.extend_from_slice(digest)?;
-    }
-    Ok(())
+    out.extend_from_slice(digests.as_flattened())
 }
 
-fn append_halfway(
-    out: &mut Vec<u8>,
-    halfway: Option<&HalfwayPartView<'_>>,
-) -> Result<(), AllocError>
+fn append_halfway(out: &mut Vec<u8>, halfway: Option<&HalfwayPartView<'_>>) -> Result<()>
     requires some { IfSome halfway (λ h. 1 ≤ length h.now.back.now) }
     requires each { IfSome halfway (λ h. length h.now.fingerprints.now ≡ length h.now.back.now) }
     ensures bytes { let part = part_from halfway.entry in
@@ -126,7 +121,7 @@ fn append_halfway(
 
 /// The bytes of the journal with these parts as far as its entries go, for [`finish_both`].
 #[tactic(auto, unfolding(crate::specs::Fronts::front_bytes))]
-pub fn begin(alloc: Global, parts: &JournalView<'_>) -> Result<Vec<u8>, AllocError>
+pub fn begin(alloc: Global, parts: &JournalView<'_>) -> Result<Vec<u8>>
     requires { parts.now.cursor ≤ length parts.now.entries.now + length parts.now.newer.now }
     ensures { IfOk result (λ front. Begins front.items (journal_from parts.now)) }
 {
@@ -142,7 +137,7 @@ pub fn begin(alloc: Global, parts: &JournalView<'_>) -> Result<Vec<u8>, AllocErr
 
 // All but the digest of a journal whose front stands, with its halfway part.
 #[tactic(auto, unfolding(par2_spec::specs::Journals::journal_bytes, crate::specs::Fronts::front_bytes))]
-fn body(front: Vec<u8>, halfway: Option<&HalfwayPartView<'_>>) -> Result<Vec<u8>, AllocError>
+fn body(front: Vec<u8>, halfway: Option<&HalfwayPartView<'_>>) -> Result<Vec<u8>>
     requires some { IfSome halfway (λ h. 1 ≤ length h.now.back.now) }
     requires each { IfSome halfway (λ h. length h.now.fingerprints.now ≡ length h.now.back.now) }
     ensures { IfOk result (λ body. Continues front.items (part_from halfway.entry) body.items) }
@@ -155,7 +150,7 @@ fn body(front: Vec<u8>, halfway: Option<&HalfwayPartView<'_>>) -> Result<Vec<u8>
 }
 
 // The journal, its digest after all that stands before it.
-fn with_digest(body: Vec<u8>, digest: [u8; 16]) -> Result<Vec<u8>, AllocError>
+fn with_digest(body: Vec<u8>, digest: [u8; 16]) -> Result<Vec<u8>>
     requires { digest ≡ md5 body.items }
     ensures { IfOk result (λ bytes. bytes.items ≡ body.items ++ md5 body.items) }
 {
@@ -166,7 +161,7 @@ fn with_digest(body: Vec<u8>, digest: [u8; 16]) -> Result<Vec<u8>, AllocError>
 }
 
 /// The bytes of the journal with these parts.
-pub fn encode(alloc: Global, parts: &JournalView<'_>) -> Result<Vec<u8>, AllocError>
+pub fn encode(alloc: Global, parts: &JournalView<'_>) -> Result<Vec<u8>>
     requires { parts.now.cursor ≤ length parts.now.entries.now + length parts.now.newer.now }
     ensures { IfOk result (λ bytes. journals.Spells bytes.items (journal_from parts.now)) }
 {
@@ -191,7 +186,7 @@ pub fn finish_both(
     front: Vec<u8>,
     halfway: &HalfwayPartView<'_>,
     after: &JournalView<'_>,
-) -> Result<JournalTexts, AllocError>
+) -> Result<JournalTexts>
     requires halfway_some { 1 ≤ length halfway.now.back.now }
     requires halfway_each { length halfway.now.fingerprints.now ≡ length halfway.now.back.now }
     requires cursor { after.now.cursor ≤ length after.now.entries.now + length after.now.newer.now }

@@ -1,24 +1,24 @@
-use Rattle.par2_journal.proofs.Common.{subst, leads, IsTried, are_applicable, effects}
-use Rattle.par2_journal.proofs.TriedNames.{along, sets_out, goes_on, stops, ends, leads_next, along_next, leads_none, along_none}
+use Rattle.par2_journal.proofs.Common.{◌+◌, List, drop, map, sym, ◌∙◌, Bor, Change, effects, leads}
+use Rattle.par2_journal.proofs.TriedNames.{goes_on, here, ends, entry_made, entry_refused, all_entries_made}
 use Rattle.par2_journal.proofs.opening.can_walk.Goals as goal
-
-pub loop-entry-init : goal.loop-entry-init
-loop-entry-init c = sets_out are_applicable effects leads along c.args.folder.now.files c.args.entries.now c.in_ok-names.names c.in_ok-names.ensures
 
 pub returns-then-not-branch : goal.returns-then-not-branch
 returns-then-not-branch c =
     let so_far = c.loop-entry.invariant in
-    let tried = c.in_ok-go_along.ensures so_far.now so_far.are in
-    (stops are_applicable effects leads along c.args.folder.now.files c.args.entries.now leads_next along_next c.loop-entry.entry-index c.loop-entry.names c.go_along.new.names so_far c.loop-entry-test.true c.entry-item.result c.entry-item.is
-    (subst (IsTried _ _ c.go_along.new.names) c.if-not-branch.true (rw c.as_slice.ensures at tried))).told
+    let item = c.entry-item.result in
+    let tried = rw c.as_slice.ensures at (c.in_ok-go_along.ensures so_far.now so_far.are) in
+    entry_refused so_far.now item.now (drop (c.loop-entry.entry-index + 1) (map (λ (e : Bor (List Change)). e.now) c.args.entries.now)) (sym c.if-not-branch.true ∙ tried.told)
+    ∙ here (λ (e : Bor (List Change)). e.now) leads c.args.folder.now.files c.args.entries.now _ _ so_far c.loop-entry-test.true item c.entry-item.is
 
 pub loop-entry-preserved : goal.loop-entry-preserved
 loop-entry-preserved c =
     let so_far = c.loop-entry.invariant in
-    let tried = c.in_ok-go_along.ensures so_far.now so_far.are in
-    goes_on are_applicable effects leads along c.args.folder.now.files c.args.entries.now leads_next along_next c.loop-entry.entry-index c.loop-entry.names c.go_along.new.names so_far c.loop-entry-test.true c.entry-item.result c.entry-item.is
-    (subst (IsTried _ _ c.go_along.new.names) c.if-not-branch.false (rw c.as_slice.ensures at tried))
+    let item = c.entry-item.result in
+    let tried = rw c.as_slice.ensures at (c.in_ok-go_along.ensures so_far.now so_far.are) in
+    goes_on (λ (e : Bor (List Change)). e.now) leads c.args.folder.now.files c.args.entries.now _ _ so_far c.loop-entry-test.true item c.entry-item.is (effects so_far.now item.now) _ (tried.are c.if-not-branch.false)
+    (entry_made so_far.now item.now _ (sym c.if-not-branch.false ∙ tried.told))
 
 pub returns : goal.returns
 returns c =
-    (ends are_applicable effects leads along c.args.folder.now.files c.args.entries.now leads_none along_none c.loop-entry.entry-index c.loop-entry.names c.loop-entry.invariant c.loop-entry-test.false).told
+    let so_far = c.loop-entry.invariant in
+    sym (all_entries_made so_far.now) ∙ ends (λ (e : Bor (List Change)). e.now) leads c.args.folder.now.files c.args.entries.now _ _ so_far c.loop-entry-test.false

@@ -1,6 +1,6 @@
-use Rattle.par2_journal.proofs.Common.{leads, are_applicable, effects}
-use Rattle.par2_journal.proofs.TriedNames.{IsSoFar, along}
+use Rattle.par2_journal.proofs.Common.{leads, List, Bor, Change, names_in}
+use Rattle.par2_journal.proofs.TriedNames.{IsSoFar}
 use Rattle.par2_journal.proofs.opening.can_walk.Given as goal
 
 abbrev pub invariant-loop-entry : goal.invariant-loop-entry
-invariant-loop-entry l = IsSoFar are_applicable effects leads along l.folder.files l.entries l.entry-index l.names
+invariant-loop-entry l = IsSoFar (λ (e : Bor (List Change)). e.now) leads l.folder.files l.entries l.entry-index (names_in l.names)

@@ -6,8 +6,7 @@ pub returns-clause-opens : goal.returns-clause-opens
 returns-clause-opens c told_so =
     let j = journal_of c.in-Ok.journal in
     let files = c.args.folder.now.files in
-    let told = subst (λ r. IfOk r (λ valid. valid ≡ is_valid (session_at files j.cursor c.deref_mut.result.now))) told_so c.settle.ensures.valid in
-    let same : c.deref_mut.result.now ≡ j.entries = c.deref_mut.ensures.value in
+    let told = subst (λ r. IfOk r (λ valid. valid ≡ is_valid (session_at files j.cursor c.deref.result.now))) told_so c.are_valid.ensures in
     settled_as_is files c.args.bytes.now j c.in-Ok.ensures.found
     (ap halfway_of (none_if c.in-Ok.journal.halfway (sym c.is_some.ensures ∙ c.if-is_some.false)))
-    (ap (λ entries. is_valid (session_at files j.cursor entries)) (sym same) ∙ sym told)
+    (ap (λ entries. is_valid (session_at files j.cursor entries)) (sym c.deref.ensures.value) ∙ sym told)

@@ -1,17 +1,16 @@
-use Rattle.par2_journal.proofs.Common.{◌≡◌, ◌≤◌, take, drop, true, sym, ap, ◌∙◌, arith, reverse, sum_by, places_taken, leads, leading_walks}
+use Rattle.par2_journal.proofs.Common.{◌≡◌, ◌≤◌, take, drop, sym, subst, arith, IfOk, reverse, sum_by, is_valid, leads, session_at, and_parts, places_taken, leading_walks}
 use Rattle.par2_journal.proofs.SessionEntries.{places_before, places_behind}
 use Rattle.par2_journal.proofs.opening.settle.Goals as goal
 
-pub returns-in_ok-can_walk-clause-walks : goal.returns-in_ok-can_walk-clause-walks
-returns-in_ok-can_walk-clause-walks c valid =
+pub returns-clause-walks : goal.returns-clause-walks
+returns-clause-walks c valid =
     let entries = c.args.entries.now in
     let n = c.args.cursor in
     let folder = c.reserve.new.self in
-    let forth : c.in_ok-can_walk.field-0 ≡ true = cc in
     let few : sum_by places_taken entries ≤ c.in-Some.count = c.in-Some.ensures in
     let room : c.in-Some.count ≤ folder.vacant = omega (arith, c.in_ok-reserve.ensures.ok) in
-    let undos = c.reverse.ensures.after ∙ ap reverse c.split_at_mut-undos.ensures.front in
+    let both = and_parts (leads folder.files (reverse (take n entries))) (leads folder.files (drop n entries)) (sym (subst (λ r. IfOk r (λ x. x ≡ is_valid (session_at folder.files n entries))) valid c.are_valid.ensures)) in
     record {
-      back = leading_walks folder (reverse (take n entries)) (ap (leads folder.files) (sym undos) ∙ sym c.in_ok-back.ensures ∙ c.if-back.true) (omega (arith, few, room, places_before entries n));
-      forth = leading_walks folder (drop n entries) (ap (leads folder.files) (sym c.split_at_mut-undos.ensures.back) ∙ sym c.in_ok-can_walk.ensures ∙ forth) (omega (arith, few, room, places_behind entries n));
+      back = leading_walks folder (reverse (take n entries)) both.0 (omega (arith, few, room, places_before entries n));
+      forth = leading_walks folder (drop n entries) both.1 (omega (arith, few, room, places_behind entries n));
     }

@@ -1,4 +1,4 @@
-use Rattle.par2_journal.proofs.Common.{◌≡◌, ◌-◌, ◌&&◌, true, false, Bool, List, Some, Ok, Err, length, drop, sym, ap, ◌∙◌, arith, drop-map, err_from_is_err_and, ⊎_map, Change, effects, is_valid, leads_through, err_again, change_of, changes_in, halfway_of, journal_of, session_at, AnswersWhere, LeadBack}
+use Rattle.par2_journal.proofs.Common.{inr, ◌≡◌, ◌-◌, ◌&&◌, true, false, Bool, List, Some, Ok, Err, length, drop, sym, ap, ◌∙◌, arith, drop-map, err_from_is_err_and, ⊎_map, Change, effects, is_valid, leads_through, err_again, change_of, changes_in, halfway_of, journal_of, session_at, AnswersWhere, LeadBack}
 use Rattle.par2_spec.specs.Opening as defined
 use Rattle.par2_journal.proofs.Openings.{answer, halfway_is}
 use Rattle.par2_journal.proofs.taking_back.open_halfway.Goals.{After-take_back}
@@ -34,6 +34,7 @@ returns c =
     record {
       opened = (tt, (λ i. Ok (defined.Halfway (found.session i) (c.in-Ok.ensures i))) ∙ sym (opens here true found.passed));
       refused = tt;
+      told = tt;
       files = tt;
     }
 
@@ -45,5 +46,6 @@ returns-in_err-session c =
     (record {
       opened = tt;
       refused = λ _. ⊎_map (λ memory. memory) (λ p. ap Err p.0 ∙ sym (opens here false p.1)) c.in_err-session.ensures.refused;
+      told = inr (inr tt);
       files = c.in_err-session.ensures.files;
     })

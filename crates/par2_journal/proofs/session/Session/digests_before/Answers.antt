@@ -7,10 +7,10 @@ and_digests-requires-clause-applies c = (λ i. takes_all (c.folder-folder.ensure
 
 pub invariant_of-self-2 : goal.invariant_of-self-2
 invariant_of-self-2 c =
-    let prints = c.in_ok-fingerprints.fingerprints in
+    let prints = c.in_ok-prints.prints in
     let next = c.in-Some.next in
     let along =
-    subst (λ (p : Folder × List Change). AreAlong p.0 p.1 prints) (λ i. ((c.folder-folder.ensures.folder i).files, c.next_changes-changes.ensures i)) c.in_ok-fingerprints.ensures.along in
+    subst (λ (p : Folder × List Change). AreAlong p.0 p.1 prints) (λ i. ((c.folder-folder.ensures.folder i).files, c.next_changes-changes.ensures i)) c.in_ok-prints.ensures.along in
     record {
       within = c.self.invariant.within;
       walks = c.self.invariant.walks;

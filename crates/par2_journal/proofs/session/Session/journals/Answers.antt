@@ -1,5 +1,4 @@
-use Rattle.par2_journal.proofs.Common.{◌+◌, ◌-◌, sym, ap, ◌∙◌, vec_len, vec_capacity, KeptSession, Kind, Ready, changes_by_kind, Add, turn_of}
-use Rattle.par2_journal.specs.Spelling.{Replace}
+use Rattle.par2_journal.proofs.Common.{◌+◌, ◌-◌, sym, ap, ◌∙◌, vec_len, vec_capacity, KeptSession, Kind, Ready, changes_by_kind, Add, turn_of, Replace}
 use Rattle.par2_journal.specs.Kinds.{kind_of, known_of}
 use Rattle.par2_journal.proofs.Prints.{known_here}
 use Rattle.par2_journal.proofs.SessionJournals.{ready_applies, ready_spelled, spelled_for, undo_entry, redo_entry}

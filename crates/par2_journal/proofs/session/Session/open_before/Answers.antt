@@ -1,12 +1,7 @@
-use Rattle.par2_journal.proofs.Common.{inr, refl, sym, ◌∙◌, false≢true}
-use Rattle.par2_journal_bytes.proofs.Whole.{spells_sealed}
-use Rattle.par2_journal.proofs.Openings.{no_journal}
+use Rattle.par2_journal.proofs.Openings.{refused_as}
 use Rattle.par2_journal.proofs.session.Session.open_before.Goals as goal
 
 pub returns-in-Err : goal.returns-in-Err
-returns-in-Err c = record {
-  opened = tt;
-  refused = inr (no_journal c.args.folder.files c.args.bytes.now (λ j spells. false≢true (sym c.if-not-is_sealed.true ∙ c.is_sealed.ensures.1 (spells_sealed c.args.bytes.now j spells))));
-  unsealed = λ _. refl;
-  files = c.in-Err.ensures.files;
-}
+returns-in-Err c =
+    let told = c.where_sealed.ensures in
+    refused_as c.args.folder c.args.bytes.now (c.in-Err.fault, c.in-Err.folder) c.where_sealed.result c.in-Err.ensures told.sealed (λ none. told.unsealed none c.in-Err.ensures.told)

@@ -1,0 +1,6 @@
+use Rattle.par2_journal.proofs.Common.{Folder, change_of, AreNamesOf, names_in}
+use Rattle.par2_journal.proofs.TriedNames.{IsSoFar, tried}
+use Rattle.par2_journal.proofs.opening.Names.go_along.Given as goal
+
+abbrev pub invariant-loop-change : goal.invariant-loop-change
+invariant-loop-change l = (files : Folder) → AreNamesOf files (names_in l.fn.self) → IsSoFar change_of tried files l.changes l.change-index (names_in l.self)
