@@ -1,5 +1,5 @@
 -- Items of one length, one after the other.
-use Rattle.par2_packets.proofs.Common.{◌≡◌, ℕ, ◌+◌, ◌-◌, ◌*◌, ◌/◌, ◌≤◌, ◌<◌, List, Some, length, take, drop, map, slice_get, sym, ap, ◌∙◌, arith, range_with_len, length-map, take-take, drop-drop, drop-take, length-map-range_with_len, get_or-map-range_with_len, w32, from_le_bytes, MainBody, IfscBody, bytes_at, items_at, Pair, u32_at}
+use Rattle.par2_packets.proofs.Common.{◌≡◌, ℕ, ◌+◌, ◌-◌, ◌*◌, ◌/◌, ◌≤◌, ◌<◌, List, Some, length, take, drop, map, slice_get, sym, ap, ◌∙◌, arith, range_with_len, length-map, take-take, drop-drop, drop-take, length-map-range_with_len, get_or-map-range_with_len, w32, from_le_bytes, MainBody, IfscBody, bytes_at, items_at, u32_at, Pair}
 use Rattle.std.proofs.lemmas.Option.{slice_get-get_or, slice_get-map}
 use Rattle.std.specs.Option.{option_map}
 use Rattle.par2_packets.specs.Bodies.{main_said, ifsc_said}

@@ -1,5 +1,5 @@
 -- A packet as it is written, part by part.
-use Rattle.par2_packets.proofs.Common.{◌≡◌, ℕ, ◌+◌, ◌<◌, List, [], ◌∷◌, ◌++◌, length, map, take, get_or, sym, ap, ◌∙◌, append_assoc, arith, length-append, flat_map, w64, to_le_bytes, flat_map-append, map-append, take_more, md5, magic, type_of, file_record_of, FileRecord, packet}
+use Rattle.par2_packets.proofs.Common.{◌≡◌, ℕ, ◌+◌, ◌<◌, List, [], ◌∷◌, ◌++◌, length, map, take, get_or, sym, ap, ◌∙◌, append_assoc, arith, length-append, flat_map, w64, to_le_bytes, flat_map-append, map-append, take_more, md5, magic, type_of, packet, file_record_of, FileRecord}
 use Rattle.par2_spec.specs.Volumes.{packet_of}
 use Rattle.std.proofs.lemmas.List.{append-nil}
 use Rattle.par2_spec.specs.declared.Kind.{Kind}

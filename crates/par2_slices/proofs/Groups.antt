@@ -4,9 +4,8 @@ use Rattle.std.proofs.lemmas.Nat.Bits.{bit_at-zero, bit_at_set_same, bit_at_set_
 
 pub within : (crc shift : ℕ) → crc < 2 ^ 32 → shift < 32 → crc / 2 ^ shift < 2 ^ (32 - shift)
 within crc shift fits low =
-    let Fits : ℕ → Type 0 = λ k. crc < 2 ^ k in
     let split : 32 ≡ 32 - shift + shift = omega (arith, low) in
-    shr_below crc (32 - shift) shift (subst Fits split fits)
+    shr_below crc (32 - shift) shift (subst (λ (k : ℕ). crc < 2 ^ k) split fits)
 
 -- a checksum's word is one of 2^15, and what is read there
 pub its_place : (crc : ℕ) (words : List ℕ) → crc < 2 ^ 32 → length words ≡ 2 ^ 15 → crc / 2 ^ 17 < length words
