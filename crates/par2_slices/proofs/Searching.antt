@@ -1,5 +1,6 @@
 -- A search under way.
 use Rattle.par2_slices.proofs.Common.{◌≡◌, ℕ, zero, suc, ◌+◌, ◌-◌, ◌*◌, ◌/◌, ◌%◌, ◌^◌, ◌<◌, Bool, true, false, cond, List, [], ◌∷◌, ◌++◌, length, map, drop, take, get_or, set, replicate, refl, sym, ap, subst, ◌∙◌, get_or-set_same, get_or-set_other, inl, inr, arith, ◌⊎◌, ◌==◌, Option, Some, None, find, option_map, bit_at, count_by, list_all, range_with_len, is_none, option_or, bytes_eq, and_from, and_left, and_right, cases_eq, cases_lt, eq-eqb, ne_eqb, length-replicate, length-map, get_or-map, ext_get_or, get_or_append_left, get_or_at, length_push, drop_more, take_more, find-append, sum_by-zero, sum_by-replicate, list_all_at, md5, Pair, crc32, is_match, window, first_match, range-append, or_nothing, AreAlike, Groups, Marks, no_pair, IsOfOpenPair, no_place, no_candidate, pair_at, place_at, candidate_at, answer_at, answer_below, spot_in, first_spot, first_spot_from, HoldsGroup, is_awaited, after_window, has_checksums, Earlier, IsWindow, IsTally, IsAt, after_candidates, first_below, Candidate, Spot, Place}
+use Rattle.par2_slices.proofs.Groups.{replicate_at}
 use Rattle.std.proofs.lemmas.List.Sums.{sum_by-set}
 use Rattle.std.proofs.Common.{length-take}
 use Rattle.std.specs.Prelude.{◌&&◌}
@@ -230,11 +231,6 @@ filled_more pairs n before after filled low crc marked kept only its = record {
     alike_to : (a b other : ℕ) → a ≡ b → AreAlike a other → AreAlike b other
     alike_to a b other e alike = let Its : ℕ → Type 0 = λ c. AreAlike c other in subst Its e alike
 
-pub never_answered : (n i : ℕ) → answer_at (replicate n None) i ≡ None
-never_answered zero i = refl
-never_answered (suc n) zero = refl
-never_answered (suc n) (suc i) = never_answered n i
-
 -- before the first text
 pub none_answered : (pairs : List Pair) (found : List (Option Spot)) (left : ℕ) (filter : Groups) → found ≡ replicate (length pairs) None → left ≡ length pairs → ((i : ℕ) → i < length pairs → Marks filter (pair_at pairs i).1) → ((crc : ℕ) → Marks filter crc → IsOfPair pairs crc) → IsTally pairs found left filter
 none_answered pairs found left filter found_is left_is marked only = record {
@@ -247,7 +243,7 @@ none_answered pairs found left filter found_is left_is marked only = record {
   marked = λ i h none. marked i h;
   only = λ crc is.
       let its = only crc is in
-      (its.0, its.1, ap (λ f. answer_at f its.0) found_is ∙ never_answered (length pairs) its.0, its.2);
+      (its.0, its.1, ap (λ f. answer_at f its.0) found_is ∙ replicate_at (length pairs) its.0 None, its.2);
 }
 
 -- before the first offset
