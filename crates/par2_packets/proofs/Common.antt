@@ -1,9 +1,9 @@
 -- The names that proofs of this crate take from elsewhere.
 
-pub use Rattle.std.proofs.Common.{Bool, List, Some, [], ap, append-nil, append_assoc, ap₂, arith, drop, eqb, false, get_or, inl, inr, leb, length, length-append, map, min, mul-le-mul_right, refl, replicate, rules, slice_get, slice_index, subst, suc, sym, take, true, zero, ℕ, ◌%◌, ◌&&◌, ◌*◌, ◌++◌, ◌+◌, ◌-◌, ◌/◌, ◌<◌, ◌==◌, ◌∙◌, ◌∷◌, ◌≡◌, ◌≢◌, ◌≤◌}
+pub use Rattle.std.proofs.Common.{Bool, List, Some, [], ap, append-nil, append_assoc, ap₂, arith, drop, eqb, false, get_or, inl, inr, leb, length, length-append, map, min, mul-le-mul_right, refl, replicate, rules, slice_get, slice_index, subst, suc, sym, take, true, zero, ℕ, ◌%◌, ◌*◌, ◌++◌, ◌+◌, ◌-◌, ◌/◌, ◌<◌, ◌==◌, ◌∙◌, ◌∷◌, ◌≡◌, ◌≢◌, ◌≤◌}
 pub use Rattle.std.proofs.lemmas.Bool.{and_parts, cases_lt, cond_above, cond_below, false_from_ne_true, leb-true}
-pub use Rattle.std.proofs.lemmas.Grind.{common_steps, flat_map-append}
-pub use Rattle.std.proofs.lemmas.List.{drop-append-le, drop-drop, drop-take, flat_map_more, get_or-map, get_or_default, length-drop, length-map, length-replicate, length-take-le, map-append, take-append-le, take-take, take_all, take_at, take_more}
+pub use Rattle.std.proofs.lemmas.Grind.{common_steps}
+pub use Rattle.std.proofs.lemmas.List.{drop-append-le, drop-drop, drop-take, ext_get_or, flat_map_more, get_or-map, get_or_default, length-drop, length-map, length-replicate, length-take-le, take-append-le, take-take, take_all, take_at}
 pub use Rattle.std.proofs.lemmas.List.FromFn.{get_or-map-range_with_len, length-map-range_with_len}
 pub use Rattle.std.proofs.lemmas.List.Sorted.{IsNonDecreasingBy-from_sort_by_key, IsPermutation-map, IsPermutation-sym, all_adjacent_more}
 pub use Rattle.std.proofs.lemmas.Result.{IfOk-weaker, on_ok_weaker}
@@ -18,7 +18,6 @@ pub use Rattle.par2_packets.specs.Pieces.{ArePieces, changed_below, overwritten}
 pub use Rattle.par2_packets.specs.Recoveries.{AreDigested, digest_put, digested, recovery_packet}
 unfoldable pub use Rattle.par2_packets.specs.Recoveries.{undigested}
 pub use Rattle.par2_packets.specs.Views.{file_record_of, id_number, packet_of}
-pub use Rattle.par2_packets.specs.declared.record.FileRecord.{FileRecord}
 pub use Rattle.par2_spec.proofs.ListsLaws.{increasing, range-append}
 pub use Rattle.par2_spec.specs.Checksums.{Pair}
 pub use Rattle.par2_spec.specs.Packets.{DescBody, IfscBody, MainBody, Packet, accepted, bytes_at, claimed_length, digest_input, items_at, magic, type_of, without_end_zeros}

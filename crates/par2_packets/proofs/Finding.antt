@@ -1,5 +1,5 @@
 -- Going over a text from packet to packet.
-use Rattle.par2_packets.proofs.Common.{◌≡◌, ℕ, zero, suc, ◌-◌, ◌+◌, ◌≤◌, ◌<◌, ◌%◌, Bool, true, false, leb, eqb, ◌&&◌, List, [], ◌∷◌, length, drop, refl, sym, ap, subst, ◌∙◌, arith, bytes_eq, leb-true, and_parts, false_from_ne_true, length-take-le, length-drop, drop-drop, bytes_eq-Decides, md5, Packet, bytes_at, magic, claimed_length, accepted, begins_with_packet, first_packet, accepted_after}
+use Rattle.par2_packets.proofs.Common.{◌≡◌, ℕ, zero, suc, ◌-◌, ◌+◌, ◌≤◌, ◌<◌, ◌%◌, Bool, true, false, leb, eqb, List, [], ◌∷◌, length, drop, refl, sym, ap, subst, ◌∙◌, arith, bytes_eq, leb-true, and_parts, false_from_ne_true, length-take-le, length-drop, drop-drop, bytes_eq-Decides, md5, Packet, bytes_at, magic, claimed_length, accepted, begins_with_packet, first_packet, accepted_after}
 use Rattle.std.proofs.Math.Seq.{drop-length}
 use Rattle.memchr.specs.Find.{OccursAt, NoneBefore, Nowhere}
 use Rattle.memchr.proofs.lemmas.MatchLemmas.{OccursAt-from_part}
@@ -8,18 +8,15 @@ use Rattle.par2_spec.proofs.WrittenPackets.{in_front}
 
 -- ---- where a packet stands at the front
 
-fourth_and_fifth : (a b c d e f : Bool) → (a && b && c && d && e && f) ≡ true → (d ≡ true) × (e ≡ true)
-fourth_and_fifth a b c d e f h =
-    let x = and_parts (a && b && c && d && e) f h in
-    let y = and_parts (a && b && c && d) e x.0 in
-    ((and_parts (a && b && c) d y.0).1, y.1)
-
-pub claim_bounds : (text : List ℕ) → begins_with_packet text ≡ true → (64 ≤ claimed_length text) × (claimed_length text ≤ length text)
+-- what a packet begins with, and what it claims
+pub begun : (text : List ℕ) → begins_with_packet text ≡ true → (bytes_at 0 8 text ≡ magic) × (64 ≤ claimed_length text) × (claimed_length text ≤ length text)
 unfolding begins_with_packet
-claim_bounds text h =
-    let p = fourth_and_fifth (leb 64 (length text)) (bytes_eq (bytes_at 0 8 text) magic) (eqb (claimed_length text % 4) 0) (leb 64 (claimed_length text)) (leb (claimed_length text) (length text))
-    (bytes_eq (md5 (bytes_at 32 (claimed_length text - 32) text)) (bytes_at 16 16 text)) h in
-    (leb-true 64 (claimed_length text) p.0, leb-true (claimed_length text) (length text) p.1)
+begun text h =
+    let whole = and_parts _ (bytes_eq (md5 (bytes_at 32 (claimed_length text - 32) text)) (bytes_at 16 16 text)) h in
+    let high = and_parts _ (leb (claimed_length text) (length text)) whole.0 in
+    let low = and_parts _ (leb 64 (claimed_length text)) high.0 in
+    let start = and_parts (leb 64 (length text)) (bytes_eq (bytes_at 0 8 text) magic) (and_parts _ (eqb (claimed_length text % 4) 0) low.0).0 in
+    ((bytes_eq-Decides (bytes_at 0 8 text) magic).0 start.1, leb-true 64 (claimed_length text) low.1, leb-true (claimed_length text) (length text) high.1)
 
 -- what stands at a cursor that was looked at begins with a packet
 pub front : (here now old : List ℕ) (begins : Bool) → here ≡ now → now ≡ old → begins ≡ begins_with_packet old → begins ≡ true → begins_with_packet here ≡ true
@@ -28,15 +25,15 @@ front here now old begins is kept said holds = ap begins_with_packet (is ∙ kep
 pub body_length : (text : List ℕ) (p : Packet) → begins_with_packet text ≡ true → p ≡ first_packet text → 64 + length p.body ≡ claimed_length text
 unfolding first_packet
 body_length text p h e =
-    let b = claim_bounds text h in
+    let b = begun text h in
     let same : length p.body ≡ length (bytes_at 64 (claimed_length text - 64) text) = ap (λ (q : Packet). length q.body) e in
-    let room : claimed_length text - 64 ≤ length (drop 64 text) = omega (arith, length-drop 64 text, b.0, b.1) in
+    let room : claimed_length text - 64 ≤ length (drop 64 text) = omega (arith, length-drop 64 text, b.1, b.2) in
     let size : length (bytes_at 64 (claimed_length text - 64) text) ≡ claimed_length text - 64 = length-take-le (claimed_length text - 64) (drop 64 text) room in
-    omega (arith, same, size, b.0)
+    omega (arith, same, size, b.1)
 
 pub found : (text : List ℕ) (p : Packet) (after : List ℕ) → begins_with_packet text ≡ true → p ≡ first_packet text → after ≡ drop (64 + length p.body) text → accepted text ≡ p ∷ accepted after
 found text p after h e a =
-    let b = claim_bounds text h in
+    let b = begun text h in
     let rest : drop (claimed_length text) text ≡ after = ap (λ (n : ℕ). drop n text) (sym (body_length text p h e)) ∙ sym a in
     in_front text h ∙ ap (λ (q : Packet). q ∷ accepted (drop (claimed_length text) text)) (sym e) ∙ ap (λ (t : List ℕ). p ∷ accepted t) rest
 
@@ -50,19 +47,10 @@ step (b ∷ text) h = sym (accepted-none b text h)
 pub not_here : (text others : List ℕ) → begins_with_packet text ≡ false → others ≡ drop 1 text → accepted others ≡ accepted text
 not_here text others h e = ap accepted e ∙ step text h
 
--- a packet begins with the magic
-first_and_second : (a b c d e f : Bool) → (a && b && c && d && e && f) ≡ true → (a ≡ true) × (b ≡ true)
-first_and_second a b c d e f h =
-    and_parts a b (and_parts (a && b) c (and_parts (a && b && c) d (and_parts (a && b && c && d) e (and_parts (a && b && c && d && e) f h).0).0).0).0
-
 magic_there : (text : List ℕ) (k : ℕ) → begins_with_packet (drop k text) ≡ true → OccursAt text magic k
-unfolding begins_with_packet
 magic_there text k h =
-    let here : List ℕ = drop k text in
-    let parts = first_and_second (leb 64 (length here)) (bytes_eq (bytes_at 0 8 here) magic) (eqb (claimed_length here % 4) 0) (leb 64 (claimed_length here)) (leb (claimed_length here) (length here))
-    (bytes_eq (md5 (bytes_at 32 (claimed_length here - 32) here)) (bytes_at 16 16 here)) h in
-    let long : 64 ≤ length here = leb-true 64 (length here) parts.0 in
-    OccursAt-from_part text magic k (omega (arith, long, length-drop k text)) ((bytes_eq-Decides (bytes_at 0 8 here) magic).0 parts.1)
+    let here = begun (drop k text) h in
+    OccursAt-from_part text magic k (omega (arith, here.1, here.2, length-drop k text)) here.0
 
 none_there : (text : List ℕ) (k : ℕ) → ¬ OccursAt text magic k → begins_with_packet (drop k text) ≡ false
 none_there text k absent = false_from_ne_true (begins_with_packet (drop k text)) (λ there. absent (magic_there text k there))

@@ -1,5 +1,5 @@
 -- The order of identifiers by their numbers.
-use Rattle.par2_packets.proofs.Common.{◌≡◌, ◌≢◌, ℕ, suc, ◌+◌, ◌-◌, ◌*◌, ◌≤◌, ◌<◌, List, [], ◌∷◌, length, map, get_or, refl, sym, ap, ◌∙◌, arith, w128, from_le_bytes, AllPairs, AllAdjacentBelow, IsDistinct, bytes_eq, get_or-map, get_or_default, length-map, all_adjacent_more, IsPermutation-map, IsPermutation-sym, bytes_eq-Decides}
+use Rattle.par2_packets.proofs.Common.{ext_get_or, get_or-map, get_or_default, length-map, ◌≡◌, ◌≢◌, ℕ, zero, suc, ◌+◌, ◌-◌, ◌*◌, ◌≤◌, ◌<◌, List, [], ◌∷◌, length, map, get_or, sym, ap, ◌∙◌, arith, w128, from_le_bytes, AllPairs, AllAdjacentBelow, IsDistinct, bytes_eq, all_adjacent_more, IsPermutation-map, IsPermutation-sym, bytes_eq-Decides}
 use Rattle.std.specs.List.Sorted.{IsNonDecreasingBy, IsStrictlyIncreasing, IsPermutation}
 use Rattle.std.proofs.lemmas.List.Kept.{AllPairs-from_increasing}
 use Rattle.std.proofs.lemmas.Map.Keys.{IsDistinct-IsPermutation}
@@ -8,50 +8,30 @@ use Rattle.par2_spec.proofs.NamesLaws.{same_either_way}
 
 -- ---- sixteen bytes and their number
 
--- the number that bytes spell, the lowest first
-abbrev le_number : List ℕ → ℕ
-le_number [] = 0
-le_number (b ∷ bytes) = b + 256 * le_number bytes
+-- the number that n bytes spell, the lowest first
+abbrev number : (ℕ → ℕ) → ℕ → ℕ
+number bytes zero = 0
+number bytes (suc n) = bytes 0 + 256 * number (λ k. bytes (suc k)) n
 
-le_number_16 : (xs : List ℕ) → length xs ≡ 16 → from_le_bytes w128 xs ≡ le_number xs
-le_number_16 [] l = absurd (omega arith)
-le_number_16 (a ∷ []) size = absurd (omega arith)
-le_number_16 (a ∷ b ∷ []) size = absurd (omega arith)
-le_number_16 (a ∷ b ∷ c ∷ []) size = absurd (omega arith)
-le_number_16 (a ∷ b ∷ c ∷ d ∷ []) size = absurd (omega arith)
-le_number_16 (a ∷ b ∷ c ∷ d ∷ e ∷ []) size = absurd (omega arith)
-le_number_16 (a ∷ b ∷ c ∷ d ∷ e ∷ f ∷ []) size = absurd (omega arith)
-le_number_16 (a ∷ b ∷ c ∷ d ∷ e ∷ f ∷ g ∷ []) size = absurd (omega arith)
-le_number_16 (a ∷ b ∷ c ∷ d ∷ e ∷ f ∷ g ∷ h ∷ []) size = absurd (omega arith)
-le_number_16 (a ∷ b ∷ c ∷ d ∷ e ∷ f ∷ g ∷ h ∷ i ∷ []) size = absurd (omega arith)
-le_number_16 (a ∷ b ∷ c ∷ d ∷ e ∷ f ∷ g ∷ h ∷ i ∷ j ∷ []) size = absurd (omega arith)
-le_number_16 (a ∷ b ∷ c ∷ d ∷ e ∷ f ∷ g ∷ h ∷ i ∷ j ∷ k ∷ []) size = absurd (omega arith)
-le_number_16 (a ∷ b ∷ c ∷ d ∷ e ∷ f ∷ g ∷ h ∷ i ∷ j ∷ k ∷ l ∷ []) size = absurd (omega arith)
-le_number_16 (a ∷ b ∷ c ∷ d ∷ e ∷ f ∷ g ∷ h ∷ i ∷ j ∷ k ∷ l ∷ m ∷ []) size = absurd (omega arith)
-le_number_16 (a ∷ b ∷ c ∷ d ∷ e ∷ f ∷ g ∷ h ∷ i ∷ j ∷ k ∷ l ∷ m ∷ n ∷ []) size = absurd (omega arith)
-le_number_16 (a ∷ b ∷ c ∷ d ∷ e ∷ f ∷ g ∷ h ∷ i ∷ j ∷ k ∷ l ∷ m ∷ n ∷ o ∷ []) size = absurd (omega arith)
-le_number_16 (a ∷ b ∷ c ∷ d ∷ e ∷ f ∷ g ∷ h ∷ i ∷ j ∷ k ∷ l ∷ m ∷ n ∷ o ∷ p ∷ []) size = omega arith
-le_number_16 (a ∷ b ∷ c ∷ d ∷ e ∷ f ∷ g ∷ h ∷ i ∷ j ∷ k ∷ l ∷ m ∷ n ∷ o ∷ p ∷ q ∷ xs) size = absurd (omega arith)
+number_16 : (xs : List ℕ) → from_le_bytes w128 xs ≡ number (λ k. get_or xs k 0) 16
+number_16 xs = omega arith
 
-abbrev AreBytes : List ℕ → Type 0
-AreBytes xs = (k : ℕ) → get_or xs k 0 < 256
+abbrev AreBytes : (ℕ → ℕ) → Type 0
+AreBytes bytes = (k : ℕ) → bytes k < 256
 
 same_parts : (a b m n : ℕ) → a < 256 → b < 256 → a + 256 * m ≡ b + 256 * n → (a ≡ b) × (m ≡ n)
 same_parts a b m n a' b' is = (omega arith, omega arith)
 
-same_bytes : (xs ys : List ℕ) → length xs ≡ length ys → AreBytes xs → AreBytes ys → le_number xs ≡ le_number ys → xs ≡ ys
-same_bytes [] [] l p q is = refl
-same_bytes [] (y ∷ ys) l p q is = absurd (let e : 0 ≡ suc (length ys) = l in omega arith)
-same_bytes (x ∷ xs) [] l p q is = absurd (let e : suc (length xs) ≡ 0 = l in omega arith)
-same_bytes (x ∷ xs) (y ∷ ys) l p q is =
-    let parts = same_parts x y (le_number xs) (le_number ys) (p 0) (q 0) is in
-    let shorter : suc (length xs) ≡ suc (length ys) = l in
-    let rest : xs ≡ ys = same_bytes xs ys (omega arith) (λ k. p (suc k)) (λ k. q (suc k)) parts.1 in
-    λ i. parts.0 i ∷ rest i
+same_bytes : (f g : ℕ → ℕ) (n : ℕ) → AreBytes f → AreBytes g → number f n ≡ number g n → (k : ℕ) → k < n → f k ≡ g k
+same_bytes f g zero p q is k low = absurd (omega (arith, low))
+same_bytes f g (suc n) p q is zero low = (same_parts (f 0) (g 0) _ _ (p 0) (q 0) is).0
+same_bytes f g (suc n) p q is (suc k) low =
+    same_bytes (λ i. f (suc i)) (λ i. g (suc i)) n (λ i. p (suc i)) (λ i. q (suc i)) (same_parts (f 0) (g 0) _ _ (p 0) (q 0) is).1 k (omega (arith, low))
 
 -- identifiers with one number are equal
-pub same_ids : (xs ys : List ℕ) → length xs ≡ 16 → length ys ≡ 16 → AreBytes xs → AreBytes ys → from_le_bytes w128 xs ≡ from_le_bytes w128 ys → xs ≡ ys
-same_ids xs ys l m p q is = same_bytes xs ys (l ∙ sym m) p q (sym (le_number_16 xs l) ∙ is ∙ le_number_16 ys m)
+pub same_ids : (xs ys : List ℕ) → length xs ≡ 16 → length ys ≡ 16 → AreBytes (λ k. get_or xs k 0) → AreBytes (λ k. get_or ys k 0) → from_le_bytes w128 xs ≡ from_le_bytes w128 ys → xs ≡ ys
+same_ids xs ys l m p q is =
+    ext_get_or 0 xs ys (l ∙ sym m) (λ k low. same_bytes (λ i. get_or xs i 0) (λ i. get_or ys i 0) 16 p q (sym (number_16 xs) ∙ is ∙ number_16 ys) k (omega (arith, low, l)))
 
 -- ---- what is sorted rises where no two neighbours are equal
 

@@ -1,5 +1,5 @@
 -- Items of one length, one after the other.
-use Rattle.par2_packets.proofs.Common.{◌≡◌, ℕ, ◌+◌, ◌-◌, ◌*◌, ◌/◌, ◌≤◌, ◌<◌, List, Some, length, take, drop, map, slice_get, sym, ap, ◌∙◌, arith, range_with_len, length-map, take-take, drop-drop, drop-take, length-map-range_with_len, get_or-map-range_with_len, w32, from_le_bytes, MainBody, IfscBody, bytes_at, items_at, Pair, u32_at}
+use Rattle.par2_packets.proofs.Common.{◌≡◌, ℕ, ◌+◌, ◌-◌, ◌*◌, ◌/◌, ◌≤◌, ◌<◌, List, Some, length, take, drop, map, slice_get, sym, ap, ◌∙◌, arith, range_with_len, length-map, take-take, drop-drop, drop-take, length-map-range_with_len, get_or-map-range_with_len, w32, from_le_bytes, MainBody, IfscBody, bytes_at, items_at, u32_at, Pair}
 use Rattle.std.proofs.lemmas.Option.{slice_get-get_or, slice_get-map}
 use Rattle.std.specs.Option.{option_map}
 use Rattle.par2_packets.specs.Bodies.{main_said, ifsc_said}
@@ -16,9 +16,6 @@ at_range : {X : Type 0} (f : ℕ → X) (n k : ℕ) → k < n → slice_get (map
 at_range f n k lt =
     slice_get-get_or (map f (range_with_len 0 n)) k (f 0) (let size : length (map f (range_with_len 0 n)) ≡ n = length-map-range_with_len f 0 n in omega arith)
     ∙ ap (λ x. Some x) (get_or-map-range_with_len f 0 n k k (f 0) lt (let e : 0 + k ≡ k = omega arith in e))
-
-id_there : (body : List ℕ) (k : ℕ) → k < u32_at 8 body → slice_get (main_said body).ids k ≡ Some (bytes_at (12 + 16 * k) 16 body)
-id_there body k lt = at_range (λ j. bytes_at (12 + 16 * j) 16 body) (u32_at 8 body) k lt
 
 -- the parts of a pair, where it lies
 pair_parts : (body : List ℕ) (o : ℕ) → (take 16 (bytes_at o 20 body) ≡ bytes_at o 16 body) × (u32_at 16 (bytes_at o 20 body) ≡ u32_at (o + 16) body)
@@ -48,7 +45,7 @@ id_fits main body k is room lt =
 pub id_of_view : (main : MainBody) (body : List ℕ) (k : ℕ) → main_said body ≡ main → k < length main.ids → slice_get main.ids k ≡ Some (bytes_at (12 + 16 * k) 16 body)
 id_of_view main body k is lt =
     let size : length main.ids ≡ u32_at 8 body = ap (λ (m : MainBody). length m.ids) (sym is) ∙ ids_count body in
-    ap (λ (m : MainBody). slice_get m.ids k) (sym is) ∙ id_there body k (omega (arith, size, lt))
+    ap (λ (m : MainBody). slice_get m.ids k) (sym is) ∙ at_range (λ j. bytes_at (12 + 16 * j) 16 body) (u32_at 8 body) k (omega (arith, size, lt))
 
 pub pair_fits : (ifsc : IfscBody) (body : List ℕ) (k : ℕ) → ifsc_said body ≡ ifsc → 16 ≤ length body → k < length ifsc.pairs → 16 + 20 * k + 20 ≤ length body
 pair_fits ifsc body k is room lt =

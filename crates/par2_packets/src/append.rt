@@ -4,15 +4,15 @@ ghost use Rattle.std.specs.Prelude.{◌≡◌, ◌≤◌, ◌+◌, ◌-◌, ◌%
 ghost use Rattle.md5.specs.Md5.{md5};
 ghost use Rattle.par2_spec.specs.Answers.{Appends};
 ghost use Rattle.par2_spec.specs.Packets.{packet, digest_input};
-ghost use Rattle.par2_spec.specs.Volumes.{packet_of, main_id, main_bytes, desc_bytes, ifsc_bytes, creator_bytes, recovery_bytes, padded_4};
+ghost use Rattle.par2_spec.specs.Volumes.{packet_of, main_id, main_bytes, desc_bytes, ifsc_bytes, creator_bytes, recovery_bytes};
 ghost use Rattle.par2_packets.specs.Views.{file_record_of};
 
 use crate::bytes::{u32_bytes, u64_bytes};
 use crate::kind::type_of;
 use crate::record::FileRecord;
 use md5::{Digest, Md5};
-use par2_spec::Kind;
-use std::alloc::{AllocError, Global};
+use par2_spec::{Kind, Result};
+use std::alloc::Global;
 
 // The packet whose body is given in two parts.
 fn append_packet(
@@ -21,7 +21,7 @@ fn append_packet(
     kind: Kind,
     head: &[u8],
     tail: &[u8],
-) -> Result<(), AllocError>
+) -> Result<()>
     requires { 64 + length head.now + length tail.now ≤ usize.MAX }
     ensures ok { let added = packet_of set_id.now kind (head.now ++ tail.now) in
         OnOk result (out.new.items ≡ out.old.items ++ packet added) }
@@ -41,21 +41,8 @@ fn append_packet(
     out.extend_from_slice(tail)
 }
 
-// The text and zeros up to a multiple of 4, after what is there.
-fn append_padded(out: &mut Vec<u8>, text: &[u8]) -> Result<(), AllocError>
-    ensures { OnOk result (out.new.items ≡ out.old.items ++ padded_4 text.now) }
-{
-    out.extend_from_slice(text)?;
-    out.resize(out.len() + (4 - text.len() % 4) % 4, 0)
-}
-
 /// Adds the Main of a set of these files, whose order it keeps.
-pub fn append_main(
-    alloc: Global,
-    out: &mut Vec<u8>,
-    s: u64,
-    files: &[FileRecord],
-) -> Result<(), AllocError>
+pub fn append_main(alloc: Global, out: &mut Vec<u8>, s: u64, files: &[FileRecord]) -> Result<()>
     requires { length files.now ≤ 32768 }
     ensures ok { let records = map file_record_of files.now in
         let main = packet_of (main_id s records) Kind.Main (main_bytes s records) in
@@ -76,7 +63,7 @@ pub fn append_desc(
     out: &mut Vec<u8>,
     set_id: &[u8; 16],
     file: &FileRecord,
-) -> Result<(), AllocError>
+) -> Result<()>
     ensures ok { let added = packet_of set_id.now Kind.FileDesc (desc_bytes
         (file_record_of file.now)) in OnOk result (out.new.items ≡ out.old.items ++ packet added) }
     ensures err { OnErr result (out.new.items ≡ out.old.items) }
@@ -84,7 +71,9 @@ pub fn append_desc(
     let ids = [file.id, file.md5, file.md5_16k];
     let mut body = Vec::from_slice(alloc, ids.as_flattened())?;
     body.extend_from_slice(&u64_bytes(file.length))?;
-    append_padded(&mut body, file.name.as_bytes())?;
+    let name = file.name.as_bytes();
+    body.extend_from_slice(name)?;
+    body.resize(body.len() + (4 - name.len() % 4) % 4, 0)?;
     append_packet(out, set_id, Kind::FileDesc, &body, &[])
 }
 
@@ -94,7 +83,7 @@ pub fn append_ifsc(
     out: &mut Vec<u8>,
     set_id: &[u8; 16],
     file: &FileRecord,
-) -> Result<(), AllocError>
+) -> Result<()>
     ensures ok { let added = packet_of set_id.now Kind.Ifsc (ifsc_bytes
         (file_record_of file.now)) in OnOk result (out.new.items ≡ out.old.items ++ packet added) }
     ensures err { OnErr result (out.new.items ≡ out.old.items) }
@@ -108,11 +97,7 @@ pub fn append_ifsc(
 }
 
 /// Adds the Creator, which names this program's profile.
-pub fn append_creator(
-    _alloc: Global,
-    out: &mut Vec<u8>,
-    set_id: &[u8; 16],
-) -> Result<(), AllocError>
+pub fn append_creator(_alloc: Global, out: &mut Vec<u8>, set_id: &[u8; 16]) -> Result<()>
     ensures ok { let added = packet_of set_id.now Kind.Creator creator_bytes in
         OnOk result (out.new.items ≡ out.old.items ++ packet added) }
     ensures err { OnErr result (out.new.items ≡ out.old.items) }
@@ -127,7 +112,7 @@ pub fn append_recovery(
     set_id: &[u8; 16],
     e: u32,
     bytes: &[u8],
-) -> Result<(), AllocError>
+) -> Result<()>
     requires { length bytes.now % 4 ≡ 0 }
     ensures ok { let added = packet_of set_id.now Kind.Recovery (recovery_bytes e bytes.now) in
         OnOk result (out.new.items ≡ out.old.items ++ packet added) }

@@ -8,6 +8,7 @@ ghost use Rattle.par2_packets.specs.Runs.{AreDigests, IsPlace};
 use crate::bytes::u64_at;
 use md5::{Digest, Md5};
 use par2_digests::{LANES, window_digests};
+use std::array;
 
 pub(crate) const MAGIC: &[u8; 8] = b"PAR2\0PKT";
 
@@ -30,11 +31,7 @@ impl Run {
         }
         let from_start = at - self.start;
         let place = from_start / len;
-        if from_start % len == 0 && place < self.count {
-            Some(place)
-        } else {
-            None
-        }
+        (from_start % len == 0 && place < self.count).then_some(place)
     }
 }
 
@@ -46,11 +43,7 @@ fn starts(at: usize, len: usize, count: usize) -> [usize; LANES]
     requires end { at + count * len < 2 ^ 64 }
     ensures { (k : ℕ) → k < 8 → slice_index result k ≡ at + min k (count - 1) * len + 32 }
 {
-    let mut starts = [0; LANES];
-    for k in 0..LANES {
-        starts[k] = at + k.min(count - 1) * len + 32;
-    }
-    starts
+    array::from_fn(|lane| at + lane.min(count - 1) * len + 32)
 }
 
 // The run of `count` packets of this length, eight at most, that begins at `at`.
@@ -103,11 +96,7 @@ impl<'a> Digested<'a> {
     fn digest_of(&self, bytes: &[u8]) -> Option<[u8; 16]>
         ensures { IfSome result (λ digest. digest ≡ md5 bytes.now) }
     {
-        if self.bytes == bytes {
-            Some(self.digest)
-        } else {
-            None
-        }
+        (self.bytes == bytes).then_some(self.digest)
     }
 }
 

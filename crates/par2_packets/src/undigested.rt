@@ -12,8 +12,8 @@ ghost use Rattle.par2_packets.specs.Recoveries.{undigested, digested, AreDigeste
 use crate::bytes::{u32_bytes, u64_bytes};
 use crate::kind::type_of;
 use par2_digests::text_digests;
-use par2_spec::Kind;
-use std::alloc::{AllocError, Global};
+use par2_spec::{Kind, Result};
+use std::alloc::Global;
 
 // How many packets are digested at a time.
 const GROUP: usize = 1024;
@@ -22,7 +22,7 @@ const GROUP: usize = 1024;
 const HEAD: usize = 68;
 
 // Adds zeros.
-fn append_zeros(out: &mut Vec<u8>, count: usize) -> Result<(), AllocError>
+fn append_zeros(out: &mut Vec<u8>, count: usize) -> Result<()>
     ensures { OnOk result (out.new.items ≡ out.old.items ++ replicate count 0) }
 {
     out.reserve(count)?;
@@ -30,12 +30,7 @@ fn append_zeros(out: &mut Vec<u8>, count: usize) -> Result<(), AllocError>
 }
 
 // Adds the packet of exponent `e`, with zeros for the slice and for the MD5.
-fn append_undigested(
-    out: &mut Vec<u8>,
-    set_id: &[u8; 16],
-    e: u32,
-    size: usize,
-) -> Result<(), AllocError>
+fn append_undigested(out: &mut Vec<u8>, set_id: &[u8; 16], e: u32, size: usize) -> Result<()>
     requires { 68 + size ≤ usize.MAX }
     ensures { Appends (undigested set_id.now e (replicate size 0)) out.old out.new result }
 {
@@ -54,7 +49,7 @@ pub fn with_undigested(
     first: u32,
     count: u32,
     size: usize,
-) -> Result<Vec<u8>, AllocError>
+) -> Result<Vec<u8>>
     requires fits { 68 + size ≤ usize.MAX }
     requires exponents { first + count ≤ 65536 }
     ensures { let added = λ (e : ℕ). undigested set_id.now e (replicate size 0) in
@@ -92,7 +87,7 @@ fn digests(
     len: usize,
     first: usize,
     count: usize,
-) -> Result<Vec<[u8; 16]>, AllocError>
+) -> Result<Vec<[u8; 16]>>
     requires packets { (first + count) * len ≤ length packets.now }
     requires head { 32 ≤ len }
     ensures { IfOk result (λ digests. digests.items ≡ map
@@ -111,7 +106,7 @@ fn digest_group(
     len: usize,
     first: usize,
     count: usize,
-) -> Result<(), AllocError>
+) -> Result<()>
     requires packets { (first + count) * len ≤ length packets.old }
     requires head { 32 ≤ len }
     ensures { OnOk result (AreDigested len first (first + count) packets.old packets.new) }
@@ -124,12 +119,7 @@ fn digest_group(
 }
 
 /// Puts the MD5 of each recovery packet at its place. The slices have `size` bytes.
-pub fn digest_recoveries(
-    alloc: Global,
-    packets: &mut [u8],
-    size: usize,
-    count: usize,
-) -> Result<(), AllocError>
+pub fn digest_recoveries(alloc: Global, packets: &mut [u8], size: usize, count: usize) -> Result<()>
     requires fits { 68 + size ≤ usize.MAX }
     requires packets { count * (68 + size) ≤ length packets.old }
     ensures { OnOk result ((set_id : List ℕ) (first : ℕ) (slice : ℕ → List ℕ)

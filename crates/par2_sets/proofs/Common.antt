@@ -1,17 +1,14 @@
 -- The names that proofs of this crate take from elsewhere.
 
-pub use Rattle.std.proofs.Common.{Bool, Err, IsTrue, List, None, Ok, Option, Result, Some, T, [], ap, ap₂, arith, cond, drop, eq-eqb, false, flat_map, get_or, inl, inr, length, map, not, refl, rules, subst, suc, sum_by, sym, take, true, zero, ℕ, ◌&&◌, ◌++◌, ◌+◌, ◌-◌, ◌<◌, ◌==◌, ◌^◌, ◌||◌, ◌∙◌, ◌∷◌, ◌≡◌, ◌≤◌, ◌⊎◌}
+pub use Rattle.std.proofs.Common.{Bool, Err, IsTrue, List, None, Ok, Option, Result, Some, T, [], ap, ap₂, arith, cond, drop, eq-eqb, false, flat_map, get_or, inl, inr, length, map, map-id, not, refl, rules, subst, suc, sum_by, sym, take, true, zero, ℕ, ◌&&◌, ◌++◌, ◌+◌, ◌-◌, ◌<◌, ◌==◌, ◌^◌, ◌||◌, ◌∙◌, ◌∷◌, ◌≡◌, ◌≤◌, ◌⊎◌}
 pub use Rattle.std.proofs.lemmas.Bool.{and_from, cases_lt, eqb-true, false_from_ne_true, false≢true, leb-true, lt-ltb, ltb-true}
 pub use Rattle.std.proofs.lemmas.Fn.{filter_same}
-pub use Rattle.std.proofs.lemmas.Grind.{common_steps, reverse_onto}
-pub use Rattle.std.proofs.lemmas.Iterator.{YieldsList-from_map, YieldsList-from_map_by, YieldsList-from_slice, items_from_drains}
-pub use Rattle.std.proofs.lemmas.Iterator.Adapters.{YieldsList-from_rev_slice, fact_from_collect}
+pub use Rattle.std.proofs.lemmas.Iterator.{YieldsList, YieldsList-from_map, YieldsList-from_map_by, YieldsList-from_slice, items_from_drains}
 pub use Rattle.std.proofs.lemmas.Iterator.Consumers.{YieldsList-at, YieldsList-from_filter_map}
-pub use Rattle.std.proofs.lemmas.List.{append-nil, length-map, map_more, take_more}
+pub use Rattle.std.proofs.lemmas.List.{length-map, map_more, take_more}
 pub use Rattle.std.proofs.lemmas.Map.Made.{IsDistinct-from_count, distinct_count-from_IsDistinct, lookup-map_values}
 pub use Rattle.std.proofs.lemmas.Map.Text.{is_eq-slice_cmp}
 pub use Rattle.std.proofs.lemmas.Result.{IfOk-weaker, err_from_is_err_and}
-pub use Rattle.std.specs.BTreeMap.{BTreeMap, IsFromIterResult, get}
 pub use Rattle.std.specs.Borrow.{Bor}
 pub use Rattle.std.specs.Cmp.{IsEquivalence, IsTotalOrder, eq_by_cmp_equiv, nat_cmp_total, on_total}
 pub use Rattle.std.specs.Cmp.Lexicographic.{nat_list_cmp_total, nat_list_eq_equiv, slice_cmp, texts_ties}
@@ -19,18 +16,18 @@ pub use Rattle.std.specs.FinMap.{FinMap, entries, entries-from_sorted, entries_s
 pub use Rattle.std.specs.List.{AllByRecursion, IsDistinct, cons_option, list_all, list_any, range_with_len}
 pub use Rattle.std.specs.List.Sorted.{IsStrictlyIncreasing}
 unfoldable pub use Rattle.std.specs.List.Sorted.{IsStrictlySortedBy}
-pub use Rattle.std.specs.Map.{keys_of, lookup, update, update_all}
+pub use Rattle.std.specs.Map.{keys_of, lookup}
 pub use Rattle.std.specs.Ordering.{eq_by_cmp, is_eq, is_lt, nat_cmp, ordering_then}
-pub use Rattle.std.specs.Prelude.{IfErr, IfOk, IsErrAnd, IsOk, filter, filter_map, find, if◌then◌else◌, is_ok, is_some, nat_lt, ok_or, option_and_then, option_map, reverse, slice_get, unwrap_or}
+pub use Rattle.std.specs.Prelude.{IfErr, IfOk, IsErrAnd, IsOk, filter, filter_map, find, if◌then◌else◌, is_some, nat_lt, ok_or, option_and_then, option_map, slice_get, unwrap_or}
 pub use Rattle.std.specs.Set.{distinct_count, is_member, unique_keys}
 pub use Rattle.std.specs.Str.{bytes_eq}
 pub use Rattle.std.specs.declared.cmp.Ordering.TheVariants.{Equal, Greater, Less}
 pub use Rattle.par2_packets.specs.Views.{packet_of, packets_of}
 pub use Rattle.par2_sets.specs.Asides.{HoldsNames, long_aside}
-pub use Rattle.par2_sets.specs.Firsts.{HoldChecksums, HoldDescriptions, count_cmp, id_cmp}
+pub use Rattle.par2_sets.specs.Firsts.{HasFirsts, HoldChecksums, HoldDescriptions, count_cmp, id_cmp}
 pub use Rattle.par2_sets.specs.Slices.{entry_of, exponents_of, recovered_of, set_view, usable}
 pub use Rattle.par2_sets.specs.Steps.{Gives, descriptions_of, set_in, set_packets, targets_or_fault}
-pub use Rattle.par2_spec.proofs.ListsLaws.{filter_map-map, map-reverse}
+pub use Rattle.par2_spec.proofs.ListsLaws.{filter_map-map}
 pub use Rattle.par2_spec.proofs.NameTests.{name_is_short, no_name}
 pub use Rattle.par2_spec.proofs.NamesLaws.{among-append, distinct_from_std, distinct_same, same_either_way, std_from_distinct}
 pub use Rattle.par2_spec.proofs.ReadLaws.{distinct_by_length, was_some}
@@ -40,7 +37,7 @@ pub use Rattle.par2_spec.specs.Names.{distinct, is_among, is_name, is_par_name, 
 pub use Rattle.par2_spec.specs.Packets.{DescBody, IfscBody, MainBody, Packet, RecoveryBody, accepted, read_desc, read_ifsc, read_main, read_recovery}
 pub use Rattle.par2_spec.specs.Repairs.{is_par_file, taken_for}
 unfoldable pub use Rattle.par2_spec.specs.Repairs.{aside}
-pub use Rattle.par2_spec.specs.Sets.{IsSound, ParSet, Target, all_some, are_in_profile, description_of, is_slice_size, main_of, packets_with, recovery_of, target_names, target_of, unless, ◌>>=◌}
+pub use Rattle.par2_spec.specs.Sets.{IsSound, ParSet, Target, all_some, are_in_profile, description_of, is_slice_size, main_of, packets_with, recovery_of, target_names, target_of, ◌>>=◌}
 unfoldable pub use Rattle.par2_spec.specs.Sets.{read_set, set_of}
 pub use Rattle.par2_spec.specs.declared.Fault.{Fault}
-pub use Rattle.par2_spec.specs.declared.Fault.TheVariants.{BadSet, Memory, NameTooLong, NoChecksums, NoDescription, NoMain, NoPackets}
+pub use Rattle.par2_spec.specs.declared.Fault.TheVariants.{Memory, NameTooLong, NoChecksums, NoDescription, NoPackets}

@@ -1,5 +1,5 @@
 -- The recovery slices of the packets, by their exponents.
-use Rattle.par2_sets.proofs.Common.{◌≡◌, ℕ, ◌==◌, ◌&&◌, T, Bool, true, false, cond, List, [], ◌∷◌, Option, Some, None, length, map, refl, sym, ap, ◌∙◌, subst, nat_lt, filter, filter_map, option_map, option_and_then, if◌then◌else◌, Bor, Less, nat_cmp, is_lt, eq_by_cmp, nat_cmp_total, cons_option, AllByRecursion, IsStrictlyIncreasing, lookup, keys_of, FinMap, is_sorted, same_map, same_entries_map, entries_sorted, nat_cmp-IsAntisymmetric, entries-from_sorted, get-from_sorted, get-from_entries, Packet, RecoveryBody, read_recovery, recovery_of, entry_of, exponents_of, recovered_of, usable, lookup-map_values, IsStrictlySortedBy}
+use Rattle.par2_sets.proofs.Common.{◌≡◌, ℕ, ◌==◌, ◌&&◌, T, Bool, true, false, cond, List, [], ◌∷◌, Option, Some, None, length, map, refl, sym, ap, ◌∙◌, subst, nat_lt, filter, filter_map, option_map, option_and_then, if◌then◌else◌, Bor, Less, nat_cmp, is_lt, eq_by_cmp, nat_cmp_total, cons_option, AllByRecursion, IsStrictlyIncreasing, IsStrictlySortedBy, lookup, keys_of, FinMap, is_sorted, same_map, same_entries_map, entries_sorted, nat_cmp-IsAntisymmetric, entries-from_sorted, get-from_sorted, get-from_entries, Packet, RecoveryBody, read_recovery, recovery_of, entry_of, exponents_of, recovered_of, usable, lookup-map_values}
 use Rattle.std.proofs.Math.Facts.{yes_and}
 use Rattle.std.proofs.lemmas.Map.Keys.{sorted_from_strictly_increasing, IsStrictlyIncreasing-from_sorted}
 use Rattle.std.specs.FinMap as map_of

@@ -1,69 +1,85 @@
--- Maps of what packets hold: the packets come in reverse, so that the first value of each key is kept.
-use Rattle.par2_sets.proofs.Common.{◌≡◌, ℕ, ◌&&◌, ◌==◌, Bool, true, false, cond, List, [], ◌∷◌, ◌++◌, Option, Some, None, map, refl, sym, ap, ap₂, ◌∙◌, arith, filter_map, find, option_map, option_and_then, reverse, BTreeMap, get, IsFromIterResult, IsTotalOrder, IsEquivalence, eq_by_cmp_equiv, append-nil, cons_option, lookup, update, update_all, eq_by_cmp, is_eq, nat_cmp, ordering_then, bytes_eq, Less, Equal, Greater, same_either_way, id_cmp, count_cmp, reverse_onto, is_eq-slice_cmp}
+-- Maps that keep the first value of each key.
+use Rattle.par2_sets.proofs.Common.{◌≡◌, ℕ, ◌&&◌, ◌==◌, Bool, true, false, cond, List, [], ◌∷◌, ◌++◌, Option, Some, None, Result, Ok, Err, map, refl, sym, ap, ap₂, subst, ◌∙◌, arith, map-id, filter_map, find, option_map, option_and_then, is_some, IfOk, false≢true, IsTotalOrder, IsEquivalence, eq_by_cmp_equiv, cons_option, lookup, eq_by_cmp, is_eq, nat_cmp, ordering_then, bytes_eq, Less, Equal, Greater, same_either_way, id_cmp, count_cmp, HasFirsts, is_eq-slice_cmp, YieldsList}
+use Rattle.std.specs.BTreeMap.{BTreeMap, get}
 use Rattle.std.specs.declared.cmp.Ordering.{Ordering}
-use Rattle.std.proofs.lemmas.List.Elements.{filter_map-append}
-use Rattle.std.proofs.lemmas.List.Sums.{fold-append}
+use Rattle.std.specs.BTreeMap.{Updates}
+use Rattle.std.specs.Iterator.{Drains}
+use Rattle.std.specs.Option.{option_or}
+use Rattle.std.proofs.iter.Yields.{gives_Drains}
 
--- ---- entries in reverse
+-- ---- one entry more
 
-module _ {K X : Type 0} (E : K → K → Bool) where
-  -- entries that come in reverse leave the first value of each key
-  pub first_of : IsEquivalence E → (es : List (K × X)) (q : K) → update_all E (λ _. None) (reverse es) q ≡ lookup (E q) es
-  first_of laws [] q = refl
-  first_of laws (e ∷ es) q =
-      ap (λ xs. update_all E (λ _. None) xs q) (reverse_onto es e [])
-      ∙ ap (λ g. g q) (fold-append (λ g p. update E g p.0 (Some p.1)) (λ _. None) (reverse es) (e ∷ []))
-      ∙ ap₂ (λ t o. cond t (Some e.1) o) (laws.symm e.0 q) (first_of laws es q)
-
-  -- a view of the values
-  pub viewed : {Y : Type 0} (v : X → Y) (es : List (K × X)) (f : K → Option X) (q : K)
-      → option_map v (update_all E f es q) ≡ update_all E (λ k. option_map v (f k)) (map (λ e. (e.0, v e.1)) es) q
-  viewed v [] f q = refl
-  viewed v (e ∷ es) f q =
-      viewed v es (update E f e.0 (Some e.1)) q ∙ ap (λ g. update_all E g (map (λ x. (x.0, v x.1)) es) q) (λ i k. at (E e.0 k) (f k) i)
-    where
-      at : (t : Bool) (o : Option X) → option_map v (cond t (Some e.1) o) ≡ cond t (Some (v e.1)) (option_map v o)
-      at true o = refl
-      at false o = refl
-
-pub filter_map-reverse : {A B : Type 0} (f : A → Option B) (xs : List A) → filter_map f (reverse xs) ≡ reverse (filter_map f xs)
-filter_map-reverse f [] = refl
-filter_map-reverse {B = B} f (x ∷ xs) =
-    ap (filter_map f) (reverse_onto xs x []) ∙ filter_map-append f (reverse xs) (x ∷ [])
-    ∙ ap (λ ys. ys ++ filter_map f (x ∷ [])) (filter_map-reverse f xs) ∙ step (f x)
+lookup_more : {K X : Type 0} (test : K → Bool) (es : List (K × X)) (e : K × X) → lookup test (es ++ e ∷ []) ≡ option_or (lookup test es) (cond (test e.0) (Some e.1) None)
+lookup_more test [] e = refl
+lookup_more test (x ∷ es) e = step (test x.0) (lookup_more test es e)
   where
-    step : (o : Option B) → reverse (filter_map f xs) ++ cons_option o [] ≡ reverse (cons_option o (filter_map f xs))
-    step None = append-nil _
-    step (Some y) = sym (reverse_onto (filter_map f xs) y [])
+    step : (b : Bool) → lookup test (es ++ e ∷ []) ≡ option_or (lookup test es) (cond (test e.0) (Some e.1) None)
+        → cond b (Some x.1) (lookup test (es ++ e ∷ [])) ≡ option_or (cond b (Some x.1) (lookup test es)) (cond (test e.0) (Some e.1) None)
+    step true h = refl
+    step false h = h
 
--- a map that was collected from such entries
-pub has_first : {P K X : Type 0} {R : K → K → Ordering} → IsTotalOrder R → (entry : P → Option (K × X)) (ps : List P) (m : BTreeMap K X)
-    → IsFromIterResult R (filter_map entry (reverse ps)) m → (q : K) → get R m q ≡ lookup (eq_by_cmp R q) (filter_map entry ps)
-has_first {R = R} total entry ps m made q =
-    made.0 q ∙ ap (λ es. update_all (eq_by_cmp R) (λ _. None) es q) (filter_map-reverse entry ps)
-    ∙ first_of (eq_by_cmp R) (eq_by_cmp_equiv total) (filter_map entry ps) q
+-- keys that the order doesn't tell apart have one value
+same_value : {K X : Type 0} {E : K → K → Bool} → IsEquivalence E → (es : List (K × X)) (a b : K) → E a b ≡ true → lookup (E a) es ≡ lookup (E b) es
+same_value laws [] a b same = refl
+same_value laws (e ∷ es) a b same = ap₂ (λ t rest. cond t (Some e.1) rest) (laws.congr a b e.0 same) (same_value laws es a b same)
+
+module _ {K X : Type 0} {R : K → K → Ordering} (total : IsTotalOrder R) (es : List (K × X)) (key : K) (value : X) (old : BTreeMap K X) (so_far : HasFirsts R es old) where
+  at_key : (q : K) → eq_by_cmp R q key ≡ true → is_some (lookup (eq_by_cmp R q) es) ≡ is_some (get R old key)
+  at_key q same = ap is_some (same_value (eq_by_cmp_equiv total) es q key same ∙ sym (so_far key))
+
+  -- its key has a value
+  pub first_stays : is_some (get R old key) ≡ true → HasFirsts R (es ++ (key, value) ∷ []) old
+  first_stays some q = so_far q ∙ stays (lookup (eq_by_cmp R q) es) (eq_by_cmp R q key) (λ same. at_key q same ∙ some) ∙ sym (lookup_more (eq_by_cmp R q) es (key, value))
+    where
+      stays : (o : Option X) (t : Bool) → (t ≡ true → is_some o ≡ true) → o ≡ option_or o (cond t (Some value) None)
+      stays (Some x) t h = refl
+      stays None true h = absurd (false≢true (h refl))
+      stays None false h = refl
+
+  -- its key has none
+  pub first_added : (new : BTreeMap K X) → is_some (get R old key) ≡ false → Updates R old new key (Some value) → HasFirsts R (es ++ (key, value) ∷ []) new
+  first_added new none puts q =
+      puts.0 q ∙ ap₂ (λ t o. cond t (Some value) o) ((eq_by_cmp_equiv total).symm key q) (so_far q)
+      ∙ added (lookup (eq_by_cmp R q) es) (eq_by_cmp R q key) (λ same. at_key q same ∙ none) ∙ sym (lookup_more (eq_by_cmp R q) es (key, value))
+    where
+      added : (o : Option X) (t : Bool) → (t ≡ true → is_some o ≡ false) → cond t (Some value) o ≡ option_or o (cond t (Some value) None)
+      added None t h = refl
+      added (Some x) true h = absurd (false≢true (sym (h refl)))
+      added (Some x) false h = refl
+
+-- the items of a chain
+pub items_of : {S A B : Type 0} {steps : S → Option A → S → Type 0} {s : S} {all : List B} (v : A → B) (xs : List A) → Drains steps s xs → YieldsList steps v s all → map v xs ≡ all
+items_of {steps = steps} {s = s} {all = all} v xs ran road = gives_Drains steps v xs all s road.runs ran
+
+-- what `firsts` answers for them
+pub firsts_of : {S K X E : Type 0} {steps : S → Option (K × X) → S → Type 0} {s : S} {all : List (K × X)} (R : K → K → Ordering) (r : Result (BTreeMap K X) E)
+    → IfOk r (λ m. (es : List (K × X)) × Drains steps s es × HasFirsts R es m) → YieldsList steps (λ x. x) s all → IfOk r (HasFirsts R all)
+firsts_of R (Ok m) ran road = subst (λ es. HasFirsts R es m) (sym (map-id ran.0) ∙ items_of (λ x. x) ran.0 ran.1 road) ran.2
+firsts_of R (Err e) ran road = tt
 
 -- ---- what is read by its key
 
-module _ {P D K X : Type 0} (test : K → Bool) (read : P → Option D) (key : D → K) (kept : P → D → X) (back : X → Option D)
-    (is : (p : P) (d : D) → read p ≡ Some d → back (kept p d) ≡ Some d) where
-  -- the first that passes the test of keys
-  pub found : (ps : List P)
-      → option_and_then back (lookup test (filter_map (λ p. option_map (λ d. (key d, kept p d)) (read p)) ps)) ≡ find (λ d. test (key d)) (filter_map read ps)
+pub keyed : {K D : Type 0} (test : K → Bool) (key : D → K) (ds : List D) → lookup test (map (λ d. (key d, d)) ds) ≡ find (λ d. test (key d)) ds
+keyed test key [] = refl
+keyed test key (d ∷ ds) = ap (cond (test (key d)) (Some d)) (keyed test key ds)
+
+module _ {P D K : Type 0} (test : K → Bool) (read : P → Option D) (key : D → K) where
+  -- the first item from which something with such a key is read
+  pub found : (ps : List P) → option_and_then read (lookup test (filter_map (λ p. option_map (λ d. (key d, p)) (read p)) ps)) ≡ find (λ d. test (key d)) (filter_map read ps)
   found [] = refl
   found (p ∷ ps) = step (read p) refl (found ps)
     where
-      entries : List (K × X)
-      entries = filter_map (λ q. option_map (λ d. (key d, kept q d)) (read q)) ps
+      entries : List (K × P)
+      entries = filter_map (λ q. option_map (λ d. (key d, q)) (read q)) ps
 
-      step : (o : Option D) → read p ≡ o → option_and_then back (lookup test entries) ≡ find (λ d. test (key d)) (filter_map read ps)
-          → option_and_then back (lookup test (cons_option (option_map (λ d. (key d, kept p d)) o) entries)) ≡ find (λ d. test (key d)) (cons_option o (filter_map read ps))
+      step : (o : Option D) → read p ≡ o → option_and_then read (lookup test entries) ≡ find (λ d. test (key d)) (filter_map read ps)
+          → option_and_then read (lookup test (cons_option (option_map (λ d. (key d, p)) o) entries)) ≡ find (λ d. test (key d)) (cons_option o (filter_map read ps))
       step None e h = h
       step (Some d) e h = inner (test (key d)) h
         where
-          inner : (b : Bool) → option_and_then back (lookup test entries) ≡ find (λ x. test (key x)) (filter_map read ps)
-              → option_and_then back (cond b (Some (kept p d)) (lookup test entries)) ≡ cond b (Some d) (find (λ x. test (key x)) (filter_map read ps))
-          inner true h = is p d e
+          inner : (b : Bool) → option_and_then read (lookup test entries) ≡ find (λ x. test (key x)) (filter_map read ps)
+              → option_and_then read (cond b (Some p) (lookup test entries)) ≡ cond b (Some d) (find (λ x. test (key x)) (filter_map read ps))
+          inner true h = e
           inner false h = h
 
 -- ---- the keys

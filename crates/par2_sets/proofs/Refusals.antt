@@ -1,5 +1,5 @@
 -- Faults that are passed on.
-use Rattle.par2_sets.proofs.Common.{◌≡◌, ◌⊎◌, ◌<◌, ℕ, List, length, get_or, map, refl, sym, ap, ◌∙◌, None, Some, Option, Ok, Err, Result, ok_or, is_ok, IsErrAnd, false≢true, err_from_is_err_and, Fault, Memory, all_some, err_again, Gives}
+use Rattle.par2_sets.proofs.Common.{◌≡◌, ◌⊎◌, ◌<◌, ℕ, List, length, get_or, map, refl, sym, ap, ◌∙◌, None, Some, Option, Err, Result, ok_or, IsErrAnd, err_from_is_err_and, Fault, Memory, all_some, err_again, Gives}
 use Rattle.par2_sets.proofs.Lists.{all_some_none}
 
 -- what a `?` answers, where a step has ended in a fault
@@ -7,14 +7,10 @@ pub passed_on : {X Y : Type 0} (view : X → Y) (r : Result X Fault) (whole : Re
     → IsErrAnd r (λ y. y ≡ fault) → (fault ≡ Memory) ⊎ (whole ≡ Err fault) → Gives view r whole
 passed_on view r whole fault is h = err_again (λ x. Gives view x whole) r fault (err_from_is_err_and r is) h
 
-abbrev err_or : {A : Type 0} → Fault → Result A Fault → Fault
-err_or d (Ok x) = d
-err_or d (Err fault) = fault
-
 -- what was missing
 missing_one : {A : Type 0} (o : Option A) (missing fault : Fault) → ok_or o missing ≡ Err fault → (o ≡ None) × (fault ≡ missing)
-missing_one None missing fault h = (refl, sym (ap (err_or missing) h))
-missing_one (Some x) missing fault h = absurd (false≢true (sym (ap is_ok h)))
+missing_one None missing fault h = (refl, cc)
+missing_one (Some x) missing fault h = (cc, cc)
 
 -- one is missing among all
 pub one_missing : {A B : Type 0} (f : A → Option B) (xs : List A) (i : ℕ) (x : A) (missing fault : Fault)

@@ -1,5 +1,5 @@
 -- Names that are taken, and the first number that is free.
-use Rattle.par2_sets.proofs.Common.{◌≡◌, ℕ, suc, ◌+◌, ◌-◌, ◌^◌, ◌<◌, ◌≤◌, length, List, [], ◌∷◌, ◌++◌, map, take, refl, sym, ap, ◌∙◌, ◌⊎◌, Bool, true, false, not, cond, ◌||◌, arith, inl, inr, IsTrue, Ok, Err, Result, find, IfErr, IsErrAnd, IsOk, nat_lt, unwrap_or, AllByRecursion, list_all, range_with_len, and_from, cases_lt, false_from_ne_true, false≢true, leb-true, lt-ltb, ltb-true, map_more, err_from_is_err_and, Fault, Memory, NameTooLong, Folder, File, IsFolder, files, names, is_among, is_name, numbered, taken_for, IsSound, target_names, ParSet, name_is_short, err_again, where_none, long_aside, aside}
+use Rattle.par2_sets.proofs.Common.{◌≡◌, ℕ, suc, ◌+◌, ◌-◌, ◌^◌, ◌<◌, ◌≤◌, length, List, [], ◌∷◌, ◌++◌, map, take, refl, sym, ap, ◌∙◌, ◌⊎◌, Bool, true, false, not, cond, ◌||◌, arith, inl, inr, IsTrue, Ok, Err, Result, find, IfErr, IsErrAnd, IsOk, nat_lt, unwrap_or, AllByRecursion, list_all, range_with_len, and_from, cases_lt, false_from_ne_true, false≢true, leb-true, lt-ltb, ltb-true, map_more, err_from_is_err_and, Fault, Memory, NameTooLong, Folder, File, IsFolder, files, names, is_among, is_name, numbered, taken_for, aside, IsSound, target_names, ParSet, name_is_short, err_again, where_none, long_aside}
 use Rattle.std.proofs.lemmas.List.Folds.{list_all-append, list_any_more}
 use Rattle.std.specs.Prelude.{get_or, Option, Some, None}
 use Rattle.par2_spec.specs.Faults.{fault_where}
@@ -61,10 +61,13 @@ passed_on r fault long is h = err_again (λ x. IfErr x (λ f. (f ≡ Memory) ⊎
 pub too_long : (folder : Folder) (set : ParSet) (name : List ℕ) → 255 < length (aside folder set name) → long_aside folder set (name ∷ []) ≡ Some NameTooLong
 too_long folder set name h = ap (λ b. fault_where (b || false) NameTooLong) (lt-ltb 255 (length (aside folder set name)) h)
 
+no_longer : (text : List ℕ) → IsTrue (is_name text) → nat_lt 255 (length text) ≡ false
+no_longer text named =
+    false_from_ne_true _ (λ long. let most : length text ≤ 255 = leb-true (length text) 255 (name_is_short text named) in absurd (omega (arith, most, ltb-true 255 (length text) long)))
+
 -- what is too long is no name
 pub long_is_no_name : (text : List ℕ) → 255 < length text → is_name text ≡ false
-long_is_no_name text h =
-    false_from_ne_true _ (λ named. let short : length text ≤ 255 = leb-true (length text) 255 (name_is_short text named) in absurd (omega (arith, h, short)))
+long_is_no_name text h = false_from_ne_true _ (λ named. false≢true (sym (no_longer text named) ∙ lt-ltb 255 (length text) h))
 
 -- a numbered name is only no name where it is too long
 pub long_where_err : {E : Type 0} (r : Result (List ℕ) E) (name : List ℕ) (n : ℕ) (text : List ℕ) → n < 2 ^ 64 → IsTrue (is_name name) → text ≡ numbered name n
@@ -76,10 +79,6 @@ long_where_err (Err e) name n text small named is h = elim (cases_lt 255 (length
 ]
 
 -- ---- one more name
-
-no_longer : (text : List ℕ) → IsTrue (is_name text) → nat_lt 255 (length text) ≡ false
-no_longer text named =
-    false_from_ne_true _ (λ long. let most : length text ≤ 255 = leb-true (length text) 255 (name_is_short text named) in absurd (omega (arith, most, ltb-true 255 (length text) long)))
 
 module _ (folder : Folder) (set : ParSet) (names : List (List ℕ)) (i : ℕ) (name other : List ℕ) (low : i < length names) (is : name ≡ get_or names i name)
     (named : other ≡ aside folder set name) where

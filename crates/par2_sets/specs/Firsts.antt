@@ -2,7 +2,8 @@
 use Rattle.std.specs.Prelude.{◌≡◌, ℕ, List, option_and_then, option_map}
 use Rattle.std.specs.BTreeMap.{BTreeMap, get}
 use Rattle.std.specs.Cmp.Lexicographic.{slice_cmp}
-use Rattle.std.specs.Ordering.{nat_cmp, ordering_then}
+use Rattle.std.specs.Map.{lookup}
+use Rattle.std.specs.Ordering.{eq_by_cmp, nat_cmp, ordering_then}
 use Rattle.std.specs.declared.cmp.Ordering.{Ordering}
 use Rattle.par2_spec.specs.Packets.{Packet, IfscBody, read_desc}
 use Rattle.par2_spec.specs.Sets.{description_of, pairs_of}
@@ -15,6 +16,10 @@ id_cmp = slice_cmp nat_cmp
 -- the order of File IDs with numbers of slices
 abbrev pub count_cmp : List ℕ × ℕ → List ℕ × ℕ → Ordering
 count_cmp a b = ordering_then (id_cmp a.0 b.0) (nat_cmp a.1 b.1)
+
+-- the map has the first value of each key of the entries, and no other keys
+abbrev pub HasFirsts : {K X : Type 0} → (K → K → Ordering) → List (K × X) → BTreeMap K X → Type 0
+HasFirsts {K} R entries firsts = (key : K) → get R firsts key ≡ lookup (eq_by_cmp R key) entries
 
 -- the map has the packet of the first description of each File ID
 abbrev pub HoldDescriptions : List Packet → BTreeMap (List ℕ) scan.Packet → Type 0

@@ -17,9 +17,9 @@ use crate::ParSet;
 use itoa::Buffer;
 use par2_folder::{Folder, Name};
 use par2_packets::Packets;
-use par2_spec::Fault;
 use par2_spec::repair_laws::aside_is_found;
-use std::alloc::{AllocError, Global};
+use par2_spec::{Fault, Result};
+use std::alloc::Global;
 use std::collections::BTreeSet;
 
 // Whether a file has packets, all of the set with this identifier.
@@ -50,7 +50,7 @@ fn is_par_file(folder: &Folder, set: &ParSet, targets: &BTreeSet<Name>, name: &N
 
 /// The names of the set's par files, in order: they end in `.par2`, have packets of the set and of no other, and aren't
 /// targets.
-pub fn par_files(alloc: Global, folder: &Folder, set: &ParSet) -> Result<Vec<Name>, AllocError>
+pub fn par_files(alloc: Global, folder: &Folder, set: &ParSet) -> Result<Vec<Name>>
     ensures { Lists (repairs.par_files folder.now.files set.now) result }
 {
     let targets = target_names(alloc, set)?;
@@ -60,13 +60,11 @@ pub fn par_files(alloc: Global, folder: &Folder, set: &ParSet) -> Result<Vec<Nam
 }
 
 // The names of the set's targets.
-fn target_names(alloc: Global, set: &ParSet) -> Result<BTreeSet<Name>, AllocError>
+fn target_names(alloc: Global, set: &ParSet) -> Result<BTreeSet<Name>>
     ensures { IfOk result (λ names. HoldsNames names (target_names set.now)) }
 {
-    set.targets()
-        .iter()
-        .map(|target| target.name().copied())
-        .collect(alloc)
+    let names = set.targets().iter().map(|target| target.name().copied());
+    names.collect(alloc)
 }
 
 // The name NAME.n, where that is not too long.

@@ -9,14 +9,15 @@ ghost use Rattle.par2_sets.specs.Steps.{set_packets};
 
 use par2_folder::{Folder, Name};
 use par2_packets::{Packet, Packets};
-use std::alloc::{AllocError, Global};
+use par2_spec::Result;
+use std::alloc::Global;
 
 // Adds the packets that have the identifier.
 fn add_packets<'a>(
     packets: &mut Vec<Packet<'a>>,
     id: &[u8; 16],
     found: &mut Packets<'a>,
-) -> Result<(), AllocError>
+) -> Result<()>
     ensures { let added = packets_with id.now (views.packets_of found.old) in
         OnOk result (map packet_of packets.new.items ≡ map packet_of packets.old.items ++ added) }
 {
@@ -29,7 +30,7 @@ fn add_packets<'a>(
 }
 
 // The names of the other `.par2` files, in order.
-fn other_par_names(folder: &Folder, base: &Name) -> Result<Vec<Name>, AllocError>
+fn other_par_names(folder: &Folder, base: &Name) -> Result<Vec<Name>>
     ensures { Lists (other_par_names folder.now.files base.now) result }
 {
     let mut names = folder.names()?;
@@ -44,7 +45,7 @@ pub(crate) fn packets_of<'a>(
     folder: &'a Folder,
     base: &Name,
     id: &[u8; 16],
-) -> Result<Vec<Packet<'a>>, AllocError>
+) -> Result<Vec<Packet<'a>>>
     ensures { let all = set_packets folder.now.files base.now id.now in
         IfOk result (λ packets. map packet_of packets.items ≡ all) }
 {

@@ -1,12 +1,13 @@
 //! What the packets of a set say: its Main, and the first description, checksums or recovery slice of each key.
 
 ghost use Rattle.std.specs.Prelude.{◌≡◌, ◌≤◌, length, map, IfOk, List, option_map};
-ghost use Rattle.par2_spec.specs.Sets.{main_of, description_of, pairs_of, recovery_of};
+ghost use Rattle.par2_spec.specs.Sets.{main_of, pairs_of, recovery_of};
 ghost use Rattle.par2_packets.specs.Views.{packet_of};
 ghost use Rattle.par2_sets.specs.Steps.{Gives, descriptions_of, checksums_for};
-ghost use Rattle.par2_sets.specs.Firsts.{HoldDescriptions, HoldChecksums};
+ghost use Rattle.par2_sets.specs.Firsts.{HasFirsts, HoldDescriptions, HoldChecksums};
 ghost use Rattle.std.specs.BTreeMap.{IsOrdered};
 ghost use Rattle.std.specs.FinMap.{entries};
+ghost use Rattle.std.specs.Iterator.{Drains, IsFinite};
 ghost use Rattle.std.specs.List.Sorted.{IsStrictlyIncreasing};
 ghost use Rattle.std.specs.Ordering.{nat_cmp};
 ghost use Rattle.par2_sets.specs.Slices.{exponents_of, recovered_of, usable};
@@ -18,8 +19,8 @@ use par2_packets::{
     read_recovery,
 };
 use par2_slices::slice_count;
-use par2_spec::Fault;
-use std::alloc::{AllocError, Global};
+use par2_spec::{Fault, Result};
+use std::alloc::Global;
 use std::collections::BTreeMap;
 
 /// The first well-formed Main whose body has the identifier as its MD5.
@@ -36,29 +37,32 @@ pub(crate) fn main_of<'a>(packets: &[Packet<'a>], id: &[u8; 16]) -> Option<MainV
     None
 }
 
-// The first well-formed FileDesc of each File ID. The map takes the last of each, so they come in reverse.
-fn by_id<'a>(
+// The first value of each key. No others are kept, since each volume repeats most packets.
+fn firsts<K: Ord + Drop, V: Drop, I: Iterator<Item = (K, V)>>(
     alloc: Global,
-    packets: &[Packet<'a>],
-) -> Result<BTreeMap<[u8; 16], Packet<'a>>, AllocError>
-    ensures { IfOk result (HoldDescriptions (map packet_of packets.now)) }
+    entries: I,
+) -> Result<BTreeMap<K, V>>
+    requires { I.can_next entries × IsFinite (I.remaining entries) }
+    ensures { IfOk result (λ firsts. (all : List (K × V))
+        × Drains I.next_gives entries all × HasFirsts K.cmp all firsts) }
 {
-    packets
-        .iter()
-        .rev()
-        .filter_map(|packet| Some((read_desc(packet)?.id(), *packet)))
-        .collect(alloc)
+    let mut firsts = BTreeMap::new(alloc);
+    for (key, value) in entries {
+        if !firsts.contains_key(&key) {
+            firsts.insert(key, value)?;
+        }
+    }
+    Ok(firsts)
 }
 
-// The description of this File ID.
-fn description_of<'a>(
-    firsts: &BTreeMap<[u8; 16], Packet<'a>>,
-    id: &[u8; 16],
-) -> Option<DescView<'a>>
-    ensures { (packets : List spec.Packet) → HoldDescriptions packets firsts.now
-        → result ≡ description_of packets id.now }
+// The first well-formed FileDesc of each File ID.
+fn by_id<'a>(alloc: Global, packets: &[Packet<'a>]) -> Result<BTreeMap<[u8; 16], Packet<'a>>>
+    ensures { IfOk result (HoldDescriptions (map packet_of packets.now)) }
 {
-    read_desc(firsts.get(id)?)
+    let described = packets
+        .iter()
+        .filter_map(|packet| Some((read_desc(packet)?.id(), *packet)));
+    firsts(alloc, described)
 }
 
 /// The descriptions of the files of the Main, in its order.
@@ -73,7 +77,8 @@ pub(crate) fn descriptions<'a>(
     let firsts = by_id(alloc, packets)?;
     let mut descriptions = Vec::new(alloc);
     for k in 0..main.count() {
-        let description = description_of(&firsts, &main.id(k)).ok_or(Fault::NoDescription)?;
+        let found = firsts.get(&main.id(k)).and_then(|packet| read_desc(packet));
+        let description = found.ok_or(Fault::NoDescription)?;
         descriptions.push(description)?;
     }
     Ok(descriptions)
@@ -83,20 +88,12 @@ pub(crate) fn descriptions<'a>(
 pub(crate) type Checksums<'a> = BTreeMap<([u8; 16], u64), IfscView<'a>>;
 
 /// The checksums that the packets have, by File ID and number of slices.
-pub(crate) fn checksums_in<'a>(
-    alloc: Global,
-    packets: &[Packet<'a>],
-) -> Result<Checksums<'a>, AllocError>
+pub(crate) fn checksums_in<'a>(alloc: Global, packets: &[Packet<'a>]) -> Result<Checksums<'a>>
     ensures { IfOk result (HoldChecksums (map packet_of packets.now)) }
 {
-    packets
-        .iter()
-        .rev()
-        .filter_map(|packet| {
-            let checksums = read_ifsc(packet)?;
-            Some(((checksums.id(), checksums.count() as u64), checksums))
-        })
-        .collect(alloc)
+    let found = packets.iter().filter_map(|packet| read_ifsc(packet));
+    let by_key = found.map(|ifsc| ((ifsc.id(), ifsc.count() as u64), ifsc));
+    firsts(alloc, by_key)
 }
 
 // The checksums of this File ID with so many slices.
@@ -112,7 +109,7 @@ fn checksums_of<'c, 'a>(
 }
 
 // The pairs of an IFSC.
-fn pairs_in(alloc: Global, checksums: &IfscView) -> Result<Vec<Pair>, AllocError>
+fn pairs_in(alloc: Global, checksums: &IfscView) -> Result<Vec<Pair>>
     ensures { IfOk result (λ pairs. pairs.items ≡ checksums.now.pairs) }
 {
     let mut pairs = Vec::with_capacity(alloc, checksums.count())?;
@@ -150,17 +147,12 @@ fn recovery_in<'a>(packet: &Packet<'a>, s: u64) -> Option<RecoveryView<'a>>
 }
 
 // The entries of the map, in the order of the exponents.
-fn in_order<'a>(
-    alloc: Global,
-    slices: &BTreeMap<u32, &'a [u8]>,
-) -> Result<Vec<(u32, &'a [u8])>, AllocError>
+fn in_order<'a>(alloc: Global, slices: &BTreeMap<u32, &'a [u8]>) -> Result<Vec<(u32, &'a [u8])>>
     ensures value { IfOk result (λ list. list.items ≡ slices.now.entries) }
     ensures rising { IsOrdered nat_cmp slices.now }
 {
-    slices
-        .iter()
-        .map(|(exponent, bytes)| (*exponent, *bytes))
-        .collect(alloc)
+    let slices = slices.iter().map(|(exponent, bytes)| (*exponent, *bytes));
+    slices.collect(alloc)
 }
 
 /// For each exponent below 65,536 its first recovery slice of `s` bytes, in the order of the
@@ -169,16 +161,12 @@ pub(crate) fn recovery_of<'a>(
     alloc: Global,
     packets: &[Packet<'a>],
     s: u64,
-) -> Result<Vec<(u32, &'a [u8])>, AllocError>
+) -> Result<Vec<(u32, &'a [u8])>>
     ensures value { let all = recovery_of (map packet_of packets.now) s in
         IfOk result (λ recovery. recovered_of recovery.items ≡ entries all) }
     ensures rising { IfOk result (λ recovery. IsStrictlyIncreasing (exponents_of recovery.items)) }
 {
-    let slices = packets
-        .iter()
-        .rev()
-        .filter_map(|packet| recovery_in(packet, s))
-        .map(|recovery| (recovery.exponent(), recovery.bytes()))
-        .collect::<BTreeMap<u32, &[u8]>>(alloc)?;
-    in_order(alloc, &slices)
+    let found = packets.iter().filter_map(|packet| recovery_in(packet, s));
+    let slices = found.map(|recovery| (recovery.exponent(), recovery.bytes()));
+    in_order(alloc, &firsts(alloc, slices)?)
 }

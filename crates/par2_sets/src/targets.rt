@@ -14,8 +14,8 @@ use crate::parts::{Checksums, checksums_in, pairs_for};
 use par2_folder::Name;
 use par2_packets::{DescView, Packet, Pair};
 use par2_slices::{MOST_SLICES, slice_count};
-use par2_spec::Fault;
-use std::alloc::{AllocError, Global};
+use par2_spec::{Fault, Result};
+use std::alloc::Global;
 use std::collections::BTreeSet;
 use std::marker::Model;
 
@@ -133,26 +133,20 @@ fn have_names(descriptions: &[DescView]) -> bool
 }
 
 // Whether each name stands there once.
-fn are_distinct(alloc: Global, descriptions: &[DescView]) -> Result<bool, AllocError>
+fn are_distinct(alloc: Global, descriptions: &[DescView]) -> Result<bool>
     ensures { let names = map (λ d. d.name) descriptions.now in
         IfOk result (λ b. b ≡ (length (distinct names) == length descriptions.now)) }
 {
-    let names = descriptions
-        .iter()
-        .map(|description| description.name_bytes())
-        .collect::<BTreeSet<&[u8]>>(alloc)?;
-    Ok(names.len() == descriptions.len())
+    let names = descriptions.iter().map(|described| described.name_bytes());
+    let distinct = names.collect::<BTreeSet<&[u8]>>(alloc)?;
+    Ok(distinct.len() == descriptions.len())
 }
 
 /// Whether the profile takes the files.
-pub(crate) fn are_in_profile(
-    alloc: Global,
-    s: u64,
-    descriptions: &[DescView],
-) -> Result<bool, AllocError>
+pub(crate) fn are_in_profile(alloc: Global, s: u64, descriptions: &[DescView]) -> Result<bool>
     requires { 1 ≤ s }
     ensures { IfOk result (λ b. b ≡ are_in_profile s descriptions.now) }
 {
-    let are_distinct = are_distinct(alloc, descriptions)?;
-    Ok(have_few_slices(s, descriptions) && have_names(descriptions) && are_distinct)
+    let are_named = have_few_slices(s, descriptions) && have_names(descriptions);
+    Ok(are_named && are_distinct(alloc, descriptions)?)
 }

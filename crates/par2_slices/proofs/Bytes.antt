@@ -29,20 +29,17 @@ four_more : (p a b c d : ℕ) → bit_xor (bit_xor (bit_xor (bit_xor p a) b) c) 
 four_more p a b c d =
     ap (λ t. bit_xor (bit_xor t c) d) (xor_assoc p a b) ∙ ap (λ t. bit_xor t d) (xor_assoc p (bit_xor a b) c) ∙ xor_assoc p (bit_xor (bit_xor a b) c) d
 
+rotated : (a b c d e f g h : ℕ) → bit_xor (bit_xor (bit_xor (bit_xor (bit_xor (bit_xor (bit_xor e f) g) h) a) b) c) d ≡ bit_xor (bit_xor (bit_xor (bit_xor (bit_xor (bit_xor (bit_xor a b) c) d) e) f) g) h
+rotated a b c d e f g h =
+    let low : ℕ = bit_xor (bit_xor (bit_xor a b) c) d in
+    let high : ℕ = bit_xor (bit_xor (bit_xor e f) g) h in
+    four_more high a b c d ∙ xor_comm high low ∙ sym (four_more low e f g h)
+
 -- the same, the four high bytes first
 pub by_tables_from_above : (w : ℕ) → bit_xor (bit_xor (bit_xor (bit_xor (bit_xor (bit_xor (bit_xor (steps 32 (w / 2 ^ 32 % 256)) (steps 24 (w / 2 ^ 40 % 256))) (steps 16 (w / 2 ^ 48 % 256))) (steps 8 (w / 2 ^ 56))) (steps 64 (w % 256))) (steps 56 (w / 2 ^ 8 % 256))) (steps 48 (w / 2 ^ 16 % 256))) (steps 40 (w / 2 ^ 24 % 256)) ≡ steps 64 w
 by_tables_from_above w =
-    let a : ℕ = steps 64 (w % 256) in
-    let b : ℕ = steps 56 (w / 2 ^ 8 % 256) in
-    let c : ℕ = steps 48 (w / 2 ^ 16 % 256) in
-    let d : ℕ = steps 40 (w / 2 ^ 24 % 256) in
-    let e : ℕ = steps 32 (w / 2 ^ 32 % 256) in
-    let f : ℕ = steps 24 (w / 2 ^ 40 % 256) in
-    let g : ℕ = steps 16 (w / 2 ^ 48 % 256) in
-    let h : ℕ = steps 8 (w / 2 ^ 56) in
-    let low : ℕ = bit_xor (bit_xor (bit_xor a b) c) d in
-    let high : ℕ = bit_xor (bit_xor (bit_xor e f) g) h in
-    four_more high a b c d ∙ xor_comm high low ∙ sym (four_more low e f g h) ∙ sym (by_tables w)
+    rotated (steps 64 (w % 256)) (steps 56 (w / 2 ^ 8 % 256)) (steps 48 (w / 2 ^ 16 % 256)) (steps 40 (w / 2 ^ 24 % 256)) (steps 32 (w / 2 ^ 32 % 256)) (steps 24 (w / 2 ^ 40 % 256)) (steps 16 (w / 2 ^ 48 % 256)) (steps 8 (w / 2 ^ 56))
+    ∙ sym (by_tables w)
 
 -- a word, a table for each of its two low bytes
 pub by_two_tables : (w : ℕ) → steps 16 w ≡ bit_xor (bit_xor (steps 16 (w % 256)) (steps 8 (w / 2 ^ 8 % 256))) (w / 2 ^ 16)
@@ -72,13 +69,6 @@ further c bytes k n x within below is = fold_more bytes c k within ∙ taken n c
 pub eight_bytes : (c : ℕ) (bytes : List ℕ) → length bytes ≡ 8 → ((i : ℕ) → get_or bytes i 0 < 256) → fold crc_byte c bytes ≡ steps 64 (bit_xor c (from_le_bytes w64 bytes))
 eight_bytes c bytes len small =
     let at : ℕ → ℕ = λ i. get_or bytes i 0 in
-    let b0 : at 0 < 256 = small 0 in
-    let b1 : at 1 < 256 = small 1 in
-    let b2 : at 2 < 256 = small 2 in
-    let b3 : at 3 < 256 = small 3 in
-    let b4 : at 4 < 256 = small 4 in
-    let b5 : at 5 < 256 = small 5 in
-    let b6 : at 6 < 256 = small 6 in
     let x1 : ℕ = at 0 in
     let x2 : ℕ = x1 + at 1 * 2 ^ 8 in
     let x3 : ℕ = x2 + at 2 * 2 ^ 16 in

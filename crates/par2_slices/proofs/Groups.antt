@@ -1,12 +1,11 @@
 -- Sets of groups of checksums.
-use Rattle.par2_slices.proofs.Common.{◌≡◌, ◌≢◌, ℕ, ◌+◌, ◌-◌, ◌*◌, ◌^◌, ◌<◌, ◌%◌, ◌/◌, List, length, get_or, set, replicate, refl, subst, sym, ap, ◌∙◌, get_or-set_same, get_or-set_other, arith, inl, inr, ◌⊎◌, bit_and, bit_or, w64, bit_at, bit_not, cases_eq, cases_lt, get_or-replicate, get_or_past, get_or_read, length-replicate, shr_below, suc-ne-zero, Groups, Marks}
+use Rattle.par2_slices.proofs.Common.{◌≡◌, ◌≢◌, ℕ, zero, suc, ◌+◌, ◌-◌, ◌*◌, ◌^◌, ◌<◌, ◌%◌, ◌/◌, List, length, get_or, set, replicate, refl, subst, sym, ap, ◌∙◌, get_or-set_same, get_or-set_other, arith, inl, inr, ◌⊎◌, bit_and, bit_or, w64, bit_at, bit_not, cases_eq, get_or_read, shr_below, suc-ne-zero, Groups, Marks}
 use Rattle.std.proofs.lemmas.Nat.Bits.{bit_at-zero, bit_at_set_same, bit_at_set_other, bit_at_clear_same, bit_at_clear_other}
 
 pub within : (crc shift : ℕ) → crc < 2 ^ 32 → shift < 32 → crc / 2 ^ shift < 2 ^ (32 - shift)
 within crc shift fits low =
-    let Fits : ℕ → Type 0 = λ k. crc < 2 ^ k in
     let split : 32 ≡ 32 - shift + shift = omega (arith, low) in
-    shr_below crc (32 - shift) shift (subst Fits split fits)
+    shr_below crc (32 - shift) shift (subst (λ (k : ℕ). crc < 2 ^ k) split fits)
 
 -- a checksum's word is one of 2^15, and what is read there
 pub its_place : (crc : ℕ) (words : List ℕ) → crc < 2 ^ 32 → length words ≡ 2 ^ 15 → crc / 2 ^ 17 < length words
@@ -15,20 +14,16 @@ its_place crc words fits size = omega (arith, within crc 17 fits (omega arith), 
 pub word_read : (crc word : ℕ) (words : List ℕ) → crc < 2 ^ 32 → length words ≡ 2 ^ 15 → word ≡ get_or words (crc / 2 ^ 17) word → word ≡ get_or words (crc / 2 ^ 17) 0
 word_read crc word words fits size is = get_or_read words (crc / 2 ^ 17) word (its_place crc words fits size) is 0
 
-abbrev zeros : ℕ → List ℕ
-zeros n = replicate n 0
-
-zeros_at : (n i : ℕ) → get_or (zeros n) i 0 ≡ 0
-zeros_at n i = elim (cases_lt i n) [
-  | inl inside ↦ get_or-replicate n i 0 0 inside
-  | inr past ↦ get_or_past (zeros n) i 0 (let size : length (zeros n) ≡ n = length-replicate n 0 in omega (arith, past, size))
-]
+pub replicate_at : {X : Type 0} (n i : ℕ) (x : X) → get_or (replicate n x) i x ≡ x
+replicate_at zero i x = refl
+replicate_at (suc n) zero x = refl
+replicate_at (suc n) (suc i) x = replicate_at n i x
 
 -- words of zeros have no group
 pub none_marked : (groups : Groups) (n crc : ℕ) → ◌≡◌ {A = List ℕ} groups.words (replicate n 0) → Marks groups crc → ⊥
 none_marked groups n crc empty is =
     let group : ℕ = crc / 2 ^ 17 in
-    let word : get_or groups.words group 0 ≡ 0 = ap (λ words. get_or words group 0) empty ∙ zeros_at n (group) in
+    let word : get_or groups.words group 0 ≡ 0 = ap (λ words. get_or words group 0) empty ∙ replicate_at n group 0 in
     suc-ne-zero 0 (sym is.bit ∙ ap (λ w. bit_at w (crc % 64)) word ∙ bit_at-zero (crc % 64))
 
 -- the words with the group's bit set, and with the bit cleared

@@ -1,5 +1,6 @@
 -- A search under way.
-use Rattle.par2_slices.proofs.Common.{◌≡◌, ℕ, zero, suc, ◌+◌, ◌-◌, ◌*◌, ◌/◌, ◌%◌, ◌^◌, ◌<◌, Bool, true, false, cond, List, [], ◌∷◌, ◌++◌, length, map, drop, take, get_or, set, replicate, refl, sym, ap, subst, ◌∙◌, get_or-set_same, get_or-set_other, inl, inr, arith, ◌⊎◌, ◌==◌, Option, Some, None, find, option_map, bit_at, count_by, list_all, range_with_len, is_none, option_or, bytes_eq, and_from, and_left, and_right, cases_eq, cases_lt, eq-eqb, ne_eqb, length-replicate, length-map, get_or-map, ext_get_or, get_or_append_left, get_or_at, length_push, drop_more, take_more, find-append, sum_by-zero, sum_by-replicate, list_all_at, md5, Pair, crc32, is_match, window, first_match, range-append, or_nothing, AreAlike, Groups, Marks, no_pair, IsOfOpenPair, no_place, no_candidate, pair_at, place_at, candidate_at, answer_at, answer_below, spot_in, first_spot, first_spot_from, HoldsGroup, is_awaited, after_window, has_checksums, Earlier, IsWindow, IsTally, IsAt, Candidate, Spot, Place, after_candidates, first_below}
+use Rattle.par2_slices.proofs.Common.{◌≡◌, ℕ, zero, suc, ◌+◌, ◌-◌, ◌*◌, ◌/◌, ◌%◌, ◌^◌, ◌<◌, Bool, true, false, cond, List, [], ◌∷◌, ◌++◌, length, map, drop, take, get_or, set, replicate, refl, sym, ap, subst, ◌∙◌, get_or-set_same, get_or-set_other, inl, inr, arith, ◌⊎◌, ◌==◌, Option, Some, None, find, option_map, bit_at, count_by, list_all, range_with_len, is_none, option_or, bytes_eq, and_from, and_left, and_right, cases_eq, cases_lt, eq-eqb, ne_eqb, length-replicate, length-map, get_or-map, ext_get_or, get_or_append_left, get_or_at, length_push, drop_more, take_more, find-append, sum_by-zero, sum_by-replicate, list_all_at, md5, Pair, crc32, is_match, window, first_match, range-append, or_nothing, AreAlike, Groups, Marks, no_pair, IsOfOpenPair, no_place, no_candidate, pair_at, place_at, candidate_at, answer_at, answer_below, spot_in, first_spot, first_spot_from, HoldsGroup, is_awaited, after_window, has_checksums, Earlier, IsWindow, IsTally, IsAt, after_candidates, first_below, Candidate, Spot, Place}
+use Rattle.par2_slices.proofs.Groups.{replicate_at}
 use Rattle.std.proofs.lemmas.List.Sums.{sum_by-set}
 use Rattle.std.proofs.Common.{length-take}
 use Rattle.std.specs.Prelude.{◌&&◌}
@@ -93,8 +94,7 @@ no_crc pair md5 crc other = and_left (crc == pair.1) _ (ne_eqb crc pair.1 (λ sa
 pub unmarked : (s : ℕ) (text : List ℕ) (earlier : Earlier) (o : ℕ) (pairs : List Pair) (found : List (Option Spot)) (left : ℕ) (filter : Groups) (candidates : List Candidate) (crc : ℕ) → IsAt s text earlier o pairs found left filter candidates → crc ≡ crc32 (window s text o) → (Marks filter crc → ⊥) → IsAt s text earlier (o + 1) pairs found left filter candidates
 unmarked s text earlier o pairs found left filter candidates crc at is not_marked =
     no_more s text earlier o pairs found left filter candidates at (λ i h none.
-    let Has : ℕ → Type 0 = λ c. Marks filter c in
-    no_crc (pair_at pairs i) _ (crc32 (window s text o)) (λ same. not_marked (subst Has (same ∙ sym is) (at.tally.marked i h none))))
+    no_crc (pair_at pairs i) _ (crc32 (window s text o)) (λ same. not_marked (subst (λ (c : ℕ). Marks filter c) (same ∙ sym is) (at.tally.marked i h none))))
 
 none_counted : (X : Type 0) (p : X → Bool) (xs : List X) (i : ℕ) (d : X) → count_by p xs ≡ 0 → i < length xs → p (get_or xs i d) ≡ true → ⊥
 none_counted X p xs i d none h holds =
@@ -217,10 +217,9 @@ pub filled_more : (pairs : List Pair) (n : ℕ) (before after : Groups) → IsFi
     → crc ≡ (pair_at pairs n).1 → IsFilled pairs (n + 1) after
 filled_more pairs n before after filled low crc marked kept only its = record {
   marked = λ k h.
-      let Has : ℕ → Type 0 = λ c. Marks after c in
       elim (cases_lt k n) [
         | inl early ↦ kept (pair_at pairs k).1 (filled.marked k early)
-        | inr late ↦ subst Has (its ∙ ap (λ j. (pair_at pairs j).1) (let e : n ≡ k = omega (arith, late, h) in e)) marked
+        | inr late ↦ subst (λ (c : ℕ). Marks after c) (its ∙ ap (λ j. (pair_at pairs j).1) (let e : n ≡ k = omega (arith, late, h) in e)) marked
       ];
   only = λ other is.
       elim (only other is) [
@@ -231,11 +230,6 @@ filled_more pairs n before after filled low crc marked kept only its = record {
   where
     alike_to : (a b other : ℕ) → a ≡ b → AreAlike a other → AreAlike b other
     alike_to a b other e alike = let Its : ℕ → Type 0 = λ c. AreAlike c other in subst Its e alike
-
-pub never_answered : (n i : ℕ) → answer_at (replicate n None) i ≡ None
-never_answered zero i = refl
-never_answered (suc n) zero = refl
-never_answered (suc n) (suc i) = never_answered n i
 
 -- before the first text
 pub none_answered : (pairs : List Pair) (found : List (Option Spot)) (left : ℕ) (filter : Groups) → found ≡ replicate (length pairs) None → left ≡ length pairs → ((i : ℕ) → i < length pairs → Marks filter (pair_at pairs i).1) → ((crc : ℕ) → Marks filter crc → IsOfPair pairs crc) → IsTally pairs found left filter
@@ -249,7 +243,7 @@ none_answered pairs found left filter found_is left_is marked only = record {
   marked = λ i h none. marked i h;
   only = λ crc is.
       let its = only crc is in
-      (its.0, its.1, ap (λ f. answer_at f its.0) found_is ∙ never_answered (length pairs) its.0, its.2);
+      (its.0, its.1, ap (λ f. answer_at f its.0) found_is ∙ replicate_at (length pairs) its.0 None, its.2);
 }
 
 -- before the first offset
@@ -268,11 +262,9 @@ at_start s text earlier pairs found left filter candidates tally found_is empty 
 -- where no pair is open, no offset more changes an answer
 pub none_left : (s : ℕ) (text : List ℕ) (earlier : Earlier) (o n : ℕ) (pairs : List Pair) (found : List (Option Spot)) (left : ℕ) (filter : Groups) (candidates : List Candidate) → IsAt s text earlier o pairs found left filter candidates → left ≡ 0 → IsAt s text earlier (o + n) pairs found left filter candidates
 none_left s text earlier o zero pairs found left filter candidates at none =
-    let At : ℕ → Type 0 = λ k. IsAt s text earlier k pairs found left filter candidates in
-    subst At (let e : o ≡ o + 0 = omega arith in e) at
+    subst (λ (k : ℕ). IsAt s text earlier k pairs found left filter candidates) (let e : o ≡ o + 0 = omega arith in e) at
 none_left s text earlier o (suc n) pairs found left filter candidates at none =
-    let At : ℕ → Type 0 = λ k. IsAt s text earlier k pairs found left filter candidates in
-    subst At (let e : o + n + 1 ≡ o + suc n = omega arith in e)
+    subst (λ (k : ℕ). IsAt s text earlier k pairs found left filter candidates) (let e : o + n + 1 ≡ o + suc n = omega arith in e)
     (no_more s text earlier (o + n) pairs found left filter candidates (none_left s text earlier o n pairs found left filter candidates at none)
     (λ i h none_yet. absurd (none_counted (Option Spot) is_none found i None (sym at.tally.count ∙ none) (omega (arith, h, at.tally.len)) (ap is_none none_yet))))
 
@@ -388,9 +380,8 @@ pub all_settled : (pairs : List Pair) (md5 : List ℕ) (crc : ℕ) (spot : Spot)
     → ((k : ℕ) → k < length group → answer_at new (place_at group k).index ≡ after_window (has_checksums md5 crc (pair_at pairs (place_at group k).index)) spot (answer_at old (place_at group k).index))
     → (i : ℕ) → i < length pairs → answer_at new i ≡ after_window (has_checksums md5 crc (pair_at pairs i)) spot (answer_at old i)
 all_settled pairs md5 crc spot old new group holds each done i low =
-    let Is : ℕ → Type 0 = λ j. answer_at new j ≡ after_window (has_checksums md5 crc (pair_at pairs j)) spot (answer_at old j) in
     elim (cases_eq (pair_at pairs i).1 crc) [
-      | inl same ↦ (let its = holds.whole i low (ap (λ c. c / 2 ^ 17) same) in subst Is its.2 (done its.0 its.1))
+      | inl same ↦ (let its = holds.whole i low (ap (λ c. c / 2 ^ 17) same) in subst (λ (j : ℕ). answer_at new j ≡ after_window (has_checksums md5 crc (pair_at pairs j)) spot (answer_at old j)) its.2 (done its.0 its.1))
       | inr other ↦ kept (has_checksums md5 crc (pair_at pairs i)) spot (answer_at old i) (answer_at new i) (each i low) (λ none. no_crc (pair_at pairs i) md5 crc other)
     ]
 
@@ -415,9 +406,8 @@ tally_settled pairs md5 crc spot old new left count filter after tally size each
   only = λ other is.
       let its = tally.only other (fewer other is) in
       let i : ℕ = its.0 in
-      let Alike : ℕ → Type 0 = λ c. AreAlike c other in
       elim (cases_eq (pair_at pairs i).1 crc) [
-        | inl same ↦ waits other is (subst Alike same its.3)
+        | inl same ↦ waits other is (subst (λ (c : ℕ). AreAlike c other) same its.3)
         | inr apart ↦ (i, its.1, still_open (pair_at pairs i) md5 crc spot (answer_at old i) (answer_at new i) (each i its.1) apart its.2, its.3)
       ];
 }

@@ -1,5 +1,5 @@
 -- Zero bits after the bytes.
-use Rattle.par2_slices.proofs.Common.{◌≡◌, ℕ, zero, suc, ◌+◌, ◌-◌, ◌*◌, ◌^◌, ◌<◌, ◌%◌, ◌/◌, List, length, replicate, sym, ap, subst, ◌∙◌, arith, bit_xor, xor_zero_r, pow-suc, mul_assoc, mod-pow-add, pow-add, pow_pos, mod_below, shl_below, shr-shr, crc_byte, crc_step, crc_steps, padded, crc_steps-xor, crc_steps-add, crc_steps-swap, crc_steps-shifted, fold-append, fold-zeros, joined, crc32, steps}
+use Rattle.par2_slices.proofs.Common.{◌≡◌, ℕ, zero, suc, ◌+◌, ◌-◌, ◌*◌, ◌^◌, ◌<◌, ◌%◌, ◌/◌, List, length, replicate, sym, ap, subst, ◌∙◌, arith, bit_xor, xor_zero_r, pow-suc, mul_assoc, mod-pow-add, pow-add, pow_pos, mod_below, shl_below, shr-shr, crc_byte, crc_step, crc_steps, crc32, padded, crc_steps-xor, crc_steps-add, crc_steps-swap, crc_steps-shifted, fold-append, fold-zeros, joined, steps}
 use Rattle.std.specs.Prelude.{fold}
 
 -- steps keep zero

@@ -11,7 +11,8 @@
 ghost use Rattle.std.specs.Prelude.{◌↔◌, ◌⊎◌, ℕ, IfOk, IsTrue};
 ghost use Rattle.par2_slices.specs.Filters.{AreAlike, Marks};
 
-use std::alloc::{AllocError, Global};
+use par2_spec::Result;
+use std::alloc::Global;
 use std::marker::Model;
 
 /// The number of words.
@@ -39,7 +40,7 @@ impl Model for Filter {
 
 impl Filter {
     /// No group.
-    pub(crate) fn new(alloc: Global) -> Result<Filter, AllocError>
+    pub(crate) fn new(alloc: Global) -> Result<Filter>
         ensures { IfOk result (λ filter. (crc : ℕ) → ¬ (Marks filter crc)) }
     {
         Ok(Filter {

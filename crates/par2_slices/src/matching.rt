@@ -13,7 +13,8 @@ ghost use Rattle.par2_slices.specs.Texts.{texts_of};
 use crate::cutting::slice_count;
 use crate::pairs::{Pair, slice_crc32, slice_md5s};
 use par2_digests::LANES;
-use std::alloc::{AllocError, Global};
+use par2_spec::Result;
+use std::alloc::Global;
 
 /// Whether each pair has the CRC-32 of the slice of its number.
 fn have_crc32s(bytes: &[u8], s: u64, pairs: &[Pair]) -> bool
@@ -85,7 +86,7 @@ pub struct Target<'a> {
 }
 
 /// The numbers below `n`.
-fn numbers_below(alloc: Global, n: usize) -> Result<Vec<usize>, AllocError>
+fn numbers_below(alloc: Global, n: usize) -> Result<Vec<usize>>
     ensures { IfOk result (λ numbers. numbers.items ≡ range_with_len 0 n) }
 {
     (0..n).collect(alloc)
@@ -96,11 +97,8 @@ fn first_crc32(text: &[u8], s: u64, targets: &[Target]) -> Option<u32>
     requires { 1 ≤ s }
     ensures { IfSome result (IsFirst s text.now) }
 {
-    if text.is_empty()
-        || !targets
-            .iter()
-            .any(|target| target.length == text.len() as u64)
-    {
+    let mut targets = targets.iter();
+    if text.is_empty() || !targets.any(|target| target.length == text.len() as u64) {
         return None;
     }
     Some(slice_crc32(text, s, 0))
@@ -113,14 +111,12 @@ fn first_crc32s(
     texts: &[&[u8]],
     s: u64,
     targets: &[Target],
-) -> Result<Vec<Option<u32>>, AllocError>
+) -> Result<Vec<Option<u32>>>
     requires { 1 ≤ s }
     ensures { IfOk result (λ firsts. AreFirst s (texts_of texts.now) firsts.items) }
 {
-    texts
-        .iter()
-        .map(|text| first_crc32(text, s, targets))
-        .collect(alloc)
+    let firsts = texts.iter().map(|text| first_crc32(text, s, targets));
+    firsts.collect(alloc)
 }
 
 // Whether the text is intact for the target, by the CRC-32 of its first slice where that is known and another.
@@ -187,7 +183,7 @@ pub fn matched(
     texts: &[&[u8]],
     s: u64,
     targets: &[Target],
-) -> Result<Vec<Option<usize>>, AllocError>
+) -> Result<Vec<Option<usize>>>
     requires { 1 ≤ s }
     ensures { IfOk result (λ numbers. (ts : List sets.Target) → Describe targets.now ts
         → numbers.items ≡ matched_numbers s (texts_of texts.now) ts) }

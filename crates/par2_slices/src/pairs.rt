@@ -11,7 +11,8 @@ use crate::checksum::{crc32, padded_crc32};
 use crate::cutting::{slice_bytes, slice_count};
 use md5::{Digest, Md5};
 use par2_digests::{LANES, window_digests};
-use std::alloc::{AllocError, Global};
+use par2_spec::Result;
+use std::alloc::Global;
 use std::array;
 
 /// The checksums of a slice: its MD5, then its CRC-32.
@@ -107,13 +108,7 @@ pub(crate) fn slice_md5s(bytes: &[u8], s: u64, first: usize, count: usize) -> [[
 }
 
 /// Adds the checksums of `count` slices, eight at most, to those of the slices before them.
-fn push_group(
-    pairs: &mut Vec<Pair>,
-    bytes: &[u8],
-    s: u64,
-    first: usize,
-    count: usize,
-) -> Result<(), AllocError>
+fn push_group(pairs: &mut Vec<Pair>, bytes: &[u8], s: u64, first: usize, count: usize) -> Result<()>
     requires before { pairs.old.items ≡ first_pairs s bytes.now first }
     requires size { 1 ≤ s }
     requires few { count ≤ 8 }
@@ -129,7 +124,7 @@ fn push_group(
 }
 
 /// The checksums of the slices of a file.
-pub fn pairs_of(alloc: Global, bytes: &[u8], s: u64) -> Result<Vec<Pair>, AllocError>
+pub fn pairs_of(alloc: Global, bytes: &[u8], s: u64) -> Result<Vec<Pair>>
     requires { 1 ≤ s }
     ensures { IfOk result (λ pairs. pairs.items ≡ map checksums.pair_of (slices s bytes.now)) }
 {

@@ -7,7 +7,8 @@ ghost use Rattle.par2_slices.specs.Rolls.{after_slide, leaving};
 ghost use Rattle.par2_slices.specs.Steps.{steps};
 
 use crate::checksum::{after_byte, after_two, crc32, multiply, padded_crc32, power};
-use std::alloc::{AllocError, Global};
+use par2_spec::Result;
+use std::alloc::Global;
 use std::marker::Model;
 
 /// The CRC-32 of a window of a fixed size, which moves on by a byte at a time in a constant number of steps.
@@ -62,7 +63,7 @@ fn read_at_once(bytes: &[u8; 4]) -> [u8; 4]
 
 impl Rolling {
     /// For windows of `s` bytes. Before `start` the value is 0, that of no bytes.
-    pub fn new(alloc: Global, s: u64) -> Result<Rolling, AllocError>
+    pub fn new(alloc: Global, s: u64) -> Result<Rolling>
         requires { 1 ≤ s }
         ensures size { IfOk result (λ rolling. rolling.size ≡ s) }
         ensures value { IfOk result (λ rolling. rolling.value ≡ 0) }

@@ -16,16 +16,15 @@ use crate::rolling::Rolling;
 use crate::wanted_pairs::{Place, Wanted};
 use arrayvec::ArrayVec;
 use par2_digests::LANES;
-use std::alloc::{AllocError, Global};
+use par2_spec::Result;
+use std::alloc::Global;
 
 /// How many pairs of the group have this CRC-32 and no answer yet.
 fn awaited(group: &[Place], crc: u32, found: &[Option<Spot>]) -> usize
     ensures { result ≡ count_by (is_awaited crc found.now) group.now }
 {
-    group
-        .iter()
-        .filter(|place| place.is_awaited(crc, found))
-        .count()
+    let awaited = group.iter().filter(|place| place.is_awaited(crc, found));
+    awaited.count()
 }
 
 /// Whether a pair of the group, whose CRC-32 has the same low six bits, has no answer yet.
@@ -81,7 +80,7 @@ struct Search {
 
 impl Search {
     /// Before the first text.
-    fn new(alloc: Global, wanted: &Wanted) -> Result<Search, AllocError>
+    fn new(alloc: Global, wanted: &Wanted) -> Result<Search>
         ensures tally { IfOk result
             (λ search. IsTally wanted.now search.found.items search.left search.filter) }
         ensures open { IfOk result (λ search. AreOpen search.found.items) }
@@ -153,12 +152,8 @@ impl Search {
         ensures { IsTrue result ↔ (length self.now.batch.items < 8) × ((k : ℕ) → k
             < length self.now.batch.items → ¬ ((candidate_at self.now.batch.items k).crc ≡ crc)) }
     {
-        !self.batch.is_full()
-            && self
-                .batch
-                .as_slice()
-                .iter()
-                .all(|candidate| candidate.crc != crc)
+        let batch = self.batch.as_slice();
+        !self.batch.is_full() && batch.iter().all(|candidate| candidate.crc != crc)
     }
 
     /// Settles a full batch, one that has a candidate of this CRC-32, and each one before a window that reaches past the
@@ -247,11 +242,8 @@ impl Search {
     {
         let Spot { text, offset } = spot;
         for (k, &crc) in crcs.iter().enumerate() {
-            let spot = Spot {
-                text,
-                offset: offset + k,
-            };
-            self.test(wanted, bytes, s, spot, crc);
+            let offset = offset + k;
+            self.test(wanted, bytes, s, Spot { text, offset }, crc);
         }
     }
 
@@ -308,15 +300,13 @@ impl Search {
         ensures at { IsSearching s bytes.now earlier (length bytes.now) wanted.now self.new }
         ensures size { rolling.new.size ≡ s }
     {
+        let text = start.text;
         let incoming = bytes_from(bytes, s);
         for offset in start.offset..bytes.len() {
             if self.is_finished() {
                 break;
             }
-            let spot = Spot {
-                text: start.text,
-                offset,
-            };
+            let spot = Spot { text, offset };
             self.test(wanted, bytes, s, spot, rolling.value());
             rolling.slide(bytes[offset], byte_at(incoming, offset));
         }
@@ -382,7 +372,7 @@ pub fn find_among(
     texts: &[&[u8]],
     s: u64,
     wanted: &Wanted,
-) -> Result<Vec<Option<Spot>>, AllocError>
+) -> Result<Vec<Option<Spot>>>
     requires { 1 ≤ s }
     ensures { Lists (map (first_spot s (map (λ text. text.now) texts.now)) wanted.now) result }
 {
@@ -402,7 +392,7 @@ fn offset_of(spot: &Option<Spot>) -> Option<usize>
 }
 
 /// The offsets of spots.
-fn offsets_of(alloc: Global, spots: &[Option<Spot>]) -> Result<Vec<Option<usize>>, AllocError>
+fn offsets_of(alloc: Global, spots: &[Option<Spot>]) -> Result<Vec<Option<usize>>>
     ensures { Lists (map (option_map (λ spot. spot.offset)) spots.now) result }
 {
     spots.iter().map(offset_of).collect(alloc)
@@ -410,12 +400,7 @@ fn offsets_of(alloc: Global, spots: &[Option<Spot>]) -> Result<Vec<Option<usize>
 
 /// For each pair the least offset at which the window of `s` bytes of the text matches it, zeros standing past the end
 /// of the text; None where there is no such offset. It costs what `find_among` does.
-pub fn find(
-    alloc: Global,
-    bytes: &[u8],
-    s: u64,
-    wanted: &Wanted,
-) -> Result<Vec<Option<usize>>, AllocError>
+pub fn find(alloc: Global, bytes: &[u8], s: u64, wanted: &Wanted) -> Result<Vec<Option<usize>>>
     requires { 1 ≤ s }
     ensures { IfOk result (λ offsets. offsets.items ≡ map (first_match s bytes.now) wanted.now) }
 {

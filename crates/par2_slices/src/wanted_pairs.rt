@@ -7,7 +7,8 @@ ghost use Rattle.par2_slices.specs.Searches.{is_awaited, place_at, AreStarts, Ho
 use crate::batch::Spot;
 use crate::filter::{SHIFT, WORDS};
 use crate::pairs::Pair;
-use std::alloc::{AllocError, Global};
+use par2_spec::Result;
+use std::alloc::Global;
 use std::marker::Model;
 
 /// Where a pair stands among the pairs that are wanted, and its CRC-32.
@@ -64,7 +65,7 @@ fn group_start(places: &[Place], group: usize, start: usize) -> usize
 }
 
 /// Where the places of each group begin, and then the number of all places.
-fn group_starts(alloc: Global, places: &[Place]) -> Result<Vec<usize>, AllocError>
+fn group_starts(alloc: Global, places: &[Place]) -> Result<Vec<usize>>
     requires { IsNonDecreasingBy (λ place. place.crc) places.now }
     ensures { IfOk result (λ starts. AreStarts places.now starts.items) }
 {
@@ -79,7 +80,7 @@ fn group_starts(alloc: Global, places: &[Place]) -> Result<Vec<usize>, AllocErro
 
 impl Wanted {
     /// Keeps the pairs in their order.
-    pub fn new(alloc: Global, pairs: &[Pair]) -> Result<Wanted, AllocError>
+    pub fn new(alloc: Global, pairs: &[Pair]) -> Result<Wanted>
         ensures { IfOk result (λ wanted. wanted ≡ pairs.now) }
     {
         let mut places = Vec::with_capacity(alloc, pairs.len())?;

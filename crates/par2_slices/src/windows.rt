@@ -5,7 +5,8 @@ ghost use Rattle.par2_spec.specs.Windows.{found};
 ghost use Rattle.par2_slices.specs.Texts.{AreShort, IsInTexts, IsShort, IsWindowAt, padded_windows, texts_of};
 
 use crate::{Pair, Spot, Wanted, find_among, window_bytes};
-use std::alloc::{AllocError, Global};
+use par2_spec::Result;
+use std::alloc::Global;
 
 /// The window at a spot, if there is one.
 fn window_at<'a>(texts: &[&'a [u8]], s: u64, spot: Option<Spot>) -> Option<&'a [u8]>
@@ -24,7 +25,7 @@ pub fn found_windows<'a>(
     texts: &[&'a [u8]],
     s: u64,
     pairs: &[Pair],
-) -> Result<Vec<Option<&'a [u8]>>, AllocError>
+) -> Result<Vec<Option<&'a [u8]>>>
     requires { 1 ≤ s }
     ensures first { IfOk result (λ windows.
         padded_windows s windows.items ≡ map (found s (texts_of texts.now)) pairs.now) }

@@ -1,12 +1,10 @@
-use Rattle.par2_packets.proofs.Common.{rules, ◌≡◌, ◌++◌, List, ℕ, map, sym, ap, ap₂, ◌∙◌, arith, flat_map, w32, to_le_bytes, length-map, take_all, file_record_of, FileRecord}
+use Rattle.par2_packets.proofs.Common.{rules, ◌≡◌, ◌++◌, List, ℕ, map, sym, ap, ap₂, ◌∙◌, arith, flat_map, w32, to_le_bytes, length-map, take_all, common_steps, file_record_of}
+use Rattle.par2_packets.specs.declared.record.FileRecord.{FileRecord}
 use Rattle.par2_spec.specs.Volumes as volumes
-use Rattle.par2_packets.proofs.Parts.{one_id_more}
 use Rattle.par2_packets.proofs.append.append_main.Goals as goal
 
 pub loop-file-preserved : goal.loop-file-preserved
-loop-file-preserved c =
-    one_id_more c.extend_from_slice.new.self.items c.loop-file.body.items c.extend_from_slice-in-loop-file.new.self.items c.args.files.now c.loop-file.file-index c.file-item.result
-    c.loop-file-test.true c.file-item.is c.loop-file.invariant c.in_ok-extend_from_slice-2.ensures.items
+loop-file-preserved c = grind (arith, common_steps)
 
 pub returns-clause-ok : goal.returns-clause-ok
 returns-clause-ok c =

@@ -1,23 +1,23 @@
 use Rattle.par2_packets.proofs.Common.{◌≡◌, ◌+◌, ◌-◌, ◌≤◌, ℕ, List, [], length, drop, true, false, ap, sym, ◌∙◌, arith, rest_of, packet_of}
 use Rattle.std.proofs.Common.{length-drop}
 use Rattle.par2_spec.specs.Packets as packets
-use Rattle.par2_packets.proofs.Finding.{claim_bounds, body_length, front, found, not_here, passed_to, magic_within, nothing}
+use Rattle.par2_packets.proofs.Finding.{begun, body_length, front, found, not_here, passed_to, magic_within, nothing}
 use Rattle.par2_packets.proofs.scan.next_packet.Goals as goal
 
 pub first_packet-packet-requires-clause-low : goal.first_packet-packet-requires-clause-low
 first_packet-packet-requires-clause-low c =
-    (claim_bounds _ (front _ _ _ _ c.rest-then-begins_with_packet.ensures c.begins_with_packet.ensures.kept c.begins_with_packet.ensures.begins c.if-begins_with_packet.true)).0
+    (begun _ (front _ _ _ _ c.rest-then-begins_with_packet.ensures c.begins_with_packet.ensures.kept c.begins_with_packet.ensures.begins c.if-begins_with_packet.true)).1
 
 pub first_packet-packet-requires-clause-high : goal.first_packet-packet-requires-clause-high
 first_packet-packet-requires-clause-high c =
-    (claim_bounds _ (front _ _ _ _ c.rest-then-begins_with_packet.ensures c.begins_with_packet.ensures.kept c.begins_with_packet.ensures.begins c.if-begins_with_packet.true)).1
+    (begun _ (front _ _ _ _ c.rest-then-begins_with_packet.ensures c.begins_with_packet.ensures.kept c.begins_with_packet.ensures.begins c.if-begins_with_packet.true)).2
 
 pub advance-requires-then-begins_with_packet : goal.advance-requires-then-begins_with_packet
 advance-requires-then-begins_with_packet c =
     let here : List ℕ = c.rest-then-begins_with_packet.result.now in
     let begins : packets.begins_with_packet here ≡ true = front _ _ _ _ c.rest-then-begins_with_packet.ensures c.begins_with_packet.ensures.kept c.begins_with_packet.ensures.begins c.if-begins_with_packet.true in
     let size : 64 + length c.first_packet-packet.result.body.now ≡ packets.claimed_length here = body_length here (packet_of c.first_packet-packet.result) begins c.first_packet-packet.ensures in
-    let most : packets.claimed_length here ≤ length here = (claim_bounds here begins).1 in
+    let most : packets.claimed_length here ≤ length here = (begun here begins).2 in
     omega (arith, size, most, ap length c.rest-then-begins_with_packet.ensures)
 
 pub returns-then-begins_with_packet : goal.returns-then-begins_with_packet

@@ -9,7 +9,8 @@ returns-in_err-description c =
     let ids = c.args.main.now.ids in
     let found = description_of packets in
     let at = item_at ids c.loop-k.k _ c.id.ensures in
-    let missing : ok_or (found c.id.result) NoDescription ≡ Err c.in_err-description.field-0.0 = ap (λ o. ok_or o NoDescription) (sym (c.description_of.ensures packets c.in_ok-firsts.ensures)) ∙ sym c.ok_or.ensures.value ∙ c.in_err-description.was in
+    let is : c.and_then-found.result ≡ found c.id.result = search (rules, c.in_ok-firsts.ensures c.id.result) in
+    let missing : ok_or (found c.id.result) NoDescription ≡ Err c.in_err-description.field-0.0 = ap (λ o. ok_or o NoDescription) (sym is) ∙ sym c.ok_or.ensures.value ∙ c.in_err-description.was in
     passed_on _ _ _ _ c.from_residual-in_err-description.ensures.1 (inr (one_missing found ids c.loop-k.k c.id.result NoDescription _ at.0 at.1 missing))
 
 pub loop-k-preserved : goal.loop-k-preserved
@@ -18,7 +19,8 @@ loop-k-preserved c =
     let ids = c.args.main.now.ids in
     let found = description_of packets in
     let at = item_at ids c.loop-k.k _ c.id.ensures in
-    let there : c.description_of.result ≡ Some c.in_ok-description.description = grind arith in
+    let is : c.and_then-found.result ≡ found c.id.result = search (rules, c.in_ok-firsts.ensures c.id.result) in
+    let there : c.and_then-found.result ≡ Some c.in_ok-description.description = grind arith in
     let pushed : c.push.new.self.items ≡ c.loop-k.descriptions.items ++ c.in_ok-description.description ∷ [] = search rules in
-    all_some_more found ids c.loop-k.k c.id.result c.loop-k.descriptions.items c.in_ok-description.description at.0 at.1 c.loop-k.invariant (sym (c.description_of.ensures packets c.in_ok-firsts.ensures) ∙ there)
+    all_some_more found ids c.loop-k.k c.id.result c.loop-k.descriptions.items c.in_ok-description.description at.0 at.1 c.loop-k.invariant (sym is ∙ there)
     ∙ ap Some (sym pushed)

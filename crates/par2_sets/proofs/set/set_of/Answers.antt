@@ -1,6 +1,6 @@
 use Rattle.par2_sets.proofs.Common.{◌≡◌, ◌∙◌, map, Some, sym, ap, arith, packet_of, set_in}
 use Rattle.par2_spec.specs.Sets as sets
-use Rattle.par2_sets.proofs.Reading.{at_packets, first_id, refused, read, sound}
+use Rattle.par2_sets.proofs.Reading.{answered, at_packets, first_id}
 use Rattle.par2_sets.proofs.set.set_of.Goals.{After-deref}
 use Rattle.par2_sets.proofs.set.set_of.Goals as goal
 
@@ -16,11 +16,7 @@ set_in-requires c = λ set e. c.set_is_sound.ensures c.args.folder.now.files c.a
 
 pub returns : goal.returns
 returns c =
-    let whole = sets.set_of c.args.folder.now.files c.args.base.now in
-    let step = set_in c.in_ok-id.field-0.set_id (map packet_of c.deref.result.now) in
-    let is = in_step (goal.at.returns c).After-deref in
-    record {
-      refused = refused whole step c.set_in.result is c.set_in.ensures;
-      read = read whole step c.set_in.result is c.set_in.ensures;
-      sound = sound whole step c.set_in.result is c.set_in.ensures (λ set e. c.set_is_sound.ensures c.args.folder.now.files c.args.base.now set e);
-    }
+    let files = c.args.folder.now.files in
+    let base = c.args.base.now in
+    let all = answered (sets.set_of files base) _ c.set_in.result (in_step (goal.at.returns c).After-deref) c.set_in.ensures (c.set_is_sound.ensures files base) in
+    record { refused = all.0; read = all.1.0; sound = all.1.1 }

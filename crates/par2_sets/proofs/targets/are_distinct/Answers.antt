@@ -7,9 +7,9 @@ pub returns : goal.returns
 returns c =
     let ds : List DescBody = c.args.descriptions.now in
     let names : List (List ℕ) = map (λ d. d.name) ds in
-    let ran = c.in_ok-names.ensures.ran in
-    let items = items_from_drains ran.0 ran.1 (YieldsList-from_map_by _ (λ name. name.now) (λ (d : DescBody). d.name) (YieldsList-from_slice ds cc) c.map.ensures.closure (λ x r q k. search rules)) in
-    let size = btree_set_len-from_list (on_total (λ name. name.now) nat_list_cmp_total) ran.0 c.in_ok-names.names ran.2 in
+    let ran = c.in_ok-distinct.ensures.ran in
+    let items = items_from_drains ran.0 ran.1 (YieldsList-from_map_by _ (λ name. name.now) (λ (d : DescBody). d.name) (YieldsList-from_slice ds cc) c.map-names.ensures.closure (λ x r q k. search rules)) in
+    let size = btree_set_len-from_list (on_total (λ name. name.now) nat_list_cmp_total) ran.0 c.in_ok-distinct.distinct ran.2 in
     ap (λ n. n == length ds) (
     c.len.ensures.len ∙ size
     ∙ distinct_count-map _ (λ name. name.now) (λ a b. sym (texts_ties a.now b.now)) ran.0

@@ -5,9 +5,8 @@ use Rattle.par2_slices.proofs.matching.matched.Goals as goal
 pub loop-target-init : goal.loop-target-init
 loop-target-init c =
     let texts : List (List ℕ) = texts_of c.args.texts.now in
-    let Below : List ℕ → Type 0 = λ free. AreBelow (length c.args.texts.now) free in
     record {
-      free = subst Below (sym c.in_ok-free.ensures) (below_length (length c.args.texts.now));
+      free = subst (λ (free : List ℕ). AreBelow (length c.args.texts.now) free) (sym c.in_ok-free.ensures) (below_length (length c.args.texts.now));
       numbers = λ ts h. ap (λ numbers. numbers ++ matched_from c.args.s texts c.in_ok-free.free.items ts) c.in_ok-numbers.ensures.items
           ∙ ap (λ free. matched_from c.args.s texts free ts) (c.in_ok-free.ensures ∙ ap (range_with_len 0) (sym (length-map c.args.texts.now (λ (text : Bor (List ℕ)). text.now))));
     }

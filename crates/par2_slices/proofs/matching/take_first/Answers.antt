@@ -15,8 +15,7 @@ returns-clause-free c =
     let first : ℕ = c.in_ok-first.first in
     let other : ℕ → Bool = λ i. not (i == first) in
     let left : c.retain.new.self.items ≡ filter other c.args.free.now.items = filter_same _ other _ (λ x b f' k. search rules) _ _ c.retain.ensures.filtered in
-    let Below : List ℕ → Type 0 = λ free. AreBelow (length c.args.texts.now) free in
-    subst Below (sym left) (All-filter other (λ i. i < length c.args.texts.now) c.args.free.now.items c.requires.free)
+    subst (λ (free : List ℕ). AreBelow (length c.args.texts.now) free) (sym left) (All-filter other (λ i. i < length c.args.texts.now) c.args.free.now.items c.requires.free)
 
 pub returns-clause-first : goal.returns-clause-first
 returns-clause-first c t h =

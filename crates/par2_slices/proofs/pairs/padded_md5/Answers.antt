@@ -5,8 +5,7 @@ use Rattle.par2_slices.proofs.pairs.padded_md5.Goals as goal
 pub loop-preserved : goal.loop-preserved
 loop-preserved c =
     let before = c.args.bytes.now ++ replicate (c.loop.counter * 1024) 0 in
-    let Held : List ℕ → Type 0 = λ m. Holds c.update-in-loop.new.self m in
-    subst Held (more_zeros c.args.bytes.now c.loop.counter 1024) (c.update-in-loop.ensures before c.loop.invariant)
+    subst (λ (m : List ℕ). Holds c.update-in-loop.new.self m) (more_zeros c.args.bytes.now c.loop.counter 1024) (c.update-in-loop.ensures before c.loop.invariant)
 
 pub returns : goal.returns
 returns c =

@@ -5,26 +5,18 @@ use Rattle.par2_slices.proofs.filter.Filter.remove.Goals as goal
 pub index_mut-requires : goal.index_mut-requires
 index_mut-requires c = omega (arith, its_place c.args.crc c.self.inside.words.items c.ranges.crc.fits c.self.invariant)
 
-pub returns-clause-gone : goal.returns-clause-gone
-returns-clause-gone c =
+pub returns : goal.returns
+returns c =
+    let crc = c.args.crc in
     let items = c.self.inside.words.items in
-    let read = word_read c.args.crc c.index_mut.result.now items c.ranges.crc.fits c.self.invariant c.index_mut.ensures.value in
-    rw read (gone c.args.crc items (its_place c.args.crc items c.ranges.crc.fits c.self.invariant))
-
-pub returns-clause-kept : goal.returns-clause-kept
-returns-clause-kept c other differs is =
-    let items = c.self.inside.words.items in
-    let read = word_read c.args.crc c.index_mut.result.now items c.ranges.crc.fits c.self.invariant c.index_mut.ensures.value in
-    let Has : Groups → Type 0 = λ groups. Marks groups other in
-    rw read (kept_by_remove c.args.crc items (its_place c.args.crc items c.ranges.crc.fits c.self.invariant) other differs (subst Has (sym c.self.view_is) is))
-
-pub returns-clause-only : goal.returns-clause-only
-returns-clause-only c other is =
-    let items = c.self.inside.words.items in
-    let read = word_read c.args.crc c.index_mut.result.now items c.ranges.crc.fits c.self.invariant c.index_mut.ensures.value in
-    let Has : Groups → Type 0 = λ groups. Marks groups other in
-    let After : ℕ → Type 0 = λ word. Marks (record { words = set items (c.args.crc / 2 ^ 17) (bit_and word (bit_not w64 (1 * 2 ^ (c.args.crc % 64) % 2 ^ 64))) }) other in
-    subst Has c.self.view_is (only_by_remove c.args.crc items (its_place c.args.crc items c.ranges.crc.fits c.self.invariant) other (subst After read is))
+    let place = its_place crc items c.ranges.crc.fits c.self.invariant in
+    let read = word_read crc c.index_mut.result.now items c.ranges.crc.fits c.self.invariant c.index_mut.ensures.value in
+    let After : ℕ → ℕ → Type 0 = λ other word. Marks (record { words = set items (crc / 2 ^ 17) (bit_and word (bit_not w64 (1 * 2 ^ (crc % 64) % 2 ^ 64))) }) other in
+    record {
+      gone = rw read (gone crc items place);
+      kept = λ other differs is. rw read (kept_by_remove crc items place other differs (subst (λ (groups : Groups). Marks groups other) (sym c.self.view_is) is));
+      only = λ other is. subst (λ (groups : Groups). Marks groups other) c.self.view_is (only_by_remove crc items place other (subst (After other) read is));
+    }
 
 pub invariant_of-self : goal.invariant_of-self
 invariant_of-self c =

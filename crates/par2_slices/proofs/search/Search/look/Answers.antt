@@ -8,7 +8,6 @@ returns-else-pairs-gt0 g c =
     let crc : ℕ = c.args.crc in
     let group : List Place = c.group.result.now in
     let room : Search = c.make_room.new.self in
-    let Counted : List (Option Spot) → Type 0 = λ found. count_by (is_awaited crc found) group ≡ 0 in
     let none : c.awaited-pairs.result ≡ 0 = omega (arith, c.if-pairs-gt0.false) in
     unawaited c.args.s c.args.bytes.now g.earlier c.args.spot.offset c.args.wanted.now room.found.items room.left room.filter room.batch.items crc group c.make_room.ensures.at c.requires.1.1.1 c.group.ensures
-    (subst Counted c.deref.ensures.value (sym c.awaited-pairs.ensures ∙ none))
+    (subst (λ (found : List (Option Spot)). count_by (is_awaited crc found) group ≡ 0) c.deref.ensures.value (sym c.awaited-pairs.ensures ∙ none))

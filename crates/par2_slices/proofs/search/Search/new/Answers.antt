@@ -1,5 +1,6 @@
-use Rattle.par2_slices.proofs.Common.{◌∙◌, rules, refl, List, length, subst, ap, arith, Option, Pair, Spot, answer_at, IsTally}
-use Rattle.par2_slices.proofs.Searching.{filled_more, none_answered, never_answered}
+use Rattle.par2_slices.proofs.Common.{◌∙◌, rules, refl, List, length, subst, ap, arith, None, Option, Pair, Spot, answer_at, IsTally}
+use Rattle.par2_slices.proofs.Groups.{replicate_at}
+use Rattle.par2_slices.proofs.Searching.{filled_more, none_answered}
 use Rattle.par2_slices.proofs.search.Search.new.Goals as goal
 
 pub returns-clause-tally : goal.returns-clause-tally
@@ -13,7 +14,7 @@ returns-clause-tally c =
 pub returns-clause-open : goal.returns-clause-open
 returns-clause-open c i =
     let filled = c.in_ok-vec.ensures.items_if_clones_equal in
-    ap (λ (found : List (Option Spot)). answer_at found i) (filled (λ y h. search rules)) ∙ never_answered (length c.pairs-pairs.result.now) i
+    ap (λ (found : List (Option Spot)). answer_at found i) (filled (λ y h. search rules)) ∙ replicate_at (length c.pairs-pairs.result.now) i None
 
 pub loop-pair-preserved : goal.loop-pair-preserved
 loop-pair-preserved c =

@@ -10,10 +10,9 @@ returns-then-window-s g c =
     let s : ℕ = c.args.s in
     let text : List ℕ = c.args.bytes.now in
     let o : ℕ = c.args.candidate.spot.offset in
-    let At : List Candidate → Type 0 = λ batch. IsAt s text g.earlier (o + 1) c.args.wanted.now c.answer.new.self.found.items c.answer.new.self.left c.answer.new.self.filter batch in
     let size : length c.window_bytes-window.result.now ≡ length (take s (drop o text)) = ap length c.window_bytes-window.ensures in
     let short : length text < o + s = omega (arith, c.if-window-s.true, size, length-take s (drop o text), length-drop o text) in
-    subst At (sym c.answer.ensures.batch)
+    subst (λ (batch : List Candidate). IsAt s text g.earlier (o + 1) c.args.wanted.now c.answer.new.self.found.items c.answer.new.self.left c.answer.new.self.filter batch) (sym c.answer.ensures.batch)
     (compared s text g.earlier o c.args.wanted.now c.args.self.now.found.items c.answer.new.self.found.items c.args.self.now.left c.answer.new.self.left c.args.self.now.filter c.answer.new.self.filter c.args.self.now.batch.items c.args.candidate.spot c.padded_md5.result c.args.candidate.crc
     c.requires.0 (c.requires.1.1.1.1.1 short) (ap (λ t. spot_in t o) c.requires.1.1.0) (c.padded_md5.ensures ∙ ap (λ bytes. md5 (padded s bytes)) c.window_bytes-window.ensures) c.requires.1.1.1.0 c.answer.ensures.tally c.answer.ensures.each)
 

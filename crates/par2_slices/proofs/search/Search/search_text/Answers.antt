@@ -5,8 +5,7 @@ use Rattle.par2_slices.proofs.search.Search.search_text.Goals as goal
 pub returns-then-is_finished-clause-at : goal.returns-then-is_finished-clause-at
 returns-then-is_finished-clause-at g c =
     let search = c.args.self.now in
-    let At : ℕ → Type 0 = λ o. IsAt c.args.s c.args.bytes.now g.earlier o c.args.wanted.now search.found.items search.left search.filter search.batch.items in
-    subst At (let e : 0 + length c.args.bytes.now ≡ length c.args.bytes.now = omega arith in e)
+    subst (λ (o : ℕ). IsAt c.args.s c.args.bytes.now g.earlier o c.args.wanted.now search.found.items search.left search.filter search.batch.items) (let e : 0 + length c.args.bytes.now ≡ length c.args.bytes.now = omega arith in e)
     (none_left c.args.s c.args.bytes.now g.earlier 0 (length c.args.bytes.now) c.args.wanted.now search.found.items search.left search.filter search.batch.items c.requires.1.1.0 (c.is_finished.ensures.0 c.if-is_finished.true))
 
 pub returns-clause-at : goal.returns-clause-at

@@ -17,8 +17,7 @@ loop-k-preserved c =
     let candidates_are : candidates ≡ c.args.self.now.batch.items = c.as_slice-candidates.ensures.value ∙ ap (λ batch. batch.items) c.take-batch.ensures.value in
     let candidate : Candidate = candidate_at candidates k in
     let inside : k < length candidates = c.loop-k-test.true in
-    let Each : List Candidate → Type 0 = λ cs. (j : ℕ) → j < length cs → IsWindow s text (candidate_at cs j) in
-    let its : IsWindow s text candidate = subst Each (sym candidates_are) c.requires.candidates k inside in
+    let its : IsWindow s text candidate = subst (λ (cs : List Candidate). (j : ℕ) → j < length cs → IsWindow s text (candidate_at cs j)) (sym candidates_are) c.requires.candidates k inside in
     record {
       tally = c.answer.ensures.tally;
       each = λ i h.

@@ -8,12 +8,10 @@ loop-k-init g c =
 
 pub loop-k-preserved : goal.loop-k-preserved
 loop-k-preserved g c =
-    let At : ℕ → Type 0 = λ o. IsAt c.args.s c.args.bytes.now g.earlier o c.args.wanted.now c.test.new.self.found.items c.test.new.self.left c.test.new.self.filter c.test.new.self.batch.items in
     let next : c.args.spot.offset + c.loop-k.k + 1 ≡ c.args.spot.offset + (c.loop-k.k + 1) = omega arith in
-    subst At next c.test.ensures
+    subst (λ (o : ℕ). IsAt c.args.s c.args.bytes.now g.earlier o c.args.wanted.now c.test.new.self.found.items c.test.new.self.left c.test.new.self.filter c.test.new.self.batch.items) next c.test.ensures
 
 pub returns : goal.returns
 returns g c =
-    let At : ℕ → Type 0 = λ o. IsAt c.args.s c.args.bytes.now g.earlier o c.args.wanted.now c.loop-k.self.found.items c.loop-k.self.left c.loop-k.self.filter c.loop-k.self.batch.items in
     let all : c.args.spot.offset + c.loop-k.k ≡ c.args.spot.offset + 4 = omega arith in
-    subst At all c.loop-k.invariant
+    subst (λ (o : ℕ). IsAt c.args.s c.args.bytes.now g.earlier o c.args.wanted.now c.loop-k.self.found.items c.loop-k.self.left c.loop-k.self.filter c.loop-k.self.batch.items) all c.loop-k.invariant

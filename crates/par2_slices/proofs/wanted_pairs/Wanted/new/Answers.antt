@@ -17,13 +17,11 @@ group_starts-requires c =
 pub invariant_of-result : goal.invariant_of-result
 invariant_of-result c =
     let sorted = c.sort_unstable_by_key.new.self.items in
-    let Its : List Pair → Type 0 = λ pairs. IsIndex pairs sorted in
-    let Starts : List Place → Type 0 = λ places. AreStarts places c.in_ok-starts.starts.items in
     let all : c.loop-index.index ≡ length c.args.pairs.now = omega arith in (
-      subst Its (sym c.in_ok-pairs.ensures.items)
+      subst (λ (pairs : List Pair). IsIndex pairs sorted) (sym c.in_ok-pairs.ensures.items)
           (index_of c.args.pairs.now c.loop-index.places.items sorted
           (c.loop-index.invariant ∙ ap (λ n. map (place_of c.args.pairs.now) (range_with_len 0 n)) all)
           c.sort_unstable_by_key.ensures.permutation
           (IsNonDecreasingBy-from_sort_by_key (λ place. place.crc) _ c.sort_unstable_by_key.ensures.sorted (λ a r q k. search rules))),
-      subst Starts c.deref.ensures.value c.in_ok-starts.ensures,
+      subst (λ (places : List Place). AreStarts places c.in_ok-starts.starts.items) c.deref.ensures.value c.in_ok-starts.ensures,
     )
