@@ -17,8 +17,9 @@ use crate::exponents::coefficients;
 use crate::products::{BLOCK, fit_lists, products_of, source_at, text_at};
 use crate::syndromes::windows;
 use par2_gf16::Gf;
+use par2_spec::Result;
 use par2_transform::{Places, add_recovery_slices_at, add_to_output, whole_texts};
-use std::alloc::{AllocError, Global};
+use std::alloc::Global;
 
 // From so many exponents and slices on, recovery slices are computed together: below, each as the sum of its products is
 // faster.
@@ -55,7 +56,7 @@ fn sum_columns(slices: usize, count: usize, room: usize) -> usize
 }
 
 /// The numbers from `first` on, `count` of them.
-pub(crate) fn numbers_from(alloc: Global, first: u32, count: u32) -> Result<Vec<u32>, AllocError>
+pub(crate) fn numbers_from(alloc: Global, first: u32, count: u32) -> Result<Vec<u32>>
     requires { first + count ≤ 2 ^ 32 }
     ensures { IfOk result (λ numbers. numbers.items ≡ range_with_len first count) }
 {
@@ -63,12 +64,7 @@ pub(crate) fn numbers_from(alloc: Global, first: u32, count: u32) -> Result<Vec<
 }
 
 // For each exponent, what it multiplies the slices of these numbers by.
-fn rows_over(
-    alloc: Global,
-    gf: &Gf,
-    numbers: &[u32],
-    exponents: &[u32],
-) -> Result<Vec<Vec<u16>>, AllocError>
+fn rows_over(alloc: Global, gf: &Gf, numbers: &[u32], exponents: &[u32]) -> Result<Vec<Vec<u16>>>
     requires { (i : ℕ) → slice_index numbers.now i < 32768 }
     ensures { IfOk result (λ it. lists_of it.items ≡ map (coefficients numbers.now) exponents.now) }
 {
@@ -122,7 +118,7 @@ fn add_columns(
     outputs: &Places,
     from: usize,
     to: usize,
-) -> Result<(), AllocError>
+) -> Result<()>
     requires some { 0 < length rows.now }
     requires rows { length rows.now ≡ length outputs.now.places.now }
     requires factors { HaveAtLeast (length slices.now) rows.now }
@@ -152,7 +148,7 @@ fn add_by_coefficients(
     texts: &mut [Vec<u8>],
     outputs: &Places,
     room: usize,
-) -> Result<(), AllocError>
+) -> Result<()>
     requires slices { length slices.now ≤ 32768 }
     requires some { 0 < length exponents.now }
     requires count { length exponents.now ≡ length outputs.now.places.now }
@@ -232,7 +228,7 @@ fn add_group(
     texts: &mut [Vec<u8>],
     outputs: &Places,
     room: usize,
-) -> Result<(), AllocError>
+) -> Result<()>
     requires slices { length slices.now ≤ 32768 }
     requires some { 0 < length exponents.now }
     requires count { length exponents.now ≡ length outputs.now.places.now }
@@ -255,7 +251,7 @@ pub(crate) fn add_recovery(
     texts: &mut [Vec<u8>],
     outputs: &Places,
     room: usize,
-) -> Result<(), AllocError>
+) -> Result<()>
     requires slices { length slices.now ≤ 32768 }
     requires count { length exponents.now ≡ length outputs.now.places.now }
     requires room { LieIn outputs.now texts.old }
@@ -273,7 +269,7 @@ pub(crate) fn add_recovery(
 }
 
 // A copy of each text.
-fn copies(alloc: Global, texts: &[&[u8]]) -> Result<Vec<Vec<u8>>, AllocError>
+fn copies(alloc: Global, texts: &[&[u8]]) -> Result<Vec<Vec<u8>>>
     ensures { IfOk result (λ copies. lists_of copies.items ≡ texts_of texts.now) }
 {
     let mut copies = Vec::with_capacity(alloc, texts.len())?;
@@ -292,7 +288,7 @@ pub(crate) fn with_recovery_slices(
     exponents: &[u32],
     texts: &[&[u8]],
     room: usize,
-) -> Result<Vec<Vec<u8>>, AllocError>
+) -> Result<Vec<Vec<u8>>>
     requires slices { length slices.now ≤ 32768 }
     requires count { length exponents.now ≡ length texts.now }
     requires size { HaveWords words (texts_of texts.now) }

@@ -19,7 +19,8 @@ use crate::rebuild_slices::RebuildFault;
 use crate::run_inverse::run_inverse;
 use par2_gf16::Gf;
 use par2_matrix::{Offer, System, element, put_element};
-use std::alloc::{AllocError, Global};
+use par2_spec::Result;
+use std::alloc::Global;
 
 // The recovery slices of the kept exponents, in order, and the system of their equations: the right side of the j-th one
 // is the j-th unit vector.
@@ -51,7 +52,7 @@ fn eliminate<'a>(
     gf: &Gf,
     lost: &[u32],
     recovery: &[(u32, &'a [u8])],
-) -> Result<Elimination<'a>, AllocError>
+) -> Result<Elimination<'a>>
     requires count { length lost.now ≤ 32768 }
     requires lost { (i : ℕ) → slice_index lost.now i < 32768 }
     requires exponents { IsStrictlyIncreasing (exponents_of recovery.now) }
@@ -101,10 +102,7 @@ fn invert_by_elimination<'a>(
 }
 
 /// The bytes of the recovery slices.
-pub(crate) fn bytes_of<'a>(
-    alloc: Global,
-    kept: &[(u32, &'a [u8])],
-) -> Result<Vec<&'a [u8]>, AllocError>
+pub(crate) fn bytes_of<'a>(alloc: Global, kept: &[(u32, &'a [u8])]) -> Result<Vec<&'a [u8]>>
     ensures { IfOk result (λ slices. texts_of slices.items
         ≡ map (λ r. r.1) (recovered_of kept.now)) }
 {
@@ -112,14 +110,14 @@ pub(crate) fn bytes_of<'a>(
 }
 
 /// The exponents of the recovery slices.
-pub(crate) fn exponents_of(alloc: Global, kept: &[(u32, &[u8])]) -> Result<Vec<u32>, AllocError>
+pub(crate) fn exponents_of(alloc: Global, kept: &[(u32, &[u8])]) -> Result<Vec<u32>>
     ensures { IfOk result (λ exponents. exponents.items ≡ exponents_of kept.now) }
 {
     kept.iter().map(|slice| slice.0).collect(alloc)
 }
 
 // The elements of a text.
-fn row_of(alloc: Global, text: &[u8]) -> Result<Vec<u16>, AllocError>
+fn row_of(alloc: Global, text: &[u8]) -> Result<Vec<u16>>
     requires { length text.now % 2 ≡ 0 }
     ensures { IfOk result (λ row. Spells row.items text.now (length row.items)) }
 {
@@ -132,7 +130,7 @@ fn row_of(alloc: Global, text: &[u8]) -> Result<Vec<u16>, AllocError>
 }
 
 // The elements of each text.
-fn rows_of(alloc: Global, texts: &[Vec<u8>]) -> Result<Vec<Vec<u16>>, AllocError>
+fn rows_of(alloc: Global, texts: &[Vec<u8>]) -> Result<Vec<Vec<u16>>>
     requires { (r : ℕ) → r < length texts.now → length (list_at (lists_of texts.now) r) % 2 ≡ 0 }
     ensures { IfOk result
         (λ rows. AreRows (lists_of rows.items) (lists_of texts.now) (length texts.now)) }
@@ -145,7 +143,7 @@ fn rows_of(alloc: Global, texts: &[Vec<u8>]) -> Result<Vec<Vec<u16>>, AllocError
 }
 
 // The text of the unit vector of n elements that has 1 at i, or of zeros, where i is none of its places.
-fn unit(alloc: Global, n: usize, i: usize) -> Result<Vec<u8>, AllocError>
+fn unit(alloc: Global, n: usize, i: usize) -> Result<Vec<u8>>
     requires { n < 65536 }
     ensures size { IfOk result (λ text. length text.items ≡ 2 * n) }
     ensures unit { i < n → IfOk result (λ text. IsUnit n i text.items) }
@@ -183,7 +181,7 @@ fn invert_run<'a>(
     lost: &[u32],
     recovery: &[(u32, &'a [u8])],
     first: u32,
-) -> Result<Inversion<'a>, AllocError>
+) -> Result<Inversion<'a>>
     requires lost { AreSlices lost.now }
     requires exponents { IsStrictlyIncreasing (exponents_of recovery.now) }
     requires run { BeginsWithRun first (length lost.now) (exponents_of recovery.now) }

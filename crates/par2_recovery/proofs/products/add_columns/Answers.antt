@@ -12,6 +12,6 @@ loop-k-preserved c =
     let new = lists_of c.add_text.new.targets in
     let sources = texts_of c.args.sources.now in
     let added : AddsSource factor (list_at sources c.loop-k.k) mid new c.args.from c.args.to (length c.loop-k.targets) =
-    subst (λ xs. AddsSource factor xs mid new c.args.from c.args.to (length c.loop-k.targets)) c.source_at.ensures c.in_ok-add_text.ensures in
+    subst (λ xs. AddsSource factor xs mid new c.args.from c.args.to (length c.loop-k.targets)) c.source_at-text.ensures c.in_ok-add_text.ensures in
     next_source (lists_of c.args.factors.now) sources (lists_of c.args.targets.now) mid new c.args.from c.args.to c.loop-k.k c.loop-k.invariant
     (subst (λ n. AddsSource factor (list_at sources c.loop-k.k) mid new c.args.from c.args.to n) (sym (length-lists_of c.loop-k.targets)) added)

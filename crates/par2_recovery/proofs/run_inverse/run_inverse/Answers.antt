@@ -1,6 +1,13 @@
-use Rattle.par2_recovery.proofs.Common.{rules, ◌≡◌, ◌≢◌, ◌<◌, ◌+◌, ◌++◌, ◌∷◌, [], ◌∙◌, sym, ap, subst, arith, length, get_or, map, length-map, mul, pow, constant, value, with_roots, quotient, lists_of, IsScaledQuotient, AreScaledQuotients}
+use Rattle.par2_recovery.proofs.Common.{rules, ◌≡◌, ◌≢◌, ◌<◌, ◌+◌, ◌++◌, ◌∷◌, [], ◌∙◌, ℕ, List, refl, sym, ap, ap₂, subst, arith, length, get_or, map, length-map, product-one, mul, pow, constant, coefficient, coefficients, value, with_roots, quotient, lists_of, IsScaledQuotient, AreScaledQuotients}
+use Rattle.par2_spec.proofs.FieldConstants.{constant-lt}
 use Rattle.par2_recovery.proofs.RunInverses.{at_itself, scaled_push, is_inverse}
 use Rattle.par2_recovery.proofs.run_inverse.run_inverse.Goals as goal
+
+-- the coefficients at exponent 1 are the constants
+first_powers : (slices : List ℕ) → coefficients slices 1 ≡ map constant slices
+unfolding coefficient pow
+first_powers [] = refl
+first_powers (k ∷ slices) = ap₂ (λ (c : ℕ) cs. c ∷ cs) (product-one (constant k) (constant-lt k)) (first_powers slices)
 
 pub inverse_row-requires : goal.inverse_row-requires
 inverse_row-requires c =
@@ -8,7 +15,7 @@ inverse_row-requires c =
     let f = c.args.first in
     let j = c.loop-j.j in
     let points = c.as_slice-points.result.now in
-    let points_are : points ≡ map constant lost = c.as_slice-points.ensures.value ∙ c.in_ok-constants.ensures in
+    let points_are : points ≡ map constant lost = c.as_slice-points.ensures.value ∙ c.in_ok-constants.ensures ∙ first_powers lost in
     let p_is : c.deref.result.now ≡ with_roots (map constant lost) = c.deref.ensures.value ∙ c.in_ok-p.ensures ∙ ap with_roots points_are in
     let at : get_or points j 0 ≡ get_or (map constant lost) j 0 = ap (λ xs. get_or xs j 0) points_are in
     let within : j < length points = search rules in
@@ -33,7 +40,7 @@ returns c =
     let f = c.args.first in
     let rows = lists_of c.loop-j.rows.items in
     let points = c.as_slice-points.result.now in
-    let points_are : points ≡ map constant lost = c.as_slice-points.ensures.value ∙ c.in_ok-constants.ensures in
+    let points_are : points ≡ map constant lost = c.as_slice-points.ensures.value ∙ c.in_ok-constants.ensures ∙ first_powers lost in
     let p_is : c.in_ok-p.p.items ≡ with_roots (map constant lost) = c.in_ok-p.ensures ∙ ap with_roots points_are in
     let at_end : c.loop-j.j ≡ length points = search rules in
     let all : c.loop-j.j ≡ length lost = at_end ∙ ap length points_are ∙ length-map lost constant in
