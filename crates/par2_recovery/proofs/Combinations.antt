@@ -134,11 +134,13 @@ range-lt n i bound h some = elim (cases_lt i n) [
 pub length-rows : (n : ℕ) (exponents : List ℕ) (xs : List (Vec ℕ Global)) → lists_of xs ≡ all_coefficients n exponents → length xs ≡ length exponents
 length-rows n exponents xs e = sym (length-map xs (λ (x : Vec ℕ Global). x.items)) ∙ ap length e ∙ length-map exponents (coefficients (range_with_len 0 n))
 
-pub rows_long : (n : ℕ) (exponents : List ℕ) (lists : List (List ℕ)) → lists ≡ all_coefficients n exponents → (r : ℕ) → r < length exponents → length (list_at lists r) ≡ n
-rows_long n exponents lists e r low =
-    ap (λ xs. length (list_at xs r)) e
-    ∙ ap length (get_or-map (coefficients (range_with_len 0 n)) exponents r 0 [] low)
-    ∙ length-map (range_with_len 0 n) (coefficient (get_or exponents r 0)) ∙ length-range_with_len 0 n
+pub rows_long : (n : ℕ) (exponents : List ℕ) (xs : List (Vec ℕ Global)) → lists_of xs ≡ all_coefficients n exponents → (r : ℕ) → r < length xs → n ≤ length (list_at (lists_of xs) r)
+rows_long n exponents xs e r low =
+    let long =
+    ap (λ ls. length (list_at ls r)) e
+    ∙ ap length (get_or-map (coefficients (range_with_len 0 n)) exponents r 0 [] (let count = length-rows n exponents xs e in omega (arith, count, low)))
+    ∙ length-map (range_with_len 0 n) (coefficient (get_or exponents r 0)) ∙ length-range_with_len 0 n in
+    omega (arith, long)
 
 -- ---- the slices of files
 

@@ -27,11 +27,8 @@ pub(crate) fn coefficients(alloc: Global, gf: &Gf, numbers: &[u32], e: u32) -> R
     requires { (i : ℕ) → slice_index numbers.now i < 32768 }
     ensures { IfOk result (λ row. row.items ≡ coefficients numbers.now e) }
 {
-    let mut row = Vec::with_capacity(alloc, numbers.len())?;
-    for k in numbers {
-        row.push(coefficient(gf, *k, e))?;
-    }
-    Ok(row)
+    let row = numbers.iter().map(|k| coefficient(gf, *k, e));
+    row.collect(alloc)
 }
 
 // Offers the equation of an exponent, unless the system has its full rank.

@@ -1,6 +1,6 @@
 //! The equations of the kept exponents, and their inverse.
 
-ghost use Rattle.std.specs.Prelude.{◌≡◌, ℕ, ◌*◌, ◌<◌, ◌≤◌, length, map, slice_index, slice_index_or, [], IfErr, IfOk, IsOk, Ok, ◌%◌, IfSome, IsNone};
+ghost use Rattle.std.specs.Prelude.{◌≡◌, ℕ, ◌*◌, ◌<◌, ◌≤◌, length, map, slice_index, IfErr, IfOk, IsOk, Ok, ◌%◌, IfSome, IsNone};
 ghost use Rattle.std.specs.List.Sorted.{IsStrictlyIncreasing};
 ghost use Rattle.par2_spec.specs.Rank.{IsRepairable};
 ghost use Rattle.par2_spec.specs.Sums.{lists_of, list_at};
@@ -37,15 +37,6 @@ pub(crate) struct Inversion<'a> {
     pub(crate) inverse: Vec<Vec<u16>>,
 }
 
-// A recovery slice with its exponent.
-fn recovery_at<'a>(recovery: &[(u32, &'a [u8])], i: usize) -> (u32, &'a [u8])
-    requires { i < length recovery.now }
-    ensures exponent { result.0 ≡ (slice_index_or (recovered_of recovery.now) i (0, [])).0 }
-    ensures bytes { result.1.now ≡ (slice_index_or (recovered_of recovery.now) i (0, [])).1 }
-{
-    recovery[i]
-}
-
 // Takes the recovery slices in order, and keeps those of the kept exponents.
 fn eliminate<'a>(
     alloc: Global,
@@ -62,7 +53,7 @@ fn eliminate<'a>(
     let mut system = System::new(alloc, lost.len(), 2 * lost.len())?;
     let mut kept = Vec::new(alloc);
     for i in 0..recovery.len() {
-        let slice = recovery_at(recovery, i);
+        let slice = recovery[i];
         let right = unit(alloc, lost.len(), system.rank())?;
         match offer(alloc, gf, &mut system, lost, slice.0, right)? {
             Offer::Kept => kept.push(slice)?,

@@ -22,9 +22,10 @@ fn times_root(alloc: Global, gf: &Gf, c: u16, p: &[u16]) -> Result<Vec<u16>>
     ensures { IfOk result (λ product. product.items ≡ times_root c p.now) }
 {
     let zero = [0u16];
-    let before = zero.iter().chain(p);
-    let pairs = p.iter().chain(&zero).zip(before);
-    pairs.map(|(a, b)| gf.mul(c, *a) ^ *b).collect(alloc)
+    let extended = p.iter().chain(&zero);
+    let shifted = zero.iter().chain(p);
+    let pairs = extended.zip(shifted);
+    pairs.map(|(a, before)| gf.mul(c, *a) ^ *before).collect(alloc)
 }
 
 // The polynomial of these roots.
