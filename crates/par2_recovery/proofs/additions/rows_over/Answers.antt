@@ -1,4 +1,4 @@
-use Rattle.par2_recovery.proofs.Common.{get_or, ◌<◌, ◌∙◌, ap, sym, subst, arith, map_more, coefficients, range_with_len}
+use Rattle.par2_recovery.proofs.Common.{get_or, ◌∙◌, ap, sym, arith, map_more, coefficients, range_with_len}
 use Rattle.par2_recovery.proofs.Combinations.{lists_push, range-lt}
 use Rattle.par2_recovery.proofs.additions.rows_over.Goals as goal
 

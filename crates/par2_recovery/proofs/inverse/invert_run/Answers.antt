@@ -1,4 +1,4 @@
-use Rattle.par2_recovery.proofs.Common.{◌∙◌, sym, subst, arith, length, List, ℕ, length-map, length-take-le, lists_of, run_determines, IsInverse, recovered_of, exponents_of}
+use Rattle.par2_recovery.proofs.Common.{◌∙◌, sym, arith, length, List, ℕ, length-map, length-take-le, run_determines, recovered_of, exponents_of}
 use Rattle.par2_recovery.proofs.Beginnings.{front_within, has_run_front, kept_slices_front, recovered_front, exponents_front}
 use Rattle.par2_recovery.proofs.Inverting.{length-recovered_of}
 use Rattle.par2_recovery.proofs.inverse.invert_run.Goals as goal
@@ -20,8 +20,7 @@ pub returns-clause-inverse : goal.returns-clause-inverse
 returns-clause-inverse c =
     let lost = c.args.lost.now in
     let front = recovered_front c.args.recovery.now c.in_ok-kept.kept.items (length lost) c.in_ok-kept.ensures.items in
-    subst (λ es. IsInverse lost es (lists_of c.in_ok-inverse.inverse.items))
-    (sym (exponents_front c.args.recovery.now c.in_ok-kept.kept.items c.args.first (length lost) c.requires.run front)) c.in_ok-inverse.ensures
+    rw (exponents_front c.args.recovery.now c.in_ok-kept.kept.items c.args.first (length lost) c.requires.run front) c.in_ok-inverse.ensures
 
 pub returns-clause-enough : goal.returns-clause-enough
 returns-clause-enough c = λ _.

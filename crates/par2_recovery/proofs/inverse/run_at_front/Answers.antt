@@ -1,4 +1,4 @@
-use Rattle.par2_recovery.proofs.Common.{◌≡◌, ◌∙◌, ◌∷◌, ℕ, List, [], arith, sym, subst, get_or, false≢true, Option, IfSome, BeginsWithRun, slice_get}
+use Rattle.par2_recovery.proofs.Common.{◌∙◌, arith, sym, false≢true, BeginsWithRun}
 use Rattle.par2_recovery.proofs.Beginnings.{begins, close_front, front_within}
 use Rattle.par2_recovery.proofs.Runs.{first_is}
 use Rattle.par2_recovery.proofs.inverse.run_at_front.Goals as goal

@@ -1,4 +1,4 @@
-use Rattle.par2_recovery.proofs.Common.{length, lists_of, length-lists_of, texts_of}
+use Rattle.par2_recovery.proofs.Common.{lists_of, length-lists_of, texts_of}
 use Rattle.par2_recovery.proofs.Adding.{no_source, next_source}
 use Rattle.par2_recovery.proofs.products.add_columns.Goals as goal
 

@@ -1,4 +1,4 @@
-use Rattle.par2_recovery.proofs.Common.{◌≡◌, ◌≤◌, ◌*◌, ◌/◌, ◌∙◌, ap, sym, arith, rules, length, List, Vec, Global, ℕ, with_items_is, lists_of, length-lists_of, texts_of}
+use Rattle.par2_recovery.proofs.Common.{◌≡◌, ◌*◌, ◌/◌, ◌∙◌, ap, sym, arith, rules, length, List, Vec, Global, ℕ, with_items_is, lists_of, length-lists_of, texts_of}
 use Rattle.par2_recovery.proofs.Combinations.{blank_room, length-texts_of}
 use Rattle.par2_recovery.proofs.Solving.{products_added}
 use Rattle.par2_recovery.proofs.products.products_of.Goals as goal

@@ -1,4 +1,4 @@
-use Rattle.par2_recovery.proofs.Common.{ℕ, ◌≡◌, ◌<◌, ◌≤◌, ◌∙◌, [], List, refl, sym, ap, subst, arith, length, map, rules, get_or-map, length-map, IfErr, AllByRecursion, IsRepairable, kept_slices, lost, list_at, lists_of, all_get, all-filter, length-lists_of, AreBytes, AreSolved, AreRebuilt, known_among, bytes_or_none, with_lost_slices, recovered_of, exponents_of, lost_from, IsTrueFault, texts_of}
+use Rattle.par2_recovery.proofs.Common.{ℕ, ◌≡◌, ◌<◌, ◌∙◌, [], List, refl, sym, ap, subst, arith, length, map, rules, get_or-map, length-map, IfErr, AllByRecursion, IsRepairable, kept_slices, lost, list_at, lists_of, all_get, all-filter, length-lists_of, AreBytes, AreSolved, AreRebuilt, known_among, bytes_or_none, with_lost_slices, recovered_of, exponents_of, lost_from, IsTrueFault, texts_of}
 use Rattle.par2_recovery.proofs.Beginnings.{lost_rise}
 use Rattle.par2_recovery.proofs.Combinations.{length-texts_of}
 use Rattle.par2_recovery.proofs.Finishing.{answer, inverse_long}

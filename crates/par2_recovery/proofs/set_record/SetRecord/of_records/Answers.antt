@@ -1,4 +1,4 @@
-use Rattle.par2_recovery.proofs.Common.{◌≡◌, map, rules, length, List, with_items_is, record_of, files_of, file_record_of, FileRecord}
+use Rattle.par2_recovery.proofs.Common.{◌≡◌, rules, length, with_items_is, files_of, file_record_of}
 use Rattle.std.specs.Vec.{with_items}
 use Rattle.std.proofs.lemmas.List.Sorted.{IsPermutation-map}
 use Rattle.par2_recovery.proofs.Records.{in_order, files_of_records}
