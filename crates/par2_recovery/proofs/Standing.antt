@@ -4,6 +4,7 @@ use Rattle.std.proofs.lemmas.Map.Views.{any-filter_same}
 use Rattle.par2_spec.proofs.RankLaws.{all_weaker}
 use Rattle.std.proofs.Math.Bool.{and-true, or-true}
 use Rattle.par2_matrix.specs.Systems as systems
+use Rattle.par2_recovery.proofs.Inverting.{length-recovered_of}
 use Rattle.par2_recovery.proofs.Ranks.{Eliminated, is_kept, kept_is, dependent_is, one_kept, none_kept, none_offered, all_offered, kept_more}
 use Rattle.par2_recovery.proofs.RankTests.{AllKill}
 
@@ -113,13 +114,11 @@ stands_still lost recs kept_ones i system up h before follows =
       solves = before.solves;
     }
 
--- a turn of the loop, where the slice is kept and where it is dropped
+-- a recovery slice as it is read
 recovered_at : (recovery : List (ℕ × Bor (List ℕ))) (i : ℕ) (d : ℕ × Bor (List ℕ)) → i < length recovery → recovery_at (recovered_of recovery) i ≡ ((get_or recovery i d).0, (get_or recovery i d).1.now)
 recovered_at recovery i d h = get_or-map (λ (r : ℕ × Bor (List ℕ)). (r.0, r.1.now)) recovery i d (0, []) h
 
-all_recovered : (recovery : List (ℕ × Bor (List ℕ))) → length (recovered_of recovery) ≡ length recovery
-all_recovered recovery = length-map recovery (λ (r : ℕ × Bor (List ℕ)). (r.0, r.1.now))
-
+-- a turn of the loop, where the slice is kept and where it is dropped
 pub kept_turn : (lost : List ℕ) (recovery : List (ℕ × Bor (List ℕ))) (i : ℕ) (system new : Equations) (xs ys : List (ℕ × Bor (List ℕ))) (d : ℕ × Bor (List ℕ)) → IsStrictlyIncreasing (map (λ r. r.0) (recovered_of recovery)) → i < length recovery
     → ys ≡ xs ++ get_or recovery i d ∷ [] → Standing lost (recovered_of recovery) (recovered_of xs) i system → new.columns ≡ system.columns → new.bytes ≡ system.bytes
     → CutByUnit system new (coefficients lost (get_or recovery i d).0) → IsIndependent system (coefficients lost (get_or recovery i d).0) → Standing lost (recovered_of recovery) (recovered_of ys) (i + 1) new
@@ -127,14 +126,14 @@ kept_turn lost recovery i system new xs ys d up h is before columns new_bytes ma
     let at = recovered_at recovery i d h in
     subst (λ rs. Standing lost (recovered_of recovery) rs (i + 1) new)
     (sym (ap recovered_of is ∙ map-append (λ (r : ℕ × Bor (List ℕ)). (r.0, r.1.now)) xs (get_or recovery i d ∷ []) ∙ ap (λ r. recovered_of xs ++ r ∷ []) (sym at)))
-    (stands_more lost (recovered_of recovery) (recovered_of xs) i system new up (omega (arith, h, all_recovered recovery)) before columns new_bytes
+    (stands_more lost (recovered_of recovery) (recovered_of xs) i system new up (omega (arith, h, length-recovered_of recovery)) before columns new_bytes
     (subst (λ (r : ℕ × List ℕ). CutByUnit system new (coefficients lost r.0)) (sym at) made) (subst (λ (r : ℕ × List ℕ). IsIndependent system (coefficients lost r.0)) (sym at) told))
 
 pub dropped_turn : (lost : List ℕ) (recovery : List (ℕ × Bor (List ℕ))) (kept_ones : List (ℕ × List ℕ)) (i : ℕ) (system new : Equations) (d : ℕ × Bor (List ℕ)) → IsStrictlyIncreasing (map (λ r. r.0) (recovered_of recovery)) → i < length recovery
     → Standing lost (recovered_of recovery) kept_ones i system → IsDependent system (coefficients lost (get_or recovery i d).0) → new ≡ system → Standing lost (recovered_of recovery) kept_ones (i + 1) new
 dropped_turn lost recovery kept_ones i system new d up h before follows same =
     rw same
-    (stands_still lost (recovered_of recovery) kept_ones i system up (omega (arith, h, all_recovered recovery)) before (subst (λ (r : ℕ × List ℕ). IsDependent system (coefficients lost r.0)) (sym (recovered_at recovery i d h)) follows))
+    (stands_still lost (recovered_of recovery) kept_ones i system up (omega (arith, h, length-recovered_of recovery)) before (subst (λ (r : ℕ × List ℕ). IsDependent system (coefficients lost r.0)) (sym (recovered_at recovery i d h)) follows))
 
 -- ---- the end of the loop
 

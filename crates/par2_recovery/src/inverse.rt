@@ -10,7 +10,6 @@ ghost use Rattle.par2_recovery.specs.Survivors.{recovered_of, exponents_of, IsTr
 ghost use Rattle.par2_recovery.specs.Inverses.{IsEliminated};
 ghost use Rattle.par2_matrix.specs.Echelon.{Spells};
 ghost use Rattle.par2_recovery.specs.Elements.{AreRows, IsUnit};
-ghost use Rattle.par2_spec.specs.Runs.{AreSlices};
 ghost use Rattle.par2_recovery.specs.RunInverses.{BeginsWithRun};
 
 use crate::exponents::{are_close, offer};
@@ -155,38 +154,14 @@ fn run_at_front(exponents: &[u32], count: usize) -> Option<u32>
     ensures none { IsNone result → (first : ℕ) → 0 < count
         → BeginsWithRun first count exponents.now → ⊥ }
 {
-    if exponents.len() < count {
+    if exponents.len() < count || !are_close(&exponents[..count], count) {
         return None;
     }
-    if are_close(&exponents[..count], count) {
-        exponents.first().copied()
-    } else {
-        None
-    }
+    exponents.first().copied()
 }
 
-// The kept exponents and their inverse, where the first ones are a run of as many as slices are lost: these are kept.
-fn invert_run<'a>(
-    alloc: Global,
-    gf: &Gf,
-    lost: &[u32],
-    recovery: &[(u32, &'a [u8])],
-    first: u32,
-) -> Result<Inversion<'a>>
-    requires lost { AreSlices lost.now }
-    requires exponents { IsStrictlyIncreasing (exponents_of recovery.now) }
-    requires run { BeginsWithRun first (length lost.now) (exponents_of recovery.now) }
-    ensures kept { IfOk result (KeepsThose lost.now recovery.now) }
-    ensures inverse { IfOk result (HasInverse lost.now) }
-    ensures enough { IsOk result → IsRepairable lost.now (exponents_of recovery.now) }
-{
-    let kept = Vec::from_slice(alloc, &recovery[..lost.len()])?;
-    let inverse = run_inverse(alloc, gf, lost, first)?;
-    Ok(Inversion { kept, inverse })
-}
-
-/// The kept exponents and their inverse, where they determine the lost slices: at a run by its polynomial, else by
-/// elimination.
+/// The kept exponents and their inverse, where they determine the lost slices. Where the first exponents are a run of as
+/// many as slices are lost, these are kept, and their inverse is made by the run's polynomial; else by elimination.
 pub(crate) fn invert<'a>(
     alloc: Global,
     gf: &Gf,
@@ -203,8 +178,10 @@ pub(crate) fn invert<'a>(
     ensures refused { IfErr result (IsTrueFault lost.now (exponents_of recovery.now)) }
 {
     let exponents = exponents_of(alloc, recovery)?;
-    match run_at_front(&exponents, lost.len()) {
-        Some(first) => Ok(invert_run(alloc, gf, lost, recovery, first)?),
-        None => invert_by_elimination(alloc, gf, lost, recovery),
-    }
+    let Some(first) = run_at_front(&exponents, lost.len()) else {
+        return invert_by_elimination(alloc, gf, lost, recovery);
+    };
+    let kept = Vec::from_slice(alloc, &recovery[..lost.len()])?;
+    let inverse = run_inverse(alloc, gf, lost, first)?;
+    Ok(Inversion { kept, inverse })
 }
