@@ -1,6 +1,5 @@
 -- Exponents that are close, and runs of them, by the places where they stand.
-use Rattle.par2_recovery.proofs.Common.{Option, IfSome, slice_get, [], ◌∷◌, ◌↔◌, IsTrue, false, eqb, ltb, ℕ, zero, suc, ◌+◌, ◌-◌, ◌<◌, ◌≤◌, ◌≡◌, sym, ap, ◌∙◌, subst, arith, inl, inr, List, length, get_or, drop, Contains, range_with_len, IsStrictlyIncreasing, cases_lt, eqb-false, ltb-true, lt-ltb, false≢true, get_or-take, get_or-drop, get_or_default, length-take-le, Contains-get_or, AreClose, HasRun, get_or-range_with_len, length-range_with_len}
-use Rattle.std.proofs.Common.{take}
+use Rattle.par2_recovery.proofs.Common.{Option, IfSome, slice_get, Contains, range_with_len, [], ◌∷◌, ◌↔◌, IsTrue, false, eqb, ltb, ℕ, zero, suc, ◌+◌, ◌-◌, ◌<◌, ◌≤◌, ◌≡◌, sym, ap, ◌∙◌, subst, arith, inl, inr, List, length, get_or, drop, IsStrictlyIncreasing, cases_lt, eqb-false, ltb-true, lt-ltb, false≢true, get_or-take, get_or-drop, get_or_default, length-take-le, Contains-get_or, AreClose, HasRun, get_or-range_with_len, length-range_with_len, take}
 use Rattle.std.proofs.Common.{length-drop}
 
 -- what holds of the first number

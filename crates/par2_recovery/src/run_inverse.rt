@@ -25,7 +25,7 @@ fn times_root(alloc: Global, gf: &Gf, c: u16, p: &[u16]) -> Result<Vec<u16>>
     let extended = p.iter().chain(&zero);
     let shifted = zero.iter().chain(p);
     let pairs = extended.zip(shifted);
-    pairs.map(|(a, before)| gf.mul(c, *a) ^ *before).collect(alloc)
+    pairs.map(|(a, b)| gf.mul(c, *a) ^ *b).collect(alloc)
 }
 
 // The polynomial of these roots.

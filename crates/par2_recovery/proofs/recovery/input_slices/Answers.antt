@@ -1,4 +1,4 @@
-use Rattle.par2_recovery.proofs.Common.{get_or, [], ◌≡◌, ◌∙◌, map, ap, sym, get_or-map, arith, length, string_bytes, length-map, padded, bytes_of, FileRecord, texts_of, names_of}
+use Rattle.par2_recovery.proofs.Common.{get_or, [], ◌≡◌, ◌∙◌, map, ap, sym, arith, length, string_bytes, get_or-map, length-map, padded, bytes_of, FileRecord, texts_of, names_of}
 use Rattle.par2_spec.proofs.SliceLaws.{files_push}
 use Rattle.par2_recovery.proofs.recovery.input_slices.Goals as goal
 

@@ -1,5 +1,4 @@
-use Rattle.par2_recovery.proofs.Common.{◌≡◌, rules, length, with_items_is, files_of, file_record_of}
-use Rattle.std.specs.Vec.{with_items}
+use Rattle.par2_recovery.proofs.Common.{◌≡◌, rules, length, with_items_is, files_of, file_record_of, with_items}
 use Rattle.std.proofs.lemmas.List.Sorted.{IsPermutation-map}
 use Rattle.par2_recovery.proofs.Records.{in_order, files_of_records}
 use Rattle.par2_recovery.proofs.set_record.SetRecord.of_records.Goals.{In_ok-sort_ids}
