@@ -1,4 +1,4 @@
-use Rattle.par2_recovery.proofs.Common.{◌≡◌, lists_of, all_coefficients, take}
+use Rattle.par2_recovery.proofs.Common.{◌≡◌, take, lists_of, all_coefficients}
 use Rattle.par2_recovery.proofs.additions.rows_over.Given as goal
 
 abbrev pub invariant-loop-i : goal.invariant-loop-i

@@ -1,14 +1,12 @@
-use Rattle.par2_recovery.proofs.Common.{◌<◌, ◌∙◌, sym, arith, length, List, ℕ, length-map, length-take-le, all_from, run_determines, AreSlices, BeginsWithRun, recovered_of, exponents_of}
+use Rattle.par2_recovery.proofs.Common.{◌∙◌, sym, arith, length, List, ℕ, length-map, length-take-le, run_determines, BeginsWithRun, recovered_of, exponents_of}
 use Rattle.par2_recovery.proofs.Beginnings.{front_within, has_run_front, kept_slices_front, recovered_front, exponents_front}
 use Rattle.par2_recovery.proofs.Inverting.{length-recovered_of}
+use Rattle.par2_recovery.proofs.Runs.{are_slices}
 use Rattle.par2_recovery.proofs.inverse.invert.Goals.{In-Some}
 use Rattle.par2_recovery.proofs.inverse.invert.Goals as goal
 
 run : (c : In-Some) → BeginsWithRun c.in-Some.first (length c.args.lost.now) (exponents_of c.args.recovery.now)
 run c = rw (c.deref.ensures.value, c.in_ok-exponents.ensures) at c.in-Some.ensures.run
-
-are_slices : (c : In-Some) → AreSlices c.args.lost.now
-are_slices c = record { rise = c.requires.rise; below = all_from (λ k. k < 32768) 0 c.args.lost.now (λ i _. c.requires.lost i) }
 
 pub slice_bounds-from_slice-end : goal.slice_bounds-from_slice-end
 slice_bounds-from_slice-end c =
@@ -22,7 +20,7 @@ pub returns-clause-kept : goal.returns-clause-kept
 returns-clause-kept c =
     let at = (goal.at.returns-clause-kept c).In-Some in
     recovered_front c.args.recovery.now c.in_ok-kept.kept.items (length c.args.lost.now) c.in_ok-kept.ensures.items
-    ∙ sym (kept_slices_front c.args.lost.now (recovered_of c.args.recovery.now) c.in-Some.first (are_slices at) c.requires.exponents (run at))
+    ∙ sym (kept_slices_front c.args.lost.now (recovered_of c.args.recovery.now) c.in-Some.first (are_slices c.args.lost.now c.requires.rise c.requires.lost) c.requires.exponents (run at))
 
 pub returns-clause-inverse : goal.returns-clause-inverse
 returns-clause-inverse c =
@@ -32,4 +30,4 @@ returns-clause-inverse c =
 pub returns-clause-enough : goal.returns-clause-enough
 returns-clause-enough c = λ _.
     let at = (goal.at.returns-clause-enough c).In-Some in
-    run_determines c.args.lost.now (exponents_of c.args.recovery.now) c.in-Some.first (are_slices at) (has_run_front (exponents_of c.args.recovery.now) c.in-Some.first (length c.args.lost.now) (run at))
+    run_determines c.args.lost.now (exponents_of c.args.recovery.now) c.in-Some.first (are_slices c.args.lost.now c.requires.rise c.requires.lost) (has_run_front (exponents_of c.args.recovery.now) c.in-Some.first (length c.args.lost.now) (run at))

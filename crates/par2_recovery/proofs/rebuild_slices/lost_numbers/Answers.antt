@@ -1,4 +1,4 @@
-use Rattle.par2_recovery.proofs.Common.{◌≡◌, ◌∙◌, ◌+◌, List, [], ◌∷◌, ℕ, map, ap, refl, length, arith, rules, Bor, Option, None, Some, is_none, filter, zip, range_with_len, lost_from, IfOk-weaker, YieldsList-from_map, YieldsList-from_range, YieldsList-from_slice, YieldsList-from_zip, items_from_collect, YieldsList-at, tests, YieldsList-from_filter}
+use Rattle.par2_recovery.proofs.Common.{◌≡◌, ◌∙◌, ◌+◌, List, [], ◌∷◌, ℕ, map, ap, refl, length, arith, rules, tests, Bor, Option, None, Some, is_none, filter, zip, range_with_len, lost_from, IfOk-weaker, YieldsList-from_map, YieldsList-from_range, YieldsList-from_slice, YieldsList-from_zip, items_from_collect, YieldsList-at, YieldsList-from_filter}
 use Rattle.par2_recovery.proofs.rebuild_slices.lost_numbers.Goals as goal
 
 numbered : (n : ℕ) (known : List (Option (Bor (List ℕ)))) → map (λ z. z.0) (filter (λ z. is_none z.1) (zip (range_with_len n (length known)) known)) ≡ lost_from n known
