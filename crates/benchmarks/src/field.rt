@@ -2,7 +2,7 @@
 
 use crate::clock::{nanos_since, start};
 use crate::random::random_bytes;
-use crate::sums::{Way, add_products};
+use crate::sums::add_products;
 use par2_gf16::Gf;
 use std::io;
 
@@ -77,13 +77,12 @@ fn measure_copies(
 fn sums_nanos(
     rt: &HostRuntime,
     gf: &Gf,
-    way: Way,
     rounds: u32,
     src: &[u8],
     dst: &mut [u8],
 ) -> io::Result<u128> {
     let start = start(rt)?;
-    add_products(gf, way, u64::from(rounds), src, dst);
+    add_products(gf, u64::from(rounds), src, dst);
     nanos_since(rt, start)
 }
 
@@ -96,12 +95,9 @@ fn measure_sums(
     dst: &mut [u8],
     copies: u128,
 ) -> io::Result<u32> {
-    let nanos = sums_nanos(rt, gf, Way::Steps, rounds, src, dst)?;
-    let in_steps = weight(dst);
-    report(rt, "products in 16 steps", rounds, nanos, copies)?;
-    let nanos = sums_nanos(rt, gf, Way::Factor, rounds, src, dst)?;
+    let nanos = sums_nanos(rt, gf, rounds, src, dst)?;
     report(rt, "products by a factor", rounds, nanos, copies)?;
-    Ok(in_steps ^ weight(dst))
+    Ok(weight(dst))
 }
 
 pub fn measure(rt: &HostRuntime, rounds: u32) -> io::Result<()> {

@@ -2,7 +2,7 @@
 
 use crate::clock::{nanos_since, start};
 use crate::random::random_bytes;
-use crate::sums::{Way, add_products};
+use crate::sums::add_products;
 use anyhow::{Error, Result};
 use par2_folder::Folder;
 use par2_gf16::Gf;
@@ -32,7 +32,7 @@ fn sums_nanos(rt: &HostRuntime, gf: &Gf, count: u64, size: usize) -> io::Result<
     let source = random_bytes(rt.alloc(), size, 1)?;
     let mut target = random_bytes(rt.alloc(), size, 2)?;
     let start = start(rt)?;
-    add_products(gf, Way::Factor, count, &source, &mut target);
+    add_products(gf, count, &source, &mut target);
     let nanos = nanos_since(rt, start)?;
     report_sums(rt, count, &target, nanos)?;
     Ok(nanos)

@@ -1,5 +1,5 @@
 -- A block of words, in bytes and in lanes.
-use Rattle.par2_gf16.proofs.Common.{ℕ, zero, suc, ◌+◌, ◌-◌, ◌*◌, ◌/◌, ◌%◌, ◌^◌, ◌<◌, ◌≤◌, ◌≡◌, refl, sym, ap, ap₂, ◌∙◌, subst, arith, List, [], ◌∷◌, ◌++◌, map, flat_map, length, get_or, eqb, ◌&&◌, inl, inr, true, w8, Fits, bit_and, replicate, cases_lt, eqb-true, and_parts, and_mask, get_or-map, length-map, get_or_append_left, get_or-append_right, ext_get_or, Each1-get_or, Each1-from_get_or, below_from_Fits, length-chunk, get_or_wider, get_or_narrower, chunk-fits, zip2_splat, get_or-chunk, get_or-put_chunk_below, get_or-put_chunk_at, get_or-put_chunk_above, length-put_chunk, get_or-zip2, length-zip2, get_or-swz_l_below, length-swz_l, swz_l, SwzOk, SwzOk-from_below, range_with_len, bit_xor, mul, word, tested, tested_at, product-lt, AddsWithin, IsTable, IsInterleaving, AddsLanes}
+use Rattle.par2_gf16.proofs.Common.{ℕ, zero, suc, ◌+◌, ◌-◌, ◌*◌, ◌/◌, ◌%◌, ◌^◌, ◌<◌, ◌≤◌, ◌≡◌, refl, sym, ap, ap₂, ◌∙◌, subst, arith, List, [], ◌∷◌, ◌++◌, map, flat_map, length, get_or, eqb, ◌&&◌, inl, inr, true, w8, Fits, bit_and, replicate, cases_lt, eqb-true, and_parts, and_mask, get_or-map, length-map, get_or_append_left, get_or-append_right, ext_get_or, Each1-get_or, Each1-from_get_or, below_from_Fits, length-chunk, get_or_wider, chunk-fits, zip2_splat, get_or-chunk, get_or-put_chunk_below, get_or-put_chunk_at, get_or-put_chunk_above, length-put_chunk, get_or-zip2, length-zip2, get_or-swz_l_below, length-swz_l, swz_l, SwzOk, SwzOk-from_below, range_with_len, bit_xor, mul, word, tested, tested_at, product-lt, AddsWithin, IsTable, IsInterleaving, AddsLanes}
 use Rattle.std.proofs.lemmas.List.{length-append}
 use lib.Lanes.{number_l, digits_l, zip2, Each1, chunk, put_chunk, pick_l}
 use Rattle.par2_gf16.proofs.LaneLaws.{map_all}
@@ -202,45 +202,6 @@ block_added c m src old new bytes n products added = record {
         (added.each (2 * j + 1) (omega arith) ∙ ap (bit_xor high) (products.high j h))
         ∙ word_xor low high (mul c (word (n + j) src)) (added.fit (2 * j) (omega arith)) (added.fit (2 * j + 1) (omega arith)) (products.fit j h)
         ∙ ap (λ x. bit_xor x (mul c (word (n + j) src))) (sym (word_in old n j))
-
--- products in lanes of sixteen bits
-pub products_in_lanes : (c : ℕ) (src : List ℕ) (n : ℕ) (products : List ℕ) → 2 * n + 32 ≤ length src → c < 65536 → ((i : ℕ) → Fits w8 (get_or src i 0))
-    → products ≡ map (mul c) (digits_l 65536 16 (number_l 256 (chunk (2 * n) 32 src)))
-    → AreProducts c src n 16 (digits_l 256 32 (number_l 65536 products))
-products_in_lanes c src n products room hc fits e = record {
-  fit = λ j h. product_fits c src (n + j) hc (λ k. (fits k).fits);
-  low = λ j h.
-      ap (λ i. get_or (digits_l 256 32 (number_l 65536 products)) i 0) (let k : 2 * j ≡ 2 * j + 0 = omega arith in k)
-      ∙ get_or_narrower 65536 2 256 32 products j 0 refl small (omega arith) (omega arith)
-      ∙ (let k : get_or products j 0 / 1 % 256 ≡ get_or products j 0 % 256 = omega arith in k) ∙ ap (λ x. x % 256) (each j h);
-  high = λ j h.
-      let below : get_or products j 0 < 65536 = lane_small j h in
-      get_or_narrower 65536 2 256 32 products j 1 refl small (omega arith) (omega arith)
-      ∙ (let k : get_or products j 0 / 256 % 256 ≡ get_or products j 0 / 256 = omega arith in k) ∙ ap (λ x. x / 256) (each j h);
-}
-  where
-    block : List ℕ
-    block = chunk (2 * n) 32 src
-
-    lanes : List ℕ
-    lanes = digits_l 65536 16 (number_l 256 block)
-
-    count : length lanes ≡ 16
-    count = length-digits_l 65536 16 (number_l 256 block)
-
-    each : (j : ℕ) → j < 16 → get_or products j 0 ≡ mul c (word (n + j) src)
-    each j h =
-        ap (λ xs. get_or xs j 0) e ∙ get_or-map (mul c) lanes j 0 0 (omega (arith, count))
-        ∙ ap (mul c)
-        (block_word 16 block j (length-chunk (2 * n) 32 src room) (below_from_Fits w8 block (chunk-fits w8 (2 * n) 32 src fits)) h
-        ∙ ap₂ (λ x y. x + 256 * y) (get_or-chunk (2 * n) 32 src (2 * j) 0 (omega arith)) (get_or-chunk (2 * n) 32 src (2 * j + 1) 0 (omega arith))
-        ∙ sym (word_in src n j))
-
-    lane_small : (j : ℕ) → j < 16 → get_or products j 0 < 65536
-    lane_small j h = subst (λ x. x < 65536) (sym (each j h)) (product_fits c src (n + j) hc (λ k. (fits k).fits))
-
-    small : Each1 (λ x. x < 65536) products
-    small = Each1-from_get_or (λ x. x < 65536) products 0 (λ j h. lane_small j (omega (arith, ap length e, length-map lanes (mul c), count)))
 
 -- products whose bytes were looked up
 pub products_in_bytes : (c : ℕ) (src low high lows highs bytes : List ℕ) (n : ℕ) → c < 65536 → ((i : ℕ) → Fits w8 (get_or src i 0))

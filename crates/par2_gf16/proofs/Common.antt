@@ -5,7 +5,7 @@ pub use Rattle.std.proofs.lemmas.Bool.{and_parts, cases_eq, cases_lt, eqb-false,
 pub use Rattle.std.proofs.lemmas.List.{ext_get_or, get_or-append_right, get_or-map, get_or-set_other, get_or-set_same, get_or_append_left, length-map, map-append, map-id}
 pub use Rattle.std.proofs.lemmas.Nat.{and_mask, shr-shr, xor_block, xor_comm, xor_mod, xor_shr}
 pub use Rattle.std.proofs.lemmas.Nat.Bits.{and_pow}
-pub use Rattle.std.proofs.lemmas.Simd.{Each1-all, Each1-from_get_or, Each1-get_or, Each1-weaker, Each1-zip2, Each2-splat, SwzOk, SwzOk-from_below, below_from_Fits, chunk-fits, get_or-chunk, get_or-put_chunk_above, get_or-put_chunk_at, get_or-put_chunk_below, get_or-swz_l_below, get_or-zip2, get_or_narrower, get_or_wider, length-chunk, length-put_chunk, length-swz_l, length-zip2, map-map, pick_l_left, pick_l_whole, splat_is_map, swz_l, zip2-map, zip2_of_maps, zip2_splat}
+pub use Rattle.std.proofs.lemmas.Simd.{Each1-all, Each1-from_get_or, Each1-get_or, Each1-weaker, Each1-zip2, Each2-splat, SwzOk, SwzOk-from_below, below_from_Fits, chunk-fits, get_or-chunk, get_or-put_chunk_above, get_or-put_chunk_at, get_or-put_chunk_below, get_or-swz_l_below, get_or-zip2, get_or_wider, length-chunk, length-put_chunk, length-swz_l, length-zip2, map-map, pick_l_left, pick_l_whole, splat_is_map, swz_l, zip2-map, zip2_of_maps, zip2_splat}
 pub use Rattle.std.specs.Int.Bits.{xor_shifted, xor_zero_r}
 pub use Rattle.std.specs.List.{filter, range_with_len}
 pub use Rattle.std.specs.Prelude.{bit_xor, drop, take}

@@ -1,5 +1,5 @@
 -- Vectors, lane by lane.
-use Rattle.par2_gf16.proofs.Common.{ℕ, zero, suc, ◌+◌, ◌*◌, ◌/◌, ◌%◌, ◌^◌, ◌<◌, ◌≡◌, refl, sym, ap, ap₂, ◌∙◌, arith, List, [], ◌∷◌, map, length, replicate, Bool, true, false, cond, eqb, bit_and, zero-mul, one-mul, pow_pos, pow-suc, mul_comm, add-one, inl, inr, mod-lt, shr-shr, xor_comm, and_pow, eqb-true, eqb-false, map-id, zip2_of_maps, map-map, xor_shifted, mul, LanesSoFar, bit_cases, tested, tested_at, product_linear_right, product-lt, product_comm, product_assoc, product-one, product-zero, power-lt, by_either, pow}
+use Rattle.par2_gf16.proofs.Common.{ℕ, zero, suc, ◌+◌, ◌*◌, ◌/◌, ◌%◌, ◌^◌, ◌<◌, ◌≡◌, refl, sym, ap, ap₂, ◌∙◌, arith, List, [], ◌∷◌, map, length, replicate, Bool, true, false, cond, eqb, bit_and, zero-mul, one-mul, pow_pos, pow-suc, mul_comm, add-one, mod-lt, shr-shr, xor_comm, and_pow, eqb-true, eqb-false, map-id, zip2_of_maps, map-map, xor_shifted, mul, pow, LanesSoFar, bit_cases, tested, tested_at, product_linear_right, product-lt, product_comm, product_assoc, product-one, product-zero, power-lt, by_either}
 use Rattle.std.proofs.Math.Arith.{mod-mul}
 use Rattle.std.proofs.Math.Nat.{mod-eq_of_lt}
 use Rattle.std.specs.Int.{bit_at}

@@ -1,5 +1,7 @@
 -- The product of a word, nibble by nibble.
-use Rattle.par2_gf16.proofs.Common.{ℕ, ◌+◌, ◌*◌, ◌/◌, ◌%◌, ◌<◌, ◌≡◌, refl, sym, ap, ap₂, ◌∙◌, arith, List, ◌++◌, map, length, get_or, eqb, true, eqb-true, xor_mod, xor_shr, xor_comm, get_or-map, length-map, range_with_len, bit_xor, xor_shifted, tested, tested_at, xor_shl, product-lt, product_comm, product_assoc, product_linear_right, IsTable, mul}
+use Rattle.par2_gf16.proofs.Common.{ℕ, ◌+◌, ◌*◌, ◌/◌, ◌%◌, ◌<◌, ◌≡◌, refl, sym, ap, ap₂, ◌∙◌, arith, List, ◌++◌, map, length, get_or, eqb, true, eqb-true, xor_comm, get_or-map, length-map, range_with_len, bit_xor, xor_shifted, tested, tested_at, xor_shl, product-lt, product_comm, product_assoc, product_linear_right, IsTable, mul}
+use lib.Lanes.{Each1, zip2}
+use Rattle.par2_gf16.proofs.BlockLaws.{zip2_same}
 
 test_16 : tested (λ n. eqb (mul 16 n) (n * 16)) 16 ≡ true
 unfolding mul
@@ -68,25 +70,15 @@ split_product c k1 k2 k3 l h hc e1 e2 e3 hl hh =
     ∙ sym ((product_linear_right c).on_xor (h % 16 * 256) (h / 16 * 4096)) ∙ ap (mul c) (sym shifted) in
     ap₂ bit_xor low high ∙ sym ((product_linear_right c).on_xor l (h * 256)) ∙ ap (mul c) (sym (word_bytes l h hl))
 
-pub lower_byte : (c k1 k2 k3 l h : ℕ) → c < 65536 → k1 ≡ mul c 16 → k2 ≡ mul c 256 → k3 ≡ mul c 4096 → l < 256 → h < 256
-    → bit_xor (bit_xor (mul c (l % 16) % 256) (mul k1 (l / 16) % 256)) (bit_xor (mul k2 (h % 16) % 256) (mul k3 (h / 16) % 256)) ≡ mul c (l + 256 * h) % 256
-lower_byte c k1 k2 k3 l h hc e1 e2 e3 hl hh =
-    let a = mul c (l % 16) in
-    let b = mul k1 (l / 16) in
-    let d = mul k2 (h % 16) in
-    let e = mul k3 (h / 16) in
-    sym (ap (λ v. v % 256) (sym (split_product c k1 k2 k3 l h hc e1 e2 e3 hl hh))
-    ∙ xor_mod (bit_xor a b) (bit_xor d e) 8 ∙ ap₂ bit_xor (xor_mod a b 8) (xor_mod d e 8))
-
-pub higher_byte : (c k1 k2 k3 l h : ℕ) → c < 65536 → k1 ≡ mul c 16 → k2 ≡ mul c 256 → k3 ≡ mul c 4096 → l < 256 → h < 256
-    → bit_xor (bit_xor (mul c (l % 16) / 256) (mul k1 (l / 16) / 256)) (bit_xor (mul k2 (h % 16) / 256) (mul k3 (h / 16) / 256)) ≡ mul c (l + 256 * h) / 256
-higher_byte c k1 k2 k3 l h hc e1 e2 e3 hl hh =
-    let a = mul c (l % 16) in
-    let b = mul k1 (l / 16) in
-    let d = mul k2 (h % 16) in
-    let e = mul k3 (h / 16) in
-    sym (ap (λ v. v / 256) (sym (split_product c k1 k2 k3 l h hc e1 e2 e3 hl hh))
-    ∙ xor_shr (bit_xor a b) (bit_xor d e) 8 ∙ ap₂ bit_xor (xor_shr a b 8) (xor_shr d e 8))
+-- a part of the products of words, as a byte of each is, is the sum of that part of the products of their nibbles
+pub by_nibbles : (part : ℕ → ℕ) → ((a b : ℕ) → part (bit_xor a b) ≡ bit_xor (part a) (part b)) → (c k1 k2 k3 : ℕ) (low high : List ℕ) → c < 65536 → k1 ≡ mul c 16 → k2 ≡ mul c 256 → k3 ≡ mul c 4096
+    → Each1 (λ x. x < 256) low → Each1 (λ x. x < 256) high
+    → zip2 (λ l h. bit_xor (bit_xor (part (mul c (l % 16))) (part (mul k1 (l / 16)))) (bit_xor (part (mul k2 (h % 16))) (part (mul k3 (h / 16))))) low high ≡ zip2 (λ l h. part (mul c (l + 256 * h))) low high
+by_nibbles part splits c k1 k2 k3 low high hc e1 e2 e3 fits others =
+    zip2_same _ _ (λ l h hl hh.
+    sym (ap part (sym (split_product c k1 k2 k3 l h hc e1 e2 e3 hl hh))
+    ∙ splits (bit_xor (mul c (l % 16)) (mul k1 (l / 16))) (bit_xor (mul k2 (h % 16)) (mul k3 (h / 16)))
+    ∙ ap₂ bit_xor (splits (mul c (l % 16)) (mul k1 (l / 16))) (splits (mul k2 (h % 16)) (mul k3 (h / 16))))) low high fits others
 
 -- each nibble, twice over
 abbrev nibbles : List ℕ

@@ -1,5 +1,5 @@
 -- Words that are added one part after another, and where a source ends.
-use Rattle.par2_gf16.proofs.Common.{ℕ, ◌+◌, ◌*◌, ◌/◌, ◌<◌, ◌≤◌, ◌≡◌, inl, inr, refl, sym, ap, ◌∙◌, subst, arith, List, length, cases_lt, xor_zero_r, mul, word, product-zero, AddsProducts, AddsWithin, by_either}
+use Rattle.par2_gf16.proofs.Common.{ℕ, ◌+◌, ◌*◌, ◌/◌, ◌<◌, ◌≤◌, ◌≡◌, refl, sym, ap, ◌∙◌, subst, arith, List, length, cases_lt, xor_zero_r, mul, word, product-zero, AddsProducts, AddsWithin, by_either}
 use Rattle.std.proofs.Common.{bit_xor}
 use Rattle.par2_spec.proofs.WordLaws.{word_past}
 

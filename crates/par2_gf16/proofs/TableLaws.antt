@@ -1,5 +1,5 @@
 -- The tables, and the calls by them.
-use Rattle.par2_gf16.proofs.Common.{ℕ, zero, suc, ◌+◌, ◌-◌, ◌*◌, ◌<◌, ◌≡◌, inl, inr, refl, sym, ap, ap₂, ◌∙◌, subst, arith, List, [], ◌∷◌, ◌++◌, length, get_or, set, length-append, length-set, add-one, map, cond, true, false, ◌/◌, ◌%◌, append-nil, cases_eq, get_or-set_same, get_or-set_other, get_or_append_left, map-append, get_or-map, length-map, mul, is_spared, PowersBelow, LogsBelow, AreTables, FirstRound, SecondRound, power-lt, power-add, power-65535, power-injective, logarithm, one_inverse, zero-product, product-one, power-mul, one-power, IsInverse, range_with_len, filter, by_either, pow, constant, constant_powers, constants_below}
+use Rattle.par2_gf16.proofs.Common.{ℕ, zero, suc, ◌+◌, ◌-◌, ◌*◌, ◌<◌, ◌≡◌, inl, inr, refl, sym, ap, ap₂, ◌∙◌, subst, arith, List, [], ◌∷◌, ◌++◌, length, get_or, set, length-append, length-set, add-one, map, cond, true, false, ◌/◌, ◌%◌, append-nil, cases_eq, get_or-set_same, get_or-set_other, get_or_append_left, map-append, get_or-map, length-map, mul, is_spared, pow, constant, constant_powers, PowersBelow, LogsBelow, AreTables, FirstRound, SecondRound, constants_below, power-lt, power-add, power-65535, power-injective, logarithm, one_inverse, zero-product, product-one, power-mul, one-power, IsInverse, range_with_len, filter, by_either}
 use Rattle.std.proofs.Math.Seq.{get_or-append_seam}
 use Rattle.par2_spec.proofs.ListsLaws.{range-append}
 use Rattle.par2_spec.proofs.FieldConstants.{length-constant_powers}

@@ -5,7 +5,8 @@ ghost use Rattle.par2_gf16.specs.Steps.{AddsWithin};
 
 use crate::factor::{Factor, nibbles_at};
 use crate::nibbles::Nibbles;
-use std::alloc::{AllocError, Global};
+use par2_spec::Result;
+use std::alloc::Global;
 use std::marker::Model;
 
 /// The words of a text from one place up to another, with their nibbles apart: for `Gf::mul_add_columns`. Zeros follow a
@@ -40,12 +41,7 @@ fn block_count(text: &[u8], from: usize, to: usize) -> usize
 
 impl<'a> Columns<'a> {
     /// Takes the nibbles of the words apart.
-    pub fn new(
-        alloc: Global,
-        text: &'a [u8],
-        from: usize,
-        to: usize,
-    ) -> Result<Columns<'a>, AllocError>
+    pub fn new(alloc: Global, text: &'a [u8], from: usize, to: usize) -> Result<Columns<'a>>
         requires order { from ≤ to }
         ensures text { IfOk result (λ columns. columns.text ≡ text.now) }
         ensures from { IfOk result (λ columns. columns.from ≡ from) }

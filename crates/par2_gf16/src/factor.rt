@@ -158,25 +158,15 @@ fn sixteen_times(x: u16) -> u16
 
 // the sum of what stands in four tables at the nibbles of words
 #[inline(always)]
-fn four_looked_up(
-    first: u8x32,
-    second: u8x32,
-    third: u8x32,
-    fourth: u8x32,
-    nibbles: Nibbles,
-) -> u8x32
+fn four_looked_up(first: u8x32, second: u8x32, third: u8x32, fourth: u8x32, at: Nibbles) -> u8x32
     ensures { (f g h k : ℕ → ℕ) (low high : List ℕ) → IsTable f first
         → IsTable g second → IsTable h third → IsTable k fourth
-        → AreNibbles low high nibbles → result ≡ zip2 (λ x y.
+        → AreNibbles low high at → result ≡ zip2 (λ x y.
         bit_xor (bit_xor (f (x % 16)) (g (x / 16))) (bit_xor (h (y % 16)) (k (y / 16)))) low high }
 {
-    let lower = lanes::sum(
-        lanes::looked_up(first, nibbles.first),
-        lanes::looked_up(second, nibbles.second),
-    );
-    let higher = lanes::sum(
-        lanes::looked_up(third, nibbles.third),
-        lanes::looked_up(fourth, nibbles.fourth),
-    );
-    lanes::sum(lower, higher)
+    let first = lanes::looked_up(first, at.first);
+    let second = lanes::looked_up(second, at.second);
+    let third = lanes::looked_up(third, at.third);
+    let fourth = lanes::looked_up(fourth, at.fourth);
+    lanes::sum(lanes::sum(first, second), lanes::sum(third, fourth))
 }

@@ -7,7 +7,6 @@ mod doubling;
 mod factor;
 mod lanes;
 mod nibbles;
-mod steps;
 mod tables;
 mod words;
 

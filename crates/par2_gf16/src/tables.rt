@@ -9,9 +9,9 @@ ghost use Rattle.par2_gf16.specs.Tables.{AreTables};
 use crate::columns::Columns;
 use crate::doubling::doubled;
 use crate::factor::Factor;
-use crate::steps::add_block;
 use crate::words::{add_at, word_at};
-use std::alloc::{AllocError, Global};
+use par2_spec::Result;
+use std::alloc::Global;
 
 /// How many powers of 2 there are, which is how many elements but zero.
 const ORDER: u16 = 65535;
@@ -20,7 +20,7 @@ const ORDER: u16 = 65535;
 const CONSTANTS: u32 = 32768;
 
 // The length is a variable, so that no search computes a list of that length.
-fn blank(alloc: Global, n: usize) -> Result<Vec<u16>, AllocError>
+fn blank(alloc: Global, n: usize) -> Result<Vec<u16>>
     ensures { IfOk result (λ v. length v.items ≡ n) }
 {
     vec![in alloc; 0u16; n]
@@ -53,7 +53,7 @@ pub struct Gf {
 
 impl Gf {
     /// Fills the tables.
-    pub fn new(alloc: Global) -> Result<Gf, AllocError> {
+    pub fn new(alloc: Global) -> Result<Gf> {
         let mut logs = blank(alloc, 65536)?;
         let mut powers = Vec::new(alloc);
         let mut constants = Vec::new(alloc);
@@ -125,23 +125,18 @@ impl Gf {
         }
     }
 
-    /// To each word of `dst`, the lower byte first, adds the product of `c` and the word of `src`. Nothing is prepared,
-    /// so this is for few bytes, or for a factor that is used once.
+    /// To each word of `dst`, the lower byte first, adds the product of `c` and the word of `src`. The factor is made for
+    /// these bytes alone.
     pub fn mul_add(&self, c: u16, src: &[u8], dst: &mut [u8])
         requires same { length src.now ≡ length dst.old }
         requires even { length dst.old % 2 ≡ 0 }
         ensures { AddsProducts c src.now dst.old dst.new }
     {
-        let blocks = dst.len() / 32;
-        for block in 0..blocks {
-            add_block(c, src, dst, 16 * block);
-        }
-        self.add_words(c, src, dst, 16 * blocks, dst.len() / 2);
+        self.mul_add_by(&Factor::new(c), src, dst);
     }
 
     /// To each word of `dst`, the lower byte first, adds the product of the factor and the word of `src`. This is for
-    /// one factor that goes over many bytes: the `Factor` takes some tens of nanoseconds to make, and the products are
-    /// then about four times as fast as those of `mul_add`.
+    /// one factor that goes over many texts: it takes some tens of nanoseconds to make.
     pub fn mul_add_by(&self, factor: &Factor, src: &[u8], dst: &mut [u8])
         requires same { length src.now ≡ length dst.old }
         requires even { length dst.old % 2 ≡ 0 }

@@ -22,10 +22,7 @@ pub(crate) fn word_at(src: &[u8], i: usize) -> u16
     requires { 2 * i < length src.now }
     ensures { result ≡ word i src.now }
 {
-    let high = if 2 * i + 1 < src.len() {
-        src[2 * i + 1]
-    } else {
-        0
-    };
+    let at = 2 * i + 1;
+    let high = if at < src.len() { src[at] } else { 0 };
     u16::from_le_bytes([src[2 * i], high])
 }

@@ -48,11 +48,7 @@ pub reduce_turn : (n b rank : ℕ) (rows rights : List (List ℕ)) (r0 d0 row ri
     → AddsProducts k src row row' → AddsProducts k add right right'
     → ReducedBelow (echelon n b 0 rows rights) r0 d0 row right p → ReducedBelow (echelon n b 0 rows rights) r0 d0 row' right' (p + 1)
 reduce_turn n b rank rows rights r0 d0 row right row' right' src add p k r hp ek hk es ea there added moved so_far =
-    reduce_add n b rank rows rights r0 d0 row right row' right' p r hp
-    (subst (λ xs. 0 < length xs) es there) (subst (λ x. x < 65536) ek hk)
-    (subst (λ x. AddsProducts x (list_at rows p) row row') ek (subst (λ xs. AddsProducts k xs row row') es added))
-    (subst (λ x. AddsProducts x (list_at rights p) right right') ek (subst (λ xs. AddsProducts k xs right right') ea moved))
-    so_far
+    reduce_add n b rank rows rights r0 d0 row right row' right' p r hp (rw es at there) (rw ek at hk) (rw (ek, es) at added) (rw (ek, ea) at moved) so_far
 
 pub reduce_pass : (n b : ℕ) (rows rights : List (List ℕ)) (r0 d0 row right src : List ℕ) (p k : ℕ)
     → k ≡ word p row → src ≡ list_at rows p → ((k ≡ 0) ⊎ (length src ≡ 0))

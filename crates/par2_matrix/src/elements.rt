@@ -4,7 +4,8 @@ ghost use Rattle.std.specs.Prelude.{◌≡◌, ◌+◌, ◌*◌, ◌<◌, length
 ghost use Rattle.par2_spec.specs.Slices.{word};
 ghost use Rattle.par2_matrix.specs.Echelon.{WordPut, Spells};
 
-use std::alloc::{AllocError, Global};
+use par2_spec::Result;
+use std::alloc::Global;
 
 /// Element `i` of a row.
 #[inline(always)]
@@ -36,7 +37,7 @@ fn spell(row: &[u16], bytes: &mut [u8])
 }
 
 /// The bytes of a row.
-pub fn bytes_of_row(alloc: Global, row: &[u16]) -> Result<Vec<u8>, AllocError>
+pub fn bytes_of_row(alloc: Global, row: &[u16]) -> Result<Vec<u8>>
     ensures { IfOk result (λ bytes. Spells row.now bytes.items (length row.now)) }
 {
     let mut bytes = vec![in alloc; 0u8; 2 * row.len()]?;

@@ -8,7 +8,8 @@ ghost use Rattle.par2_spec.specs.Sums.{OneChanged, lists_of, list_at};
 
 use crate::elements::{element, put_element};
 use par2_gf16::{Factor, Gf};
-use std::alloc::{AllocError, Global};
+use par2_spec::Result;
+use std::alloc::Global;
 
 // What the type says of each byte, for proofs.
 #[inline(always)]
@@ -27,7 +28,7 @@ fn list_at(lists: &[Vec<u8>], p: usize) -> &[u8]
 }
 
 /// `count` empty lists.
-pub(crate) fn empty_lists(alloc: Global, count: usize) -> Result<Vec<Vec<u8>>, AllocError>
+pub(crate) fn empty_lists(alloc: Global, count: usize) -> Result<Vec<Vec<u8>>>
     ensures { IfOk result (λ lists. AllEmpty (lists_of lists.items) count) }
 {
     let mut lists = Vec::new(alloc);

@@ -5,7 +5,8 @@ ghost use Rattle.par2_matrix.specs.Systems.{Equations, lists_of, rank, no_equati
 use crate::elements::bytes_of_row;
 use crate::elimination::{empty_lists, prepare, put_in};
 use par2_gf16::Gf;
-use std::alloc::{AllocError, Global};
+use par2_spec::Result;
+use std::alloc::Global;
 use std::marker::Model;
 
 /// What became of an offered equation.
@@ -41,7 +42,7 @@ impl Model for System {
 
 impl System {
     /// A system of no equations for `columns` unknown texts of `bytes` bytes each.
-    pub fn new(alloc: Global, columns: usize, bytes: usize) -> Result<System, AllocError>
+    pub fn new(alloc: Global, columns: usize, bytes: usize) -> Result<System>
         requires even { bytes % 2 ≡ 0 }
         ensures { IfOk result (λ system. system ≡ no_equations columns bytes) }
     {
@@ -57,7 +58,7 @@ impl System {
     /// its row is independent of the rows kept before. After an error the system is as before, and `right` is gone.
     ///
     /// The memory that it asks for is a copy of the row: the text stays where it is.
-    pub fn offer(&mut self, gf: &Gf, row: &[u16], right: Vec<u8>) -> Result<Offer, AllocError>
+    pub fn offer(&mut self, gf: &Gf, row: &[u16], right: Vec<u8>) -> Result<Offer>
         requires row { length row.now ≡ self.old.columns }
         requires right { length right.items ≡ self.old.bytes }
         ensures kept { result ≡ Ok Offer.Kept → CutDown self.old self.new row.now right.items }
@@ -69,23 +70,10 @@ impl System {
     {
         let mut row = bytes_of_row(*self.rows.allocator(), row)?;
         let mut right = right;
-        let Some(pivot) = prepare(
-            gf,
-            &self.rows,
-            &self.rights,
-            row.as_mut_slice(),
-            right.as_mut_slice(),
-        ) else {
+        let Some(pivot) = prepare(gf, &self.rows, &self.rights, &mut row, &mut right) else {
             return Ok(Offer::Dependent);
         };
-        put_in(
-            gf,
-            self.rows.as_mut_slice(),
-            self.rights.as_mut_slice(),
-            pivot,
-            row,
-            right,
-        );
+        put_in(gf, &mut self.rows, &mut self.rights, pivot, row, right);
         self.rank += 1;
         Ok(Offer::Kept)
     }

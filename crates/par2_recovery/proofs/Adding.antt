@@ -1,5 +1,5 @@
 -- The loops that add products.
-use Rattle.par2_recovery.proofs.Common.{ℕ, suc, ◌+◌, ◌*◌, ◌<◌, ◌≤◌, ◌≡◌, inl, inr, refl, sym, ap, ap₂, ◌∙◌, subst, arith, List, length, get_or, bit_xor, cases_eq, cases_lt, xor_assoc, xor_zero_r, get_or_past, product-zero, mul, word, list_at, OneChanged, AddsSource, Adds, products, field_sum}
+use Rattle.par2_recovery.proofs.Common.{ℕ, suc, ◌+◌, ◌*◌, ◌<◌, ◌≤◌, ◌≡◌, inl, inr, refl, sym, ap, ap₂, ◌∙◌, subst, arith, List, length, get_or, bit_xor, cases_eq, cases_lt, xor_assoc, xor_zero_r, get_or_past, product-zero, mul, word, list_at, OneChanged, field_sum, AddsSource, Adds, products}
 use Rattle.par2_gf16.specs.Steps.{AddsWithin}
 
 -- nothing was added to any target yet

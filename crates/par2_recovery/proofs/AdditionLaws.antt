@@ -1,6 +1,6 @@
 -- Recovery slices, added to texts.
-use Rattle.par2_recovery.proofs.Common.{inl, inr, ℕ, ◌+◌, ◌-◌, ◌*◌, ◌<◌, ◌≤◌, ◌≡◌, refl, sym, ap, ap₂, ◌∙◌, subst, arith, List, [], length, drop, get_or, map, min, bit_xor, zero-add, div_ceil, range_with_len, xor_zero_l, cases_lt, length-map, get_or-map, get_or-take, get_or-drop, get_or_past, length-take-le, length-drop, get_or-map-range_with_len, mul, coefficient, padded, word, coefficients, recovery, list_at, slice_begins, product_comm, product-one, word-lt, field_sum_same, within, place_at, AddsAt, AddsToEach, AreApart, LieWithin, recovered, Place, adds_none, adds_more, adds_same, within-in, within-above, within_joined, within_same, length-group, adds_to_group, AreBytes, products, all_coefficients, window, AreProducts}
-use Rattle.std.proofs.Common.{take}
+use Rattle.par2_recovery.proofs.Common.{inl, inr, ℕ, ◌+◌, ◌-◌, ◌*◌, ◌<◌, ◌≤◌, ◌≡◌, refl, sym, ap, ap₂, ◌∙◌, subst, arith, List, [], length, drop, get_or, map, bit_xor, zero-add, take, range_with_len, xor_zero_l, cases_lt, length-map, get_or-map, get_or-take, get_or-drop, get_or_past, length-take-le, length-drop, get_or-map-range_with_len, mul, coefficient, padded, word, coefficients, recovery, list_at, product_comm, product-one, word-lt, field_sum_same, within, place_at, AddsAt, AddsToEach, AreApart, LieWithin, recovered, adds_none, adds_more, adds_same, within-in, within-above, within_joined, within_same, length-group, adds_to_group, AreBytes, products, all_coefficients, window, AreProducts}
+use Rattle.par2_transform.specs.declared.outputs.Place.{Place}
 use Rattle.par2_recovery.specs.Writing.{output_at, AreWritten, AreZeros}
 use Rattle.par2_recovery.proofs.Combinations.{blank_word, recovered_by_words}
 use Rattle.par2_recovery.proofs.Solving.{word-window}
@@ -93,21 +93,14 @@ sums_are places len from to n rows slices windows sums was texts order are n_is 
 abbrev pub ColumnsAdded : List Place → (len n : ℕ) (other : ℕ → ℕ → ℕ) (was texts : List (List ℕ)) → Type 0
 ColumnsAdded places len n other was texts = AddsAt places len (λ t p. within 0 n p (other t p)) was texts
 
-pub no_columns_yet : (places : List Place) (len n : ℕ) (other : ℕ → ℕ → ℕ) (texts : List (List ℕ)) → n ≡ 0 → ColumnsAdded places len n other texts texts
-no_columns_yet places len n other texts none = adds_none places len (λ t p. within 0 n p (other t p)) texts (λ t p. within-above 0 n p (other t p) (omega (arith, none)))
+pub no_columns_yet : (places : List Place) (len : ℕ) (other : ℕ → ℕ → ℕ) (texts : List (List ℕ)) → ColumnsAdded places len 0 other texts texts
+no_columns_yet places len other texts = adds_none places len (λ t p. within 0 0 p (other t p)) texts (λ t p. within-above 0 0 p (other t p) (omega arith))
 
--- a run of columns begins before the words end, and ends no later than they do
-pub columns_place : (words columns k n m : ℕ) → 1 ≤ columns → n ≡ div_ceil words columns → k < n → m ≡ min columns (words - k * columns) → (k * columns < words) × (k * columns + m ≤ words)
-columns_place words columns k n m some is h size = let low = slice_begins words columns k (omega (arith, some)) (subst (λ x. k < x) is h) in (low, omega (arith, low, size))
-
-pub next_columns : (places : List Place) (len at from to next : ℕ) (other : ℕ → ℕ → ℕ) (was half texts : List (List ℕ)) → at ≡ from → to ≡ next → from ≤ to → ColumnsAdded places len at other was half
-    → AddsAt places len (λ t p. within from to p (other t p)) half texts → ColumnsAdded places len next other was texts
-next_columns places len at from to next other was half texts is_from is_next order so_far added =
-    adds_more places len (λ t p. within 0 at p (other t p)) (λ t p. within from to p (other t p)) (λ t p. within 0 next p (other t p)) was half texts so_far added
-    (λ t p _ _.
-    ap (λ m. bit_xor (within 0 m p (other t p)) (within from to p (other t p))) is_from
-    ∙ within_joined 0 from to p (other t p) (omega arith) order
-    ∙ ap (λ m. within 0 m p (other t p)) is_next)
+pub next_columns : (places : List Place) (len from to : ℕ) (other : ℕ → ℕ → ℕ) (was half texts : List (List ℕ)) → from ≤ to → ColumnsAdded places len from other was half
+    → AddsAt places len (λ t p. within from to p (other t p)) half texts → ColumnsAdded places len to other was texts
+next_columns places len from to other was half texts order so_far added =
+    adds_more places len (λ t p. within 0 from p (other t p)) (λ t p. within from to p (other t p)) (λ t p. within 0 to p (other t p)) was half texts so_far added
+    (λ t p _ _. within_joined 0 from to p (other t p) (omega arith) order)
 
 pub all_columns_added : (places : List Place) (len n : ℕ) (other : ℕ → ℕ → ℕ) (was texts : List (List ℕ)) → len ≤ n → ColumnsAdded places len n other was texts → AddsAt places len other was texts
 all_columns_added places len n other was texts enough added =

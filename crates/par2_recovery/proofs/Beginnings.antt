@@ -1,6 +1,5 @@
 -- Where the first exponents are a run of as many as slices are lost, these are the kept ones.
-use Rattle.par2_recovery.proofs.Common.{ℕ, zero, suc, ◌+◌, ◌-◌, ◌<◌, ◌≤◌, ◌≡◌, refl, sym, ap, ◌∙◌, subst, arith, Bool, true, false, cond, List, [], ◌∷◌, length, get_or, map, filter, Option, Some, None, AllByRecursion, Contains, range_with_len, IsStrictlyIncreasing, length-map, length-take, ext_get_or, get_or-take, length-take-le, take_all, take-map, Contains-get_or, length-range_with_len, get_or-range_with_len, kept, kept_slices, rank, AreSlices, AreClose, HasRun, all_unmap, filter-map, first_kept, run_rank, BeginsWithRun, lost_from, recovered_of, exponents_of, Bor}
-use Rattle.std.proofs.Common.{take}
+use Rattle.par2_recovery.proofs.Common.{ℕ, zero, suc, ◌+◌, ◌-◌, ◌<◌, ◌≤◌, ◌≡◌, refl, sym, ap, ◌∙◌, subst, arith, Bool, true, false, cond, List, [], ◌∷◌, length, get_or, map, take, filter, Option, Some, None, AllByRecursion, Contains, range_with_len, IsStrictlyIncreasing, length-map, length-take, ext_get_or, get_or-take, length-take-le, take_all, take-map, Contains-get_or, length-range_with_len, get_or-range_with_len, kept, kept_slices, rank, AreSlices, AreClose, HasRun, all_unmap, filter-map, first_kept, run_rank, BeginsWithRun, lost_from, recovered_of, exponents_of, Bor}
 use Rattle.par2_recovery.proofs.Ranks.{is_kept}
 use Rattle.par2_recovery.proofs.Runs.{rises_between, close_ends, close_range}
 use Rattle.par2_recovery.proofs.Standing.{kept_slices_are}

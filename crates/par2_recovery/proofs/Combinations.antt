@@ -1,5 +1,6 @@
 -- From added products to recovery slices.
-use Rattle.par2_recovery.proofs.Common.{cases_lt, inl, inr, ℕ, zero, suc, ◌+◌, ◌-◌, ◌*◌, ◌%◌, ◌<◌, ◌≤◌, ◌≡◌, refl, sym, ap, ap₂, ◌∙◌, subst, arith, List, [], ◌∷◌, ◌++◌, length, get_or, map, replicate, bit_xor, Vec, Global, append_assoc, zero-add, Bor, range_with_len, xor_zero_l, ext_get_or, get_or-map, get_or-replicate, length-map, length_push, map-append, map_push, get_or_append_left, get_or_push, get_or_past, length-replicate, map-range_with_len_more, get_or-map-range_with_len, length-map-range_with_len, length-range_with_len, get_or-range_with_len, mul, coefficient, padded, word, slice_at, dot, coefficients, combination, all_at, range-append, product-lt, field_sum, list_at, lists_of, field_sum_same, field_sum-lt, dot_sum, product_at, coefficients_are, combination_words, word-lt, AreBytes, AddsToEach, recovered, zeros_read, all_coefficients, texts_of, AreBlank, take, recovery}
+use Rattle.par2_recovery.proofs.Common.{cases_lt, inl, inr, ℕ, zero, suc, ◌+◌, ◌-◌, ◌*◌, ◌%◌, ◌<◌, ◌≤◌, ◌≡◌, refl, sym, ap, ap₂, ◌∙◌, subst, arith, List, [], ◌∷◌, ◌++◌, length, get_or, map, replicate, bit_xor, Vec, Global, append_assoc, zero-add, Bor, range_with_len, xor_zero_l, ext_get_or, get_or-map, get_or-replicate, length-map, length_push, map-append, map_push, get_or_append_left, get_or_push, get_or_past, length-replicate, map-range_with_len_more, get_or-map-range_with_len, length-map-range_with_len, length-range_with_len, get_or-range_with_len, mul, coefficient, padded, word, slice_at, dot, coefficients, combination, recovery, all_at, range-append, product-lt, field_sum, list_at, lists_of, field_sum_same, field_sum-lt, dot_sum, product_at, coefficients_are, combination_words, word-lt, AreBytes, AddsToEach, recovered, zeros_read, all_coefficients, texts_of, AreBlank}
+use Rattle.std.specs.Prelude.{take}
 use Rattle.std.specs.Prelude.{drop}
 
 -- ---- padding
@@ -134,11 +135,13 @@ range-lt n i bound h some = elim (cases_lt i n) [
 pub length-rows : (n : ℕ) (exponents : List ℕ) (xs : List (Vec ℕ Global)) → lists_of xs ≡ all_coefficients n exponents → length xs ≡ length exponents
 length-rows n exponents xs e = sym (length-map xs (λ (x : Vec ℕ Global). x.items)) ∙ ap length e ∙ length-map exponents (coefficients (range_with_len 0 n))
 
-pub rows_long : (n : ℕ) (exponents : List ℕ) (lists : List (List ℕ)) → lists ≡ all_coefficients n exponents → (r : ℕ) → r < length exponents → length (list_at lists r) ≡ n
-rows_long n exponents lists e r low =
-    ap (λ xs. length (list_at xs r)) e
-    ∙ ap length (get_or-map (coefficients (range_with_len 0 n)) exponents r 0 [] low)
-    ∙ length-map (range_with_len 0 n) (coefficient (get_or exponents r 0)) ∙ length-range_with_len 0 n
+pub rows_long : (n : ℕ) (exponents : List ℕ) (xs : List (Vec ℕ Global)) → lists_of xs ≡ all_coefficients n exponents → (r : ℕ) → r < length xs → n ≤ length (list_at (lists_of xs) r)
+rows_long n exponents xs e r low =
+    let long =
+    ap (λ ls. length (list_at ls r)) e
+    ∙ ap length (get_or-map (coefficients (range_with_len 0 n)) exponents r 0 [] (let count = length-rows n exponents xs e in omega (arith, count, low)))
+    ∙ length-map (range_with_len 0 n) (coefficient (get_or exponents r 0)) ∙ length-range_with_len 0 n in
+    omega (arith, long)
 
 -- ---- the slices of files
 

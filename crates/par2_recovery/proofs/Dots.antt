@@ -1,6 +1,5 @@
 -- Sums of sums.
-use Rattle.par2_recovery.proofs.Common.{ℕ, zero, suc, ◌<◌, ◌≡◌, refl, sym, ap, ◌∙◌, bit_xor, mul, product_linear_left, product_assoc, zero-product, field_sum_same, field_sum_none, field_sum_xor, field_sum_scaled, field_sum}
-use Rattle.par2_spec.specs.Sums.{AreElements}
+use Rattle.par2_recovery.proofs.Common.{ℕ, zero, suc, ◌<◌, ◌≡◌, refl, sym, ap, ◌∙◌, bit_xor, mul, product_linear_left, product_assoc, zero-product, field_sum_same, field_sum_none, field_sum_xor, field_sum_scaled, field_sum, AreElements}
 
 -- the order of two sums does not matter
 pub field_sum_swap : (n m : ℕ) (g : ℕ → ℕ → ℕ) → field_sum n (λ i. field_sum m (λ k. g i k)) ≡ field_sum m (λ k. field_sum n (λ i. g i k))

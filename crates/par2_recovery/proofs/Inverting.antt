@@ -1,6 +1,6 @@
 -- The inverse of the equations of the kept exponents.
-use Rattle.par2_recovery.proofs.Common.{inl, inr, ℕ, ◌+◌, ◌*◌, ◌/◌, ◌%◌, ◌<◌, ◌≤◌, ◌≡◌, ◌≢◌, refl, sym, ap, ◌∙◌, arith, cond, List, [], ◌∷◌, ◌++◌, Vec, Global, length, get_or, map, subst, bit_xor, Bor, xor_zero_l, cases_eq, eq-eqb, ne_eqb, get_or-map, length-map, length-replicate, mul, coefficient, word, dot, coefficients, kept, field_sum, list_at, lists_of, zero-product, product_comm, product-one, all_at, all_from, all_get, field_sum_same, field_sum_one, coefficients_are, dot-lt, words_are, bytes_at, combination_words, word-lt, Spells, Equations, IsTheSolution, AreRows, IsUnit, recovery_at, IsEliminated, IsInverse, identity, Adds, products, recovered_of, texts_of, AreBlank}
-use Rattle.par2_spec.specs.Sums.{AreElements}
+use Rattle.par2_recovery.proofs.Common.{inl, inr, ℕ, ◌+◌, ◌*◌, ◌/◌, ◌%◌, ◌<◌, ◌≤◌, ◌≡◌, ◌≢◌, refl, sym, ap, ◌∙◌, arith, cond, List, [], ◌∷◌, ◌++◌, Vec, Global, length, get_or, map, subst, bit_xor, Bor, xor_zero_l, cases_eq, eq-eqb, ne_eqb, get_or-map, length-map, length-replicate, mul, coefficient, word, dot, coefficients, kept, field_sum, list_at, lists_of, AreElements, zero-product, product_comm, product-one, all_at, all_from, all_get, field_sum_same, field_sum_one, coefficients_are, dot-lt, words_are, bytes_at, combination_words, word-lt, Equations, IsTheSolution, AreRows, IsUnit, recovery_at, IsEliminated, IsInverse, identity, Adds, products, recovered_of, texts_of, AreBlank}
+use Rattle.par2_matrix.specs.Echelon.{Spells}
 use Rattle.par2_matrix.specs.Systems as systems
 use Rattle.par2_recovery.proofs.Dots.{combined}
 use Rattle.par2_recovery.proofs.Combinations.{coefficients-lt, dot_at, blank_word, each_push, length-texts_of}

@@ -1,5 +1,5 @@
 -- Coefficients of products and quotients, one after the other.
-use Rattle.par2_recovery.proofs.Common.{zip, ℕ, zero, suc, ◌+◌, ◌-◌, ◌<◌, ◌≤◌, ◌≡◌, set, refl, sym, ap, ◌∙◌, arith, List, [], ◌∷◌, ◌++◌, length, get_or, drop, bit_xor, inl, inr, xor_zero_l, cases_eq, ext_get_or, drop_more, get_or-set_same, get_or-set_other, mul, times, times_root, product-zero, length-quotient, value, plus, with_roots, quotient}
+use Rattle.par2_recovery.proofs.Common.{zip, ℕ, zero, suc, ◌+◌, ◌-◌, ◌<◌, ◌≤◌, ◌≡◌, set, refl, sym, ap, ◌∙◌, arith, List, [], ◌∷◌, ◌++◌, length, get_or, drop, bit_xor, inl, inr, xor_zero_l, cases_eq, ext_get_or, drop_more, get_or-set_same, get_or-set_other, mul, times, times_root, value, plus, with_roots, quotient, product-zero, length-quotient}
 use Rattle.std.specs.Prelude.{map}
 
 -- the sums of the coefficients, each times the constant, and those before them

@@ -1,5 +1,5 @@
 -- What a list of all slices says of the lost ones among them.
-use Rattle.par2_recovery.proofs.Common.{ℕ, zero, suc, ◌+◌, ◌-◌, ◌*◌, ◌%◌, ◌<◌, ◌≤◌, ◌≡◌, refl, sym, ap, ap₂, ◌∙◌, arith, List, [], ◌∷◌, length, length-append, replicate, get_or, map, bit_xor, length-replicate, length-map, Bor, Option, Some, None, is_none, filter, range_with_len, enumerate_from, AllByRecursion, AllZip, xor_assoc, xor_zero_l, xor_comm, product-zero, mul, coefficient, padded, word, coefficients, combination, lost, xor_off, coefficients_are, dot-lt, words_are, combination_words, all-append, all_from, recovered, known_of, with_lost_slices, lost_from, known_alone, bytes_or_none, AreBytes, dot, recovery}
+use Rattle.par2_recovery.proofs.Common.{ℕ, zero, suc, ◌+◌, ◌-◌, ◌*◌, ◌%◌, ◌<◌, ◌≤◌, ◌≡◌, refl, sym, ap, ap₂, ◌∙◌, arith, List, [], ◌∷◌, length, length-append, replicate, get_or, map, bit_xor, length-replicate, length-map, Bor, Option, Some, None, is_none, filter, range_with_len, enumerate_from, AllByRecursion, AllZip, xor_assoc, xor_zero_l, xor_comm, product-zero, mul, coefficient, padded, word, coefficients, combination, dot, recovery, lost, xor_off, coefficients_are, dot-lt, words_are, combination_words, all-append, all_from, recovered, known_of, with_lost_slices, lost_from, known_alone, bytes_or_none, AreBytes}
 use Rattle.std.specs.Option.{ForSome}
 use Rattle.par2_spec.proofs.RestoredLaws.{bytes-zeros}
 use Rattle.par2_recovery.proofs.Combinations.{word-padded, recovered_dot}

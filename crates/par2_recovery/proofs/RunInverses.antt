@@ -1,8 +1,8 @@
 -- The scaled quotients by the constants of the lost slices are the inverse of the equations of a run.
-use Rattle.par2_recovery.proofs.Common.{ℕ, zero, suc, ◌+◌, ◌^◌, ◌<◌, ◌≡◌, ◌≢◌, refl, sym, ap, ap₂, ◌∙◌, subst, arith, List, [], ◌∷◌, ◌++◌, length, get_or, Vec, Global, map, bit_xor, cond, inl, inr, cases_lt, cases_eq, eq-eqb, ne_eqb, length-range_with_len, get_or-range_with_len, length-map, get_or-map, Contains-get_or, AllPairs-from_increasing, Contains, range_with_len, mul, constant, AreSlices, list_at, lists_of, times, with_roots, quotient, AreElements, ArePoints, power-lt, product-zero, no_zero_divisor, product_assoc, product_comm, product_linear_right, product-one, all_get, all-each, all_at, value-lt, value_times, with_roots_elements, length-with_roots, quotient_elements, length-quotient, times_elements, quotient_others, quotient_itself, field_sum_same, field_sum_head, field_sum_one, dot_sum, close_kept, coefficients, IsInverse, identity, IsScaledQuotient, AreScaledQuotients, pow, coefficient, field_sum, value}
+use Rattle.par2_recovery.proofs.Common.{ℕ, zero, suc, ◌+◌, ◌^◌, ◌<◌, ◌≡◌, ◌≢◌, refl, sym, ap, ap₂, ◌∙◌, subst, arith, List, [], ◌∷◌, ◌++◌, length, get_or, Vec, Global, map, bit_xor, cond, inl, inr, cases_lt, cases_eq, eq-eqb, ne_eqb, length-range_with_len, get_or-range_with_len, length-map, get_or-map, Contains-get_or, AllPairs-from_increasing, Contains, range_with_len, mul, constant, pow, coefficient, AreSlices, list_at, lists_of, field_sum, times, with_roots, quotient, ArePoints, value, power-lt, product-zero, no_zero_divisor, product_assoc, product_comm, product_linear_right, product-one, all_get, all-each, all_at, value-lt, value_times, with_roots_elements, length-with_roots, quotient_elements, length-quotient, times_elements, quotient_others, quotient_itself, field_sum_same, field_sum_head, field_sum_one, dot_sum, close_kept, coefficients, IsInverse, identity, IsScaledQuotient, AreScaledQuotients, constant-lt, constant-nonzero, constant-injective}
+use Rattle.par2_spec.specs.Polynomials.{AreElements}
 use Rattle.std.proofs.lemmas.Bool.Decides.{Decides-eqb}
 use Rattle.std.proofs.lemmas.Map.Made.{IsDistinct-from_AllPairs}
-use Rattle.par2_spec.proofs.FieldConstants.{constant-lt, constant-nonzero, constant-injective}
 use Rattle.par2_spec.proofs.ExistLaws.{IsSolved, solved}
 use Rattle.par2_recovery.proofs.Combinations.{coefficients-lt, each_push}
 use Rattle.par2_recovery.proofs.Dots.{combined}

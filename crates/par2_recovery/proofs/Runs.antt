@@ -1,7 +1,15 @@
 -- Exponents that are close, and runs of them, by the places where they stand.
-use Rattle.par2_recovery.proofs.Common.{◌↔◌, IsTrue, false, eqb, ltb, ℕ, zero, suc, ◌+◌, ◌-◌, ◌<◌, ◌≤◌, ◌≡◌, sym, ap, ◌∙◌, subst, arith, inl, inr, List, length, get_or, drop, Contains, range_with_len, IsStrictlyIncreasing, cases_lt, eqb-false, ltb-true, lt-ltb, false≢true, get_or-take, get_or-drop, get_or_default, length-take-le, Contains-get_or, AreClose, HasRun, get_or-range_with_len, length-range_with_len}
-use Rattle.std.proofs.Common.{take}
+use Rattle.par2_recovery.proofs.Common.{AreSlices, AreClose, HasRun, all_from, Option, IfSome, slice_get, Contains, range_with_len, [], ◌∷◌, ◌↔◌, IsTrue, false, eqb, ltb, ℕ, zero, suc, ◌+◌, ◌-◌, ◌<◌, ◌≤◌, ◌≡◌, sym, ap, ◌∙◌, subst, arith, inl, inr, List, length, get_or, drop, take, IsStrictlyIncreasing, cases_lt, eqb-false, ltb-true, lt-ltb, false≢true, get_or-take, get_or-drop, get_or_default, length-take-le, Contains-get_or, get_or-range_with_len, length-range_with_len}
 use Rattle.std.proofs.Common.{length-drop}
+
+-- numbers of slices that rise
+pub are_slices : (numbers : List ℕ) → IsStrictlyIncreasing numbers → ((i : ℕ) → get_or numbers i 0 < 32768) → AreSlices numbers
+are_slices numbers rise below = record { rise = rise; below = all_from (λ k. k < 32768) 0 numbers (λ i _. below i) }
+
+-- what holds of the first number
+pub first_is : (P : ℕ → Type 0) (xs : List ℕ) (r : Option ℕ) → r ≡ slice_get xs 0 → P (get_or xs 0 0) → IfSome r P
+first_is P [] r is holds = subst (λ o. IfSome o P) (sym is) tt
+first_is P (x ∷ xs) r is holds = subst (λ o. IfSome o P) (sym is) holds
 
 -- numbers that rise do so by one at least
 rises_by : (xs : List ℕ) → IsStrictlyIncreasing xs → (i k : ℕ) → i + k < length xs → get_or xs i 0 + k ≤ get_or xs (i + k) 0

@@ -1,9 +1,11 @@
 -- The loop that offers the surviving recovery slices.
-use Rattle.par2_recovery.proofs.Common.{inl, inr, length-append, ℕ, ◌+◌, ◌*◌, ◌<◌, ◌≡◌, ◌↔◌, refl, sym, ap, ap₂, ◌∙◌, subst, arith, Bool, true, false, cond, eqb, ◌&&◌, ◌||◌, List, [], ◌∷◌, ◌++◌, length, get_or, map, append-nil, filter, take, list_any, AllByRecursion, IsStrictlyIncreasing, eqb-true, eq-eqb, cases_lt, get_or-map, length-map, map-append, get_or_append_left, get_or_at, take_all, dot, coefficients, combination, IsVector, IsRepairable, Kills, kept, kept_slices, Equations, CutDown, IsIndependent, IsDependent, Solves, AreTexts, OnlyZeroIsKilled, recovered_of, IsUnit, recovery_at, CutByUnit, GivesUnit, IsEliminated, Bor, all-map, all_unmap}
+use Rattle.par2_recovery.proofs.Common.{inl, inr, length-append, ℕ, ◌+◌, ◌*◌, ◌<◌, ◌≡◌, ◌↔◌, refl, sym, ap, ap₂, ◌∙◌, subst, arith, Bool, true, false, cond, eqb, ◌&&◌, ◌||◌, List, [], ◌∷◌, ◌++◌, length, get_or, map, append-nil, filter, list_any, AllByRecursion, IsStrictlyIncreasing, eqb-true, eq-eqb, cases_lt, get_or-map, length-map, map-append, get_or_append_left, get_or_at, take_all, dot, coefficients, combination, IsVector, IsRepairable, Kills, kept, kept_slices, Equations, CutDown, IsIndependent, IsDependent, Solves, AreTexts, OnlyZeroIsKilled, recovered_of, IsUnit, recovery_at, CutByUnit, GivesUnit, IsEliminated, Bor, all-map, all_unmap}
+use Rattle.std.specs.Prelude.{take}
 use Rattle.std.proofs.lemmas.Map.Views.{any-filter_same}
 use Rattle.par2_spec.proofs.RankLaws.{all_weaker}
 use Rattle.std.proofs.Math.Bool.{and-true, or-true}
 use Rattle.par2_matrix.specs.Systems as systems
+use Rattle.par2_recovery.proofs.Inverting.{length-recovered_of}
 use Rattle.par2_recovery.proofs.Ranks.{Eliminated, is_kept, kept_is, dependent_is, one_kept, none_kept, none_offered, all_offered, kept_more}
 use Rattle.par2_recovery.proofs.RankTests.{AllKill}
 
@@ -113,20 +115,26 @@ stands_still lost recs kept_ones i system up h before follows =
       solves = before.solves;
     }
 
--- a turn of the loop, where the slice is kept and where it is dropped
-pub kept_turn : (lost : List ℕ) (recs : List (ℕ × List ℕ)) (i : ℕ) (system new : Equations) (xs ys : List (ℕ × Bor (List ℕ))) (v : ℕ × Bor (List ℕ)) → IsStrictlyIncreasing (map (λ r. r.0) recs) → i < length recs
-    → ys ≡ xs ++ v ∷ [] → v.0 ≡ (recovery_at recs i).0 → v.1.now ≡ (recovery_at recs i).1 → Standing lost recs (recovered_of xs) i system → new.columns ≡ system.columns → new.bytes ≡ system.bytes
-    → CutByUnit system new (coefficients lost v.0) → IsIndependent system (coefficients lost v.0) → Standing lost recs (recovered_of ys) (i + 1) new
-kept_turn lost recs i system new xs ys v up h is exponent bytes before columns new_bytes made told =
-    subst (λ rs. Standing lost recs rs (i + 1) new)
-    (sym (ap recovered_of is ∙ map-append (λ (r : ℕ × Bor (List ℕ)). (r.0, r.1.now)) xs (v ∷ []) ∙ ap₂ (λ a b. recovered_of xs ++ (a, b) ∷ []) exponent bytes))
-    (stands_more lost recs (recovered_of xs) i system new up h before columns new_bytes
-    (subst (λ e. CutByUnit system new (coefficients lost e)) exponent made) (subst (λ e. IsIndependent system (coefficients lost e)) exponent told))
+-- a recovery slice as it is read
+recovered_at : (recovery : List (ℕ × Bor (List ℕ))) (i : ℕ) (d : ℕ × Bor (List ℕ)) → i < length recovery → recovery_at (recovered_of recovery) i ≡ ((get_or recovery i d).0, (get_or recovery i d).1.now)
+recovered_at recovery i d h = get_or-map (λ (r : ℕ × Bor (List ℕ)). (r.0, r.1.now)) recovery i d (0, []) h
 
-pub dropped_turn : (lost : List ℕ) (recs kept_ones : List (ℕ × List ℕ)) (i e : ℕ) (system new : Equations) → IsStrictlyIncreasing (map (λ r. r.0) recs) → i < length recs → e ≡ (recovery_at recs i).0
-    → Standing lost recs kept_ones i system → IsDependent system (coefficients lost e) → new ≡ system → Standing lost recs kept_ones (i + 1) new
-dropped_turn lost recs kept_ones i e system new up h exponent before follows same =
-    subst (λ x. Standing lost recs kept_ones (i + 1) x) (sym same) (stands_still lost recs kept_ones i system up h before (subst (λ x. IsDependent system (coefficients lost x)) exponent follows))
+-- a turn of the loop, where the slice is kept and where it is dropped
+pub kept_turn : (lost : List ℕ) (recovery : List (ℕ × Bor (List ℕ))) (i : ℕ) (system new : Equations) (xs ys : List (ℕ × Bor (List ℕ))) (d : ℕ × Bor (List ℕ)) → IsStrictlyIncreasing (map (λ r. r.0) (recovered_of recovery)) → i < length recovery
+    → ys ≡ xs ++ get_or recovery i d ∷ [] → Standing lost (recovered_of recovery) (recovered_of xs) i system → new.columns ≡ system.columns → new.bytes ≡ system.bytes
+    → CutByUnit system new (coefficients lost (get_or recovery i d).0) → IsIndependent system (coefficients lost (get_or recovery i d).0) → Standing lost (recovered_of recovery) (recovered_of ys) (i + 1) new
+kept_turn lost recovery i system new xs ys d up h is before columns new_bytes made told =
+    let at = recovered_at recovery i d h in
+    subst (λ rs. Standing lost (recovered_of recovery) rs (i + 1) new)
+    (sym (ap recovered_of is ∙ map-append (λ (r : ℕ × Bor (List ℕ)). (r.0, r.1.now)) xs (get_or recovery i d ∷ []) ∙ ap (λ r. recovered_of xs ++ r ∷ []) (sym at)))
+    (stands_more lost (recovered_of recovery) (recovered_of xs) i system new up (omega (arith, h, length-recovered_of recovery)) before columns new_bytes
+    (subst (λ (r : ℕ × List ℕ). CutByUnit system new (coefficients lost r.0)) (sym at) made) (subst (λ (r : ℕ × List ℕ). IsIndependent system (coefficients lost r.0)) (sym at) told))
+
+pub dropped_turn : (lost : List ℕ) (recovery : List (ℕ × Bor (List ℕ))) (kept_ones : List (ℕ × List ℕ)) (i : ℕ) (system new : Equations) (d : ℕ × Bor (List ℕ)) → IsStrictlyIncreasing (map (λ r. r.0) (recovered_of recovery)) → i < length recovery
+    → Standing lost (recovered_of recovery) kept_ones i system → IsDependent system (coefficients lost (get_or recovery i d).0) → new ≡ system → Standing lost (recovered_of recovery) kept_ones (i + 1) new
+dropped_turn lost recovery kept_ones i system new d up h before follows same =
+    rw same
+    (stands_still lost (recovered_of recovery) kept_ones i system up (omega (arith, h, length-recovered_of recovery)) before (subst (λ (r : ℕ × List ℕ). IsDependent system (coefficients lost r.0)) (sym (recovered_at recovery i d h)) follows))
 
 -- ---- the end of the loop
 

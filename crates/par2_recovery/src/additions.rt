@@ -1,24 +1,24 @@
 //! Recovery slices, added to outputs: those of many exponents that follow one another together, others each as the sum of
 //! its products.
 
-ghost use Rattle.std.specs.Prelude.{◌≡◌, ℕ, ◌+◌, ◌-◌, ◌*◌, ◌^◌, ◌<◌, ◌≤◌, length, map, slice_index, IfOk, IfSome, OnOk};
+ghost use Rattle.std.specs.Prelude.{◌≡◌, ℕ, ◌+◌, ◌-◌, ◌*◌, ◌^◌, ◌<◌, ◌≤◌, length, map, slice_index, IfOk, IfSome, IsTrue, OnOk};
 ghost use Rattle.std.specs.List.{range_with_len};
-ghost use Rattle.par2_spec.specs.Recovery.{coefficients};
 ghost use Rattle.par2_spec.specs.Slices.{word};
 ghost use Rattle.par2_spec.specs.Sums.{list_at, lists_of};
 ghost use Rattle.par2_transform.specs.Adding.{within, AddsAt, AddsToEach, HaveWords, LieWithin};
 ghost use Rattle.par2_transform.specs.Columns.{recovered};
 ghost use Rattle.par2_recovery.specs.Answers.{AddsRecovery, HaveAll, HaveAtLeast, LieIn};
 ghost use Rattle.par2_recovery.specs.Products.{products};
-ghost use Rattle.par2_recovery.specs.Syndromes.{AreRun};
+ghost use Rattle.par2_recovery.specs.Syndromes.{all_coefficients, AreRun};
 ghost use Rattle.par2_recovery.specs.Views.{texts_of};
 
 use crate::exponents::coefficients;
 use crate::products::{BLOCK, fit_lists, products_of, source_at, text_at};
 use crate::syndromes::windows;
 use par2_gf16::Gf;
+use par2_spec::Result;
 use par2_transform::{Places, add_recovery_slices_at, add_to_output, whole_texts};
-use std::alloc::{AllocError, Global};
+use std::alloc::Global;
 
 // From so many exponents and slices on, recovery slices are computed together: below, each as the sum of its products is
 // faster.
@@ -33,7 +33,9 @@ const OVERHEAD: usize = 104;
 const FEWEST: usize = 32;
 
 // Whether the recovery slices of a run of so many exponents are computed together.
-fn are_together(slices: usize, count: usize) -> bool {
+fn are_together(slices: usize, count: usize) -> bool
+    ensures { IsTrue result → 0 < count }
+{
     slices >= MANY_SLICES && count >= MANY_EXPONENTS
 }
 
@@ -55,26 +57,22 @@ fn sum_columns(slices: usize, count: usize, room: usize) -> usize
 }
 
 /// The numbers from `first` on, `count` of them.
-pub(crate) fn numbers_from(alloc: Global, first: u32, count: u32) -> Result<Vec<u32>, AllocError>
+pub(crate) fn numbers_from(alloc: Global, first: u32, count: u32) -> Result<Vec<u32>>
     requires { first + count ≤ 2 ^ 32 }
     ensures { IfOk result (λ numbers. numbers.items ≡ range_with_len first count) }
 {
     (0..count).map(|k| first + k).collect(alloc)
 }
 
-// For each exponent, what it multiplies the slices of these numbers by.
-fn rows_over(
-    alloc: Global,
-    gf: &Gf,
-    numbers: &[u32],
-    exponents: &[u32],
-) -> Result<Vec<Vec<u16>>, AllocError>
-    requires { (i : ℕ) → slice_index numbers.now i < 32768 }
-    ensures { IfOk result (λ it. lists_of it.items ≡ map (coefficients numbers.now) exponents.now) }
+// For each exponent, what it multiplies so many slices by.
+fn rows_over(alloc: Global, gf: &Gf, slices: usize, exponents: &[u32]) -> Result<Vec<Vec<u16>>>
+    requires { slices ≤ 32768 }
+    ensures { IfOk result (λ it. lists_of it.items ≡ all_coefficients slices exponents.now) }
 {
+    let numbers = numbers_from(alloc, 0, slices as u32)?;
     let mut rows = Vec::with_capacity(alloc, exponents.len())?;
     for i in 0..exponents.len() {
-        rows.push(coefficients(alloc, gf, numbers, exponents[i])?)?;
+        rows.push(coefficients(alloc, gf, &numbers, exponents[i])?)?;
     }
     Ok(rows)
 }
@@ -122,7 +120,7 @@ fn add_columns(
     outputs: &Places,
     from: usize,
     to: usize,
-) -> Result<(), AllocError>
+) -> Result<()>
     requires some { 0 < length rows.now }
     requires rows { length rows.now ≡ length outputs.now.places.now }
     requires factors { HaveAtLeast (length slices.now) rows.now }
@@ -152,21 +150,20 @@ fn add_by_coefficients(
     texts: &mut [Vec<u8>],
     outputs: &Places,
     room: usize,
-) -> Result<(), AllocError>
+) -> Result<()>
     requires slices { length slices.now ≤ 32768 }
     requires some { 0 < length exponents.now }
     requires count { length exponents.now ≡ length outputs.now.places.now }
     requires room { LieIn outputs.now texts.old }
     ensures { OnOk result (AddsRecovery outputs.now slices.now exponents.now texts.old texts.new) }
 {
-    let numbers = numbers_from(alloc, 0, slices.len() as u32)?;
-    let rows = rows_over(alloc, gf, &numbers, exponents)?;
-    let words = outputs.words;
+    let rows = rows_over(alloc, gf, slices.len(), exponents)?;
     let columns = sum_columns(slices.len(), exponents.len(), room);
-    for block in 0..words.div_ceil(columns) {
-        let from = block * columns;
-        let to = from + columns.min(words - from);
+    let mut from = 0;
+    while from < outputs.words {
+        let to = from + columns.min(outputs.words - from);
         add_columns(alloc, gf, &rows, slices, texts, outputs, from, to)?;
+        from = to;
     }
     Ok(())
 }
@@ -176,6 +173,8 @@ fn run_end(exponents: &[u32], at: usize) -> usize
     requires { at < length exponents.now }
     ensures beyond { at < result }
     ensures within { result ≤ length exponents.now }
+    ensures run { (k : ℕ) → at + k < result
+        → slice_index exponents.now (at + k) ≡ slice_index exponents.now at + k }
 {
     let mut end = at + 1;
     while end < exponents.len() && exponents[end] as u64 == exponents[end - 1] as u64 + 1 {
@@ -211,16 +210,10 @@ fn run_together(exponents: &[u32], slices: usize) -> Option<u32>
     ensures run { IfSome result (λ first. AreRun first exponents.now) }
     ensures few { IfSome result (λ first. first + length exponents.now ≤ 2 ^ 32) }
 {
-    if !are_together(slices, exponents.len()) {
+    if !are_together(slices, exponents.len()) || run_end(exponents, 0) < exponents.len() {
         return None;
     }
-    let first = *exponents.first()?;
-    for j in 0..exponents.len() {
-        if exponents[j] as u64 != first as u64 + j as u64 {
-            return None;
-        }
-    }
-    Some(first)
+    exponents.first().copied()
 }
 
 // To each output, adds the recovery slice of the exponent at its place: of a long run together.
@@ -232,7 +225,7 @@ fn add_group(
     texts: &mut [Vec<u8>],
     outputs: &Places,
     room: usize,
-) -> Result<(), AllocError>
+) -> Result<()>
     requires slices { length slices.now ≤ 32768 }
     requires some { 0 < length exponents.now }
     requires count { length exponents.now ≡ length outputs.now.places.now }
@@ -255,7 +248,7 @@ pub(crate) fn add_recovery(
     texts: &mut [Vec<u8>],
     outputs: &Places,
     room: usize,
-) -> Result<(), AllocError>
+) -> Result<()>
     requires slices { length slices.now ≤ 32768 }
     requires count { length exponents.now ≡ length outputs.now.places.now }
     requires room { LieIn outputs.now texts.old }
@@ -273,7 +266,7 @@ pub(crate) fn add_recovery(
 }
 
 // A copy of each text.
-fn copies(alloc: Global, texts: &[&[u8]]) -> Result<Vec<Vec<u8>>, AllocError>
+fn copies(alloc: Global, texts: &[&[u8]]) -> Result<Vec<Vec<u8>>>
     ensures { IfOk result (λ copies. lists_of copies.items ≡ texts_of texts.now) }
 {
     let mut copies = Vec::with_capacity(alloc, texts.len())?;
@@ -292,7 +285,7 @@ pub(crate) fn with_recovery_slices(
     exponents: &[u32],
     texts: &[&[u8]],
     room: usize,
-) -> Result<Vec<Vec<u8>>, AllocError>
+) -> Result<Vec<Vec<u8>>>
     requires slices { length slices.now ≤ 32768 }
     requires count { length exponents.now ≡ length texts.now }
     requires size { HaveWords words (texts_of texts.now) }

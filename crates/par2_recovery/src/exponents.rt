@@ -10,7 +10,8 @@ ghost use Rattle.par2_matrix.specs.Systems.{CutDown, IsIndependent, IsDependent}
 
 use par2_gf16::Gf;
 use par2_matrix::{Offer, System};
-use std::alloc::{AllocError, Global};
+use par2_spec::Result;
+use std::alloc::Global;
 
 // What the recovery slice of exponent e multiplies input slice k by.
 #[tactic(auto, unfolding(par2_spec::specs::Field::coefficient))]
@@ -22,20 +23,12 @@ fn coefficient(gf: &Gf, k: u32, e: u32) -> u16
 }
 
 /// What the recovery slice of exponent `e` multiplies each of these input slices by.
-pub(crate) fn coefficients(
-    alloc: Global,
-    gf: &Gf,
-    numbers: &[u32],
-    e: u32,
-) -> Result<Vec<u16>, AllocError>
+pub(crate) fn coefficients(alloc: Global, gf: &Gf, numbers: &[u32], e: u32) -> Result<Vec<u16>>
     requires { (i : ℕ) → slice_index numbers.now i < 32768 }
     ensures { IfOk result (λ row. row.items ≡ coefficients numbers.now e) }
 {
-    let mut row = Vec::with_capacity(alloc, numbers.len())?;
-    for k in numbers {
-        row.push(coefficient(gf, *k, e))?;
-    }
-    Ok(row)
+    let row = numbers.iter().map(|k| coefficient(gf, *k, e));
+    row.collect(alloc)
 }
 
 // Offers the equation of an exponent, unless the system has its full rank.
@@ -47,7 +40,7 @@ pub(crate) fn offer(
     lost: &[u32],
     e: u32,
     right: Vec<u8>,
-) -> Result<Offer, AllocError>
+) -> Result<Offer>
     requires lost { (i : ℕ) → slice_index lost.now i < 32768 }
     requires columns { system.old.columns ≡ length lost.now }
     requires right { length right.items ≡ system.old.bytes }
@@ -120,12 +113,7 @@ pub fn rank_by_runs(lost: &[u32], exponents: &[u32]) -> Option<usize>
 }
 
 // The rank by the equations.
-fn rank_by_elimination(
-    alloc: Global,
-    gf: &Gf,
-    lost: &[u32],
-    exponents: &[u32],
-) -> Result<usize, AllocError>
+fn rank_by_elimination(alloc: Global, gf: &Gf, lost: &[u32], exponents: &[u32]) -> Result<usize>
     requires lost { (i : ℕ) → slice_index lost.now i < 32768 }
     requires exponents { IsStrictlyIncreasing exponents.now }
     ensures { IfOk result (λ n. n ≡ rank lost.now exponents.now) }
@@ -139,7 +127,7 @@ fn rank_by_elimination(
 
 /// How many of the exponents are kept, for these lost slices: as many as are lost exactly where the recovery slices of
 /// the exponents determine them.
-pub fn rank(alloc: Global, gf: &Gf, lost: &[u32], exponents: &[u32]) -> Result<usize, AllocError>
+pub fn rank(alloc: Global, gf: &Gf, lost: &[u32], exponents: &[u32]) -> Result<usize>
     requires lost { (i : ℕ) → slice_index lost.now i < 32768 }
     requires exponents { IsStrictlyIncreasing exponents.now }
     ensures rank { IfOk result (λ n. n ≡ rank lost.now exponents.now) }

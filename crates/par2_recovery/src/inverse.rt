@@ -1,6 +1,6 @@
 //! The equations of the kept exponents, and their inverse.
 
-ghost use Rattle.std.specs.Prelude.{◌≡◌, ℕ, ◌*◌, ◌<◌, ◌≤◌, length, map, slice_index, slice_index_or, [], IfErr, IfOk, IsOk, Ok, ◌%◌, IfSome, IsNone};
+ghost use Rattle.std.specs.Prelude.{◌≡◌, ℕ, ◌*◌, ◌<◌, ◌≤◌, length, map, slice_index, IfErr, IfOk, IsOk, Ok, ◌%◌, IfSome, IsNone};
 ghost use Rattle.std.specs.List.Sorted.{IsStrictlyIncreasing};
 ghost use Rattle.par2_spec.specs.Rank.{IsRepairable};
 ghost use Rattle.par2_spec.specs.Sums.{lists_of, list_at};
@@ -10,7 +10,6 @@ ghost use Rattle.par2_recovery.specs.Survivors.{recovered_of, exponents_of, IsTr
 ghost use Rattle.par2_recovery.specs.Inverses.{IsEliminated};
 ghost use Rattle.par2_matrix.specs.Echelon.{Spells};
 ghost use Rattle.par2_recovery.specs.Elements.{AreRows, IsUnit};
-ghost use Rattle.par2_spec.specs.Runs.{AreSlices};
 ghost use Rattle.par2_recovery.specs.RunInverses.{BeginsWithRun};
 
 use crate::exponents::{are_close, offer};
@@ -19,7 +18,8 @@ use crate::rebuild_slices::RebuildFault;
 use crate::run_inverse::run_inverse;
 use par2_gf16::Gf;
 use par2_matrix::{Offer, System, element, put_element};
-use std::alloc::{AllocError, Global};
+use par2_spec::Result;
+use std::alloc::Global;
 
 // The recovery slices of the kept exponents, in order, and the system of their equations: the right side of the j-th one
 // is the j-th unit vector.
@@ -36,22 +36,13 @@ pub(crate) struct Inversion<'a> {
     pub(crate) inverse: Vec<Vec<u16>>,
 }
 
-// A recovery slice with its exponent.
-fn recovery_at<'a>(recovery: &[(u32, &'a [u8])], i: usize) -> (u32, &'a [u8])
-    requires { i < length recovery.now }
-    ensures exponent { result.0 ≡ (slice_index_or (recovered_of recovery.now) i (0, [])).0 }
-    ensures bytes { result.1.now ≡ (slice_index_or (recovered_of recovery.now) i (0, [])).1 }
-{
-    recovery[i]
-}
-
 // Takes the recovery slices in order, and keeps those of the kept exponents.
 fn eliminate<'a>(
     alloc: Global,
     gf: &Gf,
     lost: &[u32],
     recovery: &[(u32, &'a [u8])],
-) -> Result<Elimination<'a>, AllocError>
+) -> Result<Elimination<'a>>
     requires count { length lost.now ≤ 32768 }
     requires lost { (i : ℕ) → slice_index lost.now i < 32768 }
     requires exponents { IsStrictlyIncreasing (exponents_of recovery.now) }
@@ -61,7 +52,7 @@ fn eliminate<'a>(
     let mut system = System::new(alloc, lost.len(), 2 * lost.len())?;
     let mut kept = Vec::new(alloc);
     for i in 0..recovery.len() {
-        let slice = recovery_at(recovery, i);
+        let slice = recovery[i];
         let right = unit(alloc, lost.len(), system.rank())?;
         match offer(alloc, gf, &mut system, lost, slice.0, right)? {
             Offer::Kept => kept.push(slice)?,
@@ -101,10 +92,7 @@ fn invert_by_elimination<'a>(
 }
 
 /// The bytes of the recovery slices.
-pub(crate) fn bytes_of<'a>(
-    alloc: Global,
-    kept: &[(u32, &'a [u8])],
-) -> Result<Vec<&'a [u8]>, AllocError>
+pub(crate) fn bytes_of<'a>(alloc: Global, kept: &[(u32, &'a [u8])]) -> Result<Vec<&'a [u8]>>
     ensures { IfOk result (λ slices. texts_of slices.items
         ≡ map (λ r. r.1) (recovered_of kept.now)) }
 {
@@ -112,14 +100,14 @@ pub(crate) fn bytes_of<'a>(
 }
 
 /// The exponents of the recovery slices.
-pub(crate) fn exponents_of(alloc: Global, kept: &[(u32, &[u8])]) -> Result<Vec<u32>, AllocError>
+pub(crate) fn exponents_of(alloc: Global, kept: &[(u32, &[u8])]) -> Result<Vec<u32>>
     ensures { IfOk result (λ exponents. exponents.items ≡ exponents_of kept.now) }
 {
     kept.iter().map(|slice| slice.0).collect(alloc)
 }
 
 // The elements of a text.
-fn row_of(alloc: Global, text: &[u8]) -> Result<Vec<u16>, AllocError>
+fn row_of(alloc: Global, text: &[u8]) -> Result<Vec<u16>>
     requires { length text.now % 2 ≡ 0 }
     ensures { IfOk result (λ row. Spells row.items text.now (length row.items)) }
 {
@@ -132,7 +120,7 @@ fn row_of(alloc: Global, text: &[u8]) -> Result<Vec<u16>, AllocError>
 }
 
 // The elements of each text.
-fn rows_of(alloc: Global, texts: &[Vec<u8>]) -> Result<Vec<Vec<u16>>, AllocError>
+fn rows_of(alloc: Global, texts: &[Vec<u8>]) -> Result<Vec<Vec<u16>>>
     requires { (r : ℕ) → r < length texts.now → length (list_at (lists_of texts.now) r) % 2 ≡ 0 }
     ensures { IfOk result
         (λ rows. AreRows (lists_of rows.items) (lists_of texts.now) (length texts.now)) }
@@ -145,7 +133,7 @@ fn rows_of(alloc: Global, texts: &[Vec<u8>]) -> Result<Vec<Vec<u16>>, AllocError
 }
 
 // The text of the unit vector of n elements that has 1 at i, or of zeros, where i is none of its places.
-fn unit(alloc: Global, n: usize, i: usize) -> Result<Vec<u8>, AllocError>
+fn unit(alloc: Global, n: usize, i: usize) -> Result<Vec<u8>>
     requires { n < 65536 }
     ensures size { IfOk result (λ text. length text.items ≡ 2 * n) }
     ensures unit { i < n → IfOk result (λ text. IsUnit n i text.items) }
@@ -166,38 +154,14 @@ fn run_at_front(exponents: &[u32], count: usize) -> Option<u32>
     ensures none { IsNone result → (first : ℕ) → 0 < count
         → BeginsWithRun first count exponents.now → ⊥ }
 {
-    if exponents.len() < count {
+    if exponents.len() < count || !are_close(&exponents[..count], count) {
         return None;
     }
-    if are_close(&exponents[..count], count) {
-        exponents.first().copied()
-    } else {
-        None
-    }
+    exponents.first().copied()
 }
 
-// The kept exponents and their inverse, where the first ones are a run of as many as slices are lost: these are kept.
-fn invert_run<'a>(
-    alloc: Global,
-    gf: &Gf,
-    lost: &[u32],
-    recovery: &[(u32, &'a [u8])],
-    first: u32,
-) -> Result<Inversion<'a>, AllocError>
-    requires lost { AreSlices lost.now }
-    requires exponents { IsStrictlyIncreasing (exponents_of recovery.now) }
-    requires run { BeginsWithRun first (length lost.now) (exponents_of recovery.now) }
-    ensures kept { IfOk result (KeepsThose lost.now recovery.now) }
-    ensures inverse { IfOk result (HasInverse lost.now) }
-    ensures enough { IsOk result → IsRepairable lost.now (exponents_of recovery.now) }
-{
-    let kept = Vec::from_slice(alloc, &recovery[..lost.len()])?;
-    let inverse = run_inverse(alloc, gf, lost, first)?;
-    Ok(Inversion { kept, inverse })
-}
-
-/// The kept exponents and their inverse, where they determine the lost slices: at a run by its polynomial, else by
-/// elimination.
+/// The kept exponents and their inverse, where they determine the lost slices. Where the first exponents are a run of as
+/// many as slices are lost, these are kept, and their inverse is made by the run's polynomial; else by elimination.
 pub(crate) fn invert<'a>(
     alloc: Global,
     gf: &Gf,
@@ -214,8 +178,10 @@ pub(crate) fn invert<'a>(
     ensures refused { IfErr result (IsTrueFault lost.now (exponents_of recovery.now)) }
 {
     let exponents = exponents_of(alloc, recovery)?;
-    match run_at_front(&exponents, lost.len()) {
-        Some(first) => Ok(invert_run(alloc, gf, lost, recovery, first)?),
-        None => invert_by_elimination(alloc, gf, lost, recovery),
-    }
+    let Some(first) = run_at_front(&exponents, lost.len()) else {
+        return invert_by_elimination(alloc, gf, lost, recovery);
+    };
+    let kept = Vec::from_slice(alloc, &recovery[..lost.len()])?;
+    let inverse = run_inverse(alloc, gf, lost, first)?;
+    Ok(Inversion { kept, inverse })
 }

@@ -10,7 +10,8 @@ ghost use Rattle.par2_recovery.specs.Views.{texts_of};
 
 use crate::recovery::blank;
 use par2_gf16::{Columns, Factor, Gf};
-use std::alloc::{AllocError, Global};
+use par2_spec::Result;
+use std::alloc::Global;
 
 /// How many words of every text are taken at a time, so that a source's nibbles and what is written stay in the caches.
 pub(crate) const BLOCK: usize = 4096;
@@ -77,7 +78,7 @@ fn add_text(
     targets: &mut [Vec<u8>],
     from: usize,
     to: usize,
-) -> Result<(), AllocError>
+) -> Result<()>
     requires rows { length factors.now ≡ length targets.old }
     requires factors { HaveItem k factors.now }
     requires order { from ≤ to }
@@ -103,7 +104,7 @@ fn add_columns(
     targets: &mut [Vec<u8>],
     from: usize,
     to: usize,
-) -> Result<(), AllocError>
+) -> Result<()>
     requires rows { length factors.now ≡ length targets.old }
     requires factors { HaveAtLeast (length sources.now) factors.now }
     requires order { from ≤ to }
@@ -112,16 +113,8 @@ fn add_columns(
         (lists_of targets.old) (lists_of targets.new) from to (length sources.now)) }
 {
     for k in 0..sources.len() {
-        add_text(
-            alloc,
-            gf,
-            factors,
-            k,
-            source_at(sources, k),
-            targets,
-            from,
-            to,
-        )?;
+        let text = source_at(sources, k);
+        add_text(alloc, gf, factors, k, text, targets, from, to)?;
     }
     Ok(())
 }
@@ -135,7 +128,7 @@ pub(crate) fn add_products(
     sources: &[&[u8]],
     targets: &mut [Vec<u8>],
     words: usize,
-) -> Result<(), AllocError>
+) -> Result<()>
     requires rows { length factors.now ≡ length targets.old }
     requires factors { HaveAtLeast (length sources.now) factors.now }
     requires room { HaveAtLeast (2 * words) targets.old }
@@ -157,7 +150,7 @@ pub(crate) fn products_of(
     factors: &[Vec<u16>],
     sources: &[&[u8]],
     size: usize,
-) -> Result<Vec<Vec<u8>>, AllocError>
+) -> Result<Vec<Vec<u8>>>
     requires factors { HaveAtLeast (length sources.now) factors.now }
     requires even { size % 2 ≡ 0 }
     ensures { IfOk result (λ sums. AreProducts size (lists_of factors.now) (texts_of sources.now)

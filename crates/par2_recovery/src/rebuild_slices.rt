@@ -1,6 +1,6 @@
 //! Lost slices are rebuilt.
 
-ghost use Rattle.std.specs.Prelude.{◌≡◌, ◌<◌, ◌≤◌, length, map, slice_index_or, is_none, IfOk, IfErr, IsOk, None};
+ghost use Rattle.std.specs.Prelude.{◌≡◌, ◌≤◌, length, map, IfOk, IfErr, IsOk};
 ghost use Rattle.par2_spec.specs.Search.{lost};
 ghost use Rattle.par2_recovery.specs.Answers.{lost_among, IsFaultOf, Rebuild};
 ghost use Rattle.par2_recovery.specs.Views.{texts_of};
@@ -11,6 +11,7 @@ use crate::inverse::{Inversion, bytes_of, exponents_of, invert};
 use crate::products::{fit_lists, fit_texts};
 use crate::syndromes::solved;
 use par2_gf16::Gf;
+use par2_spec::Result;
 use std::alloc::{AllocError, Global};
 use thiserror::Error;
 
@@ -47,48 +48,22 @@ impl From<AllocError> for RebuildFault {
     }
 }
 
-fn is_lost(known: &[Option<&[u8]>], i: usize) -> bool
-    requires { i < length known.now }
-    ensures { result ≡ is_none (slice_index_or known.now i None) }
-{
-    known[i].is_none()
-}
-
 // The numbers of the lost slices.
-fn lost_numbers(alloc: Global, known: &[Option<&[u8]>]) -> Result<Vec<u32>, AllocError>
+fn lost_numbers(alloc: Global, known: &[Option<&[u8]>]) -> Result<Vec<u32>>
     requires { length known.now ≤ 32768 }
     ensures { IfOk result (λ numbers. numbers.items ≡ lost_from 0 known.now) }
 {
-    let mut numbers = Vec::new(alloc);
-    for i in 0..known.len() {
-        if is_lost(known, i) {
-            numbers.push(i as u32)?;
-        }
-    }
-    Ok(numbers)
-}
-
-// The bytes of a slice, none where it is lost.
-fn bytes_of_slice<'a>(slice: Option<&'a [u8]>) -> &'a [u8]
-    ensures { result.now ≡ bytes_or_none slice.entry }
-{
-    match slice {
-        Some(bytes) => bytes,
-        None => &[],
-    }
+    let slices = (0..known.len() as u32).zip(known);
+    let lost = slices.filter(|(_, slice)| slice.is_none());
+    lost.map(|(number, _)| number).collect(alloc)
 }
 
 // The bytes of each slice, none where it is lost.
-fn slices_or_none<'a>(
-    alloc: Global,
-    known: &[Option<&'a [u8]>],
-) -> Result<Vec<&'a [u8]>, AllocError>
+fn slices_or_none<'a>(alloc: Global, known: &[Option<&'a [u8]>]) -> Result<Vec<&'a [u8]>>
     ensures { IfOk result (λ slices. texts_of slices.items ≡ map bytes_or_none known.now) }
 {
-    known
-        .iter()
-        .map(|slice| bytes_of_slice(*slice))
-        .collect(alloc)
+    let slices = known.iter().map(|&slice| slice.unwrap_or(&[]));
+    slices.collect(alloc)
 }
 
 /// The lost slices in order, with their padding. NotRepairable is answered where the recovery slices don't determine
@@ -107,15 +82,8 @@ pub fn rebuild(alloc: Global, gf: &Gf, survivors: &Survivors) -> Result<Vec<Vec<
     let slices = slices_or_none(alloc, &survivors.known)?;
     fit_texts(&recovery);
     fit_texts(&slices);
-    let texts = solved(
-        alloc,
-        gf,
-        &inverse,
-        &exponents,
-        &recovery,
-        &slices,
-        survivors.slice,
-    )?;
+    let size = survivors.slice;
+    let texts = solved(alloc, gf, &inverse, &exponents, &recovery, &slices, size)?;
     fit_lists(&texts);
     Ok(texts)
 }

@@ -1,13 +1,13 @@
 //! Recovery slices over the files of a set (Parity Volume Set Specification 2.0, "Recovery Slice packet").
 
-ghost use Rattle.std.specs.Prelude.{◌≡◌, ◌+◌, ◌%◌, ◌^◌, ◌<◌, ◌≤◌, ◌++◌, length, map, slice_index_or, [], IfOk};
+ghost use Rattle.std.specs.Prelude.{◌≡◌, ◌+◌, ◌%◌, ◌^◌, ◌≤◌, ◌++◌, length, map, IfOk};
 ghost use Rattle.std.specs.List.{range_with_len};
 ghost use Rattle.par2_spec.specs.Folders.{bytes_of};
 ghost use Rattle.par2_spec.specs.Slices as spec;
 ghost use Rattle.par2_spec.specs.Recovery.{recovery};
 ghost use Rattle.par2_spec.specs.Sums.{lists_of};
 ghost use Rattle.par2_recovery.specs.Answers.{slices_of_set, ArePadded, LieIn};
-ghost use Rattle.par2_recovery.specs.Views.{texts_of, names_of, AreBlank};
+ghost use Rattle.par2_recovery.specs.Views.{texts_of, AreBlank};
 ghost use Rattle.par2_recovery.specs.Writing.{AreWritten, AreZeros};
 
 use crate::additions::{add_recovery, numbers_from, with_recovery_slices};
@@ -17,11 +17,12 @@ use crate::set_record::SetRecord;
 use par2_folder::{Folder, Name};
 use par2_gf16::Gf;
 use par2_slices::{slice_bytes, slice_count};
+use par2_spec::Result;
 use par2_transform::Places;
-use std::alloc::{AllocError, Global};
+use std::alloc::Global;
 
 // Zeros.
-pub(crate) fn blank(alloc: Global, count: usize, size: usize) -> Result<Vec<Vec<u8>>, AllocError>
+pub(crate) fn blank(alloc: Global, count: usize, size: usize) -> Result<Vec<Vec<u8>>>
     ensures { IfOk result (λ texts. AreBlank size count (lists_of texts.items)) }
 {
     let mut texts = Vec::with_capacity(alloc, count)?;
@@ -40,7 +41,7 @@ pub fn recovery_slices_over(
     size: usize,
     first: u32,
     count: u32,
-) -> Result<Vec<Vec<u8>>, AllocError>
+) -> Result<Vec<Vec<u8>>>
     requires slices { length slices.now ≤ 32768 }
     requires even { size % 2 ≡ 0 }
     requires exponents { first + count ≤ 2 ^ 32 }
@@ -66,7 +67,7 @@ pub fn write_recovery_slices(
     exponents: &[u32],
     texts: &mut [Vec<u8>],
     outputs: &Places,
-) -> Result<(), AllocError>
+) -> Result<()>
     requires slices { length slices.now ≤ 32768 }
     requires count { length exponents.now ≡ length outputs.now.places.now }
     requires room { LieIn outputs.now texts.old }
@@ -90,18 +91,11 @@ pub(crate) fn bytes_of<'a>(folder: &'a Folder, name: &str) -> &'a [u8]
     let Ok(name) = Name::new(name) else {
         return &[];
     };
-    match folder.get(&name) {
-        Some(bytes) => bytes,
-        None => &[],
-    }
+    folder.bytes_of(&name)
 }
 
 // The slices, and after them those of one more file.
-fn with_slices<'a>(
-    slices: Vec<&'a [u8]>,
-    bytes: &'a [u8],
-    s: u64,
-) -> Result<Vec<&'a [u8]>, AllocError>
+fn with_slices<'a>(slices: Vec<&'a [u8]>, bytes: &'a [u8], s: u64) -> Result<Vec<&'a [u8]>>
     requires { 1 ≤ s }
     ensures { IfOk result (λ all. map (spec.padded s) (texts_of all.items)
         ≡ map (spec.padded s) (texts_of slices.entry.items) ++ spec.slices s bytes.now) }
@@ -113,28 +107,21 @@ fn with_slices<'a>(
     Ok(all)
 }
 
-// The name of file i.
-fn name_at(record: &SetRecord, i: usize) -> &str
-    requires { i < length record.now.files.items }
-    ensures { result.now ≡ slice_index_or (names_of record.now) i [] }
-{
-    record.files[i].name.as_str()
-}
-
 /// The slices of the record's files, one file after the other. The last one of a file is as short as the file leaves
 /// it; a file that is absent has no slices.
 pub fn input_slices<'a>(
     alloc: Global,
     record: &SetRecord,
     folder: &'a Folder,
-) -> Result<Vec<&'a [u8]>, AllocError>
+) -> Result<Vec<&'a [u8]>>
     requires { 1 ≤ record.now.slice }
     ensures { let slices = slices_of_set folder.now.files record.now in
         IfOk result (λ all. ArePadded record.now.slice slices all.items) }
 {
     let mut all = Vec::new(alloc);
     for i in 0..record.files.len() {
-        all = with_slices(all, bytes_of(folder, name_at(record, i)), record.slice)?;
+        let name = record.files[i].name.as_str();
+        all = with_slices(all, bytes_of(folder, name), record.slice)?;
     }
     Ok(all)
 }
@@ -146,7 +133,7 @@ pub fn recovery_slice(
     record: &SetRecord,
     folder: &Folder,
     e: u32,
-) -> Result<Vec<u8>, AllocError>
+) -> Result<Vec<u8>>
     requires size { 1 ≤ record.now.slice }
     requires even { record.now.slice % 2 ≡ 0 }
     requires slices { length (slices_of_set folder.now.files record.now) ≤ 32768 }

@@ -14,16 +14,11 @@ const STEP: usize = 64;
 // How many steps a row has at most.
 const WIDEST: usize = 32;
 
-// How many bytes the slices have.
-fn total_len(slices: &[&[u8]]) -> usize {
-    slices
-        .iter()
-        .fold(0usize, |total, slice| total.saturating_add(slice.len()))
-}
-
 // A quarter of the room.
 fn quarter(slices: &[&[u8]]) -> usize {
-    (total_len(slices) / 256).saturating_add(ROOM / 4)
+    let lens = slices.iter().map(|slice| slice.len());
+    let total = lens.fold(0usize, |total, len| total.saturating_add(len));
+    (total / 256).saturating_add(ROOM / 4)
 }
 
 /// How much memory what computes recovery slices may take where there are no columns beside it.
@@ -53,11 +48,8 @@ pub(crate) fn columns_at_once(slices: &[&[u8]], count: usize, size: usize) -> us
     let each = (quarter(slices) / count.max(1)).saturating_sub(OVERHEAD);
     let steps = (each / STEP).max(1);
     let row = row_steps(slices, count);
-    let most = if steps > row {
-        steps - steps % row
-    } else {
-        steps
-    };
+    let rest = steps % row;
+    let most = if steps > row { steps - rest } else { steps };
     let all = size.div_ceil(STEP);
     let blocks = all.div_ceil(most).max(1);
     all.div_ceil(blocks).clamp(1, most) * STEP

@@ -3,49 +3,33 @@
 //! constants of the lost slices. The quotient on its division by `z - c` is 0 at the other ones and not at `c`: so its
 //! coefficients, scaled, are row `j` of the inverse.
 
-ghost use Rattle.std.specs.Prelude.{◌≡◌, ◌≢◌, ◌<◌, ◌^◌, ℕ, length, map, slice_index, IfOk};
+ghost use Rattle.std.specs.Prelude.{◌≡◌, ◌≢◌, ◌<◌, ◌^◌, length, IfOk};
 ghost use Rattle.std.specs.List.{range_with_len};
-ghost use Rattle.par2_spec.specs.Field.{mul, pow, constant};
+ghost use Rattle.par2_spec.specs.Field.{mul, pow};
 ghost use Rattle.par2_spec.specs.Polynomials.{value, times, times_root, with_roots, quotient};
 ghost use Rattle.par2_spec.specs.Runs.{AreSlices};
 ghost use Rattle.par2_spec.specs.Sums.{lists_of};
 ghost use Rattle.par2_recovery.specs.Inverses.{IsInverse};
 ghost use Rattle.par2_recovery.specs.RunInverses.{IsScaledQuotient};
 
+use crate::exponents::coefficients;
 use par2_gf16::Gf;
-use std::alloc::{AllocError, Global};
-
-fn constant(gf: &Gf, k: u32) -> u16
-    requires { k < 32768 }
-    ensures { result ≡ constant k }
-{
-    gf.constant(k).unwrap()
-}
-
-// The constants of these input slices.
-fn constants(alloc: Global, gf: &Gf, numbers: &[u32]) -> Result<Vec<u16>, AllocError>
-    requires { (i : ℕ) → slice_index numbers.now i < 32768 }
-    ensures { IfOk result (λ points. points.items ≡ map constant numbers.now) }
-{
-    let mut points = Vec::with_capacity(alloc, numbers.len())?;
-    for k in numbers {
-        points.push(constant(gf, *k))?;
-    }
-    Ok(points)
-}
+use par2_spec::Result;
+use std::alloc::Global;
 
 // The product of a polynomial and `z - c`.
-fn times_root(alloc: Global, gf: &Gf, c: u16, p: &[u16]) -> Result<Vec<u16>, AllocError>
+fn times_root(alloc: Global, gf: &Gf, c: u16, p: &[u16]) -> Result<Vec<u16>>
     ensures { IfOk result (λ product. product.items ≡ times_root c p.now) }
 {
     let zero = [0u16];
-    let before = zero.iter().chain(p);
-    let pairs = p.iter().chain(&zero).zip(before);
+    let extended = p.iter().chain(&zero);
+    let shifted = zero.iter().chain(p);
+    let pairs = extended.zip(shifted);
     pairs.map(|(a, b)| gf.mul(c, *a) ^ *b).collect(alloc)
 }
 
 // The polynomial of these roots.
-fn with_roots(alloc: Global, gf: &Gf, points: &[u16]) -> Result<Vec<u16>, AllocError>
+fn with_roots(alloc: Global, gf: &Gf, points: &[u16]) -> Result<Vec<u16>>
     ensures { IfOk result (λ p. p.items ≡ with_roots points.now) }
 {
     let mut p = vec![in alloc; 1u16; 1]?;
@@ -56,7 +40,7 @@ fn with_roots(alloc: Global, gf: &Gf, points: &[u16]) -> Result<Vec<u16>, AllocE
 }
 
 // The quotient of a polynomial on division by `z - c`.
-fn quotient(alloc: Global, gf: &Gf, c: u16, p: &[u16]) -> Result<Vec<u16>, AllocError>
+fn quotient(alloc: Global, gf: &Gf, c: u16, p: &[u16]) -> Result<Vec<u16>>
     ensures { IfOk result (λ q. q.items ≡ quotient c p.now) }
 {
     let count = p.len().saturating_sub(1);
@@ -81,7 +65,7 @@ fn value(gf: &Gf, p: &[u16], z: u16) -> u16
 }
 
 // A polynomial times `k`.
-fn scaled(alloc: Global, gf: &Gf, k: u16, p: &[u16]) -> Result<Vec<u16>, AllocError>
+fn scaled(alloc: Global, gf: &Gf, k: u16, p: &[u16]) -> Result<Vec<u16>>
     ensures { IfOk result (λ multiple. multiple.items ≡ times k p.now) }
 {
     p.iter().map(|a| gf.mul(k, *a)).collect(alloc)
@@ -96,13 +80,7 @@ fn inverse_of(gf: &Gf, a: u16) -> u16
 }
 
 // The row of the inverse for the constant `c`, by the polynomial of all constants, for the exponents from `first` on.
-fn inverse_row(
-    alloc: Global,
-    gf: &Gf,
-    p: &[u16],
-    c: u16,
-    first: u32,
-) -> Result<Vec<u16>, AllocError>
+fn inverse_row(alloc: Global, gf: &Gf, p: &[u16], c: u16, first: u32) -> Result<Vec<u16>>
     requires { mul (pow c first) (value (quotient c p.now) c) ≢ 0 }
     ensures { IfOk result (λ row. IsScaledQuotient first c p.now row.items) }
 {
@@ -112,17 +90,12 @@ fn inverse_row(
 }
 
 /// The inverse for the exponents from `first` on, as many as slices are lost.
-pub(crate) fn run_inverse(
-    alloc: Global,
-    gf: &Gf,
-    lost: &[u32],
-    first: u32,
-) -> Result<Vec<Vec<u16>>, AllocError>
+pub(crate) fn run_inverse(alloc: Global, gf: &Gf, lost: &[u32], first: u32) -> Result<Vec<Vec<u16>>>
     requires { AreSlices lost.now }
     ensures { IfOk result (λ rows. IsInverse
         lost.now (range_with_len first (length lost.now)) (lists_of rows.items)) }
 {
-    let constants = constants(alloc, gf, lost)?;
+    let constants = coefficients(alloc, gf, lost, 1)?;
     let points = constants.as_slice();
     let p = with_roots(alloc, gf, points)?;
     let mut rows = Vec::with_capacity(alloc, points.len())?;

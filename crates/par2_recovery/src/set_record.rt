@@ -1,6 +1,6 @@
 //! What a set says of its files.
 
-ghost use Rattle.std.specs.Prelude.{◌≡◌, ◌≤◌, ◌<◌, ◌↔◌, ℕ, List, length, map, slice_index_or, [], Err, IfOk, IsOk, IsPermutation, take};
+ghost use Rattle.std.specs.Prelude.{◌≡◌, ◌≤◌, ◌↔◌, ℕ, List, map, Err, IfOk, IsOk, IsPermutation, take};
 ghost use Rattle.std.specs.List.{IsDistinct};
 ghost use Rattle.std.specs.List.Sorted.{IsStrictlyIncreasing};
 ghost use Rattle.std.specs.Str.{bytes_eq};
@@ -20,6 +20,7 @@ use par2_digests::text_digests;
 use par2_folder::{Folder, Name};
 use par2_packets::{DuplicateId, FileRecord, file_id, sort_ids};
 use par2_slices::pairs_of;
+use par2_spec::Result;
 use std::alloc::{AllocError, Global};
 use thiserror::Error;
 
@@ -32,27 +33,13 @@ pub struct SetRecord {
     pub files: Vec<FileRecord>,
 }
 
-// The text of name i.
-fn text_at(names: &[Name], i: usize) -> &str
-    requires { i < length names.now }
-    ensures { result.now ≡ slice_index_or names.now i [] }
-{
-    names[i].as_str()
-}
-
 /// The bytes of the files of these names, none for an absent one.
-pub fn file_texts<'a>(
-    alloc: Global,
-    folder: &'a Folder,
-    names: &[Name],
-) -> Result<Vec<&'a [u8]>, AllocError>
+pub fn file_texts<'a>(alloc: Global, folder: &'a Folder, names: &[Name]) -> Result<Vec<&'a [u8]>>
     ensures { IfOk result
         (λ it. texts_of it.items ≡ map (spec.bytes_of folder.now.files) names.now) }
 {
-    names
-        .iter()
-        .map(|name| bytes_of(folder, name.as_str()))
-        .collect(alloc)
+    let texts = names.iter().map(|name| folder.bytes_of(name));
+    texts.collect(alloc)
 }
 
 /// What a set of slice size `s` says of the files of these names, in their order; the MD5 digests of the files are known.
@@ -62,14 +49,14 @@ pub fn file_records(
     names: &[Name],
     md5s: &[[u8; 16]],
     s: u64,
-) -> Result<Vec<FileRecord>, AllocError>
+) -> Result<Vec<FileRecord>>
     requires size { 1 ≤ s }
     requires md5s { md5s.now ≡ map md5 (map (spec.bytes_of folder.now.files) names.now) }
     ensures { IfOk result (λ list. AreRecords s (files_of folder.now.files names.now) list.items) }
 {
     let mut records = Vec::with_capacity(alloc, names.len())?;
     for i in 0..names.len() {
-        let name = text_at(names, i);
+        let name = names[i].as_str();
         let bytes = bytes_of(folder, name);
         records.push(file_record_by_md5(alloc, name, bytes, md5s[i], s)?)?;
     }
@@ -77,12 +64,7 @@ pub fn file_records(
 }
 
 // The same, where the MD5 digests aren't known.
-fn records_of(
-    alloc: Global,
-    folder: &Folder,
-    names: &[Name],
-    s: u64,
-) -> Result<Vec<FileRecord>, AllocError>
+fn records_of(alloc: Global, folder: &Folder, names: &[Name], s: u64) -> Result<Vec<FileRecord>>
     requires { 1 ≤ s }
     ensures { IfOk result (λ list. AreRecords s (files_of folder.now.files names.now) list.items) }
 {
@@ -178,7 +160,7 @@ pub fn file_record_by_md5(
     bytes: &[u8],
     md5: [u8; 16],
     s: u64,
-) -> Result<FileRecord, AllocError>
+) -> Result<FileRecord>
     requires size { 1 ≤ s }
     requires digest { md5 ≡ hash.md5 bytes.now }
     ensures { IfOk result (λ made. file_record_of made ≡ record_of s (name.now, bytes.now)) }

@@ -13,7 +13,8 @@ use crate::products::{products_of, source_at, text_at};
 use crate::room::{columns_at_once, rows_room};
 use par2_gf16::Gf;
 use par2_slices::window_bytes;
-use std::alloc::{AllocError, Global};
+use par2_spec::Result;
+use std::alloc::Global;
 
 // The fewest bytes of each slice that are solved at a time. For each of these blocks the whole inverse is read, which takes
 // longer than the products of a short one.
@@ -32,18 +33,16 @@ pub(crate) fn windows<'a>(
     texts: &[&'a [u8]],
     from: usize,
     count: usize,
-) -> Result<Vec<&'a [u8]>, AllocError>
+) -> Result<Vec<&'a [u8]>>
     ensures { IfOk result
         (λ windows. texts_of windows.items ≡ map (window from count) (texts_of texts.now)) }
 {
-    texts
-        .iter()
-        .map(|text| window_of(*text, from, count))
-        .collect(alloc)
+    let windows = texts.iter().map(|text| window_of(*text, from, count));
+    windows.collect(alloc)
 }
 
 // The same texts, by reference.
-fn borrowed(alloc: Global, texts: &[Vec<u8>]) -> Result<Vec<&[u8]>, AllocError>
+fn borrowed(alloc: Global, texts: &[Vec<u8>]) -> Result<Vec<&[u8]>>
     ensures { IfOk result (λ slices. texts_of slices.items ≡ lists_of texts.now) }
 {
     texts.iter().map(|text| text.as_slice()).collect(alloc)
@@ -60,7 +59,7 @@ fn solved_block(
     from: usize,
     count: usize,
     room: usize,
-) -> Result<Vec<Vec<u8>>, AllocError>
+) -> Result<Vec<Vec<u8>>>
     requires inverse { HaveAtLeast (length recovery.now) inverse.now }
     requires count { length slices.now ≤ 32768 }
     requires exponents { length exponents.now ≡ length recovery.now }
@@ -79,7 +78,7 @@ fn solved_block(
 }
 
 // Empty texts, with room for so many bytes each.
-fn reserved(alloc: Global, count: usize, size: usize) -> Result<Vec<Vec<u8>>, AllocError>
+fn reserved(alloc: Global, count: usize, size: usize) -> Result<Vec<Vec<u8>>>
     ensures { IfOk result (λ texts. AreBlank 0 count (lists_of texts.items)) }
 {
     let mut texts = Vec::with_capacity(alloc, count)?;
@@ -90,7 +89,7 @@ fn reserved(alloc: Global, count: usize, size: usize) -> Result<Vec<Vec<u8>>, Al
 }
 
 // Puts the block after text r.
-fn extend_at(texts: &mut [Vec<u8>], r: usize, block: &[u8]) -> Result<(), AllocError>
+fn extend_at(texts: &mut [Vec<u8>], r: usize, block: &[u8]) -> Result<()>
     requires { r < length texts.old }
     ensures changed { OneChanged (lists_of texts.old) (lists_of texts.new) r }
     ensures here { IfOk result (λ _. list_at (lists_of texts.new) r
@@ -101,7 +100,7 @@ fn extend_at(texts: &mut [Vec<u8>], r: usize, block: &[u8]) -> Result<(), AllocE
 }
 
 // Puts each block after the text at its place.
-fn extend(texts: &mut [Vec<u8>], blocks: &[Vec<u8>]) -> Result<(), AllocError>
+fn extend(texts: &mut [Vec<u8>], blocks: &[Vec<u8>]) -> Result<()>
     requires { length blocks.now ≡ length texts.old }
     ensures { IfOk result (λ _. AreExtended (lists_of texts.old) (lists_of blocks.now)
         (lists_of texts.new) (length blocks.now)) }
@@ -121,7 +120,7 @@ pub(crate) fn solved(
     recovery: &[&[u8]],
     slices: &[&[u8]],
     size: usize,
-) -> Result<Vec<Vec<u8>>, AllocError>
+) -> Result<Vec<Vec<u8>>>
     requires inverse { HaveAtLeast (length recovery.now) inverse.now }
     requires count { length slices.now ≤ 32768 }
     requires exponents { length exponents.now ≡ length recovery.now }

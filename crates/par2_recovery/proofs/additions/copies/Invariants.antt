@@ -1,5 +1,4 @@
-use Rattle.par2_recovery.proofs.Common.{◌≡◌, lists_of, texts_of}
-use Rattle.std.proofs.Common.{take}
+use Rattle.par2_recovery.proofs.Common.{◌≡◌, take, lists_of, texts_of}
 use Rattle.par2_recovery.proofs.additions.copies.Given as goal
 
 abbrev pub invariant-loop-k : goal.invariant-loop-k

@@ -1,8 +1,11 @@
-use Rattle.par2_recovery.proofs.Common.{◌∙◌, sym, map_more, coefficients}
-use Rattle.par2_recovery.proofs.Combinations.{lists_push}
+use Rattle.par2_recovery.proofs.Common.{get_or, ◌∙◌, ap, sym, arith, map_more, coefficients, range_with_len}
+use Rattle.par2_recovery.proofs.Combinations.{lists_push, range-lt}
 use Rattle.par2_recovery.proofs.additions.rows_over.Goals as goal
+
+pub coefficients-requires : goal.coefficients-requires
+coefficients-requires c = λ i. rw (c.deref.ensures.value, c.in_ok-numbers.ensures) (range-lt c.args.slices i 32768 c.requires (omega arith))
 
 pub loop-i-preserved : goal.loop-i-preserved
 loop-i-preserved c =
-    lists_push c.loop-i.rows.items c.in_ok-coefficients.field-0 c.in_ok-push.ensures.items c.loop-i.invariant c.in_ok-coefficients.ensures
-    ∙ sym (map_more (coefficients c.args.numbers.now) c.args.exponents.now c.loop-i.i 0 c.loop-i-test.true)
+    lists_push c.loop-i.rows.items c.in_ok-coefficients.field-0 c.in_ok-push.ensures.items c.loop-i.invariant (c.in_ok-coefficients.ensures ∙ ap (λ ns. coefficients ns (get_or c.args.exponents.now c.loop-i.i 0)) (c.deref.ensures.value ∙ c.in_ok-numbers.ensures))
+    ∙ sym (map_more (coefficients (range_with_len 0 c.args.slices)) c.args.exponents.now c.loop-i.i 0 c.loop-i-test.true)

@@ -1,5 +1,4 @@
-use Rattle.par2_recovery.proofs.Common.{rules, refl, sym, ◌∙◌, ◌-◌, ◌+◌, ◌≤◌, length, get_or, subst, drop, arith, false≢true, AreClose}
-use Rattle.std.proofs.Common.{take}
+use Rattle.par2_recovery.proofs.Common.{rules, refl, sym, ◌∙◌, ◌-◌, ◌+◌, ◌≤◌, length, get_or, subst, drop, arith, take, false≢true, AreClose}
 use Rattle.par2_recovery.proofs.Runs.{close_run, no_run, one_less, part_is}
 use Rattle.par2_recovery.proofs.exponents.has_run.Goals as goal
 

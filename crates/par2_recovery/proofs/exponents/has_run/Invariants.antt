@@ -1,5 +1,4 @@
-use Rattle.par2_recovery.proofs.Common.{ℕ, ◌-◌, ◌<◌, ◌≤◌, drop, AreClose}
-use Rattle.std.proofs.Common.{take}
+use Rattle.par2_recovery.proofs.Common.{ℕ, ◌-◌, ◌<◌, ◌≤◌, drop, take, AreClose}
 use Rattle.par2_recovery.proofs.exponents.has_run.Given as goal
 
 abbrev pub invariant-loop-end : goal.invariant-loop-end

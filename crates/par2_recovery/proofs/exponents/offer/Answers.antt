@@ -1,4 +1,4 @@
-use Rattle.par2_recovery.proofs.Common.{sym, ◌∙◌, refl, subst, coefficients, CutDown, IsIndependent, IsDependent, Dependent}
+use Rattle.par2_recovery.proofs.Common.{sym, ◌∙◌, refl, coefficients, Dependent}
 use Rattle.std.proofs.Common.{Ok}
 use Rattle.par2_recovery.proofs.Ranks.{full_follows, dependent_is_not_kept}
 use Rattle.par2_recovery.proofs.exponents.offer.Goals as goal
@@ -14,11 +14,10 @@ returns-then-rank-lost-clause-dependent c =
     λ _. full_follows c.args.system.now (coefficients c.args.lost.now c.args.e) (c.rank.ensures.full.0 (c.if-rank-lost.true ∙ sym c.requires.columns))
 
 pub returns-clause-kept : goal.returns-clause-kept
-returns-clause-kept c =
-    λ e. subst (λ row. CutDown c.args.system.now c.offer.new.self row c.args.right.items) (c.deref.ensures.value ∙ c.in_ok-row.ensures) (c.offer.ensures.kept e)
+returns-clause-kept c = λ e. rw (c.deref.ensures.value, c.in_ok-row.ensures) at (c.offer.ensures.kept e)
 
 pub returns-clause-told : goal.returns-clause-told
-returns-clause-told c = λ e. subst (IsIndependent c.args.system.now) (c.deref.ensures.value ∙ c.in_ok-row.ensures) (c.offer.ensures.independent e)
+returns-clause-told c = λ e. rw (c.deref.ensures.value, c.in_ok-row.ensures) at (c.offer.ensures.independent e)
 
 pub returns-clause-dependent : goal.returns-clause-dependent
-returns-clause-dependent c = λ e. subst (IsDependent c.args.system.now) (c.deref.ensures.value ∙ c.in_ok-row.ensures) (c.offer.ensures.dependent e)
+returns-clause-dependent c = λ e. rw (c.deref.ensures.value, c.in_ok-row.ensures) at (c.offer.ensures.dependent e)

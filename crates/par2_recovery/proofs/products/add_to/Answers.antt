@@ -1,5 +1,4 @@
-use Rattle.par2_recovery.proofs.Common.{◌≡◌, length, get_or, rules, ◌∙◌, with_items_is, list_at, lists_of, read_at, written_here, written_changed}
-use Rattle.std.specs.Vec.{with_items}
+use Rattle.par2_recovery.proofs.Common.{◌≡◌, length, get_or, rules, ◌∙◌, with_items_is, list_at, lists_of, read_at, written_here, written_changed, with_items}
 use Rattle.par2_recovery.proofs.products.add_to.Goals as goal
 
 pub returns-clause-changed : goal.returns-clause-changed

@@ -1,6 +1,10 @@
-use Rattle.par2_recovery.proofs.Common.{arith, ◌≡◌, ◌++◌, ◌∷◌, ◌+◌, ◌∙◌, [], ap, sym, subst, map, md5, bytes_of, record_of, files_of, file_record_of, take}
+use Rattle.par2_recovery.proofs.Common.{arith, get_or, ◌≡◌, ◌∙◌, [], ap, sym, md5, bytes_of, get_or_default}
 use Rattle.par2_recovery.proofs.Records.{digest_at_name, many_digests, record_push}
+use Rattle.par2_recovery.proofs.set_record.file_records.Goals.{After-as_str-name}
 use Rattle.par2_recovery.proofs.set_record.file_records.Goals as goal
+
+named : (c : After-as_str-name) → c.as_str-name.result.now ≡ get_or c.args.names.now c.loop-i.i []
+named c = c.as_str-name.ensures.text ∙ c.index-names-i.is ∙ get_or_default c.args.names.now c.loop-i.i _ [] c.loop-i-test.true
 
 pub bounds-md5s-i : goal.bounds-md5s-i
 bounds-md5s-i c = omega (arith, many_digests c.args.folder.now.files c.args.names.now c.args.md5s.now c.requires.md5s)
@@ -9,11 +13,10 @@ pub file_record_by_md5-requires-clause-digest : goal.file_record_by_md5-requires
 file_record_by_md5-requires-clause-digest c =
     let files = c.args.folder.now.files in
     digest_at_name files c.args.names.now c.args.md5s.now c.loop-i.i [] c.requires.md5s c.loop-i-test.true
-    ∙ sym (ap md5 (c.bytes_of-bytes.ensures ∙ ap (bytes_of files) c.text_at-name.ensures))
+    ∙ sym (ap md5 (c.bytes_of-bytes.ensures ∙ ap (bytes_of files) (named (goal.at.file_record_by_md5-requires-clause-digest c).After-as_str-name)))
 
 pub loop-i-preserved : goal.loop-i-preserved
 loop-i-preserved c =
-    let is : c.push.new.self.items ≡ c.loop-i.records.items ++ c.in_ok-file_record_by_md5.field-0 ∷ [] = c.in_ok-push.ensures.items in
-    subst (λ xs. map file_record_of xs ≡ map (record_of c.args.s) (files_of c.args.folder.now.files (take (c.loop-i.i + 1) c.args.names.now))) (sym is)
-    (record_push c.args.s c.args.folder.now.files c.args.names.now c.loop-i.i c.loop-i.records.items c.in_ok-file_record_by_md5.field-0 c.text_at-name.result.now c.bytes_of-bytes.result.now
-    c.loop-i-test.true c.text_at-name.ensures c.bytes_of-bytes.ensures c.loop-i.invariant c.in_ok-file_record_by_md5.ensures)
+    rw c.in_ok-push.ensures.items
+    (record_push c.args.s c.args.folder.now.files c.args.names.now c.loop-i.i c.loop-i.records.items c.in_ok-file_record_by_md5.field-0 c.as_str-name.result.now c.bytes_of-bytes.result.now
+    c.loop-i-test.true (named (goal.at.loop-i-preserved c).After-as_str-name) c.bytes_of-bytes.ensures c.loop-i.invariant c.in_ok-file_record_by_md5.ensures)

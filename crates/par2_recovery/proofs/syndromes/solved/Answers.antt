@@ -1,4 +1,4 @@
-use Rattle.par2_recovery.proofs.Common.{◌≡◌, ◌+◌, ◌∙◌, refl, sym, ap, subst, arith, rules, length, with_items_is, lists_of, length-lists_of, AreSolved, AreExtended, texts_of}
+use Rattle.par2_recovery.proofs.Common.{◌≡◌, refl, sym, arith, rules, length, with_items_is, lists_of, length-lists_of, texts_of}
 use Rattle.par2_recovery.proofs.Solving.{none_solved, more_solved}
 use Rattle.par2_recovery.proofs.syndromes.solved.Goals as goal
 
@@ -14,13 +14,9 @@ loop-from-preserved c =
     let blocks = lists_of c.in_ok-lost.lost.items in
     let new = c.extend.new.texts in
     let size : length new ≡ c.loop-from.texts.len = search rules in
-    let count : length c.deref.result.now ≡ length blocks = ap length c.deref.ensures.value ∙ sym (length-lists_of c.in_ok-lost.lost.items) in
-    let extended : AreExtended old blocks (lists_of new) (length blocks) =
-    subst (λ xs. AreExtended (lists_of xs) blocks (lists_of new) (length blocks)) c.as_mut_slice.ensures.value
-    (subst (λ m. AreExtended (lists_of c.as_mut_slice.result.now) blocks (lists_of new) m) count
-    (subst (λ xs. AreExtended (lists_of c.as_mut_slice.result.now) (lists_of xs) (lists_of new) (length c.deref.result.now)) c.deref.ensures.value c.in_ok-extend.ensures)) in
+    let extended = rw (c.as_mut_slice.ensures.value, c.deref.ensures.value, ← length-lists_of c.in_ok-lost.lost.items) at c.in_ok-extend.ensures in
     record {
-      solved = subst (λ xs. AreSolved (from + n) inverse exponents slices recovery (lists_of xs)) (sym (with_items_is c.loop-from.texts new size))
+      solved = rw (with_items_is c.loop-from.texts new size)
           (more_solved from n exponents inverse slices recovery old blocks (lists_of new) c.loop-from.invariant.even c.loop-from.invariant.solved c.in_ok-lost.ensures extended);
       even = omega arith;
       within = omega arith;
@@ -37,4 +33,4 @@ loop-from-init c = record {
 pub returns : goal.returns
 returns c =
     let all : c.loop-from.from ≡ c.args.size = omega (arith, c.loop-from-test.false, c.loop-from.invariant.within) in
-    subst (λ n. AreSolved n (lists_of c.args.inverse.now) c.args.exponents.now (texts_of c.args.slices.now) (texts_of c.args.recovery.now) (lists_of c.loop-from.texts.items)) all c.loop-from.invariant.solved
+    rw all at c.loop-from.invariant.solved

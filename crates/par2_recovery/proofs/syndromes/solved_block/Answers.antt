@@ -29,14 +29,11 @@ returns c =
     let n = c.args.count in
     let inverse = lists_of c.args.inverse.now in
     let exponents = c.args.exponents.now in
-    let slices = texts_of c.deref.result.now in
     let recovery = map (window c.args.from n) (texts_of c.args.recovery.now) in
     let sources = ap texts_of c.deref-4.ensures.value ∙ c.in_ok-sources.ensures ∙ ap lists_of c.deref-3.ensures.value in
     IfOk-weaker c.products_of.result (λ texts. AreProducts n inverse (texts_of c.deref-4.result.now) (lists_of texts.items))
     (λ texts. AreSolved n inverse exponents (map (window c.args.from n) (texts_of c.args.slices.now)) recovery (lists_of texts.items))
     (λ texts sums.
-    subst (λ xs. AreSolved n inverse exponents xs recovery (lists_of texts.items)) (slices_are at)
-    (subst (λ xs. AreSolved n inverse exponents slices xs (lists_of texts.items)) (recovery_are at)
-    (words_solved n inverse slices (texts_of c.deref-2.result.now) (lists_of c.in_ok-syndromes.syndromes.items) (lists_of texts.items) exponents (sizes at) c.in_ok-syndromes.ensures
-    (subst (λ xs. AreProducts n inverse xs (lists_of texts.items)) sources sums))))
+    rw (← slices_are at, ← recovery_are at)
+    (words_solved n inverse (texts_of c.deref.result.now) (texts_of c.deref-2.result.now) (lists_of c.in_ok-syndromes.syndromes.items) (lists_of texts.items) exponents (sizes at) c.in_ok-syndromes.ensures (rw sources at sums)))
     c.products_of.ensures

@@ -5,4 +5,4 @@ pub returns : goal.returns
 returns c =
     let part = window c.args.from c.args.count in
     rw (map-map part (λ (t : Bor (List ℕ)). t.now) c.args.texts.now)
-    (map_from_collect _ c.collect.ensures.ran (YieldsList-from_map_by _ (λ (t : Bor (List ℕ)). t.now) (λ (t : Bor (List ℕ)). part t.now) (YieldsList-from_slice c.args.texts.now (cc)) c.map.ensures.closure (λ x r q k. search rules)))
+    (map_from_collect _ c.collect.ensures.ran (YieldsList-from_map_by _ (λ (t : Bor (List ℕ)). t.now) (λ (t : Bor (List ℕ)). part t.now) (YieldsList-from_slice c.args.texts.now (cc)) c.map-windows.ensures.closure (λ x r q k. search rules)))

@@ -1,5 +1,4 @@
-use Rattle.par2_gf16.proofs.Common.{◌+◌, ◌*◌, ◌≡◌, ◌<◌, subst, sym, arith, length, take, drop, AddsWithin, HasNibbles}
-use Rattle.par2_gf16.specs.Columns.{WordRange}
+use Rattle.par2_gf16.proofs.Common.{◌+◌, ◌*◌, ◌≡◌, ◌<◌, subst, sym, arith, length, take, drop, HasNibbles}
 use Rattle.par2_gf16.proofs.Parts.{adds_after}
 use Rattle.par2_gf16.proofs.columns.Columns.add_blocks.Goals as goal
 
@@ -14,9 +13,6 @@ loop-block-preserved c =
     let new = c.add_nibbles.new.dst in
     let low : n < length it.blocks.items = omega (arith, c.loop-block-test.true, c.len-block-end.ensures) in
     let has = subst (λ b. HasNibbles (take 64 (drop (2 * at) it.text.now)) b) (sym c.index.ensures) (c.self.invariant.split n c.index.result.now low) in
-    let before : AddsWithin factor it.text.now old mid it.from at =
-    subst (λ (w : WordRange). AddsWithin factor w.text old mid w.from (w.from + 32 * n)) (sym c.self.view_is) c.loop-block.invariant in
-    let after = adds_after factor it.text.now old mid new it.from at (at + 32) (omega arith) (omega arith) before (c.add_nibbles.ensures it.text.now c.self.invariant.fits has) in
-    let is : at + 32 ≡ it.from + 32 * (n + 1) = omega arith in
-    subst (λ (w : WordRange). AddsWithin factor w.text old new w.from (w.from + 32 * (n + 1))) c.self.view_is
-    (subst (λ to. AddsWithin factor it.text.now old new it.from to) is after)
+    let is : it.from + 32 * (n + 1) ≡ at + 32 = omega arith in
+    rw (← c.self.view_is, is)
+    (adds_after factor it.text.now old mid new it.from at (at + 32) (omega arith) (omega arith) (rw (← c.self.view_is) at c.loop-block.invariant) (c.add_nibbles.ensures it.text.now c.self.invariant.fits has))

@@ -1,22 +1,14 @@
-use Rattle.par2_gf16.proofs.Common.{◌∙◌, ◌+◌, ◌*◌, ◌%◌, ◌/◌, bit_xor, mul}
-use Rattle.par2_gf16.proofs.BlockLaws.{zip2_same}
-use Rattle.par2_gf16.proofs.NibbleLaws.{lower_byte}
+use Rattle.par2_gf16.proofs.Common.{◌∙◌, ◌%◌, mul, xor_mod}
+use Rattle.par2_gf16.proofs.NibbleLaws.{by_nibbles}
 use Rattle.par2_gf16.proofs.factor.Factor.lower_bytes.Goals as goal
 
 pub returns-clause-value : goal.returns-clause-value
 returns-clause-value c = λ low high split.
     let it = c.self.inside in
-    let c1 = it.first.element in
-    let c2 = it.second.element in
-    let c3 = it.third.element in
-    let c4 = it.fourth.element in
     rw (← c.self.view_is)
-    (c.four_looked_up.ensures (λ n. mul c1 n % 256) (λ n. mul c2 n % 256) (λ n. mul c3 n % 256) (λ n. mul c4 n % 256) low high
+    (c.four_looked_up.ensures (λ n. mul it.first.element n % 256) (λ n. mul it.second.element n % 256) (λ n. mul it.third.element n % 256) (λ n. mul it.fourth.element n % 256) low high
     it.first.lows it.second.lows it.third.lows it.fourth.lows split
-    ∙ zip2_same (λ x y. bit_xor (bit_xor (mul c1 (x % 16) % 256) (mul c2 (x / 16) % 256)) (bit_xor (mul c3 (y % 16) % 256) (mul c4 (y / 16) % 256)))
-    (λ l h. mul c1 (l + 256 * h) % 256)
-    (λ l h a b. lower_byte c1 c2 c3 c4 l h it.first.fits c.self.invariant.0 c.self.invariant.1 c.self.invariant.2 a b)
-    low high split.low_fits split.high_fits)
+    ∙ by_nibbles (λ v. v % 256) (λ a b. xor_mod a b 8) it.first.element it.second.element it.third.element it.fourth.element low high it.first.fits c.self.invariant.0 c.self.invariant.1 c.self.invariant.2 split.low_fits split.high_fits)
 
 pub returns-clause-fits : goal.returns-clause-fits
 returns-clause-fits c = rw (← c.self.view_is) c.self.inside.first.fits

@@ -1,4 +1,4 @@
-use Rattle.par2_gf16.proofs.Common.{◌≡◌, ◌+◌, ◌*◌, ◌/◌, length, ap, arith, subst, AddsWithin}
+use Rattle.par2_gf16.proofs.Common.{◌≡◌, ◌+◌, ◌*◌, ◌/◌, length, ap, arith}
 use Rattle.par2_gf16.proofs.Parts.{adds_after, blocks_and_rest}
 use Rattle.par2_gf16.proofs.tables.Gf.mul_add_by.Goals as goal
 
@@ -7,9 +7,8 @@ loop-block-preserved c =
     let n = c.loop-block.block in
     let old = c.args.dst.now in
     let new = c.add_block.new.dst in
-    let is : 32 * n + 32 ≡ 32 * (n + 1) = omega arith in
-    subst (λ to. AddsWithin c.args.factor.now c.args.src.now old new 0 to) is
-    (adds_after c.args.factor.now c.args.src.now old c.loop-block.dst new 0 (32 * n) (32 * n + 32) (omega arith) (omega arith) c.loop-block.invariant c.add_block.ensures)
+    let is : 32 * (n + 1) ≡ 32 * n + 32 = omega arith in
+    rw is (adds_after c.args.factor.now c.args.src.now old c.loop-block.dst new 0 (32 * n) (32 * n + 32) (omega arith) (omega arith) c.loop-block.invariant c.add_block.ensures)
 
 pub returns : goal.returns
 returns c =
@@ -19,4 +18,4 @@ returns c =
     let to = length mid / 2 in
     blocks_and_rest c.args.factor.now c.args.src.now old mid new (32 * c.loop-block.block) (32 * (length old / 64)) to (omega arith) (omega arith)
     (ap (λ n. n / 2) c.loop-block.invariant.same_length) c.loop-block.invariant
-    (subst (λ f. AddsWithin f c.args.src.now mid new (32 * (length old / 64)) to) c.element.ensures c.add_words.ensures)
+    (rw c.element.ensures at c.add_words.ensures)

@@ -1,4 +1,3 @@
-use Rattle.par2_gf16.proofs.Common.{subst, AddsWithin}
 use Rattle.par2_gf16.proofs.Parts.{adds_after}
 use Rattle.par2_gf16.proofs.tables.Gf.mul_add_columns.Goals as goal
 
@@ -6,10 +5,5 @@ pub returns : goal.returns
 returns c =
     let columns = c.args.columns.now in
     let blocks = c.add_blocks-behind in
-    let mid = blocks.new.dst in
-    let new = c.add_words.new.dst in
-    let behind = blocks.result in
-    adds_after c.args.factor.now columns.text c.args.dst.now mid new columns.from behind columns.to blocks.ensures.begun blocks.ensures.order blocks.ensures.added
-    (subst (λ factor. AddsWithin factor columns.text mid new behind columns.to) c.element.ensures
-    (subst (λ text. AddsWithin c.element.result text mid new behind columns.to) c.text.ensures
-    (subst (λ to. AddsWithin c.element.result c.text.result.now mid new behind to) c.end.ensures c.add_words.ensures)))
+    adds_after c.args.factor.now columns.text c.args.dst.now blocks.new.dst c.add_words.new.dst columns.from blocks.result columns.to blocks.ensures.begun blocks.ensures.order blocks.ensures.added
+    (rw (c.element.ensures, c.text.ensures, c.end.ensures) at c.add_words.ensures)

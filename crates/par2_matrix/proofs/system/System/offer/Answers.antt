@@ -19,18 +19,18 @@ taken : (c : goal.After-self-3-1)
 taken c =
     let s = c.self.inside in
     let ed : length c.args.right.items ≡ s.bytes = search rules in
-    let ea1 : c.as_mut_slice.result.now ≡ c.in_ok-row.row.items = search rules in
-    let ea2 : c.as_mut_slice-2.result.now ≡ c.args.right.items = search rules in
+    let ea1 : c.deref_mut.result.now ≡ c.in_ok-row.row.items = search rules in
+    let ea2 : c.deref_mut-2.result.now ≡ c.args.right.items = search rules in
     let en : length c.deref.result.now ≡ length s.rows.items = search rules in
     let lr : length c.prepare.new.row ≡ c.in_ok-row.row.len = search rules in
     let ls : length c.prepare.new.right ≡ c.args.right.len = search rules in
     let l4 : length c.put_in.new.rows ≡ s.rows.len = search rules in
     let l5 : length c.put_in.new.rights ≡ s.rights.len = search rules in
     offered (length s.rows.items) s.bytes s.rank (lists_of s.rows.items) (lists_of s.rights.items) _ _ _ _ _ _ _ _ (length c.deref.result.now)
-    c.in_ok-row.row.items c.args.right.items c.as_mut_slice.result.now c.as_mut_slice-2.result.now c.prepare.new.row c.prepare.new.right _ _ c.in-Some.pivot
+    c.in_ok-row.row.items c.args.right.items c.deref_mut.result.now c.deref_mut-2.result.now c.prepare.new.row c.prepare.new.right _ _ c.in-Some.pivot
     c.self.invariant ea1 ea2 ed en (ap lists_of c.deref.ensures.value) (ap lists_of c.deref-2.ensures.value) c.in-Some.ensures.some
     (with_items_is c.in_ok-row.row c.prepare.new.row lr) (with_items_is c.args.right c.prepare.new.right ls)
-    (ap lists_of c.as_mut_slice-3.ensures.value) (ap lists_of c.as_mut_slice-4.ensures.value)
+    (ap lists_of c.deref_mut-3.ensures.value) (ap lists_of c.deref_mut-4.ensures.value)
     (ap lists_of (with_items_is s.rows c.put_in.new.rows l4)) (ap lists_of (with_items_is s.rights c.put_in.new.rights l5))
     c.put_in.ensures
 
@@ -69,7 +69,7 @@ returns-in_default-clause-dependent c is =
     let size : length c.args.row.now ≡ length c.self.inside.rows.items = search (rules, (ap (λ (e : Equations). e.columns) c.self.view_is)) in
     subst (λ (old : Equations). IsDependent old c.args.row.now) c.self.view_is
     (follows _ c.self.invariant c.args.row.now c.in_ok-row.row.items c.in_ok-row.ensures size
-    (rw (c.deref.ensures.value, c.as_mut_slice.ensures.value) at (c.in_default.ensures.none refl)))
+    (rw (c.deref.ensures.value, c.deref_mut.ensures.value) at (c.in_default.ensures.none refl)))
 
 pub returns-clause-columns : goal.returns-clause-columns
 returns-clause-columns c = columns_stay c ∙ ap (λ (e : Equations). e.columns) c.self.view_is

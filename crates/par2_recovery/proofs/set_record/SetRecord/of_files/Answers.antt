@@ -1,5 +1,4 @@
-use Rattle.par2_recovery.proofs.Common.{refl, subst, sym, IsDistinct, false≢true, files_of}
-use Rattle.std.specs.Str.{bytes_eq}
+use Rattle.par2_recovery.proofs.Common.{refl, false≢true, files_of}
 use Rattle.par2_recovery.proofs.Records.{ids_of_records}
 use Rattle.par2_recovery.proofs.set_record.SetRecord.of_files.Goals as goal
 
@@ -10,9 +9,7 @@ pub returns-in-Ok-clause-order : goal.returns-in-Ok-clause-order
 returns-in-Ok-clause-order c = c.in-Ok.ensures.order c.args.folder.now.files c.args.names.now c.in_ok-records.ensures
 
 pub returns-in-Ok-clause-distinct : goal.returns-in-Ok-clause-distinct
-returns-in-Ok-clause-distinct c = λ _.
-    subst (IsDistinct bytes_eq) (ids_of_records c.args.s (files_of c.args.folder.now.files c.args.names.now) c.in_ok-records.records.items c.in_ok-records.ensures) (c.in-Ok.ensures.distinct.0 refl)
+returns-in-Ok-clause-distinct c = λ _. rw (← ids_of_records c.args.s (files_of c.args.folder.now.files c.args.names.now) c.in_ok-records.records.items c.in_ok-records.ensures) (c.in-Ok.ensures.distinct.0 refl)
 
 pub returns-in-Err-clause-duplicate : goal.returns-in-Err-clause-duplicate
-returns-in-Err-clause-duplicate c = λ _ once.
-    false≢true (c.in-Err.ensures.distinct.1 (subst (IsDistinct bytes_eq) (sym (ids_of_records c.args.s (files_of c.args.folder.now.files c.args.names.now) c.in_ok-records.records.items c.in_ok-records.ensures)) once))
+returns-in-Err-clause-duplicate c = λ _ once. false≢true (c.in-Err.ensures.distinct.1 (rw (ids_of_records c.args.s (files_of c.args.folder.now.files c.args.names.now) c.in_ok-records.records.items c.in_ok-records.ensures) once))
