@@ -13,7 +13,7 @@ returns-in-Ok-clause-taken g c honest =
       kept = c.in-Ok.ensures.kept honest;
       remains = λ lasts left may.
           subst (λ changes. IsStillHalfway session changes old left) c.changes.ensures
-          (still_halfway old left session (map change_of c.changes.result.now) c.in_ok-after.after c.in_ok-after.ensures (c.write_down.ensures.written.remains honest lasts left may));
+          (still_halfway old left session (map change_of c.changes.result.now) c.in_ok-settled.field-0 c.in_ok-settled.ensures (c.write_down.ensures.written.remains honest lasts left may));
       memory = search rules;
       possible = λ all. c.write_down.ensures.possible honest (subst (λ changes. IsTrue (are_applicable old.files changes)) (sym c.changes.ensures) all);
     }
@@ -27,11 +27,11 @@ returns-in-Err-clause-taken g c honest =
       done = tt;
       stopped =
           subst (λ changes. IsStillHalfway session changes old new) c.changes.ensures
-          (still_halfway old new session (map change_of c.changes.result.now) c.in_ok-after.after c.in_ok-after.ensures (c.in-Err.ensures.written.stopped honest));
+          (still_halfway old new session (map change_of c.changes.result.now) c.in_ok-settled.field-0 c.in_ok-settled.ensures (c.in-Err.ensures.written.stopped honest));
       kept = tt;
       remains = λ lasts left may.
           subst (λ changes. IsStillHalfway session changes old left) c.changes.ensures
-          (still_halfway old left session (map change_of c.changes.result.now) c.in_ok-after.after c.in_ok-after.ensures (c.write_down.ensures.written.remains honest lasts left may));
+          (still_halfway old left session (map change_of c.changes.result.now) c.in_ok-settled.field-0 c.in_ok-settled.ensures (c.write_down.ensures.written.remains honest lasts left may));
       memory = search rules;
       possible = λ all. c.write_down.ensures.possible honest (subst (λ changes. IsTrue (are_applicable old.files changes)) (sym c.changes.ensures) all);
     }
