@@ -155,19 +155,17 @@ fn open_with<S: FolderStore>(
         → Opens S.Store store.old store.new result }
     ensures keeps { KeepsStore S.Store store.old store.new result }
 {
-    match Session::open_before(alloc, folder, text, next) {
-        Ok(Opened::Settled(session)) => Ok(Started {
-            session,
-            dropped: false,
-        }),
-        Ok(Opened::Halfway(halfway)) => {
+    let opened = match Session::open_before(alloc, folder, text, next) {
+        Ok(opened) => opened,
+        Err((fault, folder)) => return without_journal(alloc, fault, folder),
+    };
+    let dropped = false;
+    match opened {
+        Opened::Settled(session) => Ok(Started { session, dropped }),
+        Opened::Halfway(halfway) => {
             let session = take_back(store, halfway)?;
-            Ok(Started {
-                session,
-                dropped: false,
-            })
+            Ok(Started { session, dropped })
         }
-        Err((fault, folder)) => without_journal(alloc, fault, folder),
     }
 }
 

@@ -9,7 +9,7 @@ ghost use Rattle.par2_words.specs.Meanings.{asked_by, meaning, number_of, text_o
 use crate::definition::par2_command;
 use clap::ArgMatches;
 use clap::error::ErrorKind;
-use par2_spec::{Action, Command, CreateArgs, Failure, Fault, Result};
+use par2_spec::{Action, Command, CreateArgs, Failure, Fault};
 use std::alloc::{AllocError, Global};
 use thiserror::Error;
 
@@ -47,14 +47,14 @@ impl From<WordsFault> for Failure {
     }
 }
 
-fn base_of(alloc: Global, matches: &ArgMatches<'_>) -> Result<String>
+fn base_of(alloc: Global, matches: &ArgMatches<'_>) -> Result<String, AllocError>
     ensures { IfOk result (λ s. string_bytes s
         ≡ text_of (codes "base") (rows_of (found_of matches.now))) }
 {
     String::from_str(alloc, matches.get_str("base").unwrap_or(""))
 }
 
-fn files_of(alloc: Global, matches: &ArgMatches<'_>) -> Result<Vec<String>>
+fn files_of(alloc: Global, matches: &ArgMatches<'_>) -> Result<Vec<String>, AllocError>
     ensures { IfOk result (λ v. map string_bytes v.items
         ≡ texts_of (codes "files") (rows_of (found_of matches.now))) }
 {
