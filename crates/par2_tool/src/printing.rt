@@ -12,13 +12,11 @@ ghost use Rattle.par2_tool.specs.Telling.{IsPrinted};
 use crate::performing::Outcome;
 use par2_journal::{Report, State, Step, TargetReport};
 use par2_printing::{
-    PrintedState, PrintedStep, PrintedTarget, Printer, WriteFault, write_done, write_failure,
+    PrintedState, PrintedStep, PrintedTarget, Printer, Written, write_done, write_failure,
     write_note, write_set, write_step, write_target, write_verdict,
 };
 use par2_spec::{Command, Failure, Fault, Verdict};
 use std::io::Write;
-
-type Written = Result<(), WriteFault>;
 
 // The status where a writer fails.
 const WRITER_FAILED: u8 = 6;
