@@ -52,7 +52,7 @@ pub use Rattle.par2_spec.specs.declared.Version.TheVariants.{Two}
 pub use Rattle.par2_tool.specs.Asking.{AskFor}
 pub use Rattle.par2_tool.specs.Calls.{AreAtMost, AreCallsToOpen, AreCallsToRun, CountsCalls, CountsFailedRun, CountsOpening, CountsRefusedRun, IsCalled, IsHalfway, calls_asked, calls_to_write, calls_unless}
 pub use Rattle.par2_tool.specs.Holding.{HasJournalOf, Holds, IsOpening, IsSettled, OpensAsBefore, OpensAsBeforeOrAfter, TellsApartAlong, TellsApartBack, TellsApartInRun, with_history}
-pub use Rattle.par2_tool.specs.Opening.{IsCounted, IsOpened, IsRead, IsStillHalfway, IsTakenBack, IsUnopened, LeavesUnopened, OnlyTakesBack, StandsFor, TakesBack, started_of}
+pub use Rattle.par2_tool.specs.Opening.{IsCounted, IsOpened, IsRead, IsStillHalfway, IsTakenBack, IsUnopened, LeavesUnopened, OnlyTakesBack, StandsFor, StartsWithout, TakesBack, started_of}
 pub use Rattle.par2_tool.specs.Performing.{AreSomeMade, HoldsJournaled, IsAnswer, IsReport, IsStoppedAt, IsVerify, IsWritten, after_write_down, outcome_of, with_all_changes, with_halfway}
 pub use Rattle.par2_tool.specs.Refusals.{IsRefused, IsSession, failure_for, unopened_as}
 pub use Rattle.par2_tool.specs.Repairs.{AskForRepair}

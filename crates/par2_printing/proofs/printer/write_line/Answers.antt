@@ -1,6 +1,5 @@
-use Rattle.std.proofs.lemmas.List.{take_all}
+use Rattle.par2_printing.proofs.Common.{take_all, seen, lines_cut, wrote_less, wrote_then}
 use Rattle.std.proofs.lemmas.Result.{err_from_is_err_and}
-use Rattle.par2_printing.proofs.Common.{seen, lines_cut, wrote_less, wrote_then}
 use Rattle.par2_printing.proofs.printer.write_line.Goals as goal
 
 pub returns-in_err-write_bytes : goal.returns-in_err-write_bytes

@@ -1,4 +1,4 @@
-use Rattle.par2_tool.proofs.Common.{◌≡◌, ◌≢◌, ◌⊎◌, ◌<◌, inl, ℕ, List, Some, sym, ap, subst, ◌∙◌, map, arith, Action, AskFor, Folder, AllByRecursion, Repair, Undo, may_refuse, TakesEffect, AskForRepair, string_bytes, false≢true}
+use Rattle.par2_tool.proofs.Common.{◌≡◌, ◌≢◌, ◌⊎◌, ◌<◌, inl, ℕ, List, Some, sym, ap, subst, ◌∙◌, map, arith, Action, Repair, Undo, AskFor, Folder, AllByRecursion, may_refuse, TakesEffect, AskForRepair, string_bytes, false≢true}
 use Rattle.std.specs.FinMap as map_of
 use Rattle.par2_tool.proofs.RunEffects.{IsRefused, accepted_with_zero, effect_of, repair_refused, repaired, stopped_effect}
 use Rattle.par2_tool.proofs.RunCalls.{verify_makes_none}

@@ -1,4 +1,4 @@
-use Rattle.par2_tool.proofs.Common.{rules, ◌≡◌, IsTrue, map, length, sym, ap, subst, ◌∙◌, arith, length-map, are_applicable, session_of_kept, change_of, session_before, way_left, Contents, IsStillHalfway, IsStoppedAt, None}
+use Rattle.par2_tool.proofs.Common.{rules, ◌≡◌, IsTrue, map, length, sym, ap, subst, ◌∙◌, arith, None, length-map, are_applicable, session_of_kept, change_of, session_before, way_left, Contents, IsStillHalfway, IsStoppedAt}
 use Rattle.par2_tool.proofs.Openings.{still_halfway}
 use Rattle.par2_tool.proofs.opening.take_back.Goals.{After-write_down}
 use Rattle.par2_tool.proofs.opening.take_back.Goals as goal

@@ -1,5 +1,4 @@
-use Rattle.par2_words.proofs.Common.{◌≡◌, Bor, Text, bytes_eq, codes, false, found_of, rules}
-use Rattle.std.specs.Prelude.{MatchOption}
+use Rattle.par2_words.proofs.Common.{◌≡◌, codes, false, rules, Bor, Text, found_of, bytes_eq, MatchOption}
 use Rattle.par2_words.proofs.RowReads.{flag_read}
 
 pub returns : Rattle.par2_words.proofs.read.has_flag.Goals.returns
