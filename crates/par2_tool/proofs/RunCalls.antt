@@ -1,5 +1,5 @@
 -- How many writing calls a run made.
-use Rattle.par2_tool.proofs.Common.{◌≡◌, ◌+◌, inl, inr, ℕ, List, subst, arith, Action, Do, Verify, Contents, Answered, Failed, Telling, MakesCalls, Failure, Refused, Store, Arguments, JournalInvalid, FolderChanged, NothingToUndo, NothingToRedo, AskFor, Change, AreCallsToOpen, AreCallsToRun, CountsFailedRun, CountsRefusedRun, IsHalfway}
+use Rattle.par2_tool.proofs.Common.{◌≡◌, ◌+◌, inl, inr, ℕ, List, subst, arith, Action, Do, Verify, Contents, Answered, Failed, Telling, MakesCalls, Failure, Store, AskFor, Change, AreCallsToOpen, AreCallsToRun, CountsFailedRun, CountsRefusedRun, IsHalfway}
 use Rattle.par2_tool.proofs.RunEffects.{one_action}
 
 module _ (words : List (List ℕ)) (old : Contents) (before after : ℕ) (base : List ℕ) (extras : List (List ℕ)) (none : (back : List Change) → IsHalfway old back → ⊥) where

@@ -1,4 +1,4 @@
-use Rattle.par2_tool.proofs.Common.{inl, Ok, Err, true, false, refl, sym, ap, subst, rules, ◌∙◌, err_from_is_err_and, FolderState, Halfway, Opens, Started, Session, KeptSession, session_of_kept, Contents, opened_of, session_before, way_left, OpensAsBefore, with_history, IsOpened}
+use Rattle.par2_tool.proofs.Common.{inl, Ok, refl, sym, subst, rules, err_from_is_err_and, Halfway, Opens, KeptSession, session_of_kept, opened_of, session_before, way_left, OpensAsBefore, with_history, IsOpened}
 use Rattle.par2_tool.proofs.Calls.{back_calls, refused_calls}
 use Rattle.par2_tool.proofs.Openings.{any_err, counted_without, holds_settled, opened_taken_back, opens_still, opens_without, unopened_without, way_applies, stays_keeps, stays_opens}
 use Rattle.par2_tool.proofs.opening.open_with.Goals.{In-Halfway}
