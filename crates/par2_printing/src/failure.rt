@@ -4,7 +4,7 @@ ghost use Rattle.par2_spec.specs.Texts.{error_of, fault_text, line, word_at};
 ghost use Rattle.par2_printing.specs.Views.{words_given};
 ghost use Rattle.par2_printing.specs.Writing.{Wrote};
 
-use crate::printer::{Printer, WriteFault, write_parts};
+use crate::printer::{Printer, Written, write_line};
 use crate::report::write_lost;
 use par2_spec::{Action, Command, Failure, Fault};
 use std::io::Write;
@@ -27,65 +27,45 @@ fn word<'a>(command: Option<&'a Command>, place: usize) -> &'a str
     ensures { result.now ≡ word_at (words_given command.entry) place }
 {
     match command {
-        Some(Command::Verify { base, extras }) => listed(base.as_str(), extras.as_slice(), place),
-        Some(Command::Act(Action::Create(args))) => listed(
-            args.base.as_str(),
-            args.inputs.as_slice(),
-            place,
-        ),
-        Some(Command::Act(Action::Repair { base, extras, .. })) => listed(
-            base.as_str(),
-            extras.as_slice(),
-            place,
-        ),
-        Some(Command::Act(Action::Purge { base })) => listed(base.as_str(), &[], place),
+        Some(Command::Verify { base, extras }) => listed(base, extras, place),
+        Some(Command::Act(Action::Create(args))) => listed(&args.base, &args.inputs, place),
+        Some(Command::Act(Action::Repair { base, extras, .. })) => listed(base, extras, place),
+        Some(Command::Act(Action::Purge { base })) => listed(base, &[], place),
         Some(Command::Act(Action::Undo)) | Some(Command::Act(Action::Redo)) | None => "",
     }
 }
 
 // Writes `par2: ` and a reason as a line.
-fn write_reason<W: Write>(out: &mut Printer<W>, reason: &str) -> Result<(), WriteFault>
+fn write_reason<W: Write>(out: &mut Printer<W>, reason: &str) -> Written
     ensures { Wrote W.contents out.old out.new (line (codes "par2: " ++ reason.now)) result }
 {
-    write_parts(out, &[b"par2: ", reason.as_bytes(), b"\n"])
+    write_line(out, &["par2: ", reason])
 }
 
 // Writes `par2: ` and a reason with the word of which it speaks, as a line.
-fn write_reason_with<W: Write>(
-    out: &mut Printer<W>,
-    reason: &str,
-    word: &str,
-) -> Result<(), WriteFault>
+fn write_reason_with<W: Write>(out: &mut Printer<W>, reason: &str, word: &str) -> Written
     ensures { Wrote W.contents out.old out.new
         (line (codes "par2: " ++ reason.now ++ word.now)) result }
 {
-    write_parts(out, &[b"par2: ", reason.as_bytes(), word.as_bytes(), b"\n"])
+    write_line(out, &["par2: ", reason, word])
 }
 
 // Writes the line of a refusal.
 #[tactic(auto, unfolding(par2_spec::specs::Texts::fault_text))]
-fn write_fault<W: Write>(
-    out: &mut Printer<W>,
-    command: Option<&Command>,
-    fault: Fault,
-) -> Result<(), WriteFault>
+fn write_fault<W: Write>(out: &mut Printer<W>, command: Option<&Command>, fault: Fault) -> Written
     ensures { Wrote W.contents out.old out.new
         (line (codes "par2: " ++ fault_text (words_given command.entry) fault)) result }
 {
+    let reason = fault.reason();
     match fault {
         Fault::BadName(place)
         | Fault::DuplicateInput(place)
         | Fault::NoSuchFile(place)
-        | Fault::EmptyFile(place) => {
-            write_reason_with(out, fault.reason(), word(command, place))
+        | Fault::EmptyFile(place) => write_reason_with(out, reason, word(command, place)),
+        Fault::NotRepairable { missing, rank } => {
+            write_lost(out, "par2: not repairable, ", missing, rank)
         }
-        Fault::NotRepairable { missing, rank } => write_lost(
-            out,
-            "par2: not repairable, ",
-            missing,
-            rank,
-        ),
-        _ => write_reason(out, fault.reason()),
+        _ => write_reason(out, reason),
     }
 }
 
@@ -101,7 +81,7 @@ pub fn write_failure<W: Write>(
     out: &mut Printer<W>,
     command: Option<&Command>,
     failure: Failure,
-) -> Result<(), WriteFault>
+) -> Written
     ensures { Wrote W.contents out.old out.new
         (error_of (words_given command.entry) failure) result }
 {

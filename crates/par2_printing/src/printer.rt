@@ -2,6 +2,7 @@
 ghost use Rattle.std.specs.Prelude.{◌≡◌, ◌+◌, ◌++◌, ◌<◌, ◌≤◌, [], length, take, IfOk, OnOk, OnErr};
 ghost use Rattle.std.specs.Io.KnownBytes.{Appends};
 ghost use Rattle.std.specs.List.{flat_map};
+ghost use Rattle.par2_spec.specs.Texts.{line};
 ghost use Rattle.par2_printing.specs.Writing.{Wrote, failures_of, writer_of};
 
 use par2_folder::Count;
@@ -12,6 +13,9 @@ use thiserror::Error;
 #[derive(Debug, Error, Clone, Copy, PartialEq, Eq)]
 #[error("a text could not be written")]
 pub struct WriteFault;
+
+/// What comes of writing a text.
+pub type Written = Result<(), WriteFault>;
 
 /// A writer, and how often it has failed, which contracts alone see.
 #[derive(Drop)]
@@ -73,7 +77,7 @@ impl<W: Write> Printer<W> {
 }
 
 // Writes the bytes, by as many calls as it takes.
-fn write_bytes<W: Write>(out: &mut Printer<W>, text: &[u8]) -> Result<(), WriteFault>
+fn write_bytes<W: Write>(out: &mut Printer<W>, text: &[u8]) -> Written
     ensures { Wrote W.contents out.old out.new text.now result }
 {
     let mut rest = text;
@@ -86,12 +90,13 @@ fn write_bytes<W: Write>(out: &mut Printer<W>, text: &[u8]) -> Result<(), WriteF
     Ok(())
 }
 
-/// Writes the parts, one after the other.
-pub fn write_parts<W: Write>(out: &mut Printer<W>, parts: &[&[u8]]) -> Result<(), WriteFault>
-    ensures { Wrote W.contents out.old out.new (flat_map (λ part. part.now) parts.now) result }
+/// Writes the texts, one after the other, as a line.
+pub(crate) fn write_line<W: Write>(out: &mut Printer<W>, texts: &[&str]) -> Written
+    ensures { let text = flat_map (λ text. text.now) texts.now in
+        Wrote W.contents out.old out.new (line text) result }
 {
-    for part in parts {
-        write_bytes(out, part)?;
+    for text in texts {
+        write_bytes(out, text.as_bytes())?;
     }
-    Ok(())
+    write_bytes(out, b"\n")
 }

@@ -1,8 +1,7 @@
 -- How many writing calls are made of a store.
-use Rattle.par2_tool.proofs.Common.{◌≡◌, inr, ℕ, ◌+◌, List, [], length, Some, Result, Ok, Err, refl, sym, ap, subst, ◌∙◌, arith, Change, Action, Do, Verify, Folder, Opens, Halfway, Started, journals_of, Session, KeptSession, changes_asked, session_of_kept, Contents, action_of, Two, Ready, changes_by_kind, AreSpelled, Plan, Journals, AreAtMost, AreCallsToOpen, AreCallsToRun, CountsCalls, CountsFailedRun, CountsOpening, IsCalled, calls_asked, calls_to_write, calls_unless, IsOpening, IsRead, StandsFor, IsVerify, IsSession, failure_for, unopened_as, OpenFault, PerformFault}
-use Rattle.par2_tool.specs.declared.performing.PerformFault.TheVariants.{Store}
+use Rattle.par2_tool.proofs.Common.{◌≡◌, inr, ℕ, ◌+◌, List, length, Some, Result, Ok, Err, refl, sym, ap, subst, ◌∙◌, arith, Change, Action, Do, Verify, Folder, Opens, Halfway, Started, journals_of, Session, KeptSession, changes_asked, session_of_kept, Contents, action_of, Two, Ready, changes_by_kind, AreSpelled, Plan, Journals, AreAtMost, AreCallsToOpen, AreCallsToRun, CountsCalls, CountsFailedRun, CountsOpening, IsCalled, calls_asked, calls_to_write, calls_unless, IsOpening, IsRead, StandsFor, IsVerify, IsSession, failure_for, unopened_as, OpenFault, PerformFault}
 use Rattle.par2_spec.specs.declared.commands.Action as asking
-use Rattle.par2_tool.specs.declared.performing.PerformFault.TheVariants.{Session as Refusing}
+use Rattle.par2_tool.specs.declared.performing.PerformFault.TheVariants.{Session as Refusing, Store}
 use Rattle.par2_tool.proofs.Stops.{IsMadeReady, asked_of_mid}
 
 -- ---- an action

@@ -52,13 +52,13 @@ pub use Rattle.par2_spec.specs.declared.Version.TheVariants.{Two}
 pub use Rattle.par2_tool.specs.Asking.{AskFor}
 pub use Rattle.par2_tool.specs.Calls.{AreAtMost, AreCallsToOpen, AreCallsToRun, CountsCalls, CountsFailedRun, CountsOpening, CountsRefusedRun, IsCalled, IsHalfway, calls_asked, calls_to_write, calls_unless}
 pub use Rattle.par2_tool.specs.Holding.{HasJournalOf, Holds, IsOpening, IsSettled, OpensAsBefore, OpensAsBeforeOrAfter, TellsApartAlong, TellsApartBack, TellsApartInRun, with_history}
-pub use Rattle.par2_tool.specs.Opening.{IsCounted, IsOpened, IsRead, IsStillHalfway, IsTakenBack, IsUnopened, LeavesUnopened, OnlyTakesBack, StandsFor, TakesBack, started_of}
+pub use Rattle.par2_tool.specs.Opening.{IsCounted, IsOpened, IsRead, IsStillHalfway, IsTakenBack, IsUnopened, LeavesUnopened, OnlyTakesBack, StandsFor, StartsWithout, TakesBack, started_of}
 pub use Rattle.par2_tool.specs.Performing.{AreSomeMade, HoldsJournaled, IsAnswer, IsReport, IsStoppedAt, IsVerify, IsWritten, after_write_down, outcome_of, with_all_changes, with_halfway}
 pub use Rattle.par2_tool.specs.Refusals.{IsRefused, IsSession, failure_for, unopened_as}
 pub use Rattle.par2_tool.specs.Repairs.{AskForRepair}
 pub use Rattle.par2_tool.specs.Runs.{Effective, HasNoEffect, Runs, TakesEffect}
 pub use Rattle.par2_tool.specs.StoreOpenings.{KeepsStore, Stands, Verifies}
-pub use Rattle.par2_tool.specs.Telling.{Answered, Failed, IsAtTheEnd, IsBack, IsCause, IsDone, IsFailed, IsPrinted, IsRefusedFor, IsShown, IsStopped, IsUnread, Leaves, MakesCalls, OpensAsBeforeOrAfterRun, SameOutput, Telling}
+pub use Rattle.par2_tool.specs.Telling.{Answered, Failed, IsAtTheEnd, IsBack, IsCause, IsChanged, IsDone, IsFailed, IsPrinted, IsRefusedFor, IsShown, IsStopped, IsUnread, Leaves, MakesCalls, OpensAsBeforeOrAfterRun, SameOutput, Telling}
 pub use Rattle.par2_tool.specs.Writing.{AreSomeWritten, IsKept}
 pub use Rattle.par2_tool.specs.declared.opening.OpenFault.{OpenFault}
 pub use Rattle.par2_tool.specs.declared.performing.PerformFault.{PerformFault}

@@ -1,8 +1,7 @@
 -- Runs on one store keep one history.
 use Rattle.par2_tool.proofs.Common.{◌≡◌, inl, inr, List, Option, Some, None, Result, Ok, Err, Bool, true, false, refl, sym, ap, subst, ◌∙◌, ℕ, length, arith, Action, Do, Verify, Folder, Opened, Settled, Halfway, Started, opened, new_session, is_valid, started, OpensAs, Opens, leads, Session, history_of, session_unless, session_after, changes_asked, LeadsToAfterAsked, Contents, JournalFault, Journal, Spells, accepted_next, refused_alike, same_ok, ok_no_err, taken_back_leads, IsOpened, IsWritten, IsOpening, IsSettled, Holds, with_history, IsRefusedFor, Refusal, Run, history_after, HasNoEffect, Runs, Effective, TakesEffect}
-use Rattle.par2_spec.specs.declared.JournalFault.TheVariants.{JournalInvalid, FolderChanged}
+use Rattle.par2_spec.specs.declared.JournalFault.TheVariants.{FolderChanged}
 use Rattle.par2_spec.specs.History as history
-use Rattle.par2_spec.specs.declared.JournalFault.TheVariants.{Memory}
 use Rattle.par2_tool.specs.Runs.{Ended, Passed}
 use Rattle.par2_tool.proofs.Openings.{settled_on, halfway_by}
 
@@ -37,9 +36,7 @@ started_leads : (folder : Folder) (text : List ℕ) (o : Result Opened JournalFa
 started_leads folder text (Ok (Settled s)) a opens e = ap (λ (x : Started). is_valid x.session) (same_ok a _ e) ∙ (settled_on folder text s opens).1
 started_leads folder text (Ok (Halfway s back)) a opens e = ap (λ (x : Started). is_valid x.session) (same_ok a _ e) ∙ (let by = halfway_by folder text s back opens in (taken_back_leads by.0 folder s back by.2).2)
 started_leads folder text (Err (FolderChanged false)) a opens e = ap (λ (x : Started). is_valid x.session) (same_ok a _ e) ∙ new_leads folder
-started_leads folder text (Err (FolderChanged true)) a opens e = absurd (ok_no_err a (FolderChanged true) e)
-started_leads folder text (Err JournalInvalid) a opens e = absurd (ok_no_err a JournalInvalid e)
-started_leads folder text (Err Memory) a opens e = absurd (ok_no_err a Memory e)
+started_leads folder text (Err fault) a opens e = absurd (ok_no_err a fault e)
 
 start_leads : (folder : Folder) (journal : Option (List ℕ)) (a : Started) → OpensAs folder journal (Ok a) → is_valid a.session ≡ true
 unfolding OpensAs

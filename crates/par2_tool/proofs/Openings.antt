@@ -1,10 +1,11 @@
 -- What a store opens as, and what a stop leaves of it.
-use Rattle.par2_tool.proofs.Common.{◌≡◌, ◌⊎◌, inl, inr, ℕ, true, IsTrue, List, take, Option, Some, None, Result, Ok, Err, refl, sym, ap, subst, ◌∙◌, arith, Vec, option_map, OnErr, IfErr, Global, Folder, Change, are_applicable, effects, Session, Journal, Spells, Opened, Settled, Halfway, Started, is_valid, new_session, settled_journal, started, TellsApart, Opens, OpensAs, opened, Contents, with_journal, JournalFault, Two, settled_stored, still_stored, taken_back_leads, Holds, IsOpening, OpensAsBefore, TellsApartBack, with_history, IsOpened, IsRead, IsStillHalfway, IsTakenBack, TakesBack, LeavesUnopened, IsCounted, IsStoppedAt, CountsOpening, OpenFault, KeepsStore}
+use Rattle.par2_tool.proofs.Common.{◌≡◌, ◌⊎◌, inl, inr, ℕ, true, IsTrue, List, take, Option, Some, None, Result, Ok, Err, refl, sym, ap, subst, ◌∙◌, arith, Vec, option_map, OnErr, IfErr, IfOk, started_of, IsOpened, IsRead, IsStillHalfway, IsTakenBack, TakesBack, LeavesUnopened, IsCounted, Global, Folder, Change, are_applicable, effects, Session, Journal, Spells, Opened, Settled, Halfway, Started, is_valid, new_session, settled_journal, started, TellsApart, Opens, OpensAs, opened, Contents, with_journal, JournalFault, Two, settled_stored, still_stored, taken_back_leads, Holds, IsOpening, OpensAsBefore, TellsApartBack, with_history, IsStoppedAt, CountsOpening, OpenFault, KeepsStore, StartsWithout}
 use Rattle.par2_tool.proofs.MadeChanges.{all_changed_is}
 use Rattle.par2_folder.specs.Stores.{OnlyReads}
 use Rattle.par2_folder.specs.declared.view.Store.{Ghosts as StoreOf}
 use Rattle.par2_tool.specs.StoreOpenings.{Opens as OpensStore}
 use Rattle.par2_spec.specs.declared.JournalFault.TheVariants as fault
+use Rattle.par2_tool.specs.declared.opening.Started as program
 
 -- ---- what a folder opens as
 
@@ -27,10 +28,20 @@ text_read contents files journal text bytes read some is = grind arith
 pub opens_read : (contents : Contents) (files : Folder) (text : List ℕ) (o : Result Opened JournalFault) (answer : Result Started JournalFault) → IsRead contents files (Some text) → Opens files text o → answer ≡ started files o → IsOpening contents answer
 opens_read contents files text o answer read opens is = unfold OpensAs in subst (λ k. IsOpening k answer) (sym read) (o, opens, is)
 
--- a refusal that is not because memory ran out decides what the store opens as
-pub opens_refused : (contents : Contents) (files : Folder) (text : List ℕ) (e named : JournalFault) (answer : Result Started JournalFault) → IsRead contents files (Some text) → (e ≡ fault.Memory) ⊎ Opens files text (Err e) → e ≡ named → (named ≡ fault.Memory → ⊥) → answer ≡ started files (Err named)
-    → IsOpening contents answer
-opens_refused contents files text e named answer read h same other is = grind (arith, opens_read)
+-- a store that is left alone, and opens on its own folder, is opened
+pub opened_on : (contents : Contents) (started : Started) → IsOpening contents (Ok started) → contents.files ≡ started.session.folder → IsOpened contents contents started
+opened_on contents started opens files = record { opens = opens; holds = record { files = files; opens = opens }; left = inl refl }
+
+-- so is one whose journal is refused, or it isn't, and is left alone
+module _ (contents : Contents) (files : Folder) (text : List ℕ) (e : JournalFault) (r : Result program.Started OpenFault) (on : Folder) (same : on ≡ files) (starts : StartsWithout on e r) where
+  pub opens_without : IsRead contents files (Some text) → (e ≡ fault.Memory) ⊎ Opens files text (Err e) → IfOk r (λ s. IsOpened contents contents (started_of s))
+  opens_without read refused = grind (arith, opens_read, opened_on)
+
+  pub unopened_without : IsRead contents files (Some text) → (e ≡ fault.Memory) ⊎ Opens files text (Err e) → LeavesUnopened contents contents r
+  unopened_without read refused = grind (arith, opens_read)
+
+  pub counted_without : (n : ℕ) → IfErr r (IsCounted n n)
+  counted_without n = grind arith
 
 -- without a journal a store opens as a new session
 pub opens_new : (contents : Contents) (s : Session) → contents.journal ≡ None → s ≡ new_session contents.files → IsOpening contents (Ok (with_history s))

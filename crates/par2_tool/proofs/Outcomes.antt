@@ -1,12 +1,11 @@
 -- What a store is opened as for a command, and what comes of an action on it.
-use Rattle.par2_tool.proofs.Common.{by_either, ◌≡◌, inl, inr, ℕ, List, Result, Ok, Err, Bool, true, false, refl, sym, ap, subst, ◌∙◌, arith, Some, None, Option, false≢true, Change, Action, Command, Do, Verify, Started, OpensAs, new_session, Session, KeptSession, session_of_kept, changes_asked, changes_unless, session_after, Contents, Fault, Memory, Plan, TellsApartAlong, TellsApartBack, OpensAsBefore, OpensAsBeforeOrAfter, IsOpening, with_history, IsOpened, IsUnopened, StandsFor, IsCounted, IsRead, started_of, IsVerify, IsAnswer, IsReport, IsWritten, IsRefused, IsSession, failure_for, unopened_as, IsBack, IsCause, IsFailed, IsAtTheEnd, IsStopped, OpensAsBeforeOrAfterRun, IsDone, SameOutput, OpenFault, PerformFault, IfOk, Folder, changes_of, LeadsToAfterAsked, refusal, report_in, Outcome, output_of, Stands, Verifies}
+use Rattle.par2_tool.proofs.Common.{by_either, ◌≡◌, inl, inr, ℕ, List, Result, Ok, Err, Bool, true, false, refl, sym, ap, subst, ◌∙◌, arith, Some, None, Option, false≢true, Change, Action, Command, Do, Verify, Started, OpensAs, new_session, Session, KeptSession, session_of_kept, changes_asked, changes_unless, session_after, Contents, Fault, Memory, Plan, TellsApartAlong, TellsApartBack, OpensAsBefore, OpensAsBeforeOrAfter, with_history, IsOpened, IsUnopened, StandsFor, IsCounted, IsRead, started_of, IsVerify, IsAnswer, IsReport, IsWritten, IsRefused, IsSession, failure_for, unopened_as, IsBack, IsCause, IsFailed, IsAtTheEnd, IsStopped, OpensAsBeforeOrAfterRun, IsDone, SameOutput, OpenFault, PerformFault, IfOk, Folder, changes_of, LeadsToAfterAsked, refusal, report_in, Outcome, output_of, Stands, Verifies}
 use Rattle.par2_journal.specs.declared.preparation.SessionFault.TheVariants.{NothingToUndo, NothingToRedo}
-use Rattle.par2_tool.specs.declared.performing.PerformFault.TheVariants.{Store}
 use Rattle.par2_journal.specs.declared.preparation.SessionFault.{SessionFault}
-use Rattle.par2_tool.specs.declared.performing.PerformFault.TheVariants.{Session as Refusing}
+use Rattle.par2_tool.specs.declared.performing.PerformFault.TheVariants.{Session as Refusing, Store}
 use Rattle.std.specs.Borrow.{Bor}
 use Rattle.par2_tool.proofs.Calls.{for_verify}
-use Rattle.par2_tool.proofs.Openings.{opens_new}
+use Rattle.par2_tool.proofs.Openings.{opened_on, opens_new}
 use Rattle.par2_tool.proofs.VerifyRuns.{as_it_was, verify_leaves}
 use Rattle.par2_spec.specs.History as history
 use Rattle.par2_tool.specs.declared.opening.OpenFault.TheVariants as unopened
@@ -108,10 +107,6 @@ perform_cause action s later before middle after (Refusing NothingToRedo) steady
 perform_cause action s later before middle after Store steady refused = omega (arith, steady, refused)
 
 -- ---- opening
-
--- a store that is left alone, and opens on its own folder, is opened
-pub opened_on : (contents : Contents) (started : Started) → IsOpening contents (Ok started) → contents.files ≡ started.session.folder → IsOpened contents contents started
-opened_on contents started opens files = record { opens = opens; holds = record { files = files; opens = opens }; left = inl refl }
 
 pub opened_as_is : (contents : Contents) (files : Folder) (text : List ℕ) (started : Started) → IsRead contents files (Some text) → OpensAs files (Some text) (Ok started) → started.session.folder ≡ files → IsOpened contents contents started
 opened_as_is contents files text started read opens on = grind arith

@@ -1,5 +1,5 @@
 -- How many writing calls a run made.
-use Rattle.par2_tool.proofs.Common.{◌≡◌, ◌+◌, inl, inr, ℕ, List, subst, arith, Action, Do, Verify, Contents, Answered, Failed, Telling, MakesCalls, Failure, Refused, Store, Arguments, JournalInvalid, FolderChanged, NothingToUndo, NothingToRedo, AskFor, Change, AreCallsToOpen, AreCallsToRun, CountsFailedRun, CountsRefusedRun, IsHalfway}
+use Rattle.par2_tool.proofs.Common.{◌≡◌, ◌+◌, inl, inr, ℕ, List, subst, arith, Action, Do, Verify, Contents, Answered, Failed, Telling, MakesCalls, Failure, Store, AskFor, Change, AreCallsToOpen, AreCallsToRun, CountsFailedRun, CountsRefusedRun, IsHalfway}
 use Rattle.par2_tool.proofs.RunEffects.{one_action}
 
 module _ (words : List (List ℕ)) (old : Contents) (before after : ℕ) (base : List ℕ) (extras : List (List ℕ)) (none : (back : List Change) → IsHalfway old back → ⊥) where
@@ -19,12 +19,7 @@ module _ (words : List (List ℕ)) (old : Contents) (before after : ℕ) (base :
   failed_by : (reason : Failure) → CountsFailedRun verify old before after reason → after ≡ before
   failed_by Store (calls, inl opens, most) = let zero = opened_by calls opens in omega (arith, zero, most.later, most.within)
   failed_by Store (calls, inr run, most) = let zero = run_by calls run in omega (arith, zero, most.later, most.within)
-  failed_by (Refused fault) counted = refused_by counted
-  failed_by NothingToUndo counted = refused_by counted
-  failed_by NothingToRedo counted = refused_by counted
-  failed_by Arguments counted = refused_by counted
-  failed_by JournalInvalid counted = refused_by counted
-  failed_by FolderChanged counted = refused_by counted
+  failed_by reason counted = refused_by counted
 
   -- a verify makes none where no command is halfway
   pub verify_makes_none : AskFor words verify → (told : Telling) → MakesCalls words told old before after → after ≡ before

@@ -1,5 +1,5 @@
 -- What the status of a run tells.
-use Rattle.par2_tool.proofs.Common.{◌≡◌, ◌≢◌, ◌⊎◌, ℕ, false, refl, arith, List, Option, status_of, status_of_fault, status_of_failure, Fault, Answered, Failed, Telling, IsShown, Failure, NotRepairable, RepairFailed, may_refuse}
+use Rattle.par2_tool.proofs.Common.{◌≡◌, ◌≢◌, ◌⊎◌, ℕ, false, arith, List, Option, status_of, status_of_fault, status_of_failure, Fault, Answered, Failed, Telling, IsShown, Failure, NotRepairable, RepairFailed, may_refuse}
 use Rattle.par2_printing.specs.declared.printer.Printer.{Printer}
 
 -- a fault with this status: it isn't 0; 2 and 5 have one fault alone; and a repair of what a create left has no fault
@@ -9,27 +9,6 @@ pub record Tells (fault : Fault) (status : ℕ) : Type 0 where
   pub few_left : status ≡ 2 → (missing rank : ℕ) × (fault ≡ NotRepairable missing rank)
   pub unread : status ≡ 4 → may_refuse fault ≡ false
   pub wrong : status ≡ 5 → fault ≡ RepairFailed
-
-other : (fault : Fault) (status : ℕ) → status ≢ 0 → status ≢ 2 → status ≢ 4 → status ≢ 5 → Tells fault status
-other fault status zero two four five = record { failed = zero; few_left = λ e. absurd (two e); unread = λ e. absurd (four e); wrong = λ e. absurd (five e) }
-
-one : (fault : Fault) → Tells fault 1
-one fault = other fault 1 (λ e. omega (arith, e)) (λ e. omega (arith, e)) (λ e. omega (arith, e)) (λ e. omega (arith, e))
-
-three : (fault : Fault) → Tells fault 3
-three fault = other fault 3 (λ e. omega (arith, e)) (λ e. omega (arith, e)) (λ e. omega (arith, e)) (λ e. omega (arith, e))
-
-eight : (fault : Fault) → Tells fault 8
-eight fault = other fault 8 (λ e. omega (arith, e)) (λ e. omega (arith, e)) (λ e. omega (arith, e)) (λ e. omega (arith, e))
-
-four : (fault : Fault) → may_refuse fault ≡ false → Tells fault 4
-four fault not_one = record { failed = λ e. omega (arith, e); few_left = λ e. absurd (omega (arith, e)); unread = λ _. not_one; wrong = λ e. absurd (omega (arith, e)) }
-
-two : (missing rank : ℕ) → Tells (NotRepairable missing rank) 2
-two missing rank = record { failed = λ e. omega (arith, e); few_left = λ _. (missing, rank, refl); unread = λ e. absurd (omega (arith, e)); wrong = λ e. absurd (omega (arith, e)) }
-
-five : Tells RepairFailed 5
-five = record { failed = λ e. omega (arith, e); few_left = λ e. absurd (omega (arith, e)); unread = λ e. absurd (omega (arith, e)); wrong = λ _. refl }
 
 pub told_of : (fault : Fault) → Tells fault (status_of_fault fault)
 told_of fault = unfold status_of_fault in grind arith

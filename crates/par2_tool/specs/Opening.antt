@@ -1,5 +1,5 @@
 -- What a store is opened as, and what opening does to it; or why it isn't opened.
-use Rattle.std.specs.Prelude.{◌≡◌, ◌⊎◌, ◌<◌, ◌≤◌, ℕ, List, length, take, Option, Some, Result, Ok, Err, IfErr, OnOk, OnErr, true}
+use Rattle.std.specs.Prelude.{◌≡◌, ◌⊎◌, ◌<◌, ◌≤◌, ℕ, List, length, take, Option, Some, Result, Ok, Err, IfErr, MatchResult, OnOk, OnErr, true}
 use Rattle.par2_spec.specs.Changes.{Change}
 use Rattle.par2_spec.specs.Commands.{Action}
 use Rattle.par2_spec.specs.Folders.{Folder}
@@ -8,6 +8,7 @@ use Rattle.par2_spec.specs.Opening as defined
 use Rattle.par2_spec.specs.Opening.{Opens, Halfway, settled_journal}
 use Rattle.par2_spec.specs.Sessions.{Session, session_of_kept}
 use Rattle.par2_spec.specs.Stores.{Contents, with_journal}
+use Rattle.par2_spec.specs.declared.JournalFault.{JournalFault}
 use Rattle.par2_spec.specs.declared.JournalFault.TheVariants as journal
 use Rattle.par2_spec.specs.declared.Version.TheVariants.{Two}
 use Rattle.par2_folder.specs.declared.store.ReadFault.{ReadFault}
@@ -39,6 +40,16 @@ IsCounted before after FolderChanged = after ≡ before
 abbrev pub unread_as : ReadFault → OpenFault
 unread_as read.Store = Store
 unread_as read.Memory = Memory
+
+abbrev pub refused_as : JournalFault → OpenFault
+refused_as journal.JournalInvalid = JournalInvalid
+refused_as (journal.FolderChanged halfway) = FolderChanged
+refused_as journal.Memory = Memory
+
+-- the answer where a journal is refused: what the definitions start with, or the fault where they start with nothing
+abbrev pub StartsWithout : Folder → JournalFault → Result Started OpenFault → Type 0
+StartsWithout files fault result =
+    MatchResult result (λ started. defined.started files (Err fault) ≡ Ok (started_of started)) (λ refused. (defined.started files (Err fault) ≡ Err fault) × (refused ≡ refused_as fault))
 
 -- the contents are those that were read
 abbrev pub IsRead : Contents → Folder → Option (List ℕ) → Type 0

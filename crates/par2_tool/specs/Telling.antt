@@ -12,6 +12,7 @@ use Rattle.par2_spec.specs.declared.Failure.{Failure}
 use Rattle.par2_spec.specs.declared.Failure.TheVariants as failure
 use Rattle.par2_spec.specs.declared.Fault.TheVariants as fault
 use Rattle.par2_spec.specs.declared.JournalFault.TheVariants as journal
+use Rattle.par2_folder.specs.declared.view.Store.{Ghosts as StoreOf}
 use Rattle.par2_printing.specs.Views.{words_asked}
 use Rattle.par2_printing.specs.Writing.{TookAll, TookPart}
 use Rattle.par2_printing.specs.declared.printer.Printer.{Printer}
@@ -150,3 +151,12 @@ IsShown (Answered dropped outcome) held out out_after told err err_after status 
     IsPrinted held out out_after (output_of dropped outcome) (status_of outcome) status × (err_after ≡ err)
 IsShown (Failed spoken reason) held out out_after told err err_after status =
     IsPrinted told err err_after (error_of spoken reason) (status_of_failure reason) status × (out_after ≡ out)
+
+-- a run with these words tells something: why, whatever the store does; what the two writers show of it; and what it made
+-- of an honest store, by how many calls
+pub record IsRun {S O E : Type 0} (store : StoreOf S) (held : O → Option (List ℕ)) (held_by_err : E → Option (List ℕ)) (words : List Text) (old new : S) (out out_after : Printer O) (err err_after : Printer E) (status : ℕ) : Type 0 where
+  pub telling : Telling
+  pub told : IsTold words (store.failures old) (store.failures new) telling
+  pub shown : IsShown telling held out out_after held_by_err err err_after status
+  pub leaves : store.honest old → Leaves words telling (store.contents old) (store.contents new)
+  pub calls : store.honest old → MakesCalls words telling (store.contents old) (store.writing_calls old) (store.writing_calls new)

@@ -19,7 +19,7 @@ ghost use Rattle.par2_tool.specs.Calls.{IsHalfway};
 ghost use Rattle.par2_tool.specs.Holding.{IsOpening, IsSettled, TellsApartInRun};
 ghost use Rattle.par2_tool.specs.Opening.{OnlyTakesBack};
 ghost use Rattle.par2_tool.specs.Runs.{HasNoEffect, TakesEffect};
-ghost use Rattle.par2_tool.specs.Telling.{Telling, IsTold, IsShown, Leaves, MakesCalls};
+ghost use Rattle.par2_tool.specs.Telling.{IsRun};
 ghost use Rattle.par2_tool.specs.Repairs.{AskForRepair};
 
 use crate::laws::{runs_keep_one_history, stores_open_in_one_way};
@@ -48,13 +48,8 @@ pub fn run<S: FolderStore, O: Write, E: Write>(
 ) -> u8
     // What is printed is what was done to the store; and what can't be done is never asked of it.
     ensures honest { S.honest store.old → S.honest store.new }
-    ensures told { (told : Telling)
-        × IsTold (map string_bytes words.now) (S.failures store.old) (S.failures store.new) told
-        × IsShown told O.contents out.old out.new E.contents err.old err.new result
-        × (S.honest store.old → Leaves (map string_bytes words.now) told
-        (S.contents store.old) (S.contents store.new))
-        × (S.honest store.old → MakesCalls (map string_bytes words.now) told
-        (S.contents store.old) (S.writing_calls store.old) (S.writing_calls store.new)) }
+    ensures told { IsRun S.Store O.contents E.contents (map string_bytes words.now)
+        store.old store.new out.old out.new err.old err.new result }
     ensures later { S.failures store.old ≤ S.failures store.new }
     ensures possible { S.honest store.old → S.impossible store.new ≡ S.impossible store.old }
     // A verify makes no writing call where no command is halfway.

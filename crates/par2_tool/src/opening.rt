@@ -6,13 +6,13 @@ ghost use Rattle.par2_spec.specs.Sessions.{session_of_kept};
 ghost use Rattle.par2_folder.specs.Stores.{OnlyReads};
 ghost use Rattle.par2_tool.specs.Calls.{CountsCalls};
 ghost use Rattle.par2_tool.specs.Holding.{with_history};
-ghost use Rattle.par2_tool.specs.Opening.{started_of, CountsFailures, IsRead};
+ghost use Rattle.par2_tool.specs.Opening.{started_of, CountsFailures, IsRead, StartsWithout};
 ghost use Rattle.par2_tool.specs.StoreOpenings.{KeepsStore, Opens, ReadsStore, Starts, StartsFor, TakesWayBack, Verifies};
 
 use crate::writing::write_down;
 use par2_folder::{Folder, FolderStore, ReadFault, read_folder};
 use par2_journal::{Halfway, Journals, Next, Opened, Session, opens_as_is};
-use par2_spec::{Action, Command, Failure, Fault, JournalFault};
+use par2_spec::{Action, Command, Failure, Fault, JournalFault, Result};
 use std::alloc::{AllocError, Global};
 use thiserror::Error;
 
@@ -89,6 +89,21 @@ fn without_history(alloc: Global, folder: Folder) -> Started
     }
 }
 
+// What a folder whose journal is refused opens as: a new session, where it isn't as a finished command left it.
+fn without_journal(alloc: Global, fault: JournalFault, folder: Folder) -> Result<Started, OpenFault>
+    ensures { StartsWithout folder.files fault result }
+{
+    match fault {
+        JournalFault::FolderChanged { halfway: false } => Ok(Started {
+            session: Session::new(alloc, folder),
+            dropped: true,
+        }),
+        JournalFault::FolderChanged { halfway: true } => Err(OpenFault::FolderChanged),
+        JournalFault::JournalInvalid => Err(OpenFault::JournalInvalid),
+        JournalFault::Memory => Err(OpenFault::Memory),
+    }
+}
+
 // Reads the folder of a store, and its journal where there is one.
 fn read_store<S: FolderStore>(
     alloc: Global,
@@ -103,11 +118,7 @@ fn read_store<S: FolderStore>(
 }
 
 // Takes a halfway command back in the store, and settles its journal.
-fn take_back<S: FolderStore>(
-    _alloc: Global,
-    store: &mut S,
-    halfway: Halfway,
-) -> Result<Session, OpenFault>
+fn take_back<S: FolderStore>(store: &mut S, halfway: Halfway) -> Result<Session, OpenFault>
     ensures session { IfOk result (λ session. session ≡ session_before halfway) }
     ensures taken { S.honest store.old → TakesWayBack S.Store store.old store.new
         (session_of_kept (session_before halfway)) (way_left halfway) result }
@@ -118,10 +129,9 @@ fn take_back<S: FolderStore>(
     ensures calls { CountsCalls (length (way_left halfway) + 1)
         (S.writing_calls store.old) (S.writing_calls store.new) result }
 {
-    let after = halfway.settled()?;
     let journals = Journals {
         halfway: None,
-        after,
+        after: halfway.settled()?,
     };
     match write_down(store, &journals, halfway.changes()) {
         Ok(()) => Ok(halfway.finish()),
@@ -145,25 +155,17 @@ fn open_with<S: FolderStore>(
         → Opens S.Store store.old store.new result }
     ensures keeps { KeepsStore S.Store store.old store.new result }
 {
-    match Session::open_before(alloc, folder, text, next) {
-        Ok(Opened::Settled(session)) => Ok(Started {
-            session,
-            dropped: false,
-        }),
-        Ok(Opened::Halfway(halfway)) => {
-            let session = take_back(alloc, store, halfway)?;
-            Ok(Started {
-                session,
-                dropped: false,
-            })
+    let opened = match Session::open_before(alloc, folder, text, next) {
+        Ok(opened) => opened,
+        Err((fault, folder)) => return without_journal(alloc, fault, folder),
+    };
+    let dropped = false;
+    match opened {
+        Opened::Settled(session) => Ok(Started { session, dropped }),
+        Opened::Halfway(halfway) => {
+            let session = take_back(store, halfway)?;
+            Ok(Started { session, dropped })
         }
-        Err((JournalFault::FolderChanged { halfway: false }, folder)) => Ok(Started {
-            session: Session::new(alloc, folder),
-            dropped: true,
-        }),
-        Err((JournalFault::FolderChanged { halfway: true }, _)) => Err(OpenFault::FolderChanged),
-        Err((JournalFault::JournalInvalid, _)) => Err(OpenFault::JournalInvalid),
-        Err((JournalFault::Memory, _)) => Err(OpenFault::Memory),
     }
 }
 
@@ -182,7 +184,7 @@ fn needs_no_history(
     command: Option<&Command>,
     folder: &mut Folder,
     text: &[u8],
-) -> Result<bool, AllocError>
+) -> Result<bool>
     ensures files { folder.new.files ≡ folder.old.files }
     ensures verify { result ≡ Ok true → Verifies command.entry }
     ensures opens { result ≡ Ok true → OpensAsIs folder.old.files text.now }

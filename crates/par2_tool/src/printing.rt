@@ -12,7 +12,7 @@ ghost use Rattle.par2_tool.specs.Telling.{IsPrinted};
 use crate::performing::Outcome;
 use par2_journal::{Report, State, Step, TargetReport};
 use par2_printing::{
-    PrintedState, PrintedStep, PrintedTarget, Printer, WriteFault, write_done, write_failure,
+    PrintedState, PrintedStep, PrintedTarget, Printer, Written, write_done, write_failure,
     write_note, write_set, write_step, write_target, write_verdict,
 };
 use par2_spec::{Command, Failure, Fault, Verdict};
@@ -32,7 +32,7 @@ fn printed(step: &Step) -> PrintedStep<'_>
     }
 }
 
-fn write_steps<W: Write>(out: &mut Printer<W>, steps: &[Step]) -> Result<(), WriteFault>
+fn write_steps<W: Write>(out: &mut Printer<W>, steps: &[Step]) -> Written
     ensures { Wrote W.contents out.old out.new
         (flat_map step_line (map step_view steps.now)) result }
 {
@@ -42,11 +42,7 @@ fn write_steps<W: Write>(out: &mut Printer<W>, steps: &[Step]) -> Result<(), Wri
     Ok(())
 }
 
-fn write_accepted<W: Write>(
-    out: &mut Printer<W>,
-    steps: &[Step],
-    dropped: bool,
-) -> Result<(), WriteFault>
+fn write_accepted<W: Write>(out: &mut Printer<W>, steps: &[Step], dropped: bool) -> Written
     ensures { Wrote W.contents out.old out.new
         (note_text dropped ++ done_text (map step_view steps.now)) result }
 {
@@ -77,7 +73,7 @@ fn printed_target(target: &TargetReport) -> PrintedTarget<'_>
     }
 }
 
-fn write_targets<W: Write>(out: &mut Printer<W>, targets: &[TargetReport]) -> Result<(), WriteFault>
+fn write_targets<W: Write>(out: &mut Printer<W>, targets: &[TargetReport]) -> Written
     ensures { Wrote W.contents out.old out.new
         (flat_map target_line (map target_report_of targets.now)) result }
 {
@@ -87,7 +83,7 @@ fn write_targets<W: Write>(out: &mut Printer<W>, targets: &[TargetReport]) -> Re
     Ok(())
 }
 
-fn write_report<W: Write>(out: &mut Printer<W>, report: &Report) -> Result<(), WriteFault>
+fn write_report<W: Write>(out: &mut Printer<W>, report: &Report) -> Written
     ensures { Wrote W.contents out.old out.new (report_text (report_of report.now)) result }
 {
     write_set(out, &report.set_id)?;
@@ -96,11 +92,7 @@ fn write_report<W: Write>(out: &mut Printer<W>, report: &Report) -> Result<(), W
 }
 
 #[tactic(auto, unfolding(par2_spec::specs::Texts::output_of))]
-fn write_outcome<W: Write>(
-    out: &mut Printer<W>,
-    outcome: &Outcome,
-    dropped: bool,
-) -> Result<(), WriteFault>
+fn write_outcome<W: Write>(out: &mut Printer<W>, outcome: &Outcome, dropped: bool) -> Written
     ensures { Wrote W.contents out.old out.new (output_of dropped (outcome_of outcome.now)) result }
 {
     match outcome {

@@ -4,7 +4,7 @@ ghost use Rattle.par2_spec.specs.Commands.{Action as Asked};
 ghost use Rattle.par2_spec.specs.Stores.{Contents};
 ghost use Rattle.par2_spec.specs.Views.{command_of};
 ghost use Rattle.par2_tool.specs.Asking.{AskFor};
-ghost use Rattle.par2_tool.specs.Telling.{Telling, IsBack, IsShown, IsStopped, IsTold, Leaves, MakesCalls};
+ghost use Rattle.par2_tool.specs.Telling.{IsBack, IsRun, IsStopped};
 ghost use Rattle.par2_tool.specs.Writing.{IsKept};
 
 use crate::opening::{Started, open_for};
@@ -25,9 +25,8 @@ fn is_back(command: &Command) -> bool
     matches!(command, Command::Act(Action::Undo | Action::Redo))
 }
 
-/// A run of the program: the words are read, the store is opened, what they ask for is performed on it, and what
-/// comes of it is printed on one of the two writers. Answers the status. What is said of the store's contents holds
-/// where it is honest. What a power cut leaves at any moment opens as before the run or as after it.
+/// The run of [`crate::run`], without what it comes to. What a power cut leaves at any moment opens as before the run
+/// or as after it.
 pub(crate) fn run<S: FolderStore, O: Write, E: Write>(
     alloc: Global,
     words: &[String],
@@ -36,13 +35,8 @@ pub(crate) fn run<S: FolderStore, O: Write, E: Write>(
     err: &mut Printer<E>,
 ) -> u8
     ensures honest { S.honest store.old → S.honest store.new }
-    ensures told { (told : Telling)
-        × IsTold (map string_bytes words.now) (S.failures store.old) (S.failures store.new) told
-        × IsShown told O.contents out.old out.new E.contents err.old err.new result
-        × (S.honest store.old → Leaves (map string_bytes words.now) told
-        (S.contents store.old) (S.contents store.new))
-        × (S.honest store.old → MakesCalls (map string_bytes words.now) told
-        (S.contents store.old) (S.writing_calls store.old) (S.writing_calls store.new)) }
+    ensures told { IsRun S.Store O.contents E.contents (map string_bytes words.now)
+        store.old store.new out.old out.new err.old err.new result }
     ensures cut { (action : Asked) → S.honest store.old → IsKept S.Store store.old
         → AskFor (map string_bytes words.now) action
         → (left : Contents) → S.may_remain store.new left

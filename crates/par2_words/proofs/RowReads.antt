@@ -1,5 +1,5 @@
 -- What the getters read of matches, by the rows.
-use Rattle.par2_words.proofs.Common.{arith, ◌≡◌, ◌∙◌, ◌^◌, ◌&&◌, ℕ, Bool, true, false, nat_lt, refl, ap, List, [], ◌∷◌, map, Option, Some, None, Result, lt-ltb, ltb-true, codes, unwrap_or, option_map, list_all, option_map_or, Bor, bytes_eq, AllDigits, ParsesUnsigned, digits_value, ReadsOne, Text, first_value, matched_of, one_text, raw_values, rows_of, flag_of, number, number_of, text_of, texts_of}
+use Rattle.par2_words.proofs.Common.{arith, ◌≡◌, ◌^◌, ◌&&◌, ℕ, Bool, true, false, nat_lt, refl, List, [], ◌∷◌, map, Option, Some, None, Result, lt-ltb, ltb-true, codes, unwrap_or, option_map, list_all, Bor, bytes_eq, AllDigits, ParsesUnsigned, digits_value, ReadsOne, Text, first_value, matched_of, one_text, raw_values, rows_of, flag_of, number, number_of, text_of, texts_of, MatchOption}
 use Rattle.std.specs.Char.{digit_value}
 use Rattle.std.proofs.lemmas.Bool.{and_parts}
 use Rattle.clap.specs.ValueTests.{is_numeral}
@@ -15,9 +15,9 @@ pub texts_read : (f : Found) (id : Text) (o : Option (Bor (List (Bor Text)))) (d
     → map (λ v. v.now) (unwrap_or o d).now ≡ texts_of id (rows_of f)
 texts_read f id o d got none = grind (arith, raw_values-rows)
 
-pub flag_read : (f : Found) (id : Text) (o : Option (Bor Text)) → option_map (λ s. s.now) o ≡ first_value f id
-    → option_map_or (λ text. bytes_eq text (codes "true")) (option_map (λ s. s.now) o) false ≡ flag_of id (rows_of f)
-flag_read f id o got = ap (λ x. option_map_or (λ text. bytes_eq text (codes "true")) x false) (got ∙ first_value-rows f id)
+pub flag_read : (f : Found) (id : Text) (o : Option (Bor Text)) (is : Bool) → MatchOption o (is ≡ false) (λ s. is ≡ bytes_eq s.now (codes "true")) → option_map (λ s. s.now) o ≡ first_value f id
+    → is ≡ flag_of id (rows_of f)
+flag_read f id o is on got = grind (arith, first_value-rows)
 
 -- ---- numbers
 

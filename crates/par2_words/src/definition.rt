@@ -4,7 +4,8 @@ ghost use Rattle.par2_words.specs.Definition.{Defines, IsApp, IsArg, base_rule, 
 
 use clap::builder::ValueParser;
 use clap::{Arg, ArgAction, Command, value_parser};
-use std::alloc::{AllocError, Global};
+use par2_spec::Result;
+use std::alloc::Global;
 
 // A number behind a letter.
 fn number_arg<'a>(alloc: Global, id: &'a str, short: char, parser: ValueParser<'a>) -> Arg<'a>
@@ -48,7 +49,7 @@ fn purge_arg<'a>(alloc: Global) -> Arg<'a>
 
 // A command that is being defined, as long as there is memory. The calls below pass a failure on, since a function that
 // holds several commands is dear to prove at each `?`.
-type Definition<'a> = Result<Command<'a>, AllocError>;
+type Definition<'a> = Result<Command<'a>>;
 
 fn with_arg<'a>(command: Definition<'a>, arg: Arg<'a>) -> Definition<'a>
     ensures { (app : App) (rule : Rule) → Defines command.entry app → IsArg arg.entry rule
@@ -96,7 +97,7 @@ fn start_command<'a>(alloc: Global) -> Command<'a>
 }
 
 /// The command line with its six commands, as clap takes it.
-pub(crate) fn par2_command<'a>(alloc: Global) -> Result<Command<'a>, AllocError>
+pub(crate) fn par2_command<'a>(alloc: Global) -> Result<Command<'a>>
     ensures { Defines result par2_app }
 {
     let command = with_command(Ok(start_command(alloc)), create_command(alloc));

@@ -9,7 +9,7 @@ ghost use Rattle.par2_words.specs.Meanings.{asked_by, meaning, number_of, text_o
 use crate::definition::par2_command;
 use clap::ArgMatches;
 use clap::error::ErrorKind;
-use par2_spec::{Action, Command, CreateArgs, Failure, Fault};
+use par2_spec::{Action, Command, CreateArgs, Failure, Fault, Result};
 use std::alloc::{AllocError, Global};
 use thiserror::Error;
 
@@ -47,14 +47,14 @@ impl From<WordsFault> for Failure {
     }
 }
 
-fn base_of(alloc: Global, matches: &ArgMatches<'_>) -> Result<String, AllocError>
+fn base_of(alloc: Global, matches: &ArgMatches<'_>) -> Result<String>
     ensures { IfOk result (λ s. string_bytes s
         ≡ text_of (codes "base") (rows_of (found_of matches.now))) }
 {
     String::from_str(alloc, matches.get_str("base").unwrap_or(""))
 }
 
-fn files_of(alloc: Global, matches: &ArgMatches<'_>) -> Result<Vec<String>, AllocError>
+fn files_of(alloc: Global, matches: &ArgMatches<'_>) -> Result<Vec<String>>
     ensures { IfOk result (λ v. map string_bytes v.items
         ≡ texts_of (codes "files") (rows_of (found_of matches.now))) }
 {
@@ -69,10 +69,7 @@ fn files_of(alloc: Global, matches: &ArgMatches<'_>) -> Result<Vec<String>, Allo
 fn has_flag(matches: &ArgMatches<'_>, id: &str) -> bool
     ensures { result ≡ flag_of id.now (rows_of (found_of matches.now)) }
 {
-    match matches.get_str(id) {
-        Some(text) => text == "true",
-        None => false,
-    }
+    matches.get_str(id).is_some_and(|text| text == "true")
 }
 
 fn slice_size_of(matches: &ArgMatches<'_>) -> u64

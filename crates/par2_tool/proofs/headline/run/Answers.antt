@@ -1,4 +1,4 @@
-use Rattle.par2_tool.proofs.Common.{◌≡◌, ◌≢◌, ◌⊎◌, ◌<◌, inl, ℕ, List, Some, sym, ap, subst, ◌∙◌, map, arith, Folder, AllByRecursion, Repair, Undo, may_refuse, TakesEffect, AskForRepair, string_bytes, false≢true}
+use Rattle.par2_tool.proofs.Common.{◌≡◌, ◌≢◌, ◌⊎◌, ◌<◌, inl, ℕ, List, Some, sym, ap, subst, ◌∙◌, map, arith, Action, Repair, Undo, AskFor, Folder, AllByRecursion, may_refuse, TakesEffect, AskForRepair, string_bytes, false≢true}
 use Rattle.std.specs.FinMap as map_of
 use Rattle.par2_tool.proofs.RunEffects.{IsRefused, accepted_with_zero, effect_of, repair_refused, repaired, stopped_effect}
 use Rattle.par2_tool.proofs.RunCalls.{verify_makes_none}
@@ -8,9 +8,9 @@ use Rattle.par2_tool.proofs.headline.run.Goals.{After-run}
 use Rattle.par2_tool.proofs.headline.run.Goals as goal
 
 -- the status of what was reported, or that of a writer that failed
-status_of_run : (g : _) (c : After-run g) → (c.run.result ≡ own_status c.run.ensures.told.0) ⊎ (c.run.result ≡ 6)
+status_of_run : (g : _) (c : After-run g) → (c.run.result ≡ own_status c.run.ensures.told.telling) ⊎ (c.run.result ≡ 6)
 status_of_run g c =
-    shown_status c.run.ensures.told.0 g.O.Write.contents c.args.out.now c.run.new.out g.E.Write.contents c.args.err.now c.run.new.err c.run.result c.run.ensures.told.2
+    shown_status c.run.ensures.told.telling g.O.Write.contents c.args.out.now c.run.new.out g.E.Write.contents c.args.err.now c.run.new.err c.run.result c.run.ensures.told.shown
 
 -- ---- a repair
 
@@ -24,14 +24,14 @@ refused_repair g c folder base extras honest asks n is zero three low =
     let new = g.S.Store.contents c.run.new.store in
     let told = c.run.ensures.told in
     subst (IsRefused folder old new (Repair base extras asks.purge)) is
-    (repair_refused c.stores_open_in_one_way.ensures words old new folder base extras asks told.0 c.run.result (status_of_run g c) (told.3 honest)
+    (repair_refused c.stores_open_in_one_way.ensures words old new folder base extras asks told.telling c.run.result (status_of_run g c) (told.leaves honest)
     (λ e. zero (sym is ∙ e)) (λ e. three (sym is ∙ e)) (omega (arith, is, low)))
 
 pub returns-clause-restored : goal.returns-clause-restored
 returns-clause-restored g c folder base extras originals s honest asks original zero =
     let told = c.run.ensures.told in
     let is = repaired c.stores_open_in_one_way.ensures (map string_bytes c.args.words.now) (g.S.Store.contents c.args.store.now) (g.S.Store.contents c.run.new.store)
-    folder base extras asks told.0 c.run.result (status_of_run g c) (told.3 honest) zero in
+    folder base extras asks told.telling c.run.result (status_of_run g c) (told.leaves honest) zero in
     subst (λ (left : Folder). AllByRecursion (λ file. map_of.get left file.0 ≡ Some file.1) originals) (sym is.left)
     (c.accepted_repair_leaves_the_files.ensures folder base extras asks.purge originals s original is.accepted)
 
@@ -55,7 +55,7 @@ pub returns-clause-inputs_restored : goal.returns-clause-inputs_restored
 returns-clause-inputs_restored g c before damaged a base extras honest asks follows zero =
     let told = c.run.ensures.told in
     let is = repaired c.stores_open_in_one_way.ensures (map string_bytes c.args.words.now) (g.S.Store.contents c.args.store.now) (g.S.Store.contents c.run.new.store)
-    damaged base extras asks told.0 c.run.result (status_of_run g c) (told.3 honest) zero in
+    damaged base extras asks told.telling c.run.result (status_of_run g c) (told.leaves honest) zero in
     subst (λ (left : Folder). AllByRecursion (λ name. map_of.get left name ≡ map_of.get before name) a.inputs) (sym is.left)
     (c.repair_gives_the_created_files_back.ensures before damaged a base extras asks.purge follows is.accepted)
 
@@ -79,27 +79,27 @@ returns-clause-inputs_undetermined g c before damaged a base extras honest asks 
 
 -- ---- any action
 
+-- with status 0 it takes effect
+effect_with_zero : (g : _) (c : After-run g) (action : Action) → g.S.Store.honest c.args.store.now → AskFor (map string_bytes c.args.words.now) action → c.run.result ≡ 0
+    → TakesEffect action (g.S.Store.contents c.args.store.now) (g.S.Store.contents c.run.new.store)
+effect_with_zero g c action honest asked zero =
+    inl (accepted_with_zero (map string_bytes c.args.words.now) _ _ action asked c.run.ensures.told.telling c.run.result (status_of_run g c) (c.run.ensures.told.leaves honest) zero)
+
 pub returns-clause-undone : goal.returns-clause-undone
 returns-clause-undone g c started honest asked opens zero =
-    let old = g.S.Store.contents c.args.store.now in
-    let new = g.S.Store.contents c.run.new.store in
-    let told = c.run.ensures.told in
-    let effect : TakesEffect Undo old new = inl (accepted_with_zero (map string_bytes c.args.words.now) old new Undo asked told.0 c.run.result (status_of_run g c) (told.3 honest) zero) in
+    let effect = effect_with_zero g c Undo honest asked zero in
     let laws = c.runs_keep_one_history.ensures in
-    leaves_older laws.kept c.stores_open_in_one_way.ensures old new started opens effect (laws.settled old new Undo effect)
+    leaves_older laws.kept c.stores_open_in_one_way.ensures _ _ started opens effect (laws.settled _ _ Undo effect)
 
 pub returns-clause-done : goal.returns-clause-done
 returns-clause-done g c action honest asked zero =
-    let old = g.S.Store.contents c.args.store.now in
-    let new = g.S.Store.contents c.run.new.store in
-    let told = c.run.ensures.told in
-    let effect : TakesEffect action old new = inl (accepted_with_zero (map string_bytes c.args.words.now) old new action asked told.0 c.run.result (status_of_run g c) (told.3 honest) zero) in
-    (effect, c.runs_keep_one_history.ensures.settled old new action effect)
+    let effect = effect_with_zero g c action honest asked zero in
+    (effect, c.runs_keep_one_history.ensures.settled _ _ action effect)
 
 pub returns-clause-effect : goal.returns-clause-effect
 returns-clause-effect g c action honest asked apart =
     let told = c.run.ensures.told in
-    effect_of (map string_bytes c.args.words.now) (g.S.Store.contents c.args.store.now) (g.S.Store.contents c.run.new.store) action asked told.0 (told.3 honest) apart
+    effect_of (map string_bytes c.args.words.now) (g.S.Store.contents c.args.store.now) (g.S.Store.contents c.run.new.store) action asked told.telling (told.leaves honest) apart
 
 pub returns-clause-cut : goal.returns-clause-cut
 returns-clause-cut g c action honest lasts asked apart left may =
@@ -109,4 +109,4 @@ pub returns-clause-unwritten : goal.returns-clause-unwritten
 returns-clause-unwritten g c base extras honest asked none =
     let told = c.run.ensures.told in
     verify_makes_none (map string_bytes c.args.words.now) (g.S.Store.contents c.args.store.now) (g.S.Store.writing_calls c.args.store.now) (g.S.Store.writing_calls c.run.new.store)
-    base extras none asked told.0 (told.4 honest)
+    base extras none asked told.telling (told.calls honest)

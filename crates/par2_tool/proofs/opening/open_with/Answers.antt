@@ -1,132 +1,89 @@
-use Rattle.par2_tool.proofs.Common.{inl, Ok, Err, true, false, refl, sym, ap, subst, rules, ◌∙◌, err_from_is_err_and, FolderState, Halfway, Opens, Started, Session, KeptSession, session_of_kept, Contents, opened_of, session_before, way_left, OpensAsBefore, with_history, IsOpened}
-use Rattle.par2_spec.specs.declared.JournalFault.TheVariants.{JournalInvalid, FolderChanged}
+use Rattle.par2_tool.proofs.Common.{inl, Ok, refl, sym, subst, rules, err_from_is_err_and, Halfway, Opens, KeptSession, session_of_kept, opened_of, session_before, way_left, OpensAsBefore, with_history, IsOpened}
 use Rattle.par2_tool.proofs.Calls.{back_calls, refused_calls}
-use Rattle.par2_tool.proofs.MadeChanges.{is_new}
-use Rattle.par2_tool.proofs.Openings.{any_err, holds_settled, opened_taken_back, opens_refused, opens_still, way_applies, stays_keeps, stays_opens}
-use Rattle.par2_tool.proofs.opening.open_with.Goals.{In-Ok-Halfway}
+use Rattle.par2_tool.proofs.Openings.{any_err, counted_without, holds_settled, opened_taken_back, opens_still, opens_without, unopened_without, way_applies, stays_keeps, stays_opens}
+use Rattle.par2_tool.proofs.opening.open_with.Goals.{In-Halfway}
 use Rattle.par2_tool.proofs.opening.open_with.Goals as goal
 
 -- what is to be taken back
-opens_so : (g : _) (c : In-Ok-Halfway g) → Opens c.args.folder.files c.args.text.now (Ok (Halfway (session_of_kept (session_before c.in-Ok-Halfway.halfway)) (way_left c.in-Ok-Halfway.halfway)))
-opens_so g c = subst (λ found. Opens c.args.folder.files c.args.text.now (Ok (opened_of found))) c.in-Ok-Halfway.field-0-is c.in-Ok-Halfway.ensures.opened
+opens_so : (g : _) (c : In-Halfway g) → Opens c.args.folder.files c.args.text.now (Ok (Halfway (session_of_kept (session_before c.in-Halfway.halfway)) (way_left c.in-Halfway.halfway)))
+opens_so g c = subst (λ found. Opens c.args.folder.files c.args.text.now (Ok (opened_of found))) c.in-Halfway.is c.in-Ok.ensures.opened
 
-pub returns-in-Err-FolderChanged-false-default-clause-opened : goal.returns-in-Err-FolderChanged-false-default-clause-opened
-returns-in-Err-FolderChanged-false-default-clause-opened g c honest read =
-    let arm = c.in-Err-FolderChanged-false-default in
-    let contents = g.S.Store.contents c.args.store.now in
-    let session = c.new.result in
-    let started : Started = record { session = session_of_kept session; dropped = true } in
-    let same = ap (λ (f : FolderState). f.files) c.new.ensures.folder ∙ arm.ensures.files in
-    Rattle.par2_tool.proofs.Outcomes.opened_on contents started
-    (opens_refused contents c.args.folder.files c.args.text.now arm.field-0-0 (FolderChanged false) (Ok started) read arm.ensures.refused
-    (arm.field-0-0-is ∙ ap FolderChanged arm.field-0-0-0-test) (λ memory. cc)
-    (ap (λ (s : Session). Ok (record { session = s; dropped = true })) (is_new session c.args.folder.files same c.new.ensures.undos c.new.ensures.redos)))
-    (ap (λ (k : Contents). k.files) read ∙ sym same)
+-- the journal is refused
+pub returns-in-Err-clause-opened : goal.returns-in-Err-clause-opened
+returns-in-Err-clause-opened g c honest read = opens_without _ _ _ c.in-Err.fault c.without_journal.result _ c.in-Err.ensures.files c.without_journal.ensures read c.in-Err.ensures.refused
 
-pub returns-in-Ok-Settled-clause-opened : goal.returns-in-Ok-Settled-clause-opened
-returns-in-Ok-Settled-clause-opened g c honest read =
-    let opens = subst (λ found. Opens c.args.folder.files c.args.text.now (Ok (opened_of found))) c.in-Ok-Settled.field-0-is c.in-Ok-Settled.ensures.opened in
-    let holds = holds_settled (g.S.Store.contents c.args.store.now) c.args.folder.files c.args.text.now (session_of_kept c.in-Ok-Settled.session) read opens in
+pub returns-in-Err-clause-opens : goal.returns-in-Err-clause-opens
+returns-in-Err-clause-opens g c honest read =
+    stays_opens g.S.Store c.args.store.now c.without_journal.result
+    (unopened_without _ _ _ c.in-Err.fault c.without_journal.result _ c.in-Err.ensures.files c.without_journal.ensures read c.in-Err.ensures.refused)
+
+pub returns-in-Err-clause-keeps : goal.returns-in-Err-clause-keeps
+returns-in-Err-clause-keeps g c =
+    stays_keeps g.S.Store c.args.store.now c.without_journal.result
+    (counted_without (g.S.Store.contents c.args.store.now) _ c.args.text.now c.in-Err.fault c.without_journal.result _ c.in-Err.ensures.files c.without_journal.ensures _)
+
+pub returns-in-Settled-clause-opened : goal.returns-in-Settled-clause-opened
+returns-in-Settled-clause-opened g c honest read =
+    let opens = subst (λ found. Opens c.args.folder.files c.args.text.now (Ok (opened_of found))) c.in-Settled.is c.in-Ok.ensures.opened in
+    let holds = holds_settled (g.S.Store.contents c.args.store.now) c.args.folder.files c.args.text.now (session_of_kept c.in-Settled.session) read opens in
     record { opens = holds.opens; holds = holds; left = inl refl }
 
-pub returns-in_ok-session-in-Ok-Halfway-clause-opened : goal.returns-in_ok-session-in-Ok-Halfway-clause-opened
-returns-in_ok-session-in-Ok-Halfway-clause-opened g c honest read =
+pub returns-in_ok-session-in-Halfway-clause-opened : goal.returns-in_ok-session-in-Halfway-clause-opened
+returns-in_ok-session-in-Halfway-clause-opened g c honest read =
     let old = g.S.Store.contents c.args.store.now in
     let new = g.S.Store.contents c.take_back.new.store in
     let text = c.args.text.now in
-    let halfway = c.in-Ok-Halfway.halfway in
-    let arm = c.in_ok-session-in-Ok-Halfway in
-    let opens = opens_so g (goal.at.returns-in_ok-session-in-Ok-Halfway-clause-opened g c).In-Ok-Halfway in
+    let halfway = c.in-Halfway.halfway in
+    let arm = c.in_ok-session-in-Halfway in
+    let opens = opens_so g (goal.at.returns-in_ok-session-in-Halfway-clause-opened g c).In-Halfway in
     subst (λ (s : KeptSession). IsOpened old new (with_history (session_of_kept s))) (sym arm.ensures.session)
     (opened_taken_back old new c.args.folder.files text (session_of_kept (session_before halfway)) (way_left halfway) read opens ((arm.ensures.taken honest).done))
 
 -- a halfway command is taken back, or not
-pub returns-in_err-session-in-Ok-Halfway-clause-opens : goal.returns-in_err-session-in-Ok-Halfway-clause-opens
-returns-in_err-session-in-Ok-Halfway-clause-opens g c honest read =
+pub returns-in_err-session-in-Halfway-clause-opens : goal.returns-in_err-session-in-Halfway-clause-opens
+returns-in_err-session-in-Halfway-clause-opens g c honest read =
     let old = g.S.Store.contents c.args.store.now in
     let files = c.args.folder.files in
     let text = c.args.text.now in
-    let session = session_of_kept (session_before c.in-Ok-Halfway.halfway) in
-    let back = way_left c.in-Ok-Halfway.halfway in
-    let opens = opens_so g (goal.at.returns-in_err-session-in-Ok-Halfway-clause-opens g c).In-Ok-Halfway in
+    let session = session_of_kept (session_before c.in-Halfway.halfway) in
+    let back = way_left c.in-Halfway.halfway in
+    let opens = opens_so g (goal.at.returns-in_err-session-in-Halfway-clause-opens g c).In-Halfway in
     let taken = c.take_back.ensures.taken honest in
     record {
       unopened = record {
         refused = search rules;
         stopped = λ apart.
             any_err c.from_residual.result (OpensAsBefore old (g.S.Store.contents c.take_back.new.store))
-            (opens_still old (g.S.Store.contents c.take_back.new.store) files text session back read opens apart (c.in_err-session-in-Ok-Halfway.ensures.taken honest).stopped);
+            (opens_still old (g.S.Store.contents c.take_back.new.store) files text session back read opens apart (c.in_err-session-in-Halfway.ensures.taken honest).stopped);
       };
       cut = λ lasts apart left may. opens_still old left files text session back read opens apart (taken.remains lasts left may);
       possible = taken.possible (way_applies old files text session back read opens);
       calls =
           let told = err_from_is_err_and c.from_residual.result c.from_residual.ensures.1 in
           back_calls old files text session back _ _ c.from_residual.result read opens
-          (refused_calls _ _ _ c.from_residual.result _ told.0 told.1 told.2 c.in_err-session-in-Ok-Halfway.ensures.calls.refused);
+          (refused_calls _ _ _ c.from_residual.result _ told.0 told.1 told.2 c.in_err-session-in-Halfway.ensures.calls.refused);
     }
 
-pub returns-in_ok-session-in-Ok-Halfway-clause-opens : goal.returns-in_ok-session-in-Ok-Halfway-clause-opens
-returns-in_ok-session-in-Ok-Halfway-clause-opens g c honest read =
+pub returns-in_ok-session-in-Halfway-clause-opens : goal.returns-in_ok-session-in-Halfway-clause-opens
+returns-in_ok-session-in-Halfway-clause-opens g c honest read =
     let old = g.S.Store.contents c.args.store.now in
     let files = c.args.folder.files in
     let text = c.args.text.now in
-    let session = session_of_kept (session_before c.in-Ok-Halfway.halfway) in
-    let back = way_left c.in-Ok-Halfway.halfway in
-    let opens = opens_so g (goal.at.returns-in_ok-session-in-Ok-Halfway-clause-opens g c).In-Ok-Halfway in
+    let session = session_of_kept (session_before c.in-Halfway.halfway) in
+    let back = way_left c.in-Halfway.halfway in
+    let opens = opens_so g (goal.at.returns-in_ok-session-in-Halfway-clause-opens g c).In-Halfway in
     let taken = c.take_back.ensures.taken honest in
     record {
       unopened = record { refused = tt; stopped = λ _. tt };
       cut = λ lasts apart left may. opens_still old left files text session back read opens apart (taken.remains lasts left may);
       possible = taken.possible (way_applies old files text session back read opens);
       calls =
-          back_calls old files text session back _ _ _ read opens (record { opened = c.in_ok-session-in-Ok-Halfway.ensures.calls.opened; refused = tt });
+          back_calls old files text session back _ _ _ read opens (record { opened = c.in_ok-session-in-Halfway.ensures.calls.opened; refused = tt });
     }
 
 -- nothing is done to the store
-pub returns-in-Ok-Settled-clause-opens : goal.returns-in-Ok-Settled-clause-opens
-returns-in-Ok-Settled-clause-opens g c honest read = stays_opens g.S.Store c.args.store.now _ (record { refused = tt; stopped = λ _. tt })
+pub returns-in-Settled-clause-opens : goal.returns-in-Settled-clause-opens
+returns-in-Settled-clause-opens g c honest read = stays_opens g.S.Store c.args.store.now _ (record { refused = tt; stopped = λ _. tt })
 
-pub returns-in-Err-FolderChanged-false-default-clause-opens : goal.returns-in-Err-FolderChanged-false-default-clause-opens
-returns-in-Err-FolderChanged-false-default-clause-opens g c honest read = stays_opens g.S.Store c.args.store.now _ (record { refused = tt; stopped = λ _. tt })
-
-pub returns-in-Err-FolderChanged-true-default-clause-opens : goal.returns-in-Err-FolderChanged-true-default-clause-opens
-returns-in-Err-FolderChanged-true-default-clause-opens g c honest read =
-    let arm = c.in-Err-FolderChanged-true-default in
-    stays_opens g.S.Store c.args.store.now _ (record {
-      refused = (
-        opens_refused (g.S.Store.contents c.args.store.now) c.args.folder.files c.args.text.now arm.field-0-0 (FolderChanged true) (Err (FolderChanged true)) read arm.ensures.refused
-            (arm.field-0-0-is ∙ ap FolderChanged arm.field-0-0-0-test) (λ memory. cc) refl,
-        refl,
-      );
-      stopped = λ _. inl refl;
-    })
-
-pub returns-in-Err-JournalInvalid-default-clause-opens : goal.returns-in-Err-JournalInvalid-default-clause-opens
-returns-in-Err-JournalInvalid-default-clause-opens g c honest read =
-    let arm = c.in-Err-JournalInvalid-default in
-    stays_opens g.S.Store c.args.store.now _ (record {
-      refused = (
-        opens_refused (g.S.Store.contents c.args.store.now) c.args.folder.files c.args.text.now arm.field-0-0 JournalInvalid (Err JournalInvalid) read arm.ensures.refused
-            arm.field-0-0-is (λ memory. cc) refl,
-        refl,
-      );
-      stopped = λ _. inl refl;
-    })
-
-pub returns-in-Err-Memory-default-clause-opens : goal.returns-in-Err-Memory-default-clause-opens
-returns-in-Err-Memory-default-clause-opens g c honest read = stays_opens g.S.Store c.args.store.now _ (record { refused = refl; stopped = λ _. inl refl })
-
-pub returns-in-Ok-Settled-clause-keeps : goal.returns-in-Ok-Settled-clause-keeps
-returns-in-Ok-Settled-clause-keeps g c = stays_keeps g.S.Store c.args.store.now _ tt
-
-pub returns-in-Err-FolderChanged-false-default-clause-keeps : goal.returns-in-Err-FolderChanged-false-default-clause-keeps
-returns-in-Err-FolderChanged-false-default-clause-keeps g c = stays_keeps g.S.Store c.args.store.now _ tt
-
-pub returns-in-Err-FolderChanged-true-default-clause-keeps : goal.returns-in-Err-FolderChanged-true-default-clause-keeps
-returns-in-Err-FolderChanged-true-default-clause-keeps g c = stays_keeps g.S.Store c.args.store.now _ refl
-
-pub returns-in-Err-JournalInvalid-default-clause-keeps : goal.returns-in-Err-JournalInvalid-default-clause-keeps
-returns-in-Err-JournalInvalid-default-clause-keeps g c = stays_keeps g.S.Store c.args.store.now _ refl
-
-pub returns-in-Err-Memory-default-clause-keeps : goal.returns-in-Err-Memory-default-clause-keeps
-returns-in-Err-Memory-default-clause-keeps g c = stays_keeps g.S.Store c.args.store.now _ refl
+pub returns-in-Settled-clause-keeps : goal.returns-in-Settled-clause-keeps
+returns-in-Settled-clause-keeps g c = stays_keeps g.S.Store c.args.store.now _ tt

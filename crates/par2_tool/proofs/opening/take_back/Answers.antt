@@ -1,40 +1,35 @@
-use Rattle.par2_tool.proofs.Common.{rules, ◌≡◌, IsTrue, map, length, sym, ap, subst, ◌∙◌, arith, length-map, are_applicable, session_of_kept, change_of, session_before, way_left, IsStillHalfway}
+use Rattle.par2_tool.proofs.Common.{rules, ◌≡◌, IsTrue, map, length, sym, ap, subst, ◌∙◌, arith, None, length-map, are_applicable, session_of_kept, change_of, session_before, way_left, Contents, IsStillHalfway, IsStoppedAt}
 use Rattle.par2_tool.proofs.Openings.{still_halfway}
 use Rattle.par2_tool.proofs.opening.take_back.Goals.{After-write_down}
 use Rattle.par2_tool.proofs.opening.take_back.Goals as goal
 
-pub returns-in-Ok-clause-taken : goal.returns-in-Ok-clause-taken
-returns-in-Ok-clause-taken g c honest =
+-- wherever it stops
+still_so : (g : _) (c : After-write_down g) (left : Contents) → IsStoppedAt (g.S.Store.contents c.args.store.now) (record { halfway = None; after = c.in_ok-settled.field-0 }) (map change_of c.changes.result.now) left
+    → IsStillHalfway (session_of_kept (session_before c.args.halfway)) (way_left c.args.halfway) (g.S.Store.contents c.args.store.now) left
+still_so g c left stop =
     let old = g.S.Store.contents c.args.store.now in
     let session = session_of_kept (session_before c.args.halfway) in
-    record {
-      done = search rules;
-      stopped = tt;
-      kept = c.in-Ok.ensures.kept honest;
-      remains = λ lasts left may.
-          subst (λ changes. IsStillHalfway session changes old left) c.changes.ensures
-          (still_halfway old left session (map change_of c.changes.result.now) c.in_ok-after.after c.in_ok-after.ensures (c.write_down.ensures.written.remains honest lasts left may));
-      memory = search rules;
-      possible = λ all. c.write_down.ensures.possible honest (subst (λ changes. IsTrue (are_applicable old.files changes)) (sym c.changes.ensures) all);
-    }
+    subst (λ changes. IsStillHalfway session changes old left) c.changes.ensures (still_halfway old left session (map change_of c.changes.result.now) c.in_ok-settled.field-0 c.in_ok-settled.ensures stop)
+
+pub returns-in-Ok-clause-taken : goal.returns-in-Ok-clause-taken
+returns-in-Ok-clause-taken g c honest = record {
+  done = search rules;
+  stopped = tt;
+  kept = c.in-Ok.ensures.kept honest;
+  remains = λ lasts left may. still_so g (goal.at.returns-in-Ok-clause-taken g c).After-write_down left (c.write_down.ensures.written.remains honest lasts left may);
+  memory = search rules;
+  possible = λ all. c.write_down.ensures.possible honest (subst (λ changes. IsTrue (are_applicable (g.S.Store.contents c.args.store.now).files changes)) (sym c.changes.ensures) all);
+}
 
 pub returns-in-Err-clause-taken : goal.returns-in-Err-clause-taken
-returns-in-Err-clause-taken g c honest =
-    let old = g.S.Store.contents c.args.store.now in
-    let new = g.S.Store.contents c.write_down.new.store in
-    let session = session_of_kept (session_before c.args.halfway) in
-    record {
-      done = tt;
-      stopped =
-          subst (λ changes. IsStillHalfway session changes old new) c.changes.ensures
-          (still_halfway old new session (map change_of c.changes.result.now) c.in_ok-after.after c.in_ok-after.ensures (c.in-Err.ensures.written.stopped honest));
-      kept = tt;
-      remains = λ lasts left may.
-          subst (λ changes. IsStillHalfway session changes old left) c.changes.ensures
-          (still_halfway old left session (map change_of c.changes.result.now) c.in_ok-after.after c.in_ok-after.ensures (c.write_down.ensures.written.remains honest lasts left may));
-      memory = search rules;
-      possible = λ all. c.write_down.ensures.possible honest (subst (λ changes. IsTrue (are_applicable old.files changes)) (sym c.changes.ensures) all);
-    }
+returns-in-Err-clause-taken g c honest = record {
+  done = tt;
+  stopped = still_so g (goal.at.returns-in-Err-clause-taken g c).After-write_down _ (c.in-Err.ensures.written.stopped honest);
+  kept = tt;
+  remains = λ lasts left may. still_so g (goal.at.returns-in-Err-clause-taken g c).After-write_down left (c.write_down.ensures.written.remains honest lasts left may);
+  memory = search rules;
+  possible = λ all. c.write_down.ensures.possible honest (subst (λ changes. IsTrue (are_applicable (g.S.Store.contents c.args.store.now).files changes)) (sym c.changes.ensures) all);
+}
 
 -- the writing calls of the way back
 way_length : (g : _) (c : After-write_down g) → length c.changes.result.now ≡ length (way_left c.args.halfway)

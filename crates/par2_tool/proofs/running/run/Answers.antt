@@ -1,4 +1,4 @@
-use Rattle.par2_tool.proofs.Common.{by_either, ◌≡◌, ◌+◌, map, inl, inr, [], arith, false, refl, sym, ap, subst, ◌∙◌, string_bytes, false≢true, Action, Contents, Started, session_of_kept, command_of, status_of, CountsFailedRun, calls_asked, started_of, IsOpened, outcome_of, failure_for, Answered, Failed, IsBack, IsCause, IsFailed, IsUnread, IsPrinted, IsStopped, IsKept, same_Some, AskFor, Failure}
+use Rattle.par2_tool.proofs.Common.{by_either, ◌≡◌, ◌+◌, map, inl, inr, [], arith, false, refl, sym, ap, subst, ◌∙◌, string_bytes, false≢true, Action, Contents, Started, session_of_kept, command_of, status_of, CountsFailedRun, calls_asked, started_of, IsOpened, outcome_of, failure_for, Answered, Failed, IsBack, IsCause, IsChanged, IsFailed, IsUnread, IsPrinted, IsStopped, IsKept, same_Some, AskFor, Failure}
 use Rattle.par2_printing.specs.Views.{words_asked}
 use Rattle.par2_spec.specs.declared.Failure.TheVariants as failure
 use Rattle.par2_tool.proofs.Outcomes.{done_for, files_of, no_way_back, verify_failed, cut_of_command, opening_cause, opening_failed, perform_cause, perform_failed, stopped_opening}
@@ -18,13 +18,13 @@ returns-in-Err-clause-told g c =
     let words = map string_bytes c.args.words.now in
     let store = c.args.store.now in
     let told : IsUnread words c.from.result =
-    subst (λ (failure : Failure). IsUnread words failure) (sym c.from.ensures) (unread_words words c.in-Err.fault c.in-Err.ensures.arguments) in (
-      Failed [] c.from.result,
-      inl (refl, told, refl {a = g.S.Store.failures store}),
-      (c.fail.ensures, refl {a = c.args.out.now}),
-      λ _. inl (told, refl {a = g.S.Store.contents store}),
-      λ _. inl (told, refl {a = g.S.Store.writing_calls store}),
-    )
+    subst (λ (failure : Failure). IsUnread words failure) (sym c.from.ensures) (unread_words words c.in-Err.fault c.in-Err.ensures.arguments) in record {
+      telling = Failed [] c.from.result;
+      told = inl (refl, told, refl {a = g.S.Store.failures store});
+      shown = (c.fail.ensures, refl {a = c.args.out.now});
+      leaves = λ _. inl (told, refl {a = g.S.Store.contents store});
+      calls = λ _. inl (told, refl {a = g.S.Store.writing_calls store});
+    }
 
 pub returns-in-Err-open_for-clause-told : goal.returns-in-Err-open_for-clause-told
 returns-in-Err-open_for-clause-told g c =
@@ -36,13 +36,13 @@ returns-in-Err-open_for-clause-told g c =
     let new = g.S.Store.contents opened in
     let fault = c.in-Err-open_for.fault in
     let opens = c.in-Err-open_for.ensures.opens in
-    let is = sym c.from-in-Err-open_for.ensures in (
-      Failed (words_asked action) c.from-in-Err-open_for.result,
-      inr (action, asked, refl, subst (λ (f : Failure). IsCause action (g.S.Store.failures store) (g.S.Store.failures opened) f) is (opening_cause action _ _ fault c.in-Err-open_for.ensures.keeps.failures.counted)),
-      (c.fail-in-Err-open_for.ensures, refl {a = c.args.out.now}),
-      λ honest. inr (action, asked, subst (λ (f : Failure). IsFailed action old new f) is (opening_failed action old new fault (opens honest).unopened.refused (opens honest).unopened.stopped)),
-      λ honest. inr (action, asked, subst (λ (f : Failure). CountsFailedRun action old (g.S.Store.writing_calls store) (g.S.Store.writing_calls opened) f) is (opening_calls action old _ _ fault (opens honest).calls)),
-    )
+    let is = sym c.from-in-Err-open_for.ensures in record {
+      telling = Failed (words_asked action) c.from-in-Err-open_for.result;
+      told = inr (action, asked, refl, subst (λ (f : Failure). IsCause action (g.S.Store.failures store) (g.S.Store.failures opened) f) is (opening_cause action _ _ fault c.in-Err-open_for.ensures.keeps.failures.counted));
+      shown = (c.fail-in-Err-open_for.ensures, refl {a = c.args.out.now});
+      leaves = λ honest. inr (action, asked, subst (λ (f : Failure). IsFailed action old new f) is (opening_failed action old new fault (opens honest).unopened.refused (opens honest).unopened.stopped));
+      calls = λ honest. inr (action, asked, subst (λ (f : Failure). CountsFailedRun action old (g.S.Store.writing_calls store) (g.S.Store.writing_calls opened) f) is (opening_calls action old _ _ fault (opens honest).calls));
+    }
 
 pub returns-then-is_back-clause-told : goal.returns-then-is_back-clause-told
 returns-then-is_back-clause-told g c =
@@ -50,19 +50,16 @@ returns-then-is_back-clause-told g c =
     let action = command_of c.in-Ok.command in
     let back = c.is_back.ensures.back c.if-is_back.true in
     let opened = c.in-Ok-open_for.ensures in
-    let found = opened.opened in (
-      Failed (words_asked action) failure.FolderChanged,
-      inr (action, asked, refl, opened.keeps.failures.steady),
-      (c.fail-then-is_back.ensures, refl {a = c.args.out.now}),
-      λ honest. inr (
-        action,
-        asked,
-        by_either found.1
-            (λ same. inr (back, found.0, found.2 honest, ap (λ (t : Started). t.dropped) same ∙ c.if-dropped.true))
-            (λ verify. absurd (no_way_back action verify.0 back)),
-      ),
-      λ honest. let counted = (opened.opens honest).calls in inr (action, asked, (counted.0, counted.1, counted.2.opened)),
-    )
+    let found = opened.opened in record {
+      telling = Failed (words_asked action) failure.FolderChanged;
+      told = inr (action, asked, refl, opened.keeps.failures.steady);
+      shown = (c.fail-then-is_back.ensures, refl {a = c.args.out.now});
+      leaves = λ honest.
+          let changed : IsChanged action (g.S.Store.contents c.args.store.now) (g.S.Store.contents c.open_for.new.store) =
+          by_either found.1 (λ same. inr (back, found.0, found.2 honest, ap (λ (t : Started). t.dropped) same ∙ c.if-dropped.true)) (λ verify. absurd (no_way_back action verify.0 back)) in
+          inr (action, asked, changed);
+      calls = λ honest. let counted = (opened.opens honest).calls in inr (action, asked, (counted.0, counted.1, counted.2.opened));
+    }
 
 pub returns-in-Ok-perform-clause-told : goal.returns-in-Ok-perform-clause-told
 returns-in-Ok-perform-clause-told g c =
@@ -79,22 +76,16 @@ returns-in-Ok-perform-clause-told g c =
     done_for (g.S.Store.honest store) old (g.S.Store.contents c.open_for.new.store) (g.S.Store.contents c.perform.new.store)
     found.0 (session_of_kept started.session) (session_of_kept c.perform.new.session) started.dropped outcome found.2
     action found.1 performed.answer performed.session performed.leads
-    (λ honest files. performed.written (opening.keeps.honest honest) files) in (
-      Answered done.0 outcome,
-      (action, asked, performed.steady ∙ opening.keeps.failures.steady, session_of_kept started.session, performed.answer),
-      (subst (λ text. IsPrinted g.O.Write.contents c.args.out.now c.tell.new.out text (status_of outcome) c.tell.result) (sym done.1) c.tell.ensures, refl {a = c.args.err.now}),
-      λ honest. (action, asked, done.2 honest),
-      λ honest. (
-        action,
-        asked,
-        let counted = (opening.opens honest).calls in
-            let calls = calls_asked (session_of_kept started.session) action in (
-              counted.0 + calls,
-              run_calls action old (g.S.Store.writing_calls store) (g.S.Store.writing_calls c.open_for.new.store) (g.S.Store.writing_calls c.perform.new.store) counted.0 found.0 (session_of_kept started.session) counted.1 (found.2 honest).opens counted.2.opened (stands_calls action found.0 (started_of started) found.1),
-              omega (arith, counted.2.opened, performed.calls),
-            ),
-      ),
-    )
+    (λ honest files. performed.written (opening.keeps.honest honest) files) in record {
+      telling = Answered done.0 outcome;
+      told = (action, asked, performed.steady ∙ opening.keeps.failures.steady, session_of_kept started.session, performed.answer);
+      shown = (subst (λ text. IsPrinted g.O.Write.contents c.args.out.now c.tell.new.out text (status_of outcome) c.tell.result) (sym done.1) c.tell.ensures, refl {a = c.args.err.now});
+      leaves = λ honest. (action, asked, done.2 honest);
+      calls = λ honest.
+          let counted = (opening.opens honest).calls in
+          let run = run_calls action old (g.S.Store.writing_calls store) (g.S.Store.writing_calls c.open_for.new.store) (g.S.Store.writing_calls c.perform.new.store) counted.0 found.0 (session_of_kept started.session) counted.1 (found.2 honest).opens counted.2.opened (stands_calls action found.0 (started_of started) found.1) in
+          (action, asked, (counted.0 + calls_asked (session_of_kept started.session) action, run, omega (arith, counted.2.opened, performed.calls)));
+    }
 
 pub returns-clause-told : goal.returns-clause-told
 returns-clause-told g c =
@@ -123,26 +114,18 @@ returns-clause-told g c =
           fault performed.refused (performed.unchanged (opening.keeps.honest honest)) (performed.stopped (opening.keeps.honest honest) there.holds.files))
       | inr verify ↦ verify_failed action old mid new found.0 started.session c.perform.new.session verify.0 verify.1 (found.2 honest)
           (ap g.S.Store.contents (c.perform.ensures.verify verify.0).0) (g.S.Store.failures opened) (g.S.Store.failures after) fault performed.refused
-    ]) in (
-      Failed (words_asked action) c.from-in-Err-perform.result,
-      inr (
-        action,
-        asked,
-        refl,
-        subst (λ (f : Failure). IsCause action (g.S.Store.failures store) (g.S.Store.failures after) f) is
-            (perform_cause action started.session c.perform.new.session _ (g.S.Store.failures opened) _ fault opening.keeps.failures.steady performed.refused),
-      ),
-      (c.fail-in-Err-perform.ensures, refl {a = c.args.out.now}),
-      λ honest. inr (action, asked, subst (λ (f : Failure). IsFailed action old new f) is (failing honest)),
-      λ honest. inr (
-        action,
-        asked,
-        subst (λ (f : Failure). CountsFailedRun action old (g.S.Store.writing_calls store) (g.S.Store.writing_calls after) f) is (
-            let counted = (opening.opens honest).calls in
-            perform_calls action old (g.S.Store.writing_calls store) (g.S.Store.writing_calls opened) (g.S.Store.writing_calls after) counted.0 found.0 (session_of_kept started.session) counted.1 (found.2 honest).opens counted.2.opened (stands_calls action found.0 (started_of started) found.1)
-            fault c.perform.ensures.at_most performed.unwritten),
-      ),
-    )
+    ]) in record {
+      telling = Failed (words_asked action) c.from-in-Err-perform.result;
+      told =
+          let cause = perform_cause action started.session c.perform.new.session _ (g.S.Store.failures opened) _ fault opening.keeps.failures.steady performed.refused in
+          inr (action, asked, refl, subst (λ (f : Failure). IsCause action (g.S.Store.failures store) (g.S.Store.failures after) f) is cause);
+      shown = (c.fail-in-Err-perform.ensures, refl {a = c.args.out.now});
+      leaves = λ honest. inr (action, asked, subst (λ (f : Failure). IsFailed action old new f) is (failing honest));
+      calls = λ honest.
+          let counted = (opening.opens honest).calls in
+          let run = perform_calls action old (g.S.Store.writing_calls store) (g.S.Store.writing_calls opened) (g.S.Store.writing_calls after) counted.0 found.0 (session_of_kept started.session) counted.1 (found.2 honest).opens counted.2.opened (stands_calls action found.0 (started_of started) found.1) fault c.perform.ensures.at_most performed.unwritten in
+          inr (action, asked, subst (λ (f : Failure). CountsFailedRun action old (g.S.Store.writing_calls store) (g.S.Store.writing_calls after) f) is run);
+    }
 
 -- ---- what a cut leaves
 
