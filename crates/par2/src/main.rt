@@ -34,8 +34,7 @@ fn words_in(args: Args, alloc: Global) -> Result<Vec<String>, AllocError>
 fn words_of(given: io::Result<Args>, alloc: Global) -> Result<Vec<String>, Failure>
     ensures words { IfOk given (λ args. IfOk result (λ words.
         words.items ≡ drop 1 (into_iter_items args))) }
-    ensures whole { IsOk given
-        → IfErr result (λ failure. failure ≡ Failure.Refused Fault.Memory) }
+    ensures whole { IsOk given → IfErr result (λ failure. failure ≡ Failure.Refused Fault.Memory) }
     ensures memory { IfErr given (λ error. error_kind error ≡ ErrorKind.OutOfMemory
         → IsErrOf result (Failure.Refused Fault.Memory)) }
     ensures arguments { IfErr given (λ error. (error_kind error ≡ ErrorKind.OutOfMemory → ⊥)

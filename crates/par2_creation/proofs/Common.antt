@@ -1,6 +1,6 @@
 -- The names that proofs of this crate take from elsewhere.
 
-pub use Rattle.std.proofs.Common.{Bool, Bor, Err, Global, List, None, Option, Result, Some, Vec, [], ap, append-nil, append_assoc, ap₂, arith, below_more, cond, drop, eqb, false, get_or, inl, inr, length, length-append, map, mul-le-mul_right, nat_le, nat_lt, not, refl, replicate, rules, string_bytes, subst, suc, sym, take, tests, true, zero, zero-add, ℕ, ◌%◌, ◌&&◌, ◌*◌, ◌++◌, ◌+◌, ◌-◌, ◌/◌, ◌<◌, ◌||◌, ◌∙◌, ◌∷◌, ◌≡◌, ◌≤◌, ◌⊎◌}
+pub use Rattle.std.proofs.Common.{Bool, Bor, Err, Global, List, None, Option, Some, Vec, [], ap, append-nil, append_assoc, ap₂, arith, below_more, cond, drop, eqb, false, get_or, inl, inr, length, length-append, map, mul-le-mul_right, nat_le, nat_lt, not, refl, replicate, rules, string_bytes, subst, suc, sym, take, tests, true, zero, zero-add, ℕ, ◌%◌, ◌&&◌, ◌*◌, ◌++◌, ◌+◌, ◌-◌, ◌/◌, ◌<◌, ◌||◌, ◌∙◌, ◌∷◌, ◌≡◌, ◌≤◌}
 pub use Rattle.std.proofs.lemmas.Bool.{and_from, and_parts, cases_lt, eq-eqb, eqb-false, eqb-true, false_from_ne_true, false≢true, le-leb, le-ltb, leb-true, lt-ltb, ltb-false, ltb-true, ne_eqb, not-false, not-true, not_from_false, not_from_true, or_from, or_parts}
 pub use Rattle.std.proofs.lemmas.Grind.{div_ceil_times, flat_map-append}
 pub use Rattle.std.proofs.lemmas.Iterator.{YieldsList-from_slice, items_from_collect}
@@ -11,7 +11,7 @@ pub use Rattle.std.proofs.lemmas.List.Sums.{position_or_len_is, sum_by-cons, sum
 pub use Rattle.std.proofs.lemmas.Result.{IfOk-weaker, err_from_is_err_and, on_ok_weaker}
 pub use Rattle.std.proofs.lemmas.Simd.{map-map}
 pub use Rattle.std.specs.List.{AllByRecursion, IsDistinct, cons_option, enumerate_from, list_any, position_or_len, range_with_len, starts_with}
-pub use Rattle.std.specs.Prelude.{IfErr, IfOk, IfSome, IsErrOf, codes, filter, filter_map, flat_map, is_some, nat_eq, option_map, position, sum_by, ◌==◌}
+pub use Rattle.std.specs.Prelude.{IfOk, IfSome, codes, filter, filter_map, flat_map, is_some, nat_eq, option_map, position, sum_by, ◌==◌}
 pub use Rattle.std.specs.Str.{bytes_eq, is_utf8}
 pub use Rattle.std.specs.Vec.Iter.{into_iter_items, into_iter_len}
 pub use Rattle.par2_creation.specs.Faults.{duplicate_input, long_name, there_already}
@@ -32,13 +32,16 @@ pub use Rattle.par2_spec.proofs.CreateLaws.{create_applies, names_of_outputs}
 pub use Rattle.par2_spec.proofs.ListsLaws.{any-map, map-cond, range-append}
 pub use Rattle.par2_spec.proofs.NameTests.{name_is_short, name_of, tests_of}
 pub use Rattle.par2_spec.proofs.NamesLaws.{AreDistinct, clash, distinct_from_std, distinct_same, std_from_distinct}
+pub use Rattle.par2_spec.proofs.PassedAnswers.{answered_so, never_found, refused_by}
+pub use Rattle.par2_spec.proofs.Places.{position-map}
 pub use Rattle.par2_spec.proofs.ReadLaws.{distinct_by_length, size_parts}
-pub use Rattle.par2_spec.proofs.TestLaws.{all_none, at_none, err_again, where_none}
+pub use Rattle.par2_spec.proofs.TestLaws.{all_none, at_none, where_none}
 pub use Rattle.par2_spec.proofs.TreeLaws.{holds_more, name_order}
 pub use Rattle.par2_spec.specs.Changes.{Change, are_applicable, effects}
 pub use Rattle.par2_spec.specs.Commands.{Create, CreateArgs, files_of, outputs_of}
 pub use Rattle.par2_spec.specs.Faults.{fault_at, fault_where, first_fault}
 pub use Rattle.par2_spec.specs.Folders.{File, Folder, bytes_of, has}
+pub use Rattle.par2_spec.specs.NameTrees.{HoldsNames}
 pub use Rattle.par2_spec.specs.Names.{distinct, is_among, is_name, is_par_name}
 pub use Rattle.par2_spec.specs.Packets.{packet}
 pub use Rattle.par2_spec.specs.Plans.{create_changes}
@@ -52,6 +55,6 @@ pub use Rattle.par2_spec.specs.Views.{create_args_of}
 pub use Rattle.par2_spec.specs.Volumes.{all_slices, creator_bytes, desc_bytes, five_digits, id_of, ifsc_bytes, in_id_order, main_bytes, main_id, packet_of, recovery_bytes, recovery_packets, stem, volume_name, volume_numbers, volume_size, volumes_before}
 unfoldable pub use Rattle.par2_spec.specs.Volumes.{index_packets, record_of, volumes}
 pub use Rattle.par2_spec.specs.declared.Fault.{Fault}
-pub use Rattle.par2_spec.specs.declared.Fault.TheVariants.{BadBase, BadCount, BadName, BadSliceSize, DuplicateId, DuplicateInput, EmptyFile, Memory, NameTooLong, NoInput, NoSuchFile, TooManySlices}
+pub use Rattle.par2_spec.specs.declared.Fault.TheVariants.{BadBase, BadCount, BadName, BadSliceSize, DuplicateId, DuplicateInput, EmptyFile, NameTooLong, NoInput, NoSuchFile, TooManySlices}
 pub use Rattle.par2_spec.specs.declared.Kind.TheVariants.{Creator, FileDesc, Ifsc, Main, Recovery}
 pub use Rattle.par2_transform.specs.declared.outputs.Place.{Place}

@@ -3,7 +3,6 @@ mod GoodWords
 mod Ids
 mod IndexBytes
 mod OutputChanges
-mod PassedAnswers
 mod Places
 mod RefusalGroups
 mod SliceCounts

@@ -1,6 +1,5 @@
 -- The first place whose item passes a test.
-use Rattle.par2_creation.proofs.Common.{◌≡◌, ℕ, ◌+◌, ◌<◌, List, [], ◌∷◌, length, map, get_or, take, refl, sym, ap, ap₂, ◌∙◌, Bool, true, false, not, cond, Some, nat_lt, arith, None, position, option_map, sum_by, ◌==◌, position_or_len, enumerate_from, lt-ltb, le-ltb, length-map, position_or_len_is, get_or-enumerate_from, length-enumerate_from, first_fault, fault_where, is_among, slice_count, Folder, File, has, bytes_of, files_of, NoSuchFile, EmptyFile, TooManySlices, files_fault, Bor, Option, name_order}
-use Rattle.std.specs.BTreeSet.{BTreeSet, contains}
+use Rattle.par2_creation.proofs.Common.{◌≡◌, ℕ, ◌+◌, ◌<◌, List, [], ◌∷◌, length, map, get_or, take, refl, sym, ap, ap₂, ◌∙◌, Bool, true, false, not, cond, Some, nat_lt, arith, None, Bor, Option, position, option_map, sum_by, ◌==◌, position_or_len, enumerate_from, lt-ltb, le-ltb, length-map, position_or_len_is, get_or-enumerate_from, length-enumerate_from, first_fault, fault_where, is_among, slice_count, Folder, File, has, bytes_of, files_of, NoSuchFile, EmptyFile, TooManySlices, files_fault, name_order, position-map}
 
 pub found_at : {X : Type 0} (p : X → Bool) (xs : List X) (i : ℕ) (d : X) → i < length xs → ((k : ℕ) → k < i → p (get_or xs k d) ≡ false) → p (get_or xs i d) ≡ true → position p xs ≡ Some i
 found_at p xs i d low none here =
@@ -12,18 +11,7 @@ found_nowhere p xs d none =
     let e : position_or_len p xs ≡ length xs = position_or_len_is p xs (length xs) d (omega arith) none (λ h. absurd (omega (arith, h))) in
     ap (λ n. cond (nat_lt n (length xs)) (Some n) None) e ∙ ap (λ b. cond b (Some (length xs)) None) (le-ltb (length xs) (length xs) (omega arith))
 
-len-map : {X Y : Type 0} (p : Y → Bool) (g : X → Y) (xs : List X) → position_or_len p (map g xs) ≡ position_or_len (λ x. p (g x)) xs
-len-map p g [] = refl
-len-map p g (x ∷ xs) = ap (λ n. cond (not (p (g x))) (1 + n) 0) (len-map p g xs)
-
-pub position-map : {X Y : Type 0} (p : Y → Bool) (g : X → Y) (xs : List X) → position p (map g xs) ≡ position (λ x. p (g x)) xs
-position-map p g xs = ap₂ (λ a b. cond (nat_lt a b) (Some a) None) (len-map p g xs) (length-map xs g)
-
 -- ---- the first name that was there before
-
--- a tree holds exactly these names
-abbrev pub HoldsNames : BTreeSet (Bor (List ℕ)) → List (List ℕ) → Type 0
-HoldsNames tree names = (name : Bor (List ℕ)) → contains (name_order (λ (k : Bor (List ℕ)). k.now)) tree name ≡ is_among names name.now
 
 -- whether name k is among those before it
 abbrev pub comes_again : List (List ℕ) → ℕ → Bool

@@ -1,5 +1,5 @@
 -- The refusal of a create, by its groups of causes.
-use Rattle.par2_creation.proofs.Common.{◌≡◌, ℕ, List, [], ◌∷◌, length, sym, ap, ap₂, ◌∙◌, nat_lt, not, ◌&&◌, Bool, arith, ◌==◌, sum_by, list_any, fault_where, fault_at, first_fault, is_name, is_par_name, slice_count, is_slice_size, are_counts, bad_name, head_fault, create_refusal, refusal, early_refusal, duplicate_input, long_name, there_already, files_fault, ids_fault, inputs_fault, BadSliceSize, BadCount, BadBase, NoInput, NoSuchFile, EmptyFile, TooManySlices, map-map, Folder, File, has, volume_numbers, CreateArgs, Create, files_of, outputs_of, any-map, Fault, volume_at, output_names, Option, names_of_outputs}
+use Rattle.par2_creation.proofs.Common.{◌≡◌, ℕ, List, [], ◌∷◌, length, sym, ap, ap₂, ◌∙◌, nat_lt, not, ◌&&◌, Bool, arith, Option, ◌==◌, sum_by, list_any, fault_where, fault_at, first_fault, is_name, is_par_name, slice_count, is_slice_size, are_counts, bad_name, head_fault, create_refusal, refusal, early_refusal, duplicate_input, long_name, there_already, files_fault, ids_fault, inputs_fault, BadSliceSize, BadCount, BadBase, NoInput, NoSuchFile, EmptyFile, TooManySlices, map-map, Folder, File, has, volume_numbers, CreateArgs, Create, files_of, outputs_of, any-map, Fault, volume_at, output_names, names_of_outputs}
 
 any_output : (folder : Folder) (a : CreateArgs) (test : List ℕ → Bool) → list_any (λ file. test file.0) (outputs_of folder a) ≡ list_any test (output_names a)
 any_output folder a test =

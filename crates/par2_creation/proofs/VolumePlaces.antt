@@ -1,5 +1,5 @@
 -- Where the recovery slices of volumes lie, and what the volumes are once they are written there.
-use Rattle.par2_creation.proofs.Common.{drop_at, ext_get_or, get_or-take, get_or-drop, get_or_append_left, get_or-append_right, length-map, get_or-map, length-replicate, take_all, inl, inr, ℕ, zero, suc, ◌+◌, ◌-◌, ◌*◌, ◌/◌, ◌%◌, ◌<◌, ◌≤◌, ◌≡◌, refl, sym, ap, ap₂, subst, ◌∙◌, arith, List, [], ◌∷◌, ◌++◌, length, length-append, get_or, map, take, drop, zero-add, mul-le-mul_right, flat_map, range_with_len, enumerate_from, cases_lt, length-map-range_with_len, get_or-map-range_with_len, length-range_with_len, get_or-range_with_len, length-enumerate_from, get_or-enumerate_from, padded, list_at, ArePieces, undigested, length-pieces, piece_at, drop_behind, head_of, length-head, length-undigested, undigested_is, part_from, Place, output_at, AreWritten, AreZeros, HasSlices, inputs_of, exponents_in, length_with, nth_volume, place_in, places_in, places_of, slice_of, volume_with, Volume, Parts, length-flat_map-take, replicate, exponents_of}
+use Rattle.par2_creation.proofs.Common.{drop_at, ext_get_or, get_or-take, get_or-drop, get_or_append_left, get_or-append_right, length-map, get_or-map, length-replicate, take_all, inl, inr, ℕ, zero, suc, ◌+◌, ◌-◌, ◌*◌, ◌/◌, ◌%◌, ◌<◌, ◌≤◌, ◌≡◌, refl, sym, ap, ap₂, subst, ◌∙◌, arith, List, [], ◌∷◌, ◌++◌, length, length-append, get_or, map, take, drop, zero-add, mul-le-mul_right, replicate, flat_map, range_with_len, enumerate_from, cases_lt, length-map-range_with_len, get_or-map-range_with_len, length-range_with_len, get_or-range_with_len, length-enumerate_from, get_or-enumerate_from, padded, list_at, ArePieces, undigested, length-pieces, piece_at, drop_behind, head_of, length-head, length-undigested, undigested_is, part_from, Place, output_at, AreWritten, AreZeros, HasSlices, inputs_of, exponents_in, length_with, nth_volume, place_in, places_in, places_of, slice_of, volume_with, exponents_of, Volume, Parts, length-flat_map-take}
 use Rattle.par2_transform.specs.Adding.{place_at, AreApart, HasByte, LieWithin}
 use Rattle.par2_spec.specs.Recovery.{recovery}
 use Rattle.std.proofs.lemmas.List.Concat.{get_or-flat_map}

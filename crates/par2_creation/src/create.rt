@@ -7,7 +7,7 @@ ghost use Rattle.par2_spec.specs.Plans as plans;
 ghost use Rattle.par2_spec.specs.Views.{create_args_of};
 ghost use Rattle.par2_recovery.specs.Views.{AreRecords};
 ghost use Rattle.par2_folder.specs.Landmarks.{AreLandmarksOf};
-ghost use Rattle.par2_creation.specs.Answers.{FailsAs, RefusesEarly, SucceedsAs};
+ghost use Rattle.par2_spec.specs.Planned.{FailsAs, RefusesEarly, SucceedsAs};
 ghost use Rattle.par2_creation.specs.Faults.{inputs_fault};
 ghost use Rattle.par2_creation.specs.Outputs.{RecordsInputs, volumes_asked};
 

@@ -107,8 +107,7 @@ fn read_change(alloc: Global, bytes: &[u8]) -> Result<(Change, &[u8]), DecodeFau
 
 // As many changes. The list grows by changes that were read, never by the count that is claimed.
 fn read_changes(alloc: Global, count: u64, bytes: &[u8]) -> Result<(Changes, &[u8]), DecodeFault>
-    ensures { Gives (λ x. (x.0, x.1.now)) result
-        (reads.many_at reads.change_at count bytes.now) }
+    ensures { Gives (λ x. (x.0, x.1.now)) result (reads.many_at reads.change_at count bytes.now) }
 {
     let mut changes = Changes::new(alloc);
     let mut rest = bytes;

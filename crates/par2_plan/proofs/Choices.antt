@@ -1,5 +1,6 @@
 -- Lists that grow item by item, and a list whose items come once.
-use Rattle.par2_plan.proofs.Common.{◌≡◌, ℕ, List, [], ◌∷◌, ◌++◌, refl, ap, ◌∙◌, Bool, true, false, not, cond, ◌||◌, ◌&&◌, append-nil, filter, bytes_eq, bytes_eq-Decides, filter-append, is_among, distinct, same_either_way, AreDistinct, among-filter, distinct-filter, and-false}
+use Rattle.par2_plan.proofs.Common.{◌≡◌, ℕ, List, [], ◌∷◌, ◌++◌, refl, ap, ◌∙◌, Bool, true, false, not, cond, ◌||◌, ◌&&◌, append-nil, filter, bytes_eq, bytes_eq-Decides, filter-append, is_among, distinct, same_either_way, AreDistinct, among-filter, distinct-filter}
+use Rattle.std.proofs.Math.Bool.{and-false}
 
 -- ---- each once
 

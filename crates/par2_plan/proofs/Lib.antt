@@ -6,8 +6,6 @@ mod Drafts
 mod MatchNumbers
 mod SliceLists
 mod Pairs
-mod PassedAnswers
-mod Places
 mod PlanParts
 mod Present
 mod RepairParts

@@ -1,15 +1,15 @@
 -- Trees that are made of lists.
-use Rattle.par2_plan.proofs.Common.{◌≡◌, ◌∙◌, ◌||◌, ℕ, List, [], ◌∷◌, map, refl, ap, ap₂, false, cond, subst, zip, Option, list_any, BTreeMap, HoldsAsides, itself, clash, is_among, BTreeSet, IsFromIterResult, slice_cmp, nat_cmp, nat_list_cmp_total, eq_by_cmp, eq_by_cmp_equiv, update_all_pairs}
+use Rattle.par2_plan.proofs.Common.{◌≡◌, ◌∙◌, ◌||◌, ℕ, List, [], ◌∷◌, map, refl, ap, ap₂, false, cond, subst, zip, Option, list_any, BTreeMap, HoldsAsides, itself, clash, is_among, BTreeSet, IsFromIterResult, slice_cmp, nat_list_cmp_total, nat_cmp, eq_by_cmp, None, Some, IfOk, Result, YieldsList, items_from_drains, HoldsNames}
+use Rattle.std.specs.Cmp.{eq_by_cmp_equiv}
+use Rattle.std.proofs.lemmas.Map.Made.{update_all_pairs}
 use Rattle.std.specs.Borrow.{Bor}
-use Rattle.std.specs.Prelude.{None, Some, Ok, Err, IfOk, Result}
+use Rattle.std.specs.Prelude.{Ok, Err}
 use Rattle.std.specs.Map.{update_all}
 use Rattle.std.specs.Iterator.{DrainsIf}
-use Rattle.std.proofs.lemmas.Iterator.{YieldsList, items_from_drains}
 use Rattle.std.proofs.lemmas.Map.Lookups.{exact_bytes}
 use Rattle.std.proofs.lemmas.Map.Text.{is_eq-slice_cmp}
 use Rattle.std.proofs.lemmas.Map.Views.{tells_apart}
-use Rattle.par2_sets.specs.Asides.{HoldsNames}
-use Rattle.par2_plan.specs.Matches.{name_cmp}
+use Rattle.par2_spec.specs.NameTrees.{name_cmp}
 use Rattle.par2_plan.specs.Matches as references
 use Rattle.std.specs.BTreeMap as trees
 

@@ -1,7 +1,5 @@
-pub mod Answers
 pub mod Drafts
 pub mod Findings
-pub mod Matches
 pub mod Repairing
 pub mod Restoring
 pub mod SliceTexts

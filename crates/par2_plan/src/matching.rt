@@ -6,7 +6,7 @@ ghost use Rattle.par2_spec.specs.Search as search;
 ghost use Rattle.par2_slices.specs.Matching.{Describe};
 ghost use Rattle.par2_spec.specs.Answers.{Lists};
 ghost use Rattle.par2_spec.specs.Names.{is_among};
-ghost use Rattle.par2_plan.specs.Matches.{HoldsNames};
+ghost use Rattle.par2_spec.specs.NameTrees.{HoldsNames};
 
 use par2_folder::{Folder, Name};
 use par2_recovery::file_texts;

@@ -5,7 +5,7 @@ ghost use Rattle.par2_spec.specs.Commands.{Purge};
 ghost use Rattle.par2_spec.specs.Plans.{purge_changes};
 ghost use Rattle.par2_spec.specs.Refusals.{purge_refusal};
 ghost use Rattle.par2_spec.specs.Answers.{FailsFor};
-ghost use Rattle.par2_plan.specs.Answers.{FailsAs, GivesChanges, LeadsAs, RefusesEarly, SucceedsAs};
+ghost use Rattle.par2_spec.specs.Planned.{FailsAs, GivesChanges, LeadsAs, RefusesEarly, SucceedsAs};
 
 use crate::Changes;
 use crate::matching::is_needing;

@@ -8,7 +8,7 @@ ghost use Rattle.par2_spec.specs.Search as search;
 ghost use Rattle.par2_plan.specs.Restoring.{md5s_of, undetermined_fault};
 ghost use Rattle.par2_sets.specs.Asides.{HoldsNames};
 ghost use Rattle.par2_spec.specs.Answers.{FailsFor, Lists};
-ghost use Rattle.par2_plan.specs.Answers.{FailsAs, GivesChanges, LeadsAs, RefusesEarly, SucceedsAs, repair_of};
+ghost use Rattle.par2_spec.specs.Planned.{FailsAs, GivesChanges, LeadsAs, RefusesEarly, SucceedsAs, repair_of};
 ghost use Rattle.par2_plan.specs.Drafts.{IsDraft, IsDraftBy};
 ghost use Rattle.par2_plan.specs.Repairing.{IsWholeWhereMatched, AreMoves, AreRestored, known_by, repair_by, WritesAsDescribed};
 

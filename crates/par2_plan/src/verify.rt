@@ -1,7 +1,7 @@
 //! What a verify answers.
 ghost use Rattle.std.specs.Prelude.{◌≡◌, map, string_bytes, IfOk, Ok};
 ghost use Rattle.par2_spec.specs.Reports.{report_in, verdict_of, IsVerdictIn, RefusedAsReported};
-ghost use Rattle.par2_plan.specs.Answers.{FailsIn, RefusesEarly, verify_of};
+ghost use Rattle.par2_spec.specs.Planned.{FailsIn, RefusesEarly, verify_of};
 ghost use Rattle.par2_plan.specs.Views.{report_of};
 
 use crate::Report;

@@ -123,8 +123,7 @@ fn first_crc32s(
 fn is_intact_by(text: &[u8], first: Option<u32>, s: u64, target: &Target) -> bool
     requires size { 1 ≤ s }
     requires first { IfSome first (IsFirst s text.now) }
-    ensures { (t : sets.Target)
-        → Describes target.now t → result ≡ search.is_intact s t text.now }
+    ensures { (t : sets.Target) → Describes target.now t → result ≡ search.is_intact s t text.now }
 {
     if let Some(crc) = first {
         if !target.pairs.is_empty() && target.pairs[0].1 != crc {

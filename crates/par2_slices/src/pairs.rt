@@ -73,8 +73,7 @@ fn whole_md5s(bytes: &[u8], s: usize, first: usize, count: usize) -> [[u8; 16]; 
     requires size { 1 ≤ s }
     requires few { count ≤ 8 }
     requires whole { 1 ≤ count → (first + count) * s ≤ length bytes.now }
-    ensures { (k : ℕ)
-        → k < count → digest_at result k ≡ md5 (slice_at s bytes.now (first + k)) }
+    ensures { (k : ℕ) → k < count → digest_at result k ≡ md5 (slice_at s bytes.now (first + k)) }
 {
     if count == 0 {
         return [[0; 16]; LANES];
@@ -95,8 +94,7 @@ pub(crate) fn slice_md5s(bytes: &[u8], s: u64, first: usize, count: usize) -> [[
     requires few { count ≤ 8 }
     requires fits { first + count < 2 ^ 64 }
     requires slices { first + count ≤ slice_count s (length bytes.now) }
-    ensures { (k : ℕ)
-        → k < count → digest_at result k ≡ md5 (slice_at s bytes.now (first + k)) }
+    ensures { (k : ℕ) → k < count → digest_at result k ≡ md5 (slice_at s bytes.now (first + k)) }
 {
     let whole = (bytes.len() as u64 / s) as usize;
     let together = side_by_side(count.min(whole.saturating_sub(first)));

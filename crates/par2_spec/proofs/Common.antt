@@ -32,13 +32,13 @@ pub use Rattle.std.specs.FinMap.Entries.{below_all, by_order, is_sorted, put}
 pub use Rattle.std.specs.Int.{bit_at, div_ceil, from_le_bytes, to_le_bytes, w128, w16, w32, w64}
 pub use Rattle.std.specs.Int.Bits.{xor_assoc, xor_self, xor_shifted, xor_zero_l, xor_zero_r}
 pub use Rattle.std.specs.Int.RustNames.{bit_xor}
-pub use Rattle.std.specs.List.{AllAdjacentBelow, AllByRecursion, AllZip, Contains, concat, cons_option, enumerate_from, list_all, list_any, position_from, prefix_len, range_with_len, starts_with, suffix_len}
+pub use Rattle.std.specs.List.{AllAdjacentBelow, AllByRecursion, AllZip, Contains, concat, cons_option, enumerate_from, list_all, list_any, position_from, position_or_len, prefix_len, range_with_len, starts_with, suffix_len}
 unfoldable pub use Rattle.std.specs.List.{IsDistinct}
 pub use Rattle.std.specs.List.Sorted.{IsNonDecreasingBy, IsStrictlyIncreasing}
 unfoldable pub use Rattle.std.specs.List.Sorted.{IsStrictlySortedBy}
 pub use Rattle.std.specs.Option.{ForSome, option_or}
 pub use Rattle.std.specs.Ordering.{eq_by_cmp, is_eq, is_lt, nat_cmp}
-pub use Rattle.std.specs.Prelude.{Err, IfSome, IsPermutation, None, Ok, Option, Result, Some, codes, decimal, filter, filter_map, find, flat_map, fold, if◌then◌else◌, is_none, is_ok, is_some, min, nat_eq, nat_le, nat_lt, ok_or, option_and_then, option_map, option_to_list, position, replicate, reverse, slice_index, slice_index_or, sum_by, unwrap_or, zip, ◌==◌, ◌↔◌}
+pub use Rattle.std.specs.Prelude.{Err, IfErr, IfOk, IfSome, IsErrOf, IsPermutation, None, Ok, OnErr, OnOk, Option, Result, Some, codes, decimal, filter, filter_map, find, flat_map, fold, if◌then◌else◌, is_none, is_ok, is_some, min, nat_eq, nat_le, nat_lt, ok_or, option_and_then, option_map, option_to_list, position, replicate, reverse, slice_index, slice_index_or, sum_by, unwrap_or, zip, ◌==◌, ◌↔◌}
 pub use Rattle.std.specs.Str.{IsUtf8, bytes_eq, is_utf8}
 pub use Rattle.std.specs.declared.cmp.Ordering.{Ordering}
 pub use Rattle.std.specs.declared.cmp.Ordering.TheVariants.{Equal}
@@ -90,5 +90,5 @@ pub use Rattle.par2_spec.specs.Volumes.{FileRecord, IsFileRecord, all_slices, cr
 unfoldable pub use Rattle.par2_spec.specs.Volumes.{in_id_order, index_packets, record_of, volumes}
 pub use Rattle.par2_spec.specs.Windows.{found, is_match, window, windows}
 pub use Rattle.par2_spec.specs.declared.Fault.{Fault}
-pub use Rattle.par2_spec.specs.declared.Fault.TheVariants.{BadBase, BadCount, BadSet, BadSliceSize, NameTooLong, NoChecksums, NoDescription, NoInput, NoMain, NoSuchFile, NotRepairable, RepairFailed}
+pub use Rattle.par2_spec.specs.declared.Fault.TheVariants.{BadBase, BadCount, BadSet, BadSliceSize, Memory, NameTooLong, NoChecksums, NoDescription, NoInput, NoMain, NoSuchFile, NotRepairable, RepairFailed}
 pub use Rattle.par2_spec.specs.declared.Kind.{Kind}

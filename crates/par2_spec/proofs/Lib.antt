@@ -10,6 +10,7 @@ pub mod PolynomialLaws
 pub mod FolderLaws
 pub mod CommandLaws
 pub mod TestLaws
+pub mod PassedAnswers
 pub mod NamesLaws
 pub mod NameTests
 pub mod TreeLaws
@@ -22,6 +23,7 @@ pub mod ReadLaws
 pub mod RepairLaws
 pub mod ReportLaws
 pub mod ListsLaws
+pub mod Places
 pub mod SliceLaws
 pub mod WordLaws
 pub mod ChecksumLaws

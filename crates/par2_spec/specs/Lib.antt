@@ -10,6 +10,7 @@ pub mod Polynomials
 pub mod Runs
 pub mod Packets
 pub mod Names
+pub mod NameTrees
 pub mod Folders
 pub mod Volumes
 pub mod Changes
@@ -32,3 +33,4 @@ pub mod Opening
 pub mod Stores
 pub mod Laws
 pub mod Answers
+pub mod Planned

@@ -1,12 +1,11 @@
-use Rattle.par2_creation.proofs.Common.{◌≡◌, ◌∙◌, ◌∷◌, inr, refl, sym, ap, ap₂, subst, true, Some, Err, List, ℕ, map, string_bytes, None, is_par_name, err_from_is_err_and, Folder, Create, CreateArgs, bad_name, early_refusal, refusal, create_args_of, Fault, Volume, long_name, there_already, inputs_fault, volumes_of, names_of, output_names, Option, are_applicable, effects, changes_of, after, create_applies}
+use Rattle.par2_creation.proofs.Common.{◌≡◌, ◌∙◌, ◌∷◌, inr, refl, sym, ap, ap₂, subst, true, Some, Err, List, ℕ, map, string_bytes, None, Option, is_par_name, err_from_is_err_and, Folder, Create, CreateArgs, bad_name, early_refusal, refusal, after, create_args_of, Fault, Volume, long_name, there_already, inputs_fault, volumes_of, names_of, output_names, are_applicable, effects, changes_of, create_applies, answered_so, never_found}
 use Rattle.par2_spec.proofs.EarlyLaws.{refused_early}
 use Rattle.par2_spec.proofs.CommandLaws.{create_leads}
 use Rattle.par2_creation.proofs.GoodWords.{head_passed}
 use Rattle.par2_creation.proofs.VolumeNumbers.{long_without_base}
 use Rattle.par2_creation.proofs.RefusalGroups.{early_by, refused_by}
-use Rattle.par2_creation.proofs.PassedAnswers.{answered_so, never_found}
 use Rattle.par2_creation.proofs.create.plan_create.Goals.{In-Some, After-set_of_inputs, After-there_already}
-use Rattle.par2_creation.proofs.PassedAnswers as passed
+use Rattle.par2_spec.proofs.PassedAnswers as passed
 use Rattle.par2_creation.proofs.create.plan_create.Goals as goal
 
 -- a word is bad: that is answered before memory is wanted

@@ -1,5 +1,5 @@
-use Rattle.par2_creation.proofs.Common.{◌≡◌, ◌<◌, ℕ, false, take}
-use Rattle.par2_creation.proofs.Places.{HoldsNames, comes_again}
+use Rattle.par2_creation.proofs.Common.{◌≡◌, ◌<◌, ℕ, false, take, HoldsNames}
+use Rattle.par2_creation.proofs.Places.{comes_again}
 use Rattle.par2_creation.proofs.inputs.no_duplicate.Given as goal
 
 abbrev pub invariant-loop-i : goal.invariant-loop-i

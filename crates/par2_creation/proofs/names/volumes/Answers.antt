@@ -1,5 +1,4 @@
-use Rattle.par2_creation.proofs.Common.{◌≡◌, ◌<◌, ◌≤◌, ◌++◌, ◌∷◌, [], ◌∙◌, ◌||◌, List, Bool, true, false, cond, length, sym, ap, ap₂, subst, append-nil, rules, Some, arith, None, lt-ltb, le-ltb, err_from_is_err_and, Fault, NameTooLong, fault_where, volumes_before, long_name, volume_at, volumes_of, names_of, Volume}
-use Rattle.par2_creation.proofs.PassedAnswers.{refused_by}
+use Rattle.par2_creation.proofs.Common.{◌≡◌, ◌<◌, ◌≤◌, ◌++◌, ◌∷◌, [], ◌∙◌, ◌||◌, List, Bool, true, false, cond, length, sym, ap, ap₂, subst, append-nil, rules, Some, arith, None, lt-ltb, le-ltb, err_from_is_err_and, Fault, NameTooLong, fault_where, volumes_before, long_name, volume_at, volumes_of, names_of, Volume, refused_by}
 use Rattle.par2_creation.proofs.VolumeNumbers.{volumes_below, volumes_more, none_long, one_is_long}
 use Rattle.par2_creation.proofs.names.volumes.Goals.{then-volumes_before-count+in_ok-volume_at+in_ok-push, else-volumes_before-count}
 use Rattle.std.specs.Prelude.{nat_lt}

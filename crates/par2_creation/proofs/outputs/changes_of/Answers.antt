@@ -1,4 +1,4 @@
-use Rattle.par2_creation.proofs.Common.{◌≡◌, ◌∙◌, ◌++◌, ◌∷◌, [], List, map, sym, ap, ap₂, append-nil, map-map, Change, put_change, nil_from_length, into_iter_items, volume_file, as_file}
+use Rattle.par2_creation.proofs.Common.{◌≡◌, ◌∙◌, ◌++◌, ◌∷◌, [], List, map, sym, ap, ap₂, append-nil, map-map, Change, put_change, volume_file, nil_from_length, into_iter_items, as_file}
 use Rattle.par2_creation.proofs.outputs.changes_of.Goals as goal
 
 pub returns : goal.returns

@@ -1,4 +1,4 @@
-use Rattle.par2_creation.proofs.Common.{◌≡◌, ◌∙◌, ◌++◌, ◌∷◌, [], List, ℕ, length, map, sym, ap, ap₂, rules, map-append, map_more, take_all, with_items_is, lists_of, with_slices, Volume, volume_file, as_file}
+use Rattle.par2_creation.proofs.Common.{◌≡◌, ◌∙◌, ◌++◌, ◌∷◌, [], List, ℕ, length, map, sym, ap, ap₂, rules, map-append, map_more, take_all, with_items_is, lists_of, with_slices, as_file, Volume, volume_file}
 use Rattle.std.specs.Vec.{with_items}
 use Rattle.par2_creation.proofs.SliceLists.{some_left, taken}
 use Rattle.par2_creation.proofs.volumes.digested.Goals as goal

@@ -1,4 +1,4 @@
-use Rattle.par2_creation.proofs.Common.{◌≡◌, map, take, drop, lists_of, with_slices, volume_file, as_file}
+use Rattle.par2_creation.proofs.Common.{◌≡◌, map, take, drop, lists_of, with_slices, as_file, volume_file}
 use Rattle.par2_creation.proofs.volumes.digested.Given as goal
 
 abbrev pub invariant-loop-volume : goal.invariant-loop-volume

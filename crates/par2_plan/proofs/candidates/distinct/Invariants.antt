@@ -1,4 +1,5 @@
-use Rattle.par2_plan.proofs.Common.{◌≡◌, take, distinct, HoldsNames}
+use Rattle.par2_plan.proofs.Common.{◌≡◌, take, distinct}
+use Rattle.par2_spec.specs.NameTrees.{HoldsNames}
 use Rattle.par2_plan.proofs.candidates.distinct.Given as goal
 
 abbrev pub invariant-loop-name : goal.invariant-loop-name

@@ -1,8 +1,7 @@
-use Rattle.par2_plan.proofs.Common.{◌≡◌, ◌⊎◌, ◌+◌, ◌∙◌, refl, sym, ap, inl, inr, map, string_bytes, true, false, not, Some, Err, rules, None, ok_or, position, err_from_is_err_and, Fault, NoSuchFile, Memory, has, ParSet, set_of, absent_file, set_in, err_again}
-use Rattle.std.specs.Prelude.{Result}
+use Rattle.par2_plan.proofs.Common.{◌≡◌, ◌⊎◌, ◌+◌, ◌∙◌, refl, sym, ap, inl, inr, map, string_bytes, true, false, not, Err, rules, ok_or, position, err_from_is_err_and, Fault, NoSuchFile, Memory, has, ParSet, set_of, absent_file, set_in, err_again, Result, answered_so, never_found}
+use Rattle.std.proofs.Common.{Some, None}
 use Rattle.par2_sets.specs.Steps.{Gives}
-use Rattle.par2_plan.proofs.PassedAnswers.{answered_so, never_found}
-use Rattle.par2_plan.proofs.Places.{position-map}
+use Rattle.par2_spec.proofs.Places.{position-map}
 use Rattle.par2_plan.proofs.Present.{base_first, extra_first, none_absent, extra_refused, base_absent, all_present, all_there}
 use Rattle.par2_plan.proofs.reading.read.Goals.{In_err-base, After-first_absent, In-Some, After-present_extras, After-set_of}
 use Rattle.par2_plan.specs.declared.reading.Reading.{Reading}

@@ -1,8 +1,8 @@
-use Rattle.par2_plan.proofs.Common.{◌≡◌, ◌⊎◌, ◌∙◌, List, ℕ, map, sym, ap, subst, Some, Err, string_bytes, IfErr, err_from_is_err_and, IfOk-weaker, Repair, set_in, refusal, repair_refusal, early_refusal, candidates, matches, IsDistinct, bytes_eq, std_from_distinct, Fault, Memory, ok_no_err, IsDraft, IsDraftBy, IsWholeWhereMatched}
+use Rattle.par2_plan.proofs.Common.{◌≡◌, ◌⊎◌, ◌∙◌, List, ℕ, map, sym, ap, subst, Err, string_bytes, IfErr, err_from_is_err_and, IfOk-weaker, Repair, set_in, refusal, repair_refusal, early_refusal, candidates, matches, IsDistinct, bytes_eq, std_from_distinct, Fault, Memory, ok_no_err, IsDraft, IsDraftBy, IsWholeWhereMatched, refused_by, err_passed}
+use Rattle.std.proofs.Common.{Some}
 use Rattle.std.proofs.Common.{Option}
 use Rattle.par2_plan.proofs.Choices.{distinct_once}
 use Rattle.par2_plan.proofs.Drafts.{is_draft}
-use Rattle.par2_plan.proofs.PassedAnswers.{refused_by, err_passed}
 use Rattle.par2_plan.proofs.PlanParts.{early_repair, repair_unread, whole_if_matched, repair_refused}
 use Rattle.par2_plan.proofs.repair.draft_repair.Goals.{After-draft_with, In_ok-reading}
 use Rattle.par2_plan.proofs.repair.draft_repair.Goals as goal

@@ -1,7 +1,4 @@
-use Rattle.par2_plan.proofs.Common.{◌≡◌, ◌∙◌, ◌++◌, ◌∷◌, [], List, Bool, ℕ, Option, sym, ap, ap₂, length, map, zip, take, drop, append-nil, append_assoc, map-append, Pair, Target, said_by, said_of, option_map, target_report_of}
-use Rattle.std.specs.Iterator.Adapters.{zip_first, zip_second}
-use Rattle.std.specs.Slice.Iter.{iter_rest}
-use Rattle.std.proofs.lemmas.Slice.Zip.{Zip-more, either_empty_from_Zip}
+use Rattle.par2_plan.proofs.Common.{◌≡◌, ◌∙◌, ◌++◌, ◌∷◌, [], List, Bool, ℕ, sym, ap, ap₂, length, map, take, drop, append-nil, append_assoc, Option, zip, option_map, map-append, Pair, Target, said_by, said_of, target_report_of, zip_first, zip_second, iter_rest, Zip-more, either_empty_from_Zip}
 use Rattle.std.specs.Borrow.{Bor}
 use Rattle.par2_spec.specs.Reports as reports
 use Rattle.par2_plan.specs.declared.report.TargetReport as code

@@ -1,6 +1,4 @@
-use Rattle.par2_plan.proofs.Common.{◌≡◌, ◌++◌, map, zip, reports_by, said_by, target_report_of}
-use Rattle.std.specs.Iterator.Adapters.{zip_first, zip_second}
-use Rattle.std.specs.Slice.Iter.{iter_rest}
+use Rattle.par2_plan.proofs.Common.{◌≡◌, ◌++◌, map, zip, reports_by, said_by, target_report_of, zip_first, zip_second, iter_rest}
 use Rattle.par2_plan.proofs.report.target_reports.Given as goal
 
 abbrev pub invariant-loop-target : goal.invariant-loop-target

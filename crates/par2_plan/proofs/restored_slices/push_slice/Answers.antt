@@ -1,5 +1,5 @@
-use Rattle.par2_plan.proofs.Common.{◌≡◌, ◌∙◌, ◌++◌, ◌+◌, ◌-◌, List, ℕ, length, take, cond, min, rules, ap, ap₂, OnOk, is_ok, replicate, vec_len}
-use Rattle.std.specs.Prelude.{Result, Ok, Err}
+use Rattle.par2_plan.proofs.Common.{◌≡◌, ◌∙◌, ◌++◌, ◌+◌, ◌-◌, List, ℕ, length, take, cond, min, rules, ap, ap₂, OnOk, is_ok, replicate, vec_len, Result}
+use Rattle.std.specs.Prelude.{Ok, Err}
 use Rattle.par2_plan.proofs.Cutting.{one_more_slice}
 use Rattle.par2_plan.proofs.restored_slices.push_slice.Goals as goal
 

@@ -1,7 +1,7 @@
-use Rattle.par2_plan.proofs.Common.{◌≡◌, ◌∙◌, List, ℕ, Ok, Err, Some, map, string_bytes, sym, ap, subst, IsDistinct, bytes_eq, std_from_distinct, err_from_is_err_and, Verify, early_refusal, set_in, candidates, Fault, report_in, ok_no_err, verdict_by_words, refused_as_reported, AreFindings}
+use Rattle.par2_plan.proofs.Common.{◌≡◌, ◌∙◌, List, ℕ, Ok, Err, map, string_bytes, sym, ap, subst, IsDistinct, bytes_eq, std_from_distinct, err_from_is_err_and, Verify, early_refusal, set_in, candidates, Fault, report_in, ok_no_err, verdict_by_words, refused_as_reported, AreFindings, refused_by, err_passed}
+use Rattle.std.proofs.Common.{Some}
 use Rattle.par2_plan.specs.Views.{report_of}
 use Rattle.par2_plan.proofs.Choices.{distinct_once}
-use Rattle.par2_plan.proofs.PassedAnswers.{refused_by, err_passed}
 use Rattle.par2_plan.proofs.PlanParts.{early_verify}
 use Rattle.par2_plan.proofs.ReportValues.{refused_in, answered, few_found}
 use Rattle.par2_plan.proofs.verify.check.Goals.{In_ok-findings, In_ok-reading}

@@ -1,5 +1,6 @@
 -- The first place whose item passes a test.
-use Rattle.par2_plan.proofs.Common.{◌≡◌, ◌+◌, List, [], ◌∷◌, map, refl, ap, ap₂, Bool, not, cond, Some, nat_lt, None, position, position_or_len, length-map}
+use Rattle.par2_spec.proofs.Common.{◌≡◌, ◌+◌, List, [], ◌∷◌, map, refl, ap, ap₂, Bool, not, cond, position, position_or_len, length-map}
+use Rattle.std.proofs.Common.{Some, nat_lt, None}
 
 len-map : {X Y : Type 0} (p : Y → Bool) (g : X → Y) (xs : List X) → position_or_len p (map g xs) ≡ position_or_len (λ x. p (g x)) xs
 len-map p g [] = refl

@@ -1,6 +1,7 @@
 -- Answers that are passed on.
-use Rattle.par2_plan.proofs.Common.{◌≡◌, ◌⊎◌, ◌∙◌, inr, sym, ap, subst, Result, Ok, Err, none-some, same_Some, Option, IfOk, IfErr, IsErrOf, OnOk, OnErr, Fault, Memory, err_again}
-use Rattle.std.specs.Prelude.{None, Some}
+use Rattle.par2_spec.proofs.Common.{◌≡◌, ◌⊎◌, ◌∙◌, inr, sym, ap, subst, none-some, same_Some, Option, IfOk, IfErr, IsErrOf, OnOk, OnErr, Fault, Memory, None, Some}
+use Rattle.std.proofs.Common.{Result, Ok, Err}
+use Rattle.par2_spec.proofs.TestLaws.{err_again}
 use Rattle.std.proofs.Math.Logic.{⊎_map}
 
 -- a fault that is passed on has the cause of the whole, where the cause of its step is one
