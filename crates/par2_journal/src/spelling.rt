@@ -144,8 +144,7 @@ fn both(
     back: &Changes,
     after: &JournalView<'_>,
 ) -> Result<Journals>
-    requires cursor { let entries = after.now.entries.now in
-        after.now.cursor ≤ length entries + length after.now.newer.now }
+    requires cursor { after.now.cursor ≤ length after.now.entries.now + length after.now.newer.now }
     requires each { length fingerprints.now.after_each.items ≡ length back.now }
     ensures halfway { let prints = fingerprints.now.after_each.items in
         IfOk result (λ x. CompletesHalfway front.items x.halfway prints back.now) }

@@ -10,7 +10,7 @@ use Rattle.std.proofs.lemmas.Map.Lookups.{exact_bytes}
 use Rattle.std.proofs.lemmas.Map.Text.{is_eq-slice_cmp}
 use Rattle.std.proofs.lemmas.Map.Views.{tells_apart}
 use Rattle.par2_spec.specs.NameTrees.{name_cmp}
-use Rattle.par2_plan.specs.Matches as references
+use Rattle.par2_spec.specs.NameTrees as references
 use Rattle.std.specs.BTreeMap as trees
 
 member_among : (names : List (List ℕ)) (q : List ℕ) → list_any (eq_by_cmp (slice_cmp nat_cmp) q) names ≡ is_among names q

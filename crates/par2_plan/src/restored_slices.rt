@@ -114,8 +114,7 @@ pub fn all_pairs(alloc: Global, set: &ParSet) -> Result<Vec<Pair>>
 // What survives of a set's slices, which are found in these texts.
 fn survivors_of<'a>(alloc: Global, set: &ParSet<'a>, texts: &[&'a [u8]]) -> Result<Survivors<'a>>
     ensures fit { IfOk result CanRebuild }
-    ensures these { let known = known_in set.now (texts_of texts.now) in
-        IfOk result (AreSurvivors set.now known) }
+    ensures these { IfOk result (AreSurvivors set.now (known_in set.now (texts_of texts.now))) }
 {
     let slice_size = set.slice_size();
     let pairs = all_pairs(alloc, set)?;

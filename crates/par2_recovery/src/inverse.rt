@@ -93,8 +93,7 @@ fn invert_by_elimination<'a>(
 
 /// The bytes of the recovery slices.
 pub(crate) fn bytes_of<'a>(alloc: Global, kept: &[(u32, &'a [u8])]) -> Result<Vec<&'a [u8]>>
-    ensures { IfOk result (λ slices. texts_of slices.items
-        ≡ map (λ r. r.1) (recovered_of kept.now)) }
+    ensures { IfOk result (λ texts. texts_of texts.items ≡ map (λ r. r.1) (recovered_of kept.now)) }
 {
     kept.iter().map(|slice| slice.1).collect(alloc)
 }
