@@ -201,11 +201,11 @@ marks_alike groups crc other alike is = record {
       ∙ is.bit;
 }
 
--- the checksums of the first n pairs were added to a filter without groups
 -- the checksum is of the group of a pair's
 abbrev IsOfPair : List Pair → ℕ → Type 0
 IsOfPair pairs crc = (i : ℕ) × (i < length pairs) × AreAlike (pair_at pairs i).1 crc
 
+-- the checksums of the first n pairs were added to a filter without groups
 pub record IsFilled (pairs : List Pair) (n : ℕ) (filter : Groups) : Type 0 where
   pub marked : (k : ℕ) → k < n → Marks filter (pair_at pairs k).1
   pub only : (crc : ℕ) → Marks filter crc → IsOfPair pairs crc
@@ -223,13 +223,10 @@ filled_more pairs n before after filled low crc marked kept only its = record {
       ];
   only = λ other is.
       elim (only other is) [
-        | inl alike ↦ (n, low, alike_to crc (pair_at pairs n).1 other its alike)
+        | inl alike ↦ (n, low, subst (λ (c : ℕ). AreAlike c other) its alike)
         | inr old ↦ filled.only other old
       ];
 }
-  where
-    alike_to : (a b other : ℕ) → a ≡ b → AreAlike a other → AreAlike b other
-    alike_to a b other e alike = let Its : ℕ → Type 0 = λ c. AreAlike c other in subst Its e alike
 
 -- before the first text
 pub none_answered : (pairs : List Pair) (found : List (Option Spot)) (left : ℕ) (filter : Groups) → found ≡ replicate (length pairs) None → left ≡ length pairs → ((i : ℕ) → i < length pairs → Marks filter (pair_at pairs i).1) → ((crc : ℕ) → Marks filter crc → IsOfPair pairs crc) → IsTally pairs found left filter
@@ -330,9 +327,8 @@ not_settled pairs md5 crc spot old group n found count so_far inside fails =
       done = λ k h. elim (cases_lt k n) [
         | inl early ↦ so_far.done k early
         | inr late ↦ (
-            let Done : ℕ → Type 0 = λ j. answer_at found (place_at group j).index ≡ after_window (has_checksums md5 crc (pair_at pairs (place_at group j).index)) spot (answer_at old (place_at group j).index) in
             let here : n ≡ k = omega (arith, h, late) in
-            subst Done here (kept m spot (answer_at old i) (answer_at found i) (so_far.each i inside) fails)
+            subst (λ (j : ℕ). answer_at found (place_at group j).index ≡ after_window (has_checksums md5 crc (pair_at pairs (place_at group j).index)) spot (answer_at old (place_at group j).index)) here (kept m spot (answer_at old i) (answer_at found i) (so_far.each i inside) fails)
             )
       ];
       total = so_far.total;
@@ -415,14 +411,10 @@ tally_settled pairs md5 crc spot old new left count filter after tally size each
 pub has_is : (pair : Pair) (md5 : List ℕ) (crc : ℕ) → pair.1 ≡ crc → bytes_eq md5 pair.0 ≡ true → has_checksums md5 crc pair ≡ true
 has_is pair md5 crc same equal = and_from (crc == pair.1) _ (eq-eqb crc pair.1 (sym same)) equal
 
--- whether the pair of a place has the checksum and no answer
-pub awaited_is : (crc : ℕ) (found : List (Option Spot)) (place : Place) → place.crc ≡ crc → is_none (answer_at found place.index) ≡ true → is_awaited crc found place ≡ true
-awaited_is crc found place same none = and_from (place.crc == crc) _ (eq-eqb place.crc crc same) none
-
 -- a pair without an answer that isn't awaited has another checksum
 pub not_awaited : (crc : ℕ) (found : List (Option Spot)) (place : Place) (pair : Pair) (md5 : List ℕ) → pair.1 ≡ place.crc → is_awaited crc found place ≡ false → answer_at found place.index ≡ None → has_checksums md5 crc pair ≡ false
 not_awaited crc found place pair md5 same waits none =
-    no_crc pair md5 crc (λ is. let both : true ≡ false = sym (awaited_is crc found place (sym same ∙ is) (ap is_none none)) ∙ waits in cc)
+    no_crc pair md5 crc (λ is. let both : true ≡ false = sym (and_from (place.crc == crc) _ (eq-eqb place.crc crc (sym same ∙ is)) (ap is_none none)) ∙ waits in cc)
 
 pub no_md5 : (pair : Pair) (md5 : List ℕ) (crc : ℕ) → bytes_eq md5 pair.0 ≡ false → has_checksums md5 crc pair ≡ false
 no_md5 pair md5 crc differs = and_right (crc == pair.1) _ differs

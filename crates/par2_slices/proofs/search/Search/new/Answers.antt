@@ -8,8 +8,7 @@ returns-clause-tally c =
     let pairs : List Pair = c.pairs-pairs.result.now in
     let found : List (Option Spot) = c.in_ok-vec.field-0.items in
     let filled = c.in_ok-vec.ensures.items_if_clones_equal in
-    let Tally : List Pair → Type 0 = λ ps. IsTally ps found (length pairs) c.loop-pair.filter in
-    subst Tally c.pairs-pairs.ensures (none_answered pairs found (length pairs) c.loop-pair.filter (filled (λ y h. search rules)) refl (λ i h. c.loop-pair.invariant.marked i (omega arith)) c.loop-pair.invariant.only)
+    subst (λ (ps : List Pair). IsTally ps found (length pairs) c.loop-pair.filter) c.pairs-pairs.ensures (none_answered pairs found (length pairs) c.loop-pair.filter (filled (λ y h. search rules)) refl (λ i h. c.loop-pair.invariant.marked i (omega arith)) c.loop-pair.invariant.only)
 
 pub returns-clause-open : goal.returns-clause-open
 returns-clause-open c i =

@@ -3,8 +3,7 @@ use Rattle.par2_slices.proofs.search.Search.test_four.Goals as goal
 
 pub loop-k-init : goal.loop-k-init
 loop-k-init g c =
-    let At : ℕ → Type 0 = λ o. IsAt c.args.s c.args.bytes.now g.earlier o c.args.wanted.now c.args.self.now.found.items c.args.self.now.left c.args.self.now.filter c.args.self.now.batch.items in
-    subst At (let e : c.args.spot.offset ≡ c.args.spot.offset + 0 = omega arith in e) c.requires.0
+    subst (λ (o : ℕ). IsAt c.args.s c.args.bytes.now g.earlier o c.args.wanted.now c.args.self.now.found.items c.args.self.now.left c.args.self.now.filter c.args.self.now.batch.items) (let e : c.args.spot.offset ≡ c.args.spot.offset + 0 = omega arith in e) c.requires.0
 
 pub loop-k-preserved : goal.loop-k-preserved
 loop-k-preserved g c =

@@ -19,5 +19,4 @@ returns c =
     let Next : ℕ → Type 0 = λ n. IsStart places (group + 1) n in
     let first : First start = subst First (get_or_default starts group 0 start (omega (arith, low, begins.len)) ∙ sym c.index.ensures) (begins.each group (omega (arith, low))) in
     let next : Next end = subst Next (get_or_default starts (group + 1) 0 end (omega (arith, low, begins.len)) ∙ sym c.index-2.ensures) (begins.each (group + 1) (omega (arith, low))) in
-    let Among : List Place → Type 0 = λ ps. HoldsGroup pairs crc (take (end - start) (drop start ps)) in
-    subst (λ (ps : List Pair). HoldsGroup ps crc (take (end - start) (drop start c.deref.result.now))) c.self.view_is (subst Among (sym c.deref.ensures.value) (group_of pairs places crc start end index first next))
+    subst (λ (ps : List Pair). HoldsGroup ps crc (take (end - start) (drop start c.deref.result.now))) c.self.view_is (subst (λ (ps : List Place). HoldsGroup pairs crc (take (end - start) (drop start ps))) (sym c.deref.ensures.value) (group_of pairs places crc start end index first next))
