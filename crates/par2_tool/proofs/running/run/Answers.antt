@@ -1,4 +1,4 @@
-use Rattle.par2_tool.proofs.Common.{by_either, ◌≡◌, ◌+◌, map, inl, inr, [], arith, false, refl, sym, ap, subst, ◌∙◌, string_bytes, false≢true, Action, Contents, Started, session_of_kept, command_of, status_of, CountsFailedRun, calls_asked, started_of, IsOpened, outcome_of, failure_for, Answered, Failed, IsBack, IsCause, IsChanged, IsFailed, IsUnread, IsPrinted, IsStopped, IsKept, same_Some, AskFor, Failure}
+use Rattle.par2_tool.proofs.Common.{by_either, ◌≡◌, ◌+◌, map, inl, inr, [], arith, false, refl, sym, ap, subst, ◌∙◌, string_bytes, Action, Contents, Started, session_of_kept, command_of, status_of, CountsFailedRun, calls_asked, started_of, IsOpened, outcome_of, failure_for, Answered, Failed, IsBack, IsCause, IsChanged, IsFailed, IsUnread, IsPrinted, IsStopped, IsKept, same_Some, AskFor, Failure}
 use Rattle.std.proofs.Common.{le_trans}
 use Rattle.par2_printing.specs.Views.{words_asked}
 use Rattle.par2_spec.specs.declared.Failure.TheVariants as failure
