@@ -1,5 +1,4 @@
-use Rattle.par2_tool.proofs.Common.{inl, ◌≡◌, ◌+◌, List, length, refl, sym, ap, subst, ◌∙◌, map, arith, IsVerify, after_write_down, AreSomeMade, HoldsJournaled, IsStoppedAt, IsWritten, length-map, Verify, LeadsToAfterAsked, session_of_kept, session_after, changes_asked, Contents, action_of, command_of, report_of, MayRefuse, Plan, Two, AreSpelled, change_of, changes_by_kind, after_commit, AreAtMost, calls_asked, calls_to_write, TellsApartAlong, OpensAsBeforeOrAfter, journals_of}
-use Rattle.std.proofs.Common.{le_refl, le-add_right}
+use Rattle.par2_tool.proofs.Common.{inl, ◌≡◌, ◌+◌, List, length, refl, sym, ap, subst, ◌∙◌, map, arith, IsVerify, after_write_down, AreSomeMade, HoldsJournaled, IsStoppedAt, IsWritten, length-map, Verify, LeadsToAfterAsked, session_of_kept, session_after, changes_asked, Contents, action_of, command_of, report_of, MayRefuse, Plan, Two, AreSpelled, change_of, changes_by_kind, after_commit, AreAtMost, calls_asked, calls_to_write, TellsApartAlong, OpensAsBeforeOrAfter, journals_of, le_refl, le-add_right}
 use Rattle.par2_spec.specs.Changes as defined
 use Rattle.par2_spec.specs.declared.commands.Command.{Command}
 use Rattle.par2_spec.proofs.AcceptedCommands.{command_leads}
@@ -106,14 +105,8 @@ returns-in_err-journals-clause-at_most g c = record { later = le_refl (g.S.Store
 pub returns-in-Ok-write_down-clause-later : goal.returns-in-Ok-write_down-clause-later
 returns-in-Ok-write_down-clause-later g c = c.write_down.ensures.failures.later
 
-pub returns-in-Ok-write_down-clause-honest : goal.returns-in-Ok-write_down-clause-honest
-returns-in-Ok-write_down-clause-honest g c = c.write_down.ensures.written.honest
-
 pub returns-in-Err-write_down-clause-later : goal.returns-in-Err-write_down-clause-later
 returns-in-Err-write_down-clause-later g c = c.write_down.ensures.failures.later
-
-pub returns-in-Err-write_down-clause-honest : goal.returns-in-Err-write_down-clause-honest
-returns-in-Err-write_down-clause-honest g c = c.write_down.ensures.written.honest
 
 -- ---- no action is a verify
 

@@ -1,5 +1,4 @@
-use Rattle.par2_tool.proofs.Common.{by_either, ◌≡◌, ◌+◌, map, inl, inr, [], arith, false, refl, sym, ap, subst, ◌∙◌, string_bytes, Action, Contents, Started, session_of_kept, command_of, status_of, CountsFailedRun, calls_asked, started_of, IsOpened, outcome_of, failure_for, Answered, Failed, IsBack, IsCause, IsChanged, IsFailed, IsUnread, IsPrinted, IsStopped, IsKept, same_Some, AskFor, Failure}
-use Rattle.std.proofs.Common.{le_trans}
+use Rattle.par2_tool.proofs.Common.{by_either, ◌≡◌, ◌+◌, map, inl, inr, [], arith, false, refl, sym, ap, subst, ◌∙◌, string_bytes, Action, Contents, Started, session_of_kept, command_of, status_of, CountsFailedRun, calls_asked, started_of, IsOpened, outcome_of, failure_for, Answered, Failed, IsBack, IsCause, IsChanged, IsFailed, IsUnread, IsPrinted, IsStopped, IsKept, same_Some, AskFor, Failure, le_trans}
 use Rattle.par2_printing.specs.Views.{words_asked}
 use Rattle.par2_spec.specs.declared.Failure.TheVariants as failure
 use Rattle.par2_tool.proofs.Outcomes.{done_for, files_of, no_way_back, verify_failed, cut_of_command, opening_cause, opening_failed, perform_cause, perform_failed, stopped_opening}
@@ -125,19 +124,7 @@ returns-clause-told g c =
           inr (action, asked, subst (λ (f : Failure). CountsFailedRun action old (g.S.Store.writing_calls store) (g.S.Store.writing_calls after) f) is run);
     }
 
--- ---- the store is as honest afterwards, and its failures are counted on
-
-pub returns-in-Err-open_for-clause-honest : goal.returns-in-Err-open_for-clause-honest
-returns-in-Err-open_for-clause-honest g c = c.in-Err-open_for.ensures.keeps.honest
-
-pub returns-then-lacks_history-clause-honest : goal.returns-then-lacks_history-clause-honest
-returns-then-lacks_history-clause-honest g c = c.in-Ok-open_for.ensures.keeps.honest
-
-pub returns-in-Ok-perform-clause-honest : goal.returns-in-Ok-perform-clause-honest
-returns-in-Ok-perform-clause-honest g c honest = c.in-Ok-perform.ensures.honest (c.in-Ok-open_for.ensures.keeps.honest honest)
-
-pub returns-clause-honest : goal.returns-clause-honest
-returns-clause-honest g c honest = c.in-Err-perform.ensures.honest (c.in-Ok-open_for.ensures.keeps.honest honest)
+-- ---- failures are counted on
 
 pub returns-in-Err-open_for-clause-later : goal.returns-in-Err-open_for-clause-later
 returns-in-Err-open_for-clause-later g c = c.in-Err-open_for.ensures.keeps.failures.later
