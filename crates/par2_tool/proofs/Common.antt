@@ -1,6 +1,6 @@
 -- The names that proofs of this crate take from elsewhere.
 
-pub use Rattle.std.proofs.Common.{Bool, Err, IsTrue, List, None, Ok, Option, Result, Some, Vec, [], ap, arith, drop, false, get_or, inl, inr, length, map, refl, replicate, rules, subst, suc, sym, take, true, true≢false, zero, ℕ, ◌++◌, ◌+◌, ◌<◌, ◌∙◌, ◌∷◌, ◌≡◌, ◌≢◌, ◌≤◌, ◌⊎◌}
+pub use Rattle.std.proofs.Common.{Bool, Err, IsTrue, List, None, Ok, Option, Result, Some, Vec, [], ap, arith, drop, false, get_or, inl, inr, le-add_right, le_refl, le_trans, length, map, refl, replicate, rules, subst, suc, sym, take, true, true≢false, zero, ℕ, ◌++◌, ◌+◌, ◌<◌, ◌∙◌, ◌∷◌, ◌≡◌, ◌≢◌, ◌≤◌, ◌⊎◌}
 pub use Rattle.std.proofs.lemmas.Bool.{and_parts, false≢true}
 pub use Rattle.std.proofs.lemmas.List.{length-map, length-replicate, map_more, take-map, take_all}
 pub use Rattle.std.proofs.lemmas.Option.{same_Some}
@@ -14,7 +14,7 @@ pub use Rattle.par2_journal.specs.Ready.{CanBe, Changing, IsReady, Kind, Ready, 
 pub use Rattle.par2_journal.specs.Refusals.{MayRefuse}
 pub use Rattle.par2_journal.specs.Spelling.{AreSpelled, SpellsWhere}
 pub use Rattle.par2_journal.specs.Steps.{step_view}
-pub use Rattle.par2_journal.specs.declared.preparation.SessionFault.TheVariants.{Plan}
+pub use Rattle.par2_journal.specs.declared.preparation.SessionFault.TheVariants.{NothingToRedo, NothingToUndo, Plan}
 pub use Rattle.par2_journal.specs.declared.spelling.Journals.{Journals}
 pub use Rattle.par2_laws.specs.Creates.{may_refuse}
 pub use Rattle.par2_plan.specs.Views.{report_of, target_report_of}
@@ -23,7 +23,7 @@ pub use Rattle.par2_spec.proofs.SessionLaws.{accepted_next, done_can_walk, grown
 pub use Rattle.par2_spec.proofs.StopLaws.{halfway_stored, settled_stored, still_stored, taken_back_leads}
 pub use Rattle.par2_spec.proofs.TestLaws.{by_either}
 pub use Rattle.par2_spec.proofs.WritingLaws.{part_behind, shown_lines_cut, shown_lines_next, took_both, wrote_less, wrote_then}
-pub use Rattle.par2_spec.specs.Changes.{Change, FolderState, are_applicable, takes_all}
+pub use Rattle.par2_spec.specs.Changes.{Change, are_applicable, takes_all}
 unfoldable pub use Rattle.par2_spec.specs.Changes.{effects}
 pub use Rattle.par2_spec.specs.Commands.{Action, Command, Do, Repair, Undo, Verify}
 pub use Rattle.par2_spec.specs.Folders.{Folder}
@@ -44,7 +44,7 @@ pub use Rattle.par2_spec.specs.Texts.{Outcome, line, step_line, target_line, ver
 unfoldable pub use Rattle.par2_spec.specs.Texts.{output_of, report_text, status_of, status_of_failure, status_of_fault}
 pub use Rattle.par2_spec.specs.Views.{action_of, command_of}
 pub use Rattle.par2_spec.specs.declared.Failure.{Failure}
-pub use Rattle.par2_spec.specs.declared.Failure.TheVariants.{Arguments, FolderChanged, JournalInvalid, NothingToRedo, NothingToUndo, Refused, Store}
+pub use Rattle.par2_spec.specs.declared.Failure.TheVariants.{Arguments, FolderChanged, JournalInvalid, Refused, Store}
 pub use Rattle.par2_spec.specs.declared.Fault.{Fault}
 pub use Rattle.par2_spec.specs.declared.Fault.TheVariants.{Memory, NotRepairable, RepairFailed}
 pub use Rattle.par2_spec.specs.declared.JournalFault.{JournalFault}

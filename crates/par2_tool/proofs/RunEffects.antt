@@ -1,4 +1,5 @@
-use Rattle.par2_tool.proofs.Common.{same_Some, ◌≡◌, ◌≢◌, ◌⊎◌, inl, inr, ℕ, ◌<◌, Bool, List, Option, Some, Ok, Err, refl, sym, ap, subst, ◌∙◌, arith, Action, Command, Do, Repair, Folder, Started, Contents, Outcome, status_of, status_of_fault, status_of_failure, Fault, Memory, IsOpening, with_history, TellsApartInRun, Answered, Failed, IsDone, IsFailed, IsRefusedFor, IsUnread, OpensAsBeforeOrAfterRun, Telling, Leaves, Session, changes_asked, changes_unless, Failure, Refused, Store, Arguments, JournalInvalid, FolderChanged, NothingToUndo, NothingToRedo, AskFor, HasNoEffect, TakesEffect, AskForRepair, changes_of, refusal, IsOpened, OnlyTakesBack}
+use Rattle.par2_tool.proofs.Common.{same_Some, ◌≡◌, ◌≢◌, ◌⊎◌, inl, inr, ℕ, ◌<◌, Bool, List, Option, Some, Ok, Err, refl, sym, ap, subst, ◌∙◌, arith, Action, Command, Do, Repair, Folder, Started, Contents, Outcome, status_of, status_of_fault, status_of_failure, Fault, Memory, IsOpening, with_history, TellsApartInRun, Answered, Failed, IsDone, IsFailed, IsRefusedFor, IsUnread, OpensAsBeforeOrAfterRun, Telling, Leaves, Session, changes_asked, changes_unless, Failure, Refused, Store, Arguments, JournalInvalid, FolderChanged, AskFor, HasNoEffect, TakesEffect, AskForRepair, changes_of, refusal, IsOpened, OnlyTakesBack}
+use Rattle.par2_spec.specs.declared.Failure.TheVariants.{NothingToUndo, NothingToRedo}
 use Rattle.par2_spec.specs.History as history
 use Rattle.par2_laws.proofs.RepairAnswers.{IsRepaired, is_repaired}
 use Rattle.par2_tool.proofs.Statuses.{own_status, failure_is_told}

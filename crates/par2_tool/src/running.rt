@@ -7,7 +7,7 @@ ghost use Rattle.par2_tool.specs.Asking.{AskFor};
 ghost use Rattle.par2_tool.specs.Telling.{IsBack, IsRun, IsStopped};
 ghost use Rattle.par2_tool.specs.Writing.{IsKept};
 
-use crate::opening::{Started, open_for};
+use crate::opening::open_for;
 use crate::performing::perform;
 use crate::printing::{fail, tell};
 use par2_folder::FolderStore;
@@ -17,12 +17,12 @@ use par2_words::read_words;
 use std::alloc::Global;
 use std::io::Write;
 
-// Whether a command undoes or does again.
-fn is_back(command: &Command) -> bool
+// Whether a command undoes or does again where the history was dropped, so that there is nothing to go back to.
+fn lacks_history(dropped: bool, command: &Command) -> bool
     ensures back { IsTrue result → IsBack (command_of command.now) }
-    ensures all { IsBack (command_of command.now) → IsTrue result }
+    ensures dropped { IsBack (command_of command.now) → result ≡ dropped }
 {
-    matches!(command, Command::Act(Action::Undo | Action::Redo))
+    dropped && matches!(command, Command::Act(Action::Undo | Action::Redo))
 }
 
 /// The run of [`crate::run`], without what it comes to. What a power cut leaves at any moment opens as before the run
@@ -48,19 +48,15 @@ pub(crate) fn run<S: FolderStore, O: Write, E: Write>(
         Ok(command) => command,
         Err(fault) => return fail(err, None, Failure::from(fault)),
     };
-    let Started {
-        mut session,
-        dropped,
-    } = match open_for(alloc, store, Some(&command)) {
+    let mut started = match open_for(alloc, store, Some(&command)) {
         Ok(started) => started,
         Err(fault) => return fail(err, Some(&command), Failure::from(fault)),
     };
-    // There is nothing to go back to where the history was dropped.
-    if dropped && is_back(&command) {
+    if lacks_history(started.dropped, &command) {
         return fail(err, Some(&command), Failure::FolderChanged);
     }
-    match perform(alloc, store, &mut session, &command) {
-        Ok(outcome) => tell(out, &outcome, dropped),
+    match perform(alloc, store, &mut started.session, &command) {
+        Ok(outcome) => tell(out, &outcome, started.dropped),
         Err(fault) => fail(err, Some(&command), Failure::from(fault)),
     }
 }

@@ -1,4 +1,4 @@
-use Rattle.par2_tool.proofs.Common.{inl, ◌≡◌, ◌+◌, List, length, refl, sym, ap, subst, ◌∙◌, map, arith, IsVerify, after_write_down, AreSomeMade, HoldsJournaled, IsStoppedAt, IsWritten, length-map, Verify, LeadsToAfterAsked, session_of_kept, session_after, changes_asked, Contents, action_of, command_of, report_of, MayRefuse, Plan, Two, AreSpelled, change_of, changes_by_kind, after_commit, AreAtMost, calls_asked, calls_to_write, TellsApartAlong, OpensAsBeforeOrAfter, journals_of}
+use Rattle.par2_tool.proofs.Common.{inl, ◌≡◌, ◌+◌, List, length, refl, sym, ap, subst, ◌∙◌, map, arith, IsVerify, after_write_down, AreSomeMade, HoldsJournaled, IsStoppedAt, IsWritten, length-map, Verify, LeadsToAfterAsked, session_of_kept, session_after, changes_asked, Contents, action_of, command_of, report_of, MayRefuse, Plan, Two, AreSpelled, change_of, changes_by_kind, after_commit, AreAtMost, calls_asked, calls_to_write, TellsApartAlong, OpensAsBeforeOrAfter, journals_of, le_refl, le-add_right}
 use Rattle.par2_spec.specs.Changes as defined
 use Rattle.par2_spec.specs.declared.commands.Command.{Command}
 use Rattle.par2_spec.proofs.AcceptedCommands.{command_leads}
@@ -77,6 +77,36 @@ pub returns-in_err-journals-clause-stopped : goal.returns-in_err-journals-clause
 returns-in_err-journals-clause-stopped g c honest files apart =
     let start = g.S.Store.contents c.args.store.now in
     any_err c.from_residual.result (OpensAsBeforeOrAfter (session_of_kept c.args.session.now) (command_of c.args.command.now) start start) (inl refl)
+
+pub returns-in-Ok-clause-later : goal.returns-in-Ok-clause-later
+returns-in-Ok-clause-later g c = le_refl (g.S.Store.failures c.args.store.now)
+
+pub returns-in-Ok-clause-at_most : goal.returns-in-Ok-clause-at_most
+returns-in-Ok-clause-at_most g c = record { later = le_refl (g.S.Store.writing_calls c.args.store.now); within = le-add_right (g.S.Store.writing_calls c.args.store.now) _ }
+
+pub returns-in-Err-clause-later : goal.returns-in-Err-clause-later
+returns-in-Err-clause-later g c = le_refl (g.S.Store.failures c.args.store.now)
+
+pub returns-in-Err-clause-at_most : goal.returns-in-Err-clause-at_most
+returns-in-Err-clause-at_most g c = record { later = le_refl (g.S.Store.writing_calls c.args.store.now); within = le-add_right (g.S.Store.writing_calls c.args.store.now) _ }
+
+pub returns-in-Err-prepare-clause-later : goal.returns-in-Err-prepare-clause-later
+returns-in-Err-prepare-clause-later g c = le_refl (g.S.Store.failures c.args.store.now)
+
+pub returns-in-Err-prepare-clause-at_most : goal.returns-in-Err-prepare-clause-at_most
+returns-in-Err-prepare-clause-at_most g c = record { later = le_refl (g.S.Store.writing_calls c.args.store.now); within = le-add_right (g.S.Store.writing_calls c.args.store.now) _ }
+
+pub returns-in_err-journals-clause-later : goal.returns-in_err-journals-clause-later
+returns-in_err-journals-clause-later g c = le_refl (g.S.Store.failures c.args.store.now)
+
+pub returns-in_err-journals-clause-at_most : goal.returns-in_err-journals-clause-at_most
+returns-in_err-journals-clause-at_most g c = record { later = le_refl (g.S.Store.writing_calls c.args.store.now); within = le-add_right (g.S.Store.writing_calls c.args.store.now) _ }
+
+pub returns-in-Ok-write_down-clause-later : goal.returns-in-Ok-write_down-clause-later
+returns-in-Ok-write_down-clause-later g c = c.write_down.ensures.failures.later
+
+pub returns-in-Err-write_down-clause-later : goal.returns-in-Err-write_down-clause-later
+returns-in-Err-write_down-clause-later g c = c.write_down.ensures.failures.later
 
 -- ---- no action is a verify
 

@@ -1,10 +1,10 @@
-use Rattle.par2_tool.proofs.Common.{by_either, ◌≡◌, ◌+◌, map, inl, inr, [], arith, false, refl, sym, ap, subst, ◌∙◌, string_bytes, false≢true, Action, Contents, Started, session_of_kept, command_of, status_of, CountsFailedRun, calls_asked, started_of, IsOpened, outcome_of, failure_for, Answered, Failed, IsBack, IsCause, IsChanged, IsFailed, IsUnread, IsPrinted, IsStopped, IsKept, same_Some, AskFor, Failure}
+use Rattle.par2_tool.proofs.Common.{by_either, ◌≡◌, ◌+◌, map, inl, inr, [], arith, false, refl, sym, ap, subst, ◌∙◌, string_bytes, Action, Contents, Started, session_of_kept, command_of, status_of, CountsFailedRun, calls_asked, started_of, IsOpened, outcome_of, failure_for, Answered, Failed, IsBack, IsCause, IsChanged, IsFailed, IsUnread, IsPrinted, IsStopped, IsKept, same_Some, AskFor, Failure, le_trans}
 use Rattle.par2_printing.specs.Views.{words_asked}
 use Rattle.par2_spec.specs.declared.Failure.TheVariants as failure
 use Rattle.par2_tool.proofs.Outcomes.{done_for, files_of, no_way_back, verify_failed, cut_of_command, opening_cause, opening_failed, perform_cause, perform_failed, stopped_opening}
 use Rattle.par2_tool.proofs.Calls.{opening_calls, perform_calls, run_calls, stands_calls}
 use Rattle.par2_tool.proofs.UnreadWords.{unread_words}
-use Rattle.par2_tool.proofs.running.run.Goals.{After-open_for, After-perform, else-dropped-via-then-dropped+else-is_back, else-dropped-via-else-dropped}
+use Rattle.par2_tool.proofs.running.run.Goals.{After-open_for, After-perform}
 use Rattle.par2_tool.proofs.running.run.Goals as goal
 
 -- the words ask for the command that was read
@@ -44,19 +44,19 @@ returns-in-Err-open_for-clause-told g c =
       calls = λ honest. inr (action, asked, subst (λ (f : Failure). CountsFailedRun action old (g.S.Store.writing_calls store) (g.S.Store.writing_calls opened) f) is (opening_calls action old _ _ fault (opens honest).calls));
     }
 
-pub returns-then-is_back-clause-told : goal.returns-then-is_back-clause-told
-returns-then-is_back-clause-told g c =
-    let asked = asked_for g (goal.at.returns-then-is_back-clause-told g c).After-open_for in
+pub returns-then-lacks_history-clause-told : goal.returns-then-lacks_history-clause-told
+returns-then-lacks_history-clause-told g c =
+    let asked = asked_for g (goal.at.returns-then-lacks_history-clause-told g c).After-open_for in
     let action = command_of c.in-Ok.command in
-    let back = c.is_back.ensures.back c.if-is_back.true in
+    let back = c.lacks_history.ensures.back c.if-lacks_history.true in
     let opened = c.in-Ok-open_for.ensures in
     let found = opened.opened in record {
       telling = Failed (words_asked action) failure.FolderChanged;
       told = inr (action, asked, refl, opened.keeps.failures.steady);
-      shown = (c.fail-then-is_back.ensures, refl {a = c.args.out.now});
+      shown = (c.fail-then-lacks_history.ensures, refl {a = c.args.out.now});
       leaves = λ honest.
           let changed : IsChanged action (g.S.Store.contents c.args.store.now) (g.S.Store.contents c.open_for.new.store) =
-          by_either found.1 (λ same. inr (back, found.0, found.2 honest, ap (λ (t : Started). t.dropped) same ∙ c.if-dropped.true)) (λ verify. absurd (no_way_back action verify.0 back)) in
+          by_either found.1 (λ same. inr (back, found.0, found.2 honest, ap (λ (t : Started). t.dropped) same ∙ sym (c.lacks_history.ensures.dropped back) ∙ c.if-lacks_history.true)) (λ verify. absurd (no_way_back action verify.0 back)) in
           inr (action, asked, changed);
       calls = λ honest. let counted = (opened.opens honest).calls in inr (action, asked, (counted.0, counted.1, counted.2.opened));
     }
@@ -103,10 +103,7 @@ returns-clause-told g c =
     let performed = c.in-Err-perform.ensures in
     let fault = c.in-Err-perform.fault in
     let is = sym c.from-in-Err-perform.ensures in
-    let back : IsBack action → started.dropped ≡ false = (λ is. elim c.else-dropped.branch as (λ _. started.dropped ≡ false) [
-      | else-dropped-via-then-dropped+else-is_back w ↦ absurd (false≢true (sym w.if-is_back.false ∙ w.is_back.ensures.all is))
-      | else-dropped-via-else-dropped w ↦ w.if-dropped.false
-    ]) in
+    let back : IsBack action → started.dropped ≡ false = (λ is. sym (c.lacks_history.ensures.dropped is) ∙ c.if-lacks_history.false) in
     let failing : g.S.Store.honest store → IsFailed action old new (failure_for fault) = (λ honest. elim found.1 as (λ _. IsFailed action old new (failure_for fault)) [
       | inl same ↦ (
           let there : IsOpened old mid (started_of started) = subst (λ (t : Started). IsOpened old mid t) same (found.2 honest) in
@@ -127,6 +124,20 @@ returns-clause-told g c =
           inr (action, asked, subst (λ (f : Failure). CountsFailedRun action old (g.S.Store.writing_calls store) (g.S.Store.writing_calls after) f) is run);
     }
 
+-- ---- failures are counted on
+
+pub returns-in-Err-open_for-clause-later : goal.returns-in-Err-open_for-clause-later
+returns-in-Err-open_for-clause-later g c = c.in-Err-open_for.ensures.keeps.failures.later
+
+pub returns-then-lacks_history-clause-later : goal.returns-then-lacks_history-clause-later
+returns-then-lacks_history-clause-later g c = c.in-Ok-open_for.ensures.keeps.failures.later
+
+pub returns-in-Ok-perform-clause-later : goal.returns-in-Ok-perform-clause-later
+returns-in-Ok-perform-clause-later g c = le_trans c.in-Ok-open_for.ensures.keeps.failures.later c.in-Ok-perform.ensures.later
+
+pub returns-clause-later : goal.returns-clause-later
+returns-clause-later g c = le_trans c.in-Ok-open_for.ensures.keeps.failures.later c.in-Err-perform.ensures.later
+
 -- ---- what a cut leaves
 
 pub returns-in-Err-clause-cut : goal.returns-in-Err-clause-cut
@@ -141,8 +152,8 @@ opening_cut g c action honest lasts asked left may =
 pub returns-in-Err-open_for-clause-cut : goal.returns-in-Err-open_for-clause-cut
 returns-in-Err-open_for-clause-cut g c = opening_cut g (goal.at.returns-in-Err-open_for-clause-cut g c).After-open_for
 
-pub returns-then-is_back-clause-cut : goal.returns-then-is_back-clause-cut
-returns-then-is_back-clause-cut g c = opening_cut g (goal.at.returns-then-is_back-clause-cut g c).After-open_for
+pub returns-then-lacks_history-clause-cut : goal.returns-then-lacks_history-clause-cut
+returns-then-lacks_history-clause-cut g c = opening_cut g (goal.at.returns-then-lacks_history-clause-cut g c).After-open_for
 
 -- of the command
 command_cut : (g : _) (c : After-perform g) (action : Action) → g.S.Store.honest c.args.store.now → IsKept g.S.Store c.args.store.now → AskFor (map string_bytes c.args.words.now) action → (left : Contents) → g.S.Store.may_remain c.perform.new.store left
