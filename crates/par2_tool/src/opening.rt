@@ -182,12 +182,11 @@ fn next_of(command: Option<&Command>) -> Option<Next> {
 fn needs_no_history(
     alloc: Global,
     command: Option<&Command>,
-    folder: &mut Folder,
+    folder: &Folder,
     text: &[u8],
 ) -> Result<bool>
-    ensures files { folder.new.files ≡ folder.old.files }
     ensures verify { result ≡ Ok true → Verifies command.entry }
-    ensures opens { result ≡ Ok true → OpensAsIs folder.old.files text.now }
+    ensures opens { result ≡ Ok true → OpensAsIs folder.now.files text.now }
 {
     match command {
         Some(Command::Verify { .. }) => opens_as_is(alloc, folder, text),
@@ -206,11 +205,11 @@ pub(crate) fn open_for<S: FolderStore>(
     ensures opens { S.honest store.old → Opens S.Store store.old store.new result }
     ensures keeps { KeepsStore S.Store store.old store.new result }
 {
-    let (mut folder, journal) = read_store(alloc, store)?;
+    let (folder, journal) = read_store(alloc, store)?;
     let Some(text) = journal else {
         return Ok(without_history(alloc, folder));
     };
-    if needs_no_history(alloc, command, &mut folder, &text)? {
+    if needs_no_history(alloc, command, &folder, &text)? {
         return Ok(without_history(alloc, folder));
     }
     open_with(alloc, store, folder, &text, next_of(command))

@@ -24,7 +24,7 @@ returns-then-branch-clause-opened g c =
     let bytes = c.deref.result.now in
     let is = ap Ok c.if-branch.true in
     let found = c.in_ok-needs_no_history.ensures.opens is in
-    let standing = ap (λ (t : Started). t.session.folder) c.without_history-then-branch.ensures ∙ c.needs_no_history.ensures.files in (
+    let standing = ap (λ (t : Started). t.session.folder) c.without_history-then-branch.ensures in (
       found.0,
       stands_for_verify c.args.command found.0 (started_of c.without_history-then-branch.result) (c.in_ok-needs_no_history.ensures.verify is) (found.2 ∙ sym standing),
       λ honest.
@@ -33,24 +33,23 @@ returns-then-branch-clause-opened g c =
     )
 
 -- what was read is what the store holds
-read_so : (g : _) (c : After-open_with g) → g.S.Store.honest c.args.store.now → IsRead (g.S.Store.contents c.args.store.now) c.needs_no_history.new.folder.files (Some c.deref-2.result.now)
+read_so : (g : _) (c : After-open_with g) → g.S.Store.honest c.args.store.now → IsRead (g.S.Store.contents c.args.store.now) c.in_ok-folder.folder.files (Some c.deref-2.result.now)
 read_so g c honest =
-    text_read (g.S.Store.contents c.args.store.now) c.needs_no_history.new.folder.files c.in_ok-folder.journal c.in-Some.text c.deref-2.result.now
-    (subst (λ f. IsRead (g.S.Store.contents c.args.store.now) f (option_map (λ (bytes : Vec ℕ Global). bytes.items) c.in_ok-folder.journal)) (sym c.needs_no_history.ensures.files) (c.in_ok-folder.ensures.read.read honest))
-    c.in-Some.is c.deref-2.ensures.value
+    text_read (g.S.Store.contents c.args.store.now) c.in_ok-folder.folder.files c.in_ok-folder.journal c.in-Some.text c.deref-2.result.now
+    (c.in_ok-folder.ensures.read.read honest) c.in-Some.is c.deref-2.ensures.value
 
 pub returns-clause-opened : goal.returns-clause-opened
 returns-clause-opened g c =
     let new = g.S.Store.contents c.open_with.new.store in
     let result = c.open_with.result in
     stands c.args.command (g.S.Store.honest c.args.store.now) result (g.S.Store.contents c.args.store.now) new
-    (λ honest. subst (λ k. IsRead k c.needs_no_history.new.folder.files (Some c.deref-2.result.now) → IfOk result (λ s. IsOpened k new (started_of s))) (c.read_store.ensures.reads.same honest)
+    (λ honest. subst (λ k. IsRead k c.in_ok-folder.folder.files (Some c.deref-2.result.now) → IfOk result (λ s. IsOpened k new (started_of s))) (c.read_store.ensures.reads.same honest)
     (c.open_with.ensures.opened (c.read_store.ensures.reads.honest honest)) (read_so g (goal.at.returns-clause-opened g c).After-open_with honest))
 
 pub returns-clause-opens : goal.returns-clause-opens
 returns-clause-opens g c honest =
     let reads = c.read_store.ensures.reads in
-    let read = subst (λ k. IsRead k c.needs_no_history.new.folder.files (Some c.deref-2.result.now)) (sym (reads.same honest)) (read_so g (goal.at.returns-clause-opens g c).After-open_with honest) in
+    let read = subst (λ k. IsRead k c.in_ok-folder.folder.files (Some c.deref-2.result.now)) (sym (reads.same honest)) (read_so g (goal.at.returns-clause-opens g c).After-open_with honest) in
     opens_after_reading g.S.Store c.args.store.now c.read_store.new.store c.open_with.new.store c.open_with.result reads honest (c.read_store.ensures.read.possible honest)
     (c.open_with.ensures.opens (reads.honest honest) read)
 
