@@ -103,7 +103,7 @@ pub fn write_verdict<W: Write>(
 }
 
 /// A change without its bytes, with the names that it has.
-#[derive(Clone, Copy)]
+#[derive(Clone, Copy, PartialEq, Eq)]
 pub enum PrintedStep<'a> {
     Write(&'a str),
     Replace(&'a str),
