@@ -18,6 +18,7 @@ how many processors there are to use. A line of progress says which crate was pr
 long they take, by tools/seconds.txt and by how fast this run has been so far.
 """
 import contextlib
+import hashlib
 import math
 import os
 import re
@@ -201,17 +202,18 @@ def by_one_compiler(rt):
     rt.Kept.keep = lambda it, crate, *rest: None if crate.is_program else keep(it, crate, *rest)
 
 
-def without_premises(rt):
+def without_empty_contracts(rt):
     """Leaves out the search for contracts that no call can meet, which the gate makes after each proof. What was proved
-    without it is kept under names of its own, so that the gate doesn't take it."""
-    help_of, place = rt.rtlib.help_of, rt.Kept.place
+    without it is kept under keys of its own, so that the gate doesn't take it."""
+    help_of, key = rt.rtlib.help_of, rt.Kept.key
 
-    def placed(it, *entry):
-        gates = place(it, *entry)
-        return gates if os.path.isdir(gates) else gates.replace("/proof-", "/built-", 1)
+    def own_key(kept, crate):
+        gates = key(kept, crate)
+        is_kept = os.path.isdir(kept.place(crate, False, gates))
+        return gates if is_kept else hashlib.sha256(f"built {gates}".encode()).hexdigest()
 
     rt.rtlib.help_of = lambda command: help_of(command).replace("--empty-contracts", "")
-    rt.Kept.place = placed
+    rt.Kept.key = own_key
 
 
 def what_failed(log):
@@ -235,7 +237,7 @@ def main(program, cpu, to):
         rt.in_lanes = in_lanes(clock, 0.85 * rt.free(), say)
         for_processor(rt, cpu)
         by_one_compiler(rt)
-        without_premises(rt)
+        without_empty_contracts(rt)
         if anew:
             rt.STORE = f"{room}/kept"
         os.chdir(f"{room}/repo")
