@@ -2,7 +2,8 @@
 """Has programs make calls on small inputs, each with its first growth of memory refused, then with its second, and so on
 until none is refused.
 
-A call of a library (`growth_tests`) answers as without a refusal, or that it is out of memory. Then all that it was given
+A call of a library (`growth_tests`) answers as without a refusal, or that it is out of memory. (A list whose size is
+refused as a whole grows item by item: calls that make one are tried with two growths refused in a row, too.) Then all that it was given
 is as before, and the same call made once more answers as without a refusal. A call of the whole program (`run_rows`) on
 a store in memory is out of memory and leaves the store as before, or fails at a growth of the store itself: then the
 store opens as before or as after.
@@ -17,9 +18,10 @@ ROOT = os.path.join(os.path.dirname(os.path.realpath(__file__)), "..")
 
 # The descriptor on which the allocator tells of growths.
 REACHED = 9
-# What one refused growth never makes fail: of two actions the other is done, and a list of names whose size is refused as
-# a whole grows name by name.
-NEVER_TOLD = ("Session::play of two", "Folder::names", "MemoryStore::names")
+# What one refused growth never makes fail: of two actions the other is done.
+NEVER_TOLD = ("Session::play of two",)
+# What one refused growth doesn't make fail, but two in a row do: a list whose size is refused as a whole grows item by item.
+TOLD_AT_THE_SECOND = ("Folder::names", "MemoryStore::names")
 
 # The file `a` was cut after a create.
 DAMAGED = "new\nput a abcdefgh\nrun create -s4 -c1 t.par2 a\nput a abcdef\n"
@@ -69,14 +71,14 @@ class Programs:
             sys.exit(f"growths: {name} {words} {lines}: status {ended.returncode}: {text}")
         return text
 
-    def refused_each(self, name, words, lines=""):
+    def refused_each(self, name, words, lines="", **variables):
         """Returns what the program writes, and what it writes with each growth of its call refused in turn."""
         shown = self.said(name, words, lines, REFUSED="0", SHOWN="yes")
         # The line of the call, and its growths after it.
         call = re.search(r"^!*>.*\n(!*)", shown, re.MULTILINE)
         earlier = shown[: call.start(1)].count("!")
         numbers = range(earlier + 1, earlier + len(call[1]) + 1)
-        return shown.replace("!", ""), [self.said(name, words, lines, REFUSED=str(n)) for n in numbers]
+        return shown.replace("!", ""), [self.said(name, words, lines, REFUSED=str(n), **variables) for n in numbers]
 
 
 def library_calls(programs):
@@ -86,6 +88,8 @@ def library_calls(programs):
     growths = 0
     for words in calls:
         whole, refused = programs.refused_each("growth_tests", words)
+        if words[1] in TOLD_AT_THE_SECOND:
+            refused += programs.refused_each("growth_tests", words, NEXT_TOO="yes")[1]
         before, line, behind = whole.partition(f"> {words[1]}\n")
         wanting = before + line + "out of memory\n" + before + line + behind
         wrong = [text for text in refused if text not in (whole, wanting)]

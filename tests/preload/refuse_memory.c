@@ -1,6 +1,6 @@
-// Refuses one growth of memory: the one whose number the variable REFUSED gives, counted from 1. It then writes a byte
-// on descriptor 9, so that who started the program sees that there was such a growth; where the variable SHOWN is set it
-// writes one for each growth. Where the variable SIZES is set, it writes there how many bytes each growth asks for and how
+// Refuses one growth of memory: the one whose number the variable REFUSED gives, counted from 1; where the variable
+// NEXT_TOO is set, the growth after it too. It then writes a byte on descriptor 9, so that who started the program sees
+// that there was such a growth; where the variable SHOWN is set it writes one for each growth. Where the variable SIZES is set, it writes there how many bytes each growth asks for and how
 // many there are in all with it, in eight bytes each. Where the variable LARGEST is set, it refuses each growth to more
 // bytes than that. For LD_PRELOAD.
 typedef unsigned long size;
@@ -26,7 +26,9 @@ static int is_refused(size bytes) {
     if (text == 0) {
         return 0;
     }
-    int is_its_turn = ++seen == atol(text);
+    long number = atol(text);
+    ++seen;
+    int is_its_turn = seen == number || (seen == number + 1 && getenv("NEXT_TOO") != 0);
     if (is_its_turn || getenv("SHOWN") != 0) {
         write(9, "!", 1);
     }
