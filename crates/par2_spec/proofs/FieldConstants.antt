@@ -1,50 +1,49 @@
 -- The powers of the constants rise, so the constants are distinct.
-use Rattle.par2_spec.proofs.Common.{eqb, ℕ, ◌<◌, ◌≡◌, refl, Bool, true, ltb, ◌&&◌, arith, List, [], ◌∷◌, length, get_or, eqb-true, ltb-true, and_parts, constant_powers, constant}
+use Rattle.par2_spec.proofs.Common.{Bool, ◌+◌, List, eqb, ℕ, ◌<◌, ◌≡◌, refl, sym, subst, true, false≢true, arith, length, get_or, filter, eqb-true, cases_lt, range_with_len, length-range_with_len, get_or-range_with_len, constant_powers, constant, IsStrictlyIncreasing, AllPairs-from_increasing, IsStrictlyIncreasing-filter}
+use Rattle.std.proofs.lemmas.List.Elements.{All-filter, All-from_get_or, All-get_or, filter_passes}
+use Rattle.par2_spec.proofs.TestLaws.{by_either}
+use Rattle.par2_spec.specs.Field.{is_spared}
 use Rattle.par2_spec.proofs.FieldOrder.{power-injective, power-nonzero, power-lt}
 
--- whether the numbers rise, from above the first number to below the second
-rises : ℕ → ℕ → List ℕ → Bool
-rises low high [] = true
-rises low high (x ∷ xs) = ltb low x && (ltb x high && rises x high xs)
+pub range_rises : (f n : ℕ) → IsStrictlyIncreasing (range_with_len f n)
+range_rises f n k within = grind (arith, length-range_with_len, get_or-range_with_len)
 
-rises_at : (low high : ℕ) (xs : List ℕ) → rises low high xs ≡ true → (i : ℕ) → i < length xs → (low < get_or xs i 0) × (get_or xs i 0 < high)
-unfolding rises
-rises_at low high [] e i h = absurd (omega arith)
-rises_at low high (x ∷ xs) e i h =
-    let at : (i : ℕ) → i < length (x ∷ xs) → low < x → x < high → ((j : ℕ) → j < length xs → (x < get_or xs j 0) × (get_or xs j 0 < high)) → (low < get_or (x ∷ xs) i 0) × (get_or (x ∷ xs) i 0 < high) =
-    λ i h l u later. grind arith in
-    let parts = and_parts (ltb low x) (ltb x high && rises x high xs) e in
-    let rest = and_parts (ltb x high) (rises x high xs) parts.1 in
-    at i h (ltb-true low x parts.0) (ltb-true x high rest.0) (rises_at x high xs rest.1)
+powers_rise : IsStrictlyIncreasing constant_powers
+unfolding constant_powers
+powers_rise = IsStrictlyIncreasing-filter is_spared (range_with_len 1 65535) (range_rises 1 65535)
 
-rises_between : (low high : ℕ) (xs : List ℕ) → rises low high xs ≡ true → (i j : ℕ) → i < j → j < length xs → get_or xs i 0 < get_or xs j 0
-unfolding rises
-rises_between low high [] e i j k h = absurd (omega arith)
-rises_between low high (x ∷ xs) e i j k h =
-    let parts = and_parts (ltb low x) (ltb x high && rises x high xs) e in
-    let rest = and_parts (ltb x high) (rises x high xs) parts.1 in
-    at i j k h (rises_at x high xs rest.1) (rises_between x high xs rest.1)
-  where
-    at : (i j : ℕ) → i < j → j < length (x ∷ xs) → ((j : ℕ) → j < length xs → (x < get_or xs j 0) × (get_or xs j 0 < high))
-        → ((i j : ℕ) → i < j → j < length xs → get_or xs i 0 < get_or xs j 0) → get_or (x ∷ xs) i 0 < get_or (x ∷ xs) j 0
-    at i j k h first later = grind arith
-
--- they rise, and are as many: one computation over them
-abbrev fit : List ℕ → Bool
-fit powers = rises 0 65535 powers && eqb (length powers) 32768
-
-test_fit : fit constant_powers ≡ true
-unfolding rises constant_powers
-test_fit = refl
-
-both_fit : (rises 0 65535 constant_powers ≡ true) × (eqb (length constant_powers) 32768 ≡ true)
-both_fit = and_parts (rises 0 65535 constant_powers) (eqb (length constant_powers) 32768) test_fit
+-- how many there are is computed
+test_length : eqb (length constant_powers) 32768 ≡ true
+unfolding constant_powers
+test_length = refl
 
 pub length-constant_powers : length constant_powers ≡ 32768
-length-constant_powers = eqb-true (length constant_powers) 32768 both_fit.1
+length-constant_powers = eqb-true (length constant_powers) 32768 test_length
+
+-- 65,535 itself is none of them
+spared-lt : (n : ℕ) → n < 65536 → is_spared n ≡ true → n < 65535
+spared-lt n h e = by_either (cases_lt n 65535) (λ below. below) (λ above.
+    let last : n ≡ 65535 = omega (arith, h, above) in absurd (false≢true (subst (λ m. is_spared m ≡ true) last e)))
+
+range-lt : (a n i : ℕ) → i < length (range_with_len a n) → get_or (range_with_len a n) i 0 < a + n
+range-lt a n i h =
+    let l = length-range_with_len a n in
+    let e = get_or-range_with_len a n i 0 (omega (arith, h, l)) in
+    omega (arith, e, h, l)
+
+-- what a filter leaves of a range is in the range, and passes
+kept-lt : (p : ℕ → Bool) (a n k : ℕ) → k < length (filter p (range_with_len a n))
+    → (get_or (filter p (range_with_len a n)) k 0 < a + n) × (p (get_or (filter p (range_with_len a n)) k 0) ≡ true)
+kept-lt p a n k h =
+    let run = range_with_len a n in
+    ( All-get_or (λ x. x < a + n) (filter p run) k 0 h (All-filter p (λ x. x < a + n) run (All-from_get_or (λ x. x < a + n) run 0 (range-lt a n)))
+    , All-get_or (λ x. p x ≡ true) (filter p run) k 0 h (filter_passes p run) )
 
 constant_power-lt : (k : ℕ) → k < 32768 → get_or constant_powers k 0 < 65535
-constant_power-lt k h = (rises_at 0 65535 constant_powers both_fit.0 k (omega (arith, length-constant_powers))).1
+unfolding constant_powers
+constant_power-lt k h =
+    let found = kept-lt is_spared 1 65535 k (subst (λ n. k < n) (sym length-constant_powers) h) in
+    spared-lt (get_or constant_powers k 0) found.0 found.1
 
 pub constant-lt : (k : ℕ) → constant k < 65536
 unfolding constant
@@ -58,5 +57,5 @@ pub constant-injective : (i j : ℕ) → i < j → j < 32768 → constant i ≡ 
 unfolding constant
 constant-injective i j h k =
     power-injective (get_or constant_powers i 0) (get_or constant_powers j 0)
-    (rises_between 0 65535 constant_powers both_fit.0 i j h (omega (arith, length-constant_powers)))
+    (AllPairs-from_increasing constant_powers powers_rise i j 0 h (omega (arith, length-constant_powers)))
     (constant_power-lt j k)

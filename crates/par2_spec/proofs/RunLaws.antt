@@ -1,5 +1,6 @@
 -- Exponents that are close are kept, and a run of as many as slices are lost determines these.
 use Rattle.par2_spec.proofs.Common.{◌≡◌, ◌≢◌, ℕ, zero, suc, ◌+◌, ◌-◌, ◌^◌, ◌<◌, ◌≤◌, List, [], ◌∷◌, length, map, take, get_or, refl, sym, ap, ap₂, ◌∙◌, subst, cond, true, Bool, eqb, inl, inr, arith, filter, AllByRecursion, Contains, range_with_len, IsStrictlyIncreasing, Decides-eqb, cases_lt, eq-eqb, ne_eqb, length-map, get_or-map, get_or-take, get_or_default, Contains-get_or, length-range_with_len, get_or-range_with_len, AllPairs-from_increasing, IsDistinct-from_AllPairs, mul, constant, pow, coefficient, coefficients, dot, kept, rank, smaller, is_independent, IsVector, Kills, IsKept, IsRepairable, AreElements, ArePoints, Interpolates, value, bit_xor}
+use Rattle.par2_spec.proofs.FieldConstants.{range_rises}
 use Rattle.par2_spec.specs.Runs.{AreSlices, AreClose, HasRun}
 use Rattle.par2_spec.proofs.Basics.{xor_middle, product_linear_left, product_linear_right, product_assoc, product_comm, product-one, product-zero, zero-product, no_zero_divisor, power-lt, constant-lt, constant-nonzero, constant-injective, dot_sum, field_sum_one, product_at, all-each, all_from, all_get, of_contained, independent-iff, by_either, by_test}
 use Rattle.par2_spec.proofs.UniqueLaws.{all_from_contains}
@@ -159,9 +160,6 @@ range_has f n e low high =
     let e_is : f + (e - f) ≡ e = omega (arith, low) in
     subst (Contains (range_with_len f n)) (get_or-range_with_len f n (e - f) 0 i ∙ e_is)
     (Contains-get_or (range_with_len f n) (e - f) 0 (let l = length-range_with_len f n in omega (arith, l, i)))
-
-range_rises : (f n : ℕ) → IsStrictlyIncreasing (range_with_len f n)
-range_rises f n k within = grind (arith, length-range_with_len, get_or-range_with_len)
 
 filter-le : (p : ℕ → Bool) (xs : List ℕ) → length (filter p xs) ≤ length xs
 filter-le p [] = omega arith

@@ -126,7 +126,7 @@ impl Display for Fault {
             Fault::BadName(place)
             | Fault::DuplicateInput(place)
             | Fault::NoSuchFile(place)
-            | Fault::EmptyFile(place) => write!(f, "{place}"),
+            | Fault::EmptyFile(place) => place.fmt(f),
             Fault::NotRepairable { missing, rank } => write!(f, "lost {missing}, rank {rank}"),
             _ => Ok(()),
         }
