@@ -11,10 +11,10 @@ so it takes nothing of what is kept here: it looks for contracts that no call ca
 builds the program by a second compiler, beside LLVM, and compares.
 
 The gate's own order fits many proofs, tests and edits; here one chain of libraries decides when the program is there.
-So this loads the command rt as a module and has it use another order (`in_lanes`). The shorter the chain that waits
-for a crate is beside the longest one, the nicer its processes are to the others. An urgent crate begins wherever
-memory holds it, and up to four processes share its proof; any other has one, and waits for a processor. RT_JOBS says
-how many processors there are to use. A line of progress says which crate was proved, how many are left, and about how
+So this loads the command rt as a module and has it use another order (`in_lanes`). Up to four processes share a proof,
+and up to three a processor run at a time, as memory holds them: where one crate's proof comes to its end in a single
+process, others go on. The crate for which the longest chain waits begins first, and the shorter a crate's chain is
+beside the longest one, the nicer its processes are to the others. RT_JOBS says how many processors there are to use. A line of progress says which crate was proved, how many are left, and about how
 long they take, by tools/seconds.txt and by how fast this run has been so far.
 """
 import contextlib
@@ -33,9 +33,10 @@ import rt_module
 DEFAULT = "x86-64-v2"
 # The most processes that share a proof, what sharing costs, and the part of a proof that can't be shared.
 SHARERS, SHARING, ALONE = 4, 1.1, 0.3
-# How nice a crate's processes are: not at all for the longest chain, 6 for one of four fifths, 17 for one of half. What is nicer
-# than `URGENT` has one process, so that there is memory for what is urgent.
-STEEP, NICEST, URGENT = 25, 19, 12
+# How nice a crate's processes are: not at all for the longest chain, 3 for one of four fifths, 10 for one of half.
+STEEP, NICEST = 15, 19
+# How many processes run at a time for each processor, and what part of a proof's memory each copy takes for itself.
+CROWD, OWN = 3, 0.15
 TOP = os.path.join(os.path.dirname(os.path.realpath(__file__)), "..")
 
 
@@ -133,7 +134,7 @@ def in_lanes(clock, memory, say):
                 os.setpriority(os.PRIO_PROCESS, threading.get_native_id(), nice)
             result = False
             try:
-                result = tasks[key][3](dict(given), jobs)
+                result = tasks[key][3](dict(given), max(jobs, 1))
             finally:
                 with turn:
                     given[key] = result
@@ -145,25 +146,24 @@ def in_lanes(clock, memory, say):
                     turn.notify_all()
 
         def next_one():
-            """Returns a task that can begin, how many jobs it gets and how nice it is, or None."""
+            """Returns a task that can begin, how many jobs it gets, what they take and how nice it is, or None."""
             waiting = [it for it in tasks if it not in given and it not in running]
             ready = [it for it in waiting if all(below in given for below in tasks[it][0])]
-            ready.sort(key=lambda it: (it[1] == "proof", -chains[it[0]]))
-            proofs = [it for it in running if it[1] == "proof"]
-            longest = max([chains[it[0]] for it in [*ready, *running]], default=0)
-            room = memory - sum(running.values())
-            for key in ready:
-                if key[1] != "proof":
-                    return key, 1, 0
-                nice = min(NICEST, round(STEEP * math.log(longest / chains[key[0]])))
-                jobs = min(SHARERS, clock.processors) if nice <= URGENT else 1
-                while jobs > 1 and tasks[key][2] * (1 + 0.6 * (jobs - 1)) > room:
-                    jobs -= 1
-                has_room = tasks[key][2] <= room and (nice <= URGENT or len(proofs) < clock.processors)
-                if not proofs or has_room:
-                    return key, jobs, nice
-                break
-            return None
+            if not ready:
+                return None
+            key = min(ready, key=lambda it: (it[1] == "proof", -chains[it[0]]))
+            if key[1] != "proof":
+                return key, 0, 0, 0
+            longest = max(chains[it[0]] for it in [*ready, *running])
+            left = CROWD * clock.processors - sum(jobs for jobs, _ in running.values())
+            room = memory - sum(takes for _, takes in running.values())
+            jobs = max(min(SHARERS, clock.processors, left), 1)
+            takes = lambda jobs: tasks[key][2] * (1 + OWN * (jobs - 1))
+            while jobs > 1 and takes(jobs) > room:
+                jobs -= 1
+            if running and (left < 1 or takes(jobs) > room):
+                return None
+            return key, jobs, takes(jobs), min(NICEST, round(STEEP * math.log(longest / chains[key[0]])))
 
         with turn:
             while len(given) < len(tasks):
@@ -171,8 +171,8 @@ def in_lanes(clock, memory, say):
                 if not begins:
                     turn.wait()
                     continue
-                key, jobs, nice = begins
-                running[key] = tasks[key][2] * (1 + 0.6 * (jobs - 1)) if key[1] == "proof" else 0
+                key, jobs, takes, nice = begins
+                running[key] = jobs, takes
                 if key[1] == "proof":
                     clock.begun[key[0]] = time.time()
                 threading.Thread(target=work, args=(key, jobs, nice), daemon=True).start()
