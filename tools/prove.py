@@ -14,8 +14,9 @@ The gate's own order fits many proofs, tests and edits; here one chain of librar
 So this loads the command rt as a module and has it use another order (`in_lanes`). Up to four processes share a proof,
 and up to three a processor run at a time, as memory holds them: where one crate's proof comes to its end in a single
 process, others go on. The crate for which the longest chain waits begins first, and the shorter a crate's chain is
-beside the longest one, the nicer its processes are to the others. RT_JOBS says how many processors there are to use. A line of progress says which crate was proved, how many are left, and about how
-long they take, by tools/seconds.txt and by how fast this run has been so far.
+beside the longest one, the nicer its processes are to the others. RT_JOBS says how many processors there are to use. A
+line of progress says which crate was proved, how many are left, and about how long they take, by tools/seconds.txt and
+by how fast this run has been so far.
 """
 import contextlib
 import hashlib
