@@ -17,8 +17,9 @@ ROOT = os.path.join(os.path.dirname(os.path.realpath(__file__)), "..")
 
 # The descriptor on which the allocator tells of growths.
 REACHED = 9
-# What one refused growth never makes fail: of two actions the other is done.
-NEVER_TOLD = ("Session::play of two",)
+# What one refused growth never makes fail: of two actions the other is done, and a list of names whose size is refused as
+# a whole grows name by name.
+NEVER_TOLD = ("Session::play of two", "Folder::names", "MemoryStore::names")
 
 # The file `a` was cut after a create.
 DAMAGED = "new\nput a abcdefgh\nrun create -s4 -c1 t.par2 a\nput a abcdef\n"
