@@ -117,8 +117,8 @@ fn copied(rt: &(impl Abort + AllocGlobal), bytes: &[u8]) -> Vec<u8>
     Vec::from_slice(rt.alloc(), bytes).expect(rt, "memory")
 }
 
-// The products added to a copy of `dst`, by steps.
-fn by_steps(rt: &(impl Abort + AllocGlobal), gf: &Gf, c: u16, src: &[u8], dst: &[u8]) -> Vec<u8>
+// The products added to a copy of `dst`, by the element.
+fn by_element(rt: &(impl Abort + AllocGlobal), gf: &Gf, c: u16, src: &[u8], dst: &[u8]) -> Vec<u8>
     requires same { length src.now ≡ length dst.now }
     requires even { length dst.now % 2 ≡ 0 }
 {
@@ -167,7 +167,7 @@ fn add_columns(
     gf.mul_add_columns(&Factor::new(c), &columns, dst);
 }
 
-// Whether a copy of `dst` becomes by the tables, by the factor and by columns what it becomes word by word.
+// Whether a copy of `dst` becomes by the element, by the factor and by columns what it becomes word by word.
 fn is_as_word_by_word(
     rt: &(impl Abort + AllocGlobal),
     gf: &Gf,
@@ -179,7 +179,7 @@ fn is_as_word_by_word(
     requires even { length dst.now % 2 ≡ 0 }
 {
     let wanted = by_words(rt, c, src, dst);
-    by_steps(rt, gf, c, src, dst) == wanted
+    by_element(rt, gf, c, src, dst) == wanted
         && by_factor(rt, gf, c, src, dst) == wanted
         && by_columns(rt, gf, c, src, dst) == wanted
 }

@@ -17,7 +17,7 @@ use par2_packets::{DuplicateId, FileRecord};
 use par2_recovery::SetRecord;
 use par2_slices::{MOST_SLICES, slice_count};
 use par2_spec::Fault;
-use std::alloc::{AllocError, Global};
+use std::alloc::Global;
 use std::collections::BTreeSet;
 
 /// Refuses an input that was given before.

@@ -59,7 +59,7 @@ fn append_places(
     Ok(())
 }
 
-// Those of all volumes, and the places of their recovery slices, in order.
+// The bytes of all volumes whose recovery slices and MD5s are still to come, and the places of those slices, in order.
 fn blank_volumes(
     alloc: Global,
     parts: &Parts,

@@ -76,7 +76,8 @@ pub record AnswersTest (folder : FolderState) (test : Bool) (wanted : Session) (
 abbrev pub IsToldWhere : Type 0 → JournalFault → Type 0
 IsToldWhere holds fault = (fault ≡ JournalInvalid) ⊎ (fault ≡ Memory) ⊎ holds
 
--- what answers, or that memory ran out, where this holds; and nothing opens elsewhere
+-- what answers, or that memory ran out, where this holds; elsewhere nothing opens, and no more is told than that the
+-- journal isn't valid or that memory ran out
 pub record AnswersWhere (holds : Type 0) (folder : Folder) (Answers : Result defined.Opened JournalFault → Type 0) (result : Result Opened (JournalFault × FolderState)) : Type 0 where
   pub opened : IfOk result (λ found. holds × Answers (Ok (opened_of found)))
   pub refused : IfErr result (λ e. holds → (e.0 ≡ Memory) ⊎ Answers (Err e.0))

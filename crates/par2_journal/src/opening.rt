@@ -129,8 +129,6 @@ fn can_walk(alloc: Global, folder: &Folder, entries: &[&Changes]) -> Result<bool
     Ok(true)
 }
 
-// Whether the entries of a journal can be those of a session.
-
 // Whether the entries can be those of a session on the folder, with this cursor.
 fn are_valid(alloc: Global, folder: &Folder, entries: &[Changes], cursor: usize) -> Result<bool>
     requires { cursor ≤ length entries.now }
@@ -152,7 +150,7 @@ fn change_count(entries: &[Changes]) -> Option<usize>
     Some(count)
 }
 
-// The same, where the folder gets the room that the entries take.
+// Whether the entries are valid; the folder gets the room that they take.
 fn settle(alloc: Global, folder: &mut Folder, entries: &[Changes], cursor: usize) -> Result<bool>
     requires { cursor ≤ length entries.now }
     ensures files { folder.new.files ≡ folder.old.files }

@@ -38,7 +38,7 @@ pub record AreFindings (folder : Folder) (set : ParSet) (searched : List (List �
       let slices = map (found set.slice_size (map (bytes_of folder) searched)) (pairs_of sought set.targets) in
       findings.found.items ≡ found_by sought set.targets (map is_some slices)
 
--- the needing targets go on after one of them, whose match is given
+-- the match of the next needing target, if this one is needing, and those that are left
 abbrev pub GoesOn : Bool → List (Target × Option (List ℕ)) → Option (Bor (List ℕ)) → List (Target × Option (List ℕ)) → Type 0
 GoesOn true needing given later =
     (option_map (λ name. name.now) given ≡ slice_index_or (map (λ m. m.1) needing) 0 None) × (map (λ m. m.1) later ≡ drop 1 (map (λ m. m.1) needing))

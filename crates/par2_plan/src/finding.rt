@@ -23,7 +23,7 @@ use std::collections::BTreeSet;
 pub struct Findings<'s> {
     /// Its targets, with the matches of the needing ones.
     pub targets: Targets<'s>,
-    /// Whether each of its slices is found, in order. No slice of an intact or matched target is searched for.
+    /// Whether each of its slices is found, in order. Those of intact and matched targets are, without a search.
     pub found: Vec<bool>,
 }
 

@@ -95,6 +95,7 @@ pub(crate) fn run_inverse(alloc: Global, gf: &Gf, lost: &[u32], first: u32) -> R
     ensures { IfOk result (λ rows. IsInverse
         lost.now (range_with_len first (length lost.now)) (lists_of rows.items)) }
 {
+    // A slice's constant is what exponent 1 multiplies it by.
     let constants = coefficients(alloc, gf, lost, 1)?;
     let points = constants.as_slice();
     let p = with_roots(alloc, gf, points)?;
