@@ -10,7 +10,7 @@ pub use Rattle.std.proofs.lemmas.List.Elements.{All-head, All-tail, filter-appen
 pub use Rattle.std.proofs.lemmas.List.Folds.{concat-append, list_all-map, map_fixed}
 pub use Rattle.std.proofs.lemmas.Option.{MatchOption-at_some, slice_get-get_or}
 pub use Rattle.std.proofs.lemmas.Result.{IfOk-weaker, err_from_is_err_and, on_ok_weaker}
-pub use Rattle.std.proofs.lemmas.Simd.{map-map}
+pub use Rattle.std.proofs.lemmas.Simd.{map-map, splat_is_map}
 pub use Rattle.std.proofs.lemmas.Slice.Eq.{bytes_eq-Decides, slice_eq-Decides}
 pub use Rattle.std.proofs.lemmas.Slice.Zip.{AllZip-long, Zip-more, either_empty_from_Zip}
 pub use Rattle.std.specs.BTreeMap.{BTreeMap, is_at}

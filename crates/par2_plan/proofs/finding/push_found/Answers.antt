@@ -1,6 +1,5 @@
-use Rattle.par2_plan.proofs.Common.{◌≡◌, ◌∙◌, ◌++◌, ◌+◌, ◌-◌, List, Bool, length, map, true, refl, ap, ap₂, arith, rules, replicate, vec_len, append_assoc, take_all, Pair}
+use Rattle.par2_plan.proofs.Common.{◌≡◌, ◌∙◌, ◌++◌, ◌+◌, ◌-◌, List, Bool, length, map, true, refl, ap, ap₂, arith, rules, append_assoc, replicate, vec_len, take_all, Pair, splat_is_map}
 use Rattle.par2_plan.proofs.SliceLists.{where_ok}
-use Rattle.std.proofs.lemmas.Simd.{splat_is_map}
 use Rattle.par2_plan.proofs.finding.push_found.Goals as goal
 
 pub returns : goal.returns

@@ -1,4 +1,4 @@
-use Rattle.par2_plan.proofs.Common.{◌≡◌, ◌∙◌, map, sym, ap, subst, aside, put_aside, HoldsAsides, err_from_is_err_and, long_aside, names_there, refused_by}
+use Rattle.par2_plan.proofs.Common.{◌≡◌, ◌∙◌, map, sym, ap, subst, aside, put_aside, HoldsAsides, names_there, err_from_is_err_and, long_aside, refused_by}
 use Rattle.std.proofs.Common.{Some, None}
 use Rattle.par2_plan.proofs.RepairParts.{put_aside_in}
 use Rattle.par2_plan.proofs.moves.moves_of.Goals as goal
