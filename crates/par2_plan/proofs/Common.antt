@@ -10,7 +10,7 @@ pub use Rattle.std.proofs.lemmas.List.Elements.{All-head, All-tail, filter-appen
 pub use Rattle.std.proofs.lemmas.List.Folds.{concat-append, list_all-map, map_fixed}
 pub use Rattle.std.proofs.lemmas.Option.{MatchOption-at_some, slice_get-get_or}
 pub use Rattle.std.proofs.lemmas.Result.{IfOk-weaker, err_from_is_err_and, on_ok_weaker}
-pub use Rattle.std.proofs.lemmas.Simd.{map-map}
+pub use Rattle.std.proofs.lemmas.Simd.{map-map, splat_is_map}
 pub use Rattle.std.proofs.lemmas.Slice.Eq.{bytes_eq-Decides, slice_eq-Decides}
 pub use Rattle.std.proofs.lemmas.Slice.Zip.{AllZip-long, Zip-more, either_empty_from_Zip}
 pub use Rattle.std.specs.BTreeMap.{BTreeMap, is_at}
@@ -28,7 +28,7 @@ pub use Rattle.std.specs.Str.{bytes_eq}
 pub use Rattle.std.specs.Vec.Iter.{into_iter_items, into_iter_len}
 pub use Rattle.par2_plan.specs.Drafts.{HasItsMd5s, IsDraft, IsDraftBy, has_digest, wrong_digest}
 pub use Rattle.par2_plan.specs.Findings.{AreFindings, GoesOn, found_by, is_sought, lost_by, pairs_of, report_by, reports_by, said_by, said_of}
-pub use Rattle.par2_plan.specs.Repairing.{AreRestored, HoldsAsides, IsAsDescribed, IsWholeWhereMatched, WritesAsDescribed, files_removed, known_by, matches_taken, place_by, repair_by, writes}
+pub use Rattle.par2_plan.specs.Repairing.{AreRestored, HoldsAsides, IsAsDescribed, IsWholeWhereMatched, WritesAsDescribed, files_removed, known_by, matches_taken, names_there, place_by, repair_by, writes}
 pub use Rattle.par2_plan.specs.Restoring.{chosen_at, known_in, md5s_of, target_at, targets_among, undetermined_fault}
 pub use Rattle.par2_plan.specs.SliceTexts.{slices_of, text_of, windows_and_texts}
 pub use Rattle.par2_plan.specs.Views.{state_of, target_report_of}

@@ -1,5 +1,5 @@
 -- Files that are cut out of slices.
-use Rattle.par2_plan.proofs.Common.{◌≡◌, ◌∙◌, ℕ, zero, suc, ◌+◌, ◌-◌, ◌≤◌, List, [], ◌∷◌, ◌++◌, length, take, refl, sym, ap, arith, min, replicate, concat, length-replicate, length-take, take-replicate, take_all, take_min, concat-append, padded, length-append}
+use Rattle.par2_plan.proofs.Common.{◌≡◌, ◌∙◌, ℕ, zero, suc, ◌+◌, ◌-◌, ◌≤◌, List, [], ◌∷◌, ◌++◌, length, take, refl, sym, ap, arith, min, replicate, concat, length-replicate, length-take, take-replicate, take_all, take_min, length-append, concat-append, padded}
 use Rattle.std.proofs.lemmas.List.{append-nil, append_assoc}
 
 -- the first items of two lists one after the other

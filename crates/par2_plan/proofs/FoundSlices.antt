@@ -1,5 +1,5 @@
 -- Whether slices are found.
-use Rattle.par2_plan.proofs.Common.{◌≡◌, ◌∙◌, ◌++◌, ◌∷◌, [], append-nil, ℕ, List, Bool, true, false, cond, length, map, take, drop, refl, sym, ap, ap₂, subst, is_some, filter, flat_map, Option, AllByRecursion, length-map, map-append, Pair, Target, Window, padded_windows, found_by, pairs_of, None, Some}
+use Rattle.par2_plan.proofs.Common.{◌≡◌, ◌∙◌, ◌++◌, ◌∷◌, [], append-nil, ℕ, List, Bool, true, false, cond, length, map, take, drop, refl, sym, ap, ap₂, subst, is_some, filter, flat_map, Option, None, Some, AllByRecursion, length-map, map-append, Pair, Target, Window, padded_windows, found_by, pairs_of}
 use Rattle.std.proofs.Math.Seq.{drop-append_seam, take-append_seam}
 
 -- a window is there where its slice is found

@@ -1,11 +1,12 @@
 -- What is found of a set.
-use Rattle.std.specs.Prelude.{◌≡◌, ℕ, Bool, true, false, List, [], ◌∷◌, ◌++◌, length, map, flat_map, filter, not, take, drop, zip, slice_index_or, Option, None, option_map, is_some, if◌then◌else◌}
+use Rattle.std.specs.Prelude.{◌≡◌, ℕ, Bool, true, false, List, [], ◌∷◌, ◌++◌, length, map, flat_map, filter, not, take, drop, zip, slice_index_or, Option, None, option_map, is_some, Ok, if◌then◌else◌}
 use Rattle.std.specs.Borrow.{Bor}
 use Rattle.std.specs.List.{enumerate_from}
 use Rattle.par2_spec.specs.Checksums.{Pair}
 use Rattle.par2_spec.specs.Folders.{Folder, bytes_of, has}
 use Rattle.par2_spec.specs.Names.{is_among}
 use Rattle.par2_spec.specs.Rank.{rank}
+use Rattle.par2_spec.specs.Refusals.{set_in}
 use Rattle.par2_spec.specs.Repairs.{names_without_match}
 use Rattle.par2_spec.specs.Reports.{Complete, Report, TargetReport, needing_state}
 use Rattle.par2_spec.specs.Search.{is_needing, matches, survivors}
@@ -37,6 +38,10 @@ pub record AreFindings (folder : Folder) (set : ParSet) (searched : List (List �
       let sought = is_sought folder set searched in
       let slices = map (found set.slice_size (map (bytes_of folder) searched)) (pairs_of sought set.targets) in
       findings.found.items ≡ found_by sought set.targets (map is_some slices)
+
+-- the set is read with these further files, by some base
+abbrev pub IsRead : Folder → ParSet → List (List ℕ) → Type 0
+IsRead folder set extras = (base : List ℕ) × (set_in folder base extras ≡ Ok set)
 
 -- the match of the next needing target, if this one is needing, and those that are left
 abbrev pub GoesOn : Bool → List (Target × Option (List ℕ)) → Option (Bor (List ℕ)) → List (Target × Option (List ℕ)) → Type 0

@@ -6,7 +6,7 @@ use Rattle.std.specs.List.{AllByRecursion}
 use Rattle.std.specs.Ordering.{nat_cmp}
 use Rattle.md5.specs.Md5.{md5}
 use Rattle.par2_spec.specs.Changes.{Change, Write, Rename, Remove}
-use Rattle.par2_spec.specs.Folders.{Folder, bytes_of}
+use Rattle.par2_spec.specs.Folders.{Folder, bytes_of, has}
 use Rattle.par2_spec.specs.Names.{is_among}
 use Rattle.par2_spec.specs.Plans.{repair_changes, repair_removals}
 use Rattle.par2_spec.specs.Refusals.{set_in}
@@ -66,10 +66,14 @@ abbrev pub HoldsAsides : (List ℕ → List ℕ) → List (List ℕ) → BTreeMa
 HoldsAsides aside names tree =
     (name : List ℕ) → get (slice_cmp nat_cmp) tree name ≡ (if is_among names name then Some (aside name) else None)
 
+-- the names of those of these targets whose files are there
+abbrev pub names_there : Folder → List (Target × Option (List ℕ)) → List (List ℕ)
+names_there folder needing = map (λ m. m.0.name) (filter (λ m. has folder m.0.name) needing)
+
 -- what a repair moves in a folder, by the names that are searched
 pub record AreMoves (folder : Folder) (set : ParSet) (searched : List (List ℕ)) (moves : Moves) : Type 0 where
   pub needing : moves.needing.now ≡ search.matches folder set searched
-  pub names : moves.put_aside.now ≡ put_aside folder set
+  pub names : moves.put_aside.items ≡ put_aside folder set
   pub asides : HoldsAsides (aside folder set) (put_aside folder set) moves.asides
 
 -- the changes of a repair, which may purge

@@ -10,7 +10,7 @@ use std::alloc::Global;
 
 /// What a repair changes, before it is known whether the files that it writes have their MD5s, which can be computed
 /// side by side with other digests.
-#[derive(Debug, Drop)]
+#[derive(Drop)]
 pub struct Draft {
     pub changes: Changes,
     /// The MD5s that the files have to have which the changes write, in order.

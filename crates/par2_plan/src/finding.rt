@@ -6,6 +6,8 @@ ghost use Rattle.std.specs.List.{IsDistinct};
 ghost use Rattle.std.specs.Ordering.{nat_cmp};
 ghost use Rattle.std.specs.Str.{bytes_eq};
 ghost use Rattle.par2_spec.specs.Answers.{Lists};
+ghost use Rattle.par2_spec.specs.Folders.{bytes_of};
+ghost use Rattle.par2_spec.specs.Windows.{found};
 ghost use Rattle.par2_plan.specs.Findings.{AreFindings, found_by, pairs_of};
 
 use crate::matching::{Targets, matches};
@@ -73,7 +75,7 @@ fn push_found(found: &mut Vec<bool>, answers: &[bool], others: &[Pair]) -> Resul
         OnOk result (found.new.items ≡ found.old.items ++ more) }
 {
     found.extend_from_slice(answers)?;
-    found.extend(others.iter().map(|_| true))
+    found.resize(found.len() + others.len(), true)
 }
 
 // Whether each slice of these targets is found: those of the targets of these names by the answers, all of the others.
@@ -97,6 +99,24 @@ fn found_slices(
     Ok(found)
 }
 
+// Whether each slice of the targets of these names is found in the files of the candidates.
+fn are_found(
+    alloc: Global,
+    folder: &Folder,
+    set: &ParSet,
+    names: &BTreeSet<Name>,
+    candidates: &[Name],
+) -> Result<Vec<bool>>
+    ensures { let texts = map (bytes_of folder.now.files) candidates.now in
+        let pairs = pairs_of (λ t. contains (slice_cmp nat_cmp) names.now t.name) set.now.targets in
+        Lists (map is_some (map (found set.now.slice_size texts) pairs)) result }
+{
+    let pairs = sought_pairs(alloc, set, names)?;
+    let texts = file_texts(alloc, folder, candidates)?;
+    let windows = found_windows(alloc, &texts, set.slice_size(), &pairs)?;
+    are_there(alloc, &windows)
+}
+
 /// What is found of a set by the files of these names.
 pub fn findings_of<'s>(
     alloc: Global,
@@ -109,10 +129,7 @@ pub fn findings_of<'s>(
 {
     let targets = matches(alloc, folder, set, candidates)?;
     let unmatched = unmatched(alloc, &targets.needing)?;
-    let pairs = sought_pairs(alloc, set, &unmatched)?;
-    let texts = file_texts(alloc, folder, candidates)?;
-    let windows = found_windows(alloc, &texts, set.slice_size(), &pairs)?;
-    let answers = are_there(alloc, &windows)?;
+    let answers = are_found(alloc, folder, set, &unmatched, candidates)?;
     let found = found_slices(alloc, set.targets(), &unmatched, &answers)?;
     Ok(Findings { targets, found })
 }

@@ -1,10 +1,11 @@
 //! Which targets of a set are needing, and which other files are intact for them.
-ghost use Rattle.std.specs.Prelude.{◌≡◌, ℕ, List, not, map, filter, IfOk, option_and_then, option_map, slice_get, zip};
+ghost use Rattle.std.specs.Prelude.{◌≡◌, ℕ, List, not, map, filter, IfOk, option_and_then, slice_get, zip};
 ghost use Rattle.std.specs.List.{IsDistinct};
 ghost use Rattle.std.specs.Str.{bytes_eq};
 ghost use Rattle.par2_spec.specs.Search as search;
-ghost use Rattle.par2_slices.specs.Matching.{Describe};
+ghost use Rattle.par2_slices.specs.Matching.{Describe, matched_numbers};
 ghost use Rattle.par2_spec.specs.Answers.{Lists};
+ghost use Rattle.par2_spec.specs.Folders.{bytes_of};
 ghost use Rattle.par2_spec.specs.Names.{is_among};
 ghost use Rattle.par2_spec.specs.NameTrees.{HoldsNames};
 
@@ -17,11 +18,12 @@ use std::alloc::Global;
 use std::collections::BTreeSet;
 use std::marker::Model;
 
-/// A target whose file is absent or not intact, and the name of its match, where it has one.
+/// A target whose file is absent or not intact.
 #[derive(Drop)]
 pub struct Needing<'s> {
-    target: &'s Target,
-    found: Option<Name>,
+    pub target: &'s Target,
+    /// The name of its match, where it has one.
+    pub found: Option<Name>,
 }
 
 impl<'s> Model for Needing<'s> {
@@ -31,21 +33,6 @@ impl<'s> Model for Needing<'s> {
     ghost Value = { Described × Option (List ℕ) };
 
     ghost view = { λ n. (n.target.now, n.found) };
-}
-
-impl<'s> Needing<'s> {
-    pub fn target(&self) -> &'s Target
-        ensures { result.now ≡ self.now.0 }
-    {
-        self.target
-    }
-
-    /// The name of its match.
-    pub fn found(&self) -> Option<&Name>
-        ensures { option_map (λ name. name.now) result ≡ self.now.1 }
-    {
-        self.found.as_ref()
-    }
 }
 
 /// The targets of a set.
@@ -128,6 +115,23 @@ fn described<'s>(alloc: Global, targets: &[&'s Target]) -> Result<Vec<par2_slice
         .collect(alloc)
 }
 
+// For each of these targets, which are needing, the number of its match among the files of these names.
+fn match_numbers(
+    alloc: Global,
+    folder: &Folder,
+    set: &ParSet,
+    names: &[Name],
+    targets: &[&Target],
+) -> Result<Vec<Option<usize>>>
+    ensures { let texts = map (bytes_of folder.now.files) names.now in
+        let needing = map (λ t. t.now) targets.now in
+        Lists (matched_numbers set.now.slice_size texts needing) result }
+{
+    let texts = file_texts(alloc, folder, names)?;
+    let described = described(alloc, targets)?;
+    matched(alloc, &texts, set.slice_size(), &described)
+}
+
 // The name of a number, where there is one.
 fn name_at(names: &[Name], number: Option<usize>) -> Option<Name>
     ensures { result ≡ option_and_then (slice_get names.now) number }
@@ -172,12 +176,12 @@ pub fn matches<'s>(
     // The law goes from the numbers of texts to their names.
     matches_by_number_are_by_name();
     let needs = needs(alloc, folder, set)?;
-    let intact = intact_names(alloc, set, &needs)?;
-    let free = free_names(alloc, &intact, candidates)?;
-    let texts = file_texts(alloc, folder, &free)?;
+    let free = {
+        let intact = intact_names(alloc, set, &needs)?;
+        free_names(alloc, &intact, candidates)?
+    };
     let chosen = chosen(alloc, set, &needs)?;
-    let described = described(alloc, &chosen)?;
-    let numbers = matched(alloc, &texts, set.slice_size(), &described)?;
+    let numbers = match_numbers(alloc, folder, set, &free, &chosen)?;
     let needing = with_matches(alloc, &chosen, &free, &numbers)?;
     Ok(Targets { needs, needing })
 }

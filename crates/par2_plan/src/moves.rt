@@ -1,21 +1,22 @@
 //! The parts of a repair's changes.
-ghost use Rattle.std.specs.Prelude.{◌≡◌, ◌++◌, ℕ, List, map, filter, filter_map, IfOk, OnOk};
-ghost use Rattle.par2_spec.specs.Answers.{Lists};
+ghost use Rattle.std.specs.Prelude.{◌≡◌, ◌++◌, ℕ, List, None, map, filter_map, IfOk, OnOk};
+ghost use Rattle.par2_spec.specs.Answers.{FailsFor, Lists};
 ghost use Rattle.par2_spec.specs.Changes as spec;
-ghost use Rattle.par2_spec.specs.Folders.{has};
 ghost use Rattle.par2_spec.specs.Repairs.{names_without_match};
-ghost use Rattle.par2_sets.specs.Asides.{HoldsNames};
-ghost use Rattle.par2_plan.specs.Repairing.{AreMoves, HoldsAsides, files_removed, matches_taken, place_by, writes};
+ghost use Rattle.par2_sets.specs.Asides.{HoldsNames, long_aside};
+ghost use Rattle.par2_plan.specs.Repairing.{AreMoves, HoldsAsides, files_removed, matches_taken, names_there, place_by, writes};
 ghost use Rattle.par2_spec.specs.Folders as folders;
 ghost use Rattle.par2_spec.specs.Plans.{repair_changes, repair_removals};
-ghost use Rattle.par2_spec.specs.Repairs.{par_files, rebuilt_targets};
+ghost use Rattle.par2_spec.specs.Repairs.{AreFew, par_files, rebuilt_targets};
+ghost use Rattle.par2_spec.specs.Search.{matches};
 ghost use Rattle.par2_spec.specs.Sets as sets;
 
 use crate::Changes;
 use crate::matching::Needing;
 use crate::restored_files::Restored;
 use par2_folder::{Change, Folder, Name};
-use par2_spec::Result;
+use par2_sets::{ParSet, asides};
+use par2_spec::{Fault, Result};
 use std::alloc::Global;
 use std::collections::{BTreeMap, BTreeSet};
 
@@ -25,20 +26,19 @@ pub struct Moves<'n, 's> {
     /// The needing targets, which take their matches.
     pub needing: &'n [Needing<'s>],
     /// The names of those whose files are there, and are put aside.
-    pub put_aside: &'n [Name],
+    pub put_aside: Vec<Name>,
     /// Where these files stand then.
     pub asides: BTreeMap<Name, Name>,
 }
 
-/// The names of the needing targets whose files are there.
-pub fn present(alloc: Global, folder: &Folder, needing: &[Needing]) -> Result<Vec<Name>>
-    ensures { let there = filter (λ m. has folder.now.files m.0.name) needing.now in
-        Lists (map (λ m. m.0.name) there) result }
+// The names of the needing targets whose files are there.
+fn present(alloc: Global, folder: &Folder, needing: &[Needing]) -> Result<Vec<Name>>
+    ensures { Lists (names_there folder.now.files needing.now) result }
 {
     needing
         .iter()
-        .filter(|needing| folder.get(needing.target().name()).is_some())
-        .map(|needing| needing.target().name().copied())
+        .filter(|needing| folder.get(needing.target.name()).is_some())
+        .map(|needing| needing.target.name().copied())
         .collect(alloc)
 }
 
@@ -46,17 +46,13 @@ pub fn present(alloc: Global, folder: &Folder, needing: &[Needing]) -> Result<Ve
 pub fn unmatched(alloc: Global, needing: &[Needing]) -> Result<BTreeSet<Name>>
     ensures { IfOk result (λ tree. HoldsNames tree (names_without_match needing.now)) }
 {
-    let unmatched = needing.iter().filter(|needing| needing.found().is_none());
-    let names = unmatched.map(|needing| needing.target().name().copied());
+    let unmatched = needing.iter().filter(|needing| needing.found.is_none());
+    let names = unmatched.map(|needing| needing.target.name().copied());
     names.collect(alloc)
 }
 
-/// The asides by the names of the files that are put aside.
-pub fn asides_by_name(
-    alloc: Global,
-    names: &[Name],
-    asides: &[Name],
-) -> Result<BTreeMap<Name, Name>>
+// The asides by the names of the files that are put aside.
+fn asides_by_name(alloc: Global, names: &[Name], asides: &[Name]) -> Result<BTreeMap<Name, Name>>
     ensures { IfOk result (λ tree. (aside : List ℕ → List ℕ) →
         asides.now ≡ map aside names.now → HoldsAsides aside names.now tree) }
 {
@@ -65,13 +61,39 @@ pub fn asides_by_name(
     pairs.collect(alloc)
 }
 
+/// What a repair of a set moves, whose needing targets these are.
+pub fn moves_of<'n, 's>(
+    alloc: Global,
+    folder: &Folder,
+    set: &ParSet,
+    needing: &'n [Needing<'s>],
+) -> Result<Moves<'n, 's>, Fault>
+    ensures refused { let names = names_there folder.now.files needing.now in
+        FailsFor (long_aside folder.now.files set.now names) result }
+    ensures short { let names = names_there folder.now.files needing.now in
+        IfOk result (λ _. long_aside folder.now.files set.now names ≡ None) }
+    ensures few { IfOk result (λ _. AreFew folder.now.files set.now) }
+    ensures moves { (searched : List (List ℕ)) →
+        needing.now ≡ matches folder.now.files set.now searched →
+        IfOk result (AreMoves folder.now.files set.now searched) }
+{
+    let put_aside = present(alloc, folder, needing)?;
+    let others = asides(alloc, folder, set, &put_aside)?;
+    let asides = asides_by_name(alloc, &put_aside, &others)?;
+    Ok(Moves {
+        needing,
+        put_aside,
+        asides,
+    })
+}
+
 // The names of the matches.
 fn matching(alloc: Global, targets: &[Needing]) -> Result<BTreeSet<Name>>
     ensures { IfOk result (λ names. HoldsNames names (filter_map (λ m. m.1) targets.now)) }
 {
     let names = targets
         .iter()
-        .filter_map(|needing| Some(needing.found()?.copied()));
+        .filter_map(|needing| Some(needing.found.as_ref()?.copied()));
     names.collect(alloc)
 }
 
@@ -111,9 +133,9 @@ fn push_matches(
         OnOk result (changes.new ≡ changes.old ++ taken) }
 {
     for needing in targets {
-        if let Some(found) = needing.found() {
+        if let Some(found) = &needing.found {
             let from = now_at(asides, found);
-            changes.push(Change::Rename(from, needing.target().name().copied()))?;
+            changes.push(Change::Rename(from, needing.target.name().copied()))?;
         }
     }
     Ok(())
@@ -157,7 +179,7 @@ pub fn repair_changes(alloc: Global, moves: &Moves, restored: Vec<Restored>) -> 
         → IfOk result (λ changes. changes ≡ repair_changes folder set searched) }
 {
     let mut changes = Changes::new(alloc);
-    push_asides(&mut changes, moves.put_aside, &moves.asides)?;
+    push_asides(&mut changes, &moves.put_aside, &moves.asides)?;
     push_matches(&mut changes, moves.needing, &moves.asides)?;
     push_writes(&mut changes, restored)?;
     Ok(changes)
@@ -176,6 +198,6 @@ pub fn push_removals(
         → OnOk result (changes.new ≡ changes.old ++ repair_removals folder set searched) }
 {
     let matching = matching(alloc, moves.needing)?;
-    push_removed(changes, moves.put_aside, &moves.asides, &matching)?;
+    push_removed(changes, &moves.put_aside, &moves.asides, &matching)?;
     push_removed(changes, files, &moves.asides, &matching)
 }

@@ -14,7 +14,7 @@ ghost use Rattle.par2_plan.specs.Repairing.{IsWholeWhereMatched, AreMoves, AreRe
 
 use crate::candidates::candidates;
 use crate::matching::{Needing, matches};
-use crate::moves::{Moves, asides_by_name, present, push_removals, repair_changes, unmatched};
+use crate::moves::{Moves, moves_of, push_removals, repair_changes, unmatched};
 use crate::reading::read;
 use crate::restored_files::{Restored, restored_files};
 use crate::restored_slices::restored_slices;
@@ -22,7 +22,7 @@ use crate::{Changes, Draft};
 use par2_digests::text_digests;
 use par2_folder::{Folder, Name};
 use par2_recovery::file_texts;
-use par2_sets::{ParSet, asides, par_files};
+use par2_sets::{ParSet, par_files};
 use par2_spec::{Fault, Result};
 use std::alloc::Global;
 use std::collections::BTreeSet;
@@ -91,18 +91,34 @@ fn draft_with(
     ensures refused { FailsFor (repair_refusal folder.now.files set.now candidates.now) result }
     ensures draft { IfOk result (IsDraftBy purge folder.now.files set.now candidates.now) }
 {
-    let unmatched = unmatched(alloc, needing)?;
-    let restored = files_for(alloc, folder, set, candidates, &unmatched)?;
-    let put_aside = present(alloc, folder, needing)?;
-    let others = asides(alloc, folder, set, &put_aside)?;
-    let moves = Moves {
-        needing,
-        put_aside: &put_aside,
-        asides: asides_by_name(alloc, &put_aside, &others)?,
+    let restored = {
+        let unmatched = unmatched(alloc, needing)?;
+        files_for(alloc, folder, set, candidates, &unmatched)?
     };
+    let moves = moves_of(alloc, folder, set, needing)?;
     let md5s = md5s_of(alloc, &restored)?;
     let changes = changes_with(alloc, folder, set, &moves, restored, purge)?;
     Ok(Draft { changes, md5s })
+}
+
+// The draft of a repair of this set, which is searched for in the files of its targets and in further ones.
+fn draft_of(
+    alloc: Global,
+    folder: &Folder,
+    set: &ParSet,
+    extras: &[Name],
+    purge: bool,
+) -> Result<Draft, Fault>
+    requires { let searched = search.candidates folder.now.files set.now extras.now in
+        IsWholeWhereMatched folder.now.files set.now searched }
+    ensures refused { let searched = search.candidates folder.now.files set.now extras.now in
+        FailsFor (repair_refusal folder.now.files set.now searched) result }
+    ensures draft { let searched = search.candidates folder.now.files set.now extras.now in
+        IfOk result (IsDraftBy purge folder.now.files set.now searched) }
+{
+    let candidates = candidates(alloc, folder, set, extras)?;
+    let targets = matches(alloc, folder, set, &candidates)?;
+    draft_with(alloc, folder, set, &candidates, &targets.needing, purge)
 }
 
 /// The changes of a repair: the files of needing targets are put aside, targets that have a match take it, and the others
@@ -123,10 +139,7 @@ pub fn draft_repair(
         IfOk result (IsDraft folder.now.files base.now words purge) }
 {
     let reading = read(alloc, folder, base, extras)?;
-    let set = &reading.set;
-    let candidates = candidates(alloc, folder, set, &reading.extras)?;
-    let targets = matches(alloc, folder, set, &candidates)?;
-    draft_with(alloc, folder, set, &candidates, &targets.needing, purge)
+    draft_of(alloc, folder, &reading.set, &reading.extras, purge)
 }
 
 /// The changes of a repair, as its draft has them, whose written files are tested.

@@ -22,7 +22,7 @@ use std::alloc::Global;
 use std::slice::Iter;
 
 /// How it is with a target.
-#[derive(Debug, PartialEq, Eq, Drop)]
+#[derive(Drop)]
 pub enum State {
     /// Its file is intact.
     Complete,
@@ -35,7 +35,7 @@ pub enum State {
 }
 
 /// What is said of a target.
-#[derive(Debug, PartialEq, Eq, Drop)]
+#[derive(Drop)]
 pub struct TargetReport {
     pub name: Name,
     pub state: State,
@@ -46,7 +46,7 @@ pub struct TargetReport {
 }
 
 /// What is said of a set.
-#[derive(Debug, PartialEq, Eq, Drop)]
+#[derive(Drop)]
 pub struct Report {
     /// The Recovery Set ID.
     pub set_id: [u8; 16],
@@ -58,20 +58,13 @@ pub struct Report {
     pub rank: usize,
 }
 
-impl State {
-    // Whether the file is intact.
-    fn is_complete(&self) -> bool
-        ensures { result ≡ is_complete (state_of self.now) }
-    {
-        matches!(self, State::Complete)
-    }
-}
-
 // Whether each target is complete.
 fn are_complete(targets: &[TargetReport]) -> bool
     ensures { result ≡ list_all (λ target. is_complete (state_of target.state)) targets.now }
 {
-    targets.iter().all(|target| target.state.is_complete())
+    targets
+        .iter()
+        .all(|target| matches!(target.state, State::Complete))
 }
 
 impl Report {
@@ -100,7 +93,7 @@ fn next_match<'n>(needs: bool, needing: &mut Iter<'n, Needing>) -> Option<&'n Na
     if !needs {
         return None;
     }
-    needing.next()?.found()
+    needing.next()?.found.as_ref()
 }
 
 // The state of a target, by whether it is needing, and its match.

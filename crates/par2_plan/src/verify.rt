@@ -1,7 +1,9 @@
 //! What a verify answers.
-ghost use Rattle.std.specs.Prelude.{◌≡◌, map, string_bytes, IfOk, Ok};
+ghost use Rattle.std.specs.Prelude.{◌≡◌, ℕ, List, map, string_bytes, IfOk, Ok};
 ghost use Rattle.par2_spec.specs.Reports.{report_in, verdict_of, IsVerdictIn, RefusedAsReported};
 ghost use Rattle.par2_spec.specs.Planned.{FailsIn, RefusesEarly, verify_of};
+ghost use Rattle.par2_spec.specs.Refusals.{set_in};
+ghost use Rattle.par2_plan.specs.Findings.{IsRead};
 ghost use Rattle.par2_plan.specs.Views.{report_of};
 
 use crate::Report;
@@ -9,9 +11,22 @@ use crate::candidates::candidates;
 use crate::finding::findings_of;
 use crate::reading::read;
 use crate::report::report_on;
-use par2_folder::Folder;
-use par2_spec::Fault;
+use par2_folder::{Folder, Name};
+use par2_sets::ParSet;
+use par2_spec::{Fault, Result};
 use std::alloc::Global;
+
+// What is said of this set, which is searched for in the files of its targets and in further ones.
+fn report_of(alloc: Global, folder: &Folder, set: &ParSet, extras: &[Name]) -> Result<Report>
+    requires { IsRead folder.now.files set.now extras.now }
+    ensures { (base : List ℕ) → set_in folder.now.files base extras.now ≡ Ok set.now →
+        let answer = report_in folder.now.files base extras.now in
+        IfOk result (λ report. answer ≡ Ok (report_of report)) }
+{
+    let candidates = candidates(alloc, folder, set, extras)?;
+    let findings = findings_of(alloc, folder, set, &candidates)?;
+    report_on(alloc, folder, set, &findings)
+}
 
 /// What a verify says of the set of a base, which is searched for in the files of its targets and in further ones. The
 /// verdict on it is complete exactly where no target is needing, else repairable exactly where the surviving recovery
@@ -32,7 +47,5 @@ pub fn check(alloc: Global, folder: &Folder, base: &str, extras: &[String]) -> R
         IfOk result (λ report. is_refused (report_of report)) }
 {
     let reading = read(alloc, folder, base, extras)?;
-    let candidates = candidates(alloc, folder, &reading.set, &reading.extras)?;
-    let findings = findings_of(alloc, folder, &reading.set, &candidates)?;
-    Ok(report_on(alloc, folder, &reading.set, &findings)?)
+    Ok(report_of(alloc, folder, &reading.set, &reading.extras)?)
 }

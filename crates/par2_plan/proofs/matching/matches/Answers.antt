@@ -1,4 +1,4 @@
-use Rattle.par2_plan.proofs.Common.{◌≡◌, ◌∙◌, Bool, Bor, List, ℕ, map, not, sym, ap, ap₂, subst, filter, zip, Option, slice_get, bytes_of, is_among, Target, is_needing, needing, intact_names, matched_numbers, Describe, texts_of, option_and_then}
+use Rattle.par2_plan.proofs.Common.{◌≡◌, ◌∙◌, Bool, Bor, List, ℕ, map, not, ap, ap₂, filter, zip, Option, slice_get, bytes_of, is_among, Target, is_needing, needing, intact_names, matched_numbers, option_and_then}
 use Rattle.par2_plan.proofs.MatchNumbers.{passed, left_out, matches_by_numbers, free_by}
 use Rattle.par2_plan.proofs.matching.matches.Goals as goal
 
@@ -14,18 +14,15 @@ returns-clause-needing c =
     let ts : List Target = needing folder set in
     let names : List (List ℕ) = free_by folder set searched in
     let chosen : map (λ (t : Bor Target). t.now) c.in_ok-chosen.chosen.items ≡ ts =
-    c.in_ok-chosen.ensures ∙ ap (λ (flags : List Bool). map (λ (z : Target × Bool). z.0) (filter (λ z. z.1) (zip set.targets flags))) (c.deref-3.ensures.value ∙ c.in_ok-needs.ensures) ∙ passed p set.targets in
+    c.in_ok-chosen.ensures ∙ ap (λ (flags : List Bool). map (λ (z : Target × Bool). z.0) (filter (λ z. z.1) (zip set.targets flags))) (c.deref-2.ensures.value ∙ c.in_ok-needs.ensures) ∙ passed p set.targets in
     let intact : map (λ (z : Target × Bool). z.0.name) (filter (λ z. not z.1) (zip set.targets c.deref.result.now)) ≡ intact_names folder set =
     ap (λ (flags : List Bool). map (λ (z : Target × Bool). z.0.name) (filter (λ z. not z.1) (zip set.targets flags))) (c.deref.ensures.value ∙ c.in_ok-needs.ensures) ∙ left_out p set.targets in
     let free : c.in_ok-free.free.items ≡ names =
     c.in_ok-free.ensures _ c.in_ok-intact.ensures ∙ ap (λ (ns : List (List ℕ)). filter (λ name. not (is_among ns name)) searched) intact in
-    let texts : texts_of c.deref-5.result.now ≡ map (bytes_of folder) names =
-    ap texts_of c.deref-5.ensures.value ∙ c.in_ok-texts.ensures ∙ ap (map (bytes_of folder)) (c.deref-2.ensures.value ∙ free) in
-    let told : Describe c.deref-6.result.now ts =
-    subst (λ xs. Describe xs ts) (sym c.deref-6.ensures.value) (subst (Describe c.in_ok-described.described.items) (ap (map (λ (t : Bor Target). t.now)) c.deref-4.ensures.value ∙ chosen) c.in_ok-described.ensures) in
-    let numbers : c.deref-9.result.now ≡ matched_numbers set.slice_size (map (bytes_of folder) names) ts =
-    c.deref-9.ensures.value ∙ c.in_ok-numbers.ensures ts told ∙ ap₂ (λ s (xs : List (List ℕ)). matched_numbers s xs ts) c.slice_size.ensures.value texts in
+    let numbers : c.deref-7.result.now ≡ matched_numbers set.slice_size (map (bytes_of folder) names) ts =
+    c.deref-7.ensures.value ∙ c.in_ok-numbers.ensures
+    ∙ ap₂ (λ (ns : List (List ℕ)) (us : List Target). matched_numbers set.slice_size (map (bytes_of folder) ns) us) (c.deref-3.ensures.value ∙ free) (ap (map (λ (t : Bor Target). t.now)) c.deref-4.ensures.value ∙ chosen) in
     c.in_ok-needing.ensures
-    ∙ ap₂ (λ (us : List Target) (found : List (Option (List ℕ))). zip us found) (ap (map (λ (t : Bor Target). t.now)) c.deref-7.ensures.value ∙ chosen)
-    (ap₂ (λ (ns : List (List ℕ)) (is : List (Option ℕ)). map (option_and_then (slice_get ns)) is) (c.deref-8.ensures.value ∙ free) numbers)
+    ∙ ap₂ (λ (us : List Target) (found : List (Option (List ℕ))). zip us found) (ap (map (λ (t : Bor Target). t.now)) c.deref-5.ensures.value ∙ chosen)
+    (ap₂ (λ (ns : List (List ℕ)) (is : List (Option ℕ)). map (option_and_then (slice_get ns)) is) (c.deref-6.ensures.value ∙ free) numbers)
     ∙ matches_by_numbers folder set searched c.requires (c.matches_by_number_are_by_name.ensures folder set.slice_size names ts)

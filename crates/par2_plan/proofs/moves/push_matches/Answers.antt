@@ -1,4 +1,4 @@
-use Rattle.par2_plan.proofs.Common.{◌≡◌, ◌∙◌, ◌+◌, ◌++◌, ◌∷◌, [], List, ℕ, Bor, sym, ap, ap₂, take, append-nil, append_assoc, Option, option_map, cons_option, filter_map-append, take_more, Change, Rename, Target, matches_taken, place_by}
+use Rattle.par2_plan.proofs.Common.{◌≡◌, ◌∙◌, rules, ◌+◌, ◌++◌, ◌∷◌, [], List, ℕ, sym, ap, ap₂, take, append-nil, append_assoc, None, Some, Option, option_map, cons_option, filter_map-append, take_more, Change, Rename, Target, matches_taken, place_by}
 use Rattle.par2_plan.proofs.moves.push_matches.Goals as goal
 use Rattle.par2_plan.proofs.moves.push_matches.Goals.{in-Some+in_ok-push, in_default}
 
@@ -14,18 +14,21 @@ loop-needing-preserved c = λ aside all h.
     let more : matches_taken place (take (i + 1) ms) ≡ some ++ next item.1 =
     ap (matches_taken place) (take_more ms i item c.loop-needing-test.true ∙ ap (λ x. take i ms ++ x ∷ []) (sym c.needing-item.is))
     ∙ filter_map-append (λ (m : Target × Option (List ℕ)). option_map (λ name. Rename (place name) m.0.name) m.1) (take i ms) (item ∷ []) in
-    let list : List Change = c.match-found.changes in
+    let list : List Change = c.match-needing.changes in
     let step : list ≡ old ++ (some ++ next item.1) =
-    elim c.match-found.branch as (λ _. list ≡ old ++ (some ++ next item.1)) [
+    elim c.match-needing.branch as (λ _. list ≡ old ++ (some ++ next item.1)) [
       | in-Some+in_ok-push w ↦
-          let found : Bor (List ℕ) = w.in-Some.found in
+          let found : List ℕ = w.in-Some.found in
+          let name : w.copied.result ≡ item.0.name = search rules in
+          let is : item.1 ≡ Some found = search rules in
           w.changes-is ∙ w.in_ok-push.ensures.ok
-          ∙ ap₂ (λ from to. c.loop-needing.changes ++ Rename from to ∷ []) (w.now_at-from.ensures aside all h) (w.copied.ensures ∙ w.name.ensures ∙ ap (λ (t : Target). t.name) w.target.ensures)
-          ∙ ap (λ (cs : List Change). cs ++ Rename (place found.now) item.0.name ∷ []) (c.loop-needing.invariant aside all h)
-          ∙ append_assoc old some (Rename (place found.now) item.0.name ∷ [])
-          ∙ ap (λ o. old ++ (some ++ next o)) (sym (sym c.found.ensures ∙ ap (option_map (λ (n : Bor (List ℕ)). n.now)) w.in-Some.is))
+          ∙ ap₂ (λ from to. c.loop-needing.changes ++ Rename from to ∷ []) (w.now_at-from.ensures aside all h) name
+          ∙ ap (λ (cs : List Change). cs ++ Rename (place found) item.0.name ∷ []) (c.loop-needing.invariant aside all h)
+          ∙ append_assoc old some (Rename (place found) item.0.name ∷ [])
+          ∙ ap (λ o. old ++ (some ++ next o)) (sym is)
       | in_default w ↦
+          let is : item.1 ≡ None = search rules in
           w.changes-is ∙ c.loop-needing.invariant aside all h ∙ ap (λ (cs : List Change). old ++ cs) (sym (append-nil some))
-          ∙ ap (λ o. old ++ (some ++ next o)) (sym (sym c.found.ensures ∙ ap (option_map (λ (n : Bor (List ℕ)). n.now)) w.in_default.is))
+          ∙ ap (λ o. old ++ (some ++ next o)) (sym is)
     ] in
     step ∙ ap (λ (cs : List Change). old ++ cs) (sym more)

@@ -8,10 +8,10 @@ returns c = λ folder set searched are files.
     let given : List (List ℕ) = filter_map (λ (m : Target × Option (List ℕ)). m.1) moves.needing.now in
     let holds = c.in_ok-matching.ensures in
     let old : List Change = c.args.changes.now in
-    let first : List Change = files_removed (now_at folder set) given moves.put_aside.now in
+    let first : List Change = files_removed (now_at folder set) given c.deref.result.now in
     let later : List Change = files_removed (now_at folder set) given c.args.files.now in
     on_ok_weaker c.push_removed-2.result
     (λ removed. removed
     ∙ ap (λ (cs : List Change). cs ++ later) (c.in_ok-push_removed.ensures (aside folder set) (put_aside folder set) given are.asides holds)
-    ∙ append_assoc old first later ∙ ap (λ (cs : List Change). old ++ cs) (removals_are folder set searched _ _ _ are.needing are.names files))
+    ∙ append_assoc old first later ∙ ap (λ (cs : List Change). old ++ cs) (removals_are folder set searched _ _ _ are.needing (c.deref.ensures.value ∙ are.names) files))
     (c.push_removed-2.ensures (aside folder set) (put_aside folder set) given are.asides holds)

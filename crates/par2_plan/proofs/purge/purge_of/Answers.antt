@@ -1,4 +1,4 @@
-use Rattle.par2_plan.proofs.Common.{◌≡◌, ◌∙◌, ◌++◌, ◌∷◌, [], List, ℕ, length, map, not, sym, ap, ap₂, inr, rules, tests, map_more, take_all, filter, list_any, fault_where, Change, Remove, is_needing, NotComplete, YieldsList-from_slice, ◌==◌}
+use Rattle.par2_plan.proofs.Common.{◌≡◌, ◌∙◌, ◌++◌, ◌∷◌, [], List, ℕ, length, map, not, sym, ap, ap₂, inr, rules, tests, ◌==◌, map_more, take_all, filter, list_any, fault_where, Change, Remove, is_needing, NotComplete, YieldsList-from_slice}
 use Rattle.std.proofs.lemmas.Iterator.Search.{any_from_yields_List}
 use Rattle.par2_plan.proofs.RepairParts.{any_needing}
 use Rattle.par2_plan.proofs.purge.purge_of.Goals.{After-any}

@@ -1,11 +1,11 @@
-use Rattle.par2_plan.proofs.Common.{◌≡◌, ◌∙◌, List, ℕ, length, map, sym, ap, subst, aside, put_aside, names_without_match, rebuilt_targets, HoldsAsides, known_by, AllByRecursion, err_from_is_err_and, repair_refusal, long_aside, undetermined_fault, md5s_of, refused_by}
+use Rattle.par2_plan.proofs.Common.{◌≡◌, ◌∙◌, List, ℕ, length, ap, subst, names_without_match, rebuilt_targets, known_by, names_there, AllByRecursion, err_from_is_err_and, repair_refusal, long_aside, undetermined_fault, md5s_of, refused_by}
 use Rattle.std.proofs.Common.{Some, None}
 use Rattle.par2_plan.proofs.RepairParts.{told_by, targets_are, not_repairable, too_long, by_digests, put_aside_in}
-use Rattle.par2_plan.proofs.repair.draft_with.Goals.{After-asides}
+use Rattle.par2_plan.proofs.repair.draft_with.Goals.{After-moves_of}
 use Rattle.par2_plan.proofs.repair.draft_with.Goals as goal
 
 -- the lost slices can be rebuilt, if there are any
-told : (c : After-asides) → undetermined_fault c.args.set.now (known_by c.args.folder.now.files c.args.set.now c.args.candidates.now) ≡ None
+told : (c : After-moves_of) → undetermined_fault c.args.set.now (known_by c.args.folder.now.files c.args.set.now c.args.candidates.now) ≡ None
 told c =
     let names = names_without_match c.args.needing.now in
     told_by c.args.folder.now.files c.args.set.now c.args.candidates.now names (ap names_without_match c.requires.needing) c.requires.whole (c.in_ok-restored.ensures.restored names c.in_ok-unmatched.ensures).determined
@@ -20,33 +20,30 @@ returns-in_err-restored-clause-refused c =
     (err_from_is_err_and c.from_residual-in_err-restored.result c.from_residual-in_err-restored.ensures.1) c.in_err-restored.ensures.refused
     (not_repairable folder set searched fault)
 
-pub returns-in_err-others-clause-refused : goal.returns-in_err-others-clause-refused
-returns-in_err-others-clause-refused c =
+pub returns-in_err-moves-clause-refused : goal.returns-in_err-moves-clause-refused
+returns-in_err-moves-clause-refused c =
     let folder = c.args.folder.now.files in
     let set = c.args.set.now in
     let searched : List (List ℕ) = c.args.candidates.now in
-    let fault = c.in_err-others.field-0.0 in
-    refused_by (λ y. long_aside folder set c.deref.result.now ≡ Some y) (λ y. repair_refusal folder set searched ≡ Some y) c.from_residual-in_err-others.result fault
-    (err_from_is_err_and c.from_residual-in_err-others.result c.from_residual-in_err-others.ensures.1) c.in_err-others.ensures.refused
-    (λ h. too_long folder set searched (told (goal.at.returns-in_err-others-clause-refused c).After-asides) fault
-    (subst (λ ns. long_aside folder set ns ≡ Some fault) (c.deref.ensures.value ∙ c.in_ok-put_aside.ensures ∙ put_aside_in folder set searched c.args.needing.now c.requires.needing) h))
+    let fault = c.in_err-moves.field-0.0 in
+    refused_by (λ y. long_aside folder set (names_there folder c.args.needing.now) ≡ Some y) (λ y. repair_refusal folder set searched ≡ Some y) c.from_residual-in_err-moves.result fault
+    (err_from_is_err_and c.from_residual-in_err-moves.result c.from_residual-in_err-moves.ensures.1) c.in_err-moves.ensures.refused
+    (λ h. too_long folder set searched (told (goal.at.returns-in_err-moves-clause-refused c).After-moves_of) fault
+    (subst (λ ns. long_aside folder set ns ≡ Some fault) (put_aside_in folder set searched c.args.needing.now c.requires.needing) h))
 
 pub returns-clause-draft : goal.returns-clause-draft
 returns-clause-draft c =
     let folder = c.args.folder.now.files in
     let set = c.args.set.now in
     let searched : List (List ℕ) = c.args.candidates.now in
-    let short = subst (λ ns. long_aside folder set ns ≡ None) (c.deref.ensures.value ∙ c.in_ok-put_aside.ensures ∙ put_aside_in folder set searched c.args.needing.now c.requires.needing) c.in_ok-others.ensures.short in
+    let short = subst (λ ns. long_aside folder set ns ≡ None) (put_aside_in folder set searched c.args.needing.now c.requires.needing) c.in_ok-moves.ensures.short in
     let targets = targets_are folder set searched (names_without_match c.args.needing.now) (ap names_without_match c.requires.needing) in
     let restored = c.in_ok-restored.ensures.restored (names_without_match c.args.needing.now) c.in_ok-unmatched.ensures in
     let are : c.in_ok-restored.restored.items ≡ rebuilt_targets folder set searched = restored.targets ∙ targets in
-    let put : c.in_ok-put_aside.put_aside.items ≡ put_aside folder set = c.in_ok-put_aside.ensures ∙ put_aside_in folder set searched c.args.needing.now c.requires.needing in
-    let others : c.deref-4.result.now ≡ map (aside folder set) c.deref-3.result.now = c.deref-4.ensures.value ∙ c.in_ok-others.ensures.names ∙ ap (map (aside folder set)) (c.deref.ensures.value ∙ sym c.deref-3.ensures.value) in
-    let holds = subst (λ ns. HoldsAsides (aside folder set) ns c.in_ok-asides_by_name.field-0) (c.deref-3.ensures.value ∙ put) (c.in_ok-asides_by_name.ensures (aside folder set) others) in
     record {
-      changes = c.in_ok-changes.ensures searched (record { needing = c.requires.needing; names = c.deref-2.ensures.value ∙ put; asides = holds }) are;
-      md5s = c.in_ok-md5s.ensures ∙ ap md5s_of (c.deref-5.ensures.value ∙ are);
+      changes = c.in_ok-changes.ensures searched (c.in_ok-moves.ensures.moves searched c.requires.needing) are;
+      md5s = c.in_ok-md5s.ensures ∙ ap md5s_of (c.deref.ensures.value ∙ are);
       lengths = subst (AllByRecursion (λ t. length t.1 ≡ t.0.length)) targets restored.lengths;
-      cause = by_digests folder set searched (told (goal.at.returns-clause-draft c).After-asides) short;
-      few = c.in_ok-others.ensures.few;
+      cause = by_digests folder set searched (told (goal.at.returns-clause-draft c).After-moves_of) short;
+      few = c.in_ok-moves.ensures.few;
     }

@@ -1,4 +1,4 @@
-use Rattle.par2_plan.proofs.Common.{◌≡◌, ◌∙◌, ◌<◌, ◌+◌, ◌++◌, ◌∷◌, List, ℕ, length, drop, get_or, sym, ap, arith, append-nil, flat_map, drop_all, drop_more, Pair, is_among, files_of_slices, Target, all-filter, length-append}
+use Rattle.par2_plan.proofs.Common.{◌≡◌, ◌∙◌, ◌<◌, ◌+◌, ◌++◌, ◌∷◌, List, ℕ, length, drop, get_or, sym, ap, arith, append-nil, flat_map, drop_all, drop_more, length-append, Pair, is_among, files_of_slices, Target, all-filter}
 use Rattle.par2_plan.proofs.TargetWalks.{among, target_more}
 use Rattle.par2_plan.proofs.restored_files.restored_files.Goals as goal
 

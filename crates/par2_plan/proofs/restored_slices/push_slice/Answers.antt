@@ -1,5 +1,5 @@
-use Rattle.par2_plan.proofs.Common.{◌≡◌, ◌∙◌, ◌++◌, ◌+◌, ◌-◌, List, ℕ, length, take, cond, min, rules, ap, ap₂, OnOk, is_ok, replicate, vec_len, Result}
-use Rattle.std.specs.Prelude.{Ok, Err}
+use Rattle.par2_plan.proofs.Common.{◌≡◌, ◌∙◌, ◌++◌, ◌+◌, ◌-◌, List, ℕ, length, take, min, rules, ap, ap₂, replicate, vec_len}
+use Rattle.par2_plan.proofs.SliceLists.{where_ok}
 use Rattle.par2_plan.proofs.Cutting.{one_more_slice}
 use Rattle.par2_plan.proofs.restored_slices.push_slice.Goals as goal
 
@@ -19,7 +19,3 @@ returns c =
     let cut : take (c.len-3.result + c.min-2.result) file ++ replicate (c.len-3.result + c.min-2.result - vec_len c.extend_from_slice.new.self) 0 ≡ take (length file + c.min-2.result) file ++ replicate (length file + c.min-2.result - length file) 0 =
     ap₂ (λ n m. take (n + c.min-2.result) file ++ replicate (n + c.min-2.result - m) 0) count same in
     where_ok c.resize.result _ _ _ _ c.resize.ensures.items (cut ∙ one)
-  where
-    where_ok : {A E : Type 0} (r : Result A E) (new made old wanted : List ℕ) → new ≡ cond (is_ok r) made old → made ≡ wanted → OnOk r (new ≡ wanted)
-    where_ok (Ok x) new made old wanted e h = e ∙ h
-    where_ok (Err x) new made old wanted e h = tt

@@ -1,4 +1,4 @@
-use Rattle.par2_plan.proofs.Common.{◌≡◌, ◌∙◌, ◌⊎◌, List, ℕ, refl, sym, subst, Option, entries, length-map, IsRebuilt, kept_slices, lost, survivors, ParSet, all_pairs, texts_of, known_in, undetermined_fault, Memory, Some, AllZip-long}
+use Rattle.par2_plan.proofs.Common.{◌≡◌, ◌∙◌, ◌⊎◌, List, ℕ, refl, sym, subst, Option, Some, entries, length-map, IsRebuilt, kept_slices, lost, survivors, ParSet, all_pairs, texts_of, known_in, undetermined_fault, Memory, AllZip-long}
 use Rattle.par2_plan.proofs.Rebuilds.{rebuilt_for, enough_for, fault_for, no_fault}
 use Rattle.par2_plan.proofs.restored_slices.restored_slices.Goals.{In-Ok}
 use Rattle.par2_plan.proofs.restored_slices.restored_slices.Goals as goal

@@ -1,4 +1,4 @@
-use Rattle.par2_plan.proofs.Common.{◌≡◌, ◌∙◌, ◌∷◌, [], List, ℕ, Bool, Bor, cond, map, refl, ap, ap₂, rules, tests, Option, is_some, filter, cons_option, IfOk-weaker, bytes_written, texts_written, YieldsList-from_map_by, YieldsList-from_slice, YieldsList-at, YieldsList-from_filter, map_from_collect, unwrap_or, None, Some}
+use Rattle.par2_plan.proofs.Common.{◌≡◌, ◌∙◌, ◌∷◌, [], List, ℕ, Bool, Bor, cond, map, refl, ap, ap₂, rules, tests, Option, is_some, filter, None, Some, cons_option, IfOk-weaker, bytes_written, texts_written, YieldsList-from_map_by, YieldsList-from_slice, YieldsList-at, YieldsList-from_filter, map_from_collect, unwrap_or}
 use Rattle.par2_folder.specs.Views.{change_of}
 use Rattle.par2_folder.specs.declared.change.Change.{Change}
 use Rattle.par2_plan.proofs.draft.Draft.texts.Goals as goal

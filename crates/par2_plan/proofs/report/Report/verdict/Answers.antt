@@ -1,4 +1,4 @@
-use Rattle.par2_plan.proofs.Common.{◌≡◌, ◌∙◌, Bool, List, ℕ, Ok, sym, ap, ap₂, cond, subst, list_all, eq-eqb, ne_eqb, list_all-map, Folder, is_complete, report_in, verdict_of, IsVerdictIn, verdict_by_words, target_report_of, ◌==◌, state_of}
+use Rattle.par2_plan.proofs.Common.{◌≡◌, ◌∙◌, Bool, List, ℕ, Ok, sym, ap, ap₂, cond, subst, ◌==◌, list_all, eq-eqb, ne_eqb, list_all-map, Folder, is_complete, report_in, verdict_of, IsVerdictIn, verdict_by_words, target_report_of, state_of}
 use Rattle.par2_plan.specs.Views.{report_of}
 use Rattle.par2_spec.specs.declared.Verdict.{Verdict}
 use Rattle.par2_spec.specs.Reports as reports

@@ -1,0 +1,15 @@
+use Rattle.par2_plan.proofs.Common.{◌≡◌, ◌∙◌, List, ℕ, map, ap, ap₂, is_some, Option, IfOk-weaker, bytes_of, found, Target, padded_windows, texts_of, contains, slice_cmp, nat_cmp, pairs_of}
+use Rattle.par2_plan.proofs.FoundSlices.{windows_there}
+use Rattle.par2_plan.proofs.finding.are_found.Goals as goal
+
+pub returns : goal.returns
+returns c =
+    let set = c.args.set.now in
+    let s = c.slice_size.result in
+    let sought = λ (t : Target). contains (slice_cmp nat_cmp) c.args.names.now t.name in
+    let f = found set.slice_size (map (bytes_of c.args.folder.now.files) c.args.candidates.now) in
+    let windows : padded_windows s c.deref-3.result.now ≡ map f (pairs_of sought set.targets) =
+    ap (padded_windows s) c.deref-3.ensures.value ∙ c.in_ok-windows.ensures.first
+    ∙ ap₂ (λ n ts. map (found n ts) c.deref-2.result.now) c.slice_size.ensures.value (ap texts_of c.deref.ensures.value ∙ c.in_ok-texts.ensures)
+    ∙ ap (map f) (c.deref-2.ensures.value ∙ c.in_ok-pairs.ensures) in
+    IfOk-weaker c.are_there.result _ _ (λ list is. is ∙ windows_there s c.deref-3.result.now ∙ ap (map (λ (slice : Option (List ℕ)). is_some slice)) windows) c.are_there.ensures
