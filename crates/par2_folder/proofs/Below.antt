@@ -1,7 +1,6 @@
 -- The files of a folder before a name, which changes from the name on leave as they are, and what is hashed of them.
-use Rattle.par2_folder.proofs.Common.{◌≡◌, ℕ, zero, suc, ◌<◌, ◌≤◌, Bool, true, false, cond, List, ◌∷◌, ◌++◌, length, take, Option, Some, None, refl, sym, ap, ◌∙◌, arith, is_lt, is_eq, eq_by_cmp, ord_min, Ordering, Less, Equal, Greater, nat_list_cmp_total, entries, same_map, entries-from_sorted, get-from_sorted, get-retain_keys, get-insert, get-remove, where_key, find-where_key, is_sorted-where_key, cases_lt, File, Folder, behind_length, name_cmp, IsSortedByName, folder_of, file_at, IsAt, IsGapFor, IsKept, is_below, folder_below, fingerprint_input, IsFrom, IsFront, by_true, effect, Change, Write, bytes_of, flat_map-append}
+use Rattle.par2_folder.proofs.Common.{◌≡◌, ℕ, zero, suc, ◌<◌, ◌≤◌, Bool, true, false, cond, List, ◌∷◌, ◌++◌, length, take, Option, Some, None, refl, sym, ap, ◌∙◌, arith, is_lt, is_eq, eq_by_cmp, ord_min, Ordering, Less, Equal, Greater, nat_list_cmp_total, entries, same_map, entries-from_sorted, get-from_sorted, get-retain_keys, get-insert, get-remove, where_key, find-where_key, is_sorted-where_key, cases_lt, File, Folder, behind_length, bytes_of, name_cmp, IsSortedByName, folder_of, file_at, IsAt, IsGapFor, IsKept, is_below, folder_below, fingerprint_input, IsFrom, IsFront, by_true, effect, Change, Write, flat_map-append, Replace, Rename, Remove}
 use Rattle.std.specs.FinMap as map_of
-use Rattle.par2_spec.specs.Changes.{Replace, Rename, Remove}
 use Rattle.par2_folder.proofs.SortedFiles.{same_names, rises, turned, turned_back}
 
 -- ---- the files before a place

@@ -1,4 +1,4 @@
-use Rattle.par2_folder.proofs.Common.{◌≡◌, ◌+◌, ◌∙◌, Bool, true, false, [], ◌∷◌, IsTrue, ap, cond, map, subst, sym, append-nil, are_applicable, change_of, text_before, touches, run_texts, AreTo, HaveAbsorbed, folder_in}
+use Rattle.par2_folder.proofs.Common.{◌≡◌, ◌+◌, ◌∙◌, Bool, true, false, [], ◌∷◌, IsTrue, ap, arith, cond, map, subst, sym, append-nil, are_applicable, change_of, text_before, touches, run_texts, AreTo, HaveAbsorbed, folder_in}
 use Rattle.par2_folder.proofs.Walks.{absorbed_here, arrived, goes_on, in_range, next_applicable, parents_then}
 use Rattle.par2_folder.proofs.walk.runs_before.Goals.{After-touches-in-loop-change, then-touches, else-touches, then-touches-2+in_ok-push_between-2, else-touches-2}
 use Rattle.par2_folder.proofs.walk.runs_before.Goals as goal
@@ -31,6 +31,9 @@ place c =
       | then-touches w ↦ w.place-is ∙ sym (ap at (sym c.touches.ensures ∙ w.if-touches.true))
       | else-touches w ↦ w.place-is ∙ sym (ap at (sym c.touches.ensures ∙ w.if-touches.false))
     ]
+
+pub overflow_add-place : goal.overflow_add-place
+overflow_add-place c = omega (arith, in_range c.args.states.now c.loop-change.place _ _ c.loop-change.invariant.parents)
 
 pub bounds-states-place : goal.bounds-states-place
 bounds-states-place c =

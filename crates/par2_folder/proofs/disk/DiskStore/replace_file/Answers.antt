@@ -1,5 +1,4 @@
-use Rattle.par2_folder.proofs.Common.{arith}
-use Rattle.par2_spec.specs.Changes.{is_applicable}
+use Rattle.par2_folder.proofs.Common.{arith, is_applicable}
 use Rattle.par2_folder.proofs.disk.DiskStore.replace_file.Goals as goal
 
 pub returns-clause-made : goal.returns-clause-made
