@@ -1,5 +1,5 @@
 -- The files of a folder before a name, which changes from the name on leave as they are, and what is hashed of them.
-use Rattle.par2_folder.proofs.Common.{◌≡◌, ℕ, zero, suc, ◌<◌, ◌≤◌, Bool, true, false, cond, List, ◌∷◌, ◌++◌, length, take, Option, Some, None, refl, sym, ap, ◌∙◌, arith, is_lt, is_eq, eq_by_cmp, ord_min, Ordering, Less, Equal, Greater, nat_list_cmp_total, entries, same_map, entries-from_sorted, get-from_sorted, get-retain_keys, get-insert, get-remove, where_key, find-where_key, is_sorted-where_key, cases_lt, File, Folder, behind_length, name_cmp, IsSortedByName, folder_of, file_at, IsAt, IsGapFor, IsKept, is_below, folder_below, fingerprint_input, IsFrom, IsFront, by_true, effect, Change, flat_map-append}
+use Rattle.par2_folder.proofs.Common.{◌≡◌, ℕ, zero, suc, ◌<◌, ◌≤◌, Bool, true, false, cond, List, ◌∷◌, ◌++◌, length, take, Option, Some, None, refl, sym, ap, ◌∙◌, arith, is_lt, is_eq, eq_by_cmp, ord_min, Ordering, Less, Equal, Greater, nat_list_cmp_total, entries, same_map, entries-from_sorted, get-from_sorted, get-retain_keys, get-insert, get-remove, where_key, find-where_key, is_sorted-where_key, cases_lt, File, Folder, behind_length, bytes_of, name_cmp, IsSortedByName, folder_of, file_at, IsAt, IsGapFor, IsKept, is_below, folder_below, fingerprint_input, IsFrom, IsFront, by_true, effect, Change, Write, flat_map-append, Replace, Rename, Remove}
 use Rattle.std.specs.FinMap as map_of
 use Rattle.par2_folder.proofs.SortedFiles.{same_names, rises, turned, turned_back}
 
@@ -103,4 +103,9 @@ module _ (name n : List ℕ) (folder : Folder) (h : is_below name n ≡ false) w
 -- a change from the name on leaves what is before it
 pub effect_below : (name : List ℕ) (folder : Folder) (change : Change) → IsFrom name change → folder_below name (effect folder change) ≡ folder_below name folder
 unfolding effect
-effect_below name folder change h = grind (arith, put_from, both_from, gone_from)
+effect_below name folder (Write n bytes) h = put_from name n folder h bytes
+effect_below name folder (Replace n bytes) h = put_from name n folder h bytes
+effect_below name folder (Rename from to) h =
+    let both = both_from name from to h in
+    put_from name to (map_of.remove folder from) both.1 (bytes_of folder from) ∙ gone_from name from folder both.0
+effect_below name folder (Remove n) h = gone_from name n folder h

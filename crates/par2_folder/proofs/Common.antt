@@ -37,7 +37,7 @@ pub use Rattle.par2_folder.specs.declared.snapshot.Border.TheVariants.{At, Begin
 pub use Rattle.par2_folder.specs.declared.snapshot.BorrowedFile.{BorrowedFile}
 pub use Rattle.par2_spec.proofs.FolderLaws.{taken_are_applicable, takes_first, takes_rest}
 pub use Rattle.par2_spec.proofs.TestLaws.{by_true, cond-not, is_true}
-pub use Rattle.par2_spec.specs.Changes.{Change, FolderState, Write, inverse, is_applicable, state_after}
-unfoldable pub use Rattle.par2_spec.specs.Changes.{are_applicable, change_refusal, effect, folders_after, state_after_all, takes_all, way_back}
+pub use Rattle.par2_spec.specs.Changes.{Change, FolderState, Remove, Rename, Replace, Write, inverse, state_after}
+unfoldable pub use Rattle.par2_spec.specs.Changes.{are_applicable, change_refusal, effect, folders_after, is_applicable, state_after_all, takes_all, way_back}
 pub use Rattle.par2_spec.specs.Folders.{File, Folder, IsFolder, behind_length, bytes_of, has, names}
 unfoldable pub use Rattle.par2_spec.specs.Folders.{fingerprint}

@@ -75,14 +75,14 @@ impl Change {
         ensures { IfOk result (λ copy. change_of copy ≡ change_of change.now) }
     {
         match change {
-            Change::Write(name, bytes) => Ok(Change::Write(
-                name.copied(),
-                Bytes::copy_of(alloc, bytes.as_slice())?,
-            )),
-            Change::Replace(name, bytes) => Ok(Change::Replace(
-                name.copied(),
-                Bytes::copy_of(alloc, bytes.as_slice())?,
-            )),
+            Change::Write(name, bytes) => {
+                let bytes = Bytes::copy_of(alloc, bytes.as_slice())?;
+                Ok(Change::Write(name.copied(), bytes))
+            }
+            Change::Replace(name, bytes) => {
+                let bytes = Bytes::copy_of(alloc, bytes.as_slice())?;
+                Ok(Change::Replace(name.copied(), bytes))
+            }
             Change::Rename(from, to) => Ok(Change::Rename(from.copied(), to.copied())),
             Change::Remove(name) => Ok(Change::Remove(name.copied())),
         }

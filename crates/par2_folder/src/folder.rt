@@ -123,7 +123,7 @@ impl Folder {
         ensures kept { IfOk result (λ snapshot. IsKept (files_in snapshot)) }
         ensures folder { IfOk result (λ snapshot. folder_in snapshot ≡ self.now.files) }
     {
-        let files = self.files.iter().map(|file| borrowed(file));
+        let files = self.files.iter().map(borrowed);
         let files = files.collect(*self.files.allocator())?;
         Ok(Snapshot { files })
     }

@@ -131,10 +131,13 @@ fn landmark_names(alloc: Global, snapshot: &Snapshot) -> Result<Vec<Name>>
 
 // How many bytes the parts lend, as far as a number tells.
 fn bytes_lent(parts: &[Part]) -> usize {
-    parts.iter().fold(0, |count: usize, part| match part {
-        Part::Length(_) => count,
-        Part::Bytes(bytes) => count.saturating_add(bytes.len()),
-    })
+    let mut count: usize = 0;
+    for part in parts {
+        if let Part::Bytes(bytes) = part {
+            count = count.saturating_add(bytes.len());
+        }
+    }
+    count
 }
 
 // Goes on to the next border, and in the text by as many bytes as the files on the way have.
@@ -221,7 +224,7 @@ pub fn mark_folder(
     let snapshot = folder.snapshot()?;
     let (border, state) = from.before(name);
     let mut runs = Runs::new(alloc);
-    runs.push(run_between(alloc, state, &snapshot, border, Border::At(name))?)?;
+    runs.push_between(alloc, state, &snapshot, border, Border::At(name))?;
     let states = states_with(alloc, runs, beside)?;
     let beside = digests_of(alloc, &states[1..])?;
     let mut landmarks = Landmarks::none(alloc);

@@ -46,7 +46,7 @@ fn has_length(bytes: &[u8]) -> bool
 fn has_byte(bytes: &[u8], barred: u8) -> bool
     ensures { result ≡ list_any (λ b. b == barred) bytes.now }
 {
-    bytes.iter().any(|byte| *byte == barred)
+    bytes.contains(&barred)
 }
 
 /// Whether the text begins as the files do that are kept for the history.
@@ -84,8 +84,10 @@ impl Name {
         if !is_name(text) {
             return Err(BadName);
         }
-        let text = ArrayString::from(text).map_err(|_| BadName)?;
-        Ok(Name { text })
+        match ArrayString::from(text) {
+            Ok(text) => Ok(Name { text }),
+            Err(_) => Err(BadName),
+        }
     }
 
     /// The name with these bytes, where they are a name.

@@ -56,7 +56,7 @@ pub trait Disk {
 }
 
 /// A count.
-#[derive(Debug, Drop)]
+#[derive(Drop)]
 pub struct Count {
     pub ghost count: { ℕ },
 }

@@ -10,12 +10,14 @@ ghost use Rattle.par2_digests.specs.Texts.{texts_of};
 ghost use Rattle.par2_spec.specs.Changes.{are_applicable, folders_after, takes_all};
 ghost use Rattle.par2_spec.specs.Folders.{fingerprint};
 ghost use Rattle.par2_folder.specs.Views.{change_of};
-ghost use Rattle.par2_folder.specs.Borders.{texts_by, IsFurther};
+ghost use Rattle.par2_folder.specs.Borders.{texts_by, text_before, IsFurther};
+ghost use Rattle.par2_folder.specs.Snapshots.{files_in, folder_in};
+ghost use Rattle.par2_folder.specs.Sorting.{IsKept};
 ghost use Rattle.par2_folder.specs.Landmarks.{AreLandmarksOf};
 ghost use Rattle.par2_folder.specs.declared.snapshot.Border.TheVariants.{End};
 
 use crate::landmarks::Landmarks;
-use crate::snapshot::{Border, is_further, run_between, touches};
+use crate::snapshot::{Border, Snapshot, is_further, run_between, touches};
 use crate::{Change, Folder, Name};
 use par2_digests::{LANES, Midstate, Part, Pending, absorb_each};
 use par2_spec::Result;
@@ -67,6 +69,27 @@ impl<'a> Runs<'a> {
         Ok(self.pendings.push(pending)?)
     }
 
+    /// Adds the state before the first border, with the files between the borders to absorb.
+    pub(crate) fn push_between(
+        &mut self,
+        alloc: Global,
+        state: Midstate,
+        snapshot: &Snapshot<'a>,
+        from: Border<'_>,
+        to: Border<'_>,
+    ) -> Result<()>
+        requires few { length self.old.pendings.items ≤ 8 }
+        requires kept { IsKept (files_in snapshot.now) }
+        requires further { IsFurther from to }
+        ensures few { OnOk result (length self.new.pendings.items ≤ 8) }
+        ensures texts { (texts : List (List ℕ)) → AreTo self.old texts
+            → HasAbsorbed state (text_before from.entry (folder_in snapshot.now))
+            → OnOk result
+            (AreTo self.new (texts ++ text_before to.entry (folder_in snapshot.now) ∷ [])) }
+    {
+        self.push(run_between(alloc, state, snapshot, from, to)?)
+    }
+
     /// The states after all parts.
     pub(crate) fn finish(mut self) -> Result<Vec<Midstate>>
         requires few { length self.pendings.items ≤ 8 }
@@ -83,9 +106,8 @@ const MOST_BORDERS: usize = 64;
 
 // The names where borders are: of the first names that the changes touch, the least and others in order.
 fn border_names(alloc: Global, changes: &[Change]) -> Result<Vec<Name>> {
-    let first_names = changes.iter().map(|change| change.first_name());
-    let mut names: Vec<Name> = first_names.collect(alloc)?;
-    names.sort()?;
+    let mut names: Vec<Name> = changes.iter().map(Change::first_name).collect(alloc)?;
+    names.sort_unstable();
     let step = names.len().div_ceil(MOST_BORDERS).max(1);
     names.into_iter().step_by(step).collect(alloc)
 }
@@ -107,7 +129,7 @@ fn runs_before<'a>(
 {
     let mut snapshot = folder.snapshot()?;
     let mut runs = Runs::new(alloc);
-    runs.push(run_between(alloc, states[0], &snapshot, from, to)?)?;
+    runs.push_between(alloc, states[0], &snapshot, from, to)?;
     let mut place = 0;
     for change in changes {
         snapshot.apply(change)?;
@@ -115,7 +137,7 @@ fn runs_before<'a>(
             place += 1;
         }
         if touches(to, change) {
-            runs.push(run_between(alloc, states[place], &snapshot, from, to)?)?;
+            runs.push_between(alloc, states[place], &snapshot, from, to)?;
         }
     }
     Ok(runs)

@@ -51,5 +51,8 @@ returns-in_err-bytes-clause-possible g c h =
     let files = ap (λ (k : Contents). k.files) (so_far.reads.same h) in
     c.in_err-bytes.ensures.file.possible (so_far.reads.honest h) (still_there _ _ _ _ _ files (so_far.listed h) c.loop-name-test.true c.name-item.is) ∙ so_far.possible h
 
+pub returns-in_err-bytes-clause-reads : goal.returns-in_err-bytes-clause-reads
+returns-in_err-bytes-clause-reads g c = reads_on c.loop-name.invariant.reads c.in_err-bytes.ensures.reads
+
 pub returns-clause-files : goal.returns-clause-files
 returns-clause-files g c h = is_whole _ _ c.loop-name.name-index (c.loop-name.invariant.files h) (subst (λ l. length l ≤ c.loop-name.name-index) (c.loop-name.invariant.listed h) c.loop-name-test.false)

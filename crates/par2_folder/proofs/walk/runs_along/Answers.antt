@@ -1,4 +1,8 @@
+use Rattle.par2_folder.proofs.Common.{arith}
 use Rattle.par2_folder.proofs.walk.runs_along.Goals as goal
 
 pub loop-name-init : goal.loop-name-init
 loop-name-init c = rw c.in_ok-states.ensures.items (c.start.ensures c.args.folder.now.files c.requires.landmarks)
+
+pub loop-name-preserved : goal.loop-name-preserved
+loop-name-preserved c = grind (arith)

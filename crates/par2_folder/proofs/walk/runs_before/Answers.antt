@@ -1,6 +1,6 @@
-use Rattle.par2_folder.proofs.Common.{◌≡◌, ◌+◌, ◌∙◌, Bool, true, false, [], ◌∷◌, IsTrue, ap, cond, map, subst, sym, append-nil, are_applicable, change_of, text_before, touches, run_texts, AreTo, HaveAbsorbed, folder_in}
+use Rattle.par2_folder.proofs.Common.{◌≡◌, ◌+◌, ◌∙◌, Bool, true, false, [], ◌∷◌, IsTrue, ap, arith, cond, map, subst, sym, append-nil, are_applicable, change_of, text_before, touches, run_texts, AreTo, HaveAbsorbed, folder_in}
 use Rattle.par2_folder.proofs.Walks.{absorbed_here, arrived, goes_on, in_range, next_applicable, parents_then}
-use Rattle.par2_folder.proofs.walk.runs_before.Goals.{After-touches-in-loop-change, then-touches, else-touches, then-touches-2+in_ok-run_between-2+in_ok-push-2, else-touches-2}
+use Rattle.par2_folder.proofs.walk.runs_before.Goals.{After-touches-in-loop-change, then-touches, else-touches, then-touches-2+in_ok-push_between-2, else-touches-2}
 use Rattle.par2_folder.proofs.walk.runs_before.Goals as goal
 
 pub loop-change-init : goal.loop-change-init
@@ -12,11 +12,11 @@ loop-change-init c =
     let absorbed : HaveAbsorbed states (run_texts c.args.from here changes) = subst (λ f. HaveAbsorbed states (run_texts c.args.from f changes)) (sym folder) c.requires.absorbed in
     record {
       kept = c.in_ok-snapshot.ensures.kept;
-      few = c.in_ok-push.ensures.few;
+      few = c.in_ok-push_between.ensures.few;
       applicable = subst (λ f. IsTrue (are_applicable f changes)) (sym folder) c.requires.applicable;
       parents = absorbed;
       done = text_before c.args.to here ∷ [];
-      reached = c.in_ok-push.ensures.texts [] _ c.new-runs.ensures.texts (c.in_ok-run_between.ensures (absorbed_here states 0 _ _ _ absorbed));
+      reached = c.in_ok-push_between.ensures.texts [] c.new-runs.ensures.texts (absorbed_here states 0 _ _ _ absorbed);
       whole = ap (λ f. run_texts c.args.to f changes) folder;
     }
 
@@ -31,6 +31,9 @@ place c =
       | then-touches w ↦ w.place-is ∙ sym (ap at (sym c.touches.ensures ∙ w.if-touches.true))
       | else-touches w ↦ w.place-is ∙ sym (ap at (sym c.touches.ensures ∙ w.if-touches.false))
     ]
+
+pub overflow_add-place : goal.overflow_add-place
+overflow_add-place c = omega (arith, in_range c.args.states.now c.loop-change.place _ _ c.loop-change.invariant.parents)
 
 pub bounds-states-place : goal.bounds-states-place
 bounds-states-place c =
@@ -47,10 +50,10 @@ loop-change-preserved c =
     let parents = parents_then walk.invariant c.loop-change-test.true c.change-item.is place in
     let absorbed = absorbed_here c.args.states.now c.if-touches.place _ _ _ parents in
     elim c.if-touches-2.branch [
-      | then-touches-2+in_ok-run_between-2+in_ok-push-2 w ↦
+      | then-touches-2+in_ok-push_between-2 w ↦
           let begun = sym c.touches-in-loop-change.ensures ∙ w.if-touches-2.true in
-          let reached = w.in_ok-push-2.ensures.texts walk.invariant.done _ walk.invariant.reached (w.in_ok-run_between-2.ensures (rw after absorbed)) in
-          rw w.runs-is (goes_on walk.invariant c.loop-change-test.true c.change-item.is place next after c.in_ok-apply.ensures.kept w.push-then-touches-2.new.self w.in_ok-push-2.ensures.few true begun reached)
+          let reached = w.in_ok-push_between-2.ensures.texts walk.invariant.done walk.invariant.reached (rw after absorbed) in
+          rw w.runs-is (goes_on walk.invariant c.loop-change-test.true c.change-item.is place next after c.in_ok-apply.ensures.kept w.push_between-then-touches-2.new.self w.in_ok-push_between-2.ensures.few true begun reached)
       | else-touches-2 w ↦
           let begun = sym c.touches-in-loop-change.ensures ∙ w.if-touches-2.false in
           rw w.runs-is (goes_on walk.invariant c.loop-change-test.true c.change-item.is place next after c.in_ok-apply.ensures.kept walk.runs walk.invariant.few false begun (subst (AreTo walk.runs) (sym (append-nil walk.invariant.done)) walk.invariant.reached))
