@@ -1,5 +1,4 @@
-use Rattle.par2_recovery.proofs.Common.{ℕ, ◌≡◌, ◌<◌, ◌∙◌, [], List, sym, ap, subst, arith, length, map, get_or-map, length-map, AllByRecursion, list_at, lists_of, all_get, all-filter, length-lists_of, AreBytes, AreSolved, AreRebuilt, known_among, bytes_or_none, with_lost_slices, recovered_of, exponents_of, texts_of}
-use Rattle.par2_recovery.specs.Answers.{lost_among}
+use Rattle.par2_recovery.proofs.Common.{ℕ, ◌≡◌, ◌<◌, ◌∙◌, [], List, sym, ap, subst, arith, length, map, get_or-map, length-map, AllByRecursion, list_at, lists_of, all_get, all-filter, length-lists_of, AreBytes, AreSolved, AreRebuilt, known_among, bytes_or_none, with_lost_slices, recovered_of, exponents_of, lost, texts_of}
 use Rattle.par2_recovery.proofs.Combinations.{length-texts_of}
 use Rattle.par2_recovery.proofs.Finishing.{answer, inverse_long}
 use Rattle.par2_recovery.proofs.Inverting.{length-recovered_of, many_texts}
@@ -20,7 +19,7 @@ many : (c : After-deref-9) → length c.deref-8.result.now ≡ length c.args.fou
 many c = many_texts c.args.found.now.kept.items c.deref-8.result.now (recovery_are c)
 
 pub solved-requires-clause-inverse : goal.solved-requires-clause-inverse
-solved-requires-clause-inverse c = rw (c.deref-6.ensures.value, many (goal.at.solved-requires-clause-inverse c).After-deref-9) (inverse_long (lost_among c.args.survivors.now) c.args.found.now.kept.items c.args.found.now.inverse.items c.requires.inverse)
+solved-requires-clause-inverse c = rw (c.deref-6.ensures.value, many (goal.at.solved-requires-clause-inverse c).After-deref-9) (inverse_long (lost (known_among c.args.survivors.now)) c.args.found.now.kept.items c.args.found.now.inverse.items c.requires.inverse)
 
 pub solved-requires-clause-exponents : goal.solved-requires-clause-exponents
 solved-requires-clause-exponents c =
@@ -43,9 +42,9 @@ solved-requires-clause-size c = λ j h.
     ap (λ xs. length (list_at xs j)) (recovery_are at) ∙ ap length (get_or-map (λ (r : ℕ × List ℕ). r.1) recs j (0, []) [] low) ∙ all_get (λ (r : ℕ × List ℕ). length r.1 ≡ s) recs j (0, []) low sizes
 
 made : (c : After-deref-9) (texts : List (List ℕ)) → AreSolved c.args.survivors.now.slice (lists_of c.deref-6.result.now) c.deref-7.result.now (texts_of c.deref-9.result.now) (texts_of c.deref-8.result.now) texts → AreBytes texts
-    → AreRebuilt c.args.survivors.now (with_lost_slices (known_among c.args.survivors.now) texts) × (length texts ≡ length (lost_among c.args.survivors.now))
+    → AreRebuilt c.args.survivors.now (with_lost_slices (known_among c.args.survivors.now) texts) × (length texts ≡ length (lost (known_among c.args.survivors.now)))
 made c texts solved fit =
-    answer c.args.survivors.now c.requires.survivors (lost_among c.args.survivors.now) (recovered_of c.args.found.now.kept.items) (lists_of c.args.found.now.inverse.items) texts
+    answer c.args.survivors.now c.requires.survivors (lost (known_among c.args.survivors.now)) (recovered_of c.args.found.now.kept.items) (lists_of c.args.found.now.inverse.items) texts
     (lost_are c.args.survivors.now.slice c.args.survivors.now.known.items) c.requires.kept c.requires.inverse c.requires.enough
     (subst AreBytes (ap texts_of (c.deref-5.ensures.value ∙ sym c.deref-9.ensures.value) ∙ slices_are c) c.fit_texts-2.ensures)
     (subst AreBytes (ap texts_of (c.deref-4.ensures.value ∙ sym c.deref-8.ensures.value) ∙ recovery_are c) c.fit_texts.ensures)
