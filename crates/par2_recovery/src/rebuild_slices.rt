@@ -78,23 +78,16 @@ fn solved_by(
     requires kept { KeepsThose (lost_among survivors.now) survivors.now.recovery.items found.now }
     requires inverse { HasInverse (lost_among survivors.now) found.now }
     ensures rebuilt { IfOk result (λ texts. Rebuild survivors.now texts.items) }
-    ensures count { IfOk result (λ texts. length texts.items ≡ length (lost_among survivors.now)) }
+    ensures count { IfOk result (λ it. length it.items ≡ length (lost_among survivors.now)) }
 {
     let exponents = exponents_of(alloc, &found.kept)?;
     let recovery = bytes_of(alloc, &found.kept)?;
     let slices = slices_or_none(alloc, &survivors.known)?;
     fit_texts(&recovery);
     fit_texts(&slices);
+    let inverse = &found.inverse;
     let size = survivors.slice;
-    let texts = solved(
-        alloc,
-        gf,
-        &found.inverse,
-        &exponents,
-        &recovery,
-        &slices,
-        size,
-    )?;
+    let texts = solved(alloc, gf, inverse, &exponents, &recovery, &slices, size)?;
     fit_lists(&texts);
     Ok(texts)
 }

@@ -1,4 +1,4 @@
-use Rattle.par2_recovery.proofs.Common.{◌≡◌, ◌∙◌, refl, sym, ap, IfErr, IsTrueFault, lost, known_among, lost_from, exponents_of, rules}
+use Rattle.par2_recovery.proofs.Common.{◌≡◌, ◌∙◌, refl, sym, ap, rules, IfErr, IsTrueFault, lost_from, exponents_of, lost, known_among}
 use Rattle.par2_recovery.proofs.Beginnings.{lost_rise}
 use Rattle.par2_recovery.proofs.Rebuilding.{lost_are, lost-lt, length-lost_from}
 use Rattle.par2_recovery.proofs.rebuild_slices.rebuild.Goals.{After-deref-3}
