@@ -156,8 +156,8 @@ fn is_as_told(
 ) -> bool {
     match (answer, wanted) {
         (Ok(texts), Ok(told)) => are_texts(texts, told),
-        (Err(RebuildFault::NotRepairable { missing, rank }), Err((lost, kept))) => {
-            *missing == lost && *rank == kept
+        (Err(fault), Err((missing, rank))) => {
+            *fault == RebuildFault::NotRepairable { missing, rank }
         }
         _ => false,
     }

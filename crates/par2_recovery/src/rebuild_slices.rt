@@ -27,7 +27,7 @@ pub struct Survivors<'a> {
 }
 
 /// Why lost slices aren't rebuilt.
-#[derive(Debug, Error, Clone, Copy, Drop)]
+#[derive(Debug, Error, Clone, Copy, PartialEq, Eq, Drop)]
 pub enum RebuildFault {
     /// Too few exponents are kept.
     #[error("not repairable, lost {missing}, rank {rank}")]
