@@ -293,8 +293,8 @@ pub(crate) fn with_recovery_slices(
         (λ t p. recovered (texts_of slices.now) (slice_index exponents.now t) p)
         (texts_of texts.now) (lists_of sums.items)) }
 {
-    let mut sums = copies(alloc, texts)?;
     let places = whole_texts(alloc, texts.len())?;
+    let mut sums = copies(alloc, texts)?;
     let outputs = Places::new(&places, words);
     let all = sums.as_mut_slice();
     add_recovery(alloc, gf, slices, exponents, all, &outputs, room)?;

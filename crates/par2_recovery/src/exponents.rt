@@ -32,7 +32,6 @@ pub(crate) fn coefficients(alloc: Global, gf: &Gf, numbers: &[u32], e: u32) -> R
 }
 
 // Offers the equation of an exponent, unless the system has its full rank.
-#[tactic(auto, using(crate::proofs::Ranks::full_follows))]
 pub(crate) fn offer(
     alloc: Global,
     gf: &Gf,

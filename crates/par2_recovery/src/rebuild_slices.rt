@@ -2,7 +2,7 @@
 
 ghost use Rattle.std.specs.Prelude.{◌≡◌, ◌≤◌, length, map, IfOk, IfErr, IsOk};
 ghost use Rattle.par2_spec.specs.Search.{lost};
-ghost use Rattle.par2_recovery.specs.Answers.{lost_among, IsFaultOf, Rebuild};
+ghost use Rattle.par2_recovery.specs.Answers.{lost_among, HasInverse, IsFaultOf, KeepsThose, Rebuild};
 ghost use Rattle.par2_recovery.specs.Views.{texts_of};
 ghost use Rattle.par2_recovery.specs.Survivors.{exponents_of, lost_from, bytes_or_none};
 ghost use Rattle.par2_recovery.specs.Rebuilding.{CanRebuild, AreEnough};
@@ -66,6 +66,32 @@ fn slices_or_none<'a>(alloc: Global, known: &[Option<&'a [u8]>]) -> Result<Vec<&
     slices.collect(alloc)
 }
 
+// The lost slices by the kept exponents and their inverse.
+fn solved_by(
+    alloc: Global,
+    gf: &Gf,
+    survivors: &Survivors,
+    found: &Inversion,
+) -> Result<Vec<Vec<u8>>>
+    requires survivors { CanRebuild survivors.now }
+    requires enough { AreEnough survivors.now }
+    requires kept { KeepsThose (lost_among survivors.now) survivors.now.recovery.items found.now }
+    requires inverse { HasInverse (lost_among survivors.now) found.now }
+    ensures rebuilt { IfOk result (λ texts. Rebuild survivors.now texts.items) }
+    ensures count { IfOk result (λ it. length it.items ≡ length (lost_among survivors.now)) }
+{
+    let exponents = exponents_of(alloc, &found.kept)?;
+    let recovery = bytes_of(alloc, &found.kept)?;
+    let slices = slices_or_none(alloc, &survivors.known)?;
+    fit_texts(&recovery);
+    fit_texts(&slices);
+    let inverse = &found.inverse;
+    let size = survivors.slice;
+    let texts = solved(alloc, gf, inverse, &exponents, &recovery, &slices, size)?;
+    fit_lists(&texts);
+    Ok(texts)
+}
+
 /// The lost slices in order, with their padding. NotRepairable is answered where the recovery slices don't determine
 /// them: then of `missing` lost slices no more than `rank` exponents are kept.
 pub fn rebuild(alloc: Global, gf: &Gf, survivors: &Survivors) -> Result<Vec<Vec<u8>>, RebuildFault>
@@ -76,16 +102,8 @@ pub fn rebuild(alloc: Global, gf: &Gf, survivors: &Survivors) -> Result<Vec<Vec<
     ensures refused { IfErr result (IsFaultOf survivors.now) }
 {
     let lost = lost_numbers(alloc, &survivors.known)?;
-    let Inversion { kept, inverse } = invert(alloc, gf, &lost, &survivors.recovery)?;
-    let exponents = exponents_of(alloc, &kept)?;
-    let recovery = bytes_of(alloc, &kept)?;
-    let slices = slices_or_none(alloc, &survivors.known)?;
-    fit_texts(&recovery);
-    fit_texts(&slices);
-    let size = survivors.slice;
-    let texts = solved(alloc, gf, &inverse, &exponents, &recovery, &slices, size)?;
-    fit_lists(&texts);
-    Ok(texts)
+    let found = invert(alloc, gf, &lost, &survivors.recovery)?;
+    Ok(solved_by(alloc, gf, survivors, &found)?)
 }
 
 /// What `rebuild` answers, which makes the tables of the field.

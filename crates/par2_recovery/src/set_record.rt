@@ -74,7 +74,7 @@ fn records_of(alloc: Global, folder: &Folder, names: &[Name], s: u64) -> Result<
 }
 
 /// Why there is no record of a set.
-#[derive(Debug, Error, Clone, Copy, PartialEq, Eq, Drop)]
+#[derive(Debug, Error, Clone, Copy, Drop)]
 pub enum RecordFault {
     /// Two files have one File ID.
     #[error("two inputs have one file id")]

@@ -6,6 +6,9 @@ use Rattle.par2_recovery.proofs.additions.add_by_coefficients.Goals as goal
 pub add_columns-requires-clause-rows : goal.add_columns-requires-clause-rows
 add_columns-requires-clause-rows c = length-rows (length c.args.slices.now) c.args.exponents.now _ (ap lists_of c.deref.ensures.value ∙ c.in_ok-rows.ensures) ∙ c.requires.count
 
+pub add_columns-requires-clause-some : goal.add_columns-requires-clause-some
+add_columns-requires-clause-some c = rw (length-rows (length c.args.slices.now) c.args.exponents.now c.deref.result.now (ap lists_of c.deref.ensures.value ∙ c.in_ok-rows.ensures)) c.requires.some
+
 pub add_columns-requires-clause-factors : goal.add_columns-requires-clause-factors
 add_columns-requires-clause-factors c = rows_long _ c.args.exponents.now _ (ap lists_of c.deref.ensures.value ∙ c.in_ok-rows.ensures)
 

@@ -1,7 +1,22 @@
-use Rattle.par2_recovery.proofs.Common.{◌∙◌, sym, ap, length, lists_of, length-lists_of, texts_of}
+use Rattle.par2_recovery.proofs.Common.{◌∙◌, ℕ, List, Vec, Global, sym, ap, arith, length, lists_of, length-lists_of, texts_of}
 use Rattle.par2_recovery.proofs.AdditionLaws.{sums_are}
 use Rattle.par2_recovery.proofs.Combinations.{length-texts_of}
+use Rattle.par2_recovery.proofs.Solving.{many_windows}
 use Rattle.par2_recovery.proofs.additions.add_columns.Goals as goal
+
+pub fit_output-requires-clause-some : goal.fit_output-requires-clause-some
+fit_output-requires-clause-some c = rw c.requires.rows at c.requires.some
+
+pub products_of-requires-clause-factors : goal.products_of-requires-clause-factors
+products_of-requires-clause-factors c = rw (many_windows _ _ c.args.slices.now c.deref.result.now (ap texts_of c.deref.ensures.value ∙ c.in_ok-windows.ensures)) c.requires.factors
+
+pub add_sums-requires-clause-count : goal.add_sums-requires-clause-count
+add_sums-requires-clause-count c = ap (λ (sums : List (Vec ℕ Global)). length sums) c.deref-2.ensures.value ∙ sym (length-lists_of c.in_ok-sums.sums.items) ∙ c.in_ok-sums.ensures.count ∙ length-lists_of c.args.rows.now ∙ c.requires.rows
+
+pub add_sums-requires-clause-sizes : goal.add_sums-requires-clause-sizes
+add_sums-requires-clause-sizes c =
+    let count = c.in_ok-sums.ensures.count in
+    rw c.deref-2.ensures.value (λ r low. c.in_ok-sums.ensures.sizes r (let many = length-lists_of c.in_ok-sums.sums.items in omega (arith, low, many, count)))
 
 pub returns : goal.returns
 returns c =

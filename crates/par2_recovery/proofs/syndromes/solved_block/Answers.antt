@@ -23,6 +23,14 @@ with_recovery_slices-requires-clause-slices c = subst (λ n. n ≤ 32768) (sym (
 pub with_recovery_slices-requires-clause-size : goal.with_recovery_slices-requires-clause-size
 with_recovery_slices-requires-clause-size c = λ j h. let size = sizes c j h in omega (arith, size, c.requires.even)
 
+pub with_recovery_slices-requires-clause-count : goal.with_recovery_slices-requires-clause-count
+with_recovery_slices-requires-clause-count c = c.requires.exponents ∙ sym (many (goal.at.with_recovery_slices-requires-clause-count c).After-deref-2)
+
+pub products_of-requires-clause-factors : goal.products_of-requires-clause-factors
+products_of-requires-clause-factors c =
+    let sources = ap texts_of c.deref-4.ensures.value ∙ c.in_ok-sources.ensures ∙ ap lists_of c.deref-3.ensures.value in
+    rw (sym (length-texts_of c.deref-4.result.now) ∙ ap length sources ∙ c.in_ok-syndromes.ensures.count ∙ length-texts_of c.deref-2.result.now ∙ many (goal.at.products_of-requires-clause-factors c).After-deref-2) c.requires.inverse
+
 pub returns : goal.returns
 returns c =
     let at = (goal.at.returns c).After-deref-2 in
