@@ -1,5 +1,5 @@
 -- What a journal opens as.
-use Rattle.par2_journal.proofs.Common.{◌≡◌, inl, inr, ℕ, ◌+◌, ◌-◌, ◌≤◌, Bool, true, false, not, ◌&&◌, List, [], ◌∷◌, length, map, take, drop, Option, Some, None, Result, Ok, Err, refl, sym, ap, subst, ◌∙◌, arith, and_from, and_parts, both_ways, false_from_ne_true, cases_Bool, ⊎_map, reverse, position, if◌then◌else◌, ◌↔◌, ◌⊎◌, pointwise, bytes_eq, Folder, fingerprint, Change, FolderState, effect, effects, is_applicable, takes_all, state_after_all, are_applicable, folders_after, Journal, HalfwayPart, Spells, is_valid, leads_through, session_at, AnswersWhere, OpensAsIs, AnswersOpening, IsToldWhere, more_room_all, state_files, leb, le-leb, leb-true}
+use Rattle.par2_journal.proofs.Common.{◌≡◌, inl, inr, ℕ, ◌+◌, ◌-◌, ◌≤◌, Bool, true, false, not, ◌&&◌, List, [], ◌∷◌, length, map, take, drop, Option, Some, None, Result, Ok, Err, refl, sym, ap, subst, ◌∙◌, arith, leb, and_from, and_parts, both_ways, false_from_ne_true, cases_Bool, le-leb, leb-true, ⊎_map, reverse, position, if◌then◌else◌, ◌↔◌, ◌⊎◌, pointwise, bytes_eq, Folder, fingerprint, Change, FolderState, effect, effects, is_applicable, takes_all, state_after_all, are_applicable, folders_after, Journal, HalfwayPart, Spells, is_valid, leads_through, session_at, AnswersWhere, OpensAsIs, AnswersOpening, IsToldWhere, more_room_all, state_files}
 use Rattle.par2_spec.specs.Opening as defined
 use Rattle.par2_spec.specs.declared.JournalFault.{JournalFault}
 use Rattle.par2_spec.specs.declared.JournalFault.TheVariants.{JournalInvalid, FolderChanged, Memory}

@@ -1,5 +1,5 @@
 -- What is asked of a session, and what it makes ready.
-use Rattle.par2_journal.proofs.Common.{Action, Command, Do, Undo, Redo, Repair, ◌≡◌, ◌≢◌, inl, inr, ℕ, Bool, ◌<◌, ◌≤◌, List, [], ◌∷◌, length, map, None, Some, IsTrue, Result, Ok, Err, true, refl, sym, ap, subst, ◌∙◌, arith, nil_from_length, IfOk, IfErr, IsErrAnd, Change, Write, Rename, Remove, places_taken, are_applicable, effects, Folder, LeadsToAfterAsked, KeptSession, OnlyGrew, session_of_kept, changes_unless, first_entry, changes_asked, Step, step_of, takes_applicable, AreAlong, prints_of, Fingerprints, Kind, Ready, Changing, Undoing, Redoing, CanBe, Fits, IsKindOf, IsReady, changes_by_kind, next_of, IsChanging}
+use Rattle.par2_journal.proofs.Common.{Action, Command, Do, Undo, Redo, Repair, ◌≡◌, ◌≢◌, inl, inr, ℕ, Bool, ◌<◌, ◌≤◌, List, [], ◌∷◌, length, map, None, Some, IsTrue, Result, Ok, Err, true, refl, sym, ap, subst, ◌∙◌, arith, nil_from_length, IfOk, IfErr, IsErrAnd, Change, Write, Rename, Remove, places_taken, are_applicable, effects, Folder, LeadsToAfterAsked, KeptSession, OnlyGrew, session_of_kept, changes_unless, first_entry, changes_asked, Step, step_of, takes_applicable, AreAlong, prints_of, Fingerprints, Kind, Ready, Changing, Undoing, Redoing, CanBe, Fits, IsKindOf, IsReady, changes_by_kind, next_of, IsChanging, MatchResult}
 use Rattle.par2_journal.specs.Commands.{MakesReady, Prepares}
 use Rattle.par2_spec.specs.Changes.{Replace}
 use Rattle.par2_spec.specs.Refusals.{refusal, after, early_refusal}
@@ -20,10 +20,20 @@ unfolding changes_asked
 refused_plan s command fault (inl memory) = inl (ap Plan memory)
 refused_plan s command fault (inr cause) = inr (ap (λ r. changes_unless r (plans.changes_of s.folder.files command)) cause)
 
-pub refused_for : (r : Result Ready SessionFault) (old new : KeptSession) (command : Command) (fault : Fault) (action : Action) → action ≡ Do command → IsErrAnd r (λ e. e ≡ Plan fault)
-    → MakesReady command old new (Err fault) → Prepares action old new r
-refused_for (Ok ready) old new command fault action asked is made = absurd is
-refused_for (Err e) old new command fault action asked is made = subst (λ (a : Action). Prepares a old new (Err e)) (sym asked) (record {
+-- what makes a command ready, or refuses it, answers its action
+pub prepares : (made : Result Ready Fault) (r : Result Ready SessionFault) (old new : KeptSession) (command : Command) (action : Action) → action ≡ Do command
+    → MatchResult made (λ ready. r ≡ Ok ready) (λ fault. IsErrAnd r (λ e. e ≡ Plan fault)) → MakesReady command old new made → Prepares action old new r
+prepares (Ok ready) r old new command action asked is made = subst (λ (p : Action × Result Ready SessionFault). Prepares p.0 old new p.1) (λ i. (sym asked i, sym is i)) (record {
+  kept = made.kept;
+  ready = made.ready;
+  leads = made.leads;
+  refused = tt;
+  early = λ fault first. let same = made.early fault first in absurd (cc);
+  nothing_to_undo = λ asked none. absurd (cc);
+  nothing_to_redo = λ asked none. absurd (cc);
+})
+prepares (Err fault) (Ok ready) old new command action asked is made = absurd is
+prepares (Err fault) (Err e) old new command action asked is made = subst (λ (a : Action). Prepares a old new (Err e)) (sym asked) (record {
   kept = made.kept;
   ready = tt;
   leads = tt;

@@ -1,5 +1,5 @@
 -- What a session opens as.
-use Rattle.std.specs.Prelude.{◌≡◌, ◌≤◌, ◌⊎◌, ℕ, Bool, List, ◌∷◌, length, take, drop, reverse, position, Option, Result, Ok, Err, IfOk, IfErr, OnOk, IsTrue, IsFalse, MatchResult, Some, Vec}
+use Rattle.std.specs.Prelude.{◌≡◌, ◌≤◌, ◌⊎◌, ℕ, Bool, List, ◌-◌, ◌∷◌, length, take, drop, reverse, position, Option, None, true, Result, Ok, Err, IfOk, IfErr, OnOk, IsTrue, IsFalse, MatchResult, Some, Vec}
 use Rattle.std.specs.declared.alloc.Global.{Global}
 use Rattle.std.specs.Str.{bytes_eq}
 use Rattle.par2_spec.specs.Folders.{Folder, fingerprint}
@@ -8,7 +8,7 @@ use Rattle.par2_spec.specs.Sessions.{Session, KeptSession, session_of_kept}
 use Rattle.par2_spec.specs.Opening as defined
 use Rattle.par2_spec.specs.Opening.{is_valid, leads_through}
 use Rattle.par2_spec.specs.declared.JournalFault.{JournalFault}
-use Rattle.par2_spec.specs.declared.JournalFault.TheVariants.{JournalInvalid, Memory}
+use Rattle.par2_spec.specs.declared.JournalFault.TheVariants.{FolderChanged, JournalInvalid, Memory}
 use Rattle.par2_journal_bytes.specs.Reading.{IsSealed}
 use Rattle.par2_journal_bytes.specs.Views.{changes_in}
 use Rattle.par2_folder.specs.declared.change.Change as given
@@ -58,6 +58,14 @@ pub record LeadBack (folder : Folder) (print : List ℕ) (prints : List (List �
   pub place : place_among folder print prints ≡ Some (length back.items)
   pub list : back.items ≡ reverse (take (length back.items) (print ∷ prints))
   pub within : length back.items ≤ length prints
+
+-- as many changes, those at the end
+abbrev pub last_changes : ℕ → List Change → List Change
+last_changes n changes = drop (length changes - n) changes
+
+-- why there are no fingerprints to go back by: the folder has no place among them, or memory ran out
+abbrev pub HasNoPlace : Folder → List ℕ → List (List ℕ) → JournalFault → Type 0
+HasNoPlace folder print prints fault = (fault ≡ Memory) ⊎ ((fault ≡ FolderChanged true) × (place_among folder print prints ≡ None))
 
 -- ---- what is answered, or else the fault with the folder, whose names and bytes are as they were
 

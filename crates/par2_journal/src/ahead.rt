@@ -8,14 +8,14 @@ use crate::spelling::Fingerprints;
 use par2_folder::Landmarks;
 
 /// What will be asked of a session next: to take the newest command back, or to do again what was taken back last.
-#[derive(Debug, Clone, Copy, PartialEq, Eq)]
+#[derive(Clone, Copy, PartialEq, Eq)]
 pub enum Next {
     Undo,
     Redo,
 }
 
 // What a session keeps of the digests that were taken when it was opened.
-#[derive(Debug, Drop)]
+#[derive(Drop)]
 pub enum Ahead {
     // The fingerprints along the changes of the next undo or redo.
     Fingerprints(Next, Fingerprints),

@@ -112,13 +112,16 @@ impl Session {
         ensures { Prepares (action_of action.now) self.old self.new result }
     {
         match action {
-            Action::Create(args) => Ok(self.prepare_create(args)?),
+            Action::Create(args) => self.prepare_create(args).map_err(SessionFault::Plan),
             Action::Repair {
                 base,
                 extras,
                 purge,
-            } => Ok(self.prepare_repair(base, extras, *purge)?),
-            Action::Purge { base } => Ok(self.prepare_purge(base)?),
+            } => {
+                let prepared = self.prepare_repair(base, extras, *purge);
+                prepared.map_err(SessionFault::Plan)
+            }
+            Action::Purge { base } => self.prepare_purge(base).map_err(SessionFault::Plan),
             Action::Undo => self.prepare_undo(),
             Action::Redo => self.prepare_redo(),
         }
@@ -168,15 +171,15 @@ impl Session {
     {
         let _folder = self.folder();
         match action {
-            Action::Create(args) => self.create(args).is_ok(),
-            Action::Repair {
-                base,
-                extras,
-                purge,
-            } => self.repair(base, extras, *purge).is_ok(),
-            Action::Purge { base } => self.purge(base).is_ok(),
             Action::Undo => self.undo().is_ok(),
             Action::Redo => self.redo().is_ok(),
+            _ => match self.prepare(action) {
+                Ok(prepared) => {
+                    self.commit(prepared);
+                    true
+                }
+                Err(_) => false,
+            },
         }
     }
 

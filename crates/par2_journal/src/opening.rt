@@ -1,5 +1,5 @@
 //! A folder with a journal is opened as a session.
-ghost use Rattle.std.specs.Prelude.{◌≡◌, ◌≤◌, ◌⊎◌, if◌then◌else◌, IfSome, IfOk, IfErr, length, map, Ok, None, true, false, sum_by};
+ghost use Rattle.std.specs.Prelude.{◌≡◌, ◌≤◌, ◌⊎◌, if◌then◌else◌, IfSome, IfOk, IfErr, OnOk, length, map, Ok, None, true, false, sum_by};
 ghost use Rattle.md5.specs.Md5.{md5};
 ghost use Rattle.par2_spec.specs.Changes.{are_applicable, places_taken};
 ghost use Rattle.par2_spec.specs.Opening.{Opens, is_valid, leads, opened_by_part};
@@ -205,12 +205,43 @@ fn why_invalid(folder: &Folder, wanted: [u8; 16], body: &[u8], digest: &[u8]) ->
         (result ≡ Memory) ⊎ (result ≡ (if same then JournalInvalid else FolderChanged false)) }
     ensures told { IsToldWhere (digest.now ≡ md5 body.now) result }
 {
-    match folder.fingerprint() {
-        Ok(print) if print.as_slice() == wanted.as_slice() => JournalFault::JournalInvalid,
-        Ok(_) if digest != Md5::digest(body).as_slice() => JournalFault::JournalInvalid,
-        Ok(_) => JournalFault::FolderChanged { halfway: false },
-        Err(AllocError) => JournalFault::Memory,
+    let print = match folder.fingerprint() {
+        Ok(print) => print,
+        Err(AllocError) => return JournalFault::Memory,
+    };
+    if print.as_slice() == wanted.as_slice() || digest != Md5::digest(body).as_slice() {
+        return JournalFault::JournalInvalid;
     }
+    JournalFault::FolderChanged { halfway: false }
+}
+
+// Tests the digest of the text of a journal, and then the fingerprint of the folder.
+fn test_digests(
+    session: &mut Session,
+    wanted: [u8; 16],
+    body: &[u8],
+    digest: &[u8],
+    next: Option<Next>,
+) -> Result<(), JournalFault>
+    ensures unchanged { session.new ≡ session.old }
+    ensures digest { OnOk result (digest.now ≡ md5 body.now) }
+    ensures folder { OnOk result (has_print session.old.folder.files wanted ≡ true) }
+    ensures told { IfErr result (IsToldWhere (digest.now ≡ md5 body.now)) }
+    ensures refused { let same = has_print session.old.folder.files wanted in
+        digest.now ≡ md5 body.now →
+        IfErr result (λ e. (e ≡ Memory) ⊎ ((e ≡ FolderChanged false) × (same ≡ false))) }
+{
+    let found = match next {
+        None => session.survey(body)?,
+        Some(next) => session.digests_ahead(next, body)?,
+    };
+    if digest != found.text.as_slice() {
+        return Err(JournalFault::JournalInvalid);
+    }
+    if found.folder.as_slice() != wanted.as_slice() {
+        return Err(JournalFault::FolderChanged { halfway: false });
+    }
+    Ok(())
 }
 
 // Opens by a journal of a session that no command has left. The entries are tried before anything is digested; then the
@@ -228,25 +259,16 @@ fn open_settled(
         AnswersWhere (digest.now ≡ md5 body.now) folder.files (λ given. given ≡ answer) result }
 {
     let fingerprint = journal.fingerprint;
-    let mut session = match session_from(alloc, folder, journal.entries, journal.cursor) {
-        Ok(session) => session,
+    match session_from(alloc, folder, journal.entries, journal.cursor) {
+        Ok(mut session) => match test_digests(&mut session, fingerprint, body, digest, next) {
+            Ok(()) => Ok(Opened::Settled(session)),
+            Err(fault) => Err((fault, session.into_folder())),
+        },
         Err((JournalFault::JournalInvalid, folder)) => {
-            return Err((why_invalid(&folder, fingerprint, body, digest), folder));
+            Err((why_invalid(&folder, fingerprint, body, digest), folder))
         }
-        Err(refused) => return Err(refused),
-    };
-    let found = match session.digests_before(next, body) {
-        Ok(found) => found,
-        Err(AllocError) => return Err((JournalFault::Memory, session.into_folder())),
-    };
-    if digest != found.text.as_slice() {
-        return Err((JournalFault::JournalInvalid, session.into_folder()));
+        Err(refused) => Err(refused),
     }
-    if found.folder.as_slice() != fingerprint.as_slice() {
-        let fault = JournalFault::FolderChanged { halfway: false };
-        return Err((fault, session.into_folder()));
-    }
-    Ok(Opened::Settled(session))
 }
 
 // Opens by the bytes of a journal. That memory ran out counts only where they end with their digest.

@@ -8,7 +8,7 @@ use std::marker::Model;
 use thiserror::Error;
 
 /// A change without its bytes.
-#[derive(Debug, Drop)]
+#[derive(Drop)]
 pub enum Step {
     Write(Name),
     Replace(Name),
@@ -17,7 +17,7 @@ pub enum Step {
 }
 
 /// Steps, in the order in which their changes are applied: a vector that contracts see as their list.
-#[derive(Debug, Drop)]
+#[derive(Drop)]
 pub struct Steps {
     items: Vec<Step>,
 }

@@ -12,12 +12,12 @@ use std::marker::Model;
 use thiserror::Error;
 
 /// No command is left to take back.
-#[derive(Debug, Error, Clone, Copy, PartialEq, Eq, Drop)]
+#[derive(Debug, Error, Drop)]
 #[error("nothing to undo")]
 pub struct NothingToUndo;
 
 /// No command is left to do again.
-#[derive(Debug, Error, Clone, Copy, PartialEq, Eq, Drop)]
+#[derive(Debug, Error, Drop)]
 #[error("nothing to redo")]
 pub struct NothingToRedo;
 
@@ -31,7 +31,7 @@ pub struct Digests {
 /// A session on a folder: the folder, and a list of entries with a cursor. The entries before it are as undos apply
 /// them, those from it on as redos do. What its opening found of the folder's fingerprints stands ready for the next
 /// journals.
-#[derive(Debug, Drop)]
+#[derive(Drop)]
 pub struct Session {
     folder: Folder,
     entries: Vec<Changes>,
@@ -257,20 +257,26 @@ impl Session {
         self.ahead = Some(Ahead::Landmarks(landmarks));
     }
 
-    // The digests of the folder and of a text, side by side. Where an undo or redo is next, the fingerprints along its
-    // changes, side by side with these, take little longer, and are kept for its journals; else landmarks are kept.
-    pub(crate) fn digests_before(&mut self, next: Option<Next>, text: &[u8]) -> Result<Digests>
+    // The digests of the folder and of a text, side by side. Landmarks are kept for the next journals.
+    pub(crate) fn survey(&mut self, text: &[u8]) -> Result<Digests>
+        ensures unchanged { self.new ≡ self.old }
+        ensures folder { IfOk result (λ x. x.folder ≡ fingerprint self.old.folder.files) }
+        ensures text { IfOk result (λ x. x.text ≡ md5 text.now) }
+    {
+        let found = survey_folder(self.allocator(), &self.folder, text)?;
+        let (folder, text) = (found.fingerprint, found.digest);
+        self.keep_landmarks(found.landmarks);
+        Ok(Digests { folder, text })
+    }
+
+    // The same where an undo or redo is next: the fingerprints along its changes, side by side with these, take little
+    // longer, and are kept for its journals.
+    pub(crate) fn digests_ahead(&mut self, next: Next, text: &[u8]) -> Result<Digests>
         ensures unchanged { self.new ≡ self.old }
         ensures folder { IfOk result (λ x. x.folder ≡ fingerprint self.old.folder.files) }
         ensures text { IfOk result (λ x. x.text ≡ md5 text.now) }
     {
         let alloc = self.allocator();
-        let Some(next) = next else {
-            let found = survey_folder(alloc, &self.folder, text)?;
-            let (folder, text) = (found.fingerprint, found.digest);
-            self.ahead = Some(Ahead::Landmarks(found.landmarks));
-            return Ok(Digests { folder, text });
-        };
         let changes = self.next_changes(next);
         let folder = self.folder();
         let (prints, digests) = Fingerprints::and_digests(alloc, None, folder, changes, &[text])?;

@@ -19,7 +19,7 @@ use std::alloc::Global;
 use std::slice::from_ref;
 
 // The fingerprints of a folder along some changes.
-#[derive(Debug, Drop)]
+#[derive(Drop)]
 pub struct Fingerprints {
     pub before: [u8; 16],
     pub after_each: Vec<[u8; 16]>,
@@ -64,10 +64,9 @@ impl Fingerprints {
         ensures along { IfOk result (λ x. ArePrintsOf folder.now changes.now x.0) }
         ensures digests { IfOk result (λ x. x.1.items ≡ map md5 (texts_of texts.now)) }
     {
-        let found = match landmarks {
-            Some(from) => fingerprints(alloc, folder, changes, from, texts)?,
-            None => fingerprints(alloc, folder, changes, &Landmarks::none(alloc), texts)?,
-        };
+        let none = Landmarks::none(alloc);
+        let from = landmarks.unwrap_or(&none);
+        let found = fingerprints(alloc, folder, changes, from, texts)?;
         Ok((Fingerprints::of_list(found.along), found.beside))
     }
 
@@ -151,7 +150,8 @@ fn both(
     ensures after { IfOk result (λ x. Spells x.after.items (journal_from after.now)) }
 {
     if back.is_empty() {
-        let (halfway, after) = (None, encode(alloc, after)?);
+        let after = encode(alloc, after)?;
+        let halfway = None;
         return Ok(Journals { halfway, after });
     }
     let fingerprints = fingerprints.after_each.as_slice();

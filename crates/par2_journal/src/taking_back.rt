@@ -4,7 +4,7 @@ ghost use Rattle.std.specs.Str.{bytes_eq};
 ghost use Rattle.par2_spec.specs.Journals.{Spells};
 ghost use Rattle.par2_spec.specs.Opening.{is_valid, opened_by_part};
 ghost use Rattle.par2_journal_bytes.specs.Views.{changes_in, halfway_of, journal_of};
-ghost use Rattle.par2_journal.specs.Opening.{AnswersTest, AnswersWhere, FailsTest, LeadBack, go_through, place_among, session_after_way, session_before, way_left};
+ghost use Rattle.par2_journal.specs.Opening.{AnswersTest, AnswersWhere, FailsTest, HasNoPlace, LeadBack, go_through, last_changes, place_among, session_after_way, session_before, way_left};
 ghost use Rattle.par2_journal.specs.Ready.{kept_journal};
 ghost use Rattle.par2_journal.specs.Walks.{WentForth};
 
@@ -14,7 +14,7 @@ use crate::{Changes, Session};
 use par2_folder::{Change, Folder, copies_of};
 use par2_journal_bytes::{HalfwayPart, Journal};
 use par2_spec::{JournalFault, Result};
-use std::alloc::{AllocError, Global};
+use std::alloc::Global;
 
 /// A session of which a stop left a command halfway, as it was before the command.
 #[derive(Drop)]
@@ -132,6 +132,28 @@ fn fingerprints_back(
     Ok(Some(known))
 }
 
+// The fingerprints to go back by, and copies of the changes that go back by them.
+fn way_back(
+    alloc: Global,
+    folder: &Folder,
+    first: [u8; 16],
+    part: &HalfwayPart,
+) -> Result<(Vec<[u8; 16]>, Vec<Change>), JournalFault>
+    requires { length part.now.fingerprints.items ≡ length part.now.back }
+    ensures wanted { let others = part.now.fingerprints.items in
+        IfOk result (λ x. LeadBack folder.now.files first others x.0) }
+    ensures back { let all = part.now.back in
+        IfOk result (λ x. changes_in x.1.items ≡ last_changes (length x.0.items) all) }
+    ensures refused { IfErr result (HasNoPlace folder.now.files first part.now.fingerprints.items) }
+{
+    let Some(wanted) = fingerprints_back(alloc, folder, first, &part.fingerprints)? else {
+        return Err(JournalFault::FolderChanged { halfway: true });
+    };
+    let start = part.back.len() - wanted.len();
+    let back = copies_of(alloc, &part.back.as_slice()[start..])?;
+    Ok((wanted, back))
+}
+
 // Opens by the journal of a halfway command, which has this part.
 pub(crate) fn open_halfway(
     alloc: Global,
@@ -144,17 +166,14 @@ pub(crate) fn open_halfway(
     ensures { let answer = opened_by_part folder.files (journal_of journal) (halfway_of (Some part)) in
         AnswersWhere ⊤ folder.files (λ given. given ≡ answer) result }
 {
-    let wanted = match fingerprints_back(alloc, &folder, journal.fingerprint, &part.fingerprints) {
-        Ok(Some(wanted)) => wanted,
-        Ok(None) => return Err((JournalFault::FolderChanged { halfway: true }, folder)),
-        Err(AllocError) => return Err((JournalFault::Memory, folder)),
+    let (wanted, back) = match way_back(alloc, &folder, journal.fingerprint, &part) {
+        Ok(found) => found,
+        Err(fault) => return Err((fault, folder)),
     };
     let start = part.back.len() - wanted.len();
     let (_, way) = part.back.as_mut_slice().split_at_mut(start);
-    let back = match copies_of(alloc, way) {
-        Ok(back) => back,
-        Err(AllocError) => return Err((JournalFault::Memory, folder)),
-    };
-    let session = take_back(alloc, folder, way, &wanted, journal.entries, journal.cursor)?;
-    Ok(Opened::Halfway(Halfway { session, back }))
+    match take_back(alloc, folder, way, &wanted, journal.entries, journal.cursor) {
+        Ok(session) => Ok(Opened::Halfway(Halfway { session, back })),
+        Err(refused) => Err(refused),
+    }
 }

@@ -1,21 +1,18 @@
 use Rattle.par2_journal.proofs.Common.{map, string_bytes, ap, Create, Repair, Purge, action_of, create_args_of}
-use Rattle.par2_journal.proofs.Readiness.{refused_for}
+use Rattle.par2_journal.proofs.Readiness.{prepares}
 use Rattle.par2_journal.proofs.session.Session.prepare.Goals as goal
 
-pub returns-in_err-prepare_create-in-Create : goal.returns-in_err-prepare_create-in-Create
-returns-in_err-prepare_create-in-Create c =
-    refused_for c.from_residual.result c.args.self.now c.prepare_create.new.self (Create (create_args_of c.in-Create.args)) _ _ (ap action_of c.in-Create.is) c.from_residual.ensures.1
-    c.in_err-prepare_create-in-Create.ensures
+pub returns-in-Create : goal.returns-in-Create
+returns-in-Create c =
+    prepares c.prepare_create.result c.map_err.result c.args.self.now c.prepare_create.new.self (Create (create_args_of c.in-Create.args)) _ (ap action_of c.in-Create.is) c.map_err.ensures.cases c.prepare_create.ensures
 
-pub returns-in_err-prepare_repair-in-Repair : goal.returns-in_err-prepare_repair-in-Repair
-returns-in_err-prepare_repair-in-Repair c =
+pub returns-in-Repair : goal.returns-in-Repair
+returns-in-Repair c =
     let command = Repair (string_bytes c.in-Repair.base) (map string_bytes c.in-Repair.extras.items) c.in-Repair.purge in
-    let refused = c.from_residual-in_err-prepare_repair-in-Repair in
-    let with_base = rw c.deref.ensures at c.in_err-prepare_repair-in-Repair.ensures.ready in
-    refused_for refused.result c.args.self.now c.prepare_repair.new.self command _ _ (ap action_of c.in-Repair.is) refused.ensures.1 (rw c.deref-in-Repair.ensures.value at with_base)
+    let with_base = rw c.deref.ensures at c.prepare_repair-prepared.ensures.ready in
+    prepares c.prepare_repair-prepared.result c.map_err-in-Repair.result c.args.self.now c.prepare_repair-prepared.new.self command _ (ap action_of c.in-Repair.is) c.map_err-in-Repair.ensures.cases (rw c.deref-in-Repair.ensures.value at with_base)
 
-pub returns-in_err-prepare_purge-in-Purge : goal.returns-in_err-prepare_purge-in-Purge
-returns-in_err-prepare_purge-in-Purge c =
-    let refused = c.from_residual-in_err-prepare_purge-in-Purge in
-    refused_for refused.result c.args.self.now c.prepare_purge.new.self (Purge (string_bytes c.in-Purge.base)) _ _ (ap action_of c.in-Purge.is) refused.ensures.1
-    (rw c.deref-in-Purge.ensures at c.in_err-prepare_purge-in-Purge.ensures)
+pub returns-in-Purge : goal.returns-in-Purge
+returns-in-Purge c =
+    prepares c.prepare_purge.result c.map_err-in-Purge.result c.args.self.now c.prepare_purge.new.self (Purge (string_bytes c.in-Purge.base)) _ (ap action_of c.in-Purge.is) c.map_err-in-Purge.ensures.cases
+    (rw c.deref-in-Purge.ensures at c.prepare_purge.ensures)
