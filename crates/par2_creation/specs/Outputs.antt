@@ -1,16 +1,13 @@
 -- The outputs of a create, by parts.
 use Rattle.std.specs.Prelude.{ℕ, ◌≡◌, ◌≤◌, ◌+◌, ◌%◌, nat_lt, List, [], ◌∷◌, ◌++◌, length, map, flat_map, if◌then◌else◌}
 use Rattle.std.specs.List.{All}
-use Rattle.std.specs.Borrow.{Bor}
 use Rattle.par2_spec.specs.Packets.{Packet, packet}
 use Rattle.par2_spec.specs.Folders.{Folder, File, has}
 use Rattle.par2_spec.specs.Changes.{Change, Write, Replace}
 use Rattle.par2_spec.specs.Volumes.{volume_name, volume_numbers, volumes_before, volume_size, all_slices, recovery_packets, record_of, in_id_order}
 use Rattle.par2_spec.specs.Commands.{CreateArgs, files_of}
-use Rattle.par2_spec.specs.Slices.{padded}
 use Rattle.par2_packets.specs.Views.{file_record_of}
 use Rattle.par2_recovery.specs.Views as records
-use Rattle.par2_recovery.specs.Views.{texts_of}
 use Rattle.par2_recovery.specs.declared.set_record.SetRecord.{SetRecord}
 use Rattle.par2_creation.specs.declared.names.Volume.{Volume}
 use Rattle.par2_creation.specs.declared.outputs.Parts.{Parts}
@@ -66,10 +63,6 @@ pub record HasSlices (parts : Parts) : Type 0 where
   pub positive : 1 ≤ parts.set.now.slice
   pub fours : parts.set.now.slice % 4 ≡ 0
   pub few : length (inputs_of parts) ≤ 32768
-
--- these are the set's input slices, which zeros follow where a file ends early
-abbrev pub ListsInputs : Parts → List (Bor (List ℕ)) → Type 0
-ListsInputs parts inputs = map (padded parts.set.now.slice) (texts_of inputs) ≡ inputs_of parts
 
 -- the packets of n recovery slices from exponent e on
 abbrev pub packets_between : Parts → ℕ → ℕ → List Packet

@@ -16,7 +16,7 @@ use std::alloc::Global;
 const MOST_VOLUMES: u32 = 17;
 
 /// A volume: its name, and the exponents of its recovery slices.
-#[derive(Debug, Drop)]
+#[derive(Drop)]
 pub struct Volume {
     pub name: Name,
     pub first: u32,

@@ -1,7 +1,8 @@
 //! The files that a create writes.
-ghost use Rattle.std.specs.Prelude.{◌≡◌, IfOk};
+ghost use Rattle.std.specs.Prelude.{◌≡◌, ◌++◌, map, IfOk, OnOk};
 ghost use Rattle.par2_folder.specs.Views.{change_of};
 ghost use Rattle.par2_creation.specs.Outputs.{HasSlices, HaveExponents, put_change, output_changes};
+ghost use Rattle.par2_creation.specs.Volumes.{as_file};
 
 use crate::Changes;
 use crate::names::Volume;
@@ -32,6 +33,17 @@ fn put(folder: &Folder, name: Name, bytes: Vec<u8>) -> Change
     }
 }
 
+// Adds the changes that write these files.
+fn push_files(changes: &mut Changes, folder: &Folder, files: Vec<(Name, Vec<u8>)>) -> Result<()>
+    ensures { let added = map (λ file. put_change folder.now.files (as_file file)) files.items in
+        OnOk result (changes.new ≡ changes.old ++ added) }
+{
+    for (name, bytes) in files {
+        changes.push(put(folder, name, bytes))?;
+    }
+    Ok(())
+}
+
 /// The changes that write the outputs: the index, and the volumes in order.
 pub fn changes_of(alloc: Global, base: Name, parts: Parts, volumes: &[Volume]) -> Result<Changes>
     requires parts { HasSlices parts }
@@ -39,11 +51,8 @@ pub fn changes_of(alloc: Global, base: Name, parts: Parts, volumes: &[Volume]) -
     ensures { IfOk result (λ changes. changes ≡ output_changes base parts.entry volumes.now) }
 {
     let files = volume_files(alloc, &parts, volumes)?;
-    let folder = parts.folder;
     let mut changes = Changes::new(alloc);
-    changes.push(put(folder, base, parts.index))?;
-    for (name, bytes) in files {
-        changes.push(put(folder, name, bytes))?;
-    }
+    changes.push(put(parts.folder, base, parts.index))?;
+    push_files(&mut changes, parts.folder, files)?;
     Ok(changes)
 }

@@ -4,7 +4,7 @@
 ghost use Rattle.std.specs.Prelude.{◌≡◌, ◌≤◌, ◌<◌, ◌+◌, ◌++◌, length, map, IfOk, OnOk};
 ghost use Rattle.par2_spec.specs.Answers.{Appends};
 ghost use Rattle.par2_spec.specs.Sums.{lists_of};
-ghost use Rattle.par2_creation.specs.Outputs.{HasExponents, HasSlices, HaveExponents, ListsInputs, volume_text};
+ghost use Rattle.par2_creation.specs.Outputs.{HasExponents, HasSlices, HaveExponents, volume_text};
 ghost use Rattle.par2_creation.specs.Volumes.{AreFiles, AreTexts, blank_volume, exponents_of, length_with, places_in, places_of, with_slices};
 
 use crate::names::Volume;
@@ -59,26 +59,37 @@ fn append_places(
     Ok(())
 }
 
-// The bytes of all volumes whose recovery slices and MD5s are still to come, and the places of those slices, in order.
-fn blank_volumes(
+// The bytes of all volumes whose recovery slices and MD5s are still to come.
+fn blank_volumes(alloc: Global, parts: &Parts, volumes: &[Volume]) -> Result<Vec<Vec<u8>>>
+    requires fits { 68 + parts.now.set.now.slice ≤ usize.MAX }
+    requires exponents { HaveExponents volumes.now }
+    ensures { IfOk result (AreTexts (blank_volume parts.now) volumes.now) }
+{
+    let mut texts = Vec::with_capacity(alloc, volumes.len())?;
+    for volume in volumes {
+        let text = blank_volume(alloc, parts, volume)?;
+        texts.push(text)?;
+    }
+    Ok(texts)
+}
+
+// The places of the recovery slices of all volumes, which have these bytes, in order.
+fn places_of(
     alloc: Global,
     parts: &Parts,
     volumes: &[Volume],
-) -> Result<(Vec<Vec<u8>>, Vec<Place>)>
+    texts: &[Vec<u8>],
+) -> Result<Vec<Place>>
     requires parts { HasSlices parts.now }
     requires fits { 68 + parts.now.set.now.slice ≤ usize.MAX }
-    requires exponents { HaveExponents volumes.now }
-    ensures texts { IfOk result (λ made. AreTexts (blank_volume parts.now) volumes.now made.0) }
-    ensures places { IfOk result (λ made. made.1.items ≡ places_of parts.now volumes.now) }
+    requires texts { lists_of texts.now ≡ map (blank_volume parts.now) volumes.now }
+    ensures { IfOk result (λ places. places.items ≡ places_of parts.now volumes.now) }
 {
-    let mut texts = Vec::with_capacity(alloc, volumes.len())?;
     let mut places = Vec::new(alloc);
-    for volume in volumes {
-        let text = blank_volume(alloc, parts, volume)?;
-        append_places(&mut places, parts, volume, texts.len(), &text)?;
-        texts.push(text)?;
+    for i in 0..volumes.len() {
+        append_places(&mut places, parts, &volumes[i], i, &texts[i])?;
     }
-    Ok((texts, places))
+    Ok(places)
 }
 
 // The exponents of all volumes' recovery slices, in order.
@@ -95,24 +106,22 @@ fn exponents_of(alloc: Global, volumes: &[Volume]) -> Result<Vec<u32>>
 // Writes the recovery slices of all volumes where they belong.
 fn write_slices(
     alloc: Global,
-    gf: &Gf,
     parts: &Parts,
-    inputs: &[&[u8]],
     volumes: &[Volume],
-    places: &[Place],
     texts: &mut [Vec<u8>],
 ) -> Result<()>
     requires parts { HasSlices parts.now }
     requires fits { 68 + parts.now.set.now.slice ≤ usize.MAX }
-    requires inputs { ListsInputs parts.now inputs.now }
     requires exponents { HaveExponents volumes.now }
-    requires places { places.now ≡ places_of parts.now volumes.now }
     requires before { lists_of texts.old ≡ map (blank_volume parts.now) volumes.now }
     ensures { OnOk result (lists_of texts.new ≡ map (with_slices parts.now) volumes.now) }
 {
+    let gf = Gf::new(alloc)?;
+    let inputs = input_slices(alloc, parts.set, parts.folder)?;
     let exponents = exponents_of(alloc, volumes)?;
-    let outputs = Places::new(places, parts.set.slice as usize / 2);
-    write_recovery_slices(alloc, gf, inputs, &exponents, texts, &outputs)
+    let places = places_of(alloc, parts, volumes, texts)?;
+    let outputs = Places::new(&places, parts.set.slice as usize / 2);
+    write_recovery_slices(alloc, &gf, &inputs, &exponents, texts, &outputs)
 }
 
 // Puts the MD5s into a volume.
@@ -127,19 +136,18 @@ fn digest_volume(alloc: Global, text: &mut [u8], parts: &Parts, volume: &Volume)
     digest_recoveries(alloc, packets, size, volume.count as usize)
 }
 
-// Volumes with the MD5s in them, under their names.
+// Takes the volumes, puts the MD5s into them, and gives them under their names.
 fn digested(
     alloc: Global,
-    texts: Vec<Vec<u8>>,
+    texts: &mut Vec<Vec<u8>>,
     parts: &Parts,
     volumes: &[Volume],
 ) -> Result<Vec<(Name, Vec<u8>)>>
     requires parts { HasSlices parts.now }
     requires fits { 68 + parts.now.set.now.slice ≤ usize.MAX }
-    requires before { AreTexts (with_slices parts.now) volumes.now texts }
+    requires before { AreTexts (with_slices parts.now) volumes.now texts.old }
     ensures { IfOk result (AreFiles parts.now volumes.now) }
 {
-    let mut texts = texts;
     let mut files = Vec::with_capacity(alloc, volumes.len())?;
     for volume in volumes {
         let mut text = texts.remove(0);
@@ -166,10 +174,7 @@ pub(crate) fn volume_files(
     if parts.set.slice > (usize::MAX - RECOVERY_HEAD) as u64 {
         return Err(AllocError);
     }
-    let gf = Gf::new(alloc)?;
-    let inputs = input_slices(alloc, parts.set, parts.folder)?;
-    let (mut texts, places) = blank_volumes(alloc, parts, volumes)?;
-    let blank = texts.as_mut_slice();
-    write_slices(alloc, &gf, parts, &inputs, volumes, &places, blank)?;
-    digested(alloc, texts, parts, volumes)
+    let mut texts = blank_volumes(alloc, parts, volumes)?;
+    write_slices(alloc, parts, volumes, texts.as_mut_slice())?;
+    digested(alloc, &mut texts, parts, volumes)
 }

@@ -1,7 +1,7 @@
 //! What the packets of a set say: its Main, and the first description, checksums or recovery slice of each key.
 
 ghost use Rattle.std.specs.Prelude.{◌≡◌, ◌≤◌, length, map, IfOk, List, option_map};
-ghost use Rattle.par2_spec.specs.Sets.{main_of, pairs_of, recovery_of};
+ghost use Rattle.par2_spec.specs.Sets.{main_of, description_of, pairs_of, recovery_of};
 ghost use Rattle.par2_packets.specs.Views.{packet_of};
 ghost use Rattle.par2_sets.specs.Steps.{Gives, descriptions_of, checksums_for};
 ghost use Rattle.par2_sets.specs.Firsts.{HasFirsts, HoldDescriptions, HoldChecksums};
@@ -65,6 +65,14 @@ fn by_id<'a>(alloc: Global, packets: &[Packet<'a>]) -> Result<BTreeMap<[u8; 16],
     firsts(alloc, described)
 }
 
+// The description of this File ID.
+fn description_of<'a>(firsts: &BTreeMap<[u8; 16], Packet<'a>>, id: [u8; 16]) -> Option<DescView<'a>>
+    ensures { (packets : List spec.Packet) → HoldDescriptions packets firsts.now
+        → result ≡ description_of packets id }
+{
+    read_desc(firsts.get(&id)?)
+}
+
 /// The descriptions of the files of the Main, in its order.
 pub(crate) fn descriptions<'a>(
     alloc: Global,
@@ -77,8 +85,7 @@ pub(crate) fn descriptions<'a>(
     let firsts = by_id(alloc, packets)?;
     let mut descriptions = Vec::new(alloc);
     for k in 0..main.count() {
-        let found = firsts.get(&main.id(k)).and_then(|packet| read_desc(packet));
-        let description = found.ok_or(Fault::NoDescription)?;
+        let description = description_of(&firsts, main.id(k)).ok_or(Fault::NoDescription)?;
         descriptions.push(description)?;
     }
     Ok(descriptions)

@@ -20,7 +20,7 @@ use std::collections::BTreeSet;
 use std::marker::Model;
 
 /// A file that a set describes.
-#[derive(Debug, Drop)]
+#[derive(Drop)]
 pub struct Target {
     name: Name,
     length: u64,

@@ -1,5 +1,5 @@
 use Rattle.par2_creation.proofs.Common.{◌≡◌, ◌++◌, length, map, put_change, as_file, into_iter_items, into_iter_len}
-use Rattle.par2_creation.proofs.outputs.changes_of.Given as goal
+use Rattle.par2_creation.proofs.outputs.push_files.Given as goal
 
 abbrev pub invariant-loop-name : goal.invariant-loop-name
 invariant-loop-name l = record {
