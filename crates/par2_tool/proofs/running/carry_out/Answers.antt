@@ -1,4 +1,4 @@
-use Rattle.par2_tool.proofs.Common.{by_either, ◌≡◌, ◌+◌, inl, inr, arith, false, sym, ap, subst, ◌∙◌, Contents, Started, session_of_kept, command_of, CountsFailedRun, calls_asked, started_of, IsOpened, outcome_of, failure_for, IsBack, IsCause, IsFailed, IsStopped, IsKept, Failure, le_trans}
+use Rattle.par2_tool.proofs.Common.{by_either, ◌≡◌, ◌+◌, inl, inr, arith, false, sym, ap, subst, ◌∙◌, le_trans, Contents, Started, session_of_kept, command_of, CountsFailedRun, calls_asked, started_of, IsOpened, outcome_of, failure_for, IsBack, IsCause, IsFailed, IsStopped, IsKept, Failure}
 use Rattle.par2_tool.proofs.Outcomes.{done_for, files_of, no_way_back, verify_failed, cut_of_command, opening_cause, opening_failed, perform_cause, perform_failed, stopped_opening}
 use Rattle.par2_tool.proofs.Calls.{opening_calls, perform_calls, run_calls, stands_calls}
 use Rattle.par2_tool.proofs.running.carry_out.Goals.{After-open_for, After-perform}

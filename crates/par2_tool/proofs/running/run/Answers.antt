@@ -31,7 +31,7 @@ returns-in-Ok-carry_out-clause-told g c =
     let comes = c.in-Ok-carry_out.ensures.comes in
     let done = comes.leaves in record {
       telling = Answered done.0 outcome;
-      told = (action, asked, comes.told);
+      told = (action, asked, comes.told.0, comes.told.1, comes.told.2);
       shown = (subst (λ text. IsPrinted g.O.Write.contents c.args.out.now c.tell.new.out text (status_of outcome) c.tell.result) (sym done.1) c.tell.ensures, refl {a = c.args.err.now});
       leaves = λ honest. (action, asked, done.2 honest);
       calls = λ honest. (action, asked, comes.calls honest);
