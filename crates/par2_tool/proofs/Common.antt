@@ -58,7 +58,7 @@ pub use Rattle.par2_tool.specs.Refusals.{IsRefused, IsSession, failure_for, unop
 pub use Rattle.par2_tool.specs.Repairs.{AskForRepair}
 pub use Rattle.par2_tool.specs.Runs.{Effective, HasNoEffect, Runs, TakesEffect}
 pub use Rattle.par2_tool.specs.StoreOpenings.{KeepsStore, Stands, Verifies}
-pub use Rattle.par2_tool.specs.Telling.{Answered, Failed, IsAtTheEnd, IsBack, IsCause, IsChanged, IsDone, IsFailed, IsPrinted, IsRefusedFor, IsShown, IsStopped, IsUnread, Leaves, MakesCalls, OpensAsBeforeOrAfterRun, SameOutput, Telling}
+pub use Rattle.par2_tool.specs.Telling.{Answered, Failed, IsAtTheEnd, IsBack, IsCause, IsDone, IsFailed, IsPrinted, IsRefusedFor, IsShown, IsStopped, IsUnread, Leaves, MakesCalls, OpensAsBeforeOrAfterRun, SameOutput, Telling}
 pub use Rattle.par2_tool.specs.Writing.{AreSomeWritten, IsKept}
 pub use Rattle.par2_tool.specs.declared.opening.OpenFault.{OpenFault}
 pub use Rattle.par2_tool.specs.declared.performing.PerformFault.{PerformFault}

@@ -1,5 +1,5 @@
 -- Changes that were made one after the other in a store.
-use Rattle.par2_tool.proofs.Common.{◌≡◌, ◌<◌, ◌+◌, ℕ, zero, suc, List, [], ◌∷◌, ◌++◌, length, map, get_or, take, IsTrue, refl, sym, ap, subst, ◌∙◌, arith, ◌⊎◌, inl, inr, ◌≤◌, map_more, length-map, take_all, take-map, and_parts, Contents, with_change, with_journal, change_of, Folder, KeptSession, OnlyGrew, session_of_kept, new_session, Kind, changes_by_kind, with_all_changes, with_halfway, IsStoppedAt, Journals, AreSomeWritten}
+use Rattle.par2_tool.proofs.Common.{◌≡◌, ◌<◌, ◌+◌, ℕ, zero, suc, List, [], ◌∷◌, ◌++◌, length, map, get_or, take, IsTrue, refl, sym, ap, subst, ◌∙◌, arith, ◌⊎◌, inl, inr, ◌≤◌, map_more, length-map, take_all, take-map, and_parts, Contents, with_change, with_journal, change_of, KeptSession, OnlyGrew, Kind, changes_by_kind, with_all_changes, with_halfway, IsStoppedAt, Journals, AreSomeWritten}
 use Rattle.par2_folder.specs.declared.change.Change.{Change}
 use Rattle.par2_spec.specs.Changes as defined
 
@@ -36,10 +36,6 @@ applicable_here k now changes i item made within is all = grind (arith, applicab
 -- what was made ready applies the changes that were asked for
 pub same_changes : (old mid : KeptSession) (kind : Kind) → OnlyGrew old mid → changes_by_kind kind old ≡ changes_by_kind kind mid
 same_changes old mid kind grew = grind arith
-
--- a session that was opened
-pub is_new : (s : KeptSession) (f : Folder) → s.folder.files ≡ f → s.undos ≡ [] → s.redos ≡ [] → session_of_kept s ≡ new_session f
-is_new s f files undos redos = λ i. record { folder = files i; undos = undos i; redos = redos i }
 
 -- ---- what a power cut may leave of changes that are written down between two journals
 

@@ -1,5 +1,5 @@
 -- What a store is opened as for a command, and what comes of an action on it.
-use Rattle.par2_tool.proofs.Common.{by_either, ◌≡◌, inl, inr, ℕ, List, Result, Ok, Err, Bool, true, false, refl, sym, ap, subst, ◌∙◌, arith, Some, None, Option, false≢true, Change, Action, Command, Do, Verify, Started, OpensAs, new_session, Session, KeptSession, session_of_kept, changes_asked, changes_unless, session_after, Contents, Fault, Memory, Plan, TellsApartAlong, TellsApartBack, OpensAsBefore, OpensAsBeforeOrAfter, with_history, IsOpened, IsUnopened, StandsFor, IsCounted, IsRead, started_of, IsVerify, IsAnswer, IsReport, IsWritten, IsRefused, IsSession, failure_for, unopened_as, IsBack, IsCause, IsFailed, IsAtTheEnd, IsStopped, OpensAsBeforeOrAfterRun, IsDone, SameOutput, OpenFault, PerformFault, IfOk, Folder, changes_of, LeadsToAfterAsked, refusal, report_in, Outcome, output_of, Stands, Verifies, NothingToUndo, NothingToRedo}
+use Rattle.par2_tool.proofs.Common.{by_either, ◌≡◌, inl, inr, ℕ, List, Result, Ok, Err, Bool, true, false, refl, sym, ap, subst, ◌∙◌, arith, Some, None, Option, false≢true, Change, Action, Command, Do, Verify, Started, OpensAs, new_session, Session, KeptSession, session_of_kept, changes_asked, changes_unless, session_after, Contents, Fault, Memory, Plan, NothingToUndo, NothingToRedo, TellsApartAlong, TellsApartBack, OpensAsBefore, OpensAsBeforeOrAfter, with_history, IsOpened, IsUnopened, StandsFor, IsCounted, IsRead, started_of, IsVerify, IsAnswer, IsReport, IsWritten, IsRefused, IsSession, failure_for, unopened_as, IsBack, IsCause, IsFailed, IsAtTheEnd, IsStopped, OpensAsBeforeOrAfterRun, IsDone, SameOutput, OpenFault, PerformFault, IfOk, Folder, changes_of, LeadsToAfterAsked, refusal, report_in, Outcome, output_of, Stands, Verifies}
 use Rattle.par2_journal.specs.declared.preparation.SessionFault.{SessionFault}
 use Rattle.par2_tool.specs.declared.performing.PerformFault.TheVariants.{Session as Refusing, Store}
 use Rattle.std.specs.Borrow.{Bor}

@@ -1,5 +1,5 @@
 -- What a run of the program does to a store, and what it prints.
-use Rattle.std.specs.Prelude.{◌≡◌, ◌⊎◌, ◌<◌, ℕ, Bool, List, [], Option, Ok, Err, true}
+use Rattle.std.specs.Prelude.{◌≡◌, ◌⊎◌, ◌<◌, ℕ, Bool, List, [], Option, Result, Ok, Err, MatchResult, true}
 use Rattle.clap.specs.Words.{Text}
 use Rattle.par2_spec.specs.Commands.{Action, Do, Undo, Redo}
 use Rattle.par2_spec.specs.History as history
@@ -20,7 +20,8 @@ use Rattle.par2_tool.specs.Asking.{AskFor, IsCommandLine}
 use Rattle.par2_tool.specs.Calls.{CountsFailedRun, CountsRun}
 use Rattle.par2_tool.specs.Holding.{IsOpening, HoldsAfter, with_history, TellsApartAlong, TellsApartBack}
 use Rattle.par2_tool.specs.Opening.{IsOpened}
-use Rattle.par2_tool.specs.Performing.{IsAnswer, IsWritten}
+use Rattle.par2_tool.specs.Performing.{IsAnswer, IsWritten, outcome_of}
+use Rattle.par2_tool.specs.declared.performing.Outcome as performing
 
 -- an outcome, the history having been dropped or not; or a failure with the words that it can speak of
 pub data Telling : Type 0 where
@@ -138,6 +139,13 @@ IsTold words before after (Answered dropped outcome) =
 IsTold words before after (Failed spoken reason) =
     ((spoken ≡ []) × IsUnread words reason × (after ≡ before))
     ⊎ ((action : Action) × AskFor words action × (spoken ≡ words_asked action) × IsCause action before after reason)
+
+-- what comes of an action on a store, a history having been dropped or not: why, whatever the store does; and what it
+-- made of an honest store, by how many calls
+pub record IsCarriedOut {S : Type 0} (store : StoreOf S) (action : Action) (old new : S) (result : Result (performing.Outcome × Bool) Failure) : Type 0 where
+  pub told : MatchResult result (λ done. (store.failures new ≡ store.failures old) × (session : Session) × IsAnswer session action (outcome_of done.0)) (IsCause action (store.failures old) (store.failures new))
+  pub leaves : MatchResult result (λ done. (dropped : Bool) × SameOutput dropped done.1 (outcome_of done.0) × (store.honest old → IsDone action (store.contents old) (store.contents new) dropped (outcome_of done.0))) (λ reason. store.honest old → IsFailed action (store.contents old) (store.contents new) reason)
+  pub calls : store.honest old → MatchResult result (λ _. CountsRun action (store.contents old) (store.writing_calls old) (store.writing_calls new)) (CountsFailedRun action (store.contents old) (store.writing_calls old) (store.writing_calls new))
 
 -- the text was written and the status is its own; or the writer failed, which is counted, it holds a part of the
 -- text, which is a proper prefix, and the status is 6

@@ -25,7 +25,7 @@ pub struct Started {
 }
 
 /// Why a store can't be opened.
-#[derive(Debug, Error, Clone, Copy, PartialEq, Eq, Drop)]
+#[derive(Debug, Error, Clone, Copy, Drop)]
 pub enum OpenFault {
     #[error("a file could not be read or written")]
     Store,

@@ -28,7 +28,7 @@ pub enum Outcome {
 }
 
 /// Why a command is not performed.
-#[derive(Debug, Error, Clone, Copy, PartialEq, Eq, Drop)]
+#[derive(Debug, Error, Clone, Copy, Drop)]
 pub enum PerformFault {
     #[error(transparent)]
     Session(SessionFault),

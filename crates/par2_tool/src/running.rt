@@ -4,11 +4,11 @@ ghost use Rattle.par2_spec.specs.Commands.{Action as Asked};
 ghost use Rattle.par2_spec.specs.Stores.{Contents};
 ghost use Rattle.par2_spec.specs.Views.{command_of};
 ghost use Rattle.par2_tool.specs.Asking.{AskFor};
-ghost use Rattle.par2_tool.specs.Telling.{IsBack, IsRun, IsStopped};
+ghost use Rattle.par2_tool.specs.Telling.{IsBack, IsCarriedOut, IsRun, IsStopped};
 ghost use Rattle.par2_tool.specs.Writing.{IsKept};
 
 use crate::opening::open_for;
-use crate::performing::perform;
+use crate::performing::{Outcome, perform};
 use crate::printing::{fail, tell};
 use par2_folder::FolderStore;
 use par2_printing::Printer;
@@ -23,6 +23,33 @@ fn lacks_history(dropped: bool, command: &Command) -> bool
     ensures dropped { IsBack (command_of command.now) → result ≡ dropped }
 {
     dropped && matches!(command, Command::Act(Action::Undo | Action::Redo))
+}
+
+// Performs a command on a store that is opened for it. Answers the outcome, and whether a history was dropped.
+fn carry_out<S: FolderStore>(
+    alloc: Global,
+    store: &mut S,
+    command: &Command,
+) -> Result<(Outcome, bool), Failure>
+    ensures honest { S.honest store.old → S.honest store.new }
+    ensures comes { IsCarriedOut S.Store (command_of command.now) store.old store.new result }
+    ensures cut { S.honest store.old → IsKept S.Store store.old
+        → (left : Contents) → S.may_remain store.new left
+        → IsStopped (command_of command.now) (S.contents store.old) left }
+    ensures later { S.failures store.old ≤ S.failures store.new }
+    ensures possible { S.honest store.old → S.impossible store.new ≡ S.impossible store.old }
+{
+    let mut started = match open_for(alloc, store, Some(command)) {
+        Ok(started) => started,
+        Err(fault) => return Err(Failure::from(fault)),
+    };
+    if lacks_history(started.dropped, command) {
+        return Err(Failure::FolderChanged);
+    }
+    match perform(alloc, store, &mut started.session, command) {
+        Ok(outcome) => Ok((outcome, started.dropped)),
+        Err(fault) => Err(Failure::from(fault)),
+    }
 }
 
 /// The run of [`crate::run`], without what it comes to. What a power cut leaves at any moment opens as before the run
@@ -48,15 +75,8 @@ pub(crate) fn run<S: FolderStore, O: Write, E: Write>(
         Ok(command) => command,
         Err(fault) => return fail(err, None, Failure::from(fault)),
     };
-    let mut started = match open_for(alloc, store, Some(&command)) {
-        Ok(started) => started,
-        Err(fault) => return fail(err, Some(&command), Failure::from(fault)),
-    };
-    if lacks_history(started.dropped, &command) {
-        return fail(err, Some(&command), Failure::FolderChanged);
-    }
-    match perform(alloc, store, &mut started.session, &command) {
-        Ok(outcome) => tell(out, &outcome, started.dropped),
-        Err(fault) => fail(err, Some(&command), Failure::from(fault)),
+    match carry_out(alloc, store, &command) {
+        Ok((outcome, dropped)) => tell(out, &outcome, dropped),
+        Err(failure) => fail(err, Some(&command), failure),
     }
 }

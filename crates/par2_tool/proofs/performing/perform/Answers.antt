@@ -1,4 +1,4 @@
-use Rattle.par2_tool.proofs.Common.{inl, ◌≡◌, ◌+◌, List, length, refl, sym, ap, subst, ◌∙◌, map, arith, IsVerify, after_write_down, AreSomeMade, HoldsJournaled, IsStoppedAt, IsWritten, length-map, Verify, LeadsToAfterAsked, session_of_kept, session_after, changes_asked, Contents, action_of, command_of, report_of, MayRefuse, Plan, Two, AreSpelled, change_of, changes_by_kind, after_commit, AreAtMost, calls_asked, calls_to_write, TellsApartAlong, OpensAsBeforeOrAfter, journals_of, le_refl, le-add_right}
+use Rattle.par2_tool.proofs.Common.{inl, ◌≡◌, ◌+◌, List, length, refl, sym, ap, subst, ◌∙◌, map, arith, le_refl, le-add_right, IsVerify, after_write_down, AreSomeMade, HoldsJournaled, IsStoppedAt, IsWritten, length-map, Verify, LeadsToAfterAsked, session_of_kept, session_after, changes_asked, Contents, action_of, command_of, report_of, MayRefuse, Plan, Two, AreSpelled, change_of, changes_by_kind, after_commit, AreAtMost, calls_asked, calls_to_write, TellsApartAlong, OpensAsBeforeOrAfter, journals_of}
 use Rattle.par2_spec.specs.Changes as defined
 use Rattle.par2_spec.specs.declared.commands.Command.{Command}
 use Rattle.par2_spec.proofs.AcceptedCommands.{command_leads}
