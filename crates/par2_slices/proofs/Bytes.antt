@@ -59,7 +59,7 @@ none_taken : (c : ℕ) → c ≡ steps 0 (bit_xor c 0)
 unfolding steps
 none_taken c = sym (xor_zero_r c)
 
-fold_more : (bytes : List ℕ) (c k : ℕ) → k < length bytes → fold crc_byte c (take (k + 1) bytes) ≡ crc_byte (fold crc_byte c (take k bytes)) (get_or bytes k 0)
+pub fold_more : (bytes : List ℕ) (c k : ℕ) → k < length bytes → fold crc_byte c (take (k + 1) bytes) ≡ crc_byte (fold crc_byte c (take k bytes)) (get_or bytes k 0)
 fold_more bytes c k below = ap (fold crc_byte c) (take_more bytes k 0 below) ∙ fold-append (take k bytes) (get_or bytes k 0 ∷ []) c
 
 -- the first k + 1 bytes as a number, where the first k are x
@@ -113,7 +113,11 @@ fold_group c groups i none below =
     ∙ fold-append (concat (take i groups)) (get_or groups i none) c
 
 -- the groups, then the rest
-pub grouped : (c n : ℕ) (bytes : List ℕ) → fold crc_byte (fold crc_byte c (concat (first_chunks 8 n bytes))) (drop (n * 8) bytes) ≡ fold crc_byte c bytes
-grouped c n bytes =
-    sym (fold-append (concat (first_chunks 8 n bytes)) (drop (n * 8) bytes) c)
+pub grouped : (c n after value : ℕ) (bytes rest : List ℕ) (groups : List (List ℕ)) → groups ≡ first_chunks 8 n bytes → rest ≡ drop (n * 8) bytes
+    → after ≡ fold crc_byte c (concat groups) → value ≡ fold crc_byte after rest → value ≡ fold crc_byte c bytes
+grouped c n after value bytes rest groups groups_are rest_is after_is value_is =
+    value_is
+    ∙ ap (fold crc_byte after) rest_is
+    ∙ ap (λ a. fold crc_byte a (drop (n * 8) bytes)) (after_is ∙ ap (λ (gs : List (List ℕ)). fold crc_byte c (concat gs)) groups_are)
+    ∙ sym (fold-append (concat (first_chunks 8 n bytes)) (drop (n * 8) bytes) c)
     ∙ ap (fold crc_byte c) (ap (λ t. t ++ drop (n * 8) bytes) (concat-first_chunks 8 n bytes) ∙ take-append-drop (n * 8) bytes)

@@ -10,6 +10,7 @@ pub use Rattle.std.proofs.lemmas.List.Elements.{All-filter, All-from_get_or, All
 pub use Rattle.std.proofs.lemmas.List.Folds.{concat-append, find-append, list_all_at, sum_by-replicate, sum_by-zero}
 pub use Rattle.std.proofs.lemmas.List.FromFn.{get_or-map-range_with_len, get_or-range_with_len, length-map-range_with_len, length-range_with_len, map-range_with_len_more}
 pub use Rattle.std.proofs.lemmas.List.Sorted.{All-permutation, Contains-permutation, IsNonDecreasingBy-from_sort_by_key}
+pub use Rattle.std.proofs.lemmas.List.Sums.{count_by-le-length, sum_by-set}
 pub use Rattle.std.proofs.lemmas.Nat.{le_bytes_4, mod-pow-add, mod_below, pow-add, pow_pos, shl_below, shr-shr, shr_below, xor_comm, xor_lt}
 pub use Rattle.std.proofs.lemmas.Slice.Eq.{bytes_eq-Decides}
 pub use Rattle.std.specs.Borrow.{Bor}

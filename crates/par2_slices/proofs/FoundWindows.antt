@@ -81,10 +81,10 @@ pub spot_found : (s : ℕ) (texts : List (List ℕ)) (pair : Pair) → option_ma
 spot_found s texts pair = found_from texts s pair 0 texts refl
 
 -- spot i is that of pair i
-pub spot_of_pair : (s : ℕ) (texts : List (List ℕ)) (pairs wanted : List Pair) (spots items : List (Option Spot)) (i : ℕ) → wanted ≡ pairs → spots ≡ map (first_spot s texts) wanted → items ≡ spots → i < length items
+pub spot_of_pair : (s : ℕ) (texts : List (List ℕ)) (pairs : List Pair) (spots items : List (Option Spot)) (i : ℕ) → spots ≡ map (first_spot s texts) pairs → items ≡ spots → i < length items
     → (i < length pairs) × (get_or items i None ≡ first_spot s texts (pair_at pairs i))
-spot_of_pair s texts pairs wanted spots items i wanted_is spots_are items_are low =
-    let are : items ≡ map (first_spot s texts) pairs = items_are ∙ spots_are ∙ ap (map (first_spot s texts)) wanted_is in
+spot_of_pair s texts pairs spots items i spots_are items_are low =
+    let are : items ≡ map (first_spot s texts) pairs = items_are ∙ spots_are in
     let inside : i < length pairs = omega (arith, low, ap length are, length-map pairs (first_spot s texts)) in
     (inside, ap (λ xs. get_or xs i None) are ∙ get_or-map (first_spot s texts) pairs i no_pair None inside)
 

@@ -1,5 +1,5 @@
 -- The places of the pairs.
-use Rattle.par2_slices.proofs.Common.{◌≡◌, ℕ, ◌+◌, ◌-◌, ◌/◌, ◌^◌, ◌<◌, ◌≤◌, List, map, length, take, drop, get_or, refl, subst, sym, ap, ◌∙◌, arith, All, range_with_len, IsPermutation, IsNonDecreasingBy, get_or_default, get_or-take, get_or-drop, length-take-le, length-drop, All-get_or, All-from_get_or, get_or-map-range_with_len, length-map-range_with_len, All-permutation, Contains-permutation, lt_of_not-le, ne_of_lt, Pair, no_place, pair_at, place_at, IsPlace, IsIndex, IsStart, HoldsGroup, Place}
+use Rattle.par2_slices.proofs.Common.{◌≡◌, ℕ, ◌+◌, ◌-◌, ◌/◌, ◌^◌, ◌<◌, ◌≤◌, List, map, length, take, drop, get_or, refl, subst, sym, ap, ◌∙◌, arith, All, range_with_len, IsPermutation, IsNonDecreasingBy, get_or_default, get_or-take, get_or-drop, length-take-le, length-drop, All-get_or, All-from_get_or, get_or-map-range_with_len, length-map-range_with_len, All-permutation, Contains-permutation, lt_of_not-le, ne_of_lt, Pair, no_place, pair_at, place_at, IsPlace, IsIndex, IsStart, AreStarts, HoldsGroup, Place}
 
 abbrev pub place_of : List Pair → ℕ → Place
 place_of pairs i = record { crc = (pair_at pairs i).1; index = i }
@@ -34,6 +34,14 @@ not_below k start h = omega (arith, h)
 pub in_order : (places : List Place) (group start end : ℕ) → IsStart places group start → IsStart places (group + 1) end → start ≤ end
 in_order places group start end first next =
     not_below end start (λ early. omega (arith, first.below end early, next.above end (omega arith) (omega (arith, early, first.bound))))
+
+-- where a group begins and ends, as it was read
+pub ends_of : (places : List Place) (starts : List ℕ) (group start end : ℕ) → AreStarts places starts → group < 2 ^ 15
+    → start ≡ get_or starts group start → end ≡ get_or starts (group + 1) end → IsStart places group start × IsStart places (group + 1) end
+ends_of places starts group start end are low first next = (begins group start (omega (arith, low)) first, begins (group + 1) end (omega (arith, low)) next)
+  where
+    begins : (g n : ℕ) → g < 2 ^ 15 + 1 → n ≡ get_or starts g n → IsStart places g n
+    begins g n h is = subst (λ (at : ℕ). IsStart places g at) (get_or_default starts g 0 n (omega (arith, h, are.len)) ∙ sym is) (are.each g h)
 
 one_group : (group x : ℕ) → group ≤ x → x < group + 1 → x ≡ group
 one_group group x low high = omega (arith, low, high)

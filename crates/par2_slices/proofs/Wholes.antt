@@ -1,12 +1,22 @@
 -- Slices that lie in the text, and their checksums one after the other.
-use Rattle.par2_slices.proofs.Common.{◌≡◌, ℕ, ◌+◌, ◌-◌, ◌*◌, ◌≤◌, ◌<◌, min, List, [], ◌∷◌, ◌++◌, length, map, take, drop, replicate, get_or, sym, ap, ap₂, ◌∙◌, zero-add, arith, range_with_len, mul-le-mul_right, map-range_with_len_more, append-nil, length-take, length-drop, map-append, md5, Pair, pair_of, slice_at, first_pairs}
+use Rattle.par2_slices.proofs.Common.{◌≡◌, ℕ, ◌+◌, ◌-◌, ◌*◌, ◌≤◌, ◌<◌, min, List, [], ◌∷◌, ◌++◌, length, map, take, drop, replicate, get_or, sym, ap, ap₂, ◌∙◌, zero-add, arith, range_with_len, mul-le-mul_right, map-range_with_len_more, append-nil, length-take, length-drop, map-append, md5, Pair, pair_of, slice_at, slice_count, window, div_ceil_times, first_pairs}
 
--- a slice that lies in the text has no padding
+-- a slice that is counted begins in the text
+pub begins_within : (s n j : ℕ) → 1 ≤ s → j < slice_count s n → j * s < n
+begins_within s n j some below =
+    let more : (j + 1) * s ≤ slice_count s n * s = mul-le-mul_right s (omega (arith, below)) in
+    omega (arith, more, (div_ceil_times n s some).1)
+
+-- a window that lies in the text has no padding
+pub whole_window : (s : ℕ) (bytes : List ℕ) (o : ℕ) → o + s ≤ length bytes → take s (drop o bytes) ≡ window s bytes o
+whole_window s bytes o within =
+    let bytes_there : List ℕ = take s (drop o bytes) in
+    let missing : s - length bytes_there ≡ 0 = omega (arith, within, length-take s (drop o bytes), length-drop o bytes) in
+    sym (ap (λ n. bytes_there ++ replicate n 0) missing ∙ append-nil bytes_there)
+
+-- nor has such a slice
 pub whole_slice : (s : ℕ) (bytes : List ℕ) (j : ℕ) → (j + 1) * s ≤ length bytes → take s (drop (j * s) bytes) ≡ slice_at s bytes j
-whole_slice s bytes j within =
-    let slice : List ℕ = take s (drop (j * s) bytes) in
-    let missing : s - length slice ≡ 0 = omega (arith, within, length-take s (drop (j * s) bytes), length-drop (j * s) bytes) in
-    sym (ap (λ n. slice ++ replicate n 0) missing ∙ append-nil slice)
+whole_slice s bytes j within = whole_window s bytes (j * s) (omega (arith, within))
 
 -- a slice before the last of some that lie in the text
 pub one_of_whole : (s : ℕ) (bytes : List ℕ) (first count k : ℕ) → (first + count) * s ≤ length bytes → k < count

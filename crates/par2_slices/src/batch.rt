@@ -1,6 +1,6 @@
 //! Windows whose MD5s are computed side by side.
 
-ghost use Rattle.std.specs.Prelude.{◌≡◌, ◌≤◌, ◌<◌, ◌+◌, ℕ, length, slice_index};
+ghost use Rattle.std.specs.Prelude.{◌≡◌, ◌≤◌, ◌<◌, ◌+◌, ◌-◌, ℕ, length, min, slice_index};
 ghost use Rattle.md5.specs.Md5.{md5};
 ghost use Rattle.par2_digests.specs.Digests.{digest_at};
 ghost use Rattle.par2_spec.specs.Windows.{window};
@@ -29,10 +29,8 @@ pub(crate) struct Candidate {
 fn starts(batch: &[Candidate]) -> [usize; LANES]
     requires some { 1 ≤ length batch.now }
     requires fit { length batch.now ≤ 8 }
-    ensures each { (k : ℕ)
-        → k < length batch.now → slice_index result k ≡ (candidate_at batch.now k).spot.offset }
-    ensures among { (k : ℕ) → k < 8 → (j : ℕ)
-        × (j < length batch.now) × (slice_index result k ≡ (candidate_at batch.now j).spot.offset) }
+    ensures { (k : ℕ) → k < 8 → slice_index result k
+        ≡ (candidate_at batch.now (min k (length batch.now - 1))).spot.offset }
 {
     array::from_fn(|lane| batch[lane.min(batch.len() - 1)].spot.offset)
 }

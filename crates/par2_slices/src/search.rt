@@ -40,6 +40,19 @@ fn is_waiting(group: &[Place], crc: u32, found: &[Option<Spot>]) -> bool
     false
 }
 
+/// Whether no candidate has this CRC-32.
+fn is_new(candidates: &[Candidate], crc: u32) -> bool
+    ensures { IsTrue result ↔ ((k : ℕ) → k < length candidates.now
+        → ¬ ((candidate_at candidates.now k).crc ≡ crc)) }
+{
+    for candidate in candidates {
+        if candidate.crc == crc {
+            return false;
+        }
+    }
+    true
+}
+
 /// Gives each pair that has these checksums and no answer yet the candidate's spot, and counts them.
 fn settle(
     wanted: &Wanted,
@@ -135,25 +148,16 @@ impl Search {
             (pair_at wanted.now i) self.old.batch.items (answer_at self.old.found.items i) }
         ensures batch { self.new.batch.items ≡ [] }
     {
+        if self.batch.is_empty() {
+            return;
+        }
         let batch = self.batch.take();
         self.awaited = 0;
         let candidates = batch.as_slice();
-        if candidates.is_empty() {
-            return;
-        }
         let digests = digests(bytes, s, candidates);
         for (k, &candidate) in candidates.iter().enumerate() {
             self.answer(wanted, candidate, &digests[k]);
         }
-    }
-
-    /// Whether the batch has room for a candidate, and none of this CRC-32.
-    fn has_room_for(&self, crc: u32) -> bool
-        ensures { IsTrue result ↔ (length self.now.batch.items < 8) × ((k : ℕ) → k
-            < length self.now.batch.items → ¬ ((candidate_at self.now.batch.items k).crc ≡ crc)) }
-    {
-        let batch = self.batch.as_slice();
-        !self.batch.is_full() && batch.iter().all(|candidate| candidate.crc != crc)
     }
 
     /// Settles a full batch, one that has a candidate of this CRC-32, and each one before a window that reaches past the
@@ -168,7 +172,7 @@ impl Search {
         ensures short { length bytes.now < offset + s → self.new.batch.items ≡ [] }
     {
         let is_whole = window_bytes(bytes, s, offset).len() as u64 == s;
-        if !is_whole || !self.has_room_for(crc) {
+        if !is_whole || self.batch.is_full() || !is_new(self.batch.as_slice(), crc) {
             self.settle_batch(wanted, bytes, s);
         }
     }
@@ -376,8 +380,8 @@ pub fn find_among(
     requires { 1 ≤ s }
     ensures { Lists (map (first_spot s (map (λ text. text.now) texts.now)) wanted.now) result }
 {
-    let mut search = Search::new(alloc, wanted)?;
     let mut rolling = Rolling::new(alloc, s)?;
+    let mut search = Search::new(alloc, wanted)?;
     for (text, bytes) in texts.iter().enumerate() {
         search.search_text(wanted, text, bytes, s, &mut rolling);
     }

@@ -2,7 +2,7 @@
 
 ghost use Rattle.std.specs.Prelude.{◌≡◌, ◌≤◌, ◌<◌, ◌/◌, ◌^◌, ℕ, IfOk, length};
 ghost use Rattle.std.specs.List.Sorted.{IsNonDecreasingBy};
-ghost use Rattle.par2_slices.specs.Searches.{is_awaited, place_at, AreStarts, HoldsGroup, IsStart};
+ghost use Rattle.par2_slices.specs.Searches.{is_awaited, place_at, AreStarts, HoldsGroup, IsIndex, IsStart};
 
 use crate::batch::Spot;
 use crate::filter::{SHIFT, WORDS};
@@ -49,6 +49,18 @@ impl Model for Wanted {
         a.starts.items };
 }
 
+/// The places of the pairs, by rising CRC-32s.
+fn places_of(alloc: Global, pairs: &[Pair]) -> Result<Vec<Place>>
+    ensures { IfOk result (λ places. IsIndex pairs.now places.items) }
+{
+    let mut places = Vec::with_capacity(alloc, pairs.len())?;
+    for (index, pair) in pairs.iter().enumerate() {
+        places.push(Place { crc: pair.1, index })?;
+    }
+    places.sort_unstable_by_key(|place| place.crc);
+    Ok(places)
+}
+
 /// Where the places of the group, or of the groups above it, begin. Those before `start` are of groups below it.
 fn group_start(places: &[Place], group: usize, start: usize) -> usize
     requires rising { IsNonDecreasingBy (λ place. place.crc) places.now }
@@ -83,11 +95,7 @@ impl Wanted {
     pub fn new(alloc: Global, pairs: &[Pair]) -> Result<Wanted>
         ensures { IfOk result (λ wanted. wanted ≡ pairs.now) }
     {
-        let mut places = Vec::with_capacity(alloc, pairs.len())?;
-        for (index, pair) in pairs.iter().enumerate() {
-            places.push(Place { crc: pair.1, index })?;
-        }
-        places.sort_unstable_by_key(|place| place.crc);
+        let places = places_of(alloc, pairs)?;
         let starts = group_starts(alloc, &places)?;
         let pairs = Vec::from_slice(alloc, pairs)?;
         Ok(Wanted {

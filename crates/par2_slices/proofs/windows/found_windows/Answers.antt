@@ -7,7 +7,7 @@ window_at-requires c =
     let s : ℕ = c.args.s in
     let texts : List (List ℕ) = texts_of c.args.texts.now in
     let i : ℕ = c.loop-spot.spot-index in
-    let its = spot_of_pair s texts c.args.pairs.now c.in_ok-wanted.wanted c.in_ok-spots.spots.items c.deref-spot-items.result.now i c.in_ok-wanted.ensures c.in_ok-spots.ensures c.deref-spot-items.ensures.value c.loop-spot-test.true in
+    let its = spot_of_pair s texts c.args.pairs.now c.in_ok-spots.spots.items c.deref-spot-items.result.now i c.in_ok-spots.ensures c.deref-spot-items.ensures.value c.loop-spot-test.true in
     subst (λ spot. IfSome spot (IsWithin texts)) (sym its.1) (spot_within s texts (pair_at c.args.pairs.now i))
 
 pub loop-spot-preserved : goal.loop-spot-preserved
@@ -16,7 +16,7 @@ loop-spot-preserved c =
     let texts : List (List ℕ) = texts_of c.args.texts.now in
     let pairs : List Pair = c.args.pairs.now in
     let i : ℕ = c.loop-spot.spot-index in
-    let its = spot_of_pair s texts pairs c.in_ok-wanted.wanted c.in_ok-spots.spots.items c.deref-spot-items.result.now i c.in_ok-wanted.ensures c.in_ok-spots.ensures c.deref-spot-items.ensures.value c.loop-spot-test.true in
+    let its = spot_of_pair s texts pairs c.in_ok-spots.spots.items c.deref-spot-items.result.now i c.in_ok-spots.ensures c.deref-spot-items.ensures.value c.loop-spot-test.true in
     let window : padded_window s c.window_at.result ≡ found s texts (pair_at pairs i) = c.window_at.ensures.value ∙ ap (option_map (window_in s texts)) its.1 ∙ spot_found s texts (pair_at pairs i) in
     record {
       first =
@@ -34,6 +34,6 @@ returns-clause-first c =
     let s : ℕ = c.args.s in
     let texts : List (List ℕ) = texts_of c.args.texts.now in
     let pairs : List Pair = c.args.pairs.now in
-    let count : length c.in_ok-spots.spots.items ≡ length pairs = ap length c.in_ok-spots.ensures ∙ length-map _ _ ∙ ap length c.in_ok-wanted.ensures in
+    let count : length c.in_ok-spots.spots.items ≡ length pairs = ap length c.in_ok-spots.ensures ∙ length-map _ _ in
     let items : length c.deref-spot-items.result.now ≡ length c.in_ok-spots.spots.items = ap length c.deref-spot-items.ensures.value in
     c.loop-spot.invariant.first ∙ ap (map (found s texts)) (take_all c.loop-spot.spot-index pairs (omega (arith, count, items, c.loop-spot-test.false)))

@@ -5,8 +5,7 @@ use Rattle.par2_slices.proofs.search.Search.settle_batch.Goals as goal
 
 pub returns-then-is_empty-clause-each : goal.returns-then-is_empty-clause-each
 returns-then-is_empty-clause-each c i h =
-    let candidates_are : c.as_slice-candidates.result.now ≡ c.args.self.now.batch.items = c.as_slice-candidates.ensures.value ∙ ap (λ batch. batch.items) c.take-batch.ensures.value in
-    sym (none_settled c.args.s c.args.bytes.now (pair_at c.args.wanted.now i) c.args.self.now.batch.items (answer_at c.args.self.now.found.items i) (sym (ap length candidates_are) ∙ eqb-true _ 0 (sym c.is_empty.ensures ∙ c.if-is_empty.true)))
+    sym (none_settled c.args.s c.args.bytes.now (pair_at c.args.wanted.now i) c.args.self.now.batch.items (answer_at c.args.self.now.found.items i) (eqb-true _ 0 (sym c.is_empty.ensures ∙ c.if-is_empty.true)))
 
 pub loop-k-preserved : goal.loop-k-preserved
 loop-k-preserved c =
