@@ -62,13 +62,6 @@ fn sought_and_others<'t>(target: &'t Target, names: &BTreeSet<Name>) -> (&'t [Pa
     }
 }
 
-// Whether there is a window, of each.
-fn are_there(alloc: Global, windows: &[Option<&[u8]>]) -> Result<Vec<bool>>
-    ensures { Lists (map is_some windows.now) result }
-{
-    windows.iter().map(|window| window.is_some()).collect(alloc)
-}
-
 // Adds whether slices are found: these answers, and that the slices of these pairs are.
 fn push_found(found: &mut Vec<bool>, answers: &[bool], others: &[Pair]) -> Result<()>
     ensures { let more = answers.now ++ map (λ pair. true) others.now in
@@ -114,7 +107,7 @@ fn are_found(
     let pairs = sought_pairs(alloc, set, names)?;
     let texts = file_texts(alloc, folder, candidates)?;
     let windows = found_windows(alloc, &texts, set.slice_size(), &pairs)?;
-    are_there(alloc, &windows)
+    windows.iter().map(|window| window.is_some()).collect(alloc)
 }
 
 /// What is found of a set by the files of these names.

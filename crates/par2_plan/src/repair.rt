@@ -101,26 +101,6 @@ fn draft_with(
     Ok(Draft { changes, md5s })
 }
 
-// The draft of a repair of this set, which is searched for in the files of its targets and in further ones.
-fn draft_of(
-    alloc: Global,
-    folder: &Folder,
-    set: &ParSet,
-    extras: &[Name],
-    purge: bool,
-) -> Result<Draft, Fault>
-    requires { let searched = search.candidates folder.now.files set.now extras.now in
-        IsWholeWhereMatched folder.now.files set.now searched }
-    ensures refused { let searched = search.candidates folder.now.files set.now extras.now in
-        FailsFor (repair_refusal folder.now.files set.now searched) result }
-    ensures draft { let searched = search.candidates folder.now.files set.now extras.now in
-        IfOk result (IsDraftBy purge folder.now.files set.now searched) }
-{
-    let candidates = candidates(alloc, folder, set, extras)?;
-    let targets = matches(alloc, folder, set, &candidates)?;
-    draft_with(alloc, folder, set, &candidates, &targets.needing, purge)
-}
-
 /// The changes of a repair: the files of needing targets are put aside, targets that have a match take it, and the others
 /// are written from slices that are found or rebuilt. A repair that purges then removes the asides that are left and the
 /// set's par files. The MD5s of what is written are left to be tested, and a wrong one is the last cause of a refusal.
@@ -139,7 +119,10 @@ pub fn draft_repair(
         IfOk result (IsDraft folder.now.files base.now words purge) }
 {
     let reading = read(alloc, folder, base, extras)?;
-    draft_of(alloc, folder, &reading.set, &reading.extras, purge)
+    let set = &reading.set;
+    let candidates = candidates(alloc, folder, set, &reading.extras)?;
+    let targets = matches(alloc, folder, set, &candidates)?;
+    draft_with(alloc, folder, set, &candidates, &targets.needing, purge)
 }
 
 /// The changes of a repair, as its draft has them, whose written files are tested.

@@ -1,4 +1,4 @@
-use Rattle.par2_plan.proofs.Common.{◌≡◌, ◌∙◌, List, ℕ, map, ap, ap₂, is_some, Option, IfOk-weaker, bytes_of, found, Target, padded_windows, texts_of, contains, slice_cmp, nat_cmp, pairs_of}
+use Rattle.par2_plan.proofs.Common.{◌≡◌, ◌∙◌, List, ℕ, map, ap, ap₂, rules, is_some, Option, IfOk-weaker, Window, padded_windows, texts_of, YieldsList-from_map, YieldsList-from_slice, items_from_collect, bytes_of, found, Target, contains, slice_cmp, nat_cmp, pairs_of}
 use Rattle.par2_plan.proofs.FoundSlices.{windows_there}
 use Rattle.par2_plan.proofs.finding.are_found.Goals as goal
 
@@ -12,4 +12,5 @@ returns c =
     ap (padded_windows s) c.deref-3.ensures.value ∙ c.in_ok-windows.ensures.first
     ∙ ap₂ (λ n ts. map (found n ts) c.deref-2.result.now) c.slice_size.ensures.value (ap texts_of c.deref.ensures.value ∙ c.in_ok-texts.ensures)
     ∙ ap (map f) (c.deref-2.ensures.value ∙ c.in_ok-pairs.ensures) in
-    IfOk-weaker c.are_there.result _ _ (λ list is. is ∙ windows_there s c.deref-3.result.now ∙ ap (map (λ (slice : Option (List ℕ)). is_some slice)) windows) c.are_there.ensures
+    IfOk-weaker c.collect.result _ _ (λ list is. is ∙ windows_there s c.deref-3.result.now ∙ ap (map (λ (slice : Option (List ℕ)). is_some slice)) windows)
+    (items_from_collect _ c.collect.ensures.ran (YieldsList-from_map _ (λ (window : Window). is_some window) (YieldsList-from_slice c.deref-3.result.now cc) c.map.ensures.closure (λ x r q k. search rules)))

@@ -1,11 +1,11 @@
 use Rattle.par2_plan.proofs.Common.{◌≡◌, ◌∙◌, List, ℕ, length, ap, subst, names_without_match, rebuilt_targets, known_by, names_there, AllByRecursion, err_from_is_err_and, repair_refusal, long_aside, undetermined_fault, md5s_of, refused_by}
 use Rattle.std.proofs.Common.{Some, None}
 use Rattle.par2_plan.proofs.RepairParts.{told_by, targets_are, not_repairable, too_long, by_digests, put_aside_in}
-use Rattle.par2_plan.proofs.repair.draft_with.Goals.{After-moves_of}
+use Rattle.par2_plan.proofs.repair.draft_with.Goals.{In_ok-restored}
 use Rattle.par2_plan.proofs.repair.draft_with.Goals as goal
 
 -- the lost slices can be rebuilt, if there are any
-told : (c : After-moves_of) → undetermined_fault c.args.set.now (known_by c.args.folder.now.files c.args.set.now c.args.candidates.now) ≡ None
+told : (c : In_ok-restored) → undetermined_fault c.args.set.now (known_by c.args.folder.now.files c.args.set.now c.args.candidates.now) ≡ None
 told c =
     let names = names_without_match c.args.needing.now in
     told_by c.args.folder.now.files c.args.set.now c.args.candidates.now names (ap names_without_match c.requires.needing) c.requires.whole (c.in_ok-restored.ensures.restored names c.in_ok-unmatched.ensures).determined
@@ -28,7 +28,7 @@ returns-in_err-moves-clause-refused c =
     let fault = c.in_err-moves.field-0.0 in
     refused_by (λ y. long_aside folder set (names_there folder c.args.needing.now) ≡ Some y) (λ y. repair_refusal folder set searched ≡ Some y) c.from_residual-in_err-moves.result fault
     (err_from_is_err_and c.from_residual-in_err-moves.result c.from_residual-in_err-moves.ensures.1) c.in_err-moves.ensures.refused
-    (λ h. too_long folder set searched (told (goal.at.returns-in_err-moves-clause-refused c).After-moves_of) fault
+    (λ h. too_long folder set searched (told (goal.at.returns-in_err-moves-clause-refused c).In_ok-restored) fault
     (subst (λ ns. long_aside folder set ns ≡ Some fault) (put_aside_in folder set searched c.args.needing.now c.requires.needing) h))
 
 pub returns-clause-draft : goal.returns-clause-draft
@@ -44,6 +44,6 @@ returns-clause-draft c =
       changes = c.in_ok-changes.ensures searched (c.in_ok-moves.ensures.moves searched c.requires.needing) are;
       md5s = c.in_ok-md5s.ensures ∙ ap md5s_of (c.deref.ensures.value ∙ are);
       lengths = subst (AllByRecursion (λ t. length t.1 ≡ t.0.length)) targets restored.lengths;
-      cause = by_digests folder set searched (told (goal.at.returns-clause-draft c).After-moves_of) short;
+      cause = by_digests folder set searched (told (goal.at.returns-clause-draft c).In_ok-restored) short;
       few = c.in_ok-moves.ensures.few;
     }
