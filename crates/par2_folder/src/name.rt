@@ -3,7 +3,7 @@ ghost use Rattle.std.specs.Prelude.{◌≡◌, ◌↔◌, ◌==◌, ◌≤◌, �
 ghost use Rattle.std.specs.Ordering.{nat_cmp};
 ghost use Rattle.std.specs.Cmp.{on_equiv, on_total, on_po, on_per, partial_equiv_from_equiv};
 ghost use Rattle.std.specs.Cmp.Lexicographic.{pointwise, slice_cmp, nat_list_eq_equiv, nat_list_cmp_total, texts_po, texts_ties};
-ghost use Rattle.std.specs.List.{list_any, starts_with};
+ghost use Rattle.std.specs.List.{starts_with};
 ghost use Rattle.std.specs.Str.{bytes_eq};
 ghost use Rattle.par2_spec.specs.Names.{is_name, is_par_name};
 
@@ -42,13 +42,6 @@ fn has_length(bytes: &[u8]) -> bool
     !bytes.is_empty() && bytes.len() <= 255
 }
 
-// Whether a byte stands in the text.
-fn has_byte(bytes: &[u8], barred: u8) -> bool
-    ensures { result ≡ list_any (λ b. b == barred) bytes.now }
-{
-    bytes.contains(&barred)
-}
-
 /// Whether the text begins as the files do that are kept for the history.
 pub fn is_reserved(bytes: &[u8]) -> bool
     ensures { result ≡ starts_with nat_eq bytes.now (codes ".par2undo") }
@@ -66,7 +59,7 @@ fn is_name(text: &str) -> bool
     if !has_length(bytes) {
         return false;
     }
-    if has_byte(bytes, b'/') || has_byte(bytes, 0) {
+    if bytes.contains(&b'/') || bytes.contains(&0) {
         return false;
     }
     if text == "." || text == ".." {

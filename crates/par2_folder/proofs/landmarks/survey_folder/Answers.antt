@@ -1,5 +1,5 @@
-use Rattle.par2_folder.proofs.Common.{◌<◌, inl, inr, length, refl, ap, arith, subst, sym, ◌∙◌, entries, HasAbsorbed, fingerprint, fingerprint_input, folder_below, files_in, folder_in}
-use Rattle.par2_folder.proofs.Borders.{no_text}
+use Rattle.par2_folder.proofs.Common.{◌<◌, inl, inr, length, refl, ap, arith, subst, sym, ◌∙◌, append-nil, entries, take_all, md5, HasAbsorbed, fingerprint, fingerprint_input, folder_below, files_in, folder_in}
+use Rattle.par2_folder.proofs.Borders.{no_text, taken_on}
 use Rattle.par2_folder.proofs.SortedFiles.{files_of}
 use Rattle.par2_folder.proofs.Surveys.{one_before}
 use Rattle.par2_folder.proofs.Walks.{fingerprint_is}
@@ -47,3 +47,9 @@ returns-clause-some c = λ files.
 pub returns-clause-fingerprint : goal.returns-clause-fingerprint
 returns-clause-fingerprint c =
     c.digest.ensures _ c.in_ok-end.ensures.there.absorbed ∙ fingerprint_is (folder_in c.in_ok-snapshot.snapshot) ∙ ap fingerprint c.in_ok-snapshot.ensures.folder
+
+pub returns-clause-digest : goal.returns-clause-digest
+returns-clause-digest c =
+    let text = c.args.text.now in
+    let whole = taken_on text c.in_ok-end.end.taken (length text) c.in_ok-end.ensures.there.within ∙ take_all (length text) text (omega arith) in
+    c.digest-2.ensures _ (c.absorb.ensures _ c.in_ok-end.ensures.there.beside) ∙ ap md5 (simp append-nil whole)
