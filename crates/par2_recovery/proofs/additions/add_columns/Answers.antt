@@ -4,9 +4,6 @@ use Rattle.par2_recovery.proofs.Combinations.{length-texts_of}
 use Rattle.par2_recovery.proofs.Solving.{many_windows}
 use Rattle.par2_recovery.proofs.additions.add_columns.Goals as goal
 
-pub fit_output-requires-clause-some : goal.fit_output-requires-clause-some
-fit_output-requires-clause-some c = rw c.requires.rows at c.requires.some
-
 pub products_of-requires-clause-factors : goal.products_of-requires-clause-factors
 products_of-requires-clause-factors c = rw (many_windows _ _ c.args.slices.now c.deref.result.now (ap texts_of c.deref.ensures.value ∙ c.in_ok-windows.ensures)) c.requires.factors
 

@@ -1,4 +1,4 @@
-use Rattle.par2_recovery.proofs.Common.{ℕ, ◌≡◌, ◌<◌, ◌∙◌, [], List, sym, ap, subst, arith, length, map, get_or-map, length-map, AllByRecursion, list_at, lists_of, all_get, all-filter, length-lists_of, AreBytes, AreSolved, AreRebuilt, known_among, bytes_or_none, with_lost_slices, recovered_of, exponents_of, lost, texts_of}
+use Rattle.par2_recovery.proofs.Common.{ℕ, ◌≡◌, ◌<◌, ◌∙◌, [], List, sym, ap, subst, arith, length, map, get_or-map, length-map, AllByRecursion, list_at, lists_of, all_get, all-filter, length-lists_of, AreBytes, known_among, bytes_or_none, recovered_of, exponents_of, lost, texts_of}
 use Rattle.par2_recovery.proofs.Combinations.{length-texts_of}
 use Rattle.par2_recovery.proofs.Finishing.{answer, inverse_long}
 use Rattle.par2_recovery.proofs.Inverting.{length-recovered_of, many_texts}
@@ -35,25 +35,17 @@ solved-requires-clause-count c =
 pub solved-requires-clause-size : goal.solved-requires-clause-size
 solved-requires-clause-size c = λ j h.
     let at = (goal.at.solved-requires-clause-size c).After-deref-9 in
-    let s : ℕ = c.args.survivors.now.slice in
     let recs = recovered_of c.args.found.now.kept.items in
     let low : j < length recs = (let n = length-recovered_of c.args.found.now.kept.items in let count = many at in omega (arith, h, n, count)) in
-    let sizes = subst (λ rs. AllByRecursion (λ r. length r.1 ≡ s) rs) (sym c.requires.kept) (all-filter (λ r. length r.1 ≡ s) _ (recovered_of c.args.survivors.now.recovery.items) c.requires.survivors.recovery) in
-    ap (λ xs. length (list_at xs j)) (recovery_are at) ∙ ap length (get_or-map (λ (r : ℕ × List ℕ). r.1) recs j (0, []) [] low) ∙ all_get (λ (r : ℕ × List ℕ). length r.1 ≡ s) recs j (0, []) low sizes
+    let sizes = subst (λ rs. AllByRecursion (λ r. length r.1 ≡ c.args.survivors.now.slice) rs) (sym c.requires.kept) (all-filter (λ r. length r.1 ≡ c.args.survivors.now.slice) _ (recovered_of c.args.survivors.now.recovery.items) c.requires.survivors.recovery) in
+    ap (λ xs. length (list_at xs j)) (recovery_are at) ∙ ap length (get_or-map (λ (r : ℕ × List ℕ). r.1) recs j (0, []) [] low) ∙ all_get (λ (r : ℕ × List ℕ). length r.1 ≡ c.args.survivors.now.slice) recs j (0, []) low sizes
 
-made : (c : After-deref-9) (texts : List (List ℕ)) → AreSolved c.args.survivors.now.slice (lists_of c.deref-6.result.now) c.deref-7.result.now (texts_of c.deref-9.result.now) (texts_of c.deref-8.result.now) texts → AreBytes texts
-    → AreRebuilt c.args.survivors.now (with_lost_slices (known_among c.args.survivors.now) texts) × (length texts ≡ length (lost (known_among c.args.survivors.now)))
-made c texts solved fit =
-    answer c.args.survivors.now c.requires.survivors (lost (known_among c.args.survivors.now)) (recovered_of c.args.found.now.kept.items) (lists_of c.args.found.now.inverse.items) texts
+pub returns : goal.returns
+returns c =
+    let at = (goal.at.returns c).After-deref-9 in
+    let made = answer c.args.survivors.now c.requires.survivors (lost (known_among c.args.survivors.now)) (recovered_of c.args.found.now.kept.items) (lists_of c.args.found.now.inverse.items) (lists_of c.in_ok-texts.texts.items)
     (lost_are c.args.survivors.now.slice c.args.survivors.now.known.items) c.requires.kept c.requires.inverse c.requires.enough
-    (subst AreBytes (ap texts_of (c.deref-5.ensures.value ∙ sym c.deref-9.ensures.value) ∙ slices_are c) c.fit_texts-2.ensures)
-    (subst AreBytes (ap texts_of (c.deref-4.ensures.value ∙ sym c.deref-8.ensures.value) ∙ recovery_are c) c.fit_texts.ensures)
-    (rw (c.deref-6.ensures.value, recovery_are c, slices_are c, exponents_are c) at solved)
-    fit
-
-pub returns-clause-rebuilt : goal.returns-clause-rebuilt
-returns-clause-rebuilt c = (made (goal.at.returns-clause-rebuilt c).After-deref-9 (lists_of c.in_ok-texts.texts.items) c.in_ok-texts.ensures (rw c.deref-10.ensures.value at c.fit_lists.ensures)).0
-
-pub returns-clause-count : goal.returns-clause-count
-returns-clause-count c =
-    sym (length-lists_of c.in_ok-texts.texts.items) ∙ (made (goal.at.returns-clause-count c).After-deref-9 (lists_of c.in_ok-texts.texts.items) c.in_ok-texts.ensures (rw c.deref-10.ensures.value at c.fit_lists.ensures)).1
+    (subst AreBytes (ap texts_of (c.deref-5.ensures.value ∙ sym c.deref-9.ensures.value) ∙ slices_are at) c.fit_texts-2.ensures)
+    (subst AreBytes (ap texts_of (c.deref-4.ensures.value ∙ sym c.deref-8.ensures.value) ∙ recovery_are at) c.fit_texts.ensures)
+    (rw (c.deref-6.ensures.value, recovery_are at, slices_are at, exponents_are at) at c.in_ok-texts.ensures) (rw c.deref-10.ensures.value at c.fit_lists.ensures) in
+    record { rebuilt = made.0; count = sym (length-lists_of c.in_ok-texts.texts.items) ∙ made.1 }
