@@ -24,7 +24,7 @@ use par2_spec::{CreateArgs, Fault, Result};
 use std::alloc::Global;
 
 /// What a create does.
-#[derive(Debug, Drop)]
+#[derive(Drop)]
 pub struct Creation {
     pub changes: Changes,
     /// A landmark of the folder, for the fingerprints along these changes: it was computed side by side with the MD5s of
