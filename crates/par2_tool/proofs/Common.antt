@@ -33,7 +33,7 @@ pub use Rattle.par2_spec.specs.Journals.{Journal, Spells}
 pub use Rattle.par2_spec.specs.Opening.{Halfway, Opened, Settled, Started, TellsApart, halfway_where, is_valid, new_session, opened, settled_journal, started}
 unfoldable pub use Rattle.par2_spec.specs.Opening.{Opens, OpensAs, journals_of, leads}
 pub use Rattle.par2_spec.specs.Plans.{LeadsToAfterAsked, changes_of}
-pub use Rattle.par2_spec.specs.Refusals.{set_in}
+pub use Rattle.par2_spec.specs.Refusals.{early_refusal_of, set_in}
 unfoldable pub use Rattle.par2_spec.specs.Refusals.{refusal}
 pub use Rattle.par2_spec.specs.Reports.{Report, verdict_of}
 unfoldable pub use Rattle.par2_spec.specs.Reports.{report_in}

@@ -25,12 +25,11 @@ fn lacks_history(dropped: bool, command: &Command) -> bool
     dropped && matches!(command, Command::Act(Action::Undo | Action::Redo))
 }
 
-// Performs a command on a store that is opened for it. Answers the outcome, and whether a history was dropped.
-fn carry_out<S: FolderStore>(
-    alloc: Global,
-    store: &mut S,
-    command: &Command,
-) -> Result<(Outcome, bool), Failure>
+// What a command answers, and whether a history was dropped; or why it fails.
+type Answer = Result<(Outcome, bool), Failure>;
+
+// Performs a command on a store that is opened for it.
+fn carry_out<S: FolderStore>(alloc: Global, store: &mut S, command: &Command) -> Answer
     ensures honest { S.honest store.old → S.honest store.new }
     ensures comes { IsCarriedOut S.Store (command_of command.now) store.old store.new result }
     ensures cut { S.honest store.old → IsKept S.Store store.old

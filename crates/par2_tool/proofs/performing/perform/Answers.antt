@@ -1,4 +1,4 @@
-use Rattle.par2_tool.proofs.Common.{inl, ◌≡◌, ◌+◌, List, length, refl, sym, ap, subst, ◌∙◌, map, arith, le_refl, le-add_right, IsVerify, after_write_down, AreSomeMade, HoldsJournaled, IsStoppedAt, IsWritten, length-map, Verify, LeadsToAfterAsked, session_of_kept, session_after, changes_asked, Contents, action_of, command_of, report_of, MayRefuse, Plan, Two, AreSpelled, change_of, changes_by_kind, after_commit, AreAtMost, calls_asked, calls_to_write, TellsApartAlong, OpensAsBeforeOrAfter, journals_of}
+use Rattle.par2_tool.proofs.Common.{inl, ◌≡◌, ◌+◌, List, length, refl, sym, ap, subst, ◌∙◌, map, arith, le_refl, le-add_right, IsVerify, after_write_down, AreSomeMade, HoldsJournaled, IsStoppedAt, IsWritten, length-map, Verify, LeadsToAfterAsked, session_of_kept, session_after, changes_asked, Contents, action_of, command_of, report_of, MayRefuse, Plan, Two, AreSpelled, change_of, changes_by_kind, after_commit, AreAtMost, calls_asked, calls_to_write, TellsApartAlong, OpensAsBeforeOrAfter, journals_of, ok_no_err, early_refusal_of}
 use Rattle.par2_spec.specs.Changes as defined
 use Rattle.par2_spec.specs.declared.commands.Command.{Command}
 use Rattle.par2_spec.proofs.AcceptedCommands.{command_leads}
@@ -121,6 +121,26 @@ returns-in-Ok-write_down-clause-verify g c is = absurd (not_verify c.in-Act.acti
 
 pub returns-in-Err-write_down-clause-verify : goal.returns-in-Err-write_down-clause-verify
 returns-in-Err-write_down-clause-verify g c is = absurd (not_verify c.in-Act.action (subst (λ (x : Command). IsVerify (command_of x)) c.in-Act.is is))
+
+-- ---- what its session refuses
+
+pub returns-in_err-journals-clause-early : goal.returns-in_err-journals-clause-early
+returns-in_err-journals-clause-early g c fault is = absurd (ok_no_err _ _ (c.in-Ok-prepare.ensures.early fault (ap (λ (x : Command). early_refusal_of c.args.session.now.folder.files (command_of x)) (sym c.in-Act.is) ∙ is)))
+
+pub returns-in_err-journals-clause-nothing_to_undo : goal.returns-in_err-journals-clause-nothing_to_undo
+returns-in_err-journals-clause-nothing_to_undo g c is none = absurd (ok_no_err _ _ (c.in-Ok-prepare.ensures.nothing_to_undo (ap command_of (sym c.in-Act.is) ∙ is) none))
+
+pub returns-in_err-journals-clause-nothing_to_redo : goal.returns-in_err-journals-clause-nothing_to_redo
+returns-in_err-journals-clause-nothing_to_redo g c is none = absurd (ok_no_err _ _ (c.in-Ok-prepare.ensures.nothing_to_redo (ap command_of (sym c.in-Act.is) ∙ is) none))
+
+pub returns-in-Err-write_down-clause-early : goal.returns-in-Err-write_down-clause-early
+returns-in-Err-write_down-clause-early g c fault is = absurd (ok_no_err _ _ (c.in-Ok-prepare.ensures.early fault (ap (λ (x : Command). early_refusal_of c.args.session.now.folder.files (command_of x)) (sym c.in-Act.is) ∙ is)))
+
+pub returns-in-Err-write_down-clause-nothing_to_undo : goal.returns-in-Err-write_down-clause-nothing_to_undo
+returns-in-Err-write_down-clause-nothing_to_undo g c is none = absurd (ok_no_err _ _ (c.in-Ok-prepare.ensures.nothing_to_undo (ap command_of (sym c.in-Act.is) ∙ is) none))
+
+pub returns-in-Err-write_down-clause-nothing_to_redo : goal.returns-in-Err-write_down-clause-nothing_to_redo
+returns-in-Err-write_down-clause-nothing_to_redo g c is none = absurd (ok_no_err _ _ (c.in-Ok-prepare.ensures.nothing_to_redo (ap command_of (sym c.in-Act.is) ∙ is) none))
 
 -- ---- an action
 

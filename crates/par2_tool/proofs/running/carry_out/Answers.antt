@@ -13,23 +13,21 @@ returns-in-Err-clause-comes g c =
     let opened = c.open_for.new.store in
     let old = g.S.Store.contents store in
     let new = g.S.Store.contents opened in
-    let fault = c.in-Err.fault in
     let opens = c.in-Err.ensures.opens in
     let is = sym c.from.ensures in record {
-      told = subst (λ (f : Failure). IsCause action (g.S.Store.failures store) (g.S.Store.failures opened) f) is (opening_cause action _ _ fault c.in-Err.ensures.keeps.failures.counted);
-      leaves = λ honest. subst (λ (f : Failure). IsFailed action old new f) is (opening_failed action old new fault (opens honest).unopened.refused (opens honest).unopened.stopped);
-      calls = λ honest. subst (λ (f : Failure). CountsFailedRun action old (g.S.Store.writing_calls store) (g.S.Store.writing_calls opened) f) is (opening_calls action old _ _ fault (opens honest).calls);
+      told = subst (λ (f : Failure). IsCause action (g.S.Store.failures store) (g.S.Store.failures opened) f) is (opening_cause action _ _ c.in-Err.fault c.in-Err.ensures.keeps.failures.counted);
+      leaves = λ honest. subst (λ (f : Failure). IsFailed action old new f) is (opening_failed action old new c.in-Err.fault (opens honest).unopened.refused (opens honest).unopened.stopped);
+      calls = λ honest. subst (λ (f : Failure). CountsFailedRun action old (g.S.Store.writing_calls store) (g.S.Store.writing_calls opened) f) is (opening_calls action old _ _ c.in-Err.fault (opens honest).calls);
     }
 
 pub returns-then-lacks_history-clause-comes : goal.returns-then-lacks_history-clause-comes
 returns-then-lacks_history-clause-comes g c =
     let action = command_of c.args.command.now in
     let back = c.lacks_history.ensures.back c.if-lacks_history.true in
-    let opened = c.in-Ok.ensures in
-    let found = opened.opened in record {
+    let opened = c.in-Ok.ensures in record {
       told = opened.keeps.failures.steady;
       leaves = λ honest.
-          by_either found.1 (λ same. inr (back, found.0, found.2 honest, ap (λ (t : Started). t.dropped) same ∙ sym (c.lacks_history.ensures.dropped back) ∙ c.if-lacks_history.true)) (λ verify. absurd (no_way_back action verify.0 back));
+          by_either opened.opened.1 (λ same. inr (back, opened.opened.0, opened.opened.2 honest, ap (λ (t : Started). t.dropped) same ∙ sym (c.lacks_history.ensures.dropped back) ∙ c.if-lacks_history.true)) (λ verify. absurd (no_way_back action verify.0 back));
       calls = λ honest. let counted = (opened.opens honest).calls in (counted.0, counted.1, counted.2.opened);
     }
 
@@ -87,6 +85,20 @@ returns-clause-comes g c =
           subst (λ (f : Failure). CountsFailedRun action old (g.S.Store.writing_calls store) (g.S.Store.writing_calls after) f) is run;
     }
 
+-- ---- the store stays honest
+
+pub returns-in-Err-clause-honest : goal.returns-in-Err-clause-honest
+returns-in-Err-clause-honest g c = c.in-Err.ensures.keeps.honest
+
+pub returns-then-lacks_history-clause-honest : goal.returns-then-lacks_history-clause-honest
+returns-then-lacks_history-clause-honest g c = c.in-Ok.ensures.keeps.honest
+
+pub returns-in-Ok-perform-clause-honest : goal.returns-in-Ok-perform-clause-honest
+returns-in-Ok-perform-clause-honest g c honest = c.perform.ensures.honest (c.in-Ok.ensures.keeps.honest honest)
+
+pub returns-clause-honest : goal.returns-clause-honest
+returns-clause-honest g c honest = c.perform.ensures.honest (c.in-Ok.ensures.keeps.honest honest)
+
 -- ---- failures are counted on
 
 pub returns-in-Err-clause-later : goal.returns-in-Err-clause-later
@@ -133,6 +145,12 @@ pub returns-clause-cut : goal.returns-clause-cut
 returns-clause-cut g c = command_cut g (goal.at.returns-clause-cut g c).After-perform
 
 -- ---- nothing impossible is asked for
+
+pub returns-in-Err-clause-possible : goal.returns-in-Err-clause-possible
+returns-in-Err-clause-possible g c honest = (c.in-Err.ensures.opens honest).possible
+
+pub returns-then-lacks_history-clause-possible : goal.returns-then-lacks_history-clause-possible
+returns-then-lacks_history-clause-possible g c honest = (c.in-Ok.ensures.opens honest).possible
 
 possible_so : (g : _) (c : After-perform g) → g.S.Store.honest c.args.store.now → g.S.Store.impossible c.perform.new.store ≡ g.S.Store.impossible c.args.store.now
 possible_so g c honest =
