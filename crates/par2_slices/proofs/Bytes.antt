@@ -116,8 +116,6 @@ fold_group c groups i none below =
 pub grouped : (c n after value : ℕ) (bytes rest : List ℕ) (groups : List (List ℕ)) → groups ≡ first_chunks 8 n bytes → rest ≡ drop (n * 8) bytes
     → after ≡ fold crc_byte c (concat groups) → value ≡ fold crc_byte after rest → value ≡ fold crc_byte c bytes
 grouped c n after value bytes rest groups groups_are rest_is after_is value_is =
-    value_is
-    ∙ ap (fold crc_byte after) rest_is
-    ∙ ap (λ a. fold crc_byte a (drop (n * 8) bytes)) (after_is ∙ ap (λ (gs : List (List ℕ)). fold crc_byte c (concat gs)) groups_are)
+    value_is ∙ ap (fold crc_byte after) rest_is ∙ ap (λ a. fold crc_byte a (drop (n * 8) bytes)) (after_is ∙ ap (λ (gs : List (List ℕ)). fold crc_byte c (concat gs)) groups_are)
     ∙ sym (fold-append (concat (first_chunks 8 n bytes)) (drop (n * 8) bytes) c)
     ∙ ap (fold crc_byte c) (ap (λ t. t ++ drop (n * 8) bytes) (concat-first_chunks 8 n bytes) ∙ take-append-drop (n * 8) bytes)

@@ -4,14 +4,12 @@ use Rattle.par2_slices.proofs.Common.{◌≡◌, ℕ, ◌+◌, ◌-◌, ◌*◌,
 -- a slice that is counted begins in the text
 pub begins_within : (s n j : ℕ) → 1 ≤ s → j < slice_count s n → j * s < n
 begins_within s n j some below =
-    let more : (j + 1) * s ≤ slice_count s n * s = mul-le-mul_right s (omega (arith, below)) in
-    omega (arith, more, (div_ceil_times n s some).1)
+    let more : (j + 1) * s ≤ slice_count s n * s = mul-le-mul_right s (omega (arith, below)) in omega (arith, more, (div_ceil_times n s some).1)
 
 -- a window that lies in the text has no padding
 pub whole_window : (s : ℕ) (bytes : List ℕ) (o : ℕ) → o + s ≤ length bytes → take s (drop o bytes) ≡ window s bytes o
 whole_window s bytes o within =
-    let bytes_there : List ℕ = take s (drop o bytes) in
-    let missing : s - length bytes_there ≡ 0 = omega (arith, within, length-take s (drop o bytes), length-drop o bytes) in
+    let bytes_there : List ℕ = take s (drop o bytes) in let missing : s - length bytes_there ≡ 0 = omega (arith, within, length-take s (drop o bytes), length-drop o bytes) in
     sym (ap (λ n. bytes_there ++ replicate n 0) missing ∙ append-nil bytes_there)
 
 -- nor has such a slice

@@ -1,4 +1,4 @@
-use Rattle.par2_digests.proofs.Common.{◌≡◌, ◌/◌, ◌%◌, ◌*◌, ◌∙◌, ℕ, min, arith, ap, length, take, slice_index, take_all, bytes_left, hash_behind, lane}
+use Rattle.par2_digests.proofs.Common.{◌≡◌, ◌≤◌, ◌/◌, ◌%◌, ◌*◌, ◌∙◌, ℕ, min, arith, ap, length, take, slice_index, take_all, bytes_left, hash_behind, lane}
 use Rattle.par2_digests.proofs.FeedLaws.{hash_more, same_rest, size_behind}
 use Rattle.par2_digests.proofs.blocks.hashed.Goals as goal
 
@@ -6,6 +6,10 @@ pub loop-feed-smaller : goal.loop-feed-smaller
 loop-feed-smaller c =
     let count : c.fill.result ≡ min 64 (length (bytes_left c.loop-feed.feed)) = omega (arith, c.fill.ensures.count, c.loop-feed.invariant.block) in
     omega (arith, size_behind (bytes_left c.loop-feed.feed) (bytes_left c.fill.new.self) c.fill.result count c.loop-feed-test.true c.fill.ensures.rest)
+
+pub after_block-state-requires : goal.after_block-state-requires
+after_block-state-requires c =
+    let size : 64 ≤ length c.fill.new.blocks = omega (arith, c.loop-feed.invariant.block) in (omega arith, (omega arith, (size, λ k low. let first : k ≡ 0 = omega (arith, low) in rw first size)))
 
 pub loop-feed-preserved : goal.loop-feed-preserved
 loop-feed-preserved c =

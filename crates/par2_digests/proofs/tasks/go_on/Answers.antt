@@ -1,20 +1,33 @@
-use Rattle.par2_digests.proofs.Common.{◌≡◌, ◌<◌, ◌*◌, ℕ, List, [], ◌∷◌, ap, arith, drop, get_or, refl, slice_index, subst, sym, take, ◌∙◌, take-take, hash_behind, lane, works, LeadsTo}
+use Rattle.par2_digests.proofs.Common.{◌≡◌, ◌<◌, ◌*◌, ℕ, List, [], ◌∷◌, ap, arith, drop, get_or, refl, rules, slice_index, subst, sym, take, ◌∙◌, take-take, hash_behind, lane, works, LeadsTo}
 use Rattle.par2_digests.proofs.FeedLaws.{blocks_alike}
 use Rattle.par2_digests.proofs.LaneLaws.{each_lane}
 use Rattle.par2_digests.proofs.tasks.go_on.Goals as goal
 
+-- where the blocks of a message begin
+starts : List ℕ
+starts = 0 ∷ 2048 ∷ 4096 ∷ 6144 ∷ 8192 ∷ 10240 ∷ 12288 ∷ 14336 ∷ []
+
+start_at : (j : ℕ) → j < 8 → slice_index starts j ≡ 2048 * j
+unfolding starts
+start_at = each_lane (λ i. slice_index starts i ≡ 2048 * i) refl refl refl refl refl refl refl refl
+
+pub absorbed-state-requires : goal.absorbed-state-requires
+unfolding starts
+absorbed-state-requires g c =
+    (search rules, (omega (arith, c.requires.few), (omega (arith, c.batch_of-batch.ensures.room), λ j low. let below : j < 8 = omega (arith, low, c.requires.few) in omega (arith, start_at j below, below, c.batch_of-batch.ensures.room))))
+
 pub loop-blocks-preserved : goal.loop-blocks-preserved
+unfolding starts
 loop-blocks-preserved g c =
     let held = c.loop-blocks.invariant in
     let blocks = c.turn_all.new.blocks in
     let batch = c.batch_of-batch.result in
     let at = g.V.Lanes.at in
-    let starts : List ℕ = 0 ∷ 2048 ∷ 4096 ∷ 6144 ∷ 8192 ∷ 10240 ∷ 12288 ∷ 14336 ∷ [] in
     record {
       tasks = c.turn_all.ensures.size;
       leads = λ j none last rest low leads.
           let hash = lane at j c.loop-blocks.state in
-          let place : slice_index starts j ≡ 2048 * j = each_lane (λ i. slice_index starts i ≡ 2048 * i) refl refl refl refl refl refl refl refl j (omega (arith, low, c.requires.lanes, c.requires.few)) in
+          let place = start_at j (omega (arith, low, c.requires.lanes, c.requires.few)) in
           let text : List ℕ = drop (2048 * j) blocks in
           let after : lane at j c.absorbed-state.result ≡ hash_behind hash (take (batch * 64) text) batch =
           ◌∙◌ {b = hash_behind hash (drop (slice_index starts j) blocks) batch} (c.absorbed-state.ensures.behind j (omega (arith, low, c.requires.lanes)))

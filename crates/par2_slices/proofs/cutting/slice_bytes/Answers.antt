@@ -4,6 +4,3 @@ use Rattle.par2_slices.proofs.cutting.slice_bytes.Goals as goal
 
 pub overflow_mul-j : goal.overflow_mul-j
 overflow_mul-j c = omega (arith, begins_within c.args.s (length c.args.bytes.now) c.args.j c.requires.size c.requires.place)
-
-pub window_bytes-requires : goal.window_bytes-requires
-window_bytes-requires c = omega (arith, begins_within c.args.s (length c.args.bytes.now) c.args.j c.requires.size c.requires.place)

@@ -1,13 +1,7 @@
-use Rattle.par2_slices.proofs.Common.{◌≡◌, ◌∙◌, ◌+◌, ℕ, List, false, true, set, ap, sym, subst, arith, length, ◌==◌, Option, Some, None, eqb-true, and_parts, is_none, bytes_eq, Pair, answer_at, is_awaited, pair_at, place_at, has_checksums, IsPlace, Spot, Place, none_from, count_by-le-length}
+use Rattle.par2_slices.proofs.Common.{◌≡◌, ◌∙◌, ◌+◌, ℕ, List, false, true, set, ap, sym, subst, arith, ◌==◌, Option, Some, None, eqb-true, and_parts, is_none, bytes_eq, Pair, answer_at, is_awaited, pair_at, place_at, has_checksums, IsPlace, Spot, Place, none_from, count_by-le-length}
 use Rattle.par2_slices.proofs.Searching.{Settled, all_settled, not_settled, one_settled, has_is, no_md5, not_awaited}
 use Rattle.par2_slices.proofs.search.settle.Goals as goal
 use Rattle.par2_slices.proofs.search.settle.Goals.{then-is_awaited+then-eq, else-is_awaited, else-is_awaited-via-then-is_awaited+else-eq, else-is_awaited-via-else-is_awaited}
-
-pub bounds-pairs-place : goal.bounds-pairs-place
-bounds-pairs-place c = omega (arith, (c.group-place-items.ensures.each c.loop-place.place-index c.loop-place-test.true).within, ap length c.pairs-pairs.ensures)
-
-pub index_mut-requires : goal.index_mut-requires
-index_mut-requires c = omega (arith, (c.group-place-items.ensures.each c.loop-place.place-index c.loop-place-test.true).within, c.loop-place.invariant.len, c.requires)
 
 pub overflow_add-count : goal.overflow_add-count
 overflow_add-count c = omega (arith, c.loop-place.invariant.total, count_by-le-length is_none c.args.found.now.items)

@@ -16,8 +16,7 @@ slice_bounds-result-end c =
 pub returns : goal.returns
 returns c =
     let crc : ℕ = c.args.crc in
-    let start : ℕ = c.index.result.now in
-    let end : ℕ = c.index-2.result.now in
+    let start : ℕ = c.index.result.now in let end : ℕ = c.index-2.result.now in
     let pairs : List Pair = c.self.inside.pairs.items in
     let places : List Place = c.self.inside.places.items in
     let ends = ends_of places _ (crc / 2 ^ 17) start end c.self.invariant.1 (within crc 17 c.ranges.crc.fits (omega arith)) c.index.ensures c.index-2.ensures in

@@ -3,8 +3,7 @@ use Rattle.par2_slices.proofs.wanted_pairs.Wanted.new.Goals as goal
 
 pub group_starts-requires : goal.group_starts-requires
 group_starts-requires c =
-    let Rise : List Place → Type 0 = IsNonDecreasingBy (λ place. place.crc) in
-    subst Rise (sym c.deref.ensures.value) c.in_ok-places.ensures.rising
+    subst (λ (places : List Place). IsNonDecreasingBy (λ place. place.crc) places) (sym c.deref.ensures.value) c.in_ok-places.ensures.rising
 
 pub invariant_of-result : goal.invariant_of-result
 invariant_of-result c = (
