@@ -26,8 +26,7 @@ pub struct CurrentDirectory<'r, R: Files + AllocGlobal> {
 
 // What was found by what the runtime says of a path.
 fn found_of(answer: io::Result<Metadata>) -> Result<Found, StoreFault>
-    ensures found { IfOk result
-        (IsFoundBy (λ error. error_kind error ≡ ErrorKind.NotFound) answer) }
+    ensures found { IfOk result (IsFoundBy (λ e. error_kind e ≡ ErrorKind.NotFound) answer) }
     ensures fault { IsErr result → IsErr answer }
 {
     match answer {

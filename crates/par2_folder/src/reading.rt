@@ -43,8 +43,7 @@ pub fn read_within<F: Read>(
     size: usize,
     reads: u64,
 ) -> Result<Vec<u8>, ReadFault>
-    ensures bytes { IfOk result
-        (λ bytes. IfSome (F.remaining file.old) (λ left. bytes.items ≡ left)) }
+    ensures bytes { IfOk result (λ b. IfSome (F.remaining file.old) (λ left. b.items ≡ left)) }
 {
     let mut bytes = Vec::with_capacity(alloc, size)?;
     let mut block = Vec::from_elem(alloc, 0u8, size.min(BLOCK - 1) + 1)?;

@@ -192,8 +192,7 @@ pub fn finish_both(
     requires cursor { after.now.cursor ≤ length after.now.entries.now + length after.now.newer.now }
     ensures halfway { IfOk result (λ texts.
         Finishes front.items (Some (halfway_from halfway.now)) texts.halfway.items) }
-    ensures after { IfOk result (λ texts.
-        journals.Spells texts.after.items (journal_from after.now)) }
+    ensures after { IfOk result (λ t. journals.Spells t.after.items (journal_from after.now)) }
 {
     let halfway = body(front, Some(halfway))?;
     let after = body(begin(alloc, after)?, None)?;

@@ -158,8 +158,7 @@ impl<'a> Cursor<'a> {
 
     // The digest of the packet here, if it was computed beside others.
     fn digest_in_run(&self, len: usize) -> Option<[u8; 16]>
-        ensures { IfSome result (λ digest. digest
-            ≡ md5 (bytes_at 32 (len - 32) (rest_of self.now))) }
+        ensures { IfSome result (λ d. d ≡ md5 (bytes_at 32 (len - 32) (rest_of self.now))) }
     {
         let place = self.run.place_of(self.at, len)?;
         Some(self.run.digests[place])
