@@ -35,9 +35,10 @@ range-lt a n i h =
 kept-lt : (p : ℕ → Bool) (a n k : ℕ) → k < length (filter p (range_with_len a n))
     → (get_or (filter p (range_with_len a n)) k 0 < a + n) × (p (get_or (filter p (range_with_len a n)) k 0) ≡ true)
 kept-lt p a n k h =
-    let run = range_with_len a n in
-    ( All-get_or (λ x. x < a + n) (filter p run) k 0 h (All-filter p (λ x. x < a + n) run (All-from_get_or (λ x. x < a + n) run 0 (range-lt a n)))
-    , All-get_or (λ x. p x ≡ true) (filter p run) k 0 h (filter_passes p run) )
+    let run = range_with_len a n in (
+      All-get_or (λ x. x < a + n) (filter p run) k 0 h (All-filter p (λ x. x < a + n) run (All-from_get_or (λ x. x < a + n) run 0 (range-lt a n))),
+      All-get_or (λ x. p x ≡ true) (filter p run) k 0 h (filter_passes p run),
+    )
 
 constant_power-lt : (k : ℕ) → k < 32768 → get_or constant_powers k 0 < 65535
 unfolding constant_powers
