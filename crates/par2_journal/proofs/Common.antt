@@ -1,9 +1,9 @@
 -- The names that proofs of this crate take from elsewhere.
 
-pub use Rattle.std.proofs.Common.{Bool, Bor, Err, IsTrue, List, None, Ok, Option, Result, Some, Vec, [], ap, append-nil, arith, cond, drop, false, get_or, inl, inr, is_some, leb, length, length-append, length-set, length-take, map, not, refl, set, string_bytes, subst, suc, sym, take, true, vec_capacity, vec_len, zero, ℕ, ◌&&◌, ◌++◌, ◌+◌, ◌-◌, ◌<◌, ◌∙◌, ◌∷◌, ◌≡◌, ◌≢◌, ◌≤◌}
+pub use Rattle.std.proofs.Common.{Bool, Bor, Err, IsTrue, List, None, Ok, Option, Result, Some, Vec, [], ap, append-nil, arith, cond, drop, false, get_or, inl, inr, is_some, leb, length, length-append, length-set, length-take, map, not, refl, rules, set, string_bytes, subst, suc, sym, take, true, vec_capacity, vec_len, zero, ℕ, ◌&&◌, ◌++◌, ◌+◌, ◌-◌, ◌<◌, ◌∙◌, ◌∷◌, ◌≡◌, ◌≢◌, ◌≤◌}
 pub use Rattle.std.proofs.Math.Logic.{⊎_map}
 pub use Rattle.std.proofs.lemmas.Bool.{and_from, and_parts, and_right, both_ways, cases_Bool, cases_lt, false_from_ne_true, false≢true, le-leb, leb-true, not-false, not-true}
-pub use Rattle.std.proofs.lemmas.List.{drop-map, drop-set, drop-set-lt, drop_all, drop_more, get_or-map, get_or-set_same, get_or_default, length-map, length-reverse, length-take-le, map-append, map_push, nil_from_length, reverse-append, reverse-reverse, set-get_or, set-set, take-append-drop, take-set, take_all, take_more, take_more_set}
+pub use Rattle.std.proofs.lemmas.List.{drop-map, drop-set, drop-set-lt, drop_all, drop_more, get_or-map, get_or-set_same, get_or_default, length-drop, length-map, length-reverse, length-take-le, nil_from_length, reverse-append, reverse-reverse, set-get_or, set-set, take-append-drop, take-set, take_all, take_more, take_more_set}
 pub use Rattle.std.proofs.lemmas.Map.Text.{btree_map_updates_str, is_eq-slice_cmp}
 pub use Rattle.std.proofs.lemmas.Result.{err_from_is_err_and, on_ok_weaker}
 pub use Rattle.std.specs.Cmp.Lexicographic.{nat_list_cmp_total, pointwise, slice_cmp}
@@ -18,7 +18,6 @@ pub use Rattle.par2_journal.specs.Opening.{AnswersOpening, AnswersWhere, IsToldW
 pub use Rattle.par2_journal.specs.Ready.{CanBe, Changing, Fits, IsKindOf, IsReady, Kind, Ready, Redoing, Undoing, after_commit, changes_by_kind, next_of}
 pub use Rattle.par2_journal.specs.Sessions.{kept_session}
 pub use Rattle.par2_journal.specs.Spelling.{Add, AreSpelled, HasNext, Replace, SpellsAction, SpellsReady, SpellsTurn, SpellsWhere, Turn, entries_with, halfway_with, settled_with, turn_of}
-pub use Rattle.par2_journal.specs.Steps.{step_view}
 pub use Rattle.par2_journal.specs.Walks.{AreNamesOf, IsSet, WentForth, names_in}
 pub use Rattle.par2_journal.specs.declared.ahead.Next.{Next}
 pub use Rattle.par2_journal.specs.declared.spelling.Fingerprints.{Fingerprints}

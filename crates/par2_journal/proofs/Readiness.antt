@@ -1,5 +1,5 @@
 -- What is asked of a session, and what it makes ready.
-use Rattle.par2_journal.proofs.Common.{Action, Command, Do, Undo, Redo, Repair, ◌≡◌, ◌≢◌, inl, inr, ℕ, Bool, ◌<◌, ◌≤◌, List, [], ◌∷◌, length, map, None, Some, IsTrue, Result, Ok, Err, true, refl, sym, ap, subst, ◌∙◌, arith, nil_from_length, IfOk, IfErr, IsErrAnd, Change, Write, Rename, Remove, places_taken, are_applicable, effects, Folder, LeadsToAfterAsked, KeptSession, OnlyGrew, session_of_kept, changes_unless, first_entry, changes_asked, Step, step_of, takes_applicable, AreAlong, prints_of, Fingerprints, Kind, Ready, Changing, Undoing, Redoing, CanBe, Fits, IsKindOf, IsReady, changes_by_kind, next_of, IsChanging, MatchResult}
+use Rattle.par2_journal.proofs.Common.{Action, Command, Do, Undo, Redo, Repair, ◌≡◌, ◌≢◌, inl, inr, ℕ, Bool, ◌<◌, ◌≤◌, List, [], ◌∷◌, length, map, None, Some, IsTrue, Result, Ok, Err, true, refl, sym, ap, subst, ◌∙◌, arith, nil_from_length, IfOk, IfErr, IsErrAnd, MatchResult, Change, Write, Rename, Remove, places_taken, are_applicable, effects, Folder, LeadsToAfterAsked, KeptSession, OnlyGrew, session_of_kept, changes_unless, first_entry, changes_asked, Step, step_of, takes_applicable, AreAlong, prints_of, Fingerprints, Kind, Ready, Changing, Undoing, Redoing, CanBe, Fits, IsKindOf, IsReady, changes_by_kind, next_of, IsChanging}
 use Rattle.par2_journal.specs.Commands.{MakesReady, Prepares}
 use Rattle.par2_spec.specs.Changes.{Replace}
 use Rattle.par2_spec.specs.Refusals.{refusal, after, early_refusal}

@@ -65,10 +65,7 @@ impl Steps {
     pub fn of(alloc: Global, changes: &[Change]) -> Result<Steps>
         ensures { IfOk result (λ steps. steps ≡ map step_of (map change_of changes.now)) }
     {
-        let mut items = Vec::new(alloc);
-        for change in changes {
-            items.push(Step::of(change))?;
-        }
+        let items = changes.iter().map(Step::of).collect(alloc)?;
         Ok(Steps { items })
     }
 
