@@ -11,8 +11,7 @@ put_element-requires c = let size = ap length (zeros (goal.at.put_element-requir
 pub returns-clause-unit : goal.returns-clause-unit
 returns-clause-unit c = λ _.
     let zeros = zeros (goal.at.returns-clause-unit c).After-as_mut_slice in
-    let put = c.put_element.ensures in
     let none = λ (p : ℕ). ap (word p) zeros ∙ ap₂ (λ x y. x + 256 * y) (zeros_read (2 * c.args.n) (2 * p)) (zeros_read (2 * c.args.n) (2 * p + 1)) in
     let same : length c.put_element.new.row ≡ c.in_ok-text.text.len = search rules in
     rw (with_items_is c.in_ok-text.text c.put_element.new.row same)
-    (record { size = put.same_length ∙ ap length zeros ∙ length-replicate {A = ℕ} (2 * c.args.n) 0; one = put.here; zeros = λ p other. put.others p other ∙ none p })
+    (record { size = c.put_element.ensures.same_length ∙ ap length zeros ∙ length-replicate {A = ℕ} (2 * c.args.n) 0; one = c.put_element.ensures.here; zeros = λ p other. c.put_element.ensures.others p other ∙ none p })

@@ -24,13 +24,11 @@ solved-requires-clause-inverse c = rw (c.deref-6.ensures.value, many (goal.at.so
 pub solved-requires-clause-exponents : goal.solved-requires-clause-exponents
 solved-requires-clause-exponents c =
     let at = (goal.at.solved-requires-clause-exponents c).After-deref-9 in
-    let found = c.args.found.now.kept.items in
-    ap length (exponents_are at) ∙ length-map (recovered_of found) (λ (r : ℕ × List ℕ). r.0) ∙ length-recovered_of found ∙ sym (many at)
+    ap length (exponents_are at) ∙ length-map (recovered_of c.args.found.now.kept.items) (λ (r : ℕ × List ℕ). r.0) ∙ length-recovered_of c.args.found.now.kept.items ∙ sym (many at)
 
 pub solved-requires-clause-count : goal.solved-requires-clause-count
 solved-requires-clause-count c =
-    let are = slices_are (goal.at.solved-requires-clause-count c).After-deref-9 in
-    rw (← length-texts_of c.deref-9.result.now, are, length-map c.args.survivors.now.known.items bytes_or_none) c.requires.survivors.count
+    rw (← length-texts_of c.deref-9.result.now, slices_are (goal.at.solved-requires-clause-count c).After-deref-9, length-map c.args.survivors.now.known.items bytes_or_none) c.requires.survivors.count
 
 pub solved-requires-clause-size : goal.solved-requires-clause-size
 solved-requires-clause-size c = λ j h.
