@@ -23,7 +23,7 @@ pub enum Part<'a> {
 }
 
 /// MD5 after the first bytes of a message.
-#[derive(Clone, Copy, Debug, Drop)]
+#[derive(Clone, Copy, Drop)]
 pub struct Midstate {
     // The hash value after the whole blocks.
     pub(crate) hash: [u32; 4],

@@ -9,7 +9,7 @@ use std::cmp::min;
 use std::marker::Model;
 
 /// The bytes of a file: a vector that contracts see as their list.
-#[derive(Debug, Drop)]
+#[derive(Drop)]
 pub struct Bytes {
     items: Vec<u8>,
 }
@@ -54,7 +54,7 @@ impl Bytes {
 }
 
 /// A change of one folder.
-#[derive(Debug, Drop)]
+#[derive(Drop)]
 pub enum Change {
     /// A new file.
     Write(Name, Bytes),
@@ -102,7 +102,7 @@ impl Change {
 }
 
 /// Changes, in the order in which they are applied: a vector that contracts see as their list.
-#[derive(Debug, Drop)]
+#[derive(Drop)]
 pub struct Changes {
     items: Vec<Change>,
 }

@@ -13,7 +13,7 @@ use std::marker::Model;
 use std::mem;
 
 /// A flat folder: files by their names, and places for more of them that were made beforehand.
-#[derive(Debug, Drop)]
+#[derive(Drop)]
 pub struct Folder {
     files: Vec<(Name, Bytes)>,
 }

@@ -22,7 +22,7 @@ use par2_spec::Result;
 use std::alloc::Global;
 
 /// The state after the files before a name.
-#[derive(Debug, Drop)]
+#[derive(Drop)]
 pub struct Landmark {
     name: Name,
     state: Midstate,
@@ -30,7 +30,7 @@ pub struct Landmark {
 
 /// Landmarks within a folder's fingerprint, in the order of their names. A fingerprint along changes sets out from the
 /// last one that the changes leave as it is.
-#[derive(Debug, Drop)]
+#[derive(Drop)]
 pub struct Landmarks {
     list: Vec<Landmark>,
 }
