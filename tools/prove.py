@@ -12,8 +12,9 @@ builds the program by a second compiler, beside LLVM, and compares.
 
 The gate's own order fits many proofs, tests and edits; here one chain of libraries decides when the program is there.
 So this loads the command rt as a module and has it use another order (`in_lanes`). Up to four processes share a proof,
-and up to three a processor run at a time, as memory holds them: where one crate's proof comes to its end in a single
-process, others go on. The crate for which the longest chain waits begins first, and the shorter a crate's chain is
+and up to four a processor run at a time, as memory holds them: where one crate's proof comes to its end in a single
+process, others go on. Four copies and the process that they are made from took at most four fifths of what the gate
+plans for one process, so that is planned here for all of them. The crate for which the longest chain waits begins first, and the shorter a crate's chain is
 beside the longest one, the nicer its processes are to the others. RT_JOBS says how many processors there are to use. A
 line of progress says which crate was proved, how many are left, and about how long they take, by tools/seconds.txt and
 by how fast this run has been so far.
@@ -36,8 +37,8 @@ DEFAULT = "x86-64-v2"
 SHARERS, SHARING, ALONE = 4, 1.1, 0.3
 # How nice a crate's processes are: not at all for the longest chain, 3 for one of four fifths, 10 for one of half.
 STEEP, NICEST = 15, 19
-# How many processes run at a time for each processor, and what part of a proof's memory each copy takes for itself.
-CROWD, OWN = 3, 0.15
+# How many processes run at a time for each processor.
+CROWD = 4
 TOP = os.path.join(os.path.dirname(os.path.realpath(__file__)), "..")
 
 
@@ -147,7 +148,7 @@ def in_lanes(clock, memory, say):
                     turn.notify_all()
 
         def next_one():
-            """Returns a task that can begin, how many jobs it gets, what they take and how nice it is, or None."""
+            """Returns a task that can begin, how many jobs it gets, what memory it needs and how nice it is, or None."""
             waiting = [it for it in tasks if it not in given and it not in running]
             ready = [it for it in waiting if all(below in given for below in tasks[it][0])]
             if not ready:
@@ -157,14 +158,12 @@ def in_lanes(clock, memory, say):
                 return key, 0, 0, 0
             longest = max(chains[it[0]] for it in [*ready, *running])
             left = CROWD * clock.processors - sum(jobs for jobs, _ in running.values())
-            room = memory - sum(takes for _, takes in running.values())
-            jobs = max(min(SHARERS, clock.processors, left), 1)
-            takes = lambda jobs: tasks[key][2] * (1 + OWN * (jobs - 1))
-            while jobs > 1 and takes(jobs) > room:
-                jobs -= 1
-            if running and (left < 1 or takes(jobs) > room):
+            room = memory - sum(needs for _, needs in running.values())
+            needs = tasks[key][2]
+            if running and (left < 1 or needs > room):
                 return None
-            return key, jobs, takes(jobs), min(NICEST, round(STEEP * math.log(longest / chains[key[0]])))
+            nice = min(NICEST, round(STEEP * math.log(longest / chains[key[0]])))
+            return key, max(min(SHARERS, clock.processors, left), 1), needs, nice
 
         with turn:
             while len(given) < len(tasks):
@@ -172,8 +171,8 @@ def in_lanes(clock, memory, say):
                 if not begins:
                     turn.wait()
                     continue
-                key, jobs, takes, nice = begins
-                running[key] = jobs, takes
+                key, jobs, needs, nice = begins
+                running[key] = jobs, needs
                 if key[1] == "proof":
                     clock.begun[key[0]] = time.time()
                 threading.Thread(target=work, args=(key, jobs, nice), daemon=True).start()
