@@ -39,6 +39,8 @@ SHARERS, SHARING, ALONE = 4, 1.1, 0.3
 STEEP, NICEST = 15, 19
 # How many processes run at a time for each processor.
 CROWD = 4
+# A file system in memory, and the bytes that a run's files may take: from nothing they took 1.5 GB.
+IN_MEMORY, ROOM = "/dev/shm", 6_000_000_000
 TOP = os.path.join(os.path.dirname(os.path.realpath(__file__)), "..")
 
 
@@ -216,6 +218,13 @@ def without_empty_contracts(rt):
     rt.Kept.key = own_key
 
 
+def place_of_work(rt):
+    """Returns the folder for the run's files, which are many and small: in memory where there is plenty of it, so that
+    no disk has to keep account of them, and else where the system puts such files (None)."""
+    has_room = os.access(IN_MEMORY, os.W_OK) and shutil.disk_usage(IN_MEMORY).free > ROOM and rt.free() > 2 * ROOM
+    return IN_MEMORY if has_room else None
+
+
 def what_failed(log):
     """Returns what the gate printed of the crates that are not proved, and its own lines."""
     parts = re.split(r"(?m)^(?=== )", log)
@@ -231,7 +240,8 @@ def main(program, cpu, to):
     anew = os.environ.get("PROVE_ANEW") == "1"
     shown = sys.stdout
     say = lambda text: print(text, file=shown, flush=True)
-    with tempfile.TemporaryDirectory(prefix="par2-build-") as room:
+    with tempfile.TemporaryDirectory(prefix="par2-build-", dir=place_of_work(rt)) as room:
+        os.environ["TMPDIR"] = tempfile.tempdir = room
         names = copied(program, f"{room}/repo")
         clock = Clock(names, lines_of_crates()[1], processors)
         rt.in_lanes = in_lanes(clock, 0.85 * rt.free(), say)
