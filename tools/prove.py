@@ -220,8 +220,10 @@ def without_empty_contracts(rt):
 
 def place_of_work(rt):
     """Returns the folder for the run's files, which are many and small: in memory where there is plenty of it, so that
-    no disk has to keep account of them, and else where the system puts such files (None)."""
-    has_room = os.access(IN_MEMORY, os.W_OK) and shutil.disk_usage(IN_MEMORY).free > ROOM and rt.free() > 2 * ROOM
+    no disk has to keep account of them, and else where the system puts such files (None). The program is run there."""
+    if not os.access(IN_MEMORY, os.W_OK | os.X_OK) or os.statvfs(IN_MEMORY).f_flag & os.ST_NOEXEC:
+        return None
+    has_room = shutil.disk_usage(IN_MEMORY).free > ROOM and rt.free() > 2 * ROOM
     return IN_MEMORY if has_room else None
 
 
