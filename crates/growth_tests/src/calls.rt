@@ -3,7 +3,8 @@
 ghost use Rattle.std.specs.Prelude.{IfOk};
 ghost use Rattle.par2_journal.specs.Ready.{Fits};
 
-use par2_folder::{Folder, FolderStore, Name, ReadFault, StoreFault, read_folder};
+use par2_disk::{FolderStore, ReadFault, StoreFault, read_folder};
+use par2_folder::{Folder, Name};
 use par2_journal::{
     Action, CreateArgs, Fault, Halfway, Journals, Opened, Prepared, Report, Session, SessionFault,
     Steps,

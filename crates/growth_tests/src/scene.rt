@@ -1,7 +1,7 @@
 //! A call is made, and what stands before and after it is printed.
 
 use anyhow::Result;
-use par2_folder::{ReadFault, StoreFault};
+use par2_disk::{ReadFault, StoreFault};
 use par2_journal::{Fault, SessionFault};
 use par2_recovery::{RebuildFault, RecordFault};
 use par2_spec::JournalFault;

@@ -1,6 +1,6 @@
 //! Reading to the end, and from a reader that has none.
 
-use par2_folder::{ReadFault, read_within};
+use par2_disk::{ReadFault, read_within};
 use std::io::{self, Read};
 use std::process::Abort;
 

@@ -6,7 +6,7 @@ use crate::calls::{
     folder_of, lists, name, names_of, put_journal, read, read_journal, remove, rename, replace,
     write,
 };
-use par2_folder::{FolderStore, ReadFault, StoreFault};
+use par2_disk::{FolderStore, ReadFault, StoreFault};
 use par2_stores::{FuseStore, MemoryStore};
 use std::process::Abort;
 

@@ -5,7 +5,7 @@ ghost use Rattle.std.specs.Prelude.{◌≡◌, drop, IfErr, IfOk, IsErrOf, IsOk}
 ghost use Rattle.std.specs.IoError.{error_kind};
 ghost use Rattle.std.specs.Vec.Iter.{into_iter_items};
 
-use par2_folder::DiskStore;
+use par2_disk::DiskStore;
 use par2_printing::Printer;
 use par2_spec::{Failure, Fault};
 use par2_tool::{fail, run};

@@ -2,9 +2,6 @@ mod Common
 pub mod Texts
 pub mod SortedFiles
 pub mod Lists
-pub mod Steps
-pub mod Filling
-pub mod Stores
 pub mod Below
 mod LentChanges
 pub mod Snapshots

@@ -1,16 +1,9 @@
 pub mod Sorting
 pub mod Views
-pub mod Cuts
-pub mod Stores
-pub mod Directories
-pub mod Disk
-pub mod Filling
 pub mod Below
 pub mod Lending
 pub mod Snapshots
 pub mod Borders
 pub mod Runs
 pub mod Landmarks
-pub mod Reading
-pub mod Listings
 pub mod Surveys

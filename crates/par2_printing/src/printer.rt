@@ -5,7 +5,7 @@ ghost use Rattle.std.specs.List.{flat_map};
 ghost use Rattle.par2_spec.specs.Texts.{line};
 ghost use Rattle.par2_printing.specs.Writing.{Wrote, failures_of, writer_of};
 
-use par2_folder::Count;
+use par2_disk::Count;
 use std::io::{ErrorKind, Write};
 use thiserror::Error;
 

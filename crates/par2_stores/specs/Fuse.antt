@@ -7,10 +7,10 @@ use Rattle.par2_stores.specs.declared.fuse.BorrowedChange.TheVariants as borrowe
 use Rattle.par2_stores.specs.declared.fuse.Fate.{Fate}
 use Rattle.par2_stores.specs.declared.fuse.Fate.TheVariants.{Passes, Works, Fails}
 use Rattle.par2_stores.specs.declared.fuse.FuseStore.{FuseStore}
-use Rattle.par2_folder.specs.declared.store.ReadFault.{ReadFault}
-use Rattle.par2_folder.specs.declared.store.ReadFault.TheVariants.{Store}
-use Rattle.par2_folder.specs.declared.store.StoreFault.{StoreFault}
-use Rattle.par2_folder.specs.declared.view.Store.{Ghosts as StoreOf}
+use Rattle.par2_disk.specs.declared.store.ReadFault.{ReadFault}
+use Rattle.par2_disk.specs.declared.store.ReadFault.TheVariants.{Store}
+use Rattle.par2_disk.specs.declared.store.StoreFault.{StoreFault}
+use Rattle.par2_disk.specs.declared.view.Store.{Ghosts as StoreOf}
 
 -- the store that it passes calls on to
 abbrev pub inner_store : {S : Type 0} → FuseStore S → S

@@ -1,9 +1,10 @@
 //! A store that passes some calls on, and then fails.
 ghost use Rattle.std.specs.Prelude.{◌≡◌, ◌+◌};
 ghost use Rattle.par2_stores.specs.Fuse.{fuse, inner_store, fuse_writing_calls, calls_left, change_in, does_work, Becomes, FusesChange};
-ghost use Rattle.par2_folder.specs.Stores.{CountsFailures, Makes};
+ghost use Rattle.par2_disk.specs.Stores.{CountsFailures, Makes};
 
-use par2_folder::{Count, FolderStore, Name, ReadFault, Store, StoreFault};
+use par2_disk::{Count, FolderStore, ReadFault, Store, StoreFault};
+use par2_folder::Name;
 use std::alloc::Global;
 use std::mem;
 
@@ -131,7 +132,7 @@ impl<S: FolderStore> FolderStore for FuseStore<S> {
     ghost use Rattle.std.specs.Prelude.{◌≡◌, ◌+◌};
     ghost use Rattle.par2_spec.specs.Changes.{Write, Replace, Rename, Remove};
     ghost use Rattle.par2_stores.specs.Fuse.{fuse, fuse_writing_calls, FusesChange, FusesJournal, FusesRead};
-    ghost use Rattle.par2_folder.specs.Stores.{CountsFailures, CountsReadFailures, Makes, OnlyReads, PutsJournal, ReadsFile, ReadsJournal, ReadsNames};
+    ghost use Rattle.par2_disk.specs.Stores.{CountsFailures, CountsReadFailures, Makes, OnlyReads, PutsJournal, ReadsFile, ReadsJournal, ReadsNames};
 
     fn names(&mut self, alloc: Global) -> Result<Vec<Name>, ReadFault>
         ensures names { ReadsNames (fuse S.Store) self.old self.new result }

@@ -1,5 +1,6 @@
 //! A store in memory.
-use par2_folder::{Bytes, Change, Count, Folder, FolderStore, Name, ReadFault, Store, StoreFault};
+use par2_disk::{Count, FolderStore, ReadFault, Store, StoreFault};
+use par2_folder::{Bytes, Change, Folder, Name};
 use par2_spec::Result;
 use std::alloc::{AllocError, Global};
 

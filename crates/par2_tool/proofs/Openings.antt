@@ -1,8 +1,8 @@
 -- What a store opens as, and what a stop leaves of it.
 use Rattle.par2_tool.proofs.Common.{◌≡◌, ◌⊎◌, inl, inr, ℕ, true, IsTrue, List, take, Option, Some, None, Result, Ok, Err, refl, sym, ap, subst, ◌∙◌, arith, Vec, option_map, OnErr, IfErr, IfOk, started_of, IsOpened, IsRead, IsStillHalfway, IsTakenBack, TakesBack, LeavesUnopened, IsCounted, StartsWithout, Global, Folder, Change, are_applicable, effects, Session, Journal, Spells, Opened, Settled, Halfway, Started, is_valid, new_session, settled_journal, started, TellsApart, Opens, OpensAs, opened, Contents, with_journal, JournalFault, Two, settled_stored, still_stored, taken_back_leads, Holds, IsOpening, OpensAsBefore, TellsApartBack, with_history, IsStoppedAt, CountsOpening, OpenFault, KeepsStore}
 use Rattle.par2_tool.proofs.MadeChanges.{all_changed_is}
-use Rattle.par2_folder.specs.Stores.{OnlyReads}
-use Rattle.par2_folder.specs.declared.view.Store.{Ghosts as StoreOf}
+use Rattle.par2_disk.specs.Stores.{OnlyReads}
+use Rattle.par2_disk.specs.declared.view.Store.{Ghosts as StoreOf}
 use Rattle.par2_tool.specs.StoreOpenings.{Opens as OpensStore}
 use Rattle.par2_spec.specs.declared.JournalFault.TheVariants as fault
 use Rattle.par2_tool.specs.declared.opening.Started as program

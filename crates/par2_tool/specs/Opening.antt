@@ -11,8 +11,8 @@ use Rattle.par2_spec.specs.Stores.{Contents, with_journal}
 use Rattle.par2_spec.specs.declared.JournalFault.{JournalFault}
 use Rattle.par2_spec.specs.declared.JournalFault.TheVariants as journal
 use Rattle.par2_spec.specs.declared.Version.TheVariants.{Two}
-use Rattle.par2_folder.specs.declared.store.ReadFault.{ReadFault}
-use Rattle.par2_folder.specs.declared.store.ReadFault.TheVariants as read
+use Rattle.par2_disk.specs.declared.store.ReadFault.{ReadFault}
+use Rattle.par2_disk.specs.declared.store.ReadFault.TheVariants as read
 use Rattle.par2_tool.specs.Holding.{IsOpening, Holds, OpensAsBefore, TellsApartBack}
 use Rattle.par2_tool.specs.Performing.{with_all_changes, IsVerify}
 use Rattle.par2_tool.specs.declared.opening.OpenFault.{OpenFault}

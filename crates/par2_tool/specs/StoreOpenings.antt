@@ -9,7 +9,7 @@ use Rattle.par2_spec.specs.Sessions.{Session}
 use Rattle.par2_spec.specs.Stores.{Contents}
 use Rattle.par2_spec.specs.Views.{command_of}
 use Rattle.par2_spec.specs.declared.commands.Command.{Command}
-use Rattle.par2_folder.specs.declared.view.Store.{Ghosts as StoreOf}
+use Rattle.par2_disk.specs.declared.view.Store.{Ghosts as StoreOf}
 use Rattle.par2_tool.specs.Calls.{CountsOpening}
 use Rattle.par2_tool.specs.Holding.{OpensAsBefore, TellsApartBack}
 use Rattle.par2_tool.specs.Opening.{started_of, CountsFailures, IsOpened, IsRead, IsStillHalfway, IsTakenBack, LeavesUnopened, StandsFor}

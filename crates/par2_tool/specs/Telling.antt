@@ -12,7 +12,7 @@ use Rattle.par2_spec.specs.declared.Failure.{Failure}
 use Rattle.par2_spec.specs.declared.Failure.TheVariants as failure
 use Rattle.par2_spec.specs.declared.Fault.TheVariants as fault
 use Rattle.par2_spec.specs.declared.JournalFault.TheVariants as journal
-use Rattle.par2_folder.specs.declared.view.Store.{Ghosts as StoreOf}
+use Rattle.par2_disk.specs.declared.view.Store.{Ghosts as StoreOf}
 use Rattle.par2_printing.specs.Views.{words_asked}
 use Rattle.par2_printing.specs.Writing.{TookAll, TookPart}
 use Rattle.par2_printing.specs.declared.printer.Printer.{Printer}

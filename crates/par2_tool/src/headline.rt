@@ -11,7 +11,7 @@ ghost use Rattle.par2_spec.specs.Search.{candidates, known};
 ghost use Rattle.par2_spec.specs.Sessions.{history_of};
 ghost use Rattle.par2_spec.specs.Volumes.{all_slices};
 ghost use Rattle.par2_spec.specs.Stores.{Contents};
-ghost use Rattle.par2_folder.specs.Cuts.{Lasts};
+ghost use Rattle.par2_disk.specs.Cuts.{Lasts};
 ghost use Rattle.par2_laws.specs.Premises.{IsTrueTo};
 ghost use Rattle.par2_laws.specs.Creates.{FollowsCreate, HaveAChoice};
 ghost use Rattle.par2_tool.specs.Asking.{AskFor};
@@ -24,7 +24,7 @@ ghost use Rattle.par2_tool.specs.Repairs.{AskForRepair};
 
 use crate::laws::{runs_keep_one_history, stores_open_in_one_way};
 use crate::running;
-use par2_folder::FolderStore;
+use par2_disk::FolderStore;
 use par2_laws::creates::{
     created_files_not_repairable_have_a_choice, repair_gives_the_created_files_back,
     repair_of_created_files_is_refused_for_few_causes,

@@ -3,14 +3,15 @@ ghost use Rattle.std.specs.Prelude.{◌≡◌, ◌+◌, IfOk, IsErrOf, Ok, Some,
 ghost use Rattle.par2_journal.specs.Opening.{OpensAsIs, session_before, way_left};
 ghost use Rattle.par2_spec.specs.Opening.{new_session};
 ghost use Rattle.par2_spec.specs.Sessions.{session_of_kept};
-ghost use Rattle.par2_folder.specs.Stores.{OnlyReads};
+ghost use Rattle.par2_disk.specs.Stores.{OnlyReads};
 ghost use Rattle.par2_tool.specs.Calls.{CountsCalls};
 ghost use Rattle.par2_tool.specs.Holding.{with_history};
 ghost use Rattle.par2_tool.specs.Opening.{started_of, CountsFailures, IsRead, StartsWithout};
 ghost use Rattle.par2_tool.specs.StoreOpenings.{KeepsStore, Opens, ReadsStore, Starts, StartsFor, TakesWayBack, Verifies};
 
 use crate::writing::write_down;
-use par2_folder::{Folder, FolderStore, ReadFault, read_folder};
+use par2_disk::{FolderStore, ReadFault, read_folder};
+use par2_folder::Folder;
 use par2_journal::{Halfway, Journals, Next, Opened, Session, opens_as_is};
 use par2_spec::{Action, Command, Failure, Fault, JournalFault, Result};
 use std::alloc::{AllocError, Global};

@@ -12,7 +12,7 @@ ghost use Rattle.par2_tool.specs.Refusals.{IsRefused, IsSession};
 ghost use Rattle.par2_tool.specs.Writing.{IsKept, StaysKept};
 
 use crate::writing::write_down;
-use par2_folder::FolderStore;
+use par2_disk::FolderStore;
 use par2_journal::{Report, Session, SessionFault, Steps, ready_changes_apply};
 use par2_spec::{Command, Failure, Fault};
 use std::alloc::{AllocError, Global};

@@ -5,7 +5,7 @@ use crate::calls::{put_journal, read_file, remove_file, rename_file, replace_fil
 use crate::files::name_of;
 use crate::rows::show;
 use anyhow::{Error, Result};
-use par2_folder::{DiskStore, FolderStore, StoreFault};
+use par2_disk::{DiskStore, FolderStore, StoreFault};
 use std::fs::Permissions;
 use std::os::unix::fs::{PermissionsExt, symlink};
 use std::{env, fs};

@@ -5,7 +5,8 @@ use crate::calls::{
     write_file,
 };
 use anyhow::Result;
-use par2_folder::{Name, StoreFault};
+use par2_disk::StoreFault;
+use par2_folder::Name;
 use par2_stores::MemoryStore;
 use std::alloc::Global;
 

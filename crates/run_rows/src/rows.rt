@@ -2,7 +2,8 @@
 
 use crate::calls::{journal_of, names_of, read_file};
 use anyhow::Result;
-use par2_folder::{FolderStore, Name};
+use par2_disk::FolderStore;
+use par2_folder::Name;
 use par2_stores::MemoryStore;
 use par2_tool::{Printer, run};
 use std::alloc::{AllocError, Global};

@@ -3,7 +3,7 @@
 use crate::rows::show;
 use crate::stops::failing;
 use anyhow::{Error, Result};
-use par2_folder::FolderStore;
+use par2_disk::FolderStore;
 use par2_stores::MemoryStore;
 use par2_tool::{Action, Command, CreateArgs, Outcome, Session, open_store, perform};
 use std::alloc::{AllocError, Global};

@@ -1,5 +1,5 @@
 use Rattle.par2_tool.proofs.Common.{◌≡◌, ◌+◌, ◌≤◌, length, IsTrue, map, take, are_applicable, change_of, with_all_changes}
-use Rattle.par2_folder.specs.Cuts.{Lasts}
+use Rattle.par2_disk.specs.Cuts.{Lasts}
 use Rattle.par2_tool.proofs.writing.write_changes.Given as goal
 
 abbrev pub invariant-loop-change : goal.invariant-loop-change

@@ -1,0 +1,4 @@
+mod Common
+pub mod Steps
+pub mod Filling
+pub mod Stores

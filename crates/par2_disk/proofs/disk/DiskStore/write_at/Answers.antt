@@ -1,0 +1,5 @@
+use Rattle.par2_disk.proofs.Common.{arith}
+use Rattle.par2_disk.proofs.disk.DiskStore.write_at.Goals as goal
+
+pub returns-clause-written : goal.returns-clause-written
+returns-clause-written g c = grind (arith)

@@ -1,0 +1,307 @@
+//! A store over a directory.
+ghost use Rattle.std.specs.Prelude.{◌≡◌, ◌+◌};
+ghost use Rattle.par2_spec.specs.Changes.{Write, Replace, Rename, Remove};
+ghost use Rattle.par2_disk.specs.Disk.{directory_of, disk_failures, disk_impossible, disk_writing_calls, over, Blocks, CountsNoFailure, FailsToMake, FindsFile, FindsJournal, FindsNothing, MakesTemporary, OnlyLooks, TellsFree, WritesAt};
+ghost use Rattle.par2_disk.specs.Stores.{CountsFailures, CountsReadFailures, Makes};
+
+use crate::current::CurrentDirectory;
+use crate::directory::{Directory, Found, Place};
+use crate::{Count, FolderStore, ReadFault, Store, StoreFault};
+use par2_folder::Name;
+use std::alloc::Global;
+use std::fs::Files;
+
+/// The regular files of a directory, with the journal. Folders, links and devices are no files: they are not listed,
+/// and a call that meets one fails and leaves all as it is. It is honest where the directory is.
+#[derive(Drop)]
+pub struct DiskStore<D: Directory> {
+    directory: D,
+    failures: Count,
+    // Those of calls that can't be done, as far as the store has seen it.
+    impossible: Count,
+    writing_calls: Count,
+}
+
+impl<'r, R: Files + AllocGlobal> DiskStore<CurrentDirectory<'r, R>> {
+    /// The current directory, by a runtime that reaches it. It has not failed yet.
+    pub fn new(rt: &'r R) -> DiskStore<CurrentDirectory<'r, R>>
+        ensures failures { disk_failures result ≡ 0 }
+        ensures impossible { disk_impossible result ≡ 0 }
+        ensures writing_calls { disk_writing_calls result ≡ 0 }
+    {
+        DiskStore {
+            directory: CurrentDirectory::new(rt),
+            failures: Count::new(),
+            impossible: Count::new(),
+            writing_calls: Count::new(),
+        }
+    }
+}
+
+impl<D: Directory> DiskStore<D> {
+    // The bytes of the journal, if there is one. What is no file can't be read.
+    fn find_journal(&self, alloc: Global) -> Result<Option<Vec<u8>>, ReadFault>
+        ensures { FindsJournal D.Disk (directory_of self.now) result }
+    {
+        match self.directory.find(Place::Journal) {
+            Ok(Found::Nothing) => Ok(None),
+            Ok(Found::File(size)) => Ok(Some(self.directory.read(alloc, Place::Journal, size)?)),
+            Ok(Found::Other) | Err(StoreFault) => Err(ReadFault::Store),
+        }
+    }
+
+    // Counts a call that can't be done.
+    fn refuse(&mut self) -> StoreFault
+        ensures counts { OnlyLooks self.old self.new }
+        ensures impossible { disk_impossible self.new ≡ disk_impossible self.old + 1 }
+    {
+        self.impossible.rise();
+        StoreFault
+    }
+
+    // The size of the file that has the name. Where none has it, what was asked for can't be done.
+    fn find_file(&mut self, name: &Name) -> Result<u64, StoreFault>
+        ensures file { FindsFile D.Disk self.old self.new name.now result }
+        ensures looks { OnlyLooks self.old self.new }
+    {
+        match self.directory.find(Place::File(name))? {
+            Found::File(size) => Ok(size),
+            Found::Nothing | Found::Other => Err(self.refuse()),
+        }
+    }
+
+    // Looks that nothing has the name. Where a file has it, what was asked for can't be done.
+    fn find_nothing(&mut self, name: &Name) -> Result<(), StoreFault>
+        ensures nothing { FindsNothing D.Disk self.old self.new name.now result }
+        ensures looks { OnlyLooks self.old self.new }
+    {
+        match self.directory.find(Place::File(name))? {
+            Found::Nothing => Ok(()),
+            Found::File(_) => Err(self.refuse()),
+            // No file has the name, and yet it can't be given.
+            Found::Other => Err(StoreFault),
+        }
+    }
+
+    // Whether a file can be written there: nothing else has the name.
+    fn is_free(&self, place: Place<'_>) -> bool
+        ensures { TellsFree D.Disk (directory_of self.now) place.entry result }
+    {
+        let found = self.directory.find(place);
+        matches!(found, Ok(Found::Nothing | Found::File(_)))
+    }
+
+    // Writes the temporary file, and waits until its bytes are kept.
+    fn make_temporary(&mut self, bytes: &[u8]) -> Result<(), StoreFault>
+        ensures made { MakesTemporary D.Disk self.old self.new bytes.now result }
+        ensures counts { CountsNoFailure self.old self.new }
+    {
+        if !self.is_free(Place::Temporary) {
+            return Err(StoreFault);
+        }
+        self.directory.write_temporary(bytes)?;
+        self.directory.wait_for_temporary()
+    }
+
+    // Writes the file at a place, over the one that is there, by way of the temporary one. Its bytes are kept before it
+    // gets the name, and the name is kept before the answer is Ok.
+    fn write_at(&mut self, place: Place<'_>, bytes: &[u8]) -> Result<(), StoreFault>
+        ensures written { WritesAt D.Disk self.old self.new place.entry bytes.now result }
+        ensures counts { CountsNoFailure self.old self.new }
+    {
+        if !self.is_free(place) {
+            return Err(StoreFault);
+        }
+        self.make_temporary(bytes)?;
+        self.directory.put_temporary(place)?;
+        self.directory.wait()
+    }
+
+    // Writes a file of a name that nothing has. Whoever gives it to another file meanwhile keeps it.
+    #[tactic(auto, unfolding(par2_spec::specs::Changes::is_applicable, par2_spec::specs::Changes::effect))]
+    fn write_new(&mut self, name: &Name, bytes: &[u8]) -> Result<(), StoreFault>
+        ensures made { Makes (over D.Disk) self.old self.new (Write name.now bytes.now) result }
+        ensures blocked { Blocks D.Disk self.old self.new (Write name.now bytes.now) result }
+        ensures reason { FailsToMake D.Disk self.old self.new (Write name.now bytes.now) result }
+        ensures counts { CountsNoFailure self.old self.new }
+    {
+        self.find_nothing(name)?;
+        self.make_temporary(bytes)?;
+        self.directory.name_temporary(Place::File(name))?;
+        self.directory.wait()
+    }
+
+    // Writes other bytes over those of a file.
+    #[tactic(auto, unfolding(par2_spec::specs::Changes::is_applicable))]
+    fn replace_file(&mut self, name: &Name, bytes: &[u8]) -> Result<(), StoreFault>
+        ensures made { Makes (over D.Disk) self.old self.new (Replace name.now bytes.now) result }
+        ensures blocked { Blocks D.Disk self.old self.new (Replace name.now bytes.now) result }
+        ensures reason { FailsToMake D.Disk self.old self.new (Replace name.now bytes.now) result }
+        ensures counts { CountsNoFailure self.old self.new }
+    {
+        let _size = self.find_file(name)?;
+        self.write_at(Place::File(name), bytes)
+    }
+
+    // Gives a file a name that nothing has.
+    #[tactic(auto, unfolding(par2_spec::specs::Changes::is_applicable))]
+    fn rename_file(&mut self, from: &Name, to: &Name) -> Result<(), StoreFault>
+        ensures made { Makes (over D.Disk) self.old self.new (Rename from.now to.now) result }
+        ensures blocked { Blocks D.Disk self.old self.new (Rename from.now to.now) result }
+        ensures reason { FailsToMake D.Disk self.old self.new (Rename from.now to.now) result }
+        ensures counts { CountsNoFailure self.old self.new }
+    {
+        let _size = self.find_file(from)?;
+        self.find_nothing(to)?;
+        self.directory.rename(from, to)?;
+        self.directory.wait()
+    }
+
+    // Removes a file.
+    #[tactic(auto, unfolding(par2_spec::specs::Changes::is_applicable))]
+    fn remove_file(&mut self, name: &Name) -> Result<(), StoreFault>
+        ensures made { Makes (over D.Disk) self.old self.new (Remove name.now) result }
+        ensures blocked { Blocks D.Disk self.old self.new (Remove name.now) result }
+        ensures reason { FailsToMake D.Disk self.old self.new (Remove name.now) result }
+        ensures counts { CountsNoFailure self.old self.new }
+    {
+        let _size = self.find_file(name)?;
+        self.directory.remove(name)?;
+        self.directory.wait()
+    }
+
+    // Counts a failure where that is the answer of a reading call.
+    fn counted_read<T>(&mut self, answer: Result<T, ReadFault>) -> Result<T, ReadFault>
+        ensures answer { result ≡ answer }
+        ensures directory { directory_of self.new ≡ directory_of self.old }
+        ensures failures { CountsReadFailures disk_failures self.old self.new result }
+        ensures possible { disk_impossible self.new ≡ disk_impossible self.old }
+        ensures unwritten { disk_writing_calls self.new ≡ disk_writing_calls self.old }
+    {
+        if let Err(ReadFault::Store) = &answer {
+            self.failures.rise();
+        }
+        answer
+    }
+
+    // Counts a writing call, and a failure where that is its answer.
+    fn counted_write(&mut self, answer: Result<(), StoreFault>) -> Result<(), StoreFault>
+        ensures answer { result ≡ answer }
+        ensures directory { directory_of self.new ≡ directory_of self.old }
+        ensures failures { CountsFailures disk_failures self.old self.new result }
+        ensures possible { disk_impossible self.new ≡ disk_impossible self.old }
+        ensures counted { disk_writing_calls self.new ≡ disk_writing_calls self.old + 1 }
+    {
+        self.writing_calls.rise();
+        if answer.is_err() {
+            self.failures.rise();
+        }
+        answer
+    }
+}
+
+impl<D: Directory> Store for DiskStore<D> {
+    ghost use Rattle.par2_disk.specs.Disk.{directory_of, disk_failures, disk_impossible, disk_writing_calls};
+
+    ghost honest = { λ store. D.honest (directory_of store) };
+
+    ghost contents = { λ store. D.contents (directory_of store) };
+
+    ghost may_remain = { λ store. D.may_remain (directory_of store) };
+
+    ghost failures = { disk_failures };
+
+    ghost impossible = { disk_impossible };
+
+    ghost writing_calls = { disk_writing_calls };
+}
+
+impl<D: Directory> FolderStore for DiskStore<D> {
+    ghost use Rattle.std.specs.Prelude.{◌≡◌, ◌+◌, IfErr};
+    ghost use Rattle.par2_spec.specs.Changes.{Write, Replace, Rename, Remove};
+    ghost use Rattle.par2_disk.specs.Disk.{directory_of, disk_failures, disk_writing_calls, over, FailsToMake, FailsToPut, FailsToReadFile, FailsToReadJournal};
+    ghost use Rattle.par2_disk.specs.Stores.{CountsFailures, CountsReadFailures, Makes, OnlyReads, PutsJournal, ReadsFile, ReadsJournal, ReadsNames};
+
+    fn names(&mut self, alloc: Global) -> Result<Vec<Name>, ReadFault>
+        ensures names { ReadsNames (over D.Disk) self.old self.new result }
+        ensures reads { OnlyReads (over D.Disk) self.old self.new }
+        ensures failures { CountsReadFailures disk_failures self.old self.new result }
+        ensures reason { IfErr result (D.may_fail (directory_of self.old)) }
+    {
+        let answer = self.directory.names(alloc);
+        self.counted_read(answer)
+    }
+
+    fn read(&mut self, alloc: Global, name: &Name) -> Result<Vec<u8>, ReadFault>
+        ensures file { ReadsFile (over D.Disk) self.old self.new name.now result }
+        ensures reads { OnlyReads (over D.Disk) self.old self.new }
+        ensures failures { CountsReadFailures disk_failures self.old self.new result }
+        ensures reason { FailsToReadFile D.Disk (directory_of self.old) name.now result }
+    {
+        let answer = match self.find_file(name) {
+            Ok(size) => self.directory.read(alloc, Place::File(name), size),
+            Err(StoreFault) => Err(ReadFault::Store),
+        };
+        self.counted_read(answer)
+    }
+
+    fn read_journal(&mut self, alloc: Global) -> Result<Option<Vec<u8>>, ReadFault>
+        ensures journal { ReadsJournal (over D.Disk) self.old self.new result }
+        ensures reads { OnlyReads (over D.Disk) self.old self.new }
+        ensures failures { CountsReadFailures disk_failures self.old self.new result }
+        ensures reason { FailsToReadJournal D.Disk (directory_of self.old) result }
+    {
+        let answer = self.find_journal(alloc);
+        self.counted_read(answer)
+    }
+
+    fn write(&mut self, name: &Name, bytes: &[u8]) -> Result<(), StoreFault>
+        ensures made { Makes (over D.Disk) self.old self.new (Write name.now bytes.now) result }
+        ensures failures { CountsFailures disk_failures self.old self.new result }
+        ensures counted { disk_writing_calls self.new ≡ disk_writing_calls self.old + 1 }
+        ensures reason { FailsToMake D.Disk self.old self.new (Write name.now bytes.now) result }
+    {
+        let answer = self.write_new(name, bytes);
+        self.counted_write(answer)
+    }
+
+    fn replace(&mut self, name: &Name, bytes: &[u8]) -> Result<(), StoreFault>
+        ensures made { Makes (over D.Disk) self.old self.new (Replace name.now bytes.now) result }
+        ensures failures { CountsFailures disk_failures self.old self.new result }
+        ensures counted { disk_writing_calls self.new ≡ disk_writing_calls self.old + 1 }
+        ensures reason { FailsToMake D.Disk self.old self.new (Replace name.now bytes.now) result }
+    {
+        let answer = self.replace_file(name, bytes);
+        self.counted_write(answer)
+    }
+
+    fn rename(&mut self, from: &Name, to: &Name) -> Result<(), StoreFault>
+        ensures made { Makes (over D.Disk) self.old self.new (Rename from.now to.now) result }
+        ensures failures { CountsFailures disk_failures self.old self.new result }
+        ensures counted { disk_writing_calls self.new ≡ disk_writing_calls self.old + 1 }
+        ensures reason { FailsToMake D.Disk self.old self.new (Rename from.now to.now) result }
+    {
+        let answer = self.rename_file(from, to);
+        self.counted_write(answer)
+    }
+
+    fn remove(&mut self, name: &Name) -> Result<(), StoreFault>
+        ensures made { Makes (over D.Disk) self.old self.new (Remove name.now) result }
+        ensures failures { CountsFailures disk_failures self.old self.new result }
+        ensures counted { disk_writing_calls self.new ≡ disk_writing_calls self.old + 1 }
+        ensures reason { FailsToMake D.Disk self.old self.new (Remove name.now) result }
+    {
+        let answer = self.remove_file(name);
+        self.counted_write(answer)
+    }
+
+    fn put_journal(&mut self, bytes: &[u8]) -> Result<(), StoreFault>
+        ensures put { PutsJournal (over D.Disk) self.old self.new bytes.now result }
+        ensures failures { CountsFailures disk_failures self.old self.new result }
+        ensures counted { disk_writing_calls self.new ≡ disk_writing_calls self.old + 1 }
+        ensures reason { FailsToPut D.Disk self.old self.new Place.Journal result }
+    {
+        let answer = self.write_at(Place::Journal, bytes);
+        self.counted_write(answer)
+    }
+}

@@ -1,6 +1,0 @@
-use Rattle.par2_folder.proofs.Common.{[], FoldsTo}
-use Rattle.par2_folder.specs.Listings.{Adds}
-use Rattle.par2_folder.proofs.listing.names_given.Given as goal
-
-abbrev pub invariant-loop-item : goal.invariant-loop-item
-invariant-loop-item g l = FoldsTo (Adds g.E.Entry.kind_gives g.E.Entry.text_of) [] l.yielded l.names.items
