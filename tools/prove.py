@@ -11,20 +11,25 @@ so it takes nothing of what is kept here: it looks for contracts that no call ca
 builds the program by a second compiler, beside LLVM, and compares.
 
 The gate's own order fits many proofs, tests and edits; here one chain of libraries decides when the program is there.
-So this loads the command rt as a module and has it use another order (`in_lanes`). Up to four processes share a proof,
-and up to four a processor run at a time, as memory holds them: where one crate's proof comes to its end in a single
-process, others go on. Four copies and the process that they are made from took at most four fifths of what the gate
-plans for one process, so that is planned here for all of them. The crate for which the longest chain waits begins first, and the shorter a crate's chain is
-beside the longest one, the nicer its processes are to the others. RT_JOBS says how many processors there are to use. A
-line of progress says which crate was proved, how many are left, and about how long they take, by tools/seconds.txt and
-by how fast this run has been so far.
+So this loads the command rt as a module and has it use another order (`in_lanes`). The crate for which the longest chain
+waits begins first. Up to four processes can share a proof, but they take more processor time than one: four of them a
+quarter more, and with others beside them half as much again. So little more processes run than there are processors,
+and those that are free are shared evenly by the crates that can begin: each gets one while there are many, and the last
+ones get four. The shorter a crate's chain is beside the longest one, the nicer its processes are to the others. Four
+copies and the process that they are made from took at most four fifths of the memory that the gate plans for one
+process, so that is planned here for all of them. RT_JOBS says how many processors there are to use. A line of progress
+says which crate was proved, how many are left, and about how long they take, by tools/seconds.txt and by how fast this
+run has been so far.
 """
 import contextlib
+import fcntl
+import glob
 import hashlib
 import math
 import os
 import re
 import shutil
+import signal
 import sys
 import tempfile
 import threading
@@ -33,14 +38,16 @@ import time
 import rt_module
 
 DEFAULT = "x86-64-v2"
-# The most processes that share a proof, what sharing costs, and the part of a proof that can't be shared.
-SHARERS, SHARING, ALONE = 4, 1.1, 0.3
+# The most processes that share a proof, the least where the longest chain waits for it, what sharing costs, and the part
+# that can't be shared.
+SHARERS, URGENT, SHARING, ALONE = 4, 2, 1.25, 0.2
 # How nice a crate's processes are: not at all for the longest chain, 3 for one of four fifths, 10 for one of half.
 STEEP, NICEST = 15, 19
-# How many processes run at a time for each processor.
-CROWD = 4
+# How many more processes than processors run at a time, since a proof begins and ends with a single one; and how long a
+# crate's chain is, as a part of another's, where its processes aren't counted since they are nice to that one's.
+CROWD, MINOR = 1, 0.7
 # A file system in memory, and the bytes that a run's files may take: from nothing they took 1.5 GB.
-IN_MEMORY, ROOM = "/dev/shm", 6_000_000_000
+IN_MEMORY, ROOM, PREFIX = "/dev/shm", 6_000_000_000, "par2-build-"
 TOP = os.path.join(os.path.dirname(os.path.realpath(__file__)), "..")
 
 
@@ -84,13 +91,19 @@ def copied(program, to):
     return names
 
 
+def pace(sharers):
+    """Returns how long a proof takes that so many processes share, as a part of what it takes one."""
+    return ALONE + (1 - ALONE) * SHARING / sharers if sharers > 1 else 1
+
+
 class Clock:
     """What is left to prove, by the seconds of each crate and by how fast the run has been."""
 
     def __init__(self, names, below, processors):
         known = seconds_of_crates()
         self.seconds = {it: known.get(it, 30) for it in names}
-        self.below, self.processors = below, processors
+        self.below, self.processors, self.most = below, processors, min(SHARERS, processors)
+        self.most_shared = pace(self.most)
         self.left, self.begun, self.start, self.planned = {*names}, {}, time.time(), 0
         self.planned = self.least()
 
@@ -104,14 +117,16 @@ class Clock:
 
     def least(self):
         """Returns the least seconds by the table until nothing is left: those of the work or of the longest chain."""
-        sharers = min(SHARERS, self.processors)
-        pace = ALONE + (1 - ALONE) * SHARING / sharers if sharers > 1 else 1
         still, chains = {}, {}
         for name in self.seconds:
-            done = (time.time() - self.begun[name]) / pace if name in self.begun else 0
+            begun, sharers = self.begun.get(name, (time.time(), 1))
+            done = (time.time() - begun) / pace(sharers)
             still[name] = max(self.seconds[name] - done, 0) if name in self.left else 0
             chains[name] = still[name] + max((chains[it] for it in self.below[name]), default=0)
-        return max(sum(still.values()) / self.processors, pace * max(chains.values()))
+        return max(sum(still.values()) / self.processors, self.most_shared * max(chains.values()))
+
+    def begins(self, name, sharers):
+        self.begun[name] = time.time(), sharers
 
     def ends(self, name):
         self.left.discard(name)
@@ -159,13 +174,16 @@ def in_lanes(clock, memory, say):
             if key[1] != "proof":
                 return key, 0, 0, 0
             longest = max(chains[it[0]] for it in [*ready, *running])
-            left = CROWD * clock.processors - sum(jobs for jobs, _ in running.values())
+            taken = sum(running[it][0] for it in running if chains[it[0]] >= MINOR * chains[key[0]])
+            free = clock.processors + CROWD - taken
             room = memory - sum(needs for _, needs in running.values())
             needs = tasks[key][2]
-            if running and (left < 1 or needs > room):
+            if running and (free < 1 or needs > room):
                 return None
+            share = math.ceil(free / len(ready))
+            least = URGENT if chains[key[0]] == longest else 1
             nice = min(NICEST, round(STEEP * math.log(longest / chains[key[0]])))
-            return key, max(min(SHARERS, clock.processors, left), 1), needs, nice
+            return key, min(max(share, least), clock.most), needs, nice
 
         with turn:
             while len(given) < len(tasks):
@@ -176,7 +194,7 @@ def in_lanes(clock, memory, say):
                 key, jobs, needs, nice = begins
                 running[key] = jobs, needs
                 if key[1] == "proof":
-                    clock.begun[key[0]] = time.time()
+                    clock.begins(key[0], jobs)
                 threading.Thread(target=work, args=(key, jobs, nice), daemon=True).start()
         return given
 
@@ -218,6 +236,21 @@ def without_empty_contracts(rt):
     rt.Kept.key = own_key
 
 
+@contextlib.contextmanager
+def folder_of_work(rt):
+    """Makes a folder for the run's files, which goes when the run ends. A lock shows the next run that this one is on;
+    what a run that was killed has left in memory goes first."""
+    for left in glob.glob(f"{IN_MEMORY}/{PREFIX}*"):
+        with contextlib.suppress(OSError), open(f"{left}/lock") as lock:
+            fcntl.flock(lock, fcntl.LOCK_EX | fcntl.LOCK_NB)
+            shutil.rmtree(left)
+    # (processes that are being ended can still write)
+    where = tempfile.TemporaryDirectory(prefix=PREFIX, dir=place_of_work(rt), ignore_cleanup_errors=True)
+    with where as folder, open(f"{folder}/lock", "w") as lock:
+        fcntl.flock(lock, fcntl.LOCK_EX)
+        yield folder
+
+
 def place_of_work(rt):
     """Returns the folder for the run's files, which are many and small: in memory where there is plenty of it, so that
     no disk has to keep account of them, and else where the system puts such files (None). The program is run there."""
@@ -242,7 +275,7 @@ def main(program, cpu, to):
     anew = os.environ.get("PROVE_ANEW") == "1"
     shown = sys.stdout
     say = lambda text: print(text, file=shown, flush=True)
-    with tempfile.TemporaryDirectory(prefix="par2-build-", dir=place_of_work(rt)) as room:
+    with folder_of_work(rt) as room:
         os.environ["TMPDIR"] = tempfile.tempdir = room
         names = copied(program, f"{room}/repo")
         clock = Clock(names, lines_of_crates()[1], processors)
@@ -270,6 +303,7 @@ def main(program, cpu, to):
 if __name__ == "__main__":
     if len(sys.argv) != 4:
         sys.exit("usage: prove.py PROGRAM CPU TO")
+    signal.signal(signal.SIGTERM, lambda number, _: sys.exit(128 + number))
     try:
         sys.exit(main(*sys.argv[1:]))
     except KeyboardInterrupt:
