@@ -1,7 +1,6 @@
 -- What a command has once an argument or a subcommand was added.
-use Rattle.par2_words.proofs.Common.{arith, refl, ◌≡◌, List, [], ◌∷◌, ◌++◌, App, Rule, Shape, AddsArg, AddsSubcommand, with_rule, with_subcommand, Command, IsApp, app_with, start_app}
+use Rattle.par2_words.proofs.Common.{arith, refl, ◌≡◌, List, [], ◌∷◌, ◌++◌, App, Rule, Shape, AddsArg, AddsSubcommand, with_rule, with_subcommand, Command, IsApp, app_with, start_app, IsArg}
 use Rattle.clap.specs.declared.builder.arg.Arg.{Arg}
-use Rattle.par2_words.specs.Definition.{IsArg}
 
 pub with_argument : (old new : Command) (a : Arg) (app : App) (rule : Rule) → AddsArg old a new → IsApp old app → IsArg a rule → IsApp new (with_rule app rule)
 with_argument old new a app rule adds is arg = grind arith

@@ -46,6 +46,7 @@ base_rule = record (new_rule (codes "base")) { action = Some Set; required = tru
 abbrev pub files_rule : Rule
 files_rule = record (new_rule (codes "files")) { action = Some Append }
 
+-- what an argument of the table stands for
 abbrev pub rule_for : Argument → Rule
 rule_for Slice = slice_rule
 rule_for Count = count_rule
@@ -59,7 +60,7 @@ rule_for Files = files_rule
 abbrev pub plain_app : Text → List Rule → App
 plain_app name rules = record (new_app name) { top = record (new_app name).top { rules = rules } }
 
--- what the table of subcommands has of one
+-- what a subcommand of the table stands for
 abbrev pub shape_for : Bor Text × Bor (List Argument) → Shape
 shape_for row = (plain_app row.0.now (map rule_for row.1.now)).top
 
