@@ -1,5 +1,5 @@
 -- What the getters read of matches, by the rows.
-use Rattle.par2_words.proofs.Common.{arith, ◌≡◌, ◌^◌, ◌&&◌, ℕ, Bool, true, false, nat_lt, refl, List, [], ◌∷◌, map, Option, Some, None, Result, lt-ltb, ltb-true, codes, unwrap_or, option_map, list_all, Bor, bytes_eq, AllDigits, ParsesUnsigned, digits_value, ReadsOne, Text, first_value, matched_of, one_text, raw_values, rows_of, flag_of, number, number_of, text_of, texts_of, MatchOption}
+use Rattle.par2_words.proofs.Common.{arith, ◌≡◌, ◌^◌, ◌&&◌, ℕ, Bool, true, false, nat_lt, refl, List, [], ◌∷◌, map, Option, Some, None, Result, lt-ltb, ltb-true, codes, unwrap_or, option_map, MatchOption, list_all, Bor, bytes_eq, AllDigits, ParsesUnsigned, digits_value, ReadsOne, Text, first_value, matched_of, one_text, raw_values, rows_of, flag_of, number, number_of, text_of, texts_of}
 use Rattle.std.specs.Char.{digit_value}
 use Rattle.std.proofs.lemmas.Bool.{and_parts}
 use Rattle.clap.specs.ValueTests.{is_numeral}

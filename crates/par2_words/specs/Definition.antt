@@ -3,14 +3,17 @@
 --   | undo | redo
 -- An option is given once at most, also between the names, and `--` ends the options. There is no `help` command.
 -- `--help` and `-h` end the parse with a fault, as every simple clap command does.
-use Rattle.std.specs.Prelude.{◌≡◌, ℕ, [], ◌∷◌, IfOk, Result, Some, codes, false, pos, true}
-use Rattle.clap.specs.Words.{App, Rule, Text, app_of, new_app, new_rule, rule_of, with_rule, with_subcommand}
+use Rattle.std.specs.Prelude.{◌≡◌, ℕ, List, [], ◌∷◌, IfOk, Result, Some, codes, false, map, pos, true}
+use Rattle.std.specs.Borrow.{Bor}
+use Rattle.clap.specs.Words.{App, Rule, Shape, Text, app_of, new_app, new_rule, rule_of, with_rule, with_subcommand}
 use Rattle.clap.specs.declared.builder.arg.Arg.{Arg}
 use Rattle.clap.specs.declared.builder.command.Command.{Command}
 use Rattle.clap.specs.declared.builder.command.Command.TheViews.{out-Command}
 use Rattle.clap.specs.declared.builder.action.ArgAction.TheVariants.{Append, Set, SetTrue}
 use Rattle.clap.specs.declared.builder.value_parser.ValueParser.{ValueParser}
 use Rattle.clap.specs.declared.builder.value_parser.ValueParser.TheVariants as vp
+use Rattle.par2_words.specs.declared.definition.Argument.{Argument}
+use Rattle.par2_words.specs.declared.definition.Argument.TheVariants.{Base, Count, Files, First, Overwrite, Purge, Slice}
 
 -- an option with a number
 abbrev pub number_rule : Text → ℕ → ValueParser → Rule
@@ -43,6 +46,24 @@ base_rule = record (new_rule (codes "base")) { action = Some Set; required = tru
 abbrev pub files_rule : Rule
 files_rule = record (new_rule (codes "files")) { action = Some Append }
 
+-- what an argument of the table stands for
+abbrev pub rule_for : Argument → Rule
+rule_for Slice = slice_rule
+rule_for Count = count_rule
+rule_for First = first_rule
+rule_for Overwrite = overwrite_rule
+rule_for Purge = purge_rule
+rule_for Base = base_rule
+rule_for Files = files_rule
+
+-- a command with these arguments alone
+abbrev pub plain_app : Text → List Rule → App
+plain_app name rules = record (new_app name) { top = record (new_app name).top { rules = rules } }
+
+-- what a subcommand of the table stands for
+abbrev pub shape_for : Bor Text × Bor (List Argument) → Shape
+shape_for row = (plain_app row.0.now (map rule_for row.1.now)).top
+
 unfoldable pub create_app : App
 create_app = with_rule (with_rule (with_rule (with_rule (with_rule (with_rule (new_app (codes "create"))
     slice_rule) count_rule) first_rule) overwrite_rule) base_rule) files_rule
@@ -60,6 +81,11 @@ unfoldable pub start_app : App
 start_app = record (new_app (codes "par2")) {
   top = record (new_app (codes "par2")).top { no_binary_name = true; disable_help_subcommand = true };
 }
+
+-- the command line with these subcommands
+abbrev pub app_with : List Shape → App
+app_with [] = start_app
+app_with (shape ∷ shapes) = record { top = record start_app.top { is_leaf = false }; subs = shape ∷ shapes }
 
 unfoldable pub par2_app : App
 par2_app = with_subcommand (with_subcommand (with_subcommand (with_subcommand (with_subcommand (with_subcommand start_app

@@ -1,11 +1,34 @@
 //! The command line of `par2`.
-ghost use Rattle.clap.specs.Words.{App, Rule, with_rule, with_subcommand};
-ghost use Rattle.par2_words.specs.Definition.{Defines, IsApp, IsArg, base_rule, create_app, files_rule, number_rule, overwrite_rule, par2_app, purge_rule, start_app};
+ghost use Rattle.std.specs.Prelude.{map};
+ghost use Rattle.clap.specs.Words.{App, with_subcommand};
+ghost use Rattle.par2_words.specs.Definition.{Defines, IsApp, IsArg, app_with, number_rule, par2_app, plain_app, rule_for, shape_for, start_app};
 
+use Argument::*;
 use clap::builder::ValueParser;
 use clap::{Arg, ArgAction, Command, value_parser};
 use par2_spec::Result;
 use std::alloc::Global;
+
+// An argument of a subcommand.
+enum Argument {
+    Slice,
+    Count,
+    First,
+    Overwrite,
+    Purge,
+    Base,
+    Files,
+}
+
+// The subcommands, each with its arguments.
+const SUBCOMMANDS: [(&str, &[Argument]); 6] = [
+    ("create", &[Slice, Count, First, Overwrite, Base, Files]),
+    ("verify", &[Base, Files]),
+    ("repair", &[Purge, Base, Files]),
+    ("purge", &[Base]),
+    ("undo", &[]),
+    ("redo", &[]),
+];
 
 // A number behind a letter.
 fn number_arg<'a>(alloc: Global, id: &'a str, short: char, parser: ValueParser<'a>) -> Arg<'a>
@@ -17,75 +40,46 @@ fn number_arg<'a>(alloc: Global, id: &'a str, short: char, parser: ValueParser<'
         .value_parser(parser)
 }
 
-fn base_arg<'a>(alloc: Global) -> Arg<'a>
-    ensures { IsArg result base_rule }
+fn arg_of<'a>(alloc: Global, argument: &Argument) -> Arg<'a>
+    ensures { IsArg result (rule_for argument.now) }
 {
-    Arg::new(alloc, "base")
-        .action(ArgAction::Set)
-        .required(true)
-}
-
-fn files_arg<'a>(alloc: Global) -> Arg<'a>
-    ensures { IsArg result files_rule }
-{
-    Arg::new(alloc, "files").action(ArgAction::Append)
-}
-
-fn overwrite_arg<'a>(alloc: Global) -> Arg<'a>
-    ensures { IsArg result overwrite_rule }
-{
-    Arg::new(alloc, "overwrite")
-        .long("overwrite")
-        .action(ArgAction::SetTrue)
-}
-
-fn purge_arg<'a>(alloc: Global) -> Arg<'a>
-    ensures { IsArg result purge_rule }
-{
-    Arg::new(alloc, "purge")
-        .short('p')
-        .action(ArgAction::SetTrue)
-}
-
-// A command that is being defined, as long as there is memory. The calls below pass a failure on, since a function that
-// holds several commands is dear to prove at each `?`.
-type Definition<'a> = Result<Command<'a>>;
-
-fn with_arg<'a>(command: Definition<'a>, arg: Arg<'a>) -> Definition<'a>
-    ensures { (app : App) (rule : Rule) → Defines command.entry app → IsArg arg.entry rule
-        → Defines result (with_rule app rule) }
-{
-    match command {
-        Ok(command) => command.arg(arg),
-        Err(fault) => Err(fault),
+    match argument {
+        Slice => number_arg(alloc, "slice", 's', value_parser!(u64)).required(true),
+        Count => number_arg(alloc, "count", 'c', value_parser!(u32)).required(true),
+        First => number_arg(alloc, "first", 'f', value_parser!(u32)).default_value("0"),
+        Overwrite => Arg::new(alloc, "overwrite")
+            .long("overwrite")
+            .action(ArgAction::SetTrue),
+        Purge => Arg::new(alloc, "purge")
+            .short('p')
+            .action(ArgAction::SetTrue),
+        Base => Arg::new(alloc, "base")
+            .action(ArgAction::Set)
+            .required(true),
+        Files => Arg::new(alloc, "files").action(ArgAction::Append),
     }
 }
 
-fn with_command<'a>(command: Definition<'a>, subcommand: Definition<'a>) -> Definition<'a>
-    ensures { (app other : App) → Defines command.entry app → Defines subcommand.entry other
+fn command_of<'a>(alloc: Global, name: &'a str, arguments: &[Argument]) -> Result<Command<'a>>
+    ensures { Defines result (plain_app name.entry.now (map rule_for arguments.now)) }
+{
+    let mut command = Command::new(alloc, name);
+    for argument in arguments {
+        command = command.arg(arg_of(alloc, argument))?;
+    }
+    Ok(command)
+}
+
+// The command with a subcommand, as long as there is memory. By a `match`, since a `?` is dear to prove where a command
+// is held.
+fn with_command<'a>(command: Command<'a>, subcommand: Result<Command<'a>>) -> Result<Command<'a>>
+    ensures { (app other : App) → IsApp command.entry app → Defines subcommand.entry other
         → Defines result (with_subcommand app other.top) }
 {
-    let subcommand = subcommand?;
-    command?.subcommand(subcommand)
-}
-
-// The command with its base and its files.
-fn with_files<'a>(alloc: Global, command: Definition<'a>) -> Definition<'a>
-    ensures { (app : App) → Defines command.entry app
-        → Defines result (with_rule (with_rule app base_rule) files_rule) }
-{
-    with_arg(with_arg(command, base_arg(alloc)), files_arg(alloc))
-}
-
-fn create_command<'a>(alloc: Global) -> Definition<'a>
-    ensures { Defines result create_app }
-{
-    let slice = number_arg(alloc, "slice", 's', value_parser!(u64)).required(true);
-    let count = number_arg(alloc, "count", 'c', value_parser!(u32)).required(true);
-    let first = number_arg(alloc, "first", 'f', value_parser!(u32)).default_value("0");
-    let command = with_arg(Ok(Command::new(alloc, "create")), slice);
-    let command = with_arg(with_arg(command, count), first);
-    with_files(alloc, with_arg(command, overwrite_arg(alloc)))
+    match subcommand {
+        Ok(subcommand) => command.subcommand(subcommand),
+        Err(fault) => Err(fault),
+    }
 }
 
 fn start_command<'a>(alloc: Global) -> Command<'a>
@@ -96,17 +90,19 @@ fn start_command<'a>(alloc: Global) -> Command<'a>
         .disable_help_subcommand(true)
 }
 
+fn command_line<'a>(alloc: Global, subcommands: &[(&'a str, &[Argument])]) -> Result<Command<'a>>
+    ensures { Defines result (app_with (map shape_for subcommands.now)) }
+{
+    let mut command = start_command(alloc);
+    for (name, arguments) in subcommands {
+        command = with_command(command, command_of(alloc, name, arguments))?;
+    }
+    Ok(command)
+}
+
 /// The command line with its six commands, as clap takes it.
 pub(crate) fn par2_command<'a>(alloc: Global) -> Result<Command<'a>>
     ensures { Defines result par2_app }
 {
-    let command = with_command(Ok(start_command(alloc)), create_command(alloc));
-    let verify = Ok(Command::new(alloc, "verify"));
-    let command = with_command(command, with_files(alloc, verify));
-    let repair = with_arg(Ok(Command::new(alloc, "repair")), purge_arg(alloc));
-    let command = with_command(command, with_files(alloc, repair));
-    let purge = with_arg(Ok(Command::new(alloc, "purge")), base_arg(alloc));
-    let command = with_command(command, purge);
-    let command = with_command(command, Ok(Command::new(alloc, "undo")));
-    with_command(command, Ok(Command::new(alloc, "redo")))
+    command_line(alloc, &SUBCOMMANDS)
 }

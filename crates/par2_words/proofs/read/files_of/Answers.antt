@@ -1,5 +1,4 @@
-use Rattle.par2_words.proofs.Common.{◌∙◌, ap, map, codes, rules, Bor, Text, found_of}
-use Rattle.std.proofs.lemmas.List.{take_all}
+use Rattle.par2_words.proofs.Common.{◌∙◌, ap, map, codes, rules, Bor, Text, found_of, take_all}
 
 pub returns : Rattle.par2_words.proofs.read.files_of.Goals.returns
 returns c = c.loop-text.invariant ∙ ap (map (λ (v : Bor Text). v.now)) (take_all c.loop-text.text-index c.unwrap_or-texts.result.now c.loop-text-test.false)
