@@ -1,9 +1,6 @@
-use Rattle.par2_transform.proofs.Common.{◌≡◌, ◌∙◌, ℕ, List, ap, length, rules, with_items_is}
+use Rattle.par2_transform.proofs.Common.{rules}
+use Rattle.par2_transform.proofs.GridLaws.{kept_rows}
 use Rattle.par2_transform.proofs.rows.Rows.clear.Goals as goal
 
 pub invariant_of-self : goal.invariant_of-self
-invariant_of-self c =
-    let inside = c.self.inside in
-    let size : length c.clear.new.bytes ≡ inside.bytes.len = search rules in
-    let same = ap (λ (xs : List ℕ). length xs) (with_items_is inside.bytes c.clear.new.bytes size) ∙ c.clear.ensures.size ∙ ap (λ (xs : List ℕ). length xs) c.as_mut_slice.ensures.value in
-    (record { few = c.self.invariant.0.few; count = same ∙ c.self.invariant.0.count }, c.self.invariant.1)
+invariant_of-self c = (kept_rows c.self.inside.levels c.self.inside.words c.self.inside.bytes c.as_mut_slice.result.now c.clear.new.bytes c.self.invariant.0 c.as_mut_slice.ensures.value c.clear.ensures.size (search rules), c.self.invariant.1)
