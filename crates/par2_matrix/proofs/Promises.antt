@@ -1,5 +1,5 @@
 -- What the contracts promise, of reduced systems.
-use Rattle.par2_matrix.proofs.Common.{ℕ, suc, ◌+◌, ◌*◌, ◌<◌, ◌≡◌, ◌↔◌, refl, sym, ap, ◌∙◌, subst, arith, List, [], ◌∷◌, length, get_or, map, true, false, suc-ne-zero, false≢true, ext_get_or, get_or-map-range_with_len, length-map-range_with_len, AllByRecursion, range_with_len, word, dot, IsVector, Equations, rank, no_equations, IsKilled, AreTexts, CutDown, IsIndependent, IsDependent, IsUndetermined, OnlyZeroIsKilled, IsTheSolution, Echelon, echelon, Vanishes, IsReduced, system_of, Spells, AllEmpty, row_sum, AreElements, list_at, bytes_at, word-lt, combination_words, same_texts, field_sum_same, row_sum-lt, all_at, all_from, common_steps, equations}
+use Rattle.par2_matrix.proofs.Common.{ℕ, suc, ◌+◌, ◌*◌, ◌<◌, ◌≡◌, ◌↔◌, refl, sym, ap, ◌∙◌, subst, arith, List, [], ◌∷◌, length, get_or, map, true, false, suc-ne-zero, false≢true, ext_get_or, get_or-map-range_with_len, length-map-range_with_len, AllByRecursion, range_with_len, word, dot, IsVector, Equations, rank, no_equations, IsKilled, AreTexts, CutDown, IsIndependent, IsDependent, IsUndetermined, OnlyZeroIsKilled, IsTheSolution, Echelon, echelon, Vanishes, IsReduced, system_of, Spells, AllEmpty, equations, row_sum, AreElements, list_at, bytes_at, word-lt, combination_words, same_texts, field_sum_same, row_sum-lt, all_at, all_from, common_steps}
 use Rattle.par2_matrix.proofs.ReducedSystems.{ToldApart, all_present, unit_row, full_rank, free_vector}
 use Rattle.par2_matrix.proofs.Placing.{Cut}
 use Rattle.par2_matrix.proofs.Views.{elements_of, dot_spelled, rank_view, kills_view, solves_view, words_at, words_are_elements, words_by_elements}

@@ -1,5 +1,5 @@
 -- What a reduced system kills and what solves it.
-use Rattle.par2_matrix.proofs.Common.{ℕ, zero, suc, ◌+◌, ◌<◌, ◌≤◌, ◌≡◌, ◌≢◌, ◌⊎◌, ◌↔◌, inl, inr, refl, sym, ap, ap₂, ◌∙◌, subst, arith, List, length, bit_xor, cond, eqb, cases_eq, cases_lt, eq-eqb, ne_eqb, cond-true, cond-false, suc-ne-zero, xor_self, mul, word, product_comm, product-one, product-zero, zero-product, Echelon, Vanishes, IsReduced, row_sum, AreElements, list_at, word_empty, field_sum_one, field_sum_two, row_sum_empty, row_sum_unit, by_either, count_present}
+use Rattle.par2_matrix.proofs.Common.{ℕ, zero, suc, ◌+◌, ◌<◌, ◌≤◌, ◌≡◌, ◌≢◌, ◌⊎◌, ◌↔◌, inl, inr, refl, sym, ap, ap₂, ◌∙◌, subst, arith, List, length, bit_xor, cond, eqb, cases_eq, cases_lt, eq-eqb, ne_eqb, cond-true, cond-false, suc-ne-zero, xor_self, mul, word, product_comm, product-one, product-zero, zero-product, Echelon, Vanishes, IsReduced, count_present, row_sum, AreElements, list_at, word_empty, field_sum_one, field_sum_two, row_sum_empty, row_sum_unit, by_either}
 
 -- a vector that the equations send to 0 and the row doesn't
 pub record ToldApart (s : Echelon) (row : List ℕ) : Type 0 where

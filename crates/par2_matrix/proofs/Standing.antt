@@ -1,5 +1,5 @@
 -- The system with the new equation is reduced again, and the texts of a full system.
-use Rattle.par2_matrix.proofs.Common.{ℕ, zero, suc, ◌+◌, ◌*◌, ◌%◌, ◌<◌, ◌≤◌, ◌≡◌, ◌≢◌, inl, inr, refl, sym, ap, ap₂, ◌∙◌, subst, arith, List, [], length, get_or, bit_xor, cond, eqb, cases_eq, cases_lt, eq-eqb, ne_eqb, get_or_past, xor_self, mul, word, product-one, product-lt, product-zero, Echelon, echelon, IsReduced, AllEmpty, list_at, word_past, word_empty, word-lt, by_either, count_present}
+use Rattle.par2_matrix.proofs.Common.{ℕ, zero, suc, ◌+◌, ◌*◌, ◌%◌, ◌<◌, ◌≤◌, ◌≡◌, ◌≢◌, inl, inr, refl, sym, ap, ap₂, ◌∙◌, subst, arith, List, [], length, get_or, bit_xor, cond, eqb, cases_eq, cases_lt, eq-eqb, ne_eqb, get_or_past, xor_self, mul, word, product-one, product-lt, product-zero, Echelon, echelon, IsReduced, AllEmpty, count_present, list_at, word_past, word_empty, word-lt, by_either}
 use Rattle.std.proofs.lemmas.Nat.{xor_lt}
 use Rattle.par2_matrix.proofs.ReducedSystems.{present_at_most}
 use Rattle.par2_matrix.proofs.Placing.{Placed, entry}

@@ -1,5 +1,5 @@
 -- From the lists of the contracts to what the reduced form says of functions, and back.
-use Rattle.par2_matrix.proofs.Common.{ℕ, zero, suc, ◌+◌, ◌*◌, ◌/◌, ◌<◌, ◌≡◌, ◌↔◌, inl, inr, refl, sym, ap, ◌∙◌, subst, arith, List, [], ◌∷◌, length, get_or, map, cond, eqb, cases_lt, ne_eqb, get_or-map, get_or-map-range_with_len, length-map-range_with_len, AllByRecursion, mul, word, words, dot, combination, IsVector, Equations, IsKilled, Solves, AreTexts, Echelon, Vanishes, Meets, IsReduced, system_of, Spells, row_sum, AreElements, list_at, all_at, bytes_at, word_empty, word-lt, combination_words, field_sum_same, row_sum_empty, row_sum-lt, dot_sum, product_at, by_either, equations, count_present}
+use Rattle.par2_matrix.proofs.Common.{ℕ, zero, suc, ◌+◌, ◌*◌, ◌/◌, ◌<◌, ◌≡◌, ◌↔◌, inl, inr, refl, sym, ap, ◌∙◌, subst, arith, List, [], ◌∷◌, length, get_or, map, cond, eqb, cases_lt, ne_eqb, get_or-map, get_or-map-range_with_len, length-map-range_with_len, AllByRecursion, mul, word, words, dot, combination, IsVector, Equations, IsKilled, Solves, AreTexts, Echelon, Vanishes, Meets, IsReduced, system_of, Spells, equations, count_present, row_sum, AreElements, list_at, all_at, bytes_at, word_empty, word-lt, combination_words, field_sum_same, row_sum_empty, row_sum-lt, dot_sum, product_at, by_either}
 
 -- ---- sums
 

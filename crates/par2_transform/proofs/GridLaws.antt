@@ -1,5 +1,5 @@
 -- Rows and their columns.
-use Rattle.par2_transform.proofs.Common.{ℕ, suc, ◌+◌, ◌-◌, ◌*◌, ◌^◌, ◌<◌, ◌≤◌, ◌≡◌, ◌⊎◌, inl, inr, refl, sym, ap, ap₂, ◌∙◌, subst, List, length, get_or, bit_xor, arith, add-mul, one-mul, xor_zero_r, cases_eq, cases_lt, get_or_past, word, within, AddsTo, Grid, column, AreRows, IsAdded, EachColumn, RunAddedBy}
+use Rattle.par2_transform.proofs.Common.{ℕ, suc, ◌+◌, ◌-◌, ◌*◌, ◌^◌, ◌<◌, ◌≤◌, ◌≡◌, ◌⊎◌, inl, inr, refl, sym, ap, ap₂, ◌∙◌, subst, List, length, get_or, bit_xor, arith, add-mul, one-mul, xor_zero_r, cases_eq, cases_lt, get_or_past, word, within, AddsTo, Grid, column, AreRows, IsAdded, EachColumn, RunAddedBy, Vec, Global, with_items, with_items_is}
 use Rattle.std.proofs.Common.{mul-le-mul_right}
 use Rattle.par2_transform.proofs.AddingLaws.{within-in, within-below, within-above, within_same}
 
@@ -144,3 +144,7 @@ zero_column grid zeros c u = elim (cases_lt c grid.words) [
   | inl low ↦ within-in 0 grid.words c (word (u * grid.words + c) grid.bytes) (omega arith) low ∙ ap₂ (λ x y. x + 256 * y) (zeros (2 * (u * grid.words + c))) (zeros (2 * (u * grid.words + c) + 1))
   | inr high ↦ within-above 0 grid.words c (word (u * grid.words + c) grid.bytes) high
 ]
+
+-- rows whose bytes are written stay as many rows
+pub kept_rows : (levels words : ℕ) (v : Vec ℕ Global) (old new : List ℕ) → AreRows levels words v.items → old ≡ v.items → length new ≡ length old → length new ≡ v.len → AreRows levels words (with_items v new).items
+kept_rows levels words v old new are is same size = record { few = are.few; count = ap length (with_items_is v new size) ∙ same ∙ ap length is ∙ are.count }

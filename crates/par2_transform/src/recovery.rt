@@ -64,29 +64,8 @@ impl<'a> Windows<'a> {
     }
 }
 
-// To output t, adds the recovery slice of exponent `first + t`, all of them together.
-fn add_together(
-    alloc: Global,
-    gf: &Gf,
-    slices: &[&[u8]],
-    first: u32,
-    texts: &mut [Vec<u8>],
-    outputs: &Places,
-    room: usize,
-) -> Result<(), AllocError>
-    requires slices { length slices.now ≤ 32768 }
-    requires exponents { first + length outputs.now.places.now ≤ 2 ^ 32 }
-    requires room { LieWithin outputs.now.words outputs.now.places.now (lists_of texts.old) }
-    ensures { IfOk result (λ _. AddsAt outputs.now.places.now outputs.now.words
-        (λ t p. recovered (texts_of slices.now) (first + t) p)
-        (lists_of texts.old) (lists_of texts.new)) }
-{
-    let count = outputs.len();
-    let windows = Windows::new(alloc, gf, slices, outputs.words, first, count, room)?;
-    windows.add_words(alloc, texts, outputs)
-}
-
-// The same to the outputs from one number up to another.
+// To the outputs from one number up to another, adds their recovery slices, all of them together: to output t that of
+// exponent `first + t`.
 fn add_group(
     alloc: Global,
     gf: &Gf,
@@ -107,7 +86,9 @@ fn add_group(
         (lists_of texts.old) (lists_of texts.new)) }
 {
     let group = outputs.part(from, to);
-    add_together(alloc, gf, slices, first + from as u32, texts, &group, room)
+    let first = first + from as u32;
+    let windows = Windows::new(alloc, gf, slices, outputs.words, first, to - from, room)?;
+    windows.add_words(alloc, texts, &group)
 }
 
 /// To output t, adds the recovery slice of exponent `first + t` over these slices. Zeros follow a slice that is shorter, so

@@ -3,7 +3,7 @@
 ghost use Rattle.std.specs.Prelude.{◌≡◌, ℕ, ◌+◌, ◌-◌, ◌*◌, ◌^◌, ◌<◌, ◌≤◌, length, IfOk};
 ghost use Rattle.par2_spec.specs.Sums.{field_sum, lists_of};
 ghost use Rattle.par2_transform.specs.Adding.{within, AddsAt, LieWithin};
-ghost use Rattle.par2_transform.specs.Blocks.{AreBlocks, AreCoefficients, AreWindowValues, EachBlock, GathersWindow, HaveShape, IsGathered, class_sum_at};
+ghost use Rattle.par2_transform.specs.Blocks.{AreBlocks, AreCoefficients, EachBlock, GathersWindow, HaveShape, IsGathered, class_sum_at};
 ghost use Rattle.par2_transform.specs.Chirps.{chirp_inverse, AreInverses};
 ghost use Rattle.par2_transform.specs.Columns.{texts_of, words_at, recovered, AreBytes};
 ghost use Rattle.par2_transform.specs.Grids.{IsAdded};
@@ -112,19 +112,7 @@ impl<'a> Windows<'a> {
         }
     }
 
-    // Makes the rows the values of window a of class r at the points.
-    fn evaluate(&self, r: usize, a: usize, from: usize, rows: &mut Rows)
-        requires class { r < self.now.plan.classes }
-        requires window { a < self.now.plan.windows }
-        requires levels { rows.old.levels ≡ self.now.plan.levels }
-        ensures { AreWindowValues (cut_of self.now.plan) self.now.slices r a from
-            rows.old rows.new }
-    {
-        self.fill(r, a, from, rows);
-        values_at_points(self.gf, rows);
-    }
-
-    // Gathers window a of class r in all blocks.
+    // Gathers the values of window a of class r at the points in all blocks.
     fn gather_window(&self, r: usize, a: usize, from: usize, rows: &mut Rows, blocks: &mut [Block])
         requires class { r < self.now.plan.classes }
         requires window { a < self.now.plan.windows }
@@ -136,7 +124,8 @@ impl<'a> Windows<'a> {
         ensures gathered { EachBlock
             (GathersWindow (cut_of self.now.plan) self.now.slices r a from) blocks.old blocks.new }
     {
-        self.evaluate(r, a, from, rows);
+        self.fill(r, a, from, rows);
+        values_at_points(self.gf, rows);
         gather_all(self.gf, a, rows, blocks);
     }
 

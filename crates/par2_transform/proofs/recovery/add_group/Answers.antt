@@ -1,19 +1,17 @@
-use Rattle.par2_transform.proofs.Common.{◌≤◌, ◌+◌, ℕ, List, length, sym, ap, subst, arith, add_assoc, IfOk-weaker, lists_of, AddsAt, LieWithin, texts_of, recovered, Place}
+use Rattle.par2_transform.proofs.Common.{◌≤◌, ◌+◌, ℕ, List, length, sym, ap, ap₂, ◌∙◌, subst, arith, add_assoc, IfOk-weaker, lists_of, AddsAt, LieWithin, texts_of, recovered, Place}
 use Rattle.par2_transform.proofs.AddingLaws.{adds_same}
 use Rattle.par2_transform.proofs.GroupLaws.{group_of, length-group, group_within, adds_to_group}
 use Rattle.par2_transform.proofs.recovery.add_group.Goals as goal
 
-pub add_together-requires-clause-exponents : goal.add_together-requires-clause-exponents
-add_together-requires-clause-exponents c =
-    let group = c.requires.group in
-    let order : c.args.from ≤ c.args.to = (let h = group.0 in omega (arith, h)) in
-    let size = length-group c.args.from c.args.to c.args.outputs.now.places.now order group.1 in
+pub add_words-requires-clause-exponents : goal.add_words-requires-clause-exponents
+add_words-requires-clause-exponents c =
+    let order : c.args.from ≤ c.args.to = (let h = c.requires.group.0 in omega (arith, h)) in
+    let size = length-group c.args.from c.args.to c.args.outputs.now.places.now order c.requires.group.1 in
     let same = ap (λ (places : List Place). length places) c.part-group.ensures.places in
-    let fits = group.1 in
-    omega (arith, same, size, order, fits, c.requires.exponents)
+    omega (arith, same, size, order, c.requires.group.1, c.requires.exponents, c.in_ok-windows.ensures.first)
 
-pub add_together-requires-clause-room : goal.add_together-requires-clause-room
-add_together-requires-clause-room c =
+pub add_words-requires-clause-room : goal.add_words-requires-clause-room
+add_words-requires-clause-room c =
     let from = c.args.from in
     let to = c.args.to in
     let texts = lists_of c.args.texts.now in
@@ -28,19 +26,20 @@ returns c =
     let from = c.args.from in
     let to = c.args.to in
     let was = lists_of c.args.texts.now in
-    let new = lists_of c.add_together.new.texts in
+    let new = lists_of c.add_words.new.texts in
     let slices = texts_of c.args.slices.now in
     let first = c.args.first in
     let group = c.part-group.result in
+    let windows = c.in_ok-windows.windows in
     let all : List Place = c.args.outputs.now.places.now in
     let words : ℕ = c.args.outputs.now.words in
     let order : from ≤ to = (let h = c.requires.group.0 in omega (arith, h)) in
-    let given = λ (t p : ℕ). recovered slices (first + from + t) p in
-    IfOk-weaker c.add_together.result (λ _. AddsAt group.places.now group.words given was new) _
+    let given = λ (t p : ℕ). recovered windows.slices (windows.first + t) p in
+    IfOk-weaker c.add_words.result (λ _. AddsAt group.places.now group.words given was new) _
     (λ _ added.
     adds_to_group from to words (λ t p. recovered slices (first + t) p) all was new order c.requires.group.1 c.args.outputs.now.apart
     (adds_same (group_of from to all) words given (λ t p. recovered slices (first + (from + t)) p) was new
     (subst (λ (places : List Place). AddsAt places words given was new) c.part-group.ensures.places
     (subst (λ (n : ℕ). AddsAt group.places.now n given was new) c.part-group.ensures.words added))
-    (λ t p h room. ap (λ (n : ℕ). recovered slices n p) (add_assoc first from t))))
-    c.add_together.ensures
+    (λ t p h room. ap₂ (λ (xs : List (List ℕ)) (n : ℕ). recovered xs n p) c.in_ok-windows.ensures.slices (ap (λ n. n + t) c.in_ok-windows.ensures.first ∙ add_assoc first from t))))
+    c.add_words.ensures

@@ -1,5 +1,5 @@
 use Rattle.par2_transform.proofs.Common.{rules, ◌≡◌, ◌+◌, ◌-◌, ◌*◌, ◌^◌, ◌<◌, ◌∙◌, ap, sym, subst, List, ℕ, length, refl, bit_xor, with_items_is, mul, word, within, AddsTo, Grid, column, IsAdded}
-use Rattle.par2_transform.proofs.GridLaws.{row_added}
+use Rattle.par2_transform.proofs.GridLaws.{row_added, kept_rows}
 use Rattle.par2_transform.proofs.rows.Rows.add_other.Goals as goal
 
 pub returns : goal.returns
@@ -22,3 +22,6 @@ returns c =
     rw (← c.self.view_is)
     (subst (λ (xs : List ℕ). IsAdded (record { levels = inside.levels; words = inside.words; bytes = old }) (record { levels = inside.levels; words = inside.words; bytes = xs }) c.args.to (λ k. mul c.args.factor.now (column c.args.other.now k c.args.from))) (sym (with_items_is inside.bytes new size))
     (record { levels = refl; words = refl; others = all.others; here = λ k h. all.here k h ∙ ap (λ v. bit_xor (column (record { levels = inside.levels; words = inside.words; bytes = old }) k c.args.to) (mul c.args.factor.now v)) (same k h) }))
+
+pub invariant_of-self : goal.invariant_of-self
+invariant_of-self c = (kept_rows c.self.inside.levels c.self.inside.words c.self.inside.bytes c.as_mut_slice.result.now c.add_products.new.text c.self.invariant.0 c.as_mut_slice.ensures.value c.add_products.ensures.same_length (search rules), c.self.invariant.1)

@@ -1,5 +1,5 @@
 use Rattle.par2_transform.proofs.Common.{rules, arith, ◌≡◌, ◌+◌, ◌-◌, ◌*◌, ◌^◌, ◌≤◌, ◌∙◌, ap, sym, subst, List, ℕ, length, with_items_is, word, within, AddsTo, Grid, EachColumn, RunAdded}
-use Rattle.par2_transform.proofs.GridLaws.{rows_fit, rows_apart, run_added_at}
+use Rattle.par2_transform.proofs.GridLaws.{rows_fit, rows_apart, run_added_at, kept_rows}
 use Rattle.par2_transform.proofs.rows.Rows.add_rows.Goals as goal
 
 pub add_words_within-requires-clause-from : goal.add_words_within-requires-clause-from
@@ -37,3 +37,6 @@ returns c =
     (run_added_at (λ v. v) inside.levels inside.words c.args.from c.args.to c.args.count c.place-from.result c.place-to.result c.place-count.result old new c.self.invariant.0
     (subst (λ (g : Grid). c.args.to + c.args.count ≤ 2 ^ g.levels) view c.requires.to)
     (c.place-from.ensures ∙ ap (λ (g : Grid). c.args.from * g.words) view) (c.place-to.ensures ∙ ap (λ (g : Grid). c.args.to * g.words) view) (c.place-count.ensures ∙ ap (λ (g : Grid). c.args.count * g.words) view) added))
+
+pub invariant_of-self : goal.invariant_of-self
+invariant_of-self c = (kept_rows c.self.inside.levels c.self.inside.words c.self.inside.bytes c.as_mut_slice.result.now c.add_words_within.new.text c.self.invariant.0 c.as_mut_slice.ensures.value c.add_words_within.ensures.same_length (search rules), c.self.invariant.1)
