@@ -137,10 +137,14 @@ inverse_is a i h ha ea =
       only = λ c hc e. one_inverse a c (pow 2 (65535 - i)) ha hc (power-lt 2 (65535 - i) (omega arith)) e one;
     }
 
+-- where the list of constants unfolds, its length would be computed
+constant_counted : (k : ℕ) → k < 32768 → k < length constant_powers
+constant_counted k h = omega (arith, length-constant_powers)
+
 pub constant_is : (constants : List ℕ) (k : ℕ) → constants ≡ map (pow 2) constant_powers → k < 32768 → get_or constants k 0 ≡ constant k
 unfolding constant
 constant_is constants k e h =
-    ap (λ xs. get_or xs k 0) e ∙ get_or-map (pow 2) constant_powers k 0 0 (omega (arith, length-constant_powers))
+    ap (λ xs. get_or xs k 0) e ∙ get_or-map (pow 2) constant_powers k 0 0 (constant_counted k h)
 
 pub constants_count : (constants : List ℕ) → constants ≡ map (pow 2) constant_powers → length constants ≡ 32768
 constants_count constants e = ap length e ∙ length-map constant_powers (pow 2) ∙ length-constant_powers
