@@ -23,10 +23,8 @@ type Read<'a, T> = Result<(T, &'a [u8]), DecodeFault>;
 fn read_block(bytes: &[u8], len: usize) -> Result<(&[u8], &[u8]), DecodeFault>
     ensures { Gives (λ x. (x.0.now, x.1.now)) result (reads.block_at len bytes.now) }
 {
-    if bytes.len() < len {
-        return Err(DecodeFault::JournalInvalid);
-    }
-    Ok(bytes.split_at(len))
+    let blocks = bytes.split_at_checked(len);
+    blocks.ok_or(DecodeFault::JournalInvalid)
 }
 
 #[tactic(auto, unfolding(crate::specs::Reading::number_at))]
@@ -43,13 +41,10 @@ fn read_number(bytes: &[u8]) -> Result<(u64, &[u8]), DecodeFault>
 fn read_digest(bytes: &[u8]) -> Result<([u8; 16], &[u8]), DecodeFault>
     ensures { Gives (λ x. (x.0, x.1.now)) result (reads.block_at 16 bytes.now) }
 {
-    if bytes.len() < 16 {
+    let Some((digest, rest)) = bytes.split_first_chunk() else {
         return Err(DecodeFault::JournalInvalid);
-    }
-    let (front, rest) = bytes.split_at(16);
-    let mut digest = [0; 16];
-    digest.copy_from_slice(front);
-    Ok((digest, rest))
+    };
+    Ok((*digest, rest))
 }
 
 #[tactic(auto, unfolding(crate::specs::Reading::name_at))]

@@ -1,5 +1,6 @@
 -- Recovery packets, whose MD5s are put in later, and what stands before their slices.
-use Rattle.par2_packets.proofs.Common.{◌≡◌, ℕ, ◌+◌, ◌-◌, ◌*◌, ◌<◌, ◌≤◌, List, [], ◌++◌, length, take, drop, replicate, refl, sym, ap, ap₂, ◌∙◌, subst, append_assoc, append-nil, arith, length-append, w32, w64, to_le_bytes, length-replicate, drop-drop, drop-take, md5, magic, type_of, digest_input, bytes_at, packet, Recovery, overwritten, ArePieces, changed_below, recovery_packet, digested, digest_put, AreDigested, undigested}
+use Rattle.par2_packets.proofs.Common.{◌≡◌, ℕ, ◌+◌, ◌-◌, ◌*◌, ◌<◌, ◌≤◌, List, [], ◌++◌, length, take, drop, replicate, refl, sym, ap, ap₂, ◌∙◌, subst, append_assoc, append-nil, arith, length-append, w32, w64, to_le_bytes, length-replicate, drop-drop, drop-take, md5, magic, type_of, digest_input, bytes_at, packet, overwritten, ArePieces, changed_below, recovery_packet, digested, digest_put, AreDigested, undigested}
+use Rattle.par2_spec.specs.declared.Kind.TheVariants.{Recovery}
 use Rattle.md5.proofs.StandardFacts.{length-md5}
 use Rattle.par2_packets.proofs.Parts.{regrouped}
 use Rattle.par2_packets.proofs.Pieces.{overwritten_front, overwritten_behind, drop_behind, length-overwritten, piece_at, from_on, none_changed, next_changed, all_changed, same_pieces}

@@ -1,6 +1,5 @@
 -- A packet as it is written, part by part.
-use Rattle.par2_packets.proofs.Common.{◌≡◌, ℕ, ◌+◌, List, [], ◌++◌, length, ap, ◌∙◌, append_assoc, arith, length-append, w64, to_le_bytes, md5, magic, type_of, packet}
-use Rattle.std.specs.Prelude.{OnOk, Result, Ok, Err, is_ok, if◌then◌else◌}
+use Rattle.par2_packets.proofs.Common.{◌≡◌, ℕ, ◌+◌, List, [], ◌++◌, length, ap, ◌∙◌, append_assoc, arith, length-append, w64, to_le_bytes, md5, magic, type_of, packet, OnOk, Result, Ok, Err, is_ok, if◌then◌else◌}
 use Rattle.par2_spec.specs.Volumes.{packet_of}
 use Rattle.std.proofs.lemmas.List.{append-nil}
 use Rattle.par2_spec.specs.declared.Kind.{Kind}

@@ -8,7 +8,6 @@ ghost use Rattle.par2_spec.specs.Packets.{packet, digest_input};
 ghost use Rattle.par2_spec.specs.Volumes.{packet_of, main_id, main_bytes, desc_bytes, ifsc_bytes, creator_bytes, recovery_bytes};
 ghost use Rattle.par2_packets.specs.Views.{file_record_of};
 
-use crate::bytes::{u32_bytes, u64_bytes};
 use crate::cursor::MAGIC;
 use crate::kind::type_of;
 use crate::record::FileRecord;
@@ -44,7 +43,7 @@ fn append_packet(
     let digest = packet_digest(set_id, kind, head, tail);
     let len = 64 + head.len() + tail.len();
     out.reserve(len)?;
-    out.extend_from_slice([*MAGIC, u64_bytes(len as u64)].as_flattened())?;
+    out.extend_from_slice([*MAGIC, (len as u64).to_le_bytes()].as_flattened())?;
     out.extend_from_slice([digest, *set_id, type_of(kind)].as_flattened())?;
     out.extend_from_slice(head)?;
     out.extend_from_slice(tail)
@@ -55,8 +54,8 @@ fn append_main_body(body: &mut Vec<u8>, s: u64, files: &[FileRecord]) -> Result<
     requires { length files.now ≤ 32768 }
     ensures { Appends (main_bytes s (map file_record_of files.now)) body.old body.new result }
 {
-    body.extend_from_slice(&u64_bytes(s))?;
-    body.extend_from_slice(&u32_bytes(files.len() as u32))?;
+    body.extend_from_slice(&s.to_le_bytes())?;
+    body.extend_from_slice(&(files.len() as u32).to_le_bytes())?;
     for file in files {
         body.extend_from_slice(&file.id)?;
     }
@@ -81,7 +80,7 @@ fn append_desc_body(body: &mut Vec<u8>, file: &FileRecord) -> Result<()>
     ensures { Appends (desc_bytes (file_record_of file.now)) body.old body.new result }
 {
     body.extend_from_slice([file.id, file.md5, file.md5_16k].as_flattened())?;
-    body.extend_from_slice(&u64_bytes(file.length))?;
+    body.extend_from_slice(&file.length.to_le_bytes())?;
     let name = file.name.as_bytes();
     body.extend_from_slice(name)?;
     body.resize(body.len() + (4 - name.len() % 4) % 4, 0)
@@ -110,7 +109,7 @@ fn append_ifsc_body(body: &mut Vec<u8>, file: &FileRecord) -> Result<()>
     body.extend_from_slice(&file.id)?;
     for (md5, crc) in &file.pairs {
         body.extend_from_slice(md5)?;
-        body.extend_from_slice(&u32_bytes(*crc))?;
+        body.extend_from_slice(&crc.to_le_bytes())?;
     }
     Ok(())
 }
@@ -153,5 +152,5 @@ pub fn append_recovery(
         OnOk result (out.new.items ≡ out.old.items ++ packet added) }
     ensures err { OnErr result (out.new.items ≡ out.old.items) }
 {
-    append_packet(out, set_id, Kind::Recovery, &u32_bytes(e), bytes)
+    append_packet(out, set_id, Kind::Recovery, &e.to_le_bytes(), bytes)
 }

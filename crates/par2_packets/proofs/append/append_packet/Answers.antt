@@ -1,4 +1,4 @@
-use Rattle.par2_packets.proofs.Common.{◌≡◌, ◌++◌, ◌∙◌, ◌+◌, [], List, ℕ, length, ap, ap₂, w64, to_le_bytes, magic}
+use Rattle.par2_packets.proofs.Common.{◌++◌, ◌∙◌, ◌+◌, [], List, ℕ, length, ap, ap₂, w64, to_le_bytes, magic}
 use Rattle.par2_packets.proofs.Parts.{appended, packet_in_parts}
 use Rattle.par2_packets.proofs.append.append_packet.Goals as goal
 
@@ -9,7 +9,7 @@ returns-clause-ok c =
     let a = c.args.head.now in
     let b = c.args.tail.now in
     let claimed : List ℕ = to_le_bytes w64 (64 + length a + length b) in
-    let claim = c.in_ok-extend_from_slice.ensures.items ∙ ap₂ (λ (xs n : List ℕ). xs ++ (magic ++ (n ++ []))) c.in_ok-reserve.ensures.items c.u64_bytes.ensures in
+    let claim = c.in_ok-extend_from_slice.ensures.items ∙ ap₂ (λ (xs n : List ℕ). xs ++ (magic ++ (n ++ []))) c.in_ok-reserve.ensures.items c.to_le_bytes.ensures in
     let header = c.in_ok-extend_from_slice-2.ensures.items ∙ ap (λ (xs : List ℕ). xs ++ (c.packet_digest.result ++ (s ++ (c.type_of.result ++ [])))) claim in
     let is = c.in_ok-extend_from_slice-3.ensures.items ∙ ap (λ (xs : List ℕ). xs ++ a) header in
     appended c.extend_from_slice-4.result c.extend_from_slice-4.new.self.items c.extend_from_slice-3.new.self.items b _ c.extend_from_slice-4.ensures.items
