@@ -122,7 +122,7 @@ fn append_halfway(out: &mut Vec<u8>, halfway: Option<&HalfwayPartView<'_>>) -> R
 // The bytes of the journal with these parts as far as its entries go.
 #[tactic(auto, unfolding(crate::specs::Fronts::front_bytes))]
 fn append_front(out: &mut Vec<u8>, parts: &JournalView<'_>) -> Result<()>
-    requires cursor { parts.now.cursor ≤ length parts.now.entries.now + length parts.now.newer.now }
+    requires cursor { let p = parts.now in p.cursor ≤ length p.entries.now + length p.newer.now }
     requires empty { out.old.items ≡ [] }
     ensures { OnOk result (Begins out.new.items (journal_from parts.now)) }
 {
