@@ -160,7 +160,8 @@ impl<'a> Cursor<'a> {
         ensures digest { result ≡ md5 bytes.now }
         ensures kept { rest_of self.new ≡ rest_of self.old }
     {
-        match self.longest {
+        let known = self.longest;
+        match known {
             Some(longest) if longest.bytes == bytes => longest.digest,
             Some(longest) if longest.bytes.len() >= bytes.len() => Md5::digest(bytes),
             _ => {

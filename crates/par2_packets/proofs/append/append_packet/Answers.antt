@@ -9,8 +9,9 @@ returns-clause-ok c =
     let a = c.args.head.now in
     let b = c.args.tail.now in
     let claimed : List ℕ = to_le_bytes w64 (64 + length a + length b) in
-    let claim = c.in_ok-extend_from_slice.ensures.items ∙ ap₂ (λ (xs n : List ℕ). xs ++ (magic ++ (n ++ []))) c.in_ok-reserve.ensures.items c.to_le_bytes.ensures in
-    let header = c.in_ok-extend_from_slice-2.ensures.items ∙ ap (λ (xs : List ℕ). xs ++ (c.packet_digest.result ++ (s ++ (c.type_of.result ++ [])))) claim in
+    let both = λ (xs ys : List ℕ). xs ++ ys in
+    let claim = c.in_ok-extend_from_slice.ensures.items ∙ ap₂ both c.in_ok-reserve.ensures.items c.as_flattened.ensures.value ∙ ap (λ (n : List ℕ). text ++ (magic ++ (n ++ []))) c.to_le_bytes.ensures in
+    let header = c.in_ok-extend_from_slice-2.ensures.items ∙ ap₂ both claim c.as_flattened-2.ensures.value in
     let is = c.in_ok-extend_from_slice-3.ensures.items ∙ ap (λ (xs : List ℕ). xs ++ a) header in
     appended c.extend_from_slice-4.result c.extend_from_slice-4.new.self.items c.extend_from_slice-3.new.self.items b _ c.extend_from_slice-4.ensures.items
     (ap (λ (xs : List ℕ). xs ++ b) is ∙ ap₂ (λ (d k : List ℕ). (((text ++ (magic ++ (claimed ++ []))) ++ (d ++ (s ++ (k ++ [])))) ++ a) ++ b) c.packet_digest.ensures c.type_of.ensures ∙ packet_in_parts text s a b c.args.kind)
