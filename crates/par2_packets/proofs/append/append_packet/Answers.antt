@@ -14,4 +14,4 @@ returns-clause-ok c =
     let header = c.in_ok-extend_from_slice-2.ensures.items ∙ ap₂ both claim c.as_flattened-2.ensures.value in
     let is = c.in_ok-extend_from_slice-3.ensures.items ∙ ap (λ (xs : List ℕ). xs ++ a) header in
     appended c.extend_from_slice-4.result c.extend_from_slice-4.new.self.items c.extend_from_slice-3.new.self.items b _ c.extend_from_slice-4.ensures.items
-    (ap (λ (xs : List ℕ). xs ++ b) is ∙ ap₂ (λ (d k : List ℕ). (((text ++ (magic ++ (claimed ++ []))) ++ (d ++ (s ++ (k ++ [])))) ++ a) ++ b) c.packet_digest.ensures c.type_of.ensures ∙ packet_in_parts text s a b c.args.kind)
+    (ap (λ (xs : List ℕ). xs ++ b) is ∙ ap₂ (λ (d k : List ℕ). (((text ++ (magic ++ (claimed ++ []))) ++ (d ++ (s ++ (k ++ [])))) ++ a) ++ b) c.packet_digest-digest.ensures c.type_of.ensures ∙ packet_in_parts text s a b c.args.kind)
