@@ -1,4 +1,4 @@
-use Rattle.par2_packets.proofs.Common.{on_ok_weaker, ◌∙◌, ◌++◌, List, ℕ, [], ap, replicate, magic, type_of}
+use Rattle.par2_packets.proofs.Common.{on_ok_weaker, ◌∙◌, ◌++◌, List, ℕ, [], ap, replicate, magic}
 use Rattle.par2_packets.proofs.LaterDigests.{undigested_in_parts}
 use Rattle.par2_packets.proofs.undigested.append_undigested.Goals as goal
 
