@@ -1,5 +1,5 @@
 //! The bytes of a journal. Each function adds its part at the end.
-ghost use Rattle.std.specs.Prelude.{◌≡◌, ◌≤◌, ◌+◌, [], ◌∷◌, ◌++◌, length, flat_map, OnOk, IfOk, IfSome, IsTrue, Some};
+ghost use Rattle.std.specs.Prelude.{◌≡◌, ◌≤◌, ◌+◌, ◌∷◌, ◌++◌, length, flat_map, OnOk, IfOk, IfSome, IsTrue, Some};
 ghost use Rattle.std.specs.Int.{w64, to_le_bytes};
 ghost use Rattle.std.specs.List.{concat, AllByRecursion};
 ghost use Rattle.md5.specs.Md5.{md5};
@@ -119,28 +119,19 @@ fn append_halfway(out: &mut Vec<u8>, halfway: Option<&HalfwayPartView<'_>>) -> R
     append_changes(out, halfway.back.as_slice())
 }
 
-// The bytes of the journal with these parts as far as its entries go.
-#[tactic(auto, unfolding(crate::specs::Fronts::front_bytes))]
-fn append_front(out: &mut Vec<u8>, parts: &JournalView<'_>) -> Result<()>
-    requires cursor { let p = parts.now in p.cursor ≤ length p.entries.now + length p.newer.now }
-    requires empty { out.old.items ≡ [] }
-    ensures { OnOk result (Begins out.new.items (journal_from parts.now)) }
-{
-    out.extend_from_slice(heading(Version::Two))?;
-    out.extend_from_slice(&parts.fingerprint)?;
-    append_number(out, parts.cursor as u64)?;
-    append_number(out, (parts.entries.len() + parts.newer.len()) as u64)?;
-    append_entries(out, parts.entries)?;
-    append_entries(out, parts.newer)
-}
-
 /// The bytes of the journal with these parts as far as its entries go, for [`finish_both`].
+#[tactic(auto, unfolding(crate::specs::Fronts::front_bytes))]
 pub fn begin(alloc: Global, parts: &JournalView<'_>) -> Result<Vec<u8>>
     requires { parts.now.cursor ≤ length parts.now.entries.now + length parts.now.newer.now }
     ensures { IfOk result (λ front. Begins front.items (journal_from parts.now)) }
 {
     let mut out = Vec::new(alloc);
-    append_front(&mut out, parts)?;
+    out.extend_from_slice(heading(Version::Two))?;
+    out.extend_from_slice(&parts.fingerprint)?;
+    append_number(&mut out, parts.cursor as u64)?;
+    append_number(&mut out, (parts.entries.len() + parts.newer.len()) as u64)?;
+    append_entries(&mut out, parts.entries)?;
+    append_entries(&mut out, parts.newer)?;
     Ok(out)
 }
 
