@@ -49,19 +49,6 @@ fn append_packet(
     out.extend_from_slice(tail)
 }
 
-// Adds the body of the Main of these files.
-fn append_main_body(body: &mut Vec<u8>, s: u64, files: &[FileRecord]) -> Result<()>
-    requires { length files.now ≤ 32768 }
-    ensures { Appends (main_bytes s (map file_record_of files.now)) body.old body.new result }
-{
-    body.extend_from_slice(&s.to_le_bytes())?;
-    body.extend_from_slice(&(files.len() as u32).to_le_bytes())?;
-    for file in files {
-        body.extend_from_slice(&file.id)?;
-    }
-    Ok(())
-}
-
 /// Adds the Main of a set of these files, whose order it keeps.
 pub fn append_main(alloc: Global, out: &mut Vec<u8>, s: u64, files: &[FileRecord]) -> Result<()>
     requires { length files.now ≤ 32768 }
@@ -70,20 +57,12 @@ pub fn append_main(alloc: Global, out: &mut Vec<u8>, s: u64, files: &[FileRecord
         Appends (packet main) out.old out.new result }
     ensures err { OnErr result (out.new.items ≡ out.old.items) }
 {
-    let mut body = Vec::new(alloc);
-    append_main_body(&mut body, s, files)?;
+    let mut body = Vec::from_slice(alloc, &s.to_le_bytes())?;
+    body.extend_from_slice(&(files.len() as u32).to_le_bytes())?;
+    for file in files {
+        body.extend_from_slice(&file.id)?;
+    }
     append_packet(out, &Md5::digest(&body), Kind::Main, &body, &[])
-}
-
-// Adds the body of the FileDesc of a file.
-fn append_desc_body(body: &mut Vec<u8>, file: &FileRecord) -> Result<()>
-    ensures { Appends (desc_bytes (file_record_of file.now)) body.old body.new result }
-{
-    body.extend_from_slice([file.id, file.md5, file.md5_16k].as_flattened())?;
-    body.extend_from_slice(&file.length.to_le_bytes())?;
-    let name = file.name.as_bytes();
-    body.extend_from_slice(name)?;
-    body.resize(body.len() + (4 - name.len() % 4) % 4, 0)
 }
 
 /// Adds the FileDesc of a file.
@@ -97,21 +76,13 @@ pub fn append_desc(
         (file_record_of file.now)) in OnOk result (out.new.items ≡ out.old.items ++ packet added) }
     ensures err { OnErr result (out.new.items ≡ out.old.items) }
 {
-    let mut body = Vec::new(alloc);
-    append_desc_body(&mut body, file)?;
+    let ids = [file.id, file.md5, file.md5_16k];
+    let mut body = Vec::from_slice(alloc, ids.as_flattened())?;
+    body.extend_from_slice(&file.length.to_le_bytes())?;
+    let name = file.name.as_bytes();
+    body.extend_from_slice(name)?;
+    body.resize(body.len() + (4 - name.len() % 4) % 4, 0)?;
     append_packet(out, set_id, Kind::FileDesc, &body, &[])
-}
-
-// Adds the body of the IFSC of a file.
-fn append_ifsc_body(body: &mut Vec<u8>, file: &FileRecord) -> Result<()>
-    ensures { Appends (ifsc_bytes (file_record_of file.now)) body.old body.new result }
-{
-    body.extend_from_slice(&file.id)?;
-    for (md5, crc) in &file.pairs {
-        body.extend_from_slice(md5)?;
-        body.extend_from_slice(&crc.to_le_bytes())?;
-    }
-    Ok(())
 }
 
 /// Adds the IFSC of a file: the checksums of its slices.
@@ -125,8 +96,11 @@ pub fn append_ifsc(
         (file_record_of file.now)) in OnOk result (out.new.items ≡ out.old.items ++ packet added) }
     ensures err { OnErr result (out.new.items ≡ out.old.items) }
 {
-    let mut body = Vec::new(alloc);
-    append_ifsc_body(&mut body, file)?;
+    let mut body = Vec::from_slice(alloc, &file.id)?;
+    for (md5, crc) in &file.pairs {
+        body.extend_from_slice(md5)?;
+        body.extend_from_slice(&crc.to_le_bytes())?;
+    }
     append_packet(out, set_id, Kind::Ifsc, &body, &[])
 }
 

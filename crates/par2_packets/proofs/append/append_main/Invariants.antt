@@ -1,5 +1,5 @@
 use Rattle.par2_packets.proofs.Common.{◌≡◌, ◌++◌, map, take, flat_map, file_record_of}
-use Rattle.par2_packets.proofs.append.append_main_body.Given as goal
+use Rattle.par2_packets.proofs.append.append_main.Given as goal
 
 abbrev pub invariant-loop-file : goal.invariant-loop-file
 invariant-loop-file l =

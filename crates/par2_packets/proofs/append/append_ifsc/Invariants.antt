@@ -1,6 +1,6 @@
 use Rattle.par2_packets.proofs.Common.{◌≡◌, ◌++◌, take, flat_map}
 use Rattle.par2_spec.specs.Volumes.{pair_bytes}
-use Rattle.par2_packets.proofs.append.append_ifsc_body.Given as goal
+use Rattle.par2_packets.proofs.append.append_ifsc.Given as goal
 
 abbrev pub invariant-loop-md5 : goal.invariant-loop-md5
 invariant-loop-md5 l = l.body.items ≡ l.initial.body.items ++ flat_map pair_bytes (take l.md5-index l.md5-items)
