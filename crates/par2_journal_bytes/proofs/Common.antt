@@ -1,14 +1,13 @@
 -- The names that proofs of this crate take from elsewhere.
 
-pub use Rattle.std.proofs.Common.{Bool, Err, List, None, Ok, Option, Result, Some, Vec, [], ap, append_assoc, arith, cond, drop, eqb, false, get_or, inl, inr, leb, length, ltb, refl, subst, suc, sym, take, true, zero, ℕ, ◌&&◌, ◌++◌, ◌+◌, ◌-◌, ◌<◌, ◌^◌, ◌∙◌, ◌∷◌, ◌≡◌, ◌≤◌}
+pub use Rattle.std.proofs.Common.{Bool, Err, List, None, Option, Result, Some, [], ap, append_assoc, arith, cond, drop, eqb, false, get_or, inl, inr, leb, length, ltb, refl, subst, suc, sym, take, true, zero, ℕ, ◌&&◌, ◌++◌, ◌+◌, ◌-◌, ◌<◌, ◌^◌, ◌∙◌, ◌∷◌, ◌≡◌, ◌≤◌}
 pub use Rattle.std.proofs.lemmas.Bool.{and_from, and_parts, eqb-true, false≢true, le-leb, le-ltb, leb-true, ltb-false}
 pub use Rattle.std.proofs.lemmas.List.{append-nil, drop_at, flat_map_more, get_or-map, length-append, length-map, length-take-le, nil_from_length, take-append-drop, take_all, take_at, take_more}
-pub use Rattle.std.proofs.lemmas.List.Concat.{concat_is}
 pub use Rattle.std.proofs.lemmas.Option.{cond_some, none-some, same_Some}
 pub use Rattle.std.proofs.lemmas.Result.{err_from_is_err_and}
 pub use Rattle.std.specs.Int.{from_le_bytes, to_le_bytes, w64}
 pub use Rattle.std.specs.List.{AllByRecursion, concat}
-pub use Rattle.std.specs.Prelude.{IfOk, IfSome, IsTrue, flat_map, if◌then◌else◌, ◌↔◌, ◌⊎◌}
+pub use Rattle.std.specs.Prelude.{IfSome, IsTrue, flat_map, if◌then◌else◌, ◌↔◌, ◌⊎◌}
 pub use Rattle.md5.specs.Md5.{md5}
 pub use Rattle.par2_folder.specs.Views.{change_of}
 pub use Rattle.par2_journal_bytes.specs.Fronts.{Begins, Continues, with_halfway}

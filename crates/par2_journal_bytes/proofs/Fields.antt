@@ -1,5 +1,5 @@
 -- Blocks and numbers: what is read stood there, and what is written is read again.
-use Rattle.par2_journal_bytes.proofs.Common.{◌≡◌, ℕ, zero, suc, ◌^◌, ◌≤◌, ◌<◌, Bool, true, false, cond, ltb, List, [], ◌∷◌, ◌++◌, length, take, drop, get_or, Option, Some, None, refl, sym, ap, subst, ◌∙◌, append_assoc, arith, flat_map, w64, to_le_bytes, from_le_bytes, AllByRecursion, ltb-false, le-ltb, same_Some, take_at, drop_at, take-append-drop, length-append, length-take-le, ◌>>=◌, AreBytes, bytes-take, bytes-drop, all_at, block_at, number_at, many_at}
+use Rattle.par2_journal_bytes.proofs.Common.{◌≡◌, ℕ, zero, suc, ◌^◌, ◌≤◌, ◌<◌, Bool, true, false, cond, ltb, List, [], ◌∷◌, ◌++◌, length, take, drop, get_or, Option, Some, None, refl, sym, ap, subst, ◌∙◌, append_assoc, arith, flat_map, w64, to_le_bytes, from_le_bytes, AllByRecursion, ltb-false, le-ltb, same_Some, take_at, drop_at, take-append-drop, length-append, length-take-le, ◌>>=◌, block_at, number_at, many_at, AreBytes, bytes-take, bytes-drop, all_at}
 use Rattle.std.proofs.lemmas.Nat.{le_bytes_8, from_le_bytes-to_le_bytes_8}
 use Rattle.par2_journal_bytes.proofs.Many.{Reader}
 

@@ -1,5 +1,6 @@
 -- Names, changes, entries and the halfway part.
-use Rattle.par2_journal_bytes.proofs.Common.{◌≡◌, ℕ, zero, suc, ◌^◌, ◌≤◌, ◌<◌, Bool, leb, List, [], ◌∷◌, ◌++◌, length, Option, Some, None, refl, sym, ap, subst, ◌∙◌, append_assoc, flat_map, IsTrue, IfSome, w64, to_le_bytes, concat, leb-true, le-leb, same_Some, cond_some, concat_is, Change, Write, Replace, Rename, Remove, HalfwayPart, IsFileBytes, IsDigest, IsChange, IsEntry, IsHalfwayPart, name_bytes, change_bytes, entry_bytes, halfway_bytes, AreBytes, ◌>>=◌, some_where, block_at, number_at, many_at, name_at, behind_length_at, change_at, entry_at, halfway_at}
+use Rattle.par2_journal_bytes.proofs.Common.{◌≡◌, ℕ, zero, suc, ◌^◌, ◌≤◌, ◌<◌, Bool, leb, List, [], ◌∷◌, ◌++◌, length, Option, Some, None, refl, sym, ap, subst, ◌∙◌, append_assoc, flat_map, IsTrue, IfSome, w64, to_le_bytes, concat, leb-true, le-leb, same_Some, cond_some, Change, Write, Replace, Rename, Remove, HalfwayPart, IsFileBytes, IsDigest, IsChange, IsEntry, IsHalfwayPart, name_bytes, change_bytes, entry_bytes, halfway_bytes, AreBytes, ◌>>=◌, some_where, block_at, number_at, many_at, name_at, behind_length_at, change_at, entry_at, halfway_at}
+use Rattle.std.proofs.lemmas.List.Concat.{concat_is}
 use Rattle.par2_spec.specs.Names.{is_name}
 use Rattle.par2_spec.specs.Folders.{behind_length}
 use Rattle.par2_journal_bytes.proofs.Fields.{bind_some, Took, Took-then, Took-behind, IsRead, block_read, block_again, number_read, number_again, many_read}

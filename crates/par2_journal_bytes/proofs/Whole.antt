@@ -1,5 +1,5 @@
 -- Whole journals: what is read is spelled so, and what is spelled so is read.
-use Rattle.par2_journal_bytes.proofs.Common.{◌≡◌, ℕ, ◌-◌, ◌+◌, ◌^◌, ◌≤◌, ◌<◌, Bool, true, false, cond, leb, eqb, ◌&&◌, List, [], ◌++◌, length, take, drop, Option, Some, None, refl, sym, ap, subst, ◌∙◌, append_assoc, arith, inl, inr, flat_map, ◌⊎◌, if◌then◌else◌, w64, to_le_bytes, leb-true, le-leb, eqb-true, and_parts, and_from, same_Some, cond_some, none-some, append-nil, nil_from_length, take-append-drop, take_at, drop_at, length-append, md5, Change, HalfwayPart, Journal, IsEntry, IsCursor, IsJournal, Spells, heading, cursor_bytes, entry_bytes, halfway_bytes, AreBytes, bytes-take, ◌>>=◌, some_where, block_at, number_at, many_at, entry_at, halfway_at, cursor_in, IsSealed, journal_bytes, spelling, heading_at, cursor_at, behind_cursor_at, parts_at}
+use Rattle.par2_journal_bytes.proofs.Common.{◌≡◌, ℕ, ◌-◌, ◌+◌, ◌^◌, ◌≤◌, ◌<◌, Bool, true, false, cond, leb, eqb, ◌&&◌, List, [], ◌++◌, length, take, drop, Option, Some, None, refl, sym, ap, subst, ◌∙◌, append_assoc, arith, inl, inr, flat_map, ◌⊎◌, if◌then◌else◌, w64, to_le_bytes, leb-true, le-leb, eqb-true, and_parts, and_from, same_Some, cond_some, none-some, append-nil, nil_from_length, take-append-drop, take_at, drop_at, length-append, md5, Change, HalfwayPart, Journal, IsEntry, IsCursor, IsJournal, Spells, heading, cursor_bytes, entry_bytes, halfway_bytes, journal_bytes, spelling, AreBytes, bytes-take, ◌>>=◌, some_where, block_at, number_at, many_at, entry_at, halfway_at, cursor_in, IsSealed, heading_at, cursor_at, behind_cursor_at, parts_at}
 use Rattle.std.specs.Str.{bytes_eq}
 use Rattle.std.proofs.lemmas.Slice.Eq.{bytes_eq-Decides}
 use Rattle.par2_spec.specs.declared.Version.{Version}

@@ -6,7 +6,7 @@ use std::alloc::{AllocError, AllocFailed};
 use thiserror::Error;
 
 /// Why no journal was read.
-#[derive(Debug, Error, Clone, Copy, PartialEq, Eq, Drop)]
+#[derive(Debug, Error, Clone, Copy, Drop)]
 pub enum DecodeFault {
     #[error("the journal is not valid")]
     JournalInvalid,

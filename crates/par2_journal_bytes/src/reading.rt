@@ -23,37 +23,28 @@ type Read<'a, T> = Result<(T, &'a [u8]), DecodeFault>;
 fn read_block(bytes: &[u8], len: usize) -> Result<(&[u8], &[u8]), DecodeFault>
     ensures { Gives (λ x. (x.0.now, x.1.now)) result (reads.block_at len bytes.now) }
 {
-    if bytes.len() < len {
-        return Err(DecodeFault::JournalInvalid);
-    }
-    Ok(bytes.split_at(len))
+    let blocks = bytes.split_at_checked(len);
+    blocks.ok_or(DecodeFault::JournalInvalid)
 }
 
 #[tactic(auto, unfolding(crate::specs::Reading::number_at))]
 fn read_number(bytes: &[u8]) -> Result<(u64, &[u8]), DecodeFault>
     ensures { Gives (λ x. (x.0, x.1.now)) result (reads.number_at bytes.now) }
 {
-    if bytes.len() < 8 {
+    let Some((number, rest)) = bytes.split_first_chunk() else {
         return Err(DecodeFault::JournalInvalid);
-    }
-    let (front, rest) = bytes.split_at(8);
-    let number = u64::from_le_bytes([
-        front[0], front[1], front[2], front[3], front[4], front[5], front[6], front[7],
-    ]);
-    Ok((number, rest))
+    };
+    Ok((u64::from_le_bytes(*number), rest))
 }
 
 #[tactic(auto, unfolding(crate::specs::Reading::block_at))]
 fn read_digest(bytes: &[u8]) -> Result<([u8; 16], &[u8]), DecodeFault>
     ensures { Gives (λ x. (x.0, x.1.now)) result (reads.block_at 16 bytes.now) }
 {
-    if bytes.len() < 16 {
+    let Some((digest, rest)) = bytes.split_first_chunk() else {
         return Err(DecodeFault::JournalInvalid);
-    }
-    let (front, rest) = bytes.split_at(16);
-    let mut digest = [0; 16];
-    digest.copy_from_slice(front);
-    Ok((digest, rest))
+    };
+    Ok((*digest, rest))
 }
 
 #[tactic(auto, unfolding(crate::specs::Reading::name_at))]
@@ -64,8 +55,10 @@ fn read_name(bytes: &[u8]) -> Result<(Name, &[u8]), DecodeFault>
         return Err(DecodeFault::JournalInvalid);
     };
     let (text, rest) = read_block(rest, *len as usize)?;
-    let name = Name::from_bytes(text).ok_or(DecodeFault::JournalInvalid)?;
-    Ok((name, rest))
+    match Name::from_bytes(text) {
+        Some(name) => Ok((name, rest)),
+        None => Err(DecodeFault::JournalInvalid),
+    }
 }
 
 #[tactic(auto, unfolding(crate::specs::Reading::behind_length_at))]
@@ -81,26 +74,24 @@ fn read_bytes(alloc: Global, bytes: &[u8]) -> Result<(Bytes, &[u8]), DecodeFault
 fn read_change(alloc: Global, bytes: &[u8]) -> Result<(Change, &[u8]), DecodeFault>
     ensures { Gives (λ x. (change_of x.0, x.1.now)) result (reads.change_at bytes.now) }
 {
-    match bytes {
-        [1, rest @ ..] => {
-            let (name, rest) = read_name(rest)?;
+    let [kind, rest @ ..] = bytes else {
+        return Err(DecodeFault::JournalInvalid);
+    };
+    let (name, rest) = read_name(rest)?;
+    match kind {
+        1 => {
             let (content, rest) = read_bytes(alloc, rest)?;
             Ok((Change::Write(name, content), rest))
         }
-        [2, rest @ ..] => {
-            let (name, rest) = read_name(rest)?;
+        2 => {
             let (content, rest) = read_bytes(alloc, rest)?;
             Ok((Change::Replace(name, content), rest))
         }
-        [3, rest @ ..] => {
-            let (from, rest) = read_name(rest)?;
+        3 => {
             let (to, rest) = read_name(rest)?;
-            Ok((Change::Rename(from, to), rest))
+            Ok((Change::Rename(name, to), rest))
         }
-        [4, rest @ ..] => {
-            let (name, rest) = read_name(rest)?;
-            Ok((Change::Remove(name), rest))
-        }
+        4 => Ok((Change::Remove(name), rest)),
         _ => Err(DecodeFault::JournalInvalid),
     }
 }
@@ -157,7 +148,7 @@ fn read_digests(alloc: Global, count: u64, bytes: &[u8]) -> Read<'_, Vec<[u8; 16
     Ok((digests, rest))
 }
 
-#[tactic(auto, unfolding(crate::specs::Reading::halfway_at))]
+#[tactic(auto, unfolding(crate::specs::Reading::halfway_at, crate::specs::Reading::many_at))]
 fn read_halfway(alloc: Global, bytes: &[u8]) -> Result<(Option<HalfwayPart>, &[u8]), DecodeFault>
     ensures { Gives (λ x. (halfway_of x.0, x.1.now)) result (reads.halfway_at bytes.now) }
 {
@@ -165,11 +156,11 @@ fn read_halfway(alloc: Global, bytes: &[u8]) -> Result<(Option<HalfwayPart>, &[u
         [0, rest @ ..] => Ok((None, rest)),
         [1, rest @ ..] => {
             let (count, rest) = read_number(rest)?;
-            let (fingerprints, rest) = read_digests(alloc, count, rest)?;
-            let (back, rest) = read_changes(alloc, count, rest)?;
             if count == 0 {
                 return Err(DecodeFault::JournalInvalid);
             }
+            let (fingerprints, rest) = read_digests(alloc, count, rest)?;
+            let (back, rest) = read_changes(alloc, count, rest)?;
             Ok((Some(HalfwayPart { fingerprints, back }), rest))
         }
         _ => Err(DecodeFault::JournalInvalid),
@@ -200,21 +191,25 @@ fn read_cursor(version: Version, bytes: &[u8]) -> Result<(u64, &[u8]), DecodeFau
     }
 }
 
-// All but the digest.
-#[tactic(auto, unfolding(crate::specs::Reading::parts_at, crate::specs::Reading::behind_cursor_at))]
-fn read_parts(alloc: Global, bytes: &[u8]) -> Result<Journal, DecodeFault>
-    ensures { Gives journal_of result (reads.parts_at bytes.now) }
+// What stands after the cursor that was read.
+#[tactic(auto, unfolding(crate::specs::Reading::behind_cursor_at))]
+fn read_behind_cursor(
+    alloc: Global,
+    version: Version,
+    fingerprint: [u8; 16],
+    read: u64,
+    bytes: &[u8],
+) -> Result<Journal, DecodeFault>
+    ensures { Gives journal_of result
+        (reads.behind_cursor_at version fingerprint read bytes.now) }
 {
-    let (version, rest) = read_heading(bytes)?;
-    let (fingerprint, rest) = read_digest(rest)?;
-    let (read, rest) = read_cursor(version, rest)?;
-    let (count, rest) = read_number(rest)?;
-    let (entries, rest) = read_entries(alloc, count, rest)?;
-    let (halfway, rest) = read_halfway(alloc, rest)?;
+    let (count, rest) = read_number(bytes)?;
     let cursor = match version {
         Version::One => count,
         Version::Two => read,
     };
+    let (entries, rest) = read_entries(alloc, count, rest)?;
+    let (halfway, rest) = read_halfway(alloc, rest)?;
     if cursor > count || !rest.is_empty() {
         return Err(DecodeFault::JournalInvalid);
     }
@@ -225,6 +220,17 @@ fn read_parts(alloc: Global, bytes: &[u8]) -> Result<Journal, DecodeFault>
         entries,
         halfway,
     })
+}
+
+// All but the digest.
+#[tactic(auto, unfolding(crate::specs::Reading::parts_at))]
+fn read_parts(alloc: Global, bytes: &[u8]) -> Result<Journal, DecodeFault>
+    ensures { Gives journal_of result (reads.parts_at bytes.now) }
+{
+    let (version, rest) = read_heading(bytes)?;
+    let (fingerprint, rest) = read_digest(rest)?;
+    let (cursor, rest) = read_cursor(version, rest)?;
+    read_behind_cursor(alloc, version, fingerprint, cursor, rest)
 }
 
 // A text of a journal, in two: what its digest is of, and the digest at its end.

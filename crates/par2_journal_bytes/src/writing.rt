@@ -149,15 +149,23 @@ fn body(front: Vec<u8>, halfway: Option<&HalfwayPartView<'_>>) -> Result<Vec<u8>
     Ok(out)
 }
 
-// The journal, its digest after all that stands before it.
-fn with_digest(body: Vec<u8>, digest: [u8; 16]) -> Result<Vec<u8>>
-    requires { digest ≡ md5 body.items }
-    ensures { IfOk result (λ bytes. bytes.items ≡ body.items ++ md5 body.items) }
+// Adds the digest of all that stands before it.
+fn append_digest(out: &mut Vec<u8>, digest: [u8; 16]) -> Result<()>
+    requires { digest ≡ md5 out.old.items }
+    ensures { OnOk result (out.new.items ≡ out.old.items ++ md5 out.old.items) }
 {
-    let mut out = body;
     out.reserve_exact(16)?;
-    out.extend_from_slice(&digest)?;
-    Ok(out)
+    out.extend_from_slice(&digest)
+}
+
+// Adds to each of two texts its digest. They are computed side by side.
+fn append_both_digests(alloc: Global, one: &mut Vec<u8>, other: &mut Vec<u8>) -> Result<()>
+    ensures one { OnOk result (one.new.items ≡ one.old.items ++ md5 one.old.items) }
+    ensures other { OnOk result (other.new.items ≡ other.old.items ++ md5 other.old.items) }
+{
+    let digests = text_digests(alloc, &[one.as_slice(), other.as_slice()])?;
+    append_digest(one, digests[0])?;
+    append_digest(other, digests[1])
 }
 
 /// The bytes of the journal with these parts.
@@ -165,9 +173,10 @@ pub fn encode(alloc: Global, parts: &JournalView<'_>) -> Result<Vec<u8>>
     requires { parts.now.cursor ≤ length parts.now.entries.now + length parts.now.newer.now }
     ensures { IfOk result (λ bytes. journals.Spells bytes.items (journal_from parts.now)) }
 {
-    let body = body(begin(alloc, parts)?, None)?;
-    let digest = Md5::digest(&body);
-    with_digest(body, digest)
+    let mut text = body(begin(alloc, parts)?, None)?;
+    let digest = Md5::digest(&text);
+    append_digest(&mut text, digest)?;
+    Ok(text)
 }
 
 /// The bytes of the two journals of a command.
@@ -194,11 +203,8 @@ pub fn finish_both(
         Finishes front.items (Some (halfway_from halfway.now)) texts.halfway.items) }
     ensures after { IfOk result (λ t. journals.Spells t.after.items (journal_from after.now)) }
 {
-    let halfway = body(front, Some(halfway))?;
-    let after = body(begin(alloc, after)?, None)?;
-    let digests = text_digests(alloc, &[&halfway, &after])?;
-    Ok(JournalTexts {
-        halfway: with_digest(halfway, digests[0])?,
-        after: with_digest(after, digests[1])?,
-    })
+    let mut halfway = body(front, Some(halfway))?;
+    let mut after = body(begin(alloc, after)?, None)?;
+    append_both_digests(alloc, &mut halfway, &mut after)?;
+    Ok(JournalTexts { halfway, after })
 }

@@ -10,7 +10,7 @@ pub use Rattle.std.proofs.lemmas.Result.{IfOk-weaker, on_ok_weaker}
 pub use Rattle.std.proofs.lemmas.Slice.Eq.{bytes_eq-Decides}
 pub use Rattle.std.specs.Int.{from_le_bytes, to_le_bytes, w128, w32, w64}
 pub use Rattle.std.specs.List.{AllAdjacentBelow, AllPairs, IsDistinct, range_with_len, suffix_len}
-pub use Rattle.std.specs.Prelude.{flat_map}
+pub use Rattle.std.specs.Prelude.{Err, Ok, OnOk, Result, flat_map, if◌then◌else◌, is_ok}
 pub use Rattle.std.specs.Str.{bytes_eq}
 pub use Rattle.md5.specs.Md5.{Holds, md5}
 pub use Rattle.par2_packets.specs.Cursors.{rest_of}
@@ -22,4 +22,3 @@ pub use Rattle.par2_spec.proofs.ListsLaws.{increasing, range-append}
 pub use Rattle.par2_spec.specs.Checksums.{Pair}
 pub use Rattle.par2_spec.specs.Packets.{DescBody, IfscBody, MainBody, Packet, accepted, bytes_at, claimed_length, digest_input, items_at, magic, type_of, without_end_zeros}
 unfoldable pub use Rattle.par2_spec.specs.Packets.{accepted_after, begins_with_packet, first_packet, packet, u32_at}
-pub use Rattle.par2_spec.specs.declared.Kind.TheVariants.{Recovery}

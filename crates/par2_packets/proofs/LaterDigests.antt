@@ -1,20 +1,21 @@
 -- Recovery packets, whose MD5s are put in later, and what stands before their slices.
-use Rattle.par2_packets.proofs.Common.{◌≡◌, ℕ, ◌+◌, ◌-◌, ◌*◌, ◌<◌, ◌≤◌, List, [], ◌++◌, length, take, drop, replicate, refl, sym, ap, ap₂, ◌∙◌, subst, append_assoc, append-nil, arith, length-append, w32, w64, to_le_bytes, length-replicate, drop-drop, drop-take, md5, magic, type_of, digest_input, bytes_at, packet, Recovery, overwritten, ArePieces, changed_below, recovery_packet, digested, digest_put, AreDigested, undigested}
+use Rattle.par2_packets.proofs.Common.{◌≡◌, ℕ, ◌+◌, ◌-◌, ◌*◌, ◌<◌, ◌≤◌, List, [], ◌++◌, length, take, drop, replicate, refl, sym, ap, ap₂, ◌∙◌, subst, append_assoc, append-nil, arith, length-append, w32, w64, to_le_bytes, length-replicate, drop-drop, drop-take, md5, magic, type_of, digest_input, bytes_at, packet, overwritten, ArePieces, changed_below, recovery_packet, digested, digest_put, AreDigested, undigested}
+use Rattle.par2_spec.specs.declared.Kind.TheVariants.{Recovery}
 use Rattle.md5.proofs.StandardFacts.{length-md5}
 use Rattle.par2_packets.proofs.Parts.{regrouped}
 use Rattle.par2_packets.proofs.Pieces.{overwritten_front, overwritten_behind, drop_behind, length-overwritten, piece_at, from_on, none_changed, next_changed, all_changed, same_pieces}
 
 -- the parts after a text are the text and the packet
-pub undigested_in_parts : (text id : List ℕ) (e size : ℕ) (a b c d out : List ℕ) → a ≡ text ++ magic → b ≡ a ++ to_le_bytes w64 (68 + size)
+pub undigested_in_parts : (text id : List ℕ) (e size : ℕ) (b c d out : List ℕ) → b ≡ text ++ (magic ++ (to_le_bytes w64 (68 + size) ++ []))
     → c ≡ b ++ (replicate 16 0 ++ (id ++ (type_of Recovery ++ []))) → d ≡ c ++ to_le_bytes w32 e → out ≡ d ++ replicate size 0
     → out ≡ text ++ undigested id e (replicate size 0)
 unfolding undigested
-undigested_in_parts text id e size a b c d out is_a is_b is_c is_d is =
+undigested_in_parts text id e size b c d out is_b is_c is_d is =
     let zeros : List ℕ = replicate size 0 in
     let claim = to_le_bytes w64 (68 + size) in
     let after = λ (xs : List ℕ). ((xs ++ (replicate 16 0 ++ (id ++ (type_of Recovery ++ [])))) ++ to_le_bytes w32 e) ++ zeros in
     is ∙ ap (λ (xs : List ℕ). xs ++ zeros) (is_d ∙ ap (λ (xs : List ℕ). xs ++ to_le_bytes w32 e) is_c)
-    ∙ ap after (is_b ∙ ap (λ (xs : List ℕ). xs ++ claim) is_a)
+    ∙ ap after is_b
     ∙ regrouped text magic claim (replicate 16 0) id (type_of Recovery) (to_le_bytes w32 e) zeros
     ∙ ap (λ (n : ℕ). text ++ (magic ++ to_le_bytes w64 (68 + n) ++ replicate 16 0 ++ (id ++ type_of Recovery ++ (to_le_bytes w32 e ++ zeros)))) (sym (length-replicate {A = ℕ} size 0))
 

@@ -3,16 +3,29 @@
 ghost use Rattle.std.specs.Prelude.{◌≡◌, ◌≤◌, ◌+◌, ◌-◌, ◌%◌, ◌++◌, length, map, flat_map, OnOk, OnErr, IfOk};
 ghost use Rattle.md5.specs.Md5.{md5};
 ghost use Rattle.par2_spec.specs.Answers.{Appends};
+ghost use Rattle.par2_spec.specs.Packets as packets;
 ghost use Rattle.par2_spec.specs.Packets.{packet, digest_input};
 ghost use Rattle.par2_spec.specs.Volumes.{packet_of, main_id, main_bytes, desc_bytes, ifsc_bytes, creator_bytes, recovery_bytes};
 ghost use Rattle.par2_packets.specs.Views.{file_record_of};
 
-use crate::bytes::{u32_bytes, u64_bytes};
+use crate::cursor::MAGIC;
 use crate::kind::type_of;
 use crate::record::FileRecord;
 use md5::{Digest, Md5};
 use par2_spec::{Kind, Result};
 use std::alloc::Global;
+
+// The MD5 of a packet whose body is given in two parts.
+fn packet_digest(set_id: &[u8; 16], kind: Kind, head: &[u8], tail: &[u8]) -> [u8; 16]
+    ensures { result ≡ md5 (((set_id.now ++ packets.type_of kind) ++ head.now) ++ tail.now) }
+{
+    let mut hasher = Md5::new();
+    hasher.update(set_id);
+    hasher.update(&type_of(kind));
+    hasher.update(head);
+    hasher.update(tail);
+    hasher.finalize()
+}
 
 // The packet whose body is given in two parts.
 fn append_packet(
@@ -27,16 +40,11 @@ fn append_packet(
         OnOk result (out.new.items ≡ out.old.items ++ packet added) }
     ensures err { OnErr result (out.new.items ≡ out.old.items) }
 {
-    let mut hasher = Md5::new();
-    hasher.update(set_id);
-    hasher.update(&type_of(kind));
-    hasher.update(head);
-    hasher.update(tail);
+    let digest = packet_digest(set_id, kind, head, tail);
     let len = 64 + head.len() + tail.len();
     out.reserve(len)?;
-    out.extend_from_slice(b"PAR2\0PKT")?;
-    out.extend_from_slice(&u64_bytes(len as u64))?;
-    out.extend_from_slice([hasher.finalize(), *set_id, type_of(kind)].as_flattened())?;
+    out.extend_from_slice([*MAGIC, (len as u64).to_le_bytes()].as_flattened())?;
+    out.extend_from_slice([digest, *set_id, type_of(kind)].as_flattened())?;
     out.extend_from_slice(head)?;
     out.extend_from_slice(tail)
 }
@@ -49,8 +57,8 @@ pub fn append_main(alloc: Global, out: &mut Vec<u8>, s: u64, files: &[FileRecord
         Appends (packet main) out.old out.new result }
     ensures err { OnErr result (out.new.items ≡ out.old.items) }
 {
-    let mut body = Vec::from_slice(alloc, &u64_bytes(s))?;
-    body.extend_from_slice(&u32_bytes(files.len() as u32))?;
+    let mut body = Vec::from_slice(alloc, &s.to_le_bytes())?;
+    body.extend_from_slice(&(files.len() as u32).to_le_bytes())?;
     for file in files {
         body.extend_from_slice(&file.id)?;
     }
@@ -70,7 +78,7 @@ pub fn append_desc(
 {
     let ids = [file.id, file.md5, file.md5_16k];
     let mut body = Vec::from_slice(alloc, ids.as_flattened())?;
-    body.extend_from_slice(&u64_bytes(file.length))?;
+    body.extend_from_slice(&file.length.to_le_bytes())?;
     let name = file.name.as_bytes();
     body.extend_from_slice(name)?;
     body.resize(body.len() + (4 - name.len() % 4) % 4, 0)?;
@@ -91,7 +99,7 @@ pub fn append_ifsc(
     let mut body = Vec::from_slice(alloc, &file.id)?;
     for (md5, crc) in &file.pairs {
         body.extend_from_slice(md5)?;
-        body.extend_from_slice(&u32_bytes(*crc))?;
+        body.extend_from_slice(&crc.to_le_bytes())?;
     }
     append_packet(out, set_id, Kind::Ifsc, &body, &[])
 }
@@ -118,5 +126,5 @@ pub fn append_recovery(
         OnOk result (out.new.items ≡ out.old.items ++ packet added) }
     ensures err { OnErr result (out.new.items ≡ out.old.items) }
 {
-    append_packet(out, set_id, Kind::Recovery, &u32_bytes(e), bytes)
+    append_packet(out, set_id, Kind::Recovery, &e.to_le_bytes(), bytes)
 }

@@ -91,15 +91,6 @@ struct Digested<'a> {
     ghost right: { digest ≡ md5 bytes.now },
 }
 
-impl<'a> Digested<'a> {
-    // The digest, where these are the bytes.
-    fn digest_of(&self, bytes: &[u8]) -> Option<[u8; 16]>
-        ensures { IfSome result (λ digest. digest ≡ md5 bytes.now) }
-    {
-        (self.bytes == bytes).then_some(self.digest)
-    }
-}
-
 /// A place in a text, and digests of packets: those that were computed there side by side, and the longest that was
 /// computed alone, in this text or in one before.
 #[derive(Clone, Copy, Drop)]
@@ -169,17 +160,16 @@ impl<'a> Cursor<'a> {
         ensures digest { result ≡ md5 bytes.now }
         ensures kept { rest_of self.new ≡ rest_of self.old }
     {
-        if let Some(digest) = self.longest.and_then(|longest| longest.digest_of(bytes)) {
-            return digest;
+        let known = self.longest;
+        match known {
+            Some(longest) if longest.bytes == bytes => longest.digest,
+            Some(longest) if longest.bytes.len() >= bytes.len() => Md5::digest(bytes),
+            _ => {
+                let digest = Md5::digest(bytes);
+                self.longest = Some(Digested { bytes, digest });
+                digest
+            }
         }
-        let digest = Md5::digest(bytes);
-        if self
-            .longest
-            .is_none_or(|longest| longest.bytes.len() < bytes.len())
-        {
-            self.longest = Some(Digested { bytes, digest });
-        }
-        digest
     }
 
     /// The digest of the packet of this length here, without the bytes in front of what is digested.

@@ -1,4 +1,4 @@
-use Rattle.par2_journal_bytes.proofs.Common.{List, ℕ, ◌++◌, ap, ◌∙◌, halfway_bytes, part_from, journal_bytes, front_bytes}
+use Rattle.par2_journal_bytes.proofs.Common.{List, ℕ, ◌++◌, ap, ◌∙◌, halfway_bytes, journal_bytes, part_from, front_bytes}
 use Rattle.par2_journal_bytes.proofs.writing.body.Goals as goal
 
 pub returns : goal.returns
