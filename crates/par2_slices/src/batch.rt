@@ -12,7 +12,7 @@ use par2_digests::{LANES, window_digests};
 use std::array;
 
 /// Where a window begins: the number of its text among those that are searched, and its offset there.
-#[derive(Clone, Copy, Default, PartialEq, Eq, Debug, Drop)]
+#[derive(Clone, Copy, Default, Debug, Drop)]
 pub struct Spot {
     pub text: usize,
     pub offset: usize,

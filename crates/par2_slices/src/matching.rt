@@ -97,11 +97,12 @@ fn first_crc32(text: &[u8], s: u64, targets: &[Target]) -> Option<u32>
     requires { 1 ≤ s }
     ensures { IfSome result (IsFirst s text.now) }
 {
-    let mut targets = targets.iter();
-    if text.is_empty() || !targets.any(|target| target.length == text.len() as u64) {
-        return None;
+    for target in targets {
+        if target.length == text.len() as u64 && !text.is_empty() {
+            return Some(slice_crc32(text, s, 0));
+        }
     }
-    Some(slice_crc32(text, s, 0))
+    None
 }
 
 /// The CRC-32s of the texts' first slices. A text that has the length of many targets is compared with each, and mostly
