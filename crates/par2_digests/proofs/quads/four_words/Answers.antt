@@ -1,4 +1,4 @@
-use Rattle.par2_digests.proofs.Common.{◌≡◌, ◌+◌, ◌-◌, ◌∙◌, ◌∷◌, [], ℕ, List, ap, arith, slice_index, length, drop, get_or, inl, inr, cases_lt, get_or-drop, get_or-take, four_words_at}
+use Rattle.par2_digests.proofs.Common.{◌≡◌, ◌+◌, ◌-◌, ◌∙◌, ℕ, ap, arith, length, drop, get_or, inl, inr, cases_lt, get_or-drop, get_or-take, four_words_at}
 use Rattle.par2_digests.proofs.LaneLaws.{ArePairs, high_lane, low_lane}
 use Rattle.par2_digests.proofs.quads.four_words.Goals as goal
 
@@ -30,10 +30,5 @@ returns-then-this-eq8 g c = λ k h.
 
 pub returns-then-this-eq4 : goal.returns-then-this-eq4
 returns-then-this-eq4 g c = λ k h.
-    let read = λ (v w : List ℕ) (same : v ≡ w). ap (λ (x : List ℕ). slice_index x k) same in
-    let state = c.state_of-then-this-eq4.ensures in
-    (λ i. read _ _ (state.a ∙ c.with_lanes.ensures) i
-    ∷ read _ _ (state.b ∙ c.with_lanes-then-this-eq4.ensures) i
-    ∷ read _ _ (state.c ∙ c.with_lanes-then-this-eq4-2.ensures) i
-    ∷ read _ _ (state.d ∙ c.with_lanes-then-this-eq4-3.ensures) i ∷ [])
-    ∙ c.words_of_four.ensures.words k (omega (arith, h, c.if-this-eq4.true))
+    let s = c.state_of-then-this-eq4.ensures in
+    rw (s.a, s.b, s.c, s.d, c.with_lanes.ensures, c.with_lanes-then-this-eq4.ensures, c.with_lanes-then-this-eq4-2.ensures, c.with_lanes-then-this-eq4-3.ensures) (c.words_of_four.ensures.words k (omega (arith, h, c.if-this-eq4.true)))

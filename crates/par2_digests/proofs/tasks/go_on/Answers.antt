@@ -44,7 +44,5 @@ loop-blocks-smaller g c =
 
 pub turn_all-requires-clause-left : goal.turn_all-requires-clause-left
 turn_all-requires-clause-left g c = λ k none several low.
-    let tasks = c.loop-blocks.tasks in
-    let count = c.args.count in
-    let size = length-take-le count tasks (omega (arith, c.loop-blocks.invariant.tasks, c.requires.lanes, c.requires.few)) in
-    subst (λ (t : Task). HasBlocks t c.batch_of-batch.result) (get_or-take count tasks k none low) (c.batch_of-batch.ensures.left k none several (omega (arith, size, low)))
+    let size = length-take-le c.args.count c.loop-blocks.tasks (omega (arith, c.loop-blocks.invariant.tasks, c.requires.lanes, c.requires.few)) in
+    subst (λ (t : Task). HasBlocks t c.batch_of-batch.result) (get_or-take c.args.count c.loop-blocks.tasks k none low) (c.batch_of-batch.ensures.left k none several (omega (arith, size, low)))
