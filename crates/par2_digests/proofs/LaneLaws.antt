@@ -35,7 +35,7 @@ word_of_lane at words k i none h = sym (get_or-map (λ word. at word k) words i 
 
 -- ---- four lanes
 
-all_of_four : (x : List ℕ) → IsVector 4 x → get_or x 0 0 ∷ get_or x 1 0 ∷ get_or x 2 0 ∷ get_or x 3 0 ∷ [] ≡ x
+pub all_of_four : (x : List ℕ) → IsVector 4 x → get_or x 0 0 ∷ get_or x 1 0 ∷ get_or x 2 0 ∷ get_or x 3 0 ∷ [] ≡ x
 all_of_four x count = grind (arith, common_steps)
 
 -- the lanes of two vectors of four

@@ -125,7 +125,12 @@ fn has_company(tasks: &[Task], count: usize, k: usize) -> bool
     requires few { count ≤ length tasks.now }
     ensures { IsTrue result → 0 < get_or (works tasks.now) k 0 }
 {
-    tasks[k].hash.is_none() && tasks[k + 1..count].iter().any(|task| task.hash.is_none())
+    for task in &tasks[k + 1..count] {
+        if task.hash.is_none() {
+            return tasks[k].hash.is_none();
+        }
+    }
+    false
 }
 
 // Takes as many blocks of each message as can be taken at once, until the hash value of message k is there, or those of

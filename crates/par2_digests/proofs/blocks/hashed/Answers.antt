@@ -1,6 +1,13 @@
-use Rattle.par2_digests.proofs.Common.{◌≡◌, ◌≤◌, ◌/◌, ◌%◌, ◌*◌, ◌∙◌, ℕ, min, arith, ap, length, take, slice_index, take_all, bytes_left, hash_behind, lane}
+use Rattle.par2_digests.proofs.Common.{◌≡◌, ◌≤◌, ◌/◌, ◌%◌, ◌*◌, ◌∙◌, ℕ, min, arith, ap, refl, rules, length, take, slice_index, take_all, bytes_left, hash_behind, lane}
 use Rattle.par2_digests.proofs.FeedLaws.{hash_more, same_rest, size_behind}
+use Rattle.par2_digests.proofs.LaneLaws.{all_of_four}
 use Rattle.par2_digests.proofs.blocks.hashed.Goals as goal
+
+pub loop-feed-init : goal.loop-feed-init
+loop-feed-init c =
+    let size : length c.args.hash ≡ 4 = search rules in
+    let hash = c.in_each_lane-state.ensures 0 (omega arith) ∙ all_of_four c.args.hash size in
+    record { hash = ap (λ h. hash_behind h (bytes_left c.args.feed) (length (bytes_left c.args.feed) / 64)) hash; block = c.told-block; size = refl; rest = refl }
 
 pub loop-feed-smaller : goal.loop-feed-smaller
 loop-feed-smaller c =
@@ -20,8 +27,7 @@ loop-feed-preserved c =
     let held = c.loop-feed.invariant in
     let hash = lane slice_index 0 c.loop-feed.state in
     record {
-      hash =
-          ap (λ h. hash_behind h rest (length rest / 64)) (c.after_block-state.ensures 0 (omega arith))
+      hash = ap (λ h. hash_behind h rest (length rest / 64)) (c.after_block-state.ensures 0 (omega arith))
           ∙ hash_more bytes rest c.fill.new.blocks hash c.fill.result count full c.fill.ensures.bytes c.fill.ensures.rest
           ∙ held.hash;
       block = c.fill.auto.blocks ∙ held.block;
@@ -45,7 +51,5 @@ returns-clause-rest c =
     let all : count ≡ length bytes = omega (arith, c.fill.ensures.count, c.loop-feed.invariant.block, c.loop-feed-test.false) in
     let size : length whole % 64 ≡ count = omega (arith, c.loop-feed.invariant.size, c.fill.ensures.count, c.loop-feed.invariant.block, c.loop-feed-test.false) in
     let none : length bytes / 64 * 64 ≡ 0 = omega (arith, c.fill.ensures.count, c.loop-feed.invariant.block, c.loop-feed-test.false) in
-    ap (λ (n : ℕ). take n block) size
-    ∙ c.fill.ensures.bytes
-    ∙ take_all count bytes (omega arith)
-    ∙ rw none at c.loop-feed.invariant.rest
+    ap (λ (n : ℕ). take n block) size ∙ c.fill.ensures.bytes
+    ∙ take_all count bytes (omega arith) ∙ rw none at c.loop-feed.invariant.rest

@@ -14,8 +14,7 @@ loop-k-preserved c =
     let left_is = c.new-feed.ensures ∙ ap (λ xs. rest ++ xs) (c.ending-padding.ensures c.args.len (omega arith)) in
     let room : at + 128 ≤ length tails = omega (arith, c.loop-k.invariant.count, c.loop-k-test.true) in
     let lent : at + 128 - at ≡ 128 = omega arith in
-    let size : length tail ≡ 128 =
-    c.fill.auto.blocks ∙ length-take-le (at + 128 - at) (drop at tails) (omega (arith, length-drop at tails)) ∙ lent in
+    let size : length tail ≡ 128 = c.fill.auto.blocks ∙ length-take-le (at + 128 - at) (drop at tails) (omega (arith, length-drop at tails)) ∙ lent in
     record {
       count = same_len_mid at _ tails tail c.fill.auto.blocks ∙ c.loop-k.invariant.count;
       done =

@@ -36,10 +36,8 @@ loop-k-preserved g c =
                 let hash : lane g.V.Lanes.at k c.state_of.result ≡ state.hash = c.state_of.ensures k m none (omega (arith, c.requires.lanes)) low absorbed in
                 let ended = λ (d : Task). c.finish_all.ensures k d last rest low (subst (λ (h : List ℕ). LeadsTo (get_or tasks k d) h last rest) (sym hash) (leads d)) in
                 let taken = λ (d : Task). subst (λ (q : Pending). HasTaken (get_or c.finish_all.new.tasks k d) (m ++ message_of q.parts.items)) (sym here) (ended d) in
-                let behind : HasAbsorbed new p =
-                subst (λ (q : Pending). HasAbsorbed new (m ++ message_of q.parts.items)) here
-                (c.state_behind.ensures m (subst (λ (q : Pending). HasAbsorbed q.state m) (sym here) absorbed)
-                (taken _)) in
+                let behind : HasAbsorbed new p = subst (λ (q : Pending). HasAbsorbed new (m ++ message_of q.parts.items)) here
+                (c.state_behind.ensures m (subst (λ (q : Pending). HasAbsorbed q.state m) (sym here) absorbed) (taken _)) in
                 subst (λ (i : ℕ). HasAbsorbed (get_or (set states k new) i no_state) (m ++ message_of (get_or pendings i none).parts.items)) (sym same)
                 (subst (λ (s : Midstate). HasAbsorbed s p) (sym (get_or-set_same states k new no_state (omega (arith, c.loop-k.invariant.count, c.requires.lanes, c.requires.few)))) behind)
           ];

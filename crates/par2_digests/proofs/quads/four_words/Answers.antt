@@ -27,3 +27,8 @@ returns-then-this-eq8 g c = λ k h.
           ∙ c.words_of_four-high.ensures.words j (omega (arith, c.if-this-eq8.true, h, above))
           ∙ ap (λ start. four_words_at c.args.bytes.now (start + c.args.offset)) there
     ]
+
+pub returns-then-this-eq4 : goal.returns-then-this-eq4
+returns-then-this-eq4 g c = λ k h.
+    let s = c.state_of-then-this-eq4.ensures in
+    rw (s.a, s.b, s.c, s.d, c.with_lanes.ensures, c.with_lanes-then-this-eq4.ensures, c.with_lanes-then-this-eq4-2.ensures, c.with_lanes-then-this-eq4-3.ensures) (c.words_of_four.ensures.words k (omega (arith, h, c.if-this-eq4.true)))

@@ -1,4 +1,4 @@
-use Rattle.par2_digests.proofs.Common.{◌≡◌, ◌<◌, ◌*◌, ℕ, List, [], ◌∷◌, ap, arith, drop, get_or, refl, rules, slice_index, subst, sym, take, ◌∙◌, take-take, hash_behind, lane, works, LeadsTo}
+use Rattle.par2_digests.proofs.Common.{◌≡◌, ◌<◌, ◌*◌, ℕ, List, [], ◌∷◌, ap, arith, drop, get_or, refl, rules, slice_index, subst, sym, take, ◌∙◌, take-take, get_or-take, length-take-le, hash_behind, lane, works, HasBlocks, LeadsTo, Task}
 use Rattle.par2_digests.proofs.FeedLaws.{blocks_alike}
 use Rattle.par2_digests.proofs.LaneLaws.{each_lane}
 use Rattle.par2_digests.proofs.tasks.go_on.Goals as goal
@@ -41,3 +41,8 @@ pub loop-blocks-smaller : goal.loop-blocks-smaller
 loop-blocks-smaller g c =
     let left : 0 < get_or (works c.loop-blocks.tasks) c.args.k 0 = c.has_company.ensures c.loop-blocks-test.true in
     omega (arith, left, c.turn_all.ensures.shrinks c.args.k c.requires.within)
+
+pub turn_all-requires-clause-left : goal.turn_all-requires-clause-left
+turn_all-requires-clause-left g c = λ k none several low.
+    let size = length-take-le c.args.count c.loop-blocks.tasks (omega (arith, c.loop-blocks.invariant.tasks, c.requires.lanes, c.requires.few)) in
+    subst (λ (t : Task). HasBlocks t c.batch_of-batch.result) (get_or-take c.args.count c.loop-blocks.tasks k none low) (c.batch_of-batch.ensures.left k none several (omega (arith, size, low)))

@@ -34,8 +34,7 @@ loop-k-preserved g c =
             | inr above ↦
                 let same : j ≡ k = omega arith in
                 let task : get_or (set tasks k new) j none ≡ new = ap (λ (n : ℕ). get_or (set tasks k new) n none) same ∙ get_or-set_same tasks k new none within in
-                let bytes : take (n * 64) (drop (2048 * j) (put_mid start j-len blocks block)) ≡ block =
-                ap (λ (m : ℕ). take (n * 64) (drop (2048 * m) (put_mid start j-len blocks block))) same
+                let bytes : take (n * 64) (drop (2048 * j) (put_mid start j-len blocks block)) ≡ block = ap (λ (m : ℕ). take (n * 64) (drop (2048 * m) (put_mid start j-len blocks block))) same
                 ∙ ap (λ (m : ℕ). take m (drop start (put_mid start j-len blocks block))) (sym bytes-len)
                 ∙ blocks_at blocks block start j-len room size in
                 let started = rw same at leads in

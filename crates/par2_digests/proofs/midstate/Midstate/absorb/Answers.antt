@@ -8,8 +8,7 @@ returns c = λ m held.
     let state = c.args.self.now in
     let bytes = bytes_left c.new-feed.result in
     let used : state.length % 64 ≡ length m % 64 = omega (arith, held.0) in
-    let bytes_is : bytes ≡ drop (length m / 64 * 64) m ++ x =
-    c.new-feed.ensures ∙ ap (λ (a : List ℕ). a ++ x) (ap (λ (n : ℕ). take n state.rest) used ∙ held.1.1) in (
+    let bytes_is : bytes ≡ drop (length m / 64 * 64) m ++ x = c.new-feed.ensures ∙ ap (λ (a : List ℕ). a ++ x) (ap (λ (n : ℕ). take n state.rest) used ∙ held.1.1) in (
       omega (arith, held.0, c.length_of.ensures, length-append m x),
       (
         c.hashed-self.ensures.hash ∙ goes_on m x bytes state.hash held.1.0 bytes_is,
