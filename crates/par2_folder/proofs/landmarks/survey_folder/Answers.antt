@@ -9,8 +9,7 @@ returns-clause-landmarks c = subst (λ f. AreLandmarksOf f c.mark_names.new.land
 
 pub returns-clause-some : goal.returns-clause-some
 returns-clause-some c = λ files.
-    let snapshot = c.in_ok-snapshot.snapshot in
-    let whole = ap entries (sym c.in_ok-snapshot.ensures.folder) ∙ files_of (files_in snapshot) c.in_ok-snapshot.ensures.kept.sorted in
+    let whole = ap entries (sym c.in_ok-snapshot.ensures.folder) ∙ files_of (files_in c.in_ok-snapshot.snapshot) c.in_ok-snapshot.ensures.kept.sorted in
     let names = c.in_ok-names.ensures (subst (λ l. 0 < length l) whole files) in
     c.in_ok-end.ensures.some (omega (arith, names, c.deref.ensures.len))
 
