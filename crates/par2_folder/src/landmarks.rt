@@ -7,7 +7,7 @@ ghost use Rattle.par2_folder.specs.Borders.{IsFurther, run_texts, text_before};
 ghost use Rattle.par2_folder.specs.Landmarks.{AreBehind, AreLandmarksOf, HasLandmark};
 ghost use Rattle.par2_folder.specs.Runs.{HaveAbsorbed};
 ghost use Rattle.par2_folder.specs.Views.{change_of};
-ghost use Rattle.par2_folder.specs.declared.snapshot.Border.TheVariants.{At};
+ghost use Rattle.par2_folder.specs.declared.snapshot.Border.TheVariants.{At, End};
 ghost use Rattle.md5.specs.Md5.{md5};
 ghost use Rattle.par2_digests.specs.Texts.{texts_of};
 ghost use Rattle.par2_folder.specs.Snapshots.{files_in, folder_in};
@@ -166,6 +166,36 @@ fn go_on<'a>(
     })
 }
 
+// Goes on from name to name and to the end, and marks the folder at each name.
+fn mark_names<'a>(
+    landmarks: &mut Landmarks,
+    alloc: Global,
+    snapshot: &Snapshot<'a>,
+    names: &[Name],
+    text: &'a [u8],
+) -> Result<Progress>
+    requires kept { IsKept (files_in snapshot.now) }
+    requires marks { AreLandmarksOf (folder_in snapshot.now) landmarks.old }
+    ensures there { IfOk result (IsAt End (folder_in snapshot.now) text.now) }
+    ensures marks { OnOk result (AreLandmarksOf (folder_in snapshot.now) landmarks.new) }
+    ensures some { 0 < length names.now → OnOk result (0 < length landmarks.new.list.items) }
+{
+    let mut border = Border::Beginning;
+    let mut progress = Progress {
+        folder: Midstate::new(),
+        text: Midstate::new(),
+        taken: 0,
+    };
+    for name in names {
+        if is_further(border, name) {
+            progress = go_on(alloc, snapshot, text, progress, border, Border::At(name))?;
+            landmarks.mark(name, progress.folder)?;
+            border = Border::At(name);
+        }
+    }
+    go_on(alloc, snapshot, text, progress, border, Border::End)
+}
+
 /// The folder's fingerprint and the digest of a text, which are computed side by side, and landmarks of the folder.
 pub fn survey_folder<'a>(alloc: Global, folder: &'a Folder, text: &'a [u8]) -> Result<Survey>
     ensures fingerprint { IfOk result (λ found. found.fingerprint ≡ fingerprint folder.now.files) }
@@ -176,21 +206,7 @@ pub fn survey_folder<'a>(alloc: Global, folder: &'a Folder, text: &'a [u8]) -> R
     let snapshot = folder.snapshot()?;
     let names = landmark_names(alloc, &snapshot)?;
     let mut landmarks = Landmarks::none(alloc);
-    let mut border = Border::Beginning;
-    let mut progress = Progress {
-        folder: Midstate::new(),
-        text: Midstate::new(),
-        taken: 0,
-    };
-    for name in &names {
-        if is_further(border, name) {
-            let next = Border::At(name);
-            progress = go_on(alloc, &snapshot, text, progress, border, next)?;
-            landmarks.mark(name, progress.folder)?;
-            border = next;
-        }
-    }
-    let mut end = go_on(alloc, &snapshot, text, progress, border, Border::End)?;
+    let mut end = mark_names(&mut landmarks, alloc, &snapshot, &names, text)?;
     end.text.absorb(&[Part::Bytes(&text[end.taken..])]);
     Ok(Survey {
         fingerprint: end.folder.digest(),

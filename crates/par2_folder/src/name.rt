@@ -56,10 +56,7 @@ fn is_name(text: &str) -> bool
     ensures fits { IsTrue result → length text.now ≤ 255 }
 {
     let bytes = text.as_bytes();
-    if !has_length(bytes) {
-        return false;
-    }
-    if bytes.contains(&b'/') || bytes.contains(&0) {
+    if !has_length(bytes) || bytes.contains(&b'/') || bytes.contains(&0) {
         return false;
     }
     if text == "." || text == ".." {

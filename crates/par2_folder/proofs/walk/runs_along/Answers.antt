@@ -6,3 +6,6 @@ loop-name-init c = rw c.in_ok-states.ensures.items (c.start.ensures c.args.folde
 
 pub loop-name-preserved : goal.loop-name-preserved
 loop-name-preserved c = grind (arith)
+
+pub runs_before-requires-clause-further : goal.runs_before-requires-clause-further
+runs_before-requires-clause-further c = c.is_further.ensures.further c.if-is_further.true

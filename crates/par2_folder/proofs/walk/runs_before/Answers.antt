@@ -1,4 +1,4 @@
-use Rattle.par2_folder.proofs.Common.{◌≡◌, ◌+◌, ◌∙◌, Bool, true, false, [], ◌∷◌, IsTrue, ap, arith, cond, map, subst, sym, append-nil, are_applicable, change_of, text_before, touches, run_texts, AreTo, HaveAbsorbed, folder_in}
+use Rattle.par2_folder.proofs.Common.{◌≡◌, ◌+◌, ◌∙◌, Bool, true, false, [], ◌∷◌, IsTrue, ap, arith, cond, map, subst, sym, append-nil, common_steps, are_applicable, change_of, text_before, touches, run_texts, AreTo, HaveAbsorbed, folder_in}
 use Rattle.par2_folder.proofs.Walks.{absorbed_here, arrived, goes_on, in_range, next_applicable, parents_then}
 use Rattle.par2_folder.proofs.walk.runs_before.Goals.{After-touches-in-loop-change, then-touches, else-touches, then-touches-2+in_ok-push_between-2, else-touches-2}
 use Rattle.par2_folder.proofs.walk.runs_before.Goals as goal
@@ -61,3 +61,6 @@ loop-change-preserved c =
 
 pub returns-clause-texts : goal.returns-clause-texts
 returns-clause-texts c = arrived c.loop-change.invariant c.loop-change-test.false
+
+pub offset_bounds-states-place : goal.offset_bounds-states-place
+offset_bounds-states-place c = grind (arith, common_steps)
