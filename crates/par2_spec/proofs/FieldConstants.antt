@@ -1,6 +1,8 @@
 -- The powers of the constants rise, so the constants are distinct.
-use Rattle.par2_spec.proofs.Common.{Bool, ◌+◌, List, eqb, ℕ, ◌<◌, ◌≡◌, refl, sym, subst, true, false≢true, arith, length, get_or, filter, eqb-true, cases_lt, range_with_len, length-range_with_len, get_or-range_with_len, constant_powers, constant, IsStrictlyIncreasing, AllPairs-from_increasing, IsStrictlyIncreasing-filter}
+use Rattle.par2_spec.proofs.Common.{Bool, ◌+◌, List, eqb, ℕ, ◌∙◌, ◌<◌, ◌≡◌, refl, sym, subst, true, false≢true, arith, length, get_or, filter, eqb-true, cases_lt, range_with_len, length-range_with_len, get_or-range_with_len, constant_powers, constant, IsStrictlyIncreasing, AllPairs-from_increasing, IsStrictlyIncreasing-filter}
 use Rattle.std.proofs.lemmas.List.Elements.{All-filter, All-from_get_or, All-get_or, filter_passes}
+use Rattle.std.proofs.lemmas.List.Sums.{length-filter}
+use Rattle.std.specs.List.{count_by}
 use Rattle.par2_spec.proofs.TestLaws.{by_either}
 use Rattle.par2_spec.specs.Field.{is_spared}
 use Rattle.par2_spec.proofs.FieldOrder.{power-injective, power-nonzero, power-lt}
@@ -12,13 +14,13 @@ powers_rise : IsStrictlyIncreasing constant_powers
 unfolding constant_powers
 powers_rise = IsStrictlyIncreasing-filter is_spared (range_with_len 1 65535) (range_rises 1 65535)
 
--- how many there are is computed
-test_length : eqb (length constant_powers) 32768 ≡ true
-unfolding constant_powers
-test_length = refl
+-- how many there are is computed, without the list of them
+test_count : eqb (count_by is_spared (range_with_len 1 65535)) 32768 ≡ true
+test_count = refl
 
 pub length-constant_powers : length constant_powers ≡ 32768
-length-constant_powers = eqb-true (length constant_powers) 32768 test_length
+unfolding constant_powers
+length-constant_powers = length-filter is_spared (range_with_len 1 65535) ∙ eqb-true (count_by is_spared (range_with_len 1 65535)) 32768 test_count
 
 -- 65,535 itself is none of them
 spared-lt : (n : ℕ) → n < 65536 → is_spared n ≡ true → n < 65535
@@ -58,5 +60,5 @@ pub constant-injective : (i j : ℕ) → i < j → j < 32768 → constant i ≡ 
 unfolding constant
 constant-injective i j h k =
     power-injective (get_or constant_powers i 0) (get_or constant_powers j 0)
-    (AllPairs-from_increasing constant_powers powers_rise i j 0 h (omega (arith, length-constant_powers)))
+    (AllPairs-from_increasing constant_powers powers_rise i j 0 h (subst (λ n. j < n) (sym length-constant_powers) k))
     (constant_power-lt j k)

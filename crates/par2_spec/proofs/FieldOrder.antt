@@ -102,38 +102,37 @@ walk_power (suc n) x h =
 walk_one : (n : ℕ) → walk n 1 ≡ pow 2 n
 walk_one n = walk_power n 1 (omega arith) ∙ product-one (pow 2 n) (power-lt 2 n (omega arith))
 
--- whether none of the next n doublings is 1
-leaves_one : ℕ → ℕ → Bool → Bool
-leaves_one zero x so_far = so_far
-leaves_one (suc n) x so_far = let y = double x in leaves_one n y (so_far && not (eqb y 1))
+-- whether none of the next n doublings is 1, but the one after them
+comes_round : ℕ → ℕ → Bool → Bool
+comes_round zero x so_far = so_far && eqb (double x) 1
+comes_round (suc n) x so_far = let y = double x in comes_round n y (so_far && not (eqb y 1))
 
-leaves_one_at : (n x : ℕ) (so_far : Bool) → leaves_one n x so_far ≡ true → (so_far ≡ true) × ((k : ℕ) → k < n → walk (suc k) x ≡ 1 → ⊥)
-unfolding leaves_one walk
-leaves_one_at zero x so_far e = (e, λ k h. absurd (omega arith))
-leaves_one_at (suc n) x so_far e =
-    let rest = leaves_one_at n (double x) (so_far && not (eqb (double x) 1)) e in
+comes_round_at : (n x : ℕ) (so_far : Bool) → comes_round n x so_far ≡ true
+    → (so_far ≡ true) × ((walk (suc n) x ≡ 1) × ((k : ℕ) → k < n → walk (suc k) x ≡ 1 → ⊥))
+unfolding comes_round walk
+comes_round_at zero x so_far e =
+    let parts = and_parts so_far (eqb (double x) 1) e in
+    (parts.0, (eqb-true (double x) 1 parts.1, λ k h. absurd (omega arith)))
+comes_round_at (suc n) x so_far e =
+    let rest = comes_round_at n (double x) (so_far && not (eqb (double x) 1)) e in
     let parts = and_parts so_far (not (eqb (double x) 1)) rest.0 in
-    (parts.0, at (double x) (not-true _ parts.1) rest.1)
+    (parts.0, (rest.1.0, at (double x) (not-true _ parts.1) rest.1.1))
   where
     at : (y : ℕ) → eqb y 1 ≡ false → ((k : ℕ) → k < n → walk (suc k) y ≡ 1 → ⊥) → (k : ℕ) → k < suc n → walk k y ≡ 1 → ⊥
     at y first later zero h = eqb-false y 1 first
     at y first later (suc k) h = later k (omega arith)
 
--- the two computations: 65535 doublings lead from 1 to 1, and no fewer do
-test_around : walk 65535 1 ≡ 1
-unfolding walk double
-test_around = refl
-
-test_no_sooner : leaves_one 65534 1 true ≡ true
-unfolding leaves_one double
-test_no_sooner = refl
+-- the computation: 65535 doublings lead from 1 to 1, and no fewer do
+test_order : comes_round 65534 1 true ≡ true
+unfolding comes_round double
+test_order = refl
 
 pub power-65535 : pow 2 65535 ≡ 1
-power-65535 = sym (walk_one 65535) ∙ test_around
+power-65535 = sym (walk_one 65535) ∙ (comes_round_at 65534 1 true test_order).1.0
 
 pub power-sooner : (k : ℕ) → 0 < k → k < 65535 → pow 2 k ≡ 1 → ⊥
 power-sooner zero z h e = absurd (omega arith)
-power-sooner (suc k) z h e = (leaves_one_at 65534 1 true test_no_sooner).1 k (omega arith) (walk_one (suc k) ∙ e)
+power-sooner (suc k) z h e = (comes_round_at 65534 1 true test_order).1.1 k (omega arith) (walk_one (suc k) ∙ e)
 
 power-whole : (i j : ℕ) → i + j ≡ 65535 → mul (pow 2 i) (pow 2 j) ≡ 1
 power-whole i j e = sym (power-add 2 i j (omega arith)) ∙ ap (pow 2) e ∙ power-65535

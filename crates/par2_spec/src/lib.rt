@@ -26,7 +26,7 @@ use thiserror::Error;
 pub type Result<T, E = AllocError> = std::result::Result<T, E>;
 
 /// The type of a packet.
-#[derive(Clone, Copy, PartialEq, Eq, Debug, Drop)]
+#[derive(Clone, Copy, PartialEq, Eq, Drop)]
 pub enum Kind {
     Main,
     FileDesc,
@@ -200,7 +200,7 @@ pub enum Verdict {
 }
 
 /// Why a run of the program fails.
-#[derive(Clone, Copy, PartialEq, Eq, Debug, Drop)]
+#[derive(Clone, Copy, Drop)]
 pub enum Failure {
     Refused(Fault),
     Store,
@@ -212,7 +212,7 @@ pub enum Failure {
 }
 
 /// The version of a journal's spelling.
-#[derive(Clone, Copy, PartialEq, Eq, Debug, Drop)]
+#[derive(Clone, Copy, PartialEq, Eq, Drop)]
 pub enum Version {
     /// Without a cursor: each entry is one that an undo applies.
     One,
