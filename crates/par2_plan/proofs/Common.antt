@@ -3,7 +3,7 @@
 pub use Rattle.std.proofs.Common.{Bool, Bor, Err, Global, IsTrue, List, Ok, [], ap, append-nil, append_assoc, ap₂, arith, cond, drop, false, get_or, inl, inr, length, map, min, not, refl, rules, string_bytes, subst, suc, sym, take, tests, true, zero, ℕ, ◌%◌, ◌&&◌, ◌++◌, ◌+◌, ◌-◌, ◌<◌, ◌==◌, ◌||◌, ◌↔◌, ◌∙◌, ◌∷◌, ◌≡◌, ◌≤◌, ◌⊎◌}
 pub use Rattle.std.proofs.lemmas.Bool.{and_from, and_parts, both_ways, eq-eqb, false_from_ne_true, ne_eqb, not-false, not-true, or_right}
 pub use Rattle.std.proofs.lemmas.Iterator.{YieldsList, YieldsList-from_map, YieldsList-from_map_by, YieldsList-from_range, YieldsList-from_slice, YieldsList-from_zip, items_from_collect, items_from_drains}
-pub use Rattle.std.proofs.lemmas.Iterator.Adapters.{fact_from_collect, items_from_extend, position_from-zero}
+pub use Rattle.std.proofs.lemmas.Iterator.Adapters.{fact_from_collect, fact_from_extend, position_from-zero}
 pub use Rattle.std.proofs.lemmas.Iterator.Consumers.{YieldsList-at, YieldsList-from_filter, YieldsList-from_filter_map, map_from_collect}
 pub use Rattle.std.proofs.lemmas.List.{drop-drop, drop-map, drop_all, drop_more, length-append, length-map, length-replicate, length-take, map-append, map_more, nil_from_length, take-map, take-replicate, take_all, take_min, take_more}
 pub use Rattle.std.proofs.lemmas.List.Elements.{All-head, All-tail, filter-append, filter_agree, filter_map-append}
@@ -27,7 +27,7 @@ pub use Rattle.std.specs.Slice.Iter.{iter_rest}
 pub use Rattle.std.specs.Str.{bytes_eq}
 pub use Rattle.std.specs.Vec.Iter.{into_iter_items, into_iter_len}
 pub use Rattle.par2_plan.specs.Drafts.{HasItsMd5s, IsDraft, IsDraftBy, has_digest, wrong_digest}
-pub use Rattle.par2_plan.specs.Findings.{AreFindings, GoesOn, found_by, is_sought, lost_by, pairs_of, report_by, reports_by, said_by, said_of}
+pub use Rattle.par2_plan.specs.Findings.{AreFindings, GoesOn, found_by, is_sought, lost_by, lost_from, pairs_of, report_by, reports_by, said_by, said_of}
 pub use Rattle.par2_plan.specs.Repairing.{AreRestored, HoldsAsides, IsAsDescribed, IsWholeWhereMatched, WritesAsDescribed, files_removed, known_by, matches_taken, names_there, place_by, repair_by, writes}
 pub use Rattle.par2_plan.specs.Restoring.{chosen_at, known_in, md5s_of, target_at, targets_among, undetermined_fault}
 pub use Rattle.par2_plan.specs.SliceTexts.{slices_of, text_of, windows_and_texts}

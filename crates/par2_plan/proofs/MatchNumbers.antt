@@ -21,18 +21,6 @@ named names s texts (t ∷ ts) free h =
     one None h = refl
     one (Some i) h = slice_get-get_or names i [] (h i refl)
 
--- ---- targets beside what is answered of each
-
-pub passed : (p : Target → Bool) (ts : List Target) → map (λ z. z.0) (filter (λ z. z.1) (zip ts (map p ts))) ≡ filter p ts
-passed p [] = refl
-passed p (t ∷ ts) = map-cond (λ (z : Target × Bool). z.0) (p t) (t, p t) _ ∙ ap (λ (us : List Target). cond (p t) (t ∷ us) us) (passed p ts)
-
-pub left_out : (p : Target → Bool) (ts : List Target) → map (λ z. z.0.name) (filter (λ z. not z.1) (zip ts (map p ts))) ≡ map (λ t. t.name) (filter (λ t. not (p t)) ts)
-left_out p [] = refl
-left_out p (t ∷ ts) =
-    map-cond (λ (z : Target × Bool). z.0.name) (not (p t)) (t, p t) _ ∙ ap (λ (names : List (List ℕ)). cond (not (p t)) (t.name ∷ names) names) (left_out p ts)
-    ∙ sym (map-cond (λ (u : Target). u.name) (not (p t)) t (filter (λ u. not (p u)) ts))
-
 -- ---- the matches of a set
 
 module _ (folder : Folder) (set : ParSet) (searched : List (List ℕ)) where

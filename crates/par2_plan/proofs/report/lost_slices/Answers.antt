@@ -1,17 +1,27 @@
-use Rattle.par2_plan.proofs.Common.{◌≡◌, ◌∙◌, ◌+◌, List, [], ◌∷◌, ℕ, Bool, not, map, ap, refl, length, arith, rules, tests, filter, zip, enumerate_from, range_with_len, IfOk-weaker, YieldsList-from_map, YieldsList-from_range, YieldsList-from_slice, YieldsList-from_zip, items_from_collect, YieldsList-at, YieldsList-from_filter}
+use Rattle.par2_plan.proofs.Common.{◌≡◌, ◌∙◌, ◌+◌, ◌++◌, ◌∷◌, [], List, ℕ, Bool, true, false, get_or, sym, ap, drop, rules, append-nil, append_assoc, drop_all, drop_more, lost_by, lost_from}
+use Rattle.par2_plan.proofs.report.lost_slices.Goals.{then-not-found-i+in_ok-push, else-not-found-i}
 use Rattle.par2_plan.proofs.report.lost_slices.Goals as goal
 
-numbered : (n : ℕ) (found : List Bool) → zip (range_with_len n (length found)) found ≡ enumerate_from n found
-numbered n [] = refl
-numbered n (b ∷ found) = ap (λ zs. (n, b) ∷ zs) (numbered (n + 1) found)
+pub loop-i-preserved : goal.loop-i-preserved
+loop-i-preserved c =
+    let i : ℕ = c.loop-i.i in
+    let b : Bool = get_or c.args.found.now i false in
+    let later : List Bool = drop (i + 1) c.args.found.now in
+    let old : List ℕ = c.loop-i.lost.items in
+    let list : List ℕ = c.if-not-found-i.lost.items in
+    let step : list ++ lost_from (i + 1) later ≡ old ++ lost_from i (b ∷ later) =
+    elim c.if-not-found-i.branch as (λ _. list ++ lost_from (i + 1) later ≡ old ++ lost_from i (b ∷ later)) [
+      | then-not-found-i+in_ok-push w ↦
+          let pushed : list ≡ old ++ i ∷ [] = search rules in
+          let out : b ≡ false = search rules in
+          ap (λ xs. xs ++ lost_from (i + 1) later) pushed ∙ append_assoc old (i ∷ []) (lost_from (i + 1) later) ∙ ap (λ x. old ++ lost_from i (x ∷ later)) (sym out)
+      | else-not-found-i w ↦
+          let same : list ≡ old = search rules in
+          let there : b ≡ true = search rules in
+          ap (λ xs. xs ++ lost_from (i + 1) later) same ∙ ap (λ x. old ++ lost_from i (x ∷ later)) (sym there)
+    ] in
+    step ∙ ap (λ flags. old ++ lost_from i flags) (sym (drop_more c.args.found.now i false c.loop-i-test.true)) ∙ c.loop-i.invariant
 
 pub returns : goal.returns
 returns c =
-    let is_lost = λ (z : ℕ × Bool). not z.1 in
-    IfOk-weaker c.collect.result _ _ (λ list e. e ∙ ap (λ zs. map (λ (z : ℕ × Bool). z.0) (filter is_lost zs)) (numbered 0 c.args.found.now))
-    (items_from_collect _ c.collect.ensures.ran
-    (YieldsList-from_map _ (λ (z : ℕ × Bool). z.0)
-    (YieldsList-at c.map.ensures.source (YieldsList-from_filter _ is_lost
-    (YieldsList-at c.filter-lost.ensures.source (YieldsList-from_zip (YieldsList-from_range 0 _ (length c.args.found.now) c.zip-slices.ensures.first (omega arith)) (YieldsList-from_slice c.args.found.now cc)))
-    c.filter-lost.ensures.closure (λ x b q k. search (rules, tests))))
-    c.map.ensures.closure (λ x r q k. search rules)))
+    sym (append-nil c.loop-i.lost.items) ∙ ap (λ flags. c.loop-i.lost.items ++ lost_from c.loop-i.i flags) (sym (drop_all c.loop-i.i c.args.found.now c.loop-i-test.false)) ∙ c.loop-i.invariant
