@@ -1,6 +1,4 @@
-use Rattle.par2_plan.proofs.Common.{◌≡◌, ◌∙◌, ◌+◌, ◌++◌, ◌∷◌, [], List, ℕ, Bor, true, false, not, cond, map, sym, ap, subst, take, rules, take_all, map_more, not-true, not-false, is_among, distinct}
-use Rattle.par2_spec.specs.NameTrees.{HoldsNames}
-use Rattle.par2_spec.proofs.TreeLaws.{holds_more}
+use Rattle.par2_plan.proofs.Common.{◌≡◌, ◌∙◌, ◌+◌, ◌++◌, ◌∷◌, [], List, ℕ, Bor, true, false, not, cond, map, sym, ap, subst, take, rules, take_all, map_more, not-true, not-false, is_among, distinct, HoldsNames, holds_more}
 use Rattle.par2_plan.proofs.Choices.{distinct_more}
 use Rattle.par2_plan.proofs.candidates.distinct.Goals.{then-branch+in_ok-push, else-branch}
 use Rattle.par2_plan.proofs.candidates.distinct.Goals as goal

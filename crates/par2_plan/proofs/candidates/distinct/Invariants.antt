@@ -1,5 +1,4 @@
-use Rattle.par2_plan.proofs.Common.{◌≡◌, map, take, distinct}
-use Rattle.par2_spec.specs.NameTrees.{HoldsNames}
+use Rattle.par2_plan.proofs.Common.{◌≡◌, map, take, distinct, HoldsNames}
 use Rattle.par2_plan.proofs.candidates.distinct.Given as goal
 
 abbrev pub invariant-loop-name : goal.invariant-loop-name

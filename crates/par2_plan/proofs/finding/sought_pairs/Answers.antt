@@ -1,5 +1,4 @@
-use Rattle.par2_plan.proofs.Common.{◌∙◌, List, sym, ap, arith, take_all, append-nil, Target, contains, slice_cmp, nat_cmp, pairs_of}
-use Rattle.std.proofs.lemmas.List.Elements.{filter_more}
+use Rattle.par2_plan.proofs.Common.{◌∙◌, ap, arith, append-nil, take_all, Target, contains, slice_cmp, nat_cmp, pairs_of, filter_more}
 use Rattle.std.proofs.lemmas.List.Concat.{flat_map-append}
 use Rattle.par2_plan.proofs.finding.sought_pairs.Goals as goal
 

@@ -1,11 +1,9 @@
-use Rattle.par2_plan.proofs.Common.{◌∙◌, List, ℕ, Bor, not, ap, append-nil, arith, filter, take_all, is_among}
-use Rattle.std.proofs.lemmas.List.Elements.{filter_more}
+use Rattle.par2_plan.proofs.Common.{◌∙◌, List, ℕ, not, ap, append-nil, arith, filter, take_all, is_among, filter_more}
 use Rattle.par2_plan.proofs.matching.free_names.Goals as goal
 
 pub loop-name-preserved : goal.loop-name-preserved
 loop-name-preserved c = λ all h.
-    let key : Bor (List ℕ) = record { ref_ptr = c.args.candidates.ref_ptr; now = c.name-item.result } in
-    grind (arith, filter_more (λ (n : List ℕ). not (is_among all n)) c.args.candidates.now c.loop-name.name-index c.name-item.result c.loop-name-test.true, h key, c.loop-name.invariant all h, append-nil)
+    grind (arith, filter_more (λ (n : List ℕ). not (is_among all n)) c.args.candidates.now c.loop-name.name-index c.name-item.result c.loop-name-test.true, h (record { ref_ptr = c.args.candidates.ref_ptr; now = c.name-item.result }), c.loop-name.invariant all h, append-nil)
 
 pub loop-name-init : goal.loop-name-init
 loop-name-init c = λ all h. c.new-names.ensures.items

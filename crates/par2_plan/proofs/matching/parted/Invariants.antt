@@ -1,5 +1,4 @@
-use Rattle.par2_plan.proofs.Common.{◌≡◌, Bor, map, not, filter, take, Target, is_needing}
-use Rattle.par2_spec.specs.NameTrees.{HoldsNames}
+use Rattle.par2_plan.proofs.Common.{◌≡◌, Bor, map, not, take, filter, Target, is_needing, HoldsNames}
 use Rattle.par2_plan.proofs.matching.parted.Given as goal
 
 abbrev pub invariant-loop-target : goal.invariant-loop-target

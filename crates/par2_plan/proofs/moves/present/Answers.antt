@@ -1,5 +1,4 @@
-use Rattle.par2_plan.proofs.Common.{List, ℕ, Option, arith, append-nil, map-append, has, Target, take_all, rules}
-use Rattle.std.proofs.lemmas.List.Elements.{filter_more}
+use Rattle.par2_plan.proofs.Common.{List, ℕ, arith, append-nil, rules, Option, map-append, take_all, has, Target, filter_more}
 use Rattle.par2_plan.proofs.moves.present.Goals as goal
 
 pub loop-needing-preserved : goal.loop-needing-preserved

@@ -1,5 +1,4 @@
-use Rattle.par2_plan.proofs.Common.{◌≡◌, ◌∙◌, List, map, ap, arith, append-nil, map_more, map-append, take_all, filter_map-append, texts_written}
-use Rattle.par2_folder.specs.Views.{change_of}
+use Rattle.par2_plan.proofs.Common.{◌∙◌, List, map, ap, arith, append-nil, map_more, map-append, take_all, filter_map-append, texts_written, change_of}
 use Rattle.par2_folder.specs.declared.change.Change.{Change}
 use Rattle.par2_plan.proofs.draft.Draft.texts.Goals as goal
 
