@@ -2,12 +2,12 @@
 
 pub use Rattle.std.proofs.Common.{Bool, Bor, Err, Global, IsTrue, List, Ok, [], ap, append-nil, append_assoc, ap₂, arith, cond, drop, false, get_or, inl, inr, length, map, min, not, refl, rules, string_bytes, subst, suc, sym, take, tests, true, zero, ℕ, ◌%◌, ◌&&◌, ◌++◌, ◌+◌, ◌-◌, ◌<◌, ◌==◌, ◌||◌, ◌↔◌, ◌∙◌, ◌∷◌, ◌≡◌, ◌≤◌, ◌⊎◌}
 pub use Rattle.std.proofs.lemmas.Bool.{and_from, and_parts, both_ways, eq-eqb, false_from_ne_true, ne_eqb, not-false, not-true, or_right}
-pub use Rattle.std.proofs.lemmas.Iterator.{YieldsList, YieldsList-from_map, YieldsList-from_map_by, YieldsList-from_range, YieldsList-from_slice, YieldsList-from_zip, items_from_collect, items_from_drains}
-pub use Rattle.std.proofs.lemmas.Iterator.Adapters.{fact_from_collect, items_from_extend, position_from-zero}
+pub use Rattle.std.proofs.lemmas.Iterator.{YieldsList, YieldsList-from_map, YieldsList-from_map_by, YieldsList-from_slice, YieldsList-from_zip, items_from_collect, items_from_drains}
+pub use Rattle.std.proofs.lemmas.Iterator.Adapters.{fact_from_collect, fact_from_extend, position_from-zero}
 pub use Rattle.std.proofs.lemmas.Iterator.Consumers.{YieldsList-at, YieldsList-from_filter, YieldsList-from_filter_map, map_from_collect}
 pub use Rattle.std.proofs.lemmas.List.{drop-drop, drop-map, drop_all, drop_more, length-append, length-map, length-replicate, length-take, map-append, map_more, nil_from_length, take-map, take-replicate, take_all, take_min, take_more}
-pub use Rattle.std.proofs.lemmas.List.Elements.{All-head, All-tail, filter-append, filter_agree, filter_map-append}
-pub use Rattle.std.proofs.lemmas.List.Folds.{concat-append, list_all-map, map_fixed}
+pub use Rattle.std.proofs.lemmas.List.Elements.{All-head, All-tail, filter-append, filter_agree, filter_map-append, filter_more}
+pub use Rattle.std.proofs.lemmas.List.Folds.{concat-append, list_all-map}
 pub use Rattle.std.proofs.lemmas.Option.{MatchOption-at_some, slice_get-get_or}
 pub use Rattle.std.proofs.lemmas.Result.{IfOk-weaker, err_from_is_err_and, on_ok_weaker}
 pub use Rattle.std.proofs.lemmas.Simd.{map-map, splat_is_map}
@@ -20,14 +20,15 @@ pub use Rattle.std.specs.FinMap.{entries}
 pub use Rattle.std.specs.Iterator.Adapters.{zip_first, zip_second}
 pub use Rattle.std.specs.List.{AllByRecursion, IsDistinct, concat, cons_option, enumerate_from, list_all, list_any, position_from, range_with_len}
 pub use Rattle.std.specs.List.Sorted.{IsStrictlyIncreasing}
-pub use Rattle.std.specs.Option.{option_and_then, unwrap_or}
+pub use Rattle.std.specs.Option.{option_and_then}
 pub use Rattle.std.specs.Ordering.{eq_by_cmp, nat_cmp}
 pub use Rattle.std.specs.Prelude.{IfErr, IfOk, IfSome, None, OnOk, Option, Result, Some, String, filter, filter_map, flat_map, is_none, is_ok, is_some, ok_or, option_map, position, replicate, slice_get, slice_index_or, vec_len, zip}
 pub use Rattle.std.specs.Slice.Iter.{iter_rest}
 pub use Rattle.std.specs.Str.{bytes_eq}
 pub use Rattle.std.specs.Vec.Iter.{into_iter_items, into_iter_len}
+pub use Rattle.par2_folder.specs.Views.{change_of}
 pub use Rattle.par2_plan.specs.Drafts.{HasItsMd5s, IsDraft, IsDraftBy, has_digest, wrong_digest}
-pub use Rattle.par2_plan.specs.Findings.{AreFindings, GoesOn, found_by, is_sought, lost_by, pairs_of, report_by, reports_by, said_by, said_of}
+pub use Rattle.par2_plan.specs.Findings.{AreFindings, GoesOn, found_by, is_sought, lost_by, lost_from, pairs_of, report_by, reports_by, said_by, said_of}
 pub use Rattle.par2_plan.specs.Repairing.{AreRestored, HoldsAsides, IsAsDescribed, IsWholeWhereMatched, WritesAsDescribed, files_removed, known_by, matches_taken, names_there, place_by, repair_by, writes}
 pub use Rattle.par2_plan.specs.Restoring.{chosen_at, known_in, md5s_of, target_at, targets_among, undetermined_fault}
 pub use Rattle.par2_plan.specs.SliceTexts.{slices_of, text_of, windows_and_texts}
@@ -36,7 +37,7 @@ pub use Rattle.par2_plan.specs.Written.{bytes_written, texts_written}
 pub use Rattle.par2_plan.specs.declared.restored_slices.Slice.{Slice}
 pub use Rattle.par2_recovery.specs.Rebuilding.{AreEnough, AreRebuilt, known_among}
 pub use Rattle.par2_recovery.specs.Survivors.{IsTrueFault, exponents_of, known_alone, known_of, recovered_of, with_lost_slices}
-pub use Rattle.par2_sets.specs.Asides.{HoldsNames, long_aside}
+pub use Rattle.par2_sets.specs.Asides.{long_aside}
 pub use Rattle.par2_slices.specs.Matching.{Describe, NumbersAreNames, first_intact, matched_from, matched_numbers, text_at, without}
 pub use Rattle.par2_slices.specs.Texts.{AreShort, Window, padded_window, padded_windows, texts_of}
 pub use Rattle.par2_spec.proofs.AcceptedCommands.{command_leads, in_full, in_part, missing, set_in_reads}
@@ -47,12 +48,14 @@ pub use Rattle.par2_spec.proofs.PassedAnswers.{answered_so, err_passed, never_fo
 pub use Rattle.par2_spec.proofs.ReadLaws.{lost_of, present_searched, size_positive, sized_from_counted, sound_of}
 pub use Rattle.par2_spec.proofs.SessionLaws.{ok_no_err, same_ok}
 pub use Rattle.par2_spec.proofs.TestLaws.{err_again, no_place}
+pub use Rattle.par2_spec.proofs.TreeLaws.{holds_more}
 pub use Rattle.par2_spec.proofs.VerdictLaws.{refused_as_reported, verdict_by_words}
 pub use Rattle.par2_spec.specs.Changes.{Change, Remove, Rename, Write, are_applicable, effects}
 pub use Rattle.par2_spec.specs.Checksums.{Pair}
 pub use Rattle.par2_spec.specs.Commands.{Purge, Repair, Verify}
 pub use Rattle.par2_spec.specs.Faults.{fault_where, first_fault, then_fault}
 pub use Rattle.par2_spec.specs.Folders.{Folder, bytes_of, has}
+pub use Rattle.par2_spec.specs.NameTrees.{HoldsNames, name_cmp}
 pub use Rattle.par2_spec.specs.Names.{distinct, is_among, is_name, is_par_name}
 pub use Rattle.par2_spec.specs.Plans.{AreFewFor, LeadsToAfter, now_at, purge_changes}
 unfoldable pub use Rattle.par2_spec.specs.Plans.{changes_of, repair_changes, repair_removals}

@@ -1,5 +1,5 @@
 -- The matches of needing targets, by numbers and by names.
-use Rattle.par2_plan.proofs.Common.{◌≡◌, ℕ, Bool, cond, sym, ◌<◌, List, [], ◌∷◌, length, map, refl, ap, ap₂, not, ◌∙◌, subst, map-cond, all_below_are, found_one, length-map, Option, filter, zip, option_map, slice_get, None, Some, AllByRecursion, IsDistinct, range_with_len, bytes_eq, is_among, Folder, bytes_of, ParSet, Target, needing, intact_names, matches, all-filter, distinct_from_std, std_from_distinct, distinct-filter, text_at, first_intact, without, matched_from, matched_numbers, NumbersAreNames, option_and_then, slice_get-get_or}
+use Rattle.par2_plan.proofs.Common.{◌≡◌, ℕ, ◌<◌, List, [], ◌∷◌, length, map, refl, ap, ap₂, not, ◌∙◌, subst, all_below_are, found_one, length-map, Option, filter, zip, option_map, slice_get, None, Some, AllByRecursion, IsDistinct, range_with_len, bytes_eq, is_among, Folder, bytes_of, ParSet, Target, needing, intact_names, matches, all-filter, distinct_from_std, std_from_distinct, distinct-filter, text_at, first_intact, without, matched_from, matched_numbers, NumbersAreNames, option_and_then, slice_get-get_or}
 use Rattle.std.specs.Prelude.{◌==◌}
 use Rattle.par2_spec.specs.Lists.{all_below}
 
@@ -20,18 +20,6 @@ named names s texts (t ∷ ts) free h =
     one : (o : Option ℕ) → ((i : ℕ) → o ≡ Some i → i < length names) → option_and_then (slice_get names) o ≡ option_map (text_at names) o
     one None h = refl
     one (Some i) h = slice_get-get_or names i [] (h i refl)
-
--- ---- targets beside what is answered of each
-
-pub passed : (p : Target → Bool) (ts : List Target) → map (λ z. z.0) (filter (λ z. z.1) (zip ts (map p ts))) ≡ filter p ts
-passed p [] = refl
-passed p (t ∷ ts) = map-cond (λ (z : Target × Bool). z.0) (p t) (t, p t) _ ∙ ap (λ (us : List Target). cond (p t) (t ∷ us) us) (passed p ts)
-
-pub left_out : (p : Target → Bool) (ts : List Target) → map (λ z. z.0.name) (filter (λ z. not z.1) (zip ts (map p ts))) ≡ map (λ t. t.name) (filter (λ t. not (p t)) ts)
-left_out p [] = refl
-left_out p (t ∷ ts) =
-    map-cond (λ (z : Target × Bool). z.0.name) (not (p t)) (t, p t) _ ∙ ap (λ (names : List (List ℕ)). cond (not (p t)) (t.name ∷ names) names) (left_out p ts)
-    ∙ sym (map-cond (λ (u : Target). u.name) (not (p t)) t (filter (λ u. not (p u)) ts))
 
 -- ---- the matches of a set
 

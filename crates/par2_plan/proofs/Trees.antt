@@ -1,5 +1,6 @@
 -- Trees that are made of lists.
-use Rattle.par2_plan.proofs.Common.{◌≡◌, ◌∙◌, ◌||◌, ℕ, List, [], ◌∷◌, map, refl, ap, ap₂, false, cond, subst, zip, Option, None, Some, IfOk, Result, list_any, BTreeMap, HoldsAsides, itself, clash, is_among, BTreeSet, IsFromIterResult, slice_cmp, nat_list_cmp_total, nat_cmp, eq_by_cmp, YieldsList, items_from_drains, HoldsNames}
+use Rattle.par2_plan.proofs.Common.{◌≡◌, ◌∙◌, ◌||◌, ℕ, List, [], ◌∷◌, map, refl, ap, ap₂, false, cond, subst, zip, Option, None, Some, IfOk, Result, list_any, BTreeMap, HoldsAsides, itself, clash, is_among, BTreeSet, IsFromIterResult, slice_cmp, nat_list_cmp_total, nat_cmp, eq_by_cmp, YieldsList, items_from_drains, name_cmp}
+use Rattle.par2_sets.specs.Asides.{HoldsNames}
 use Rattle.std.specs.Cmp.{eq_by_cmp_equiv}
 use Rattle.std.proofs.lemmas.Map.Made.{update_all_pairs}
 use Rattle.std.specs.Borrow.{Bor}
@@ -9,7 +10,6 @@ use Rattle.std.specs.Iterator.{DrainsIf}
 use Rattle.std.proofs.lemmas.Map.Lookups.{exact_bytes}
 use Rattle.std.proofs.lemmas.Map.Text.{is_eq-slice_cmp}
 use Rattle.std.proofs.lemmas.Map.Views.{tells_apart}
-use Rattle.par2_spec.specs.NameTrees.{name_cmp}
 use Rattle.par2_spec.specs.NameTrees as references
 use Rattle.std.specs.BTreeMap as trees
 

@@ -70,9 +70,13 @@ abbrev pub reports_by : Folder → List Target → Findings → List TargetRepor
 reports_by folder targets findings =
     said_by folder (zip targets findings.targets.needs.items) (map (λ m. m.1) findings.targets.needing.items) findings.found.items
 
--- the numbers of the slices that aren't found
+-- the numbers of the slices that aren't found, where the first has this number
+abbrev pub lost_from : ℕ → List Bool → List ℕ
+lost_from n found = map (λ z. z.0) (filter (λ z. not z.1) (enumerate_from n found))
+
+-- their numbers, from 0 on
 abbrev pub lost_by : List Bool → List ℕ
-lost_by found = map (λ z. z.0) (filter (λ z. not z.1) (enumerate_from 0 found))
+lost_by found = lost_from 0 found
 
 -- what is said of a set
 abbrev pub report_by : Folder → ParSet → Findings → Report

@@ -1,23 +1,23 @@
 //! The files that are searched for what is left of a set's files.
-ghost use Rattle.std.specs.Prelude.{◌≡◌, IfOk};
+ghost use Rattle.std.specs.Prelude.{◌≡◌, map, IfOk};
 ghost use Rattle.par2_spec.specs.Names.{distinct};
 ghost use Rattle.par2_spec.specs.Search as search;
 ghost use Rattle.par2_spec.specs.Answers.{Lists};
 
 use par2_folder::{Folder, Name};
-use par2_sets::ParSet;
+use par2_sets::{ParSet, Target};
 use par2_spec::Result;
 use std::alloc::Global;
 use std::collections::BTreeSet;
 
 // Each name once, where it comes first.
-fn distinct(alloc: Global, names: &[Name]) -> Result<Vec<Name>>
-    ensures { IfOk result (λ list. list.items ≡ distinct names.now) }
+fn distinct(alloc: Global, names: &[&Name]) -> Result<Vec<Name>>
+    ensures { IfOk result (λ list. list.items ≡ distinct (map (λ name. name.now) names.now)) }
 {
     let mut seen = BTreeSet::new(alloc);
     let mut list = Vec::new(alloc);
     for name in names {
-        if seen.insert(name)? {
+        if seen.insert(*name)? {
             list.push(name.copied())?;
         }
     }
@@ -33,11 +33,9 @@ pub fn candidates(
 ) -> Result<Vec<Name>>
     ensures { Lists (search.candidates folder.now.files set.now extras.now) result }
 {
-    let targets = set.targets().iter();
-    let mut names: Vec<Name> = targets
-        .filter(|target| folder.get(target.name()).is_some())
-        .map(|target| target.name().copied())
-        .collect(alloc)?;
-    names.extend(extras.iter().map(|extra| extra.copied()))?;
+    let targets = set.targets().iter().map(Target::name);
+    let present = targets.filter(|name| folder.get(name).is_some());
+    let mut names: Vec<&Name> = present.collect(alloc)?;
+    names.extend(extras)?;
     distinct(alloc, &names)
 }

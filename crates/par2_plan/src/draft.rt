@@ -24,8 +24,7 @@ fn bytes_of(change: &Change) -> Option<&[u8]>
     match change {
         Change::Write(_, bytes) => Some(bytes.as_slice()),
         Change::Replace(_, bytes) => Some(bytes.as_slice()),
-        Change::Rename(_, _) => None,
-        Change::Remove(_) => None,
+        Change::Rename(_, _) | Change::Remove(_) => None,
     }
 }
 
@@ -40,11 +39,13 @@ impl Draft {
     pub fn texts(&self, alloc: Global) -> Result<Vec<&[u8]>>
         ensures { IfOk result (λ texts. texts_of texts.items ≡ texts_written self.now.changes) }
     {
-        let changes = self.changes.as_slice().iter();
-        changes
-            .filter(|change| bytes_of(change).is_some())
-            .map(|change| bytes_of(change).unwrap_or(&[]))
-            .collect(alloc)
+        let mut texts = Vec::new(alloc);
+        for change in self.changes.as_slice() {
+            if let Some(bytes) = bytes_of(change) {
+                texts.push(bytes)?;
+            }
+        }
+        Ok(texts)
     }
 
     /// The changes, by the MD5s of the texts that they write: where one is wrong, the repair is refused.

@@ -34,10 +34,12 @@ fn sought_pairs(alloc: Global, set: &ParSet, names: &BTreeSet<Name>) -> Result<V
     ensures { Lists (pairs_of (λ t. contains (slice_cmp nat_cmp) names.now t.name)
         set.now.targets) result }
 {
-    let targets = set.targets().iter();
-    let sought = targets.filter(|target| names.contains(target.name()));
-    let pairs = sought.flat_map(|target| target.pairs());
-    pairs.copied().collect(alloc)
+    let mut pairs = Vec::new(alloc);
+    for target in set.targets() {
+        let (sought, _) = sought_and_others(target, names);
+        pairs.extend_from_slice(sought)?;
+    }
+    Ok(pairs)
 }
 
 /// The first items, so many or all that there are, and the others.
@@ -107,7 +109,7 @@ fn are_found(
     let pairs = sought_pairs(alloc, set, names)?;
     let texts = file_texts(alloc, folder, candidates)?;
     let windows = found_windows(alloc, &texts, set.slice_size(), &pairs)?;
-    windows.iter().map(|window| window.is_some()).collect(alloc)
+    windows.iter().map(Option::is_some).collect(alloc)
 }
 
 /// What is found of a set by the files of these names.

@@ -54,43 +54,42 @@ pub fn is_needing(folder: &Folder, set: &ParSet, target: &Target) -> bool
     }
 }
 
-// Whether each target of a set is needing.
-fn needs(alloc: Global, folder: &Folder, set: &ParSet) -> Result<Vec<bool>>
-    ensures { Lists (map (search.is_needing folder.now.files set.now) set.now.targets) result }
+// Whether each target of a set is needing, the needing ones, and the names of the others.
+fn parted<'s>(
+    alloc: Global,
+    folder: &Folder,
+    set: &'s ParSet,
+) -> Result<(Vec<bool>, Vec<&'s Target>, BTreeSet<&'s Name>)>
+    ensures needs { let needs = map (search.is_needing folder.now.files set.now) set.now.targets in
+        IfOk result (λ parted. parted.0.items ≡ needs) }
+    ensures needing { let needing = search.needing folder.now.files set.now in
+        IfOk result (λ parted. map (λ t. t.now) parted.1.items ≡ needing) }
+    ensures intact { let intact = search.intact_names folder.now.files set.now in
+        IfOk result (λ parted. HoldsNames parted.2 intact) }
 {
-    set.targets()
-        .iter()
-        .map(|target| is_needing(folder, set, target))
-        .collect(alloc)
-}
-
-// The targets of a set that are needing by these answers.
-fn chosen<'s>(alloc: Global, set: &'s ParSet, needs: &[bool]) -> Result<Vec<&'s Target>>
-    ensures { let chosen = filter (λ z. z.1) (zip set.now.targets needs.now) in
-        IfOk result (λ targets. map (λ t. t.now) targets.items ≡ map (λ z. z.0) chosen) }
-{
-    let targets = set.targets().iter().zip(needs);
-    let chosen = targets.filter(|(_, needs)| **needs);
-    chosen.map(|(target, _)| target).collect(alloc)
-}
-
-// The names of the other ones.
-fn intact_names<'s>(alloc: Global, set: &'s ParSet, needs: &[bool]) -> Result<BTreeSet<&'s Name>>
-    ensures { let intact = filter (λ z. not z.1) (zip set.now.targets needs.now) in
-        IfOk result (λ tree. HoldsNames tree (map (λ z. z.0.name) intact)) }
-{
-    let targets = set.targets().iter().zip(needs);
-    let intact = targets.filter(|(_, needs)| !**needs);
-    intact.map(|(target, _)| target.name()).collect(alloc)
+    let targets = set.targets();
+    let mut needs = Vec::with_capacity(alloc, targets.len())?;
+    let mut needing = Vec::new(alloc);
+    let mut intact = BTreeSet::new(alloc);
+    for target in targets {
+        let is_needing = is_needing(folder, set, target);
+        needs.push(is_needing)?;
+        if is_needing {
+            needing.push(target)?;
+        } else {
+            intact.insert(target.name())?;
+        }
+    }
+    Ok((needs, needing, intact))
 }
 
 // The candidates that are no intact target's.
 fn free_names<'n>(
     alloc: Global,
-    intact: &BTreeSet<&'n Name>,
+    intact: BTreeSet<&'n Name>,
     candidates: &'n [Name],
 ) -> Result<Vec<Name>>
-    ensures { (names : List (List ℕ)) → HoldsNames intact.now names →
+    ensures { (names : List (List ℕ)) → HoldsNames intact.entry names →
         Lists (filter (λ name. not (is_among names name)) candidates.now) result }
 {
     let mut names = Vec::new(alloc);
@@ -115,43 +114,32 @@ fn described<'s>(alloc: Global, targets: &[&'s Target]) -> Result<Vec<par2_slice
         .collect(alloc)
 }
 
-// For each of these targets, which are needing, the number of its match among the files of these names.
-fn match_numbers(
-    alloc: Global,
-    folder: &Folder,
-    set: &ParSet,
-    names: &[Name],
-    targets: &[&Target],
-) -> Result<Vec<Option<usize>>>
-    ensures { let texts = map (bytes_of folder.now.files) names.now in
-        let needing = map (λ t. t.now) targets.now in
-        Lists (matched_numbers set.now.slice_size texts needing) result }
-{
-    let texts = file_texts(alloc, folder, names)?;
-    let described = described(alloc, targets)?;
-    matched(alloc, &texts, set.slice_size(), &described)
-}
-
 // The name of a number, where there is one.
 fn name_at(names: &[Name], number: Option<usize>) -> Option<Name>
     ensures { result ≡ option_and_then (slice_get names.now) number }
 {
-    Some(names.get(number?)?.copied())
+    names.get(number?).map(Name::copied)
 }
 
-// The needing targets with their matches, which have these numbers.
+// The needing targets with their matches among the files of these names.
 fn with_matches<'s>(
     alloc: Global,
-    targets: &[&'s Target],
+    folder: &Folder,
+    set: &ParSet,
     names: &[Name],
-    numbers: &[Option<usize>],
+    targets: &[&'s Target],
 ) -> Result<Vec<Needing<'s>>>
-    ensures { let found = map (option_and_then (slice_get names.now)) numbers.now in
-        Lists (zip (map (λ t. t.now) targets.now) found) result }
+    ensures { let texts = map (bytes_of folder.now.files) names.now in
+        let needing = map (λ t. t.now) targets.now in
+        let numbers = matched_numbers set.now.slice_size texts needing in
+        Lists (zip needing (map (option_and_then (slice_get names.now)) numbers)) result }
 {
+    let texts = file_texts(alloc, folder, names)?;
+    let described = described(alloc, targets)?;
+    let numbers = matched(alloc, &texts, set.slice_size(), &described)?;
     targets
         .iter()
-        .zip(numbers)
+        .zip(&numbers)
         .map(|(target, number)| Needing {
             target,
             found: name_at(names, *number),
@@ -175,13 +163,8 @@ pub fn matches<'s>(
 {
     // The law goes from the numbers of texts to their names.
     matches_by_number_are_by_name();
-    let needs = needs(alloc, folder, set)?;
-    let free = {
-        let intact = intact_names(alloc, set, &needs)?;
-        free_names(alloc, &intact, candidates)?
-    };
-    let chosen = chosen(alloc, set, &needs)?;
-    let numbers = match_numbers(alloc, folder, set, &free, &chosen)?;
-    let needing = with_matches(alloc, &chosen, &free, &numbers)?;
+    let (needs, needing, intact) = parted(alloc, folder, set)?;
+    let free = free_names(alloc, intact, candidates)?;
+    let needing = with_matches(alloc, folder, set, &free, &needing)?;
     Ok(Targets { needs, needing })
 }

@@ -1,5 +1,5 @@
 //! The parts of a repair's changes.
-ghost use Rattle.std.specs.Prelude.{◌≡◌, ◌++◌, ℕ, List, None, map, filter_map, IfOk, OnOk};
+ghost use Rattle.std.specs.Prelude.{◌≡◌, ◌++◌, ℕ, List, Some, None, is_none, map, filter_map, if◌then◌else◌, IfOk, OnOk};
 ghost use Rattle.par2_spec.specs.Answers.{FailsFor, Lists};
 ghost use Rattle.par2_spec.specs.Changes as spec;
 ghost use Rattle.par2_spec.specs.Repairs.{names_without_match};
@@ -32,23 +32,34 @@ pub struct Moves<'n, 's> {
 }
 
 // The names of the needing targets whose files are there.
-fn present(alloc: Global, folder: &Folder, needing: &[Needing]) -> Result<Vec<Name>>
-    ensures { Lists (names_there folder.now.files needing.now) result }
+fn present(alloc: Global, folder: &Folder, targets: &[Needing]) -> Result<Vec<Name>>
+    ensures { Lists (names_there folder.now.files targets.now) result }
 {
-    needing
-        .iter()
-        .filter(|needing| folder.get(needing.target.name()).is_some())
-        .map(|needing| needing.target.name().copied())
-        .collect(alloc)
+    let mut names = Vec::new(alloc);
+    for needing in targets {
+        if folder.get(needing.target.name()).is_some() {
+            names.push(needing.target.name().copied())?;
+        }
+    }
+    Ok(names)
+}
+
+// The name of a needing target, where it has no match.
+fn unmatched_name(needing: &Needing) -> Option<Name>
+    ensures { let name = needing.now.0.name in
+        result ≡ if is_none needing.now.1 then Some name else None }
+{
+    match needing.found {
+        Some(_) => None,
+        None => Some(needing.target.name().copied()),
+    }
 }
 
 /// The names of the needing targets that have no match.
 pub fn unmatched(alloc: Global, needing: &[Needing]) -> Result<BTreeSet<Name>>
     ensures { IfOk result (λ tree. HoldsNames tree (names_without_match needing.now)) }
 {
-    let unmatched = needing.iter().filter(|needing| needing.found.is_none());
-    let names = unmatched.map(|needing| needing.target.name().copied());
-    names.collect(alloc)
+    needing.iter().filter_map(unmatched_name).collect(alloc)
 }
 
 // The asides by the names of the files that are put aside.

@@ -25,8 +25,9 @@ fn purge_of(alloc: Global, folder: &Folder, set: &ParSet) -> Result<Changes, Fau
     if targets.any(|target| is_needing(folder, set, target)) {
         return Err(Fault::NotComplete);
     }
+    let files = par_files(alloc, folder, set)?;
     let mut changes = Changes::new(alloc);
-    for name in &par_files(alloc, folder, set)? {
+    for name in &files {
         changes.push(Change::Remove(name.copied()))?;
     }
     Ok(changes)

@@ -95,8 +95,8 @@ fn draft_with(
         let unmatched = unmatched(alloc, needing)?;
         files_for(alloc, folder, set, candidates, &unmatched)?
     };
-    let moves = moves_of(alloc, folder, set, needing)?;
     let md5s = md5s_of(alloc, &restored)?;
+    let moves = moves_of(alloc, folder, set, needing)?;
     let changes = changes_with(alloc, folder, set, &moves, restored, purge)?;
     Ok(Draft { changes, md5s })
 }

@@ -163,9 +163,13 @@ fn lost_slices(alloc: Global, found: &[bool]) -> Result<Vec<u32>>
     requires { length found.now ≤ 32768 }
     ensures { Lists (lost_by found.now) result }
 {
-    let slices = (0..found.len() as u32).zip(found);
-    let lost = slices.filter(|(_, found)| !**found);
-    lost.map(|(number, _)| number).collect(alloc)
+    let mut lost = Vec::new(alloc);
+    for i in 0..found.len() {
+        if !found[i] {
+            lost.push(i as u32)?;
+        }
+    }
+    Ok(lost)
 }
 
 // The exponents of recovery slices.

@@ -15,7 +15,7 @@ ghost use Rattle.par2_recovery.specs.Rebuilding.{known_among, AreRebuilt, AreEno
 ghost use Rattle.par2_plan.specs.SliceTexts.{windows_and_texts, slices_of, text_of};
 
 use par2_recovery::{RebuildFault, Survivors, rebuild_lost};
-use par2_sets::ParSet;
+use par2_sets::{ParSet, Target};
 use par2_slices::{Pair, found_windows};
 use par2_spec::rank_laws::{rebuilt_slices_agree, tests_say_the_words};
 use par2_spec::{Fault, Result};
@@ -107,7 +107,7 @@ impl<'a> Slices<'a> {
 pub fn all_pairs(alloc: Global, set: &ParSet) -> Result<Vec<Pair>>
     ensures { IfOk result (λ pairs. pairs.items ≡ all_pairs set.now) }
 {
-    let pairs = set.targets().iter().flat_map(|target| target.pairs());
+    let pairs = set.targets().iter().flat_map(Target::pairs);
     pairs.copied().collect(alloc)
 }
 

@@ -1,5 +1,4 @@
-use Rattle.par2_plan.proofs.Common.{◌≡◌, ℕ, List, take, not, filter, is_among}
-use Rattle.par2_spec.specs.NameTrees.{HoldsNames}
+use Rattle.par2_plan.proofs.Common.{◌≡◌, ℕ, List, take, not, filter, is_among, HoldsNames}
 use Rattle.par2_plan.proofs.matching.free_names.Given as goal
 
 abbrev pub invariant-loop-name : goal.invariant-loop-name

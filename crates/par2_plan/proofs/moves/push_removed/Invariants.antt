@@ -1,4 +1,5 @@
-use Rattle.par2_plan.proofs.Common.{◌≡◌, ◌++◌, ℕ, List, take, HoldsAsides, files_removed, place_by, HoldsNames}
+use Rattle.par2_plan.proofs.Common.{◌≡◌, ◌++◌, ℕ, List, take, HoldsAsides, files_removed, place_by}
+use Rattle.par2_sets.specs.Asides.{HoldsNames}
 use Rattle.par2_plan.proofs.moves.push_removed.Given as goal
 
 abbrev pub invariant-loop-name : goal.invariant-loop-name

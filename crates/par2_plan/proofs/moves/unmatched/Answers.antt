@@ -1,11 +1,19 @@
-use Rattle.par2_plan.proofs.Common.{ℕ, List, rules, tests, Option, is_none, IfOk-weaker, Target, names_without_match, YieldsList-from_map, YieldsList-from_slice, fact_from_collect, YieldsList-at, YieldsList-from_filter, IsFromIterResult, slice_cmp, nat_cmp}
+use Rattle.par2_plan.proofs.Common.{◌≡◌, ◌∷◌, [], ℕ, List, cond, refl, ap, subst, rules, Option, is_none, filter_map, IfOk-weaker, Target, names_without_match, YieldsList-from_slice, YieldsList-from_filter_map, fact_from_collect, IsFromIterResult, slice_cmp, nat_cmp}
+use Rattle.std.proofs.Common.{Some, None}
 use Rattle.par2_plan.proofs.Trees.{holds}
 use Rattle.par2_plan.proofs.moves.unmatched.Goals as goal
 
+abbrev unmatched : Target × Option (List ℕ) → Option (List ℕ)
+unmatched m = cond (is_none m.1) (Some m.0.name) None
+
+unmatched_are : (ms : List (Target × Option (List ℕ))) → filter_map unmatched ms ≡ names_without_match ms
+unmatched_are [] = refl
+unmatched_are ((t, None) ∷ ms) = ap (λ names. t.name ∷ names) (unmatched_are ms)
+unmatched_are ((t, Some name) ∷ ms) = unmatched_are ms
+
 pub returns : goal.returns
 returns c =
-    IfOk-weaker c.collect.result _ _ (holds (names_without_match c.args.needing.now))
+    let ms : List (Target × Option (List ℕ)) = c.args.needing.now in
+    IfOk-weaker c.collect.result _ _ (λ tree is. holds (names_without_match ms) tree (subst (λ names. IsFromIterResult (slice_cmp nat_cmp) names tree) (unmatched_are ms) is))
     (fact_from_collect (IsFromIterResult (slice_cmp nat_cmp)) c.collect.result c.collect.ensures.ran
-    (YieldsList-from_map _ (λ (m : Target × Option (List ℕ)). m.0.name)
-    (YieldsList-at c.map-names.ensures.source (YieldsList-from_filter _ (λ (m : Target × Option (List ℕ)). is_none m.1) (YieldsList-from_slice c.args.needing.now cc) c.filter-unmatched.ensures.closure (λ x b q k. search (rules, tests))))
-    c.map-names.ensures.closure (λ x r q k. search rules)))
+    (YieldsList-from_filter_map _ unmatched (YieldsList-from_slice ms cc) c.filter_map.ensures.closure (λ x r q k. search rules)))

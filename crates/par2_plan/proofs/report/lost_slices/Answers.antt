@@ -1,17 +1,16 @@
-use Rattle.par2_plan.proofs.Common.{◌≡◌, ◌∙◌, ◌+◌, List, [], ◌∷◌, ℕ, Bool, not, map, ap, refl, length, arith, rules, tests, filter, zip, enumerate_from, range_with_len, IfOk-weaker, YieldsList-from_map, YieldsList-from_range, YieldsList-from_slice, YieldsList-from_zip, items_from_collect, YieldsList-at, YieldsList-from_filter}
+use Rattle.par2_plan.proofs.Common.{◌≡◌, ◌∙◌, ◌+◌, ◌++◌, ◌∷◌, [], List, ℕ, Bool, true, false, cond, refl, get_or, sym, ap, drop, arith, append-nil, append_assoc, drop_all, drop_more, lost_from}
 use Rattle.par2_plan.proofs.report.lost_slices.Goals as goal
 
-numbered : (n : ℕ) (found : List Bool) → zip (range_with_len n (length found)) found ≡ enumerate_from n found
-numbered n [] = refl
-numbered n (b ∷ found) = ap (λ zs. (n, b) ∷ zs) (numbered (n + 1) found)
+lost_more : (n : ℕ) (b : Bool) (found : List Bool) → lost_from n (b ∷ found) ≡ cond b (lost_from (n + 1) found) (n ∷ lost_from (n + 1) found)
+lost_more n true found = refl
+lost_more n false found = refl
+
+pub loop-i-preserved : goal.loop-i-preserved
+loop-i-preserved c =
+    let i : ℕ = c.loop-i.i in
+    let later : List Bool = drop (i + 1) c.args.found.now in
+    grind (arith, drop_more c.args.found.now i false c.loop-i-test.true, lost_more i (get_or c.args.found.now i false) later, append_assoc c.loop-i.lost.items (i ∷ []) (lost_from (i + 1) later))
 
 pub returns : goal.returns
 returns c =
-    let is_lost = λ (z : ℕ × Bool). not z.1 in
-    IfOk-weaker c.collect.result _ _ (λ list e. e ∙ ap (λ zs. map (λ (z : ℕ × Bool). z.0) (filter is_lost zs)) (numbered 0 c.args.found.now))
-    (items_from_collect _ c.collect.ensures.ran
-    (YieldsList-from_map _ (λ (z : ℕ × Bool). z.0)
-    (YieldsList-at c.map.ensures.source (YieldsList-from_filter _ is_lost
-    (YieldsList-at c.filter-lost.ensures.source (YieldsList-from_zip (YieldsList-from_range 0 _ (length c.args.found.now) c.zip-slices.ensures.first (omega arith)) (YieldsList-from_slice c.args.found.now cc)))
-    c.filter-lost.ensures.closure (λ x b q k. search (rules, tests))))
-    c.map.ensures.closure (λ x r q k. search rules)))
+    sym (append-nil c.loop-i.lost.items) ∙ ap (λ flags. c.loop-i.lost.items ++ lost_from c.loop-i.i flags) (sym (drop_all c.loop-i.i c.args.found.now c.loop-i-test.false)) ∙ c.loop-i.invariant

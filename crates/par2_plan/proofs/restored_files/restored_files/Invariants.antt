@@ -1,4 +1,5 @@
-use Rattle.par2_plan.proofs.Common.{◌≡◌, ◌+◌, ◌++◌, ℕ, List, length, drop, flat_map, HoldsNames}
+use Rattle.par2_plan.proofs.Common.{◌≡◌, ◌+◌, ◌++◌, ℕ, List, length, drop, flat_map}
+use Rattle.par2_sets.specs.Asides.{HoldsNames}
 use Rattle.par2_plan.proofs.TargetWalks.{among}
 use Rattle.par2_plan.proofs.restored_files.restored_files.Given as goal
 
