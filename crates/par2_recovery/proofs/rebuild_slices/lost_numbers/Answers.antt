@@ -1,18 +1,22 @@
-use Rattle.par2_recovery.proofs.Common.{◌≡◌, ◌∙◌, ◌+◌, List, [], ◌∷◌, ℕ, map, ap, refl, length, arith, rules, tests, Bor, Option, None, Some, is_none, filter, zip, range_with_len, lost_from, IfOk-weaker, YieldsList-from_map, YieldsList-from_range, YieldsList-from_slice, YieldsList-from_zip, items_from_collect, YieldsList-at, YieldsList-from_filter}
+use Rattle.par2_recovery.proofs.Common.{◌≡◌, ◌<◌, ◌∙◌, ◌+◌, ◌++◌, List, [], ◌∷◌, ℕ, refl, sym, ap, length, drop, get_or, append_assoc, drop_more, false≢true, Bool, true, false, Bor, Option, None, Some, is_none, lost_from}
 use Rattle.par2_recovery.proofs.rebuild_slices.lost_numbers.Goals as goal
 
-numbered : (n : ℕ) (known : List (Option (Bor (List ℕ)))) → map (λ z. z.0) (filter (λ z. is_none z.1) (zip (range_with_len n (length known)) known)) ≡ lost_from n known
-numbered n [] = refl
-numbered n (None ∷ known) = ap (λ ns. n ∷ ns) (numbered (n + 1) known)
-numbered n (Some slice ∷ known) = numbered (n + 1) known
+module _ {A : Type 0} (k : ℕ) (known : List (Option A)) (slice : Option A) (done : List ℕ) (low : k < length known) where
+  rest : List ℕ
+  rest = lost_from (k + 1) (drop (k + 1) known)
 
-pub returns : goal.returns
-returns c =
-    let is_lost = λ (z : ℕ × Option (Bor (List ℕ))). is_none z.1 in
-    IfOk-weaker c.collect.result _ _ (λ list e. e ∙ numbered 0 c.args.known.now)
-    (items_from_collect _ c.collect.ensures.ran
-    (YieldsList-from_map _ (λ (z : ℕ × Option (Bor (List ℕ))). z.0)
-    (YieldsList-at c.map.ensures.source (YieldsList-from_filter _ is_lost
-    (YieldsList-at c.filter-lost.ensures.source (YieldsList-from_zip (YieldsList-from_range 0 _ (length c.args.known.now) c.zip-slices.ensures.first (omega arith)) (YieldsList-from_slice c.args.known.now cc)))
-    c.filter-lost.ensures.closure (λ x b q k. search (rules, tests))))
-    c.map.ensures.closure (λ x r q k. search rules)))
+  -- a slice that is lost
+  lost_here : is_none (get_or known k slice) ≡ true → done ++ lost_from k (drop k known) ≡ (done ++ k ∷ []) ++ rest
+  lost_here none = ap (λ xs. done ++ lost_from k xs) (drop_more known k slice low) ∙ step (get_or known k slice) none
+    where
+      step : (o : Option A) → is_none o ≡ true → done ++ lost_from k (o ∷ drop (k + 1) known) ≡ (done ++ k ∷ []) ++ rest
+      step None e = sym (append_assoc done (k ∷ []) rest)
+      step (Some x) e = absurd (false≢true e)
+
+  -- and one that is not
+  known_here : is_none (get_or known k slice) ≡ false → done ++ lost_from k (drop k known) ≡ done ++ rest
+  known_here some = ap (λ xs. done ++ lost_from k xs) (drop_more known k slice low) ∙ step (get_or known k slice) some
+    where
+      step : (o : Option A) → is_none o ≡ false → done ++ lost_from k (o ∷ drop (k + 1) known) ≡ done ++ rest
+      step None e = absurd (false≢true (sym e))
+      step (Some x) e = refl

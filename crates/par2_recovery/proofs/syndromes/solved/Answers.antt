@@ -30,7 +30,7 @@ loop-from-init c = record {
   within = omega arith;
 }
 
-pub returns : goal.returns
-returns c =
+pub returns-clause-solved : goal.returns-clause-solved
+returns-clause-solved c =
     let all : c.loop-from.from ≡ c.args.size = omega (arith, c.loop-from-test.false, c.loop-from.invariant.within) in
     rw all at c.loop-from.invariant.solved

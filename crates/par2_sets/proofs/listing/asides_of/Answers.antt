@@ -1,6 +1,6 @@
 use Rattle.par2_sets.proofs.Common.{◌≡◌, ◌<◌, ◌∙◌, ◌++◌, ◌∷◌, [], IsTrue, length, rules, is_name, aside}
 use Rattle.par2_sets.proofs.TakenNames.{one_more_aside, one_more_short}
-use Rattle.par2_sets.proofs.listing.asides.Goals as goal
+use Rattle.par2_sets.proofs.listing.asides_of.Goals as goal
 
 pub loop-name-preserved : goal.loop-name-preserved
 loop-name-preserved c =
