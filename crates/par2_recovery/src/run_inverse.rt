@@ -3,14 +3,14 @@
 //! constants of the lost slices. The quotient on its division by `z - c` is 0 at the other ones and not at `c`: so its
 //! coefficients, scaled, are row `j` of the inverse.
 
-ghost use Rattle.std.specs.Prelude.{◌≡◌, ◌≢◌, ◌<◌, ◌^◌, length, IfOk};
+ghost use Rattle.std.specs.Prelude.{◌≡◌, ◌≢◌, ℕ, ◌<◌, ◌^◌, length, slice_index, IfOk};
 ghost use Rattle.std.specs.List.{range_with_len};
 ghost use Rattle.par2_spec.specs.Field.{mul, pow};
 ghost use Rattle.par2_spec.specs.Polynomials.{value, times, times_root, with_roots, quotient};
 ghost use Rattle.par2_spec.specs.Runs.{AreSlices};
 ghost use Rattle.par2_spec.specs.Sums.{lists_of};
 ghost use Rattle.par2_recovery.specs.Inverses.{IsInverse};
-ghost use Rattle.par2_recovery.specs.RunInverses.{IsScaledQuotient};
+ghost use Rattle.par2_recovery.specs.RunInverses.{AreScaledQuotients, IsScaledQuotient};
 
 use crate::exponents::coefficients;
 use par2_gf16::Gf;

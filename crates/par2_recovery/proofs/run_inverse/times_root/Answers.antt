@@ -1,4 +1,4 @@
-use Rattle.par2_recovery.proofs.Common.{◌≡◌, ◌≤◌, ◌∙◌, ◌++◌, ◌+◌, ◌∷◌, [], sym, ap, arith, length, drop, get_or, bit_xor, plus, times}
+use Rattle.par2_recovery.proofs.Common.{◌≤◌, ◌∙◌, ◌++◌, ◌+◌, ◌∷◌, [], sym, ap, arith, length, drop, get_or, bit_xor, plus, times}
 use Rattle.par2_recovery.proofs.Quotients.{root_step, root_end}
 use Rattle.par2_recovery.proofs.run_inverse.times_root.Goals as goal
 
