@@ -93,7 +93,13 @@ fn inverse_row(alloc: Global, gf: &Gf, p: &[u16], c: u16, first: u32) -> Result<
 }
 
 // The rows of the inverse for these constants, by their polynomial, for the exponents from `first` on.
-fn inverse_rows(alloc: Global, gf: &Gf, p: &[u16], points: &[u16], first: u32) -> Result<Vec<Vec<u16>>>
+fn inverse_rows(
+    alloc: Global,
+    gf: &Gf,
+    p: &[u16],
+    points: &[u16],
+    first: u32,
+) -> Result<Vec<Vec<u16>>>
     requires { (j : ℕ) → j < length points.now
         → let c = slice_index points.now j in mul (pow c first) (value (quotient c p.now) c) ≢ 0 }
     ensures { IfOk result (λ rows. AreScaledQuotients

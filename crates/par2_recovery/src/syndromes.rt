@@ -129,8 +129,8 @@ pub(crate) fn solved(
     requires even { size % 2 ≡ 0 }
     ensures solved { IfOk result (λ texts. AreSolved size (lists_of inverse.now)
         exponents.now (texts_of slices.now) (texts_of recovery.now) (lists_of texts.items)) }
-    ensures slices { AreBytes (texts_of slices.now) }
-    ensures recovery { AreBytes (texts_of recovery.now) }
+    ensures slices { IfOk result (λ _. AreBytes (texts_of slices.now)) }
+    ensures recovery { IfOk result (λ _. AreBytes (texts_of recovery.now)) }
 {
     fit_texts(slices);
     fit_texts(recovery);

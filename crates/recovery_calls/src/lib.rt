@@ -11,13 +11,13 @@ mod records;
 mod slices;
 
 pub use outputs::{slices_added, slices_written};
-pub use records::{RecordFault, record_of_files};
-pub use slices::{recovery_slice, recovery_slices_over};
 use par2_folder::{Bytes, Change, Folder, Name};
 use par2_gf16::Gf;
 use par2_recovery::{
     RebuildFault, SetRecord, Survivors, input_slices, rank, rebuild, rebuild_lost,
 };
+pub use records::{RecordFault, record_of_files};
+pub use slices::{recovery_slice, recovery_slices_over};
 use std::alloc::{AllocError, Global};
 
 // How many slices a set may have.

@@ -57,7 +57,14 @@ pub fn recovery_slices_over(
     let places = whole_texts(alloc, count as usize)?;
     let outputs = Places::new(&places, size / 2);
     let mut texts = zeros(alloc, count as usize, size)?;
-    write_recovery_slices(alloc, gf, slices, &exponents, texts.as_mut_slice(), &outputs)?;
+    write_recovery_slices(
+        alloc,
+        gf,
+        slices,
+        &exponents,
+        texts.as_mut_slice(),
+        &outputs,
+    )?;
     Ok(texts)
 }
 

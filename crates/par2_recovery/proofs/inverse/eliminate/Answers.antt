@@ -39,3 +39,9 @@ returns c =
     let n = length-recovered_of c.args.recovery.now in
     let at_end : c.loop-i.i ≡ length recs = omega (arith, n, c.loop-i-test.false, c.loop-i.auto.i-end) in
     eliminated c.args.lost.now recs (recovered_of c.loop-i.kept.items) c.loop-i.i c.loop-i.system at_end c.loop-i.invariant
+
+pub offer_unit-requires-clause-count : goal.offer_unit-requires-clause-count
+offer_unit-requires-clause-count c = c.requires.count
+
+pub offer_unit-requires-clause-lost : goal.offer_unit-requires-clause-lost
+offer_unit-requires-clause-lost c = c.requires.lost

@@ -18,3 +18,9 @@ returns-clause-unit c = λ _.
     let same : length c.put_element.new.row ≡ c.in_ok-text.text.len = search rules in
     rw (with_items_is c.in_ok-text.text c.put_element.new.row same)
     (record { size = c.put_element.ensures.same_length ∙ ap length zeros ∙ length-replicate {A = ℕ} (2 * c.args.n) 0; one = c.put_element.ensures.here; zeros = λ p other. c.put_element.ensures.others p other ∙ none p })
+
+pub returns-clause-size : goal.returns-clause-size
+returns-clause-size c =
+    let zeros = zeros (goal.at.returns-clause-size c).After-as_mut_slice in
+    let same : length c.put_element.new.row ≡ c.in_ok-text.text.len = search rules in
+    rw (with_items_is c.in_ok-text.text c.put_element.new.row same) (c.put_element.ensures.same_length ∙ ap length zeros ∙ length-replicate {A = ℕ} (2 * c.args.n) 0)

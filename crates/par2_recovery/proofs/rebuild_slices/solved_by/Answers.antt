@@ -43,7 +43,10 @@ returns c =
     let at = (goal.at.returns c).After-deref-7 in
     let made = answer c.args.survivors.now c.requires.survivors (lost (known_among c.args.survivors.now)) (recovered_of c.args.found.now.kept.items) (lists_of c.args.found.now.inverse.items) (lists_of c.in_ok-texts.texts.items)
     (lost_are c.args.survivors.now.slice c.args.survivors.now.known.items) c.requires.kept c.requires.inverse c.requires.enough
-    (subst AreBytes (slices_are at) c.solved.ensures.slices)
-    (subst AreBytes (recovery_are at) c.solved.ensures.recovery)
+    (subst AreBytes (slices_are at) c.in_ok-texts.ensures.slices)
+    (subst AreBytes (recovery_are at) c.in_ok-texts.ensures.recovery)
     (rw (c.deref-4.ensures.value, recovery_are at, slices_are at, exponents_are at) at c.in_ok-texts.ensures.solved) (rw c.deref-8.ensures.value at c.fit_lists.ensures) in
     record { rebuilt = made.0; count = sym (length-lists_of c.in_ok-texts.texts.items) ∙ made.1 }
+
+pub solved-requires-clause-even : goal.solved-requires-clause-even
+solved-requires-clause-even c = c.requires.survivors.even

@@ -1,5 +1,5 @@
-use Rattle.par2_sets.proofs.Common.{◌≡◌, ◌<◌, ◌∙◌, ◌+◌, ◌++◌, ◌∷◌, [], ℕ, List, sym, ap, ap₂, length, get_or, map, take, flat_map, map_more, bytes_eq, Folder, bytes_of, accepted, packets_with, packet_of, packets_in}
-use Rattle.std.proofs.lemmas.List.{append_assoc, flat_map_more}
+use Rattle.par2_sets.proofs.Common.{◌≡◌, ◌<◌, ◌∙◌, ◌+◌, ◌++◌, ◌∷◌, [], ℕ, List, sym, ap, ap₂, length, get_or, map, take, flat_map, map_more, bytes_eq, Folder, bytes_of, accepted, packets_with, packet_of, packets_in, arith}
+use Rattle.std.proofs.lemmas.List.{append_assoc, flat_map_more, take_all}
 use Rattle.std.proofs.lemmas.List.Elements.{filter-append}
 use Rattle.par2_sets.proofs.packets.add_all.Goals as goal
 
@@ -20,6 +20,12 @@ loop-name-preserved c =
     let i = c.loop-name.name-index in
     let name = c.name-item.result in
     c.in_ok-add_packets-2.ensures
-    ∙ ap₂ (λ a b. a ++ packets_with c.args.id.now b) c.loop-name.invariant (c.in_text.ensures ∙ ap accepted c.bytes_of-2.ensures)
+    ∙ ap₂ (λ a b. a ++ packets_with c.args.id.now b) c.loop-name.invariant (c.in_text-found.ensures ∙ ap accepted c.bytes_of-in-loop-name.ensures)
     ∙ append_assoc before (packets_in folder c.args.base.now (take i c.args.others.now) c.args.id.now) (packets_with c.args.id.now (accepted (bytes_of folder name)))
     ∙ ap (λ ps. before ++ ps) (one_more folder c.args.base.now c.args.others.now i name c.args.id.now c.loop-name-test.true c.name-item.is)
+
+pub returns : goal.returns
+returns c =
+    let others = c.args.others.now in
+    c.loop-name.invariant
+    ∙ ap (λ ns. map packet_of c.args.packets.now.items ++ packets_in c.args.folder.now.files c.args.base.now ns c.args.id.now) (take_all c.loop-name.name-index others (omega (arith, c.loop-name-test.false)))
