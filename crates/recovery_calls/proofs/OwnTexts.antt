@@ -9,7 +9,7 @@ use Rattle.par2_transform.specs.Adding.{AreWholeTexts, HaveWords}
 use Rattle.par2_transform.specs.declared.outputs.Place.{Place}
 use Rattle.par2_recovery.specs.Views.{AreBlank}
 use Rattle.par2_recovery.specs.Writing.{output_at, AreWritten, AreZeros}
-use Rattle.par2_recovery.proofs.Common.{get_or-map-range_with_len, get_or-range_with_len, length-map-range_with_len}
+use Rattle.std.proofs.lemmas.List.FromFn.{get_or-map-range_with_len, get_or-range_with_len, length-map-range_with_len}
 
 module _ (size words count : ℕ) (places : List Place) (even : size ≡ 2 * words) (whole : AreWholeTexts count places) where
   -- the output of a text is the text

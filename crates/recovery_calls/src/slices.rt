@@ -68,22 +68,22 @@ pub fn recovery_slices_over(
     Ok(texts)
 }
 
-/// The recovery slice of exponent `e` over the slices of the record's files. A file that is absent has no slices.
+/// The recovery slice of exponent `e` over the slices of the set's files. A file that is absent has no slices.
 pub fn recovery_slice(
     alloc: Global,
     gf: &Gf,
-    record: &SetRecord,
+    set: &SetRecord,
     folder: &Folder,
     e: u32,
 ) -> Result<Vec<u8>, AllocError>
-    requires size { 1 ≤ record.now.slice }
-    requires even { record.now.slice % 2 ≡ 0 }
-    requires slices { length (slices_of_set folder.now.files record.now) ≤ 32768 }
-    ensures { let slices = slices_of_set folder.now.files record.now in
-        IfOk result (λ text. text.items ≡ recovery record.now.slice slices e) }
+    requires size { 1 ≤ set.now.slice }
+    requires even { set.now.slice % 2 ≡ 0 }
+    requires slices { length (slices_of_set folder.now.files set.now) ≤ 32768 }
+    ensures { let slices = slices_of_set folder.now.files set.now in
+        IfOk result (λ text. text.items ≡ recovery set.now.slice slices e) }
 {
-    let slices = input_slices(alloc, record, folder)?;
-    let size = record.slice as usize;
+    let slices = input_slices(alloc, set, folder)?;
+    let size = set.slice as usize;
     let mut texts = recovery_slices_over(alloc, gf, &slices, size, e, 1)?;
     Ok(texts.remove(0))
 }
