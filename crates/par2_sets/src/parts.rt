@@ -145,7 +145,9 @@ pub(crate) fn pairs_for(
         return Ok(Vec::new(alloc));
     }
     let count = slice_count(description.length(), s);
-    let checksums = checksums_of(firsts, description.id(), count).ok_or(Fault::NoChecksums)?;
+    let Some(checksums) = checksums_of(firsts, description.id(), count) else {
+        return Err(Fault::NoChecksums);
+    };
     Ok(pairs_in(alloc, checksums)?)
 }
 
@@ -153,8 +155,12 @@ pub(crate) fn pairs_for(
 fn recovery_in<'a>(packet: &Packet<'a>, s: u64) -> Option<RecoveryView<'a>>
     ensures { result ≡ usable s (packet_of packet.now) }
 {
-    read_recovery(packet).filter(|recovery| recovery.exponent() < 65536
-        && recovery.bytes().len() as u64 == s)
+    let recovery = read_recovery(packet)?;
+    if recovery.exponent() < 65536 && recovery.bytes().len() as u64 == s {
+        Some(recovery)
+    } else {
+        None
+    }
 }
 
 // The entries of the map, in the order of the exponents.
