@@ -3,8 +3,9 @@
 use anyhow::Result;
 use par2_disk::{ReadFault, StoreFault};
 use par2_journal::{Fault, SessionFault};
-use par2_recovery::{RebuildFault, RecordFault};
+use par2_recovery::RebuildFault;
 use par2_spec::JournalFault;
+use recovery_calls::RecordFault;
 use std::alloc::{AllocError, Global};
 
 /// Why a call has no answer.

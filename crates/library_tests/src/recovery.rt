@@ -5,10 +5,10 @@ use crate::field::field;
 use par2_folder::Folder;
 use par2_gf16::Gf;
 use par2_packets::FileRecord;
-use par2_recovery::{RebuildFault, RecordFault, SetRecord, Survivors, rank, recovery_slices_over};
+use par2_recovery::{RebuildFault, SetRecord, Survivors, rank};
 use recovery_calls::{
-    folder_of, input_slices_of, lost_rebuilt, recovery_slice_of, recovery_slices_of, set_of,
-    slices_written,
+    RecordFault, folder_of, input_slices_of, lost_rebuilt, recovery_slice_of, recovery_slices_of,
+    recovery_slices_over, set_of, slices_written,
 };
 use std::process::Abort;
 
@@ -156,8 +156,8 @@ fn is_as_told(
 ) -> bool {
     match (answer, wanted) {
         (Ok(texts), Ok(told)) => are_texts(texts, told),
-        (Err(fault), Err((missing, rank))) => {
-            *fault == RebuildFault::NotRepairable { missing, rank }
+        (Err(RebuildFault::NotRepairable { missing, rank }), Err(told)) => {
+            *missing == told.0 && *rank == told.1
         }
         _ => false,
     }

@@ -25,14 +25,6 @@ products_are n len exponents rows slices old new places rows_are e many added =
         ap (λ xs. get_or (list_at xs t) k 0) rows_are ∙ ap (λ xs. get_or xs k 0) (row_at n exponents t low)
         ∙ get_or-map-range_with_len (coefficient (get_or exponents t 0)) 0 n k k 0 (omega (arith, e, here)) (zero-add k)
 
-pub same_exponents : (e f : ℕ → ℕ) (slices old new : List (List ℕ)) → ((t : ℕ) → t < length old → e t ≡ f t)
-    → AddsToEach (λ t p. recovered slices (e t) p) old new → AddsToEach (λ t p. recovered slices (f t) p) old new
-same_exponents e f slices old new same added = record {
-  count = added.count;
-  sizes = added.sizes;
-  each = λ t p low room. added.each t p low room ∙ ap (λ n. bit_xor (word p (list_at old t)) (recovered slices n p)) (same t low);
-}
-
 -- the exponents of a run
 pub run_exponents : (first len : ℕ) (exponents : List ℕ) (slices old new : List (List ℕ)) (places : List Place) → length exponents ≡ length places
     → ((j : ℕ) → j < length exponents → get_or exponents j 0 ≡ first + j)

@@ -73,16 +73,6 @@ each_push P xs x n count each here =
 pub blank_push : (s n : ℕ) (xs : List (Vec ℕ Global)) (v : Vec ℕ Global) → AreBlank s n (lists_of xs) → v.items ≡ replicate s 0 → AreBlank s (n + 1) (lists_of (xs ++ v ∷ []))
 blank_push s n xs v so_far is = let all = each_push (λ _ text. text ≡ replicate s 0) xs v n so_far.count so_far.each is in record { count = all.0; each = all.1 }
 
--- copies of a text of zeros
-pub blank_copies : (s n : ℕ) (zeros : Bor (List ℕ)) (texts : List (Bor (List ℕ))) → texts ≡ replicate n zeros → zeros.now ≡ replicate s 0 → AreBlank s n (texts_of texts)
-blank_copies s n zeros texts are are_zeros = record {
-  count = length-map texts (λ (t : Bor (List ℕ)). t.now) ∙ ap length are ∙ length-replicate n zeros;
-  each = λ r low.
-      ap (λ (ts : List (Bor (List ℕ))). list_at (texts_of ts) r) are
-      ∙ get_or-map (λ (t : Bor (List ℕ)). t.now) (replicate n zeros) r zeros [] (let e = length-replicate n zeros in omega (arith, low, e))
-      ∙ ap (λ (t : Bor (List ℕ)). t.now) (get_or-replicate n r zeros zeros low) ∙ are_zeros;
-}
-
 pub blank_word : (s p : ℕ) → word p (replicate s 0) ≡ 0
 blank_word s p = ap₂ (λ x y. x + 256 * y) (zeros_read s (2 * p)) (zeros_read s (2 * p + 1))
 
@@ -103,23 +93,6 @@ recovered_by_words s e lists text even bytes size fits words =
 
     dots : (w : ℕ) → dot row (map (word w) (map (padded s) lists)) ≡ recovered lists e w
     dots w = ap (dot row) (words_padded s w lists) ∙ recovered_dot e lists w
-
--- what was added to zeros, word by word, are the recovery slices
-pub are_recovered : (s first count : ℕ) (lists old new : List (List ℕ)) → s % 2 ≡ 0 → AreBytes lists → AreBytes new → AreBlank s count old
-    → AddsToEach (λ t p. recovered lists (first + t) p) old new → new ≡ map (recovery s (map (padded s) lists)) (range_with_len first count)
-are_recovered s first count lists old new even bytes fits blank added =
-    ext_get_or [] new (map (recovery s (map (padded s) lists)) (range_with_len first count))
-    (added.count ∙ blank.count ∙ sym (length-map-range_with_len (recovery s (map (padded s) lists)) first count))
-    (λ r h.
-    let low : r < count = omega (arith, added.count, blank.count) in
-    let here = get_or-map-range_with_len (recovery s (map (padded s) lists)) first count r (first + r) [] low refl in
-    let size : length (list_at old r) ≡ s = ap length (blank.each r low) ∙ length-replicate {A = ℕ} s 0 in
-    recovered_by_words s (first + r) lists (list_at new r) even bytes (added.sizes r ∙ size) (fits r)
-    (λ w fits.
-    added.each r w (omega (arith, blank.count)) (omega (arith, size))
-    ∙ ap (λ x. bit_xor x (recovered lists (first + r) w)) (ap (λ xs. word w xs) (blank.each r low) ∙ blank_word s w)
-    ∙ xor_zero_l (recovered lists (first + r) w))
-    ∙ sym here)
 
 -- ---- rows of factors
 
@@ -153,13 +126,6 @@ slices_push s j bytes xs v before so_far is =
     ∙ ap₂ (λ a b. a ++ padded s b ∷ []) so_far is
     ∙ append_assoc before (map (slice_at s bytes) (range_with_len 0 j)) (slice_at s bytes j ∷ [])
     ∙ ap (λ xs. before ++ xs) (sym (map-range_with_len_more (slice_at s bytes) 0 j j (zero-add j)))
-
-pub length-padded : (s : ℕ) (xs : List (Bor (List ℕ))) (ys : List (List ℕ)) → map (padded s) (texts_of xs) ≡ ys → length xs ≡ length ys
-length-padded s xs ys e = sym (length-map (texts_of xs) (padded s) ∙ length-map xs (λ (x : Bor (List ℕ)). x.now)) ∙ ap length e
-
-pub first_list : (xs : List (Vec ℕ Global)) (f : ℕ → List ℕ) (e : ℕ) (v : Vec ℕ Global) → lists_of xs ≡ map f (range_with_len e 1) → (0 < length xs) × (v ≡ get_or xs 0 v → v.items ≡ f e)
-first_list [] f e v is = (let none : ⊥ = cc in absurd none)
-first_list (x ∷ xs) f e v is = (omega arith, λ here. ap (λ (y : Vec ℕ Global). y.items) here ∙ ap (λ (ys : List (List ℕ)). get_or ys 0 []) is)
 
 pub length-texts_of : (xs : List (Bor (List ℕ))) → length (texts_of xs) ≡ length xs
 length-texts_of xs = length-map xs (λ (x : Bor (List ℕ)). x.now)

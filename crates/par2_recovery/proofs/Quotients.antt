@@ -1,18 +1,18 @@
 -- Coefficients of products and quotients, one after the other.
-use Rattle.par2_recovery.proofs.Common.{zip, ℕ, zero, suc, ◌+◌, ◌-◌, ◌<◌, ◌≤◌, ◌≡◌, set, refl, sym, ap, ◌∙◌, arith, List, [], ◌∷◌, ◌++◌, length, get_or, drop, bit_xor, inl, inr, xor_zero_l, cases_eq, ext_get_or, drop_more, get_or-set_same, get_or-set_other, mul, times, times_root, value, plus, with_roots, quotient, product-zero, length-quotient}
-use Rattle.std.specs.Prelude.{map}
+use Rattle.par2_recovery.proofs.Common.{append_assoc, ℕ, zero, suc, ◌+◌, ◌-◌, ◌<◌, ◌≤◌, ◌≡◌, set, refl, sym, ap, ◌∙◌, arith, List, [], ◌∷◌, ◌++◌, length, get_or, drop, bit_xor, inl, inr, xor_zero_l, cases_eq, ext_get_or, drop_more, get_or-set_same, get_or-set_other, mul, times, times_root, value, plus, with_roots, quotient, length-quotient}
+use Rattle.std.proofs.lemmas.List.{drop_all}
 
--- the sums of the coefficients, each times the constant, and those before them
-product_by_pairs : (c : ℕ) (p q : List ℕ) → length q ≡ suc (length p) → map (λ (z : ℕ × ℕ). bit_xor (mul c z.0) z.1) (zip (p ++ 0 ∷ []) q) ≡ plus (times c p) q
+-- one more coefficient of a product with a root
+pub root_step : (c before t : ℕ) (p done : List ℕ) → t < length p
+    → done ++ plus (times c (drop t p)) (before ∷ drop t p) ≡ (done ++ bit_xor (mul c (get_or p t 0)) before ∷ []) ++ plus (times c (drop (t + 1) p)) (get_or p t 0 ∷ drop (t + 1) p)
 unfolding plus
-product_by_pairs c [] (b ∷ []) e = ap (λ x. x ∷ []) (ap (λ x. bit_xor x b) (product-zero c) ∙ xor_zero_l b)
-product_by_pairs c [] (b ∷ d ∷ q) e = absurd (omega (arith, e))
-product_by_pairs c [] [] e = absurd (omega (arith, e))
-product_by_pairs c (a ∷ p) [] e = absurd (omega (arith, e))
-product_by_pairs c (a ∷ p) (b ∷ q) e = ap (λ xs. bit_xor (mul c a) b ∷ xs) (product_by_pairs c p q (omega (arith, e)))
+root_step c before t p done h =
+    ap (λ q. done ++ plus (times c q) (before ∷ q)) (drop_more p t 0 h)
+    ∙ sym (append_assoc done (bit_xor (mul c (get_or p t 0)) before ∷ []) (plus (times c (drop (t + 1) p)) (get_or p t 0 ∷ drop (t + 1) p)))
 
-pub root_by_pairs : (c : ℕ) (p : List ℕ) → map (λ (z : ℕ × ℕ). bit_xor (mul c z.0) z.1) (zip (p ++ 0 ∷ []) (0 ∷ p)) ≡ times_root c p
-root_by_pairs c p = product_by_pairs c p (0 ∷ p) refl
+pub root_end : (c before t : ℕ) (p done : List ℕ) → length p ≤ t → done ++ plus (times c (drop t p)) (before ∷ drop t p) ≡ done ++ before ∷ []
+unfolding plus
+root_end c before t p done h = ap (λ q. done ++ plus (times c q) (before ∷ q)) (drop_all t p h)
 
 -- a coefficient of the quotient is the value of what stands after its place
 pub quotient_at : (c : ℕ) (p : List ℕ) (i : ℕ) → get_or (quotient c p) i 0 ≡ value (drop (suc i) p) c

@@ -1,5 +1,5 @@
 -- The records of files, one after the other.
-use Rattle.par2_recovery.proofs.Common.{ℕ, ◌+◌, ◌<◌, ◌≡◌, refl, sym, ap, ap₂, ◌∙◌, subst, List, [], ◌∷◌, ◌++◌, length, get_or, map, arith, IsPermutation, IsStrictlyIncreasing, get_or-map, length-map, take_more, map-append, map-map, md5, Folder, File, bytes_of, id_of, in_id_order, record_of, files_of, file_record_of, id_number, FileRecord, AreRecords}
+use Rattle.par2_recovery.proofs.Common.{ℕ, ◌+◌, ◌<◌, ◌≡◌, refl, sym, ap, ap₂, ◌∙◌, subst, List, [], ◌∷◌, ◌++◌, length, get_or, map, arith, IsPermutation, IsStrictlyIncreasing, get_or-map, length-map, take_more, map-append, map-map, md5, Folder, File, bytes_of, in_id_order, record_of, files_of, file_record_of, id_number, FileRecord}
 use Rattle.std.specs.Prelude.{take}
 use Rattle.std.specs.Int.{w128, from_le_bytes}
 use Rattle.std.specs.Prelude.{string_bytes}
@@ -48,11 +48,3 @@ pub files_of_records : (s : ℕ) (folder : Folder) (names : List (List ℕ)) (xs
 files_of_records s folder names xs e =
     ap (files_of folder) (sym (map-map (λ (file : volumes.FileRecord). file.name) file_record_of xs) ∙ ap (map (λ (file : volumes.FileRecord). file.name)) e ∙ names_of_records s (in_id_order (files_of folder names)))
     ∙ files_of_ordered folder names
-
--- the identifiers in the records of files
-pub ids_of_records : (s : ℕ) (files : List File) (records : List FileRecord) → AreRecords s files records → map (λ (file : FileRecord). file.id) records ≡ map id_of files
-unfolding record_of
-ids_of_records s files records are =
-    sym (map-map (λ (file : volumes.FileRecord). file.id) file_record_of records)
-    ∙ ap (map (λ (file : volumes.FileRecord). file.id)) are
-    ∙ map-map (λ (file : volumes.FileRecord). file.id) (record_of s) files

@@ -1,14 +1,16 @@
 //! The equations of the kept exponents, and their inverse.
 
-ghost use Rattle.std.specs.Prelude.{◌≡◌, ℕ, ◌*◌, ◌<◌, ◌≤◌, length, map, slice_index, IfErr, IfOk, IsOk, Ok, ◌%◌, IfSome, IsNone};
+ghost use Rattle.std.specs.Prelude.{◌≡◌, ◌≢◌, ℕ, ◌*◌, ◌<◌, ◌≤◌, length, map, slice_index, IfErr, IfOk, IsOk, Ok, ◌%◌, IfSome, IsNone};
 ghost use Rattle.std.specs.List.Sorted.{IsStrictlyIncreasing};
 ghost use Rattle.par2_spec.specs.Rank.{IsRepairable};
+ghost use Rattle.par2_spec.specs.Recovery.{coefficients};
 ghost use Rattle.par2_spec.specs.Sums.{lists_of, list_at};
 ghost use Rattle.par2_recovery.specs.Answers.{HasInverse, KeepsThose};
 ghost use Rattle.par2_recovery.specs.Views.{texts_of};
 ghost use Rattle.par2_recovery.specs.Survivors.{recovered_of, exponents_of, IsTrueFault};
-ghost use Rattle.par2_recovery.specs.Inverses.{IsEliminated};
+ghost use Rattle.par2_recovery.specs.Inverses.{CutByUnit, IsEliminated};
 ghost use Rattle.par2_matrix.specs.Echelon.{Spells};
+ghost use Rattle.par2_matrix.specs.Systems.{IsIndependent, IsDependent};
 ghost use Rattle.par2_recovery.specs.Elements.{AreRows, IsUnit};
 ghost use Rattle.par2_recovery.specs.RunInverses.{BeginsWithRun};
 
@@ -36,6 +38,25 @@ pub(crate) struct Inversion<'a> {
     pub(crate) inverse: Vec<Vec<u16>>,
 }
 
+// Offers the equation of an exponent, whose right side is the unit vector of the number of equations.
+fn offer_unit(alloc: Global, gf: &Gf, system: &mut System, lost: &[u32], e: u32) -> Result<Offer>
+    requires count { length lost.now ≤ 32768 }
+    requires lost { (i : ℕ) → slice_index lost.now i < 32768 }
+    requires columns { system.old.columns ≡ length lost.now }
+    requires bytes { system.old.bytes ≡ 2 * length lost.now }
+    ensures kept { result ≡ Ok Offer.Kept
+        → CutByUnit system.old system.new (coefficients lost.now e) }
+    ensures told { result ≡ Ok Offer.Kept → IsIndependent system.old (coefficients lost.now e) }
+    ensures dependent { result ≡ Ok Offer.Dependent
+        → IsDependent system.old (coefficients lost.now e) }
+    ensures columns { system.new.columns ≡ system.old.columns }
+    ensures bytes { system.new.bytes ≡ system.old.bytes }
+    ensures unchanged { result ≢ Ok Offer.Kept → system.new ≡ system.old }
+{
+    let right = unit(alloc, lost.len(), system.rank())?;
+    offer(alloc, gf, system, lost, e, right)
+}
+
 // Takes the recovery slices in order, and keeps those of the kept exponents.
 fn eliminate<'a>(
     alloc: Global,
@@ -53,8 +74,7 @@ fn eliminate<'a>(
     let mut kept = Vec::new(alloc);
     for i in 0..recovery.len() {
         let slice = recovery[i];
-        let right = unit(alloc, lost.len(), system.rank())?;
-        match offer(alloc, gf, &mut system, lost, slice.0, right)? {
+        match offer_unit(alloc, gf, &mut system, lost, slice.0)? {
             Offer::Kept => kept.push(slice)?,
             Offer::Dependent => {}
         }

@@ -14,5 +14,5 @@ mod syndromes;
 
 pub use exponents::{rank, rank_by_runs};
 pub use rebuild_slices::{RebuildFault, Survivors, rebuild, rebuild_lost};
-pub use recovery::{input_slices, recovery_slice, recovery_slices_over, write_recovery_slices};
-pub use set_record::{RecordFault, SetRecord, file_record_by_md5, file_records, file_texts};
+pub use recovery::{input_slices, write_recovery_slices};
+pub use set_record::{SetRecord, file_record_by_md5, file_records, file_texts};

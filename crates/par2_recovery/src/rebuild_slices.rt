@@ -8,7 +8,7 @@ ghost use Rattle.par2_recovery.specs.Survivors.{exponents_of, lost_from, bytes_o
 ghost use Rattle.par2_recovery.specs.Rebuilding.{CanRebuild, AreEnough};
 
 use crate::inverse::{Inversion, bytes_of, exponents_of, invert};
-use crate::products::{fit_lists, fit_texts};
+use crate::products::fit_lists;
 use crate::syndromes::solved;
 use par2_gf16::Gf;
 use par2_spec::Result;
@@ -27,7 +27,7 @@ pub struct Survivors<'a> {
 }
 
 /// Why lost slices aren't rebuilt.
-#[derive(Debug, Error, Clone, Copy, PartialEq, Eq, Drop)]
+#[derive(Debug, Error, Clone, Copy, Drop)]
 pub enum RebuildFault {
     /// Too few exponents are kept.
     #[error("not repairable, lost {missing}, rank {rank}")]
@@ -53,9 +53,13 @@ fn lost_numbers(alloc: Global, known: &[Option<&[u8]>]) -> Result<Vec<u32>>
     requires { length known.now ≤ 32768 }
     ensures { IfOk result (λ numbers. numbers.items ≡ lost_from 0 known.now) }
 {
-    let slices = (0..known.len() as u32).zip(known);
-    let lost = slices.filter(|(_, slice)| slice.is_none());
-    lost.map(|(number, _)| number).collect(alloc)
+    let mut lost = Vec::new(alloc);
+    for k in 0..known.len() {
+        if known[k].is_none() {
+            lost.push(k as u32)?;
+        }
+    }
+    Ok(lost)
 }
 
 // The bytes of each slice, none where it is lost.
@@ -83,8 +87,6 @@ fn solved_by(
     let exponents = exponents_of(alloc, &found.kept)?;
     let recovery = bytes_of(alloc, &found.kept)?;
     let slices = slices_or_none(alloc, &survivors.known)?;
-    fit_texts(&recovery);
-    fit_texts(&slices);
     let inverse = &found.inverse;
     let size = survivors.slice;
     let texts = solved(alloc, gf, inverse, &exponents, &recovery, &slices, size)?;

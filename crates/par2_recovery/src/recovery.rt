@@ -1,18 +1,16 @@
 //! Recovery slices over the files of a set (Parity Volume Set Specification 2.0, "Recovery Slice packet").
 
-ghost use Rattle.std.specs.Prelude.{◌≡◌, ◌+◌, ◌%◌, ◌^◌, ◌≤◌, ◌++◌, length, map, IfOk};
-ghost use Rattle.std.specs.List.{range_with_len};
+ghost use Rattle.std.specs.Prelude.{◌≡◌, ◌≤◌, ◌++◌, length, map, IfOk};
 ghost use Rattle.par2_spec.specs.Folders.{bytes_of};
 ghost use Rattle.par2_spec.specs.Slices as spec;
-ghost use Rattle.par2_spec.specs.Recovery.{recovery};
 ghost use Rattle.par2_spec.specs.Sums.{lists_of};
 ghost use Rattle.par2_recovery.specs.Answers.{slices_of_set, ArePadded, LieIn};
 ghost use Rattle.par2_recovery.specs.Views.{texts_of, AreBlank};
 ghost use Rattle.par2_recovery.specs.Writing.{AreWritten, AreZeros};
 
-use crate::additions::{add_recovery, numbers_from, with_recovery_slices};
+use crate::additions::add_recovery;
 use crate::products::{fit_lists, fit_texts};
-use crate::room::{rows_room, whole_room};
+use crate::room::whole_room;
 use crate::set_record::SetRecord;
 use par2_folder::{Folder, Name};
 use par2_gf16::Gf;
@@ -30,32 +28,6 @@ pub(crate) fn blank(alloc: Global, count: usize, size: usize) -> Result<Vec<Vec<
         texts.push(vec![in alloc; 0u8; size]?)?;
     }
     Ok(texts)
-}
-
-/// The recovery slices of `count` exponents from `first` on over slices of `size` bytes. Zeros follow a slice that is
-/// shorter, as [`input_slices`] answers the last ones of files.
-pub fn recovery_slices_over(
-    alloc: Global,
-    gf: &Gf,
-    slices: &[&[u8]],
-    size: usize,
-    first: u32,
-    count: u32,
-) -> Result<Vec<Vec<u8>>>
-    requires slices { length slices.now ≤ 32768 }
-    requires even { size % 2 ≡ 0 }
-    requires exponents { first + count ≤ 2 ^ 32 }
-    ensures { IfOk result (λ texts. lists_of texts.items ≡ map (recovery size
-        (map (spec.padded size) (texts_of slices.now))) (range_with_len first count)) }
-{
-    fit_texts(slices);
-    let exponents = numbers_from(alloc, first, count)?;
-    let zeros = vec![in alloc; 0u8; size]?;
-    let texts = vec![in alloc; zeros.as_slice(); count as usize]?;
-    let room = rows_room(slices);
-    let sums = with_recovery_slices(alloc, gf, slices, size / 2, &exponents, &texts, room)?;
-    fit_lists(&sums);
-    Ok(sums)
 }
 
 /// Writes recovery slices into texts, at the places of outputs that are zeros: to each the one of the exponent at its place.
@@ -124,24 +96,4 @@ pub fn input_slices<'a>(
         all = with_slices(all, bytes_of(folder, name), record.slice)?;
     }
     Ok(all)
-}
-
-/// The recovery slice of exponent `e` over the slices of the record's files. A file that is absent has no slices.
-pub fn recovery_slice(
-    alloc: Global,
-    gf: &Gf,
-    record: &SetRecord,
-    folder: &Folder,
-    e: u32,
-) -> Result<Vec<u8>>
-    requires size { 1 ≤ record.now.slice }
-    requires even { record.now.slice % 2 ≡ 0 }
-    requires slices { length (slices_of_set folder.now.files record.now) ≤ 32768 }
-    ensures { let slices = slices_of_set folder.now.files record.now in
-        IfOk result (λ text. text.items ≡ recovery record.now.slice slices e) }
-{
-    let slices = input_slices(alloc, record, folder)?;
-    let size = record.slice as usize;
-    let mut texts = recovery_slices_over(alloc, gf, &slices, size, e, 1)?;
-    Ok(texts.remove(0))
 }

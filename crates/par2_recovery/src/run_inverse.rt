@@ -3,14 +3,14 @@
 //! constants of the lost slices. The quotient on its division by `z - c` is 0 at the other ones and not at `c`: so its
 //! coefficients, scaled, are row `j` of the inverse.
 
-ghost use Rattle.std.specs.Prelude.{◌≡◌, ◌≢◌, ◌<◌, ◌^◌, length, IfOk};
+ghost use Rattle.std.specs.Prelude.{◌≡◌, ◌≢◌, ℕ, ◌<◌, ◌^◌, length, slice_index, IfOk};
 ghost use Rattle.std.specs.List.{range_with_len};
 ghost use Rattle.par2_spec.specs.Field.{mul, pow};
 ghost use Rattle.par2_spec.specs.Polynomials.{value, times, times_root, with_roots, quotient};
 ghost use Rattle.par2_spec.specs.Runs.{AreSlices};
 ghost use Rattle.par2_spec.specs.Sums.{lists_of};
 ghost use Rattle.par2_recovery.specs.Inverses.{IsInverse};
-ghost use Rattle.par2_recovery.specs.RunInverses.{IsScaledQuotient};
+ghost use Rattle.par2_recovery.specs.RunInverses.{AreScaledQuotients, IsScaledQuotient};
 
 use crate::exponents::coefficients;
 use par2_gf16::Gf;
@@ -21,11 +21,14 @@ use std::alloc::Global;
 fn times_root(alloc: Global, gf: &Gf, c: u16, p: &[u16]) -> Result<Vec<u16>>
     ensures { IfOk result (λ product. product.items ≡ times_root c p.now) }
 {
-    let zero = [0u16];
-    let extended = p.iter().chain(&zero);
-    let shifted = zero.iter().chain(p);
-    let pairs = extended.zip(shifted);
-    pairs.map(|(a, b)| gf.mul(c, *a) ^ *b).collect(alloc)
+    let mut product = Vec::with_capacity(alloc, p.len() + 1)?;
+    let mut before = 0;
+    for t in 0..p.len() {
+        product.push(gf.mul(c, p[t]) ^ before)?;
+        before = p[t];
+    }
+    product.push(before)?;
+    Ok(product)
 }
 
 // The polynomial of these roots.
@@ -89,6 +92,26 @@ fn inverse_row(alloc: Global, gf: &Gf, p: &[u16], c: u16, first: u32) -> Result<
     scaled(alloc, gf, inverse_of(gf, at_c), &quotient)
 }
 
+// The rows of the inverse for these constants, by their polynomial, for the exponents from `first` on.
+fn inverse_rows(
+    alloc: Global,
+    gf: &Gf,
+    p: &[u16],
+    points: &[u16],
+    first: u32,
+) -> Result<Vec<Vec<u16>>>
+    requires { (j : ℕ) → j < length points.now
+        → let c = slice_index points.now j in mul (pow c first) (value (quotient c p.now) c) ≢ 0 }
+    ensures { IfOk result (λ rows. AreScaledQuotients
+        first p.now points.now (lists_of rows.items) (length points.now)) }
+{
+    let mut rows = Vec::with_capacity(alloc, points.len())?;
+    for j in 0..points.len() {
+        rows.push(inverse_row(alloc, gf, p, points[j], first)?)?;
+    }
+    Ok(rows)
+}
+
 /// The inverse for the exponents from `first` on, as many as slices are lost.
 pub(crate) fn run_inverse(alloc: Global, gf: &Gf, lost: &[u32], first: u32) -> Result<Vec<Vec<u16>>>
     requires { AreSlices lost.now }
@@ -99,9 +122,5 @@ pub(crate) fn run_inverse(alloc: Global, gf: &Gf, lost: &[u32], first: u32) -> R
     let constants = coefficients(alloc, gf, lost, 1)?;
     let points = constants.as_slice();
     let p = with_roots(alloc, gf, points)?;
-    let mut rows = Vec::with_capacity(alloc, points.len())?;
-    for j in 0..points.len() {
-        rows.push(inverse_row(alloc, gf, &p, points[j], first)?)?;
-    }
-    Ok(rows)
+    inverse_rows(alloc, gf, &p, points, first)
 }

@@ -1,13 +1,13 @@
 //! What a set says of its files.
 
-ghost use Rattle.std.specs.Prelude.{◌≡◌, ◌≤◌, ◌↔◌, ℕ, List, map, Err, IfOk, IsOk, IsPermutation, take};
+ghost use Rattle.std.specs.Prelude.{◌≡◌, ◌≤◌, ◌↔◌, ℕ, List, map, IfOk, IsOk, IsPermutation, take};
 ghost use Rattle.std.specs.List.{IsDistinct};
 ghost use Rattle.std.specs.List.Sorted.{IsStrictlyIncreasing};
 ghost use Rattle.std.specs.Str.{bytes_eq};
 ghost use Rattle.md5.specs.Md5.{md5};
 ghost use Rattle.par2_digests.specs.Texts.{texts_of};
 ghost use Rattle.par2_spec.specs.Folders.{File};
-ghost use Rattle.par2_spec.specs.Volumes.{id_of, in_id_order, record_of};
+ghost use Rattle.par2_spec.specs.Volumes.{in_id_order, record_of};
 ghost use Rattle.par2_spec.specs.Commands.{files_of};
 ghost use Rattle.par2_packets.specs.Views.{id_number, file_record_of};
 ghost use Rattle.par2_recovery.specs.Views.{AreRecords, names_of};
@@ -16,13 +16,11 @@ ghost use Rattle.md5.specs.Md5 as hash;
 
 use crate::recovery::bytes_of;
 use md5::{Digest, Md5};
-use par2_digests::text_digests;
 use par2_folder::{Folder, Name};
 use par2_packets::{DuplicateId, FileRecord, file_id, sort_ids};
 use par2_slices::pairs_of;
 use par2_spec::Result;
-use std::alloc::{AllocError, Global};
-use thiserror::Error;
+use std::alloc::Global;
 
 /// What a set says of its files.
 #[derive(Drop)]
@@ -63,66 +61,7 @@ pub fn file_records(
     Ok(records)
 }
 
-// The same, where the MD5 digests aren't known.
-fn records_of(alloc: Global, folder: &Folder, names: &[Name], s: u64) -> Result<Vec<FileRecord>>
-    requires { 1 ≤ s }
-    ensures { IfOk result (λ list. AreRecords s (files_of folder.now.files names.now) list.items) }
-{
-    let texts = file_texts(alloc, folder, names)?;
-    let md5s = text_digests(alloc, &texts)?;
-    file_records(alloc, folder, names, &md5s, s)
-}
-
-/// Why there is no record of a set.
-#[derive(Debug, Error, Clone, Copy, Drop)]
-pub enum RecordFault {
-    /// Two files have one File ID.
-    #[error("two inputs have one file id")]
-    DuplicateId,
-    /// A growth was refused.
-    #[error("out of memory")]
-    Memory,
-}
-
-impl From<AllocError> for RecordFault {
-    ghost use Rattle.std.specs.Prelude.{◌≡◌};
-    ghost use Rattle.par2_recovery.specs.declared.set_record.RecordFault.TheVariants.{Memory};
-
-    ghost from_gives = { λ _ fault. fault ≡ Memory };
-
-    fn from(_: AllocError) -> Self {
-        RecordFault::Memory
-    }
-}
-
 impl SetRecord {
-    /// What a set of slice size `s` says of the files of these names, in the order of their File IDs. DuplicateId is
-    /// answered exactly where two of them have one File ID, unless memory ran out before.
-    pub fn of_files(
-        alloc: Global,
-        folder: &Folder,
-        names: &[Name],
-        s: u64,
-    ) -> Result<SetRecord, RecordFault>
-        requires { 1 ≤ s }
-        ensures slice { IfOk result (λ set. set.slice ≡ s) }
-        ensures files { IfOk result (λ set.
-            AreRecords s (in_id_order (files_of folder.now.files names.now)) set.files.items) }
-        ensures order { IfOk result (λ set. files_of folder.now.files (names_of set)
-            ≡ in_id_order (files_of folder.now.files names.now)) }
-        ensures rising { IfOk result (λ set. IsStrictlyIncreasing (map id_number set.files.items)) }
-        ensures distinct { IsOk result
-            → IsDistinct bytes_eq (map id_of (files_of folder.now.files names.now)) }
-        ensures duplicate { result ≡ Err RecordFault.DuplicateId
-            → ¬ IsDistinct bytes_eq (map id_of (files_of folder.now.files names.now)) }
-    {
-        let records = records_of(alloc, folder, names, s)?;
-        match SetRecord::of_records(records, s) {
-            Ok(set) => Ok(set),
-            Err(DuplicateId) => Err(RecordFault::DuplicateId),
-        }
-    }
-
     /// What a set of slice size `s` says of the files with these records, in the order of their File IDs. All memory was
     /// taken for the records, so there is no other fault than that two of them have one File ID.
     pub fn of_records(mut files: Vec<FileRecord>, s: u64) -> Result<SetRecord, DuplicateId>

@@ -5,11 +5,12 @@
 ghost use Rattle.std.specs.Prelude.{◌≡◌, ◌%◌, ◌<◌, ◌≤◌, ◌+◌, ◌++◌, length, map, IfOk};
 ghost use Rattle.par2_spec.specs.Sums.{OneChanged, list_at, lists_of};
 ghost use Rattle.par2_recovery.specs.Answers.{AreOfSize, HaveAtLeast, HaveColumns};
+ghost use Rattle.par2_recovery.specs.Products.{AreBytes};
 ghost use Rattle.par2_recovery.specs.Syndromes.{window, AreSolved, AreExtended};
 ghost use Rattle.par2_recovery.specs.Views.{texts_of, AreBlank};
 
 use crate::additions::with_recovery_slices;
-use crate::products::{products_of, source_at, text_at};
+use crate::products::{fit_texts, products_of, text_at};
 use crate::room::{columns_at_once, rows_room};
 use par2_gf16::Gf;
 use par2_slices::window_bytes;
@@ -126,9 +127,13 @@ pub(crate) fn solved(
     requires exponents { length exponents.now ≡ length recovery.now }
     requires size { AreOfSize size recovery.now }
     requires even { size % 2 ≡ 0 }
-    ensures { IfOk result (λ texts. AreSolved size (lists_of inverse.now)
+    ensures solved { IfOk result (λ texts. AreSolved size (lists_of inverse.now)
         exponents.now (texts_of slices.now) (texts_of recovery.now) (lists_of texts.items)) }
+    ensures slices { IfOk result (λ _. AreBytes (texts_of slices.now)) }
+    ensures recovery { IfOk result (λ _. AreBytes (texts_of recovery.now)) }
 {
+    fit_texts(slices);
+    fit_texts(recovery);
     let at_once = columns_at_once(slices, recovery.len(), size).max(LEAST);
     let room = rows_room(slices);
     let mut texts = reserved(alloc, inverse.len(), size)?;

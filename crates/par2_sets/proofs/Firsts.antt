@@ -59,11 +59,17 @@ firsts_of R (Err e) ran road = tt
 
 -- ---- what is read by its key
 
-pub keyed : {K D : Type 0} (test : K → Bool) (key : D → K) (ds : List D) → lookup test (map (λ d. (key d, d)) ds) ≡ find (λ d. test (key d)) ds
-keyed test key [] = refl
-keyed test key (d ∷ ds) = ap (cond (test (key d)) (Some d)) (keyed test key ds)
-
 module _ {P D K : Type 0} (test : K → Bool) (read : P → Option D) (key : D → K) where
+  -- the first that is read with such a key
+  pub keyed : (ps : List P) → lookup test (filter_map (λ p. option_map (λ d. (key d, d)) (read p)) ps) ≡ find (λ d. test (key d)) (filter_map read ps)
+  keyed [] = refl
+  keyed (p ∷ ps) = step (read p) (keyed ps)
+    where
+      step : (o : Option D) → lookup test (filter_map (λ q. option_map (λ d. (key d, d)) (read q)) ps) ≡ find (λ d. test (key d)) (filter_map read ps)
+          → lookup test (cons_option (option_map (λ d. (key d, d)) o) (filter_map (λ q. option_map (λ d. (key d, d)) (read q)) ps)) ≡ find (λ d. test (key d)) (cons_option o (filter_map read ps))
+      step None h = h
+      step (Some d) h = ap (cond (test (key d)) (Some d)) h
+
   -- the first item from which something with such a key is read
   pub found : (ps : List P) → option_and_then read (lookup test (filter_map (λ p. option_map (λ d. (key d, p)) (read p)) ps)) ≡ find (λ d. test (key d)) (filter_map read ps)
   found [] = refl

@@ -13,11 +13,14 @@ abbrev pub Gives : {X Y : Type 0} → (X → Y) → Result X Fault → Result Y 
 Gives view (Ok x) step = step ≡ Ok (view x)
 Gives view (Err fault) step = (fault ≡ Memory) ⊎ (step ≡ Err fault)
 
--- the packets of a set, those of the base first
+-- the packets of a set in the base and in these other files, those of the base first
+abbrev pub packets_in : Folder → List ℕ → List (List ℕ) → List ℕ → List Packet
+packets_in folder base others id =
+    packets_with id (flat_map accepted (bytes_of folder base ∷ map (bytes_of folder) others))
+
+-- the packets of a set
 abbrev pub set_packets : Folder → List ℕ → List ℕ → List Packet
-set_packets folder base id =
-    packets_with id
-    (flat_map accepted (bytes_of folder base ∷ map (bytes_of folder) (other_par_names folder base)))
+set_packets folder base id = packets_in folder base (other_par_names folder base) id
 
 -- the descriptions of the files with these File IDs
 abbrev pub descriptions_of : List Packet → List (List ℕ) → Result (List DescBody) Fault

@@ -115,6 +115,28 @@ fn aside(
     unreachable!()
 }
 
+// The asides of these names.
+fn asides_of(
+    alloc: Global,
+    folder: &Folder,
+    set: &ParSet,
+    targets: &BTreeSet<Name>,
+    most: usize,
+    names: &[Name],
+) -> Result<Vec<Name>, Fault>
+    requires targets { HoldsNames targets.now (target_names set.now) }
+    requires most { most ≡ length (taken_for folder.now.files set.now) + 1 }
+    ensures refused { FailsFor (long_aside folder.now.files set.now names.now) result }
+    ensures short { IfOk result (λ _. long_aside folder.now.files set.now names.now ≡ None) }
+    ensures names { Lists (map (aside folder.now.files set.now) names.now) result }
+{
+    let mut asides = Vec::new(alloc);
+    for name in names {
+        asides.push(aside(alloc, folder, set, targets, most, name)?)?;
+    }
+    Ok(asides)
+}
+
 /// The names under which the files of these names are put aside: each the name with the least number from 1 on that is
 /// neither in the folder nor a target's. The answer is `NameTooLong` where one of them has more than 255 bytes.
 pub fn asides(
@@ -131,9 +153,5 @@ pub fn asides(
     let targets = target_names(alloc, set)?;
     // One number more than there are names to keep away from.
     let most = folder.len() + set.targets().len() + 1;
-    let mut asides = Vec::new(alloc);
-    for name in names {
-        asides.push(aside(alloc, folder, set, &targets, most, name)?)?;
-    }
-    Ok(asides)
+    asides_of(alloc, folder, set, &targets, most, names)
 }

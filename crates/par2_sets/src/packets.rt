@@ -5,7 +5,7 @@ ghost use Rattle.par2_spec.specs.Answers.{Lists};
 ghost use Rattle.par2_spec.specs.Sets.{packets_with, other_par_names};
 ghost use Rattle.par2_packets.specs.Views as views;
 ghost use Rattle.par2_packets.specs.Views.{packet_of};
-ghost use Rattle.par2_sets.specs.Steps.{set_packets};
+ghost use Rattle.par2_sets.specs.Steps.{packets_in, set_packets};
 
 use par2_folder::{Folder, Name};
 use par2_packets::{Packet, Packets};
@@ -38,6 +38,26 @@ fn other_par_names(folder: &Folder, base: &Name) -> Result<Vec<Name>>
     Ok(names)
 }
 
+// Adds the packets that have the identifier: those of the base, then those of each of these files.
+fn add_all<'a>(
+    packets: &mut Vec<Packet<'a>>,
+    folder: &'a Folder,
+    base: &Name,
+    others: &[Name],
+    id: &[u8; 16],
+) -> Result<()>
+    ensures { let added = packets_in folder.now.files base.now others.now id.now in
+        OnOk result (map packet_of packets.new.items ≡ map packet_of packets.old.items ++ added) }
+{
+    let mut found = Packets::new(folder.bytes_of(base));
+    add_packets(packets, id, &mut found)?;
+    for name in others {
+        found = found.in_text(folder.bytes_of(name));
+        add_packets(packets, id, &mut found)?;
+    }
+    Ok(())
+}
+
 /// The packets with the identifier: those of the base, then those of each other `.par2` file, in
 /// the order of the names.
 pub(crate) fn packets_of<'a>(
@@ -49,12 +69,8 @@ pub(crate) fn packets_of<'a>(
     ensures { let all = set_packets folder.now.files base.now id.now in
         IfOk result (λ packets. map packet_of packets.items ≡ all) }
 {
+    let others = other_par_names(folder, base)?;
     let mut packets = Vec::new(alloc);
-    let mut found = Packets::new(folder.bytes_of(base));
-    add_packets(&mut packets, id, &mut found)?;
-    for name in &other_par_names(folder, base)? {
-        found = found.in_text(folder.bytes_of(name));
-        add_packets(&mut packets, id, &mut found)?;
-    }
+    add_all(&mut packets, folder, base, &others, id)?;
     Ok(packets)
 }

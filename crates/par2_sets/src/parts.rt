@@ -85,7 +85,9 @@ pub(crate) fn descriptions<'a>(
     let firsts = by_id(alloc, packets)?;
     let mut descriptions = Vec::new(alloc);
     for k in 0..main.count() {
-        let description = description_of(&firsts, main.id(k)).ok_or(Fault::NoDescription)?;
+        let Some(description) = description_of(&firsts, main.id(k)) else {
+            return Err(Fault::NoDescription);
+        };
         descriptions.push(description)?;
     }
     Ok(descriptions)
@@ -98,9 +100,11 @@ pub(crate) type Checksums<'a> = BTreeMap<([u8; 16], u64), IfscView<'a>>;
 pub(crate) fn checksums_in<'a>(alloc: Global, packets: &[Packet<'a>]) -> Result<Checksums<'a>>
     ensures { IfOk result (HoldChecksums (map packet_of packets.now)) }
 {
-    let found = packets.iter().filter_map(|packet| read_ifsc(packet));
-    let by_key = found.map(|ifsc| ((ifsc.id(), ifsc.count() as u64), ifsc));
-    firsts(alloc, by_key)
+    let found = packets.iter().filter_map(|packet| {
+        let ifsc = read_ifsc(packet)?;
+        Some(((ifsc.id(), ifsc.count() as u64), ifsc))
+    });
+    firsts(alloc, found)
 }
 
 // The checksums of this File ID with so many slices.
@@ -141,7 +145,9 @@ pub(crate) fn pairs_for(
         return Ok(Vec::new(alloc));
     }
     let count = slice_count(description.length(), s);
-    let checksums = checksums_of(firsts, description.id(), count).ok_or(Fault::NoChecksums)?;
+    let Some(checksums) = checksums_of(firsts, description.id(), count) else {
+        return Err(Fault::NoChecksums);
+    };
     Ok(pairs_in(alloc, checksums)?)
 }
 
@@ -149,8 +155,12 @@ pub(crate) fn pairs_for(
 fn recovery_in<'a>(packet: &Packet<'a>, s: u64) -> Option<RecoveryView<'a>>
     ensures { result ≡ usable s (packet_of packet.now) }
 {
-    read_recovery(packet).filter(|recovery| recovery.exponent() < 65536
-        && recovery.bytes().len() as u64 == s)
+    let recovery = read_recovery(packet)?;
+    if recovery.exponent() < 65536 && recovery.bytes().len() as u64 == s {
+        Some(recovery)
+    } else {
+        None
+    }
 }
 
 // The entries of the map, in the order of the exponents.
@@ -158,8 +168,11 @@ fn in_order<'a>(alloc: Global, slices: &BTreeMap<u32, &'a [u8]>) -> Result<Vec<(
     ensures value { IfOk result (λ list. list.items ≡ slices.now.entries) }
     ensures rising { IsOrdered nat_cmp slices.now }
 {
-    let slices = slices.iter().map(|(exponent, bytes)| (*exponent, *bytes));
-    slices.collect(alloc)
+    let mut list = Vec::with_capacity(alloc, slices.len())?;
+    for (exponent, bytes) in slices.iter() {
+        list.push((*exponent, *bytes))?;
+    }
+    Ok(list)
 }
 
 /// For each exponent below 65,536 its first recovery slice of `s` bytes, in the order of the

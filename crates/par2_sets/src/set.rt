@@ -85,7 +85,9 @@ fn set_in<'a>(alloc: Global, id: [u8; 16], packets: &[Packet<'a>]) -> Result<Par
     requires { (set : sets.ParSet) → set_in id (map packet_of packets.now) ≡ Ok set → IsSound set }
     ensures { Gives (λ set. set) result (set_in id (map packet_of packets.now)) }
 {
-    let main = main_of(packets, &id).ok_or(Fault::NoMain)?;
+    let Some(main) = main_of(packets, &id) else {
+        return Err(Fault::NoMain);
+    };
     let slice_size = main.slice_size();
     if !is_slice_size(slice_size) {
         return Err(Fault::BadSet);

@@ -1,2 +1,3 @@
 mod Common
 pub mod ElementTests
+pub mod OwnTexts

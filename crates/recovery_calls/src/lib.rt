@@ -7,14 +7,17 @@ ghost use Rattle.std.specs.List.Sorted.{IsStrictlyIncreasing};
 ghost use Rattle.par2_recovery.specs.Rebuilding.{CanRebuild};
 
 mod outputs;
+mod records;
+mod slices;
 
 pub use outputs::{slices_added, slices_written};
 use par2_folder::{Bytes, Change, Folder, Name};
 use par2_gf16::Gf;
 use par2_recovery::{
-    RebuildFault, RecordFault, SetRecord, Survivors, input_slices, rank, rebuild, rebuild_lost,
-    recovery_slice, recovery_slices_over,
+    RebuildFault, SetRecord, Survivors, input_slices, rank, rebuild, rebuild_lost,
 };
+pub use records::{RecordFault, record_of_files};
+pub use slices::{recovery_slice, recovery_slices_over};
 use std::alloc::{AllocError, Global};
 
 // How many slices a set may have.
@@ -49,7 +52,7 @@ pub fn set_of(
     if s == 0 {
         return Ok(None);
     }
-    Ok(Some(SetRecord::of_files(alloc, folder, &names, s)))
+    Ok(Some(record_of_files(alloc, folder, &names, s)))
 }
 
 // Whether recovery slices may be made of so many slices of this size.

@@ -1,4 +1,4 @@
-use Rattle.par2_recovery.proofs.Common.{sym, ◌∙◌, refl, coefficients, Dependent}
+use Rattle.par2_recovery.proofs.Common.{sym, ap, ◌∙◌, refl, length, length-map, coefficient, coefficients, Dependent}
 use Rattle.std.proofs.Common.{Ok}
 use Rattle.par2_recovery.proofs.Ranks.{full_follows, dependent_is_not_kept}
 use Rattle.par2_recovery.proofs.exponents.offer.Goals as goal
@@ -21,3 +21,6 @@ returns-clause-told c = λ e. rw (c.deref.ensures.value, c.in_ok-row.ensures) at
 
 pub returns-clause-dependent : goal.returns-clause-dependent
 returns-clause-dependent c = λ e. rw (c.deref.ensures.value, c.in_ok-row.ensures) at (c.offer.ensures.dependent e)
+
+pub offer-requires-clause-row : goal.offer-requires-clause-row
+offer-requires-clause-row c = ap length (c.deref.ensures.value ∙ c.in_ok-row.ensures) ∙ length-map c.args.lost.now (coefficient c.args.e) ∙ sym c.requires.columns

@@ -5,6 +5,9 @@ use Rattle.par2_recovery.proofs.inverse.unit.Goals as goal
 zeros : (c : After-as_mut_slice) → c.as_mut_slice.result.now ≡ replicate (2 * c.args.n) 0
 zeros c = c.as_mut_slice.ensures.value ∙ c.in_ok-text.ensures.items_if_clones_equal (λ y h. search rules)
 
+pub returns-then-i-n-clause-unit : goal.returns-then-i-n-clause-unit
+returns-then-i-n-clause-unit c = λ low. absurd (omega (arith, low, c.if-i-n.true))
+
 pub put_element-requires : goal.put_element-requires
 put_element-requires c = let size = ap length (zeros (goal.at.put_element-requires c).After-as_mut_slice) ∙ length-replicate {A = ℕ} (2 * c.args.n) 0 in omega (arith, size, c.if-i-n.false)
 
@@ -15,3 +18,9 @@ returns-clause-unit c = λ _.
     let same : length c.put_element.new.row ≡ c.in_ok-text.text.len = search rules in
     rw (with_items_is c.in_ok-text.text c.put_element.new.row same)
     (record { size = c.put_element.ensures.same_length ∙ ap length zeros ∙ length-replicate {A = ℕ} (2 * c.args.n) 0; one = c.put_element.ensures.here; zeros = λ p other. c.put_element.ensures.others p other ∙ none p })
+
+pub returns-clause-size : goal.returns-clause-size
+returns-clause-size c =
+    let zeros = zeros (goal.at.returns-clause-size c).After-as_mut_slice in
+    let same : length c.put_element.new.row ≡ c.in_ok-text.text.len = search rules in
+    rw (with_items_is c.in_ok-text.text c.put_element.new.row same) (c.put_element.ensures.same_length ∙ ap length zeros ∙ length-replicate {A = ℕ} (2 * c.args.n) 0)

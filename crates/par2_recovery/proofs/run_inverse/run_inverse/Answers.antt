@@ -1,5 +1,5 @@
-use Rattle.par2_recovery.proofs.Common.{rules, ◌≡◌, ◌<◌, ◌∷◌, [], ◌∙◌, ℕ, List, refl, ap, ap₂, arith, length, map, all_at, length-map, product-one, pow, constant, coefficient, coefficients, lists_of, constant-lt}
-use Rattle.par2_recovery.proofs.RunInverses.{at_itself, scaled_push, is_inverse}
+use Rattle.par2_recovery.proofs.Common.{IfOk-weaker, ◌≡◌, ◌<◌, ◌∷◌, [], ◌∙◌, ℕ, List, refl, ap, ap₂, arith, length, map, all_at, length-map, product-one, pow, constant, coefficient, coefficients, lists_of, constant-lt}
+use Rattle.par2_recovery.proofs.RunInverses.{at_itself, is_inverse}
 use Rattle.par2_recovery.proofs.run_inverse.run_inverse.Goals.{After-as_slice-points}
 use Rattle.par2_recovery.proofs.run_inverse.run_inverse.Goals as goal
 
@@ -15,20 +15,15 @@ points_are c = c.as_slice-points.ensures.value ∙ c.in_ok-constants.ensures ∙
 pub coefficients-requires : goal.coefficients-requires
 coefficients-requires c = all_at (λ k. k < 32768) 0 (omega arith) c.args.lost.now c.requires.below
 
-pub inverse_row-requires : goal.inverse_row-requires
-inverse_row-requires c =
-    let are = points_are (goal.at.inverse_row-requires c).After-as_slice-points in
-    let within : c.loop-j.j < length c.as_slice-points.result.now = search rules in
-    let low : c.loop-j.j < length c.args.lost.now = (let long = length-map c.args.lost.now constant in let same = ap length are in omega (arith, within, long, same)) in
-    rw (c.deref.ensures.value, c.in_ok-p.ensures, are) (at_itself c.args.lost.now c.args.first c.loop-j.j c.requires low)
-
-pub loop-j-preserved : goal.loop-j-preserved
-loop-j-preserved c =
-    rw c.in_ok-push.ensures.items
-    (scaled_push c.args.first c.in_ok-p.p.items c.as_slice-points.result.now c.loop-j.rows.items c.in_ok-inverse_row.field-0 c.loop-j.j c.loop-j.invariant (rw c.deref.ensures.value at c.in_ok-inverse_row.ensures))
+pub inverse_rows-requires : goal.inverse_rows-requires
+inverse_rows-requires c = λ j h.
+    let are = points_are (goal.at.inverse_rows-requires c).After-as_slice-points in
+    let low : j < length c.args.lost.now = (let long = length-map c.args.lost.now constant in let same = ap length are in omega (arith, h, long, same)) in
+    rw (c.deref.ensures.value, c.in_ok-p.ensures, are) (at_itself c.args.lost.now c.args.first j c.requires low)
 
 pub returns : goal.returns
 returns c =
     let are = points_are (goal.at.returns c).After-as_slice-points in
-    let at_end : c.loop-j.j ≡ length c.as_slice-points.result.now = search rules in
-    is_inverse c.args.lost.now c.args.first (lists_of c.loop-j.rows.items) c.requires (rw (at_end, c.in_ok-p.ensures, are, length-map c.args.lost.now constant) at c.loop-j.invariant)
+    IfOk-weaker c.inverse_rows.result _ _ (λ rows made.
+    is_inverse c.args.lost.now c.args.first (lists_of rows.items) c.requires (rw (c.deref.ensures.value, c.in_ok-p.ensures, are, length-map c.args.lost.now constant) at made))
+    c.inverse_rows.ensures

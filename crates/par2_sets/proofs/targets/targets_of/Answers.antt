@@ -1,4 +1,5 @@
-use Rattle.par2_sets.proofs.Common.{◌≡◌, ◌∙◌, ◌⊎◌, ◌++◌, ◌∷◌, [], map, inl, inr, sym, ap, rules, Some, Err, Memory, NoChecksums, target_of, packet_of, targets_or_fault, was_some}
+use Rattle.par2_sets.proofs.Common.{◌≡◌, ◌∙◌, ◌⊎◌, ◌++◌, ◌∷◌, [], map, inl, inr, sym, ap, rules, Some, Err, Memory, NoChecksums, target_of, packet_of, targets_or_fault, was_some, all_some, ok_or, arith}
+use Rattle.std.proofs.lemmas.List.{take_all}
 use Rattle.par2_sets.proofs.Lists.{all_some_more}
 use Rattle.par2_sets.proofs.Refusals.{passed_on, one_missing}
 use Rattle.par2_sets.proofs.targets.targets_of.Goals as goal
@@ -24,3 +25,12 @@ loop-description-preserved c =
     all_some_more (target_of packets c.args.s) ds c.loop-description.description-index d c.loop-description.targets.items target c.loop-description-test.true c.description-item.is c.loop-description.invariant
     (was_some (target_of packets c.args.s d) NoChecksums target (c.in_ok-target_of.ensures packets c.in_ok-checksums.ensures))
     ∙ ap Some (sym pushed)
+
+pub target_of-requires-clause-size : goal.target_of-requires-clause-size
+target_of-requires-clause-size c = c.requires.size
+
+pub returns : goal.returns
+returns c =
+    let made = target_of (map packet_of c.args.packets.now) c.args.s in
+    let ds = c.args.descriptions.now in
+    ap (λ o. ok_or o NoChecksums) (ap (λ xs. all_some (map made xs)) (sym (take_all c.loop-description.description-index ds (omega (arith, c.loop-description-test.false)))) ∙ c.loop-description.invariant)

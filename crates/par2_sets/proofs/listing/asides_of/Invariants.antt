@@ -1,5 +1,5 @@
 use Rattle.par2_sets.proofs.Common.{◌≡◌, None, map, take, aside, long_aside}
-use Rattle.par2_sets.proofs.listing.asides.Given as goal
+use Rattle.par2_sets.proofs.listing.asides_of.Given as goal
 
 abbrev pub invariant-loop-name : goal.invariant-loop-name
 invariant-loop-name l =

@@ -1,6 +1,7 @@
-use Rattle.par2_sets.proofs.Common.{◌≡◌, ◌<◌, ◌∙◌, ◌++◌, ◌∷◌, [], IsTrue, length, rules, is_name, aside}
+use Rattle.par2_sets.proofs.Common.{◌≡◌, ◌<◌, ◌∙◌, ◌++◌, ◌∷◌, [], IsTrue, length, rules, is_name, aside, map, sym, ap, arith, long_aside}
+use Rattle.std.proofs.lemmas.List.{take_all}
 use Rattle.par2_sets.proofs.TakenNames.{one_more_aside, one_more_short}
-use Rattle.par2_sets.proofs.listing.asides.Goals as goal
+use Rattle.par2_sets.proofs.listing.asides_of.Goals as goal
 
 pub loop-name-preserved : goal.loop-name-preserved
 loop-name-preserved c =
@@ -15,3 +16,11 @@ loop-name-preserved c =
       pushed ∙ one_more_aside folder set names i c.name-item.result c.in_ok-aside.field-0 low c.name-item.is is c.loop-name.asides.items c.loop-name.invariant.0,
       one_more_short folder set names i c.name-item.result c.in_ok-aside.field-0 low c.name-item.is is named c.loop-name.invariant.1,
     )
+
+pub returns-clause-names : goal.returns-clause-names
+returns-clause-names c =
+    c.loop-name.invariant.0 ∙ ap (map (aside c.args.folder.now.files c.args.set.now)) (take_all c.loop-name.name-index c.args.names.now (omega (arith, c.loop-name-test.false)))
+
+pub returns-clause-short : goal.returns-clause-short
+returns-clause-short c =
+    ap (long_aside c.args.folder.now.files c.args.set.now) (sym (take_all c.loop-name.name-index c.args.names.now (omega (arith, c.loop-name-test.false)))) ∙ c.loop-name.invariant.1
