@@ -1,4 +1,4 @@
-use Rattle.par2_journal.proofs.Common.{◌≡◌, ◌-◌, ap, sym, ◌∙◌, arith, length, map, drop, drop-map, take_all, change_of, length-drop}
+use Rattle.par2_journal.proofs.Common.{◌≡◌, ◌-◌, ap, sym, ◌∙◌, arith, length, map, drop, drop-map, take_all, length-drop, change_of}
 use Rattle.par2_journal.proofs.taking_back.way_back.Goals as goal
 
 pub returns-clause-back : goal.returns-clause-back
