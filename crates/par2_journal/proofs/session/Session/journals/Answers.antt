@@ -1,4 +1,4 @@
-use Rattle.par2_journal.proofs.Common.{◌+◌, ◌-◌, sym, ap, ◌∙◌, vec_len, vec_capacity, KeptSession, Kind, Ready, Undoing, Redoing, changes_by_kind, Add, turn_of, Replace, HasNext, length, arith}
+use Rattle.par2_journal.proofs.Common.{◌+◌, ◌-◌, sym, ap, ◌∙◌, vec_len, vec_capacity, length, arith, KeptSession, Kind, Ready, Undoing, Redoing, changes_by_kind, Add, turn_of, Replace, HasNext}
 use Rattle.par2_journal.specs.Kinds.{kind_of, known_of}
 use Rattle.par2_journal.proofs.Prints.{known_here}
 use Rattle.par2_journal.proofs.SessionJournals.{next_here, ready_applies, ready_spelled, spelled_for, undo_entry, redo_entry}
