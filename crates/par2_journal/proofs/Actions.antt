@@ -1,7 +1,6 @@
 -- What an accepted action makes of a session, and a run of them.
 use Rattle.par2_journal.proofs.Common.{◌≡◌, ◌≢◌, ℕ, suc, ◌+◌, ◌<◌, ◌≤◌, List, [], ◌∷◌, length, map, get_or, drop, Ok, Err, Result, Bool, true, IsTrue, refl, sym, ap, subst, ◌∙◌, arith, false≢true, IsFalse, IsErr, ◌↔◌, OnOk, is_ok, length-map, drop_all, action_of, Change, Action, Do, Undo, Redo, Command, History, history_after, Run, Accepted, Passed, MayBeRefused, IsChanging, Refusal, Session, KeptSession, OnlyGrew, CanWalk, session_of_kept, session_with, session_unless, first_entry, history_of, kept_undone, kept_redone, session_after, changes_asked, accepted_next, refused_alike, done_of_kept, undone_of_kept, redone_of_kept, walked_is_valid, same_session, Kind, Changing, Undoing, Redoing, IsKindOf, changes_by_kind, after_commit, next_of, is_valid, LeadsToAfterAsked}
 use Rattle.par2_spec.specs.declared.commands.Action as given
-use Rattle.par2_spec.specs.declared.commands.Action.TheVariants as asked
 use Rattle.par2_spec.specs.History.{NothingToUndo, NothingToRedo}
 use Rattle.par2_journal.proofs.Entries.{left_at}
 
@@ -53,14 +52,6 @@ undo_acted old new (Err e) refused undone = (λ h. absurd (false≢true h), λ _
 pub redo_acted : {E : Type 0} (old new : KeptSession) (r : Result (Unit {0}) E) → IsErr r ↔ (old.redos ≡ []) → OnOk r (new ≡ kept_redone old (next_of old.redos)) → HasActed Redo old new (is_ok r)
 redo_acted old new (Ok u) refused redone = (λ _. redo_done old (λ none. false≢true (refused.1 none)) ∙ ap (λ (s : KeptSession). Ok (session_of_kept s)) (sym redone), λ h. absurd (false≢true (sym h)))
 redo_acted old new (Err e) refused redone = (λ h. absurd (false≢true h), λ _. redo_refused old (refused.0 refl))
-
--- where memory runs out, a command may be
-pub command_passed : (h : History) (action : given.Action) → (action ≡ asked.Undo → ⊥) → (action ≡ asked.Redo → ⊥) → MayBeRefused h (action_of action)
-command_passed h (asked.Create args) not_undo not_redo = tt
-command_passed h (asked.Repair base extras purge) not_undo not_redo = tt
-command_passed h (asked.Purge base) not_undo not_redo = tt
-command_passed h asked.Undo not_undo not_redo = absurd (not_undo refl)
-command_passed h asked.Redo not_undo not_redo = absurd (not_redo refl)
 
 -- the history goes along
 leads_asked : (s t : Session) (action : Action) → is_valid s ≡ true → LeadsToAfterAsked s.folder action → session_after s action ≡ Ok t → history_after (history_of s) action ≡ Ok (history_of t)

@@ -8,13 +8,13 @@ pub use Rattle.std.proofs.lemmas.Map.Text.{btree_map_updates_str, is_eq-slice_cm
 pub use Rattle.std.proofs.lemmas.Result.{err_from_is_err_and, on_ok_weaker}
 pub use Rattle.std.specs.Cmp.Lexicographic.{nat_list_cmp_total, pointwise, slice_cmp}
 pub use Rattle.std.specs.List.{insert}
-pub use Rattle.std.specs.Prelude.{IfErr, IfOk, IfSome, IsErr, IsErrAnd, IsFalse, MatchResult, OnOk, if◌then◌else◌, is_ok, option_map, position, reverse, slice_get, sum_by, unwrap_or, ◌↔◌, ◌⊎◌}
+pub use Rattle.std.specs.Prelude.{IfErr, IfOk, IfSome, IsErr, IsErrAnd, IsFalse, MatchResult, OnOk, String, if◌then◌else◌, is_ok, option_map, position, reverse, slice_get, sum_by, unwrap_or, ◌↔◌, ◌⊎◌}
 pub use Rattle.std.specs.Str.{bytes_eq}
 pub use Rattle.std.specs.declared.alloc.Global.{Global}
 pub use Rattle.par2_folder.specs.Views.{change_of}
 pub use Rattle.par2_journal.specs.Ahead.{IsAhead, next_changes}
 pub use Rattle.par2_journal.specs.Along.{AreAlong, ArePrintsAlong, Prints, prints_of}
-pub use Rattle.par2_journal.specs.Opening.{AnswersOpening, AnswersWhere, IsToldWhere, OpensAsIs, go_through, session_after_way, session_at}
+pub use Rattle.par2_journal.specs.Opening.{AnswersOpening, AnswersWhere, IsToldWhere, LeadBack, OpensAsIs, go_through, session_after_way, session_at}
 pub use Rattle.par2_journal.specs.Ready.{CanBe, Changing, Fits, IsKindOf, IsReady, Kind, Ready, Redoing, Undoing, after_commit, changes_by_kind, next_of}
 pub use Rattle.par2_journal.specs.Sessions.{kept_session}
 pub use Rattle.par2_journal.specs.Spelling.{Add, AreSpelled, HasNext, Replace, SpellsAction, SpellsReady, SpellsTurn, SpellsWhere, Turn, entries_with, halfway_with, settled_with, turn_of}
@@ -22,8 +22,10 @@ pub use Rattle.par2_journal.specs.Walks.{AreNamesOf, IsSet, WentForth, names_in}
 pub use Rattle.par2_journal.specs.declared.ahead.Next.{Next}
 pub use Rattle.par2_journal.specs.declared.spelling.Fingerprints.{Fingerprints}
 pub use Rattle.par2_journal_bytes.specs.Views.{changes_in, halfway_of, journal_from, journal_of}
+pub use Rattle.par2_plan.specs.Drafts.{HasItsMd5s, IsDraft}
+pub use Rattle.par2_plan.specs.declared.draft.Draft.{Draft}
 pub use Rattle.par2_spec.proofs.FolderLaws.{changes_back, gone, more_room_all, state_all_back, state_files, takes_applicable, takes_none, way_back_taken, written}
-pub use Rattle.par2_spec.proofs.SessionLaws.{accepted_next, done_can_walk, done_of_kept, grown_can_walk, leading_walks, next_taken, redone_can_walk, redone_of_kept, refused_alike, run_leaves, same_ok, same_session, undone_can_walk, undone_of_kept, walked_is_valid}
+pub use Rattle.par2_spec.proofs.SessionLaws.{accepted_next, done_can_walk, done_of_kept, grown_can_walk, leading_walks, next_taken, ok_no_err, redone_can_walk, redone_of_kept, refused_alike, run_leaves, same_ok, same_session, undone_can_walk, undone_of_kept, walked_is_valid}
 pub use Rattle.par2_spec.specs.Changes.{Change, FolderState, Remove, Rename, Write, inverse, is_applicable, places_taken, state_after, state_after_all}
 unfoldable pub use Rattle.par2_spec.specs.Changes.{are_applicable, effect, effects, folders_after, takes_all, way_back}
 pub use Rattle.par2_spec.specs.Commands.{Action, Command, Create, Do, Purge, Redo, Repair, Undo}
@@ -33,6 +35,7 @@ pub use Rattle.par2_spec.specs.Journals.{HalfwayPart, Journal, Spells}
 pub use Rattle.par2_spec.specs.Opening.{halfway_where, is_valid, opened_by_part}
 unfoldable pub use Rattle.par2_spec.specs.Opening.{halfway_journal, journals_of, leads, leads_through, settled_journal}
 pub use Rattle.par2_spec.specs.Plans.{LeadsToAfterAsked}
+pub use Rattle.par2_spec.specs.Refusals.{after, early_refusal, refusal}
 pub use Rattle.par2_spec.specs.Sessions.{CanWalk, KeptSession, OnlyGrew, Session, changes_unless, first_entry, history_of, others, session_of_kept, session_unless, session_with}
 unfoldable pub use Rattle.par2_spec.specs.Sessions.{changes_asked, kept_done, kept_redone, kept_undone, session_after, walks}
 pub use Rattle.par2_spec.specs.Texts.{Step, step_of}

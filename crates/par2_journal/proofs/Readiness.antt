@@ -1,14 +1,11 @@
 -- What is asked of a session, and what it makes ready.
-use Rattle.par2_journal.proofs.Common.{Action, Command, Do, Undo, Redo, Repair, ◌≡◌, ◌≢◌, inl, inr, ℕ, Bool, ◌<◌, ◌≤◌, List, [], ◌∷◌, length, map, None, Some, IsTrue, Result, Ok, Err, true, refl, sym, ap, subst, ◌∙◌, arith, nil_from_length, IfOk, IfErr, IsErrAnd, MatchResult, Change, Write, Rename, Remove, places_taken, are_applicable, effects, Folder, LeadsToAfterAsked, KeptSession, OnlyGrew, session_of_kept, changes_unless, first_entry, changes_asked, Step, step_of, takes_applicable, AreAlong, prints_of, Fingerprints, Kind, Ready, Changing, Undoing, Redoing, CanBe, Fits, IsKindOf, IsReady, changes_by_kind, next_of, IsChanging}
+use Rattle.par2_journal.proofs.Common.{Action, Command, Do, Undo, Redo, Repair, ◌≡◌, ◌≢◌, inl, inr, ℕ, Bool, ◌<◌, ◌≤◌, List, [], ◌∷◌, length, map, None, Some, IsTrue, Result, Ok, Err, true, refl, sym, ap, subst, ◌∙◌, arith, nil_from_length, IfOk, IfErr, IsErrAnd, MatchResult, Change, Write, Rename, Remove, places_taken, are_applicable, effects, FolderState, Folder, LeadsToAfterAsked, KeptSession, OnlyGrew, session_of_kept, changes_unless, first_entry, changes_asked, Step, step_of, takes_applicable, AreAlong, prints_of, Fingerprints, Kind, Ready, Changing, Undoing, Redoing, CanBe, Fits, IsKindOf, IsReady, changes_by_kind, next_of, IsChanging, refusal, after, early_refusal, HasItsMd5s, IsDraft, Draft}
 use Rattle.par2_journal.specs.Commands.{MakesReady, Prepares}
 use Rattle.par2_spec.specs.Changes.{Replace}
-use Rattle.par2_spec.specs.Refusals.{refusal, after, early_refusal}
 use Rattle.par2_spec.specs.Plans as plans
 use Rattle.par2_spec.specs.History as history
 use Rattle.par2_spec.specs.declared.Fault.{Fault}
 use Rattle.par2_spec.specs.declared.Fault.TheVariants.{Memory, RepairFailed}
-use Rattle.par2_plan.specs.Drafts.{HasItsMd5s, IsDraft}
-use Rattle.par2_plan.specs.declared.draft.Draft.{Draft}
 use Rattle.par2_journal.specs.Refusals.{MayFail, MayRefuse}
 use Rattle.par2_journal.proofs.Actions.{command_done, first_is_next, undo_done, redo_done}
 use Rattle.par2_journal.specs.declared.preparation.SessionFault.{SessionFault}
@@ -64,15 +61,16 @@ leads_asked_by folder command changes are applies leads = λ accepted. (
   ap (effects folder) (sym are) ∙ leads,
 )
 
--- an accepted command, of which the changes were made ready
+-- an accepted command, of which the changes were made ready, as it was planned on the folder
 module _ (old new : KeptSession) (command : Command) (changes : List Change) (changing : IsChanging (Do command)) (grew : OnlyGrew old new)
-    (accepted : refusal old.folder.files command ≡ None) (are : changes ≡ plans.changes_of old.folder.files command) where
+    (on : FolderState) (same : on ≡ old.folder) (accepted : refusal on.files command ≡ None) (are : changes ≡ plans.changes_of on.files command) where
   ready_command : (ready : Ready) → ready.kind ≡ Changing changes → Fits ready new → IsReady (Do command) old ready new
   unfolding changes_asked
   ready_command ready is fits =
       let kind : IsKindOf (Do command) ready.kind = subst (IsKindOf (Do command)) (sym is) tt in
       let asked : changes_asked (session_of_kept old) (Do command) ≡ Ok (changes_by_kind ready.kind old) =
-      ap (λ r. changes_unless r (plans.changes_of old.folder.files command)) accepted ∙ ap Ok (sym are ∙ ap (λ k. changes_by_kind k old) (sym is)) in
+      ap (λ r. changes_unless r (plans.changes_of old.folder.files command)) (subst (λ (f : FolderState). refusal f.files command ≡ None) same accepted)
+      ∙ ap Ok (sym (subst (λ (f : FolderState). changes ≡ plans.changes_of f.files command) same are) ∙ ap (λ k. changes_by_kind k old) (sym is)) in
       record {
         fits = fits;
         kind = kind;
@@ -81,23 +79,23 @@ module _ (old new : KeptSession) (command : Command) (changes : List Change) (ch
       }
 
   -- where nothing was found before memory was taken
-  pub plan_ready : IsTrue (are_applicable old.folder.files changes) → effects old.folder.files changes ≡ after old.folder.files command
-      → ((fault : Fault) → early_refusal old.folder.files command ≡ Some fault → ⊥)
+  pub plan_ready : IsTrue (are_applicable on.files changes) → effects on.files changes ≡ after on.files command
+      → ((fault : Fault) → early_refusal on.files command ≡ Some fault → ⊥)
       → (r : Result Ready Fault) → IfOk r (λ ready. ready.kind ≡ Changing changes) → IfOk r (λ ready. Fits ready new) → IfErr r (λ fault. fault ≡ Memory)
       → MakesReady command old new r
   plan_ready applies leads early (Ok ready) is fits memory = record {
     kept = grew;
     ready = ready_command ready is fits;
-    leads = leads_asked_by old.folder.files command changes are applies leads;
+    leads = subst (λ (f : FolderState). LeadsToAfterAsked f.files (Do command)) same (leads_asked_by on.files command changes are applies leads);
     refused = tt;
-    early = λ fault found. absurd (early fault found);
+    early = λ fault found. absurd (early fault (subst (λ (f : FolderState). early_refusal f.files command ≡ Some fault) (sym same) found));
   }
   plan_ready applies leads early (Err fault) is fits memory = record {
     kept = grew;
     ready = tt;
     leads = tt;
     refused = inl memory;
-    early = λ fault found. absurd (early fault found);
+    early = λ fault found. absurd (early fault (subst (λ (f : FolderState). early_refusal f.files command ≡ Some fault) (sym same) found));
   }
 
 -- a draft that was tested, with the fingerprints along its changes
@@ -112,7 +110,7 @@ draft_ready old new base extras purge draft changes steps prints grew is has sam
       steps = told ∙ ap (map step_of) (sym same);
       known = subst (λ (cs : List Change). AreAlong new.folder.files cs prints) (sym same) along;
     } in
-    plan_ready old new (Repair base extras purge) changes tt grew (is.accepted has) (same ∙ is.changes) (subst (λ (cs : List Change). IsTrue (are_applicable old.folder.files cs)) (sym same) is.applies)
+    plan_ready old new (Repair base extras purge) changes tt grew old.folder refl (is.accepted has) (same ∙ is.changes) (subst (λ (cs : List Change). IsTrue (are_applicable old.folder.files cs)) (sym same) is.applies)
     (ap (effects old.folder.files) same ∙ is.leads) early (Ok ready) refl fits tt
 
 -- a repair is refused whose draft has a wrong MD5

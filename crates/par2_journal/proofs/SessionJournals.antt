@@ -147,7 +147,7 @@ module _ (xs : List (List Change)) (n : ℕ) (within : n ≤ length xs) (folder 
   can_here : CanBe ready.kind (at folder xs n room)
   can_here = subst (CanBe ready.kind) (sym same) can
 
-  next_here : (kind : Kind) → ready.kind ≡ kind → HasNext kind n (length xs)
+  pub next_here : (kind : Kind) → ready.kind ≡ kind → HasNext kind n (length xs)
   next_here kind is = subst (λ k. HasNext k n (length xs)) is (has_next xs n folder room ready.kind within can_here)
 
   pub undo_entry : ready.kind ≡ Undoing → (entries : List (List Change)) → entries ≡ xs → get_or entries (n - 1) [] ≡ changes_by_kind ready.kind s

@@ -1,8 +1,8 @@
-use Rattle.par2_journal.proofs.Common.{◌+◌, ◌-◌, sym, ap, ◌∙◌, vec_len, vec_capacity, KeptSession, Kind, Ready, changes_by_kind, Add, turn_of, Replace}
+use Rattle.par2_journal.proofs.Common.{◌+◌, ◌-◌, sym, ap, ◌∙◌, vec_len, vec_capacity, length, arith, KeptSession, Kind, Ready, Undoing, Redoing, changes_by_kind, Add, turn_of, Replace, HasNext}
 use Rattle.par2_journal.specs.Kinds.{kind_of, known_of}
 use Rattle.par2_journal.proofs.Prints.{known_here}
-use Rattle.par2_journal.proofs.SessionJournals.{ready_applies, ready_spelled, spelled_for, undo_entry, redo_entry}
-use Rattle.par2_journal.proofs.session.Session.journals.Goals.{in-Change, in-Undo, in-Redo}
+use Rattle.par2_journal.proofs.SessionJournals.{next_here, ready_applies, ready_spelled, spelled_for, undo_entry, redo_entry}
+use Rattle.par2_journal.proofs.session.Session.journals.Goals.{In-Undo, in-Change, in-Undo, in-Redo}
 use Rattle.par2_journal.proofs.session.Session.journals.Goals as goal
 
 pub spell_command-requires-clause-known : goal.spell_command-requires-clause-known
@@ -27,6 +27,28 @@ spell_entry-requires-in-Redo-clause-applies c =
     let kind = ap (λ (r : Ready). r.kind) (sym c.prepared.view_is) ∙ ap kind_of c.in-Redo.is in
     let are = redo_entry s.entries.items s.cursor c.self.invariant.within s.folder room c.args.self.now c.self.view_is c.args.prepared.now c.requires.can kind c.deref_mut-in-Redo.result.now c.deref_mut-in-Redo.ensures.value in
     ready_applies s.entries.items s.cursor c.self.invariant.within s.folder room c.args.self.now c.self.view_is c.args.prepared.now c.requires.can c.self.invariant.walks _ are
+
+-- the cursor has an entry before it, where an undo was made ready, and one at it for a redo
+before : (c : In-Undo) → HasNext Undoing c.self.inside.cursor (length c.self.inside.entries.items)
+before c =
+    let s = c.self.inside in
+    let kind = ap (λ (r : Ready). r.kind) (sym c.prepared.view_is) ∙ ap kind_of c.in-Undo.is in
+    next_here s.entries.items s.cursor c.self.invariant.within s.folder (vec_capacity s.entries - vec_len s.entries) c.args.self.now c.self.view_is c.args.prepared.now c.requires.can Undoing kind
+
+pub overflow_sub-at : goal.overflow_sub-at
+overflow_sub-at c = omega (arith, (before (goal.at.overflow_sub-at c).In-Undo).0)
+
+pub spell_entry-requires-clause-place : goal.spell_entry-requires-clause-place
+spell_entry-requires-clause-place c =
+    let next = before (goal.at.spell_entry-requires-clause-place c).In-Undo in
+    omega (arith, next.0, next.1, ap length c.deref_mut.ensures.value)
+
+pub spell_entry-requires-in-Redo-clause-place : goal.spell_entry-requires-in-Redo-clause-place
+spell_entry-requires-in-Redo-clause-place c =
+    let s = c.self.inside in
+    let kind = ap (λ (r : Ready). r.kind) (sym c.prepared.view_is) ∙ ap kind_of c.in-Redo.is in
+    let next = next_here s.entries.items s.cursor c.self.invariant.within s.folder (vec_capacity s.entries - vec_len s.entries) c.args.self.now c.self.view_is c.args.prepared.now c.requires.can Redoing kind in
+    omega (arith, next, ap length c.deref_mut-in-Redo.ensures.value)
 
 pub returns-clause-spelled : goal.returns-clause-spelled
 returns-clause-spelled c =
