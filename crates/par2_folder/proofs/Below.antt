@@ -1,5 +1,5 @@
 -- The files of a folder before a name, which changes from the name on leave as they are, and what is hashed of them.
-use Rattle.par2_folder.proofs.Common.{◌≡◌, ℕ, zero, suc, ◌<◌, ◌≤◌, Bool, true, false, cond, List, ◌∷◌, ◌++◌, length, take, Option, Some, None, refl, sym, ap, ◌∙◌, arith, is_lt, is_eq, eq_by_cmp, ord_min, Ordering, Less, Equal, Greater, nat_list_cmp_total, entries, same_map, entries-from_sorted, get-from_sorted, get-retain_keys, get-insert, get-remove, where_key, find-where_key, is_sorted-where_key, cases_lt, File, Folder, behind_length, bytes_of, name_cmp, IsSortedByName, folder_of, file_at, IsAt, IsGapFor, IsKept, is_below, folder_below, fingerprint_input, IsFrom, IsFront, by_true, effect, Change, Write, flat_map-append, Replace, Rename, Remove}
+use Rattle.par2_folder.proofs.Common.{◌≡◌, ℕ, zero, suc, ◌<◌, ◌≤◌, Bool, true, false, cond, List, ◌∷◌, ◌++◌, length, take, Option, Some, None, refl, sym, ap, ◌∙◌, arith, is_lt, is_eq, eq_by_cmp, ord_min, Ordering, Less, Equal, Greater, nat_list_cmp_total, entries, same_map, entries-from_sorted, get-from_sorted, get-retain_keys, get-insert, get-remove, where_key, find-where_key, is_sorted-where_key, cases_lt, File, Folder, behind_length, bytes_of, name_cmp, IsSortedByName, folder_of, file_at, IsAt, IsGapFor, IsKept, is_below, folder_below, fingerprint_input, IsFrom, IsFront, by_true, effect, Change, Write, Replace, Rename, Remove, flat_map-append}
 use Rattle.std.specs.FinMap as map_of
 use Rattle.par2_folder.proofs.SortedFiles.{same_names, rises, turned, turned_back}
 
@@ -26,8 +26,7 @@ kept_where p files h =
     ap entries (same_map nat_list_cmp_total same_names _ (folder_of (where_key name_cmp p files)) (λ q.
     get-retain_keys (folder_of files) p q (alike p q)
     ∙ ap (λ o. cond (p q) o None) (get-from_sorted name_cmp files q (by_true h))
-    ∙ sym (find-where_key name_cmp p q (alike p q) files)
-    ∙ sym (get-from_sorted name_cmp _ q sorted)))
+    ∙ sym (find-where_key name_cmp p q (alike p q) files) ∙ sym (get-from_sorted name_cmp _ q sorted)))
     ∙ entries-from_sorted name_cmp _ sorted
 
 -- a search tells how many names come before the name
@@ -88,17 +87,13 @@ elsewhere name n q o g h = by_case (name_cmp q n) refl
 module _ (name n : List ℕ) (folder : Folder) (h : is_below name n ≡ false) where
   put_from : (bytes : List ℕ) → folder_below name (map_of.insert folder n bytes) ≡ folder_below name folder
   put_from bytes = same_map nat_list_cmp_total same_names _ _ (λ q.
-      get_below name _ q
-      ∙ ap (λ o. cond (is_below name q) o None) (get-insert nat_list_cmp_total folder n bytes q)
-      ∙ elsewhere name n q (Some bytes) (map_of.get folder q) h
-      ∙ sym (get_below name folder q))
+      get_below name _ q ∙ ap (λ o. cond (is_below name q) o None) (get-insert nat_list_cmp_total folder n bytes q)
+      ∙ elsewhere name n q (Some bytes) (map_of.get folder q) h ∙ sym (get_below name folder q))
 
   gone_from : folder_below name (map_of.remove folder n) ≡ folder_below name folder
   gone_from = same_map nat_list_cmp_total same_names _ _ (λ q.
-      get_below name _ q
-      ∙ ap (λ o. cond (is_below name q) o None) (get-remove nat_list_cmp_total folder n q)
-      ∙ elsewhere name n q None (map_of.get folder q) h
-      ∙ sym (get_below name folder q))
+      get_below name _ q ∙ ap (λ o. cond (is_below name q) o None) (get-remove nat_list_cmp_total folder n q)
+      ∙ elsewhere name n q None (map_of.get folder q) h ∙ sym (get_below name folder q))
 
 -- a change from the name on leaves what is before it
 pub effect_below : (name : List ℕ) (folder : Folder) (change : Change) → IsFrom name change → folder_below name (effect folder change) ≡ folder_below name folder

@@ -8,6 +8,7 @@ pub use Rattle.std.proofs.lemmas.Grind.{common_steps, flat_map-append}
 pub use Rattle.std.proofs.lemmas.Iterator.{YieldsList-from_map, YieldsList-from_map_by, YieldsList-from_slice, items_from_collect, items_from_drains}
 pub use Rattle.std.proofs.lemmas.List.{drop-map, drop-set-lt, drop-take, drop_all, get_or-map, get_or-take, get_or_default, length-append, length-map, length-take-le, map-append, map-set, reverse-append, take-append-drop, take-map, take-take, take_all, take_more}
 pub use Rattle.std.proofs.lemmas.List.Elements.{All-from_recursion, All-push, All-set, recursion_from_All}
+pub use Rattle.std.proofs.lemmas.Result.{IfOk-weaker}
 pub use Rattle.std.specs.Cmp.Lexicographic.{nat_list_cmp_total}
 pub use Rattle.std.specs.FinMap.{IsAntisymmetric, entries, entries-from_sorted, entries-insert, entries_sorted, find, get-empty, get-from_sorted, get-insert, get-remove, get-retain_keys, is_sorted, nat_cmp-IsAntisymmetric, put, same_entries_map, same_map, slice_cmp-IsAntisymmetric}
 pub use Rattle.std.specs.FinMap.Entries.{find-where_key, is_sorted-where_key, where_key}
@@ -34,7 +35,7 @@ pub use Rattle.par2_folder.specs.declared.snapshot.Border.TheVariants.{At, Begin
 pub use Rattle.par2_folder.specs.declared.snapshot.BorrowedFile.{BorrowedFile}
 pub use Rattle.par2_spec.proofs.FolderLaws.{taken_are_applicable, takes_first, takes_rest}
 pub use Rattle.par2_spec.proofs.TestLaws.{by_true, cond-not, is_true}
-pub use Rattle.par2_spec.specs.Changes.{Change, FolderState, Remove, Rename, Replace, Write, inverse, state_after}
-unfoldable pub use Rattle.par2_spec.specs.Changes.{are_applicable, change_refusal, effect, folders_after, is_applicable, state_after_all, takes_all, way_back}
+pub use Rattle.par2_spec.specs.Changes.{Change, FolderState, Remove, Rename, Replace, Write, inverse, is_applicable, state_after}
+unfoldable pub use Rattle.par2_spec.specs.Changes.{are_applicable, change_refusal, effect, folders_after, state_after_all, takes_all, way_back}
 pub use Rattle.par2_spec.specs.Folders.{File, Folder, IsFolder, behind_length, bytes_of, has, names}
 unfoldable pub use Rattle.par2_spec.specs.Folders.{fingerprint}

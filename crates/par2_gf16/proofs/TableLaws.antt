@@ -50,8 +50,7 @@ constants_kept constants n so_far other =
 spared_from_one : (n : ℕ) → is_spared n ≡ false → filter is_spared (range_with_len 0 n) ≡ filter is_spared (range_with_len 1 n)
 spared_from_one n other =
     sym (append-nil (filter is_spared (range_with_len 0 n)))
-    ∙ ap (λ b. filter is_spared (range_with_len 0 n) ++ cond b (n ∷ []) []) (sym other)
-    ∙ sym (spared_more n)
+    ∙ ap (λ b. filter is_spared (range_with_len 0 n) ++ cond b (n ∷ []) []) (sym other) ∙ sym (spared_more n)
     ∙ ap (λ m. filter is_spared (range_with_len 0 m)) (add-one n)
 
 constants_whole : constants_below 65535 ≡ map (pow 2) constant_powers
@@ -115,10 +114,8 @@ pow_2-mod n =
     let r = n % 65535 in
     let q = n / 65535 in
     let whole : pow 2 (q * 65535) ≡ 1 = sym (power-mul 2 65535 q (omega arith)) ∙ ap (λ v. pow v q) power-65535 ∙ one-power q in
-    sym (ap (pow 2) (let e : n ≡ r + q * 65535 = omega arith in e)
-    ∙ power-add 2 r (q * 65535) (omega arith)
-    ∙ ap (mul (pow 2 r)) whole
-    ∙ product-one (pow 2 r) (power-lt 2 r (omega arith)))
+    sym (ap (pow 2) (let e : n ≡ r + q * 65535 = omega arith in e) ∙ power-add 2 r (q * 65535) (omega arith)
+    ∙ ap (mul (pow 2 r)) whole ∙ product-one (pow 2 r) (power-lt 2 r (omega arith)))
 
 pub power_is : (a e i : ℕ) → pow 2 i ≡ a → pow 2 (i * e % 65535) ≡ pow a e
 power_is a e i ea = pow_2-mod (i * e) ∙ ap (pow 2) (let c : i * e ≡ e * i = omega arith in c) ∙ sym (power-mul 2 i e (omega arith)) ∙ ap (λ v. pow v e) ea
@@ -143,8 +140,7 @@ constant_counted k h = omega (arith, length-constant_powers)
 
 pub constant_is : (constants : List ℕ) (k : ℕ) → constants ≡ map (pow 2) constant_powers → k < 32768 → get_or constants k 0 ≡ constant k
 unfolding constant
-constant_is constants k e h =
-    ap (λ xs. get_or xs k 0) e ∙ get_or-map (pow 2) constant_powers k 0 0 (constant_counted k h)
+constant_is constants k e h = ap (λ xs. get_or xs k 0) e ∙ get_or-map (pow 2) constant_powers k 0 0 (constant_counted k h)
 
 pub constants_count : (constants : List ℕ) → constants ≡ map (pow 2) constant_powers → length constants ≡ 32768
 constants_count constants e = ap length e ∙ length-map constant_powers (pow 2) ∙ length-constant_powers

@@ -117,8 +117,7 @@ parts_take bytes j fits e =
     let nothing : g.0.1 ≡ [] = nil_from_length g.0.1 (eqb-true _ _ tests.1) in
     let spells : (cs ns rest : List ℕ) → List ℕ = λ cs ns rest. heading v ++ b.0.0 ++ cs ++ ns ++ flat_map entry_bytes f.0.0 ++ halfway_bytes g.0.0 ++ rest in
     let text : bytes ≡ journal_bytes made =
-    u6.parts
-    ∙ ap (λ (rest : List ℕ). spells (cursor_bytes v c.0.0) (to_le_bytes w64 n) rest) nothing
+    u6.parts ∙ ap (λ (rest : List ℕ). spells (cursor_bytes v c.0.0) (to_le_bytes w64 n) rest) nothing
     ∙ append-nil (heading v ++ b.0.0 ++ cursor_bytes v c.0.0 ++ to_le_bytes w64 n ++ flat_map entry_bytes f.0.0 ++ halfway_bytes g.0.0)
     ∙ ap (λ (cs : List ℕ). heading v ++ b.0.0 ++ cs ++ to_le_bytes w64 n ++ flat_map entry_bytes f.0.0 ++ halfway_bytes g.0.0) (spelled v c.0.0 n)
     ∙ ap (λ (k : ℕ). heading v ++ b.0.0 ++ cursor_bytes v (cursor_in v c.0.0 n) ++ to_le_bytes w64 k ++ flat_map entry_bytes f.0.0 ++ halfway_bytes g.0.0) (sym t5.1.0) in

@@ -40,8 +40,7 @@ witness_killed s r q hq free p hp = at (cases_lt 0 (length (list_at s.rows p)))
         (λ none. ap (mul (word i (list_at s.rows p))) (witness_else s.rows q i nq ∙ word_empty (list_at s.rows i) q (omega arith)) ∙ product-zero (word i (list_at s.rows p))))
         ∙ ap₂ bit_xor
         (ap₂ mul (r.pivot p there) (witness_else s.rows q p apart) ∙ product_comm 1 v (omega arith) (r.small p q) ∙ product-one v (r.small p q))
-        (ap (mul v) (witness_here s.rows q) ∙ product-one v (r.small p q))
-        ∙ xor_self v
+        (ap (mul v) (witness_here s.rows q) ∙ product-one v (r.small p q)) ∙ xor_self v
 
 -- A row that is 0 at each pivot and not at q tells the witness apart.
 pub told_apart : (s : Echelon) → IsReduced s → (row : List ℕ) (q : ℕ) → q < s.columns → word q row ≢ 0 → ((i : ℕ) → word i row < 65536)

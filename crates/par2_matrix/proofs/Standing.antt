@@ -82,8 +82,7 @@ placed_reduced n b rank R D R'' D'' q row right h =
           | inl lowp ↦ elim (cases_eq s q) [
             | inl to_q ↦
                 let k = word q (list_at R p) in
-                ap (λ x. word x (list_at R'' p)) to_q
-                ∙ entry n b rank R D R'' D'' q row right h p q lowp other h.place
+                ap (λ x. word x (list_at R'' p)) to_q ∙ entry n b rank R D R'' D'' q row right h p q lowp other h.place
                 ∙ ap (bit_xor k) (ap (mul k) h.pivot ∙ product-one k (h.reduced.small p q)) ∙ xor_self k
             | inr off ↦
                 let was = there_before s off there in

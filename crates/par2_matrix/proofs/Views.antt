@@ -13,8 +13,7 @@ dot_words n row v size =
 -- the sum by a row of elements
 pub dot_spelled : (n : ℕ) (row bytes v : List ℕ) → Spells row bytes (length row) → length row ≡ n → dot row v ≡ row_sum n bytes (λ i. get_or v i 0)
 dot_spelled n row bytes v spelled e =
-    dot_sum n row v (omega arith)
-    ∙ field_sum_same n (product_at row v) (λ i. mul (word i bytes) (get_or v i 0))
+    dot_sum n row v (omega arith) ∙ field_sum_same n (product_at row v) (λ i. mul (word i bytes) (get_or v i 0))
     (λ i h. ap (λ x. mul x (get_or v i 0)) (sym (spelled.each i (omega arith) (omega arith))))
 
 pub elements_of : (n : ℕ) (v : List ℕ) → IsVector n v → AreElements (λ i. get_or v i 0)

@@ -14,8 +14,7 @@ undigested_in_parts text id e size b c d out is_b is_c is_d is =
     let zeros : List ℕ = replicate size 0 in
     let claim = to_le_bytes w64 (68 + size) in
     let after = λ (xs : List ℕ). ((xs ++ (replicate 16 0 ++ (id ++ (type_of Recovery ++ [])))) ++ to_le_bytes w32 e) ++ zeros in
-    is ∙ ap (λ (xs : List ℕ). xs ++ zeros) (is_d ∙ ap (λ (xs : List ℕ). xs ++ to_le_bytes w32 e) is_c)
-    ∙ ap after is_b
+    is ∙ ap (λ (xs : List ℕ). xs ++ zeros) (is_d ∙ ap (λ (xs : List ℕ). xs ++ to_le_bytes w32 e) is_c) ∙ ap after is_b
     ∙ regrouped text magic claim (replicate 16 0) id (type_of Recovery) (to_le_bytes w32 e) zeros
     ∙ ap (λ (n : ℕ). text ++ (magic ++ to_le_bytes w64 (68 + n) ++ replicate 16 0 ++ (id ++ type_of Recovery ++ (to_le_bytes w32 e ++ zeros)))) (sym (length-replicate {A = ℕ} size 0))
 

@@ -147,10 +147,8 @@ are_written places words exponents slices old new bytes fits within zeros added 
         ] in
         recovered_by_words s (get_or exponents t 0) slices (output_at s place new) (omega arith) bytes size byte
         (λ w here.
-        front s w (drop place.at text) here
-        ∙ ap (λ (x : Place). word w (drop x.at (list_at new x.text))) (sym is)
-        ∙ added.each t w low (omega (arith, here))
-        ∙ ap (λ x. bit_xor x (recovered slices (get_or exponents t 0) w))
+        front s w (drop place.at text) here ∙ ap (λ (x : Place). word w (drop x.at (list_at new x.text))) (sym is)
+        ∙ added.each t w low (omega (arith, here)) ∙ ap (λ x. bit_xor x (recovered slices (get_or exponents t 0) w))
         (ap (λ (x : Place). word w (drop x.at (list_at old x.text))) is ∙ sym (front s w (drop place.at (list_at old place.text)) here)
         ∙ ap (λ (x : Place). word w (output_at s x old)) (sym is) ∙ ap (word w) (zeros t low) ∙ blank_word s w)
         ∙ xor_zero_l (recovered slices (get_or exponents t 0) w))

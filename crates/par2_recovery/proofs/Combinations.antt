@@ -122,8 +122,7 @@ pub slices_push : (s j : ℕ) (bytes : List ℕ) (xs : List (Bor (List ℕ))) (v
     → v.now ≡ take s (drop (j * s) bytes) → map (padded s) (texts_of (xs ++ v ∷ [])) ≡ before ++ map (slice_at s bytes) (range_with_len 0 (j + 1))
 slices_push s j bytes xs v before so_far is =
     ap (map (padded s)) (map-append (λ (x : Bor (List ℕ)). x.now) xs (v ∷ []))
-    ∙ map-append (padded s) (texts_of xs) (v.now ∷ [])
-    ∙ ap₂ (λ a b. a ++ padded s b ∷ []) so_far is
+    ∙ map-append (padded s) (texts_of xs) (v.now ∷ []) ∙ ap₂ (λ a b. a ++ padded s b ∷ []) so_far is
     ∙ append_assoc before (map (slice_at s bytes) (range_with_len 0 j)) (slice_at s bytes j ∷ [])
     ∙ ap (λ xs. before ++ xs) (sym (map-range_with_len_more (slice_at s bytes) 0 j j (zero-add j)))
 

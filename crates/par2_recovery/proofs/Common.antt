@@ -1,11 +1,11 @@
 -- The names that proofs of this crate take from elsewhere.
 
-pub use Rattle.std.proofs.Common.{Bool, Global, IsTrue, List, T, Vec, [], ap, append-nil, append_assoc, ap₂, arith, bit_xor, cond, drop, eqb, eqb→eq, false, get_or, inl, inr, length, length-append, ltb, map, min, not, refl, replicate, rules, set, string_bytes, subst, suc, sym, take, tests, true, zero, zero-add, ℕ, ◌%◌, ◌&&◌, ◌*◌, ◌++◌, ◌+◌, ◌-◌, ◌/◌, ◌<◌, ◌^◌, ◌||◌, ◌↔◌, ◌∙◌, ◌∷◌, ◌≡◌, ◌≢◌, ◌≤◌}
+pub use Rattle.std.proofs.Common.{Bool, Global, IsTrue, List, T, Vec, [], ap, append-nil, append_assoc, ap₂, arith, bit_xor, cond, drop, eqb, eqb→eq, false, get_or, inl, inr, length, length-append, ltb, map, min, not, refl, replicate, rules, set, string_bytes, subst, suc, sym, take, true, zero, zero-add, ℕ, ◌%◌, ◌&&◌, ◌*◌, ◌++◌, ◌+◌, ◌-◌, ◌/◌, ◌<◌, ◌^◌, ◌||◌, ◌↔◌, ◌∙◌, ◌∷◌, ◌≡◌, ◌≢◌, ◌≤◌}
 pub use Rattle.std.proofs.Math.Facts.{Fits-lt-pow, and_yes, yes_and}
 pub use Rattle.std.proofs.lemmas.Bool.{cases_eq, cases_lt, eq-eqb, eqb-false, eqb-true, false_from_ne_true, false≢true, le-ltb, lt-ltb, ltb-true, ne_eqb}
-pub use Rattle.std.proofs.lemmas.Iterator.{YieldsList-from_map, YieldsList-from_map_by, YieldsList-from_range, YieldsList-from_slice, YieldsList-from_zip, items_from_collect}
-pub use Rattle.std.proofs.lemmas.Iterator.Consumers.{YieldsList-at, YieldsList-from_chain, YieldsList-from_filter, map_from_collect}
-pub use Rattle.std.proofs.lemmas.List.{drop_more, ext_get_or, get_or-append_right, get_or-drop, get_or-map, get_or-replicate, get_or-set_other, get_or-set_same, get_or-take, get_or_append_left, get_or_at, get_or_default, get_or_past, get_or_push, length-drop, length-map, length-replicate, length-set, length-take, length-take-le, length_push, map-append, map_more, map_push, take-map, take_all, take_more, with_items_is}
+pub use Rattle.std.proofs.lemmas.Iterator.{YieldsList-from_map, YieldsList-from_map_by, YieldsList-from_range, YieldsList-from_slice, items_from_collect}
+pub use Rattle.std.proofs.lemmas.Iterator.Consumers.{map_from_collect}
+pub use Rattle.std.proofs.lemmas.List.{drop_all, drop_more, ext_get_or, get_or-append_right, get_or-drop, get_or-map, get_or-replicate, get_or-set_other, get_or-set_same, get_or-take, get_or_append_left, get_or_at, get_or_default, get_or_past, get_or_push, length-drop, length-map, length-replicate, length-set, length-take, length-take-le, length_push, map-append, map_more, map_push, take-map, take_all, take_more, with_items_is}
 pub use Rattle.std.proofs.lemmas.List.Elements.{Contains-get_or, filter_more}
 pub use Rattle.std.proofs.lemmas.List.FromFn.{get_or-map-range_with_len, get_or-range_with_len, length-map-range_with_len, length-range_with_len, map-range_with_len_more}
 pub use Rattle.std.proofs.lemmas.List.Kept.{AllPairs-from_increasing}
@@ -14,7 +14,7 @@ pub use Rattle.std.proofs.lemmas.Result.{IfOk-weaker}
 pub use Rattle.std.proofs.lemmas.Simd.{map-map}
 pub use Rattle.std.specs.Borrow.{Bor}
 pub use Rattle.std.specs.Int.Bits.{xor_assoc, xor_zero_l, xor_zero_r}
-pub use Rattle.std.specs.List.{AllByRecursion, AllZip, Contains, enumerate_from, list_all, list_any, range_with_len, slice_get, zip}
+pub use Rattle.std.specs.List.{AllByRecursion, AllZip, Contains, enumerate_from, list_all, list_any, range_with_len, slice_get}
 pub use Rattle.std.specs.List.Sorted.{IsStrictlyIncreasing}
 pub use Rattle.std.specs.Prelude.{IfErr, IfSome, IsPermutation, None, Ok, Option, Result, Some, filter, is_none, slice_index, unwrap_or}
 pub use Rattle.std.specs.Vec.{with_items}
@@ -29,8 +29,8 @@ pub use Rattle.par2_recovery.specs.Products.{Adds, AddsSource, AreBytes, product
 pub use Rattle.par2_recovery.specs.Rebuilding.{AreRebuilt, CanRebuild, known_among}
 pub use Rattle.par2_recovery.specs.RunInverses.{AreScaledQuotients, BeginsWithRun, IsScaledQuotient}
 pub use Rattle.par2_recovery.specs.Survivors.{IsTrueFault, bytes_or_none, exponents_of, known_alone, known_of, lost_from, recovered_of, with_lost_slices}
-pub use Rattle.par2_recovery.specs.Syndromes.{AreExtended, AreProducts, AreSolved, all_coefficients, syndrome, window}
-pub use Rattle.par2_recovery.specs.Views.{AreBlank, AreRecords, names_of, texts_of}
+pub use Rattle.par2_recovery.specs.Syndromes.{AreExtended, AreProducts, AreRun, AreSolved, all_coefficients, syndrome, window}
+pub use Rattle.par2_recovery.specs.Views.{AreBlank, names_of, texts_of}
 pub use Rattle.par2_spec.proofs.FieldConstants.{constant-injective, constant-lt, constant-nonzero}
 pub use Rattle.par2_spec.proofs.FieldOrder.{no_zero_divisor, power-lt, product-zero, zero-product}
 pub use Rattle.par2_spec.proofs.FieldProducts.{product-lt, product-one, product_assoc, product_comm, product_linear_left, product_linear_right}
@@ -56,7 +56,7 @@ pub use Rattle.par2_spec.specs.Search.{lost}
 pub use Rattle.par2_spec.specs.Slices.{padded, slice_at, word}
 pub use Rattle.par2_spec.specs.Sums.{AreElements, OneChanged, list_at, lists_of}
 unfoldable pub use Rattle.par2_spec.specs.Sums.{field_sum}
-pub use Rattle.par2_spec.specs.Volumes.{all_slices, id_of, in_id_order}
+pub use Rattle.par2_spec.specs.Volumes.{all_slices, in_id_order}
 unfoldable pub use Rattle.par2_spec.specs.Volumes.{record_of}
 pub use Rattle.par2_transform.proofs.AddingLaws.{adds_more, adds_none, adds_same, still_within, within-above, within-in, within_joined, within_same, zeros_read}
 pub use Rattle.par2_transform.proofs.GroupLaws.{adds_to_group, group_within, length-group}

@@ -5,7 +5,7 @@ pub use Rattle.std.proofs.lemmas.Bool.{and_from, cases_lt, eqb-true, false_from_
 pub use Rattle.std.proofs.lemmas.Fn.{filter_same}
 pub use Rattle.std.proofs.lemmas.Iterator.{YieldsList, YieldsList-from_map, YieldsList-from_map_by, YieldsList-from_slice, items_from_drains}
 pub use Rattle.std.proofs.lemmas.Iterator.Consumers.{YieldsList-at, YieldsList-from_filter_map}
-pub use Rattle.std.proofs.lemmas.List.{length-map, map_more, take_more}
+pub use Rattle.std.proofs.lemmas.List.{append_assoc, flat_map_more, length-map, map_more, take_all, take_more}
 pub use Rattle.std.proofs.lemmas.Map.Made.{IsDistinct-from_count, distinct_count-from_IsDistinct, lookup-map_values}
 pub use Rattle.std.proofs.lemmas.Map.Text.{is_eq-slice_cmp}
 pub use Rattle.std.proofs.lemmas.Result.{IfOk-weaker, err_from_is_err_and}
@@ -30,7 +30,7 @@ pub use Rattle.par2_sets.specs.Steps.{Gives, descriptions_of, packets_in, set_in
 pub use Rattle.par2_spec.proofs.ListsLaws.{filter_map-map}
 pub use Rattle.par2_spec.proofs.NameTests.{name_is_short, no_name}
 pub use Rattle.par2_spec.proofs.NamesLaws.{among-append, distinct_from_std, distinct_same, same_either_way, std_from_distinct}
-pub use Rattle.par2_spec.proofs.ReadLaws.{distinct_by_length, was_some}
+pub use Rattle.par2_spec.proofs.ReadLaws.{distinct_by_length, size_parts, was_some}
 pub use Rattle.par2_spec.proofs.TestLaws.{err_again, where_none}
 pub use Rattle.par2_spec.specs.Folders.{File, Folder, IsFolder, bytes_of, files, names}
 pub use Rattle.par2_spec.specs.Names.{distinct, is_among, is_name, is_par_name, numbered}

@@ -10,11 +10,11 @@ pub use Rattle.std.proofs.lemmas.Cmp.{nat_eq_equiv, nat_list_eq_equiv}
 pub use Rattle.std.proofs.lemmas.Grind.{common_steps, div_ceil_times, flat_map-append, reverse_onto}
 pub use Rattle.std.proofs.lemmas.Iterator.Adapters.{position_from-zero}
 pub use Rattle.std.proofs.lemmas.List.{drop-drop, drop_all, drop_at, ext_get_or, get_or-map, get_or-reverse, get_or-set_other, get_or-set_same, get_or-take, get_or_default, get_or_past, length-map, length-replicate, length-reverse, length-take, length-take-le, length_push, map-append, map-id, map-set, nil_from_length, replicate_more, reverse-append, reverse-reverse, take-append-drop, take-append-le, take-map, take-take, take_all, take_at, take_more}
-pub use Rattle.std.proofs.lemmas.List.Elements.{All-contains, All-contains_itself, All-from_recursion, Contains-append_right, Contains-get_or, recursion_from_All}
+pub use Rattle.std.proofs.lemmas.List.Elements.{All-contains, All-contains_itself, All-filter, All-from_get_or, All-from_recursion, All-get_or, Contains-append_right, Contains-get_or, filter_passes, recursion_from_All}
 pub use Rattle.std.proofs.lemmas.List.Folds.{flat_map-map, list_all-append, list_all-map, list_any-append, prefix_len-append, prefix_len-replicate}
 pub use Rattle.std.proofs.lemmas.List.FromFn.{get_or-range_with_len, length-map-range_with_len, length-range_with_len}
 pub use Rattle.std.proofs.lemmas.List.Kept.{AllPairs-from_increasing, IsStrictlyIncreasing-filter}
-pub use Rattle.std.proofs.lemmas.List.Sums.{sum_by-cons}
+pub use Rattle.std.proofs.lemmas.List.Sums.{length-filter, sum_by-cons}
 pub use Rattle.std.proofs.lemmas.Map.Keys.{IsDistinct-IsPermutation, IsStrictlyIncreasing-from_sorted}
 pub use Rattle.std.proofs.lemmas.Map.Made.{IsDistinct-from_AllPairs, length-le_from_is_member}
 pub use Rattle.std.proofs.lemmas.Map.Text.{is_eq-slice_cmp}
@@ -32,7 +32,7 @@ pub use Rattle.std.specs.FinMap.Entries.{below_all, by_order, is_sorted, put}
 pub use Rattle.std.specs.Int.{bit_at, div_ceil, from_le_bytes, to_le_bytes, w128, w16, w32, w64}
 pub use Rattle.std.specs.Int.Bits.{xor_assoc, xor_self, xor_shifted, xor_zero_l, xor_zero_r}
 pub use Rattle.std.specs.Int.RustNames.{bit_xor}
-pub use Rattle.std.specs.List.{AllAdjacentBelow, AllByRecursion, AllZip, Contains, concat, cons_option, enumerate_from, list_all, list_any, position_from, position_or_len, prefix_len, range_with_len, starts_with, suffix_len}
+pub use Rattle.std.specs.List.{AllAdjacentBelow, AllByRecursion, AllZip, Contains, concat, cons_option, count_by, enumerate_from, list_all, list_any, position_from, position_or_len, prefix_len, range_with_len, starts_with, suffix_len}
 unfoldable pub use Rattle.std.specs.List.{IsDistinct}
 pub use Rattle.std.specs.List.Sorted.{IsNonDecreasingBy, IsStrictlyIncreasing}
 unfoldable pub use Rattle.std.specs.List.Sorted.{IsStrictlySortedBy}
@@ -50,7 +50,7 @@ pub use Rattle.par2_spec.specs.Checksums.{IsPair, Pair, crc_byte, crc_step, crc_
 unfoldable pub use Rattle.par2_spec.specs.Checksums.{crc32}
 pub use Rattle.par2_spec.specs.Commands.{Action, Command, Create, CreateArgs, Do, Purge, Redo, Repair, Undo, Verify, files_of, outputs_of}
 pub use Rattle.par2_spec.specs.Faults.{fault_at, fault_of, fault_where, first_fault, then_fault}
-pub use Rattle.par2_spec.specs.Field.{modulus}
+pub use Rattle.par2_spec.specs.Field.{is_spared, modulus}
 unfoldable pub use Rattle.par2_spec.specs.Field.{coefficient, constant, constant_powers, mul, pow, product, remainder}
 pub use Rattle.par2_spec.specs.Folders.{File, Folder, IsFolder, bytes_of, files, fingerprint, has, names, without}
 unfoldable pub use Rattle.par2_spec.specs.Folders.{laid_over}

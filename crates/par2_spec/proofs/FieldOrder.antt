@@ -95,8 +95,7 @@ walk_power zero x h = sym (product-one x h) ∙ product_comm x 1 h (omega arith)
 walk_power (suc n) x h =
     let p : pow 2 n < 65536 = power-lt 2 n (omega arith) in
     let d : mul 2 x < 65536 = product-lt 2 x (omega arith) h in
-    ap (walk n) (double_product x h) ∙ walk_power n (mul 2 x) d
-    ∙ sym (product_assoc (pow 2 n) 2 x p (omega arith) h)
+    ap (walk n) (double_product x h) ∙ walk_power n (mul 2 x) d ∙ sym (product_assoc (pow 2 n) 2 x p (omega arith) h)
     ∙ ap (λ v. mul v x) (product_comm (pow 2 n) 2 p (omega arith))
 
 walk_one : (n : ℕ) → walk n 1 ≡ pow 2 n

@@ -1,5 +1,5 @@
 -- Answers that are passed on.
-use Rattle.par2_spec.proofs.Common.{◌≡◌, ◌⊎◌, ◌∙◌, inr, sym, ap, subst, none-some, same_Some, Option, IfOk, IfErr, IsErrOf, OnOk, OnErr, Fault, Memory, None, Some}
+use Rattle.par2_spec.proofs.Common.{◌≡◌, ◌⊎◌, ◌∙◌, inr, sym, ap, subst, none-some, same_Some, Option, IfOk, IfErr, IsErrOf, OnOk, OnErr, None, Some, Fault, Memory}
 use Rattle.std.proofs.Common.{Result, Ok, Err}
 use Rattle.par2_spec.proofs.TestLaws.{err_again}
 use Rattle.std.proofs.Math.Logic.{⊎_map}

@@ -1,5 +1,5 @@
 -- What is added to texts.
-use Rattle.par2_transform.proofs.Common.{inl, inr, ℕ, suc, ◌+◌, ◌-◌, ◌*◌, ◌<◌, ◌≤◌, ◌≡◌, ◌≢◌, refl, sym, ap, ap₂, ◌∙◌, arith, Bool, true, false, List, ◌++◌, length, get_or, take, drop, bit_xor, zero, replicate, if◌then◌else◌, ◌&&◌, nat_le, nat_lt, slice_index, cases_lt, cases_eq, lt-ltb, le-ltb, le-leb, get_or-append_right, get_or_append_left, get_or-take, get_or-drop, length-take-le, length-drop, lt_of_le-ne, xor_assoc, xor_zero_r, xor_zero_l, word, list_at, OneChanged, within, place_at, output_word, AddsAt, AddsTo, AddsToPart, AreApart, HasByte, LieWithin, Place, field_sum}
+use Rattle.par2_transform.proofs.Common.{inl, inr, ℕ, suc, ◌+◌, ◌-◌, ◌*◌, ◌<◌, ◌≤◌, ◌≡◌, ◌≢◌, refl, sym, ap, ap₂, ◌∙◌, arith, Bool, true, false, List, ◌++◌, length, get_or, take, drop, bit_xor, zero, replicate, if◌then◌else◌, ◌&&◌, nat_le, nat_lt, slice_index, cases_lt, cases_eq, lt-ltb, le-ltb, le-leb, get_or-append_right, get_or_append_left, get_or-take, get_or-drop, length-take-le, length-drop, lt_of_le-ne, xor_assoc, xor_zero_r, xor_zero_l, word, list_at, OneChanged, field_sum, within, place_at, output_word, AddsAt, AddsTo, AddsToPart, AreApart, HasByte, LieWithin, Place}
 use Rattle.std.proofs.lemmas.Bool.Decides.{leb_tells}
 use borrow.Rule.Slice.PartMut.{put_mid, same_len_mid, mid_len}
 

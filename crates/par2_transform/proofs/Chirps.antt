@@ -1,5 +1,5 @@
 -- Chirps, and sums of products with them.
-use Rattle.par2_transform.proofs.Common.{ℕ, zero, suc, ◌+◌, ◌*◌, ◌^◌, ◌<◌, ◌≤◌, ◌≡◌, refl, sym, ap, ◌∙◌, arith, mul_comm, mul_assoc, mul-add, add_comm, mul-zero, add-zero, mul, field_sum, AreElements, power-lt, power-add, no_zero_divisor, product-lt, product_comm, product-one, product_assoc, product_linear_left, power_inverse, field_sum_same, field_sum_scaled, point, value, AreWeights, pow, triangle, chirp, chirp_inverse}
+use Rattle.par2_transform.proofs.Common.{ℕ, zero, suc, ◌+◌, ◌*◌, ◌^◌, ◌<◌, ◌≤◌, ◌≡◌, refl, sym, ap, ◌∙◌, arith, mul_comm, mul_assoc, mul-add, add_comm, mul-zero, add-zero, mul, pow, field_sum, AreElements, power-lt, power-add, no_zero_divisor, product-lt, product_comm, product-one, product_assoc, product_linear_left, power_inverse, field_sum_same, field_sum_scaled, point, value, AreWeights, triangle, chirp, chirp_inverse}
 use Rattle.par2_transform.proofs.Subspaces.{point-lt}
 use Rattle.par2_transform.proofs.Sums.{field_sum_swap, field_sum_linear}
 

@@ -1,5 +1,5 @@
 -- From blocks of outputs to what a class gives, and from classes to recovery slices.
-use Rattle.par2_transform.proofs.Common.{inl, inr, ℕ, suc, ◌+◌, ◌-◌, ◌*◌, ◌/◌, ◌%◌, ◌^◌, ◌<◌, ◌≤◌, ◌≡◌, ◌≢◌, refl, sym, ap, ◌∙◌, arith, List, length, [], cases_lt, div-mul-le_self, mul-le-mul_right, mod-lt, lt_of_le-ne, div-add-mod', if◌then◌else◌, not, ◌==◌, ◌&&◌, mul, pow, is_spared, product-zero, get_or_past, word, list_at, word-lt, field_sum_same, field_sum_one, field_sum_none, within, AddsAt, Outputs, IsBlock, IsGathered, Keeps, EachBlock, AreBlocks, block_at, block_part, from_gathered, class_sum_at, weight_at, chirp_inverse, spared_below, AreFirst, words_at, AreBytes, recovered, Grid, column, point, Cut, Reaches, gathered, Place, field_sum, word_at_power}
+use Rattle.par2_transform.proofs.Common.{inl, inr, ℕ, suc, ◌+◌, ◌-◌, ◌*◌, ◌/◌, ◌%◌, ◌^◌, ◌<◌, ◌≤◌, ◌≡◌, ◌≢◌, refl, sym, ap, ◌∙◌, arith, List, length, [], cases_lt, div-mul-le_self, mul-le-mul_right, mod-lt, lt_of_le-ne, div-add-mod', if◌then◌else◌, not, ◌==◌, ◌&&◌, mul, pow, is_spared, product-zero, get_or_past, word, list_at, field_sum, word-lt, field_sum_same, field_sum_one, field_sum_none, within, AddsAt, Outputs, IsBlock, IsGathered, Keeps, EachBlock, AreBlocks, block_at, block_part, from_gathered, class_sum_at, weight_at, chirp_inverse, spared_below, AreFirst, word_at_power, words_at, AreBytes, recovered, Grid, column, point, Cut, Reaches, gathered, Place}
 use Rattle.std.specs.Prelude.{false}
 use Rattle.par2_transform.proofs.AddingLaws.{adds_none, adds_next, adds_same, within-in, within-below, within-above, within_same}
 use Rattle.par2_transform.proofs.WindowLaws.{block_kept}

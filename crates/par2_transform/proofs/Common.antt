@@ -12,7 +12,7 @@ pub use Rattle.std.proofs.lemmas.Result.{IfOk-weaker}
 pub use Rattle.std.specs.Borrow.{Bor}
 pub use Rattle.std.specs.Int.{bit_at, div_ceil}
 pub use Rattle.std.specs.Int.Bits.{xor_assoc, xor_self, xor_shifted, xor_zero_l, xor_zero_r}
-pub use Rattle.std.specs.Prelude.{IfOk, filter, if◌then◌else◌, nat_le, nat_lt, not, slice_index, ◌&&◌, ◌==◌}
+pub use Rattle.std.specs.Prelude.{filter, if◌then◌else◌, nat_le, nat_lt, not, slice_index, ◌&&◌, ◌==◌}
 pub use Rattle.std.specs.Vec.{with_items}
 pub use Rattle.par2_spec.proofs.FieldBits.{IsLinear, bit_cases, bit_times_xor, bit_xor_times, bits_ind, linear-zero, tested, tested_at, xor_middle}
 pub use Rattle.par2_spec.proofs.FieldOrder.{no_zero_divisor, power-65535, power-add, power-lt, product-zero, zero-product}

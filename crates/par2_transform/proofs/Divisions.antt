@@ -1,5 +1,5 @@
 -- The division of a run of coefficients by the vanishing polynomial less a constant.
-use Rattle.par2_transform.proofs.Common.{ℕ, suc, ◌+◌, ◌-◌, ◌*◌, ◌^◌, ◌<◌, ◌≤◌, ◌≡◌, sym, ap, ap₂, ◌∙◌, subst, arith, bit_xor, refl, add_assoc, bit_at, xor_zero_l, xor_zero_r, xor_assoc, xor_self, xor_comm, mul, pow, AreElements, bit_times_xor, power-lt, power-add, product-lt, product_comm, product_assoc, product_linear_left, field_sum_same, field_sum_xor, field_sum_scaled, xor_off, vanishing, powers_in, value, from, IsSplit, OnElements, OneRun, RunAddedBy, RunAdded, spread_beyond, spread_within, IsSpreadAbove, IsSpreadBelow, IsDivided, field_sum}
+use Rattle.par2_transform.proofs.Common.{ℕ, suc, ◌+◌, ◌-◌, ◌*◌, ◌^◌, ◌<◌, ◌≤◌, ◌≡◌, sym, ap, ap₂, ◌∙◌, subst, arith, bit_xor, refl, add_assoc, bit_at, xor_zero_l, xor_zero_r, xor_assoc, xor_self, xor_comm, mul, pow, AreElements, field_sum, bit_times_xor, power-lt, power-add, product-lt, product_comm, product_assoc, product_linear_left, field_sum_same, field_sum_xor, field_sum_scaled, xor_off, vanishing, powers_in, value, from, IsSplit, OnElements, OneRun, RunAddedBy, RunAdded, spread_beyond, spread_within, IsSpreadAbove, IsSpreadBelow, IsDivided}
 use Rattle.par2_transform.proofs.Subspaces.{leading_power, lower_powers}
 use Rattle.par2_transform.proofs.Sums.{field_sum_join, field_sum_linear, field_sum_bit_set, field_sum_bit_unset, bit_product}
 use Rattle.par2_transform.proofs.StepLaws.{power_below, double_power, same_outside, outside_then, run_fit, run_by_fit, IsOfFirst}

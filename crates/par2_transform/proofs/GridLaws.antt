@@ -1,5 +1,5 @@
 -- Rows and their columns.
-use Rattle.par2_transform.proofs.Common.{ℕ, suc, ◌+◌, ◌-◌, ◌*◌, ◌^◌, ◌<◌, ◌≤◌, ◌≡◌, ◌⊎◌, inl, inr, refl, sym, ap, ap₂, ◌∙◌, subst, List, length, get_or, bit_xor, arith, add-mul, one-mul, xor_zero_r, cases_eq, cases_lt, get_or_past, word, within, AddsTo, Grid, column, AreRows, IsAdded, EachColumn, RunAddedBy, Vec, Global, with_items, with_items_is}
+use Rattle.par2_transform.proofs.Common.{ℕ, suc, ◌+◌, ◌-◌, ◌*◌, ◌^◌, ◌<◌, ◌≤◌, ◌≡◌, ◌⊎◌, inl, inr, refl, sym, ap, ap₂, ◌∙◌, subst, List, length, get_or, bit_xor, arith, add-mul, one-mul, Vec, Global, xor_zero_r, cases_eq, cases_lt, get_or_past, with_items_is, word, within, AddsTo, Grid, column, AreRows, IsAdded, EachColumn, RunAddedBy, with_items}
 use Rattle.std.proofs.Common.{mul-le-mul_right}
 use Rattle.par2_transform.proofs.AddingLaws.{within-in, within-below, within-above, within_same}
 

@@ -1,5 +1,5 @@
 -- From level to level of a transform.
-use Rattle.par2_transform.proofs.Common.{ℕ, suc, ◌+◌, ◌-◌, ◌*◌, ◌/◌, ◌%◌, ◌^◌, ◌<◌, ◌≤◌, ◌≡◌, refl, sym, ap, subst, ◌∙◌, arith, bit_xor, pow_pos, pow-suc, inl, inr, add_assoc, zero-add, zero-mul, add-mul, one-mul, ◌⊎◌, cases_lt, pow-add, xor_comm, xor_lt, pow-le-pow_right, xor_zero_l, xor_self, xor_zero_r, xor_assoc, mul, AreElements, zero-product, power-lt, product-one, product_comm, product-lt, field_sum_same, field_sum-lt, xor_off, point, vanishing, member, value, from, HoldPowerSums, HoldPolynomials, IsMergedLevel, IsSplitLevel, ComeFrom, AreWeights, pow, field_sum, power_sum}
+use Rattle.par2_transform.proofs.Common.{ℕ, suc, ◌+◌, ◌-◌, ◌*◌, ◌/◌, ◌%◌, ◌^◌, ◌<◌, ◌≤◌, ◌≡◌, refl, sym, ap, subst, ◌∙◌, arith, bit_xor, pow_pos, pow-suc, inl, inr, add_assoc, zero-add, zero-mul, add-mul, one-mul, ◌⊎◌, cases_lt, pow-add, xor_comm, xor_lt, pow-le-pow_right, xor_zero_l, xor_self, xor_zero_r, xor_assoc, mul, pow, AreElements, field_sum, zero-product, power-lt, product-one, product_comm, product-lt, field_sum_same, field_sum-lt, xor_off, point, vanishing, member, power_sum, value, from, HoldPowerSums, HoldPolynomials, IsMergedLevel, IsSplitLevel, ComeFrom, AreWeights}
 use Rattle.std.proofs.Common.{mul-le-mul_right}
 use Rattle.par2_transform.proofs.Subspaces.{point-lt}
 use Rattle.par2_transform.proofs.PowerSums.{first_half, second_half, vanishing_on, point_odd, merged_power_sums}

@@ -1,5 +1,5 @@
 -- From power sums in rows to what a block gives to its outputs.
-use Rattle.par2_transform.proofs.Common.{inl, inr, ℕ, ◌+◌, ◌-◌, ◌*◌, ◌^◌, ◌<◌, ◌≤◌, ◌≡◌, sym, ap, ap₂, subst, ◌∙◌, arith, List, length, bit_xor, min, cases_lt, mul, pow, word, field_sum, field_sum_same, within, AddsAt, from_gathered, chirp_inverse, Grid, column, EachColumn, member, ArePowerSums, point, Cut, Place, power_sum}
+use Rattle.par2_transform.proofs.Common.{inl, inr, ℕ, ◌+◌, ◌-◌, ◌*◌, ◌^◌, ◌<◌, ◌≤◌, ◌≡◌, sym, ap, ap₂, subst, ◌∙◌, arith, List, length, bit_xor, min, cases_lt, mul, pow, word, field_sum, field_sum_same, within, AddsAt, from_gathered, chirp_inverse, Grid, column, EachColumn, member, ArePowerSums, power_sum, point, Cut, Place}
 use Rattle.par2_transform.proofs.AddingLaws.{adds_none, adds_more, adds_same, within-in, within-below, within-above, within_joined, within_same}
 
 -- the first coset's power sums are sums over the points

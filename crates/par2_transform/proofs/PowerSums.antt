@@ -1,5 +1,5 @@
 -- Power sums of two cosets give those of both.
-use Rattle.par2_transform.proofs.Common.{ℕ, zero, suc, ◌+◌, ◌-◌, ◌*◌, ◌^◌, ◌<◌, ◌≤◌, ◌≡◌, refl, sym, ap, ap₂, ◌∙◌, arith, bit_xor, pow_pos, pow-suc, inl, inr, mul_comm, mul_assoc, add_assoc, add-mul, one-mul, cases_lt, pow-lt, xor_comm, div-mul-add, bit_at, xor_assoc, xor_shifted, mul, pow, AreElements, xor_middle, bit_times_xor, power-lt, power-add, product-lt, product_comm, product-one, product_assoc, product_linear_left, product_linear_right, field_sum_same, field_sum_xor, field_sum_scaled, field_sum-lt, vanishing, powers_in, member, sum_ahead, IsMerged, field_sum, basis, point, power_sum}
+use Rattle.par2_transform.proofs.Common.{ℕ, zero, suc, ◌+◌, ◌-◌, ◌*◌, ◌^◌, ◌<◌, ◌≤◌, ◌≡◌, refl, sym, ap, ap₂, ◌∙◌, arith, bit_xor, pow_pos, pow-suc, inl, inr, mul_comm, mul_assoc, add_assoc, add-mul, one-mul, cases_lt, pow-lt, xor_comm, div-mul-add, bit_at, xor_assoc, xor_shifted, mul, pow, AreElements, field_sum, xor_middle, bit_times_xor, power-lt, power-add, product-lt, product_comm, product-one, product_assoc, product_linear_left, product_linear_right, field_sum_same, field_sum_xor, field_sum_scaled, field_sum-lt, vanishing, powers_in, basis, point, member, sum_ahead, IsMerged, power_sum}
 use Rattle.par2_transform.proofs.Subspaces.{point-lt, point_linear, vanishing-lt, vanishing_point, lower_powers, leading_power}
 use Rattle.par2_transform.proofs.Sums.{field_sum_join, field_sum_swap, field_sum_linear, field_sum_bit, product_bit, bit_product}
 

@@ -1,5 +1,5 @@
 -- Sums over slices as sums over the exponents of their constants.
-use Rattle.par2_transform.proofs.Common.{ℕ, zero, suc, ◌+◌, ◌-◌, ◌*◌, ◌<◌, ◌≤◌, ◌≡◌, refl, sym, ap, ap₂, subst, ◌∙◌, arith, bit_xor, Bool, true, false, cond, List, ◌∷◌, length, get_or, inl, inr, mul-zero, mul-add, add-mul, zero-mul, one-mul, add-zero, cases_lt, cases_eq, cases_Bool, xor_zero_r, filter, mul, is_spared, AreElements, product-zero, field_sum_xor, field_sum_none, AreFirst, constant_powers, field_sum, spared_below, word_at_power}
+use Rattle.par2_transform.proofs.Common.{ℕ, zero, suc, ◌+◌, ◌-◌, ◌*◌, ◌<◌, ◌≤◌, ◌≡◌, refl, sym, ap, ap₂, subst, ◌∙◌, arith, bit_xor, Bool, true, false, cond, List, ◌∷◌, length, get_or, inl, inr, mul-zero, mul-add, add-mul, zero-mul, one-mul, add-zero, cases_lt, cases_eq, cases_Bool, xor_zero_r, filter, mul, is_spared, constant_powers, AreElements, field_sum, product-zero, field_sum_xor, field_sum_none, AreFirst, spared_below, word_at_power}
 use Rattle.std.specs.List.{range_with_len}
 use Rattle.par2_spec.proofs.FieldConstants.{length-constant_powers}
 use Rattle.par2_transform.proofs.Sums.{field_sum_join}

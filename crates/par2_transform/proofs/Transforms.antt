@@ -1,5 +1,5 @@
 -- A sum over slices by classes, windows and the points of a subspace.
-use Rattle.par2_transform.proofs.Common.{ℕ, ◌+◌, ◌*◌, ◌^◌, ◌<◌, ◌≤◌, ◌≡◌, sym, ap, ◌∙◌, arith, get_or, mul, pow, constant_powers, field_sum, AreElements, product-lt, product_linear_left, power-mul, field_sum_same, point, chirp, chirp_inverse, word_at_power, AreFirst, class_sum_at, Cut, Reaches, coefficient_of, window_value, gathered, HasWeights, class_part, constant, coefficient}
+use Rattle.par2_transform.proofs.Common.{ℕ, ◌+◌, ◌*◌, ◌^◌, ◌<◌, ◌≤◌, ◌≡◌, sym, ap, ◌∙◌, arith, get_or, mul, pow, constant_powers, constant, coefficient, field_sum, AreElements, product-lt, product_linear_left, power-mul, field_sum_same, point, chirp, chirp_inverse, word_at_power, AreFirst, class_sum_at, Cut, Reaches, coefficient_of, window_value, gathered, HasWeights, class_part}
 use Rattle.par2_transform.proofs.Chirps.{chirp_inverse-lt, hankel_sum, class_sum}
 use Rattle.par2_transform.proofs.SparedSums.{word_at_power-lt, sum_over_powers, sum_by_class, sum_by_window}
 use Rattle.par2_transform.proofs.Sums.{field_sum_swap, field_sum_linear}

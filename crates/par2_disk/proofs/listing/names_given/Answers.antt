@@ -1,4 +1,4 @@
-use Rattle.par2_disk.proofs.Common.{FoldsTo-push}
+use Rattle.std.proofs.lemmas.Fn.{FoldsTo-push}
 use Rattle.par2_disk.proofs.listing.names_given.Goals as goal
 
 pub loop-item-preserved : goal.loop-item-preserved

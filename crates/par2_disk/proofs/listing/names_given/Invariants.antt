@@ -1,4 +1,5 @@
-use Rattle.par2_disk.proofs.Common.{[], FoldsTo}
+use Rattle.par2_disk.proofs.Common.{[]}
+use Rattle.std.specs.List.{FoldsTo}
 use Rattle.par2_disk.specs.Listings.{Adds}
 use Rattle.par2_disk.proofs.listing.names_given.Given as goal
 

@@ -1,5 +1,4 @@
-use Rattle.par2_folder.proofs.Common.{inl, inr, refl, arith, subst, sym, ◌∙◌, HasAbsorbed, folder_in}
-use Rattle.std.proofs.lemmas.Result.{IfOk-weaker}
+use Rattle.par2_folder.proofs.Common.{inl, inr, refl, arith, subst, sym, ◌∙◌, HasAbsorbed, folder_in, IfOk-weaker}
 use Rattle.par2_folder.proofs.Borders.{no_text}
 use Rattle.par2_folder.proofs.Surveys.{one_before}
 use Rattle.par2_folder.proofs.landmarks.mark_names.Goals as goal

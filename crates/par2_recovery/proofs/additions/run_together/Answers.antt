@@ -1,5 +1,4 @@
-use Rattle.par2_recovery.proofs.Common.{◌∙◌, ◌+◌, ◌-◌, ◌^◌, ◌≤◌, sym, ap, arith, length, get_or, zero-add}
-use Rattle.par2_recovery.specs.Syndromes.{AreRun}
+use Rattle.par2_recovery.proofs.Common.{◌∙◌, ◌+◌, ◌-◌, ◌^◌, ◌≤◌, sym, ap, arith, length, get_or, zero-add, AreRun}
 use Rattle.par2_recovery.proofs.Runs.{first_is}
 use Rattle.par2_recovery.proofs.additions.run_together.Goals as goal
 

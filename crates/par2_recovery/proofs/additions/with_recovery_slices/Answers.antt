@@ -1,4 +1,4 @@
-use Rattle.par2_recovery.proofs.Common.{ℕ, ◌≡◌, rules, get_or, length, with_items_is, lists_of, recovered, texts_of, ◌∙◌, sym}
+use Rattle.par2_recovery.proofs.Common.{ℕ, ◌≡◌, rules, get_or, length, ◌∙◌, sym, with_items_is, lists_of, recovered, texts_of}
 use Rattle.par2_transform.proofs.WholeTexts.{whole_within, whole_added}
 use Rattle.par2_recovery.proofs.Combinations.{length-texts_of}
 use Rattle.par2_recovery.proofs.additions.with_recovery_slices.Goals as goal

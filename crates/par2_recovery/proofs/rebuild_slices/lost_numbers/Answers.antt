@@ -1,5 +1,4 @@
-use Rattle.par2_recovery.proofs.Common.{◌∙◌, ◌++◌, List, ℕ, sym, ap, arith, append-nil, Bor, Option, lost_from}
-use Rattle.std.proofs.lemmas.List.{drop_all}
+use Rattle.par2_recovery.proofs.Common.{◌∙◌, ◌++◌, List, ℕ, sym, ap, arith, append-nil, Bor, Option, lost_from, drop_all}
 use Rattle.par2_recovery.proofs.rebuild_slices.lost_numbers.Goals as goal
 
 pub returns : goal.returns

@@ -1,4 +1,4 @@
-use Rattle.par2_recovery.proofs.Common.{arith, get_or, ◌≡◌, ◌∙◌, [], ap, sym, md5, bytes_of, get_or_default, map, take_all, record_of, files_of}
+use Rattle.par2_recovery.proofs.Common.{arith, get_or, ◌≡◌, ◌∙◌, [], ap, sym, map, md5, bytes_of, get_or_default, take_all, record_of, files_of}
 use Rattle.par2_recovery.proofs.Records.{digest_at_name, many_digests, record_push}
 use Rattle.par2_recovery.proofs.set_record.file_records.Goals.{After-as_str-name}
 use Rattle.par2_recovery.proofs.set_record.file_records.Goals as goal

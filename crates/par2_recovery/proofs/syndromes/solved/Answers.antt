@@ -1,4 +1,4 @@
-use Rattle.par2_recovery.proofs.Common.{◌≡◌, refl, sym, arith, rules, length, with_items_is, lists_of, length-lists_of, texts_of, ◌∙◌}
+use Rattle.par2_recovery.proofs.Common.{◌≡◌, refl, sym, arith, rules, length, ◌∙◌, with_items_is, lists_of, length-lists_of, texts_of}
 use Rattle.par2_recovery.proofs.Solving.{none_solved, more_solved}
 use Rattle.par2_recovery.proofs.syndromes.solved.Goals as goal
 

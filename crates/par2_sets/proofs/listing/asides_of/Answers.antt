@@ -1,5 +1,4 @@
-use Rattle.par2_sets.proofs.Common.{◌≡◌, ◌<◌, ◌∙◌, ◌++◌, ◌∷◌, [], IsTrue, length, rules, is_name, aside, map, sym, ap, arith, long_aside}
-use Rattle.std.proofs.lemmas.List.{take_all}
+use Rattle.par2_sets.proofs.Common.{◌≡◌, ◌<◌, ◌∙◌, ◌++◌, ◌∷◌, [], IsTrue, length, rules, map, sym, ap, arith, is_name, aside, long_aside, take_all}
 use Rattle.par2_sets.proofs.TakenNames.{one_more_aside, one_more_short}
 use Rattle.par2_sets.proofs.listing.asides_of.Goals as goal
 

@@ -1,5 +1,4 @@
-use Rattle.par2_sets.proofs.Common.{◌≡◌, ◌<◌, ◌∙◌, ◌+◌, ◌++◌, ◌∷◌, [], ℕ, List, sym, ap, ap₂, length, get_or, map, take, flat_map, map_more, bytes_eq, Folder, bytes_of, accepted, packets_with, packet_of, packets_in, arith}
-use Rattle.std.proofs.lemmas.List.{append_assoc, flat_map_more, take_all}
+use Rattle.par2_sets.proofs.Common.{◌≡◌, ◌<◌, ◌∙◌, ◌+◌, ◌++◌, ◌∷◌, [], ℕ, List, sym, ap, ap₂, length, get_or, map, take, flat_map, arith, map_more, bytes_eq, Folder, bytes_of, accepted, packets_with, packet_of, packets_in, append_assoc, flat_map_more, take_all}
 use Rattle.std.proofs.lemmas.List.Elements.{filter-append}
 use Rattle.par2_sets.proofs.packets.add_all.Goals as goal
 

@@ -1,5 +1,4 @@
-use Rattle.par2_sets.proofs.Common.{◌≡◌, ◌∙◌, inr, sym, ap, Some, map, ok_or, packet_of, description_of, NoDescription, all_some, arith}
-use Rattle.std.proofs.lemmas.List.{take_all}
+use Rattle.par2_sets.proofs.Common.{◌≡◌, ◌∙◌, inr, sym, ap, Some, map, arith, ok_or, packet_of, description_of, all_some, NoDescription, take_all}
 use Rattle.par2_sets.proofs.Lists.{item_at, all_some_more, all_some_none}
 use Rattle.par2_sets.proofs.parts.descriptions.Goals as goal
 

@@ -1,5 +1,4 @@
-use Rattle.par2_sets.proofs.Common.{◌∙◌, ◌++◌, ◌∷◌, [], sym, ap}
-use Rattle.std.proofs.lemmas.List.{append_assoc}
+use Rattle.par2_sets.proofs.Common.{◌∙◌, ◌++◌, ◌∷◌, [], sym, ap, append_assoc}
 use Rattle.std.proofs.lemmas.Map.Iter.{rest_more}
 use Rattle.std.specs.Map.Iter.{deref_pair}
 use Rattle.par2_sets.proofs.parts.in_order.Goals as goal

@@ -1,5 +1,4 @@
-use Rattle.par2_sets.proofs.Common.{◌≡◌, ◌∙◌, ◌++◌, ◌∷◌, [], sym, ap₂, rules, take_more, arith}
-use Rattle.std.proofs.lemmas.List.{take_all}
+use Rattle.par2_sets.proofs.Common.{◌≡◌, ◌∙◌, ◌++◌, ◌∷◌, [], sym, ap₂, rules, arith, take_more, take_all}
 use Rattle.par2_sets.proofs.Lists.{item_at}
 use Rattle.par2_sets.proofs.parts.pairs_in.Goals as goal
 

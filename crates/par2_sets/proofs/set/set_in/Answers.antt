@@ -1,5 +1,4 @@
-use Rattle.par2_sets.proofs.Common.{ℕ, ◌≡◌, ◌≤◌, ◌∙◌, true, sym, map, arith, rules, is_slice_size, Ok, Some, main_of, packet_of, set_view, set_in}
-use Rattle.par2_spec.proofs.ReadLaws.{size_parts}
+use Rattle.par2_sets.proofs.Common.{ℕ, ◌≡◌, ◌≤◌, ◌∙◌, true, sym, map, arith, rules, Ok, Some, is_slice_size, main_of, packet_of, set_view, set_in, size_parts}
 use Rattle.par2_sets.proofs.Reading.{all_read}
 use Rattle.par2_sets.proofs.set.set_in.Goals.{In_ok-recovery}
 use Rattle.par2_sets.proofs.set.set_in.Goals as goal

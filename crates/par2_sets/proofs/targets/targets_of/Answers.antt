@@ -1,5 +1,4 @@
-use Rattle.par2_sets.proofs.Common.{◌≡◌, ◌∙◌, ◌⊎◌, ◌++◌, ◌∷◌, [], map, inl, inr, sym, ap, rules, Some, Err, Memory, NoChecksums, target_of, packet_of, targets_or_fault, was_some, all_some, ok_or, arith}
-use Rattle.std.proofs.lemmas.List.{take_all}
+use Rattle.par2_sets.proofs.Common.{◌≡◌, ◌∙◌, ◌⊎◌, ◌++◌, ◌∷◌, [], map, inl, inr, sym, ap, rules, Some, Err, arith, Memory, NoChecksums, target_of, all_some, packet_of, targets_or_fault, was_some, ok_or, take_all}
 use Rattle.par2_sets.proofs.Lists.{all_some_more}
 use Rattle.par2_sets.proofs.Refusals.{passed_on, one_missing}
 use Rattle.par2_sets.proofs.targets.targets_of.Goals as goal

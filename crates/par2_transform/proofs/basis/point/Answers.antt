@@ -1,4 +1,4 @@
-use Rattle.par2_transform.proofs.Common.{◌≡◌, ◌*◌, sym, ap, ◌∙◌, arith, bit_xor, refl, slice_index, bit_at, basis, field_sum, point}
+use Rattle.par2_transform.proofs.Common.{◌≡◌, ◌*◌, sym, ap, ◌∙◌, arith, bit_xor, refl, slice_index, bit_at, basis, point, field_sum}
 use Rattle.par2_transform.proofs.Sums.{field_sum_bit_set, field_sum_bit_unset}
 use Rattle.par2_transform.proofs.basis.point.Goals.{then-u-i-eq1, else-u-i-eq1}
 use Rattle.par2_transform.proofs.basis.point.Goals as goal

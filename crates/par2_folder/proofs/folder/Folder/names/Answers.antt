@@ -1,5 +1,4 @@
-use Rattle.par2_folder.proofs.Common.{◌∙◌, ap, map, rules, sym, File, YieldsList-from_map, YieldsList-from_slice, items_from_collect}
-use Rattle.std.proofs.lemmas.Result.{IfOk-weaker}
+use Rattle.par2_folder.proofs.Common.{◌∙◌, ap, map, rules, sym, File, YieldsList-from_map, YieldsList-from_slice, items_from_collect, IfOk-weaker}
 use Rattle.par2_folder.proofs.SortedFiles.{files_of}
 use Rattle.par2_folder.proofs.folder.Folder.names.Goals as goal
 
