@@ -127,8 +127,10 @@ pub fn perform<S: FolderStore>(
     ensures unwritten { IfErr result (λ fault. IsSession fault
         → S.writing_calls store.new ≡ S.writing_calls store.old) }
 {
-    // What a stop leaves opens only where the session's entries can be walked: the call's contract says so.
+    // What a stop leaves opens only where the session's entries can be walked: the call's contract says so. Then what
+    // is ready can be applied, by this law.
     let _folder = session.folder();
+    ready_changes_apply();
     let action = match command {
         Command::Verify { base, extras } => {
             return match session.verify(base.as_str(), extras.as_slice()) {
@@ -142,12 +144,7 @@ pub fn perform<S: FolderStore>(
         Ok(prepared) => prepared,
         Err(fault) => return Err(PerformFault::Session(fault)),
     };
-    let journals = match session.journals(&mut prepared) {
-        Ok(journals) => journals,
-        Err(fault) => return Err(PerformFault::from(fault)),
-    };
-    // Then what is ready can be applied, by this law.
-    ready_changes_apply();
+    let journals = session.journals(&mut prepared)?;
     match write_down(store, &journals, session.changes(&prepared)) {
         Ok(()) => Ok(Outcome::Done(session.commit(prepared))),
         Err(_) => Err(PerformFault::Store),

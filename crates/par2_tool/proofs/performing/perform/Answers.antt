@@ -3,6 +3,7 @@ use Rattle.par2_spec.specs.Changes as defined
 use Rattle.par2_spec.specs.declared.commands.Command.{Command}
 use Rattle.par2_spec.proofs.AcceptedCommands.{command_leads}
 use Rattle.par2_tool.proofs.Calls.{asked_calls, ready_calls}
+use Rattle.par2_tool.proofs.Openings.{any_err}
 use Rattle.par2_tool.proofs.VerifyRuns.{as_it_was, not_verify, verify_leaves, verify_refused, written_by}
 use Rattle.par2_tool.proofs.Stops.{IsMadeReady, none_made, made_ready, ready_applies, written_holds, written_journal, stopped_opens, asked_in_order}
 use Rattle.par2_tool.proofs.performing.perform.Goals.{After-write_down}
@@ -34,8 +35,11 @@ returns-in-Err-clause-in_order g c honest = none_made (g.S.Store.contents c.args
 pub returns-in-Err-prepare-clause-in_order : goal.returns-in-Err-prepare-clause-in_order
 returns-in-Err-prepare-clause-in_order g c honest = none_made (g.S.Store.contents c.args.store.now).files (changes_asked (session_of_kept c.args.session.now) (command_of c.args.command.now))
 
-pub returns-in-Err-journals-clause-in_order : goal.returns-in-Err-journals-clause-in_order
-returns-in-Err-journals-clause-in_order g c honest = none_made (g.S.Store.contents c.args.store.now).files (changes_asked (session_of_kept c.args.session.now) (command_of c.args.command.now))
+pub returns-in_err-journals-clause-in_order : goal.returns-in_err-journals-clause-in_order
+returns-in_err-journals-clause-in_order g c honest =
+    let files = (g.S.Store.contents c.args.store.now).files in
+    let asked = changes_asked (session_of_kept c.args.session.now) (command_of c.args.command.now) in
+    any_err c.from_residual.result (AreSomeMade asked files files) (none_made files asked)
 
 -- ---- where the store is left alone
 
@@ -57,11 +61,11 @@ returns-in-Err-prepare-clause-cut g c honest lasts files apart left may = inl (l
 pub returns-in-Err-prepare-clause-possible : goal.returns-in-Err-prepare-clause-possible
 returns-in-Err-prepare-clause-possible g c honest files = refl {a = g.S.Store.impossible c.args.store.now}
 
-pub returns-in-Err-journals-clause-cut : goal.returns-in-Err-journals-clause-cut
-returns-in-Err-journals-clause-cut g c honest lasts files apart left may = inl (lasts left may)
+pub returns-in_err-journals-clause-cut : goal.returns-in_err-journals-clause-cut
+returns-in_err-journals-clause-cut g c honest lasts files apart left may = inl (lasts left may)
 
-pub returns-in-Err-journals-clause-possible : goal.returns-in-Err-journals-clause-possible
-returns-in-Err-journals-clause-possible g c honest files = refl {a = g.S.Store.impossible c.args.store.now}
+pub returns-in_err-journals-clause-possible : goal.returns-in_err-journals-clause-possible
+returns-in_err-journals-clause-possible g c honest files = refl {a = g.S.Store.impossible c.args.store.now}
 
 pub returns-in-Err-clause-stopped : goal.returns-in-Err-clause-stopped
 returns-in-Err-clause-stopped g c honest files apart = inl (refl {a = g.S.Store.contents c.args.store.now})
@@ -69,8 +73,10 @@ returns-in-Err-clause-stopped g c honest files apart = inl (refl {a = g.S.Store.
 pub returns-in-Err-prepare-clause-stopped : goal.returns-in-Err-prepare-clause-stopped
 returns-in-Err-prepare-clause-stopped g c honest files apart = inl (refl {a = g.S.Store.contents c.args.store.now})
 
-pub returns-in-Err-journals-clause-stopped : goal.returns-in-Err-journals-clause-stopped
-returns-in-Err-journals-clause-stopped g c honest files apart = inl (refl {a = g.S.Store.contents c.args.store.now})
+pub returns-in_err-journals-clause-stopped : goal.returns-in_err-journals-clause-stopped
+returns-in_err-journals-clause-stopped g c honest files apart =
+    let start = g.S.Store.contents c.args.store.now in
+    any_err c.from_residual.result (OpensAsBeforeOrAfter (session_of_kept c.args.session.now) (command_of c.args.command.now) start start) (inl refl)
 
 pub returns-in-Ok-clause-later : goal.returns-in-Ok-clause-later
 returns-in-Ok-clause-later g c = le_refl (g.S.Store.failures c.args.store.now)
@@ -90,11 +96,11 @@ returns-in-Err-prepare-clause-later g c = le_refl (g.S.Store.failures c.args.sto
 pub returns-in-Err-prepare-clause-at_most : goal.returns-in-Err-prepare-clause-at_most
 returns-in-Err-prepare-clause-at_most g c = record { later = le_refl (g.S.Store.writing_calls c.args.store.now); within = le-add_right (g.S.Store.writing_calls c.args.store.now) _ }
 
-pub returns-in-Err-journals-clause-later : goal.returns-in-Err-journals-clause-later
-returns-in-Err-journals-clause-later g c = le_refl (g.S.Store.failures c.args.store.now)
+pub returns-in_err-journals-clause-later : goal.returns-in_err-journals-clause-later
+returns-in_err-journals-clause-later g c = le_refl (g.S.Store.failures c.args.store.now)
 
-pub returns-in-Err-journals-clause-at_most : goal.returns-in-Err-journals-clause-at_most
-returns-in-Err-journals-clause-at_most g c = record { later = le_refl (g.S.Store.writing_calls c.args.store.now); within = le-add_right (g.S.Store.writing_calls c.args.store.now) _ }
+pub returns-in_err-journals-clause-at_most : goal.returns-in_err-journals-clause-at_most
+returns-in_err-journals-clause-at_most g c = record { later = le_refl (g.S.Store.writing_calls c.args.store.now); within = le-add_right (g.S.Store.writing_calls c.args.store.now) _ }
 
 pub returns-in-Ok-write_down-clause-later : goal.returns-in-Ok-write_down-clause-later
 returns-in-Ok-write_down-clause-later g c = c.write_down.ensures.failures.later
@@ -107,8 +113,8 @@ returns-in-Err-write_down-clause-later g c = c.write_down.ensures.failures.later
 pub returns-in-Err-prepare-clause-verify : goal.returns-in-Err-prepare-clause-verify
 returns-in-Err-prepare-clause-verify g c is = absurd (not_verify c.in-Act.action (subst (λ (x : Command). IsVerify (command_of x)) c.in-Act.is is))
 
-pub returns-in-Err-journals-clause-verify : goal.returns-in-Err-journals-clause-verify
-returns-in-Err-journals-clause-verify g c is = absurd (not_verify c.in-Act.action (subst (λ (x : Command). IsVerify (command_of x)) c.in-Act.is is))
+pub returns-in_err-journals-clause-verify : goal.returns-in_err-journals-clause-verify
+returns-in_err-journals-clause-verify g c is = absurd (not_verify c.in-Act.action (subst (λ (x : Command). IsVerify (command_of x)) c.in-Act.is is))
 
 pub returns-in-Ok-write_down-clause-verify : goal.returns-in-Ok-write_down-clause-verify
 returns-in-Ok-write_down-clause-verify g c is = absurd (not_verify c.in-Act.action (subst (λ (x : Command). IsVerify (command_of x)) c.in-Act.is is))
@@ -118,14 +124,14 @@ returns-in-Err-write_down-clause-verify g c is = absurd (not_verify c.in-Act.act
 
 -- ---- what its session refuses
 
-pub returns-in-Err-journals-clause-early : goal.returns-in-Err-journals-clause-early
-returns-in-Err-journals-clause-early g c fault is = absurd (ok_no_err _ _ (c.in-Ok-prepare.ensures.early fault (ap (λ (x : Command). early_refusal_of c.args.session.now.folder.files (command_of x)) (sym c.in-Act.is) ∙ is)))
+pub returns-in_err-journals-clause-early : goal.returns-in_err-journals-clause-early
+returns-in_err-journals-clause-early g c fault is = absurd (ok_no_err _ _ (c.in-Ok-prepare.ensures.early fault (ap (λ (x : Command). early_refusal_of c.args.session.now.folder.files (command_of x)) (sym c.in-Act.is) ∙ is)))
 
-pub returns-in-Err-journals-clause-nothing_to_undo : goal.returns-in-Err-journals-clause-nothing_to_undo
-returns-in-Err-journals-clause-nothing_to_undo g c is none = absurd (ok_no_err _ _ (c.in-Ok-prepare.ensures.nothing_to_undo (ap command_of (sym c.in-Act.is) ∙ is) none))
+pub returns-in_err-journals-clause-nothing_to_undo : goal.returns-in_err-journals-clause-nothing_to_undo
+returns-in_err-journals-clause-nothing_to_undo g c is none = absurd (ok_no_err _ _ (c.in-Ok-prepare.ensures.nothing_to_undo (ap command_of (sym c.in-Act.is) ∙ is) none))
 
-pub returns-in-Err-journals-clause-nothing_to_redo : goal.returns-in-Err-journals-clause-nothing_to_redo
-returns-in-Err-journals-clause-nothing_to_redo g c is none = absurd (ok_no_err _ _ (c.in-Ok-prepare.ensures.nothing_to_redo (ap command_of (sym c.in-Act.is) ∙ is) none))
+pub returns-in_err-journals-clause-nothing_to_redo : goal.returns-in_err-journals-clause-nothing_to_redo
+returns-in_err-journals-clause-nothing_to_redo g c is none = absurd (ok_no_err _ _ (c.in-Ok-prepare.ensures.nothing_to_redo (ap command_of (sym c.in-Act.is) ∙ is) none))
 
 pub returns-in-Err-write_down-clause-early : goal.returns-in-Err-write_down-clause-early
 returns-in-Err-write_down-clause-early g c fault is = absurd (ok_no_err _ _ (c.in-Ok-prepare.ensures.early fault (ap (λ (x : Command). early_refusal_of c.args.session.now.folder.files (command_of x)) (sym c.in-Act.is) ∙ is)))
@@ -143,24 +149,24 @@ made_of : (g : _) (c : After-write_down g) → IsMadeReady (action_of c.in-Act.a
 made_of g c = made_ready c.ready_changes_apply.ensures.applies c.ready_changes_apply.ensures.commits (action_of c.in-Act.action) c.args.session.now c.in-Ok-prepare.prepared c.prepare.new.self c.in-Ok-prepare.ensures.kept c.in-Ok-prepare.ensures.ready c.folder-folder.ensures.walks
 
 changed_so : (g : _) (c : After-write_down g) → map change_of c.changes.result.now ≡ changes_by_kind c.in-Ok-prepare.prepared.kind c.prepare.new.self
-changed_so g c = c.changes.ensures ∙ (λ i. changes_by_kind (c.in-Ok-journals.ensures.prepared i).kind (c.in-Ok-journals.ensures.unchanged i))
+changed_so g c = c.changes.ensures ∙ (λ i. changes_by_kind (c.in_ok-journals.ensures.prepared i).kind (c.in_ok-journals.ensures.unchanged i))
 
-spelled_so : (g : _) (c : After-write_down g) → AreSpelled c.in-Ok-journals.journals (journals_of Two (session_of_kept c.prepare.new.self) (action_of c.in-Act.action) (changes_by_kind c.in-Ok-prepare.prepared.kind c.prepare.new.self))
-spelled_so g c = c.in-Ok-journals.ensures.journals (action_of c.in-Act.action) c.args.session.now (made_of g c).grew (made_of g c).is
+spelled_so : (g : _) (c : After-write_down g) → AreSpelled c.in_ok-journals.journals (journals_of Two (session_of_kept c.prepare.new.self) (action_of c.in-Act.action) (changes_by_kind c.in-Ok-prepare.prepared.kind c.prepare.new.self))
+spelled_so g c = c.in_ok-journals.ensures.journals (action_of c.in-Act.action) c.args.session.now (made_of g c).grew (made_of g c).is
 
 -- wherever that stops
 abbrev IsStop : (g : _) → After-write_down g → Contents → Type 0
-IsStop g c left = IsStoppedAt (g.S.Store.contents c.args.store.now) c.in-Ok-journals.journals (map change_of c.changes.result.now) left
+IsStop g c left = IsStoppedAt (g.S.Store.contents c.args.store.now) c.in_ok-journals.journals (map change_of c.changes.result.now) left
 
-stop_of : (g : _) (c : After-write_down g) (left : Contents) → IsStop g c left → IsStoppedAt (g.S.Store.contents c.args.store.now) c.in-Ok-journals.journals (changes_by_kind c.in-Ok-prepare.prepared.kind c.prepare.new.self) left
-stop_of g c left = subst (λ (cs : List defined.Change). IsStoppedAt (g.S.Store.contents c.args.store.now) c.in-Ok-journals.journals cs left) (changed_so g c)
+stop_of : (g : _) (c : After-write_down g) (left : Contents) → IsStop g c left → IsStoppedAt (g.S.Store.contents c.args.store.now) c.in_ok-journals.journals (changes_by_kind c.in-Ok-prepare.prepared.kind c.prepare.new.self) left
+stop_of g c left = subst (λ (cs : List defined.Change). IsStoppedAt (g.S.Store.contents c.args.store.now) c.in_ok-journals.journals cs left) (changed_so g c)
 
 opens_so : (g : _) (c : After-write_down g) → (g.S.Store.contents c.args.store.now).files ≡ c.args.session.now.folder.files → TellsApartAlong (session_of_kept c.args.session.now) (command_of c.args.command.now) → (left : Contents) → IsStop g c left
     → OpensAsBeforeOrAfter (session_of_kept c.args.session.now) (command_of c.args.command.now) (g.S.Store.contents c.args.store.now) left
 opens_so g c files apart left stop =
     let session = session_of_kept c.args.session.now in
     subst (λ (x : Command). OpensAsBeforeOrAfter session (command_of x) (g.S.Store.contents c.args.store.now) left) (sym c.in-Act.is)
-    (stopped_opens (action_of c.in-Act.action) c.args.session.now c.in-Ok-prepare.prepared c.prepare.new.self (made_of g c) c.in-Ok-journals.journals (spelled_so g c) (g.S.Store.contents c.args.store.now) files left (stop_of g c left stop)
+    (stopped_opens (action_of c.in-Act.action) c.args.session.now c.in-Ok-prepare.prepared c.prepare.new.self (made_of g c) c.in_ok-journals.journals (spelled_so g c) (g.S.Store.contents c.args.store.now) files left (stop_of g c left stop)
     (subst (λ (x : Command). TellsApartAlong session (command_of x)) c.in-Act.is apart) c.in-Ok-prepare.ensures.leads)
 
 pub returns-in-Ok-write_down-clause-written : goal.returns-in-Ok-write_down-clause-written
@@ -168,12 +174,12 @@ returns-in-Ok-write_down-clause-written g c honest files =
     let kind = c.in-Ok-prepare.prepared.kind in
     let mid = c.prepare.new.self in
     let at = (goal.at.returns-in-Ok-write_down-clause-written g c).After-write_down in
-    let journals = c.in-Ok-journals.journals in
+    let journals = c.in_ok-journals.journals in
     let given = c.in-Act.action in
     let start = g.S.Store.contents c.args.store.now in
     let new = g.S.Store.contents c.write_down.new.store in
     let there : new ≡ after_write_down start journals (changes_by_kind kind mid) = c.in-Ok-write_down.ensures.written.done honest ∙ ap (after_write_down start journals) (changed_so g at) in
-    let after : c.commit.new.self ≡ after_commit kind mid = c.commit.ensures.session ∙ (λ i. after_commit (c.in-Ok-journals.ensures.prepared i).kind (c.in-Ok-journals.ensures.unchanged i)) in
+    let after : c.commit.new.self ≡ after_commit kind mid = c.commit.ensures.session ∙ (λ i. after_commit (c.in_ok-journals.ensures.prepared i).kind (c.in_ok-journals.ensures.unchanged i)) in
     let all : HoldsJournaled (session_of_kept (after_commit kind mid)) (after_write_down start journals (changes_by_kind kind mid)) = (
       written_holds (action_of given) c.args.session.now c.in-Ok-prepare.prepared mid (made_of g at) journals (spelled_so g at) start files,
       written_journal (action_of given) c.args.session.now c.in-Ok-prepare.prepared mid (made_of g at) journals (spelled_so g at) start files,
@@ -191,7 +197,7 @@ returns-in-Err-write_down-clause-in_order g c honest =
     let start = g.S.Store.contents c.args.store.now in
     let new = g.S.Store.contents c.write_down.new.store in
     subst (λ (x : Command). AreSomeMade (changes_asked (session_of_kept c.args.session.now) (command_of x)) start.files new.files) (sym c.in-Act.is)
-    (asked_in_order (action_of c.in-Act.action) c.args.session.now c.in-Ok-prepare.prepared c.prepare.new.self (made_of g at) start c.in-Ok-journals.journals new (stop_of g at new (c.in-Err-write_down.ensures.written.stopped honest)))
+    (asked_in_order (action_of c.in-Act.action) c.args.session.now c.in-Ok-prepare.prepared c.prepare.new.self (made_of g at) start c.in_ok-journals.journals new (stop_of g at new (c.in-Err-write_down.ensures.written.stopped honest)))
 
 possible_so : (g : _) (c : After-write_down g) → g.S.Store.honest c.args.store.now → (g.S.Store.contents c.args.store.now).files ≡ c.args.session.now.folder.files → g.S.Store.impossible c.write_down.new.store ≡ g.S.Store.impossible c.args.store.now
 possible_so g c honest files = c.write_down.ensures.possible honest
@@ -216,11 +222,11 @@ returns-in-Ok-clause-calls g c =
     let made = g.S.Store.writing_calls c.args.store.now in
     subst (λ (x : Command). made ≡ made + calls_asked (session_of_kept c.args.session.now) (command_of x)) (sym c.in-Verify.is) (omega arith)
 
-calls_so : (g : _) (c : After-write_down g) → calls_to_write c.in-Ok-journals.journals (length c.changes.result.now) ≡ calls_asked (session_of_kept c.args.session.now) (command_of c.args.command.now)
+calls_so : (g : _) (c : After-write_down g) → calls_to_write c.in_ok-journals.journals (length c.changes.result.now) ≡ calls_asked (session_of_kept c.args.session.now) (command_of c.args.command.now)
 calls_so g c =
     let old = c.args.session.now in
-    ap (calls_to_write c.in-Ok-journals.journals) (sym (length-map c.changes.result.now change_of) ∙ ap length (changed_so g c))
-    ∙ ready_calls (action_of c.in-Act.action) old c.in-Ok-prepare.prepared c.prepare.new.self (made_of g c) c.in-Ok-journals.journals (spelled_so g c)
+    ap (calls_to_write c.in_ok-journals.journals) (sym (length-map c.changes.result.now change_of) ∙ ap length (changed_so g c))
+    ∙ ready_calls (action_of c.in-Act.action) old c.in-Ok-prepare.prepared c.prepare.new.self (made_of g c) c.in_ok-journals.journals (spelled_so g c)
     ∙ asked_calls c.in-Act.action (session_of_kept old)
     ∙ ap (λ (x : Command). calls_asked (session_of_kept old) (command_of x)) (sym c.in-Act.is)
 
