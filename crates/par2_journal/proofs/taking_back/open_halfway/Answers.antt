@@ -1,4 +1,4 @@
-use Rattle.par2_journal.proofs.Common.{inr, refl, ◌≡◌, ◌-◌, ◌&&◌, true, false, Bool, List, Some, Ok, Err, length, drop, sym, ap, ◌∙◌, arith, drop-map, length-map, ⊎_map, Change, effects, is_valid, leads_through, change_of, changes_in, halfway_of, journal_of, session_at}
+use Rattle.par2_journal.proofs.Common.{inr, refl, ◌≡◌, ◌-◌, ◌&&◌, true, false, Bool, List, Some, Ok, Err, length, drop, sym, ap, ◌∙◌, arith, drop-map, ⊎_map, Change, effects, is_valid, leads_through, change_of, changes_in, halfway_of, journal_of, session_at}
 use Rattle.par2_spec.specs.Opening as defined
 use Rattle.par2_journal.proofs.Openings.{answer, halfway_is}
 use Rattle.par2_journal.proofs.taking_back.open_halfway.Goals.{After-take_back}
@@ -24,12 +24,6 @@ opens c b test =
     (ap (λ w. leads_through c.args.folder.files (way c) w && is_valid (session_at (effects c.args.folder.files (way c)) c.args.journal.cursor c.args.journal.entries.items)) (sym c.deref.ensures.value) ∙ test)
 
 -- ---- the goals
-
-pub overflow_sub-start : goal.overflow_sub-start
-overflow_sub-start c = omega (arith, c.len.ensures, c.len-2.ensures, c.in-Ok.ensures.wanted.within, c.requires.each)
-
-pub split_at_mut-way-requires : goal.split_at_mut-way-requires
-split_at_mut-way-requires c = omega (arith, c.len.ensures, ap length c.as_mut_slice.ensures.value, length-map c.as_mut_slice.result.now change_of)
 
 pub returns-in-Err : goal.returns-in-Err
 returns-in-Err c = record {

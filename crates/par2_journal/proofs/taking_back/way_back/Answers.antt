@@ -1,10 +1,5 @@
-use Rattle.par2_journal.proofs.Common.{◌≡◌, ◌-◌, ap, sym, ◌∙◌, arith, length, map, drop, subst, drop-map, take_all, length-drop, change_of, IfSome, LeadBack}
+use Rattle.par2_journal.proofs.Common.{◌≡◌, ◌-◌, ap, sym, ◌∙◌, arith, length, map, drop, drop-map, take_all, length-drop, change_of}
 use Rattle.par2_journal.proofs.taking_back.way_back.Goals as goal
-
-pub overflow_sub-start : goal.overflow_sub-start
-overflow_sub-start c =
-    let back = subst (λ o. IfSome o (LeadBack c.args.folder.now.files c.args.first c.deref.result.now)) c.in-Some.is c.in_ok-wanted.ensures.back in
-    omega (arith, c.len.ensures, c.len-2.ensures, back.within, ap length c.deref.ensures.value, c.requires)
 
 pub returns-clause-back : goal.returns-clause-back
 returns-clause-back c =
