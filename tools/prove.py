@@ -8,7 +8,7 @@ proved from nothing, a crate above a library reads its statements alone, the pro
 that passes is kept for later runs of this command on this machine. What an earlier run kept is taken, and what the gate
 kept. With PROVE_ANEW=1 nothing is taken and nothing is kept, which is how to measure. Two things are left to the gate,
 so it takes nothing of what is kept here: it looks for contracts that no call can meet, on which no proof rests; and it
-builds the program by a second compiler, beside LLVM, and compares.
+builds the program by a second compiler, beside LLVM, and compares. The program is proved and compiled in one run.
 
 The gate's own order fits many proofs, tests and edits; here one chain of libraries decides when the program is there.
 So this loads the command rt as a module and has it use another order (`in_lanes`). The crate for which the longest chain
@@ -41,8 +41,8 @@ DEFAULT = "x86-64-v2"
 # The most processes that share a proof, the least where the longest chain waits for it, what sharing costs, and the part
 # that can't be shared.
 SHARERS, URGENT, SHARING, ALONE = 4, 2, 1.25, 0.2
-# How nice a crate's processes are: not at all for the longest chain, 3 for one of four fifths, 10 for one of half.
-STEEP, NICEST = 15, 19
+# How nice a crate's processes are: not at all for the longest chain, 2 for one of four fifths, 7 for one of half.
+STEEP, NICEST = 10, 19
 # How many more processes than processors run at a time, since a proof begins and ends with a single one; and how long a
 # crate's chain is, as a part of another's, where its processes aren't counted since they are nice to that one's.
 CROWD, MINOR = 1, 0.7
@@ -215,10 +215,18 @@ def for_processor(rt, cpu):
     rt.crates_of = crates
 
 
-def by_one_compiler(rt):
-    """Has rt build the program by LLVM alone, and keep libraries alone."""
-    compile_by, keep = rt.Crate.compile_by, rt.Kept.keep
-    rt.Crate.compile_by = lambda it, by, *rest: compile_by(it, by, *rest) if by == "llvm" else 0
+def in_one_run(rt):
+    """Has one run prove the program and build it by LLVM, so that its libraries are read once. It isn't kept."""
+    ci, keep = rt.Crate.ci, rt.Kept.keep
+
+    def of_program(it, flags, tests):
+        if tests or not it.is_program:
+            return ci(it, flags, tests)
+        to = f"out/{it.name}"
+        words = [*it.words(flags, keeps=False), "--toolchain", f"{rt.KIT}/toolchain", "--backend", "llvm"]
+        return it.prove(["build", *words, "-o", f"{to}.o"]) or it.link(f"{to}.o", to)
+
+    rt.Crate.ci = of_program
     rt.Kept.keep = lambda it, crate, *rest: None if crate.is_program else keep(it, crate, *rest)
 
 
@@ -281,7 +289,7 @@ def main(program, cpu, to):
         clock = Clock(names, lines_of_crates()[1], processors)
         rt.in_lanes = in_lanes(clock, 0.85 * rt.free(), say)
         for_processor(rt, cpu)
-        by_one_compiler(rt)
+        in_one_run(rt)
         without_empty_contracts(rt)
         if anew:
             rt.STORE = f"{room}/kept"
