@@ -29,21 +29,16 @@ unfolding block_words
 by_fours b = refl
 
 -- the words of that block, from its four quarters
-pub words_of_quarters : (text first second third fourth : List ℕ) (start offset : ℕ) → first ≡ four_words_at text (start + offset)
-    → second ≡ four_words_at text (start + (offset + 16)) → third ≡ four_words_at text (start + (offset + 32)) → fourth ≡ four_words_at text (start + (offset + 48))
-    → first ++ (second ++ (third ++ fourth)) ≡ block_words (take 64 (drop (start + offset) text)) 16
-words_of_quarters text first second third fourth start offset a b c d =
-    let at : ℕ = start + offset in
+pub words_of_quarters : (text first second third fourth : List ℕ) (at : ℕ) → first ≡ four_words_at text at
+    → second ≡ four_words_at text (at + 16) → third ≡ four_words_at text (at + 32) → fourth ≡ four_words_at text (at + 48)
+    → first ++ (second ++ (third ++ fourth)) ≡ block_words (take 64 (drop at text)) 16
+words_of_quarters text first second third fourth at a b c d =
     let block : List ℕ = take 64 (drop at text) in
-    let place-a : start + offset ≡ at + 0 = omega arith in
-    let place-b : start + (offset + 16) ≡ at + 16 = omega arith in
-    let place-c : start + (offset + 32) ≡ at + 32 = omega arith in
-    let place-d : start + (offset + 48) ≡ at + 48 = omega arith in
-    let quarter : (i p : ℕ) → i + 16 ≤ 64 → p ≡ at + i → four_words_at text p ≡ four_words_at block i =
-    λ i p h place. ap (four_words_at text) place ∙ sym (four_in_text text at i h) in
-    ap₂ (λ (x y : List ℕ). x ++ y) (a ∙ quarter 0 _ (omega arith) place-a)
-    (ap₂ (λ (x y : List ℕ). x ++ y) (b ∙ quarter 16 _ (omega arith) place-b)
-    (ap₂ (λ (x y : List ℕ). x ++ y) (c ∙ quarter 32 _ (omega arith) place-c) (d ∙ quarter 48 _ (omega arith) place-d)))
+    let start : at ≡ at + 0 = omega arith in
+    let quarter : (i : ℕ) → i + 16 ≤ 64 → four_words_at text (at + i) ≡ four_words_at block i = λ i h. sym (four_in_text text at i h) in
+    ap₂ (λ (x y : List ℕ). x ++ y) (a ∙ ap (four_words_at text) start ∙ quarter 0 (omega arith))
+    (ap₂ (λ (x y : List ℕ). x ++ y) (b ∙ quarter 16 (omega arith))
+    (ap₂ (λ (x y : List ℕ). x ++ y) (c ∙ quarter 32 (omega arith)) (d ∙ quarter 48 (omega arith))))
     ∙ sym (by_fours block)
 
 -- ---- blocks
@@ -60,19 +55,15 @@ pub after_words : (new old hash words block next : List ℕ) → new ≡ add_sta
 unfolding compress
 after_words new old hash words block next made same read is = made ∙ ap₂ (λ h ws. add_state h (rounds h ws 64)) same read ∙ is
 
--- a block more of a message, which stands `offset` bytes after a start in a text
-pub one_block_more : (p text : List ℕ) (n count block start : ℕ) → block < count
-    → take (count * 64) (drop (n * 64) p) ≡ take (count * 64) (drop start text)
-    → compress (hash_after p (n + block)) (take 64 (drop (start + 64 * block) text)) ≡ hash_after p (n + (block + 1))
+-- a block more of a message, of which a text has the next blocks
+pub one_block_more : (p text : List ℕ) (n count block : ℕ) → block < count → take (count * 64) (drop (n * 64) p) ≡ take (count * 64) text
+    → compress (hash_after p (n + block)) (take 64 (drop (64 * block) text)) ≡ hash_after p (n + (block + 1))
 unfolding hash_after
-one_block_more p text n count block start h same =
+one_block_more p text n count block h same =
     let next : n + (block + 1) ≡ suc (n + block) = omega arith in
     let place : n * 64 + 64 * block ≡ (n + block) * 64 = omega arith in
-    let in_text : drop (64 * block) (drop start text) ≡ drop (start + 64 * block) text = drop-drop (64 * block) start text in
     let in_message : drop (64 * block) (drop (n * 64) p) ≡ drop ((n + block) * 64) p =
     drop-drop (64 * block) (n * 64) p ∙ ap (λ (m : ℕ). drop m p) place in
-    let part : take 64 (drop (start + 64 * block) text) ≡ take 64 (drop ((n + block) * 64) p) =
-    ap (take 64) (sym in_text)
-    ∙ sym (same_parts (drop (n * 64) p) (drop start text) (count * 64) (64 * block) 64 (omega arith) same)
-    ∙ ap (take 64) in_message in
+    let part : take 64 (drop (64 * block) text) ≡ take 64 (drop ((n + block) * 64) p) =
+    sym (same_parts (drop (n * 64) p) text (count * 64) (64 * block) 64 (omega arith) same) ∙ ap (take 64) in_message in
     rw (next, part) refl

@@ -30,10 +30,10 @@ blocks_first hash bytes a (suc n) =
     ap₂ compress (blocks_first hash bytes a n) (ap (take 64) (drop-drop (n * 64) (a * 64) bytes ∙ ap (λ (m : ℕ). drop m bytes) place))
     ∙ ap (hash_behind hash bytes) (sym e)
 
--- a block more, which stands in a text after a start
-pub hash_one_more : (hash text : List ℕ) (start n : ℕ) → compress (hash_behind hash (drop start text) n) (take 64 (drop (start + 64 * n) text)) ≡ hash_behind hash (drop start text) (n + 1)
+-- a block more
+pub hash_one_more : (hash text : List ℕ) (n : ℕ) → compress (hash_behind hash text n) (take 64 (drop (64 * n) text)) ≡ hash_behind hash text (n + 1)
 unfolding hash_behind
-hash_one_more hash text start n = grind (arith, compress, hash_behind, drop-drop)
+hash_one_more hash text n = grind (arith, compress, hash_behind)
 
 -- bytes that begin alike
 pub blocks_alike : (hash x y : List ℕ) (n m : ℕ) → n * 64 ≤ m → take m x ≡ take m y → hash_behind hash x n ≡ hash_behind hash y n

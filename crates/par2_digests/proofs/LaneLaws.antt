@@ -1,5 +1,5 @@
 -- Operations on vectors, read at one lane.
-use Rattle.par2_digests.proofs.Common.{below_more, ◌≡◌, ℕ, ◌-◌, ◌<◌, ◌≤◌, List, [], ◌∷◌, ◌++◌, map, length, get_or, sym, arith, get_or-append_right, get_or-map, get_or_append_left, length-map, get_or-zip2, length-zip2, AreOfFour, lane_words, lane, common_steps}
+use Rattle.par2_digests.proofs.Common.{Bor, length-set, get_or-set_other, get_or-set_same, ◌≢◌, below_more, ap, drop, take, ◌∙◌, ◌+◌, ◌≡◌, ℕ, ◌-◌, ◌<◌, ◌≤◌, List, [], ◌∷◌, ◌++◌, map, length, get_or, sym, arith, set, get_or-drop, get_or-take, get_or-append_right, get_or-map, get_or_append_left, length-map, text_at, texts_of, get_or-zip2, length-zip2, AreOfFour, lane_words, lane, common_steps, drop-map, take-map}
 use Rattle.std.specs.Prelude.{slice_index}
 use Rattle.par2_digests.specs.declared.steps.State.{State}
 use lib.Lanes.{zip2}
@@ -32,6 +32,33 @@ lane_of_pair f g h n x y u v k lx ly lu lv low = grind (arith, lane_of_two, vect
 -- word i of a lane
 pub word_of_lane : {V : Type 0} (at : V → ℕ → ℕ) (words : List V) (k i : ℕ) (none : V) → i < length words → at (get_or words i none) k ≡ slice_index (lane_words at k words) i
 word_of_lane at words k i none h = sym (get_or-map (λ word. at word k) words i none 0 h)
+
+-- ---- texts by reference
+
+-- what stands in the place of a text that isn't there
+abbrev pub no_text : Bor (List ℕ)
+no_text = record { ref_ptr = (0, 0); now = [] }
+
+-- the bytes of a text where it lies
+pub text_here : (texts : List (Bor (List ℕ))) (k : ℕ) → k < length texts → (get_or texts k no_text).now ≡ text_at texts k
+text_here texts k low = sym (get_or-map (λ (text : Bor (List ℕ)). text.now) texts k no_text [] low)
+
+-- a text after others
+pub text_behind : (texts : List (Bor (List ℕ))) (n m k : ℕ) → k < m → text_at (take m (drop n texts)) k ≡ text_at texts (n + k)
+text_behind texts n m k low =
+    let now = λ (text : Bor (List ℕ)). text.now in
+    ap (λ ts. get_or ts k []) (sym (take-map now m (drop n texts)) ∙ ap (take m) (sym (drop-map now n texts)))
+    ∙ get_or-take m (drop n (texts_of texts)) k [] low ∙ get_or-drop n (texts_of texts) k []
+
+-- a text in the place of another
+pub text_set_same : (texts : List (Bor (List ℕ))) (k : ℕ) (text : Bor (List ℕ)) → k < length texts → text_at (set texts k text) k ≡ text.now
+text_set_same texts k text low =
+    sym (text_here (set texts k text) k (omega (arith, length-set texts k text))) ∙ ap (λ (t : Bor (List ℕ)). t.now) (get_or-set_same texts k text no_text low)
+
+pub text_set_other : (texts : List (Bor (List ℕ))) (k j : ℕ) (text : Bor (List ℕ)) → j ≢ k → j < length texts → text_at (set texts k text) j ≡ text_at texts j
+text_set_other texts k j text other low =
+    sym (text_here (set texts k text) j (omega (arith, length-set texts k text)))
+    ∙ ap (λ (t : Bor (List ℕ)). t.now) (get_or-set_other texts k j text no_text other) ∙ text_here texts j low
 
 -- ---- four lanes
 

@@ -1,6 +1,5 @@
 -- Hash values as bytes, read back word by word, and texts one after the other.
-use Rattle.par2_digests.proofs.Common.{◌≡◌, ℕ, ◌+◌, ◌<◌, ◌≤◌, ◌^◌, List, [], ◌∷◌, ◌++◌, length, take, drop, slice_index, sym, ap, ◌∙◌, arith, cases_lt, get_or_append_left, get_or_push, length_push, from_le_bytes-to_le_bytes_4, word_at, compress, digest_bytes, hash_after, four_words_at, TakeAll, TakesAll, Pending}
-use Rattle.par2_digests.proofs.BlockLaws.{word_in_text}
+use Rattle.par2_digests.proofs.Common.{◌≡◌, ℕ, ◌<◌, ◌^◌, List, [], ◌∷◌, ◌++◌, length, slice_index, ap, ◌∙◌, arith, cases_lt, get_or_append_left, get_or_push, length_push, from_le_bytes-to_le_bytes_4, word_at, compress, digest_bytes, hash_after, four_words_at, TakeAll, TakesAll, Pending}
 use Rattle.par2_digests.proofs.FeedLaws.{four_words}
 
 -- the words of a hash value fit
@@ -31,18 +30,13 @@ module _ (hash : List ℕ) (fit : AreWords hash) where
   unfolding digest_bytes
   fourth_word = from_le_bytes-to_le_bytes_4 (slice_index hash 3) fit.d
 
--- a hash value that stands in a text, read word by word
-pub hash_in_text : (text hash p words : List ℕ) (at n : ℕ) → take 16 (drop at text) ≡ digest_bytes hash 4 → hash ≡ hash_after p n
-    → words ≡ four_words_at text (at + 0) → words ≡ hash
-hash_in_text text hash p words at n here is words_are =
+-- a hash value as bytes, read word by word
+pub hash_in_text : (text hash p words : List ℕ) (n : ℕ) → text ≡ digest_bytes hash 4 → hash ≡ hash_after p n → words ≡ four_words_at text 0 → words ≡ hash
+hash_in_text text hash p words n here is words_are =
     let fit : AreWords hash = rw is (are_words p n) in
-    let place = λ (i j : ℕ) (same : i ≡ at + j). ap (word_at text) same in
-    let read = λ (i : ℕ) (h : i + 4 ≤ 16). sym (word_in_text text 16 at i h) ∙ ap (λ l. word_at l i) here in
+    let read = λ (i : ℕ). ap (λ l. word_at l i) here in
     words_are
-    ∙ (λ k. (read 0 (omega arith) ∙ first_word hash fit) k
-    ∷ (place (at + 0 + 4) 4 (omega arith) ∙ read 4 (omega arith) ∙ second_word hash fit) k
-    ∷ (place (at + 0 + 8) 8 (omega arith) ∙ read 8 (omega arith) ∙ third_word hash fit) k
-    ∷ (place (at + 0 + 12) 12 (omega arith) ∙ read 12 (omega arith) ∙ fourth_word hash fit) k ∷ [])
+    ∙ (λ k. (read 0 ∙ first_word hash fit) k ∷ (read 4 ∙ second_word hash fit) k ∷ (read 8 ∙ third_word hash fit) k ∷ (read 12 ∙ fourth_word hash fit) k ∷ [])
     ∙ four_words hash p n is
 
 -- a text more after others

@@ -1,5 +1,5 @@
 -- A message is its whole blocks and its tail, which ends with the padding.
-use Rattle.par2_digests.proofs.Common.{◌≡◌, ℕ, suc, min, ◌+◌, ◌-◌, ◌*◌, ◌/◌, ◌%◌, ◌≤◌, List, ◌∷◌, ◌++◌, length, take, drop, replicate, ap, ◌∙◌, arith, drop-append-le, drop_at, length-replicate, length-take-le, take-append-le, take-replicate, take-take, take_all, padding, tail_len}
+use Rattle.par2_digests.proofs.Common.{◌≡◌, ℕ, suc, min, ◌+◌, ◌-◌, ◌*◌, ◌/◌, ◌%◌, ◌≤◌, List, ◌∷◌, ◌++◌, length, take, drop, replicate, ap, ◌∙◌, arith, drop-append-le, drop_at, length-replicate, length-take-le, take-append-le, take-replicate, take_all, padding, tail_len}
 use Rattle.std.proofs.lemmas.List.{length-append, length-drop}
 use Rattle.std.proofs.lemmas.Slice.{take-put_mid_below}
 use Rattle.par2_digests.proofs.BlockLaws.{same_parts}
@@ -33,10 +33,9 @@ tail_before tails tail at j before n room low = grind (arith, same_parts, take-p
 
 -- ---- a padded message p
 
--- its whole blocks stand in the text
-pub whole_blocks : (text m pad p : List ℕ) (start len : ℕ) → p ≡ m ++ pad → m ≡ take len (drop start text) → length m ≡ len
-    → take (len / 64 * 64) (drop (0 * 64) p) ≡ take (len / 64 * 64) (drop start text)
-whole_blocks text m pad p start len p_is m_is size = grind (arith, take-append-le, take-take)
+-- its whole blocks are those of the message
+pub whole_blocks : (m pad p : List ℕ) (len : ℕ) → p ≡ m ++ pad → length m ≡ len → take (len / 64 * 64) (drop (0 * 64) p) ≡ take (len / 64 * 64) m
+whole_blocks m pad p len p_is size = grind (arith, take-append-le)
 
 -- the blocks after them are its tail
 pub last_blocks : (m pad p tail : List ℕ) (len count : ℕ) → p ≡ m ++ pad → length m ≡ len → count * 64 ≡ len % 64 + length pad

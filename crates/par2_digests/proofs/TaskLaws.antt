@@ -1,5 +1,5 @@
 -- A message on its way to its digest.
-use Rattle.par2_digests.proofs.Common.{◌≡◌, ℕ, ◌+◌, ◌-◌, ◌*◌, ◌/◌, ◌%◌, ◌≤◌, ◌<◌, List, Option, Some, None, length, take, drop, ◌++◌, sym, subst, arith, get_or, length-drop, drop_at, drop-drop, get_or-map, length-take-le, take-append-le, take_all, hash_after, bytes_left, hash_behind, HasBlocks, HaveBlocks, LeadsTo, LeadsWith, work, work_of, works, Task}
+use Rattle.par2_digests.proofs.Common.{ap, length-set, get_or-set_other, get_or-set_same, inl, inr, ◌≢◌, ◌≡◌, ℕ, ◌+◌, ◌-◌, ◌*◌, ◌/◌, ◌%◌, ◌≤◌, ◌<◌, List, Option, Some, None, length, take, drop, ◌++◌, sym, subst, arith, get_or, length-drop, cases_lt, set, drop_at, drop-drop, get_or-map, length-take-le, take-append-le, take_all, hash_after, at_hand, bytes_left, hash_behind, HasBlocks, HaveBlocks, LeadsTo, LeadsWith, work, work_of, works, Task}
 use Rattle.par2_digests.proofs.FeedLaws.{blocks_alike, blocks_first, end_goes_on, goes_on}
 use Rattle.par2_digests.proofs.LaneLaws.{each_lane}
 use borrow.Rule.Slice.PartMut.{put_mid}
@@ -27,7 +27,7 @@ fewer_left : (digest : Option (List ℕ)) (bytes : List ℕ) (n m : ℕ) → m �
 fewer_left digest bytes n m few held = grind (arith)
 
 pub fewer_blocks : (task : Task) (n m : ℕ) → m ≤ n → HasBlocks task n → HasBlocks task m
-fewer_blocks task n m few held = fewer_left task.hash (bytes_left task.feed) n m few held
+fewer_blocks task n m few held = fewer_left task.hash (at_hand task.feed) n m few held
 
 -- all blocks that are left
 pub all_blocks_more : (done : Option (List ℕ)) (kept bytes hash last rest : List ℕ) → done ≡ None → LeadsWith done kept bytes hash last rest
@@ -65,6 +65,25 @@ blocks_at blocks some at j room size = grind (arith, drop_at, length-take-le, ta
 
 pub shrink_same : (at : Task → Task) (new old : Task) → ((d : Task) → at d ≡ old) → (d : Task) → work new ≤ work (at d) - 1 → work new ≤ work old - 1
 shrink_same at new old same d held = subst (λ (t : Task). work new ≤ work t - 1) (same d) held
+
+-- a task more that has less work
+pub less_more : (tasks old : List Task) (new : Task) (k j : ℕ) → length tasks ≡ 8 → length old ≡ 8 → k < 8 → work new ≤ work (get_or old k new) - 1
+    → ((i : ℕ) → i < k → get_or (works tasks) i 0 ≤ get_or (works old) i 0 - 1) → j < k + 1 → get_or (works (set tasks k new)) j 0 ≤ get_or (works old) j 0 - 1
+less_more tasks old new k j size old_size within turned before low =
+    elim (cases_lt j k) [
+      | inl below ↦
+          let other : j ≢ k = omega (arith, below) in
+          let after = works_at (set tasks k new) j new (omega (arith, length-set tasks k new, size, below, within)) in
+          let there = works_at tasks j new (omega (arith, size, below, within)) in
+          let kept = ap work (get_or-set_other tasks k j new new other) in
+          omega (arith, after, there, kept, before j below)
+      | inr above ↦
+          let same : j ≡ k = omega (arith, above, low) in
+          let after = works_at (set tasks k new) k new (omega (arith, length-set tasks k new, size, within)) in
+          let taken = ap work (get_or-set_same tasks k new new (omega (arith, size, within))) in
+          let there = works_at old k new (omega (arith, old_size, within)) in
+          rw same (omega (arith, after, taken, there, turned))
+    ]
 
 -- no hash value is there yet, and a task of n that begin leaves these bytes
 abbrev pub Begins : ℕ → (ℕ → List ℕ) → ℕ → Task → Type 0

@@ -1,6 +1,8 @@
 -- What a lane of some vectors holds.
-use Rattle.std.specs.Prelude.{ℕ, List, [], ◌∷◌, ◌+◌, ◌<◌, ◌≤◌, ◌≡◌, length, map, slice_index}
+use Rattle.std.specs.Prelude.{ℕ, List, [], ◌∷◌, ◌+◌, ◌<◌, ◌≤◌, ◌≡◌, length, map}
+use Rattle.std.specs.Borrow.{Bor}
 use Rattle.md5.specs.Md5.{rounds, word_at}
+use Rattle.par2_digests.specs.Texts.{text_at}
 use Rattle.par2_digests.specs.declared.steps.State.{State}
 
 -- the four variables, or words, in lane k, where `at` reads a vector's lane
@@ -15,17 +17,13 @@ lane_words at k words = map (λ word. at word k) words
 abbrev pub four_words_at : List ℕ → ℕ → List ℕ
 four_words_at text at = word_at text at ∷ word_at text (at + 4) ∷ word_at text (at + 8) ∷ word_at text (at + 12) ∷ []
 
--- from so many starts on, the bytes have so many more
-abbrev pub Have : ℕ → ℕ → List ℕ → List ℕ → Type 0
-Have count size starts bytes = (k : ℕ) → k < count → slice_index starts k + size ≤ length bytes
+-- each of so many texts has so many bytes
+abbrev pub Have : ℕ → ℕ → List (Bor (List ℕ)) → Type 0
+Have count size texts = (k : ℕ) → k < count → size ≤ length (text_at texts k)
 
--- the same from an offset after each start on
-abbrev pub Reach : ℕ → ℕ → ℕ → List ℕ → List ℕ → Type 0
-Reach count size offset starts bytes = (k : ℕ) → k < count → slice_index starts k + offset + size ≤ length bytes
-
--- in each lane there are four words of its message, an offset after its start
-abbrev pub AreFourWords : {V : Type 0} → ℕ → (V → ℕ → ℕ) → List ℕ → List ℕ → ℕ → State V → Type 0
-AreFourWords count at bytes starts offset words = (k : ℕ) → k < count → lane at k words ≡ four_words_at bytes (slice_index starts k + offset)
+-- in each lane there are four words of its text, from the offset on
+abbrev pub AreFourWords : {V : Type 0} → ℕ → (V → ℕ → ℕ) → List (Bor (List ℕ)) → ℕ → State V → Type 0
+AreFourWords count at texts offset words = (k : ℕ) → k < count → lane at k words ≡ four_words_at (text_at texts k) offset
 
 -- in each lane, where the state is that before a step, it is that before a later one afterwards
 abbrev pub GoesOn : {V : Type 0} → ℕ → (V → ℕ → ℕ) → List V → ℕ → State V → ℕ → State V → Type 0

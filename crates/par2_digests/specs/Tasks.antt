@@ -1,7 +1,7 @@
 -- Messages on their way to their digests.
 use Rattle.std.specs.Prelude.{◌≡◌, ◌≤◌, ◌<◌, ℕ, suc, ◌*◌, ◌-◌, ◌/◌, List, Option, Some, None, length, take, drop, map, get_or}
 use Rattle.md5.specs.Md5.{hash_after}
-use Rattle.par2_digests.specs.Feeds.{hash_behind, bytes_left}
+use Rattle.par2_digests.specs.Feeds.{at_hand, hash_behind, bytes_left}
 use Rattle.par2_digests.specs.declared.tasks.Task.{Task}
 
 -- the hash value is the last, and so is what is after the blocks; or whole blocks lead from this hash value to both
@@ -26,13 +26,13 @@ HasEnded task last rest = (task.hash ≡ Some last) × (take (length rest) task.
 abbrev pub HasTaken : Task → List ℕ → Type 0
 HasTaken task p = HasEnded task (hash_after p (length p / 64)) (drop (length p / 64 * 64) p)
 
--- so many blocks are left, unless the hash value is there
+-- so many blocks are at hand, unless the hash value is there
 abbrev pub HaveBlocks : Option (List ℕ) → List ℕ → ℕ → Type 0
 HaveBlocks (Some done) bytes n = Unit
 HaveBlocks None bytes n = n * 64 ≤ length bytes
 
 abbrev pub HasBlocks : Task → ℕ → Type 0
-HasBlocks task n = HaveBlocks task.hash (bytes_left task.feed) n
+HasBlocks task n = HaveBlocks task.hash (at_hand task.feed) n
 
 -- falls with each block until the hash value is there
 abbrev pub work_of : Option (List ℕ) → List ℕ → ℕ

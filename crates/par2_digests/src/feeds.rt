@@ -1,7 +1,7 @@
 //! The bytes of parts, block by block.
 
 ghost use Rattle.std.specs.Prelude.{true, false, ◌≡◌, ◌≤◌, ◌<◌, ◌+◌, ◌-◌, ◌*◌, ◌^◌, ◌++◌, [], ℕ, length, take, drop, min};
-ghost use Rattle.par2_digests.specs.Feeds.{bytes_left};
+ghost use Rattle.par2_digests.specs.Feeds.{at_hand, bytes_left};
 ghost use Rattle.par2_digests.specs.Messages.{message_of, part_bytes};
 
 use crate::midstate::Part;
@@ -85,12 +85,27 @@ impl<'a> Feed<'a> {
 
     /// How many blocks the part at hand has left.
     pub(crate) fn blocks_at_hand(&self) -> usize
-        ensures { result * 64 ≤ length (bytes_left self.now) }
+        ensures blocks { result * 64 ≤ length (at_hand self.now) }
+        ensures room { result * 64 < 2 ^ 64 }
     {
         match self.part {
             Part::Length(_) => 0,
             Part::Bytes(bytes) => behind(bytes, self.at).len() / 64,
         }
+    }
+
+    /// Takes so many blocks of the part at hand, where they lie.
+    pub(crate) fn take_at_hand(&mut self, count: usize) -> &'a [u8]
+        requires { count * 64 ≤ length (at_hand self.old) }
+        ensures bytes { result.now ≡ take (count * 64) (bytes_left self.old) }
+        ensures rest { bytes_left self.new ≡ drop (count * 64) (bytes_left self.old) }
+    {
+        let blocks = match self.part {
+            Part::Length(_) => &[],
+            Part::Bytes(bytes) => &behind(bytes, self.at)[..64 * count],
+        };
+        self.at += blocks.len();
+        blocks
     }
 
     /// Fills the blocks with the bytes that come next; how many there were.

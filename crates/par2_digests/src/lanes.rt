@@ -1,9 +1,9 @@
 //! The functions of a step (RFC 1321, 3.4) on several messages at once, each in a lane of its own.
 
-ghost use Rattle.std.specs.Prelude.{◌≡◌, ◌≤◌, ◌<◌, ◌+◌, ℕ, length, slice_index};
+ghost use Rattle.std.specs.Prelude.{◌≡◌, ◌≤◌, ◌<◌, ◌+◌, ◌^◌, ℕ, length, slice_index};
 ghost use Rattle.std.specs.Int.{w32, rotate_left};
 ghost use Rattle.md5.specs.Md5.{add32, f_fn, g_fn, h_fn, i_fn};
-ghost use Rattle.par2_digests.specs.Lanes.{AreFourWords, Reach};
+ghost use Rattle.par2_digests.specs.Lanes.{AreFourWords, Have};
 
 use crate::quads::four_words;
 use crate::steps::State;
@@ -41,12 +41,12 @@ pub(crate) trait Lanes: Copy {
     fn rotated(x: Self, shift: u32) -> Self
         ensures { (k : ℕ) → k < count → at result k ≡ rotate_left w32 (at x k) shift };
 
-    /// Four words of each message, which stand `offset` bytes after its start.
-    fn four_words(bytes: &[u8], starts: &[usize], offset: usize) -> State<Self>
-        requires enough { count ≤ length starts.now }
-        requires room { offset + 16 ≤ length bytes.now }
-        requires within { Reach count 16 offset starts.now bytes.now }
-        ensures { AreFourWords count at bytes.now starts.now offset result };
+    /// Four words of each text, from the offset on.
+    fn four_words(texts: &[&[u8]], offset: usize) -> State<Self>
+        requires enough { count ≤ length texts.now }
+        requires room { offset + 16 < 2 ^ 64 }
+        requires within { Have count (offset + 16) texts.now }
+        ensures { AreFourWords count at texts.now offset result };
 
     fn word(self, k: usize) -> u32
         requires { k < count }
@@ -95,8 +95,8 @@ impl<const N: usize> Lanes for Simd<u32, N> {
     }
 
     #[inline(always)]
-    fn four_words(bytes: &[u8], starts: &[usize], offset: usize) -> State<Self> {
-        four_words(bytes, starts, offset)
+    fn four_words(texts: &[&[u8]], offset: usize) -> State<Self> {
+        four_words(texts, offset)
     }
 
     #[inline(always)]

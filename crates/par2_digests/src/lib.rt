@@ -1,11 +1,12 @@
 //! The MD5 digests of eight windows of one text, side by side.
 #![tactic(auto)]
 
-ghost use Rattle.std.specs.Prelude.{◌≡◌, ◌≤◌, ◌<◌, ◌+◌, ◌/◌, ℕ, length, take, drop, slice_index};
+ghost use Rattle.std.specs.Prelude.{◌≡◌, ◌≤◌, ◌<◌, ◌+◌, ◌*◌, ◌/◌, ℕ, length, take, drop, slice_index};
 ghost use Rattle.std.specs.Int.{w32, to_le_bytes};
 ghost use Rattle.md5.specs.Md5.{digest_bytes, hash_after, md5, padded_message};
 ghost use Rattle.par2_digests.specs.Digests.{digest_at};
 ghost use Rattle.par2_digests.specs.Lanes.{lane};
+ghost use Rattle.par2_digests.specs.Texts.{text_at};
 
 mod blocks;
 mod feeds;
@@ -27,20 +28,58 @@ use steps::{State, in_each_lane};
 /// How many windows are digested side by side.
 pub const LANES: usize = 8;
 
-/// The hash values of the windows, after all blocks of each and its padding.
-fn hash_values(bytes: &[u8], starts: &[usize; LANES], len: usize) -> State<u32x8>
+/// The bytes in eight equal parts, one after the other.
+fn eighths(bytes: &[u8]) -> [&[u8]; LANES]
+    ensures count { length result ≡ 8 }
+    ensures sizes { (k n : ℕ) → k < 8 → 8 * n ≡ length bytes.now → length (text_at result k) ≡ n }
+    ensures parts { (k n : ℕ) → k < 8 → 8 * n ≡ length bytes.now
+        → text_at result k ≡ take n (drop (n * k) bytes.now) }
+{
+    let size = bytes.len() / LANES;
+    let eighth = |k| &bytes[size * k..size * k + size];
+    [
+        eighth(0),
+        eighth(1),
+        eighth(2),
+        eighth(3),
+        eighth(4),
+        eighth(5),
+        eighth(6),
+        eighth(7),
+    ]
+}
+
+/// The windows of `len` bytes that begin at the starts.
+fn windows<'a>(bytes: &'a [u8], starts: &[usize; LANES], len: usize) -> [&'a [u8]; LANES]
     requires within { (k : ℕ) → k < 8 → slice_index starts.now k + len ≤ length bytes.now }
     ensures { (k : ℕ)
-        → k < 8 → let p = padded_message (take len (drop (slice_index starts.now k) bytes.now)) in
+        → k < 8 → text_at result k ≡ take len (drop (slice_index starts.now k) bytes.now) }
+{
+    let window = |k: usize| &bytes[starts[k]..starts[k] + len];
+    [
+        window(0),
+        window(1),
+        window(2),
+        window(3),
+        window(4),
+        window(5),
+        window(6),
+        window(7),
+    ]
+}
+
+/// The hash values of the windows, after all blocks of each and its padding.
+fn hash_values(windows: &[&[u8]; LANES], len: usize) -> State<u32x8>
+    requires within { (k : ℕ) → k < 8 → length (text_at windows.now k) ≡ len }
+    ensures { (k : ℕ) → k < 8 → let p = padded_message (text_at windows.now k) in
         lane slice_index k result ≡ hash_after p (length p / 64) }
 {
-    let tails = tails_of_windows(bytes, starts, len);
-    let tail_starts = [0, 128, 256, 384, 512, 640, 768, 896];
+    let tails = tails_of_windows(windows, len);
     let mut words = [u32x8::splat(0); 16];
     // The initial hash value (RFC 1321, 3.3).
     let start = in_each_lane(0x6745_2301, 0xefcd_ab89, 0x98ba_dcfe, 0x1032_5476);
-    let state = absorbed(start, &mut words, bytes, starts, len / 64);
-    absorbed(state, &mut words, &tails, &tail_starts, tail_blocks(len))
+    let state = absorbed(start, &mut words, windows, len / 64);
+    absorbed(state, &mut words, &eighths(&tails), tail_blocks(len))
 }
 
 /// The digest of a last hash value, low byte first.
@@ -64,7 +103,7 @@ pub fn window_digests(bytes: &[u8], starts: &[usize; LANES], len: usize) -> [[u8
     ensures { (k : ℕ)
         → k < 8 → digest_at result k ≡ md5 (take len (drop (slice_index starts.now k) bytes.now)) }
 {
-    let state = hash_values(bytes, starts, len);
+    let state = hash_values(&windows(bytes, starts, len), len);
     let mut digests = [[0; 16]; LANES];
     for k in 0..LANES {
         digests[k] = digest_of(state.in_lane(k));

@@ -16,7 +16,7 @@ use crate::lanes::Lanes;
 use crate::midstate::{Midstate, Part, length_of};
 use crate::steps::{State, Words};
 use crate::tasks::{Task, finish_all};
-use crate::{LANES, digest_of};
+use crate::{LANES, digest_of, eighths};
 use std::alloc::{AllocError, Global};
 use std::simd::prelude::*;
 
@@ -29,9 +29,6 @@ pub struct Pending<'a> {
 
 // The room for a hash value.
 const HASH_LEN: usize = 16;
-
-// Where the hash value of each lane begins.
-const STARTS: [usize; LANES] = [0, 16, 32, 48, 64, 80, 96, 112];
 
 // The hash values, each in a lane of its own.
 fn state_of<V: Lanes>(pendings: &[Pending]) -> State<V>
@@ -46,7 +43,7 @@ fn state_of<V: Lanes>(pendings: &[Pending]) -> State<V>
         let at = HASH_LEN * k;
         bytes[at..at + HASH_LEN].copy_from_slice(&digest_of(pending.state.hash));
     }
-    V::four_words(&bytes, &STARTS, 0)
+    V::four_words(&eighths(&bytes), 0)
 }
 
 // What is to do for the parts.

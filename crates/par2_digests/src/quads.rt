@@ -1,9 +1,10 @@
 //! Four words of each of several messages at once. One by one, the words of eight messages take a fifth of a block's
 //! time. So sixteen bytes of a message are read as a row, and the rows of four messages are exchanged into columns.
 
-ghost use Rattle.std.specs.Prelude.{◌≡◌, ◌≤◌, ◌<◌, ◌+◌, ◌++◌, ℕ, [], ◌∷◌, length, slice_index, slice_index_or};
+ghost use Rattle.std.specs.Prelude.{◌≡◌, ◌≤◌, ◌<◌, ◌+◌, ◌^◌, ◌++◌, ℕ, [], ◌∷◌, length, slice_index, slice_index_or};
 ghost use Rattle.md5.specs.Md5.{word_at};
-ghost use Rattle.par2_digests.specs.Lanes.{four_words_at, lane, AreFourWords, AreOfFour, Reach};
+ghost use Rattle.par2_digests.specs.Lanes.{four_words_at, lane, AreFourWords, AreOfFour, Have};
+ghost use Rattle.par2_digests.specs.Texts.{text_at};
 
 use crate::steps::State;
 use std::simd::prelude::*;
@@ -16,17 +17,16 @@ fn word(bytes: &[u8], at: usize) -> u32
     u32::from_le_bytes([bytes[at], bytes[at + 1], bytes[at + 2], bytes[at + 3]])
 }
 
-// The words that stand `offset` bytes after each start.
+// The words of the texts at the offset.
 #[inline(always)]
-fn gathered_words<const N: usize>(bytes: &[u8], starts: &[usize], offset: usize) -> Simd<u32, N>
-    requires enough { N ≤ length starts.now }
-    requires within { Reach N 4 offset starts.now bytes.now }
-    ensures { (k : ℕ) → k < N
-        → slice_index result k ≡ word_at bytes.now (slice_index starts.now k + offset) }
+fn gathered_words<const N: usize>(texts: &[&[u8]], offset: usize) -> Simd<u32, N>
+    requires enough { N ≤ length texts.now }
+    requires within { Have N (offset + 4) texts.now }
+    ensures { (k : ℕ) → k < N → slice_index result k ≡ word_at (text_at texts.now k) offset }
 {
     let mut words = [0; N];
     for k in 0..N {
-        words[k] = word(bytes, starts[k] + offset);
+        words[k] = word(texts[k], offset);
     }
     Simd::from_array(words)
 }
@@ -65,19 +65,19 @@ fn columns(a: u32x4, b: u32x4, c: u32x4, d: u32x4) -> State<u32x4>
     State { a, b, c, d }
 }
 
-// Four words of each of four messages.
+// Four words of each of four texts.
 #[inline(always)]
-fn words_of_four(bytes: &[u8], starts: &[usize], offset: usize) -> State<u32x4>
-    requires enough { 4 ≤ length starts.now }
-    requires within { Reach 4 16 offset starts.now bytes.now }
-    ensures words { AreFourWords 4 slice_index bytes.now starts.now offset result }
+fn words_of_four(texts: &[&[u8]], offset: usize) -> State<u32x4>
+    requires enough { 4 ≤ length texts.now }
+    requires within { Have 4 (offset + 16) texts.now }
+    ensures words { AreFourWords 4 slice_index texts.now offset result }
     ensures lanes { AreOfFour result }
 {
     columns(
-        row(bytes, starts[0] + offset),
-        row(bytes, starts[1] + offset),
-        row(bytes, starts[2] + offset),
-        row(bytes, starts[3] + offset),
+        row(texts[0], offset),
+        row(texts[1], offset),
+        row(texts[2], offset),
+        row(texts[3], offset),
     )
 }
 
@@ -99,21 +99,17 @@ fn with_lanes<const M: usize, const N: usize>(vector: Simd<u32, M>) -> Simd<u32,
     Simd::from_slice(&vector.to_array())
 }
 
-/// Four words of each message, which stand `offset` bytes after its start.
+/// Four words of each text, from the offset on.
 #[inline(always)]
-pub(crate) fn four_words<const N: usize>(
-    bytes: &[u8],
-    starts: &[usize],
-    offset: usize,
-) -> State<Simd<u32, N>>
-    requires enough { N ≤ length starts.now }
-    requires room { offset + 16 ≤ length bytes.now }
-    requires within { Reach N 16 offset starts.now bytes.now }
-    ensures { AreFourWords N slice_index bytes.now starts.now offset result }
+pub(crate) fn four_words<const N: usize>(texts: &[&[u8]], offset: usize) -> State<Simd<u32, N>>
+    requires enough { N ≤ length texts.now }
+    requires room { offset + 16 < 2 ^ 64 }
+    requires within { Have N (offset + 16) texts.now }
+    ensures { AreFourWords N slice_index texts.now offset result }
 {
     if N == 8 {
-        let low = words_of_four(bytes, starts, offset);
-        let high = words_of_four(bytes, &starts[4..], offset);
+        let low = words_of_four(texts, offset);
+        let high = words_of_four(&texts[4..], offset);
         state_of(
             joined(low.a, high.a),
             joined(low.b, high.b),
@@ -121,14 +117,14 @@ pub(crate) fn four_words<const N: usize>(
             joined(low.d, high.d),
         )
     } else if N == 4 {
-        let State { a, b, c, d } = words_of_four(bytes, starts, offset);
+        let State { a, b, c, d } = words_of_four(texts, offset);
         state_of(with_lanes(a), with_lanes(b), with_lanes(c), with_lanes(d))
     } else {
         state_of(
-            gathered_words(bytes, starts, offset),
-            gathered_words(bytes, starts, offset + 4),
-            gathered_words(bytes, starts, offset + 8),
-            gathered_words(bytes, starts, offset + 12),
+            gathered_words(texts, offset),
+            gathered_words(texts, offset + 4),
+            gathered_words(texts, offset + 8),
+            gathered_words(texts, offset + 12),
         )
     }
 }

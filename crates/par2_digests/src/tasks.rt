@@ -1,27 +1,23 @@
 //! Messages on their way to their last hash values, side by side.
 
-ghost use Rattle.std.specs.Prelude.{◌≡◌, ◌≤◌, ◌<◌, ◌*◌, ◌-◌, ℕ, List, IsTrue, length, take, drop, get_or};
+ghost use Rattle.std.specs.Prelude.{◌≡◌, ◌≤◌, ◌<◌, ◌*◌, ◌-◌, ◌^◌, ℕ, List, IsTrue, length, take, drop, get_or};
 ghost use Rattle.par2_digests.specs.Feeds.{hash_behind};
-ghost use Rattle.par2_digests.specs.Lanes.{lane};
+ghost use Rattle.par2_digests.specs.Lanes.{lane, Have};
 ghost use Rattle.par2_digests.specs.Tasks.{work, works, HasBlocks, HasEnded, HaveLess, HaveNoMore, LeadOn, LeadsTo};
+ghost use Rattle.par2_digests.specs.Texts.{text_at};
 ghost use Rattle.par2_digests.specs.declared.tasks.Task.{Task};
 
 use crate::blocks::{absorbed, hashed};
+use crate::eighths;
 use crate::feeds::Feed;
 use crate::lanes::Lanes;
 use crate::steps::{State, Words};
 
-// The most blocks of a message that are taken at once.
-const MOST_BLOCKS: usize = 32;
+// More blocks than a message has.
+const MOST_BLOCKS: usize = usize::MAX / 64;
 
-// The room for the blocks of a message.
-const ROOM: usize = 64 * MOST_BLOCKS;
-
-// The room for those of all messages.
-const BLOCKS_LEN: usize = 8 * ROOM;
-
-// Where the blocks of each message begin.
-const STARTS: [usize; 8] = [0, 2048, 4096, 6144, 8192, 10240, 12288, 14336];
+// The room for a block of each message.
+const ROOM: usize = 8 * 64;
 
 /// A message in a lane: what is left of it, or the hash value after its whole blocks.
 #[derive(Clone, Copy, Drop)]
@@ -32,10 +28,11 @@ pub(crate) struct Task<'a> {
     pub(crate) rest: [u8; 64],
 }
 
-impl Task<'_> {
-    // How many blocks can be taken at once.
+impl<'a> Task<'a> {
+    // How many blocks are at hand.
     fn blocks_at_hand(&self) -> usize
-        ensures { HasBlocks self.now result }
+        ensures blocks { HasBlocks self.now result }
+        ensures room { result * 64 < 2 ^ 64 }
     {
         match self.hash {
             Some(_) => MOST_BLOCKS,
@@ -43,23 +40,35 @@ impl Task<'_> {
         }
     }
 
-    // Takes the next blocks, or the hash value after the last. More than one are taken only where all of them are
-    // left.
-    fn turn<V: Lanes>(&mut self, blocks: &mut [u8], state: &State<V>, k: usize)
+    // Takes so many blocks where they lie; gives others where the hash value is there.
+    fn take(&mut self, count: usize, others: &'a [u8]) -> &'a [u8]
+        requires blocks { HasBlocks self.old count }
+        requires others { count * 64 ≤ length others.now }
+        ensures room { count * 64 ≤ length result.now }
+        ensures leads { (hash last rest : List ℕ) → LeadsTo self.old hash last rest
+            → LeadsTo self.new (hash_behind hash result.now count) last rest }
+        ensures shrinks { 0 < count → work self.new ≤ work self.old - 1 }
+    {
+        match self.hash {
+            Some(_) => others,
+            None => self.feed.take_at_hand(count),
+        }
+    }
+
+    // Copies the next block, or takes the hash value after the last.
+    fn turn<V: Lanes>(&mut self, block: &mut [u8], state: &State<V>, k: usize)
         requires within { k < V.count }
-        requires some { 64 ≤ length blocks.old }
-        requires left { (n : ℕ) → 1 < n → n * 64 ≡ length blocks.old → HasBlocks self.old n }
-        ensures leads { (n : ℕ) (last rest : List ℕ) → n * 64 ≡ length blocks.old
-            → LeadsTo self.old (lane V.at k state.now) last rest
-            → LeadsTo self.new (hash_behind (lane V.at k state.now) blocks.new n) last rest }
+        requires whole { length block.old ≡ 64 }
+        ensures leads { (last rest : List ℕ) → LeadsTo self.old (lane V.at k state.now) last rest
+            → LeadsTo self.new (hash_behind (lane V.at k state.now) block.new 1) last rest }
         ensures shrinks { work self.new ≤ work self.old - 1 }
     {
         let None = self.hash else {
             return;
         };
-        let count = self.feed.fill(blocks);
+        let count = self.feed.fill(block);
         if count < 64 {
-            self.rest[..count].copy_from_slice(&blocks[..count]);
+            self.rest[..count].copy_from_slice(&block[..count]);
             self.hash = Some(state.in_lane(k));
         }
     }
@@ -77,44 +86,69 @@ impl Task<'_> {
     }
 }
 
-// How many blocks can be taken at once of each message, one at least.
+// How many blocks are at hand of each message.
 fn batch_of(tasks: &[Task]) -> usize
-    ensures some { 1 ≤ result }
-    ensures room { result ≤ 32 }
-    ensures left { (k : ℕ) (none : Task) → 1 < result → k < length tasks.now
+    ensures blocks { (k : ℕ) (none : Task) → k < length tasks.now
         → HasBlocks (get_or tasks.now k none) result }
+    ensures room { result * 64 < 2 ^ 64 }
 {
     let mut count = MOST_BLOCKS;
     for task in tasks {
         count = count.min(task.blocks_at_hand());
     }
-    count.max(1)
+    count
 }
 
-// Takes the next `batch` blocks of each message, or the hash value after its last.
-fn turn_all<V: Lanes>(
-    tasks: &mut [Task; 8],
-    blocks: &mut [u8; BLOCKS_LEN],
-    state: &State<V>,
+// Takes so many blocks of each message where they lie. In other lanes are those of message `unfinished`, whose hash value is
+// still to come.
+fn take_all<'a>(
+    tasks: &mut [Task<'a>; 8],
     count: usize,
     batch: usize,
+    unfinished: usize,
+) -> [&'a [u8]; 8]
+    requires few { count ≤ 8 }
+    requires blocks { (k : ℕ) (none : Task) → k < count
+        → HasBlocks (get_or tasks.old k none) batch }
+    requires within { unfinished < count }
+    requires left { 0 < get_or (works tasks.old) unfinished 0 }
+    ensures leads { (k : ℕ) (none : Task) (hash last rest : List ℕ) → k < count
+        → LeadsTo (get_or tasks.old k none) hash last rest
+        → LeadsTo (get_or tasks.new k none) (hash_behind hash (text_at result k) batch) last rest }
+    ensures shrinks { 0 < batch → HaveLess count tasks.old tasks.new }
+    ensures room { Have 8 (batch * 64) result }
+    ensures sizes { (length tasks.new ≡ 8) × (length result ≡ 8) }
+{
+    let mut ahead = tasks[unfinished].feed;
+    let others = ahead.take_at_hand(batch);
+    let mut texts = [others; 8];
+    for k in 0..count {
+        let mut task = tasks[k];
+        texts[k] = task.take(batch, others);
+        tasks[k] = task;
+    }
+    texts
+}
+
+// Copies the next block of each message, or takes the hash value after its last.
+fn turn_all<V: Lanes>(
+    tasks: &mut [Task; 8],
+    blocks: &mut [u8; ROOM],
+    state: &State<V>,
+    count: usize,
 )
     requires lanes { count ≤ V.count }
     requires few { count ≤ 8 }
-    requires some { 1 ≤ batch }
-    requires room { batch ≤ 32 }
-    requires left { (k : ℕ) (none : Task) → 1 < batch → k < count
-        → HasBlocks (get_or tasks.old k none) batch }
     ensures leads { (k : ℕ) (none : Task) (last rest : List ℕ) → k < count
         → let hash = lane V.at k state.now in LeadsTo (get_or tasks.old k none) hash last rest
-        → let taken = take (batch * 64) (drop (2048 * k) blocks.new) in
-        LeadsTo (get_or tasks.new k none) (hash_behind hash taken batch) last rest }
+        → let block = take 64 (drop (64 * k) blocks.new) in
+        LeadsTo (get_or tasks.new k none) (hash_behind hash block 1) last rest }
     ensures shrinks { HaveLess count tasks.old tasks.new }
     ensures size { length tasks.new ≡ 8 }
 {
     for k in 0..count {
         let mut task = tasks[k];
-        task.turn(&mut blocks[ROOM * k..ROOM * k + 64 * batch], state, k);
+        task.turn(&mut blocks[64 * k..64 * k + 64], state, k);
         tasks[k] = task;
     }
 }
@@ -133,8 +167,8 @@ fn has_company(tasks: &[Task], count: usize, k: usize) -> bool
     false
 }
 
-// Takes as many blocks of each message as can be taken at once, until the hash value of message k is there, or those of
-// all after it.
+// Takes as many blocks of each message as are at hand of all, or copies one of each, until the hash value of message k is
+// there, or those of all after it.
 fn go_on<V: Lanes>(
     tasks: &mut [Task; 8],
     state: State<V>,
@@ -150,11 +184,16 @@ fn go_on<V: Lanes>(
     ensures size { length tasks.new ≡ 8 }
 {
     let mut state = state;
-    let mut blocks = [0; BLOCKS_LEN];
+    let mut blocks = [0; ROOM];
     while has_company(tasks, count, k) {
         let batch = batch_of(&tasks[..count]);
-        turn_all(tasks, &mut blocks, &state, count, batch);
-        state = absorbed(state, words, &blocks, &STARTS, batch);
+        if batch > 0 {
+            let texts = take_all(tasks, count, batch, k);
+            state = absorbed(state, words, &texts, batch);
+        } else {
+            turn_all(tasks, &mut blocks, &state, count);
+            state = absorbed(state, words, &eighths(&blocks), 1);
+        }
     }
     state
 }

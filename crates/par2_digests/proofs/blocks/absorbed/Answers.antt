@@ -1,4 +1,4 @@
-use Rattle.par2_digests.proofs.Common.{◌≡◌, ◌+◌, ◌*◌, ℕ, ap, arith, drop, slice_index, take, ◌∙◌, rules, hash_after, lane, hash_behind}
+use Rattle.par2_digests.proofs.Common.{◌≡◌, ◌+◌, ◌*◌, ℕ, ap, arith, drop, take, ◌∙◌, rules, hash_after, lane, hash_behind, text_at}
 use Rattle.par2_digests.proofs.BlockLaws.{after_words, one_block_more}
 use Rattle.par2_digests.proofs.FeedLaws.{hash_one_more}
 use Rattle.par2_digests.proofs.blocks.absorbed.Goals as goal
@@ -11,14 +11,15 @@ pub loop-block-preserved : goal.loop-block-preserved
 loop-block-preserved g c =
     let held = c.loop-block.invariant in
     let block = c.loop-block.block in
-    let part = λ (k : ℕ). take 64 (drop (slice_index c.args.starts.now k + 64 * block) c.args.bytes.now) in
+    let text = λ (k : ℕ). text_at c.args.texts.now k in
+    let part = λ (k : ℕ). take 64 (drop (64 * block) (text k)) in
     record {
       message = λ k n p low held-state same.
           after_words _ _ _ _ (part k) _ (c.compressed-after.ensures k low) (held.message k n p low held-state same) (c.read_words.ensures k low)
-          (one_block_more p c.args.bytes.now n c.args.count block (slice_index c.args.starts.now k) c.loop-block-test.true same);
+          (one_block_more p (text k) n c.args.count block c.loop-block-test.true same);
       behind = λ k low.
           after_words _ _ _ _ (part k) _ (c.compressed-after.ensures k low) (held.behind k low) (c.read_words.ensures k low)
-          (hash_one_more (lane g.V.Lanes.at k c.args.state) c.args.bytes.now (slice_index c.args.starts.now k) block);
+          (hash_one_more (lane g.V.Lanes.at k c.args.state) (text k) block);
     }
 
 pub returns-clause-message : goal.returns-clause-message
@@ -27,4 +28,4 @@ returns-clause-message g c = λ k n p low held same.
     c.loop-block.invariant.message k n p low held same ∙ ap (hash_after p) end
 
 pub returns-clause-behind : goal.returns-clause-behind
-returns-clause-behind g c = grind (arith, hash_behind, slice_index)
+returns-clause-behind g c = grind (arith, hash_behind)

@@ -1,4 +1,4 @@
-use Rattle.par2_digests.proofs.Common.{◌≡◌, ◌≤◌, ◌/◌, ◌%◌, ◌*◌, ◌∙◌, ℕ, min, arith, ap, refl, rules, length, take, slice_index, take_all, bytes_left, hash_behind, lane}
+use Rattle.par2_digests.proofs.Common.{◌≡◌, ◌/◌, ◌%◌, ◌*◌, ◌∙◌, ℕ, min, arith, ap, refl, rules, length, take, slice_index, take_all, bytes_left, hash_behind, lane}
 use Rattle.par2_digests.proofs.FeedLaws.{hash_more, same_rest, size_behind}
 use Rattle.par2_digests.proofs.LaneLaws.{all_of_four}
 use Rattle.par2_digests.proofs.blocks.hashed.Goals as goal
@@ -14,11 +14,8 @@ loop-feed-smaller c =
     let count : c.fill.result ≡ min 64 (length (bytes_left c.loop-feed.feed)) = omega (arith, c.fill.ensures.count, c.loop-feed.invariant.block) in
     omega (arith, size_behind (bytes_left c.loop-feed.feed) (bytes_left c.fill.new.self) c.fill.result count c.loop-feed-test.true c.fill.ensures.rest)
 
-pub after_block-state-requires : goal.after_block-state-requires
-after_block-state-requires c =
-    let size : 64 ≤ length c.fill.new.blocks = omega (arith, c.loop-feed.invariant.block) in (omega arith, (omega arith, (size, λ k low. let first : k ≡ 0 = omega (arith, low) in rw first size)))
-
 pub loop-feed-preserved : goal.loop-feed-preserved
+unfolding hash_behind
 loop-feed-preserved c =
     let bytes = bytes_left c.loop-feed.feed in
     let rest = bytes_left c.fill.new.self in
@@ -27,7 +24,7 @@ loop-feed-preserved c =
     let held = c.loop-feed.invariant in
     let hash = lane slice_index 0 c.loop-feed.state in
     record {
-      hash = ap (λ h. hash_behind h rest (length rest / 64)) (c.after_block-state.ensures 0 (omega arith))
+      hash = ap (λ h. hash_behind h rest (length rest / 64)) (c.absorbed-state.ensures.behind 0 (omega arith))
           ∙ hash_more bytes rest c.fill.new.blocks hash c.fill.result count full c.fill.ensures.bytes c.fill.ensures.rest
           ∙ held.hash;
       block = c.fill.auto.blocks ∙ held.block;

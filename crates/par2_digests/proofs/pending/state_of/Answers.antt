@@ -1,7 +1,6 @@
-use Rattle.par2_digests.proofs.Common.{◌≡◌, ◌≤◌, ◌+◌, ◌-◌, ◌*◌, ◌∙◌, ℕ, List, [], ◌∷◌, ap, refl, sym, take, drop, length, get_or, slice_index, inl, inr, arith, cases_lt, get_or_default, length-take-le, digest_bytes, Pending}
+use Rattle.par2_digests.proofs.Common.{text_at, ◌<◌, ◌≡◌, ◌≤◌, ◌+◌, ◌-◌, ◌*◌, ◌∙◌, ℕ, ap, sym, take, drop, length, get_or, inl, inr, arith, cases_lt, get_or_default, length-take-le, digest_bytes, Pending}
 use Rattle.std.proofs.lemmas.List.{length-drop}
 use borrow.Rule.Slice.PartMut.{put_mid, same_len_mid}
-use Rattle.par2_digests.proofs.LaneLaws.{each_lane}
 use Rattle.par2_digests.proofs.PendingLaws.{hash_in_text}
 use Rattle.par2_digests.proofs.TailLaws.{tail_before}
 use Rattle.par2_digests.proofs.TaskLaws.{blocks_at}
@@ -37,8 +36,16 @@ loop-k-preserved g c =
 
 pub returns : goal.returns
 returns g c = λ k m none low within held.
-    let starts : List ℕ = 0 ∷ 16 ∷ 32 ∷ 48 ∷ 64 ∷ 80 ∷ 96 ∷ 112 ∷ [] in
-    let place : slice_index starts k ≡ 16 * k = each_lane (λ i. slice_index starts i ≡ 16 * i) refl refl refl refl refl refl refl refl k (omega (arith, c.requires.lanes)) in
-    let here = c.loop-k.invariant.done k none (omega (arith, c.loop-k-test.false)) in
-    hash_in_text c.loop-k.bytes (get_or c.args.pendings.now k none).state.hash m _ (16 * k) _ here held.1.0
-    (rw place at (c.four_words.ensures k low))
+    let few : k < 8 = omega (arith, low, c.requires.lanes) in
+    let room : 8 * 16 ≡ length c.loop-k.bytes = sym c.loop-k.invariant.size in
+    let here = c.eighths.ensures.parts k 16 few room ∙ c.loop-k.invariant.done k none (omega (arith, c.loop-k-test.false)) in
+    hash_in_text (text_at c.eighths.result k) (get_or c.args.pendings.now k none).state.hash m _ _ here held.1.0 (c.four_words.ensures k low)
+
+pub four_words-requires : goal.four_words-requires
+four_words-requires g c =
+    let room : 8 * 16 ≡ length c.loop-k.bytes = sym c.loop-k.invariant.size in
+    record {
+      enough = omega (arith, c.eighths.ensures.count, c.requires.lanes);
+      room = omega arith;
+      within = λ k low. omega (arith, c.eighths.ensures.sizes k 16 (omega (arith, low, c.requires.lanes)) room);
+    }

@@ -1,9 +1,12 @@
-use Rattle.par2_digests.proofs.Common.{◌≡◌, ◌+◌, ◌-◌, ◌∙◌, ℕ, ap, arith, length, drop, get_or, inl, inr, cases_lt, get_or-drop, get_or-take, four_words_at}
-use Rattle.par2_digests.proofs.LaneLaws.{ArePairs, high_lane, low_lane}
+use Rattle.par2_digests.proofs.Common.{◌≡◌, ◌+◌, ◌-◌, ◌∙◌, ℕ, ap, arith, length, inl, inr, cases_lt, four_words_at, text_at}
+use Rattle.par2_digests.proofs.LaneLaws.{ArePairs, high_lane, low_lane, text_behind}
 use Rattle.par2_digests.proofs.quads.four_words.Goals as goal
 
 pub words_of_four-high-requires-clause-within : goal.words_of_four-high-requires-clause-within
-words_of_four-high-requires-clause-within g c = grind (arith, get_or-take, get_or-drop)
+words_of_four-high-requires-clause-within g c = λ k low.
+    let texts = c.args.texts.now in
+    let behind = text_behind texts 4 (length texts - 4) k (omega (arith, low, c.requires.enough, c.if-this-eq8.true)) in
+    omega (arith, ap length behind, c.requires.within (4 + k) (omega (arith, low, c.if-this-eq8.true)))
 
 pub returns-then-this-eq8 : goal.returns-then-this-eq8
 returns-then-this-eq8 g c = λ k h.
@@ -19,13 +22,13 @@ returns-then-this-eq8 g c = λ k h.
     elim (cases_lt k 4) [
       | inl below ↦ low_lane c.state_of.result low high k below pairs ∙ c.words_of_four-low.ensures.words k below
       | inr above ↦
-          let starts = c.args.starts.now in
+          let texts = c.args.texts.now in
           let j : ℕ = k - 4 in
           let place : 4 + j ≡ k = omega (arith, above) in
-          let there = get_or-take (length starts - 4) (drop 4 starts) j 0 (omega (arith, c.requires.enough, c.if-this-eq8.true, h, above)) ∙ get_or-drop 4 starts j 0 ∙ ap (λ n. get_or starts n 0) place in
+          let there = text_behind texts 4 (length texts - 4) j (omega (arith, c.requires.enough, c.if-this-eq8.true, h, above)) ∙ ap (text_at texts) place in
           high_lane c.state_of.result low high k above pairs
           ∙ c.words_of_four-high.ensures.words j (omega (arith, c.if-this-eq8.true, h, above))
-          ∙ ap (λ start. four_words_at c.args.bytes.now (start + c.args.offset)) there
+          ∙ ap (λ text. four_words_at text c.args.offset) there
     ]
 
 pub returns-then-this-eq4 : goal.returns-then-this-eq4

@@ -1,27 +1,24 @@
-use Rattle.par2_digests.proofs.Common.{◌≡◌, ◌*◌, ◌≤◌, length, ◌∙◌, arith, inl, inr, cases_lt, bytes_left, lane}
+use Rattle.par2_digests.proofs.Common.{◌≡◌, length, ◌∙◌, arith, bytes_left, lane}
 use borrow.Rule.Slice.PartMut.{post_of}
-use Rattle.par2_digests.proofs.TaskLaws.{at_the_end, blocks_more, kept_rest, left_blocks}
+use Rattle.par2_digests.proofs.TaskLaws.{at_the_end, blocks_more, kept_rest}
 use Rattle.par2_digests.proofs.tasks.Task.turn.Goals as goal
 
 pub returns-then-count-lt64-clause-leads : goal.returns-then-count-lt64-clause-leads
-returns-then-count-lt64-clause-leads g c = λ n last rest size held.
+returns-then-count-lt64-clause-leads g c = λ last rest held.
     let task = c.args.self.now in
     let hash = lane g.V.Lanes.at c.args.k c.args.state.now in
-    let all : c.fill-count.result ≡ length (bytes_left task.feed) = omega (arith, c.fill-count.ensures.count, c.if-count-lt64.true, c.requires.some) in
+    let all : c.fill-count.result ≡ length (bytes_left task.feed) = omega (arith, c.fill-count.ensures.count, c.if-count-lt64.true, c.requires.whole) in
     let ended = at_the_end task.hash task.rest (bytes_left task.feed) hash last rest c.fill-count.result c.in-None.is all c.if-count-lt64.true held in (
       ◌∙◌ {b = hash} c.in_lane.ensures ended.0,
       kept_rest (bytes_left task.feed) rest c.fill-count.new.blocks c.copy_from_slice.new.self (post_of 0 c.fill-count.result task.rest) c.fill-count.result c.copy_from_slice.ensures.after c.fill-count.ensures.bytes all ended.1,
     )
 
 pub returns-else-count-lt64-clause-leads : goal.returns-else-count-lt64-clause-leads
-returns-else-count-lt64-clause-leads g c = λ n last rest size held.
+returns-else-count-lt64-clause-leads g c = λ last rest held.
     let task = c.args.self.now in
     let bytes = bytes_left task.feed in
     let hash = lane g.V.Lanes.at c.args.k c.args.state.now in
     let count = c.fill-count.ensures.count in
-    let room : n * 64 ≤ length bytes = elim (cases_lt 1 n) [
-      | inl several ↦ left_blocks task.hash bytes n c.in-None.is (c.requires.left n several size)
-      | inr one ↦ omega (arith, count, c.if-count-lt64.false)
-    ] in
-    blocks_more task.hash task.rest bytes (bytes_left c.fill-count.new.self) c.fill-count.new.blocks hash last rest n c.fill-count.result c.in-None.is (omega (arith, count, size, room)) (omega (arith, count))
-    c.fill-count.ensures.bytes c.fill-count.ensures.rest held
+    let whole = c.requires.whole in
+    blocks_more task.hash task.rest bytes (bytes_left c.fill-count.new.self) c.fill-count.new.blocks hash last rest 1 c.fill-count.result c.in-None.is
+    (omega (arith, count, whole, c.if-count-lt64.false)) (omega (arith, count)) c.fill-count.ensures.bytes c.fill-count.ensures.rest held
