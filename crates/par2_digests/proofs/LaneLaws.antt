@@ -1,5 +1,5 @@
 -- Operations on vectors, read at one lane.
-use Rattle.par2_digests.proofs.Common.{Bor, length-set, get_or-set_other, get_or-set_same, ◌≢◌, below_more, ap, drop, take, ◌∙◌, ◌+◌, ◌≡◌, ℕ, ◌-◌, ◌<◌, ◌≤◌, List, [], ◌∷◌, ◌++◌, map, length, get_or, sym, arith, set, get_or-drop, get_or-take, get_or-append_right, get_or-map, get_or_append_left, length-map, text_at, texts_of, get_or-zip2, length-zip2, AreOfFour, lane_words, lane, common_steps, drop-map, take-map}
+use Rattle.par2_digests.proofs.Common.{Bor, length-set, get_or-set_other, get_or-set_same, ◌≢◌, below_more, ap, drop, take, ◌∙◌, ◌+◌, ◌≡◌, ℕ, ◌-◌, ◌<◌, ◌≤◌, List, [], ◌∷◌, ◌++◌, map, length, get_or, sym, arith, set, get_or-drop, get_or-take, get_or-append_right, get_or-map, get_or_append_left, length-map, drop-map, take-map, text_at, texts_of, get_or-zip2, length-zip2, AreOfFour, lane_words, lane, common_steps}
 use Rattle.std.specs.Prelude.{slice_index}
 use Rattle.par2_digests.specs.declared.steps.State.{State}
 use lib.Lanes.{zip2}

@@ -12,6 +12,10 @@ LeadsWith None kept bytes hash last rest = (hash_behind hash bytes (length bytes
 abbrev pub LeadsTo : Task → List ℕ → List ℕ → List ℕ → Type 0
 LeadsTo task hash last rest = LeadsWith task.hash task.rest (bytes_left task.feed) hash last rest
 
+-- what a task led to from any hash value, it leads to from that after so many blocks of the text
+abbrev pub LeadsBehind : Task → Task → List ℕ → ℕ → Type 0
+LeadsBehind old new text n = (hash last rest : List ℕ) → LeadsTo old hash last rest → LeadsTo new (hash_behind hash text n) last rest
+
 -- the first `count` tasks lead on: what each led to from its old hash value, it leads to from the new one
 abbrev pub LeadOn : {A : Type 0} → (ℕ → A → List ℕ) → ℕ → List Task → A → List Task → A → Type 0
 LeadOn hash_at count old before new after =

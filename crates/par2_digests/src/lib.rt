@@ -6,7 +6,7 @@ ghost use Rattle.std.specs.Int.{w32, to_le_bytes};
 ghost use Rattle.md5.specs.Md5.{digest_bytes, hash_after, md5, padded_message};
 ghost use Rattle.par2_digests.specs.Digests.{digest_at};
 ghost use Rattle.par2_digests.specs.Lanes.{lane};
-ghost use Rattle.par2_digests.specs.Texts.{text_at};
+ghost use Rattle.par2_digests.specs.Texts.{text_at, AreEighths};
 
 mod blocks;
 mod feeds;
@@ -22,6 +22,7 @@ use blocks::absorbed;
 pub use midstate::{Midstate, Part};
 use padding::{tail_blocks, tails_of_windows};
 pub use pending::{Pending, absorb_each, text_digests};
+use std::array;
 use std::simd::prelude::*;
 use steps::{State, in_each_lane};
 
@@ -30,23 +31,10 @@ pub const LANES: usize = 8;
 
 /// The bytes in eight equal parts, one after the other.
 fn eighths(bytes: &[u8]) -> [&[u8]; LANES]
-    ensures count { length result ≡ 8 }
-    ensures sizes { (k n : ℕ) → k < 8 → 8 * n ≡ length bytes.now → length (text_at result k) ≡ n }
-    ensures parts { (k n : ℕ) → k < 8 → 8 * n ≡ length bytes.now
-        → text_at result k ≡ take n (drop (n * k) bytes.now) }
+    ensures { AreEighths bytes.now result }
 {
     let size = bytes.len() / LANES;
-    let eighth = |k| &bytes[size * k..size * k + size];
-    [
-        eighth(0),
-        eighth(1),
-        eighth(2),
-        eighth(3),
-        eighth(4),
-        eighth(5),
-        eighth(6),
-        eighth(7),
-    ]
+    array::from_fn(|k| &bytes[size * k..size * k + size])
 }
 
 /// The windows of `len` bytes that begin at the starts.
@@ -55,17 +43,7 @@ fn windows<'a>(bytes: &'a [u8], starts: &[usize; LANES], len: usize) -> [&'a [u8
     ensures { (k : ℕ)
         → k < 8 → text_at result k ≡ take len (drop (slice_index starts.now k) bytes.now) }
 {
-    let window = |k: usize| &bytes[starts[k]..starts[k] + len];
-    [
-        window(0),
-        window(1),
-        window(2),
-        window(3),
-        window(4),
-        window(5),
-        window(6),
-        window(7),
-    ]
+    array::from_fn(|k| &bytes[starts[k]..starts[k] + len])
 }
 
 /// The hash values of the windows, after all blocks of each and its padding.

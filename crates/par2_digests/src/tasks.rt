@@ -3,7 +3,7 @@
 ghost use Rattle.std.specs.Prelude.{◌≡◌, ◌≤◌, ◌<◌, ◌*◌, ◌-◌, ◌^◌, ℕ, List, IsTrue, length, take, drop, get_or};
 ghost use Rattle.par2_digests.specs.Feeds.{hash_behind};
 ghost use Rattle.par2_digests.specs.Lanes.{lane, Have};
-ghost use Rattle.par2_digests.specs.Tasks.{work, works, HasBlocks, HasEnded, HaveLess, HaveNoMore, LeadOn, LeadsTo};
+ghost use Rattle.par2_digests.specs.Tasks.{work, works, HasBlocks, HasEnded, HaveLess, HaveNoMore, LeadOn, LeadsBehind, LeadsTo};
 ghost use Rattle.par2_digests.specs.Texts.{text_at};
 ghost use Rattle.par2_digests.specs.declared.tasks.Task.{Task};
 
@@ -45,8 +45,7 @@ impl<'a> Task<'a> {
         requires blocks { HasBlocks self.old count }
         requires others { count * 64 ≤ length others.now }
         ensures room { count * 64 ≤ length result.now }
-        ensures leads { (hash last rest : List ℕ) → LeadsTo self.old hash last rest
-            → LeadsTo self.new (hash_behind hash result.now count) last rest }
+        ensures leads { LeadsBehind self.old self.new result.now count }
         ensures shrinks { 0 < count → work self.new ≤ work self.old - 1 }
     {
         match self.hash {
@@ -112,9 +111,8 @@ fn take_all<'a>(
         → HasBlocks (get_or tasks.old k none) batch }
     requires within { unfinished < count }
     requires left { 0 < get_or (works tasks.old) unfinished 0 }
-    ensures leads { (k : ℕ) (none : Task) (hash last rest : List ℕ) → k < count
-        → LeadsTo (get_or tasks.old k none) hash last rest
-        → LeadsTo (get_or tasks.new k none) (hash_behind hash (text_at result k) batch) last rest }
+    ensures leads { (k : ℕ) (none : Task) → k < count → LeadsBehind
+        (get_or tasks.old k none) (get_or tasks.new k none) (text_at result k) batch }
     ensures shrinks { 0 < batch → HaveLess count tasks.old tasks.new }
     ensures room { Have 8 (batch * 64) result }
     ensures sizes { (length tasks.new ≡ 8) × (length result ≡ 8) }
