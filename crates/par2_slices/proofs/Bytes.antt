@@ -1,51 +1,36 @@
--- Bytes taken in by eights.
-use Rattle.par2_slices.proofs.Common.{◌≡◌, ℕ, zero, suc, ◌+◌, ◌*◌, ◌^◌, ◌<◌, ◌%◌, ◌/◌, List, [], ◌∷◌, ◌++◌, length, take, drop, get_or, sym, ap, ◌∙◌, arith, bit_xor, concat, first_chunks, w64, from_le_bytes, xor_assoc, xor_zero_r, shr-shr, xor_comm, take_more, take_all, take-append-drop, append-nil, concat-append, crc_byte, crc_steps, crc_steps-split, crc_byte-steps, fold-append, joined, steps}
+-- Bytes taken in by sixteens.
+use Rattle.par2_slices.proofs.Common.{◌≡◌, ℕ, zero, suc, ◌+◌, ◌*◌, ◌^◌, ◌<◌, ◌%◌, ◌/◌, List, [], ◌∷◌, ◌++◌, length, take, drop, get_or, refl, sym, ap, ap₂, ◌∙◌, arith, bit_xor, concat, All, first_chunks, from_le_bytes, All-from_get_or, All-get_or, length-drop, length-take-le, take_more, take_all, take-append-drop, append-nil, xor_assoc, xor_zero_r, xor_comm, concat-append, crc_byte, crc_steps, crc_steps-add, crc_steps-split, crc_steps-xor, crc_byte-steps, fold-append, joined, steps, to_le_bytes, w32, nil_from_length, All-drop, All-take}
 use Rattle.std.proofs.Math.Seq.{take-add}
 use Rattle.std.specs.Prelude.{fold}
 use Rattle.par2_slices.proofs.Sliding.{none_less}
 
-split : (m x : ℕ) → steps (8 + m) x ≡ bit_xor (steps (8 + m) (x % 256)) (steps m (x / 256))
+-- the lowest byte by a table of its own, the bits above it by eight steps fewer
+byte_more : (m n w sum value : ℕ) → n ≡ m + 1 → sum ≡ steps (8 * m) (w / 256) → value ≡ steps (8 * n) (w % 256) → bit_xor sum value ≡ steps (8 * n) w
 unfolding steps
-split m x = crc_steps-split m 8 x
+byte_more m n w sum value next sum_is value_is =
+    let more : 8 * n ≡ 8 + 8 * m = omega (arith, next) in
+    ap₂ bit_xor sum_is (value_is ∙ ap (λ t. crc_steps t (w % 256)) more)
+    ∙ xor_comm (crc_steps (8 * m) (w / 256)) (crc_steps (8 + 8 * m) (w % 256))
+    ∙ sym (crc_steps-split (8 * m) 8 w)
+    ∙ ap (λ t. crc_steps t w) (sym more)
 
--- a byte goes to a table of its own
-next : (m k sum w : ℕ) → bit_xor sum (steps (8 + m) (w / 2 ^ k)) ≡ bit_xor (bit_xor sum (steps (8 + m) (w / 2 ^ k % 256))) (steps m (w / 2 ^ (k + 8)))
-next m k sum w =
-    ap (bit_xor sum) (split m (w / 2 ^ k) ∙ ap (λ t. bit_xor (steps (8 + m) (w / 2 ^ k % 256)) (steps m t)) (shr-shr w k 8))
-    ∙ sym (xor_assoc sum (steps (8 + m) (w / 2 ^ k % 256)) (steps m (w / 2 ^ (k + 8))))
-
--- a word of eight bytes, a table for each
-by_tables : (w : ℕ) → steps 64 w ≡ bit_xor (bit_xor (bit_xor (bit_xor (bit_xor (bit_xor (bit_xor (steps 64 (w % 256)) (steps 56 (w / 2 ^ 8 % 256))) (steps 48 (w / 2 ^ 16 % 256))) (steps 40 (w / 2 ^ 24 % 256))) (steps 32 (w / 2 ^ 32 % 256))) (steps 24 (w / 2 ^ 40 % 256))) (steps 16 (w / 2 ^ 48 % 256))) (steps 8 (w / 2 ^ 56))
-by_tables w =
-    let a : ℕ = steps 64 (w % 256) in
-    let b : ℕ = bit_xor a (steps 56 (w / 2 ^ 8 % 256)) in
-    let c : ℕ = bit_xor b (steps 48 (w / 2 ^ 16 % 256)) in
-    let d : ℕ = bit_xor c (steps 40 (w / 2 ^ 24 % 256)) in
-    let e : ℕ = bit_xor d (steps 32 (w / 2 ^ 32 % 256)) in
-    let f : ℕ = bit_xor e (steps 24 (w / 2 ^ 40 % 256)) in
-    split 56 w ∙ next 48 8 a w ∙ next 40 16 b w ∙ next 32 24 c w ∙ next 24 32 d w ∙ next 16 40 e w ∙ next 8 48 f w
-
-four_more : (p a b c d : ℕ) → bit_xor (bit_xor (bit_xor (bit_xor p a) b) c) d ≡ bit_xor p (bit_xor (bit_xor (bit_xor a b) c) d)
-four_more p a b c d =
-    ap (λ t. bit_xor (bit_xor t c) d) (xor_assoc p a b) ∙ ap (λ t. bit_xor t d) (xor_assoc p (bit_xor a b) c) ∙ xor_assoc p (bit_xor (bit_xor a b) c) d
-
-rotated : (a b c d e f g h : ℕ) → bit_xor (bit_xor (bit_xor (bit_xor (bit_xor (bit_xor (bit_xor e f) g) h) a) b) c) d ≡ bit_xor (bit_xor (bit_xor (bit_xor (bit_xor (bit_xor (bit_xor a b) c) d) e) f) g) h
-rotated a b c d e f g h =
-    let low : ℕ = bit_xor (bit_xor (bit_xor a b) c) d in
-    let high : ℕ = bit_xor (bit_xor (bit_xor e f) g) h in
-    four_more high a b c d ∙ xor_comm high low ∙ sym (four_more low e f g h)
-
--- the same, the four high bytes first
-pub by_tables_from_above : (w : ℕ) → bit_xor (bit_xor (bit_xor (bit_xor (bit_xor (bit_xor (bit_xor (steps 32 (w / 2 ^ 32 % 256)) (steps 24 (w / 2 ^ 40 % 256))) (steps 16 (w / 2 ^ 48 % 256))) (steps 8 (w / 2 ^ 56))) (steps 64 (w % 256))) (steps 56 (w / 2 ^ 8 % 256))) (steps 48 (w / 2 ^ 16 % 256))) (steps 40 (w / 2 ^ 24 % 256)) ≡ steps 64 w
-by_tables_from_above w =
-    rotated (steps 64 (w % 256)) (steps 56 (w / 2 ^ 8 % 256)) (steps 48 (w / 2 ^ 16 % 256)) (steps 40 (w / 2 ^ 24 % 256)) (steps 32 (w / 2 ^ 32 % 256)) (steps 24 (w / 2 ^ 40 % 256)) (steps 16 (w / 2 ^ 48 % 256)) (steps 8 (w / 2 ^ 56))
-    ∙ sym (by_tables w)
+-- a word of four bytes, a table for each
+pub by_four_tables : (w later a b c d : ℕ) (bytes : List ℕ) → w < 2 ^ 32 → bytes ≡ to_le_bytes w32 w → a ≡ steps (8 * (later + 1)) (get_or bytes 3 0) → b ≡ steps (8 * (later + 1 + 1)) (get_or bytes 2 0)
+    → c ≡ steps (8 * (later + 2 + 1)) (get_or bytes 1 0) → d ≡ steps (8 * (later + 3 + 1)) (get_or bytes 0 0) → bit_xor (bit_xor (bit_xor a b) c) d ≡ steps (8 * (later + 4)) w
+by_four_tables w later a b c d bytes below are a_is b_is c_is d_is =
+    let at : (n i : ℕ) → steps (8 * n) (get_or bytes i 0) ≡ steps (8 * n) (get_or (to_le_bytes w32 w) i 0) = λ n i. ap (λ (t : List ℕ). steps (8 * n) (get_or t i 0)) are in
+    let high : a ≡ steps (8 * (later + 1)) (w / 2 ^ 16 / 256) = a_is ∙ at (later + 1) 3 ∙ ap (steps (8 * (later + 1))) (omega (arith, below)) in
+    let two : bit_xor a b ≡ steps (8 * (later + 1 + 1)) (w / 256 / 256) = byte_more (later + 1) (later + 1 + 1) (w / 2 ^ 16) a b (omega arith) high (b_is ∙ at (later + 1 + 1) 2) ∙ ap (steps (8 * (later + 1 + 1))) (omega arith) in
+    let three : bit_xor (bit_xor a b) c ≡ steps (8 * (later + 2 + 1)) (w / 256) = byte_more (later + 1 + 1) (later + 2 + 1) (w / 256) (bit_xor a b) c (omega arith) two (c_is ∙ at (later + 2 + 1) 1) in
+    byte_more (later + 2 + 1) (later + 3 + 1) w (bit_xor (bit_xor a b) c) d (omega arith) three (d_is ∙ at (later + 3 + 1) 0) ∙ ap (λ t. steps (8 * t) w) (omega arith)
 
 -- a word, a table for each of its two low bytes
 pub by_two_tables : (w : ℕ) → steps 16 w ≡ bit_xor (bit_xor (steps 16 (w % 256)) (steps 8 (w / 2 ^ 8 % 256))) (w / 2 ^ 16)
 by_two_tables w =
-    let a : ℕ = steps 16 (w % 256) in
-    split 8 w ∙ next 0 8 a w ∙ ap (bit_xor (bit_xor a (steps 8 (w / 2 ^ 8 % 256)))) (none_less (w / 2 ^ 16))
+    let low : ℕ = steps 16 (w % 256) in
+    let middle : ℕ = steps 8 (w / 256 % 256) in
+    sym (byte_more 1 2 w (bit_xor (w / 2 ^ 16) middle) low refl (byte_more 0 1 (w / 256) (w / 2 ^ 16) middle refl ((let e : w / 2 ^ 16 ≡ w / 256 / 256 = omega arith in e) ∙ sym (none_less (w / 256 / 256))) refl) refl)
+    ∙ xor_comm (bit_xor (w / 2 ^ 16) middle) low ∙ ap (bit_xor low) (xor_comm (w / 2 ^ 16) middle) ∙ sym (xor_assoc low middle (w / 2 ^ 16))
 
 -- a number and the byte above it
 taken : (n c x byte sum : ℕ) → x < 2 ^ n → sum ≡ steps n (bit_xor c x) → crc_byte sum byte ≡ steps (n + 8) (bit_xor c (x + byte * 2 ^ n))
@@ -66,25 +51,61 @@ fold_more bytes c k below = ap (fold crc_byte c) (take_more bytes k 0 below) ∙
 further : (c : ℕ) (bytes : List ℕ) (k n x : ℕ) → k < length bytes → x < 2 ^ n → fold crc_byte c (take k bytes) ≡ steps n (bit_xor c x) → fold crc_byte c (take (k + 1) bytes) ≡ steps (n + 8) (bit_xor c (x + get_or bytes k 0 * 2 ^ n))
 further c bytes k n x within below is = fold_more bytes c k within ∙ taken n c x (get_or bytes k 0) (fold crc_byte c (take k bytes)) below is
 
-pub eight_bytes : (c : ℕ) (bytes : List ℕ) → length bytes ≡ 8 → ((i : ℕ) → get_or bytes i 0 < 256) → fold crc_byte c bytes ≡ steps 64 (bit_xor c (from_le_bytes w64 bytes))
-eight_bytes c bytes len small =
+-- the bytes of a word, as a number
+four_bytes : (c : ℕ) (bytes : List ℕ) → length bytes ≡ 4 → All (λ b. b < 256) bytes → fold crc_byte c bytes ≡ steps 32 (bit_xor c (from_le_bytes w32 bytes))
+four_bytes c bytes len all_small =
     let at : ℕ → ℕ = λ i. get_or bytes i 0 in
+    let small : (i : ℕ) → i < 4 → at i < 256 = λ i within. All-get_or (λ b. b < 256) bytes i 0 (omega (arith, len, within)) all_small in
     let x1 : ℕ = at 0 in
     let x2 : ℕ = x1 + at 1 * 2 ^ 8 in
     let x3 : ℕ = x2 + at 2 * 2 ^ 16 in
-    let x4 : ℕ = x3 + at 3 * 2 ^ 24 in
-    let x5 : ℕ = x4 + at 4 * 2 ^ 32 in
-    let x6 : ℕ = x5 + at 5 * 2 ^ 40 in
-    let x7 : ℕ = x6 + at 6 * 2 ^ 48 in
     let s1 : fold crc_byte c (take 1 bytes) ≡ steps 8 (bit_xor c x1) = further c bytes 0 0 0 (omega (arith, len)) (omega arith) (none_taken c) ∙ ap (λ t. steps 8 (bit_xor c t)) (let e : 0 + at 0 * 1 ≡ x1 = omega arith in e) in
-    let s2 : fold crc_byte c (take 2 bytes) ≡ steps 16 (bit_xor c x2) = further c bytes 1 8 x1 (omega (arith, len)) (omega arith) s1 in
-    let s3 : fold crc_byte c (take 3 bytes) ≡ steps 24 (bit_xor c x3) = further c bytes 2 16 x2 (omega (arith, len)) (omega arith) s2 in
-    let s4 : fold crc_byte c (take 4 bytes) ≡ steps 32 (bit_xor c x4) = further c bytes 3 24 x3 (omega (arith, len)) (omega arith) s3 in
-    let s5 : fold crc_byte c (take 5 bytes) ≡ steps 40 (bit_xor c x5) = further c bytes 4 32 x4 (omega (arith, len)) (omega arith) s4 in
-    let s6 : fold crc_byte c (take 6 bytes) ≡ steps 48 (bit_xor c x6) = further c bytes 5 40 x5 (omega (arith, len)) (omega arith) s5 in
-    let s7 : fold crc_byte c (take 7 bytes) ≡ steps 56 (bit_xor c x7) = further c bytes 6 48 x6 (omega (arith, len)) (omega arith) s6 in
-    let s8 : fold crc_byte c (take 8 bytes) ≡ steps 64 (bit_xor c (x7 + at 7 * 2 ^ 56)) = further c bytes 7 56 x7 (omega (arith, len)) (omega arith) s7 in
-    ap (fold crc_byte c) (sym (take_all 8 bytes (omega (arith, len)))) ∙ s8
+    let s2 : fold crc_byte c (take 2 bytes) ≡ steps 16 (bit_xor c x2) = further c bytes 1 8 x1 (omega (arith, len)) (omega (arith, small)) s1 in
+    let s3 : fold crc_byte c (take 3 bytes) ≡ steps 24 (bit_xor c x3) = further c bytes 2 16 x2 (omega (arith, len)) (omega (arith, small)) s2 in
+    let s4 : fold crc_byte c (take 4 bytes) ≡ steps 32 (bit_xor c (x3 + at 3 * 2 ^ 24)) = further c bytes 3 24 x3 (omega (arith, len)) (omega (arith, small)) s3 in
+    ap (fold crc_byte c) (sym (take_all 4 bytes (omega (arith, len)))) ∙ s4
+
+-- the remainder after a word more
+after_word : ℕ → List ℕ → ℕ
+after_word c word = steps 32 (bit_xor c (from_le_bytes w32 word))
+
+by_words : (n c : ℕ) (bytes : List ℕ) → length bytes ≡ 4 * n → All (λ b. b < 256) bytes → fold crc_byte c bytes ≡ fold after_word c (first_chunks 4 n bytes)
+unfolding after_word
+by_words zero c bytes len small = ap (fold crc_byte c) (nil_from_length bytes (omega (arith, len)))
+by_words (suc n) c bytes len small =
+    ap (fold crc_byte c) (sym (take-append-drop 4 bytes))
+    ∙ fold-append (take 4 bytes) (drop 4 bytes) c
+    ∙ ap (λ t. fold crc_byte t (drop 4 bytes)) (four_bytes c (take 4 bytes) (length-take-le 4 bytes (omega (arith, len))) (All-take (λ b. b < 256) 4 bytes small))
+    ∙ by_words n (after_word c (take 4 bytes)) (drop 4 bytes) (length-drop 4 bytes ∙ omega (arith, len)) (All-drop (λ b. b < 256) 4 bytes small)
+
+apart : (n c word : ℕ) → steps n (bit_xor c word) ≡ bit_xor (steps n word) (steps n c)
+unfolding steps
+apart n c word = ap (crc_steps n) (xor_comm c word) ∙ crc_steps-xor n word c
+
+later : (n c : ℕ) → steps n (steps 32 c) ≡ steps (32 + n) c
+unfolding steps
+later n c = sym (crc_steps-add 32 n c)
+
+-- four words, each by itself, the last one first
+spread : (c x y z w : ℕ) → steps 32 (bit_xor (steps 32 (bit_xor (steps 32 (bit_xor (steps 32 (bit_xor c x)) y)) z)) w) ≡ bit_xor (bit_xor (bit_xor (steps 32 w) (steps 64 z)) (steps 96 y)) (steps 128 (bit_xor c x))
+spread c x y z w =
+    let one : ℕ = bit_xor c x in
+    let two : ℕ = bit_xor (steps 32 one) y in
+    let three : ℕ = bit_xor (steps 32 two) z in
+    apart 32 (steps 32 three) w
+    ∙ ap (bit_xor (steps 32 w)) (later 32 three ∙ apart 64 (steps 32 two) z ∙ ap (bit_xor (steps 64 z)) (later 64 two ∙ apart 96 (steps 32 one) y ∙ ap (bit_xor (steps 96 y)) (later 96 one)))
+    ∙ sym (xor_assoc (bit_xor (steps 32 w) (steps 64 z)) (steps 96 y) (steps 128 (bit_xor c x)) ∙ xor_assoc (steps 32 w) (steps 64 z) (bit_xor (steps 96 y) (steps 128 (bit_xor c x))))
+
+pub sixteen_bytes : (c x y z w : ℕ) (bytes : List ℕ) (words : List (List ℕ)) → length bytes ≡ 16 → ((i : ℕ) → get_or bytes i 0 < 256) → words ≡ first_chunks 4 4 bytes
+    → x ≡ from_le_bytes w32 (get_or words 0 []) → y ≡ from_le_bytes w32 (get_or words 1 []) → z ≡ from_le_bytes w32 (get_or words 2 []) → w ≡ from_le_bytes w32 (get_or words 3 [])
+    → bit_xor (bit_xor (bit_xor (steps 32 w) (steps 64 z)) (steps 96 y)) (steps 128 (bit_xor c x)) ≡ fold crc_byte c bytes
+unfolding after_word
+sixteen_bytes c x y z w bytes words len small are x_is y_is z_is w_is =
+    let at : (i : ℕ) → from_le_bytes w32 (get_or words i []) ≡ from_le_bytes w32 (get_or (first_chunks 4 4 bytes) i []) = λ i. ap (λ (t : List (List ℕ)). from_le_bytes w32 (get_or t i [])) are in
+    let more : ℕ → ℕ → ℕ = λ t word. steps 32 (bit_xor t word) in
+    sym (spread c x y z w)
+    ∙ ap₂ more (ap₂ more (ap₂ more (ap (more c) (x_is ∙ at 0)) (y_is ∙ at 1)) (z_is ∙ at 2)) (w_is ∙ at 3)
+    ∙ sym (by_words 4 c bytes len (All-from_get_or (λ b. b < 256) bytes 0 (λ i within. small i)))
 
 pub two_bytes : (c first second : ℕ) → first < 256 → crc_byte (crc_byte c first) second ≡ steps 16 (bit_xor c (first + second * 2 ^ 8))
 two_bytes c first second small =
@@ -113,9 +134,9 @@ fold_group c groups i none below =
     ∙ fold-append (concat (take i groups)) (get_or groups i none) c
 
 -- the groups, then the rest
-pub grouped : (c n after value : ℕ) (bytes rest : List ℕ) (groups : List (List ℕ)) → groups ≡ first_chunks 8 n bytes → rest ≡ drop (n * 8) bytes
+pub grouped : (c n after value : ℕ) (bytes rest : List ℕ) (groups : List (List ℕ)) → groups ≡ first_chunks 16 n bytes → rest ≡ drop (n * 16) bytes
     → after ≡ fold crc_byte c (concat groups) → value ≡ fold crc_byte after rest → value ≡ fold crc_byte c bytes
 grouped c n after value bytes rest groups groups_are rest_is after_is value_is =
-    value_is ∙ ap (fold crc_byte after) rest_is ∙ ap (λ a. fold crc_byte a (drop (n * 8) bytes)) (after_is ∙ ap (λ (gs : List (List ℕ)). fold crc_byte c (concat gs)) groups_are)
-    ∙ sym (fold-append (concat (first_chunks 8 n bytes)) (drop (n * 8) bytes) c)
-    ∙ ap (fold crc_byte c) (ap (λ t. t ++ drop (n * 8) bytes) (concat-first_chunks 8 n bytes) ∙ take-append-drop (n * 8) bytes)
+    value_is ∙ ap (fold crc_byte after) rest_is ∙ ap (λ a. fold crc_byte a (drop (n * 16) bytes)) (after_is ∙ ap (λ (gs : List (List ℕ)). fold crc_byte c (concat gs)) groups_are)
+    ∙ sym (fold-append (concat (first_chunks 16 n bytes)) (drop (n * 16) bytes) c)
+    ∙ ap (fold crc_byte c) (ap (λ t. t ++ drop (n * 16) bytes) (concat-first_chunks 16 n bytes) ∙ take-append-drop (n * 16) bytes)

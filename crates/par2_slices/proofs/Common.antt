@@ -5,16 +5,16 @@ pub use Rattle.std.proofs.Math.Nat.{div-mul-le_self, lt_of_not-le, mul-le-mul_ri
 pub use Rattle.std.proofs.lemmas.Bool.{and_from, and_left, and_parts, and_right, cases_eq, cases_lt, eq-eqb, eqb-true, false_from_ne_true, false≢true, ne_eqb, not-false}
 pub use Rattle.std.proofs.lemmas.Bool.Decides.{same_from_decides}
 pub use Rattle.std.proofs.lemmas.Grind.{div_ceil_times, flat_map-append}
-pub use Rattle.std.proofs.lemmas.List.{append-nil, append_assoc, at_drop_all, drop_more, ext_get_or, get_or-append_right, get_or-drop, get_or-map, get_or-replicate, get_or-take, get_or_append_left, get_or_at, get_or_default, get_or_past, get_or_read, length-drop, length-map, length-replicate, length-take, length-take-le, length_push, map-append, map_more, replicate-append-replicate, take-append-drop, take-replicate, take_all, take_more}
-pub use Rattle.std.proofs.lemmas.List.Elements.{All-filter, All-from_get_or, All-get_or, All-push, All-tail}
+pub use Rattle.std.proofs.lemmas.List.{append-nil, append_assoc, at_drop_all, drop_more, ext_get_or, get_or-append_right, get_or-drop, get_or-map, get_or-replicate, get_or-take, get_or_append_left, get_or_at, get_or_default, get_or_past, get_or_read, length-drop, length-map, length-replicate, length-take, length-take-le, length_push, map-append, map_more, nil_from_length, replicate-append-replicate, take-append-drop, take-replicate, take_all, take_more}
+pub use Rattle.std.proofs.lemmas.List.Elements.{All-drop, All-filter, All-from_get_or, All-get_or, All-push, All-tail, All-take}
 pub use Rattle.std.proofs.lemmas.List.Folds.{concat-append, find-append, list_all_at, sum_by-replicate, sum_by-zero}
 pub use Rattle.std.proofs.lemmas.List.FromFn.{get_or-map-range_with_len, get_or-range_with_len, length-map-range_with_len, length-range_with_len, map-range_with_len_more}
 pub use Rattle.std.proofs.lemmas.List.Sorted.{All-permutation, Contains-permutation, IsNonDecreasingBy-from_sort_by_key}
 pub use Rattle.std.proofs.lemmas.List.Sums.{count_by-le-length, sum_by-set}
-pub use Rattle.std.proofs.lemmas.Nat.{le_bytes_4, mod-pow-add, mod_below, pow-add, pow_pos, shl_below, shr-shr, shr_below, xor_comm, xor_lt}
+pub use Rattle.std.proofs.lemmas.Nat.{le_bytes_4, mod-pow-add, mod_below, pow-add, pow_pos, shl_below, shr-shr, shr_below, xor_comm}
 pub use Rattle.std.proofs.lemmas.Slice.Eq.{bytes_eq-Decides}
 pub use Rattle.std.specs.Borrow.{Bor}
-pub use Rattle.std.specs.Int.{bit_at, bit_not, from_le_bytes, w64}
+pub use Rattle.std.specs.Int.{bit_at, bit_not, from_le_bytes, to_le_bytes, w32, w64}
 pub use Rattle.std.specs.Int.Bits.{xor_assoc, xor_zero_r}
 pub use Rattle.std.specs.List.{All, IsDistinct, concat, count_by, list_all, range_with_len}
 pub use Rattle.std.specs.List.Sorted.{IsNonDecreasingBy, IsPermutation}

@@ -12,12 +12,11 @@ ghost use Rattle.par2_slices.specs.Steps.{steps};
 use crate::tables::TABLES;
 
 /// What a byte becomes when `table` bytes more follow it.
-fn entry(table: usize, byte: usize) -> u32
-    requires table { table < 8 }
-    requires byte { byte < 256 }
+fn entry(table: usize, byte: u8) -> u32
+    requires table { table < 16 }
     ensures { result ≡ steps (8 * (table + 1)) byte }
 {
-    TABLES[table][byte]
+    TABLES[table][byte as usize]
 }
 
 /// The remainder after one more byte.
@@ -25,7 +24,7 @@ pub(crate) fn after_byte(remainder: u32, byte: u8) -> u32
     ensures { result ≡ spec.crc_byte remainder byte }
 {
     let mixed = remainder ^ byte as u32;
-    entry(0, (mixed % 256) as usize) ^ mixed >> 8
+    entry(0, (mixed % 256) as u8) ^ mixed >> 8
 }
 
 /// The remainder after two more bytes.
@@ -33,32 +32,40 @@ pub(crate) fn after_two(remainder: u32, first: u8, second: u8) -> u32
     ensures { result ≡ spec.crc_byte (spec.crc_byte remainder first) second }
 {
     let mixed = remainder ^ u16::from_le_bytes([first, second]) as u32;
-    entry(1, (mixed % 256) as usize) ^ entry(0, ((mixed >> 8) % 256) as usize) ^ mixed >> 16
+    entry(1, (mixed % 256) as u8) ^ entry(0, ((mixed >> 8) % 256) as u8) ^ mixed >> 16
 }
 
-/// The remainder after eight more bytes.
-fn after_eight(remainder: u32, bytes: &[u8; 8]) -> u32
+/// What the four bytes of a word become when `later` bytes more follow them.
+fn four_later(word: u32, later: usize) -> u32
+    requires later { later ≤ 12 }
+    ensures { result ≡ steps (8 * (later + 4)) word }
+{
+    let [first, second, third, fourth] = word.to_le_bytes();
+    entry(later, fourth)
+        ^ entry(later + 1, third)
+        ^ entry(later + 2, second)
+        ^ entry(later + 3, first)
+}
+
+/// The remainder after sixteen more bytes.
+fn after_sixteen(remainder: u32, bytes: &[u8; 16]) -> u32
     ensures { result ≡ fold spec.crc_byte remainder bytes.now }
 {
-    let word = (u64::from_le_bytes(*bytes) ^ remainder as u64) as usize;
-    // The last four bytes come first: they don't hang on the remainder, so their sum is there before it.
-    entry(3, (word >> 32) % 256)
-        ^ entry(2, (word >> 40) % 256)
-        ^ entry(1, (word >> 48) % 256)
-        ^ entry(0, word >> 56)
-        ^ entry(7, word % 256)
-        ^ entry(6, (word >> 8) % 256)
-        ^ entry(5, (word >> 16) % 256)
-        ^ entry(4, (word >> 24) % 256)
+    let (words, _) = bytes.as_chunks::<4>();
+    // The words that don't hang on the remainder come first: their sum is there before it.
+    four_later(u32::from_le_bytes(words[3]), 0)
+        ^ four_later(u32::from_le_bytes(words[2]), 4)
+        ^ four_later(u32::from_le_bytes(words[1]), 8)
+        ^ four_later(remainder ^ u32::from_le_bytes(words[0]), 12)
 }
 
-/// The remainder after some groups of eight bytes more.
-fn after_groups(remainder: u32, groups: &[[u8; 8]]) -> u32
+/// The remainder after some groups of sixteen bytes more.
+fn after_groups(remainder: u32, groups: &[[u8; 16]]) -> u32
     ensures { result ≡ fold spec.crc_byte remainder (concat groups.now) }
 {
     let mut after = remainder;
     for group in groups {
-        after = after_eight(after, group);
+        after = after_sixteen(after, group);
     }
     after
 }
@@ -67,7 +74,7 @@ fn after_groups(remainder: u32, groups: &[[u8; 8]]) -> u32
 pub(crate) fn after_bytes(remainder: u32, bytes: &[u8]) -> u32
     ensures { result ≡ fold spec.crc_byte remainder bytes.now }
 {
-    let (groups, rest) = bytes.as_chunks::<8>();
+    let (groups, rest) = bytes.as_chunks::<16>();
     let mut after = after_groups(remainder, groups);
     for &byte in rest {
         after = after_byte(after, byte);

@@ -8,4 +8,4 @@ loop-byte-preserved c =
 
 pub returns : goal.returns
 returns c =
-    grouped c.args.remainder (length c.args.bytes.now / 8) c.after_groups-after.result c.loop-byte.after c.args.bytes.now c.as_chunks.result.1.now c.as_chunks.result.0.now c.as_chunks.ensures.front c.as_chunks.ensures.back c.after_groups-after.ensures (c.loop-byte.invariant ∙ ap (fold crc_byte c.after_groups-after.result) (take_all c.loop-byte.byte-index c.as_chunks.result.1.now c.loop-byte-test.false))
+    grouped c.args.remainder (length c.args.bytes.now / 16) c.after_groups-after.result c.loop-byte.after c.args.bytes.now c.as_chunks.result.1.now c.as_chunks.result.0.now c.as_chunks.ensures.front c.as_chunks.ensures.back c.after_groups-after.ensures (c.loop-byte.invariant ∙ ap (fold crc_byte c.after_groups-after.result) (take_all c.loop-byte.byte-index c.as_chunks.result.1.now c.loop-byte-test.false))
