@@ -20,11 +20,6 @@ next_target factor source old mid new from to n c so_far is changed added = reco
   rest = λ r h. changed.others r (λ e. omega arith) ∙ so_far.rest r (omega arith);
 }
 
--- a target that is not yet reached has room
-pub room_kept : (factor : ℕ → ℕ) (source : List ℕ) (old mid : List (List ℕ)) (from to n m : ℕ) → AddsSource factor source old mid from to n
-    → ((r : ℕ) → r < m → 2 * to ≤ length (list_at old r)) → n < m → 2 * to ≤ length (list_at mid n)
-room_kept factor source old mid from to n m so_far room low = subst (λ xs. 2 * to ≤ length xs) (sym (so_far.rest n (omega arith))) (room n low)
-
 -- an empty source adds nothing
 pub empty_source : (factor : ℕ → ℕ) (source : List ℕ) (old : List (List ℕ)) (from to n : ℕ) → length source ≡ 0 → AddsSource factor source old old from to n
 empty_source factor source old from to n none = record {
@@ -85,16 +80,6 @@ next_source factors sources old mid new from to n so_far added = record {
     more : (m : ℕ) (f : ℕ → ℕ) → bit_xor (field_sum m f) (f m) ≡ field_sum (m + 1) f
     more m f = let e : suc m ≡ m + 1 = omega arith in ap (λ x. field_sum x f) e
 
--- nothing was added in no columns
-pub no_columns : (factors sources old : List (List ℕ)) (at n : ℕ) → Adds factors sources old old at at n
-no_columns factors sources old at n = record {
-  count = refl;
-  sizes = λ r. refl;
-  inside = λ r p low from_here to_here fits. absurd (omega arith);
-  below = λ r p h. refl;
-  above = λ r p h. refl;
-}
-
 -- columns after columns
 pub more_columns : (factors sources old mid new : List (List ℕ)) (a b d n : ℕ) → a ≤ b → b ≤ d → Adds factors sources old mid a b n → Adds factors sources mid new b d n
     → Adds factors sources old new a d n
@@ -117,8 +102,3 @@ pub more_blocks : (factors sources old mid new : List (List ℕ)) (from to at ne
 more_blocks factors sources old mid new from to at next n e f order first second =
     more_columns factors sources old mid new 0 at next n (omega arith) order first
     (subst (λ x. Adds factors sources mid new x next n) e (subst (λ x. Adds factors sources mid new from x n) f second))
-
--- the targets have the same room as before
-pub same_room : (factors sources old mid : List (List ℕ)) (from to n m bound : ℕ) → Adds factors sources old mid from to n
-    → ((r : ℕ) → r < m → bound ≤ length (list_at old r)) → (r : ℕ) → r < m → bound ≤ length (list_at mid r)
-same_room factors sources old mid from to n m bound so_far room r low = omega (arith, so_far.sizes r, room r low)

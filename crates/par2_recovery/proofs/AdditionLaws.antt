@@ -1,5 +1,5 @@
 -- Recovery slices, added to texts.
-use Rattle.par2_recovery.proofs.Common.{inl, inr, ℕ, ◌+◌, ◌-◌, ◌*◌, ◌<◌, ◌≤◌, ◌≡◌, refl, sym, ap, ap₂, ◌∙◌, subst, arith, List, [], length, drop, get_or, map, bit_xor, zero-add, take, range_with_len, xor_zero_l, cases_lt, length-map, get_or-map, get_or-take, get_or-drop, get_or_past, length-take-le, length-drop, get_or-map-range_with_len, mul, coefficient, padded, word, coefficients, recovery, list_at, product_comm, product-one, word-lt, field_sum_same, within, place_at, AddsAt, AddsToEach, AreApart, LieWithin, recovered, adds_none, adds_more, adds_same, within-in, within-above, within_joined, within_same, length-group, adds_to_group, AreBytes, products, all_coefficients, window, AreProducts}
+use Rattle.par2_recovery.proofs.Common.{inl, inr, ℕ, ◌+◌, ◌-◌, ◌*◌, ◌<◌, ◌≤◌, ◌≡◌, refl, sym, ap, ap₂, ◌∙◌, subst, arith, List, [], length, drop, get_or, map, bit_xor, zero-add, take, range_with_len, xor_zero_l, cases_lt, length-map, get_or-map, get_or-take, get_or-drop, get_or_past, length-take-le, length-drop, get_or-map-range_with_len, mul, coefficient, padded, word, coefficients, recovery, list_at, product_comm, product-one, word-lt, field_sum_same, within, place_at, AddsAt, AreApart, LieWithin, recovered, adds_none, adds_more, adds_same, within-in, within-above, within_joined, within_same, length-group, adds_to_group, AreBytes, products, all_coefficients, window, AreProducts}
 use Rattle.par2_transform.specs.declared.outputs.Place.{Place}
 use Rattle.par2_recovery.specs.Writing.{output_at, AreWritten, AreZeros}
 use Rattle.par2_recovery.proofs.Combinations.{blank_word, recovered_by_words}
@@ -24,14 +24,6 @@ products_are n len exponents rows slices old new places rows_are e many added =
     entry t low k here =
         ap (λ xs. get_or (list_at xs t) k 0) rows_are ∙ ap (λ xs. get_or xs k 0) (row_at n exponents t low)
         ∙ get_or-map-range_with_len (coefficient (get_or exponents t 0)) 0 n k k 0 (omega (arith, e, here)) (zero-add k)
-
--- the exponents of a run
-pub run_exponents : (first len : ℕ) (exponents : List ℕ) (slices old new : List (List ℕ)) (places : List Place) → length exponents ≡ length places
-    → ((j : ℕ) → j < length exponents → get_or exponents j 0 ≡ first + j)
-    → AddsAt places len (λ t p. recovered slices (first + t) p) old new → AddsAt places len (λ t p. recovered slices (get_or exponents t 0) p) old new
-run_exponents first len exponents slices old new places many run added =
-    adds_same places len (λ t p. recovered slices (first + t) p) (λ t p. recovered slices (get_or exponents t 0) p) old new added
-    (λ t p low _. ap (λ n. recovered slices n p) (sym (run t (omega (arith, many, low)))))
 
 -- ---- sums that are added
 

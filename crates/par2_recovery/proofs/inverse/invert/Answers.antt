@@ -2,10 +2,9 @@ use Rattle.par2_recovery.proofs.Common.{◌∙◌, sym, arith, length, List, ℕ
 use Rattle.par2_recovery.proofs.Beginnings.{front_within, has_run_front, kept_slices_front, recovered_front, exponents_front}
 use Rattle.par2_recovery.proofs.Inverting.{length-recovered_of}
 use Rattle.par2_recovery.proofs.Runs.{are_slices}
-use Rattle.par2_recovery.proofs.inverse.invert.Goals.{In-Some}
 use Rattle.par2_recovery.proofs.inverse.invert.Goals as goal
 
-run : (c : In-Some) → BeginsWithRun c.in-Some.first (length c.args.lost.now) (exponents_of c.args.recovery.now)
+run : (c : goal.In-Some) → BeginsWithRun c.in-Some.first (length c.args.lost.now) (exponents_of c.args.recovery.now)
 run c = rw (c.deref.ensures.value, c.in_ok-exponents.ensures) at c.in-Some.ensures.run
 
 pub slice_bounds-from_slice-end : goal.slice_bounds-from_slice-end
@@ -34,15 +33,3 @@ pub returns-clause-enough : goal.returns-clause-enough
 returns-clause-enough c = λ _.
     let at = (goal.at.returns-clause-enough c).In-Some in
     run_determines c.args.lost.now (exponents_of c.args.recovery.now) c.in-Some.first (are_slices c.args.lost.now c.requires.rise c.requires.lost) (has_run_front (exponents_of c.args.recovery.now) c.in-Some.first (length c.args.lost.now) (run at))
-
-pub invert_by_elimination-requires-clause-count : goal.invert_by_elimination-requires-clause-count
-invert_by_elimination-requires-clause-count c = c.requires.count
-
-pub invert_by_elimination-requires-clause-lost : goal.invert_by_elimination-requires-clause-lost
-invert_by_elimination-requires-clause-lost c = c.requires.lost
-
-pub invert_by_elimination-requires-clause-exponents : goal.invert_by_elimination-requires-clause-exponents
-invert_by_elimination-requires-clause-exponents c = c.requires.exponents
-
-pub run_at_front-requires : goal.run_at_front-requires
-run_at_front-requires c = rw (c.deref.ensures.value, c.in_ok-exponents.ensures) c.requires.exponents

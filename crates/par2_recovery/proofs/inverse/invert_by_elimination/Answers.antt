@@ -14,12 +14,3 @@ returns-in-Ok-clause-enough c = λ _. c.in_ok-kept.ensures.repairable.0 (c.rank-
 pub returns-clause-refused : goal.returns-clause-refused
 returns-clause-refused c =
     (refl, c.rank-rank.ensures.value ∙ c.in_ok-kept.ensures.rank, λ can. false≢true (c.in-Err.ensures.when.1 (sym c.rank-rank.ensures.value ∙ c.rank-rank.ensures.full.1 (c.in_ok-kept.ensures.repairable.1 can))))
-
-pub eliminate-requires-clause-count : goal.eliminate-requires-clause-count
-eliminate-requires-clause-count c = c.requires.count
-
-pub eliminate-requires-clause-lost : goal.eliminate-requires-clause-lost
-eliminate-requires-clause-lost c = c.requires.lost
-
-pub eliminate-requires-clause-exponents : goal.eliminate-requires-clause-exponents
-eliminate-requires-clause-exponents c = c.requires.exponents

@@ -1,8 +1,7 @@
 use Rattle.par2_recovery.proofs.Common.{ℕ, ◌≡◌, ◌+◌, ◌*◌, ◌∙◌, ap, ap₂, arith, rules, length, replicate, length-replicate, with_items_is, word, zeros_read}
-use Rattle.par2_recovery.proofs.inverse.unit.Goals.{After-as_mut_slice}
 use Rattle.par2_recovery.proofs.inverse.unit.Goals as goal
 
-zeros : (c : After-as_mut_slice) → c.as_mut_slice.result.now ≡ replicate (2 * c.args.n) 0
+zeros : (c : goal.After-as_mut_slice) → c.as_mut_slice.result.now ≡ replicate (2 * c.args.n) 0
 zeros c = c.as_mut_slice.ensures.value ∙ c.in_ok-text.ensures.items_if_clones_equal (λ y h. search rules)
 
 pub returns-then-i-n-clause-unit : goal.returns-then-i-n-clause-unit

@@ -18,8 +18,5 @@ returns c =
     (products_added (c.args.size / 2) (length c.args.factors.now) (lists_of c.args.factors.now) (texts_of c.args.sources.now) (lists_of c.in_ok-sums.sums.items) (lists_of new) (sym (length-lists_of c.args.factors.now)) (rw whole at c.in_ok-sums.ensures)
     (rw (c.as_mut_slice.ensures.value, ← length-texts_of c.args.sources.now) at c.in_ok-add_products.ensures))
 
-pub add_products-requires-clause-factors : goal.add_products-requires-clause-factors
-add_products-requires-clause-factors c = c.requires.factors
-
 pub add_products-requires-clause-rows : goal.add_products-requires-clause-rows
 add_products-requires-clause-rows c = rw c.as_mut_slice.ensures.value (sym c.in_ok-sums.ensures.count ∙ length-lists_of c.in_ok-sums.sums.items)

@@ -2,9 +2,6 @@ use Rattle.par2_recovery.proofs.Common.{◌≡◌, arith, length}
 use Rattle.par2_recovery.proofs.RunInverses.{scaled_push}
 use Rattle.par2_recovery.proofs.run_inverse.inverse_rows.Goals as goal
 
-pub inverse_row-requires : goal.inverse_row-requires
-inverse_row-requires c = c.requires c.loop-j.j c.loop-j-test.true
-
 pub loop-j-preserved : goal.loop-j-preserved
 loop-j-preserved c =
     rw c.in_ok-push.ensures.items
