@@ -1,11 +1,12 @@
 use Rattle.par2_recovery.proofs.Common.{◌≤◌, ◌-◌, ◌∙◌, get_or, sym, ap, arith, length, drop, recovered, length-take-le, length-drop, lists_of, still_within, group_within, length-group, texts_of}
 use Rattle.par2_recovery.proofs.AdditionLaws.{none_added, adds_group, all_added}
+use Rattle.par2_recovery.proofs.additions.add_recovery.Goals.{After-group_end-to}
 use Rattle.par2_recovery.proofs.additions.add_recovery.Goals as goal
 
-order : (c : goal.After-group_end-to) → c.loop-at.at ≤ c.group_end-to.result
+order : (c : After-group_end-to) → c.loop-at.at ≤ c.group_end-to.result
 order c = omega (arith, c.group_end-to.ensures.beyond)
 
-fits : (c : goal.After-group_end-to) → c.group_end-to.result ≤ length c.args.outputs.now.places.now
+fits : (c : After-group_end-to) → c.group_end-to.result ≤ length c.args.outputs.now.places.now
 fits c = omega (arith, c.group_end-to.ensures.within, c.requires.count)
 
 pub loop-at-init : goal.loop-at-init

@@ -2,9 +2,10 @@ use Rattle.par2_recovery.proofs.Common.{◌∙◌, sym, arith, length, List, ℕ
 use Rattle.par2_recovery.proofs.Beginnings.{front_within, has_run_front, kept_slices_front, recovered_front, exponents_front}
 use Rattle.par2_recovery.proofs.Inverting.{length-recovered_of}
 use Rattle.par2_recovery.proofs.Runs.{are_slices}
+use Rattle.par2_recovery.proofs.inverse.invert.Goals.{In-Some}
 use Rattle.par2_recovery.proofs.inverse.invert.Goals as goal
 
-run : (c : goal.In-Some) → BeginsWithRun c.in-Some.first (length c.args.lost.now) (exponents_of c.args.recovery.now)
+run : (c : In-Some) → BeginsWithRun c.in-Some.first (length c.args.lost.now) (exponents_of c.args.recovery.now)
 run c = rw (c.deref.ensures.value, c.in_ok-exponents.ensures) at c.in-Some.ensures.run
 
 pub slice_bounds-from_slice-end : goal.slice_bounds-from_slice-end

@@ -1,12 +1,13 @@
 use Rattle.par2_recovery.proofs.Common.{◌≡◌, ◌∙◌, refl, sym, ap, rules, IfErr, IsTrueFault, lost_from, exponents_of, lost, known_among}
 use Rattle.par2_recovery.proofs.Beginnings.{lost_rise}
 use Rattle.par2_recovery.proofs.Rebuilding.{lost_are, lost-lt, length-lost_from}
+use Rattle.par2_recovery.proofs.rebuild_slices.rebuild.Goals.{After-deref-3}
 use Rattle.par2_recovery.proofs.rebuild_slices.rebuild.Goals as goal
 
-missing_are : (c : goal.After-deref-3) → c.deref-2.result.now ≡ lost_from 0 c.args.survivors.now.known.items
+missing_are : (c : After-deref-3) → c.deref-2.result.now ≡ lost_from 0 c.args.survivors.now.known.items
 missing_are c = c.deref-2.ensures.value ∙ c.in_ok-lost.ensures ∙ ap (lost_from 0) c.deref.ensures.value
 
-are_lost : (c : goal.After-deref-3) → c.deref-2.result.now ≡ lost (known_among c.args.survivors.now)
+are_lost : (c : After-deref-3) → c.deref-2.result.now ≡ lost (known_among c.args.survivors.now)
 are_lost c = missing_are c ∙ sym (lost_are c.args.survivors.now.slice c.args.survivors.now.known.items)
 
 pub invert-requires-clause-count : goal.invert-requires-clause-count

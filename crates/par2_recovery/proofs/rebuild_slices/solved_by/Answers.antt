@@ -3,18 +3,19 @@ use Rattle.par2_recovery.proofs.Combinations.{length-texts_of}
 use Rattle.par2_recovery.proofs.Finishing.{answer, inverse_long}
 use Rattle.par2_recovery.proofs.Inverting.{length-recovered_of, many_texts}
 use Rattle.par2_recovery.proofs.Rebuilding.{lost_are}
+use Rattle.par2_recovery.proofs.rebuild_slices.solved_by.Goals.{After-deref-7}
 use Rattle.par2_recovery.proofs.rebuild_slices.solved_by.Goals as goal
 
-exponents_are : (c : goal.After-deref-7) → c.deref-5.result.now ≡ exponents_of c.args.found.now.kept.items
+exponents_are : (c : After-deref-7) → c.deref-5.result.now ≡ exponents_of c.args.found.now.kept.items
 exponents_are c = c.deref-5.ensures.value ∙ c.in_ok-exponents.ensures ∙ ap exponents_of c.deref.ensures.value
 
-recovery_are : (c : goal.After-deref-7) → texts_of c.deref-6.result.now ≡ map (λ r. r.1) (recovered_of c.args.found.now.kept.items)
+recovery_are : (c : After-deref-7) → texts_of c.deref-6.result.now ≡ map (λ r. r.1) (recovered_of c.args.found.now.kept.items)
 recovery_are c = ap texts_of c.deref-6.ensures.value ∙ c.in_ok-recovery.ensures ∙ ap (λ ks. map (λ (r : ℕ × List ℕ). r.1) (recovered_of ks)) c.deref-2.ensures.value
 
-slices_are : (c : goal.After-deref-7) → texts_of c.deref-7.result.now ≡ map bytes_or_none c.args.survivors.now.known.items
+slices_are : (c : After-deref-7) → texts_of c.deref-7.result.now ≡ map bytes_or_none c.args.survivors.now.known.items
 slices_are c = ap texts_of c.deref-7.ensures.value ∙ c.in_ok-slices.ensures ∙ ap (map bytes_or_none) c.deref-3.ensures.value
 
-many : (c : goal.After-deref-7) → length c.deref-6.result.now ≡ length c.args.found.now.kept.items
+many : (c : After-deref-7) → length c.deref-6.result.now ≡ length c.args.found.now.kept.items
 many c = many_texts c.args.found.now.kept.items c.deref-6.result.now (recovery_are c)
 
 pub solved-requires-clause-inverse : goal.solved-requires-clause-inverse

@@ -1,4 +1,3 @@
-use Rattle.par2_recovery.proofs.Common.{◌≡◌, arith, length}
 use Rattle.par2_recovery.proofs.RunInverses.{scaled_push}
 use Rattle.par2_recovery.proofs.run_inverse.inverse_rows.Goals as goal
 
@@ -6,8 +5,3 @@ pub loop-j-preserved : goal.loop-j-preserved
 loop-j-preserved c =
     rw c.in_ok-push.ensures.items
     (scaled_push c.args.first c.args.p.now c.args.points.now c.loop-j.rows.items c.in_ok-inverse_row.field-0 c.loop-j.j c.loop-j.invariant c.in_ok-inverse_row.ensures)
-
-pub returns : goal.returns
-returns c =
-    let at_end : c.loop-j.j ≡ length c.args.points.now = omega (arith, c.loop-j-test.false, c.loop-j.auto.j-end) in
-    rw at_end at c.loop-j.invariant

@@ -1,5 +1,6 @@
 use Rattle.par2_recovery.proofs.Common.{IfOk-weaker, ◌≡◌, ◌<◌, ◌∷◌, [], ◌∙◌, ℕ, List, refl, ap, ap₂, arith, length, map, all_at, length-map, product-one, pow, constant, coefficient, coefficients, lists_of, constant-lt}
 use Rattle.par2_recovery.proofs.RunInverses.{at_itself, is_inverse}
+use Rattle.par2_recovery.proofs.run_inverse.run_inverse.Goals.{After-as_slice-points}
 use Rattle.par2_recovery.proofs.run_inverse.run_inverse.Goals as goal
 
 -- the coefficients at exponent 1 are the constants
@@ -8,7 +9,7 @@ unfolding coefficient pow
 first_powers [] = refl
 first_powers (k ∷ slices) = ap₂ (λ (c : ℕ) cs. c ∷ cs) (product-one (constant k) (constant-lt k)) (first_powers slices)
 
-points_are : (c : goal.After-as_slice-points) → c.as_slice-points.result.now ≡ map constant c.args.lost.now
+points_are : (c : After-as_slice-points) → c.as_slice-points.result.now ≡ map constant c.args.lost.now
 points_are c = c.as_slice-points.ensures.value ∙ c.in_ok-constants.ensures ∙ first_powers c.args.lost.now
 
 pub coefficients-requires : goal.coefficients-requires

@@ -30,11 +30,6 @@ loop-from-init c = record {
   within = omega arith;
 }
 
-pub returns-clause-solved : goal.returns-clause-solved
-returns-clause-solved c =
-    let all : c.loop-from.from ≡ c.args.size = omega (arith, c.loop-from-test.false, c.loop-from.invariant.within) in
-    rw all at c.loop-from.invariant.solved
-
 pub extend-requires : goal.extend-requires
 extend-requires c =
     rw (c.deref.ensures.value, c.as_mut_slice.ensures.value)

@@ -1,18 +1,19 @@
 use Rattle.par2_recovery.proofs.Common.{◌≡◌, ◌<◌, ◌≤◌, ◌∙◌, ℕ, sym, ap, subst, arith, length, map, IfOk-weaker, list_at, lists_of, window, AreProducts, AreSolved, texts_of}
 use Rattle.par2_recovery.proofs.Combinations.{length-texts_of}
 use Rattle.par2_recovery.proofs.Solving.{many_windows, window_size, words_solved}
+use Rattle.par2_recovery.proofs.syndromes.solved_block.Goals.{After-deref-2}
 use Rattle.par2_recovery.proofs.syndromes.solved_block.Goals as goal
 
-recovery_are : (c : goal.After-deref-2) → texts_of c.deref-2.result.now ≡ map (window c.args.from c.args.count) (texts_of c.args.recovery.now)
+recovery_are : (c : After-deref-2) → texts_of c.deref-2.result.now ≡ map (window c.args.from c.args.count) (texts_of c.args.recovery.now)
 recovery_are c = ap texts_of c.deref-2.ensures.value ∙ c.in_ok-recovery.ensures
 
-slices_are : (c : goal.After-deref-2) → texts_of c.deref.result.now ≡ map (window c.args.from c.args.count) (texts_of c.args.slices.now)
+slices_are : (c : After-deref-2) → texts_of c.deref.result.now ≡ map (window c.args.from c.args.count) (texts_of c.args.slices.now)
 slices_are c = ap texts_of c.deref.ensures.value ∙ c.in_ok-slices.ensures
 
-many : (c : goal.After-deref-2) → length c.deref-2.result.now ≡ length c.args.recovery.now
+many : (c : After-deref-2) → length c.deref-2.result.now ≡ length c.args.recovery.now
 many c = many_windows c.args.from c.args.count c.args.recovery.now c.deref-2.result.now (recovery_are c)
 
-sizes : (c : goal.After-deref-2) (j : ℕ) → j < length (texts_of c.deref-2.result.now) → length (list_at (texts_of c.deref-2.result.now) j) ≡ c.args.count
+sizes : (c : After-deref-2) (j : ℕ) → j < length (texts_of c.deref-2.result.now) → length (list_at (texts_of c.deref-2.result.now) j) ≡ c.args.count
 sizes c j h = window_size c.args.from c.args.count (texts_of c.args.recovery.now) (texts_of c.deref-2.result.now) (recovery_are c)
     (λ i low. c.requires.size i (let n = length-texts_of c.args.recovery.now in omega (arith, low, n))) j h
 

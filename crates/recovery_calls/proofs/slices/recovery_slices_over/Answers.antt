@@ -6,9 +6,10 @@ use Rattle.par2_transform.specs.Adding.{AreWholeTexts}
 use Rattle.par2_transform.proofs.WholeTexts.{whole_within}
 use Rattle.par2_recovery.specs.Views.{texts_of}
 use Rattle.recovery_calls.proofs.OwnTexts.{words_are, zeros_are, recovery_slices_are}
+use Rattle.recovery_calls.proofs.slices.recovery_slices_over.Goals.{After-as_mut_slice}
 use Rattle.recovery_calls.proofs.slices.recovery_slices_over.Goals as goal
 
-halves : (c : goal.After-as_mut_slice) → c.args.size ≡ 2 * (c.args.size / 2)
+halves : (c : After-as_mut_slice) → c.args.size ≡ 2 * (c.args.size / 2)
 halves c = omega (arith, c.requires.even)
 
 pub write_recovery_slices-requires-clause-count : goal.write_recovery_slices-requires-clause-count

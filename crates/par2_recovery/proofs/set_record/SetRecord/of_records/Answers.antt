@@ -1,9 +1,10 @@
 use Rattle.par2_recovery.proofs.Common.{◌≡◌, rules, length, with_items_is, files_of, file_record_of, with_items}
 use Rattle.std.proofs.lemmas.List.Sorted.{IsPermutation-map}
 use Rattle.par2_recovery.proofs.Records.{in_order, files_of_records}
+use Rattle.par2_recovery.proofs.set_record.SetRecord.of_records.Goals.{In_ok-sort_ids}
 use Rattle.par2_recovery.proofs.set_record.SetRecord.of_records.Goals as goal
 
-sorted : (c : goal.In_ok-sort_ids) → (with_items c.args.files c.sort_ids.new.files).items ≡ c.sort_ids.new.files
+sorted : (c : In_ok-sort_ids) → (with_items c.args.files c.sort_ids.new.files).items ≡ c.sort_ids.new.files
 sorted c = let size : length c.sort_ids.new.files ≡ c.args.files.len = search rules in with_items_is c.args.files c.sort_ids.new.files size
 
 pub returns-clause-rising : goal.returns-clause-rising
