@@ -1,12 +1,6 @@
 use Rattle.par2_recovery.proofs.Common.{◌<◌, inl, inr, sym, subst, get_or, arith, [], cases_eq, cases_lt, get_or_past, list_at, lists_of, length-lists_of}
 use Rattle.par2_recovery.proofs.products.fit_lists.Goals as goal
 
-pub loop-i-preserved : goal.loop-i-preserved
-loop-i-preserved c = λ r k h. elim (cases_eq r c.loop-i.i) [
-  | inl same ↦ subst (λ m. get_or (list_at (lists_of c.args.texts.now) m) k 0 < 256) (sym same) (subst (λ xs. get_or xs k 0 < 256) c.text_at.ensures (c.fit_bytes.ensures k))
-  | inr other ↦ c.loop-i.invariant r k (omega arith)
-]
-
 pub returns : goal.returns
 returns c = λ r k. elim (cases_lt r c.loop-i.i) [
   | inl low ↦ c.loop-i.invariant r k low

@@ -12,9 +12,6 @@ first_powers (k ∷ slices) = ap₂ (λ (c : ℕ) cs. c ∷ cs) (product-one (co
 points_are : (c : After-as_slice-points) → c.as_slice-points.result.now ≡ map constant c.args.lost.now
 points_are c = c.as_slice-points.ensures.value ∙ c.in_ok-constants.ensures ∙ first_powers c.args.lost.now
 
-pub coefficients-requires : goal.coefficients-requires
-coefficients-requires c = all_at (λ k. k < 32768) 0 (omega arith) c.args.lost.now c.requires.below
-
 pub inverse_rows-requires : goal.inverse_rows-requires
 inverse_rows-requires c = λ j h.
     let are = points_are (goal.at.inverse_rows-requires c).After-as_slice-points in

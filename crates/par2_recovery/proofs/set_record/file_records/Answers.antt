@@ -20,8 +20,3 @@ loop-i-preserved c =
     rw c.in_ok-push.ensures.items
     (record_push c.args.s c.args.folder.now.files c.args.names.now c.loop-i.i c.loop-i.records.items c.in_ok-file_record_by_md5.field-0 c.as_str-name.result.now c.bytes_of-bytes.result.now
     c.loop-i-test.true (named (goal.at.loop-i-preserved c).After-as_str-name) c.bytes_of-bytes.ensures c.loop-i.invariant c.in_ok-file_record_by_md5.ensures)
-
-pub returns : goal.returns
-returns c =
-    let files = c.args.folder.now.files in
-    c.loop-i.invariant ∙ ap (λ ns. map (record_of c.args.s) (files_of files ns)) (take_all c.loop-i.i c.args.names.now (omega (arith, c.loop-i-test.false)))
