@@ -1,24 +1,5 @@
 -- The loops that add products.
-use Rattle.par2_recovery.proofs.Common.{ℕ, suc, ◌+◌, ◌*◌, ◌<◌, ◌≤◌, ◌≡◌, inl, inr, refl, sym, ap, ap₂, ◌∙◌, subst, arith, List, length, get_or, bit_xor, cases_eq, cases_lt, xor_assoc, xor_zero_r, get_or_past, product-zero, mul, word, list_at, OneChanged, field_sum, AddsSource, Adds, products}
-use Rattle.par2_gf16.specs.Steps.{AddsWithin}
-
--- nothing was added to any target yet
-pub no_target : (factor : ℕ → ℕ) (source : List ℕ) (old : List (List ℕ)) (from to : ℕ) → AddsSource factor source old old from to 0
-no_target factor source old from to = record { count = refl; done = λ r h. absurd (omega arith); rest = λ r h. refl }
-
--- one target more
-pub next_target : (factor : ℕ → ℕ) (source : List ℕ) (old mid new : List (List ℕ)) (from to n c : ℕ) → AddsSource factor source old mid from to n → c ≡ factor n
-    → OneChanged mid new n → AddsWithin c source (list_at mid n) (list_at new n) from to → AddsSource factor source old new from to (n + 1)
-next_target factor source old mid new from to n c so_far is changed added = record {
-  count = changed.count ∙ so_far.count;
-  done = λ r h. elim (cases_eq r n) [
-    | inl same ↦ subst (λ x. AddsWithin (factor x) source (list_at old x) (list_at new x) from to) (sym same)
-        (subst (λ xs. AddsWithin (factor n) source xs (list_at new n) from to) (so_far.rest n (omega arith))
-        (subst (λ x. AddsWithin x source (list_at mid n) (list_at new n) from to) is added))
-    | inr other ↦ subst (λ xs. AddsWithin (factor r) source (list_at old r) xs from to) (sym (changed.others r other)) (so_far.done r (omega arith))
-  ];
-  rest = λ r h. changed.others r (λ e. omega arith) ∙ so_far.rest r (omega arith);
-}
+use Rattle.par2_recovery.proofs.Common.{ℕ, suc, ◌+◌, ◌*◌, ◌<◌, ◌≤◌, ◌≡◌, inl, inr, refl, sym, ap, ap₂, ◌∙◌, subst, arith, List, length, get_or, bit_xor, cases_lt, xor_assoc, xor_zero_r, get_or_past, product-zero, mul, word, list_at, field_sum, AddsSource, Adds, products}
 
 -- an empty source adds nothing
 pub empty_source : (factor : ℕ → ℕ) (source : List ℕ) (old : List (List ℕ)) (from to n : ℕ) → length source ≡ 0 → AddsSource factor source old old from to n

@@ -37,10 +37,6 @@ FirstAdded places len n other was texts = AddsAt places len (λ t p. within 0 n 
 pub none_added : (places : List Place) (len : ℕ) (other : ℕ → ℕ → ℕ) (texts : List (List ℕ)) → FirstAdded places len 0 other texts texts
 none_added places len other texts = adds_none places len (λ t p. within 0 0 t (other t p)) texts (λ t p. within-above 0 0 t (other t p) (omega arith))
 
-pub all_added : (places : List Place) (len n : ℕ) (other : ℕ → ℕ → ℕ) (was texts : List (List ℕ)) → length places ≤ n → FirstAdded places len n other was texts → AddsAt places len other was texts
-all_added places len n other was texts enough added =
-    adds_same places len (λ t p. within 0 n t (other t p)) other was texts added (λ t p low _. within-in 0 n t (other t p) (omega arith) (omega (arith, low, enough)))
-
 pub next_sum : (places : List Place) (len from to n : ℕ) (row : List ℕ) (sums was half texts : List (List ℕ)) → row ≡ list_at sums n → AreBytes sums → FirstAdded places len n (sum_word from to sums) was half
     → AddsAt places len (λ t p. within n (n + 1) t (within from to p (mul 1 (word (p - from) row)))) half texts → FirstAdded places len (n + 1) (sum_word from to sums) was texts
 next_sum places len from to n row sums was half texts is bytes so_far added =
@@ -76,9 +72,6 @@ sums_are places len from to n rows slices windows sums was texts order are n_is 
 
 abbrev pub ColumnsAdded : List Place → (len n : ℕ) (other : ℕ → ℕ → ℕ) (was texts : List (List ℕ)) → Type 0
 ColumnsAdded places len n other was texts = AddsAt places len (λ t p. within 0 n p (other t p)) was texts
-
-pub no_columns_yet : (places : List Place) (len : ℕ) (other : ℕ → ℕ → ℕ) (texts : List (List ℕ)) → ColumnsAdded places len 0 other texts texts
-no_columns_yet places len other texts = adds_none places len (λ t p. within 0 0 p (other t p)) texts (λ t p. within-above 0 0 p (other t p) (omega arith))
 
 pub next_columns : (places : List Place) (len from to : ℕ) (other : ℕ → ℕ → ℕ) (was half texts : List (List ℕ)) → from ≤ to → ColumnsAdded places len from other was half
     → AddsAt places len (λ t p. within from to p (other t p)) half texts → ColumnsAdded places len to other was texts

@@ -54,10 +54,6 @@ pub kept_more : {A : Type 0} (p : A → Bool) (xs : List A) (i : ℕ) (d : A) (b
     → filter p (take (i + 1) xs) ≡ filter p (take i xs) ++ cond b (get_or xs i d ∷ []) []
 kept_more p xs i d b h e = filter_more p xs i d h ∙ ap (λ c. filter p (take i xs) ++ cond c (get_or xs i d ∷ []) []) e
 
-pub none_offered : (lost all : List ℕ) (n b : ℕ) → n ≡ length lost → Eliminated lost all 0 (systems.no_equations n b)
-none_offered lost [] n b e = record { columns = e; kills = λ v is. ((λ h. h), (λ h. h)); rank = refl }
-none_offered lost (x ∷ all) n b e = record { columns = e; kills = λ v is. ((λ h. h), (λ h. h)); rank = refl }
-
 -- the row of exponent i among the smaller ones
 is_kept_at : (lost all : List ℕ) (i : ℕ) → IsStrictlyIncreasing all → i < length all
     → is_kept lost all (get_or all i 0) ≡ is_independent (length lost) (map (coefficients lost) (take i all)) (coefficients lost (get_or all i 0))

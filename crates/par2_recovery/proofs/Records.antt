@@ -23,11 +23,6 @@ digest_at_name folder names md5s i d is low =
     ∙ get_or-map md5 (map (bytes_of folder) names) i [] d (omega (arith, low, many))
     ∙ ap md5 (get_or-map (bytes_of folder) names i [] [] low)
 
--- as many digests as names
-pub many_digests : (folder : Folder) (names md5s : List (List ℕ)) → md5s ≡ map md5 (map (bytes_of folder) names) → length md5s ≡ length names
-many_digests folder names md5s is =
-    ap length is ∙ length-map (map (bytes_of folder) names) md5 ∙ length-map names (bytes_of folder)
-
 -- records of files that rise by their File IDs are those of the files in order
 pub in_order : (s : ℕ) (files : List File) (xs : List FileRecord) → IsPermutation (map (record_of s) files) (map file_record_of xs) → IsStrictlyIncreasing (map id_number xs)
     → map file_record_of xs ≡ map (record_of s) (in_id_order files)

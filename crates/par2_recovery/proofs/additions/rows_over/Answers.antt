@@ -9,3 +9,6 @@ pub loop-i-preserved : goal.loop-i-preserved
 loop-i-preserved c =
     lists_push c.loop-i.rows.items c.in_ok-coefficients.field-0 c.in_ok-push.ensures.items c.loop-i.invariant (c.in_ok-coefficients.ensures ∙ ap (λ ns. coefficients ns (get_or c.args.exponents.now c.loop-i.i 0)) (c.deref.ensures.value ∙ c.in_ok-numbers.ensures))
     ∙ sym (map_more (coefficients (range_with_len 0 c.args.slices)) c.args.exponents.now c.loop-i.i 0 c.loop-i-test.true)
+
+pub returns : goal.returns
+returns c = c.loop-i.invariant ∙ ap (all_coefficients c.args.slices) (take_all c.loop-i.i c.args.exponents.now (omega (arith, c.loop-i-test.false)))

@@ -1,13 +1,8 @@
-use Rattle.par2_recovery.proofs.Common.{◌≡◌, ◌*◌, [], rules, ◌∙◌, ℕ, List, Vec, Global, refl, ap, sym, subst, arith, length, Bor, Ok, Kept, Dependent, recovered_of}
+use Rattle.par2_recovery.proofs.Common.{◌≡◌, ◌∙◌, ℕ, List, Vec, Global, ap, sym, subst, arith, length, Bor, Ok, Kept, Dependent, recovered_of}
 use Rattle.par2_recovery.proofs.Inverting.{length-recovered_of}
 use Rattle.par2_recovery.proofs.Ranks.{dependent_is_not_kept}
-use Rattle.par2_recovery.proofs.Standing.{Standing, none_stands, kept_turn, dropped_turn, eliminated}
+use Rattle.par2_recovery.proofs.Standing.{Standing, kept_turn, dropped_turn, eliminated}
 use Rattle.par2_recovery.proofs.inverse.eliminate.Goals as goal
-
-pub loop-i-init : goal.loop-i-init
-loop-i-init c =
-    let none : c.new-kept.result.items ≡ [] = search rules in
-    rw (c.in_ok-system.ensures, none) (none_stands c.args.lost.now (recovered_of c.args.recovery.now) (length c.args.lost.now) (2 * length c.args.lost.now) refl refl)
 
 pub loop-i-preserved : goal.loop-i-preserved
 loop-i-preserved c =

@@ -16,9 +16,6 @@ slice_bounds-from_slice-end c =
     let most = front_within (exponents_of recovery) c.in-Some.first (length c.args.lost.now) (run (goal.at.slice_bounds-from_slice-end c).In-Some) in
     sym (length-take-le (length c.args.lost.now) recovery (omega (arith, inner, outer, most)))
 
-pub run_inverse-requires : goal.run_inverse-requires
-run_inverse-requires c = are_slices c.args.lost.now c.requires.rise c.requires.lost
-
 pub returns-clause-kept : goal.returns-clause-kept
 returns-clause-kept c =
     let at = (goal.at.returns-clause-kept c).In-Some in

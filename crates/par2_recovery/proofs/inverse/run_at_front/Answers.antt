@@ -1,5 +1,5 @@
 use Rattle.par2_recovery.proofs.Common.{◌∙◌, arith, sym, false≢true, BeginsWithRun}
-use Rattle.par2_recovery.proofs.Beginnings.{begins, close_front, front_within, take_rises}
+use Rattle.par2_recovery.proofs.Beginnings.{begins, close_front, front_within}
 use Rattle.par2_recovery.proofs.Runs.{first_is}
 use Rattle.par2_recovery.proofs.inverse.run_at_front.Goals as goal
 
@@ -12,6 +12,3 @@ returns-then-exponents-count-clause-none c = λ _ f some front. elim c.then-expo
 pub returns-clause-run : goal.returns-clause-run
 returns-clause-run c =
     first_is (λ first. BeginsWithRun first c.args.count c.args.exponents.now) c.args.exponents.now c.copied.result (c.copied.ensures ∙ c.first.ensures.value) (begins c.args.exponents.now c.args.count c.requires c.if-exponents-count.false (c.are_close.ensures.0 c.if-not-are_close.false))
-
-pub are_close-requires : goal.are_close-requires
-are_close-requires c = take_rises c.args.exponents.now c.args.count c.requires (omega (arith, c.if-exponents-count.false))

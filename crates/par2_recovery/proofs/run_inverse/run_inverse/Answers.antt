@@ -1,4 +1,4 @@
-use Rattle.par2_recovery.proofs.Common.{IfOk-weaker, ◌≡◌, ◌<◌, ◌∷◌, [], ◌∙◌, ℕ, List, refl, ap, ap₂, arith, length, map, all_at, length-map, product-one, pow, constant, coefficient, coefficients, lists_of, constant-lt}
+use Rattle.par2_recovery.proofs.Common.{IfOk-weaker, ◌≡◌, ◌<◌, ◌∷◌, [], ◌∙◌, ℕ, List, refl, ap, ap₂, arith, length, map, length-map, product-one, pow, constant, coefficient, coefficients, lists_of, constant-lt}
 use Rattle.par2_recovery.proofs.RunInverses.{at_itself, is_inverse}
 use Rattle.par2_recovery.proofs.run_inverse.run_inverse.Goals.{After-as_slice-points}
 use Rattle.par2_recovery.proofs.run_inverse.run_inverse.Goals as goal

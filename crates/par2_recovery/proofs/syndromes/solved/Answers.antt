@@ -1,4 +1,4 @@
-use Rattle.par2_recovery.proofs.Common.{◌≡◌, refl, sym, arith, rules, length, ◌∙◌, with_items_is, lists_of, length-lists_of, texts_of}
+use Rattle.par2_recovery.proofs.Common.{◌≡◌, refl, sym, arith, rules, length, with_items_is, lists_of, length-lists_of, texts_of}
 use Rattle.par2_recovery.proofs.Solving.{none_solved, more_solved}
 use Rattle.par2_recovery.proofs.syndromes.solved.Goals as goal
 
@@ -29,8 +29,3 @@ loop-from-init c = record {
   even = refl;
   within = omega arith;
 }
-
-pub extend-requires : goal.extend-requires
-extend-requires c =
-    rw (c.deref.ensures.value, c.as_mut_slice.ensures.value)
-    (sym (length-lists_of c.in_ok-lost.lost.items) ∙ c.in_ok-lost.ensures.count ∙ sym c.loop-from.invariant.solved.count ∙ length-lists_of c.loop-from.texts.items)
