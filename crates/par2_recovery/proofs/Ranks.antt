@@ -1,5 +1,5 @@
 -- What the offered equations of some exponents say of the exponents.
-use Rattle.par2_recovery.proofs.Common.{ℕ, zero, suc, ◌+◌, ◌<◌, ◌≤◌, ◌≡◌, ◌≢◌, ◌↔◌, inl, inr, refl, sym, ap, ap₂, ◌∙◌, subst, arith, Bool, true, false, cond, ltb, List, [], ◌∷◌, ◌++◌, length, get_or, map, bit_xor, append-nil, filter, Result, Ok, cases_eq, cases_lt, lt-ltb, le-ltb, length_push, take_more, map-append, take_all, filter_more, AllPairs-from_increasing, AllByRecursion, IsStrictlyIncreasing, mul, coefficients, dot, IsVector, is_independent, smaller, kept, product-zero, all-append, all-parts, Equations, CutDown, IsIndependent, OnlyZeroIsKilled, Kept, Dependent, take}
+use Rattle.par2_recovery.proofs.Common.{ℕ, zero, suc, ◌+◌, ◌<◌, ◌≤◌, ◌≡◌, ◌≢◌, ◌↔◌, inl, inr, refl, sym, ap, ap₂, ◌∙◌, subst, arith, Bool, true, false, cond, ltb, List, [], ◌∷◌, ◌++◌, length, get_or, map, bit_xor, append-nil, take, filter, Result, Ok, cases_eq, cases_lt, lt-ltb, le-ltb, length_push, take_more, map-append, take_all, filter_more, AllPairs-from_increasing, AllByRecursion, IsStrictlyIncreasing, mul, coefficients, dot, IsVector, is_independent, smaller, kept, product-zero, all-append, all-parts, Equations, CutDown, IsIndependent, OnlyZeroIsKilled, Kept, Dependent}
 use Rattle.par2_matrix.specs.Systems as systems
 use Rattle.std.specs.declared.alloc.AllocError.{AllocError}
 use Rattle.par2_matrix.specs.declared.system.Offer.{Offer}

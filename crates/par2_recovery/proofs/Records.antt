@@ -1,5 +1,5 @@
 -- The records of files, one after the other.
-use Rattle.par2_recovery.proofs.Common.{ℕ, ◌+◌, ◌<◌, ◌≡◌, refl, sym, ap, ap₂, ◌∙◌, subst, List, [], ◌∷◌, ◌++◌, length, get_or, map, arith, IsPermutation, IsStrictlyIncreasing, get_or-map, length-map, take_more, map-append, map-map, md5, Folder, File, bytes_of, in_id_order, record_of, files_of, file_record_of, id_number, FileRecord, take, string_bytes}
+use Rattle.par2_recovery.proofs.Common.{ℕ, ◌+◌, ◌<◌, ◌≡◌, refl, sym, ap, ap₂, ◌∙◌, subst, List, [], ◌∷◌, ◌++◌, length, get_or, map, arith, take, string_bytes, IsPermutation, IsStrictlyIncreasing, get_or-map, length-map, take_more, map-append, map-map, md5, Folder, File, bytes_of, in_id_order, record_of, files_of, file_record_of, id_number, FileRecord}
 use Rattle.std.specs.Int.{w128, from_le_bytes}
 use Rattle.par2_spec.specs.Volumes as volumes
 use Rattle.par2_spec.proofs.OrderLaws.{rising_records, files_of_ordered}

@@ -1,5 +1,5 @@
 -- The lost slices by their syndromes, one block of columns after the other.
-use Rattle.par2_recovery.proofs.Common.{inl, inr, ℕ, ◌+◌, ◌-◌, ◌*◌, ◌/◌, ◌%◌, ◌<◌, ◌≤◌, ◌≡◌, sym, ap, ap₂, ◌∙◌, arith, List, [], ◌++◌, length, length-append, get_or, map, bit_xor, Bor, cases_lt, get_or-take, get_or-drop, get_or-map, get_or_append_left, get_or-append_right, length-map, length-replicate, length-take-le, length-drop, mul, coefficient, word, field_sum, list_at, field_sum_same, recovered, Adds, AddsToEach, window, syndrome, AreProducts, AreSolved, AreExtended, texts_of, AreBlank, drop}
+use Rattle.par2_recovery.proofs.Common.{inl, inr, ℕ, ◌+◌, ◌-◌, ◌*◌, ◌/◌, ◌%◌, ◌<◌, ◌≤◌, ◌≡◌, sym, ap, ap₂, ◌∙◌, arith, List, [], ◌++◌, length, length-append, get_or, map, bit_xor, drop, Bor, cases_lt, get_or-take, get_or-drop, get_or-map, get_or_append_left, get_or-append_right, length-map, length-replicate, length-take-le, length-drop, mul, coefficient, word, field_sum, list_at, field_sum_same, recovered, Adds, AddsToEach, window, syndrome, AreProducts, AreSolved, AreExtended, texts_of, AreBlank}
 use Rattle.par2_recovery.proofs.Combinations.{length-texts_of}
 use Rattle.par2_recovery.proofs.Inverting.{from_zeros}
 
