@@ -1,29 +1,5 @@
 -- The loops that add products.
-use Rattle.par2_recovery.proofs.Common.{ℕ, suc, ◌+◌, ◌*◌, ◌<◌, ◌≤◌, ◌≡◌, inl, inr, refl, sym, ap, ap₂, ◌∙◌, subst, arith, List, length, get_or, bit_xor, cases_eq, cases_lt, xor_assoc, xor_zero_r, get_or_past, product-zero, mul, word, list_at, OneChanged, field_sum, AddsSource, Adds, products}
-use Rattle.par2_gf16.specs.Steps.{AddsWithin}
-
--- nothing was added to any target yet
-pub no_target : (factor : ℕ → ℕ) (source : List ℕ) (old : List (List ℕ)) (from to : ℕ) → AddsSource factor source old old from to 0
-no_target factor source old from to = record { count = refl; done = λ r h. absurd (omega arith); rest = λ r h. refl }
-
--- one target more
-pub next_target : (factor : ℕ → ℕ) (source : List ℕ) (old mid new : List (List ℕ)) (from to n c : ℕ) → AddsSource factor source old mid from to n → c ≡ factor n
-    → OneChanged mid new n → AddsWithin c source (list_at mid n) (list_at new n) from to → AddsSource factor source old new from to (n + 1)
-next_target factor source old mid new from to n c so_far is changed added = record {
-  count = changed.count ∙ so_far.count;
-  done = λ r h. elim (cases_eq r n) [
-    | inl same ↦ subst (λ x. AddsWithin (factor x) source (list_at old x) (list_at new x) from to) (sym same)
-        (subst (λ xs. AddsWithin (factor n) source xs (list_at new n) from to) (so_far.rest n (omega arith))
-        (subst (λ x. AddsWithin x source (list_at mid n) (list_at new n) from to) is added))
-    | inr other ↦ subst (λ xs. AddsWithin (factor r) source (list_at old r) xs from to) (sym (changed.others r other)) (so_far.done r (omega arith))
-  ];
-  rest = λ r h. changed.others r (λ e. omega arith) ∙ so_far.rest r (omega arith);
-}
-
--- a target that is not yet reached has room
-pub room_kept : (factor : ℕ → ℕ) (source : List ℕ) (old mid : List (List ℕ)) (from to n m : ℕ) → AddsSource factor source old mid from to n
-    → ((r : ℕ) → r < m → 2 * to ≤ length (list_at old r)) → n < m → 2 * to ≤ length (list_at mid n)
-room_kept factor source old mid from to n m so_far room low = subst (λ xs. 2 * to ≤ length xs) (sym (so_far.rest n (omega arith))) (room n low)
+use Rattle.par2_recovery.proofs.Common.{ℕ, suc, ◌+◌, ◌*◌, ◌<◌, ◌≤◌, ◌≡◌, inl, inr, refl, sym, ap, ap₂, ◌∙◌, subst, arith, List, length, get_or, bit_xor, cases_lt, xor_assoc, xor_zero_r, get_or_past, product-zero, mul, word, list_at, field_sum, AddsSource, Adds, products}
 
 -- an empty source adds nothing
 pub empty_source : (factor : ℕ → ℕ) (source : List ℕ) (old : List (List ℕ)) (from to n : ℕ) → length source ≡ 0 → AddsSource factor source old old from to n
@@ -85,16 +61,6 @@ next_source factors sources old mid new from to n so_far added = record {
     more : (m : ℕ) (f : ℕ → ℕ) → bit_xor (field_sum m f) (f m) ≡ field_sum (m + 1) f
     more m f = let e : suc m ≡ m + 1 = omega arith in ap (λ x. field_sum x f) e
 
--- nothing was added in no columns
-pub no_columns : (factors sources old : List (List ℕ)) (at n : ℕ) → Adds factors sources old old at at n
-no_columns factors sources old at n = record {
-  count = refl;
-  sizes = λ r. refl;
-  inside = λ r p low from_here to_here fits. absurd (omega arith);
-  below = λ r p h. refl;
-  above = λ r p h. refl;
-}
-
 -- columns after columns
 pub more_columns : (factors sources old mid new : List (List ℕ)) (a b d n : ℕ) → a ≤ b → b ≤ d → Adds factors sources old mid a b n → Adds factors sources mid new b d n
     → Adds factors sources old new a d n
@@ -117,8 +83,3 @@ pub more_blocks : (factors sources old mid new : List (List ℕ)) (from to at ne
 more_blocks factors sources old mid new from to at next n e f order first second =
     more_columns factors sources old mid new 0 at next n (omega arith) order first
     (subst (λ x. Adds factors sources mid new x next n) e (subst (λ x. Adds factors sources mid new from x n) f second))
-
--- the targets have the same room as before
-pub same_room : (factors sources old mid : List (List ℕ)) (from to n m bound : ℕ) → Adds factors sources old mid from to n
-    → ((r : ℕ) → r < m → bound ≤ length (list_at old r)) → (r : ℕ) → r < m → bound ≤ length (list_at mid r)
-same_room factors sources old mid from to n m bound so_far room r low = omega (arith, so_far.sizes r, room r low)

@@ -1,5 +1,5 @@
 -- Recovery slices, added to texts.
-use Rattle.par2_recovery.proofs.Common.{inl, inr, ℕ, ◌+◌, ◌-◌, ◌*◌, ◌<◌, ◌≤◌, ◌≡◌, refl, sym, ap, ap₂, ◌∙◌, subst, arith, List, [], length, drop, get_or, map, bit_xor, zero-add, take, range_with_len, xor_zero_l, cases_lt, length-map, get_or-map, get_or-take, get_or-drop, get_or_past, length-take-le, length-drop, get_or-map-range_with_len, mul, coefficient, padded, word, coefficients, recovery, list_at, product_comm, product-one, word-lt, field_sum_same, within, place_at, AddsAt, AddsToEach, AreApart, LieWithin, recovered, adds_none, adds_more, adds_same, within-in, within-above, within_joined, within_same, length-group, adds_to_group, AreBytes, products, all_coefficients, window, AreProducts}
+use Rattle.par2_recovery.proofs.Common.{inl, inr, ℕ, ◌+◌, ◌-◌, ◌*◌, ◌<◌, ◌≤◌, ◌≡◌, refl, sym, ap, ap₂, ◌∙◌, subst, arith, List, [], length, drop, get_or, map, bit_xor, zero-add, take, range_with_len, xor_zero_l, cases_lt, length-map, get_or-map, get_or-take, get_or-drop, get_or_past, length-take-le, length-drop, get_or-map-range_with_len, mul, coefficient, padded, word, coefficients, recovery, list_at, product_comm, product-one, word-lt, field_sum_same, within, place_at, AddsAt, AreApart, LieWithin, recovered, adds_none, adds_more, adds_same, within-in, within-above, within_joined, within_same, length-group, adds_to_group, AreBytes, products, all_coefficients, window, AreProducts}
 use Rattle.par2_transform.specs.declared.outputs.Place.{Place}
 use Rattle.par2_recovery.specs.Writing.{output_at, AreWritten, AreZeros}
 use Rattle.par2_recovery.proofs.Combinations.{blank_word, recovered_by_words}
@@ -25,14 +25,6 @@ products_are n len exponents rows slices old new places rows_are e many added =
         ap (λ xs. get_or (list_at xs t) k 0) rows_are ∙ ap (λ xs. get_or xs k 0) (row_at n exponents t low)
         ∙ get_or-map-range_with_len (coefficient (get_or exponents t 0)) 0 n k k 0 (omega (arith, e, here)) (zero-add k)
 
--- the exponents of a run
-pub run_exponents : (first len : ℕ) (exponents : List ℕ) (slices old new : List (List ℕ)) (places : List Place) → length exponents ≡ length places
-    → ((j : ℕ) → j < length exponents → get_or exponents j 0 ≡ first + j)
-    → AddsAt places len (λ t p. recovered slices (first + t) p) old new → AddsAt places len (λ t p. recovered slices (get_or exponents t 0) p) old new
-run_exponents first len exponents slices old new places many run added =
-    adds_same places len (λ t p. recovered slices (first + t) p) (λ t p. recovered slices (get_or exponents t 0) p) old new added
-    (λ t p low _. ap (λ n. recovered slices n p) (sym (run t (omega (arith, many, low)))))
-
 -- ---- sums that are added
 
 abbrev pub sum_word : (from to : ℕ) (sums : List (List ℕ)) (t p : ℕ) → ℕ
@@ -44,10 +36,6 @@ FirstAdded places len n other was texts = AddsAt places len (λ t p. within 0 n 
 
 pub none_added : (places : List Place) (len : ℕ) (other : ℕ → ℕ → ℕ) (texts : List (List ℕ)) → FirstAdded places len 0 other texts texts
 none_added places len other texts = adds_none places len (λ t p. within 0 0 t (other t p)) texts (λ t p. within-above 0 0 t (other t p) (omega arith))
-
-pub all_added : (places : List Place) (len n : ℕ) (other : ℕ → ℕ → ℕ) (was texts : List (List ℕ)) → length places ≤ n → FirstAdded places len n other was texts → AddsAt places len other was texts
-all_added places len n other was texts enough added =
-    adds_same places len (λ t p. within 0 n t (other t p)) other was texts added (λ t p low _. within-in 0 n t (other t p) (omega arith) (omega (arith, low, enough)))
 
 pub next_sum : (places : List Place) (len from to n : ℕ) (row : List ℕ) (sums was half texts : List (List ℕ)) → row ≡ list_at sums n → AreBytes sums → FirstAdded places len n (sum_word from to sums) was half
     → AddsAt places len (λ t p. within n (n + 1) t (within from to p (mul 1 (word (p - from) row)))) half texts → FirstAdded places len (n + 1) (sum_word from to sums) was texts
@@ -84,9 +72,6 @@ sums_are places len from to n rows slices windows sums was texts order are n_is 
 
 abbrev pub ColumnsAdded : List Place → (len n : ℕ) (other : ℕ → ℕ → ℕ) (was texts : List (List ℕ)) → Type 0
 ColumnsAdded places len n other was texts = AddsAt places len (λ t p. within 0 n p (other t p)) was texts
-
-pub no_columns_yet : (places : List Place) (len : ℕ) (other : ℕ → ℕ → ℕ) (texts : List (List ℕ)) → ColumnsAdded places len 0 other texts texts
-no_columns_yet places len other texts = adds_none places len (λ t p. within 0 0 p (other t p)) texts (λ t p. within-above 0 0 p (other t p) (omega arith))
 
 pub next_columns : (places : List Place) (len from to : ℕ) (other : ℕ → ℕ → ℕ) (was half texts : List (List ℕ)) → from ≤ to → ColumnsAdded places len from other was half
     → AddsAt places len (λ t p. within from to p (other t p)) half texts → ColumnsAdded places len to other was texts

@@ -6,12 +6,6 @@ use Rattle.par2_recovery.proofs.Standing.{kept_slices_are}
 
 -- ---- the first exponents
 
-pub take_rises : (xs : List ℕ) (n : ℕ) → IsStrictlyIncreasing xs → n ≤ length xs → IsStrictlyIncreasing (take n xs)
-take_rises xs n rise within k h =
-    let long = length-take-le n xs within in
-    let more = rise k (omega (arith, h, long, within)) in
-    omega (arith, more, get_or-take n xs k 0 (omega (arith, h, long)), get_or-take n xs (k + 1) 0 (omega (arith, h, long)))
-
 pub begins : (xs : List ℕ) (n : ℕ) → IsStrictlyIncreasing xs → n ≤ length xs → AreClose n (take n xs) → BeginsWithRun (get_or xs 0 0) n xs
 begins xs n rise within close =
     ext_get_or 0 (take n xs) (range_with_len f n) (long ∙ sym (length-range_with_len f n)) (λ k h.

@@ -1,7 +1,5 @@
 -- From added products to recovery slices.
-use Rattle.par2_recovery.proofs.Common.{cases_lt, inl, inr, ℕ, zero, suc, ◌+◌, ◌-◌, ◌*◌, ◌%◌, ◌<◌, ◌≤◌, ◌≡◌, refl, sym, ap, ap₂, ◌∙◌, subst, arith, List, [], ◌∷◌, ◌++◌, length, get_or, map, replicate, bit_xor, Vec, Global, append_assoc, zero-add, Bor, range_with_len, xor_zero_l, ext_get_or, get_or-map, get_or-replicate, length-map, length_push, map-append, map_push, get_or_append_left, get_or_push, get_or_past, length-replicate, map-range_with_len_more, get_or-map-range_with_len, length-map-range_with_len, length-range_with_len, get_or-range_with_len, mul, coefficient, padded, word, slice_at, dot, coefficients, combination, recovery, all_at, range-append, product-lt, field_sum, list_at, lists_of, field_sum_same, field_sum-lt, dot_sum, product_at, coefficients_are, combination_words, word-lt, AreBytes, AddsToEach, recovered, zeros_read, all_coefficients, texts_of, AreBlank}
-use Rattle.std.specs.Prelude.{take}
-use Rattle.std.specs.Prelude.{drop}
+use Rattle.par2_recovery.proofs.Common.{cases_lt, inl, inr, ℕ, zero, suc, ◌+◌, ◌-◌, ◌*◌, ◌%◌, ◌<◌, ◌≤◌, ◌≡◌, refl, sym, ap, ap₂, ◌∙◌, subst, arith, List, [], ◌∷◌, ◌++◌, length, get_or, map, replicate, Vec, Global, append_assoc, zero-add, take, drop, Bor, range_with_len, get_or-map, length-map, length_push, map-append, map_push, get_or_append_left, get_or_push, get_or_past, map-range_with_len_more, get_or-map-range_with_len, length-map-range_with_len, length-range_with_len, get_or-range_with_len, mul, coefficient, padded, word, slice_at, dot, coefficients, combination, recovery, all_at, product-lt, field_sum, list_at, lists_of, field_sum_same, field_sum-lt, dot_sum, product_at, coefficients_are, combination_words, word-lt, AreBytes, recovered, zeros_read, all_coefficients, texts_of, AreBlank}
 
 -- ---- padding
 
@@ -76,9 +74,6 @@ blank_push s n xs v so_far is = let all = each_push (λ _ text. text ≡ replica
 pub blank_word : (s p : ℕ) → word p (replicate s 0) ≡ 0
 blank_word s p = ap₂ (λ x y. x + 256 * y) (zeros_read s (2 * p)) (zeros_read s (2 * p + 1))
 
-pub blank_room : (s n bound : ℕ) (lists : List (List ℕ)) → AreBlank s n lists → bound ≤ s → (r : ℕ) → r < n → bound ≤ length (list_at lists r)
-blank_room s n bound lists blank h r low = subst (λ xs. bound ≤ length xs) (sym (blank.each r low)) (let e = length-replicate {A = ℕ} s 0 in omega (arith, e))
-
 -- a text is the recovery slice that its words are those of
 pub recovered_by_words : (s e : ℕ) (lists : List (List ℕ)) (text : List ℕ) → s % 2 ≡ 0 → AreBytes lists → length text ≡ s → ((k : ℕ) → get_or text k 0 < 256)
     → ((w : ℕ) → 2 * w + 1 < s → word w text ≡ recovered lists e w) → text ≡ recovery s (map (padded s) lists) e
@@ -95,9 +90,6 @@ recovered_by_words s e lists text even bytes size fits words =
     dots w = ap (dot row) (words_padded s w lists) ∙ recovered_dot e lists w
 
 -- ---- rows of factors
-
-pub range_more : (first n : ℕ) → range_with_len first (n + 1) ≡ range_with_len first n ++ (first + n) ∷ []
-range_more first n = range-append first n 1
 
 pub range-lt : (n i bound : ℕ) → n ≤ bound → 0 < bound → get_or (range_with_len 0 n) i 0 < bound
 range-lt n i bound h some = elim (cases_lt i n) [

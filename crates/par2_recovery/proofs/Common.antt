@@ -5,7 +5,7 @@ pub use Rattle.std.proofs.Math.Facts.{Fits-lt-pow, and_yes, yes_and}
 pub use Rattle.std.proofs.lemmas.Bool.{cases_eq, cases_lt, eq-eqb, eqb-false, eqb-true, false_from_ne_true, false≢true, le-ltb, lt-ltb, ltb-true, ne_eqb}
 pub use Rattle.std.proofs.lemmas.Iterator.{YieldsList-from_map, YieldsList-from_map_by, YieldsList-from_range, YieldsList-from_slice, items_from_collect}
 pub use Rattle.std.proofs.lemmas.Iterator.Consumers.{map_from_collect}
-pub use Rattle.std.proofs.lemmas.List.{drop_all, drop_more, ext_get_or, get_or-append_right, get_or-drop, get_or-map, get_or-replicate, get_or-set_other, get_or-set_same, get_or-take, get_or_append_left, get_or_at, get_or_default, get_or_past, get_or_push, length-drop, length-map, length-replicate, length-set, length-take, length-take-le, length_push, map-append, map_more, map_push, take-map, take_all, take_more, with_items_is}
+pub use Rattle.std.proofs.lemmas.List.{drop_all, drop_more, ext_get_or, get_or-append_right, get_or-drop, get_or-map, get_or-set_other, get_or-set_same, get_or-take, get_or_append_left, get_or_at, get_or_default, get_or_past, get_or_push, length-drop, length-map, length-replicate, length-set, length-take, length-take-le, length_push, map-append, map_more, map_push, take-map, take_all, take_more, with_items_is}
 pub use Rattle.std.proofs.lemmas.List.Elements.{Contains-get_or, filter_more}
 pub use Rattle.std.proofs.lemmas.List.FromFn.{get_or-map-range_with_len, get_or-range_with_len, length-map-range_with_len, length-range_with_len, map-range_with_len_more}
 pub use Rattle.std.proofs.lemmas.List.Kept.{AllPairs-from_increasing}
@@ -35,7 +35,7 @@ pub use Rattle.par2_spec.proofs.FieldConstants.{constant-injective, constant-lt,
 pub use Rattle.par2_spec.proofs.FieldOrder.{no_zero_divisor, power-lt, product-zero, zero-product}
 pub use Rattle.par2_spec.proofs.FieldProducts.{product-lt, product-one, product_assoc, product_comm, product_linear_left, product_linear_right}
 pub use Rattle.par2_spec.proofs.FoundLaws.{all-filter}
-pub use Rattle.par2_spec.proofs.ListsLaws.{all-append, all-each, all-map, all-parts, all_at, all_from, all_get, all_unmap, filter-map, range-append, some_list}
+pub use Rattle.par2_spec.proofs.ListsLaws.{all-append, all-each, all-map, all-parts, all_at, all_from, all_get, all_unmap, filter-map, some_list}
 pub use Rattle.par2_spec.proofs.PolynomialLaws.{length-quotient, length-with_roots, quotient_elements, quotient_itself, quotient_others, times_elements, value-lt, value_times, with_roots_elements}
 pub use Rattle.par2_spec.proofs.RunLaws.{close_kept, first_kept, run_determines, run_rank}
 pub use Rattle.par2_spec.proofs.SumLaws.{dot_sum, field_sum-lt, field_sum_head, field_sum_none, field_sum_one, field_sum_same, field_sum_scaled, field_sum_xor, product_at, xor_off}
@@ -54,7 +54,7 @@ unfoldable pub use Rattle.par2_spec.specs.Recovery.{dot, recovery}
 pub use Rattle.par2_spec.specs.Runs.{AreClose, AreSlices, HasRun}
 pub use Rattle.par2_spec.specs.Search.{lost}
 pub use Rattle.par2_spec.specs.Slices.{padded, slice_at, word}
-pub use Rattle.par2_spec.specs.Sums.{AreElements, OneChanged, list_at, lists_of}
+pub use Rattle.par2_spec.specs.Sums.{AreElements, list_at, lists_of}
 unfoldable pub use Rattle.par2_spec.specs.Sums.{field_sum}
 pub use Rattle.par2_spec.specs.Volumes.{all_slices, in_id_order}
 unfoldable pub use Rattle.par2_spec.specs.Volumes.{record_of}

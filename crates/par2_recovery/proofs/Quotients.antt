@@ -1,5 +1,5 @@
 -- Coefficients of products and quotients, one after the other.
-use Rattle.par2_recovery.proofs.Common.{append_assoc, ℕ, zero, suc, ◌+◌, ◌-◌, ◌<◌, ◌≤◌, ◌≡◌, set, refl, sym, ap, ◌∙◌, arith, List, [], ◌∷◌, ◌++◌, length, get_or, drop, bit_xor, inl, inr, xor_zero_l, cases_eq, ext_get_or, drop_more, get_or-set_same, get_or-set_other, mul, times, times_root, value, plus, with_roots, quotient, length-quotient, drop_all}
+use Rattle.par2_recovery.proofs.Common.{append_assoc, ℕ, zero, suc, ◌+◌, ◌-◌, ◌<◌, ◌≤◌, ◌≡◌, set, refl, sym, ap, ◌∙◌, arith, List, [], ◌∷◌, ◌++◌, length, get_or, drop, bit_xor, inl, inr, cases_eq, ext_get_or, drop_more, get_or-set_same, get_or-set_other, drop_all, mul, times, times_root, value, plus, with_roots, quotient, length-quotient}
 
 -- one more coefficient of a product with a root
 pub root_step : (c before t : ℕ) (p done : List ℕ) → t < length p

@@ -1,6 +1,5 @@
 -- What the tests over all vectors say.
-use Rattle.par2_recovery.proofs.Common.{◌≡◌, ◌≢◌, ℕ, ◌^◌, List, [], ◌∷◌, T, true, false, ◌&&◌, not, eqb→eq, and_yes, yes_and, false_from_ne_true, list_all, AllByRecursion, dot, IsVector, kills, is_independent, some_list}
-use Rattle.std.proofs.Common.{eq-eqb}
+use Rattle.par2_recovery.proofs.Common.{◌≡◌, ◌≢◌, ℕ, ◌^◌, List, [], ◌∷◌, T, true, false, ◌&&◌, not, eqb→eq, and_yes, yes_and, false_from_ne_true, eq-eqb, list_all, AllByRecursion, dot, IsVector, kills, is_independent, some_list}
 use Rattle.std.proofs.Math.Dec.{T_not, not_T}
 use Rattle.par2_spec.proofs.TestLaws.{by_true, is_true}
 

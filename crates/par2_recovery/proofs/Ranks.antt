@@ -1,6 +1,5 @@
 -- What the offered equations of some exponents say of the exponents.
-use Rattle.par2_recovery.proofs.Common.{ℕ, zero, suc, ◌+◌, ◌<◌, ◌≤◌, ◌≡◌, ◌≢◌, ◌↔◌, inl, inr, refl, sym, ap, ap₂, ◌∙◌, subst, arith, Bool, true, false, cond, ltb, List, [], ◌∷◌, ◌++◌, length, get_or, map, bit_xor, append-nil, filter, Result, Ok, cases_eq, cases_lt, lt-ltb, le-ltb, length_push, take_more, map-append, take_all, filter_more, AllPairs-from_increasing, AllByRecursion, IsStrictlyIncreasing, mul, coefficients, dot, IsVector, is_independent, smaller, kept, product-zero, all-append, all-parts, Equations, CutDown, IsIndependent, OnlyZeroIsKilled, Kept, Dependent}
-use Rattle.std.specs.Prelude.{take}
+use Rattle.par2_recovery.proofs.Common.{ℕ, zero, suc, ◌+◌, ◌<◌, ◌≤◌, ◌≡◌, ◌≢◌, ◌↔◌, inl, inr, refl, sym, ap, ap₂, ◌∙◌, subst, arith, Bool, true, false, cond, ltb, List, [], ◌∷◌, ◌++◌, length, get_or, map, bit_xor, append-nil, take, filter, Result, Ok, cases_eq, cases_lt, lt-ltb, le-ltb, length_push, take_more, map-append, take_all, filter_more, AllPairs-from_increasing, AllByRecursion, IsStrictlyIncreasing, mul, coefficients, dot, IsVector, is_independent, smaller, kept, product-zero, all-append, all-parts, Equations, CutDown, IsIndependent, OnlyZeroIsKilled, Kept, Dependent}
 use Rattle.par2_matrix.specs.Systems as systems
 use Rattle.std.specs.declared.alloc.AllocError.{AllocError}
 use Rattle.par2_matrix.specs.declared.system.Offer.{Offer}
@@ -54,10 +53,6 @@ rows_more lost all i h = ap (map (coefficients lost)) (take_more all i 0 h) ∙ 
 pub kept_more : {A : Type 0} (p : A → Bool) (xs : List A) (i : ℕ) (d : A) (b : Bool) → i < length xs → p (get_or xs i d) ≡ b
     → filter p (take (i + 1) xs) ≡ filter p (take i xs) ++ cond b (get_or xs i d ∷ []) []
 kept_more p xs i d b h e = filter_more p xs i d h ∙ ap (λ c. filter p (take i xs) ++ cond c (get_or xs i d ∷ []) []) e
-
-pub none_offered : (lost all : List ℕ) (n b : ℕ) → n ≡ length lost → Eliminated lost all 0 (systems.no_equations n b)
-none_offered lost [] n b e = record { columns = e; kills = λ v is. ((λ h. h), (λ h. h)); rank = refl }
-none_offered lost (x ∷ all) n b e = record { columns = e; kills = λ v is. ((λ h. h), (λ h. h)); rank = refl }
 
 -- the row of exponent i among the smaller ones
 is_kept_at : (lost all : List ℕ) (i : ℕ) → IsStrictlyIncreasing all → i < length all

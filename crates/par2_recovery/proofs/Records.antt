@@ -1,8 +1,6 @@
 -- The records of files, one after the other.
-use Rattle.par2_recovery.proofs.Common.{ℕ, ◌+◌, ◌<◌, ◌≡◌, refl, sym, ap, ap₂, ◌∙◌, subst, List, [], ◌∷◌, ◌++◌, length, get_or, map, arith, IsPermutation, IsStrictlyIncreasing, get_or-map, length-map, take_more, map-append, map-map, md5, Folder, File, bytes_of, in_id_order, record_of, files_of, file_record_of, id_number, FileRecord}
-use Rattle.std.specs.Prelude.{take}
+use Rattle.par2_recovery.proofs.Common.{ℕ, ◌+◌, ◌<◌, ◌≡◌, refl, sym, ap, ap₂, ◌∙◌, subst, List, [], ◌∷◌, ◌++◌, length, get_or, map, arith, take, string_bytes, IsPermutation, IsStrictlyIncreasing, get_or-map, length-map, take_more, map-append, map-map, md5, Folder, File, bytes_of, in_id_order, record_of, files_of, file_record_of, id_number, FileRecord}
 use Rattle.std.specs.Int.{w128, from_le_bytes}
-use Rattle.std.specs.Prelude.{string_bytes}
 use Rattle.par2_spec.specs.Volumes as volumes
 use Rattle.par2_spec.proofs.OrderLaws.{rising_records, files_of_ordered}
 
@@ -24,11 +22,6 @@ digest_at_name folder names md5s i d is low =
     ap (λ (l : List (List ℕ)). get_or l i d) is
     ∙ get_or-map md5 (map (bytes_of folder) names) i [] d (omega (arith, low, many))
     ∙ ap md5 (get_or-map (bytes_of folder) names i [] [] low)
-
--- as many digests as names
-pub many_digests : (folder : Folder) (names md5s : List (List ℕ)) → md5s ≡ map md5 (map (bytes_of folder) names) → length md5s ≡ length names
-many_digests folder names md5s is =
-    ap length is ∙ length-map (map (bytes_of folder) names) md5 ∙ length-map names (bytes_of folder)
 
 -- records of files that rise by their File IDs are those of the files in order
 pub in_order : (s : ℕ) (files : List File) (xs : List FileRecord) → IsPermutation (map (record_of s) files) (map file_record_of xs) → IsStrictlyIncreasing (map id_number xs)

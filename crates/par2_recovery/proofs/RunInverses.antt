@@ -1,10 +1,10 @@
 -- The scaled quotients by the constants of the lost slices are the inverse of the equations of a run.
-use Rattle.par2_recovery.proofs.Common.{ℕ, zero, suc, ◌+◌, ◌^◌, ◌<◌, ◌≡◌, ◌≢◌, refl, sym, ap, ap₂, ◌∙◌, subst, arith, List, [], ◌∷◌, ◌++◌, length, get_or, Vec, Global, map, bit_xor, cond, inl, inr, cases_lt, cases_eq, eq-eqb, ne_eqb, length-range_with_len, get_or-range_with_len, length-map, get_or-map, Contains-get_or, AllPairs-from_increasing, Contains, range_with_len, mul, constant, pow, coefficient, AreSlices, list_at, lists_of, field_sum, times, with_roots, quotient, ArePoints, value, power-lt, product-zero, no_zero_divisor, product_assoc, product_comm, product_linear_right, product-one, all_get, all-each, all_at, value-lt, value_times, with_roots_elements, length-with_roots, quotient_elements, length-quotient, times_elements, quotient_others, quotient_itself, field_sum_same, field_sum_head, field_sum_one, dot_sum, close_kept, coefficients, IsInverse, identity, IsScaledQuotient, AreScaledQuotients, constant-lt, constant-nonzero, constant-injective}
+use Rattle.par2_recovery.proofs.Common.{ℕ, zero, suc, ◌+◌, ◌^◌, ◌<◌, ◌≡◌, ◌≢◌, refl, sym, ap, ap₂, ◌∙◌, subst, arith, List, [], ◌∷◌, length, get_or, map, bit_xor, cond, inl, inr, cases_lt, cases_eq, eq-eqb, ne_eqb, length-range_with_len, get_or-range_with_len, length-map, get_or-map, Contains-get_or, AllPairs-from_increasing, Contains, range_with_len, mul, constant, pow, coefficient, AreSlices, list_at, field_sum, times, with_roots, quotient, ArePoints, value, power-lt, product-zero, no_zero_divisor, product_assoc, product_comm, product_linear_right, product-one, all_get, all-each, all_at, value-lt, value_times, with_roots_elements, length-with_roots, quotient_elements, length-quotient, times_elements, quotient_others, quotient_itself, field_sum_same, field_sum_head, field_sum_one, dot_sum, close_kept, coefficients, IsInverse, identity, IsScaledQuotient, AreScaledQuotients, constant-lt, constant-nonzero, constant-injective}
 use Rattle.par2_spec.specs.Polynomials.{AreElements}
 use Rattle.std.proofs.lemmas.Bool.Decides.{Decides-eqb}
 use Rattle.std.proofs.lemmas.Map.Made.{IsDistinct-from_AllPairs}
 use Rattle.par2_spec.proofs.ExistLaws.{IsSolved, solved}
-use Rattle.par2_recovery.proofs.Combinations.{coefficients-lt, each_push}
+use Rattle.par2_recovery.proofs.Combinations.{coefficients-lt}
 use Rattle.par2_recovery.proofs.Dots.{combined}
 use Rattle.par2_recovery.proofs.Inverting.{identity-lt, sum_of_row}
 use Rattle.par2_recovery.proofs.Runs.{close_range, range_has}
@@ -110,11 +110,6 @@ scaled_is f c b p row hc hb h inverse is =
           ap (mul power) (ap (λ xs. value xs c) is ∙ value_times b q c hb q_are hc ∙ product_comm b v hb hv)
           ∙ sym (product_assoc power v b hp hv hb) ∙ inverse;
     }
-
--- one more row
-pub scaled_push : (f : ℕ) (p points : List ℕ) (rows : List (Vec ℕ Global)) (row : Vec ℕ Global) (n : ℕ) → AreScaledQuotients f p points (lists_of rows) n
-    → IsScaledQuotient f (get_or points n 0) p row.items → AreScaledQuotients f p points (lists_of (rows ++ row ∷ [])) (n + 1)
-scaled_push f p points rows row n are is = let all = each_push (λ j row. IsScaledQuotient f (get_or points j 0) p row) rows row n are.count are.each is in record { count = all.0; each = all.1 }
 
 row_elements : (c factor : ℕ) (points : List ℕ) → c < 2 ^ 16 → factor < 2 ^ 16 → AreElements points → AreElements (times factor (quotient c (with_roots points)))
 row_elements c factor points hc small h = times_elements factor (quotient c (with_roots points)) small (quotient_elements c (with_roots points) hc (with_roots_elements points h))

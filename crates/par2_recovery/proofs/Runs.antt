@@ -1,6 +1,5 @@
 -- Exponents that are close, and runs of them, by the places where they stand.
-use Rattle.par2_recovery.proofs.Common.{AreSlices, AreClose, HasRun, all_from, Option, IfSome, slice_get, Contains, range_with_len, [], ◌∷◌, ◌↔◌, IsTrue, false, eqb, ltb, ℕ, zero, suc, ◌+◌, ◌-◌, ◌<◌, ◌≤◌, ◌≡◌, sym, ap, ◌∙◌, subst, arith, inl, inr, List, length, get_or, drop, take, IsStrictlyIncreasing, cases_lt, eqb-false, ltb-true, lt-ltb, false≢true, get_or-take, get_or-drop, get_or_default, length-take-le, Contains-get_or, get_or-range_with_len, length-range_with_len}
-use Rattle.std.proofs.Common.{length-drop}
+use Rattle.par2_recovery.proofs.Common.{AreSlices, AreClose, HasRun, all_from, Option, IfSome, slice_get, Contains, range_with_len, [], ◌∷◌, ◌↔◌, IsTrue, false, eqb, ltb, ℕ, zero, suc, ◌+◌, ◌-◌, ◌<◌, ◌≤◌, ◌≡◌, sym, ap, ◌∙◌, subst, arith, inl, inr, List, length, get_or, drop, take, IsStrictlyIncreasing, cases_lt, eqb-false, ltb-true, lt-ltb, false≢true, get_or-take, get_or-drop, get_or_default, length-take-le, length-drop, Contains-get_or, get_or-range_with_len, length-range_with_len}
 
 -- numbers of slices that rise
 pub are_slices : (numbers : List ℕ) → IsStrictlyIncreasing numbers → ((i : ℕ) → get_or numbers i 0 < 32768) → AreSlices numbers

@@ -1,6 +1,5 @@
 -- The lost slices by their syndromes, one block of columns after the other.
-use Rattle.par2_recovery.proofs.Common.{inl, inr, ℕ, ◌+◌, ◌-◌, ◌*◌, ◌/◌, ◌%◌, ◌<◌, ◌≤◌, ◌≡◌, refl, sym, ap, ap₂, ◌∙◌, subst, arith, List, [], ◌++◌, length, length-append, get_or, map, bit_xor, Bor, cases_eq, cases_lt, get_or-take, get_or-drop, get_or-map, get_or_append_left, get_or-append_right, length-map, length-replicate, length-take-le, length-drop, mul, coefficient, word, field_sum, list_at, OneChanged, field_sum_same, recovered, Adds, AddsToEach, window, syndrome, AreProducts, AreSolved, AreExtended, texts_of, AreBlank}
-use Rattle.std.specs.Prelude.{drop}
+use Rattle.par2_recovery.proofs.Common.{inl, inr, ℕ, ◌+◌, ◌-◌, ◌*◌, ◌/◌, ◌%◌, ◌<◌, ◌≤◌, ◌≡◌, sym, ap, ap₂, ◌∙◌, arith, List, [], ◌++◌, length, length-append, get_or, map, bit_xor, drop, Bor, cases_lt, get_or-take, get_or-drop, get_or-map, get_or_append_left, get_or-append_right, length-map, length-replicate, length-take-le, length-drop, mul, coefficient, word, field_sum, list_at, field_sum_same, recovered, Adds, AddsToEach, window, syndrome, AreProducts, AreSolved, AreExtended, texts_of, AreBlank}
 use Rattle.par2_recovery.proofs.Combinations.{length-texts_of}
 use Rattle.par2_recovery.proofs.Inverting.{from_zeros}
 
@@ -48,19 +47,6 @@ word_after p xs ys w e high = ap₂ (λ x y. x + 256 * y) (byte (2 * w) (2 * (w 
   where
     byte : (i m : ℕ) → 2 * p ≤ i → i - 2 * p ≡ m → get_or (xs ++ ys) i 0 ≡ get_or ys m 0
     byte i m behind same = get_or-append_right xs ys (2 * p) i 0 e behind ∙ ap (λ k. get_or ys k 0) same
-
-pub no_extended : (old blocks : List (List ℕ)) → AreExtended old blocks old 0
-no_extended old blocks = record { count = refl; each = λ r h. absurd (omega arith); rest = λ r h. refl }
-
-pub next_extended : (old blocks mid new : List (List ℕ)) (n : ℕ) → AreExtended old blocks mid n → OneChanged mid new n → list_at new n ≡ list_at mid n ++ list_at blocks n → AreExtended old blocks new (n + 1)
-next_extended old blocks mid new n so_far changed here = record {
-  count = changed.count ∙ so_far.count;
-  each = λ r h. elim (cases_eq r n) [
-    | inl same ↦ subst (λ x. list_at new x ≡ list_at old x ++ list_at blocks x) (sym same) (here ∙ ap (λ xs. xs ++ list_at blocks n) (so_far.rest n (omega arith)))
-    | inr other ↦ changed.others r other ∙ so_far.each r (omega arith)
-  ];
-  rest = λ r h. changed.others r (λ e. omega arith) ∙ so_far.rest r (omega arith);
-}
 
 -- ---- the words of a block
 

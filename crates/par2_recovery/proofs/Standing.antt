@@ -1,12 +1,11 @@
 -- The loop that offers the surviving recovery slices.
-use Rattle.par2_recovery.proofs.Common.{inl, inr, length-append, ℕ, ◌+◌, ◌*◌, ◌<◌, ◌≡◌, ◌↔◌, refl, sym, ap, ap₂, ◌∙◌, subst, arith, Bool, true, false, cond, eqb, ◌&&◌, ◌||◌, List, [], ◌∷◌, ◌++◌, length, get_or, map, append-nil, filter, list_any, AllByRecursion, IsStrictlyIncreasing, eqb-true, eq-eqb, cases_lt, get_or-map, length-map, map-append, get_or_append_left, get_or_at, take_all, dot, coefficients, combination, IsVector, IsRepairable, Kills, kept, kept_slices, Equations, CutDown, IsIndependent, IsDependent, Solves, AreTexts, OnlyZeroIsKilled, recovered_of, IsUnit, recovery_at, CutByUnit, GivesUnit, IsEliminated, Bor, all-map, all_unmap}
-use Rattle.std.specs.Prelude.{take}
+use Rattle.par2_recovery.proofs.Common.{inl, inr, length-append, ℕ, ◌+◌, ◌*◌, ◌<◌, ◌≡◌, ◌↔◌, refl, sym, ap, ap₂, ◌∙◌, subst, arith, Bool, true, false, cond, eqb, ◌&&◌, ◌||◌, List, [], ◌∷◌, ◌++◌, length, get_or, map, append-nil, take, filter, list_any, AllByRecursion, IsStrictlyIncreasing, eqb-true, eq-eqb, cases_lt, get_or-map, length-map, map-append, get_or_append_left, get_or_at, take_all, dot, coefficients, combination, IsVector, IsRepairable, Kills, kept, kept_slices, Equations, CutDown, IsIndependent, IsDependent, Solves, AreTexts, OnlyZeroIsKilled, recovered_of, IsUnit, recovery_at, CutByUnit, GivesUnit, IsEliminated, Bor, all-map, all_unmap}
 use Rattle.std.proofs.lemmas.Map.Views.{any-filter_same}
 use Rattle.par2_spec.proofs.RankLaws.{all_weaker}
 use Rattle.std.proofs.Math.Bool.{and-true, or-true}
 use Rattle.par2_matrix.specs.Systems as systems
 use Rattle.par2_recovery.proofs.Inverting.{length-recovered_of}
-use Rattle.par2_recovery.proofs.Ranks.{Eliminated, is_kept, kept_is, dependent_is, one_kept, none_kept, none_offered, all_offered, kept_more}
+use Rattle.par2_recovery.proofs.Ranks.{Eliminated, is_kept, kept_is, dependent_is, one_kept, none_kept, all_offered, kept_more}
 use Rattle.par2_recovery.proofs.RankTests.{AllKill}
 
 -- ---- the recovery slices of the kept exponents
@@ -46,15 +45,6 @@ pub record Standing (lost : List ℕ) (recs kept : List (ℕ × List ℕ)) (i : 
 none_taken : {A : Type 0} (p : A → Bool) (xs : List A) → [] ≡ filter p (take 0 xs)
 none_taken p [] = refl
 none_taken p (x ∷ xs) = refl
-
-pub none_stands : (lost : List ℕ) (recs : List (ℕ × List ℕ)) (n b : ℕ) → n ≡ length lost → b ≡ 2 * length lost → Standing lost recs [] 0 (systems.no_equations n b)
-none_stands lost recs n b e size = record {
-  so_far = none_offered lost (map (λ r. r.0) recs) n b e;
-  bytes = size;
-  are_kept = none_taken (λ r. is_kept lost (map (λ r. r.0) recs) r.0) recs;
-  count = refl;
-  solves = λ texts are solved j h. absurd (omega arith);
-}
 
 -- a recovery slice was kept
 pub stands_more : (lost : List ℕ) (recs kept_ones : List (ℕ × List ℕ)) (i : ℕ) (system new : Equations) → IsStrictlyIncreasing (map (λ r. r.0) recs) → i < length recs

@@ -57,7 +57,7 @@ fn sum_columns(slices: usize, count: usize, room: usize) -> usize
 }
 
 /// The numbers from `first` on, `count` of them.
-pub(crate) fn numbers_from(alloc: Global, first: u32, count: u32) -> Result<Vec<u32>>
+pub fn numbers_from(alloc: Global, first: u32, count: u32) -> Result<Vec<u32>>
     requires { first + count ≤ 2 ^ 32 }
     ensures { IfOk result (λ numbers. numbers.items ≡ range_with_len first count) }
 {

@@ -19,8 +19,8 @@ use par2_spec::Result;
 use par2_transform::Places;
 use std::alloc::Global;
 
-// Zeros.
-pub(crate) fn blank(alloc: Global, count: usize, size: usize) -> Result<Vec<Vec<u8>>>
+/// So many texts of `size` zeros.
+pub fn blank(alloc: Global, count: usize, size: usize) -> Result<Vec<Vec<u8>>>
     ensures { IfOk result (λ texts. AreBlank size count (lists_of texts.items)) }
 {
     let mut texts = Vec::with_capacity(alloc, count)?;

@@ -1,15 +1,6 @@
 -- Recovery slices that are written into texts of zeros, each one of its own.
-use Rattle.recovery_calls.proofs.Common.{◌≡◌, ◌<◌, ◌*◌, ◌+◌, ◌∙◌, ℕ, List, [], refl, sym, ap, arith, length, map, get_or, replicate, ext_get_or, length-replicate, list_at, place_at}
-use Rattle.std.proofs.Common.{ap₂, drop, take}
-use Rattle.std.proofs.lemmas.List.{take_all}
-use Rattle.std.specs.List.{range_with_len}
+use Rattle.recovery_calls.proofs.Common.{◌≡◌, ◌<◌, ◌*◌, ◌+◌, ◌∙◌, ℕ, List, [], refl, sym, ap, arith, length, map, get_or, replicate, ext_get_or, length-replicate, list_at, place_at, ap₂, drop, take, take_all, range_with_len, padded, AreWholeTexts, HaveWords, Place, AreBlank, output_at, AreWritten, AreZeros, get_or-map-range_with_len, get_or-range_with_len, length-map-range_with_len}
 use Rattle.par2_spec.specs.Recovery.{recovery}
-use Rattle.par2_spec.specs.Slices.{padded}
-use Rattle.par2_transform.specs.Adding.{AreWholeTexts, HaveWords}
-use Rattle.par2_transform.specs.declared.outputs.Place.{Place}
-use Rattle.par2_recovery.specs.Views.{AreBlank}
-use Rattle.par2_recovery.specs.Writing.{output_at, AreWritten, AreZeros}
-use Rattle.std.proofs.lemmas.List.FromFn.{get_or-map-range_with_len, get_or-range_with_len, length-map-range_with_len}
 
 module _ (size words count : ℕ) (places : List Place) (even : size ≡ 2 * words) (whole : AreWholeTexts count places) where
   -- the output of a text is the text

@@ -6,36 +6,13 @@ ghost use Rattle.par2_spec.specs.Slices.{padded};
 ghost use Rattle.par2_spec.specs.Recovery.{recovery};
 ghost use Rattle.par2_spec.specs.Sums.{lists_of};
 ghost use Rattle.par2_recovery.specs.Answers.{slices_of_set};
-ghost use Rattle.par2_recovery.specs.Views.{texts_of, AreBlank};
+ghost use Rattle.par2_recovery.specs.Views.{texts_of};
 
 use par2_folder::Folder;
 use par2_gf16::Gf;
-use par2_recovery::{SetRecord, input_slices, write_recovery_slices};
+use par2_recovery::{SetRecord, blank, input_slices, numbers_from, write_recovery_slices};
 use par2_transform::{Places, whole_texts};
 use std::alloc::{AllocError, Global};
-
-// The exponents from `first` on, `count` of them.
-fn exponents_from(alloc: Global, first: u32, count: u32) -> Result<Vec<u32>, AllocError>
-    requires { first + count ≤ 2 ^ 32 }
-    ensures { IfOk result (λ exponents. exponents.items ≡ range_with_len first count) }
-{
-    let mut exponents = Vec::with_capacity(alloc, count as usize)?;
-    for k in 0..count {
-        exponents.push(first + k)?;
-    }
-    Ok(exponents)
-}
-
-// Texts of zeros.
-fn zeros(alloc: Global, count: usize, size: usize) -> Result<Vec<Vec<u8>>, AllocError>
-    ensures { IfOk result (λ texts. AreBlank size count (lists_of texts.items)) }
-{
-    let mut texts = Vec::with_capacity(alloc, count)?;
-    for _i in 0..count {
-        texts.push(vec![in alloc; 0u8; size]?)?;
-    }
-    Ok(texts)
-}
 
 /// The recovery slices of `count` exponents from `first` on over slices of `size` bytes. Zeros follow a slice that is
 /// shorter, as `input_slices` answers the last ones of files.
@@ -53,10 +30,10 @@ pub fn recovery_slices_over(
     ensures { IfOk result (λ texts. lists_of texts.items ≡ map (recovery size
         (map (padded size) (texts_of slices.now))) (range_with_len first count)) }
 {
-    let exponents = exponents_from(alloc, first, count)?;
+    let exponents = numbers_from(alloc, first, count)?;
     let places = whole_texts(alloc, count as usize)?;
     let outputs = Places::new(&places, size / 2);
-    let mut texts = zeros(alloc, count as usize, size)?;
+    let mut texts = blank(alloc, count as usize, size)?;
     write_recovery_slices(
         alloc,
         gf,

@@ -1,6 +1,4 @@
-use Rattle.recovery_calls.proofs.Common.{◌≡◌, ℕ, List, length, map, ap, rules, arith, Bor, length-map}
-use Rattle.par2_spec.specs.Slices.{padded}
-use Rattle.par2_recovery.specs.Views.{texts_of}
+use Rattle.recovery_calls.proofs.Common.{ℕ, List, length, ap, rules, arith, Bor, length-map, padded, texts_of}
 use Rattle.recovery_calls.proofs.recovery_slice_of.Goals as goal
 
 pub recovery_slice-requires-clause-slices : goal.recovery_slice-requires-clause-slices

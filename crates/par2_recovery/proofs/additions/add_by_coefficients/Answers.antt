@@ -1,22 +1,10 @@
-use Rattle.par2_recovery.proofs.Common.{◌∙◌, ap, sym, arith, length, lists_of, still_within, products, texts_of}
-use Rattle.par2_recovery.proofs.AdditionLaws.{products_are, no_columns_yet, next_columns, all_columns_added}
-use Rattle.par2_recovery.proofs.Combinations.{length-texts_of, rows_long, length-rows}
+use Rattle.par2_recovery.proofs.Common.{◌∙◌, ap, sym, arith, length, lists_of, products, texts_of}
+use Rattle.par2_recovery.proofs.AdditionLaws.{products_are, next_columns, all_columns_added}
+use Rattle.par2_recovery.proofs.Combinations.{length-texts_of, rows_long}
 use Rattle.par2_recovery.proofs.additions.add_by_coefficients.Goals as goal
-
-pub add_columns-requires-clause-rows : goal.add_columns-requires-clause-rows
-add_columns-requires-clause-rows c = length-rows (length c.args.slices.now) c.args.exponents.now _ (ap lists_of c.deref.ensures.value ∙ c.in_ok-rows.ensures) ∙ c.requires.count
-
-pub add_columns-requires-clause-some : goal.add_columns-requires-clause-some
-add_columns-requires-clause-some c = rw (length-rows (length c.args.slices.now) c.args.exponents.now c.deref.result.now (ap lists_of c.deref.ensures.value ∙ c.in_ok-rows.ensures)) c.requires.some
 
 pub add_columns-requires-clause-factors : goal.add_columns-requires-clause-factors
 add_columns-requires-clause-factors c = rows_long _ c.args.exponents.now _ (ap lists_of c.deref.ensures.value ∙ c.in_ok-rows.ensures)
-
-pub add_columns-requires-clause-room : goal.add_columns-requires-clause-room
-add_columns-requires-clause-room c = still_within c.args.outputs.now.places.now c.args.outputs.now.words c.args.outputs.now.words _ (lists_of c.args.texts.now) (lists_of c.loop-from.texts) c.loop-from.invariant.added c.requires.room
-
-pub loop-from-init : goal.loop-from-init
-loop-from-init c = record { added = no_columns_yet c.args.outputs.now.places.now c.args.outputs.now.words _ (lists_of c.args.texts.now); within = omega arith }
 
 pub loop-from-preserved : goal.loop-from-preserved
 loop-from-preserved c = record {

@@ -19,12 +19,3 @@ pub returns : goal.returns
 returns c =
     sums_are c.args.outputs.now.places.now c.args.outputs.now.words c.args.from c.args.to (length c.args.slices.now) (lists_of c.args.rows.now) (texts_of c.args.slices.now) (texts_of c.deref.result.now) (lists_of c.deref-2.result.now) (lists_of c.args.texts.now) (lists_of c.add_sums.new.texts) c.requires.order
     (ap texts_of c.deref.ensures.value ∙ c.in_ok-windows.ensures) (sym (length-texts_of c.args.slices.now)) (length-lists_of c.args.rows.now ∙ c.requires.rows) (rw (← c.deref-2.ensures.value) at c.in_ok-sums.ensures) c.add_sums.ensures
-
-pub add_sums-requires-clause-room : goal.add_sums-requires-clause-room
-add_sums-requires-clause-room c = c.requires.room
-
-pub add_sums-requires-clause-order : goal.add_sums-requires-clause-order
-add_sums-requires-clause-order c = c.requires.order
-
-pub add_sums-requires-clause-inside : goal.add_sums-requires-clause-inside
-add_sums-requires-clause-inside c = c.requires.inside

@@ -1,5 +1,5 @@
-use Rattle.par2_recovery.proofs.Common.{◌≤◌, ◌-◌, ◌∙◌, get_or, sym, ap, arith, length, drop, recovered, length-take-le, length-drop, lists_of, still_within, group_within, length-group, texts_of}
-use Rattle.par2_recovery.proofs.AdditionLaws.{none_added, adds_group, all_added}
+use Rattle.par2_recovery.proofs.Common.{◌≤◌, ◌-◌, ◌∙◌, sym, ap, arith, length, drop, length-take-le, length-drop, lists_of, still_within, group_within, length-group, texts_of}
+use Rattle.par2_recovery.proofs.AdditionLaws.{adds_group}
 use Rattle.par2_recovery.proofs.additions.add_recovery.Goals.{After-group_end-to}
 use Rattle.par2_recovery.proofs.additions.add_recovery.Goals as goal
 
@@ -8,12 +8,6 @@ order c = omega (arith, c.group_end-to.ensures.beyond)
 
 fits : (c : After-group_end-to) → c.group_end-to.result ≤ length c.args.outputs.now.places.now
 fits c = omega (arith, c.group_end-to.ensures.within, c.requires.count)
-
-pub loop-at-init : goal.loop-at-init
-loop-at-init c = record {
-  added = none_added c.args.outputs.now.places.now c.args.outputs.now.words (λ t p. recovered (texts_of c.args.slices.now) (get_or c.args.exponents.now t 0) p) (lists_of c.args.texts.now);
-  within = omega arith;
-}
 
 pub add_group-requires-clause-count : goal.add_group-requires-clause-count
 add_group-requires-clause-count c =
@@ -36,8 +30,3 @@ loop-at-preserved c =
           c.part-group.ensures.places c.part-group.ensures.words c.loop-at.invariant.added c.in_ok-add_group.ensures;
       within = c.group_end-to.ensures.within;
     }
-
-pub returns : goal.returns
-returns c =
-    all_added c.args.outputs.now.places.now c.args.outputs.now.words c.loop-at.at (λ t p. recovered (texts_of c.args.slices.now) (get_or c.args.exponents.now t 0) p) (lists_of c.args.texts.now) (lists_of c.loop-at.texts)
-    (let h = c.loop-at-test.false in let e = c.requires.count in omega (arith, h, e)) c.loop-at.invariant.added

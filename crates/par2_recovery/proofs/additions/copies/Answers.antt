@@ -1,4 +1,4 @@
-use Rattle.par2_recovery.proofs.Common.{◌∙◌, ◌<◌, [], length, sym, subst, ap, arith, take_more, take_all, texts_of}
+use Rattle.par2_recovery.proofs.Common.{◌∙◌, ◌<◌, [], length, sym, subst, arith, take_more, take_all, texts_of}
 use Rattle.par2_recovery.proofs.Combinations.{lists_push, length-texts_of}
 use Rattle.par2_recovery.proofs.additions.copies.Goals as goal
 

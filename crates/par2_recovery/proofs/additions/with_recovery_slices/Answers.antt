@@ -1,4 +1,4 @@
-use Rattle.par2_recovery.proofs.Common.{ℕ, ◌≡◌, rules, get_or, length, ◌∙◌, sym, with_items_is, lists_of, recovered, texts_of}
+use Rattle.par2_recovery.proofs.Common.{ℕ, ◌≡◌, rules, get_or, length, with_items_is, lists_of, recovered, texts_of}
 use Rattle.par2_transform.proofs.WholeTexts.{whole_within, whole_added}
 use Rattle.par2_recovery.proofs.Combinations.{length-texts_of}
 use Rattle.par2_recovery.proofs.additions.with_recovery_slices.Goals as goal
@@ -16,9 +16,3 @@ returns c =
     rw (with_items_is c.in_ok-sums.sums new size)
     (whole_added c.args.words given c.in_ok-places.places.items (texts_of c.args.texts.now) (lists_of new) (rw (← length-texts_of c.args.texts.now) at c.in_ok-places.ensures) c.requires.size
     (rw (c.as_mut_slice-all.ensures.value, c.in_ok-sums.ensures, c.new-outputs.ensures.places, c.deref.ensures.value, c.new-outputs.ensures.words) at c.in_ok-add_recovery.ensures))
-
-pub add_recovery-requires-clause-count : goal.add_recovery-requires-clause-count
-add_recovery-requires-clause-count c = rw (c.new-outputs.ensures.places, c.deref.ensures.value) (c.requires.count ∙ sym c.in_ok-places.ensures.count)
-
-pub add_recovery-requires-clause-slices : goal.add_recovery-requires-clause-slices
-add_recovery-requires-clause-slices c = c.requires.slices

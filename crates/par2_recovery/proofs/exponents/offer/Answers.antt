@@ -1,5 +1,4 @@
-use Rattle.par2_recovery.proofs.Common.{sym, ap, ◌∙◌, refl, length, length-map, coefficient, coefficients, Dependent}
-use Rattle.std.proofs.Common.{Ok}
+use Rattle.par2_recovery.proofs.Common.{sym, ap, ◌∙◌, refl, length, length-map, coefficient, coefficients, Dependent, Ok}
 use Rattle.par2_recovery.proofs.Ranks.{full_follows, dependent_is_not_kept}
 use Rattle.par2_recovery.proofs.exponents.offer.Goals as goal
 

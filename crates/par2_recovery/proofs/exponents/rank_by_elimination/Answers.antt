@@ -13,6 +13,3 @@ pub returns : goal.returns
 returns c =
     let at_end : c.loop-i.i ≡ length c.args.exponents.now = omega (arith, c.loop-i-test.false, c.loop-i.auto.i-end) in
     c.rank.ensures.value ∙ all_offered c.args.lost.now c.args.exponents.now c.loop-i.i c.loop-i.system at_end c.loop-i.invariant.so_far
-
-pub offer-requires-clause-lost : goal.offer-requires-clause-lost
-offer-requires-clause-lost c = c.requires.lost

@@ -14,9 +14,3 @@ returns-then-has_run c =
     let run : IsTrue c.has_run.result = search rules in
     let found = c.has_run.ensures.0 run in
     sym (run_rank c.args.lost.now c.args.exponents.now found.0 (are_slices c.args.lost.now (c.rise.ensures.0 rising) c.requires.lost) c.requires.exponents found.1)
-
-pub are_close-requires : goal.are_close-requires
-are_close-requires c = c.requires.exponents
-
-pub has_run-requires : goal.has_run-requires
-has_run-requires c = c.requires.exponents

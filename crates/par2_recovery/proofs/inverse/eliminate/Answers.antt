@@ -1,20 +1,8 @@
-use Rattle.par2_recovery.proofs.Common.{◌≡◌, ◌*◌, [], rules, ◌∙◌, ℕ, List, Vec, Global, refl, ap, sym, subst, arith, length, Bor, Ok, Kept, Dependent, recovered_of}
+use Rattle.par2_recovery.proofs.Common.{◌≡◌, ◌∙◌, ℕ, List, Vec, Global, ap, sym, subst, arith, length, Bor, Ok, Kept, Dependent, recovered_of}
 use Rattle.par2_recovery.proofs.Inverting.{length-recovered_of}
 use Rattle.par2_recovery.proofs.Ranks.{dependent_is_not_kept}
-use Rattle.par2_recovery.proofs.Standing.{Standing, none_stands, kept_turn, dropped_turn, eliminated}
+use Rattle.par2_recovery.proofs.Standing.{Standing, kept_turn, dropped_turn, eliminated}
 use Rattle.par2_recovery.proofs.inverse.eliminate.Goals as goal
-use Rattle.par2_recovery.proofs.inverse.eliminate.Goals.{in-Kept+in_ok-push-in-Kept, in-Dependent}
-
-pub loop-i-init : goal.loop-i-init
-loop-i-init c =
-    let none : c.new-kept.result.items ≡ [] = search rules in
-    rw (c.in_ok-system.ensures, none) (none_stands c.args.lost.now (recovered_of c.args.recovery.now) (length c.args.lost.now) (2 * length c.args.lost.now) refl refl)
-
-pub offer_unit-requires-clause-columns : goal.offer_unit-requires-clause-columns
-offer_unit-requires-clause-columns c = c.loop-i.invariant.so_far.columns
-
-pub offer_unit-requires-clause-bytes : goal.offer_unit-requires-clause-bytes
-offer_unit-requires-clause-bytes c = c.loop-i.invariant.bytes
 
 pub loop-i-preserved : goal.loop-i-preserved
 loop-i-preserved c =
@@ -23,11 +11,11 @@ loop-i-preserved c =
     let system = c.loop-i.system in
     let offered = c.offer_unit.ensures in
     elim c.match-branch-3.branch [
-      | in-Kept+in_ok-push-in-Kept w ↦
+      | goal.in-Kept+in_ok-push-in-Kept w ↦
           let is : c.offer_unit.result ≡ Ok Kept = c.in_ok-offer_unit.was ∙ ap Ok w.in-Kept.is in
           kept_turn lost recovery c.loop-i.i system c.offer_unit.new.system c.loop-i.kept.items c.match-branch-3.kept.items _ c.requires.exponents c.loop-i-test.true
           (ap (λ (x : Vec (ℕ × Bor (List ℕ)) Global). x.items) w.kept-is ∙ w.in_ok-push-in-Kept.ensures.items) c.loop-i.invariant offered.columns offered.bytes (offered.kept is) (offered.told is)
-      | in-Dependent w ↦
+      | goal.in-Dependent w ↦
           let is : c.offer_unit.result ≡ Ok Dependent = c.in_ok-offer_unit.was ∙ ap Ok w.in-Dependent.is in
           dropped_turn lost recovery (recovered_of c.match-branch-3.kept.items) c.loop-i.i system c.offer_unit.new.system _ c.requires.exponents c.loop-i-test.true
           (subst (λ (xs : Vec (ℕ × Bor (List ℕ)) Global). Standing lost (recovered_of recovery) (recovered_of xs.items) c.loop-i.i system) (sym w.kept-is) c.loop-i.invariant) (offered.dependent is) (offered.unchanged (dependent_is_not_kept c.offer_unit.result is))
@@ -39,9 +27,3 @@ returns c =
     let n = length-recovered_of c.args.recovery.now in
     let at_end : c.loop-i.i ≡ length recs = omega (arith, n, c.loop-i-test.false, c.loop-i.auto.i-end) in
     eliminated c.args.lost.now recs (recovered_of c.loop-i.kept.items) c.loop-i.i c.loop-i.system at_end c.loop-i.invariant
-
-pub offer_unit-requires-clause-count : goal.offer_unit-requires-clause-count
-offer_unit-requires-clause-count c = c.requires.count
-
-pub offer_unit-requires-clause-lost : goal.offer_unit-requires-clause-lost
-offer_unit-requires-clause-lost c = c.requires.lost

@@ -16,9 +16,6 @@ slice_bounds-from_slice-end c =
     let most = front_within (exponents_of recovery) c.in-Some.first (length c.args.lost.now) (run (goal.at.slice_bounds-from_slice-end c).In-Some) in
     sym (length-take-le (length c.args.lost.now) recovery (omega (arith, inner, outer, most)))
 
-pub run_inverse-requires : goal.run_inverse-requires
-run_inverse-requires c = are_slices c.args.lost.now c.requires.rise c.requires.lost
-
 pub returns-clause-kept : goal.returns-clause-kept
 returns-clause-kept c =
     let at = (goal.at.returns-clause-kept c).In-Some in
@@ -34,15 +31,3 @@ pub returns-clause-enough : goal.returns-clause-enough
 returns-clause-enough c = λ _.
     let at = (goal.at.returns-clause-enough c).In-Some in
     run_determines c.args.lost.now (exponents_of c.args.recovery.now) c.in-Some.first (are_slices c.args.lost.now c.requires.rise c.requires.lost) (has_run_front (exponents_of c.args.recovery.now) c.in-Some.first (length c.args.lost.now) (run at))
-
-pub invert_by_elimination-requires-clause-count : goal.invert_by_elimination-requires-clause-count
-invert_by_elimination-requires-clause-count c = c.requires.count
-
-pub invert_by_elimination-requires-clause-lost : goal.invert_by_elimination-requires-clause-lost
-invert_by_elimination-requires-clause-lost c = c.requires.lost
-
-pub invert_by_elimination-requires-clause-exponents : goal.invert_by_elimination-requires-clause-exponents
-invert_by_elimination-requires-clause-exponents c = c.requires.exponents
-
-pub run_at_front-requires : goal.run_at_front-requires
-run_at_front-requires c = rw (c.deref.ensures.value, c.in_ok-exponents.ensures) c.requires.exponents

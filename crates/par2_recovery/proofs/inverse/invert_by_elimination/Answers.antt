@@ -8,18 +8,6 @@ returns-in-Ok-clause-inverse c =
     are_inverse c.args.lost.now (recovered_of c.args.recovery.now) (recovered_of c.in_ok-kept.field-0.kept.items) c.in_ok-kept.field-0.system (lists_of texts) (lists_of c.in_ok-rows_of-in-Ok.field-0.items) c.in_ok-kept.ensures c.in-Ok.ensures.ok (c.in-Ok.ensures.when.0 refl)
     (rw (c.deref.ensures.value, ← length-lists_of texts) at c.in_ok-rows_of-in-Ok.ensures)
 
-pub returns-in-Ok-clause-enough : goal.returns-in-Ok-clause-enough
-returns-in-Ok-clause-enough c = λ _. c.in_ok-kept.ensures.repairable.0 (c.rank-rank.ensures.full.0 (c.rank-rank.ensures.value ∙ c.in-Ok.ensures.when.0 refl))
-
 pub returns-clause-refused : goal.returns-clause-refused
 returns-clause-refused c =
     (refl, c.rank-rank.ensures.value ∙ c.in_ok-kept.ensures.rank, λ can. false≢true (c.in-Err.ensures.when.1 (sym c.rank-rank.ensures.value ∙ c.rank-rank.ensures.full.1 (c.in_ok-kept.ensures.repairable.1 can))))
-
-pub eliminate-requires-clause-count : goal.eliminate-requires-clause-count
-eliminate-requires-clause-count c = c.requires.count
-
-pub eliminate-requires-clause-lost : goal.eliminate-requires-clause-lost
-eliminate-requires-clause-lost c = c.requires.lost
-
-pub eliminate-requires-clause-exponents : goal.eliminate-requires-clause-exponents
-eliminate-requires-clause-exponents c = c.requires.exponents

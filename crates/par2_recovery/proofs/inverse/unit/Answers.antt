@@ -5,9 +5,6 @@ use Rattle.par2_recovery.proofs.inverse.unit.Goals as goal
 zeros : (c : After-as_mut_slice) → c.as_mut_slice.result.now ≡ replicate (2 * c.args.n) 0
 zeros c = c.as_mut_slice.ensures.value ∙ c.in_ok-text.ensures.items_if_clones_equal (λ y h. search rules)
 
-pub returns-then-i-n-clause-unit : goal.returns-then-i-n-clause-unit
-returns-then-i-n-clause-unit c = λ low. absurd (omega (arith, low, c.if-i-n.true))
-
 pub put_element-requires : goal.put_element-requires
 put_element-requires c = let size = ap length (zeros (goal.at.put_element-requires c).After-as_mut_slice) ∙ length-replicate {A = ℕ} (2 * c.args.n) 0 in omega (arith, size, c.if-i-n.false)
 

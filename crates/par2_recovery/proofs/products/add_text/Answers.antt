@@ -6,9 +6,3 @@ pub returns-then-is_empty : goal.returns-then-is_empty
 returns-then-is_empty c =
     let none : length c.args.text.now ≡ 0 = search rules in
     empty_source (λ r. get_or (list_at (lists_of c.args.factors.now) r) c.args.k 0) c.args.text.now (lists_of c.args.targets.now) c.args.from c.args.to (length c.args.targets.now) none
-
-pub add_source-requires-clause-rows : goal.add_source-requires-clause-rows
-add_source-requires-clause-rows c = c.requires.rows
-
-pub add_source-requires-clause-factors : goal.add_source-requires-clause-factors
-add_source-requires-clause-factors c = c.requires.factors

@@ -1,13 +1,7 @@
-use Rattle.par2_recovery.proofs.Common.{◌≡◌, ◌*◌, ◌/◌, ◌∙◌, ap, sym, arith, rules, length, List, Vec, Global, ℕ, with_items_is, lists_of, length-lists_of, texts_of}
-use Rattle.par2_recovery.proofs.Combinations.{blank_room, length-texts_of}
+use Rattle.par2_recovery.proofs.Common.{◌≡◌, ◌*◌, ◌/◌, sym, arith, rules, length, with_items_is, lists_of, length-lists_of, texts_of}
+use Rattle.par2_recovery.proofs.Combinations.{length-texts_of}
 use Rattle.par2_recovery.proofs.Solving.{products_added}
 use Rattle.par2_recovery.proofs.products.products_of.Goals as goal
-
-pub add_products-requires-clause-room : goal.add_products-requires-clause-room
-add_products-requires-clause-room c = λ r h.
-    let count = ap (λ (xs : List (Vec ℕ Global)). length xs) c.as_mut_slice.ensures.value ∙ sym (length-lists_of c.in_ok-sums.sums.items) ∙ c.in_ok-sums.ensures.count in
-    rw c.as_mut_slice.ensures.value
-    (blank_room c.args.size (length c.args.factors.now) (2 * (c.args.size / 2)) (lists_of c.in_ok-sums.sums.items) c.in_ok-sums.ensures (omega arith) r (omega (arith, h, count)))
 
 pub returns : goal.returns
 returns c =
@@ -17,9 +11,3 @@ returns c =
     rw (with_items_is c.in_ok-sums.sums new many, whole)
     (products_added (c.args.size / 2) (length c.args.factors.now) (lists_of c.args.factors.now) (texts_of c.args.sources.now) (lists_of c.in_ok-sums.sums.items) (lists_of new) (sym (length-lists_of c.args.factors.now)) (rw whole at c.in_ok-sums.ensures)
     (rw (c.as_mut_slice.ensures.value, ← length-texts_of c.args.sources.now) at c.in_ok-add_products.ensures))
-
-pub add_products-requires-clause-factors : goal.add_products-requires-clause-factors
-add_products-requires-clause-factors c = c.requires.factors
-
-pub add_products-requires-clause-rows : goal.add_products-requires-clause-rows
-add_products-requires-clause-rows c = rw c.as_mut_slice.ensures.value (sym c.in_ok-sums.ensures.count ∙ length-lists_of c.in_ok-sums.sums.items)

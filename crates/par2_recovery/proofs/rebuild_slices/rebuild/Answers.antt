@@ -35,6 +35,3 @@ solved_by-requires-clause-enough c = rw (are_lost (goal.at.solved_by-requires-cl
 
 pub returns-clause-enough : goal.returns-clause-enough
 returns-clause-enough c = λ _. rw (are_lost (goal.at.returns-clause-enough c).After-deref-3, c.deref-3.ensures.value) at (c.in_ok-found.ensures.enough refl)
-
-pub invert-requires-clause-exponents : goal.invert-requires-clause-exponents
-invert-requires-clause-exponents c = rw c.deref-3.ensures.value c.requires.exponents

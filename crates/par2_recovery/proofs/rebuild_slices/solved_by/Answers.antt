@@ -47,6 +47,3 @@ returns c =
     (subst AreBytes (recovery_are at) c.in_ok-texts.ensures.recovery)
     (rw (c.deref-4.ensures.value, recovery_are at, slices_are at, exponents_are at) at c.in_ok-texts.ensures.solved) (rw c.deref-8.ensures.value at c.fit_lists.ensures) in
     record { rebuilt = made.0; count = sym (length-lists_of c.in_ok-texts.texts.items) ∙ made.1 }
-
-pub solved-requires-clause-even : goal.solved-requires-clause-even
-solved-requires-clause-even c = c.requires.survivors.even

@@ -1,5 +1,4 @@
-use Rattle.par2_recovery.proofs.Common.{◌≡◌, map, padded, all_slices, files_of, texts_of, names_of}
-use Rattle.std.specs.Prelude.{take}
+use Rattle.par2_recovery.proofs.Common.{◌≡◌, map, take, padded, all_slices, files_of, texts_of, names_of}
 use Rattle.par2_recovery.proofs.recovery.input_slices.Given as goal
 
 abbrev pub invariant-loop-i : goal.invariant-loop-i

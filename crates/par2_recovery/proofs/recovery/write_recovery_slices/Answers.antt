@@ -6,12 +6,3 @@ pub returns : goal.returns
 returns c =
     are_written c.args.outputs.now.places.now c.args.outputs.now.words c.args.exponents.now (texts_of c.args.slices.now) (lists_of c.args.texts.now) (lists_of c.add_recovery.new.texts)
     c.fit_texts.ensures c.fit_lists.ensures c.requires.room c.requires.zeros c.in_ok-add_recovery.ensures
-
-pub add_recovery-requires-clause-room : goal.add_recovery-requires-clause-room
-add_recovery-requires-clause-room c = c.requires.room
-
-pub add_recovery-requires-clause-count : goal.add_recovery-requires-clause-count
-add_recovery-requires-clause-count c = c.requires.count
-
-pub add_recovery-requires-clause-slices : goal.add_recovery-requires-clause-slices
-add_recovery-requires-clause-slices c = c.requires.slices

@@ -1,4 +1,4 @@
-use Rattle.par2_recovery.proofs.Common.{IfOk-weaker, ◌≡◌, ◌<◌, ◌∷◌, [], ◌∙◌, ℕ, List, refl, ap, ap₂, arith, length, map, all_at, length-map, product-one, pow, constant, coefficient, coefficients, lists_of, constant-lt}
+use Rattle.par2_recovery.proofs.Common.{IfOk-weaker, ◌≡◌, ◌<◌, ◌∷◌, [], ◌∙◌, ℕ, List, refl, ap, ap₂, arith, length, map, length-map, product-one, pow, constant, coefficient, coefficients, lists_of, constant-lt}
 use Rattle.par2_recovery.proofs.RunInverses.{at_itself, is_inverse}
 use Rattle.par2_recovery.proofs.run_inverse.run_inverse.Goals.{After-as_slice-points}
 use Rattle.par2_recovery.proofs.run_inverse.run_inverse.Goals as goal
@@ -11,9 +11,6 @@ first_powers (k ∷ slices) = ap₂ (λ (c : ℕ) cs. c ∷ cs) (product-one (co
 
 points_are : (c : After-as_slice-points) → c.as_slice-points.result.now ≡ map constant c.args.lost.now
 points_are c = c.as_slice-points.ensures.value ∙ c.in_ok-constants.ensures ∙ first_powers c.args.lost.now
-
-pub coefficients-requires : goal.coefficients-requires
-coefficients-requires c = all_at (λ k. k < 32768) 0 (omega arith) c.args.lost.now c.requires.below
 
 pub inverse_rows-requires : goal.inverse_rows-requires
 inverse_rows-requires c = λ j h.

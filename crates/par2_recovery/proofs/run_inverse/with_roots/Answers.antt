@@ -13,8 +13,3 @@ loop-i-preserved c =
     let next : i - 1 + 1 ≡ i = omega (arith, low) in
     c.in_ok-p-2.ensures ∙ ap (times_root (get_or points (i - 1) 0)) (c.deref.ensures.value ∙ c.loop-i.invariant ∙ ap (λ n. with_roots (drop n points)) (sym next))
     ∙ sym (with_roots_from points (i - 1) (let within = c.loop-i.auto.i in omega (arith, low, within)))
-
-pub returns : goal.returns
-returns c =
-    let at_end : c.loop-i.i ≡ 0 = search rules in
-    c.loop-i.invariant ∙ ap (λ n. with_roots (drop n c.args.points.now)) at_end

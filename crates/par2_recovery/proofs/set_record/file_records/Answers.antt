@@ -1,13 +1,10 @@
-use Rattle.par2_recovery.proofs.Common.{arith, get_or, ◌≡◌, ◌∙◌, [], ap, sym, map, md5, bytes_of, get_or_default, take_all, record_of, files_of}
-use Rattle.par2_recovery.proofs.Records.{digest_at_name, many_digests, record_push}
+use Rattle.par2_recovery.proofs.Common.{get_or, ◌≡◌, ◌∙◌, [], ap, sym, md5, bytes_of, get_or_default}
+use Rattle.par2_recovery.proofs.Records.{digest_at_name, record_push}
 use Rattle.par2_recovery.proofs.set_record.file_records.Goals.{After-as_str-name}
 use Rattle.par2_recovery.proofs.set_record.file_records.Goals as goal
 
 named : (c : After-as_str-name) → c.as_str-name.result.now ≡ get_or c.args.names.now c.loop-i.i []
 named c = c.as_str-name.ensures.text ∙ c.index-names-i.is ∙ get_or_default c.args.names.now c.loop-i.i _ [] c.loop-i-test.true
-
-pub bounds-md5s-i : goal.bounds-md5s-i
-bounds-md5s-i c = omega (arith, many_digests c.args.folder.now.files c.args.names.now c.args.md5s.now c.requires.md5s)
 
 pub file_record_by_md5-requires-clause-digest : goal.file_record_by_md5-requires-clause-digest
 file_record_by_md5-requires-clause-digest c =
@@ -20,8 +17,3 @@ loop-i-preserved c =
     rw c.in_ok-push.ensures.items
     (record_push c.args.s c.args.folder.now.files c.args.names.now c.loop-i.i c.loop-i.records.items c.in_ok-file_record_by_md5.field-0 c.as_str-name.result.now c.bytes_of-bytes.result.now
     c.loop-i-test.true (named (goal.at.loop-i-preserved c).After-as_str-name) c.bytes_of-bytes.ensures c.loop-i.invariant c.in_ok-file_record_by_md5.ensures)
-
-pub returns : goal.returns
-returns c =
-    let files = c.args.folder.now.files in
-    c.loop-i.invariant ∙ ap (λ ns. map (record_of c.args.s) (files_of files ns)) (take_all c.loop-i.i c.args.names.now (omega (arith, c.loop-i-test.false)))

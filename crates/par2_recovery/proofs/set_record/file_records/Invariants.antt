@@ -1,5 +1,4 @@
-use Rattle.par2_recovery.proofs.Common.{◌≡◌, map, record_of, files_of, file_record_of}
-use Rattle.std.specs.Prelude.{take}
+use Rattle.par2_recovery.proofs.Common.{◌≡◌, map, take, record_of, files_of, file_record_of}
 use Rattle.par2_recovery.proofs.set_record.file_records.Given as goal
 
 abbrev pub invariant-loop-i : goal.invariant-loop-i

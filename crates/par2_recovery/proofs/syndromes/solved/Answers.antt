@@ -1,4 +1,4 @@
-use Rattle.par2_recovery.proofs.Common.{◌≡◌, refl, sym, arith, rules, length, ◌∙◌, with_items_is, lists_of, length-lists_of, texts_of}
+use Rattle.par2_recovery.proofs.Common.{◌≡◌, refl, sym, arith, rules, length, with_items_is, lists_of, length-lists_of, texts_of}
 use Rattle.par2_recovery.proofs.Solving.{none_solved, more_solved}
 use Rattle.par2_recovery.proofs.syndromes.solved.Goals as goal
 
@@ -29,28 +29,3 @@ loop-from-init c = record {
   even = refl;
   within = omega arith;
 }
-
-pub returns-clause-solved : goal.returns-clause-solved
-returns-clause-solved c =
-    let all : c.loop-from.from ≡ c.args.size = omega (arith, c.loop-from-test.false, c.loop-from.invariant.within) in
-    rw all at c.loop-from.invariant.solved
-
-pub solved_block-requires-clause-inverse : goal.solved_block-requires-clause-inverse
-solved_block-requires-clause-inverse c = c.requires.inverse
-
-pub solved_block-requires-clause-count : goal.solved_block-requires-clause-count
-solved_block-requires-clause-count c = c.requires.count
-
-pub solved_block-requires-clause-exponents : goal.solved_block-requires-clause-exponents
-solved_block-requires-clause-exponents c = c.requires.exponents
-
-pub returns-clause-slices : goal.returns-clause-slices
-returns-clause-slices c = c.fit_texts.ensures
-
-pub returns-clause-recovery : goal.returns-clause-recovery
-returns-clause-recovery c = c.fit_texts-2.ensures
-
-pub extend-requires : goal.extend-requires
-extend-requires c =
-    rw (c.deref.ensures.value, c.as_mut_slice.ensures.value)
-    (sym (length-lists_of c.in_ok-lost.lost.items) ∙ c.in_ok-lost.ensures.count ∙ sym c.loop-from.invariant.solved.count ∙ length-lists_of c.loop-from.texts.items)

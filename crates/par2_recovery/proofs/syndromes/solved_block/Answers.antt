@@ -1,4 +1,4 @@
-use Rattle.par2_recovery.proofs.Common.{◌≡◌, ◌<◌, ◌≤◌, ◌∙◌, ℕ, sym, ap, subst, arith, length, map, IfOk-weaker, list_at, lists_of, window, AreProducts, AreSolved, texts_of}
+use Rattle.par2_recovery.proofs.Common.{◌≡◌, ◌<◌, ◌∙◌, ℕ, sym, ap, arith, length, map, IfOk-weaker, list_at, lists_of, window, AreProducts, AreSolved, texts_of}
 use Rattle.par2_recovery.proofs.Combinations.{length-texts_of}
 use Rattle.par2_recovery.proofs.Solving.{many_windows, window_size, words_solved}
 use Rattle.par2_recovery.proofs.syndromes.solved_block.Goals.{After-deref-2}
@@ -16,9 +16,6 @@ many c = many_windows c.args.from c.args.count c.args.recovery.now c.deref-2.res
 sizes : (c : After-deref-2) (j : ℕ) → j < length (texts_of c.deref-2.result.now) → length (list_at (texts_of c.deref-2.result.now) j) ≡ c.args.count
 sizes c j h = window_size c.args.from c.args.count (texts_of c.args.recovery.now) (texts_of c.deref-2.result.now) (recovery_are c)
     (λ i low. c.requires.size i (let n = length-texts_of c.args.recovery.now in omega (arith, low, n))) j h
-
-pub with_recovery_slices-requires-clause-slices : goal.with_recovery_slices-requires-clause-slices
-with_recovery_slices-requires-clause-slices c = subst (λ n. n ≤ 32768) (sym (many_windows c.args.from c.args.count c.args.slices.now c.deref.result.now (slices_are c))) c.requires.count
 
 pub with_recovery_slices-requires-clause-size : goal.with_recovery_slices-requires-clause-size
 with_recovery_slices-requires-clause-size c = λ j h. let size = sizes c j h in omega (arith, size, c.requires.even)

@@ -1,5 +1,4 @@
-use Rattle.recovery_calls.proofs.Common.{ℕ, List, ◌∙◌, ◌≡◌, refl, sym, ap, map}
-use Rattle.std.proofs.lemmas.Bool.{false≢true}
+use Rattle.recovery_calls.proofs.Common.{ℕ, List, ◌∙◌, ◌≡◌, refl, sym, ap, map, false≢true, AreRecords}
 use Rattle.std.proofs.lemmas.Simd.{map-map}
 use Rattle.par2_spec.specs.Commands.{files_of}
 use Rattle.par2_spec.specs.Folders.{File}
@@ -7,7 +6,6 @@ use Rattle.par2_spec.specs.Volumes.{id_of, record_of}
 use Rattle.par2_spec.specs.Volumes as volumes
 use Rattle.par2_packets.specs.Views.{file_record_of}
 use Rattle.par2_packets.specs.declared.record.FileRecord.{FileRecord}
-use Rattle.par2_recovery.specs.Views.{AreRecords}
 use Rattle.recovery_calls.proofs.records.record_of_files.Goals as goal
 
 -- the identifiers in the records of files

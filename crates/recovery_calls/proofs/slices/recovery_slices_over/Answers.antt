@@ -1,10 +1,5 @@
-use Rattle.recovery_calls.proofs.Common.{◌≡◌, ◌*◌, ◌∙◌, List, ℕ, rules, sym, ap, subst, arith, length, lists_of}
-use Rattle.std.specs.Prelude.{◌/◌}
-use Rattle.std.proofs.lemmas.List.{with_items_is}
-use Rattle.std.proofs.lemmas.List.FromFn.{length-range_with_len}
-use Rattle.par2_transform.specs.Adding.{AreWholeTexts}
+use Rattle.recovery_calls.proofs.Common.{◌≡◌, ◌*◌, ◌∙◌, List, ℕ, rules, sym, ap, subst, arith, length, lists_of, ◌/◌, with_items_is, length-range_with_len, AreWholeTexts, texts_of}
 use Rattle.par2_transform.proofs.WholeTexts.{whole_within}
-use Rattle.par2_recovery.specs.Views.{texts_of}
 use Rattle.recovery_calls.proofs.OwnTexts.{words_are, zeros_are, recovery_slices_are}
 use Rattle.recovery_calls.proofs.slices.recovery_slices_over.Goals.{After-as_mut_slice}
 use Rattle.recovery_calls.proofs.slices.recovery_slices_over.Goals as goal
