@@ -9,8 +9,7 @@ ids_of_records s files = map-map (λ (file : FileRecord). file.id) (record_of s)
 
 -- the identifiers of records that are read as those of files
 pub ids_said : (s : ℕ) (files : List File) (records : List packets.FileRecord) → AreRecords s files records → map (λ (file : packets.FileRecord). file.id) records ≡ map (λ (file : FileRecord). file.id) (map (record_of s) files)
-ids_said s files records are =
-    sym (map-map (λ (file : FileRecord). file.id) file_record_of records) ∙ ap (map (λ (file : FileRecord). file.id)) are
+ids_said s files records are = sym (map-map (λ (file : FileRecord). file.id) file_record_of records) ∙ ap (map (λ (file : FileRecord). file.id)) are
 
 pub ids_accepted : (files : List File) (s : ℕ) → IsDistinct bytes_eq (map (λ (file : FileRecord). file.id) (map (record_of s) files)) → ids_fault files ≡ None
 unfolding ids_fault

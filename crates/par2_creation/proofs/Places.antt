@@ -1,5 +1,5 @@
 -- The first place whose item passes a test.
-use Rattle.par2_creation.proofs.Common.{◌≡◌, ℕ, ◌+◌, ◌<◌, List, [], ◌∷◌, length, map, get_or, take, refl, sym, ap, ap₂, ◌∙◌, Bool, true, false, not, cond, Some, nat_lt, arith, None, Bor, Option, position, option_map, sum_by, ◌==◌, position_or_len, enumerate_from, lt-ltb, le-ltb, length-map, position_or_len_is, get_or-enumerate_from, length-enumerate_from, first_fault, fault_where, is_among, slice_count, Folder, File, has, bytes_of, files_of, NoSuchFile, EmptyFile, TooManySlices, files_fault, name_order, position-map}
+use Rattle.par2_creation.proofs.Common.{◌≡◌, ℕ, ◌+◌, ◌<◌, List, [], ◌∷◌, length, get_or, take, sym, ap, ap₂, ◌∙◌, Bool, true, false, not, cond, Some, nat_lt, arith, None, Option, position, option_map, sum_by, ◌==◌, position_or_len, enumerate_from, lt-ltb, le-ltb, position_or_len_is, get_or-enumerate_from, length-enumerate_from, first_fault, fault_where, is_among, slice_count, Folder, File, has, bytes_of, files_of, NoSuchFile, EmptyFile, TooManySlices, files_fault, position-map}
 
 pub found_at : {X : Type 0} (p : X → Bool) (xs : List X) (i : ℕ) (d : X) → i < length xs → ((k : ℕ) → k < i → p (get_or xs k d) ≡ false) → p (get_or xs i d) ≡ true → position p xs ≡ Some i
 found_at p xs i d low none here =

@@ -1,6 +1,5 @@
 -- The name of a volume is a name, where it has at most 255 bytes.
-use Rattle.par2_creation.proofs.Common.{◌≡◌, ℕ, ◌+◌, ◌-◌, ◌<◌, ◌≤◌, List, [], ◌∷◌, ◌++◌, length, take, drop, refl, sym, ap, ◌∙◌, subst, Bool, true, false, eqb, arith, length-append, length-take-le, take-append-drop, codes, nat_eq, ◌==◌, list_any, starts_with, is_utf8, and_parts, and_from, or_from, or_parts, false_from_ne_true, not_from_false, ne_eqb, le-leb, not-true, list_any-append, is_name, five_digits, stem, volume_name, clash, tests_of, name_of}
-use Rattle.std.proofs.lemmas.List.{append_assoc}
+use Rattle.par2_creation.proofs.Common.{◌≡◌, ℕ, ◌+◌, ◌-◌, ◌<◌, ◌≤◌, List, [], ◌∷◌, ◌++◌, length, take, drop, refl, sym, ap, ◌∙◌, subst, Bool, true, false, eqb, arith, length-append, length-take-le, take-append-drop, codes, nat_eq, ◌==◌, list_any, starts_with, is_utf8, and_parts, and_from, or_from, or_parts, false_from_ne_true, not_from_false, ne_eqb, le-leb, not-true, list_any-append, is_name, five_digits, stem, volume_name, clash, tests_of, name_of, append_assoc}
 use Rattle.par2_spec.proofs.AsideNames.{front_of_name, longer}
 
 -- what follows the stem

@@ -1,7 +1,6 @@
 -- The volumes, one after the other.
-use Rattle.par2_creation.proofs.Common.{or_from, lt-ltb, ltb-true, le-ltb, leb-true, where_none, CreateArgs, volume_size, volume_numbers, volumes_before, output_names, HasExponents, HaveExponents, volume_at, volume_if, volumes_of, names_of, volumes_asked, ◌≡◌, ℕ, ◌+◌, ◌≤◌, ◌<◌, List, [], ◌∷◌, ◌++◌, length, map, sym, ap, ◌∙◌, Bool, true, cond, ◌||◌, Some, arith, None, filter, range_with_len, list_any, map-append, list_any-append, fault_where, NameTooLong, any-map, range-append, map-cond, name_is_short, Volume, long_name, head_fault}
+use Rattle.par2_creation.proofs.Common.{or_from, lt-ltb, ltb-true, le-ltb, leb-true, where_none, CreateArgs, volume_size, volume_numbers, volumes_before, output_names, HasExponents, HaveExponents, volume_at, volume_if, volumes_of, names_of, volumes_asked, ◌≡◌, ℕ, ◌+◌, ◌≤◌, ◌<◌, List, [], ◌∷◌, ◌++◌, length, map, sym, ap, ◌∙◌, Bool, true, cond, ◌||◌, Some, arith, None, filter, range_with_len, list_any, map-append, list_any-append, fault_where, NameTooLong, any-map, range-append, map-cond, name_is_short, Volume, long_name, head_fault, nat_lt}
 use Rattle.std.proofs.lemmas.List.Elements.{filter-append, filter_passes, All-map, All-weaker}
-use Rattle.std.specs.Prelude.{nat_lt}
 use Rattle.par2_creation.proofs.GoodWords.{head_passed}
 use Rattle.par2_creation.proofs.VolumeNames.{length-name}
 

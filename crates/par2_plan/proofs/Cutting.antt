@@ -1,6 +1,5 @@
 -- Files that are cut out of slices.
-use Rattle.par2_plan.proofs.Common.{◌≡◌, ◌∙◌, ℕ, zero, suc, ◌+◌, ◌-◌, ◌≤◌, List, [], ◌∷◌, ◌++◌, length, take, refl, sym, ap, arith, min, replicate, concat, length-replicate, length-take, take-replicate, take_all, take_min, length-append, concat-append, padded}
-use Rattle.std.proofs.lemmas.List.{append-nil, append_assoc}
+use Rattle.par2_plan.proofs.Common.{◌≡◌, ◌∙◌, ℕ, zero, suc, ◌+◌, ◌-◌, ◌≤◌, List, [], ◌∷◌, ◌++◌, length, take, refl, sym, ap, arith, min, replicate, concat, length-replicate, length-take, take-replicate, take_all, take_min, length-append, concat-append, padded, append-nil, append_assoc}
 
 -- the first items of two lists one after the other
 pub take-append : (n : ℕ) (xs ys : List ℕ) → take n (xs ++ ys) ≡ take n xs ++ take (n - length xs) ys

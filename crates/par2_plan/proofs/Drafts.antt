@@ -1,6 +1,5 @@
 -- A draft of a repair, by the targets that it writes.
-use Rattle.par2_plan.proofs.Common.{◌≡◌, ◌∙◌, ℕ, List, [], ◌∷◌, ◌++◌, length, map, drop, get_or, refl, sym, ap, ap₂, subst, Bool, true, false, not, Ok, append-nil, Option, filter, filter_map, option_map, None, Some, AllByRecursion, cons_option, list_all, and_from, and_parts, false_from_ne_true, filter_map-append, bytes_eq-Decides, Change, Write, Rename, Remove, are_applicable, effects, Repair, fault_where, Folder, is_among, changes_of, now_at, repair_changes, repair_removals, set_in, refusal, aside, put_aside, rebuilt_targets, par_files, AreFew, candidates, matches, matching, ParSet, Target, RepairFailed, set_in_reads, same_ok, md5s_of, HasItsMd5s, IsDraft, IsDraftBy, has_digest, IsAsDescribed, repair_by, bytes_written, texts_written}
-use Rattle.std.specs.Prelude.{IsTrue}
+use Rattle.par2_plan.proofs.Common.{◌≡◌, ◌∙◌, ℕ, List, [], ◌∷◌, ◌++◌, length, map, drop, get_or, refl, sym, ap, ap₂, subst, Bool, true, false, not, Ok, append-nil, Option, filter, filter_map, option_map, None, Some, AllByRecursion, cons_option, list_all, and_from, and_parts, false_from_ne_true, filter_map-append, bytes_eq-Decides, Change, Write, Rename, Remove, are_applicable, effects, Repair, fault_where, Folder, is_among, changes_of, now_at, repair_changes, repair_removals, set_in, refusal, aside, put_aside, rebuilt_targets, par_files, AreFew, candidates, matches, matching, ParSet, Target, RepairFailed, set_in_reads, same_ok, md5s_of, HasItsMd5s, IsDraft, IsDraftBy, has_digest, IsAsDescribed, repair_by, bytes_written, texts_written, IsTrue}
 use Rattle.md5.specs.Md5.{md5}
 use Rattle.par2_plan.specs.declared.draft.Draft.{Draft}
 use Rattle.par2_plan.proofs.PlanParts.{repair_refused, repair_leads}

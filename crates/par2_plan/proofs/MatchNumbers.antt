@@ -1,6 +1,5 @@
 -- The matches of needing targets, by numbers and by names.
-use Rattle.par2_plan.proofs.Common.{◌≡◌, ℕ, ◌<◌, List, [], ◌∷◌, length, map, refl, ap, ap₂, not, ◌∙◌, subst, all_below_are, found_one, length-map, Option, filter, zip, option_map, slice_get, None, Some, AllByRecursion, IsDistinct, range_with_len, bytes_eq, is_among, Folder, bytes_of, ParSet, Target, needing, intact_names, matches, all-filter, distinct_from_std, std_from_distinct, distinct-filter, text_at, first_intact, without, matched_from, matched_numbers, NumbersAreNames, option_and_then, slice_get-get_or}
-use Rattle.std.specs.Prelude.{◌==◌}
+use Rattle.par2_plan.proofs.Common.{◌≡◌, ℕ, ◌<◌, List, [], ◌∷◌, length, map, refl, ap, ap₂, not, ◌∙◌, subst, all_below_are, found_one, length-map, Option, filter, zip, option_map, slice_get, None, Some, AllByRecursion, IsDistinct, range_with_len, bytes_eq, is_among, Folder, bytes_of, ParSet, Target, needing, intact_names, matches, all-filter, distinct_from_std, std_from_distinct, distinct-filter, text_at, first_intact, without, matched_from, matched_numbers, NumbersAreNames, option_and_then, slice_get-get_or, ◌==◌}
 use Rattle.par2_spec.specs.Lists.{all_below}
 
 -- ---- numbers are places

@@ -1,6 +1,5 @@
 -- Slices that are found and slices that are rebuilt.
-use Rattle.par2_plan.proofs.Common.{◌≡◌, ◌∙◌, ℕ, ◌-◌, ◌≤◌, List, [], ◌∷◌, ◌++◌, length, map, refl, sym, ap, ap₂, arith, IfSome, replicate, None, Some, AllByRecursion, All-head, All-tail, padded, known_of, known_alone, with_lost_slices, Window, AreShort, windows_and_texts}
-use Rattle.std.proofs.lemmas.List.{append-nil}
+use Rattle.par2_plan.proofs.Common.{◌≡◌, ◌∙◌, ℕ, ◌-◌, ◌≤◌, List, [], ◌∷◌, ◌++◌, length, map, refl, sym, ap, ap₂, arith, IfSome, replicate, None, Some, AllByRecursion, All-head, All-tail, padded, known_of, known_alone, with_lost_slices, Window, AreShort, windows_and_texts, append-nil}
 
 -- ---- what survives
 

@@ -1,6 +1,5 @@
 -- The base and the further files that are there.
-use Rattle.par2_plan.proofs.Common.{◌≡◌, ℕ, ◌+◌, List, [], ◌∷◌, refl, sym, ap, ap₂, ◌∙◌, Bool, true, false, not, cond, arith, not-false, filter, option_map, None, Some, position_from, AllByRecursion, NoSuchFile, Folder, has, set_of, absent_file, set_in, missing, in_full, in_part, position_from-zero, no_place}
-use Rattle.std.specs.Prelude.{Err}
+use Rattle.par2_plan.proofs.Common.{◌≡◌, ℕ, ◌+◌, List, [], ◌∷◌, refl, sym, ap, ap₂, ◌∙◌, Bool, true, false, not, cond, arith, not-false, filter, option_map, None, Some, position_from, AllByRecursion, NoSuchFile, Folder, has, set_of, absent_file, set_in, missing, in_full, in_part, position_from-zero, no_place, Err}
 
 -- ---- the first word that is absent
 

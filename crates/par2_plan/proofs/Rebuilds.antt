@@ -1,6 +1,5 @@
 -- What is rebuilt by what survives is what is rebuilt of the set.
-use Rattle.par2_plan.proofs.Common.{◌≡◌, ◌↔◌, ◌⊎◌, ℕ, List, length, map, refl, sym, ap, ap₂, subst, true, false, not, inl, inr, Option, None, Some, entries, false_from_ne_true, fault_where, IsRebuilt, IsRepairable, is_repairable, rank, kept_slices, lost, survivors, ParSet, Memory, NotRepairable, recovered_of, IsTrueFault, exponents_of, undetermined_fault, known_among, AreRebuilt, AreEnough}
-use Rattle.std.specs.Prelude.{IsTrue}
+use Rattle.par2_plan.proofs.Common.{◌≡◌, ◌↔◌, ◌⊎◌, ℕ, List, length, map, refl, sym, ap, ap₂, subst, true, false, not, inl, inr, Option, None, Some, entries, false_from_ne_true, fault_where, IsRebuilt, IsRepairable, is_repairable, rank, kept_slices, lost, survivors, ParSet, Memory, NotRepairable, recovered_of, IsTrueFault, exponents_of, undetermined_fault, known_among, AreRebuilt, AreEnough, IsTrue}
 use Rattle.par2_recovery.specs.declared.rebuild_slices.RebuildFault.{RebuildFault}
 use Rattle.par2_plan.specs.Survivors.{AreSurvivors, fault_of}
 use Rattle.par2_recovery.specs.declared.rebuild_slices.RebuildFault.TheVariants as why

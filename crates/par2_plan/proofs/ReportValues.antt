@@ -1,8 +1,7 @@
 -- A report by what is found is that of the definitions.
-use Rattle.par2_plan.proofs.Common.{◌≡◌, ◌⊎◌, inl, inr, ◌<◌, ◌≤◌, ℕ, arith, ◌+◌, List, [], ◌∷◌, length, map, take, drop, refl, sym, ap, ap₂, ◌∙◌, Bool, true, false, not, cond, Option, is_none, is_some, filter, flat_map, zip, option_map, None, Some, slice_index_or, enumerate_from, AllByRecursion, length-map, filter-map, Fault, Pair, found, rank, Folder, bytes_of, has, ParSet, Target, all_pairs, is_needing, matches, lost, survivors, candidates, known, set_in, Complete, State, Report, TargetReport, needing_state, report_of_target, report_of, report_in, states_by, set_in_reads, sound_of, present_searched, size_positive, sized_from_counted, targets_found, AreFindings, GoesOn, is_sought, lost_by, report_by, reports_by, said_by, said_of}
+use Rattle.par2_plan.proofs.Common.{◌≡◌, ◌⊎◌, inl, inr, ◌<◌, ◌≤◌, ℕ, arith, ◌+◌, List, [], ◌∷◌, length, map, take, drop, refl, sym, ap, ap₂, ◌∙◌, Bool, true, false, not, cond, Option, is_none, is_some, filter, flat_map, zip, option_map, None, Some, slice_index_or, enumerate_from, AllByRecursion, length-map, filter-map, Fault, Pair, found, rank, Folder, bytes_of, has, ParSet, Target, all_pairs, is_needing, matches, lost, survivors, candidates, known, set_in, Complete, State, Report, TargetReport, needing_state, report_of_target, report_of, report_in, states_by, set_in_reads, sound_of, present_searched, size_positive, sized_from_counted, targets_found, AreFindings, GoesOn, is_sought, lost_by, report_by, reports_by, said_by, said_of, Ok, Err}
 use Rattle.par2_spec.specs.Reports.{state_of}
 use Rattle.std.specs.Borrow.{Bor}
-use Rattle.std.specs.Prelude.{Ok, Err}
 use Rattle.par2_spec.proofs.ReportLaws.{by_target, states_follow}
 use Rattle.par2_plan.specs.declared.finding.Findings.{Findings}
 use Rattle.par2_plan.proofs.FoundSlices.{answers, counted, joined, seam, told}

@@ -1,6 +1,5 @@
 -- Lists of slices, part by part.
-use Rattle.par2_plan.proofs.Common.{◌≡◌, ◌∙◌, cond, List, ◌∷◌, OnOk, is_ok, Result}
-use Rattle.std.specs.Prelude.{Ok, Err}
+use Rattle.par2_plan.proofs.Common.{◌≡◌, ◌∙◌, cond, List, ◌∷◌, OnOk, is_ok, Result, Ok, Err}
 
 -- the heads and the tails of equal lists
 pub heads : {X : Type 0} (x y : X) (xs ys : List X) → x ∷ xs ≡ y ∷ ys → (x ≡ y) × (xs ≡ ys)

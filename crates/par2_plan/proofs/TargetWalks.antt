@@ -1,6 +1,5 @@
 -- The targets one after the other, with their bytes by the slices that are left.
-use Rattle.par2_plan.proofs.Common.{◌≡◌, ◌∙◌, ℕ, ◌+◌, List, [], ◌∷◌, ◌++◌, length, map, take, drop, refl, sym, ap, Bool, true, false, cond, filter, zip, concat, drop-drop, is_among, cut_into, Target, target_at, chosen_at}
-use Rattle.std.proofs.lemmas.List.{append_assoc}
+use Rattle.par2_plan.proofs.Common.{◌≡◌, ◌∙◌, ℕ, ◌+◌, List, [], ◌∷◌, ◌++◌, length, map, take, drop, refl, sym, ap, Bool, true, false, cond, filter, zip, concat, drop-drop, is_among, cut_into, Target, target_at, chosen_at, append_assoc}
 
 abbrev pub walked : List Target → List (List ℕ) → List (Target × List ℕ)
 walked ts slices = map (λ z. (z.0, take z.0.length (concat z.1))) (zip ts (cut_into (map (λ t. length t.pairs) ts) slices))

@@ -1,10 +1,9 @@
 -- Trees that are made of lists.
-use Rattle.par2_plan.proofs.Common.{◌≡◌, ◌∙◌, ◌||◌, ℕ, List, [], ◌∷◌, map, refl, ap, ap₂, false, cond, subst, zip, Option, None, Some, IfOk, Result, list_any, BTreeMap, HoldsAsides, itself, clash, is_among, BTreeSet, IsFromIterResult, slice_cmp, nat_list_cmp_total, nat_cmp, eq_by_cmp, YieldsList, items_from_drains, name_cmp}
+use Rattle.par2_plan.proofs.Common.{◌≡◌, ◌∙◌, ◌||◌, ℕ, List, [], ◌∷◌, map, refl, ap, ap₂, false, cond, subst, zip, Option, None, Some, IfOk, Result, list_any, BTreeMap, HoldsAsides, itself, clash, is_among, BTreeSet, IsFromIterResult, slice_cmp, nat_list_cmp_total, nat_cmp, eq_by_cmp, YieldsList, items_from_drains, name_cmp, Ok, Err}
 use Rattle.par2_sets.specs.Asides.{HoldsNames}
 use Rattle.std.specs.Cmp.{eq_by_cmp_equiv}
 use Rattle.std.proofs.lemmas.Map.Made.{update_all_pairs}
 use Rattle.std.specs.Borrow.{Bor}
-use Rattle.std.specs.Prelude.{Ok, Err}
 use Rattle.std.specs.Map.{update_all}
 use Rattle.std.specs.Iterator.{DrainsIf}
 use Rattle.std.proofs.lemmas.Map.Lookups.{exact_bytes}

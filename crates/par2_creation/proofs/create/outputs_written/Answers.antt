@@ -1,5 +1,4 @@
-use Rattle.par2_creation.proofs.Common.{create_changes, CreateArgs, files_of, flat_map, IfOk, head_fault, inputs_fault, ◌≡◌, List, ◌∙◌, ◌≤◌, ◌%◌, length, map, sym, ap, ap₂, subst, string_bytes, length-map, Folder, packet, index_packets, main_id, record_of, in_id_order, all_slices, create_args_of, file_record_of, FileRecord, HaveExponents, RecordsInputs}
-use Rattle.std.specs.Prelude.{None}
+use Rattle.par2_creation.proofs.Common.{create_changes, CreateArgs, files_of, flat_map, IfOk, head_fault, inputs_fault, ◌≡◌, List, ◌∙◌, ◌≤◌, ◌%◌, length, map, sym, ap, ap₂, subst, string_bytes, length-map, Folder, packet, index_packets, main_id, record_of, in_id_order, all_slices, create_args_of, file_record_of, FileRecord, HaveExponents, RecordsInputs, None}
 use Rattle.md5.proofs.StandardFacts.{length-md5}
 use Rattle.par2_recovery.specs.Views.{names_of}
 use Rattle.par2_recovery.specs.declared.set_record.SetRecord.{SetRecord}

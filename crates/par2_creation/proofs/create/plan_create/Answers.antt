@@ -68,8 +68,7 @@ returns-in_err-set-clause-refused c =
     (λ cause. refused_by folder a None (Some fault) _ _ c.in_ok-base.ensures.accepted cause refl refl)
 
 pub volumes-requires-clause-base : goal.volumes-requires-clause-base
-volumes-requires-clause-base c =
-    subst (λ base. is_par_name base ≡ true) (sym c.in_ok-base.ensures.name) (head_passed _ c.in_ok-base.ensures.accepted).par_name
+volumes-requires-clause-base c = subst (λ base. is_par_name base ≡ true) (sym c.in_ok-base.ensures.name) (head_passed _ c.in_ok-base.ensures.accepted).par_name
 
 pub volumes-requires-clause-exponents : goal.volumes-requires-clause-exponents
 volumes-requires-clause-exponents c = (head_passed _ c.in_ok-base.ensures.accepted).exponents
@@ -100,13 +99,11 @@ unfolding changes_of
 returns-clause-changes c = c.in_ok-changes.ensures
 
 pub returns-clause-applies : goal.returns-clause-applies
-returns-clause-applies c =
-    ap (are_applicable c.args.folder.now.files) c.in_ok-changes.ensures ∙ create_applies c.args.folder.now.files (create_args_of c.args.args.now)
+returns-clause-applies c = ap (are_applicable c.args.folder.now.files) c.in_ok-changes.ensures ∙ create_applies c.args.folder.now.files (create_args_of c.args.args.now)
 
 pub returns-clause-leads : goal.returns-clause-leads
 unfolding after
-returns-clause-leads c =
-    ap (effects c.args.folder.now.files) c.in_ok-changes.ensures ∙ create_leads c.args.folder.now.files (create_args_of c.args.args.now)
+returns-clause-leads c = ap (effects c.args.folder.now.files) c.in_ok-changes.ensures ∙ create_leads c.args.folder.now.files (create_args_of c.args.args.now)
 
 pub returns-in_err-set-clause-early : goal.returns-in_err-set-clause-early
 returns-in_err-set-clause-early c fault early = absurd (never_found _ fault (none_early (goal.at.returns-in_err-set-clause-early c).After-set_of_inputs) early)

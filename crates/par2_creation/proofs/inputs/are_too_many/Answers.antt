@@ -1,5 +1,4 @@
-use Rattle.par2_creation.proofs.Common.{◌≡◌, ◌∙◌, ◌+◌, ◌≤◌, [], sym, ap, get_or, length, take, arith, lt-ltb, get_or_default, slice_count, File, bytes_of, files_of}
-use Rattle.std.proofs.Common.{sum_by}
+use Rattle.par2_creation.proofs.Common.{◌≡◌, ◌∙◌, ◌+◌, ◌≤◌, [], sym, ap, get_or, length, take, arith, lt-ltb, get_or_default, slice_count, File, bytes_of, files_of, sum_by}
 use Rattle.par2_creation.proofs.SliceLists.{part_of_sum}
 use Rattle.par2_creation.proofs.inputs.are_too_many.Goals as goal
 

@@ -1,5 +1,4 @@
-use Rattle.par2_creation.proofs.Common.{◌≡◌, ◌+◌, length, take, slice_count, files_of}
-use Rattle.std.proofs.Common.{sum_by}
+use Rattle.par2_creation.proofs.Common.{◌≡◌, ◌+◌, length, take, slice_count, files_of, sum_by}
 use Rattle.par2_creation.proofs.inputs.are_too_many.Given as goal
 
 abbrev pub invariant-loop-i : goal.invariant-loop-i

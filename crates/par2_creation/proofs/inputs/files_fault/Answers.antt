@@ -1,5 +1,4 @@
-use Rattle.par2_creation.proofs.Common.{◌≡◌, ◌+◌, ◌∙◌, ap, sym, refl, arith, true, false, Some, EmptyFile}
-use Rattle.std.specs.Prelude.{None}
+use Rattle.par2_creation.proofs.Common.{◌≡◌, ◌+◌, ◌∙◌, ap, sym, refl, arith, true, false, Some, EmptyFile, None}
 use Rattle.par2_creation.proofs.Places.{files_by}
 use Rattle.par2_creation.proofs.inputs.files_fault.Goals as goal
 

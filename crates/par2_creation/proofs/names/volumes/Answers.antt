@@ -1,7 +1,5 @@
-use Rattle.par2_creation.proofs.Common.{◌≡◌, ◌<◌, ◌≤◌, ◌++◌, ◌∷◌, [], ◌∙◌, ◌||◌, List, Bool, true, false, cond, length, sym, ap, ap₂, subst, append-nil, rules, Some, arith, None, lt-ltb, le-ltb, err_from_is_err_and, Fault, NameTooLong, fault_where, volumes_before, long_name, volume_at, volumes_of, names_of, Volume, refused_by}
+use Rattle.par2_creation.proofs.Common.{◌≡◌, ◌<◌, ◌≤◌, ◌++◌, ◌∷◌, [], ◌∙◌, ◌||◌, List, Bool, true, false, cond, length, sym, ap, ap₂, subst, append-nil, rules, Some, arith, None, lt-ltb, le-ltb, err_from_is_err_and, Fault, NameTooLong, fault_where, volumes_before, long_name, volume_at, volumes_of, names_of, Volume, refused_by, nat_lt}
 use Rattle.par2_creation.proofs.VolumeNumbers.{volumes_below, volumes_more, none_long, one_is_long}
-use Rattle.par2_creation.proofs.names.volumes.Goals.{then-volumes_before-count+in_ok-volume_at+in_ok-push, else-volumes_before-count}
-use Rattle.std.specs.Prelude.{nat_lt}
 use Rattle.par2_creation.proofs.names.volumes.Goals as goal
 
 pub loop-i-preserved : goal.loop-i-preserved
@@ -15,7 +13,7 @@ loop-i-preserved c =
     let now : List Volume = c.if-volumes_before-count.volumes.items in
     let next : (now ≡ after (nat_lt (volumes_before i) count)) × (long_name (names_of (after (nat_lt (volumes_before i) count))) ≡ None) =
     elim c.if-volumes_before-count.branch as (λ _. (now ≡ after (nat_lt (volumes_before i) count)) × (long_name (names_of (after (nat_lt (volumes_before i) count))) ≡ None)) [
-      | then-volumes_before-count+in_ok-volume_at+in_ok-push w ↦
+      | goal.then-volumes_before-count+in_ok-volume_at+in_ok-push w ↦
           let here : nat_lt (volumes_before i) count ≡ true = lt-ltb (volumes_before i) count (omega (arith, w.if-volumes_before-count.true, c.volumes_before.ensures)) in
           let made = w.in_ok-volume_at.ensures in
           let short : length volume.name ≤ 255 = subst (λ (v : Volume). length v.name ≤ 255) made.volume made.accepted in
@@ -23,7 +21,7 @@ loop-i-preserved c =
             pushed ∙ ap₂ (λ (vs : List Volume) v. vs ++ v ∷ []) c.loop-i.invariant.0 made.volume ∙ ap after (sym here),
             ap (λ b. long_name (names_of (after b))) here ∙ none_long before (volume ∷ []) c.loop-i.invariant.1 (ap (λ b. fault_where (b || false) NameTooLong) (le-ltb 255 (length volume.name) short)),
           )
-      | else-volumes_before-count w ↦
+      | goal.else-volumes_before-count w ↦
           let none : nat_lt (volumes_before i) count ≡ false = le-ltb (volumes_before i) count (omega (arith, w.if-volumes_before-count.false, c.volumes_before.ensures)) in
           let same : now ≡ c.loop-i.volumes.items = search rules in (
             same ∙ c.loop-i.invariant.0 ∙ sym (append-nil before) ∙ ap after (sym none),
@@ -32,9 +30,6 @@ loop-i-preserved c =
     ] in
     let more = volumes_more base c.args.first count i in
     (next.0 ∙ sym more, ap (λ vs. long_name (names_of vs)) more ∙ next.1)
-
-pub volume_at-requires-clause-number : goal.volume_at-requires-clause-number
-volume_at-requires-clause-number c = omega arith
 
 pub returns-in_err-volume_at-clause-refused : goal.returns-in_err-volume_at-clause-refused
 returns-in_err-volume_at-clause-refused c =

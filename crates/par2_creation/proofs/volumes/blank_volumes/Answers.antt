@@ -2,8 +2,7 @@ use Rattle.par2_creation.proofs.Common.{◌∙◌, ◌++◌, ◌∷◌, [], List
 use Rattle.par2_creation.proofs.volumes.blank_volumes.Goals as goal
 
 pub blank_volume-requires-clause-exponents : goal.blank_volume-requires-clause-exponents
-blank_volume-requires-clause-exponents c =
-    subst HasExponents (sym c.volume-item.is) (c.requires.exponents c.loop-volume.volume-index _ c.loop-volume-test.true)
+blank_volume-requires-clause-exponents c = subst HasExponents (sym c.volume-item.is) (c.requires.exponents c.loop-volume.volume-index _ c.loop-volume-test.true)
 
 pub loop-volume-init : goal.loop-volume-init
 loop-volume-init c = ap (λ (texts : List (Vec ℕ Global)). lists_of texts) c.in_ok-texts.ensures.items

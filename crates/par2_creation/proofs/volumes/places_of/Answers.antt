@@ -25,9 +25,6 @@ append_places-requires-clause-text c =
     ∙ ap text_of (sym (c.index-volumes-i.is ∙ get_or_default volumes i _ volume low)))
     ∙ length-volume c.args.parts.now _ volume c.requires.parts.sixteen (λ _. length-replicate {A = ℕ} c.args.parts.now.set.now.slice 0)
 
-pub loop-i-init : goal.loop-i-init
-loop-i-init c = c.new-places.ensures.items
-
 pub loop-i-preserved : goal.loop-i-preserved
 loop-i-preserved c =
     let volumes : List Volume = c.args.volumes.now in

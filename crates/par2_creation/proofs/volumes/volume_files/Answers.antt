@@ -1,17 +1,8 @@
-use Rattle.par2_creation.proofs.Common.{◌≡◌, ◌∙◌, List, ℕ, Vec, Global, length, ap, arith, rules, with_items_is, lists_of}
+use Rattle.par2_creation.proofs.Common.{◌≡◌, ◌∙◌, List, ℕ, Vec, Global, length, ap, rules, with_items_is, lists_of}
 use Rattle.par2_creation.proofs.volumes.volume_files.Goals as goal
-
-pub blank_volumes-requires-clause-fits : goal.blank_volumes-requires-clause-fits
-blank_volumes-requires-clause-fits c = omega arith
-
-pub write_slices-requires-clause-fits : goal.write_slices-requires-clause-fits
-write_slices-requires-clause-fits c = omega arith
 
 pub write_slices-requires-clause-before : goal.write_slices-requires-clause-before
 write_slices-requires-clause-before c = ap (λ (texts : List (Vec ℕ Global)). lists_of texts) c.as_mut_slice.ensures.value ∙ c.in_ok-texts.ensures
-
-pub digested-requires-clause-fits : goal.digested-requires-clause-fits
-digested-requires-clause-fits c = omega arith
 
 pub digested-requires-clause-before : goal.digested-requires-clause-before
 digested-requires-clause-before c =

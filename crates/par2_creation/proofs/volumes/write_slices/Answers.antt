@@ -3,9 +3,6 @@ use Rattle.std.specs.Borrow.{Bor}
 use Rattle.par2_creation.proofs.VolumePlaces.{places_apart, places_blank, places_within, length-places, volumes_written}
 use Rattle.par2_creation.proofs.volumes.write_slices.Goals as goal
 
-pub input_slices-requires : goal.input_slices-requires
-input_slices-requires c = c.requires.parts.positive
-
 pub new-outputs-requires : goal.new-outputs-requires
 new-outputs-requires c =
     let parts = c.args.parts.now in

@@ -1,5 +1,4 @@
-use Rattle.par2_creation.proofs.Common.{◌≡◌, ◌+◌, ◌∙◌, sym, ap, not, arith, string_bytes, option_map, is_input_name, BadName, position-map}
-use Rattle.std.specs.Prelude.{Some}
+use Rattle.par2_creation.proofs.Common.{◌≡◌, ◌+◌, ◌∙◌, sym, ap, not, arith, string_bytes, option_map, is_input_name, BadName, position-map, Some}
 use Rattle.par2_creation.proofs.words.bad_name.Goals as goal
 
 pub returns-in-Some : goal.returns-in-Some

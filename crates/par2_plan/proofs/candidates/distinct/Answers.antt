@@ -1,6 +1,5 @@
 use Rattle.par2_plan.proofs.Common.{◌≡◌, ◌∙◌, ◌+◌, ◌++◌, ◌∷◌, [], List, ℕ, Bor, true, false, not, cond, map, sym, ap, subst, take, rules, take_all, map_more, not-true, not-false, is_among, distinct, HoldsNames, holds_more}
 use Rattle.par2_plan.proofs.Choices.{distinct_more}
-use Rattle.par2_plan.proofs.candidates.distinct.Goals.{then-branch+in_ok-push, else-branch}
 use Rattle.par2_plan.proofs.candidates.distinct.Goals as goal
 
 abbrev now : Bor (List ℕ) → List ℕ
@@ -18,11 +17,11 @@ loop-name-preserved c =
     let list : List (List ℕ) = c.if-branch.list.items in
     let once : list ≡ cond (is_among before item) (distinct before) (distinct before ++ item ∷ []) =
     elim c.if-branch.branch as (λ _. list ≡ cond (is_among before item) (distinct before) (distinct before ++ item ∷ [])) [
-      | then-branch+in_ok-push w ↦
+      | goal.then-branch+in_ok-push w ↦
           let out : is_among before item ≡ false = not-true _ (sym added ∙ w.if-branch.true) in
           let pushed : list ≡ c.loop-name.list.items ++ item ∷ [] = search rules in
           pushed ∙ ap (λ xs. xs ++ item ∷ []) c.loop-name.invariant.0 ∙ ap (λ b. cond b (distinct before) (distinct before ++ item ∷ [])) (sym out)
-      | else-branch w ↦
+      | goal.else-branch w ↦
           let there : is_among before item ≡ true = not-false _ (sym added ∙ w.if-branch.false) in
           let same : list ≡ c.loop-name.list.items = search rules in
           same ∙ c.loop-name.invariant.0 ∙ ap (λ b. cond b (distinct before) (distinct before ++ item ∷ [])) (sym there)
@@ -32,5 +31,4 @@ loop-name-preserved c =
     )
 
 pub returns : goal.returns
-returns c =
-    c.loop-name.invariant.0 ∙ ap (λ (names : List (Bor (List ℕ))). distinct (map now names)) (take_all c.loop-name.name-index c.args.names.now c.loop-name-test.false)
+returns c = c.loop-name.invariant.0 ∙ ap (λ (names : List (Bor (List ℕ))). distinct (map now names)) (take_all c.loop-name.name-index c.args.names.now c.loop-name-test.false)

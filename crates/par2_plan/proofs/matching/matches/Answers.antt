@@ -2,9 +2,6 @@ use Rattle.par2_plan.proofs.Common.{◌∙◌, Bor, List, ℕ, map, ap, ap₂, z
 use Rattle.par2_plan.proofs.MatchNumbers.{matches_by_numbers, free_by}
 use Rattle.par2_plan.proofs.matching.matches.Goals as goal
 
-pub returns-clause-needs : goal.returns-clause-needs
-returns-clause-needs c = c.in_ok-needs.ensures.needs
-
 pub returns-clause-needing : goal.returns-clause-needing
 returns-clause-needing c =
     let folder = c.args.folder.now.files in

@@ -1,5 +1,4 @@
 use Rattle.par2_plan.proofs.Common.{◌≡◌, ◌∙◌, ◌+◌, ◌++◌, ◌∷◌, [], List, ℕ, Bool, Bor, true, false, not, cond, map, sym, ap, ap₂, subst, take, rules, append-nil, filter, filter-append, map-append, map_more, take_all, take_more, Target, is_needing, HoldsNames, holds_more}
-use Rattle.par2_plan.proofs.matching.parted.Goals.{then-is_needing+in_ok-push-2, else-is_needing+in_ok-insert}
 use Rattle.par2_plan.proofs.matching.parted.Goals as goal
 
 pub loop-target-preserved : goal.loop-target-preserved
@@ -17,13 +16,13 @@ loop-target-preserved c =
     let intact = λ (b : Bool). map name (filter rest before ++ cond (not b) (t ∷ []) []) in
     let both : (map now c.if-is_needing.needing.items ≡ needing (test t)) × HoldsNames c.if-is_needing.intact (intact (test t)) =
     elim c.if-is_needing.branch as (λ _. (map now c.if-is_needing.needing.items ≡ needing (test t)) × HoldsNames c.if-is_needing.intact (intact (test t))) [
-      | then-is_needing+in_ok-push-2 w ↦
+      | goal.then-is_needing+in_ok-push-2 w ↦
           let yes : test t ≡ true = sym is ∙ w.if-is_needing.true in
           let new : c.if-is_needing.needing.items ≡ w.push-then-is_needing.new.self.items = search rules in (
             ap (map now) (new ∙ w.in_ok-push-2.ensures.items) ∙ map-append now c.loop-target.needing.items _ ∙ ap (λ (us : List Target). us ++ t ∷ []) c.loop-target.invariant.needing ∙ ap needing (sym yes),
             subst (λ tree. HoldsNames tree (intact (test t))) (sym w.intact-is) (subst (HoldsNames c.loop-target.intact) (ap (map name) (sym (append-nil (filter rest before))) ∙ ap intact (sym yes)) c.loop-target.invariant.intact),
           )
-      | else-is_needing+in_ok-insert w ↦
+      | goal.else-is_needing+in_ok-insert w ↦
           let no : test t ≡ false = sym is ∙ w.if-is_needing.false in
           let same : c.if-is_needing.needing.items ≡ c.loop-target.needing.items = search rules in (
             ap (map now) same ∙ c.loop-target.invariant.needing ∙ sym (append-nil (filter test before)) ∙ ap needing (sym no),

@@ -1,5 +1,4 @@
-use Rattle.par2_plan.proofs.Common.{◌≡◌, ◌∙◌, map, sym, ap, subst, aside, put_aside, HoldsAsides, names_there, err_from_is_err_and, long_aside, refused_by}
-use Rattle.std.proofs.Common.{Some, None}
+use Rattle.par2_plan.proofs.Common.{◌≡◌, ◌∙◌, map, sym, ap, subst, aside, put_aside, HoldsAsides, names_there, err_from_is_err_and, long_aside, refused_by, Some, None}
 use Rattle.par2_plan.proofs.RepairParts.{put_aside_in}
 use Rattle.par2_plan.proofs.moves.moves_of.Goals as goal
 
@@ -13,8 +12,7 @@ returns-in_err-others-clause-refused c =
     (subst (λ ns. long_aside folder set ns ≡ Some fault) (c.deref.ensures.value ∙ c.in_ok-put_aside.ensures))
 
 pub returns-clause-short : goal.returns-clause-short
-returns-clause-short c =
-    subst (λ ns. long_aside c.args.folder.now.files c.args.set.now ns ≡ None) (c.deref.ensures.value ∙ c.in_ok-put_aside.ensures) c.in_ok-others.ensures.short
+returns-clause-short c = subst (λ ns. long_aside c.args.folder.now.files c.args.set.now ns ≡ None) (c.deref.ensures.value ∙ c.in_ok-put_aside.ensures) c.in_ok-others.ensures.short
 
 pub returns-clause-moves : goal.returns-clause-moves
 returns-clause-moves c = λ searched needing.

@@ -1,6 +1,5 @@
 use Rattle.par2_plan.proofs.Common.{◌≡◌, ◌∙◌, rules, ◌+◌, ◌++◌, ◌∷◌, [], List, ℕ, sym, ap, ap₂, take, append-nil, append_assoc, None, Some, Option, option_map, cons_option, filter_map-append, take_more, Change, Rename, Target, matches_taken, place_by}
 use Rattle.par2_plan.proofs.moves.push_matches.Goals as goal
-use Rattle.par2_plan.proofs.moves.push_matches.Goals.{in-Some+in_ok-push, in_default}
 
 pub loop-needing-preserved : goal.loop-needing-preserved
 loop-needing-preserved c = λ aside all h.
@@ -17,7 +16,7 @@ loop-needing-preserved c = λ aside all h.
     let list : List Change = c.match-needing.changes in
     let step : list ≡ old ++ (some ++ next item.1) =
     elim c.match-needing.branch as (λ _. list ≡ old ++ (some ++ next item.1)) [
-      | in-Some+in_ok-push w ↦
+      | goal.in-Some+in_ok-push w ↦
           let found : List ℕ = w.in-Some.found in
           let name : w.copied.result ≡ item.0.name = search rules in
           let is : item.1 ≡ Some found = search rules in
@@ -26,7 +25,7 @@ loop-needing-preserved c = λ aside all h.
           ∙ ap (λ (cs : List Change). cs ++ Rename (place found) item.0.name ∷ []) (c.loop-needing.invariant aside all h)
           ∙ append_assoc old some (Rename (place found) item.0.name ∷ [])
           ∙ ap (λ o. old ++ (some ++ next o)) (sym is)
-      | in_default w ↦
+      | goal.in_default w ↦
           let is : item.1 ≡ None = search rules in
           w.changes-is ∙ c.loop-needing.invariant aside all h ∙ ap (λ (cs : List Change). old ++ cs) (sym (append-nil some))
           ∙ ap (λ o. old ++ (some ++ next o)) (sym is)

@@ -1,5 +1,4 @@
-use Rattle.par2_plan.proofs.Common.{◌≡◌, ◌∷◌, [], ℕ, List, cond, refl, ap, subst, rules, Option, is_none, filter_map, IfOk-weaker, Target, names_without_match, YieldsList-from_slice, YieldsList-from_filter_map, fact_from_collect, IsFromIterResult, slice_cmp, nat_cmp}
-use Rattle.std.proofs.Common.{Some, None}
+use Rattle.par2_plan.proofs.Common.{◌≡◌, ◌∷◌, [], ℕ, List, cond, refl, ap, subst, rules, Option, is_none, filter_map, IfOk-weaker, Target, names_without_match, YieldsList-from_slice, YieldsList-from_filter_map, fact_from_collect, IsFromIterResult, slice_cmp, nat_cmp, Some, None}
 use Rattle.par2_plan.proofs.Trees.{holds}
 use Rattle.par2_plan.proofs.moves.unmatched.Goals as goal
 

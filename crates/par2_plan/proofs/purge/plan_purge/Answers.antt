@@ -1,6 +1,4 @@
-use Rattle.par2_plan.proofs.Common.{◌≡◌, ◌⊎◌, ◌∙◌, List, [], sym, ap, subst, Err, IsTrue, IfOk, IfErr, err_from_is_err_and, IfOk-weaker, Change, effects, are_applicable, Purge, changes_of, set_in, refusal, after, Fault, Memory, ok_no_err, refused_by, err_passed}
-use Rattle.std.proofs.Common.{Some, None}
-use Rattle.std.proofs.Common.{Option}
+use Rattle.par2_plan.proofs.Common.{◌≡◌, ◌⊎◌, ◌∙◌, List, [], sym, ap, subst, Err, IsTrue, IfOk, IfErr, err_from_is_err_and, IfOk-weaker, Change, effects, are_applicable, Purge, changes_of, set_in, refusal, after, Fault, Memory, ok_no_err, refused_by, err_passed, Some, None, Option}
 use Rattle.par2_plan.proofs.PlanParts.{early_purge, purge_unread, purge_refused, purge_by_set, purge_leads}
 use Rattle.par2_plan.proofs.purge.plan_purge.Goals as goal
 

@@ -1,5 +1,4 @@
-use Rattle.par2_plan.proofs.Common.{◌≡◌, ◌∙◌, ◌∷◌, [], ℕ, List, Bool, map, refl, ap, cond, rules, tests, string_bytes, Global, true, false, filter, filter_map, is_some, IfSome, Option, String, Some, cons_option, Folder, has, IfOk-weaker, YieldsList-from_slice, items_from_collect, YieldsList-from_filter_map}
-use Rattle.std.proofs.Common.{None}
+use Rattle.par2_plan.proofs.Common.{◌≡◌, ◌∙◌, ◌∷◌, [], ℕ, List, Bool, map, refl, ap, cond, rules, tests, string_bytes, Global, true, false, filter, filter_map, is_some, IfSome, Option, String, Some, cons_option, Folder, has, IfOk-weaker, YieldsList-from_slice, items_from_collect, YieldsList-from_filter_map, None}
 use Rattle.par2_plan.proofs.reading.present_extras.Goals as goal
 
 -- the name of a file, where the word is one

@@ -1,5 +1,4 @@
-use Rattle.par2_plan.proofs.Common.{◌≡◌, ◌⊎◌, ◌+◌, ◌∙◌, refl, sym, ap, inl, inr, map, string_bytes, true, false, not, Err, rules, ok_or, position, Result, err_from_is_err_and, Fault, NoSuchFile, Memory, has, ParSet, set_of, absent_file, set_in, err_again, answered_so, never_found}
-use Rattle.std.proofs.Common.{Some, None}
+use Rattle.par2_plan.proofs.Common.{◌≡◌, ◌⊎◌, ◌+◌, ◌∙◌, refl, sym, ap, inl, inr, map, string_bytes, true, false, not, Err, rules, ok_or, position, Result, err_from_is_err_and, Fault, NoSuchFile, Memory, has, ParSet, set_of, absent_file, set_in, err_again, answered_so, never_found, Some, None}
 use Rattle.par2_sets.specs.Steps.{Gives}
 use Rattle.par2_spec.proofs.Places.{position-map}
 use Rattle.par2_plan.proofs.Present.{base_first, extra_first, none_absent, extra_refused, base_absent, all_present, all_there}

@@ -1,6 +1,4 @@
-use Rattle.par2_plan.proofs.Common.{◌≡◌, ◌⊎◌, ◌∙◌, List, ℕ, map, sym, ap, subst, Err, string_bytes, IfErr, err_from_is_err_and, IfOk-weaker, Repair, set_in, refusal, repair_refusal, early_refusal, candidates, matches, IsDistinct, bytes_eq, std_from_distinct, Fault, Memory, ok_no_err, IsDraft, IsDraftBy, IsWholeWhereMatched, refused_by, err_passed}
-use Rattle.std.proofs.Common.{Some}
-use Rattle.std.proofs.Common.{Option}
+use Rattle.par2_plan.proofs.Common.{◌≡◌, ◌⊎◌, ◌∙◌, List, ℕ, map, sym, ap, subst, Err, string_bytes, IfErr, err_from_is_err_and, IfOk-weaker, Repair, set_in, refusal, repair_refusal, early_refusal, candidates, matches, IsDistinct, bytes_eq, std_from_distinct, Fault, Memory, ok_no_err, IsDraft, IsDraftBy, IsWholeWhereMatched, refused_by, err_passed, Some, Option}
 use Rattle.par2_plan.proofs.Choices.{distinct_once}
 use Rattle.par2_plan.proofs.Drafts.{is_draft}
 use Rattle.par2_plan.proofs.PlanParts.{early_repair, repair_unread, whole_if_matched, repair_refused}

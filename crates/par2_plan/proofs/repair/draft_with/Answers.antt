@@ -1,5 +1,4 @@
-use Rattle.par2_plan.proofs.Common.{◌≡◌, ◌∙◌, List, ℕ, length, ap, subst, names_without_match, rebuilt_targets, known_by, names_there, AllByRecursion, err_from_is_err_and, repair_refusal, long_aside, undetermined_fault, md5s_of, refused_by}
-use Rattle.std.proofs.Common.{Some, None}
+use Rattle.par2_plan.proofs.Common.{◌≡◌, ◌∙◌, List, ℕ, length, ap, subst, names_without_match, rebuilt_targets, known_by, names_there, AllByRecursion, err_from_is_err_and, repair_refusal, long_aside, undetermined_fault, md5s_of, refused_by, Some, None}
 use Rattle.par2_plan.proofs.RepairParts.{told_by, targets_are, not_repairable, too_long, by_digests, put_aside_in}
 use Rattle.par2_plan.proofs.repair.draft_with.Goals.{In_ok-restored}
 use Rattle.par2_plan.proofs.repair.draft_with.Goals as goal

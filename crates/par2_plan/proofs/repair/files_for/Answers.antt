@@ -1,5 +1,4 @@
-use Rattle.par2_plan.proofs.Common.{◌≡◌, ◌∙◌, List, [], ℕ, Bor, length, sym, ap, subst, inr, rules, list_any, AllByRecursion, is_at, nil_from_length, err_from_is_err_and, rebuilt, texts_of, known_in, targets_among, undetermined_fault, known_by, slice_cmp, nat_cmp, refused_by}
-use Rattle.std.proofs.Common.{Some}
+use Rattle.par2_plan.proofs.Common.{◌≡◌, ◌∙◌, List, [], ℕ, Bor, length, sym, ap, subst, inr, rules, list_any, AllByRecursion, is_at, nil_from_length, err_from_is_err_and, rebuilt, texts_of, known_in, targets_among, undetermined_fault, known_by, slice_cmp, nat_cmp, refused_by, Some}
 use Rattle.par2_plan.proofs.RepairParts.{none_restored}
 use Rattle.par2_plan.proofs.Trees.{no_names}
 use Rattle.par2_plan.proofs.repair.files_for.Goals.{After-restored_slices}

@@ -1,5 +1,4 @@
-use Rattle.par2_plan.proofs.Common.{◌≡◌, List, map, string_bytes, IsTrue, Change, effects, are_applicable, Repair, changes_of, AreFewFor, refusal, after, RepairFailed, HasItsMd5s, WritesAsDescribed, passed, not_passed}
-use Rattle.std.proofs.Common.{None}
+use Rattle.par2_plan.proofs.Common.{◌≡◌, List, map, string_bytes, IsTrue, Change, effects, are_applicable, Repair, changes_of, AreFewFor, refusal, after, RepairFailed, HasItsMd5s, WritesAsDescribed, passed, not_passed, None}
 use Rattle.par2_plan.proofs.repair.plan_repair.Goals as goal
 
 pub returns-clause-refused : goal.returns-clause-refused

@@ -1,5 +1,4 @@
-use Rattle.par2_plan.proofs.Common.{◌∙◌, ◌+◌, ◌++◌, ◌∷◌, [], List, ℕ, map, drop, sym, ap, append-nil, append_assoc, into_iter_items, drop_all, drop_more, map-append, lists_of, Window, windows_and_texts, text_of, Slice}
-use Rattle.std.proofs.Common.{None}
+use Rattle.par2_plan.proofs.Common.{◌∙◌, ◌+◌, ◌++◌, ◌∷◌, [], List, ℕ, map, drop, sym, ap, append-nil, append_assoc, into_iter_items, drop_all, drop_more, map-append, lists_of, Window, windows_and_texts, text_of, Slice, None}
 use Rattle.par2_plan.proofs.restored_slices.merged.Goals as goal
 
 pub loop-window-preserved : goal.loop-window-preserved

@@ -11,8 +11,7 @@ are_slices : (c : In-Ok) → AreSlices c.args.set.now (known_in c.args.set.now (
 are_slices c = rebuilt_for c.args.set.now _ c.in_ok-survivors.survivors c.in-Ok.slices c.in_ok-survivors.ensures.these c.in-Ok.ensures.rebuilt
 
 pub returns-in-Ok-clause-slices : goal.returns-in-Ok-clause-slices
-returns-in-Ok-clause-slices c =
-    sym (c.rebuilt_slices_agree.ensures.only c.args.set.now _ c.in-Ok.slices (are_slices (goal.at.returns-in-Ok-clause-slices c).In-Ok))
+returns-in-Ok-clause-slices c = sym (c.rebuilt_slices_agree.ensures.only c.args.set.now _ c.in-Ok.slices (are_slices (goal.at.returns-in-Ok-clause-slices c).In-Ok))
 
 pub returns-in-Ok-clause-determined : goal.returns-in-Ok-clause-determined
 returns-in-Ok-clause-determined c =
