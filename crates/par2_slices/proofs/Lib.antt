@@ -8,6 +8,7 @@ pub mod Groups
 pub mod Places
 pub mod NextWindows
 pub mod Searching
+pub mod Passing
 pub mod Wholes
 pub mod Comparisons
 pub mod FoundWindows

@@ -15,7 +15,7 @@ first_below-more s text o pair =
     ∙ ap (λ k. option_or (find test (range_with_len 0 o)) (cond (test k) (Some k) None)) (let e : 0 + o ≡ o = omega arith in e)
 
 -- one offset more
-below-more : (s : ℕ) (text : List ℕ) (earlier : Earlier) (o : ℕ) (pairs : List Pair) (i : ℕ)
+pub below-more : (s : ℕ) (text : List ℕ) (earlier : Earlier) (o : ℕ) (pairs : List Pair) (i : ℕ)
     → answer_below s text earlier (o + 1) pairs i ≡ after_window (is_match (pair_at pairs i) (window s text o)) (spot_in earlier.text o) (answer_below s text earlier o pairs i)
 below-more s text earlier o pairs i =
     ap (λ f. option_or (answer_at earlier.before i) (option_map (spot_in earlier.text) f)) (first_below-more s text o (pair_at pairs i))
@@ -30,7 +30,7 @@ below-more s text earlier o pairs i =
     step None None false = refl
 
 -- an answer that is there stands
-settled_some : (s : ℕ) (text : List ℕ) (pair : Pair) (candidates : List Candidate) (x : Spot) → after_candidates s text pair candidates (Some x) ≡ Some x
+pub settled_some : (s : ℕ) (text : List ℕ) (pair : Pair) (candidates : List Candidate) (x : Spot) → after_candidates s text pair candidates (Some x) ≡ Some x
 unfolding after_candidates
 settled_some s text pair [] x = refl
 settled_some s text pair (candidate ∷ rest) x = settled_some s text pair rest x
@@ -60,7 +60,7 @@ unfolding after_candidates
 settled_from s text pair candidates k answer inside = ap (λ cs. after_candidates s text pair cs answer) (drop_more candidates k no_candidate inside)
 
 -- where an answer stands, or nothing matches, it stays
-stays : (m : Bool) (spot : Spot) (old : Option Spot) → (old ≡ None → m ≡ false) → old ≡ after_window m spot old
+pub stays : (m : Bool) (spot : Spot) (old : Option Spot) → (old ≡ None → m ≡ false) → old ≡ after_window m spot old
 stays m spot None fails = ap (λ b. cond b (Some spot) None) (sym (fails refl))
 stays m spot (Some x) fails = refl
 

@@ -1,5 +1,5 @@
 -- What a rolling checksum holds.
-use Rattle.std.specs.Prelude.{◌≡◌, ℕ, ◌*◌, ◌<◌, List, [], ◌∷◌, bit_xor, slice_index, slice_index_or}
+use Rattle.std.specs.Prelude.{◌≡◌, ℕ, ◌*◌, ◌<◌, List, [], ◌∷◌, bit_xor, slice_index}
 use Rattle.par2_spec.specs.Checksums.{crc_byte, crc32}
 use Rattle.par2_slices.specs.Steps.{steps}
 
@@ -12,9 +12,9 @@ pub record Roll : Type 0 where
 unfoldable pub leaving : ℕ → ℕ → ℕ
 leaving s byte = bit_xor (steps (8 * s) (crc32 (byte ∷ []))) (crc32 (0 ∷ []))
 
--- table k has for each byte what this becomes when k bytes more have come in
-pub record IsLeaving (s : ℕ) (tables : List (List ℕ)) : Type 0 where
-  pub entry : (none : List ℕ) (k byte : ℕ) → k < 2 → byte < 256 → slice_index (slice_index_or tables k none) byte ≡ steps (8 * k) (leaving s byte)
+-- the table has for each byte what it adds when it leaves
+abbrev pub IsLeaving : ℕ → List ℕ → Type 0
+IsLeaving s table = (byte : ℕ) → byte < 256 → slice_index table byte ≡ leaving s byte
 
 -- a checksum of a window of s bytes, after `out` has left it and `next` has come in
 unfoldable pub after_slide : ℕ → ℕ → ℕ → ℕ → ℕ

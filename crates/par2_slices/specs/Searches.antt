@@ -1,5 +1,5 @@
 -- A search for slices by their checksums, under way.
-use Rattle.std.specs.Prelude.{◌≡◌, [], ◌∷◌, ℕ, ◌/◌, ◌%◌, ◌^◌, ◌<◌, ◌==◌, ◌&&◌, ◌+◌, ◌≤◌, Bool, cond, Option, Some, None, option_map, List, length, find, fold, slice_index, slice_index_or}
+use Rattle.std.specs.Prelude.{◌≡◌, ◌≢◌, [], ◌∷◌, ℕ, ◌/◌, ◌%◌, ◌^◌, ◌<◌, ◌==◌, ◌&&◌, ◌+◌, ◌≤◌, Bool, true, false, cond, Option, Some, None, option_map, List, length, find, fold, slice_index, slice_index_or}
 use Rattle.std.specs.List.{count_by, range_with_len}
 use Rattle.std.specs.List.Sorted.{IsNonDecreasingBy}
 use Rattle.std.specs.Option.{is_none, option_or}
@@ -66,6 +66,15 @@ pub record IsStart (places : List Place) (group start : ℕ) : Type 0 where
   pub below : (k : ℕ) → k < start → (place_at places k).crc / 2 ^ 17 < group
   pub above : (k : ℕ) → start ≤ k → k < length places → group ≤ (place_at places k).crc / 2 ^ 17
 
+-- a pair has this checksum
+abbrev pub HasCrc : List Pair → ℕ → Type 0
+HasCrc pairs crc = (i : ℕ) × (i < length pairs) × ((pair_at pairs i).1 ≡ crc)
+
+-- the low 18 bits of each pair's checksum are hinted at
+pub record AreHints (pairs : List Pair) (hints : List Bool) : Type 0 where
+  pub len : length hints ≡ 2 ^ 18
+  pub each : (i : ℕ) → i < length pairs → slice_index_or hints ((pair_at pairs i).1 % 2 ^ 18) false ≡ true
+
 -- where the places of each group begin, and where those of the last group end
 pub record AreStarts (places : List Place) (starts : List ℕ) : Type 0 where
   pub len : length starts ≡ 2 ^ 15 + 1
@@ -76,6 +85,10 @@ pub record HoldsGroup (pairs : List Pair) (crc : ℕ) (group : List Place) : Typ
   pub only : (k : ℕ) → k < length group → (place_at group k).crc / 2 ^ 17 ≡ crc / 2 ^ 17
   pub each : ArePlaces pairs group
   pub whole : (i : ℕ) → i < length pairs → (pair_at pairs i).1 / 2 ^ 17 ≡ crc / 2 ^ 17 → (k : ℕ) × (k < length group) × ((place_at group k).index ≡ i)
+
+-- each pair of this checksum has an answer
+abbrev pub HaveAnswers : List Pair → List (Option Spot) → ℕ → Type 0
+HaveAnswers pairs found crc = (i : ℕ) → i < length pairs → (pair_at pairs i).1 ≡ crc → answer_at found i ≢ None
 
 -- whether the pair of a place has this checksum and no answer
 abbrev pub is_awaited : ℕ → List (Option Spot) → Place → Bool
@@ -111,6 +124,10 @@ abbrev pub answer_below : ℕ → List ℕ → Earlier → ℕ → List Pair →
 answer_below s text earlier offset pairs i =
     option_or (answer_at earlier.before i) (option_map (spot_in earlier.text) (first_below s text offset (pair_at pairs i)))
 
+-- each pair of this checksum has its answer below `offset`
+abbrev pub AreAnswered : ℕ → List ℕ → Earlier → ℕ → List Pair → ℕ → Type 0
+AreAnswered s text earlier offset pairs crc = (i : ℕ) → i < length pairs → (pair_at pairs i).1 ≡ crc → answer_below s text earlier offset pairs i ≢ None
+
 -- a window that lies in the text, and its checksum
 pub record IsWindow (s : ℕ) (text : List ℕ) (candidate : Candidate) : Type 0 where
   pub within : candidate.spot.offset + s ≤ length text
@@ -118,10 +135,6 @@ pub record IsWindow (s : ℕ) (text : List ℕ) (candidate : Candidate) : Type 0
 
 abbrev pub AreWindows : ℕ → List ℕ → List Candidate → Type 0
 AreWindows s text candidates = (k : ℕ) → k < length candidates → IsWindow s text (candidate_at candidates k)
-
--- the checksums of so many windows, from this offset on
-abbrev pub AreChecksums : ℕ → List ℕ → ℕ → ℕ → List ℕ → Type 0
-AreChecksums s text offset count crcs = (k : ℕ) → k < count → slice_index crcs k ≡ crc32 (window s text (offset + k))
 
 -- an answer once the windows of the candidates have been compared with the pair, one after the other
 unfoldable pub after_candidates : ℕ → List ℕ → Pair → List Candidate → Option Spot → Option Spot

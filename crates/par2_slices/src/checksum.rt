@@ -27,14 +27,6 @@ pub(crate) fn after_byte(remainder: u32, byte: u8) -> u32
     entry(0, (mixed % 256) as u8) ^ mixed >> 8
 }
 
-/// The remainder after two more bytes.
-pub(crate) fn after_two(remainder: u32, first: u8, second: u8) -> u32
-    ensures { result ≡ spec.crc_byte (spec.crc_byte remainder first) second }
-{
-    let mixed = remainder ^ u16::from_le_bytes([first, second]) as u32;
-    entry(1, (mixed % 256) as u8) ^ entry(0, ((mixed >> 8) % 256) as u8) ^ mixed >> 16
-}
-
 /// What the four bytes of a word become when `later` bytes more follow them.
 fn four_later(word: u32, later: usize) -> u32
     requires later { later ≤ 12 }

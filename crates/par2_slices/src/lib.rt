@@ -8,6 +8,7 @@ mod filter;
 mod matching;
 mod pairs;
 mod rolling;
+mod rows;
 mod search;
 mod tables;
 mod wanted_pairs;

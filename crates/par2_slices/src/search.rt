@@ -1,18 +1,20 @@
 //! The search for slices in a file by their checksums.
 
-ghost use Rattle.std.specs.Prelude.{None, option_map, ◌≡◌, ◌≤◌, ◌<◌, ◌+◌, ◌⊎◌, ◌↔◌, [], ℕ, List, IfOk, IsTrue, length, map, drop, slice_index};
+ghost use Rattle.std.specs.Prelude.{None, option_map, ◌≡◌, ◌≤◌, ◌<◌, ◌+◌, ◌*◌, ◌⊎◌, ◌↔◌, [], ℕ, List, IfOk, IfSome, IsTrue, length, map, drop, slice_index};
 ghost use Rattle.std.specs.List.{count_by};
 ghost use Rattle.std.specs.Option.{is_none};
 ghost use Rattle.par2_spec.specs.Answers.{Lists};
 ghost use Rattle.par2_spec.specs.Checksums.{crc32};
 ghost use Rattle.par2_spec.specs.Windows.{first_match, window};
-ghost use Rattle.par2_slices.specs.Searches.{after_window, candidate_at, has_checksums, is_awaited, answer_at, pair_at, place_at, first_spot, after_candidates, Earlier, AreAmong, AreChecksums, AreOpen, ArePlaces, AreWindows, IsSearching, IsTally, IsWaiting};
+ghost use Rattle.par2_slices.specs.Rows.{AreRows};
+ghost use Rattle.par2_slices.specs.Searches.{after_window, candidate_at, has_checksums, is_awaited, answer_at, pair_at, place_at, first_spot, after_candidates, Earlier, AreAmong, AreOpen, ArePlaces, AreWindows, HaveAnswers, IsSearching, IsTally, IsWaiting};
 
 use crate::batch::{Candidate, Spot, digests};
 use crate::cutting::window_bytes;
 use crate::filter::Filter;
 use crate::pairs::{Pair, padded_md5};
 use crate::rolling::Rolling;
+use crate::rows::{Row, first_crcs, next_crcs};
 use crate::wanted_pairs::{Place, Wanted};
 use arrayvec::ArrayVec;
 use par2_digests::LANES;
@@ -78,6 +80,9 @@ fn settle(
     }
     count
 }
+
+/// How many rows are kept for the windows of four stretches.
+const MOST_ROWS: usize = 256;
 
 /// A search under way: the answers so far, how many are open, which checksums these have, and a batch of windows that
 /// are still to be compared. `awaited` is how many open pairs have the checksums of these: it decides when the batch is
@@ -235,23 +240,148 @@ impl Search {
         }
     }
 
-    /// Looks at four windows, the first of them at `offset`.
-    fn test_four(&mut self, wanted: &Wanted, bytes: &[u8], s: u64, spot: Spot, crcs: &[u32; 4])
-        ghost earlier: { Earlier }
-        requires at { IsSearching s bytes.now earlier spot.offset wanted.now self.old }
-        requires text { spot.text ≡ earlier.text }
-        requires within { spot.offset + 4 ≤ length bytes.now }
-        requires crcs { AreChecksums s bytes.now spot.offset 4 crcs.now }
-        ensures { IsSearching s bytes.now earlier (spot.offset + 4) wanted.now self.new }
+    /// Whether a pair without an answer may have this CRC-32.
+    fn awaits(&self, wanted: &Wanted, crc: u32) -> bool
+        requires { IsTally wanted.now self.now.found.items self.now.left self.now.filter }
+        ensures { ¬ (IsTrue result) → HaveAnswers wanted.now self.now.found.items crc }
     {
-        let Spot { text, offset } = spot;
-        for (k, &crc) in crcs.iter().enumerate() {
-            let offset = offset + k;
-            self.test(wanted, bytes, s, Spot { text, offset }, crc);
+        self.filter.contains(crc) && awaited(wanted.group(crc), crc, &self.found) > 0
+    }
+
+    /// Whether a pair without an answer may have one of these CRC-32s.
+    // Few rows get here, as `look`.
+    #[cold]
+    #[inline(never)]
+    fn awaits_any(&self, wanted: &Wanted, crcs: [u32; 4]) -> bool
+        requires { IsTally wanted.now self.now.found.items self.now.left self.now.filter }
+        ensures { ¬ (IsTrue result) → (k : ℕ) → k < 4
+            → HaveAnswers wanted.now self.now.found.items (slice_index crcs k) }
+    {
+        for crc in crcs {
+            if self.awaits(wanted, crc) {
+                return true;
+            }
+        }
+        false
+    }
+
+    /// The rows of four stretches of `LEN` offsets in which a pair without an answer may have the CRC-32 of a window. None
+    /// where they are too many: then the windows are wanted more than passed over.
+    fn rows<const LEN: usize>(
+        &self,
+        wanted: &Wanted,
+        bytes: &[u8],
+        s: u64,
+        start: usize,
+        rolling: &Rolling,
+    ) -> Option<ArrayVec<Row, MOST_ROWS>>
+        ghost earlier: { Earlier }
+        requires some { 1 ≤ s }
+        requires at { IsSearching s bytes.now earlier start wanted.now self.now }
+        requires size { rolling.now.size ≡ s }
+        requires within { start + 4 * LEN + s ≤ length bytes.now }
+        ensures { IfSome result (λ rows.
+            AreRows s bytes.now earlier start LEN wanted.now LEN rows.items) }
+    {
+        let outs = bytes_from(bytes, start as u64);
+        let nexts = bytes_from(outs, s);
+        let mut crcs = first_crcs::<LEN>(bytes, s, start);
+        let mut rows = ArrayVec::new();
+        for at in 0..LEN {
+            if wanted.may_have(&crcs) && self.awaits_any(wanted, crcs) {
+                if rows.is_full() {
+                    return None;
+                }
+                rows.push(Row { at, crcs });
+            }
+            crcs = next_crcs::<LEN>(rolling, Row { at, crcs }, outs, nexts);
+        }
+        Some(rows)
+    }
+
+    /// Looks at the windows of stretch `k`, of four of `len` offsets, that stand in the rows: no other is wanted.
+    fn test_stretch(
+        &mut self,
+        wanted: &Wanted,
+        bytes: &[u8],
+        s: u64,
+        start: Spot,
+        rows: &[Row],
+        len: usize,
+        k: usize,
+    )
+        ghost earlier: { Earlier }
+        requires at { IsSearching s bytes.now earlier (start.offset + k * len) wanted.now self.old }
+        requires text { start.text ≡ earlier.text }
+        requires stretch { k < 4 }
+        requires within { start.offset + 4 * len ≤ length bytes.now }
+        requires rows { AreRows s bytes.now earlier start.offset len wanted.now len rows.now }
+        ensures { IsSearching s bytes.now earlier (start.offset + (k + 1) * len) wanted.now self.new }
+    {
+        let Spot { text, offset } = start;
+        for row in rows {
+            let offset = offset + k * len + row.at;
+            self.test(wanted, bytes, s, Spot { text, offset }, row.crcs[k]);
         }
     }
 
-    /// Looks at windows by fours, from the start of the file on, while four bytes more come in. Gives the offset after.
+    /// Looks at the windows of four stretches of `LEN` offsets, in their order.
+    fn search_four<const LEN: usize>(
+        &mut self,
+        wanted: &Wanted,
+        bytes: &[u8],
+        s: u64,
+        start: Spot,
+        rolling: &mut Rolling,
+    )
+        ghost earlier: { Earlier }
+        requires text { start.text ≡ earlier.text }
+        requires some { 1 ≤ s }
+        requires within { start.offset + 4 * LEN + s ≤ length bytes.now }
+        requires at { IsSearching s bytes.now earlier start.offset wanted.now self.old }
+        requires size { rolling.old.size ≡ s }
+        ensures at { IsSearching s bytes.now earlier (start.offset + 4 * LEN) wanted.now self.new }
+        ensures size { rolling.new.size ≡ s }
+    {
+        let Some(rows) = self.rows::<LEN>(wanted, bytes, s, start.offset, rolling) else {
+            self.one_by_one(wanted, bytes, s, start, start.offset + 4 * LEN, rolling);
+            return;
+        };
+        for k in 0..4usize {
+            self.test_stretch(wanted, bytes, s, start, rows.as_slice(), LEN, k);
+        }
+    }
+
+    /// Looks at windows from `start` on by four stretches of `LEN` offsets, as often as they are whole. Gives the offset
+    /// after.
+    fn by_stretches<const LEN: usize>(
+        &mut self,
+        wanted: &Wanted,
+        bytes: &[u8],
+        s: u64,
+        start: Spot,
+        rolling: &mut Rolling,
+    ) -> usize
+        ghost earlier: { Earlier }
+        requires text { start.text ≡ earlier.text }
+        requires some { 1 ≤ s }
+        requires stretch { 1 ≤ LEN }
+        requires within { start.offset ≤ length bytes.now }
+        requires at { IsSearching s bytes.now earlier start.offset wanted.now self.old }
+        requires size { rolling.old.size ≡ s }
+        ensures within { result ≤ length bytes.now }
+        ensures at { IsSearching s bytes.now earlier result wanted.now self.new }
+        ensures size { rolling.new.size ≡ s }
+    {
+        let Spot { text, mut offset } = start;
+        while !self.is_finished() && is_fit(bytes.len() - offset, s, LEN) {
+            self.search_four::<LEN>(wanted, bytes, s, Spot { text, offset }, rolling);
+            offset += 4 * LEN;
+        }
+        offset
+    }
+
+    /// Looks at windows from the start of the text on by longer and then by shorter stretches. Gives the offset after.
     fn by_fours(
         &mut self,
         wanted: &Wanted,
@@ -265,48 +395,43 @@ impl Search {
         requires some { 1 ≤ s }
         requires at { IsSearching s bytes.now earlier 0 wanted.now self.old }
         requires size { rolling.old.size ≡ s }
-        requires value { rolling.old.value ≡ crc32 (window s bytes.now 0) }
         ensures within { result ≤ length bytes.now }
         ensures at { IsSearching s bytes.now earlier result wanted.now self.new }
         ensures size { rolling.new.size ≡ s }
-        ensures value { rolling.new.value ≡ crc32 (window s bytes.now result) }
     {
-        let outs = bytes.as_chunks::<4>().0;
-        let nexts = bytes_from(bytes, s).as_chunks::<4>().0;
-        let mut offset = 0;
-        for (group, next) in nexts.iter().enumerate() {
-            if self.is_finished() {
-                break;
-            }
-            let crcs = rolling.slide_four(&outs[group], next);
-            self.test_four(wanted, bytes, s, Spot { text, offset }, &crcs);
-            offset += 4;
-        }
-        offset
+        let offset = self.by_stretches::<4194304>(wanted, bytes, s, Spot { text, offset: 0 }, rolling);
+        let offset = self.by_stretches::<1048576>(wanted, bytes, s, Spot { text, offset }, rolling);
+        let offset = self.by_stretches::<262144>(wanted, bytes, s, Spot { text, offset }, rolling);
+        let offset = self.by_stretches::<65536>(wanted, bytes, s, Spot { text, offset }, rolling);
+        let offset = self.by_stretches::<16384>(wanted, bytes, s, Spot { text, offset }, rolling);
+        let offset = self.by_stretches::<4096>(wanted, bytes, s, Spot { text, offset }, rolling);
+        self.by_stretches::<1024>(wanted, bytes, s, Spot { text, offset }, rolling)
     }
 
-    /// Looks at the windows from `start` on, one by one.
+    /// Looks at the windows from `start` up to the offset `end`, one by one.
     fn one_by_one(
         &mut self,
         wanted: &Wanted,
         bytes: &[u8],
         s: u64,
         start: Spot,
+        end: usize,
         rolling: &mut Rolling,
     )
         ghost earlier: { Earlier }
         requires text { start.text ≡ earlier.text }
         requires some { 1 ≤ s }
-        requires within { start.offset ≤ length bytes.now }
+        requires from { start.offset ≤ end }
+        requires within { end ≤ length bytes.now }
         requires at { IsSearching s bytes.now earlier start.offset wanted.now self.old }
         requires size { rolling.old.size ≡ s }
-        requires value { rolling.old.value ≡ crc32 (window s bytes.now start.offset) }
-        ensures at { IsSearching s bytes.now earlier (length bytes.now) wanted.now self.new }
+        ensures at { IsSearching s bytes.now earlier end wanted.now self.new }
         ensures size { rolling.new.size ≡ s }
     {
         let text = start.text;
         let incoming = bytes_from(bytes, s);
-        for offset in start.offset..bytes.len() {
+        rolling.start(window_bytes(bytes, s, start.offset));
+        for offset in start.offset..end {
             if self.is_finished() {
                 break;
             }
@@ -338,11 +463,19 @@ impl Search {
         if self.is_finished() {
             return;
         }
-        rolling.start(window_bytes(bytes, s, 0));
         let offset = self.by_fours(wanted, text, bytes, s, rolling);
-        self.one_by_one(wanted, bytes, s, Spot { text, offset }, rolling);
+        self.one_by_one(wanted, bytes, s, Spot { text, offset }, bytes.len(), rolling);
         self.settle_batch(wanted, bytes, s);
     }
+}
+
+/// Whether what is left of a text is searched by four stretches of `len` offsets: they lie in it, with a window after
+/// them; their first windows cost less than is won; and they hold few slices each.
+fn is_fit(left: usize, s: u64, len: usize) -> bool
+    ensures { IsTrue result → 4 * len + s ≤ left }
+{
+    let is_long = s <= left as u64 && len <= (left - s as usize) / 4;
+    is_long && s / 8 <= len as u64 && len as u64 / 16 <= s
 }
 
 /// The bytes of the file from `start` on.

@@ -21,11 +21,11 @@ loop-offset-preserved g c =
 pub returns-then-is_finished-clause-at : goal.returns-then-is_finished-clause-at
 returns-then-is_finished-clause-at g c =
     let o : ℕ = c.loop-offset.offset in
-    let end : ℕ = length c.args.bytes.now in
+    let end : ℕ = c.args.end in
     subst (λ (o : ℕ). IsAt c.args.s c.args.bytes.now g.earlier o c.args.wanted.now c.loop-offset.self.found.items c.loop-offset.self.left c.loop-offset.self.filter c.loop-offset.self.batch.items) (let e : o + (end - o) ≡ end = omega (arith, c.loop-offset-test.true) in e)
     (none_left c.args.s c.args.bytes.now g.earlier o (end - o) c.args.wanted.now c.loop-offset.self.found.items c.loop-offset.self.left c.loop-offset.self.filter c.loop-offset.self.batch.items c.loop-offset.invariant.at
     (c.is_finished.ensures.0 c.if-is_finished.true))
 
 pub returns-after-loop-offset-clause-at : goal.returns-after-loop-offset-clause-at
 returns-after-loop-offset-clause-at g c =
-    subst (λ (o : ℕ). IsAt c.args.s c.args.bytes.now g.earlier o c.args.wanted.now c.loop-offset.self.found.items c.loop-offset.self.left c.loop-offset.self.filter c.loop-offset.self.batch.items) (let e : c.loop-offset.offset ≡ length c.args.bytes.now = omega arith in e) c.loop-offset.invariant.at
+    subst (λ (o : ℕ). IsAt c.args.s c.args.bytes.now g.earlier o c.args.wanted.now c.loop-offset.self.found.items c.loop-offset.self.left c.loop-offset.self.filter c.loop-offset.self.batch.items) (let e : c.loop-offset.offset ≡ c.args.end = omega (arith, c.requires.1.1.0, c.loop-offset-test.false) in e) c.loop-offset.invariant.at

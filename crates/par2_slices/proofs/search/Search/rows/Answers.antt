@@ -1,0 +1,31 @@
+use Rattle.par2_slices.proofs.Common.{◌≡◌, ◌∙◌, ◌+◌, ◌<◌, ℕ, List, true, false, refl, sym, subst, drop, HaveAnswers, AreAnswered, AreRows, Row, crc_in}
+use Rattle.par2_slices.proofs.Passing.{answered, next_row, noted, skipped}
+use Rattle.par2_slices.proofs.search.Search.rows.Goals as goal
+use Rattle.par2_slices.proofs.search.Search.rows.Goals.{then-may_have+then-awaits_any+else-is_full, else-may_have, else-may_have-via-then-may_have+else-awaits_any, else-may_have-via-else-may_have}
+
+pub loop-at-preserved : goal.loop-at-preserved
+loop-at-preserved g c =
+    let s : ℕ = c.args.s in
+    let text : List ℕ = c.args.bytes.now in
+    let start : ℕ = c.args.start in
+    let len : ℕ = g.row.LEN in
+    let pairs = c.args.wanted.now in
+    let search = c.args.self.now in
+    let at : ℕ = c.loop-at.at in
+    let are = c.loop-at.invariant.are in
+    let crcs = c.loop-at.invariant.crcs in
+    let Are : List Row → Type 0 = λ rows. AreRows s text g.earlier start len pairs (at + 1) rows in
+    record {
+      are = elim c.if-may_have.branch [
+        | then-may_have+then-awaits_any+else-is_full w ↦ subst (λ kept. Are kept.items) (sym w.rows-is) (subst Are (sym w.push.ensures.items) (noted s text g.earlier start len pairs at c.loop-at.crcs c.loop-at.rows.items are crcs))
+        | else-may_have w ↦ subst (λ kept. Are kept.items) (sym w.rows-is) (skipped s text g.earlier start len pairs at c.loop-at.rows.items are
+            (elim w.else-may_have.branch [
+              | else-may_have-via-then-may_have+else-awaits_any v ↦ λ k h.
+                  answered s text g.earlier start pairs search.found.items search.left search.filter search.batch.items (crc_in s text start len k at) c.requires.1.1.0
+                  (subst (HaveAnswers pairs search.found.items) (crcs k h) (v.awaits_any.ensures (λ is. let both : true ≡ false = sym is ∙ v.if-awaits_any.false in cc) k h))
+              | else-may_have-via-else-may_have v ↦ λ k h i low same none.
+                  let both : true ≡ false = sym (c.may_have.ensures k h (i, low, same ∙ sym (crcs k h))) ∙ v.if-may_have.false in cc
+            ]))
+      ];
+      crcs = next_row s text start len at c.args.rolling.now.size c.loop-at.crcs c.next_crcs-crcs.result c.bytes_from-outs.result.now c.bytes_from-nexts.result.now c.requires.1.0 c.requires.1.1.1.0 c.bytes_from-outs.ensures c.bytes_from-nexts.ensures crcs c.next_crcs-crcs.ensures;
+    }

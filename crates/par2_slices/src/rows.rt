@@ -1,0 +1,67 @@
+//! Windows of four stretches of a text, side by side.
+//!
+//! Each CRC-32 of a window waits for that of the window before it. Four that don't wait for each other take half of the
+//! time of one after the other.
+
+ghost use Rattle.std.specs.Prelude.{◌≡◌, ◌≤◌, ◌<◌, ◌+◌, ◌*◌, ℕ, length, slice_index};
+ghost use Rattle.par2_spec.specs.Checksums.{crc32};
+ghost use Rattle.par2_spec.specs.Windows.{window};
+ghost use Rattle.par2_slices.specs.Rows.{AreCrcs};
+ghost use Rattle.par2_slices.specs.Rolls.{after_slide};
+
+use crate::checksum::padded_crc32;
+use crate::cutting::window_bytes;
+use crate::rolling::Rolling;
+
+/// The windows that are `at` bytes into each of four stretches, by their CRC-32s.
+#[derive(Clone, Copy, Default, Drop)]
+pub(crate) struct Row {
+    pub(crate) at: usize,
+    pub(crate) crcs: [u32; 4],
+}
+
+/// The CRC-32 of the window at an offset.
+fn crc_at(bytes: &[u8], s: u64, offset: usize) -> u32
+    requires { offset ≤ length bytes.now }
+    ensures { result ≡ crc32 (window s bytes.now offset) }
+{
+    padded_crc32(window_bytes(bytes, s, offset), s)
+}
+
+/// The first row of stretches of `LEN` offsets, from `start` on.
+pub(crate) fn first_crcs<const LEN: usize>(bytes: &[u8], s: u64, start: usize) -> [u32; 4]
+    requires { start + 3 * LEN ≤ length bytes.now }
+    ensures { AreCrcs s bytes.now start LEN 0 result }
+{
+    [
+        crc_at(bytes, s, start),
+        crc_at(bytes, s, start + LEN),
+        crc_at(bytes, s, start + 2 * LEN),
+        crc_at(bytes, s, start + 3 * LEN),
+    ]
+}
+
+/// The CRC-32s of the next row of stretches of `LEN` offsets: the bytes `at` leave the windows, or come in.
+// The length is known when it is compiled: then one register is enough for the bytes of four stretches.
+#[inline(always)]
+pub(crate) fn next_crcs<const LEN: usize>(
+    rolling: &Rolling,
+    row: Row,
+    outs: &[u8],
+    nexts: &[u8],
+) -> [u32; 4]
+    requires outs { 3 * LEN + row.at < length outs.now }
+    requires nexts { 3 * LEN + row.at < length nexts.now }
+    ensures { (k : ℕ) → k < 4 → slice_index result k ≡ after_slide rolling.now.size
+        (slice_index row.crcs k)
+        (slice_index outs.now (k * LEN + row.at))
+        (slice_index nexts.now (k * LEN + row.at)) }
+{
+    let Row { at, crcs } = row;
+    [
+        rolling.slid(crcs[0], outs[at], nexts[at]),
+        rolling.slid(crcs[1], outs[LEN + at], nexts[LEN + at]),
+        rolling.slid(crcs[2], outs[2 * LEN + at], nexts[2 * LEN + at]),
+        rolling.slid(crcs[3], outs[3 * LEN + at], nexts[3 * LEN + at]),
+    ]
+}
