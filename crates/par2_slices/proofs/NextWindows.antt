@@ -1,5 +1,5 @@
 -- Windows that follow each other.
-use Rattle.par2_slices.proofs.Common.{◌≡◌, ℕ, zero, suc, ◌+◌, ◌-◌, ◌*◌, ◌/◌, ◌<◌, ◌≤◌, List, [], ◌∷◌, ◌++◌, length, take, drop, get_or, replicate, refl, sym, ap, ◌∙◌, arith, inl, inr, cases_lt, length-take, length-drop, get_or_append_left, get_or-append_right, get_or-take, get_or-drop, get_or-replicate, get_or_past, get_or_at, drop_more, length_push, ext_get_or, first_chunks, crc32, window, after_slide}
+use Rattle.par2_slices.proofs.Common.{◌≡◌, ℕ, ◌+◌, ◌-◌, ◌<◌, ◌≤◌, List, [], ◌∷◌, ◌++◌, length, take, drop, get_or, replicate, refl, sym, ap, ◌∙◌, arith, inl, inr, cases_lt, length-take, length-drop, get_or_append_left, get_or-append_right, get_or-take, get_or-drop, get_or-replicate, get_or_past, get_or_at, drop_more, length_push, ext_get_or, crc32, window, after_slide}
 use Rattle.par2_spec.proofs.RestoredLaws.{length-window}
 use Rattle.par2_slices.proofs.Sliding.{slid}
 

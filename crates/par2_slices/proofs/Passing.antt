@@ -1,5 +1,5 @@
 -- Windows that are passed over, since each pair of their checksums has its answer.
-use Rattle.par2_slices.proofs.Common.{◌≡◌, ◌≢◌, ℕ, zero, suc, ◌+◌, ◌-◌, ◌*◌, ◌<◌, ◌≤◌, Bool, List, [], ◌∷◌, ◌++◌, length, drop, get_or, get_or-drop, get_or_append_left, get_or_at, length_push, after_slide, AreCrcs,  refl, sym, ap, subst, ◌∙◌, ◌⊎◌, inl, inr, arith, below_more, false, Option, None, Some, option_or, cond, Pair, crc32, is_match, window, cases_lt, Groups, Candidate, Spot, Earlier, IsAt, Row, AreAnswered, AreRows, IsNoted, HaveAnswers, HasCrc, crc_in, row_at, pair_at, answer_at, answer_below, after_candidates, after_window, spot_in}
+use Rattle.par2_slices.proofs.Common.{◌≡◌, ◌≢◌, ℕ, zero, suc, ◌+◌, ◌-◌, ◌*◌, ◌<◌, ◌≤◌, Bool, List, [], ◌∷◌, ◌++◌, length, drop, get_or, get_or-drop, get_or_append_left, get_or_at, length_push, after_slide, AreCrcs, refl, sym, ap, subst, ◌∙◌, ◌⊎◌, inl, inr, arith, below_more, Option, None, Some, Pair, crc32, is_match, window, cases_lt, Groups, Candidate, Spot, Earlier, IsAt, Row, AreAnswered, AreRows, IsNoted, HaveAnswers, crc_in, row_at, pair_at, answer_at, answer_below, after_candidates, after_window, spot_in}
 use Rattle.par2_slices.proofs.NextWindows.{slid_window}
 use Rattle.par2_slices.specs.Rows.{no_row}
 use Rattle.par2_slices.proofs.Searching.{below-more, no_crc, settled_some, stays}
@@ -38,7 +38,7 @@ passed-one s text earlier o pairs found left filter batch at have = record {
   answers = λ i h.
       at.answers i h
       ∙ stays (is_match (pair_at pairs i) (window s text o)) (spot_in earlier.text o) (answer_below s text earlier o pairs i)
-        (λ none. no_crc (pair_at pairs i) _ (crc32 (window s text o)) (λ same. have i h same none))
+      (λ none. no_crc (pair_at pairs i) _ (crc32 (window s text o)) (λ same. have i h same none))
       ∙ sym (below-more s text earlier o pairs i);
   candidates = at.candidates;
 }
@@ -67,13 +67,13 @@ passed-to s text earlier start len k j m pairs rows found left filter batch are 
     subst (λ a. IsAt s text earlier a pairs found left filter batch) (let e : o + n ≡ start + k * len + m = omega (arith, from) in e)
     (passed s text earlier start o n pairs found left filter batch (omega arith) at
     (λ d h.
-      let row : ℕ = reached rows j + d in
-      let low : row < m = omega (arith, h, from) in
-      subst (λ a. AreAnswered s text earlier start pairs (crc32 (window s text a))) (let e : start + k * len + row ≡ o + d = omega arith in e)
-      (elim (are.others row (omega (arith, low, inside))) [
-        | inl noted ↦ absurd (not_noted rows j row m are.rising below (omega arith) low after noted)
-        | inr free ↦ free k stretch
-      ])))
+    let row : ℕ = reached rows j + d in
+    let low : row < m = omega (arith, h, from) in
+    subst (λ a. AreAnswered s text earlier start pairs (crc32 (window s text a))) (let e : start + k * len + row ≡ o + d = omega arith in e)
+    (elim (are.others row (omega (arith, low, inside))) [
+      | inl noted ↦ absurd (not_noted rows j row m are.rising below (omega arith) low after noted)
+      | inr free ↦ free k stretch
+    ])))
   where
     before_reached : (rows : List Row) (j i : ℕ) → ((i j : ℕ) → i < j → j < length rows → (row_at rows i).at < (row_at rows j).at) → j ≤ length rows → i < j → (row_at rows i).at < reached rows j
     before_reached rows zero i rising below early = absurd (omega (arith, early))
@@ -83,6 +83,7 @@ passed-to s text earlier start len k j m pairs rows found left filter batch are 
           | inl less ↦ (let up : (row_at rows i).at < (row_at rows j).at = rising i j less (omega (arith, below)) in omega (arith, up, next))
           | inr last ↦ (let e : i ≡ j = omega (arith, last, early) in let is : (row_at rows i).at ≡ (row_at rows j).at = ap (λ a. (row_at rows a).at) e in omega (arith, is, next))
         ]
+
     not_noted : (rows : List Row) (j row m : ℕ) → ((i j : ℕ) → i < j → j < length rows → (row_at rows i).at < (row_at rows j).at) → j ≤ length rows → reached rows j ≤ row → row < m → ((i : ℕ) → j ≤ i → i < length rows → m ≤ (row_at rows i).at) → IsNoted rows row → ⊥
     not_noted rows j row m rising below from low after (i, h, is) = elim (cases_lt i j) [
       | inl early ↦ (let less : (row_at rows i).at < reached rows j = before_reached rows j i rising below early in omega (arith, less, is, from))
@@ -113,17 +114,17 @@ pub noted : (s : ℕ) (text : List ℕ) (earlier : Earlier) (start len : ℕ) (p
     → AreCrcs s text start len at crcs → AreRows s text earlier start len pairs (at + 1) (rows ++ record { at = at; crcs = crcs } ∷ [])
 noted s text earlier start len pairs at crcs rows are its = record {
   rising = λ i j less h. elim (cases_lt j (length rows)) [
-      | inl early ↦ (let up : (row_at rows i).at < (row_at rows j).at = are.rising i j less early in omega (arith, up, ap (λ (r : Row). r.at) (old i (omega (arith, less, early))), ap (λ (r : Row). r.at) (old j early)))
-      | inr late ↦ (let early : i < length rows = omega (arith, less, late, h, size) in let up : (row_at rows i).at < at = are.below i early in omega (arith, up, ap (λ (r : Row). r.at) (old i early), ap (λ (r : Row). r.at) (new j h late)))
-    ];
+    | inl early ↦ (let up : (row_at rows i).at < (row_at rows j).at = are.rising i j less early in omega (arith, up, ap (λ (r : Row). r.at) (old i (omega (arith, less, early))), ap (λ (r : Row). r.at) (old j early)))
+    | inr late ↦ (let early : i < length rows = omega (arith, less, late, h, size) in let up : (row_at rows i).at < at = are.below i early in omega (arith, up, ap (λ (r : Row). r.at) (old i early), ap (λ (r : Row). r.at) (new j h late)))
+  ];
   below = λ j h. elim (cases_lt j (length rows)) [
-      | inl early ↦ omega (arith, are.below j early, ap (λ (r : Row). r.at) (old j early))
-      | inr late ↦ omega (arith, ap (λ (r : Row). r.at) (new j h late))
-    ];
+    | inl early ↦ omega (arith, are.below j early, ap (λ (r : Row). r.at) (old j early))
+    | inr late ↦ omega (arith, ap (λ (r : Row). r.at) (new j h late))
+  ];
   crcs = λ j h. elim (cases_lt j (length rows)) [
-      | inl early ↦ subst (λ (r : Row). AreCrcs s text start len r.at r.crcs) (sym (old j early)) (are.crcs j early)
-      | inr late ↦ subst (λ (r : Row). AreCrcs s text start len r.at r.crcs) (sym (new j h late)) its
-    ];
+    | inl early ↦ subst (λ (r : Row). AreCrcs s text start len r.at r.crcs) (sym (old j early)) (are.crcs j early)
+    | inr late ↦ subst (λ (r : Row). AreCrcs s text start len r.at r.crcs) (sym (new j h late)) its
+  ];
   others = below_more (λ a. IsNoted more a ⊎ ((k : ℕ) → k < 4 → AreAnswered s text earlier start pairs (crc_in s text start len k a))) at
       (λ a h. elim (are.others a h) [
         | inl there ↦ inl (there.0, omega (arith, there.1, size), ap (λ (r : Row). r.at) (old there.0 there.1) ∙ there.2)
@@ -134,12 +135,16 @@ noted s text earlier start len pairs at crcs rows are its = record {
   where
     row : Row
     row = record { at = at; crcs = crcs }
+
     more : List Row
     more = rows ++ row ∷ []
+
     size : length more ≡ length rows + 1
     size = length_push rows row
+
     old : (j : ℕ) → j < length rows → row_at more j ≡ row_at rows j
     old j h = get_or_append_left rows (row ∷ []) no_row j h
+
     new : (j : ℕ) → j < length more → length rows ≤ j → row_at more j ≡ row
     new j h late = get_or_at rows row [] no_row j (let e : length rows ≡ j = omega (arith, late, h, size) in e)
 
@@ -151,7 +156,7 @@ next_row s text start len at size crcs after outs nexts some size_is outs_is nex
     let out_at : (j : ℕ) → get_or outs j 0 ≡ get_or text (start + j) 0 = λ j. ap (λ bytes. get_or bytes j 0) outs_is ∙ get_or-drop start text j 0 in
     let out_is : get_or outs (k * len + at) 0 ≡ get_or text o 0 = out_at (k * len + at) ∙ ap (λ j. get_or text j 0) (let e : start + (k * len + at) ≡ o = omega arith in e) in
     let next_is : get_or nexts (k * len + at) 0 ≡ get_or text (s + o) 0 = ap (λ bytes. get_or bytes (k * len + at) 0) nexts_is ∙ get_or-drop s outs (k * len + at) 0
-        ∙ out_at (s + (k * len + at)) ∙ ap (λ j. get_or text j 0) (let e : start + (s + (k * len + at)) ≡ s + o = omega arith in e) in
+    ∙ out_at (s + (k * len + at)) ∙ ap (λ j. get_or text j 0) (let e : start + (s + (k * len + at)) ≡ s + o = omega arith in e) in
     each k h
     ∙ ap (λ n. after_slide n (get_or crcs k 0) (get_or outs (k * len + at) 0) (get_or nexts (k * len + at) 0)) size_is
     ∙ slid_window s text o (get_or crcs k 0) (get_or outs (k * len + at) 0) (get_or nexts (k * len + at) 0) some (are k h) out_is next_is

@@ -399,7 +399,13 @@ impl Search {
         ensures at { IsSearching s bytes.now earlier result wanted.now self.new }
         ensures size { rolling.new.size ≡ s }
     {
-        let offset = self.by_stretches::<4194304>(wanted, bytes, s, Spot { text, offset: 0 }, rolling);
+        let offset = self.by_stretches::<4194304>(
+            wanted,
+            bytes,
+            s,
+            Spot { text, offset: 0 },
+            rolling,
+        );
         let offset = self.by_stretches::<1048576>(wanted, bytes, s, Spot { text, offset }, rolling);
         let offset = self.by_stretches::<262144>(wanted, bytes, s, Spot { text, offset }, rolling);
         let offset = self.by_stretches::<65536>(wanted, bytes, s, Spot { text, offset }, rolling);
@@ -464,7 +470,14 @@ impl Search {
             return;
         }
         let offset = self.by_fours(wanted, text, bytes, s, rolling);
-        self.one_by_one(wanted, bytes, s, Spot { text, offset }, bytes.len(), rolling);
+        self.one_by_one(
+            wanted,
+            bytes,
+            s,
+            Spot { text, offset },
+            bytes.len(),
+            rolling,
+        );
         self.settle_batch(wanted, bytes, s);
     }
 }

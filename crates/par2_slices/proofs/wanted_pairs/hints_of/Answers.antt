@@ -1,4 +1,4 @@
-use Rattle.par2_slices.proofs.Common.{◌≡◌, ◌<◌, ◌^◌, ◌%◌, ◌∙◌, ℕ, Bool, List, true, false, length, length-set, arith, pair_at}
+use Rattle.par2_slices.proofs.Common.{◌<◌, ◌^◌, ◌%◌, ◌∙◌, ℕ, Bool, List, true, length, length-set, arith, pair_at}
 use Rattle.par2_slices.proofs.Groups.{marked_more}
 use Rattle.par2_slices.proofs.wanted_pairs.hints_of.Goals as goal
 

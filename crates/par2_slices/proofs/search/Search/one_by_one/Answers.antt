@@ -1,4 +1,4 @@
-use Rattle.par2_slices.proofs.Common.{◌≡◌, ◌∙◌, ◌+◌, ◌-◌, ℕ, List, length, drop, get_or, refl, sym, ap, subst, arith, get_or-drop, crc32, window, IsAt}
+use Rattle.par2_slices.proofs.Common.{◌≡◌, ◌∙◌, ◌+◌, ◌-◌, ℕ, List, drop, get_or, refl, sym, ap, subst, arith, get_or-drop, crc32, window, IsAt}
 use Rattle.par2_slices.proofs.Searching.{none_left}
 use Rattle.par2_slices.proofs.NextWindows.{first_byte, next_window, rest_len}
 use Rattle.par2_slices.proofs.search.Search.one_by_one.Goals as goal

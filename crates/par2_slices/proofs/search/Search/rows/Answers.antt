@@ -1,4 +1,4 @@
-use Rattle.par2_slices.proofs.Common.{◌≡◌, ◌∙◌, ◌+◌, ◌<◌, ℕ, List, true, false, refl, sym, subst, drop, HaveAnswers, AreAnswered, AreRows, Row, crc_in}
+use Rattle.par2_slices.proofs.Common.{◌≡◌, ◌∙◌, ◌+◌, ℕ, List, true, false, sym, subst, HaveAnswers, AreRows, Row, crc_in}
 use Rattle.par2_slices.proofs.Passing.{answered, next_row, noted, skipped}
 use Rattle.par2_slices.proofs.search.Search.rows.Goals as goal
 use Rattle.par2_slices.proofs.search.Search.rows.Goals.{then-may_have+then-awaits_any+else-is_full, else-may_have, else-may_have-via-then-may_have+else-awaits_any, else-may_have-via-else-may_have}

@@ -1,4 +1,4 @@
-use Rattle.par2_slices.proofs.Common.{Bool, List, sym, subst, IsNonDecreasingBy, Pair, AreHints, AreStarts, IsIndex, Place}
+use Rattle.par2_slices.proofs.Common.{List, sym, subst, IsNonDecreasingBy, Pair, AreHints, AreStarts, IsIndex, Place}
 use Rattle.par2_slices.proofs.wanted_pairs.Wanted.new.Goals as goal
 
 pub group_starts-requires : goal.group_starts-requires
