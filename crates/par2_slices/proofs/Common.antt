@@ -31,7 +31,7 @@ pub use Rattle.par2_slices.specs.Pairs.{first_pairs}
 pub use Rattle.par2_slices.specs.Rolls.{IsLeaving, Roll}
 unfoldable pub use Rattle.par2_slices.specs.Rolls.{after_slide, leaving}
 pub use Rattle.par2_slices.specs.Rows.{AreCrcs, AreRows, IsNoted, crc_in, row_at}
-pub use Rattle.par2_slices.specs.Searches.{AreAnswered, AreHints, AreStarts, Earlier, HasCrc, HaveAnswers, HoldsGroup, IsAt, IsIndex, IsOfOpenPair, IsPlace, IsStart, IsTally, IsWindow, after_window, answer_at, answer_below, candidate_at, first_spot, first_spot_from, has_checksums, is_awaited, no_candidate, no_pair, no_place, pair_at, place_at, spot_in}
+pub use Rattle.par2_slices.specs.Searches.{AreAnswered, AreStarts, Earlier, HaveAnswers, HoldsGroup, IsAt, IsIndex, IsOfOpenPair, IsPlace, IsStart, IsTally, IsWindow, after_window, answer_at, answer_below, candidate_at, first_spot, first_spot_from, has_checksums, is_awaited, no_candidate, no_pair, no_place, pair_at, place_at, spot_in}
 unfoldable pub use Rattle.par2_slices.specs.Searches.{after_candidates, first_below}
 unfoldable pub use Rattle.par2_slices.specs.Steps.{steps}
 pub use Rattle.par2_slices.specs.Texts.{AreShort, IsWithin, Window, padded_window, padded_windows, texts_of, window_in}

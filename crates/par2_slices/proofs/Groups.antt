@@ -1,5 +1,5 @@
 -- Sets of groups of checksums.
-use Rattle.par2_slices.proofs.Common.{Bool, true, false, below_more, ◌≡◌, ◌≢◌, ℕ, zero, suc, ◌+◌, ◌-◌, ◌*◌, ◌^◌, ◌<◌, ◌%◌, ◌/◌, List, length, get_or, set, replicate, refl, subst, sym, ap, ◌∙◌, get_or-set_same, get_or-set_other, arith, inl, inr, ◌⊎◌, bit_and, bit_or, w64, bit_at, bit_not, cases_eq, get_or_read, shr_below, suc-ne-zero, Groups, Marks}
+use Rattle.par2_slices.proofs.Common.{◌≡◌, ◌≢◌, ℕ, zero, suc, ◌+◌, ◌-◌, ◌*◌, ◌^◌, ◌<◌, ◌%◌, ◌/◌, List, length, get_or, set, replicate, refl, subst, sym, ap, ◌∙◌, get_or-set_same, get_or-set_other, arith, inl, inr, ◌⊎◌, bit_and, bit_or, w64, bit_at, bit_not, cases_eq, get_or_read, shr_below, suc-ne-zero, Groups, Marks}
 use Rattle.std.proofs.lemmas.Nat.Bits.{bit_at-zero, bit_at_set_same, bit_at_set_other, bit_at_clear_same, bit_at_clear_other}
 
 pub within : (crc shift : ℕ) → crc < 2 ^ 32 → shift < 32 → crc / 2 ^ shift < 2 ^ (32 - shift)
@@ -92,15 +92,3 @@ only_by_remove crc words place other is = elim (cases_eq (other / 2 ^ 17) (crc /
       record { bit = here crc other words same ∙ sym (bit_at_clear_other w64 word (crc % 64) (omega arith) (other % 64) (omega arith) apart) ∙ still }
   | inr apart ↦ record { bit = sym (elsewhere crc other _ words apart) ∙ is.bit }
 ]
-
--- a place more is marked
-pub marked_more : (marks : List Bool) (place : ℕ → ℕ) (n : ℕ) → place n < length marks → ((i : ℕ) → i < n → get_or marks (place i) false ≡ true) → (i : ℕ) → i < n + 1 → get_or (set marks (place n) true) (place i) false ≡ true
-marked_more marks place n inside each = below_more (λ i. get_or (set marks (place n) true) (place i) false ≡ true) n
-    (λ i h. elim (cases_eq (place i) (place n)) [
-      | inl same ↦ ap (λ p. get_or (set marks (place n) true) p false) same ∙ there
-      | inr other ↦ get_or-set_other marks (place n) (place i) true false other ∙ each i h
-    ])
-    there
-  where
-    there : get_or (set marks (place n) true) (place n) false ≡ true
-    there = get_or-set_same marks (place n) true false inside

@@ -1,5 +1,5 @@
 -- A search for slices by their checksums, under way.
-use Rattle.std.specs.Prelude.{◌≡◌, ◌≢◌, [], ◌∷◌, ℕ, ◌/◌, ◌%◌, ◌^◌, ◌<◌, ◌==◌, ◌&&◌, ◌+◌, ◌≤◌, Bool, true, false, cond, Option, Some, None, option_map, List, length, find, fold, slice_index, slice_index_or}
+use Rattle.std.specs.Prelude.{◌≡◌, ◌≢◌, [], ◌∷◌, ℕ, ◌/◌, ◌%◌, ◌^◌, ◌<◌, ◌==◌, ◌&&◌, ◌+◌, ◌≤◌, Bool, cond, Option, Some, None, option_map, List, length, find, fold, slice_index, slice_index_or}
 use Rattle.std.specs.List.{count_by, range_with_len}
 use Rattle.std.specs.List.Sorted.{IsNonDecreasingBy}
 use Rattle.std.specs.Option.{is_none, option_or}
@@ -65,15 +65,6 @@ pub record IsStart (places : List Place) (group start : ℕ) : Type 0 where
   pub bound : start ≤ length places
   pub below : (k : ℕ) → k < start → (place_at places k).crc / 2 ^ 17 < group
   pub above : (k : ℕ) → start ≤ k → k < length places → group ≤ (place_at places k).crc / 2 ^ 17
-
--- a pair has this checksum
-abbrev pub HasCrc : List Pair → ℕ → Type 0
-HasCrc pairs crc = (i : ℕ) × (i < length pairs) × ((pair_at pairs i).1 ≡ crc)
-
--- the low 18 bits of each pair's checksum are hinted at
-pub record AreHints (pairs : List Pair) (hints : List Bool) : Type 0 where
-  pub len : length hints ≡ 2 ^ 18
-  pub each : (i : ℕ) → i < length pairs → slice_index_or hints ((pair_at pairs i).1 % 2 ^ 18) false ≡ true
 
 -- where the places of each group begin, and where those of the last group end
 pub record AreStarts (places : List Place) (starts : List ℕ) : Type 0 where

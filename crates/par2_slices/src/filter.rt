@@ -8,7 +8,7 @@
 //! A filter is exactly the set of groups that were added and not taken away. A search keeps a group exactly as long as a
 //! pair of it has no answer.
 
-ghost use Rattle.std.specs.Prelude.{◌↔◌, ◌⊎◌, ℕ, IfOk, IsTrue};
+ghost use Rattle.std.specs.Prelude.{◌<◌, ◌↔◌, ◌⊎◌, ℕ, IfOk, IsTrue, slice_index};
 ghost use Rattle.par2_slices.specs.Filters.{AreAlike, Marks};
 
 use par2_spec::Result;
@@ -73,5 +73,14 @@ impl Filter {
         ensures { IsTrue result ↔ Marks self.now crc }
     {
         (self.words[(crc >> SHIFT) as usize] >> (crc % 64)) % 2 == 1
+    }
+    /// Whether the group of one of these is in the set.
+    #[inline(always)]
+    pub(crate) fn contains_any(&self, crcs: &[u32; 4]) -> bool
+        ensures { (k : ℕ) → k < 4 → Marks self.now (slice_index crcs.now k) → IsTrue result }
+    {
+        let [first, second, third, fourth] = *crcs;
+        // All four are looked up: a test after each would take longer, since hardly any is there.
+        self.contains(first) | self.contains(second) | self.contains(third) | self.contains(fourth)
     }
 }

@@ -288,7 +288,7 @@ impl Search {
         let mut crcs = first_crcs::<LEN>(bytes, s, start);
         let mut rows = ArrayVec::new();
         for at in 0..LEN {
-            if wanted.may_have(&crcs) && self.awaits_any(wanted, crcs) {
+            if self.filter.contains_any(&crcs) && self.awaits_any(wanted, crcs) {
                 if rows.is_full() {
                     return None;
                 }
@@ -399,19 +399,19 @@ impl Search {
         ensures at { IsSearching s bytes.now earlier result wanted.now self.new }
         ensures size { rolling.new.size ≡ s }
     {
-        let offset = self.by_stretches::<4194304>(
+        let offset = self.by_stretches::<4198464>(
             wanted,
             bytes,
             s,
             Spot { text, offset: 0 },
             rolling,
         );
-        let offset = self.by_stretches::<1048576>(wanted, bytes, s, Spot { text, offset }, rolling);
-        let offset = self.by_stretches::<262144>(wanted, bytes, s, Spot { text, offset }, rolling);
-        let offset = self.by_stretches::<65536>(wanted, bytes, s, Spot { text, offset }, rolling);
-        let offset = self.by_stretches::<16384>(wanted, bytes, s, Spot { text, offset }, rolling);
-        let offset = self.by_stretches::<4096>(wanted, bytes, s, Spot { text, offset }, rolling);
-        self.by_stretches::<1024>(wanted, bytes, s, Spot { text, offset }, rolling)
+        let offset = self.by_stretches::<1052736>(wanted, bytes, s, Spot { text, offset }, rolling);
+        let offset = self.by_stretches::<266304>(wanted, bytes, s, Spot { text, offset }, rolling);
+        let offset = self.by_stretches::<69696>(wanted, bytes, s, Spot { text, offset }, rolling);
+        let offset = self.by_stretches::<20544>(wanted, bytes, s, Spot { text, offset }, rolling);
+        let offset = self.by_stretches::<4160>(wanted, bytes, s, Spot { text, offset }, rolling);
+        self.by_stretches::<1088>(wanted, bytes, s, Spot { text, offset }, rolling)
     }
 
     /// Looks at the windows from `start` up to the offset `end`, one by one.

@@ -1,8 +1,8 @@
 //! The checksums that a search looks for.
 
-ghost use Rattle.std.specs.Prelude.{◌≡◌, ◌≤◌, ◌<◌, ◌/◌, ◌^◌, ℕ, IfOk, IsTrue, length, slice_index};
+ghost use Rattle.std.specs.Prelude.{◌≡◌, ◌≤◌, ◌<◌, ◌/◌, ◌^◌, ℕ, IfOk, length};
 ghost use Rattle.std.specs.List.Sorted.{IsNonDecreasingBy};
-ghost use Rattle.par2_slices.specs.Searches.{is_awaited, place_at, AreHints, AreStarts, HasCrc, HoldsGroup, IsIndex, IsStart};
+ghost use Rattle.par2_slices.specs.Searches.{is_awaited, place_at, AreStarts, HoldsGroup, IsIndex, IsStart};
 
 use crate::batch::Spot;
 use crate::filter::{SHIFT, WORDS};
@@ -10,9 +10,6 @@ use crate::pairs::Pair;
 use par2_spec::Result;
 use std::alloc::Global;
 use std::marker::Model;
-
-// How many numbers the low bits of a CRC-32 are looked up among: a quarter of a MiB, as the filter.
-const HINTS: usize = 1 << 18;
 
 /// Where a pair stands among the pairs that are wanted, and its CRC-32.
 #[derive(Clone, Copy, Drop)]
@@ -37,21 +34,19 @@ pub struct Wanted {
     places: Vec<Place>,
     // Where the places of each group begin, and then the number of all places.
     starts: Vec<usize>,
-    // For each number of 18 bits whether they are the low ones of a pair's CRC-32.
-    hints: Vec<bool>,
 }
 
 impl Model for Wanted {
     ghost use Rattle.std.specs.Prelude.{List};
     ghost use Rattle.par2_spec.specs.Checksums.{Pair};
-    ghost use Rattle.par2_slices.specs.Searches.{AreHints, AreStarts, IsIndex};
+    ghost use Rattle.par2_slices.specs.Searches.{AreStarts, IsIndex};
 
     ghost Value = { List Pair };
 
     ghost view = { λ a. a.pairs.items };
 
-    ghost invariant = { λ a. (IsIndex a.pairs.items a.places.items) × (AreStarts a.places.items
-        a.starts.items) × AreHints a.pairs.items a.hints.items };
+    ghost invariant = { λ a. (IsIndex a.pairs.items a.places.items) × AreStarts a.places.items
+        a.starts.items };
 }
 
 /// The places of the pairs, by rising CRC-32s.
@@ -95,17 +90,6 @@ fn group_starts(alloc: Global, places: &[Place]) -> Result<Vec<usize>>
     Ok(starts)
 }
 
-/// The low bits of the pairs' CRC-32s.
-fn hints_of(alloc: Global, pairs: &[Pair]) -> Result<Vec<bool>>
-    ensures { IfOk result (λ hints. AreHints pairs.now hints.items) }
-{
-    let mut hints = vec![in alloc; false; HINTS]?;
-    for pair in pairs {
-        hints[pair.1 as usize % HINTS] = true;
-    }
-    Ok(hints)
-}
-
 impl Wanted {
     /// Keeps the pairs in their order.
     pub fn new(alloc: Global, pairs: &[Pair]) -> Result<Wanted>
@@ -113,13 +97,11 @@ impl Wanted {
     {
         let places = places_of(alloc, pairs)?;
         let starts = group_starts(alloc, &places)?;
-        let hints = hints_of(alloc, pairs)?;
         let pairs = Vec::from_slice(alloc, pairs)?;
         Ok(Wanted {
             pairs,
             places,
             starts,
-            hints,
         })
     }
 
@@ -136,22 +118,5 @@ impl Wanted {
     {
         let group = (crc >> SHIFT) as usize;
         &self.places[self.starts[group]..self.starts[group + 1]]
-    }
-    /// Whether a pair may have this CRC-32; mostly false if none has.
-    #[inline(always)]
-    fn has_hint(&self, crc: u32) -> bool
-        ensures { HasCrc self.now crc → IsTrue result }
-    {
-        self.hints[crc as usize % HINTS]
-    }
-
-    /// Whether a pair may have one of these CRC-32s; mostly false if none has. It takes a third of the steps of a look at
-    /// the groups.
-    #[inline(always)]
-    pub(crate) fn may_have(&self, crcs: &[u32; 4]) -> bool
-        ensures { (k : ℕ) → k < 4 → HasCrc self.now (slice_index crcs.now k) → IsTrue result }
-    {
-        let [first, second, third, fourth] = *crcs;
-        self.has_hint(first) | self.has_hint(second) | self.has_hint(third) | self.has_hint(fourth)
     }
 }

@@ -1,7 +1,7 @@
-use Rattle.par2_slices.proofs.Common.{◌≡◌, ◌∙◌, ◌+◌, ℕ, List, true, false, sym, subst, HaveAnswers, AreRows, Row, crc_in}
+use Rattle.par2_slices.proofs.Common.{◌≡◌, ◌∙◌, ◌+◌, ℕ, List, true, false, sym, subst, HaveAnswers, Marks, AreRows, Row, crc_in}
 use Rattle.par2_slices.proofs.Passing.{answered, next_row, noted, skipped}
 use Rattle.par2_slices.proofs.search.Search.rows.Goals as goal
-use Rattle.par2_slices.proofs.search.Search.rows.Goals.{then-may_have+then-awaits_any+else-is_full, else-may_have, else-may_have-via-then-may_have+else-awaits_any, else-may_have-via-else-may_have}
+use Rattle.par2_slices.proofs.search.Search.rows.Goals.{then-contains_any+then-awaits_any+else-is_full, else-contains_any, else-contains_any-via-then-contains_any+else-awaits_any, else-contains_any-via-else-contains_any}
 
 pub loop-at-preserved : goal.loop-at-preserved
 loop-at-preserved g c =
@@ -16,15 +16,16 @@ loop-at-preserved g c =
     let crcs = c.loop-at.invariant.crcs in
     let Are : List Row → Type 0 = λ rows. AreRows s text g.earlier start len pairs (at + 1) rows in
     record {
-      are = elim c.if-may_have.branch [
-        | then-may_have+then-awaits_any+else-is_full w ↦ subst (λ kept. Are kept.items) (sym w.rows-is) (subst Are (sym w.push.ensures.items) (noted s text g.earlier start len pairs at c.loop-at.crcs c.loop-at.rows.items are crcs))
-        | else-may_have w ↦ subst (λ kept. Are kept.items) (sym w.rows-is) (skipped s text g.earlier start len pairs at c.loop-at.rows.items are
-            (elim w.else-may_have.branch [
-              | else-may_have-via-then-may_have+else-awaits_any v ↦ λ k h.
+      are = elim c.if-contains_any.branch [
+        | then-contains_any+then-awaits_any+else-is_full w ↦ subst (λ kept. Are kept.items) (sym w.rows-is) (subst Are (sym w.push.ensures.items) (noted s text g.earlier start len pairs at c.loop-at.crcs c.loop-at.rows.items are crcs))
+        | else-contains_any w ↦ subst (λ kept. Are kept.items) (sym w.rows-is) (skipped s text g.earlier start len pairs at c.loop-at.rows.items are
+            (elim w.else-contains_any.branch [
+              | else-contains_any-via-then-contains_any+else-awaits_any v ↦ λ k h.
                   answered s text g.earlier start pairs search.found.items search.left search.filter search.batch.items (crc_in s text start len k at) c.requires.1.1.0
                   (subst (HaveAnswers pairs search.found.items) (crcs k h) (v.awaits_any.ensures (λ is. let both : true ≡ false = sym is ∙ v.if-awaits_any.false in cc) k h))
-              | else-may_have-via-else-may_have v ↦ λ k h i low same none.
-                  let both : true ≡ false = sym (c.may_have.ensures k h (i, low, same ∙ sym (crcs k h))) ∙ v.if-may_have.false in cc
+              | else-contains_any-via-else-contains_any v ↦ λ k h.
+                  answered s text g.earlier start pairs search.found.items search.left search.filter search.batch.items (crc_in s text start len k at) c.requires.1.1.0
+                  (λ i low same none. let both : true ≡ false = sym (c.contains_any.ensures k h (subst (λ (crc : ℕ). Marks search.filter crc) (same ∙ sym (crcs k h)) (c.requires.1.1.0.tally.marked i low none))) ∙ v.if-contains_any.false in cc)
             ]))
       ];
       crcs = next_row s text start len at c.args.rolling.now.size c.loop-at.crcs c.next_crcs-crcs.result c.bytes_from-outs.result.now c.bytes_from-nexts.result.now c.requires.1.0 c.requires.1.1.1.0 c.bytes_from-outs.ensures c.bytes_from-nexts.ensures crcs c.next_crcs-crcs.ensures;
