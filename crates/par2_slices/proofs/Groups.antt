@@ -1,6 +1,7 @@
 -- Sets of groups of checksums.
-use Rattle.par2_slices.proofs.Common.{◌≡◌, ◌≢◌, ℕ, zero, suc, ◌+◌, ◌-◌, ◌*◌, ◌^◌, ◌<◌, ◌%◌, ◌/◌, List, length, get_or, set, replicate, refl, subst, sym, ap, ◌∙◌, get_or-set_same, get_or-set_other, arith, inl, inr, ◌⊎◌, bit_and, bit_or, w64, bit_at, bit_not, cases_eq, get_or_read, shr_below, suc-ne-zero, Groups, Marks}
-use Rattle.std.proofs.lemmas.Nat.Bits.{bit_at-zero, bit_at_set_same, bit_at_set_other, bit_at_clear_same, bit_at_clear_other}
+use Prim.Native.Nat.{max}
+use Rattle.par2_slices.proofs.Common.{ap₂, ◌≡◌, ◌≢◌, ℕ, zero, suc, ◌+◌, ◌-◌, ◌*◌, ◌^◌, ◌<◌, ◌%◌, ◌/◌, List, length, get_or, set, replicate, refl, subst, sym, ap, ◌∙◌, get_or-set_same, get_or-set_other, arith, inl, inr, ◌⊎◌, bit_and, bit_or, w64, bit_at, bit_not, cases_eq, get_or_read, shr_below, suc-ne-zero, Groups, Marks}
+use Rattle.std.proofs.lemmas.Nat.Bits.{bit_at_lowest, bit_at_or, bit_at-zero, bit_at_set_same, bit_at_set_other, bit_at_clear_same, bit_at_clear_other}
 
 pub within : (crc shift : ℕ) → crc < 2 ^ 32 → shift < 32 → crc / 2 ^ shift < 2 ^ (32 - shift)
 within crc shift fits low =
@@ -92,3 +93,19 @@ only_by_remove crc words place other is = elim (cases_eq (other / 2 ^ 17) (crc /
       record { bit = here crc other words same ∙ sym (bit_at_clear_other w64 word (crc % 64) (omega arith) (other % 64) (omega arith) apart) ∙ still }
   | inr apart ↦ record { bit = sym (elsewhere crc other _ words apart) ∙ is.bit }
 ]
+
+-- a number of two is odd, so what has the bits of both is
+odd_one : (a b : ℕ) → (a % 2 ≡ 1) ⊎ (b % 2 ≡ 1) → bit_or a b % 2 ≡ 1
+odd_one a b either =
+    let low : bit_or a b % 2 ≡ max (a % 2) (b % 2) = sym (bit_at_lowest (bit_or a b)) ∙ bit_at_or a b 0 ∙ ap₂ max (bit_at_lowest a) (bit_at_lowest b) in
+    elim either [
+      | inl first ↦ omega (arith, low, first)
+      | inr second ↦ omega (arith, low, second)
+    ]
+
+pub odd_any : (P : ℕ → Type 0) (a b c d : ℕ) → (P 0 → a % 2 ≡ 1) → (P 1 → b % 2 ≡ 1) → (P 2 → c % 2 ≡ 1) → (P 3 → d % 2 ≡ 1) → (k : ℕ) → k < 4 → P k → bit_or (bit_or a b) (bit_or c d) % 2 ≡ 1
+odd_any P a b c d first second third fourth zero low is = odd_one (bit_or a b) (bit_or c d) (inl (odd_one a b (inl (first is))))
+odd_any P a b c d first second third fourth (suc zero) low is = odd_one (bit_or a b) (bit_or c d) (inl (odd_one a b (inr (second is))))
+odd_any P a b c d first second third fourth (suc (suc zero)) low is = odd_one (bit_or a b) (bit_or c d) (inr (odd_one c d (inl (third is))))
+odd_any P a b c d first second third fourth (suc (suc (suc zero))) low is = odd_one (bit_or a b) (bit_or c d) (inr (odd_one c d (inr (fourth is))))
+odd_any P a b c d first second third fourth (suc (suc (suc (suc k)))) low is = absurd (omega (arith, low))

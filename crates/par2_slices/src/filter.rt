@@ -8,7 +8,7 @@
 //! A filter is exactly the set of groups that were added and not taken away. A search keeps a group exactly as long as a
 //! pair of it has no answer.
 
-ghost use Rattle.std.specs.Prelude.{◌<◌, ◌↔◌, ◌⊎◌, ℕ, IfOk, IsTrue, slice_index};
+ghost use Rattle.std.specs.Prelude.{◌≡◌, ◌%◌, ◌<◌, ◌↔◌, ◌⊎◌, ℕ, IfOk, IsTrue, slice_index};
 ghost use Rattle.par2_slices.specs.Filters.{AreAlike, Marks};
 
 use par2_spec::Result;
@@ -68,19 +68,30 @@ impl Filter {
         self.words[(crc >> SHIFT) as usize] &= !(1 << (crc % 64));
     }
 
+    /// A word whose lowest bit says whether the group of `crc` is in the set.
+    #[inline(always)]
+    fn word_at(&self, crc: u32) -> u64
+        ensures { result % 2 ≡ 1 ↔ Marks self.now crc }
+    {
+        self.words[(crc >> SHIFT) as usize] >> (crc % 64)
+    }
+
     /// Whether the group of `crc` is in the set.
     pub(crate) fn contains(&self, crc: u32) -> bool
         ensures { IsTrue result ↔ Marks self.now crc }
     {
-        (self.words[(crc >> SHIFT) as usize] >> (crc % 64)) % 2 == 1
+        self.word_at(crc) % 2 == 1
     }
-    /// Whether the group of one of these is in the set.
+
+    /// Whether the group of one of four is in the set.
+    // All four are looked up before there is a test, since hardly any is in the set.
     #[inline(always)]
     pub(crate) fn contains_any(&self, crcs: &[u32; 4]) -> bool
         ensures { (k : ℕ) → k < 4 → Marks self.now (slice_index crcs.now k) → IsTrue result }
     {
         let [first, second, third, fourth] = *crcs;
-        // All four are looked up: a test after each would take longer, since hardly any is there.
-        self.contains(first) | self.contains(second) | self.contains(third) | self.contains(fourth)
+        let low = self.word_at(first) | self.word_at(second);
+        let high = self.word_at(third) | self.word_at(fourth);
+        (low | high) % 2 == 1
     }
 }

@@ -4,12 +4,12 @@
 //! time of one after the other.
 
 ghost use Rattle.std.specs.Prelude.{◌≡◌, ◌≤◌, ◌<◌, ◌+◌, ◌*◌, ℕ, length, slice_index};
-ghost use Rattle.par2_spec.specs.Checksums.{crc32};
+ghost use Rattle.par2_spec.specs.Checksums as spec;
 ghost use Rattle.par2_spec.specs.Windows.{window};
 ghost use Rattle.par2_slices.specs.Rows.{AreCrcs};
 ghost use Rattle.par2_slices.specs.Rolls.{after_slide};
 
-use crate::checksum::padded_crc32;
+use crate::checksum::crc32;
 use crate::cutting::window_bytes;
 use crate::rolling::Rolling;
 
@@ -22,15 +22,15 @@ pub(crate) struct Row {
 
 /// The CRC-32 of the window at an offset.
 fn crc_at(bytes: &[u8], s: u64, offset: usize) -> u32
-    requires { offset ≤ length bytes.now }
-    ensures { result ≡ crc32 (window s bytes.now offset) }
+    requires { offset + s ≤ length bytes.now }
+    ensures { result ≡ spec.crc32 (window s bytes.now offset) }
 {
-    padded_crc32(window_bytes(bytes, s, offset), s)
+    crc32(window_bytes(bytes, s, offset))
 }
 
 /// The first row of stretches of `LEN` offsets, from `start` on.
 pub(crate) fn first_crcs<const LEN: usize>(bytes: &[u8], s: u64, start: usize) -> [u32; 4]
-    requires { start + 3 * LEN ≤ length bytes.now }
+    requires { start + 3 * LEN + s ≤ length bytes.now }
     ensures { AreCrcs s bytes.now start LEN 0 result }
 {
     [

@@ -1,6 +1,6 @@
-use Rattle.par2_slices.proofs.Common.{arith, ◌∙◌, ◌%◌, sym, ap, subst, Groups, Marks, bit_at, eqb-true, eq-eqb}
+use Rattle.par2_slices.proofs.Common.{arith, ◌∙◌, ◌%◌, sym, ap, subst, Groups, Marks, bit_at}
 use Rattle.par2_slices.proofs.Groups.{its_place, word_read}
-use Rattle.par2_slices.proofs.filter.Filter.contains.Goals as goal
+use Rattle.par2_slices.proofs.filter.Filter.word_at.Goals as goal
 
 pub index-requires : goal.index-requires
 index-requires c = omega (arith, its_place c.args.crc c.self.inside.words.items c.ranges.crc.fits c.self.invariant)
@@ -10,6 +10,6 @@ returns c =
     let Has : Groups → Type 0 = λ groups. Marks groups c.args.crc in
     let read = word_read c.args.crc c.index.result.now c.self.inside.words.items c.ranges.crc.fits c.self.invariant c.index.ensures in
     let place = c.args.crc % 64 in (
-      λ yes. subst Has c.self.view_is (record { bit = ap (λ word. bit_at word place) (sym read) ∙ eqb-true _ _ yes }),
-      λ is. eq-eqb _ _ (ap (λ word. bit_at word place) read ∙ (subst Has (sym c.self.view_is) is).bit),
+      λ yes. subst Has c.self.view_is (record { bit = ap (λ word. bit_at word place) (sym read) ∙ yes }),
+      λ is. ap (λ word. bit_at word place) read ∙ (subst Has (sym c.self.view_is) is).bit,
     )
