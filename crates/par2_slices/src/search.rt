@@ -488,7 +488,7 @@ fn is_fit(left: usize, s: u64, len: usize) -> bool
     ensures { IsTrue result → 4 * len + s ≤ left }
 {
     let is_long = s <= left as u64 && len <= (left - s as usize) / 4;
-    is_long && s / 8 <= len as u64 && len as u64 / 16 <= s
+    is_long && s / 8 <= len as u64 && len as u64 / 32 <= s
 }
 
 /// The bytes of the file from `start` on.
