@@ -14,7 +14,7 @@ pub use Rattle.std.proofs.lemmas.List.Sums.{count_by-le-length, sum_by-set}
 pub use Rattle.std.proofs.lemmas.Nat.{le_bytes_4, mod-pow-add, mod_below, pow-add, pow_pos, shl_below, shr-shr, shr_below, xor_comm}
 pub use Rattle.std.proofs.lemmas.Slice.Eq.{bytes_eq-Decides}
 pub use Rattle.std.specs.Borrow.{Bor}
-pub use Rattle.std.specs.Int.{bit_at, bit_not, from_le_bytes, to_le_bytes, w32, w64}
+pub use Rattle.std.specs.Int.{bit_at, bit_not, from_le_bytes, to_le_bytes, w8, w32, w64}
 pub use Rattle.std.specs.Int.Bits.{xor_assoc, xor_zero_r}
 pub use Rattle.std.specs.List.{All, IsDistinct, concat, count_by, list_all, range_with_len}
 pub use Rattle.std.specs.List.Sorted.{IsNonDecreasingBy, IsPermutation}

@@ -1,5 +1,5 @@
 -- A search under way.
-use Rattle.par2_slices.proofs.Common.{◌≡◌, ℕ, zero, suc, ◌+◌, ◌-◌, ◌*◌, ◌/◌, ◌%◌, ◌^◌, ◌<◌, Bool, true, false, cond, List, [], ◌∷◌, ◌++◌, length, map, drop, take, get_or, set, replicate, refl, sym, ap, subst, ◌∙◌, get_or-set_same, get_or-set_other, inl, inr, arith, ◌⊎◌, ◌==◌, Option, Some, None, find, option_map, bit_at, count_by, list_all, range_with_len, is_none, option_or, bytes_eq, and_from, and_left, and_right, cases_eq, cases_lt, eq-eqb, ne_eqb, length-replicate, length-map, get_or-map, ext_get_or, get_or_append_left, get_or_at, length_push, drop_more, take_more, find-append, sum_by-zero, sum_by-replicate, list_all_at, md5, Pair, crc32, is_match, window, first_match, range-append, or_nothing, AreAlike, Groups, Marks, no_pair, IsOfOpenPair, no_place, no_candidate, pair_at, place_at, candidate_at, answer_at, answer_below, spot_in, first_spot, first_spot_from, HoldsGroup, is_awaited, after_window, has_checksums, Earlier, IsWindow, IsTally, IsAt, after_candidates, first_below, Candidate, Spot, Place, sum_by-set}
+use Rattle.par2_slices.proofs.Common.{shr-shr, ◌≡◌, ℕ, zero, suc, ◌+◌, ◌-◌, ◌*◌, ◌/◌, ◌%◌, ◌^◌, ◌<◌, Bool, true, false, cond, List, [], ◌∷◌, ◌++◌, length, map, drop, take, get_or, set, replicate, refl, sym, ap, subst, ◌∙◌, get_or-set_same, get_or-set_other, inl, inr, arith, ◌⊎◌, ◌==◌, Option, Some, None, find, option_map, bit_at, count_by, list_all, range_with_len, is_none, option_or, bytes_eq, and_from, and_left, and_right, cases_eq, cases_lt, eq-eqb, ne_eqb, length-replicate, length-map, get_or-map, ext_get_or, get_or_append_left, get_or_at, length_push, drop_more, take_more, find-append, sum_by-zero, sum_by-replicate, list_all_at, md5, Pair, crc32, is_match, window, first_match, range-append, or_nothing, AreAlike, Groups, Marks, no_pair, IsOfOpenPair, no_place, no_candidate, pair_at, place_at, candidate_at, answer_at, answer_below, spot_in, first_spot, first_spot_from, HoldsGroup, is_awaited, after_window, has_checksums, Earlier, IsWindow, IsTally, IsAt, after_candidates, first_below, Candidate, Spot, Place, sum_by-set}
 use Rattle.par2_slices.proofs.Groups.{replicate_at}
 use Rattle.std.proofs.Common.{length-take}
 use Rattle.std.specs.Prelude.{◌&&◌}
@@ -172,31 +172,26 @@ emptied s text earlier o pairs old new left after filter marks candidates rest a
 }
 
 -- an open pair is of no group whose pairs all have answers
-pub not_closed : (pairs : List Pair) (found : List (Option Spot)) (crc : ℕ) (group : List Place) → HoldsGroup pairs crc group → ((k : ℕ) → k < length group → (place_at group k).crc % 64 ≡ crc % 64 → answer_at found (place_at group k).index ≡ None → ⊥)
+pub not_closed : (pairs : List Pair) (found : List (Option Spot)) (crc : ℕ) (group : List Place) → HoldsGroup pairs crc group → ((k : ℕ) → k < length group → AreAlike crc (place_at group k).crc → answer_at found (place_at group k).index ≡ None → ⊥)
     → (i : ℕ) → i < length pairs → answer_at found i ≡ None → AreAlike crc (pair_at pairs i).1 → ⊥
 not_closed pairs found crc group holds closed i h none same =
-    let place = holds.whole i h same.0 in
-    closed place.0 place.1
-    (ap (λ c. c % 64) (sym (holds.each place.0 place.1).crc ∙ ap (λ j. (pair_at pairs j).1) place.2) ∙ same.1)
-    (ap (answer_at found) place.2 ∙ none)
+    let place = holds.whole i h (sym (shr-shr (pair_at pairs i).1 14 3) ∙ ap (λ b. b / 2 ^ 3) same.0 ∙ shr-shr crc 14 3) in
+    let its : (place_at group place.0).crc ≡ (pair_at pairs i).1 = sym (holds.each place.0 place.1).crc ∙ ap (λ j. (pair_at pairs j).1) place.2 in
+    closed place.0 place.1 (subst (AreAlike crc) (sym its) same) (ap (answer_at found) place.2 ∙ none)
 
 -- a pair that waits is of the group
-pub waiting_pair : (pairs : List Pair) (found : List (Option Spot)) (crc : ℕ) (group : List Place) → HoldsGroup pairs crc group → (k : ℕ) → k < length group → (place_at group k).crc % 64 ≡ crc % 64 → answer_at found (place_at group k).index ≡ None
+pub waiting_pair : (pairs : List Pair) (found : List (Option Spot)) (crc : ℕ) (group : List Place) → HoldsGroup pairs crc group → (k : ℕ) → k < length group → AreAlike crc (place_at group k).crc → answer_at found (place_at group k).index ≡ None
     → (other : ℕ) → AreAlike crc other → IsOfOpenPair pairs found other
-waiting_pair pairs found crc group holds k h low none other alike =
+waiting_pair pairs found crc group holds k h same none other alike =
     let place : Place = place_at group k in
-    let its : (pair_at pairs place.index).1 ≡ place.crc = (holds.each k h).crc in (
-      place.index,
-      (holds.each k h).within,
-      none,
-      (alike.0 ∙ sym (ap (λ c. c / 2 ^ 17) its ∙ holds.only k h), alike.1 ∙ sym (ap (λ c. c % 64) its ∙ low)),
-    )
+    let its = holds.each k h in
+    (place.index, its.within, none, subst (λ (c : ℕ). AreAlike c other) (sym its.crc) (alike.0 ∙ sym same.0, alike.1 ∙ sym same.1))
 
 pub marks_alike : (groups : Groups) (crc other : ℕ) → AreAlike crc other → Marks groups other → Marks groups crc
 marks_alike groups crc other alike is = record {
   bit =
-      ap (λ i. bit_at (get_or groups.words i 0) (crc % 64)) (sym alike.0)
-      ∙ ap (bit_at (get_or groups.words (other / 2 ^ 17) 0)) (sym alike.1)
+      ap (λ i. bit_at (get_or groups.bytes i 0) (crc % 8)) (sym alike.0)
+      ∙ ap (bit_at (get_or groups.bytes (other / 2 ^ 14) 0)) (sym alike.1)
       ∙ is.bit;
 }
 

@@ -1,5 +1,5 @@
 -- A search for slices by their checksums, under way.
-use Rattle.std.specs.Prelude.{◌≡◌, ◌≢◌, [], ◌∷◌, ℕ, ◌/◌, ◌%◌, ◌^◌, ◌<◌, ◌==◌, ◌&&◌, ◌+◌, ◌≤◌, Bool, cond, Option, Some, None, option_map, List, length, find, fold, slice_index, slice_index_or}
+use Rattle.std.specs.Prelude.{◌≡◌, ◌≢◌, [], ◌∷◌, ℕ, ◌/◌, ◌^◌, ◌<◌, ◌==◌, ◌&&◌, ◌+◌, ◌≤◌, Bool, cond, Option, Some, None, option_map, List, length, find, fold, slice_index, slice_index_or}
 use Rattle.std.specs.List.{count_by, range_with_len}
 use Rattle.std.specs.List.Sorted.{IsNonDecreasingBy}
 use Rattle.std.specs.Option.{is_none, option_or}
@@ -85,9 +85,9 @@ HaveAnswers pairs found crc = (i : ℕ) → i < length pairs → (pair_at pairs 
 abbrev pub is_awaited : ℕ → List (Option Spot) → Place → Bool
 is_awaited crc found place = place.crc == crc && is_none (answer_at found place.index)
 
--- a pair of the group whose checksum has the same low six bits has no answer
+-- a pair of the group whose checksum the filter doesn't tell from this one has no answer
 abbrev pub IsWaiting : List Place → ℕ → List (Option Spot) → Type 0
-IsWaiting group crc found = (k : ℕ) × (k < length group) × ((place_at group k).crc % 64 ≡ crc % 64) × (answer_at found (place_at group k).index ≡ None)
+IsWaiting group crc found = (k : ℕ) × (k < length group) × (AreAlike crc (place_at group k).crc) × (answer_at found (place_at group k).index ≡ None)
 
 -- an answer after one window more
 abbrev pub after_window : Bool → Spot → Option Spot → Option Spot

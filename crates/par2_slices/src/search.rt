@@ -11,7 +11,7 @@ ghost use Rattle.par2_slices.specs.Searches.{after_window, candidate_at, has_che
 
 use crate::batch::{Candidate, Spot, digests};
 use crate::cutting::window_bytes;
-use crate::filter::Filter;
+use crate::filter::{Filter, are_alike};
 use crate::pairs::{Pair, padded_md5};
 use crate::rolling::Rolling;
 use crate::rows::{Row, first_crcs, next_crcs};
@@ -29,13 +29,13 @@ fn awaited(group: &[Place], crc: u32, found: &[Option<Spot>]) -> usize
     awaited.count()
 }
 
-/// Whether a pair of the group, whose CRC-32 has the same low six bits, has no answer yet.
+/// Whether a pair of the group whose CRC-32 the filter doesn't tell from this one has no answer yet.
 fn is_waiting(group: &[Place], crc: u32, found: &[Option<Spot>]) -> bool
     requires { AreAmong found.now group.now }
     ensures { IsTrue result ↔ IsWaiting group.now crc found.now }
 {
     for place in group {
-        if place.crc % 64 == crc % 64 && found[place.index].is_none() {
+        if are_alike(crc, place.crc) && found[place.index].is_none() {
             return true;
         }
     }
@@ -288,7 +288,7 @@ impl Search {
         let mut crcs = first_crcs::<LEN>(bytes, s, start);
         let mut rows = ArrayVec::new();
         for at in 0..LEN {
-            if self.filter.contains_any(&crcs) && self.awaits_any(wanted, crcs) {
+            if self.filter.may_contain_any(&crcs) && self.awaits_any(wanted, crcs) {
                 if rows.is_full() {
                     return None;
                 }

@@ -5,11 +5,16 @@ ghost use Rattle.std.specs.List.Sorted.{IsNonDecreasingBy};
 ghost use Rattle.par2_slices.specs.Searches.{is_awaited, place_at, AreStarts, HoldsGroup, IsIndex, IsStart};
 
 use crate::batch::Spot;
-use crate::filter::{SHIFT, WORDS};
 use crate::pairs::Pair;
 use par2_spec::Result;
 use std::alloc::Global;
 use std::marker::Model;
+
+/// How many groups the places are in.
+const GROUPS: usize = 1 << 15;
+
+/// The number of low bits in which the checksums of a group differ.
+const SHIFT: u32 = 17;
 
 /// Where a pair stands among the pairs that are wanted, and its CRC-32.
 #[derive(Clone, Copy, Drop)]
@@ -81,9 +86,9 @@ fn group_starts(alloc: Global, places: &[Place]) -> Result<Vec<usize>>
     requires { IsNonDecreasingBy (λ place. place.crc) places.now }
     ensures { IfOk result (λ starts. AreStarts places.now starts.items) }
 {
-    let mut starts = Vec::with_capacity(alloc, WORDS + 1)?;
+    let mut starts = Vec::with_capacity(alloc, GROUPS + 1)?;
     let mut start = 0;
-    for group in 0..WORDS + 1 {
+    for group in 0..GROUPS + 1 {
         start = group_start(places, group, start);
         starts.push(start)?;
     }

@@ -1,17 +1,17 @@
-use Rattle.par2_slices.proofs.Common.{arith, ℕ, ◌∙◌, ◌*◌, ◌/◌, ◌%◌, ◌^◌, length-set, set, sym, subst, bit_and, w64, bit_not, Groups, Marks}
-use Rattle.par2_slices.proofs.Groups.{its_place, word_read, gone, kept_by_remove, only_by_remove}
+use Rattle.par2_slices.proofs.Common.{arith, ℕ, ◌∙◌, ◌*◌, ◌/◌, ◌%◌, ◌^◌, length-set, set, sym, subst, bit_and, w8, bit_not, Groups, Marks}
+use Rattle.par2_slices.proofs.Groups.{its_place, byte_read, gone, kept_by_remove, only_by_remove}
 use Rattle.par2_slices.proofs.filter.Filter.remove.Goals as goal
 
 pub index_mut-requires : goal.index_mut-requires
-index_mut-requires c = omega (arith, its_place c.args.crc c.self.inside.words.items c.ranges.crc.fits c.self.invariant)
+index_mut-requires c = omega (arith, its_place c.args.crc c.self.inside.bytes.items c.ranges.crc.fits c.self.invariant)
 
 pub returns : goal.returns
 returns c =
     let crc = c.args.crc in
-    let items = c.self.inside.words.items in
+    let items = c.self.inside.bytes.items in
     let place = its_place crc items c.ranges.crc.fits c.self.invariant in
-    let read = word_read crc c.index_mut.result.now items c.ranges.crc.fits c.self.invariant c.index_mut.ensures.value in
-    let After : ℕ → ℕ → Type 0 = λ other word. Marks (record { words = set items (crc / 2 ^ 17) (bit_and word (bit_not w64 (1 * 2 ^ (crc % 64) % 2 ^ 64))) }) other in
+    let read = byte_read crc c.index_mut.result.now items c.ranges.crc.fits c.self.invariant c.index_mut.ensures.value in
+    let After : ℕ → ℕ → Type 0 = λ other byte. Marks (record { bytes = set items (crc / 2 ^ 14) (bit_and byte (bit_not w8 (1 * 2 ^ (crc % 8) % 2 ^ 8))) }) other in
     record {
       gone = rw read (gone crc items place);
       kept = λ other differs is. rw read (kept_by_remove crc items place other differs (subst (λ (groups : Groups). Marks groups other) (sym c.self.view_is) is));
@@ -20,5 +20,5 @@ returns c =
 
 pub invariant_of-self : goal.invariant_of-self
 invariant_of-self c =
-    let mask = bit_not w64 (1 * 2 ^ (c.args.crc % 64) % 2 ^ 64) in
-    length-set c.self.inside.words.items (c.args.crc / 2 ^ 17) (bit_and c.index_mut.result.now mask) ∙ c.self.invariant
+    let mask = bit_not w8 (1 * 2 ^ (c.args.crc % 8) % 2 ^ 8) in
+    length-set c.self.inside.bytes.items (c.args.crc / 2 ^ 14) (bit_and c.index_mut.result.now mask) ∙ c.self.invariant

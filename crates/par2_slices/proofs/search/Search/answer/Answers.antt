@@ -1,4 +1,4 @@
-use Rattle.par2_slices.proofs.Common.{◌≡◌, ◌∙◌, ◌<◌, ◌-◌, ◌%◌, ℕ, List, true, false, inr, sym, ap, length, Option, None, Spot, answer_at, pair_at, place_at, IsOfOpenPair, IsTally, Place, AreAlike, Groups, Marks}
+use Rattle.par2_slices.proofs.Common.{◌≡◌, ◌∙◌, ◌<◌, ◌-◌, ℕ, List, true, false, inr, sym, ap, length, Option, None, Spot, answer_at, pair_at, place_at, IsOfOpenPair, IsTally, Place, AreAlike, Groups, Marks}
 use Rattle.par2_slices.proofs.Searching.{marks_alike, not_closed, tally_settled, waiting_pair}
 use Rattle.par2_slices.proofs.search.Search.answer.Goals as goal
 use Rattle.par2_slices.proofs.search.Search.answer.Goals.{After-is_waiting}
@@ -18,7 +18,7 @@ returns-then-not-is_waiting-clause-tally c =
     let new : List (Option Spot) = c.settle.new.found.items in
     let crc : ℕ = c.args.candidate.crc in
     let group : List Place = c.group.result.now in
-    let closed : (k : ℕ) → k < length group → (place_at group k).crc % 64 ≡ crc % 64 → answer_at new (place_at group k).index ≡ None → ⊥ = λ k h low none.
+    let closed : (k : ℕ) → k < length group → AreAlike crc (place_at group k).crc → answer_at new (place_at group k).index ≡ None → ⊥ = λ k h low none.
     let both : true ≡ false = sym (c.is_waiting.ensures.1 (k, h, low, ap (λ found. answer_at found (place_at group k).index) c.deref.ensures.value ∙ none)) ∙ c.if-not-is_waiting.true in
     cc
     in
