@@ -81,7 +81,7 @@ fn settle(
     count
 }
 
-/// How many rows are kept for the windows of four stretches.
+/// How many rows of four stretches may hold wanted windows: twice as many as they hold slices.
 const MOST_ROWS: usize = 256;
 
 /// A search under way: the answers so far, how many are open, which checksums these have, and a batch of windows that
@@ -352,8 +352,8 @@ impl Search {
         }
     }
 
-    /// Looks at windows from `start` on by four stretches of `LEN` offsets, as often as they are whole. Gives the offset
-    /// after.
+    /// Looks at windows from `start` on by four stretches of `LEN` offsets, as often as they are whole. Gives the spot
+    /// after them.
     fn by_stretches<const LEN: usize>(
         &mut self,
         wanted: &Wanted,
@@ -361,7 +361,7 @@ impl Search {
         s: u64,
         start: Spot,
         rolling: &mut Rolling,
-    ) -> usize
+    ) -> Spot
         ghost earlier: { Earlier }
         requires text { start.text ≡ earlier.text }
         requires some { 1 ≤ s }
@@ -369,49 +369,17 @@ impl Search {
         requires within { start.offset ≤ length bytes.now }
         requires at { IsSearching s bytes.now earlier start.offset wanted.now self.old }
         requires size { rolling.old.size ≡ s }
-        ensures within { result ≤ length bytes.now }
-        ensures at { IsSearching s bytes.now earlier result wanted.now self.new }
+        ensures text { result.text ≡ earlier.text }
+        ensures within { result.offset ≤ length bytes.now }
+        ensures at { IsSearching s bytes.now earlier result.offset wanted.now self.new }
         ensures size { rolling.new.size ≡ s }
     {
-        let Spot { text, mut offset } = start;
-        while !self.is_finished() && is_fit(bytes.len() - offset, s, LEN) {
-            self.search_four::<LEN>(wanted, bytes, s, Spot { text, offset }, rolling);
-            offset += 4 * LEN;
+        let mut spot = start;
+        while !self.is_finished() && is_fit(bytes.len() - spot.offset, s, LEN) {
+            self.search_four::<LEN>(wanted, bytes, s, spot, rolling);
+            spot.offset += 4 * LEN;
         }
-        offset
-    }
-
-    /// Looks at windows from the start of the text on by longer and then by shorter stretches. Gives the offset after.
-    fn by_fours(
-        &mut self,
-        wanted: &Wanted,
-        text: usize,
-        bytes: &[u8],
-        s: u64,
-        rolling: &mut Rolling,
-    ) -> usize
-        ghost earlier: { Earlier }
-        requires text { text ≡ earlier.text }
-        requires some { 1 ≤ s }
-        requires at { IsSearching s bytes.now earlier 0 wanted.now self.old }
-        requires size { rolling.old.size ≡ s }
-        ensures within { result ≤ length bytes.now }
-        ensures at { IsSearching s bytes.now earlier result wanted.now self.new }
-        ensures size { rolling.new.size ≡ s }
-    {
-        let offset = self.by_stretches::<4198464>(
-            wanted,
-            bytes,
-            s,
-            Spot { text, offset: 0 },
-            rolling,
-        );
-        let offset = self.by_stretches::<1052736>(wanted, bytes, s, Spot { text, offset }, rolling);
-        let offset = self.by_stretches::<266304>(wanted, bytes, s, Spot { text, offset }, rolling);
-        let offset = self.by_stretches::<69696>(wanted, bytes, s, Spot { text, offset }, rolling);
-        let offset = self.by_stretches::<20544>(wanted, bytes, s, Spot { text, offset }, rolling);
-        let offset = self.by_stretches::<4160>(wanted, bytes, s, Spot { text, offset }, rolling);
-        self.by_stretches::<1088>(wanted, bytes, s, Spot { text, offset }, rolling)
+        spot
     }
 
     /// Looks at the windows from `start` up to the offset `end`, one by one.
@@ -469,21 +437,22 @@ impl Search {
         if self.is_finished() {
             return;
         }
-        let offset = self.by_fours(wanted, text, bytes, s, rolling);
-        self.one_by_one(
-            wanted,
-            bytes,
-            s,
-            Spot { text, offset },
-            bytes.len(),
-            rolling,
-        );
+        // No length is a multiple of a page: the nearest caches would have the same few places for all four stretches.
+        let spot = Spot { text, offset: 0 };
+        let spot = self.by_stretches::<4198464>(wanted, bytes, s, spot, rolling);
+        let spot = self.by_stretches::<1052736>(wanted, bytes, s, spot, rolling);
+        let spot = self.by_stretches::<266304>(wanted, bytes, s, spot, rolling);
+        let spot = self.by_stretches::<69696>(wanted, bytes, s, spot, rolling);
+        let spot = self.by_stretches::<20544>(wanted, bytes, s, spot, rolling);
+        let spot = self.by_stretches::<4160>(wanted, bytes, s, spot, rolling);
+        let spot = self.by_stretches::<1088>(wanted, bytes, s, spot, rolling);
+        self.one_by_one(wanted, bytes, s, spot, bytes.len(), rolling);
         self.settle_batch(wanted, bytes, s);
     }
 }
 
 /// Whether what is left of a text is searched by four stretches of `len` offsets: they lie in it, with a window after
-/// them; their first windows cost less than is won; and they hold few slices each.
+/// them; the CRC-32s of their first windows cost less than is won; and each holds at most 32 slices.
 fn is_fit(left: usize, s: u64, len: usize) -> bool
     ensures { IsTrue result → 4 * len + s ≤ left }
 {
@@ -512,7 +481,7 @@ fn byte_at(bytes: &[u8], at: usize) -> u8
 /// For each pair the first text with a window of `s` bytes that matches it, zeros standing past the end of the text, and
 /// the least offset of such a window there; None where there is none.
 ///
-/// It costs one slide and one look at a filter for each offset, and an MD5 of `s` bytes for each window whose CRC
+/// It costs one slide and one look at a filter for each offset, the CRC-32 of eight bytes at most, and an MD5 of `s` bytes for each window whose CRC
 /// is that of a pair without an answer. Up to eight of these MD5s are computed side by side, which takes about a fourth
 /// of the time; where fewer such windows follow each other, an MD5 costs at most what it does alone. At worst each window
 /// has such a CRC and none the MD5: then it costs an MD5 of `s` bytes for each offset, which only pairs that were made
