@@ -1,5 +1,6 @@
 -- Bytes taken in by sixteens.
-use Rattle.par2_slices.proofs.Common.{◌≡◌, ℕ, zero, suc, ◌+◌, ◌*◌, ◌^◌, ◌<◌, ◌%◌, ◌/◌, List, [], ◌∷◌, ◌++◌, length, take, drop, get_or, refl, sym, ap, ap₂, ◌∙◌, arith, bit_xor, concat, All, first_chunks, from_le_bytes, All-from_get_or, All-get_or, length-drop, length-take-le, take_more, take_all, take-append-drop, append-nil, xor_assoc, xor_zero_r, xor_comm, concat-append, crc_byte, crc_steps, crc_steps-add, crc_steps-split, crc_steps-xor, crc_byte-steps, fold-append, joined, steps, to_le_bytes, w32, nil_from_length, All-drop, All-take}
+use Rattle.par2_slices.proofs.Common.{◌≡◌, ℕ, zero, suc, ◌+◌, ◌*◌, ◌^◌, ◌<◌, ◌%◌, ◌/◌, List, [], ◌∷◌, ◌++◌, length, take, drop, get_or, refl, sym, ap, ap₂, ◌∙◌, arith, bit_xor, concat, All, from_le_bytes, to_le_bytes, w32, All-from_get_or, All-get_or, All-drop, All-take, length-drop, length-take-le, take_more, take_all, take-append-drop, append-nil, nil_from_length, xor_assoc, xor_zero_r, xor_comm, concat-append, crc_byte, crc_steps, crc_steps-add, crc_steps-split, crc_steps-xor, crc_byte-steps, fold-append, joined, steps}
+use Rattle.std.specs.Simd.{first_chunks}
 use Rattle.std.proofs.Math.Seq.{take-add}
 use Rattle.std.specs.Prelude.{fold}
 use Rattle.par2_slices.proofs.Sliding.{none_less}

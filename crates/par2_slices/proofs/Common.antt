@@ -11,16 +11,15 @@ pub use Rattle.std.proofs.lemmas.List.Folds.{concat-append, find-append, list_al
 pub use Rattle.std.proofs.lemmas.List.FromFn.{get_or-map-range_with_len, get_or-range_with_len, length-map-range_with_len, length-range_with_len, map-range_with_len_more}
 pub use Rattle.std.proofs.lemmas.List.Sorted.{All-permutation, Contains-permutation, IsNonDecreasingBy-from_sort_by_key}
 pub use Rattle.std.proofs.lemmas.List.Sums.{count_by-le-length, sum_by-set}
-pub use Rattle.std.proofs.lemmas.Nat.{le_bytes_4, mod-pow-add, mod_below, pow-add, pow_pos, shl_below, shr-shr, shr_below, xor_comm}
+pub use Rattle.std.proofs.lemmas.Nat.{mod-pow-add, mod_below, pow-add, pow_pos, shl_below, shr-shr, shr_below, xor_comm}
 pub use Rattle.std.proofs.lemmas.Slice.Eq.{bytes_eq-Decides}
 pub use Rattle.std.specs.Borrow.{Bor}
-pub use Rattle.std.specs.Int.{bit_at, bit_not, from_le_bytes, to_le_bytes, w8, w32, w64}
+pub use Rattle.std.specs.Int.{bit_at, bit_not, from_le_bytes, to_le_bytes, w32, w8}
 pub use Rattle.std.specs.Int.Bits.{xor_assoc, xor_zero_r}
 pub use Rattle.std.specs.List.{All, IsDistinct, concat, count_by, list_all, range_with_len}
 pub use Rattle.std.specs.List.Sorted.{IsNonDecreasingBy, IsPermutation}
 pub use Rattle.std.specs.Option.{is_none, option_or}
 pub use Rattle.std.specs.Prelude.{IfSome, None, Option, Some, bit_and, bit_or, bit_xor, filter, find, flat_map, option_map, option_to_list, slice_index, zip, ◌==◌, ◌⊎◌}
-pub use Rattle.std.specs.Simd.{first_chunks}
 pub use Rattle.std.specs.Str.{bytes_eq}
 pub use Rattle.md5.specs.Md5.{Holds, md5}
 pub use Rattle.par2_digests.specs.Digests.{digest_at}
@@ -30,7 +29,7 @@ pub use Rattle.par2_slices.specs.Matching.{Describe, Describes, IsFirst, Numbers
 pub use Rattle.par2_slices.specs.Pairs.{first_pairs}
 pub use Rattle.par2_slices.specs.Rolls.{IsLeaving, Roll}
 unfoldable pub use Rattle.par2_slices.specs.Rolls.{after_slide, leaving}
-pub use Rattle.par2_slices.specs.Rows.{AreCrcs, AreRows, IsNoted, crc_in, row_at}
+pub use Rattle.par2_slices.specs.Rows.{AreCrcs, AreRows, IsNoted, crc_in, no_row, row_at}
 pub use Rattle.par2_slices.specs.Searches.{AreAnswered, AreStarts, Earlier, HaveAnswers, HoldsGroup, IsAt, IsIndex, IsOfOpenPair, IsPlace, IsStart, IsTally, IsWindow, after_window, answer_at, answer_below, candidate_at, first_spot, first_spot_from, has_checksums, is_awaited, no_candidate, no_pair, no_place, pair_at, place_at, spot_in}
 unfoldable pub use Rattle.par2_slices.specs.Searches.{after_candidates, first_below}
 unfoldable pub use Rattle.par2_slices.specs.Steps.{steps}
@@ -39,7 +38,7 @@ pub use Rattle.par2_slices.specs.declared.batch.Candidate.{Candidate}
 pub use Rattle.par2_slices.specs.declared.batch.Spot.{Spot}
 pub use Rattle.par2_slices.specs.declared.rows.Row.{Row}
 pub use Rattle.par2_slices.specs.declared.wanted_pairs.Place.{Place}
-pub use Rattle.par2_spec.proofs.ChecksumLaws.{crc32-slide, crc_byte-steps, crc_byte-xor, crc_steps-add, crc_steps-shifted, crc_steps-split, crc_steps-swap, crc_steps-xor, fold-append, fold-zeros, joined}
+pub use Rattle.par2_spec.proofs.ChecksumLaws.{crc32-slide, crc_byte-steps, crc_steps-add, crc_steps-shifted, crc_steps-split, crc_steps-swap, crc_steps-xor, fold-append, fold-zeros, joined}
 pub use Rattle.par2_spec.proofs.ListsLaws.{map-cond, range-append}
 pub use Rattle.par2_spec.proofs.TestLaws.{none_from, or_nothing}
 pub use Rattle.par2_spec.specs.Checksums.{Pair, crc_byte, crc_step, crc_steps, pair_of}

@@ -1,7 +1,6 @@
 -- Windows that are passed over, since each pair of their checksums has its answer.
-use Rattle.par2_slices.proofs.Common.{◌≡◌, ◌≢◌, ℕ, zero, suc, ◌+◌, ◌-◌, ◌*◌, ◌<◌, ◌≤◌, Bool, List, [], ◌∷◌, ◌++◌, length, drop, get_or, get_or-drop, get_or_append_left, get_or_at, length_push, after_slide, AreCrcs, refl, sym, ap, subst, ◌∙◌, ◌⊎◌, inl, inr, arith, below_more, Option, None, Some, Pair, crc32, is_match, window, cases_lt, Groups, Candidate, Spot, Earlier, IsAt, Row, AreAnswered, AreRows, IsNoted, HaveAnswers, crc_in, row_at, pair_at, answer_at, answer_below, after_candidates, after_window, spot_in}
+use Rattle.par2_slices.proofs.Common.{◌≡◌, ◌≢◌, ℕ, zero, suc, ◌+◌, ◌-◌, ◌*◌, ◌<◌, ◌≤◌, Bool, List, [], ◌∷◌, ◌++◌, length, drop, get_or, refl, sym, ap, subst, ◌∙◌, inl, inr, arith, below_more, get_or-drop, get_or_append_left, get_or_at, length_push, after_slide, AreCrcs, AreRows, IsNoted, crc_in, row_at, ◌⊎◌, Option, None, Some, Pair, crc32, is_match, window, cases_lt, Groups, Candidate, Spot, Earlier, IsAt, AreAnswered, HaveAnswers, pair_at, answer_at, answer_below, after_candidates, after_window, spot_in, Row, no_row}
 use Rattle.par2_slices.proofs.NextWindows.{slid_window}
-use Rattle.par2_slices.specs.Rows.{no_row}
 use Rattle.par2_slices.proofs.Searching.{below-more, no_crc, settled_some, stays}
 
 -- how far into a stretch its windows have been looked at before row j

@@ -10,6 +10,7 @@ ghost use Rattle.par2_slices.specs.Rows.{AreRows};
 ghost use Rattle.par2_slices.specs.Searches.{after_window, candidate_at, has_checksums, is_awaited, answer_at, pair_at, place_at, first_spot, after_candidates, Earlier, AreAmong, AreOpen, ArePlaces, AreWindows, HaveAnswers, IsSearching, IsTally, IsWaiting};
 
 use crate::batch::{Candidate, Spot, digests};
+use crate::checksum::padded_crc32;
 use crate::cutting::window_bytes;
 use crate::filter::{Filter, are_alike};
 use crate::pairs::{Pair, padded_md5};
@@ -332,16 +333,15 @@ impl Search {
         bytes: &[u8],
         s: u64,
         start: Spot,
-        rolling: &mut Rolling,
+        rolling: &Rolling,
     )
         ghost earlier: { Earlier }
         requires text { start.text ≡ earlier.text }
         requires some { 1 ≤ s }
         requires within { start.offset + 4 * LEN + s ≤ length bytes.now }
         requires at { IsSearching s bytes.now earlier start.offset wanted.now self.old }
-        requires size { rolling.old.size ≡ s }
-        ensures at { IsSearching s bytes.now earlier (start.offset + 4 * LEN) wanted.now self.new }
-        ensures size { rolling.new.size ≡ s }
+        requires size { rolling.now.size ≡ s }
+        ensures { IsSearching s bytes.now earlier (start.offset + 4 * LEN) wanted.now self.new }
     {
         let Some(rows) = self.rows::<LEN>(wanted, bytes, s, start.offset, rolling) else {
             self.one_by_one(wanted, bytes, s, start, start.offset + 4 * LEN, rolling);
@@ -360,7 +360,7 @@ impl Search {
         bytes: &[u8],
         s: u64,
         start: Spot,
-        rolling: &mut Rolling,
+        rolling: &Rolling,
     ) -> Spot
         ghost earlier: { Earlier }
         requires text { start.text ≡ earlier.text }
@@ -368,11 +368,10 @@ impl Search {
         requires stretch { 1 ≤ LEN }
         requires within { start.offset ≤ length bytes.now }
         requires at { IsSearching s bytes.now earlier start.offset wanted.now self.old }
-        requires size { rolling.old.size ≡ s }
+        requires size { rolling.now.size ≡ s }
         ensures text { result.text ≡ earlier.text }
         ensures within { result.offset ≤ length bytes.now }
         ensures at { IsSearching s bytes.now earlier result.offset wanted.now self.new }
-        ensures size { rolling.new.size ≡ s }
     {
         let mut spot = start;
         while !self.is_finished() && is_fit(bytes.len() - spot.offset, s, LEN) {
@@ -390,7 +389,7 @@ impl Search {
         s: u64,
         start: Spot,
         end: usize,
-        rolling: &mut Rolling,
+        rolling: &Rolling,
     )
         ghost earlier: { Earlier }
         requires text { start.text ≡ earlier.text }
@@ -398,41 +397,31 @@ impl Search {
         requires from { start.offset ≤ end }
         requires within { end ≤ length bytes.now }
         requires at { IsSearching s bytes.now earlier start.offset wanted.now self.old }
-        requires size { rolling.old.size ≡ s }
-        ensures at { IsSearching s bytes.now earlier end wanted.now self.new }
-        ensures size { rolling.new.size ≡ s }
+        requires size { rolling.now.size ≡ s }
+        ensures { IsSearching s bytes.now earlier end wanted.now self.new }
     {
-        let text = start.text;
+        let Spot { text, offset } = start;
         let incoming = bytes_from(bytes, s);
-        rolling.start(window_bytes(bytes, s, start.offset));
-        for offset in start.offset..end {
+        let mut crc = padded_crc32(window_bytes(bytes, s, offset), s);
+        for offset in offset..end {
             if self.is_finished() {
                 break;
             }
-            let spot = Spot { text, offset };
-            self.test(wanted, bytes, s, spot, rolling.value());
-            rolling.slide(bytes[offset], byte_at(incoming, offset));
+            self.test(wanted, bytes, s, Spot { text, offset }, crc);
+            crc = rolling.slid(crc, bytes[offset], byte_at(incoming, offset));
         }
     }
 
     /// Searches a text for the pairs without an answer.
-    fn search_text(
-        &mut self,
-        wanted: &Wanted,
-        text: usize,
-        bytes: &[u8],
-        s: u64,
-        rolling: &mut Rolling,
-    )
+    fn search_text(&mut self, wanted: &Wanted, text: usize, bytes: &[u8], s: u64, rolling: &Rolling)
         ghost earlier: { Earlier }
         requires text { text ≡ earlier.text }
         requires some { 1 ≤ s }
         requires at { IsSearching s bytes.now earlier 0 wanted.now self.old }
         requires empty { self.old.batch.items ≡ [] }
-        requires size { rolling.old.size ≡ s }
+        requires size { rolling.now.size ≡ s }
         ensures at { IsSearching s bytes.now earlier (length bytes.now) wanted.now self.new }
         ensures empty { self.new.batch.items ≡ [] }
-        ensures size { rolling.new.size ≡ s }
     {
         if self.is_finished() {
             return;
@@ -495,10 +484,10 @@ pub fn find_among(
     requires { 1 ≤ s }
     ensures { Lists (map (first_spot s (map (λ text. text.now) texts.now)) wanted.now) result }
 {
-    let mut rolling = Rolling::new(alloc, s)?;
+    let rolling = Rolling::new(alloc, s)?;
     let mut search = Search::new(alloc, wanted)?;
     for (text, bytes) in texts.iter().enumerate() {
-        search.search_text(wanted, text, bytes, s, &mut rolling);
+        search.search_text(wanted, text, bytes, s, &rolling);
     }
     Ok(search.found)
 }

@@ -14,7 +14,7 @@ search_text-requires c =
     let earlier : Earlier = record { text = c.loop-text.text; before = c.loop-text.search.found.items } in
     let text : List ℕ = (get_or c.args.texts.now c.loop-text.text no_text).now in
     let search = c.loop-text.search in
-    (refl, (c.requires, (at_start c.args.s text earlier c.args.wanted.now search.found.items search.left search.filter search.batch.items c.loop-text.invariant.tally refl c.loop-text.invariant.empty, (c.loop-text.invariant.empty, c.loop-text.invariant.size))))
+    (refl, (c.requires, (at_start c.args.s text earlier c.args.wanted.now search.found.items search.left search.filter search.batch.items c.loop-text.invariant.tally refl c.loop-text.invariant.empty, (c.loop-text.invariant.empty, c.in_ok-rolling.ensures.size))))
 
 pub loop-text-preserved : goal.loop-text-preserved
 loop-text-preserved c =
@@ -29,7 +29,6 @@ loop-text-preserved c =
     record {
       tally = c.search_text.ensures.at.tally;
       empty = c.search_text.ensures.empty;
-      size = c.search_text.ensures.size;
       answers = λ i h. text_done s texts k earlier pairs search.found.items search.left search.filter search.batch.items i (omega (arith, c.loop-text-test.true, length-map c.args.texts.now bytes_of)) refl at c.search_text.ensures.empty h (c.loop-text.invariant.answers i h);
     }
 

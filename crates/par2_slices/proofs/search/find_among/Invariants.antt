@@ -5,7 +5,6 @@ abbrev pub invariant-loop-text : goal.invariant-loop-text
 invariant-loop-text l = record {
   tally : IsTally l.wanted l.search.found.items l.search.left l.search.filter;
   empty : l.search.batch.items ≡ [];
-  size : l.rolling.size ≡ l.s;
   answers : (i : ℕ) → i < length l.wanted → answer_at l.search.found.items i ≡ first_spot l.s (take l.text (map (λ text. text.now) l.texts)) (pair_at l.wanted i);
 }
 

@@ -1,4 +1,4 @@
-use Rattle.par2_slices.proofs.Common.{ap, ◌%◌, ℕ, get_or, Marks, ne_eqb, not}
+use Rattle.par2_slices.proofs.Common.{ap, ◌%◌, ℕ, get_or, not, Marks, ne_eqb}
 use Rattle.par2_slices.proofs.Groups.{one_of_four}
 use Rattle.par2_slices.proofs.filter.Filter.may_contain_any.Goals as goal
 

@@ -6,7 +6,6 @@ invariant-loop-self g l = record {
   text : l.spot.text ≡ g.earlier.text;
   within : l.spot.offset ≤ length l.bytes;
   at : IsAt l.s l.bytes g.earlier l.spot.offset l.wanted l.self.found.items l.self.left l.self.filter l.self.batch.items;
-  size : l.rolling.size ≡ l.s;
 }
 
 abbrev pub decreases-loop-self : goal.decreases-loop-self

@@ -1,4 +1,4 @@
-use Rattle.par2_slices.proofs.Common.{◌≡◌, ◌∙◌, ◌+◌, ℕ, List, true, false, sym, subst, HaveAnswers, Marks, AreRows, Row, crc_in}
+use Rattle.par2_slices.proofs.Common.{◌≡◌, ◌∙◌, ◌+◌, ℕ, List, true, false, sym, subst, HaveAnswers, Marks, AreRows, crc_in, Row}
 use Rattle.par2_slices.proofs.Passing.{answered, next_row, noted, skipped}
 use Rattle.par2_slices.proofs.search.Search.rows.Goals as goal
 use Rattle.par2_slices.proofs.search.Search.rows.Goals.{then-may_contain_any+then-awaits_any+else-is_full, else-may_contain_any, else-may_contain_any-via-then-may_contain_any+else-awaits_any, else-may_contain_any-via-else-may_contain_any}

@@ -13,8 +13,8 @@ test_stretch-requires g c =
     let inside : c.args.start.offset + 4 * len ≤ length c.args.bytes.now = omega (arith, c.requires.1.1.1.0) in
     (c.loop-k.invariant, (c.requires.1.0, (c.loop-k-test.true, (inside, subst (λ (rows : List Row). AreRows c.args.s c.args.bytes.now g.earlier c.args.start.offset len c.args.wanted.now len rows) (sym c.as_slice.ensures.value) c.in-Some.ensures))))
 
-pub returns-clause-at : goal.returns-clause-at
-returns-clause-at g c =
+pub returns : goal.returns
+returns g c =
     let search = c.loop-k.self in
     let e : c.loop-k.k ≡ 4 = omega arith in
     subst (λ (k : ℕ). IsAt c.args.s c.args.bytes.now g.earlier (c.args.start.offset + k * g.row.LEN) c.args.wanted.now search.found.items search.left search.filter search.batch.items) e c.loop-k.invariant

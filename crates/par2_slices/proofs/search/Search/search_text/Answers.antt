@@ -13,4 +13,4 @@ returns-clause-at g c =
     let after = c.settle_batch.new.self in
     let before = c.one_by_one.new.self in
     emptied c.args.s c.args.bytes.now g.earlier (length c.args.bytes.now) c.args.wanted.now before.found.items after.found.items before.left after.left before.filter after.filter before.batch.items after.batch.items
-    c.one_by_one.ensures.at c.settle_batch.ensures.tally c.settle_batch.ensures.batch c.settle_batch.ensures.each
+    c.one_by_one.ensures c.settle_batch.ensures.tally c.settle_batch.ensures.batch c.settle_batch.ensures.each
