@@ -41,8 +41,8 @@ pub(crate) fn first_crcs<const LEN: usize>(bytes: &[u8], s: u64, start: usize) -
     ]
 }
 
-/// The CRC-32s of the next row of stretches of `LEN` offsets: the bytes `at` leave the windows, or come in.
-// The length is known when it is compiled: then one register is enough for the bytes of four stretches.
+/// The CRC-32s of the row after this one. `outs` begins where the first stretch does, `nexts` a window later.
+// The length of a stretch is known when this is compiled, so one register is enough for the bytes of all four.
 #[inline(always)]
 pub(crate) fn next_crcs<const LEN: usize>(
     rolling: &Rolling,

@@ -267,7 +267,7 @@ impl Search {
     }
 
     /// The rows of four stretches of `LEN` offsets in which a pair without an answer may have the CRC-32 of a window. None
-    /// where they are too many: then the windows are wanted more than passed over.
+    /// where there are more than `MOST_ROWS`.
     fn rows<const LEN: usize>(
         &self,
         wanted: &Wanted,
