@@ -14,7 +14,7 @@ ghost use Rattle.par2_creation.specs.Outputs.{RecordsInputs, volumes_asked};
 use crate::Changes;
 use crate::index::index_of;
 use crate::inputs::{files_fault, no_duplicate, set_of};
-use crate::names::{Volume, there_already, volumes};
+use crate::names::{Volume, existing, volumes};
 use crate::outputs::{Parts, changes_of};
 use crate::words::{bad_name, index_name, input_names};
 use par2_folder::{Folder, Landmarks, Name, mark_folder};
@@ -135,7 +135,7 @@ pub fn plan_create(
     }
     let (set, landmarks) = set_of_inputs(alloc, folder, args, from, &base)?;
     let volumes = volumes(alloc, &base, args.first, args.count)?;
-    if let Some(fault) = there_already(folder, args.overwrite, &base, &volumes) {
+    if let Some(fault) = existing(folder, args.overwrite, &base, &volumes) {
         return Err(fault);
     }
     let changes = outputs_written(alloc, folder, args, base, &set, &volumes)?;

@@ -11,33 +11,23 @@ use par2_spec::Result;
 use std::alloc::Global;
 
 // The FileDescs of these files, in order.
-fn append_descs(
-    alloc: Global,
-    out: &mut Vec<u8>,
-    set_id: &[u8; 16],
-    files: &[FileRecord],
-) -> Result<()>
+fn append_descs(alloc: Global, out: &mut Vec<u8>, id: &[u8; 16], files: &[FileRecord]) -> Result<()>
     ensures { OnOk result (out.new.items ≡ out.old.items ++ flat_map (λ file.
-        packet (packet_of set_id.now FileDesc (desc_bytes (file_record_of file)))) files.now) }
+        packet (packet_of id.now FileDesc (desc_bytes (file_record_of file)))) files.now) }
 {
     for file in files {
-        append_desc(alloc, out, set_id, file)?;
+        append_desc(alloc, out, id, file)?;
     }
     Ok(())
 }
 
 // Their IFSCs, in order.
-fn append_ifscs(
-    alloc: Global,
-    out: &mut Vec<u8>,
-    set_id: &[u8; 16],
-    files: &[FileRecord],
-) -> Result<()>
+fn append_ifscs(alloc: Global, out: &mut Vec<u8>, id: &[u8; 16], files: &[FileRecord]) -> Result<()>
     ensures { OnOk result (out.new.items ≡ out.old.items ++ flat_map
-        (λ file. packet (packet_of set_id.now Ifsc (ifsc_bytes (file_record_of file)))) files.now) }
+        (λ file. packet (packet_of id.now Ifsc (ifsc_bytes (file_record_of file)))) files.now) }
 {
     for file in files {
-        append_ifsc(alloc, out, set_id, file)?;
+        append_ifsc(alloc, out, id, file)?;
     }
     Ok(())
 }

@@ -101,12 +101,7 @@ fn is_there(folder: &Folder, base: &Name, volumes: &[Volume]) -> bool
 }
 
 /// What is wrong where an output is there already: nothing, if it may be replaced.
-pub fn there_already(
-    folder: &Folder,
-    overwrite: bool,
-    base: &Name,
-    volumes: &[Volume],
-) -> Option<Fault>
+pub fn existing(folder: &Folder, overwrite: bool, base: &Name, volumes: &[Volume]) -> Option<Fault>
     ensures { result ≡ there_already folder.now.files overwrite (base.now ∷ names_of volumes.now) }
 {
     (!overwrite && is_there(folder, base, volumes)).then_some(Fault::Exists)

@@ -74,12 +74,7 @@ fn blank_volumes(alloc: Global, parts: &Parts, volumes: &[Volume]) -> Result<Vec
 }
 
 // The places of the recovery slices of all volumes, which have these bytes, in order.
-fn places_of(
-    alloc: Global,
-    parts: &Parts,
-    volumes: &[Volume],
-    texts: &[Vec<u8>],
-) -> Result<Vec<Place>>
+fn places(alloc: Global, parts: &Parts, volumes: &[Volume], texts: &[Vec<u8>]) -> Result<Vec<Place>>
     requires parts { HasSlices parts.now }
     requires fits { 68 + parts.now.set.now.slice ≤ usize.MAX }
     requires texts { lists_of texts.now ≡ map (blank_volume parts.now) volumes.now }
@@ -104,24 +99,19 @@ fn exponents_of(alloc: Global, volumes: &[Volume]) -> Result<Vec<u32>>
 }
 
 // Writes the recovery slices of all volumes where they belong.
-fn write_slices(
-    alloc: Global,
-    parts: &Parts,
-    volumes: &[Volume],
-    texts: &mut [Vec<u8>],
-) -> Result<()>
+fn write_slices(alloc: Global, parts: &Parts, volumes: &[Volume], out: &mut [Vec<u8>]) -> Result<()>
     requires parts { HasSlices parts.now }
     requires fits { 68 + parts.now.set.now.slice ≤ usize.MAX }
     requires exponents { HaveExponents volumes.now }
-    requires before { lists_of texts.old ≡ map (blank_volume parts.now) volumes.now }
-    ensures { OnOk result (lists_of texts.new ≡ map (with_slices parts.now) volumes.now) }
+    requires before { lists_of out.old ≡ map (blank_volume parts.now) volumes.now }
+    ensures { OnOk result (lists_of out.new ≡ map (with_slices parts.now) volumes.now) }
 {
     let gf = Gf::new(alloc)?;
     let inputs = input_slices(alloc, parts.set, parts.folder)?;
     let exponents = exponents_of(alloc, volumes)?;
-    let places = places_of(alloc, parts, volumes, texts)?;
+    let places = places(alloc, parts, volumes, out)?;
     let outputs = Places::new(&places, parts.set.slice as usize / 2);
-    write_recovery_slices(alloc, &gf, &inputs, &exponents, texts, &outputs)
+    write_recovery_slices(alloc, &gf, &inputs, &exponents, out, &outputs)
 }
 
 // Puts the MD5s into a volume.

@@ -36,9 +36,7 @@ pub fn index_name(args: &CreateArgs) -> Result<Name, Fault>
     if count > 65536 || first > 65535 || first + count > 65536 {
         return Err(Fault::BadCount);
     }
-    let Some(name) = name_of(&args.base, true) else {
-        return Err(Fault::BadBase);
-    };
+    let name = name_of(&args.base, true).ok_or(Fault::BadBase)?;
     if args.inputs.is_empty() {
         return Err(Fault::NoInput);
     }

@@ -25,17 +25,12 @@ fn distinct(alloc: Global, names: &[&Name]) -> Result<Vec<Name>>
 }
 
 /// The names of the targets that are in the folder, then the further names, each once.
-pub fn candidates(
-    alloc: Global,
-    folder: &Folder,
-    set: &ParSet,
-    extras: &[Name],
-) -> Result<Vec<Name>>
-    ensures { Lists (search.candidates folder.now.files set.now extras.now) result }
+pub fn candidates(alloc: Global, folder: &Folder, set: &ParSet, extra: &[Name]) -> Result<Vec<Name>>
+    ensures { Lists (search.candidates folder.now.files set.now extra.now) result }
 {
     let targets = set.targets().iter().map(Target::name);
     let present = targets.filter(|name| folder.get(name).is_some());
     let mut names: Vec<&Name> = present.collect(alloc)?;
-    names.extend(extras)?;
+    names.extend(extra)?;
     distinct(alloc, &names)
 }

@@ -84,21 +84,17 @@ fn parted<'s>(
 }
 
 // The candidates that are no intact target's.
-fn free_names<'n>(
-    alloc: Global,
-    intact: BTreeSet<&'n Name>,
-    candidates: &'n [Name],
-) -> Result<Vec<Name>>
-    ensures { (names : List (List ℕ)) → HoldsNames intact.entry names →
-        Lists (filter (λ name. not (is_among names name)) candidates.now) result }
+fn free_names<'n>(alloc: Global, intact: BTreeSet<&'n Name>, names: &'n [Name]) -> Result<Vec<Name>>
+    ensures { (all : List (List ℕ)) → HoldsNames intact.entry all →
+        Lists (filter (λ name. not (is_among all name)) names.now) result }
 {
-    let mut names = Vec::new(alloc);
-    for name in candidates {
+    let mut free = Vec::new(alloc);
+    for name in names {
         if !intact.contains(&name) {
-            names.push(name.copied())?;
+            free.push(name.copied())?;
         }
     }
-    Ok(names)
+    Ok(free)
 }
 
 // The needing targets, as the search knows them.

@@ -120,51 +120,47 @@ fn now_at(asides: &BTreeMap<Name, Name>, name: &Name) -> Name
 }
 
 // Files are put aside.
-fn push_asides(changes: &mut Changes, names: &[Name], asides: &BTreeMap<Name, Name>) -> Result<()>
+fn push_asides(out: &mut Changes, names: &[Name], asides: &BTreeMap<Name, Name>) -> Result<()>
     ensures { (aside : List ℕ → List ℕ) (all : List (List ℕ)) →
         HoldsAsides aside all asides.now →
         let renames = map (λ name. spec.Rename name (place_by aside all name)) names.now in
-        OnOk result (changes.new ≡ changes.old ++ renames) }
+        OnOk result (out.new ≡ out.old ++ renames) }
 {
     for name in names {
-        changes.push(Change::Rename(name.copied(), now_at(asides, name)))?;
+        out.push(Change::Rename(name.copied(), now_at(asides, name)))?;
     }
     Ok(())
 }
 
 // Each target that has a match takes it. A match that was put aside is taken from there.
-fn push_matches(
-    changes: &mut Changes,
-    targets: &[Needing],
-    asides: &BTreeMap<Name, Name>,
-) -> Result<()>
+fn push_matches(out: &mut Changes, targets: &[Needing], asides: &BTreeMap<Name, Name>) -> Result<()>
     ensures { (aside : List ℕ → List ℕ) (all : List (List ℕ)) →
         HoldsAsides aside all asides.now →
         let taken = matches_taken (place_by aside all) targets.now in
-        OnOk result (changes.new ≡ changes.old ++ taken) }
+        OnOk result (out.new ≡ out.old ++ taken) }
 {
     for needing in targets {
         if let Some(found) = &needing.found {
             let from = now_at(asides, found);
-            changes.push(Change::Rename(from, needing.target.name().copied()))?;
+            out.push(Change::Rename(from, needing.target.name().copied()))?;
         }
     }
     Ok(())
 }
 
 // Targets are written, in order.
-fn push_writes(changes: &mut Changes, restored: Vec<Restored>) -> Result<()>
-    ensures { OnOk result (changes.new ≡ changes.old ++ writes restored.entry.items) }
+fn push_writes(out: &mut Changes, restored: Vec<Restored>) -> Result<()>
+    ensures { OnOk result (out.new ≡ out.old ++ writes restored.entry.items) }
 {
     for file in restored {
-        changes.push(Change::Write(file.target.name().copied(), file.bytes))?;
+        out.push(Change::Write(file.target.name().copied(), file.bytes))?;
     }
     Ok(())
 }
 
 // Files that are nobody's match are removed, from where they stand.
 fn push_removed(
-    changes: &mut Changes,
+    out: &mut Changes,
     names: &[Name],
     asides: &BTreeMap<Name, Name>,
     matching: &BTreeSet<Name>,
@@ -172,11 +168,11 @@ fn push_removed(
     ensures { (aside : List ℕ → List ℕ) (all given : List (List ℕ)) →
         HoldsAsides aside all asides.now → HoldsNames matching.now given →
         let removed = files_removed (place_by aside all) given names.now in
-        OnOk result (changes.new ≡ changes.old ++ removed) }
+        OnOk result (out.new ≡ out.old ++ removed) }
 {
     for name in names {
         if !matching.contains(name) {
-            changes.push(Change::Remove(now_at(asides, name)))?;
+            out.push(Change::Remove(now_at(asides, name)))?;
         }
     }
     Ok(())
@@ -197,18 +193,13 @@ pub fn repair_changes(alloc: Global, moves: &Moves, restored: Vec<Restored>) -> 
 }
 
 /// Then the asides that are left are removed, and the par files.
-pub fn push_removals(
-    alloc: Global,
-    changes: &mut Changes,
-    moves: &Moves,
-    files: &[Name],
-) -> Result<()>
+pub fn push_removals(alloc: Global, out: &mut Changes, moves: &Moves, files: &[Name]) -> Result<()>
     ensures { (folder : folders.Folder) (set : sets.ParSet) (searched : List (List ℕ))
         → AreMoves folder set searched moves.now
         → files.now ≡ par_files folder set
-        → OnOk result (changes.new ≡ changes.old ++ repair_removals folder set searched) }
+        → OnOk result (out.new ≡ out.old ++ repair_removals folder set searched) }
 {
     let matching = matching(alloc, moves.needing)?;
-    push_removed(changes, &moves.put_aside, &moves.asides, &matching)?;
-    push_removed(changes, files, &moves.asides, &matching)
+    push_removed(out, &moves.put_aside, &moves.asides, &matching)?;
+    push_removed(out, files, &moves.asides, &matching)
 }

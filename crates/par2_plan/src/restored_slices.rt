@@ -86,19 +86,13 @@ fn joined(alloc: Global, slices: &[Slice], slice_size: usize, size: usize) -> Re
 }
 
 impl<'a> Slices<'a> {
-    // The bytes of a file of this size that has so many slices from that of number `first` on.
-    pub(crate) fn file(
-        &self,
-        alloc: Global,
-        first: usize,
-        count: usize,
-        size: u64,
-    ) -> Result<Vec<u8>>
-        requires { first + count ≤ length self.now }
-        ensures { let slices = take count (drop first self.now) in
+    // The bytes of a file of this size that has so many slices from that of number `at` on.
+    pub(crate) fn file(&self, alloc: Global, at: usize, count: usize, size: u64) -> Result<Vec<u8>>
+        requires { at + count ≤ length self.now }
+        ensures { let slices = take count (drop at self.now) in
             IfOk result (λ file. file.items ≡ take size (concat slices)) }
     {
-        let slices = &self.slices[first..first + count];
+        let slices = &self.slices[at..at + count];
         joined(alloc, slices, self.slice_size, size as usize)
     }
 }

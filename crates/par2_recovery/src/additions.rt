@@ -78,26 +78,19 @@ fn rows_over(alloc: Global, gf: &Gf, slices: usize, exponents: &[u32]) -> Result
 }
 
 // To each output, adds the text at its place, in some columns.
-fn add_sums(
-    gf: &Gf,
-    sums: &[Vec<u8>],
-    texts: &mut [Vec<u8>],
-    outputs: &Places,
-    from: usize,
-    to: usize,
-)
-    requires count { length sums.now ≡ length outputs.now.places.now }
+fn add_sums(gf: &Gf, sums: &[Vec<u8>], texts: &mut [Vec<u8>], at: &Places, from: usize, to: usize)
+    requires count { length sums.now ≡ length at.now.places.now }
     requires sizes { HaveAll (2 * (to - from)) sums.now }
     requires order { from ≤ to }
-    requires inside { to ≤ outputs.now.words }
-    requires room { LieIn outputs.now texts.old }
-    ensures { AddsAt outputs.now.places.now outputs.now.words
+    requires inside { to ≤ at.now.words }
+    requires room { LieIn at.now texts.old }
+    ensures { AddsAt at.now.places.now at.now.words
         (λ t p. within from to p (word (p - from) (list_at (lists_of sums.now) t)))
         (lists_of texts.old) (lists_of texts.new) }
 {
     fit_lists(sums);
     for t in 0..sums.len() {
-        add_to_output(gf, 1, text_at(sums, t), texts, outputs, t, from, to);
+        add_to_output(gf, 1, text_at(sums, t), texts, at, t, from, to);
     }
 }
 

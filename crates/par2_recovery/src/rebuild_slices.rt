@@ -71,12 +71,7 @@ fn slices_or_none<'a>(alloc: Global, known: &[Option<&'a [u8]>]) -> Result<Vec<&
 }
 
 // The lost slices by the kept exponents and their inverse.
-fn solved_by(
-    alloc: Global,
-    gf: &Gf,
-    survivors: &Survivors,
-    found: &Inversion,
-) -> Result<Vec<Vec<u8>>>
+fn solve(alloc: Global, gf: &Gf, survivors: &Survivors, found: &Inversion) -> Result<Vec<Vec<u8>>>
     requires survivors { CanRebuild survivors.now }
     requires enough { AreEnough survivors.now }
     requires kept { KeepsThose (lost_among survivors.now) survivors.now.recovery.items found.now }
@@ -105,7 +100,7 @@ pub fn rebuild(alloc: Global, gf: &Gf, survivors: &Survivors) -> Result<Vec<Vec<
 {
     let lost = lost_numbers(alloc, &survivors.known)?;
     let found = invert(alloc, gf, &lost, &survivors.recovery)?;
-    Ok(solved_by(alloc, gf, survivors, &found)?)
+    Ok(solve(alloc, gf, survivors, &found)?)
 }
 
 /// What `rebuild` answers, which makes the tables of the field.

@@ -81,19 +81,15 @@ fn with_slices<'a>(slices: Vec<&'a [u8]>, bytes: &'a [u8], s: u64) -> Result<Vec
 
 /// The slices of the record's files, one file after the other. The last one of a file is as short as the file leaves
 /// it; a file that is absent has no slices.
-pub fn input_slices<'a>(
-    alloc: Global,
-    record: &SetRecord,
-    folder: &'a Folder,
-) -> Result<Vec<&'a [u8]>>
-    requires { 1 ≤ record.now.slice }
-    ensures { let slices = slices_of_set folder.now.files record.now in
-        IfOk result (λ all. ArePadded record.now.slice slices all.items) }
+pub fn input_slices<'a>(alloc: Global, set: &SetRecord, folder: &'a Folder) -> Result<Vec<&'a [u8]>>
+    requires { 1 ≤ set.now.slice }
+    ensures { let slices = slices_of_set folder.now.files set.now in
+        IfOk result (λ all. ArePadded set.now.slice slices all.items) }
 {
     let mut all = Vec::new(alloc);
-    for i in 0..record.files.len() {
-        let name = record.files[i].name.as_str();
-        all = with_slices(all, bytes_of(folder, name), record.slice)?;
+    for i in 0..set.files.len() {
+        let name = set.files[i].name.as_str();
+        all = with_slices(all, bytes_of(folder, name), set.slice)?;
     }
     Ok(all)
 }

@@ -16,10 +16,8 @@ const WIDEST: usize = 32;
 
 // A quarter of the room.
 fn quarter(slices: &[&[u8]]) -> usize {
-    let mut total = 0usize;
-    for slice in slices {
-        total = total.saturating_add(slice.len());
-    }
+    let lens = slices.iter().map(|slice| slice.len());
+    let total = lens.fold(0usize, |total, len| total.saturating_add(len));
     (total / 256).saturating_add(ROOM / 4)
 }
 

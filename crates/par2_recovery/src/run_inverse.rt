@@ -93,13 +93,7 @@ fn inverse_row(alloc: Global, gf: &Gf, p: &[u16], c: u16, first: u32) -> Result<
 }
 
 // The rows of the inverse for these constants, by their polynomial, for the exponents from `first` on.
-fn inverse_rows(
-    alloc: Global,
-    gf: &Gf,
-    p: &[u16],
-    points: &[u16],
-    first: u32,
-) -> Result<Vec<Vec<u16>>>
+fn all_rows(alloc: Global, gf: &Gf, p: &[u16], points: &[u16], first: u32) -> Result<Vec<Vec<u16>>>
     requires { (j : ℕ) → j < length points.now
         → let c = slice_index points.now j in mul (pow c first) (value (quotient c p.now) c) ≢ 0 }
     ensures { IfOk result (λ rows. AreScaledQuotients
@@ -122,5 +116,5 @@ pub(crate) fn run_inverse(alloc: Global, gf: &Gf, lost: &[u32], first: u32) -> R
     let constants = coefficients(alloc, gf, lost, 1)?;
     let points = constants.as_slice();
     let p = with_roots(alloc, gf, points)?;
-    inverse_rows(alloc, gf, &p, points, first)
+    all_rows(alloc, gf, &p, points, first)
 }

@@ -4,7 +4,7 @@ use Rattle.par2_spec.proofs.CommandLaws.{create_leads}
 use Rattle.par2_creation.proofs.GoodWords.{head_passed}
 use Rattle.par2_creation.proofs.VolumeNumbers.{long_without_base}
 use Rattle.par2_creation.proofs.RefusalGroups.{early_by, refused_by}
-use Rattle.par2_creation.proofs.create.plan_create.Goals.{In-Some, After-set_of_inputs, After-there_already}
+use Rattle.par2_creation.proofs.create.plan_create.Goals.{In-Some, After-set_of_inputs, After-existing}
 use Rattle.par2_spec.proofs.PassedAnswers as passed
 use Rattle.par2_creation.proofs.create.plan_create.Goals as goal
 
@@ -21,14 +21,14 @@ none_early c =
 abbrev AreNamed : Folder → CreateArgs → Option Fault → Type 0
 AreNamed folder a answer = (long_name (output_names a) ≡ None) × (there_already folder a.overwrite (output_names a) ≡ answer)
 
-named : (c : After-there_already) → AreNamed c.args.folder.now.files (create_args_of c.args.args.now) c.there_already.result
+named : (c : After-existing) → AreNamed c.args.folder.now.files (create_args_of c.args.args.now) c.existing.result
 named c =
     let a = create_args_of c.args.args.now in
     let name = c.in_ok-base.ensures.name in
     let volumes : c.deref-2.result.now ≡ volumes_of a.base a.first a.count = c.deref-2.ensures.value ∙ c.in_ok-volumes.ensures.volumes ∙ ap (λ base. volumes_of base a.first a.count) name in
     let names : c.in_ok-base.base ∷ names_of c.deref-2.result.now ≡ output_names a = ap₂ (λ (base : List ℕ) (vs : List Volume). base ∷ names_of vs) name volumes in (
       long_without_base a c.in_ok-base.ensures.accepted ∙ subst (λ base. long_name (names_of (volumes_of base a.first a.count)) ≡ None) name c.in_ok-volumes.ensures.accepted,
-      ap (there_already c.args.folder.now.files a.overwrite) (sym names) ∙ sym c.there_already.ensures,
+      ap (there_already c.args.folder.now.files a.overwrite) (sym names) ∙ sym c.existing.ensures,
     )
 
 pub returns-in_err-base-clause-refused : goal.returns-in_err-base-clause-refused
@@ -84,15 +84,15 @@ returns-in_err-volumes-clause-refused c =
     (λ cause. refused_by folder a None None (Some fault) _ head c.in_ok-set.ensures.accepted
     (long_without_base a head ∙ subst (λ base. long_name (names_of (volumes_of base a.first a.count)) ≡ Some fault) c.in_ok-base.ensures.name cause) refl)
 
-pub returns-in-Some-there_already-clause-refused : goal.returns-in-Some-there_already-clause-refused
-returns-in-Some-there_already-clause-refused c =
-    let is = named (goal.at.returns-in-Some-there_already-clause-refused c).After-there_already in
-    inr (refused_by c.args.folder.now.files (create_args_of c.args.args.now) None None None (Some c.in-Some-there_already.fault) c.in_ok-base.ensures.accepted c.in_ok-set.ensures.accepted is.0 (is.1 ∙ c.in-Some-there_already.is))
+pub returns-in-Some-existing-clause-refused : goal.returns-in-Some-existing-clause-refused
+returns-in-Some-existing-clause-refused c =
+    let is = named (goal.at.returns-in-Some-existing-clause-refused c).After-existing in
+    inr (refused_by c.args.folder.now.files (create_args_of c.args.args.now) None None None (Some c.in-Some-existing.fault) c.in_ok-base.ensures.accepted c.in_ok-set.ensures.accepted is.0 (is.1 ∙ c.in-Some-existing.is))
 
 pub returns-clause-accepted : goal.returns-clause-accepted
 returns-clause-accepted c =
-    let is = named (goal.at.returns-clause-accepted c).After-there_already in
-    refused_by c.args.folder.now.files (create_args_of c.args.args.now) None None None None c.in_ok-base.ensures.accepted c.in_ok-set.ensures.accepted is.0 (is.1 ∙ c.in_default-there_already.is)
+    let is = named (goal.at.returns-clause-accepted c).After-existing in
+    refused_by c.args.folder.now.files (create_args_of c.args.args.now) None None None None c.in_ok-base.ensures.accepted c.in_ok-set.ensures.accepted is.0 (is.1 ∙ c.in_default-existing.is)
 
 pub returns-clause-changes : goal.returns-clause-changes
 unfolding changes_of
@@ -111,8 +111,8 @@ returns-in_err-set-clause-early c fault early = absurd (never_found _ fault (non
 pub returns-in_err-volumes-clause-early : goal.returns-in_err-volumes-clause-early
 returns-in_err-volumes-clause-early c fault early = absurd (never_found _ fault (none_early (goal.at.returns-in_err-volumes-clause-early c).After-set_of_inputs) early)
 
-pub returns-in-Some-there_already-clause-early : goal.returns-in-Some-there_already-clause-early
-returns-in-Some-there_already-clause-early c fault early = absurd (never_found _ fault (none_early (goal.at.returns-in-Some-there_already-clause-early c).After-set_of_inputs) early)
+pub returns-in-Some-existing-clause-early : goal.returns-in-Some-existing-clause-early
+returns-in-Some-existing-clause-early c fault early = absurd (never_found _ fault (none_early (goal.at.returns-in-Some-existing-clause-early c).After-set_of_inputs) early)
 
 pub returns-in_err-changes-clause-early : goal.returns-in_err-changes-clause-early
 returns-in_err-changes-clause-early c fault early = absurd (never_found _ fault (none_early (goal.at.returns-in_err-changes-clause-early c).After-set_of_inputs) early)

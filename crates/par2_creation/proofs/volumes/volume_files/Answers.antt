@@ -6,5 +6,5 @@ write_slices-requires-clause-before c = ap (λ (texts : List (Vec ℕ Global)). 
 
 pub digested-requires-clause-before : goal.digested-requires-clause-before
 digested-requires-clause-before c =
-    let size : length c.write_slices.new.texts ≡ c.in_ok-texts.texts.len = search rules in
-    ap (λ (texts : List (Vec ℕ Global)). lists_of texts) (with_items_is c.in_ok-texts.texts c.write_slices.new.texts size) ∙ c.in_ok-write_slices.ensures
+    let size : length c.write_slices.new.out ≡ c.in_ok-texts.texts.len = search rules in
+    ap (λ (texts : List (Vec ℕ Global)). lists_of texts) (with_items_is c.in_ok-texts.texts c.write_slices.new.out size) ∙ c.in_ok-write_slices.ensures

@@ -24,13 +24,13 @@ pub write_recovery_slices-requires-clause-room : goal.write_recovery_slices-requ
 write_recovery_slices-requires-clause-room c =
     let size : 2 * c.new-outputs.result.words ≡ c.args.parts.now.set.now.slice = omega (arith, c.requires.parts.fours) in
     rw (c.new-outputs.ensures.places, c.deref.ensures.value, c.in_ok-places.ensures)
-    (places_within c.args.parts.now c.new-outputs.result.words c.args.volumes.now (lists_of c.args.texts.now) size c.requires.parts.sixteen c.requires.before)
+    (places_within c.args.parts.now c.new-outputs.result.words c.args.volumes.now (lists_of c.args.out.now) size c.requires.parts.sixteen c.requires.before)
 
 pub write_recovery_slices-requires-clause-zeros : goal.write_recovery_slices-requires-clause-zeros
 write_recovery_slices-requires-clause-zeros c =
     let size : 2 * c.new-outputs.result.words ≡ c.args.parts.now.set.now.slice = omega (arith, c.requires.parts.fours) in
     rw (c.new-outputs.ensures.places, c.deref.ensures.value, c.in_ok-places.ensures)
-    (places_blank c.args.parts.now c.new-outputs.result.words c.args.volumes.now (lists_of c.args.texts.now) size c.requires.parts.sixteen c.requires.before)
+    (places_blank c.args.parts.now c.new-outputs.result.words c.args.volumes.now (lists_of c.args.out.now) size c.requires.parts.sixteen c.requires.before)
 
 pub returns : goal.returns
 returns c =
@@ -38,7 +38,7 @@ returns c =
     let pad = padded c.args.parts.now.set.now.slice in
     let slices = texts_of c.deref-2.result.now in
     let exponents : List ℕ = c.deref-3.result.now in
-    let old = lists_of c.args.texts.now in
+    let old = lists_of c.args.out.now in
     let new = lists_of c.write_recovery_slices.new.texts in
     on_ok_weaker c.write_recovery_slices.result
     (λ written. volumes_written c.args.parts.now words c.args.volumes.now slices exponents old new c.requires.parts (omega (arith, c.requires.parts.fours)) c.requires.parts.sixteen

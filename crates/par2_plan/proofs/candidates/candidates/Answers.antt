@@ -6,7 +6,7 @@ now name = name.now
 
 pub returns : goal.returns
 returns c =
-    let extras : List (List ℕ) = c.args.extras.now in
+    let extras : List (List ℕ) = c.args.extra.now in
     let there = has c.args.folder.now.files in
     let names : List (List ℕ) = filter there (map (λ (t : Target). t.name) c.args.set.now.targets) in
     let old : List (Bor (List ℕ)) = c.in_ok-names.names.items in

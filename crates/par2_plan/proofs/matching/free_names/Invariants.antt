@@ -2,4 +2,4 @@ use Rattle.par2_plan.proofs.Common.{◌≡◌, ℕ, List, take, not, filter, is_
 use Rattle.par2_plan.proofs.matching.free_names.Given as goal
 
 abbrev pub invariant-loop-name : goal.invariant-loop-name
-invariant-loop-name l = (all : List (List ℕ)) → HoldsNames l.intact all → l.names.items ≡ filter (λ name. not (is_among all name)) (take l.name-index l.candidates)
+invariant-loop-name l = (all : List (List ℕ)) → HoldsNames l.intact all → l.free.items ≡ filter (λ name. not (is_among all name)) (take l.name-index l.names)

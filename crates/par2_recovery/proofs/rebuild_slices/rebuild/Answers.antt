@@ -24,14 +24,14 @@ returns-in_err-found-clause-refused c =
     let told : IfErr c.from_residual-in_err-found.result (IsTrueFault c.deref-2.result.now (exponents_of c.deref-3.result.now)) = search rules in
     rw (are_lost (goal.at.returns-in_err-found-clause-refused c).After-deref-3, c.deref-3.ensures.value) at told
 
-pub solved_by-requires-clause-kept : goal.solved_by-requires-clause-kept
-solved_by-requires-clause-kept c = rw (are_lost (goal.at.solved_by-requires-clause-kept c).After-deref-3, c.deref-3.ensures.value) at c.in_ok-found.ensures.kept
+pub solve-requires-clause-kept : goal.solve-requires-clause-kept
+solve-requires-clause-kept c = rw (are_lost (goal.at.solve-requires-clause-kept c).After-deref-3, c.deref-3.ensures.value) at c.in_ok-found.ensures.kept
 
-pub solved_by-requires-clause-inverse : goal.solved_by-requires-clause-inverse
-solved_by-requires-clause-inverse c = rw (are_lost (goal.at.solved_by-requires-clause-inverse c).After-deref-3) at c.in_ok-found.ensures.inverse
+pub solve-requires-clause-inverse : goal.solve-requires-clause-inverse
+solve-requires-clause-inverse c = rw (are_lost (goal.at.solve-requires-clause-inverse c).After-deref-3) at c.in_ok-found.ensures.inverse
 
-pub solved_by-requires-clause-enough : goal.solved_by-requires-clause-enough
-solved_by-requires-clause-enough c = rw (are_lost (goal.at.solved_by-requires-clause-enough c).After-deref-3, c.deref-3.ensures.value) at (c.in_ok-found.ensures.enough refl)
+pub solve-requires-clause-enough : goal.solve-requires-clause-enough
+solve-requires-clause-enough c = rw (are_lost (goal.at.solve-requires-clause-enough c).After-deref-3, c.deref-3.ensures.value) at (c.in_ok-found.ensures.enough refl)
 
 pub returns-clause-enough : goal.returns-clause-enough
 returns-clause-enough c = λ _. rw (are_lost (goal.at.returns-clause-enough c).After-deref-3, c.deref-3.ensures.value) at (c.in_ok-found.ensures.enough refl)

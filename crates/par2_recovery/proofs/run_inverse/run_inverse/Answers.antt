@@ -12,15 +12,15 @@ first_powers (k ∷ slices) = ap₂ (λ (c : ℕ) cs. c ∷ cs) (product-one (co
 points_are : (c : After-as_slice-points) → c.as_slice-points.result.now ≡ map constant c.args.lost.now
 points_are c = c.as_slice-points.ensures.value ∙ c.in_ok-constants.ensures ∙ first_powers c.args.lost.now
 
-pub inverse_rows-requires : goal.inverse_rows-requires
-inverse_rows-requires c = λ j h.
-    let are = points_are (goal.at.inverse_rows-requires c).After-as_slice-points in
+pub all_rows-requires : goal.all_rows-requires
+all_rows-requires c = λ j h.
+    let are = points_are (goal.at.all_rows-requires c).After-as_slice-points in
     let low : j < length c.args.lost.now = (let long = length-map c.args.lost.now constant in let same = ap length are in omega (arith, h, long, same)) in
     rw (c.deref.ensures.value, c.in_ok-p.ensures, are) (at_itself c.args.lost.now c.args.first j c.requires low)
 
 pub returns : goal.returns
 returns c =
     let are = points_are (goal.at.returns c).After-as_slice-points in
-    IfOk-weaker c.inverse_rows.result _ _ (λ rows made.
+    IfOk-weaker c.all_rows.result _ _ (λ rows made.
     is_inverse c.args.lost.now c.args.first (lists_of rows.items) c.requires (rw (c.deref.ensures.value, c.in_ok-p.ensures, are, length-map c.args.lost.now constant) at made))
-    c.inverse_rows.ensures
+    c.all_rows.ensures

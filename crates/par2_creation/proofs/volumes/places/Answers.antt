@@ -1,7 +1,7 @@
 use Rattle.par2_creation.proofs.Common.{◌≡◌, ◌<◌, ◌∙◌, [], List, ℕ, Vec, Global, length, get_or, sym, ap, ap₂, arith, zero-add, length-map, length-replicate, get_or-map, get_or_default, enumerate_from, length-enumerate_from, get_or-enumerate_from, blank_volume, places_in, Volume}
 use Rattle.par2_creation.proofs.SliceLists.{appended_all, appended_next}
 use Rattle.par2_creation.proofs.VolumePlaces.{length-volume}
-use Rattle.par2_creation.proofs.volumes.places_of.Goals as goal
+use Rattle.par2_creation.proofs.volumes.places.Goals as goal
 
 pub bounds-texts-i : goal.bounds-texts-i
 bounds-texts-i c =

@@ -3,8 +3,8 @@ use Rattle.par2_recovery.proofs.Combinations.{length-texts_of}
 use Rattle.par2_recovery.proofs.Finishing.{answer, inverse_long}
 use Rattle.par2_recovery.proofs.Inverting.{length-recovered_of, many_texts}
 use Rattle.par2_recovery.proofs.Rebuilding.{lost_are}
-use Rattle.par2_recovery.proofs.rebuild_slices.solved_by.Goals.{After-deref-7}
-use Rattle.par2_recovery.proofs.rebuild_slices.solved_by.Goals as goal
+use Rattle.par2_recovery.proofs.rebuild_slices.solve.Goals.{After-deref-7}
+use Rattle.par2_recovery.proofs.rebuild_slices.solve.Goals as goal
 
 exponents_are : (c : After-deref-7) → c.deref-5.result.now ≡ exponents_of c.args.found.now.kept.items
 exponents_are c = c.deref-5.ensures.value ∙ c.in_ok-exponents.ensures ∙ ap exponents_of c.deref.ensures.value
