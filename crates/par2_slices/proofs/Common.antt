@@ -30,13 +30,15 @@ pub use Rattle.par2_slices.specs.Pairs.{first_pairs}
 pub use Rattle.par2_slices.specs.Rolls.{IsLeaving, Roll}
 unfoldable pub use Rattle.par2_slices.specs.Rolls.{after_slide, leaving}
 pub use Rattle.par2_slices.specs.Rows.{AreCrcs, AreRows, IsNoted, crc_in, no_row, row_at}
-pub use Rattle.par2_slices.specs.Searches.{AreAnswered, AreStarts, Earlier, HaveAnswers, HoldsGroup, IsAt, IsIndex, IsOfOpenPair, IsPlace, IsStart, IsTally, IsWindow, after_window, answer_at, answer_below, candidate_at, first_spot, first_spot_from, has_checksums, is_awaited, no_candidate, no_pair, no_place, pair_at, place_at, spot_in}
-unfoldable pub use Rattle.par2_slices.specs.Searches.{after_candidates, first_below}
+pub use Rattle.par2_slices.specs.Scans.{AreAnswered, IsAt, IsWhole, IsWindow, answer_below, crc_of, earlier_answer, window_of}
+unfoldable pub use Rattle.par2_slices.specs.Scans.{after_candidates, first_below}
+pub use Rattle.par2_slices.specs.Searches.{AreStarts, HaveAnswers, HoldsGroup, IsIndex, IsOfOpenPair, IsPlace, IsStart, IsTally, after_window, answer_at, candidate_at, first_spot, first_spot_from, has_checksums, is_awaited, no_candidate, no_pair, no_place, pair_at, place_at, spot_in}
 unfoldable pub use Rattle.par2_slices.specs.Steps.{steps}
 pub use Rattle.par2_slices.specs.Texts.{AreShort, IsWithin, Window, padded_window, padded_windows, texts_of, window_in}
 pub use Rattle.par2_slices.specs.declared.batch.Candidate.{Candidate}
 pub use Rattle.par2_slices.specs.declared.batch.Spot.{Spot}
 pub use Rattle.par2_slices.specs.declared.rows.Row.{Row}
+pub use Rattle.par2_slices.specs.declared.scan.Scan.{Scan}
 pub use Rattle.par2_slices.specs.declared.wanted_pairs.Place.{Place}
 pub use Rattle.par2_spec.proofs.ChecksumLaws.{crc32-slide, crc_byte-steps, crc_steps-add, crc_steps-shifted, crc_steps-split, crc_steps-swap, crc_steps-xor, fold-append, fold-zeros, joined}
 pub use Rattle.par2_spec.proofs.ListsLaws.{map-cond, range-append}

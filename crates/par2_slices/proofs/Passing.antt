@@ -1,74 +1,53 @@
 -- Windows that are passed over, since each pair of their checksums has its answer.
-use Rattle.par2_slices.proofs.Common.{◌≡◌, ◌≢◌, ℕ, zero, suc, ◌+◌, ◌-◌, ◌*◌, ◌<◌, ◌≤◌, Bool, List, [], ◌∷◌, ◌++◌, length, drop, get_or, refl, sym, ap, subst, ◌∙◌, inl, inr, arith, below_more, get_or-drop, get_or_append_left, get_or_at, length_push, after_slide, AreCrcs, AreRows, IsNoted, crc_in, row_at, ◌⊎◌, Option, None, Some, Pair, crc32, is_match, window, cases_lt, Groups, Candidate, Spot, Earlier, IsAt, AreAnswered, HaveAnswers, pair_at, answer_at, answer_below, after_candidates, after_window, spot_in, Row, no_row}
+use Rattle.par2_slices.proofs.Common.{◌≡◌, ◌≢◌, ℕ, zero, suc, ◌+◌, ◌-◌, ◌*◌, ◌<◌, ◌≤◌, Bool, List, [], ◌∷◌, ◌++◌, length, drop, get_or, refl, sym, ap, subst, ◌∙◌, inl, inr, arith, below_more, get_or-drop, get_or_append_left, get_or_at, length_push, after_slide, AreCrcs, AreRows, IsNoted, crc_of, row_at, ◌⊎◌, Option, None, Some, Pair, crc32, is_match, window, cases_lt, window_of, Groups, Candidate, Scan, Spot, IsAt, AreAnswered, pair_at, answer_below, after_window, spot_in, Row, no_row}
 use Rattle.par2_slices.proofs.NextWindows.{slid_window}
-use Rattle.par2_slices.proofs.Searching.{below-more, no_crc, settled_some, stays}
+use Rattle.par2_slices.proofs.Searching.{below-more, passed-one}
 
 -- how far into a stretch its windows have been looked at before row j
 pub reached : List Row → ℕ → ℕ
 reached rows zero = 0
 reached rows (suc j) = (row_at rows j).at + 1
 
--- an answer of the search so far is one below the offset
-pub answered : (s : ℕ) (text : List ℕ) (earlier : Earlier) (o : ℕ) (pairs : List Pair) (found : List (Option Spot)) (left : ℕ) (filter : Groups) (batch : List Candidate) (crc : ℕ) → IsAt s text earlier o pairs found left filter batch → HaveAnswers pairs found crc → AreAnswered s text earlier o pairs crc
-answered s text earlier o pairs found left filter batch crc at have i h its none =
-    step (answer_at found i) (have i h its) (at.answers i h ∙ none)
-  where
-    step : (answer : Option Spot) → answer ≢ None → after_candidates s text (pair_at pairs i) batch answer ≡ None → ⊥
-    step None some nothing = some refl
-    step (Some x) some nothing = let both : Some x ≡ None = sym (settled_some s text (pair_at pairs i) batch x) ∙ nothing in cc
-
 -- an answer stays
-answered-more : (s : ℕ) (text : List ℕ) (earlier : Earlier) (o n : ℕ) (pairs : List Pair) (crc : ℕ) → AreAnswered s text earlier o pairs crc → AreAnswered s text earlier (o + n) pairs crc
-answered-more s text earlier o zero pairs crc have i h its none =
-    have i h its (ap (λ a. answer_below s text earlier a pairs i) (let e : o ≡ o + 0 = omega arith in e) ∙ none)
-answered-more s text earlier o (suc n) pairs crc have i h its none =
-    answered-more s text earlier o n pairs crc have i h its
-    (was_none (is_match (pair_at pairs i) (window s text (o + n))) (spot_in earlier.text (o + n)) (answer_below s text earlier (o + n) pairs i)
-    (sym (below-more s text earlier (o + n) pairs i) ∙ ap (λ a. answer_below s text earlier a pairs i) (let e : o + n + 1 ≡ o + suc n = omega arith in e) ∙ none))
+answered-more : (scan : Scan) (o n : ℕ) (crc : ℕ) → AreAnswered scan o crc → AreAnswered scan (o + n) crc
+answered-more scan o zero crc have i h its none =
+    have i h its (ap (λ a. answer_below scan a (pair_at scan.wanted.now i)) (let e : o ≡ o + 0 = omega arith in e) ∙ none)
+answered-more scan o (suc n) crc have i h its none =
+    answered-more scan o n crc have i h its
+    (was_none (is_match (pair_at scan.wanted.now i) (window_of scan (o + n))) (spot_in (length scan.earlier.now) (o + n)) (answer_below scan (o + n) (pair_at scan.wanted.now i))
+    (sym (below-more scan (o + n) (pair_at scan.wanted.now i)) ∙ ap (λ a. answer_below scan a (pair_at scan.wanted.now i)) (let e : o + n + 1 ≡ o + suc n = omega arith in e) ∙ none))
   where
     was_none : (m : Bool) (spot : Spot) (old : Option Spot) → after_window m spot old ≡ None → old ≡ None
     was_none m spot None nothing = refl
     was_none m spot (Some x) nothing = nothing
 
--- a window is passed over
-passed-one : (s : ℕ) (text : List ℕ) (earlier : Earlier) (o : ℕ) (pairs : List Pair) (found : List (Option Spot)) (left : ℕ) (filter : Groups) (batch : List Candidate) → IsAt s text earlier o pairs found left filter batch → AreAnswered s text earlier o pairs (crc32 (window s text o)) → IsAt s text earlier (o + 1) pairs found left filter batch
-passed-one s text earlier o pairs found left filter batch at have = record {
-  tally = at.tally;
-  answers = λ i h.
-      at.answers i h
-      ∙ stays (is_match (pair_at pairs i) (window s text o)) (spot_in earlier.text o) (answer_below s text earlier o pairs i)
-      (λ none. no_crc (pair_at pairs i) _ (crc32 (window s text o)) (λ same. have i h same none))
-      ∙ sym (below-more s text earlier o pairs i);
-  candidates = at.candidates;
-}
-
 -- so many windows are passed over
-passed : (s : ℕ) (text : List ℕ) (earlier : Earlier) (from o n : ℕ) (pairs : List Pair) (found : List (Option Spot)) (left : ℕ) (filter : Groups) (batch : List Candidate) → from ≤ o → IsAt s text earlier o pairs found left filter batch
-    → ((d : ℕ) → d < n → AreAnswered s text earlier from pairs (crc32 (window s text (o + d)))) → IsAt s text earlier (o + n) pairs found left filter batch
-passed s text earlier from o zero pairs found left filter batch before at have =
-    subst (λ a. IsAt s text earlier a pairs found left filter batch) (let e : o ≡ o + 0 = omega arith in e) at
-passed s text earlier from o (suc n) pairs found left filter batch before at have =
+passed : (scan : Scan) (from o n : ℕ) (found : List (Option Spot)) (left : ℕ) (filter : Groups) (batch : List Candidate) → from ≤ o → IsAt scan o found left filter batch
+    → ((d : ℕ) → d < n → AreAnswered scan from (crc_of scan (o + d))) → IsAt scan (o + n) found left filter batch
+passed scan from o zero found left filter batch before at have =
+    subst (λ a. IsAt scan a found left filter batch) (let e : o ≡ o + 0 = omega arith in e) at
+passed scan from o (suc n) found left filter batch before at have =
     let here : o + n ≡ from + (o + n - from) = omega (arith, before) in
-    subst (λ a. IsAt s text earlier a pairs found left filter batch) (let e : o + n + 1 ≡ o + suc n = omega arith in e)
-    (passed-one s text earlier (o + n) pairs found left filter batch
-    (passed s text earlier from o n pairs found left filter batch before at (λ d h. have d (omega (arith, h))))
-    (subst (λ a. AreAnswered s text earlier a pairs (crc32 (window s text (o + n)))) (sym here)
-    (answered-more s text earlier from (o + n - from) pairs (crc32 (window s text (o + n))) (have n (omega arith)))))
+    subst (λ a. IsAt scan a found left filter batch) (let e : o + n + 1 ≡ o + suc n = omega arith in e)
+    (passed-one scan (o + n) found left filter batch
+    (passed scan from o n found left filter batch before at (λ d h. have d (omega (arith, h))))
+    (subst (λ a. AreAnswered scan a (crc_of scan (o + n))) (sym here)
+    (answered-more scan from (o + n - from) (crc_of scan (o + n)) (have n (omega arith)))))
 
 -- the windows of stretch k from a row to before the next one, or to the end, are passed over
-pub passed-to : (s : ℕ) (text : List ℕ) (earlier : Earlier) (start len k j m : ℕ) (pairs : List Pair) (rows : List Row) (found : List (Option Spot)) (left : ℕ) (filter : Groups) (batch : List Candidate)
-    → AreRows s text earlier start len pairs len rows → k < 4 → m ≤ len → reached rows j ≤ m → j ≤ length rows → ((i : ℕ) → j ≤ i → i < length rows → m ≤ (row_at rows i).at)
-    → IsAt s text earlier (start + k * len + reached rows j) pairs found left filter batch → IsAt s text earlier (start + k * len + m) pairs found left filter batch
+pub passed-to : (scan : Scan) (start len k j m : ℕ) (rows : List Row) (found : List (Option Spot)) (left : ℕ) (filter : Groups) (batch : List Candidate)
+    → AreRows scan start len len rows → k < 4 → m ≤ len → reached rows j ≤ m → j ≤ length rows → ((i : ℕ) → j ≤ i → i < length rows → m ≤ (row_at rows i).at)
+    → IsAt scan (start + k * len + reached rows j) found left filter batch → IsAt scan (start + k * len + m) found left filter batch
 unfolding reached
-passed-to s text earlier start len k j m pairs rows found left filter batch are stretch inside from below after at =
+passed-to scan start len k j m rows found left filter batch are stretch inside from below after at =
     let o : ℕ = start + k * len + reached rows j in
     let n : ℕ = m - reached rows j in
-    subst (λ a. IsAt s text earlier a pairs found left filter batch) (let e : o + n ≡ start + k * len + m = omega (arith, from) in e)
-    (passed s text earlier start o n pairs found left filter batch (omega arith) at
+    subst (λ a. IsAt scan a found left filter batch) (let e : o + n ≡ start + k * len + m = omega (arith, from) in e)
+    (passed scan start o n found left filter batch (omega arith) at
     (λ d h.
     let row : ℕ = reached rows j + d in
     let low : row < m = omega (arith, h, from) in
-    subst (λ a. AreAnswered s text earlier start pairs (crc32 (window s text a))) (let e : start + k * len + row ≡ o + d = omega arith in e)
+    subst (λ a. AreAnswered scan start (crc_of scan a)) (let e : start + k * len + row ≡ o + d = omega arith in e)
     (elim (are.others row (omega (arith, low, inside))) [
       | inl noted ↦ absurd (not_noted rows j row m are.rising below (omega arith) low after noted)
       | inr free ↦ free k stretch
@@ -90,8 +69,8 @@ passed-to s text earlier start len k j m pairs rows found left filter batch are 
     ]
 
 -- no rows yet
-pub no-rows : (s : ℕ) (text : List ℕ) (earlier : Earlier) (start len : ℕ) (pairs : List Pair) → AreRows s text earlier start len pairs 0 []
-no-rows s text earlier start len pairs = record {
+pub no-rows : (scan : Scan) (start len : ℕ) → AreRows scan start len 0 []
+no-rows scan start len = record {
   rising = λ i j less h. absurd (omega (arith, h));
   below = λ j h. absurd (omega (arith, h));
   crcs = λ j h. absurd (omega (arith, h));
@@ -99,19 +78,19 @@ no-rows s text earlier start len pairs = record {
 }
 
 -- a row that isn't noted
-pub skipped : (s : ℕ) (text : List ℕ) (earlier : Earlier) (start len : ℕ) (pairs : List Pair) (at : ℕ) (rows : List Row) → AreRows s text earlier start len pairs at rows
-    → ((k : ℕ) → k < 4 → AreAnswered s text earlier start pairs (crc_in s text start len k at)) → AreRows s text earlier start len pairs (at + 1) rows
-skipped s text earlier start len pairs at rows are free = record {
+pub skipped : (scan : Scan) (start len at : ℕ) (rows : List Row) → AreRows scan start len at rows
+    → ((k : ℕ) → k < 4 → AreAnswered scan start (crc_of scan (start + k * len + at))) → AreRows scan start len (at + 1) rows
+skipped scan start len at rows are free = record {
   rising = are.rising;
   below = λ j h. omega (arith, are.below j h);
   crcs = are.crcs;
-  others = below_more (λ a. IsNoted rows a ⊎ ((k : ℕ) → k < 4 → AreAnswered s text earlier start pairs (crc_in s text start len k a))) at are.others (inr free);
+  others = below_more (λ a. IsNoted rows a ⊎ ((k : ℕ) → k < 4 → AreAnswered scan start (crc_of scan (start + k * len + a)))) at are.others (inr free);
 }
 
 -- a row that is noted
-pub noted : (s : ℕ) (text : List ℕ) (earlier : Earlier) (start len : ℕ) (pairs : List Pair) (at : ℕ) (crcs : List ℕ) (rows : List Row) → AreRows s text earlier start len pairs at rows
-    → AreCrcs s text start len at crcs → AreRows s text earlier start len pairs (at + 1) (rows ++ record { at = at; crcs = crcs } ∷ [])
-noted s text earlier start len pairs at crcs rows are its = record {
+pub noted : (scan : Scan) (start len at : ℕ) (crcs : List ℕ) (rows : List Row) → AreRows scan start len at rows
+    → AreCrcs scan.rolling.now.size scan.bytes.now start len at crcs → AreRows scan start len (at + 1) (rows ++ record { at = at; crcs = crcs } ∷ [])
+noted scan start len at crcs rows are its = record {
   rising = λ i j less h. elim (cases_lt j (length rows)) [
     | inl early ↦ (let up : (row_at rows i).at < (row_at rows j).at = are.rising i j less early in omega (arith, up, ap (λ (r : Row). r.at) (old i (omega (arith, less, early))), ap (λ (r : Row). r.at) (old j early)))
     | inr late ↦ (let early : i < length rows = omega (arith, less, late, h, size) in let up : (row_at rows i).at < at = are.below i early in omega (arith, up, ap (λ (r : Row). r.at) (old i early), ap (λ (r : Row). r.at) (new j h late)))
@@ -121,10 +100,10 @@ noted s text earlier start len pairs at crcs rows are its = record {
     | inr late ↦ omega (arith, ap (λ (r : Row). r.at) (new j h late))
   ];
   crcs = λ j h. elim (cases_lt j (length rows)) [
-    | inl early ↦ subst (λ (r : Row). AreCrcs s text start len r.at r.crcs) (sym (old j early)) (are.crcs j early)
-    | inr late ↦ subst (λ (r : Row). AreCrcs s text start len r.at r.crcs) (sym (new j h late)) its
+    | inl early ↦ subst (λ (r : Row). AreCrcs scan.rolling.now.size scan.bytes.now start len r.at r.crcs) (sym (old j early)) (are.crcs j early)
+    | inr late ↦ subst (λ (r : Row). AreCrcs scan.rolling.now.size scan.bytes.now start len r.at r.crcs) (sym (new j h late)) its
   ];
-  others = below_more (λ a. IsNoted more a ⊎ ((k : ℕ) → k < 4 → AreAnswered s text earlier start pairs (crc_in s text start len k a))) at
+  others = below_more (λ a. IsNoted more a ⊎ ((k : ℕ) → k < 4 → AreAnswered scan start (crc_of scan (start + k * len + a)))) at
       (λ a h. elim (are.others a h) [
         | inl there ↦ inl (there.0, omega (arith, there.1, size), ap (λ (r : Row). r.at) (old there.0 there.1) ∙ there.2)
         | inr free ↦ inr free
@@ -148,56 +127,57 @@ noted s text earlier start len pairs at crcs rows are its = record {
     new j h late = get_or_at rows row [] no_row j (let e : length rows ≡ j = omega (arith, late, h, size) in e)
 
 -- the checksums of the next row
-pub next_row : (s : ℕ) (text : List ℕ) (start len at size : ℕ) (crcs after outs nexts : List ℕ) → 1 ≤ s → size ≡ s → outs ≡ drop start text → nexts ≡ drop s outs → AreCrcs s text start len at crcs
-    → ((k : ℕ) → k < 4 → get_or after k 0 ≡ after_slide size (get_or crcs k 0) (get_or outs (k * len + at) 0) (get_or nexts (k * len + at) 0)) → AreCrcs s text start len (at + 1) after
-next_row s text start len at size crcs after outs nexts some size_is outs_is nexts_is are each k h =
+pub next_row : (scan : Scan) (start len at : ℕ) (crcs after outs nexts : List ℕ) → 1 ≤ scan.rolling.now.size → outs ≡ drop start scan.bytes.now → nexts ≡ drop scan.rolling.now.size outs → AreCrcs scan.rolling.now.size scan.bytes.now start len at crcs
+    → ((k : ℕ) → k < 4 → get_or after k 0 ≡ after_slide scan.rolling.now.size (get_or crcs k 0) (get_or outs (k * len + at) 0) (get_or nexts (k * len + at) 0)) → AreCrcs scan.rolling.now.size scan.bytes.now start len (at + 1) after
+next_row scan start len at crcs after outs nexts some outs_is nexts_is are each k h =
+    let s : ℕ = scan.rolling.now.size in
+    let text : List ℕ = scan.bytes.now in
     let o : ℕ = start + k * len + at in
     let out_at : (j : ℕ) → get_or outs j 0 ≡ get_or text (start + j) 0 = λ j. ap (λ bytes. get_or bytes j 0) outs_is ∙ get_or-drop start text j 0 in
     let out_is : get_or outs (k * len + at) 0 ≡ get_or text o 0 = out_at (k * len + at) ∙ ap (λ j. get_or text j 0) (let e : start + (k * len + at) ≡ o = omega arith in e) in
     let next_is : get_or nexts (k * len + at) 0 ≡ get_or text (s + o) 0 = ap (λ bytes. get_or bytes (k * len + at) 0) nexts_is ∙ get_or-drop s outs (k * len + at) 0
     ∙ out_at (s + (k * len + at)) ∙ ap (λ j. get_or text j 0) (let e : start + (s + (k * len + at)) ≡ s + o = omega arith in e) in
     each k h
-    ∙ ap (λ n. after_slide n (get_or crcs k 0) (get_or outs (k * len + at) 0) (get_or nexts (k * len + at) 0)) size_is
     ∙ slid_window s text o (get_or crcs k 0) (get_or outs (k * len + at) 0) (get_or nexts (k * len + at) 0) some (are k h) out_is next_is
-    ∙ ap (λ a. crc32 (window s text a)) (let e : o + 1 ≡ start + k * len + (at + 1) = omega arith in e)
+    ∙ ap (λ a. crc_of scan a) (let e : o + 1 ≡ start + k * len + (at + 1) = omega arith in e)
 
 -- none of its windows have been looked at
-pub at-start : (s : ℕ) (text : List ℕ) (earlier : Earlier) (o : ℕ) (rows : List Row) (pairs : List Pair) (found : List (Option Spot)) (left : ℕ) (filter : Groups) (batch : List Candidate) → IsAt s text earlier o pairs found left filter batch → IsAt s text earlier (o + reached rows 0) pairs found left filter batch
+pub at-start : (scan : Scan) (o : ℕ) (rows : List Row) (found : List (Option Spot)) (left : ℕ) (filter : Groups) (batch : List Candidate) → IsAt scan o found left filter batch → IsAt scan (o + reached rows 0) found left filter batch
 unfolding reached
-at-start s text earlier o rows pairs found left filter batch at = subst (λ a. IsAt s text earlier a pairs found left filter batch) (let e : o ≡ o + 0 = omega arith in e) at
+at-start scan o rows found left filter batch at = subst (λ a. IsAt scan a found left filter batch) (let e : o ≡ o + 0 = omega arith in e) at
 
 pub after-row : (rows : List Row) (j : ℕ) → reached rows (j + 1) ≡ (row_at rows j).at + 1
 unfolding reached
 after-row rows j = ap (reached rows) (let e : j + 1 ≡ suc j = omega arith in e)
 
 -- rows that are noted are in order
-pub no-earlier : (s : ℕ) (text : List ℕ) (earlier : Earlier) (start len count : ℕ) (pairs : List Pair) (rows : List Row) → AreRows s text earlier start len pairs count rows → (j : ℕ) → j < length rows → reached rows j ≤ (row_at rows j).at
+pub no-earlier : (scan : Scan) (start len count : ℕ) (rows : List Row) → AreRows scan start len count rows → (j : ℕ) → j < length rows → reached rows j ≤ (row_at rows j).at
 unfolding reached
-no-earlier s text earlier start len count pairs rows are zero h = omega arith
-no-earlier s text earlier start len count pairs rows are (suc j) h = let up : (row_at rows j).at < (row_at rows (suc j)).at = are.rising j (suc j) (omega arith) h in omega (arith, up)
+no-earlier scan start len count rows are zero h = omega arith
+no-earlier scan start len count rows are (suc j) h = let up : (row_at rows j).at < (row_at rows (suc j)).at = are.rising j (suc j) (omega arith) h in omega (arith, up)
 
 -- the last of them is within the stretch
-pub within-all : (s : ℕ) (text : List ℕ) (earlier : Earlier) (start len count : ℕ) (pairs : List Pair) (rows : List Row) → AreRows s text earlier start len pairs count rows → (j : ℕ) → j ≤ length rows → reached rows j ≤ count
+pub within-all : (scan : Scan) (start len count : ℕ) (rows : List Row) → AreRows scan start len count rows → (j : ℕ) → j ≤ length rows → reached rows j ≤ count
 unfolding reached
-within-all s text earlier start len count pairs rows are zero h = omega arith
-within-all s text earlier start len count pairs rows are (suc j) h = let low : (row_at rows j).at < count = are.below j (omega (arith, h)) in omega (arith, low)
+within-all scan start len count rows are zero h = omega arith
+within-all scan start len count rows are (suc j) h = let low : (row_at rows j).at < count = are.below j (omega (arith, h)) in omega (arith, low)
 
 -- the windows of stretch k before row j
-pub passed-to-row : (s : ℕ) (text : List ℕ) (earlier : Earlier) (start len k j : ℕ) (pairs : List Pair) (rows : List Row) (found : List (Option Spot)) (left : ℕ) (filter : Groups) (batch : List Candidate) → AreRows s text earlier start len pairs len rows → k < 4 → j < length rows
-    → IsAt s text earlier (start + k * len + reached rows j) pairs found left filter batch → IsAt s text earlier (start + k * len + (row_at rows j).at) pairs found left filter batch
-passed-to-row s text earlier start len k j pairs rows found left filter batch are stretch h =
+pub passed-to-row : (scan : Scan) (start len k j : ℕ) (rows : List Row) (found : List (Option Spot)) (left : ℕ) (filter : Groups) (batch : List Candidate) → AreRows scan start len len rows → k < 4 → j < length rows
+    → IsAt scan (start + k * len + reached rows j) found left filter batch → IsAt scan (start + k * len + (row_at rows j).at) found left filter batch
+passed-to-row scan start len k j rows found left filter batch are stretch h =
     let low : (row_at rows j).at < len = are.below j h in
-    passed-to s text earlier start len k j (row_at rows j).at pairs rows found left filter batch are stretch (omega (arith, low)) (no-earlier s text earlier start len len pairs rows are j h) (omega (arith, h))
+    passed-to scan start len k j (row_at rows j).at rows found left filter batch are stretch (omega (arith, low)) (no-earlier scan start len len rows are j h) (omega (arith, h))
     (λ i from inside. elim (cases_lt j i) [
       | inl less ↦ (let up : (row_at rows j).at < (row_at rows i).at = are.rising j i less inside in omega (arith, up))
       | inr last ↦ (let e : j ≡ i = omega (arith, last, from) in let is : (row_at rows j).at ≡ (row_at rows i).at = ap (λ a. (row_at rows a).at) e in omega (arith, is))
     ])
 
 -- the windows of stretch k after all rows
-pub passed-to-end : (s : ℕ) (text : List ℕ) (earlier : Earlier) (start len k j : ℕ) (pairs : List Pair) (rows : List Row) (found : List (Option Spot)) (left : ℕ) (filter : Groups) (batch : List Candidate) → AreRows s text earlier start len pairs len rows → k < 4 → j ≡ length rows
-    → IsAt s text earlier (start + k * len + reached rows j) pairs found left filter batch → IsAt s text earlier (start + (k + 1) * len) pairs found left filter batch
-passed-to-end s text earlier start len k j pairs rows found left filter batch are stretch all at =
+pub passed-to-end : (scan : Scan) (start len k j : ℕ) (rows : List Row) (found : List (Option Spot)) (left : ℕ) (filter : Groups) (batch : List Candidate) → AreRows scan start len len rows → k < 4 → j ≡ length rows
+    → IsAt scan (start + k * len + reached rows j) found left filter batch → IsAt scan (start + (k + 1) * len) found left filter batch
+passed-to-end scan start len k j rows found left filter batch are stretch all at =
     let e : start + k * len + len ≡ start + (k + 1) * len = omega arith in
-    subst (λ a. IsAt s text earlier a pairs found left filter batch) e
-    (passed-to s text earlier start len k j len pairs rows found left filter batch are stretch (omega arith) (within-all s text earlier start len len pairs rows are j (omega (arith, all))) (omega (arith, all))
+    subst (λ a. IsAt scan a found left filter batch) e
+    (passed-to scan start len k j len rows found left filter batch are stretch (omega arith) (within-all scan start len len rows are j (omega (arith, all))) (omega (arith, all))
     (λ i from inside. absurd (omega (arith, all, from, inside))) at)

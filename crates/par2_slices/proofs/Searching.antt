@@ -1,63 +1,63 @@
 -- A search under way.
-use Rattle.par2_slices.proofs.Common.{shr-shr, ◌≡◌, ℕ, zero, suc, ◌+◌, ◌-◌, ◌*◌, ◌/◌, ◌%◌, ◌^◌, ◌<◌, Bool, true, false, cond, List, [], ◌∷◌, ◌++◌, length, map, drop, take, get_or, set, replicate, refl, sym, ap, subst, ◌∙◌, get_or-set_same, get_or-set_other, inl, inr, arith, ◌⊎◌, ◌==◌, Option, Some, None, find, option_map, bit_at, count_by, list_all, range_with_len, is_none, option_or, bytes_eq, and_from, and_left, and_right, cases_eq, cases_lt, eq-eqb, ne_eqb, length-replicate, length-map, get_or-map, ext_get_or, get_or_append_left, get_or_at, length_push, drop_more, take_more, find-append, sum_by-zero, sum_by-replicate, list_all_at, md5, Pair, crc32, is_match, window, first_match, range-append, or_nothing, AreAlike, Groups, Marks, no_pair, IsOfOpenPair, no_place, no_candidate, pair_at, place_at, candidate_at, answer_at, answer_below, spot_in, first_spot, first_spot_from, HoldsGroup, is_awaited, after_window, has_checksums, Earlier, IsWindow, IsTally, IsAt, after_candidates, first_below, Candidate, Spot, Place, sum_by-set}
+use Rattle.par2_slices.proofs.Common.{shr-shr, ◌≡◌, ℕ, zero, suc, ◌+◌, ◌-◌, ◌*◌, ◌/◌, ◌%◌, ◌^◌, ◌<◌, Bool, true, false, cond, List, [], ◌∷◌, ◌++◌, length, map, drop, take, get_or, set, replicate, refl, sym, ap, subst, ◌∙◌, get_or-set_same, get_or-set_other, inl, inr, arith, ◌⊎◌, ◌==◌, Option, Some, None, find, option_map, bit_at, count_by, list_all, range_with_len, is_none, option_or, bytes_eq, and_from, and_left, and_right, cases_eq, cases_lt, eq-eqb, ne_eqb, length-replicate, length-map, get_or-map, ext_get_or, get_or_append_left, get_or_at, length_push, drop_more, take_more, find-append, sum_by-zero, sum_by-replicate, list_all_at, md5, Pair, crc32, is_match, window, first_match, range-append, or_nothing, AreAlike, Groups, Marks, no_pair, IsOfOpenPair, no_place, no_candidate, pair_at, place_at, candidate_at, answer_at, answer_below, spot_in, first_spot, first_spot_from, HoldsGroup, is_awaited, after_window, has_checksums, IsWindow, IsTally, IsAt, after_candidates, first_below, Candidate, Spot, Place, sum_by-set, Scan, window_of, crc_of, earlier_answer, AreAnswered, HaveAnswers, Bor, ap₂, and_parts, false_from_ne_true, none_from, eqb-true, All-from_get_or, IsWhole}
 use Rattle.par2_slices.proofs.Groups.{replicate_at}
 use Rattle.std.proofs.Common.{length-take}
 use Rattle.std.specs.Prelude.{◌&&◌}
 use Rattle.std.proofs.lemmas.List.{length-set}
-use Rattle.std.proofs.lemmas.List.Sums.{fold-append}
+use Rattle.std.proofs.lemmas.List.Sums.{fold-append, list_all-from_AllPass}
 
-first_below-more : (s : ℕ) (text : List ℕ) (o : ℕ) (pair : Pair) → first_below s text (o + 1) pair ≡ option_or (first_below s text o pair) (cond (is_match pair (window s text o)) (Some o) None)
+first_below-more : (scan : Scan) (o : ℕ) (pair : Pair) → first_below scan (o + 1) pair ≡ option_or (first_below scan o pair) (cond (is_match pair (window_of scan o)) (Some o) None)
 unfolding first_below
-first_below-more s text o pair =
-    let test : ℕ → Bool = λ k. is_match pair (window s text k) in
+first_below-more scan o pair =
+    let test : ℕ → Bool = λ k. is_match pair (window_of scan k) in
     ap (find test) (range-append 0 o 1)
     ∙ find-append test (range_with_len 0 o) (range_with_len (0 + o) 1)
     ∙ ap (λ k. option_or (find test (range_with_len 0 o)) (cond (test k) (Some k) None)) (let e : 0 + o ≡ o = omega arith in e)
 
 -- one offset more
-pub below-more : (s : ℕ) (text : List ℕ) (earlier : Earlier) (o : ℕ) (pairs : List Pair) (i : ℕ)
-    → answer_below s text earlier (o + 1) pairs i ≡ after_window (is_match (pair_at pairs i) (window s text o)) (spot_in earlier.text o) (answer_below s text earlier o pairs i)
-below-more s text earlier o pairs i =
-    ap (λ f. option_or (answer_at earlier.before i) (option_map (spot_in earlier.text) f)) (first_below-more s text o (pair_at pairs i))
-    ∙ step (answer_at earlier.before i) (first_below s text o (pair_at pairs i)) (is_match (pair_at pairs i) (window s text o))
+pub below-more : (scan : Scan) (o : ℕ) (pair : Pair)
+    → answer_below scan (o + 1) pair ≡ after_window (is_match pair (window_of scan o)) (spot_in (length scan.earlier.now) o) (answer_below scan o pair)
+below-more scan o pair =
+    ap (λ f. option_or (earlier_answer scan pair) (option_map (spot_in (length scan.earlier.now)) f)) (first_below-more scan o pair)
+    ∙ step (earlier_answer scan pair) (first_below scan o pair) (is_match pair (window_of scan o))
   where
     step : (before : Option Spot) (below : Option ℕ) (m : Bool)
-        → option_or before (option_map (spot_in earlier.text) (option_or below (cond m (Some o) None)))
-        ≡ after_window m (spot_in earlier.text o) (option_or before (option_map (spot_in earlier.text) below))
+        → option_or before (option_map (spot_in (length scan.earlier.now)) (option_or below (cond m (Some o) None)))
+        ≡ after_window m (spot_in (length scan.earlier.now) o) (option_or before (option_map (spot_in (length scan.earlier.now)) below))
     step (Some x) below m = refl
     step None (Some x) m = refl
     step None None true = refl
     step None None false = refl
 
 -- an answer that is there stands
-pub settled_some : (s : ℕ) (text : List ℕ) (pair : Pair) (candidates : List Candidate) (x : Spot) → after_candidates s text pair candidates (Some x) ≡ Some x
+pub settled_some : (scan : Scan) (pair : Pair) (candidates : List Candidate) (x : Spot) → after_candidates scan pair candidates (Some x) ≡ Some x
 unfolding after_candidates
-settled_some s text pair [] x = refl
-settled_some s text pair (candidate ∷ rest) x = settled_some s text pair rest x
+settled_some scan pair [] x = refl
+settled_some scan pair (candidate ∷ rest) x = settled_some scan pair rest x
 
-settled_open : (s : ℕ) (text : List ℕ) (pair : Pair) (candidates : List Candidate) (answer : Option Spot) → after_candidates s text pair candidates answer ≡ None → answer ≡ None
-settled_open s text pair candidates None is = refl
-settled_open s text pair candidates (Some x) is = sym (settled_some s text pair candidates x) ∙ is
+settled_open : (scan : Scan) (pair : Pair) (candidates : List Candidate) (answer : Option Spot) → after_candidates scan pair candidates answer ≡ None → answer ≡ None
+settled_open scan pair candidates None is = refl
+settled_open scan pair candidates (Some x) is = sym (settled_some scan pair candidates x) ∙ is
 
 -- no candidate more
-settled_none : (s : ℕ) (text : List ℕ) (pair : Pair) (answer : Option Spot) → after_candidates s text pair [] answer ≡ answer
+settled_none : (scan : Scan) (pair : Pair) (answer : Option Spot) → after_candidates scan pair [] answer ≡ answer
 unfolding after_candidates
-settled_none s text pair answer = refl
+settled_none scan pair answer = refl
 
-pub none_settled : (s : ℕ) (text : List ℕ) (pair : Pair) (candidates : List Candidate) (answer : Option Spot) → length candidates ≡ 0 → after_candidates s text pair candidates answer ≡ answer
-none_settled s text pair [] answer none = settled_none s text pair answer
-none_settled s text pair (candidate ∷ rest) answer none = absurd (omega (arith, none))
+pub none_settled : (scan : Scan) (pair : Pair) (candidates : List Candidate) (answer : Option Spot) → length candidates ≡ 0 → after_candidates scan pair candidates answer ≡ answer
+none_settled scan pair [] answer none = settled_none scan pair answer
+none_settled scan pair (candidate ∷ rest) answer none = absurd (omega (arith, none))
 
 -- a candidate after the others
-settled_more : (s : ℕ) (text : List ℕ) (pair : Pair) (candidates : List Candidate) (candidate : Candidate) (answer : Option Spot) → after_candidates s text pair (candidates ++ candidate ∷ []) answer ≡ after_window (is_match pair (window s text candidate.spot.offset)) candidate.spot (after_candidates s text pair candidates answer)
+settled_more : (scan : Scan) (pair : Pair) (candidates : List Candidate) (candidate : Candidate) (answer : Option Spot) → after_candidates scan pair (candidates ++ candidate ∷ []) answer ≡ after_window (is_match pair (window_of scan candidate.spot.offset)) candidate.spot (after_candidates scan pair candidates answer)
 unfolding after_candidates
-settled_more s text pair candidates candidate answer = fold-append (λ (so_far : Option Spot) (c : Candidate). after_window (is_match pair (window s text c.spot.offset)) c.spot so_far) answer candidates (candidate ∷ [])
+settled_more scan pair candidates candidate answer = fold-append (λ (so_far : Option Spot) (c : Candidate). after_window (is_match pair (window_of scan c.spot.offset)) c.spot so_far) answer candidates (candidate ∷ [])
 
 -- candidate k in front of those after it
-pub settled_from : (s : ℕ) (text : List ℕ) (pair : Pair) (candidates : List Candidate) (k : ℕ) (answer : Option Spot) → k < length candidates →
-    after_candidates s text pair (drop k candidates) answer ≡ after_candidates s text pair (drop (k + 1) candidates) (after_window (is_match pair (window s text (candidate_at candidates k).spot.offset)) (candidate_at candidates k).spot answer)
+pub settled_from : (scan : Scan) (pair : Pair) (candidates : List Candidate) (k : ℕ) (answer : Option Spot) → k < length candidates →
+    after_candidates scan pair (drop k candidates) answer ≡ after_candidates scan pair (drop (k + 1) candidates) (after_window (is_match pair (window_of scan (candidate_at candidates k).spot.offset)) (candidate_at candidates k).spot answer)
 unfolding after_candidates
-settled_from s text pair candidates k answer inside = ap (λ cs. after_candidates s text pair cs answer) (drop_more candidates k no_candidate inside)
+settled_from scan pair candidates k answer inside = ap (λ cs. after_candidates scan pair cs answer) (drop_more candidates k no_candidate inside)
 
 -- where an answer stands, or nothing matches, it stays
 pub stays : (m : Bool) (spot : Spot) (old : Option Spot) → (old ≡ None → m ≡ false) → old ≡ after_window m spot old
@@ -74,26 +74,30 @@ was_open m spot None now either none = refl
 was_open m spot (Some x) now (inl same) none = sym same ∙ none
 was_open m spot (Some x) now (inr done) none = sym done ∙ none
 
-pub no_more : (s : ℕ) (text : List ℕ) (earlier : Earlier) (o : ℕ) (pairs : List Pair) (found : List (Option Spot)) (left : ℕ) (filter : Groups) (candidates : List Candidate) → IsAt s text earlier o pairs found left filter candidates → ((i : ℕ) → i < length pairs → answer_at found i ≡ None → is_match (pair_at pairs i) (window s text o) ≡ false) → IsAt s text earlier (o + 1) pairs found left filter candidates
-no_more s text earlier o pairs found left filter candidates at none = record {
-  tally = at.tally;
-  answers = λ i h.
-      let pair : Pair = pair_at pairs i in
-      let m : Bool = is_match pair (window s text o) in
-      stays m (spot_in earlier.text o) (after_candidates s text pair candidates (answer_at found i)) (λ none_yet. none i h (settled_open s text pair candidates (answer_at found i) none_yet))
-      ∙ ap (after_window m (spot_in earlier.text o)) (at.answers i h)
-      ∙ sym (below-more s text earlier o pairs i);
-  candidates = at.candidates;
-}
-
 pub no_crc : (pair : Pair) (md5 : List ℕ) (crc : ℕ) → (pair.1 ≡ crc → ⊥) → has_checksums md5 crc pair ≡ false
 no_crc pair md5 crc other = and_left (crc == pair.1) _ (ne_eqb crc pair.1 (λ same. other (sym same)))
 
--- the checksum of the window is of no group that is marked
-pub unmarked : (s : ℕ) (text : List ℕ) (earlier : Earlier) (o : ℕ) (pairs : List Pair) (found : List (Option Spot)) (left : ℕ) (filter : Groups) (candidates : List Candidate) (crc : ℕ) → IsAt s text earlier o pairs found left filter candidates → crc ≡ crc32 (window s text o) → (Marks filter crc → ⊥) → IsAt s text earlier (o + 1) pairs found left filter candidates
-unmarked s text earlier o pairs found left filter candidates crc at is not_marked =
-    no_more s text earlier o pairs found left filter candidates at (λ i h none.
-    no_crc (pair_at pairs i) _ (crc32 (window s text o)) (λ same. not_marked (subst (λ (c : ℕ). Marks filter c) (same ∙ sym is) (at.tally.marked i h none))))
+-- a window is passed over
+pub passed-one : (scan : Scan) (o : ℕ) (found : List (Option Spot)) (left : ℕ) (filter : Groups) (batch : List Candidate) → IsAt scan o found left filter batch → AreAnswered scan o (crc_of scan o) → IsAt scan (o + 1) found left filter batch
+passed-one scan o found left filter batch at have = record {
+  tally = at.tally;
+  answers = λ i h.
+      let pair : Pair = pair_at scan.wanted.now i in
+      at.answers i h
+      ∙ stays (is_match pair (window_of scan o)) (spot_in (length scan.earlier.now) o) (answer_below scan o pair)
+      (λ none. no_crc pair _ (crc_of scan o) (λ same. have i h same none))
+      ∙ sym (below-more scan o pair);
+  candidates = at.candidates;
+}
+
+-- an answer of the search so far is one below the offset
+pub answered : (scan : Scan) (o : ℕ) (found : List (Option Spot)) (left : ℕ) (filter : Groups) (batch : List Candidate) (crc : ℕ) → IsAt scan o found left filter batch → HaveAnswers scan.wanted.now found crc → AreAnswered scan o crc
+answered scan o found left filter batch crc at have i h its none =
+    have i h its (settled_open scan (pair_at scan.wanted.now i) batch (answer_at found i) (at.answers i h ∙ none))
+
+pub no_more : (scan : Scan) (o : ℕ) (found : List (Option Spot)) (left : ℕ) (filter : Groups) (batch : List Candidate) (crc : ℕ) → IsAt scan o found left filter batch → crc ≡ crc_of scan o → HaveAnswers scan.wanted.now found crc → IsAt scan (o + 1) found left filter batch
+no_more scan o found left filter batch crc at is have =
+    passed-one scan o found left filter batch at (answered scan o found left filter batch (crc_of scan o) at (subst (HaveAnswers scan.wanted.now found) is have))
 
 none_counted : (X : Type 0) (p : X → Bool) (xs : List X) (i : ℕ) (d : X) → count_by p xs ≡ 0 → i < length xs → p (get_or xs i d) ≡ true → ⊥
 none_counted X p xs i d none h holds =
@@ -103,69 +107,80 @@ none_counted X p xs i d none h holds =
     let both : true ≡ false = all ∙ some in
     cc
 
+-- no pair that has a checksum of a group that isn't marked is open
+pub unmarked : (pairs : List Pair) (found : List (Option Spot)) (left : ℕ) (filter : Groups) (crc : ℕ) → IsTally pairs found left filter → (Marks filter crc → ⊥) → HaveAnswers pairs found crc
+unmarked pairs found left filter crc tally not_marked i h same none = not_marked (subst (λ (c : ℕ). Marks filter c) same (tally.marked i h none))
+
 -- no pair that has this checksum is open
-pub unawaited : (s : ℕ) (text : List ℕ) (earlier : Earlier) (o : ℕ) (pairs : List Pair) (found : List (Option Spot)) (left : ℕ) (filter : Groups) (candidates : List Candidate) (crc : ℕ) (group : List Place) → IsAt s text earlier o pairs found left filter candidates → crc ≡ crc32 (window s text o) → HoldsGroup pairs crc group → count_by (is_awaited crc found) group ≡ 0 → IsAt s text earlier (o + 1) pairs found left filter candidates
-unawaited s text earlier o pairs found left filter candidates crc group at is holds closed =
-    no_more s text earlier o pairs found left filter candidates at (λ i h none.
-    no_crc (pair_at pairs i) _ (crc32 (window s text o)) (λ same.
-    let its : (pair_at pairs i).1 ≡ crc = same ∙ sym is in
+pub unawaited : (pairs : List Pair) (found : List (Option Spot)) (crc : ℕ) (group : List Place) → HoldsGroup pairs crc group → count_by (is_awaited crc found) group ≡ 0 → HaveAnswers pairs found crc
+unawaited pairs found crc group holds closed i h its none =
     let place = holds.whole i h (ap (λ c. c / 2 ^ 17) its) in
     let crc_is : (place_at group place.0).crc ≡ crc = sym (holds.each place.0 place.1).crc ∙ ap (λ j. (pair_at pairs j).1) place.2 ∙ its in
     let unanswered : answer_at found (place_at group place.0).index ≡ None = ap (answer_at found) place.2 ∙ none in
     none_counted Place (is_awaited crc found) group place.0 no_place closed place.1
-    (ap (λ b. b && is_none (answer_at found (place_at group place.0).index)) (eq-eqb (place_at group place.0).crc crc crc_is) ∙ ap is_none unanswered)))
+    (ap (λ b. b && is_none (answer_at found (place_at group place.0).index)) (eq-eqb (place_at group place.0).crc crc crc_is) ∙ ap is_none unanswered)
+
+-- each pair that has this checksum is answered
+pub all_answered : (pairs : List Pair) (found : List (Option Spot)) (crc : ℕ) (group : List Place) → HoldsGroup pairs crc group → HaveAnswers pairs found crc → count_by (is_awaited crc found) group ≡ 0
+all_answered pairs found crc group holds have =
+    eqb-true _ 0 (sum_by-zero (λ place. cond (is_awaited crc found place) 1 0) group ∙ list_all-from_AllPass _ group (All-from_get_or (λ place. cond (is_awaited crc found place) 1 0 == 0 ≡ true) group no_place (λ k h.
+    let place : Place = place_at group k in
+    let its = holds.each k h in
+    ap (λ b. cond b 1 0 == 0) (false_from_ne_true (is_awaited crc found place) (λ waits.
+    let parts = and_parts (place.crc == crc) (is_none (answer_at found place.index)) waits in
+    have place.index its.within (its.crc ∙ eqb-true _ _ parts.0) (none_from (answer_at found place.index) parts.1))))))
 
 -- checksums are those of a window
-pub matches : (s : ℕ) (text : List ℕ) (o : ℕ) (digest : List ℕ) (crc : ℕ) (pair : Pair) → digest ≡ md5 (window s text o) → crc ≡ crc32 (window s text o) → has_checksums digest crc pair ≡ is_match pair (window s text o)
-matches s text o digest crc pair digest_is crc_is =
-    ap (λ m. has_checksums m crc pair) digest_is ∙ ap (λ k. has_checksums (md5 (window s text o)) k pair) crc_is
+pub matches : (scan : Scan) (o : ℕ) (digest : List ℕ) (crc : ℕ) (pair : Pair) → digest ≡ md5 (window_of scan o) → crc ≡ crc_of scan o → has_checksums digest crc pair ≡ is_match pair (window_of scan o)
+matches scan o digest crc pair digest_is crc_is =
+    ap (λ m. has_checksums m crc pair) digest_is ∙ ap (λ k. has_checksums (md5 (window_of scan o)) k pair) crc_is
 
 -- the window at the offset has been compared, and no candidate waits
-pub compared : (s : ℕ) (text : List ℕ) (earlier : Earlier) (o : ℕ) (pairs : List Pair) (old new : List (Option Spot)) (left after : ℕ) (filter marks : Groups) (candidates : List Candidate) (spot : Spot) (digest : List ℕ) (crc : ℕ) → IsAt s text earlier o pairs old left filter candidates → candidates ≡ [] → spot ≡ spot_in earlier.text o → digest ≡ md5 (window s text o) → crc ≡ crc32 (window s text o) → IsTally pairs new after marks →
-    ((i : ℕ) → i < length pairs → answer_at new i ≡ after_window (has_checksums digest crc (pair_at pairs i)) spot (answer_at old i)) →
-    IsAt s text earlier (o + 1) pairs new after marks candidates
-compared s text earlier o pairs old new left after filter marks candidates spot digest crc at empty spot_is digest_is crc_is tally all = record {
+pub compared : (scan : Scan) (o : ℕ) (old new : List (Option Spot)) (left after : ℕ) (filter marks : Groups) (batch : List Candidate) (digest : List ℕ) (crc : ℕ) → IsAt scan o old left filter batch → batch ≡ [] → digest ≡ md5 (window_of scan o) → crc ≡ crc_of scan o → IsTally scan.wanted.now new after marks →
+    ((i : ℕ) → i < length scan.wanted.now → answer_at new i ≡ after_window (has_checksums digest crc (pair_at scan.wanted.now i)) (spot_in (length scan.earlier.now) o) (answer_at old i)) →
+    IsAt scan (o + 1) new after marks batch
+compared scan o old new left after filter marks batch digest crc at empty digest_is crc_is tally all = record {
   tally = tally;
   answers = λ i h.
-      let pair : Pair = pair_at pairs i in
-      let m : Bool = is_match pair (window s text o) in
-      let none : (answer : Option Spot) → after_candidates s text pair candidates answer ≡ answer = λ answer. ap (λ cs. after_candidates s text pair cs answer) empty ∙ settled_none s text pair answer in
+      let pair : Pair = pair_at scan.wanted.now i in
+      let spot : Spot = spot_in (length scan.earlier.now) o in
+      let none : (answer : Option Spot) → after_candidates scan pair batch answer ≡ answer = λ answer. none_settled scan pair batch answer (ap length empty) in
       none (answer_at new i)
       ∙ all i h
-      ∙ ap (λ b. after_window b spot (answer_at old i)) (matches s text o digest crc pair digest_is crc_is)
-      ∙ ap (λ p. after_window m p (answer_at old i)) spot_is
-      ∙ ap (after_window m (spot_in earlier.text o)) (sym (none (answer_at old i)) ∙ at.answers i h)
-      ∙ sym (below-more s text earlier o pairs i);
+      ∙ ap (λ b. after_window b spot (answer_at old i)) (matches scan o digest crc pair digest_is crc_is)
+      ∙ ap (after_window (is_match pair (window_of scan o)) spot) (sym (none (answer_at old i)) ∙ at.answers i h)
+      ∙ sym (below-more scan o pair);
   candidates = at.candidates;
 }
 
 -- the window at the offset is a candidate more
-pub pushed : (s : ℕ) (text : List ℕ) (earlier : Earlier) (pairs : List Pair) (found : List (Option Spot)) (left : ℕ) (filter : Groups) (candidates : List Candidate) (candidate : Candidate) → IsAt s text earlier candidate.spot.offset pairs found left filter candidates → candidate.spot.text ≡ earlier.text → IsWindow s text candidate → IsAt s text earlier (candidate.spot.offset + 1) pairs found left filter (candidates ++ candidate ∷ [])
-pushed s text earlier pairs found left filter candidates candidate at text_is its = record {
+pub pushed : (scan : Scan) (o crc : ℕ) (found : List (Option Spot)) (left : ℕ) (filter : Groups) (batch : List Candidate) → IsAt scan o found left filter batch → IsWhole scan o → crc ≡ crc_of scan o → IsAt scan (o + 1) found left filter (batch ++ record { spot = spot_in (length scan.earlier.now) o; crc = crc } ∷ [])
+pushed scan o crc found left filter batch at whole crc_is = record {
   tally = at.tally;
   answers = λ i h.
-      let pair : Pair = pair_at pairs i in
-      settled_more s text pair candidates candidate (answer_at found i)
-      ∙ ap (after_window (is_match pair (window s text candidate.spot.offset)) candidate.spot) (at.answers i h)
-      ∙ ap (λ t. after_window (is_match pair (window s text candidate.spot.offset)) (spot_in t candidate.spot.offset) (answer_below s text earlier candidate.spot.offset pairs i)) text_is
-      ∙ sym (below-more s text earlier candidate.spot.offset pairs i);
+      let pair : Pair = pair_at scan.wanted.now i in
+      settled_more scan pair batch candidate (answer_at found i)
+      ∙ ap (after_window (is_match pair (window_of scan o)) candidate.spot) (at.answers i h)
+      ∙ sym (below-more scan o pair);
   candidates = λ k h.
-      let Is : Candidate → Type 0 = λ c. IsWindow s text c in
-      elim (cases_lt k (length candidates)) [
-        | inl early ↦ subst Is (sym (get_or_append_left candidates (candidate ∷ []) no_candidate k early)) (at.candidates k early)
-        | inr late ↦ subst Is (sym (get_or_at candidates candidate [] no_candidate k (let e : length candidates ≡ k = omega (arith, late, h, length_push candidates candidate) in e))) its
+      let Is : Candidate → Type 0 = IsWindow scan in
+      elim (cases_lt k (length batch)) [
+        | inl early ↦ subst Is (sym (get_or_append_left batch (candidate ∷ []) no_candidate k early)) (at.candidates k early)
+        | inr late ↦ subst Is (sym (get_or_at batch candidate [] no_candidate k (let e : length batch ≡ k = omega (arith, late, h, length_push batch candidate) in e))) (record { whole = whole; crc = crc_is })
       ];
 }
+  where
+    candidate : Candidate
+    candidate = record { spot = spot_in (length scan.earlier.now) o; crc = crc }
 
 -- the candidates have been compared
-pub emptied : (s : ℕ) (text : List ℕ) (earlier : Earlier) (o : ℕ) (pairs : List Pair) (old new : List (Option Spot)) (left after : ℕ) (filter marks : Groups) (candidates rest : List Candidate) → IsAt s text earlier o pairs old left filter candidates → IsTally pairs new after marks → rest ≡ [] →
-    ((i : ℕ) → i < length pairs → answer_at new i ≡ after_candidates s text (pair_at pairs i) candidates (answer_at old i)) →
-    IsAt s text earlier o pairs new after marks rest
-emptied s text earlier o pairs old new left after filter marks candidates rest at tally empty all = record {
+pub emptied : (scan : Scan) (o : ℕ) (old new : List (Option Spot)) (left after : ℕ) (filter marks : Groups) (candidates rest : List Candidate) → IsAt scan o old left filter candidates → IsTally scan.wanted.now new after marks → rest ≡ [] →
+    ((i : ℕ) → i < length scan.wanted.now → answer_at new i ≡ after_candidates scan (pair_at scan.wanted.now i) candidates (answer_at old i)) →
+    IsAt scan o new after marks rest
+emptied scan o old new left after filter marks candidates rest at tally empty all = record {
   tally = tally;
   answers = λ i h.
-      ap (λ cs. after_candidates s text (pair_at pairs i) cs (answer_at new i)) empty
-      ∙ settled_none s text (pair_at pairs i) (answer_at new i)
+      none_settled scan (pair_at scan.wanted.now i) rest (answer_at new i) (ap length empty)
       ∙ all i h
       ∙ at.answers i h;
   candidates = λ k h. absurd (omega (arith, h, ap length empty));
@@ -237,35 +252,35 @@ none_answered pairs found left filter found_is left_is marked only = record {
       (its.0, its.1, ap (λ f. answer_at f its.0) found_is ∙ replicate_at (length pairs) its.0 None, its.2);
 }
 
+abbrev pub bytes_of : Bor (List ℕ) → List ℕ
+bytes_of text = text.now
+
 -- before the first offset
-pub at_start : (s : ℕ) (text : List ℕ) (earlier : Earlier) (pairs : List Pair) (found : List (Option Spot)) (left : ℕ) (filter : Groups) (candidates : List Candidate) → IsTally pairs found left filter → found ≡ earlier.before → candidates ≡ [] → IsAt s text earlier 0 pairs found left filter candidates
+pub at_start : (scan : Scan) (found : List (Option Spot)) (left : ℕ) (filter : Groups) (batch : List Candidate) → IsTally scan.wanted.now found left filter → ((i : ℕ) → i < length scan.wanted.now → answer_at found i ≡ earlier_answer scan (pair_at scan.wanted.now i)) → batch ≡ [] → IsAt scan 0 found left filter batch
 unfolding first_below
-at_start s text earlier pairs found left filter candidates tally found_is empty = record {
+at_start scan found left filter batch tally before empty = record {
   tally = tally;
   answers = λ i h.
-      ap (λ cs. after_candidates s text (pair_at pairs i) cs (answer_at found i)) empty
-      ∙ settled_none s text (pair_at pairs i) (answer_at found i)
-      ∙ ap (λ f. answer_at f i) found_is
-      ∙ or_nothing (answer_at earlier.before i);
+      let pair : Pair = pair_at scan.wanted.now i in
+      none_settled scan pair batch (answer_at found i) (ap length empty) ∙ before i h ∙ or_nothing (earlier_answer scan pair);
   candidates = λ k h. absurd (omega (arith, h, ap length empty));
 }
 
 -- where no pair is open, no offset more changes an answer
-pub none_left : (s : ℕ) (text : List ℕ) (earlier : Earlier) (o n : ℕ) (pairs : List Pair) (found : List (Option Spot)) (left : ℕ) (filter : Groups) (candidates : List Candidate) → IsAt s text earlier o pairs found left filter candidates → left ≡ 0 → IsAt s text earlier (o + n) pairs found left filter candidates
-none_left s text earlier o zero pairs found left filter candidates at none =
-    subst (λ (k : ℕ). IsAt s text earlier k pairs found left filter candidates) (let e : o ≡ o + 0 = omega arith in e) at
-none_left s text earlier o (suc n) pairs found left filter candidates at none =
-    subst (λ (k : ℕ). IsAt s text earlier k pairs found left filter candidates) (let e : o + n + 1 ≡ o + suc n = omega arith in e)
-    (no_more s text earlier (o + n) pairs found left filter candidates (none_left s text earlier o n pairs found left filter candidates at none)
-    (λ i h none_yet. absurd (none_counted (Option Spot) is_none found i None (sym at.tally.count ∙ none) (omega (arith, h, at.tally.len)) (ap is_none none_yet))))
+pub none_left : (scan : Scan) (o n : ℕ) (found : List (Option Spot)) (left : ℕ) (filter : Groups) (batch : List Candidate) → IsAt scan o found left filter batch → left ≡ 0 → IsAt scan (o + n) found left filter batch
+none_left scan o zero found left filter batch at none =
+    subst (λ (k : ℕ). IsAt scan k found left filter batch) (let e : o ≡ o + 0 = omega arith in e) at
+none_left scan o (suc n) found left filter batch at none =
+    subst (λ (k : ℕ). IsAt scan k found left filter batch) (let e : o + n + 1 ≡ o + suc n = omega arith in e)
+    (no_more scan (o + n) found left filter batch (crc_of scan (o + n)) (none_left scan o n found left filter batch at none) refl
+    (λ i h same none_yet. none_counted (Option Spot) is_none found i None (sym at.tally.count ∙ none) (omega (arith, h, at.tally.len)) (ap is_none none_yet)))
 
 -- at the end, when no candidate waits
-pub finished : (s : ℕ) (text : List ℕ) (earlier : Earlier) (pairs : List Pair) (found : List (Option Spot)) (left : ℕ) (filter : Groups) (batch : List Candidate) (i : ℕ) → IsAt s text earlier (length text) pairs found left filter batch → batch ≡ [] → i < length pairs
-    → answer_at found i ≡ option_or (answer_at earlier.before i) (option_map (spot_in earlier.text) (first_match s text (pair_at pairs i)))
+finished : (scan : Scan) (found : List (Option Spot)) (left : ℕ) (filter : Groups) (batch : List Candidate) (i : ℕ) → IsAt scan (length scan.bytes.now) found left filter batch → batch ≡ [] → i < length scan.wanted.now
+    → answer_at found i ≡ option_or (earlier_answer scan (pair_at scan.wanted.now i)) (option_map (spot_in (length scan.earlier.now)) (first_match scan.rolling.now.size scan.bytes.now (pair_at scan.wanted.now i)))
 unfolding first_below
-finished s text earlier pairs found left filter batch i at empty inside =
-    sym (ap (λ cs. after_candidates s text (pair_at pairs i) cs (answer_at found i)) empty ∙ settled_none s text (pair_at pairs i) (answer_at found i))
-    ∙ at.answers i inside
+finished scan found left filter batch i at empty inside =
+    sym (none_settled scan (pair_at scan.wanted.now i) batch (answer_at found i) (ap length empty)) ∙ at.answers i inside
 
 -- one text more
 first_spot-more : (n s : ℕ) (texts : List (List ℕ)) (text : List ℕ) (pair : Pair)
@@ -283,17 +298,13 @@ first_spot-more n s (t ∷ texts) text pair =
     or_or (Some x) b c = refl
 
 -- a text more has been searched
-pub text_done : (s : ℕ) (texts : List (List ℕ)) (k : ℕ) (earlier : Earlier) (pairs : List Pair) (found : List (Option Spot)) (left : ℕ) (filter : Groups) (batch : List Candidate) (i : ℕ) → k < length texts → earlier.text ≡ k
-    → IsAt s (get_or texts k []) earlier (length (get_or texts k [])) pairs found left filter batch → batch ≡ [] → i < length pairs
-    → answer_at earlier.before i ≡ first_spot s (take k texts) (pair_at pairs i) → answer_at found i ≡ first_spot s (take (k + 1) texts) (pair_at pairs i)
-text_done s texts k earlier pairs found left filter batch i inside text_is at empty low before =
-    let text : List ℕ = get_or texts k [] in
-    let pair : Pair = pair_at pairs i in
-    finished s text earlier pairs found left filter batch i at empty low
-    ∙ ap (λ o. option_or o (option_map (spot_in earlier.text) (first_match s text pair))) before
-    ∙ ap (λ n. option_or (first_spot s (take k texts) pair) (option_map (spot_in n) (first_match s text pair))) (text_is ∙ (let e : k ≡ 0 + length (take k texts) = omega (arith, inside, length-take k texts) in e))
-    ∙ sym (first_spot-more 0 s (take k texts) text pair)
-    ∙ ap (λ ts. first_spot s ts pair) (sym (take_more texts k [] inside))
+pub text_done : (scan : Scan) (found : List (Option Spot)) (left : ℕ) (filter : Groups) (batch : List Candidate) (i : ℕ) → IsAt scan (length scan.bytes.now) found left filter batch → batch ≡ [] → i < length scan.wanted.now
+    → answer_at found i ≡ first_spot scan.rolling.now.size (map bytes_of scan.earlier.now ++ scan.bytes.now ∷ []) (pair_at scan.wanted.now i)
+text_done scan found left filter batch i at empty inside =
+    let pair : Pair = pair_at scan.wanted.now i in
+    finished scan found left filter batch i at empty inside
+    ∙ ap (λ n. option_or (earlier_answer scan pair) (option_map (spot_in n) (first_match scan.rolling.now.size scan.bytes.now pair))) (let e : length scan.earlier.now ≡ 0 + length (map bytes_of scan.earlier.now) = omega (arith, length-map scan.earlier.now bytes_of) in e)
+    ∙ sym (first_spot-more 0 scan.rolling.now.size (map bytes_of scan.earlier.now) scan.bytes.now pair)
 
 -- the answers once each text has been searched
 pub all_done : (s : ℕ) (texts : List (List ℕ)) (pairs : List Pair) (found : List (Option Spot)) → length found ≡ length pairs → ((i : ℕ) → i < length pairs → answer_at found i ≡ first_spot s texts (pair_at pairs i)) → found ≡ map (first_spot s texts) pairs

@@ -1,5 +1,5 @@
 -- A window moves on by a byte.
-use Rattle.par2_slices.proofs.Common.{◌≡◌, ℕ, zero, suc, ◌+◌, ◌*◌, ◌<◌, List, [], ◌∷◌, ◌++◌, length, refl, sym, ap, ap₂, ◌∙◌, arith, bit_xor, crc_byte, crc_steps, crc32, crc32-slide, crc_steps-add, steps, after_slide, leaving}
+use Rattle.par2_slices.proofs.Common.{◌≡◌, ℕ, suc, ◌+◌, ◌*◌, List, [], ◌∷◌, ◌++◌, length, refl, sym, ap, ap₂, ◌∙◌, arith, bit_xor, crc_byte, crc_steps, crc32, crc32-slide, steps, after_slide, leaving}
 
 pub slid : (s out next before : ℕ) (rest : List ℕ) → length rest + 1 ≡ s → before ≡ crc32 (out ∷ rest) → after_slide s before out next ≡ crc32 (rest ++ next ∷ [])
 unfolding after_slide leaving steps
@@ -9,10 +9,6 @@ slid s out next before rest size before_is =
     (ap (λ t. bit_xor (crc_steps (8 * t) (crc32 (out ∷ []))) (crc32 (0 ∷ []))) (sym size ∙ (let e : length rest + 1 ≡ suc (length rest) = omega arith in e)))
     ∙ sym (crc32-slide out next rest)
 
-pub twice : (n x : ℕ) → steps 8 (steps n x) ≡ steps (n + 8) x
-unfolding steps
-twice n x = sym (crc_steps-add n 8 x)
-
 pub one_slide : (s value out next after adds : ℕ) → after ≡ crc_byte value next → adds ≡ leaving s out → bit_xor after adds ≡ after_slide s value out next
 unfolding after_slide
 one_slide s value out next after adds after_is adds_is = ap₂ bit_xor after_is adds_is
@@ -20,9 +16,3 @@ one_slide s value out next after adds after_is adds_is = ap₂ bit_xor after_is 
 pub none_less : (x : ℕ) → steps 0 x ≡ x
 unfolding steps
 none_less x = refl
-
-pub each_of_three : (P : ℕ → Type 0) → P 0 → P 1 → P 2 → (k : ℕ) → k < 3 → P k
-each_of_three P first second third zero low = first
-each_of_three P first second third (suc zero) low = second
-each_of_three P first second third (suc (suc zero)) low = third
-each_of_three P first second third (suc (suc (suc k))) low = absurd (omega (arith, low))

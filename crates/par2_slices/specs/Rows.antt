@@ -2,8 +2,9 @@
 use Rattle.std.specs.Prelude.{◌≡◌, [], ℕ, ◌+◌, ◌*◌, ◌<◌, ◌⊎◌, List, length, slice_index, slice_index_or}
 use Rattle.par2_spec.specs.Checksums.{Pair, crc32}
 use Rattle.par2_spec.specs.Windows.{window}
-use Rattle.par2_slices.specs.Searches.{AreAnswered, Earlier}
+use Rattle.par2_slices.specs.Scans.{AreAnswered, crc_of}
 use Rattle.par2_slices.specs.declared.rows.Row.{Row}
+use Rattle.par2_slices.specs.declared.scan.Scan.{Scan}
 
 abbrev pub no_row : Row
 no_row = record { at = 0; crcs = [] }
@@ -24,8 +25,8 @@ abbrev pub IsNoted : List Row → ℕ → Type 0
 IsNoted rows at = (j : ℕ) × (j < length rows) × ((row_at rows j).at ≡ at)
 
 -- of the first `count` rows of four stretches those in which a pair without an answer may have a window's checksum
-pub record AreRows (s : ℕ) (text : List ℕ) (earlier : Earlier) (start len : ℕ) (pairs : List Pair) (count : ℕ) (rows : List Row) : Type 0 where
+pub record AreRows (scan : Scan) (start len count : ℕ) (rows : List Row) : Type 0 where
   pub rising : (i j : ℕ) → i < j → j < length rows → (row_at rows i).at < (row_at rows j).at
   pub below : (j : ℕ) → j < length rows → (row_at rows j).at < count
-  pub crcs : (j : ℕ) → j < length rows → AreCrcs s text start len (row_at rows j).at (row_at rows j).crcs
-  pub others : (at : ℕ) → at < count → IsNoted rows at ⊎ ((k : ℕ) → k < 4 → AreAnswered s text earlier start pairs (crc_in s text start len k at))
+  pub crcs : (j : ℕ) → j < length rows → AreCrcs scan.rolling.now.size scan.bytes.now start len (row_at rows j).at (row_at rows j).crcs
+  pub others : (at : ℕ) → at < count → IsNoted rows at ⊎ ((k : ℕ) → k < 4 → AreAnswered scan start (crc_of scan (start + k * len + at)))

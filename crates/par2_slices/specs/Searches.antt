@@ -1,15 +1,14 @@
 -- A search for slices by their checksums, under way.
-use Rattle.std.specs.Prelude.{◌≡◌, ◌≢◌, [], ◌∷◌, ℕ, ◌/◌, ◌^◌, ◌<◌, ◌==◌, ◌&&◌, ◌+◌, ◌≤◌, Bool, cond, Option, Some, None, option_map, List, length, find, fold, slice_index, slice_index_or}
-use Rattle.std.specs.List.{count_by, range_with_len}
+use Rattle.std.specs.Prelude.{◌≡◌, ◌≢◌, [], ◌∷◌, ℕ, ◌/◌, ◌^◌, ◌<◌, ◌==◌, ◌&&◌, ◌+◌, ◌≤◌, Bool, cond, Option, Some, None, option_map, List, length, slice_index, slice_index_or}
+use Rattle.std.specs.List.{count_by}
 use Rattle.std.specs.List.Sorted.{IsNonDecreasingBy}
 use Rattle.std.specs.Option.{is_none, option_or}
 use Rattle.std.specs.Str.{bytes_eq}
-use Rattle.par2_spec.specs.Checksums.{Pair, crc32}
-use Rattle.par2_spec.specs.Windows.{first_match, is_match, window}
+use Rattle.par2_spec.specs.Checksums.{Pair}
+use Rattle.par2_spec.specs.Windows.{first_match}
 use Rattle.par2_slices.specs.Filters.{AreAlike, Groups, Marks}
 use Rattle.par2_slices.specs.declared.batch.Candidate.{Candidate}
 use Rattle.par2_slices.specs.declared.batch.Spot.{Spot}
-use Rattle.par2_slices.specs.declared.search.Search.{Search}
 use Rattle.par2_slices.specs.declared.wanted_pairs.Place.{Place}
 
 -- what a look beyond a list gives
@@ -44,10 +43,6 @@ pub record IsPlace (pairs : List Pair) (place : Place) : Type 0 where
 -- places of pairs, with their checksums
 abbrev pub ArePlaces : List Pair → List Place → Type 0
 ArePlaces pairs places = (k : ℕ) → k < length places → IsPlace pairs (place_at places k)
-
--- each is the place of an answer
-abbrev pub AreAmong : List (Option Spot) → List Place → Type 0
-AreAmong found places = (k : ℕ) → k < length places → (place_at places k).index < length found
 
 -- no pair has an answer
 abbrev pub AreOpen : List (Option Spot) → Type 0
@@ -97,39 +92,19 @@ after_window matches spot answer = option_or answer (cond matches (Some spot) No
 abbrev pub has_checksums : List ℕ → ℕ → Pair → Bool
 has_checksums md5 crc pair = crc == pair.1 && bytes_eq md5 pair.0
 
--- the least offset below `offset` at which the window matches the pair
-unfoldable pub first_below : ℕ → List ℕ → ℕ → Pair → Option ℕ
-first_below s text offset pair = find (λ o. is_match pair (window s text o)) (range_with_len 0 offset)
-
--- what comes before the search of a text: how many texts, which is its number, and the answers in them
-pub record Earlier : Type 0 where
-  pub text : ℕ
-  pub before : List (Option Spot)
-
 -- this offset of a text
 abbrev pub spot_in : ℕ → ℕ → Spot
 spot_in text offset = record { text = text; offset = offset }
 
--- the answer to a pair, where those before stand and each other is the least offset below `offset`
-abbrev pub answer_below : ℕ → List ℕ → Earlier → ℕ → List Pair → ℕ → Option Spot
-answer_below s text earlier offset pairs i =
-    option_or (answer_at earlier.before i) (option_map (spot_in earlier.text) (first_below s text offset (pair_at pairs i)))
+-- where a slice of these checksums first stands, in texts of which the first has this number: the first text with a window
+-- that matches, and the least offset there
+abbrev pub first_spot_from : ℕ → ℕ → List (List ℕ) → Pair → Option Spot
+first_spot_from n s [] pair = None
+first_spot_from n s (text ∷ texts) pair =
+    option_or (option_map (spot_in n) (first_match s text pair)) (first_spot_from (n + 1) s texts pair)
 
--- each pair of this checksum has its answer below `offset`
-abbrev pub AreAnswered : ℕ → List ℕ → Earlier → ℕ → List Pair → ℕ → Type 0
-AreAnswered s text earlier offset pairs crc = (i : ℕ) → i < length pairs → (pair_at pairs i).1 ≡ crc → answer_below s text earlier offset pairs i ≢ None
-
--- a window that lies in the text, and its checksum
-pub record IsWindow (s : ℕ) (text : List ℕ) (candidate : Candidate) : Type 0 where
-  pub within : candidate.spot.offset + s ≤ length text
-  pub crc : candidate.crc ≡ crc32 (window s text candidate.spot.offset)
-
-abbrev pub AreWindows : ℕ → List ℕ → List Candidate → Type 0
-AreWindows s text candidates = (k : ℕ) → k < length candidates → IsWindow s text (candidate_at candidates k)
-
--- an answer once the windows of the candidates have been compared with the pair, one after the other
-unfoldable pub after_candidates : ℕ → List ℕ → Pair → List Candidate → Option Spot → Option Spot
-after_candidates s text pair candidates answer = fold (λ so_far candidate. after_window (is_match pair (window s text candidate.spot.offset)) candidate.spot so_far) answer candidates
+abbrev pub first_spot : ℕ → List (List ℕ) → Pair → Option Spot
+first_spot s texts pair = first_spot_from 0 s texts pair
 
 -- the checksum is of the group of a pair without an answer
 abbrev pub IsOfOpenPair : List Pair → List (Option Spot) → ℕ → Type 0
@@ -141,22 +116,3 @@ pub record IsTally (pairs : List Pair) (found : List (Option Spot)) (left : ℕ)
   pub count : left ≡ count_by is_none found
   pub marked : (i : ℕ) → i < length pairs → answer_at found i ≡ None → Marks filter (pair_at pairs i).1
   pub only : (crc : ℕ) → Marks filter crc → IsOfOpenPair pairs found crc
-
--- a search that has looked at the offsets below `offset`: what it has found, and what the candidates add to it
-pub record IsAt (s : ℕ) (text : List ℕ) (earlier : Earlier) (offset : ℕ) (pairs : List Pair) (found : List (Option Spot)) (left : ℕ) (filter : Groups) (batch : List Candidate) : Type 0 where
-  pub tally : IsTally pairs found left filter
-  pub answers : (i : ℕ) → i < length pairs → after_candidates s text (pair_at pairs i) batch (answer_at found i) ≡ answer_below s text earlier offset pairs i
-  pub candidates : AreWindows s text batch
-
-abbrev pub IsSearching : ℕ → List ℕ → Earlier → ℕ → List Pair → Search → Type 0
-IsSearching s text earlier offset pairs search = IsAt s text earlier offset pairs search.found.items search.left search.filter search.batch.items
-
--- where a slice of these checksums first stands, in texts of which the first has this number: the first text with a window
--- that matches, and the least offset there
-abbrev pub first_spot_from : ℕ → ℕ → List (List ℕ) → Pair → Option Spot
-first_spot_from n s [] pair = None
-first_spot_from n s (text ∷ texts) pair =
-    option_or (option_map (spot_in n) (first_match s text pair)) (first_spot_from (n + 1) s texts pair)
-
-abbrev pub first_spot : ℕ → List (List ℕ) → Pair → Option Spot
-first_spot s texts pair = first_spot_from 0 s texts pair

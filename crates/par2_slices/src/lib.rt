@@ -9,6 +9,7 @@ mod matching;
 mod pairs;
 mod rolling;
 mod rows;
+mod scan;
 mod search;
 mod tables;
 mod wanted_pairs;

@@ -20,13 +20,14 @@ pub struct Rolling {
 }
 
 impl Model for Rolling {
+    ghost use Rattle.std.specs.Prelude.{◌≤◌};
     ghost use Rattle.par2_slices.specs.Rolls.{Roll, IsLeaving};
 
     ghost Value = { Roll };
 
     ghost view = { λ a. record { size = a.size; value = a.value } };
 
-    ghost invariant = { λ a. IsLeaving a.size a.leaving.value };
+    ghost invariant = { λ a. (1 ≤ a.size) × IsLeaving a.size a.leaving.value };
 }
 
 /// What each byte adds to the checksum when it leaves a window of `s` bytes.
@@ -54,6 +55,14 @@ impl Rolling {
             leaving: Box::new(alloc, leaving_table(s))?,
             value: 0,
         })
+    }
+
+    /// The size of the windows.
+    pub(crate) fn size(&self) -> u64
+        ensures value { result ≡ self.now.size }
+        ensures some { 1 ≤ result }
+    {
+        self.size
     }
 
     /// Begins at a window. A shorter one is padded with zeros.

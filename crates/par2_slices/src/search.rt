@@ -7,15 +7,16 @@ ghost use Rattle.par2_spec.specs.Answers.{Lists};
 ghost use Rattle.par2_spec.specs.Checksums.{crc32};
 ghost use Rattle.par2_spec.specs.Windows.{first_match, window};
 ghost use Rattle.par2_slices.specs.Rows.{AreRows};
-ghost use Rattle.par2_slices.specs.Searches.{after_window, candidate_at, has_checksums, is_awaited, answer_at, pair_at, place_at, first_spot, after_candidates, Earlier, AreAmong, AreOpen, ArePlaces, AreWindows, HaveAnswers, IsSearching, IsTally, IsWaiting};
+ghost use Rattle.par2_slices.specs.Scans.{crc_of, after_candidates, AreWindows, IsSearching, IsWhole};
+ghost use Rattle.par2_slices.specs.Searches.{after_window, candidate_at, has_checksums, is_awaited, answer_at, pair_at, place_at, first_spot, AreOpen, ArePlaces, HaveAnswers, IsTally, IsWaiting};
 
 use crate::batch::{Candidate, Spot, digests};
 use crate::checksum::padded_crc32;
-use crate::cutting::window_bytes;
 use crate::filter::{Filter, are_alike};
 use crate::pairs::{Pair, padded_md5};
 use crate::rolling::Rolling;
 use crate::rows::{Row, first_crcs, next_crcs};
+use crate::scan::Scan;
 use crate::wanted_pairs::{Place, Wanted};
 use arrayvec::ArrayVec;
 use par2_digests::LANES;
@@ -32,15 +33,9 @@ fn awaited(group: &[Place], crc: u32, found: &[Option<Spot>]) -> usize
 
 /// Whether a pair of the group whose CRC-32 the filter doesn't tell from this one has no answer yet.
 fn is_waiting(group: &[Place], crc: u32, found: &[Option<Spot>]) -> bool
-    requires { AreAmong found.now group.now }
     ensures { IsTrue result ↔ IsWaiting group.now crc found.now }
 {
-    for place in group {
-        if are_alike(crc, place.crc) && found[place.index].is_none() {
-            return true;
-        }
-    }
-    false
+    group.iter().any(|place| are_alike(crc, place.crc) && place.is_awaited(place.crc, found))
 }
 
 /// Whether no candidate has this CRC-32.
@@ -48,12 +43,7 @@ fn is_new(candidates: &[Candidate], crc: u32) -> bool
     ensures { IsTrue result ↔ ((k : ℕ) → k < length candidates.now
         → ¬ ((candidate_at candidates.now k).crc ≡ crc)) }
 {
-    for candidate in candidates {
-        if candidate.crc == crc {
-            return false;
-        }
-    }
-    true
+    candidates.iter().all(|candidate| candidate.crc != crc)
 }
 
 /// Gives each pair that has these checksums and no answer yet the candidate's spot, and counts them.
@@ -144,14 +134,13 @@ impl Search {
     }
 
     /// Compares the candidates of the batch, in the order of their offsets, and empties it.
-    fn settle_batch(&mut self, wanted: &Wanted, bytes: &[u8], s: u64)
-        requires tally { IsTally wanted.now self.old.found.items self.old.left self.old.filter }
-        requires candidates { AreWindows s bytes.now self.old.batch.items }
-        ensures tally { IsTally wanted.now self.new.found.items self.new.left self.new.filter }
-        ensures each { (i : ℕ)
-            → i < length wanted.now → answer_at self.new.found.items i
-            ≡ after_candidates s bytes.now
-            (pair_at wanted.now i) self.old.batch.items (answer_at self.old.found.items i) }
+    fn settle_batch(&mut self, scan: &Scan)
+        requires tally { IsTally scan.now.wanted.now self.old.found.items self.old.left self.old.filter }
+        requires candidates { AreWindows scan.now self.old.batch.items }
+        ensures tally { IsTally scan.now.wanted.now self.new.found.items self.new.left self.new.filter }
+        ensures each { (i : ℕ) → i < length scan.now.wanted.now → answer_at self.new.found.items i
+            ≡ after_candidates scan.now
+            (pair_at scan.now.wanted.now i) self.old.batch.items (answer_at self.old.found.items i) }
         ensures batch { self.new.batch.items ≡ [] }
     {
         if self.batch.is_empty() {
@@ -160,51 +149,52 @@ impl Search {
         let batch = self.batch.take();
         self.awaited = 0;
         let candidates = batch.as_slice();
-        let digests = digests(bytes, s, candidates);
+        let digests = digests(scan.bytes, scan.rolling.size(), candidates);
         for (k, &candidate) in candidates.iter().enumerate() {
-            self.answer(wanted, candidate, &digests[k]);
+            self.answer(scan.wanted, candidate, &digests[k]);
         }
     }
 
     /// Settles a full batch, one that has a candidate of this CRC-32, and each one before a window that reaches past the
     /// end of the file.
     // Of windows of one CRC-32 the first mostly answers each pair that waits for it: then the others need no MD5.
-    fn make_room(&mut self, wanted: &Wanted, bytes: &[u8], s: u64, offset: usize, crc: u32)
-        ghost earlier: { Earlier }
-        requires at { IsSearching s bytes.now earlier offset wanted.now self.old }
-        requires within { offset < length bytes.now }
-        ensures at { IsSearching s bytes.now earlier offset wanted.now self.new }
+    fn make_room(&mut self, scan: &Scan, offset: usize, crc: u32)
+        requires at { IsSearching scan.now offset self.old }
+        requires within { offset < length scan.now.bytes.now }
+        ensures at { IsSearching scan.now offset self.new }
         ensures room { length self.new.batch.items < 8 }
-        ensures short { length bytes.now < offset + s → self.new.batch.items ≡ [] }
+        ensures short { ¬ (IsWhole scan.now offset) → self.new.batch.items ≡ [] }
     {
-        let is_whole = window_bytes(bytes, s, offset).len() as u64 == s;
-        if !is_whole || self.batch.is_full() || !is_new(self.batch.as_slice(), crc) {
-            self.settle_batch(wanted, bytes, s);
+        if !scan.is_whole(offset) || self.batch.is_full() || !is_new(self.batch.as_slice(), crc) {
+            self.settle_batch(scan);
         }
     }
 
-    /// Puts a candidate, for which `pairs` open pairs wait, into the batch. A window that reaches past the end of the file
-    /// is compared at once, since the batch has whole windows only.
-    fn put(&mut self, wanted: &Wanted, bytes: &[u8], s: u64, candidate: Candidate, pairs: usize)
-        ghost earlier: { Earlier }
-        requires at { IsSearching s bytes.now earlier candidate.spot.offset wanted.now self.old }
-        requires within { candidate.spot.offset < length bytes.now }
-        requires text { candidate.spot.text ≡ earlier.text }
-        requires crc { candidate.crc ≡ crc32 (window s bytes.now candidate.spot.offset) }
+    /// Puts the window at `offset`, for which `pairs` open pairs wait, into the batch. One that reaches past the end of the
+    /// file is compared at once, since the batch has whole windows only.
+    fn put(&mut self, scan: &Scan, offset: usize, crc: u32, pairs: usize)
+        requires at { IsSearching scan.now offset self.old }
+        requires within { offset < length scan.now.bytes.now }
+        requires crc { crc ≡ crc_of scan.now offset }
         requires room { length self.old.batch.items < 8 }
-        requires short { length bytes.now < candidate.spot.offset + s → self.old.batch.items ≡ [] }
-        ensures { IsSearching s bytes.now earlier (candidate.spot.offset + 1) wanted.now self.new }
+        requires short { ¬ (IsWhole scan.now offset) → self.old.batch.items ≡ [] }
+        ensures { IsSearching scan.now (offset + 1) self.new }
     {
-        let window = window_bytes(bytes, s, candidate.spot.offset);
-        if (window.len() as u64) < s {
-            self.answer(wanted, candidate, &padded_md5(window, s));
+        let text = scan.earlier.len();
+        let candidate = Candidate {
+            spot: Spot { text, offset },
+            crc,
+        };
+        if !scan.is_whole(offset) {
+            let md5 = padded_md5(scan.window(offset), scan.rolling.size());
+            self.answer(scan.wanted, candidate, &md5);
             return;
         }
         self.batch.push(candidate);
         self.awaited = self.awaited.saturating_add(pairs);
         if self.awaited >= self.left {
             // Each open pair may get its answer now, and then the search need not go on to fill the batch.
-            self.settle_batch(wanted, bytes, s);
+            self.settle_batch(scan);
         }
     }
 
@@ -212,51 +202,47 @@ impl Search {
     // Few are, and the loop over all offsets is faster without these lines in it.
     #[cold]
     #[inline(never)]
-    fn look(&mut self, wanted: &Wanted, bytes: &[u8], s: u64, spot: Spot, crc: u32)
-        ghost earlier: { Earlier }
-        requires at { IsSearching s bytes.now earlier spot.offset wanted.now self.old }
-        requires text { spot.text ≡ earlier.text }
-        requires within { spot.offset < length bytes.now }
-        requires crc { crc ≡ crc32 (window s bytes.now spot.offset) }
-        ensures { IsSearching s bytes.now earlier (spot.offset + 1) wanted.now self.new }
+    fn look(&mut self, scan: &Scan, offset: usize, crc: u32)
+        requires at { IsSearching scan.now offset self.old }
+        requires within { offset < length scan.now.bytes.now }
+        requires crc { crc ≡ crc_of scan.now offset }
+        ensures { IsSearching scan.now (offset + 1) self.new }
     {
-        self.make_room(wanted, bytes, s, spot.offset, crc);
-        let pairs = awaited(wanted.group(crc), crc, &self.found);
+        self.make_room(scan, offset, crc);
+        let pairs = awaited(scan.wanted.group(crc), crc, &self.found);
         if pairs > 0 {
-            self.put(wanted, bytes, s, Candidate { spot, crc }, pairs);
+            self.put(scan, offset, crc, pairs);
         }
     }
 
     /// Looks at the window at `offset`, whose CRC-32 is `crc`.
-    fn test(&mut self, wanted: &Wanted, bytes: &[u8], s: u64, spot: Spot, crc: u32)
-        ghost earlier: { Earlier }
-        requires at { IsSearching s bytes.now earlier spot.offset wanted.now self.old }
-        requires text { spot.text ≡ earlier.text }
-        requires within { spot.offset < length bytes.now }
-        requires crc { crc ≡ crc32 (window s bytes.now spot.offset) }
-        ensures { IsSearching s bytes.now earlier (spot.offset + 1) wanted.now self.new }
+    fn test(&mut self, scan: &Scan, offset: usize, crc: u32)
+        requires at { IsSearching scan.now offset self.old }
+        requires within { offset < length scan.now.bytes.now }
+        requires crc { crc ≡ crc_of scan.now offset }
+        ensures { IsSearching scan.now (offset + 1) self.new }
     {
         if self.filter.contains(crc) {
-            self.look(wanted, bytes, s, spot, crc);
+            self.look(scan, offset, crc);
         }
     }
 
-    /// Whether a pair without an answer may have this CRC-32.
+    /// Whether a pair without an answer has this CRC-32.
     fn awaits(&self, wanted: &Wanted, crc: u32) -> bool
         requires { IsTally wanted.now self.now.found.items self.now.left self.now.filter }
-        ensures { ¬ (IsTrue result) → HaveAnswers wanted.now self.now.found.items crc }
+        ensures { ¬ (IsTrue result) ↔ HaveAnswers wanted.now self.now.found.items crc }
     {
         self.filter.contains(crc) && awaited(wanted.group(crc), crc, &self.found) > 0
     }
 
-    /// Whether a pair without an answer may have one of these CRC-32s.
+    /// Whether a pair without an answer has one of these CRC-32s.
     // Few rows get here, as `look`.
     #[cold]
     #[inline(never)]
     fn awaits_any(&self, wanted: &Wanted, crcs: [u32; 4]) -> bool
         requires { IsTally wanted.now self.now.found.items self.now.left self.now.filter }
-        ensures { ¬ (IsTrue result) → (k : ℕ) → k < 4
-            → HaveAnswers wanted.now self.now.found.items (slice_index crcs k) }
+        ensures { ¬ (IsTrue result) ↔ ((k : ℕ) → k < 4
+            → HaveAnswers wanted.now self.now.found.items (slice_index crcs k)) }
     {
         for crc in crcs {
             if self.awaits(wanted, crc) {
@@ -268,28 +254,18 @@ impl Search {
 
     /// The rows of four stretches of `LEN` offsets in which a pair without an answer may have the CRC-32 of a window. None
     /// where there are more than `MOST_ROWS`.
-    fn rows<const LEN: usize>(
-        &self,
-        wanted: &Wanted,
-        bytes: &[u8],
-        s: u64,
-        start: usize,
-        rolling: &Rolling,
-    ) -> Option<ArrayVec<Row, MOST_ROWS>>
-        ghost earlier: { Earlier }
-        requires some { 1 ≤ s }
-        requires at { IsSearching s bytes.now earlier start wanted.now self.now }
-        requires size { rolling.now.size ≡ s }
-        requires within { start + 4 * LEN + s ≤ length bytes.now }
-        ensures { IfSome result (λ rows.
-            AreRows s bytes.now earlier start LEN wanted.now LEN rows.items) }
+    fn rows<const LEN: usize>(&self, scan: &Scan, start: usize) -> Option<ArrayVec<Row, MOST_ROWS>>
+        requires at { IsSearching scan.now start self.now }
+        requires within { IsWhole scan.now (start + 4 * LEN) }
+        ensures { IfSome result (λ rows. AreRows scan.now start LEN LEN rows.items) }
     {
-        let outs = bytes_from(bytes, start as u64);
-        let nexts = bytes_from(outs, s);
-        let mut crcs = first_crcs::<LEN>(bytes, s, start);
+        let rolling = scan.rolling;
+        let outs = bytes_from(scan.bytes, start as u64);
+        let nexts = bytes_from(outs, rolling.size());
+        let mut crcs = first_crcs::<LEN>(scan.bytes, rolling.size(), start);
         let mut rows = ArrayVec::new();
         for at in 0..LEN {
-            if self.filter.may_contain_any(&crcs) && self.awaits_any(wanted, crcs) {
+            if self.filter.may_contain_any(&crcs) && self.awaits_any(scan.wanted, crcs) {
                 if rows.is_full() {
                     return None;
                 }
@@ -301,142 +277,89 @@ impl Search {
     }
 
     /// Looks at the windows of stretch `k`, of four of `len` offsets, that stand in the rows: no other is wanted.
-    fn test_stretch(
-        &mut self,
-        wanted: &Wanted,
-        bytes: &[u8],
-        s: u64,
-        start: Spot,
-        rows: &[Row],
-        len: usize,
-        k: usize,
-    )
-        ghost earlier: { Earlier }
-        requires at { IsSearching s bytes.now earlier (start.offset + k * len) wanted.now self.old }
-        requires text { start.text ≡ earlier.text }
+    fn test_stretch(&mut self, scan: &Scan, start: usize, rows: &[Row], len: usize, k: usize)
+        requires at { IsSearching scan.now (start + k * len) self.old }
         requires stretch { k < 4 }
-        requires within { start.offset + 4 * len ≤ length bytes.now }
-        requires rows { AreRows s bytes.now earlier start.offset len wanted.now len rows.now }
-        ensures { IsSearching s bytes.now earlier (start.offset + (k + 1) * len) wanted.now self.new }
+        requires within { start + 4 * len ≤ length scan.now.bytes.now }
+        requires rows { AreRows scan.now start len len rows.now }
+        ensures { IsSearching scan.now (start + (k + 1) * len) self.new }
     {
-        let Spot { text, offset } = start;
         for row in rows {
-            let offset = offset + k * len + row.at;
-            self.test(wanted, bytes, s, Spot { text, offset }, row.crcs[k]);
+            self.test(scan, start + k * len + row.at, row.crcs[k]);
         }
     }
 
     /// Looks at the windows of four stretches of `LEN` offsets, in their order.
-    fn search_four<const LEN: usize>(
-        &mut self,
-        wanted: &Wanted,
-        bytes: &[u8],
-        s: u64,
-        start: Spot,
-        rolling: &Rolling,
-    )
-        ghost earlier: { Earlier }
-        requires text { start.text ≡ earlier.text }
-        requires some { 1 ≤ s }
-        requires within { start.offset + 4 * LEN + s ≤ length bytes.now }
-        requires at { IsSearching s bytes.now earlier start.offset wanted.now self.old }
-        requires size { rolling.now.size ≡ s }
-        ensures { IsSearching s bytes.now earlier (start.offset + 4 * LEN) wanted.now self.new }
+    fn search_four<const LEN: usize>(&mut self, scan: &Scan, start: usize)
+        requires within { IsWhole scan.now (start + 4 * LEN) }
+        requires at { IsSearching scan.now start self.old }
+        ensures { IsSearching scan.now (start + 4 * LEN) self.new }
     {
-        let Some(rows) = self.rows::<LEN>(wanted, bytes, s, start.offset, rolling) else {
-            self.one_by_one(wanted, bytes, s, start, start.offset + 4 * LEN, rolling);
+        let Some(rows) = self.rows::<LEN>(scan, start) else {
+            self.one_by_one(scan, start, start + 4 * LEN);
             return;
         };
         for k in 0..4usize {
-            self.test_stretch(wanted, bytes, s, start, rows.as_slice(), LEN, k);
+            self.test_stretch(scan, start, rows.as_slice(), LEN, k);
         }
     }
 
-    /// Looks at windows from `start` on by four stretches of `LEN` offsets, as often as they are whole. Gives the spot
+    /// Looks at windows from `start` on by four stretches of `LEN` offsets, as often as they are whole. Gives the offset
     /// after them.
-    fn by_stretches<const LEN: usize>(
-        &mut self,
-        wanted: &Wanted,
-        bytes: &[u8],
-        s: u64,
-        start: Spot,
-        rolling: &Rolling,
-    ) -> Spot
-        ghost earlier: { Earlier }
-        requires text { start.text ≡ earlier.text }
-        requires some { 1 ≤ s }
+    fn by_stretches<const LEN: usize>(&mut self, scan: &Scan, start: usize) -> usize
         requires stretch { 1 ≤ LEN }
-        requires within { start.offset ≤ length bytes.now }
-        requires at { IsSearching s bytes.now earlier start.offset wanted.now self.old }
-        requires size { rolling.now.size ≡ s }
-        ensures text { result.text ≡ earlier.text }
-        ensures within { result.offset ≤ length bytes.now }
-        ensures at { IsSearching s bytes.now earlier result.offset wanted.now self.new }
+        requires within { start ≤ length scan.now.bytes.now }
+        requires at { IsSearching scan.now start self.old }
+        ensures within { result ≤ length scan.now.bytes.now }
+        ensures at { IsSearching scan.now result self.new }
     {
-        let mut spot = start;
-        while !self.is_finished() && is_fit(bytes.len() - spot.offset, s, LEN) {
-            self.search_four::<LEN>(wanted, bytes, s, spot, rolling);
-            spot.offset += 4 * LEN;
+        let mut offset = start;
+        while !self.is_finished() && is_fit(scan.bytes.len() - offset, scan.rolling.size(), LEN) {
+            self.search_four::<LEN>(scan, offset);
+            offset += 4 * LEN;
         }
-        spot
+        offset
     }
 
-    /// Looks at the windows from `start` up to the offset `end`, one by one.
-    fn one_by_one(
-        &mut self,
-        wanted: &Wanted,
-        bytes: &[u8],
-        s: u64,
-        start: Spot,
-        end: usize,
-        rolling: &Rolling,
-    )
-        ghost earlier: { Earlier }
-        requires text { start.text ≡ earlier.text }
-        requires some { 1 ≤ s }
-        requires from { start.offset ≤ end }
-        requires within { end ≤ length bytes.now }
-        requires at { IsSearching s bytes.now earlier start.offset wanted.now self.old }
-        requires size { rolling.now.size ≡ s }
-        ensures { IsSearching s bytes.now earlier end wanted.now self.new }
+    /// Looks at the windows from `start` up to `end`, one by one.
+    fn one_by_one(&mut self, scan: &Scan, start: usize, end: usize)
+        requires from { start ≤ end }
+        requires within { end ≤ length scan.now.bytes.now }
+        requires at { IsSearching scan.now start self.old }
+        ensures { IsSearching scan.now end self.new }
     {
-        let Spot { text, offset } = start;
-        let incoming = bytes_from(bytes, s);
-        let mut crc = padded_crc32(window_bytes(bytes, s, offset), s);
-        for offset in offset..end {
+        let Scan { rolling, bytes, .. } = *scan;
+        let incoming = bytes_from(bytes, rolling.size());
+        let mut crc = padded_crc32(scan.window(start), rolling.size());
+        for offset in start..end {
             if self.is_finished() {
                 break;
             }
-            self.test(wanted, bytes, s, Spot { text, offset }, crc);
+            self.test(scan, offset, crc);
             crc = rolling.slid(crc, bytes[offset], byte_at(incoming, offset));
         }
     }
 
     /// Searches a text for the pairs without an answer.
-    fn search_text(&mut self, wanted: &Wanted, text: usize, bytes: &[u8], s: u64, rolling: &Rolling)
-        ghost earlier: { Earlier }
-        requires text { text ≡ earlier.text }
-        requires some { 1 ≤ s }
-        requires at { IsSearching s bytes.now earlier 0 wanted.now self.old }
+    fn search_text(&mut self, scan: &Scan)
+        requires at { IsSearching scan.now 0 self.old }
         requires empty { self.old.batch.items ≡ [] }
-        requires size { rolling.now.size ≡ s }
-        ensures at { IsSearching s bytes.now earlier (length bytes.now) wanted.now self.new }
+        ensures at { IsSearching scan.now (length scan.now.bytes.now) self.new }
         ensures empty { self.new.batch.items ≡ [] }
     {
         if self.is_finished() {
             return;
         }
         // No length is a multiple of a page: the nearest caches would have the same few places for all four stretches.
-        let spot = Spot { text, offset: 0 };
-        let spot = self.by_stretches::<4198464>(wanted, bytes, s, spot, rolling);
-        let spot = self.by_stretches::<1052736>(wanted, bytes, s, spot, rolling);
-        let spot = self.by_stretches::<266304>(wanted, bytes, s, spot, rolling);
-        let spot = self.by_stretches::<69696>(wanted, bytes, s, spot, rolling);
-        let spot = self.by_stretches::<20544>(wanted, bytes, s, spot, rolling);
-        let spot = self.by_stretches::<4160>(wanted, bytes, s, spot, rolling);
-        let spot = self.by_stretches::<1088>(wanted, bytes, s, spot, rolling);
-        self.one_by_one(wanted, bytes, s, spot, bytes.len(), rolling);
-        self.settle_batch(wanted, bytes, s);
+        let offset = self.by_stretches::<4198464>(scan, 0);
+        let offset = self.by_stretches::<1052736>(scan, offset);
+        let offset = self.by_stretches::<266304>(scan, offset);
+        let offset = self.by_stretches::<69696>(scan, offset);
+        let offset = self.by_stretches::<20544>(scan, offset);
+        let offset = self.by_stretches::<4160>(scan, offset);
+        let offset = self.by_stretches::<1088>(scan, offset);
+        self.one_by_one(scan, offset, scan.bytes.len());
+        self.settle_batch(scan);
     }
 }
 
@@ -470,11 +393,11 @@ fn byte_at(bytes: &[u8], at: usize) -> u8
 /// For each pair the first text with a window of `s` bytes that matches it, zeros standing past the end of the text, and
 /// the least offset of such a window there; None where there is none.
 ///
-/// It costs one slide and one look at a filter for each offset, the CRC-32 of eight bytes at most, and an MD5 of `s` bytes for each window whose CRC
-/// is that of a pair without an answer. Up to eight of these MD5s are computed side by side, which takes about a fourth
-/// of the time; where fewer such windows follow each other, an MD5 costs at most what it does alone. At worst each window
-/// has such a CRC and none the MD5: then it costs an MD5 of `s` bytes for each offset, which only pairs that were made
-/// for it lead to. A text costs nothing for the pairs that aren't found in it.
+/// It costs one slide and one look at a filter for each offset, the CRC-32 of eight bytes at most, and an MD5 of `s` bytes
+/// for each window whose CRC is that of a pair without an answer. Up to eight of these MD5s are computed side by side,
+/// which takes about a fourth of the time; where fewer such windows follow each other, an MD5 costs at most what it does
+/// alone. At worst each window has such a CRC and none the MD5: then it costs an MD5 of `s` bytes for each offset, which
+/// only pairs that were made for it lead to. A text costs nothing for the pairs that aren't found in it.
 pub fn find_among(
     alloc: Global,
     texts: &[&[u8]],
@@ -487,7 +410,12 @@ pub fn find_among(
     let rolling = Rolling::new(alloc, s)?;
     let mut search = Search::new(alloc, wanted)?;
     for (text, bytes) in texts.iter().enumerate() {
-        search.search_text(wanted, text, bytes, s, &rolling);
+        search.search_text(&Scan {
+            wanted,
+            rolling: &rolling,
+            earlier: &texts[..text],
+            bytes,
+        });
     }
     Ok(search.found)
 }

@@ -5,8 +5,5 @@ abbrev pub invariant-loop-text : goal.invariant-loop-text
 invariant-loop-text l = record {
   tally : IsTally l.wanted l.search.found.items l.search.left l.search.filter;
   empty : l.search.batch.items ≡ [];
-  answers : (i : ℕ) → i < length l.wanted → answer_at l.search.found.items i ≡ first_spot l.s (take l.text (map (λ text. text.now) l.texts)) (pair_at l.wanted i);
+  answers : (i : ℕ) → i < length l.wanted → answer_at l.search.found.items i ≡ first_spot l.s (map (λ text. text.now) (take l.text l.texts)) (pair_at l.wanted i);
 }
-
-abbrev pub ghost-search_text : goal.ghost-search_text
-ghost-search_text a = record { text = a.text; before = a.self.now.found.items }
