@@ -1,5 +1,5 @@
 -- Windows that are passed over, since each pair of their checksums has its answer.
-use Rattle.par2_slices.proofs.Common.{◌≡◌, ◌≢◌, ℕ, zero, suc, ◌+◌, ◌-◌, ◌*◌, ◌<◌, ◌≤◌, Bool, List, [], ◌∷◌, ◌++◌, length, drop, get_or, refl, sym, ap, subst, ◌∙◌, inl, inr, arith, below_more, get_or-drop, get_or_append_left, get_or_at, length_push, after_slide, AreCrcs, AreRows, IsNoted, crc_of, row_at, ◌⊎◌, Option, None, Some, Pair, crc32, is_match, window, cases_lt, window_of, Groups, Candidate, Scan, Spot, IsAt, AreAnswered, pair_at, answer_below, after_window, spot_in, Row, no_row}
+use Rattle.par2_slices.proofs.Common.{◌≡◌, ℕ, zero, suc, ◌+◌, ◌-◌, ◌*◌, ◌<◌, ◌≤◌, Bool, List, [], ◌∷◌, ◌++◌, length, drop, get_or, refl, sym, ap, subst, ◌∙◌, inl, inr, arith, below_more, get_or-drop, get_or_append_left, get_or_at, length_push, after_slide, AreCrcs, AreRows, IsNoted, crc_of, row_at, ◌⊎◌, Option, None, Some, is_match, cases_lt, window_of, Groups, Candidate, Scan, Spot, IsAt, AreAnswered, pair_at, answer_below, after_window, spot_in, Row, no_row}
 use Rattle.par2_slices.proofs.NextWindows.{slid_window}
 use Rattle.par2_slices.proofs.Searching.{below-more, passed-one}
 

@@ -1,6 +1,6 @@
 -- Windows of four stretches of a text, side by side.
 use Rattle.std.specs.Prelude.{◌≡◌, [], ℕ, ◌+◌, ◌*◌, ◌<◌, ◌⊎◌, List, length, slice_index, slice_index_or}
-use Rattle.par2_spec.specs.Checksums.{Pair, crc32}
+use Rattle.par2_spec.specs.Checksums.{crc32}
 use Rattle.par2_spec.specs.Windows.{window}
 use Rattle.par2_slices.specs.Scans.{AreAnswered, crc_of}
 use Rattle.par2_slices.specs.declared.rows.Row.{Row}

@@ -50,6 +50,9 @@ AreWindows scan candidates = (k : ℕ) → k < length candidates → IsWindow sc
 unfoldable pub after_candidates : Scan → Pair → List Candidate → Option Spot → Option Spot
 after_candidates scan pair candidates answer = fold (λ so_far candidate. after_window (is_match pair (window_of scan candidate.spot.offset)) candidate.spot so_far) answer candidates
 
+abbrev pub IsTallied : List Pair → Search → Type 0
+IsTallied pairs search = IsTally pairs search.found.items search.left search.filter
+
 -- a search that has looked at the offsets below `offset`: what it has found, and what the candidates add to it
 pub record IsAt (scan : Scan) (offset : ℕ) (found : List (Option Spot)) (left : ℕ) (filter : Groups) (batch : List Candidate) : Type 0 where
   pub tally : IsTally scan.wanted.now found left filter

@@ -7,8 +7,8 @@ ghost use Rattle.par2_spec.specs.Answers.{Lists};
 ghost use Rattle.par2_spec.specs.Checksums.{crc32};
 ghost use Rattle.par2_spec.specs.Windows.{first_match, window};
 ghost use Rattle.par2_slices.specs.Rows.{AreRows};
-ghost use Rattle.par2_slices.specs.Scans.{crc_of, after_candidates, AreWindows, IsSearching, IsWhole};
-ghost use Rattle.par2_slices.specs.Searches.{after_window, candidate_at, has_checksums, is_awaited, answer_at, pair_at, place_at, first_spot, AreOpen, ArePlaces, HaveAnswers, IsTally, IsWaiting};
+ghost use Rattle.par2_slices.specs.Scans.{crc_of, after_candidates, AreWindows, IsSearching, IsTallied, IsWhole};
+ghost use Rattle.par2_slices.specs.Searches.{after_window, candidate_at, has_checksums, is_awaited, answer_at, pair_at, place_at, first_spot, AreOpen, ArePlaces, HaveAnswers, IsWaiting};
 
 use crate::batch::{Candidate, Spot, digests};
 use crate::checksum::padded_crc32;
@@ -90,8 +90,7 @@ struct Search {
 impl Search {
     /// Before the first text.
     fn new(alloc: Global, wanted: &Wanted) -> Result<Search>
-        ensures tally { IfOk result
-            (λ search. IsTally wanted.now search.found.items search.left search.filter) }
+        ensures tally { IfOk result (λ search. IsTallied wanted.now search) }
         ensures open { IfOk result (λ search. AreOpen search.found.items) }
         ensures batch { IfOk result (λ search. search.batch.items ≡ []) }
     {
@@ -118,8 +117,8 @@ impl Search {
 
     /// Gives the pairs that have these checksums and no answer yet the candidate's offset.
     fn answer(&mut self, wanted: &Wanted, candidate: Candidate, md5: &[u8; 16])
-        requires { IsTally wanted.now self.old.found.items self.old.left self.old.filter }
-        ensures tally { IsTally wanted.now self.new.found.items self.new.left self.new.filter }
+        requires { IsTallied wanted.now self.old }
+        ensures tally { IsTallied wanted.now self.new }
         ensures each { (i : ℕ) → i < length wanted.now → answer_at self.new.found.items i
             ≡ after_window (has_checksums md5.now candidate.crc (pair_at wanted.now i))
             candidate.spot
@@ -135,9 +134,9 @@ impl Search {
 
     /// Compares the candidates of the batch, in the order of their offsets, and empties it.
     fn settle_batch(&mut self, scan: &Scan)
-        requires tally { IsTally scan.now.wanted.now self.old.found.items self.old.left self.old.filter }
+        requires tally { IsTallied scan.now.wanted.now self.old }
         requires candidates { AreWindows scan.now self.old.batch.items }
-        ensures tally { IsTally scan.now.wanted.now self.new.found.items self.new.left self.new.filter }
+        ensures tally { IsTallied scan.now.wanted.now self.new }
         ensures each { (i : ℕ) → i < length scan.now.wanted.now → answer_at self.new.found.items i
             ≡ after_candidates scan.now
             (pair_at scan.now.wanted.now i) self.old.batch.items (answer_at self.old.found.items i) }
@@ -181,10 +180,8 @@ impl Search {
         ensures { IsSearching scan.now (offset + 1) self.new }
     {
         let text = scan.earlier.len();
-        let candidate = Candidate {
-            spot: Spot { text, offset },
-            crc,
-        };
+        let spot = Spot { text, offset };
+        let candidate = Candidate { spot, crc };
         if !scan.is_whole(offset) {
             let md5 = padded_md5(scan.window(offset), scan.rolling.size());
             self.answer(scan.wanted, candidate, &md5);
@@ -229,7 +226,7 @@ impl Search {
 
     /// Whether a pair without an answer has this CRC-32.
     fn awaits(&self, wanted: &Wanted, crc: u32) -> bool
-        requires { IsTally wanted.now self.now.found.items self.now.left self.now.filter }
+        requires { IsTallied wanted.now self.now }
         ensures { ¬ (IsTrue result) ↔ HaveAnswers wanted.now self.now.found.items crc }
     {
         self.filter.contains(crc) && awaited(wanted.group(crc), crc, &self.found) > 0
@@ -240,16 +237,11 @@ impl Search {
     #[cold]
     #[inline(never)]
     fn awaits_any(&self, wanted: &Wanted, crcs: [u32; 4]) -> bool
-        requires { IsTally wanted.now self.now.found.items self.now.left self.now.filter }
+        requires { IsTallied wanted.now self.now }
         ensures { ¬ (IsTrue result) ↔ ((k : ℕ) → k < 4
             → HaveAnswers wanted.now self.now.found.items (slice_index crcs k)) }
     {
-        for crc in crcs {
-            if self.awaits(wanted, crc) {
-                return true;
-            }
-        }
-        false
+        crcs.iter().any(|&crc| self.awaits(wanted, crc))
     }
 
     /// The rows of four stretches of `LEN` offsets in which a pair without an answer may have the CRC-32 of a window. None
@@ -260,8 +252,8 @@ impl Search {
         ensures { IfSome result (λ rows. AreRows scan.now start LEN LEN rows.items) }
     {
         let rolling = scan.rolling;
-        let outs = bytes_from(scan.bytes, start as u64);
-        let nexts = bytes_from(outs, rolling.size());
+        let outs = &scan.bytes[start..];
+        let nexts = &outs[rolling.size() as usize..];
         let mut crcs = first_crcs::<LEN>(scan.bytes, rolling.size(), start);
         let mut rows = ArrayVec::new();
         for at in 0..LEN {
@@ -329,14 +321,15 @@ impl Search {
         ensures { IsSearching scan.now end self.new }
     {
         let Scan { rolling, bytes, .. } = *scan;
-        let incoming = bytes_from(bytes, rolling.size());
+        let incoming = &bytes[(rolling.size() as usize).min(bytes.len())..];
         let mut crc = padded_crc32(scan.window(start), rolling.size());
         for offset in start..end {
             if self.is_finished() {
                 break;
             }
             self.test(scan, offset, crc);
-            crc = rolling.slid(crc, bytes[offset], byte_at(incoming, offset));
+            let next = incoming.get(offset).copied().unwrap_or(0);
+            crc = rolling.slid(crc, bytes[offset], next);
         }
     }
 
@@ -370,24 +363,6 @@ fn is_fit(left: usize, s: u64, len: usize) -> bool
 {
     let is_long = s <= left as u64 && len <= (left - s as usize) / 4;
     is_long && s / 8 <= len as u64 && len as u64 / 32 <= s
-}
-
-/// The bytes of the file from `start` on.
-fn bytes_from(bytes: &[u8], start: u64) -> &[u8]
-    ensures { result.now ≡ drop start bytes.now }
-{
-    if start < bytes.len() as u64 {
-        &bytes[start as usize..]
-    } else {
-        &[]
-    }
-}
-
-/// The byte at a place, 0 past the end.
-fn byte_at(bytes: &[u8], at: usize) -> u8
-    ensures { result ≡ slice_index bytes.now at }
-{
-    if at < bytes.len() { bytes[at] } else { 0 }
 }
 
 /// For each pair the first text with a window of `s` bytes that matches it, zeros standing past the end of the text, and

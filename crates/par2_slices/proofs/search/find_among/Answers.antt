@@ -1,4 +1,4 @@
-use Rattle.par2_slices.proofs.Common.{◌∙◌, ℕ, List, map, take, sym, ap, ap₂, arith, map_more, take_all, Bor, Pair, first_spot, pair_at}
+use Rattle.par2_slices.proofs.Common.{◌∙◌, ℕ, List, map, take, sym, ap, ap₂, arith, map_more, take_all, Pair, first_spot, pair_at}
 use Rattle.par2_slices.proofs.Searching.{all_done, at_start, bytes_of, text_done}
 use Rattle.par2_slices.proofs.search.find_among.Goals as goal
 

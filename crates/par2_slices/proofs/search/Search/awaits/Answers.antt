@@ -1,4 +1,4 @@
-use Rattle.par2_slices.proofs.Common.{◌≡◌, ◌∙◌, List, sym, subst, arith, false_from_ne_true, Option, count_by, Spot, is_awaited}
+use Rattle.par2_slices.proofs.Common.{◌≡◌, List, subst, arith, false_from_ne_true, Option, count_by, Spot, is_awaited}
 use Rattle.std.proofs.lemmas.Bool.{ltb-false, ltb-true}
 use Rattle.par2_slices.proofs.Searching.{all_answered, unawaited}
 use Rattle.par2_slices.proofs.search.Search.awaits.Goals as goal

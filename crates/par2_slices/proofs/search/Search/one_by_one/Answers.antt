@@ -1,4 +1,5 @@
-use Rattle.par2_slices.proofs.Common.{◌≡◌, ◌∙◌, ◌+◌, ◌-◌, ◌≤◌, ℕ, List, get_or, refl, ap, subst, arith, get_or-drop, IsAt}
+use Rattle.par2_slices.proofs.Common.{◌≡◌, ◌∙◌, ◌+◌, ◌-◌, ◌≤◌, ℕ, List, get_or, refl, ap, subst, arith, get_or-drop, drop, length, rules, take, IsAt}
+use Rattle.std.proofs.lemmas.List.{drop_min, take_rest}
 use Rattle.par2_slices.proofs.Searching.{none_left}
 use Rattle.par2_slices.proofs.NextWindows.{slid_window}
 use Rattle.par2_slices.proofs.search.Search.one_by_one.Goals as goal
@@ -8,8 +9,9 @@ loop-offset-preserved c =
     let s : ℕ = c.args.scan.now.rolling.now.size in
     let text : List ℕ = c.args.scan.now.bytes.now in
     let o : ℕ = c.loop-offset.offset in
-    let next : ℕ = c.byte_at.result in
-    let next_is : next ≡ get_or text (s + o) 0 = c.byte_at.ensures ∙ ap (λ t. get_or t o 0) c.bytes_from-incoming.ensures ∙ get_or-drop _ text o 0 ∙ ap (λ s. get_or text (s + o) 0) c.size.ensures.value in
+    let next : ℕ = c.unwrap_or-next.result in
+    let incoming_is = take_rest text c.min.result ∙ ap (λ n. drop n text) c.min.ensures ∙ drop_min c.size.result text ∙ ap (λ s. drop s text) c.size.ensures.value in
+    let next_is : next ≡ get_or text (s + o) 0 = (let read : next ≡ get_or (take (length text - c.min.result) (drop c.min.result text)) o 0 = search rules in read) ∙ ap (λ t. get_or t o 0) incoming_is ∙ get_or-drop s text o 0 in
     record {
       at = c.test.ensures;
       value = c.slid-crc.ensures ∙ slid_window s text o c.loop-offset.crc (get_or text o 0) next (subst (λ (s : ℕ). 1 ≤ s) c.size.ensures.value c.size.ensures.some) c.loop-offset.invariant.value refl next_is;

@@ -1,4 +1,4 @@
-use Rattle.par2_slices.proofs.Common.{◌≡◌, ◌∙◌, ◌+◌, ℕ, List, true, false, take, drop, ap₂, sym, subst, md5, padded, Candidate, IsAt}
+use Rattle.par2_slices.proofs.Common.{◌≡◌, ◌∙◌, ◌+◌, ℕ, List, true, false, ap₂, sym, subst, md5, padded, Candidate, IsAt}
 use Rattle.par2_slices.proofs.Searching.{compared, emptied, pushed}
 use Rattle.par2_slices.proofs.search.Search.put.Goals as goal
 use Rattle.par2_slices.proofs.search.Search.put.Goals.{After-push}

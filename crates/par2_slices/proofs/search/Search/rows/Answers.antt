@@ -1,4 +1,5 @@
-use Rattle.par2_slices.proofs.Common.{◌≡◌, ◌∙◌, ◌+◌, ◌*◌, ◌<◌, ◌≤◌, ℕ, List, true, false, drop, get_or, sym, ap, subst, crc_of, AreRows, HaveAnswers, Row}
+use Rattle.par2_slices.proofs.Common.{◌≡◌, ◌∙◌, ◌+◌, ◌*◌, ◌<◌, ◌≤◌, ℕ, List, true, false, take, drop, length, ◌-◌, get_or, sym, ap, subst, crc_of, AreRows, HaveAnswers, Row}
+use Rattle.std.proofs.lemmas.List.{take_rest}
 use Rattle.par2_slices.proofs.Passing.{next_row, noted, skipped}
 use Rattle.par2_slices.proofs.Searching.{answered, unmarked}
 use Rattle.par2_slices.proofs.search.Search.rows.Goals as goal
@@ -13,6 +14,7 @@ loop-at-preserved g c =
     let at : ℕ = c.loop-at.at in
     let are = c.loop-at.invariant.are in
     let crcs = c.loop-at.invariant.crcs in
+    let outs : List ℕ = take (length scan.bytes.now - start) (drop start scan.bytes.now) in
     let Are : List Row → Type 0 = λ rows. AreRows scan start len (at + 1) rows in
     let Have : ℕ → Type 0 = HaveAnswers scan.wanted.now search.found.items in
     let free : ((k : ℕ) → k < 4 → Have (get_or c.loop-at.crcs k 0)) → Are c.loop-at.rows.items = λ have.
@@ -30,5 +32,5 @@ loop-at-preserved g c =
                   (λ marks. let both : true ≡ false = sym (c.may_contain_any.ensures k h marks) ∙ v.if-may_contain_any.false in cc)
             ]))
       ];
-      crcs = next_row scan start len at c.loop-at.crcs c.next_crcs-crcs.result c.bytes_from-outs.result.now c.bytes_from-nexts.result.now (subst (λ (s : ℕ). 1 ≤ s) c.size.ensures.value c.size.ensures.some) c.bytes_from-outs.ensures (c.bytes_from-nexts.ensures ∙ ap (λ s. drop s c.bytes_from-outs.result.now) c.size.ensures.value) crcs c.next_crcs-crcs.ensures;
+      crcs = next_row scan start len at c.loop-at.crcs c.next_crcs-crcs.result _ _ (subst (λ (s : ℕ). 1 ≤ s) c.size.ensures.value c.size.ensures.some) (take_rest scan.bytes.now start) (take_rest _ c.size.result ∙ ap (λ s. drop s outs) c.size.ensures.value) crcs c.next_crcs-crcs.ensures;
     }

@@ -1,4 +1,4 @@
-use Rattle.par2_slices.proofs.Common.{◌≡◌, ◌∙◌, ◌+◌, ◌-◌, ℕ, ◌<◌, List, length, drop, ap, sym, subst, arith, Option, eqb-true, md5, Pair, Candidate, Spot, after_window, candidate_at, answer_at, pair_at, after_candidates, window, window_of, IsWindow}
+use Rattle.par2_slices.proofs.Common.{◌≡◌, ◌∙◌, ◌+◌, ◌-◌, ℕ, ◌<◌, List, length, drop, ap, sym, subst, arith, Option, eqb-true, md5, Pair, Candidate, Spot, after_window, candidate_at, answer_at, pair_at, after_candidates, window, IsWindow}
 use Rattle.std.proofs.Common.{length-drop}
 use Rattle.par2_slices.proofs.Searching.{matches, none_settled, settled_from}
 use Rattle.par2_slices.proofs.search.Search.settle_batch.Goals as goal
