@@ -68,15 +68,6 @@ passed-to scan start len k j m rows found left filter batch are stretch inside f
       | inr late ↦ (let more : m ≤ (row_at rows i).at = after i late h in omega (arith, more, is, low))
     ]
 
--- no rows yet
-pub no-rows : (scan : Scan) (start len : ℕ) → AreRows scan start len 0 []
-no-rows scan start len = record {
-  rising = λ i j less h. absurd (omega (arith, h));
-  below = λ j h. absurd (omega (arith, h));
-  crcs = λ j h. absurd (omega (arith, h));
-  others = λ at h. absurd (omega (arith, h));
-}
-
 -- a row that isn't noted
 pub skipped : (scan : Scan) (start len at : ℕ) (rows : List Row) → AreRows scan start len at rows
     → ((k : ℕ) → k < 4 → AreAnswered scan start (crc_of scan (start + k * len + at))) → AreRows scan start len (at + 1) rows
