@@ -1,6 +1,6 @@
 -- Sets of groups of checksums.
 use Prim.Native.Nat.{max}
-use Rattle.par2_slices.proofs.Common.{◌≡◌, ◌≢◌, ℕ, zero, suc, ◌+◌, ◌-◌, ◌*◌, ◌^◌, ◌<◌, ◌%◌, ◌/◌, List, length, get_or, set, replicate, refl, subst, sym, ap, ◌∙◌, get_or-set_same, get_or-set_other, arith, inl, inr, ◌⊎◌, bit_and, bit_or, w8, bit_at, bit_not, cases_eq, get_or_read, shr_below, suc-ne-zero, Groups, Marks}
+use Rattle.par2_slices.proofs.Common.{◌≡◌, ◌≢◌, ℕ, zero, suc, ◌+◌, ◌-◌, ◌*◌, ◌^◌, ◌<◌, ◌%◌, ◌/◌, List, length, length-replicate, get_or, set, replicate, refl, subst, sym, ap, ◌∙◌, get_or-set_same, get_or-set_other, arith, inl, inr, ◌⊎◌, bit_and, bit_or, w8, bit_at, bit_not, cases_eq, get_or_read, shr_below, suc-ne-zero, Groups, IsLong, Marks}
 use Rattle.std.proofs.lemmas.Nat.Bits.{bit_at_or, bit_at-zero, bit_at_set_same, bit_at_set_other, bit_at_clear_same, bit_at_clear_other}
 
 pub within : (crc shift : ℕ) → crc < 2 ^ 32 → shift < 32 → crc / 2 ^ shift < 2 ^ (32 - shift)
@@ -8,48 +8,55 @@ within crc shift fits low =
     let split : 32 ≡ 32 - shift + shift = omega (arith, low) in
     shr_below crc (32 - shift) shift (subst (λ (k : ℕ). crc < 2 ^ k) split fits)
 
--- a checksum's byte is one of 2^15, and what is read there
-pub its_place : (crc : ℕ) (bytes : List ℕ) → crc < 2 ^ 32 → length bytes ≡ 2 ^ 18 → crc / 2 ^ 14 < length bytes
-its_place crc bytes fits size = omega (arith, within crc 14 fits (omega arith), size)
+pub below : {shift : ℕ} → (shift ≡ 13) ⊎ (shift ≡ 15) → (n : ℕ) → 15 < n → shift < n
+below (inl few) n low = omega (arith, few, low)
+below (inr many) n low = omega (arith, many, low)
 
-pub byte_read : (crc byte : ℕ) (bytes : List ℕ) → crc < 2 ^ 32 → length bytes ≡ 2 ^ 18 → byte ≡ get_or bytes (crc / 2 ^ 14) byte → byte ≡ get_or bytes (crc / 2 ^ 14) 0
-byte_read crc byte bytes fits size is = get_or_read bytes (crc / 2 ^ 14) byte (its_place crc bytes fits size) is 0
+-- a checksum's byte is there, and what is read there
+pub its_place : (shift crc : ℕ) (bytes : List ℕ) → crc < 2 ^ 32 → IsLong shift bytes → crc / 2 ^ shift < length bytes
+its_place shift crc bytes fits long = subst (λ (n : ℕ). crc / 2 ^ shift < n) (sym long.len) (within crc shift fits (below long.either 32 (omega arith)))
+
+pub byte_read : (shift crc byte : ℕ) (bytes : List ℕ) → crc < 2 ^ 32 → IsLong shift bytes → byte ≡ get_or bytes (crc / 2 ^ shift) byte → byte ≡ get_or bytes (crc / 2 ^ shift) 0
+byte_read shift crc byte bytes fits long is = get_or_read bytes (crc / 2 ^ shift) byte (its_place shift crc bytes fits long) is 0
 
 pub replicate_at : {X : Type 0} (n i : ℕ) (x : X) → get_or (replicate n x) i x ≡ x
 replicate_at zero i x = refl
 replicate_at (suc n) zero x = refl
 replicate_at (suc n) (suc i) x = replicate_at n i x
 
+pub zeros_long : (n : ℕ) (bytes : List ℕ) → bytes ≡ replicate n 0 → length bytes ≡ n
+zeros_long n bytes is = ap length is ∙ length-replicate {A = ℕ} n 0
+
 -- bytes of zeros have no group
 pub none_marked : (groups : Groups) (n crc : ℕ) → ◌≡◌ {A = List ℕ} groups.bytes (replicate n 0) → Marks groups crc → ⊥
 none_marked groups n crc empty is =
-    let group : ℕ = crc / 2 ^ 14 in
+    let group : ℕ = crc / 2 ^ groups.shift in
     let byte : get_or groups.bytes group 0 ≡ 0 = ap (λ bytes. get_or bytes group 0) empty ∙ replicate_at n group 0 in
     suc-ne-zero 0 (sym is.bit ∙ ap (λ w. bit_at w (crc % 8)) byte ∙ bit_at-zero (crc % 8))
 
 -- the bytes with the group's bit set, and with the bit cleared
-abbrev pub with_bit : ℕ → List ℕ → Groups
-with_bit crc bytes = record { bytes = set bytes (crc / 2 ^ 14) (bit_or (get_or bytes (crc / 2 ^ 14) 0) (1 * 2 ^ (crc % 8) % 2 ^ 8)) }
+abbrev pub with_bit : ℕ → ℕ → List ℕ → Groups
+with_bit shift crc bytes = record { shift = shift; bytes = set bytes (crc / 2 ^ shift) (bit_or (get_or bytes (crc / 2 ^ shift) 0) (1 * 2 ^ (crc % 8) % 2 ^ 8)) }
 
-abbrev pub without_bit : ℕ → List ℕ → Groups
-without_bit crc bytes = record { bytes = set bytes (crc / 2 ^ 14) (bit_and (get_or bytes (crc / 2 ^ 14) 0) (bit_not w8 (1 * 2 ^ (crc % 8) % 2 ^ 8))) }
+abbrev pub without_bit : ℕ → ℕ → List ℕ → Groups
+without_bit shift crc bytes = record { shift = shift; bytes = set bytes (crc / 2 ^ shift) (bit_and (get_or bytes (crc / 2 ^ shift) 0) (bit_not w8 (1 * 2 ^ (crc % 8) % 2 ^ 8))) }
 
 -- a group's bit where another byte was put into its place, and where it was put into another place
-in_place : (crc other byte : ℕ) (bytes : List ℕ) → crc / 2 ^ 14 < length bytes → other / 2 ^ 14 ≡ crc / 2 ^ 14 → bit_at (get_or (set bytes (crc / 2 ^ 14) byte) (other / 2 ^ 14) 0) (other % 8) ≡ bit_at byte (other % 8)
-in_place crc other byte bytes place same =
-    ap (λ i. bit_at (get_or (set bytes (crc / 2 ^ 14) byte) i 0) (other % 8)) same
-    ∙ ap (λ w. bit_at w (other % 8)) (get_or-set_same bytes (crc / 2 ^ 14) byte 0 place)
+in_place : (shift crc other byte : ℕ) (bytes : List ℕ) → crc / 2 ^ shift < length bytes → other / 2 ^ shift ≡ crc / 2 ^ shift → bit_at (get_or (set bytes (crc / 2 ^ shift) byte) (other / 2 ^ shift) 0) (other % 8) ≡ bit_at byte (other % 8)
+in_place shift crc other byte bytes place same =
+    ap (λ i. bit_at (get_or (set bytes (crc / 2 ^ shift) byte) i 0) (other % 8)) same
+    ∙ ap (λ w. bit_at w (other % 8)) (get_or-set_same bytes (crc / 2 ^ shift) byte 0 place)
 
-elsewhere : (crc other byte : ℕ) (bytes : List ℕ) → other / 2 ^ 14 ≢ crc / 2 ^ 14 → bit_at (get_or (set bytes (crc / 2 ^ 14) byte) (other / 2 ^ 14) 0) (other % 8) ≡ bit_at (get_or bytes (other / 2 ^ 14) 0) (other % 8)
-elsewhere crc other byte bytes apart = ap (λ w. bit_at w (other % 8)) (get_or-set_other bytes (crc / 2 ^ 14) (other / 2 ^ 14) byte 0 apart)
+elsewhere : (shift crc other byte : ℕ) (bytes : List ℕ) → other / 2 ^ shift ≢ crc / 2 ^ shift → bit_at (get_or (set bytes (crc / 2 ^ shift) byte) (other / 2 ^ shift) 0) (other % 8) ≡ bit_at (get_or bytes (other / 2 ^ shift) 0) (other % 8)
+elsewhere shift crc other byte bytes apart = ap (λ w. bit_at w (other % 8)) (get_or-set_other bytes (crc / 2 ^ shift) (other / 2 ^ shift) byte 0 apart)
 
 -- the bit in the byte of the same place
-here : (crc other : ℕ) (bytes : List ℕ) → other / 2 ^ 14 ≡ crc / 2 ^ 14 → bit_at (get_or bytes (other / 2 ^ 14) 0) (other % 8) ≡ bit_at (get_or bytes (crc / 2 ^ 14) 0) (other % 8)
-here crc other bytes same = ap (λ i. bit_at (get_or bytes i 0) (other % 8)) same
+here : (shift crc other : ℕ) (bytes : List ℕ) → other / 2 ^ shift ≡ crc / 2 ^ shift → bit_at (get_or bytes (other / 2 ^ shift) 0) (other % 8) ≡ bit_at (get_or bytes (crc / 2 ^ shift) 0) (other % 8)
+here shift crc other bytes same = ap (λ i. bit_at (get_or bytes i 0) (other % 8)) same
 
-pub marked : (crc : ℕ) (bytes : List ℕ) → crc / 2 ^ 14 < length bytes → Marks (with_bit crc bytes) crc
-marked crc bytes place =
-    record { bit = in_place crc crc _ bytes place refl ∙ bit_at_set_same w8 (get_or bytes (crc / 2 ^ 14) 0) (crc % 8) (omega arith) }
+pub marked : (shift crc : ℕ) (bytes : List ℕ) → crc / 2 ^ shift < length bytes → Marks (with_bit shift crc bytes) crc
+marked shift crc bytes place =
+    record { bit = in_place shift crc crc _ bytes place refl ∙ bit_at_set_same w8 (get_or bytes (crc / 2 ^ shift) 0) (crc % 8) (omega arith) }
 
 -- a bit of a byte stays where another is set
 stays : (byte k j : ℕ) → k < 8 → bit_at byte j ≡ 1 → bit_at (bit_or byte (1 * 2 ^ k % 2 ^ 8)) j ≡ 1
@@ -58,40 +65,40 @@ stays byte k j low is = elim (cases_eq j k) [
   | inr other ↦ bit_at_set_other w8 byte k low j other ∙ is
 ]
 
-pub kept_by_insert : (crc : ℕ) (bytes : List ℕ) → crc / 2 ^ 14 < length bytes → (other : ℕ) → Marks (record { bytes = bytes }) other → Marks (with_bit crc bytes) other
-kept_by_insert crc bytes place other is = elim (cases_eq (other / 2 ^ 14) (crc / 2 ^ 14)) [
-  | inl same ↦ record { bit = in_place crc other _ bytes place same ∙ stays (get_or bytes (crc / 2 ^ 14) 0) (crc % 8) (other % 8) (omega arith) (sym (here crc other bytes same) ∙ is.bit) }
-  | inr apart ↦ record { bit = elsewhere crc other _ bytes apart ∙ is.bit }
+pub kept_by_insert : (shift crc : ℕ) (bytes : List ℕ) → crc / 2 ^ shift < length bytes → (other : ℕ) → Marks (record { shift = shift; bytes = bytes }) other → Marks (with_bit shift crc bytes) other
+kept_by_insert shift crc bytes place other is = elim (cases_eq (other / 2 ^ shift) (crc / 2 ^ shift)) [
+  | inl same ↦ record { bit = in_place shift crc other _ bytes place same ∙ stays (get_or bytes (crc / 2 ^ shift) 0) (crc % 8) (other % 8) (omega arith) (sym (here shift crc other bytes same) ∙ is.bit) }
+  | inr apart ↦ record { bit = elsewhere shift crc other _ bytes apart ∙ is.bit }
 ]
 
-pub only_by_insert : (crc : ℕ) (bytes : List ℕ) → crc / 2 ^ 14 < length bytes → (other : ℕ) → Marks (with_bit crc bytes) other → (other / 2 ^ 14 ≡ crc / 2 ^ 14) × (other % 8 ≡ crc % 8) ⊎ Marks (record { bytes = bytes }) other
-only_by_insert crc bytes place other is = elim (cases_eq (other / 2 ^ 14) (crc / 2 ^ 14)) [
+pub only_by_insert : (shift crc : ℕ) (bytes : List ℕ) → crc / 2 ^ shift < length bytes → (other : ℕ) → Marks (with_bit shift crc bytes) other → (other / 2 ^ shift ≡ crc / 2 ^ shift) × (other % 8 ≡ crc % 8) ⊎ Marks (record { shift = shift; bytes = bytes }) other
+only_by_insert shift crc bytes place other is = elim (cases_eq (other / 2 ^ shift) (crc / 2 ^ shift)) [
   | inl same ↦ elim (cases_eq (other % 8) (crc % 8)) [
     | inl low ↦ inl (same, low)
-    | inr apart ↦ inr (record { bit = here crc other bytes same ∙ sym (bit_at_set_other w8 (get_or bytes (crc / 2 ^ 14) 0) (crc % 8) (omega arith) (other % 8) apart) ∙ sym (in_place crc other _ bytes place same) ∙ is.bit })
+    | inr apart ↦ inr (record { bit = here shift crc other bytes same ∙ sym (bit_at_set_other w8 (get_or bytes (crc / 2 ^ shift) 0) (crc % 8) (omega arith) (other % 8) apart) ∙ sym (in_place shift crc other _ bytes place same) ∙ is.bit })
   ]
-  | inr apart ↦ inr (record { bit = sym (elsewhere crc other _ bytes apart) ∙ is.bit })
+  | inr apart ↦ inr (record { bit = sym (elsewhere shift crc other _ bytes apart) ∙ is.bit })
 ]
 
-pub gone : (crc : ℕ) (bytes : List ℕ) → crc / 2 ^ 14 < length bytes → Marks (without_bit crc bytes) crc → ⊥
-gone crc bytes place is =
-    suc-ne-zero 0 (sym is.bit ∙ in_place crc crc _ bytes place refl ∙ bit_at_clear_same w8 (get_or bytes (crc / 2 ^ 14) 0) (crc % 8) (omega arith))
+pub gone : (shift crc : ℕ) (bytes : List ℕ) → crc / 2 ^ shift < length bytes → Marks (without_bit shift crc bytes) crc → ⊥
+gone shift crc bytes place is =
+    suc-ne-zero 0 (sym is.bit ∙ in_place shift crc crc _ bytes place refl ∙ bit_at_clear_same w8 (get_or bytes (crc / 2 ^ shift) 0) (crc % 8) (omega arith))
 
-pub kept_by_remove : (crc : ℕ) (bytes : List ℕ) → crc / 2 ^ 14 < length bytes → (other : ℕ) → ((other / 2 ^ 14 ≡ crc / 2 ^ 14) × (other % 8 ≡ crc % 8) → ⊥) → Marks (record { bytes = bytes }) other → Marks (without_bit crc bytes) other
-kept_by_remove crc bytes place other differs is = elim (cases_eq (other / 2 ^ 14) (crc / 2 ^ 14)) [
-  | inl same ↦ record { bit = in_place crc other _ bytes place same ∙ bit_at_clear_other w8 (get_or bytes (crc / 2 ^ 14) 0) (crc % 8) (omega arith) (other % 8) (omega arith) (λ low. differs (same, low)) ∙ sym (here crc other bytes same) ∙ is.bit }
-  | inr apart ↦ record { bit = elsewhere crc other _ bytes apart ∙ is.bit }
+pub kept_by_remove : (shift crc : ℕ) (bytes : List ℕ) → crc / 2 ^ shift < length bytes → (other : ℕ) → ((other / 2 ^ shift ≡ crc / 2 ^ shift) × (other % 8 ≡ crc % 8) → ⊥) → Marks (record { shift = shift; bytes = bytes }) other → Marks (without_bit shift crc bytes) other
+kept_by_remove shift crc bytes place other differs is = elim (cases_eq (other / 2 ^ shift) (crc / 2 ^ shift)) [
+  | inl same ↦ record { bit = in_place shift crc other _ bytes place same ∙ bit_at_clear_other w8 (get_or bytes (crc / 2 ^ shift) 0) (crc % 8) (omega arith) (other % 8) (omega arith) (λ low. differs (same, low)) ∙ sym (here shift crc other bytes same) ∙ is.bit }
+  | inr apart ↦ record { bit = elsewhere shift crc other _ bytes apart ∙ is.bit }
 ]
 
-pub only_by_remove : (crc : ℕ) (bytes : List ℕ) → crc / 2 ^ 14 < length bytes → (other : ℕ) → Marks (without_bit crc bytes) other → Marks (record { bytes = bytes }) other
-only_by_remove crc bytes place other is = elim (cases_eq (other / 2 ^ 14) (crc / 2 ^ 14)) [
+pub only_by_remove : (shift crc : ℕ) (bytes : List ℕ) → crc / 2 ^ shift < length bytes → (other : ℕ) → Marks (without_bit shift crc bytes) other → Marks (record { shift = shift; bytes = bytes }) other
+only_by_remove shift crc bytes place other is = elim (cases_eq (other / 2 ^ shift) (crc / 2 ^ shift)) [
   | inl same ↦
-      let byte : ℕ = get_or bytes (crc / 2 ^ 14) 0 in
+      let byte : ℕ = get_or bytes (crc / 2 ^ shift) 0 in
       let cleared : ℕ = bit_and byte (bit_not w8 (1 * 2 ^ (crc % 8) % 2 ^ 8)) in
-      let still : bit_at cleared (other % 8) ≡ 1 = sym (in_place crc other cleared bytes place same) ∙ is.bit in
+      let still : bit_at cleared (other % 8) ≡ 1 = sym (in_place shift crc other cleared bytes place same) ∙ is.bit in
       let apart : other % 8 ≢ crc % 8 = λ low. suc-ne-zero 0 (sym still ∙ ap (bit_at cleared) low ∙ bit_at_clear_same w8 byte (crc % 8) (omega arith)) in
-      record { bit = here crc other bytes same ∙ sym (bit_at_clear_other w8 byte (crc % 8) (omega arith) (other % 8) (omega arith) apart) ∙ still }
-  | inr apart ↦ record { bit = sym (elsewhere crc other _ bytes apart) ∙ is.bit }
+      record { bit = here shift crc other bytes same ∙ sym (bit_at_clear_other w8 byte (crc % 8) (omega arith) (other % 8) (omega arith) apart) ∙ still }
+  | inr apart ↦ record { bit = sym (elsewhere shift crc other _ bytes apart) ∙ is.bit }
 ]
 
 -- what has a bit isn't zero, and what has the bits of both has each

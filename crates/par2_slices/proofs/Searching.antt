@@ -1,5 +1,5 @@
 -- A search under way.
-use Rattle.par2_slices.proofs.Common.{shr-shr, ◌≡◌, ℕ, zero, suc, ◌+◌, ◌-◌, ◌*◌, ◌/◌, ◌%◌, ◌^◌, ◌<◌, Bool, true, false, cond, List, [], ◌∷◌, ◌++◌, length, map, drop, get_or, set, replicate, refl, sym, ap, subst, ◌∙◌, get_or-set_same, get_or-set_other, inl, inr, arith, ◌⊎◌, ◌==◌, Option, Some, None, find, option_map, bit_at, count_by, list_all, range_with_len, is_none, option_or, bytes_eq, and_from, and_left, and_right, cases_eq, cases_lt, eq-eqb, ne_eqb, length-replicate, length-map, get_or-map, ext_get_or, get_or_append_left, get_or_at, length_push, drop_more, find-append, sum_by-zero, sum_by-replicate, list_all_at, md5, Pair, is_match, first_match, range-append, or_nothing, AreAlike, Groups, Marks, no_pair, IsOfOpenPair, no_place, no_candidate, pair_at, place_at, candidate_at, answer_at, answer_below, spot_in, first_spot, first_spot_from, HoldsGroup, is_awaited, after_window, has_checksums, IsWindow, IsTally, IsAt, after_candidates, first_below, Candidate, Spot, Place, sum_by-set, Scan, window_of, crc_of, earlier_answer, AreAnswered, HaveAnswers, Bor, and_parts, false_from_ne_true, none_from, eqb-true, All-from_get_or, IsWhole}
+use Rattle.par2_slices.proofs.Common.{shr-shr, ◌≡◌, ℕ, zero, suc, ◌+◌, ◌-◌, ◌*◌, ◌/◌, ◌%◌, ◌^◌, ◌<◌, ◌≤◌, Bool, true, false, cond, List, [], ◌∷◌, ◌++◌, length, map, drop, get_or, set, replicate, refl, sym, ap, subst, ◌∙◌, get_or-set_same, get_or-set_other, inl, inr, arith, ◌⊎◌, ◌==◌, Option, Some, None, find, option_map, bit_at, count_by, list_all, range_with_len, is_none, option_or, bytes_eq, and_from, and_left, and_right, cases_eq, cases_lt, eq-eqb, ne_eqb, length-replicate, length-map, get_or-map, ext_get_or, get_or_append_left, get_or_at, length_push, drop_more, find-append, sum_by-zero, sum_by-replicate, list_all_at, md5, Pair, is_match, first_match, range-append, or_nothing, AreAlike, Groups, Marks, no_pair, IsOfOpenPair, no_place, no_candidate, pair_at, place_at, candidate_at, answer_at, answer_below, spot_in, first_spot, first_spot_from, HoldsGroup, is_awaited, after_window, has_checksums, IsWindow, IsTally, IsAt, after_candidates, first_below, Candidate, Spot, Place, sum_by-set, Scan, window_of, crc_of, earlier_answer, AreAnswered, HaveAnswers, Bor, and_parts, false_from_ne_true, none_from, eqb-true, All-from_get_or, IsWhole}
 use Rattle.par2_slices.proofs.Groups.{replicate_at}
 use Rattle.std.specs.Prelude.{◌&&◌}
 use Rattle.std.proofs.lemmas.List.{length-set}
@@ -186,69 +186,73 @@ emptied scan o old new left after filter marks candidates rest at tally empty al
 }
 
 -- an open pair is of no group whose pairs all have answers
-pub not_closed : (pairs : List Pair) (found : List (Option Spot)) (crc : ℕ) (group : List Place) → HoldsGroup pairs crc group → ((k : ℕ) → k < length group → AreAlike crc (place_at group k).crc → answer_at found (place_at group k).index ≡ None → ⊥)
-    → (i : ℕ) → i < length pairs → answer_at found i ≡ None → AreAlike crc (pair_at pairs i).1 → ⊥
-not_closed pairs found crc group holds closed i h none same =
-    let place = holds.whole i h (sym (shr-shr (pair_at pairs i).1 14 3) ∙ ap (λ b. b / 2 ^ 3) same.0 ∙ shr-shr crc 14 3) in
+pub not_closed : (shift : ℕ) (pairs : List Pair) (found : List (Option Spot)) (crc : ℕ) (group : List Place) → shift ≤ 17 → HoldsGroup pairs crc group → ((k : ℕ) → k < length group → AreAlike shift crc (place_at group k).crc → answer_at found (place_at group k).index ≡ None → ⊥)
+    → (i : ℕ) → i < length pairs → answer_at found i ≡ None → AreAlike shift crc (pair_at pairs i).1 → ⊥
+not_closed shift pairs found crc group fine holds closed i h none same =
+    let coarser : (c : ℕ) → c / 2 ^ shift / 2 ^ (17 - shift) ≡ c / 2 ^ 17 = λ c. shr-shr c shift (17 - shift) ∙ ap (λ n. c / 2 ^ n) (let e : shift + (17 - shift) ≡ 17 = omega (arith, fine) in e) in
+    let place = holds.whole i h (sym (coarser (pair_at pairs i).1) ∙ ap (λ b. b / 2 ^ (17 - shift)) same.0 ∙ coarser crc) in
     let its : (place_at group place.0).crc ≡ (pair_at pairs i).1 = sym (holds.each place.0 place.1).crc ∙ ap (λ j. (pair_at pairs j).1) place.2 in
-    closed place.0 place.1 (subst (AreAlike crc) (sym its) same) (ap (answer_at found) place.2 ∙ none)
+    closed place.0 place.1 (subst (AreAlike shift crc) (sym its) same) (ap (answer_at found) place.2 ∙ none)
 
 -- a pair that waits is of the group
-pub waiting_pair : (pairs : List Pair) (found : List (Option Spot)) (crc : ℕ) (group : List Place) → HoldsGroup pairs crc group → (k : ℕ) → k < length group → AreAlike crc (place_at group k).crc → answer_at found (place_at group k).index ≡ None
-    → (other : ℕ) → AreAlike crc other → IsOfOpenPair pairs found other
-waiting_pair pairs found crc group holds k h same none other alike =
+pub waiting_pair : (shift : ℕ) (pairs : List Pair) (found : List (Option Spot)) (crc : ℕ) (group : List Place) → HoldsGroup pairs crc group → (k : ℕ) → k < length group → AreAlike shift crc (place_at group k).crc → answer_at found (place_at group k).index ≡ None
+    → (other : ℕ) → AreAlike shift crc other → IsOfOpenPair shift pairs found other
+waiting_pair shift pairs found crc group holds k h same none other alike =
     let place : Place = place_at group k in
     let its = holds.each k h in
-    (place.index, its.within, none, subst (λ (c : ℕ). AreAlike c other) (sym its.crc) (alike.0 ∙ sym same.0, alike.1 ∙ sym same.1))
+    (place.index, its.within, none, subst (λ (c : ℕ). AreAlike shift c other) (sym its.crc) (alike.0 ∙ sym same.0, alike.1 ∙ sym same.1))
 
-pub marks_alike : (groups : Groups) (crc other : ℕ) → AreAlike crc other → Marks groups other → Marks groups crc
+pub marks_alike : (groups : Groups) (crc other : ℕ) → AreAlike groups.shift crc other → Marks groups other → Marks groups crc
 marks_alike groups crc other alike is = record {
   bit =
       ap (λ i. bit_at (get_or groups.bytes i 0) (crc % 8)) (sym alike.0)
-      ∙ ap (bit_at (get_or groups.bytes (other / 2 ^ 14) 0)) (sym alike.1)
+      ∙ ap (bit_at (get_or groups.bytes (other / 2 ^ groups.shift) 0)) (sym alike.1)
       ∙ is.bit;
 }
 
 -- the checksum is of the group of a pair's
-abbrev IsOfPair : List Pair → ℕ → Type 0
-IsOfPair pairs crc = (i : ℕ) × (i < length pairs) × AreAlike (pair_at pairs i).1 crc
+abbrev IsOfPair : ℕ → List Pair → ℕ → Type 0
+IsOfPair shift pairs crc = (i : ℕ) × (i < length pairs) × AreAlike shift (pair_at pairs i).1 crc
 
 -- the checksums of the first n pairs were added to a filter without groups
 pub record IsFilled (pairs : List Pair) (n : ℕ) (filter : Groups) : Type 0 where
   pub marked : (k : ℕ) → k < n → Marks filter (pair_at pairs k).1
-  pub only : (crc : ℕ) → Marks filter crc → IsOfPair pairs crc
+  pub only : (crc : ℕ) → Marks filter crc → IsOfPair filter.shift pairs crc
+  pub fine : filter.shift ≤ 17
 
 -- a checksum more is added
 pub filled_more : (pairs : List Pair) (n : ℕ) (before after : Groups) → IsFilled pairs n before → n < length pairs → (crc : ℕ)
-    → Marks after crc → ((other : ℕ) → Marks before other → Marks after other)
-    → ((other : ℕ) → Marks after other → AreAlike crc other ⊎ Marks before other)
+    → after.shift ≡ before.shift → Marks after crc → ((other : ℕ) → Marks before other → Marks after other)
+    → ((other : ℕ) → Marks after other → AreAlike before.shift crc other ⊎ Marks before other)
     → crc ≡ (pair_at pairs n).1 → IsFilled pairs (n + 1) after
-filled_more pairs n before after filled low crc marked kept only its = record {
+filled_more pairs n before after filled low crc shift marked kept only its = record {
   marked = λ k h.
       elim (cases_lt k n) [
         | inl early ↦ kept (pair_at pairs k).1 (filled.marked k early)
         | inr late ↦ subst (λ (c : ℕ). Marks after c) (its ∙ ap (λ j. (pair_at pairs j).1) (let e : n ≡ k = omega (arith, late, h) in e)) marked
       ];
-  only = λ other is.
-      elim (only other is) [
-        | inl alike ↦ (n, low, subst (λ (c : ℕ). AreAlike c other) its alike)
+  only = λ other is. subst (λ (shift : ℕ). IsOfPair shift pairs other) (sym shift)
+      (elim (only other is) [
+        | inl alike ↦ (n, low, subst (λ (c : ℕ). AreAlike before.shift c other) its alike)
         | inr old ↦ filled.only other old
-      ];
+      ]);
+  fine = omega (arith, shift, filled.fine);
 }
 
 -- before the first text
-pub none_answered : (pairs : List Pair) (found : List (Option Spot)) (left : ℕ) (filter : Groups) → found ≡ replicate (length pairs) None → left ≡ length pairs → ((i : ℕ) → i < length pairs → Marks filter (pair_at pairs i).1) → ((crc : ℕ) → Marks filter crc → IsOfPair pairs crc) → IsTally pairs found left filter
-none_answered pairs found left filter found_is left_is marked only = record {
+pub none_answered : (pairs : List Pair) (found : List (Option Spot)) (left : ℕ) (filter : Groups) → found ≡ replicate (length pairs) None → left ≡ length pairs → IsFilled pairs (length pairs) filter → IsTally pairs found left filter
+none_answered pairs found left filter found_is left_is filled = record {
   len = ap length found_is ∙ length-replicate (length pairs) None;
   count =
       left_is
       ∙ (let e : length pairs ≡ length pairs * 1 = omega arith in e)
       ∙ sym (sum_by-replicate (λ (x : Option Spot). cond (is_none x) 1 0) (length pairs) None)
       ∙ ap (count_by is_none) (sym found_is);
-  marked = λ i h none. marked i h;
+  marked = λ i h none. filled.marked i h;
   only = λ crc is.
-      let its = only crc is in
+      let its = filled.only crc is in
       (its.0, its.1, ap (λ f. answer_at f its.0) found_is ∙ replicate_at (length pairs) its.0 None, its.2);
+  fine = filled.fine;
 }
 
 abbrev pub bytes_of : Bor (List ℕ) → List ℕ
@@ -396,20 +400,23 @@ pub tally_settled : (pairs : List Pair) (md5 : List ℕ) (crc : ℕ) (spot : Spo
     → ((i : ℕ) → i < length pairs → (answer_at new i ≡ answer_at old i) ⊎ (answer_at new i ≡ after_window (has_checksums md5 crc (pair_at pairs i)) spot (answer_at old i)))
     → count + count_by is_none new ≡ count_by is_none old
     → ((i : ℕ) → i < length pairs → answer_at new i ≡ None → Marks filter (pair_at pairs i).1 → Marks after (pair_at pairs i).1)
+    → after.shift ≡ filter.shift
     → ((other : ℕ) → Marks after other → Marks filter other)
-    → ((other : ℕ) → Marks after other → AreAlike crc other → IsOfOpenPair pairs new other)
+    → ((other : ℕ) → Marks after other → AreAlike filter.shift crc other → IsOfOpenPair filter.shift pairs new other)
     → IsTally pairs new (left - count) after
-tally_settled pairs md5 crc spot old new left count filter after tally size each total keeps fewer waits = record {
+tally_settled pairs md5 crc spot old new left count filter after tally size each total keeps shift fewer waits = record {
   len = size ∙ tally.len;
   count = omega (arith, total, tally.count);
   marked = λ i low none. keeps i low none (tally.marked i low (was_open (has_checksums md5 crc (pair_at pairs i)) spot (answer_at old i) (answer_at new i) (each i low) none));
   only = λ other is.
       let its = tally.only other (fewer other is) in
       let i : ℕ = its.0 in
-      elim (cases_eq (pair_at pairs i).1 crc) [
-        | inl same ↦ waits other is (subst (λ (c : ℕ). AreAlike c other) same its.3)
+      subst (λ (shift : ℕ). IsOfOpenPair shift pairs new other) (sym shift)
+      (elim (cases_eq (pair_at pairs i).1 crc) [
+        | inl same ↦ waits other is (subst (λ (c : ℕ). AreAlike filter.shift c other) same its.3)
         | inr apart ↦ (i, its.1, still_open (pair_at pairs i) md5 crc spot (answer_at old i) (answer_at new i) (each i its.1) apart its.2, its.3)
-      ];
+      ]);
+  fine = omega (arith, shift, tally.fine);
 }
 
 pub has_is : (pair : Pair) (md5 : List ℕ) (crc : ℕ) → pair.1 ≡ crc → bytes_eq md5 pair.0 ≡ true → has_checksums md5 crc pair ≡ true

@@ -1,16 +1,22 @@
 -- Sets of groups of checksums, as bits.
-use Rattle.std.specs.Prelude.{◌≡◌, ℕ, ◌/◌, ◌%◌, ◌^◌, List, slice_index}
+use Rattle.std.specs.Prelude.{◌≡◌, ◌⊎◌, ℕ, ◌-◌, ◌/◌, ◌%◌, ◌^◌, List, length, slice_index}
 use Rattle.std.specs.Int.{bit_at}
 
--- checksums that have the same bits from bit 14 on share a byte; those that have the same low three bits too are of one
--- group, which has a bit there
+-- checksums that have the same bits from bit `shift` on share a byte; those that have the same low three bits too are of
+-- one group, which has a bit there
 pub record Groups : Type 0 where
+  pub shift : ℕ
   pub bytes : List ℕ
+
+-- as many bytes as the bits from bit `shift` on tell apart
+pub record IsLong (shift : ℕ) (bytes : List ℕ) : Type 0 where
+  pub either : (shift ≡ 13) ⊎ (shift ≡ 15)
+  pub len : length bytes ≡ 2 ^ (32 - shift)
 
 -- the group of a checksum is in the set
 pub record Marks (groups : Groups) (crc : ℕ) : Type 0 where
-  pub bit : bit_at (slice_index groups.bytes (crc / 2 ^ 14)) (crc % 8) ≡ 1
+  pub bit : bit_at (slice_index groups.bytes (crc / 2 ^ groups.shift)) (crc % 8) ≡ 1
 
 -- the checksums are of one group
-abbrev pub AreAlike : ℕ → ℕ → Type 0
-AreAlike crc other = (other / 2 ^ 14 ≡ crc / 2 ^ 14) × (other % 8 ≡ crc % 8)
+abbrev pub AreAlike : ℕ → ℕ → ℕ → Type 0
+AreAlike shift crc other = (other / 2 ^ shift ≡ crc / 2 ^ shift) × (other % 8 ≡ crc % 8)

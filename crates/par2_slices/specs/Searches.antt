@@ -81,8 +81,8 @@ abbrev pub is_awaited : ℕ → List (Option Spot) → Place → Bool
 is_awaited crc found place = place.crc == crc && is_none (answer_at found place.index)
 
 -- a pair of the group whose checksum the filter doesn't tell from this one has no answer
-abbrev pub IsWaiting : List Place → ℕ → List (Option Spot) → Type 0
-IsWaiting group crc found = (k : ℕ) × (k < length group) × (AreAlike crc (place_at group k).crc) × (answer_at found (place_at group k).index ≡ None)
+abbrev pub IsWaiting : ℕ → List Place → ℕ → List (Option Spot) → Type 0
+IsWaiting shift group crc found = (k : ℕ) × (k < length group) × (AreAlike shift crc (place_at group k).crc) × (answer_at found (place_at group k).index ≡ None)
 
 -- an answer after one window more
 abbrev pub after_window : Bool → Spot → Option Spot → Option Spot
@@ -107,12 +107,13 @@ abbrev pub first_spot : ℕ → List (List ℕ) → Pair → Option Spot
 first_spot s texts pair = first_spot_from 0 s texts pair
 
 -- the checksum is of the group of a pair without an answer
-abbrev pub IsOfOpenPair : List Pair → List (Option Spot) → ℕ → Type 0
-IsOfOpenPair pairs found crc = (i : ℕ) × (i < length pairs) × (answer_at found i ≡ None) × AreAlike (pair_at pairs i).1 crc
+abbrev pub IsOfOpenPair : ℕ → List Pair → List (Option Spot) → ℕ → Type 0
+IsOfOpenPair shift pairs found crc = (i : ℕ) × (i < length pairs) × (answer_at found i ≡ None) × AreAlike shift (pair_at pairs i).1 crc
 
--- how many pairs are open; the groups of their checksums are marked, and no others
+-- how many pairs are open; the groups of their checksums are marked, and no others; groups are parts of those of places
 pub record IsTally (pairs : List Pair) (found : List (Option Spot)) (left : ℕ) (filter : Groups) : Type 0 where
   pub len : length found ≡ length pairs
   pub count : left ≡ count_by is_none found
   pub marked : (i : ℕ) → i < length pairs → answer_at found i ≡ None → Marks filter (pair_at pairs i).1
-  pub only : (crc : ℕ) → Marks filter crc → IsOfOpenPair pairs found crc
+  pub only : (crc : ℕ) → Marks filter crc → IsOfOpenPair filter.shift pairs found crc
+  pub fine : filter.shift ≤ 17

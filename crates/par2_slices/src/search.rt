@@ -12,7 +12,7 @@ ghost use Rattle.par2_slices.specs.Searches.{after_window, candidate_at, has_che
 
 use crate::batch::{Candidate, Spot, digests};
 use crate::checksum::padded_crc32;
-use crate::filter::{Filter, are_alike};
+use crate::filter::{FEW, Filter, MANY};
 use crate::pairs::{Pair, padded_md5};
 use crate::rolling::Rolling;
 use crate::rows::{Row, first_crcs, next_crcs};
@@ -32,10 +32,12 @@ fn awaited(group: &[Place], crc: u32, found: &[Option<Spot>]) -> usize
 }
 
 /// Whether a pair of the group whose CRC-32 the filter doesn't tell from this one has no answer yet.
-fn is_waiting(group: &[Place], crc: u32, found: &[Option<Spot>]) -> bool
-    ensures { IsTrue result ↔ IsWaiting group.now crc found.now }
+fn is_waiting(group: &[Place], crc: u32, found: &[Option<Spot>], filter: &Filter) -> bool
+    ensures { IsTrue result ↔ IsWaiting filter.now.shift group.now crc found.now }
 {
-    group.iter().any(|place| are_alike(crc, place.crc) && place.is_awaited(place.crc, found))
+    group.iter().any(|place| {
+        filter.are_alike(crc, place.crc) && place.is_awaited(place.crc, found)
+    })
 }
 
 /// Whether no candidate has this CRC-32.
@@ -73,7 +75,7 @@ fn settle(
 }
 
 /// How many rows of four stretches may hold wanted windows: twice as many as they hold slices.
-const MOST_ROWS: usize = 256;
+const MOST_ROWS: usize = 512;
 
 /// A search under way: the answers so far, how many are open, which checksums these have, and a batch of windows that
 /// are still to be compared. `awaited` is how many open pairs have the checksums of these: it decides when the batch is
@@ -95,7 +97,7 @@ impl Search {
         ensures batch { IfOk result (λ search. search.batch.items ≡ []) }
     {
         let pairs = wanted.pairs();
-        let mut filter = Filter::new(alloc)?;
+        let mut filter = Filter::new(alloc, pairs.len())?;
         for pair in pairs {
             filter.insert(pair.1);
         }
@@ -127,7 +129,7 @@ impl Search {
     {
         self.left -= settle(wanted, candidate, md5, &mut self.found);
         let crc = candidate.crc;
-        if !is_waiting(wanted.group(crc), crc, &self.found) {
+        if !is_waiting(wanted.group(crc), crc, &self.found, &self.filter) {
             self.filter.remove(crc);
         }
     }
@@ -244,9 +246,13 @@ impl Search {
         crcs.iter().any(|&crc| self.awaits(wanted, crc))
     }
 
-    /// The rows of four stretches of `LEN` offsets in which a pair without an answer may have the CRC-32 of a window. None
-    /// where there are more than `MOST_ROWS`.
-    fn rows<const LEN: usize>(&self, scan: &Scan, start: usize) -> Option<ArrayVec<Row, MOST_ROWS>>
+    /// The same rows, by a filter of this shift.
+    fn rows_by<const LEN: usize, const SHIFT: u32>(
+        &self,
+        scan: &Scan,
+        start: usize,
+    ) -> Option<ArrayVec<Row, MOST_ROWS>>
+        requires shift { SHIFT ≡ self.now.filter.shift }
         requires at { IsSearching scan.now start self.now }
         requires within { IsWhole scan.now (start + 4 * LEN) }
         ensures { IfSome result (λ rows. AreRows scan.now start LEN LEN rows.items) }
@@ -257,7 +263,7 @@ impl Search {
         let mut crcs = first_crcs::<LEN>(scan.bytes, rolling.size(), start);
         let mut rows = ArrayVec::new();
         for at in 0..LEN {
-            if self.filter.may_contain_any(&crcs) && self.awaits_any(scan.wanted, crcs) {
+            if self.filter.may_contain_any::<SHIFT>(&crcs) && self.awaits_any(scan.wanted, crcs) {
                 if rows.is_full() {
                     return None;
                 }
@@ -266,6 +272,20 @@ impl Search {
             crcs = next_crcs::<LEN>(rolling, Row { at, crcs }, outs, nexts);
         }
         Some(rows)
+    }
+
+    /// The rows of four stretches of `LEN` offsets in which a pair without an answer may have the CRC-32 of a window. None
+    /// where there are more than `MOST_ROWS`.
+    fn rows<const LEN: usize>(&self, scan: &Scan, start: usize) -> Option<ArrayVec<Row, MOST_ROWS>>
+        requires at { IsSearching scan.now start self.now }
+        requires within { IsWhole scan.now (start + 4 * LEN) }
+        ensures { IfSome result (λ rows. AreRows scan.now start LEN LEN rows.items) }
+    {
+        if self.filter.is_for_many() {
+            self.rows_by::<LEN, MANY>(scan, start)
+        } else {
+            self.rows_by::<LEN, FEW>(scan, start)
+        }
     }
 
     /// Looks at the windows of stretch `k`, of four of `len` offsets, that stand in the rows: no other is wanted.
@@ -357,12 +377,12 @@ impl Search {
 }
 
 /// Whether what is left of a text is searched by four stretches of `len` offsets: they lie in it, with a window after
-/// them; the CRC-32s of their first windows cost less than is won; and each holds at most 32 slices.
+/// them; the CRC-32s of their first windows cost less than is won; and each holds at most 64 slices.
 fn is_fit(left: usize, s: u64, len: usize) -> bool
     ensures { IsTrue result → 4 * len + s ≤ left }
 {
     let is_long = s <= left as u64 && len <= (left - s as usize) / 4;
-    is_long && s / 8 <= len as u64 && len as u64 / 32 <= s
+    is_long && s / 8 <= len as u64 && len as u64 / 64 <= s
 }
 
 /// For each pair the first text with a window of `s` bytes that matches it, zeros standing past the end of the text, and

@@ -1,5 +1,5 @@
 use Rattle.par2_slices.proofs.Common.{AreCrcs, AreRows}
-use Rattle.par2_slices.proofs.search.Search.rows.Given as goal
+use Rattle.par2_slices.proofs.search.Search.rows_by.Given as goal
 
 abbrev pub invariant-loop-at : goal.invariant-loop-at
 invariant-loop-at g l = record {
