@@ -1,9 +1,8 @@
 -- Bytes taken in by sixteens.
-use Rattle.par2_slices.proofs.Common.{◌≡◌, ℕ, zero, suc, ◌+◌, ◌*◌, ◌^◌, ◌<◌, ◌%◌, ◌/◌, List, [], ◌∷◌, ◌++◌, length, take, drop, get_or, refl, sym, ap, ap₂, ◌∙◌, arith, bit_xor, concat, All, from_le_bytes, to_le_bytes, w32, All-from_get_or, All-get_or, All-drop, All-take, length-drop, length-take-le, take_more, take_all, take-append-drop, append-nil, nil_from_length, xor_assoc, xor_zero_r, xor_comm, concat-append, crc_byte, crc_steps, crc_steps-add, crc_steps-split, crc_steps-xor, crc_byte-steps, fold-append, joined, steps}
+use Rattle.par2_slices.proofs.Common.{◌≡◌, ℕ, zero, suc, ◌+◌, ◌*◌, ◌^◌, ◌<◌, ◌%◌, ◌/◌, List, [], ◌∷◌, ◌++◌, length, take, drop, get_or, sym, ap, ap₂, ◌∙◌, arith, bit_xor, concat, All, from_le_bytes, to_le_bytes, w32, All-from_get_or, All-get_or, All-drop, All-take, length-drop, length-take-le, take_more, take_all, take-append-drop, append-nil, nil_from_length, xor_assoc, xor_zero_r, xor_comm, concat-append, crc_byte, crc_steps, crc_steps-add, crc_steps-split, crc_steps-xor, crc_byte-steps, fold-append, joined, steps}
 use Rattle.std.specs.Simd.{first_chunks}
 use Rattle.std.proofs.Math.Seq.{take-add}
 use Rattle.std.specs.Prelude.{fold}
-use Rattle.par2_slices.proofs.Sliding.{none_less}
 
 -- the lowest byte by a table of its own, the bits above it by eight steps fewer
 byte_more : (m n w sum value : ℕ) → n ≡ m + 1 → sum ≡ steps (8 * m) (w / 256) → value ≡ steps (8 * n) (w % 256) → bit_xor sum value ≡ steps (8 * n) w
@@ -24,14 +23,6 @@ by_four_tables w later a b c d bytes below are a_is b_is c_is d_is =
     let two : bit_xor a b ≡ steps (8 * (later + 1 + 1)) (w / 256 / 256) = byte_more (later + 1) (later + 1 + 1) (w / 2 ^ 16) a b (omega arith) high (b_is ∙ at (later + 1 + 1) 2) ∙ ap (steps (8 * (later + 1 + 1))) (omega arith) in
     let three : bit_xor (bit_xor a b) c ≡ steps (8 * (later + 2 + 1)) (w / 256) = byte_more (later + 1 + 1) (later + 2 + 1) (w / 256) (bit_xor a b) c (omega arith) two (c_is ∙ at (later + 2 + 1) 1) in
     byte_more (later + 2 + 1) (later + 3 + 1) w (bit_xor (bit_xor a b) c) d (omega arith) three (d_is ∙ at (later + 3 + 1) 0) ∙ ap (λ t. steps (8 * t) w) (omega arith)
-
--- a word, a table for each of its two low bytes
-pub by_two_tables : (w : ℕ) → steps 16 w ≡ bit_xor (bit_xor (steps 16 (w % 256)) (steps 8 (w / 2 ^ 8 % 256))) (w / 2 ^ 16)
-by_two_tables w =
-    let low : ℕ = steps 16 (w % 256) in
-    let middle : ℕ = steps 8 (w / 256 % 256) in
-    sym (byte_more 1 2 w (bit_xor (w / 2 ^ 16) middle) low refl (byte_more 0 1 (w / 256) (w / 2 ^ 16) middle refl ((let e : w / 2 ^ 16 ≡ w / 256 / 256 = omega arith in e) ∙ sym (none_less (w / 256 / 256))) refl) refl)
-    ∙ xor_comm (bit_xor (w / 2 ^ 16) middle) low ∙ ap (bit_xor low) (xor_comm (w / 2 ^ 16) middle) ∙ sym (xor_assoc low middle (w / 2 ^ 16))
 
 -- a number and the byte above it
 taken : (n c x byte sum : ℕ) → x < 2 ^ n → sum ≡ steps n (bit_xor c x) → crc_byte sum byte ≡ steps (n + 8) (bit_xor c (x + byte * 2 ^ n))
@@ -107,13 +98,6 @@ sixteen_bytes c x y z w bytes words len small are x_is y_is z_is w_is =
     sym (spread c x y z w)
     ∙ ap₂ more (ap₂ more (ap₂ more (ap (more c) (x_is ∙ at 0)) (y_is ∙ at 1)) (z_is ∙ at 2)) (w_is ∙ at 3)
     ∙ sym (by_words 4 c bytes len (All-from_get_or (λ b. b < 256) bytes 0 (λ i within. small i)))
-
-pub two_bytes : (c first second : ℕ) → first < 256 → crc_byte (crc_byte c first) second ≡ steps 16 (bit_xor c (first + second * 2 ^ 8))
-two_bytes c first second small =
-    let one : crc_byte c first ≡ steps 8 (bit_xor c first) = (
-    taken 0 c 0 first c (omega arith) (none_taken c) ∙ ap (λ t. steps 8 (bit_xor c t)) (let e : 0 + first * 1 ≡ first = omega arith in e)
-    ) in
-    taken 8 c first second (crc_byte c first) (omega (arith, small)) one
 
 pub one_byte : (c byte : ℕ) → crc_byte c byte ≡ bit_xor (steps 8 (bit_xor c byte % 256)) (bit_xor c byte / 256)
 unfolding steps

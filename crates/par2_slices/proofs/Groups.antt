@@ -1,6 +1,6 @@
 -- Sets of groups of checksums.
 use Prim.Native.Nat.{max}
-use Rattle.par2_slices.proofs.Common.{◌≡◌, ◌≢◌, ℕ, zero, suc, ◌+◌, ◌-◌, ◌*◌, ◌^◌, ◌<◌, ◌%◌, ◌/◌, List, length, length-replicate, get_or, set, replicate, refl, subst, sym, ap, ◌∙◌, get_or-set_same, get_or-set_other, arith, inl, inr, ◌⊎◌, bit_and, bit_or, w8, bit_at, bit_not, cases_eq, get_or_read, shr_below, suc-ne-zero, Groups, IsLong, Marks}
+use Rattle.par2_slices.proofs.Common.{◌≡◌, ◌≢◌, ℕ, zero, suc, ◌+◌, ◌-◌, ◌*◌, ◌^◌, ◌<◌, ◌%◌, ◌/◌, List, length, get_or, set, replicate, refl, subst, sym, ap, ◌∙◌, get_or-set_same, get_or-set_other, arith, inl, inr, ◌⊎◌, bit_and, bit_or, w8, bit_at, bit_not, cases_eq, get_or_read, shr_below, suc-ne-zero, Groups, IsLong, Marks}
 use Rattle.std.proofs.lemmas.Nat.Bits.{bit_at_or, bit_at-zero, bit_at_set_same, bit_at_set_other, bit_at_clear_same, bit_at_clear_other}
 
 pub within : (crc shift : ℕ) → crc < 2 ^ 32 → shift < 32 → crc / 2 ^ shift < 2 ^ (32 - shift)
@@ -23,16 +23,6 @@ pub replicate_at : {X : Type 0} (n i : ℕ) (x : X) → get_or (replicate n x) i
 replicate_at zero i x = refl
 replicate_at (suc n) zero x = refl
 replicate_at (suc n) (suc i) x = replicate_at n i x
-
-pub zeros_long : (n : ℕ) (bytes : List ℕ) → bytes ≡ replicate n 0 → length bytes ≡ n
-zeros_long n bytes is = ap length is ∙ length-replicate {A = ℕ} n 0
-
--- bytes of zeros have no group
-pub none_marked : (groups : Groups) (n crc : ℕ) → ◌≡◌ {A = List ℕ} groups.bytes (replicate n 0) → Marks groups crc → ⊥
-none_marked groups n crc empty is =
-    let group : ℕ = crc / 2 ^ groups.shift in
-    let byte : get_or groups.bytes group 0 ≡ 0 = ap (λ bytes. get_or bytes group 0) empty ∙ replicate_at n group 0 in
-    suc-ne-zero 0 (sym is.bit ∙ ap (λ w. bit_at w (crc % 8)) byte ∙ bit_at-zero (crc % 8))
 
 -- the bytes with the group's bit set, and with the bit cleared
 abbrev pub with_bit : ℕ → ℕ → List ℕ → Groups
