@@ -449,6 +449,33 @@ fn two_lengths_in_line(rt: HostRuntime) {
     assert!(rt; has_exponents(&rt, &text, &exponents));
 }
 
+// The recovery slices of exponents 0 to 9, with other packets between each two: the description of a file, and copies of
+// one Main.
+fn ten_among_others(rt: &(impl Abort + AllocGlobal)) -> Vec<u8> {
+    let file = record_of_a(rt);
+    let mut text = Vec::new(rt.alloc());
+    for e in 0..10 {
+        add_recovery(rt, &mut text, &[7; 16], e, b"abcdefgh");
+        add_description(rt, &mut text, &[7; 16], &file);
+        add_main(rt, &mut text, 4, &file);
+    }
+    text
+}
+
+#[test]
+fn false_digest_among_others(rt: HostRuntime) {
+    let mut text = ten_among_others(&rt);
+    let len = text.len();
+    // A recovery packet of 76 bytes, a description of 124 and a Main of 92 are a tenth.
+    assert!(rt; len == 2920 && kinds_of(&rt, &text).len() == 30);
+    assert!(rt; has_exponents(&rt, &text, &[0, 1, 2, 3, 4, 5, 6, 7, 8, 9]));
+    if let Some(byte) = text.get_mut(4 * 292 + 70) {
+        *byte ^= 1;
+    }
+    assert!(rt; has_exponents(&rt, &text, &[0, 1, 2, 3, 5, 6, 7, 8, 9]));
+    assert!(rt; kinds_of(&rt, &text).len() == 29);
+}
+
 // How many files a Main of this body lists, or None where it is none.
 fn count_listed(body: &[u8]) -> Option<usize> {
     match read_main(&packet(Kind::Main, body)) {
