@@ -78,11 +78,12 @@ pub(crate) fn claimed_length(text: &[u8]) -> Option<usize>
     Some(claim as usize)
 }
 
-// Where packets of this length begin: the one at `at`, and those that are found ahead from packet to packet by what each
-// claims; the first of them again in the lanes that are left. Eight side by side take about the time of two, so there is
-// no answer for fewer than three.
+// Where packets of this length begin: the one at `at`, and those ahead that are found from packet to packet by what each
+// claims; the first again in the lanes that are left. Eight side by side take about the time of two, so there is no answer
+// for fewer than three.
 //
-// A look at a head costs less than the MD5 of 64 bytes. So `len / 64` looks cost less than the digest of one packet.
+// A look at a head costs less than the MD5 of 64 bytes. So a walk that looks at more than eight costs less than the digest
+// of the packet at `at`.
 fn starts_ahead(text: &[u8], at: usize, len: usize) -> Option<[usize; LANES]>
     requires { at + len ≤ length text.now }
     ensures { IfSome result (λ starts. AreStarts text.now at len starts) }
@@ -179,8 +180,8 @@ impl<'a> Cursor<'a> {
         (longest.bytes == &self.rest()[32..len]).then_some(longest.digest)
     }
 
-    // Where the packets begin that are to be digested beside the one here. Shorter packets between those of a run don't
-    // take its place.
+    // Where the packets begin that are to be digested beside the one here. Shorter packets take no run's place while one of
+    // its packets is still ahead, since they stand between these.
     fn starts_of_run(&self, len: usize) -> Option<[usize; LANES]>
         requires { len ≤ length (rest_of self.now) }
         ensures { IfSome result (λ starts. AreStarts self.now.text.now self.now.at len starts) }

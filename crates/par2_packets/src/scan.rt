@@ -71,9 +71,9 @@ fn next_packet<'a>(cursor: &mut Cursor<'a>) -> Option<Packet<'a>>
 /// least 64 and within the text, and the right MD5. What stands between them is passed over, and so is a packet with
 /// a false digest, whose claim hides none.
 ///
-/// The time is that of a search for the magic and of one MD5 of each packet; packets of one length that stand one after
-/// the other are digested side by side. Where a false digest stands after a magic it is the MD5 of what that claims. So a
-/// text of n bytes that was made for it takes up to the time of n * n / 32 bytes of MD5.
+/// The time is that of a search for the magic and of one MD5 of each packet; packets of one length are digested side by
+/// side, also where others stand between them. Where a false digest stands after a magic it is the MD5 of what that claims.
+/// So a text of n bytes that was made for it takes up to the time of n * n / 32 bytes of MD5.
 #[derive(Clone, Copy, Drop)]
 pub struct Packets<'a> {
     cursor: Cursor<'a>,
