@@ -449,6 +449,39 @@ fn two_lengths_in_line(rt: HostRuntime) {
     assert!(rt; has_exponents(&rt, &text, &exponents));
 }
 
+// Recovery packets of exponents 0 to 9 that have this slice, each followed by the description of a file and a Main.
+fn ten_among_others(rt: &(impl Abort + AllocGlobal), slice: &[u8]) -> Vec<u8>
+    requires { length slice.now % 4 ≡ 0 }
+{
+    let file = record_of_a(rt);
+    let mut text = Vec::new(rt.alloc());
+    for e in 0..10 {
+        add_recovery(rt, &mut text, &[7; 16], e, slice);
+        add_description(rt, &mut text, &[7; 16], &file);
+        add_main(rt, &mut text, 4, &file);
+    }
+    text
+}
+
+// Whether all of them are found but one whose slice is damaged.
+fn has_all_but_fifth(rt: &(impl Abort + AllocGlobal), slice: &[u8]) -> bool
+    requires { length slice.now % 4 ≡ 0 }
+{
+    let mut text = ten_among_others(rt, slice);
+    let fifth = text.len() / 10 * 4;
+    if let Some(byte) = text.get_mut(fifth + 70) {
+        *byte ^= 1;
+    }
+    has_exponents(rt, &text, &[0, 1, 2, 3, 5, 6, 7, 8, 9]) && kinds_of(rt, &text).len() == 29
+}
+
+#[test]
+fn false_digest_among_others(rt: HostRuntime) {
+    assert!(rt; has_all_but_fifth(&rt, b"abcdefgh"));
+    // These are longer than the packets between, and so long that eight are found ahead.
+    assert!(rt; has_all_but_fifth(&rt, &[7; 1280]));
+}
+
 // How many files a Main of this body lists, or None where it is none.
 fn count_listed(body: &[u8]) -> Option<usize> {
     match read_main(&packet(Kind::Main, body)) {

@@ -4,3 +4,4 @@ pub mod Pieces
 pub mod Recoveries
 pub mod Runs
 pub mod Cursors
+pub mod Heads

@@ -1,9 +1,11 @@
 //! Going over a text from packet to packet, with digests of packets that are computed side by side.
 
-ghost use Rattle.std.specs.Prelude.{◌≡◌, ◌≤◌, ◌<◌, ◌+◌, ◌-◌, ◌*◌, ◌^◌, ℕ, length, drop, min, slice_index, IfSome};
+ghost use Rattle.std.specs.Prelude.{◌≡◌, ◌≤◌, ◌<◌, ◌+◌, ◌-◌, ◌^◌, ℕ, false, length, drop, slice_index, IfSome, MatchOption};
+ghost use Rattle.std.specs.Option.{ForSome};
 ghost use Rattle.md5.specs.Md5.{md5};
-ghost use Rattle.par2_spec.specs.Packets.{bytes_at};
-ghost use Rattle.par2_packets.specs.Runs.{AreDigests, IsPlace};
+ghost use Rattle.par2_spec.specs.Packets.{begins_with_packet, bytes_at};
+ghost use Rattle.par2_packets.specs.Heads.{IsHead};
+ghost use Rattle.par2_packets.specs.Runs.{AreDigests, AreStarts, IsPlace};
 
 use crate::bytes::u64_at;
 use md5::{Digest, Md5};
@@ -12,75 +14,97 @@ use std::array;
 
 pub(crate) const MAGIC: &[u8; 8] = b"PAR2\0PKT";
 
-// The digests of packets of one length that stand one after the other: `count` of them, from `start` on.
+// Where the bytes begin that are digested: after the magic, the length and the digest of each packet.
+fn inputs(starts: [usize; LANES]) -> [usize; LANES]
+    requires { (k : ℕ) → k < 8 → slice_index starts k + 32 < 2 ^ 64 }
+    ensures { (k : ℕ) → k < 8 → slice_index result k ≡ slice_index starts k + 32 }
+{
+    array::from_fn(|lane| starts[lane] + 32)
+}
+
+// Digests of packets of one length that were computed side by side, and where each packet begins.
 #[derive(Clone, Copy, Drop)]
 struct Run {
-    start: usize,
     len: usize,
-    count: usize,
+    starts: [usize; LANES],
     digests: [[u8; 16]; LANES],
 }
 
 impl Run {
+    // That of the packets of this length that begin at these places.
+    fn new(text: &[u8], starts: [usize; LANES], len: usize) -> Run
+        requires head { 32 ≤ len }
+        requires within { (k : ℕ) → k < 8 → slice_index starts k + len ≤ length text.now }
+        ensures digests { AreDigests text.now result }
+        ensures starts { result.starts ≡ starts }
+        ensures len { result.len ≡ len }
+    {
+        Run {
+            len,
+            starts,
+            digests: window_digests(text, &inputs(starts), len - 32),
+        }
+    }
+
     // Which packet of the run has this place and length.
     fn place_of(&self, at: usize, len: usize) -> Option<usize>
         ensures { IfSome result (λ k. IsPlace self.now at len k) }
     {
-        if len == 0 || len != self.len || at < self.start {
+        if len != self.len {
             return None;
         }
-        let from_start = at - self.start;
-        let place = from_start / len;
-        (from_start % len == 0 && place < self.count).then_some(place)
+        self.starts.iter().position(|&start| start == at)
+    }
+
+    // Whether a packet of the run is still ahead of this place.
+    fn is_ahead_of(&self, at: usize) -> bool {
+        self.starts.iter().any(|&start| start > at)
     }
 }
 
-// What the digests are taken of begins after the magic, the length and the digest of each packet; the last of them
-// again in the lanes that are left.
-fn starts(at: usize, len: usize, count: usize) -> [usize; LANES]
-    requires low { 64 ≤ len }
-    requires some { 1 ≤ count }
-    requires end { at + count * len < 2 ^ 64 }
-    ensures { (k : ℕ) → k < 8 → slice_index result k ≡ at + min k (count - 1) * len + 32 }
+/// The length that the text claims for the packet at its front, where a packet of that length can stand there.
+#[tactic(auto, unfolding(par2_spec::specs::Packets::begins_with_packet))]
+pub(crate) fn claimed_length(text: &[u8]) -> Option<usize>
+    ensures { MatchOption result (begins_with_packet text.now ≡ false)
+        (λ len. IsHead text.now len) }
 {
-    array::from_fn(|lane| at + lane.min(count - 1) * len + 32)
-}
-
-// The run of `count` packets of this length, eight at most, that begins at `at`.
-fn run_at(text: &[u8], at: usize, len: usize, count: usize) -> Run
-    requires low { 64 ≤ len }
-    requires some { 1 ≤ count }
-    requires few { count ≤ 8 }
-    requires within { at + count * len ≤ length text.now }
-    ensures count { result.count ≡ count }
-    ensures first { IsPlace result at len 0 }
-    ensures digests { AreDigests text.now result }
-{
-    Run {
-        start: at,
-        len,
-        count,
-        digests: window_digests(text, &starts(at, len, count), len - 32),
+    if text.len() < 64 || &text[..8] != MAGIC.as_slice() {
+        return None;
     }
-}
-
-// Whether the text begins with the magic and claims this length.
-fn has_head(text: &[u8], len: usize) -> bool {
-    text.len() >= 16 && &text[..8] == MAGIC.as_slice() && u64_at(text, 8) == len as u64
-}
-
-// How many packets that claim this length stand one after the other at the front of the text, eight at most.
-fn packets_in_line(text: &[u8], len: usize) -> usize
-    requires { 64 ≤ len }
-    ensures few { result ≤ 8 }
-    ensures within { result * len ≤ length text.now }
-{
-    let most = (text.len() / len).min(LANES);
-    let mut count = 0;
-    while count < most && has_head(&text[count * len..], len) {
-        count += 1;
+    let claim = u64_at(text, 8);
+    if claim % 4 != 0 || claim < 64 || claim > text.len() as u64 {
+        return None;
     }
-    count
+    Some(claim as usize)
+}
+
+// Where packets of this length begin: the one at `at`, and those ahead that are found from packet to packet by what each
+// claims; the first again in the lanes that are left. Eight side by side take about the time of two, so there is no answer
+// for fewer than three.
+//
+// A look at a head costs less than the MD5 of 64 bytes. So a walk that looks at more than eight costs less than the digest
+// of the packet at `at`.
+fn starts_ahead(text: &[u8], at: usize, len: usize) -> Option<[usize; LANES]>
+    requires { at + len ≤ length text.now }
+    ensures { IfSome result (λ starts. AreStarts text.now at len starts) }
+{
+    let mut starts = [at; LANES];
+    let mut count = 1;
+    let mut place = at + len;
+    for _ in 0..LANES.max(len / 64) {
+        let Some(claim) = claimed_length(&text[place..]) else {
+            break;
+        };
+        if claim == len {
+            starts[count] = place;
+            count += 1;
+        }
+        if count == LANES {
+            break;
+        }
+        place += claim;
+    }
+    (count >= 3).then_some(starts)
 }
 
 // Bytes whose digest is known.
@@ -97,11 +121,10 @@ struct Digested<'a> {
 pub(crate) struct Cursor<'a> {
     text: &'a [u8],
     at: usize,
-    run: Run,
+    run: Option<Run>,
     longest: Option<Digested<'a>>,
     ghost within: { at ≤ length text.now },
-    ghost few: { run.count ≤ 8 },
-    ghost known: { AreDigests text.now run },
+    ghost known: { ForSome run (AreDigests text.now) },
 }
 
 impl<'a> Cursor<'a> {
@@ -110,16 +133,10 @@ impl<'a> Cursor<'a> {
     pub(crate) fn new(text: &'a [u8]) -> Cursor<'a>
         ensures { rest_of result ≡ text.now }
     {
-        let run = Run {
-            start: 0,
-            len: 0,
-            count: 0,
-            digests: [[0; 16]; LANES],
-        };
         Cursor {
             text,
             at: 0,
-            run,
+            run: None,
             longest: None,
         }
     }
@@ -147,29 +164,45 @@ impl<'a> Cursor<'a> {
         self.at += len;
     }
 
-    // The digest of the packet here, if it was computed beside others.
-    fn digest_in_run(&self, len: usize) -> Option<[u8; 16]>
+    // The digest of the packet here, if it was computed beside others, or its bytes are the longest that were digested
+    // alone.
+    fn known_digest(&self, len: usize) -> Option<[u8; 16]>
+        requires low { 32 ≤ len }
+        requires high { len ≤ length (rest_of self.now) }
         ensures { IfSome result (λ d. d ≡ md5 (bytes_at 32 (len - 32) (rest_of self.now))) }
     {
-        let place = self.run.place_of(self.at, len)?;
-        Some(self.run.digests[place])
+        if let Some(run) = self.run
+            && let Some(place) = run.place_of(self.at, len)
+        {
+            return Some(run.digests[place]);
+        }
+        let longest = self.longest?;
+        (longest.bytes == &self.rest()[32..len]).then_some(longest.digest)
     }
 
-    // The digest of these bytes alone, which is computed unless they are the longest that was.
+    // Where the packets begin that are to be digested beside the one here. Shorter packets take no run's place while one of
+    // its packets is still ahead, since they stand between these.
+    fn starts_of_run(&self, len: usize) -> Option<[usize; LANES]>
+        requires { len ≤ length (rest_of self.now) }
+        ensures { IfSome result (λ starts. AreStarts self.now.text.now self.now.at len starts) }
+    {
+        match self.run {
+            Some(run) if len < run.len && run.is_ahead_of(self.at) => None,
+            _ => starts_ahead(self.text, self.at, len),
+        }
+    }
+
+    // The digest of these bytes alone, which is kept where they are the longest so far.
     fn digest_alone(&mut self, bytes: &'a [u8]) -> [u8; 16]
         ensures digest { result ≡ md5 bytes.now }
         ensures kept { rest_of self.new ≡ rest_of self.old }
     {
-        let known = self.longest;
-        match known {
-            Some(longest) if longest.bytes == bytes => longest.digest,
-            Some(longest) if longest.bytes.len() >= bytes.len() => Md5::digest(bytes),
-            _ => {
-                let digest = Md5::digest(bytes);
-                self.longest = Some(Digested { bytes, digest });
-                digest
-            }
+        let digest = Md5::digest(bytes);
+        match self.longest {
+            Some(longest) if longest.bytes.len() >= bytes.len() => {}
+            _ => self.longest = Some(Digested { bytes, digest }),
         }
+        digest
     }
 
     /// The digest of the packet of this length here, without the bytes in front of what is digested.
@@ -179,16 +212,15 @@ impl<'a> Cursor<'a> {
         ensures digest { result ≡ md5 (bytes_at 32 (len - 32) (rest_of self.old)) }
         ensures kept { rest_of self.new ≡ rest_of self.old }
     {
-        if let Some(digest) = self.digest_in_run(len) {
+        if let Some(digest) = self.known_digest(len) {
             return digest;
         }
-        let rest = self.rest();
-        let count = packets_in_line(rest, len);
-        // Eight side by side take about the time of two, so fewer than three are faster by themselves.
-        if count < 3 {
+        let Some(starts) = self.starts_of_run(len) else {
+            let rest = self.rest();
             return self.digest_alone(&rest[32..len]);
-        }
-        self.run = run_at(self.text, self.at, len, count);
-        self.run.digests[0]
+        };
+        let run = Run::new(self.text, starts, len);
+        self.run = Some(run);
+        run.digests[0]
     }
 }

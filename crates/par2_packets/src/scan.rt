@@ -2,13 +2,12 @@
 
 ghost use Rattle.std.specs.Prelude.{◌≡◌, ◌≤◌, [], ◌∷◌, length, MatchOption};
 ghost use Rattle.std.specs.Iterator.{YieldsFirstBy, item_count};
-ghost use Rattle.std.specs.Str.{bytes_eq};
 ghost use Rattle.par2_spec.specs.Packets as packets;
 ghost use Rattle.par2_packets.specs.Cursors.{rest_of};
 ghost use Rattle.par2_packets.specs.Views.{packet_of, packets_of};
 
 use crate::bytes::{block, u64_at};
-use crate::cursor::{Cursor, MAGIC};
+use crate::cursor::{Cursor, MAGIC, claimed_length};
 use crate::kind::kind_of;
 use memchr::memmem::Finder;
 use par2_spec::Kind;
@@ -22,36 +21,16 @@ pub struct Packet<'a> {
     pub body: &'a [u8],
 }
 
-// The length that the text claims for the packet at its front.
-fn claimed(text: &[u8]) -> u64
-    requires { 16 ≤ length text.now }
-    ensures { result ≡ packets.claimed_length text.now }
-{
-    u64_at(text, 8)
-}
-
-fn has_magic(text: &[u8]) -> bool
-    requires { 8 ≤ length text.now }
-    ensures { result ≡ bytes_eq (packets.bytes_at 0 8 text.now) packets.magic }
-{
-    &text[..8] == MAGIC.as_slice()
-}
-
 // Whether a packet stands at the cursor, which stays there.
-#[tactic(auto, unfolding(par2_spec::specs::Packets::begins_with_packet))]
 fn begins_with_packet(cursor: &mut Cursor<'_>) -> bool
     ensures begins { result ≡ packets.begins_with_packet (rest_of cursor.old) }
     ensures kept { rest_of cursor.new ≡ rest_of cursor.old }
 {
     let text = cursor.rest();
-    if text.len() < 64 || !has_magic(text) {
+    let Some(len) = claimed_length(text) else {
         return false;
-    }
-    let claim = claimed(text);
-    if claim % 4 != 0 || claim < 64 || claim > text.len() as u64 {
-        return false;
-    }
-    cursor.digest(claim as usize) == block(text, 16)
+    };
+    cursor.digest(len) == block(text, 16)
 }
 
 // The packet at the front of the text.
@@ -61,7 +40,7 @@ fn first_packet(text: &[u8]) -> Packet<'_>
     requires high { packets.claimed_length text.now ≤ length text.now }
     ensures { packet_of result ≡ packets.first_packet text.now }
 {
-    let claim = claimed(text) as usize;
+    let claim = u64_at(text, 8) as usize;
     Packet {
         set_id: block(text, 32),
         kind: kind_of(block(text, 48)),
@@ -92,9 +71,9 @@ fn next_packet<'a>(cursor: &mut Cursor<'a>) -> Option<Packet<'a>>
 /// least 64 and within the text, and the right MD5. What stands between them is passed over, and so is a packet with
 /// a false digest, whose claim hides none.
 ///
-/// The time is that of a search for the magic and of one MD5 of each packet; packets of one length that stand one after
-/// the other are digested side by side. Where a false digest stands after a magic it is the MD5 of what that claims. So a
-/// text of n bytes that was made for it takes up to the time of n * n / 32 bytes of MD5.
+/// The time is that of a search for the magic and of one MD5 of each packet; packets of one length are digested side by
+/// side, also where others stand between them. Where a false digest stands after a magic it is the MD5 of what that claims.
+/// So a text of n bytes that was made for it takes up to the time of n * n / 32 bytes of MD5.
 #[derive(Clone, Copy, Drop)]
 pub struct Packets<'a> {
     cursor: Cursor<'a>,
