@@ -1,6 +1,6 @@
 -- Trees that are made of lists.
 use Rattle.par2_plan.proofs.Common.{◌≡◌, ◌∙◌, ◌||◌, ℕ, List, [], ◌∷◌, map, refl, ap, ap₂, false, cond, subst, zip, Option, None, Some, IfOk, Result, list_any, BTreeMap, HoldsAsides, itself, clash, is_among, BTreeSet, IsFromIterResult, slice_cmp, nat_list_cmp_total, nat_cmp, eq_by_cmp, YieldsList, items_from_drains, name_cmp, Ok, Err}
-use Rattle.par2_sets.specs.Asides.{HoldsNames}
+use Rattle.par2_sets.specs.Asides.{HoldsOwned}
 use Rattle.std.specs.Cmp.{eq_by_cmp_equiv}
 use Rattle.std.proofs.lemmas.Map.Made.{update_all_pairs}
 use Rattle.std.specs.Borrow.{Bor}
@@ -23,11 +23,11 @@ references_among (name ∷ names) q = ap₂ (λ a b. a || b) (is_eq-slice_cmp q.
 
 -- a tree of what a chain of references yields
 pub holds_from_collect : {S E : Type 0} {steps : S → Option (Bor (List ℕ)) → S → Type 0} {s : S} {names : List (List ℕ)} (r : Result (BTreeSet (Bor (List ℕ))) E)
-    → IfOk r (λ tree. (xs : List (Bor (List ℕ))) × DrainsIf steps (Unit {0}) s xs × IsFromIterResult name_cmp xs tree) → YieldsList steps (λ n. n.now) s names → IfOk r (λ tree. references.HoldsNames tree names)
-holds_from_collect (Ok tree) ran road = subst (references.HoldsNames tree) (items_from_drains ran.0 ran.1 road) (λ q. ran.2.0 q ∙ references_among ran.0 q)
+    → IfOk r (λ tree. (xs : List (Bor (List ℕ))) × DrainsIf steps (Unit {0}) s xs × IsFromIterResult name_cmp xs tree) → YieldsList steps (λ n. n.now) s names → IfOk r (λ tree. references.HoldsOwned tree names)
+holds_from_collect (Ok tree) ran road = subst (references.HoldsOwned tree) (items_from_drains ran.0 ran.1 road) (λ q. ran.2.0 q ∙ references_among ran.0 q)
 holds_from_collect (Err e) ran road = tt
 
-pub holds : (names : List (List ℕ)) (tree : BTreeSet (List ℕ)) → IsFromIterResult (slice_cmp nat_cmp) names tree → HoldsNames tree names
+pub holds : (names : List (List ℕ)) (tree : BTreeSet (List ℕ)) → IsFromIterResult (slice_cmp nat_cmp) names tree → HoldsOwned tree names
 holds names tree is name = is.0 name ∙ member_among names name
 
 -- a tree is made of these names and their asides

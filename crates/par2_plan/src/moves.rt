@@ -3,7 +3,7 @@ ghost use Rattle.std.specs.Prelude.{◌≡◌, ◌++◌, ℕ, List, Some, None, 
 ghost use Rattle.par2_spec.specs.Answers.{FailsFor, Lists};
 ghost use Rattle.par2_spec.specs.Changes as spec;
 ghost use Rattle.par2_spec.specs.Repairs.{names_without_match};
-ghost use Rattle.par2_sets.specs.Asides.{HoldsNames, long_aside};
+ghost use Rattle.par2_sets.specs.Asides.{HoldsOwned, long_aside};
 ghost use Rattle.par2_plan.specs.Repairing.{AreMoves, HoldsAsides, files_removed, matches_taken, names_there, place_by, writes};
 ghost use Rattle.par2_spec.specs.Folders as folders;
 ghost use Rattle.par2_spec.specs.Plans.{repair_changes, repair_removals};
@@ -57,7 +57,7 @@ fn unmatched_name(needing: &Needing) -> Option<Name>
 
 /// The names of the needing targets that have no match.
 pub fn unmatched(alloc: Global, needing: &[Needing]) -> Result<BTreeSet<Name>>
-    ensures { IfOk result (λ tree. HoldsNames tree (names_without_match needing.now)) }
+    ensures { IfOk result (λ tree. HoldsOwned tree (names_without_match needing.now)) }
 {
     needing.iter().filter_map(unmatched_name).collect(alloc)
 }
@@ -100,7 +100,7 @@ pub fn moves_of<'n, 's>(
 
 // The names of the matches.
 fn matching(alloc: Global, targets: &[Needing]) -> Result<BTreeSet<Name>>
-    ensures { IfOk result (λ names. HoldsNames names (filter_map (λ m. m.1) targets.now)) }
+    ensures { IfOk result (λ names. HoldsOwned names (filter_map (λ m. m.1) targets.now)) }
 {
     let names = targets
         .iter()
@@ -166,7 +166,7 @@ fn push_removed(
     matching: &BTreeSet<Name>,
 ) -> Result<()>
     ensures { (aside : List ℕ → List ℕ) (all given : List (List ℕ)) →
-        HoldsAsides aside all asides.now → HoldsNames matching.now given →
+        HoldsAsides aside all asides.now → HoldsOwned matching.now given →
         let removed = files_removed (place_by aside all) given names.now in
         OnOk result (out.new ≡ out.old ++ removed) }
 {
