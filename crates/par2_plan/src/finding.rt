@@ -1,5 +1,5 @@
 //! What is found of a set: the matches of its targets, and which of its slices are found.
-ghost use Rattle.std.specs.Prelude.{◌≡◌, ◌++◌, [], true, map, take, drop, is_some, IfOk, OnOk, if◌then◌else◌};
+ghost use Rattle.std.specs.Prelude.{◌≡◌, true, map, take, drop, is_some, IfOk, if◌then◌else◌};
 ghost use Rattle.std.specs.BTreeSet.{contains};
 ghost use Rattle.std.specs.Cmp.Lexicographic.{slice_cmp};
 ghost use Rattle.std.specs.List.{IsDistinct};
