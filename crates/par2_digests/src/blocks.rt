@@ -1,6 +1,6 @@
 //! The blocks of several messages at once, and of a message by itself.
 
-ghost use Rattle.std.specs.Prelude.{◌≡◌, ◌≤◌, ◌<◌, ◌+◌, ◌*◌, ◌/◌, ◌%◌, ◌^◌, ℕ, List, length, take, drop};
+ghost use Rattle.std.specs.Prelude.{◌≡◌, ◌≤◌, ◌<◌, ◌+◌, ◌*◌, ◌/◌, ◌%◌, ◌^◌, ℕ, length, take, drop};
 ghost use Rattle.md5.specs.Md5.{block_words};
 ghost use Rattle.par2_digests.specs.Feeds.{bytes_left, hash_behind};
 ghost use Rattle.par2_digests.specs.Lanes.{lane, lane_words, Have};
