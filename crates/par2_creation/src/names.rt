@@ -1,5 +1,5 @@
 //! The names of the outputs of a create, and why they can't be taken.
-ghost use Rattle.std.specs.Prelude.{◌≡◌, ◌≤◌, ◌<◌, ◌+◌, ◌-◌, ◌++◌, ◌∷◌, ◌⊎◌, ◌&&◌, ◌||◌, [], length, string_bytes, IsTrue, IfOk, IfErr, OnOk, None};
+ghost use Rattle.std.specs.Prelude.{◌≡◌, ◌≤◌, ◌<◌, ◌+◌, ◌-◌, ◌++◌, ◌∷◌, ◌⊎◌, ◌&&◌, ◌||◌, length, string_bytes, IsTrue, IfOk, IfErr, OnOk, None};
 ghost use Rattle.std.specs.List.{list_any};
 ghost use Rattle.par2_spec.specs.Names.{is_par_name};
 ghost use Rattle.par2_spec.specs.Folders.{has};
