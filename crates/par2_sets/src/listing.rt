@@ -1,6 +1,6 @@
 //! The names of a set's targets and par files, and those under which files are put aside.
 
-ghost use Rattle.std.specs.Prelude.{◌≡◌, ◌&&◌, ℕ, List, IfOk, ◌⊎◌, ◌<◌, ◌+◌, ◌++◌, ◌∷◌, [], Some, None, length, map, IfErr};
+ghost use Rattle.std.specs.Prelude.{◌≡◌, ◌&&◌, ℕ, List, IfOk, ◌⊎◌, ◌<◌, ◌+◌, ◌++◌, ◌∷◌, [], None, length, map, IfErr};
 ghost use Rattle.std.specs.List.{list_any, list_all};
 ghost use Rattle.std.specs.Str.{bytes_eq};
 ghost use Rattle.par2_spec.specs.Answers.{Lists, FailsFor};
