@@ -14,7 +14,7 @@ pub use Rattle.std.specs.List.{AllByRecursion, IsDistinct, cons_option, enumerat
 pub use Rattle.std.specs.Prelude.{IfOk, IfSome, codes, filter, filter_map, flat_map, is_some, nat_eq, option_map, position, sum_by, ◌==◌}
 pub use Rattle.std.specs.Str.{bytes_eq, is_utf8}
 pub use Rattle.std.specs.Vec.Iter.{into_iter_items, into_iter_len}
-pub use Rattle.par2_creation.specs.Faults.{duplicate_input, long_name, there_already}
+pub use Rattle.par2_creation.specs.Faults.{duplicate_input, existing, long_name}
 unfoldable pub use Rattle.par2_creation.specs.Faults.{files_fault, ids_fault, inputs_fault}
 pub use Rattle.par2_creation.specs.Outputs.{HasExponents, HasSlices, HaveExponents, RecordsInputs, inputs_of, names_of, output_names, packets_between, put_change, volume_at, volume_file, volume_if, volumes_asked, volumes_of}
 pub use Rattle.par2_creation.specs.Volumes.{as_file, blank_volume, exponents_in, exponents_of, length_with, nth_volume, place_in, places_in, places_of, slice_of, volume_with, with_slices}
@@ -36,7 +36,7 @@ pub use Rattle.par2_spec.proofs.PassedAnswers.{answered_so, never_found, refused
 pub use Rattle.par2_spec.proofs.Places.{position-map}
 pub use Rattle.par2_spec.proofs.ReadLaws.{distinct_by_length, size_parts}
 pub use Rattle.par2_spec.proofs.TestLaws.{all_none, at_none, where_none}
-pub use Rattle.par2_spec.proofs.TreeLaws.{holds_more, name_order}
+pub use Rattle.par2_spec.proofs.TreeLaws.{holds_more}
 pub use Rattle.par2_spec.specs.Changes.{Change, are_applicable, effects}
 pub use Rattle.par2_spec.specs.Commands.{Create, CreateArgs, files_of, outputs_of}
 pub use Rattle.par2_spec.specs.Faults.{fault_at, fault_where, first_fault}

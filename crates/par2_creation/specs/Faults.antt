@@ -39,5 +39,5 @@ abbrev pub long_name : List (List ℕ) → Option Fault
 long_name names = fault_where (list_any (λ name. nat_lt 255 (length name)) names) NameTooLong
 
 -- a file that would be replaced and may not be
-abbrev pub there_already : Folder → Bool → List (List ℕ) → Option Fault
-there_already folder overwrite names = fault_where (not overwrite && list_any (has folder) names) Exists
+abbrev pub existing : Folder → Bool → List (List ℕ) → Option Fault
+existing folder overwrite names = fault_where (not overwrite && list_any (has folder) names) Exists

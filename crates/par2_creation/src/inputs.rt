@@ -1,7 +1,5 @@
 //! The files that the inputs name, and why they can't be taken.
-ghost use Rattle.std.specs.Prelude.{◌≡◌, ◌≤◌, ◌==◌, ℕ, List, nat_lt, not, length, take, sum_by, position, IfOk, IfSome, Some, None, ◌<◌};
-ghost use Rattle.std.specs.List.{enumerate_from};
-ghost use Rattle.par2_spec.specs.Names.{is_among};
+ghost use Rattle.std.specs.Prelude.{◌≡◌, ◌≤◌, ◌==◌, ℕ, List, nat_lt, not, length, sum_by, position, IfOk, IfSome, Some, None, ◌<◌};
 ghost use Rattle.par2_spec.specs.Slices as spec;
 ghost use Rattle.par2_spec.specs.Faults.{fault_of};
 ghost use Rattle.par2_spec.specs.Folders as folders;

@@ -1,11 +1,11 @@
 //! The names of the outputs of a create, and why they can't be taken.
-ghost use Rattle.std.specs.Prelude.{◌≡◌, ◌≤◌, ◌<◌, ◌+◌, ◌-◌, ◌++◌, ◌∷◌, ◌⊎◌, ◌&&◌, ◌||◌, [], length, string_bytes, IsTrue, IfOk, IfErr, OnOk, None};
+ghost use Rattle.std.specs.Prelude.{◌≡◌, ◌≤◌, ◌<◌, ◌+◌, ◌-◌, ◌++◌, ◌∷◌, ◌⊎◌, ◌&&◌, ◌||◌, length, string_bytes, IsTrue, IfOk, IfErr, OnOk, None};
 ghost use Rattle.std.specs.List.{list_any};
 ghost use Rattle.par2_spec.specs.Names.{is_par_name};
 ghost use Rattle.par2_spec.specs.Folders.{has};
 ghost use Rattle.par2_spec.specs.Volumes as spec;
 ghost use Rattle.par2_spec.specs.Answers.{FailsFor};
-ghost use Rattle.par2_creation.specs.Faults.{long_name, there_already};
+ghost use Rattle.par2_creation.specs.Faults.{existing, long_name};
 ghost use Rattle.par2_creation.specs.Outputs.{volume_at, volumes_of, names_of};
 
 use par2_folder::{Folder, Name};
@@ -102,7 +102,7 @@ fn is_there(folder: &Folder, base: &Name, volumes: &[Volume]) -> bool
 
 /// What is wrong where an output is there already: nothing, if it may be replaced.
 pub fn existing(folder: &Folder, overwrite: bool, base: &Name, volumes: &[Volume]) -> Option<Fault>
-    ensures { result ≡ there_already folder.now.files overwrite (base.now ∷ names_of volumes.now) }
+    ensures { result ≡ existing folder.now.files overwrite (base.now ∷ names_of volumes.now) }
 {
     (!overwrite && is_there(folder, base, volumes)).then_some(Fault::Exists)
 }

@@ -1,7 +1,7 @@
 //! The bytes of volumes. Their packets are there from the start, with zeros for recovery slices and MD5s; the slices are
 //! written into them, all at once, and the MD5s at the end.
 
-ghost use Rattle.std.specs.Prelude.{◌≡◌, ◌≤◌, ◌<◌, ◌+◌, ◌++◌, length, map, IfOk, OnOk};
+ghost use Rattle.std.specs.Prelude.{◌≡◌, ◌≤◌, ◌<◌, ◌+◌, length, map, IfOk, OnOk};
 ghost use Rattle.par2_spec.specs.Answers.{Appends};
 ghost use Rattle.par2_spec.specs.Sums.{lists_of};
 ghost use Rattle.par2_creation.specs.Outputs.{HasExponents, HasSlices, HaveExponents, volume_text};

@@ -1,5 +1,5 @@
 -- The blocks of a message and their words.
-use Rattle.par2_digests.proofs.Common.{◌≡◌, ℕ, suc, ◌+◌, ◌*◌, ◌<◌, ◌≤◌, List, [], ◌∷◌, ◌++◌, take, drop, get_or, ap, ap₂, refl, sym, ◌∙◌, arith, get_or-take, get_or-drop, drop-take, take-take, drop-drop, add_state, rounds, word_at, block_words, compress, hash_after, four_words_at}
+use Rattle.par2_digests.proofs.Common.{◌≡◌, ℕ, ◌+◌, ◌<◌, ◌≤◌, List, [], ◌∷◌, ◌++◌, take, drop, get_or, ap, ap₂, refl, sym, ◌∙◌, arith, get_or-take, get_or-drop, drop-take, take-take, add_state, rounds, word_at, block_words, compress, four_words_at}
 
 -- ---- words
 
@@ -54,16 +54,3 @@ same_parts x y m i n h same =
 pub after_words : (new old hash words block next : List ℕ) → new ≡ add_state old (rounds old words 64) → old ≡ hash → words ≡ block_words block 16 → compress hash block ≡ next → new ≡ next
 unfolding compress
 after_words new old hash words block next made same read is = made ∙ ap₂ (λ h ws. add_state h (rounds h ws 64)) same read ∙ is
-
--- a block more of a message, of which a text has the next blocks
-pub one_block_more : (p text : List ℕ) (n count block : ℕ) → block < count → take (count * 64) (drop (n * 64) p) ≡ take (count * 64) text
-    → compress (hash_after p (n + block)) (take 64 (drop (64 * block) text)) ≡ hash_after p (n + (block + 1))
-unfolding hash_after
-one_block_more p text n count block h same =
-    let next : n + (block + 1) ≡ suc (n + block) = omega arith in
-    let place : n * 64 + 64 * block ≡ (n + block) * 64 = omega arith in
-    let in_message : drop (64 * block) (drop (n * 64) p) ≡ drop ((n + block) * 64) p =
-    drop-drop (64 * block) (n * 64) p ∙ ap (λ (m : ℕ). drop m p) place in
-    let part : take 64 (drop (64 * block) text) ≡ take 64 (drop ((n + block) * 64) p) =
-    sym (same_parts (drop (n * 64) p) text (count * 64) (64 * block) 64 (omega arith) same) ∙ ap (take 64) in_message in
-    rw (next, part) refl

@@ -78,6 +78,10 @@ pub same_rest : (bytes rest : List ℕ) (count : ℕ) → count ≡ min 64 (leng
     → drop (length rest / 64 * 64) rest ≡ drop (length bytes / 64 * 64) bytes
 same_rest bytes rest count counted full rest_is = grind (arith, size_behind, drop-drop)
 
+-- a message goes on in a text that has its next blocks
+pub message_goes_on : (p text : List ℕ) (a n : ℕ) → take (n * 64) (drop (a * 64) p) ≡ take (n * 64) text → hash_behind (hash_after p a) text n ≡ hash_after p (a + n)
+message_goes_on p text a n same = blocks_alike (hash_after p a) text (drop (a * 64) p) n (n * 64) (omega arith) (sym same) ∙ behind_blocks p a n
+
 -- what was taken in as a longer message's beginning
 pub hash_of_longer : (p x : List ℕ) (n : ℕ) → n * 64 ≤ length p → hash_after p n ≡ hash_after (p ++ x) n
 unfolding hash_after

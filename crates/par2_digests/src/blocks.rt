@@ -1,7 +1,7 @@
 //! The blocks of several messages at once, and of a message by itself.
 
-ghost use Rattle.std.specs.Prelude.{◌≡◌, ◌≤◌, ◌<◌, ◌+◌, ◌*◌, ◌/◌, ◌%◌, ◌^◌, ℕ, List, length, take, drop};
-ghost use Rattle.md5.specs.Md5.{block_words, hash_after};
+ghost use Rattle.std.specs.Prelude.{◌≡◌, ◌≤◌, ◌<◌, ◌+◌, ◌*◌, ◌/◌, ◌%◌, ◌^◌, ℕ, length, take, drop};
+ghost use Rattle.md5.specs.Md5.{block_words};
 ghost use Rattle.par2_digests.specs.Feeds.{bytes_left, hash_behind};
 ghost use Rattle.par2_digests.specs.Lanes.{lane, lane_words, Have};
 ghost use Rattle.par2_digests.specs.Texts.{text_at};
@@ -40,10 +40,7 @@ pub(crate) fn absorbed<V: Lanes>(
     requires enough { V.count ≤ length texts.now }
     requires room { count * 64 < 2 ^ 64 }
     requires within { Have V.count (count * 64) texts.now }
-    ensures message { (k n : ℕ) (p : List ℕ) → k < V.count → lane V.at k state ≡ hash_after p n
-        → take (count * 64) (drop (n * 64) p) ≡ take (count * 64) (text_at texts.now k)
-        → lane V.at k result ≡ hash_after p (n + count) }
-    ensures behind { (k : ℕ) → k < V.count → lane V.at k result
+    ensures { (k : ℕ) → k < V.count → lane V.at k result
         ≡ hash_behind (lane V.at k state) (text_at texts.now k) count }
 {
     let mut after = state;

@@ -1,6 +1,6 @@
 //! The bytes of parts, block by block.
 
-ghost use Rattle.std.specs.Prelude.{true, false, ◌≡◌, ◌≤◌, ◌<◌, ◌+◌, ◌-◌, ◌*◌, ◌^◌, ◌++◌, [], ℕ, length, take, drop, min};
+ghost use Rattle.std.specs.Prelude.{true, false, ◌≡◌, ◌≤◌, ◌<◌, ◌+◌, ◌-◌, ◌*◌, ◌^◌, ◌++◌, [], length, take, drop, min};
 ghost use Rattle.par2_digests.specs.Feeds.{at_hand, bytes_left};
 ghost use Rattle.par2_digests.specs.Messages.{message_of, part_bytes};
 

@@ -1,6 +1,6 @@
 //! The 64 steps of a block (RFC 1321, 3.4) on several messages at once.
 
-ghost use Rattle.std.specs.Prelude.{◌≡◌, ◌≤◌, ◌<◌, ◌+◌, ℕ, List, [], ◌∷◌, slice_index};
+ghost use Rattle.std.specs.Prelude.{◌≡◌, ◌≤◌, ◌<◌, ◌+◌, ℕ, [], ◌∷◌, slice_index};
 ghost use Rattle.md5.specs.Md5.{add32, add_state, round, rounds, step_constants, step_shifts};
 ghost use Rattle.par2_digests.specs.Lanes.{lane, lane_words, GoesOn};
 

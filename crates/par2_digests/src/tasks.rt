@@ -58,8 +58,9 @@ impl<'a> Task<'a> {
     fn turn<V: Lanes>(&mut self, block: &mut [u8], state: &State<V>, k: usize)
         requires within { k < V.count }
         requires whole { length block.old ≡ 64 }
-        ensures leads { (last rest : List ℕ) → LeadsTo self.old (lane V.at k state.now) last rest
-            → LeadsTo self.new (hash_behind (lane V.at k state.now) block.new 1) last rest }
+        ensures leads { let hash = lane V.at k state.now in (last rest : List ℕ)
+            → LeadsTo self.old hash last rest
+            → LeadsTo self.new (hash_behind hash block.new 1) last rest }
         ensures shrinks { work self.new ≤ work self.old - 1 }
     {
         let None = self.hash else {
@@ -98,8 +99,8 @@ fn batch_of(tasks: &[Task]) -> usize
     count
 }
 
-// Takes so many blocks of each message where they lie. In other lanes are those of message `unfinished`, whose hash value is
-// still to come.
+// Takes so many blocks of each message where they lie. In other lanes are those of message `unfinished`, whose hash
+// value is still to come.
 fn take_all<'a>(
     tasks: &mut [Task<'a>; 8],
     count: usize,
@@ -165,8 +166,8 @@ fn has_company(tasks: &[Task], count: usize, k: usize) -> bool
     false
 }
 
-// Takes as many blocks of each message as are at hand of all, or copies one of each, until the hash value of message k is
-// there, or those of all after it.
+// Takes as many blocks of each message as are at hand of all, or copies one of each, until the hash value of message k
+// is there, or those of all after it.
 fn go_on<V: Lanes>(
     tasks: &mut [Task; 8],
     state: State<V>,

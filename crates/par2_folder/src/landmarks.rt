@@ -1,5 +1,5 @@
 //! States within a folder's fingerprint, from which other fingerprints set out, and how a pass over a folder finds them.
-ghost use Rattle.std.specs.Prelude.{◌<◌, ◌∷◌, [], length, map, OnOk, IsTrue, ◌≡◌, ◌++◌, ℕ, List, IfOk};
+ghost use Rattle.std.specs.Prelude.{◌<◌, ◌∷◌, [], length, map, OnOk, IsTrue, ◌≡◌, IfOk};
 ghost use Rattle.par2_digests.specs.Messages.{HasAbsorbed};
 ghost use Rattle.par2_spec.specs.Folders as defined;
 ghost use Rattle.par2_spec.specs.Folders.{fingerprint};

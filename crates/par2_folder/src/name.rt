@@ -1,10 +1,9 @@
 //! Names of files, in place.
-ghost use Rattle.std.specs.Prelude.{◌≡◌, ◌↔◌, ◌==◌, ◌≤◌, ◌&&◌, ◌||◌, nat_le, length, is_some, IfOk, IfSome, IsOk, IsErr, IsTrue, IsFalse, Ok, Some, None, nat_eq, refl, codes};
+ghost use Rattle.std.specs.Prelude.{◌≡◌, ◌↔◌, ◌==◌, ◌≤◌, ◌&&◌, ◌||◌, nat_le, length, is_some, IfOk, IfSome, IsOk, IsTrue, Ok, Some, None, nat_eq, refl, codes};
 ghost use Rattle.std.specs.Ordering.{nat_cmp};
 ghost use Rattle.std.specs.Cmp.{on_equiv, on_total, on_po, on_per, partial_equiv_from_equiv};
 ghost use Rattle.std.specs.Cmp.Lexicographic.{pointwise, slice_cmp, nat_list_eq_equiv, nat_list_cmp_total, texts_po, texts_ties};
 ghost use Rattle.std.specs.List.{starts_with};
-ghost use Rattle.std.specs.Str.{bytes_eq};
 ghost use Rattle.par2_spec.specs.Names.{is_name, is_par_name};
 
 use arrayvec::ArrayString;

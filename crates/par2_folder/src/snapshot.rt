@@ -1,12 +1,12 @@
 //! The files of a folder where they lie, led through changes that are not made, and borders among their names.
 ghost use Rattle.std.specs.FinMap as map_of;
 ghost use Rattle.std.specs.Prelude.{◌≡◌, map, Some, None, IfOk, IfErr, OnOk, IsTrue, ◌++◌, ◌∷◌, []};
-ghost use Rattle.par2_spec.specs.Folders.{has, bytes_of, behind_length};
+ghost use Rattle.par2_spec.specs.Folders.{has, bytes_of};
 ghost use Rattle.par2_spec.specs.Changes.{is_applicable, effect};
 ghost use Rattle.par2_folder.specs.Runs.{Reaches};
 ghost use Rattle.par2_folder.specs.Sorting.{IsAt, IsGapFor, IsKept, folder_of, file_at};
 ghost use Rattle.par2_folder.specs.Views.{change_of};
-ghost use Rattle.par2_folder.specs.Below.{IsFront, is_below, fingerprint_input};
+ghost use Rattle.par2_folder.specs.Below.{IsFront, fingerprint_input};
 ghost use Rattle.par2_folder.specs.Snapshots.{file_of, files_in, folder_in};
 ghost use Rattle.par2_digests.specs.Messages.{HasAbsorbed, message_of};
 ghost use Rattle.par2_folder.specs.Borders.{IsFurther, comes_before, is_before, text_before, touches};

@@ -74,9 +74,6 @@ interleaving low high ll lh = record {
 
 -- ---- look-ups
 
-abbrev pub IsVector : List ℕ → Type 0
-IsVector v = (length v ≡ 32) × Each1 (Fits w8) v
-
 abbrev pub down : ℕ → ℕ → ℕ
 down a b = a / 2 ^ b
 

@@ -1,7 +1,7 @@
 //! Thirty-two words at a time. A word is the sum of its four nibbles, each in its place, so its product is the sum of
 //! theirs, and those are looked up.
 
-ghost use Rattle.std.specs.Prelude.{◌≡◌, ℕ, ◌+◌, ◌*◌, ◌/◌, ◌%◌, ◌^◌, ◌<◌, ◌≤◌, List, length, map, slice_index, take, drop, bit_xor};
+ghost use Rattle.std.specs.Prelude.{◌≡◌, ℕ, ◌+◌, ◌*◌, ◌/◌, ◌%◌, ◌^◌, ◌<◌, ◌≤◌, List, length, slice_index, take, drop, bit_xor};
 ghost use Rattle.std.specs.Simd.Lanes.{zip2};
 ghost use Rattle.par2_spec.specs.Field.{mul};
 ghost use Rattle.par2_gf16.specs.Steps.{AddsWithin, IsTable};

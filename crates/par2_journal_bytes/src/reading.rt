@@ -31,9 +31,8 @@ fn read_block(bytes: &[u8], len: usize) -> Result<(&[u8], &[u8]), DecodeFault>
 fn read_number(bytes: &[u8]) -> Result<(u64, &[u8]), DecodeFault>
     ensures { Gives (λ x. (x.0, x.1.now)) result (reads.number_at bytes.now) }
 {
-    let Some((number, rest)) = bytes.split_first_chunk() else {
-        return Err(DecodeFault::JournalInvalid);
-    };
+    let chunk = bytes.split_first_chunk();
+    let (number, rest) = chunk.ok_or(DecodeFault::JournalInvalid)?;
     Ok((u64::from_le_bytes(*number), rest))
 }
 
@@ -41,9 +40,8 @@ fn read_number(bytes: &[u8]) -> Result<(u64, &[u8]), DecodeFault>
 fn read_digest(bytes: &[u8]) -> Result<([u8; 16], &[u8]), DecodeFault>
     ensures { Gives (λ x. (x.0, x.1.now)) result (reads.block_at 16 bytes.now) }
 {
-    let Some((digest, rest)) = bytes.split_first_chunk() else {
-        return Err(DecodeFault::JournalInvalid);
-    };
+    let chunk = bytes.split_first_chunk();
+    let (digest, rest) = chunk.ok_or(DecodeFault::JournalInvalid)?;
     Ok((*digest, rest))
 }
 
@@ -55,10 +53,8 @@ fn read_name(bytes: &[u8]) -> Result<(Name, &[u8]), DecodeFault>
         return Err(DecodeFault::JournalInvalid);
     };
     let (text, rest) = read_block(rest, *len as usize)?;
-    match Name::from_bytes(text) {
-        Some(name) => Ok((name, rest)),
-        None => Err(DecodeFault::JournalInvalid),
-    }
+    let name = Name::from_bytes(text).ok_or(DecodeFault::JournalInvalid)?;
+    Ok((name, rest))
 }
 
 #[tactic(auto, unfolding(crate::specs::Reading::behind_length_at))]

@@ -1,5 +1,5 @@
 -- What an accepted undo leaves of a history.
-use Rattle.par2_laws.proofs.Common.{◌≡◌, ◌∙◌, arith, ℕ, suc, List, [], ◌∷◌, drop, Ok, sym, ap, Result, Folder, History, after_undo, folders}
+use Rattle.par2_laws.proofs.Common.{◌≡◌, arith, ℕ, suc, List, ◌∷◌, drop, Ok, Folder, History, after_undo, folders}
 
 -- an accepted undo leaves one folder fewer
 pub one_fewer : (m : ℕ) (now : Folder) (older newer fs : List Folder) (next : History) → after_undo now older newer ≡ Ok next → drop (suc m) (now ∷ older) ≡ fs → drop m (folders next) ≡ fs

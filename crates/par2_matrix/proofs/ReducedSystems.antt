@@ -26,9 +26,6 @@ witness_vector s r q i = grind (arith, by_either, cases_eq, witness, witness_her
 witness_killed : (s : Echelon) → IsReduced s → (q : ℕ) → q < s.columns → length (list_at s.rows q) ≡ 0 → Vanishes s (witness s.rows q)
 witness_killed s r q hq free p hp = at (cases_lt 0 (length (list_at s.rows p)))
   where
-    term : ℕ → ℕ
-    term i = mul (word i (list_at s.rows p)) (witness s.rows q i)
-
     at : ((0 < length (list_at s.rows p)) ⊎ (length (list_at s.rows p) ≤ 0)) → row_sum s.columns (list_at s.rows p) (witness s.rows q) ≡ 0
     at (inr none) = row_sum_empty s.columns (list_at s.rows p) (witness s.rows q) (λ i h. word_empty (list_at s.rows p) i (omega arith))
     at (inl there) =

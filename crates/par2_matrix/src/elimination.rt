@@ -1,9 +1,9 @@
 //! The steps of the elimination. Rows and right sides are bytes: element `i` of a row is the little-endian word at
 //! `2 * i`, so that one kernel adds both.
-ghost use Rattle.std.specs.Prelude.{◌≡◌, ◌≢◌, ℕ, ◌+◌, ◌*◌, ◌%◌, ◌^◌, ◌<◌, ◌≤◌, List, length, slice_index, IfSome, IfOk, IsNone};
+ghost use Rattle.std.specs.Prelude.{◌≡◌, ◌≢◌, ℕ, ◌+◌, ◌*◌, ◌%◌, ◌^◌, ◌<◌, length, slice_index, IfSome, IfOk, IsNone};
 ghost use Rattle.par2_spec.specs.Slices.{word};
 ghost use Rattle.par2_gf16.specs.Products.{AddsProducts};
-ghost use Rattle.par2_matrix.specs.Echelon.{WordPut, Spells, Scaled, ReducedBelow, IsReduced, IsImplied, IsMultiple, IsPrepared, ClearedBelow, PutAt, AllEmpty, echelon_of};
+ghost use Rattle.par2_matrix.specs.Echelon.{Scaled, ReducedBelow, IsReduced, IsImplied, IsMultiple, IsPrepared, ClearedBelow, PutAt, AllEmpty, echelon_of};
 ghost use Rattle.par2_spec.specs.Sums.{OneChanged, lists_of, list_at};
 
 use crate::elements::{element, put_element};

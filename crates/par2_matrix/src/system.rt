@@ -1,5 +1,5 @@
 //! A system of equations.
-ghost use Rattle.std.specs.Prelude.{◌≡◌, ◌≢◌, ℕ, ◌%◌, ◌<◌, ◌≤◌, ◌↔◌, length, IsOk, IfOk, IfErr, Ok};
+ghost use Rattle.std.specs.Prelude.{◌≡◌, ◌≢◌, ◌%◌, ◌<◌, ◌≤◌, ◌↔◌, length, IsOk, IfOk, IfErr, Ok};
 ghost use Rattle.par2_matrix.specs.Systems.{Equations, lists_of, rank, no_equations, CutDown, IsIndependent, IsDependent, IsUndetermined, OnlyZeroIsKilled, IsTheSolution};
 
 use crate::elements::bytes_of_row;

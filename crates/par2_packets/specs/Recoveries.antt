@@ -1,17 +1,11 @@
 -- The packets of recovery slices.
-use Rattle.std.specs.Prelude.{ℕ, ◌≡◌, ◌≤◌, ◌+◌, List, ◌++◌, length, drop, map, replicate}
+use Rattle.std.specs.Prelude.{ℕ, ◌≡◌, ◌≤◌, ◌+◌, List, ◌++◌, length, drop, replicate}
 use Rattle.std.specs.Int.{w64, to_le_bytes}
-use Rattle.std.specs.List.{enumerate_from}
 use Rattle.md5.specs.Md5.{md5}
 use Rattle.par2_spec.specs.Packets.{Packet, packet, magic, digest_input}
 use Rattle.par2_spec.specs.Volumes.{packet_of, recovery_bytes}
 use Rattle.par2_spec.specs.declared.Kind.TheVariants.{Recovery}
 use Rattle.par2_packets.specs.Pieces.{overwritten, ArePieces, changed_below}
-
--- the packets of recovery slices whose exponents count up from the first one
-abbrev pub packets_from : List ℕ → ℕ → List (List ℕ) → List Packet
-packets_from set_id first slices =
-    map (λ z. packet_of set_id Recovery (recovery_bytes z.0 z.1)) (enumerate_from first slices)
 
 -- the packet of a recovery slice
 abbrev pub recovery_packet : List ℕ → ℕ → List ℕ → Packet

@@ -1,10 +1,10 @@
 //! Packets are written.
 
-ghost use Rattle.std.specs.Prelude.{◌≡◌, ◌≤◌, ◌+◌, ◌-◌, ◌%◌, ◌++◌, length, map, flat_map, OnOk, OnErr, IfOk};
+ghost use Rattle.std.specs.Prelude.{◌≡◌, ◌≤◌, ◌+◌, ◌-◌, ◌%◌, ◌++◌, length, map, OnOk, OnErr};
 ghost use Rattle.md5.specs.Md5.{md5};
 ghost use Rattle.par2_spec.specs.Answers.{Appends};
 ghost use Rattle.par2_spec.specs.Packets as packets;
-ghost use Rattle.par2_spec.specs.Packets.{packet, digest_input};
+ghost use Rattle.par2_spec.specs.Packets.{packet};
 ghost use Rattle.par2_spec.specs.Volumes.{packet_of, main_id, main_bytes, desc_bytes, ifsc_bytes, creator_bytes, recovery_bytes};
 ghost use Rattle.par2_packets.specs.Views.{file_record_of};
 

@@ -2,7 +2,7 @@
 
 pub use Rattle.std.proofs.Common.{Bool, Bor, Err, Global, IsTrue, List, Ok, [], ap, append-nil, append_assoc, ap₂, arith, cond, drop, false, get_or, inl, inr, length, map, min, not, refl, rules, string_bytes, subst, suc, sym, take, tests, true, zero, ℕ, ◌%◌, ◌&&◌, ◌++◌, ◌+◌, ◌-◌, ◌<◌, ◌==◌, ◌||◌, ◌↔◌, ◌∙◌, ◌∷◌, ◌≡◌, ◌≤◌, ◌⊎◌}
 pub use Rattle.std.proofs.lemmas.Bool.{and_from, and_parts, both_ways, eq-eqb, false_from_ne_true, ne_eqb, not-false, not-true, or_right}
-pub use Rattle.std.proofs.lemmas.Iterator.{YieldsList, YieldsList-from_map, YieldsList-from_map_by, YieldsList-from_slice, YieldsList-from_zip, items_from_collect, items_from_drains}
+pub use Rattle.std.proofs.lemmas.Iterator.{YieldsList-from_map, YieldsList-from_map_by, YieldsList-from_slice, YieldsList-from_zip, items_from_collect}
 pub use Rattle.std.proofs.lemmas.Iterator.Adapters.{fact_from_collect, fact_from_extend, position_from-zero}
 pub use Rattle.std.proofs.lemmas.Iterator.Consumers.{YieldsList-at, YieldsList-from_filter, YieldsList-from_filter_map, map_from_collect}
 pub use Rattle.std.proofs.lemmas.List.{drop-drop, drop-map, drop_all, drop_more, length-append, length-map, length-replicate, length-take, map-append, map_more, nil_from_length, take-map, take-replicate, take_all, take_min, take_more}
@@ -55,7 +55,7 @@ pub use Rattle.par2_spec.specs.Checksums.{Pair}
 pub use Rattle.par2_spec.specs.Commands.{Purge, Repair, Verify}
 pub use Rattle.par2_spec.specs.Faults.{fault_where, first_fault, then_fault}
 pub use Rattle.par2_spec.specs.Folders.{Folder, bytes_of, has}
-pub use Rattle.par2_spec.specs.NameTrees.{HoldsNames, name_cmp}
+pub use Rattle.par2_spec.specs.NameTrees.{HoldsNames}
 pub use Rattle.par2_spec.specs.Names.{distinct, is_among, is_name, is_par_name}
 pub use Rattle.par2_spec.specs.Plans.{AreFewFor, LeadsToAfter, now_at, purge_changes}
 unfoldable pub use Rattle.par2_spec.specs.Plans.{changes_of, repair_changes, repair_removals}

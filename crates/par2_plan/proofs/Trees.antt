@@ -1,33 +1,19 @@
 -- Trees that are made of lists.
-use Rattle.par2_plan.proofs.Common.{◌≡◌, ◌∙◌, ◌||◌, ℕ, List, [], ◌∷◌, map, refl, ap, ap₂, false, cond, subst, zip, Option, None, Some, IfOk, Result, list_any, BTreeMap, HoldsAsides, itself, clash, is_among, BTreeSet, IsFromIterResult, slice_cmp, nat_list_cmp_total, nat_cmp, eq_by_cmp, YieldsList, items_from_drains, name_cmp, Ok, Err}
-use Rattle.par2_sets.specs.Asides.{HoldsNames}
+use Rattle.par2_plan.proofs.Common.{◌≡◌, ◌∙◌, ◌||◌, ℕ, List, [], ◌∷◌, map, refl, ap, ap₂, false, cond, zip, None, Some, list_any, BTreeMap, HoldsAsides, itself, clash, is_among, BTreeSet, IsFromIterResult, slice_cmp, nat_list_cmp_total, nat_cmp, eq_by_cmp}
+use Rattle.par2_sets.specs.Asides.{HoldsOwned}
 use Rattle.std.specs.Cmp.{eq_by_cmp_equiv}
 use Rattle.std.proofs.lemmas.Map.Made.{update_all_pairs}
-use Rattle.std.specs.Borrow.{Bor}
 use Rattle.std.specs.Map.{update_all}
-use Rattle.std.specs.Iterator.{DrainsIf}
 use Rattle.std.proofs.lemmas.Map.Lookups.{exact_bytes}
 use Rattle.std.proofs.lemmas.Map.Text.{is_eq-slice_cmp}
 use Rattle.std.proofs.lemmas.Map.Views.{tells_apart}
-use Rattle.par2_spec.specs.NameTrees as references
 use Rattle.std.specs.BTreeMap as trees
 
 member_among : (names : List (List ℕ)) (q : List ℕ) → list_any (eq_by_cmp (slice_cmp nat_cmp) q) names ≡ is_among names q
 member_among [] q = refl
 member_among (name ∷ names) q = ap₂ (λ a b. a || b) (is_eq-slice_cmp q name) (member_among names q)
 
--- references
-references_among : (names : List (Bor (List ℕ))) (q : Bor (List ℕ)) → list_any (eq_by_cmp name_cmp q) names ≡ is_among (map (λ n. n.now) names) q.now
-references_among [] q = refl
-references_among (name ∷ names) q = ap₂ (λ a b. a || b) (is_eq-slice_cmp q.now name.now) (references_among names q)
-
--- a tree of what a chain of references yields
-pub holds_from_collect : {S E : Type 0} {steps : S → Option (Bor (List ℕ)) → S → Type 0} {s : S} {names : List (List ℕ)} (r : Result (BTreeSet (Bor (List ℕ))) E)
-    → IfOk r (λ tree. (xs : List (Bor (List ℕ))) × DrainsIf steps (Unit {0}) s xs × IsFromIterResult name_cmp xs tree) → YieldsList steps (λ n. n.now) s names → IfOk r (λ tree. references.HoldsNames tree names)
-holds_from_collect (Ok tree) ran road = subst (references.HoldsNames tree) (items_from_drains ran.0 ran.1 road) (λ q. ran.2.0 q ∙ references_among ran.0 q)
-holds_from_collect (Err e) ran road = tt
-
-pub holds : (names : List (List ℕ)) (tree : BTreeSet (List ℕ)) → IsFromIterResult (slice_cmp nat_cmp) names tree → HoldsNames tree names
+pub holds : (names : List (List ℕ)) (tree : BTreeSet (List ℕ)) → IsFromIterResult (slice_cmp nat_cmp) names tree → HoldsOwned tree names
 holds names tree is name = is.0 name ∙ member_among names name
 
 -- a tree is made of these names and their asides

@@ -45,15 +45,15 @@ IsRead folder set extras = (base : List ℕ) × (set_in folder base extras ≡ O
 
 -- the match of the next needing target, if this one is needing, and those that are left
 abbrev pub GoesOn : Bool → List (Target × Option (List ℕ)) → Option (Bor (List ℕ)) → List (Target × Option (List ℕ)) → Type 0
-GoesOn true needing given later =
-    (option_map (λ name. name.now) given ≡ slice_index_or (map (λ m. m.1) needing) 0 None) × (map (λ m. m.1) later ≡ drop 1 (map (λ m. m.1) needing))
-GoesOn false needing given later = later ≡ needing
+GoesOn true needing matched later =
+    (option_map (λ name. name.now) matched ≡ slice_index_or (map (λ m. m.1) needing) 0 None) × (map (λ m. m.1) later ≡ drop 1 (map (λ m. m.1) needing))
+GoesOn false needing matched later = later ≡ needing
 
 -- what is said of a target by whether it is needing, its match, and whether each of its slices is found
 abbrev pub said_of : Folder → Target × Bool → Option (List ℕ) → List Bool → TargetReport
-said_of folder z given found = record {
+said_of folder z matched found = record {
   name = z.0.name;
-  state = if z.1 then needing_state (has folder z.0.name) given else Complete;
+  state = if z.1 then needing_state (has folder z.0.name) matched else Complete;
   found = length (filter (λ b. b) found);
   total = length z.0.pairs;
 }

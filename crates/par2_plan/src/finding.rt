@@ -1,5 +1,5 @@
 //! What is found of a set: the matches of its targets, and which of its slices are found.
-ghost use Rattle.std.specs.Prelude.{◌≡◌, ◌++◌, [], true, map, take, drop, is_some, IfOk, OnOk, if◌then◌else◌};
+ghost use Rattle.std.specs.Prelude.{◌≡◌, true, map, take, drop, is_some, IfOk, if◌then◌else◌};
 ghost use Rattle.std.specs.BTreeSet.{contains};
 ghost use Rattle.std.specs.Cmp.Lexicographic.{slice_cmp};
 ghost use Rattle.std.specs.List.{IsDistinct};
@@ -36,41 +36,19 @@ fn sought_pairs(alloc: Global, set: &ParSet, names: &BTreeSet<Name>) -> Result<V
 {
     let mut pairs = Vec::new(alloc);
     for target in set.targets() {
-        let (sought, _) = sought_and_others(target, names);
-        pairs.extend_from_slice(sought)?;
+        if names.contains(target.name()) {
+            pairs.extend_from_slice(target.pairs())?;
+        }
     }
     Ok(pairs)
 }
 
 /// The first items, so many or all that there are, and the others.
-pub fn parts<T>(items: &[T], count: usize) -> (&[T], &[T])
+pub fn split_at_most<T>(items: &[T], count: usize) -> (&[T], &[T])
     ensures first { result.0.now ≡ take count items.now }
     ensures others { result.1.now ≡ drop count items.now }
 {
     items.split_at(count.min(items.len()))
-}
-
-// The pairs of a target that are searched for, if it has one of these names, and those that aren't.
-fn sought_and_others<'t>(target: &'t Target, names: &BTreeSet<Name>) -> (&'t [Pair], &'t [Pair])
-    ensures sought { let is_sought = contains (slice_cmp nat_cmp) names.now target.now.name in
-        result.0.now ≡ if is_sought then target.now.pairs else [] }
-    ensures others { let is_sought = contains (slice_cmp nat_cmp) names.now target.now.name in
-        result.1.now ≡ if is_sought then [] else target.now.pairs }
-{
-    if names.contains(target.name()) {
-        (target.pairs(), &[])
-    } else {
-        (&[], target.pairs())
-    }
-}
-
-// Adds whether slices are found: these answers, and that the slices of these pairs are.
-fn push_found(found: &mut Vec<bool>, answers: &[bool], others: &[Pair]) -> Result<()>
-    ensures { let more = answers.now ++ map (λ pair. true) others.now in
-        OnOk result (found.new.items ≡ found.old.items ++ more) }
-{
-    found.extend_from_slice(answers)?;
-    found.resize(found.len() + others.len(), true)
 }
 
 // Whether each slice of these targets is found: those of the targets of these names by the answers, all of the others.
@@ -86,10 +64,14 @@ fn found_slices(
     let mut found = Vec::new(alloc);
     let mut rest = answers;
     for target in targets {
-        let (sought, others) = sought_and_others(target, names);
-        let (own, left) = parts(rest, sought.len());
-        rest = left;
-        push_found(&mut found, own, others)?;
+        let count = target.pairs().len();
+        if names.contains(target.name()) {
+            let (own, left) = split_at_most(rest, count);
+            found.extend_from_slice(own)?;
+            rest = left;
+        } else {
+            found.resize(found.len() + count, true)?;
+        }
     }
     Ok(found)
 }

@@ -3,7 +3,7 @@ ghost use Rattle.std.specs.Prelude.{◌≡◌, ◌++◌, ℕ, List, Some, None, 
 ghost use Rattle.par2_spec.specs.Answers.{FailsFor, Lists};
 ghost use Rattle.par2_spec.specs.Changes as spec;
 ghost use Rattle.par2_spec.specs.Repairs.{names_without_match};
-ghost use Rattle.par2_sets.specs.Asides.{HoldsNames, long_aside};
+ghost use Rattle.par2_sets.specs.Asides.{HoldsOwned, long_aside};
 ghost use Rattle.par2_plan.specs.Repairing.{AreMoves, HoldsAsides, files_removed, matches_taken, names_there, place_by, writes};
 ghost use Rattle.par2_spec.specs.Folders as folders;
 ghost use Rattle.par2_spec.specs.Plans.{repair_changes, repair_removals};
@@ -20,6 +20,9 @@ use par2_spec::{Fault, Result};
 use std::alloc::Global;
 use std::collections::{BTreeMap, BTreeSet};
 
+// Where each file that is put aside stands then.
+type Asides = BTreeMap<Name, Name>;
+
 /// What a repair moves.
 #[derive(Drop)]
 pub struct Moves<'n, 's> {
@@ -28,7 +31,7 @@ pub struct Moves<'n, 's> {
     /// The names of those whose files are there, and are put aside.
     pub put_aside: Vec<Name>,
     /// Where these files stand then.
-    pub asides: BTreeMap<Name, Name>,
+    pub asides: Asides,
 }
 
 // The names of the needing targets whose files are there.
@@ -57,13 +60,13 @@ fn unmatched_name(needing: &Needing) -> Option<Name>
 
 /// The names of the needing targets that have no match.
 pub fn unmatched(alloc: Global, needing: &[Needing]) -> Result<BTreeSet<Name>>
-    ensures { IfOk result (λ tree. HoldsNames tree (names_without_match needing.now)) }
+    ensures { IfOk result (λ tree. HoldsOwned tree (names_without_match needing.now)) }
 {
     needing.iter().filter_map(unmatched_name).collect(alloc)
 }
 
 // The asides by the names of the files that are put aside.
-fn asides_by_name(alloc: Global, names: &[Name], asides: &[Name]) -> Result<BTreeMap<Name, Name>>
+fn asides_by_name(alloc: Global, names: &[Name], asides: &[Name]) -> Result<Asides>
     ensures { IfOk result (λ tree. (aside : List ℕ → List ℕ) →
         asides.now ≡ map aside names.now → HoldsAsides aside names.now tree) }
 {
@@ -100,7 +103,7 @@ pub fn moves_of<'n, 's>(
 
 // The names of the matches.
 fn matching(alloc: Global, targets: &[Needing]) -> Result<BTreeSet<Name>>
-    ensures { IfOk result (λ names. HoldsNames names (filter_map (λ m. m.1) targets.now)) }
+    ensures { IfOk result (λ names. HoldsOwned names (filter_map (λ m. m.1) targets.now)) }
 {
     let names = targets
         .iter()
@@ -109,7 +112,7 @@ fn matching(alloc: Global, targets: &[Needing]) -> Result<BTreeSet<Name>>
 }
 
 // Where a file stands once others are put aside.
-fn now_at(asides: &BTreeMap<Name, Name>, name: &Name) -> Name
+fn now_at(asides: &Asides, name: &Name) -> Name
     ensures { (aside : List ℕ → List ℕ) (names : List (List ℕ)) →
         HoldsAsides aside names asides.now → result ≡ place_by aside names name.now }
 {
@@ -120,59 +123,59 @@ fn now_at(asides: &BTreeMap<Name, Name>, name: &Name) -> Name
 }
 
 // Files are put aside.
-fn push_asides(out: &mut Changes, names: &[Name], asides: &BTreeMap<Name, Name>) -> Result<()>
+fn push_asides(changes: &mut Changes, names: &[Name], asides: &Asides) -> Result<()>
     ensures { (aside : List ℕ → List ℕ) (all : List (List ℕ)) →
         HoldsAsides aside all asides.now →
         let renames = map (λ name. spec.Rename name (place_by aside all name)) names.now in
-        OnOk result (out.new ≡ out.old ++ renames) }
+        OnOk result (changes.new ≡ changes.old ++ renames) }
 {
     for name in names {
-        out.push(Change::Rename(name.copied(), now_at(asides, name)))?;
+        changes.push(Change::Rename(name.copied(), now_at(asides, name)))?;
     }
     Ok(())
 }
 
 // Each target that has a match takes it. A match that was put aside is taken from there.
-fn push_matches(out: &mut Changes, targets: &[Needing], asides: &BTreeMap<Name, Name>) -> Result<()>
+fn push_matches(changes: &mut Changes, targets: &[Needing], asides: &Asides) -> Result<()>
     ensures { (aside : List ℕ → List ℕ) (all : List (List ℕ)) →
         HoldsAsides aside all asides.now →
         let taken = matches_taken (place_by aside all) targets.now in
-        OnOk result (out.new ≡ out.old ++ taken) }
+        OnOk result (changes.new ≡ changes.old ++ taken) }
 {
     for needing in targets {
         if let Some(found) = &needing.found {
             let from = now_at(asides, found);
-            out.push(Change::Rename(from, needing.target.name().copied()))?;
+            changes.push(Change::Rename(from, needing.target.name().copied()))?;
         }
     }
     Ok(())
 }
 
 // Targets are written, in order.
-fn push_writes(out: &mut Changes, restored: Vec<Restored>) -> Result<()>
-    ensures { OnOk result (out.new ≡ out.old ++ writes restored.entry.items) }
+fn push_writes(changes: &mut Changes, restored: Vec<Restored>) -> Result<()>
+    ensures { OnOk result (changes.new ≡ changes.old ++ writes restored.entry.items) }
 {
     for file in restored {
-        out.push(Change::Write(file.target.name().copied(), file.bytes))?;
+        changes.push(Change::Write(file.target.name().copied(), file.bytes))?;
     }
     Ok(())
 }
 
 // Files that are nobody's match are removed, from where they stand.
 fn push_removed(
-    out: &mut Changes,
+    changes: &mut Changes,
     names: &[Name],
-    asides: &BTreeMap<Name, Name>,
+    asides: &Asides,
     matching: &BTreeSet<Name>,
 ) -> Result<()>
     ensures { (aside : List ℕ → List ℕ) (all given : List (List ℕ)) →
-        HoldsAsides aside all asides.now → HoldsNames matching.now given →
+        HoldsAsides aside all asides.now → HoldsOwned matching.now given →
         let removed = files_removed (place_by aside all) given names.now in
-        OnOk result (out.new ≡ out.old ++ removed) }
+        OnOk result (changes.new ≡ changes.old ++ removed) }
 {
     for name in names {
         if !matching.contains(name) {
-            out.push(Change::Remove(now_at(asides, name)))?;
+            changes.push(Change::Remove(now_at(asides, name)))?;
         }
     }
     Ok(())
@@ -193,13 +196,18 @@ pub fn repair_changes(alloc: Global, moves: &Moves, restored: Vec<Restored>) -> 
 }
 
 /// Then the asides that are left are removed, and the par files.
-pub fn push_removals(alloc: Global, out: &mut Changes, moves: &Moves, files: &[Name]) -> Result<()>
+pub fn push_removals(
+    alloc: Global,
+    changes: &mut Changes,
+    moves: &Moves,
+    files: &[Name],
+) -> Result<()>
     ensures { (folder : folders.Folder) (set : sets.ParSet) (searched : List (List ℕ))
         → AreMoves folder set searched moves.now
         → files.now ≡ par_files folder set
-        → OnOk result (out.new ≡ out.old ++ repair_removals folder set searched) }
+        → OnOk result (changes.new ≡ changes.old ++ repair_removals folder set searched) }
 {
     let matching = matching(alloc, moves.needing)?;
-    push_removed(out, &moves.put_aside, &moves.asides, &matching)?;
-    push_removed(out, files, &moves.asides, &matching)
+    push_removed(changes, &moves.put_aside, &moves.asides, &matching)?;
+    push_removed(changes, files, &moves.asides, &matching)
 }

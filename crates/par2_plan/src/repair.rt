@@ -6,7 +6,7 @@ ghost use Rattle.par2_spec.specs.Refusals.{repair_refusal};
 ghost use Rattle.par2_spec.specs.Repairs.{rebuilt_targets};
 ghost use Rattle.par2_spec.specs.Search as search;
 ghost use Rattle.par2_plan.specs.Restoring.{md5s_of, undetermined_fault};
-ghost use Rattle.par2_sets.specs.Asides.{HoldsNames};
+ghost use Rattle.par2_sets.specs.Asides.{HoldsOwned};
 ghost use Rattle.par2_spec.specs.Answers.{FailsFor, Lists};
 ghost use Rattle.par2_spec.specs.Planned.{FailsAs, GivesChanges, LeadsAs, RefusesEarly, SucceedsAs, repair_of};
 ghost use Rattle.par2_plan.specs.Drafts.{IsDraft, IsDraftBy};
@@ -38,7 +38,7 @@ fn files_for<'s>(
     ensures refused { let known = known_by folder.now.files set.now candidates.now in
         FailsFor (undetermined_fault set.now known) result }
     ensures restored { let known = known_by folder.now.files set.now candidates.now in
-        (names : List (List ℕ)) → HoldsNames unmatched.now names →
+        (names : List (List ℕ)) → HoldsOwned unmatched.now names →
         IfOk result (λ restored. AreRestored set.now known names restored.items) }
 {
     if unmatched.is_empty() {

@@ -11,7 +11,7 @@ ghost use Rattle.par2_spec.specs.Search.{survivors};
 ghost use Rattle.par2_plan.specs.Findings.{GoesOn, lost_by, report_by, reports_by, said_of};
 ghost use Rattle.par2_plan.specs.Views.{state_of, target_report_of, report_of};
 
-use crate::finding::{Findings, parts};
+use crate::finding::{Findings, split_at_most};
 use crate::matching::Needing;
 use par2_folder::{Folder, Name};
 use par2_gf16::Gf;
@@ -97,12 +97,12 @@ fn next_match<'n>(needs: bool, needing: &mut Iter<'n, Needing>) -> Option<&'n Na
 }
 
 // The state of a target, by whether it is needing, and its match.
-fn state_of(folder: &Folder, target: &Target, needs: bool, found: Option<&Name>) -> State
+fn state_of(folder: &Folder, target: &Target, needs: bool, matched: Option<&Name>) -> State
     ensures { let is_there = has folder.now.files target.now.name in
-        let found = option_map (λ name. name.now) found.entry in
-        state_of result ≡ if needs then needing_state is_there found else Complete }
+        let matched = option_map (λ name. name.now) matched.entry in
+        state_of result ≡ if needs then needing_state is_there matched else Complete }
 {
-    match found {
+    match matched {
         _ if !needs => State::Complete,
         Some(name) => State::Misplaced(name.copied()),
         None if folder.get(target.name()).is_some() => State::Damaged,
@@ -122,15 +122,15 @@ fn target_report(
     folder: &Folder,
     target: &Target,
     needs: bool,
-    given: Option<&Name>,
+    matched: Option<&Name>,
     found: &[bool],
 ) -> TargetReport
-    ensures { let given = option_map (λ name. name.now) given.entry in
-        target_report_of result ≡ said_of folder.now.files (target.now, needs) given found.now }
+    ensures { let matched = option_map (λ name. name.now) matched.entry in
+        target_report_of result ≡ said_of folder.now.files (target.now, needs) matched found.now }
 {
     TargetReport {
         name: target.name().copied(),
-        state: state_of(folder, target, needs, given),
+        state: state_of(folder, target, needs, matched),
         found: count_found(found),
         total: target.pairs().len(),
     }
@@ -150,10 +150,10 @@ fn target_reports(
     let mut needing = findings.targets.needing.iter();
     let mut found = findings.found.as_slice();
     for (target, needs) in targets.iter().zip(&findings.targets.needs) {
-        let (own, others) = parts(found, target.pairs().len());
+        let (own, others) = split_at_most(found, target.pairs().len());
         found = others;
-        let given = next_match(*needs, &mut needing);
-        reports.push(target_report(folder, target, *needs, given, own))?;
+        let matched = next_match(*needs, &mut needing);
+        reports.push(target_report(folder, target, *needs, matched, own))?;
     }
     Ok(reports)
 }

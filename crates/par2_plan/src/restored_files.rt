@@ -3,7 +3,7 @@ ghost use Rattle.std.specs.Prelude.{◌≡◌, ◌+◌, ◌≤◌, ℕ, List, le
 ghost use Rattle.std.specs.List.{AllByRecursion};
 ghost use Rattle.par2_spec.specs.Answers.{Appends, Lists};
 ghost use Rattle.par2_spec.specs.Sets.{all_pairs};
-ghost use Rattle.par2_sets.specs.Asides.{HoldsNames};
+ghost use Rattle.par2_sets.specs.Asides.{HoldsOwned};
 ghost use Rattle.par2_plan.specs.Restoring.{targets_among, chosen_at};
 
 use crate::restored_slices::Slices;
@@ -52,7 +52,7 @@ fn push_among<'s>(
     first: usize,
 ) -> Result<()>
     requires { first + length target.now.pairs ≤ length slices.now }
-    ensures { (names : List (List ℕ)) → HoldsNames among.now names →
+    ensures { (names : List (List ℕ)) → HoldsOwned among.now names →
         Appends (chosen_at names slices.now first target.now) restored.old restored.new result }
 {
     if !among.contains(target.name()) {
@@ -74,7 +74,7 @@ pub fn restored_files<'s>(
 ) -> Result<Vec<Restored<'s>>>
     requires count { length slices.now ≡ length (all_pairs set.now) }
     requires sizes { AllByRecursion (λ slice. length slice ≡ set.now.slice_size) slices.now }
-    ensures targets { (names : List (List ℕ)) → HoldsNames among.now names →
+    ensures targets { (names : List (List ℕ)) → HoldsOwned among.now names →
         Lists (targets_among set.now slices.now names) result }
     ensures lengths { (names : List (List ℕ)) →
         let targets = targets_among set.now slices.now names in

@@ -1,6 +1,6 @@
 //! All slices of a set: those that are found, and between them those that are rebuilt.
-ghost use Rattle.std.specs.Prelude.{◌≡◌, ◌⊎◌, ◌+◌, ◌^◌, ◌++◌, ◌∷◌, ◌<◌, ◌≤◌, ℕ, List, None, length, map, take, drop, IfOk, slice_index, IfErr, IsOk, IsTrue, OnOk};
-ghost use Rattle.std.specs.List.{All, AllByRecursion, concat};
+ghost use Rattle.std.specs.Prelude.{◌≡◌, ◌⊎◌, ◌+◌, ◌++◌, ◌∷◌, ◌<◌, ◌≤◌, ℕ, List, None, length, map, take, drop, IfOk, IfErr, IsOk, OnOk};
+ghost use Rattle.std.specs.List.{AllByRecursion, concat};
 ghost use Rattle.par2_spec.specs.Sums.{lists_of};
 ghost use Rattle.par2_spec.specs.Repairs.{rebuilt};
 ghost use Rattle.par2_spec.specs.Search.{lost};
@@ -8,7 +8,7 @@ ghost use Rattle.par2_spec.specs.Sets.{all_pairs};
 ghost use Rattle.par2_spec.specs.Slices.{padded};
 ghost use Rattle.std.specs.Vec.Iter.{into_iter_items};
 ghost use Rattle.par2_slices.specs.Texts.{Window, texts_of};
-ghost use Rattle.par2_recovery.specs.Survivors.{exponents_of, with_lost_slices, IsTrueFault};
+ghost use Rattle.par2_recovery.specs.Survivors.{exponents_of, IsTrueFault};
 ghost use Rattle.par2_plan.specs.Restoring.{known_in, undetermined_fault};
 ghost use Rattle.par2_plan.specs.Survivors.{AreSurvivors, fault_of};
 ghost use Rattle.par2_recovery.specs.Rebuilding.{known_among, AreRebuilt, AreEnough, CanRebuild};

@@ -1,5 +1,5 @@
 //! The line of a failure.
-ghost use Rattle.std.specs.Prelude.{◌≡◌, ◌++◌, ◌∷◌, ℕ, List, codes, map, string_bytes};
+ghost use Rattle.std.specs.Prelude.{◌≡◌, ◌++◌, ◌∷◌, codes, map, string_bytes};
 ghost use Rattle.par2_spec.specs.Texts.{error_of, fault_text, line, word_at};
 ghost use Rattle.par2_printing.specs.Views.{words_given};
 ghost use Rattle.par2_printing.specs.Writing.{Wrote};

@@ -1,5 +1,5 @@
 -- Recovery slices, added to texts.
-use Rattle.par2_recovery.proofs.Common.{inl, inr, ℕ, ◌+◌, ◌-◌, ◌*◌, ◌<◌, ◌≤◌, ◌≡◌, refl, sym, ap, ap₂, ◌∙◌, subst, arith, List, [], length, drop, get_or, map, bit_xor, zero-add, take, range_with_len, xor_zero_l, cases_lt, length-map, get_or-map, get_or-take, get_or-drop, get_or_past, length-take-le, length-drop, get_or-map-range_with_len, mul, coefficient, padded, word, coefficients, recovery, list_at, product_comm, product-one, word-lt, field_sum_same, within, place_at, AddsAt, AreApart, LieWithin, recovered, adds_none, adds_more, adds_same, within-in, within-above, within_joined, within_same, length-group, adds_to_group, AreBytes, products, all_coefficients, window, AreProducts}
+use Rattle.par2_recovery.proofs.Common.{inl, inr, ℕ, ◌+◌, ◌-◌, ◌*◌, ◌<◌, ◌≤◌, ◌≡◌, refl, sym, ap, ap₂, ◌∙◌, subst, arith, List, [], length, drop, get_or, map, bit_xor, zero-add, take, range_with_len, xor_zero_l, cases_lt, length-map, get_or-map, get_or-take, get_or-drop, get_or_past, length-take-le, length-drop, get_or-map-range_with_len, mul, coefficient, padded, word, coefficients, recovery, list_at, product_comm, product-one, word-lt, field_sum_same, within, place_at, AddsAt, AreApart, LieWithin, recovered, adds_more, adds_same, within-in, within_joined, within_same, length-group, adds_to_group, AreBytes, products, all_coefficients, window, AreProducts}
 use Rattle.par2_transform.specs.declared.outputs.Place.{Place}
 use Rattle.par2_recovery.specs.Writing.{output_at, AreWritten, AreZeros}
 use Rattle.par2_recovery.proofs.Combinations.{blank_word, recovered_by_words}
@@ -33,9 +33,6 @@ sum_word from to sums t p = within from to p (word (p - from) (list_at sums t))
 -- to the first n outputs, others were added
 abbrev pub FirstAdded : List Place → (len n : ℕ) (other : ℕ → ℕ → ℕ) (was texts : List (List ℕ)) → Type 0
 FirstAdded places len n other was texts = AddsAt places len (λ t p. within 0 n t (other t p)) was texts
-
-pub none_added : (places : List Place) (len : ℕ) (other : ℕ → ℕ → ℕ) (texts : List (List ℕ)) → FirstAdded places len 0 other texts texts
-none_added places len other texts = adds_none places len (λ t p. within 0 0 t (other t p)) texts (λ t p. within-above 0 0 t (other t p) (omega arith))
 
 pub next_sum : (places : List Place) (len from to n : ℕ) (row : List ℕ) (sums was half texts : List (List ℕ)) → row ≡ list_at sums n → AreBytes sums → FirstAdded places len n (sum_word from to sums) was half
     → AddsAt places len (λ t p. within n (n + 1) t (within from to p (mul 1 (word (p - from) row)))) half texts → FirstAdded places len (n + 1) (sum_word from to sums) was texts

@@ -58,7 +58,7 @@ pub use Rattle.par2_spec.specs.Sums.{AreElements, list_at, lists_of}
 unfoldable pub use Rattle.par2_spec.specs.Sums.{field_sum}
 pub use Rattle.par2_spec.specs.Volumes.{all_slices, in_id_order}
 unfoldable pub use Rattle.par2_spec.specs.Volumes.{record_of}
-pub use Rattle.par2_transform.proofs.AddingLaws.{adds_more, adds_none, adds_same, still_within, within-above, within-in, within_joined, within_same, zeros_read}
+pub use Rattle.par2_transform.proofs.AddingLaws.{adds_more, adds_same, still_within, within-in, within_joined, within_same, zeros_read}
 pub use Rattle.par2_transform.proofs.GroupLaws.{adds_to_group, group_within, length-group}
 pub use Rattle.par2_transform.specs.Adding.{AddsAt, AddsToEach, AreApart, LieWithin, place_at, within}
 pub use Rattle.par2_transform.specs.Columns.{recovered}

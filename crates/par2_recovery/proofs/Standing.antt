@@ -42,10 +42,6 @@ pub record Standing (lost : List ℕ) (recs kept : List (ℕ × List ℕ)) (i : 
   pub solves : (texts : List (List ℕ)) → AreTexts system texts → Solves system texts
       → (j : ℕ) → j < length kept → GivesUnit (length lost) j (coefficients lost (recovery_at kept j).0) texts
 
-none_taken : {A : Type 0} (p : A → Bool) (xs : List A) → [] ≡ filter p (take 0 xs)
-none_taken p [] = refl
-none_taken p (x ∷ xs) = refl
-
 -- a recovery slice was kept
 pub stands_more : (lost : List ℕ) (recs kept_ones : List (ℕ × List ℕ)) (i : ℕ) (system new : Equations) → IsStrictlyIncreasing (map (λ r. r.0) recs) → i < length recs
     → Standing lost recs kept_ones i system → new.columns ≡ system.columns → new.bytes ≡ system.bytes

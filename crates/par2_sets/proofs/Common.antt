@@ -23,7 +23,7 @@ pub use Rattle.std.specs.Set.{distinct_count, is_member, unique_keys}
 pub use Rattle.std.specs.Str.{bytes_eq}
 pub use Rattle.std.specs.declared.cmp.Ordering.TheVariants.{Equal, Greater, Less}
 pub use Rattle.par2_packets.specs.Views.{packet_of, packets_of}
-pub use Rattle.par2_sets.specs.Asides.{HoldsNames, long_aside}
+pub use Rattle.par2_sets.specs.Asides.{HoldsOwned, long_aside}
 pub use Rattle.par2_sets.specs.Firsts.{HasFirsts, HoldChecksums, HoldDescriptions, count_cmp, id_cmp}
 pub use Rattle.par2_sets.specs.Slices.{entry_of, exponents_of, recovered_of, set_view, usable}
 pub use Rattle.par2_sets.specs.Steps.{Gives, descriptions_of, packets_in, set_in, set_packets, targets_or_fault}

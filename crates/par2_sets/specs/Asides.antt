@@ -16,6 +16,6 @@ use Rattle.par2_spec.specs.declared.Fault.TheVariants.{NameTooLong}
 abbrev pub long_aside : Folder → ParSet → List (List ℕ) → Option Fault
 long_aside folder set names = fault_where (list_any (λ name. nat_lt 255 (length (aside folder set name))) names) NameTooLong
 
--- a tree holds exactly these names
-abbrev pub HoldsNames : BTreeSet (List ℕ) → List (List ℕ) → Type 0
-HoldsNames tree names = (name : List ℕ) → contains (slice_cmp nat_cmp) tree name ≡ is_among names name
+-- a tree of names, by value, holds exactly these
+abbrev pub HoldsOwned : BTreeSet (List ℕ) → List (List ℕ) → Type 0
+HoldsOwned tree names = (name : List ℕ) → contains (slice_cmp nat_cmp) tree name ≡ is_among names name

@@ -1,13 +1,13 @@
 //! The names of a set's targets and par files, and those under which files are put aside.
 
-ghost use Rattle.std.specs.Prelude.{◌≡◌, ◌&&◌, ℕ, List, IfOk, ◌⊎◌, ◌<◌, ◌+◌, ◌++◌, ◌∷◌, [], Some, None, length, map, IfErr};
+ghost use Rattle.std.specs.Prelude.{◌≡◌, ◌&&◌, ℕ, List, IfOk, ◌⊎◌, ◌<◌, ◌+◌, ◌++◌, ◌∷◌, [], None, length, map, IfErr};
 ghost use Rattle.std.specs.List.{list_any, list_all};
 ghost use Rattle.std.specs.Str.{bytes_eq};
 ghost use Rattle.par2_spec.specs.Answers.{Lists, FailsFor};
 ghost use Rattle.par2_spec.specs.Names.{is_among};
 ghost use Rattle.par2_spec.specs.Packets.{accepted};
 ghost use Rattle.par2_spec.specs.Sets.{target_names};
-ghost use Rattle.par2_sets.specs.Asides.{HoldsNames, long_aside};
+ghost use Rattle.par2_sets.specs.Asides.{HoldsOwned, long_aside};
 ghost use Rattle.par2_spec.specs.Repairs.{aside, AreFew, taken_for};
 ghost use Rattle.par2_spec.specs.Repairs as repairs;
 ghost use Rattle.par2_spec.specs.Folders as folders;
@@ -40,7 +40,7 @@ fn has_only_packets_of(bytes: &[u8], id: &[u8; 16]) -> bool
 
 // Whether the name is that of a par file of the set.
 fn is_par_file(folder: &Folder, set: &ParSet, targets: &BTreeSet<Name>, name: &Name) -> bool
-    requires { HoldsNames targets.now (target_names set.now) }
+    requires { HoldsOwned targets.now (target_names set.now) }
     ensures { result ≡ repairs.is_par_file folder.now.files set.now name.now }
 {
     name.is_par()
@@ -61,7 +61,7 @@ pub fn par_files(alloc: Global, folder: &Folder, set: &ParSet) -> Result<Vec<Nam
 
 // The names of the set's targets.
 fn target_names(alloc: Global, set: &ParSet) -> Result<BTreeSet<Name>>
-    ensures { IfOk result (λ names. HoldsNames names (target_names set.now)) }
+    ensures { IfOk result (λ names. HoldsOwned names (target_names set.now)) }
 {
     let names = set.targets().iter().map(|target| target.name().copied());
     names.collect(alloc)
@@ -81,7 +81,7 @@ fn numbered(alloc: Global, name: &Name, n: usize) -> Result<Name, Fault>
 
 // Whether the name is in the folder or a target's.
 fn is_taken(folder: &Folder, targets: &BTreeSet<Name>, name: &Name) -> bool
-    ensures { (all : List (List ℕ)) → HoldsNames targets.now all
+    ensures { (all : List (List ℕ)) → HoldsOwned targets.now all
         → result ≡ is_among (folders.names folder.now.files ++ all) name.now }
 {
     folder.get(name).is_some() || targets.contains(name)
@@ -96,7 +96,7 @@ fn aside(
     most: usize,
     name: &Name,
 ) -> Result<Name, Fault>
-    requires targets { HoldsNames targets.now (target_names set.now) }
+    requires targets { HoldsOwned targets.now (target_names set.now) }
     requires most { most ≡ length (taken_for folder.now.files set.now) + 1 }
     ensures refused { FailsFor (long_aside folder.now.files set.now (name.now ∷ [])) result }
     ensures aside { IfOk result (λ other. other ≡ aside folder.now.files set.now name.now) }
@@ -124,7 +124,7 @@ fn asides_of(
     most: usize,
     names: &[Name],
 ) -> Result<Vec<Name>, Fault>
-    requires targets { HoldsNames targets.now (target_names set.now) }
+    requires targets { HoldsOwned targets.now (target_names set.now) }
     requires most { most ≡ length (taken_for folder.now.files set.now) + 1 }
     ensures refused { FailsFor (long_aside folder.now.files set.now names.now) result }
     ensures short { IfOk result (λ _. long_aside folder.now.files set.now names.now ≡ None) }

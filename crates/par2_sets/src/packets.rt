@@ -13,17 +13,13 @@ use par2_spec::Result;
 use std::alloc::Global;
 
 // Adds the packets that have the identifier.
-fn add_packets<'a>(
-    packets: &mut Vec<Packet<'a>>,
-    id: &[u8; 16],
-    found: &mut Packets<'a>,
-) -> Result<()>
+fn add_packets<'a>(kept: &mut Vec<Packet<'a>>, id: &[u8; 16], found: &mut Packets<'a>) -> Result<()>
     ensures { let added = packets_with id.now (views.packets_of found.old) in
-        OnOk result (map packet_of packets.new.items ≡ map packet_of packets.old.items ++ added) }
+        OnOk result (map packet_of kept.new.items ≡ map packet_of kept.old.items ++ added) }
 {
     for packet in found {
         if packet.set_id == *id {
-            packets.push(packet)?;
+            kept.push(packet)?;
         }
     }
     Ok(())

@@ -108,11 +108,7 @@ pub(crate) fn checksums_in<'a>(alloc: Global, packets: &[Packet<'a>]) -> Result<
 }
 
 // The checksums of this File ID with so many slices.
-fn checksums_of<'c, 'a>(
-    firsts: &'c Checksums<'a>,
-    id: [u8; 16],
-    count: u64,
-) -> Option<&'c IfscView<'a>>
+fn ifsc_of<'c, 'a>(firsts: &'c Checksums<'a>, id: [u8; 16], count: u64) -> Option<&'c IfscView<'a>>
     ensures { (packets : List spec.Packet) → HoldChecksums packets firsts.now
         → option_map (λ c. c.now.pairs) result ≡ pairs_of packets id count }
 {
@@ -145,7 +141,7 @@ pub(crate) fn pairs_for(
         return Ok(Vec::new(alloc));
     }
     let count = slice_count(description.length(), s);
-    let Some(checksums) = checksums_of(firsts, description.id(), count) else {
+    let Some(checksums) = ifsc_of(firsts, description.id(), count) else {
         return Err(Fault::NoChecksums);
     };
     Ok(pairs_in(alloc, checksums)?)
@@ -156,11 +152,8 @@ fn recovery_in<'a>(packet: &Packet<'a>, s: u64) -> Option<RecoveryView<'a>>
     ensures { result ≡ usable s (packet_of packet.now) }
 {
     let recovery = read_recovery(packet)?;
-    if recovery.exponent() < 65536 && recovery.bytes().len() as u64 == s {
-        Some(recovery)
-    } else {
-        None
-    }
+    let fits = recovery.exponent() < 65536 && recovery.bytes().len() as u64 == s;
+    fits.then_some(recovery)
 }
 
 // The entries of the map, in the order of the exponents.

@@ -147,6 +147,8 @@ pub(crate) fn are_in_profile(alloc: Global, s: u64, descriptions: &[DescView]) -
     requires { 1 ≤ s }
     ensures { IfOk result (λ b. b ≡ are_in_profile s descriptions.now) }
 {
-    let are_named = have_few_slices(s, descriptions) && have_names(descriptions);
-    Ok(are_named && are_distinct(alloc, descriptions)?)
+    if !have_few_slices(s, descriptions) || !have_names(descriptions) {
+        return Ok(false);
+    }
+    are_distinct(alloc, descriptions)
 }

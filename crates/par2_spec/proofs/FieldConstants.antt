@@ -1,5 +1,5 @@
 -- The powers of the constants rise, so the constants are distinct.
-use Rattle.par2_spec.proofs.Common.{Bool, ◌+◌, List, eqb, ℕ, ◌∙◌, ◌<◌, ◌≡◌, refl, sym, subst, true, arith, length, get_or, false≢true, eqb-true, cases_lt, filter, range_with_len, length-range_with_len, get_or-range_with_len, constant_powers, constant, IsStrictlyIncreasing, AllPairs-from_increasing, IsStrictlyIncreasing-filter, All-filter, All-from_get_or, All-get_or, filter_passes, length-filter, count_by, is_spared}
+use Rattle.par2_spec.proofs.Common.{Bool, ◌+◌, eqb, ℕ, ◌∙◌, ◌<◌, ◌≡◌, refl, sym, subst, true, arith, length, get_or, false≢true, eqb-true, cases_lt, filter, range_with_len, length-range_with_len, get_or-range_with_len, constant_powers, constant, IsStrictlyIncreasing, AllPairs-from_increasing, IsStrictlyIncreasing-filter, All-filter, All-from_get_or, All-get_or, filter_passes, length-filter, count_by, is_spared}
 use Rattle.par2_spec.proofs.TestLaws.{by_either}
 use Rattle.par2_spec.proofs.FieldOrder.{power-injective, power-nonzero, power-lt}
 

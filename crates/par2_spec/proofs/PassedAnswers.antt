@@ -23,11 +23,6 @@ err_passed {X} {Y} {E} r fault other p h = p.1 ∙ ap Err (p.2 ∙ same h)
     same : ◌≡◌ {A = Result Y E} (Err fault) (Err other) → fault ≡ other
     same e = cc
 
--- what follows from two things that hold of a value
-pub joined : {A E : Type 0} (P Q R : A → Type 0) (r : Result A E) → ((x : A) → P x → Q x → R x) → IfOk r P → IfOk r Q → IfOk r R
-joined P Q R (Ok x) f h k = f x h k
-joined P Q R (Err e) f h k = tt
-
 -- what follows where a test is passed, and why it is refused where it isn't
 pub passed : {A E : Type 0} (P : Type 0) (R : A → Type 0) (r : Result A E) (given : A) → IfOk r (λ x. x ≡ given) → OnOk r P → (P → R given) → IfOk r R
 passed P R (Ok x) given same holds f = subst R (sym same) (f holds)

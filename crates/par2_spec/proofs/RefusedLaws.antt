@@ -9,9 +9,6 @@ use Rattle.par2_spec.proofs.AcceptedCommands.{missing, in_full, in_part}
 is_other : (f : Fault) (m r : ℕ) → (f ≡ NotRepairable m r → ⊥) → ◌≡◌ {A = Option Fault} (Some f) (Some (NotRepairable m r)) → ⊥
 is_other f m r apart e = grind arith
 
-failed : (m r : ℕ) → RepairFailed ≡ NotRepairable m r → ⊥
-failed m r e = cc
-
 -- the first cause alone is answered by this fault
 pub first_cause : (b c d : Bool) (l n m r : ℕ) → first_fault (fault_where b (NotRepairable l n) ∷ fault_where c NameTooLong ∷ fault_where d RepairFailed ∷ []) ≡ Some (NotRepairable m r) → b ≡ true
 first_cause b c d l n m r e = grind arith

@@ -111,9 +111,6 @@ settled_hold F p h (t ∷ ts) given e intact matched = step (p t) refl given e m
     list : Bool → List Target
     list b = cond b (t ∷ filter p ts) (filter p ts)
 
-    with_match : (b : Bool) (o : Option (List ℕ)) → HasIntactFile (needing_state b o) → is_some o ≡ true
-    with_match b o i = grind arith
-
     step : (b : Bool) → p t ≡ b → (given : List (Option (List ℕ))) → length given ≡ length (list b) → AllByRecursion (λ m. is_some m.1 ≡ true → F m.0) (zip (list b) given)
         → ((rest : List (Option (List ℕ))) → length rest ≡ length (filter p ts) → AllByRecursion (λ m. is_some m.1 ≡ true → F m.0) (zip (filter p ts) rest) → AllByRecursion (λ z. HasIntactFile z.1 → F z.0) (zip ts (states_by p h ts rest)))
         → AllByRecursion (λ z. HasIntactFile z.1 → F z.0) (zip (t ∷ ts) (cond b (needing_state (h t) (slice_index_or given 0 None) ∷ states_by p h ts (drop 1 given)) (Complete ∷ states_by p h ts given)))

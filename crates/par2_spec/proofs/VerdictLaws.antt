@@ -1,5 +1,5 @@
 -- The verdict on what a verify reports, by the words.
-use Rattle.par2_spec.proofs.Common.{◌≡◌, ◌+◌, ℕ, List, [], ◌∷◌, T, length, map, refl, sym, ap, ◌∙◌, subst, Bool, true, false, not, cond, ◌&&◌, Less, arith, ◌↔◌, ◌==◌, nat_lt, Option, Some, Result, Ok, Err, filter, is_some, is_none, if◌then◌else◌, bytes_eq, md5, nat_cmp, is_lt, entries_sorted, is_sorted, below_all, list_all, list_any, enumerate_from, AllByRecursion, eqb-true, eq-eqb, false≢true, not-true, false_from_ne_true, IsStrictlyIncreasing-from_sorted, Fault, NotRepairable, NameTooLong, RepairFailed, then_fault, first_fault, fault_where, Folder, has, bytes_of, ParSet, Target, set_of, all_pairs, ◌>>=◌, found, is_needing, needing, matches, match_of, lost, survivors, candidates, known, is_repairable, IsRepairable, rank, aside, put_aside, rebuilt_targets, Repair, set_in, refusal, repair_refusal, Report, is_complete, needing_state, found_of, verdict_of, IsFound, IsVerdict, IsVerdictIn, RefusedAsReported, state_of, report_of_target, report_of, report_in, IsStrictlySortedBy, Ordering}
+use Rattle.par2_spec.proofs.Common.{◌≡◌, ◌+◌, ℕ, List, [], ◌∷◌, T, length, map, refl, sym, ap, ◌∙◌, subst, Bool, true, false, not, cond, ◌&&◌, Less, arith, ◌↔◌, ◌==◌, nat_lt, Option, Some, Result, Ok, filter, is_some, is_none, if◌then◌else◌, bytes_eq, md5, nat_cmp, is_lt, entries_sorted, is_sorted, below_all, list_all, list_any, enumerate_from, AllByRecursion, eqb-true, eq-eqb, false≢true, not-true, false_from_ne_true, IsStrictlyIncreasing-from_sorted, Fault, NotRepairable, NameTooLong, RepairFailed, then_fault, first_fault, fault_where, Folder, has, bytes_of, ParSet, Target, set_of, all_pairs, ◌>>=◌, found, is_needing, needing, matches, match_of, lost, survivors, candidates, known, is_repairable, IsRepairable, rank, aside, put_aside, rebuilt_targets, Repair, set_in, refusal, repair_refusal, Report, is_complete, needing_state, found_of, verdict_of, IsFound, IsVerdict, IsVerdictIn, RefusedAsReported, state_of, report_of_target, report_of, report_in, IsStrictlySortedBy, Ordering}
 use Rattle.std.specs.FinMap as map_of
 use Rattle.par2_spec.specs.declared.Verdict.{Verdict}
 use Rattle.par2_spec.specs.declared.Verdict.TheVariants.{Complete, Repairable}
@@ -144,10 +144,6 @@ reported_set : (P : Report → Type 0) (folder : Folder) (base : List ℕ) (extr
 unfolding report_in
 reported_set P folder base extras report h holds = step (set_in folder base extras) refl h
   where
-    value : Result Report Fault → Report
-    value (Ok x) = x
-    value (Err fault) = report
-
     step : (r : Result ParSet Fault) → set_in folder base extras ≡ r → (r >>= (λ set. Ok (report_of folder set (candidates folder set extras)))) ≡ Ok report → P report
     step r e k = grind arith
 

@@ -1,5 +1,5 @@
 -- The packets of a set, as they are written, are read as they are.
-use Rattle.par2_spec.proofs.Common.{◌≡◌, ℕ, suc, ◌-◌, ◌+◌, ◌*◌, ◌/◌, ◌%◌, ◌^◌, ◌<◌, true, leb, eqb, ◌&&◌, List, [], ◌∷◌, ◌++◌, length, take, drop, map, refl, sym, ap, ◌∙◌, append_assoc, arith, zero, Bool, false, length-append, append-nil, flat_map, Option, Some, None, reverse, replicate, w32, w64, to_le_bytes, from_le_bytes, w16, AllByRecursion, range_with_len, list_any, prefix_len, suffix_len, le-leb, eq-eqb, and_from, cond-true, or_parts, or_from, take_at, drop_at, length-replicate, reverse-append, replicate_more, from_le_bytes-to_le_bytes_4, from_le_bytes-to_le_bytes_8, Pair, IsPair, bytes_at, items_at, MainBody, IfscBody, RecoveryBody, without_end_zeros, DescBody, Packet, packet, accepted, IsCanonical, IsPacket, u64_at, u32_at, read_main, read_ifsc, read_recovery, read_desc, kind_of, FileRecord, main_bytes, ifsc_bytes, pair_bytes, recovery_bytes, desc_bytes, padded_4, IsFileRecord, creator_bytes, main_id, packet_of, recovery_packets, index_packets, list_any-append, prefix_len-append, prefix_len-replicate, length-range_with_len, length-md5, Kind, dot, coefficients, recovery, combination, word, MainIsRead, DescIsRead, RecoverySlicesAreRead, common_steps}
+use Rattle.par2_spec.proofs.Common.{◌≡◌, ℕ, suc, ◌-◌, ◌+◌, ◌*◌, ◌/◌, ◌%◌, ◌^◌, ◌<◌, true, leb, eqb, ◌&&◌, List, [], ◌∷◌, ◌++◌, length, take, drop, map, refl, sym, ap, ◌∙◌, append_assoc, arith, zero, Bool, false, length-append, append-nil, flat_map, Option, Some, None, reverse, replicate, w32, w64, to_le_bytes, from_le_bytes, w16, AllByRecursion, range_with_len, list_any, prefix_len, suffix_len, le-leb, eq-eqb, and_from, cond-true, or_parts, or_from, take_at, drop_at, length-replicate, reverse-append, replicate_more, from_le_bytes-to_le_bytes_4, from_le_bytes-to_le_bytes_8, Pair, IsPair, bytes_at, items_at, MainBody, IfscBody, without_end_zeros, DescBody, Packet, packet, accepted, IsCanonical, IsPacket, u64_at, u32_at, read_main, read_ifsc, read_recovery, read_desc, kind_of, FileRecord, main_bytes, ifsc_bytes, pair_bytes, recovery_bytes, desc_bytes, padded_4, IsFileRecord, creator_bytes, main_id, packet_of, recovery_packets, index_packets, list_any-append, prefix_len-append, prefix_len-replicate, length-range_with_len, length-md5, Kind, dot, coefficients, recovery, combination, word, MainIsRead, DescIsRead, RecoverySlicesAreRead, common_steps}
 use Rattle.par2_spec.specs.declared.Kind.TheVariants.{Main, Ifsc, Recovery, FileDesc, Creator}
 use Rattle.par2_spec.proofs.WrittenPackets.{part_at, len3, packets_then}
 use Rattle.par2_spec.proofs.Basics.{all-each, all-map, all-append}
@@ -54,9 +54,6 @@ main_reads s files low few ids = unfold read_main in
     ∙ ap (main_of s) there
 
 -- ---- RecvSlic
-
-abbrev recovery_of : ℕ → List ℕ → Option RecoveryBody
-recovery_of e bytes = Some (record { exponent = e; bytes = bytes })
 
 pub recovery_reads : (e : ℕ) (bytes : List ℕ) → e < 2 ^ 32 → read_recovery Recovery (recovery_bytes e bytes) ≡ Some (record { exponent = e; bytes = bytes })
 recovery_reads e bytes lt = unfold read_recovery in grind (arith, length-append, le-leb, cond-true, u32_there, drop_at)

@@ -15,11 +15,6 @@ fault_where false fault = None
 abbrev pub fault_at : {A F : Type 0} → ℕ → (ℕ → F) → (A → Bool) → List A → Option F
 fault_at n fault cause items = option_map (λ k. fault (n + k)) (position cause items)
 
--- the value, unless there is a fault
-abbrev pub or_fault : {A F : Type 0} → Option F → A → Result A F
-or_fault None x = Ok x
-or_fault (Some fault) x = Err fault
-
 -- the fault of an answer, where it is one
 abbrev pub fault_of : {A F : Type 0} → Result A F → Option F
 fault_of (Ok x) = None

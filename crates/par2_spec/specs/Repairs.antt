@@ -97,9 +97,6 @@ is_par_file folder set name =
     is_par_name name && not (is_among (map (λ t. t.name) set.targets) name)
     && list_any (λ p. bytes_eq p.set_id set.id) packets && list_all (λ p. bytes_eq p.set_id set.id) packets
 
-abbrev pub IsParFile : Folder → ParSet → List ℕ → Type 0
-IsParFile folder set name = IsTrue (is_par_file folder set name)
-
 -- the par files of a set, in the order of their names
 abbrev pub par_files : Folder → ParSet → List (List ℕ)
 par_files folder set = filter (is_par_file folder set) (names folder)

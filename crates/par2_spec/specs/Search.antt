@@ -1,5 +1,5 @@
 -- What of a set is found in a folder, among the files that are searched: rules of this program.
-use Rattle.std.specs.Prelude.{◌≡◌, ℕ, ◌==◌, ◌&&◌, Bool, IsTrue, not, List, [], ◌∷◌, ◌++◌, length, map, filter, find, zip, slice_get, Option, Some, None, is_none, option_to_list, option_and_then, filter_map}
+use Rattle.std.specs.Prelude.{◌≡◌, ℕ, ◌==◌, ◌&&◌, Bool, not, List, [], ◌∷◌, ◌++◌, length, map, filter, find, zip, Option, is_none, option_to_list, option_and_then, filter_map}
 use Rattle.std.specs.FinMap as map_of
 use Rattle.std.specs.List.{list_all, enumerate_from, AllByRecursion}
 use Rattle.std.specs.Str.{bytes_eq}
@@ -9,7 +9,7 @@ use Rattle.par2_spec.specs.Windows.{windows, is_match}
 use Rattle.par2_spec.specs.Names.{is_among, distinct}
 use Rattle.par2_spec.specs.Folders.{Folder, has, bytes_of}
 use Rattle.par2_spec.specs.Sets.{ParSet, Target, all_pairs}
-pub use Rattle.par2_spec.specs.Windows.{window, Matches, found, first_match}
+pub use Rattle.par2_spec.specs.Windows.{Matches, found}
 
 -- the names that are searched: those of the targets that are in the folder, then the extra ones
 abbrev pub candidates : Folder → ParSet → List (List ℕ) → List (List ℕ)
@@ -19,15 +19,9 @@ candidates folder set extras = distinct (filter (has folder) (map (λ t. t.name)
 abbrev pub is_intact : ℕ → Target → List ℕ → Bool
 is_intact s t bytes = length bytes == t.length && list_all (λ z. is_match z.0 z.1) (zip t.pairs (slices s bytes))
 
-abbrev pub IsIntact : ℕ → Target → List ℕ → Type 0
-IsIntact s t bytes = IsTrue (is_intact s t bytes)
-
 -- the file of the target's name is absent or not intact
 abbrev pub is_needing : Folder → ParSet → Target → Bool
 is_needing folder set t = not (has folder t.name && is_intact set.slice_size t (bytes_of folder t.name))
-
-abbrev pub IsNeeding : Folder → ParSet → Target → Type 0
-IsNeeding folder set t = IsTrue (is_needing folder set t)
 
 -- the needing targets, in target order
 abbrev pub needing : Folder → ParSet → List Target
@@ -73,10 +67,6 @@ known folder set searched = map (found set.slice_size (map (bytes_of folder) sea
 -- the numbers of the lost slices: those that are not found
 abbrev pub lost : List (Option (List ℕ)) → List ℕ
 lost slices = map (λ z. z.0) (filter (λ z. is_none z.1) (enumerate_from 0 slices))
-
--- slice i is lost
-abbrev pub IsLost : List (Option (List ℕ)) → ℕ → Type 0
-IsLost slices i = slice_get slices i ≡ Some None
 
 -- the exponents whose recovery slices are there, rising
 abbrev pub survivors : ParSet → List ℕ

@@ -1,7 +1,7 @@
 //! Laws of polynomials over the field: each is the contract of a function that does nothing.
 
 ghost use Rattle.std.specs.Prelude.{◌≡◌, ◌≢◌, ℕ, ◌+◌, ◌-◌, ◌^◌, ◌<◌, List, [], ◌∷◌, bit_xor, length, slice_index_or};
-ghost use Rattle.std.specs.List.{AllByRecursion, Contains};
+ghost use Rattle.std.specs.List.{Contains};
 ghost use Rattle.par2_spec.specs.Field.{mul};
 ghost use Rattle.par2_spec.specs.Rank.{IsVector};
 ghost use Rattle.par2_spec.specs.Polynomials.{value, plus, times_root, with_roots, quotient, AreElements, ArePoints, Interpolates};

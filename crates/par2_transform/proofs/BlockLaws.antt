@@ -110,9 +110,6 @@ pub record BlocksMade (cut : Cut) (columns first size n : ℕ) (blocks : List Ou
   pub count : length blocks ≡ n
   pub are : AreBlocks cut columns first size blocks
 
-pub no_block : (cut : Cut) (columns first size : ℕ) → BlocksMade cut columns first size 0 []
-no_block cut columns first size = record { count = refl; are = λ j h. absurd (omega arith) }
-
 pub next_block : (cut : Cut) (columns first size n e : ℕ) (blocks : List Outputs) (block : Outputs) → BlocksMade cut columns first size n blocks → IsBlock cut columns e block → e ≡ first + n * size
     → BlocksMade cut columns first size (n + 1) (blocks ++ block ∷ [])
 next_block cut columns first size n e blocks block so_far is place = record {

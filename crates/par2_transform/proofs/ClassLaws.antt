@@ -1,8 +1,7 @@
 -- From blocks of outputs to what a class gives, and from classes to recovery slices.
-use Rattle.par2_transform.proofs.Common.{inl, inr, ℕ, suc, ◌+◌, ◌-◌, ◌*◌, ◌/◌, ◌%◌, ◌^◌, ◌<◌, ◌≤◌, ◌≡◌, ◌≢◌, refl, sym, ap, ◌∙◌, arith, List, length, [], cases_lt, div-mul-le_self, mul-le-mul_right, mod-lt, lt_of_le-ne, div-add-mod', if◌then◌else◌, not, ◌==◌, ◌&&◌, mul, pow, is_spared, product-zero, get_or_past, word, list_at, field_sum, word-lt, field_sum_same, field_sum_one, field_sum_none, within, AddsAt, Outputs, IsBlock, IsGathered, Keeps, EachBlock, AreBlocks, block_at, block_part, from_gathered, class_sum_at, weight_at, chirp_inverse, spared_below, AreFirst, word_at_power, words_at, AreBytes, recovered, Grid, column, point, Cut, Reaches, gathered, Place}
+use Rattle.par2_transform.proofs.Common.{inl, inr, ℕ, suc, ◌+◌, ◌-◌, ◌*◌, ◌/◌, ◌%◌, ◌^◌, ◌<◌, ◌≤◌, ◌≡◌, ◌≢◌, refl, sym, ap, ◌∙◌, arith, List, length, [], cases_lt, div-mul-le_self, mul-le-mul_right, mod-lt, lt_of_le-ne, div-add-mod', if◌then◌else◌, not, ◌==◌, ◌&&◌, mul, pow, is_spared, product-zero, get_or_past, word, list_at, field_sum, word-lt, field_sum_same, field_sum_one, field_sum_none, within, AddsAt, Outputs, IsBlock, IsGathered, EachBlock, AreBlocks, block_at, block_part, from_gathered, class_sum_at, weight_at, chirp_inverse, spared_below, AreFirst, word_at_power, words_at, AreBytes, recovered, Grid, column, point, Cut, Reaches, gathered, Place}
 use Rattle.std.specs.Prelude.{false}
 use Rattle.par2_transform.proofs.AddingLaws.{adds_none, adds_next, adds_same, within-in, within-below, within-above, within_same}
-use Rattle.par2_transform.proofs.WindowLaws.{block_kept}
 use Rattle.par2_transform.proofs.Transforms.{class_by_windows, sum_by_classes}
 
 -- what a gathered block gives to one of its exponents is what the class gives
@@ -152,14 +151,6 @@ pub class_added : (places : List Place) (len : ℕ) (cut : Cut) (slices : List (
 class_added places len cut slices words size r from to first old blocks was texts few bytes are all fits some covered narrow added =
     adds_same places len (λ t p. field_sum (length blocks) (λ j. block_part cut size r from to (block_at blocks j) j t p)) (λ t p. within from to p (class_sum_at cut (words_at slices p) (first + t) r)) was texts added
     (λ t p low in_text. blocks_give (length slices) cut slices words size r from to first t p old blocks (words_are_first slices p few bytes) are all.count all.done fits some (omega arith) narrow)
-
-pub blocks_still : (cut : Cut) (slices : List (List ℕ)) (words size r from first n : ℕ) (old mid blocks : List Outputs) → AreBlocks cut words first size old
-    → EachBlock (IsGathered cut slices r from n) old mid → EachBlock Keeps mid blocks → AreBlocks cut words first size blocks
-blocks_still cut slices words size r from first n old mid blocks are gathered kept j h =
-    let in_old : j < length old = (let a = gathered.count in let b = kept.count in omega (arith, a, b)) in
-    let in_mid : j < length mid = (let a = gathered.count in omega (arith, a, in_old)) in
-    block_kept cut words (first + j * size) (block_at mid j) (block_at blocks j)
-    (block_kept cut words (first + j * size) (block_at old j) (block_at mid j) (are j in_old) (gathered.done j in_old).kept) (kept.done j in_mid)
 
 -- in the first of three classes there is nothing to add
 pub nothing_added : (places : List Place) (len : ℕ) (cut : Cut) (slices : List (List ℕ)) (first from to : ℕ) (texts : List (List ℕ)) → cut.classes ≡ 3

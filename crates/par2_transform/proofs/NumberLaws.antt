@@ -1,5 +1,5 @@
 -- The numbers of slices by the exponents of their constants.
-use Rattle.par2_transform.proofs.Common.{inl, inr, ℕ, suc, ◌+◌, ◌*◌, ◌<◌, ◌≤◌, ◌≡◌, refl, sym, ap, ap₂, subst, ◌∙◌, arith, Bool, true, false, List, [], ◌∷◌, ◌++◌, length, get_or, drop, length-append, if◌then◌else◌, cases_lt, get_or_append_left, get_or_at, get_or_past, get_or-drop, get_or_default, is_spared, word, list_at, words_at, AreNumbers, spared_below, word_at_power}
+use Rattle.par2_transform.proofs.Common.{inl, inr, ℕ, suc, ◌+◌, ◌<◌, ◌≤◌, ◌≡◌, refl, sym, ap, subst, ◌∙◌, arith, Bool, true, false, List, [], ◌∷◌, ◌++◌, length, get_or, length-append, if◌then◌else◌, cases_lt, get_or_append_left, get_or_at, get_or_past, get_or_default, is_spared, word, list_at, words_at, AreNumbers, spared_below, word_at_power}
 use Rattle.par2_transform.proofs.SparedSums.{spared_below_all, spared_below-mono}
 
 -- what is pushed for an exponent
@@ -85,12 +85,6 @@ all_found n found numbers few so_far = record {
 }
 
 -- ---- a text from a word on
-
-pub word_from : (from p : ℕ) (xs : List ℕ) → word p (drop (2 * from) xs) ≡ word (from + p) xs
-word_from from p xs =
-    ap₂ (λ a b. a + 256 * b)
-    (get_or-drop (2 * from) xs (2 * p) 0 ∙ ap (λ i. get_or xs i 0) (let e : 2 * from + 2 * p ≡ 2 * (from + p) = omega arith in e))
-    (get_or-drop (2 * from) xs (2 * p + 1) 0 ∙ ap (λ i. get_or xs i 0) (let e : 2 * from + (2 * p + 1) ≡ 2 * (from + p) + 1 = omega arith in e))
 
 -- ---- the slice whose constant is a power of 2
 

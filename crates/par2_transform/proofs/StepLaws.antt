@@ -343,6 +343,3 @@ lowered_at i c c2 start start2 m f g ec es lowered = subst (λ x. IsLowered i x 
 
 pub raised_at : (i c c2 start start2 : ℕ) (f g : ℕ → ℕ) → c ≡ c2 → start ≡ start2 → IsRaised i c start f g → IsRaised i c2 start2 f g
 raised_at i c c2 start start2 f g ec es raised = subst (λ x. IsRaised i x start2 f g) ec (subst (λ x. IsRaised i c x f g) es raised)
-
-pub run_one_at : (start start2 count : ℕ) (relation : (ℕ → ℕ) → (ℕ → ℕ) → Type 0) (f g : ℕ → ℕ) → start ≡ start2 → OneRun start count relation f g → OneRun start2 count relation f g
-run_one_at start start2 count relation f g e one = subst (λ x. OneRun x count relation f g) e one

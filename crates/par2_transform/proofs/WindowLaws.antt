@@ -1,5 +1,5 @@
 -- From coefficients in rows to what the windows of a class give.
-use Rattle.par2_transform.proofs.Common.{inl, inr, ℕ, suc, ◌+◌, ◌-◌, ◌*◌, ◌^◌, ◌<◌, ◌≤◌, ◌≡◌, ◌≢◌, refl, sym, ap, ap₂, subst, ◌∙◌, arith, List, length, bit_xor, cases_lt, cases_eq, xor_zero_l, xor_zero_r, mul, pow, zero-product, field_sum_same, field_sum_none, Outputs, Keeps, IsCleared, Gathers, GathersWindow, IsGathered, EachBlock, block_at, weight_at, AreCoefficients, AreWindowValues, HaveShape, AreBlocks, IsBlock, words_at, value, AreValues, Grid, column, IsAdded, EachColumn, point, Cut, coefficient_of, window_value, field_sum}
+use Rattle.par2_transform.proofs.Common.{inl, inr, ℕ, suc, ◌+◌, ◌-◌, ◌*◌, ◌^◌, ◌<◌, ◌≤◌, ◌≡◌, ◌≢◌, refl, sym, ap, ap₂, subst, ◌∙◌, arith, List, length, bit_xor, cases_lt, cases_eq, xor_zero_l, xor_zero_r, mul, pow, zero-product, field_sum_same, field_sum_none, Outputs, Keeps, IsCleared, Gathers, GathersWindow, IsGathered, EachBlock, block_at, weight_at, AreCoefficients, AreWindowValues, HaveShape, AreBlocks, words_at, value, AreValues, Grid, column, IsAdded, EachColumn, point, Cut, coefficient_of, window_value, field_sum}
 use Rattle.par2_transform.proofs.Sums.{field_sum_join}
 
 -- ---- coefficients
@@ -90,15 +90,6 @@ next_gathered cut slices r from n was mid block so_far one = record {
       one.added c u (let w = so_far.kept.words in omega (arith, w)) here
       ∙ ap₂ bit_xor (so_far.sums c u low here) (ap (λ ws. mul (weight_at ws n u) (window_value cut (words_at slices (from + c)) r n u)) so_far.kept.weights)
       ∙ ap (λ k. field_sum k (λ a. mul (weight_at was.weights a u) (window_value cut (words_at slices (from + c)) r a u))) (let e : suc n ≡ n + 1 = omega arith in e);
-}
-
-pub block_kept : (cut : Cut) (words e : ℕ) (was block : Outputs) → IsBlock cut words e was → Keeps was block → IsBlock cut words e block
-block_kept cut words e was block is kept = record {
-  exponent = kept.exponent ∙ is.exponent;
-  windows = kept.windows ∙ is.windows;
-  has = rw kept.weights is.has;
-  levels = kept.levels ∙ is.levels;
-  words = kept.words ∙ is.words;
 }
 
 -- ---- all blocks

@@ -2,7 +2,7 @@
 ghost use Rattle.std.specs.Prelude.{◌≡◌, ◌<◌, ◌≤◌, ℕ, suc, ◌+◌, ◌*◌, ◌/◌, ◌^◌, bit_xor};
 ghost use Rattle.par2_spec.specs.Field.{mul, pow, coefficient};
 ghost use Rattle.par2_spec.specs.Sums.{field_sum, AreElements};
-ghost use Rattle.par2_transform.specs.Subspaces.{point, vanishing, powers_in};
+ghost use Rattle.par2_transform.specs.Subspaces.{point, vanishing};
 ghost use Rattle.par2_transform.specs.PowerSums.{power_sum, sum_ahead};
 ghost use Rattle.par2_transform.specs.Evaluations.{value};
 ghost use Rattle.par2_transform.specs.Levels.{HoldPowerSums, HoldPolynomials, IsMergedLevel, IsSplitLevel, ComeFrom};

@@ -1,6 +1,6 @@
 //! Power sums and values at the points of a subspace, level by level, of all columns of words.
 
-ghost use Rattle.std.specs.Prelude.{◌≡◌, ◌<◌, ◌≤◌, ◌+◌, ◌-◌, ◌*◌, ◌^◌, ◌⊎◌, suc};
+ghost use Rattle.std.specs.Prelude.{◌<◌, ◌≤◌, ◌+◌, ◌-◌, ◌*◌, ◌^◌, ◌⊎◌, suc};
 ghost use Rattle.par2_spec.specs.Field.{mul};
 ghost use Rattle.par2_transform.specs.Subspaces.{point};
 ghost use Rattle.par2_transform.specs.PowerSums.{ArePowerSums, IsMerged};

@@ -1,7 +1,7 @@
 //! Powers of 2, and chirps, which are powers of 2 whose exponents are sums of the numbers below a number.
 
-ghost use Rattle.std.specs.Prelude.{◌≡◌, ◌+◌, ◌*◌, ◌<◌, ◌≤◌};
-ghost use Rattle.par2_spec.specs.Field.{mul, pow};
+ghost use Rattle.std.specs.Prelude.{◌≡◌, ◌*◌, ◌≤◌};
+ghost use Rattle.par2_spec.specs.Field.{pow};
 ghost use Rattle.par2_transform.specs.Chirps.{chirp, chirp_inverse};
 
 use par2_gf16::Gf;

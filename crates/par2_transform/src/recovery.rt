@@ -1,6 +1,6 @@
 //! Recovery slices, added to texts.
 
-ghost use Rattle.std.specs.Prelude.{◌≡◌, ℕ, ◌+◌, ◌*◌, ◌^◌, ◌<◌, ◌≤◌, length, IfOk};
+ghost use Rattle.std.specs.Prelude.{◌+◌, ◌*◌, ◌^◌, ◌<◌, ◌≤◌, length, IfOk};
 ghost use Rattle.par2_spec.specs.Sums.{lists_of};
 ghost use Rattle.par2_transform.specs.Adding.{within, AddsAt, AddsToEach, AreWholeTexts, HaveWords, LieWithin};
 ghost use Rattle.par2_transform.specs.Blocks.{AreBlocks};

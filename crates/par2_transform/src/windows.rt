@@ -1,7 +1,7 @@
 //! Sums over slices by classes and windows of the exponents of their constants.
 
-ghost use Rattle.std.specs.Prelude.{◌≡◌, ℕ, ◌+◌, ◌-◌, ◌*◌, ◌^◌, ◌<◌, ◌≤◌, length, IfOk};
-ghost use Rattle.par2_spec.specs.Sums.{field_sum, lists_of};
+ghost use Rattle.std.specs.Prelude.{◌≡◌, ◌+◌, ◌-◌, ◌*◌, ◌^◌, ◌<◌, ◌≤◌, length, IfOk};
+ghost use Rattle.par2_spec.specs.Sums.{lists_of};
 ghost use Rattle.par2_transform.specs.Adding.{within, AddsAt, LieWithin};
 ghost use Rattle.par2_transform.specs.Blocks.{AreBlocks, AreCoefficients, EachBlock, GathersWindow, HaveShape, IsGathered, class_sum_at};
 ghost use Rattle.par2_transform.specs.Chirps.{chirp_inverse, AreInverses};

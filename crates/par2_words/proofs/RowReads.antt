@@ -1,8 +1,7 @@
 -- What the getters read of matches, by the rows.
-use Rattle.par2_words.proofs.Common.{arith, ◌≡◌, ◌^◌, ◌&&◌, ℕ, Bool, true, false, nat_lt, refl, List, [], ◌∷◌, map, Option, Some, None, Result, lt-ltb, ltb-true, codes, unwrap_or, option_map, MatchOption, list_all, Bor, bytes_eq, AllDigits, ParsesUnsigned, digits_value, ReadsOne, Text, first_value, matched_of, one_text, raw_values, rows_of, flag_of, number, number_of, text_of, texts_of}
+use Rattle.par2_words.proofs.Common.{arith, ◌≡◌, ℕ, Bool, true, false, nat_lt, refl, List, [], ◌∷◌, map, Option, Some, None, Result, lt-ltb, ltb-true, codes, unwrap_or, option_map, MatchOption, list_all, Bor, bytes_eq, AllDigits, ParsesUnsigned, ReadsOne, Text, first_value, matched_of, one_text, raw_values, rows_of, flag_of, number, number_of, text_of, texts_of}
 use Rattle.std.specs.Char.{digit_value}
 use Rattle.std.proofs.lemmas.Bool.{and_parts}
-use Rattle.clap.specs.ValueTests.{is_numeral}
 use Rattle.clap.specs.declared.parser.matches.Found.{Found}
 use Rattle.clap.proofs.WalkLemmas.{first_value-rows, one_text-rows, raw_values-rows}
 
@@ -30,9 +29,6 @@ digits_from [] e = tt
 digits_from (d ∷ ds) e =
     let parts = and_parts _ _ e in
     (ltb-true _ _ parts.0, digits_from ds parts.1)
-
-abbrev fits : ℕ → List ℕ → Bool
-fits k ds = is_numeral ds && nat_lt (digits_value 10 ds) (2 ^ k)
 
 module _ {E : Type 0} (G : List ℕ → Result ℕ E → Type 0) (k : ℕ) (only : (u : List ℕ) (x : Result ℕ E) → G u x → ParsesUnsigned k 10 u x) where
   one_read : (t : Text) (r : Option ℕ) → ReadsOne G t r → unwrap_or r 0 ≡ number k t

@@ -1,5 +1,5 @@
 -- The subcommand that a parse met is one of the six.
-use Rattle.par2_words.proofs.Common.{arith, ◌≡◌, ◌∙◌, Bool, true, true≢false, refl, ap, sym, subst, List, [], Option, Some, None, is_some, option_map, unwrap_or, Box, find, list_all, App, HasMatchesOf, Row, Shape, Text, app_of, built, fault_of, is_simple, is_simple_and_free, subcommand_name_of, subcommand_of, subcommand_rows, subcommand_rows_of, argument_words, entered, label_of, names_of, rows_at, Command, Action, Undo, Redo, create_meaning, meaning, purge_meaning, repair_meaning, verify_meaning, clap_on_literals, create_app, par2_app, purge_app, repair_app, start_app, verify_app}
+use Rattle.par2_words.proofs.Common.{arith, ◌≡◌, ◌∙◌, Bool, true, true≢false, refl, ap, sym, subst, List, [], Option, Some, None, is_some, option_map, unwrap_or, Box, find, list_all, App, HasMatchesOf, Row, Shape, Text, app_of, built, fault_of, is_simple, is_simple_and_free, subcommand_name_of, subcommand_of, subcommand_rows, subcommand_rows_of, argument_words, entered, label_of, names_of, rows_at, Command, meaning, clap_on_literals, create_app, par2_app, purge_app, repair_app, start_app, verify_app}
 use Rattle.std.specs.Box.{box_value}
 use Rattle.std.proofs.lemmas.Option.{none-some}
 use Rattle.std.proofs.lemmas.List.Elements.{recursion_from_All}
@@ -27,9 +27,6 @@ all_known = refl
 
 find_all : {X : Type 0} (p q : X → Bool) (xs : List X) (x : X) → find p xs ≡ Some x → list_all q xs ≡ true → q x ≡ true
 find_all p q xs x e h = (found_one (λ y. q y ≡ true) p xs (recursion_from_All (λ y. q y ≡ true) xs (AllPass-from_list_all q xs h)) x e).0
-
-abbrev choices : List Row → Action × Action × Action × Action × Action × Action
-choices rows = (create_meaning rows, verify_meaning rows, repair_meaning rows, purge_meaning rows, Undo, Redo)
 
 any_rows : (n : Text) (rows : List Row) → is_some (meaning (n, [])) ≡ is_some (meaning (n, rows))
 any_rows n rows = grind arith

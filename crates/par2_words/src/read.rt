@@ -1,6 +1,6 @@
 //! What the words ask for.
-ghost use Rattle.std.specs.Prelude.{◌≡◌, ◌⊎◌, ℕ, List, [], IfOk, IfErr, Some, None, true, false, codes, map, is_some, string_bytes, unwrap_or, option_and_then, option_map};
-ghost use Rattle.clap.specs.Words.{Text, fault_of, found_of, one_of, rows_of, kind_of, subcommand_of, takes};
+ghost use Rattle.std.specs.Prelude.{◌≡◌, ◌⊎◌, [], IfOk, IfErr, Some, None, true, codes, map, is_some, string_bytes, unwrap_or};
+ghost use Rattle.clap.specs.Words.{fault_of, found_of, rows_of, kind_of, subcommand_of, takes};
 ghost use Rattle.par2_spec.specs.Views.{command_of};
 ghost use Rattle.par2_words.specs.Definition.{par2_app};
 ghost use Rattle.par2_words.specs.Refusals.{IsMeant};

@@ -1,4 +1,5 @@
-use Rattle.par2_digests.proofs.Common.{refl, ◌≡◌, ◌+◌, ◌*◌, ◌/◌, ◌++◌, ℕ, ap, sym, arith, length, take, drop, ◌∙◌, padded_message, padding, hash_after, tail_len, tail_of, take-take, text_at}
+use Rattle.par2_digests.proofs.Common.{refl, ◌≡◌, ◌+◌, ◌*◌, ◌/◌, ◌++◌, ℕ, ap, sym, arith, length, take, drop, ◌∙◌, padded_message, padding, hash_after, hash_behind, tail_len, tail_of, take-take, text_at}
+use Rattle.par2_digests.proofs.FeedLaws.{message_goes_on}
 use Rattle.par2_digests.proofs.TailLaws.{all_blocks, last_blocks, whole_blocks}
 use Rattle.par2_digests.proofs.hash_values.Goals as goal
 
@@ -17,7 +18,7 @@ returns c = λ k low.
     let p = padded_message m in
     let size : length m ≡ len = c.requires.within k low in
     let p_is : p ≡ m ++ pad = ap (λ n. m ++ padding n) size in
-    let first = c.absorbed-state.ensures.message k 0 p low (c.in_each_lane-start.ensures k low) (whole_blocks m pad p len p_is size) in
+    let first = c.absorbed-state.ensures k low ∙ ap (λ h. hash_behind h m (len / 64)) (c.in_each_lane-start.ensures k low) ∙ message_goes_on p m 0 (len / 64) (whole_blocks m pad p len p_is size) in
     let n = tail_len len in
     let tails = c.tails_of_windows-tails.result in
     let count = c.tail_blocks.result in
@@ -29,5 +30,5 @@ returns c = λ k low.
     ∙ take-take (count * 64) 128 (drop (128 * k) tails) (omega (arith, c.tail_blocks.ensures.few))
     ∙ ap (λ (l : ℕ). take l (drop (128 * k) tails)) whole
     ∙ c.tails_of_windows-tails.ensures.tails k low in
-    let last = c.absorbed.ensures.message k (0 + len / 64) p low first (last_blocks m pad p _ len count p_is size whole refl ∙ sym written) in
-    last ∙ ap (hash_after p) (all_blocks m pad p len count p_is size whole)
+    let last = message_goes_on p (text_at c.eighths.result k) (0 + len / 64) count (last_blocks m pad p _ len count p_is size whole refl ∙ sym written) in
+    c.absorbed.ensures k low ∙ ap (λ h. hash_behind h (text_at c.eighths.result k) count) first ∙ last ∙ ap (hash_after p) (all_blocks m pad p len count p_is size whole)

@@ -1,4 +1,4 @@
-use Rattle.par2_creation.proofs.Common.{◌≡◌, ◌∙◌, ◌∷◌, inr, refl, sym, ap, ap₂, subst, true, Some, Err, List, ℕ, map, string_bytes, None, Option, is_par_name, err_from_is_err_and, Folder, Create, CreateArgs, bad_name, early_refusal, refusal, after, create_args_of, Fault, Volume, long_name, there_already, inputs_fault, volumes_of, names_of, output_names, are_applicable, effects, changes_of, create_applies, answered_so, never_found}
+use Rattle.par2_creation.proofs.Common.{◌≡◌, ◌∙◌, ◌∷◌, inr, refl, sym, ap, ap₂, subst, true, Some, Err, List, ℕ, map, string_bytes, None, Option, is_par_name, err_from_is_err_and, Folder, Create, CreateArgs, bad_name, early_refusal, refusal, after, create_args_of, Fault, Volume, long_name, existing, inputs_fault, volumes_of, names_of, output_names, are_applicable, effects, changes_of, create_applies, answered_so, never_found}
 use Rattle.par2_spec.proofs.EarlyLaws.{refused_early}
 use Rattle.par2_spec.proofs.CommandLaws.{create_leads}
 use Rattle.par2_creation.proofs.GoodWords.{head_passed}
@@ -19,7 +19,7 @@ none_early c =
 
 -- the outputs' names are not too long, and are those that were looked for
 abbrev AreNamed : Folder → CreateArgs → Option Fault → Type 0
-AreNamed folder a answer = (long_name (output_names a) ≡ None) × (there_already folder a.overwrite (output_names a) ≡ answer)
+AreNamed folder a answer = (long_name (output_names a) ≡ None) × (existing folder a.overwrite (output_names a) ≡ answer)
 
 named : (c : After-existing) → AreNamed c.args.folder.now.files (create_args_of c.args.args.now) c.existing.result
 named c =
@@ -28,7 +28,7 @@ named c =
     let volumes : c.deref-2.result.now ≡ volumes_of a.base a.first a.count = c.deref-2.ensures.value ∙ c.in_ok-volumes.ensures.volumes ∙ ap (λ base. volumes_of base a.first a.count) name in
     let names : c.in_ok-base.base ∷ names_of c.deref-2.result.now ≡ output_names a = ap₂ (λ (base : List ℕ) (vs : List Volume). base ∷ names_of vs) name volumes in (
       long_without_base a c.in_ok-base.ensures.accepted ∙ subst (λ base. long_name (names_of (volumes_of base a.first a.count)) ≡ None) name c.in_ok-volumes.ensures.accepted,
-      ap (there_already c.args.folder.now.files a.overwrite) (sym names) ∙ sym c.existing.ensures,
+      ap (existing c.args.folder.now.files a.overwrite) (sym names) ∙ sym c.existing.ensures,
     )
 
 pub returns-in_err-base-clause-refused : goal.returns-in_err-base-clause-refused

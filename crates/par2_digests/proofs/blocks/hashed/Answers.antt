@@ -24,7 +24,7 @@ loop-feed-preserved c =
     let held = c.loop-feed.invariant in
     let hash = lane slice_index 0 c.loop-feed.state in
     record {
-      hash = ap (λ h. hash_behind h rest (length rest / 64)) (c.absorbed-state.ensures.behind 0 (omega arith))
+      hash = ap (λ h. hash_behind h rest (length rest / 64)) (c.absorbed-state.ensures 0 (omega arith))
           ∙ hash_more bytes rest c.fill.new.blocks hash c.fill.result count full c.fill.ensures.bytes c.fill.ensures.rest
           ∙ held.hash;
       block = c.fill.auto.blocks ∙ held.block;

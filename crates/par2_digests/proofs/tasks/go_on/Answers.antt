@@ -17,7 +17,7 @@ loop-blocks-preserved g c =
       leads = λ j none last rest low leads.
           let hash = lane g.V.Lanes.at j c.loop-blocks.state in
           let part = c.eighths.ensures.parts j 64 (omega (arith, low, c.requires.lanes, c.requires.few)) room in
-          let after = c.absorbed-state-else-batch-gt0.ensures.behind j (omega (arith, low, c.requires.lanes)) ∙ ap (λ text. hash_behind hash text 1) part in
+          let after = c.absorbed-state-else-batch-gt0.ensures j (omega (arith, low, c.requires.lanes)) ∙ ap (λ text. hash_behind hash text 1) part in
           subst (λ (h : List ℕ). LeadsTo (get_or c.turn_all.new.tasks j none) h last rest) (sym after) (c.turn_all.ensures.leads j none last rest low (held.leads j none last rest low leads));
       stays = λ j low. omega (arith, c.turn_all.ensures.shrinks j low, held.stays j low);
     }

@@ -7,7 +7,7 @@ returns c = λ folder set searched are files.
     let moves = c.args.moves.now in
     let given : List (List ℕ) = filter_map (λ (m : Target × Option (List ℕ)). m.1) moves.needing.now in
     let holds = c.in_ok-matching.ensures in
-    let old : List Change = c.args.out.now in
+    let old : List Change = c.args.changes.now in
     let first : List Change = files_removed (now_at folder set) given c.deref.result.now in
     let later : List Change = files_removed (now_at folder set) given c.args.files.now in
     on_ok_weaker c.push_removed-2.result

@@ -13,19 +13,19 @@ loop-target-preserved c =
     let t : Target = c.in-Some.target.now in
     let needs : Bool = c.in-Some.needs.now in
     let zs : List (Target × Bool) = zip (iter_rest (zip_first c.next.new.self)) (iter_rest (zip_second c.next.new.self)) in
-    let given : Option (List ℕ) = option_map (λ (name : Bor (List ℕ)). name.now) c.next_match-given.result in
+    let matched : Option (List ℕ) = option_map (λ (name : Bor (List ℕ)). name.now) c.next_match-matched.result in
     let before : List (Target × Option (List ℕ)) = iter_rest c.loop-target.needing in
-    let later : List (Target × Option (List ℕ)) = iter_rest c.next_match-given.new.needing in
+    let later : List (Target × Option (List ℕ)) = iter_rest c.next_match-matched.new.needing in
     let flags : List Bool = c.loop-target.found.now in
     let count : length c.pairs.result.now ≡ length t.pairs = ap (λ (ps : List Pair). length ps) c.pairs.ensures in
     let done : List reports.TargetReport = map target_report_of c.loop-target.reports.items in
     let left = λ (fs : List Bool). said_by files zs (map (λ (m : Target × Option (List ℕ)). m.1) later) fs in
-    ap (λ (rs : List code.TargetReport). map target_report_of rs ++ left c.parts.result.1.now) c.in_ok-push.ensures.items
-    ∙ ap (λ (rs : List reports.TargetReport). rs ++ left c.parts.result.1.now) (map-append target_report_of c.loop-target.reports.items (c.target_report.result ∷ []))
-    ∙ append_assoc done (target_report_of c.target_report.result ∷ []) (left c.parts.result.1.now)
+    ap (λ (rs : List code.TargetReport). map target_report_of rs ++ left c.split_at_most.result.1.now) c.in_ok-push.ensures.items
+    ∙ ap (λ (rs : List reports.TargetReport). rs ++ left c.split_at_most.result.1.now) (map-append target_report_of c.loop-target.reports.items (c.target_report.result ∷ []))
+    ∙ append_assoc done (target_report_of c.target_report.result ∷ []) (left c.split_at_most.result.1.now)
     ∙ ap₂ (λ (r : reports.TargetReport) (fs : List Bool). done ++ r ∷ left fs)
-    (c.target_report.ensures ∙ ap (said_of files (t, needs) given) (c.parts.ensures.first ∙ ap (λ n. take n flags) count)) (c.parts.ensures.others ∙ ap (λ n. drop n flags) count)
-    ∙ ap (λ (rs : List reports.TargetReport). done ++ rs) (said_more files (t, needs) zs before later c.next_match-given.result flags c.next_match-given.ensures)
+    (c.target_report.ensures ∙ ap (said_of files (t, needs) matched) (c.split_at_most.ensures.first ∙ ap (λ n. take n flags) count)) (c.split_at_most.ensures.others ∙ ap (λ n. drop n flags) count)
+    ∙ ap (λ (rs : List reports.TargetReport). done ++ rs) (said_more files (t, needs) zs before later c.next_match-matched.result flags c.next_match-matched.ensures)
     ∙ ap₂ (λ (ts : List Target) (bs : List Bool). done ++ said_by files (zip ts bs) (map (λ (m : Target × Option (List ℕ)). m.1) before) flags) (sym more.0) (sym more.1)
     ∙ c.loop-target.invariant
 

@@ -6,7 +6,6 @@ use Rattle.par2_plan.proofs.restored_slices.survivors_of.Goals as goal
 pub returns-clause-these : goal.returns-clause-these
 returns-clause-these c =
     let s = c.slice_size-slice_size.result in
-    let windows : List Window = c.in_ok-found_windows.field-0.items in
     let texts = texts_of c.args.texts.now in
     let pairs : ◌≡◌ {A = List Pair} c.deref.result.now (all_pairs c.args.set.now) = c.deref.ensures.value ∙ c.in_ok-pairs.ensures in
     record {
