@@ -12,7 +12,3 @@ slid s out next before rest size before_is =
 pub one_slide : (s value out next after adds : ℕ) → after ≡ crc_byte value next → adds ≡ leaving s out → bit_xor after adds ≡ after_slide s value out next
 unfolding after_slide
 one_slide s value out next after adds after_is adds_is = ap₂ bit_xor after_is adds_is
-
-pub none_less : (x : ℕ) → steps 0 x ≡ x
-unfolding steps
-none_less x = refl
