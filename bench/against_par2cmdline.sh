@@ -232,6 +232,13 @@ shifted() {
     repair "200 files of 320 KiB, a byte inserted in each" data*
 }
 
+# Volumes of par2cmdline, in which other packets stand between the recovery packets.
+foreign() {
+    head -c 67108864 /dev/urandom > data
+    par2create -q -q -t1 -T1 -s65536 -c512 set.par2 data
+    verify "an intact file of 64 MiB, 512 recovery slices by par2cmdline" 0 0
+}
+
 zeros() {
     head -c 8388608 /dev/zero > data
     create "8 MiB of zeros, 100 slices of 512" 512 100 data
@@ -265,7 +272,7 @@ large() {
     repair "3,277 of 32,768 slices lost" data
 }
 
-scenes="one middle small short runs many shifted zeros little${LARGE:+ large}"
+scenes="one middle small short runs many shifted foreign zeros little${LARGE:+ large}"
 printf '%-66s %6s     %6s     %s\n' "" ours theirs ratio
 for scene in ${SCENES:-$scenes}; do
     mkdir "$room/here"
