@@ -13,7 +13,7 @@ pub use Rattle.md5.specs.Md5.{add32, add_state, f_fn, g_fn, h_fn, i_fn, padded_m
 unfoldable pub use Rattle.md5.specs.Md5.{block_words, compress, digest_bytes, hash_after, md5, rounds}
 pub use Rattle.par2_digests.specs.Feeds.{at_hand, bytes_left}
 unfoldable pub use Rattle.par2_digests.specs.Feeds.{hash_behind}
-pub use Rattle.par2_digests.specs.Lanes.{AreOfFour, Have, four_words_at, lane, lane_words}
+pub use Rattle.par2_digests.specs.Lanes.{Have, four_words_at, lane, lane_words}
 pub use Rattle.par2_digests.specs.Messages.{HasAbsorbed, message_of, part_bytes}
 pub use Rattle.par2_digests.specs.Pendings.{TakeAll, TakesAll, bytes_to_absorb}
 pub use Rattle.par2_digests.specs.Tails.{tail_len, tail_of}

@@ -1,7 +1,6 @@
 -- Operations on vectors, read at one lane.
-use Rattle.par2_digests.proofs.Common.{Bor, length-set, get_or-set_other, get_or-set_same, ◌≢◌, below_more, ap, drop, take, ◌∙◌, ◌+◌, ◌≡◌, ℕ, ◌-◌, ◌<◌, ◌≤◌, List, [], ◌∷◌, ◌++◌, map, length, get_or, sym, arith, set, get_or-drop, get_or-take, get_or-append_right, get_or-map, get_or_append_left, length-map, drop-map, take-map, text_at, texts_of, get_or-zip2, length-zip2, AreOfFour, lane_words, lane, common_steps}
+use Rattle.par2_digests.proofs.Common.{Bor, length-set, get_or-set_other, get_or-set_same, ◌≢◌, below_more, ap, ◌∙◌, ◌+◌, ◌≡◌, ℕ, ◌<◌, List, [], ◌∷◌, ◌++◌, map, length, get_or, sym, arith, set, get_or-map, length-map, text_at, get_or-zip2, length-zip2, lane_words, common_steps}
 use Rattle.std.specs.Prelude.{slice_index}
-use Rattle.par2_digests.specs.declared.steps.State.{State}
 use lib.Lanes.{zip2}
 
 -- what holds at each of eight lanes
@@ -43,13 +42,6 @@ no_text = record { ref_ptr = (0, 0); now = [] }
 pub text_here : (texts : List (Bor (List ℕ))) (k : ℕ) → k < length texts → (get_or texts k no_text).now ≡ text_at texts k
 text_here texts k low = sym (get_or-map (λ (text : Bor (List ℕ)). text.now) texts k no_text [] low)
 
--- a text after others
-pub text_behind : (texts : List (Bor (List ℕ))) (n m k : ℕ) → k < m → text_at (take m (drop n texts)) k ≡ text_at texts (n + k)
-text_behind texts n m k low =
-    let now = λ (text : Bor (List ℕ)). text.now in
-    ap (λ ts. get_or ts k []) (sym (take-map now m (drop n texts)) ∙ ap (take m) (sym (drop-map now n texts)))
-    ∙ get_or-take m (drop n (texts_of texts)) k [] low ∙ get_or-drop n (texts_of texts) k []
-
 -- a text in the place of another
 pub text_set_same : (texts : List (Bor (List ℕ))) (k : ℕ) (text : Bor (List ℕ)) → k < length texts → text_at (set texts k text) k ≡ text.now
 text_set_same texts k text low =
@@ -65,27 +57,9 @@ text_set_other texts k j text other low =
 pub all_of_four : (x : List ℕ) → IsVector 4 x → get_or x 0 0 ∷ get_or x 1 0 ∷ get_or x 2 0 ∷ get_or x 3 0 ∷ [] ≡ x
 all_of_four x count = grind (arith, common_steps)
 
--- the lanes of two vectors of four
-pub first_four : (x y : List ℕ) → IsVector 4 x → get_or (x ++ y) 0 0 ∷ get_or (x ++ y) 1 0 ∷ get_or (x ++ y) 2 0 ∷ get_or (x ++ y) 3 0 ∷ [] ≡ x
-first_four x y count = grind (arith, get_or_append_left, all_of_four)
-
-pub last_four : (x y : List ℕ) → IsVector 4 x → IsVector 4 y → get_or (x ++ y) 4 0 ∷ get_or (x ++ y) 5 0 ∷ get_or (x ++ y) 6 0 ∷ get_or (x ++ y) 7 0 ∷ [] ≡ y
-last_four x y count-x count-y = grind (arith, get_or-append_right, all_of_four)
-
--- each vector is that of `low` and after it that of `high`
-pub record ArePairs (q low high : State (List ℕ)) : Type 0 where
-  pub a : q.a ≡ low.a ++ high.a
-  pub b : q.b ≡ low.b ++ high.b
-  pub c : q.c ≡ low.c ++ high.c
-  pub d : q.d ≡ low.d ++ high.d
-  pub sizes : AreOfFour low
-
--- the words in a lane of eight, of two vectors of four each
-pub low_lane : (q low high : State (List ℕ)) (k : ℕ) → k < 4 → ArePairs q low high → lane slice_index k q ≡ lane slice_index k low
-low_lane q low high k below pairs = grind (arith, get_or_append_left)
-
-pub high_lane : (q low high : State (List ℕ)) (k : ℕ) → 4 ≤ k → ArePairs q low high → lane slice_index k q ≡ lane slice_index (k - 4) high
-high_lane q low high k above pairs = grind (arith, get_or-append_right)
+-- four lanes of two vectors, from lane n on
+abbrev pub four_from : ℕ → List ℕ → List ℕ → List ℕ
+four_from n x y = get_or (x ++ y) n 0 ∷ get_or (x ++ y) (n + 1) 0 ∷ get_or (x ++ y) (n + 2) 0 ∷ get_or (x ++ y) (n + 3) 0 ∷ []
 
 -- what holds at each of four lanes
 pub each_of_four : (P : ℕ → Type 0) → P 0 → P 1 → P 2 → P 3 → (k : ℕ) → k < 4 → P k

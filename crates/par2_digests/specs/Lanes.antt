@@ -29,10 +29,3 @@ AreFourWords count at texts offset words = (k : ℕ) → k < count → lane at k
 abbrev pub GoesOn : {V : Type 0} → ℕ → (V → ℕ → ℕ) → List V → ℕ → State V → ℕ → State V → Type 0
 GoesOn count at words from before to after =
     (k : ℕ) (h : List ℕ) → k < count → lane at k before ≡ rounds h (lane_words at k words) from → lane at k after ≡ rounds h (lane_words at k words) to
-
--- each vector has four lanes
-pub record AreOfFour (words : State (List ℕ)) : Type 0 where
-  pub a : length words.a ≡ 4
-  pub b : length words.b ≡ 4
-  pub c : length words.c ≡ 4
-  pub d : length words.d ≡ 4

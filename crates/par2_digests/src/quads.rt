@@ -1,13 +1,17 @@
 //! Four words of each of several messages at once. One by one, the words of eight messages take a fifth of a block's
 //! time. So sixteen bytes of a message are read as a row, and the rows of four messages are exchanged into columns.
 
-ghost use Rattle.std.specs.Prelude.{◌≡◌, ◌≤◌, ◌<◌, ◌+◌, ◌^◌, ◌++◌, ℕ, [], ◌∷◌, length, slice_index, slice_index_or};
+ghost use Rattle.std.specs.Prelude.{◌≡◌, ◌≤◌, ◌<◌, ◌+◌, ◌^◌, ◌++◌, ℕ, length, slice_index};
 ghost use Rattle.md5.specs.Md5.{word_at};
-ghost use Rattle.par2_digests.specs.Lanes.{four_words_at, lane, AreFourWords, AreOfFour, Have};
+ghost use Rattle.par2_digests.specs.Lanes.{four_words_at, AreFourWords, Have};
 ghost use Rattle.par2_digests.specs.Texts.{text_at};
 
 use crate::steps::State;
 use std::simd::prelude::*;
+
+// The first two words of each half of two vectors, in turn; and the last two.
+const LOW_WORDS: [usize; 8] = [0, 8, 1, 9, 4, 12, 5, 13];
+const HIGH_WORDS: [usize; 8] = [2, 10, 3, 11, 6, 14, 7, 15];
 
 #[inline(always)]
 fn word(bytes: &[u8], at: usize) -> u32
@@ -31,13 +35,23 @@ fn gathered_words<const N: usize>(texts: &[&[u8]], offset: usize) -> Simd<u32, N
     Simd::from_array(words)
 }
 
-// Four words of a message.
+// Four words of a text.
 #[inline(always)]
-fn row(bytes: &[u8], at: usize) -> u32x4
-    requires { at + 16 ≤ length bytes.now }
-    ensures { result ≡ four_words_at bytes.now at }
+fn words_of_one(text: &[u8], offset: usize) -> u32x4
+    requires { offset + 16 ≤ length text.now }
+    ensures { result ≡ four_words_at text.now offset }
 {
-    u32x4::from_le_bytes(u8x16::from_slice(&bytes[at..]))
+    u32x4::from_le_bytes(u8x16::from_slice(&text[offset..]))
+}
+
+// Four words of text k.
+#[inline(always)]
+fn row(texts: &[&[u8]], k: usize, offset: usize) -> u32x4
+    requires place { k < length texts.now }
+    requires within { offset + 16 ≤ length (text_at texts.now k) }
+    ensures { result ≡ four_words_at (text_at texts.now k) offset }
+{
+    words_of_one(texts[k], offset)
 }
 
 // The front end makes no struct of vectors whose count of lanes is a parameter.
@@ -51,43 +65,50 @@ fn state_of<V: Copy>(a: V, b: V, c: V, d: V) -> State<V>
     State { a, b, c, d }
 }
 
-// Exchanges rows and columns: each argument has the words of a message.
-#[inline(always)]
-fn columns(a: u32x4, b: u32x4, c: u32x4, d: u32x4) -> State<u32x4>
-    ensures words { (k : ℕ) → k < 4
-        → lane slice_index k result ≡ slice_index_or (a ∷ b ∷ c ∷ d ∷ []) k [] }
-    ensures lanes { AreOfFour result }
-{
-    let (even_low, even_high) = a.interleave(c);
-    let (odd_low, odd_high) = b.interleave(d);
-    let (a, b) = even_low.interleave(odd_low);
-    let (c, d) = even_high.interleave(odd_high);
-    State { a, b, c, d }
-}
-
 // Four words of each of four texts.
 #[inline(always)]
 fn words_of_four(texts: &[&[u8]], offset: usize) -> State<u32x4>
     requires enough { 4 ≤ length texts.now }
     requires within { Have 4 (offset + 16) texts.now }
-    ensures words { AreFourWords 4 slice_index texts.now offset result }
-    ensures lanes { AreOfFour result }
+    ensures { AreFourWords 4 slice_index texts.now offset result }
 {
-    columns(
-        row(texts[0], offset),
-        row(texts[1], offset),
-        row(texts[2], offset),
-        row(texts[3], offset),
-    )
+    let (even_low, even_high) = row(texts, 0, offset).interleave(row(texts, 2, offset));
+    let (odd_low, odd_high) = row(texts, 1, offset).interleave(row(texts, 3, offset));
+    let (a, b) = even_low.interleave(odd_low);
+    let (c, d) = even_high.interleave(odd_high);
+    State { a, b, c, d }
 }
 
-// The lanes of two vectors, of which N is the count.
+// Four words of text k, and after them four of text k + 4.
 #[inline(always)]
-fn joined<const N: usize>(low: u32x4, high: u32x4) -> Simd<u32, N>
-    requires { N ≡ 8 }
-    ensures { result ≡ low ++ high }
+fn pair(texts: &[&[u8]], k: usize, offset: usize) -> u32x8
+    requires place { k < 4 }
+    requires enough { 8 ≤ length texts.now }
+    requires within { Have 8 (offset + 16) texts.now }
+    ensures { result ≡ four_words_at (text_at texts.now k) offset
+        ++ four_words_at (text_at texts.now (k + 4)) offset }
 {
-    with_lanes(low.shuffle(high, [0, 1, 2, 3, 4, 5, 6, 7]))
+    row(texts, k, offset).shuffle(row(texts, k + 4, offset), [0, 1, 2, 3, 4, 5, 6, 7])
+}
+
+// Four words of each of eight texts. The rows of two texts are exchanged at once, each half by itself, which AVX2 does
+// in one operation.
+#[inline(always)]
+fn words_of_eight(texts: &[&[u8]], offset: usize) -> State<u32x8>
+    requires enough { 8 ≤ length texts.now }
+    requires within { Have 8 (offset + 16) texts.now }
+    ensures { AreFourWords 8 slice_index texts.now offset result }
+{
+    let (a, b) = (pair(texts, 0, offset), pair(texts, 1, offset));
+    let (c, d) = (pair(texts, 2, offset), pair(texts, 3, offset));
+    let (even_low, even_high) = (a.shuffle(c, LOW_WORDS), a.shuffle(c, HIGH_WORDS));
+    let (odd_low, odd_high) = (b.shuffle(d, LOW_WORDS), b.shuffle(d, HIGH_WORDS));
+    State {
+        a: even_low.shuffle(odd_low, LOW_WORDS),
+        b: even_low.shuffle(odd_low, HIGH_WORDS),
+        c: even_high.shuffle(odd_high, LOW_WORDS),
+        d: even_high.shuffle(odd_high, HIGH_WORDS),
+    }
 }
 
 // The same vector, where two counts of lanes are one.
@@ -108,14 +129,8 @@ pub(crate) fn four_words<const N: usize>(texts: &[&[u8]], offset: usize) -> Stat
     ensures { AreFourWords N slice_index texts.now offset result }
 {
     if N == 8 {
-        let low = words_of_four(texts, offset);
-        let high = words_of_four(&texts[4..], offset);
-        state_of(
-            joined(low.a, high.a),
-            joined(low.b, high.b),
-            joined(low.c, high.c),
-            joined(low.d, high.d),
-        )
+        let State { a, b, c, d } = words_of_eight(texts, offset);
+        state_of(with_lanes(a), with_lanes(b), with_lanes(c), with_lanes(d))
     } else if N == 4 {
         let State { a, b, c, d } = words_of_four(texts, offset);
         state_of(with_lanes(a), with_lanes(b), with_lanes(c), with_lanes(d))
