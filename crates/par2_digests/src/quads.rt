@@ -11,6 +11,7 @@ use std::simd::prelude::*;
 
 // The first two words of each half of two vectors, in turn; and the last two.
 const LOW_WORDS: [usize; 8] = [0, 8, 1, 9, 4, 12, 5, 13];
+
 const HIGH_WORDS: [usize; 8] = [2, 10, 3, 11, 6, 14, 7, 15];
 
 #[inline(always)]
