@@ -7,3 +7,4 @@ pub mod FeedLaws
 pub mod TaskLaws
 pub mod TextLaws
 pub mod PendingLaws
+pub mod SixteenLaws

@@ -1,7 +1,6 @@
 -- A message on its way to its digest.
-use Rattle.par2_digests.proofs.Common.{ap, length-set, get_or-set_other, get_or-set_same, inl, inr, ◌≢◌, ◌≡◌, ℕ, ◌+◌, ◌-◌, ◌*◌, ◌/◌, ◌%◌, ◌≤◌, ◌<◌, List, Option, Some, None, length, take, drop, ◌++◌, sym, subst, arith, get_or, length-drop, cases_lt, set, drop_at, drop-drop, get_or-map, length-take-le, take-append-le, take_all, hash_after, at_hand, bytes_left, hash_behind, HasBlocks, HaveBlocks, LeadsTo, LeadsWith, work, work_of, works, Task}
+use Rattle.par2_digests.proofs.Common.{ap, length-set, get_or-set_other, get_or-set_same, inl, inr, ◌≢◌, ◌≡◌, ℕ, ◌+◌, ◌-◌, ◌*◌, ◌/◌, ◌%◌, ◌≤◌, ◌<◌, List, Option, Some, None, length, take, drop, ◌++◌, sym, subst, arith, get_or, length-drop, cases_lt, set, drop_at, drop-drop, get_or-map, length-take-le, take-append-le, take_all, hash_after, at_hand, hash_behind, HasBlocks, HaveBlocks, LeadsTo, LeadsWith, work, work_of, works, Task}
 use Rattle.par2_digests.proofs.FeedLaws.{blocks_alike, blocks_first, end_goes_on, goes_on}
-use Rattle.par2_digests.proofs.LaneLaws.{each_lane}
 use borrow.Rule.Slice.PartMut.{put_mid}
 
 drop_none : (bytes : List ℕ) → bytes ≡ drop 0 bytes
@@ -67,7 +66,7 @@ pub shrink_same : (at : Task → Task) (new old : Task) → ((d : Task) → at d
 shrink_same at new old same d held = subst (λ (t : Task). work new ≤ work t - 1) (same d) held
 
 -- a task more that has less work
-pub less_more : (tasks old : List Task) (new : Task) (k j : ℕ) → length tasks ≡ 8 → length old ≡ 8 → k < 8 → work new ≤ work (get_or old k new) - 1
+pub less_more : (tasks old : List Task) (new : Task) (k j : ℕ) → length tasks ≡ 16 → length old ≡ 16 → k < 16 → work new ≤ work (get_or old k new) - 1
     → ((i : ℕ) → i < k → get_or (works tasks) i 0 ≤ get_or (works old) i 0 - 1) → j < k + 1 → get_or (works (set tasks k new)) j 0 ≤ get_or (works old) j 0 - 1
 less_more tasks old new k j size old_size within turned before low =
     elim (cases_lt j k) [
@@ -84,17 +83,6 @@ less_more tasks old new k j size old_size within turned before low =
           let there = works_at old k new (omega (arith, old_size, within)) in
           rw same (omega (arith, after, taken, there, turned))
     ]
-
--- no hash value is there yet, and a task of n that begin leaves these bytes
-abbrev pub Begins : ℕ → (ℕ → List ℕ) → ℕ → Task → Type 0
-Begins n bytes k task = (task.hash ≡ None) × (k < n → bytes_left task.feed ≡ bytes k)
-
--- each of eight tasks begins
-pub eight_begin : (n : ℕ) (bytes : ℕ → List ℕ) (tasks : List Task) (none : Task)
-    → Begins n bytes 0 (get_or tasks 0 none) → Begins n bytes 1 (get_or tasks 1 none) → Begins n bytes 2 (get_or tasks 2 none) → Begins n bytes 3 (get_or tasks 3 none)
-    → Begins n bytes 4 (get_or tasks 4 none) → Begins n bytes 5 (get_or tasks 5 none) → Begins n bytes 6 (get_or tasks 6 none) → Begins n bytes 7 (get_or tasks 7 none)
-    → (k : ℕ) → k < 8 → k < n → ((get_or tasks k none).hash ≡ None) × (bytes_left (get_or tasks k none).feed ≡ bytes k)
-eight_begin n bytes tasks none b0 b1 b2 b3 b4 b5 b6 b7 k low within = grind (arith, each_lane)
 
 -- ---- the beginning of a task: q blocks of m are taken in, and the rest of m and x are left
 

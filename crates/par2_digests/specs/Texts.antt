@@ -10,8 +10,8 @@ texts_of texts = map (λ text. text.now) texts
 abbrev pub text_at : List (Bor (List ℕ)) → ℕ → List ℕ
 text_at texts k = slice_index_or (texts_of texts) k []
 
--- the texts are eight equal parts of some bytes, one after the other
-pub record AreEighths (bytes : List ℕ) (texts : List (Bor (List ℕ))) : Type 0 where
-  pub count : length texts ≡ 8
-  pub sizes : (k n : ℕ) → k < 8 → 8 * n ≡ length bytes → length (text_at texts k) ≡ n
-  pub parts : (k n : ℕ) → k < 8 → 8 * n ≡ length bytes → text_at texts k ≡ take n (drop (n * k) bytes)
+-- the texts are sixteen equal parts of some bytes, one after the other
+pub record AreSixteenths (bytes : List ℕ) (texts : List (Bor (List ℕ))) : Type 0 where
+  pub count : length texts ≡ 16
+  pub sizes : (k n : ℕ) → k < 16 → 16 * n ≡ length bytes → length (text_at texts k) ≡ n
+  pub parts : (k n : ℕ) → k < 16 → 16 * n ≡ length bytes → text_at texts k ≡ take n (drop (n * k) bytes)

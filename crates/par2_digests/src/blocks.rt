@@ -1,14 +1,14 @@
 //! The blocks of several messages at once, and of a message by itself.
 
-ghost use Rattle.std.specs.Prelude.{◌≡◌, ◌≤◌, ◌<◌, ◌+◌, ◌*◌, ◌/◌, ◌%◌, ◌^◌, ℕ, length, take, drop};
+ghost use Rattle.std.specs.Prelude.{◌≡◌, ◌≤◌, ◌<◌, ◌+◌, ◌*◌, ◌/◌, ◌%◌, ◌^◌, ℕ, List, length, take, drop};
 ghost use Rattle.md5.specs.Md5.{block_words};
 ghost use Rattle.par2_digests.specs.Feeds.{bytes_left, hash_behind};
-ghost use Rattle.par2_digests.specs.Lanes.{lane, lane_words, Have};
+ghost use Rattle.par2_digests.specs.Lanes.{four_words_at, hash_of_sixteen, lane, lane_words, Have};
 ghost use Rattle.par2_digests.specs.Texts.{text_at};
 
 use crate::feeds::Feed;
 use crate::lanes::Lanes;
-use crate::steps::{State, Words, compressed, in_each_lane};
+use crate::steps::{State, Words, both_compressed, compressed};
 use std::simd::prelude::*;
 
 // The words of the blocks that begin at the offset of each text.
@@ -30,25 +30,128 @@ fn read_words<V: Lanes>(texts: &[&[u8]], offset: usize) -> Words<V>
     ]
 }
 
-/// The hash values after so many blocks more, with which the texts begin. A block's words go through `words`.
-pub(crate) fn absorbed<V: Lanes>(
-    state: State<V>,
-    words: &mut Words<V>,
-    texts: &[&[u8]],
-    count: usize,
-) -> State<V>
-    requires enough { V.count ≤ length texts.now }
-    requires room { count * 64 < 2 ^ 64 }
-    requires within { Have V.count (count * 64) texts.now }
-    ensures { (k : ℕ) → k < V.count → lane V.at k result
-        ≡ hash_behind (lane V.at k state) (text_at texts.now k) count }
-{
-    let mut after = state;
-    for block in 0..count {
-        *words = read_words(texts, 64 * block);
-        after = compressed(after, words);
+/// The hash values of several messages, which take their blocks side by side.
+pub(crate) trait Hashes: Copy {
+    /// The room for the words of a block of each.
+    type Room;
+
+    // How many messages.
+    ghost count: { ℕ };
+
+    // The hash value of a message.
+    ghost at: { ℕ → Self → List ℕ };
+
+    /// The same hash value for each.
+    fn all(hash: [u32; 4]) -> Self
+        ensures { (k : ℕ) → k < count → at k result ≡ hash };
+
+    /// The hash values with which the texts begin, low byte first.
+    fn read(texts: &[&[u8]]) -> Self
+        requires enough { count ≤ length texts.now }
+        requires within { Have count 16 texts.now }
+        ensures { (k : ℕ) → k < count → at k result ≡ four_words_at (text_at texts.now k) 0 };
+
+    /// The hash values after so many blocks more, with which the texts begin.
+    fn absorbed(self, room: &mut Self::Room, texts: &[&[u8]], blocks: usize) -> Self
+        requires enough { count ≤ length texts.now }
+        requires room { blocks * 64 < 2 ^ 64 }
+        requires within { Have count (blocks * 64) texts.now }
+        ensures { (k : ℕ)
+            → k < count → at k result ≡ hash_behind (at k self) (text_at texts.now k) blocks };
+
+    /// The hash value of message k.
+    fn in_lane(&self, k: usize) -> [u32; 4]
+        requires { k < count }
+        ensures { result ≡ at k self.now };
+}
+
+impl<V: Lanes> Hashes for State<V> {
+    type Room = Words<V>;
+
+    ghost count = { V.count };
+
+    ghost at = { lane V.at };
+
+    fn all(hash: [u32; 4]) -> Self {
+        let [a, b, c, d] = hash;
+        State {
+            a: V::splat(a),
+            b: V::splat(b),
+            c: V::splat(c),
+            d: V::splat(d),
+        }
     }
-    after
+
+    fn read(texts: &[&[u8]]) -> Self {
+        V::four_words(texts, 0)
+    }
+
+    fn absorbed(self, room: &mut Words<V>, texts: &[&[u8]], blocks: usize) -> Self {
+        let mut after = self;
+        for block in 0..blocks {
+            *room = read_words(texts, 64 * block);
+            after = compressed(after, room);
+        }
+        after
+    }
+
+    fn in_lane(&self, k: usize) -> [u32; 4] {
+        [
+            self.a.word(k),
+            self.b.word(k),
+            self.c.word(k),
+            self.d.word(k),
+        ]
+    }
+}
+
+/// The hash values of sixteen messages: of eight, and of eight after them.
+#[derive(Clone, Copy)]
+pub(crate) struct Sixteen {
+    pub(crate) low: State<u32x8>,
+    pub(crate) high: State<u32x8>,
+}
+
+impl Hashes for Sixteen {
+    type Room = ();
+
+    ghost count = { 16 };
+
+    ghost at = { hash_of_sixteen };
+
+    fn all(hash: [u32; 4]) -> Self {
+        Sixteen {
+            low: State::all(hash),
+            high: State::all(hash),
+        }
+    }
+
+    fn read(texts: &[&[u8]]) -> Self {
+        Sixteen {
+            low: State::read(&texts[..8]),
+            high: State::read(&texts[8..]),
+        }
+    }
+
+    // A step of one group is on its way while one of the other is.
+    fn absorbed(self, _: &mut (), texts: &[&[u8]], blocks: usize) -> Self {
+        let mut after = self;
+        for block in 0..blocks {
+            let low = read_words(&texts[..8], 64 * block);
+            let high = read_words(&texts[8..], 64 * block);
+            let (low, high) = both_compressed(after.low, &low, after.high, &high);
+            after = Sixteen { low, high };
+        }
+        after
+    }
+
+    fn in_lane(&self, k: usize) -> [u32; 4] {
+        if k < 8 {
+            self.low.in_lane(k)
+        } else {
+            self.high.in_lane(k - 8)
+        }
+    }
 }
 
 /// The hash value after the whole blocks of what the feed has left; the block then begins with what is after them.
@@ -60,10 +163,9 @@ pub(crate) fn hashed(hash: [u32; 4], feed: Feed, block: &mut [u8; 64]) -> [u32; 
 {
     let mut feed = feed;
     let mut words = [Simd::splat(0); 16];
-    let [a, b, c, d] = hash;
-    let mut state: State<Simd<u32, 1>> = in_each_lane(a, b, c, d);
+    let mut state: State<Simd<u32, 1>> = State::all(hash);
     while feed.fill(block) == 64 {
-        state = absorbed(state, &mut words, &[&block[..]], 1);
+        state = state.absorbed(&mut words, &[&block[..]], 1);
     }
     state.in_lane(0)
 }

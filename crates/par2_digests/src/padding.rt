@@ -34,9 +34,9 @@ fn rest_of(window: &[u8]) -> &[u8]
 
 /// The tails of the windows of `len` bytes, one at each 128 bytes.
 pub(crate) fn tails_of_windows(windows: &[&[u8]; LANES], len: usize) -> [u8; TAILS_LEN]
-    requires within { (k : ℕ) → k < 8 → length (text_at windows.now k) ≡ len }
-    ensures size { length result ≡ 1024 }
-    ensures tails { (k : ℕ) → k < 8 → take (tail_len len) (drop (128 * k) result)
+    requires within { (k : ℕ) → k < 16 → length (text_at windows.now k) ≡ len }
+    ensures size { length result ≡ 2048 }
+    ensures tails { (k : ℕ) → k < 16 → take (tail_len len) (drop (128 * k) result)
         ≡ tail_of len (text_at windows.now k) }
 {
     let padding = ending(len as u64);

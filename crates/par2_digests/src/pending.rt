@@ -1,9 +1,8 @@
-//! States that absorb parts of their own, side by side. The digests of texts, as many as there are, eight side by side.
+//! States that absorb parts of their own, side by side. The digests of texts, as many as there are, up to sixteen side by side.
 
 ghost use Rattle.std.specs.Prelude.{◌≡◌, ◌≤◌, ◌<◌, ◌++◌, [], None, ℕ, List, length, get_or, map, slice_index_or, IfOk, OnOk};
 ghost use Rattle.md5.specs.Md5.{md5};
 ghost use Rattle.par2_digests.specs.Feeds.{bytes_left};
-ghost use Rattle.par2_digests.specs.Lanes.{lane};
 ghost use Rattle.par2_digests.specs.Messages.{HasAbsorbed, message_of};
 ghost use Rattle.par2_digests.specs.Pendings.{bytes_to_absorb, Absorb, IsBegun, TakeAll};
 ghost use Rattle.par2_digests.specs.Tasks.{HasTaken};
@@ -11,13 +10,14 @@ ghost use Rattle.par2_digests.specs.Texts.{texts_of};
 ghost use Rattle.par2_digests.specs.declared.midstate.Midstate.{Midstate};
 ghost use Rattle.par2_digests.specs.declared.pending.Pending.{Pending};
 
+use crate::blocks::{Hashes, Sixteen};
 use crate::feeds::Feed;
-use crate::lanes::Lanes;
 use crate::midstate::{Midstate, Part, length_of};
-use crate::steps::{State, Words};
+use crate::steps::State;
 use crate::tasks::{Task, finish_all};
-use crate::{LANES, digest_of, eighths};
+use crate::{LANES, digest_of, sixteenths};
 use std::alloc::{AllocError, Global};
+use std::array;
 use std::simd::prelude::*;
 
 /// A state, and the parts that it absorbs next.
@@ -31,19 +31,19 @@ pub struct Pending<'a> {
 const HASH_LEN: usize = 16;
 
 // The hash values, each in a lane of its own.
-fn state_of<V: Lanes>(pendings: &[Pending]) -> State<V>
-    requires lanes { V.count ≤ 8 }
-    requires few { length pendings.now ≤ 8 }
-    ensures { (k : ℕ) (m : List ℕ) (none : Pending) → k < V.count → k < length pendings.now
+fn hashes_of<H: Hashes>(pendings: &[Pending]) -> H
+    requires lanes { H.count ≤ 16 }
+    requires few { length pendings.now ≤ 16 }
+    ensures { (k : ℕ) (m : List ℕ) (none : Pending) → k < H.count → k < length pendings.now
         → let state = (get_or pendings.now k none).state in
-        HasAbsorbed state m → lane V.at k result ≡ state.hash }
+        HasAbsorbed state m → H.at k result ≡ state.hash }
 {
     let mut bytes = [0; HASH_LEN * LANES];
     for (k, pending) in pendings.iter().enumerate() {
         let at = HASH_LEN * k;
         bytes[at..at + HASH_LEN].copy_from_slice(&digest_of(pending.state.hash));
     }
-    V::four_words(&eighths(&bytes), 0)
+    H::read(&sixteenths(&bytes))
 }
 
 // What is to do for the parts.
@@ -80,21 +80,12 @@ fn task<'a>(pendings: &'a [Pending<'a>], k: usize) -> Task<'a>
 
 // What is to do in each lane.
 fn tasks_of<'a>(pendings: &'a [Pending<'a>]) -> [Task<'a>; LANES]
-    ensures count { length result ≡ 8 }
+    ensures count { length result ≡ 16 }
     ensures begun { (k : ℕ) (no_task : Task) (none : Pending)
-        → k < 8 → k < length pendings.now
+        → k < 16 → k < length pendings.now
         → IsBegun (get_or pendings.now k none) (get_or result k no_task) }
 {
-    [
-        task(pendings, 0),
-        task(pendings, 1),
-        task(pendings, 2),
-        task(pendings, 3),
-        task(pendings, 4),
-        task(pendings, 5),
-        task(pendings, 6),
-        task(pendings, 7),
-    ]
+    array::from_fn(|k| task(pendings, k))
 }
 
 // The state of a task that has ended.
@@ -112,16 +103,17 @@ fn state_behind(pending: &Pending, task: &Task) -> Midstate
 }
 
 // The states after their parts.
-fn states_behind<'a, V: Lanes>(
-    words: &mut Words<V>,
+fn states_behind<'a, H: Hashes>(
+    room: &mut H::Room,
     pendings: &'a [Pending<'a>],
 ) -> [Midstate; LANES]
-    requires lanes { length pendings.now ≤ V.count }
-    requires few { V.count ≤ 8 }
+    requires lanes { length pendings.now ≤ H.count }
+    requires few { H.count ≤ 16 }
     ensures { Absorb pendings.now result }
 {
     let mut tasks = tasks_of(pendings);
-    finish_all(&mut tasks, state_of(pendings), words, pendings.len());
+    let hashes: H = hashes_of(pendings);
+    finish_all(&mut tasks, hashes, room, pendings.len());
     let mut states = [Midstate::new(); LANES];
     for (k, pending) in pendings.iter().enumerate() {
         states[k] = state_behind(pending, &tasks[k]);
@@ -129,19 +121,18 @@ fn states_behind<'a, V: Lanes>(
     states
 }
 
-/// The states after their parts; eight at most.
+/// The states after their parts; sixteen at most.
 pub fn absorb_each(pendings: &[Pending]) -> [Midstate; LANES]
-    requires few { length pendings.now ≤ 8 }
+    requires few { length pendings.now ≤ 16 }
     ensures { Absorb pendings.now result }
 {
     // Borrowed anew, for as long as the slice and what its parts borrow.
     let all = &pendings[..];
-    if all.len() <= 1 {
-        states_behind(&mut [Simd::<u32, 1>::splat(0); 16], all)
-    } else if all.len() <= 4 {
-        states_behind(&mut [u32x4::splat(0); 16], all)
-    } else {
-        states_behind(&mut [u32x8::splat(0); 16], all)
+    match all.len() {
+        0..=1 => states_behind::<State<Simd<u32, 1>>>(&mut [Simd::splat(0); 16], all),
+        2..=4 => states_behind::<State<u32x4>>(&mut [Simd::splat(0); 16], all),
+        5..=8 => states_behind::<State<u32x8>>(&mut [Simd::splat(0); 16], all),
+        _ => states_behind::<Sixteen>(&mut (), all),
     }
 }
 
@@ -160,13 +151,13 @@ fn pendings_of<'a>(alloc: Global, texts: &[&'a [u8]]) -> Result<Vec<Pending<'a>>
     Ok(pendings)
 }
 
-// Adds the digests of eight texts at most. The padding of each is absorbed by itself, a block or two.
+// Adds the digests of sixteen texts at most. The padding of each is absorbed by itself, a block or two.
 fn push_digests(
     alloc: Global,
     digests: &mut Vec<[u8; 16]>,
     texts: &[&[u8]],
 ) -> Result<(), AllocError>
-    requires { length texts.now ≤ 8 }
+    requires { length texts.now ≤ 16 }
     ensures { OnOk result (digests.new.items ≡ digests.old.items ++ map md5 (texts_of texts.now)) }
 {
     let pendings = pendings_of(alloc, texts)?;

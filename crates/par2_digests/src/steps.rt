@@ -1,8 +1,8 @@
 //! The 64 steps of a block (RFC 1321, 3.4) on several messages at once.
 
-ghost use Rattle.std.specs.Prelude.{◌≡◌, ◌≤◌, ◌<◌, ◌+◌, ℕ, [], ◌∷◌, slice_index};
-ghost use Rattle.md5.specs.Md5.{add32, add_state, round, rounds, step_constants, step_shifts};
-ghost use Rattle.par2_digests.specs.Lanes.{lane, lane_words, GoesOn};
+ghost use Rattle.std.specs.Prelude.{◌≡◌, ◌≤◌, ◌<◌, ◌+◌, ℕ, slice_index};
+ghost use Rattle.md5.specs.Md5.{add32, add_state, round, step_constants, step_shifts};
+ghost use Rattle.par2_digests.specs.Lanes.{lane, AreBehind, GoesOn};
 
 use crate::lanes::Lanes;
 use std::alloc::AllocError;
@@ -43,33 +43,6 @@ impl<V: Copy> Clone for State<V> {
 
 /// The sixteen words of a block of each message.
 pub(crate) type Words<V> = [V; 16];
-
-impl<V: Lanes> State<V> {
-    /// The four variables in a lane.
-    pub(crate) fn in_lane(&self, k: usize) -> [u32; 4]
-        requires { k < V.count }
-        ensures { result ≡ lane V.at k self.now }
-    {
-        [
-            self.a.word(k),
-            self.b.word(k),
-            self.c.word(k),
-            self.d.word(k),
-        ]
-    }
-}
-
-/// The same four variables in each lane.
-pub(crate) fn in_each_lane<V: Lanes>(a: u32, b: u32, c: u32, d: u32) -> State<V>
-    ensures { (k : ℕ) → k < V.count → lane V.at k result ≡ a ∷ b ∷ c ∷ d ∷ [] }
-{
-    State {
-        a: V::splat(a),
-        b: V::splat(b),
-        c: V::splat(c),
-        d: V::splat(d),
-    }
-}
 
 // The sum of a step, as far as it doesn't hang on the step before.
 #[inline(always)]
@@ -153,43 +126,73 @@ macro_rules! steps {
     }};
 }
 
+#[inline(always)]
 fn first_round<V: Lanes>(state: State<V>, words: &Words<V>) -> State<V>
     ensures { GoesOn V.count V.at words.now 0 state 16 result }
 {
     steps!(f_step, state, words, 0 1 2 3 4 5 6 7 8 9 10 11 12 13 14 15)
 }
 
+#[inline(always)]
 fn second_round<V: Lanes>(state: State<V>, words: &Words<V>) -> State<V>
     ensures { GoesOn V.count V.at words.now 16 state 32 result }
 {
     steps!(g_step, state, words, 16 17 18 19 20 21 22 23 24 25 26 27 28 29 30 31)
 }
 
+#[inline(always)]
 fn third_round<V: Lanes>(state: State<V>, words: &Words<V>) -> State<V>
     ensures { GoesOn V.count V.at words.now 32 state 48 result }
 {
     steps!(h_step, state, words, 32 33 34 35 36 37 38 39 40 41 42 43 44 45 46 47)
 }
 
+#[inline(always)]
 fn fourth_round<V: Lanes>(state: State<V>, words: &Words<V>) -> State<V>
     ensures { GoesOn V.count V.at words.now 48 state 64 result }
 {
     steps!(i_step, state, words, 48 49 50 51 52 53 54 55 56 57 58 59 60 61 62 63)
 }
 
-/// The hash values after a block more.
-pub(crate) fn compressed<V: Lanes>(state: State<V>, words: &Words<V>) -> State<V>
-    ensures { (k : ℕ) → k < V.count → lane V.at k result ≡ add_state
-        (lane V.at k state) (rounds (lane V.at k state) (lane_words V.at k words.now) 64) }
+// The sums of the variables.
+#[inline(always)]
+fn sums<V: Lanes>(state: State<V>, after: State<V>) -> State<V>
+    ensures { (k : ℕ) → k < V.count
+        → lane V.at k result ≡ add_state (lane V.at k state) (lane V.at k after) }
 {
-    let after = first_round(state, words);
-    let after = second_round(after, words);
-    let after = third_round(after, words);
-    let after = fourth_round(after, words);
     State {
         a: V::plus(state.a, after.a),
         b: V::plus(state.b, after.b),
         c: V::plus(state.c, after.c),
         d: V::plus(state.d, after.d),
     }
+}
+
+/// The hash values after a block more.
+#[inline(always)]
+pub(crate) fn compressed<V: Lanes>(state: State<V>, words: &Words<V>) -> State<V>
+    ensures { AreBehind V.count V.at state words.now result }
+{
+    let after = first_round(state, words);
+    let after = second_round(after, words);
+    let after = third_round(after, words);
+    sums(state, fourth_round(after, words))
+}
+
+/// Those of two groups, whose rounds take turns.
+#[inline(always)]
+pub(crate) fn both_compressed<V: Lanes>(
+    low: State<V>,
+    low_words: &Words<V>,
+    high: State<V>,
+    high_words: &Words<V>,
+) -> (State<V>, State<V>)
+    ensures low { AreBehind V.count V.at low low_words.now result.0 }
+    ensures high { AreBehind V.count V.at high high_words.now result.1 }
+{
+    let (a, b) = (first_round(low, low_words), first_round(high, high_words));
+    let (a, b) = (second_round(a, low_words), second_round(b, high_words));
+    let (a, b) = (third_round(a, low_words), third_round(b, high_words));
+    let (a, b) = (fourth_round(a, low_words), fourth_round(b, high_words));
+    (sums(low, a), sums(high, b))
 }

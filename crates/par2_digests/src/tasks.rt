@@ -2,22 +2,20 @@
 
 ghost use Rattle.std.specs.Prelude.{◌≡◌, ◌≤◌, ◌<◌, ◌*◌, ◌-◌, ◌^◌, ℕ, List, IsTrue, length, take, drop, get_or};
 ghost use Rattle.par2_digests.specs.Feeds.{hash_behind};
-ghost use Rattle.par2_digests.specs.Lanes.{lane, Have};
+ghost use Rattle.par2_digests.specs.Lanes.{Have};
 ghost use Rattle.par2_digests.specs.Tasks.{work, works, HasBlocks, HasEnded, HaveLess, HaveNoMore, LeadOn, LeadsBehind, LeadsTo};
 ghost use Rattle.par2_digests.specs.Texts.{text_at};
 ghost use Rattle.par2_digests.specs.declared.tasks.Task.{Task};
 
-use crate::blocks::{absorbed, hashed};
-use crate::eighths;
+use crate::blocks::{Hashes, hashed};
 use crate::feeds::Feed;
-use crate::lanes::Lanes;
-use crate::steps::{State, Words};
+use crate::{LANES, sixteenths};
 
 // More blocks than a message has.
 const MOST_BLOCKS: usize = usize::MAX / 64;
 
 // The room for a block of each message.
-const ROOM: usize = 8 * 64;
+const ROOM: usize = LANES * 64;
 
 /// A message in a lane: what is left of it, or the hash value after its whole blocks.
 #[derive(Clone, Copy, Drop)]
@@ -55,10 +53,10 @@ impl<'a> Task<'a> {
     }
 
     // Copies the next block, or takes the hash value after the last.
-    fn turn<V: Lanes>(&mut self, block: &mut [u8], state: &State<V>, k: usize)
-        requires within { k < V.count }
+    fn turn<H: Hashes>(&mut self, block: &mut [u8], state: &H, k: usize)
+        requires within { k < H.count }
         requires whole { length block.old ≡ 64 }
-        ensures leads { let hash = lane V.at k state.now in (last rest : List ℕ)
+        ensures leads { let hash = H.at k state.now in (last rest : List ℕ)
             → LeadsTo self.old hash last rest
             → LeadsTo self.new (hash_behind hash block.new 1) last rest }
         ensures shrinks { work self.new ≤ work self.old - 1 }
@@ -102,12 +100,12 @@ fn batch_of(tasks: &[Task]) -> usize
 // Takes so many blocks of each message where they lie. In other lanes are those of message `unfinished`, whose hash
 // value is still to come.
 fn take_all<'a>(
-    tasks: &mut [Task<'a>; 8],
+    tasks: &mut [Task<'a>; LANES],
     count: usize,
     batch: usize,
     unfinished: usize,
-) -> [&'a [u8]; 8]
-    requires few { count ≤ 8 }
+) -> [&'a [u8]; LANES]
+    requires few { count ≤ 16 }
     requires blocks { (k : ℕ) (none : Task) → k < count
         → HasBlocks (get_or tasks.old k none) batch }
     requires within { unfinished < count }
@@ -115,12 +113,12 @@ fn take_all<'a>(
     ensures leads { (k : ℕ) (none : Task) → k < count → LeadsBehind
         (get_or tasks.old k none) (get_or tasks.new k none) (text_at result k) batch }
     ensures shrinks { 0 < batch → HaveLess count tasks.old tasks.new }
-    ensures room { Have 8 (batch * 64) result }
-    ensures sizes { (length tasks.new ≡ 8) × (length result ≡ 8) }
+    ensures room { Have 16 (batch * 64) result }
+    ensures sizes { (length tasks.new ≡ 16) × (length result ≡ 16) }
 {
     let mut ahead = tasks[unfinished].feed;
     let others = ahead.take_at_hand(batch);
-    let mut texts = [others; 8];
+    let mut texts = [others; LANES];
     for k in 0..count {
         let mut task = tasks[k];
         texts[k] = task.take(batch, others);
@@ -130,20 +128,20 @@ fn take_all<'a>(
 }
 
 // Copies the next block of each message, or takes the hash value after its last.
-fn turn_all<V: Lanes>(
-    tasks: &mut [Task; 8],
+fn turn_all<H: Hashes>(
+    tasks: &mut [Task; LANES],
     blocks: &mut [u8; ROOM],
-    state: &State<V>,
+    state: &H,
     count: usize,
 )
-    requires lanes { count ≤ V.count }
-    requires few { count ≤ 8 }
+    requires lanes { count ≤ H.count }
+    requires few { count ≤ 16 }
     ensures leads { (k : ℕ) (none : Task) (last rest : List ℕ) → k < count
-        → let hash = lane V.at k state.now in LeadsTo (get_or tasks.old k none) hash last rest
+        → let hash = H.at k state.now in LeadsTo (get_or tasks.old k none) hash last rest
         → let block = take 64 (drop (64 * k) blocks.new) in
         LeadsTo (get_or tasks.new k none) (hash_behind hash block 1) last rest }
     ensures shrinks { HaveLess count tasks.old tasks.new }
-    ensures size { length tasks.new ≡ 8 }
+    ensures size { length tasks.new ≡ 16 }
 {
     for k in 0..count {
         let mut task = tasks[k];
@@ -168,19 +166,19 @@ fn has_company(tasks: &[Task], count: usize, k: usize) -> bool
 
 // Takes as many blocks of each message as are at hand of all, or copies one of each, until the hash value of message k
 // is there, or those of all after it.
-fn go_on<V: Lanes>(
-    tasks: &mut [Task; 8],
-    state: State<V>,
-    words: &mut Words<V>,
+fn go_on<H: Hashes>(
+    tasks: &mut [Task; LANES],
+    state: H,
+    room: &mut H::Room,
     count: usize,
     k: usize,
-) -> State<V>
-    requires lanes { count ≤ V.count }
-    requires few { V.count ≤ 8 }
+) -> H
+    requires lanes { count ≤ H.count }
+    requires few { H.count ≤ 16 }
     requires within { k < count }
-    ensures leads { LeadOn (lane V.at) count tasks.old state tasks.new result }
+    ensures leads { LeadOn H.at count tasks.old state tasks.new result }
     ensures stays { HaveNoMore count tasks.old tasks.new }
-    ensures size { length tasks.new ≡ 8 }
+    ensures size { length tasks.new ≡ 16 }
 {
     let mut state = state;
     let mut blocks = [0; ROOM];
@@ -188,10 +186,10 @@ fn go_on<V: Lanes>(
         let batch = batch_of(&tasks[..count]);
         if batch > 0 {
             let texts = take_all(tasks, count, batch, k);
-            state = absorbed(state, words, &texts, batch);
+            state = state.absorbed(room, &texts, batch);
         } else {
             turn_all(tasks, &mut blocks, &state, count);
-            state = absorbed(state, words, &eighths(&blocks), 1);
+            state = state.absorbed(room, &sixteenths(&blocks), 1);
         }
     }
     state
@@ -199,21 +197,21 @@ fn go_on<V: Lanes>(
 
 /// Takes all blocks of the first `count` messages, from the state on: those of each beside others while there are any,
 /// then by itself, which is faster than all lanes.
-pub(crate) fn finish_all<V: Lanes>(
-    tasks: &mut [Task; 8],
-    state: State<V>,
-    words: &mut Words<V>,
+pub(crate) fn finish_all<H: Hashes>(
+    tasks: &mut [Task; LANES],
+    state: H,
+    room: &mut H::Room,
     count: usize,
 )
-    requires lanes { count ≤ V.count }
-    requires few { V.count ≤ 8 }
+    requires lanes { count ≤ H.count }
+    requires few { H.count ≤ 16 }
     ensures { (k : ℕ) (none : Task) (last rest : List ℕ) → k < count
-        → LeadsTo (get_or tasks.old k none) (lane V.at k state) last rest
+        → LeadsTo (get_or tasks.old k none) (H.at k state) last rest
         → HasEnded (get_or tasks.new k none) last rest }
 {
     let mut state = state;
     for k in 0..count {
-        state = go_on(tasks, state, words, count, k);
+        state = go_on(tasks, state, room, count, k);
         let mut task = tasks[k];
         task.finish(state.in_lane(k));
         tasks[k] = task;

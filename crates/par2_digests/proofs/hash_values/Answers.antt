@@ -1,34 +1,39 @@
-use Rattle.par2_digests.proofs.Common.{refl, ◌≡◌, ◌+◌, ◌*◌, ◌/◌, ◌++◌, ℕ, ap, sym, arith, length, take, drop, ◌∙◌, padded_message, padding, hash_after, hash_behind, tail_len, tail_of, take-take, text_at}
+use Rattle.par2_digests.proofs.Common.{refl, ◌≡◌, ◌+◌, ◌*◌, ◌/◌, ◌++◌, ◌<◌, ℕ, ap, sym, arith, length, take, drop, ◌∙◌, padded_message, padding, hash_after, hash_behind, tail_len, tail_of, take-take, text_at}
 use Rattle.par2_digests.proofs.FeedLaws.{message_goes_on}
 use Rattle.par2_digests.proofs.TailLaws.{all_blocks, last_blocks, whole_blocks}
 use Rattle.par2_digests.proofs.hash_values.Goals as goal
 
 pub absorbed-requires : goal.absorbed-requires
-absorbed-requires c =
+absorbed-requires g c =
     let few = c.tail_blocks.ensures.few in
-    let room : 8 * 128 ≡ length c.tails_of_windows-tails.result = sym c.tails_of_windows-tails.ensures.size in
-    (omega arith, (omega (arith, c.eighths.ensures.count), (omega (arith, few), λ k low. omega (arith, few, c.eighths.ensures.sizes k 128 low room))))
+    let room : 16 * 128 ≡ length c.tails_of_windows-tails.result = sym c.tails_of_windows-tails.ensures.size in
+    record {
+      enough = omega (arith, c.sixteenths.ensures.count, c.requires.few);
+      room = omega (arith, few);
+      within = λ k low. omega (arith, few, c.sixteenths.ensures.sizes k 128 (omega (arith, low, c.requires.few)) room);
+    }
 
 pub returns : goal.returns
 unfolding hash_after
-returns c = λ k low.
+returns g c = λ k within.
+    let low : k < 16 = omega (arith, within, c.requires.few) in
     let m = text_at c.args.windows.now k in
     let len = c.args.len in
     let pad = padding len in
     let p = padded_message m in
     let size : length m ≡ len = c.requires.within k low in
     let p_is : p ≡ m ++ pad = ap (λ n. m ++ padding n) size in
-    let first = c.absorbed-state.ensures k low ∙ ap (λ h. hash_behind h m (len / 64)) (c.in_each_lane-start.ensures k low) ∙ message_goes_on p m 0 (len / 64) (whole_blocks m pad p len p_is size) in
+    let first = c.absorbed-before.ensures k within ∙ ap (λ h. hash_behind h m (len / 64)) (c.all-start.ensures k within) ∙ message_goes_on p m 0 (len / 64) (whole_blocks m pad p len p_is size) in
     let n = tail_len len in
     let tails = c.tails_of_windows-tails.result in
     let count = c.tail_blocks.result in
     let whole = c.tail_blocks.ensures.whole in
-    let room : 8 * 128 ≡ length tails = sym c.tails_of_windows-tails.ensures.size in
-    let part = c.eighths.ensures.parts k 128 low room in
-    let written : take (count * 64) (text_at c.eighths.result k) ≡ tail_of len m =
+    let room : 16 * 128 ≡ length tails = sym c.tails_of_windows-tails.ensures.size in
+    let part = c.sixteenths.ensures.parts k 128 low room in
+    let written : take (count * 64) (text_at c.sixteenths.result k) ≡ tail_of len m =
     ap (take (count * 64)) part
     ∙ take-take (count * 64) 128 (drop (128 * k) tails) (omega (arith, c.tail_blocks.ensures.few))
     ∙ ap (λ (l : ℕ). take l (drop (128 * k) tails)) whole
     ∙ c.tails_of_windows-tails.ensures.tails k low in
-    let last = message_goes_on p (text_at c.eighths.result k) (0 + len / 64) count (last_blocks m pad p _ len count p_is size whole refl ∙ sym written) in
-    c.absorbed.ensures k low ∙ ap (λ h. hash_behind h (text_at c.eighths.result k) count) first ∙ last ∙ ap (hash_after p) (all_blocks m pad p len count p_is size whole)
+    let last = message_goes_on p (text_at c.sixteenths.result k) (0 + len / 64) count (last_blocks m pad p _ len count p_is size whole refl ∙ sym written) in
+    c.absorbed.ensures k within ∙ ap (λ h. hash_behind h (text_at c.sixteenths.result k) count) first ∙ last ∙ ap (hash_after p) (all_blocks m pad p len count p_is size whole)

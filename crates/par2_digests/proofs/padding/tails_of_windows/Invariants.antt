@@ -3,6 +3,6 @@ use Rattle.par2_digests.proofs.padding.tails_of_windows.Given as goal
 
 abbrev pub invariant-loop-k : goal.invariant-loop-k
 invariant-loop-k l = record {
-  count : length l.tails ≡ 1024;
+  count : length l.tails ≡ 2048;
   done : (j : ℕ) → j < l.k → take (tail_len l.len) (drop (128 * j) l.tails) ≡ tail_of l.len (text_at l.windows j);
 }

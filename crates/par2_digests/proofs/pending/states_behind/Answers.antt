@@ -1,4 +1,4 @@
-use Rattle.par2_digests.proofs.Common.{◌≡◌, ◌≢◌, ◌<◌, ◌++◌, ◌*◌, ◌/◌, ◌%◌, ◌∙◌, ℕ, List, ap, refl, sym, subst, drop, take, length, length-set, get_or, get_or-set_other, get_or-set_same, inl, inr, arith, cases_lt, get_or_default, set, hash_after, bytes_left, lane, HasAbsorbed, message_of, HasTaken, LeadsTo, Midstate, Pending, Task}
+use Rattle.par2_digests.proofs.Common.{◌≡◌, ◌≢◌, ◌<◌, ◌++◌, ◌*◌, ◌/◌, ◌%◌, ◌∙◌, ℕ, List, ap, refl, sym, subst, drop, take, length, length-set, get_or, get_or-set_other, get_or-set_same, inl, inr, arith, cases_lt, get_or_default, set, hash_after, bytes_left, HasAbsorbed, message_of, HasTaken, LeadsTo, Midstate, Pending, Task}
 use Rattle.par2_digests.proofs.TaskLaws.{ready}
 use Rattle.par2_digests.proofs.pending.states_behind.Goals as goal
 
@@ -33,7 +33,7 @@ loop-k-preserved g c =
                 let leads = λ (d : Task).
                 let task = get_or tasks k d in
                 ready task.hash m (message_of pending.parts.items) (take (state.length % 64) state.rest) task.rest (bytes_left task.feed) state.hash p (begun d).0 (begun d).1 taken_is absorbed.1.0 refl in
-                let hash : lane g.V.Lanes.at k c.state_of.result ≡ state.hash = c.state_of.ensures k m none (omega (arith, c.requires.lanes)) low absorbed in
+                let hash : g.H.Hashes.at k c.hashes_of-hashes.result ≡ state.hash = c.hashes_of-hashes.ensures k m none (omega (arith, c.requires.lanes)) low absorbed in
                 let ended = λ (d : Task). c.finish_all.ensures k d last rest low (subst (λ (h : List ℕ). LeadsTo (get_or tasks k d) h last rest) (sym hash) (leads d)) in
                 let taken = λ (d : Task). subst (λ (q : Pending). HasTaken (get_or c.finish_all.new.tasks k d) (m ++ message_of q.parts.items)) (sym here) (ended d) in
                 let behind : HasAbsorbed new p = subst (λ (q : Pending). HasAbsorbed new (m ++ message_of q.parts.items)) here

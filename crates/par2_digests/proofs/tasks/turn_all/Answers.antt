@@ -1,4 +1,4 @@
-use Rattle.par2_digests.proofs.Common.{◌≡◌, ◌≢◌, ◌≤◌, ◌<◌, ◌+◌, ◌*◌, ◌-◌, ◌∙◌, ℕ, ap, sym, take, drop, length, length-drop, length-set, get_or, get_or-set_other, get_or-set_same, inl, inr, arith, cases_lt, get_or_default, length-take-le, set, lane, Task}
+use Rattle.par2_digests.proofs.Common.{◌≡◌, ◌≢◌, ◌≤◌, ◌<◌, ◌+◌, ◌*◌, ◌-◌, ◌∙◌, ℕ, ap, sym, take, drop, length, length-drop, length-set, get_or, get_or-set_other, get_or-set_same, inl, inr, arith, cases_lt, get_or_default, length-take-le, set, Task}
 use borrow.Rule.Slice.PartMut.{put_mid, same_len_mid}
 use Rattle.par2_digests.proofs.TailLaws.{tail_before}
 use Rattle.par2_digests.proofs.TaskLaws.{blocks_at, leads_alike, leads_same, less_more, shrink_same}
@@ -27,7 +27,7 @@ loop-k-preserved g c =
       leads = λ j none last rest h leads.
           elim (cases_lt j k) [
             | inl below ↦
-                leads_alike _ _ _ _ (lane g.V.Lanes.at j c.args.state.now) last rest 1 (get_or-set_other tasks k j new none (omega (arith, below)))
+                leads_alike _ _ _ _ (g.H.Hashes.at j c.args.state.now) last rest 1 (get_or-set_other tasks k j new none (omega (arith, below)))
                 (tail_before blocks block start _ (64 * j) 64 (omega arith) (omega (arith, below))) (held.leads j none last rest below leads)
             | inr above ↦
                 let same : j ≡ k = omega (arith, above, h) in

@@ -1,7 +1,7 @@
 use Rattle.par2_digests.proofs.Common.{◌*◌, arith, drop, take, rules, lane, hash_behind, text_at}
 use Rattle.par2_digests.proofs.BlockLaws.{after_words}
 use Rattle.par2_digests.proofs.FeedLaws.{hash_one_more}
-use Rattle.par2_digests.proofs.blocks.absorbed.Goals as goal
+use Rattle.par2_digests.proofs.blocks.StateHashes.absorbed.Goals as goal
 
 pub loop-block-init : goal.loop-block-init
 unfolding hash_behind
@@ -12,7 +12,7 @@ loop-block-preserved g c = λ k low.
     let block = c.loop-block.block in
     let text = text_at c.args.texts.now k in
     after_words _ _ _ _ (take 64 (drop (64 * block) text)) _ (c.compressed-after.ensures k low) (c.loop-block.invariant k low) (c.read_words.ensures k low)
-    (hash_one_more (lane g.V.Lanes.at k c.args.state) text block)
+    (hash_one_more (lane g.V.Lanes.at k c.args.self) text block)
 
 pub returns : goal.returns
 returns g c = grind (arith, hash_behind)

@@ -4,7 +4,7 @@ use borrow.Rule.Slice.PartMut.{put_mid, same_len_mid}
 use Rattle.par2_digests.proofs.PendingLaws.{hash_in_text}
 use Rattle.par2_digests.proofs.TailLaws.{tail_before}
 use Rattle.par2_digests.proofs.TaskLaws.{blocks_at}
-use Rattle.par2_digests.proofs.pending.state_of.Goals as goal
+use Rattle.par2_digests.proofs.pending.hashes_of.Goals as goal
 
 pub loop-k-preserved : goal.loop-k-preserved
 loop-k-preserved g c =
@@ -36,16 +36,15 @@ loop-k-preserved g c =
 
 pub returns : goal.returns
 returns g c = λ k m none low within held.
-    let few : k < 8 = omega (arith, low, c.requires.lanes) in
-    let room : 8 * 16 ≡ length c.loop-k.bytes = sym c.loop-k.invariant.size in
-    let here = c.eighths.ensures.parts k 16 few room ∙ c.loop-k.invariant.done k none (omega (arith, c.loop-k-test.false)) in
-    hash_in_text (text_at c.eighths.result k) (get_or c.args.pendings.now k none).state.hash m _ _ here held.1.0 (c.four_words.ensures k low)
+    let few : k < 16 = omega (arith, low, c.requires.lanes) in
+    let room : 16 * 16 ≡ length c.loop-k.bytes = sym c.loop-k.invariant.size in
+    let here = c.sixteenths.ensures.parts k 16 few room ∙ c.loop-k.invariant.done k none (omega (arith, c.loop-k-test.false)) in
+    hash_in_text (text_at c.sixteenths.result k) (get_or c.args.pendings.now k none).state.hash m _ _ here held.1.0 (c.read.ensures k low)
 
-pub four_words-requires : goal.four_words-requires
-four_words-requires g c =
-    let room : 8 * 16 ≡ length c.loop-k.bytes = sym c.loop-k.invariant.size in
+pub read-requires : goal.read-requires
+read-requires g c =
+    let room : 16 * 16 ≡ length c.loop-k.bytes = sym c.loop-k.invariant.size in
     record {
-      enough = omega (arith, c.eighths.ensures.count, c.requires.lanes);
-      room = omega arith;
-      within = λ k low. omega (arith, c.eighths.ensures.sizes k 16 (omega (arith, low, c.requires.lanes)) room);
+      enough = omega (arith, c.sixteenths.ensures.count, c.requires.lanes);
+      within = λ k low. omega (arith, c.sixteenths.ensures.sizes k 16 (omega (arith, low, c.requires.lanes)) room);
     }
