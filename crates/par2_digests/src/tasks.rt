@@ -128,12 +128,7 @@ fn take_all<'a>(
 }
 
 // Copies the next block of each message, or takes the hash value after its last.
-fn turn_all<H: Hashes>(
-    tasks: &mut [Task; LANES],
-    blocks: &mut [u8; ROOM],
-    state: &H,
-    count: usize,
-)
+fn turn_all<H: Hashes>(tasks: &mut [Task; LANES], blocks: &mut [u8; ROOM], state: &H, count: usize)
     requires lanes { count ≤ H.count }
     requires few { count ≤ 16 }
     ensures leads { (k : ℕ) (none : Task) (last rest : List ℕ) → k < count

@@ -7,17 +7,31 @@ use Rattle.par2_digests.proofs.blocks.SixteenHashes.absorbed.Goals as goal
 
 pub read_words-low-requires : goal.read_words-low-requires
 read_words-low-requires c =
-    let texts = c.args.texts.now in
-    (omega arith, (omega (arith, length-take-le 8 texts (omega (arith, c.requires.enough))), (omega (arith, c.requires.room, c.loop-block-test.true),
-    λ k low. omega (arith, c.requires.within k (omega (arith, low)), c.loop-block-test.true, ap length (text_of_low texts k low)))))
+    let texts = c.args.texts.now in (
+      omega arith,
+      (
+        omega (arith, length-take-le 8 texts (omega (arith, c.requires.enough))),
+        (
+          omega (arith, c.requires.room, c.loop-block-test.true),
+          λ k low. omega (arith, c.requires.within k (omega (arith, low)), c.loop-block-test.true, ap length (text_of_low texts k low)),
+        ),
+      ),
+    )
 
 pub read_words-high-requires : goal.read_words-high-requires
 read_words-high-requires c =
     let texts = c.args.texts.now in
     let n : ℕ = length texts - 8 in
-    let rest = length-take-le n (drop 8 texts) (omega (arith, length-drop 8 texts)) in
-    (omega arith, (omega (arith, rest), (omega (arith, c.requires.room, c.loop-block-test.true),
-    λ k low. omega (arith, c.requires.within (8 + k) (omega (arith, low)), c.loop-block-test.true, ap length (text_of_high texts n k (omega (arith, low, c.requires.enough)))))))
+    let rest = length-take-le n (drop 8 texts) (omega (arith, length-drop 8 texts)) in (
+      omega arith,
+      (
+        omega (arith, rest),
+        (
+          omega (arith, c.requires.room, c.loop-block-test.true),
+          λ k low. omega (arith, c.requires.within (8 + k) (omega (arith, low)), c.loop-block-test.true, ap length (text_of_high texts n k (omega (arith, low, c.requires.enough)))),
+        ),
+      ),
+    )
 
 pub loop-block-init : goal.loop-block-init
 unfolding hash_behind
