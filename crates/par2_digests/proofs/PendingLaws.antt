@@ -3,11 +3,11 @@ use Rattle.par2_digests.proofs.Common.{◌≡◌, ℕ, ◌<◌, ◌^◌, List, [
 use Rattle.par2_digests.proofs.FeedLaws.{four_words}
 
 -- the words of a hash value fit
-record AreWords (hash : List ℕ) : Type 0 where
-  a : slice_index hash 0 < 2 ^ 32
-  b : slice_index hash 1 < 2 ^ 32
-  c : slice_index hash 2 < 2 ^ 32
-  d : slice_index hash 3 < 2 ^ 32
+pub record AreWords (hash : List ℕ) : Type 0 where
+  pub a : slice_index hash 0 < 2 ^ 32
+  pub b : slice_index hash 1 < 2 ^ 32
+  pub c : slice_index hash 2 < 2 ^ 32
+  pub d : slice_index hash 3 < 2 ^ 32
 
 are_words : (p : List ℕ) (n : ℕ) → AreWords (hash_after p n)
 unfolding hash_after compress
@@ -31,13 +31,16 @@ module _ (hash : List ℕ) (fit : AreWords hash) where
   fourth_word = from_le_bytes-to_le_bytes_4 (slice_index hash 3) fit.d
 
 -- a hash value as bytes, read word by word
-pub hash_in_text : (text hash p words : List ℕ) (n : ℕ) → text ≡ digest_bytes hash 4 → hash ≡ hash_after p n → words ≡ four_words_at text 0 → words ≡ hash
-hash_in_text text hash p words n here is words_are =
-    let fit : AreWords hash = rw is (are_words p n) in
+pub words_of_hash : (text hash words : List ℕ) → AreWords hash → slice_index hash 0 ∷ slice_index hash 1 ∷ slice_index hash 2 ∷ slice_index hash 3 ∷ [] ≡ hash
+    → text ≡ digest_bytes hash 4 → words ≡ four_words_at text 0 → words ≡ hash
+words_of_hash text hash words fit four here words_are =
     let read = λ (i : ℕ). ap (λ l. word_at l i) here in
     words_are
     ∙ (λ k. (read 0 ∙ first_word hash fit) k ∷ (read 4 ∙ second_word hash fit) k ∷ (read 8 ∙ third_word hash fit) k ∷ (read 12 ∙ fourth_word hash fit) k ∷ [])
-    ∙ four_words hash p n is
+    ∙ four
+
+pub hash_in_text : (text hash p words : List ℕ) (n : ℕ) → text ≡ digest_bytes hash 4 → hash ≡ hash_after p n → words ≡ four_words_at text 0 → words ≡ hash
+hash_in_text text hash p words n here is words_are = let fit : AreWords hash = rw is (are_words p n) in words_of_hash text hash words fit (four_words hash p n is) here words_are
 
 -- a text more after others
 pub takes_more : (pendings new : List Pending) (pending : Pending) (text : ℕ → List ℕ) → new ≡ pendings ++ pending ∷ [] → TakeAll pendings text

@@ -6,6 +6,7 @@ ghost use Rattle.par2_digests.specs.Feeds.{bytes_left, hash_behind};
 ghost use Rattle.par2_digests.specs.Lanes.{four_words_at, hash_of_sixteen, lane, lane_words, Have};
 ghost use Rattle.par2_digests.specs.Texts.{text_at};
 
+use crate::digest_of;
 use crate::feeds::Feed;
 use crate::lanes::Lanes;
 use crate::steps::{State, Words, both_compressed, compressed};
@@ -41,10 +42,6 @@ pub(crate) trait Hashes: Copy {
     // The hash value of a message.
     ghost at: { ℕ → Self → List ℕ };
 
-    /// The same hash value for each.
-    fn all(hash: [u32; 4]) -> Self
-        ensures { (k : ℕ) → k < count → at k result ≡ hash };
-
     /// The hash values with which the texts begin, low byte first.
     fn read(texts: &[&[u8]]) -> Self
         requires enough { count ≤ length texts.now }
@@ -71,16 +68,6 @@ impl<V: Lanes> Hashes for State<V> {
     ghost count = { V.count };
 
     ghost at = { lane V.at };
-
-    fn all(hash: [u32; 4]) -> Self {
-        let [a, b, c, d] = hash;
-        State {
-            a: V::splat(a),
-            b: V::splat(b),
-            c: V::splat(c),
-            d: V::splat(d),
-        }
-    }
 
     fn read(texts: &[&[u8]]) -> Self {
         V::four_words(texts, 0)
@@ -119,13 +106,6 @@ impl Hashes for Sixteen {
 
     ghost at = { hash_of_sixteen };
 
-    fn all(hash: [u32; 4]) -> Self {
-        Sixteen {
-            low: State::all(hash),
-            high: State::all(hash),
-        }
-    }
-
     fn read(texts: &[&[u8]]) -> Self {
         Sixteen {
             low: State::read(&texts[..8]),
@@ -163,7 +143,7 @@ pub(crate) fn hashed(hash: [u32; 4], feed: Feed, block: &mut [u8; 64]) -> [u32; 
 {
     let mut feed = feed;
     let mut words = [Simd::splat(0); 16];
-    let mut state: State<Simd<u32, 1>> = State::all(hash);
+    let mut state: State<Simd<u32, 1>> = State::read(&[&digest_of(hash)[..]]);
     while feed.fill(block) == 64 {
         state = state.absorbed(&mut words, &[&block[..]], 1);
     }

@@ -69,7 +69,7 @@ next_parents from folder change rest states place held = grind (arith, later_fir
 -- where the walk is, with these changes to come
 pub record IsWithin (from to : Border) (states : List Midstate) (folder : Folder) (changes : List Change) (snapshot : Snapshot) (runs : Runs) (place : ℕ) (rest : List Change) : Type 0 where
   pub kept : IsKept (files_in snapshot)
-  pub few : length runs.pendings.items ≤ 8
+  pub few : length runs.pendings.items ≤ 16
   pub applicable : IsTrue (are_applicable (folder_in snapshot) (map change_of rest))
   pub parents : HaveAbsorbed (drop place states) (run_texts from (folder_in snapshot) (map change_of rest))
   pub done : List (List ℕ)
@@ -91,7 +91,7 @@ module _ {from to : Border} {states : List Midstate} {folder : Folder} {changes 
       pub parents_then : HaveAbsorbed (drop there states) (run_texts from (effect (folder_in snapshot) (change_of change)) (map change_of (drop (suc i) changes)))
       parents_then = grind (arith, effect, next_parents, split)
 
-      pub goes_on : (next : Snapshot) → folder_in next ≡ effect (folder_in snapshot) (change_of change) → IsKept (files_in next) → (more : Runs) → length more.pendings.items ≤ 8
+      pub goes_on : (next : Snapshot) → folder_in next ≡ effect (folder_in snapshot) (change_of change) → IsKept (files_in next) → (more : Runs) → length more.pendings.items ≤ 16
           → (begins : Bool) → touches to (change_of change) ≡ begins → AreTo more (within.done ++ cond begins (text_before to (folder_in next) ∷ []) [])
           → IsWithin from to states folder changes next more there (drop (i + 1) changes)
       goes_on next after kept more few begins is_begun reached = grind (arith, common_steps, rest, add-one, are_applicable, rest_applicable, split, parents_then, append_assoc, later_texts, later_first)

@@ -32,7 +32,7 @@ pub struct Runs<'a> {
 
 impl<'a> Runs<'a> {
     pub(crate) fn new(alloc: Global) -> Runs<'a>
-        ensures few { length result.pendings.items ≤ 8 }
+        ensures few { length result.pendings.items ≤ 16 }
         ensures texts { AreTo result [] }
     {
         Runs {
@@ -43,7 +43,7 @@ impl<'a> Runs<'a> {
 
     // Absorbs all parts.
     fn settle(&mut self) -> Result<()>
-        requires few { length self.old.pendings.items ≤ 8 }
+        requires few { length self.old.pendings.items ≤ 16 }
         ensures empty { OnOk result (self.new.pendings.items ≡ []) }
         ensures texts { (texts : List (List ℕ))
             → AreTo self.old texts → OnOk result (AreTo self.new texts) }
@@ -57,8 +57,8 @@ impl<'a> Runs<'a> {
 
     /// Adds a state and the parts that it has to absorb.
     pub(crate) fn push(&mut self, pending: Pending<'a>) -> Result<()>
-        requires few { length self.old.pendings.items ≤ 8 }
-        ensures few { OnOk result (length self.new.pendings.items ≤ 8) }
+        requires few { length self.old.pendings.items ≤ 16 }
+        ensures few { OnOk result (length self.new.pendings.items ≤ 16) }
         ensures texts { (texts : List (List ℕ)) (text : List ℕ)
             → AreTo self.old texts → Reaches pending.entry text
             → OnOk result (AreTo self.new (texts ++ text ∷ [])) }
@@ -78,10 +78,10 @@ impl<'a> Runs<'a> {
         from: Border<'_>,
         to: Border<'_>,
     ) -> Result<()>
-        requires few { length self.old.pendings.items ≤ 8 }
+        requires few { length self.old.pendings.items ≤ 16 }
         requires kept { IsKept (files_in snapshot.now) }
         requires further { IsFurther from to }
-        ensures few { OnOk result (length self.new.pendings.items ≤ 8) }
+        ensures few { OnOk result (length self.new.pendings.items ≤ 16) }
         ensures texts { (texts : List (List ℕ)) → AreTo self.old texts
             → HasAbsorbed state (text_before from.entry (folder_in snapshot.now))
             → OnOk result
@@ -92,7 +92,7 @@ impl<'a> Runs<'a> {
 
     /// The states after all parts.
     pub(crate) fn finish(mut self) -> Result<Vec<Midstate>>
-        requires few { length self.pendings.items ≤ 8 }
+        requires few { length self.pendings.items ≤ 16 }
         ensures { (texts : List (List ℕ)) → AreTo self.entry texts
             → IfOk result (λ states. HaveAbsorbed states.items texts) }
     {
@@ -124,7 +124,7 @@ fn runs_before<'a>(
     requires further { IsFurther from to }
     requires applicable { IsTrue (are_applicable folder.now.files (map change_of changes.now)) }
     requires absorbed { HaveAbsorbed states.now (texts_by from folder.now.files changes.now) }
-    ensures few { IfOk result (λ runs. length runs.pendings.items ≤ 8) }
+    ensures few { IfOk result (λ runs. length runs.pendings.items ≤ 16) }
     ensures texts { IfOk result (LeadTo (texts_by to.entry folder.now.files changes.now)) }
 {
     let mut snapshot = folder.snapshot()?;
@@ -152,7 +152,7 @@ fn runs_along<'a>(
 ) -> Result<Runs<'a>>
     requires landmarks { AreLandmarksOf folder.now.files landmarks.now }
     requires applicable { IsTrue (are_applicable folder.now.files (map change_of changes.now)) }
-    ensures few { IfOk result (λ runs. length runs.pendings.items ≤ 8) }
+    ensures few { IfOk result (λ runs. length runs.pendings.items ≤ 16) }
     ensures texts { IfOk result (LeadTo (texts_by End folder.now.files changes.now)) }
 {
     let names = border_names(alloc, changes)?;
@@ -196,7 +196,7 @@ pub fn states_with<'a>(
     mut runs: Runs<'a>,
     texts: &[&'a [u8]],
 ) -> Result<Vec<Midstate>>
-    requires { length runs.pendings.items ≤ 8 }
+    requires { length runs.pendings.items ≤ 16 }
     ensures { (before : List (List ℕ)) → AreTo runs.entry before
         → IfOk result (λ states. HaveAbsorbed states.items (before ++ texts_of texts.now)) }
 {

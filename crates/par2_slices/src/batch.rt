@@ -6,8 +6,6 @@ ghost use Rattle.par2_digests.specs.Digests.{digest_at};
 ghost use Rattle.par2_spec.specs.Windows.{window};
 ghost use Rattle.par2_slices.specs.Searches.{candidate_at};
 
-use crate::cutting::window_bytes;
-use crate::pairs::padded_md5;
 use par2_digests::{LANES, window_digests};
 use std::array;
 
@@ -28,8 +26,8 @@ pub(crate) struct Candidate {
 /// The offsets of the candidates; the last of them again in the lanes that are left.
 fn starts(batch: &[Candidate]) -> [usize; LANES]
     requires some { 1 ≤ length batch.now }
-    requires fit { length batch.now ≤ 8 }
-    ensures { (k : ℕ) → k < 8 → slice_index result k
+    requires fit { length batch.now ≤ 16 }
+    ensures { (k : ℕ) → k < 16 → slice_index result k
         ≡ (candidate_at batch.now (min k (length batch.now - 1))).spot.offset }
 {
     array::from_fn(|lane| batch[lane.min(batch.len() - 1)].spot.offset)
@@ -38,15 +36,11 @@ fn starts(batch: &[Candidate]) -> [usize; LANES]
 /// The MD5s of the candidates' windows, which are whole.
 pub(crate) fn digests(bytes: &[u8], s: u64, batch: &[Candidate]) -> [[u8; 16]; LANES]
     requires some { 1 ≤ length batch.now }
-    requires fit { length batch.now ≤ 8 }
+    requires fit { length batch.now ≤ 16 }
     requires whole { (k : ℕ)
         → k < length batch.now → (candidate_at batch.now k).spot.offset + s ≤ length bytes.now }
     ensures { (k : ℕ) → k < length batch.now
         → digest_at result k ≡ md5 (window s bytes.now (candidate_at batch.now k).spot.offset) }
 {
-    if let [only] = batch {
-        // Eight side by side take about the time of two, so one alone is faster by itself.
-        return [padded_md5(window_bytes(bytes, s, only.spot.offset), s); LANES];
-    }
-    window_digests(bytes, &starts(batch), s as usize)
+    window_digests(bytes, &starts(batch), batch.len(), s as usize)
 }

@@ -30,10 +30,10 @@ fn have_crc32s(bytes: &[u8], s: u64, pairs: &[Pair]) -> bool
     true
 }
 
-/// Whether `count` pairs from pair `first` on, eight at most, have the MD5s of the slices of their numbers.
+/// Whether `count` pairs from pair `first` on, sixteen at most, have the MD5s of the slices of their numbers.
 fn group_has_md5s(bytes: &[u8], s: u64, pairs: &[Pair], first: usize, count: usize) -> bool
     requires size { 1 ≤ s }
-    requires few { count ≤ 8 }
+    requires few { count ≤ 16 }
     requires pairs { first + count ≤ length pairs.now }
     requires slices { length pairs.now ≤ slices.slice_count s (length bytes.now) }
     ensures { IsTrue result ↔ HaveMd5s s bytes.now pairs.now first (first + count) }

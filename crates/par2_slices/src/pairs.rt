@@ -1,4 +1,4 @@
-//! The checksums of the slices of a file, eight side by side.
+//! The checksums of the slices of a file, sixteen side by side.
 
 ghost use Rattle.std.specs.Prelude.{◌≡◌, ◌≤◌, ◌<◌, ◌+◌, ◌-◌, ◌*◌, ◌^◌, ◌++◌, min, ℕ, IfOk, OnOk, length, map, slice_index};
 ghost use Rattle.md5.specs.Md5.{Holds, md5};
@@ -63,41 +63,34 @@ fn starts_from(first: usize, count: usize, s: usize) -> [usize; LANES]
     requires some { 1 ≤ count }
     requires last { first + count < 2 ^ 64 }
     requires end { (first + count) * s < 2 ^ 64 }
-    ensures { (k : ℕ) → k < 8 → slice_index result k ≡ (first + min k (count - 1)) * s }
+    ensures { (k : ℕ) → k < 16 → slice_index result k ≡ (first + min k (count - 1)) * s }
 {
     array::from_fn(|lane| (first + lane.min(count - 1)) * s)
 }
 
-/// The MD5s of `count` whole slices, eight at most, of which the first is slice `first`, side by side.
+/// The MD5s of `count` whole slices, sixteen at most, of which the first is slice `first`, side by side.
 fn whole_md5s(bytes: &[u8], s: usize, first: usize, count: usize) -> [[u8; 16]; LANES]
     requires size { 1 ≤ s }
-    requires few { count ≤ 8 }
+    requires few { count ≤ 16 }
     requires whole { 1 ≤ count → (first + count) * s ≤ length bytes.now }
     ensures { (k : ℕ) → k < count → digest_at result k ≡ md5 (slice_at s bytes.now (first + k)) }
 {
     if count == 0 {
         return [[0; 16]; LANES];
     }
-    window_digests(bytes, &starts_from(first, count, s), s)
+    window_digests(bytes, &starts_from(first, count, s), count, s)
 }
 
-/// How many of some whole slices are digested side by side. One alone is digested sooner by itself.
-fn side_by_side(whole: usize) -> usize
-    ensures { result ≤ whole }
-{
-    if whole == 1 { 0 } else { whole }
-}
-
-/// The MD5s of `count` slices, eight at most, of which the first is slice `first`.
+/// The MD5s of `count` slices, sixteen at most, of which the first is slice `first`.
 pub(crate) fn slice_md5s(bytes: &[u8], s: u64, first: usize, count: usize) -> [[u8; 16]; LANES]
     requires size { 1 ≤ s }
-    requires few { count ≤ 8 }
+    requires few { count ≤ 16 }
     requires fits { first + count < 2 ^ 64 }
     requires slices { first + count ≤ slice_count s (length bytes.now) }
     ensures { (k : ℕ) → k < count → digest_at result k ≡ md5 (slice_at s bytes.now (first + k)) }
 {
     let whole = (bytes.len() as u64 / s) as usize;
-    let together = side_by_side(count.min(whole.saturating_sub(first)));
+    let together = count.min(whole.saturating_sub(first));
     let mut md5s = whole_md5s(bytes, s as usize, first, together);
     for k in together..count {
         md5s[k] = padded_md5(slice_bytes(bytes, s, (first + k) as u64), s);
@@ -105,11 +98,11 @@ pub(crate) fn slice_md5s(bytes: &[u8], s: u64, first: usize, count: usize) -> [[
     md5s
 }
 
-/// Adds the checksums of `count` slices, eight at most, to those of the slices before them.
+/// Adds the checksums of `count` slices, sixteen at most, to those of the slices before them.
 fn push_group(pairs: &mut Vec<Pair>, bytes: &[u8], s: u64, first: usize, count: usize) -> Result<()>
     requires before { pairs.old.items ≡ first_pairs s bytes.now first }
     requires size { 1 ≤ s }
-    requires few { count ≤ 8 }
+    requires few { count ≤ 16 }
     requires fits { first + count < 2 ^ 64 }
     requires slices { first + count ≤ slice_count s (length bytes.now) }
     ensures { OnOk result (pairs.new.items ≡ first_pairs s bytes.now (first + count)) }

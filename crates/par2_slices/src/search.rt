@@ -163,7 +163,7 @@ impl Search {
         requires at { IsSearching scan.now offset self.old }
         requires within { offset < length scan.now.bytes.now }
         ensures at { IsSearching scan.now offset self.new }
-        ensures room { length self.new.batch.items < 8 }
+        ensures room { length self.new.batch.items < 16 }
         ensures short { ¬ (IsWhole scan.now offset) → self.new.batch.items ≡ [] }
     {
         if !scan.is_whole(offset) || self.batch.is_full() || !is_new(self.batch.as_slice(), crc) {
@@ -177,7 +177,7 @@ impl Search {
         requires at { IsSearching scan.now offset self.old }
         requires within { offset < length scan.now.bytes.now }
         requires crc { crc ≡ crc_of scan.now offset }
-        requires room { length self.old.batch.items < 8 }
+        requires room { length self.old.batch.items < 16 }
         requires short { ¬ (IsWhole scan.now offset) → self.old.batch.items ≡ [] }
         ensures { IsSearching scan.now (offset + 1) self.new }
     {
@@ -389,7 +389,7 @@ fn is_fit(left: usize, s: u64, len: usize) -> bool
 /// the least offset of such a window there; None where there is none.
 ///
 /// It costs one slide and one look at a filter for each offset, the CRC-32 of eight bytes at most, and an MD5 of `s` bytes
-/// for each window whose CRC is that of a pair without an answer. Up to eight of these MD5s are computed side by side,
+/// for each window whose CRC is that of a pair without an answer. Up to sixteen of these MD5s are computed side by side,
 /// which takes about a fourth of the time; where fewer such windows follow each other, an MD5 costs at most what it does
 /// alone. At worst each window has such a CRC and none the MD5: then it costs an MD5 of `s` bytes for each offset, which
 /// only pairs that were made for it lead to. A text costs nothing for the pairs that aren't found in it.

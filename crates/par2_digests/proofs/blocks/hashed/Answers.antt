@@ -1,10 +1,14 @@
-use Rattle.par2_digests.proofs.Common.{◌≡◌, ◌/◌, ◌%◌, ◌*◌, ◌∙◌, ℕ, min, arith, ap, refl, length, take, slice_index, take_all, bytes_left, hash_behind, lane}
+use Rattle.par2_digests.proofs.Common.{◌≡◌, ◌/◌, ◌%◌, ◌*◌, ◌∙◌, ℕ, min, arith, ap, refl, rules, length, take, slice_index, take_all, bytes_left, hash_behind, lane}
+use Rattle.par2_digests.proofs.LaneLaws.{all_of_four}
+use Rattle.par2_digests.proofs.PendingLaws.{AreWords, words_of_hash}
 use Rattle.par2_digests.proofs.FeedLaws.{hash_more, same_rest, size_behind}
 use Rattle.par2_digests.proofs.blocks.hashed.Goals as goal
 
 pub loop-feed-init : goal.loop-feed-init
 loop-feed-init c =
-    let hash = c.all-state.ensures 0 (omega arith) in
+    let size : length c.args.hash ≡ 4 = search rules in
+    let fit : AreWords c.args.hash = record { a = search (rules, arith); b = search (rules, arith); c = search (rules, arith); d = search (rules, arith) } in
+    let hash = words_of_hash c.digest_of.result c.args.hash _ fit (all_of_four c.args.hash size) c.digest_of.ensures (c.read-state.ensures 0 (omega arith)) in
     record { hash = ap (λ h. hash_behind h (bytes_left c.args.feed) (length (bytes_left c.args.feed) / 64)) hash; block = c.told-block; size = refl; rest = refl }
 
 pub loop-feed-smaller : goal.loop-feed-smaller

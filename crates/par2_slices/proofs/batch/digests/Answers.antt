@@ -11,7 +11,7 @@ window_digests-requires c = record { within = λ k low. omega (arith, c.starts.e
 
 pub returns : goal.returns
 returns c k below =
-    let low : k < 8 = omega (arith, below, c.requires.fit) in
+    let low : k < 16 = omega (arith, below, c.requires.fit) in
     let lane : min k (length c.args.batch.now - 1) ≡ k = omega (arith, below) in
     c.window_digests.ensures k low ∙ ap (λ o. md5 (take c.args.s (drop o c.args.bytes.now))) (c.starts.ensures k low ∙ ap (λ j. (candidate_at c.args.batch.now j).spot.offset) lane)
     ∙ ap md5 (whole_window c.args.s c.args.bytes.now (candidate_at c.args.batch.now k).spot.offset (c.requires.whole k below))

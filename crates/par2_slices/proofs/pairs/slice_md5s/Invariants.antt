@@ -3,6 +3,6 @@ use Rattle.par2_slices.proofs.pairs.slice_md5s.Given as goal
 
 abbrev pub invariant-loop-k : goal.invariant-loop-k
 invariant-loop-k l = record {
-  len : length l.md5s ≡ 8;
+  len : length l.md5s ≡ 16;
   done : (j : ℕ) → j < l.k → digest_at l.md5s j ≡ md5 (slice_at l.s l.bytes (l.first + j));
 }
