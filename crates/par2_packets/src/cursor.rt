@@ -16,25 +16,33 @@ pub(crate) const MAGIC: &[u8; 8] = b"PAR2\0PKT";
 
 // Where the bytes begin that are digested: after the magic, the length and the digest of each packet.
 fn inputs(starts: [usize; LANES]) -> [usize; LANES]
-    requires { (k : ℕ) → k < 8 → slice_index starts k + 32 < 2 ^ 64 }
-    ensures { (k : ℕ) → k < 8 → slice_index result k ≡ slice_index starts k + 32 }
+    requires { (k : ℕ) → k < 16 → slice_index starts k + 32 < 2 ^ 64 }
+    ensures { (k : ℕ) → k < 16 → slice_index result k ≡ slice_index starts k + 32 }
 {
     array::from_fn(|lane| starts[lane] + 32)
+}
+
+// Where packets of one length begin, of which there are `count`.
+#[derive(Clone, Copy, Drop)]
+struct Starts {
+    places: [usize; LANES],
+    count: usize,
 }
 
 // Digests of packets of one length that were computed side by side, and where each packet begins.
 #[derive(Clone, Copy, Drop)]
 struct Run {
     len: usize,
-    starts: [usize; LANES],
+    starts: Starts,
     digests: [[u8; 16]; LANES],
 }
 
 impl Run {
     // That of the packets of this length that begin at these places.
-    fn new(text: &[u8], starts: [usize; LANES], len: usize) -> Run
+    fn new(text: &[u8], starts: Starts, len: usize) -> Run
         requires head { 32 ≤ len }
-        requires within { (k : ℕ) → k < 8 → slice_index starts k + len ≤ length text.now }
+        requires few { starts.count ≤ 16 }
+        requires within { (k : ℕ) → k < 16 → slice_index starts.places k + len ≤ length text.now }
         ensures digests { AreDigests text.now result }
         ensures starts { result.starts ≡ starts }
         ensures len { result.len ≡ len }
@@ -42,7 +50,7 @@ impl Run {
         Run {
             len,
             starts,
-            digests: window_digests(text, &inputs(starts), len - 32),
+            digests: window_digests(text, &inputs(starts.places), starts.count, len - 32),
         }
     }
 
@@ -53,12 +61,12 @@ impl Run {
         if len != self.len {
             return None;
         }
-        self.starts.iter().position(|&start| start == at)
+        self.starts.places.iter().position(|&start| start == at)
     }
 
     // Whether a packet of the run is still ahead of this place.
     fn is_ahead_of(&self, at: usize) -> bool {
-        self.starts.iter().any(|&start| start > at)
+        self.starts.places.iter().any(|&start| start > at)
     }
 }
 
@@ -82,13 +90,13 @@ pub(crate) fn claimed_length(text: &[u8]) -> Option<usize>
 // claims; the first again in the lanes that are left. Eight side by side take about the time of two, so there is no answer
 // for fewer than three.
 //
-// A look at a head costs less than the MD5 of 64 bytes. So a walk that looks at more than eight costs less than the digest
-// of the packet at `at`.
-fn starts_ahead(text: &[u8], at: usize, len: usize) -> Option<[usize; LANES]>
+// A look at a head costs less than the MD5 of 64 bytes. So a walk that looks at more than sixteen costs less than the
+// digest of the packet at `at`.
+fn starts_ahead(text: &[u8], at: usize, len: usize) -> Option<Starts>
     requires { at + len ≤ length text.now }
     ensures { IfSome result (λ starts. AreStarts text.now at len starts) }
 {
-    let mut starts = [at; LANES];
+    let mut places = [at; LANES];
     let mut count = 1;
     let mut place = at + len;
     for _ in 0..LANES.max(len / 64) {
@@ -96,7 +104,7 @@ fn starts_ahead(text: &[u8], at: usize, len: usize) -> Option<[usize; LANES]>
             break;
         };
         if claim == len {
-            starts[count] = place;
+            places[count] = place;
             count += 1;
         }
         if count == LANES {
@@ -104,7 +112,7 @@ fn starts_ahead(text: &[u8], at: usize, len: usize) -> Option<[usize; LANES]>
         }
         place += claim;
     }
-    (count >= 3).then_some(starts)
+    (count >= 3).then_some(Starts { places, count })
 }
 
 // Bytes whose digest is known.
@@ -173,6 +181,7 @@ impl<'a> Cursor<'a> {
     {
         if let Some(run) = self.run
             && let Some(place) = run.place_of(self.at, len)
+            && place < run.starts.count
         {
             return Some(run.digests[place]);
         }
@@ -182,7 +191,7 @@ impl<'a> Cursor<'a> {
 
     // Where the packets begin that are to be digested beside the one here. Shorter packets take no run's place while one of
     // its packets is still ahead, since they stand between these.
-    fn starts_of_run(&self, len: usize) -> Option<[usize; LANES]>
+    fn starts_of_run(&self, len: usize) -> Option<Starts>
         requires { len ≤ length (rest_of self.now) }
         ensures { IfSome result (λ starts. AreStarts self.now.text.now self.now.at len starts) }
     {

@@ -7,7 +7,6 @@ ghost use Rattle.par2_spec.specs.Windows.{window};
 ghost use Rattle.par2_slices.specs.Searches.{candidate_at};
 
 use par2_digests::{LANES, window_digests};
-use std::array;
 
 /// Where a window begins: the number of its text among those that are searched, and its offset there.
 #[derive(Clone, Copy, Default, Debug, Drop)]
@@ -23,14 +22,20 @@ pub(crate) struct Candidate {
     pub(crate) crc: u32,
 }
 
-/// The offsets of the candidates; the last of them again in the lanes that are left.
+/// The offsets of the candidates; that of the first again in the lanes that are left.
 fn starts(batch: &[Candidate]) -> [usize; LANES]
     requires some { 1 ≤ length batch.now }
     requires fit { length batch.now ≤ 16 }
-    ensures { (k : ℕ) → k < 16 → slice_index result k
-        ≡ (candidate_at batch.now (min k (length batch.now - 1))).spot.offset }
+    ensures own { (k : ℕ) → k < length batch.now
+        → slice_index result k ≡ (candidate_at batch.now k).spot.offset }
+    ensures left { (k : ℕ) → k < 16 → length batch.now ≤ k
+        → slice_index result k ≡ (candidate_at batch.now 0).spot.offset }
 {
-    array::from_fn(|lane| batch[lane.min(batch.len() - 1)].spot.offset)
+    let mut starts = [batch[0].spot.offset; LANES];
+    for (k, candidate) in batch.iter().enumerate() {
+        starts[k] = candidate.spot.offset;
+    }
+    starts
 }
 
 /// The MD5s of the candidates' windows, which are whole.

@@ -6,7 +6,7 @@ pub whole_md5s-md5s-requires-clause-whole : goal.whole_md5s-md5s-requires-clause
 whole_md5s-md5s-requires-clause-whole c some =
     let s = c.args.s in
     let len = length c.args.bytes.now in
-    let within : (c.args.first + c.side_by_side-together.result) * s ≤ len / s * s = mul-le-mul_right s (omega (arith, some, c.side_by_side-together.ensures, c.min.ensures, c.saturating_sub.ensures)) in
+    let within : (c.args.first + c.min-together.result) * s ≤ len / s * s = mul-le-mul_right s (omega (arith, some, c.min-together.ensures, c.saturating_sub.ensures)) in
     omega (arith, within, div-mul-le_self len s)
 
 pub loop-k-preserved : goal.loop-k-preserved
