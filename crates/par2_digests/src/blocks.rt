@@ -1,6 +1,6 @@
 //! The blocks of several messages at once, and of a message by itself.
 
-ghost use Rattle.std.specs.Prelude.{◌≡◌, ◌≤◌, ◌<◌, ◌+◌, ◌*◌, ◌/◌, ◌%◌, ◌^◌, ℕ, List, length, take, drop};
+ghost use Rattle.std.specs.Prelude.{◌≡◌, ◌≤◌, ◌<◌, ◌+◌, ◌*◌, ◌/◌, ◌%◌, ◌^◌, ℕ, List, length, take, drop, slice_index};
 ghost use Rattle.md5.specs.Md5.{block_words};
 ghost use Rattle.par2_digests.specs.Feeds.{bytes_left, hash_behind};
 ghost use Rattle.par2_digests.specs.Lanes.{four_words_at, hash_of_sixteen, lane, lane_words, Have};
@@ -9,7 +9,7 @@ ghost use Rattle.par2_digests.specs.Texts.{text_at};
 use crate::digest_of;
 use crate::feeds::Feed;
 use crate::lanes::Lanes;
-use crate::steps::{State, Words, both_compressed, compressed};
+use crate::steps::{State, Words, both_compressed, compressed, in_lane};
 use std::simd::prelude::*;
 
 // The words of the blocks that begin at the offset of each text.
@@ -33,9 +33,6 @@ fn read_words<V: Lanes>(texts: &[&[u8]], offset: usize) -> Words<V>
 
 /// The hash values of several messages, which take their blocks side by side.
 pub(crate) trait Hashes: Copy {
-    /// The room for the words of a block of each.
-    type Room;
-
     // How many messages.
     ghost count: { ℕ };
 
@@ -49,7 +46,8 @@ pub(crate) trait Hashes: Copy {
         ensures { (k : ℕ) → k < count → at k result ≡ four_words_at (text_at texts.now k) 0 };
 
     /// The hash values after so many blocks more, with which the texts begin.
-    fn absorbed(self, room: &mut Self::Room, texts: &[&[u8]], blocks: usize) -> Self
+    fn absorbed(self, texts: &[&[u8]], blocks: usize) -> Self
+        requires few { count ≤ 16 }
         requires enough { count ≤ length texts.now }
         requires room { blocks * 64 < 2 ^ 64 }
         requires within { Have count (blocks * 64) texts.now }
@@ -62,33 +60,25 @@ pub(crate) trait Hashes: Copy {
         ensures { result ≡ at k self.now };
 }
 
-impl<V: Lanes> Hashes for State<V> {
-    type Room = Words<V>;
+impl<const N: usize> Hashes for State<Simd<u32, N>> {
+    ghost count = { N };
 
-    ghost count = { V.count };
-
-    ghost at = { lane V.at };
+    ghost at = { lane slice_index };
 
     fn read(texts: &[&[u8]]) -> Self {
-        V::four_words(texts, 0)
+        Lanes::four_words(texts, 0)
     }
 
-    fn absorbed(self, room: &mut Words<V>, texts: &[&[u8]], blocks: usize) -> Self {
+    fn absorbed(self, texts: &[&[u8]], blocks: usize) -> Self {
         let mut after = self;
         for block in 0..blocks {
-            *room = read_words(texts, 64 * block);
-            after = compressed(after, room);
+            after = compressed(after, &read_words(texts, 64 * block));
         }
         after
     }
 
     fn in_lane(&self, k: usize) -> [u32; 4] {
-        [
-            self.a.word(k),
-            self.b.word(k),
-            self.c.word(k),
-            self.d.word(k),
-        ]
+        in_lane(self, k)
     }
 }
 
@@ -100,8 +90,6 @@ pub(crate) struct Sixteen {
 }
 
 impl Hashes for Sixteen {
-    type Room = ();
-
     ghost count = { 16 };
 
     ghost at = { hash_of_sixteen };
@@ -114,7 +102,7 @@ impl Hashes for Sixteen {
     }
 
     // A step of one group is on its way while one of the other is.
-    fn absorbed(self, _: &mut (), texts: &[&[u8]], blocks: usize) -> Self {
+    fn absorbed(self, texts: &[&[u8]], blocks: usize) -> Self {
         let mut after = self;
         for block in 0..blocks {
             let low = read_words(&texts[..8], 64 * block);
@@ -142,10 +130,9 @@ pub(crate) fn hashed(hash: [u32; 4], feed: Feed, block: &mut [u8; 64]) -> [u32; 
         ≡ drop (length (bytes_left feed.entry) / 64 * 64) (bytes_left feed.entry) }
 {
     let mut feed = feed;
-    let mut words = [Simd::splat(0); 16];
     let mut state: State<Simd<u32, 1>> = State::read(&[&digest_of(hash)[..]]);
     while feed.fill(block) == 64 {
-        state = state.absorbed(&mut words, &[&block[..]], 1);
+        state = state.absorbed(&[&block[..]], 1);
     }
     state.in_lane(0)
 }

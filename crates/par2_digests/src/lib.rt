@@ -58,18 +58,6 @@ fn windows<'a>(bytes: &'a [u8], starts: &[usize; LANES], len: usize) -> [&'a [u8
     windows
 }
 
-/// The hash values of the windows, after all blocks of each and its padding.
-fn hash_values<H: Hashes>(room: &mut H::Room, windows: &[&[u8]; LANES], len: usize) -> H
-    requires few { H.count ≤ 16 }
-    requires within { (k : ℕ) → k < 16 → length (text_at windows.now k) ≡ len }
-    ensures { (k : ℕ) → k < H.count → let p = padded_message (text_at windows.now k) in
-        H.at k result ≡ hash_after p (length p / 64) }
-{
-    let tails = tails_of_windows(windows, len);
-    let before = H::read(&[&START[..]; LANES]).absorbed(room, windows, len / 64);
-    before.absorbed(room, &sixteenths(&tails), tail_blocks(len))
-}
-
 /// The digest of a last hash value, low byte first.
 fn digest_of(hash: [u32; 4]) -> [u8; 16]
     ensures { result ≡ digest_bytes hash 4 }
@@ -84,19 +72,16 @@ fn digest_of(hash: [u32; 4]) -> [u8; 16]
     ]
 }
 
-/// The digests of the first `count` windows.
-fn digests<H: Hashes>(
-    room: &mut H::Room,
-    windows: &[&[u8]; LANES],
-    count: usize,
-    len: usize,
-) -> [[u8; 16]; LANES]
+/// The digests of the first `count` windows: after all blocks of each, its padding.
+fn digests<H: Hashes>(windows: &[&[u8]; LANES], count: usize, len: usize) -> [[u8; 16]; LANES]
     requires lanes { count ≤ H.count }
     requires few { H.count ≤ 16 }
     requires within { (k : ℕ) → k < 16 → length (text_at windows.now k) ≡ len }
     ensures { (k : ℕ) → k < count → digest_at result k ≡ md5 (text_at windows.now k) }
 {
-    let hashes: H = hash_values(room, windows, len);
+    let tails = tails_of_windows(windows, len);
+    let before = H::read(&[&START[..]; LANES]).absorbed(windows, len / 64);
+    let hashes = before.absorbed(&sixteenths(&tails), tail_blocks(len));
     let mut digests = [[0; 16]; LANES];
     for k in 0..count {
         digests[k] = digest_of(hashes.in_lane(k));
@@ -122,7 +107,7 @@ pub fn window_digests(
     match count {
         // Some side by side take about the time of two, so one alone is faster by itself.
         0..=1 => [Md5::digest(windows[0]); LANES],
-        2..=8 => digests::<State<u32x8>>(&mut [Simd::splat(0); 16], &windows, count, len),
-        _ => digests::<Sixteen>(&mut (), &windows, count, len),
+        2..=8 => digests::<State<u32x8>>(&windows, count, len),
+        _ => digests::<Sixteen>(&windows, count, len),
     }
 }

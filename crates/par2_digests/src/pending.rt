@@ -103,17 +103,14 @@ fn state_behind(pending: &Pending, task: &Task) -> Midstate
 }
 
 // The states after their parts.
-fn states_behind<'a, H: Hashes>(
-    room: &mut H::Room,
-    pendings: &'a [Pending<'a>],
-) -> [Midstate; LANES]
+fn states_behind<'a, H: Hashes>(pendings: &'a [Pending<'a>]) -> [Midstate; LANES]
     requires lanes { length pendings.now ≤ H.count }
     requires few { H.count ≤ 16 }
     ensures { Absorb pendings.now result }
 {
     let mut tasks = tasks_of(pendings);
     let hashes: H = hashes_of(pendings);
-    finish_all(&mut tasks, hashes, room, pendings.len());
+    finish_all(&mut tasks, hashes, pendings.len());
     let mut states = [Midstate::new(); LANES];
     for (k, pending) in pendings.iter().enumerate() {
         states[k] = state_behind(pending, &tasks[k]);
@@ -129,10 +126,10 @@ pub fn absorb_each(pendings: &[Pending]) -> [Midstate; LANES]
     // Borrowed anew, for as long as the slice and what its parts borrow.
     let all = &pendings[..];
     match all.len() {
-        0..=1 => states_behind::<State<Simd<u32, 1>>>(&mut [Simd::splat(0); 16], all),
-        2..=4 => states_behind::<State<u32x4>>(&mut [Simd::splat(0); 16], all),
-        5..=8 => states_behind::<State<u32x8>>(&mut [Simd::splat(0); 16], all),
-        _ => states_behind::<Sixteen>(&mut (), all),
+        0..=1 => states_behind::<State<Simd<u32, 1>>>(all),
+        2..=4 => states_behind::<State<u32x4>>(all),
+        5..=8 => states_behind::<State<u32x8>>(all),
+        _ => states_behind::<Sixteen>(all),
     }
 }
 

@@ -44,6 +44,19 @@ impl<V: Copy> Clone for State<V> {
 /// The sixteen words of a block of each message.
 pub(crate) type Words<V> = [V; 16];
 
+/// The four variables in a lane.
+pub(crate) fn in_lane<V: Lanes>(state: &State<V>, k: usize) -> [u32; 4]
+    requires { k < V.count }
+    ensures { result ≡ lane V.at k state.now }
+{
+    [
+        state.a.word(k),
+        state.b.word(k),
+        state.c.word(k),
+        state.d.word(k),
+    ]
+}
+
 // The sum of a step, as far as it doesn't hang on the step before.
 #[inline(always)]
 fn early_sum<V: Lanes>(state: State<V>, word: V, t: usize) -> V

@@ -161,13 +161,7 @@ fn has_company(tasks: &[Task], count: usize, k: usize) -> bool
 
 // Takes as many blocks of each message as are at hand of all, or copies one of each, until the hash value of message k
 // is there, or those of all after it.
-fn go_on<H: Hashes>(
-    tasks: &mut [Task; LANES],
-    state: H,
-    room: &mut H::Room,
-    count: usize,
-    k: usize,
-) -> H
+fn go_on<H: Hashes>(tasks: &mut [Task; LANES], state: H, count: usize, k: usize) -> H
     requires lanes { count ≤ H.count }
     requires few { H.count ≤ 16 }
     requires within { k < count }
@@ -181,10 +175,10 @@ fn go_on<H: Hashes>(
         let batch = batch_of(&tasks[..count]);
         if batch > 0 {
             let texts = take_all(tasks, count, batch, k);
-            state = state.absorbed(room, &texts, batch);
+            state = state.absorbed(&texts, batch);
         } else {
             turn_all(tasks, &mut blocks, &state, count);
-            state = state.absorbed(room, &sixteenths(&blocks), 1);
+            state = state.absorbed(&sixteenths(&blocks), 1);
         }
     }
     state
@@ -192,12 +186,7 @@ fn go_on<H: Hashes>(
 
 /// Takes all blocks of the first `count` messages, from the state on: those of each beside others while there are any,
 /// then by itself, which is faster than all lanes.
-pub(crate) fn finish_all<H: Hashes>(
-    tasks: &mut [Task; LANES],
-    state: H,
-    room: &mut H::Room,
-    count: usize,
-)
+pub(crate) fn finish_all<H: Hashes>(tasks: &mut [Task; LANES], state: H, count: usize)
     requires lanes { count ≤ H.count }
     requires few { H.count ≤ 16 }
     ensures { (k : ℕ) (none : Task) (last rest : List ℕ) → k < count
@@ -206,7 +195,7 @@ pub(crate) fn finish_all<H: Hashes>(
 {
     let mut state = state;
     for k in 0..count {
-        state = go_on(tasks, state, room, count, k);
+        state = go_on(tasks, state, count, k);
         let mut task = tasks[k];
         task.finish(state.in_lane(k));
         tasks[k] = task;

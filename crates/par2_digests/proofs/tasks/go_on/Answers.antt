@@ -6,6 +6,7 @@ absorbed-state-requires-else-batch-gt0 g c =
     let room : 16 * 64 ≡ length c.turn_all.new.blocks = omega arith in
     let few = c.requires.few in
     record {
+      few = few;
       enough = omega (arith, c.sixteenths.ensures.count, few);
       room = omega arith;
       within = λ k low. omega (arith, c.sixteenths.ensures.sizes k 64 (omega (arith, low, few)) room);
