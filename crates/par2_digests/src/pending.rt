@@ -46,33 +46,23 @@ fn hashes_of<H: Hashes>(pendings: &[Pending]) -> H
     H::read(&sixteenths(&bytes))
 }
 
-// What is to do for the parts.
-fn task_of<'a>(pending: &'a Pending<'a>) -> Task<'a>
-    ensures open { result.hash ≡ None }
-    ensures bytes { bytes_left result.feed ≡ bytes_to_absorb pending.now }
-{
-    let state = &pending.state;
-    Task {
-        feed: Feed::new(
-            &state.rest[..(state.length % 64) as usize],
-            pending.parts.as_slice(),
-        ),
-        hash: None,
-        rest: [0; 64],
-    }
-}
-
 // What is to do in lane k.
 fn task<'a>(pendings: &'a [Pending<'a>], k: usize) -> Task<'a>
     ensures open { result.hash ≡ None }
     ensures bytes { (none : Pending) → k < length pendings.now
         → bytes_left result.feed ≡ bytes_to_absorb (get_or pendings.now k none) }
 {
-    if k < pendings.len() {
-        return task_of(&pendings[k]);
-    }
+    let feed = match pendings.get(k) {
+        Some(Pending { state, parts }) => {
+            Feed::new(
+                &state.rest[..(state.length % 64) as usize],
+                parts.as_slice(),
+            )
+        }
+        None => Feed::new(&[], &[]),
+    };
     Task {
-        feed: Feed::new(&[], &[]),
+        feed,
         hash: None,
         rest: [0; 64],
     }

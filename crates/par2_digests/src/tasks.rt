@@ -151,12 +151,7 @@ fn has_company(tasks: &[Task], count: usize, k: usize) -> bool
     requires few { count ≤ length tasks.now }
     ensures { IsTrue result → 0 < get_or (works tasks.now) k 0 }
 {
-    for task in &tasks[k + 1..count] {
-        if task.hash.is_none() {
-            return tasks[k].hash.is_none();
-        }
-    }
-    false
+    tasks[k].hash.is_none() && tasks[k + 1..count].iter().any(|task| task.hash.is_none())
 }
 
 // Takes as many blocks of each message as are at hand of all, or copies one of each, until the hash value of message k

@@ -5,7 +5,7 @@ ghost use Rattle.std.specs.Option.{ForSome};
 ghost use Rattle.md5.specs.Md5.{md5};
 ghost use Rattle.par2_spec.specs.Packets.{begins_with_packet, bytes_at};
 ghost use Rattle.par2_packets.specs.Heads.{IsHead};
-ghost use Rattle.par2_packets.specs.Runs.{AreDigests, AreStarts, IsPlace};
+ghost use Rattle.par2_packets.specs.Runs.{AreDigests, IsPlace, IsRunFrom};
 
 use crate::bytes::u64_at;
 use md5::{Digest, Md5};
@@ -22,35 +22,31 @@ fn inputs(starts: [usize; LANES]) -> [usize; LANES]
     array::from_fn(|lane| starts[lane] + 32)
 }
 
-// Where packets of one length begin, of which there are `count`.
-#[derive(Clone, Copy, Drop)]
-struct Starts {
-    places: [usize; LANES],
-    count: usize,
-}
-
-// Digests of packets of one length that were computed side by side, and where each packet begins.
+// Digests of packets of one length that were computed side by side, `count` of them, and where each packet begins.
 #[derive(Clone, Copy, Drop)]
 struct Run {
     len: usize,
-    starts: Starts,
+    count: usize,
+    starts: [usize; LANES],
     digests: [[u8; 16]; LANES],
 }
 
 impl Run {
-    // That of the packets of this length that begin at these places.
-    fn new(text: &[u8], starts: Starts, len: usize) -> Run
+    // That of the packets of this length that begin at the first `count` places.
+    fn new(text: &[u8], starts: [usize; LANES], count: usize, len: usize) -> Run
         requires head { 32 ≤ len }
-        requires few { starts.count ≤ 16 }
-        requires within { (k : ℕ) → k < 16 → slice_index starts.places k + len ≤ length text.now }
+        requires few { count ≤ 16 }
+        requires within { (k : ℕ) → k < 16 → slice_index starts k + len ≤ length text.now }
         ensures digests { AreDigests text.now result }
         ensures starts { result.starts ≡ starts }
+        ensures count { result.count ≡ count }
         ensures len { result.len ≡ len }
     {
         Run {
             len,
+            count,
             starts,
-            digests: window_digests(text, &inputs(starts.places), starts.count, len - 32),
+            digests: window_digests(text, &inputs(starts), count, len - 32),
         }
     }
 
@@ -61,12 +57,12 @@ impl Run {
         if len != self.len {
             return None;
         }
-        self.starts.places.iter().position(|&start| start == at)
+        self.starts.iter().position(|&start| start == at)
     }
 
     // Whether a packet of the run is still ahead of this place.
     fn is_ahead_of(&self, at: usize) -> bool {
-        self.starts.places.iter().any(|&start| start > at)
+        self.starts.iter().any(|&start| start > at)
     }
 }
 
@@ -86,17 +82,18 @@ pub(crate) fn claimed_length(text: &[u8]) -> Option<usize>
     Some(claim as usize)
 }
 
-// Where packets of this length begin: the one at `at`, and those ahead that are found from packet to packet by what each
-// claims; the first again in the lanes that are left. Eight side by side take about the time of two, so there is no answer
+// The packets of this length: the one at `at`, and those ahead that are found from packet to packet by what each claims; in
+// the lanes that are left stands the first again. Some side by side take about the time of two, so there is no answer
 // for fewer than three.
 //
 // A look at a head costs less than the MD5 of 64 bytes. So a walk that looks at more than sixteen costs less than the
 // digest of the packet at `at`.
-fn starts_ahead(text: &[u8], at: usize, len: usize) -> Option<Starts>
-    requires { at + len ≤ length text.now }
-    ensures { IfSome result (λ starts. AreStarts text.now at len starts) }
+fn run_ahead(text: &[u8], at: usize, len: usize) -> Option<Run>
+    requires head { 32 ≤ len }
+    requires within { at + len ≤ length text.now }
+    ensures { IfSome result (IsRunFrom text.now at len) }
 {
-    let mut places = [at; LANES];
+    let mut starts = [at; LANES];
     let mut count = 1;
     let mut place = at + len;
     for _ in 0..LANES.max(len / 64) {
@@ -104,7 +101,7 @@ fn starts_ahead(text: &[u8], at: usize, len: usize) -> Option<Starts>
             break;
         };
         if claim == len {
-            places[count] = place;
+            starts[count] = place;
             count += 1;
         }
         if count == LANES {
@@ -112,7 +109,7 @@ fn starts_ahead(text: &[u8], at: usize, len: usize) -> Option<Starts>
         }
         place += claim;
     }
-    (count >= 3).then_some(Starts { places, count })
+    (count >= 3).then(|| Run::new(text, starts, count, len))
 }
 
 // Bytes whose digest is known.
@@ -181,7 +178,7 @@ impl<'a> Cursor<'a> {
     {
         if let Some(run) = self.run
             && let Some(place) = run.place_of(self.at, len)
-            && place < run.starts.count
+            && place < run.count
         {
             return Some(run.digests[place]);
         }
@@ -189,15 +186,16 @@ impl<'a> Cursor<'a> {
         (longest.bytes == &self.rest()[32..len]).then_some(longest.digest)
     }
 
-    // Where the packets begin that are to be digested beside the one here. Shorter packets take no run's place while one of
-    // its packets is still ahead, since they stand between these.
-    fn starts_of_run(&self, len: usize) -> Option<Starts>
-        requires { len ≤ length (rest_of self.now) }
-        ensures { IfSome result (λ starts. AreStarts self.now.text.now self.now.at len starts) }
+    // The packets that are digested beside the one here. Shorter packets take no run's place while one of its packets is
+    // still ahead, since they stand between these.
+    fn next_run(&self, len: usize) -> Option<Run>
+        requires low { 32 ≤ len }
+        requires high { len ≤ length (rest_of self.now) }
+        ensures { IfSome result (IsRunFrom self.now.text.now self.now.at len) }
     {
         match self.run {
             Some(run) if len < run.len && run.is_ahead_of(self.at) => None,
-            _ => starts_ahead(self.text, self.at, len),
+            _ => run_ahead(self.text, self.at, len),
         }
     }
 
@@ -224,11 +222,10 @@ impl<'a> Cursor<'a> {
         if let Some(digest) = self.known_digest(len) {
             return digest;
         }
-        let Some(starts) = self.starts_of_run(len) else {
+        let Some(run) = self.next_run(len) else {
             let rest = self.rest();
             return self.digest_alone(&rest[32..len]);
         };
-        let run = Run::new(self.text, starts, len);
         self.run = Some(run);
         run.digests[0]
     }

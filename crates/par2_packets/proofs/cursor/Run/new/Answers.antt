@@ -6,4 +6,4 @@ pub returns-clause-digests : goal.returns-clause-digests
 returns-clause-digests c = λ k below.
     let text : List ℕ = c.args.text.now in
     let size : ℕ = c.args.len - 32 in
-    c.window_digests.ensures k below ∙ ap (λ n. md5 (take size (drop n text))) (c.inputs.ensures k (omega (arith, below, c.requires.few))) ∙ ap (λ t. md5 (take size t)) (sym (drop-drop 32 (slice_index c.args.starts.places k) text))
+    c.window_digests.ensures k below ∙ ap (λ n. md5 (take size (drop n text))) (c.inputs.ensures k (omega (arith, below, c.requires.few))) ∙ ap (λ t. md5 (take size t)) (sym (drop-drop 32 (slice_index c.args.starts k) text))
