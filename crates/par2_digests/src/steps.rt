@@ -49,12 +49,8 @@ pub(crate) fn in_lane<V: Lanes>(state: &State<V>, k: usize) -> [u32; 4]
     requires { k < V.count }
     ensures { result ≡ lane V.at k state.now }
 {
-    [
-        state.a.word(k),
-        state.b.word(k),
-        state.c.word(k),
-        state.d.word(k),
-    ]
+    let State { a, b, c, d } = *state;
+    [a.word(k), b.word(k), c.word(k), d.word(k)]
 }
 
 // The sum of a step, as far as it doesn't hang on the step before.

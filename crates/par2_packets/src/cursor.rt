@@ -10,17 +10,8 @@ ghost use Rattle.par2_packets.specs.Runs.{AreDigests, IsPlace, IsRunFrom};
 use crate::bytes::u64_at;
 use md5::{Digest, Md5};
 use par2_digests::{LANES, window_digests};
-use std::array;
 
 pub(crate) const MAGIC: &[u8; 8] = b"PAR2\0PKT";
-
-// Where the bytes begin that are digested: after the magic, the length and the digest of each packet.
-fn inputs(starts: [usize; LANES]) -> [usize; LANES]
-    requires { (k : ℕ) → k < 16 → slice_index starts k + 32 < 2 ^ 64 }
-    ensures { (k : ℕ) → k < 16 → slice_index result k ≡ slice_index starts k + 32 }
-{
-    array::from_fn(|lane| starts[lane] + 32)
-}
 
 // Digests of packets of one length that were computed side by side, `count` of them, and where each packet begins.
 #[derive(Clone, Copy, Drop)]
@@ -46,7 +37,8 @@ impl Run {
             len,
             count,
             starts,
-            digests: window_digests(text, &inputs(starts), count, len - 32),
+            // Without the magic, the length and the digest of each packet.
+            digests: window_digests(&text[32..], &starts, count, len - 32),
         }
     }
 

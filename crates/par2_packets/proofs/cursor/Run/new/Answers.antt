@@ -1,9 +1,12 @@
-use Rattle.par2_packets.proofs.Common.{◌-◌, ℕ, List, arith, drop, take, ap, sym, ◌∙◌, slice_index, md5}
-use Rattle.std.proofs.Common.{drop-drop}
+use Rattle.par2_packets.proofs.Common.{◌+◌, ◌-◌, ◌≡◌, ℕ, List, arith, drop, length, take, ap, sym, ◌∙◌, slice_index, md5}
+use Rattle.std.proofs.lemmas.List.{drop-drop, length-drop, take_all}
 use Rattle.par2_packets.proofs.cursor.Run.new.Goals as goal
 
 pub returns-clause-digests : goal.returns-clause-digests
 returns-clause-digests c = λ k below.
     let text : List ℕ = c.args.text.now in
     let size : ℕ = c.args.len - 32 in
-    c.window_digests.ensures k below ∙ ap (λ n. md5 (take size (drop n text))) (c.inputs.ensures k (omega (arith, below, c.requires.few))) ∙ ap (λ t. md5 (take size t)) (sym (drop-drop 32 (slice_index c.args.starts k) text))
+    let start : ℕ = slice_index c.args.starts k in
+    let rest : take (length text - 32) (drop 32 text) ≡ drop 32 text = take_all (length text - 32) (drop 32 text) (omega (arith, length-drop 32 text)) in
+    c.window_digests.ensures k below
+    ∙ ap (λ (t : List ℕ). md5 (take size t)) (ap (drop start) rest ∙ drop-drop start 32 text ∙ ap (λ (n : ℕ). drop n text) (omega arith) ∙ sym (drop-drop 32 start text))
