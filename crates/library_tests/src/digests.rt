@@ -7,8 +7,8 @@ use par2_digests::{LANES, window_digests};
 
 const TEXT: &[u8] = b"The quick brown fox jumps over the lazy dog";
 
-// Whether these are the digests, by the numbers that their hexadecimal digits spell.
-fn are_spelled(digests: &[[u8; 16]; LANES], numbers: &[u128; LANES]) -> bool {
+// Whether the first of these are the digests, by the numbers that their hexadecimal digits spell.
+fn are_spelled(digests: &[[u8; 16]; LANES], numbers: &[u128]) -> bool {
     for (digest, number) in digests.iter().zip(numbers.iter()) {
         if u128::from_be_bytes(*digest) != *number {
             return false;
@@ -18,7 +18,7 @@ fn are_spelled(digests: &[[u8; 16]; LANES], numbers: &[u128; LANES]) -> bool {
 }
 
 // Values of md5sum.
-const EXPECTED: [u128; LANES] = [
+const EXPECTED: [u128; 8] = [
     0xb9b9_2654_4b8e_cd5c_3ef5_53a8_7170_b726,
     0x442c_ffd0_4438_a9d6_e6de_8607_b7fd_5509,
     0x352f_edc7_6fd6_9d79_d776_c8fb_be7d_87c6,
@@ -33,25 +33,44 @@ const WHOLE: u128 = 0x9e10_7d9d_372b_b682_6bd8_1d35_42a4_19d6;
 
 const NOTHING: u128 = 0xd41d_8cd9_8f00_b204_e980_0998_ecf8_427e;
 
+const STARTS_OF_WORDS: &[usize; LANES] = &[
+    0, 1, 4, 10, 16, 16, 31, 35, 35, 31, 16, 16, 10, 4, 1, 0,
+];
+
 #[test]
 fn windows_of_a_sentence(rt: HostRuntime) {
-    let digests = window_digests(TEXT, &[0, 1, 4, 10, 16, 16, 31, 35], 8);
-    assert!(rt; are_spelled(&digests, &EXPECTED));
+    for count in [1, 2, 8, 9, 16] {
+        let digests = window_digests(TEXT, STARTS_OF_WORDS, count, 8);
+        let own = count.min(8);
+        assert!(rt; are_spelled(&digests, &EXPECTED[..own]), "{count} windows");
+    }
+}
+
+// The second eight are the first, from the last one on.
+#[test]
+fn sixteen_windows_of_a_sentence(rt: HostRuntime) {
+    let digests = window_digests(TEXT, STARTS_OF_WORDS, LANES, 8);
+    for k in 0..8 {
+        assert!(rt; digests[15 - k] == digests[k], "window {k}");
+    }
 }
 
 #[test]
-fn the_whole_text_eight_times(rt: HostRuntime) {
-    let digests = window_digests(TEXT, &[0; LANES], TEXT.len());
+fn the_whole_text_sixteen_times(rt: HostRuntime) {
+    let digests = window_digests(TEXT, &[0; LANES], LANES, TEXT.len());
     assert!(rt; are_spelled(&digests, &[WHOLE; LANES]));
 }
 
 #[test]
 fn empty_windows(rt: HostRuntime) {
-    let digests = window_digests(TEXT, &[0, 1, 2, 3, 40, 41, 42, 43], 0);
+    let starts = [0, 1, 2, 3, 40, 41, 42, 43, 43, 42, 41, 40, 3, 2, 1, 0];
+    let digests = window_digests(TEXT, &starts, LANES, 0);
     assert!(rt; are_spelled(&digests, &[NOTHING; LANES]));
 }
 
-const STARTS: &[usize; LANES] = &[0, 1, 1, 500, 501, 64, 900, 1000];
+const STARTS: &[usize; LANES] = &[
+    0, 1, 1, 500, 501, 64, 900, 1000, 2, 3, 63, 65, 128, 700, 999, 512,
+];
 
 fn window(bytes: &[u8], start: usize, len: usize) -> &[u8] {
     let rest = &bytes[start.min(bytes.len())..];
@@ -59,11 +78,12 @@ fn window(bytes: &[u8], start: usize, len: usize) -> &[u8] {
 }
 
 // Whether the windows of so many bytes have the digests of the hasher.
-fn are_by_the_hasher(bytes: &[u8; 2048], len: usize) -> bool
-    requires { len ≤ 1000 }
+fn are_by_the_hasher(bytes: &[u8; 2048], count: usize, len: usize) -> bool
+    requires few { count ≤ 16 }
+    requires within { len ≤ 1000 }
 {
-    let digests = window_digests(bytes, STARTS, len);
-    for (digest, start) in digests.iter().zip(STARTS.iter()) {
+    let digests = window_digests(bytes, STARTS, count, len);
+    for (digest, start) in digests.iter().zip(STARTS[..count].iter()) {
         if *digest != Md5::digest(window(bytes, *start, len)) {
             return false;
         }
@@ -79,6 +99,11 @@ fn as_the_hasher_of_one_message(rt: HostRuntime) {
         bytes[i] = ((i * i / 7 + i) % 256) as u8;
     }
     for len in [0, 1, 55, 56, 57, 63, 64, 65, 119, 120, 128, 1000] {
-        assert!(rt; are_by_the_hasher(&bytes, len), "{len} bytes");
+        for count in 0..LANES + 1 {
+            assert!(rt;
+                are_by_the_hasher(&bytes, count, len),
+                "{count} windows of {len} bytes"
+            );
+        }
     }
 }

@@ -1,7 +1,7 @@
 //! Texts and states side by side, and the hasher of one message.
 
 use md5::{Digest, Md5};
-use par2_digests::{Midstate, Part, Pending, absorb_each, text_digests};
+use par2_digests::{LANES, Midstate, Part, Pending, absorb_each, text_digests};
 use std::process::Abort;
 
 // About the edges of a block and of the padding.
@@ -116,7 +116,7 @@ fn digest_behind(text: &[u8], turn: usize, k: usize) -> [u8; 16] {
 // Whether so many states, and a piece after each, have the digests of the hasher.
 fn are_absorbed(rt: &(impl Abort + AllocGlobal), text: &[u8], turn: usize, count: usize) -> bool {
     let pendings = pendings(rt, text, turn, count);
-    if pendings.len() > 8 {
+    if pendings.len() > LANES {
         return false;
     }
     for (k, state) in absorb_each(pendings.as_slice()).iter().enumerate() {
@@ -134,10 +134,10 @@ fn digest_then(state: &Midstate, bytes: &[u8]) -> [u8; 16] {
 }
 
 #[test]
-fn one_to_eight_messages_and_states(rt: HostRuntime) {
+fn one_to_sixteen_messages_and_states(rt: HostRuntime) {
     let text = text();
     for turn in 0..12 {
-        for count in 1..9usize {
+        for count in 1..LANES + 1 {
             assert!(rt; are_digested(&rt, &text, turn, count), "{turn} {count}");
             assert!(rt; are_absorbed(&rt, &text, turn, count), "{turn} {count}");
         }
