@@ -29,8 +29,10 @@ pub(crate) trait Lanes: Copy {
     fn h(x: Self, y: Self, z: Self) -> Self
         ensures { (k : ℕ) → k < count → at result k ≡ h_fn (at x k) (at y k) (at z k) };
 
-    fn i(x: Self, y: Self, z: Self) -> Self
-        ensures { (k : ℕ) → k < count → at result k ≡ i_fn (at x k) (at y k) (at z k) };
+    // A sum, one, and the function I. What I leaves of all bits is subtracted, which spares the complement of `z`.
+    fn plus_one_and_i(sum: Self, x: Self, y: Self, z: Self) -> Self
+        ensures { (k : ℕ) → k < count
+            → at result k ≡ add32 (add32 (at sum k) 1) (i_fn (at x k) (at y k) (at z k)) };
 
     fn plus(x: Self, y: Self) -> Self
         ensures { (k : ℕ) → k < count → at result k ≡ add32 (at x k) (at y k) };
@@ -74,8 +76,8 @@ impl<const N: usize> Lanes for Simd<u32, N> {
     }
 
     #[inline(always)]
-    fn i(x: Self, y: Self, z: Self) -> Self {
-        y ^ (x | !z)
+    fn plus_one_and_i(sum: Self, x: Self, y: Self, z: Self) -> Self {
+        sum - (y ^ (!x & z))
     }
 
     #[inline(always)]

@@ -55,12 +55,11 @@ pub(crate) fn in_lane<V: Lanes>(state: &State<V>, k: usize) -> [u32; 4]
 
 // The sum of a step, as far as it doesn't hang on the step before.
 #[inline(always)]
-fn early_sum<V: Lanes>(state: State<V>, word: V, t: usize) -> V
-    requires { t < 64 }
-    ensures { (k : ℕ) → k < V.count → V.at result k
-        ≡ add32 (add32 (V.at state.a k) (V.at word k)) (slice_index step_constants t) }
+fn early_sum<V: Lanes>(state: State<V>, word: V, constant: u32) -> V
+    ensures { (k : ℕ) → k < V.count
+        → V.at result k ≡ add32 (add32 (V.at state.a k) (V.at word k)) constant }
 {
-    V::plus(V::plus(state.a, word), V::splat(CONSTANTS[t]))
+    V::plus(V::plus(state.a, word), V::splat(constant))
 }
 
 // The variables after a step, by its sum.
@@ -86,7 +85,7 @@ fn stepped<V: Lanes>(state: State<V>, f: V, word: V, t: usize) -> State<V>
     ensures { (k : ℕ) → k < V.count → lane V.at k result ≡ round (lane V.at k state)
         (V.at f k) (slice_index step_constants t) (V.at word k) (slice_index step_shifts t) }
 {
-    turned(state, V::plus(early_sum(state, word, t), f), t)
+    turned(state, V::plus(early_sum(state, word, CONSTANTS[t]), f), t)
 }
 
 #[inline(always)]
@@ -103,7 +102,7 @@ fn g_step<V: Lanes>(state: State<V>, words: &Words<V>, t: usize) -> State<V>
     requires to { t < 32 }
     ensures { GoesOn V.count V.at words.now t state (t + 1) result }
 {
-    let sum = early_sum(state, words[(5 * t + 1) % 16], t);
+    let sum = early_sum(state, words[(5 * t + 1) % 16], CONSTANTS[t]);
     turned(state, V::plus_g(sum, state.b, state.c, state.d), t)
 }
 
@@ -123,7 +122,8 @@ fn i_step<V: Lanes>(state: State<V>, words: &Words<V>, t: usize) -> State<V>
     requires to { t < 64 }
     ensures { GoesOn V.count V.at words.now t state (t + 1) result }
 {
-    stepped(state, V::i(state.b, state.c, state.d), words[7 * t % 16], t)
+    let sum = early_sum(state, words[7 * t % 16], CONSTANTS[t].wrapping_sub(1));
+    turned(state, V::plus_one_and_i(sum, state.b, state.c, state.d), t)
 }
 
 /// The steps of a round, one after the other.
