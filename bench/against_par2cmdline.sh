@@ -245,6 +245,18 @@ zeros() {
     verify "8 MiB of zeros, slices of 512" 0 0
 }
 
+# The same window many times, and no other.
+repeated() {
+    head -c 65536 /dev/urandom > slice
+    for copy in $(seq 1000); do
+        cat slice
+    done > data
+    rm slice
+    "$program" create -s65536 -c10 set.par2 data > "$room/said"
+    insert data
+    verify "a slice of 64 KiB a thousand times, a byte inserted" 1 1
+}
+
 little() {
     head -c 4194304 /dev/zero > data
     create "4 MiB of zeros, 20 slices of 4 KiB" 4096 20 data
@@ -272,7 +284,7 @@ large() {
     repair "3,277 of 32,768 slices lost" data
 }
 
-scenes="one middle small short runs many shifted foreign zeros little${LARGE:+ large}"
+scenes="one middle small short runs many shifted foreign zeros repeated little${LARGE:+ large}"
 printf '%-66s %6s     %6s     %s\n' "" ours theirs ratio
 for scene in ${SCENES:-$scenes}; do
     mkdir "$room/here"
