@@ -28,11 +28,6 @@ use steps::State;
 /// How many messages are digested side by side, at most.
 pub const LANES: usize = 16;
 
-// The initial hash value (RFC 1321, 3.3).
-const START: [u8; 16] = [
-    0x01, 0x23, 0x45, 0x67, 0x89, 0xab, 0xcd, 0xef, 0xfe, 0xdc, 0xba, 0x98, 0x76, 0x54, 0x32, 0x10,
-];
-
 /// The bytes in sixteen equal parts, one after the other.
 fn sixteenths(bytes: &[u8]) -> [&[u8]; LANES]
     ensures { AreSixteenths bytes.now result }
@@ -80,7 +75,8 @@ fn digests<H: Hashes>(windows: &[&[u8]; LANES], count: usize, len: usize) -> [[u
     ensures { (k : ℕ) → k < count → digest_at result k ≡ md5 (text_at windows.now k) }
 {
     let tails = tails_of_windows(windows, len);
-    let before = H::read(&[&START[..]; LANES]).absorbed(windows, len / 64);
+    let start = digest_of(Midstate::new().hash);
+    let before = H::read(&[&start[..]; LANES]).absorbed(windows, len / 64);
     let hashes = before.absorbed(&sixteenths(&tails), tail_blocks(len));
     let mut digests = [[0; 16]; LANES];
     for k in 0..count {

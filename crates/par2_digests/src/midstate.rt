@@ -71,7 +71,7 @@ pub(crate) fn ending(length: u64) -> [Part<'static>; 2]
 }
 
 impl Midstate {
-    /// Before the first byte.
+    /// Before the first byte: the initial hash value (RFC 1321, 3.3).
     pub fn new() -> Midstate
         ensures { HasAbsorbed result [] }
     {

@@ -1,5 +1,6 @@
 //! Four words of each of several messages at once. One by one, the words of eight messages take a fifth of a block's
-//! time. So sixteen bytes of a message are read as a row, and the rows of four messages are exchanged into columns.
+//! time. So sixteen bytes of a message are read as a row, and the rows of four or eight messages are exchanged into
+//! columns.
 
 ghost use Rattle.std.specs.Prelude.{◌≡◌, ◌≤◌, ◌<◌, ◌+◌, ◌^◌, ◌++◌, ℕ, length, slice_index};
 ghost use Rattle.md5.specs.Md5.{word_at};

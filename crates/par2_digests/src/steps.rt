@@ -79,88 +79,39 @@ fn turned<V: Lanes>(state: State<V>, sum: V, t: usize) -> State<V>
     }
 }
 
+// Step t.
 #[inline(always)]
-fn stepped<V: Lanes>(state: State<V>, f: V, word: V, t: usize) -> State<V>
+fn step<V: Lanes>(state: State<V>, words: &Words<V>, t: usize) -> State<V>
     requires { t < 64 }
-    ensures { (k : ℕ) → k < V.count → lane V.at k result ≡ round (lane V.at k state)
-        (V.at f k) (slice_index step_constants t) (V.at word k) (slice_index step_shifts t) }
-{
-    turned(state, V::plus(early_sum(state, word, CONSTANTS[t]), f), t)
-}
-
-#[inline(always)]
-fn f_step<V: Lanes>(state: State<V>, words: &Words<V>, t: usize) -> State<V>
-    requires { t < 16 }
     ensures { GoesOn V.count V.at words.now t state (t + 1) result }
 {
-    stepped(state, V::f(state.b, state.c, state.d), words[t], t)
+    let State { b, c, d, .. } = state;
+    let constant = CONSTANTS[t];
+    let sum = match t / 16 {
+        0 => V::plus(early_sum(state, words[t], constant), V::f(b, c, d)),
+        1 => V::plus_g(early_sum(state, words[(5 * t + 1) % 16], constant), b, c, d),
+        2 => V::plus(
+            early_sum(state, words[(3 * t + 5) % 16], constant),
+            V::h(b, c, d),
+        ),
+        _ => {
+            let sum = early_sum(state, words[7 * t % 16], constant.wrapping_sub(1));
+            V::plus_one_and_i(sum, b, c, d)
+        }
+    };
+    turned(state, sum, t)
 }
 
+// Four steps, from step t on.
 #[inline(always)]
-fn g_step<V: Lanes>(state: State<V>, words: &Words<V>, t: usize) -> State<V>
-    requires from { 16 ≤ t }
-    requires to { t < 32 }
-    ensures { GoesOn V.count V.at words.now t state (t + 1) result }
+fn four_steps<V: Lanes>(state: State<V>, words: &Words<V>, t: usize) -> State<V>
+    requires { t + 3 < 64 }
+    ensures { GoesOn V.count V.at words.now t state (t + 4) result }
 {
-    let sum = early_sum(state, words[(5 * t + 1) % 16], CONSTANTS[t]);
-    turned(state, V::plus_g(sum, state.b, state.c, state.d), t)
-}
-
-#[inline(always)]
-fn h_step<V: Lanes>(state: State<V>, words: &Words<V>, t: usize) -> State<V>
-    requires from { 32 ≤ t }
-    requires to { t < 48 }
-    ensures { GoesOn V.count V.at words.now t state (t + 1) result }
-{
-    let word = words[(3 * t + 5) % 16];
-    stepped(state, V::h(state.b, state.c, state.d), word, t)
-}
-
-#[inline(always)]
-fn i_step<V: Lanes>(state: State<V>, words: &Words<V>, t: usize) -> State<V>
-    requires from { 48 ≤ t }
-    requires to { t < 64 }
-    ensures { GoesOn V.count V.at words.now t state (t + 1) result }
-{
-    let sum = early_sum(state, words[7 * t % 16], CONSTANTS[t].wrapping_sub(1));
-    turned(state, V::plus_one_and_i(sum, state.b, state.c, state.d), t)
-}
-
-/// The steps of a round, one after the other.
-macro_rules! steps {
-    ($step:ident, $state:ident, $words:ident, $($t:literal)*) => {{
-        let state = $state;
-        $(let state = $step(state, $words, $t);)*
-        state
-    }};
-}
-
-#[inline(always)]
-fn first_round<V: Lanes>(state: State<V>, words: &Words<V>) -> State<V>
-    ensures { GoesOn V.count V.at words.now 0 state 16 result }
-{
-    steps!(f_step, state, words, 0 1 2 3 4 5 6 7 8 9 10 11 12 13 14 15)
-}
-
-#[inline(always)]
-fn second_round<V: Lanes>(state: State<V>, words: &Words<V>) -> State<V>
-    ensures { GoesOn V.count V.at words.now 16 state 32 result }
-{
-    steps!(g_step, state, words, 16 17 18 19 20 21 22 23 24 25 26 27 28 29 30 31)
-}
-
-#[inline(always)]
-fn third_round<V: Lanes>(state: State<V>, words: &Words<V>) -> State<V>
-    ensures { GoesOn V.count V.at words.now 32 state 48 result }
-{
-    steps!(h_step, state, words, 32 33 34 35 36 37 38 39 40 41 42 43 44 45 46 47)
-}
-
-#[inline(always)]
-fn fourth_round<V: Lanes>(state: State<V>, words: &Words<V>) -> State<V>
-    ensures { GoesOn V.count V.at words.now 48 state 64 result }
-{
-    steps!(i_step, state, words, 48 49 50 51 52 53 54 55 56 57 58 59 60 61 62 63)
+    let state = step(state, words, t);
+    let state = step(state, words, t + 1);
+    let state = step(state, words, t + 2);
+    step(state, words, t + 3)
 }
 
 // The sums of the variables.
@@ -177,18 +128,35 @@ fn sums<V: Lanes>(state: State<V>, after: State<V>) -> State<V>
     }
 }
 
+/// The 64 steps of a block, by fours.
+macro_rules! all_steps {
+    ($state:ident, $words:ident, $($t:literal)*) => {{
+        $(let $state = four_steps($state, $words, $t);)*
+        $state
+    }};
+}
+
+/// Those of two groups, whose fours take turns.
+macro_rules! all_steps_of_both {
+    ($a:ident, $a_words:ident, $b:ident, $b_words:ident, $($t:literal)*) => {{
+        $(let ($a, $b) = (four_steps($a, $a_words, $t), four_steps($b, $b_words, $t));)*
+        ($a, $b)
+    }};
+}
+
 /// The hash values after a block more.
 #[inline(always)]
 pub(crate) fn compressed<V: Lanes>(state: State<V>, words: &Words<V>) -> State<V>
     ensures { AreBehind V.count V.at state words.now result }
 {
-    let after = first_round(state, words);
-    let after = second_round(after, words);
-    let after = third_round(after, words);
-    sums(state, fourth_round(after, words))
+    let after = state;
+    let after = all_steps!(after, words, 0 4 8 12 16 20 24 28 32 36 40 44 48 52 56 60);
+    sums(state, after)
 }
 
-/// Those of two groups, whose rounds take turns.
+/// Those of two groups, whose steps take turns.
+// Four at a time, a group's variables mostly stay in registers where these are few, and the other group's steps are near
+// enough for the processor to do them in the meantime.
 #[inline(always)]
 pub(crate) fn both_compressed<V: Lanes>(
     low: State<V>,
@@ -199,9 +167,9 @@ pub(crate) fn both_compressed<V: Lanes>(
     ensures low { AreBehind V.count V.at low low_words.now result.0 }
     ensures high { AreBehind V.count V.at high high_words.now result.1 }
 {
-    let (a, b) = (first_round(low, low_words), first_round(high, high_words));
-    let (a, b) = (second_round(a, low_words), second_round(b, high_words));
-    let (a, b) = (third_round(a, low_words), third_round(b, high_words));
-    let (a, b) = (fourth_round(a, low_words), fourth_round(b, high_words));
+    let (a, b) = (low, high);
+    let (a, b) = all_steps_of_both!(
+        a, low_words, b, high_words, 0 4 8 12 16 20 24 28 32 36 40 44 48 52 56 60
+    );
     (sums(low, a), sums(high, b))
 }

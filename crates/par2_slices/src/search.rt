@@ -390,7 +390,7 @@ fn is_fit(left: usize, s: u64, len: usize) -> bool
 ///
 /// It costs one slide and one look at a filter for each offset, the CRC-32 of eight bytes at most, and an MD5 of `s` bytes
 /// for each window whose CRC is that of a pair without an answer. Up to sixteen of these MD5s are computed side by side,
-/// which takes about a fourth of the time; where fewer such windows follow each other, an MD5 costs at most what it does
+/// which takes a fifth of the time or less; where fewer such windows follow each other, an MD5 costs at most what it does
 /// alone. At worst each window has such a CRC and none the MD5: then it costs an MD5 of `s` bytes for each offset, which
 /// only pairs that were made for it lead to. A text costs nothing for the pairs that aren't found in it.
 pub fn find_among(

@@ -1,5 +1,6 @@
 use Rattle.par2_digests.proofs.Common.{below_more, get_or-set_other, get_or-set_same, length-set, digest_bytes, md5, [], ◌∷◌, List, get_or, get_or-replicate, replicate, four_words_at, refl, ◌≡◌, ◌+◌, ◌*◌, ◌/◌, ◌++◌, ◌<◌, ℕ, ap, sym, arith, length, take, drop, ◌∙◌, padded_message, padding, hash_after, hash_behind, tail_len, tail_of, take-take, text_at}
 use Rattle.par2_digests.proofs.FeedLaws.{message_goes_on}
+use Rattle.par2_digests.proofs.PendingLaws.{hash_in_text}
 use Rattle.par2_digests.proofs.TailLaws.{all_blocks, last_blocks, whole_blocks}
 use Rattle.par2_digests.proofs.digests.Goals as goal
 
@@ -14,15 +15,11 @@ absorbed-hashes-requires g c =
       within = λ k low. omega (arith, few, c.sixteenths.ensures.sizes k 128 (omega (arith, low, c.requires.few)) room);
     }
 
--- the initial hash value, low byte first
-start : List ℕ
-start = 0x01 ∷ 0x23 ∷ 0x45 ∷ 0x67 ∷ 0x89 ∷ 0xab ∷ 0xcd ∷ 0xef ∷ 0xfe ∷ 0xdc ∷ 0xba ∷ 0x98 ∷ 0x76 ∷ 0x54 ∷ 0x32 ∷ 0x10 ∷ []
-
 pub loop-k-preserved : goal.loop-k-preserved
 loop-k-preserved g c = grind (arith, length-set, below_more, get_or-set_other, get_or-set_same, digest_bytes)
 
 pub returns : goal.returns
-unfolding hash_after md5 start
+unfolding hash_after md5
 returns g c = λ k own.
     let within : k < g.H.Hashes.count = omega (arith, own, c.requires.lanes) in
     let low : k < 16 = omega (arith, within, c.requires.few) in
@@ -32,8 +29,9 @@ returns g c = λ k own.
     let p = padded_message m in
     let size : length m ≡ len = c.requires.within k low in
     let p_is : p ≡ m ++ pad = ap (λ n. m ++ padding n) size in
-    let begun : four_words_at (get_or (replicate 16 start) k []) 0 ≡ hash_after p 0 = ap (λ text. four_words_at text 0) (get_or-replicate 16 k start [] low) in
-    let first = c.absorbed-before.ensures k within ∙ ap (λ h. hash_behind h m (len / 64)) (c.read.ensures k within ∙ begun) ∙ message_goes_on p m 0 (len / 64) (whole_blocks m pad p len p_is size) in
+    let initial : c.new.result.hash ≡ hash_after p 0 = c.new.ensures.1.0 in
+    let start = hash_in_text _ c.new.result.hash p _ 0 (get_or-replicate 16 k c.digest_of-start.result [] low ∙ c.digest_of-start.ensures) initial (c.read.ensures k within) in
+    let first = c.absorbed-before.ensures k within ∙ ap (λ h. hash_behind h m (len / 64)) (start ∙ initial) ∙ message_goes_on p m 0 (len / 64) (whole_blocks m pad p len p_is size) in
     let n = tail_len len in
     let tails = c.tails_of_windows-tails.result in
     let count = c.tail_blocks.result in
