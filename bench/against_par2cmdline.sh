@@ -22,9 +22,10 @@ line() {
     rm "$room/ours" "$room/theirs"
 }
 
-# verify NAME STATUS THEIRS: verifies `set.par2` in the present folder. Par2cmdline ends with the status THEIRS.
+# verify NAME STATUS THEIRS: verifies `set.par2` in the present folder. Par2cmdline ends with the status THEIRS. A verify
+# is short, so other work of the machine may be in its way from the beginning to the end: there are five times as many.
 verify() {
-    for round in $(seq "$rounds"); do
+    for round in $(seq "$((5 * rounds))"); do
         timed ours "$2" "$program" verify set.par2
         timed theirs "$3" par2verify -q -q -t1 -T1 set.par2
     done
@@ -90,9 +91,7 @@ made() {
 # lost NAME: verifies the set whose one file is gone, and whose recovery slices are too few. That takes some milliseconds.
 lost() {
     rm -f .par2undo
-    rounds=15
     verify "$1" 2 2
-    rounds=3
 }
 
 # thinned KEPT: of the recovery slices in the present folder those stay whose exponent `e` fulfils this condition of
@@ -186,7 +185,9 @@ short() {
     cp "$room/whole" data
     insert data
     keep
+    rounds=15
     repair "8 MiB in slices of 512, a byte inserted" data
+    rounds=3
     rm -f data*
     lost "the file of 16,384 slices of 512 bytes is gone, 50 recovery slices"
 }
