@@ -21,8 +21,8 @@ parts() {
         /\[k\]|\[kernel/ { part = "system" }
         /memmove|memcpy|memset/ { part = "copies" }
         /par2_slices::(search|rolling|filter|wanted|windows|matching|intact)/ { part = "search" }
-        /md5::|par2_digests|par2_folder::walk/ { part = "digests" }
-        /par2_gf16|par2_recovery|par2_matrix/ { part = "field" }
+        /md5::|par2_md5_lanes|par2_files::walk/ { part = "digests" }
+        /par2_gf16|par2_solve|par2_matrix/ { part = "field" }
         { sum[part] += share }
         END {
             count = split("system copies digests search field other", names, " ")

@@ -47,7 +47,7 @@ made_otherwise() {
             gsub(/<AllocError>|, (E = )?AllocError>|: AllocError\)/, "", made)
             if (made !~ /::Memory|AllocError/ || in_from) next
             if (pattern ~ /AllocError|AllocFailed|::Memory|OutOfMemory/) next
-            if (FILENAME ~ /par2_(journal\/src\/opening|creation\/src\/volumes)\.rt$/ && above ~ /return Err\(AllocError\);$/) next
+            if (FILENAME ~ /par2_(journal\/src\/opening|create\/src\/volumes)\.rt$/ && above ~ /return Err\(AllocError\);$/) next
             print FILENAME ":" FNR ": " $0
         }' {} +
 }

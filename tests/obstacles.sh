@@ -1,8 +1,10 @@
 #!/bin/sh
 # What a real folder has beside files. A link, a folder, a pipe or a device stands where the program looks for a file
-# or would put one. A file or the folder can't be read or written. A name is as long as names can be, or longer. A file
-# grows or vanishes while the folder is read. Each run says so, and all stays as it was; and once that is over, the
-# same run ends as if it had never been.
+# or would put one. A file or the folder can't be read or written, or not to its end. A name is as long as names can be,
+# or longer. A file grows, shrinks or vanishes while the folder is read, or appears where one is to be written. Each run
+# says so, and all stays as it was; and once that is over, the same run ends as if it had never been. Where the system has
+# no links or no locks, runs end as ever. What is written in a folder where some files are private, or a group's, can be
+# read by nobody else, from the moment that it is made.
 set -eu
 cd "$(dirname "$0")/.."
 clang=$(dirname "$(rt doc)")/toolchain/bin/clang
@@ -34,13 +36,13 @@ bound() {
         > "$room/told" 2>&1 || status=$?
 }
 
-# The same while the variable, which says how, meddles with the folder.
+# The same while the variable, which says how, meddles with the folder. What that has to tell goes to `tells`.
 meddled() {
     variable=$1
     shift
     status=0
     (cd "$room/here" && env "$variable" WHEN="$when" LD_PRELOAD="$room/meddle.so" "$room/par2" "$@") \
-        > "$room/told" 2>&1 || status=$?
+        > "$room/told" 2>&1 9> "$room/tells" || status=$?
 }
 
 # here FOLDER: a fresh copy of this one.
@@ -256,7 +258,38 @@ for when in listed opened; do
     [ "$(cat "$room/here/bb")" = ijklmnopqrst ] || fail "a file that grows when it is $when"
     [ "$(cat "$room/here/bb.1")" = ijklmnopqrst+ ] || fail "a file that grows when it is $when"
 done
+
+# What it has shrunk to counts, too.
+here found
+meddled SHRINKS=bb verify t.par2
+is_told "a file that shrinks when it is opened" 1 \
+    "$(printf '%s\n' "$set_id" 'damaged bb 1/3' 'complete aa' 'result: repairable, lost 2, rank 2')"
+here found
+meddled SHRINKS=bb repair t.par2
+is_told "a file that shrinks when it is opened, a repair" 0 "$(printf '%s\n' 'rename bb to bb.1' 'write bb' 'done: 2')"
+[ "$(cat "$room/here/bb")" = ijklmnopqrst ] || fail "a file that shrinks when it is opened"
+[ "$(cat "$room/here/bb.1")" = ijklm ] || fail "a file that shrinks when it is opened"
 when=never
+
+# A file can't be read on, or there is no memory for it: that ends the run at once. The errors are EIO and ENOMEM.
+for words in 'verify t.par2' 'create -s4 -c5 u.par2 aa' 'repair t.par2' undo; do
+    for FAULT in 5 12; do
+        export FAULT
+        here found
+        head -c 200000 /dev/zero > "$room/here/large"
+        stands "$room/before"
+        # shellcheck disable=SC2086
+        meddled UNREAD=large $words
+        case $FAULT in
+            5) is_told "a file that can't be read on, $words" 6 "$failed" ;;
+            12) is_told "a file that there is no memory to read on, $words" 8 'par2: out of memory' ;;
+        esac
+        [ "$(cat "$room/tells")" = '!!' ] || fail "a file that can't be read on, $words: it was read on"
+        is_kept "a file that can't be read on, $words"
+    done
+done
+unset FAULT
+
 for words in 'verify t.par2' 'create -s4 -c5 u.par2 aa' undo; do
     here found
     stands "$room/before"
@@ -308,21 +341,98 @@ for when in listed named; do
     appears bb repair t.par2
     appears u.par2 create -s4 -c1 u.par2 aa
 done
-NOLINKS=yes
-export NOLINKS
-appears bb repair t.par2
-appears u.par2 create -s4 -c1 u.par2 aa
-here found
-meddled APPEARS=none repair t.par2
-is_told "a folder without hard links" 0 "$(printf '%s\n' 'write bb' 'done: 1')"
-[ "$(cat "$room/here/bb")" = ijklmnopqrst ] || fail "a folder without hard links"
-[ ! -e "$room/here/.par2undo.tmp" ] || fail "a folder without hard links, the temporary file"
+# dangles PATH WORD..: a run in which a link appears that leads nowhere.
+dangles() {
+    path=$1
+    shift
+    here found
+    ln -s nowhere "$room/here/$path"
+    stands "$room/before"
+    rm "$room/here/$path"
+    meddled DANGLES="$path" "$@"
+    is_told "a link that appears at $path, $*" 6 "$failed"
+    is_kept "a link that appears at $path, $*"
+    rm "$room/here/$path"
+    same_as_ever "a link that appears at $path, $*" "$@"
+}
+dangles bb repair t.par2
+dangles u.par2 create -s4 -c1 u.par2 aa
+# The errors of a system without links: EPERM, ENOSYS, EOPNOTSUPP.
+for NOLINKS in 1 38 95; do
+    export NOLINKS
+    appears bb repair t.par2
+    appears u.par2 create -s4 -c1 u.par2 aa
+    dangles bb repair t.par2
+    dangles u.par2 create -s4 -c1 u.par2 aa
+    here found
+    meddled APPEARS=none repair t.par2
+    is_told "a folder without hard links" 0 "$(printf '%s\n' 'write bb' 'done: 1')"
+    [ "$(cat "$room/here/bb")" = ijklmnopqrst ] || fail "a folder without hard links"
+    [ ! -e "$room/here/.par2undo.tmp" ] || fail "a folder without hard links, the temporary file"
+done
 unset NOLINKS
 printf 'ijklmnopqrst' > "$room/found/bb"
 printf 'abcdxfgh' > "$room/found/aa"
 when=listed
 appears aa.1 repair t.par2
 printf 'abcdefgh' > "$room/found/aa"
+
+# ---- a file that another hand takes away just before it is removed
+for path in t.par2 t.vol00001+00002.par2; do
+    here found
+    stands "$room/before"
+    when=removed
+    meddled VANISHES="$path" purge t.par2
+    is_told "$path, which vanishes when it is removed" 6 "$failed"
+    par2 verify none.par2
+    is_kept "$path, which vanishes when it is removed"
+    same_as_ever "$path, which vanishes when it is removed" purge t.par2
+done
+when=never
+
+# ---- a temporary file that is a file of the folder under a second name
+for words in 'create -s4 -c1 u.par2 aa' 'create -s4 -c1 --overwrite t.par2 aa' 'purge t.par2'; do
+    here found
+    ln "$room/here/aa" "$room/here/.par2undo.tmp"
+    # shellcheck disable=SC2086
+    same_as_ever "a temporary file that is another's second name, $words" $words
+    [ "$status" -eq 0 ] || fail "a temporary file that is another's second name, $words"
+done
+
+# ---- an output whose first writes are interrupted
+here found
+meddled INTERRUPTED=3 verify t.par2
+is_told "an output that is interrupted" 0 "$complete"
+
+# ---- locks: a system may have none, which it says by ENOLCK, EOPNOTSUPP, EINVAL or EBADF. EWOULDBLOCK says that another
+# run holds the folder
+here found
+(cd "$room/here" && "$room/par2" create -s4 -c1 u.par2 aa) > "$room/told"
+rm -rf "$room/found"
+mv "$room/here" "$room/found"
+for words in 'verify t.par2' 'create -s4 -c1 v.par2 aa' 'purge u.par2' undo; do
+    for number in 37 95 22 9; do
+        here found
+        # shellcheck disable=SC2086
+        meddled LOCKS=$number $words
+        mv "$room/here" "$room/here.ever"
+        stands_there=$status
+        mv "$room/told" "$room/told.ever"
+        here found
+        # shellcheck disable=SC2086
+        par2 $words
+        [ "$status" -eq "$stands_there" ] || fail "no locks, error $number, $words: $stands_there"
+        cmp "$room/told" "$room/told.ever" || fail "no locks, error $number, $words"
+        diff -r "$room/here" "$room/here.ever" || fail "no locks, error $number, $words"
+        rm -rf "$room/here.ever"
+        rows=$((rows + 1))
+    done
+    here found
+    # shellcheck disable=SC2086
+    meddled LOCKS=11 $words
+    is_told "a folder that another run holds, $words" 6 "$failed"
+    diff -r "$room/here" "$room/found" || fail "a folder that another run holds, $words"
+done
 
 # ---- names that begin with a point
 here whole
@@ -386,5 +496,158 @@ mkdir "$room/here/.par2undo.d"
 par2 create -s4 -c1 t.par2 aa
 [ "$status" -eq 0 ] || fail "names that are kept for the history"
 [ "$(cat "$room/here/.par2undo.old")" = 'of the user' ] || fail "names that are kept for the history"
+
+# ---- who may read and write what is written
+# by USER MASK WORD..: a run of this user with this umask, in a folder of the group 65534. It must be accepted.
+by() {
+    user=$1
+    mask=$2
+    shift 2
+    as=
+    [ "$(id -u)" -ne 0 ] || as="setpriv --reuid=$user --regid=65534 --clear-groups"
+    status=0
+    # shellcheck disable=SC2086
+    (cd "$room/here" && umask "$mask" && $as env MODES=yes LD_PRELOAD="$room/meddle.so" "$room/par2" "$@") \
+        > "$room/told" 2>&1 9> "$room/tells" || status=$?
+    rows=$((rows + 1))
+    [ "$status" -eq 0 ] || fail "modes, $*"
+}
+
+# modes MODE.. -- WORD..: whether the last run made files of these modes and no others, each with its mode at once and
+# where nothing was. The words say what the run is.
+modes() {
+    wanted=
+    while [ "$1" != -- ]; do
+        wanted="$wanted $1"
+        shift
+    done
+    shift
+    # shellcheck disable=SC2086
+    printf '%s new\n' $wanted | LC_ALL=C sort > "$room/modes"
+    if grep -qvE '^[0-7]+ [0-7]+ new ' "$room/tells" \
+        || ! cut -d ' ' -f 2,3 "$room/tells" | LC_ALL=C sort -u | cmp -s - "$room/modes"; then
+        cat "$room/tells"
+        fail "modes, $*: made otherwise than $wanted"
+    fi
+}
+
+# have MODE NAME..: whether these files, and no others, have this mode.
+have() {
+    mode=$1
+    shift
+    printf '%s\n' "$@" | LC_ALL=C sort > "$room/modes"
+    find "$room/here" -type f -perm "$mode" -printf '%f\n' | LC_ALL=C sort | cmp - "$room/modes" || fail "modes, $mode"
+}
+
+# shared MODE [FILE..]: a folder of files of this mode, and of those FILEs that are private, for two users of a group.
+shared() {
+    mode=$1
+    shift
+    here whole
+    chmod "$mode" "$room/here/aa" "$room/here/bb"
+    for name in "$@"; do
+        chmod 600 "$room/here/$name"
+    done
+    chmod 770 "$room/here"
+    [ "$(id -u)" -ne 0 ] || chown -R 65534:65534 "$room/here"
+}
+
+volumes='t.par2 t.vol00000+00001.par2 t.vol00001+00002.par2 t.vol00003+00002.par2'
+
+# A private file among public ones. What is put aside and put back keeps its mode.
+shared 644 aa
+by 65534 022 create -s4 -c5 t.par2 aa bb
+modes 600 -- a create over a private file and another
+# shellcheck disable=SC2086
+have 600 aa $volumes .par2undo
+printf 'abcdxfgh' > "$room/here/aa"
+by 65534 022 repair t.par2
+modes 600 -- a repair of a private file
+# shellcheck disable=SC2086
+have 600 aa aa.1 $volumes .par2undo
+for words in undo redo undo; do
+    by 65534 022 $words
+    modes 600 -- $words of a repair of a private file
+done
+# shellcheck disable=SC2086
+have 600 aa $volumes .par2undo
+by 65534 022 repair -p t.par2
+modes 600 -- a repair of a private file that purges
+have 600 aa .par2undo
+for words in undo redo undo; do
+    by 65534 022 $words
+    modes 600 -- $words of a repair of a private file that purges
+done
+# shellcheck disable=SC2086
+have 600 aa $volumes .par2undo
+have 644 bb
+
+# What is written beside it is private too.
+printf 'ijklmnopqrsT' > "$room/here/bb"
+by 65534 022 repair t.par2
+modes 600 -- a repair beside a private file
+# shellcheck disable=SC2086
+have 600 aa aa.1 bb $volumes .par2undo
+have 644 bb.1
+
+# A file that is replaced keeps what it lacked.
+shared 644
+by 65534 022 create -s4 -c5 t.par2 aa bb
+modes 644 -- a create over public files
+# shellcheck disable=SC2086
+have 644 aa bb $volumes .par2undo
+chmod 444 "$room/here/t.vol00000+00001.par2"
+by 65534 022 create -s4 -c5 --overwrite t.par2 aa bb
+modes 444 644 -- a create over a volume that nobody writes
+have 444 t.vol00000+00001.par2
+chmod 640 "$room/here/t.vol00000+00001.par2"
+by 65534 022 create -s4 -c5 --overwrite t.par2 aa bb
+modes 640 -- a create over a volume of a group
+# shellcheck disable=SC2086
+have 640 $volumes .par2undo
+chmod 600 "$room/here/t.vol00000+00001.par2"
+by 65534 022 create -s4 -c5 --overwrite t.par2 aa bb
+modes 600 -- a create over a private volume
+# shellcheck disable=SC2086
+have 600 $volumes .par2undo
+by 65534 022 undo
+modes 600 -- an undo of a create over a private volume
+
+# Volumes that were private are so again, though no other file is: the journal tells.
+shared 644
+by 65534 022 create -s4 -c5 t.par2 aa bb
+# shellcheck disable=SC2086
+(cd "$room/here" && chmod 600 $volumes)
+by 65534 022 purge t.par2
+modes 600 -- a purge of private volumes
+by 65534 022 undo
+modes 600 -- an undo of a purge of private volumes
+# shellcheck disable=SC2086
+have 600 $volumes .par2undo
+
+# Public files, as each umask has them.
+for mask in 002 022 077; do
+    shared 666
+    by 65534 $mask create -s4 -c5 t.par2 aa bb
+    case $mask in
+        002) modes 664 -- "umask $mask" ;;
+        022) modes 644 -- "umask $mask" ;;
+        077) modes 600 -- "umask $mask" ;;
+    esac
+done
+
+# Two members of a group, each of whom goes on where the other stopped.
+shared 660
+by 65534 007 create -s4 -c5 t.par2 aa bb
+modes 660 -- a create of a group
+printf 'abcdxfgh' > "$room/here/aa"
+by 65533 007 repair t.par2
+modes 660 -- a repair by another member
+by 65534 007 undo
+modes 660 -- an undo by the first member
+by 65533 007 redo
+modes 660 -- a redo by the other member
+# shellcheck disable=SC2086
+have 660 aa aa.1 bb $volumes .par2undo
 
 echo "places: $rows runs, each told as it must be, and nothing was lost"

@@ -4,6 +4,8 @@ set -eu
 cd "$(dirname "$0")/.."
 sh checks/memory_faults.sh
 python3 checks/duplicate_lemmas.py
+python3 tools/reading_list.py --check docs/PROMISES.md
+python3 tools/tests_table.py --check docs/CHANGING.md
 log=$(mktemp)
 trap 'rm -f "$log"' EXIT
 
@@ -42,6 +44,7 @@ python3 tests/forged_claims.py
 sh tests/obstacles.sh
 sh tests/stops.sh
 python3 tests/cuts.py
+python3 tests/two_runs.py
 sh tests/interop.sh
 sh tests/installed.sh
 wait "$rows" || status=$?

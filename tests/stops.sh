@@ -1,6 +1,6 @@
 #!/bin/sh
-# Stops the program at its first call that changes the folder or waits for the disk, then at its second, and so on
-# until none is left. It ends by SIGKILL before the call, after it or in the middle of a write, or the call fails. What
+# Stops the program at its first call that changes the folder, waits for the disk or opens the folder, then at its
+# second, and so on until none is left. It ends by SIGKILL before the call, after it or in the middle of a write, or the call fails. What
 # undos and redos then lead to is what they lead to from the folder before the run, or from the folder after it, and
 # nothing else is left over.
 set -eu

@@ -4,17 +4,27 @@
 // the file that LONG names. With FAILS the folder can't be read on: of the calls that read it, the one whose number
 // FAILS gives fails, counted from 1. Of the entry that UNTOLD names the folder doesn't give the kind, and it can't be
 // found when it is asked for by the path of the listing. A file that the variable APPEARS names, with the byte `+`, is
-// there once the folder is `listed`, or before a file is `named` so. With NOLINKS the folder has no hard links, which
-// is reported once a file may have appeared. For LD_PRELOAD.
+// there once the folder is `listed`, or before a file is `named` so; of the name DANGLES there is a link that leads
+// nowhere. With NOLINKS the folder has no hard links: to make one fails by the error of that number, once a file may
+// have appeared. The file that VANISHES names may also be removed just before it is `removed`, and the one that SHRINKS
+// names cut to five bytes before it is `opened`.
+//
+// Each read of the file that UNREAD names puts a byte on descriptor 9, and from the second one on they fail by the error
+// of the number FAULT. With LOCKS each lock fails by the error of that number. With INTERRUPTED so many writes to the
+// output are interrupted, one after the other. With MODES descriptor 9 has a line for each file that is made: its mode,
+// as asked for and as it is, whether it was made where nothing was, and its name; and one for each change of a mode.
+// For LD_PRELOAD.
 typedef unsigned long size;
 extern char *getenv(const char *name);
 extern long syscall(long number, ...);
 extern long atol(const char *text);
+extern int dprintf(int file, const char *format, ...);
 extern int *__errno_location(void);
 
-enum { WRITE = 1, CLOSE = 3, LINK = 86, UNLINK = 87, GETDENTS64 = 217, OPENAT = 257, STATX = 332 };
-enum { AT_FDCWD = -100, ACCESS = 3, WRONLY = 1, CREATE = 0100, APPEND = 02000, MODE = 0644 };
-enum { UNKNOWN = 0, REGULAR = 8, EPERM = 1, EIO = 5 };
+enum { READ = 0, WRITE = 1, CLOSE = 3, FLOCK = 73, TRUNCATE = 76, LINK = 86, UNLINK = 87, SYMLINK = 88, CHMOD = 90 };
+enum { FCHMOD = 91, UMASK = 95, GETDENTS64 = 217, OPENAT = 257, FCHMODAT = 268, STATX = 332 };
+enum { AT_FDCWD = -100, EMPTY = 0x1000, ACCESS = 3, WRONLY = 1, CREATE = 0100, NEW = 0200, APPEND = 02000, MODE = 0644 };
+enum { UNKNOWN = 0, REGULAR = 8, EINTR = 4, EIO = 5, SHORT = 5, OUTPUT = 1, TOLD = 9 };
 
 // An entry: its number, the next one's place, its length, its type, and its name after these 19 bytes, which ends
 // with a zero.
@@ -43,11 +53,20 @@ static void grow(const char *path, long flags) {
     syscall(CLOSE, file);
 }
 
+static int fail_by(long error) {
+    *__errno_location() = (int)error;
+    return -1;
+}
+
+static int fail(void) { return fail_by(EIO); }
+
 static void meddle(const char *when) {
     const char *wanted = getenv("WHEN");
     const char *vanishes = getenv("VANISHES");
     const char *grows = getenv("GROWS");
+    const char *shrinks = getenv("SHRINKS");
     const char *appears = getenv("APPEARS");
+    const char *dangles = getenv("DANGLES");
     if (wanted == 0 || !is(wanted, when)) {
         return;
     }
@@ -57,8 +76,14 @@ static void meddle(const char *when) {
     if (grows != 0) {
         grow(grows, 0);
     }
+    if (shrinks != 0) {
+        syscall(TRUNCATE, shrinks, (long)SHORT);
+    }
     if (appears != 0) {
         grow(appears, CREATE);
+    }
+    if (dangles != 0) {
+        syscall(SYMLINK, "nowhere", dangles);
     }
 }
 
@@ -67,11 +92,34 @@ static int is_meant(const char *path, const char *variable) {
     return name != 0 && is(path, name);
 }
 
+static int look(int folder, const char *path, int flags, unsigned mask, void *found) {
+    return syscall(STATX, (long)folder, path, (long)flags, (long)mask, found);
+}
+
+// Says of a file that is made which mode it was to have and has.
+static void tell_mode(int file, const char *path, int flags, int mode) {
+    unsigned short found[128];
+    if (file >= 0 && (flags & CREATE) != 0 && getenv("MODES") != 0) {
+        look(file, "", EMPTY, 2, found);
+        dprintf(TOLD, "%o %o %s %s\n", mode, found[14] & 0777, (flags & NEW) != 0 ? "new" : "found", path);
+    }
+}
+
+// The descriptor of the file that UNREAD names.
+static int unread = -1;
+
 static int opened(int folder, const char *path, int flags, int mode) {
-    if ((flags & ACCESS) == 0 && (is_meant(path, "VANISHES") || is_meant(path, "GROWS"))) {
+    if ((flags & ACCESS) == 0 && (is_meant(path, "VANISHES") || is_meant(path, "GROWS") || is_meant(path, "SHRINKS"))) {
         meddle("opened");
     }
-    return syscall(OPENAT, (long)folder, path, (long)flags, (long)mode);
+    int file = syscall(OPENAT, (long)folder, path, (long)flags, (long)mode);
+    tell_mode(file, path, flags, mode);
+    if (is_meant(path, "UNREAD")) {
+        unread = file;
+    } else if (file == unread) {
+        unread = -1;
+    }
+    return file;
 }
 
 int open(const char *path, int flags, int mode) { return opened(AT_FDCWD, path, flags, mode); }
@@ -94,10 +142,46 @@ static long put_long(char *entry) {
     return ENTRY;
 }
 
-static int fail(void) {
-    *__errno_location() = EIO;
-    return -1;
+long read(int file, void *bytes, size count) {
+    static long seen = 0;
+    if (file >= 0 && file == unread) {
+        syscall(WRITE, (long)TOLD, "!", 1UL);
+        if (++seen > 1) {
+            return fail_by(atol(getenv("FAULT")));
+        }
+    }
+    return syscall(READ, (long)file, bytes, count);
 }
+
+long write(int file, const void *bytes, size count) {
+    static long seen = 0;
+    const char *interrupted = getenv("INTERRUPTED");
+    if (file == OUTPUT && interrupted != 0 && seen++ < atol(interrupted)) {
+        return fail_by(EINTR);
+    }
+    return syscall(WRITE, (long)file, bytes, count);
+}
+
+int flock(int file, int how) {
+    const char *error = getenv("LOCKS");
+    return error != 0 ? fail_by(atol(error)) : (int)syscall(FLOCK, (long)file, (long)how);
+}
+
+// Tells of a call that changes a mode, or the modes of files to come.
+static long changed(const char *word, long number, long first, long second, long third) {
+    if (getenv("MODES") != 0) {
+        dprintf(TOLD, "%s\n", word);
+    }
+    return syscall(number, first, second, third);
+}
+
+int chmod(const char *path, unsigned mode) { return changed("chmod", CHMOD, (long)path, mode, 0); }
+
+int fchmod(int file, unsigned mode) { return changed("fchmod", FCHMOD, file, mode, 0); }
+
+int fchmodat(int folder, const char *path, unsigned mode) { return changed("fchmodat", FCHMODAT, folder, (long)path, mode); }
+
+unsigned umask(unsigned mode) { return changed("umask", UMASK, mode, 0, 0); }
 
 // Whether this call, which reads the folder, is the one that fails.
 static int is_failing(void) {
@@ -107,14 +191,18 @@ static int is_failing(void) {
 }
 
 int link(const char *from, const char *to) {
-    if (is_meant(to, "APPEARS")) {
+    if (is_meant(to, "APPEARS") || is_meant(to, "DANGLES")) {
         meddle("named");
     }
-    if (getenv("NOLINKS") != 0) {
-        *__errno_location() = EPERM;
-        return -1;
+    const char *error = getenv("NOLINKS");
+    return error != 0 ? fail_by(atol(error)) : (int)syscall(LINK, from, to);
+}
+
+int unlink(const char *path) {
+    if (is_meant(path, "VANISHES")) {
+        meddle("removed");
     }
-    return syscall(LINK, from, to);
+    return syscall(UNLINK, path);
 }
 
 // Takes the kind of the entry that UNTOLD names out of these entries.
@@ -149,5 +237,5 @@ int statx(int folder, const char *path, int flags, unsigned mask, void *found) {
         return fail();
     }
     const char *asked = file != 0 && length(path) >= LONGEST ? file : path;
-    return syscall(STATX, (long)folder, asked, (long)flags, (long)mask, found);
+    return look(folder, asked, flags, mask, found);
 }

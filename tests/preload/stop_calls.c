@@ -1,5 +1,5 @@
-// Stops the program at one of its calls that change the folder or wait for the disk: the one whose number the variable
-// STOPPED gives, counted from 1. The variable HOW says how: it ends by SIGKILL `before` the call, `behind` it, or in the
+// Stops the program at one of its calls that change the folder, wait for the disk or open the folder, as each wait for
+// its names does: the one whose number the variable STOPPED gives, counted from 1. The variable HOW says how: it ends by SIGKILL `before` the call, `behind` it, or in the
 // `middle` of a write; or the call fails by `EIO` or `ENOSPC`. A byte is then written on descriptor 9, so that who started
 // the program sees that there was such a call. For LD_PRELOAD.
 typedef unsigned long size;
@@ -32,7 +32,7 @@ static int is(const char *text, const char *word) {
     return *text == *word;
 }
 
-// A call that changes the folder or waits for the disk.
+// A call that changes the folder, waits for the disk or opens the folder.
 static long change(long number, long first, long second, long third, long fourth) {
     const char *how = getenv("HOW");
     if (how == 0 || !is_stopped()) {
@@ -53,7 +53,7 @@ static long change(long number, long first, long second, long third, long fourth
 }
 
 static int opened(int folder, const char *path, int flags, int mode) {
-    if ((flags & ACCESS) == 0) {
+    if ((flags & ACCESS) == 0 && !is(path, ".")) {
         return syscall(OPENAT, (long)folder, path, (long)flags, (long)mode);
     }
     return change(OPENAT, folder, (long)path, flags, mode);

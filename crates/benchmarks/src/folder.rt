@@ -5,9 +5,10 @@ use crate::clock::{megabytes_a_second, nanos_since, start};
 use crate::digest;
 use crate::random::random_bytes;
 use anyhow::Result;
-use par2_disk::{DiskStore, FolderStore, ReadFault, StoreFault, read_folder};
-use par2_folder::{Bytes, Change, Folder, Name};
-use par2_stores::MemoryStore;
+use par2_folder::{
+    Bytes, Change, DiskStore, Folder, FolderStore, MemoryStore, Name, ReadFault, StoreFault,
+    read_folder,
+};
 use std::alloc::{AllocError, Global};
 use std::io;
 use std::time::Instant;

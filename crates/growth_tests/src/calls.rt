@@ -3,14 +3,11 @@
 ghost use Rattle.std.specs.Prelude.{IfOk};
 ghost use Rattle.par2_journal.specs.Ready.{Fits};
 
-use par2_disk::{FolderStore, ReadFault, StoreFault, read_folder};
-use par2_folder::{Folder, Name};
+use par2_folder::{Folder, FolderStore, MemoryStore, Name, ReadFault, StoreFault, read_folder};
 use par2_journal::{
-    Action, CreateArgs, Fault, Halfway, Journals, Opened, Prepared, Report, Session, SessionFault,
-    Steps,
+    Action, CreateArgs, Fault, Halfway, JournalFault, Journals, Opened, Prepared, Report, Session,
+    SessionFault, Steps,
 };
-use par2_spec::JournalFault;
-use par2_stores::MemoryStore;
 use std::alloc::{AllocError, Global};
 
 /// The names of a store's files.

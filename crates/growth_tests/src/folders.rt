@@ -4,12 +4,10 @@ use crate::calls::{folder_in, names_of, put_journal, read, read_journal, replace
 use crate::inputs::{args_of, damaged, name_of, protected};
 use crate::scene::{Refusal, Scene};
 use anyhow::Result;
-use par2_creation::plan_create;
-use par2_folder::{Change, Folder, Landmarks, Name};
+use par2_folder::{Change, Folder, MemoryStore, Name};
 use par2_journal::CreateArgs;
-use par2_plan::{Changes, check, plan_purge, plan_repair};
+use par2_plan::{Changes, check, plan_create, plan_purge, plan_repair};
 use par2_slices::crc32;
-use par2_stores::MemoryStore;
 use std::alloc::Global;
 
 /// What the calls need: folders of a set whose file `a` was cut and is whole, a store with the file `a` and a journal,
@@ -105,9 +103,7 @@ impl Folders {
 
     fn plan(&mut self, alloc: Global, name: &str) -> Result<(), Refusal> {
         self.changes = match name {
-            "plan_create" => {
-                plan_create(alloc, &self.folder, &self.args, &Landmarks::none(alloc))?.changes
-            }
+            "plan_create" => plan_create(alloc, &self.folder, &self.args)?,
             "plan_purge" => plan_purge(alloc, &self.whole, "t.par2")?,
             _ => plan_repair(alloc, &self.folder, "t.par2", &[], true)?,
         };

@@ -1,9 +1,8 @@
 //! Folders and words that the calls work on.
 
 use anyhow::{Error, Result};
-use par2_creation::plan_create;
-use par2_folder::{Bytes, Change, Folder, Landmarks, Name, copies_of};
-use par2_journal::CreateArgs;
+use par2_folder::{Bytes, Change, Folder, Name, copies_of};
+use par2_plan::{CreateArgs, plan_create};
 use recovery_calls::folder_of;
 use std::alloc::{AllocError, Global};
 
@@ -38,9 +37,8 @@ fn change(folder: &mut Folder, mut change: Change) -> Result<()> {
 
 // The changes of a create of `t.par2`.
 fn created(alloc: Global, folder: &Folder) -> Result<Vec<Change>> {
-    let none = Landmarks::none(alloc);
-    match plan_create(alloc, folder, &args_of(alloc, "t.par2")?, &none) {
-        Ok(creation) => Ok(copies_of(alloc, creation.changes.as_slice())?),
+    match plan_create(alloc, folder, &args_of(alloc, "t.par2")?) {
+        Ok(changes) => Ok(copies_of(alloc, changes.as_slice())?),
         Err(_) => Err(Error::msg("a create is refused")),
     }
 }

@@ -40,7 +40,7 @@ const CALLS: &[(&str, &[&str])] = &[
             "append_creator",
             "append_recovery",
             "digest_recoveries",
-            "record_of_files",
+            "SetRecord::of_files",
             "recovery_slice",
             "recovery_slices",
             "recovery_slices_over",

@@ -1,11 +1,9 @@
 //! A call is made, and what stands before and after it is printed.
 
 use anyhow::Result;
-use par2_disk::{ReadFault, StoreFault};
-use par2_journal::{Fault, SessionFault};
-use par2_recovery::RebuildFault;
-use par2_spec::JournalFault;
-use recovery_calls::RecordFault;
+use par2_folder::{ReadFault, StoreFault};
+use par2_journal::{Fault, JournalFault, SessionFault};
+use par2_recovery::{RebuildFault, RecordFault};
 use std::alloc::{AllocError, Global};
 
 /// Why a call has no answer.

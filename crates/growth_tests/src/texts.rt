@@ -8,12 +8,12 @@ use par2_packets::{
     FileRecord, Pair, append_creator, append_desc, append_ifsc, append_main, append_recovery,
     digest_recoveries, with_undigested,
 };
-use par2_recovery::{SetRecord, Survivors, rank};
+use par2_recovery::{SetRecord, Survivors, rank, recovery_slices_over};
 use par2_slices::{Rolling, Spot, Wanted, crc32, find, find_among, pairs_of};
 use par2_transform::{Place, whole_texts};
 use recovery_calls::{
-    folder_of, lost_rebuilt, rebuilt, record_of_files, recovery_slice_of, recovery_slices_of,
-    recovery_slices_over, set_of, slices_added, slices_written,
+    folder_of, lost_rebuilt, rebuilt, recovery_slice_of, recovery_slices_of, set_of, slices_added,
+    slices_written,
 };
 use std::alloc::{AllocError, Global};
 use std::slice::from_ref;
@@ -143,7 +143,7 @@ impl Texts {
 
     fn record(&mut self, alloc: Global) -> Result<(), Refusal> {
         let file = Name::new("a").map_err(|_| Refusal::Other)?;
-        self.records = record_of_files(alloc, &self.folder, from_ref(&file), 4)?.files;
+        self.records = SetRecord::of_files(alloc, &self.folder, from_ref(&file), 4)?.files;
         Ok(())
     }
 
@@ -216,7 +216,7 @@ impl Scene for Texts {
             "digest_recoveries" => self.digest(alloc),
             "append_main" | "append_desc" | "append_ifsc" | "append_recovery" | "append_creator" =>
                 { self.append(alloc, name) }
-            "record_of_files" => self.record(alloc),
+            "SetRecord::of_files" => self.record(alloc),
             _ => self.recover(alloc, name),
         }
     }

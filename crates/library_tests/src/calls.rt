@@ -1,8 +1,7 @@
 //! Calls of names, folders and stores, each in a function that promises nothing: of such a call the prover sees its
 //! type alone.
 
-use par2_disk::{FolderStore, ReadFault, StoreFault, read_folder};
-use par2_folder::{Folder, Name};
+use par2_folder::{Folder, FolderStore, Name, ReadFault, StoreFault, read_folder};
 use par2_transform::Place;
 use std::alloc::Global;
 use std::process::Abort;

@@ -3,7 +3,7 @@
 ghost use Rattle.std.specs.Prelude.{◌≤◌};
 
 use md5::{Digest, Md5};
-use par2_digests::{LANES, window_digests};
+use par2_md5_lanes::{LANES, window_digests};
 
 const TEXT: &[u8] = b"The quick brown fox jumps over the lazy dog";
 

@@ -1,14 +1,12 @@
 //! Worked examples of folders and names, and each refusal.
 
 ghost use Rattle.std.specs.Prelude.{map, IsTrue};
-ghost use Rattle.par2_folder.specs.Views.{change_of};
+ghost use Rattle.par2_files.specs.Views.{change_of};
 ghost use Rattle.par2_spec.specs.Changes.{takes_all};
 
 use crate::calls::{bytes_in, fingerprint, lists, name};
-use par2_folder::{
-    BadName, Bytes, Change, ChangeFault, Folder, Landmarks, Name, fingerprints, mark_folder,
-    survey_folder,
-};
+use par2_files::{Landmarks, fingerprints, mark_folder, survey_folder};
+use par2_folder::{BadName, Bytes, Change, ChangeFault, Folder, Name};
 use std::process::Abort;
 
 // A change, in plain texts.

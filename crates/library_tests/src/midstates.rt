@@ -1,7 +1,7 @@
 //! Texts and states side by side, and the hasher of one message.
 
 use md5::{Digest, Md5};
-use par2_digests::{LANES, Midstate, Part, Pending, absorb_each, text_digests};
+use par2_md5_lanes::{LANES, Midstate, Part, Pending, absorb_each, text_digests};
 use std::process::Abort;
 
 // About the edges of a block and of the padding.

@@ -1,6 +1,7 @@
 //! Reading to the end, and from a reader that has none.
 
-use par2_disk::{ReadFault, read_within};
+use par2_disk::read_within;
+use par2_folder::ReadFault;
 use std::io::{self, Read};
 use std::process::Abort;
 

@@ -3,8 +3,8 @@
 ghost use Rattle.std.specs.Prelude.{◌≤◌};
 
 use md5::{Digest, Md5};
+use par2_create::file_record_by_md5;
 use par2_packets::{FileRecord, Pair};
-use par2_recovery::file_record_by_md5;
 use std::process::Abort;
 
 // The record of a file.

@@ -5,10 +5,10 @@ use crate::field::field;
 use par2_folder::Folder;
 use par2_gf16::Gf;
 use par2_packets::FileRecord;
-use par2_recovery::{RebuildFault, SetRecord, Survivors, rank};
+use par2_recovery::{RebuildFault, RecordFault, SetRecord, Survivors, rank, recovery_slices_over};
 use recovery_calls::{
-    RecordFault, folder_of, input_slices_of, lost_rebuilt, recovery_slice_of, recovery_slices_of,
-    recovery_slices_over, set_of, slices_written,
+    folder_of, input_slices_of, lost_rebuilt, recovery_slice_of, recovery_slices_of, set_of,
+    slices_written,
 };
 use std::process::Abort;
 

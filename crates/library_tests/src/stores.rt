@@ -6,8 +6,7 @@ use crate::calls::{
     folder_of, lists, name, names_of, put_journal, read, read_journal, remove, rename, replace,
     write,
 };
-use par2_disk::{FolderStore, ReadFault, StoreFault};
-use par2_stores::{FuseStore, MemoryStore};
+use par2_folder::{FolderStore, FuseStore, MemoryStore, ReadFault, StoreFault};
 use std::process::Abort;
 
 // Whether call k of eight has an answer, on a store with the file `a` and the journal `j` and after the calls before.

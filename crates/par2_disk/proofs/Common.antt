@@ -1,8 +1,9 @@
 -- The names that proofs of this crate take from elsewhere.
 
-pub use Rattle.std.proofs.Common.{IfErr, List, OnErr, OnOk, Result, Some, [], ap, arith, drop, get_or, length, nat_lt, refl, subst, take, vec_len, ℕ, ◌++◌, ◌+◌, ◌<◌, ◌∙◌, ◌∷◌, ◌≡◌, ◌≤◌}
+pub use Rattle.std.proofs.Common.{IfErr, List, OnErr, OnOk, Result, Some, [], ap, arith, drop, get_or, length, nat_lt, refl, subst, sym, take, vec_len, ℕ, ◌++◌, ◌+◌, ◌<◌, ◌∙◌, ◌∷◌, ◌≡◌, ◌≤◌}
 pub use Rattle.std.proofs.raw_atomic.Walks.{proved}
 pub use Rattle.std.specs.FinMap.{entries}
+pub use Rattle.std.specs.Int.Bits.{bit_and}
 pub use Rattle.par2_disk.specs.Filling.{IsTried}
 pub use Rattle.par2_disk.specs.Stores.{OnlyReads}
 pub use Rattle.par2_spec.specs.Changes.{FolderState, Write, state_after}

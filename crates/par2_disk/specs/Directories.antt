@@ -1,5 +1,5 @@
 -- A directory as a store on a disk sees it: what stands at the places where the store looks.
-use Rattle.std.specs.Prelude.{◌≡◌, ◌⊎◌, ℕ, List, Option, None, Some, Vec, Result, MatchResult, IfErr, IfOk, IfSome, IsErr, IsSome, IsTrue, OnErr, OnOk, codes}
+use Rattle.std.specs.Prelude.{◌≡◌, ◌⊎◌, ℕ, List, Ok, Option, None, Some, Vec, Result, MatchResult, IfErr, IfOk, IfSome, IsErr, IsSome, IsTrue, OnErr, OnOk, codes}
 use Rattle.std.specs.FinMap as map_of
 use Rattle.std.specs.Fs.{metadata_len, file_type, IsFile}
 use Rattle.std.specs.declared.alloc.Global.{Global}
@@ -12,6 +12,8 @@ use Rattle.par2_disk.specs.declared.directory.Place.{Place}
 use Rattle.par2_disk.specs.declared.directory.Place.TheVariants as place
 use Rattle.par2_disk.specs.declared.directory.Found.{Found}
 use Rattle.par2_disk.specs.declared.directory.Found.TheVariants as found
+use Rattle.par2_disk.specs.declared.directory.Found.TheVariants.{Nothing}
+use Rattle.par2_disk.specs.declared.stamp.Stamp.{Stamp}
 use Rattle.par2_disk.specs.declared.store.ReadFault.{ReadFault}
 use Rattle.par2_disk.specs.declared.store.ReadFault.TheVariants.{Store}
 use Rattle.par2_disk.specs.declared.store.StoreFault.{StoreFault}
@@ -48,7 +50,32 @@ IsFoundBy IsMissing answer (found.File size) =
     MatchResult answer (λ metadata. IsFile (file_type metadata) × (size ≡ metadata_len metadata)) (λ _. ⊥)
 IsFoundBy IsMissing answer found.Other = MatchResult answer (λ metadata. IsFile (file_type metadata) → ⊥) (λ _. ⊥)
 
--- ---- reading
+-- ---- holding, and reading
+
+abbrev pub IsFree : {D : Type 0} → DiskOf D → D → Place → Type 0
+IsFree disk it at = disk.barred it (path_of at) → ⊥
+
+-- nothing comes into the way
+abbrev pub NoMoreBarred : {D : Type 0} → DiskOf D → D → D → Type 0
+NoMoreBarred disk old new = (path : List ℕ) → disk.barred new path → disk.barred old path
+
+-- a call that changes nothing but the count of failures, and that the run may hold the directory from now on
+pub record Stays {D : Type 0} (disk : DiskOf D) (old new : D) : Type 0 where
+  pub honest : disk.honest old → disk.honest new
+  pub alone : disk.alone old → disk.alone new
+  pub contents : disk.honest old → disk.contents new ≡ disk.contents old
+  pub stamp : disk.honest old → disk.stamp new ≡ disk.stamp old
+  pub temporary : disk.honest old → disk.temporary new ≡ disk.temporary old
+  pub remains : disk.honest old → NoMoreRemains (disk.may_remain old) (disk.may_remain new)
+  pub barred : disk.honest old → NoMoreBarred disk old new
+  pub fails : (fault : ReadFault) → disk.may_fail new fault → disk.may_fail old fault
+
+-- what stands at the journal's place is looked at
+pub record LooksAtJournal {D : Type 0} (disk : DiskOf D) (old new : D) (result : Result (Option Stamp) StoreFault) : Type 0 where
+  pub stays : Stays disk old new
+  pub stamp : IfOk result (λ stamp. disk.stamp new ≡ stamp)
+  pub fault : IsErr result → disk.may_fail old Store
+  pub unfailed : disk.failures new ≡ disk.failures old
 
 -- the names of the files are listed
 pub record ListsNames {D : Type 0} (disk : DiskOf D) (it : D) (result : Result (Vec (List ℕ) Global) ReadFault) : Type 0 where
@@ -58,25 +85,23 @@ pub record ListsNames {D : Type 0} (disk : DiskOf D) (it : D) (result : Result (
 -- it is found what stands at a place
 pub record Finds {D : Type 0} (disk : DiskOf D) (it : D) (at : Place) (result : Result Found StoreFault) : Type 0 where
   pub found : disk.honest it → IfOk result (StandsAs (bytes_at (disk.contents it) (disk.temporary it) at) (disk.barred it (path_of at)))
+  pub stamp : disk.honest it → at ≡ place.Journal → result ≡ Ok Nothing → disk.stamp it ≡ None
   pub fault : IsErr result → disk.may_fail it Store
 
--- the bytes of the file at a place are read
-pub record ReadsAt {D : Type 0} (disk : DiskOf D) (it : D) (at : Place) (result : Result (Vec ℕ Global) ReadFault) : Type 0 where
-  pub bytes : disk.honest it → IfOk result (λ bytes. bytes_at (disk.contents it) (disk.temporary it) at ≡ Some bytes.items)
-  pub fault : disk.honest it → IsSome (bytes_at (disk.contents it) (disk.temporary it) at) → IfErr result (disk.may_fail it)
+-- the bytes of the file at a place are read, and which file it was
+pub record ReadsAt {D : Type 0} (disk : DiskOf D) (old new : D) (at : Place) (result : Result (Vec ℕ Global × Stamp) ReadFault) : Type 0 where
+  pub stays : Stays disk old new
+  pub bytes : disk.honest old → IfOk result (λ read. bytes_at (disk.contents old) (disk.temporary old) at ≡ Some read.0.items)
+  pub stamp : disk.honest old → at ≡ place.Journal → IfOk result (λ read. disk.stamp old ≡ Some read.1)
+  pub fault : disk.honest old → IsSome (bytes_at (disk.contents old) (disk.temporary old) at) → IfErr result (disk.may_fail old)
+  pub unfailed : disk.failures new ≡ disk.failures old
 
 -- ---- the temporary file
-
-abbrev pub IsFree : {D : Type 0} → DiskOf D → D → Place → Type 0
-IsFree disk it at = disk.barred it (path_of at) → ⊥
-
--- nothing comes into the way
-abbrev pub NoMoreBarred : {D : Type 0} → DiskOf D → D → D → Type 0
-NoMoreBarred disk old new = (path : List ℕ) → disk.barred new path → disk.barred old path
 
 -- its bytes are written: a power cut may cut them off
 pub record WritesTemporary {D : Type 0} (disk : DiskOf D) (old new : D) (bytes : List ℕ) (result : Result (Unit {0}) StoreFault) : Type 0 where
   pub honest : disk.honest old → disk.honest new
+  pub alone : disk.alone old → disk.alone new
   pub done : disk.honest old → IsFree disk old place.Temporary → OnOk result (disk.temporary new ≡ Some bytes)
   pub same : disk.honest old → IsFree disk old place.Temporary → disk.contents new ≡ disk.contents old
   pub barred : disk.honest old → NoMoreBarred disk old new
@@ -86,6 +111,7 @@ pub record WritesTemporary {D : Type 0} (disk : DiskOf D) (old new : D) (bytes :
 -- it is waited for them: they are kept from then on
 pub record KeepsTemporary {D : Type 0} (disk : DiskOf D) (old new : D) (result : Result (Unit {0}) StoreFault) : Type 0 where
   pub honest : disk.honest old → disk.honest new
+  pub alone : disk.alone old → disk.alone new
   pub contents : disk.honest old → disk.contents new ≡ disk.contents old
   pub temporary : disk.honest old → disk.temporary new ≡ disk.temporary old
   pub barred : disk.honest old → NoMoreBarred disk old new
@@ -97,6 +123,7 @@ pub record KeepsTemporary {D : Type 0} (disk : DiskOf D) (old new : D) (result :
 -- a change of names, where it can be made: what it makes of the contents, and what a power cut may leave of them
 pub record Moves {D : Type 0} (disk : DiskOf D) (old new : D) (Can : Type 0) (IsMade MayBeLeft : Contents → Contents → Type 0) (result : Result (Unit {0}) StoreFault) : Type 0 where
   pub honest : disk.honest old → disk.honest new
+  pub alone : disk.alone old → disk.alone new
   pub done : disk.honest old → Can → OnOk result (IsMade (disk.contents old) (disk.contents new))
   pub all_or_none : disk.honest old → Can → OnErr result ((disk.contents new ≡ disk.contents old) ⊎ IsMade (disk.contents old) (disk.contents new))
   pub remains : disk.honest old → Can → MayBeMade MayBeLeft (disk.may_remain old) (disk.may_remain new)
@@ -130,6 +157,7 @@ RemovesFile disk old new name result = MovesFile disk old new (IsTrue (is_applic
 -- it is waited for the names: they are kept from then on
 pub record KeepsNames {D : Type 0} (disk : DiskOf D) (old new : D) (result : Result (Unit {0}) StoreFault) : Type 0 where
   pub honest : disk.honest old → disk.honest new
+  pub alone : disk.alone old → disk.alone new
   pub contents : disk.honest old → disk.contents new ≡ disk.contents old
   pub remains : disk.honest old → NoMoreRemains (disk.may_remain old) (disk.may_remain new)
   pub lasts : disk.honest old → OnOk result (Lasts (disk.may_remain new) (disk.contents new))

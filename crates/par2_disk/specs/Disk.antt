@@ -1,15 +1,16 @@
 -- A store over a directory, how often it has failed, how often it was asked for what can't be done, and how many writing
 -- calls were made of it.
-use Rattle.std.specs.Prelude.{◌≡◌, ◌⊎◌, ◌<◌, ◌≤◌, ℕ, Bool, List, None, Ok, Option, Some, Vec, Result, IfErr, IfOk, IsErr, IsErrOf, IsFalse, IsTrue, OnErr, OnOk, option_map}
+use Rattle.std.specs.Prelude.{◌≡◌, ◌⊎◌, ◌<◌, ◌≤◌, ◌||◌, ℕ, Bool, List, None, Ok, Option, Some, Vec, Result, IfErr, IfOk, IfSome, IsErr, IsErrOf, IsFalse, IsSome, IsTrue, OnErr, OnOk, is_ok, option_map}
 use Rattle.std.specs.declared.alloc.Global.{Global}
 use Rattle.par2_spec.specs.Changes.{Change, Write, Replace, Rename, Remove, is_applicable}
 use Rattle.par2_spec.specs.Folders.{has}
 use Rattle.par2_disk.specs.Cuts.{AreKept, NoMoreRemains}
-use Rattle.par2_disk.specs.Directories.{IsFree, NoMoreBarred, path_of, put_at}
+use Rattle.par2_disk.specs.Directories.{IsFree, NoMoreBarred, Stays, path_of, put_at}
 use Rattle.par2_disk.specs.Stores.{Writes}
 use Rattle.par2_disk.specs.declared.directory.Place.{Place}
 use Rattle.par2_disk.specs.declared.directory.Place.TheVariants as place
 use Rattle.par2_disk.specs.declared.disk.DiskStore.{DiskStore}
+use Rattle.par2_disk.specs.declared.stamp.Stamp.{Stamp}
 use Rattle.par2_disk.specs.declared.store.ReadFault.{ReadFault}
 use Rattle.par2_disk.specs.declared.store.ReadFault.TheVariants.{Store}
 use Rattle.par2_disk.specs.declared.store.StoreFault.{StoreFault}
@@ -25,6 +26,14 @@ disk_failures store = store.failures.count
 
 abbrev pub disk_impossible : {D : Type 0} → DiskStore D → ℕ
 disk_impossible store = store.impossible.count
+
+-- what stood at the journal's place when it was read, if it was
+abbrev pub seen_of : {D : Type 0} → DiskStore D → Option (Option Stamp)
+seen_of store = store.seen
+
+-- whether it was found again there, once the directory was held alone
+abbrev pub is_entered : {D : Type 0} → DiskStore D → Bool
+is_entered store = store.is_entered
 
 abbrev pub disk_writing_calls : {D : Type 0} → DiskStore D → ℕ
 disk_writing_calls store = store.writing_calls.count
@@ -51,20 +60,29 @@ pub record CountsNoFailure {D : Type 0} (old new : DiskStore D) : Type 0 where
   pub failures : disk_failures new ≡ disk_failures old
   pub writing_calls : disk_writing_calls new ≡ disk_writing_calls old
 
+-- what was seen of the journal stays
+pub record HasSeenAsMuch {D : Type 0} (old new : DiskStore D) : Type 0 where
+  pub seen : seen_of new ≡ seen_of old
+  pub entered : is_entered new ≡ is_entered old
+
 -- the directory stays as it is, too
 pub record OnlyLooks {D : Type 0} (old new : DiskStore D) : Type 0 where
   pub directory : directory_of new ≡ directory_of old
+  pub journal : HasSeenAsMuch old new
   pub failures : disk_failures new ≡ disk_failures old
   pub writing_calls : disk_writing_calls new ≡ disk_writing_calls old
 
 -- ---- looking
 
--- the journal, if there is one. What is no file can't be read
-pub record FindsJournal {D : Type 0} (disk : DiskOf D) (it : D) (result : Result (Option (Vec ℕ Global)) ReadFault) : Type 0 where
-  pub bytes : disk.honest it → IfOk result (λ found. option_map (λ (bytes : Vec ℕ Global). bytes.items) found ≡ (disk.contents it).journal)
-  pub barred : disk.honest it → disk.barred it (path_of place.Journal) → IsErrOf result Store
-  pub absent : disk.honest it → (disk.contents it).journal ≡ None → (result ≡ Ok None) ⊎ IsErrOf result Store
-  pub reason : disk.honest it → IsFree disk it place.Journal → IfErr result (disk.may_fail it)
+-- the journal, if there is one, and which file it was. What is no file can't be read
+pub record FindsJournal {D : Type 0} (disk : DiskOf D) (old new : D) (result : Result (Option (Vec ℕ Global × Stamp)) ReadFault) : Type 0 where
+  pub stays : Stays disk old new
+  pub bytes : disk.honest old → IfOk result (λ found. option_map (λ (read : Vec ℕ Global × Stamp). read.0.items) found ≡ (disk.contents old).journal)
+  pub stamp : disk.honest old → IfOk result (λ found. option_map (λ (read : Vec ℕ Global × Stamp). read.1) found ≡ disk.stamp old)
+  pub barred : disk.honest old → disk.barred old (path_of place.Journal) → IsErrOf result Store
+  pub absent : disk.honest old → (disk.contents old).journal ≡ None → (result ≡ Ok None) ⊎ IsErrOf result Store
+  pub reason : disk.honest old → IsFree disk old place.Journal → IfErr result (disk.may_fail old)
+  pub unfailed : disk.failures new ≡ disk.failures old
 
 -- the file that has the name. Where none has it, what was asked for can't be done
 pub record FindsFile {D T : Type 0} (disk : DiskOf D) (old new : DiskStore D) (name : List ℕ) (result : Result T StoreFault) : Type 0 where
@@ -88,16 +106,20 @@ pub record TellsFree {D : Type 0} (disk : DiskOf D) (it : D) (at : Place) (answe
 
 -- ---- reasons
 
--- why a reading call fails, where nothing but the directory can be the reason
-abbrev pub FailsToRead : {D T : Type 0} → DiskOf D → D → Type 0 → Result T ReadFault → Type 0
-FailsToRead disk it Can result = disk.honest it → Can → IfErr result (disk.may_fail it)
+-- why a reading call fails: the directory may fail so, or it could not be held, which is counted as a failure
+abbrev pub HasFailedToRead : {D : Type 0} → DiskOf D → D → D → ReadFault → Type 0
+HasFailedToRead disk old new fault = disk.may_fail old fault ⊎ ((fault ≡ Store) × (disk.failures old < disk.failures new))
+
+-- why one fails where nothing but the directory can be the reason
+abbrev pub FailsToRead : {D T : Type 0} → DiskOf D → D → D → Type 0 → Result T ReadFault → Type 0
+FailsToRead disk old new Can result = disk.honest old → Can → IfErr result (HasFailedToRead disk old new)
 
 -- a file that is there
-abbrev pub FailsToReadFile : {D T : Type 0} → DiskOf D → D → List ℕ → Result T ReadFault → Type 0
-FailsToReadFile disk it name result = FailsToRead disk it (IsTrue (has (disk.contents it).files name)) result
+abbrev pub FailsToReadFile : {D T : Type 0} → DiskOf D → D → D → List ℕ → Result T ReadFault → Type 0
+FailsToReadFile disk old new name result = FailsToRead disk old new (IsTrue (has (disk.contents old).files name)) result
 
-abbrev pub FailsToReadJournal : {D T : Type 0} → DiskOf D → D → Result T ReadFault → Type 0
-FailsToReadJournal disk it result = FailsToRead disk it (IsFree disk it place.Journal) result
+abbrev pub FailsToReadJournal : {D T : Type 0} → DiskOf D → D → D → Result T ReadFault → Type 0
+FailsToReadJournal disk old new result = FailsToRead disk old new (IsFree disk old place.Journal) result
 
 -- why a writing call fails, where nothing but the directory can be the reason; and the directory has failed only where
 -- the call fails
@@ -119,6 +141,7 @@ IsBlocked disk it (Replace name bytes) = ⊥
 IsBlocked disk it (Rename from to) = disk.barred it to
 IsBlocked disk it (Remove name) = ⊥
 
+-- where the directory is held
 abbrev pub FailsToMake : {D : Type 0} → DiskOf D → DiskStore D → DiskStore D → Change → Result (Unit {0}) StoreFault → Type 0
 FailsToMake disk old new change result =
     Blames disk (directory_of old) (directory_of new) (IsTrue (is_applicable (disk.contents (directory_of old)).files change) × IsClear disk (directory_of old) change) result
@@ -127,6 +150,48 @@ FailsToMake disk old new change result =
 abbrev pub FailsToPut : {D : Type 0} → DiskOf D → DiskStore D → DiskStore D → Place → Result (Unit {0}) StoreFault → Type 0
 FailsToPut disk old new at result =
     Blames disk (directory_of old) (directory_of new) (IsFree disk (directory_of old) at × IsFree disk (directory_of old) place.Temporary) result
+
+-- the journal is the one that was read, if one was, or this run has looked at it since it holds the directory alone
+abbrev pub IsAsRead : {D : Type 0} → DiskOf D → DiskStore D → Type 0
+IsAsRead disk store = IsTrue (is_entered store) ⊎ IfSome (seen_of store) (λ seen. disk.stamp (directory_of store) ≡ seen)
+
+abbrev pub FailsToHold : {D : Type 0} → DiskOf D → DiskStore D → DiskStore D → Result (Unit {0}) StoreFault → Type 0
+FailsToHold disk old new result = Blames disk (directory_of old) (directory_of new) (IsAsRead disk old) result
+
+-- where it may have to be held first
+abbrev pub FailsToHoldAndMake : {D : Type 0} → DiskOf D → DiskStore D → DiskStore D → Change → Result (Unit {0}) StoreFault → Type 0
+FailsToHoldAndMake disk old new change result =
+    Blames disk (directory_of old) (directory_of new) (IsAsRead disk old × IsTrue (is_applicable (disk.contents (directory_of old)).files change) × IsClear disk (directory_of old) change) result
+
+abbrev pub FailsToHoldAndPut : {D : Type 0} → DiskOf D → DiskStore D → DiskStore D → Place → Result (Unit {0}) StoreFault → Type 0
+FailsToHoldAndPut disk old new at result =
+    Blames disk (directory_of old) (directory_of new) (IsAsRead disk old × IsFree disk (directory_of old) at × IsFree disk (directory_of old) place.Temporary) result
+
+-- ---- holding
+
+-- what was read of the journal is what is looked for later
+pub record RemembersJournal {D T : Type 0} (disk : DiskOf D) (old new : DiskStore D) (result : Result T ReadFault) : Type 0 where
+  pub some : OnOk result (IsSome (seen_of new))
+  pub seen : disk.honest (directory_of old) → OnOk result (seen_of new ≡ Some (disk.stamp (directory_of new)))
+  pub entered : is_entered new ≡ is_entered old
+
+-- what stands at the journal's place is what was read, once no other run can change it
+pub record LooksAgain {D : Type 0} (disk : DiskOf D) (old new : DiskStore D) (seen : Option Stamp) (result : Result (Unit {0}) StoreFault) : Type 0 where
+  pub stays : Stays disk (directory_of old) (directory_of new)
+  pub same : OnOk result (disk.stamp (directory_of new) ≡ seen)
+  pub reason : disk.honest (directory_of old) → disk.stamp (directory_of old) ≡ seen → OnErr result (disk.may_fail (directory_of old) Store)
+  pub unfailed : disk.failures (directory_of new) ≡ disk.failures (directory_of old)
+  pub possible : disk_impossible new ≡ disk_impossible old
+
+-- the directory is held alone, and what stands at the journal's place is what was read: nothing else changes
+pub record Holds {D : Type 0} (disk : DiskOf D) (old new : DiskStore D) (result : Result (Unit {0}) StoreFault) : Type 0 where
+  pub stays : Stays disk (directory_of old) (directory_of new)
+  pub alone : OnOk result (disk.alone (directory_of new))
+  pub same : IsFalse (is_entered old) → IfSome (seen_of old) (λ seen. OnOk result (disk.stamp (directory_of new) ≡ seen))
+  pub entered : is_entered new ≡ (is_entered old || is_ok result)
+  pub seen : seen_of new ≡ seen_of old
+  pub blames : FailsToHold disk old new result
+  pub possible : disk_impossible new ≡ disk_impossible old
 
 -- ---- writing
 
@@ -139,6 +204,7 @@ Blocks disk old new change result =
 -- the temporary file is written, and its bytes are kept
 pub record MakesTemporary {D : Type 0} (disk : DiskOf D) (old new : DiskStore D) (bytes : List ℕ) (result : Result (Unit {0}) StoreFault) : Type 0 where
   pub honest : disk.honest (directory_of old) → disk.honest (directory_of new)
+  pub alone : disk.alone (directory_of old) → disk.alone (directory_of new)
   pub written : disk.honest (directory_of old) → OnOk result (disk.temporary (directory_of new) ≡ Some bytes)
   pub same : disk.honest (directory_of old) → disk.contents (directory_of new) ≡ disk.contents (directory_of old)
   pub barred : disk.honest (directory_of old) → NoMoreBarred disk (directory_of old) (directory_of new)

@@ -5,3 +5,5 @@ pub mod Disk
 pub mod Filling
 pub mod Reading
 pub mod Listings
+pub mod Looking
+pub mod Modes

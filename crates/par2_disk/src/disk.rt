@@ -1,36 +1,44 @@
 //! A store over a directory.
-ghost use Rattle.std.specs.Prelude.{◌≡◌, ◌+◌};
+ghost use Rattle.std.specs.Prelude.{◌≡◌, ◌+◌, IfErr, IsFalse};
 ghost use Rattle.par2_spec.specs.Changes.{Write, Replace, Rename, Remove};
-ghost use Rattle.par2_disk.specs.Disk.{directory_of, disk_failures, disk_impossible, disk_writing_calls, over, Blocks, CountsNoFailure, FailsToMake, FindsFile, FindsJournal, FindsNothing, MakesTemporary, OnlyLooks, TellsFree, WritesAt};
-ghost use Rattle.par2_disk.specs.Stores.{CountsFailures, CountsReadFailures, Makes};
+ghost use Rattle.par2_disk.specs.Disk.{directory_of, disk_failures, disk_impossible, disk_writing_calls, is_entered, over, Blocks, CountsNoFailure, FailsToMake, FailsToReadFile, FailsToReadJournal, FindsFile, FindsJournal, FindsNothing, HasFailedToRead, HasSeenAsMuch, Holds, LooksAgain, MakesTemporary, OnlyLooks, RemembersJournal, TellsFree, WritesAt};
+ghost use Rattle.par2_disk.specs.Stores.{CountsFailures, CountsReadFailures, Makes, OnlyReads, ReadsFile, ReadsJournal, ReadsNames};
 
 use crate::current::CurrentDirectory;
 use crate::directory::{Directory, Found, Place};
+use crate::stamp::Stamp;
 use crate::{Count, FolderStore, ReadFault, Store, StoreFault};
-use par2_folder::Name;
+use par2_files::Name;
 use std::alloc::Global;
-use std::fs::Files;
+use std::fs::{File, Files};
 
 /// The regular files of a directory, with the journal. Folders, links and devices are no files: they are not listed,
 /// and a call that meets one fails and leaves all as it is. It is honest where the directory is.
 #[derive(Drop)]
 pub struct DiskStore<D: Directory> {
     directory: D,
+    // What stood at the journal's place when it was read, if it was.
+    seen: Option<Option<Stamp>>,
+    // Whether that was found there again, once the directory was held alone.
+    is_entered: bool,
     failures: Count,
     // Those of calls that can't be done, as far as the store has seen it.
     impossible: Count,
     writing_calls: Count,
 }
 
-impl<'r, R: Files + AllocGlobal> DiskStore<CurrentDirectory<'r, R>> {
+impl<'r, R: Files<File = File> + AllocGlobal> DiskStore<CurrentDirectory<'r, R>> {
     /// The current directory, by a runtime that reaches it. It has not failed yet.
     pub fn new(rt: &'r R) -> DiskStore<CurrentDirectory<'r, R>>
         ensures failures { disk_failures result ≡ 0 }
         ensures impossible { disk_impossible result ≡ 0 }
         ensures writing_calls { disk_writing_calls result ≡ 0 }
+        ensures unentered { IsFalse (is_entered result) }
     {
         DiskStore {
             directory: CurrentDirectory::new(rt),
+            seen: None,
+            is_entered: false,
             failures: Count::new(),
             impossible: Count::new(),
             writing_calls: Count::new(),
@@ -38,10 +46,53 @@ impl<'r, R: Files + AllocGlobal> DiskStore<CurrentDirectory<'r, R>> {
     }
 }
 
+// What could not be held could not be read.
+impl From<StoreFault> for ReadFault {
+    ghost use Rattle.par2_disk.specs.declared.store.ReadFault.{ReadFault};
+
+    ghost from_gives = { λ _ fault. fault ≡ ReadFault.Store };
+
+    fn from(_fault: StoreFault) -> Self {
+        ReadFault::Store
+    }
+}
+
 impl<D: Directory> DiskStore<D> {
+    // Looks whether the journal is the one that was read. Where it isn't, another run has written the folder since.
+    fn look_again(&mut self, seen: Option<Stamp>) -> Result<(), StoreFault>
+        requires alone { D.alone (directory_of self.old) }
+        ensures looks { LooksAgain D.Disk self.old self.new seen result }
+        ensures counts { CountsNoFailure self.old self.new }
+        ensures journal { HasSeenAsMuch self.old self.new }
+    {
+        if self.directory.look_at_journal()? == seen {
+            Ok(())
+        } else {
+            Err(StoreFault)
+        }
+    }
+
+    // Holds the directory alone, before the first call that writes, with the journal as it was read.
+    fn hold(&mut self) -> Result<(), StoreFault>
+        ensures holds { Holds D.Disk self.old self.new result }
+        ensures counts { CountsNoFailure self.old self.new }
+    {
+        self.directory.hold_alone()?;
+        if !self.is_entered
+            && let Some(seen) = self.seen
+        {
+            self.look_again(seen)?;
+        }
+        self.is_entered = true;
+        Ok(())
+    }
+
     // The bytes of the journal, if there is one. What is no file can't be read.
-    fn find_journal(&self, alloc: Global) -> Result<Option<Vec<u8>>, ReadFault>
-        ensures { FindsJournal D.Disk (directory_of self.now) result }
+    fn find_journal(&mut self, alloc: Global) -> Result<Option<(Vec<u8>, Stamp)>, ReadFault>
+        ensures found { FindsJournal D.Disk (directory_of self.old) (directory_of self.new) result }
+        ensures counts { CountsNoFailure self.old self.new }
+        ensures journal { HasSeenAsMuch self.old self.new }
+        ensures possible { disk_impossible self.new ≡ disk_impossible self.old }
     {
         match self.directory.find(Place::Journal) {
             Ok(Found::Nothing) => Ok(None),
@@ -91,28 +142,30 @@ impl<D: Directory> DiskStore<D> {
         matches!(found, Ok(Found::Nothing | Found::File(_)))
     }
 
-    // Writes the temporary file, and waits until its bytes are kept.
-    fn make_temporary(&mut self, bytes: &[u8]) -> Result<(), StoreFault>
+    // Writes the temporary file, which is to get a place, and waits until its bytes are kept.
+    fn make_temporary(&mut self, place: Place<'_>, bytes: &[u8]) -> Result<(), StoreFault>
+        requires alone { D.alone (directory_of self.old) }
         ensures made { MakesTemporary D.Disk self.old self.new bytes.now result }
         ensures counts { CountsNoFailure self.old self.new }
     {
         if !self.is_free(Place::Temporary) {
             return Err(StoreFault);
         }
-        self.directory.write_temporary(bytes)?;
+        self.directory.write_temporary(place, bytes)?;
         self.directory.wait_for_temporary()
     }
 
     // Writes the file at a place, over the one that is there, by way of the temporary one. Its bytes are kept before it
     // gets the name, and the name is kept before the answer is Ok.
     fn write_at(&mut self, place: Place<'_>, bytes: &[u8]) -> Result<(), StoreFault>
+        requires alone { D.alone (directory_of self.old) }
         ensures written { WritesAt D.Disk self.old self.new place.entry bytes.now result }
         ensures counts { CountsNoFailure self.old self.new }
     {
         if !self.is_free(place) {
             return Err(StoreFault);
         }
-        self.make_temporary(bytes)?;
+        self.make_temporary(place, bytes)?;
         self.directory.put_temporary(place)?;
         self.directory.wait()
     }
@@ -120,13 +173,14 @@ impl<D: Directory> DiskStore<D> {
     // Writes a file of a name that nothing has. Whoever gives it to another file meanwhile keeps it.
     #[tactic(auto, unfolding(par2_spec::specs::Changes::is_applicable, par2_spec::specs::Changes::effect))]
     fn write_new(&mut self, name: &Name, bytes: &[u8]) -> Result<(), StoreFault>
+        requires alone { D.alone (directory_of self.old) }
         ensures made { Makes (over D.Disk) self.old self.new (Write name.now bytes.now) result }
         ensures blocked { Blocks D.Disk self.old self.new (Write name.now bytes.now) result }
         ensures reason { FailsToMake D.Disk self.old self.new (Write name.now bytes.now) result }
         ensures counts { CountsNoFailure self.old self.new }
     {
         self.find_nothing(name)?;
-        self.make_temporary(bytes)?;
+        self.make_temporary(Place::File(name), bytes)?;
         self.directory.name_temporary(Place::File(name))?;
         self.directory.wait()
     }
@@ -134,6 +188,7 @@ impl<D: Directory> DiskStore<D> {
     // Writes other bytes over those of a file.
     #[tactic(auto, unfolding(par2_spec::specs::Changes::is_applicable))]
     fn replace_file(&mut self, name: &Name, bytes: &[u8]) -> Result<(), StoreFault>
+        requires alone { D.alone (directory_of self.old) }
         ensures made { Makes (over D.Disk) self.old self.new (Replace name.now bytes.now) result }
         ensures blocked { Blocks D.Disk self.old self.new (Replace name.now bytes.now) result }
         ensures reason { FailsToMake D.Disk self.old self.new (Replace name.now bytes.now) result }
@@ -146,6 +201,7 @@ impl<D: Directory> DiskStore<D> {
     // Gives a file a name that nothing has.
     #[tactic(auto, unfolding(par2_spec::specs::Changes::is_applicable))]
     fn rename_file(&mut self, from: &Name, to: &Name) -> Result<(), StoreFault>
+        requires alone { D.alone (directory_of self.old) }
         ensures made { Makes (over D.Disk) self.old self.new (Rename from.now to.now) result }
         ensures blocked { Blocks D.Disk self.old self.new (Rename from.now to.now) result }
         ensures reason { FailsToMake D.Disk self.old self.new (Rename from.now to.now) result }
@@ -160,6 +216,7 @@ impl<D: Directory> DiskStore<D> {
     // Removes a file.
     #[tactic(auto, unfolding(par2_spec::specs::Changes::is_applicable))]
     fn remove_file(&mut self, name: &Name) -> Result<(), StoreFault>
+        requires alone { D.alone (directory_of self.old) }
         ensures made { Makes (over D.Disk) self.old self.new (Remove name.now) result }
         ensures blocked { Blocks D.Disk self.old self.new (Remove name.now) result }
         ensures reason { FailsToMake D.Disk self.old self.new (Remove name.now) result }
@@ -170,10 +227,61 @@ impl<D: Directory> DiskStore<D> {
         self.directory.wait()
     }
 
+    // Holds the directory beside others, and lists its files.
+    fn list_files(&mut self, alloc: Global) -> Result<Vec<Name>, ReadFault>
+        ensures names { ReadsNames (over D.Disk) self.old self.new result }
+        ensures reads { OnlyReads (over D.Disk) self.old self.new }
+        ensures counts { CountsNoFailure self.old self.new }
+        ensures journal { HasSeenAsMuch self.old self.new }
+        ensures reason { IfErr result
+            (HasFailedToRead D.Disk (directory_of self.old) (directory_of self.new)) }
+    {
+        self.directory.share()?;
+        self.directory.names(alloc)
+    }
+
+    // Holds the directory beside others, and reads a file.
+    fn read_file(&mut self, alloc: Global, name: &Name) -> Result<Vec<u8>, ReadFault>
+        ensures file { ReadsFile (over D.Disk) self.old self.new name.now result }
+        ensures reads { OnlyReads (over D.Disk) self.old self.new }
+        ensures counts { CountsNoFailure self.old self.new }
+        ensures journal { HasSeenAsMuch self.old self.new }
+        ensures reason { FailsToReadFile D.Disk (directory_of self.old) (directory_of self.new)
+            name.now result }
+    {
+        self.directory.share()?;
+        let size = self.find_file(name)?;
+        let (bytes, _stamp) = self.directory.read(alloc, Place::File(name), size)?;
+        Ok(bytes)
+    }
+
+    // Holds the directory beside others, reads the journal if there is one, and remembers which it was.
+    fn take_journal(&mut self, alloc: Global) -> Result<Option<Vec<u8>>, ReadFault>
+        ensures bytes { ReadsJournal (over D.Disk) self.old self.new result }
+        ensures reads { OnlyReads (over D.Disk) self.old self.new }
+        ensures counts { CountsNoFailure self.old self.new }
+        ensures journal { RemembersJournal D.Disk self.old self.new result }
+        ensures reason { FailsToReadJournal D.Disk (directory_of self.old) (directory_of self.new)
+            result }
+    {
+        self.directory.share()?;
+        match self.find_journal(alloc)? {
+            None => {
+                self.seen = Some(None);
+                Ok(None)
+            }
+            Some((bytes, stamp)) => {
+                self.seen = Some(Some(stamp));
+                Ok(Some(bytes))
+            }
+        }
+    }
+
     // Counts a failure where that is the answer of a reading call.
     fn counted_read<T>(&mut self, answer: Result<T, ReadFault>) -> Result<T, ReadFault>
         ensures answer { result ≡ answer }
         ensures directory { directory_of self.new ≡ directory_of self.old }
+        ensures journal { HasSeenAsMuch self.old self.new }
         ensures failures { CountsReadFailures disk_failures self.old self.new result }
         ensures possible { disk_impossible self.new ≡ disk_impossible self.old }
         ensures unwritten { disk_writing_calls self.new ≡ disk_writing_calls self.old }
@@ -188,6 +296,7 @@ impl<D: Directory> DiskStore<D> {
     fn counted_write(&mut self, answer: Result<(), StoreFault>) -> Result<(), StoreFault>
         ensures answer { result ≡ answer }
         ensures directory { directory_of self.new ≡ directory_of self.old }
+        ensures journal { HasSeenAsMuch self.old self.new }
         ensures failures { CountsFailures disk_failures self.old self.new result }
         ensures possible { disk_impossible self.new ≡ disk_impossible self.old }
         ensures counted { disk_writing_calls self.new ≡ disk_writing_calls self.old + 1 }
@@ -219,16 +328,18 @@ impl<D: Directory> Store for DiskStore<D> {
 impl<D: Directory> FolderStore for DiskStore<D> {
     ghost use Rattle.std.specs.Prelude.{◌≡◌, ◌+◌, IfErr};
     ghost use Rattle.par2_spec.specs.Changes.{Write, Replace, Rename, Remove};
-    ghost use Rattle.par2_disk.specs.Disk.{directory_of, disk_failures, disk_writing_calls, over, FailsToMake, FailsToPut, FailsToReadFile, FailsToReadJournal};
+    ghost use Rattle.par2_disk.specs.Disk.{directory_of, disk_failures, disk_writing_calls, over, FailsToHoldAndMake, FailsToHoldAndPut, FailsToReadFile, FailsToReadJournal, HasFailedToRead, HasSeenAsMuch, RemembersJournal};
     ghost use Rattle.par2_disk.specs.Stores.{CountsFailures, CountsReadFailures, Makes, OnlyReads, PutsJournal, ReadsFile, ReadsJournal, ReadsNames};
 
     fn names(&mut self, alloc: Global) -> Result<Vec<Name>, ReadFault>
         ensures names { ReadsNames (over D.Disk) self.old self.new result }
         ensures reads { OnlyReads (over D.Disk) self.old self.new }
         ensures failures { CountsReadFailures disk_failures self.old self.new result }
-        ensures reason { IfErr result (D.may_fail (directory_of self.old)) }
+        ensures journal { HasSeenAsMuch self.old self.new }
+        ensures reason { IfErr result
+            (HasFailedToRead D.Disk (directory_of self.old) (directory_of self.new)) }
     {
-        let answer = self.directory.names(alloc);
+        let answer = self.list_files(alloc);
         self.counted_read(answer)
     }
 
@@ -236,22 +347,23 @@ impl<D: Directory> FolderStore for DiskStore<D> {
         ensures file { ReadsFile (over D.Disk) self.old self.new name.now result }
         ensures reads { OnlyReads (over D.Disk) self.old self.new }
         ensures failures { CountsReadFailures disk_failures self.old self.new result }
-        ensures reason { FailsToReadFile D.Disk (directory_of self.old) name.now result }
+        ensures journal { HasSeenAsMuch self.old self.new }
+        ensures reason { FailsToReadFile D.Disk (directory_of self.old) (directory_of self.new)
+            name.now result }
     {
-        let answer = match self.find_file(name) {
-            Ok(size) => self.directory.read(alloc, Place::File(name), size),
-            Err(StoreFault) => Err(ReadFault::Store),
-        };
+        let answer = self.read_file(alloc, name);
         self.counted_read(answer)
     }
 
     fn read_journal(&mut self, alloc: Global) -> Result<Option<Vec<u8>>, ReadFault>
-        ensures journal { ReadsJournal (over D.Disk) self.old self.new result }
+        ensures bytes { ReadsJournal (over D.Disk) self.old self.new result }
         ensures reads { OnlyReads (over D.Disk) self.old self.new }
         ensures failures { CountsReadFailures disk_failures self.old self.new result }
-        ensures reason { FailsToReadJournal D.Disk (directory_of self.old) result }
+        ensures journal { RemembersJournal D.Disk self.old self.new result }
+        ensures reason { FailsToReadJournal D.Disk (directory_of self.old) (directory_of self.new)
+            result }
     {
-        let answer = self.find_journal(alloc);
+        let answer = self.take_journal(alloc);
         self.counted_read(answer)
     }
 
@@ -259,9 +371,12 @@ impl<D: Directory> FolderStore for DiskStore<D> {
         ensures made { Makes (over D.Disk) self.old self.new (Write name.now bytes.now) result }
         ensures failures { CountsFailures disk_failures self.old self.new result }
         ensures counted { disk_writing_calls self.new ≡ disk_writing_calls self.old + 1 }
-        ensures reason { FailsToMake D.Disk self.old self.new (Write name.now bytes.now) result }
+        ensures reason { FailsToHoldAndMake D.Disk self.old self.new (Write name.now bytes.now) result }
     {
-        let answer = self.write_new(name, bytes);
+        let answer = match self.hold() {
+            Ok(()) => self.write_new(name, bytes),
+            Err(fault) => Err(fault),
+        };
         self.counted_write(answer)
     }
 
@@ -269,9 +384,12 @@ impl<D: Directory> FolderStore for DiskStore<D> {
         ensures made { Makes (over D.Disk) self.old self.new (Replace name.now bytes.now) result }
         ensures failures { CountsFailures disk_failures self.old self.new result }
         ensures counted { disk_writing_calls self.new ≡ disk_writing_calls self.old + 1 }
-        ensures reason { FailsToMake D.Disk self.old self.new (Replace name.now bytes.now) result }
+        ensures reason { FailsToHoldAndMake D.Disk self.old self.new (Replace name.now bytes.now) result }
     {
-        let answer = self.replace_file(name, bytes);
+        let answer = match self.hold() {
+            Ok(()) => self.replace_file(name, bytes),
+            Err(fault) => Err(fault),
+        };
         self.counted_write(answer)
     }
 
@@ -279,9 +397,12 @@ impl<D: Directory> FolderStore for DiskStore<D> {
         ensures made { Makes (over D.Disk) self.old self.new (Rename from.now to.now) result }
         ensures failures { CountsFailures disk_failures self.old self.new result }
         ensures counted { disk_writing_calls self.new ≡ disk_writing_calls self.old + 1 }
-        ensures reason { FailsToMake D.Disk self.old self.new (Rename from.now to.now) result }
+        ensures reason { FailsToHoldAndMake D.Disk self.old self.new (Rename from.now to.now) result }
     {
-        let answer = self.rename_file(from, to);
+        let answer = match self.hold() {
+            Ok(()) => self.rename_file(from, to),
+            Err(fault) => Err(fault),
+        };
         self.counted_write(answer)
     }
 
@@ -289,9 +410,12 @@ impl<D: Directory> FolderStore for DiskStore<D> {
         ensures made { Makes (over D.Disk) self.old self.new (Remove name.now) result }
         ensures failures { CountsFailures disk_failures self.old self.new result }
         ensures counted { disk_writing_calls self.new ≡ disk_writing_calls self.old + 1 }
-        ensures reason { FailsToMake D.Disk self.old self.new (Remove name.now) result }
+        ensures reason { FailsToHoldAndMake D.Disk self.old self.new (Remove name.now) result }
     {
-        let answer = self.remove_file(name);
+        let answer = match self.hold() {
+            Ok(()) => self.remove_file(name),
+            Err(fault) => Err(fault),
+        };
         self.counted_write(answer)
     }
 
@@ -299,9 +423,12 @@ impl<D: Directory> FolderStore for DiskStore<D> {
         ensures put { PutsJournal (over D.Disk) self.old self.new bytes.now result }
         ensures failures { CountsFailures disk_failures self.old self.new result }
         ensures counted { disk_writing_calls self.new ≡ disk_writing_calls self.old + 1 }
-        ensures reason { FailsToPut D.Disk self.old self.new Place.Journal result }
+        ensures reason { FailsToHoldAndPut D.Disk self.old self.new Place.Journal result }
     {
-        let answer = self.write_at(Place::Journal, bytes);
+        let answer = match self.hold() {
+            Ok(()) => self.write_at(Place::Journal, bytes),
+            Err(fault) => Err(fault),
+        };
         self.counted_write(answer)
     }
 }

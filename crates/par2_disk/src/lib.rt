@@ -6,7 +6,9 @@ mod current;
 mod directory;
 mod disk;
 mod listing;
+mod modes;
 mod reading;
+mod stamp;
 mod store;
 mod view;
 

@@ -11,7 +11,7 @@ ghost use Rattle.par2_disk.specs.Listings.{Adds, AreNamesOf, CountsAs, FailsAtIt
 ghost use Rattle.par2_disk.specs.Reading.{IsToldAs};
 
 use crate::ReadFault;
-use par2_folder::{BadName, Name, is_reserved};
+use par2_files::{BadName, Name, is_reserved};
 use std::alloc::Global;
 use std::fs::{DirEntry, FileType, Files};
 use std::io::{self, Error, ErrorKind};

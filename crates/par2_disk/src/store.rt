@@ -5,7 +5,7 @@ ghost use Rattle.par2_disk.specs.Filling.{HasFilesOf};
 ghost use Rattle.par2_disk.specs.Stores.{CountsFailures, CountsReadFailures, Makes, OnlyReads, PutsJournal, ReadsFile, ReadsJournal, ReadsNames};
 
 use crate::Store;
-use par2_folder::{Change, Folder, Name};
+use par2_files::{Change, Folder, Name};
 use std::alloc::Global;
 use thiserror::Error;
 
@@ -23,10 +23,10 @@ pub enum ReadFault {
 #[error("the folder could not be written")]
 pub struct StoreFault;
 
-/// A flat folder of files, and a journal beside it. What is said of its contents holds where it is honest: nobody
-/// else writes it, and what is read is what was written. A writing call that fails has done its whole work or none.
-/// So it is with a power cut: after a writing call that answers Ok it leaves what the call made. After one that fails,
-/// or in the middle of one, it leaves what was there before it or what the call makes.
+/// A flat folder of files, and a journal beside it. What is said of its contents holds where it is honest: nobody but
+/// runs of this program writes it, and what is read is what was written. A writing call that fails has done its whole
+/// work or none. So it is with a power cut: after a writing call that answers Ok it leaves what the call made. After one
+/// that fails, or in the middle of one, it leaves what was there before it or what the call makes.
 pub trait FolderStore: Store {
     /// The names of the files, in order.
     fn names(&mut self, alloc: Global) -> Result<Vec<Name>, ReadFault>

@@ -1,6 +1,7 @@
 //! What contracts alone see: of stores, of the directories that they go by, and how often something has happened.
 ghost use Rattle.std.specs.Prelude.{ℕ, List, Option, ◌≡◌, ◌+◌};
 ghost use Rattle.par2_spec.specs.Stores.{Contents};
+ghost use Rattle.par2_disk.specs.declared.stamp.Stamp.{Stamp};
 ghost use Rattle.par2_disk.specs.declared.store.ReadFault.{ReadFault};
 ghost use Rattle.std.specs.Borrow.{ftrue};
 
@@ -8,7 +9,7 @@ use std::marker::Model;
 
 /// What contracts see of a store. It takes nothing when it runs.
 pub trait Store {
-    /// Whether nobody else writes, and what is read is what was written.
+    /// Whether nobody but runs of this program writes, and what is read is what was written.
     ghost honest: { Self → Type 0 };
 
     /// The files and the journal.
@@ -30,8 +31,14 @@ pub trait Store {
 
 /// What contracts see of a directory. It takes nothing when it runs.
 pub trait Disk {
-    /// Whether nobody else writes, and what is read is what was written.
+    /// Whether nobody but runs of this program writes, and what is read is what was written.
     ghost honest: { Self → Type 0 };
+
+    /// Whether the run holds it alone, so that no other run writes.
+    ghost alone: { Self → Type 0 };
+
+    /// What stands at the journal's place, as far as it was looked at.
+    ghost stamp: { Self → Option Stamp };
 
     /// The files with names, and the journal.
     ghost contents: { Self → Contents };
@@ -51,7 +58,7 @@ pub trait Disk {
     /// With what a call that reads may fail now.
     ghost may_fail: { Self → ReadFault → Type 0 };
 
-    /// How often a call that writes or waits has failed.
+    /// How often a call that holds it, writes or waits has failed.
     ghost failures: { Self → ℕ };
 }
 

@@ -1,16 +1,7 @@
-//! A flat folder in memory, changes that turn into their inverses, and the fingerprints of folders along changes.
+//! Names, a flat folder in memory and its changes, and the stores that keep a folder: in memory, in a directory on
+//! disk, and one that fails after some calls. What it shows is made in `par2_files`, `par2_disk` and `par2_stores`.
 #![tactic(auto)]
 
-mod change;
-mod folder;
-mod landmarks;
-mod name;
-mod snapshot;
-mod walk;
-
-pub use change::{Bytes, Change, Changes, copies_of};
-pub use folder::Folder;
-pub use landmarks::{Landmarks, Marked, Survey, mark_folder, survey_folder};
-pub use name::{BadName, Name, is_reserved};
-pub use par2_spec::ChangeFault;
-pub use walk::{Digests, fingerprints};
+pub use par2_disk::{Count, DiskStore, FolderStore, ReadFault, Store, StoreFault, read_folder};
+pub use par2_files::{BadName, Bytes, Change, ChangeFault, Changes, Folder, Name, copies_of};
+pub use par2_stores::{FuseStore, MemoryStore};

@@ -11,19 +11,19 @@ pub use Rattle.std.specs.List.{insert}
 pub use Rattle.std.specs.Prelude.{IfErr, IfOk, IfSome, IsErr, IsErrAnd, IsFalse, MatchResult, OnOk, String, if◌then◌else◌, is_ok, option_map, position, reverse, slice_get, sum_by, unwrap_or, ◌↔◌, ◌⊎◌}
 pub use Rattle.std.specs.Str.{bytes_eq}
 pub use Rattle.std.specs.declared.alloc.Global.{Global}
-pub use Rattle.par2_folder.specs.Views.{change_of}
+pub use Rattle.par2_files.specs.Views.{change_of}
 pub use Rattle.par2_journal.specs.Ahead.{IsAhead, next_changes}
 pub use Rattle.par2_journal.specs.Along.{AreAlong, ArePrintsAlong, Prints, prints_of}
 pub use Rattle.par2_journal.specs.Opening.{AnswersOpening, AnswersWhere, IsToldWhere, OpensAsIs, go_through, session_after_way, session_at}
-pub use Rattle.par2_journal.specs.Ready.{CanBe, Changing, Fits, IsKindOf, IsReady, Kind, Ready, Redoing, Undoing, after_commit, changes_by_kind, next_of}
+pub use Rattle.par2_journal.specs.Ready.{CanBe, Changing, Fits, HasPrintsOf, IsKindOf, IsReady, Kind, Ready, Redoing, Undoing, after_commit, changes_by_kind, next_of}
 pub use Rattle.par2_journal.specs.Sessions.{kept_session}
 pub use Rattle.par2_journal.specs.Spelling.{Add, AreSpelled, HasNext, Replace, SpellsAction, SpellsReady, SpellsTurn, SpellsWhere, Turn, entries_with, halfway_with, settled_with, turn_of}
 pub use Rattle.par2_journal.specs.Walks.{AreNamesOf, IsSet, WentForth, names_in}
 pub use Rattle.par2_journal.specs.declared.ahead.Next.{Next}
 pub use Rattle.par2_journal.specs.declared.spelling.Fingerprints.{Fingerprints}
-pub use Rattle.par2_journal_bytes.specs.Views.{changes_in, halfway_of, journal_from, journal_of}
-pub use Rattle.par2_plan.specs.Drafts.{HasItsMd5s, IsDraft}
-pub use Rattle.par2_plan.specs.declared.draft.Draft.{Draft}
+pub use Rattle.par2_journal_format.specs.Views.{changes_in, halfway_of, journal_from, journal_of}
+pub use Rattle.par2_repair.specs.Drafts.{HasItsMd5s, IsDraft}
+pub use Rattle.par2_repair.specs.declared.draft.Draft.{Draft}
 pub use Rattle.par2_spec.proofs.FolderLaws.{changes_back, gone, more_room_all, state_all_back, state_files, takes_applicable, takes_none, way_back_taken, written}
 pub use Rattle.par2_spec.proofs.SessionLaws.{accepted_next, done_can_walk, done_of_kept, grown_can_walk, leading_walks, next_taken, ok_no_err, redone_can_walk, redone_of_kept, refused_alike, run_leaves, same_ok, same_session, undone_can_walk, undone_of_kept, walked_is_valid}
 pub use Rattle.par2_spec.specs.Changes.{Change, FolderState, Remove, Rename, Write, inverse, is_applicable, places_taken, state_after, state_after_all}

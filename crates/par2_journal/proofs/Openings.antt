@@ -3,12 +3,12 @@ use Rattle.par2_journal.proofs.Common.{◌≡◌, inl, inr, ℕ, ◌+◌, ◌-�
 use Rattle.par2_spec.specs.Opening as defined
 use Rattle.par2_spec.specs.declared.JournalFault.{JournalFault}
 use Rattle.par2_spec.specs.declared.JournalFault.TheVariants.{JournalInvalid, FolderChanged, Memory}
-use Rattle.par2_journal_bytes.specs.Reading.{IsSealed}
+use Rattle.par2_journal_format.specs.Reading.{IsSealed}
 use Rattle.par2_journal.specs.declared.opening.Opened.{Opened}
 use Rattle.par2_spec.proofs.StopLaws.{through_applies}
 use Rattle.std.proofs.lemmas.Slice.Eq.{bytes_eq-Decides}
 use Rattle.md5.specs.Md5.{md5}
-use Rattle.par2_journal_bytes.proofs.Whole.{spells_sealed}
+use Rattle.par2_journal_format.proofs.Whole.{spells_sealed}
 
 -- changes that apply lead through these fingerprints where they leave them
 through_is : (f : Folder) (cs : List Change) (ps : List (List ℕ)) → length ps ≡ length cs → are_applicable f cs ≡ true → leads_through f cs ps ≡ pointwise bytes_eq (map fingerprint (folders_after f cs)) ps

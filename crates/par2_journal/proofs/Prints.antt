@@ -1,7 +1,7 @@
 -- The fingerprints before changes and after each.
 use Rattle.par2_journal.proofs.Common.{◌≡◌, ℕ, List, [], ◌∷◌, length, map, Option, Some, None, Vec, refl, sym, ap, subst, ◌∙◌, Bor, IfSome, option_map, slice_get, unwrap_or, Global, Folder, fingerprint, Change, effect, effects, folders_after, KeptSession, OnlyGrew, IsAhead, next_changes, AreAlong, ArePrintsAlong, Prints, prints_of, Fingerprints, next_of, Next}
 use Rattle.std.specs.Option.{option_copied}
-use Rattle.par2_folder.specs.Landmarks.{AreLandmarksOf}
+use Rattle.par2_files.specs.Landmarks.{AreLandmarksOf}
 use Rattle.par2_journal.specs.declared.ahead.Ahead.{Ahead}
 use Rattle.par2_journal.specs.declared.ahead.Ahead.TheVariants as ahead
 use Rattle.par2_journal.specs.declared.ahead.Next.TheVariants.{Undo, Redo}
@@ -36,10 +36,10 @@ ahead_still (Some (ahead.Fingerprints next prints)) old new grew h = by_next nex
 
 -- ---- those of a command that was made ready
 
--- by reference they are along the same changes on the same folder
-pub known_here : (o : Option (Bor Fingerprints)) (known : Option Fingerprints) (told : Option Prints) (f g : Folder) (cs ds : List Change) → option_copied o ≡ known → option_map prints_of known ≡ told → IfSome told (λ prints. ArePrintsAlong prints g ds)
-    → f ≡ g → cs ≡ ds → IfSome o (λ prints. AreAlong f cs prints.now)
-known_here None known told f g cs ds copied are along folder changes = tt
-known_here (Some prints) known told f g cs ds copied are along folder changes =
+-- by reference they are those of its view
+pub known_here : (o : Option (Bor Fingerprints)) (known : Option Fingerprints) (told : Option Prints) (f : Folder) (cs : List Change) → option_copied o ≡ known → option_map prints_of known ≡ told
+    → IfSome told (λ prints. ArePrintsAlong prints f cs) → IfSome o (λ prints. AreAlong f cs prints.now)
+known_here None known told f cs copied are along = tt
+known_here (Some prints) known told f cs copied are along =
     let is : Some (prints_of prints.now) ≡ told = ap (option_map prints_of) copied ∙ are in
-    subst (λ (p : Folder × List Change). AreAlong p.0 p.1 prints.now) (λ i. (sym folder i, sym changes i)) (subst (λ (q : Option Prints). IfSome q (λ ps. ArePrintsAlong ps g ds)) (sym is) along)
+    subst (λ (q : Option Prints). IfSome q (λ ps. ArePrintsAlong ps f cs)) (sym is) along

@@ -118,18 +118,18 @@ pub ahead_taken : (next : Next) (s : KeptSession) → CanWalk s → takes_all s.
 ahead_taken ahead.Undo s h = next_entry s.folder s.undos h.back
 ahead_taken ahead.Redo s h = next_entry s.folder s.redos h.forth
 
-fit_spelled : {E : Type 0} (r : Result Journals E) (xs entries : List (List Change)) (n : ℕ) → n ≤ length xs → (folder : FolderState) (room : ℕ) (turn : Turn) (ready : Ready) (cs : List Change)
-    → turn ≡ turn_of ready.kind n → entries ≡ xs → cs ≡ changes_by_kind ready.kind (at folder xs n room) → CanBe ready.kind (at folder xs n room)
-    → IfOk r (SpellsTurn turn folder n entries cs) → IfOk r (SpellsReady ready.kind (at folder xs n room))
-fit_spelled (Err e) xs entries n within folder room turn ready cs te ee ce can spells = tt
-fit_spelled (Ok j) xs entries n within folder room turn ready cs te ee ce can spells = (
-  halfway_at xs n within folder room j.halfway (changes_by_kind ready.kind (at folder xs n room)) (way_back folder.files (changes_by_kind ready.kind (at folder xs n room))) refl
+fit_spelled : {E : Type 0} (r : Result Journals E) (xs entries : List (List Change)) (n : ℕ) → n ≤ length xs → (folder : FolderState) (room : ℕ) (turn : Turn) (kind : Kind) (cs : List Change)
+    → turn ≡ turn_of kind n → entries ≡ xs → cs ≡ changes_by_kind kind (at folder xs n room) → CanBe kind (at folder xs n room)
+    → IfOk r (SpellsTurn turn folder n entries cs) → IfOk r (SpellsReady kind (at folder xs n room))
+fit_spelled (Err e) xs entries n within folder room turn kind cs te ee ce can spells = tt
+fit_spelled (Ok j) xs entries n within folder room turn kind cs te ee ce can spells = (
+  halfway_at xs n within folder room j.halfway (changes_by_kind kind (at folder xs n room)) (way_back folder.files (changes_by_kind kind (at folder xs n room))) refl
       (subst (λ d. SpellsWhere j.halfway (halfway_with (settled_with (fingerprint folder.files) (xs, n)) (map fingerprint (folders_after folder.files d)) (way_back folder.files d))) ce
       (subst (λ es. SpellsWhere j.halfway (halfway_with (settled_with (fingerprint folder.files) (es, n)) (map fingerprint (folders_after folder.files cs)) (way_back folder.files cs))) ee spells.halfway)),
   subst (λ (t : Journal). Spells j.after.items t)
       (ap (λ f. settled_with (fingerprint f) (entries_with turn n entries (way_back folder.files cs))) (sym (state_files folder cs))
       ∙ (λ i. settled_with (fingerprint (state_after_all folder (ce i)).files) (entries_with (te i) n (ee i) (way_back folder.files (ce i))))
-      ∙ after_at xs n folder room ready.kind (has_next xs n folder room ready.kind within can))
+      ∙ after_at xs n folder room kind (has_next xs n folder room kind within can))
       spells.after,
 )
 
@@ -138,19 +138,19 @@ pub spelled_for : {E : Type 0} (r : Result Journals E) (s : KeptSession) (ready 
 spelled_for (Err e) s ready h = tt
 spelled_for (Ok j) s ready h = λ action before grew is. both_spelled j action s ready before grew is h.0 h.1
 
--- of a session by its fields, for which something is ready
-module _ (xs : List (List Change)) (n : ℕ) (within : n ≤ length xs) (folder : FolderState) (room : ℕ) (s : KeptSession) (same : at folder xs n room ≡ s) (ready : Ready) (can : CanBe ready.kind s) where
-  pub ready_applies : CanWalk (at folder xs n room) → (cs : List Change) → cs ≡ changes_by_kind ready.kind s → takes_all folder cs ≡ true
+-- of a session by its fields, for which something of this kind is ready
+module _ (xs : List (List Change)) (n : ℕ) (within : n ≤ length xs) (folder : FolderState) (room : ℕ) (s : KeptSession) (same : at folder xs n room ≡ s) (kind : Kind) (can : CanBe kind s) where
+  pub ready_applies : CanWalk (at folder xs n room) → (cs : List Change) → cs ≡ changes_by_kind kind s → takes_all folder cs ≡ true
   ready_applies walks cs are =
-      ap (takes_all folder) are ∙ ap (λ (t : KeptSession). takes_all t.folder (changes_by_kind ready.kind s)) same ∙ kind_taken ready.kind s (subst CanWalk same walks) can
+      ap (takes_all folder) are ∙ ap (λ (t : KeptSession). takes_all t.folder (changes_by_kind kind s)) same ∙ kind_taken kind s (subst CanWalk same walks) can
 
-  can_here : CanBe ready.kind (at folder xs n room)
-  can_here = subst (CanBe ready.kind) (sym same) can
+  can_here : CanBe kind (at folder xs n room)
+  can_here = subst (CanBe kind) (sym same) can
 
-  pub next_here : (kind : Kind) → ready.kind ≡ kind → HasNext kind n (length xs)
-  next_here kind is = subst (λ k. HasNext k n (length xs)) is (has_next xs n folder room ready.kind within can_here)
+  pub next_here : (k : Kind) → kind ≡ k → HasNext k n (length xs)
+  next_here k is = subst (λ x. HasNext x n (length xs)) is (has_next xs n folder room kind within can_here)
 
-  pub undo_entry : ready.kind ≡ Undoing → (entries : List (List Change)) → entries ≡ xs → get_or entries (n - 1) [] ≡ changes_by_kind ready.kind s
+  pub undo_entry : kind ≡ Undoing → (entries : List (List Change)) → entries ≡ xs → get_or entries (n - 1) [] ≡ changes_by_kind kind s
   undo_entry is entries lent =
       let next = next_here Undoing is in
       let i = n - 1 in
@@ -159,16 +159,20 @@ module _ (xs : List (List Change)) (n : ℕ) (within : n ≤ length xs) (folder 
       ap (λ l. get_or l i []) lent ∙ sym (next_undo_is xs i lt (get_or xs i []) (get_or_default xs i [] (get_or xs i []) lt) n one)
       ∙ ap (λ (t : KeptSession). next_of t.undos) same ∙ ap (λ k. changes_by_kind k s) (sym is)
 
-  pub redo_entry : ready.kind ≡ Redoing → (entries : List (List Change)) → entries ≡ xs → get_or entries n [] ≡ changes_by_kind ready.kind s
+  pub redo_entry : kind ≡ Redoing → (entries : List (List Change)) → entries ≡ xs → get_or entries n [] ≡ changes_by_kind kind s
   redo_entry is entries lent =
       let lt = next_here Redoing is in
       ap (λ l. get_or l n []) lent ∙ sym (next_redo_is xs n lt (get_or xs n []) (get_or_default xs n [] (get_or xs n []) lt))
       ∙ ap (λ (t : KeptSession). next_of t.redos) same ∙ ap (λ k. changes_by_kind k s) (sym is)
 
-  module _ (turn : Turn) (does : turn ≡ turn_of ready.kind n) (entries : List (List Change)) (lent : entries ≡ xs) where
-    pub ready_spelled : {E : Type 0} (r q : Result Journals E) → q ≡ r → (cs : List Change) → cs ≡ changes_by_kind ready.kind s → IfOk r (SpellsTurn turn folder n entries cs)
-        → IfOk q (SpellsReady ready.kind s)
+  module _ (turn : Turn) (does : turn ≡ turn_of kind n) (entries : List (List Change)) (lent : entries ≡ xs) where
+    pub ready_spelled : {E : Type 0} (r q : Result Journals E) → q ≡ r → (cs : List Change) → cs ≡ changes_by_kind kind s → IfOk r (SpellsTurn turn folder n entries cs)
+        → IfOk q (SpellsReady kind s)
     ready_spelled r q is cs are spells =
-        let told = λ (o : Result Journals _) (t : KeptSession). IfOk o (SpellsReady ready.kind t) in
+        let told = λ (o : Result Journals _) (t : KeptSession). IfOk o (SpellsReady kind t) in
         subst (λ o. told o s) (sym is)
-        (subst (told r) same (fit_spelled r xs entries n within folder room turn ready cs does lent (are ∙ ap (changes_by_kind ready.kind) (sym same)) can_here spells))
+        (subst (told r) same (fit_spelled r xs entries n within folder room turn kind cs does lent (are ∙ ap (changes_by_kind kind) (sym same)) can_here spells))
+
+-- what is ready, with another kind
+abbrev pub with_kind : Ready → Kind → Ready
+with_kind r kind = record { kind = kind; steps = r.steps; known = r.known }

@@ -1,6 +1,6 @@
 -- The way back of changes that a kept folder takes.
 use Rattle.par2_journal.proofs.Common.{◌≡◌, ℕ, ◌<◌, true, get_or, set, List, [], ◌∷◌, length, refl, sym, ap, ◌∙◌, length-append, arith, get_or_default, get_or-set_same, set-set, set-get_or, Folder, Change, FolderState, effect, effects, inverse, state_after, takes_all, state_after_all, way_back, state_files, state_all_back, way_back_taken, changes_back, changes_in, WentForth}
-use Rattle.par2_folder.specs.declared.change.Change as given
+use Rattle.par2_files.specs.declared.change.Change as given
 
 pub back_length : (s : FolderState) (cs : List Change) → length (way_back s.files cs) ≡ length cs
 unfolding way_back

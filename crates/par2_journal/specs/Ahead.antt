@@ -2,8 +2,8 @@
 use Rattle.std.specs.Prelude.{◌≡◌, List, Option, Some, None}
 use Rattle.par2_spec.specs.Changes.{Change}
 use Rattle.par2_spec.specs.Sessions.{KeptSession}
-use Rattle.par2_folder.specs.Landmarks.{AreLandmarksOf}
-use Rattle.par2_folder.specs.declared.landmarks.Landmarks.{Landmarks}
+use Rattle.par2_files.specs.Landmarks.{AreLandmarksOf}
+use Rattle.par2_files.specs.declared.landmarks.Landmarks.{Landmarks}
 use Rattle.par2_journal.specs.Along.{AreAlong}
 use Rattle.par2_journal.specs.Ready.{next_of}
 use Rattle.par2_journal.specs.declared.ahead.Ahead.{Ahead}

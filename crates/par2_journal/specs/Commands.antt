@@ -11,9 +11,9 @@ use Rattle.par2_spec.specs.Sessions.{KeptSession, OnlyGrew, session_of_kept, ses
 use Rattle.par2_spec.specs.Texts.{Step, step_of}
 use Rattle.par2_spec.specs.declared.Fault.{Fault}
 use Rattle.par2_spec.specs.declared.Fault.TheVariants.{Memory}
-use Rattle.par2_plan.specs.Repairing.{WritesAsDescribed}
-use Rattle.par2_plan.specs.Views.{report_of}
-use Rattle.par2_plan.specs.declared.report.Report.{Report}
+use Rattle.par2_repair.specs.Repairing.{WritesAsDescribed}
+use Rattle.par2_repair.specs.Views.{report_of}
+use Rattle.par2_repair.specs.declared.report.Report.{Report}
 use Rattle.par2_journal.specs.Ready.{Ready, IsReady}
 use Rattle.par2_journal.specs.Refusals.{MayFail, MayRefuse}
 use Rattle.par2_journal.specs.declared.preparation.SessionFault.{SessionFault}

@@ -9,9 +9,9 @@ use Rattle.par2_spec.specs.Opening as defined
 use Rattle.par2_spec.specs.Opening.{is_valid, leads_through}
 use Rattle.par2_spec.specs.declared.JournalFault.{JournalFault}
 use Rattle.par2_spec.specs.declared.JournalFault.TheVariants.{FolderChanged, JournalInvalid, Memory}
-use Rattle.par2_journal_bytes.specs.Reading.{IsSealed}
-use Rattle.par2_journal_bytes.specs.Views.{changes_in}
-use Rattle.par2_folder.specs.declared.change.Change as given
+use Rattle.par2_journal_format.specs.Reading.{IsSealed}
+use Rattle.par2_journal_format.specs.Views.{changes_in}
+use Rattle.par2_files.specs.declared.change.Change as given
 use Rattle.par2_journal.specs.declared.opening.Opened.{Opened}
 use Rattle.par2_journal.specs.declared.opening.Opened.TheVariants as opening
 use Rattle.par2_journal.specs.declared.taking_back.Halfway.{Halfway}

@@ -45,7 +45,10 @@ CanBe Redoing s = s.redos ≢ []
 pub record Fits (ready : Ready) (s : KeptSession) : Type 0 where
   pub can : CanBe ready.kind s
   pub steps : ready.steps ≡ map step_of (changes_by_kind ready.kind s)
-  pub known : IfSome ready.known (λ prints. ArePrintsAlong prints s.folder.files (changes_by_kind ready.kind s))
+
+-- the fingerprints that it has, if any, are those along its changes to the session's folder
+abbrev pub HasPrintsOf : KeptSession → Ready → Type 0
+HasPrintsOf s ready = IfSome ready.known (λ prints. ArePrintsAlong prints s.folder.files (changes_by_kind ready.kind s))
 
 -- the session afterwards
 abbrev pub after_commit : Kind → KeptSession → KeptSession
@@ -71,10 +74,11 @@ IsKindOf Undo Undoing = Unit {0}
 IsKindOf Redo Redoing = Unit {0}
 IsKindOf action kind = ⊥
 
--- what an action makes ready: it can be committed, it applies the changes that are asked for, and the session
--- afterwards is the one after the action
+-- what an action makes ready: it can be committed, it has the fingerprints of the folder, it applies the changes that
+-- are asked for, and the session afterwards is the one after the action
 pub record IsReady (action : Action) (old : KeptSession) (ready : Ready) (new : KeptSession) : Type 0 where
   pub fits : Fits ready new
+  pub prints : HasPrintsOf new ready
   pub kind : IsKindOf action ready.kind
   pub asked : changes_asked (session_of_kept old) action ≡ Ok (changes_by_kind ready.kind old)
   pub leads : session_after (session_of_kept old) action ≡ Ok (session_of_kept (after_commit ready.kind new))

@@ -8,7 +8,7 @@ use Rattle.par2_spec.specs.Journals.{Journal, Spells}
 use Rattle.par2_spec.specs.Opening.{JournalPair, journals_of}
 use Rattle.par2_spec.specs.Sessions.{KeptSession, OnlyGrew, session_of_kept}
 use Rattle.par2_spec.specs.declared.Version.TheVariants.{Two}
-use Rattle.par2_journal_bytes.specs.Fronts.{Begins, with_halfway}
+use Rattle.par2_journal_format.specs.Fronts.{Begins, with_halfway}
 use Rattle.par2_journal.specs.Ready.{Kind, Changing, Undoing, Redoing, Ready, IsReady, changes_by_kind, journals_for}
 use Rattle.par2_journal.specs.declared.spelling.Journals.{Journals}
 

@@ -7,8 +7,8 @@ use Rattle.std.specs.Ordering.{nat_cmp}
 use Rattle.par2_spec.specs.Folders.{Folder, has}
 use Rattle.par2_spec.specs.Changes.{Change, FolderState, effects, state_after_all, takes_all}
 use Rattle.par2_spec.specs.Sessions.{walks}
-use Rattle.par2_folder.specs.declared.change.Change as given
-use Rattle.par2_journal_bytes.specs.Views.{changes_in}
+use Rattle.par2_files.specs.declared.change.Change as given
+use Rattle.par2_journal_format.specs.Views.{changes_in}
 use Rattle.par2_journal.specs.declared.opening.Names.{Names}
 
 -- whether there is a file of the name, as changes of the folder leave it

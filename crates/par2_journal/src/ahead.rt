@@ -1,11 +1,11 @@
 //! What an opening finds of the fingerprints that the next action's journals name.
 ghost use Rattle.std.specs.Prelude.{◌≡◌, is_some, IfSome, IsTrue, Some};
-ghost use Rattle.par2_folder.specs.declared.landmarks.Landmarks.{Landmarks as Marks};
+ghost use Rattle.par2_files.specs.declared.landmarks.Landmarks.{Landmarks as Marks};
 ghost use Rattle.par2_journal.specs.declared.spelling.Fingerprints.{Fingerprints as Prints};
 ghost use Rattle.par2_journal.specs.Ahead.{AreFor, AreIn};
 
 use crate::spelling::Fingerprints;
-use par2_folder::Landmarks;
+use par2_files::Landmarks;
 
 /// What will be asked of a session next: to take the newest command back, or to do again what was taken back last.
 #[derive(Clone, Copy, PartialEq, Eq)]

@@ -2,9 +2,9 @@
 //! committed, or is carried out at once; runs of actions are made of these.
 use crate::preparation::Task;
 use crate::{Changes, CreateArgs, Prepared, Session, SessionFault, Steps};
-use par2_creation::plan_create;
-use par2_folder::Landmarks;
-use par2_plan::{Fault, Report, check, draft_repair, plan_purge};
+use par2_create::plan_create;
+use par2_files::Landmarks;
+use par2_repair::{Fault, Report, check, draft_repair, plan_purge};
 use par2_spec::{Action, Result};
 
 impl Session {
@@ -18,7 +18,7 @@ impl Session {
     ghost use Rattle.par2_spec.specs.Views.{action_of, create_args_of};
     ghost use Rattle.par2_journal.specs.Commands.{IsAfter, LeadsFrom, MakesReady, MayBePassed, Performs, Prepares, Verifies, WritesFiles, kept_history, repair_of};
     ghost use Rattle.par2_journal.specs.Refusals.{MayRefuse};
-    ghost use Rattle.par2_journal.specs.Ready.{CanBe, Changing, Fits, IsReady};
+    ghost use Rattle.par2_journal.specs.Ready.{CanBe, Changing, Fits, HasPrintsOf, IsReady};
 
     // The steps of a command with these changes, and room for it.
     fn make_way(&mut self, changes: &Changes) -> Result<Steps>
@@ -38,11 +38,12 @@ impl Session {
         ensures kept { OnlyGrew self.old self.new }
         ensures kind { IfOk result (λ prepared. prepared.kind ≡ Changing changes) }
         ensures fits { IfOk result (λ prepared. Fits prepared self.new) }
+        ensures prints { IfOk result (HasPrintsOf self.new) }
         ensures refused { IfErr result (λ fault. fault ≡ Fault.Memory) }
     {
         let steps = self.make_way(&changes)?;
-        let task = Task::Change(changes, None);
-        Ok(Prepared { task, steps })
+        let (task, known) = (Task::Change(changes), None);
+        Ok(Prepared { task, steps, known })
     }
 
     // The landmark that is computed side by side with the MD5s of the inputs is kept for the create's journals.
@@ -70,8 +71,8 @@ impl Session {
         let steps = self.make_way(&draft.changes)?;
         let (fingerprints, md5s) = self.digests_along(&draft)?;
         let changes = draft.tested(&md5s)?;
-        let task = Task::Change(changes, Some(fingerprints));
-        Ok(Prepared { task, steps })
+        let (task, known) = (Task::Change(changes), Some(fingerprints));
+        Ok(Prepared { task, steps, known })
     }
 
     pub(crate) fn prepare_purge(&mut self, base: &str) -> Result<Prepared, Fault>
@@ -90,8 +91,8 @@ impl Session {
             return Err(SessionFault::NothingToUndo);
         }
         let steps = Steps::of(self.allocator(), self.next_undo())?;
-        let task = Task::Undo;
-        Ok(Prepared { task, steps })
+        let (task, known) = (Task::Undo, None);
+        Ok(Prepared { task, steps, known })
     }
 
     fn prepare_redo(&self) -> Result<Prepared, SessionFault>
@@ -103,8 +104,8 @@ impl Session {
             return Err(SessionFault::NothingToRedo);
         }
         let steps = Steps::of(self.allocator(), self.next_redo())?;
-        let task = Task::Redo;
-        Ok(Prepared { task, steps })
+        let (task, known) = (Task::Redo, None);
+        Ok(Prepared { task, steps, known })
     }
 
     /// Makes ready what committing an action will need, memory included. Names, bytes and history stay as they are.

@@ -4,16 +4,16 @@ ghost use Rattle.md5.specs.Md5.{md5};
 ghost use Rattle.par2_spec.specs.Changes.{are_applicable, places_taken};
 ghost use Rattle.par2_spec.specs.Opening.{Opens, is_valid, leads, opened_by_part};
 ghost use Rattle.par2_spec.specs.declared.JournalFault.TheVariants.{JournalInvalid, FolderChanged, Memory};
-ghost use Rattle.par2_journal_bytes.specs.Reading.{IsSealed};
-ghost use Rattle.par2_journal_bytes.specs.Views.{changes_in, journal_of};
+ghost use Rattle.par2_journal_format.specs.Reading.{IsSealed};
+ghost use Rattle.par2_journal_format.specs.Views.{changes_in, journal_of};
 ghost use Rattle.par2_journal.specs.Opening.{AnswersOpening, AnswersTest, AnswersWhere, IsToldWhere, OpensAsIs, are_valid, has_print, session_at};
 ghost use Rattle.par2_journal.specs.Walks.{EntriesWalk};
 
 use crate::taking_back::{Halfway, open_halfway};
 use crate::{Changes, Next, Session};
 use md5::{Digest, Md5};
-use par2_folder::{Change, Folder, Name};
-use par2_journal_bytes::{DecodeFault, Journal, decode, decode_untested, is_sealed};
+use par2_files::{Change, Folder, Name};
+use par2_journal_format::{DecodeFault, Journal, decode, decode_untested, is_sealed};
 use par2_spec::{JournalFault, Result};
 use std::alloc::{AllocError, Global};
 use std::collections::BTreeMap;
@@ -32,8 +32,8 @@ impl<'a> Names<'a> {
     ghost use Rattle.std.specs.Prelude.{◌≡◌, OnOk, IfOk};
     ghost use Rattle.par2_spec.specs.Changes.{are_applicable, effect, effects, is_applicable};
     ghost use Rattle.par2_spec.specs.Folders.{Folder as Files};
-    ghost use Rattle.par2_folder.specs.Views.{change_of};
-    ghost use Rattle.par2_journal_bytes.specs.Views.{changes_in};
+    ghost use Rattle.par2_files.specs.Views.{change_of};
+    ghost use Rattle.par2_journal_format.specs.Views.{changes_in};
     ghost use Rattle.par2_journal.specs.Walks.{AreNamesOf, IsSet, IsTried, names_in};
 
     // The names before any change.

@@ -1,7 +1,7 @@
 //! What a session has made ready, and the steps that are reported of it.
 use crate::spelling::Fingerprints;
-use par2_folder::{Change, Name};
-use par2_plan::{Changes, Fault};
+use par2_files::{Change, Name};
+use par2_repair::{Changes, Fault};
 use par2_spec::Result;
 use std::alloc::{AllocError, Global};
 use std::marker::Model;
@@ -39,7 +39,7 @@ impl Model for Steps {
 impl Step {
     ghost use Rattle.std.specs.Prelude.{◌≡◌};
     ghost use Rattle.par2_spec.specs.Texts.{step_of};
-    ghost use Rattle.par2_folder.specs.Views.{change_of};
+    ghost use Rattle.par2_files.specs.Views.{change_of};
     ghost use Rattle.par2_journal.specs.Steps.{step_view};
 
     // The step of a change.
@@ -58,7 +58,7 @@ impl Step {
 impl Steps {
     ghost use Rattle.std.specs.Prelude.{◌≡◌, map, length, IfOk};
     ghost use Rattle.par2_spec.specs.Texts.{step_of};
-    ghost use Rattle.par2_folder.specs.Views.{change_of};
+    ghost use Rattle.par2_files.specs.Views.{change_of};
     ghost use Rattle.par2_journal.specs.Steps.{step_view};
 
     /// The steps of these changes.
@@ -121,8 +121,7 @@ impl From<AllocError> for SessionFault {
 // What committing does.
 #[derive(Drop)]
 pub enum Task {
-    // Changes, and the fingerprints along them, where they are known.
-    Change(Changes, Option<Fingerprints>),
+    Change(Changes),
     Undo,
     Redo,
 }
@@ -132,6 +131,8 @@ pub enum Task {
 pub struct Prepared {
     pub(crate) task: Task,
     pub(crate) steps: Steps,
+    // The fingerprints along its changes, where they are known.
+    pub(crate) known: Option<Fingerprints>,
 }
 
 impl Model for Prepared {

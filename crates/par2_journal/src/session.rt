@@ -3,9 +3,9 @@ use crate::ahead::{Ahead, fingerprints_for, landmarks_in};
 use crate::preparation::Task;
 use crate::spelling::{Fingerprints, settled, spell_command, spell_entry};
 use crate::{Changes, Journals, Next, Prepared, Steps};
-use par2_folder::{Change, Folder, Landmarks, survey_folder};
-use par2_journal_bytes::encode;
-use par2_plan::Draft;
+use par2_files::{Change, Folder, Landmarks, survey_folder};
+use par2_journal_format::encode;
+use par2_repair::Draft;
 use par2_spec::Result;
 use std::alloc::Global;
 use std::marker::Model;
@@ -55,19 +55,20 @@ impl Model for Session {
 }
 
 impl Session {
-    ghost use Rattle.std.specs.Prelude.{◌≡◌, ◌↔◌, ◌<◌, ◌≤◌, ◌≢◌, [], map, length, IsErr, IfOk, OnOk, OnErr, IsTrue};
+    ghost use Rattle.std.specs.Prelude.{◌≡◌, ◌↔◌, ◌<◌, ◌≤◌, ◌≢◌, [], map, length, IsErr, IfOk, IfSome, OnOk, OnErr, IsTrue};
     ghost use Rattle.md5.specs.Md5.{md5};
     ghost use Rattle.par2_spec.specs.Changes.{takes_all};
     ghost use Rattle.par2_spec.specs.Folders.{fingerprint};
     ghost use Rattle.par2_spec.specs.Sessions.{CanWalk, OnlyGrew, session_of_kept, kept_done, kept_undone, kept_redone};
     ghost use Rattle.par2_spec.specs.Journals.{Spells};
-    ghost use Rattle.par2_folder.specs.Landmarks.{AreLandmarksOf};
-    ghost use Rattle.par2_folder.specs.Views.{change_of};
-    ghost use Rattle.par2_plan.specs.Written.{texts_written};
+    ghost use Rattle.par2_files.specs.Landmarks.{AreLandmarksOf};
+    ghost use Rattle.par2_files.specs.Views.{change_of};
+    ghost use Rattle.par2_repair.specs.Written.{texts_written};
     ghost use Rattle.par2_journal.specs.Ahead.{next_changes};
     ghost use Rattle.par2_journal.specs.Along.{AreAlong};
+    ghost use Rattle.par2_journal.specs.Kinds.{kind_of};
     ghost use Rattle.par2_journal.specs.Opening.{session_at};
-    ghost use Rattle.par2_journal.specs.Ready.{Fits, changes_by_kind, after_commit, kept_journal, next_of};
+    ghost use Rattle.par2_journal.specs.Ready.{CanBe, Fits, HasPrintsOf, changes_by_kind, after_commit, kept_journal, next_of};
     ghost use Rattle.par2_journal.specs.Spelling.{SpellsAction, SpellsReady};
     ghost use Rattle.par2_journal.specs.Walks.{EntriesWalk};
 
@@ -304,28 +305,28 @@ impl Session {
         ensures { map change_of result.now ≡ changes_by_kind prepared.now.kind self.now }
     {
         match &prepared.task {
-            Task::Change(changes, _) => changes.as_slice(),
+            Task::Change(changes) => changes.as_slice(),
             Task::Undo => self.next_undo(),
             Task::Redo => self.next_redo(),
         }
     }
 
-    /// The journals of what was prepared for an action. The folder makes the changes and is turned back, also where
-    /// memory runs out. Of the changes no bytes are copied but into the journals. Fingerprints that stand ready for an
-    /// undo or redo are used once.
-    pub fn journals(&mut self, prepared: &mut Prepared) -> Result<Journals>
-        requires { Fits prepared.old self.old }
+    // The journals of a task, with the fingerprints along its changes, where they are known. The folder makes the
+    // changes and is turned back, also where memory runs out. Of the changes no bytes are copied but into the journals.
+    // Fingerprints that stand ready for an undo or redo are used once.
+    fn spell(&mut self, task: &mut Task, known: Option<&Fingerprints>) -> Result<Journals>
+        requires can { CanBe (kind_of task.old) self.old }
+        requires known { let changes = changes_by_kind (kind_of task.old) self.old in
+            IfSome known (λ prints. AreAlong self.old.folder.files changes prints.now) }
         ensures unchanged { self.new ≡ self.old }
-        ensures prepared { prepared.new ≡ prepared.old }
-        ensures spelled { IfOk result (SpellsReady prepared.old.kind self.old) }
-        ensures journals { IfOk result (SpellsAction prepared.old self.old) }
+        ensures task { kind_of task.new ≡ kind_of task.old }
+        ensures spelled { IfOk result (SpellsReady (kind_of task.old) self.old) }
     {
         let alloc = self.allocator();
         let cursor = self.cursor;
         let folder = &mut self.folder;
-        match &mut prepared.task {
-            Task::Change(changes, known) => {
-                let known = known.as_ref();
+        match task {
+            Task::Change(changes) => {
                 let landmarks = landmarks_in(&self.ahead);
                 let entries = &self.entries;
                 spell_command(alloc, known, landmarks, entries, cursor, folder, changes)
@@ -343,15 +344,40 @@ impl Session {
         }
     }
 
+    /// The journals of what was prepared for an action, whose fingerprints are made anew. The folder makes the changes
+    /// and is turned back, also where memory runs out. Of the changes no bytes are copied but into the journals.
+    pub fn journals(&mut self, prepared: &mut Prepared) -> Result<Journals>
+        requires { Fits prepared.old self.old }
+        ensures unchanged { self.new ≡ self.old }
+        ensures prepared { prepared.new ≡ prepared.old }
+        ensures spelled { IfOk result (SpellsReady prepared.old.kind self.old) }
+        ensures journals { IfOk result (SpellsAction prepared.old self.old) }
+    {
+        self.spell(&mut prepared.task, None)
+    }
+
+    /// The same, where the folder is the one that the action was prepared on: fingerprints that were computed then are
+    /// used.
+    pub fn journals_as_prepared(&mut self, prepared: &mut Prepared) -> Result<Journals>
+        requires fits { Fits prepared.old self.old }
+        requires prints { HasPrintsOf self.old prepared.old }
+        ensures unchanged { self.new ≡ self.old }
+        ensures prepared { prepared.new ≡ prepared.old }
+        ensures spelled { IfOk result (SpellsReady prepared.old.kind self.old) }
+        ensures journals { IfOk result (SpellsAction prepared.old self.old) }
+    {
+        self.spell(&mut prepared.task, prepared.known.as_ref())
+    }
+
     /// Does what was prepared, and answers its steps. It takes no memory.
     pub fn commit(&mut self, prepared: Prepared) -> Steps
         requires { Fits prepared self.old }
         ensures session { self.new ≡ after_commit prepared.kind self.old }
         ensures steps { result ≡ prepared.steps }
     {
-        let Prepared { task, steps } = prepared;
+        let Prepared { task, steps, .. } = prepared;
         match task {
-            Task::Change(changes, _) => self.add(changes),
+            Task::Change(changes) => self.add(changes),
             Task::Undo => {
                 let undone = self.undo();
                 prove!(undone.is_ok());

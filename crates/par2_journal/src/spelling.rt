@@ -1,19 +1,19 @@
 //! The journals of a session, and the fingerprints that stand in them.
 ghost use Rattle.std.specs.Prelude.{◌≡◌, ◌≤◌, ◌<◌, ◌∷◌, ◌+◌, [], List, IfOk, IfSome, IsTrue, length, map, get_or, slice_get, Some, Ok};
 ghost use Rattle.md5.specs.Md5.{md5};
-ghost use Rattle.par2_digests.specs.Texts.{texts_of};
+ghost use Rattle.par2_md5_lanes.specs.Texts.{texts_of};
 ghost use Rattle.par2_spec.specs.Changes as defined;
 ghost use Rattle.par2_spec.specs.Changes.{folders_after, takes_all};
 ghost use Rattle.par2_spec.specs.Folders.{Folder as Files, fingerprint};
 ghost use Rattle.par2_spec.specs.Journals.{Spells};
-ghost use Rattle.par2_folder.specs.Landmarks.{AreLandmarksOf};
-ghost use Rattle.par2_journal_bytes.specs.Views.{changes_in, journal_from};
+ghost use Rattle.par2_files.specs.Landmarks.{AreLandmarksOf};
+ghost use Rattle.par2_journal_format.specs.Views.{changes_in, journal_from};
 ghost use Rattle.par2_journal.specs.Along.{AreAlong, ArePrintsOf};
 ghost use Rattle.par2_journal.specs.Spelling.{CompletesHalfway, SpellsCommand, SpellsEntry};
 
 use crate::Changes;
-use par2_folder::{Change, Folder, Landmarks, fingerprints};
-use par2_journal_bytes::{HalfwayPartView, JournalView, begin, encode, finish_both};
+use par2_files::{Change, Folder, Landmarks, fingerprints};
+use par2_journal_format::{HalfwayPartView, JournalView, begin, encode, finish_both};
 use par2_spec::Result;
 use std::alloc::Global;
 use std::slice::from_ref;

@@ -3,7 +3,7 @@ ghost use Rattle.std.specs.Prelude.{◌≡◌, ◌≤◌, ◌<◌, ◌&&◌, ⊤
 ghost use Rattle.std.specs.Str.{bytes_eq};
 ghost use Rattle.par2_spec.specs.Journals.{Spells};
 ghost use Rattle.par2_spec.specs.Opening.{is_valid, opened_by_part};
-ghost use Rattle.par2_journal_bytes.specs.Views.{changes_in, halfway_of, journal_of};
+ghost use Rattle.par2_journal_format.specs.Views.{changes_in, halfway_of, journal_of};
 ghost use Rattle.par2_journal.specs.Opening.{AnswersTest, AnswersWhere, FailsTest, HasNoPlace, LeadBack, go_through, last_changes, place_among, session_after_way, session_before, way_left};
 ghost use Rattle.par2_journal.specs.Ready.{kept_journal};
 ghost use Rattle.par2_journal.specs.Walks.{WentForth};
@@ -11,8 +11,8 @@ ghost use Rattle.par2_journal.specs.Walks.{WentForth};
 use crate::opening::{Opened, Opening, can_apply, session_from};
 use crate::spelling::Fingerprints;
 use crate::{Changes, Session};
-use par2_folder::{Change, Folder, copies_of};
-use par2_journal_bytes::{HalfwayPart, Journal};
+use par2_files::{Change, Folder, copies_of};
+use par2_journal_format::{HalfwayPart, Journal};
 use par2_spec::{JournalFault, Result};
 use std::alloc::Global;
 

@@ -1,7 +1,7 @@
 -- Digests of packets of one length, wherever each begins.
 use Rattle.std.specs.Prelude.{ℕ, List, ◌≡◌, ◌≤◌, ◌<◌, ◌+◌, ◌-◌, length, drop, slice_index}
 use Rattle.md5.specs.Md5.{md5}
-use Rattle.par2_digests.specs.Digests.{digest_at}
+use Rattle.par2_md5_lanes.specs.Digests.{digest_at}
 use Rattle.par2_spec.specs.Packets.{bytes_at}
 use Rattle.par2_packets.specs.declared.cursor.Run.{Run}
 

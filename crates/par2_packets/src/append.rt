@@ -8,6 +8,7 @@ ghost use Rattle.par2_spec.specs.Packets.{packet};
 ghost use Rattle.par2_spec.specs.Volumes.{packet_of, main_id, main_bytes, desc_bytes, ifsc_bytes, creator_bytes, recovery_bytes};
 ghost use Rattle.par2_packets.specs.Views.{file_record_of};
 
+use crate::bytes::{u32_bytes, u64_bytes};
 use crate::cursor::MAGIC;
 use crate::kind::type_of;
 use crate::record::FileRecord;
@@ -43,7 +44,7 @@ fn append_packet(
     let digest = packet_digest(set_id, kind, head, tail);
     let len = 64 + head.len() + tail.len();
     out.reserve(len)?;
-    out.extend_from_slice([*MAGIC, (len as u64).to_le_bytes()].as_flattened())?;
+    out.extend_from_slice([*MAGIC, u64_bytes(len as u64)].as_flattened())?;
     out.extend_from_slice([digest, *set_id, type_of(kind)].as_flattened())?;
     out.extend_from_slice(head)?;
     out.extend_from_slice(tail)
@@ -57,8 +58,8 @@ pub fn append_main(alloc: Global, out: &mut Vec<u8>, s: u64, files: &[FileRecord
         Appends (packet main) out.old out.new result }
     ensures err { OnErr result (out.new.items ≡ out.old.items) }
 {
-    let mut body = Vec::from_slice(alloc, &s.to_le_bytes())?;
-    body.extend_from_slice(&(files.len() as u32).to_le_bytes())?;
+    let mut body = Vec::from_slice(alloc, &u64_bytes(s))?;
+    body.extend_from_slice(&u32_bytes(files.len() as u32))?;
     for file in files {
         body.extend_from_slice(&file.id)?;
     }
@@ -78,7 +79,7 @@ pub fn append_desc(
 {
     let ids = [file.id, file.md5, file.md5_16k];
     let mut body = Vec::from_slice(alloc, ids.as_flattened())?;
-    body.extend_from_slice(&file.length.to_le_bytes())?;
+    body.extend_from_slice(&u64_bytes(file.length))?;
     let name = file.name.as_bytes();
     body.extend_from_slice(name)?;
     body.resize(body.len() + (4 - name.len() % 4) % 4, 0)?;
@@ -99,7 +100,7 @@ pub fn append_ifsc(
     let mut body = Vec::from_slice(alloc, &file.id)?;
     for (md5, crc) in &file.pairs {
         body.extend_from_slice(md5)?;
-        body.extend_from_slice(&crc.to_le_bytes())?;
+        body.extend_from_slice(&u32_bytes(*crc))?;
     }
     append_packet(out, set_id, Kind::Ifsc, &body, &[])
 }
@@ -126,5 +127,5 @@ pub fn append_recovery(
         OnOk result (out.new.items ≡ out.old.items ++ packet added) }
     ensures err { OnErr result (out.new.items ≡ out.old.items) }
 {
-    append_packet(out, set_id, Kind::Recovery, &e.to_le_bytes(), bytes)
+    append_packet(out, set_id, Kind::Recovery, &u32_bytes(e), bytes)
 }

@@ -1,6 +1,7 @@
-//! Parts of a text at given places.
+//! Parts of a text at given places, and the bytes of numbers.
 
 ghost use Rattle.std.specs.Prelude.{◌≡◌, ◌+◌, ◌≤◌, length};
+ghost use Rattle.std.specs.Int.{w32, w64, to_le_bytes};
 ghost use Rattle.par2_spec.specs.Packets as packets;
 
 use byteorder::{ByteOrder, LittleEndian};
@@ -31,4 +32,22 @@ pub fn u32_at(text: &[u8], at: usize) -> u32
     ensures { result ≡ packets.u32_at at text.now }
 {
     LittleEndian::read_u32(&text[at..at + 4])
+}
+
+/// The eight bytes that spell a number, the lowest first.
+pub fn u64_bytes(number: u64) -> [u8; 8]
+    ensures { result ≡ to_le_bytes w64 number }
+{
+    let mut bytes = [0; 8];
+    LittleEndian::write_u64(&mut bytes, number);
+    bytes
+}
+
+/// The four bytes that spell a number, the lowest first.
+pub fn u32_bytes(number: u32) -> [u8; 4]
+    ensures { result ≡ to_le_bytes w32 number }
+{
+    let mut bytes = [0; 4];
+    LittleEndian::write_u32(&mut bytes, number);
+    bytes
 }

@@ -9,7 +9,7 @@ ghost use Rattle.par2_packets.specs.Runs.{AreDigests, IsPlace, IsRunFrom};
 
 use crate::bytes::u64_at;
 use md5::{Digest, Md5};
-use par2_digests::{LANES, window_digests};
+use par2_md5_lanes::{LANES, window_digests};
 
 pub(crate) const MAGIC: &[u8; 8] = b"PAR2\0PKT";
 

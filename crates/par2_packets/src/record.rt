@@ -8,6 +8,7 @@ ghost use Rattle.std.specs.Str.{bytes_eq};
 ghost use Rattle.par2_spec.specs.Volumes as volumes;
 ghost use Rattle.par2_packets.specs.Views.{file_record_of, id_number};
 
+use crate::bytes::{u32_bytes, u64_bytes};
 use byteorder::{ByteOrder, LittleEndian};
 use md5::{Digest, Md5};
 use thiserror::Error;
@@ -37,7 +38,7 @@ pub fn file_id(md5_16k: &[u8; 16], length: u64, name: &str) -> [u8; 16]
 {
     let mut hasher = Md5::new();
     hasher.update(md5_16k);
-    hasher.update(&length.to_le_bytes());
+    hasher.update(&u64_bytes(length));
     hasher.update(name.as_bytes());
     hasher.finalize()
 }
@@ -48,8 +49,8 @@ pub fn main_id(s: u64, files: &[FileRecord]) -> [u8; 16]
     ensures { result ≡ volumes.main_id s (map file_record_of files.now) }
 {
     let mut hasher = Md5::new();
-    hasher.update(&s.to_le_bytes());
-    hasher.update(&(files.len() as u32).to_le_bytes());
+    hasher.update(&u64_bytes(s));
+    hasher.update(&u32_bytes(files.len() as u32));
     for file in files {
         hasher.update(&file.id);
     }

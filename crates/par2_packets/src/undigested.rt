@@ -9,9 +9,10 @@ ghost use Rattle.par2_spec.specs.Packets.{bytes_at};
 ghost use Rattle.par2_packets.specs.Pieces.{overwritten, ArePieces};
 ghost use Rattle.par2_packets.specs.Recoveries.{undigested, digested, AreDigested};
 
+use crate::bytes::{u32_bytes, u64_bytes};
 use crate::cursor::MAGIC;
 use crate::kind::type_of;
-use par2_digests::text_digests;
+use par2_md5_lanes::text_digests;
 use par2_spec::{Kind, Result};
 use std::alloc::Global;
 
@@ -34,9 +35,9 @@ fn append_undigested(out: &mut Vec<u8>, set_id: &[u8; 16], e: u32, size: usize) 
     requires { 68 + size ≤ usize.MAX }
     ensures { Appends (undigested set_id.now e (replicate size 0)) out.old out.new result }
 {
-    out.extend_from_slice([*MAGIC, ((HEAD + size) as u64).to_le_bytes()].as_flattened())?;
+    out.extend_from_slice([*MAGIC, u64_bytes((HEAD + size) as u64)].as_flattened())?;
     out.extend_from_slice([[0; 16], *set_id, type_of(Kind::Recovery)].as_flattened())?;
-    out.extend_from_slice(&e.to_le_bytes())?;
+    out.extend_from_slice(&u32_bytes(e))?;
     append_zeros(out, size)
 }
 

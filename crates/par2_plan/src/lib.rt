@@ -1,23 +1,11 @@
-//! What a verify reports, what a repair and a purge change in a folder, or why they are refused.
+//! What a create, a repair and a purge change in a folder, or why they are refused, and what a verify reports. A verify,
+//! a repair and a purge are planned in `par2_repair`, a create in `par2_create`.
 #![tactic(auto)]
 
-mod candidates;
-mod draft;
-mod finding;
-mod matching;
-mod moves;
-mod purge;
-mod reading;
-mod repair;
-mod report;
-mod restored_files;
-mod restored_slices;
-mod verify;
+mod create;
 
-pub use draft::Draft;
-pub use par2_folder::Changes;
-pub use par2_spec::{Fault, Verdict};
-pub use purge::plan_purge;
-pub use repair::{draft_repair, plan_repair};
-pub use report::{Report, State, TargetReport};
-pub use verify::check;
+pub use create::plan_create;
+pub use par2_repair::{
+    Changes, Fault, Report, State, TargetReport, Verdict, check, plan_purge, plan_repair,
+};
+pub use par2_spec::CreateArgs;

@@ -1,64 +1,15 @@
 -- The names that proofs of this crate take from elsewhere.
 
-pub use Rattle.std.proofs.Common.{Bool, Global, IsTrue, List, T, Vec, [], ap, append-nil, append_assoc, ap₂, arith, bit_xor, cond, drop, eqb, eqb→eq, false, get_or, inl, inr, length, length-append, ltb, map, min, not, refl, replicate, rules, set, string_bytes, subst, suc, sym, take, true, zero, zero-add, ℕ, ◌%◌, ◌&&◌, ◌*◌, ◌++◌, ◌+◌, ◌-◌, ◌/◌, ◌<◌, ◌^◌, ◌||◌, ◌↔◌, ◌∙◌, ◌∷◌, ◌≡◌, ◌≢◌, ◌≤◌}
-pub use Rattle.std.proofs.Math.Facts.{Fits-lt-pow, and_yes, yes_and}
-pub use Rattle.std.proofs.lemmas.Bool.{cases_eq, cases_lt, eq-eqb, eqb-false, eqb-true, false_from_ne_true, false≢true, le-ltb, lt-ltb, ltb-true, ne_eqb}
-pub use Rattle.std.proofs.lemmas.Iterator.{YieldsList-from_map, YieldsList-from_map_by, YieldsList-from_range, YieldsList-from_slice, items_from_collect}
-pub use Rattle.std.proofs.lemmas.Iterator.Consumers.{map_from_collect}
-pub use Rattle.std.proofs.lemmas.List.{drop_all, drop_more, ext_get_or, get_or-append_right, get_or-drop, get_or-map, get_or-set_other, get_or-set_same, get_or-take, get_or_append_left, get_or_at, get_or_default, get_or_past, get_or_push, length-drop, length-map, length-replicate, length-set, length-take, length-take-le, length_push, map-append, map_more, map_push, take-map, take_all, take_more, with_items_is}
-pub use Rattle.std.proofs.lemmas.List.Elements.{Contains-get_or, filter_more}
-pub use Rattle.std.proofs.lemmas.List.FromFn.{get_or-map-range_with_len, get_or-range_with_len, length-map-range_with_len, length-range_with_len, map-range_with_len_more}
-pub use Rattle.std.proofs.lemmas.List.Kept.{AllPairs-from_increasing}
-pub use Rattle.std.proofs.lemmas.Nat.{xor_comm, xor_lt}
-pub use Rattle.std.proofs.lemmas.Result.{IfOk-weaker}
-pub use Rattle.std.proofs.lemmas.Simd.{map-map}
-pub use Rattle.std.specs.Borrow.{Bor}
-pub use Rattle.std.specs.Int.Bits.{xor_assoc, xor_zero_l, xor_zero_r}
-pub use Rattle.std.specs.List.{AllByRecursion, AllZip, Contains, enumerate_from, list_all, list_any, range_with_len, slice_get}
-pub use Rattle.std.specs.List.Sorted.{IsStrictlyIncreasing}
-pub use Rattle.std.specs.Prelude.{IfErr, IfSome, IsPermutation, None, Ok, Option, Result, Some, filter, is_none, slice_index, unwrap_or}
-pub use Rattle.std.specs.Vec.{with_items}
-pub use Rattle.md5.specs.Md5.{md5}
-pub use Rattle.par2_matrix.specs.Systems.{AreTexts, CutDown, Equations, IsDependent, IsIndependent, IsTheSolution, OnlyZeroIsKilled, Solves}
-pub use Rattle.par2_matrix.specs.declared.system.Offer.TheVariants.{Dependent, Kept}
-pub use Rattle.par2_packets.specs.Views.{file_record_of, id_number}
-pub use Rattle.par2_packets.specs.declared.record.FileRecord.{FileRecord}
-pub use Rattle.par2_recovery.specs.Elements.{AreRows, IsUnit}
-pub use Rattle.par2_recovery.specs.Inverses.{CutByUnit, GivesUnit, IsEliminated, IsInverse, identity, recovery_at}
-pub use Rattle.par2_recovery.specs.Products.{Adds, AddsSource, AreBytes, products}
-pub use Rattle.par2_recovery.specs.Rebuilding.{AreRebuilt, CanRebuild, known_among}
-pub use Rattle.par2_recovery.specs.RunInverses.{AreScaledQuotients, BeginsWithRun, IsScaledQuotient}
-pub use Rattle.par2_recovery.specs.Survivors.{IsTrueFault, bytes_or_none, exponents_of, known_alone, known_of, lost_from, recovered_of, with_lost_slices}
-pub use Rattle.par2_recovery.specs.Syndromes.{AreExtended, AreProducts, AreRun, AreSolved, all_coefficients, syndrome, window}
-pub use Rattle.par2_recovery.specs.Views.{AreBlank, names_of, texts_of}
-pub use Rattle.par2_spec.proofs.FieldConstants.{constant-injective, constant-lt, constant-nonzero}
-pub use Rattle.par2_spec.proofs.FieldOrder.{no_zero_divisor, power-lt, product-zero, zero-product}
-pub use Rattle.par2_spec.proofs.FieldProducts.{product-lt, product-one, product_assoc, product_comm, product_linear_left, product_linear_right}
-pub use Rattle.par2_spec.proofs.FoundLaws.{all-filter}
-pub use Rattle.par2_spec.proofs.ListsLaws.{all-append, all-each, all-map, all-parts, all_at, all_from, all_get, all_unmap, filter-map, some_list}
-pub use Rattle.par2_spec.proofs.PolynomialLaws.{length-quotient, length-with_roots, quotient_elements, quotient_itself, quotient_others, times_elements, value-lt, value_times, with_roots_elements}
-pub use Rattle.par2_spec.proofs.RunLaws.{close_kept, first_kept, run_determines, run_rank}
-pub use Rattle.par2_spec.proofs.SumLaws.{dot_sum, field_sum-lt, field_sum_head, field_sum_none, field_sum_one, field_sum_same, field_sum_scaled, field_sum_xor, product_at, xor_off}
-pub use Rattle.par2_spec.proofs.UniqueLaws.{agreeing_are_one, coefficients_are, dot-lt, words_are}
-pub use Rattle.par2_spec.proofs.WordLaws.{bytes_at, combination_words, length-lists_of, read_at, word-lt, written_changed, written_here}
-pub use Rattle.par2_spec.specs.Commands.{files_of}
-pub use Rattle.par2_spec.specs.Field.{constant, mul}
-unfoldable pub use Rattle.par2_spec.specs.Field.{coefficient, pow}
-pub use Rattle.par2_spec.specs.Folders.{File, Folder, bytes_of}
-pub use Rattle.par2_spec.specs.Polynomials.{ArePoints, times, times_root}
-unfoldable pub use Rattle.par2_spec.specs.Polynomials.{plus, quotient, value, with_roots}
-pub use Rattle.par2_spec.specs.Rank.{Agrees, IsRepairable, IsVector, Kills, kept, kept_slices, kills, rank, smaller}
-unfoldable pub use Rattle.par2_spec.specs.Rank.{is_independent}
-pub use Rattle.par2_spec.specs.Recovery.{coefficients, combination}
-unfoldable pub use Rattle.par2_spec.specs.Recovery.{dot, recovery}
-pub use Rattle.par2_spec.specs.Runs.{AreClose, AreSlices, HasRun}
-pub use Rattle.par2_spec.specs.Search.{lost}
-pub use Rattle.par2_spec.specs.Slices.{padded, slice_at, word}
-pub use Rattle.par2_spec.specs.Sums.{AreElements, list_at, lists_of}
-unfoldable pub use Rattle.par2_spec.specs.Sums.{field_sum}
-pub use Rattle.par2_spec.specs.Volumes.{all_slices, in_id_order}
-unfoldable pub use Rattle.par2_spec.specs.Volumes.{record_of}
-pub use Rattle.par2_transform.proofs.AddingLaws.{adds_more, adds_same, still_within, within-in, within_joined, within_same, zeros_read}
-pub use Rattle.par2_transform.proofs.GroupLaws.{adds_to_group, group_within, length-group}
-pub use Rattle.par2_transform.specs.Adding.{AddsAt, AddsToEach, AreApart, LieWithin, place_at, within}
-pub use Rattle.par2_transform.specs.Columns.{recovered}
+pub use Rattle.std.proofs.Common.{List, [], ap, ap₂, arith, drop, get_or, length, map, refl, replicate, rules, subst, sym, take, ℕ, ◌*◌, ◌+◌, ◌<◌, ◌∙◌, ◌≡◌}
+pub use Rattle.std.proofs.lemmas.Bool.{false≢true}
+pub use Rattle.std.proofs.lemmas.List.{ext_get_or, length-replicate, take_all, with_items_is}
+pub use Rattle.std.proofs.lemmas.List.FromFn.{get_or-map-range_with_len, get_or-range_with_len, length-map-range_with_len, length-range_with_len}
+pub use Rattle.std.specs.List.{range_with_len}
+pub use Rattle.std.specs.Prelude.{◌/◌}
+pub use Rattle.par2_create.specs.Records.{AreRecords}
+pub use Rattle.par2_solve.specs.Views.{AreBlank, texts_of}
+pub use Rattle.par2_solve.specs.Writing.{AreWritten, AreZeros, output_at}
+pub use Rattle.par2_spec.specs.Slices.{padded}
+pub use Rattle.par2_spec.specs.Sums.{list_at, lists_of}
+pub use Rattle.par2_transform.specs.Adding.{AreWholeTexts, HaveWords, place_at}
+pub use Rattle.par2_transform.specs.declared.outputs.Place.{Place}

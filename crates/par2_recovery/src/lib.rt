@@ -1,19 +1,10 @@
-//! Recovery slices are made of the slices of files, and lost slices are rebuilt from them.
+//! What a set says of files, recovery slices over them, and lost slices that are rebuilt. Ranks and rebuilt slices are
+//! computed in `par2_solve`, records of files in `par2_create`.
 #![tactic(auto)]
 
-mod additions;
-mod exponents;
-mod inverse;
-mod products;
-mod rebuild_slices;
-mod recovery;
-mod room;
-mod run_inverse;
-mod set_record;
-mod syndromes;
+mod records;
+mod slices;
 
-pub use additions::numbers_from;
-pub use exponents::{rank, rank_by_runs};
-pub use rebuild_slices::{RebuildFault, Survivors, rebuild, rebuild_lost};
-pub use recovery::{blank, input_slices, write_recovery_slices};
-pub use set_record::{SetRecord, file_record_by_md5, file_records, file_texts};
+pub use par2_solve::{RebuildFault, Survivors, rank, rebuild};
+pub use records::{RecordFault, SetRecord};
+pub use slices::{recovery_slice, recovery_slices_over};

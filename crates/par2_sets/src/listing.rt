@@ -15,7 +15,7 @@ ghost use Rattle.par2_spec.specs.Names as names;
 
 use crate::ParSet;
 use itoa::Buffer;
-use par2_folder::{Folder, Name};
+use par2_files::{Folder, Name};
 use par2_packets::Packets;
 use par2_spec::repair_laws::aside_is_found;
 use par2_spec::{Fault, Result};

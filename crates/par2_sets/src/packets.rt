@@ -7,7 +7,7 @@ ghost use Rattle.par2_packets.specs.Views as views;
 ghost use Rattle.par2_packets.specs.Views.{packet_of};
 ghost use Rattle.par2_sets.specs.Steps.{packets_in, set_packets};
 
-use par2_folder::{Folder, Name};
+use par2_files::{Folder, Name};
 use par2_packets::{Packet, Packets};
 use par2_spec::Result;
 use std::alloc::Global;

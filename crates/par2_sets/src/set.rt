@@ -14,7 +14,7 @@ use crate::Target;
 use crate::packets::packets_of;
 use crate::parts::{descriptions, main_of, recovery_of};
 use crate::targets::{are_in_profile, targets_of};
-use par2_folder::{Folder, Name};
+use par2_files::{Folder, Name};
 use par2_packets::{Packet, Packets};
 use par2_slices::is_slice_size;
 use par2_spec::Fault;

@@ -11,7 +11,7 @@ ghost use Rattle.par2_spec.specs.Slices.{slice_count};
 ghost use Rattle.par2_spec.specs.Packets as spec;
 
 use crate::parts::{Checksums, checksums_in, pairs_for};
-use par2_folder::Name;
+use par2_files::Name;
 use par2_packets::{DescView, Packet, Pair};
 use par2_slices::{MOST_SLICES, slice_count};
 use par2_spec::{Fault, Result};

@@ -22,7 +22,7 @@ pub use Rattle.std.specs.Option.{is_none, option_or}
 pub use Rattle.std.specs.Prelude.{IfSome, None, Option, Some, bit_and, bit_or, bit_xor, filter, find, flat_map, option_map, option_to_list, slice_index, zip, ◌==◌, ◌⊎◌}
 pub use Rattle.std.specs.Str.{bytes_eq}
 pub use Rattle.md5.specs.Md5.{Holds, md5}
-pub use Rattle.par2_digests.specs.Digests.{digest_at}
+pub use Rattle.par2_md5_lanes.specs.Digests.{digest_at}
 pub use Rattle.par2_slices.specs.Filters.{AreAlike, Groups, IsLong, Marks}
 pub use Rattle.par2_slices.specs.Intact.{HaveCrc32s, HaveMd5s}
 pub use Rattle.par2_slices.specs.Matching.{Describe, Describes, IsFirst, NumbersAreNames, first_intact, matched_from, matched_numbers, text_at, without}

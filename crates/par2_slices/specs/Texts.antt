@@ -6,7 +6,7 @@ use Rattle.par2_spec.specs.Slices.{padded}
 use Rattle.par2_spec.specs.Windows.{window}
 use Rattle.par2_slices.specs.declared.batch.Spot.{Spot}
 use Rattle.par2_slices.specs.Matching.{text_at}
-pub use Rattle.par2_digests.specs.Texts.{texts_of}
+pub use Rattle.par2_md5_lanes.specs.Texts.{texts_of}
 
 -- where a window was found, the bytes of it that lie in the text
 abbrev pub Window : Type 0

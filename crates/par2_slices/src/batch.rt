@@ -2,11 +2,11 @@
 
 ghost use Rattle.std.specs.Prelude.{◌≡◌, ◌≤◌, ◌<◌, ◌+◌, ◌-◌, ℕ, length, min, slice_index};
 ghost use Rattle.md5.specs.Md5.{md5};
-ghost use Rattle.par2_digests.specs.Digests.{digest_at};
+ghost use Rattle.par2_md5_lanes.specs.Digests.{digest_at};
 ghost use Rattle.par2_spec.specs.Windows.{window};
 ghost use Rattle.par2_slices.specs.Searches.{candidate_at};
 
-use par2_digests::{LANES, window_digests};
+use par2_md5_lanes::{LANES, window_digests};
 
 /// Where a window begins: the number of its text among those that are searched, and its offset there.
 #[derive(Clone, Copy, Default, Debug, Drop)]

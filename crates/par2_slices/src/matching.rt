@@ -12,7 +12,7 @@ ghost use Rattle.par2_slices.specs.Texts.{texts_of};
 
 use crate::cutting::slice_count;
 use crate::pairs::{Pair, slice_crc32, slice_md5s};
-use par2_digests::LANES;
+use par2_md5_lanes::LANES;
 use par2_spec::Result;
 use std::alloc::Global;
 

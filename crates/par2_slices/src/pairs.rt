@@ -2,7 +2,7 @@
 
 ghost use Rattle.std.specs.Prelude.{◌≡◌, ◌≤◌, ◌<◌, ◌+◌, ◌-◌, ◌*◌, ◌^◌, ◌++◌, min, ℕ, IfOk, OnOk, length, map, slice_index};
 ghost use Rattle.md5.specs.Md5.{Holds, md5};
-ghost use Rattle.par2_digests.specs.Digests.{digest_at};
+ghost use Rattle.par2_md5_lanes.specs.Digests.{digest_at};
 ghost use Rattle.par2_spec.specs.Checksums as checksums;
 ghost use Rattle.par2_spec.specs.Slices.{padded, slice_at, slice_count, slices};
 ghost use Rattle.par2_slices.specs.Pairs.{first_pairs};
@@ -10,7 +10,7 @@ ghost use Rattle.par2_slices.specs.Pairs.{first_pairs};
 use crate::checksum::{crc32, padded_crc32};
 use crate::cutting::{slice_bytes, slice_count};
 use md5::{Digest, Md5};
-use par2_digests::{LANES, window_digests};
+use par2_md5_lanes::{LANES, window_digests};
 use par2_spec::Result;
 use std::alloc::Global;
 use std::array;

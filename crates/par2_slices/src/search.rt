@@ -19,7 +19,7 @@ use crate::rows::{Row, first_crcs, next_crcs};
 use crate::scan::Scan;
 use crate::wanted_pairs::{Place, Wanted};
 use arrayvec::ArrayVec;
-use par2_digests::LANES;
+use par2_md5_lanes::LANES;
 use par2_spec::Result;
 use std::alloc::Global;
 

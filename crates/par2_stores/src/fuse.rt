@@ -4,7 +4,7 @@ ghost use Rattle.par2_stores.specs.Fuse.{fuse, inner_store, fuse_writing_calls, 
 ghost use Rattle.par2_disk.specs.Stores.{CountsFailures, Makes};
 
 use par2_disk::{Count, FolderStore, ReadFault, Store, StoreFault};
-use par2_folder::Name;
+use par2_files::Name;
 use std::alloc::Global;
 use std::mem;
 

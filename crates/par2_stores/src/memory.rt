@@ -1,6 +1,6 @@
 //! A store in memory.
 use par2_disk::{Count, FolderStore, ReadFault, Store, StoreFault};
-use par2_folder::{Bytes, Change, Folder, Name};
+use par2_files::{Bytes, Change, Folder, Name};
 use par2_spec::Result;
 use std::alloc::{AllocError, Global};
 
@@ -23,7 +23,7 @@ impl MemoryStore {
     ghost use Rattle.par2_spec.specs.Changes.{is_applicable, places_taken};
     ghost use Rattle.par2_spec.specs.Stores.{Contents, with_change};
     ghost use Rattle.par2_stores.specs.Memory.{memory_contents, memory_failures, memory_impossible, memory_writing_calls};
-    ghost use Rattle.par2_folder.specs.Views.{change_of};
+    ghost use Rattle.par2_files.specs.Views.{change_of};
 
     /// A store without files and without a journal, which has not failed yet.
     pub fn new(alloc: Global) -> Self

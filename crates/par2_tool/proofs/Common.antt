@@ -8,7 +8,7 @@ pub use Rattle.std.proofs.lemmas.Result.{err_from_is_err_and, on_err_weaker, on_
 pub use Rattle.std.specs.List.{AllByRecursion}
 pub use Rattle.std.specs.Prelude.{IfErr, IfOk, IsErr, OnErr, OnOk, codes, flat_map, is_some, option_map, string_bytes}
 pub use Rattle.std.specs.declared.alloc.Global.{Global}
-pub use Rattle.par2_folder.specs.Views.{change_of}
+pub use Rattle.par2_files.specs.Views.{change_of}
 pub use Rattle.par2_journal.specs.Opening.{opened_of, session_before, way_left}
 pub use Rattle.par2_journal.specs.Ready.{CanBe, Changing, IsReady, Kind, Ready, Redoing, Undoing, after_commit, changes_by_kind, next_of}
 pub use Rattle.par2_journal.specs.Refusals.{MayRefuse}
@@ -17,8 +17,8 @@ pub use Rattle.par2_journal.specs.Steps.{step_view}
 pub use Rattle.par2_journal.specs.declared.preparation.SessionFault.TheVariants.{NothingToRedo, NothingToUndo, Plan}
 pub use Rattle.par2_journal.specs.declared.spelling.Journals.{Journals}
 pub use Rattle.par2_laws.specs.Creates.{may_refuse}
-pub use Rattle.par2_plan.specs.Views.{report_of, target_report_of}
-pub use Rattle.par2_printing.specs.Writing.{TookAll, Wrote, seen}
+pub use Rattle.par2_repair.specs.Views.{report_of, target_report_of}
+pub use Rattle.par2_output.specs.Writing.{TookAll, Wrote, seen}
 pub use Rattle.par2_spec.proofs.SessionLaws.{accepted_next, done_can_walk, grown_can_walk, ok_no_err, redone_can_walk, refused_alike, same_ok, same_session, undone_can_walk, walked_is_valid}
 pub use Rattle.par2_spec.proofs.StopLaws.{halfway_stored, settled_stored, still_stored, taken_back_leads}
 pub use Rattle.par2_spec.proofs.TestLaws.{by_either}

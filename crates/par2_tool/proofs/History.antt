@@ -1,5 +1,5 @@
 -- Runs on one store keep one history.
-use Rattle.par2_tool.proofs.Common.{◌≡◌, inl, inr, List, Option, Some, None, Result, Ok, Err, Bool, true, false, refl, sym, ap, subst, ◌∙◌, ℕ, length, arith, Action, Do, Verify, Folder, Opened, Settled, Halfway, Started, opened, new_session, is_valid, started, OpensAs, Opens, leads, Session, history_of, session_unless, session_after, changes_asked, LeadsToAfterAsked, Contents, JournalFault, Journal, Spells, accepted_next, refused_alike, same_ok, ok_no_err, taken_back_leads, IsOpened, IsWritten, IsOpening, IsSettled, Holds, with_history, IsRefusedFor, Refusal, Run, history_after, HasNoEffect, Runs, Effective, TakesEffect}
+use Rattle.par2_tool.proofs.Common.{◌≡◌, inl, inr, List, [], ◌∷◌, ◌++◌, Option, Some, None, Result, Ok, Err, Bool, true, false, refl, sym, ap, subst, ◌∙◌, ℕ, length, arith, Action, Do, Verify, Folder, Opened, Settled, Halfway, Started, opened, new_session, is_valid, started, OpensAs, Opens, leads, Session, history_of, session_unless, session_after, changes_asked, LeadsToAfterAsked, Contents, JournalFault, Journal, Spells, accepted_next, refused_alike, same_ok, ok_no_err, taken_back_leads, IsOpened, IsWritten, IsOpening, IsSettled, Holds, with_history, IsRefusedFor, Refusal, Run, history_after, HasNoEffect, Runs, Effective, TakesEffect}
 use Rattle.par2_spec.specs.declared.JournalFault.TheVariants.{FolderChanged}
 use Rattle.par2_spec.specs.History as history
 use Rattle.par2_tool.specs.Runs.{Ended, Passed}
@@ -117,3 +117,9 @@ runs_go one old new started _ done opens (Passed {asked = asked} none rest) =
     let next = passed one old started opens _ none in
     let later = runs_go one _ new next.0 asked done next.2 rest in
     (later.0, subst (λ s. Run (history_of s) done (length done) (history_of later.0.session)) next.1 later.1, later.2)
+
+-- one more run takes effect
+pub run_more : {k mid end : Contents} {asked done : List Action} (action : Action) → Runs k asked done mid → TakesEffect action mid end → Runs k (asked ++ action ∷ []) (done ++ action ∷ []) end
+run_more action Ended effect = Effective effect Ended
+run_more action (Effective first rest) effect = Effective first (run_more action rest effect)
+run_more action (Passed none rest) effect = Passed none (run_more action rest effect)

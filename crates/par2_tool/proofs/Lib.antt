@@ -11,3 +11,4 @@ mod Statuses
 mod RunEffects
 mod UndoneRuns
 mod RunCalls
+mod Printed

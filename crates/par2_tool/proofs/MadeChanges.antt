@@ -1,6 +1,6 @@
 -- Changes that were made one after the other in a store.
 use Rattle.par2_tool.proofs.Common.{◌≡◌, ◌<◌, ◌+◌, ℕ, zero, suc, List, [], ◌∷◌, ◌++◌, length, map, get_or, take, IsTrue, refl, sym, ap, subst, ◌∙◌, arith, ◌⊎◌, inl, inr, ◌≤◌, map_more, length-map, take_all, take-map, and_parts, Contents, with_change, with_journal, change_of, KeptSession, OnlyGrew, Kind, changes_by_kind, with_all_changes, with_halfway, IsStoppedAt, Journals, AreSomeWritten}
-use Rattle.par2_folder.specs.declared.change.Change.{Change}
+use Rattle.par2_files.specs.declared.change.Change.{Change}
 use Rattle.par2_spec.specs.Changes as defined
 
 changed_more : (k : Contents) (cs : List defined.Change) (c : defined.Change) → with_all_changes k (cs ++ c ∷ []) ≡ with_change (with_all_changes k cs) c

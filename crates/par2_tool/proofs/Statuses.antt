@@ -1,6 +1,6 @@
 -- What the status of a run tells.
 use Rattle.par2_tool.proofs.Common.{◌≡◌, ◌≢◌, ◌⊎◌, ℕ, false, arith, List, Option, status_of, status_of_fault, status_of_failure, Fault, Answered, Failed, Telling, IsShown, Failure, NotRepairable, RepairFailed, may_refuse}
-use Rattle.par2_printing.specs.declared.printer.Printer.{Printer}
+use Rattle.par2_output.specs.declared.printer.Printer.{Printer}
 
 -- a fault with this status: it isn't 0; 2 and 5 have one fault alone; and a repair of what a create left has no fault
 -- of status 4

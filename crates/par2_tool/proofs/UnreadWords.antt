@@ -1,10 +1,10 @@
 -- Words that aren't read.
 use Rattle.par2_tool.proofs.Common.{◌≡◌, Bool, List, true, false, arith, is_some, IsUnread}
 use Rattle.clap.specs.Words.{Text, takes, subcommand_of}
-use Rattle.par2_words.specs.Definition.{par2_app}
-use Rattle.par2_words.specs.Refusals.{unread_as}
-use Rattle.par2_words.specs.declared.read.WordsFault.{WordsFault}
-use Rattle.par2_words.specs.declared.read.WordsFault.TheVariants.{Arguments, Memory}
+use Rattle.par2_arguments.specs.Definition.{par2_app}
+use Rattle.par2_arguments.specs.Refusals.{unread_as}
+use Rattle.par2_arguments.specs.declared.read.WordsFault.{WordsFault}
+use Rattle.par2_arguments.specs.declared.read.WordsFault.TheVariants.{Arguments, Memory}
 
 is_memory : WordsFault → Bool
 is_memory Arguments = false

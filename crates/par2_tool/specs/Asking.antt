@@ -2,8 +2,8 @@
 use Rattle.std.specs.Prelude.{◌≡◌, List, [], Some, true}
 use Rattle.clap.specs.Words.{Text, fault_of, takes}
 use Rattle.par2_spec.specs.Commands.{Action}
-use Rattle.par2_words.specs.Definition.{par2_app}
-use Rattle.par2_words.specs.Meanings.{asked_by}
+use Rattle.par2_arguments.specs.Definition.{par2_app}
+use Rattle.par2_arguments.specs.Meanings.{asked_by}
 
 -- the definition of the command line takes the words, and they ask for an action
 pub record IsCommandLine (words : List Text) : Type 0 where

@@ -8,7 +8,7 @@ use Rattle.par2_spec.specs.Reports.{Report, report_in}
 use Rattle.par2_spec.specs.Sessions.{Session, changes_asked}
 use Rattle.par2_spec.specs.Stores.{Contents, with_change, with_journal}
 use Rattle.par2_spec.specs.Texts.{Outcome, Reported, Done, step_of}
-use Rattle.par2_plan.specs.Views.{report_of}
+use Rattle.par2_repair.specs.Views.{report_of}
 use Rattle.par2_journal.specs.declared.spelling.Journals.{Journals}
 use Rattle.par2_tool.specs.Holding.{Holds, HasJournalOf, with_history}
 use Rattle.par2_tool.specs.declared.performing.Outcome as performing

@@ -1,6 +1,9 @@
 -- Runs on one store, each of which opens it anew.
-use Rattle.std.specs.Prelude.{◌≡◌, ◌⊎◌, List, [], ◌∷◌, Bool, Ok}
-use Rattle.par2_spec.specs.Commands.{Action}
+use Rattle.std.specs.List.{AllByRecursion}
+use Rattle.std.specs.Prelude.{◌≡◌, ◌⊎◌, ℕ, ◌+◌, List, [], ◌∷◌, length, replicate, Bool, Ok}
+use Rattle.par2_spec.specs.Commands.{Action, Undo}
+use Rattle.par2_spec.specs.Folders.{Folder}
+use Rattle.par2_spec.specs.History.{IsChanging}
 use Rattle.par2_spec.specs.Opening.{Started}
 use Rattle.par2_spec.specs.Stores.{Contents}
 use Rattle.par2_spec.specs.Texts.{Outcome}
@@ -26,3 +29,23 @@ pub data Runs : Contents → List Action → List Action → Contents → Type 0
   Ended : {k : Contents} → Runs k [] [] k
   Effective : {k next end : Contents} {action : Action} {asked done : List Action} → TakesEffect action k next → Runs next asked done end → Runs k (action ∷ asked) (action ∷ done) end
   Passed : {k next end : Contents} {action : Action} {asked done : List Action} → HasNoEffect k next → Runs next asked done end → Runs k (action ∷ asked) done end
+
+-- the store is one undo away from the folder: runs of creates, repairs and purges led on from it, and then all undos but
+-- one of as many as were done. Other runs between them were refused, failed, or were stopped without effect
+pub record IsOneUndoFrom (folder : Folder) (store : Contents) : Type 0 where
+  -- the store in which it all began opens on the folder
+  pub first : Contents
+  pub started : Started
+  pub opens : IsOpening first (Ok started)
+  pub on : started.session.folder ≡ folder
+  -- commands were done
+  pub asked : List Action
+  pub done : List Action
+  pub mid : Contents
+  pub commands : Runs first asked done mid
+  pub changing : AllByRecursion IsChanging done
+  -- and undone, all but the first of them
+  pub undone : ℕ
+  pub left : length done ≡ undone + 1
+  pub more : List Action
+  pub undos : Runs mid more (replicate undone Undo) store

@@ -13,9 +13,9 @@ use Rattle.par2_spec.specs.declared.Failure.TheVariants as failure
 use Rattle.par2_spec.specs.declared.Fault.TheVariants as fault
 use Rattle.par2_spec.specs.declared.JournalFault.TheVariants as journal
 use Rattle.par2_disk.specs.declared.view.Store.{Ghosts as StoreOf}
-use Rattle.par2_printing.specs.Views.{words_asked}
-use Rattle.par2_printing.specs.Writing.{TookAll, TookPart}
-use Rattle.par2_printing.specs.declared.printer.Printer.{Printer}
+use Rattle.par2_output.specs.Views.{words_asked}
+use Rattle.par2_output.specs.Writing.{IsFlushed, TookAll, TookInVain, TookPart}
+use Rattle.par2_output.specs.declared.printer.Printer.{Printer}
 use Rattle.par2_tool.specs.Asking.{AskFor, IsCommandLine}
 use Rattle.par2_tool.specs.Calls.{CountsFailedRun, CountsRun}
 use Rattle.par2_tool.specs.Holding.{IsOpening, HoldsAfter, with_history, TellsApartAlong, TellsApartBack}
@@ -147,11 +147,12 @@ pub record IsCarriedOut {S : Type 0} (store : StoreOf S) (action : Action) (old 
   pub leaves : MatchResult result (λ done. (dropped : Bool) × SameOutput dropped done.1 (outcome_of done.0) × (store.honest old → IsDone action (store.contents old) (store.contents new) dropped (outcome_of done.0))) (λ reason. store.honest old → IsFailed action (store.contents old) (store.contents new) reason)
   pub calls : store.honest old → MatchResult result (λ _. CountsRun action (store.contents old) (store.writing_calls old) (store.writing_calls new)) (CountsFailedRun action (store.contents old) (store.writing_calls old) (store.writing_calls new))
 
--- the text was written and the status is its own; or the writer failed, which is counted, it holds a part of the
--- text, which is a proper prefix, and the status is 6
+-- the text was written and flushed, and the status is its own; or the status is 6, since the writer failed, which is
+-- counted: it holds a part of the text, which is a proper prefix, or all of it, and couldn't be flushed
 abbrev pub IsPrinted : {W : Type 0} → (W → Option (List ℕ)) → Printer W → Printer W → List ℕ → ℕ → ℕ → Type 0
 IsPrinted held old new text own status =
-    (TookAll held old new text × (status ≡ own)) ⊎ (TookPart held old new text × (status ≡ 6))
+    (TookAll held old new text × IsFlushed new × (status ≡ own))
+    ⊎ ((TookPart held old new text ⊎ TookInVain held old new text) × (status ≡ 6))
 
 -- an outcome is printed on the output, a failure on the error writer, and the other printer is as it was
 abbrev pub IsShown : {O E : Type 0} → Telling → (O → Option (List ℕ)) → Printer O → Printer O → (E → Option (List ℕ)) → Printer E → Printer E → ℕ → Type 0
@@ -159,6 +160,11 @@ IsShown (Answered dropped outcome) held out out_after told err err_after status 
     IsPrinted held out out_after (output_of dropped outcome) (status_of outcome) status × (err_after ≡ err)
 IsShown (Failed spoken reason) held out out_after told err err_after status =
     IsPrinted told err err_after (error_of spoken reason) (status_of_failure reason) status × (out_after ≡ out)
+
+-- why the arguments weren't read is printed on the error writer, and nothing else was done
+abbrev pub IsNotStarted : {S O E : Type 0} → (E → Option (List ℕ)) → S → S → Printer O → Printer O → Printer E → Printer E → ℕ → Failure → Type 0
+IsNotStarted told old new out out_after err err_after status reason =
+    IsPrinted told err err_after (error_of [] reason) (status_of_failure reason) status × (new ≡ old) × (out_after ≡ out)
 
 -- a run with these words tells something: why, whatever the store does; what the two writers show of it; and what it made
 -- of an honest store, by how many calls

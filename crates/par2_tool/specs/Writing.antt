@@ -5,8 +5,8 @@ use Rattle.std.specs.declared.alloc.Global.{Global}
 use Rattle.par2_spec.specs.Changes as defined
 use Rattle.par2_spec.specs.Stores.{Contents}
 use Rattle.par2_disk.specs.Cuts.{Lasts}
-use Rattle.par2_folder.specs.Views.{change_of}
-use Rattle.par2_folder.specs.declared.change.Change.{Change}
+use Rattle.par2_files.specs.Views.{change_of}
+use Rattle.par2_files.specs.declared.change.Change.{Change}
 use Rattle.par2_disk.specs.declared.store.StoreFault.{StoreFault}
 use Rattle.par2_disk.specs.declared.view.Store.{Ghosts as StoreOf}
 use Rattle.par2_journal.specs.declared.spelling.Journals.{Journals}

@@ -18,11 +18,11 @@ ghost use Rattle.par2_tool.specs.Asking.{AskFor};
 ghost use Rattle.par2_tool.specs.Calls.{IsHalfway};
 ghost use Rattle.par2_tool.specs.Holding.{IsOpening, IsSettled, TellsApartInRun};
 ghost use Rattle.par2_tool.specs.Opening.{OnlyTakesBack};
-ghost use Rattle.par2_tool.specs.Runs.{HasNoEffect, TakesEffect};
+ghost use Rattle.par2_tool.specs.Runs.{HasNoEffect, IsOneUndoFrom, TakesEffect};
 ghost use Rattle.par2_tool.specs.Telling.{IsRun};
 ghost use Rattle.par2_tool.specs.Repairs.{AskForRepair};
 
-use crate::laws::{runs_keep_one_history, stores_open_in_one_way};
+use crate::laws::{runs_keep_one_history, stores_open_in_one_way, undone_runs_lead_back};
 use crate::running;
 use par2_disk::FolderStore;
 use par2_laws::creates::{
@@ -32,7 +32,7 @@ use par2_laws::creates::{
 use par2_laws::restored_files::{
     accepted_repair_leaves_the_files, refused_repair_leaves_a_choice, repair_never_fails,
 };
-use par2_printing::Printer;
+use par2_output::Printer;
 use std::alloc::Global;
 use std::io::Write;
 
@@ -107,6 +107,11 @@ pub fn run<S: FolderStore, O: Write, E: Write>(
         → AskFor (map string_bytes words.now) Undo → IsOpening (S.contents store.old) (Ok started)
         → result ≡ 0 → (older : List Folder)
         × ((history_of started.session).older ≡ (S.contents store.new).files ∷ older) }
+    // As many undos as commands were done, of which this is the last: status 0 leaves the folder
+    // from before all of them, names and bytes.
+    ensures back { (folder : Folder) → S.honest store.old
+        → AskFor (map string_bytes words.now) Undo → IsOneUndoFrom folder (S.contents store.old)
+        → result ≡ 0 → (S.contents store.new).files ≡ folder }
     // Any action: with status 0 the run takes effect, so that no command is halfway afterwards;
     ensures done { (action : Action) → S.honest store.old
         → AskFor (map string_bytes words.now) action → result ≡ 0
@@ -137,5 +142,6 @@ pub fn run<S: FolderStore, O: Write, E: Write>(
     created_files_not_repairable_have_a_choice();
     stores_open_in_one_way();
     runs_keep_one_history();
+    undone_runs_lead_back();
     running::run(alloc, words, store, out, err)
 }

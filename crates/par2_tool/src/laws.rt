@@ -10,7 +10,7 @@ ghost use Rattle.par2_tool.specs.Runs.{HasNoEffect, Runs, TakesEffect};
 ghost use Rattle.par2_tool.specs.Telling.{IsRefusedFor};
 ghost use Rattle.std.specs.List.{AllByRecursion};
 
-use par2_journal_bytes::one_reading;
+use par2_journal_format::one_reading;
 use par2_spec::session_laws::undos_lead_back;
 
 /// A store opens in one way.

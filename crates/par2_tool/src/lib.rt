@@ -8,14 +8,15 @@ mod opening;
 mod performing;
 mod printing;
 mod running;
+mod starting;
 mod writing;
 
 pub use headline::run;
 pub use laws::{runs_keep_one_history, stores_open_in_one_way, undone_runs_lead_back};
 pub use opening::{OpenFault, Started, open_store};
+pub use par2_arguments::{WordsFault, read_words};
 pub use par2_journal::{Report, Session, SessionFault, State, Step, Steps, TargetReport};
-pub use par2_printing::Printer;
+pub use par2_output::Printer;
 pub use par2_spec::{Action, Command, CreateArgs, Failure, Fault};
-pub use par2_words::{WordsFault, read_words};
 pub use performing::{Outcome, PerformFault, perform};
-pub use printing::fail;
+pub use starting::start;

@@ -11,7 +11,7 @@ ghost use Rattle.par2_tool.specs.StoreOpenings.{KeepsStore, Opens, ReadsStore, S
 
 use crate::writing::write_down;
 use par2_disk::{FolderStore, ReadFault, read_folder};
-use par2_folder::Folder;
+use par2_files::Folder;
 use par2_journal::{Halfway, Journals, Next, Opened, Session, opens_as_is};
 use par2_spec::{Action, Command, Failure, Fault, JournalFault, Result};
 use std::alloc::{AllocError, Global};

@@ -144,7 +144,7 @@ pub fn perform<S: FolderStore>(
         Ok(prepared) => prepared,
         Err(fault) => return Err(PerformFault::Session(fault)),
     };
-    let journals = session.journals(&mut prepared)?;
+    let journals = session.journals_as_prepared(&mut prepared)?;
     match write_down(store, &journals, session.changes(&prepared)) {
         Ok(()) => Ok(Outcome::Done(session.commit(prepared))),
         Err(_) => Err(PerformFault::Store),

@@ -1,17 +1,18 @@
 //! What comes of a run is printed.
-ghost use Rattle.std.specs.Prelude.{◌≡◌, ◌++◌, map, flat_map};
+ghost use Rattle.std.specs.Io.KnownBytes.{Appends};
+ghost use Rattle.std.specs.Prelude.{◌≡◌, ◌<◌, ◌++◌, ◌⊎◌, [], map, flat_map};
 ghost use Rattle.par2_spec.specs.Texts.{done_text, note_text, step_line, target_line, report_text, output_of, error_of};
 ghost use Rattle.par2_spec.specs.Texts as texts;
 ghost use Rattle.par2_journal.specs.Steps.{step_view};
-ghost use Rattle.par2_plan.specs.Views.{state_of, target_report_of, report_of};
-ghost use Rattle.par2_printing.specs.Views.{step_shown, state_shown, target_shown, words_given};
-ghost use Rattle.par2_printing.specs.Writing.{Wrote};
+ghost use Rattle.par2_repair.specs.Views.{state_of, target_report_of, report_of};
+ghost use Rattle.par2_output.specs.Views.{step_shown, state_shown, target_shown, words_given};
+ghost use Rattle.par2_output.specs.Writing.{IsFlushed, Wrote, failures_of, writer_of};
 ghost use Rattle.par2_tool.specs.Performing.{outcome_of};
 ghost use Rattle.par2_tool.specs.Telling.{IsPrinted};
 
 use crate::performing::Outcome;
 use par2_journal::{Report, State, Step, TargetReport};
-use par2_printing::{
+use par2_output::{
     PrintedState, PrintedStep, PrintedTarget, Printer, Written, write_done, write_failure,
     write_note, write_set, write_step, write_target, write_verdict,
 };
@@ -116,6 +117,18 @@ fn status_of(outcome: &Outcome) -> u8
     }
 }
 
+// The status after a text was written, which is its own once the text is flushed.
+fn finish<W: Write>(out: &mut Printer<W>, own: u8) -> u8
+    ensures bytes { Appends (W.contents (writer_of out.old)) (W.contents (writer_of out.new)) [] }
+    ensures answer { ((result ≡ own) × IsFlushed out.new × (failures_of out.new ≡ failures_of out.old))
+        ⊎ ((result ≡ 6) × (failures_of out.old < failures_of out.new)) }
+{
+    match out.flush() {
+        Ok(()) => own,
+        Err(_) => WRITER_FAILED,
+    }
+}
+
 /// Prints what an accepted command answers on the output, steps below a note where the history was dropped, and
 /// answers the status.
 pub fn tell<W: Write>(out: &mut Printer<W>, outcome: &Outcome, dropped: bool) -> u8
@@ -123,7 +136,7 @@ pub fn tell<W: Write>(out: &mut Printer<W>, outcome: &Outcome, dropped: bool) ->
         (texts.status_of (outcome_of outcome.now)) result }
 {
     match write_outcome(out, outcome, dropped) {
-        Ok(()) => status_of(outcome),
+        Ok(()) => finish(out, status_of(outcome)),
         Err(_) => WRITER_FAILED,
     }
 }
@@ -169,7 +182,7 @@ pub fn fail<W: Write>(err: &mut Printer<W>, command: Option<&Command>, failure: 
         (error_of (words_given command.entry) failure) (texts.status_of_failure failure) result }
 {
     match write_failure(err, command, failure) {
-        Ok(()) => status_of_failure(failure),
+        Ok(()) => finish(err, status_of_failure(failure)),
         Err(_) => WRITER_FAILED,
     }
 }

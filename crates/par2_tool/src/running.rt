@@ -10,10 +10,10 @@ ghost use Rattle.par2_tool.specs.Writing.{IsKept};
 use crate::opening::open_for;
 use crate::performing::{Outcome, perform};
 use crate::printing::{fail, tell};
+use par2_arguments::read_words;
 use par2_disk::FolderStore;
-use par2_printing::Printer;
+use par2_output::Printer;
 use par2_spec::{Action, Command, Failure};
-use par2_words::read_words;
 use std::alloc::Global;
 use std::io::Write;
 

@@ -1,12 +1,12 @@
 //! Changes are written down in a store, between two journals.
 ghost use Rattle.std.specs.Prelude.{◌≡◌, ◌+◌, length, OnOk};
 ghost use Rattle.par2_disk.specs.Stores.{CountsFailures, Makes};
-ghost use Rattle.par2_folder.specs.Views.{change_of};
+ghost use Rattle.par2_files.specs.Views.{change_of};
 ghost use Rattle.par2_tool.specs.Calls.{calls_before, calls_to_write};
 ghost use Rattle.par2_tool.specs.Writing.{AllPossible, CountsWrites, IsKept, PutsHalfway, StaysKept, WritesChanges, WritesDown};
 
 use par2_disk::{FolderStore, StoreFault};
-use par2_folder::Change;
+use par2_files::Change;
 use par2_journal::Journals;
 
 // Makes one change in a store, by one writing call. What can't be made fails, so a file that nobody listed stays.

@@ -1,3 +1,2 @@
 mod Common
 pub mod ElementTests
-pub mod OwnTexts

@@ -4,20 +4,19 @@
 ghost use Rattle.std.specs.Prelude.{◌≡◌, ◌<◌, ◌≤◌, ◌%◌, ℕ, length, slice_index, All, IsTrue, IfSome};
 ghost use Rattle.std.specs.List.{AllAdjacentBelow};
 ghost use Rattle.std.specs.List.Sorted.{IsStrictlyIncreasing};
-ghost use Rattle.par2_recovery.specs.Rebuilding.{CanRebuild};
+ghost use Rattle.par2_solve.specs.Rebuilding.{CanRebuild};
 
 mod outputs;
-mod records;
-mod slices;
 
 pub use outputs::{slices_added, slices_written};
+use par2_create::input_slices;
 use par2_folder::{Bytes, Change, Folder, Name};
 use par2_gf16::Gf;
 use par2_recovery::{
-    RebuildFault, SetRecord, Survivors, input_slices, rank, rebuild, rebuild_lost,
+    RebuildFault, RecordFault, SetRecord, Survivors, rank, rebuild, recovery_slice,
+    recovery_slices_over,
 };
-pub use records::{RecordFault, record_of_files};
-pub use slices::{recovery_slice, recovery_slices_over};
+use par2_solve::rebuild_lost;
 use std::alloc::{AllocError, Global};
 
 // How many slices a set may have.
@@ -52,7 +51,7 @@ pub fn set_of(
     if s == 0 {
         return Ok(None);
     }
-    Ok(Some(record_of_files(alloc, folder, &names, s)))
+    Ok(Some(SetRecord::of_files(alloc, folder, &names, s)))
 }
 
 // Whether recovery slices may be made of so many slices of this size.
@@ -72,7 +71,7 @@ pub fn input_slices_of<'a>(
     if set.slice == 0 {
         return Ok(None);
     }
-    Ok(Some(input_slices(alloc, set, folder)?))
+    Ok(Some(input_slices(alloc, &set.files, set.slice, folder)?))
 }
 
 /// The recovery slices of these exponents.
@@ -105,7 +104,7 @@ pub fn recovery_slice_of(
     if set.slice == 0 {
         return Ok(None);
     }
-    let slices = input_slices(alloc, set, folder)?;
+    let slices = input_slices(alloc, &set.files, set.slice, folder)?;
     if !can_combine(slices.len(), set.slice) {
         return Ok(None);
     }

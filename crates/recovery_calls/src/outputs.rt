@@ -3,12 +3,12 @@
 ghost use Rattle.std.specs.Prelude.{◌≡◌, ◌+◌, ◌*◌, ◌<◌, ◌≤◌, ℕ, length, replicate, IsTrue};
 ghost use Rattle.par2_spec.specs.Sums.{list_at, lists_of};
 ghost use Rattle.par2_transform.specs.Adding.{place_at, AreApart, LieWithin};
-ghost use Rattle.par2_recovery.specs.Writing.{output_at, AreZeros};
+ghost use Rattle.par2_solve.specs.Writing.{output_at, AreZeros};
 ghost use Rattle.recovery_calls.specs.Outputs.{AreBeside};
 
 use crate::MOST_SLICES;
 use par2_gf16::Gf;
-use par2_recovery::write_recovery_slices;
+use par2_solve::write_recovery_slices;
 use par2_transform::{Place, Places, add_recovery_slices_at};
 use std::alloc::{AllocError, Global};
 

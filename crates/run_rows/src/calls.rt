@@ -2,7 +2,7 @@
 //! alone.
 
 use par2_disk::{FolderStore, ReadFault, StoreFault, read_folder};
-use par2_folder::{Folder, Name};
+use par2_files::{Folder, Name};
 use std::alloc::{AllocError, Global};
 
 /// The names of the files.

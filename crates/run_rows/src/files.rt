@@ -6,7 +6,7 @@ use crate::calls::{
 };
 use anyhow::Result;
 use par2_disk::StoreFault;
-use par2_folder::Name;
+use par2_files::Name;
 use par2_stores::MemoryStore;
 use std::alloc::Global;
 

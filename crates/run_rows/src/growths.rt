@@ -4,9 +4,9 @@ use crate::calls::{journal_of, print_of};
 use crate::files::fingerprint_of;
 use crate::rows::{answer_to, parted};
 use anyhow::{Error, Result};
+use par2_arguments::read_words;
 use par2_stores::MemoryStore;
 use par2_tool::{Command, Session, open_store, perform};
-use par2_words::read_words;
 use std::alloc::Global;
 
 // Prints what a store holds.

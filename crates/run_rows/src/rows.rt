@@ -3,7 +3,7 @@
 use crate::calls::{journal_of, names_of, read_file};
 use anyhow::Result;
 use par2_disk::FolderStore;
-use par2_folder::Name;
+use par2_files::Name;
 use par2_stores::MemoryStore;
 use par2_tool::{Printer, run};
 use std::alloc::{AllocError, Global};

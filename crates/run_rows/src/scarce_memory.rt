@@ -5,7 +5,7 @@ use crate::files::copy_of;
 use crate::rows::{show, status_told};
 use anyhow::Result;
 use par2_disk::{FolderStore, ReadFault, Store, StoreFault};
-use par2_folder::Name;
+use par2_files::Name;
 use par2_stores::MemoryStore;
 use std::alloc::Global;
 

@@ -2,7 +2,7 @@
 
 use crate::rows::parted;
 use anyhow::Result;
-use par2_words::read_words;
+use par2_arguments::read_words;
 
 /// Prints what the words of a line are read as. Memory is ample here, so the stored output also refuses a `read_words`
 /// that always answers out of memory.

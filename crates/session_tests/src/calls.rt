@@ -3,13 +3,12 @@
 ghost use Rattle.std.specs.Prelude.{IfOk};
 ghost use Rattle.par2_journal.specs.Ready.{Fits};
 
-use par2_creation::{Changes, plan_create};
-use par2_folder::{Change, Folder, Landmarks, Name};
+use par2_folder::{Change, Changes, Folder, Name};
 use par2_journal::{
-    Action, CreateArgs, Fault, Halfway, Journals, Next, Opened, Prepared, Session, SessionFault,
-    Steps,
+    Action, CreateArgs, Fault, Halfway, JournalFault, Journals, Next, Opened, Prepared, Session,
+    SessionFault, Steps,
 };
-use par2_spec::JournalFault;
+use par2_plan::plan_create;
 use std::alloc::{AllocError, Global};
 
 pub fn applied(folder: &mut Folder, change: &mut Change) -> bool {
@@ -30,7 +29,7 @@ pub fn fingerprint(folder: &Folder) -> Result<[u8; 16], AllocError> {
 }
 
 pub fn plan_of(alloc: Global, folder: &Folder, args: &CreateArgs) -> Result<Changes, Fault> {
-    Ok(plan_create(alloc, folder, args, &Landmarks::none(alloc))?.changes)
+    plan_create(alloc, folder, args)
 }
 
 pub fn new_session(alloc: Global, folder: Folder) -> Session {

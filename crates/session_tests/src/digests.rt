@@ -1,6 +1,7 @@
 //! The digest of a text beside the fingerprint of a folder.
 
-use par2_folder::{Digests, Folder, Landmarks, fingerprints};
+use par2_files::{Digests, Landmarks, fingerprints};
+use par2_folder::Folder;
 use std::alloc::{AllocError, Global};
 use std::test::Fail;
 

@@ -1,8 +1,8 @@
 //! Folders and the arguments of creates. The helpers of all tests take the allocator alone and answer what holds, so
 //! that one assertion in each test tells it.
 use crate::calls::{applied, reserve};
-use par2_creation::CreateArgs;
 use par2_folder::{Bytes, Change, Folder, Name};
+use par2_plan::CreateArgs;
 use std::alloc::{AllocError, Global};
 
 /// Why a step of a test doesn't come about.

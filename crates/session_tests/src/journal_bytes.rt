@@ -4,7 +4,7 @@ ghost use Rattle.std.specs.Prelude.{◌≡◌, length};
 use crate::fixtures::Trouble;
 use md5::{Digest, Md5};
 use par2_folder::{Bytes, Change, Changes, Name};
-use par2_journal_bytes::{
+use par2_journal_format::{
     DecodeFault, HalfwayPart, HalfwayPartView, Journal, JournalTexts, JournalView, Version, begin,
     decode, decode_untested, encode, finish_both, is_sealed,
 };

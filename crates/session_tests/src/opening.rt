@@ -6,8 +6,7 @@ use crate::fixtures::{A, File, Trouble, folder_of};
 use crate::journal::{FINGERPRINT, HALFWAY_JOURNAL};
 use crate::session::{file_in, stands};
 use par2_folder::{Change, Folder};
-use par2_journal::{Halfway, Opened, Session};
-use par2_spec::JournalFault;
+use par2_journal::{Halfway, JournalFault, Opened, Session};
 use std::alloc::Global;
 use std::test::Fail;
 

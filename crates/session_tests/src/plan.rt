@@ -1,8 +1,8 @@
 //! Each fault of a create, and outputs beside bytes that another program made and par2cmdline verifies and repairs by.
 use crate::calls::plan_of;
 use crate::fixtures::{A, File, Trouble, args_of, folder_of};
-use par2_creation::{Changes, CreateArgs, Fault};
 use par2_folder::{Change, Folder};
+use par2_plan::{Changes, CreateArgs, Fault};
 use par2_slices::crc32;
 use std::alloc::{AllocError, Global};
 use std::test::Fail;

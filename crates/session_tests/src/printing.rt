@@ -2,7 +2,7 @@
 ghost use Rattle.std.specs.Prelude.{Some};
 
 use crate::fixtures::{Trouble, args_of};
-use par2_printing::{
+use par2_output::{
     PrintedState, PrintedStep, PrintedTarget, Printer, WriteFault, write_done, write_failure,
     write_note, write_set, write_step, write_target, write_verdict,
 };

@@ -13,7 +13,7 @@ use crate::opening::{is_taken_back, reopened};
 use crate::reports::{Damage, damaged};
 use par2_folder::Name;
 use par2_journal::{Action, Fault, Session, SessionFault, Step, Steps};
-use par2_printing::PrintedStep;
+use par2_output::PrintedStep;
 use std::alloc::{AllocError, Global};
 use std::test::Fail;
 

@@ -2,13 +2,12 @@
 //! fault, which has no names, shows the place.
 use crate::fixtures::args_of;
 use crate::printing::is_told;
-use par2_journal::{NothingToRedo, NothingToUndo, SessionFault};
-use par2_journal_bytes::DecodeFault;
-use par2_recovery::RebuildFault;
-use par2_spec::{Action, Command, Failure, Fault, JournalFault};
+use par2_arguments::WordsFault;
+use par2_journal::{JournalFault, NothingToRedo, NothingToUndo, SessionFault};
+use par2_journal_format::DecodeFault;
+use par2_recovery::{RebuildFault, RecordFault};
+use par2_spec::{Action, Command, Failure, Fault};
 use par2_tool::{OpenFault, PerformFault};
-use par2_words::WordsFault;
-use recovery_calls::RecordFault;
 use std::alloc::{AllocError, Global};
 use std::fmt::Display;
 use std::test::Fail;

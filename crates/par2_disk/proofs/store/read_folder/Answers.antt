@@ -1,6 +1,6 @@
 use Rattle.par2_disk.proofs.Common.{◌∙◌, ◌≡◌, ◌<◌, ◌≤◌, length, get_or, Some, ap, subst, arith, entries, names, IsTried}
 use Rattle.std.specs.FinMap as map_of
-use Rattle.par2_folder.proofs.SortedFiles.{begins_empty, still_there, next_file, is_whole}
+use Rattle.par2_files.proofs.SortedFiles.{begins_empty, still_there, next_file, is_whole}
 use Rattle.par2_spec.specs.Stores.{Contents}
 use Rattle.par2_disk.proofs.Filling.{tried as tried_by}
 use Rattle.par2_disk.proofs.Stores.{reads_on}

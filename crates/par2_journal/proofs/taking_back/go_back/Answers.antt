@@ -1,6 +1,6 @@
 use Rattle.par2_journal.proofs.Common.{◌≡◌, ◌≤◌, true, Bool, inr, refl, length, sym, ap, ◌∙◌, arith, pointwise, bytes_eq, length-map, not-false, not-true, FolderState, takes_all, are_applicable, takes_applicable, leads_through, change_of, changes_in}
 use Rattle.std.specs.Prelude.{List}
-use Rattle.par2_folder.specs.declared.change.Change.{Change}
+use Rattle.par2_files.specs.declared.change.Change.{Change}
 use Rattle.par2_journal.proofs.Openings.{goes, goes_not}
 use Rattle.par2_journal.proofs.Readiness.{places_within}
 use Rattle.par2_journal.proofs.Ways.{went_forth}

@@ -10,7 +10,7 @@ returns-clause-ok c =
     let b = c.args.tail.now in
     let claimed : List ℕ = to_le_bytes w64 (64 + length a + length b) in
     let both = λ (xs ys : List ℕ). xs ++ ys in
-    let claim = c.in_ok-extend_from_slice.ensures.items ∙ ap₂ both c.in_ok-reserve.ensures.items c.as_flattened.ensures.value ∙ ap (λ (n : List ℕ). text ++ (magic ++ (n ++ []))) c.to_le_bytes.ensures in
+    let claim = c.in_ok-extend_from_slice.ensures.items ∙ ap₂ both c.in_ok-reserve.ensures.items c.as_flattened.ensures.value ∙ ap (λ (n : List ℕ). text ++ (magic ++ (n ++ []))) c.u64_bytes.ensures in
     let header = c.in_ok-extend_from_slice-2.ensures.items ∙ ap₂ both claim c.as_flattened-2.ensures.value in
     let is = c.in_ok-extend_from_slice-3.ensures.items ∙ ap (λ (xs : List ℕ). xs ++ a) header in
     appended c.extend_from_slice-4.result c.extend_from_slice-4.new.self.items c.extend_from_slice-3.new.self.items b _ c.extend_from_slice-4.ensures.items

@@ -1,5 +1,5 @@
 use Rattle.par2_packets.proofs.Common.{◌≡◌, ◌≤◌, ◌∙◌, ◌+◌, ◌*◌, ◌-◌, length, ℕ, List, map, ap, arith, rules, range_with_len, IfOk-weaker, md5, bytes_at}
-use Rattle.par2_digests.specs.Texts.{texts_of}
+use Rattle.par2_md5_lanes.specs.Texts.{texts_of}
 use Rattle.std.specs.Prelude.{drop}
 use Rattle.std.proofs.Math.Nat.{le_trans, mul-le-mul_right}
 use Rattle.std.proofs.lemmas.Iterator.{serves_from_Range, YieldsList-from_map_by, YieldsList-from_range, items_from_drains}

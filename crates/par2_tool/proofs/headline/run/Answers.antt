@@ -3,7 +3,7 @@ use Rattle.std.specs.FinMap as map_of
 use Rattle.par2_tool.proofs.RunEffects.{IsRefused, accepted_with_zero, effect_of, repair_refused, repaired, stopped_effect}
 use Rattle.par2_tool.proofs.RunCalls.{verify_makes_none}
 use Rattle.par2_tool.proofs.Statuses.{own_status, shown_status, told_of}
-use Rattle.par2_tool.proofs.UndoneRuns.{leaves_older}
+use Rattle.par2_tool.proofs.UndoneRuns.{leaves_first, leaves_older}
 use Rattle.par2_tool.proofs.headline.run.Goals.{After-run}
 use Rattle.par2_tool.proofs.headline.run.Goals as goal
 
@@ -90,6 +90,12 @@ returns-clause-undone g c started honest asked opens zero =
     let effect = effect_with_zero g c Undo honest asked zero in
     let laws = c.runs_keep_one_history.ensures in
     leaves_older laws.kept c.stores_open_in_one_way.ensures _ _ started opens effect (laws.settled _ _ Undo effect)
+
+pub returns-clause-back : goal.returns-clause-back
+returns-clause-back g c folder honest asked from zero =
+    let effect = effect_with_zero g c Undo honest asked zero in
+    let laws = c.runs_keep_one_history.ensures in
+    leaves_first c.stores_open_in_one_way.ensures c.undone_runs_lead_back.ensures.opens folder _ _ from effect (laws.settled _ _ Undo effect)
 
 pub returns-clause-done : goal.returns-clause-done
 returns-clause-done g c action honest asked zero =

@@ -1,4 +1,5 @@
-use Rattle.recovery_calls.proofs.Common.{inl, inr, ◌≡◌, arith, rules, IsTrue, below_more, cases_lt}
+use Rattle.recovery_calls.proofs.Common.{inl, inr, ◌≡◌, arith, rules, IsTrue, below_more}
+use Rattle.std.proofs.lemmas.Bool.{cases_lt}
 use Rattle.recovery_calls.proofs.outputs.are_apart.Goals as goal
 
 pub loop-t-preserved : goal.loop-t-preserved

@@ -1,4 +1,5 @@
-use Rattle.recovery_calls.proofs.Common.{rules, arith, subst, IsTrue, below_more, place_at, AreBeside, Place}
+use Rattle.recovery_calls.proofs.Common.{rules, arith, subst, IsTrue, below_more, place_at, AreBeside}
+use Rattle.par2_transform.specs.declared.outputs.Place.{Place}
 use Rattle.recovery_calls.proofs.outputs.is_apart.Goals as goal
 
 pub loop-s-preserved : goal.loop-s-preserved

@@ -1,7 +1,0 @@
-use Rattle.std.proofs.Common.{refl}
-use Rattle.std.proofs.lemmas.Iterator.{items_from_collect}
-use Rattle.std.proofs.lemmas.Iterator.Adapters.{YieldsList-from_vec}
-use Rattle.par2.proofs.words_in.Goals as goal
-
-pub returns : goal.returns
-returns c = items_from_collect _ c.collect.ensures.ran (YieldsList-from_vec _ refl c.args.args.rest.ok.0)

@@ -1,0 +1,19 @@
+-- What reading words answers.
+use Rattle.std.specs.Prelude.{◌≡◌, Result, IfErr, IfOk}
+use Rattle.par2_spec.specs.Commands.{Action}
+use Rattle.par2_spec.specs.Views.{command_of}
+use Rattle.par2_spec.specs.declared.commands.Command.{Command}
+use Rattle.par2_spec.specs.declared.Failure.{Failure}
+use Rattle.par2_spec.specs.declared.Failure.TheVariants as failure
+use Rattle.par2_spec.specs.declared.Fault.TheVariants.{Memory}
+use Rattle.par2_arguments.specs.declared.read.WordsFault.{WordsFault}
+use Rattle.par2_arguments.specs.declared.read.WordsFault.TheVariants as unread
+
+-- what is reported of words that aren't read
+abbrev pub unread_as : WordsFault → Failure
+unread_as unread.Arguments = failure.Arguments
+unread_as unread.Memory = failure.Refused Memory
+
+-- the command asks for the action, or memory ran out
+abbrev pub IsMeant : Result Command WordsFault → Action → Type 0
+IsMeant result action = IfOk result (λ command. command_of command ≡ action) × IfErr result (λ fault. fault ≡ unread.Memory)

@@ -1,0 +1,61 @@
+-- The names that proofs of this crate take from elsewhere.
+
+pub use Rattle.std.proofs.Common.{Bool, Bor, Err, Global, List, None, Option, Some, Vec, [], ap, append-nil, append_assoc, ap₂, arith, below_more, cond, drop, eqb, false, get_or, inl, inr, length, length-append, map, mul-le-mul_right, nat_le, nat_lt, not, refl, replicate, rules, string_bytes, subst, suc, sym, take, tests, true, zero, zero-add, ℕ, ◌%◌, ◌&&◌, ◌*◌, ◌++◌, ◌+◌, ◌-◌, ◌/◌, ◌<◌, ◌||◌, ◌∙◌, ◌∷◌, ◌≡◌, ◌≤◌}
+pub use Rattle.std.proofs.lemmas.Bool.{and_from, and_parts, cases_lt, eq-eqb, eqb-false, eqb-true, false_from_ne_true, false≢true, le-leb, le-ltb, leb-true, lt-ltb, ltb-false, ltb-true, ne_eqb, not-false, not-true, not_from_false, not_from_true, or_from, or_parts}
+pub use Rattle.std.proofs.lemmas.Grind.{div_ceil_times, flat_map-append}
+pub use Rattle.std.proofs.lemmas.Iterator.{YieldsList-from_slice, items_from_collect}
+pub use Rattle.std.proofs.lemmas.List.{drop_all, drop_at, drop_more, ext_get_or, flat_map_more, get_or-append_right, get_or-drop, get_or-map, get_or-take, get_or_append_left, get_or_default, length-drop, length-map, length-replicate, length-take-le, map-append, map_more, nil_from_length, take-append-drop, take-map, take_all, take_at, take_more, with_items_is}
+pub use Rattle.std.proofs.lemmas.List.Folds.{flat_map-map, length-flat_map-take, list_any-append}
+pub use Rattle.std.proofs.lemmas.List.FromFn.{get_or-enumerate_from, get_or-map-range_with_len, get_or-range_with_len, length-enumerate_from, length-map-range_with_len, length-range_with_len, map-range_with_len_more}
+pub use Rattle.std.proofs.lemmas.List.Sums.{position_or_len_is, sum_by-cons, sum_by_more_le}
+pub use Rattle.std.proofs.lemmas.Result.{IfOk-weaker, err_from_is_err_and, on_ok_weaker}
+pub use Rattle.std.proofs.lemmas.Simd.{map-map}
+pub use Rattle.std.specs.List.{AllByRecursion, IsDistinct, cons_option, enumerate_from, list_any, position_or_len, range_with_len, starts_with}
+pub use Rattle.std.specs.Prelude.{IfOk, IfSome, codes, filter, filter_map, flat_map, is_some, nat_eq, option_map, position, sum_by, ◌==◌}
+pub use Rattle.std.specs.Str.{bytes_eq, is_utf8}
+pub use Rattle.std.specs.Vec.Iter.{into_iter_items, into_iter_len}
+pub use Rattle.par2_create.specs.Faults.{duplicate_input, existing, long_name}
+unfoldable pub use Rattle.par2_create.specs.Faults.{files_fault, ids_fault, inputs_fault}
+pub use Rattle.par2_create.specs.Outputs.{HasExponents, HasSlices, HaveExponents, RecordsInputs, inputs_of, names_of, output_names, packets_between, put_change, volume_at, volume_file, volume_if, volumes_asked, volumes_of}
+pub use Rattle.par2_create.specs.Volumes.{as_file, blank_volume, exponents_in, exponents_of, length_with, nth_volume, place_in, places_in, places_of, slice_of, volume_with, with_slices}
+pub use Rattle.par2_create.specs.declared.names.Volume.{Volume}
+pub use Rattle.par2_create.specs.declared.outputs.Parts.{Parts}
+pub use Rattle.par2_packets.proofs.LaterDigests.{head_of, length-head, length-undigested, part_from, undigested_is}
+pub use Rattle.par2_packets.proofs.Pieces.{drop_behind, length-pieces, piece_at}
+pub use Rattle.par2_packets.specs.Pieces.{ArePieces}
+pub use Rattle.par2_packets.specs.Recoveries.{digested, undigested}
+pub use Rattle.par2_packets.specs.Views.{file_record_of}
+pub use Rattle.par2_packets.specs.declared.record.FileRecord.{FileRecord}
+pub use Rattle.par2_create.specs.Records.{AreRecords}
+pub use Rattle.par2_slices.specs.Texts.{texts_of}
+pub use Rattle.par2_solve.specs.Writing.{AreWritten, AreZeros, output_at}
+pub use Rattle.par2_spec.proofs.CreateLaws.{create_applies, names_of_outputs}
+pub use Rattle.par2_spec.proofs.ListsLaws.{any-map, map-cond, range-append}
+pub use Rattle.par2_spec.proofs.NameTests.{name_is_short, name_of, tests_of}
+pub use Rattle.par2_spec.proofs.NamesLaws.{AreDistinct, clash, distinct_from_std, distinct_same, std_from_distinct}
+pub use Rattle.par2_spec.proofs.PassedAnswers.{answered_so, never_found, refused_by}
+pub use Rattle.par2_spec.proofs.Places.{position-map}
+pub use Rattle.par2_spec.proofs.ReadLaws.{distinct_by_length, size_parts}
+pub use Rattle.par2_spec.proofs.TestLaws.{all_none, at_none, where_none}
+pub use Rattle.par2_spec.proofs.TreeLaws.{holds_more}
+pub use Rattle.par2_spec.specs.Changes.{Change, are_applicable, effects}
+pub use Rattle.par2_spec.specs.Commands.{Create, CreateArgs, files_of, outputs_of}
+pub use Rattle.par2_spec.specs.Faults.{fault_at, fault_where, first_fault}
+pub use Rattle.par2_spec.specs.Folders.{File, Folder, bytes_of, has}
+pub use Rattle.par2_spec.specs.NameTrees.{HoldsNames}
+pub use Rattle.par2_spec.specs.Names.{distinct, is_among, is_name, is_par_name}
+pub use Rattle.par2_spec.specs.Packets.{packet}
+pub use Rattle.par2_spec.specs.Plans.{create_changes}
+unfoldable pub use Rattle.par2_spec.specs.Plans.{changes_of}
+pub use Rattle.par2_spec.specs.Refusals.{are_counts, bad_name, is_input_name}
+unfoldable pub use Rattle.par2_spec.specs.Refusals.{after, create_refusal, early_refusal, head_fault, refusal}
+pub use Rattle.par2_spec.specs.Sets.{is_slice_size}
+pub use Rattle.par2_spec.specs.Slices.{padded, slice_at, slice_count, slices}
+pub use Rattle.par2_spec.specs.Sums.{list_at, lists_of}
+pub use Rattle.par2_spec.specs.Views.{create_args_of}
+pub use Rattle.par2_spec.specs.Volumes.{all_slices, creator_bytes, desc_bytes, five_digits, id_of, ifsc_bytes, in_id_order, main_bytes, main_id, packet_of, recovery_bytes, recovery_packets, stem, volume_name, volume_numbers, volume_size, volumes_before}
+unfoldable pub use Rattle.par2_spec.specs.Volumes.{index_packets, record_of, volumes}
+pub use Rattle.par2_spec.specs.declared.Fault.{Fault}
+pub use Rattle.par2_spec.specs.declared.Fault.TheVariants.{BadBase, BadCount, BadName, BadSliceSize, DuplicateId, DuplicateInput, EmptyFile, NameTooLong, NoInput, NoSuchFile, TooManySlices}
+pub use Rattle.par2_spec.specs.declared.Kind.TheVariants.{Creator, FileDesc, Ifsc, Main, Recovery}
+pub use Rattle.par2_transform.specs.declared.outputs.Place.{Place}

@@ -1,0 +1,14 @@
+mod Common
+mod FileRecords
+mod GoodWords
+mod Ids
+mod IndexBytes
+mod OutputChanges
+mod Places
+mod RefusalGroups
+mod SliceCounts
+mod SliceLists
+mod VolumeNames
+mod VolumeNumbers
+mod VolumePlaces
+mod VolumeStages

@@ -1,0 +1,132 @@
+use Rattle.par2_create.proofs.Common.{◌≡◌, ◌∙◌, ◌∷◌, inr, refl, sym, ap, ap₂, subst, true, Some, Err, List, ℕ, map, string_bytes, None, Option, is_par_name, err_from_is_err_and, Folder, Create, CreateArgs, bad_name, early_refusal, refusal, after, create_args_of, Fault, Volume, long_name, existing, inputs_fault, volumes_of, names_of, output_names, are_applicable, effects, changes_of, create_applies, answered_so, never_found}
+use Rattle.par2_spec.proofs.EarlyLaws.{refused_early}
+use Rattle.par2_spec.proofs.CommandLaws.{create_leads}
+use Rattle.par2_create.proofs.GoodWords.{head_passed}
+use Rattle.par2_create.proofs.VolumeNumbers.{long_without_base}
+use Rattle.par2_create.proofs.RefusalGroups.{early_by, refused_by}
+use Rattle.par2_create.proofs.create.plan_create.Goals.{In-Some, After-set_of_inputs, After-existing}
+use Rattle.par2_spec.proofs.PassedAnswers as passed
+use Rattle.par2_create.proofs.create.plan_create.Goals as goal
+
+-- a word is bad: that is answered before memory is wanted
+early_word : (c : In-Some) → early_refusal c.args.folder.now.files (Create (create_args_of c.args.args.now)) ≡ Some c.in-Some.fault
+early_word c =
+    early_by c.args.folder.now.files _ None (Some c.in-Some.fault) c.in_ok-base.ensures.accepted (ap (λ words. bad_name (map string_bytes words)) (sym c.deref.ensures.value) ∙ sym c.bad_name.ensures ∙ c.in-Some.is)
+
+none_early : (c : After-set_of_inputs) → early_refusal c.args.folder.now.files (Create (create_args_of c.args.args.now)) ≡ None
+none_early c =
+    early_by c.args.folder.now.files _ None None c.in_ok-base.ensures.accepted (ap (λ words. bad_name (map string_bytes words)) (sym c.deref.ensures.value) ∙ sym c.bad_name.ensures ∙ c.in_default.is)
+
+-- the outputs' names are not too long, and are those that were looked for
+abbrev AreNamed : Folder → CreateArgs → Option Fault → Type 0
+AreNamed folder a answer = (long_name (output_names a) ≡ None) × (existing folder a.overwrite (output_names a) ≡ answer)
+
+named : (c : After-existing) → AreNamed c.args.folder.now.files (create_args_of c.args.args.now) c.existing.result
+named c =
+    let a = create_args_of c.args.args.now in
+    let name = c.in_ok-base.ensures.name in
+    let volumes : c.deref-2.result.now ≡ volumes_of a.base a.first a.count = c.deref-2.ensures.value ∙ c.in_ok-volumes.ensures.volumes ∙ ap (λ base. volumes_of base a.first a.count) name in
+    let names : c.in_ok-base.base ∷ names_of c.deref-2.result.now ≡ output_names a = ap₂ (λ (base : List ℕ) (vs : List Volume). base ∷ names_of vs) name volumes in (
+      long_without_base a c.in_ok-base.ensures.accepted ∙ subst (λ base. long_name (names_of (volumes_of base a.first a.count)) ≡ None) name c.in_ok-volumes.ensures.accepted,
+      ap (existing c.args.folder.now.files a.overwrite) (sym names) ∙ sym c.existing.ensures,
+    )
+
+pub returns-in_err-base-clause-refused : goal.returns-in_err-base-clause-refused
+returns-in_err-base-clause-refused c =
+    let folder = c.args.folder.now.files in
+    let a = create_args_of c.args.args.now in
+    let fault : Fault = c.in_err-base.field-0.0 in
+    passed.refused_by (λ y. y ≡ fault) (λ y. refusal folder (Create a) ≡ Some y) c.from_residual.result fault (err_from_is_err_and c.from_residual.result c.from_residual.ensures.1) (inr refl)
+    (λ _. refused_by folder a (Some fault) _ _ _ c.in_err-base.ensures.refused refl refl refl)
+
+pub returns-in_err-base-clause-early : goal.returns-in_err-base-clause-early
+returns-in_err-base-clause-early c fault early =
+    let p = err_from_is_err_and c.from_residual.result c.from_residual.ensures.1 in
+    answered_so c.from_residual.result _ c.in_err-base.field-0.0 fault (p.1 ∙ ap Err p.2)
+    (early_by c.args.folder.now.files (create_args_of c.args.args.now) (Some c.in_err-base.field-0.0) _ c.in_err-base.ensures.refused refl) early
+
+pub returns-in-Some-clause-refused : goal.returns-in-Some-clause-refused
+returns-in-Some-clause-refused c =
+    inr (refused_early c.args.folder.now.files (Create (create_args_of c.args.args.now)) c.in-Some.fault (early_word (goal.at.returns-in-Some-clause-refused c).In-Some))
+
+pub returns-in-Some-clause-early : goal.returns-in-Some-clause-early
+returns-in-Some-clause-early c fault early = answered_so _ _ c.in-Some.fault fault refl (early_word (goal.at.returns-in-Some-clause-early c).In-Some) early
+
+pub set_of_inputs-requires-clause-slice : goal.set_of_inputs-requires-clause-slice
+set_of_inputs-requires-clause-slice c = (head_passed _ c.in_ok-base.ensures.accepted).positive
+
+pub set_of_inputs-requires-clause-words : goal.set_of_inputs-requires-clause-words
+set_of_inputs-requires-clause-words c = ap (λ words. bad_name (map string_bytes words)) (sym c.deref.ensures.value) ∙ sym c.bad_name.ensures ∙ c.in_default.is
+
+pub returns-in_err-set-clause-refused : goal.returns-in_err-set-clause-refused
+returns-in_err-set-clause-refused c =
+    let folder = c.args.folder.now.files in
+    let a = create_args_of c.args.args.now in
+    let fault : Fault = c.in_err-set.field-0.0 in
+    passed.refused_by (λ y. inputs_fault folder a.slice a.inputs ≡ Some y) (λ y. refusal folder (Create a) ≡ Some y) c.from_residual-in_err-set.result fault
+    (err_from_is_err_and c.from_residual-in_err-set.result c.from_residual-in_err-set.ensures.1) c.in_err-set.ensures.refused
+    (λ cause. refused_by folder a None (Some fault) _ _ c.in_ok-base.ensures.accepted cause refl refl)
+
+pub volumes-requires-clause-base : goal.volumes-requires-clause-base
+volumes-requires-clause-base c = subst (λ base. is_par_name base ≡ true) (sym c.in_ok-base.ensures.name) (head_passed _ c.in_ok-base.ensures.accepted).par_name
+
+pub volumes-requires-clause-exponents : goal.volumes-requires-clause-exponents
+volumes-requires-clause-exponents c = (head_passed _ c.in_ok-base.ensures.accepted).exponents
+
+pub returns-in_err-volumes-clause-refused : goal.returns-in_err-volumes-clause-refused
+returns-in_err-volumes-clause-refused c =
+    let folder = c.args.folder.now.files in
+    let a = create_args_of c.args.args.now in
+    let fault : Fault = c.in_err-volumes.field-0.0 in
+    let head = c.in_ok-base.ensures.accepted in
+    passed.refused_by (λ y. long_name (names_of (volumes_of c.in_ok-base.base a.first a.count)) ≡ Some y) (λ y. refusal folder (Create a) ≡ Some y) c.from_residual-in_err-volumes.result fault
+    (err_from_is_err_and c.from_residual-in_err-volumes.result c.from_residual-in_err-volumes.ensures.1) c.in_err-volumes.ensures.refused
+    (λ cause. refused_by folder a None None (Some fault) _ head c.in_ok-set.ensures.accepted
+    (long_without_base a head ∙ subst (λ base. long_name (names_of (volumes_of base a.first a.count)) ≡ Some fault) c.in_ok-base.ensures.name cause) refl)
+
+pub returns-in-Some-existing-clause-refused : goal.returns-in-Some-existing-clause-refused
+returns-in-Some-existing-clause-refused c =
+    let is = named (goal.at.returns-in-Some-existing-clause-refused c).After-existing in
+    inr (refused_by c.args.folder.now.files (create_args_of c.args.args.now) None None None (Some c.in-Some-existing.fault) c.in_ok-base.ensures.accepted c.in_ok-set.ensures.accepted is.0 (is.1 ∙ c.in-Some-existing.is))
+
+pub returns-clause-accepted : goal.returns-clause-accepted
+returns-clause-accepted c =
+    let is = named (goal.at.returns-clause-accepted c).After-existing in
+    refused_by c.args.folder.now.files (create_args_of c.args.args.now) None None None None c.in_ok-base.ensures.accepted c.in_ok-set.ensures.accepted is.0 (is.1 ∙ c.in_default-existing.is)
+
+pub returns-clause-changes : goal.returns-clause-changes
+unfolding changes_of
+returns-clause-changes c = c.in_ok-changes.ensures
+
+pub returns-clause-applies : goal.returns-clause-applies
+returns-clause-applies c = ap (are_applicable c.args.folder.now.files) c.in_ok-changes.ensures ∙ create_applies c.args.folder.now.files (create_args_of c.args.args.now)
+
+pub returns-clause-leads : goal.returns-clause-leads
+unfolding after
+returns-clause-leads c = ap (effects c.args.folder.now.files) c.in_ok-changes.ensures ∙ create_leads c.args.folder.now.files (create_args_of c.args.args.now)
+
+pub returns-in_err-set-clause-early : goal.returns-in_err-set-clause-early
+returns-in_err-set-clause-early c fault early = absurd (never_found _ fault (none_early (goal.at.returns-in_err-set-clause-early c).After-set_of_inputs) early)
+
+pub returns-in_err-volumes-clause-early : goal.returns-in_err-volumes-clause-early
+returns-in_err-volumes-clause-early c fault early = absurd (never_found _ fault (none_early (goal.at.returns-in_err-volumes-clause-early c).After-set_of_inputs) early)
+
+pub returns-in-Some-existing-clause-early : goal.returns-in-Some-existing-clause-early
+returns-in-Some-existing-clause-early c fault early = absurd (never_found _ fault (none_early (goal.at.returns-in-Some-existing-clause-early c).After-set_of_inputs) early)
+
+pub returns-in_err-changes-clause-early : goal.returns-in_err-changes-clause-early
+returns-in_err-changes-clause-early c fault early = absurd (never_found _ fault (none_early (goal.at.returns-in_err-changes-clause-early c).After-set_of_inputs) early)
+
+pub returns-clause-early : goal.returns-clause-early
+returns-clause-early c fault early = absurd (never_found _ fault (none_early (goal.at.returns-clause-early c).After-set_of_inputs) early)
+
+pub outputs_written-requires : goal.outputs_written-requires
+outputs_written-requires c =
+    let a = create_args_of c.args.args.now in
+    record {
+      head = c.in_ok-base.ensures.accepted;
+      inputs = c.in_ok-set.ensures.accepted;
+      base = c.in_ok-base.ensures.name;
+      set = c.in_ok-set.ensures.set;
+      volumes = c.deref-3.ensures.value ∙ c.in_ok-volumes.ensures.volumes ∙ ap (λ base. volumes_of base a.first a.count) c.in_ok-base.ensures.name;
+    }

@@ -1,0 +1,4 @@
+pub mod Records
+pub mod Faults
+pub mod Outputs
+pub mod Volumes

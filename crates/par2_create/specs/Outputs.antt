@@ -1,0 +1,88 @@
+-- The outputs of a create, by parts.
+use Rattle.std.specs.Prelude.{ℕ, ◌≡◌, ◌≤◌, ◌+◌, ◌%◌, nat_lt, List, [], ◌∷◌, ◌++◌, length, map, flat_map, if◌then◌else◌}
+use Rattle.std.specs.List.{All}
+use Rattle.par2_spec.specs.Packets.{Packet, packet}
+use Rattle.par2_spec.specs.Folders.{Folder, File, has}
+use Rattle.par2_spec.specs.Changes.{Change, Write, Replace}
+use Rattle.par2_spec.specs.Volumes.{volume_name, volume_numbers, volumes_before, volume_size, recovery_packets, record_of, in_id_order}
+use Rattle.par2_spec.specs.Commands.{CreateArgs, files_of}
+use Rattle.par2_packets.specs.Views.{file_record_of}
+use Rattle.par2_create.specs.Records as records
+use Rattle.par2_create.specs.declared.records.RecoverySet.{RecoverySet}
+use Rattle.par2_create.specs.declared.names.Volume.{Volume}
+use Rattle.par2_create.specs.declared.outputs.Parts.{Parts}
+
+-- volume i of c recovery slices from exponent f on
+abbrev pub volume_at : List ℕ → ℕ → ℕ → ℕ → Volume
+volume_at base f c i = record {
+  name = volume_name base (f + volumes_before i) (volume_size c i);
+  first = f + volumes_before i;
+  count = volume_size c i;
+}
+
+-- it, where there is one
+abbrev pub volume_if : List ℕ → ℕ → ℕ → ℕ → List Volume
+volume_if base f c i = if nat_lt (volumes_before i) c then volume_at base f c i ∷ [] else []
+
+-- all of them, in order
+abbrev pub volumes_of : List ℕ → ℕ → ℕ → List Volume
+volumes_of base f c = map (volume_at base f c) (volume_numbers c)
+
+-- those that a create asks for
+abbrev pub volumes_asked : CreateArgs → List Volume
+volumes_asked a = volumes_of a.base a.first a.count
+
+-- its exponents are among the 65,536 that recovery slices can have
+abbrev pub HasExponents : Volume → Type 0
+HasExponents volume = volume.first + volume.count ≤ 65536
+
+-- so are those of all volumes
+abbrev pub HaveExponents : List Volume → Type 0
+HaveExponents volumes = All HasExponents volumes
+
+abbrev pub names_of : List Volume → List (List ℕ)
+names_of volumes = map (λ volume. volume.name) volumes
+
+-- the names of the outputs, the index first
+abbrev pub output_names : CreateArgs → List (List ℕ)
+output_names a = a.base ∷ names_of (volumes_asked a)
+
+-- a set says of a create's inputs what it has to, in the order of their File IDs
+pub record RecordsInputs (folder : Folder) (a : CreateArgs) (set : RecoverySet) : Type 0 where
+  pub slice : set.slice ≡ a.slice
+  pub files : map file_record_of set.files.items ≡ map (record_of a.slice) (in_id_order (files_of folder a.inputs))
+  pub order : files_of folder (records.names_of set.files.items) ≡ in_id_order (files_of folder a.inputs)
+
+-- the slices of a set's files, one file after the other
+abbrev pub inputs_of : Parts → List (List ℕ)
+inputs_of parts = records.slices_of parts.folder.now.files parts.set.now.slice parts.set.now.files.items
+
+-- recovery slices can be made of them, and packets
+pub record HasSlices (parts : Parts) : Type 0 where
+  pub sixteen : length parts.set_id ≡ 16
+  pub positive : 1 ≤ parts.set.now.slice
+  pub fours : parts.set.now.slice % 4 ≡ 0
+  pub few : length (inputs_of parts) ≤ 32768
+
+-- the packets of n recovery slices from exponent e on
+abbrev pub packets_between : Parts → ℕ → ℕ → List Packet
+packets_between parts e n = recovery_packets parts.set.now.slice parts.set_id (inputs_of parts) e n
+
+-- the bytes of a volume
+abbrev pub volume_text : Parts → Volume → List ℕ
+volume_text parts volume = parts.index.items ++ flat_map packet (packets_between parts volume.first volume.count)
+
+-- it as a file
+abbrev pub volume_file : Parts → Volume → File
+volume_file parts volume = (volume.name, volume_text parts volume)
+
+-- a file is replaced where it is there already
+abbrev pub put_change : Folder → File → Change
+put_change folder file = if has folder file.0 then Replace file.0 file.1 else Write file.0 file.1
+
+-- the changes that write the outputs, the index under this name
+abbrev pub output_changes : List ℕ → Parts → List Volume → List Change
+output_changes base parts volumes =
+    let folder = parts.folder.now.files in
+    put_change folder (base, parts.index.items)
+    ∷ map (λ volume. put_change folder (volume_file parts volume)) volumes

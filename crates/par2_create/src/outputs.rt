@@ -1,0 +1,58 @@
+//! The files that a create writes.
+ghost use Rattle.std.specs.Prelude.{◌≡◌, ◌++◌, map, IfOk, OnOk};
+ghost use Rattle.par2_files.specs.Views.{change_of};
+ghost use Rattle.par2_create.specs.Outputs.{HasSlices, HaveExponents, put_change, output_changes};
+ghost use Rattle.par2_create.specs.Volumes.{as_file};
+
+use crate::Changes;
+use crate::names::Volume;
+use crate::records::RecoverySet;
+use crate::volumes::volume_files;
+use par2_files::{Bytes, Change, Folder, Name};
+use par2_spec::Result;
+use std::alloc::Global;
+
+/// What the outputs are made of: the bytes of the index, the set's identifier, and the set whose files stand in the
+/// folder.
+#[derive(Drop)]
+pub struct Parts<'a> {
+    pub index: Vec<u8>,
+    pub set_id: [u8; 16],
+    pub set: &'a RecoverySet,
+    pub folder: &'a Folder,
+}
+
+// A file is written, or replaced where it is there already.
+fn put(folder: &Folder, name: Name, bytes: Vec<u8>) -> Change
+    ensures { change_of result ≡ put_change folder.now.files (name, bytes.items) }
+{
+    if folder.get(&name).is_some() {
+        Change::Replace(name, Bytes::from(bytes))
+    } else {
+        Change::Write(name, Bytes::from(bytes))
+    }
+}
+
+// Adds the changes that write these files.
+fn push_files(changes: &mut Changes, folder: &Folder, files: Vec<(Name, Vec<u8>)>) -> Result<()>
+    ensures { let added = map (λ file. put_change folder.now.files (as_file file)) files.items in
+        OnOk result (changes.new ≡ changes.old ++ added) }
+{
+    for (name, bytes) in files {
+        changes.push(put(folder, name, bytes))?;
+    }
+    Ok(())
+}
+
+/// The changes that write the outputs: the index, and the volumes in order.
+pub fn changes_of(alloc: Global, base: Name, parts: Parts, volumes: &[Volume]) -> Result<Changes>
+    requires parts { HasSlices parts }
+    requires exponents { HaveExponents volumes.now }
+    ensures { IfOk result (λ changes. changes ≡ output_changes base parts.entry volumes.now) }
+{
+    let files = volume_files(alloc, &parts, volumes)?;
+    let mut changes = Changes::new(alloc);
+    changes.push(put(parts.folder, base, parts.index))?;
+    push_files(&mut changes, parts.folder, files)?;
+    Ok(changes)
+}

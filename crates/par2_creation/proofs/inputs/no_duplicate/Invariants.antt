@@ -1,6 +1,0 @@
-use Rattle.par2_creation.proofs.Common.{◌≡◌, ◌<◌, ℕ, false, take, HoldsNames}
-use Rattle.par2_creation.proofs.Places.{comes_again}
-use Rattle.par2_creation.proofs.inputs.no_duplicate.Given as goal
-
-abbrev pub invariant-loop-i : goal.invariant-loop-i
-invariant-loop-i l = ((k : ℕ) → k < l.i → comes_again l.names k ≡ false) × HoldsNames l.seen (take l.i l.names)

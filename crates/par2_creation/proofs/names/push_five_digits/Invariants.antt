@@ -1,5 +1,0 @@
-use Rattle.par2_creation.proofs.Common.{◌≡◌, ◌+◌, ◌++◌, ◌/◌, ◌%◌, map, take, string_bytes}
-use Rattle.par2_creation.proofs.names.push_five_digits.Given as goal
-
-abbrev pub invariant-loop-power : goal.invariant-loop-power
-invariant-loop-power l = string_bytes l.text ≡ string_bytes l.initial.text ++ map (λ power. 48 + l.n / power % 10) (take l.power-index l.power-items)

@@ -1,8 +1,0 @@
-use Rattle.par2_creation.proofs.Common.{◌≡◌, None, long_name, names_of}
-use Rattle.par2_creation.proofs.VolumeNumbers.{volumes_below}
-use Rattle.par2_creation.proofs.names.volumes.Given as goal
-
-abbrev pub invariant-loop-i : goal.invariant-loop-i
-invariant-loop-i l =
-    (l.volumes.items ≡ volumes_below l.base l.first l.count l.i)
-    × (long_name (names_of (volumes_below l.base l.first l.count l.i)) ≡ None)

@@ -1,6 +1,0 @@
-use Rattle.par2_digests.proofs.Common.{arith, digest_bytes, hash_after, md5, common_steps}
-use Rattle.par2_digests.proofs.midstate.Midstate.digest.Goals as goal
-
-pub returns : goal.returns
-unfolding md5
-returns c = grind (arith, common_steps, digest_bytes, hash_after, c.absorb.ensures, c.digest_of.ensures, c.ending.ensures)

@@ -1,6 +1,0 @@
-use Rattle.par2_digests.proofs.Common.{refl, hash_after}
-use Rattle.par2_digests.proofs.midstate.Midstate.new.Goals as goal
-
-pub returns : goal.returns
-unfolding hash_after
-returns c = (refl, (refl, refl))

@@ -1,8 +1,0 @@
-use Rattle.par2_digests.proofs.Common.{◌≡◌, [], get_or, length, TakeAll, texts_of}
-use Rattle.par2_digests.proofs.pending.pendings_of.Given as goal
-
-abbrev pub invariant-loop-i : goal.invariant-loop-i
-invariant-loop-i l = record {
-  count : length l.pendings.items ≡ l.i;
-  each : TakeAll l.pendings.items (λ k. get_or (texts_of l.texts) k []);
-}

@@ -1,8 +1,0 @@
-use Rattle.par2_digests.proofs.Common.{◌<◌, ◌*◌, ◌^◌, ℕ, get_or, HasBlocks, Task}
-use Rattle.par2_digests.proofs.tasks.batch_of.Given as goal
-
-abbrev pub invariant-loop-task : goal.invariant-loop-task
-invariant-loop-task l = record {
-  room : l.count * 64 < 2 ^ 64;
-  blocks : (k : ℕ) (none : Task) → k < l.task-index → HasBlocks (get_or l.tasks k none) l.count;
-}

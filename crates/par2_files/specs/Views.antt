@@ -1,0 +1,10 @@
+-- A change of this crate as a change of the definitions.
+use Rattle.par2_spec.specs.Changes as defined
+use Rattle.par2_files.specs.declared.change.Change.{Change}
+use Rattle.par2_files.specs.declared.change.Change.TheVariants.{Write, Replace, Rename, Remove}
+
+abbrev pub change_of : Change → defined.Change
+change_of (Write name bytes) = defined.Write name bytes
+change_of (Replace name bytes) = defined.Replace name bytes
+change_of (Rename from to) = defined.Rename from to
+change_of (Remove name) = defined.Remove name

@@ -1,0 +1,196 @@
+//! What can happen to a folder: the bytes of files, changes, and lists of changes.
+ghost use Rattle.std.specs.Prelude.{◌≡◌, map, IfOk};
+ghost use Rattle.par2_files.specs.Views.{change_of};
+
+use crate::{Folder, Name};
+use par2_spec::Result;
+use std::alloc::Global;
+use std::cmp::min;
+use std::marker::Model;
+
+/// The bytes of a file: a vector that contracts see as their list.
+#[derive(Drop)]
+pub struct Bytes {
+    items: Vec<u8>,
+}
+
+impl Model for Bytes {
+    ghost use Rattle.std.specs.Prelude.{List, ℕ};
+
+    ghost Value = { List ℕ };
+
+    ghost view = { λ a. a.items.items };
+}
+
+impl From<Vec<u8>> for Bytes {
+    ghost use Rattle.std.specs.Prelude.{◌≡◌};
+
+    ghost from_gives = { λ items bytes. bytes ≡ items.items };
+
+    fn from(items: Vec<u8>) -> Self {
+        Bytes { items }
+    }
+}
+
+impl Bytes {
+    ghost use Rattle.std.specs.Prelude.{◌≡◌, IfOk, ◌<◌, ◌^◌, length};
+
+    /// The bytes.
+    pub fn as_slice(&self) -> &[u8]
+        ensures bytes { result.now ≡ self.now }
+        ensures fits { length self.now < 2 ^ 64 }
+    {
+        self.items.as_slice()
+    }
+
+    /// A copy of the bytes.
+    pub fn copy_of(alloc: Global, items: &[u8]) -> Result<Self>
+        ensures { IfOk result (λ bytes. bytes ≡ items.now) }
+    {
+        Ok(Bytes {
+            items: items.to_vec(alloc)?,
+        })
+    }
+}
+
+/// A change of one folder.
+#[derive(Drop)]
+pub enum Change {
+    /// A new file.
+    Write(Name, Bytes),
+    /// Other bytes for a file.
+    Replace(Name, Bytes),
+    /// Another name, which no file has, for a file.
+    Rename(Name, Name),
+    /// A file is no more.
+    Remove(Name),
+}
+
+impl Change {
+    ghost use Rattle.std.specs.Prelude.{◌≡◌, IfOk};
+    ghost use Rattle.par2_files.specs.Views.{change_of};
+    ghost use Rattle.par2_files.specs.Below.{first_name};
+
+    pub(crate) fn copy_of(alloc: Global, change: &Change) -> Result<Change>
+        ensures { IfOk result (λ copy. change_of copy ≡ change_of change.now) }
+    {
+        match change {
+            Change::Write(name, bytes) => {
+                let bytes = Bytes::copy_of(alloc, bytes.as_slice())?;
+                Ok(Change::Write(name.copied(), bytes))
+            }
+            Change::Replace(name, bytes) => {
+                let bytes = Bytes::copy_of(alloc, bytes.as_slice())?;
+                Ok(Change::Replace(name.copied(), bytes))
+            }
+            Change::Rename(from, to) => Ok(Change::Rename(from.copied(), to.copied())),
+            Change::Remove(name) => Ok(Change::Remove(name.copied())),
+        }
+    }
+
+    // The first of the names that it touches, in their order.
+    pub(crate) fn first_name(&self) -> Name
+        ensures { result ≡ first_name (change_of self.now) }
+    {
+        match self {
+            Change::Write(name, _) => name.copied(),
+            Change::Replace(name, _) => name.copied(),
+            Change::Rename(from, to) => min(from.copied(), to.copied()),
+            Change::Remove(name) => name.copied(),
+        }
+    }
+}
+
+/// Changes, in the order in which they are applied: a vector that contracts see as their list.
+#[derive(Drop)]
+pub struct Changes {
+    items: Vec<Change>,
+}
+
+impl Model for Changes {
+    ghost use Rattle.std.specs.Prelude.{List, map};
+    ghost use Rattle.std.specs.Coded.{coded_list};
+    ghost use Rattle.par2_spec.specs.Changes as defined;
+    ghost use Rattle.par2_spec.specs.Codes.{change_code};
+    ghost use Rattle.par2_files.specs.Views.{change_of};
+
+    ghost Value = { List defined.Change };
+
+    ghost coded = { coded_list change_code };
+
+    ghost view = { λ a. map change_of a.items.items };
+}
+
+impl Changes {
+    ghost use Rattle.std.specs.Prelude.{◌≡◌, ◌↔◌, ◌++◌, ◌∷◌, [], length, map, IsTrue, OnOk, OnErr};
+    ghost use Rattle.std.specs.Borrow.{sem};
+    ghost use Rattle.par2_spec.specs.Changes.{takes_all, state_after_all, way_back};
+    ghost use Rattle.par2_files.specs.Views.{change_of};
+    ghost use Rattle.par2_files.specs.Lending.{LendsChanges};
+
+    /// No change.
+    pub fn new(alloc: Global) -> Self
+        ensures { result ≡ [] }
+    {
+        Changes {
+            items: Vec::new(alloc),
+        }
+    }
+
+    /// One more change, after the others.
+    pub fn push(&mut self, change: Change) -> Result<()>
+        ensures ok { OnOk result (self.new ≡ self.old ++ change_of change ∷ []) }
+        ensures err { OnErr result (self.new ≡ self.old) }
+    {
+        Ok(self.items.push(change)?)
+    }
+
+    /// The changes in order.
+    pub fn as_slice(&self) -> &[Change]
+        ensures { map change_of result.now ≡ self.now }
+    {
+        &self.items
+    }
+
+    /// The changes in order, to be turned one by one.
+    pub fn as_mut_slice(&mut self) -> &mut [Change]
+        ensures* writes_back { sem 𝓛 (LendsChanges self.entry result) }
+        ensures value { map change_of result.now ≡ self.old }
+    {
+        &mut self.items
+    }
+
+    /// How many changes there are.
+    pub fn len(&self) -> usize
+        ensures { result ≡ length self.now }
+    {
+        self.items.len()
+    }
+
+    /// Whether there is none.
+    pub fn is_empty(&self) -> bool
+        ensures { IsTrue result ↔ (self.now ≡ []) }
+    {
+        self.items.is_empty()
+    }
+
+    /// Applies the changes in order, and becomes the way back. It takes no memory.
+    pub fn turn(&mut self, folder: &mut Folder)
+        requires { IsTrue (takes_all folder.old self.old) }
+        ensures folder { folder.new ≡ state_after_all folder.old self.old }
+        ensures way_back { self.new ≡ way_back folder.old.files self.old }
+    {
+        folder.apply_all(&mut self.items)
+    }
+}
+
+/// Copies of the changes, in order.
+pub fn copies_of(alloc: Global, changes: &[Change]) -> Result<Vec<Change>>
+    ensures { IfOk result (λ copies. map change_of copies.items ≡ map change_of changes.now) }
+{
+    let mut copies = Vec::new(alloc);
+    for change in changes {
+        copies.push(Change::copy_of(alloc, change)?)?;
+    }
+    Ok(copies)
+}

@@ -1,6 +1,0 @@
-use Rattle.par2_folder.proofs.Common.{arith}
-use Rattle.par2_folder.proofs.LentChanges.{refilled}
-use Rattle.par2_folder.proofs.change.Changes.as_mut_slice.Goals as goal
-
-pub returns : goal.returns
-returns c = grind (arith, refilled)

@@ -1,6 +1,0 @@
-use Rattle.par2_folder.proofs.Common.{change_of}
-use Rattle.par2_folder.proofs.Lists.{IsOnItsWay}
-use Rattle.par2_folder.proofs.folder.Folder.apply_all.Given as goal
-
-abbrev pub invariant-loop-change : goal.invariant-loop-change
-invariant-loop-change l = IsOnItsWay change_of l.fn.self l.self l.fn.changes l.changes l.change-index

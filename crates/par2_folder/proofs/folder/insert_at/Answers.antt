@@ -1,8 +1,0 @@
-use Rattle.par2_folder.proofs.SortedFiles.{inserted}
-use Rattle.par2_folder.proofs.folder.insert_at.Goals as goal
-
-pub returns-clause-kept : goal.returns-clause-kept
-returns-clause-kept c = rw c.in-Ok.ensures.items (inserted _ c.requires.kept _ _ _ c.requires.gap (c.as_str-text.ensures.name, c.as_slice-slice.ensures.fits)).kept
-
-pub returns-clause-folder : goal.returns-clause-folder
-returns-clause-folder c = rw c.in-Ok.ensures.items (inserted _ c.requires.kept _ _ _ c.requires.gap (c.as_str-text.ensures.name, c.as_slice-slice.ensures.fits)).is

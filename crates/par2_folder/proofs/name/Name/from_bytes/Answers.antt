@@ -1,6 +1,0 @@
-use Rattle.par2_folder.proofs.Common.{sym}
-use Rattle.par2_spec.proofs.NameTests.{no_text}
-use Rattle.par2_folder.proofs.name.Name.from_bytes.Goals as goal
-
-pub returns-in_default-clause-variant : goal.returns-in_default-clause-variant
-returns-in_default-clause-variant c = sym (no_text c.args.bytes.now c.in_default.ensures.cases.0)

@@ -1,6 +1,0 @@
-use Rattle.par2_journal_bytes.proofs.Common.{entry_at}
-use Rattle.par2_journal_bytes.proofs.Many.{SoFar}
-use Rattle.par2_journal_bytes.proofs.reading.read_entries.Given as goal
-
-abbrev pub invariant-loop : goal.invariant-loop
-invariant-loop l = SoFar entry_at l.count l.bytes l.entries.items l.counter l.rest

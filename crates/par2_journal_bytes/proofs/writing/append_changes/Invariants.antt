@@ -1,6 +1,0 @@
-use Rattle.par2_journal_bytes.proofs.Common.{take, IsChange, change_bytes, changes_in}
-use Rattle.par2_journal_bytes.proofs.Many.{AreWritten}
-use Rattle.par2_journal_bytes.proofs.writing.append_changes.Given as goal
-
-abbrev pub invariant-loop-change : goal.invariant-loop-change
-invariant-loop-change l = AreWritten IsChange change_bytes (take l.change-index (changes_in l.changes)) l.initial.out.items l.out.items

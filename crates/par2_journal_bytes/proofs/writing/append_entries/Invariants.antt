@@ -1,6 +1,0 @@
-use Rattle.par2_journal_bytes.proofs.Common.{take, IsEntry, entry_bytes}
-use Rattle.par2_journal_bytes.proofs.Many.{AreWritten}
-use Rattle.par2_journal_bytes.proofs.writing.append_entries.Given as goal
-
-abbrev pub invariant-loop-entry : goal.invariant-loop-entry
-invariant-loop-entry l = AreWritten IsEntry entry_bytes (take l.entry-index l.entries) l.initial.out.items l.out.items

@@ -1,0 +1,114 @@
+-- Blocks and numbers: what is read stood there, and what is written is read again.
+use Rattle.par2_journal_format.proofs.Common.{◌≡◌, ℕ, zero, suc, ◌^◌, ◌≤◌, ◌<◌, Bool, true, false, cond, ltb, List, [], ◌∷◌, ◌++◌, length, take, drop, get_or, Option, Some, None, refl, sym, ap, subst, ◌∙◌, append_assoc, arith, flat_map, w64, to_le_bytes, from_le_bytes, AllByRecursion, ltb-false, le-ltb, same_Some, take_at, drop_at, take-append-drop, length-append, length-take-le, ◌>>=◌, block_at, number_at, many_at, AreBytes, bytes-take, bytes-drop, all_at}
+use Rattle.std.proofs.lemmas.Nat.{le_bytes_8, from_le_bytes-to_le_bytes_8}
+use Rattle.par2_journal_format.proofs.Many.{Reader}
+
+-- ---- steps
+
+-- the value of a step that gave one
+pub bind_some : {A B : Type 0} (o : Option A) (f : A → Option B) (y : B) → (o >>= f) ≡ Some y → (x : A) × (o ≡ Some x) × (f x ≡ Some y)
+bind_some (Some x) f y e = (x, refl, e)
+bind_some None f y e = absurd cc
+
+passed : {A : Type 0} (b : Bool) (x y : A) → cond b None (Some x) ≡ Some y → (b ≡ false) × (x ≡ y)
+passed true x y e = absurd cc
+passed false x y e = (refl, cc)
+
+-- what was taken from the front
+pub record Took (bytes text rest : List ℕ) : Type 0 where
+  pub parts : bytes ≡ text ++ rest
+  pub fits : AreBytes rest
+
+pub Took-then : (a x b y c : List ℕ) → Took a x b → Took b y c → Took a (x ++ y) c
+Took-then a x b y c p q = record { parts = p.parts ∙ ap (λ (t : List ℕ). x ++ t) q.parts ∙ sym (append_assoc x y c); fits = q.fits }
+
+pub Took-behind : (k : ℕ) (a x b : List ℕ) → Took a x b → Took (k ∷ a) (k ∷ x) b
+Took-behind k a x b p = record { parts = ap (λ (t : List ℕ). k ∷ t) p.parts; fits = p.fits }
+
+-- a reader takes exactly the texts of what holds
+pub record IsRead {A : Type 0} (one : Reader A) (text_of : A → List ℕ) (P : A → Type 0) : Type 0 where
+  pub takes : (bytes : List ℕ) (x : A × List ℕ) → AreBytes bytes → one bytes ≡ Some x → Took bytes (text_of x.0) x.1 × P x.0
+  pub again : (a : A) (rest : List ℕ) → P a → one (text_of a ++ rest) ≡ Some (a, rest)
+
+-- ---- blocks
+
+abbrev pub IsBlock : ℕ → List ℕ → Type 0
+IsBlock n bytes = length bytes ≡ n
+
+block_takes : (n : ℕ) (bytes : List ℕ) (x : List ℕ × List ℕ) → AreBytes bytes → block_at n bytes ≡ Some x → Took bytes x.0 x.1 × IsBlock n x.0
+unfolding block_at
+block_takes n bytes x fits e =
+    let p = passed (ltb (length bytes) n) (take n bytes, drop n bytes) x e in
+    let long : n ≤ length bytes = ltb-false (length bytes) n p.0 in
+    subst (λ (y : List ℕ × List ℕ). Took bytes y.0 y.1 × IsBlock n y.0) p.1
+    (record { parts = sym (take-append-drop n bytes); fits = bytes-drop n bytes fits }, length-take-le n bytes long)
+
+pub block_again : (n : ℕ) (front rest : List ℕ) → length front ≡ n → block_at n (front ++ rest) ≡ Some (front, rest)
+unfolding block_at
+block_again n front rest h =
+    let long : n ≤ length (front ++ rest) = omega (arith, length-append front rest, h) in
+    rw (le-ltb (length (front ++ rest)) n long, take_at front rest n h, drop_at front rest n h) refl
+
+pub block_read : (n : ℕ) → IsRead (block_at n) (λ bytes. bytes) (IsBlock n)
+block_read n = record { takes = block_takes n; again = block_again n }
+
+-- ---- numbers
+
+below : (bytes : List ℕ) → AreBytes bytes → from_le_bytes w64 bytes < 2 ^ 64
+below bytes fits =
+    let f : (i : ℕ) → get_or bytes i 0 < 256 = all_at (λ b. b < 256) 0 (omega arith) bytes fits in
+    omega (arith, f 0, f 1, f 2, f 3, f 4, f 5, f 6, f 7)
+
+number_takes : (bytes : List ℕ) (x : ℕ × List ℕ) → AreBytes bytes → number_at bytes ≡ Some x → Took bytes (to_le_bytes w64 x.0) x.1 × (x.0 < 2 ^ 64)
+unfolding number_at
+number_takes bytes x fits e =
+    let p = passed (ltb (length bytes) 8) (from_le_bytes w64 (take 8 bytes), drop 8 bytes) x e in
+    let long : 8 ≤ length bytes = ltb-false (length bytes) 8 p.0 in
+    let front = bytes-take 8 bytes fits in
+    let back : to_le_bytes w64 (from_le_bytes w64 (take 8 bytes)) ≡ take 8 bytes = le_bytes_8 (take 8 bytes) _ (length-take-le 8 bytes long) (all_at (λ b. b < 256) 0 (omega arith) (take 8 bytes) front) refl in
+    subst (λ (y : ℕ × List ℕ). Took bytes (to_le_bytes w64 y.0) y.1 × (y.0 < 2 ^ 64)) p.1
+    (record { parts = sym (ap (λ (t : List ℕ). t ++ drop 8 bytes) back ∙ take-append-drop 8 bytes); fits = bytes-drop 8 bytes fits }, below (take 8 bytes) front)
+
+number_split : (front rest : List ℕ) → length front ≡ 8 → number_at (front ++ rest) ≡ Some (from_le_bytes w64 front, rest)
+unfolding number_at
+number_split front rest h =
+    let long : 8 ≤ length (front ++ rest) = omega (arith, length-append front rest, h) in
+    rw (le-ltb (length (front ++ rest)) 8 long, take_at front rest 8 h, drop_at front rest 8 h) refl
+
+pub number_again : (n : ℕ) (rest : List ℕ) → n < 2 ^ 64 → number_at (to_le_bytes w64 n ++ rest) ≡ Some (n, rest)
+number_again n rest lt = number_split (to_le_bytes w64 n) rest refl ∙ ap (λ k. Some (k, rest)) (from_le_bytes-to_le_bytes_8 n lt)
+
+pub number_read : IsRead number_at (to_le_bytes w64) (λ n. n < 2 ^ 64)
+number_read = record { takes = number_takes; again = number_again }
+
+-- ---- many
+
+abbrev pub AreMany : {A : Type 0} → (A → Type 0) → ℕ → List A → Type 0
+AreMany P n xs = (length xs ≡ n) × AllByRecursion P xs
+
+many_takes : {A : Type 0} (one : Reader A) (text_of : A → List ℕ) (P : A → Type 0) (read : IsRead one text_of P) (n : ℕ) (bytes : List ℕ) (x : List A × List ℕ)
+    → AreBytes bytes → many_at one n bytes ≡ Some x → Took bytes (flat_map text_of x.0) x.1 × AreMany P n x.0
+unfolding many_at
+many_takes one text_of P read zero bytes x fits e =
+    subst (λ y. Took bytes (flat_map text_of y.0) y.1 × AreMany P 0 y.0) (same_Some ([], bytes) x e) (record { parts = refl; fits = fits }, (refl, tt))
+many_takes one text_of P read (suc n) bytes x fits e =
+    let a = bind_some (one bytes) (λ first. many_at one n first.1 >>= λ others. Some (first.0 ∷ others.0, others.1)) x e in
+    let b = bind_some (many_at one n a.0.1) (λ others. Some (a.0.0 ∷ others.0, others.1)) x a.2 in
+    let t = read.takes bytes a.0 fits a.1 in
+    let u = many_takes one text_of P read n a.0.1 b.0 t.0.fits b.1 in
+    let both = Took-then bytes (text_of a.0.0) a.0.1 (flat_map text_of b.0.0) b.0.1 t.0 u.0 in
+    subst (λ y. Took bytes (flat_map text_of y.0) y.1 × AreMany P (suc n) y.0) (same_Some (a.0.0 ∷ b.0.0, b.0.1) x b.2) (both, (ap suc u.1.0, (t.1, u.1.1)))
+
+many_again : {A : Type 0} (one : Reader A) (text_of : A → List ℕ) (P : A → Type 0) (read : IsRead one text_of P) (xs : List A) (rest : List ℕ)
+    → AllByRecursion P xs → many_at one (length xs) (flat_map text_of xs ++ rest) ≡ Some (xs, rest)
+unfolding many_at
+many_again one text_of P read [] rest fits = refl
+many_again one text_of P read (x ∷ xs) rest fits =
+    let apart : flat_map text_of (x ∷ xs) ++ rest ≡ text_of x ++ (flat_map text_of xs ++ rest) = append_assoc (text_of x) (flat_map text_of xs) rest in
+    ap (many_at one (suc (length xs))) apart ∙ rw (read.again x (flat_map text_of xs ++ rest) fits.0, many_again one text_of P read xs rest fits.1) refl
+
+pub many_read : {A : Type 0} (one : Reader A) (text_of : A → List ℕ) (P : A → Type 0) → IsRead one text_of P → (n : ℕ) → IsRead (many_at one n) (flat_map text_of) (AreMany P n)
+many_read one text_of P read n = record {
+  takes = many_takes one text_of P read n;
+  again = λ xs rest h. subst (λ k. many_at one k (flat_map text_of xs ++ rest) ≡ Some (xs, rest)) h.0 (many_again one text_of P read xs rest h.1);
+}

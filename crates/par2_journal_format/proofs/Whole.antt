@@ -1,0 +1,195 @@
+-- Whole journals: what is read is spelled so, and what is spelled so is read.
+use Rattle.par2_journal_format.proofs.Common.{◌≡◌, ℕ, ◌-◌, ◌+◌, ◌^◌, ◌≤◌, ◌<◌, Bool, true, false, cond, leb, eqb, ◌&&◌, List, [], ◌++◌, length, take, drop, Option, Some, None, refl, sym, ap, subst, ◌∙◌, append_assoc, arith, inl, inr, flat_map, ◌⊎◌, if◌then◌else◌, w64, to_le_bytes, leb-true, le-leb, eqb-true, and_parts, and_from, same_Some, cond_some, none-some, append-nil, nil_from_length, take-append-drop, take_at, drop_at, length-append, md5, Change, HalfwayPart, Journal, IsEntry, IsCursor, IsJournal, Spells, heading, cursor_bytes, entry_bytes, halfway_bytes, journal_bytes, spelling, AreBytes, bytes-take, ◌>>=◌, some_where, block_at, number_at, many_at, entry_at, halfway_at, cursor_in, IsSealed, heading_at, cursor_at, behind_cursor_at, parts_at}
+use Rattle.std.specs.Str.{bytes_eq}
+use Rattle.std.proofs.lemmas.Slice.Eq.{bytes_eq-Decides}
+use Rattle.par2_spec.specs.declared.Version.{Version}
+use Rattle.md5.proofs.StandardFacts.{length-md5}
+use Rattle.par2_spec.specs.declared.Version.TheVariants.{One, Two}
+use Rattle.par2_journal_format.proofs.Fields.{bind_some, Took, Took-then, block_read, block_again, number_read, number_again, many_read}
+use Rattle.par2_journal_format.proofs.Pieces.{entry_read, halfway_read}
+
+-- ---- heading
+
+chosen : {A : Type 0} (b c : Bool) (x y z : A) → cond b (Some x) (cond c (Some y) None) ≡ Some z → ((b ≡ true) × (x ≡ z)) ⊎ ((c ≡ true) × (y ≡ z))
+chosen true c x y z e = inl (refl, same_Some x z e)
+chosen false true x y z e = inr (refl, same_Some y z e)
+chosen false false x y z e = absurd (none-some z e)
+
+abbrev version_in : List ℕ × List ℕ → Option (Version × List ℕ)
+version_in x = if bytes_eq x.0 (heading One) then Some (One, x.1) else if bytes_eq x.0 (heading Two) then Some (Two, x.1) else None
+
+heading_takes : (bytes : List ℕ) (x : Version × List ℕ) → AreBytes bytes → heading_at bytes ≡ Some x → Took bytes (heading x.0) x.1
+unfolding heading_at
+heading_takes bytes x fits e =
+    let b = bind_some (block_at 8 bytes) version_in x e in
+    let t = (block_read 8).takes bytes b.0 fits b.1 in
+    let is : (v : Version) → bytes_eq b.0.0 (heading v) ≡ true → (v, b.0.1) ≡ x → Took bytes (heading x.0) x.1 =
+    λ v same made. subst (λ (y : Version × List ℕ). Took bytes (heading y.0) y.1) made (subst (λ (s : List ℕ). Took bytes s b.0.1) ((bytes_eq-Decides b.0.0 (heading v)).0 same) t.0) in
+    elim (chosen (bytes_eq b.0.0 (heading One)) (bytes_eq b.0.0 (heading Two)) (One, b.0.1) (Two, b.0.1) x b.2) as (λ _. Took bytes (heading x.0) x.1) [
+      | inl p ↦ is One p.0 p.1
+      | inr p ↦ is Two p.0 p.1
+    ]
+
+heading_again : (v : Version) (rest : List ℕ) → heading_at (heading v ++ rest) ≡ Some (v, rest)
+unfolding heading_at
+heading_again One rest = ap (λ (o : Option (List ℕ × List ℕ)). o >>= version_in) (block_again 8 (heading One) rest refl)
+heading_again Two rest = ap (λ (o : Option (List ℕ × List ℕ)). o >>= version_in) (block_again 8 (heading Two) rest refl)
+
+-- ---- cursor
+
+cursor_takes : (v : Version) (bytes : List ℕ) (x : ℕ × List ℕ) → AreBytes bytes → cursor_at v bytes ≡ Some x → Took bytes (cursor_bytes v x.0) x.1
+unfolding cursor_at
+cursor_takes One bytes x fits e = subst (λ (y : ℕ × List ℕ). Took bytes [] y.1) (same_Some (0, bytes) x e) (record { parts = refl; fits = fits })
+cursor_takes Two bytes x fits e = (number_read.takes bytes x fits e).0
+
+-- the number that is read for a cursor
+abbrev stored : Version → ℕ → ℕ
+stored One c = 0
+stored Two c = c
+
+cursor_again : (v : Version) (c n : ℕ) (rest : List ℕ) → IsCursor v c n → n < 2 ^ 64 → cursor_at v (cursor_bytes v c ++ rest) ≡ Some (stored v c, rest)
+unfolding cursor_at
+cursor_again One c n rest is lt = refl
+cursor_again Two c n rest is lt = let le : c ≤ n = is in number_again c rest (omega arith)
+
+spelled : (v : Version) (c n : ℕ) → cursor_bytes v c ≡ cursor_bytes v (cursor_in v c n)
+spelled One c n = refl
+spelled Two c n = refl
+
+within : (v : Version) (c n : ℕ) → leb (cursor_in v c n) n ≡ true → IsCursor v (cursor_in v c n) n
+within One c n h = refl
+within Two c n h = leb-true c n h
+
+stored_back : (v : Version) (c n : ℕ) → IsCursor v c n → cursor_in v (stored v c) n ≡ c
+stored_back One c n is = sym is
+stored_back Two c n is = refl
+
+at_most : (v : Version) (c n : ℕ) → IsCursor v c n → c ≤ n
+at_most One c n is = let e : c ≡ n = is in omega arith
+at_most Two c n is = is
+
+-- ---- the parts, one after the other
+
+abbrev all_of : Version → List ℕ → ℕ → ℕ → List (List Change) → Option HalfwayPart × List ℕ → Option Journal
+all_of v print c n es b =
+    some_where (leb (cursor_in v c n) n && eqb (length b.1) 0) (record { version = v; fingerprint = print; cursor = cursor_in v c n; entries = es; halfway = b.0 })
+
+abbrev after_entries : Version → List ℕ → ℕ → ℕ → List (List Change) × List ℕ → Option Journal
+after_entries v print c n es = halfway_at es.1 >>= all_of v print c n es.0
+
+abbrev after_count : Version → List ℕ → ℕ → ℕ × List ℕ → Option Journal
+after_count v print c n = many_at entry_at n.0 n.1 >>= after_entries v print c n.0
+
+abbrev after_cursor : Version → List ℕ → ℕ × List ℕ → Option Journal
+after_cursor v print c = number_at c.1 >>= after_count v print c.0
+
+abbrev after_print : Version → List ℕ × List ℕ → Option Journal
+after_print v print = cursor_at v print.1 >>= after_cursor v print.0
+
+abbrev after_heading : Version × List ℕ → Option Journal
+after_heading v = block_at 16 v.1 >>= after_print v.0
+
+pub parts_take : (bytes : List ℕ) (j : Journal) → AreBytes bytes → parts_at bytes ≡ Some j → IsJournal j × (bytes ≡ journal_bytes j)
+unfolding parts_at behind_cursor_at journal_bytes
+parts_take bytes j fits e =
+    let a = bind_some (heading_at bytes) after_heading j e in
+    let v = a.0.0 in
+    let b = bind_some (block_at 16 a.0.1) (after_print v) j a.2 in
+    let c = bind_some (cursor_at v b.0.1) (after_cursor v b.0.0) j b.2 in
+    let d = bind_some (number_at c.0.1) (after_count v b.0.0 c.0.0) j c.2 in
+    let n = d.0.0 in
+    let f = bind_some (many_at entry_at n d.0.1) (after_entries v b.0.0 c.0.0 n) j d.2 in
+    let g = bind_some (halfway_at f.0.1) (all_of v b.0.0 c.0.0 n f.0.0) j f.2 in
+    let made : Journal = record { version = v; fingerprint = b.0.0; cursor = cursor_in v c.0.0 n; entries = f.0.0; halfway = g.0.0 } in
+    let p = cond_some (leb (cursor_in v c.0.0 n) n && eqb (length g.0.1) 0) made j g.2 in
+    let tests = and_parts (leb (cursor_in v c.0.0 n) n) (eqb (length g.0.1) 0) p.0 in
+    let t1 = heading_takes bytes a.0 fits a.1 in
+    let t2 = (block_read 16).takes a.0.1 b.0 t1.fits b.1 in
+    let t3 = cursor_takes v b.0.1 c.0 t2.0.fits c.1 in
+    let t4 = number_read.takes c.0.1 d.0 t3.fits d.1 in
+    let t5 = (many_read entry_at entry_bytes IsEntry entry_read n).takes d.0.1 f.0 t4.0.fits f.1 in
+    let t6 = halfway_read.takes f.0.1 g.0 t5.0.fits g.1 in
+    let u2 = Took-then bytes (heading v) a.0.1 b.0.0 b.0.1 t1 t2.0 in
+    let u3 = Took-then bytes (heading v ++ b.0.0) b.0.1 (cursor_bytes v c.0.0) c.0.1 u2 t3 in
+    let u4 = Took-then bytes (heading v ++ b.0.0 ++ cursor_bytes v c.0.0) c.0.1 (to_le_bytes w64 n) d.0.1 u3 t4.0 in
+    let u5 = Took-then bytes (heading v ++ b.0.0 ++ cursor_bytes v c.0.0 ++ to_le_bytes w64 n) d.0.1 (flat_map entry_bytes f.0.0) f.0.1 u4 t5.0 in
+    let u6 = Took-then bytes (heading v ++ b.0.0 ++ cursor_bytes v c.0.0 ++ to_le_bytes w64 n ++ flat_map entry_bytes f.0.0) f.0.1 (halfway_bytes g.0.0) g.0.1 u5 t6.0 in
+    let nothing : g.0.1 ≡ [] = nil_from_length g.0.1 (eqb-true _ _ tests.1) in
+    let spells : (cs ns rest : List ℕ) → List ℕ = λ cs ns rest. heading v ++ b.0.0 ++ cs ++ ns ++ flat_map entry_bytes f.0.0 ++ halfway_bytes g.0.0 ++ rest in
+    let text : bytes ≡ journal_bytes made =
+    u6.parts ∙ ap (λ (rest : List ℕ). spells (cursor_bytes v c.0.0) (to_le_bytes w64 n) rest) nothing
+    ∙ append-nil (heading v ++ b.0.0 ++ cursor_bytes v c.0.0 ++ to_le_bytes w64 n ++ flat_map entry_bytes f.0.0 ++ halfway_bytes g.0.0)
+    ∙ ap (λ (cs : List ℕ). heading v ++ b.0.0 ++ cs ++ to_le_bytes w64 n ++ flat_map entry_bytes f.0.0 ++ halfway_bytes g.0.0) (spelled v c.0.0 n)
+    ∙ ap (λ (k : ℕ). heading v ++ b.0.0 ++ cursor_bytes v (cursor_in v c.0.0 n) ++ to_le_bytes w64 k ++ flat_map entry_bytes f.0.0 ++ halfway_bytes g.0.0) (sym t5.1.0) in
+    let is : IsJournal made = record {
+      fingerprint = t2.1;
+      cursor = subst (λ (k : ℕ). IsCursor v (cursor_in v c.0.0 n) k) (sym t5.1.0) (within v c.0.0 n tests.0);
+      count = subst (λ (k : ℕ). k < 2 ^ 64) (sym t5.1.0) t4.1;
+      entries = t5.1.1;
+      halfway = t6.1;
+    } in
+    subst (λ (k : Journal). IsJournal k × (bytes ≡ journal_bytes k)) p.1 (is, text)
+
+right : (a b c d e f : List ℕ) → a ++ b ++ c ++ d ++ e ++ f ≡ a ++ (b ++ (c ++ (d ++ (e ++ (f ++ [])))))
+right a b c d e f = simp (append_assoc, append-nil)
+
+parts_again : (j : Journal) → IsJournal j → parts_at (journal_bytes j) ≡ Some j
+unfolding parts_at behind_cursor_at journal_bytes
+parts_again j is =
+    let v = j.version in
+    let n : ℕ = length j.entries in
+    let es : List ℕ = flat_map entry_bytes j.entries in
+    let end : List ℕ = halfway_bytes j.halfway ++ [] in
+    let s : ℕ = stored v j.cursor in
+    let tests : leb (cursor_in v s n) n && eqb 0 0 ≡ true =
+    and_from (leb (cursor_in v s n) n) (eqb 0 0) (le-leb (cursor_in v s n) n (subst (λ (k : ℕ). k ≤ n) (sym (stored_back v j.cursor n is.cursor)) (at_most v j.cursor n is.cursor))) refl in
+    let last : all_of v j.fingerprint s n j.entries (j.halfway, []) ≡ Some j =
+    ap (λ (t : Bool). some_where t (let k : Journal = record { version = v; fingerprint = j.fingerprint; cursor = cursor_in v s n; entries = j.entries; halfway = j.halfway } in k)) tests
+    ∙ ap (λ (c : ℕ). let k : Option Journal = Some (record { version = v; fingerprint = j.fingerprint; cursor = c; entries = j.entries; halfway = j.halfway }) in k) (stored_back v j.cursor n is.cursor) in
+    ap (λ (t : List ℕ). heading_at t >>= after_heading) (right (heading v) j.fingerprint (cursor_bytes v j.cursor) (to_le_bytes w64 n) es (halfway_bytes j.halfway))
+    ∙ ap (λ (o : Option (Version × List ℕ)). o >>= after_heading) (heading_again v (j.fingerprint ++ (cursor_bytes v j.cursor ++ (to_le_bytes w64 n ++ (es ++ end)))))
+    ∙ ap (λ (o : Option (List ℕ × List ℕ)). o >>= after_print v) (block_again 16 j.fingerprint (cursor_bytes v j.cursor ++ (to_le_bytes w64 n ++ (es ++ end))) is.fingerprint)
+    ∙ ap (λ (o : Option (ℕ × List ℕ)). o >>= after_cursor v j.fingerprint) (cursor_again v j.cursor n (to_le_bytes w64 n ++ (es ++ end)) is.cursor is.count)
+    ∙ ap (λ (o : Option (ℕ × List ℕ)). o >>= after_count v j.fingerprint s) (number_again n (es ++ end) is.count)
+    ∙ ap (λ (o : Option (List (List Change) × List ℕ)). o >>= after_entries v j.fingerprint s n) ((many_read entry_at entry_bytes IsEntry entry_read n).again j.entries end (refl, is.entries))
+    ∙ ap (λ (o : Option (Option HalfwayPart × List ℕ)). o >>= all_of v j.fingerprint s n j.entries) (halfway_read.again j.halfway [] is.halfway)
+    ∙ last
+
+-- ---- with the digest
+
+-- a text of a body and its digest ends with the digest of the body
+module _ (body text : List ℕ) (is : text ≡ body ++ md5 body) where
+  long : length text ≡ length body + 16
+  long = ap length is ∙ length-append body (md5 body) ∙ ap (λ (k : ℕ). length body + k) (length-md5 body)
+
+  front : take (length text - 16) text ≡ body
+  front = let n : length body ≡ length text - 16 = omega (arith, long) in ap (take (length text - 16)) is ∙ take_at body (md5 body) (length text - 16) n
+
+  pub seals : IsSealed text
+  seals =
+      let n : length body ≡ length text - 16 = omega (arith, long) in
+      record {
+        long = omega (arith, long);
+        digest = ap (drop (length text - 16)) is ∙ drop_at body (md5 body) (length text - 16) n ∙ ap md5 (sym front);
+      }
+
+-- what is spelled ends with its digest, and is read before it
+pub spells_sealed : (text : List ℕ) (j : Journal) → Spells text j → IsSealed text
+unfolding spelling
+spells_sealed text j spells = seals (journal_bytes j) text spells.1
+
+pub spells_parts : (text : List ℕ) (j : Journal) → Spells text j → parts_at (take (length text - 16) text) ≡ Some j
+unfolding spelling
+spells_parts text j spells = ap parts_at (front (journal_bytes j) text spells.1) ∙ parts_again j spells.0
+
+-- what is read before the digest is spelled so
+pub parts_spell : (text : List ℕ) (j : Journal) → AreBytes text → IsSealed text → parts_at (take (length text - 16) text) ≡ Some j → Spells text j
+unfolding spelling
+parts_spell text j fits sealed is =
+    let n : ℕ = length text - 16 in
+    let t = parts_take (take n text) j (bytes-take n text fits) is in
+    (t.0, sym (take-append-drop n text) ∙ ap (λ (s : List ℕ). take n text ++ s) sealed.digest ∙ ap (λ (s : List ℕ). s ++ md5 s) t.1)
+
+-- a text has one reading
+pub one_reading : (text : List ℕ) (a b : Journal) → Spells text a → Spells text b → a ≡ b
+one_reading text a b p q = same_Some a b (sym (spells_parts text a p) ∙ spells_parts text b q)

@@ -1,0 +1,6 @@
+use Rattle.par2_journal_format.proofs.Common.{take, IsChange, change_bytes, changes_in}
+use Rattle.par2_journal_format.proofs.Many.{AreWritten}
+use Rattle.par2_journal_format.proofs.writing.append_changes.Given as goal
+
+abbrev pub invariant-loop-change : goal.invariant-loop-change
+invariant-loop-change l = AreWritten IsChange change_bytes (take l.change-index (changes_in l.changes)) l.initial.out.items l.out.items

@@ -1,0 +1,130 @@
+-- Reading from left to right: a value and the bytes after it, or nothing.
+use Rattle.std.specs.Prelude.{◌≡◌, ◌≤◌, ℕ, zero, suc, ◌-◌, List, [], ◌∷◌, length, take, drop, Option, Some, None, Result, Ok, Err, nat_lt, nat_le, ◌==◌, ◌&&◌, Bool, if◌then◌else◌}
+use Rattle.std.specs.Int.{w64, from_le_bytes}
+use Rattle.std.specs.Str.{bytes_eq}
+use Rattle.md5.specs.Md5.{md5}
+use Rattle.par2_spec.specs.Names.{is_name}
+use Rattle.par2_spec.specs.Changes.{Change, Write, Replace, Rename, Remove}
+use Rattle.par2_spec.specs.Journals.{HalfwayPart, Journal, heading}
+use Rattle.par2_spec.specs.declared.Version.{Version}
+use Rattle.par2_spec.specs.declared.Version.TheVariants.{One, Two}
+use Rattle.par2_journal_format.specs.declared.fault.DecodeFault.{DecodeFault}
+use Rattle.par2_journal_format.specs.declared.fault.DecodeFault.TheVariants.{JournalInvalid, Memory}
+
+infixl 10 ◌>>=◌
+abbrev pub ◌>>=◌ : {A B : Type 0} → Option A → (A → Option B) → Option B
+(Some x) >>= f = f x
+None >>= f = None
+
+-- with this fault a function says that reading gives nothing, unless memory ran out
+abbrev pub Fails : {Y : Type 0} → DecodeFault → Option Y → Type 0
+Fails Memory read = Unit {0}
+Fails JournalInvalid read = read ≡ None
+
+-- what a function returned, seen by the view, is what reading gives, unless memory ran out
+abbrev pub Gives : {X Y : Type 0} → (X → Y) → Result X DecodeFault → Option Y → Type 0
+Gives view (Ok x) read = read ≡ Some (view x)
+Gives view (Err fault) read = Fails fault read
+
+abbrev pub some_where : {A : Type 0} → Bool → A → Option A
+some_where test x = if test then Some x else None
+
+-- as many bytes
+unfoldable pub block_at : ℕ → List ℕ → Option (List ℕ × List ℕ)
+block_at n bytes = if nat_lt (length bytes) n then None else Some (take n bytes, drop n bytes)
+
+unfoldable pub number_at : List ℕ → Option (ℕ × List ℕ)
+number_at bytes = if nat_lt (length bytes) 8 then None else Some (from_le_bytes w64 (take 8 bytes), drop 8 bytes)
+
+unfoldable pub name_at : List ℕ → Option (List ℕ × List ℕ)
+name_at [] = None
+name_at (n ∷ bytes) = do
+  x ← block_at n bytes
+  some_where (is_name x.0) x
+
+-- bytes after their length
+unfoldable pub behind_length_at : List ℕ → Option (List ℕ × List ℕ)
+behind_length_at bytes = do
+  n ← number_at bytes
+  block_at n.0 n.1
+
+unfoldable pub change_at : List ℕ → Option (Change × List ℕ)
+change_at [] = None
+change_at (zero ∷ bytes) = None
+change_at (suc zero ∷ bytes) = do
+  name ← name_at bytes
+  content ← behind_length_at name.1
+  Some (Write name.0 content.0, content.1)
+change_at (suc (suc zero) ∷ bytes) = do
+  name ← name_at bytes
+  content ← behind_length_at name.1
+  Some (Replace name.0 content.0, content.1)
+change_at (suc (suc (suc zero)) ∷ bytes) = do
+  from ← name_at bytes
+  to ← name_at from.1
+  Some (Rename from.0 to.0, to.1)
+change_at (suc (suc (suc (suc zero))) ∷ bytes) = do
+  name ← name_at bytes
+  Some (Remove name.0, name.1)
+change_at (suc (suc (suc (suc (suc b)))) ∷ bytes) = None
+
+-- n values one after the other
+unfoldable pub many_at : {A : Type 0} → (List ℕ → Option (A × List ℕ)) → ℕ → List ℕ → Option (List A × List ℕ)
+many_at one zero bytes = Some ([], bytes)
+many_at one (suc n) bytes = do
+  first ← one bytes
+  others ← many_at one n first.1
+  Some (first.0 ∷ others.0, others.1)
+
+-- changes after their number
+unfoldable pub entry_at : List ℕ → Option (List Change × List ℕ)
+entry_at bytes = do
+  n ← number_at bytes
+  many_at change_at n.0 n.1
+
+unfoldable pub halfway_at : List ℕ → Option (Option HalfwayPart × List ℕ)
+halfway_at [] = None
+halfway_at (zero ∷ bytes) = Some (None, bytes)
+halfway_at (suc zero ∷ bytes) = do
+  n ← number_at bytes
+  prints ← many_at (block_at 16) n.0 n.1
+  back ← many_at change_at n.0 prints.1
+  some_where (nat_le 1 n.0) (Some (record { fingerprints = prints.0; back = back.0 }), back.1)
+halfway_at (suc (suc b) ∷ bytes) = None
+
+unfoldable pub heading_at : List ℕ → Option (Version × List ℕ)
+heading_at bytes = do
+  x ← block_at 8 bytes
+  if bytes_eq x.0 (heading One) then Some (One, x.1) else if bytes_eq x.0 (heading Two) then Some (Two, x.1) else None
+
+-- the cursor, where the version has one
+unfoldable pub cursor_at : Version → List ℕ → Option (ℕ × List ℕ)
+cursor_at One bytes = Some (0, bytes)
+cursor_at Two bytes = number_at bytes
+
+-- the cursor of a journal with n entries, c being the one that was read
+abbrev pub cursor_in : Version → ℕ → ℕ → ℕ
+cursor_in One c n = n
+cursor_in Two c n = c
+
+-- what stands after the cursor that was read
+unfoldable pub behind_cursor_at : Version → List ℕ → ℕ → List ℕ → Option Journal
+behind_cursor_at version print cursor bytes = do
+  n ← number_at bytes
+  entries ← many_at entry_at n.0 n.1
+  halfway ← halfway_at entries.1
+  some_where (nat_le (cursor_in version cursor n.0) n.0 && length halfway.1 == 0)
+      (record { version = version; fingerprint = print; cursor = cursor_in version cursor n.0; entries = entries.0; halfway = halfway.0 })
+
+-- all of the bytes but the digest
+unfoldable pub parts_at : List ℕ → Option Journal
+parts_at bytes = do
+  version ← heading_at bytes
+  print ← block_at 16 version.1
+  cursor ← cursor_at version.0 print.1
+  behind_cursor_at version.0 print.0 cursor.0 cursor.1
+
+-- the text ends with the digest of all that stands before it
+pub record IsSealed (text : List ℕ) : Type 0 where
+  pub long : 16 ≤ length text
+  pub digest : drop (length text - 16) text ≡ md5 (take (length text - 16) text)

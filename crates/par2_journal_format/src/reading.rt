@@ -1,0 +1,293 @@
+//! A journal from its bytes. Each reader takes its part from the front, and gives the bytes after it too.
+ghost use Rattle.std.specs.Prelude.{◌≡◌, ◌↔◌, ◌<◌, ◌≤◌, ◌-◌, length, take, drop, IfOk, IfErr, IsTrue, Err, MatchResult};
+ghost use Rattle.par2_spec.specs.Journals.{Journal as Defined, Spells};
+ghost use Rattle.par2_files.specs.Views.{change_of};
+ghost use Rattle.par2_journal_format.specs.Reading as reads;
+ghost use Rattle.par2_journal_format.specs.Reading.{Gives, IsSealed};
+ghost use Rattle.par2_journal_format.specs.Untested.{IsUntested};
+ghost use Rattle.par2_journal_format.specs.Views.{halfway_of, journal_of};
+ghost use Rattle.par2_journal_format.specs.declared.fault.DecodeFault.TheVariants.{JournalInvalid, Memory};
+
+use crate::journal::heading;
+use crate::{DecodeFault, HalfwayPart, Journal};
+use md5::{Digest, Md5};
+use par2_files::{Bytes, Change, Changes, Name};
+use par2_spec::Version;
+use std::alloc::Global;
+
+// What a reader takes from the front, and the bytes after it.
+type Read<'a, T> = Result<(T, &'a [u8]), DecodeFault>;
+
+// As many bytes. Nothing is asked for before they are known to be there.
+#[tactic(auto, unfolding(crate::specs::Reading::block_at))]
+fn read_block(bytes: &[u8], len: usize) -> Result<(&[u8], &[u8]), DecodeFault>
+    ensures { Gives (λ x. (x.0.now, x.1.now)) result (reads.block_at len bytes.now) }
+{
+    let blocks = bytes.split_at_checked(len);
+    blocks.ok_or(DecodeFault::JournalInvalid)
+}
+
+#[tactic(auto, unfolding(crate::specs::Reading::number_at))]
+fn read_number(bytes: &[u8]) -> Result<(u64, &[u8]), DecodeFault>
+    ensures { Gives (λ x. (x.0, x.1.now)) result (reads.number_at bytes.now) }
+{
+    let chunk = bytes.split_first_chunk();
+    let (number, rest) = chunk.ok_or(DecodeFault::JournalInvalid)?;
+    Ok((u64::from_le_bytes(*number), rest))
+}
+
+#[tactic(auto, unfolding(crate::specs::Reading::block_at))]
+fn read_digest(bytes: &[u8]) -> Result<([u8; 16], &[u8]), DecodeFault>
+    ensures { Gives (λ x. (x.0, x.1.now)) result (reads.block_at 16 bytes.now) }
+{
+    let chunk = bytes.split_first_chunk();
+    let (digest, rest) = chunk.ok_or(DecodeFault::JournalInvalid)?;
+    Ok((*digest, rest))
+}
+
+#[tactic(auto, unfolding(crate::specs::Reading::name_at))]
+fn read_name(bytes: &[u8]) -> Result<(Name, &[u8]), DecodeFault>
+    ensures { Gives (λ x. (x.0, x.1.now)) result (reads.name_at bytes.now) }
+{
+    let [len, rest @ ..] = bytes else {
+        return Err(DecodeFault::JournalInvalid);
+    };
+    let (text, rest) = read_block(rest, *len as usize)?;
+    let name = Name::from_bytes(text).ok_or(DecodeFault::JournalInvalid)?;
+    Ok((name, rest))
+}
+
+#[tactic(auto, unfolding(crate::specs::Reading::behind_length_at))]
+fn read_bytes(alloc: Global, bytes: &[u8]) -> Result<(Bytes, &[u8]), DecodeFault>
+    ensures { Gives (λ x. (x.0, x.1.now)) result (reads.behind_length_at bytes.now) }
+{
+    let (len, rest) = read_number(bytes)?;
+    let (content, rest) = read_block(rest, len as usize)?;
+    Ok((Bytes::copy_of(alloc, content)?, rest))
+}
+
+#[tactic(auto, unfolding(crate::specs::Reading::change_at))]
+fn read_change(alloc: Global, bytes: &[u8]) -> Result<(Change, &[u8]), DecodeFault>
+    ensures { Gives (λ x. (change_of x.0, x.1.now)) result (reads.change_at bytes.now) }
+{
+    let [kind, rest @ ..] = bytes else {
+        return Err(DecodeFault::JournalInvalid);
+    };
+    let (name, rest) = read_name(rest)?;
+    match kind {
+        1 => {
+            let (content, rest) = read_bytes(alloc, rest)?;
+            Ok((Change::Write(name, content), rest))
+        }
+        2 => {
+            let (content, rest) = read_bytes(alloc, rest)?;
+            Ok((Change::Replace(name, content), rest))
+        }
+        3 => {
+            let (to, rest) = read_name(rest)?;
+            Ok((Change::Rename(name, to), rest))
+        }
+        4 => Ok((Change::Remove(name), rest)),
+        _ => Err(DecodeFault::JournalInvalid),
+    }
+}
+
+// As many changes. The list grows by changes that were read, never by the count that is claimed.
+fn read_changes(alloc: Global, count: u64, bytes: &[u8]) -> Result<(Changes, &[u8]), DecodeFault>
+    ensures { Gives (λ x. (x.0, x.1.now)) result (reads.many_at reads.change_at count bytes.now) }
+{
+    let mut changes = Changes::new(alloc);
+    let mut rest = bytes;
+    for _ in 0..count {
+        let (change, behind) = read_change(alloc, rest)?;
+        changes.push(change)?;
+        rest = behind;
+    }
+    Ok((changes, rest))
+}
+
+#[tactic(auto, unfolding(crate::specs::Reading::entry_at))]
+fn read_entry(alloc: Global, bytes: &[u8]) -> Result<(Changes, &[u8]), DecodeFault>
+    ensures { Gives (λ x. (x.0, x.1.now)) result (reads.entry_at bytes.now) }
+{
+    let (count, rest) = read_number(bytes)?;
+    read_changes(alloc, count, rest)
+}
+
+// As many entries, as `read_changes`.
+fn read_entries(alloc: Global, count: u64, bytes: &[u8]) -> Read<'_, Vec<Changes>>
+    ensures { Gives (λ x. (x.0.items, x.1.now)) result
+        (reads.many_at reads.entry_at count bytes.now) }
+{
+    let mut entries = Vec::new(alloc);
+    let mut rest = bytes;
+    for _ in 0..count {
+        let (entry, behind) = read_entry(alloc, rest)?;
+        entries.push(entry)?;
+        rest = behind;
+    }
+    Ok((entries, rest))
+}
+
+// As many digests, as `read_changes`.
+fn read_digests(alloc: Global, count: u64, bytes: &[u8]) -> Read<'_, Vec<[u8; 16]>>
+    ensures { Gives
+        (λ x. (x.0.items, x.1.now)) result (reads.many_at (reads.block_at 16) count bytes.now) }
+{
+    let mut digests = Vec::new(alloc);
+    let mut rest = bytes;
+    for _ in 0..count {
+        let (digest, behind) = read_digest(rest)?;
+        digests.push(digest)?;
+        rest = behind;
+    }
+    Ok((digests, rest))
+}
+
+#[tactic(auto, unfolding(crate::specs::Reading::halfway_at, crate::specs::Reading::many_at))]
+fn read_halfway(alloc: Global, bytes: &[u8]) -> Result<(Option<HalfwayPart>, &[u8]), DecodeFault>
+    ensures { Gives (λ x. (halfway_of x.0, x.1.now)) result (reads.halfway_at bytes.now) }
+{
+    match bytes {
+        [0, rest @ ..] => Ok((None, rest)),
+        [1, rest @ ..] => {
+            let (count, rest) = read_number(rest)?;
+            if count == 0 {
+                return Err(DecodeFault::JournalInvalid);
+            }
+            let (fingerprints, rest) = read_digests(alloc, count, rest)?;
+            let (back, rest) = read_changes(alloc, count, rest)?;
+            Ok((Some(HalfwayPart { fingerprints, back }), rest))
+        }
+        _ => Err(DecodeFault::JournalInvalid),
+    }
+}
+
+#[tactic(auto, unfolding(crate::specs::Reading::heading_at))]
+fn read_heading(bytes: &[u8]) -> Result<(Version, &[u8]), DecodeFault>
+    ensures { Gives (λ x. (x.0, x.1.now)) result (reads.heading_at bytes.now) }
+{
+    let (front, rest) = read_block(bytes, 8)?;
+    if front == heading(Version::One) {
+        Ok((Version::One, rest))
+    } else if front == heading(Version::Two) {
+        Ok((Version::Two, rest))
+    } else {
+        Err(DecodeFault::JournalInvalid)
+    }
+}
+
+#[tactic(auto, unfolding(crate::specs::Reading::cursor_at))]
+fn read_cursor(version: Version, bytes: &[u8]) -> Result<(u64, &[u8]), DecodeFault>
+    ensures { Gives (λ x. (x.0, x.1.now)) result (reads.cursor_at version bytes.now) }
+{
+    match version {
+        Version::One => Ok((0, bytes)),
+        Version::Two => read_number(bytes),
+    }
+}
+
+// What stands after the cursor that was read.
+#[tactic(auto, unfolding(crate::specs::Reading::behind_cursor_at))]
+fn read_behind_cursor(
+    alloc: Global,
+    version: Version,
+    fingerprint: [u8; 16],
+    read: u64,
+    bytes: &[u8],
+) -> Result<Journal, DecodeFault>
+    ensures { Gives journal_of result
+        (reads.behind_cursor_at version fingerprint read bytes.now) }
+{
+    let (count, rest) = read_number(bytes)?;
+    let cursor = match version {
+        Version::One => count,
+        Version::Two => read,
+    };
+    let (entries, rest) = read_entries(alloc, count, rest)?;
+    let (halfway, rest) = read_halfway(alloc, rest)?;
+    if cursor > count || !rest.is_empty() {
+        return Err(DecodeFault::JournalInvalid);
+    }
+    Ok(Journal {
+        version,
+        fingerprint,
+        cursor: cursor as usize,
+        entries,
+        halfway,
+    })
+}
+
+// All but the digest.
+#[tactic(auto, unfolding(crate::specs::Reading::parts_at))]
+fn read_parts(alloc: Global, bytes: &[u8]) -> Result<Journal, DecodeFault>
+    ensures { Gives journal_of result (reads.parts_at bytes.now) }
+{
+    let (version, rest) = read_heading(bytes)?;
+    let (fingerprint, rest) = read_digest(rest)?;
+    let (cursor, rest) = read_cursor(version, rest)?;
+    read_behind_cursor(alloc, version, fingerprint, cursor, rest)
+}
+
+// A text of a journal, in two: what its digest is of, and the digest at its end.
+fn split_digest(bytes: &[u8]) -> Result<(&[u8], &[u8]), DecodeFault>
+    ensures long { IfOk result (λ _. 16 ≤ length bytes.now) }
+    ensures body { IfOk result (λ x. x.0.now ≡ take (length bytes.now - 16) bytes.now) }
+    ensures digest { IfOk result (λ x. x.1.now ≡ drop (length bytes.now - 16) bytes.now) }
+    ensures short { IfErr result (λ fault. (fault ≡ JournalInvalid) × (length bytes.now < 16)) }
+{
+    if bytes.len() < 16 {
+        return Err(DecodeFault::JournalInvalid);
+    }
+    Ok(bytes.split_at(bytes.len() - 16))
+}
+
+/// Whether the bytes end with the digest of all that stands before it. It takes no memory.
+pub fn is_sealed(bytes: &[u8]) -> bool
+    ensures { IsTrue result ↔ IsSealed bytes.now }
+{
+    match split_digest(bytes) {
+        Ok((body, end)) => end == Md5::digest(body).as_slice(),
+        Err(_) => false,
+    }
+}
+
+/// The journal that the bytes spell. Where the digest at their end is false nothing is read, and no memory taken; else
+/// memory is asked for only once the bytes that it is for were found.
+pub fn decode(alloc: Global, bytes: &[u8]) -> Result<Journal, DecodeFault>
+    ensures found { IfOk result (λ journal. Spells bytes.now (journal_of journal)) }
+    ensures only { (j : Defined) → Spells bytes.now j
+        → MatchResult result (λ journal. journal_of journal ≡ j) (λ fault. fault ≡ Memory) }
+    ensures invalid { result ≡ Err JournalInvalid → (j : Defined) → Spells bytes.now j → ⊥ }
+    ensures unsealed { ¬ (IsSealed bytes.now) → result ≡ Err JournalInvalid }
+{
+    if !is_sealed(bytes) {
+        return Err(DecodeFault::JournalInvalid);
+    }
+    Ok(decode_untested(alloc, bytes)?.journal)
+}
+
+/// A journal that was read before the digest at the end of its text is tested.
+#[derive(Drop)]
+pub struct Untested<'a> {
+    pub journal: Journal,
+    /// All of the text but the digest.
+    pub body: &'a [u8],
+    /// What the digest of the body should be.
+    pub digest: &'a [u8],
+}
+
+/// The journal that the bytes spell if they end with their digest, which the caller tests: it can be computed side by
+/// side with other digests. Memory is asked for as [`decode`] does, but for a text that nobody wrote too.
+pub fn decode_untested(alloc: Global, bytes: &[u8]) -> Result<Untested<'_>, DecodeFault>
+    ensures found { IfOk result (IsUntested bytes.now) }
+    ensures invalid { result ≡ Err JournalInvalid → (j : Defined) → Spells bytes.now j → ⊥ }
+{
+    let (body, digest) = split_digest(bytes)?;
+    let journal = read_parts(alloc, body)?;
+    Ok(Untested {
+        journal,
+        body,
+        digest,
+    })
+}

@@ -1,0 +1,210 @@
+//! The bytes of a journal. Each function adds its part at the end.
+ghost use Rattle.std.specs.Prelude.{◌≡◌, ◌≤◌, ◌+◌, ◌∷◌, ◌++◌, length, flat_map, OnOk, IfOk, IfSome, IsTrue, Some};
+ghost use Rattle.std.specs.Int.{w64, to_le_bytes};
+ghost use Rattle.std.specs.List.{concat, AllByRecursion};
+ghost use Rattle.md5.specs.Md5.{md5};
+ghost use Rattle.par2_spec.specs.Answers.{Appends};
+ghost use Rattle.par2_spec.specs.Names.{is_name};
+ghost use Rattle.par2_spec.specs.Folders.{behind_length};
+ghost use Rattle.par2_spec.specs.Journals as journals;
+ghost use Rattle.par2_files.specs.Views.{change_of};
+ghost use Rattle.par2_journal_format.specs.Fronts.{Begins, Continues, Finishes};
+ghost use Rattle.par2_journal_format.specs.Views.{changes_in, halfway_from, journal_from, part_from};
+
+use crate::journal::heading;
+use crate::{HalfwayPartView, JournalView};
+use md5::{Digest, Md5};
+use par2_files::{Bytes, Change, Changes, Name};
+use par2_md5_lanes::text_digests;
+use par2_spec::{Result, Version};
+use std::alloc::Global;
+
+fn append_number(out: &mut Vec<u8>, number: u64) -> Result<()>
+    ensures { Appends (to_le_bytes w64 number) out.old out.new result }
+{
+    out.extend_from_slice(&number.to_le_bytes())
+}
+
+fn append_name(out: &mut Vec<u8>, name: &Name) -> Result<()>
+    ensures bytes { Appends (journals.name_bytes name.now) out.old out.new result }
+    ensures name { IsTrue (is_name name.now) }
+{
+    let text = name.as_str();
+    out.push(text.len() as u8)?;
+    out.extend_from_slice(text.as_bytes())
+}
+
+fn append_bytes(out: &mut Vec<u8>, bytes: &Bytes) -> Result<()>
+    ensures bytes { Appends (behind_length bytes.now) out.old out.new result }
+    ensures fits { journals.IsFileBytes bytes.now }
+{
+    let content = bytes.as_slice();
+    append_number(out, content.len() as u64)?;
+    out.extend_from_slice(content)
+}
+
+// The byte of a change's kind, and its name.
+fn append_kind_and_name(out: &mut Vec<u8>, kind: u8, name: &Name) -> Result<()>
+    ensures bytes { Appends (kind ∷ journals.name_bytes name.now) out.old out.new result }
+    ensures name { OnOk result (IsTrue (is_name name.now)) }
+{
+    out.push(kind)?;
+    append_name(out, name)
+}
+
+fn append_change(out: &mut Vec<u8>, change: &Change) -> Result<()>
+    ensures bytes { Appends (journals.change_bytes (change_of change.now)) out.old out.new result }
+    ensures change { OnOk result (journals.IsChange (change_of change.now)) }
+{
+    match change {
+        Change::Write(name, bytes) => {
+            append_kind_and_name(out, 1, name)?;
+            append_bytes(out, bytes)
+        }
+        Change::Replace(name, bytes) => {
+            append_kind_and_name(out, 2, name)?;
+            append_bytes(out, bytes)
+        }
+        Change::Rename(from, to) => {
+            append_kind_and_name(out, 3, from)?;
+            append_name(out, to)
+        }
+        Change::Remove(name) => append_kind_and_name(out, 4, name),
+    }
+}
+
+fn append_changes(out: &mut Vec<u8>, changes: &[Change]) -> Result<()>
+    ensures bytes { let changes = changes_in changes.now in
+        Appends (flat_map journals.change_bytes changes) out.old out.new result }
+    ensures changes { OnOk result (journals.IsEntry (changes_in changes.now)) }
+{
+    for change in changes {
+        append_change(out, change)?;
+    }
+    Ok(())
+}
+
+fn append_entries(out: &mut Vec<u8>, entries: &[Changes]) -> Result<()>
+    ensures bytes { Appends (flat_map journals.entry_bytes entries.now) out.old out.new result }
+    ensures entries { OnOk result (AllByRecursion journals.IsEntry entries.now) }
+{
+    for entry in entries {
+        append_number(out, entry.len() as u64)?;
+        append_changes(out, entry.as_slice())?;
+    }
+    Ok(())
+}
+
+#[tactic(auto, using(std::proofs::lemmas::List::Concat::concat_is))]
+fn append_digests(out: &mut Vec<u8>, digests: &[[u8; 16]]) -> Result<()>
+    ensures bytes { Appends (concat digests.now) out.old out.new result }
+    ensures digests { AllByRecursion journals.IsDigest digests.now }
+{
+    out.extend_from_slice(digests.as_flattened())
+}
+
+fn append_halfway(out: &mut Vec<u8>, halfway: Option<&HalfwayPartView<'_>>) -> Result<()>
+    requires some { IfSome halfway (λ h. 1 ≤ length h.now.back.now) }
+    requires each { IfSome halfway (λ h. length h.now.fingerprints.now ≡ length h.now.back.now) }
+    ensures bytes { let part = part_from halfway.entry in
+        Appends (journals.halfway_bytes part) out.old out.new result }
+    ensures halfway { OnOk result (IfSome (part_from halfway.entry) journals.IsHalfwayPart) }
+{
+    let Some(halfway) = halfway else {
+        return Ok(out.push(0)?);
+    };
+    out.push(1)?;
+    append_number(out, halfway.back.len() as u64)?;
+    append_digests(out, halfway.fingerprints)?;
+    append_changes(out, halfway.back.as_slice())
+}
+
+/// The bytes of the journal with these parts as far as its entries go, for [`finish_both`].
+#[tactic(auto, unfolding(crate::specs::Fronts::front_bytes))]
+pub fn begin(alloc: Global, parts: &JournalView<'_>) -> Result<Vec<u8>>
+    requires { parts.now.cursor ≤ length parts.now.entries.now + length parts.now.newer.now }
+    ensures { IfOk result (λ front. Begins front.items (journal_from parts.now)) }
+{
+    let mut out = Vec::new(alloc);
+    out.extend_from_slice(heading(Version::Two))?;
+    out.extend_from_slice(&parts.fingerprint)?;
+    append_number(&mut out, parts.cursor as u64)?;
+    append_number(&mut out, (parts.entries.len() + parts.newer.len()) as u64)?;
+    append_entries(&mut out, parts.entries)?;
+    append_entries(&mut out, parts.newer)?;
+    Ok(out)
+}
+
+// All but the digest of a journal whose front stands, with its halfway part.
+#[tactic(auto, unfolding(par2_spec::specs::Journals::journal_bytes, crate::specs::Fronts::front_bytes))]
+fn body(front: Vec<u8>, halfway: Option<&HalfwayPartView<'_>>) -> Result<Vec<u8>>
+    requires some { IfSome halfway (λ h. 1 ≤ length h.now.back.now) }
+    requires each { IfSome halfway (λ h. length h.now.fingerprints.now ≡ length h.now.back.now) }
+    ensures { IfOk result (λ body. Continues front.items (part_from halfway.entry) body.items) }
+{
+    let mut out = front;
+    // A vector that is full isn't doubled for one byte and the digest.
+    out.reserve_exact(17)?;
+    append_halfway(&mut out, halfway)?;
+    Ok(out)
+}
+
+// Adds the digest of all that stands before it.
+fn append_digest(out: &mut Vec<u8>, digest: [u8; 16]) -> Result<()>
+    requires { digest ≡ md5 out.old.items }
+    ensures { OnOk result (out.new.items ≡ out.old.items ++ md5 out.old.items) }
+{
+    out.reserve_exact(16)?;
+    out.extend_from_slice(&digest)
+}
+
+// Adds to each of two texts its digest. They are computed side by side.
+fn append_both_digests(alloc: Global, one: &mut Vec<u8>, other: &mut Vec<u8>) -> Result<()>
+    ensures one { OnOk result (one.new.items ≡ one.old.items ++ md5 one.old.items) }
+    ensures other { OnOk result (other.new.items ≡ other.old.items ++ md5 other.old.items) }
+{
+    let digests = text_digests(alloc, &[one.as_slice(), other.as_slice()])?;
+    append_digest(one, digests[0])?;
+    append_digest(other, digests[1])
+}
+
+/// The bytes of the journal with these parts.
+pub fn encode(alloc: Global, parts: &JournalView<'_>) -> Result<Vec<u8>>
+    requires { parts.now.cursor ≤ length parts.now.entries.now + length parts.now.newer.now }
+    ensures { IfOk result (λ bytes. journals.Spells bytes.items (journal_from parts.now)) }
+{
+    let mut text = body(begin(alloc, parts)?, None)?;
+    let digest = Md5::digest(&text);
+    append_digest(&mut text, digest)?;
+    Ok(text)
+}
+
+/// The bytes of the two journals of a command.
+#[derive(Drop)]
+pub struct JournalTexts {
+    /// While it is halfway.
+    pub halfway: Vec<u8>,
+    /// Afterwards.
+    pub after: Vec<u8>,
+}
+
+/// The bytes of the journal of a halfway command, whose front stands, and of the one with the parts `after`. Their
+/// digests are computed side by side.
+pub fn finish_both(
+    alloc: Global,
+    front: Vec<u8>,
+    halfway: &HalfwayPartView<'_>,
+    after: &JournalView<'_>,
+) -> Result<JournalTexts>
+    requires halfway_some { 1 ≤ length halfway.now.back.now }
+    requires halfway_each { length halfway.now.fingerprints.now ≡ length halfway.now.back.now }
+    requires cursor { after.now.cursor ≤ length after.now.entries.now + length after.now.newer.now }
+    ensures halfway { IfOk result (λ texts.
+        Finishes front.items (Some (halfway_from halfway.now)) texts.halfway.items) }
+    ensures after { IfOk result (λ t. journals.Spells t.after.items (journal_from after.now)) }
+{
+    let mut halfway = body(front, Some(halfway))?;
+    let mut after = body(begin(alloc, after)?, None)?;
+    append_both_digests(alloc, &mut halfway, &mut after)?;
+    Ok(JournalTexts { halfway, after })
+}

@@ -1,0 +1,42 @@
+-- Sixteen messages: eight, and eight after them.
+use Rattle.par2_md5_lanes.proofs.Common.{Bor, ap, subst, sym, ◌∙◌, ◌+◌, ◌-◌, ◌≡◌, ◌<◌, ℕ, List, [], get_or, take, drop, true, nat_lt, refl, arith, inl, inr, cases_lt, take-map, drop-map, get_or-take, get_or-drop, slice_index, lane, text_at, texts_of}
+use Rattle.std.specs.Prelude.{false}
+use Rattle.std.proofs.lemmas.Bool.Decides.{nat_tests}
+use Rattle.par2_md5_lanes.specs.Lanes.{hash_of_sixteen}
+use Rattle.par2_md5_lanes.specs.declared.blocks.Sixteen.{Sixteen}
+
+abbrev bytes_of : Bor (List ℕ) → List ℕ
+bytes_of text = text.now
+
+-- the texts of each group
+pub text_of_low : (texts : List (Bor (List ℕ))) (k : ℕ) → k < 8 → text_at (take 8 texts) k ≡ text_at texts k
+text_of_low texts k low = ap (λ (ts : List (List ℕ)). get_or ts k []) (sym (take-map bytes_of 8 texts)) ∙ get_or-take 8 (texts_of texts) k [] low
+
+pub text_of_high : (texts : List (Bor (List ℕ))) (n k : ℕ) → k < n → text_at (take n (drop 8 texts)) k ≡ text_at texts (8 + k)
+text_of_high texts n k low =
+    ap (λ (ts : List (List ℕ)). get_or ts k []) (sym (take-map bytes_of n (drop 8 texts)))
+    ∙ get_or-take n (texts_of (drop 8 texts)) k [] low
+    ∙ ap (λ (ts : List (List ℕ)). get_or ts k []) (sym (drop-map bytes_of 8 texts))
+    ∙ get_or-drop 8 (texts_of texts) k []
+
+-- what holds of the hash values of each group
+pub each_of_sixteen : (P : ℕ → List ℕ → Type 0) (hashes : Sixteen) → ((k : ℕ) → k < 8 → P k (lane slice_index k hashes.low)) → ((k : ℕ) → k < 8 → P (8 + k) (lane slice_index k hashes.high))
+    → (k : ℕ) → k < 16 → P k (hash_of_sixteen k hashes)
+each_of_sixteen P hashes low high k within =
+    elim (cases_lt k 8) [
+      | inl below ↦ let is : nat_lt k 8 ≡ true = grind (arith, nat_tests) in rw is (low k below)
+      | inr above ↦
+          let is : nat_lt k 8 ≡ false = grind (arith, nat_tests) in
+          let same : 8 + (k - 8) ≡ k = omega arith in
+          rw is (subst (λ (j : ℕ). P j (lane slice_index (k - 8) hashes.high)) same (high (k - 8) (omega arith)))
+    ]
+
+-- the hash values of each group
+pub hash_of_low : (hashes : Sixteen) (k : ℕ) → k < 8 → hash_of_sixteen k hashes ≡ lane slice_index k hashes.low
+hash_of_low hashes k low = let is : nat_lt k 8 ≡ true = grind (arith, nat_tests) in rw is refl
+
+pub hash_of_high : (hashes : Sixteen) (k : ℕ) → hash_of_sixteen (8 + k) hashes ≡ lane slice_index k hashes.high
+hash_of_high hashes k =
+    let is : nat_lt (8 + k) 8 ≡ false = grind (arith, nat_tests) in
+    let same : 8 + k - 8 ≡ k = omega arith in
+    rw is (ap (λ (j : ℕ). lane slice_index j hashes.high) same)

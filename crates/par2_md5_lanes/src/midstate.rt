@@ -1,0 +1,106 @@
+//! MD5 after the first bytes of a message.
+
+ghost use Rattle.std.specs.Prelude.{◌≡◌, ◌++◌, ◌-◌, ◌%◌, ◌^◌, [], ◌∷◌, replicate, ℕ, List, length};
+ghost use Rattle.md5.specs.Md5.{md5, padding};
+ghost use Rattle.par2_md5_lanes.specs.Messages.{HasAbsorbed, message_of, part_bytes};
+
+use crate::blocks::hashed;
+use crate::digest_of;
+use crate::feeds::Feed;
+
+// The padding's first bytes: a bit 1, then zeros.
+const PADDING: [u8; 64] = [
+    0x80, 0, 0, 0, 0, 0, 0, 0, 0, 0, 0, 0, 0, 0, 0, 0, 0, 0, 0, 0, 0, 0, 0, 0, 0, 0, 0, 0, 0, 0, 0,
+    0, 0, 0, 0, 0, 0, 0, 0, 0, 0, 0, 0, 0, 0, 0, 0, 0, 0, 0, 0, 0, 0, 0, 0, 0, 0, 0, 0, 0, 0, 0, 0,
+    0,
+];
+
+/// A part of a message: a length, as eight bytes with the low one first, or bytes.
+#[derive(Clone, Copy, Drop)]
+pub enum Part<'a> {
+    Length(u64),
+    Bytes(&'a [u8]),
+}
+
+/// MD5 after the first bytes of a message.
+#[derive(Clone, Copy, Drop)]
+pub struct Midstate {
+    // The hash value after the whole blocks.
+    pub(crate) hash: [u32; 4],
+    // Begins with the bytes after them.
+    pub(crate) rest: [u8; 64],
+    // How many bytes there were, modulo 2^64, as the padding writes it.
+    pub(crate) length: u64,
+}
+
+fn part_len(part: &Part) -> usize
+    ensures { result ≡ length (part_bytes part.now) }
+{
+    match part {
+        Part::Length(_) => 8,
+        Part::Bytes(bytes) => bytes.len(),
+    }
+}
+
+/// How many bytes the parts have, modulo 2^64.
+pub(crate) fn length_of(parts: &[Part]) -> u64
+    ensures { result ≡ length (message_of parts.now) % 2 ^ 64 }
+{
+    let mut length = 0u64;
+    for part in parts {
+        length = length.wrapping_add(part_len(part) as u64);
+    }
+    length
+}
+
+// The padding before the length.
+fn marks(length: u64) -> &'static [u8]
+    ensures { result.now ≡ 0x80 ∷ replicate ((119 - length % 64) % 64) 0 }
+{
+    &PADDING[..((119 - length % 64) % 64) as usize + 1]
+}
+
+/// The padding of a message of this length (RFC 1321, 3.1 and 3.2).
+pub(crate) fn ending(length: u64) -> [Part<'static>; 2]
+    ensures { (n : ℕ) → n % 2 ^ 64 ≡ length → message_of result ≡ padding n }
+{
+    [
+        Part::Bytes(marks(length)),
+        Part::Length(length.wrapping_mul(8)),
+    ]
+}
+
+impl Midstate {
+    /// Before the first byte: the initial hash value (RFC 1321, 3.3).
+    pub fn new() -> Midstate
+        ensures { HasAbsorbed result [] }
+    {
+        Midstate {
+            hash: [0x6745_2301, 0xefcd_ab89, 0x98ba_dcfe, 0x1032_5476],
+            rest: [0; 64],
+            length: 0,
+        }
+    }
+
+    /// Goes on after the parts.
+    pub fn absorb(&mut self, parts: &[Part])
+        ensures { (m : List ℕ) → HasAbsorbed self.old m
+            → HasAbsorbed self.new (m ++ message_of parts.now) }
+    {
+        let rest = self.rest;
+        // Borrowed anew, for as long as the rest and what its parts borrow.
+        let parts = &parts[..];
+        let feed = Feed::new(&rest[..(self.length % 64) as usize], parts);
+        self.length = self.length.wrapping_add(length_of(parts));
+        self.hash = hashed(self.hash, feed, &mut self.rest);
+    }
+
+    /// The MD5 digest of what was absorbed.
+    pub fn digest(&self) -> [u8; 16]
+        ensures { (m : List ℕ) → HasAbsorbed self.now m → result ≡ md5 m }
+    {
+        let mut padded = *self;
+        padded.absorb(&ending(self.length));
+        digest_of(padded.hash)
+    }
+}

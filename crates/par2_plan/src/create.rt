@@ -1,0 +1,26 @@
+//! A create of which nothing is known beforehand.
+ghost use Rattle.std.specs.Prelude.{IsTrue, IfOk};
+ghost use Rattle.par2_spec.specs.Changes.{are_applicable};
+ghost use Rattle.par2_spec.specs.Commands.{Create};
+ghost use Rattle.par2_spec.specs.Planned.{FailsAs, GivesChanges, LeadsAs, RefusesEarly, SucceedsAs};
+ghost use Rattle.par2_spec.specs.Views.{create_args_of};
+
+use par2_files::{Changes, Folder, Landmarks};
+use par2_spec::{CreateArgs, Fault};
+use std::alloc::Global;
+
+/// The changes of a create: its outputs are written in order, the index first. Memory is answered only where a growth is
+/// refused.
+pub fn plan_create(alloc: Global, folder: &Folder, args: &CreateArgs) -> Result<Changes, Fault>
+    // It is refused as the definitions say, or memory ran out; early refusals need no memory.
+    ensures refused { FailsAs folder.now.files (Create (create_args_of args.now)) result }
+    ensures accepted { SucceedsAs folder.now.files (Create (create_args_of args.now)) result }
+    ensures early { RefusesEarly folder.now.files (Create (create_args_of args.now)) result }
+    // The changes are those of the definitions. They apply in order and lead to their folder.
+    ensures changes { GivesChanges folder.now.files (Create (create_args_of args.now)) result }
+    ensures applies { IfOk result (λ changes. IsTrue (are_applicable folder.now.files changes)) }
+    ensures leads { LeadsAs folder.now.files (Create (create_args_of args.now)) result }
+{
+    let made = par2_create::plan_create(alloc, folder, args, &Landmarks::none(alloc))?;
+    Ok(made.changes)
+}

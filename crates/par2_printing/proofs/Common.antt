@@ -1,8 +1,0 @@
--- The names that proofs of this crate take from elsewhere.
-
-pub use Rattle.std.proofs.Common.{List, [], ap, arith, length, ltb-true, map, refl, rules, string_bytes, subst, suc, sym, take, zero, ℕ, ◌++◌, ◌-◌, ◌<◌, ◌∙◌, ◌∷◌, ◌≡◌, ◌≤◌}
-pub use Rattle.std.proofs.lemmas.List.{get_or-map, get_or_past, length-map, take_all}
-pub use Rattle.par2_printing.specs.Writing.{TookAll, seen, writer_of}
-pub use Rattle.par2_spec.proofs.WritingLaws.{lines_cut, part, step, wrote_less, wrote_then}
-pub use Rattle.par2_spec.specs.Texts.{word_at}
-unfoldable pub use Rattle.par2_spec.specs.Texts.{error_of, failure_text}

@@ -1,5 +1,0 @@
-use Rattle.par2_printing.proofs.Common.{rules}
-use Rattle.par2_printing.proofs.report.write_note.Goals as goal
-
-pub returns-then-dropped : goal.returns-then-dropped
-returns-then-dropped g c = rw c.if-dropped.true (search rules)

@@ -1,8 +1,0 @@
-use Rattle.par2_recovery.proofs.Common.{lists_of}
-use Rattle.par2_recovery.proofs.AdditionLaws.{next_sum}
-use Rattle.par2_recovery.proofs.additions.add_sums.Goals as goal
-
-pub loop-t-preserved : goal.loop-t-preserved
-loop-t-preserved c =
-    next_sum c.args.at.now.places.now c.args.at.now.words c.args.from c.args.to c.loop-t.t c.text_at.result.now (lists_of c.args.sums.now) (lists_of c.args.texts.now) (lists_of c.loop-t.texts) (lists_of c.add_to_output.new.texts)
-    c.text_at.ensures c.fit_lists.ensures c.loop-t.invariant c.add_to_output.ensures

@@ -1,5 +1,0 @@
-use Rattle.par2_recovery.proofs.Common.{◌≡◌, take, lists_of, texts_of}
-use Rattle.par2_recovery.proofs.additions.copies.Given as goal
-
-abbrev pub invariant-loop-k : goal.invariant-loop-k
-invariant-loop-k l = lists_of l.copies.items ≡ take l.k (texts_of l.texts)

@@ -1,5 +1,0 @@
-use Rattle.par2_recovery.proofs.Common.{lists_of, Adds, texts_of}
-use Rattle.par2_recovery.proofs.products.add_columns.Given as goal
-
-abbrev pub invariant-loop-k : goal.invariant-loop-k
-invariant-loop-k l = Adds (lists_of l.factors) (texts_of l.sources) (lists_of l.initial.targets) (lists_of l.targets) l.from l.to l.k

@@ -1,5 +1,0 @@
-use Rattle.par2_recovery.proofs.Common.{lists_of, AreBlank}
-use Rattle.par2_recovery.proofs.recovery.blank.Given as goal
-
-abbrev pub invariant-loop-i : goal.invariant-loop-i
-invariant-loop-i l = AreBlank l.size l._i (lists_of l.texts.items)

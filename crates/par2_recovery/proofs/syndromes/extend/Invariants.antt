@@ -1,5 +1,0 @@
-use Rattle.par2_recovery.proofs.Common.{lists_of, AreExtended}
-use Rattle.par2_recovery.proofs.syndromes.extend.Given as goal
-
-abbrev pub invariant-loop-r : goal.invariant-loop-r
-invariant-loop-r l = AreExtended (lists_of l.initial.texts) (lists_of l.blocks) (lists_of l.texts) l.r

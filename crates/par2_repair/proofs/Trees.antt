@@ -1,0 +1,42 @@
+-- Trees that are made of lists.
+use Rattle.par2_repair.proofs.Common.{◌≡◌, ◌∙◌, ◌||◌, ℕ, List, [], ◌∷◌, map, refl, ap, ap₂, false, cond, zip, None, Some, list_any, BTreeMap, HoldsAsides, itself, clash, is_among, BTreeSet, IsFromIterResult, slice_cmp, nat_list_cmp_total, nat_cmp, eq_by_cmp}
+use Rattle.par2_sets.specs.Asides.{HoldsOwned}
+use Rattle.std.specs.Cmp.{eq_by_cmp_equiv}
+use Rattle.std.proofs.lemmas.Map.Made.{update_all_pairs}
+use Rattle.std.specs.Map.{update_all}
+use Rattle.std.proofs.lemmas.Map.Lookups.{exact_bytes}
+use Rattle.std.proofs.lemmas.Map.Text.{is_eq-slice_cmp}
+use Rattle.std.proofs.lemmas.Map.Views.{tells_apart}
+use Rattle.std.specs.BTreeMap as trees
+
+member_among : (names : List (List ℕ)) (q : List ℕ) → list_any (eq_by_cmp (slice_cmp nat_cmp) q) names ≡ is_among names q
+member_among [] q = refl
+member_among (name ∷ names) q = ap₂ (λ a b. a || b) (is_eq-slice_cmp q name) (member_among names q)
+
+pub holds : (names : List (List ℕ)) (tree : BTreeSet (List ℕ)) → IsFromIterResult (slice_cmp nat_cmp) names tree → HoldsOwned tree names
+holds names tree is name = is.0 name ∙ member_among names name
+
+-- a tree is made of these names and their asides
+abbrev pub as_pair : List ℕ × List ℕ → List ℕ × List ℕ
+as_pair z = (z.0, z.1)
+
+abbrev pub IsPaired : List (List ℕ) → List (List ℕ) → BTreeMap (List ℕ) (List ℕ) → Type 0
+IsPaired names asides tree = trees.IsFromIterResult (slice_cmp nat_cmp) (map as_pair (zip names asides)) tree
+
+abbrev with_aside : (List ℕ → List ℕ) → List ℕ → List ℕ × List ℕ
+with_aside aside n = (n, aside n)
+
+paired : (aside : List ℕ → List ℕ) (names : List (List ℕ)) → map as_pair (zip names (map aside names)) ≡ map (with_aside aside) names
+paired aside [] = refl
+paired aside (name ∷ names) = ap (λ zs. with_aside aside name ∷ zs) (paired aside names)
+
+pub holds_asides : (aside : List ℕ → List ℕ) (names asides : List (List ℕ)) (tree : BTreeMap (List ℕ) (List ℕ)) → asides ≡ map aside names → IsPaired names asides tree → HoldsAsides aside names tree
+holds_asides aside names asides tree e is name =
+    is.0 name ∙ ap (λ zs. update_all (eq_by_cmp (slice_cmp nat_cmp)) (λ _. None) zs name) (ap (λ others. map as_pair (zip names others)) e ∙ paired aside names)
+    ∙ update_all_pairs (eq_by_cmp_equiv nat_list_cmp_total) aside (λ x y e. ap aside (tells_apart exact_bytes x y e)) names name
+    ∙ ap (λ b. cond b (Some (aside name)) None) (member_among names name)
+
+-- a tree that holds no name is that of no names
+pub no_names : (names : List (List ℕ)) → ((q : List ℕ) → is_among names q ≡ false) → names ≡ []
+no_names [] h = refl
+no_names (name ∷ names) h = absurd (clash (ap (λ b. b || is_among names name) (itself name)) (h name))

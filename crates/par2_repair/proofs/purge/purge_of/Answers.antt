@@ -1,0 +1,30 @@
+use Rattle.par2_repair.proofs.Common.{◌≡◌, ◌∙◌, ◌++◌, ◌∷◌, [], List, ℕ, length, map, not, sym, ap, ap₂, inr, rules, tests, ◌==◌, map_more, take_all, filter, list_any, fault_where, Change, Remove, is_needing, NotComplete, YieldsList-from_slice}
+use Rattle.std.proofs.lemmas.Iterator.Search.{any_from_yields_List}
+use Rattle.par2_repair.proofs.RepairParts.{any_needing}
+use Rattle.par2_repair.proofs.purge.purge_of.Goals.{After-any}
+use Rattle.par2_repair.proofs.purge.purge_of.Goals as goal
+
+one_needing : (c : After-any) → not (length (filter (is_needing c.args.folder.now.files c.args.set.now) c.args.set.now.targets) == 0) ≡ c.any.result
+one_needing c =
+    let test = is_needing c.args.folder.now.files c.args.set.now in
+    let any : c.any.result ≡ list_any test c.args.set.now.targets =
+    any_from_yields_List test _ _ c.any.result c.any.ensures.ran (YieldsList-from_slice c.args.set.now.targets cc) (λ x b q k. search (rules, tests)) in
+    any_needing test c.args.set.now.targets ∙ sym any
+
+pub returns-then-any-clause-refused : goal.returns-then-any-clause-refused
+returns-then-any-clause-refused c = inr (ap (λ b. fault_where b NotComplete) (one_needing (goal.at.returns-then-any-clause-refused c).After-any ∙ c.if-any.true))
+
+pub returns-clause-accepted : goal.returns-clause-accepted
+returns-clause-accepted c = ap (λ b. fault_where b NotComplete) (one_needing (goal.at.returns-clause-accepted c).After-any ∙ c.if-any.false)
+
+pub loop-name-preserved : goal.loop-name-preserved
+loop-name-preserved c =
+    let names : List (List ℕ) = c.deref-name-items.result.now in
+    c.in_ok-push.ensures.ok
+    ∙ ap₂ (λ (changes : List Change) name. changes ++ Remove name ∷ []) c.loop-name.invariant (c.copied.ensures ∙ c.name-item.is)
+    ∙ sym (map_more Remove names c.loop-name.name-index c.name-item.result c.loop-name-test.true)
+
+pub returns-clause-changes : goal.returns-clause-changes
+returns-clause-changes c =
+    c.loop-name.invariant
+    ∙ ap (map Remove) (take_all c.loop-name.name-index c.deref-name-items.result.now c.loop-name-test.false ∙ c.deref-name-items.ensures.value ∙ c.in_ok-files.ensures)

@@ -1,0 +1,29 @@
+use Rattle.par2_repair.proofs.Common.{◌≡◌, ◌∙◌, List, ℕ, sym, ap, map, subst, IsStrictlyIncreasing, map-map, IfOk-weaker, MatchOption-at_some, rank, survivors}
+use Rattle.par2_sets.specs.Slices.{entry_of}
+use Rattle.par2_repair.proofs.report.rank_of.Goals as goal
+
+pub rank_by_runs-requires-clause-exponents : goal.rank_by_runs-requires-clause-exponents
+rank_by_runs-requires-clause-exponents c =
+    let rs = c.recovery.result.now in
+    subst IsStrictlyIncreasing (map-map (λ (r : ℕ × List ℕ). r.0) entry_of rs ∙ sym c.in_ok-exponents.ensures ∙ sym c.deref.ensures.value) c.recovery.ensures.rising
+
+pub returns-in-Some : goal.returns-in-Some
+returns-in-Some c =
+    let rs = c.recovery.result.now in
+    let set = c.args.set.now in
+    let are : c.deref.result.now ≡ survivors set =
+    c.deref.ensures.value ∙ c.in_ok-exponents.ensures ∙ sym (map-map (λ (r : ℕ × List ℕ). r.0) entry_of rs) ∙ ap (map (λ (r : ℕ × List ℕ). r.0)) c.recovery.ensures.value in
+    MatchOption-at_some _ (λ n. n ≡ rank c.args.lost.now c.deref.result.now) c.in-Some.rank c.in-Some.is c.rank_by_runs.ensures ∙ ap (rank c.args.lost.now) are
+
+pub rank-requires-clause-exponents : goal.rank-requires-clause-exponents
+rank-requires-clause-exponents c =
+    let rs = c.recovery.result.now in
+    subst IsStrictlyIncreasing (map-map (λ (r : ℕ × List ℕ). r.0) entry_of rs ∙ sym c.in_ok-exponents.ensures ∙ sym c.deref-in-None.ensures.value) c.recovery.ensures.rising
+
+pub returns : goal.returns
+returns c =
+    let rs = c.recovery.result.now in
+    let set = c.args.set.now in
+    let are : c.deref-in-None.result.now ≡ survivors set =
+    c.deref-in-None.ensures.value ∙ c.in_ok-exponents.ensures ∙ sym (map-map (λ (r : ℕ × List ℕ). r.0) entry_of rs) ∙ ap (map (λ (r : ℕ × List ℕ). r.0)) c.recovery.ensures.value in
+    IfOk-weaker c.rank.result _ _ (λ n e. e ∙ ap (rank c.args.lost.now) are) c.rank.ensures.rank

@@ -1,0 +1,82 @@
+-- The parts of a repair.
+use Rattle.std.specs.Prelude.{◌≡◌, ◌⊎◌, ℕ, ◌++◌, Bool, not, List, [], length, map, filter, filter_map, Option, Some, None, option_map, Ok, if◌then◌else◌}
+use Rattle.std.specs.BTreeMap.{BTreeMap, get}
+use Rattle.std.specs.Cmp.Lexicographic.{slice_cmp}
+use Rattle.std.specs.List.{AllByRecursion}
+use Rattle.std.specs.Ordering.{nat_cmp}
+use Rattle.md5.specs.Md5.{md5}
+use Rattle.par2_spec.specs.Changes.{Change, Write, Rename, Remove}
+use Rattle.par2_spec.specs.Folders.{Folder, bytes_of, has}
+use Rattle.par2_spec.specs.Names.{is_among}
+use Rattle.par2_spec.specs.Plans.{repair_changes, repair_removals}
+use Rattle.par2_spec.specs.Refusals.{set_in}
+use Rattle.par2_spec.specs.Repairs.{aside, names_without_match, put_aside, rebuilt, rebuilt_targets}
+use Rattle.par2_spec.specs.Search.{known, lost}
+use Rattle.par2_spec.specs.Search as search
+use Rattle.par2_spec.specs.Sets.{ParSet, Target}
+use Rattle.par2_repair.specs.Restoring.{known_in, targets_among, undetermined_fault}
+use Rattle.par2_repair.specs.declared.moves.Moves.{Moves}
+
+-- where each needing target has a match, nothing is lost
+abbrev pub IsWholeWhereMatched : Folder → ParSet → List (List ℕ) → Type 0
+IsWholeWhereMatched folder set searched = names_without_match (search.matches folder set searched) ≡ [] → lost (known folder set searched) ≡ []
+
+-- ---- slices and files
+
+-- the slices of a set that files have, by the names that are searched
+abbrev pub known_by : Folder → ParSet → List (List ℕ) → List (Option (List ℕ))
+known_by folder set searched = known_in set (map (bytes_of folder) searched)
+
+-- the targets of these names, by the slices that are known; where there are names, the lost slices can be rebuilt
+pub record AreRestored (set : ParSet) (known : List (Option (List ℕ))) (names : List (List ℕ)) (restored : List (Target × List ℕ)) : Type 0 where
+  pub targets : restored ≡ targets_among set (rebuilt set known) names
+  pub lengths : AllByRecursion (λ c. length c.1 ≡ c.0.length) (targets_among set (rebuilt set known) names)
+  pub determined : (names ≡ []) ⊎ (undetermined_fault set known ≡ None)
+
+-- a file has the length and the MD5 that its target describes
+pub record IsAsDescribed (c : Target × List ℕ) : Type 0 where
+  pub length : length c.1 ≡ c.0.length
+  pub md5 : md5 c.1 ≡ c.0.md5
+
+-- each file that a repair writes from slices has the length and the MD5 that its target describes
+abbrev pub WritesAsDescribed : Folder → List ℕ → List (List ℕ) → Type 0
+WritesAsDescribed folder base extras =
+    (set : ParSet) → set_in folder base extras ≡ Ok set → AllByRecursion IsAsDescribed (rebuilt_targets folder set (search.candidates folder set extras))
+
+-- ---- changes
+
+-- each needing target that has a match takes it, from the place where it stands
+abbrev pub matches_taken : (List ℕ → List ℕ) → List (Target × Option (List ℕ)) → List Change
+matches_taken place ms = filter_map (λ m. option_map (λ name. Rename (place name) m.0.name) m.1) ms
+
+-- targets are written
+abbrev pub writes : List (Target × List ℕ) → List Change
+writes targets = map (λ c. Write c.0.name c.1) targets
+
+-- files that are nobody's match are removed, from where they stand
+abbrev pub files_removed : (List ℕ → List ℕ) → List (List ℕ) → List (List ℕ) → List Change
+files_removed place matching names = map (λ name. Remove (place name)) (filter (λ name. not (is_among matching name)) names)
+
+-- where a file stands once those of these names are put aside
+abbrev pub place_by : (List ℕ → List ℕ) → List (List ℕ) → List ℕ → List ℕ
+place_by aside names name = if is_among names name then aside name else name
+
+-- a tree holds for exactly these names their asides
+abbrev pub HoldsAsides : (List ℕ → List ℕ) → List (List ℕ) → BTreeMap (List ℕ) (List ℕ) → Type 0
+HoldsAsides aside names tree =
+    (name : List ℕ) → get (slice_cmp nat_cmp) tree name ≡ (if is_among names name then Some (aside name) else None)
+
+-- the names of those of these targets whose files are there
+abbrev pub names_there : Folder → List (Target × Option (List ℕ)) → List (List ℕ)
+names_there folder needing = map (λ m. m.0.name) (filter (λ m. has folder m.0.name) needing)
+
+-- what a repair moves in a folder, by the names that are searched
+pub record AreMoves (folder : Folder) (set : ParSet) (searched : List (List ℕ)) (moves : Moves) : Type 0 where
+  pub needing : moves.needing.now ≡ search.matches folder set searched
+  pub names : moves.put_aside.items ≡ put_aside folder set
+  pub asides : HoldsAsides (aside folder set) (put_aside folder set) moves.asides
+
+-- the changes of a repair, which may purge
+abbrev pub repair_by : Bool → Folder → ParSet → List (List ℕ) → List Change
+repair_by purge folder set searched =
+    if purge then repair_changes folder set searched ++ repair_removals folder set searched else repair_changes folder set searched

@@ -1,0 +1,48 @@
+//! What a purge changes.
+ghost use Rattle.std.specs.Prelude.{◌≡◌, None, IsTrue, IfOk, OnOk};
+ghost use Rattle.par2_spec.specs.Changes.{are_applicable};
+ghost use Rattle.par2_spec.specs.Commands.{Purge};
+ghost use Rattle.par2_spec.specs.Plans.{purge_changes};
+ghost use Rattle.par2_spec.specs.Refusals.{purge_refusal};
+ghost use Rattle.par2_spec.specs.Answers.{FailsFor};
+ghost use Rattle.par2_spec.specs.Planned.{FailsAs, GivesChanges, LeadsAs, RefusesEarly, SucceedsAs};
+
+use crate::Changes;
+use crate::matching::is_needing;
+use crate::reading::read;
+use par2_files::{Change, Folder};
+use par2_sets::{ParSet, par_files};
+use par2_spec::Fault;
+use std::alloc::Global;
+
+// The changes of a purge of this set.
+fn purge_of(alloc: Global, folder: &Folder, set: &ParSet) -> Result<Changes, Fault>
+    ensures refused { FailsFor (purge_refusal folder.now.files set.now) result }
+    ensures accepted { OnOk result (purge_refusal folder.now.files set.now ≡ None) }
+    ensures changes { IfOk result (λ changes. changes ≡ purge_changes folder.now.files set.now) }
+{
+    let mut targets = set.targets().iter();
+    if targets.any(|target| is_needing(folder, set, target)) {
+        return Err(Fault::NotComplete);
+    }
+    let files = par_files(alloc, folder, set)?;
+    let mut changes = Changes::new(alloc);
+    for name in &files {
+        changes.push(Change::Remove(name.copied()))?;
+    }
+    Ok(changes)
+}
+
+/// The changes of a purge: the set's par files are removed, where each target is complete. Memory is answered only where
+/// a growth is refused.
+pub fn plan_purge(alloc: Global, folder: &Folder, base: &str) -> Result<Changes, Fault>
+    ensures refused { FailsAs folder.now.files (Purge base.now) result }
+    ensures accepted { SucceedsAs folder.now.files (Purge base.now) result }
+    ensures early { RefusesEarly folder.now.files (Purge base.now) result }
+    ensures changes { GivesChanges folder.now.files (Purge base.now) result }
+    ensures applies { IfOk result (λ changes. IsTrue (are_applicable folder.now.files changes)) }
+    ensures leads { LeadsAs folder.now.files (Purge base.now) result }
+{
+    let reading = read(alloc, folder, base, &[])?;
+    purge_of(alloc, folder, &reading.set)
+}

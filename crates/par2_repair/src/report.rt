@@ -1,0 +1,215 @@
+//! What a verify reports.
+ghost use Rattle.std.specs.Prelude.{◌≡◌, ◌≤◌, ◌<◌, ℕ, List, length, map, filter, slice_index, option_map, Ok, IfOk, if◌then◌else◌};
+ghost use Rattle.std.specs.List.{list_all};
+ghost use Rattle.std.specs.Slice.Iter.{iter_rest};
+ghost use Rattle.par2_spec.specs.Answers.{Lists};
+ghost use Rattle.par2_spec.specs.Folders as folders;
+ghost use Rattle.par2_spec.specs.Folders.{has};
+ghost use Rattle.par2_spec.specs.Rank as ranks;
+ghost use Rattle.par2_spec.specs.Reports.{Complete, is_complete, needing_state, verdict_of, report_in, IsVerdictIn};
+ghost use Rattle.par2_spec.specs.Search.{survivors};
+ghost use Rattle.par2_repair.specs.Findings.{GoesOn, lost_by, report_by, reports_by, said_of};
+ghost use Rattle.par2_repair.specs.Views.{state_of, target_report_of, report_of};
+
+use crate::finding::{Findings, split_at_most};
+use crate::matching::Needing;
+use par2_files::{Folder, Name};
+use par2_gf16::Gf;
+use par2_sets::{ParSet, Target};
+use par2_solve::{rank, rank_by_runs};
+use par2_spec::{Result, Verdict};
+use std::alloc::Global;
+use std::slice::Iter;
+
+/// How it is with a target.
+#[derive(Drop)]
+pub enum State {
+    /// Its file is intact.
+    Complete,
+    /// It isn't, and the file of this name is intact for the target.
+    Misplaced(Name),
+    /// It isn't, and no other file is intact for the target.
+    Damaged,
+    /// There is no file of its name, and no other is intact for the target.
+    Missing,
+}
+
+/// What is said of a target.
+#[derive(Drop)]
+pub struct TargetReport {
+    pub name: Name,
+    pub state: State,
+    /// How many of its slices are found.
+    pub found: usize,
+    /// How many slices it has.
+    pub total: usize,
+}
+
+/// What is said of a set.
+#[derive(Drop)]
+pub struct Report {
+    /// The Recovery Set ID.
+    pub set_id: [u8; 16],
+    /// In the order of the set.
+    pub targets: Vec<TargetReport>,
+    /// How many slices are lost.
+    pub lost: usize,
+    /// How many of them the surviving recovery slices tell.
+    pub rank: usize,
+}
+
+// Whether each target is complete.
+fn are_complete(targets: &[TargetReport]) -> bool
+    ensures { result ≡ list_all (λ target. is_complete (state_of target.state)) targets.now }
+{
+    targets
+        .iter()
+        .all(|target| matches!(target.state, State::Complete))
+}
+
+impl Report {
+    /// What follows from the report: complete, repairable or neither. Of a report on a set it is repairable exactly where
+    /// a target is needing and the lost slices are determined. It takes no memory.
+    pub fn verdict(&self) -> Verdict
+        ensures answer { result ≡ verdict_of (report_of self.now) }
+        ensures words { (folder : folders.Folder) (base : List ℕ) (extras : List (List ℕ))
+            → report_in folder base extras ≡ Ok (report_of self.now)
+            → IsVerdictIn folder base extras result }
+    {
+        if are_complete(&self.targets) {
+            Verdict::Complete
+        } else if self.rank == self.lost {
+            Verdict::Repairable
+        } else {
+            Verdict::NotRepairable
+        }
+    }
+}
+
+// The match of the next of these needing targets, where the target is needing.
+fn next_match<'n>(needs: bool, needing: &mut Iter<'n, Needing>) -> Option<&'n Name>
+    ensures { GoesOn needs (iter_rest needing.old) result (iter_rest needing.new) }
+{
+    if !needs {
+        return None;
+    }
+    needing.next()?.found.as_ref()
+}
+
+// The state of a target, by whether it is needing, and its match.
+fn state_of(folder: &Folder, target: &Target, needs: bool, matched: Option<&Name>) -> State
+    ensures { let is_there = has folder.now.files target.now.name in
+        let matched = option_map (λ name. name.now) matched.entry in
+        state_of result ≡ if needs then needing_state is_there matched else Complete }
+{
+    match matched {
+        _ if !needs => State::Complete,
+        Some(name) => State::Misplaced(name.copied()),
+        None if folder.get(target.name()).is_some() => State::Damaged,
+        None => State::Missing,
+    }
+}
+
+// How many of these slices are found.
+fn count_found(found: &[bool]) -> usize
+    ensures { result ≡ length (filter (λ b. b) found.now) }
+{
+    found.iter().filter(|found| **found).count()
+}
+
+// What is said of a target, by whether it is needing, its match, and whether each of its slices is found.
+fn target_report(
+    folder: &Folder,
+    target: &Target,
+    needs: bool,
+    matched: Option<&Name>,
+    found: &[bool],
+) -> TargetReport
+    ensures { let matched = option_map (λ name. name.now) matched.entry in
+        target_report_of result ≡ said_of folder.now.files (target.now, needs) matched found.now }
+{
+    TargetReport {
+        name: target.name().copied(),
+        state: state_of(folder, target, needs, matched),
+        found: count_found(found),
+        total: target.pairs().len(),
+    }
+}
+
+// What is said of each target.
+fn target_reports(
+    alloc: Global,
+    folder: &Folder,
+    targets: &[Target],
+    findings: &Findings,
+) -> Result<Vec<TargetReport>>
+    ensures { let reports = reports_by folder.now.files targets.now findings.now in
+        IfOk result (λ list. map target_report_of list.items ≡ reports) }
+{
+    let mut reports = Vec::with_capacity(alloc, targets.len())?;
+    let mut needing = findings.targets.needing.iter();
+    let mut found = findings.found.as_slice();
+    for (target, needs) in targets.iter().zip(&findings.targets.needs) {
+        let (own, others) = split_at_most(found, target.pairs().len());
+        found = others;
+        let matched = next_match(*needs, &mut needing);
+        reports.push(target_report(folder, target, *needs, matched, own))?;
+    }
+    Ok(reports)
+}
+
+// The numbers of the slices that aren't found, rising.
+fn lost_slices(alloc: Global, found: &[bool]) -> Result<Vec<u32>>
+    requires { length found.now ≤ 32768 }
+    ensures { Lists (lost_by found.now) result }
+{
+    let mut lost = Vec::new(alloc);
+    for i in 0..found.len() {
+        if !found[i] {
+            lost.push(i as u32)?;
+        }
+    }
+    Ok(lost)
+}
+
+// The exponents of recovery slices.
+fn exponents(alloc: Global, recovery: &[(u32, &[u8])]) -> Result<Vec<u32>>
+    ensures { IfOk result (λ list. list.items ≡ map (λ slice. slice.0) recovery.now) }
+{
+    recovery.iter().map(|slice| slice.0).collect(alloc)
+}
+
+// How many of these lost slices the surviving recovery slices tell. The field's tables are made only where equations
+// must decide it.
+fn rank_of(alloc: Global, set: &ParSet, lost: &[u32]) -> Result<usize>
+    requires { (i : ℕ) → slice_index lost.now i < 32768 }
+    ensures { IfOk result (λ n. n ≡ ranks.rank lost.now (survivors set.now)) }
+{
+    let exponents = exponents(alloc, set.recovery())?;
+    match rank_by_runs(lost, &exponents) {
+        Some(rank) => Ok(rank),
+        None => rank(alloc, &Gf::new(alloc)?, lost, &exponents),
+    }
+}
+
+/// What is said of a set, by what is found of it.
+pub(crate) fn report_on(
+    alloc: Global,
+    folder: &Folder,
+    set: &ParSet,
+    findings: &Findings,
+) -> Result<Report>
+    requires { length findings.now.found.items ≤ 32768 }
+    ensures { let report = report_by folder.now.files set.now findings.now in
+        IfOk result (λ said. report_of said ≡ report) }
+{
+    let targets = target_reports(alloc, folder, set.targets(), findings)?;
+    let lost = lost_slices(alloc, &findings.found)?;
+    let rank = rank_of(alloc, set, &lost)?;
+    Ok(Report {
+        set_id: set.id(),
+        targets,
+        lost: lost.len(),
+        rank,
+    })
+}

@@ -1,0 +1,125 @@
+-- Where the first exponents are a run of as many as slices are lost, these are the kept ones.
+use Rattle.par2_solve.proofs.Common.{ℕ, zero, suc, ◌+◌, ◌-◌, ◌<◌, ◌≤◌, ◌≡◌, refl, sym, ap, ◌∙◌, subst, arith, Bool, true, false, cond, List, [], ◌∷◌, length, get_or, map, take, filter, Option, Some, None, AllByRecursion, Contains, range_with_len, IsStrictlyIncreasing, length-map, length-take, ext_get_or, get_or-take, length-take-le, take_all, take-map, Contains-get_or, length-range_with_len, get_or-range_with_len, kept, kept_slices, rank, AreSlices, AreClose, HasRun, all_unmap, filter-map, first_kept, run_rank, BeginsWithRun, lost_from, recovered_of, exponents_of, Bor}
+use Rattle.par2_solve.proofs.Ranks.{is_kept}
+use Rattle.par2_solve.proofs.Runs.{rises_between, close_ends, close_range}
+use Rattle.par2_solve.proofs.Standing.{kept_slices_are}
+
+-- ---- the first exponents
+
+pub begins : (xs : List ℕ) (n : ℕ) → IsStrictlyIncreasing xs → n ≤ length xs → AreClose n (take n xs) → BeginsWithRun (get_or xs 0 0) n xs
+begins xs n rise within close =
+    ext_get_or 0 (take n xs) (range_with_len f n) (long ∙ sym (length-range_with_len f n)) (λ k h.
+    let low : k < n = omega (arith, h, long) in
+    let ends = close_ends (take n xs) n (omega (arith, h)) close in
+    let first = get_or-take n xs 0 0 (omega (arith, low)) in
+    let last : get_or (take n xs) (length (take n xs) - 1) 0 ≡ get_or xs (n - 1) 0 = ap (λ m. get_or (take n xs) (m - 1) 0) long ∙ get_or-take n xs (n - 1) 0 (omega (arith, low)) in
+    let below = rises_between xs rise 0 k (omega arith) (omega (arith, low, within)) in
+    let above = rises_between xs rise k (n - 1) (omega (arith, low)) (omega (arith, low, within)) in
+    let at : get_or xs k 0 ≡ f + k = omega (arith, ends, first, last, below, above, low) in
+    get_or-take n xs k 0 low ∙ at ∙ sym (get_or-range_with_len f n k 0 low))
+  where
+    f : ℕ
+    f = get_or xs 0 0
+
+    long : length (take n xs) ≡ n
+    long = length-take-le n xs within
+
+pub close_front : (xs : List ℕ) (f n : ℕ) → BeginsWithRun f n xs → AreClose n (take n xs)
+close_front xs f n front = subst (AreClose n) (sym front) (close_range f n)
+
+pub front_within : (xs : List ℕ) (f n : ℕ) → BeginsWithRun f n xs → n ≤ length xs
+front_within xs f n front =
+    let long : length (take n xs) ≡ n = ap length front ∙ length-range_with_len f n in
+    let least = length-take n xs in
+    omega (arith, long, least)
+
+pub has_run_front : (xs : List ℕ) (f n : ℕ) → BeginsWithRun f n xs → HasRun f n xs
+has_run_front xs f n front i low =
+    let within : i < length xs = (let most = front_within xs f n front in omega (arith, most, low)) in
+    let at : get_or xs i 0 ≡ f + i = sym (get_or-take n xs i 0 low) ∙ ap (λ ys. get_or ys i 0) front ∙ get_or-range_with_len f n i 0 low in
+    subst (Contains xs) at (Contains-get_or xs i 0 within)
+
+-- ---- the kept exponents
+
+pub kept_front : (ks exponents : List ℕ) (f : ℕ) → AreSlices ks → IsStrictlyIncreasing exponents → BeginsWithRun f (length ks) exponents → kept ks exponents ≡ take (length ks) exponents
+kept_front ks exponents f are rise front =
+    let all : rank ks exponents ≡ length ks = run_rank ks exponents f are rise (has_run_front exponents f (length ks) front) in
+    sym (take_all (length ks) (kept ks exponents) (omega (arith, all)))
+    ∙ first_kept ks exponents (length ks) are rise (close_front exponents f (length ks) front)
+
+-- what a filter leaves, where it leaves n and the first n pass
+filter_first : {A : Type 0} (p : A → Bool) (n : ℕ) (xs : List A) → length (filter p xs) ≡ n → AllByRecursion (λ x. p x ≡ true) (take n xs) → filter p xs ≡ take n xs
+filter_first p zero xs count h = none xs (filter p xs) count
+  where
+    none : {A : Type 0} (xs ys : List A) → length ys ≡ 0 → ys ≡ take 0 xs
+    none [] [] e = refl
+    none (x ∷ xs) [] e = refl
+    none xs (y ∷ ys) e = absurd (omega (arith, e))
+filter_first p (suc n) [] count h = refl
+filter_first p (suc n) (x ∷ xs) count h =
+    let here = ap (λ b. cond b (x ∷ filter p xs) (filter p xs)) h.0 in
+    let more : suc (length (filter p xs)) ≡ suc n = sym (ap length here) ∙ count in
+    here ∙ ap (λ ys. x ∷ ys) (filter_first p n xs (omega (arith, more)) h.1)
+
+passing : (p : ℕ → Bool) (xs : List ℕ) → AllByRecursion (λ x. p x ≡ true) (filter p xs)
+passing p [] = tt
+passing p (x ∷ xs) = step (p x) refl (filter p xs) (passing p xs)
+  where
+    step : (b : Bool) → p x ≡ b → (ys : List ℕ) → AllByRecursion (λ y. p y ≡ true) ys → AllByRecursion (λ y. p y ≡ true) (cond b (x ∷ ys) ys)
+    step true e ys h = (e, h)
+    step false e ys h = h
+
+pub kept_slices_front : (ks : List ℕ) (recs : List (ℕ × List ℕ)) (f : ℕ) → AreSlices ks → IsStrictlyIncreasing (map (λ r. r.0) recs) → BeginsWithRun f (length ks) (map (λ r. r.0) recs)
+    → kept_slices ks (map (λ r. r.0) recs) recs ≡ take (length ks) recs
+kept_slices_front ks recs f are rise front =
+    kept_slices_are ks recs ∙ filter_first p n recs count (all_unmap (λ e. is_kept ks all e ≡ true) (λ (r : ℕ × List ℕ). r.0) (take n recs) passes)
+  where
+    all : List ℕ
+    all = map (λ (r : ℕ × List ℕ). r.0) recs
+
+    n : ℕ
+    n = length ks
+
+    p : ℕ × List ℕ → Bool
+    p r = is_kept ks all r.0
+
+    are_first : kept ks all ≡ take n all
+    are_first = kept_front ks all f are rise front
+
+    count : length (filter p recs) ≡ n
+    count =
+        sym (length-map (filter p recs) (λ (r : ℕ × List ℕ). r.0))
+        ∙ ap length (sym (filter-map (is_kept ks all) (λ (r : ℕ × List ℕ). r.0) recs))
+        ∙ run_rank ks all f are rise (has_run_front all f n front)
+
+    passes : AllByRecursion (λ e. is_kept ks all e ≡ true) (map (λ (r : ℕ × List ℕ). r.0) (take n recs))
+    passes = subst (λ es. AllByRecursion (λ e. is_kept ks all e ≡ true) es) (are_first ∙ take-map (λ (r : ℕ × List ℕ). r.0) n recs) (passing (is_kept ks all) all)
+
+-- ---- the numbers of the lost slices
+
+lost_above : {A : Type 0} (a : ℕ) (known : List (Option A)) (i : ℕ) → i < length (lost_from a known) → a ≤ get_or (lost_from a known) i 0
+lost_above a [] i h = absurd (omega (arith, h))
+lost_above a (Some x ∷ known) i h = let rest = lost_above (a + 1) known i h in omega (arith, rest)
+lost_above a (None ∷ known) zero h = omega arith
+lost_above a (None ∷ known) (suc i) h = let rest = lost_above (a + 1) known i (omega (arith, h)) in omega (arith, rest)
+
+pub lost_rise : {A : Type 0} (a : ℕ) (known : List (Option A)) → IsStrictlyIncreasing (lost_from a known)
+lost_rise a [] k h = absurd (omega (arith, h))
+lost_rise a (Some x ∷ known) k h = lost_rise (a + 1) known k h
+lost_rise a (None ∷ known) zero h =
+    let e : 0 + 1 ≡ suc 0 = omega arith in
+    let rest = lost_above (a + 1) known 0 (omega (arith, h)) in
+    subst (λ n. a < get_or (a ∷ lost_from (a + 1) known) n 0) (sym e) (omega (arith, rest))
+lost_rise a (None ∷ known) (suc k) h =
+    let e : suc k + 1 ≡ suc (k + 1) = omega arith in
+    let more = lost_rise (a + 1) known k (omega (arith, h)) in
+    subst (λ n. get_or (lost_from (a + 1) known) k 0 < get_or (a ∷ lost_from (a + 1) known) n 0) (sym e) more
+
+-- ---- the recovery slices of the run
+
+pub recovered_front : (recovery first : List (ℕ × Bor (List ℕ))) (n : ℕ) → first ≡ take n recovery → recovered_of first ≡ take n (recovered_of recovery)
+recovered_front recovery first n is = ap (λ (rs : List (ℕ × Bor (List ℕ))). recovered_of rs) is ∙ sym (take-map (λ (r : ℕ × Bor (List ℕ)). (r.0, r.1.now)) n recovery)
+
+-- the exponents of the first ones are the run
+pub exponents_front : (recovery first : List (ℕ × Bor (List ℕ))) (f n : ℕ) → BeginsWithRun f n (exponents_of recovery) → recovered_of first ≡ take n (recovered_of recovery) → exponents_of first ≡ range_with_len f n
+exponents_front recovery first f n front is = ap (map (λ r. r.0)) is ∙ sym (take-map (λ (r : ℕ × List ℕ). r.0) n (recovered_of recovery)) ∙ front

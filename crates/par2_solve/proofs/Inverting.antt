@@ -1,0 +1,130 @@
+-- The inverse of the equations of the kept exponents.
+use Rattle.par2_solve.proofs.Common.{inl, inr, ℕ, ◌+◌, ◌*◌, ◌/◌, ◌%◌, ◌<◌, ◌≤◌, ◌≡◌, ◌≢◌, refl, sym, ap, ◌∙◌, arith, cond, List, [], ◌∷◌, ◌++◌, Vec, Global, length, get_or, map, subst, bit_xor, Bor, xor_zero_l, cases_eq, eq-eqb, ne_eqb, get_or-map, length-map, length-replicate, mul, coefficient, word, dot, coefficients, kept, field_sum, list_at, lists_of, AreElements, zero-product, product_comm, product-one, all_at, all_from, all_get, field_sum_same, field_sum_one, coefficients_are, dot-lt, words_are, bytes_at, combination_words, word-lt, Equations, IsTheSolution, AreRows, IsUnit, recovery_at, IsEliminated, IsInverse, identity, Adds, products, recovered_of, texts_of, AreBlank}
+use Rattle.par2_matrix.specs.Echelon.{Spells}
+use Rattle.par2_matrix.specs.Systems as systems
+use Rattle.par2_solve.proofs.Dots.{combined}
+use Rattle.par2_solve.proofs.Combinations.{coefficients-lt, dot_at, blank_word, each_push, length-texts_of}
+
+-- ---- recovery slices
+
+pub length-recovered_of : (recovery : List (ℕ × Bor (List ℕ))) → length (recovered_of recovery) ≡ length recovery
+length-recovered_of recovery = length-map recovery (λ (r : ℕ × Bor (List ℕ)). (r.0, r.1.now))
+
+pub length-slices : (recovery : List (ℕ × List ℕ)) → length (map (λ r. r.1) recovery) ≡ length recovery
+length-slices recovery = length-map recovery (λ (r : ℕ × List ℕ). r.1)
+
+pub many_texts : (kept : List (ℕ × Bor (List ℕ))) (texts : List (Bor (List ℕ))) → texts_of texts ≡ map (λ r. r.1) (recovered_of kept) → length texts ≡ length kept
+many_texts kept texts are = sym (length-texts_of texts) ∙ ap length are ∙ length-slices (recovered_of kept) ∙ length-recovered_of kept
+
+-- ---- sums
+
+-- what was added to zeros
+pub from_zeros : (size n words k : ℕ) (factors sources zeros sums : List (List ℕ)) → AreBlank size n zeros → 2 * words ≤ size → Adds factors sources zeros sums 0 words k
+    → (r p : ℕ) → r < n → p < words → word p (list_at sums r) ≡ products k factors sources r p
+from_zeros size n words k factors sources zeros sums blank room added r p low here =
+    let fits : 2 * p + 1 < length (list_at zeros r) = (let e = ap length (blank.each r low) ∙ length-replicate {A = ℕ} size 0 in omega (arith, e)) in
+    added.inside r p (omega (arith, blank.count)) (omega arith) here fits
+    ∙ ap (λ x. bit_xor x (products k factors sources r p)) (ap (λ xs. word p xs) (blank.each r low) ∙ blank_word size p)
+    ∙ xor_zero_l (products k factors sources r p)
+
+-- ---- the identity
+
+identity-itself : (i : ℕ) → identity i i ≡ 1
+identity-itself i = ap (λ b. cond b 1 0) (eq-eqb i i refl)
+
+identity-others : (i k : ℕ) → i ≢ k → identity i k ≡ 0
+identity-others i k other = ap (λ b. cond b 1 0) (ne_eqb i k other)
+
+pub identity-lt : (i k : ℕ) → identity i k < 65536
+identity-lt i k = elim (cases_eq i k) [
+  | inl same ↦ (let e : identity i k ≡ 1 = ap (λ m. identity i m) (sym same) ∙ identity-itself i in omega (arith, e))
+  | inr other ↦ (let e = identity-others i k other in omega (arith, e))
+]
+
+-- the row of the identity picks a value
+pub sum_of_row : (n i : ℕ) (f : ℕ → ℕ) → i < n → AreElements f → field_sum n (λ k. mul (identity i k) (f k)) ≡ f i
+sum_of_row n i f low are =
+    field_sum_one n i (λ k. mul (identity i k) (f k)) low (λ k h other. ap (λ x. mul x (f k)) (identity-others i k (λ e. other (sym e))) ∙ zero-product (f k))
+    ∙ ap (λ x. mul x (f i)) (identity-itself i) ∙ product_comm 1 (f i) (omega arith) (are i) ∙ product-one (f i) (are i)
+
+-- ---- the solution for unit vectors is the inverse
+
+unit_bytes : (n i : ℕ) (text : List ℕ) → IsUnit n i text → (k : ℕ) → get_or text k 0 < 256
+unit_bytes n i text is k =
+    let p = k / 2 in
+    let small : word p text < 2 = elim (cases_eq p i) [
+      | inl same ↦ (let e : word p text ≡ 1 = ap (λ q. word q text) same ∙ is.one in omega (arith, e))
+      | inr other ↦ (let e : word p text ≡ 0 = is.zeros p other in omega (arith, e))
+    ] in
+    elim (cases_eq (k % 2) 0) [
+      | inl even ↦ (let e : k ≡ 2 * p = omega arith in let at : get_or text k 0 ≡ get_or text (2 * p) 0 = ap (λ q. get_or text q 0) e in omega (arith, at, small))
+      | inr odd ↦ (let e : k ≡ 2 * p + 1 = omega arith in let at : get_or text k 0 ≡ get_or text (2 * p + 1) 0 = ap (λ q. get_or text q 0) e in omega (arith, at, small))
+    ]
+
+unit_word : (n j : ℕ) (unit : List ℕ) (k : ℕ) → IsUnit n j unit → word k unit ≡ identity j k
+unit_word n j unit k is = elim (cases_eq k j) [
+  | inl same ↦ subst (λ m. word m unit ≡ identity j m) (sym same) (is.one ∙ sym (identity-itself j))
+  | inr other ↦ is.zeros k other ∙ sym (identity-others j k (λ e. other (sym e)))
+]
+
+pub are_inverse : (lost : List ℕ) (recs kept_ones : List (ℕ × List ℕ)) (system : Equations) (texts rows : List (List ℕ)) → IsEliminated lost recs kept_ones system → IsTheSolution system texts
+    → systems.rank system ≡ system.columns → AreRows rows texts (length texts) → IsInverse lost (map (λ r. r.0) kept_ones) rows
+are_inverse lost recs kept_ones system texts rows found solution full are = record {
+  square = length-map kept_ones (λ (r : ℕ × List ℕ). r.0) ∙ kept_count;
+  count = are.count ∙ count;
+  vectors = λ i h. (
+    row_size i h,
+    all_from (λ y. y < 65536) 0 (list_at rows i) (λ k low.
+        let here : k < n = (let size = row_size i h in omega (arith, size, low)) in
+        subst (λ y. y < 65536) (read i k h here) (word-lt (list_at texts i) k (bytes_at texts solution.are_texts.bytes i))),
+  );
+  product = λ j k hj hk.
+      let e : ℕ = (recovery_at kept_ones j).0 in
+      let row : List ℕ = coefficients lost e in
+      let fit : length row ≤ n = (let long = length-map lost (coefficient e) in omega (arith, long)) in
+      let gives = found.solves texts solution.are_texts solution.solves j (omega (arith, hj, kept_count)) in
+      ap (λ x. field_sum n (λ i. mul (get_or (coefficients lost x) i 0) (get_or (list_at rows i) k 0))) (get_or-map (λ (r : ℕ × List ℕ). r.0) kept_ones j (0, []) 0 (omega (arith, hj, kept_count)))
+      ∙ field_sum_same n (λ i. mul (get_or row i 0) (get_or (list_at rows i) k 0)) (λ i. mul (get_or row i 0) (word k (list_at texts i))) (λ i hi. ap (mul (get_or row i 0)) (sym (read i k hi hk)))
+      ∙ sym (dot_at n row texts k fit)
+      ∙ (combination_words (2 * n) row texts gives.unit (omega arith) (λ p. dot-lt row (map (word p) texts) (coefficients_are e lost) (words_are p texts solution.are_texts.bytes)) gives.is_unit.size (unit_bytes n j gives.unit gives.is_unit)).0 gives.combined k (omega (arith, hk))
+      ∙ unit_word n j gives.unit k gives.is_unit;
+}
+  where
+    n : ℕ
+    n = length lost
+
+    count : length texts ≡ n
+    count = solution.are_texts.count ∙ found.columns
+
+    kept_count : length kept_ones ≡ n
+    kept_count = sym found.count ∙ full ∙ found.columns
+
+    row_size : (i : ℕ) → i < n → length (list_at rows i) ≡ n
+    row_size i h =
+        let size = (are.each i (omega (arith, h, count))).size in
+        let all = all_get (λ (text : List ℕ). length text ≡ system.bytes) texts i [] (omega (arith, h, count)) solution.are_texts.sizes in
+        let bytes = found.bytes in
+        omega (arith, size, all, bytes)
+
+    read : (i k : ℕ) → i < n → k < n → word k (list_at texts i) ≡ get_or (list_at rows i) k 0
+    read i k hi hk = let size = row_size i hi in (are.each i (omega (arith, hi, count))).each k (omega (arith, size, hk)) (omega (arith, size, hk))
+
+-- ---- what the exponents give for the inverse times some elements are these elements
+
+pub gives_back : (lost es : List ℕ) (inverse made : List (List ℕ)) (w : ℕ) (s : ℕ → ℕ) → IsInverse lost es inverse → AreElements s
+    → ((i : ℕ) → i < length lost → word w (list_at made i) ≡ field_sum (length lost) (λ j. mul (get_or (list_at inverse i) j 0) (s j)))
+    → (j : ℕ) → j < length lost → dot (coefficients lost (get_or es j 0)) (map (word w) made) ≡ s j
+gives_back lost es inverse made w s is are made_is j low =
+    let n = length lost in
+    let row = coefficients lost (get_or es j 0) in
+    let x = λ (i k : ℕ). get_or (list_at inverse i) k 0 in
+    dot_at n row made w (let long = length-map lost (coefficient (get_or es j 0)) in omega (arith, long))
+    ∙ field_sum_same n (λ i. mul (get_or row i 0) (word w (list_at made i))) (λ i. mul (get_or row i 0) (field_sum n (λ k. mul (x i k) (s k)))) (λ i hi. ap (mul (get_or row i 0)) (made_is i hi))
+    ∙ combined n n (λ i. get_or row i 0) x s (coefficients-lt lost (get_or es j 0)) (λ i hi. all_at (λ z. z < 65536) 0 (omega arith) (list_at inverse i) (is.vectors i hi).1) are
+    ∙ field_sum_same n (λ k. mul (field_sum n (λ i. mul (get_or row i 0) (x i k))) (s k)) (λ k. mul (identity j k) (s k)) (λ k hk. ap (λ z. mul z (s k)) (is.product j k low hk))
+    ∙ sum_of_row n j s low are
+
+-- the elements of one text more
+pub rows_push : (texts : List (List ℕ)) (rows : List (Vec ℕ Global)) (row : Vec ℕ Global) (r : ℕ) → AreRows (lists_of rows) texts r → Spells row.items (list_at texts r) (length row.items)
+    → AreRows (lists_of (rows ++ row ∷ [])) texts (r + 1)
+rows_push texts rows row r are is = let all = each_push (λ q row. Spells row (list_at texts q) (length row)) rows row r are.count are.each is in record { count = all.0; each = all.1 }

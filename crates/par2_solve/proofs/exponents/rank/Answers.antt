@@ -1,0 +1,20 @@
+use Rattle.par2_solve.proofs.Common.{◌≡◌, IfOk-weaker, rank}
+use Rattle.std.proofs.lemmas.Option.{MatchOption-at_some}
+use Rattle.par2_spec.proofs.FullRank.{rank-le, full-iff}
+use Rattle.par2_solve.proofs.exponents.rank.Goals as goal
+
+pub returns-in-Some : goal.returns-in-Some
+returns-in-Some c =
+    let same = MatchOption-at_some _ (λ n. n ≡ rank c.args.lost.now c.args.exponents.now) c.in-Some.rank c.in-Some.is c.rank_by_runs.ensures in
+    record {
+      rank = same;
+      most = rw same (rank-le c.args.lost.now c.args.exponents.now c.requires.exponents);
+      full = rw same (full-iff c.args.lost.now c.args.exponents.now c.requires.exponents);
+    }
+
+pub returns-in-None : goal.returns-in-None
+returns-in-None c = record {
+  rank = c.rank_by_elimination.ensures;
+  most = IfOk-weaker c.rank_by_elimination.result _ _ (λ n same. rw same (rank-le c.args.lost.now c.args.exponents.now c.requires.exponents)) c.rank_by_elimination.ensures;
+  full = IfOk-weaker c.rank_by_elimination.result _ _ (λ n same. rw same (full-iff c.args.lost.now c.args.exponents.now c.requires.exponents)) c.rank_by_elimination.ensures;
+}

@@ -1,0 +1,26 @@
+use Rattle.par2_solve.proofs.Common.{IfOk-weaker, ◌≡◌, ◌<◌, ◌∷◌, [], ◌∙◌, ℕ, List, refl, ap, ap₂, arith, length, map, length-map, product-one, pow, constant, coefficient, coefficients, lists_of, constant-lt}
+use Rattle.par2_solve.proofs.RunInverses.{at_itself, is_inverse}
+use Rattle.par2_solve.proofs.run_inverse.run_inverse.Goals.{After-as_slice-points}
+use Rattle.par2_solve.proofs.run_inverse.run_inverse.Goals as goal
+
+-- the coefficients at exponent 1 are the constants
+first_powers : (slices : List ℕ) → coefficients slices 1 ≡ map constant slices
+unfolding coefficient pow
+first_powers [] = refl
+first_powers (k ∷ slices) = ap₂ (λ (c : ℕ) cs. c ∷ cs) (product-one (constant k) (constant-lt k)) (first_powers slices)
+
+points_are : (c : After-as_slice-points) → c.as_slice-points.result.now ≡ map constant c.args.lost.now
+points_are c = c.as_slice-points.ensures.value ∙ c.in_ok-constants.ensures ∙ first_powers c.args.lost.now
+
+pub all_rows-requires : goal.all_rows-requires
+all_rows-requires c = λ j h.
+    let are = points_are (goal.at.all_rows-requires c).After-as_slice-points in
+    let low : j < length c.args.lost.now = (let long = length-map c.args.lost.now constant in let same = ap length are in omega (arith, h, long, same)) in
+    rw (c.deref.ensures.value, c.in_ok-p.ensures, are) (at_itself c.args.lost.now c.args.first j c.requires low)
+
+pub returns : goal.returns
+returns c =
+    let are = points_are (goal.at.returns c).After-as_slice-points in
+    IfOk-weaker c.all_rows.result _ _ (λ rows made.
+    is_inverse c.args.lost.now c.args.first (lists_of rows.items) c.requires (rw (c.deref.ensures.value, c.in_ok-p.ensures, are, length-map c.args.lost.now constant) at made))
+    c.all_rows.ensures

@@ -1,0 +1,31 @@
+use Rattle.par2_solve.proofs.Common.{◌≡◌, refl, sym, arith, rules, length, with_items_is, lists_of, length-lists_of, texts_of}
+use Rattle.par2_solve.proofs.Solving.{none_solved, more_solved}
+use Rattle.par2_solve.proofs.syndromes.solved.Goals as goal
+
+pub loop-from-preserved : goal.loop-from-preserved
+loop-from-preserved c =
+    let from = c.loop-from.from in
+    let n = c.min-count.result in
+    let inverse = lists_of c.args.inverse.now in
+    let exponents = c.args.exponents.now in
+    let slices = texts_of c.args.slices.now in
+    let recovery = texts_of c.args.recovery.now in
+    let old = lists_of c.loop-from.texts.items in
+    let blocks = lists_of c.in_ok-lost.lost.items in
+    let new = c.extend.new.texts in
+    let size : length new ≡ c.loop-from.texts.len = search rules in
+    let extended = rw (c.as_mut_slice.ensures.value, c.deref.ensures.value, ← length-lists_of c.in_ok-lost.lost.items) at c.in_ok-extend.ensures in
+    record {
+      solved = rw (with_items_is c.loop-from.texts new size)
+          (more_solved from n exponents inverse slices recovery old blocks (lists_of new) c.loop-from.invariant.even c.loop-from.invariant.solved c.in_ok-lost.ensures extended);
+      even = omega arith;
+      within = omega arith;
+    }
+
+pub loop-from-init : goal.loop-from-init
+loop-from-init c = record {
+  solved = none_solved (length c.args.inverse.now) c.args.exponents.now (lists_of c.args.inverse.now) (texts_of c.args.slices.now) (texts_of c.args.recovery.now) (lists_of c.in_ok-texts.texts.items)
+      (sym (length-lists_of c.args.inverse.now)) c.in_ok-texts.ensures;
+  even = refl;
+  within = omega arith;
+}

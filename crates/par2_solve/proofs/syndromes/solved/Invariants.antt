@@ -1,0 +1,12 @@
+use Rattle.par2_solve.proofs.Common.{◌≡◌, ◌≤◌, ◌-◌, ◌%◌, lists_of, AreSolved, texts_of}
+use Rattle.par2_solve.proofs.syndromes.solved.Given as goal
+
+abbrev pub invariant-loop-from : goal.invariant-loop-from
+invariant-loop-from l = record {
+  solved : AreSolved l.from (lists_of l.inverse) l.exponents (texts_of l.slices) (texts_of l.recovery) (lists_of l.texts.items);
+  even : l.from % 2 ≡ 0;
+  within : l.from ≤ l.size;
+}
+
+abbrev pub decreases-loop-from : goal.decreases-loop-from
+decreases-loop-from l = l.size - l.from

@@ -1,0 +1,120 @@
+//! The inverse of the equations of a run of exponents, as many as slices are lost. The exponents from `f` on multiply
+//! lost slice `j` by the powers of its constant `c` from `c ^ f` on. Let `m` be the polynomial whose roots are the
+//! constants of the lost slices. The quotient on its division by `z - c` is 0 at the other ones and not at `c`: so its
+//! coefficients, scaled, are row `j` of the inverse.
+
+ghost use Rattle.std.specs.Prelude.{◌≡◌, ◌≢◌, ℕ, ◌<◌, ◌^◌, length, slice_index, IfOk};
+ghost use Rattle.std.specs.List.{range_with_len};
+ghost use Rattle.par2_spec.specs.Field.{mul, pow};
+ghost use Rattle.par2_spec.specs.Polynomials.{value, times, times_root, with_roots, quotient};
+ghost use Rattle.par2_spec.specs.Runs.{AreSlices};
+ghost use Rattle.par2_spec.specs.Sums.{lists_of};
+ghost use Rattle.par2_solve.specs.Inverses.{IsInverse};
+ghost use Rattle.par2_solve.specs.RunInverses.{AreScaledQuotients, IsScaledQuotient};
+
+use crate::exponents::coefficients;
+use par2_gf16::Gf;
+use par2_spec::Result;
+use std::alloc::Global;
+
+// The product of a polynomial and `z - c`.
+fn times_root(alloc: Global, gf: &Gf, c: u16, p: &[u16]) -> Result<Vec<u16>>
+    ensures { IfOk result (λ product. product.items ≡ times_root c p.now) }
+{
+    let mut product = Vec::with_capacity(alloc, p.len() + 1)?;
+    let mut before = 0;
+    for t in 0..p.len() {
+        product.push(gf.mul(c, p[t]) ^ before)?;
+        before = p[t];
+    }
+    product.push(before)?;
+    Ok(product)
+}
+
+// The polynomial of these roots.
+fn with_roots(alloc: Global, gf: &Gf, points: &[u16]) -> Result<Vec<u16>>
+    ensures { IfOk result (λ p. p.items ≡ with_roots points.now) }
+{
+    let mut p = vec![in alloc; 1u16; 1]?;
+    for i in (0..points.len()).rev() {
+        p = times_root(alloc, gf, points[i], &p)?;
+    }
+    Ok(p)
+}
+
+// The quotient of a polynomial on division by `z - c`.
+fn quotient(alloc: Global, gf: &Gf, c: u16, p: &[u16]) -> Result<Vec<u16>>
+    ensures { IfOk result (λ q. q.items ≡ quotient c p.now) }
+{
+    let count = p.len().saturating_sub(1);
+    let mut quotient = vec![in alloc; 0u16; count]?;
+    let mut value = 0;
+    for t in (0..count).rev() {
+        value = p[t + 1] ^ gf.mul(c, value);
+        quotient[t] = value;
+    }
+    Ok(quotient)
+}
+
+// The value of a polynomial at `z`.
+fn value(gf: &Gf, p: &[u16], z: u16) -> u16
+    ensures { result ≡ value p.now z }
+{
+    let mut value = 0;
+    for t in (0..p.len()).rev() {
+        value = p[t] ^ gf.mul(z, value);
+    }
+    value
+}
+
+// A polynomial times `k`.
+fn scaled(alloc: Global, gf: &Gf, k: u16, p: &[u16]) -> Result<Vec<u16>>
+    ensures { IfOk result (λ multiple. multiple.items ≡ times k p.now) }
+{
+    p.iter().map(|a| gf.mul(k, *a)).collect(alloc)
+}
+
+fn inverse_of(gf: &Gf, a: u16) -> u16
+    requires { a ≢ 0 }
+    ensures product { mul a result ≡ 1 }
+    ensures small { result < 2 ^ 16 }
+{
+    gf.inv(a).unwrap()
+}
+
+// The row of the inverse for the constant `c`, by the polynomial of all constants, for the exponents from `first` on.
+fn inverse_row(alloc: Global, gf: &Gf, p: &[u16], c: u16, first: u32) -> Result<Vec<u16>>
+    requires { mul (pow c first) (value (quotient c p.now) c) ≢ 0 }
+    ensures { IfOk result (λ row. IsScaledQuotient first c p.now row.items) }
+{
+    let quotient = quotient(alloc, gf, c, p)?;
+    let at_c = gf.mul(gf.pow(c, first), value(gf, &quotient, c));
+    scaled(alloc, gf, inverse_of(gf, at_c), &quotient)
+}
+
+// The rows of the inverse for these constants, by their polynomial, for the exponents from `first` on.
+fn all_rows(alloc: Global, gf: &Gf, p: &[u16], points: &[u16], first: u32) -> Result<Vec<Vec<u16>>>
+    requires { (j : ℕ) → j < length points.now
+        → let c = slice_index points.now j in mul (pow c first) (value (quotient c p.now) c) ≢ 0 }
+    ensures { IfOk result (λ rows. AreScaledQuotients
+        first p.now points.now (lists_of rows.items) (length points.now)) }
+{
+    let mut rows = Vec::with_capacity(alloc, points.len())?;
+    for j in 0..points.len() {
+        rows.push(inverse_row(alloc, gf, p, points[j], first)?)?;
+    }
+    Ok(rows)
+}
+
+/// The inverse for the exponents from `first` on, as many as slices are lost.
+pub(crate) fn run_inverse(alloc: Global, gf: &Gf, lost: &[u32], first: u32) -> Result<Vec<Vec<u16>>>
+    requires { AreSlices lost.now }
+    ensures { IfOk result (λ rows. IsInverse
+        lost.now (range_with_len first (length lost.now)) (lists_of rows.items)) }
+{
+    // A slice's constant is what exponent 1 multiplies it by.
+    let constants = coefficients(alloc, gf, lost, 1)?;
+    let points = constants.as_slice();
+    let p = with_roots(alloc, gf, points)?;
+    all_rows(alloc, gf, &p, points, first)
+}

@@ -1,0 +1,51 @@
+use Rattle.par2_tool.proofs.Common.{◌∙◌, ◌≡◌, Result, Ok, Err, [], inl, inr, refl, subst, drop, map, string_bytes, Failed, IsUnread}
+use Rattle.std.specs.Prelude.{IfOk, IsOk}
+use Rattle.std.specs.Vec.Iter.{into_iter_items}
+use Rattle.std.proofs.lemmas.Result.{IfOk-weaker, IfErr-weaker}
+use Rattle.par2_spec.specs.declared.Failure.TheVariants as failure
+use Rattle.par2_spec.specs.declared.Fault.TheVariants as fault
+use Rattle.par2_tool.specs.Telling.{IsNotStarted, IsRun}
+use Rattle.par2_tool.proofs.starting.start.Goals as goal
+
+-- what holds of all arguments holds where they were given
+where_given : {A E : Type 0} (given : Result A E) (P : A → Type 0) → (IsOk given → (args : A) → P args) → IfOk given P
+where_given (Ok args) P all = all refl args
+where_given (Err error) P all = tt
+
+pub returns-in-Ok-clause-run : goal.returns-in-Ok-clause-run
+returns-in-Ok-clause-run g c =
+    IfOk-weaker c.args.given _ _
+    (λ args is. subst
+    (λ words. IsRun g.S.Store g.O.Write.contents g.E.Write.contents (map string_bytes words) c.args.store.now c.run.new.store c.args.out.now c.run.new.out c.args.err.now c.run.new.err c.run.result)
+    (c.as_slice.ensures.value ∙ is) c.run.ensures.told)
+    c.in-Ok.ensures.words
+
+pub returns-in-Ok-clause-memory : goal.returns-in-Ok-clause-memory
+returns-in-Ok-clause-memory g c = IfErr-weaker c.args.given _ _ (λ error none is. absurd (let no = none is in cc)) c.in-Ok.ensures.memory
+
+pub returns-in-Ok-clause-arguments : goal.returns-in-Ok-clause-arguments
+returns-in-Ok-clause-arguments g c = IfErr-weaker c.args.given _ _ (λ error none is. absurd (let no = none is in cc)) c.in-Ok.ensures.arguments
+
+pub returns-in-Err-clause-run : goal.returns-in-Err-clause-run
+returns-in-Err-clause-run g c =
+    let store = c.args.store.now in
+    where_given c.args.given _
+    (λ given args.
+    let unread : IsUnread (map string_bytes (drop 1 (into_iter_items args))) c.in-Err.failure = inr (c.in-Err.ensures.whole given) in
+    record {
+      telling = Failed [] c.in-Err.failure;
+      told = inl (refl, unread, refl {a = g.S.Store.failures store});
+      shown = (c.fail.ensures, refl {a = c.args.out.now});
+      leaves = λ _. inl (unread, refl {a = g.S.Store.contents store});
+      calls = λ _. inl (unread, refl {a = g.S.Store.writing_calls store});
+    })
+
+pub returns-in-Err-clause-memory : goal.returns-in-Err-clause-memory
+returns-in-Err-clause-memory g c =
+    IfErr-weaker c.args.given _ _
+    (λ error known is.
+    let same : c.in-Err.failure ≡ failure.Refused fault.Memory = (let all = known is in cc) in
+    subst
+    (IsNotStarted g.E.Write.contents c.args.store.now c.args.store.now c.args.out.now c.args.out.now c.args.err.now c.fail.new.err c.fail.result)
+    same (c.fail.ensures, refl {a = c.args.store.now}, refl {a = c.args.out.now}))
+    c.in-Err.ensures.memory

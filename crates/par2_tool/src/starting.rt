@@ -1,0 +1,76 @@
+//! The start of the program: all that `main` does with its arguments, its folder and its two outputs.
+ghost use Rattle.std.specs.Prelude.{◌≡◌, drop, map, string_bytes, IfErr, IfOk, IsErrOf, IsOk};
+ghost use Rattle.std.specs.IoError.{error_kind};
+ghost use Rattle.std.specs.Vec.Iter.{into_iter_items};
+ghost use Rattle.par2_tool.specs.Telling.{IsNotStarted, IsRun};
+
+use crate::headline::run;
+use crate::printing::fail;
+use par2_disk::FolderStore;
+use par2_output::Printer;
+use par2_spec::{Failure, Fault};
+use std::alloc::{AllocError, Global};
+use std::env::Args;
+use std::io::{self, ErrorKind, Write};
+
+// The arguments after the program's name.
+fn after_name(mut args: Args) -> Args
+    ensures { into_iter_items result ≡ drop 1 (into_iter_items args) }
+{
+    let _name = args.next();
+    args
+}
+
+// The arguments as a list.
+fn words_in(args: Args, alloc: Global) -> Result<Vec<String>, AllocError>
+    ensures { IfOk result (λ words. words.items ≡ into_iter_items args) }
+{
+    args.collect(alloc)
+}
+
+// The words after the program's name, or why there are none: memory is wanting, or a word isn't UTF-8.
+fn words_of(given: io::Result<Args>, alloc: Global) -> Result<Vec<String>, Failure>
+    ensures words { IfOk given (λ args. IfOk result (λ words.
+        words.items ≡ drop 1 (into_iter_items args))) }
+    ensures whole { IsOk given → IfErr result (λ failure. failure ≡ Failure.Refused Fault.Memory) }
+    ensures memory { IfErr given (λ error. error_kind error ≡ ErrorKind.OutOfMemory
+        → IsErrOf result (Failure.Refused Fault.Memory)) }
+    ensures arguments { IfErr given (λ error. (error_kind error ≡ ErrorKind.OutOfMemory → ⊥)
+        → IsErrOf result Failure.Arguments) }
+{
+    match given {
+        Ok(args) => match words_in(after_name(args), alloc) {
+            Ok(words) => Ok(words),
+            Err(AllocError) => Err(Failure::Refused(Fault::Memory)),
+        },
+        Err(error) if error.kind() == ErrorKind::OutOfMemory => {
+            Err(Failure::Refused(Fault::Memory))
+        }
+        Err(_) => Err(Failure::Arguments),
+    }
+}
+
+/// Runs with the arguments behind the first one, which is the program's name, and returns the status. Where they can't
+/// be read, the error writer says why.
+pub fn start<S: FolderStore, O: Write, E: Write>(
+    alloc: Global,
+    given: io::Result<Args>,
+    store: &mut S,
+    out: &mut Printer<O>,
+    err: &mut Printer<E>,
+) -> u8
+    ensures run { IfOk given (λ args. let words = map string_bytes (drop 1 (into_iter_items args)) in
+        IsRun S.Store O.contents E.contents words
+        store.old store.new out.old out.new err.old err.new result) }
+    ensures memory { IfErr given (λ error. error_kind error ≡ ErrorKind.OutOfMemory
+        → IsNotStarted E.contents store.old store.new out.old out.new err.old err.new result
+        (Failure.Refused Fault.Memory)) }
+    ensures arguments { IfErr given (λ error. (error_kind error ≡ ErrorKind.OutOfMemory → ⊥)
+        → IsNotStarted E.contents store.old store.new out.old out.new err.old err.new result
+        Failure.Arguments) }
+{
+    match words_of(given, alloc) {
+        Ok(words) => run(alloc, words.as_slice(), store, out, err),
+        Err(failure) => fail(err, None, failure),
+    }
+}

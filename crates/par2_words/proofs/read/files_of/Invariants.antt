@@ -1,5 +1,0 @@
-use Rattle.par2_words.proofs.Common.{◌≡◌, map, take, string_bytes}
-use Rattle.par2_words.proofs.read.files_of.Given as goal
-
-abbrev pub invariant-loop-text : goal.invariant-loop-text
-invariant-loop-text l = map string_bytes l.files.items ≡ map (λ v. v.now) (take l.text-index l.texts)

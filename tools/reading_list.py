@@ -1,0 +1,175 @@
+#!/usr/bin/env python3
+"""Prints what an auditor has to read to know what the program promises: the contract of `run`, the call that `main`
+makes, and each definition of this repository that its clauses reach, down to the field and to the toolchain's library.
+
+usage: reading_list.py [--text | --check PAGE]
+Without a word it prints a row for each module, lowest first: its definitions that are reached, and their lines without
+comments. --text prints the definitions themselves in that order. --check compares the rows with those of the page.
+"""
+import glob
+import os
+import re
+import sys
+
+TOP = os.path.join(os.path.dirname(os.path.realpath(__file__)), "..")
+HEADLINE = "crates/par2_tool/src/headline.rt"
+START = re.compile(r" *(?:(?:pub|abbrev|unfoldable|opaque|private|record|data) )*(?:abbrev|unfoldable|opaque|record|data|pub) ([A-Za-z_]\w*)")
+FIELD = re.compile(r" +pub \w+ :")
+TOKEN = re.compile(r"[A-Za-z_][A-Za-z0-9_]*(?:\.[A-Za-z_][A-Za-z0-9_]*)*")
+IMPORT = re.compile(r"(?:ghost )?use Rattle\.([A-Za-z0-9_.]+?)(?:\.\{([^}]*)\})?(?: as ([A-Za-z_]\w*))?;?$")
+
+
+def imports_of(lines):
+    """Returns the modules that short names stand for, and where each imported name comes from."""
+    modules, names = {}, {}
+    for line in lines:
+        found = IMPORT.match(line.strip())
+        if not found:
+            continue
+        module, listed, alias = found.groups()
+        if listed is None:
+            modules[alias or module.split(".")[-1]] = module
+            continue
+        if alias:
+            modules[alias] = module
+        for item in listed.split(","):
+            name, _, other = item.strip().partition(" as ")
+            names[other or name] = module, name
+    return modules, names
+
+
+class Module:
+    """A file of definitions: its imports, and the lines of each definition with the comment above it."""
+
+    def __init__(self, path):
+        with open(path, encoding="utf8") as file:
+            lines = file.read().split("\n")
+        self.modules, self.names = imports_of(lines)
+        self.definitions, self.order = {}, []
+        name, comment = None, []
+        for line in lines:
+            begins = START.match(line)
+            if begins and not FIELD.match(line):
+                name = begins[1]
+                self.definitions[name] = [*comment, line]
+                self.order.append(name)
+                comment = []
+            elif line.strip().startswith("--") and not (name and line.startswith("  ")):
+                name, comment = None, [*comment, line]
+            elif not line.strip() or line.startswith(("use ", "module ")):
+                name, comment = None, []
+            elif name:
+                self.definitions[name].append(line)
+
+
+def modules_of_repository():
+    """Returns each module of definitions of the repository by its name."""
+    found = {}
+    for path in sorted(glob.glob(f"{TOP}/crates/*/specs/*.antt")):
+        crate, file = path.split("/crates/")[1].split("/specs/")
+        if file != "Lib.antt":
+            found[f"{crate}.specs.{file[:-5]}"] = Module(path)
+    return found
+
+
+def code_of(lines):
+    return [line.split(" -- ")[0] for line in lines if line.strip() and not line.strip().startswith("--")]
+
+
+def cited(text, modules, names, own, all_modules):
+    """Returns the definitions of the repository that the text names."""
+    for token in set(TOKEN.findall(text)):
+        first, _, rest = token.partition(".")
+        if token in own[1]:
+            yield own[0], token
+        elif first in names and names[first][0] in all_modules:
+            yield names[first]
+        elif rest and first in modules and modules[first] in all_modules:
+            yield modules[first], rest.split(".")[0]
+        elif first in own[1]:
+            yield own[0], first
+
+
+def contract_of_run():
+    with open(f"{TOP}/{HEADLINE}", encoding="utf8") as file:
+        lines = file.read().split("\n")
+    start = next(i for i, line in enumerate(lines) if line.startswith("pub fn run"))
+    end = next(i for i in range(start, len(lines)) if lines[i] == "{")
+    return lines, lines[start:end]
+
+
+def reached(modules):
+    """Returns the names that the contract of `run` reaches, by module."""
+    lines, contract = contract_of_run()
+    aliases, names = imports_of(lines)
+    text = "\n".join(line for line in contract if not line.strip().startswith("//"))
+    waiting = list(cited(text, aliases, names, ("", ()), modules))
+    found = {}
+    while waiting:
+        module, name = waiting.pop()
+        it = modules[module]
+        if name not in it.definitions or name in found.setdefault(module, set()):
+            continue
+        found[module].add(name)
+        body = "\n".join(code_of(it.definitions[name]))
+        waiting += cited(body, it.modules, it.names, (module, it.definitions), modules)
+    return {module: names for module, names in found.items() if names}
+
+
+def in_order(found, modules):
+    """Returns the modules so that each comes after those that it cites, as far as that can be."""
+    done = []
+
+    def visit(name, above):
+        if name in done or name in above:
+            return
+        it = modules[name]
+        body = "\n".join("\n".join(code_of(it.definitions[d])) for d in found[name])
+        for below in sorted({m for m, _ in cited(body, it.modules, it.names, (name, it.definitions), modules)}):
+            if below in found:
+                visit(below, above | {name})
+        done.append(name)
+
+    for name in sorted(found):
+        visit(name, frozenset())
+    return done
+
+
+def rows(found, modules):
+    sums = [0, 0]
+    for name in in_order(found, modules):
+        it = modules[name]
+        lines = sum(len(code_of(it.definitions[d])) for d in found[name])
+        sums = [sums[0] + len(found[name]), sums[1] + lines]
+        crate, _, module = name.split(".")
+        yield f"| `{module}` of `{crate}` | {len(found[name])} | {lines} |"
+    contract = [line for line in contract_of_run()[1] if not line.strip().startswith("//")]
+    yield f"| the contract of `run` | | {len(contract)} |"
+    yield f"| all | {sums[0]} | {sums[1] + len(contract)} |"
+
+
+def main(words):
+    modules = modules_of_repository()
+    found = reached(modules)
+    if words == ["--text"]:
+        for name in in_order(found, modules):
+            print(f"==== {name}\n")
+            for definition in modules[name].order:
+                if definition in found[name]:
+                    print("\n".join(modules[name].definitions[definition]), end="\n\n")
+        return 0
+    table = list(rows(found, modules))
+    if words[:1] == ["--check"]:
+        with open(words[1], encoding="utf8") as page:
+            stated = page.read().split("\n")
+        missing = [row for row in table if row not in stated]
+        if missing:
+            print(f"{words[1]}: these rows of `tools/reading_list.py` are not on the page:")
+            print("\n".join(missing))
+        return 1 if missing else 0
+    print("\n".join(table))
+    return 0
+
+
+if __name__ == "__main__":
+    sys.exit(main(sys.argv[1:]))
