@@ -1,25 +1,28 @@
 #!/bin/sh
 # Whole commands beside par2cmdline on one thread (-t1 -T1), over the same folders: the two take turns, and a line has the
-# least time of three runs of each, or of 15 short ones, in milliseconds, and their ratio. Both programs must end as is
-# said for the scene.
-# With LARGE=1 there are scenes with 3,277 recovery slices over 32,768 more, which take minutes to make.
+# least time of three runs of each, or of 15 short ones, in milliseconds, and their ratio. Par2cmdline runs once where it
+# takes minutes, and not at all where it would take an hour: `-` is in place of its time. Both programs must end as is said
+# for the scene. With QUICK=1 the scenes of thousands of recovery slices are left out, which take half an hour.
 # usage: against_par2cmdline.sh PROGRAM [TABLE]
-#     TABLE is a file that gets a line for each scene too: ratio, ours, theirs, scene. SCENES names those to run, of the
-#     functions below; all of them without the word
+#     TABLE is a file that gets a line for each scene too: ratio, ours, theirs, scene, what bounds it. SCENES names those to
+#     run, of the functions below; all of them without the word
 set -eu
 program=$1
 table=${2:-}
 . "$(dirname "$0")/timing.sh"
-rounds=3
 
-# line NAME: what the two took.
+# line NAME: what the two took. What bounds the scene is in `bound`.
 line() {
     ours=$(least ours)
-    theirs=$(least theirs)
-    ratio=$(awk "BEGIN { printf \"%.2f\", $ours / $theirs }")
-    printf '%-66s %6s ms  %6s ms  %s\n' "$1" "$ours" "$theirs" "$ratio"
-    [ -z "$table" ] || printf '%s\t%s\t%s\t%s\n' "$ratio" "$ours" "$theirs" "$1" >> "$table"
-    rm "$room/ours" "$room/theirs"
+    theirs=-
+    ratio=-
+    if [ -f "$room/theirs" ]; then
+        theirs=$(least theirs)
+        ratio=$(awk "BEGIN { it = $ours / $theirs; printf it < 0.095 ? \"%.1g\" : \"%.2f\", it }")
+    fi
+    printf '%-72s %6s ms  %6s ms  %s\n' "$1" "$ours" "$theirs" "$ratio"
+    [ -z "$table" ] || printf '%s\t%s\t%s\t%s\t%s\n' "$ratio" "$ours" "$theirs" "$1" "$bound" >> "$table"
+    rm -f "$room/ours" "$room/theirs"
 }
 
 # verify NAME STATUS THEIRS: verifies `set.par2` in the present folder. Par2cmdline ends with the status THEIRS. A verify
@@ -32,26 +35,16 @@ verify() {
     line "verify: $1"
 }
 
-# restore FILE..: the files of the present folder are those that `keep` kept, and there is no history.
-restore() {
-    find . -mindepth 1 -delete
-    cp -R "$room/kept/." .
-}
-
-# keep: keeps the files of the present folder, without a history.
-keep() {
-    rm -rf "$room/kept" .par2undo
-    cp -R . "$room/kept"
-}
-
 # repair NAME FILE..: repairs the folder that was kept, by `set.par2` and further files; then takes our repair back and
 # does it again.
 repair() {
     name=$1
     shift
     for round in $(seq "$rounds"); do
-        restore
-        timed theirs 0 par2repair -q -q -t1 -T1 set.par2 "$@"
+        if [ "$round" -le "$their_rounds" ]; then
+            restore
+            timed theirs 0 par2repair -q -q -t1 -T1 set.par2 "$@"
+        fi
         restore
         timed ours 0 "$program" repair set.par2 "$@"
         timed undo 0 "$program" undo
@@ -61,7 +54,7 @@ repair() {
     line "repair: $name"
     for back in undo redo; do
         own=$(least "$back")
-        printf '%-66s %6s ms             %s of the repair\n' "  its $back" "$own" \
+        printf '%-72s %6s ms             %s of the repair\n' "  its $back" "$own" \
             "$(awk "BEGIN { printf \"%.2f\", $own / $repaired }")"
         rm "$room/$back"
     done
@@ -75,8 +68,10 @@ create() {
     shift 3
     for round in $(seq "$rounds"); do
         rm -f set.*par2 .par2undo
-        timed theirs 0 par2create -q -q -t1 -T1 "-s$size" "-c$count" set.par2 "$@"
-        rm -f set.*par2
+        if [ "$round" -le "$their_rounds" ]; then
+            timed theirs 0 par2create -q -q -t1 -T1 "-s$size" "-c$count" set.par2 "$@"
+            rm -f set.*par2
+        fi
         timed ours 0 "$program" create "-s$size" "-c$count" set.par2 "$@"
     done
     line "create: $name"
@@ -119,13 +114,6 @@ for path in glob.glob("set.vol*.par2"):
 END
 }
 
-# overwrite SIZE FIRST STEP LAST: overwrites slices of `data` by zeros: each STEP-th one, from the first number to the last.
-overwrite() {
-    for slice in $(seq "$2" "$3" "$4"); do
-        dd if=/dev/zero of=data bs="$1" seek="$slice" count=1 conv=notrunc status=none
-    done
-}
-
 # insert FILE: a byte at the front of a file.
 insert() {
     {
@@ -138,12 +126,16 @@ insert() {
 # A large file in few large slices: intact, damaged, renamed, and moved by a byte.
 one() {
     head -c 67108864 /dev/urandom > data
+    bound="recovery slices, MD5"
     create "64 MiB in one file, 100 slices of 64 KiB" 65536 100 data
+    bound="MD5 in lanes, reading"
     verify "an intact file of 64 MiB, slices of 64 KiB" 0 0
     cp data "$room/whole"
     overwrite 65536 0 20 999
+    bound="the search's rolling CRC"
     verify "the same with 50 slices overwritten" 1 1
     keep
+    bound="MD5 of the folder, for the journal"
     repair "50 of 1,024 slices lost" data
     # What a scene's repairs have put aside is no part of the next one's folder.
     rm -f data*
@@ -153,24 +145,30 @@ one() {
     rm -f moved data*
     cp "$room/whole" data
     insert data
+    bound="the search's rolling CRC"
     verify "the same with one byte inserted at the front" 1 1
     keep
+    bound="MD5 of the folder, for the journal"
     repair "one byte inserted at the front of 64 MiB" data
 }
 
 middle() {
     head -c 67108864 /dev/urandom > data
     rounds=1
+    bound="recovery slices, MD5"
     create "64 MiB in one file, 410 slices of 16 KiB" 16384 410 data
 }
 
 small() {
     head -c 16777216 /dev/urandom > data
+    bound="recovery slices, MD5"
     create "16 MiB in one file, 400 slices of 4 KiB" 4096 400 data
     overwrite 4096 0 13 3890
     keep
+    bound="MD5 of the folder, syndromes"
     repair "300 of 4,096 slices lost" data
     rm -f data*
+    bound="MD5 of packets, reading"
     lost "the file of 4,096 slices is gone, 400 recovery slices"
 }
 
@@ -181,23 +179,28 @@ short() {
     cp data "$room/whole"
     overwrite 512 100 600 14500
     rm -f .par2undo
+    bound="the search's rolling CRC"
     verify "8 MiB in slices of 512, 25 lost" 1 1
     cp "$room/whole" data
     insert data
     keep
     rounds=15
+    their_rounds=15
+    bound="MD5 of the folder, for the journal; the search"
     repair "8 MiB in slices of 512, a byte inserted" data
     rounds=3
     rm -f data*
+    bound="MD5 of one long packet, reading"
     lost "the file of 16,384 slices of 512 bytes is gone, 50 recovery slices"
 }
 
-# Exponents in many short runs are what the rank costs most by.
+# Exponents in many short runs.
 runs() {
     head -c 131072 /dev/urandom > data
     made 4 256 data
     keep
     thinned "e % 2 == 0"
+    bound="MD5 of one long packet, reading"
     lost "the file of 32,768 slices is gone, each second of 256 exponents"
     restore
     thinned "e % 3 != 2"
@@ -208,14 +211,18 @@ many() {
     for file in $(seq -w 200); do
         head -c 327680 /dev/urandom > "data$file"
     done
+    bound="recovery slices, MD5"
     create "200 files of 320 KiB, 200 slices of 16 KiB" 16384 200 data*
+    bound="MD5 in lanes, reading"
     verify "200 intact files of 320 KiB, slices of 16 KiB" 0 0
     for file in $(seq -w 1 2 200); do
         dd if=/dev/zero of="data$file" bs=16384 seek=3 count=1 conv=notrunc status=none
     done
     rm -f .par2undo
+    bound="the search's rolling CRC"
     verify "200 files of 320 KiB, 100 damaged" 1 1
     keep
+    bound="MD5 of the folder after each change"
     repair "100 of 200 files damaged" data*
 }
 
@@ -230,6 +237,7 @@ shifted() {
     done
     keep
     rounds=1
+    bound="MD5 of the folder after each change"
     repair "200 files of 320 KiB, a byte inserted in each" data*
 }
 
@@ -237,12 +245,15 @@ shifted() {
 foreign() {
     head -c 67108864 /dev/urandom > data
     par2create -q -q -t1 -T1 -s65536 -c512 set.par2 data
+    bound="MD5 in lanes, reading"
     verify "an intact file of 64 MiB, 512 recovery slices by par2cmdline" 0 0
 }
 
 zeros() {
     head -c 8388608 /dev/zero > data
+    bound="recovery slices, MD5"
     create "8 MiB of zeros, 100 slices of 512" 512 100 data
+    bound="MD5 in lanes"
     verify "8 MiB of zeros, slices of 512" 0 0
 }
 
@@ -255,42 +266,85 @@ repeated() {
     rm slice
     "$program" create -s65536 -c10 set.par2 data > "$room/said"
     insert data
+    bound="reading; the search's rolling CRC until the slice is found"
     verify "a slice of 64 KiB a thousand times, a byte inserted" 1 1
 }
 
 little() {
     head -c 4194304 /dev/zero > data
+    bound="MD5 of one message"
     create "4 MiB of zeros, 20 slices of 4 KiB" 4096 20 data
 }
 
+# As many slices as a set can have, and a tenth of them as recovery slices.
 large() {
     head -c 134217728 /dev/urandom > data
     cp data "$room/whole"
-    rounds=1
+    their_rounds=1
+    bound="the transform, MD5"
     create "128 MiB in one file, 3,277 slices of 4 KiB" 4096 3277 data
     rm -f .par2undo data
+    bound="MD5 of packets, reading"
     lost "the file of 32,768 slices is gone, 3,277 recovery slices"
     keep
     rm set.vol01023+*
     lost "the same with a volume in the middle gone too"
     restore
     cp "$room/whole" data
-    overwrite 4096 0 32 31968
+    overwrite 4096 0 32 31999
     keep
-    rounds=1
+    bound="MD5 of the folder, syndromes"
     repair "1,000 of 32,768 slices lost" data
     restore
+    mv set.vol00511+00512.par2 "$room/recovery"
+    keep
+    bound="the equations of 512 holes, MD5 of the folder"
+    repair "the same, a volume of 512 gone from the middle" data
+    mv "$room/recovery" set.vol00511+00512.par2
+    rm -f data*
+    cp "$room/whole" data
     overwrite 4096 0 10 32767
     keep
+    bound="MD5 of the folder, syndromes, the error locator"
     repair "3,277 of 32,768 slices lost" data
 }
 
-scenes="one middle small short runs many shifted foreign zeros repeated little${LARGE:+ large}"
-printf '%-66s %6s     %6s     %s\n' "" ours theirs ratio
+# Half of very many slices.
+half() {
+    head -c 16777216 /dev/urandom > data
+    "$program" create -s1024 -c8300 set.par2 data > "$room/said"
+    overwrite 1024 0 2 16383
+    keep
+    their_rounds=0
+    bound="syndromes, the error locator"
+    repair "8,192 of 16,384 slices of 1 KiB lost" data
+}
+
+# Recovery slices with a volume missing between the first ones.
+holes() {
+    head -c 16777216 /dev/urandom > data
+    cp data "$room/whole"
+    "$program" create -s512 -c8000 set.par2 data > "$room/said"
+    rm -f .par2undo set.vol01023+*
+    overwrite 512 0 5 29999
+    bound="the equations of 1,024 holes"
+    verify "6,000 of 32,768 slices of 512 lost, a volume of 1,024 gone" 1 1
+    cp "$room/whole" data
+    overwrite 512 0 16 31999
+    keep
+    their_rounds=1
+    bound="the equations of 1,024 holes"
+    repair "2,000 of 32,768 slices of 512 lost, a volume of 1,024 gone" data
+}
+
+scenes="one middle small short runs many shifted foreign zeros repeated little"
+[ -n "${QUICK:-}" ] || scenes="$scenes large half holes"
+printf '%-72s %6s     %6s     %s\n' "" ours theirs ratio
 for scene in ${SCENES:-$scenes}; do
     mkdir "$room/here"
     cd "$room/here"
     rounds=3
+    their_rounds=3
     "$scene"
     cd "$room"
     rm -rf here kept whole

@@ -1,8 +1,9 @@
 #!/bin/sh
 # How the time of create, verify and repair grows with the set, beside par2cmdline on one thread (-t1 -T1): slices of 4 KiB
-# in one file, and recovery slices for a sixteenth of them. The repair is of as many lost slices. A line has the least
-# milliseconds of three runs of each, of the largest sets of one. With LARGE=1 there is one size more. After that, our
-# create alone up to the largest sets: twice the slices with twice the recovery slices, the least of three runs.
+# in one file, recovery slices for a tenth of them, and a repair of as many lost slices, up to the largest set that there
+# can be. A line has the least milliseconds of three runs of ours and, up to 4,096 slices, of three of par2cmdline's; of
+# 8,192 it runs once, and of more not at all: then `-` is in place of its time. After each `x` is how many times ours takes
+# what it took for half of the slices and recovery slices. With QUICK=1 there are 4,096 slices at most.
 # usage: growth.sh PROGRAM [TABLE]     TABLE is a file that gets the numbers too
 set -eu
 program=$1
@@ -10,19 +11,21 @@ table=${2:-/dev/null}
 . "$(dirname "$0")/timing.sh"
 size=4096
 
-# fresh: no history, and nothing that a repair has put aside.
-fresh() { rm -f .par2undo data.*; }
+# fresh: no set, no history, and nothing that a repair has put aside.
+fresh() { rm -f set.*par2 .par2undo data.*; }
 
-# round COUNT: each command of both programs over sets with so many recovery slices.
-round() {
-    rm -f set.*par2
+# theirs COUNT: each command of par2cmdline over a set with so many recovery slices.
+theirs() {
     fresh
     timed create.theirs 0 par2create -q -q -t1 -T1 "-s$size" "-c$1" set.par2 data
     timed verify.theirs 0 par2verify -q -q -t1 -T1 set.par2
     cp "$room/lost" data
     timed repair.theirs 0 par2repair -q -q -t1 -T1 set.par2
     cmp data "$room/whole"
-    rm -f set.*par2
+}
+
+# ours COUNT: the same of our program.
+ours() {
     fresh
     timed create.ours 0 "$program" create "-s$size" "-c$1" set.par2 data
     rm -f .par2undo
@@ -32,56 +35,59 @@ round() {
     cmp data "$room/whole"
 }
 
-# scene SLICES ROUNDS
+# least_or_none NAME: the least time, or `-` where there was no run.
+least_or_none() { if [ -f "$room/$1" ]; then least "$1"; else echo -; fi; }
+
+# grown COMMAND: how many times what it took in the scene before; that is kept for the next one.
+grown() {
+    now=$(least "$1.ours")
+    awk "BEGIN { printf \"%.2f\", $now / $(cat "$room/$1.before" 2> /dev/null || echo "$now") }"
+    echo "$now" > "$room/$1.before"
+}
+
+# scene SLICES COUNT THEIRS: THEIRS is how often par2cmdline runs.
 scene() {
-    count=$(($1 / 16))
     mkdir "$room/here"
     cd "$room/here"
     head -c $(($1 * size)) /dev/urandom > "$room/whole"
-    cp "$room/whole" "$room/lost"
-    for slice in $(seq 0 16 $(($1 - 1))); do
-        dd if=/dev/zero of="$room/lost" bs=$size seek="$slice" count=1 conv=notrunc status=none
-    done
-    for round in $(seq "$2"); do
-        cp "$room/whole" data
-        round "$count"
-    done
-    set -- "$1" "$count" "$(least create.ours)" "$(least create.theirs)" "$(least verify.ours)" "$(least verify.theirs)" \
-        "$(least repair.ours)" "$(least repair.theirs)"
-    printf '%8s %8s %9s %9s %9s %9s %9s %9s\n' "$@"
-    (IFS=$(printf '\t') && echo "$*") >> "$table"
-    cd "$room"
-    rm -rf here create.* verify.* repair.*
-}
+    python3 - "$room" "$1" "$2" $size << 'END'
+import sys
 
-printf '%8s %8s %19s %19s %19s\n' slices recovery "create: ours theirs" "verify: ours theirs" "repair: ours theirs"
-scene 512 3
-scene 1024 3
-scene 2048 3
-scene 4096 3
-scene 6144 1
-[ -z "${LARGE:-}" ] || scene 8192 1
-
-# alone SLICES COUNT: our create, and how many times that of half the slices and recovery slices it takes.
-alone() {
-    mkdir "$room/here"
-    cd "$room/here"
-    head -c $(($1 * size)) /dev/urandom > data
+room, slices, count, size = sys.argv[1], *map(int, sys.argv[2:])
+with open(f"{room}/whole", "rb") as file:
+    data = bytearray(file.read())
+for k in range(count):
+    at = size * (k * slices // count)
+    data[at : at + size] = bytes(size)
+with open(f"{room}/lost", "wb") as file:
+    file.write(data)
+END
     for round in 1 2 3; do
-        rm -f set.*par2 .par2undo
-        timed alone 0 "$program" create "-s$size" "-c$2" set.par2 data
+        cp "$room/whole" data
+        [ "$round" -gt "$3" ] || theirs "$2"
+        ours "$2"
     done
-    took=$(least alone)
-    printf '%8s %8s %9s %9s\n' "$1" "$2" "$took" "$(awk "BEGIN { printf \"%.2f\", $took / ${before:-$took} }")"
-    before=$took
+    line="$1	$2"
+    said=$(printf '%7s %6s' "$1" "$2")
+    for command in create verify repair; do
+        own=$(least "$command.ours")
+        peer=$(least_or_none "$command.theirs")
+        line="$line	$own	$peer"
+        said="$said $(printf '%9s %9s x%s' "$own" "$peer" "$(grown "$command")")"
+    done
+    echo "$said"
+    echo "$line" >> "$table"
     cd "$room"
-    rm -rf here alone
+    rm -rf here create.ours create.theirs verify.ours verify.theirs repair.ours repair.theirs
 }
 
-printf '%8s %8s %9s %9s\n' slices recovery "create" "times"
-alone 1024 100
-alone 2048 200
-alone 4096 400
-alone 8192 800
-alone 16384 1600
-alone 32768 3200
+printf '%7s %6s %25s %25s %25s\n' slices recov. "create: ours, theirs" "verify: ours, theirs" "repair: ours, theirs"
+scene 512 51 3
+scene 1024 102 3
+scene 2048 205 3
+scene 4096 410 3
+[ -n "${QUICK:-}" ] || {
+    scene 8192 819 1
+    scene 16384 1638 0
+    scene 32768 3277 0
+}

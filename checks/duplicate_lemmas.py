@@ -1,5 +1,5 @@
 #!/usr/bin/env python3
-"""Lists the lemmas of crates/*/proofs whose statements are one, whatever they call their variables.
+"""No lemma of crates/*/proofs is proved twice. Lists those whose statements are one but for the names of variables.
 
 usage: duplicate_lemmas.py
 

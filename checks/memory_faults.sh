@@ -1,9 +1,9 @@
 #!/bin/sh
-# Looks that out of memory is reported only where memory is out, which no contract can say: a true fault reported as
+# Out of memory is reported only where an allocation failed. No contract can say that, because a true fault reported as
 # Memory would meet it. In the crates that the program is made of, an AllocError comes from the library, and each
 # `Memory` of a fault is made from one by `From`, or by an arm or a closure. The pattern of these is AllocError,
-# AllocFailed, the `Memory` of another fault, or an error's OutOfMemory. Prints each line that makes one otherwise, and
-# fails where there is any.
+# AllocFailed, the `Memory` of another fault, or an error's OutOfMemory, and so is each part of a pattern that has several.
+# Prints each line that makes one otherwise, and fails where there is any.
 set -eu
 cd "$(dirname "$0")/.."
 
@@ -23,11 +23,18 @@ crates() {
         }' crates.txt
 }
 
-# The lines of the sources that make one out of something else. In two places the library has none to give, since a usize
-# can't count what is asked for: the places of a journal's changes, and the bytes of a recovery packet.
+# The lines of the sources that make one out of something else.
 made_otherwise() {
     find "$@" -name '*.rt' -exec awk '
-        FNR == 1 { in_use = in_from = 0; above = "" }
+        # Whether each of the parts of an arm is one of the patterns. The bars of a closure part nothing.
+        function is_right(pattern,    count, parts, i) {
+            if (pattern !~ /=>/) return pattern ~ right
+            count = split(pattern, parts, "|")
+            for (i = 1; i <= count; i++) if (parts[i] !~ right && parts[i] !~ /^[[:space:]]*$/) return 0
+            return 1
+        }
+        BEGIN { right = "AllocError|AllocFailed|::Memory|OutOfMemory" }
+        FNR == 1 { in_use = in_from = 0; above = parts_above = "" }
         { line = $0; sub(/\/\/.*/, "", line) }
         line ~ /^[[:space:]]*(pub )?use / { in_use = 1 }
         in_use { in_use = line !~ /;/; next }
@@ -35,19 +42,21 @@ made_otherwise() {
         line ~ /^}/ { in_from = 0 }
         line ~ /^[[:space:]]*$/ { next }
         {
+            # The parts of a pattern whose last one stands on this line.
+            parts = line ~ /^[[:space:]]*\| / ? parts_above above : ""
             # The pattern stands before the arrow or between the bars, on this line or at the end of the one above.
-            pattern = above ~ /(=>|\|)( [({])?$/ ? above : ""
+            pattern = above ~ /(=>|\|)( [({])?$/ ? parts_above above : ""
             made = line
             if (match(line, /.*=>|\|[^|]+\|/)) {
-                pattern = substr(line, 1, RSTART + RLENGTH - 1)
+                pattern = parts substr(line, 1, RSTART + RLENGTH - 1)
                 made = substr(line, RSTART + RLENGTH)
             }
             above = line
+            parts_above = parts
             # Types name AllocError too.
             gsub(/<AllocError>|, (E = )?AllocError>|: AllocError\)/, "", made)
             if (made !~ /::Memory|AllocError/ || in_from) next
-            if (pattern ~ /AllocError|AllocFailed|::Memory|OutOfMemory/) next
-            if (FILENAME ~ /par2_(journal\/src\/opening|create\/src\/volumes)\.rt$/ && above ~ /return Err\(AllocError\);$/) next
+            if (is_right(pattern)) next
             print FILENAME ":" FNR ": " $0
         }' {} +
 }

@@ -1,6 +1,7 @@
 # How the time of create, verify and repair grows with the set: growth.txt as three drawings side by side.
-set terminal svg size 860, 330 font "sans-serif,12" background "#ffffff"
+set terminal svg size 900, 350 font "sans-serif,12" background "#ffffff"
 set datafile separator "\t"
+set datafile missing "-"
 set logscale xy
 set yrange [5:200000]
 set ytics ("10 ms" 10, "0.1 s" 100, "1 s" 1000, "10 s" 10000, "100 s" 100000) textcolor "#1f2328"

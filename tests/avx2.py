@@ -1,6 +1,5 @@
 #!/usr/bin/env python3
-"""Builds par2 for x86-64-v3 too, where the machine's processor has that, and looks that the lines of tests/commands/run.py
-say the same over it.
+"""Builds par2 for x86-64-v3 too, where the processor has it, and runs the lines of tests/commands/run.py on it.
 
 The libraries are those that the gate has just proved. The program is proved once more, since the gate keeps nothing of
 a program's proof; so it is a few lines over libraries. The toolchain's command rt builds every library anew for another

@@ -1,6 +1,5 @@
 #!/usr/bin/env python3
-"""Has programs make calls on small inputs, each with its first growth of memory refused, then with its second, and so on
-until none is refused.
+"""Makes library calls with the first allocation refused, then with the second, and so on until none is refused.
 
 A call of a library (`growth_tests`) answers as without a refusal, or that it is out of memory. (A list whose size is
 refused as a whole grows item by item: calls that make one are tried with two growths refused in a row, too.) Then all that it was given

@@ -1,6 +1,6 @@
 #!/usr/bin/env python3
-"""Cuts the power after each call of a run that changes the folder or waits for the disk. Each folder that the disk may
-then hold must open as the folder from before the run, or as the one after it.
+"""Cuts the power after each call that changes the folder or syncs. Each folder that the disk may then hold must open as
+the folder from before the run, or as the one after it.
 
 What was waited for lasts, and of the rest anything: the bytes of a file are there, half of them, none, or those that were
 waited for before; and each creation, link, rename and removal of a name has lasted or has not, by itself. A wait for a file is

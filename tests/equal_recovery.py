@@ -1,5 +1,5 @@
 #!/usr/bin/env python3
-"""Compares the recovery packets of two folders, byte for byte: each exponent of one is in the other, with the same packet.
+"""Compares the recovery packets of two folders byte for byte. Each exponent of one is in the other, with the same packet.
 
 usage: equal_recovery.py FOLDER FOLDER
 """

@@ -1,9 +1,10 @@
 #!/usr/bin/env python3
-"""Runs the program on forged journals and sets that claim more than they hold, with true digests, journals with false
-ones too, while each growth of memory beyond a bound is refused: what is claimed is never asked for before it is found.
-Then creates, verifies, repairs, purges, undos and redos over folders of several kinds, whose growths are told: each is
-bounded by the bytes of the folder that the run finds and those that it writes, and so are what all of them come to and
-what there is at a time. A repair by exponents with holes takes little more than one by exponents without.
+"""Shows that memory is bounded by the files that are there, whatever forged journals and sets claim. These have true
+digests, journals false ones too, and each growth of memory beyond a bound is refused: what is claimed is never asked
+for before it is found. Then creates, verifies, repairs, purges, undos and redos over folders of several kinds, whose
+growths are told: each is bounded by the bytes of the folder that the run finds and those that it writes, and so are
+what all of them come to and what there is at a time, also where 16,000 slices are lost. A repair by exponents with holes
+takes little more than one by exponents without, whether few slices are lost or many.
 """
 import os
 import random
@@ -33,6 +34,14 @@ TIMES_HELD = {"create": 1.25, "verify": 2, "repair": 2, "purge": 3, "undo": 3, "
 # How much more a repair may have at a time where the exponents have holes.
 HOLES = 1 << 19
 MOST_SLICES = 32768
+# Of so many lost slices a matrix of their equations would take 32,000 bytes for each, and each takes no more than this
+# beside its bytes: two rows of 64 bytes for each of about twice as many points, and its places in lists of slices.
+MANY_LOST = 16000
+EACH_LOST = 640
+# Of a lost slice whose syndrome fills holes: where it comes from, and references to it.
+EACH_FILLED = 96
+# How many exponents there are before every 32nd one is left out.
+EXPONENTS_WITH_HOLES = [128, 1024]
 # The descriptor on which the allocator tells growths.
 TOLD = 9
 CLAIMS = [1 << 20, 1 << 30, 1 << 40, (1 << 63) - 1, (1 << 64) - 1]
@@ -119,7 +128,8 @@ def wrong(room):
         said, ended = run(room, SMALL, "verify", "t.par2")
         if ended != status or wanted not in (None, said):
             found.append(f"a set that claims {what}: {said}{ended}")
-    return found + wrong_growths(room) + wrong_holes(room)
+    with_holes = [line for count in EXPONENTS_WITH_HOLES for line in wrong_holes(room, count)]
+    return found + wrong_growths(room) + with_holes + wrong_lost(room)
 
 
 def held(here):
@@ -216,21 +226,46 @@ def repair_by(room, data, index, packets):
     return max(held for _, held in told), status
 
 
-def wrong_holes(room):
+def protected(room, data, count):
+    """Returns the index of a set over a file in slices of four bytes, and its recovery packets, each with its exponent."""
+    here = fresh(room)
+    put(here, {"a": data})
+    create = [PROGRAM, "create", "-s4", f"-c{count}", "t.par2", "a"]
+    subprocess.run(create, cwd=here, stdout=subprocess.DEVNULL, check=True)
+    files = held(here)
+    return files["t.par2"], recovery_packets(files)
+
+
+def wrong_holes(room, count):
     """Returns whether a repair by exponents with holes has much more at a time than one by exponents that follow one
     another. There are as many slices as a set can have, so a row of coefficients takes 64 KiB, and 31 exponents before
     each hole: too few to be computed together, and too many to have all their rows at a time."""
     data = bytes_of(7, 4 * MOST_SLICES)
-    here = fresh(room)
-    put(here, {"a": data})
-    subprocess.run([PROGRAM, "create", "-s4", "-c128", "t.par2", "a"], cwd=here, stdout=subprocess.DEVNULL, check=True)
-    files = held(here)
-    packets = recovery_packets(files)
+    index, packets = protected(room, data, count)
     with_holes = [packet for exponent, packet in packets if exponent % 32 != 31]
     in_a_row = [packet for _, packet in packets[: len(with_holes)]]
-    (most, status), (usual, other) = (repair_by(room, data, files["t.par2"], it) for it in (with_holes, in_a_row))
-    if (status, other) != (0, 0) or most > usual + HOLES:
-        return [f"a repair by exponents with holes: status {status}, {most} bytes at a time; without: {other}, {usual}"]
+    (most, status), (usual, other) = (repair_by(room, data, index, it) for it in (with_holes, in_a_row))
+    # For each lost slice it also has what the equations of the holes multiply a syndrome by, and a few references.
+    few = len(in_a_row) * (2 * (count // 32) + EACH_FILLED)
+    if (status, other) != (0, 0) or most > usual + HOLES + few:
+        return [
+            f"a repair of {len(in_a_row)} slices by exponents with holes: status {status}, {most} bytes at a time; "
+            f"without: {other}, {usual}"
+        ]
+    return []
+
+
+def wrong_lost(room):
+    """Returns whether a repair of very many lost slices has more at a time than what it finds and writes and their number
+    explain."""
+    data = bytes_of(8, 4 * MOST_SLICES)
+    index, packets = protected(room, data, MANY_LOST)
+    recovery = [packet for _, packet in packets]
+    most, status = repair_by(room, data, index, recovery)
+    # It finds the damaged file, the index and the recovery packets, and writes the file.
+    count = 2 * len(data) + len(index) + total(dict(packets))
+    if status != 0 or most > HELD + TIMES_HELD["repair"] * count + EACH_LOST * MANY_LOST:
+        return [f"a repair of {MANY_LOST} slices: status {status}, {most} bytes at a time, {count} found and written"]
     return []
 
 

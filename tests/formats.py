@@ -1,4 +1,4 @@
-"""Bytes of packets and of journals, as the tests forge them. docs/FORMATS.md has both formats."""
+"""Makes the bytes of packets and journals that the tests forge. docs/FORMATS.md has both formats."""
 import hashlib
 
 JOURNAL = ".par2undo"

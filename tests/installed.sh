@@ -1,8 +1,7 @@
 #!/bin/sh
-# Installs the built program in ways that a user and a packager do, each below a folder of its own, runs it there, and
-# removes it. The ways are `make install` and `make uninstall`, under two names, and a Debian package where dpkg is
-# there. Tries the completions in a bash, and in a zsh and a fish where these are there. Ends with status 1 at the
-# first fault.
+# Installs the program by make under two names and as a Debian package, runs it, and removes it. Each is below a folder of
+# its own; the package is left out where there is no dpkg. Tries the completions in a bash, and in a zsh and a fish where
+# these are there. Ends with status 1 at the first fault.
 set -eu
 cd "$(dirname "$0")/.."
 room=$(mktemp -d)

@@ -1,5 +1,5 @@
 #!/bin/sh
-# Exchanges sets with par2cmdline, where it is installed: small folders of many kinds are protected by one program, and
+# Exchanges sets with par2cmdline, where it is installed. Small folders of many kinds are protected by one program, and
 # verified, damaged in each way and repaired by the other. Each file must then be as it was.
 set -eu
 cd "$(dirname "$0")/.."
@@ -13,6 +13,8 @@ room=$(mktemp -d)
 trap 'rm -rf "$room"' EXIT
 exchanged=0
 compared=0
+rebuilt=0
+refused=0
 LC_ALL=C.UTF-8
 export LC_ALL
 
@@ -138,6 +140,83 @@ large() {
     exchange "$2 slices" "$1" "$3" "$4"
 }
 
+# protect_by WHO SIZE RUN..: creates the set with the recovery slices of several runs of exponents, each FIRST+COUNT.
+protect_by() {
+    who=$1
+    size=$2
+    shift 2
+    rm -rf "$room/here"
+    cp -R "$room/whole" "$room/here"
+    for run in "$@"; do
+        rm -rf "$room/part"
+        cp -R "$room/whole" "$room/part"
+        cd "$room/part"
+        protect "$who" "$size" "${run#*+}" "${run%+*}"
+        mv set.* "$room/here"
+    done
+    cd "$room/here"
+}
+
+# lose SIZE FIRST STEP COUNT: overwrites so many slices of `bulk` by zeros, each STEP-th one from number FIRST on.
+lose() {
+    python3 - "$@" <<'END'
+import sys
+
+size, first, step, count = map(int, sys.argv[1:])
+with open("bulk", "r+b") as file:
+    for slice in range(first, first + step * count, step):
+        file.seek(size * slice)
+        file.write(bytes(size))
+END
+}
+
+# lossy WHO SLICES LOST RUN..: a folder whose one file has so many slices and has lost those that LOST says, as `lose`
+# reads it, and the set that one program made of it by these runs.
+lossy() {
+    maker=$1
+    slices=$2
+    lost=$3
+    shift 3
+    fresh
+    file bulk "$slices" "$((16 * slices - 3))"
+    protect_by "$maker" 16 "$@"
+    lose 16 $lost
+}
+
+# rebuild_alone SLICES LOST RUN..: we repair the sets of both programs, of which the first exponents don't determine the
+# lost slices. Par2cmdline counts recovery slices alone, and has no way to these.
+rebuild_alone() {
+    for maker in ours theirs; do
+        lossy "$maker" "$@"
+        verify ours 1
+        repair ours
+        rebuilt=$((rebuilt + 1))
+    done
+}
+
+# rebuild SLICES LOST RUN..: we repair the sets of both programs, and par2cmdline repairs ours.
+rebuild() {
+    rebuild_alone "$@"
+    lossy ours "$@"
+    verify theirs 1
+    repair theirs
+    rebuilt=$((rebuilt + 1))
+}
+
+# refuse RANK SLICES LOST RUN..: our set doesn't determine the lost slices, and that is what a verify and a repair say.
+refuse() {
+    rank=$1
+    shift
+    lossy ours "$@"
+    verify ours 2
+    grep -qx "result: not repairable, lost ${lost##* }, rank $rank" "$room/said" || fail "verify: rank $rank"
+    status=0
+    "$ours" repair set.par2 > "$room/said" 2>&1 || status=$?
+    [ "$status" -eq 2 ] || fail "our repair, status $status"
+    grep -qx "par2: not repairable, lost ${lost##* }, rank $rank" "$room/said" || fail "repair: rank $rank"
+    refused=$((refused + 1))
+}
+
 # file NAME SEED LENGTH: puts a file into `whole`.
 file() { text "$2" "$3" > "$room/whole/$1"; }
 
@@ -182,6 +261,25 @@ large 16 3000 45 20000
 # 110 lost slices, for which two runs of exponents are kept.
 kinds="overwritten removed gap"
 large 16 5000 500 0
+# Half of the recovery slices are used, of one run of exponents, or of two with a hole as of a volume between them.
+rebuild 600 "1 3 150" 0+300
+rebuild 1000 "0 1 800" 7+1600
+rebuild 5000 "2 12 400" 0+127 255+673
+rebuild 1700 "1 2 800" 0+511 767+1089
+# The polynomial whose roots are the constants of these lost slices has no power of 94, or of 234: with that exponent
+# missing, as many as are lost don't determine them, but one more does.
+rebuild_alone 800 "135 1 600" 5+94 100+1106
+refuse 599 800 "135 1 600" 5+94 100+506
+rebuild_alone 1800 "175 2 800" 0+234 235+1366
+refuse 799 1800 "175 2 800" 0+234 235+566
+# The power of 21,845 takes two values alone, so an exponent that is so far from others says little more than they do.
+rebuild_alone 600 "0 2 2" 0+1 21845+3
+refuse 1 600 "0 2 2" 0+1 21845+1
+rebuild_alone 1300 "0 3 400" 0+200 21845+600
+refuse 399 1300 "0 3 400" 0+200 21845+200
+rebuild_alone 2450 "0 3 800" 0+400 21845+1200
+refuse 794 2450 "0 3 800" 0+400 21845+400
 cd "$room"
 echo "sets exchanged with par2cmdline: $exchanged folders, each repaired by the other program"
 echo "recovery slices compared with par2cmdline's: $compared, byte for byte"
+echo "sets that have lost many slices: $rebuilt repaired, $refused without enough recovery slices"

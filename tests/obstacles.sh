@@ -1,10 +1,11 @@
 #!/bin/sh
-# What a real folder has beside files. A link, a folder, a pipe or a device stands where the program looks for a file
-# or would put one. A file or the folder can't be read or written, or not to its end. A name is as long as names can be,
-# or longer. A file grows, shrinks or vanishes while the folder is read, or appears where one is to be written. Each run
-# says so, and all stays as it was; and once that is over, the same run ends as if it had never been. Where the system has
-# no links or no locks, runs end as ever. What is written in a folder where some files are private, or a group's, can be
-# read by nobody else, from the moment that it is made.
+# Tries what a real folder has beside files, files that change meanwhile, and the rights of what is written. A link, a
+# folder, a pipe or a device stands where the program looks for a file or would put one. A file or the folder can't be
+# read or written, or not to its end. A name is as long as names can be, or longer. A file grows, shrinks or vanishes
+# while the folder is read, or appears where one is to be written. Each run says so, and all stays as it was; and once
+# that is over, the same run ends as if it had never been. Where the system has no links or no locks, runs end as
+# ever. What is written in a folder where some files are private, or a group's, can be read by nobody else, from the
+# moment that it is made.
 set -eu
 cd "$(dirname "$0")/.."
 clang=$(dirname "$(rt doc)")/toolchain/bin/clang

@@ -1,7 +1,7 @@
 #!/bin/sh
-# Runs the built programs where no program of the gate can put itself. There are a folder with a name that isn't UTF-8,
-# words that aren't UTF-8, a file for which memory is refused, a disk without room for what is written, and a journal
-# that is deleted by hand. Prints a line for each run, and ends with status 1 at the first that answers otherwise.
+# Runs the programs with names and words that are not UTF-8, a full disk, and a journal deleted by hand. Memory is
+# refused for a file, too. The gate can put no program there. Prints a line for each run, and ends with status 1 at
+# the first that answers otherwise.
 set -eu
 cd "$(dirname "$0")/.."
 top=$PWD
@@ -144,3 +144,57 @@ for words in "$latin" "verify $latin" "create -s4 -c0 u.par2 small $latin" "undo
     row "the same with the error output full" 6 '' '' unspoken par2 $words
 done
 row "a refusal with the error output full" 6 '' '' unspoken par2 verify none.par2
+
+# The output takes nothing: it is full, or closed. What a command did stays, and the next command shows it.
+full() {
+    "$@" > /dev/full
+}
+closed() {
+    "$@" >&-
+}
+# stays OUTPUT COMMAND..: the command and what it left, once with an output that is full and once with one that is closed.
+stays() {
+    left=$1
+    shift
+    for output in full closed; do
+        rm -rf "$here"
+        cp -R "$room/begun" "$here"
+        answer "$1 with the output $output" 6 '' '' $output par2 "$@"
+        answer "$1 with the output $output, what it left" 0 "$left" '' show
+    done
+}
+here=$room/unprinted
+begun() {
+    mkdir "$room/begun"
+    printf 'abcdefgh' > "$room/begun/a"
+    (cd "$room/begun" && for words in "$@"; do
+        # shellcheck disable=SC2086
+        par2 $words > /dev/null
+    done)
+}
+begun
+stays '  file a: 8\n  file t.par2: 420\n  file t.vol00000+00001.par2: 492\n  journal: 96\n' create -s4 -c1 t.par2 a
+rm -r "$room/begun"
+begun 'create -s4 -c1 t.par2 a'
+stays '  file a: 8\n  file t.par2: 420\n  file t.vol00000+00001.par2: 492\n  journal: 96\n' verify t.par2
+stays '  file a: 8\n  journal: 1024\n' undo
+stays '  file a: 8\n  journal: 1063\n' purge t.par2
+printf 'abcdef' > "$room/begun/a"
+stays '  file a: 8\n  file a.1: 6\n  file t.par2: 420\n  file t.vol00000+00001.par2: 492\n  journal: 75\n' repair t.par2
+rm -r "$room/begun"
+begun 'create -s4 -c1 t.par2 a' undo
+stays '  file a: 8\n  file t.par2: 420\n  file t.vol00000+00001.par2: 492\n  journal: 96\n' redo
+
+# The greatest slice: a file of 2^30 bytes as one slice, with a recovery slice of as many.
+here=$room/slice
+mkdir "$here"
+if [ "$(awk '/^MemAvailable:/ { print $2 }' /proc/meminfo)" -gt 6291456 ] \
+    && [ "$(df -Pk "$room" | awk 'NR == 2 { print $4 }')" -gt 2097152 ]; then
+    truncate -s 1073741824 "$here/a"
+    answer "a slice of 2^30 bytes, a create" 0 'write t.par2\nwrite t.vol00000+00001.par2\ndone: 2\n' '' \
+        par2 create -s1073741824 -c1 t.par2 a
+    [ "$(wc -c < "$here/t.vol00000+00001.par2")" -eq 1073742292 ]
+else
+    echo "row a slice of 2^30 bytes: left out, since there is no memory or no disk for it"
+fi
+rm -r "$here"

@@ -1,5 +1,5 @@
 #!/usr/bin/env python3
-"""Runs the program with its first growth of memory refused, then with its second, and so on until none is refused.
+"""Runs commands with the first allocation refused, then with the second, and so on until none is refused.
 
 Each run ends as the run without a refusal does, or says that it is out of memory and leaves the files and the journal
 as they were; or, where a command that was stopped has to be taken back first, as they are once that is done.

@@ -4,10 +4,10 @@ set -eu
 cd "$(dirname "$0")/.."
 sh checks/memory_faults.sh
 python3 checks/duplicate_lemmas.py
-python3 tools/reading_list.py --check docs/PROMISES.md
-python3 tools/tests_table.py --check docs/CHANGING.md
+sh tools/pages.sh --check
 log=$(mktemp)
-trap 'rm -f "$log"' EXIT
+clock=
+trap 'rm -f "$log"; [ -z "$clock" ] || kill "$clock" 2> /dev/null || true' EXIT
 
 # Each check takes one processor, and there are as many at a time as processors, and as memory holds at 5 GB each: a
 # check that several processors share takes more of them together.
@@ -17,7 +17,10 @@ lanes=$(nproc)
 [ "$lanes" -ge 1 ] || lanes=1
 
 status=0
+python3 tools/gate_clock.py "$log" "$lanes" &
+clock=$!
 RT_JOBS=$lanes rt ci > "$log" 2>&1 || status=$?
+kill "$clock" 2> /dev/null || true
 if [ "$status" -ne 0 ]; then
     cat "$log"
     exit "$status"
@@ -34,7 +37,9 @@ python3 tests/avx2.py > "$wide" 2>&1 &
 rows=$!
 RT_JOBS=$((lanes > 2 ? lanes - 1 : 1)) nice python3 checks/wrong_bodies.py --together > "$bodies" 2>&1 &
 edits=$!
+python3 checks/assumed.py --check docs/PROMISES.md
 sh tests/odd_folders.sh
+python3 tests/readme.py
 python3 tests/commands/run.py
 # The same over the program as the toolchain's own compiler makes it, where it does.
 [ ! -x crates/par2/out/par2.by-rattle ] || python3 tests/commands/run.py crates/par2/out/par2.by-rattle

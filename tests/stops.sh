@@ -1,8 +1,7 @@
 #!/bin/sh
-# Stops the program at its first call that changes the folder, waits for the disk or opens the folder, then at its
-# second, and so on until none is left. It ends by SIGKILL before the call, after it or in the middle of a write, or the call fails. What
-# undos and redos then lead to is what they lead to from the folder before the run, or from the folder after it, and
-# nothing else is left over.
+# Stops a run at its first call that changes, syncs or opens the folder, then at its second, and so on. It ends by
+# SIGKILL before the call, after it or in the middle of a write, or the call fails. What undos and redos then lead to
+# is what they lead to from the folder before the run, or from the folder after it, and nothing else is left over.
 set -eu
 cd "$(dirname "$0")/.."
 par2=$PWD/crates/par2/out/par2

@@ -1,8 +1,8 @@
 #!/usr/bin/env python3
-"""Has two runs in one folder: the first is held at each of its calls that read or change the folder, there the second
-runs to its end, and then the first goes on. What both print, their statuses and the folder that they leave must be those
-of the two runs one after the other, or of one run alone while the other ended with status 6. Where no run locks the
-folder, or none looks at the journal again once it holds it alone, that must fail.
+"""Holds a run at each call that reads or changes the folder, and has another run to its end there. What both print,
+their statuses and the folder that they leave must be those of the two runs one after the other, or of one run alone
+while the other ended with status 6. Where no run locks the folder, or none looks at the journal again once it holds
+it alone, that must fail.
 
 Folders are compared by names, bytes and journal. A refused run prints the text of status 6 and nothing else. Runs that
 only read never refuse each other. Each folder that is left opens: a verify reads it, undos lead back until there is

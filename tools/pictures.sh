@@ -1,6 +1,6 @@
 #!/bin/sh
 # Draws the pictures of docs/ from what stands beside them, by gnuplot and dot where these are installed: ratios.svg from
-# ratios.txt, growth.svg from growth.txt (which `make bench` writes), and map.svg from map.dot.
+# ratios.txt, growth.svg from growth.txt (which `make bench` writes), and map.svg from map.dot and crates.txt.
 # usage: pictures.sh
 set -eu
 cd "$(dirname "$0")/../docs"
@@ -21,7 +21,7 @@ lighter() {
 }
 
 if is_there dot; then
-    dot -Tsvg map.dot > map.svg
+    python3 ../tools/map.py | dot -Tsvg > map.svg
     lighter map.svg
 fi
 if is_there gnuplot; then

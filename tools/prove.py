@@ -2,6 +2,8 @@
 """Proves a program of crates.txt with the libraries below it and builds it, as soon as the processors allow.
 
 usage: prove.py PROGRAM CPU TO     CPU is a level of x86-64, and TO the file that becomes the program
+       prove.py --minutes [--check PAGE | --write PAGE]
+           prints what a first build takes by tools/seconds.txt, compares it with the page or writes it there
 
 It does what the gate (`rt ci`) does with these crates alone, on a copy of their files without must-fail edits: each is
 proved from nothing, a crate above a library reads its statements alone, the program is built and run, and each library
@@ -35,6 +37,7 @@ import tempfile
 import threading
 import time
 
+import page
 import rt_module
 
 DEFAULT = "x86-64-v2"
@@ -91,6 +94,18 @@ def copied(program, to):
     return names
 
 
+def about(seconds):
+    minutes = seconds / 60
+    return "less than a minute" if minutes < 1 else f"about {minutes:.0f} minute{'s' * (minutes >= 1.5)}"
+
+
+def first_build():
+    """Returns the lines of README on a first build."""
+    below = lines_of_crates()[1]
+    four, one = (Clock(wanted("par2", below), below, processors).planned for processors in (4, 1))
+    yield f"It takes {about(four)} on four processors of a slow machine, {one / 60:.0f} on one."
+
+
 def pace(sharers):
     """Returns how long a proof takes that so many processes share, as a part of what it takes one."""
     return ALONE + (1 - ALONE) * SHARING / sharers if sharers > 1 else 1
@@ -135,9 +150,7 @@ class Clock:
         """Says how many crates are left and about how long they take."""
         least, spent = self.least(), time.time() - self.start
         slower = spent / max(self.planned - least, 1) if spent > 20 else 1
-        minutes = least * min(max(slower, 0.2), 5) / 60
-        about = "less than a minute" if minutes < 1 else f"about {minutes:.0f} minute{'s' * (minutes >= 1.5)}"
-        return f"{len(self.left)} left, {about}"
+        return f"{len(self.left)} left, {about(least * min(max(slower, 0.2), 5))}"
 
 
 def in_lanes(clock, memory, say):
@@ -294,7 +307,8 @@ def main(program, cpu, to):
         if anew:
             rt.STORE = f"{room}/kept"
         os.chdir(f"{room}/repo")
-        say(f"{clock.words()}, on {processors} processor{'s' * (processors > 1)}".replace(" left", " crates", 1))
+        say(f"{len(names)} crates on {processors} processor{'s' * (processors > 1)}: {about(clock.planned)} on a slow machine.")
+        say("The first crate's time says how long it takes on this one.")
         with open(f"{room}/log", "w") as log, contextlib.redirect_stdout(log), contextlib.redirect_stderr(log):
             status = rt.main(["ci"])
         os.chdir(TOP)
@@ -309,6 +323,8 @@ def main(program, cpu, to):
 
 
 if __name__ == "__main__":
+    if sys.argv[1:2] == ["--minutes"]:
+        sys.exit(page.settle(sys.argv[2:], "first_build", list(first_build())))
     if len(sys.argv) != 4:
         sys.exit("usage: prove.py PROGRAM CPU TO")
     signal.signal(signal.SIGTERM, lambda number, _: sys.exit(128 + number))

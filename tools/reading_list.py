@@ -2,14 +2,18 @@
 """Prints what an auditor has to read to know what the program promises: the contract of `run`, the call that `main`
 makes, and each definition of this repository that its clauses reach, down to the field and to the toolchain's library.
 
-usage: reading_list.py [--text | --check PAGE]
-Without a word it prints a row for each module, lowest first: its definitions that are reached, and their lines without
-comments. --text prints the definitions themselves in that order. --check compares the rows with those of the page.
+usage: reading_list.py [--text | --check PAGE | --write PAGE]
+Without a word it prints the modules, lowest first, with the number of their definitions that are reached, and their lines
+without comments; modules of one crate that follow one another are one row. --text prints the definitions themselves in
+that order. --check compares the rows with those of the page, and --write writes them there.
 """
 import glob
+import itertools
 import os
 import re
 import sys
+
+import page
 
 TOP = os.path.join(os.path.dirname(os.path.realpath(__file__)), "..")
 HEADLINE = "crates/par2_tool/src/headline.rt"
@@ -136,38 +140,30 @@ def in_order(found, modules):
 
 
 def rows(found, modules):
+    yield from ["| Crate | Definitions | Number | Lines |", "|---|---|---|---|"]
     sums = [0, 0]
-    for name in in_order(found, modules):
-        it = modules[name]
-        lines = sum(len(code_of(it.definitions[d])) for d in found[name])
-        sums = [sums[0] + len(found[name]), sums[1] + lines]
-        crate, _, module = name.split(".")
-        yield f"| `{module}` of `{crate}` | {len(found[name])} | {lines} |"
+    for crate, names in itertools.groupby(in_order(found, modules), key=lambda name: name.split(".")[0]):
+        names = list(names)
+        count = sum(len(found[name]) for name in names)
+        lines = sum(len(code_of(modules[name].definitions[it])) for name in names for it in found[name])
+        sums = [sums[0] + count, sums[1] + lines]
+        listed = ", ".join(f"`{name.split('.')[2]}`" for name in names)
+        yield f"| `{crate}` | {listed} | {count} | {lines} |"
     contract = [line for line in contract_of_run()[1] if not line.strip().startswith("//")]
-    yield f"| the contract of `run` | | {len(contract)} |"
-    yield f"| all | {sums[0]} | {sums[1] + len(contract)} |"
+    yield f"| `par2_tool` | the contract of `run` | 1 | {len(contract)} |"
+    yield f"| all | | {sums[0] + 1} | {sums[1] + len(contract)} |"
 
 
 def main(words):
     modules = modules_of_repository()
     found = reached(modules)
-    if words == ["--text"]:
-        for name in in_order(found, modules):
-            print(f"==== {name}\n")
-            for definition in modules[name].order:
-                if definition in found[name]:
-                    print("\n".join(modules[name].definitions[definition]), end="\n\n")
-        return 0
-    table = list(rows(found, modules))
-    if words[:1] == ["--check"]:
-        with open(words[1], encoding="utf8") as page:
-            stated = page.read().split("\n")
-        missing = [row for row in table if row not in stated]
-        if missing:
-            print(f"{words[1]}: these rows of `tools/reading_list.py` are not on the page:")
-            print("\n".join(missing))
-        return 1 if missing else 0
-    print("\n".join(table))
+    if words != ["--text"]:
+        return page.settle(words, "reading_list", list(rows(found, modules)))
+    for name in in_order(found, modules):
+        print(f"==== {name}\n")
+        for definition in modules[name].order:
+            if definition in found[name]:
+                print("\n".join(modules[name].definitions[definition]), end="\n\n")
     return 0
 
 

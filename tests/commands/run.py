@@ -1,6 +1,6 @@
 #!/usr/bin/env python3
-"""Carries out the lines of lines over the built program and real folders, and looks that what they say is
-what the file expected holds. At the first difference it prints that and ends with status 1.
+"""Runs the commands of the file `lines` in real folders, and compares with the file `expected`. At the first difference
+it prints that and ends with status 1.
 
 A line is a word, a space and what the word is about. The words: class Words and the classes that it names.
 

@@ -36,6 +36,8 @@ mod ranks;
 #[cfg(test)]
 mod reading;
 #[cfg(test)]
+mod rebuilds;
+#[cfg(test)]
 mod records;
 #[cfg(test)]
 mod recovery;

@@ -7,17 +7,18 @@ use par2_recovery::Survivors;
 use recovery_calls::rebuilt;
 use std::process::Abort;
 
-// How many slices there are, of which each third one is lost.
-const SLICES: usize = 60;
+// How many slices are lost, each third one, how many bytes a slice has, and the first exponent.
+type Row = (usize, usize, u32);
 
-// Some more bytes than are taken at a time.
-const SIZE: usize = 14_000;
+const ROWS: &[Row] = &[
+    // some more bytes than are taken at a time
+    (20, 14_000, 7),
+    // more slices than are rebuilt by an inverse of as many rows
+    (800, 4, 7),
+];
 
-// The first exponent.
-const FIRST: u32 = 7;
-
-fn bytes_of_all(rt: &(impl Abort + AllocGlobal)) -> Vec<u8> {
-    let mut bytes = vec![in rt.alloc(); 0u8; SLICES * SIZE].expect(rt, "memory");
+fn bytes_of_all(rt: &(impl Abort + AllocGlobal), count: usize) -> Vec<u8> {
+    let mut bytes = vec![in rt.alloc(); 0u8; count].expect(rt, "memory");
     for (i, byte) in bytes.iter_mut().enumerate() {
         *byte = (i % 251) as u8;
     }
@@ -25,9 +26,13 @@ fn bytes_of_all(rt: &(impl Abort + AllocGlobal)) -> Vec<u8> {
 }
 
 // The slices of the bytes, but for each third one.
-fn known_of<'a>(rt: &(impl Abort + AllocGlobal), bytes: &'a [u8]) -> Vec<Option<&'a [u8]>> {
+fn known_of<'a>(
+    rt: &(impl Abort + AllocGlobal),
+    bytes: &'a [u8],
+    size: usize,
+) -> Vec<Option<&'a [u8]>> {
     let mut known = Vec::new(rt.alloc());
-    for (k, slice) in bytes.chunks(SIZE).enumerate() {
+    for (k, slice) in bytes.chunks(size.max(1)).enumerate() {
         known
             .push((k % 3 != 2).then_some(slice))
             .expect(rt, "memory");
@@ -35,29 +40,41 @@ fn known_of<'a>(rt: &(impl Abort + AllocGlobal), bytes: &'a [u8]) -> Vec<Option<
     known
 }
 
-fn lost_of(rt: &(impl Abort + AllocGlobal), bytes: &[u8]) -> Vec<Vec<u8>> {
-    let slices = recovery_of_a(rt, bytes, SIZE as u64, FIRST, SLICES as u32 / 3);
+fn lost_of(rt: &(impl Abort + AllocGlobal), bytes: &[u8], row: &Row) -> Vec<Vec<u8>> {
+    let (count, size, first) = *row;
+    let slices = recovery_of_a(rt, bytes, size as u64, first, (count % 65536) as u32);
     let survivors = Survivors {
-        slice: SIZE,
-        known: known_of(rt, bytes),
-        recovery: with_exponents(rt, FIRST, &slices),
+        slice: size,
+        known: known_of(rt, bytes, size),
+        recovery: with_exponents(rt, first, &slices),
     };
     let answer = rebuilt(rt.alloc(), &field(rt), &survivors).expect(rt, "fitting survivors");
     answer.expect(rt, "lost slices")
 }
 
 // Whether these are each third slice of the bytes.
-fn are_lost(texts: &[Vec<u8>], bytes: &[u8]) -> bool {
-    for (text, slices) in texts.iter().zip(bytes.chunks(3 * SIZE)) {
-        if text.len() != SIZE || !slices.ends_with(text) {
+fn are_lost(texts: &[Vec<u8>], bytes: &[u8], row: &Row) -> bool {
+    let (count, size, _) = *row;
+    for (text, slices) in texts
+        .iter()
+        .zip(bytes.chunks(size.saturating_mul(3).max(1)))
+    {
+        if text.len() != size || !slices.ends_with(text) {
             return false;
         }
     }
-    texts.len() == SLICES / 3
+    texts.len() == count
+}
+
+fn come_back(rt: &(impl Abort + AllocGlobal), row: &Row) -> bool {
+    let size = row.0.saturating_mul(row.1).saturating_mul(3);
+    let bytes = bytes_of_all(rt, size);
+    are_lost(&lost_of(rt, &bytes, row), &bytes, row)
 }
 
 #[test]
 fn each_third_slice_comes_back(rt: HostRuntime) {
-    let bytes = bytes_of_all(&rt);
-    assert!(rt; are_lost(&lost_of(&rt, &bytes), &bytes));
+    for (k, row) in ROWS.iter().enumerate() {
+        assert!(rt; come_back(&rt, row), "row {k}");
+    }
 }

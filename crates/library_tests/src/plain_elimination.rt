@@ -1,6 +1,6 @@
 //! An elimination over words, which shares nothing with what it is compared with.
 
-ghost use Rattle.std.specs.Prelude.{◌≡◌, ◌<◌};
+ghost use Rattle.std.specs.Prelude.{◌≡◌, ◌<◌, ◌≤◌};
 
 use crate::plain_field::{power, product};
 use std::process::Abort;
@@ -8,7 +8,7 @@ use std::process::Abort;
 /// What an equation multiplies each of four slices by, and the two words of its right side.
 pub(super) type Equation = [u16; 6];
 
-fn scaled(equation: &Equation, factor: u16) -> Equation {
+fn scaled<const N: usize>(equation: &[u16; N], factor: u16) -> [u16; N] {
     let mut scaled = *equation;
     for number in scaled.iter_mut() {
         *number = product(*number, factor);
@@ -16,7 +16,7 @@ fn scaled(equation: &Equation, factor: u16) -> Equation {
     scaled
 }
 
-fn sum(a: &Equation, b: &Equation) -> Equation {
+fn sum<const N: usize>(a: &[u16; N], b: &[u16; N]) -> [u16; N] {
     let mut sum = *a;
     for (number, other) in sum.iter_mut().zip(b.iter()) {
         *number ^= *other;
@@ -25,8 +25,8 @@ fn sum(a: &Equation, b: &Equation) -> Equation {
 }
 
 // Takes an equation out whose entry in this column isn't 0, times what makes it 1.
-fn take_pivot(equations: &mut Vec<Equation>, column: usize) -> Option<Equation>
-    requires { column < 6 }
+fn take_pivot<const N: usize>(equations: &mut Vec<[u16; N]>, column: usize) -> Option<[u16; N]>
+    requires { column < N }
 {
     let at = equations.iter().position(|equation| equation[column] != 0)?;
     let equation = equations.swap_remove(at);
@@ -34,8 +34,8 @@ fn take_pivot(equations: &mut Vec<Equation>, column: usize) -> Option<Equation>
 }
 
 // Makes this column 0 by means of an equation that has 1 there.
-fn clear(equations: &mut [Equation], pivot: &Equation, column: usize)
-    requires { column < 6 }
+fn clear<const N: usize>(equations: &mut [[u16; N]], pivot: &[u16; N], column: usize)
+    requires { column < N }
 {
     for equation in equations.iter_mut() {
         let multiple = scaled(pivot, equation[column]);
@@ -43,14 +43,17 @@ fn clear(equations: &mut [Equation], pivot: &Equation, column: usize)
     }
 }
 
-/// As many equations as there are independent ones. Where there are four, equation k says slice k.
-pub(super) fn eliminated(
+/// As many equations as there are independent ones of this many slices. Where these are as many, equation k says slice k.
+pub(super) fn eliminated<const N: usize>(
     rt: &(impl Abort + AllocGlobal),
-    equations: Vec<Equation>,
-) -> Vec<Equation> {
+    equations: Vec<[u16; N]>,
+    slices: usize,
+) -> Vec<[u16; N]>
+    requires { slices ≤ N }
+{
     let mut rest = equations;
     let mut reduced = Vec::new(rt.alloc());
-    for column in 0..4 {
+    for column in 0..slices {
         if let Some(pivot) = take_pivot(&mut rest, column) {
             clear(rest.as_mut_slice(), &pivot, column);
             clear(reduced.as_mut_slice(), &pivot, column);

@@ -7,8 +7,9 @@ use par2_gf16::Gf;
 use recovery_calls::rank_of;
 use std::process::Abort;
 
-// The constants of the first four slices, as the format's specification lists them.
-const CONSTANTS: [u16; 4] = [2, 4, 16, 128];
+// The constants of some slices: of the first four, as the format's specification lists them, and of one whose constant
+// is 2 to the power of 43,691, so that its cube is that of 2.
+const CONSTANTS: [(u32, u16); 5] = [(0, 2), (1, 4), (2, 16), (3, 128), (21844, 702)];
 
 // At most four lost slices, and the exponents of the surviving recovery slices.
 type Row = (&'static [u32], &'static [u32]);
@@ -29,6 +30,15 @@ const ROWS: &[Row] = &[
     // more exponents than lost slices
     (&[0, 1], &[0, 1, 2, 3, 4, 5, 6]),
     (&[0, 1, 2], &[0, 2, 3, 5, 7, 9]),
+    // holes between the first ones, which have as many equations
+    (&[0, 1, 2, 3], &[0, 1, 3, 4]),
+    (&[0, 1, 2, 3], &[65530, 65532, 65534, 65535]),
+    (&[1, 2, 3], &[0, 2, 3, 4]),
+    (&[0, 1, 21844], &[0, 1, 3]),
+    // holes whose equations are singular, also where an exponent after them determines the slices
+    (&[0, 21844], &[0, 3]),
+    (&[0, 21844], &[1, 4, 7]),
+    (&[0, 21844], &[0, 3, 6, 7]),
     // each second exponent, and pairs with gaps
     (&[0, 1, 2, 3], &[0, 2, 4, 6, 8]),
     (&[0, 1, 2, 3], &[0, 2, 4]),
@@ -47,12 +57,17 @@ const ROWS: &[Row] = &[
     (&[2, 2], &[0, 1]),
 ];
 
+// The constant of a slice, and 0 where none stands above.
+fn constant_of(slice: u32) -> u16 {
+    let found = CONSTANTS.iter().find(|(k, _)| *k == slice);
+    found.map_or(0, |(_, constant)| *constant)
+}
+
 // What an exponent multiplies each of the lost slices by.
 fn equation(lost: &[u32], exponent: u32) -> Equation {
     let mut equation = [0; 6];
     for (factor, k) in equation.iter_mut().zip(lost.iter()) {
-        let constant = CONSTANTS.get(*k as usize).copied().unwrap_or(0);
-        *factor = power(constant, exponent);
+        *factor = power(constant_of(*k), exponent);
     }
     equation
 }
@@ -64,7 +79,7 @@ fn plain_rank(rt: &(impl Abort + AllocGlobal), row: &Row) -> usize {
             .push(equation(row.0, *exponent))
             .expect(rt, "memory");
     }
-    eliminated(rt, equations).len()
+    eliminated(rt, equations, 4).len()
 }
 
 fn found_rank(rt: &(impl Abort + AllocGlobal), gf: &Gf, row: &Row) -> usize {

@@ -123,7 +123,7 @@ fn plain_answer(rt: &(impl Abort + AllocGlobal), lost: u8, chosen: &[Recovered])
             .push(equation(one.factors, &one.text))
             .expect(rt, "memory");
     }
-    eliminated(rt, equations)
+    eliminated(rt, equations, 4)
 }
 
 // The lost slices by the plain answer, one after the other.

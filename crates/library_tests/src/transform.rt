@@ -270,7 +270,7 @@ fn are_as_directly(
 }
 
 // The next of some numbers without a pattern.
-fn next_number(number: u64) -> u64 {
+pub(super) fn next_number(number: u64) -> u64 {
     number
         .wrapping_mul(6364136223846793005)
         .wrapping_add(1442695040888963407)

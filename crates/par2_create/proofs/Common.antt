@@ -1,6 +1,6 @@
 -- The names that proofs of this crate take from elsewhere.
 
-pub use Rattle.std.proofs.Common.{Bool, Bor, Err, Global, List, None, Option, Some, Vec, [], ap, append-nil, append_assoc, ap₂, arith, below_more, cond, drop, eqb, false, get_or, inl, inr, length, length-append, map, mul-le-mul_right, nat_le, nat_lt, not, refl, replicate, rules, string_bytes, subst, suc, sym, take, tests, true, zero, zero-add, ℕ, ◌%◌, ◌&&◌, ◌*◌, ◌++◌, ◌+◌, ◌-◌, ◌/◌, ◌<◌, ◌||◌, ◌∙◌, ◌∷◌, ◌≡◌, ◌≤◌}
+pub use Rattle.std.proofs.Common.{Bool, Bor, Err, Global, List, None, Option, Some, Vec, [], ap, append-nil, append_assoc, ap₂, arith, below_more, cond, drop, eqb, false, get_or, inl, inr, length, length-append, map, mul-le-mul_right, nat_le, nat_lt, not, refl, replicate, rules, string_bytes, subst, suc, sym, take, tests, true, zero, zero-add, ℕ, ◌%◌, ◌&&◌, ◌*◌, ◌++◌, ◌+◌, ◌-◌, ◌/◌, ◌<◌, ◌^◌, ◌||◌, ◌∙◌, ◌∷◌, ◌≡◌, ◌≤◌}
 pub use Rattle.std.proofs.lemmas.Bool.{and_from, and_parts, cases_lt, eq-eqb, eqb-false, eqb-true, false_from_ne_true, false≢true, le-leb, le-ltb, leb-true, lt-ltb, ltb-false, ltb-true, ne_eqb, not-false, not-true, not_from_false, not_from_true, or_from, or_parts}
 pub use Rattle.std.proofs.lemmas.Grind.{div_ceil_times, flat_map-append}
 pub use Rattle.std.proofs.lemmas.Iterator.{YieldsList-from_slice, items_from_collect}

@@ -1,5 +1,5 @@
 -- What holds of the words of a create with which nothing is wrong.
-use Rattle.par2_create.proofs.Common.{◌≡◌, ℕ, ◌+◌, ◌%◌, ◌≤◌, List, [], ◌∷◌, length, ◌∙◌, true, false, not, ◌&&◌, nat_lt, nat_le, arith, None, ◌==◌, sum_by, AllByRecursion, and_parts, leb-true, ltb-false, not-false, fault_where, fault_at, is_name, is_par_name, slice_count, Folder, File, has, in_id_order, all_slices, is_slice_size, CreateArgs, files_of, are_counts, bad_name, head_fault, BadSliceSize, BadCount, BadBase, NoInput, NoSuchFile, EmptyFile, TooManySlices, where_none, all_none, at_none, size_parts, duplicate_input, files_fault, ids_fault, inputs_fault}
+use Rattle.par2_create.proofs.Common.{◌≡◌, ℕ, ◌+◌, ◌%◌, ◌^◌, ◌≤◌, List, [], ◌∷◌, length, ◌∙◌, true, false, not, ◌&&◌, nat_lt, nat_le, arith, None, ◌==◌, sum_by, AllByRecursion, and_parts, leb-true, ltb-false, not-false, fault_where, fault_at, is_name, is_par_name, slice_count, Folder, File, has, in_id_order, all_slices, is_slice_size, CreateArgs, files_of, are_counts, bad_name, head_fault, BadSliceSize, BadCount, BadBase, NoInput, NoSuchFile, EmptyFile, TooManySlices, where_none, all_none, at_none, size_parts, duplicate_input, files_fault, ids_fault, inputs_fault}
 use Rattle.std.proofs.lemmas.List.Sorted.{length_permutation, sum_by-IsPermutation}
 use Rattle.par2_spec.proofs.OrderLaws.{moved-ordered}
 use Rattle.par2_create.proofs.SliceCounts.{slices_counted, few_files}
@@ -9,6 +9,7 @@ use Rattle.par2_create.proofs.SliceCounts.{slices_counted, few_files}
 pub record IsHead (a : CreateArgs) : Type 0 where
   pub positive : 1 ≤ a.slice
   pub fours : a.slice % 4 ≡ 0
+  pub small : a.slice ≤ 2 ^ 30
   pub exponents : a.first + a.count ≤ 65536
   pub name : is_name a.base ≡ true
   pub par_name : is_par_name a.base ≡ true
@@ -32,6 +33,7 @@ head_passed a h =
     record {
       positive = omega (arith, size.1);
       fours = size.0;
+      small = size.2;
       exponents = leb-true (a.first + a.count) 65536 (and_parts (nat_le a.count 65536 && nat_le a.first 65535) (nat_le (a.first + a.count) 65536) are).1;
       name = both.0;
       par_name = both.1;

@@ -1,5 +1,5 @@
 -- The outputs of a create, by parts.
-use Rattle.std.specs.Prelude.{ℕ, ◌≡◌, ◌≤◌, ◌+◌, ◌%◌, nat_lt, List, [], ◌∷◌, ◌++◌, length, map, flat_map, if◌then◌else◌}
+use Rattle.std.specs.Prelude.{ℕ, ◌≡◌, ◌≤◌, ◌+◌, ◌%◌, ◌^◌, nat_lt, List, [], ◌∷◌, ◌++◌, length, map, flat_map, if◌then◌else◌}
 use Rattle.std.specs.List.{All}
 use Rattle.par2_spec.specs.Packets.{Packet, packet}
 use Rattle.par2_spec.specs.Folders.{Folder, File, has}
@@ -62,6 +62,7 @@ pub record HasSlices (parts : Parts) : Type 0 where
   pub sixteen : length parts.set_id ≡ 16
   pub positive : 1 ≤ parts.set.now.slice
   pub fours : parts.set.now.slice % 4 ≡ 0
+  pub small : parts.set.now.slice ≤ 2 ^ 30
   pub few : length (inputs_of parts) ≤ 32768
 
 -- the packets of n recovery slices from exponent e on

@@ -1,7 +1,7 @@
 //! The bytes of volumes. Their packets are there from the start, with zeros for recovery slices and MD5s; the slices are
 //! written into them, all at once, and the MD5s at the end.
 
-ghost use Rattle.std.specs.Prelude.{◌≡◌, ◌≤◌, ◌<◌, ◌+◌, length, map, IfOk, OnOk};
+ghost use Rattle.std.specs.Prelude.{◌≡◌, ◌≤◌, ◌<◌, ◌^◌, length, map, IfOk, OnOk};
 ghost use Rattle.par2_spec.specs.Answers.{Appends};
 ghost use Rattle.par2_spec.specs.Sums.{lists_of};
 ghost use Rattle.par2_create.specs.Outputs.{HasExponents, HasSlices, HaveExponents, volume_text};
@@ -16,7 +16,7 @@ use par2_packets::{digest_recoveries, with_undigested};
 use par2_solve::write_recovery_slices;
 use par2_spec::Result;
 use par2_transform::{Place, Places};
-use std::alloc::{AllocError, Global};
+use std::alloc::Global;
 
 // What a packet has beside the bytes of a recovery slice: its header, and the exponent.
 const RECOVERY_HEAD: usize = 68;
@@ -30,7 +30,7 @@ fn volume_len(parts: &Parts, count: u32) -> usize {
 
 // The bytes of a volume whose recovery slices and MD5s are still to come.
 fn blank_volume(alloc: Global, parts: &Parts, volume: &Volume) -> Result<Vec<u8>>
-    requires fits { 68 + parts.now.set.now.slice ≤ usize.MAX }
+    requires small { parts.now.set.now.slice ≤ 2 ^ 30 }
     requires exponents { HasExponents volume.now }
     ensures { IfOk result (λ bytes. bytes.items ≡ blank_volume parts.now volume.now) }
 {
@@ -48,7 +48,7 @@ fn append_places(
     i: usize,
     text: &[u8],
 ) -> Result<()>
-    requires fits { 68 + parts.now.set.now.slice ≤ usize.MAX }
+    requires small { parts.now.set.now.slice ≤ 2 ^ 30 }
     requires text { length text.now ≡ length_with parts.now volume.now.count }
     ensures { Appends (places_in parts.now (i, volume.now)) places.old places.new result }
 {
@@ -62,7 +62,7 @@ fn append_places(
 
 // The bytes of all volumes whose recovery slices and MD5s are still to come.
 fn blank_volumes(alloc: Global, parts: &Parts, volumes: &[Volume]) -> Result<Vec<Vec<u8>>>
-    requires fits { 68 + parts.now.set.now.slice ≤ usize.MAX }
+    requires small { parts.now.set.now.slice ≤ 2 ^ 30 }
     requires exponents { HaveExponents volumes.now }
     ensures { IfOk result (AreTexts (blank_volume parts.now) volumes.now) }
 {
@@ -77,7 +77,6 @@ fn blank_volumes(alloc: Global, parts: &Parts, volumes: &[Volume]) -> Result<Vec
 // The places of the recovery slices of all volumes, which have these bytes, in order.
 fn places(alloc: Global, parts: &Parts, volumes: &[Volume], texts: &[Vec<u8>]) -> Result<Vec<Place>>
     requires parts { HasSlices parts.now }
-    requires fits { 68 + parts.now.set.now.slice ≤ usize.MAX }
     requires texts { lists_of texts.now ≡ map (blank_volume parts.now) volumes.now }
     ensures { IfOk result (λ places. places.items ≡ places_of parts.now volumes.now) }
 {
@@ -102,7 +101,6 @@ fn exponents_of(alloc: Global, volumes: &[Volume]) -> Result<Vec<u32>>
 // Writes the recovery slices of all volumes where they belong.
 fn write_slices(alloc: Global, parts: &Parts, volumes: &[Volume], out: &mut [Vec<u8>]) -> Result<()>
     requires parts { HasSlices parts.now }
-    requires fits { 68 + parts.now.set.now.slice ≤ usize.MAX }
     requires exponents { HaveExponents volumes.now }
     requires before { lists_of out.old ≡ map (blank_volume parts.now) volumes.now }
     ensures { OnOk result (lists_of out.new ≡ map (with_slices parts.now) volumes.now) }
@@ -118,7 +116,6 @@ fn write_slices(alloc: Global, parts: &Parts, volumes: &[Volume], out: &mut [Vec
 // Puts the MD5s into a volume.
 fn digest_volume(alloc: Global, text: &mut [u8], parts: &Parts, volume: &Volume) -> Result<()>
     requires parts { HasSlices parts.now }
-    requires fits { 68 + parts.now.set.now.slice ≤ usize.MAX }
     requires before { text.old ≡ with_slices parts.now volume.now }
     ensures { OnOk result (text.new ≡ volume_text parts.now volume.now) }
 {
@@ -135,7 +132,6 @@ fn digested(
     volumes: &[Volume],
 ) -> Result<Vec<(Name, Vec<u8>)>>
     requires parts { HasSlices parts.now }
-    requires fits { 68 + parts.now.set.now.slice ≤ usize.MAX }
     requires before { AreTexts (with_slices parts.now) volumes.now texts.old }
     ensures { IfOk result (AreFiles parts.now volumes.now) }
 {
@@ -160,10 +156,6 @@ pub(crate) fn volume_files(
 {
     if volumes.is_empty() {
         return Ok(Vec::new(alloc));
-    }
-    // Memory holds no packet that is longer.
-    if parts.set.slice > (usize::MAX - RECOVERY_HEAD) as u64 {
-        return Err(AllocError);
     }
     let mut texts = blank_volumes(alloc, parts, volumes)?;
     write_slices(alloc, parts, volumes, texts.as_mut_slice())?;

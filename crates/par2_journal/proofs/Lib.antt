@@ -9,3 +9,4 @@ mod Prints
 mod SessionEntries
 mod Openings
 mod TriedNames
+pub mod Undos

@@ -1,6 +1,8 @@
 -- Entries that can be those of a session.
-use Rattle.par2_journal.proofs.Common.{◌≡◌, ℕ, ◌+◌, ◌<◌, ◌≤◌, List, [], ◌∷◌, length, take, drop, get_or, ap, ◌∙◌, arith, reverse, sum_by, take_more, Change, places_taken}
-use Rattle.std.proofs.lemmas.List.Sums.{sum_by-take-drop, sum_by-append, sum_by-cons}
+use Rattle.par2_journal.proofs.Common.{◌≡◌, ℕ, ◌≤◌, List, [], ◌∷◌, length, take, drop, arith, reverse, sum_by, Change, places_taken}
+use Rattle.std.proofs.lemmas.List.Sums.{sum_by-take-drop, sum_by-cons}
+use Rattle.par2_journal_format.specs.Untested.{change_count}
+use Rattle.par2_journal.proofs.Readiness.{places_within}
 use Rattle.std.proofs.lemmas.List.Sorted.{sum_by-IsPermutation, IsPermutation-reverse}
 
 -- the places of one side are among those of all
@@ -12,10 +14,8 @@ places_before es n =
 pub places_behind : (es : List (List Change)) (n : ℕ) → sum_by places_taken (drop n es) ≤ sum_by places_taken es
 places_behind es n = omega (arith, sum_by-take-drop places_taken es n)
 
-pub count_more : (es : List (List Change)) (i : ℕ) (d : List Change) (n k : ℕ) → i < length es → sum_by places_taken (take i es) ≤ n → places_taken (get_or es i d) ≤ k
-    → sum_by places_taken (take (i + 1) es) ≤ n + k
-count_more es i d n k lt so_far one =
-    let more : sum_by places_taken (take (i + 1) es) ≡ sum_by places_taken (take i es) + sum_by places_taken (get_or es i d ∷ []) =
-    ap (sum_by places_taken) (take_more es i d lt) ∙ sum_by-append places_taken (take i es) (get_or es i d ∷ []) in
-    let single : sum_by places_taken (get_or es i d ∷ []) ≡ places_taken (get_or es i d) + 0 = sum_by-cons places_taken (get_or es i d) [] in
-    omega (arith, more, single, so_far, one)
+-- a change takes a place at most
+pub places_counted : (es : List (List Change)) → sum_by places_taken es ≤ change_count es
+places_counted [] = omega arith
+places_counted (e ∷ es) =
+    omega (arith, sum_by-cons places_taken e es, sum_by-cons length e es, places_within e, places_counted es)

@@ -1,5 +1,5 @@
 -- What a session answers to commands and actions, and what becomes of it.
-use Rattle.std.specs.Prelude.{◌≡◌, ◌⊎◌, Bool, List, ℕ, [], map, String, string_bytes, Some, Ok, Err, Result, IfErr, IfOk, IsErrOf, OnErr, OnOk}
+use Rattle.std.specs.Prelude.{◌≡◌, ◌≢◌, ◌⊎◌, zero, suc, Bool, List, ℕ, [], map, String, string_bytes, Some, Ok, Err, Result, IfErr, IfOk, IsErrOf, OnErr, OnOk}
 use Rattle.std.specs.declared.alloc.Global.{Global}
 use Rattle.par2_spec.specs.Commands.{Action, Command, Do, Repair, Undo, Redo, Verify}
 use Rattle.par2_spec.specs.Folders.{Folder}
@@ -7,14 +7,14 @@ use Rattle.par2_spec.specs.History.{History, MayBeRefused}
 use Rattle.par2_spec.specs.Plans.{AreFewFor, LeadsToAfterAsked}
 use Rattle.par2_spec.specs.Refusals.{early_refusal, early_refusal_of}
 use Rattle.par2_spec.specs.Reports.{report_in}
-use Rattle.par2_spec.specs.Sessions.{KeptSession, OnlyGrew, session_of_kept, session_after, changes_asked, history_of}
+use Rattle.par2_spec.specs.Sessions.{KeptSession, OnlyGrew, session_of_kept, session_after, changes_asked, history_of, kept_undone}
 use Rattle.par2_spec.specs.Texts.{Step, step_of}
 use Rattle.par2_spec.specs.declared.Fault.{Fault}
 use Rattle.par2_spec.specs.declared.Fault.TheVariants.{Memory}
 use Rattle.par2_repair.specs.Repairing.{WritesAsDescribed}
 use Rattle.par2_repair.specs.Views.{report_of}
 use Rattle.par2_repair.specs.declared.report.Report.{Report}
-use Rattle.par2_journal.specs.Ready.{Ready, IsReady}
+use Rattle.par2_journal.specs.Ready.{Ready, IsReady, next_of}
 use Rattle.par2_journal.specs.Refusals.{MayFail, MayRefuse}
 use Rattle.par2_journal.specs.declared.preparation.SessionFault.{SessionFault}
 use Rattle.par2_journal.specs.declared.preparation.SessionFault.TheVariants.{Plan, NothingToUndo, NothingToRedo}
@@ -86,3 +86,17 @@ MayBePassed action s = MayBeRefused (kept_history s) action
 -- the changes of an action lead to the folder that the definitions name
 abbrev pub LeadsFrom : Action → KeptSession → Type 0
 LeadsFrom action s = LeadsToAfterAsked s.folder.files action
+
+-- ---- undos
+
+-- so many undos, each as `undo` does it and none of them refused, lead from the one session to the other
+abbrev pub AreUndone : ℕ → KeptSession → KeptSession → Type 0
+AreUndone zero old new = new ≡ old
+AreUndone (suc n) old new = (old.undos ≢ []) × AreUndone n (kept_undone old (next_of old.undos)) new
+
+-- they give the folder from before back, names and bytes, and the older ones
+pub record UndosGiveBack (n : ℕ) (before here : KeptSession) : Type 0 where
+  pub back : KeptSession
+  pub undone : AreUndone n here back
+  pub folder : back.folder.files ≡ before.folder.files
+  pub older : (kept_history back).older ≡ (kept_history before).older

@@ -4,11 +4,14 @@ use crate::preparation::Task;
 use crate::{Changes, CreateArgs, Prepared, Session, SessionFault, Steps};
 use par2_create::plan_create;
 use par2_files::Landmarks;
+use par2_laws::answers::{
+    repair_leaves_each_file, repair_restores_the_files, repair_restores_the_inputs,
+};
 use par2_repair::{Fault, Report, check, draft_repair, plan_purge};
 use par2_spec::{Action, Result};
 
 impl Session {
-    ghost use Rattle.std.specs.Prelude.{◌≡◌, [], map, IfOk, IfErr, IsErrOf, IsTrue, IsFalse, drop, OnOk};
+    ghost use Rattle.std.specs.Prelude.{◌≡◌, [], ◌∷◌, map, string_bytes, IfOk, IfErr, IsErrOf, IsTrue, IsFalse, drop, OnOk};
     ghost use Rattle.std.specs.List.{AllByRecursion};
     ghost use Rattle.par2_spec.specs.Changes.{are_applicable};
     ghost use Rattle.par2_spec.specs.Commands.{Undo, Redo, Create, Purge};
@@ -16,7 +19,8 @@ impl Session {
     ghost use Rattle.par2_spec.specs.Sessions.{OnlyGrew, CanWalk};
     ghost use Rattle.par2_spec.specs.Texts.{step_of};
     ghost use Rattle.par2_spec.specs.Views.{action_of, create_args_of};
-    ghost use Rattle.par2_journal.specs.Commands.{IsAfter, LeadsFrom, MakesReady, MayBePassed, Performs, Prepares, Verifies, WritesFiles, kept_history, repair_of};
+    ghost use Rattle.par2_laws.specs.Answers.{LeavesEachFile, RestoresFiles, RestoresInputs, leaving};
+    ghost use Rattle.par2_journal.specs.Commands.{IsAfter, LeadsFrom, MakesReady, MayBePassed, Performs, Prepares, UndosGiveBack, Verifies, WritesFiles, kept_history, repair_of};
     ghost use Rattle.par2_journal.specs.Refusals.{MayRefuse};
     ghost use Rattle.par2_journal.specs.Ready.{CanBe, Changing, Fits, HasPrintsOf, IsReady};
 
@@ -143,15 +147,47 @@ impl Session {
         Ok(self.commit(prepared))
     }
 
-    /// Repairs, with further files to search, and answers the steps. Where asked to it purges in the same command. Each
-    /// file that it writes from slices has the length and the MD5 that the set describes. After a refusal names, bytes
-    /// and history are as before.
-    pub fn repair(&mut self, base: &str, extras: &[String], purge: bool) -> Result<Steps, Fault>
+    // Repairs, and returns the steps.
+    fn repair_as_asked(
+        &mut self,
+        base: &str,
+        extras: &[String],
+        purge: bool,
+    ) -> Result<Steps, Fault>
         ensures repairs { Performs (repair_of base.now extras.now purge) self.old self.new result }
         ensures written { WritesFiles base.now extras.now purge self.old result }
     {
         let prepared = self.prepare_repair(base, extras, purge)?;
         Ok(self.commit(prepared))
+    }
+
+    /// Repairs, with further files to search, and returns the steps. Where asked to it purges in the same command. Each
+    /// file that it writes from slices has the length and the MD5 that the set describes, and where the set was made
+    /// from certain files these stand in the folder afterwards. After a refusal names, bytes and history are as before.
+    pub fn repair(&mut self, base: &str, extras: &[String], purge: bool) -> Result<Steps, Fault>
+        ensures repairs { Performs (repair_of base.now extras.now purge) self.old self.new result }
+        ensures written { WritesFiles base.now extras.now purge self.old result }
+        // Where the set was made from certain files, and what is found of them is true: these are in
+        // the folder afterwards, RepairFailed doesn't come, and NotRepairable only where other
+        // slices, too, agree with all that is found.
+        ensures restores { RestoresFiles self.old.folder.files base.now (map string_bytes extras.now)
+            (leaving (λ _. self.new.folder.files) result) }
+        // So it is with the inputs of a create, after damage by another hand.
+        ensures inputs { RestoresInputs self.old.folder.files base.now (map string_bytes extras.now)
+            (leaving (λ _. self.new.folder.files) result) }
+        // Without a purge each file of the folder is as described, whatever the set; and the older
+        // folders stand after it.
+        ensures holds { IsFalse purge → let words = map string_bytes extras.now in OnOk result
+            (LeavesEachFile self.old.folder.files base.now words self.new.folder.files) }
+        ensures undoable { OnOk result (folders (kept_history self.new)
+            ≡ self.new.folder.files ∷ folders (kept_history self.old)) }
+    {
+        repair_restores_the_files();
+        repair_restores_the_inputs();
+        repair_leaves_each_file();
+        // A session can walk each way of its history.
+        let _folder = self.folder();
+        self.repair_as_asked(base, extras, purge)
     }
 
     /// Removes the set's par files, and answers the steps. After a refusal names, bytes and history are as before.
@@ -184,13 +220,17 @@ impl Session {
         }
     }
 
-    /// Performs the actions in order, goes on after a refused one, and answers how many were accepted. As many
+    /// Performs the actions in order, goes on after a refused one, and returns how many were accepted. As many
     /// undos as commands were accepted lead back.
     pub fn play(&mut self, actions: &[Action]) -> usize
         ensures run { Run (kept_history self.old) (map action_of actions.now) result
             (kept_history self.new) }
+        // After creates, repairs and purges alone the folders but the newest are those from before, and
+        // as many undos give the folder back, names and bytes.
         ensures undos { AllByRecursion IsChanging (map action_of actions.now)
             → drop result (folders (kept_history self.new)) ≡ folders (kept_history self.old) }
+        ensures back { AllByRecursion IsChanging (map action_of actions.now)
+            → UndosGiveBack result self.old self.new }
     {
         let mut accepted = 0;
         for action in actions {
@@ -198,6 +238,8 @@ impl Session {
                 accepted += 1;
             }
         }
+        // A session can walk each way of its history.
+        let _folder = self.folder();
         accepted
     }
 }

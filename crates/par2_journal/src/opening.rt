@@ -1,10 +1,11 @@
 //! A folder with a journal is opened as a session.
-ghost use Rattle.std.specs.Prelude.{◌≡◌, ◌≤◌, ◌⊎◌, if◌then◌else◌, IfSome, IfOk, IfErr, OnOk, length, map, Ok, None, true, false, sum_by};
+ghost use Rattle.std.specs.Prelude.{◌≡◌, ◌≤◌, ◌⊎◌, if◌then◌else◌, IfOk, IfErr, OnOk, length, map, Ok, None, true, false};
 ghost use Rattle.md5.specs.Md5.{md5};
-ghost use Rattle.par2_spec.specs.Changes.{are_applicable, places_taken};
+ghost use Rattle.par2_spec.specs.Changes.{are_applicable};
 ghost use Rattle.par2_spec.specs.Opening.{Opens, is_valid, leads, opened_by_part};
 ghost use Rattle.par2_spec.specs.declared.JournalFault.TheVariants.{JournalInvalid, FolderChanged, Memory};
 ghost use Rattle.par2_journal_format.specs.Reading.{IsSealed};
+ghost use Rattle.par2_journal_format.specs.Untested.{AreCounted, change_count};
 ghost use Rattle.par2_journal_format.specs.Views.{changes_in, journal_of};
 ghost use Rattle.par2_journal.specs.Opening.{AnswersOpening, AnswersTest, AnswersWhere, IsToldWhere, OpensAsIs, are_valid, has_print, session_at};
 ghost use Rattle.par2_journal.specs.Walks.{EntriesWalk};
@@ -139,29 +140,28 @@ fn are_valid(alloc: Global, folder: &Folder, entries: &[Changes], cursor: usize)
     Ok(can_walk(alloc, folder, &undos)? && can_walk(alloc, folder, &redos)?)
 }
 
-// How many changes the entries have, where the number fits.
-fn change_count(entries: &[Changes]) -> Option<usize>
-    ensures { IfSome result (λ count. sum_by places_taken entries.now ≤ count) }
+// How many changes the entries have.
+fn change_count(entries: &[Changes]) -> usize
+    requires { AreCounted entries.now }
+    ensures { result ≡ change_count entries.now }
 {
-    let mut count: usize = 0;
+    let mut count = 0;
     for entry in entries {
-        count = count.checked_add(entry.len())?;
+        count += entry.len();
     }
-    Some(count)
+    count
 }
 
 // Whether the entries are valid; the folder gets the room that they take.
 fn settle(alloc: Global, folder: &mut Folder, entries: &[Changes], cursor: usize) -> Result<bool>
-    requires { cursor ≤ length entries.now }
+    requires cursor { cursor ≤ length entries.now }
+    requires counted { AreCounted entries.now }
     ensures files { folder.new.files ≡ folder.old.files }
     ensures vacant { folder.old.vacant ≤ folder.new.vacant }
     ensures valid { IfOk result (λ x. x ≡ are_valid folder.old.files cursor entries.now) }
     ensures walks { result ≡ Ok true → EntriesWalk folder.new cursor entries.now }
 {
-    let Some(count) = change_count(entries) else {
-        return Err(AllocError);
-    };
-    folder.reserve(count)?;
+    folder.reserve(change_count(entries))?;
     are_valid(alloc, folder, entries, cursor)
 }
 
@@ -172,7 +172,8 @@ pub(crate) fn session_from(
     entries: Vec<Changes>,
     cursor: usize,
 ) -> Result<Session, (JournalFault, Folder)>
-    requires { cursor ≤ length entries.items }
+    requires cursor { cursor ≤ length entries.items }
+    requires counted { AreCounted entries.items }
     ensures answer { let wanted = session_at folder.files cursor entries.items in
         AnswersTest folder (is_valid wanted) wanted result }
     ensures vacant { IfErr result (λ e. folder.vacant ≤ e.1.vacant) }
@@ -255,6 +256,7 @@ fn open_settled(
     next: Option<Next>,
 ) -> Opening
     requires cursor { journal.cursor ≤ length journal.entries.items }
+    requires counted { AreCounted journal.entries.items }
     ensures { let answer = opened_by_part folder.files (journal_of journal) None in
         AnswersWhere (digest.now ≡ md5 body.now) folder.files (λ given. given ≡ answer) result }
 {

@@ -3,6 +3,7 @@ ghost use Rattle.std.specs.Prelude.{◌≡◌, ◌≤◌, ◌<◌, ◌&&◌, ⊤
 ghost use Rattle.std.specs.Str.{bytes_eq};
 ghost use Rattle.par2_spec.specs.Journals.{Spells};
 ghost use Rattle.par2_spec.specs.Opening.{is_valid, opened_by_part};
+ghost use Rattle.par2_journal_format.specs.Untested.{AreCounted};
 ghost use Rattle.par2_journal_format.specs.Views.{changes_in, halfway_of, journal_of};
 ghost use Rattle.par2_journal.specs.Opening.{AnswersTest, AnswersWhere, FailsTest, HasNoPlace, LeadBack, go_through, last_changes, place_among, session_after_way, session_before, way_left};
 ghost use Rattle.par2_journal.specs.Ready.{kept_journal};
@@ -81,6 +82,7 @@ fn take_back(
     cursor: usize,
 ) -> Result<Session, (JournalFault, Folder)>
     requires cursor { cursor ≤ length entries.items }
+    requires counted { AreCounted entries.items }
     requires each { length wanted.now ≡ length way.old }
     ensures { let passed = go_through folder.files way.old wanted.now in
         let before = session_after_way folder.files way.old cursor entries.items in
@@ -162,6 +164,7 @@ pub(crate) fn open_halfway(
     mut part: HalfwayPart,
 ) -> Opening
     requires cursor { journal.cursor ≤ length journal.entries.items }
+    requires counted { AreCounted journal.entries.items }
     requires each { length part.fingerprints.items ≡ length part.back }
     ensures { let answer = opened_by_part folder.files (journal_of journal) (halfway_of (Some part)) in
         AnswersWhere ⊤ folder.files (λ given. given ≡ answer) result }

@@ -1,7 +1,54 @@
 -- What a text says whose digest is tested after it was read.
-use Rattle.par2_journal_format.proofs.Common.{◌≡◌, ℕ, ◌-◌, ◌<◌, ◌≤◌, List, length, take, drop, Option, Some, None, Result, Err, sym, ap, ◌∙◌, arith, none-some, md5, Journal, IsJournal, Spells, AreBytes, bytes-take, Fails, IsSealed, parts_at, DecodeFault, JournalInvalid, Memory, ◌↔◌}
+use Rattle.par2_journal_format.proofs.Common.{◌≡◌, ℕ, ◌-◌, ◌^◌, ◌<◌, ◌≤◌, List, [], ◌∷◌, ◌++◌, length, length-append, flat_map, to_le_bytes, w64, Change, Write, Replace, Rename, Remove, change_bytes, entry_bytes, cursor_bytes, halfway_bytes, heading, journal_bytes, take, drop, Option, Some, None, Result, Err, sym, ap, ◌∙◌, arith, none-some, md5, Journal, IsJournal, Spells, AreBytes, bytes-take, Fails, IsSealed, parts_at, DecodeFault, JournalInvalid, Memory, ◌↔◌}
+use Rattle.std.proofs.lemmas.List.Sums.{sum_by-cons}
+use Rattle.par2_journal_format.specs.Untested.{AreCounted, change_count}
 use Rattle.par2_journal_format.specs.declared.reading.Untested.{Untested}
 use Rattle.par2_journal_format.proofs.Whole.{parts_take, parts_spell, spells_parts}
+
+-- ---- a change takes a byte at least, so that a text has room for no more changes than it has bytes
+
+change_some : (change : Change) → 1 ≤ length (change_bytes change)
+change_some (Write name bytes) = omega arith
+change_some (Replace name bytes) = omega arith
+change_some (Rename from to) = omega arith
+change_some (Remove name) = omega arith
+
+changes_within : (changes : List Change) → length changes ≤ length (flat_map change_bytes changes)
+changes_within [] = omega arith
+changes_within (change ∷ changes) =
+    omega (arith, change_some change, changes_within changes, length-append (change_bytes change) (flat_map change_bytes changes))
+
+entries_within : (entries : List (List Change)) → change_count entries ≤ length (flat_map entry_bytes entries)
+entries_within [] = omega arith
+entries_within (entry ∷ entries) =
+    let counts : List ℕ = to_le_bytes w64 (length entry) in
+    omega (
+      arith,
+      sum_by-cons length entry entries,
+      changes_within entry,
+      entries_within entries,
+      length-append counts (flat_map change_bytes entry),
+      length-append (entry_bytes entry) (flat_map entry_bytes entries),
+    )
+
+counted : (j : Journal) (body : List ℕ) → body ≡ journal_bytes j → length body < 2 ^ 64 → AreCounted j.entries
+unfolding journal_bytes
+counted j body is fits =
+    let v = j.version in
+    let cursor = cursor_bytes v j.cursor in
+    let count : List ℕ = to_le_bytes w64 (length j.entries) in
+    let entries = flat_map entry_bytes j.entries in
+    let end = halfway_bytes j.halfway in
+    omega (
+      arith,
+      entries_within j.entries,
+      fits,
+      ap length is,
+      length-append (heading v ++ j.fingerprint ++ cursor ++ count ++ entries) end,
+      length-append (heading v ++ j.fingerprint ++ cursor ++ count) entries,
+    )
+
+-- ---- the text of which a journal was read
 
 pub too_short : (text : List ℕ) → length text < 16 → ¬ (IsSealed text)
 too_short text short sealed = absurd (omega (arith, short, sealed.long))
@@ -13,10 +60,11 @@ module _ (text body digest : List ℕ) (long : 16 ≤ length text) (front : body
   pub sealed : (digest ≡ md5 body) ↔ IsSealed text
   sealed = ((λ right. record { long = long; digest = sym end ∙ right ∙ ap md5 front }), (λ is. end ∙ is.digest ∙ ap md5 (sym front)))
 
-  pub untested : (j : Journal) → AreBytes text → parts_at body ≡ Some j → IsJournal j × (IsSealed text → Spells text j)
-  untested j fits is =
+  pub untested : (j : Journal) → AreBytes text → length body < 2 ^ 64 → parts_at body ≡ Some j → IsJournal j × AreCounted j.entries × (IsSealed text → Spells text j)
+  untested j fits short is =
       let read : parts_at (take (length text - 16) text) ≡ Some j = ap parts_at (sym front) ∙ is in
-      ((parts_take (take (length text - 16) text) j (bytes-take (length text - 16) text fits) read).0, λ right. parts_spell text j fits right read)
+      let parts = parts_take (take (length text - 16) text) j (bytes-take (length text - 16) text fits) read in
+      (parts.0, counted j body (front ∙ parts.1) short, λ right. parts_spell text j fits right read)
 
 -- nothing was read, and not because memory ran out
 pub refused : (fault : DecodeFault) (r : Result Untested DecodeFault) (o : Option Journal) → Fails fault o → (y : DecodeFault) × (r ≡ Err y) × (y ≡ fault) → r ≡ Err JournalInvalid → o ≡ None

@@ -1,5 +1,5 @@
 //! A journal from its bytes. Each reader takes its part from the front, and gives the bytes after it too.
-ghost use Rattle.std.specs.Prelude.{◌≡◌, ◌↔◌, ◌<◌, ◌≤◌, ◌-◌, length, take, drop, IfOk, IfErr, IsTrue, Err, MatchResult};
+ghost use Rattle.std.specs.Prelude.{◌≡◌, ◌↔◌, ◌<◌, ◌≤◌, ◌-◌, ◌^◌, length, take, drop, IfOk, IfErr, IsTrue, Err, MatchResult};
 ghost use Rattle.par2_spec.specs.Journals.{Journal as Defined, Spells};
 ghost use Rattle.par2_files.specs.Views.{change_of};
 ghost use Rattle.par2_journal_format.specs.Reading as reads;
@@ -234,6 +234,7 @@ fn split_digest(bytes: &[u8]) -> Result<(&[u8], &[u8]), DecodeFault>
     ensures long { IfOk result (λ _. 16 ≤ length bytes.now) }
     ensures body { IfOk result (λ x. x.0.now ≡ take (length bytes.now - 16) bytes.now) }
     ensures digest { IfOk result (λ x. x.1.now ≡ drop (length bytes.now - 16) bytes.now) }
+    ensures fits { IfOk result (λ x. length x.0.now < 2 ^ 64) }
     ensures short { IfErr result (λ fault. (fault ≡ JournalInvalid) × (length bytes.now < 16)) }
 {
     if bytes.len() < 16 {

@@ -1,20 +1,17 @@
--- What a session's answer to a repair says of its folder.
-use Rattle.par2_laws.proofs.Common.{◌≡◌, ℕ, List, ◌∷◌, map, Bool, Ok, arith, Option, None, Result, Err, IsTrue, OnOk, IfOk, Repair, Command, Action, Do, Folder, refusal, after, History, folders, in_front, unless_refused, history_after, Fault}
+-- What the answer to a repair says of the folder, over a session and over a folder by itself.
+use Rattle.par2_laws.proofs.Common.{◌≡◌, ℕ, List, ◌∷◌, Bool, Ok, arith, Option, None, Result, Err, IsTrue, OnOk, IfOk, Some, ◌⊎◌, Repair, Command, Action, Do, Folder, refusal, after, History, folders, in_front, unless_refused, history_after, Fault}
+pub use Rattle.par2_laws.specs.Answers.{AnswersRepair, IsRepaired, leaving}
+use Rattle.std.specs.Prelude.{IfErr}
 use Rattle.par2_spec.specs.Opening.{is_valid}
-use Rattle.par2_spec.specs.Plans.{changes_of, LeadsToAfterAsked}
+use Rattle.par2_spec.specs.declared.Fault.TheVariants.{Memory}
+use Rattle.par2_spec.specs.Plans.{LeadsToAfterAsked}
 use Rattle.par2_spec.specs.Sessions.{Session, session_after, changes_asked, history_of}
-use Rattle.par2_spec.specs.Texts.{Step, step_of}
 
 -- the law that the history goes along with the session
 abbrev pub GoesAlong : Type 0
 GoesAlong =
     (s t : Session) (action : Action) → IsTrue (is_valid s) → LeadsToAfterAsked s.folder action → session_after s action ≡ Ok t
     → history_after (history_of s) action ≡ Ok (history_of t)
-
--- the repair is accepted, and the new folder is the one after it
-pub record IsRepaired (old new : Folder) (command : Command) : Type 0 where
-  pub accepted : refusal old command ≡ None
-  pub left : new ≡ after old command
 
 module _ (s t : Session) (base : List ℕ) (extras : List (List ℕ)) (purge : Bool) where
   abbrev command : Command
@@ -26,12 +23,6 @@ module _ (s t : Session) (base : List ℕ) (extras : List (List ℕ)) (purge : B
   pub answered : {A E : Type 0} (r : Result A E) → OnOk r (session_after s (Do command) ≡ Ok t)
       → OnOk r (LeadsToAfterAsked s.folder (Do command)) → OnOk r (IsRepaired s.folder t.folder command)
   answered r step leads = grind (arith, is_repaired)
-
-  -- the steps that are reported are the command's
-  pub told : {E : Type 0} (r : Result (List Step) E) → OnOk r (IsRepaired s.folder t.folder command)
-      → IfOk r (λ steps. IfOk (changes_asked s (Do command)) (λ changes. steps ≡ map step_of changes))
-      → IfOk r (λ steps. steps ≡ map step_of (changes_of s.folder command))
-  told r is asked = unfold changes_asked in grind arith
 
   -- the folder stands in front of the older ones
   put_in_front : (h next : History) (refused : Option Fault) → unless_refused refused (in_front (after h.now command) h) ≡ Ok next → folders next ≡ next.now ∷ folders h
@@ -46,3 +37,17 @@ module _ (s t : Session) (base : List ℕ) (extras : List (List ℕ)) (purge : B
 -- two things that hold where a repair is accepted
 pub together : {A E : Type 0} (P Q : Type 0) (r : Result A E) → OnOk r P → OnOk r Q → OnOk r (P × Q)
 together P Q r p q = grind arith
+
+-- a call that is accepted and refused as the definitions say answers as they do
+pub answers : {A : Type 0} (folder : Folder) (base : List ℕ) (extras : List (List ℕ)) (purge : Bool) (left : A → Folder) (r : Result A Fault)
+    → OnOk r (refusal folder (Repair base extras purge) ≡ None) → IfOk r (λ x. left x ≡ after folder (Repair base extras purge))
+    → IfErr r (λ fault. (fault ≡ Memory) ⊎ (refusal folder (Repair base extras purge) ≡ Some fault)) → AnswersRepair folder base extras purge (leaving left r)
+answers folder base extras purge left (Ok x) accepted leads refused = record { left = record { accepted = accepted; left = leads }; refused = tt }
+answers folder base extras purge left (Err fault) accepted leads refused = record { left = tt; refused = refused }
+
+-- so does a session whose new folder this is
+pub session_answers : {A : Type 0} (folder new : Folder) (base : List ℕ) (extras : List (List ℕ)) (purge : Bool) (r : Result A Fault)
+    → OnOk r (IsRepaired folder new (Repair base extras purge))
+    → IfErr r (λ fault. (fault ≡ Memory) ⊎ (refusal folder (Repair base extras purge) ≡ Some fault)) → AnswersRepair folder base extras purge (leaving (λ _. new) r)
+session_answers folder new base extras purge (Ok x) is refused = record { left = is; refused = tt }
+session_answers folder new base extras purge (Err fault) is refused = record { left = tt; refused = refused }

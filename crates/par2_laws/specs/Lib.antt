@@ -4,3 +4,4 @@ pub mod Faults
 pub mod Packets
 pub mod Volumes
 pub mod Creates
+pub mod Answers

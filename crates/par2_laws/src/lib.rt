@@ -4,6 +4,7 @@
 //! follows from.
 #![tactic(auto)]
 
+pub mod answers;
 pub mod choices;
 pub mod creates;
 pub mod packets;

@@ -1,10 +1,11 @@
 //! What a repair changes.
 ghost use Rattle.std.specs.Prelude.{◌≡◌, ℕ, List, map, string_bytes, IsTrue, IfOk, OnOk};
-ghost use Rattle.par2_spec.specs.Changes.{are_applicable};
+ghost use Rattle.par2_spec.specs.Changes.{are_applicable, effects};
 ghost use Rattle.par2_spec.specs.Plans.{AreFewFor};
 ghost use Rattle.par2_spec.specs.Refusals.{repair_refusal};
 ghost use Rattle.par2_spec.specs.Repairs.{rebuilt_targets};
 ghost use Rattle.par2_spec.specs.Search as search;
+ghost use Rattle.par2_laws.specs.Answers.{RestoresFiles, RestoresInputs, leaving};
 ghost use Rattle.par2_repair.specs.Restoring.{md5s_of, undetermined_fault};
 ghost use Rattle.par2_sets.specs.Asides.{HoldsOwned};
 ghost use Rattle.par2_spec.specs.Answers.{FailsFor, Lists};
@@ -20,6 +21,7 @@ use crate::restored_files::{Restored, restored_files};
 use crate::restored_slices::restored_slices;
 use crate::{Changes, Draft};
 use par2_files::{Folder, Name};
+use par2_laws::answers::{repair_restores_the_files, repair_restores_the_inputs};
 use par2_md5_lanes::text_digests;
 use par2_sets::{ParSet, par_files};
 use par2_spec::{Fault, Result};
@@ -124,7 +126,31 @@ pub fn draft_repair(
     draft_with(alloc, folder, set, &candidates, &targets.needing, purge)
 }
 
-/// The changes of a repair, as its draft has them, whose written files are tested.
+// The changes of a repair, as its draft has them, whose written files are tested.
+fn tested_changes(
+    alloc: Global,
+    folder: &Folder,
+    base: &str,
+    extras: &[String],
+    purge: bool,
+) -> Result<Changes, Fault>
+    ensures refused { FailsAs folder.now.files (repair_of base.now extras.now purge) result }
+    ensures accepted { SucceedsAs folder.now.files (repair_of base.now extras.now purge) result }
+    ensures early { RefusesEarly folder.now.files (repair_of base.now extras.now purge) result }
+    ensures changes { GivesChanges folder.now.files (repair_of base.now extras.now purge) result }
+    ensures applies { IfOk result (λ changes. IsTrue (are_applicable folder.now.files changes)) }
+    ensures leads { LeadsAs folder.now.files (repair_of base.now extras.now purge) result }
+    ensures written { let words = map string_bytes extras.now in
+        OnOk result (WritesAsDescribed folder.now.files base.now words) }
+    ensures few { OnOk result (AreFewFor folder.now.files (repair_of base.now extras.now purge)) }
+{
+    let draft = draft_repair(alloc, folder, base, extras, purge)?;
+    let md5s = text_digests(alloc, &draft.texts(alloc)?)?;
+    draft.tested(&md5s)
+}
+
+/// The changes of a repair, as its draft has them, whose written files are tested. Where the set was made from certain
+/// files, they lead to a folder that has these files.
 pub fn plan_repair(
     alloc: Global,
     folder: &Folder,
@@ -145,8 +171,16 @@ pub fn plan_repair(
     ensures written { let words = map string_bytes extras.now in
         OnOk result (WritesAsDescribed folder.now.files base.now words) }
     ensures few { OnOk result (AreFewFor folder.now.files (repair_of base.now extras.now purge)) }
+    // Where the set was made from certain files, and what is found of them is true: these are in
+    // the folder that the changes lead to, RepairFailed doesn't come, and NotRepairable only where
+    // other slices, too, agree with all that is found.
+    ensures restores { RestoresFiles folder.now.files base.now (map string_bytes extras.now)
+        (leaving (effects folder.now.files) result) }
+    // So it is with the inputs of a create, after damage by another hand.
+    ensures inputs { RestoresInputs folder.now.files base.now (map string_bytes extras.now)
+        (leaving (effects folder.now.files) result) }
 {
-    let draft = draft_repair(alloc, folder, base, extras, purge)?;
-    let md5s = text_digests(alloc, &draft.texts(alloc)?)?;
-    draft.tested(&md5s)
+    repair_restores_the_files();
+    repair_restores_the_inputs();
+    tested_changes(alloc, folder, base, extras, purge)
 }

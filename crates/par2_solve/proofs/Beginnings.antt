@@ -1,7 +1,10 @@
--- Where the first exponents are a run of as many as slices are lost, these are the kept ones.
-use Rattle.par2_solve.proofs.Common.{ℕ, zero, suc, ◌+◌, ◌-◌, ◌<◌, ◌≤◌, ◌≡◌, refl, sym, ap, ◌∙◌, subst, arith, Bool, true, false, cond, List, [], ◌∷◌, length, get_or, map, take, filter, Option, Some, None, AllByRecursion, Contains, range_with_len, IsStrictlyIncreasing, length-map, length-take, ext_get_or, get_or-take, length-take-le, take_all, take-map, Contains-get_or, length-range_with_len, get_or-range_with_len, kept, kept_slices, rank, AreSlices, AreClose, HasRun, all_unmap, filter-map, first_kept, run_rank, BeginsWithRun, lost_from, recovered_of, exponents_of, Bor}
-use Rattle.par2_solve.proofs.Ranks.{is_kept}
-use Rattle.par2_solve.proofs.Runs.{rises_between, close_ends, close_range}
+-- Where the first exponents, as many as slices are lost, determine these, they are the kept ones.
+use Rattle.par2_solve.proofs.Common.{ℕ, zero, suc, ◌+◌, ◌-◌, ◌<◌, ◌≤◌, ◌≡◌, refl, sym, ap, ◌∙◌, subst, arith, Bool, true, false, cond, List, [], ◌∷◌, length, get_or, map, take, filter, Option, Some, None, AllByRecursion, Contains, range_with_len, IsStrictlyIncreasing, length-map, length-take, ext_get_or, get_or-take, length-take-le, take-map, Contains-get_or, length-range_with_len, get_or-range_with_len, kept, kept_slices, AreClose, HasRun, IsRepairable, is_independent, coefficients, all_from, all_get, all_unmap, filter-map, BeginsWithRun, lost_from, recovered_of, exponents_of, Bor}
+use Rattle.std.proofs.lemmas.List.Sums.{count_by-le-length, length-filter}
+use Rattle.par2_spec.proofs.FullRank.{full-iff}
+use Rattle.par2_solve.proofs.Ranks.{is_kept, is_kept_at}
+use Rattle.par2_solve.proofs.Windows.{more_determine}
+use Rattle.par2_solve.proofs.Runs.{rises_between, close_ends, close_range, take_rises}
 use Rattle.par2_solve.proofs.Standing.{kept_slices_are}
 
 -- ---- the first exponents
@@ -41,12 +44,6 @@ has_run_front xs f n front i low =
 
 -- ---- the kept exponents
 
-pub kept_front : (ks exponents : List ℕ) (f : ℕ) → AreSlices ks → IsStrictlyIncreasing exponents → BeginsWithRun f (length ks) exponents → kept ks exponents ≡ take (length ks) exponents
-kept_front ks exponents f are rise front =
-    let all : rank ks exponents ≡ length ks = run_rank ks exponents f are rise (has_run_front exponents f (length ks) front) in
-    sym (take_all (length ks) (kept ks exponents) (omega (arith, all)))
-    ∙ first_kept ks exponents (length ks) are rise (close_front exponents f (length ks) front)
-
 -- what a filter leaves, where it leaves n and the first n pass
 filter_first : {A : Type 0} (p : A → Bool) (n : ℕ) (xs : List A) → length (filter p xs) ≡ n → AllByRecursion (λ x. p x ≡ true) (take n xs) → filter p xs ≡ take n xs
 filter_first p zero xs count h = none xs (filter p xs) count
@@ -61,17 +58,65 @@ filter_first p (suc n) (x ∷ xs) count h =
     let more : suc (length (filter p xs)) ≡ suc n = sym (ap length here) ∙ count in
     here ∙ ap (λ ys. x ∷ ys) (filter_first p n xs (omega (arith, more)) h.1)
 
-passing : (p : ℕ → Bool) (xs : List ℕ) → AllByRecursion (λ x. p x ≡ true) (filter p xs)
-passing p [] = tt
-passing p (x ∷ xs) = step (p x) refl (filter p xs) (passing p xs)
+-- where a filter leaves as many as there are, all pass
+all_pass : {A : Type 0} (p : A → Bool) (xs : List A) → length (filter p xs) ≡ length xs → AllByRecursion (λ x. p x ≡ true) xs
+all_pass p [] e = tt
+all_pass p (x ∷ xs) e = step (p x) refl e (all_pass p xs)
   where
-    step : (b : Bool) → p x ≡ b → (ys : List ℕ) → AllByRecursion (λ y. p y ≡ true) ys → AllByRecursion (λ y. p y ≡ true) (cond b (x ∷ ys) ys)
-    step true e ys h = (e, h)
-    step false e ys h = h
+    step : (b : Bool) → p x ≡ b → length (cond b (x ∷ filter p xs) (filter p xs)) ≡ suc (length xs) → (length (filter p xs) ≡ length xs → AllByRecursion (λ y. p y ≡ true) xs) → AllByRecursion (λ y. p y ≡ true) (x ∷ xs)
+    step true here all rest = (here, rest (omega (arith, all)))
+    step false here all rest = absurd (let count = count_by-le-length p xs in let same = length-filter p xs in omega (arith, count, same, all))
 
-pub kept_slices_front : (ks : List ℕ) (recs : List (ℕ × List ℕ)) (f : ℕ) → AreSlices ks → IsStrictlyIncreasing (map (λ r. r.0) recs) → BeginsWithRun f (length ks) (map (λ r. r.0) recs)
+take_sooner : {A : Type 0} (i n : ℕ) (xs : List A) → i ≤ n → take i (take n xs) ≡ take i xs
+take_sooner zero n xs h = none (take n xs) xs
+  where
+    none : {A : Type 0} (xs ys : List A) → take 0 xs ≡ take 0 ys
+    none [] [] = refl
+    none [] (y ∷ ys) = refl
+    none (x ∷ xs) [] = refl
+    none (x ∷ xs) (y ∷ ys) = refl
+take_sooner (suc i) zero xs h = absurd (omega (arith, h))
+take_sooner (suc i) (suc n) [] h = refl
+take_sooner (suc i) (suc n) (x ∷ xs) h = ap (λ ys. x ∷ ys) (take_sooner i n xs (omega (arith, h)))
+
+-- whether an exponent is kept follows from those before it
+kept_alone : (ks es : List ℕ) (n i : ℕ) → IsStrictlyIncreasing es → n ≤ length es → i < n → is_kept ks es (get_or es i 0) ≡ is_kept ks (take n es) (get_or es i 0)
+kept_alone ks es n i rise within low =
+    let long = length-take-le n es within in
+    let at : get_or (take n es) i 0 ≡ get_or es i 0 = get_or-take n es i 0 low in
+    is_kept_at ks es i rise (omega (arith, low, within))
+    ∙ ap (λ before. is_independent (length ks) (map (coefficients ks) before) (coefficients ks (get_or es i 0))) (sym (take_sooner i n es (omega (arith, low))))
+    ∙ subst (λ e. is_independent (length ks) (map (coefficients ks) (take i (take n es))) (coefficients ks e) ≡ is_kept ks (take n es) e) at (sym (is_kept_at ks (take n es) i (take_rises es n rise within) (omega (arith, low, long))))
+
+-- the first exponents, as many as slices are lost, are kept where they determine these
+first_pass : (ks es : List ℕ) → IsStrictlyIncreasing es → length ks ≤ length es → IsRepairable ks (take (length ks) es) → AllByRecursion (λ e. is_kept ks es e ≡ true) (take (length ks) es)
+first_pass ks es rise within enough =
+    all_from (λ e. is_kept ks es e ≡ true) 0 first (λ i low.
+    let here : i < n = omega (arith, low, long) in
+    let at : get_or first i 0 ≡ get_or es i 0 = get_or-take n es i 0 here in
+    subst (λ e. is_kept ks es e ≡ true) (sym at) (kept_alone ks es n i rise within here ∙ subst (λ e. is_kept ks first e ≡ true) at (all_get (λ e. is_kept ks first e ≡ true) first i 0 low (all_pass (is_kept ks first) first (full ∙ sym long)))))
+  where
+    n : ℕ
+    n = length ks
+
+    first : List ℕ
+    first = take (length ks) es
+
+    long : length (take (length ks) es) ≡ length ks
+    long = length-take-le n es within
+
+    full : length (kept ks (take (length ks) es)) ≡ length ks
+    full = (full-iff ks first (take_rises es n rise within)).1 enough
+
+count_first : (ks es : List ℕ) → IsStrictlyIncreasing es → IsRepairable ks (take (length ks) es) → length (kept ks es) ≡ length ks
+count_first ks es rise enough = (full-iff ks es rise).1 (more_determine ks es (length ks) enough)
+
+pub kept_first : (ks es : List ℕ) → IsStrictlyIncreasing es → length ks ≤ length es → IsRepairable ks (take (length ks) es) → kept ks es ≡ take (length ks) es
+kept_first ks es rise within enough = filter_first (is_kept ks es) (length ks) es (count_first ks es rise enough) (first_pass ks es rise within enough)
+
+pub kept_slices_first : (ks : List ℕ) (recs : List (ℕ × List ℕ)) → IsStrictlyIncreasing (map (λ r. r.0) recs) → length ks ≤ length (map (λ r. r.0) recs) → IsRepairable ks (take (length ks) (map (λ r. r.0) recs))
     → kept_slices ks (map (λ r. r.0) recs) recs ≡ take (length ks) recs
-kept_slices_front ks recs f are rise front =
+kept_slices_first ks recs rise within enough =
     kept_slices_are ks recs ∙ filter_first p n recs count (all_unmap (λ e. is_kept ks all e ≡ true) (λ (r : ℕ × List ℕ). r.0) (take n recs) passes)
   where
     all : List ℕ
@@ -83,17 +128,14 @@ kept_slices_front ks recs f are rise front =
     p : ℕ × List ℕ → Bool
     p r = is_kept ks all r.0
 
-    are_first : kept ks all ≡ take n all
-    are_first = kept_front ks all f are rise front
-
     count : length (filter p recs) ≡ n
     count =
         sym (length-map (filter p recs) (λ (r : ℕ × List ℕ). r.0))
         ∙ ap length (sym (filter-map (is_kept ks all) (λ (r : ℕ × List ℕ). r.0) recs))
-        ∙ run_rank ks all f are rise (has_run_front all f n front)
+        ∙ count_first ks all rise enough
 
     passes : AllByRecursion (λ e. is_kept ks all e ≡ true) (map (λ (r : ℕ × List ℕ). r.0) (take n recs))
-    passes = subst (λ es. AllByRecursion (λ e. is_kept ks all e ≡ true) es) (are_first ∙ take-map (λ (r : ℕ × List ℕ). r.0) n recs) (passing (is_kept ks all) all)
+    passes = subst (λ es. AllByRecursion (λ e. is_kept ks all e ≡ true) es) (take-map (λ (r : ℕ × List ℕ). r.0) n recs) (first_pass ks all rise within enough)
 
 -- ---- the numbers of the lost slices
 
@@ -120,6 +162,6 @@ lost_rise a (None ∷ known) (suc k) h =
 pub recovered_front : (recovery first : List (ℕ × Bor (List ℕ))) (n : ℕ) → first ≡ take n recovery → recovered_of first ≡ take n (recovered_of recovery)
 recovered_front recovery first n is = ap (λ (rs : List (ℕ × Bor (List ℕ))). recovered_of rs) is ∙ sym (take-map (λ (r : ℕ × Bor (List ℕ)). (r.0, r.1.now)) n recovery)
 
--- the exponents of the first ones are the run
-pub exponents_front : (recovery first : List (ℕ × Bor (List ℕ))) (f n : ℕ) → BeginsWithRun f n (exponents_of recovery) → recovered_of first ≡ take n (recovered_of recovery) → exponents_of first ≡ range_with_len f n
-exponents_front recovery first f n front is = ap (map (λ r. r.0)) is ∙ sym (take-map (λ (r : ℕ × List ℕ). r.0) n (recovered_of recovery)) ∙ front
+-- the exponents of the first ones
+pub exponents_front : (recovery first : List (ℕ × Bor (List ℕ))) (n : ℕ) → recovered_of first ≡ take n (recovered_of recovery) → exponents_of first ≡ take n (exponents_of recovery)
+exponents_front recovery first n is = ap (map (λ r. r.0)) is ∙ sym (take-map (λ (r : ℕ × List ℕ). r.0) n (recovered_of recovery))

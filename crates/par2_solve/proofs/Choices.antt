@@ -1,5 +1,5 @@
 -- What survives, as the laws of lists that agree want it, and those laws where a rebuild is refused.
-use Rattle.par2_solve.proofs.Common.{ℕ, zero, suc, ◌+◌, ◌<◌, ◌≤◌, ◌≡◌, ◌≢◌, refl, sym, ap, ◌∙◌, subst, arith, Bool, cond, eqb, eq-eqb, ne_eqb, List, [], ◌∷◌, length, get_or, map, get_or-map, length-map, Bor, Option, Some, None, Result, IfErr, IsTrueFault, AllByRecursion, AllPairs-from_increasing, all_from, all_unmap, lost, list_at, AreBytes, CanRebuild, known_among, known_of, known_alone, recovered_of, exponents_of, bytes_or_none, IsRepairable}
+use Rattle.par2_solve.proofs.Common.{ℕ, zero, suc, ◌+◌, ◌<◌, ◌≤◌, ◌≡◌, ◌≢◌, refl, sym, ap, ◌∙◌, subst, arith, Bool, cond, eqb, eq-eqb, ne_eqb, List, [], ◌∷◌, length, get_or, map, get_or-map, length-map, Bor, Option, Some, None, Result, IfErr, AllByRecursion, AllPairs-from_increasing, all_from, all_unmap, lost, list_at, AreBytes, CanRebuild, known_among, known_of, known_alone, recovered_of, exponents_of, bytes_or_none, IsRepairable}
 use Rattle.std.specs.Option.{ForSome}
 use Rattle.std.proofs.lemmas.Option.{none-some, same_Some}
 use Rattle.par2_spec.proofs.RankLaws.{all_weaker}

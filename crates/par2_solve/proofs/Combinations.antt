@@ -1,5 +1,5 @@
 -- From added products to recovery slices.
-use Rattle.par2_solve.proofs.Common.{cases_lt, inl, inr, ℕ, zero, suc, ◌+◌, ◌-◌, ◌*◌, ◌%◌, ◌<◌, ◌≤◌, ◌≡◌, refl, sym, ap, ap₂, ◌∙◌, subst, arith, List, [], ◌∷◌, ◌++◌, length, get_or, map, replicate, Vec, Global, append_assoc, zero-add, take, drop, Bor, range_with_len, get_or-map, length-map, length_push, map-append, map_push, get_or_append_left, get_or_push, get_or_past, map-range_with_len_more, get_or-map-range_with_len, length-map-range_with_len, length-range_with_len, get_or-range_with_len, mul, coefficient, padded, word, dot, coefficients, combination, recovery, all_at, product-lt, field_sum, list_at, lists_of, field_sum_same, field_sum-lt, dot_sum, product_at, coefficients_are, combination_words, word-lt, AreBytes, recovered, zeros_read, all_coefficients, texts_of, AreBlank}
+use Rattle.par2_solve.proofs.Common.{cases_lt, inl, inr, ℕ, zero, suc, ◌+◌, ◌-◌, ◌*◌, ◌%◌, ◌<◌, ◌≤◌, ◌≡◌, refl, sym, ap, ap₂, ◌∙◌, subst, arith, List, [], ◌∷◌, ◌++◌, length, get_or, map, replicate, Vec, Global, zero-add, Bor, range_with_len, get_or-map, length-map, length_push, map_push, get_or_append_left, get_or_push, get_or_past, get_or-map-range_with_len, length-map-range_with_len, length-range_with_len, get_or-range_with_len, mul, coefficient, padded, word, dot, coefficients, combination, recovery, all_at, product-lt, field_sum, list_at, lists_of, field_sum_same, field_sum-lt, dot_sum, product_at, coefficients_are, combination_words, word-lt, AreBytes, recovered, zeros_read, all_coefficients, texts_of, AreBlank}
 
 -- ---- padding
 

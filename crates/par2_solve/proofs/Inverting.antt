@@ -1,5 +1,5 @@
 -- The inverse of the equations of the kept exponents.
-use Rattle.par2_solve.proofs.Common.{inl, inr, ℕ, ◌+◌, ◌*◌, ◌/◌, ◌%◌, ◌<◌, ◌≤◌, ◌≡◌, ◌≢◌, refl, sym, ap, ◌∙◌, arith, cond, List, [], ◌∷◌, ◌++◌, Vec, Global, length, get_or, map, subst, bit_xor, Bor, xor_zero_l, cases_eq, eq-eqb, ne_eqb, get_or-map, length-map, length-replicate, mul, coefficient, word, dot, coefficients, kept, field_sum, list_at, lists_of, AreElements, zero-product, product_comm, product-one, all_at, all_from, all_get, field_sum_same, field_sum_one, coefficients_are, dot-lt, words_are, bytes_at, combination_words, word-lt, Equations, IsTheSolution, AreRows, IsUnit, recovery_at, IsEliminated, IsInverse, identity, Adds, products, recovered_of, texts_of, AreBlank}
+use Rattle.par2_solve.proofs.Common.{inl, inr, ℕ, ◌+◌, ◌*◌, ◌/◌, ◌%◌, ◌<◌, ◌≤◌, ◌≡◌, ◌≢◌, refl, sym, ap, ◌∙◌, arith, cond, List, [], ◌∷◌, ◌++◌, Vec, Global, length, get_or, map, subst, bit_xor, Bor, xor_zero_l, cases_eq, eq-eqb, ne_eqb, get_or-map, length-map, length-replicate, mul, coefficient, word, dot, coefficients, kept, field_sum, list_at, lists_of, AreElements, zero-product, product_comm, product-one, all_at, all_from, all_get, field_sum_same, field_sum_one, coefficients_are, dot-lt, words_are, bytes_at, combination_words, word-lt, Equations, IsTheSolution, AreRows, IsUnit, recovery_at, IsEliminated, IsInverse, identity, Adds, products, recovered_of, texts_of, AreBlank, AreTexts, GivesUnit, IsVector, AllByRecursion, ◌^◌}
 use Rattle.par2_matrix.specs.Echelon.{Spells}
 use Rattle.par2_matrix.specs.Systems as systems
 use Rattle.par2_solve.proofs.Dots.{combined}
@@ -67,27 +67,45 @@ unit_word n j unit k is = elim (cases_eq k j) [
   | inr other ↦ is.zeros k other ∙ sym (identity-others j k (λ e. other (sym e)))
 ]
 
+-- the elements of texts of n words
+pub row_long : (n : ℕ) (system : Equations) (texts rows : List (List ℕ)) → AreTexts system texts → system.bytes ≡ 2 * n → AreRows rows texts (length texts) → (i : ℕ) → i < length texts → length (list_at rows i) ≡ n
+row_long n system texts rows are_texts bytes are i h =
+    let size = (are.each i h).size in
+    let all = all_get (λ (text : List ℕ). length text ≡ system.bytes) texts i [] h are_texts.sizes in
+    omega (arith, size, all, bytes)
+
+pub row_read : (n : ℕ) (system : Equations) (texts rows : List (List ℕ)) → AreTexts system texts → system.bytes ≡ 2 * n → AreRows rows texts (length texts) → (i k : ℕ) → i < length texts → k < n → word k (list_at texts i) ≡ get_or (list_at rows i) k 0
+row_read n system texts rows are_texts bytes are i k hi hk = let size = row_long n system texts rows are_texts bytes are i hi in (are.each i hi).each k (omega (arith, size, hk)) (omega (arith, size, hk))
+
+pub row_vector : (n : ℕ) (system : Equations) (texts rows : List (List ℕ)) → AreTexts system texts → system.bytes ≡ 2 * n → AreRows rows texts (length texts) → (i : ℕ) → i < length texts → IsVector n (list_at rows i)
+row_vector n system texts rows are_texts bytes are i h = (
+  row_long n system texts rows are_texts bytes are i h,
+  all_from (λ y. y < 65536) 0 (list_at rows i) (λ k low.
+      let here : k < n = (let size = row_long n system texts rows are_texts bytes are i h in omega (arith, size, low)) in
+      subst (λ y. y < 65536) (row_read n system texts rows are_texts bytes are i k h here) (word-lt (list_at texts i) k (bytes_at texts are_texts.bytes i))),
+)
+
+-- a row that combines the texts to a unit vector, times their elements, is a row of the identity
+pub unit_product : (m n j k : ℕ) (row : List ℕ) (texts rows : List (List ℕ)) → length row ≤ m → AllByRecursion (λ c. c < 2 ^ 16) row → AllByRecursion (λ (text : List ℕ). AllByRecursion (λ b. b < 256) text) texts
+    → ((i : ℕ) → i < m → word k (list_at texts i) ≡ get_or (list_at rows i) k 0) → k < n → GivesUnit n j row texts → field_sum m (λ i. mul (get_or row i 0) (get_or (list_at rows i) k 0)) ≡ identity j k
+unit_product m n j k row texts rows fit elements bytes read low gives =
+    field_sum_same m (λ i. mul (get_or row i 0) (get_or (list_at rows i) k 0)) (λ i. mul (get_or row i 0) (word k (list_at texts i))) (λ i hi. ap (mul (get_or row i 0)) (sym (read i hi)))
+    ∙ sym (dot_at m row texts k fit)
+    ∙ (combination_words (2 * n) row texts gives.unit (omega arith) (λ p. dot-lt row (map (word p) texts) elements (words_are p texts bytes)) gives.is_unit.size (unit_bytes n j gives.unit gives.is_unit)).0 gives.combined k (omega (arith, low))
+    ∙ unit_word n j gives.unit k gives.is_unit
+
 pub are_inverse : (lost : List ℕ) (recs kept_ones : List (ℕ × List ℕ)) (system : Equations) (texts rows : List (List ℕ)) → IsEliminated lost recs kept_ones system → IsTheSolution system texts
     → systems.rank system ≡ system.columns → AreRows rows texts (length texts) → IsInverse lost (map (λ r. r.0) kept_ones) rows
 are_inverse lost recs kept_ones system texts rows found solution full are = record {
   square = length-map kept_ones (λ (r : ℕ × List ℕ). r.0) ∙ kept_count;
   count = are.count ∙ count;
-  vectors = λ i h. (
-    row_size i h,
-    all_from (λ y. y < 65536) 0 (list_at rows i) (λ k low.
-        let here : k < n = (let size = row_size i h in omega (arith, size, low)) in
-        subst (λ y. y < 65536) (read i k h here) (word-lt (list_at texts i) k (bytes_at texts solution.are_texts.bytes i))),
-  );
+  vectors = λ i h. row_vector n system texts rows solution.are_texts found.bytes are i (omega (arith, h, count));
   product = λ j k hj hk.
       let e : ℕ = (recovery_at kept_ones j).0 in
-      let row : List ℕ = coefficients lost e in
-      let fit : length row ≤ n = (let long = length-map lost (coefficient e) in omega (arith, long)) in
-      let gives = found.solves texts solution.are_texts solution.solves j (omega (arith, hj, kept_count)) in
+      let fit : length (coefficients lost e) ≤ n = (let long = length-map lost (coefficient e) in omega (arith, long)) in
       ap (λ x. field_sum n (λ i. mul (get_or (coefficients lost x) i 0) (get_or (list_at rows i) k 0))) (get_or-map (λ (r : ℕ × List ℕ). r.0) kept_ones j (0, []) 0 (omega (arith, hj, kept_count)))
-      ∙ field_sum_same n (λ i. mul (get_or row i 0) (get_or (list_at rows i) k 0)) (λ i. mul (get_or row i 0) (word k (list_at texts i))) (λ i hi. ap (mul (get_or row i 0)) (sym (read i k hi hk)))
-      ∙ sym (dot_at n row texts k fit)
-      ∙ (combination_words (2 * n) row texts gives.unit (omega arith) (λ p. dot-lt row (map (word p) texts) (coefficients_are e lost) (words_are p texts solution.are_texts.bytes)) gives.is_unit.size (unit_bytes n j gives.unit gives.is_unit)).0 gives.combined k (omega (arith, hk))
-      ∙ unit_word n j gives.unit k gives.is_unit;
+      ∙ unit_product n n j k (coefficients lost e) texts rows fit (coefficients_are e lost) solution.are_texts.bytes (λ i hi. row_read n system texts rows solution.are_texts found.bytes are i k (omega (arith, hi, count)) hk) hk
+      (found.solves texts solution.are_texts solution.solves j (omega (arith, hj, kept_count)));
 }
   where
     n : ℕ
@@ -98,16 +116,6 @@ are_inverse lost recs kept_ones system texts rows found solution full are = reco
 
     kept_count : length kept_ones ≡ n
     kept_count = sym found.count ∙ full ∙ found.columns
-
-    row_size : (i : ℕ) → i < n → length (list_at rows i) ≡ n
-    row_size i h =
-        let size = (are.each i (omega (arith, h, count))).size in
-        let all = all_get (λ (text : List ℕ). length text ≡ system.bytes) texts i [] (omega (arith, h, count)) solution.are_texts.sizes in
-        let bytes = found.bytes in
-        omega (arith, size, all, bytes)
-
-    read : (i k : ℕ) → i < n → k < n → word k (list_at texts i) ≡ get_or (list_at rows i) k 0
-    read i k hi hk = let size = row_size i hi in (are.each i (omega (arith, hi, count))).each k (omega (arith, size, hk)) (omega (arith, size, hk))
 
 -- ---- what the exponents give for the inverse times some elements are these elements
 

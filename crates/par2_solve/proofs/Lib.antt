@@ -13,5 +13,10 @@ pub mod Finishing
 pub mod Solving
 pub mod Quotients
 pub mod RunInverses
+pub mod Locating
 pub mod Beginnings
 pub mod Choices
+pub mod Windows
+pub mod Matrices
+pub mod Fillings
+pub mod Filled

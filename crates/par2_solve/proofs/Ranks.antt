@@ -55,7 +55,7 @@ pub kept_more : {A : Type 0} (p : A → Bool) (xs : List A) (i : ℕ) (d : A) (b
 kept_more p xs i d b h e = filter_more p xs i d h ∙ ap (λ c. filter p (take i xs) ++ cond c (get_or xs i d ∷ []) []) e
 
 -- the row of exponent i among the smaller ones
-is_kept_at : (lost all : List ℕ) (i : ℕ) → IsStrictlyIncreasing all → i < length all
+pub is_kept_at : (lost all : List ℕ) (i : ℕ) → IsStrictlyIncreasing all → i < length all
     → is_kept lost all (get_or all i 0) ≡ is_independent (length lost) (map (coefficients lost) (take i all)) (coefficients lost (get_or all i 0))
 is_kept_at lost all i up h =
     ap (λ before. is_independent (length lost) (map (coefficients lost) before) (coefficients lost (get_or all i 0))) (smaller_are all up i h)

@@ -12,10 +12,10 @@ use Rattle.par2_solve.proofs.Runs.{close_range, range_has}
 -- ---- the sum over a run is a value
 
 -- what a row gives with the coefficients of slice k at the exponents from f on: the sum of the products
-abbrev run_sum : ℕ → List ℕ → ℕ → ℕ
+abbrev pub run_sum : ℕ → List ℕ → ℕ → ℕ
 run_sum f row k = field_sum (length row) (λ t. mul (get_or row t 0) (coefficient (f + t) k))
 
-run_sum_is : (row : List ℕ) (f k : ℕ) → AreElements row → run_sum f row k ≡ mul (pow (constant k) f) (value row (constant k))
+pub run_sum_is : (row : List ℕ) (f k : ℕ) → AreElements row → run_sum f row k ≡ mul (pow (constant k) f) (value row (constant k))
 unfolding field_sum value coefficient pow
 run_sum_is [] f k h = sym (product-zero (pow (constant k) f))
 run_sum_is (a ∷ row) f k h =
@@ -35,6 +35,12 @@ run_sum_is (a ∷ row) f k h =
     ∙ sym ((product_linear_right power).on_xor a (mul c v))
 
 -- ---- the constants of lost slices
+
+-- the coefficients at exponent 1 are the constants
+pub first_powers : (slices : List ℕ) → coefficients slices 1 ≡ map constant slices
+unfolding coefficient pow
+first_powers [] = refl
+first_powers (k ∷ slices) = ap₂ (λ (c : ℕ) cs. c ∷ cs) (product-one (constant k) (constant-lt k)) (first_powers slices)
 
 pub constants-lt : (ks : List ℕ) → AreElements (map constant ks)
 constants-lt ks = all-each (λ c. c < 2 ^ 16) constant constant-lt ks
@@ -67,12 +73,12 @@ power-nonzero a (suc n) h small e = power-nonzero a n h small (no_zero_divisor a
 
 -- ---- the identity
 
-sum_of_column : (n k : ℕ) (f : ℕ → ℕ) → k < n → ((i : ℕ) → f i < 65536) → field_sum n (λ i. mul (f i) (identity i k)) ≡ f k
+pub sum_of_column : (n k : ℕ) (f : ℕ → ℕ) → k < n → ((i : ℕ) → f i < 65536) → field_sum n (λ i. mul (f i) (identity i k)) ≡ f k
 sum_of_column n k f low are =
     field_sum_one n k (λ i. mul (f i) (identity i k)) low (λ i h other. ap (mul (f i)) (ap (λ b. cond b 1 0) (ne_eqb i k other)) ∙ product-zero (f i))
     ∙ ap (mul (f k)) (ap (λ b. cond b 1 0) (eq-eqb k k refl)) ∙ product-one (f k) (are k)
 
-identity_moved : (f j k : ℕ) → identity (f + j) (f + k) ≡ identity j k
+pub identity_moved : (f j k : ℕ) → identity (f + j) (f + k) ≡ identity j k
 identity_moved f j k = elim (cases_eq j k) [
   | inl same ↦ ap (λ b. cond b 1 0) (eq-eqb (f + j) (f + k) (omega (arith, same)) ∙ sym (eq-eqb j k same))
   | inr other ↦ ap (λ b. cond b 1 0) (ne_eqb (f + j) (f + k) (λ e. other (omega (arith, e))) ∙ sym (ne_eqb j k other))

@@ -1,5 +1,5 @@
 -- Exponents that are close, and runs of them, by the places where they stand.
-use Rattle.par2_solve.proofs.Common.{AreSlices, AreClose, HasRun, all_from, Option, IfSome, slice_get, Contains, range_with_len, [], ◌∷◌, ◌↔◌, IsTrue, false, eqb, ltb, ℕ, zero, suc, ◌+◌, ◌-◌, ◌<◌, ◌≤◌, ◌≡◌, sym, ap, ◌∙◌, subst, arith, inl, inr, List, length, get_or, drop, take, IsStrictlyIncreasing, cases_lt, eqb-false, ltb-true, lt-ltb, false≢true, get_or-take, get_or-drop, get_or_default, length-take-le, length-drop, Contains-get_or, get_or-range_with_len, length-range_with_len}
+use Rattle.par2_solve.proofs.Common.{AreSlices, AreClose, HasRun, all_from, Option, IfSome, slice_get, Contains, range_with_len, [], ◌∷◌, ◌↔◌, IsTrue, false, eqb, ltb, ℕ, zero, suc, ◌+◌, ◌-◌, ◌<◌, ◌≤◌, ◌≡◌, refl, sym, ap, ◌∙◌, subst, arith, inl, inr, List, length, get_or, drop, take, IsStrictlyIncreasing, cases_lt, eqb-false, ltb-true, lt-ltb, false≢true, get_or-take, get_or-drop, get_or_default, length-take-le, length-drop, Contains-get_or, get_or-range_with_len, length-range_with_len}
 
 -- numbers of slices that rise
 pub are_slices : (numbers : List ℕ) → IsStrictlyIncreasing numbers → ((i : ℕ) → get_or numbers i 0 < 32768) → AreSlices numbers
@@ -25,7 +25,7 @@ rises_between xs rise i j low h =
     subst (λ n. get_or xs i 0 + (j - i) ≤ get_or xs n 0) e (rises_by xs rise i (j - i) (omega (arith, e, h)))
 
 -- what stands in the place of a contained number
-placed : (xs : List ℕ) (x : ℕ) → Contains xs x → (i : ℕ) × (i < length xs) × (get_or xs i 0 ≡ x)
+pub placed : (xs : List ℕ) (x : ℕ) → Contains xs x → (i : ℕ) × (i < length xs) × (get_or xs i 0 ≡ x)
 placed xs x c = (c.0, c.1, get_or_default xs c.0 0 x c.1 ∙ c.2)
 
 -- exponents are close where the last and the first are
@@ -71,6 +71,13 @@ part_rises xs i n rise h k within =
     let second = part_at xs i n (k + 1) (omega (arith, long, within)) in
     let more = rises_between xs rise (i + k) (i + (k + 1)) (omega arith) (omega (arith, long, within, h)) in
     omega (arith, first, second, more)
+
+pub take_rises : (xs : List ℕ) (n : ℕ) → IsStrictlyIncreasing xs → n ≤ length xs → IsStrictlyIncreasing (take n xs)
+take_rises xs n rise h = subst (λ ys. IsStrictlyIncreasing (take n ys)) (drop_none xs) (part_rises xs 0 n rise (omega (arith, h)))
+  where
+    drop_none : (ys : List ℕ) → drop 0 ys ≡ ys
+    drop_none [] = refl
+    drop_none (y ∷ ys) = refl
 
 -- n that are close are a run
 pub close_run : (xs : List ℕ) (i n : ℕ) → IsStrictlyIncreasing xs → i + n ≤ length xs → AreClose n (part i n xs) → HasRun (get_or xs i 0) n xs

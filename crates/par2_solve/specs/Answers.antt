@@ -8,8 +8,8 @@ use Rattle.par2_spec.specs.Sums.{list_at, lists_of}
 use Rattle.par2_transform.specs.Adding.{AddsAt, LieWithin}
 use Rattle.par2_transform.specs.Columns.{recovered}
 use Rattle.par2_transform.specs.declared.outputs.Places.{Places}
-use Rattle.par2_solve.specs.Inverses.{IsInverse}
 use Rattle.par2_solve.specs.Rebuilding.{AreRebuilt, known_among}
+use Rattle.par2_solve.specs.Solvers.{Inverts}
 use Rattle.par2_solve.specs.Survivors.{exponents_of, recovered_of, with_lost_slices, IsTrueFault}
 use Rattle.par2_solve.specs.Views.{texts_of}
 use Rattle.par2_solve.specs.declared.inverse.Inversion.{Inversion}
@@ -57,7 +57,7 @@ KeepsThose lost recovery found = recovered_of found.kept.items ≡ kept_slices l
 
 -- and the matrix is their inverse
 abbrev pub HasInverse : List ℕ → Inversion → Type 0
-HasInverse lost found = IsInverse lost (exponents_of found.kept.items) (lists_of found.inverse.items)
+HasInverse lost found = Inverts lost (exponents_of found.kept.items) found.inverse
 
 -- ---- what is rebuilt
 

@@ -6,5 +6,9 @@ pub mod Inverses
 pub mod Syndromes
 pub mod Rebuilding
 pub mod RunInverses
+pub mod Located
+pub mod Filling
+pub mod Solvers
+pub mod Holes
 pub mod Writing
 pub mod Answers

@@ -1,6 +1,6 @@
 -- The lost slices by their syndromes. With the slices that are known taken off, the equation of an exponent is one of
 -- the lost slices alone (Parity Volume Set Specification 2.0, "Description of the algorithm").
-use Rattle.std.specs.Prelude.{◌≡◌, ◌+◌, ◌*◌, ◌<◌, ◌≤◌, ◌++◌, ℕ, List, length, take, drop, map, slice_index, bit_xor}
+use Rattle.std.specs.Prelude.{◌≡◌, ◌+◌, ◌-◌, ◌*◌, ◌<◌, ◌≤◌, ◌++◌, ℕ, List, length, take, drop, map, slice_index, bit_xor}
 use Rattle.std.specs.List.{range_with_len}
 use Rattle.par2_spec.specs.Field.{mul}
 use Rattle.par2_spec.specs.Slices.{word}
@@ -20,6 +20,15 @@ all_coefficients n exponents = map (coefficients (range_with_len 0 n)) exponents
 -- the exponents follow one another without a gap, from `first` on
 abbrev pub AreRun : ℕ → List ℕ → Type 0
 AreRun first exponents = (j : ℕ) → j < length exponents → slice_index exponents j ≡ first + j
+
+-- recovery slices of a run of so many exponents are computed together
+abbrev pub AreTogether : ℕ → ℕ → Type 0
+AreTogether slices count = (32 ≤ slices) × (32 ≤ count)
+
+-- so are those of the exponents from place `at` up to `end`, which follow one another
+abbrev pub IsLongRun : ℕ → List ℕ → ℕ → ℕ → Type 0
+IsLongRun slices exponents at end =
+    AreTogether slices (end - at) × ((k : ℕ) → at + k < end → slice_index exponents (at + k) ≡ slice_index exponents at + k)
 
 -- word w of syndrome j: that of recovery slice j and what the known slices give to it; so it is what the lost slices
 -- give to it

@@ -1,7 +1,7 @@
 //! Recovery slices, added to outputs: those of many exponents that follow one another together, others each as the sum of
 //! its products.
 
-ghost use Rattle.std.specs.Prelude.{◌≡◌, ℕ, ◌+◌, ◌-◌, ◌*◌, ◌^◌, ◌<◌, ◌≤◌, length, map, slice_index, IfOk, IfSome, IsTrue, OnOk};
+ghost use Rattle.std.specs.Prelude.{◌≡◌, ℕ, ◌+◌, ◌-◌, ◌*◌, ◌^◌, ◌<◌, ◌≤◌, ◌⊎◌, length, map, slice_index, IfOk, IfSome, IsTrue, OnOk};
 ghost use Rattle.std.specs.List.{range_with_len};
 ghost use Rattle.par2_spec.specs.Slices.{word};
 ghost use Rattle.par2_spec.specs.Sums.{list_at, lists_of};
@@ -9,7 +9,7 @@ ghost use Rattle.par2_transform.specs.Adding.{within, AddsAt, AddsToEach, HaveWo
 ghost use Rattle.par2_transform.specs.Columns.{recovered};
 ghost use Rattle.par2_solve.specs.Answers.{AddsRecovery, HaveAll, HaveAtLeast, LieIn};
 ghost use Rattle.par2_solve.specs.Products.{products};
-ghost use Rattle.par2_solve.specs.Syndromes.{all_coefficients, AreRun};
+ghost use Rattle.par2_solve.specs.Syndromes.{all_coefficients, AreRun, IsLongRun};
 ghost use Rattle.par2_solve.specs.Views.{texts_of};
 
 use crate::exponents::coefficients;
@@ -34,7 +34,9 @@ const FEWEST: usize = 32;
 
 // Whether the recovery slices of a run of so many exponents are computed together.
 fn are_together(slices: usize, count: usize) -> bool
-    ensures { IsTrue result → 0 < count }
+    ensures slices { IsTrue result → 32 ≤ slices }
+    ensures count { IsTrue result → 32 ≤ count }
+    ensures all { 32 ≤ slices → 32 ≤ count → IsTrue result }
 {
     slices >= MANY_SLICES && count >= MANY_EXPONENTS
 }
@@ -183,6 +185,7 @@ fn group_end(exponents: &[u32], at: usize, slices: usize, most: usize) -> usize
     requires some { 1 ≤ most }
     ensures beyond { at < result }
     ensures within { result ≤ length exponents.now }
+    ensures room { IsLongRun slices exponents.now at result ⊎ (result ≤ at + most) }
 {
     let mut end = run_end(exponents, at);
     if are_together(slices, end - at) {

@@ -8,6 +8,7 @@ ghost use Rattle.par2_spec.specs.Rank.{rank, IsRepairable};
 ghost use Rattle.par2_spec.specs.Runs.{AreClose, HasRun};
 ghost use Rattle.par2_matrix.specs.Systems.{CutDown, IsIndependent, IsDependent};
 
+use crate::holes::determine;
 use par2_gf16::Gf;
 use par2_matrix::{Offer, System};
 use par2_spec::Result;
@@ -59,8 +60,8 @@ pub(crate) fn offer(
     system.offer(gf, &row, right)
 }
 
-// Whether the numbers rise.
-fn rise(numbers: &[u32]) -> bool
+/// Whether the numbers rise.
+pub(crate) fn rise(numbers: &[u32]) -> bool
     ensures { IsTrue result ↔ IsStrictlyIncreasing numbers.now }
 {
     numbers.windows(2).all(|pair| pair[0] < pair[1])
@@ -111,7 +112,7 @@ pub fn rank_by_runs(lost: &[u32], exponents: &[u32]) -> Option<usize>
     None
 }
 
-// The rank by the equations.
+// The rank by the equations of all exponents.
 fn rank_by_elimination(alloc: Global, gf: &Gf, lost: &[u32], exponents: &[u32]) -> Result<usize>
     requires lost { (i : ℕ) → slice_index lost.now i < 32768 }
     requires exponents { IsStrictlyIncreasing exponents.now }
@@ -122,6 +123,18 @@ fn rank_by_elimination(alloc: Global, gf: &Gf, lost: &[u32], exponents: &[u32]) 
         offer(alloc, gf, &mut system, lost, exponents[i], Vec::new(alloc))?;
     }
     Ok(system.rank())
+}
+
+// The rank by equations: those of the holes between the first exponents, where these tell it, else those of all.
+fn rank_by_equations(alloc: Global, gf: &Gf, lost: &[u32], exponents: &[u32]) -> Result<usize>
+    requires lost { (i : ℕ) → slice_index lost.now i < 32768 }
+    requires exponents { IsStrictlyIncreasing exponents.now }
+    ensures { IfOk result (λ n. n ≡ rank lost.now exponents.now) }
+{
+    if determine(alloc, gf, lost, exponents)? {
+        return Ok(lost.len());
+    }
+    rank_by_elimination(alloc, gf, lost, exponents)
 }
 
 /// How many of the exponents are kept, for these lost slices: as many as are lost exactly where the recovery slices of
@@ -135,6 +148,6 @@ pub fn rank(alloc: Global, gf: &Gf, lost: &[u32], exponents: &[u32]) -> Result<u
 {
     match rank_by_runs(lost, exponents) {
         Some(rank) => Ok(rank),
-        None => rank_by_elimination(alloc, gf, lost, exponents),
+        None => rank_by_equations(alloc, gf, lost, exponents),
     }
 }

@@ -13,11 +13,15 @@ ghost use Rattle.par2_matrix.specs.Echelon.{Spells};
 ghost use Rattle.par2_matrix.specs.Systems.{IsIndependent, IsDependent};
 ghost use Rattle.par2_solve.specs.Elements.{AreRows, IsUnit};
 ghost use Rattle.par2_solve.specs.RunInverses.{BeginsWithRun};
+ghost use Rattle.par2_spec.specs.Runs.{AreSlices};
+ghost use Rattle.par2_solve.specs.Solvers.{InvertsFirst};
 
 use crate::exponents::{are_close, offer};
+use crate::filling::inverse_over_holes;
 use crate::products::text_at;
 use crate::rebuild_slices::RebuildFault;
-use crate::run_inverse::run_inverse;
+use crate::run_locator::{LOCATED, inverse_for_run};
+use crate::solver::Inverse;
 use par2_gf16::Gf;
 use par2_matrix::{Offer, System, element, put_element};
 use par2_spec::Result;
@@ -35,7 +39,7 @@ struct Elimination<'a> {
 #[derive(Drop)]
 pub(crate) struct Inversion<'a> {
     pub(crate) kept: Vec<(u32, &'a [u8])>,
-    pub(crate) inverse: Vec<Vec<u16>>,
+    pub(crate) inverse: Inverse<'a>,
 }
 
 // Offers the equation of an exponent, whose right side is the unit vector of the number of equations.
@@ -102,7 +106,7 @@ fn invert_by_elimination<'a>(
     match system.into_solution() {
         Ok(texts) => Ok(Inversion {
             kept,
-            inverse: rows_of(alloc, &texts)?,
+            inverse: Inverse::Rows(rows_of(alloc, &texts)?),
         }),
         Err(_) => Err(RebuildFault::NotRepairable {
             missing: lost.len(),
@@ -138,8 +142,8 @@ fn row_of(alloc: Global, text: &[u8]) -> Result<Vec<u16>>
     Ok(row)
 }
 
-// The elements of each text.
-fn rows_of(alloc: Global, texts: &[Vec<u8>]) -> Result<Vec<Vec<u16>>>
+/// The elements of each text.
+pub(crate) fn rows_of(alloc: Global, texts: &[Vec<u8>]) -> Result<Vec<Vec<u16>>>
     requires { (r : ℕ) → r < length texts.now → length (list_at (lists_of texts.now) r) % 2 ≡ 0 }
     ensures { IfOk result
         (λ rows. AreRows (lists_of rows.items) (lists_of texts.now) (length texts.now)) }
@@ -151,8 +155,8 @@ fn rows_of(alloc: Global, texts: &[Vec<u8>]) -> Result<Vec<Vec<u16>>>
     Ok(rows)
 }
 
-// The text of the unit vector of n elements that has 1 at i, or of zeros, where i is none of its places.
-fn unit(alloc: Global, n: usize, i: usize) -> Result<Vec<u8>>
+/// The text of the unit vector of n elements that has 1 at i, or of zeros, where i is none of its places.
+pub(crate) fn unit(alloc: Global, n: usize, i: usize) -> Result<Vec<u8>>
     requires { n < 65536 }
     ensures size { IfOk result (λ text. length text.items ≡ 2 * n) }
     ensures unit { i < n → IfOk result (λ text. IsUnit n i text.items) }
@@ -179,11 +183,35 @@ fn run_at_front(exponents: &[u32], count: usize) -> Option<u32>
     exponents.first().copied()
 }
 
-/// The kept exponents and their inverse, where they determine the lost slices. Where the first exponents are a run of as
-/// many as slices are lost, these are kept, and their inverse is made by the run's polynomial; else by elimination.
+// The inverse for the first exponents, as many as slices are lost, where these are a run, or where there are holes
+// between them whose equations are independent. For few lost slices elimination takes less time than the products of
+// slices that holes take.
+fn inverse_at_front<'a>(
+    alloc: Global,
+    gf: &'a Gf,
+    lost: &[u32],
+    exponents: &[u32],
+) -> Result<Option<Inverse<'a>>>
+    requires slices { AreSlices lost.now }
+    requires count { length lost.now ≤ 32768 }
+    requires exponents { IsStrictlyIncreasing exponents.now }
+    ensures { IfOk result (λ found. IfSome found (InvertsFirst lost.now exponents.now)) }
+{
+    if let Some(first) = run_at_front(exponents, lost.len()) {
+        return Ok(Some(inverse_for_run(alloc, gf, lost, first)?));
+    }
+    if lost.len() < LOCATED {
+        return Ok(None);
+    }
+    inverse_over_holes(alloc, gf, lost, exponents)
+}
+
+/// The kept exponents and their inverse, where they determine the lost slices. Where the first exponents, as many as
+/// slices are lost, are a run or have few holes between them, these are kept, and the locator of the lost slices makes
+/// their inverse; else elimination does.
 pub(crate) fn invert<'a>(
     alloc: Global,
-    gf: &Gf,
+    gf: &'a Gf,
     lost: &[u32],
     recovery: &[(u32, &'a [u8])],
 ) -> Result<Inversion<'a>, RebuildFault>
@@ -197,10 +225,9 @@ pub(crate) fn invert<'a>(
     ensures refused { IfErr result (IsTrueFault lost.now (exponents_of recovery.now)) }
 {
     let exponents = exponents_of(alloc, recovery)?;
-    let Some(first) = run_at_front(&exponents, lost.len()) else {
+    let Some(inverse) = inverse_at_front(alloc, gf, lost, &exponents)? else {
         return invert_by_elimination(alloc, gf, lost, recovery);
     };
     let kept = Vec::from_slice(alloc, &recovery[..lost.len()])?;
-    let inverse = run_inverse(alloc, gf, lost, first)?;
     Ok(Inversion { kept, inverse })
 }

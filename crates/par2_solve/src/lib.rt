@@ -3,12 +3,16 @@
 
 mod additions;
 mod exponents;
+mod filling;
+mod holes;
 mod inverse;
 mod products;
 mod rebuild_slices;
 mod recovery;
 mod room;
 mod run_inverse;
+mod run_locator;
+mod solver;
 mod syndromes;
 
 pub use additions::numbers_from;

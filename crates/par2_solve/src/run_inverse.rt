@@ -31,8 +31,8 @@ fn times_root(alloc: Global, gf: &Gf, c: u16, p: &[u16]) -> Result<Vec<u16>>
     Ok(product)
 }
 
-// The polynomial of these roots.
-fn with_roots(alloc: Global, gf: &Gf, points: &[u16]) -> Result<Vec<u16>>
+/// The polynomial of these roots.
+pub(crate) fn with_roots(alloc: Global, gf: &Gf, points: &[u16]) -> Result<Vec<u16>>
     ensures { IfOk result (λ p. p.items ≡ with_roots points.now) }
 {
     let mut p = vec![in alloc; 1u16; 1]?;
@@ -42,8 +42,8 @@ fn with_roots(alloc: Global, gf: &Gf, points: &[u16]) -> Result<Vec<u16>>
     Ok(p)
 }
 
-// The quotient of a polynomial on division by `z - c`.
-fn quotient(alloc: Global, gf: &Gf, c: u16, p: &[u16]) -> Result<Vec<u16>>
+/// The quotient of a polynomial on division by `z - c`.
+pub(crate) fn quotient(alloc: Global, gf: &Gf, c: u16, p: &[u16]) -> Result<Vec<u16>>
     ensures { IfOk result (λ q. q.items ≡ quotient c p.now) }
 {
     let count = p.len().saturating_sub(1);
@@ -56,8 +56,8 @@ fn quotient(alloc: Global, gf: &Gf, c: u16, p: &[u16]) -> Result<Vec<u16>>
     Ok(quotient)
 }
 
-// The value of a polynomial at `z`.
-fn value(gf: &Gf, p: &[u16], z: u16) -> u16
+/// The value of a polynomial at `z`.
+pub(crate) fn value(gf: &Gf, p: &[u16], z: u16) -> u16
     ensures { result ≡ value p.now z }
 {
     let mut value = 0;
@@ -74,7 +74,8 @@ fn scaled(alloc: Global, gf: &Gf, k: u16, p: &[u16]) -> Result<Vec<u16>>
     p.iter().map(|a| gf.mul(k, *a)).collect(alloc)
 }
 
-fn inverse_of(gf: &Gf, a: u16) -> u16
+/// The inverse of an element.
+pub(crate) fn inverse_of(gf: &Gf, a: u16) -> u16
     requires { a ≢ 0 }
     ensures product { mul a result ≡ 1 }
     ensures small { result < 2 ^ 16 }

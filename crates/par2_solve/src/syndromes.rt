@@ -4,22 +4,20 @@
 
 ghost use Rattle.std.specs.Prelude.{◌≡◌, ◌%◌, ◌<◌, ◌≤◌, ◌+◌, ◌++◌, length, map, IfOk};
 ghost use Rattle.par2_spec.specs.Sums.{OneChanged, list_at, lists_of};
-ghost use Rattle.par2_solve.specs.Answers.{AreOfSize, HaveAtLeast, HaveColumns};
+ghost use Rattle.par2_solve.specs.Answers.{AreOfSize, HaveColumns};
 ghost use Rattle.par2_solve.specs.Products.{AreBytes};
+ghost use Rattle.par2_solve.specs.Solvers.{TakesSources, rows_of};
 ghost use Rattle.par2_solve.specs.Syndromes.{window, AreSolved, AreExtended};
 ghost use Rattle.par2_solve.specs.Views.{texts_of, AreBlank};
 
 use crate::additions::with_recovery_slices;
-use crate::products::{fit_texts, products_of, text_at};
+use crate::products::{fit_texts, text_at};
 use crate::room::{columns_at_once, rows_room};
+use crate::solver::Inverse;
 use par2_gf16::Gf;
 use par2_slices::window_bytes;
 use par2_spec::Result;
 use std::alloc::Global;
-
-// The fewest bytes of each slice that are solved at a time. For each of these blocks the whole inverse is read, which takes
-// longer than the products of a short one.
-const LEAST: usize = 2048;
 
 // The bytes of a text from `from` on, `count` of them where it doesn't end sooner.
 fn window_of(text: &[u8], from: usize, count: usize) -> &[u8]
@@ -42,8 +40,8 @@ pub(crate) fn windows<'a>(
     windows.collect(alloc)
 }
 
-// The same texts, by reference.
-fn borrowed(alloc: Global, texts: &[Vec<u8>]) -> Result<Vec<&[u8]>>
+/// The same texts, by reference.
+pub(crate) fn borrowed(alloc: Global, texts: &[Vec<u8>]) -> Result<Vec<&[u8]>>
     ensures { IfOk result (λ slices. texts_of slices.items ≡ lists_of texts.now) }
 {
     texts.iter().map(|text| text.as_slice()).collect(alloc)
@@ -53,7 +51,7 @@ fn borrowed(alloc: Global, texts: &[Vec<u8>]) -> Result<Vec<&[u8]>>
 fn solved_block(
     alloc: Global,
     gf: &Gf,
-    inverse: &[Vec<u16>],
+    inverse: &Inverse,
     exponents: &[u32],
     recovery: &[&[u8]],
     slices: &[&[u8]],
@@ -61,12 +59,12 @@ fn solved_block(
     count: usize,
     room: usize,
 ) -> Result<Vec<Vec<u8>>>
-    requires inverse { HaveAtLeast (length recovery.now) inverse.now }
+    requires inverse { TakesSources (length recovery.now) inverse.now }
     requires count { length slices.now ≤ 32768 }
     requires exponents { length exponents.now ≡ length recovery.now }
     requires size { HaveColumns (from + count) recovery.now }
     requires even { count % 2 ≡ 0 }
-    ensures { IfOk result (λ texts. AreSolved count (lists_of inverse.now) exponents.now
+    ensures { IfOk result (λ texts. AreSolved count (rows_of inverse.now) exponents.now
         (map (window from count) (texts_of slices.now))
         (map (window from count) (texts_of recovery.now)) (lists_of texts.items)) }
 {
@@ -75,7 +73,7 @@ fn solved_block(
     let words = count / 2;
     let syndromes = with_recovery_slices(alloc, gf, &slices, words, exponents, &recovery, room)?;
     let sources = borrowed(alloc, &syndromes)?;
-    products_of(alloc, gf, inverse, &sources, count)
+    inverse.products(alloc, gf, &sources, count, room)
 }
 
 // Empty texts, with room for so many bytes each.
@@ -116,25 +114,25 @@ fn extend(texts: &mut [Vec<u8>], blocks: &[Vec<u8>]) -> Result<()>
 pub(crate) fn solved(
     alloc: Global,
     gf: &Gf,
-    inverse: &[Vec<u16>],
+    inverse: &Inverse,
     exponents: &[u32],
     recovery: &[&[u8]],
     slices: &[&[u8]],
     size: usize,
 ) -> Result<Vec<Vec<u8>>>
-    requires inverse { HaveAtLeast (length recovery.now) inverse.now }
+    requires inverse { TakesSources (length recovery.now) inverse.now }
     requires count { length slices.now ≤ 32768 }
     requires exponents { length exponents.now ≡ length recovery.now }
     requires size { AreOfSize size recovery.now }
     requires even { size % 2 ≡ 0 }
-    ensures solved { IfOk result (λ texts. AreSolved size (lists_of inverse.now)
+    ensures solved { IfOk result (λ texts. AreSolved size (rows_of inverse.now)
         exponents.now (texts_of slices.now) (texts_of recovery.now) (lists_of texts.items)) }
     ensures slices { IfOk result (λ _. AreBytes (texts_of slices.now)) }
     ensures recovery { IfOk result (λ _. AreBytes (texts_of recovery.now)) }
 {
     fit_texts(slices);
     fit_texts(recovery);
-    let at_once = columns_at_once(slices, recovery.len(), size).max(LEAST);
+    let at_once = columns_at_once(slices, recovery.len(), size).max(inverse.least());
     let room = rows_room(slices);
     let mut texts = reserved(alloc, inverse.len(), size)?;
     let mut from = 0;

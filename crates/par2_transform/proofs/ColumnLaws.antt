@@ -1,6 +1,14 @@
 -- Columns of words, some at a time.
-use Rattle.par2_transform.proofs.Common.{ℕ, ◌+◌, ◌-◌, ◌*◌, ◌<◌, ◌≤◌, ◌≡◌, refl, ap, ◌∙◌, arith, bit_xor, List, length, min, within, AddsAt, Outputs, AreBlocks, recovered, Grid, Cut, Place}
+use Rattle.par2_transform.proofs.Common.{subst, div_ceil, slice_begins, ℕ, ◌+◌, ◌-◌, ◌*◌, ◌<◌, ◌≤◌, ◌≡◌, refl, ap, ◌∙◌, arith, bit_xor, List, length, min, within, AddsAt, Outputs, AreBlocks, recovered, Grid, Cut, Place}
 use Rattle.par2_transform.proofs.AddingLaws.{adds_none, adds_more, adds_same, within-in, within-above, within_joined}
+
+-- a run of columns begins before the words end
+pub begins : (words columns k n : ℕ) → 1 ≤ columns → n ≡ div_ceil words columns → k < n → k * columns < words
+begins words columns k n some is low = slice_begins words columns k (omega (arith, some)) (subst (λ m. k < m) is low)
+
+-- and ends no later than they do
+pub ends : (words from columns m : ℕ) → from < words → m ≡ min columns (words - from) → from + m ≤ words
+ends words from columns m low is = omega (arith, low, is)
 
 -- the first n blocks of columns were added
 pub record ColumnsAdded (places : List Place) (len : ℕ) (cut : Cut) (slices : List (List ℕ)) (columns first size words n : ℕ) (rows : Grid) (old blocks : List Outputs) (was texts : List (List ℕ)) : Type 0 where

@@ -23,23 +23,23 @@ cosets_fit k i q h l =
 fits_field : (k : ℕ) → k ≤ 16 → 2 ^ k ≤ 65536
 fits_field k h = pow-le-pow_right (let two : 0 < 2 = omega arith in two) h
 
-zero-mul-add : (n e : ℕ) → 0 * n + e ≡ e
+pub zero-mul-add : (n e : ℕ) → 0 * n + e ≡ e
 zero-mul-add n e = ap (λ z. z + e) (zero-mul n) ∙ zero-add e
 
 -- the pair of a coset
-half_below : (k i q p : ℕ) → i < k → 2 * p ≤ q → q < 2 ^ (k - i) → p < 2 ^ (k - suc i)
+pub half_below : (k i q p : ℕ) → i < k → 2 * p ≤ q → q < 2 ^ (k - i) → p < 2 ^ (k - suc i)
 half_below k i q p h l m =
     let e : k - i ≡ suc (k - suc i) = omega arith in
     let s : 2 ^ (k - i) ≡ 2 ^ (k - suc i) * 2 = ap (λ n. 2 ^ n) e ∙ pow-suc 2 (k - suc i) in
     omega arith
 
-cases_parity : (q : ℕ) → ((p : ℕ) × (q ≡ 2 * p)) ⊎ ((p : ℕ) × (q ≡ 2 * p + 1))
+pub cases_parity : (q : ℕ) → ((p : ℕ) × (q ≡ 2 * p)) ⊎ ((p : ℕ) × (q ≡ 2 * p + 1))
 cases_parity q = elim (cases_lt (q % 2) 1) [
   | inl even ↦ inl (q / 2, omega arith)
   | inr odd ↦ inr (q / 2, omega arith)
 ]
 
-value-lt : (i : ℕ) (f : ℕ → ℕ) → AreElements f → (x : ℕ) → x < 65536 → value (2 ^ i) f x < 65536
+pub value-lt : (i : ℕ) (f : ℕ → ℕ) → AreElements f → (x : ℕ) → x < 65536 → value (2 ^ i) f x < 65536
 value-lt i f elements x h = field_sum-lt (2 ^ i) (λ m. mul (f m) (pow x m)) (λ m. product-lt (f m) (pow x m) (elements m) (power-lt x m h))
 
 -- ---- power sums

@@ -9,6 +9,7 @@ mod Transforms
 mod TextLaws
 mod StepLaws
 mod Divisions
+mod CosetLaws
 mod GridLaws
 mod Cycles
 mod NumberLaws
@@ -18,6 +19,7 @@ mod WeightRows
 mod WindowLaws
 mod ClassLaws
 mod OutputLaws
+mod LocatorLaws
 mod ColumnLaws
 pub mod GroupLaws
 pub mod WholeTexts

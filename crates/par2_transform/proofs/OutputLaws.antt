@@ -3,7 +3,7 @@ use Rattle.par2_transform.proofs.Common.{inl, inr, ℕ, ◌+◌, ◌-◌, ◌*�
 use Rattle.par2_transform.proofs.AddingLaws.{adds_none, adds_more, adds_same, within-in, within-below, within-above, within_joined, within_same}
 
 -- the first coset's power sums are sums over the points
-power_sum_plain : (weight : ℕ → ℕ) (k e : ℕ) → power_sum weight k 0 e ≡ field_sum (2 ^ k) (λ u. mul (weight u) (pow (point u) e))
+pub power_sum_plain : (weight : ℕ → ℕ) (k e : ℕ) → power_sum weight k 0 e ≡ field_sum (2 ^ k) (λ u. mul (weight u) (pow (point u) e))
 unfolding power_sum
 power_sum_plain weight k e =
     field_sum_same (2 ^ k) (λ u. mul (weight (member k 0 u)) (pow (point (member k 0 u)) e)) (λ u. mul (weight u) (pow (point u) e))

@@ -1,5 +1,5 @@
 -- What holds of a Cantor basis, and of the polynomials that vanish on its subspaces.
-use Rattle.par2_transform.proofs.Common.{ℕ, zero, suc, ◌+◌, ◌*◌, ◌/◌, ◌%◌, ◌^◌, ◌<◌, ◌≡◌, refl, sym, ap, ap₂, ◌∙◌, true, eqb, ltb, arith, get_or, bit_xor, inl, inr, zero-mul, one-mul, pow-suc, eqb-true, ltb-true, cases_lt, get_or_past, div-le_self, div-div-eq-div-mul, xor_comm, xor_lt, bit_at, xor_assoc, xor_zero_r, xor_zero_l, xor_self, IsLinear, xor_middle, bit_cases, bit_xor_times, bits_ind, linear-zero, tested, tested_at, power-lt, power-add, zero-product, product-lt, product_comm, product-one, product_linear_left, product_linear_right, field_sum_same, field_sum_xor, field_sum-lt, field_sum_head, xor_off, mul, pow, field_sum, basis, point, vanishing, powers_in}
+use Rattle.par2_transform.proofs.Common.{ℕ, zero, suc, ◌+◌, ◌*◌, ◌/◌, ◌%◌, ◌^◌, ◌<◌, ◌≡◌, refl, sym, ap, ap₂, ◌∙◌, true, eqb, ltb, arith, get_or, bit_xor, inl, inr, zero-mul, one-mul, pow-suc, eqb-true, ltb-true, cases_lt, get_or_past, div-le_self, div-div-eq-div-mul, xor_comm, xor_lt, bit_at, xor_assoc, xor_zero_r, xor_zero_l, xor_self, IsLinear, xor_middle, bit_cases, bit_xor_times, bits_ind, linear-zero, tested, tested_at, power-lt, power-add, zero-product, product-lt, product_comm, product-one, product_linear_left, product_linear_right, field_sum_same, field_sum_xor, field_sum-lt, field_sum_head, xor_off, mul, pow, field_sum, basis, bit_numbers, point, point_number, vanishing, powers_in}
 use Rattle.std.proofs.lemmas.Nat.Bits.{bit_at-suc, bit_at_above, bit_at_xor, bit_at_lowest}
 
 abbrev pub basis_at : ℕ → ℕ
@@ -35,6 +35,45 @@ point_linear = record {
       field_sum_same 16 (λ i. bit_at (bit_xor u v) i * basis_at i) (λ i. bit_xor (bit_at u i * basis_at i) (bit_at v i * basis_at i)) (λ i h. bit_xor_times u v i (basis_at i))
       ∙ field_sum_xor 16 (λ i. bit_at u i * basis_at i) (λ i. bit_at v i * basis_at i);
 }
+
+-- ---- numbers of points
+
+test_numbers : tested (λ i. ltb (get_or bit_numbers i 0) 65536) 16 ≡ true
+unfolding bit_numbers
+test_numbers = refl
+
+bit_numbers-lt : (i : ℕ) → get_or bit_numbers i 0 < 65536
+unfolding bit_numbers
+bit_numbers-lt i = elim (cases_lt i 16) [
+  | inl h ↦ ltb-true (get_or bit_numbers i 0) 65536 (tested_at (λ j. ltb (get_or bit_numbers j 0) 65536) 16 i test_numbers h)
+  | inr h ↦ let e : get_or bit_numbers i 0 ≡ 0 = get_or_past bit_numbers i 0 h in omega arith
+]
+
+pub point_number-lt : (x : ℕ) → point_number x < 65536
+unfolding point_number
+point_number-lt x = field_sum-lt 16 (λ i. bit_at x i * get_or bit_numbers i 0) (λ i. bit_times-lt x i (get_or bit_numbers i 0) (bit_numbers-lt i))
+
+point_number_linear : IsLinear point_number
+unfolding point_number
+point_number_linear = record {
+  on_xor = λ u v.
+      field_sum_same 16 (λ i. bit_at (bit_xor u v) i * get_or bit_numbers i 0) (λ i. bit_xor (bit_at u i * get_or bit_numbers i 0) (bit_at v i * get_or bit_numbers i 0)) (λ i h. bit_xor_times u v i (get_or bit_numbers i 0))
+      ∙ field_sum_xor 16 (λ i. bit_at u i * get_or bit_numbers i 0) (λ i. bit_at v i * get_or bit_numbers i 0);
+}
+
+test_point_numbers : tested (λ i. eqb (point (point_number (2 ^ i))) (2 ^ i)) 16 ≡ true
+unfolding point point_number basis bit_numbers field_sum
+test_point_numbers = refl
+
+-- each element is a point
+pub point_of_number : (x : ℕ) → x < 65536 → point (point_number x) ≡ x
+point_of_number x h =
+    bits_ind (λ y. point (point_number y) ≡ y)
+    (ap point (linear-zero point_number point_number_linear) ∙ linear-zero point point_linear)
+    (λ y z p q. ap point (point_number_linear.on_xor y z) ∙ point_linear.on_xor (point_number y) (point_number z) ∙ ap₂ bit_xor p q)
+    16
+    (λ i k. eqb-true (point (point_number (2 ^ i))) (2 ^ i) (tested_at (λ j. eqb (point (point_number (2 ^ j))) (2 ^ j)) 16 i test_point_numbers k))
+    x h
 
 -- the point whose number is half as large
 half_point : ℕ → ℕ

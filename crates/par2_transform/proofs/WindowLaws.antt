@@ -34,7 +34,7 @@ next_coefficient cut slices r a from i old mid new so_far added = record {
 
 -- ---- values
 
-field_sum_short : (n m : ℕ) (f : ℕ → ℕ) → n ≤ m → ((i : ℕ) → n ≤ i → f i ≡ 0) → field_sum m f ≡ field_sum n f
+pub field_sum_short : (n m : ℕ) (f : ℕ → ℕ) → n ≤ m → ((i : ℕ) → n ≤ i → f i ≡ 0) → field_sum m f ≡ field_sum n f
 field_sum_short n m f h none =
     let parts : n + (m - n) ≡ m = omega arith in
     ap (λ k. field_sum k f) (sym parts) ∙ field_sum_join n (m - n) f

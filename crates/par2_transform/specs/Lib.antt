@@ -2,6 +2,7 @@ pub mod Subspaces
 pub mod PowerSums
 pub mod Evaluations
 pub mod Levels
+pub mod Cosets
 pub mod Chirps
 pub mod Transforms
 pub mod Grids
@@ -10,3 +11,4 @@ pub mod Columns
 pub mod Plans
 pub mod Adding
 pub mod Blocks
+pub mod Locators

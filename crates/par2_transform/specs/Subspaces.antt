@@ -14,6 +14,15 @@ unfoldable pub point : ℕ → ℕ
 unfolding basis field_sum
 point u = field_sum 16 (λ i. bit_at u i * slice_index basis i)
 
+-- for each bit of an element, the number of the point that has this bit alone
+unfoldable pub bit_numbers : List ℕ
+bit_numbers = 0x1 ∷ 0x1F70 ∷ 0x10C8 ∷ 0x7D8 ∷ 0x18AC ∷ 0x48DC ∷ 0x434 ∷ 0x141C ∷ 0x14FA ∷ 0x7E94 ∷ 0x6CB2 ∷ 0x35BC ∷ 0x62E ∷ 0xECD8 ∷ 0x1E12 ∷ 0xFED4 ∷ []
+
+-- the number of a point
+unfoldable pub point_number : ℕ → ℕ
+unfolding bit_numbers field_sum
+point_number x = field_sum 16 (λ i. bit_at x i * slice_index bit_numbers i)
+
 -- the polynomial that vanishes on the points below 2 ^ i
 unfoldable pub vanishing : ℕ → ℕ → ℕ
 unfolding mul

@@ -1,11 +1,17 @@
 //! A basis of the field, its points and the powers in the polynomials that vanish on its subspaces.
 
 ghost use Rattle.std.specs.Prelude.{◌≡◌, ◌<◌, slice_index};
-ghost use Rattle.par2_transform.specs.Subspaces.{basis, point, powers_in};
+ghost use Rattle.par2_transform.specs.Subspaces.{basis, point, bit_numbers, point_number, powers_in};
 
 const BASIS: [u16; 16] = [
     0x1, 0x15E, 0x1A, 0x1CF2, 0x169A, 0xBBAC, 0xFDE2, 0x468A, 0x712, 0x1B76, 0xAD6C, 0x4640,
     0xA79E, 0xF2B4, 0xF77A, 0x7FE2,
+];
+
+// For each bit of an element, the number of the point that has this bit alone.
+const BIT_NUMBERS: [u16; 16] = [
+    0x1, 0x1F70, 0x10C8, 0x7D8, 0x18AC, 0x48DC, 0x434, 0x141C, 0x14FA, 0x7E94, 0x6CB2, 0x35BC,
+    0x62E, 0xECD8, 0x1E12, 0xFED4,
 ];
 
 // Element i.
@@ -25,6 +31,28 @@ pub(crate) fn point(u: u16) -> u16
     for i in 0..16 {
         if (u >> i) % 2 == 1 {
             sum ^= element(i);
+        }
+    }
+    sum
+}
+
+// The number of the point that has bit i alone.
+#[inline(always)]
+fn bit_number(i: usize) -> u16
+    requires { i < 16 }
+    ensures { result ≡ slice_index bit_numbers i }
+{
+    BIT_NUMBERS[i]
+}
+
+/// The number of point x.
+pub(crate) fn point_number(x: u16) -> u16
+    ensures { result ≡ point_number x }
+{
+    let mut sum = 0u16;
+    for i in 0..16 {
+        if (x >> i) % 2 == 1 {
+            sum ^= bit_number(i);
         }
     }
     sum

@@ -91,8 +91,8 @@ fn weights_at(rows: &[Vec<u16>], a: usize) -> &[u16]
     &rows[a]
 }
 
-// To each row, adds the product of the point's weight and the values there.
-fn gather_rows(gf: &Gf, weights: &[u16], values: &Rows, sums: &mut Rows)
+/// To each row, adds the product of the point's weight and the values there.
+pub(crate) fn gather_rows(gf: &Gf, weights: &[u16], values: &Rows, sums: &mut Rows)
     requires weights { length weights.now ≡ 2 ^ sums.old.levels }
     requires levels { values.now.levels ≡ sums.old.levels }
     requires words { values.now.words ≡ sums.old.words }

@@ -68,8 +68,8 @@ fn text_at<'a>(texts: &[&'a [u8]], i: usize) -> &'a [u8]
     if i < texts.len() { texts[i] } else { &[] }
 }
 
-// What the type says of each byte of each text, for proofs.
-fn fit_texts(texts: &[&[u8]])
+/// What the type says of each byte of each text, for proofs.
+pub(crate) fn fit_texts(texts: &[&[u8]])
     ensures { AreBytes (texts_of texts.now) }
 {
     for i in 0..texts.len() {

@@ -51,7 +51,7 @@ pub(crate) fn split_level(gf: &Gf, rows: &mut Rows, i: u32)
 {
     rows.fit();
     for q in 0..1u16 << (rows.levels() - i - 1) {
-        split(gf, rows, i, q);
+        split(gf, rows, i, q, point(2 * q));
     }
 }
 
@@ -69,17 +69,17 @@ fn merge(gf: &Gf, rows: &mut Rows, i: u32, q: u16)
     raise(gf, rows, i, start, point(2 * q));
 }
 
-// Splits a run into two.
-fn split(gf: &Gf, rows: &mut Rows, i: u32, q: u16)
+/// Splits run q into two: c is the value of the vanishing polynomial on the first coset.
+pub(crate) fn split(gf: &Gf, rows: &mut Rows, i: u32, q: u16, c: u16)
     requires few { rows.old.levels ≤ 16 }
     requires level { i < rows.old.levels }
     requires pair { q < 2 ^ (rows.old.levels - suc i) }
-    ensures { EachColumn (OnElements (OneRun (q * 2 ^ suc i) (2 ^ suc i)
-        (IsSplit i (point (2 * q))))) rows.old rows.new }
+    ensures { EachColumn (OnElements (OneRun (q * 2 ^ suc i) (2 ^ suc i) (IsSplit i c)))
+        rows.old rows.new }
 {
     let half = 1usize << i;
     let start = q as usize * 2 * half;
-    divide(gf, rows, i, start, point(2 * q));
+    divide(gf, rows, i, start, c);
     rows.add_rows(start, start + half, half);
 }
 

@@ -4,9 +4,11 @@
 
 mod basis;
 mod blocks;
+mod cosets;
 mod exponents;
 pub mod laws;
 mod levels;
+mod locator;
 mod outputs;
 mod plan;
 mod powers;
@@ -16,5 +18,6 @@ mod texts;
 mod weights;
 mod windows;
 
+pub use locator::Locator;
 pub use outputs::{Place, Places, add_to_output};
 pub use recovery::{add_recovery_slices, add_recovery_slices_at, whole_texts};

@@ -56,8 +56,8 @@ fn windows_for(exponents: usize, window: usize) -> usize
     exponents.div_ceil(CLASSES).div_ceil(window)
 }
 
-// How many columns of words go through the levels at a time: as many as so many rows have room for, and at least 32.
-fn columns_for(rows: usize, words: usize, room: usize) -> usize
+/// How many columns of words go through the levels at a time: as many as so many rows have room for, and at least 32.
+pub(crate) fn columns_for(rows: usize, words: usize, room: usize) -> usize
     ensures { (1 ≤ result) × (result ≤ 1024) }
 {
     let each = room / rows.max(1) / 2;

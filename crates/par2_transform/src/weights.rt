@@ -11,9 +11,9 @@ ghost use Rattle.par2_transform.specs.Steps.{OneRun, RunAdded, IsLowered};
 use crate::basis::{point, powers_in};
 use par2_gf16::Gf;
 
-// What the type says of each word, for proofs.
+/// What the type says of each word, for proofs.
 #[inline(always)]
-fn fit_words(words: &[u16])
+pub(crate) fn fit_words(words: &[u16])
     ensures { AreElements (slice_index words.now) }
 {
     let _ = words.len();

@@ -68,6 +68,12 @@ pub fn copy_of(alloc: Global, store: &mut MemoryStore) -> Result<MemoryStore> {
     Ok(copy)
 }
 
+/// Takes the journal away.
+pub fn forget(alloc: Global, store: &mut MemoryStore) -> Result<()> {
+    *store = files_of(alloc, store)?;
+    Ok(())
+}
+
 /// The fingerprint of a store's folder.
 pub fn fingerprint_of(alloc: Global, store: &mut MemoryStore) -> Result<[u8; 16]> {
     Ok(print_of(&folder_of(alloc, store)?)?)

@@ -1,13 +1,14 @@
 //! The lines of the input: a word, a space and what the word is about.
 
 use crate::disk;
-use crate::files::{clear, put_text, remove};
+use crate::files::{clear, forget, put_text, remove};
 use crate::growths::grow;
-use crate::rows::{answer_of, row, show};
+use crate::rows::{answer_of, row, show, told};
 use crate::scarce_memory::want_memory;
 use crate::sessions::{failing_session, session};
 use crate::stopping_output::stop_output;
 use crate::stops::{stop, stop_and_repeat, stop_each, told_stop};
+use crate::ways_back::{go_and_return, put_digits, refuse};
 use crate::words::read;
 use anyhow::{Error, Result};
 use par2_stores::MemoryStore;
@@ -41,6 +42,18 @@ fn fail(rt: &HostRuntime, store: &mut MemoryStore, word: &str, rest: &str) -> Re
     }
 }
 
+// Commands, and what they leave.
+fn command(rt: &HostRuntime, store: &mut MemoryStore, word: &str, rest: &str) -> Result<()> {
+    match word {
+        "run" => run(rt, store, rest),
+        "told" => told(rt, store, rest),
+        "row" => row(rt, store, rest),
+        "return" => go_and_return(rt, store, rest),
+        "refused" => refuse(rt, store, rest),
+        _ => fail(rt, store, word, rest),
+    }
+}
+
 // Carries out a line. An empty one, and one that begins with `#`, is read over.
 fn carry_out(rt: &HostRuntime, store: &mut MemoryStore, line: &str) -> Result<()> {
     let (word, rest) = line.split_once(' ').unwrap_or((line, ""));
@@ -50,12 +63,12 @@ fn carry_out(rt: &HostRuntime, store: &mut MemoryStore, line: &str) -> Result<()
         "new" => clear(rt.alloc(), store),
         "put" => put_text(store, rest),
         "remove" => remove(store, rest),
-        "run" => run(rt, store, rest),
-        "row" => row(rt, store, rest),
+        "journal" => put_digits(rt, store, rest),
+        "no-journal" => forget(rt.alloc(), store),
         "show" => show(rt, store),
         "words" => read(rt, rest),
         "disk" => disk::call(rt, rest),
-        _ => fail(rt, store, word, rest),
+        _ => command(rt, store, word, rest),
     }
 }
 

@@ -20,6 +20,7 @@ mod scarce_memory;
 mod sessions;
 mod stopping_output;
 mod stops;
+mod ways_back;
 mod words;
 
 use anyhow::Result;

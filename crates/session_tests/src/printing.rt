@@ -1,5 +1,5 @@
 //! The texts word for word, and writers that stop.
-ghost use Rattle.std.specs.Prelude.{Some};
+ghost use Rattle.std.specs.Prelude.{◌≡◌, Some};
 
 use crate::fixtures::{Trouble, args_of};
 use par2_output::{
@@ -8,7 +8,7 @@ use par2_output::{
 };
 use par2_spec::{Action, Command, Failure, Fault, Verdict};
 use std::alloc::{AllocError, Global};
-use std::io::{self, ErrorKind, Write};
+use std::io::{self, BufWriter, ErrorKind, Write};
 use std::test::Fail;
 
 // Takes so many bytes, at most two at a time, and then fails or takes none.
@@ -56,44 +56,89 @@ fn stops_after_five_bytes(rt: HostRuntime) {
     }
 }
 
-// Is interrupted at every other call, and takes a byte at the others.
+// Is interrupted at so many calls before each that takes a byte, and at as many before it is flushed.
 #[derive(Drop)]
 struct Halting {
     held: Vec<u8>,
-    is_interrupted: bool,
+    each: usize,
+    left: usize,
+}
+
+impl Halting {
+    // The error of a call that is interrupted.
+    fn interruption(&mut self) -> io::Result<()>
+        ensures { self.new.held ≡ self.old.held }
+    {
+        if self.left == 0 {
+            self.left = self.each;
+            return Ok(());
+        }
+        self.left -= 1;
+        Err(io::Error::from(ErrorKind::Interrupted))
+    }
 }
 
 impl Write for Halting {
     ghost contents = { λ w. Some w.held.items };
 
     fn write(&mut self, bytes: &[u8]) -> io::Result<usize> {
-        self.is_interrupted = !self.is_interrupted;
-        if self.is_interrupted {
-            return Err(io::Error::from(ErrorKind::Interrupted));
-        }
+        self.interruption()?;
         let count = bytes.len().min(1);
         self.held.extend_from_slice(&bytes[..count])?;
         Ok(count)
     }
 
     fn flush(&mut self) -> io::Result<()> {
-        Ok(())
+        self.interruption()
     }
 }
 
-// Whether such a writer holds a line that is written.
-fn holds_a_line(alloc: Global) -> bool {
+// Whether such a writer holds a line that is written and flushed.
+fn holds_a_line(alloc: Global, each: usize) -> bool {
     let mut out = Printer::new(Halting {
         held: Vec::new(alloc),
-        is_interrupted: false,
+        each,
+        left: each,
     });
     let is_written = write_step(&mut out, PrintedStep::Write("b")).is_ok();
-    is_written && out.into_inner().held.as_slice() == b"write b\n".as_slice()
+    let is_flushed = out.flush().is_ok();
+    is_written && is_flushed && out.into_inner().held.as_slice() == b"write b\n".as_slice()
 }
 
 #[test]
 fn goes_on_after_interruptions(rt: HostRuntime) {
-    assert!(rt; holds_a_line(rt.alloc()));
+    for each in [1, 3, 10] {
+        assert!(rt; holds_a_line(rt.alloc(), each));
+    }
+}
+
+// A printer over a writer that holds bytes back, in front of one that takes so many.
+fn holding_back(
+    alloc: Global,
+    left: usize,
+    fails: bool,
+) -> io::Result<Printer<BufWriter<Stopping, Global>>> {
+    let stopping = Stopping {
+        held: Vec::new(alloc),
+        left,
+        fails,
+    };
+    Ok(Printer::new(BufWriter::new(alloc, stopping)?))
+}
+
+// Whether a line of eight bytes is written, and whether it is flushed then.
+fn is_passed_on(alloc: Global, left: usize, fails: bool) -> io::Result<(bool, bool)> {
+    let mut out = holding_back(alloc, left, fails)?;
+    let is_written = write_step(&mut out, PrintedStep::Write("b")).is_ok();
+    Ok((is_written, out.flush().is_ok()))
+}
+
+#[test]
+fn flushes_what_is_held_back(rt: HostRuntime) {
+    for (left, fails, is_flushed) in [(8, true, true), (5, true, false), (5, false, false)] {
+        let passed = is_passed_on(rt.alloc(), left, fails);
+        assert!(rt; matches!(&passed, Ok((true, flushed)) if *flushed == is_flushed));
+    }
 }
 
 // What one of the calls writes.

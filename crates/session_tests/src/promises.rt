@@ -1,5 +1,5 @@
-//! The calls whose contracts say what a session comes to: a repair gives a damaged file back, and actions are taken
-//! back at once. As in `calls`, each stands in a function that promises nothing.
+//! What a session comes to: a repair gives a damaged file back, and as many undos as actions were accepted give the folder
+//! back.
 use crate::calls;
 use crate::fixtures::{A, Trouble, args_of, folder_of};
 use crate::session::{Task, action_of, file_in, stands};
@@ -11,13 +11,15 @@ const INDEX: &str = "t.par2";
 
 const VOLUME: &str = "t.vol00000+00001.par2";
 
-fn repaired(session: &mut Session) -> bool {
-    par2_sessions::repair(session, INDEX, &[], false).is_ok()
-}
-
 // How many of the actions were accepted and taken back.
 fn taken_back(session: &mut Session, actions: &[Action]) -> usize {
-    par2_sessions::play_and_take_back(session, actions)
+    let accepted = calls::play(session, actions);
+    for _ in 0..accepted {
+        if !calls::undo(session) {
+            return 0;
+        }
+    }
+    accepted
 }
 
 // A session on the file `a`, for which one recovery slice was created.
@@ -47,7 +49,7 @@ fn damaged(alloc: Global, session: &Session) -> Result<Session, Trouble> {
 fn is_given_back(alloc: Global) -> Result<bool, Trouble> {
     let before = protected(alloc)?;
     let mut session = damaged(alloc, &before)?;
-    Ok(repaired(&mut session) && file_in(&session, "a") == Some(b"abcdefgh"))
+    Ok(calls::repair(&mut session, false).is_ok() && file_in(&session, "a") == Some(b"abcdefgh"))
 }
 
 #[test]
@@ -71,7 +73,7 @@ fn actions_of(alloc: Global, tasks: &[Task]) -> Result<Vec<Action>, AllocError> 
     Ok(actions)
 }
 
-// Whether the creates are taken back at once: both indexes are gone, and can come again.
+// Whether the creates are taken back: both indexes are gone, and can come again.
 fn are_taken_back(alloc: Global) -> Result<bool, Trouble> {
     let actions = actions_of(alloc, CREATES)?;
     let mut session = Session::new(alloc, folder_of(alloc, A)?);
@@ -80,7 +82,7 @@ fn are_taken_back(alloc: Global) -> Result<bool, Trouble> {
 }
 
 #[test]
-fn creates_are_taken_back_at_once(rt: HostRuntime) -> Result<(), Fail> {
+fn creates_are_taken_back(rt: HostRuntime) -> Result<(), Fail> {
     assert!(rt; are_taken_back(rt.alloc())?);
     Ok(())
 }

@@ -3,8 +3,10 @@
 use crate::fixtures::args_of;
 use crate::printing::is_told;
 use par2_arguments::WordsFault;
+use par2_folder::{BadName, ChangeFault, ReadFault, StoreFault};
 use par2_journal::{JournalFault, NothingToRedo, NothingToUndo, SessionFault};
 use par2_journal_format::DecodeFault;
+use par2_output::WriteFault;
 use par2_recovery::{RebuildFault, RecordFault};
 use par2_spec::{Action, Command, Failure, Fault};
 use par2_tool::{OpenFault, PerformFault};
@@ -163,5 +165,35 @@ fn faults_of_recovery(rt: HostRuntime) -> Result<(), Fail> {
             "{fault}"
         );
     }
+    Ok(())
+}
+
+// Whether a fault that the program prints nowhere shows this text.
+fn is_shown_as<F: Display + Drop>(alloc: Global, fault: F, text: &str) -> Result<bool, AllocError> {
+    Ok(format!(in alloc; "{fault}")?.as_str() == text)
+}
+
+const CHANGE_FAULTS: &[(ChangeFault, &str)] = &[
+    (ChangeFault::NameTaken, "a file has that name"),
+    (ChangeFault::NoRoom, "no place is vacant"),
+    (ChangeFault::NoSuchName, "no file has that name"),
+];
+
+const READ_FAULTS: &[(ReadFault, &str)] = &[
+    (ReadFault::Store, "the folder could not be read"),
+    (ReadFault::Memory, "out of memory"),
+];
+
+#[test]
+fn faults_of_folders_and_writers(rt: HostRuntime) -> Result<(), Fail> {
+    for (fault, text) in CHANGE_FAULTS {
+        assert!(rt; is_shown_as(rt.alloc(), *fault, text)?, "{text}");
+    }
+    for (fault, text) in READ_FAULTS {
+        assert!(rt; is_shown_as(rt.alloc(), *fault, text)?, "{text}");
+    }
+    assert!(rt; is_shown_as(rt.alloc(), StoreFault, "the folder could not be written")?);
+    assert!(rt; is_shown_as(rt.alloc(), WriteFault, "a text could not be written")?);
+    assert!(rt; is_shown_as(rt.alloc(), BadName, "the text is no name of a file")?);
     Ok(())
 }

@@ -1,4 +1,4 @@
-use Rattle.par2_create.proofs.Common.{create_changes, CreateArgs, files_of, flat_map, IfOk, head_fault, inputs_fault, ◌≡◌, List, ◌∙◌, ◌≤◌, ◌%◌, length, map, sym, ap, ap₂, subst, string_bytes, length-map, Folder, packet, index_packets, main_id, record_of, in_id_order, all_slices, create_args_of, file_record_of, FileRecord, HaveExponents, RecordsInputs, None}
+use Rattle.par2_create.proofs.Common.{create_changes, CreateArgs, files_of, flat_map, IfOk, head_fault, inputs_fault, ◌≡◌, List, ◌∙◌, ◌≤◌, ◌%◌, ◌^◌, length, map, sym, ap, ap₂, subst, string_bytes, length-map, Folder, packet, index_packets, main_id, record_of, in_id_order, all_slices, create_args_of, file_record_of, FileRecord, HaveExponents, RecordsInputs, None}
 use Rattle.md5.proofs.StandardFacts.{length-md5}
 use Rattle.par2_create.specs.Records.{names_of}
 use Rattle.par2_create.specs.declared.records.RecoverySet.{RecoverySet}
@@ -32,6 +32,7 @@ changes_of-requires-clause-parts c =
       sixteen = ap length c.main_id.ensures ∙ length-md5 _;
       positive = subst (λ n. 1 ≤ n) (sym slice) head.positive;
       fours = subst (λ n. n % 4 ≡ 0) (sym slice) head.fours;
+      small = subst (λ n. n ≤ 2 ^ 30) (sym slice) head.small;
       few = subst (λ n. n ≤ 32768) (sym (ap₂ (λ n files. length (all_slices n files)) slice c.requires.set.order)) (few_slices folder s inputs are);
     }
 

@@ -1,14 +1,22 @@
-use Rattle.par2_journal.proofs.Common.{◌≡◌, ◌≤◌, length, get_or, sym, ap, arith, places_taken}
-use Rattle.par2_journal.proofs.Readiness.{places_within}
-use Rattle.par2_journal.proofs.SessionEntries.{count_more}
+use Rattle.std.proofs.Common.{ap₂}
+use Rattle.par2_journal.proofs.Common.{◌+◌, take_all, length, sym, ap, ◌∙◌, arith}
+use Rattle.par2_journal_format.specs.Untested.{change_count}
+use Rattle.std.proofs.lemmas.List.Sums.{sum_by_more, sum_by_more_le}
 use Rattle.par2_journal.proofs.opening.change_count.Goals as goal
 
 pub loop-entry-preserved : goal.loop-entry-preserved
 loop-entry-preserved c =
     let entry = c.entry-item.result in
     let i = c.loop-entry.entry-index in
-    let few : places_taken entry ≤ length entry = places_within entry in
-    let same : places_taken (get_or c.args.entries.now i entry) ≡ places_taken entry = ap places_taken (sym c.entry-item.is) in
-    let one : places_taken (get_or c.args.entries.now i entry) ≤ c.len.result = omega (arith, few, same, c.len.ensures) in
-    let more = count_more c.args.entries.now i entry c.loop-entry.count c.len.result c.loop-entry-test.true c.loop-entry.invariant one in
-    omega (arith, more, c.in_ok-count.ensures)
+    ap₂ (λ n k. n + k) c.loop-entry.invariant (c.len-count.ensures ∙ ap length c.entry-item.is)
+    ∙ sym (sum_by_more length c.args.entries.now i entry c.loop-entry-test.true)
+
+pub overflow_add-count : goal.overflow_add-count
+overflow_add-count c =
+    let entry = c.entry-item.result in
+    let i = c.loop-entry.entry-index in
+    let one = c.len-count.ensures ∙ ap length c.entry-item.is in
+    omega (arith, one, c.loop-entry.invariant, sum_by_more_le length c.args.entries.now i entry c.loop-entry-test.true, c.requires)
+
+pub returns : goal.returns
+returns c = c.loop-entry.invariant ∙ ap change_count (take_all c.loop-entry.entry-index c.args.entries.now c.loop-entry-test.false)

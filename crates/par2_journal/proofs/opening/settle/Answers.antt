@@ -1,5 +1,6 @@
-use Rattle.par2_journal.proofs.Common.{◌≡◌, ◌≤◌, take, drop, sym, subst, arith, IfOk, reverse, sum_by, is_valid, leads, session_at, and_parts, places_taken, leading_walks}
-use Rattle.par2_journal.proofs.SessionEntries.{places_before, places_behind}
+use Rattle.par2_journal.proofs.Common.{◌≡◌, ◌≤◌, take, drop, sym, subst, arith, IfOk, reverse, is_valid, leads, session_at, and_parts, leading_walks}
+use Rattle.par2_journal.proofs.SessionEntries.{places_before, places_behind, places_counted}
+use Rattle.par2_journal_format.specs.Untested.{change_count}
 use Rattle.par2_journal.proofs.opening.settle.Goals as goal
 
 pub returns-clause-walks : goal.returns-clause-walks
@@ -7,8 +8,8 @@ returns-clause-walks c valid =
     let entries = c.args.entries.now in
     let n = c.args.cursor in
     let folder = c.reserve.new.self in
-    let few : sum_by places_taken entries ≤ c.in-Some.count = c.in-Some.ensures in
-    let room : c.in-Some.count ≤ folder.vacant = omega (arith, c.in_ok-reserve.ensures.ok) in
+    let few = places_counted entries in
+    let room : change_count entries ≤ folder.vacant = omega (arith, c.change_count.ensures, c.in_ok-reserve.ensures.ok) in
     let both = and_parts (leads folder.files (reverse (take n entries))) (leads folder.files (drop n entries)) (sym (subst (λ r. IfOk r (λ x. x ≡ is_valid (session_at folder.files n entries))) valid c.are_valid.ensures)) in
     record {
       back = leading_walks folder (reverse (take n entries)) both.0 (omega (arith, few, room, places_before entries n));

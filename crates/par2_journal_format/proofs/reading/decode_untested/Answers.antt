@@ -17,10 +17,11 @@ pub returns-clause-found : goal.returns-clause-found
 returns-clause-found c =
     let split = c.in_ok-body.ensures in
     let fits = all_from (λ b. b < 256) 0 c.args.bytes.now (λ i low. omega (arith, c.type_inv.bytes i)) in
-    let all = untested c.args.bytes.now c.in_ok-body.body.now c.in_ok-body.digest.now split.long split.body split.digest (journal_of c.in_ok-journal.journal) fits c.in_ok-journal.ensures in
+    let all = untested c.args.bytes.now c.in_ok-body.body.now c.in_ok-body.digest.now split.long split.body split.digest (journal_of c.in_ok-journal.journal) fits split.fits c.in_ok-journal.ensures in
     record {
       journal = all.0;
       sealed = sealed c.args.bytes.now c.in_ok-body.body.now c.in_ok-body.digest.now split.long split.body split.digest;
-      right = all.1;
+      counted = all.1;
+      right = all.2;
       only = spells_sealed c.args.bytes.now;
     }

@@ -1,32 +1,16 @@
-use Rattle.par2_repair.proofs.Common.{◌≡◌, List, map, string_bytes, IsTrue, Change, effects, are_applicable, Repair, changes_of, AreFewFor, refusal, after, RepairFailed, HasItsMd5s, WritesAsDescribed, passed, not_passed, None}
+use Rattle.par2_repair.proofs.Common.{map, string_bytes, effects}
+use Rattle.par2_laws.specs.Answers.{AnswersRepair, leaving}
+use Rattle.par2_laws.proofs.RepairAnswers.{answers}
 use Rattle.par2_repair.proofs.repair.plan_repair.Goals as goal
 
-pub returns-clause-refused : goal.returns-clause-refused
-returns-clause-refused c =
-    not_passed (HasItsMd5s c.in_ok-draft.draft) c.tested.result (refusal c.args.folder.now.files (Repair c.args.base.now (map string_bytes c.args.extras.now) c.args.purge)) RepairFailed c.tested.ensures.refused c.tested.ensures.wrong c.in_ok-draft.ensures.draft.failed
+-- the changes lead as the definitions say, or the refusal is theirs
+as_defined : (c : goal.After-tested_changes) → AnswersRepair c.args.folder.now.files c.args.base.now (map string_bytes c.args.extras.now) c.args.purge (leaving (effects c.args.folder.now.files) c.tested_changes.result)
+as_defined c =
+    let planned = c.tested_changes.ensures in
+    answers c.args.folder.now.files c.args.base.now (map string_bytes c.args.extras.now) c.args.purge (effects c.args.folder.now.files) c.tested_changes.result planned.accepted planned.leads planned.refused
 
-pub returns-clause-accepted : goal.returns-clause-accepted
-returns-clause-accepted c =
-    passed (HasItsMd5s c.in_ok-draft.draft) (λ _. refusal c.args.folder.now.files (Repair c.args.base.now (map string_bytes c.args.extras.now) c.args.purge) ≡ None) c.tested.result c.in_ok-draft.draft.changes c.tested.ensures.changes c.tested.ensures.right c.in_ok-draft.ensures.draft.accepted
+pub returns-clause-restores : goal.returns-clause-restores
+returns-clause-restores c = c.repair_restores_the_files.ensures _ _ _ c.args.purge _ (as_defined c)
 
-pub returns-clause-changes : goal.returns-clause-changes
-returns-clause-changes c =
-    passed (HasItsMd5s c.in_ok-draft.draft) (λ changes. changes ≡ changes_of c.args.folder.now.files (Repair c.args.base.now (map string_bytes c.args.extras.now) c.args.purge)) c.tested.result c.in_ok-draft.draft.changes c.tested.ensures.changes c.tested.ensures.right
-    (λ has. c.in_ok-draft.ensures.draft.changes)
-
-pub returns-clause-applies : goal.returns-clause-applies
-returns-clause-applies c =
-    passed (HasItsMd5s c.in_ok-draft.draft) (λ (changes : List Change). IsTrue (are_applicable c.args.folder.now.files changes)) c.tested.result c.in_ok-draft.draft.changes c.tested.ensures.changes c.tested.ensures.right (λ has. c.in_ok-draft.ensures.draft.applies)
-
-pub returns-clause-leads : goal.returns-clause-leads
-returns-clause-leads c =
-    passed (HasItsMd5s c.in_ok-draft.draft) (λ (changes : List Change). effects c.args.folder.now.files changes ≡ after c.args.folder.now.files (Repair c.args.base.now (map string_bytes c.args.extras.now) c.args.purge)) c.tested.result c.in_ok-draft.draft.changes c.tested.ensures.changes
-    c.tested.ensures.right (λ has. c.in_ok-draft.ensures.draft.leads)
-
-pub returns-clause-written : goal.returns-clause-written
-returns-clause-written c =
-    passed (HasItsMd5s c.in_ok-draft.draft) (λ _. WritesAsDescribed c.args.folder.now.files c.args.base.now (map string_bytes c.args.extras.now)) c.tested.result c.in_ok-draft.draft.changes c.tested.ensures.changes c.tested.ensures.right c.in_ok-draft.ensures.draft.written
-
-pub returns-clause-few : goal.returns-clause-few
-returns-clause-few c =
-    passed (HasItsMd5s c.in_ok-draft.draft) (λ _. AreFewFor c.args.folder.now.files (Repair c.args.base.now (map string_bytes c.args.extras.now) c.args.purge)) c.tested.result c.in_ok-draft.draft.changes c.tested.ensures.changes c.tested.ensures.right (λ has. c.in_ok-draft.ensures.draft.few)
+pub returns-clause-inputs : goal.returns-clause-inputs
+returns-clause-inputs c = c.repair_restores_the_inputs.ensures _ _ _ c.args.purge _ (as_defined c)

@@ -14,7 +14,7 @@ returns-in-Some c =
 
 pub returns-in-None : goal.returns-in-None
 returns-in-None c = record {
-  rank = c.rank_by_elimination.ensures;
-  most = IfOk-weaker c.rank_by_elimination.result _ _ (λ n same. rw same (rank-le c.args.lost.now c.args.exponents.now c.requires.exponents)) c.rank_by_elimination.ensures;
-  full = IfOk-weaker c.rank_by_elimination.result _ _ (λ n same. rw same (full-iff c.args.lost.now c.args.exponents.now c.requires.exponents)) c.rank_by_elimination.ensures;
+  rank = c.rank_by_equations.ensures;
+  most = IfOk-weaker c.rank_by_equations.result _ _ (λ n same. rw same (rank-le c.args.lost.now c.args.exponents.now c.requires.exponents)) c.rank_by_equations.ensures;
+  full = IfOk-weaker c.rank_by_equations.result _ _ (λ n same. rw same (full-iff c.args.lost.now c.args.exponents.now c.requires.exponents)) c.rank_by_equations.ensures;
 }

@@ -1,13 +1,7 @@
-use Rattle.par2_solve.proofs.Common.{IfOk-weaker, ◌≡◌, ◌<◌, ◌∷◌, [], ◌∙◌, ℕ, List, refl, ap, ap₂, arith, length, map, length-map, product-one, pow, constant, coefficient, coefficients, lists_of, constant-lt}
-use Rattle.par2_solve.proofs.RunInverses.{at_itself, is_inverse}
+use Rattle.par2_solve.proofs.Common.{IfOk-weaker, ◌≡◌, ◌<◌, ◌∙◌, ap, arith, length, map, length-map, constant, lists_of}
+use Rattle.par2_solve.proofs.RunInverses.{first_powers, at_itself, is_inverse}
 use Rattle.par2_solve.proofs.run_inverse.run_inverse.Goals.{After-as_slice-points}
 use Rattle.par2_solve.proofs.run_inverse.run_inverse.Goals as goal
-
--- the coefficients at exponent 1 are the constants
-first_powers : (slices : List ℕ) → coefficients slices 1 ≡ map constant slices
-unfolding coefficient pow
-first_powers [] = refl
-first_powers (k ∷ slices) = ap₂ (λ (c : ℕ) cs. c ∷ cs) (product-one (constant k) (constant-lt k)) (first_powers slices)
 
 points_are : (c : After-as_slice-points) → c.as_slice-points.result.now ≡ map constant c.args.lost.now
 points_are c = c.as_slice-points.ensures.value ∙ c.in_ok-constants.ensures ∙ first_powers c.args.lost.now

@@ -1,4 +1,5 @@
-use Rattle.par2_solve.proofs.Common.{◌≡◌, refl, sym, arith, rules, length, with_items_is, lists_of, length-lists_of, texts_of}
+use Rattle.par2_solve.proofs.Common.{◌≡◌, refl, arith, rules, length, with_items_is, lists_of, length-lists_of, texts_of}
+use Rattle.par2_solve.specs.Solvers.{rows_of}
 use Rattle.par2_solve.proofs.Solving.{none_solved, more_solved}
 use Rattle.par2_solve.proofs.syndromes.solved.Goals as goal
 
@@ -6,7 +7,7 @@ pub loop-from-preserved : goal.loop-from-preserved
 loop-from-preserved c =
     let from = c.loop-from.from in
     let n = c.min-count.result in
-    let inverse = lists_of c.args.inverse.now in
+    let inverse = rows_of c.args.inverse.now in
     let exponents = c.args.exponents.now in
     let slices = texts_of c.args.slices.now in
     let recovery = texts_of c.args.recovery.now in
@@ -24,8 +25,8 @@ loop-from-preserved c =
 
 pub loop-from-init : goal.loop-from-init
 loop-from-init c = record {
-  solved = none_solved (length c.args.inverse.now) c.args.exponents.now (lists_of c.args.inverse.now) (texts_of c.args.slices.now) (texts_of c.args.recovery.now) (lists_of c.in_ok-texts.texts.items)
-      (sym (length-lists_of c.args.inverse.now)) c.in_ok-texts.ensures;
+  solved = none_solved c.len.result c.args.exponents.now (rows_of c.args.inverse.now) (texts_of c.args.slices.now) (texts_of c.args.recovery.now) (lists_of c.in_ok-texts.texts.items)
+      c.len.ensures c.in_ok-texts.ensures;
   even = refl;
   within = omega arith;
 }

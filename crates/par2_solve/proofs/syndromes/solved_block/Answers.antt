@@ -1,4 +1,5 @@
-use Rattle.par2_solve.proofs.Common.{◌≡◌, ◌<◌, ◌∙◌, ℕ, sym, ap, arith, length, map, IfOk-weaker, list_at, lists_of, window, AreProducts, AreSolved, texts_of}
+use Rattle.par2_solve.proofs.Common.{◌≡◌, ◌<◌, ◌∙◌, ℕ, sym, ap, subst, arith, length, map, IfOk-weaker, list_at, lists_of, window, AreProducts, AreSolved, texts_of}
+use Rattle.par2_solve.specs.Solvers.{TakesSources, rows_of}
 use Rattle.par2_solve.proofs.Combinations.{length-texts_of}
 use Rattle.par2_solve.proofs.Solving.{many_windows, window_size, words_solved}
 use Rattle.par2_solve.proofs.syndromes.solved_block.Goals.{After-deref-2}
@@ -23,22 +24,23 @@ with_recovery_slices-requires-clause-size c = λ j h. let size = sizes c j h in 
 pub with_recovery_slices-requires-clause-count : goal.with_recovery_slices-requires-clause-count
 with_recovery_slices-requires-clause-count c = c.requires.exponents ∙ sym (many (goal.at.with_recovery_slices-requires-clause-count c).After-deref-2)
 
-pub products_of-requires-clause-factors : goal.products_of-requires-clause-factors
-products_of-requires-clause-factors c =
+pub products-requires-clause-sources : goal.products-requires-clause-sources
+products-requires-clause-sources c =
     let sources = ap texts_of c.deref-4.ensures.value ∙ c.in_ok-sources.ensures ∙ ap lists_of c.deref-3.ensures.value in
-    rw (sym (length-texts_of c.deref-4.result.now) ∙ ap length sources ∙ c.in_ok-syndromes.ensures.count ∙ length-texts_of c.deref-2.result.now ∙ many (goal.at.products_of-requires-clause-factors c).After-deref-2) c.requires.inverse
+    let count = sym (length-texts_of c.deref-4.result.now) ∙ ap length sources ∙ c.in_ok-syndromes.ensures.count ∙ length-texts_of c.deref-2.result.now ∙ many (goal.at.products-requires-clause-sources c).After-deref-2 in
+    subst (λ n. TakesSources n c.args.inverse.now) (sym count) c.requires.inverse
 
 pub returns : goal.returns
 returns c =
     let at = (goal.at.returns c).After-deref-2 in
     let n = c.args.count in
-    let inverse = lists_of c.args.inverse.now in
+    let inverse = rows_of c.args.inverse.now in
     let exponents = c.args.exponents.now in
     let recovery = map (window c.args.from n) (texts_of c.args.recovery.now) in
     let sources = ap texts_of c.deref-4.ensures.value ∙ c.in_ok-sources.ensures ∙ ap lists_of c.deref-3.ensures.value in
-    IfOk-weaker c.products_of.result (λ texts. AreProducts n inverse (texts_of c.deref-4.result.now) (lists_of texts.items))
+    IfOk-weaker c.products.result (λ texts. AreProducts n inverse (texts_of c.deref-4.result.now) (lists_of texts.items))
     (λ texts. AreSolved n inverse exponents (map (window c.args.from n) (texts_of c.args.slices.now)) recovery (lists_of texts.items))
     (λ texts sums.
     rw (← slices_are at, ← recovery_are at)
     (words_solved n inverse (texts_of c.deref.result.now) (texts_of c.deref-2.result.now) (lists_of c.in_ok-syndromes.syndromes.items) (lists_of texts.items) exponents (sizes at) c.in_ok-syndromes.ensures (rw sources at sums)))
-    c.products_of.ensures
+    c.products.ensures

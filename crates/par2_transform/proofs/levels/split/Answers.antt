@@ -1,4 +1,4 @@
-use Rattle.par2_transform.proofs.Common.{suc, ◌+◌, ◌*◌, ◌%◌, ◌^◌, ◌≡◌, ap, ◌∙◌, arith, point, IsSplit, OnElements, OneRun, RunAdded, IsDivided}
+use Rattle.par2_transform.proofs.Common.{suc, ◌+◌, ◌*◌, ◌%◌, ◌^◌, ◌≡◌, refl, ap, ◌∙◌, arith, IsSplit, OnElements, OneRun, RunAdded, IsDivided}
 use Rattle.par2_transform.proofs.StepLaws.{rows_within, shifted, pair_places, run_starts, run_at}
 use Rattle.par2_transform.proofs.Divisions.{split_runs, divided_at}
 use Rattle.par2_transform.proofs.GridLaws.{each_then}
@@ -12,10 +12,10 @@ returns c =
     let half : shift ≡ 2 ^ i = shifted i (omega arith) in
     let start = q * 2 ^ suc i in
     let is : q * 2 * shift ≡ start = ap (λ n. q * 2 * n) half ∙ run_starts i q in
-    each_then (IsDivided i c.point.result (q * 2 * shift)) (RunAdded (q * 2 * shift) (q * 2 * shift + shift) shift) (OnElements (OneRun start (2 ^ suc i) (IsSplit i (point (2 * q))))) c.args.rows.now c.divide.new.rows c.add_rows.new.self
+    each_then (IsDivided i c.args.c (q * 2 * shift)) (RunAdded (q * 2 * shift) (q * 2 * shift + shift) shift) (OnElements (OneRun start (2 ^ suc i) (IsSplit i c.args.c))) c.args.rows.now c.divide.new.rows c.add_rows.new.self
     c.divide.ensures c.add_rows.ensures
-    (λ f g h first second. split_runs i (point (2 * q)) start f g h
-    (divided_at i c.point.result (point (2 * q)) (q * 2 * shift) start f g c.point.ensures is first)
+    (λ f g h first second. split_runs i c.args.c start f g h
+    (divided_at i c.args.c c.args.c (q * 2 * shift) start f g refl is first)
     (run_at (q * 2 * shift) start (q * 2 * shift + shift) (start + 2 ^ i) shift (2 ^ i) g h is (omega arith) half second))
 
 pub divide-requires-clause-fits : goal.divide-requires-clause-fits

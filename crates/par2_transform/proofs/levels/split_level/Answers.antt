@@ -1,4 +1,4 @@
-use Rattle.par2_transform.proofs.Common.{ℕ, suc, ◌+◌, ◌*◌, ◌^◌, ◌-◌, ◌<◌, ◌≡◌, sym, subst, rules, point, IsSplit, OnElements, OneRun, FirstRuns}
+use Rattle.par2_transform.proofs.Common.{ℕ, suc, ◌+◌, ◌*◌, ◌^◌, ◌-◌, ◌<◌, ◌≡◌, sym, subst, rules, point, EachColumn, IsSplit, OnElements, OneRun, FirstRuns}
 use Rattle.par2_transform.proofs.StepLaws.{runs_start, runs_next}
 use Rattle.par2_transform.proofs.Divisions.{split_of_first}
 use Rattle.par2_transform.proofs.GridLaws.{each_start, each_then}
@@ -15,7 +15,7 @@ loop-q-preserved c =
     let i = c.args.i in
     let size : ℕ = 2 ^ suc i in
     let split = λ (q : ℕ). IsSplit i (point (2 * q)) in
-    each_then (OnElements (FirstRuns size split l.q)) (OnElements (OneRun (l.q * size) size (split l.q))) (OnElements (FirstRuns size split (l.q + 1))) c.args.rows.now l.rows c.split.new.rows l.invariant c.split.ensures
+    each_then (OnElements (FirstRuns size split l.q)) (OnElements (OneRun (l.q * size) size (split l.q))) (OnElements (FirstRuns size split (l.q + 1))) c.args.rows.now l.rows c.split.new.rows l.invariant (subst (λ v. EachColumn (OnElements (OneRun (l.q * size) size (IsSplit i v))) l.rows c.split.new.rows) c.point.ensures c.split.ensures)
     (λ f g h first second fit.
     let one = first fit in
     let two = second one.0 in

@@ -1,4 +1,6 @@
 use Rattle.par2_journal.proofs.Common.{◌≡◌, ◌+◌, map, sym, subst, arith, action_of, Run, Ended, session_of_kept, history_of, run_leaves}
+use Rattle.par2_spec.proofs.SessionLaws.{walked_is_valid}
+use Rattle.par2_journal.proofs.Undos.{give_back}
 use Rattle.par2_journal.proofs.Actions.{none_left, on_accepted, on_refused}
 use Rattle.par2_journal.proofs.session.Session.play.Goals.{then-act, else-act}
 use Rattle.par2_journal.proofs.session.Session.play.Goals as goal
@@ -38,3 +40,7 @@ returns-clause-run c =
 pub returns-clause-undos : goal.returns-clause-undos
 returns-clause-undos c changing =
     run_leaves (history_of (session_of_kept c.args.self.now)) (history_of (session_of_kept c.loop-action.self)) (map action_of c.args.actions.now) c.loop-action.accepted (returns-clause-run c) changing
+
+pub returns-clause-back : goal.returns-clause-back
+returns-clause-back c changing =
+    give_back c.loop-action.accepted c.args.self.now c.loop-action.self (walked_is_valid c.loop-action.self c.folder-folder.ensures.walks) (returns-clause-undos c changing)

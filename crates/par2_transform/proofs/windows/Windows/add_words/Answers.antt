@@ -1,15 +1,7 @@
-use Rattle.par2_transform.proofs.Common.{rules, ◌≡◌, ℕ, ◌+◌, ◌-◌, ◌*◌, ◌^◌, ◌<◌, ◌≤◌, ◌∙◌, refl, sym, ap, subst, arith, length, min, List, div_ceil, div_ceil_times, with_items_is, lists_of, slice_begins, Outputs, AreBlocks, cut_of}
+use Rattle.par2_transform.proofs.Common.{rules, ◌≡◌, ◌+◌, ◌-◌, ◌*◌, ◌^◌, ◌≤◌, ◌∙◌, refl, sym, ap, subst, arith, length, min, List, div_ceil, div_ceil_times, with_items_is, lists_of, Outputs, AreBlocks, cut_of}
 use Rattle.par2_transform.proofs.AddingLaws.{still_within}
-use Rattle.par2_transform.proofs.ColumnLaws.{ColumnsAdded, no_column, next_column, all_columns}
+use Rattle.par2_transform.proofs.ColumnLaws.{begins, ends, ColumnsAdded, no_column, next_column, all_columns}
 use Rattle.par2_transform.proofs.windows.Windows.add_words.Goals as goal
-
--- a run of columns begins before the words end
-begins : (words columns k n : ℕ) → 1 ≤ columns → n ≡ div_ceil words columns → k < n → k * columns < words
-begins words columns k n some is low = slice_begins words columns k (omega (arith, some)) (subst (λ m. k < m) is low)
-
--- and ends no later than they do
-ends : (words from columns m : ℕ) → from < words → m ≡ min columns (words - from) → from + m ≤ words
-ends words from columns m low is = omega (arith, low, is)
 
 pub overflow_mul-from : goal.overflow_mul-from
 overflow_mul-from c =

@@ -1,0 +1,170 @@
+-- The rows that a locator gives are the scaled quotients.
+use Rattle.par2_solve.proofs.Common.{Vec, Global, lists_of, length-lists_of, ℕ, zero, suc, ◌+◌, ◌-◌, ◌*◌, ◌^◌, ◌<◌, ◌≤◌, ◌≡◌, refl, sym, ap, ap₂, ◌∙◌, subst, arith, List, [], ◌∷◌, ◌++◌, inl, inr, cases_lt, length-append, get_or_append_left, get_or_at, length, get_or, drop, map, bit_xor, range_with_len, get_or-drop, length-drop, get_or-map, length-map, ext_get_or, get_or-map-range_with_len, length-map-range_with_len, mul, pow, field_sum, field_sum_head, field_sum_none, field_sum_same, field_sum_scaled, zero-product, product-one, product_assoc, product_comm, power-lt, all_at, all_from, list_at, times, value, with_roots, quotient, length-quotient, length-with_roots, with_roots_elements, AreSlices, constant, constant-lt, IsInverse, AreProducts, products, word, AreBlank, AddsToEach, xor_zero_l, length-replicate}
+use Rattle.par2_solve.specs.Solvers.{AreFactors}
+use Rattle.par2_solve.specs.Located.{quotient_rows}
+use Rattle.par2_spec.specs.Polynomials.{AreElements}
+use Rattle.par2_transform.specs.Evaluations as evaluations
+use Rattle.par2_transform.specs.Locators.{quotient_coefficient, quotient_sum}
+use Rattle.par2_transform.specs.Columns.{words_at}
+use Rattle.par2_solve.proofs.Combinations.{blank_word}
+use Rattle.par2_solve.proofs.Quotients.{quotient_at}
+use Rattle.par2_solve.proofs.RunInverses.{constants-lt, constant_at, is_inverse, scaled_is}
+
+-- a value by Horner's rule is the sum of the coefficients, each times its power
+pub value_is_sum : (z : ℕ) (xs : List ℕ) (m : ℕ) → AreElements xs → z < 2 ^ 16 → length xs ≤ m → value xs z ≡ field_sum m (λ t. mul (get_or xs t 0) (pow z t))
+unfolding value pow
+value_is_sum z [] m h hz fits = sym (field_sum_none m (λ t. mul (get_or [] t 0) (pow z t)) (λ t _. zero-product (pow z t)))
+value_is_sum z (c ∷ xs) zero h hz fits = absurd (omega (arith, fits))
+value_is_sum z (c ∷ xs) (suc m) h hz fits =
+    ap₂ bit_xor (sym (product-one c h.0))
+    (ap (mul z) (value_is_sum z xs m h.1 hz (omega (arith, fits)))
+    ∙ sym (field_sum_scaled m z (λ t. mul (get_or xs t 0) (pow z t)))
+    ∙ field_sum_same m (λ t. mul z (mul (get_or xs t 0) (pow z t))) (λ t. mul (get_or xs t 0) (mul z (pow z t))) (λ t _. turn (get_or xs t 0) (pow z t) (all_at (λ x. x < 65536) 0 (omega arith) xs h.1 t) (power-lt z t hz)))
+    ∙ sym (field_sum_head m (λ t. mul (get_or (c ∷ xs) t 0) (pow z t)))
+  where
+    turn : (a p : ℕ) → a < 65536 → p < 65536 → mul z (mul a p) ≡ mul a (mul z p)
+    turn a p ha hp = sym (product_assoc z a p hz ha hp) ∙ ap (λ v. mul v p) (product_comm z a hz ha) ∙ product_assoc a z p ha hz hp
+
+elements_drop : (n : ℕ) (p : List ℕ) → AreElements p → AreElements (drop n p)
+elements_drop n p h = all_from (λ c. c < 2 ^ 16) 0 (drop n p) (λ i _. subst (λ x. x < 65536) (sym (get_or-drop n p i 0)) (all_at (λ x. x < 65536) 0 (omega arith) p h (n + i)))
+
+-- a coefficient of the quotient, by the coefficients from 1 on
+pub coefficient_is : (c s : ℕ) (p : List ℕ) → AreElements p → c < 2 ^ 16
+    → evaluations.value (length (drop 1 p)) (evaluations.from s (λ i. get_or (drop 1 p) i 0)) c ≡ get_or (quotient c p) s 0
+coefficient_is c s p h hc =
+    let rest : length (drop 1 p) ≡ length p - 1 = length-drop 1 p in
+    let some : length (drop (suc s) p) ≡ length p - suc s = length-drop (suc s) p in
+    sym (quotient_at c p s
+    ∙ value_is_sum c (drop (suc s) p) (length (drop 1 p)) (elements_drop (suc s) p h) hc (omega (arith, rest, some))
+    ∙ field_sum_same (length (drop 1 p)) (λ t. mul (get_or (drop (suc s) p) t 0) (pow c t)) (λ t. mul (get_or (drop 1 p) (s + t) 0) (pow c t))
+    (λ t _. ap (λ x. mul x (pow c t))
+    (get_or-drop (suc s) p t 0 ∙ ap (λ i. get_or p i 0) (let e : suc s + t ≡ 1 + (s + t) = omega arith in e) ∙ sym (get_or-drop 1 p (s + t) 0))))
+
+-- the row of a point
+pub row_is : (points factors p : List ℕ) (j : ℕ) → AreElements p → j < length points → get_or points j 0 < 2 ^ 16
+    → list_at (quotient_rows (drop 1 p) points factors) j ≡ times (get_or factors j 0) (quotient (get_or points j 0) p)
+row_is points factors p j h low hc =
+    get_or-map-range_with_len (λ i. map (quotient_coefficient (drop 1 p) points factors i) (range_with_len 0 n)) 0 (length points) j j [] low (omega arith)
+    ∙ ext_get_or 0 (map (quotient_coefficient (drop 1 p) points factors j) (range_with_len 0 n)) (times b (quotient c p)) (long ∙ sym size)
+    (λ s here.
+    get_or-map-range_with_len (quotient_coefficient (drop 1 p) points factors j) 0 n s s 0 (omega (arith, here, long)) (omega arith)
+    ∙ ap (mul b) (coefficient_is c s p h hc)
+    ∙ sym (get_or-map (mul b) (quotient c p) s 0 0 (omega (arith, here, long, quotient_long))))
+  where
+    n : ℕ
+    n = length (drop 1 p)
+
+    b : ℕ
+    b = get_or factors j 0
+
+    c : ℕ
+    c = get_or points j 0
+
+    long : length (map (quotient_coefficient (drop 1 p) points factors j) (range_with_len 0 n)) ≡ n
+    long = length-map-range_with_len (quotient_coefficient (drop 1 p) points factors j) 0 n
+
+    quotient_long : length (quotient c p) ≡ n
+    quotient_long = length-quotient c p ∙ sym (length-drop 1 p)
+
+    size : length (times b (quotient c p)) ≡ n
+    size = length-map (quotient c p) (mul b) ∙ quotient_long
+
+pub no_factor : (f : ℕ) (p points : List ℕ) → AreFactors f p points [] 0
+no_factor f p points = record { count = refl; small = λ j h. absurd (omega (arith, h)); each = λ j h. absurd (omega (arith, h)) }
+
+pub next_factor : (f n b : ℕ) (p points factors : List ℕ) → AreFactors f p points factors n
+    → mul (mul (pow (get_or points n 0) f) (value (quotient (get_or points n 0) p) (get_or points n 0))) b ≡ 1 → b < 2 ^ 16 → AreFactors f p points (factors ++ b ∷ []) (n + 1)
+next_factor f n b p points factors so_far product small = record {
+  count = length-append factors (b ∷ []) ∙ ap (λ k. k + 1) so_far.count;
+  small = λ j h. elim (cases_lt j n) [
+    | inl low ↦ subst (λ x. x < 65536) (sym (before j low)) (so_far.small j low)
+    | inr high ↦ subst (λ x. x < 65536) (sym (here j (omega (arith, high, h)))) small
+  ];
+  each = λ j h. elim (cases_lt j n) [
+    | inl low ↦ ap (mul (at j)) (before j low) ∙ so_far.each j low
+    | inr high ↦ (let last : j ≡ n = omega (arith, high, h) in ap₂ mul (ap at last) (here j last) ∙ product)
+  ];
+}
+  where
+    at : ℕ → ℕ
+    at j = mul (pow (get_or points j 0) f) (value (quotient (get_or points j 0) p) (get_or points j 0))
+
+    before : (j : ℕ) → j < n → get_or (factors ++ b ∷ []) j 0 ≡ get_or factors j 0
+    before j low = get_or_append_left factors (b ∷ []) 0 j (let e = so_far.count in omega (arith, e, low))
+
+    here : (j : ℕ) → j ≡ n → get_or (factors ++ b ∷ []) j 0 ≡ b
+    here j last = ap (λ k. get_or (factors ++ b ∷ []) k 0) last ∙ get_or_at factors b [] 0 n so_far.count
+
+-- with these factors they are the inverse for a run
+pub located_inverse : (ks : List ℕ) (f : ℕ) (factors : List ℕ) → AreSlices ks → AreFactors f (with_roots (map constant ks)) (map constant ks) factors (length ks)
+    → IsInverse ks (range_with_len f (length ks)) (quotient_rows (drop 1 (with_roots (map constant ks))) (map constant ks) factors)
+located_inverse ks f factors are given =
+    is_inverse ks f (quotient_rows (drop 1 p) points factors) are (record {
+      count = length-map-range_with_len (λ i. map (quotient_coefficient (drop 1 p) points factors i) (range_with_len 0 (length (drop 1 p)))) 0 (length points) ∙ many;
+      each = λ j low.
+          scaled_is f (get_or points j 0) (get_or factors j 0) p (list_at (quotient_rows (drop 1 p) points factors) j) (point-lt j low) (given.small j low) fit (given.each j low)
+          (row_is points factors p j fit (omega (arith, low, many)) (point-lt j low));
+    })
+  where
+    points : List ℕ
+    points = map constant ks
+
+    p : List ℕ
+    p = with_roots points
+
+    many : length points ≡ length ks
+    many = length-map ks constant
+
+    fit : AreElements p
+    fit = with_roots_elements points (constants-lt ks)
+
+    point-lt : (j : ℕ) → j < length ks → get_or points j 0 < 2 ^ 16
+    point-lt j low = subst (λ x. x < 65536) (sym (constant_at ks j low)) (constant-lt (get_or ks j 0))
+
+-- a locator's sequence has as many elements as slices are lost
+pub located_wide : (ks : List ℕ) → length (drop 1 (with_roots (map constant ks))) ≡ length ks
+located_wide ks =
+    let many = length-map ks constant in
+    let all = length-with_roots (map constant ks) in
+    let rest = length-drop 1 (with_roots (map constant ks)) in
+    omega (arith, many, all, rest)
+
+-- how many rows there are
+pub rows_long : (rows : List (Vec ℕ Global)) → length rows ≡ length (lists_of rows)
+rows_long rows = sym (length-lists_of rows)
+
+pub located_long : (sequence points factors : List ℕ) → length (quotient_rows sequence points factors) ≡ length points
+located_long sequence points factors = length-map-range_with_len (λ i. map (quotient_coefficient sequence points factors i) (range_with_len 0 (length sequence))) 0 (length points)
+
+-- the products, as the locator adds them, are those with the rows
+pub located_sums : (sequence points factors : List ℕ) (sources sums : List (List ℕ)) (size : ℕ) → length sources ≡ length sequence → length sums ≡ length points
+    → ((r : ℕ) → r < length points → length (list_at sums r) ≡ size)
+    → ((r w : ℕ) → r < length points → 2 * w + 1 < size → word w (list_at sums r) ≡ quotient_sum sequence points factors (words_at sources w) r)
+    → AreProducts size (quotient_rows sequence points factors) sources sums
+located_sums sequence points factors sources sums size sources_count count sizes words = record {
+  count = count ∙ sym many;
+  sizes = λ r low. sizes r (omega (arith, low, many));
+  words = λ r w low fits.
+      words r w (omega (arith, low, many)) fits
+      ∙ field_sum_same (length sequence) (λ s. mul (quotient_coefficient sequence points factors r s) (word w (list_at sources s)))
+      (λ s. mul (get_or (list_at (quotient_rows sequence points factors) r) s 0) (word w (list_at sources s)))
+      (λ s here. ap (λ x. mul x (word w (list_at sources s))) (sym (entry r s (omega (arith, low, many)) here)))
+      ∙ ap (λ m. products m (quotient_rows sequence points factors) sources r w) (sym sources_count);
+}
+  where
+    many : length (quotient_rows sequence points factors) ≡ length points
+    many = located_long sequence points factors
+
+    entry : (r s : ℕ) → r < length points → s < length sequence → get_or (list_at (quotient_rows sequence points factors) r) s 0 ≡ quotient_coefficient sequence points factors r s
+    entry r s low here =
+        ap (λ xs. get_or xs s 0) (get_or-map-range_with_len (λ i. map (quotient_coefficient sequence points factors i) (range_with_len 0 (length sequence))) 0 (length points) r r [] low (omega arith))
+        ∙ get_or-map-range_with_len (quotient_coefficient sequence points factors r) 0 (length sequence) s s 0 here (omega arith)
+
+-- what was added to blank texts
+pub added_to_blank : (size n : ℕ) (other : ℕ → ℕ → ℕ) (blank sums : List (List ℕ)) → AreBlank size n blank → AddsToEach other blank sums
+    → (r w : ℕ) → r < n → 2 * w + 1 < size → word w (list_at sums r) ≡ other r w
+added_to_blank size n other blank sums is added r w low fits =
+    let here : 2 * w + 1 < length (list_at blank r) = (let e = ap length (is.each r low) ∙ length-replicate {A = ℕ} size 0 in omega (arith, e, fits)) in
+    added.each r w (let count = is.count in omega (arith, count, low)) here
+    ∙ ap (λ x. bit_xor x (other r w)) (ap (λ xs. word w xs) (is.each r low) ∙ blank_word size w)
+    ∙ xor_zero_l (other r w)

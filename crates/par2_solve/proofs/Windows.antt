@@ -1,0 +1,375 @@
+-- The equations of the holes between exponents.
+use Rattle.par2_solve.proofs.Common.{rules, ℕ, zero, suc, ◌+◌, ◌-◌, ◌^◌, ◌<◌, ◌≤◌, ◌≡◌, refl, sym, ap, ap₂, ◌∙◌, ◌↔◌, subst, arith, Bool, true, false, cond, not, inl, inr, List, [], ◌∷◌, ◌++◌, length, get_or, map, filter, take, append-nil, bit_xor, xor_comm, xor_assoc, xor_zero_l, xor_zero_r, AllByRecursion, Contains, range_with_len, IsStrictlyIncreasing, Result, Ok, cases_lt, cases_eq, eqb-true, lt-ltb, le-ltb, false_from_ne_true, length-map, get_or-map, get_or-range_with_len, get_or-map-range_with_len, length-map-range_with_len, length-range_with_len, map-range_with_len_more, Contains-get_or, mul, constant, pow, coefficient, coefficients, dot, field_sum, dot_sum, product_at, dot-lt, coefficients_are, field_sum_same, field_sum_none, product-zero, zero-product, IsVector, IsRepairable, Kills, AreSlices, value, with_roots_elements, length-with_roots, all_at, all_get, all_from, all_unmap, all-each, run_determines, rank, Equations, CutDown, OnlyZeroIsKilled, AreTexts, combination, ◌*◌}
+use Rattle.std.specs.Result.{IsOk, MatchResult, is_err}
+use Rattle.std.specs.Prelude.{Err, nat_eq}
+use Rattle.std.proofs.lemmas.List.{get_or_past, map-id}
+use Rattle.std.proofs.lemmas.List.Elements.{filter-append}
+use Rattle.par2_matrix.specs.Systems as systems
+use Rattle.par2_spec.proofs.ListsLaws.{of_contained, all-take, contained_first, contained_later}
+use Rattle.par2_spec.proofs.FullRank.{full-iff}
+use Rattle.par2_spec.proofs.PolynomialLaws.{with_roots_zero}
+use Rattle.std.proofs.lemmas.Cmp.{nat_eq_equiv}
+use Rattle.std.proofs.lemmas.List.Kept.{IsStrictlyIncreasing-filter}
+use Rattle.par2_spec.proofs.FieldConstants.{range_rises}
+use Rattle.std.proofs.lemmas.Map.Views.{Contains-from_any, list_any-from_Contains}
+use Rattle.std.specs.List.{list_any}
+use Rattle.par2_solve.specs.Inverses.{GivesUnit}
+use Rattle.par2_solve.specs.Elements.{IsUnit}
+use Rattle.par2_solve.specs.Holes.{locator, shifted_at, shifted, span, is_hole, holes, KilledByShifts, OnlyZeroFits, AreHoleEquations}
+use Rattle.par2_solve.proofs.Combinations.{coefficients-lt}
+use Rattle.par2_solve.proofs.Dots.{combined}
+use Rattle.par2_solve.proofs.RunInverses.{constants-lt, constant_at, run_sum_is}
+use Rattle.par2_solve.proofs.Runs.{placed, range_has, rises_to_the_end, rises_between}
+
+-- ---- a polynomial times a power of z
+
+pub below : (p : List ℕ) (u x : ℕ) → x < u → shifted_at p u x ≡ 0
+below p u x low = ap (λ b. cond b 0 (get_or p (x - u) 0)) (lt-ltb x u low)
+
+from : (p : List ℕ) (u k : ℕ) → shifted_at p u (u + k) ≡ get_or p k 0
+from p u k =
+    let e : u + k - u ≡ k = omega arith in
+    ap (λ b. cond b 0 (get_or p (u + k - u) 0)) (le-ltb (u + k) u (omega arith)) ∙ ap (λ n. get_or p n 0) e
+
+-- where the first values or the last ones are 0, they are left out of a sum
+leading : (u n : ℕ) (f : ℕ → ℕ) → ((x : ℕ) → x < u → f x ≡ 0) → field_sum (u + n) f ≡ field_sum n (λ k. f (u + k))
+unfolding field_sum
+leading u zero f none = ap (λ m. field_sum m f) (let e : u + 0 ≡ u = omega arith in e) ∙ field_sum_none u f none
+leading u (suc n) f none =
+    ap (λ m. field_sum m f) (let e : u + suc n ≡ suc (u + n) = omega arith in e) ∙ ap (λ s. bit_xor s (f (u + n))) (leading u n f none)
+
+trailing : (n r : ℕ) (f : ℕ → ℕ) → ((i : ℕ) → f (n + i) ≡ 0) → field_sum (n + r) f ≡ field_sum n f
+unfolding field_sum
+trailing n zero f none = ap (λ m. field_sum m f) (let e : n + 0 ≡ n = omega arith in e)
+trailing n (suc r) f none =
+    ap (λ m. field_sum m f) (let e : n + suc r ≡ suc (n + r) = omega arith in e) ∙ ap₂ bit_xor (trailing n r f none) (none r) ∙ xor_zero_r (field_sum n f)
+
+-- over a whole window it gives the products of its coefficients
+pub shifted_sum : (p : List ℕ) (u w : ℕ) (g : ℕ → ℕ) → u + length p ≤ w
+    → dot (shifted p u (range_with_len 0 w)) (map g (range_with_len 0 w)) ≡ field_sum (length p) (λ k. mul (get_or p k 0) (g (u + k)))
+shifted_sum p u w g h =
+    dot_sum w (shifted p u xs) (map g xs) (omega (arith, length-map-range_with_len (shifted_at p u) 0 w))
+    ∙ field_sum_same w (product_at (shifted p u xs) (map g xs)) f (λ i low. let at : 0 + i ≡ i = omega arith in
+    ap₂ mul (get_or-map-range_with_len (shifted_at p u) 0 w i i 0 low at) (get_or-map-range_with_len g 0 w i i 0 low at))
+    ∙ ap (λ m. field_sum m f) (let e : w ≡ u + (n + r) = omega (arith, h) in e)
+    ∙ leading u (n + r) f (λ i low. ap (λ x. mul x (g i)) (below p u i low) ∙ zero-product (g i))
+    ∙ trailing n r (λ k. f (u + k)) (λ i. ap (λ x. mul x (g (u + (n + i)))) (from p u (n + i) ∙ get_or_past p (n + i) 0 (omega arith)) ∙ zero-product (g (u + (n + i))))
+    ∙ field_sum_same n (λ k. f (u + k)) (λ k. mul (get_or p k 0) (g (u + k))) (λ k _. ap (λ x. mul x (g (u + k))) (from p u k))
+  where
+    xs : List ℕ
+    xs = range_with_len 0 w
+
+    n : ℕ
+    n = length p
+
+    r : ℕ
+    r = w - (u + length p)
+
+    f : ℕ → ℕ
+    f x = mul (shifted_at p u x) (g x)
+
+-- a sum over some places is the sum over those that pass a test and over the others
+pub parted : (a g : ℕ → ℕ) (t : ℕ → Bool) (xs : List ℕ)
+    → dot (map a xs) (map g xs) ≡ bit_xor (dot (map a (filter t xs)) (map g (filter t xs))) (dot (map a (filter (λ x. not (t x)) xs)) (map g (filter (λ x. not (t x)) xs)))
+unfolding dot
+parted a g t [] = sym (xor_zero_l 0)
+parted a g t (x ∷ xs) = ap (bit_xor (mul (a x) (g x))) (parted a g t xs) ∙ step (t x)
+  where
+    ys : List ℕ
+    ys = filter t xs
+
+    zs : List ℕ
+    zs = filter (λ x. not (t x)) xs
+
+    step : (b : Bool) → bit_xor (mul (a x) (g x)) (bit_xor (dot (map a ys) (map g ys)) (dot (map a zs) (map g zs)))
+        ≡ bit_xor (dot (map a (cond b (x ∷ ys) ys)) (map g (cond b (x ∷ ys) ys))) (dot (map a (cond (not b) (x ∷ zs) zs)) (map g (cond (not b) (x ∷ zs) zs)))
+    step true = sym (xor_assoc (mul (a x) (g x)) (dot (map a ys) (map g ys)) (dot (map a zs) (map g zs)))
+    step false =
+        sym (xor_assoc (mul (a x) (g x)) (dot (map a ys) (map g ys)) (dot (map a zs) (map g zs)))
+        ∙ ap (λ s. bit_xor s (dot (map a zs) (map g zs))) (xor_comm (mul (a x) (g x)) (dot (map a ys) (map g ys)))
+        ∙ xor_assoc (dot (map a ys) (map g ys)) (mul (a x) (g x)) (dot (map a zs) (map g zs))
+
+pub none_given : (a g : ℕ → ℕ) (xs : List ℕ) → AllByRecursion (λ x. g x ≡ 0) xs → dot (map a xs) (map g xs) ≡ 0
+unfolding dot
+none_given a g [] h = refl
+none_given a g (x ∷ xs) h = ap₂ bit_xor (ap (mul (a x)) h.0 ∙ product-zero (a x)) (none_given a g xs h.1)
+
+-- ---- sums of powers satisfy the recurrence of the locator
+
+-- what an exponent gives a vector
+abbrev pub given : List ℕ → List ℕ → ℕ → ℕ
+given ks v e = dot (coefficients ks e) v
+
+pub recurrence : (ks v : List ℕ) (s : ℕ) → AllByRecursion (λ x. x < 2 ^ 16) v → field_sum (length (locator ks)) (λ t. mul (get_or (locator ks) t 0) (given ks v (s + t))) ≡ 0
+recurrence ks v s is =
+    field_sum_same m (λ t. mul (p t) (given ks v (s + t))) (λ t. mul (p t) (field_sum n (λ i. mul (a t i) (y i))))
+    (λ t _. ap (mul (p t)) (dot_sum n (coefficients ks (s + t)) v (let long = length-map ks (coefficient (s + t)) in omega (arith, long))))
+    ∙ combined m n p a y (all_at (λ x. x < 65536) 0 (omega arith) (locator ks) elements) (λ t _. coefficients-lt ks (s + t)) (all_at (λ x. x < 65536) 0 (omega arith) v is)
+    ∙ field_sum_none n (λ i. mul (field_sum m (λ t. mul (p t) (a t i))) (y i)) (λ i low. ap (λ x. mul x (y i)) (column i low) ∙ zero-product (y i))
+  where
+    n : ℕ
+    n = length ks
+
+    m : ℕ
+    m = length (locator ks)
+
+    p : ℕ → ℕ
+    p t = get_or (locator ks) t 0
+
+    a : ℕ → ℕ → ℕ
+    a t i = get_or (coefficients ks (s + t)) i 0
+
+    y : ℕ → ℕ
+    y i = get_or v i 0
+
+    elements : AllByRecursion (λ x. x < 2 ^ 16) (locator ks)
+    elements = with_roots_elements (map constant ks) (constants-lt ks)
+
+    root : (i : ℕ) → i < length ks → value (locator ks) (constant (get_or ks i 0)) ≡ 0
+    root i low = subst (λ c. value (locator ks) c ≡ 0) (constant_at ks i low)
+        (all_get (λ z. value (locator ks) z ≡ 0) (map constant ks) i 0 (let long = length-map ks constant in omega (arith, long, low)) (with_roots_zero (map constant ks) (constants-lt ks)))
+
+    column : (i : ℕ) → i < n → field_sum m (λ t. mul (p t) (a t i)) ≡ 0
+    column i low =
+        let k = get_or ks i 0 in
+        field_sum_same m (λ t. mul (p t) (a t i)) (λ t. mul (p t) (coefficient (s + t) k)) (λ t _. ap (mul (p t)) (get_or-map (coefficient (s + t)) ks i 0 0 low))
+        ∙ run_sum_is (locator ks) s k elements ∙ ap (mul (pow (constant k) s)) (root i low) ∙ product-zero (pow (constant k) s)
+
+-- ---- the holes
+
+-- whether a number is among these
+abbrev pub among : List ℕ → ℕ → Bool
+among es q = list_any (nat_eq q) es
+
+among-iff : (es : List ℕ) (q : ℕ) → (among es q ≡ true) ↔ Contains es q
+among-iff es q = (Contains-from_any {eq = nat_eq} eqb-true q es, list_any-from_Contains nat_eq_equiv q es)
+
+-- the last exponent is at the end of the window, which is no hole
+last_at : (es : List ℕ) → IsStrictlyIncreasing es → 0 < length es → is_hole es (span es) ≡ false
+last_at es rise some =
+    let order = rises_to_the_end es rise some in
+    let e : get_or es (length es - 1) 0 ≡ get_or es 0 0 + span es = omega (arith, order) in
+    ap not ((among-iff es (get_or es 0 0 + span es)).1 (subst (Contains es) e (Contains-get_or es (length es - 1) 0 (omega (arith, some)))))
+
+range_more : (n : ℕ) → range_with_len 0 (n + 1) ≡ range_with_len 0 n ++ n ∷ []
+range_more n = sym (map-id (range_with_len 0 (n + 1))) ∙ map-range_with_len_more (λ x. x) 0 n n (omega arith) ∙ ap (λ xs. xs ++ n ∷ []) (map-id (range_with_len 0 n))
+
+pub holes_of_window : (es : List ℕ) → IsStrictlyIncreasing es → 0 < length es → filter (is_hole es) (range_with_len 0 (span es + 1)) ≡ holes es
+holes_of_window es rise some =
+    ap (filter (is_hole es)) (range_more (span es)) ∙ filter-append (is_hole es) (range_with_len 0 (span es)) (span es ∷ [])
+    ∙ ap (λ b. holes es ++ cond b (span es ∷ []) []) (last_at es rise some) ∙ append-nil (holes es)
+
+pub one_place_more : (es : List ℕ) (x : ℕ) (b : Bool) → b ≡ is_hole es x → filter (is_hole es) (range_with_len 0 (x + 1)) ≡ filter (is_hole es) (range_with_len 0 x) ++ cond b (x ∷ []) []
+one_place_more es x b is =
+    ap (filter (is_hole es)) (range_more x) ∙ filter-append (is_hole es) (range_with_len 0 x) (x ∷ [])
+    ∙ ap (λ c. filter (is_hole es) (range_with_len 0 x) ++ cond c (x ∷ []) []) (sym is)
+
+pub window_holds : (es : List ℕ) → IsStrictlyIncreasing es → 0 < length es → length es ≤ span es + 1
+window_holds es rise some = let by = rises_between es rise 0 (length es - 1) (omega arith) (omega (arith, some)) in omega (arith, by, some)
+
+-- what a binary search says of a hole
+pub searched_hole : (es : List ℕ) (q : ℕ) (r : Result ℕ ℕ)
+    → MatchResult r (λ i. (i < length es) × (get_or es i 0 ≡ q)) (λ i. (i ≤ length es) × ((k : ℕ) → k < i → get_or es k 0 < q) × ((k : ℕ) → i ≤ k → k < length es → q < get_or es k 0))
+    → is_err r ≡ not (among es q)
+searched_hole es q (Ok i) h = sym (ap not ((among-iff es q).1 (subst (Contains es) h.1 (Contains-get_or es i 0 h.0))))
+searched_hole es q (Err i) h =
+    sym (ap not (false_from_ne_true (among es q) (λ e.
+    let at = placed es q ((among-iff es q).0 e) in
+    elim (cases_lt at.0 i) [
+      | inl low ↦ (let less = h.1 at.0 low in absurd (omega (arith, less, at.2)))
+      | inr high ↦ (let more = h.2 at.0 high at.1 in absurd (omega (arith, more, at.2)))
+    ])))
+
+-- a number that is there is found
+pub found_place : (hs : List ℕ) (x : ℕ) (r : Result ℕ ℕ)
+    → MatchResult r (λ i. (i < length hs) × (get_or hs i 0 ≡ x)) (λ i. (i ≤ length hs) × ((k : ℕ) → k < i → get_or hs k 0 < x) × ((k : ℕ) → i ≤ k → k < length hs → x < get_or hs k 0))
+    → Contains hs x → IsOk r
+found_place hs x (Ok i) h here = search rules
+found_place hs x (Err i) h here =
+    let at = placed hs x here in
+    elim (cases_lt at.0 i) [
+      | inl low ↦ (let less = h.1 at.0 low in absurd (omega (arith, less, at.2)))
+      | inr high ↦ (let more = h.2 at.0 high at.1 in absurd (omega (arith, more, at.2)))
+    ]
+
+-- a number of the window that is a hole is among them
+contained_filter : (t : ℕ → Bool) (xs : List ℕ) (x : ℕ) → Contains xs x → t x ≡ true → Contains (filter t xs) x
+contained_filter t [] x here e = absurd (omega (arith, here.1))
+contained_filter t (y ∷ ys) x here e = elim (cases_eq x y) [
+  | inl same ↦ first (t y) (ap t (sym same) ∙ e) (filter t ys) same
+  | inr other ↦ later (t y) (filter t ys) (contained_filter t ys x (rest (placed (y ∷ ys) x here) other) e)
+]
+  where
+    first : (b : Bool) → b ≡ true → (zs : List ℕ) → x ≡ y → Contains (cond b (y ∷ zs) zs) x
+    first true is zs same = subst (Contains (y ∷ zs)) (sym same) (contained_first y zs)
+    first false is zs same = (cc)
+
+    later : (b : Bool) (zs : List ℕ) → Contains zs x → Contains (cond b (y ∷ zs) zs) x
+    later true zs more = contained_later y zs x more
+    later false zs more = more
+
+    rest : (i : ℕ) × (i < length (y ∷ ys)) × (get_or (y ∷ ys) i 0 ≡ x) → (x ≡ y → ⊥) → Contains ys x
+    rest (zero, low, at) other = absurd (other (sym at))
+    rest (suc i, low, at) other = subst (Contains ys) at (Contains-get_or ys i 0 (omega (arith, low)))
+
+pub hole_contained : (es : List ℕ) (x : ℕ) → IsStrictlyIncreasing es → 0 < length es → x ≤ span es → is_hole es x ≡ true → Contains (holes es) x
+hole_contained es x rise some within e =
+    let inside : x < span es + 1 = omega (arith, within) in
+    let long = length-range_with_len 0 (span es + 1) in
+    let at : get_or (range_with_len 0 (span es + 1)) x 0 ≡ x = get_or-range_with_len 0 (span es + 1) x 0 inside ∙ (let same : 0 + x ≡ x = omega arith in same) in
+    subst (λ hs. Contains hs x) (holes_of_window es rise some)
+    (contained_filter (is_hole es) (range_with_len 0 (span es + 1)) x (subst (Contains (range_with_len 0 (span es + 1))) at (Contains-get_or (range_with_len 0 (span es + 1)) x 0 (omega (arith, inside, long)))) e)
+
+pub holes_rise : (es : List ℕ) → IsStrictlyIncreasing (holes es)
+holes_rise es = IsStrictlyIncreasing-filter (is_hole es) (range_with_len 0 (span es)) (range_rises 0 (span es))
+
+-- ---- the system
+
+pub no_equation : (p places : List ℕ) (m : ℕ) (system : Equations) → system ≡ systems.no_equations (length places) (2 * m) → AreHoleEquations p places m 0 system
+no_equation p places m system is =
+    subst (AreHoleEquations p places m 0) (sym is) (record { columns = refl; bytes = refl; kills = λ v vector fits. tt; solves = λ texts are solved u low. absurd (omega (arith, low)) })
+
+pub one_equation_more : (p places row right : List ℕ) (m u : ℕ) (old new : Equations) → AreHoleEquations p places m u old → new.columns ≡ old.columns → new.bytes ≡ old.bytes → row ≡ shifted p u places → (u < m → IsUnit m u right)
+    → CutDown old new row right → AreHoleEquations p places m (u + 1) new
+one_equation_more p places row right m u old new before columns bytes is unit cut = record {
+  columns = columns ∙ before.columns;
+  bytes = bytes ∙ before.bytes;
+  kills = λ v vector fits.
+      (cut.kills v (subst (λ n. IsVector n v) (sym before.columns) vector)).1
+      (before.kills v vector (λ k low. fits k (omega (arith, low))), ap (λ xs. dot xs v) is ∙ fits u (omega arith));
+  solves = λ texts are solved k low inside.
+      let are_old : AreTexts old texts = record {
+        count = are.count ∙ columns;
+        sizes = subst (λ n. AllByRecursion (λ (text : List ℕ). length text ≡ n) texts) bytes are.sizes;
+        bytes = are.bytes;
+      } in
+      let both = (cut.solves texts are_old).0 solved in
+      elim (cases_lt k u) [
+        | inl early ↦ before.solves texts are_old both.0 k early inside
+        | inr late ↦
+            let last : u ≡ k = omega (arith, low, late) in
+            subst (λ j. GivesUnit m j (shifted p j places) texts) last
+            (record { unit = right; is_unit = unit (omega (arith, last, inside)); combined = ap₂ (λ b xs. combination b xs texts) (sym before.bytes) (sym is) ∙ both.1 })
+      ];
+}
+
+pub only_zero_fits : (p places : List ℕ) (m n : ℕ) (system : Equations) → AreHoleEquations p places m n system → OnlyZeroIsKilled system → OnlyZeroFits p places n
+only_zero_fits p places m n system are regular v vector fits =
+    regular v (subst (λ m. IsVector m v) (sym are.columns) vector) (are.kills v vector fits)
+
+-- ---- the exponents determine the lost slices
+
+-- what holds of those that pass a test and of the others
+all_parted : (P : ℕ → Type 0) (t : ℕ → Bool) (xs : List ℕ) → AllByRecursion P (filter t xs) → ((x : ℕ) → t x ≡ false → P x) → AllByRecursion P xs
+all_parted P t [] h others = tt
+all_parted P t (x ∷ xs) h others = step (t x) refl h (λ rest. all_parted P t xs rest others)
+  where
+    step : (b : Bool) → t x ≡ b → AllByRecursion P (cond b (x ∷ filter t xs) (filter t xs)) → (AllByRecursion P (filter t xs) → AllByRecursion P xs) → AllByRecursion P (x ∷ xs)
+    step true e h more = (h.0, more h.1)
+    step false e h more = (others x e, more h)
+
+pub all_others : (P : ℕ → Type 0) (t : ℕ → Bool) (xs : List ℕ) → ((x : ℕ) → t x ≡ false → P x) → AllByRecursion P (filter (λ x. not (t x)) xs)
+all_others P t [] others = tt
+all_others P t (x ∷ xs) others = step (t x) refl (filter (λ y. not (t y)) xs) (all_others P t xs others)
+  where
+    step : (b : Bool) → t x ≡ b → (rest : List ℕ) → AllByRecursion P rest → AllByRecursion P (cond (not b) (x ∷ rest) rest)
+    step true e rest h = h
+    step false e rest h = (others x e, h)
+
+-- what a vector gives the numbers of a window, at those places that are no holes and at the holes, each times the locator,
+-- shifted by a number, adds up to 0
+abbrev pub others : List ℕ → List ℕ
+others es = filter (λ x. not (is_hole es x)) (range_with_len 0 (span es + 1))
+
+abbrev pub given_at : List ℕ → List ℕ → List ℕ → ℕ → ℕ
+given_at ks es v x = given ks v (get_or es 0 0 + x)
+
+pub window_sum : (ks es v : List ℕ) (u : ℕ) → IsStrictlyIncreasing es → 0 < length es → AllByRecursion (λ x. x < 2 ^ 16) v → u + length ks ≤ span es
+    → bit_xor (dot (shifted (locator ks) u (holes es)) (map (given_at ks es v) (holes es))) (dot (shifted (locator ks) u (others es)) (map (given_at ks es v) (others es))) ≡ 0
+window_sum ks es v u rise some is fit =
+    ap (λ hs. bit_xor (dot (shifted p u hs) (map g hs)) (dot (shifted p u (others es)) (map g (others es)))) (sym (holes_of_window es rise some))
+    ∙ sym (parted (shifted_at p u) g (is_hole es) (range_with_len 0 w))
+    ∙ shifted_sum p u w g inside
+    ∙ field_sum_same (length p) (λ k. mul (get_or p k 0) (g (u + k))) (λ k. mul (get_or p k 0) (given ks v (f + u + k)))
+    (λ k _. let e : f + (u + k) ≡ f + u + k = omega arith in ap (λ s. mul (get_or p k 0) (given ks v s)) e)
+    ∙ recurrence ks v (f + u) is
+  where
+    p : List ℕ
+    p = locator ks
+
+    f : ℕ
+    f = get_or es 0 0
+
+    w : ℕ
+    w = span es + 1
+
+    g : ℕ → ℕ
+    g = given_at ks es v
+
+    inside : u + length p ≤ w
+    inside = let long = length-with_roots (map constant ks) in let count = length-map ks constant in omega (arith, long, count, fit)
+
+-- a number that is no hole is an exponent
+pub no_hole : (es : List ℕ) (x : ℕ) → is_hole es x ≡ false → Contains es (get_or es 0 0 + x)
+no_hole es x e = (among-iff es (get_or es 0 0 + x)).0 (flipped (among es (get_or es 0 0 + x)) e)
+  where
+    flipped : (b : Bool) → not b ≡ false → b ≡ true
+    flipped true e = refl
+    flipped false e = sym e
+
+pub exponent_no_hole : (es : List ℕ) (x : ℕ) → Contains es (get_or es 0 0 + x) → is_hole es x ≡ false
+exponent_no_hole es x here = ap not ((among-iff es (get_or es 0 0 + x)).1 here)
+
+pub holes_determine : (ks es : List ℕ) (n : ℕ) → AreSlices ks → IsStrictlyIncreasing es → 0 < length es → n + length ks ≤ span es + 1 → OnlyZeroFits (locator ks) (holes es) n → IsRepairable ks es
+holes_determine ks es n are rise some fit only v is killed =
+    run_determines ks (range_with_len f l) f are (range_has f l) v is
+    (all_from (λ e. Kills ks e v) 0 (range_with_len f l) (λ i low.
+    let long = length-range_with_len f l in
+    let here : i < l = omega (arith, low, long) in
+    subst (λ e. Kills ks e v) (sym (get_or-range_with_len f l i 0 here)) (zero_at i (omega (arith, here, fit)))))
+  where
+    f : ℕ
+    f = get_or es 0 0
+
+    l : ℕ
+    l = length ks
+
+    w : ℕ
+    w = span es + 1
+
+    g : ℕ → ℕ
+    g x = given ks v (f + x)
+
+    -- the exponents give 0
+    at_exponent : (x : ℕ) → is_hole es x ≡ false → g x ≡ 0
+    at_exponent x e = of_contained (λ e. Kills ks e v) es (f + x) killed (no_hole es x e)
+
+    -- so what they give the holes satisfies the holes' equations
+    fits : KilledByShifts (locator ks) (holes es) n (map g (holes es))
+    fits u low =
+        let p = locator ks in
+        let at_holes = dot (shifted p u (holes es)) (map g (holes es)) in
+        sym (xor_zero_r at_holes)
+        ∙ ap (bit_xor at_holes) (sym (none_given (shifted_at p u) g (others es) (all_others (λ x. g x ≡ 0) (is_hole es) (range_with_len 0 w) at_exponent)))
+        ∙ window_sum ks es v u rise some is.1 (omega (arith, low, fit))
+
+    zeros : AllByRecursion (λ x. g x ≡ 0) (range_with_len 0 w)
+    zeros =
+        all_parted (λ x. g x ≡ 0) (is_hole es) (range_with_len 0 w)
+        (subst (AllByRecursion (λ x. g x ≡ 0)) (sym (holes_of_window es rise some))
+        (all_unmap (λ x. x ≡ 0) g (holes es) (only (map g (holes es))
+        (length-map (holes es) g, all-each (λ x. x < 2 ^ 16) g (λ x. dot-lt (coefficients ks (f + x)) v (coefficients_are (f + x) ks) is.1) (holes es)) fits)))
+        at_exponent
+
+    zero_at : (i : ℕ) → i < w → g i ≡ 0
+    zero_at i low =
+        let long = length-range_with_len 0 w in
+        let at : get_or (range_with_len 0 w) i 0 ≡ i = get_or-range_with_len 0 w i 0 low ∙ (let e : 0 + i ≡ i = omega arith in e) in
+        subst (λ x. g x ≡ 0) at (all_get (λ x. g x ≡ 0) (range_with_len 0 w) i 0 (omega (arith, long, low)) zeros)
+
+-- so do more
+pub more_determine : (ks es : List ℕ) (n : ℕ) → IsRepairable ks (take n es) → IsRepairable ks es
+more_determine ks es n first v is killed = first v is (all-take (λ e. Kills ks e v) n es killed)
+
+pub full_rank : (ks es : List ℕ) → IsStrictlyIncreasing es → IsRepairable ks es → length ks ≡ rank ks es
+full_rank ks es rise repairable = sym ((full-iff ks es rise).1 repairable)

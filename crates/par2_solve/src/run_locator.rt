@@ -1,0 +1,94 @@
+//! The locator of the lost slices for a run of exponents, as many as slices are lost: the inverse whose rows are the scaled
+//! quotients, of which none is made.
+
+ghost use Rattle.std.specs.Prelude.{◌≡◌, ◌≢◌, ℕ, ◌<◌, ◌≤◌, ◌^◌, length, drop, slice_index, IfOk};
+ghost use Rattle.std.specs.List.{range_with_len};
+ghost use Rattle.par2_spec.specs.Field.{mul, pow};
+ghost use Rattle.par2_spec.specs.Polynomials.{value, quotient};
+ghost use Rattle.par2_spec.specs.Runs.{AreSlices};
+ghost use Rattle.par2_solve.specs.Solvers.{AreFactors, Inverts};
+
+use crate::exponents::coefficients;
+use crate::run_inverse::{inverse_of, quotient, run_inverse, value, with_roots};
+use crate::solver::Inverse;
+use par2_gf16::Gf;
+use par2_spec::Result;
+use par2_transform::Locator;
+use std::alloc::Global;
+
+/// From so many lost slices on, the locator is faster than rows.
+pub(crate) const LOCATED: usize = 768;
+
+// The inverse of what the quotient for the constant `c` gives there, times power `first` of it.
+fn factor(alloc: Global, gf: &Gf, p: &[u16], c: u16, first: u32) -> Result<u16>
+    requires { mul (pow c first) (value (quotient c p.now) c) ≢ 0 }
+    ensures product { IfOk result (λ b.
+        mul (mul (pow c first) (value (quotient c p.now) c)) b ≡ 1) }
+    ensures small { IfOk result (λ b. b < 2 ^ 16) }
+{
+    let quotient = quotient(alloc, gf, c, p)?;
+    let at_c = gf.mul(gf.pow(c, first), value(gf, &quotient, c));
+    Ok(inverse_of(gf, at_c))
+}
+
+// The factors for these constants, by their polynomial, for the exponents from `first` on.
+fn factors(alloc: Global, gf: &Gf, p: &[u16], points: &[u16], first: u32) -> Result<Vec<u16>>
+    requires { (j : ℕ) → j < length points.now
+        → let c = slice_index points.now j in mul (pow c first) (value (quotient c p.now) c) ≢ 0 }
+    ensures { IfOk result (λ factors. AreFactors
+        first p.now points.now factors.items (length points.now)) }
+{
+    let mut factors = Vec::with_capacity(alloc, points.len())?;
+    for j in 0..points.len() {
+        factors.push(factor(alloc, gf, p, points[j], first)?)?;
+    }
+    Ok(factors)
+}
+
+// The coefficients from 1 on.
+fn after_first(alloc: Global, p: &[u16]) -> Result<Vec<u16>>
+    requires { 1 ≤ length p.now }
+    ensures { IfOk result (λ rest. rest.items ≡ drop 1 p.now) }
+{
+    Vec::from_slice(alloc, &p[1..])
+}
+
+/// The locator for the exponents from `first` on.
+pub(crate) fn run_locator<'a>(
+    alloc: Global,
+    gf: &'a Gf,
+    lost: &[u32],
+    first: u32,
+) -> Result<Locator<'a>>
+    requires slices { AreSlices lost.now }
+    requires count { length lost.now ≤ 32768 }
+    ensures { IfOk result (λ locator. Inverts
+        lost.now (range_with_len first (length lost.now)) (Inverse.Located locator)) }
+{
+    // A slice's constant is what exponent 1 multiplies it by.
+    let constants = coefficients(alloc, gf, lost, 1)?;
+    let p = with_roots(alloc, gf, &constants)?;
+    let factors = factors(alloc, gf, &p, &constants, first)?;
+    let sequence = after_first(alloc, &p)?;
+    let locator = Locator::new(alloc, gf, sequence, constants, factors)?;
+    Ok(locator)
+}
+
+/// The inverse for the exponents from `first` on, as many as slices are lost: where these are few, its rows.
+pub(crate) fn inverse_for_run<'a>(
+    alloc: Global,
+    gf: &'a Gf,
+    lost: &[u32],
+    first: u32,
+) -> Result<Inverse<'a>>
+    requires slices { AreSlices lost.now }
+    requires count { length lost.now ≤ 32768 }
+    ensures { IfOk result (λ inverse. Inverts
+        lost.now (range_with_len first (length lost.now)) inverse) }
+{
+    if lost.len() < LOCATED {
+        Ok(Inverse::Rows(run_inverse(alloc, gf, lost, first)?))
+    } else {
+        Ok(Inverse::Located(run_locator(alloc, gf, lost, first)?))
+    }
+}

@@ -1,0 +1,334 @@
+-- Sums of sources by the error locator.
+use Rattle.par2_transform.proofs.Common.{inl, inr, ℕ, ◌+◌, ◌-◌, ◌*◌, ◌%◌, ◌^◌, ◌<◌, ◌≤◌, ◌≡◌, sym, ap, ap₂, subst, ◌∙◌, arith, bit_xor, zero-add, add-mul, one-mul, List, length, min, get_or, slice_index, get_or_past, length-map, pow-le-pow_right, point_number, cases_eq, cases_lt, pow-add, mul-le-mul_right, word, xor_zero_l, mul, pow, AreElements, product-lt, product_comm, product-one, product_assoc, product_linear_left, zero-product, power-lt, word-lt, field_sum, field_sum-lt, field_sum_same, field_sum_scaled, within, AddsAt, RowsGathered, AreBytes, words_at, list_at, AreValues, AreWeights, value, from, Grid, column, IsAdded, EachColumn, ArePowerSums, power_sum, point, IsListed, AreListedValues, AreNumbered, AreNumerators, AreValuesOf, HaveFirst, IsWeighed, in_coset, numerator, quotient_sum, Place}
+use Rattle.std.proofs.Common.{map}
+use Rattle.std.proofs.lemmas.List.{get_or-map}
+use Rattle.par2_transform.proofs.AddingLaws.{adds_none, adds_more, adds_same, within-in, within-below, within-above, within_joined, within_same}
+use Rattle.par2_transform.proofs.Chirps.{hankel_sum}
+use Rattle.par2_transform.proofs.OutputLaws.{power_sum_plain}
+use Rattle.par2_transform.proofs.Subspaces.{point_number-lt, point_of_number}
+use Rattle.par2_transform.proofs.Sums.{field_sum_swap, field_sum_linear}
+use Rattle.par2_transform.proofs.WindowLaws.{field_sum_short}
+
+-- ---- what a locator has
+
+pub shifted_most : (i : ℕ) → i ≤ 16 → 1 * 2 ^ i % 18446744073709551616 ≡ 2 ^ i
+shifted_most i few =
+    let most : 2 ^ i ≤ 2 ^ 16 = pow-le-pow_right (let two : 0 < 2 = omega arith in two) few in
+    omega (arith, most)
+
+pub numbered_by : (points read numbers told next : List ℕ) → AreElements (slice_index points) → read ≡ points → numbers ≡ map point_number read → told ≡ numbers → length next ≡ 65536
+    → ((j : ℕ) → j < length told → IsListed (slice_index next) (get_or told j 0)) → AreNumbered points numbers next
+numbered_by points read numbers told next fit read_is are told_is places listed = record {
+  count = count;
+  small = λ j. elim (cases_lt j (length points)) [
+    | inl low ↦ subst (λ x. x < 65536) (sym (number_is j low)) (point_number-lt (get_or points j 0))
+    | inr high ↦ subst (λ x. x < 65536) (sym (get_or_past numbers j 0 (omega (arith, high, count)))) (omega arith)
+  ];
+  places = places;
+  points_are = λ j low. ap point (number_is j low) ∙ point_of_number (get_or points j 0) (fit j);
+  listed = λ j low. subst (λ xs. IsListed (slice_index next) (get_or xs j 0)) told_is (listed j (let same = ap (λ (xs : List ℕ). length xs) told_is in omega (arith, low, count, same)));
+}
+  where
+    are_points : numbers ≡ map point_number points
+    are_points = are ∙ ap (map point_number) read_is
+
+    count : length numbers ≡ length points
+    count = ap (λ (xs : List ℕ). length xs) are_points ∙ length-map points point_number
+
+    number_is : (j : ℕ) → j < length points → get_or numbers j 0 ≡ point_number (get_or points j 0)
+    number_is j low = ap (λ xs. get_or xs j 0) are_points ∙ get_or-map point_number points j 0 0 low
+
+pub weighed_by : (k : ℕ) (sequence all told weights : List ℕ) → told ≡ all → length all ≡ 2 ^ k → ((i : ℕ) → i < 2 ^ k → get_or all i 0 ≡ get_or sequence i 0)
+    → length weights ≡ length told → AreElements (slice_index weights)
+    → ((given : ℕ → ℕ) (b : ℕ) → ((e : ℕ) → e < 2 ^ k → get_or told e 0 ≡ given (b + e)) → AreWeights k given b (slice_index weights)) → IsWeighed k sequence weights
+weighed_by k sequence all told weights is count each size fit are = record {
+  count = size ∙ ap (λ (xs : List ℕ). length xs) is ∙ count;
+  fit = fit;
+  are = are (slice_index sequence) 0 (λ e low. ap (λ xs. get_or xs e 0) is ∙ each e low ∙ ap (λ m. get_or sequence m 0) (sym (zero-add e)));
+}
+
+-- ---- rows
+
+pub no_first : (given : ℕ → ℕ → ℕ) (old new : Grid) → new.levels ≡ old.levels → new.words ≡ old.words → ((c u : ℕ) → column new c u ≡ 0) → HaveFirst 0 given old new
+no_first given old new levels words zero = record { levels = levels; words = words; first = λ c u h l. absurd (omega (arith, l)); none = λ c u h. zero c u }
+
+pub next_first : (given : ℕ → ℕ → ℕ) (i : ℕ) (other : ℕ → ℕ) (old mid new : Grid) → HaveFirst i given old mid → IsAdded mid new i other → ((c : ℕ) → c < old.words → other c ≡ given c i)
+    → HaveFirst (i + 1) given old new
+next_first given i other old mid new so_far added is = record {
+  levels = added.levels ∙ so_far.levels;
+  words = added.words ∙ so_far.words;
+  first = λ c u h l. elim (cases_eq u i) [
+    | inl same ↦
+        ap (column new c) same ∙ added.here c (let w = so_far.words in omega (arith, w, h))
+        ∙ ap₂ bit_xor (so_far.none c i (omega arith)) (is c h) ∙ xor_zero_l (given c i) ∙ ap (given c) (sym same)
+    | inr another ↦ added.others c u another ∙ so_far.first c u h (omega (arith, l, another))
+  ];
+  none = λ c u h. added.others c u (λ e. omega (arith, e, h)) ∙ so_far.none c u (omega (arith, h));
+}
+
+pub one_times : (x : ℕ) → x < 65536 → mul 1 x ≡ x
+one_times x h = product_comm 1 x (omega arith) h ∙ product-one x h
+
+pub words_at-lt : (sources : List (List ℕ)) (p : ℕ) → AreBytes sources → AreElements (words_at sources p)
+words_at-lt sources p bytes i = word-lt (list_at sources i) p (bytes i)
+
+-- a value whose further coefficients are 0
+short_value : (n k : ℕ) (f g : ℕ → ℕ) (x : ℕ) → n ≤ 2 ^ k → ((m : ℕ) → m < n → f m ≡ g m) → ((m : ℕ) → n ≤ m → f m ≡ 0) → value (2 ^ k) f x ≡ value n g x
+short_value n k f g x fits same none =
+    field_sum_short n (2 ^ k) (λ m. mul (f m) (pow x m)) fits (λ m h. ap (λ v. mul v (pow x m)) (none m h) ∙ zero-product (pow x m))
+    ∙ field_sum_same n (λ m. mul (f m) (pow x m)) (λ m. mul (g m) (pow x m)) (λ m h. ap (λ v. mul v (pow x m)) (same m h))
+
+-- ---- numerators
+
+pub numerators_are : (sequence weights : List ℕ) (sources : List (List ℕ)) (k at : ℕ) (rows filled values sums cleared gathered new : Grid)
+    → length sources ≡ length sequence → 2 * length sequence ≤ 2 ^ k → AreBytes sources → IsWeighed k sequence weights
+    → rows.levels ≡ k → sums.levels ≡ k → rows.words ≡ sums.words
+    → HaveFirst (length sources) (λ c s. words_at sources (at + c) s) rows filled → EachColumn (AreValues filled.levels) filled values
+    → cleared.levels ≡ sums.levels → cleared.words ≡ sums.words → ((c u : ℕ) → column cleared c u ≡ 0)
+    → RowsGathered (slice_index weights) values (2 ^ cleared.levels) cleared gathered → EachColumn (ArePowerSums gathered.levels) gathered new
+    → AreNumerators sequence sources at sums new
+numerators_are sequence weights sources k at rows filled values sums cleared gathered new count fit bytes weighed rows_levels sums_levels same_words have values_are clear_levels clear_words zero gather power = record {
+  levels = power.levels ∙ gather.levels ∙ clear_levels;
+  words = power.words ∙ gather.words ∙ clear_words;
+  each = λ c t low h.
+      let w = words c in
+      let w_fit = words_at-lt sources (at + c) bytes in
+      power.columns c (omega (arith, low, gather.words, clear_words)) t (subst (λ m. t < 2 ^ m) (sym levels) (omega (arith, h, fit)))
+      ∙ ap (λ m. power_sum (column gathered c) m 0 t) levels ∙ power_sum_plain (column gathered c) k t
+      ∙ field_sum_same (2 ^ k) (λ u. mul (column gathered c u) (pow (point u) t)) (λ u. mul (mul (get_or weights u 0) (value n w (point u))) (pow (point u) t))
+      (λ u l. ap (λ v. mul v (pow (point u) t)) (here c u low l))
+      ∙ sym (hankel_sum k 0 n t (slice_index sequence) (slice_index weights) w weighed.fit w_fit (omega (arith, h, fit)) weighed.are)
+      ∙ field_sum_same n (λ s. mul (get_or sequence (0 + (s + t)) 0) (w s)) (λ s. mul (get_or sequence (s + t) 0) (w s)) (λ s l. ap (λ m. mul (get_or sequence m 0) (w s)) (zero-add (s + t)));
+}
+  where
+    n : ℕ
+    n = length sequence
+
+    words : ℕ → ℕ → ℕ
+    words c = words_at sources (at + c)
+
+    levels : gathered.levels ≡ k
+    levels = gather.levels ∙ clear_levels ∙ sums_levels
+
+    filled_levels : filled.levels ≡ k
+    filled_levels = have.levels ∙ rows_levels
+
+    value_is : (c u : ℕ) → c < sums.words → u < 2 ^ k → column values c u ≡ value n (words c) (point u)
+    value_is c u low l =
+        values_are.columns c (omega (arith, low, have.words, same_words)) u (subst (λ m. u < 2 ^ m) (sym filled_levels) l)
+        ∙ ap (λ m. value (2 ^ m) (column filled c) (point u)) filled_levels
+        ∙ short_value n k (column filled c) (words c) (point u) (omega (arith, fit)) (λ m h. have.first c m (omega (arith, low, same_words)) (omega (arith, h, count))) (λ m h. have.none c m (omega (arith, h, count)))
+
+    here : (c u : ℕ) → c < sums.words → u < 2 ^ k → column gathered c u ≡ mul (get_or weights u 0) (value n (words c) (point u))
+    here c u low l =
+        gather.done c u (omega (arith, low, clear_words)) (subst (λ m. u < 2 ^ m) (sym (clear_levels ∙ sums_levels)) l)
+        ∙ ap₂ bit_xor (zero c u) (ap (mul (get_or weights u 0)) (value_is c u low l)) ∙ xor_zero_l (mul (get_or weights u 0) (value n (words c) (point u)))
+
+-- ---- values at points
+
+pub values_of : (next : List ℕ) (k coset n : ℕ) (sums old mid new : Grid) → n ≤ 2 ^ k → old.levels ≡ k → HaveFirst n (column sums) old mid
+    → EachColumn (AreListedValues (slice_index next) mid.levels coset) mid new → AreValuesOf next k coset n sums old new
+values_of next k coset n sums old mid new fits levels have values = record {
+  levels = values.levels ∙ have.levels;
+  words = values.words ∙ have.words;
+  each = λ c u low here listed.
+      at_k.columns c (omega (arith, low, have.words)) u here listed
+      ∙ short_value n k (column mid c) (column sums c) (point (coset * 2 ^ k + u)) fits (λ m h. have.first c m low h) (λ m h. have.none c m h);
+}
+  where
+    at_k : EachColumn (AreListedValues (slice_index next) k coset) mid new
+    at_k = subst (λ m. EachColumn (AreListedValues (slice_index next) m coset) mid new) (have.levels ∙ levels) values
+
+-- ---- the product, by the numerator's values
+
+pub by_numerator : (n b x : ℕ) (h w : ℕ → ℕ) → b < 65536 → x < 65536 → AreElements h → AreElements w
+    → mul b (value n (λ t. field_sum n (λ s. mul (h (s + t)) (w s))) x) ≡ field_sum n (λ s. mul (mul b (value n (from s h) x)) (w s))
+by_numerator n b x h w hb hx hh hw =
+    ap (mul b)
+    (field_sum_same n (λ t. mul (field_sum n (λ s. mul (h (s + t)) (w s))) (pow x t)) (λ t. field_sum n (λ s. mul (mul (h (s + t)) (pow x t)) (w s)))
+    (λ t l. sym (field_sum_linear n (λ v. mul v (pow x t)) (λ s. mul (h (s + t)) (w s)) (product_linear_left (pow x t)))
+    ∙ field_sum_same n (λ s. mul (mul (h (s + t)) (w s)) (pow x t)) (λ s. mul (mul (h (s + t)) (pow x t)) (w s)) (λ s m. turn (h (s + t)) (w s) (pow x t) (hh (s + t)) (hw s) (power-lt x t hx)))
+    ∙ field_sum_swap n n (λ t s. mul (mul (h (s + t)) (pow x t)) (w s))
+    ∙ field_sum_same n (λ s. field_sum n (λ t. mul (mul (h (s + t)) (pow x t)) (w s))) (λ s. mul (value n (from s h) x) (w s))
+    (λ s l. field_sum_linear n (λ v. mul v (w s)) (λ t. mul (h (s + t)) (pow x t)) (product_linear_left (w s))))
+    ∙ sym (field_sum_scaled n b (λ s. mul (value n (from s h) x) (w s)))
+    ∙ field_sum_same n (λ s. mul b (mul (value n (from s h) x) (w s))) (λ s. mul (mul b (value n (from s h) x)) (w s))
+    (λ s l. sym (product_assoc b (value n (from s h) x) (w s) hb (field_sum-lt n (λ t. mul (h (s + t)) (pow x t)) (λ t. product-lt (h (s + t)) (pow x t) (hh (s + t)) (power-lt x t hx))) (hw s)))
+  where
+    turn : (a v p : ℕ) → a < 65536 → v < 65536 → p < 65536 → mul (mul a v) p ≡ mul (mul a p) v
+    turn a v p ha hv hp = product_assoc a v p ha hv hp ∙ ap (mul a) (product_comm v p hv hp) ∙ sym (product_assoc a p v ha hp hv)
+
+-- what a point's value gives to its output
+pub given_is : (sequence points factors numbers next : List ℕ) (sources : List (List ℕ)) (k coset at : ℕ) (sums old rows : Grid)
+    → AreBytes sources → AreElements (slice_index sequence) → AreElements (slice_index points) → AreElements (slice_index factors) → AreNumbered points numbers next
+    → AreValuesOf next k coset (length sequence) sums old rows → sums.words ≡ old.words
+    → ((c t : ℕ) → c < sums.words → t < length sequence → column sums c t ≡ numerator sequence (words_at sources (at + c)) t)
+    → (j p : ℕ) → j < length points → at ≤ p → p < at + old.words → coset * 2 ^ k ≤ get_or numbers j 0 → get_or numbers j 0 < coset * 2 ^ k + 2 ^ k
+    → mul (get_or factors j 0) (column rows (p - at) (get_or numbers j 0 - coset * 2 ^ k)) ≡ quotient_sum sequence points factors (words_at sources p) j
+given_is sequence points factors numbers next sources k coset at sums old rows bytes sequence_fit points_fit factors_fit numbered values same numerators j p low from_at within_words first last =
+    ap (mul b)
+    (values.each c u (omega (arith, from_at, within_words)) (omega (arith, first, last)) (subst (IsListed (slice_index next)) (sym number_is) (numbered.listed j low))
+    ∙ ap (value n (column sums c)) (ap point number_is ∙ numbered.points_are j low)
+    ∙ field_sum_same n (λ t. mul (column sums c t) (pow x t)) (λ t. mul (numerator sequence w t) (pow x t))
+    (λ t h. ap (λ v. mul v (pow x t)) (numerators c t (omega (arith, from_at, within_words, same)) h ∙ ap (λ q. numerator sequence (words_at sources q) t) place)))
+    ∙ by_numerator n b x (slice_index sequence) w (factors_fit j) (points_fit j) sequence_fit (words_at-lt sources p bytes)
+  where
+    n : ℕ
+    n = length sequence
+
+    b : ℕ
+    b = get_or factors j 0
+
+    x : ℕ
+    x = get_or points j 0
+
+    c : ℕ
+    c = p - at
+
+    u : ℕ
+    u = get_or numbers j 0 - coset * 2 ^ k
+
+    w : ℕ → ℕ
+    w = words_at sources p
+
+    place : at + c ≡ p
+    place = omega (arith, from_at)
+
+    number_is : coset * 2 ^ k + u ≡ get_or numbers j 0
+    number_is = omega (arith, first)
+
+-- ---- one point
+
+-- a coset is within all points
+pub coset_fits : (k coset : ℕ) → k ≤ 16 → coset < 2 ^ (16 - k) → coset * 2 ^ k + 2 ^ k ≤ 65536
+coset_fits k coset few low =
+    let more : (coset + 1) * 2 ^ k ≤ 2 ^ (16 - k) * 2 ^ k = mul-le-mul_right (2 ^ k) (let s : coset + 1 ≤ 2 ^ (16 - k) = omega (arith, low) in s) in
+    let whole : 2 ^ (16 - k) * 2 ^ k ≡ 65536 = sym (pow-add 2 (16 - k) k) ∙ ap (λ m. 2 ^ m) (let e : 16 - k + k ≡ 16 = omega (arith, few) in e) in
+    let next : (coset + 1) * 2 ^ k ≡ coset * 2 ^ k + 2 ^ k = add-mul coset 1 (2 ^ k) ∙ ap (λ m. coset * 2 ^ k + m) (one-mul (2 ^ k)) in
+    omega (arith, more, whole, next)
+
+pub coset_first : (k coset : ℕ) → k ≤ 16 → coset < 2 ^ (16 - k) → coset * 2 ^ k % 18446744073709551616 ≡ coset * 2 ^ k
+coset_first k coset few low = omega (arith, coset_fits k coset few low)
+
+within_zero : (from to p x : ℕ) → x ≡ 0 → within from to p x ≡ 0
+within_zero from to p x is = ap (within from to p) is ∙ (elim (cases_lt p from) [
+  | inl below ↦ within-below from to p 0 below
+  | inr at_least ↦ elim (cases_lt p to) [ inl here ↦ within-in from to p 0 at_least here | inr above ↦ within-above from to p 0 above ]
+])
+
+pub point_before : (places : List Place) (len : ℕ) (numbers : List ℕ) (k coset j : ℕ) (given : ℕ → ℕ) (texts : List (List ℕ)) → get_or numbers j 0 < coset * 2 ^ k
+    → AddsAt places len (λ t p. within j (j + 1) t (in_coset numbers k coset j (given p))) texts texts
+point_before places len numbers k coset j given texts before =
+    adds_none places len (λ t p. within j (j + 1) t (in_coset numbers k coset j (given p))) texts
+    (λ t p. within_zero j (j + 1) t (in_coset numbers k coset j (given p)) (within-below (coset * 2 ^ k) (coset * 2 ^ k + 2 ^ k) (get_or numbers j 0) (given p) before))
+
+pub point_behind : (places : List Place) (len : ℕ) (numbers : List ℕ) (k coset j : ℕ) (given : ℕ → ℕ) (texts : List (List ℕ)) → coset * 2 ^ k + 2 ^ k ≤ get_or numbers j 0
+    → AddsAt places len (λ t p. within j (j + 1) t (in_coset numbers k coset j (given p))) texts texts
+point_behind places len numbers k coset j given texts behind =
+    adds_none places len (λ t p. within j (j + 1) t (in_coset numbers k coset j (given p))) texts
+    (λ t p. within_zero j (j + 1) t (in_coset numbers k coset j (given p)) (within-above (coset * 2 ^ k) (coset * 2 ^ k + 2 ^ k) (get_or numbers j 0) (given p) behind))
+
+pub point_taken : (places : List Place) (len : ℕ) (numbers : List ℕ) (k coset j at to c b u : ℕ) (row : List ℕ) (rows : Grid) (was texts : List (List ℕ)) → c ≡ b → ((q : ℕ) → word q row ≡ column rows q u)
+    → u ≡ get_or numbers j 0 - coset * 2 ^ k → coset * 2 ^ k ≤ get_or numbers j 0 → get_or numbers j 0 < coset * 2 ^ k + 2 ^ k
+    → AddsAt places len (λ t p. within j (j + 1) t (within at to p (mul c (word (p - at) row)))) was texts
+    → AddsAt places len (λ t p. within j (j + 1) t (in_coset numbers k coset j (within at to p (mul b (column rows (p - at) (get_or numbers j 0 - coset * 2 ^ k)))))) was texts
+point_taken places len numbers k coset j at to c b u row rows was texts factor words place first last added =
+    adds_same places len (λ t p. within j (j + 1) t (within at to p (mul c (word (p - at) row))))
+    (λ t p. within j (j + 1) t (in_coset numbers k coset j (within at to p (mul b (column rows (p - at) (get_or numbers j 0 - coset * 2 ^ k)))))) was texts added
+    (λ t p h fits. ap (within j (j + 1) t)
+    (ap (within at to p) (ap₂ mul factor (words (p - at) ∙ ap (column rows (p - at)) place))
+    ∙ sym (within-in (coset * 2 ^ k) (coset * 2 ^ k + 2 ^ k) (get_or numbers j 0) (within at to p (mul b (column rows (p - at) (get_or numbers j 0 - coset * 2 ^ k)))) first last)))
+
+-- ---- outputs, point by point
+
+-- the first n points of a coset were taken
+abbrev pub PointsAdded : List Place → ℕ → List ℕ → ℕ → ℕ → ℕ → ℕ → (ℕ → ℕ → ℕ) → ℕ → List (List ℕ) → List (List ℕ) → Type 0
+PointsAdded places len numbers k coset at to given n was texts =
+    AddsAt places len (λ t p. within 0 n t (in_coset numbers k coset t (within at to p (given t p)))) was texts
+
+none_within : (x t : ℕ) → within 0 0 t x ≡ 0
+none_within x t = within-above 0 0 t x (omega arith)
+
+pub no_point : (places : List Place) (len : ℕ) (numbers : List ℕ) (k coset at to : ℕ) (given : ℕ → ℕ → ℕ) (texts : List (List ℕ)) → PointsAdded places len numbers k coset at to given 0 texts texts
+no_point places len numbers k coset at to given texts =
+    adds_none places len (λ t p. within 0 0 t (in_coset numbers k coset t (within at to p (given t p)))) texts (λ t p. none_within (in_coset numbers k coset t (within at to p (given t p))) t)
+
+pub next_point : (places : List Place) (len : ℕ) (numbers : List ℕ) (k coset at to n : ℕ) (given other : ℕ → ℕ → ℕ) (was half texts : List (List ℕ))
+    → PointsAdded places len numbers k coset at to given n was half
+    → AddsAt places len (λ t p. within n (n + 1) t (in_coset numbers k coset n (within at to p (other n p)))) half texts
+    → ((p : ℕ) → at ≤ p → p < to → coset * 2 ^ k ≤ get_or numbers n 0 → get_or numbers n 0 < coset * 2 ^ k + 2 ^ k → other n p ≡ given n p)
+    → PointsAdded places len numbers k coset at to given (n + 1) was texts
+next_point places len numbers k coset at to n given other was half texts so_far added same =
+    adds_more places len (λ t p. within 0 n t (part t p)) (λ t p. within n (n + 1) t (in_coset numbers k coset n (within at to p (other n p)))) (λ t p. within 0 (n + 1) t (part t p)) was half texts so_far added
+    (λ t p h fits.
+    ap (bit_xor (within 0 n t (part t p)))
+    (within_same n (n + 1) t (in_coset numbers k coset n (within at to p (other n p))) (part t p) (λ low high.
+    within_same (coset * 2 ^ k) (coset * 2 ^ k + 2 ^ k) (get_or numbers n 0) (within at to p (other n p)) (within at to p (given n p))
+    (λ first last. within_same at to p (other n p) (given n p) (λ a b. same p a b first last))
+    ∙ ap (λ m. part m p) (let e : n ≡ t = omega (arith, low, high) in e)))
+    ∙ within_joined 0 n (n + 1) t (part t p) (omega arith) (omega arith))
+  where
+    part : ℕ → ℕ → ℕ
+    part t p = in_coset numbers k coset t (within at to p (given t p))
+
+pub all_points : (places : List Place) (len : ℕ) (numbers : List ℕ) (k coset at to n : ℕ) (given : ℕ → ℕ → ℕ) (was texts : List (List ℕ)) → length places ≡ n → PointsAdded places len numbers k coset at to given n was texts
+    → AddsAt places len (λ t p. in_coset numbers k coset t (within at to p (given t p))) was texts
+all_points places len numbers k coset at to n given was texts count added =
+    adds_same places len (λ t p. within 0 n t (in_coset numbers k coset t (within at to p (given t p)))) (λ t p. in_coset numbers k coset t (within at to p (given t p))) was texts added
+    (λ t p h fits. within-in 0 n t (in_coset numbers k coset t (within at to p (given t p))) (omega arith) (omega (arith, h, count)))
+
+-- ---- coset by coset
+
+-- the first n cosets were taken
+abbrev pub CosetsAdded : List Place → ℕ → List ℕ → ℕ → ℕ → ℕ → (ℕ → ℕ → ℕ) → ℕ → List (List ℕ) → List (List ℕ) → Type 0
+CosetsAdded places len numbers k at to given n was texts =
+    AddsAt places len (λ t p. within 0 (n * 2 ^ k) (get_or numbers t 0) (within at to p (given t p))) was texts
+
+pub no_coset : (places : List Place) (len : ℕ) (numbers : List ℕ) (k at to : ℕ) (given : ℕ → ℕ → ℕ) (texts : List (List ℕ)) → CosetsAdded places len numbers k at to given 0 texts texts
+no_coset places len numbers k at to given texts =
+    adds_none places len (λ t p. within 0 (0 * 2 ^ k) (get_or numbers t 0) (within at to p (given t p))) texts (λ t p. within-above 0 (0 * 2 ^ k) (get_or numbers t 0) (within at to p (given t p)) (omega arith))
+
+pub next_coset : (places : List Place) (len : ℕ) (numbers : List ℕ) (k at to n : ℕ) (given : ℕ → ℕ → ℕ) (was half texts : List (List ℕ)) → CosetsAdded places len numbers k at to given n was half
+    → AddsAt places len (λ t p. in_coset numbers k n t (within at to p (given t p))) half texts → CosetsAdded places len numbers k at to given (n + 1) was texts
+next_coset places len numbers k at to n given was half texts so_far added =
+    let end : n * 2 ^ k + 2 ^ k ≡ (n + 1) * 2 ^ k = sym (add-mul n 1 (2 ^ k) ∙ ap (λ m. n * 2 ^ k + m) (one-mul (2 ^ k))) in
+    adds_more places len (λ t p. within 0 (n * 2 ^ k) (get_or numbers t 0) (part t p)) (λ t p. in_coset numbers k n t (part t p)) (λ t p. within 0 ((n + 1) * 2 ^ k) (get_or numbers t 0) (part t p)) was half texts so_far added
+    (λ t p h fits.
+    within_joined 0 (n * 2 ^ k) (n * 2 ^ k + 2 ^ k) (get_or numbers t 0) (part t p) (omega arith) (omega arith)
+    ∙ ap (λ m. within 0 m (get_or numbers t 0) (part t p)) end)
+  where
+    part : ℕ → ℕ → ℕ
+    part t p = within at to p (given t p)
+
+pub all_cosets : (places : List Place) (len : ℕ) (numbers : List ℕ) (k at to n : ℕ) (given : ℕ → ℕ → ℕ) (was texts : List (List ℕ)) → k ≤ 16 → n ≡ 2 ^ (16 - k) → ((t : ℕ) → get_or numbers t 0 < 65536)
+    → CosetsAdded places len numbers k at to given n was texts → AddsAt places len (λ t p. within at to p (given t p)) was texts
+all_cosets places len numbers k at to n given was texts few is small added =
+    let whole : n * 2 ^ k ≡ 65536 = ap (λ m. m * 2 ^ k) is ∙ sym (pow-add 2 (16 - k) k) ∙ ap (λ m. 2 ^ m) (let e : 16 - k + k ≡ 16 = omega (arith, few) in e) in
+    adds_same places len (λ t p. within 0 (n * 2 ^ k) (get_or numbers t 0) (within at to p (given t p))) (λ t p. within at to p (given t p)) was texts added
+    (λ t p h fits. within-in 0 (n * 2 ^ k) (get_or numbers t 0) (within at to p (given t p)) (omega arith) (omega (arith, whole, small t)))
+
+-- ---- columns by columns
+
+abbrev pub WordsAdded : List Place → ℕ → ℕ → (ℕ → ℕ → ℕ) → ℕ → List (List ℕ) → List (List ℕ) → Type 0
+WordsAdded places len columns given n was texts = AddsAt places len (λ t p. within 0 (min len (n * columns)) p (given t p)) was texts
+
+pub no_words : (places : List Place) (len columns : ℕ) (given : ℕ → ℕ → ℕ) (texts : List (List ℕ)) → WordsAdded places len columns given 0 texts texts
+no_words places len columns given texts =
+    adds_none places len (λ t p. within 0 (min len (0 * columns)) p (given t p)) texts (λ t p. within-above 0 (min len (0 * columns)) p (given t p) (omega arith))
+
+pub next_words : (places : List Place) (len columns n to : ℕ) (given : ℕ → ℕ → ℕ) (was half texts : List (List ℕ)) → WordsAdded places len columns given n was half → n * columns < len → to ≡ n * columns + min columns (len - n * columns)
+    → AddsAt places len (λ t p. within (n * columns) to p (given t p)) half texts → WordsAdded places len columns given (n + 1) was texts
+next_words places len columns n to given was half texts so_far low place added =
+    let here : min len (n * columns) ≡ n * columns = omega (arith, low) in
+    let next : (n + 1) * columns ≡ n * columns + columns = omega arith in
+    let there : to ≡ min len ((n + 1) * columns) = omega (arith, place, next, low) in
+    adds_more places len (λ t p. within 0 (min len (n * columns)) p (given t p)) (λ t p. within (n * columns) to p (given t p)) (λ t p. within 0 (min len ((n + 1) * columns)) p (given t p)) was half texts so_far added
+    (λ t p h fits.
+    ap (λ m. bit_xor (within 0 m p (given t p)) (within (n * columns) to p (given t p))) here
+    ∙ within_joined 0 (n * columns) to p (given t p) (omega arith) (omega (arith, place))
+    ∙ ap (λ m. within 0 m p (given t p)) there)
+
+pub all_words : (places : List Place) (len columns n : ℕ) (given : ℕ → ℕ → ℕ) (was texts : List (List ℕ)) → len ≤ n * columns → WordsAdded places len columns given n was texts → AddsAt places len given was texts
+all_words places len columns n given was texts enough added =
+    adds_same places len (λ t p. within 0 (min len (n * columns)) p (given t p)) given was texts added
+    (λ t p h fits. within-in 0 (min len (n * columns)) p (given t p) (omega arith) (omega (arith, enough, fits)))

@@ -1,0 +1,63 @@
+use Rattle.par2_transform.proofs.Common.{◌+◌, ◌-◌, ◌^◌, ◌<◌, ◌≤◌, ◌≡◌, ◌∙◌, sym, subst, arith, lists_of, texts_of, words_at, quotient_sum}
+use Rattle.par2_transform.proofs.AddingLaws.{still_within}
+use Rattle.par2_transform.proofs.LocatorLaws.{shifted_most, no_coset, next_coset, all_cosets}
+use Rattle.par2_transform.proofs.locator.Locator.add_columns.Goals as goal
+
+pub loop-coset-init : goal.loop-coset-init
+loop-coset-init c =
+    let self = c.args.self.now in
+    record {
+      levels = c.sum.ensures.levels;
+      words = c.sum.ensures.words;
+      added = no_coset c.args.outputs.now.places.now c.args.outputs.now.words self.numbers.items self.levels c.args.from c.args.to (λ t p. quotient_sum self.sequence.items self.points.items self.factors.items (words_at (texts_of c.args.sources.now) p) t) (lists_of c.args.texts.now);
+    }
+
+pub add_coset-requires : goal.add_coset-requires
+add_coset-requires c =
+    let self = c.args.self.now in
+    let l = c.loop-coset in
+    let numerators = c.sum.ensures.numerators in
+    record {
+      coset = subst (λ n. l.coset < n) (shifted_most (16 - self.levels) (omega arith)) c.loop-coset-test.true;
+      count = c.requires.count;
+      rows = l.invariant.levels ∙ c.requires.rows;
+      sums = numerators.levels ∙ c.requires.sums;
+      words = numerators.words ∙ sym c.requires.words ∙ sym l.invariant.words;
+      bytes = c.sum.ensures.bytes;
+      numerators = λ k t low h. numerators.each k t (subst (λ n. k < n) numerators.words low) h;
+      order = c.requires.order;
+      columns = subst (λ n. c.args.to ≤ c.args.from + n) (sym l.invariant.words) c.requires.columns;
+      inside = c.requires.inside;
+      room = still_within c.args.outputs.now.places.now c.args.outputs.now.words c.args.outputs.now.words _ (lists_of c.args.texts.now) (lists_of l.texts) l.invariant.added c.requires.room;
+    }
+
+pub loop-coset-preserved : goal.loop-coset-preserved
+loop-coset-preserved c =
+    let self = c.args.self.now in
+    let l = c.loop-coset in
+    record {
+      levels = c.add_coset.ensures.levels ∙ l.invariant.levels;
+      words = c.add_coset.ensures.words ∙ l.invariant.words;
+      added = next_coset c.args.outputs.now.places.now c.args.outputs.now.words self.numbers.items self.levels c.args.from c.args.to l.coset (λ t p. quotient_sum self.sequence.items self.points.items self.factors.items (words_at (texts_of c.args.sources.now) p) t)
+          (lists_of c.args.texts.now) (lists_of l.texts) (lists_of c.add_coset.new.texts) l.invariant.added c.add_coset.ensures.added;
+    }
+
+pub returns-clause-rows_levels : goal.returns-clause-rows_levels
+returns-clause-rows_levels c = c.loop-coset.invariant.levels
+
+pub returns-clause-rows_words : goal.returns-clause-rows_words
+returns-clause-rows_words c = c.loop-coset.invariant.words
+
+pub returns-clause-sums_levels : goal.returns-clause-sums_levels
+returns-clause-sums_levels c = c.sum.ensures.numerators.levels
+
+pub returns-clause-sums_words : goal.returns-clause-sums_words
+returns-clause-sums_words c = c.sum.ensures.numerators.words
+
+pub returns-clause-added : goal.returns-clause-added
+returns-clause-added c =
+    let self = c.args.self.now in
+    let l = c.loop-coset in
+    let end : l.coset ≡ 2 ^ (16 - self.levels) = omega (arith, c.loop-coset-test.false, c.loop-coset.auto.coset-end, shifted_most (16 - self.levels) (omega arith)) in
+    all_cosets c.args.outputs.now.places.now c.args.outputs.now.words self.numbers.items self.levels c.args.from c.args.to l.coset (λ t p. quotient_sum self.sequence.items self.points.items self.factors.items (words_at (texts_of c.args.sources.now) p) t)
+    (lists_of c.args.texts.now) (lists_of l.texts) self.few end self.numbered.small l.invariant.added

@@ -1,0 +1,50 @@
+use Rattle.par2_transform.proofs.Common.{◌+◌, ◌-◌, ◌*◌, ◌^◌, ◌<◌, ◌≤◌, ◌≡◌, ◌∙◌, sym, subst, arith, rules, length, get_or, mul, lists_of, texts_of, words_at, column, quotient_sum}
+use Rattle.par2_transform.proofs.AddingLaws.{still_within}
+use Rattle.par2_transform.proofs.LocatorLaws.{no_point, next_point, all_points, given_is}
+use Rattle.par2_transform.proofs.locator.Locator.add_coset.Goals as goal
+
+pub add_point-requires : goal.add_point-requires
+add_point-requires c =
+    let low : c.loop-j.j < length c.args.outputs.now.places.now = search rules in
+    record {
+      coset = c.requires.coset;
+      place = low;
+      count = c.requires.count;
+      rows = c.evaluate.ensures.levels ∙ c.requires.rows;
+      order = c.requires.order;
+      columns = subst (λ n. c.args.to ≤ c.args.from + n) (sym c.evaluate.ensures.words) c.requires.columns;
+      inside = c.requires.inside;
+      room = still_within c.args.outputs.now.places.now c.args.outputs.now.words c.args.outputs.now.words _ (lists_of c.args.texts.now) (lists_of c.loop-j.texts) c.loop-j.invariant c.requires.room;
+    }
+
+pub loop-j-init : goal.loop-j-init
+loop-j-init c =
+    let self = c.args.self.now in
+    no_point c.args.outputs.now.places.now c.args.outputs.now.words self.numbers.items self.levels c.args.coset c.args.from c.args.to (λ t p. quotient_sum self.sequence.items self.points.items self.factors.items (words_at (texts_of c.args.sources.now) p) t) (lists_of c.args.texts.now)
+
+pub loop-j-preserved : goal.loop-j-preserved
+loop-j-preserved c =
+    let self = c.args.self.now in
+    let sources = texts_of c.args.sources.now in
+    let rows = c.evaluate.new.rows in
+    let low : c.loop-j.j < length c.args.outputs.now.places.now = search rules in
+    next_point c.args.outputs.now.places.now c.args.outputs.now.words self.numbers.items self.levels c.args.coset c.args.from c.args.to c.loop-j.j (λ t p. quotient_sum self.sequence.items self.points.items self.factors.items (words_at sources p) t)
+    (λ j p. mul (get_or self.factors.items j 0) (column rows (p - c.args.from) (get_or self.numbers.items j 0 - c.args.coset * 2 ^ self.levels)))
+    (lists_of c.args.texts.now) (lists_of c.loop-j.texts) (lists_of c.add_point.new.texts) c.loop-j.invariant c.add_point.ensures
+    (λ p from_here high first last.
+    given_is self.sequence.items self.points.items self.factors.items self.numbers.items self.next.items sources self.levels c.args.coset c.args.from c.args.sums.now c.args.rows.now rows
+    c.requires.bytes self.elements.sequence_fit self.elements.points_fit self.elements.factors_fit self.numbered c.evaluate.ensures c.requires.words c.requires.numerators
+    c.loop-j.j p (omega (arith, low, c.requires.count)) from_here (omega (arith, high, c.requires.columns)) first last)
+
+pub returns-clause-levels : goal.returns-clause-levels
+returns-clause-levels c = c.evaluate.ensures.levels
+
+pub returns-clause-words : goal.returns-clause-words
+returns-clause-words c = c.evaluate.ensures.words
+
+pub returns-clause-added : goal.returns-clause-added
+returns-clause-added c =
+    let self = c.args.self.now in
+    let end : length c.args.outputs.now.places.now ≡ c.loop-j.j = search rules in
+    all_points c.args.outputs.now.places.now c.args.outputs.now.words self.numbers.items self.levels c.args.coset c.args.from c.args.to c.loop-j.j (λ t p. quotient_sum self.sequence.items self.points.items self.factors.items (words_at (texts_of c.args.sources.now) p) t)
+    (lists_of c.args.texts.now) (lists_of c.loop-j.texts) end c.loop-j.invariant

@@ -1,0 +1,12 @@
+use Rattle.par2_transform.proofs.Common.{◌≡◌, lists_of, texts_of, words_at, quotient_sum}
+use Rattle.par2_transform.proofs.LocatorLaws.{WordsAdded}
+use Rattle.par2_transform.proofs.locator.Locator.add_words.Given as goal
+
+abbrev pub invariant-loop-k : goal.invariant-loop-k
+invariant-loop-k l = record {
+  rows_levels : l.rows.levels ≡ l.self.levels;
+  rows_words : l.rows.words ≡ l.columns;
+  sums_levels : l.sums.levels ≡ l.self.levels;
+  sums_words : l.sums.words ≡ l.columns;
+  added : WordsAdded l.outputs.places.now l.outputs.words l.columns (λ t p. quotient_sum l.self.sequence.items l.self.points.items l.self.factors.items (words_at (texts_of l.sources) p) t) l.k (lists_of l.fn.texts) (lists_of l.texts);
+}

@@ -1,0 +1,105 @@
+//! Values of polynomials at some points of a coset of a subspace.
+
+ghost use Rattle.std.specs.Prelude.{◌≡◌, ℕ, ◌+◌, ◌-◌, ◌*◌, ◌^◌, ◌<◌, ◌≤◌, suc, length, slice_index, IfOk};
+ghost use Rattle.par2_transform.specs.Cosets.{AreListedValues, IsListed, IsListedLevel, IsListedSplit, run_in};
+ghost use Rattle.par2_transform.specs.Grids.{EachColumn};
+ghost use Rattle.par2_transform.specs.Steps.{OnElements, OneRun};
+
+use crate::basis::point;
+use crate::levels::split;
+use crate::rows::Rows;
+use par2_gf16::Gf;
+use std::alloc::{AllocError, Global};
+
+/// How many points there are.
+const POINTS: usize = 65536;
+
+/// From each number on, the least of these numbers, or as many as there are points.
+pub(crate) fn list(alloc: Global, numbers: &[u16]) -> Result<Vec<u32>, AllocError>
+    ensures count { IfOk result (λ next. length next.items ≡ 65536) }
+    ensures listed { IfOk result (λ next. (j : ℕ) → j < length numbers.now
+        → IsListed (slice_index next.items) (slice_index numbers.now j)) }
+{
+    let mut next = vec![in alloc; POINTS as u32; POINTS]?;
+    name_all(numbers, next.as_mut_slice());
+    Ok(next)
+}
+
+// From each place on, names the least of the numbers.
+fn name_all(numbers: &[u16], next: &mut [u32])
+    requires { length next.old ≡ 65536 }
+    ensures { (j : ℕ) → j < length numbers.now
+        → IsListed (slice_index next.new) (slice_index numbers.now j) }
+{
+    name_each(numbers, next);
+    name_least(next);
+}
+
+// Names each number at its place.
+fn name_each(numbers: &[u16], next: &mut [u32])
+    requires { length next.old ≡ 65536 }
+    ensures { (j : ℕ) → j < length numbers.now
+        → slice_index next.new (slice_index numbers.now j) ≤ slice_index numbers.now j }
+{
+    for number in numbers {
+        next[*number as usize] = *number as u32;
+    }
+}
+
+// At each place, names the least of what is named from there on.
+fn name_least(next: &mut [u32])
+    ensures { (n : ℕ) → n < length next.old → slice_index next.old n ≤ n
+        → IsListed (slice_index next.new) n }
+{
+    for a in (1..next.len()).rev() {
+        next[a - 1] = next[a - 1].min(next[a]);
+    }
+}
+
+// Splits run q of a coset into two, where a listed point is in it.
+fn split_listed(gf: &Gf, rows: &mut Rows, next: &[u32], coset: usize, i: u32, q: usize)
+    requires few { rows.old.levels ≤ 16 }
+    requires level { i < rows.old.levels }
+    requires run { q < 2 ^ (rows.old.levels - suc i) }
+    requires coset { coset < 2 ^ (16 - rows.old.levels) }
+    requires count { length next.now ≡ 65536 }
+    ensures { EachColumn (OnElements (OneRun (q * 2 ^ suc i) (2 ^ suc i)
+        (IsListedSplit (slice_index next.now) i (run_in rows.old.levels coset (suc i) q))))
+        rows.old rows.new }
+{
+    let size = 2usize << i;
+    let number = (coset << (rows.levels() - i - 1)) + q;
+    if (next[number * size] as usize) < number * size + size {
+        split(gf, rows, i, q as u16, point(2 * number as u16));
+    }
+}
+
+// Splits the runs of the next level into two that have a listed point.
+fn split_listed_level(gf: &Gf, rows: &mut Rows, next: &[u32], coset: usize, i: u32)
+    requires few { rows.old.levels ≤ 16 }
+    requires level { i < rows.old.levels }
+    requires coset { coset < 2 ^ (16 - rows.old.levels) }
+    requires count { length next.now ≡ 65536 }
+    ensures { EachColumn (IsListedLevel (slice_index next.now) rows.old.levels coset i)
+        rows.old rows.new }
+{
+    rows.fit();
+    for q in 0..1usize << (rows.levels() - i - 1) {
+        split_listed(gf, rows, next, coset, i, q);
+    }
+}
+
+/// Of each column of coefficients, the values of the polynomial at the listed points of a coset.
+pub(crate) fn values_in_coset(gf: &Gf, rows: &mut Rows, next: &[u32], coset: usize)
+    requires few { rows.old.levels ≤ 16 }
+    requires coset { coset < 2 ^ (16 - rows.old.levels) }
+    requires count { length next.now ≡ 65536 }
+    ensures { EachColumn (AreListedValues (slice_index next.now) rows.old.levels coset)
+        rows.old rows.new }
+{
+    for i in (0..rows.levels()).rev() {
+        split_listed_level(gf, rows, next, coset, i);
+        rows.fit();
+    }
+    rows.fit();
+}
