@@ -3,8 +3,8 @@
 # change: the two take turns over the same folder, and a line has the least milliseconds of some rounds of each, and their
 # ratio. They are those of the clock, or of the processor while it ran the program itself, where the line says so.
 # usage: against_before.sh PROGRAM BEFORE
-#     SCENES names those to run, of the functions below; all of them without the word. SHARE, a power of 2, divides how many
-#     slices there are, to try the scenes
+#     SCENES names those to run, of the functions below; all of them without the word. SHARE, a power of 2, divides the number of
+#     slices, to try the scenes
 set -eu
 program=$(realpath "$1")
 before=$(realpath "$2")
@@ -21,7 +21,7 @@ line() {
     rm "$room"/ours* "$room"/before*
 }
 
-# protected SIZE SLICES COUNT: a file of so many slices and a set of it, which a program of ours made.
+# protected SIZE SLICES COUNT: a file of SLICES slices, and a set of it with COUNT recovery slices that ours made.
 protected() {
     rm -rf "$room/kept"
     find . -mindepth 1 -delete
@@ -31,7 +31,7 @@ protected() {
     rm .par2undo
 }
 
-# lost SIZE FIRST STEP COUNT: the file as it was, but for so many slices, each STEP-th one from number FIRST on.
+# lost SIZE FIRST STEP COUNT: the file as it was, but for COUNT slices: each STEP-th one from number FIRST on.
 lost() {
     cp "$room/whole" data
     overwrite "$1" "$2" "$3" $(($2 + $3 * ($4 / share - 1)))

@@ -241,7 +241,7 @@ shifted() {
     repair "200 files of 320 KiB, a byte inserted in each" data*
 }
 
-# Volumes of par2cmdline, in which other packets stand between the recovery packets.
+# Volumes of par2cmdline, which have other packets between the recovery packets.
 foreign() {
     head -c 67108864 /dev/urandom > data
     par2create -q -q -t1 -T1 -s65536 -c512 set.par2 data

@@ -14,7 +14,7 @@ size=4096
 # fresh: no set, no history, and nothing that a repair has put aside.
 fresh() { rm -f set.*par2 .par2undo data.*; }
 
-# theirs COUNT: each command of par2cmdline over a set with so many recovery slices.
+# theirs COUNT: each command of par2cmdline over a set with COUNT recovery slices.
 theirs() {
     fresh
     timed create.theirs 0 par2create -q -q -t1 -T1 "-s$size" "-c$1" set.par2 data

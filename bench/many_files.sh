@@ -13,7 +13,7 @@ removed() {
     rm -- $(ls data* | awk -v "step=$(($1 / 100))" 'NR % step == 0')
 }
 
-# scene COUNT: the three commands over so many files.
+# scene COUNT: the three commands over COUNT files.
 scene() {
     mkdir "$room/here"
     cd "$room/here"

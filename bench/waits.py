@@ -2,7 +2,7 @@
 """What it costs whole commands that they wait for the disk: each runs as it is, and with all of its waits left out. The
 two take turns over the same folders on a disk. A line has the least time of each in milliseconds, and their ratio.
 
-The folders stand in TMPDIR, or else in /var/tmp. A wait for a file of 4 KiB, and one for its folder, are measured beside.
+The folders are in TMPDIR, or else in /var/tmp. A wait for a file of 4 KiB, and one for its folder, are measured beside.
 
 usage: waits PROGRAM
 """
@@ -37,7 +37,7 @@ class Waits:
         subprocess.run([os.path.join(kit, "toolchain/bin/clang"), *build], check=True)
 
     def fresh(self, count, size):
-        """Makes the folder one of so many files of random bytes."""
+        """Fills the folder with `count` files of random bytes."""
         shutil.rmtree(self.found, ignore_errors=True)
         os.mkdir(self.found)
         for number in range(count):

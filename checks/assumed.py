@@ -5,8 +5,8 @@ no axiom, hole or choice is among what it rests on.
 usage: assumed.py [--check PAGE | --write PAGE]     compares the list with the page, or writes it there
 
 The libraries below the program must be built, as the gate leaves them, or they are proved first. The program is proved
-once more for the list, which takes a minute or two. What that came to is kept beside the toolchain, by a sum of all that
-it hangs on, for later runs on this machine.
+once more for the list, which takes a minute or two. The result is kept beside the toolchain, by a checksum of all its
+inputs, for later runs on this machine.
 """
 import collections
 import hashlib

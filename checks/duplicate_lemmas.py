@@ -1,22 +1,22 @@
 #!/usr/bin/env python3
-"""No lemma of crates/*/proofs is proved twice. Lists those whose statements are one but for the names of variables.
+"""No lemma of crates/*/proofs is proved twice. Lists those whose statements differ only in the names of variables.
 
 usage: duplicate_lemmas.py
 
-A lemma stands once: in the lowest crate that wants it, or in par2_spec where crates beside each other want it. What the
-toolchain's library has is found by `rt lemma` and not by this. The status is 1 where something stands twice.
+A lemma is proved once: in the lowest crate that needs it, or in par2_spec if crates beside each other need it. Lemmas of
+the toolchain's library are found by `rt lemma`, not by this. The status is 1 if something is proved twice.
 """
 import collections
 import pathlib
 import re
 import sys
 
-# What is shorter says too little to be looked for.
+# Shorter statements say too little to be compared.
 SHORTEST = 25
 TOKEN = re.compile(r"[^\s(){}\[\],;]+|[(){}\[\],;]")
 LEMMA = re.compile(r"(\s*)(?:pub )?([A-Za-z_]\S*) : (.*)$")
 BINDER = re.compile(r"[({]([^(){}:]+) : |λ ([^.]+)\.")
-# What has none of these in it is a definition, or the answer to a goal.
+# A statement without any of these is a definition, or the answer to a goal.
 IS_STATEMENT = re.compile(r"≡|≤|<|⊎|×|IsTrue|\bT\b|All|⊥")
 
 
@@ -38,7 +38,7 @@ def lemmas(lines):
 
 
 def is_more(line, margin):
-    """Returns whether a line goes on with a statement that begins at the margin."""
+    """Returns whether a line continues a statement that begins at the margin."""
     return line.startswith(margin + " ") and not re.match(r"\s*(where\b|unfolding\b|$)", line)
 
 

@@ -3,7 +3,7 @@
 # Memory would meet it. In the crates that the program is made of, an AllocError comes from the library, and each
 # `Memory` of a fault is made from one by `From`, or by an arm or a closure. The pattern of these is AllocError,
 # AllocFailed, the `Memory` of another fault, or an error's OutOfMemory, and so is each part of a pattern that has several.
-# Prints each line that makes one otherwise, and fails where there is any.
+# Prints each line that makes one otherwise, and fails if there is any.
 set -eu
 cd "$(dirname "$0")/.."
 
@@ -26,7 +26,7 @@ crates() {
 # The lines of the sources that make one out of something else.
 made_otherwise() {
     find "$@" -name '*.rt' -exec awk '
-        # Whether each of the parts of an arm is one of the patterns. The bars of a closure part nothing.
+        # Whether each part of an arm is one of the patterns. The bars of a closure separate nothing.
         function is_right(pattern,    count, parts, i) {
             if (pattern !~ /=>/) return pattern ~ right
             count = split(pattern, parts, "|")
@@ -42,9 +42,9 @@ made_otherwise() {
         line ~ /^}/ { in_from = 0 }
         line ~ /^[[:space:]]*$/ { next }
         {
-            # The parts of a pattern whose last one stands on this line.
+            # The parts of a pattern whose last one is on this line.
             parts = line ~ /^[[:space:]]*\| / ? parts_above above : ""
-            # The pattern stands before the arrow or between the bars, on this line or at the end of the one above.
+            # The pattern is before the arrow or between the bars, on this line or at the end of the one above.
             pattern = above ~ /(=>|\|)( [({])?$/ ? parts_above above : ""
             made = line
             if (match(line, /.*=>|\|[^|]+\|/)) {

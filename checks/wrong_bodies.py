@@ -1,24 +1,24 @@
 #!/usr/bin/env python3
 """Shows of the must-fail edits that each function that they change is refused by a goal of its own. The gate tries an
-edit as a whole, and stops at the first goal that is refused: what no clause refuses any more would go unseen beside it.
+edit as a whole and stops at the first goal that is refused, so it wouldn't see a change that no clause refuses any more.
 
 usage: wrong_bodies.py [--together] [--anew] [CRATE [EDIT..]]
        (without CRATE each crate; EDIT: the name of a file in crates/CRATE/must-fail, without .edit; else all of them)
 
-Of an edit, the lines under one comment are a change. A copy of the crate is checked over a copy of what earlier checks
-kept in out/, if anything; where nothing is kept and there is more than one check to do, the crate as it stands is
-checked first.
+The lines under one comment of an edit are a change. A copy of the crate is checked over a copy of what earlier checks
+kept in out/, if anything; if nothing is kept and there is more than one check to do, the unchanged crate is checked
+first.
 
 Together, each edit is checked once, which takes one to five minutes. A line says of each function that the edit changes
 which of its own goals are refused; that it calls a function which is refused shows nothing of itself. A change with a
-name (`NAME: ` begins its comment) is then checked by itself where another one changes the same function. `limit` marks a
-goal at which the search for a proof has ended at a limit, which is dear. Crates stand side by side, one a processor, as
-many as memory holds (RT_JOBS sets another number). The last line counts, and the status is 1 where a function has no such
-goal. What an edit came to is kept beside the toolchain, by a sum of all that it hangs on, for later runs on this machine;
---anew takes nothing from there.
+name (`NAME: ` begins its comment) is then checked by itself if another one changes the same function. `limit` marks a
+goal at which the search for a proof has ended at a limit, which is slow. Crates are checked side by side, one for each
+processor, as many as memory holds (RT_JOBS sets another number). The last line counts, and the status is 1 if a function
+has no such goal. The result of an edit is kept beside the toolchain, by a checksum of all its inputs, for later runs on
+this machine; --anew takes nothing from there.
 
 Otherwise each change is checked by itself, which takes 10 to 70 seconds: a line says whether it is refused, and by
-which goal. The status is 1 where one is proved.
+which goal. The status is 1 if one is proved.
 """
 import collections
 import difflib
@@ -37,14 +37,14 @@ import rt_module  # noqa: E402
 
 # The memory that a check may take.
 EACH = 5_000_000_000
-# A proof file that names what an edit took away, and what cites that proof: it tells nothing of a contract.
+# A proof file that names what an edit removed, and what cites that proof: such a fault says nothing about a contract.
 TAKEN_AWAY = re.compile(r"has no field|is not in scope|has no `|was not admitted")
 HEAD = re.compile(r"( *)(?:pub(?:\([^)]*\))? )?(?:const )?fn (\w+)")
-# What begins the comment of a change that has a name.
+# The beginning of the comment of a change that has a name.
 NAME = re.compile(r"[a-z]\w*_\w+(?=: )")
 PLACE = re.compile(r"(?:note: )?(?:\./)?(\S+?):(\d+):\d+: (?:error: |it is not proved)")
 
-# What edits came to: what to print, how many functions they change, and how many checks showed a fault.
+# The result of edits: the lines to print, the number of functions that they change, and the number of faults.
 Told = collections.namedtuple("Told", "lines functions faults")
 
 
@@ -88,7 +88,7 @@ def first_goal(said):
 
 
 def functions_of(text):
-    """Returns each function of a text: the type and trait of its impl, its name, its first line and its last."""
+    """Returns each function of a source: the type and trait of its impl, its name, its first line and its last."""
     lines, impl, found = text.splitlines(), "", []
     for at, line in enumerate(lines):
         if line.startswith("impl"):
@@ -107,7 +107,7 @@ def impl_of(line):
 
 
 def changed(old, new):
-    """Returns the functions of the new text that the old one has too, with other lines than in other spaces."""
+    """Returns the functions of the new source that the old one has, too, with lines that differ not only in spaces."""
     lines = [[it.split() for it in text.splitlines()] for text in (old, new)]
     lines = [[" ".join(it) for it in part] for part in lines]
     parts = difflib.SequenceMatcher(None, *lines, autojunk=False).get_opcodes()
@@ -121,7 +121,7 @@ def changed(old, new):
 def goals_of(path, function, said):
     """Returns the goals of a function that are refused, by what the check said."""
     impl, name, first, last = function
-    # What a method is answered by stands below its type, which may be another file's.
+    # The answers of a method are below its type, which may be another file's.
     place = f"(.*/)?{impl}[^/]*" if impl else re.sub(r"^src|(/lib|/main)?\.rt$", "", path).removeprefix("/")
     answers = re.compile(rf"proofs/{place + '/' * bool(place)}{name}/")
     goals = []
@@ -135,19 +135,19 @@ def goals_of(path, function, said):
 
 
 def changed_in(crate, texts):
-    """Returns the functions that these texts change, each by its file, its type and its name."""
+    """Returns the functions that these sources change, each by its file, its type and its name."""
     found = {path: changed(text_of(f"{crate.folder}/{path}"), text) for path, text in texts.items()}
     return {(path, *it[:2]): it for path, functions in found.items() for it in functions}
 
 
 def check(rt, crate, texts, kept):
-    """Checks the crate with these texts in place of its own, once more where it is killed, most likely for memory."""
+    """Checks the crate with these sources in place of its own, and again if it is killed, most likely for memory."""
     ran = rt.checked(crate, texts, ["--jobs", "1"], kept)
     return ran if ran.returncode >= 0 else rt.checked(crate, texts, ["--jobs", "1"], kept)
 
 
 def told_of(rt, crate, title, text, kept):
-    """Tells of each function that an edit changes which of its goals are refused."""
+    """Returns for each function that an edit changes which of its goals are refused."""
     texts, why = rt.edited(text, crate.folder)
     if why:
         return Told([f"{title} cannot be applied: {why}"], 0, 1)
@@ -174,7 +174,7 @@ def in_one_function(rt, crate, text):
 
 
 def told_together(rt, crate, edits, kept):
-    """Tells of a crate's edits, each as a whole, and of changes of one function one by one."""
+    """Returns the result of a crate's edits, each as a whole, and of changes of one function one by one."""
     tries, alone = [], []
     for edit in edits:
         text, name = text_of(edit), f"{crate.name}/{os.path.basename(edit)}"
@@ -189,7 +189,7 @@ def told_together(rt, crate, edits, kept):
 
 
 def told_alone(rt, crate, edits, kept):
-    """Tells of each change of a crate's edits by itself."""
+    """Returns the result of each change of a crate's edits by itself."""
     lines, faults = [], 0
     for title, text in [it for edit in edits for it in changes_of(text_of(edit))]:
         texts, why = rt.edited(text, crate.folder)
@@ -205,7 +205,7 @@ def told_alone(rt, crate, edits, kept):
 
 
 def told(rt, crate, edits, tell):
-    """Tells of a crate's edits, over a copy of what earlier checks of the crate kept."""
+    """Returns the result of a crate's edits, over a copy of what earlier checks of the crate kept."""
     with tempfile.TemporaryDirectory() as room:
         rt.adopt(crate, is_alone=False)
         if os.path.isdir(f"{crate.folder}/out/incremental"):
@@ -215,8 +215,8 @@ def told(rt, crate, edits, tell):
 
 
 class Earlier:
-    """What edits came to in earlier runs on this machine, by a sum of the toolchain, this script, the crate, those
-    below it and its edits."""
+    """The results of edits in earlier runs on this machine, by a checksum of the toolchain, this script, the crate,
+    those below it and its edits."""
 
     def __init__(self, rt, crates, anew):
         self.rt, self.kept = rt, rt.Kept(crates, anew)
@@ -240,8 +240,8 @@ def edits_of(rt, crate, names):
 
 
 def in_lanes(rt, work, tell):
-    """Tells of each crate's edits, as many crates at a time as there are processors and memory for, the longest
-    first."""
+    """Returns the result of each crate's edits, as many crates at a time as there are processors and memory for, the
+    longest first."""
     lanes = int(os.environ.get("RT_JOBS") or min(rt.processors(), rt.free() // EACH))
     work = sorted(work, key=lambda it: -it[0].count(rb"\n"))
     with ThreadPoolExecutor(max(lanes, 1)) as pool:
@@ -249,7 +249,7 @@ def in_lanes(rt, work, tell):
 
 
 def tell_all(rt, work, crates, is_anew):
-    """Prints of each crate's edits, together, what they come to, and returns whether nothing is amiss."""
+    """Prints the result of each crate's edits, together, and returns whether nothing is wrong."""
     earlier, sums, functions, faults = Earlier(rt, crates, is_anew), {}, 0, 0
     for crate, edits in work:
         sums[crate.name] = earlier.name(crate, edits)

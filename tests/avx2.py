@@ -1,10 +1,10 @@
 #!/usr/bin/env python3
-"""Builds par2 for x86-64-v3 too, where the processor has it, and runs the lines of tests/commands/run.py on it.
+"""Builds par2 for x86-64-v3 too, if the processor has it, and runs the lines of tests/commands/run.py on it.
 
-The libraries are those that the gate has just proved. The program is proved once more, since the gate keeps nothing of
-a program's proof; so it is a few lines over libraries. The toolchain's command rt builds every library anew for another
+The libraries are those that the gate has just proved. The program is proved once more, because the gate keeps nothing of
+a program's proof; so it is a few lines over libraries. The toolchain's command rt builds every library again for another
 target, which would double the gate's time; so this loads rt as a module and has it do what the gate does with a
-program, with the target set: a build by LLVM, which stands beside the default one.
+program, with the target set: a build by LLVM, which is kept beside the default one.
 """
 import os
 import subprocess

@@ -1,11 +1,11 @@
 #!/usr/bin/env python3
 """Makes library calls with the first allocation refused, then with the second, and so on until none is refused.
 
-A call of a library (`growth_tests`) answers as without a refusal, or that it is out of memory. (A list whose size is
-refused as a whole grows item by item: calls that make one are tried with two growths refused in a row, too.) Then all that it was given
-is as before, and the same call made once more answers as without a refusal. A call of the whole program (`run_rows`) on
-a store in memory is out of memory and leaves the store as before, or fails at a growth of the store itself: then the
-store opens as before or as after.
+A call of a library (`growth_tests`) returns what it returns without a refusal, or out of memory. (A list whose size is
+refused as a whole grows item by item: calls that make one are tried with two growths refused in a row, too.) Then its
+arguments are as before, and the same call made once more returns what it returns without a refusal. A call of the whole
+program (`run_rows`) on a store in memory is out of memory and leaves the store as before, or fails at a growth of the
+store itself: then the store opens as before or as after.
 """
 import os
 import re
@@ -15,11 +15,11 @@ import tempfile
 
 ROOT = os.path.join(os.path.dirname(os.path.realpath(__file__)), "..")
 
-# The descriptor on which the allocator tells of growths.
+# The descriptor on which the allocator reports growths.
 REACHED = 9
-# What one refused growth never makes fail: of two actions the other is done.
+# The call that never fails from one refused growth: the other of the two actions is done.
 NEVER_TOLD = ("Session::play of two",)
-# What one refused growth doesn't make fail, but two in a row do: a list whose size is refused as a whole grows item by item.
+# The calls that fail only from two refused growths in a row: a list whose size is refused as a whole grows item by item.
 TOLD_AT_THE_SECOND = ("Folder::names", "MemoryStore::names")
 
 # The file `a` was cut after a create.
@@ -41,7 +41,7 @@ OVER_STORES = [
 OPENED = [FRESH, CREATED, DAMAGED, HALFWAY]
 READ = ["create -s4 -c1 -f2 --overwrite t.par2 a b", "repair -p t.par2 x", "verify t.par2 x y", "undo"]
 
-# What a run and a command on an open session answer where memory is out, and where the store fails.
+# The results of a run and of a command on an open session that run out of memory, and of those whose store fails.
 MEMORY = ("8", "Session(Plan(Memory))")
 STORE = ("6", "Store")
 
@@ -57,7 +57,7 @@ class Programs:
         subprocess.run([os.path.join(kit, "toolchain/bin/clang"), *build], check=True)
 
     def said(self, name, words, lines="", **variables):
-        """Returns what a program writes. Where growths are shown, they stand there too, each as an exclamation mark."""
+        """Returns what a program writes. If growths are shown, each is there as an exclamation mark."""
         program = os.path.join(ROOT, "crates", name, "out", name)
         with open(os.path.join(self.room, "told"), "w+b") as told, open(os.devnull, "wb") as nowhere:
             os.dup2((told if "SHOWN" in variables else nowhere).fileno(), REACHED)
@@ -71,7 +71,7 @@ class Programs:
         return text
 
     def refused_each(self, name, words, lines="", **variables):
-        """Returns what the program writes, and what it writes with each growth of its call refused in turn."""
+        """Returns what the program writes, and what it writes with each growth of its call refused, one at a time."""
         shown = self.said(name, words, lines, REFUSED="0", SHOWN="yes")
         # The line of the call, and its growths after it.
         call = re.search(r"^!*>.*\n(!*)", shown, re.MULTILINE)
@@ -100,7 +100,7 @@ def library_calls(programs):
 
 
 def is_right(text, whole, stood):
-    """Whether this may be said of a call over a store, where a session stood at first as the last line tells."""
+    """Whether a call over a store may print this, if its session was at first as the last line says."""
     before, _, answer, after, *_, stands = text.splitlines()
     if answer in MEMORY:
         return after == before and stands == stood

@@ -2,14 +2,14 @@
 """Cuts the power after each call that changes the folder or syncs. Each folder that the disk may then hold must open as
 the folder from before the run, or as the one after it.
 
-What was waited for lasts, and of the rest anything: the bytes of a file are there, half of them, none, or those that were
-waited for before; and each creation, link, rename and removal of a name has lasted or has not, by itself. A wait for a file is
-for its bytes, one for the folder for its names. In each such folder undos are made until one is refused, then redos. What
-they say and which files they leave must be the same as from the folder before the run, or as from the one after it. Only
-the journal's temporary file may be left over.
+Synced data survives, and anything may have happened to the rest: the bytes of a file are all there, half of them, none, or
+those of the last sync; and each creation, link, rename and removal of a name has survived or has not, by itself. A sync of
+a file is for its bytes, a sync of the folder for its names. In each such folder undos are made until one is refused, then
+redos. What they print and which files they leave must be the same as from the folder before the run, or as from the one
+after it. Only the journal's temporary file may be left over.
 
-At the first folder that opens otherwise it tells what that holds, and ends with status 1. At the end the disk forgets
-that it was waited for bytes, and then for names: some folders must open otherwise.
+At the first folder that opens otherwise it prints the contents, and ends with status 1. At the end the disk forgets syncs
+of bytes, and then of names: some folders must open otherwise.
 
 usage: cuts.py [--tell] [--hurry] [PROGRAM]     PROGRAM is crates/par2/out/par2 without the word
     --tell     tells the gravest folder of each scene, and goes on
@@ -32,16 +32,16 @@ PROGRAM = os.path.join(HERE, "../crates/par2/out/par2")
 # The descriptor on which calls are recorded.
 RECORD = 9
 JOURNAL, TEMPORARY = ".par2undo", ".par2undo.tmp"
-# What is waited for: the bytes of a file, or the names of the folder.
+# What is synced: the bytes of a file, or the names of the folder.
 BYTES, NAMES = "bytes", "names"
-# What must be free in memory for the folders to stand there.
+# The free memory that is needed to have the folders in memory.
 ROOM = 1 << 28
-# As many folders are tried after one call, among as many ways to lose what wasn't waited for.
+# The most folders that are tried after one call, and the most ways to lose what wasn't synced.
 MOST_FOLDERS = 200
 MOST_WAYS = 2000
 # More undos or redos than any of these folders has.
 MOST_STEPS = 100
-# Files of more bytes are shown by their length alone.
+# Of a file with more bytes only the length is printed.
 SHORT_FILE = 32
 
 # A change of names: one that is gone and one that the file of this number has then, or None.
@@ -61,10 +61,10 @@ class Otherwise(Fault):
 
 
 class Call(namedtuple("Call", "word file number first second")):
-    """A recorded call: its descriptor, a number and two texts."""
+    """A recorded call: its descriptor, a number and two strings."""
 
     def matters(self):
-        """Whether it changes the folder or waits for the disk."""
+        """Whether it changes the folder or syncs."""
         return self.word != "open" or self.number & (os.O_CREAT | os.O_TRUNC) != 0
 
     def gives_or_takes_name(self):
@@ -150,10 +150,10 @@ def unlike_subsets(items):
 
 
 class Disk:
-    """A disk with one folder: its names and the texts of its files, how they were when they were last waited for, which
-    names were changed since, and which files. It may forget one kind of wait, or both."""
+    """A disk with one folder: its names and the bytes of its files, as they were when they were last synced, and the names
+    and files that were changed since then. It may forget one kind of sync, or both."""
 
-    # Stands for the folder among the numbers of files.
+    # The folder's number among those of files.
     FOLDER = -1
 
     def __init__(self, files, forgotten=()):
@@ -176,7 +176,7 @@ class Disk:
             self.change(None, name, len(self.texts))
             self.texts.append(b"")
             self.lasting_texts.append(b"")
-        # What is no file of the folder is only read.
+        # Other files than those of the folder are only read.
         number = self.FOLDER if name == os.curdir else self.names.get(name)
         self.opened[call.file] = number
         if call.number & os.O_TRUNC:
@@ -351,7 +351,7 @@ class Scene:
         return [name for name in both if self.before[name] not in left and self.after[name] not in left]
 
     def gravity(self, cut, steps):
-        """The more files are lost, the graver; then where no undo and no redo is accepted; then where fewer stand."""
+        """The more files are lost, the graver; then if no undo and no redo is accepted; then if fewer files are left."""
         return len(self.lost(cut, steps)), all(step.status for step in steps), -len(cut.files)
 
     def as_which(self, name, data):
@@ -359,7 +359,7 @@ class Scene:
         return " and ".join(known) or "neither before nor after"
 
     def told(self, cut, steps):
-        """Tells of a folder what it holds, and what its undos and redos say and leave."""
+        """Returns lines about a folder: its contents, and what its undos and redos print and leave."""
         call = f"{cut.number} of {len(self.calls)} ({self.calls[cut.number - 1]})" if cut.number else "0"
         lines = [f"{self.name}, cut behind call {call}: the folder may hold"]
         for name in sorted({**self.before, **self.after, **cut.files}):
@@ -394,7 +394,7 @@ class Cuts:
         _, self.files = self.runs.recorded(self.files, line)
 
     def stopped(self, count, line):
-        """The same, but the run is stopped after so many calls that give or take names other than the temporary
+        """The same, but the run is stopped after this many calls that give or take names other than the temporary
         file's. The first of them puts the journal."""
         calls, _ = self.runs.recorded(self.files, line)
         disk = Disk(self.files)
@@ -448,7 +448,7 @@ def repairs(cuts):
     cuts.cut("a redo of a repair", "redo")
     damaged(cuts)
     cuts.stopped(3, "repair t.par2 dd")
-    # The files are damaged again, which a verify tells by its status.
+    # The files are damaged again, which a verify reports by its status.
     cuts.cut("a verify that takes a stopped repair back", "verify t.par2 dd", wanted=1)
 
 
@@ -479,7 +479,7 @@ def purges(cuts):
 
 
 def room_for_folders():
-    """Returns where the folders stand: in memory where there is room, else where temporary files do."""
+    """Returns the place of the folders: in memory if there is enough, else where temporary files are."""
     memory = "/dev/shm"
     if os.path.isdir(memory) and shutil.disk_usage(memory).free >= ROOM:
         return memory
@@ -495,7 +495,7 @@ def opens_well(cuts):
 
 
 def is_seen(runs, kind):
-    """Whether it is seen that the disk forgets one kind of wait."""
+    """Whether it is seen that the disk forgets one kind of sync."""
     try:
         purging_repair(Cuts(runs, [kind], False), f"a repair that purges, its waits for {kind} forgotten")
     except Otherwise:

@@ -1,10 +1,10 @@
 #!/usr/bin/env python3
-"""Shows that memory is bounded by the files that are there, whatever forged journals and sets claim. These have true
-digests, journals false ones too, and each growth of memory beyond a bound is refused: what is claimed is never asked
-for before it is found. Then creates, verifies, repairs, purges, undos and redos over folders of several kinds, whose
-growths are told: each is bounded by the bytes of the folder that the run finds and those that it writes, and so are
-what all of them come to and what there is at a time, also where 16,000 slices are lost. A repair by exponents with holes
-takes little more than one by exponents without, whether few slices are lost or many.
+"""Shows that memory is bounded by the files that are there, whatever forged journals and sets claim. These have right
+digests, journals wrong ones too, and each growth of memory beyond a bound is refused: nothing is allocated for a claim
+before its bytes are found. Then creates, verifies, repairs, purges, undos and redos run over folders of several kinds, and
+their growths are recorded: each is bounded by the bytes of the folder that the run finds and those that it writes, and so
+are their sum and what there is at a time, also if 16,000 slices are lost. A repair by exponents with holes takes little
+more than one by exponents without, whether few slices are lost or many.
 """
 import os
 import random
@@ -18,31 +18,32 @@ from formats import HALVES, HEADING, JOURNAL, fingerprint_of, md5, number, packe
 
 ROOT = os.path.join(os.path.dirname(os.path.realpath(__file__)), "..")
 PROGRAM = os.path.join(ROOT, "crates/par2/out/par2")
-# What a run over small files asks for at once, and some more.
+# More than a run over small files allocates at once.
 SMALL = 1 << 19
-# What each run may ask for at once and in all, whatever it finds; then how often the bytes that it finds and writes. The
-# field's tables come to 820 KiB as they grow, and the filter of a search and the table of its groups to 256 more each, so
-# a repair over small files asks for 1,358 KiB. What all of a create's growths come to has the buffers of each slice,
-# which are given up with it.
+# What each run may allocate at once and in all, whatever it finds; then the multiple of the bytes that it finds and
+# writes. The field's tables come to 820 KiB as they grow, and the filter of a search and the table of its groups to 256
+# more each, so a repair over small files allocates 1,358 KiB. The sum of all growths of a create includes the buffers
+# of each slice, which are freed with it.
 AT_ONCE, IN_ALL = 1 << 18, 6 << 18
 TIMES_AT_ONCE = 2
 TIMES_IN_ALL = {"create": 10, "verify": 6, "repair": 7, "purge": 6, "undo": 4, "redo": 4}
-# What each run may have at a time, whatever it finds; then how often the bytes that it finds and writes. A create has its
-# outputs once; of the columns of its recovery slices it has no more at a time than there is room for, however many they are.
+# What each run may have at a time, whatever it finds; then the multiple of the bytes that it finds and writes. A create
+# has its outputs once; of the columns of its recovery slices it has no more at a time than there is room for, however
+# many they are.
 HELD = 9 << 18
 TIMES_HELD = {"create": 1.25, "verify": 2, "repair": 2, "purge": 3, "undo": 3, "redo": 3}
-# How much more a repair may have at a time where the exponents have holes.
+# How much more a repair may have at a time if the exponents have holes.
 HOLES = 1 << 19
 MOST_SLICES = 32768
-# Of so many lost slices a matrix of their equations would take 32,000 bytes for each, and each takes no more than this
+# With this many lost slices a matrix of their equations would take 32,000 bytes for each, and each takes no more than this
 # beside its bytes: two rows of 64 bytes for each of about twice as many points, and its places in lists of slices.
 MANY_LOST = 16000
 EACH_LOST = 640
-# Of a lost slice whose syndrome fills holes: where it comes from, and references to it.
+# For each lost slice whose syndrome fills holes: its origin, and references to it.
 EACH_FILLED = 96
 # How many exponents there are before every 32nd one is left out.
 EXPONENTS_WITH_HOLES = [128, 1024]
-# The descriptor on which the allocator tells growths.
+# The descriptor on which the allocator reports growths.
 TOLD = 9
 CLAIMS = [1 << 20, 1 << 30, 1 << 40, (1 << 63) - 1, (1 << 64) - 1]
 
@@ -115,7 +116,7 @@ def put(here, files):
 
 
 def wrong(room):
-    """Returns what was answered otherwise than it should be."""
+    """Returns the results that are not as they should be."""
     files, found = {"a": b"abcdefgh"}, []
     for what, text in journals(files):
         put(fresh(room), {**files, JOURNAL: text})

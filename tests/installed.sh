@@ -70,7 +70,7 @@ completed() {
     )
 }
 
-# completes FILE NAME WANTED WORD..: what is completed is WANTED, its words joined by blanks.
+# completes FILE NAME WANTED WORD..: the completion is WANTED, its words joined by blanks.
 completes() {
     file=$1
     name=$2

@@ -1,5 +1,5 @@
 #!/bin/sh
-# Exchanges sets with par2cmdline, where it is installed. Small folders of many kinds are protected by one program, and
+# Exchanges sets with par2cmdline, if it is installed. Small folders of many kinds are protected by one program, and
 # verified, damaged in each way and repaired by the other. Each file must then be as it was.
 set -eu
 cd "$(dirname "$0")/.."
@@ -18,7 +18,7 @@ refused=0
 LC_ALL=C.UTF-8
 export LC_ALL
 
-# text SEED LENGTH: so many letters, which the seed decides.
+# text SEED LENGTH: this many letters, determined by the seed.
 text() {
     awk -v seed="$1" -v count="$2" 'BEGIN {
         state = seed * 7919 + 17
@@ -131,7 +131,7 @@ compare() {
     compared=$((compared + $(cat said)))
 }
 
-# large SIZE SLICES COUNT FIRST: a small file and a large one, of so many slices in all: compared, and exchanged.
+# large SIZE SLICES COUNT FIRST: a small file and a large one, of this many slices in all: compared, and exchanged.
 large() {
     fresh
     file aa "$2" "$(($1 * 40 - 5))"
@@ -157,7 +157,7 @@ protect_by() {
     cd "$room/here"
 }
 
-# lose SIZE FIRST STEP COUNT: overwrites so many slices of `bulk` by zeros, each STEP-th one from number FIRST on.
+# lose SIZE FIRST STEP COUNT: overwrites COUNT slices of `bulk` with zeros, every STEP-th one from number FIRST on.
 lose() {
     python3 - "$@" <<'END'
 import sys
@@ -170,7 +170,7 @@ with open("bulk", "r+b") as file:
 END
 }
 
-# lossy WHO SLICES LOST RUN..: a folder whose one file has so many slices and has lost those that LOST says, as `lose`
+# lossy WHO SLICES LOST RUN..: a folder whose one file has this many slices and has lost those that LOST says, as `lose`
 # reads it, and the set that one program made of it by these runs.
 lossy() {
     maker=$1

@@ -1,11 +1,10 @@
 #!/bin/sh
-# Tries what a real folder has beside files, files that change meanwhile, and the rights of what is written. A link, a
-# folder, a pipe or a device stands where the program looks for a file or would put one. A file or the folder can't be
-# read or written, or not to its end. A name is as long as names can be, or longer. A file grows, shrinks or vanishes
-# while the folder is read, or appears where one is to be written. Each run says so, and all stays as it was; and once
-# that is over, the same run ends as if it had never been. Where the system has no links or no locks, runs end as
-# ever. What is written in a folder where some files are private, or a group's, can be read by nobody else, from the
-# moment that it is made.
+# Tries what a real folder has beside files, files that change meanwhile, and the modes of what is written. A link, a
+# folder, a pipe or a device is where the program looks for a file or would put one. A file or the folder can't be read
+# or written, or not to its end. A name is as long as names can be, or longer. A file grows, shrinks or vanishes while
+# the folder is read, or appears where one is to be written. Each run says so and changes nothing; and afterwards the
+# same run ends as if nothing had happened. If the system has no links or no locks, runs end as usual. What is written
+# in a folder where some files are private, or a group's, can be read by nobody else, from the moment it is created.
 set -eu
 cd "$(dirname "$0")/.."
 clang=$(dirname "$(rt doc)")/toolchain/bin/clang
@@ -19,7 +18,7 @@ printf 'of another folder' > "$room/outside/kept"
 failed='par2: a file could not be read or written'
 rows=0
 
-# par2 WORD..: a run in the folder `here`. What it prints goes to `told`, and its status is kept.
+# par2 WORD..: a run in the folder `here`. Its output goes to `told`, and its status is kept.
 par2() {
     status=0
     (cd "$room/here" && "$room/par2" "$@") > "$room/told" 2>&1 || status=$?
@@ -37,7 +36,7 @@ bound() {
         > "$room/told" 2>&1 || status=$?
 }
 
-# The same while the variable, which says how, meddles with the folder. What that has to tell goes to `tells`.
+# The same while the folder is meddled with as the variable says. What that reports goes to `tells`.
 meddled() {
     variable=$1
     shift
@@ -52,8 +51,8 @@ here() {
     cp -R "$room/$1" "$room/here"
 }
 
-# What stands in the folder and outside of it: names, kinds and where links lead, and the sums of the files. The
-# journal may be another one, where it is a file.
+# What is in the folder and outside of it: names, kinds and targets of links, and the checksums of the files. The
+# journal may be another one, if it is a file.
 stands() {
     (
         cd "$room"
@@ -77,13 +76,13 @@ is_told() {
     printf '%s\n' "$3" | cmp -s - "$room/told" || fail "$1"
 }
 
-# is_kept NAME: whether all stands as it stood `before`.
+# is_kept NAME: whether everything is as it was `before`.
 is_kept() {
     stands "$room/after"
     cmp "$room/before" "$room/after" || fail "$1, afterwards"
 }
 
-# same_as_ever NAME WORD..: a run as it would be if nothing had ever stood in its way.
+# same_as_ever NAME WORD..: a run that ends as if nothing had ever been in its way.
 same_as_ever() {
     name=$1
     shift
@@ -101,13 +100,13 @@ same_as_ever() {
     rm -rf "$room/here.ever"
 }
 
-# The things that are no files. Where this user may make no device, none is tried.
+# Things that are no files. If this user may make no device, none is tried.
 kinds='link inner dangling folder pipe device'
 if ! mknod "$room/device" c 1 3 2> /dev/null; then
     kinds='link inner dangling folder pipe'
 fi
 
-# thing KIND PATH: puts such a thing there, in a fresh copy of the folder. A file that has its place waits `aside`.
+# thing KIND PATH: puts such a thing there, in a fresh copy of the folder. A file in its place is moved `aside`.
 thing() {
     here found
     rm -f "$room/aside"
@@ -123,7 +122,7 @@ thing() {
     stands "$room/before"
 }
 
-# in_place PATH WORD..: each thing in turn in the way of a run. What the run leaves halfway, the next one takes back.
+# in_place PATH WORD..: puts one thing after the other in the way of a run. The next run takes back what it leaves halfway.
 in_place() {
     path=$1
     shift
@@ -139,7 +138,7 @@ in_place() {
     done
 }
 
-# passed_by PATH STATUS TEXT WORD..: each thing in turn where a run looks and writes nothing.
+# passed_by PATH STATUS TEXT WORD..: puts one thing after the other where a run looks and writes nothing.
 passed_by() {
     path=$1
     wanted=$2
@@ -195,7 +194,7 @@ is_told "a create" 0 "$(printf 'write %s\n' t.par2 t.vol00000+00001.par2 t.vol00
 rm -rf "$room/found"
 mv "$room/here" "$room/found"
 set_id=$(cd "$room/found" && "$room/par2" verify t.par2 | head -n 1)
-# Targets stand in the order of their File IDs.
+# Targets are in the order of their File IDs.
 complete=$(printf '%s\n' "$set_id" 'complete bb' 'complete aa' 'result: complete')
 missing=$(printf '%s\n' "$set_id" 'complete bb' 'missing aa 0/2' 'result: repairable, lost 2, rank 2')
 in_place .par2undo verify t.par2
@@ -614,7 +613,7 @@ have 600 $volumes .par2undo
 by 65534 022 undo
 modes 600 -- an undo of a create over a private volume
 
-# Volumes that were private are so again, though no other file is: the journal tells.
+# Volumes that were private are private again, although no other file is: the journal determines that.
 shared 644
 by 65534 022 create -s4 -c5 t.par2 aa bb
 # shellcheck disable=SC2086

@@ -1,7 +1,7 @@
 #!/bin/sh
 # Runs the programs with names and words that are not UTF-8, a full disk, and a journal deleted by hand. Memory is
-# refused for a file, too. The gate can put no program there. Prints a line for each run, and ends with status 1 at
-# the first that answers otherwise.
+# refused for a file, too. The gate can't run a program there. Prints a line for each run, and ends with status 1 at
+# the first with another result.
 set -eu
 cd "$(dirname "$0")/.."
 top=$PWD

@@ -2,7 +2,7 @@
 """Runs commands with the first allocation refused, then with the second, and so on until none is refused.
 
 Each run ends as the run without a refusal does, or says that it is out of memory and leaves the files and the journal
-as they were; or, where a command that was stopped has to be taken back first, as they are once that is done.
+as they were; or, if a stopped command has to be taken back first, as they are once that is done.
 """
 import os
 import resource
@@ -16,7 +16,7 @@ from collections import namedtuple
 ROOT = os.path.join(os.path.dirname(os.path.realpath(__file__)), "..")
 PROGRAM = os.path.realpath(os.path.join(ROOT, "crates/par2/out/par2"))
 
-# More growths than any of these runs asks for.
+# More growths than any of these runs has.
 MOST = 10_000
 # The descriptor on which the allocator says that it refused a growth.
 REACHED = 9
@@ -45,7 +45,7 @@ def pattern(seed, count):
 
 
 def without_room(kib):
-    """Returns what lets no file of a process grow beyond so many KiB, so that a write fails and the run stops halfway."""
+    """Returns what lets no file of a process grow beyond this many KiB: a write fails and the run stops halfway."""
 
     def limit():
         signal.signal(signal.SIGXFSZ, signal.SIG_IGN)
@@ -91,7 +91,7 @@ class Refusals:
             sys.exit(f"{line}: status {status}: {text}")
 
     def stopped(self, kib, line):
-        """Runs the words of a line in the folder, where no file has room beyond so many KiB."""
+        """Runs the words of a line in the folder, where no file has room beyond this many KiB."""
         how = {"preexec_fn": without_room(kib), "restore_signals": False}
         _, status = self.said(self.found, line, **how)
         if not status:
@@ -109,7 +109,7 @@ class Refusals:
         return Told(*said, held(self.here)), os.fstat(REACHED).st_size > 0
 
     def refuse_each(self, name, line):
-        """Refuses each growth of a run in turn."""
+        """Refuses each growth of a run, one at a time."""
         whole, _ = self.run(0, line)
         wanting = [Told(*WANTING, held(self.found))]
         if line.startswith("verify "):

@@ -63,6 +63,6 @@ else
 fi
 # That program is left for `make install` too.
 [ ! -x crates/par2/out/par2-x86-64-v3 ] || cp crates/par2/out/par2.sources crates/par2/out/par2-x86-64-v3.sources
-# The gate's own count stands last, and there is one.
+# The gate's own count is the last line, and there is one.
 tail -n 1 "$log"
 tail -n 1 "$log" | grep -qE '^[0-9]+ passed, 0 failed$'

@@ -74,7 +74,7 @@ is_told() {
     fi
 }
 
-# stop_each NAME WORD..: stops a run at each call in turn, in each way.
+# stop_each NAME WORD..: stops a run at each call, in each way.
 stop_each() {
     name=$1
     shift

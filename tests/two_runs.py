@@ -1,10 +1,10 @@
 #!/usr/bin/env python3
 """Holds a run at each call that reads or changes the folder, and has another run to its end there. What both print,
 their statuses and the folder that they leave must be those of the two runs one after the other, or of one run alone
-while the other ended with status 6. Where no run locks the folder, or none looks at the journal again once it holds
-it alone, that must fail.
+while the other ended with status 6. If no run locks the folder, or none looks at the journal again once it holds it
+alone, that must fail.
 
-Folders are compared by names, bytes and journal. A refused run prints the text of status 6 and nothing else. Runs that
+Folders are compared by names, bytes and journal. A refused run prints the message of status 6 and nothing else. Runs that
 only read never refuse each other. Each folder that is left opens: a verify reads it, undos lead back until there is
 nothing to undo, and redos forth. The first moment that leads elsewhere is printed, and ends the test with status 1.
 
@@ -21,7 +21,7 @@ from itertools import count
 
 from cuts import HERE, JOURNAL, MOST_STEPS, PROGRAM, TEMPORARY, held, room_for_folders, shown, without_history
 
-# A run that waits for the other one has not ended after so many seconds.
+# A run that has not ended after this many seconds waits for the other one.
 LONGEST = 60
 # What a run prints, and its status.
 Said = namedtuple("Said", "text status")
@@ -95,8 +95,8 @@ class Runs:
         return self.alone[key]
 
     def hold(self, here, line, number, fault=""):
-        """Begins a run in a folder, which is held at its call of this number. Returns the run, whether it makes so many
-        calls, and the descriptor that lets it go on when it is closed."""
+        """Begins a run in a folder, which is held at its call of this number. Returns the run, whether it makes this many
+        calls, and the descriptor that lets it continue when it is closed."""
         told, tells = os.pipe()
         waits, go = os.pipe()
         env = {"LD_PRELOAD": self.shim, "FORGETS": fault, "HELD": str(number), "TELLS": str(tells), "WAITS": str(waits)}

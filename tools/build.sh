@@ -1,8 +1,8 @@
 #!/bin/sh
-# Proves what a program stands on and builds it, unless it stands there already, built from the same sources. Prints the
-# program's path as the last line.
+# Proves a program's libraries and builds it, unless it is already built from the same sources. Prints the program's path
+# as the last line.
 # usage: build.sh [CPU [PROGRAM]]     CPU is a level of x86-64 that the toolchain knows: x86-64-v2 (as it is without the
-#                                  word) or x86-64-v3, whose program stands beside the default one. PROGRAM is one of
+#                                  word) or x86-64-v3, whose program is beside the default one. PROGRAM is one of
 #                                  crates.txt, without the word par2
 set -eu
 cd "$(dirname "$0")/.."

@@ -1,6 +1,6 @@
 #!/bin/sh
-# Protects a real file in a fresh folder, damages it, verifies and repairs it, takes the repair back and does it again,
-# purges, and goes back to the first folder; and shows each command with what it prints.
+# Protects a real file in a fresh folder, damages it, verifies and repairs it, undoes and redoes the repair, purges, and
+# goes back to the first folder; and shows each command with what it prints.
 # usage: demo.sh PROGRAM
 set -eu
 program=$1
@@ -12,7 +12,7 @@ cd "$room/here"
 # A file of some 200 KiB: the numbers from 1 on, a line each.
 awk 'BEGIN { for (i = 1; i <= 33333; i++) print i }' > numbers.txt
 
-# show STATUS WORD..: runs the program with these words, which is to end with this status.
+# show STATUS WORD..: runs the program with these words, which has to end with this status.
 show() {
     wanted=$1
     shift
@@ -39,7 +39,7 @@ lose 100000
 lose 150000
 cp numbers.txt ../damaged.txt
 show 1 verify numbers.par2
-echo "A repair puts the damaged file aside and writes the file anew. Each byte is as it was."
+echo "A repair puts the damaged file aside and writes the file again. Each byte is as it was."
 show 0 repair numbers.par2
 cmp ../whole.txt numbers.txt
 cmp ../damaged.txt numbers.txt.1

@@ -1,13 +1,13 @@
 #!/usr/bin/env python3
 """Proves a crate from nothing over the libraries that earlier checks left, and prints where the time goes: the seconds
-of each function, and of each file of definitions or lemmas, the dearest first.
+of each function, and of each file of definitions or lemmas, the slowest first.
 
 usage: function_cost.py [--tests] [--most N] CRATE      (N: how many lines, 40 unless said; --tests: the crate's tests)
 
-The check keeps a file for each module in a folder that was empty before. What lies between the times of two files in
-a row is taken for the time of the later module. A function has some ten modules: its borrows (Lts), the proofs of its
-goals (Proof, Answers), and what joins these (Tie) are the dear ones. Reading a library is counted as the function's
-that first uses it, so a dear function is looked at by itself (`rt check --only`) before it is split.
+The check keeps a file for each module in a folder that was empty before. The difference of the times of two files in a
+row is taken for the time of the later module. A function has some ten modules: its borrows (Lts), the proofs of its
+goals (Proof, Answers), and what joins these (Tie) are the slow ones. Reading a library is counted for the function that
+first uses it, so check a slow function by itself (`rt check --only`) before you split it.
 """
 import collections
 import os

@@ -37,7 +37,7 @@ def tasks_of(seconds, below):
 
 
 def span(tasks, lanes, done):
-    """Returns the seconds until all tasks are done, where those of `done` are."""
+    """Returns the seconds until all tasks are done, if those of `done` are."""
     behind = {it: tasks[it][0] for it in tasks}
     for it in reversed([*tasks]):
         for first in tasks[it][1]:

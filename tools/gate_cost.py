@@ -21,7 +21,7 @@ WAIT = 0.1
 
 
 def libraries():
-    """Returns the crates that each crate stands on."""
+    """Returns the crates that each crate depends on."""
     below = {}
     with open("crates.txt") as lines:
         for line in lines:
@@ -59,7 +59,7 @@ def below(root, found):
 
 
 def place_of(number):
-    """Returns the crate and the kind of work of a process, or None where it is no work on a crate."""
+    """Returns the crate and the kind of work of a process, or None if it is no work on a crate."""
     try:
         with open(f"/proc/{number}/cmdline", "rb") as file:
             words = file.read().decode(errors="replace").split("\0")

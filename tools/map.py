@@ -1,6 +1,6 @@
 #!/usr/bin/env python3
-"""Prints docs/map.dot with an arrow from each crate to those of crates.txt that it stands on. What follows from other
-arrows has none.
+"""Prints docs/map.dot with an arrow from each crate to those of crates.txt that it depends on, except where other arrows
+imply it.
 
 usage: map.py [--check]     --check says which crates have no place on the map, or are not there any more
 """

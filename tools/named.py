@@ -1,5 +1,5 @@
 #!/usr/bin/env python3
-"""Looks that what the pages name is there. In the tables of promises, `call` (`clause`, ..) names clauses of that function,
+"""Checks that what the pages name exists. In the tables of promises, `call` (`clause`, ..) names clauses of that function,
 or of functions of that type or trait, and each other name between backquotes is one of the sources. On the pages about the
 code, and in the crates' READMEs, each name between backquotes is one of the sources or of a file.
 
@@ -14,7 +14,7 @@ TOP = os.path.join(os.path.dirname(os.path.realpath(__file__)), "..")
 CALL = re.compile(r"`([\w:]+)`(?:, `([\w:]+)`)* \(((?:`\w+`(?:, )?)+)\)")
 CLAUSE = re.compile(r"^ *ensures\*? (\w+) \{", re.M)
 PROMISES = {"README.md": "## What is proved", "docs/PROMISES.md": "## The headline"}
-# Pages about the code, and what they name beside: a call of the system, and variables of formulas.
+# Pages about the code, and what else they name: a system call, and variables of formulas.
 OF_CODE = ["docs/ARCHITECTURE.md", "docs/DECISIONS.md", "crates/*/README.md"]
 OTHERS = re.compile(r"flock|[a-z]_[a-z]")
 
@@ -35,7 +35,7 @@ def clauses_of(name, texts):
 
 
 def heads(text):
-    """Returns the text with each function's body left out: a head ends at a line that is a brace, or with the clause's `;`."""
+    """Returns the source without function bodies: a head ends at a line that is a brace, or with the clause's `;`."""
     return re.sub(r"(?m)^( *)\{\n(?:.*\n)*?\1\}$", r"\1{", text)
 
 

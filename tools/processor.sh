@@ -1,6 +1,6 @@
 #!/bin/sh
 # Prints the widest level of x86-64 for which the toolchain builds and which this machine's processor has: x86-64-v3, or
-# else x86-64-v2, which is the least that the program needs. Where nothing is said of the processor, it is x86-64-v2.
+# else x86-64-v2, which is the least that the program needs. If the processor is unknown, it is x86-64-v2.
 # usage: processor.sh [FILE]     FILE says what the processor has, as /proc/cpuinfo does
 set -eu
 file=${1:-/proc/cpuinfo}

@@ -4,7 +4,7 @@
 usage: proof_imports.py CRATE..     at the top of the repository
 
 A module from which two proof files take names, other than a proof file of the crate, goes to Common with those names.
-Where a name is to be had from several modules, Common takes it from the one that most files use. Names that a file
+If several modules have a name, Common takes it from the one that most files use. Names that a file
 renames stay in that file; of those that a file unfolds, Common passes on the right to unfold, too. So a new proof
 imports as it likes, and this tidies up behind it. What Common passes on is looked up first, so that a second run
 changes nothing.

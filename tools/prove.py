@@ -41,13 +41,13 @@ import page
 import rt_module
 
 DEFAULT = "x86-64-v2"
-# The most processes that share a proof, the least where the longest chain waits for it, what sharing costs, and the part
+# The most processes that share a proof, the least if the longest chain waits for it, what sharing costs, and the part
 # that can't be shared.
 SHARERS, URGENT, SHARING, ALONE = 4, 2, 1.25, 0.2
 # How nice a crate's processes are: not at all for the longest chain, 2 for one of four fifths, 7 for one of half.
 STEEP, NICEST = 10, 19
-# How many more processes than processors run at a time, since a proof begins and ends with a single one; and how long a
-# crate's chain is, as a part of another's, where its processes aren't counted since they are nice to that one's.
+# How many more processes than processors run at a time, because a proof begins and ends with a single one; and how long a
+# crate's chain is, as a part of another's, if its processes aren't counted because they are nice to that one's.
 CROWD, MINOR = 1, 0.7
 # A file system in memory, and the bytes that a run's files may take: from nothing they took 1.5 GB.
 IN_MEMORY, ROOM, PREFIX = "/dev/shm", 6_000_000_000, "par2-build-"
@@ -107,7 +107,7 @@ def first_build():
 
 
 def pace(sharers):
-    """Returns how long a proof takes that so many processes share, as a part of what it takes one."""
+    """Returns the time of a proof that this many processes share, as a part of what it takes one."""
     return ALONE + (1 - ALONE) * SHARING / sharers if sharers > 1 else 1
 
 

@@ -81,7 +81,7 @@ def code_of(lines):
 
 
 def cited(text, modules, names, own, all_modules):
-    """Returns the definitions of the repository that the text names."""
+    """Returns the definitions of the repository that these lines name."""
     for token in set(TOKEN.findall(text)):
         first, _, rest = token.partition(".")
         if token in own[1]:

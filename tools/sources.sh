@@ -1,5 +1,5 @@
 #!/bin/sh
-# Prints a sum of what the program is made of: the toolchain's version, the list of crates, and each source.
+# Prints a checksum of what the program is made of: the toolchain's version, the list of crates, and each source.
 set -eu
 cd "$(dirname "$0")/.."
 {

@@ -1,5 +1,5 @@
 #!/usr/bin/env python3
-"""Gathers what each test says of itself in its first sentence, as the table of docs/CHANGING.md.
+"""Gathers the first sentence of each test's description, as the table of docs/CHANGING.md.
 
 usage: tests_table.py [--check PAGE | --write PAGE]     compares it with the page, or writes it there
 """

@@ -2,7 +2,7 @@
 """Runs the commands of the file `lines` in real folders, and compares with the file `expected`. At the first difference
 it prints that and ends with status 1.
 
-A line is a word, a space and what the word is about. The words: class Words and the classes that it names.
+A line is a word, a space and the word's arguments. The words are in class Words and the classes that it names.
 
 usage: run.py [PROGRAM]     PROGRAM is crates/par2/out/par2 without the word
 """
@@ -41,21 +41,21 @@ EXPECTED = os.path.join(HERE, "expected")
 DATA = os.path.join(HERE, "data")
 PROGRAM = os.path.join(HERE, "../../crates/par2/out/par2")
 
-# What must be free in memory for the folders to stand there.
+# The free memory that is needed to have the folders in memory.
 ROOM = 1 << 30
 # More than a run takes.
 SECONDS = 600
 
-# Files of more bytes are shown by their length alone.
+# Of a file with more bytes only the length is printed.
 SHORT_FILE = 32
-# Of an output of more bytes their number alone is shown.
+# Of an output with more bytes only their number is printed.
 SHORT_TEXT = 1024
-# Of more files the number alone is shown.
+# Of more files only the number is printed.
 FEW = 9
 # More commands than a history has.
 MANY = 200
 
-# What is done with a folder by a forged journal: it is opened, or the words of a line are run in it.
+# What is done with a folder with a forged journal: it is opened, or the words of a line are run in it.
 OPEN, VERIFY = "open", "verify s.par2"
 WAYS = [OPEN, VERIFY, "undo", "redo", "create -s4 -c0 u.par2 a"]
 INVALID = b"par2: the journal is not valid\n"
@@ -80,7 +80,7 @@ def text_of(data):
 
 
 def quoted(text):
-    """Returns the text between quotes, with what can't be seen escaped."""
+    """Returns the string between quotes, with unprintable characters escaped."""
     shown = (c if c.isprintable() else f"\\u{{{ord(c):x}}}" for c in text)
     return '"' + "".join(ESCAPES.get(c, s) for c, s in zip(text, shown)) + '"'
 
@@ -99,7 +99,7 @@ def parted(line):
     return word, rest
 
 
-# Bytes as a line tells them, one term behind the other: `text:abc`, `hex:00ff`, `md5:abc` for the digest of a text,
+# Bytes as a line gives them, one term after the other: `text:abc`, `hex:00ff`, `md5:abc` for the digest of a string,
 # `4:7` and `8:7,9` for numbers of four and of eight bytes, the lowest first, and `100*hex:00` for a term repeated. Of a
 # journal's changes, `write:NAME:TEXT`, `replace:NAME:TEXT`, `rename:FROM:TO` and `remove:NAME`.
 
@@ -117,7 +117,7 @@ def many_names(count):
 
 
 def many_writes(count):
-    """Returns changes that write so many empty files, in the order of their names."""
+    """Returns changes that write this many empty files, in the order of their names."""
     return b"".join(change(WRITE, name) for name in many_names(count))
 
 
@@ -161,11 +161,11 @@ def bytes_told(terms):
     return b"".join(map(term_bytes, terms.split()))
 
 
-# A text that is cut at each place, or has one of its bytes changed.
+# Bytes that are cut at each place, or have one of them changed.
 
 
 def damaged(data, damage, place):
-    """Returns the bytes cut at the place, or with these bits of the byte there turned."""
+    """Returns the bytes cut at the place, or with these bits of the byte there flipped."""
     if damage == "cut":
         return data[:place]
     if place == len(data):
@@ -263,7 +263,7 @@ class Folder:
 
 
 class Answer(namedtuple("Answer", "status out err")):
-    """What came of a run: its status, and what it wrote on its two writers."""
+    """The result of a run: its status, and the bytes that it wrote on its two writers."""
 
     def text(self):
         return text_of(self.out + self.err)
@@ -277,7 +277,7 @@ class Answer(namedtuple("Answer", "status out err")):
 
 
 class Program:
-    """The program, and how often it was run."""
+    """The program, and the number of its runs."""
 
     def __init__(self, path):
         self.path = os.path.realpath(path)
@@ -292,7 +292,7 @@ class Program:
 
 
 class Output:
-    """What is said, beside what is expected."""
+    """The lines that are printed, compared with those that are expected."""
 
     def __init__(self, expected):
         self.expected = expected
@@ -309,7 +309,7 @@ class Output:
             raise Difference(self.difference(""))
 
     def difference(self, text):
-        """Returns the expected line, or as many as the text has, and the text."""
+        """Returns the expected lines, as many as the output has, and the output."""
         wanted = self.expected[self.place :].split("\n")[: max(1, text.count("\n"))]
         number = self.expected.count("\n", 0, self.place) + 1
         shown = [f"line {number} of {os.path.basename(EXPECTED)}:"]
@@ -329,7 +329,7 @@ class Runs:
         return self.program.run(self.folder, line)
 
     def told(self, line):
-        """Runs the words of a line, and says the status and what the writers got."""
+        """Runs the words of a line, and prints the status and the bytes that the writers got."""
         answer = self.run(line)
         self.say(f"[{line}] {answer.status}")
         for writer, data in (("output", answer.out), ("error", answer.err)):
@@ -337,7 +337,7 @@ class Runs:
                 self.say(f"  {writer} {quoted(text_of(data))}")
 
     def show(self, _=""):
-        """Says the files with their lengths, and the journal's length."""
+        """Prints the files with their lengths, and the journal's length."""
         for name, data in self.folder.files().items():
             self.say(f"  file {name}: {len(data)}")
         journal = self.folder.journal()
@@ -348,7 +348,7 @@ class Runs:
         self.show()
 
     def show_bytes(self, file_told):
-        """Says each file, and its bytes where they are few."""
+        """Prints each file, and its bytes if they are few."""
         for name, data in self.folder.files().items():
             told = f"{len(data)} bytes" if len(data) > SHORT_FILE else quoted(text_of(data))
             self.say(f"{file_told(name)}: {told}")
@@ -358,7 +358,7 @@ class Runs:
         self.show_bytes("  {}".format)
 
     def leads_to(self, line, wanted, when):
-        """Runs the words of a line, and says whether the folder has this fingerprint then."""
+        """Runs the words of a line, and prints whether the folder then has this fingerprint."""
         self.told(line)
         self.say(f"  files as {when}: {truth(self.folder.fingerprint() == wanted)}")
 
@@ -384,13 +384,13 @@ class Runs:
         self.say_kept(journal)
 
     def refused(self, line):
-        """Runs the words of a line, and says whether files and journal are as before."""
+        """Runs the words of a line, and prints whether files and journal are as before."""
         journal = self.folder.journal()
         self.leads_to(line, self.folder.fingerprint(), "before")
         self.say_kept(journal)
 
     def written(self, line):
-        """Runs the words of a line, and says what it wrote as it stands, and the status."""
+        """Runs the words of a line, and prints its output unchanged, and the status."""
         answer = self.run(line)
         self.say(f"{answer.text()}status: {answer.status}")
 
@@ -477,7 +477,7 @@ class Index:
         self.say = output.say
 
     def set(self, _):
-        """Says the bytes of the index that hold the identifier of its set."""
+        """Prints the bytes of the index that hold its set ID."""
         self.say(f"  bytes 32 to 47 of t.par2: {self.folder.read('t.par2')[32:48].hex()}")
 
     def digests(self, _):
@@ -485,7 +485,7 @@ class Index:
             self.say(f"{md5(data).hex()} {len(data)} {name}")
 
     def packets(self, name):
-        """Says what the packets of a file hold, which stand one behind the other."""
+        """Prints the contents of a file's packets, which follow one another."""
         text = self.folder.read(name)
         while text:
             length = int.from_bytes(text[8:16], "little")
@@ -528,21 +528,21 @@ class Index:
 
 
 class Forge:
-    """Forged texts: files of packets, and journals, with true digests as an attacker would write them."""
+    """Forged bytes: files of packets, and journals, with right digests, as an attacker would write them."""
 
     def __init__(self, folder):
         self.folder = folder
-        # The identifier that packets get.
+        # The set ID that packets get.
         self.set_id = bytes(16)
         # The packets of a file.
         self.packets = bytearray()
-        # What each journal begins with.
+        # The first bytes of each journal.
         self.front = b""
         self.journals = []
         self.kinds = self.packet_words() | self.journal_words()
 
     def main(self, terms):
-        """A Main, whose digest is the identifier from now on."""
+        """A Main, whose digest is the set ID from now on."""
         self.set_id = md5(bytes_told(terms))
         self.packet(f"main {terms}")
 
@@ -597,7 +597,7 @@ class Forge:
         self.journals.append(body + md5(body))
 
     def text(self, terms):
-        """A text in place of a journal."""
+        """Bytes in place of a journal."""
         self.journals.append(bytes_told(terms))
 
     def no_journals(self, _):
@@ -626,7 +626,7 @@ class Forge:
 
 
 class Large:
-    """Large files and many of them, and what comes of words on them. Of what is printed the last line is shown."""
+    """Large files and many of them, and commands on them. Only the last line of their output is printed."""
 
     def __init__(self, runs):
         self.runs = runs
@@ -643,7 +643,7 @@ class Large:
         }
 
     def fill(self, rest):
-        """Writes a file of so many bytes."""
+        """Writes a file of this many bytes."""
         name, length = parted(rest)
         self.folder.put(name, self.pattern.first(int(length)))
 
@@ -653,7 +653,7 @@ class Large:
         self.folder.put(name, bytes(int(length)) + self.folder.read(name)[int(length) :])
 
     def many(self, count):
-        """Writes so many files of eight bytes each, which are others for each."""
+        """Writes this many files of eight bytes each, which differ."""
         for k in range(int(count)):
             self.folder.put(f"f{k:07}", f"f{k:07}".encode())
 
@@ -661,12 +661,12 @@ class Large:
         return [name for name in self.folder.names() if not name.endswith(".par2")]
 
     def move(self, _):
-        """Gives each file but the par files a name with an `x` in front."""
+        """Renames each file except for the PAR2 files to its name with an `x` in front."""
         for name in self.names():
             self.folder.rename(name, f"x{name}")
 
     def told(self, line):
-        """Runs the words of a line, where a star at its end stands for the names of all files but the par files."""
+        """Runs the words of a line; a star at its end means the names of all files except for the PAR2 files."""
         words = line[:-1] + " ".join(self.names()) if line.endswith("*") else line
         answer = self.runs.run(words)
         self.say(f"[{line}] {answer.status} {last_line(answer.text())}")
@@ -691,7 +691,7 @@ class Large:
 
 
 class Attacks:
-    """Commands beside a forged set, each in a copy of the folder's files, without the journal: what they answer, and
+    """Commands beside a forged set, each in a copy of the folder's files, without the journal: their results, and
     whether they change files."""
 
     def __init__(self, folder, copy):
@@ -700,7 +700,7 @@ class Attacks:
         self.say = copy.say
 
     def attack(self, lines):
-        """Runs the words of each line, which semicolons part. What changed files is undone."""
+        """Runs the words of each line, separated by semicolons. Commands that changed files are undone."""
         for line in lines.split("; "):
             self.copy.folder.hold(self.folder.files())
             self.attacked(line)
@@ -721,8 +721,8 @@ class Attacks:
         self.say(f"    undo: {status}, files as before: {truth(same)}")
 
     def sweep(self, rest):
-        """Runs the words of a line with the damage at each place of the base in turn, and says each answer that
-        differs from the one at the place before."""
+        """Runs the words of a line with the damage at each place of the base, one after the other, and prints each
+        result that differs from the one at the place before."""
         damage, line = parted(rest)
         self.say(f"  {line}")
         files = self.folder.files()
@@ -734,7 +734,7 @@ class Attacks:
                 last = answer
 
     def told_by(self, files, line):
-        """Returns what a command answers beside these files, and what the file `a` is then."""
+        """Returns the result of a command beside these files, and the file `a` afterwards."""
         self.copy.folder.hold(files)
         told = self.copy.run(line).told()
         after = self.copy.folder.files()
@@ -748,7 +748,7 @@ class Prints:
     """The fingerprints that a halfway journal holds: of the folder before the command, and after each change."""
 
     def __init__(self, journal):
-        # The cursor stands behind the heading and the first fingerprint, and is of no use here.
+        # The cursor is after the heading and the first fingerprint, and isn't used here.
         self.rest = memoryview(journal)[len(HEADING) + 24 :]
         self.prints = [journal[len(HEADING) :][:16]]
         for _ in range(self.number()):
@@ -776,12 +776,12 @@ class Prints:
             self.take(self.number(1))
 
     def changes_made(self, files):
-        """Returns how many changes led to these files: so many take the command back."""
+        """Returns the number of changes that led to these files; as many take the command back."""
         return self.prints.index(fingerprint_of(files))
 
 
 class Copies:
-    """Runs in copies of these files with a journal. What a run left is kept, since an opening asks for it too."""
+    """Runs in copies of these files with a journal. The result of a run is kept, because an opening needs it, too."""
 
     def __init__(self, runs, files):
         self.runs = runs
@@ -789,7 +789,7 @@ class Copies:
         self.kept = {}
 
     def run(self, journal, line):
-        """Returns what the words of a line answer, and the files and the journal afterwards."""
+        """Returns the result of the words of a line, and the files and the journal afterwards."""
         if (journal, line) not in self.kept:
             self.runs.folder.hold(self.files, journal)
             answer = self.runs.run(line)
@@ -806,8 +806,8 @@ class Copies:
 
 
 class Opening:
-    """What a folder opens as by a journal. This is asked by whole commands: a verify takes a halfway command back and
-    leaves the history alone, and undos and redos that are accepted count it."""
+    """What a folder opens as with a journal. Whole commands find that out: a verify takes a halfway command back and
+    leaves the history alone, and accepted undos and redos count it."""
 
     def __init__(self, copies, journal):
         self.copies = copies
@@ -836,8 +836,8 @@ class Opening:
 
 
 class JournalAttacks:
-    """What a folder opens as by a forged journal, and what commands make of a copy that holds it: each answer that
-    differs from the one to the journal before, and the digest of all files and journals that are there afterwards."""
+    """What a folder opens as with a forged journal, and what commands do in a copy with it: each result that differs
+    from that of the journal before, and the digest of all files and journals afterwards."""
 
     def __init__(self, folder, copy, forge):
         self.folder = folder
@@ -864,7 +864,7 @@ class JournalAttacks:
         self.say(f"  digest: {hasher.hexdigest()}")
 
     def answers(self, copies, journals, way, hasher):
-        """Says each answer that is another than before, and takes in what is there afterwards."""
+        """Prints each result that differs from the one before, and adds what is there afterwards to the digest."""
         last = None
         for place, journal in enumerate(journals):
             answer, *after = self.answer(copies, journal, way)
@@ -896,7 +896,7 @@ class JournalAttacks:
 
 
 class Words:
-    """All words of the lines, over two folders of a room: one that lasts, and one that holds copies."""
+    """All words of the lines, over two folders of a room: one that stays, and one for copies."""
 
     def __init__(self, room, program, output):
         folder = Folder(os.path.join(room, "folder"))
@@ -909,7 +909,7 @@ class Words:
             self.words |= part.words()
 
     def carry_out(self, line):
-        """Carries out a line. An empty one, and one that begins with `#`, is read over."""
+        """Carries out a line. Empty lines and lines that begin with `#` are skipped."""
         word, rest = parted(line)
         if word not in ("", "#"):
             self.words[word](rest)
@@ -926,7 +926,7 @@ def carry_out_all(words, output):
 
 
 def room_for_folders():
-    """Returns where the folders stand: in memory where there is room, else where temporary files do."""
+    """Returns the place of the folders: in memory if there is enough, else where temporary files are."""
     memory = "/dev/shm"
     if os.path.isdir(memory) and shutil.disk_usage(memory).free >= ROOM:
         return memory

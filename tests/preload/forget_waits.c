@@ -1,4 +1,4 @@
-// Has each wait for the disk end at once, with nothing done. For LD_PRELOAD.
+// Lets each sync return at once, without doing anything. For LD_PRELOAD.
 int fsync(int file) {
     (void)file;
     return 0;

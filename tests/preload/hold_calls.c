@@ -35,7 +35,7 @@ static int is_forgotten(const char *what) {
 
 static int is_journal(const char *path) { return is(path, ".par2undo") || is(path, "./.par2undo"); }
 
-// Holds the program where it is this call's turn.
+// Holds the program if this is the call to hold it at.
 static void hold(void) {
     static long seen = 0;
     const char *number = getenv("HELD");
@@ -90,7 +90,7 @@ int unlink(const char *path) { return call(UNLINK, (long)path, 0, 0, 0); }
 
 long getdents64(int folder, void *entries, size room) { return call(GETDENTS64, folder, (long)entries, room, 0); }
 
-// The journal as it was when the shared lock was granted, what the look at it answered then, and whether the next look
+// The journal as it was when the shared lock was granted, the result of the look at it then, and whether the next look
 // sees that.
 static struct known journal;
 static int journal_answer = 0;

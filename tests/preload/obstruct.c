@@ -1,18 +1,18 @@
 // Meddles with the folder while the program reads it. The file that the variable VANISHES names is removed, or the one
 // that GROWS names gets a byte more, once the folder is `listed` or before the file is `opened`, as WHEN says. With
-// LONG the folder lists one name more, of 256 bytes of UTF-8, as some file systems do; what is asked of it is asked of
-// the file that LONG names. With FAILS the folder can't be read on: of the calls that read it, the one whose number
-// FAILS gives fails, counted from 1. Of the entry that UNTOLD names the folder doesn't give the kind, and it can't be
-// found when it is asked for by the path of the listing. A file that the variable APPEARS names, with the byte `+`, is
+// LONG the folder lists one name more, of 256 bytes of UTF-8, as some file systems do; calls on it go to the file that
+// LONG names. With FAILS the folder can't be read on: of the calls that read it, the one whose number FAILS gives
+// fails, counted from 1. The folder doesn't give the kind of the entry that UNTOLD names, and a look-up by the path of
+// the listing doesn't find it. A file that the variable APPEARS names, with the byte `+`, is
 // there once the folder is `listed`, or before a file is `named` so; of the name DANGLES there is a link that leads
 // nowhere. With NOLINKS the folder has no hard links: to make one fails by the error of that number, once a file may
 // have appeared. The file that VANISHES names may also be removed just before it is `removed`, and the one that SHRINKS
 // names cut to five bytes before it is `opened`.
 //
 // Each read of the file that UNREAD names puts a byte on descriptor 9, and from the second one on they fail by the error
-// of the number FAULT. With LOCKS each lock fails by the error of that number. With INTERRUPTED so many writes to the
-// output are interrupted, one after the other. With MODES descriptor 9 has a line for each file that is made: its mode,
-// as asked for and as it is, whether it was made where nothing was, and its name; and one for each change of a mode.
+// of the number FAULT. With LOCKS each lock fails with the error of that number. With INTERRUPTED this many writes to
+// the output are interrupted, one after the other. With MODES descriptor 9 has a line for each file that is created: its
+// mode, as requested and as it is, whether nothing was there before, and its name; and one for each change of a mode.
 // For LD_PRELOAD.
 typedef unsigned long size;
 extern char *getenv(const char *name);
@@ -167,7 +167,7 @@ int flock(int file, int how) {
     return error != 0 ? fail_by(atol(error)) : (int)syscall(FLOCK, (long)file, (long)how);
 }
 
-// Tells of a call that changes a mode, or the modes of files to come.
+// Reports a call that changes a mode, or the modes of files to come.
 static long changed(const char *word, long number, long first, long second, long third) {
     if (getenv("MODES") != 0) {
         dprintf(TOLD, "%s\n", word);

@@ -1,6 +1,6 @@
-// Records on descriptor 9 each call of the program that opens something, changes the folder or waits for the disk,
-// once it has succeeded. There is a line with its word, its descriptor, a number and the lengths of two texts, and
-// then these texts follow. For LD_PRELOAD.
+// Records on descriptor 9 each call of the program that opens something, changes the folder or syncs, once it has
+// succeeded. There is a line with its word, its descriptor, a number and the lengths of two strings, and then these
+// strings follow. For LD_PRELOAD.
 typedef unsigned long size;
 extern int dprintf(int file, const char *format, ...);
 extern long syscall(long number, ...);
@@ -34,7 +34,7 @@ static void put(const char *bytes, size count) {
     }
 }
 
-// Records a call with two texts.
+// Records a call with two strings.
 static void tell_both(const char *word, long file, long number, const char *from, const char *to) {
     dprintf(RECORD, "%s %ld %ld %lu %lu\n", word, file, number, length(from), length(to));
     put(from, length(from));
@@ -89,7 +89,7 @@ long pwrite(int file, const void *bytes, size count, long place) {
     return taken;
 }
 
-// A call that answers 0 where it succeeds.
+// A call that returns 0 if it succeeds.
 static int told(const char *word, long number, long file, long count) {
     long answer = syscall(number, file, count);
     if (answer == 0) {

@@ -1,8 +1,8 @@
-// Refuses one growth of memory: the one whose number the variable REFUSED gives, counted from 1; where the variable
-// NEXT_TOO is set, the growth after it too. It then writes a byte on descriptor 9, so that who started the program sees
-// that there was such a growth; where the variable SHOWN is set it writes one for each growth. Where the variable SIZES is set, it writes there how many bytes each growth asks for and how
-// many there are in all with it, in eight bytes each. Where the variable LARGEST is set, it refuses each growth to more
-// bytes than that. For LD_PRELOAD.
+// Refuses one growth of memory: the one whose number the variable REFUSED gives, counted from 1; if the variable
+// NEXT_TOO is set, the growth after it, too. It then writes a byte on descriptor 9, so that who started the program sees
+// that there was such a growth; if the variable SHOWN is set it writes one for each growth. If the variable SIZES is
+// set, it writes there the number of bytes of each growth and of all memory with it, in eight bytes each. If the
+// variable LARGEST is set, it refuses each growth to more bytes than that. For LD_PRELOAD.
 typedef unsigned long size;
 extern void *__libc_malloc(size bytes);
 extern void *__libc_calloc(size count, size bytes);

@@ -1,7 +1,7 @@
-// Stops the program at one of its calls that change the folder, wait for the disk or open the folder, as each wait for
-// its names does: the one whose number the variable STOPPED gives, counted from 1. The variable HOW says how: it ends by SIGKILL `before` the call, `behind` it, or in the
-// `middle` of a write; or the call fails by `EIO` or `ENOSPC`. A byte is then written on descriptor 9, so that who started
-// the program sees that there was such a call. For LD_PRELOAD.
+// Stops the program at one of its calls that change the folder, sync or open the folder, as each sync of its names
+// does: the one whose number the variable STOPPED gives, counted from 1. The variable HOW says how: it ends by SIGKILL
+// `before` the call, `behind` it, or in the `middle` of a write; or the call fails by `EIO` or `ENOSPC`. A byte is then
+// written on descriptor 9, so that who started the program sees that there was such a call. For LD_PRELOAD.
 typedef unsigned long size;
 extern char *getenv(const char *name);
 extern long atol(const char *text);
@@ -32,7 +32,7 @@ static int is(const char *text, const char *word) {
     return *text == *word;
 }
 
-// A call that changes the folder, waits for the disk or opens the folder.
+// A call that changes the folder, syncs or opens the folder.
 static long change(long number, long first, long second, long third, long fourth) {
     const char *how = getenv("HOW");
     if (how == 0 || !is_stopped()) {

@@ -18,7 +18,7 @@ pub fn seconds_since(rt: &HostRuntime, start: Instant) -> io::Result<f64> {
     Ok(start.elapsed(rt)?.as_secs_f64())
 }
 
-/// How fast so many bytes were taken.
+/// The speed at which this many bytes were processed.
 pub fn megabytes_a_second(bytes: usize, nanos: u128) -> u128 {
     bytes as u128 * 1000 / nanos.max(1)
 }

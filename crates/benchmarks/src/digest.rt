@@ -8,7 +8,7 @@ fn first_byte(bytes: &[u8]) -> u8 {
     Md5::digest(bytes)[0]
 }
 
-/// Prints how fast the digest of these bytes is.
+/// Prints the speed of MD5 over these bytes.
 pub fn measure(rt: &HostRuntime, bytes: &[u8]) -> io::Result<()> {
     let start = start(rt)?;
     let first = first_byte(bytes);

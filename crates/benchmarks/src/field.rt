@@ -6,10 +6,10 @@ use crate::sums::add_products;
 use par2_gf16::Gf;
 use std::io;
 
-/// How many bytes lie in a buffer: few enough to stay in the cache.
+// The bytes of a buffer: few enough to stay in the cache.
 const BYTES: usize = 65536;
 
-// all bytes in one number, so that no work can be left out
+// All bytes in one number, so that no work can be optimized away.
 fn weight(bytes: &[u8]) -> u32 {
     let mut weight = 0u32;
     for byte in bytes {
@@ -18,21 +18,21 @@ fn weight(bytes: &[u8]) -> u32 {
     weight
 }
 
-// writes another first byte for each round
+// Writes another first byte in each round.
 fn change(src: &mut [u8], round: u32) {
     if let Some(first) = src.first_mut() {
         *first = (round % 256) as u8;
     }
 }
 
-// copies a text over one of its length
+// Copies a buffer over one of its length.
 fn copy(src: &[u8], dst: &mut [u8]) {
     if src.len() == dst.len() {
         dst.copy_from_slice(src);
     }
 }
 
-// each copy changes with its round
+// Each copy changes with its round.
 fn copy_often(rounds: u32, src: &mut [u8], dst: &mut [u8]) {
     for round in 0..rounds {
         change(src, round);
@@ -40,7 +40,7 @@ fn copy_often(rounds: u32, src: &mut [u8], dst: &mut [u8]) {
     }
 }
 
-// thousandths of a GB/s
+// Thousandths of a GB/s.
 fn rate(rounds: u32, nanos: u128) -> u128 {
     u128::from(rounds) * BYTES as u128 * 1000 / nanos.max(1)
 }
@@ -60,7 +60,7 @@ fn measure_tables(rt: &HostRuntime) -> io::Result<Gf> {
     Ok(gf)
 }
 
-// the nanoseconds of plain copies
+// The nanoseconds of plain copies.
 fn measure_copies(
     rt: &HostRuntime,
     rounds: u32,
@@ -86,7 +86,7 @@ fn sums_nanos(
     nanos_since(rt, start)
 }
 
-// prints how fast sums are, and gives the weight of what they made
+// Prints the speed of sums, and returns the weight of their result.
 fn measure_sums(
     rt: &HostRuntime,
     gf: &Gf,

@@ -1,5 +1,5 @@
-//! Folders and stores: how long a folder of 1,000 and of 10,000 names takes to be read, looked up and changed, and how
-//! fast a fingerprint and MD5 are. A file can also be read by the store alone, for others to measure.
+//! Folders and stores: the time to read, look up and change a folder of 1,000 and of 10,000 names, and the speed of a
+//! fingerprint and of MD5. A file can also be read by the store alone, for others to measure.
 
 use crate::clock::{megabytes_a_second, nanos_since, start};
 use crate::digest;
@@ -15,8 +15,8 @@ use std::time::Instant;
 
 const SIZE: usize = 64 << 20;
 
-fn name_of(text: &str) -> Result<Name> {
-    match Name::new(text) {
+fn name_of(string: &str) -> Result<Name> {
+    match Name::new(string) {
         Ok(name) => Ok(name),
         Err(fault) => Err(fault.into()),
     }
@@ -26,7 +26,7 @@ fn named(alloc: Global, number: usize) -> Result<Name> {
     name_of(format!(in alloc; "file {number:05}")?.as_str())
 }
 
-// Calls of stores and folders: they promise nothing, so that the prover sees their types alone.
+// For the prover: calls of stores and folders, without contracts, so that it sees only their types.
 
 fn put(store: &mut MemoryStore, name: &Name) -> Result<(), StoreFault> {
     store.write(name, b"bytes")
@@ -68,7 +68,7 @@ fn filled(alloc: Global, count: usize) -> Result<MemoryStore> {
     Ok(store)
 }
 
-// The nanoseconds since that moment for each of so many.
+// The nanoseconds since that moment, for each of `count`.
 fn each(rt: &HostRuntime, start: Instant, count: usize) -> io::Result<u128> {
     Ok(nanos_since(rt, start)? / (count as u128).max(1))
 }
@@ -84,7 +84,7 @@ fn look_up(rt: &HostRuntime, folder: &Folder, names: &[Name]) -> io::Result<()> 
     println!(rt; "  look up: {each} ns each ({found} found)")
 }
 
-// Takes a file away and writes it back.
+// Removes a file and writes it again.
 fn remove_and_write(folder: &mut Folder, name: &Name) {
     let mut change = Change::Remove(name.copied());
     apply(folder, &mut change);
@@ -99,13 +99,13 @@ fn remove_and_write_each(rt: &HostRuntime, folder: &mut Folder, names: &[Name]) 
     report(rt, "remove and write", start, names.len())
 }
 
-// A change that gives the first file other bytes.
+// A change that replaces the bytes of the first file.
 fn replacement(alloc: Global) -> Result<Change> {
     let bytes = Bytes::copy_of(alloc, b"other")?;
     Ok(Change::Replace(named(alloc, 0)?, bytes))
 }
 
-// Gives a file other bytes as often as there are files.
+// Replaces the bytes of a file as often as there are files.
 fn replace_often(rt: &HostRuntime, folder: &mut Folder, count: usize) -> Result<()> {
     let mut change = replacement(rt.alloc())?;
     let start = start(rt)?;
@@ -168,7 +168,7 @@ fn measure_fingerprints(rt: &HostRuntime) -> Result<()> {
     Ok(measure_fingerprint(rt, &folder)?)
 }
 
-/// Reads a file of the current directory by the store, and prints its length.
+/// Reads a file of the current directory through the store, and prints its length.
 pub fn read_file(rt: &HostRuntime, path: &str) -> Result<()> {
     let bytes = bytes_on_disk(rt, &name_of(path)?)?;
     println!(rt; "{} bytes", bytes.len())?;

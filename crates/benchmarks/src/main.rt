@@ -1,5 +1,5 @@
-//! Figures of the kernels, each beside a plain copy, the digest or the field's sums alone in the same run. Without a
-//! word it only says how to call it, so that its output is fixed.
+//! Benchmarks of the kernels, each beside a plain copy, MD5 or the field's sums in the same run. Without words it
+//! prints only its usage, so that its output is fixed.
 #![tactic(auto)]
 
 mod clock;

@@ -9,15 +9,15 @@ use par2_matrix::System;
 use std::alloc::{AllocError, Global};
 use std::io;
 
-/// How many bytes each unknown text has.
+// The bytes of each unknown buffer.
 const BYTES: usize = 4096;
 
-// an element of a slice's column
+// The entry of a slice's column.
 fn coefficient(gf: &Gf, slice: u32, exponent: u32) -> u16 {
     gf.pow(gf.constant(slice).unwrap_or(1), exponent)
 }
 
-// what the recovery slice of an exponent multiplies the slices by
+// The factors of the slices in the equation of an exponent.
 fn coefficients(
     alloc: Global,
     gf: &Gf,
@@ -35,7 +35,7 @@ fn coefficients(
     Ok(row)
 }
 
-// takes an equation in, and keeps the size of the system alone
+// For the prover: inserts an equation, with a contract about the system's size only.
 fn offer(gf: &Gf, system: &mut System, row: &[u16], right: Vec<u8>) -> Result<(), AllocError>
     requires row { length row.now ≡ system.old.columns }
     requires right { length right.items ≡ system.old.bytes }
@@ -50,7 +50,7 @@ fn rank_of(system: &System) -> usize {
     system.rank()
 }
 
-// the nanoseconds that the equation of an exponent takes
+// The nanoseconds for the equation of an exponent.
 fn offer_nanos(
     rt: &HostRuntime,
     gf: &Gf,
@@ -77,7 +77,7 @@ fn report(rt: &HostRuntime, columns: u16, rank: usize, nanos: u128) -> io::Resul
     )
 }
 
-// the nanoseconds that it takes to solve a system
+// The nanoseconds to solve a system.
 fn solve(rt: &HostRuntime, gf: &Gf, columns: u16) -> io::Result<u128> {
     let mut system = System::new(rt.alloc(), usize::from(columns), BYTES)?;
     let mut nanos = 0u128;

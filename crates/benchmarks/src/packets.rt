@@ -17,53 +17,53 @@ const SLICE: usize = 65536;
 // Adds the recovery slice of an exponent.
 fn append_slice(
     alloc: Global,
-    text: &mut Vec<u8>,
+    packed: &mut Vec<u8>,
     exponent: u16,
     slice: &[u8],
 ) -> Result<(), AllocError> {
     let words = &slice[..slice.len() / 4 * 4];
-    append_recovery(alloc, text, &[7; 16], u32::from(exponent), words)
+    append_recovery(alloc, packed, &[7; 16], u32::from(exponent), words)
 }
 
 // A volume of recovery slices.
 fn volume(alloc: Global) -> Result<Vec<u8>, AllocError> {
     let slice = random_bytes(alloc, SLICE, 1)?;
-    let mut text = Vec::with_capacity(alloc, SIZE + MEBIBYTE)?;
+    let mut packed = Vec::with_capacity(alloc, SIZE + MEBIBYTE)?;
     for exponent in 0..1024 {
-        append_slice(alloc, &mut text, exponent, &slice)?;
+        append_slice(alloc, &mut packed, exponent, &slice)?;
     }
-    Ok(text)
+    Ok(packed)
 }
 
-// The packets of a text, and how many bytes their bodies have.
-fn scanned(text: &[u8]) -> (u64, u64) {
+// The number of packets in these bytes, and the size of their bodies.
+fn scanned(packed: &[u8]) -> (u64, u64) {
     let mut packets = 0u64;
     let mut bytes = 0u64;
-    for packet in Packets::new(text) {
+    for packet in Packets::new(packed) {
         packets = packets.saturating_add(1);
         bytes = bytes.saturating_add(packet.body.len() as u64);
     }
     (packets, bytes)
 }
 
-fn measure_volume(rt: &HostRuntime, text: &[u8]) -> io::Result<()> {
+fn measure_volume(rt: &HostRuntime, packed: &[u8]) -> io::Result<()> {
     let start = start(rt)?;
-    let (packets, bytes) = scanned(text);
-    let rate = megabytes_a_second(text.len(), nanos_since(rt, start)?);
+    let (packets, bytes) = scanned(packed);
+    let rate = megabytes_a_second(packed.len(), nanos_since(rt, start)?);
     println!(rt; "volume: {rate} MB/s ({packets} packets, {bytes} bytes)")
 }
 
-fn measure_random_bytes(rt: &HostRuntime, text: &[u8]) -> io::Result<()> {
+fn measure_random_bytes(rt: &HostRuntime, packed: &[u8]) -> io::Result<()> {
     let start = start(rt)?;
-    let (packets, _) = scanned(text);
-    let rate = megabytes_a_second(text.len(), nanos_since(rt, start)?);
+    let (packets, _) = scanned(packed);
+    let rate = megabytes_a_second(packed.len(), nanos_since(rt, start)?);
     println!(rt; "random bytes: {rate} MB/s ({packets} packets)")
 }
 
 pub fn measure(rt: &HostRuntime) -> Result<()> {
-    let text = volume(rt.alloc())?;
-    digest::measure(rt, &text)?;
-    measure_volume(rt, &text)?;
-    let text = random_bytes(rt.alloc(), SIZE, 2)?;
-    Ok(measure_random_bytes(rt, &text)?)
+    let packed = volume(rt.alloc())?;
+    digest::measure(rt, &packed)?;
+    measure_volume(rt, &packed)?;
+    let packed = random_bytes(rt.alloc(), SIZE, 2)?;
+    Ok(measure_random_bytes(rt, &packed)?)
 }

@@ -1,10 +1,10 @@
-//! Bytes without a pattern.
+//! Pseudo-random bytes.
 
 ghost use Rattle.std.specs.Prelude.{◌≡◌, IfOk, vec_len};
 
 use std::alloc::{AllocError, Global};
 
-/// So many bytes, others for each seed, by xorshift.
+/// `len` bytes by xorshift, different for each seed.
 pub fn random_bytes(alloc: Global, len: usize, seed: u64) -> Result<Vec<u8>, AllocError>
     ensures { IfOk result (λ bytes. vec_len bytes ≡ len) }
 {

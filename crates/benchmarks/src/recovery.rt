@@ -1,4 +1,4 @@
-//! Recovery slices and rebuilding, each beside the field's sums of as many texts in the same run.
+//! Recovery slices and rebuilding, each beside the field's sums of as many buffers in the same run.
 
 use crate::clock::{nanos_since, start};
 use crate::random::random_bytes;
@@ -27,7 +27,7 @@ const LOST: u32 = 300;
 
 const NANOS_IN_MILLISECOND: u128 = 1_000_000;
 
-// How long so many sums of products of texts of this size take, whose texts stay in the cache.
+// The time of this many sums of products over buffers of this size that stay in the cache.
 fn sums_nanos(rt: &HostRuntime, gf: &Gf, count: u64, size: usize) -> io::Result<u128> {
     let source = random_bytes(rt.alloc(), size, 1)?;
     let mut target = random_bytes(rt.alloc(), size, 2)?;
@@ -55,7 +55,7 @@ fn report(rt: &HostRuntime, what: &str, nanos: u128, sums: u128) -> io::Result<(
     )
 }
 
-// A folder of one file, and what its set says of it.
+// A folder of one file, and the record of its set.
 #[derive(Drop)]
 struct Protected {
     folder: Folder,
@@ -82,14 +82,14 @@ fn first_slices(
 
 fn recover(rt: &HostRuntime, gf: &Gf, protected: &Protected, sums: u128) -> io::Result<()> {
     let start = start(rt)?;
-    let texts = first_slices(rt.alloc(), gf, protected, RECOVERY_SLICES)?;
+    let buffers = first_slices(rt.alloc(), gf, protected, RECOVERY_SLICES)?;
     report(
         rt,
         "100 recovery slices of 64 KiB over 1024 slices",
         nanos_since(rt, start)?,
         sums,
     )?;
-    println!(rt; "they are there: {}", texts.is_some())
+    println!(rt; "they are there: {}", buffers.is_some())
 }
 
 fn measure_recovery(rt: &HostRuntime, gf: &Gf) -> Result<()> {
@@ -113,11 +113,11 @@ fn known_of<'a>(alloc: Global, bytes: &'a [u8]) -> Result<Vec<Option<&'a [u8]>>,
     Ok(known)
 }
 
-fn numbered<'a>(alloc: Global, texts: &'a [Vec<u8>]) -> Result<Vec<(u32, &'a [u8])>, AllocError> {
+fn numbered<'a>(alloc: Global, buffers: &'a [Vec<u8>]) -> Result<Vec<(u32, &'a [u8])>, AllocError> {
     let mut recovery = Vec::new(alloc);
     let mut exponent = 0u32;
-    for text in texts {
-        recovery.push((exponent, text.as_slice()))?;
+    for buffer in buffers {
+        recovery.push((exponent, buffer.as_slice()))?;
         exponent = exponent.wrapping_add(1);
     }
     Ok(recovery)
@@ -126,31 +126,31 @@ fn numbered<'a>(alloc: Global, texts: &'a [Vec<u8>]) -> Result<Vec<(u32, &'a [u8
 fn survivors_of<'a>(
     alloc: Global,
     bytes: &'a [u8],
-    texts: &'a [Vec<u8>],
+    buffers: &'a [Vec<u8>],
 ) -> Result<Survivors<'a>, AllocError> {
     Ok(Survivors {
         slice: SMALL_SLICE,
         known: known_of(alloc, bytes)?,
-        recovery: numbered(alloc, texts)?,
+        recovery: numbered(alloc, buffers)?,
     })
 }
 
-// Whether the texts are the lost slices.
-fn are_the_lost(bytes: &[u8], texts: &[Vec<u8>]) -> bool {
+// Whether the buffers are the lost slices.
+fn are_the_lost(bytes: &[u8], buffers: &[Vec<u8>]) -> bool {
     let lost = bytes
         .chunks(SMALL_SLICE)
         .enumerate()
         .filter(|(k, _)| is_lost(*k));
-    texts.len() == LOST as usize
+    buffers.len() == LOST as usize
         && lost
-            .zip(texts.iter())
-            .all(|((_, slice), text)| slice == text.as_slice())
+            .zip(buffers.iter())
+            .all(|((_, slice), buffer)| slice == buffer.as_slice())
 }
 
 // Whether the lost slices were rebuilt.
 fn are_back(bytes: &[u8], answer: &Option<Result<Vec<Vec<u8>>, RebuildFault>>) -> bool {
     match answer {
-        Some(Ok(texts)) => are_the_lost(bytes, texts),
+        Some(Ok(buffers)) => are_the_lost(bytes, buffers),
         _ => false,
     }
 }
@@ -159,10 +159,10 @@ fn rebuild(
     rt: &HostRuntime,
     gf: &Gf,
     bytes: &[u8],
-    texts: &[Vec<u8>],
+    buffers: &[Vec<u8>],
     sums: u128,
 ) -> io::Result<()> {
-    let survivors = survivors_of(rt.alloc(), bytes, texts)?;
+    let survivors = survivors_of(rt.alloc(), bytes, buffers)?;
     let start = start(rt)?;
     let answer = rebuilt(rt.alloc(), gf, &survivors);
     report(
@@ -177,11 +177,11 @@ fn rebuild(
 fn measure_rebuild(rt: &HostRuntime, gf: &Gf) -> Result<()> {
     let bytes = random_bytes(rt.alloc(), SMALL_SLICE * SMALL_SLICES, 1)?;
     let protected = protect(rt.alloc(), &bytes, SMALL_SLICE)?;
-    let Some(texts) = first_slices(rt.alloc(), gf, &protected, LOST)? else {
+    let Some(buffers) = first_slices(rt.alloc(), gf, &protected, LOST)? else {
         return Err(Error::msg("no recovery slices"));
     };
     let sums = sums_nanos(rt, gf, u64::from(LOST) * SMALL_SLICES as u64, SMALL_SLICE)?;
-    Ok(rebuild(rt, gf, &bytes, &texts, sums)?)
+    Ok(rebuild(rt, gf, &bytes, &buffers, sums)?)
 }
 
 pub fn measure(rt: &HostRuntime) -> Result<()> {

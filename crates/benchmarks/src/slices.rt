@@ -1,10 +1,10 @@
-//! The checksums and the search, beside a plain copy and MD5 alone in the same run. Each figure is the best of some
-//! rounds, since other programs disturb a round.
+//! The checksums and the search, beside a plain copy and MD5 in the same run. Each figure is the best of some rounds,
+//! because other programs disturb a round.
 
 use crate::clock::{seconds_since, start};
 use crate::random::random_bytes;
 use md5::{Digest, Md5};
-use par2_slices::{Pair, Spot, Wanted, crc32, find_among, pair_of, slice_bytes, slice_count};
+use par2_slices::{Pair, Position, Wanted, crc32, find_among, pair_of, slice_bytes, slice_count};
 use std::alloc::{AllocError, Global};
 use std::io;
 
@@ -37,7 +37,7 @@ fn strangers(alloc: Global, count: usize) -> Result<Vec<Pair>, AllocError> {
     Ok(pairs)
 }
 
-// What a round takes, and something of what it made, so that it isn't left out.
+// The time of a round, and a part of its result, so that it isn't optimized away.
 #[derive(Clone, Copy, Drop)]
 struct Round {
     seconds: f64,
@@ -65,7 +65,7 @@ fn copy_round(rt: &HostRuntime, bytes: &[u8], copy: &mut Vec<u8>) -> io::Result<
     })
 }
 
-// What is done with the bytes alone.
+// What is done with the bytes, without a search.
 #[derive(Clone, Copy)]
 enum Kernel {
     Md5,
@@ -88,15 +88,22 @@ fn kernel_round(rt: &HostRuntime, kernel: Kernel, bytes: &[u8]) -> io::Result<Ro
     Ok(Round { seconds, made })
 }
 
-fn spots_of(alloc: Global, bytes: &[u8], wanted: &Wanted) -> Result<Vec<Option<Spot>>, AllocError> {
+fn positions_of(
+    alloc: Global,
+    bytes: &[u8],
+    wanted: &Wanted,
+) -> Result<Vec<Option<Position>>, AllocError> {
     find_among(alloc, &[bytes], SLICE, wanted)
 }
 
 fn search_round(rt: &HostRuntime, bytes: &[u8], wanted: &Wanted) -> io::Result<Round> {
     let start = start(rt)?;
-    let spots = spots_of(rt.alloc(), bytes, wanted)?;
+    let positions = positions_of(rt.alloc(), bytes, wanted)?;
     let seconds = seconds_since(rt, start)?;
-    let made = spots.iter().filter(|spot| spot.is_some()).count();
+    let made = positions
+        .iter()
+        .filter(|position| position.is_some())
+        .count();
     Ok(Round { seconds, made })
 }
 
@@ -108,7 +115,7 @@ fn best_search(rt: &HostRuntime, bytes: &[u8], wanted: &Wanted) -> io::Result<Ro
     Ok(best)
 }
 
-// What a plain copy of the file and its MD5 take in the same run.
+// The time of a plain copy of the file and of its MD5 in the same run.
 #[derive(Clone, Copy, Drop)]
 struct Yardstick {
     copy: Round,

@@ -1,4 +1,4 @@
-//! Sums of products, of texts whose lengths are tested first.
+//! Sums of products, of buffers whose lengths are tested first.
 
 ghost use Rattle.std.specs.Prelude.{◌≡◌, ◌%◌, length, IsTrue};
 
@@ -17,7 +17,7 @@ fn add(gf: &Gf, factor: u16, src: &[u8], dst: &mut [u8]) {
     }
 }
 
-/// Adds the products by a factor after the other.
+/// Adds the products by one factor after the other.
 pub fn add_products(gf: &Gf, rounds: u64, src: &[u8], dst: &mut [u8]) {
     let mut factor = 3u16;
     for _ in 0..rounds {

@@ -1,5 +1,5 @@
-//! Calls whose contracts are long, each in a function that promises nothing: of such a call the prover sees its
-//! type alone.
+//! Calls whose contracts are long, each in a function without a contract. For the prover: it sees only the types of
+//! such a call.
 ghost use Rattle.std.specs.Prelude.{IfOk};
 ghost use Rattle.par2_journal.specs.Ready.{Fits};
 
@@ -30,12 +30,12 @@ pub fn write(store: &mut MemoryStore, name: &Name, bytes: &[u8]) -> Result<(), S
     store.write(name, bytes)
 }
 
-/// Writes other bytes over those of a file.
+/// Replaces the bytes of a file.
 pub fn replace(store: &mut MemoryStore, name: &Name, bytes: &[u8]) -> Result<(), StoreFault> {
     store.replace(name, bytes)
 }
 
-/// Puts a journal in place of the one that is there.
+/// Replaces the journal.
 pub fn put_journal(store: &mut MemoryStore, bytes: &[u8]) -> Result<(), StoreFault> {
     store.put_journal(bytes)
 }
@@ -49,7 +49,7 @@ pub fn create(session: &mut Session, args: &CreateArgs) -> Result<Steps, Fault> 
     session.create(args)
 }
 
-/// Repairs by `t.par2` alone.
+/// Repairs with only `t.par2`.
 pub fn repair(session: &mut Session, purge: bool) -> Result<Steps, Fault> {
     session.repair("t.par2", &[], purge)
 }
@@ -76,14 +76,14 @@ pub fn journals_of(session: &mut Session, prepared: &mut Prepared) -> Result<Jou
     session.journals(prepared)
 }
 
-/// How many steps were done.
+/// Returns the number of steps.
 pub fn commit(session: &mut Session, prepared: Prepared) -> usize
     requires { Fits prepared session.old }
 {
     session.commit(prepared).len()
 }
 
-/// How many of the actions were done.
+/// Returns the number of actions that were done.
 pub fn play(session: &mut Session, actions: &[Action]) -> usize {
     session.play(actions)
 }
@@ -92,8 +92,8 @@ pub fn encode(session: &Session) -> Result<Vec<u8>, AllocError> {
     session.encode()
 }
 
-pub fn open(alloc: Global, folder: Folder, text: &[u8]) -> Result<Opened, (JournalFault, Folder)> {
-    Session::open(alloc, folder, text)
+pub fn open(alloc: Global, folder: Folder, bytes: &[u8]) -> Result<Opened, (JournalFault, Folder)> {
+    Session::open(alloc, folder, bytes)
 }
 
 pub fn settled(halfway: &Halfway) -> Result<Vec<u8>, AllocError> {

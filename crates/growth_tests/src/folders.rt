@@ -10,8 +10,8 @@ use par2_plan::{Changes, check, plan_create, plan_purge, plan_repair};
 use par2_slices::crc32;
 use std::alloc::Global;
 
-/// What the calls need: folders of a set whose file `a` was cut and is whole, a store with the file `a` and a journal,
-/// and the words of a create. Then what they answer.
+/// The inputs of the calls: folders of a set whose file `a` was cut and is whole, a store with the file `a` and a
+/// journal, and the words of a create. Then their results.
 #[derive(Drop)]
 pub struct Folders {
     folder: Folder,
@@ -22,7 +22,7 @@ pub struct Folders {
     args: CreateArgs,
     changes: Changes,
     names: Vec<Name>,
-    text: Vec<u8>,
+    bytes: Vec<u8>,
     print: [u8; 16],
     number: usize,
 }
@@ -35,7 +35,7 @@ fn store_of(alloc: Global, name: &Name) -> Result<MemoryStore> {
     Ok(store)
 }
 
-// The checksums of what the changes write, added up.
+// The checksums of the bytes that the changes write, added up.
 fn sum_of(changes: &[Change]) -> u64 {
     let mut sum = 0u64;
     for change in changes {
@@ -59,7 +59,7 @@ impl Folders {
             args: args_of(alloc, "u.par2")?,
             changes: Changes::new(alloc),
             names: Vec::new(alloc),
-            text: Vec::new(alloc),
+            bytes: Vec::new(alloc),
             print: [0; 16],
             number: 0,
         })
@@ -82,9 +82,9 @@ impl Folders {
     fn read(&mut self, alloc: Global, name: &str) -> Result<(), Refusal> {
         match name {
             "MemoryStore::names" => self.names = names_of(alloc, &mut self.store)?,
-            "MemoryStore::read" => self.text = read(alloc, &mut self.store, &self.name)?,
+            "MemoryStore::read" => self.bytes = read(alloc, &mut self.store, &self.name)?,
             "MemoryStore::read_journal" => {
-                self.text = read_journal(alloc, &mut self.store)?.ok_or(Refusal::Other)?;
+                self.bytes = read_journal(alloc, &mut self.store)?.ok_or(Refusal::Other)?;
             }
             _ => self.folder = folder_in(alloc, &mut self.store)?,
         }
@@ -133,7 +133,7 @@ impl Scene for Folders {
     fn show(&mut self, rt: &HostRuntime) -> Result<()> {
         println!(rt; "  {:?}, {}", self.names, self.number)?;
         println!(rt; "  {:032x}", u128::from_be_bytes(self.print))?;
-        println!(rt; "  {} bytes, {:08x}", self.text.len(), crc32(&self.text))?;
+        println!(rt; "  {} bytes, {:08x}", self.bytes.len(), crc32(&self.bytes))?;
         println!(rt;
             "  {} changes, {}",
             self.changes.len(),

@@ -1,4 +1,4 @@
-//! Folders and words that the calls work on.
+//! The folders and words of the calls.
 
 use anyhow::{Error, Result};
 use par2_folder::{Bytes, Change, Folder, Name, copies_of};
@@ -6,29 +6,29 @@ use par2_plan::{CreateArgs, plan_create};
 use recovery_calls::folder_of;
 use std::alloc::{AllocError, Global};
 
-/// The name of a text.
-pub fn name_of(text: &str) -> Result<Name> {
-    Name::new(text).map_err(|_| Error::msg("no name"))
+/// The name with this string.
+pub fn name_of(bytes: &str) -> Result<Name> {
+    Name::new(bytes).map_err(|_| Error::msg("no name"))
 }
 
-/// A text of its own.
-pub fn text_of(alloc: Global, text: &str) -> Result<String, AllocError> {
-    String::from_str(alloc, text)
+/// An owned copy of the string.
+pub fn bytes_of(alloc: Global, bytes: &str) -> Result<String, AllocError> {
+    String::from_str(alloc, bytes)
 }
 
-/// Of a create with one recovery slice over the file `a`.
+/// The arguments of a create with one recovery slice over the file `a`.
 pub fn args_of(alloc: Global, base: &str) -> Result<CreateArgs, AllocError> {
     Ok(CreateArgs {
         slice: 4,
         count: 1,
         first: 0,
-        base: text_of(alloc, base)?,
-        inputs: vec![in alloc; text_of(alloc, "a")?]?,
+        base: bytes_of(alloc, base)?,
+        inputs: vec![in alloc; bytes_of(alloc, "a")?]?,
         overwrite: false,
     })
 }
 
-// Makes a change of a folder that has room for it.
+// Makes a change of a folder that has space for it.
 fn change(folder: &mut Folder, mut change: Change) -> Result<()> {
     folder
         .apply(&mut change)
@@ -53,7 +53,7 @@ pub fn protected(alloc: Global) -> Result<Folder> {
     Ok(folder)
 }
 
-/// The same folder, in which `a` was cut then.
+/// The same folder, with `a` cut afterwards.
 pub fn damaged(alloc: Global) -> Result<Folder> {
     let mut folder = protected(alloc)?;
     let cut = Bytes::copy_of(alloc, b"abcdef")?;

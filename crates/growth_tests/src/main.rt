@@ -1,10 +1,11 @@
-//! Makes the calls of the libraries that can answer out of memory, each on a small input of its own, and prints what
-//! stands before and after it. With the words of one call it makes that one, and without any all of them.
+//! Makes the library calls that can return out of memory, each on a small input of its own, and prints the state before
+//! and after it. With the name of one call it makes that one; without words it makes all of them.
 //!
-//! `tests/calls_out_of_memory.py` refuses each growth between a line that begins with `>` and the next one. A call that answers out of
-//! memory is made once more.
+//! `tests/calls_out_of_memory.py` refuses each growth between a line that begins with `>` and the next one. A call that
+//! returns out of memory is made once more.
 #![tactic(auto)]
 
+mod buffers;
 mod calls;
 mod folders;
 mod inputs;
@@ -12,18 +13,17 @@ mod openings;
 mod scene;
 mod sessions;
 mod systems;
-mod texts;
 
 use anyhow::Result;
+use buffers::Buffers;
 use folders::Folders;
 use openings::Openings;
 use scene::tell;
 use sessions::Sessions;
 use std::env;
 use systems::Systems;
-use texts::Texts;
 
-// What the calls work on, and the calls.
+// The inputs of the calls, and the calls.
 const CALLS: &[(&str, &[&str])] = &[
     (
         "texts",
@@ -95,7 +95,7 @@ const CALLS: &[(&str, &[&str])] = &[
 
 fn tell_one(rt: &HostRuntime, place: &str, name: &str) -> Result<()> {
     match place {
-        "texts" => tell(rt, Texts::new(rt.alloc())?, name),
+        "texts" => tell(rt, Buffers::new(rt.alloc())?, name),
         "systems" => tell(rt, Systems::new(rt.alloc())?, name),
         "folders" => tell(rt, Folders::new(rt.alloc())?, name),
         "sessions" => tell(rt, Sessions::new(rt.alloc())?, name),

@@ -1,4 +1,4 @@
-//! A call is made, and what stands before and after it is printed.
+//! Makes a call, and prints the state before and after it.
 
 use anyhow::Result;
 use par2_folder::{ReadFault, StoreFault};
@@ -6,7 +6,7 @@ use par2_journal::{Fault, JournalFault, SessionFault};
 use par2_recovery::{RebuildFault, RecordFault};
 use std::alloc::{AllocError, Global};
 
-/// Why a call has no answer.
+/// Why a call failed.
 #[derive(Clone, Copy, PartialEq, Eq, Drop)]
 pub enum Refusal {
     Memory,
@@ -46,7 +46,7 @@ impl From<ReadFault> for Refusal {
     }
 }
 
-// A store in memory fails for memory alone where it can do what it is asked for.
+// A store in memory fails only for memory, if the call is possible.
 impl From<StoreFault> for Refusal {
     fn from(_: StoreFault) -> Refusal {
         Refusal::Memory
@@ -80,12 +80,12 @@ impl From<JournalFault> for Refusal {
     }
 }
 
-/// What calls work on, their answers included.
+/// The inputs of calls, and their results.
 pub trait Scene {
     /// Makes the call of this name.
     fn call(&mut self, alloc: Global, name: &str) -> Result<(), Refusal>;
 
-    /// Prints what stands.
+    /// Prints the state.
     fn show(&mut self, rt: &HostRuntime) -> Result<()>;
 }
 
@@ -97,7 +97,7 @@ fn said(answer: Result<(), Refusal>) -> &'static str {
     }
 }
 
-// Makes a call, and says whether memory was out.
+// Makes a call, and returns whether it ran out of memory.
 fn is_wanting<S: Scene>(rt: &HostRuntime, scene: &mut S, name: &str) -> Result<bool> {
     println!(rt; "> {name}")?;
     let answer = scene.call(rt.alloc(), name);
@@ -106,7 +106,7 @@ fn is_wanting<S: Scene>(rt: &HostRuntime, scene: &mut S, name: &str) -> Result<b
     Ok(answer == Err(Refusal::Memory))
 }
 
-/// Makes a call, once more where memory was out, and prints what stands before it and after it.
+/// Makes a call, and again if it ran out of memory, and prints the state before and after it.
 pub fn tell<S: Scene + Drop>(rt: &HostRuntime, mut scene: S, name: &str) -> Result<()> {
     scene.show(rt)?;
     if is_wanting(rt, &mut scene, name)? {

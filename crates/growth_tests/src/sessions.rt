@@ -1,28 +1,28 @@
-//! Sessions on the folder of a set whose file `a` was cut, in which another set of that file was created then.
+//! Sessions on the folder of a set whose file `a` was cut, in which another set of that file was created afterwards.
 
 use crate::calls;
-use crate::inputs::{args_of, damaged, text_of};
+use crate::inputs::{args_of, bytes_of, damaged};
 use crate::scene::{Refusal, Scene};
 use anyhow::{Error, Result};
 use par2_journal::{Action, CreateArgs, Session};
 use par2_slices::crc32;
 use std::alloc::{AllocError, Global};
 
-/// What the calls need, and what they answer.
+/// The inputs of the calls, and their results.
 #[derive(Drop)]
 pub struct Sessions {
     session: Session,
     args: CreateArgs,
     repair: Action,
     creates: Vec<Action>,
-    text: Vec<u8>,
+    bytes: Vec<u8>,
     number: usize,
 }
 
 // A repair of `t.par2`.
 fn repair_of(alloc: Global) -> Result<Action, AllocError> {
     Ok(Action::Repair {
-        base: text_of(alloc, "t.par2")?,
+        base: bytes_of(alloc, "t.par2")?,
         extras: Vec::new(alloc),
         purge: false,
     })
@@ -48,12 +48,11 @@ impl Sessions {
             args: args_of(alloc, "v.par2")?,
             repair: repair_of(alloc)?,
             creates: vec![in alloc; create_of(alloc)?, create_of(alloc)?]?,
-            text: Vec::new(alloc),
+            bytes: Vec::new(alloc),
             number: 0,
         })
     }
 
-    // Commands.
     fn act(&mut self, name: &str) -> Result<(), Refusal> {
         let steps = match name {
             "Session::create" => calls::create(&mut self.session, &self.args)?,
@@ -76,16 +75,16 @@ impl Sessions {
         Ok(())
     }
 
-    // Makes a repair ready, with its journals, and does it.
+    // Prepares a repair and its journals, and commits it.
     fn commit(&mut self) -> Result<(), Refusal> {
         let mut prepared = calls::prepare(&mut self.session, &self.repair)?;
         let journals = calls::journals_of(&mut self.session, &mut prepared)?;
         self.number = calls::commit(&mut self.session, prepared);
-        self.text = journals.after;
+        self.bytes = journals.after;
         Ok(())
     }
 
-    // Of one create, or of two of one index: where memory is out for one of these, the other is done.
+    // Plays one create, or two of the same index: if one of the two runs out of memory, the other one is done.
     fn play(&mut self, count: usize) -> Result<(), Refusal> {
         let actions = self.creates.get(..count).unwrap_or(&[]);
         self.number = calls::play(&mut self.session, actions);
@@ -105,7 +104,7 @@ impl Scene for Sessions {
             "Session::play" => self.play(1),
             "Session::play of two" => self.play(2),
             "Session::encode" => {
-                self.text = calls::encode(&self.session)?;
+                self.bytes = calls::encode(&self.session)?;
                 Ok(())
             }
             _ => self.act(name),
@@ -121,7 +120,7 @@ impl Scene for Sessions {
             journal.len(),
             crc32(&journal)
         )?;
-        println!(rt; "  {} bytes, {:08x}", self.text.len(), crc32(&self.text))?;
+        println!(rt; "  {} bytes, {:08x}", self.bytes.len(), crc32(&self.bytes))?;
         Ok(())
     }
 }

@@ -1,4 +1,4 @@
-//! Equations that are offered to a system.
+//! Equations that a system is given.
 ghost use Rattle.std.specs.Prelude.{◌≡◌};
 
 use crate::scene::{Refusal, Scene};
@@ -7,7 +7,7 @@ use par2_gf16::Gf;
 use par2_matrix::System;
 use std::alloc::{AllocError, Global};
 
-/// A system of two unknown texts of two bytes.
+/// A system of two unknown buffers of two bytes.
 #[derive(Drop)]
 pub struct Systems {
     gf: Gf,
@@ -17,7 +17,7 @@ pub struct Systems {
 }
 
 impl Systems {
-    /// A system of no equations.
+    /// A system without equations.
     pub fn new(alloc: Global) -> Result<Systems, AllocError> {
         Ok(Systems {
             gf: Gf::new(alloc)?,

@@ -1,4 +1,4 @@
--- The names that proofs of this crate take from elsewhere.
+-- Names from elsewhere that the proofs of this crate use.
 
 pub use Rattle.std.proofs.Common.{IsTrue, None, [], length, subst, sym, ℕ, ◌*◌, ◌<◌, ◌∙◌, ◌∷◌, ◌≡◌}
 pub use Rattle.par2_files.specs.Views.{change_of}

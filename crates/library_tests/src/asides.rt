@@ -1,4 +1,4 @@
-//! The names under which files are put aside, and a set's par files.
+//! The names under which files are put aside, and the PAR2 files of a set.
 
 use crate::calls::{are_named, name};
 use crate::set_packets::{Files, Part, folder_for, set_in};
@@ -7,17 +7,19 @@ use par2_sets::{asides, par_files};
 use par2_spec::Fault;
 use std::process::Abort;
 
-// The names of these texts, each so often repeated.
-fn names_of(rt: &(impl Abort + AllocGlobal), texts: &[(&str, usize)]) -> Vec<Name> {
+// The names that repeat these strings this often.
+fn names_of(rt: &(impl Abort + AllocGlobal), buffers: &[(&str, usize)]) -> Vec<Name> {
     let mut names = Vec::new(rt.alloc());
-    for (text, times) in texts {
-        names.push(repeated(rt, text, *times)).expect(rt, "memory");
+    for (string, times) in buffers {
+        names
+            .push(repeated(rt, string, *times))
+            .expect(rt, "memory");
     }
     names
 }
 
-fn repeated(rt: &(impl Abort + AllocGlobal), text: &str, times: usize) -> Name {
-    name(rt, &text.repeat(rt.alloc(), times).expect(rt, "memory"))
+fn repeated(rt: &(impl Abort + AllocGlobal), string: &str, times: usize) -> Name {
+    name(rt, &string.repeat(rt.alloc(), times).expect(rt, "memory"))
 }
 
 // The asides of these names in a folder whose base is `m.par2`.
@@ -29,16 +31,15 @@ fn asides_of(
     asides(rt.alloc(), folder, &set_in(rt, folder), names)
 }
 
-// Whether the asides are as expected.
 fn are_asides(found: &Result<Vec<Name>, Fault>, wanted: Result<&[&str], Fault>) -> bool {
     match (found, wanted) {
-        (Ok(names), Ok(texts)) => are_named(names, texts),
-        (Err(fault), Err(told)) => *fault == told,
+        (Ok(names), Ok(buffers)) => are_named(names, buffers),
+        (Err(fault), Err(reported)) => *fault == reported,
         _ => false,
     }
 }
 
-// A base with the whole set, and files beside it.
+// A base with the whole set, and numbered files beside it.
 const NUMBERED: Files = &[
     ("m.par2", &[Part::Main, Part::Description, Part::Checksums]),
     ("f.1", &[Part::Noise(b"one")]),
@@ -47,7 +48,7 @@ const NUMBERED: Files = &[
 
 const WHOLE: Files = &[("m.par2", &[Part::Main, Part::Description, Part::Checksums])];
 
-// A target, files, texts that are repeated in the names, and the asides or why there are none.
+// A target, files, strings and how often each is repeated in a name, and the asides or the reason why there are none.
 type Row = (
     &'static str,
     Files,
@@ -56,7 +57,7 @@ type Row = (
 );
 
 const ASIDES: &[Row] = &[
-    // The least free numbers.
+    // The lowest free numbers.
     ("f.2", NUMBERED, &[("f", 1), ("g", 1)], Ok(&["f.3", "g.1"])),
     // An aside of 255 bytes, and one of 256.
     ("f", WHOLE, &[("n", 253)], Ok(&[LONGEST])),
@@ -69,9 +70,9 @@ const LONGEST: &str = "\
     nnnnnnnnnnnnnnnnnnnnnnnnnnnnnnnnnnnnnnnnnnnnnnnnnnnnnnnnnnnnnnnnn.1";
 
 fn is_put_aside(rt: &(impl Abort + AllocGlobal), row: &Row) -> bool {
-    let (target, files, texts, wanted) = *row;
+    let (target, files, buffers, wanted) = *row;
     let folder = folder_for(rt, target, files);
-    are_asides(&asides_of(rt, &folder, &names_of(rt, texts)), wanted)
+    are_asides(&asides_of(rt, &folder, &names_of(rt, buffers)), wanted)
 }
 
 #[test]
@@ -96,7 +97,7 @@ const PAR_FILES: Files = &[
     ("target.par2", &[Part::Recovery(0, b"aaaa")]),
 ];
 
-// The set's par files.
+// The PAR2 files of the set.
 fn par_files_in(rt: &(impl Abort + AllocGlobal), folder: &Folder) -> Vec<Name> {
     par_files(rt.alloc(), folder, &set_in(rt, folder)).expect(rt, "memory")
 }

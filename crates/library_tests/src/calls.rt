@@ -1,13 +1,13 @@
-//! Calls of names, folders and stores, each in a function that promises nothing: of such a call the prover sees its
-//! type alone.
+//! Calls of names, folders and stores, each in a function without a contract. For the prover: it sees only the types of
+//! such a call.
 
 use par2_folder::{Folder, FolderStore, Name, ReadFault, StoreFault, read_folder};
 use par2_transform::Place;
 use std::alloc::Global;
 use std::process::Abort;
 
-pub fn name(rt: &(impl Abort + AllocGlobal), text: &str) -> Name {
-    Name::new(text).expect(rt, "a name")
+pub fn name(rt: &(impl Abort + AllocGlobal), bytes: &str) -> Name {
+    Name::new(bytes).expect(rt, "a name")
 }
 
 pub fn bytes_in<'a>(folder: &'a Folder, name: &Name) -> Option<&'a [u8]> {
@@ -24,36 +24,36 @@ fn names_in(rt: &(impl Abort + AllocGlobal), folder: &Folder) -> Vec<Name> {
 
 /// Whether these are the names, in this order.
 pub fn are_named(names: &[Name], wanted: &[&str]) -> bool {
-    for (name, text) in names.iter().zip(wanted.iter()) {
-        if name.as_str() != *text {
+    for (name, bytes) in names.iter().zip(wanted.iter()) {
+        if name.as_str() != *bytes {
             return false;
         }
     }
     names.len() == wanted.len()
 }
 
-/// Whether the folder has these names and no others.
+/// Whether the folder has exactly these names.
 pub fn lists(rt: &(impl Abort + AllocGlobal), folder: &Folder, wanted: &[&str]) -> bool {
     are_named(&names_in(rt, folder), wanted)
 }
 
-/// These texts, each as a list of its own.
-pub fn lists_of(rt: &(impl Abort + AllocGlobal), texts: &[&[u8]]) -> Vec<Vec<u8>> {
+/// These bytes, each as a list of its own.
+pub fn lists_of(rt: &(impl Abort + AllocGlobal), buffers: &[&[u8]]) -> Vec<Vec<u8>> {
     let mut lists = Vec::new(rt.alloc());
-    for text in texts {
+    for bytes in buffers {
         lists
-            .push(text.to_vec(rt.alloc()).expect(rt, "memory"))
+            .push(bytes.to_vec(rt.alloc()).expect(rt, "memory"))
             .expect(rt, "memory");
     }
     lists
 }
 
-/// The places of outputs: in which text, and from which byte on.
+/// The places of outputs: the number of a buffer and the first byte in it.
 pub fn places_of(rt: &(impl Abort + AllocGlobal), pairs: &[(usize, usize)]) -> Vec<Place> {
     let mut places = Vec::new(rt.alloc());
-    for (text, at) in pairs {
+    for (buffer, at) in pairs {
         let place = Place {
-            text: *text,
+            buffer: *buffer,
             at: *at,
         };
         places.push(place).expect(rt, "memory");
@@ -61,14 +61,14 @@ pub fn places_of(rt: &(impl Abort + AllocGlobal), pairs: &[(usize, usize)]) -> V
     places
 }
 
-/// Whether these are the texts, in this order.
-pub fn are_texts(texts: &[Vec<u8>], wanted: &[&[u8]]) -> bool {
-    for (text, other) in texts.iter().zip(wanted.iter()) {
-        if text.as_slice() != *other {
+/// Whether these are the buffers, in this order.
+pub fn are_buffers(buffers: &[Vec<u8>], wanted: &[&[u8]]) -> bool {
+    for (bytes, other) in buffers.iter().zip(wanted.iter()) {
+        if bytes.as_slice() != *other {
             return false;
         }
     }
-    texts.len() == wanted.len()
+    buffers.len() == wanted.len()
 }
 
 pub fn folder_of<S: FolderStore>(rt: &(impl Abort + AllocGlobal), store: &mut S) -> Folder {

@@ -1,13 +1,13 @@
-//! Digests side by side, and by the hasher of one message.
+//! Digests in lanes, side by side, against the hasher of one message.
 
 ghost use Rattle.std.specs.Prelude.{◌≤◌};
 
 use md5::{Digest, Md5};
 use par2_md5_lanes::{LANES, window_digests};
 
-const TEXT: &[u8] = b"The quick brown fox jumps over the lazy dog";
+const BYTES: &[u8] = b"The quick brown fox jumps over the lazy dog";
 
-// Whether the first of these are the digests, by the numbers that their hexadecimal digits spell.
+// Whether the first digests are these numbers, which their hexadecimal digits spell.
 fn are_spelled(digests: &[[u8; 16]; LANES], numbers: &[u128]) -> bool {
     for (digest, number) in digests.iter().zip(numbers.iter()) {
         if u128::from_be_bytes(*digest) != *number {
@@ -40,31 +40,31 @@ const STARTS_OF_WORDS: &[usize; LANES] = &[
 #[test]
 fn windows_of_a_sentence(rt: HostRuntime) {
     for count in [1, 2, 8, 9, 16] {
-        let digests = window_digests(TEXT, STARTS_OF_WORDS, count, 8);
+        let digests = window_digests(BYTES, STARTS_OF_WORDS, count, 8);
         let own = count.min(8);
         assert!(rt; are_spelled(&digests, &EXPECTED[..own]), "{count} windows");
     }
 }
 
-// The second eight are the first, from the last one on.
+// The second eight are the first eight in reverse.
 #[test]
 fn sixteen_windows_of_a_sentence(rt: HostRuntime) {
-    let digests = window_digests(TEXT, STARTS_OF_WORDS, LANES, 8);
+    let digests = window_digests(BYTES, STARTS_OF_WORDS, LANES, 8);
     for k in 0..8 {
         assert!(rt; digests[15 - k] == digests[k], "window {k}");
     }
 }
 
 #[test]
-fn the_whole_text_sixteen_times(rt: HostRuntime) {
-    let digests = window_digests(TEXT, &[0; LANES], LANES, TEXT.len());
+fn the_whole_message_sixteen_times(rt: HostRuntime) {
+    let digests = window_digests(BYTES, &[0; LANES], LANES, BYTES.len());
     assert!(rt; are_spelled(&digests, &[WHOLE; LANES]));
 }
 
 #[test]
 fn empty_windows(rt: HostRuntime) {
     let starts = [0, 1, 2, 3, 40, 41, 42, 43, 43, 42, 41, 40, 3, 2, 1, 0];
-    let digests = window_digests(TEXT, &starts, LANES, 0);
+    let digests = window_digests(BYTES, &starts, LANES, 0);
     assert!(rt; are_spelled(&digests, &[NOTHING; LANES]));
 }
 
@@ -77,7 +77,7 @@ fn window(bytes: &[u8], start: usize, len: usize) -> &[u8] {
     &rest[..len.min(rest.len())]
 }
 
-// Whether the windows of so many bytes have the digests of the hasher.
+// Whether the first `count` windows of `len` bytes have the digests of the hasher.
 fn are_by_the_hasher(bytes: &[u8; 2048], count: usize, len: usize) -> bool
     requires few { count ≤ 16 }
     requires within { len ≤ 1000 }
@@ -91,7 +91,7 @@ fn are_by_the_hasher(bytes: &[u8; 2048], count: usize, len: usize) -> bool
     true
 }
 
-// About the edges of a block and of the padding.
+// Lengths around the edges of a block and of the padding.
 #[test]
 fn as_the_hasher_of_one_message(rt: HostRuntime) {
     let mut bytes = [0; 2048];

@@ -1,8 +1,8 @@
-//! Systems of equations that are solved as soon as their equations determine the texts.
+//! Systems of equations, solved as soon as the equations determine the unknown buffers.
 
 ghost use Rattle.std.specs.Prelude.{◌≡◌, ◌*◌, ◌%◌, length, IfErr};
 
-use crate::calls::are_texts;
+use crate::calls::are_buffers;
 use crate::field::field;
 use par2_gf16::Gf;
 use par2_matrix::{Offer, System, bytes_of_row, element, put_element};
@@ -29,10 +29,11 @@ fn elements_of_a_row(rt: HostRuntime) {
     );
 }
 
-// What the unknown texts are multiplied by and what that gives, what becomes of the equation, and the rank after it.
+// The factors of the unknown buffers and their sum, how the equation is taken, and the rank after it.
 type Equation = (&'static [u16], &'static [u8], Offer, usize);
 
-// A number of columns and of bytes, equations, and the texts, or None where the equations leave one open.
+// The numbers of columns and of bytes, equations, and the solved buffers, or None if the equations don't determine
+// them.
 type Row = (
     usize,
     usize,
@@ -116,7 +117,6 @@ fn solution(system: System) -> Result<Vec<Vec<u8>>, System>
     system.into_solution()
 }
 
-// Whether the equation is taken as expected.
 fn is_taken(
     rt: &(impl Abort + AllocGlobal),
     gf: &Gf,
@@ -132,8 +132,8 @@ fn is_taken(
     offered(rt, gf, system, row, right) == offer && system.rank() == rank
 }
 
-// Whether the equations are solved as the row says, as soon as they are.
-fn is_as_told(rt: &(impl Abort + AllocGlobal), gf: &Gf, row: &Row) -> bool {
+// Whether the equations are solved as the row says, and no later than they can be.
+fn is_as_reported(rt: &(impl Abort + AllocGlobal), gf: &Gf, row: &Row) -> bool {
     let (columns, bytes, equations, wanted) = *row;
     if bytes % 2 != 0 {
         return false;
@@ -147,16 +147,16 @@ fn is_as_told(rt: &(impl Abort + AllocGlobal), gf: &Gf, row: &Row) -> bool {
             return false;
         }
         system = match solution(system) {
-            Ok(texts) => return k + 1 == equations.len() && is_solution(&texts, wanted),
+            Ok(buffers) => return k + 1 == equations.len() && is_solution(&buffers, wanted),
             Err(system) => system,
         };
     }
     wanted.is_none()
 }
 
-fn is_solution(texts: &[Vec<u8>], wanted: Option<&[&[u8]]>) -> bool {
+fn is_solution(buffers: &[Vec<u8>], wanted: Option<&[&[u8]]>) -> bool {
     match wanted {
-        Some(told) => are_texts(texts, told),
+        Some(reported) => are_buffers(buffers, reported),
         None => false,
     }
 }
@@ -165,6 +165,6 @@ fn is_solution(texts: &[Vec<u8>], wanted: Option<&[&[u8]]>) -> bool {
 fn systems_are_solved(rt: HostRuntime) {
     let gf = field(&rt);
     for (k, row) in SYSTEMS.iter().enumerate() {
-        assert!(rt; is_as_told(&rt, &gf, row), "system {k}");
+        assert!(rt; is_as_reported(&rt, &gf, row), "system {k}");
     }
 }

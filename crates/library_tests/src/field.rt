@@ -8,7 +8,7 @@ pub(super) fn field(rt: &(impl Abort + AllocGlobal)) -> Gf {
     Gf::new(rt.alloc()).expect(rt, "memory")
 }
 
-// adds the products word by word
+// Adds the products word by word.
 fn plain_mul_add(c: u16, src: &[u8], dst: &mut [u8])
     requires { length src.now ≡ length dst.old }
 {
@@ -22,7 +22,7 @@ fn plain_mul_add(c: u16, src: &[u8], dst: &mut [u8])
     }
 }
 
-// n bytes that repeat after many
+// `n` bytes with a long period.
 fn mixed_bytes(rt: &(impl Abort + AllocGlobal), n: usize, seed: u32) -> Vec<u8>
     ensures { length result.items ≡ n }
 {
@@ -92,7 +92,7 @@ fn products_powers_inverses_and_constants(rt: HostRuntime) {
     }
 }
 
-// The word after the product of 2 and 0x8000 is added to it.
+// The word after the product of 2 and 0x8000 was added to it.
 fn added(gf: &Gf, word: [u8; 2]) -> [u8; 2] {
     let mut sum = word;
     gf.mul_add(2, &[0x00, 0x80], &mut sum);
@@ -117,7 +117,7 @@ fn copied(rt: &(impl Abort + AllocGlobal), bytes: &[u8]) -> Vec<u8>
     Vec::from_slice(rt.alloc(), bytes).expect(rt, "memory")
 }
 
-// The products added to a copy of `dst`, by the element.
+// A copy of `dst` to which the products were added, by the element.
 fn by_element(rt: &(impl Abort + AllocGlobal), gf: &Gf, c: u16, src: &[u8], dst: &[u8]) -> Vec<u8>
     requires same { length src.now ≡ length dst.now }
     requires even { length dst.now % 2 ≡ 0 }
@@ -150,12 +150,12 @@ fn by_words(rt: &(impl Abort + AllocGlobal), c: u16, src: &[u8], dst: &[u8]) -> 
     sum
 }
 
-// Adds the products of the text's words from one to another to `dst`.
+// Adds the products of the words of `src` in this range to `dst`.
 fn add_columns(
     rt: &(impl Abort + AllocGlobal),
     gf: &Gf,
     c: u16,
-    text: &[u8],
+    bytes: &[u8],
     from: usize,
     to: usize,
     dst: &mut [u8],
@@ -163,11 +163,11 @@ fn add_columns(
     requires order { from ≤ to }
     requires room { 2 * to ≤ length dst.old }
 {
-    let columns = Columns::new(rt.alloc(), text, from, to).expect(rt, "memory");
+    let columns = Columns::new(rt.alloc(), bytes, from, to).expect(rt, "memory");
     gf.mul_add_columns(&Factor::new(c), &columns, dst);
 }
 
-// Whether a copy of `dst` becomes by the element, by the factor and by columns what it becomes word by word.
+// Whether the element, the factor and the columns give what the word by word sum gives on a copy of `dst`.
 fn is_as_word_by_word(
     rt: &(impl Abort + AllocGlobal),
     gf: &Gf,
@@ -189,7 +189,7 @@ const FACTORS: &[u16] = &[
     0, 1, 2, 3, 0x100B, 0x8000, 0x8805, 0xFFFF, 0x5A3C, 0xC6E9, 0x1D47, 0x93B2,
 ];
 
-// The first factor by which so many words become something else, if there is one.
+// The first factor with a wrong result for this many words, if there is one.
 fn first_other(rt: &(impl Abort + AllocGlobal), gf: &Gf, words: usize) -> Option<u16>
     requires { words ≤ 65 }
 {
@@ -211,7 +211,7 @@ fn every_length_as_word_by_word(rt: HostRuntime) {
     }
 }
 
-// Four words of zeros after some words of a text that ends within the second were added to them.
+// Four words of zeros after these words of a message were added to them. The message ends within the second.
 fn words_added(rt: &(impl Abort + AllocGlobal), gf: &Gf, from: usize, to: usize) -> [u8; 8]
     requires order { from ≤ to }
     requires room { to ≤ 4 }
@@ -222,7 +222,7 @@ fn words_added(rt: &(impl Abort + AllocGlobal), gf: &Gf, from: usize, to: usize)
 }
 
 #[test]
-fn zeros_follow_a_text_that_ends(rt: HostRuntime) {
+fn zeros_follow_bytes_that_end(rt: HostRuntime) {
     let gf = field(&rt);
     assert!(rt; words_added(&rt, &gf, 0, 4) == [1, 2, 3, 0, 0, 0, 0, 0]);
     assert!(rt; words_added(&rt, &gf, 1, 2) == [0, 0, 3, 0, 0, 0, 0, 0]);

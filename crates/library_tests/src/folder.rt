@@ -1,15 +1,15 @@
-//! Worked examples of folders and names, and each refusal.
+//! Worked examples of folders and names, and every refusal.
 
 ghost use Rattle.std.specs.Prelude.{map, IsTrue};
 ghost use Rattle.par2_files.specs.Views.{change_of};
 ghost use Rattle.par2_spec.specs.Changes.{takes_all};
 
 use crate::calls::{bytes_in, fingerprint, lists, name};
-use par2_files::{Landmarks, fingerprints, mark_folder, survey_folder};
+use par2_files::{Checkpoints, checkpoint_at, fingerprint_with_checkpoints, fingerprints};
 use par2_folder::{BadName, Bytes, Change, ChangeFault, Folder, Name};
 use std::process::Abort;
 
-// A change, in plain texts.
+// A change, in plain strings and bytes.
 #[derive(Drop)]
 enum PlainChange {
     Write(&'static str, &'static [u8]),
@@ -21,7 +21,7 @@ enum PlainChange {
 // Files by their names and bytes.
 type Files = &'static [(&'static str, &'static [u8])];
 
-// What a folder answers to a change.
+// The result of a change to a folder.
 type Answer = Result<(), ChangeFault>;
 
 fn bytes_of(rt: &(impl Abort + AllocGlobal), bytes: &[u8]) -> Bytes {
@@ -30,10 +30,13 @@ fn bytes_of(rt: &(impl Abort + AllocGlobal), bytes: &[u8]) -> Bytes {
 
 fn change_of(rt: &(impl Abort + AllocGlobal), plain: &PlainChange) -> Change {
     match plain {
-        PlainChange::Write(text, bytes) => Change::Write(name(rt, text), bytes_of(rt, bytes)),
-        PlainChange::Replace(text, bytes) => Change::Replace(name(rt, text), bytes_of(rt, bytes)),
+        PlainChange::Write(string, bytes) => Change::Write(name(rt, string), bytes_of(rt, bytes)),
+        PlainChange::Replace(string, bytes) => Change::Replace(
+            name(rt, string),
+            bytes_of(rt, bytes),
+        ),
         PlainChange::Rename(from, to) => Change::Rename(name(rt, from), name(rt, to)),
-        PlainChange::Remove(text) => Change::Remove(name(rt, text)),
+        PlainChange::Remove(string) => Change::Remove(name(rt, string)),
     }
 }
 
@@ -41,38 +44,38 @@ fn applied(folder: &mut Folder, change: &mut Change) -> Answer {
     folder.apply(change)
 }
 
-// A folder without files, with this many vacant places.
+// A folder without files, with this much spare capacity.
 fn vacant(rt: &(impl Abort + AllocGlobal), places: usize) -> Folder {
     let mut folder = Folder::new(rt.alloc());
     folder.reserve(places).expect(rt, "memory");
     folder
 }
 
-// What the folder answers to the change.
+// Makes the change and returns its result.
 fn answer(rt: &(impl Abort + AllocGlobal), folder: &mut Folder, plain: &PlainChange) -> Answer {
     applied(folder, &mut change_of(rt, plain))
 }
 
-// A folder of these files, with this many vacant places.
+// A folder of these files, with this much spare capacity.
 fn folder_of(rt: &(impl Abort + AllocGlobal), files: Files, places: usize) -> Folder {
     let mut folder = vacant(rt, files.len().saturating_add(places));
-    for (text, bytes) in files {
-        assert!(rt; answer(rt, &mut folder, &PlainChange::Write(text, bytes)).is_ok());
+    for (string, bytes) in files {
+        assert!(rt; answer(rt, &mut folder, &PlainChange::Write(string, bytes)).is_ok());
     }
     folder
 }
 
-// Whether a folder gives these bytes for the name.
+// Whether the folder has these bytes under the name.
 fn gives(
     rt: &(impl Abort + AllocGlobal),
     folder: &Folder,
-    text: &str,
+    string: &str,
     bytes: Option<&[u8]>,
 ) -> bool {
-    bytes_in(folder, &name(rt, text)) == bytes
+    bytes_in(folder, &name(rt, string)) == bytes
 }
 
-// Files and vacant places, changes and the answer to each, and what is seen after them.
+// Files and spare capacity, changes with the result of each, and the folder after them.
 struct Case {
     files: Files,
     vacant: usize,
@@ -146,7 +149,7 @@ const CASES: &[Case] = &[
     },
 ];
 
-// Whether each change in turn has the answer beside it.
+// Whether each change has the result beside it.
 fn are_answered(
     rt: &(impl Abort + AllocGlobal),
     folder: &mut Folder,
@@ -160,12 +163,12 @@ fn are_answered(
     true
 }
 
-// Whether a folder is as the case says of what is after the changes.
+// Whether the folder is as the case says after the changes.
 fn is_behind(rt: &(impl Abort + AllocGlobal), folder: &Folder, case: &Case) -> bool {
-    let (text, bytes) = case.read_then;
+    let (string, bytes) = case.read_then;
     folder.vacant() == case.vacant_then
         && lists(rt, folder, case.names_then)
-        && gives(rt, folder, text, bytes)
+        && gives(rt, folder, string, bytes)
 }
 
 fn is_as_wanted(rt: &(impl Abort + AllocGlobal), case: &Case) -> bool {
@@ -215,7 +218,7 @@ fn fingerprints_of_files(rt: HostRuntime) {
     }
 }
 
-// Whether these are the fingerprints of the folder and along the changes, with no landmarks.
+// Whether these are the fingerprints of the folder and after each change, without checkpoints.
 fn has_along(
     rt: &(impl Abort + AllocGlobal),
     folder: &Folder,
@@ -224,13 +227,13 @@ fn has_along(
 ) -> bool
     requires { IsTrue (takes_all folder.now (map change_of changes.now)) }
 {
-    let none = Landmarks::none(rt.alloc());
+    let none = Checkpoints::none(rt.alloc());
     let found = fingerprints(rt.alloc(), folder, changes, &none, &[]).expect(rt, "memory");
     found.along.as_slice() == wanted
 }
 
-// Whether they are so from the landmarks of a survey, and whether it gives the digest of `abc`.
-fn has_from_landmarks(
+// The same with the checkpoints of `fingerprint_with_checkpoints`, which also gives the digest of `abc`.
+fn has_from_checkpoints(
     rt: &(impl Abort + AllocGlobal),
     folder: &Folder,
     changes: &[Change],
@@ -238,15 +241,15 @@ fn has_from_landmarks(
 ) -> bool
     requires { IsTrue (takes_all folder.now (map change_of changes.now)) }
 {
-    let survey = survey_folder(rt.alloc(), folder, b"abc").expect(rt, "memory");
-    let found = fingerprints(rt.alloc(), folder, changes, &survey.landmarks, &[b"abc"]);
+    let prints = fingerprint_with_checkpoints(rt.alloc(), folder, b"abc").expect(rt, "memory");
+    let found = fingerprints(rt.alloc(), folder, changes, &prints.checkpoints, &[b"abc"]);
     let found = found.expect(rt, "memory");
-    survey.digest == DIGEST_OF_ABC
+    prints.digest == DIGEST_OF_ABC
         && found.beside.as_slice() == [DIGEST_OF_ABC].as_slice()
         && found.along.as_slice() == wanted
 }
 
-// Whether they are so from a landmark at `b`, and whether the digest of `abc` is computed side by side with it.
+// The same with a checkpoint at `b`, beside which the digest of `abc` is computed.
 fn has_from_mark(
     rt: &(impl Abort + AllocGlobal),
     folder: &Folder,
@@ -256,14 +259,16 @@ fn has_from_mark(
     requires { IsTrue (takes_all folder.now (map change_of changes.now)) }
 {
     let name = Name::new("b").expect(rt, "a name");
-    let none = Landmarks::none(rt.alloc());
-    let marked = mark_folder(rt.alloc(), folder, &none, &name, &[b"abc"]).expect(rt, "memory");
-    let found = fingerprints(rt.alloc(), folder, changes, &marked.landmarks, &[]);
-    marked.beside.as_slice() == [DIGEST_OF_ABC].as_slice()
+    let none = Checkpoints::none(rt.alloc());
+    let checkpointed = checkpoint_at(rt.alloc(), folder, &none, &name, &[b"abc"]).expect(
+        rt, "memory",
+    );
+    let found = fingerprints(rt.alloc(), folder, changes, &checkpointed.checkpoints, &[]);
+    checkpointed.beside.as_slice() == [DIGEST_OF_ABC].as_slice()
         && found.expect(rt, "memory").along.as_slice() == wanted
 }
 
-// Whether these are the fingerprints of the folder with the change, and without it again.
+// Whether these are the fingerprints of the folder with the change and with the change undone.
 fn has_back(
     rt: &(impl Abort + AllocGlobal),
     mut folder: Folder,
@@ -274,7 +279,7 @@ fn has_back(
     let back = [change];
     Ok(
         has_along(rt, &folder, &back, wanted)
-            && has_from_landmarks(rt, &folder, &back, wanted)
+            && has_from_checkpoints(rt, &folder, &back, wanted)
             && has_from_mark(rt, &folder, &back, wanted),
     )
 }
@@ -286,7 +291,7 @@ fn fingerprints_along_a_change(rt: HostRuntime) {
     assert!(rt; has_back(&rt, folder, change, &[TWO_FILES, ONE_FILE]) == Ok(true));
 }
 
-// The same of two changes: with both, with the first alone, and without them again.
+// The same for two changes: with both, with only the first, and with neither.
 fn has_back_from_two(
     rt: &(impl Abort + AllocGlobal),
     mut folder: Folder,
@@ -310,8 +315,8 @@ fn fingerprints_along_two_changes(rt: HostRuntime) {
     assert!(rt; has_back_from_two(&rt, folder, first, second, &wanted) == Ok(true));
 }
 
-// Texts, how often each is repeated, and whether that is a name.
-const TEXTS: &[(&str, usize, bool)] = &[
+// Strings, how often each is repeated, and whether the result is a name.
+const BUFFERS: &[(&str, usize, bool)] = &[
     ("a", 1, true),
     (".", 1, false),
     ("..", 1, false),
@@ -327,9 +332,9 @@ const TEXTS: &[(&str, usize, bool)] = &[
     ("n", 256, false),
 ];
 
-// Whether the text is a name, which then is the text.
-fn is_name(rt: &(impl Abort + AllocGlobal), text: &str, times: usize) -> bool {
-    let whole = text.repeat(rt.alloc(), times).expect(rt, "memory");
+// Whether the string is a name, and the name is that string.
+fn is_name(rt: &(impl Abort + AllocGlobal), string: &str, times: usize) -> bool {
+    let whole = string.repeat(rt.alloc(), times).expect(rt, "memory");
     match Name::new(&whole) {
         Ok(name) => name.as_str() == whole.as_str(),
         Err(BadName) => false,
@@ -337,13 +342,13 @@ fn is_name(rt: &(impl Abort + AllocGlobal), text: &str, times: usize) -> bool {
 }
 
 #[test]
-fn texts_that_are_names(rt: HostRuntime) {
-    for (text, times, wanted) in TEXTS {
-        assert!(rt; is_name(&rt, text, *times) == *wanted, "{text}");
+fn strings_that_are_names(rt: HostRuntime) {
+    for (string, times, wanted) in BUFFERS {
+        assert!(rt; is_name(&rt, string, *times) == *wanted, "{string}");
     }
 }
 
-// Bytes, the name that they are, and whether that ends in `.par2`.
+// Bytes, their name, if they are one, and whether it ends in `.par2`.
 const NAMED_BYTES: &[(&[u8], Option<(&str, bool)>)] = &[
     (b"a.par2", Some(("a.par2", true))),
     (b"a.vol0+1.PaR2", Some(("a.vol0+1.PaR2", true))),
@@ -355,10 +360,10 @@ const NAMED_BYTES: &[(&[u8], Option<(&str, bool)>)] = &[
     (b"a/b", None),
 ];
 
-// Whether the bytes are that name or none.
+// Whether the bytes are this name, or none.
 fn is_named(bytes: &[u8], wanted: Option<(&str, bool)>) -> bool {
     match (Name::from_bytes(bytes), wanted) {
-        (Some(name), Some((text, is_par))) => name.as_str() == text && name.is_par() == is_par,
+        (Some(name), Some((string, is_par))) => name.as_str() == string && name.is_par() == is_par,
         (None, None) => true,
         _ => false,
     }
@@ -388,7 +393,7 @@ fn accepted(rt: &(impl Abort + AllocGlobal)) -> Vec<Change> {
     changes
 }
 
-// Does the changes, and then their way back, where each is accepted.
+// Makes the changes, and undoes them if each is accepted.
 fn does_and_takes_back(folder: &mut Folder, changes: &mut [Change]) -> bool {
     let are_done = are_accepted(folder, changes);
     changes.reverse();

@@ -4,29 +4,29 @@ use crate::pairs::pairs_of;
 use par2_slices::{Pair, is_intact, pair_of};
 use std::process::Abort;
 
-// Eleven whole slices of four bytes, and one of two. Up to 36 bytes they are nine whole ones.
-const TEXT: &[u8; 46] = b"abcdefghijklmnopqrstuvwxyz0123456789+-*/()<>[]";
+// Eleven whole slices of four bytes, and one of two. The first 36 bytes are nine whole slices.
+const BYTES: &[u8; 46] = b"abcdefghijklmnopqrstuvwxyz0123456789+-*/()<>[]";
 
-// Whether the other bytes are intact for the target whose bytes these are, its slices being of four bytes.
+// Whether `other` is intact for the target with these bytes and slices of four bytes.
 fn is_like(rt: &(impl Abort + AllocGlobal), bytes: &[u8], other: &[u8]) -> bool {
     is_intact(other, 4, bytes.len() as u64, &pairs_of(rt, bytes, 4))
 }
 
-// Whether the front of the text is intact.
+// Whether the first `len` bytes are intact.
 fn is_like_itself(rt: &(impl Abort + AllocGlobal), len: usize) -> bool
     requires { len ≤ 46 }
 {
-    is_like(rt, &TEXT[..len], &TEXT[..len])
+    is_like(rt, &BYTES[..len], &BYTES[..len])
 }
 
-// Whether the front of the text is intact once the byte at a place is another.
+// Whether the first `len` bytes are intact with another byte at this position.
 fn is_like_but_for(rt: &(impl Abort + AllocGlobal), len: usize, at: usize) -> bool
     requires len { len ≤ 46 }
     requires place { at < 46 }
 {
-    let mut other = *TEXT;
+    let mut other = *BYTES;
     other[at] = b'?';
-    is_like(rt, &TEXT[..len], &other[..len])
+    is_like(rt, &BYTES[..len], &other[..len])
 }
 
 #[test]
@@ -46,7 +46,7 @@ fn one_byte_is_another(rt: HostRuntime) {
     }
 }
 
-// Zeros after the text have the checksums of the padding.
+// Zeros after the bytes have the checksums of the padding.
 const LENGTHS: &[(&[u8], &[u8])] = &[(b"ab", b"ab\0"), (b"ab\0", b"ab"), (b"", b"a")];
 
 #[test]
@@ -56,7 +56,7 @@ fn another_length(rt: HostRuntime) {
     }
 }
 
-// Whether the bytes are intact for a target of as many bytes that has these pairs.
+// Whether the bytes are intact for a target of their length with these pairs.
 fn is_like_by(bytes: &[u8], pairs: &[Pair]) -> bool {
     is_intact(bytes, 4, bytes.len() as u64, pairs)
 }
@@ -64,9 +64,9 @@ fn is_like_by(bytes: &[u8], pairs: &[Pair]) -> bool {
 // A pair after the last slice is not compared, nor is a slice after the last pair.
 #[test]
 fn another_number_of_pairs(rt: HostRuntime) {
-    let many = pairs_of(&rt, TEXT, 4);
-    assert!(rt; is_like_by(&TEXT[..33], &pairs_of(&rt, &TEXT[..32], 4)));
-    assert!(rt; is_like_by(&TEXT[..32], &many) && is_like_by(b"", &many));
+    let many = pairs_of(&rt, BYTES, 4);
+    assert!(rt; is_like_by(&BYTES[..33], &pairs_of(&rt, &BYTES[..32], 4)));
+    assert!(rt; is_like_by(&BYTES[..32], &many) && is_like_by(b"", &many));
     assert!(rt; is_like_by(b"abc", &[]));
 }
 

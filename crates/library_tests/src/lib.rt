@@ -1,6 +1,6 @@
-//! Tests of the libraries below the plan, through what their crates make public: of the digests, the field, the
-//! elimination, the transform, the slices, the search, the packets, sets, recovery slices and rebuilding, and of folders
-//! and their stores.
+//! Tests of the library crates below par2_repair and par2_create, through their public calls: digests, the field,
+//! elimination, the transform, slices and their search, packets, sets, recovery slices and rebuilding, folders and
+//! stores. Nothing depends on this crate. It must not use what those crates keep private.
 #![tactic(auto)]
 
 #[cfg(test)]

@@ -1,4 +1,4 @@
-//! Many lost slices by recovery slices whose exponents follow one another.
+//! Many lost slices, rebuilt from recovery slices with consecutive exponents.
 
 use crate::field::field;
 use crate::recovery::recovery_of_a;
@@ -7,13 +7,13 @@ use par2_recovery::Survivors;
 use recovery_calls::rebuilt;
 use std::process::Abort;
 
-// How many slices are lost, each third one, how many bytes a slice has, and the first exponent.
+// The number of lost slices (every third one), the bytes of a slice, and the first exponent.
 type Row = (usize, usize, u32);
 
 const ROWS: &[Row] = &[
-    // some more bytes than are taken at a time
+    // more bytes than are processed at a time
     (20, 14_000, 7),
-    // more slices than are rebuilt by an inverse of as many rows
+    // more slices than are rebuilt with the inverse of a matrix of this size
     (800, 4, 7),
 ];
 
@@ -25,7 +25,7 @@ fn bytes_of_all(rt: &(impl Abort + AllocGlobal), count: usize) -> Vec<u8> {
     bytes
 }
 
-// The slices of the bytes, but for each third one.
+// The slices of the bytes without every third one.
 fn known_of<'a>(
     rt: &(impl Abort + AllocGlobal),
     bytes: &'a [u8],
@@ -52,18 +52,18 @@ fn lost_of(rt: &(impl Abort + AllocGlobal), bytes: &[u8], row: &Row) -> Vec<Vec<
     answer.expect(rt, "lost slices")
 }
 
-// Whether these are each third slice of the bytes.
-fn are_lost(texts: &[Vec<u8>], bytes: &[u8], row: &Row) -> bool {
+// Whether these are every third slice of the bytes.
+fn are_lost(buffers: &[Vec<u8>], bytes: &[u8], row: &Row) -> bool {
     let (count, size, _) = *row;
-    for (text, slices) in texts
+    for (buffer, slices) in buffers
         .iter()
         .zip(bytes.chunks(size.saturating_mul(3).max(1)))
     {
-        if text.len() != size || !slices.ends_with(text) {
+        if buffer.len() != size || !slices.ends_with(buffer) {
             return false;
         }
     }
-    texts.len() == count
+    buffers.len() == count
 }
 
 fn come_back(rt: &(impl Abort + AllocGlobal), row: &Row) -> bool {

@@ -1,4 +1,4 @@
-//! The expected texts were made by another program, from the format alone.
+//! Packets: the expected bytes were made by another program that knows only the format.
 
 ghost use Rattle.std.specs.Prelude.{◌≡◌, ◌+◌, ◌%◌, ◌<◌, ◌≤◌, ◌∷◌, [], length};
 
@@ -10,7 +10,8 @@ use par2_packets::{
 };
 use std::process::Abort;
 
-// The index of a set of one file `a`, which holds `abcdefgh`, with slices of 4 bytes: 92, 124, 120 and 84 bytes.
+// The index of a set of one file `a`, which holds `abcdefgh`, with slices of 4 bytes: packets of 92, 124, 120 and 84
+// bytes.
 const INDEX: &str = "\
     5041523200504b545c000000000000004cd23884179378ff925dc53505c95cef928bb4f8f1f1fc2c0cfd4bd6f7bac6d4\
     50415220322e30004d61696e0000000004000000000000000100000049830025b4d9c6d52da05e68abd2edda50415232\
@@ -35,8 +36,8 @@ const RECOVERY_2: &str = "\
     5041523200504b544800000000000000b6cd9871d4215dc769f0aec2f2bad020928bb4f8f1f1fc2c0cfd4bd6f7bac6d4\
     50415220322e300052656376536c696302000000e59fcd67";
 
-// Both files that par2cmdline 0.8.1 makes by `par2 create -s16 -c2 -n1 fox.par2 fox.txt`, `fox.txt` being made by
-// `echo 'The quick brown fox jumps over the lazy dog.'`.
+// The two files that par2cmdline 0.8.1 creates with `par2 create -s16 -c2 -n1 fox.par2 fox.txt`, where `fox.txt` is the
+// output of `echo 'The quick brown fox jumps over the lazy dog.'`.
 const FOX_INDEX: &str = "\
     5041523200504b545c00000000000000bdfb4b1b0d67675761cb62d3b344ee6cb258a65e5880a8cdb4c26e63b5d37bc0\
     50415220322e30004d61696e000000001000000000000000010000002acbaf522d9017e90936e66a1f28977750415232\
@@ -72,23 +73,23 @@ const FOX_VOLUME: &str = "\
     f68e674d3ae8a011b258a65e5880a8cdb4c26e63b5d37bc050415220322e300043726561746f72004372656174656420\
     62792070617232636d646c696e652076657273696f6e20302e382e312e000000";
 
-// The bytes of these texts, one after the other.
-fn decoded(rt: &(impl Abort + AllocGlobal), texts: &[&str]) -> Vec<u8> {
-    let whole = texts.concat(rt.alloc()).expect(rt, "memory");
+// The bytes of these hexadecimal strings, one after the other.
+fn decoded(rt: &(impl Abort + AllocGlobal), buffers: &[&str]) -> Vec<u8> {
+    let whole = buffers.concat(rt.alloc()).expect(rt, "memory");
     hex::decode(rt.alloc(), &whole).expect(rt, "hexadecimal digits")
 }
 
-fn kinds_of(rt: &(impl Abort + AllocGlobal), text: &[u8]) -> Vec<Kind> {
+fn kinds_of(rt: &(impl Abort + AllocGlobal), bytes: &[u8]) -> Vec<Kind> {
     let mut kinds = Vec::new(rt.alloc());
-    for packet in Packets::new(text) {
+    for packet in Packets::new(bytes) {
         kinds.push(packet.kind).expect(rt, "memory");
     }
     kinds
 }
 
-fn exponents_of(rt: &(impl Abort + AllocGlobal), text: &[u8]) -> Vec<u32> {
+fn exponents_of(rt: &(impl Abort + AllocGlobal), bytes: &[u8]) -> Vec<u32> {
     let mut exponents = Vec::new(rt.alloc());
-    for packet in Packets::new(text) {
+    for packet in Packets::new(bytes) {
         if let Some(recovery) = read_recovery(&packet) {
             exponents.push(recovery.exponent()).expect(rt, "memory");
         }
@@ -96,8 +97,8 @@ fn exponents_of(rt: &(impl Abort + AllocGlobal), text: &[u8]) -> Vec<u32> {
     exponents
 }
 
-fn has_exponents(rt: &(impl Abort + AllocGlobal), text: &[u8], exponents: &[u32]) -> bool {
-    exponents_of(rt, text).as_slice() == exponents
+fn has_exponents(rt: &(impl Abort + AllocGlobal), bytes: &[u8], exponents: &[u32]) -> bool {
+    exponents_of(rt, bytes).as_slice() == exponents
 }
 
 fn packet(kind: Kind, body: &[u8]) -> Packet<'_> {
@@ -108,14 +109,14 @@ fn packet(kind: Kind, body: &[u8]) -> Packet<'_> {
     }
 }
 
-// The head of a packet that claims this length, with a false digest.
+// The header of a packet that claims this length, with a wrong digest.
 fn false_head(rt: &(impl Abort + AllocGlobal), claim: u64) -> Vec<u8> {
     [b"PAR2\0PKT".as_slice(), &claim.to_le_bytes(), &[7; 48]]
         .concat(rt.alloc())
         .expect(rt, "memory")
 }
 
-// A record with this identifier alone.
+// A record with only this File ID.
 fn record(rt: &(impl Abort + AllocGlobal), id: &[u8; 16]) -> FileRecord {
     FileRecord {
         id: *id,
@@ -152,7 +153,8 @@ fn record_of_a(rt: &(impl Abort + AllocGlobal)) -> FileRecord {
     }
 }
 
-// Texts, the bytes that are left of them, one of which one bit is flipped, and the kinds of the packets there.
+// Hexadecimal strings, which of their bytes are left, the byte in which a bit is flipped, and the types of the packets
+// there.
 type Kinds = (
     &'static [&'static str],
     usize,
@@ -213,19 +215,19 @@ const KINDS: &[Kinds] = &[
 
 // The bytes of a row.
 fn altered(rt: &(impl Abort + AllocGlobal), row: &Kinds) -> Vec<u8> {
-    let mut text = decoded(rt, row.0);
-    text.truncate(row.1);
+    let mut bytes = decoded(rt, row.0);
+    bytes.truncate(row.1);
     if let Some(at) = row.2
-        && let Some(byte) = text.get_mut(at)
+        && let Some(byte) = bytes.get_mut(at)
     {
         *byte ^= 1;
     }
-    text
+    bytes
 }
 
 fn has_kinds(rt: &(impl Abort + AllocGlobal), row: &Kinds) -> bool {
-    let text = altered(rt, row);
-    text.len() == row.1 && kinds_of(rt, &text).as_slice() == row.3
+    let bytes = altered(rt, row);
+    bytes.len() == row.1 && kinds_of(rt, &bytes).as_slice() == row.3
 }
 
 #[test]
@@ -242,12 +244,12 @@ fn add_creator(rt: &(impl Abort + AllocGlobal), out: &mut Vec<u8>, id: &[u8; 16]
 // The index of a set of this file, with slices of 4 bytes.
 fn written_index(rt: &(impl Abort + AllocGlobal), file: &FileRecord) -> Vec<u8> {
     let id = id_of(4, file);
-    let mut text = Vec::new(rt.alloc());
-    add_main(rt, &mut text, 4, file);
-    add_description(rt, &mut text, &id, file);
-    add_checksums(rt, &mut text, &id, file);
-    add_creator(rt, &mut text, &id);
-    text
+    let mut bytes = Vec::new(rt.alloc());
+    add_main(rt, &mut bytes, 4, file);
+    add_description(rt, &mut bytes, &id, file);
+    add_checksums(rt, &mut bytes, &id, file);
+    add_creator(rt, &mut bytes, &id);
+    bytes
 }
 
 fn add_recovery(
@@ -262,24 +264,24 @@ fn add_recovery(
     append_recovery(rt.alloc(), out, id, e, slice).expect(rt, "memory");
 }
 
-// After the index of a set of this file the recovery slices from an exponent on.
+// The index of a set of this file, and after it the recovery slices from an exponent on.
 fn written_volume(
     rt: &(impl Abort + AllocGlobal),
     file: &FileRecord,
     first: u32,
     slices: &[&[u8]],
 ) -> Vec<u8> {
-    let mut text = written_index(rt, file);
+    let mut bytes = written_index(rt, file);
     let mut e = first;
     for slice in slices {
         assert!(rt; slice.len() % 4 == 0);
-        add_recovery(rt, &mut text, &id_of(4, file), e, slice);
+        add_recovery(rt, &mut bytes, &id_of(4, file), e, slice);
         e = e.wrapping_add(1);
     }
-    text
+    bytes
 }
 
-// An exponent, recovery slices from it on, the volume with these, and its length.
+// An exponent, the recovery slices from it on, their volume, and its length.
 const VOLUMES: &[(u32, &[&[u8]], &[&str], usize)] = &[
     (0, &[], &[INDEX], 420),
     (0, &[b"\x04\x04\x04\x0c"], &[INDEX, RECOVERY_0], 492),
@@ -294,10 +296,10 @@ const VOLUMES: &[(u32, &[&[u8]], &[&str], usize)] = &[
 #[test]
 fn volumes_are_written(rt: HostRuntime) {
     let file = record_of_a(&rt);
-    for (first, slices, texts, len) in VOLUMES {
+    for (first, slices, buffers, len) in VOLUMES {
         let volume = written_volume(&rt, &file, *first, slices);
         assert!(rt;
-            volume.len() == *len && volume == decoded(&rt, texts),
+            volume.len() == *len && volume == decoded(&rt, buffers),
             "from {first}"
         );
     }
@@ -305,12 +307,12 @@ fn volumes_are_written(rt: HostRuntime) {
 
 #[test]
 fn greatest_exponent(rt: HostRuntime) {
-    let mut text = Vec::new(rt.alloc());
-    add_recovery(&rt, &mut text, &[7; 16], u32::MAX, b"abcd");
-    assert!(rt; has_exponents(&rt, &text, &[u32::MAX]));
+    let mut bytes = Vec::new(rt.alloc());
+    add_recovery(&rt, &mut bytes, &[7; 16], u32::MAX, b"abcd");
+    assert!(rt; has_exponents(&rt, &bytes, &[u32::MAX]));
 }
 
-// Whether a packet, if it is the Main, says that the set has this file alone.
+// If the packet is the Main: whether the set has only this file.
 fn main_agrees(packet: &Packet<'_>, file: &FileRecord) -> bool {
     match read_main(packet) {
         Some(main) => main.slice_size() == 4 && main.count() == 1 && main.id(0) == file.id,
@@ -318,7 +320,7 @@ fn main_agrees(packet: &Packet<'_>, file: &FileRecord) -> bool {
     }
 }
 
-// Whether a packet, if it describes a file, describes this one.
+// If the packet is a File Description: whether it is of this file.
 fn desc_agrees(packet: &Packet<'_>, file: &FileRecord) -> bool {
     let Some(desc) = read_desc(packet) else {
         return true;
@@ -328,7 +330,7 @@ fn desc_agrees(packet: &Packet<'_>, file: &FileRecord) -> bool {
     digests_agree && name_agrees && desc.id() == file.id && desc.length() == file.length
 }
 
-// Whether a packet, if it has checksums, has those of this file.
+// If the packet has slice checksums: whether they are of this file.
 fn ifsc_agrees(packet: &Packet<'_>, file: &FileRecord) -> bool {
     let Some(ifsc) = read_ifsc(packet) else {
         return true;
@@ -341,7 +343,7 @@ fn ifsc_agrees(packet: &Packet<'_>, file: &FileRecord) -> bool {
     ifsc.id() == file.id && ifsc.count() == file.pairs.len() && pairs_agree
 }
 
-// Whether a packet, if it has a recovery slice, has the first one.
+// If the packet has a recovery slice: whether it is the first one.
 fn recovery_agrees(packet: &Packet<'_>) -> bool {
     match read_recovery(packet) {
         Some(slice) => slice.exponent() == 0 && slice.bytes() == b"\x04\x04\x04\x0c".as_slice(),
@@ -349,7 +351,7 @@ fn recovery_agrees(packet: &Packet<'_>) -> bool {
     }
 }
 
-// Whether a packet is one of the volume of this file.
+// Whether the packet belongs in the volume of this file.
 fn agrees(packet: &Packet<'_>, file: &FileRecord) -> bool {
     main_agrees(packet, file)
         && desc_agrees(packet, file)
@@ -357,8 +359,8 @@ fn agrees(packet: &Packet<'_>, file: &FileRecord) -> bool {
         && recovery_agrees(packet)
 }
 
-fn all_agree(text: &[u8], file: &FileRecord) -> bool {
-    for packet in Packets::new(text) {
+fn all_agree(bytes: &[u8], file: &FileRecord) -> bool {
+    for packet in Packets::new(bytes) {
         if !agrees(&packet, file) {
             return false;
         }
@@ -371,7 +373,7 @@ fn bodies_of_a_volume(rt: HostRuntime) {
     assert!(rt; all_agree(&decoded(&rt, &[INDEX, RECOVERY_0]), &record_of_a(&rt)));
 }
 
-// The recovery slices of exponents 1 and 0, between heads of no packet that claim this length.
+// The recovery slices of exponents 1 and 0, between false headers that claim this length.
 fn slices_between_heads(rt: &(impl Abort + AllocGlobal), claim: u64) -> Vec<u8> {
     let head = false_head(rt, claim);
     [
@@ -396,7 +398,7 @@ fn packets_between_other_bytes(rt: HostRuntime) {
     }
 }
 
-// The recovery slice of exponent 2, and a head after it.
+// The recovery slice of exponent 2, and a header after it.
 fn head_at_the_end(rt: &(impl Abort + AllocGlobal)) -> Vec<u8> {
     [decoded(rt, &[RECOVERY_2]).as_slice(), &false_head(rt, 64)]
         .concat(rt.alloc())
@@ -405,84 +407,84 @@ fn head_at_the_end(rt: &(impl Abort + AllocGlobal)) -> Vec<u8> {
 
 #[test]
 fn heads_at_the_end(rt: HostRuntime) {
-    let mut text = head_at_the_end(&rt);
-    // The last head is cut at each place.
+    let mut bytes = head_at_the_end(&rt);
+    // The last header is cut at every byte.
     for _ in 0..64 {
-        assert!(rt; has_exponents(&rt, &text, &[2]));
-        text.pop();
+        assert!(rt; has_exponents(&rt, &bytes, &[2]));
+        bytes.pop();
     }
 }
 
 // The recovery slices of exponents 0 to 9, in packets of 72 bytes each.
 fn ten_in_line(rt: &(impl Abort + AllocGlobal)) -> Vec<u8> {
-    let mut text = Vec::new(rt.alloc());
+    let mut bytes = Vec::new(rt.alloc());
     for e in 0..10 {
-        add_recovery(rt, &mut text, &[7; 16], e, b"abcd");
+        add_recovery(rt, &mut bytes, &[7; 16], e, b"abcd");
     }
-    text
+    bytes
 }
 
 #[test]
 fn false_digest_in_line(rt: HostRuntime) {
-    let mut text = ten_in_line(&rt);
-    if let Some(byte) = text.get_mut(4 * 72 + 16) {
+    let mut bytes = ten_in_line(&rt);
+    if let Some(byte) = bytes.get_mut(4 * 72 + 16) {
         *byte ^= 1;
     }
-    assert!(rt; has_exponents(&rt, &text, &[0, 1, 2, 3, 5, 6, 7, 8, 9]));
+    assert!(rt; has_exponents(&rt, &bytes, &[0, 1, 2, 3, 5, 6, 7, 8, 9]));
 }
 
 #[test]
 fn eighth_in_line_is_cut(rt: HostRuntime) {
-    let mut text = ten_in_line(&rt);
-    text.truncate(8 * 72 - 1);
-    assert!(rt; has_exponents(&rt, &text, &[0, 1, 2, 3, 4, 5, 6]));
+    let mut bytes = ten_in_line(&rt);
+    bytes.truncate(8 * 72 - 1);
+    assert!(rt; has_exponents(&rt, &bytes, &[0, 1, 2, 3, 4, 5, 6]));
 }
 
 #[test]
 fn two_lengths_in_line(rt: HostRuntime) {
-    let mut text = ten_in_line(&rt);
+    let mut bytes = ten_in_line(&rt);
     for e in 10..14 {
-        add_recovery(&rt, &mut text, &[7; 16], e, b"abcdefgh");
+        add_recovery(&rt, &mut bytes, &[7; 16], e, b"abcdefgh");
     }
-    add_recovery(&rt, &mut text, &[7; 16], 14, b"abcd");
+    add_recovery(&rt, &mut bytes, &[7; 16], 14, b"abcd");
     let exponents = [0, 1, 2, 3, 4, 5, 6, 7, 8, 9, 10, 11, 12, 13, 14];
-    assert!(rt; has_exponents(&rt, &text, &exponents));
+    assert!(rt; has_exponents(&rt, &bytes, &exponents));
 }
 
-// Recovery packets of exponents 0 to 9 that have this slice, each followed by the description of a file and a Main.
+// Recovery packets of exponents 0 to 9 with this slice, each followed by a File Description and a Main.
 fn ten_among_others(rt: &(impl Abort + AllocGlobal), slice: &[u8]) -> Vec<u8>
     requires { length slice.now % 4 ≡ 0 }
 {
     let file = record_of_a(rt);
-    let mut text = Vec::new(rt.alloc());
+    let mut bytes = Vec::new(rt.alloc());
     for e in 0..10 {
-        add_recovery(rt, &mut text, &[7; 16], e, slice);
-        add_description(rt, &mut text, &[7; 16], &file);
-        add_main(rt, &mut text, 4, &file);
+        add_recovery(rt, &mut bytes, &[7; 16], e, slice);
+        add_description(rt, &mut bytes, &[7; 16], &file);
+        add_main(rt, &mut bytes, 4, &file);
     }
-    text
+    bytes
 }
 
-// Whether all of them are found but one whose slice is damaged.
+// Whether all of them are found except for one whose slice is damaged.
 fn has_all_but_fifth(rt: &(impl Abort + AllocGlobal), slice: &[u8]) -> bool
     requires { length slice.now % 4 ≡ 0 }
 {
-    let mut text = ten_among_others(rt, slice);
-    let fifth = text.len() / 10 * 4;
-    if let Some(byte) = text.get_mut(fifth + 70) {
+    let mut bytes = ten_among_others(rt, slice);
+    let fifth = bytes.len() / 10 * 4;
+    if let Some(byte) = bytes.get_mut(fifth + 70) {
         *byte ^= 1;
     }
-    has_exponents(rt, &text, &[0, 1, 2, 3, 5, 6, 7, 8, 9]) && kinds_of(rt, &text).len() == 29
+    has_exponents(rt, &bytes, &[0, 1, 2, 3, 5, 6, 7, 8, 9]) && kinds_of(rt, &bytes).len() == 29
 }
 
 #[test]
 fn false_digest_among_others(rt: HostRuntime) {
     assert!(rt; has_all_but_fifth(&rt, b"abcdefgh"));
-    // These are longer than the packets between, and so long that eight are found ahead.
+    // These slices are longer than the packets between them, so eight packets are found ahead.
     assert!(rt; has_all_but_fifth(&rt, &[7; 1280]));
 }
 
-// How many files a Main of this body lists, or None where it is none.
+// The number of files that a Main with this body lists, or None if it isn't a Main.
 fn count_listed(body: &[u8]) -> Option<usize> {
     match read_main(&packet(Kind::Main, body)) {
         Some(main) => Some(main.count()),
@@ -514,7 +516,7 @@ fn read_by(body: &[u8]) -> [bool; 4] {
 
 const ZEROS: &[u8; 76] = &[0; 76];
 
-// Which of the four readers take a body of zeros, by its length.
+// Which of the four readers accept a body of zeros of this length.
 const READERS: &[(usize, [bool; 4])] = &[
     (0, [false, false, false, false]),
     (3, [false, false, false, false]),
@@ -539,7 +541,7 @@ fn bodies_of_each_length(rt: HostRuntime) {
     }
 }
 
-// Whether one of the four readers takes the packet.
+// Whether one of the four readers accepts the packet.
 fn is_read(packet: &Packet<'_>) -> bool {
     read_main(packet).is_some()
         || read_desc(packet).is_some()
@@ -553,7 +555,7 @@ fn packets_of_other_kinds(rt: HostRuntime) {
     assert!(rt; !is_read(&packet(kind, b"\x04\0\0\0\0\0\0\0\0\0\0\0")));
 }
 
-// Records with these identifiers.
+// Records with these File IDs.
 fn records(rt: &(impl Abort + AllocGlobal), ids: &[[u8; 16]]) -> Vec<FileRecord> {
     let mut files = Vec::new(rt.alloc());
     for id in ids {
@@ -592,7 +594,7 @@ fn none_and_two_records_with_one_identifier(rt: HostRuntime) {
     assert!(rt; sorted(&mut files) == Err(DuplicateId) && files.len() == 3);
 }
 
-// Whether a packet says what the index of par2cmdline must say.
+// Whether the packet is as in the index of par2cmdline.
 fn is_of_fox(packet: &Packet<'_>) -> bool {
     match packet.kind {
         Kind::Main => read_main(packet).is_some_and(|main| main.slice_size() == 16

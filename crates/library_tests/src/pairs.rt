@@ -3,7 +3,7 @@ ghost use Rattle.std.specs.Prelude.{◌≤◌};
 use par2_slices::{Pair, pair_of, slice_bytes, slice_count};
 use std::process::Abort;
 
-// The pairs of the slices of a text.
+// The checksum pairs of the slices of these bytes.
 pub(crate) fn pairs_of(rt: &(impl Abort + AllocGlobal), bytes: &[u8], s: u64) -> Vec<Pair>
     requires { 1 ≤ s }
 {

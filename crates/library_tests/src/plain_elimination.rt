@@ -1,11 +1,11 @@
-//! An elimination over words, which shares nothing with what it is compared with.
+//! Gauss-Jordan elimination over words, which shares no code with what it is compared with.
 
 ghost use Rattle.std.specs.Prelude.{◌≡◌, ◌<◌, ◌≤◌};
 
 use crate::plain_field::{power, product};
 use std::process::Abort;
 
-/// What an equation multiplies each of four slices by, and the two words of its right side.
+/// An equation's factors of four slices, and the two words of its right side.
 pub(super) type Equation = [u16; 6];
 
 fn scaled<const N: usize>(equation: &[u16; N], factor: u16) -> [u16; N] {
@@ -24,7 +24,7 @@ fn sum<const N: usize>(a: &[u16; N], b: &[u16; N]) -> [u16; N] {
     sum
 }
 
-// Takes an equation out whose entry in this column isn't 0, times what makes it 1.
+// Removes an equation with a nonzero entry in this column, scaled to have 1 there.
 fn take_pivot<const N: usize>(equations: &mut Vec<[u16; N]>, column: usize) -> Option<[u16; N]>
     requires { column < N }
 {
@@ -33,7 +33,7 @@ fn take_pivot<const N: usize>(equations: &mut Vec<[u16; N]>, column: usize) -> O
     Some(scaled(&equation, power(equation[column], 65534)))
 }
 
-// Makes this column 0 by means of an equation that has 1 there.
+// Makes this column 0 by subtracting multiples of an equation with 1 there.
 fn clear<const N: usize>(equations: &mut [[u16; N]], pivot: &[u16; N], column: usize)
     requires { column < N }
 {
@@ -43,7 +43,8 @@ fn clear<const N: usize>(equations: &mut [[u16; N]], pivot: &[u16; N], column: u
     }
 }
 
-/// As many equations as there are independent ones of this many slices. Where these are as many, equation k says slice k.
+/// The independent equations among these, in reduced row echelon form. If there are as many as slices, equation `k`
+/// gives slice `k`.
 pub(super) fn eliminated<const N: usize>(
     rt: &(impl Abort + AllocGlobal),
     equations: Vec<[u16; N]>,

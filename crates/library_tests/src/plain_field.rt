@@ -1,8 +1,8 @@
-//! Products bit by bit and powers of them, which share nothing with what they are compared with.
+//! Products, bit by bit, and powers, which share no code with what they are compared with.
 
 ghost use Rattle.std.specs.Prelude.{◌≡◌, ◌<◌};
 
-// The product of two polynomials over bits, reduced.
+// The product of two polynomials over GF(2), reduced by the generator.
 pub(super) fn product(a: u16, b: u16) -> u16 {
     let mut sum = 0;
     let mut shifted = a;

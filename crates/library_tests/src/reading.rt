@@ -1,11 +1,11 @@
-//! Reading to the end, and from a reader that has none.
+//! Reading to the end, and from a reader without one.
 
 use par2_disk::read_within;
 use par2_folder::ReadFault;
 use std::io::{self, Read};
 use std::process::Abort;
 
-// It gives a byte with each read, is interrupted at the second, and never ends.
+// A reader that returns one byte with each read, is interrupted at the second, and never ends.
 #[derive(Drop)]
 struct Endless {
     reads: u64,

@@ -1,9 +1,9 @@
-//! Lost slices of sets of many sizes, by runs of exponents with holes between them. Those that come back are as they were,
-//! and how many exponents are kept is what a plain elimination says, or what is known of the constants.
+//! Lost slices of sets of many sizes, rebuilt by runs of exponents with holes between them. Rebuilt slices are as they
+//! were, and the number of kept exponents is that of a plain elimination, or follows from the constants.
 
 ghost use Rattle.std.specs.Prelude.{◌≡◌, ◌<◌, ◌≤◌};
 
-use crate::calls::are_texts;
+use crate::calls::are_buffers;
 use crate::field::field;
 use crate::plain_elimination::eliminated;
 use crate::plain_field::power;
@@ -14,11 +14,11 @@ use par2_recovery::{RebuildFault, SetRecord, Survivors};
 use recovery_calls::{folder_of, rebuilt, recovery_slices_of, set_of};
 use std::process::Abort;
 
-// Exponents that follow one another: the first one, and how many.
+// A run of consecutive exponents: the first one, and their number.
 type Run = (u32, u32);
 
-// The slices of a set one after the other, of so many bytes each, which of them are lost, and the recovery slices of
-// runs, each with its first exponent.
+// The slices of a set, one after the other, of `size` bytes each, which of them are lost, and the recovery slices of
+// runs, each run with its first exponent.
 #[derive(Drop)]
 struct Scene {
     size: usize,
@@ -37,7 +37,7 @@ fn random_bytes(rt: &(impl Abort + AllocGlobal), count: usize) -> Vec<u8> {
     bytes
 }
 
-// The file's record, of slices of so many bytes.
+// The file's record, with slices of `size` bytes.
 fn record_of(rt: &(impl Abort + AllocGlobal), folder: &Folder, size: usize) -> SetRecord {
     let record = set_of(rt.alloc(), folder, &["a"], size as u64).expect(rt, "memory");
     let record = record.expect(rt, "a name and a size");
@@ -80,7 +80,7 @@ fn scene_of(
     }
 }
 
-// Each slice, or None where it is lost.
+// The slices, with None for each lost one.
 fn known_of<'a>(rt: &(impl Abort + AllocGlobal), scene: &'a Scene) -> Vec<Option<&'a [u8]>> {
     let mut known = Vec::new(rt.alloc());
     let slices = scene.bytes.chunks(scene.size.max(1));
@@ -138,11 +138,12 @@ fn answer(
     rebuilt(rt.alloc(), gf, &survivors).expect(rt, "fitting survivors")
 }
 
-// How many exponents are kept: as many as slices are lost, where these come back. None where others come back.
+// The number of kept exponents, or the number of lost slices if they are rebuilt. None if the rebuilt slices are
+// wrong.
 fn kept(rt: &(impl Abort + AllocGlobal), gf: &Gf, scene: &Scene) -> Option<usize> {
     let lost = lost_of(rt, scene);
     match answer(rt, gf, scene) {
-        Ok(texts) => are_texts(&texts, &lost).then_some(lost.len()),
+        Ok(buffers) => are_buffers(&buffers, &lost).then_some(lost.len()),
         Err(RebuildFault::NotRepairable { missing, rank }) => {
             (missing == lost.len() && rank < missing).then_some(rank)
         }
@@ -150,16 +151,16 @@ fn kept(rt: &(impl Abort + AllocGlobal), gf: &Gf, scene: &Scene) -> Option<usize
     }
 }
 
-// How many slices there are and of how many bytes; the first of those that are lost, how far the next one is each time,
-// and how many they are; the runs, and how many exponents are kept.
+// The number of slices and their size; the first lost slice, the step to the next, and how many there are; the runs,
+// and the number of kept exponents.
 type Row = (usize, usize, (usize, usize, usize), &'static [Run], usize);
 
 const RUNS: &[Row] = &[
-    // about as many lost slices as those from which on no inverse is made
+    // around the number of lost slices from which on no inverse is made
     (2304, 4, (1, 3, 767), &[(3, 767)], 767),
     (2304, 4, (0, 3, 768), &[(3, 800)], 768),
     (1600, 4, (1, 2, 800), &[(7, 799)], 799),
-    // all slices of a set, a power of 2 of them, and up to the last exponent
+    // all slices of a set, with a power of 2 for their number, up to the last exponent
     (1024, 4, (0, 1, 1024), &[(64512, 1024)], 1024),
     (3000, 2, (0, 1, 3000), &[(0, 3000)], 3000),
 ];
@@ -169,13 +170,14 @@ const HOLES: &[Row] = &[
     (600, 6, (2, 2, 200), &[(0, 63), (127, 200)], 200),
     (1600, 4, (1, 2, 800), &[(0, 127), (255, 700)], 800),
     (1536, 4, (1, 2, 768), &[(64636, 64), (64800, 704)], 768),
-    // single recovery slices are gone, the last but one too
+    // single recovery slices are gone, the last but one, too
     (1536, 4, (1, 2, 768), &[(7, 1), (9, 291), (301, 476)], 768),
     (1536, 4, (1, 2, 768), &[(0, 767), (768, 1)], 768),
 ];
 
 const SINGULAR_HOLES: &[Row] = &[
-    // The polynomial of these lost slices has no power of 121, or of 234, so a hole there leaves one equation too few.
+    // The polynomial of these lost slices has zero coefficients at 121 and at 234, so a hole there leaves one equation
+    // too few.
     (300, 4, (2, 1, 200), &[(5, 121), (127, 79)], 199),
     (300, 4, (2, 1, 200), &[(5, 121), (127, 80)], 200),
     (1800, 4, (175, 2, 800), &[(0, 234), (235, 567)], 800),
@@ -184,16 +186,16 @@ const SINGULAR_HOLES: &[Row] = &[
     (700, 4, (0, 5, 120), &[(0, 60), (21845, 72)], 120),
 ];
 
-// Marks of slices: those from `first` on, each `step`-th one, as many as `count`.
-fn marks(
+// Flags of slices: from `first` on, every `step`-th one, `count` in all.
+fn lost_flags(
     rt: &(impl Abort + AllocGlobal),
     slices: usize,
     first: usize,
     step: usize,
     count: usize,
 ) -> Vec<bool> {
-    let mut marks = vec![in rt.alloc(); false; slices].expect(rt, "memory");
-    for mark in marks
+    let mut lost_flags = vec![in rt.alloc(); false; slices].expect(rt, "memory");
+    for mark in lost_flags
         .iter_mut()
         .skip(first)
         .step_by(step.max(1))
@@ -201,15 +203,21 @@ fn marks(
     {
         *mark = true;
     }
-    marks
+    lost_flags
 }
 
 fn scene_of_row(rt: &(impl Abort + AllocGlobal), gf: &Gf, row: &Row) -> Scene {
     let (slices, size, (first, step, count), runs, _) = *row;
-    scene_of(rt, gf, size, marks(rt, slices, first, step, count), runs)
+    scene_of(
+        rt,
+        gf,
+        size,
+        lost_flags(rt, slices, first, step, count),
+        runs,
+    )
 }
 
-// The first row of which another number of exponents is kept, or other slices come back.
+// The first row with another number of kept exponents, or wrong slices.
 fn first_other(rt: &(impl Abort + AllocGlobal), rows: &[Row]) -> Option<usize> {
     let gf = field(rt);
     for (k, row) in rows.iter().enumerate() {
@@ -235,13 +243,13 @@ fn holes_whose_equations_are_singular(rt: HostRuntime) {
     assert!(rt; first_other(&rt, SINGULAR_HOLES).is_none());
 }
 
-// The most slices of a set whose numbers are random.
+// The most slices of a random set.
 const FEW: usize = 40;
 
-// What an exponent multiplies each of some slices by.
+// The factors of slices in the equation of an exponent.
 type Factors = [u16; FEW];
 
-// Whether 2 to the power of this number is the constant of a slice.
+// Whether 2 to the power of `n` is the constant of a slice: `n` is coprime to 65,535.
 fn is_coprime(n: u32) -> bool {
     n % 3 != 0 && n % 5 != 0 && n % 17 != 0 && n % 257 != 0
 }
@@ -256,7 +264,7 @@ fn constants() -> Factors {
     constants
 }
 
-// What an exponent multiplies the lost slices by.
+// The factors of the lost slices in the equation of an exponent.
 fn factors(scene: &Scene, constants: &Factors, exponent: u32) -> Factors {
     let mut factors = [0; FEW];
     let all = constants.iter().zip(scene.are_lost.iter());
@@ -267,7 +275,7 @@ fn factors(scene: &Scene, constants: &Factors, exponent: u32) -> Factors {
     factors
 }
 
-// How many exponents a plain elimination keeps.
+// The number of kept exponents by a plain elimination.
 fn plainly_kept(rt: &(impl Abort + AllocGlobal), scene: &Scene) -> usize {
     let constants = constants();
     let mut equations = Vec::new(rt.alloc());
@@ -279,18 +287,21 @@ fn plainly_kept(rt: &(impl Abort + AllocGlobal), scene: &Scene) -> usize {
     eliminated(rt, equations, FEW).len()
 }
 
-// At most forty marks.
-fn random_marks(rt: &(impl Abort + AllocGlobal), number: u64) -> Vec<bool> {
+// At most forty flags.
+fn random_flags(rt: &(impl Abort + AllocGlobal), number: u64) -> Vec<bool> {
     let count = ((number >> 48) % 40) as u32 + 1;
     let bits = next_number(number);
-    let mut marks = Vec::new(rt.alloc());
+    let mut lost_flags = Vec::new(rt.alloc());
     for k in 0..count {
-        marks.push((bits >> (k + 20)) & 1 == 1).expect(rt, "memory");
+        lost_flags
+            .push((bits >> (k + 20)) & 1 == 1)
+            .expect(rt, "memory");
     }
-    marks
+    lost_flags
 }
 
-// Three runs. Mostly few exponents are missing between two of them, else the next one begins 21,845 after the first.
+// Three runs. Usually few exponents are missing between two of them; otherwise the next one begins 21,845 after the
+// first.
 fn random_runs(number: u64) -> [Run; 3] {
     let mut runs = [(0, 0); 3];
     let mut first = (number % 30000) as u32;
@@ -309,7 +320,7 @@ fn random_runs(number: u64) -> [Run; 3] {
 // The next scene of a few slices, of at most four words.
 fn random_scene(rt: &(impl Abort + AllocGlobal), gf: &Gf, number: u64) -> Scene {
     let size = 2 * ((number >> 45) % 4) as usize + 2;
-    scene_of(rt, gf, size, random_marks(rt, number), &random_runs(number))
+    scene_of(rt, gf, size, random_flags(rt, number), &random_runs(number))
 }
 
 #[test]

@@ -1,4 +1,4 @@
-//! What a set says of a file.
+//! The record of a file in a set.
 
 ghost use Rattle.std.specs.Prelude.{◌≤◌};
 
@@ -7,14 +7,13 @@ use par2_create::file_record_by_md5;
 use par2_packets::{FileRecord, Pair};
 use std::process::Abort;
 
-// The record of a file.
 fn record_of(rt: &(impl Abort + AllocGlobal), name: &str, bytes: &[u8], s: u64) -> FileRecord
     requires { 1 ≤ s }
 {
     file_record_by_md5(rt.alloc(), name, bytes, Md5::digest(bytes), s).expect(rt, "memory")
 }
 
-// a digest as its hexadecimal digits spell it
+// A digest as the number that its hexadecimal digits spell.
 fn number(digest: [u8; 16]) -> u128 {
     u128::from_be_bytes(digest)
 }
@@ -55,7 +54,7 @@ fn record_of_a_padded_file(rt: HostRuntime) {
     assert!(rt; is_padded(&record) && are_pairs(&record.pairs));
 }
 
-// So many bytes, each 7 more than the one before.
+// `len` bytes, each 7 more than the one before.
 fn rising_bytes(rt: &(impl Abort + AllocGlobal), len: usize) -> Vec<u8> {
     let mut bytes = vec![in rt.alloc(); 0u8; len].expect(rt, "memory");
     let mut next = 0u8;

@@ -1,6 +1,6 @@
-//! Worked examples of recovery slices and of rebuilding.
+//! Worked examples of recovery slices and rebuilding.
 
-use crate::calls::{are_texts, lists_of, places_of};
+use crate::calls::{are_buffers, lists_of, places_of};
 use crate::field::field;
 use par2_folder::Folder;
 use par2_gf16::Gf;
@@ -16,7 +16,7 @@ fn folder_with(rt: &(impl Abort + AllocGlobal), files: &[(&str, &[u8])]) -> Fold
     folder_of(rt.alloc(), files).expect(rt, "memory")
 }
 
-// What a set of slices of `s` bytes says of these files, or that two have one name.
+// The record of a set of these files with slices of `s` bytes, or the fault that two have one name.
 fn read_set(
     rt: &(impl Abort + AllocGlobal),
     folder: &Folder,
@@ -31,7 +31,7 @@ fn set_with(rt: &(impl Abort + AllocGlobal), folder: &Folder, names: &[&str], s:
     read_set(rt, folder, names, s).expect(rt, "a record")
 }
 
-// The recovery slices of so many exponents.
+// The recovery slices of this many exponents.
 fn slices_from(
     rt: &(impl Abort + AllocGlobal),
     set: &SetRecord,
@@ -43,7 +43,7 @@ fn slices_from(
     slices.expect(rt, "memory").expect(rt, "recovery slices")
 }
 
-// The recovery slices of one file, which is called `a`.
+// The recovery slices of one file, called `a`.
 pub(super) fn recovery_of_a(
     rt: &(impl Abort + AllocGlobal),
     bytes: &[u8],
@@ -55,7 +55,7 @@ pub(super) fn recovery_of_a(
     slices_from(rt, &set_with(rt, &folder, &["a"], s), &folder, first, count)
 }
 
-// The bytes of a file, the size of a slice, and the recovery slices from a number on, so many.
+// The bytes of a file, the slice size, the first exponent and the number of recovery slices, and these slices.
 type Recovered = (&'static [u8], u64, (u32, u32), &'static [&'static [u8]]);
 
 const RECOVERED: &[Recovered] = &[
@@ -69,7 +69,7 @@ const RECOVERED: &[Recovered] = &[
             b"\xe5\x9f\xcd\x67",
         ],
     ),
-    // What par2cmdline 0.8.1 makes of these bytes by `par2 create -s16 -c2`.
+    // The recovery slices of par2cmdline 0.8.1, by `par2 create -s16 -c2`.
     (
         b"The quick brown fox jumps over the lazy dog.\n",
         16,
@@ -93,7 +93,7 @@ const RECOVERED: &[Recovered] = &[
 // Whether the file has these recovery slices.
 fn is_recovered_as(rt: &(impl Abort + AllocGlobal), row: &Recovered) -> bool {
     let (bytes, s, (first, count), wanted) = *row;
-    are_texts(&recovery_of_a(rt, bytes, s, first, count), wanted)
+    are_buffers(&recovery_of_a(rt, bytes, s, first, count), wanted)
 }
 
 #[test]
@@ -103,8 +103,8 @@ fn recovery_slices_of_a_file(rt: HostRuntime) {
     }
 }
 
-// Slices of four bytes of which some are lost, recovery slices, and the lost ones, or how many are lost and how many
-// exponents are kept.
+// Slices of four bytes, some of them lost, recovery slices, and the rebuilt slices, or the number of lost slices and of
+// kept exponents.
 type Rebuilt = (
     &'static [Option<&'static [u8]>],
     &'static [(u32, &'static [u8])],
@@ -112,7 +112,7 @@ type Rebuilt = (
 );
 
 const REBUILT: &[Rebuilt] = &[
-    // Between the constants of slices 0 and 2 lies a power whose 21845th power is 1.
+    // The quotient of the constants of slices 0 and 2 has 1 as its 21,845th power.
     (
         &[None, Some(b"efgh"), None],
         &[(0, b"\x6d\x6e\x6f\x60"), (21845, b"\xd9\x03\x18\xeb")],
@@ -127,7 +127,7 @@ const REBUILT: &[Rebuilt] = &[
         ],
         Ok(&[b"abcd", b"ijkl"]),
     ),
-    // Every constant's 65535th power is 1, as its power of 0 is.
+    // Every constant's 65,535th power is 1, as its 0th power is.
     (
         &[None, None],
         &[(0, b"\x04\x04\x04\x0c"), (65535, b"\x04\x04\x04\x0c")],
@@ -149,15 +149,15 @@ const REBUILT: &[Rebuilt] = &[
     (&[Some(b"abcd"), Some(b"efgh")], &[(3, b"abcd")], Ok(&[])),
 ];
 
-// Whether the answer is what the row says.
-fn is_as_told(
+// Whether the result is as the row says.
+fn is_as_reported(
     answer: &Result<Vec<Vec<u8>>, RebuildFault>,
     wanted: Result<&[&[u8]], (usize, usize)>,
 ) -> bool {
     match (answer, wanted) {
-        (Ok(texts), Ok(told)) => are_texts(texts, told),
-        (Err(RebuildFault::NotRepairable { missing, rank }), Err(told)) => {
-            *missing == told.0 && *rank == told.1
+        (Ok(buffers), Ok(reported)) => are_buffers(buffers, reported),
+        (Err(RebuildFault::NotRepairable { missing, rank }), Err(reported)) => {
+            *missing == reported.0 && *rank == reported.1
         }
         _ => false,
     }
@@ -177,7 +177,7 @@ fn survivors_of<'a>(
 
 fn is_rebuilt_as(rt: &(impl Abort + AllocGlobal), row: &Rebuilt) -> bool {
     let answer = lost_rebuilt(rt.alloc(), &survivors_of(rt, row.0, row.1));
-    is_as_told(&answer.expect(rt, "fitting survivors"), row.2)
+    is_as_reported(&answer.expect(rt, "fitting survivors"), row.2)
 }
 
 #[test]
@@ -187,7 +187,6 @@ fn lost_slices_come_back(rt: HostRuntime) {
     }
 }
 
-// For the reasons that stand above.
 #[test]
 fn exponents_that_are_kept(rt: HostRuntime) {
     let gf = field(&rt);
@@ -236,17 +235,16 @@ fn record_and_slices_of_two_files(rt: HostRuntime) {
     assert!(rt; has_slices(&rt, &set, &folder, &[b"fgh", b"abcd", b"e"]));
 }
 
-fn slices_over(rt: &(impl Abort + AllocGlobal), texts: &[&[u8]; 2]) -> Vec<Vec<u8>> {
-    recovery_slices_over(rt.alloc(), &field(rt), texts, 4, 0, 1).expect(rt, "memory")
+fn slices_over(rt: &(impl Abort + AllocGlobal), buffers: &[&[u8]; 2]) -> Vec<Vec<u8>> {
+    recovery_slices_over(rt.alloc(), &field(rt), buffers, 4, 0, 1).expect(rt, "memory")
 }
 
 #[test]
-fn recovery_slice_over_texts(rt: HostRuntime) {
-    assert!(rt; are_texts(&slices_over(&rt, &[b"abcd", b"e"]), &[b"\x04\x62\x63\x64"]));
+fn recovery_slice_over_buffers(rt: HostRuntime) {
+    assert!(rt; are_buffers(&slices_over(&rt, &[b"abcd", b"e"]), &[b"\x04\x62\x63\x64"]));
 }
 
-// The exponents, where their recovery slices are written, in which text and from which byte on, and the texts before and
-// after.
+// The exponents, the buffer and the first byte for each of their recovery slices, and the buffers before and after.
 type Written = (
     &'static [u32],
     &'static [(usize, usize)],
@@ -274,22 +272,22 @@ const WRITTEN: &[Written] = &[
     (&[], &[], &[b"<>"], &[b"<>"]),
 ];
 
-// The texts, into which the recovery slices of `abcd` and `efgh` are written.
+// The buffers after the recovery slices of `abcd` and `efgh` were written into them.
 fn written(rt: &(impl Abort + AllocGlobal), row: &Written) -> Vec<Vec<u8>> {
     let (exponents, pairs, before, _) = row;
-    let mut texts = lists_of(rt, before);
+    let mut buffers = lists_of(rt, before);
     let places = places_of(rt, pairs);
     let slices: [&[u8]; 2] = [b"abcd", b"efgh"];
-    let all = texts.as_mut_slice();
+    let all = buffers.as_mut_slice();
     let answer = slices_written(rt.alloc(), &field(rt), &slices, exponents, all, &places, 2);
     answer.expect(rt, "memory").expect(rt, "outputs");
-    texts
+    buffers
 }
 
 #[test]
 fn recovery_slices_are_written_at_their_places(rt: HostRuntime) {
     for (k, row) in WRITTEN.iter().enumerate() {
-        assert!(rt; are_texts(&written(&rt, row), row.3), "row {k}");
+        assert!(rt; are_buffers(&written(&rt, row), row.3), "row {k}");
     }
 }
 
@@ -299,7 +297,7 @@ fn one_name_twice(rt: HostRuntime) {
     assert!(rt; matches!(answer, Err(RecordFault::DuplicateId)));
 }
 
-// The recovery slice of an exponent, made alone.
+// The recovery slice of an exponent, computed alone.
 fn slice_alone(
     rt: &(impl Abort + AllocGlobal),
     gf: &Gf,
@@ -311,22 +309,22 @@ fn slice_alone(
     slice.expect(rt, "a recovery slice")
 }
 
-// Whether the slices, of six bytes, from exponent 5 on are the same where they are made alone.
+// Whether the slices of six bytes from exponent 5 on are the same as if computed alone.
 fn are_as_alone(
     rt: &(impl Abort + AllocGlobal),
     set: &SetRecord,
     folder: &Folder,
-    texts: &[Vec<u8>],
+    buffers: &[Vec<u8>],
 ) -> bool {
     let gf = field(rt);
     let mut e = 5u32;
-    for text in texts {
-        if text.len() != 6 || slice_alone(rt, &gf, set, folder, e) != *text {
+    for bytes in buffers {
+        if bytes.len() != 6 || slice_alone(rt, &gf, set, folder, e) != *bytes {
             return false;
         }
         e = e.wrapping_add(1);
     }
-    texts.len() == 4
+    buffers.len() == 4
 }
 
 #[test]
@@ -336,7 +334,7 @@ fn one_by_one(rt: HostRuntime) {
     assert!(rt; are_as_alone(&rt, &set, &folder, &slices_from(&rt, &set, &folder, 5, 4)));
 }
 
-// The powers of a constant come again after 65,535 of them.
+// The powers of a constant repeat after 65,535 of them.
 #[test]
 fn exponents_of_any_size(rt: HostRuntime) {
     let folder = folder_with(&rt, &[("a", b"abcdefgh")]);

@@ -1,5 +1,5 @@
-//! Every few lost slices of four against every choice of at most three exponents from 0 to 20 and ten more, beside a
-//! plain elimination.
+//! Every choice of lost slices among four, with every choice of at most three exponents from 0 to 20 and ten more,
+//! against a plain elimination.
 
 ghost use Rattle.std.specs.Prelude.{◌≡◌, ◌<◌, ◌≤◌};
 
@@ -21,28 +21,28 @@ const SLICES: [[u8; 4]; 4] = [
     *b"\x80\x01\x00\x10",
 ];
 
-// The constants of the four slices, as the format's specification lists them.
+// The constants of the four slices, as PAR2 2.0 lists them.
 const CONSTANTS: [u16; 4] = [2, 4, 16, 128];
 
-// Some of them depend on others, since a constant's power of 65,535 is 1, and 65,535 has the divisors 3, 5, 17 and 257.
+// Some of them depend on others, because a constant's 65,535th power is 1 and 65,535 has the divisors 3, 5, 17 and 257.
 const EXPONENTS: &[u32] = &[
     0, 1, 2, 3, 4, 5, 6, 7, 8, 9, 10, 11, 12, 13, 14, 15, 16, 17, 18, 19, 20, 255, 3855, 13107,
     21844, 21845, 21846, 43690, 65280, 65534, 65535,
 ];
 
-// Some more words than are taken at a time, and an odd number of them.
+// More words than are processed at a time, and an odd number of them.
 const SIZE: usize = 2 * 4096 + 6;
 
-// A recovery slice, and what it multiplies each slice by.
+// A recovery slice, and its factor of each slice.
 #[derive(Clone, Copy)]
 struct Recovered {
     exponent: u32,
     factors: [u16; 4],
-    text: [u8; 4],
+    buffer: [u8; 4],
 }
 
-fn words(text: &[u8; 4]) -> [u16; 2] {
-    let [a, b, c, d] = *text;
+fn words(buffer: &[u8; 4]) -> [u16; 2] {
+    let [a, b, c, d] = *buffer;
     [u16::from_le_bytes([a, b]), u16::from_le_bytes([c, d])]
 }
 
@@ -64,17 +64,17 @@ fn recovered_by(exponent: u32) -> Recovered {
     Recovered {
         exponent,
         factors,
-        text: bytes(sums),
+        buffer: bytes(sums),
     }
 }
 
-fn equation(factors: [u16; 4], text: &[u8; 4]) -> Equation {
+fn equation(factors: [u16; 4], buffer: &[u8; 4]) -> Equation {
     let [a, b, c, d] = factors;
-    let [first, second] = words(text);
+    let [first, second] = words(buffer);
     [a, b, c, d, first, second]
 }
 
-// The word at a place of bytes after which zeros follow.
+// A word of the bytes, which are followed by zeros.
 fn word_at(bytes: &[u8], w: usize) -> u16 {
     let at = w.saturating_mul(2);
     let low = bytes.get(at).copied().unwrap_or(0);
@@ -82,7 +82,7 @@ fn word_at(bytes: &[u8], w: usize) -> u16 {
     u16::from_le_bytes([low, high])
 }
 
-// Word w of the recovery slices of exponents 1 and 2 over slices that follow each other.
+// Word `w` of the recovery slices of exponents 1 and 2, over consecutive slices.
 fn plain_words(bytes: &[u8], w: usize) -> (u16, u16) {
     let mut first = 0;
     let mut second = 0;
@@ -94,7 +94,7 @@ fn plain_words(bytes: &[u8], w: usize) -> (u16, u16) {
     (first, second)
 }
 
-// The equation that says a slice that is known.
+// The equation of a known slice.
 fn known_equation(k: usize) -> Equation
     requires { k < 4 }
 {
@@ -109,8 +109,7 @@ fn is_lost(lost: u8, k: usize) -> bool
     (lost >> k) & 1 == 1
 }
 
-// What the plain elimination makes of the known slices and these recovery slices: all slices, or how many equations
-// are independent.
+// The plain elimination of the known slices and these recovery slices: all slices, or the independent equations.
 fn plain_answer(rt: &(impl Abort + AllocGlobal), lost: u8, chosen: &[Recovered]) -> Vec<Equation> {
     let mut equations = Vec::new(rt.alloc());
     for k in 0..4 {
@@ -120,24 +119,24 @@ fn plain_answer(rt: &(impl Abort + AllocGlobal), lost: u8, chosen: &[Recovered])
     }
     for one in chosen {
         equations
-            .push(equation(one.factors, &one.text))
+            .push(equation(one.factors, &one.buffer))
             .expect(rt, "memory");
     }
     eliminated(rt, equations, 4)
 }
 
-// The lost slices by the plain answer, one after the other.
-fn plain_texts(rt: &(impl Abort + AllocGlobal), lost: u8, solved: &[Equation]) -> Vec<u8> {
-    let mut texts = Vec::new(rt.alloc());
+// The lost slices by the plain elimination, one after the other.
+fn plain_buffers(rt: &(impl Abort + AllocGlobal), lost: u8, solved: &[Equation]) -> Vec<u8> {
+    let mut buffers = Vec::new(rt.alloc());
     for (k, equation) in solved.iter().enumerate() {
         if k < 4 && is_lost(lost, k) {
-            add(rt, &mut texts, &bytes([equation[4], equation[5]]));
+            add(rt, &mut buffers, &bytes([equation[4], equation[5]]));
         }
     }
-    texts
+    buffers
 }
 
-// The slices that aren't lost.
+// The known slices, with None for each lost one.
 fn known_slices(rt: &(impl Abort + AllocGlobal), lost: u8) -> Vec<Option<&'static [u8]>> {
     let mut known = Vec::new(rt.alloc());
     for (k, slice) in SLICES.iter().enumerate() {
@@ -156,7 +155,7 @@ fn recovery_of<'a>(
     let mut recovery = Vec::new(rt.alloc());
     for one in chosen {
         recovery
-            .push((one.exponent, one.text.as_slice()))
+            .push((one.exponent, one.buffer.as_slice()))
             .expect(rt, "memory");
     }
     recovery
@@ -176,19 +175,20 @@ fn our_answer(
     rebuilt(rt.alloc(), gf, &survivors).expect(rt, "fitting survivors")
 }
 
-// Whether the texts, one after the other, are those of the plain answer.
+// Whether the buffers, one after the other, are those of the plain elimination.
 fn are_plain(
     rt: &(impl Abort + AllocGlobal),
-    texts: &[Vec<u8>],
+    buffers: &[Vec<u8>],
     lost: u8,
     plain: &[Equation],
 ) -> bool {
-    let ours = texts.concat(rt.alloc()).expect(rt, "memory");
-    plain.len() == 4 && ours == plain_texts(rt, lost, plain)
+    let ours = buffers.concat(rt.alloc()).expect(rt, "memory");
+    plain.len() == 4 && ours == plain_buffers(rt, lost, plain)
 }
 
-// Whether the fault tells how many slices are lost, and how many equations are independent of the known slices.
-fn is_told(fault: &RebuildFault, lost: u8, independent: usize) -> bool {
+// Whether the fault has this number of lost slices, and the number of equations that are independent of the known
+// slices.
+fn is_reported(fault: &RebuildFault, lost: u8, independent: usize) -> bool {
     let lost = lost.count_ones() as usize;
     match fault {
         RebuildFault::NotRepairable { missing, rank } => {
@@ -200,7 +200,7 @@ fn is_told(fault: &RebuildFault, lost: u8, independent: usize) -> bool {
     }
 }
 
-// Whether it is the lost slices, or None where the plain answer is another.
+// Whether the lost slices are rebuilt; None if the plain elimination disagrees.
 fn compared(
     rt: &(impl Abort + AllocGlobal),
     gf: &Gf,
@@ -209,12 +209,12 @@ fn compared(
 ) -> Option<bool> {
     let plain = plain_answer(rt, lost, chosen);
     match our_answer(rt, gf, lost, chosen) {
-        Ok(texts) => are_plain(rt, &texts, lost, &plain).then_some(true),
-        Err(fault) => is_told(&fault, lost, plain.len()).then_some(false),
+        Ok(buffers) => are_plain(rt, &buffers, lost, &plain).then_some(true),
+        Err(fault) => is_reported(&fault, lost, plain.len()).then_some(false),
     }
 }
 
-// The choices with one more than these, for each of less than three.
+// The choices with one more than these, if they have less than three.
 fn with_one(
     rt: &(impl Abort + AllocGlobal),
     choices: &[Vec<Recovered>],
@@ -246,7 +246,7 @@ fn choices(rt: &(impl Abort + AllocGlobal), all: &[Recovered]) -> Vec<Vec<Recove
     choices
 }
 
-// All that are recovered.
+// All recovery slices.
 fn all_recovered(rt: &(impl Abort + AllocGlobal)) -> Vec<Recovered> {
     let mut all = Vec::new(rt.alloc());
     for exponent in EXPONENTS {
@@ -255,7 +255,7 @@ fn all_recovered(rt: &(impl Abort + AllocGlobal)) -> Vec<Recovered> {
     all
 }
 
-// How many choices there are of lost slices that come back by the chosen ones.
+// The number of choices of lost slices that the chosen recovery slices rebuild.
 fn repairable_by(rt: &(impl Abort + AllocGlobal), gf: &Gf, chosen: &[Recovered]) -> u32 {
     let mut repairable = 0u32;
     for lost in 1..15u8 {
@@ -274,11 +274,11 @@ fn as_a_plain_elimination(rt: HostRuntime) {
     for chosen in &choices {
         repairable = repairable.wrapping_add(repairable_by(&rt, &gf, chosen));
     }
-    // Another program counted these, and 2543 others: 14 for each choice.
+    // Another program counted these, and 2543 that can't be rebuilt: 14 for each choice.
     assert!(rt; repairable == 67345 && choices.len() == (67345 + 2543) / 14);
 }
 
-// Three slices of some more words than are taken at a time, the last one with half a word at its end.
+// Three slices of more words than are processed at a time, the last one with half a word at its end.
 fn many_bytes(rt: &(impl Abort + AllocGlobal)) -> Vec<u8> {
     let mut bytes = vec![in rt.alloc(); 0u8; 3 * SIZE - 5].expect(rt, "memory");
     for (i, byte) in bytes.iter_mut().enumerate() {
@@ -288,8 +288,8 @@ fn many_bytes(rt: &(impl Abort + AllocGlobal)) -> Vec<u8> {
 }
 
 // Whether these are the recovery slices of exponents 1 and 2.
-fn are_many(texts: &[Vec<u8>], bytes: &[u8]) -> bool {
-    match texts {
+fn are_many(buffers: &[Vec<u8>], bytes: &[u8]) -> bool {
+    match buffers {
         [first, second] => are_plain_words(first, second, bytes),
         _ => false,
     }
@@ -325,7 +325,7 @@ pub(super) fn with_exponents<'a>(
     recovery
 }
 
-// The slices of the bytes, but for these two.
+// The slices of the bytes without these two.
 fn known_but<'a>(
     rt: &(impl Abort + AllocGlobal),
     bytes: &'a [u8],
@@ -340,7 +340,7 @@ fn known_but<'a>(
     known
 }
 
-// The bytes of the two slices, as they are rebuilt.
+// The rebuilt bytes of the two slices.
 fn many_rebuilt(rt: &(impl Abort + AllocGlobal), bytes: &[u8], lost: [usize; 2]) -> Vec<u8> {
     let slices = recovery_of_a(rt, bytes, SIZE as u64, 1, 2);
     let survivors = Survivors {
@@ -349,16 +349,16 @@ fn many_rebuilt(rt: &(impl Abort + AllocGlobal), bytes: &[u8], lost: [usize; 2])
         recovery: with_exponents(rt, 1, &slices),
     };
     let answer = rebuilt(rt.alloc(), &field(rt), &survivors).expect(rt, "fitting survivors");
-    let texts = answer.expect(rt, "two lost slices");
-    texts.concat(rt.alloc()).expect(rt, "memory")
+    let buffers = answer.expect(rt, "two lost slices");
+    buffers.concat(rt.alloc()).expect(rt, "memory")
 }
 
-// The bytes of all slices, with the padding of the last one.
+// The bytes of all slices, with the padding of the last.
 fn many_padded(rt: &(impl Abort + AllocGlobal), bytes: &[u8]) -> Vec<u8> {
     [bytes, &[0u8; 5]].concat(rt.alloc()).expect(rt, "memory")
 }
 
-// Each of them beside the others, the short one too: what is lost has its padding.
+// Two neighbouring slices are lost, the short one, too, which is rebuilt with its padding.
 #[test]
 fn many_words_come_back(rt: HostRuntime) {
     let bytes = many_bytes(&rt);

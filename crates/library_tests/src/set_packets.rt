@@ -1,4 +1,4 @@
-//! Packets of small sets, and folders that hold them.
+//! Packets of small sets, and folders with them.
 
 use crate::calls::name;
 use md5::{Digest, Md5};
@@ -9,7 +9,7 @@ use par2_spec::Fault;
 use std::process::Abort;
 use std::slice::from_ref;
 
-// The body of a Main of no file, of slice size 4.
+// The body of a Main without files, with slice size 4.
 const FALSE_MAIN: &[u8; 12] = b"\x04\0\0\0\0\0\0\0\0\0\0\0";
 
 pub const MAIN: &[u8; 16] = b"PAR 2.0\0Main\0\0\0\0";
@@ -44,7 +44,7 @@ pub fn record(rt: &(impl Abort + AllocGlobal), id: u8, name: &str, length: u64) 
     }
 }
 
-/// Puts the Main of one file after the bytes.
+/// Appends the Main of one file.
 pub fn add_main(rt: &(impl Abort + AllocGlobal), out: &mut Vec<u8>, s: u64, file: &FileRecord) {
     append_main(rt.alloc(), out, s, from_ref(file)).expect(rt, "memory");
 }
@@ -67,12 +67,12 @@ pub fn add_checksums(
     append_ifsc(rt.alloc(), out, id, file).expect(rt, "memory");
 }
 
-/// The identifier of a set of slice size `s` and one file.
+/// The set ID of slice size `s` and one file.
 pub fn id_of(s: u64, file: &FileRecord) -> [u8; 16] {
     main_id(s, from_ref(file))
 }
 
-/// The packets of a set of slice size `s` and one file.
+/// The packets of a set with slice size `s` and one file.
 pub fn parts_of(rt: &(impl Abort + AllocGlobal), s: u64, file: &FileRecord) -> Parts {
     let mut set = Parts {
         id: id_of(s, file),
@@ -86,12 +86,12 @@ pub fn parts_of(rt: &(impl Abort + AllocGlobal), s: u64, file: &FileRecord) -> P
     set
 }
 
-/// The packets of a set of slice size 4 and a file of this name and of so many bytes.
+/// The packets of a set with slice size 4 and a file of this name and size.
 pub fn parts_for(rt: &(impl Abort + AllocGlobal), name: &str, size: u64) -> Parts {
     parts_of(rt, 4, &record(rt, 7, name, size))
 }
 
-/// A packet of this type and body, by the format alone.
+/// A packet of this type and body, made by the format alone.
 pub fn packet(
     rt: &(impl Abort + AllocGlobal),
     id: &[u8; 16],
@@ -125,28 +125,28 @@ pub enum Part {
     Main,
     Description,
     Checksums,
-    /// A Main of no file, whose digest isn't the set's identifier.
+    /// A Main without files, whose digest isn't the set ID.
     FalseMain,
-    /// A description whose name is no text.
+    /// A File Description whose name isn't UTF-8.
     FalseDescription,
     /// A recovery slice of the set, by its exponent and its bytes.
     Recovery(u32, &'static [u8]),
-    /// One of another set.
+    /// A recovery slice of another set.
     Stranger(u32, &'static [u8]),
     Noise(&'static [u8]),
 }
 
-/// Files by their names and parts.
+/// Files, as their names and parts.
 pub type Files = &'static [(&'static str, &'static [Part])];
 
-// A description of the file of 8 bytes whose name is `\xff\xff`.
+// The body of a File Description of 8 bytes and the name `\xff\xff`.
 const FALSE_DESCRIPTION: &[u8; 60] = b"\
     \x07\x07\x07\x07\x07\x07\x07\x07\x07\x07\x07\x07\x07\x07\x07\x07\
     \x07\x07\x07\x07\x07\x07\x07\x07\x07\x07\x07\x07\x07\x07\x07\x07\
     \x07\x07\x07\x07\x07\x07\x07\x07\x07\x07\x07\x07\x07\x07\x07\x07\
     \x08\0\0\0\0\0\0\0\xff\xff\0\0";
 
-// Puts the bytes of a part after the others.
+// Appends the bytes of a part.
 fn add_part(rt: &(impl Abort + AllocGlobal), out: &mut Vec<u8>, set: &Parts, part: &Part) {
     match part {
         Part::Main => add(rt, out, &set.main),
@@ -164,15 +164,15 @@ fn add_part(rt: &(impl Abort + AllocGlobal), out: &mut Vec<u8>, set: &Parts, par
     }
 }
 
-/// Puts more bytes after the others.
+/// Appends bytes.
 pub fn add(rt: &(impl Abort + AllocGlobal), out: &mut Vec<u8>, bytes: &[u8]) {
     out.extend_from_slice(bytes).expect(rt, "memory");
 }
 
 /// Puts a file into the folder.
-pub fn put(rt: &(impl Abort + AllocGlobal), folder: &mut Folder, text: &str, bytes: Vec<u8>) {
+pub fn put(rt: &(impl Abort + AllocGlobal), folder: &mut Folder, string: &str, bytes: Vec<u8>) {
     folder.reserve(1).expect(rt, "memory");
-    let answer = folder.apply(&mut Change::Write(name(rt, text), Bytes::from(bytes)));
+    let answer = folder.apply(&mut Change::Write(name(rt, string), Bytes::from(bytes)));
     assert!(rt; answer.is_ok());
 }
 
@@ -181,27 +181,27 @@ pub fn put_parts(
     rt: &(impl Abort + AllocGlobal),
     folder: &mut Folder,
     set: &Parts,
-    text: &str,
+    string: &str,
     parts: &[Part],
 ) {
     let mut bytes = Vec::new(rt.alloc());
     for part in parts {
         add_part(rt, &mut bytes, set, part);
     }
-    put(rt, folder, text, bytes);
+    put(rt, folder, string, bytes);
 }
 
-/// A folder with these files, whose packets are of the set of a file of this name and of 8 bytes.
+/// A folder with these files. Their packets are of the set of a file of this name and 8 bytes.
 pub fn folder_for(rt: &(impl Abort + AllocGlobal), target: &str, files: Files) -> Folder {
     let set = parts_for(rt, target, 8);
     let mut folder = Folder::new(rt.alloc());
-    for (text, parts) in files {
-        put_parts(rt, &mut folder, &set, text, parts);
+    for (string, parts) in files {
+        put_parts(rt, &mut folder, &set, string, parts);
     }
     folder
 }
 
-/// The set of the base `m.par2`, or why there is none.
+/// The set of the base `m.par2`, or the fault that there is none.
 pub fn read_set<'a>(
     rt: &(impl Abort + AllocGlobal),
     folder: &'a Folder,

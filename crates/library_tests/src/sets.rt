@@ -1,4 +1,4 @@
-//! What is read of a folder whose base is `m.par2`.
+//! Sets of folders whose base is `m.par2`.
 
 use crate::set_packets::{
     DESCRIPTION, Files, MAIN, Part, Parts, add, folder_for, packet, pair, parts_for, parts_of, put,
@@ -10,12 +10,12 @@ use par2_sets::{ParSet, Target};
 use par2_spec::Fault;
 use std::process::Abort;
 
-// Why the set of the base is refused, or None where it reads.
+// The fault of the base's set, or None if it reads.
 fn fault_of(rt: &(impl Abort + AllocGlobal), folder: &Folder) -> Option<Fault> {
     read_set(rt, folder).err()
 }
 
-// Why the set of a base made of these parts is refused.
+// The fault of the set of a base made of these parts.
 fn fault_in(rt: &(impl Abort + AllocGlobal), set: &Parts, base: &[Part]) -> Option<Fault> {
     let mut folder = Folder::new(rt.alloc());
     put_parts(rt, &mut folder, set, "m.par2", base);
@@ -28,7 +28,7 @@ fn is_f(target: &Target) -> bool {
     is_sized && target.pairs() == [pair(1), pair(2)].as_slice()
 }
 
-// Whether the set has one file, of this name.
+// Whether the set has only a file of this name.
 fn is_of(read: &ParSet, name: &str) -> bool {
     match read.targets() {
         [target] => target.name().as_str() == name,
@@ -36,12 +36,12 @@ fn is_of(read: &ParSet, name: &str) -> bool {
     }
 }
 
-// Whether each file of the set is `f` but for its name.
+// Whether each file of the set is `f`, its name aside.
 fn is_of_f(read: &ParSet) -> bool {
     read.targets().iter().all(is_f)
 }
 
-// Whether the set has the identifier of that of `f`, and slices of 4 bytes.
+// Whether the set has the set ID of that of `f`, and slices of 4 bytes.
 fn is_headed(rt: &(impl Abort + AllocGlobal), read: &ParSet) -> bool {
     read.id() == parts_for(rt, "f", 8).id && read.slice_size() == 4
 }
@@ -139,7 +139,7 @@ fn files_beyond_the_profile(rt: HostRuntime) {
 // A Main of two files.
 const TWICE: &[u8; 44] = b"\x04\0\0\0\0\0\0\0\x02\0\0\0sixteen bytes id sixteen bytes i";
 
-// Descriptions of no more than a File ID and a name, which is one for both.
+// File Descriptions with a File ID and a name, which is the same in both.
 const NAMED: &[&[u8; 60]] = &[
     b"sixteen bytes id\
         \0\0\0\0\0\0\0\0\0\0\0\0\0\0\0\0\0\0\0\0\0\0\0\0\0\0\0\0\0\0\0\0\0\0\0\0\0\0\0\0name",
@@ -147,7 +147,7 @@ const NAMED: &[&[u8; 60]] = &[
         \0\0\0\0\0\0\0\0\0\0\0\0\0\0\0\0\0\0\0\0\0\0\0\0\0\0\0\0\0\0\0\0\0\0\0\0\0\0\0\0name",
 ];
 
-// A base of a Main of two files, and the descriptions that give both one name.
+// A base of a Main of two files and File Descriptions that give both the same name.
 fn twice_named(rt: &(impl Abort + AllocGlobal)) -> Vec<u8> {
     let id = Md5::digest(TWICE);
     let mut base = packet(rt, &id, MAIN, TWICE);
@@ -168,7 +168,7 @@ fn one_name_twice(rt: HostRuntime) {
     assert!(rt; fault_of(&rt, &folder) == Some(Fault::BadSet));
 }
 
-// Puts a file with a part of the set of a file of this name and size into the folder.
+// Adds a file with parts of the set of a file of this name and size to the folder.
 fn put_some(
     rt: &(impl Abort + AllocGlobal),
     folder: &mut Folder,

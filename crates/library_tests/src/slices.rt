@@ -2,8 +2,8 @@ ghost use Rattle.std.specs.Prelude.{◌≤◌, length};
 
 use crate::pairs::pairs_of;
 use par2_slices::{
-    Pair, Rolling, Spot, Wanted, crc32, find, find_among, is_slice_size, padded_crc32, padded_md5,
-    pair_of, slice_bytes, slice_count, slice_into,
+    Pair, Position, Rolling, Wanted, crc32, find, find_among, is_slice_size, padded_crc32,
+    padded_md5, pair_of, slice_bytes, slice_count, slice_into,
 };
 use std::process::Abort;
 
@@ -18,7 +18,7 @@ fn checksums(rt: HostRuntime) {
     assert!(rt; padded_md5(b"abcd", 4) == DIGEST);
 }
 
-// The checksum of the first slice, of `s` bytes, and that after one slide from `out` to `next`.
+// The checksum of the first slice of `s` bytes, and the checksum after sliding by one byte from `out` to `next`.
 fn rolled(rt: &(impl Abort + AllocGlobal), s: u64, bytes: &[u8], out: u8, next: u8) -> (u32, u32)
     requires size { 1 ≤ s }
     requires room { length bytes.now ≤ s }
@@ -74,20 +74,20 @@ fn rolling_over_padding(rt: HostRuntime) {
     assert!(rt; next == padded_crc32(b"b", 1 << 30) && next != whole);
 }
 
-// Where `find_among` finds the pairs in one text.
-fn spots_of(
+// The positions of the pairs by `find_among`, in one file.
+fn positions_of(
     rt: &(impl Abort + AllocGlobal),
     bytes: &[u8],
     s: u64,
     pairs: &[Pair],
-) -> Vec<Option<Spot>>
+) -> Vec<Option<Position>>
     requires { 1 ≤ s }
 {
     let wanted = Wanted::new(rt.alloc(), pairs).expect(rt, "memory");
     find_among(rt.alloc(), &[bytes], s, &wanted).expect(rt, "memory")
 }
 
-// The offsets at which `find` finds the pairs.
+// The offsets of the pairs by `find`.
 fn offsets_of(
     rt: &(impl Abort + AllocGlobal),
     bytes: &[u8],
@@ -100,7 +100,7 @@ fn offsets_of(
     find(rt.alloc(), bytes, s, &wanted).expect(rt, "memory")
 }
 
-// Whether `find_among` finds the pairs at these offsets of one text, for slices of at least one byte.
+// Whether `find_among` finds the pairs at these offsets, for slices of at least one byte.
 fn are_found(
     rt: &(impl Abort + AllocGlobal),
     bytes: &[u8],
@@ -111,23 +111,23 @@ fn are_found(
     if s == 0 {
         return false;
     }
-    let spots = spots_of(rt, bytes, s, pairs);
-    for (spot, offset) in spots.iter().zip(offsets.iter()) {
-        if !is_at(spot, *offset) {
+    let positions = positions_of(rt, bytes, s, pairs);
+    for (position, offset) in positions.iter().zip(offsets.iter()) {
+        if !is_at(position, *offset) {
             return false;
         }
     }
-    spots.len() == offsets.len()
+    positions.len() == offsets.len()
 }
 
-fn is_at(spot: &Option<Spot>, offset: Option<usize>) -> bool {
-    match spot {
-        Some(spot) => offset == Some(spot.offset),
+fn is_at(position: &Option<Position>, offset: Option<usize>) -> bool {
+    match position {
+        Some(position) => offset == Some(position.offset),
         None => offset.is_none(),
     }
 }
 
-// The pairs of these slices, of which those that are too long are left out.
+// The pairs of these slices, without those that are too long.
 fn pairs_with(rt: &(impl Abort + AllocGlobal), s: u64, slices: &[&[u8]]) -> Vec<Pair> {
     let mut pairs = Vec::new(rt.alloc());
     for slice in slices {
@@ -138,7 +138,7 @@ fn pairs_with(rt: &(impl Abort + AllocGlobal), s: u64, slices: &[&[u8]]) -> Vec<
     pairs
 }
 
-// A text, the size of a slice, slices and where each is found.
+// Bytes, the slice size, slices, and the position of each.
 type Row = (
     &'static [u8],
     u64,
@@ -168,19 +168,19 @@ const OFFSETS: &[Row] = &[
     ),
 ];
 
-// Whether both searches answer as the row says.
-fn is_as_told(rt: &(impl Abort + AllocGlobal), row: &Row) -> bool {
-    let (text, s, slices, offsets) = *row;
+// Whether both searches return what the row says.
+fn is_as_reported(rt: &(impl Abort + AllocGlobal), row: &Row) -> bool {
+    let (bytes, s, slices, offsets) = *row;
     let pairs = pairs_with(rt, s, slices);
     s != 0
-        && offsets_of(rt, text, s, &pairs).as_slice() == offsets
-        && are_found(rt, text, s, &pairs, offsets)
+        && offsets_of(rt, bytes, s, &pairs).as_slice() == offsets
+        && are_found(rt, bytes, s, &pairs, offsets)
 }
 
 #[test]
 fn offsets_of_slices(rt: HostRuntime) {
     for (k, row) in OFFSETS.iter().enumerate() {
-        assert!(rt; is_as_told(&rt, row), "row {k}");
+        assert!(rt; is_as_reported(&rt, row), "row {k}");
     }
 }
 
@@ -192,7 +192,6 @@ fn same_crc_with_another_md5(rt: HostRuntime) {
     assert!(rt; are_found(&rt, b"abcdebcde", 4, &pairs, &[None, Some(1), None]));
 }
 
-// The bytes of a window.
 fn window_at(bytes: &[u8], s: u64, offset: usize) -> &[u8]
     requires { offset ≤ length bytes.now }
     ensures { length result.now ≤ s }
@@ -205,7 +204,7 @@ fn window_at(bytes: &[u8], s: u64, offset: usize) -> &[u8]
     }
 }
 
-// The same answers by looking at each window anew.
+// The same result by comparing every window.
 fn plain_offset(bytes: &[u8], s: u64, pair: &Pair) -> Option<usize>
     requires { 1 ≤ s }
 {
@@ -221,7 +220,7 @@ fn plain_offset(bytes: &[u8], s: u64, pair: &Pair) -> Option<usize>
 // The offsets by the plain search.
 fn plain_offsets(
     rt: &(impl Abort + AllocGlobal),
-    text: &[u8],
+    bytes: &[u8],
     s: u64,
     pairs: &[Pair],
 ) -> Vec<Option<usize>>
@@ -230,21 +229,21 @@ fn plain_offsets(
     let mut offsets = Vec::new(rt.alloc());
     for pair in pairs {
         offsets
-            .push(plain_offset(text, s, pair))
+            .push(plain_offset(bytes, s, pair))
             .expect(rt, "memory");
     }
     offsets
 }
 
-// Whether the search gives each pair what the plain search gives it.
-fn is_as_plain(rt: &(impl Abort + AllocGlobal), text: &[u8], s: u64, pairs: &[Pair]) -> bool
+// Whether the search agrees with the plain search for each pair.
+fn is_as_plain(rt: &(impl Abort + AllocGlobal), bytes: &[u8], s: u64, pairs: &[Pair]) -> bool
     requires { 1 ≤ s }
 {
-    are_found(rt, text, s, pairs, &plain_offsets(rt, text, s, pairs))
+    are_found(rt, bytes, s, pairs, &plain_offsets(rt, bytes, s, pairs))
 }
 
 // The last ones have more windows than are compared side by side.
-const TEXTS: &[&[u8]] = &[
+const BUFFERS: &[&[u8]] = &[
     b"",
     b"a",
     b"\0\0\0\0\0",
@@ -256,12 +255,12 @@ const TEXTS: &[&[u8]] = &[
     b"abcdefghiabcdefghiabcdefghi",
 ];
 
-// Whether the slices of each text are found in this one as by the plain search.
-fn is_searched(rt: &(impl Abort + AllocGlobal), text: &[u8], s: u64) -> bool
+// Whether the slices of each file are found in this one as by the plain search.
+fn is_searched(rt: &(impl Abort + AllocGlobal), bytes: &[u8], s: u64) -> bool
     requires { 1 ≤ s }
 {
-    for other in TEXTS {
-        if !is_as_plain(rt, text, s, &pairs_of(rt, other, s)) {
+    for other in BUFFERS {
+        if !is_as_plain(rt, bytes, s, &pairs_of(rt, other, s)) {
             return false;
         }
     }
@@ -270,17 +269,17 @@ fn is_searched(rt: &(impl Abort + AllocGlobal), text: &[u8], s: u64) -> bool
 
 #[test]
 fn same_as_a_plain_search(rt: HostRuntime) {
-    for text in TEXTS {
+    for bytes in BUFFERS {
         for s in 1..10u64 {
-            assert!(rt; is_searched(&rt, text, s));
+            assert!(rt; is_searched(&rt, bytes, s));
         }
     }
 }
 
-// The pairs of every `step`th window, and before each, with `strangers`, one that has its CRC-32 and is nowhere.
+// The pairs of every `step`th window, each after a pair with the same CRC-32 that is nowhere, if `strangers` is set.
 fn window_pairs(
     rt: &(impl Abort + AllocGlobal),
-    text: &[u8],
+    bytes: &[u8],
     s: u64,
     step: usize,
     strangers: bool,
@@ -288,9 +287,9 @@ fn window_pairs(
     requires { 1 ≤ step }
 {
     let mut pairs = Vec::new(rt.alloc());
-    for offset in 0..text.len() {
+    for offset in 0..bytes.len() {
         if offset % step == 0 {
-            let (md5, crc) = pair_of(window_at(text, s, offset), s);
+            let (md5, crc) = pair_of(window_at(bytes, s, offset), s);
             if strangers {
                 pairs.push(([7; 16], crc)).expect(rt, "memory");
             }
@@ -301,21 +300,21 @@ fn window_pairs(
 }
 
 // Whether the windows are found as by the plain search, with strangers and without.
-fn are_searched(rt: &(impl Abort + AllocGlobal), text: &[u8], s: u64, step: usize) -> bool
+fn are_searched(rt: &(impl Abort + AllocGlobal), bytes: &[u8], s: u64, step: usize) -> bool
     requires size { 1 ≤ s }
     requires step { 1 ≤ step }
 {
-    is_as_plain(rt, text, s, &window_pairs(rt, text, s, step, false))
-        && is_as_plain(rt, text, s, &window_pairs(rt, text, s, step, true))
+    is_as_plain(rt, bytes, s, &window_pairs(rt, bytes, s, step, false))
+        && is_as_plain(rt, bytes, s, &window_pairs(rt, bytes, s, step, true))
 }
 
-// The windows overlap, and are wanted by more pairs than are compared side by side, down to the end of the file.
+// The windows overlap, and more pairs than are compared side by side have their CRC-32, up to the end of the file.
 #[test]
 fn windows_that_follow_each_other(rt: HostRuntime) {
-    for text in TEXTS {
+    for bytes in BUFFERS {
         for s in 1..10u64 {
             for step in 1..4usize {
-                assert!(rt; are_searched(&rt, text, s, step));
+                assert!(rt; are_searched(&rt, bytes, s, step));
             }
         }
     }

@@ -1,4 +1,4 @@
-//! Each call of the stores, with failures before and after their work.
+//! Each call of the stores, with failures before and after its work.
 
 ghost use Rattle.std.specs.Prelude.{◌<◌};
 
@@ -9,7 +9,7 @@ use crate::calls::{
 use par2_folder::{FolderStore, FuseStore, MemoryStore, ReadFault, StoreFault};
 use std::process::Abort;
 
-// Whether call k of eight has an answer, on a store with the file `a` and the journal `j` and after the calls before.
+// Whether call `k` of eight succeeds, on a store with the file `a` and the journal `j` and after the calls before.
 fn answers<S: FolderStore>(rt: &(impl Abort + AllocGlobal), store: &mut S, k: usize) -> bool {
     match k {
         0 => names_of(rt.alloc(), store).is_ok(),
@@ -23,13 +23,13 @@ fn answers<S: FolderStore>(rt: &(impl Abort + AllocGlobal), store: &mut S, k: us
     }
 }
 
-// Makes the eight calls. Whether the first `k` have an answer, and no other.
+// Makes the eight calls. Whether exactly the first `k` succeed.
 fn answers_first<S: FolderStore>(rt: &(impl Abort + AllocGlobal), store: &mut S, k: usize) -> bool {
-    let mut as_told = true;
+    let mut as_reported = true;
     for call in 0..8usize {
-        as_told &= answers(rt, store, call) == (call < k);
+        as_reported &= answers(rt, store, call) == (call < k);
     }
-    as_told
+    as_reported
 }
 
 // The store with the file `a` and the journal `j`.
@@ -43,30 +43,30 @@ fn started(rt: &(impl Abort + AllocGlobal)) -> MemoryStore {
 fn takes<S: FolderStore>(
     rt: &(impl Abort + AllocGlobal),
     store: &mut S,
-    text: &str,
+    string: &str,
     bytes: &[u8],
 ) -> bool {
-    write(store, &name(rt, text), bytes).is_ok()
+    write(store, &name(rt, string), bytes).is_ok()
 }
 
-// Whether the store gives these bytes for the name.
+// Whether the store returns these bytes for the name.
 fn reads(
     rt: &(impl Abort + AllocGlobal),
     store: &mut MemoryStore,
-    text: &str,
+    string: &str,
     wanted: &[u8],
 ) -> bool {
-    let bytes = read(rt.alloc(), store, &name(rt, text)).expect(rt, "bytes");
+    let bytes = read(rt.alloc(), store, &name(rt, string)).expect(rt, "bytes");
     bytes.as_slice() == wanted
 }
 
-// Why the store gives no bytes for the name.
+// The fault of reading the name.
 fn fault_reading(
     rt: &(impl Abort + AllocGlobal),
     store: &mut MemoryStore,
-    text: &str,
+    string: &str,
 ) -> Option<ReadFault> {
-    read(rt.alloc(), store, &name(rt, text)).err()
+    read(rt.alloc(), store, &name(rt, string)).err()
 }
 
 // Whether the store has this journal, or none.
@@ -102,7 +102,7 @@ fn store_in_memory(rt: HostRuntime) {
     assert!(rt; holds(&rt, &mut store, &["c"], Some(b"new")) && reads(&rt, &mut store, "c", b"3"));
 }
 
-// Whether the store keeps a journal of so many bytes.
+// Whether the store accepts a journal of this many bytes.
 fn keeps_journal(rt: &(impl Abort + AllocGlobal), store: &mut MemoryStore, bytes: usize) -> bool {
     let journal = vec![in rt.alloc(); b'j'; bytes].expect(rt, "memory");
     put_journal(store, &journal).is_ok() && has_journal(rt, store, Some(&journal))
@@ -124,7 +124,7 @@ fn renamed(
     rename(store, &name(rt, from), &name(rt, to))
 }
 
-// Names that can't be given in a store that has the files `a` and `b` alone.
+// Renames that are impossible in a store with only the files `a` and `b`.
 const IMPOSSIBLE: &[(&str, &str)] = &[("c", "d"), ("a", "b"), ("a", "a")];
 
 #[test]
@@ -142,7 +142,7 @@ fn impossible_calls_fail(rt: HostRuntime) {
     assert!(rt; holds(&rt, &mut store, &["a", "b"], Some(b"j")));
 }
 
-// The names and the journal that the store holds after so many of the calls.
+// The names and the journal of the store after this many calls.
 const AFTER: &[(&[&str], &[u8]); 9] = &[
     (&["a"], b"j"),
     (&["a"], b"j"),
@@ -163,8 +163,8 @@ fn without_fuse(store: FuseStore<MemoryStore>) -> MemoryStore {
     store.into_inner()
 }
 
-// Whether the calls before the k-th have an answer on a store whose fuse blows there, and whether it holds then what
-// it does after so many calls.
+// Whether the calls before the `k`-th succeed on a store whose fuse blows there, and whether it then holds what it does
+// after this many calls.
 fn is_fused(rt: &(impl Abort + AllocGlobal), k: usize, works: bool, done: usize) -> bool
     requires { done < 9 }
 {

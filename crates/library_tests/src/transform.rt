@@ -1,69 +1,69 @@
-//! Recovery slices by the transform beside the sum over the slices, product by product.
+//! Recovery slices by the transform against the sum over the slices, product by product.
 
 ghost use Rattle.std.specs.Prelude.{◌≡◌, ◌<◌, ◌*◌, length, IsTrue};
 ghost use Rattle.par2_spec.specs.Sums.{list_at, lists_of};
 ghost use Rattle.par2_transform.specs.Adding.{HaveWords};
 
-use crate::calls::{are_texts, lists_of, places_of};
+use crate::calls::{are_buffers, lists_of, places_of};
 use crate::field::field;
 use par2_gf16::Gf;
-use par2_transform::{Place, add_recovery_slices, whole_texts};
+use par2_transform::{Place, add_recovery_slices, whole_buffers};
 use recovery_calls::slices_added;
 use std::process::Abort;
 
-// Room for some columns of few outputs.
+// Memory for some columns of few outputs.
 const ROOM: usize = 100 * 1024;
 
-fn text_at(texts: &[Vec<u8>], i: usize) -> &[u8]
-    requires { i < length texts.now }
-    ensures { result.now ≡ list_at (lists_of texts.now) i }
+fn buffer_at(buffers: &[Vec<u8>], i: usize) -> &[u8]
+    requires { i < length buffers.now }
+    ensures { result.now ≡ list_at (lists_of buffers.now) i }
 {
-    &texts[i]
+    &buffers[i]
 }
 
-fn has_words(text: &[u8], words: usize) -> bool
-    ensures { IsTrue result → length text.now ≡ 2 * words }
+fn has_words(buffer: &[u8], words: usize) -> bool
+    ensures { IsTrue result → length buffer.now ≡ 2 * words }
 {
-    text.len() % 2 == 0 && text.len() / 2 == words
+    buffer.len() % 2 == 0 && buffer.len() / 2 == words
 }
 
-fn have_words(texts: &[Vec<u8>], words: usize) -> bool
-    ensures { IsTrue result → HaveWords words (lists_of texts.now) }
+fn have_words(buffers: &[Vec<u8>], words: usize) -> bool
+    ensures { IsTrue result → HaveWords words (lists_of buffers.now) }
 {
-    for t in 0..texts.len() {
-        if !has_words(text_at(texts, t), words) {
+    for t in 0..buffers.len() {
+        if !has_words(buffer_at(buffers, t), words) {
             return false;
         }
     }
     true
 }
 
-// Adds the recovery slices, and tells whether it could be asked for.
+// Adds the recovery slices, and returns whether the conditions for that hold.
 fn are_added(
     rt: &(impl Abort + AllocGlobal),
     gf: &Gf,
     slices: &[&[u8]],
     words: usize,
     first: u32,
-    texts: &mut [Vec<u8>],
+    buffers: &mut [Vec<u8>],
 ) -> bool {
-    if slices.len() > 32768 || texts.len() as u64 + first as u64 > 1 << 32 {
+    if slices.len() > 32768 || buffers.len() as u64 + first as u64 > 1 << 32 {
         return false;
     }
-    if !have_words(texts, words) {
+    if !have_words(buffers, words) {
         return false;
     }
-    add_recovery_slices(rt.alloc(), gf, slices, words, first, texts, ROOM).expect(rt, "memory");
+    add_recovery_slices(rt.alloc(), gf, slices, words, first, buffers, ROOM).expect(rt, "memory");
     true
 }
 
-// Byte k of text i.
+// Byte `k` of slice `i`.
 fn mixed(i: usize, k: usize) -> u8 {
     let number = i.wrapping_mul(31) ^ k.wrapping_mul(7919);
     number.wrapping_mul(40503).to_le_bytes()[1]
 }
 
-fn text(rt: &(impl Abort + AllocGlobal), i: usize, size: usize) -> Vec<u8> {
+fn buffer(rt: &(impl Abort + AllocGlobal), i: usize, size: usize) -> Vec<u8> {
     let mut bytes = vec![in rt.alloc(); 0u8; size].expect(rt, "memory");
     for (k, byte) in bytes.iter_mut().enumerate() {
         *byte = mixed(i, k);
@@ -71,7 +71,7 @@ fn text(rt: &(impl Abort + AllocGlobal), i: usize, size: usize) -> Vec<u8> {
     bytes
 }
 
-// Two of five slices are whole, one is absent, one ends within a word and one with a word.
+// Two of five slices are whole, one is absent, one ends within a word and one at the end of a word.
 fn size_of(i: usize, words: usize) -> usize {
     match i % 5 {
         2 => 0,
@@ -81,42 +81,42 @@ fn size_of(i: usize, words: usize) -> usize {
     }
 }
 
-fn texts_of_slices(rt: &(impl Abort + AllocGlobal), n: usize, words: usize) -> Vec<Vec<u8>> {
-    let mut texts = Vec::new(rt.alloc());
+fn buffers_of_slices(rt: &(impl Abort + AllocGlobal), n: usize, words: usize) -> Vec<Vec<u8>> {
+    let mut buffers = Vec::new(rt.alloc());
     for i in 0..n {
-        texts
-            .push(text(rt, i, size_of(i, words)))
+        buffers
+            .push(buffer(rt, i, size_of(i, words)))
             .expect(rt, "memory");
     }
-    texts
+    buffers
 }
 
-fn texts_before(rt: &(impl Abort + AllocGlobal), count: u32, words: usize) -> Vec<Vec<u8>> {
-    let mut texts = Vec::new(rt.alloc());
+fn buffers_before(rt: &(impl Abort + AllocGlobal), count: u32, words: usize) -> Vec<Vec<u8>> {
+    let mut buffers = Vec::new(rt.alloc());
     for t in 0..count {
-        texts
-            .push(text(rt, t as usize, words.saturating_mul(2)))
+        buffers
+            .push(buffer(rt, t as usize, words.saturating_mul(2)))
             .expect(rt, "memory");
     }
-    texts
+    buffers
 }
 
-fn views<'a>(rt: &(impl Abort + AllocGlobal), texts: &'a [Vec<u8>]) -> Vec<&'a [u8]> {
+fn views<'a>(rt: &(impl Abort + AllocGlobal), buffers: &'a [Vec<u8>]) -> Vec<&'a [u8]> {
     let mut views: Vec<&[u8]> = Vec::new(rt.alloc());
-    for text in texts {
-        views.push(text.as_slice()).expect(rt, "memory");
+    for buffer in buffers {
+        views.push(buffer.as_slice()).expect(rt, "memory");
     }
     views
 }
 
-fn word(text: &[u8], p: usize) -> u16 {
+fn word(buffer: &[u8], p: usize) -> u16 {
     let place = p.saturating_mul(2);
-    let low = text.get(place).copied().unwrap_or(0);
-    let high = text.get(place.saturating_add(1)).copied().unwrap_or(0);
+    let low = buffer.get(place).copied().unwrap_or(0);
+    let high = buffer.get(place.saturating_add(1)).copied().unwrap_or(0);
     u16::from_le_bytes([low, high])
 }
 
-// Word p of the recovery slice of exponent e.
+// Word `p` of the recovery slice of exponent `e`.
 fn plain_word(gf: &Gf, slices: &[&[u8]], e: u32, p: usize) -> u16 {
     let mut sum = 0;
     for (i, slice) in slices.iter().enumerate() {
@@ -152,7 +152,7 @@ fn each_is_added(
     true
 }
 
-// Whether so many texts of so many words become what they are and the recovery slices from an exponent on.
+// Whether the transform adds the recovery slices from an exponent on to this many buffers of this many words.
 fn are_sums(
     rt: &(impl Abort + AllocGlobal),
     gf: &Gf,
@@ -161,10 +161,10 @@ fn are_sums(
     first: u32,
     words: usize,
 ) -> bool {
-    let texts = texts_of_slices(rt, n, words);
-    let slices = views(rt, &texts);
-    let before = texts_before(rt, count, words);
-    let mut after = texts_before(rt, count, words);
+    let buffers = buffers_of_slices(rt, n, words);
+    let slices = views(rt, &buffers);
+    let before = buffers_before(rt, count, words);
+    let mut after = buffers_before(rt, count, words);
     are_added(rt, gf, &slices, words, first, after.as_mut_slice())
         && each_is_added(gf, &slices, first, &before, &after)
 }
@@ -178,7 +178,7 @@ fn are_sums_from_each(rt: &(impl Abort + AllocGlobal), gf: &Gf, n: usize, count:
     true
 }
 
-// The most slices and exponents of which each number is tried.
+// The largest numbers of slices and exponents of which every number is tried.
 const FEW: usize = 40;
 
 #[test]
@@ -194,7 +194,8 @@ fn few_slices_and_exponents(rt: HostRuntime) {
     }
 }
 
-// Slices, exponents, the first one, and words of each slice: several windows, blocks of outputs, and columns of words.
+// Slices, exponents, the first exponent, and words of a slice: several windows, blocks of outputs, and columns of
+// words.
 const SUMS: &[(usize, u32, u32, usize)] = &[
     (200, 33, 7, 3),
     (60, 17, 65530, 2),
@@ -210,48 +211,48 @@ fn windows_blocks_and_columns(rt: HostRuntime) {
     }
 }
 
-fn add_product(gf: &Gf, c: u16, slice: &[u8], text: &mut [u8]) {
-    if slice.len() == text.len() && text.len() % 2 == 0 {
-        gf.mul_add(c, slice, text);
+fn add_product(gf: &Gf, c: u16, slice: &[u8], buffer: &mut [u8]) {
+    if slice.len() == buffer.len() && buffer.len() % 2 == 0 {
+        gf.mul_add(c, slice, buffer);
     }
 }
 
-fn add_products(gf: &Gf, slices: &[&[u8]], e: u32, text: &mut [u8]) {
+fn add_products(gf: &Gf, slices: &[&[u8]], e: u32, buffer: &mut [u8]) {
     for (i, slice) in slices.iter().enumerate() {
         let constant = gf.constant(u32::try_from(i).unwrap_or(0)).unwrap_or(0);
-        add_product(gf, gf.pow(constant, e), slice, text);
+        add_product(gf, gf.pow(constant, e), slice, buffer);
     }
 }
 
-// Adds the recovery slices the direct way, a product for each slice and exponent.
-fn add_directly(gf: &Gf, slices: &[&[u8]], first: u32, texts: &mut [Vec<u8>]) {
+// Adds the recovery slices directly: one product for each slice and exponent.
+fn add_directly(gf: &Gf, slices: &[&[u8]], first: u32, buffers: &mut [Vec<u8>]) {
     let mut e = first;
-    for text in texts.iter_mut() {
-        add_products(gf, slices, e, text.as_mut_slice());
+    for buffer in buffers.iter_mut() {
+        add_products(gf, slices, e, buffer.as_mut_slice());
         e = e.wrapping_add(1);
     }
 }
 
-// Slices of which each seventh is absent.
+// Slices; every seventh is absent.
 fn whole_slices(rt: &(impl Abort + AllocGlobal), n: usize, size: usize) -> Vec<Vec<u8>> {
-    let mut texts = Vec::new(rt.alloc());
+    let mut buffers = Vec::new(rt.alloc());
     for i in 0..n {
         let size = if i % 7 == 3 { 0 } else { size };
-        texts.push(text(rt, i, size)).expect(rt, "memory");
+        buffers.push(buffer(rt, i, size)).expect(rt, "memory");
     }
-    texts
+    buffers
 }
 
 fn are_equal(some: &[Vec<u8>], others: &[Vec<u8>]) -> bool {
-    for (text, other) in some.iter().zip(others.iter()) {
-        if text.as_slice() != other.as_slice() {
+    for (buffer, other) in some.iter().zip(others.iter()) {
+        if buffer.as_slice() != other.as_slice() {
             return false;
         }
     }
     some.len() == others.len()
 }
 
-// Whether so many texts of so many words become what the direct way makes of them.
+// Whether the transform gives what the direct sum gives, for this many buffers of this many words.
 fn are_as_directly(
     rt: &(impl Abort + AllocGlobal),
     gf: &Gf,
@@ -260,16 +261,16 @@ fn are_as_directly(
     first: u32,
     words: usize,
 ) -> bool {
-    let texts = whole_slices(rt, n, words.saturating_mul(2));
-    let slices = views(rt, &texts);
-    let mut directly = texts_before(rt, count, words);
-    let mut together = texts_before(rt, count, words);
+    let buffers = whole_slices(rt, n, words.saturating_mul(2));
+    let slices = views(rt, &buffers);
+    let mut directly = buffers_before(rt, count, words);
+    let mut together = buffers_before(rt, count, words);
     add_directly(gf, &slices, first, directly.as_mut_slice());
     are_added(rt, gf, &slices, words, first, together.as_mut_slice())
         && are_equal(&together, &directly)
 }
 
-// The next of some numbers without a pattern.
+// The next of a sequence of pseudo-random numbers.
 pub(super) fn next_number(number: u64) -> u64 {
     number
         .wrapping_mul(6364136223846793005)
@@ -293,14 +294,14 @@ fn random_sizes(rt: HostRuntime) {
     }
 }
 
-// More exponents than so little room is for at a time.
+// More exponents than fit into this little memory at a time.
 #[test]
 fn groups_of_exponents(rt: HostRuntime) {
     let gf = field(&rt);
     assert!(rt; are_as_directly(&rt, &gf, 40, 600, 5, 3));
 }
 
-// The first exponent, the outputs, in which text and from which byte on, and the texts before and after.
+// The first exponent, the outputs (the buffer and the first byte in it), and the buffers before and after.
 type Added = (
     u32,
     &'static [(usize, usize)],
@@ -328,32 +329,32 @@ const ADDED: &[Added] = &[
     (7, &[], &[b"<>"], &[b"<>"]),
 ];
 
-// The texts, to which the recovery slices of `abcd` and `efgh` are added.
+// The buffers after the recovery slices of `abcd` and `efgh` were added.
 fn added(rt: &(impl Abort + AllocGlobal), row: &Added) -> Vec<Vec<u8>> {
     let (first, pairs, before, _) = row;
-    let mut texts = lists_of(rt, before);
+    let mut buffers = lists_of(rt, before);
     let places = places_of(rt, pairs);
     let slices: [&[u8]; 2] = [b"abcd", b"efgh"];
-    let all = texts.as_mut_slice();
+    let all = buffers.as_mut_slice();
     let answer = slices_added(rt.alloc(), &field(rt), &slices, *first, all, &places, 2);
     answer.expect(rt, "memory").expect(rt, "outputs");
-    texts
+    buffers
 }
 
 #[test]
 fn recovery_slices_are_added_at_their_places(rt: HostRuntime) {
     for (k, row) in ADDED.iter().enumerate() {
-        assert!(rt; are_texts(&added(&rt, row), row.3), "row {k}");
+        assert!(rt; are_buffers(&added(&rt, row), row.3), "row {k}");
     }
 }
 
-fn is_whole(place: &Place, text: usize) -> bool {
-    place.text == text && place.at == 0
+fn is_whole(place: &Place, buffer: usize) -> bool {
+    place.buffer == buffer && place.at == 0
 }
 
 #[test]
-fn places_of_whole_texts(rt: HostRuntime) {
-    let places = whole_texts(rt.alloc(), 3).expect(&rt, "memory");
+fn places_of_whole_buffers(rt: HostRuntime) {
+    let places = whole_buffers(rt.alloc(), 3).expect(&rt, "memory");
     assert!(rt;
         places.len() == 3
             && places

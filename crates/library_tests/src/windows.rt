@@ -2,22 +2,22 @@ use crate::pairs::pairs_of;
 use par2_slices::{Pair, found_windows};
 use std::process::Abort;
 
-// The windows in which the slices of these pairs, of four bytes each, are found.
+// The windows that hold the slices of these pairs, of four bytes each.
 fn found_in<'a>(
     rt: &(impl Abort + AllocGlobal),
-    texts: &[&'a [u8]],
+    buffers: &[&'a [u8]],
     pairs: &[Pair],
 ) -> Vec<Option<&'a [u8]>> {
-    found_windows(rt.alloc(), texts, 4, pairs).expect(rt, "memory")
+    found_windows(rt.alloc(), buffers, 4, pairs).expect(rt, "memory")
 }
 
 // Whether the slices of the bytes are found as the row says.
 fn is_found(rt: &(impl Abort + AllocGlobal), row: &Row) -> bool {
-    let (bytes, texts, windows) = *row;
-    found_in(rt, texts, &pairs_of(rt, bytes, 4)).as_slice() == windows
+    let (bytes, buffers, windows) = *row;
+    found_in(rt, buffers, &pairs_of(rt, bytes, 4)).as_slice() == windows
 }
 
-// Bytes, texts, and the window in which each slice of the bytes is found.
+// Bytes, the contents of files, and the window in which each slice of the bytes is found.
 type Row = (
     &'static [u8],
     &'static [&'static [u8]],
@@ -31,7 +31,7 @@ const ROWS: &[Row] = &[
         &[b"Xabcdefgh"],
         &[Some(b"abcd"), Some(b"efgh")],
     ),
-    // The zeros after the end of a text are left out, those in it are not.
+    // Zeros after the end of a file are left out, zeros in it are not.
     (b"abcdef", &[b"abcdef"], &[Some(b"abcd"), Some(b"ef")]),
     (
         b"abcdef",
@@ -44,13 +44,13 @@ const ROWS: &[Row] = &[
         &[b"xaaaa"],
         &[Some(b"aaaa"), None, Some(b"aaaa")],
     ),
-    // The first text has the slice after the end, the second one as it stands.
+    // The first file has the slice as its padded end, the second as it is.
     (
         b"ab\0\0efghijklmnop",
         &[b"xxab", b"ab\0\0efgh", b"efghijkl"],
         &[Some(b"ab"), Some(b"efgh"), Some(b"ijkl"), None],
     ),
-    // No text, and no pair.
+    // No file, and no pair.
     (b"abcde", &[], &[None, None]),
     (b"", &[b"abcd", b""], &[]),
 ];

@@ -1,4 +1,5 @@
-//! `par2` in the current directory.
+//! The program `par2`: runs in the current directory, on the disk and the standard writers. Everything else is in
+//! `par2_tool::start`, which is proved over any store and any two writers.
 #![tactic(auto)]
 
 use par2_disk::DiskStore;
@@ -7,6 +8,8 @@ use par2_tool::start;
 use std::env;
 use std::process::ExitCode;
 
+// Passes the arguments, the current directory and the standard writers to `start`, and exits with the status that it
+// returns. `rt` is the runtime, through which all system calls are made.
 fn main(rt: HostRuntime) -> ExitCode {
     let mut out = Printer::new(rt.stdout());
     let mut err = Printer::new(rt.stderr());

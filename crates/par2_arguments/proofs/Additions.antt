@@ -1,4 +1,4 @@
--- What a command has once an argument or a subcommand was added.
+-- A command after an argument or a subcommand was added.
 use Rattle.par2_arguments.proofs.Common.{arith, refl, ◌≡◌, List, [], ◌∷◌, ◌++◌, App, Rule, Shape, AddsArg, AddsSubcommand, with_rule, with_subcommand, Command, IsApp, app_with, start_app, IsArg}
 use Rattle.clap.specs.declared.builder.arg.Arg.{Arg}
 

@@ -1,4 +1,4 @@
--- The names that proofs of this crate take from elsewhere.
+-- Names from elsewhere that the proofs of this crate use.
 
 pub use Rattle.std.proofs.Common.{Bool, List, None, Option, Result, Some, [], ap, arith, codes, false, lt-ltb, ltb-true, map, nat_lt, refl, rules, string_bytes, subst, sym, take, true, true≢false, ℕ, ◌&&◌, ◌++◌, ◌^◌, ◌∙◌, ◌∷◌, ◌≡◌}
 pub use Rattle.std.proofs.lemmas.List.{map_more, take_all}
@@ -15,4 +15,4 @@ pub use Rattle.clap.specs.declared.builder.command.Command.{Command}
 pub use Rattle.par2_spec.specs.Commands.{Create, Do, Repair, Undo}
 pub use Rattle.par2_arguments.specs.Definition.{IsApp, IsArg, app_with, plain_app, rule_for, shape_for}
 unfoldable pub use Rattle.par2_arguments.specs.Definition.{create_app, par2_app, purge_app, repair_app, start_app, verify_app}
-pub use Rattle.par2_arguments.specs.Meanings.{asked_by, flag_of, meaning, number, number_of, text_of, texts_of}
+pub use Rattle.par2_arguments.specs.Meanings.{requested_by, flag_of, meaning, number, number_of, value_of, values_of}

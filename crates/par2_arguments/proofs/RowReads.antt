@@ -1,18 +1,18 @@
--- What the getters read of matches, by the rows.
-use Rattle.par2_arguments.proofs.Common.{arith, ◌≡◌, ℕ, Bool, true, false, nat_lt, refl, List, [], ◌∷◌, map, Option, Some, None, Result, lt-ltb, ltb-true, codes, unwrap_or, option_map, MatchOption, list_all, Bor, bytes_eq, AllDigits, ParsesUnsigned, ReadsOne, Text, first_value, matched_of, one_text, raw_values, rows_of, flag_of, number, number_of, text_of, texts_of}
+-- What the getters return, by the rows of the matches.
+use Rattle.par2_arguments.proofs.Common.{arith, ◌≡◌, ℕ, Bool, true, false, nat_lt, refl, List, [], ◌∷◌, map, Option, Some, None, Result, lt-ltb, ltb-true, codes, unwrap_or, option_map, MatchOption, list_all, Bor, bytes_eq, AllDigits, ParsesUnsigned, ReadsOne, Text, first_value, matched_of, one_text, raw_values, rows_of, flag_of, number, number_of, value_of, values_of}
 use Rattle.std.specs.Char.{digit_value}
 use Rattle.std.proofs.lemmas.Bool.{and_parts}
 use Rattle.clap.specs.declared.parser.matches.Found.{Found}
 use Rattle.clap.proofs.WalkLemmas.{first_value-rows, one_text-rows, raw_values-rows}
 
-pub text_read : (f : Found) (id : Text) (o : Option (Bor Text)) (d : Bor Text) → option_map (λ s. s.now) o ≡ first_value f id
-    → d.now ≡ [] → (unwrap_or o d).now ≡ text_of id (rows_of f)
-text_read f id o d got none = grind (arith, first_value-rows)
+pub bytes_read : (f : Found) (id : Text) (o : Option (Bor Text)) (d : Bor Text) → option_map (λ s. s.now) o ≡ first_value f id
+    → d.now ≡ [] → (unwrap_or o d).now ≡ value_of id (rows_of f)
+bytes_read f id o d got none = grind (arith, first_value-rows)
 
-pub texts_read : (f : Found) (id : Text) (o : Option (Bor (List (Bor Text)))) (d : Bor (List (Bor Text)))
+pub buffers_read : (f : Found) (id : Text) (o : Option (Bor (List (Bor Text)))) (d : Bor (List (Bor Text)))
     → option_map (λ s. map (λ v. v.now) s.now) o ≡ option_map raw_values (matched_of f id) → d.now ≡ []
-    → map (λ v. v.now) (unwrap_or o d).now ≡ texts_of id (rows_of f)
-texts_read f id o d got none = grind (arith, raw_values-rows)
+    → map (λ v. v.now) (unwrap_or o d).now ≡ values_of id (rows_of f)
+buffers_read f id o d got none = grind (arith, raw_values-rows)
 
 pub flag_read : (f : Found) (id : Text) (o : Option (Bor Text)) (is : Bool) → MatchOption o (is ≡ false) (λ s. is ≡ bytes_eq s.now (codes "true")) → option_map (λ s. s.now) o ≡ first_value f id
     → is ≡ flag_of id (rows_of f)

@@ -1,4 +1,4 @@
--- The subcommand that a parse met is one of the six.
+-- The subcommand that a parse found is one of the six.
 use Rattle.par2_arguments.proofs.Common.{arith, ◌≡◌, ◌∙◌, Bool, true, true≢false, refl, ap, sym, subst, List, [], Option, Some, None, is_some, option_map, unwrap_or, Box, find, list_all, App, HasMatchesOf, Row, Shape, Text, app_of, built, fault_of, is_simple, is_simple_and_free, subcommand_name_of, subcommand_of, subcommand_rows, subcommand_rows_of, argument_words, entered, label_of, names_of, rows_at, Command, meaning, clap_on_literals, create_app, par2_app, purge_app, repair_app, start_app, verify_app}
 use Rattle.std.specs.Box.{box_value}
 use Rattle.std.proofs.lemmas.Option.{none-some}
@@ -57,7 +57,7 @@ met m words n rows has name_is rows_are = sym (has simple).1 ∙ named (out-ArgM
 pub unmet : (m : ArgMatches) (words : List Text) → HasMatchesOf par2_app words m → None ≡ subcommand_name_of m → is_some (subcommand_of par2_app words) ≡ true → ⊥
 unmet m words has none there = grind (arith, simple, true≢false, none-some)
 
--- where the parse gave matches, no kind of fault was due
+-- if the parse returned matches, there was no fault
 pub faultless : (command : Command) (words : List Text) → app_of command ≡ par2_app
     → (is_simple_and_free (app_of command) ≡ true → fault_of (app_of command) words ≡ []) → fault_of par2_app words ≡ []
 faultless command words app gives =

@@ -1,5 +1,5 @@
--- Words that are written out, and what they ask for by clap's definition.
-use Rattle.par2_arguments.proofs.Common.{◌≡◌, refl, true, false, codes, List, [], ◌∷◌, Some, Text, fault_of, takes, Do, Create, Repair, Undo, asked_by, clap_on_literals, create_app, par2_app, purge_app, repair_app, start_app, verify_app}
+-- Examples of command lines, and the actions that they request by clap's definition.
+use Rattle.par2_arguments.proofs.Common.{◌≡◌, refl, true, false, codes, List, [], ◌∷◌, Some, Text, fault_of, takes, Do, Create, Repair, Undo, requested_by, clap_on_literals, create_app, par2_app, purge_app, repair_app, start_app, verify_app}
 use Rattle.clap.specs.declared.error.kind.ErrorKind.TheVariants as kind
 
 abbrev create_words : List Text
@@ -9,7 +9,7 @@ pub create_taken : takes par2_app create_words ≡ true
 unfolding clap_on_literals create_app par2_app purge_app repair_app start_app verify_app
 create_taken = refl
 
-pub create_asked : asked_by create_words ≡ Some (Do (Create (record {
+pub create_requested : requested_by create_words ≡ Some (Do (Create (record {
   base = codes "t.par2";
   slice = 4;
   count = 0;
@@ -18,17 +18,17 @@ pub create_asked : asked_by create_words ≡ Some (Do (Create (record {
   inputs = codes "a" ∷ [];
 })))
 unfolding clap_on_literals create_app par2_app purge_app repair_app start_app verify_app
-create_asked = refl
+create_requested = refl
 
--- options may stand between the names
-pub repair_asked : asked_by (codes "repair" ∷ codes "t.par2" ∷ codes "x" ∷ codes "-p" ∷ codes "y" ∷ [])
+-- options may come between the names
+pub repair_requested : requested_by (codes "repair" ∷ codes "t.par2" ∷ codes "x" ∷ codes "-p" ∷ codes "y" ∷ [])
     ≡ Some (Do (Repair (codes "t.par2") (codes "x" ∷ codes "y" ∷ []) true))
 unfolding clap_on_literals create_app par2_app purge_app repair_app start_app verify_app
-repair_asked = refl
+repair_requested = refl
 
-pub undo_asked : asked_by (codes "undo" ∷ []) ≡ Some Undo
+pub undo_requested : requested_by (codes "undo" ∷ []) ≡ Some Undo
 unfolding clap_on_literals create_app par2_app purge_app repair_app start_app verify_app
-undo_asked = refl
+undo_requested = refl
 
 pub repeat_refused : fault_of par2_app (codes "create" ∷ codes "-s4" ∷ codes "-s8" ∷ codes "-c0" ∷ codes "t.par2" ∷ []) ≡ kind.ArgumentConflict ∷ []
 unfolding clap_on_literals create_app par2_app purge_app repair_app start_app verify_app

@@ -1,4 +1,4 @@
--- What words mean by clap's matches.
+-- The action that words request, by clap's matches.
 use Rattle.std.specs.Prelude.{◌&&◌, ℕ, ◌^◌, Bool, false, List, [], Option, Some, None, codes, unwrap_or, option_and_then, if◌then◌else◌, nat_lt}
 use Rattle.std.specs.Option.{option_map_or}
 use Rattle.std.specs.Str.{bytes_eq}
@@ -8,45 +8,52 @@ use Rattle.clap.specs.ValueTests.{is_numeral}
 use Rattle.par2_spec.specs.Commands.{Action, Do, Undo, Redo, Create, Verify, Repair, Purge}
 use Rattle.par2_arguments.specs.Definition.{par2_app}
 
--- the number of k bits that a text writes in decimal; 0 where it writes none, which clap's parsers of numbers rule out
+-- the number of k bits that is written in decimal, or 0 if it isn't one, which clap's parsers of numbers rule out
 abbrev pub number : ℕ → Text → ℕ
-number k text =
-    let digits = without_leading_plus text in
+number k bytes =
+    let digits = without_leading_plus bytes in
     if is_numeral digits && nat_lt (digits_value 10 digits) (2 ^ k) then digits_value 10 digits else 0
 
+-- the number of an option, or 0 without one
 abbrev pub number_of : ℕ → Text → List Row → ℕ
 number_of k id rows = option_map_or (number k) (one_of id rows) 0
 
-abbrev pub text_of : Text → List Row → Text
-text_of id rows = unwrap_or (first_of id rows) []
+-- the value of an argument, or empty without one
+abbrev pub value_of : Text → List Row → Text
+value_of id rows = unwrap_or (first_of id rows) []
 
-abbrev pub texts_of : Text → List Row → List Text
-texts_of id rows = unwrap_or (all_of id rows) []
+-- the values of an argument that may be given several times
+abbrev pub values_of : Text → List Row → List Text
+values_of id rows = unwrap_or (all_of id rows) []
 
--- a flag that was used has the value `true`
+-- whether a flag was used: its value is `true`
 abbrev pub flag_of : Text → List Row → Bool
-flag_of id rows = option_map_or (λ text. bytes_eq text (codes "true")) (first_of id rows) false
+flag_of id rows = option_map_or (λ bytes. bytes_eq bytes (codes "true")) (first_of id rows) false
 
+-- the action of `create`
 abbrev pub create_meaning : List Row → Action
 create_meaning rows = Do (Create (record {
-  base = text_of (codes "base") rows;
+  base = value_of (codes "base") rows;
   slice = number_of 64 (codes "slice") rows;
   count = number_of 32 (codes "count") rows;
   first = number_of 32 (codes "first") rows;
   overwrite = flag_of (codes "overwrite") rows;
-  inputs = texts_of (codes "files") rows;
+  inputs = values_of (codes "files") rows;
 }))
 
+-- the action of `verify`
 abbrev pub verify_meaning : List Row → Action
-verify_meaning rows = Do (Verify (text_of (codes "base") rows) (texts_of (codes "files") rows))
+verify_meaning rows = Do (Verify (value_of (codes "base") rows) (values_of (codes "files") rows))
 
+-- the action of `repair`
 abbrev pub repair_meaning : List Row → Action
-repair_meaning rows = Do (Repair (text_of (codes "base") rows) (texts_of (codes "files") rows) (flag_of (codes "purge") rows))
+repair_meaning rows = Do (Repair (value_of (codes "base") rows) (values_of (codes "files") rows) (flag_of (codes "purge") rows))
 
+-- the action of `purge`
 abbrev pub purge_meaning : List Row → Action
-purge_meaning rows = Do (Purge (text_of (codes "base") rows))
+purge_meaning rows = Do (Purge (value_of (codes "base") rows))
 
--- what a subcommand's name and matches ask for
+-- the action of a subcommand's name and its matches
 abbrev pub meaning : Text × List Row → Option Action
 meaning p = if bytes_eq p.0 (codes "create") then Some (create_meaning p.1)
     else (if bytes_eq p.0 (codes "verify") then Some (verify_meaning p.1)
@@ -55,6 +62,6 @@ meaning p = if bytes_eq p.0 (codes "create") then Some (create_meaning p.1)
     else (if bytes_eq p.0 (codes "undo") then Some Undo
     else (if bytes_eq p.0 (codes "redo") then Some Redo else None)))))
 
--- what the words ask for by clap's matches
-abbrev pub asked_by : List Text → Option Action
-asked_by words = option_and_then meaning (subcommand_of par2_app words)
+-- the action that the words request
+abbrev pub requested_by : List Text → Option Action
+requested_by words = option_and_then meaning (subcommand_of par2_app words)

@@ -1,4 +1,4 @@
--- What reading words answers.
+-- The result of reading words.
 use Rattle.std.specs.Prelude.{◌≡◌, Result, IfErr, IfOk}
 use Rattle.par2_spec.specs.Commands.{Action}
 use Rattle.par2_spec.specs.Views.{command_of}
@@ -9,11 +9,11 @@ use Rattle.par2_spec.specs.declared.Fault.TheVariants.{Memory}
 use Rattle.par2_arguments.specs.declared.read.WordsFault.{WordsFault}
 use Rattle.par2_arguments.specs.declared.read.WordsFault.TheVariants as unread
 
--- what is reported of words that aren't read
+-- the failure that is reported of words that aren't read
 abbrev pub unread_as : WordsFault → Failure
 unread_as unread.Arguments = failure.Arguments
 unread_as unread.Memory = failure.Refused Memory
 
--- the command asks for the action, or memory ran out
+-- the command that was read means this action; it isn't read only if memory ran out
 abbrev pub IsMeant : Result Command WordsFault → Action → Type 0
 IsMeant result action = IfOk result (λ command. command_of command ≡ action) × IfErr result (λ fault. fault ≡ unread.Memory)

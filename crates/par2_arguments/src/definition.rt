@@ -1,4 +1,5 @@
-//! The command line of `par2`.
+//! The definition of the command line for clap. `par2_command` builds it from the table `SUBCOMMANDS`: `command_line`
+//! adds to `start_command` one `command_of` per row, which has one `arg_of` per argument. `read_words` parses with it.
 ghost use Rattle.std.specs.Prelude.{map};
 ghost use Rattle.clap.specs.Words.{App, with_subcommand};
 ghost use Rattle.par2_arguments.specs.Definition.{Defines, IsApp, IsArg, app_with, number_rule, par2_app, plain_app, rule_for, shape_for, start_app};
@@ -30,7 +31,7 @@ const SUBCOMMANDS: [(&str, &[Argument]); 6] = [
     ("redo", &[]),
 ];
 
-// A number behind a letter.
+// An option with a number, such as `-s4096`, of the name `id`, by which the number is found later.
 fn number_arg<'a>(alloc: Global, id: &'a str, short: char, parser: ValueParser<'a>) -> Arg<'a>
     ensures { IsArg result (number_rule id.entry.now short parser.entry) }
 {
@@ -40,6 +41,7 @@ fn number_arg<'a>(alloc: Global, id: &'a str, short: char, parser: ValueParser<'
         .value_parser(parser)
 }
 
+// The definition of an argument for clap, by the table's name for it (`rule_for`).
 fn arg_of<'a>(alloc: Global, argument: &Argument) -> Arg<'a>
     ensures { IsArg result (rule_for argument.now) }
 {
@@ -60,6 +62,7 @@ fn arg_of<'a>(alloc: Global, argument: &Argument) -> Arg<'a>
     }
 }
 
+// The definition of a subcommand with these arguments: one row of the table. Err if memory runs out.
 fn command_of<'a>(alloc: Global, name: &'a str, arguments: &[Argument]) -> Result<Command<'a>>
     ensures { Defines result (plain_app name.entry.now (map rule_for arguments.now)) }
 {
@@ -70,8 +73,8 @@ fn command_of<'a>(alloc: Global, name: &'a str, arguments: &[Argument]) -> Resul
     Ok(command)
 }
 
-// The command with a subcommand, as long as there is memory. By a `match`, since a `?` is dear to prove where a command
-// is held.
+// Adds a subcommand to a command line, unless memory ran out for it. `Defines`: the result is this definition. For the
+// prover: with a `match`, because `?` is slow to prove while a command is held.
 fn with_command<'a>(command: Command<'a>, subcommand: Result<Command<'a>>) -> Result<Command<'a>>
     ensures { (app other : App) → IsApp command.entry app → Defines subcommand.entry other
         → Defines result (with_subcommand app other.top) }
@@ -82,6 +85,8 @@ fn with_command<'a>(command: Command<'a>, subcommand: Result<Command<'a>>) -> Re
     }
 }
 
+// The command line before any subcommand is added: its words don't begin with the program's name, and there is no
+// `help`.
 fn start_command<'a>(alloc: Global) -> Command<'a>
     ensures { IsApp result start_app }
 {
@@ -90,6 +95,7 @@ fn start_command<'a>(alloc: Global) -> Command<'a>
         .disable_help_subcommand(true)
 }
 
+// The command line with these subcommands, given as rows of name and arguments. Err if memory runs out.
 fn command_line<'a>(alloc: Global, subcommands: &[(&'a str, &[Argument])]) -> Result<Command<'a>>
     ensures { Defines result (app_with (map shape_for subcommands.now)) }
 {
@@ -100,7 +106,7 @@ fn command_line<'a>(alloc: Global, subcommands: &[(&'a str, &[Argument])]) -> Re
     Ok(command)
 }
 
-/// The command line with its six commands, as clap takes it.
+/// The program's command line, with its six subcommands, for `read_words`. Err if memory runs out.
 pub(crate) fn par2_command<'a>(alloc: Global) -> Result<Command<'a>>
     ensures { Defines result par2_app }
 {

@@ -1,4 +1,5 @@
-//! The words of a command line, read by clap.
+//! Reads the words of a command line with clap. Only the program around it uses this crate. It must not know stores,
+//! sessions and what commands do.
 #![tactic(auto)]
 
 mod definition;

@@ -1,10 +1,12 @@
-//! What the words ask for.
+//! The command that words request. `read_words` lets clap match them, and `named` reads the matches of the subcommand
+//! by `create_of`, `verify_of`, `repair_of` or `purge_of`. Contracts see matches as rows (`rows_of`): each is the
+//! values of one argument.
 ghost use Rattle.std.specs.Prelude.{◌≡◌, ◌⊎◌, [], IfOk, IfErr, Some, None, true, codes, map, is_some, string_bytes, unwrap_or};
 ghost use Rattle.clap.specs.Words.{fault_of, found_of, rows_of, kind_of, subcommand_of, takes};
 ghost use Rattle.par2_spec.specs.Views.{command_of};
 ghost use Rattle.par2_arguments.specs.Definition.{par2_app};
 ghost use Rattle.par2_arguments.specs.Refusals.{IsMeant};
-ghost use Rattle.par2_arguments.specs.Meanings.{asked_by, meaning, number_of, text_of, texts_of, flag_of, create_meaning, verify_meaning, repair_meaning, purge_meaning};
+ghost use Rattle.par2_arguments.specs.Meanings.{requested_by, meaning, number_of, value_of, values_of, flag_of, create_meaning, verify_meaning, repair_meaning, purge_meaning};
 
 use crate::definition::par2_command;
 use clap::ArgMatches;
@@ -13,10 +15,10 @@ use par2_spec::{Action, Command, CreateArgs, Failure, Fault, Result};
 use std::alloc::{AllocError, Global};
 use thiserror::Error;
 
-/// Why words are no command.
+/// Why words are not a command.
 #[derive(Debug, Error, Clone, Copy, PartialEq, Eq, Drop)]
 pub enum WordsFault {
-    /// What is shown is how the program is called.
+    /// Displayed as the usage line.
     #[error("usage: par2 create -sN -cN [-fN] [--overwrite] BASE.par2 FILE.. | verify BASE [FILE..] | repair [-p] BASE [FILE..] | purge BASE | undo | redo")]
     Arguments,
     #[error("out of memory")]
@@ -28,6 +30,7 @@ impl From<AllocError> for WordsFault {
 
     ghost from_gives = { λ _ e. e ≡ Memory };
 
+    // For `?` after an allocation.
     fn from(_error: AllocError) -> WordsFault {
         WordsFault::Memory
     }
@@ -39,6 +42,7 @@ impl From<WordsFault> for Failure {
 
     ghost from_gives = { λ fault failure. failure ≡ unread_as fault };
 
+    // The failure that a run prints if its words aren't read.
     fn from(fault: WordsFault) -> Self {
         match fault {
             WordsFault::Arguments => Failure::Arguments,
@@ -47,43 +51,50 @@ impl From<WordsFault> for Failure {
     }
 }
 
+// The first name of a command, copied from the matches. clap requires it of each command that has one.
 fn base_of(alloc: Global, matches: &ArgMatches<'_>) -> Result<String>
     ensures { IfOk result (λ s. string_bytes s
-        ≡ text_of (codes "base") (rows_of (found_of matches.now))) }
+        ≡ value_of (codes "base") (rows_of (found_of matches.now))) }
 {
     String::from_str(alloc, matches.get_str("base").unwrap_or(""))
 }
 
+// The names after the first, copied from the matches in order: the inputs of a create, or further files to search.
 fn files_of(alloc: Global, matches: &ArgMatches<'_>) -> Result<Vec<String>>
     ensures { IfOk result (λ v. map string_bytes v.items
-        ≡ texts_of (codes "files") (rows_of (found_of matches.now))) }
+        ≡ values_of (codes "files") (rows_of (found_of matches.now))) }
 {
-    let texts = matches.get_strs("files").unwrap_or(&[]);
+    let buffers = matches.get_strs("files").unwrap_or(&[]);
     let mut files = Vec::new(alloc);
-    for text in texts {
-        files.push(String::from_str(alloc, text)?)?;
+    for bytes in buffers {
+        files.push(String::from_str(alloc, bytes)?)?;
     }
     Ok(files)
 }
 
+// Whether the flag `id` was given: clap gives it the value `true` then.
 fn has_flag(matches: &ArgMatches<'_>, id: &str) -> bool
     ensures { result ≡ flag_of id.now (rows_of (found_of matches.now)) }
 {
-    matches.get_str(id).is_some_and(|text| text == "true")
+    matches.get_str(id).is_some_and(|bytes| bytes == "true")
 }
 
+// The slice size of a create, `-sN`, in bytes. clap requires it, so the 0 isn't used.
 fn slice_size_of(matches: &ArgMatches<'_>) -> u64
     ensures { result ≡ number_of 64 (codes "slice") (rows_of (found_of matches.now)) }
 {
     matches.get_one::<u64>("slice").unwrap_or(0)
 }
 
+// The number of the option `id` of a create: the count of recovery slices, `-cN`, or the first exponent, `-fN`, which
+// is 0 if it isn't given.
 fn count_of(matches: &ArgMatches<'_>, id: &str) -> u32
     ensures { result ≡ number_of 32 id.now (rows_of (found_of matches.now)) }
 {
     matches.get_one::<u32>(id).unwrap_or(0)
 }
 
+// The create that the matches of its subcommand request. `IsMeant`: exactly that, or Memory.
 fn create_of(alloc: Global, matches: &ArgMatches<'_>) -> Result<Command, WordsFault>
     ensures { IsMeant result (create_meaning (rows_of (found_of matches.now))) }
 {
@@ -97,6 +108,7 @@ fn create_of(alloc: Global, matches: &ArgMatches<'_>) -> Result<Command, WordsFa
     })))
 }
 
+// The verify that the matches of its subcommand request. `IsMeant`: exactly that, or Memory.
 fn verify_of(alloc: Global, matches: &ArgMatches<'_>) -> Result<Command, WordsFault>
     ensures { IsMeant result (verify_meaning (rows_of (found_of matches.now))) }
 {
@@ -106,6 +118,7 @@ fn verify_of(alloc: Global, matches: &ArgMatches<'_>) -> Result<Command, WordsFa
     })
 }
 
+// The repair that the matches of its subcommand request. `IsMeant`: exactly that, or Memory.
 fn repair_of(alloc: Global, matches: &ArgMatches<'_>) -> Result<Command, WordsFault>
     ensures { IsMeant result (repair_meaning (rows_of (found_of matches.now))) }
 {
@@ -116,6 +129,7 @@ fn repair_of(alloc: Global, matches: &ArgMatches<'_>) -> Result<Command, WordsFa
     }))
 }
 
+// The purge that the matches of its subcommand request. `IsMeant`: exactly that, or Memory.
 fn purge_of(alloc: Global, matches: &ArgMatches<'_>) -> Result<Command, WordsFault>
     ensures { IsMeant result (purge_meaning (rows_of (found_of matches.now))) }
 {
@@ -124,7 +138,8 @@ fn purge_of(alloc: Global, matches: &ArgMatches<'_>) -> Result<Command, WordsFau
     }))
 }
 
-// The command of a subcommand's name and matches.
+// The command of the subcommand with this name and these matches. clap accepts only the six names, so Arguments isn't
+// returned in a run.
 fn named(alloc: Global, name: &str, matches: &ArgMatches<'_>) -> Result<Command, WordsFault>
     ensures command { IfOk result (λ c. meaning (name.now, rows_of (found_of matches.now))
         ≡ Some (command_of c)) }
@@ -142,6 +157,7 @@ fn named(alloc: Global, name: &str, matches: &ArgMatches<'_>) -> Result<Command,
     }
 }
 
+// The fault of words that clap refuses: Memory if clap ran out of memory, otherwise Arguments.
 fn fault_for(error: &clap::Error) -> WordsFault
     ensures memory { kind_of error.now ≡ ErrorKind.OutOfMemory → result ≡ WordsFault.Memory }
     ensures arguments { result ≡ WordsFault.Memory → kind_of error.now ≡ ErrorKind.OutOfMemory }
@@ -152,16 +168,16 @@ fn fault_for(error: &clap::Error) -> WordsFault
     }
 }
 
-/// The command that the words ask for, the program's name left out.
+/// Reads the words of a command line, without the program's name, as a command.
 ///
-/// Every refusal by clap but out of memory is `Arguments`, `--help` too.
+/// Every refusal by clap is `Arguments`, `--help` too, except for out of memory.
 pub fn read_words(alloc: Global, words: &[String]) -> Result<Command, WordsFault>
-    ensures command { IfOk result (λ c. asked_by (map string_bytes words.now)
+    ensures command { IfOk result (λ c. requested_by (map string_bytes words.now)
         ≡ Some (command_of c)) }
     ensures faultless { IfOk result (λ _. fault_of par2_app (map string_bytes words.now) ≡ []) }
-    // Words that clap's definition takes, with a subcommand, are refused only where memory runs out.
-    ensures arguments { let texts = map string_bytes words.now in
-        takes par2_app texts ≡ true → is_some (subcommand_of par2_app texts) ≡ true
+    // Words that clap's definition accepts, with a subcommand, are refused only if memory runs out.
+    ensures arguments { let buffers = map string_bytes words.now in
+        takes par2_app buffers ≡ true → is_some (subcommand_of par2_app buffers) ≡ true
         → IfErr result (λ e. e ≡ WordsFault.Memory) }
 {
     let matches = match par2_command(alloc)?.try_get_matches_from(words) {

@@ -1,4 +1,4 @@
--- The names that proofs of this crate take from elsewhere.
+-- Names from other crates that the proofs of this one use.
 
 pub use Rattle.std.proofs.Common.{Bool, Bor, Err, Global, List, None, Option, Some, Vec, [], ap, append-nil, append_assoc, ap₂, arith, below_more, cond, drop, eqb, false, get_or, inl, inr, length, length-append, map, mul-le-mul_right, nat_le, nat_lt, not, refl, replicate, rules, string_bytes, subst, suc, sym, take, tests, true, zero, zero-add, ℕ, ◌%◌, ◌&&◌, ◌*◌, ◌++◌, ◌+◌, ◌-◌, ◌/◌, ◌<◌, ◌^◌, ◌||◌, ◌∙◌, ◌∷◌, ◌≡◌, ◌≤◌}
 pub use Rattle.std.proofs.lemmas.Bool.{and_from, and_parts, cases_lt, eq-eqb, eqb-false, eqb-true, false_from_ne_true, false≢true, le-leb, le-ltb, leb-true, lt-ltb, ltb-false, ltb-true, ne_eqb, not-false, not-true, not_from_false, not_from_true, or_from, or_parts}
@@ -16,8 +16,8 @@ pub use Rattle.std.specs.Str.{bytes_eq, is_utf8}
 pub use Rattle.std.specs.Vec.Iter.{into_iter_items, into_iter_len}
 pub use Rattle.par2_create.specs.Faults.{duplicate_input, existing, long_name}
 unfoldable pub use Rattle.par2_create.specs.Faults.{files_fault, ids_fault, inputs_fault}
-pub use Rattle.par2_create.specs.Outputs.{HasExponents, HasSlices, HaveExponents, RecordsInputs, inputs_of, names_of, output_names, packets_between, put_change, volume_at, volume_file, volume_if, volumes_asked, volumes_of}
-pub use Rattle.par2_create.specs.Volumes.{as_file, blank_volume, exponents_in, exponents_of, length_with, nth_volume, place_in, places_in, places_of, slice_of, volume_with, with_slices}
+pub use Rattle.par2_create.specs.Outputs.{HasExponents, HasSlices, HaveExponents, RecordsInputs, inputs_of, volume_names, output_names, packets_between, put_change, volume_at, volume_file, volume_if, volumes_requested, volumes_of}
+pub use Rattle.par2_create.specs.Volumes.{as_file, blank_volume, exponents_in, volume_exponents, length_with, nth_volume, place_in, places_in, places_of, slice_of, volume_with, with_slices}
 pub use Rattle.par2_create.specs.declared.names.Volume.{Volume}
 pub use Rattle.par2_create.specs.declared.outputs.Parts.{Parts}
 pub use Rattle.par2_packets.proofs.LaterDigests.{head_of, length-head, length-undigested, part_from, undigested_is}
@@ -27,7 +27,7 @@ pub use Rattle.par2_packets.specs.Recoveries.{digested, undigested}
 pub use Rattle.par2_packets.specs.Views.{file_record_of}
 pub use Rattle.par2_packets.specs.declared.record.FileRecord.{FileRecord}
 pub use Rattle.par2_create.specs.Records.{AreRecords}
-pub use Rattle.par2_slices.specs.Texts.{texts_of}
+pub use Rattle.par2_slices.specs.Positions.{buffers_of}
 pub use Rattle.par2_solve.specs.Writing.{AreWritten, AreZeros, output_at}
 pub use Rattle.par2_spec.proofs.CreateLaws.{create_applies, names_of_outputs}
 pub use Rattle.par2_spec.proofs.ListsLaws.{any-map, map-cond, range-append}

@@ -3,7 +3,7 @@ use Rattle.par2_create.proofs.Common.{ℕ, ◌+◌, ◌<◌, ◌≡◌, refl, sy
 use Rattle.std.specs.Prelude.{IsPermutation}
 use Rattle.std.specs.List.Sorted.{IsStrictlyIncreasing}
 use Rattle.md5.specs.Md5.{md5}
-use Rattle.par2_packets.specs.Views.{id_number}
+use Rattle.par2_packets.specs.Views.{record_id_number}
 use Rattle.std.specs.Int.{w128, from_le_bytes}
 use Rattle.par2_spec.specs.Volumes as volumes
 use Rattle.par2_spec.proofs.OrderLaws.{rising_records, files_of_ordered}
@@ -18,7 +18,7 @@ record_push s folder names i xs x name bytes low en eb so_far is =
     ∙ ap (map (record_of s)) (sym (map-append (λ (n : List ℕ). (n, bytes_of folder n)) (take i names) (get_or names i [] ∷ [])))
     ∙ ap (λ ns. map (record_of s) (files_of folder ns)) (sym (take_more names i [] low))
 
--- the digest of the file of a name
+-- the MD5 of the file of a name
 pub digest_at_name : (folder : Folder) (names md5s : List (List ℕ)) (i : ℕ) (d : List ℕ) → md5s ≡ map md5 (map (bytes_of folder) names) → i < length names
     → get_or md5s i d ≡ md5 (bytes_of folder (get_or names i []))
 digest_at_name folder names md5s i d is low =
@@ -27,8 +27,8 @@ digest_at_name folder names md5s i d is low =
     ∙ get_or-map md5 (map (bytes_of folder) names) i [] d (omega (arith, low, many))
     ∙ ap md5 (get_or-map (bytes_of folder) names i [] [] low)
 
--- records of files that rise by their File IDs are those of the files in order
-pub in_order : (s : ℕ) (files : List File) (xs : List FileRecord) → IsPermutation (map (record_of s) files) (map file_record_of xs) → IsStrictlyIncreasing (map id_number xs)
+-- records that rise by their File IDs are those of the files in order
+pub in_order : (s : ℕ) (files : List File) (xs : List FileRecord) → IsPermutation (map (record_of s) files) (map file_record_of xs) → IsStrictlyIncreasing (map record_id_number xs)
     → map file_record_of xs ≡ map (record_of s) (in_id_order files)
 in_order s files xs moved rising =
     rising_records s files (map file_record_of xs) moved

@@ -1,4 +1,4 @@
--- What holds of the words of a create with which nothing is wrong.
+-- What holds of the arguments of a create with which nothing is wrong.
 use Rattle.par2_create.proofs.Common.{◌≡◌, ℕ, ◌+◌, ◌%◌, ◌^◌, ◌≤◌, List, [], ◌∷◌, length, ◌∙◌, true, false, not, ◌&&◌, nat_lt, nat_le, arith, None, ◌==◌, sum_by, AllByRecursion, and_parts, leb-true, ltb-false, not-false, fault_where, fault_at, is_name, is_par_name, slice_count, Folder, File, has, in_id_order, all_slices, is_slice_size, CreateArgs, files_of, are_counts, bad_name, head_fault, BadSliceSize, BadCount, BadBase, NoInput, NoSuchFile, EmptyFile, TooManySlices, where_none, all_none, at_none, size_parts, duplicate_input, files_fault, ids_fault, inputs_fault}
 use Rattle.std.proofs.lemmas.List.Sorted.{length_permutation, sum_by-IsPermutation}
 use Rattle.par2_spec.proofs.OrderLaws.{moved-ordered}
@@ -59,7 +59,7 @@ inputs_passed folder size inputs h =
       few = ltb-false 32768 (sum_by (λ (file : File). slice_count size (length file.1)) (files_of folder inputs)) (where_none too_many TooManySlices files.1.1.0);
     }
 
--- ---- what a set says of them
+-- ---- their records
 
 module _ (folder : Folder) (size : ℕ) (inputs : List (List ℕ)) (are : AreInputs folder size inputs) where
   pub few_slices : length (all_slices size (in_id_order (files_of folder inputs))) ≤ 32768

@@ -7,7 +7,7 @@ ids_of_records : (s : ℕ) (files : List File) → map (λ (file : FileRecord). 
 unfolding record_of
 ids_of_records s files = map-map (λ (file : FileRecord). file.id) (record_of s) files
 
--- the identifiers of records that are read as those of files
+-- the identifiers in the records are those of the files
 pub ids_said : (s : ℕ) (files : List File) (records : List packets.FileRecord) → AreRecords s files records → map (λ (file : packets.FileRecord). file.id) records ≡ map (λ (file : FileRecord). file.id) (map (record_of s) files)
 ids_said s files records are = sym (map-map (λ (file : FileRecord). file.id) file_record_of records) ∙ ap (map (λ (file : FileRecord). file.id)) are
 

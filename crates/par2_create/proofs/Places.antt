@@ -1,4 +1,4 @@
--- The first place whose item passes a test.
+-- The first item that passes a test, and its index.
 use Rattle.par2_create.proofs.Common.{◌≡◌, ℕ, ◌+◌, ◌<◌, List, [], ◌∷◌, length, get_or, take, sym, ap, ap₂, ◌∙◌, Bool, true, false, not, cond, Some, nat_lt, arith, None, Option, position, option_map, sum_by, ◌==◌, position_or_len, enumerate_from, lt-ltb, le-ltb, position_or_len_is, get_or-enumerate_from, length-enumerate_from, first_fault, fault_where, is_among, slice_count, Folder, File, has, bytes_of, files_of, NoSuchFile, EmptyFile, TooManySlices, files_fault, position-map}
 
 pub found_at : {X : Type 0} (p : X → Bool) (xs : List X) (i : ℕ) (d : X) → i < length xs → ((k : ℕ) → k < i → p (get_or xs k d) ≡ false) → p (get_or xs i d) ≡ true → position p xs ≡ Some i
@@ -11,7 +11,7 @@ found_nowhere p xs d none =
     let e : position_or_len p xs ≡ length xs = position_or_len_is p xs (length xs) d (omega arith) none (λ h. absurd (omega (arith, h))) in
     ap (λ n. cond (nat_lt n (length xs)) (Some n) None) e ∙ ap (λ b. cond b (Some (length xs)) None) (le-ltb (length xs) (length xs) (omega arith))
 
--- ---- the first name that was there before
+-- ---- the first name that occurred before
 
 -- whether name k is among those before it
 abbrev pub comes_again : List (List ℕ) → ℕ → Bool
@@ -32,7 +32,7 @@ again_nowhere names none =
     let size : length (enumerate_from 0 names) ≡ length names = length-enumerate_from 0 names in
     found_nowhere _ (enumerate_from 0 names) (0, []) (λ k h. let low : k < length names = omega (arith, size, h) in again_at names k low ∙ none k low)
 
--- ---- what is wrong with files, by the first places
+-- ---- what is wrong with files, by the first indices
 
 pub files_by : (folder : Folder) (size : ℕ) (names : List (List ℕ)) (absent empty : Option ℕ) (many : Bool)
     → absent ≡ position (λ name. not (has folder name)) names → empty ≡ position (λ name. length (bytes_of folder name) == 0) names

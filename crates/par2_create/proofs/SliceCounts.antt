@@ -1,7 +1,7 @@
--- How many slices files have, and how many files there are by that.
+-- The number of slices of files, which bounds the number of files.
 use Rattle.par2_create.proofs.Common.{◌≡◌, zero, suc, ℕ, ◌+◌, ◌≤◌, List, [], ◌∷◌, length, refl, sym, ap₂, ◌∙◌, false, arith, length-append, ◌*◌, ◌==◌, sum_by, AllByRecursion, eqb-false, div_ceil_times, sum_by-cons, length-map-range_with_len, slice_count, slice_at, slices, File, all_slices}
 
--- how many slices the files have
+-- the number of slices of the files
 pub slices_counted : (s : ℕ) (files : List File) → length (all_slices s files) ≡ sum_by (λ file. slice_count s (length file.1)) files
 slices_counted s [] = refl
 slices_counted s (file ∷ files) =
@@ -9,7 +9,7 @@ slices_counted s (file ∷ files) =
     ∙ ap₂ (λ a b. a + b) (length-map-range_with_len (slice_at s file.1) 0 (slice_count s (length file.1))) (slices_counted s files)
     ∙ sym (sum_by-cons (λ (x : File). slice_count s (length x.1)) file files)
 
--- files with bytes have at least one slice each
+-- files that aren't empty have at least one slice each
 pub few_files : (s : ℕ) (files : List File) → 1 ≤ s → AllByRecursion (λ file. (length file.1 == 0) ≡ false) files → length files ≤ sum_by (λ file. slice_count s (length file.1)) files
 few_files s [] some h = omega arith
 few_files s (file ∷ files) some h =

@@ -1,10 +1,10 @@
 -- The volumes, one after the other.
-use Rattle.par2_create.proofs.Common.{or_from, lt-ltb, ltb-true, le-ltb, leb-true, where_none, CreateArgs, volume_size, volume_numbers, volumes_before, output_names, HasExponents, HaveExponents, volume_at, volume_if, volumes_of, names_of, volumes_asked, ◌≡◌, ℕ, ◌+◌, ◌≤◌, ◌<◌, List, [], ◌∷◌, ◌++◌, length, map, sym, ap, ◌∙◌, Bool, true, cond, ◌||◌, Some, arith, None, filter, range_with_len, list_any, map-append, list_any-append, fault_where, NameTooLong, any-map, range-append, map-cond, name_is_short, Volume, long_name, head_fault, nat_lt}
+use Rattle.par2_create.proofs.Common.{or_from, lt-ltb, ltb-true, le-ltb, leb-true, where_none, CreateArgs, volume_size, volume_numbers, volumes_before, output_names, HasExponents, HaveExponents, volume_at, volume_if, volumes_of, volume_names, volumes_requested, ◌≡◌, ℕ, ◌+◌, ◌≤◌, ◌<◌, List, [], ◌∷◌, ◌++◌, length, map, sym, ap, ◌∙◌, Bool, true, cond, ◌||◌, Some, arith, None, filter, range_with_len, list_any, map-append, list_any-append, fault_where, NameTooLong, any-map, range-append, map-cond, name_is_short, Volume, long_name, head_fault, nat_lt}
 use Rattle.std.proofs.lemmas.List.Elements.{filter-append, filter_passes, All-map, All-weaker}
 use Rattle.par2_create.proofs.GoodWords.{head_passed}
 use Rattle.par2_create.proofs.VolumeNames.{length-name}
 
--- those with numbers below n
+-- the volumes with numbers below n
 abbrev pub volumes_below : List ℕ → ℕ → ℕ → ℕ → List Volume
 volumes_below base f c n = map (volume_at base f c) (filter (λ i. nat_lt (volumes_before i) c) (range_with_len 0 n))
 
@@ -16,7 +16,7 @@ volumes_more base f c i =
     ∙ map-append (volume_at base f c) (filter p (range_with_len 0 i)) (cond (p i) (i ∷ []) [])
     ∙ ap (λ vs. volumes_below base f c i ++ vs) (map-cond (volume_at base f c) (p i) i [])
 
-pub any_named : (test : List ℕ → Bool) (volumes : List Volume) → list_any test (names_of volumes) ≡ list_any (λ volume. test volume.name) volumes
+pub any_named : (test : List ℕ → Bool) (volumes : List Volume) → list_any test (volume_names volumes) ≡ list_any (λ volume. test volume.name) volumes
 any_named test volumes = any-map test (λ (volume : Volume). volume.name) volumes
 
 -- ---- names that are too long
@@ -24,24 +24,24 @@ any_named test volumes = any-map test (λ (volume : Volume). volume.name) volume
 abbrev is_long : List ℕ → Bool
 is_long name = nat_lt 255 (length name)
 
-pub none_long : (vs ws : List Volume) → long_name (names_of vs) ≡ None → long_name (names_of ws) ≡ None → long_name (names_of (vs ++ ws)) ≡ None
+pub none_long : (vs ws : List Volume) → long_name (volume_names vs) ≡ None → long_name (volume_names ws) ≡ None → long_name (volume_names (vs ++ ws)) ≡ None
 none_long vs ws h k =
     ap (λ b. fault_where b NameTooLong)
-    (ap (list_any is_long) (map-append (λ (v : Volume). v.name) vs ws) ∙ list_any-append is_long (names_of vs) (names_of ws) ∙ or_from _ _ (where_none _ _ h) (where_none _ _ k))
+    (ap (list_any is_long) (map-append (λ (v : Volume). v.name) vs ws) ∙ list_any-append is_long (volume_names vs) (volume_names ws) ∙ or_from _ _ (where_none _ _ h) (where_none _ _ k))
 
--- all have names of one length
-pub one_is_long : (base : List ℕ) (f c i : ℕ) → 0 < c → 255 < length (volume_at base f c i).name → long_name (names_of (volumes_of base f c)) ≡ Some NameTooLong
+-- all names have the same length
+pub one_is_long : (base : List ℕ) (f c i : ℕ) → 0 < c → 255 < length (volume_at base f c i).name → long_name (volume_names (volumes_of base f c)) ≡ Some NameTooLong
 one_is_long base f c i some long =
     let rest = filter (λ i. nat_lt (volumes_before i) c) (range_with_len 1 16) in
     let first = (volume_at base f c 0).name in
     let same : length first ≡ length (volume_at base f c i).name = length-name base (f + 0) (volume_size c 0) ∙ sym (length-name base (f + volumes_before i) (volume_size c i)) in
-    ap (λ b. long_name (names_of (map (volume_at base f c) (cond b (0 ∷ rest) rest)))) (lt-ltb 0 c some)
-    ∙ ap (λ b. fault_where (b || list_any is_long (names_of (map (volume_at base f c) rest))) NameTooLong) (lt-ltb 255 (length first) (omega (arith, same, long)))
+    ap (λ b. long_name (volume_names (map (volume_at base f c) (cond b (0 ∷ rest) rest)))) (lt-ltb 0 c some)
+    ∙ ap (λ b. fault_where (b || list_any is_long (volume_names (map (volume_at base f c) rest))) NameTooLong) (lt-ltb 255 (length first) (omega (arith, same, long)))
 
--- the base itself is short
-pub long_without_base : (a : CreateArgs) → head_fault a ≡ None → long_name (output_names a) ≡ long_name (names_of (volumes_asked a))
+-- the base itself is short enough
+pub long_without_base : (a : CreateArgs) → head_fault a ≡ None → long_name (output_names a) ≡ long_name (volume_names (volumes_requested a))
 long_without_base a h =
-    ap (λ b. fault_where (b || list_any (λ name. nat_lt 255 (length name)) (names_of (volumes_asked a))) NameTooLong)
+    ap (λ b. fault_where (b || list_any (λ name. nat_lt 255 (length name)) (volume_names (volumes_requested a))) NameTooLong)
     (le-ltb 255 (length a.base) (leb-true (length a.base) 255 (name_is_short a.base (head_passed a h).name)))
 
 -- ---- their exponents

@@ -1,5 +1,5 @@
--- Where the recovery slices of volumes lie, and what the volumes are once they are written there.
-use Rattle.par2_create.proofs.Common.{drop_at, ext_get_or, get_or-take, get_or-drop, get_or_append_left, get_or-append_right, length-map, get_or-map, length-replicate, take_all, inl, inr, ℕ, zero, suc, ◌+◌, ◌-◌, ◌*◌, ◌/◌, ◌%◌, ◌<◌, ◌≤◌, ◌≡◌, refl, sym, ap, ap₂, subst, ◌∙◌, arith, List, [], ◌∷◌, ◌++◌, length, length-append, get_or, map, take, drop, zero-add, mul-le-mul_right, replicate, flat_map, range_with_len, enumerate_from, cases_lt, length-map-range_with_len, get_or-map-range_with_len, length-range_with_len, get_or-range_with_len, length-enumerate_from, get_or-enumerate_from, padded, list_at, ArePieces, undigested, length-pieces, piece_at, drop_behind, head_of, length-head, length-undigested, undigested_is, part_from, Place, output_at, AreWritten, AreZeros, HasSlices, inputs_of, exponents_in, length_with, nth_volume, place_in, places_in, places_of, slice_of, volume_with, exponents_of, Volume, Parts, length-flat_map-take}
+-- The places of the recovery slices in volumes, and the volumes after they were written there.
+use Rattle.par2_create.proofs.Common.{drop_at, ext_get_or, get_or-take, get_or-drop, get_or_append_left, get_or-append_right, length-map, get_or-map, length-replicate, take_all, inl, inr, ℕ, zero, suc, ◌+◌, ◌-◌, ◌*◌, ◌/◌, ◌%◌, ◌<◌, ◌≤◌, ◌≡◌, refl, sym, ap, ap₂, subst, ◌∙◌, arith, List, [], ◌∷◌, ◌++◌, length, length-append, get_or, map, take, drop, zero-add, mul-le-mul_right, replicate, flat_map, range_with_len, enumerate_from, cases_lt, length-map-range_with_len, get_or-map-range_with_len, length-range_with_len, get_or-range_with_len, length-enumerate_from, get_or-enumerate_from, padded, list_at, ArePieces, undigested, length-pieces, piece_at, drop_behind, head_of, length-head, length-undigested, undigested_is, part_from, Place, output_at, AreWritten, AreZeros, HasSlices, inputs_of, exponents_in, length_with, nth_volume, place_in, places_in, places_of, slice_of, volume_with, volume_exponents, Volume, Parts, length-flat_map-take}
 use Rattle.par2_transform.specs.Adding.{place_at, AreApart, HasByte, LieWithin}
 use Rattle.par2_spec.specs.Recovery.{recovery}
 use Rattle.std.proofs.lemmas.List.Concat.{get_or-flat_map}
@@ -13,29 +13,29 @@ abbrev no_volume : Volume
 no_volume = record { name = []; first = 0; count = 0 }
 
 abbrev nowhere : Place
-nowhere = record { text = 0; at = 0 }
+nowhere = record { buffer = 0; at = 0 }
 
--- how many recovery slices there are before volume j
+-- the number of recovery slices before volume j
 abbrev before : List Volume → ℕ → ℕ
-before volumes j = length (exponents_of (take j volumes))
+before volumes j = length (volume_exponents (take j volumes))
 
--- there are as many places
+-- there are as many places before volume j
 length-before : (parts : Parts) (n : ℕ) (volumes : List Volume) (j : ℕ) → length (flat_map (places_in parts) (take j (enumerate_from n volumes))) ≡ before volumes j
 length-before parts n volumes zero = refl
 length-before parts n [] (suc j) = refl
 length-before parts n (v ∷ volumes) (suc j) =
     let rest = length-before parts (n + 1) volumes j in
     let a = length-append (places_in parts (n, v)) (flat_map (places_in parts) (take j (enumerate_from (n + 1) volumes))) in
-    let b = length-append (exponents_in v) (exponents_of (take j volumes)) in
+    let b = length-append (exponents_in v) (volume_exponents (take j volumes)) in
     omega (arith, rest, a, b, length-map-range_with_len (place_in parts n) 0 v.count, length-range_with_len v.first v.count)
 
-pub length-places : (parts : Parts) (volumes : List Volume) → length (exponents_of volumes) ≡ length (places_of parts volumes)
+pub length-places : (parts : Parts) (volumes : List Volume) → length (volume_exponents volumes) ≡ length (places_of parts volumes)
 length-places parts volumes =
     let n = length volumes in
-    ap (λ vs. length (exponents_of vs)) (sym (take_all n volumes (omega arith))) ∙ sym (length-before parts 0 volumes n)
+    ap (λ vs. length (volume_exponents vs)) (sym (take_all n volumes (omega arith))) ∙ sym (length-before parts 0 volumes n)
     ∙ ap (λ zs. length (flat_map (places_in parts) zs)) (take_all n (enumerate_from 0 volumes) (omega (arith, length-enumerate_from 0 volumes)))
 
--- recovery slice t of the volumes is one of a volume
+-- recovery slice t of all volumes is one of a volume
 record Located (volumes : List Volume) (t : ℕ) : Type 0 where
   pub volume : ℕ
   pub packet : ℕ
@@ -43,28 +43,28 @@ record Located (volumes : List Volume) (t : ℕ) : Type 0 where
   pub in_packets : packet < (nth_volume volumes volume).count
   pub number : t ≡ before volumes volume + packet
 
-located : (volumes : List Volume) (t : ℕ) → t < length (exponents_of volumes) → Located volumes t
+located : (volumes : List Volume) (t : ℕ) → t < length (volume_exponents volumes) → Located volumes t
 located [] t low = absurd (omega (arith, low))
 located (v ∷ volumes) t low =
     let size = length-range_with_len v.first v.count in
     elim (cases_lt t v.count) [
       | inl here ↦ record { volume = 0; packet = t; in_volumes = omega arith; in_packets = here; number = sym (zero-add t) }
       | inr later ↦
-          let next = located volumes (t - v.count) (omega (arith, low, later, size, length-append (exponents_in v) (exponents_of volumes))) in
+          let next = located volumes (t - v.count) (omega (arith, low, later, size, length-append (exponents_in v) (volume_exponents volumes))) in
           record {
             volume = suc next.volume;
             packet = next.packet;
             in_volumes = (let l = next.in_volumes in omega (arith, l));
             in_packets = next.in_packets;
-            number = (let n = next.number in omega (arith, n, later, size, length-append (exponents_in v) (exponents_of (take next.volume volumes))));
+            number = (let n = next.number in omega (arith, n, later, size, length-append (exponents_in v) (volume_exponents (take next.volume volumes))));
           }
     ]
 
--- where it lies, and what its exponent is
+-- its place and its exponent
 record IsNumbered (parts : Parts) (volumes : List Volume) (t j k : ℕ) : Type 0 where
   pub low : t < length (places_of parts volumes)
   pub place : place_at (places_of parts volumes) t ≡ place_in parts j k
-  pub exponent : get_or (exponents_of volumes) t 0 ≡ (nth_volume volumes j).first + k
+  pub exponent : get_or (volume_exponents volumes) t 0 ≡ (nth_volume volumes j).first + k
 
 numbered : (parts : Parts) (volumes : List Volume) (j k : ℕ) → j < length volumes → k < (nth_volume volumes j).count → IsNumbered parts volumes (before volumes j + k) j k
 numbered parts volumes j k low here =
@@ -90,21 +90,21 @@ stands parts volumes t x = ap (place_at (places_of parts volumes)) x.number ∙ 
 
 -- ---- places
 
--- a packet ends in its volume
+-- a packet ends within its volume
 pub packet_ends : (a k n m size : ℕ) → k < n → size ≡ a + n * m → a + k * m + m ≤ size
 packet_ends a k n m size low is =
     let more : suc k * m ≤ n * m = mul-le-mul_right m (let e : suc k ≤ n = omega (arith, low) in e) in
     let next : suc k * m ≡ k * m + m = omega arith in
     omega (arith, more, next, is)
 
--- a byte is one of a single packet
+-- a byte is in a single packet
 same_packet : (m a k l b : ℕ) → a + k * m ≤ b → b < a + k * m + m → a + l * m ≤ b → b < a + l * m + m → k ≡ l
 same_packet m a k l b k_low k_high l_low l_high =
     let below : k < l → ⊥ = λ less. omega (arith, packet_ends a k l m (a + l * m) less refl, k_high, l_low) in
     let above : l < k → ⊥ = λ less. omega (arith, packet_ends a l k m (a + k * m) less refl, l_high, k_low) in
     omega (arith, below, above)
 
--- a byte of a recovery slice is one of its packet
+-- a byte of a recovery slice is in its packet
 in_packet : (parts : Parts) (words i j k b : ℕ) (place : Place) → 2 * words ≡ parts.set.now.slice → place ≡ place_in parts j k → HasByte words place i b
     → (j ≡ i) × ((length_with parts k + 68 ≤ b) × (b < length_with parts k + (68 + parts.set.now.slice)))
 in_packet parts words i j k b place size is has =
@@ -148,20 +148,20 @@ length-volume parts f volume sixteen sizes =
     let packets = length-pieces (68 + parts.set.now.slice) (λ (e : ℕ). undigested parts.set_id e (f e)) (sized parts f sixteen sizes) volume.first volume.count in
     length-append parts.index.items (flat_map (λ (e : ℕ). undigested parts.set_id e (f e)) (range_with_len volume.first volume.count)) ∙ ap (λ n. length parts.index.items + n) packets
 
-pub places_within : (parts : Parts) (words : ℕ) (volumes : List Volume) (texts : List (List ℕ)) → 2 * words ≡ parts.set.now.slice → length parts.set_id ≡ 16
-    → texts ≡ map (volume_with parts (λ e. replicate parts.set.now.slice 0)) volumes → LieWithin words (places_of parts volumes) texts
-places_within parts words volumes texts size sixteen are t low =
+pub places_within : (parts : Parts) (words : ℕ) (volumes : List Volume) (buffers : List (List ℕ)) → 2 * words ≡ parts.set.now.slice → length parts.set_id ≡ 16
+    → buffers ≡ map (volume_with parts (λ e. replicate parts.set.now.slice 0)) volumes → LieWithin words (places_of parts volumes) buffers
+places_within parts words volumes buffers size sixteen are t low =
     let x = among parts volumes t low in
     let j = x.in_volumes in
     let volume = nth_volume volumes x.volume in
     let zeros = λ (e : ℕ). replicate {A = ℕ} parts.set.now.slice 0 in
     let count = ap length are in
-    let long : length (list_at texts x.volume) ≡ length_with parts volume.count =
+    let long : length (list_at buffers x.volume) ≡ length_with parts volume.count =
     ap (λ (xs : List (List ℕ)). length (list_at xs x.volume)) are ∙ ap length (get_or-map (volume_with parts zeros) volumes x.volume no_volume [] j)
     ∙ length-volume parts zeros volume sixteen (λ e. length-replicate {A = ℕ} parts.set.now.slice 0) in
-    let ends = packet_ends (length parts.index.items) x.packet volume.count (68 + parts.set.now.slice) (length (list_at texts x.volume)) x.in_packets long in
-    let here : (x.volume < length texts) × (length_with parts x.packet + 68 + 2 * words ≤ length (list_at texts x.volume)) = (omega (arith, count, length-map volumes (volume_with parts zeros), j), omega (arith, ends, size)) in
-    subst (λ (place : Place). (place.text < length texts) × (place.at + 2 * words ≤ length (list_at texts place.text))) (sym (stands parts volumes t x)) here
+    let ends = packet_ends (length parts.index.items) x.packet volume.count (68 + parts.set.now.slice) (length (list_at buffers x.volume)) x.in_packets long in
+    let here : (x.volume < length buffers) × (length_with parts x.packet + 68 + 2 * words ≤ length (list_at buffers x.volume)) = (omega (arith, count, length-map volumes (volume_with parts zeros), j), omega (arith, ends, size)) in
+    subst (λ (place : Place). (place.buffer < length buffers) × (place.at + 2 * words ≤ length (list_at buffers place.buffer))) (sym (stands parts volumes t x)) here
 
 -- a slice in a volume
 slice_in_volume : (parts : Parts) (f : ℕ → List ℕ) (volume : Volume) (k : ℕ) → length parts.set_id ≡ 16 → ((e : ℕ) → length (f e) ≡ parts.set.now.slice) → k < volume.count
@@ -181,26 +181,26 @@ slice_in_volume parts f volume k sixteen sizes low =
     slice_end : (k m s : ℕ) → m ≡ 68 + s → s ≡ (k + 1) * m - (k * m + 68)
     slice_end k m s e = omega (arith, e)
 
--- texts with a part in common have its bytes in common
+-- buffers with a part in common have its bytes in common
 same_at : (a n r : ℕ) (xs ys : List ℕ) → r < n → take n (drop a xs) ≡ take n (drop a ys) → get_or xs (a + r) 0 ≡ get_or ys (a + r) 0
 same_at a n r xs ys low e =
     sym (get_or-drop a xs r 0) ∙ sym (get_or-take n (drop a xs) r 0 low) ∙ ap (λ (zs : List ℕ). get_or zs r 0) e ∙ get_or-take n (drop a ys) r 0 low ∙ get_or-drop a ys r 0
 
 -- the outputs of blank volumes are zeros
-pub places_blank : (parts : Parts) (words : ℕ) (volumes : List Volume) (texts : List (List ℕ)) → 2 * words ≡ parts.set.now.slice → length parts.set_id ≡ 16
-    → texts ≡ map (volume_with parts (λ e. replicate parts.set.now.slice 0)) volumes → AreZeros words (places_of parts volumes) texts
-places_blank parts words volumes texts size sixteen are t low =
+pub places_blank : (parts : Parts) (words : ℕ) (volumes : List Volume) (buffers : List (List ℕ)) → 2 * words ≡ parts.set.now.slice → length parts.set_id ≡ 16
+    → buffers ≡ map (volume_with parts (λ e. replicate parts.set.now.slice 0)) volumes → AreZeros words (places_of parts volumes) buffers
+places_blank parts words volumes buffers size sixteen are t low =
     let zeros = λ (e : ℕ). replicate {A = ℕ} parts.set.now.slice 0 in
     let x = among parts volumes t low in
-    let text = ap (λ (xs : List (List ℕ)). list_at xs x.volume) are ∙ get_or-map (volume_with parts zeros) volumes x.volume no_volume [] x.in_volumes in
-    ap (λ (place : Place). output_at (2 * words) place texts) (stands parts volumes t x)
-    ∙ ap₂ (λ (n : ℕ) (xs : List ℕ). take n (drop (length_with parts x.packet + 68) xs)) size text
+    let bytes = ap (λ (xs : List (List ℕ)). list_at xs x.volume) are ∙ get_or-map (volume_with parts zeros) volumes x.volume no_volume [] x.in_volumes in
+    ap (λ (place : Place). output_at (2 * words) place buffers) (stands parts volumes t x)
+    ∙ ap₂ (λ (n : ℕ) (xs : List ℕ). take n (drop (length_with parts x.packet + 68) xs)) size bytes
     ∙ slice_in_volume parts zeros (nth_volume volumes x.volume) x.packet sixteen (λ e. length-replicate {A = ℕ} parts.set.now.slice 0) x.in_packets
     ∙ ap (λ n. replicate n 0) (sym size)
 
 -- the written volumes are those with the recovery slices
 pub volumes_written : (parts : Parts) (words : ℕ) (volumes : List Volume) (slices : List (List ℕ)) (exponents : List ℕ) (old new : List (List ℕ)) → HasSlices parts → 2 * words ≡ parts.set.now.slice → length parts.set_id ≡ 16
-    → map (padded parts.set.now.slice) slices ≡ inputs_of parts → exponents ≡ exponents_of volumes → old ≡ map (volume_with parts (λ e. replicate parts.set.now.slice 0)) volumes
+    → map (padded parts.set.now.slice) slices ≡ inputs_of parts → exponents ≡ volume_exponents volumes → old ≡ map (volume_with parts (λ e. replicate parts.set.now.slice 0)) volumes
     → AreWritten words slices exponents (places_of parts volumes) old new → new ≡ map (volume_with parts (slice_of parts)) volumes
 volumes_written parts words volumes slices exponents old new can size sixteen inputs numbers are written =
     ext_get_or [] new (map (volume_with parts (slice_of parts)) volumes) (written.count ∙ count ∙ sym (length-map volumes (volume_with parts (slice_of parts))))
@@ -223,7 +223,7 @@ volumes_written parts words volumes slices exponents old new can size sixteen in
     was : (i : ℕ) → i < length volumes → list_at old i ≡ volume_with parts zeros (nth_volume volumes i)
     was i low = ap (λ (xs : List (List ℕ)). list_at xs i) are ∙ get_or-map (volume_with parts zeros) volumes i no_volume [] low
 
-    -- a byte that no packet's slice has
+    -- a byte outside all recovery slices
     kept : (i b : ℕ) → i < length volumes → ((k : ℕ) → k < (nth_volume volumes i).count → length_with parts k + 68 ≤ b → b < length_with parts k + (68 + parts.set.now.slice) → ⊥)
         → get_or (list_at new i) b 0 ≡ get_or (volume_with parts zeros (nth_volume volumes i)) b 0
     kept i b low none =

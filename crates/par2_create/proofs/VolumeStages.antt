@@ -1,4 +1,4 @@
--- The packets of a volume, whose MD5s are put in.
+-- Filling in the MD5s of a volume's packets.
 use Rattle.par2_create.proofs.Common.{◌≡◌, ℕ, ◌+◌, ◌-◌, ◌*◌, ◌≤◌, List, [], ◌++◌, length, take, drop, sym, ap, ap₂, ◌∙◌, arith, append-nil, length-append, flat_map, range_with_len, take_at, drop_at, take_all, drop_all, length-drop, flat_map-map, packet, packet_of, recovery_bytes, Recovery, ArePieces, undigested, digested, length-pieces, length-undigested, Parts, HasSlices, inputs_of, packets_between, slice_of}
 use Rattle.par2_spec.proofs.WrittenSets.{recovery_length}
 use borrow.Rule.Slice.PartMut.{put_mid}
@@ -8,18 +8,18 @@ length-slice parts can e = recovery_length parts.set.now.slice (inputs_of parts)
 
 -- ---- the packets of a volume
 
--- what stands after the index
-pub behind_index : (text index rest : List ℕ) (n : ℕ) → n ≡ length index → text ≡ index ++ rest → take (length text - n) (drop n text) ≡ rest
-behind_index text index rest n size is =
-    let here : drop n text ≡ rest = ap (drop n) is ∙ drop_at index rest n (sym size) in
-    let long : length rest ≤ length text - n = (let whole = ap length is in let both = length-append index rest in omega (arith, whole, both, size)) in
-    ap (take (length text - n)) here ∙ take_all (length text - n) rest long
+-- the bytes after the index
+pub behind_index : (bytes index rest : List ℕ) (n : ℕ) → n ≡ length index → bytes ≡ index ++ rest → take (length bytes - n) (drop n bytes) ≡ rest
+behind_index bytes index rest n size is =
+    let here : drop n bytes ≡ rest = ap (drop n) is ∙ drop_at index rest n (sym size) in
+    let long : length rest ≤ length bytes - n = (let whole = ap length is in let both = length-append index rest in omega (arith, whole, both, size)) in
+    ap (take (length bytes - n)) here ∙ take_all (length bytes - n) rest long
 
--- other packets after it
-pub index_kept : (text index rest new : List ℕ) (n : ℕ) → n ≡ length index → text ≡ index ++ rest → put_mid n (length text - n) text new ≡ index ++ new
-index_kept text index rest new n size is =
-    let front : take n text ≡ index = ap (take n) is ∙ take_at index rest n (sym size) in
-    let none : drop (length text - n) (drop n text) ≡ [] = drop_all (length text - n) (drop n text) (let left = length-drop n text in omega (arith, left)) in
+-- other packets after the index
+pub index_kept : (bytes index rest new : List ℕ) (n : ℕ) → n ≡ length index → bytes ≡ index ++ rest → put_mid n (length bytes - n) bytes new ≡ index ++ new
+index_kept bytes index rest new n size is =
+    let front : take n bytes ≡ index = ap (take n) is ∙ take_at index rest n (sym size) in
+    let none : drop (length bytes - n) (drop n bytes) ≡ [] = drop_all (length bytes - n) (drop n bytes) (let left = length-drop n bytes in omega (arith, left)) in
     ap₂ (λ (a b : List ℕ). a ++ (new ++ b)) front none ∙ ap (λ (xs : List ℕ). index ++ xs) (append-nil new)
 
 pub length-packets : (parts : Parts) → HasSlices parts → length parts.set_id ≡ 16 → (first count : ℕ)
@@ -28,7 +28,7 @@ length-packets parts can sixteen first count =
     length-pieces (68 + parts.set.now.slice) (λ (e : ℕ). undigested parts.set_id e (slice_of parts e))
     (λ e. length-undigested parts.set_id e (slice_of parts e) sixteen ∙ ap (λ k. 68 + k) (length-slice parts can e)) first count
 
--- with the MD5s they are whole
+-- with their MD5s, the packets are whole
 pub packets_digested : (parts : Parts) (first count : ℕ) (old new : List ℕ) → HasSlices parts → length parts.set_id ≡ 16
     → ((id : List ℕ) (e : ℕ) (slice : ℕ → List ℕ) → ArePieces (68 + parts.set.now.slice) (λ k. undigested id k (slice k)) e count old
     → ArePieces (68 + parts.set.now.slice) (λ k. digested id k (slice k)) e count new)

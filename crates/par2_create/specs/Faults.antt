@@ -1,4 +1,4 @@
--- The causes by which a create is refused, in groups and in order.
+-- The causes for which a create is refused, in groups and in order.
 use Rattle.std.specs.Prelude.{ℕ, ◌==◌, ◌&&◌, nat_lt, Bool, not, List, [], ◌∷◌, length, take, map, sum_by, Option}
 use Rattle.std.specs.List.{list_any, enumerate_from}
 use Rattle.par2_spec.specs.Faults.{first_fault, fault_where, fault_at}
@@ -11,11 +11,11 @@ use Rattle.par2_spec.specs.Refusals.{bad_name}
 use Rattle.par2_spec.specs.declared.Fault.{Fault}
 use Rattle.par2_spec.specs.declared.Fault.TheVariants.{DuplicateInput, NoSuchFile, EmptyFile, TooManySlices, DuplicateId, NameTooLong, Exists}
 
--- an input that was given before
+-- the fault of the first input that was named before
 abbrev pub duplicate_input : List (List ℕ) → Option Fault
 duplicate_input inputs = fault_at 1 DuplicateInput (λ z. is_among (take z.0 inputs) z.1) (enumerate_from 0 inputs)
 
--- those of the files that the inputs name
+-- the first fault of the files that the inputs name: absent, empty, or too many slices
 unfoldable pub files_fault : Folder → ℕ → List (List ℕ) → Option Fault
 files_fault folder size inputs =
     let files = files_of folder inputs in
@@ -25,19 +25,19 @@ files_fault folder size inputs =
     ∷ fault_where (nat_lt 32768 (sum_by (λ file. slice_count size (length file.1)) files)) TooManySlices
     ∷ [])
 
--- that of their File IDs
+-- the fault if two of the files have one File ID
 unfoldable pub ids_fault : List File → Option Fault
 ids_fault files = fault_where (not (length (distinct (map id_of files)) == length files)) DuplicateId
 
--- all those of the inputs
+-- the first fault of the inputs: of their names, their files or their File IDs
 unfoldable pub inputs_fault : Folder → ℕ → List (List ℕ) → Option Fault
 unfolding files_fault ids_fault
 inputs_fault folder size inputs = first_fault (bad_name inputs ∷ duplicate_input inputs ∷ files_fault folder size inputs ∷ ids_fault (files_of folder inputs) ∷ [])
 
--- a name that is too long
+-- the fault if one of the names is longer than a name may be
 abbrev pub long_name : List (List ℕ) → Option Fault
 long_name names = fault_where (list_any (λ name. nat_lt 255 (length name)) names) NameTooLong
 
--- a file that would be replaced and may not be
+-- the fault if a file of these names exists and may not be overwritten
 abbrev pub existing : Folder → Bool → List (List ℕ) → Option Fault
 existing folder overwrite names = fault_where (not overwrite && list_any (has folder) names) Exists

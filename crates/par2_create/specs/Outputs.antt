@@ -20,44 +20,45 @@ volume_at base f c i = record {
   count = volume_size c i;
 }
 
--- it, where there is one
+-- volume i, if it has a recovery slice
 abbrev pub volume_if : List ℕ → ℕ → ℕ → ℕ → List Volume
 volume_if base f c i = if nat_lt (volumes_before i) c then volume_at base f c i ∷ [] else []
 
--- all of them, in order
+-- all volumes, in order
 abbrev pub volumes_of : List ℕ → ℕ → ℕ → List Volume
 volumes_of base f c = map (volume_at base f c) (volume_numbers c)
 
--- those that a create asks for
-abbrev pub volumes_asked : CreateArgs → List Volume
-volumes_asked a = volumes_of a.base a.first a.count
+-- the volumes that a create asks for
+abbrev pub volumes_requested : CreateArgs → List Volume
+volumes_requested a = volumes_of a.base a.first a.count
 
--- its exponents are among the 65,536 that recovery slices can have
+-- the exponents of the volume are among the 65,536 that recovery slices can have
 abbrev pub HasExponents : Volume → Type 0
 HasExponents volume = volume.first + volume.count ≤ 65536
 
--- so are those of all volumes
+-- the exponents of all volumes are
 abbrev pub HaveExponents : List Volume → Type 0
 HaveExponents volumes = All HasExponents volumes
 
-abbrev pub names_of : List Volume → List (List ℕ)
-names_of volumes = map (λ volume. volume.name) volumes
+-- the names of the volumes
+abbrev pub volume_names : List Volume → List (List ℕ)
+volume_names volumes = map (λ volume. volume.name) volumes
 
 -- the names of the outputs, the index first
 abbrev pub output_names : CreateArgs → List (List ℕ)
-output_names a = a.base ∷ names_of (volumes_asked a)
+output_names a = a.base ∷ volume_names (volumes_requested a)
 
--- a set says of a create's inputs what it has to, in the order of their File IDs
+-- the set describes a create's inputs, in the order of their File IDs
 pub record RecordsInputs (folder : Folder) (a : CreateArgs) (set : RecoverySet) : Type 0 where
   pub slice : set.slice ≡ a.slice
   pub files : map file_record_of set.files.items ≡ map (record_of a.slice) (in_id_order (files_of folder a.inputs))
   pub order : files_of folder (records.names_of set.files.items) ≡ in_id_order (files_of folder a.inputs)
 
--- the slices of a set's files, one file after the other
+-- the padded slices of the set's files in the folder, one file after the other
 abbrev pub inputs_of : Parts → List (List ℕ)
-inputs_of parts = records.slices_of parts.folder.now.files parts.set.now.slice parts.set.now.files.items
+inputs_of parts = records.slices_of_records parts.folder.now.files parts.set.now.slice parts.set.now.files.items
 
--- recovery slices can be made of them, and packets
+-- recovery slices can be computed from the inputs, and packets made: the slice size and the numbers are in bounds
 pub record HasSlices (parts : Parts) : Type 0 where
   pub sixteen : length parts.set_id ≡ 16
   pub positive : 1 ≤ parts.set.now.slice
@@ -70,18 +71,18 @@ abbrev pub packets_between : Parts → ℕ → ℕ → List Packet
 packets_between parts e n = recovery_packets parts.set.now.slice parts.set_id (inputs_of parts) e n
 
 -- the bytes of a volume
-abbrev pub volume_text : Parts → Volume → List ℕ
-volume_text parts volume = parts.index.items ++ flat_map packet (packets_between parts volume.first volume.count)
+abbrev pub volume_file_name : Parts → Volume → List ℕ
+volume_file_name parts volume = parts.index.items ++ flat_map packet (packets_between parts volume.first volume.count)
 
--- it as a file
+-- a volume as a file
 abbrev pub volume_file : Parts → Volume → File
-volume_file parts volume = (volume.name, volume_text parts volume)
+volume_file parts volume = (volume.name, volume_file_name parts volume)
 
--- a file is replaced where it is there already
+-- the change that writes a file, or replaces it if it exists already
 abbrev pub put_change : Folder → File → Change
 put_change folder file = if has folder file.0 then Replace file.0 file.1 else Write file.0 file.1
 
--- the changes that write the outputs, the index under this name
+-- the changes that write the outputs, the index under the name `base`
 abbrev pub output_changes : List ℕ → Parts → List Volume → List Change
 output_changes base parts volumes =
     let folder = parts.folder.now.files in

@@ -1,4 +1,4 @@
--- What a set says of files, and their slices.
+-- Records of files, and their slices.
 use Rattle.std.specs.Prelude.{◌≡◌, ℕ, List, map, string_bytes}
 use Rattle.std.specs.Borrow.{Bor}
 use Rattle.par2_spec.specs.Commands.{files_of}
@@ -7,20 +7,20 @@ use Rattle.par2_spec.specs.Slices.{padded}
 use Rattle.par2_spec.specs.Volumes.{all_slices, record_of}
 use Rattle.par2_packets.specs.Views.{file_record_of}
 use Rattle.par2_packets.specs.declared.record.FileRecord.{FileRecord}
-use Rattle.par2_slices.specs.Texts.{texts_of}
+use Rattle.par2_slices.specs.Positions.{buffers_of}
 
 -- the names of the files, in order
 abbrev pub names_of : List FileRecord → List (List ℕ)
 names_of files = map (λ file. string_bytes file.name) files
 
--- the records are what a set of slice size s says of these files, one after the other
+-- the records are those of these files for slices of s bytes, one after the other
 abbrev pub AreRecords : ℕ → List File → List FileRecord → Type 0
 AreRecords s files records = map file_record_of records ≡ map (record_of s) files
 
--- the slices of the files, one file after the other
-abbrev pub slices_of : Folder → ℕ → List FileRecord → List (List ℕ)
-slices_of folder s files = all_slices s (files_of folder (names_of files))
+-- the padded slices of the files of these records in the folder, one file after the other
+abbrev pub slices_of_records : Folder → ℕ → List FileRecord → List (List ℕ)
+slices_of_records folder s files = all_slices s (files_of folder (names_of files))
 
--- with zeros after those that are shorter, the texts are these slices
+-- padded with zeros, the buffers are these slices
 abbrev pub ArePadded : ℕ → List (List ℕ) → List (Bor (List ℕ)) → Type 0
-ArePadded s slices texts = map (padded s) (texts_of texts) ≡ slices
+ArePadded s slices buffers = map (padded s) (buffers_of buffers) ≡ slices

@@ -1,4 +1,4 @@
--- Volumes, into which recovery slices are written, and where these lie.
+-- Volumes, into which recovery slices are written, and the places of these.
 use Rattle.std.specs.Prelude.{ℕ, ◌≡◌, ◌+◌, ◌*◌, List, [], ◌++◌, length, map, flat_map, replicate, slice_index_or, Vec}
 use Rattle.std.specs.declared.alloc.Global.{Global}
 use Rattle.std.specs.List.{enumerate_from, range_with_len}
@@ -15,23 +15,23 @@ use Rattle.par2_create.specs.declared.outputs.Parts.{Parts}
 abbrev pub slice_of : Parts → ℕ → List ℕ
 slice_of parts e = recovery parts.set.now.slice (inputs_of parts) e
 
--- the bytes of a volume without MD5s, where these are its recovery slices
+-- the bytes of a volume with these recovery slices and without MD5s
 abbrev pub volume_with : Parts → (slice : ℕ → List ℕ) → Volume → List ℕ
 volume_with parts slice volume = parts.index.items ++ flat_map (λ e. undigested parts.set_id e (slice e)) (range_with_len volume.first volume.count)
 
--- zeros stand for them
+-- the volume with zeros for its recovery slices
 abbrev pub blank_volume : Parts → Volume → List ℕ
 blank_volume parts volume = volume_with parts (λ e. replicate parts.set.now.slice 0) volume
 
--- they are there
+-- the volume with its recovery slices
 abbrev pub with_slices : Parts → Volume → List ℕ
 with_slices parts volume = volume_with parts (slice_of parts) volume
 
--- the texts of volumes, in order
-abbrev pub AreTexts : {Z : Type 0} → (Volume → List ℕ) → List Volume → Vec (Vec ℕ Global) Z → Type 0
-AreTexts text_of volumes texts = lists_of texts.items ≡ map text_of volumes
+-- the buffers are those of the volumes, in order
+abbrev pub AreBuffers : {Z : Type 0} → (Volume → List ℕ) → List Volume → Vec (Vec ℕ Global) Z → Type 0
+AreBuffers volume_bytes volumes buffers = lists_of buffers.items ≡ map volume_bytes volumes
 
--- a text under a name, as a file
+-- bytes under a name, as a file
 abbrev pub as_file : List ℕ × Vec ℕ Global → File
 as_file file = (file.0, file.1.items)
 
@@ -39,7 +39,7 @@ as_file file = (file.0, file.1.items)
 abbrev pub AreFiles : {Z : Type 0} → Parts → List Volume → Vec (List ℕ × Vec ℕ Global) Z → Type 0
 AreFiles parts volumes files = map as_file files.items ≡ map (volume_file parts) volumes
 
--- volume j, or one with nothing
+-- volume j, or an empty one beyond the end
 abbrev pub nth_volume : List Volume → ℕ → Volume
 nth_volume volumes j = slice_index_or volumes j (record { name = []; first = 0; count = 0 })
 
@@ -47,22 +47,22 @@ nth_volume volumes j = slice_index_or volumes j (record { name = []; first = 0; 
 abbrev pub exponents_in : Volume → List ℕ
 exponents_in volume = range_with_len volume.first volume.count
 
--- those of all volumes
-abbrev pub exponents_of : List Volume → List ℕ
-exponents_of volumes = flat_map exponents_in volumes
+-- the exponents of all volumes' recovery slices, in order
+abbrev pub volume_exponents : List Volume → List ℕ
+volume_exponents volumes = flat_map exponents_in volumes
 
--- how many bytes the index and so many packets of recovery slices have
+-- the length of the index and this many packets of recovery slices
 abbrev pub length_with : Parts → ℕ → ℕ
 length_with parts packets = length parts.index.items + packets * (68 + parts.set.now.slice)
 
--- where recovery slice k of volume i lies: in its packet, behind the header and the exponent
+-- the place of recovery slice k of volume i: in its packet, after the header and the exponent
 abbrev pub place_in : Parts → (i k : ℕ) → Place
-place_in parts i k = record { text = i; at = length_with parts k + 68 }
+place_in parts i k = record { buffer = i; at = length_with parts k + 68 }
 
--- where those of a volume lie, in order, with the volume's number
+-- the places of a volume's recovery slices, in order; the volume comes with its number
 abbrev pub places_in : Parts → ℕ × Volume → List Place
 places_in parts z = map (place_in parts z.0) (range_with_len 0 z.1.count)
 
--- where those of all volumes lie, in order
+-- the places of all volumes' recovery slices, in order
 abbrev pub places_of : Parts → List Volume → List Place
 places_of parts volumes = flat_map (places_in parts) (enumerate_from 0 volumes)

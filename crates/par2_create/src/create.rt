@@ -1,4 +1,5 @@
-//! What a create writes.
+//! Plans a create: the changes that write its outputs, or the fault for which it is refused. `plan_create` checks the
+//! arguments and the inputs, describes the inputs, names the volumes, and lists the changes.
 ghost use Rattle.std.specs.Prelude.{◌≡◌, ◌≤◌, ◌⊎◌, Some, None, map, string_bytes, IsTrue, IfOk, IfErr, OnOk};
 ghost use Rattle.par2_spec.specs.Changes.{effects, are_applicable};
 ghost use Rattle.par2_spec.specs.Commands.{Create, files_of};
@@ -6,10 +7,10 @@ ghost use Rattle.par2_spec.specs.Refusals.{head_fault, bad_name, after};
 ghost use Rattle.par2_spec.specs.Plans as plans;
 ghost use Rattle.par2_spec.specs.Views.{create_args_of};
 ghost use Rattle.par2_create.specs.Records.{AreRecords};
-ghost use Rattle.par2_files.specs.Landmarks.{AreLandmarksOf};
+ghost use Rattle.par2_files.specs.Checkpoints.{AreCheckpointsOf};
 ghost use Rattle.par2_spec.specs.Planned.{FailsAs, RefusesEarly, SucceedsAs};
 ghost use Rattle.par2_create.specs.Faults.{inputs_fault};
-ghost use Rattle.par2_create.specs.Outputs.{RecordsInputs, volumes_asked};
+ghost use Rattle.par2_create.specs.Outputs.{RecordsInputs, volumes_requested};
 
 use crate::Changes;
 use crate::index::index_of;
@@ -18,72 +19,78 @@ use crate::names::{Volume, existing, volumes};
 use crate::outputs::{Parts, changes_of};
 use crate::records::{RecoverySet, file_records};
 use crate::words::{bad_name, index_name, input_names};
-use par2_files::{Folder, Landmarks, Name, mark_folder};
+use par2_files::{Checkpoints, Folder, Name, checkpoint_at};
 use par2_packets::{FileRecord, main_id};
 use par2_spec::{CreateArgs, Fault, Result};
 use std::alloc::Global;
 
-/// What a create does.
+/// The plan of a create.
 #[derive(Drop)]
 pub struct Creation {
     pub changes: Changes,
-    /// A landmark of the folder, for the fingerprints along these changes: it was computed side by side with the MD5s of
-    /// the inputs.
-    pub landmarks: Landmarks,
+    /// Checkpoints of the folder, for the fingerprints of the folders that these changes lead to. They were computed
+    /// side by side with the MD5s of the inputs.
+    pub checkpoints: Checkpoints,
 }
 
-// What a set says of files. Their MD5s are computed side by side with a landmark of the folder at a name.
+// The records of the files of these names, in this order, for slices of `size` bytes. Their MD5s are computed side by
+// side with a checkpoint of the folder at `name`, the index, which is the least name that a create writes.
 fn records_beside(
     alloc: Global,
     folder: &Folder,
     names: &[Name],
     size: u64,
-    from: &Landmarks,
+    from: &Checkpoints,
     name: &Name,
-) -> Result<(Vec<FileRecord>, Landmarks)>
+) -> Result<(Vec<FileRecord>, Checkpoints)>
     requires size { 1 ≤ size }
-    requires landmarks { AreLandmarksOf folder.now.files from.now }
+    requires checkpoints { AreCheckpointsOf folder.now.files from.now }
     ensures records { let files = files_of folder.now.files names.now in
         IfOk result (λ found. AreRecords size files found.0.items) }
-    ensures landmarks { IfOk result (λ found. AreLandmarksOf folder.now.files found.1) }
+    ensures checkpoints { IfOk result (λ found. AreCheckpointsOf folder.now.files found.1) }
 {
-    let texts = folder.bytes_of_each(names)?;
-    let marked = mark_folder(alloc, folder, from, name, &texts)?;
-    let records = file_records(alloc, folder, names, &marked.beside, size)?;
-    Ok((records, marked.landmarks))
+    let buffers = folder.bytes_of_each(names)?;
+    let checkpointed = checkpoint_at(alloc, folder, from, name, &buffers)?;
+    let records = file_records(alloc, folder, names, &checkpointed.beside, size)?;
+    Ok((records, checkpointed.checkpoints))
 }
 
-// What a set says of the inputs, where nothing is wrong with them, and a landmark of the folder at a name.
+// The set of the inputs, if nothing is wrong with them, and a checkpoint of the folder at `name`, which is the index's.
 #[tactic(auto, unfolding(crate::specs::Faults::inputs_fault))]
 fn set_of_inputs(
     alloc: Global,
     folder: &Folder,
     args: &CreateArgs,
-    from: &Landmarks,
+    from: &Checkpoints,
     name: &Name,
-) -> Result<(RecoverySet, Landmarks), Fault>
+) -> Result<(RecoverySet, Checkpoints), Fault>
+    // The slice size and the names are valid, and `from` has checkpoints of this folder.
     requires slice { 1 ≤ args.now.slice }
     requires words { bad_name (map string_bytes args.now.inputs.items) ≡ None }
-    requires landmarks { AreLandmarksOf folder.now.files from.now }
+    requires checkpoints { AreCheckpointsOf folder.now.files from.now }
+    // It fails for the first cause that the inputs give, or for lack of memory, and succeeds only
+    // if there is no cause.
     ensures refused { let names = map string_bytes args.now.inputs.items in
         let cause = inputs_fault folder.now.files args.now.slice names in
         IfErr result (λ fault. (fault ≡ Fault.Memory) ⊎ (cause ≡ Some fault)) }
     ensures accepted { let names = map string_bytes args.now.inputs.items in
         OnOk result (inputs_fault folder.now.files args.now.slice names ≡ None) }
-    ensures set { let asked = create_args_of args.now in
-        IfOk result (λ found. RecordsInputs folder.now.files asked found.0) }
-    ensures landmarks { IfOk result (λ found. AreLandmarksOf folder.now.files found.1) }
+    // The set describes the inputs in the order of their File IDs, and the checkpoints are of this
+    // folder.
+    ensures set { let requested = create_args_of args.now in
+        IfOk result (λ found. RecordsInputs folder.now.files requested found.0) }
+    ensures checkpoints { IfOk result (λ found. AreCheckpointsOf folder.now.files found.1) }
 {
     let names = input_names(alloc, &args.inputs)?;
     no_duplicate(alloc, &names)?;
     if let Some(fault) = files_fault(folder, &names, args.slice) {
         return Err(fault);
     }
-    let (records, landmarks) = records_beside(alloc, folder, &names, args.slice, from, name)?;
-    Ok((set_of(records, args.slice)?, landmarks))
+    let (records, checkpoints) = records_beside(alloc, folder, &names, args.slice, from, name)?;
+    Ok((set_of(records, args.slice)?, checkpoints))
 }
 
-// The changes that write the outputs of a create with which nothing is wrong.
+// The changes that write the index `base` and these volumes, for a create with which nothing is wrong.
 fn outputs_written(
     alloc: Global,
     folder: &Folder,
@@ -92,12 +99,15 @@ fn outputs_written(
     set: &RecoverySet,
     volumes: &[Volume],
 ) -> Result<Changes>
+    // Nothing is wrong with the arguments and the inputs.
     requires head { head_fault (create_args_of args.now) ≡ None }
     requires inputs { let names = map string_bytes args.now.inputs.items in
         inputs_fault folder.now.files args.now.slice names ≡ None }
+    // The base, the set and the volumes are those of the arguments.
     requires base { base ≡ string_bytes args.now.base }
     requires set { RecordsInputs folder.now.files (create_args_of args.now) set.now }
-    requires volumes { volumes.now ≡ volumes_asked (create_args_of args.now) }
+    requires volumes { volumes.now ≡ volumes_requested (create_args_of args.now) }
+    // It returns the changes of the create.
     ensures { let all = plans.create_changes folder.now.files (create_args_of args.now) in
         IfOk result (λ changes. changes ≡ all) }
 {
@@ -110,34 +120,43 @@ fn outputs_written(
     changes_of(alloc, base, parts, volumes)
 }
 
-/// What a create does: its outputs are written in order. Memory is answered only where a growth is refused. Landmarks of
-/// the folder spare it the files before them.
+/// The changes of a create, which write its outputs in order, or why it is refused. It returns `Memory` only if an
+/// allocation fails. The checkpoints in `from` save hashing the files before them again. A session calls it;
+/// `par2_plan` has a `plan_create` without checkpoints.
 pub fn plan_create(
     alloc: Global,
     folder: &Folder,
     args: &CreateArgs,
-    from: &Landmarks,
+    from: &Checkpoints,
 ) -> Result<Creation, Fault>
-    requires { AreLandmarksOf folder.now.files from.now }
+    // The checkpoints are of this folder.
+    requires { AreCheckpointsOf folder.now.files from.now }
+    // It fails for the first cause, or for lack of memory, and succeeds only if there is no cause.
+    // An early refusal is never reported as a lack of memory.
     ensures refused { FailsAs folder.now.files (Create (create_args_of args.now)) result }
     ensures accepted { SucceedsAs folder.now.files (Create (create_args_of args.now)) result }
     ensures early { RefusesEarly folder.now.files (Create (create_args_of args.now)) result }
+    // The changes are those of the create. They apply to the folder and lead to the one after it.
     ensures changes { IfOk result (λ made. made.changes
         ≡ plans.changes_of folder.now.files (Create (create_args_of args.now))) }
     ensures applies { IfOk result (λ made. IsTrue (are_applicable folder.now.files made.changes)) }
     ensures leads { IfOk result (λ made. effects folder.now.files made.changes
         ≡ after folder.now.files (Create (create_args_of args.now))) }
-    ensures landmarks { IfOk result (λ made. AreLandmarksOf folder.now.files made.landmarks) }
+    // The new checkpoints are of this folder.
+    ensures checkpoints { IfOk result (λ made. AreCheckpointsOf folder.now.files made.checkpoints) }
 {
     let base = index_name(args)?;
     if let Some(fault) = bad_name(&args.inputs) {
         return Err(fault);
     }
-    let (set, landmarks) = set_of_inputs(alloc, folder, args, from, &base)?;
+    let (set, checkpoints) = set_of_inputs(alloc, folder, args, from, &base)?;
     let volumes = volumes(alloc, &base, args.first, args.count)?;
     if let Some(fault) = existing(folder, args.overwrite, &base, &volumes) {
         return Err(fault);
     }
     let changes = outputs_written(alloc, folder, args, base, &set, &volumes)?;
-    Ok(Creation { changes, landmarks })
+    Ok(Creation {
+        changes,
+        checkpoints,
+    })
 }

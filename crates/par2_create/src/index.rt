@@ -1,4 +1,4 @@
-//! The index file of a set.
+//! The index file of a set, whose packets each volume repeats.
 ghost use Rattle.std.specs.Prelude.{◌≡◌, ◌≤◌, ◌++◌, length, map, flat_map, OnOk};
 ghost use Rattle.par2_spec.specs.Answers.{Lists};
 ghost use Rattle.par2_spec.specs.Packets.{packet};
@@ -10,7 +10,7 @@ use par2_packets::{FileRecord, append_creator, append_desc, append_ifsc, append_
 use par2_spec::Result;
 use std::alloc::Global;
 
-// The FileDescs of these files, in order.
+// Appends the FileDescs of these files, in order. `id` is the Recovery Set ID.
 fn append_descs(alloc: Global, out: &mut Vec<u8>, id: &[u8; 16], files: &[FileRecord]) -> Result<()>
     ensures { OnOk result (out.new.items ≡ out.old.items ++ flat_map (λ file.
         packet (packet_of id.now FileDesc (desc_bytes (file_record_of file)))) files.now) }
@@ -21,7 +21,7 @@ fn append_descs(alloc: Global, out: &mut Vec<u8>, id: &[u8; 16], files: &[FileRe
     Ok(())
 }
 
-// Their IFSCs, in order.
+// Appends the IFSCs of these files, in order. `id` is the Recovery Set ID.
 fn append_ifscs(alloc: Global, out: &mut Vec<u8>, id: &[u8; 16], files: &[FileRecord]) -> Result<()>
     ensures { OnOk result (out.new.items ≡ out.old.items ++ flat_map
         (λ file. packet (packet_of id.now Ifsc (ifsc_bytes (file_record_of file)))) files.now) }
@@ -32,21 +32,23 @@ fn append_ifscs(alloc: Global, out: &mut Vec<u8>, id: &[u8; 16], files: &[FileRe
     Ok(())
 }
 
-// What a file adds to an index beside its name and the checksums of its slices: two headers, the file's FileDesc without
-// its name, and its File ID once more in its IFSC and in Main.
+// The bytes that a file adds to an index beside its name and the checksums of its slices: two headers, the FileDesc
+// without the name, and its File ID in its IFSC and in Main.
 const FILE_LEN: usize = 64 + 56 + 64 + 16 + 16;
 
-// The other packets: two headers, the slice size, the number of files, and the name of this program.
+// The bytes of the other packets: two headers, the slice size, the number of files, and the name of this program.
 const FRAME_LEN: usize = 64 + 12 + 64 + 20;
 
-// How many bytes a file adds to an index: five words for each slice, and the name with its padding.
+// How many bytes a file adds to an index: 20 for each slice, the name with its padding, and `FILE_LEN`. `index_of`
+// reserves that many.
 fn file_len(file: &FileRecord) -> usize {
     let pairs = file.pairs.len().saturating_mul(20);
     let name = file.name.len().div_ceil(4).saturating_mul(4);
     pairs.saturating_add(name).saturating_add(FILE_LEN)
 }
 
-/// The index of a set of these files, whose order it keeps: Main, the FileDescs, the IFSCs, Creator.
+/// The bytes of the index of a set of these files with slices of `s` bytes: Main, the FileDescs, the IFSCs, Creator.
+/// The caller orders the files by File ID, as Main requires; this function keeps their order.
 #[tactic(auto, unfolding(par2_spec::specs::Volumes::index_packets))]
 pub fn index_of(alloc: Global, s: u64, files: &[FileRecord]) -> Result<Vec<u8>>
     requires { length files.now ≤ 32768 }

@@ -1,4 +1,5 @@
-//! The files that the inputs name, and why they can't be taken.
+//! The input files, and why they can't be taken: `no_duplicate` and `files_fault` check them before their MD5s are
+//! computed, and `set_of` orders their records by File ID.
 ghost use Rattle.std.specs.Prelude.{◌≡◌, ◌≤◌, ◌==◌, ℕ, List, nat_lt, not, length, sum_by, position, IfOk, IfSome, Some, None, ◌<◌};
 ghost use Rattle.par2_spec.specs.Slices as spec;
 ghost use Rattle.par2_spec.specs.Faults.{fault_of};
@@ -18,7 +19,7 @@ use par2_spec::Fault;
 use std::alloc::Global;
 use std::collections::BTreeSet;
 
-/// Refuses an input that was given before.
+/// Refuses an input that was named before, by `DuplicateInput` with its place, counted from 1.
 pub fn no_duplicate(alloc: Global, names: &[Name]) -> Result<(), Fault>
     ensures refused { FailsFor (duplicate_input names.now) result }
     ensures accepted { IfOk result (λ _. duplicate_input names.now ≡ None) }
@@ -32,7 +33,7 @@ pub fn no_duplicate(alloc: Global, names: &[Name]) -> Result<(), Fault>
     Ok(())
 }
 
-// The first of the names that no file has.
+// The index, from 0, of the first of the names that no file has.
 fn first_absent(folder: &Folder, names: &[Name]) -> Option<usize>
     ensures place { result ≡ position (λ name. not (has folder.now.files name)) names.now }
     ensures fits { IfSome result (λ place. place < usize.MAX) }
@@ -40,7 +41,7 @@ fn first_absent(folder: &Folder, names: &[Name]) -> Option<usize>
     names.iter().position(|name| folder.get(name).is_none())
 }
 
-// The first of the names whose file has no bytes.
+// The index, from 0, of the first of the names whose file is empty. An absent file counts as empty.
 fn first_empty(folder: &Folder, names: &[Name]) -> Option<usize>
     ensures place { result
         ≡ position (λ name. length (bytes_of folder.now.files name) == 0) names.now }
@@ -51,7 +52,7 @@ fn first_empty(folder: &Folder, names: &[Name]) -> Option<usize>
         .position(|name| folder.bytes_of(name).is_empty())
 }
 
-// Whether the files have more slices than a set may have.
+// Whether the files have more than 32,768 slices of `size` bytes, the most that a set may have.
 fn are_too_many(folder: &Folder, names: &[Name], size: u64) -> bool
     requires { 1 ≤ size }
     ensures { result ≡ nat_lt 32768 (sum_by
@@ -68,7 +69,8 @@ fn are_too_many(folder: &Folder, names: &[Name], size: u64) -> bool
     false
 }
 
-/// What is wrong with the files of these names.
+/// The fault of the files of these names, if there is one: for the first absent one, then for the first empty one, then
+/// for too many slices of `size` bytes.
 #[tactic(auto, unfolding(crate::specs::Faults::files_fault))]
 pub fn files_fault(folder: &Folder, names: &[Name], size: u64) -> Option<Fault>
     requires { 1 ≤ size }
@@ -86,8 +88,8 @@ pub fn files_fault(folder: &Folder, names: &[Name], size: u64) -> Option<Fault>
     None
 }
 
-/// What a set of this slice size says of the files with these records. It takes no memory, so that it tells exactly why
-/// there is no set.
+/// The set of slice size `size`, with these records in the order of their File IDs. It takes no memory, so its only
+/// fault is `DuplicateId`. `AreRecords`: record k is that of file k.
 pub fn set_of(records: Vec<FileRecord>, size: u64) -> Result<RecoverySet, Fault>
     ensures refused { (files : List File)
         → AreRecords size files records.items → fault_of result ≡ ids_fault files }

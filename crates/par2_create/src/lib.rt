@@ -1,4 +1,6 @@
-//! What a create changes in a folder, or why it is refused.
+//! Plans a create: describes the input files, computes the recovery slices, and returns the changes that write the
+//! index and the volumes, or why the command is refused. Sessions (`par2_journal`) build on it. It works on a folder in
+//! memory and doesn't know stores, journals or printed lines.
 #![tactic(auto)]
 
 mod create;

@@ -1,4 +1,5 @@
-//! The files that a create writes.
+//! The changes that write the files of a create: `changes_of` takes the index as it is, and the volumes from
+//! `volume_files`.
 ghost use Rattle.std.specs.Prelude.{◌≡◌, ◌++◌, map, IfOk, OnOk};
 ghost use Rattle.par2_files.specs.Views.{change_of};
 ghost use Rattle.par2_create.specs.Outputs.{HasSlices, HaveExponents, put_change, output_changes};
@@ -12,8 +13,7 @@ use par2_files::{Bytes, Change, Folder, Name};
 use par2_spec::Result;
 use std::alloc::Global;
 
-/// What the outputs are made of: the bytes of the index, the set's identifier, and the set whose files stand in the
-/// folder.
+/// The parts of the outputs: the bytes of the index, the Recovery Set ID, and the set, whose files are in the folder.
 #[derive(Drop)]
 pub struct Parts<'a> {
     pub index: Vec<u8>,
@@ -22,8 +22,8 @@ pub struct Parts<'a> {
     pub folder: &'a Folder,
 }
 
-// A file is written, or replaced where it is there already.
-fn put(folder: &Folder, name: Name, bytes: Vec<u8>) -> Change
+// The change that writes a file, or replaces it if it exists already.
+fn put_change(folder: &Folder, name: Name, bytes: Vec<u8>) -> Change
     ensures { change_of result ≡ put_change folder.now.files (name, bytes.items) }
 {
     if folder.get(&name).is_some() {
@@ -33,18 +33,19 @@ fn put(folder: &Folder, name: Name, bytes: Vec<u8>) -> Change
     }
 }
 
-// Adds the changes that write these files.
+// Appends the changes that write these files.
 fn push_files(changes: &mut Changes, folder: &Folder, files: Vec<(Name, Vec<u8>)>) -> Result<()>
     ensures { let added = map (λ file. put_change folder.now.files (as_file file)) files.items in
         OnOk result (changes.new ≡ changes.old ++ added) }
 {
     for (name, bytes) in files {
-        changes.push(put(folder, name, bytes))?;
+        changes.push(put_change(folder, name, bytes))?;
     }
     Ok(())
 }
 
-/// The changes that write the outputs: the index, and the volumes in order.
+/// The changes that write the outputs: the index under the name `base`, then the volumes in order. `HasSlices` and
+/// `HaveExponents`: the slice size, the number of input slices and the exponents are ones that PAR2 allows.
 pub fn changes_of(alloc: Global, base: Name, parts: Parts, volumes: &[Volume]) -> Result<Changes>
     requires parts { HasSlices parts }
     requires exponents { HaveExponents volumes.now }
@@ -52,7 +53,7 @@ pub fn changes_of(alloc: Global, base: Name, parts: Parts, volumes: &[Volume]) -
 {
     let files = volume_files(alloc, &parts, volumes)?;
     let mut changes = Changes::new(alloc);
-    changes.push(put(parts.folder, base, parts.index))?;
+    changes.push(put_change(parts.folder, base, parts.index))?;
     push_files(&mut changes, parts.folder, files)?;
     Ok(changes)
 }

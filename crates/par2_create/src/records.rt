@@ -1,4 +1,5 @@
-//! What a set says of its files.
+//! The records of a set's files, from which packets are written. `file_records` makes them in the order of the names,
+//! and `sorted_by_id` orders them by File ID as in a Main packet.
 
 ghost use Rattle.std.specs.Prelude.{◌≡◌, ◌≤◌, ◌↔◌, ℕ, List, map, IfOk, IsOk, IsPermutation, take};
 ghost use Rattle.std.specs.List.{IsDistinct};
@@ -10,7 +11,7 @@ ghost use Rattle.par2_spec.specs.Folders.{File};
 ghost use Rattle.par2_spec.specs.Folders as spec;
 ghost use Rattle.par2_spec.specs.Volumes.{in_id_order, record_of};
 ghost use Rattle.par2_spec.specs.Commands.{files_of};
-ghost use Rattle.par2_packets.specs.Views.{id_number, file_record_of};
+ghost use Rattle.par2_packets.specs.Views.{record_id_number, file_record_of};
 ghost use Rattle.par2_create.specs.Records.{AreRecords, names_of};
 
 use crate::sources::bytes_of;
@@ -21,7 +22,7 @@ use par2_slices::pairs_of;
 use par2_spec::Result;
 use std::alloc::Global;
 
-/// The slice size of a set, and what it says of its files.
+/// The slice size of a set and the records of its files.
 #[derive(Drop)]
 pub struct RecoverySet {
     /// The slice size in bytes.
@@ -30,7 +31,8 @@ pub struct RecoverySet {
     pub files: Vec<FileRecord>,
 }
 
-/// What a set of slice size `s` says of the files of these names, in their order; the MD5 digests of the files are known.
+/// The records of the files of these names, in this order, for slices of `s` bytes. `md5s` are the MD5s of the files,
+/// which the caller computes side by side. `AreRecords`: record k is that of file k.
 pub fn file_records(
     alloc: Global,
     folder: &Folder,
@@ -51,11 +53,11 @@ pub fn file_records(
     Ok(records)
 }
 
-/// Records of files in the order of their File IDs. It takes no memory, so there is no other fault than that two files
-/// have one File ID.
+/// The records in the order of their File IDs as little-endian numbers. It takes no memory, so its only fault is that
+/// two files have one File ID. For the records of certain files the order is `in_id_order`, that of the definitions.
 pub fn sorted_by_id(mut files: Vec<FileRecord>) -> Result<Vec<FileRecord>, DuplicateId>
     ensures distinct { IsOk result ↔ IsDistinct bytes_eq (map (λ file. file.id) files.items) }
-    ensures rising { IfOk result (λ all. IsStrictlyIncreasing (map id_number all.items)) }
+    ensures rising { IfOk result (λ all. IsStrictlyIncreasing (map record_id_number all.items)) }
     ensures permutation { IfOk result (λ all. IsPermutation files.items all.items) }
     ensures files { IfOk result (λ all. (s : ℕ) (inputs : List File)
         → AreRecords s inputs files.items
@@ -68,17 +70,18 @@ pub fn sorted_by_id(mut files: Vec<FileRecord>) -> Result<Vec<FileRecord>, Dupli
     Ok(files)
 }
 
-// How many bytes of a file have a digest of their own.
+// How many bytes of a file have an MD5 of their own ("File Description packet").
 const HEAD: usize = 16384;
 
-// The first n bytes, or all where there are fewer.
+// The first `n` bytes, or all if there are fewer.
 fn first_bytes(bytes: &[u8], n: usize) -> &[u8]
     ensures { result.now ≡ take n bytes.now }
 {
     if n < bytes.len() { &bytes[..n] } else { bytes }
 }
 
-/// What a set of slice size `s` says of the file of this name and these bytes, whose MD5 is given.
+/// The record of the file of this name and these bytes, for slices of `s` bytes: File ID, MD5s, length, and checksums
+/// of the slices. `md5` is that of the bytes.
 #[tactic(auto, unfolding(par2_spec::specs::Volumes::record_of))]
 pub fn file_record_by_md5(
     alloc: Global,

@@ -1,10 +1,11 @@
-//! The slices of the files that records describe, as recovery slices are made of them.
+//! The input slices of a set, as recovery slices are computed from them: borrowed from the folder, and without the
+//! padding at the end of a file.
 
 ghost use Rattle.std.specs.Prelude.{◌≡◌, ◌≤◌, ◌++◌, map, IfOk};
 ghost use Rattle.par2_spec.specs.Folders.{bytes_of};
 ghost use Rattle.par2_spec.specs.Slices as spec;
-ghost use Rattle.par2_slices.specs.Texts.{texts_of};
-ghost use Rattle.par2_create.specs.Records.{slices_of, ArePadded};
+ghost use Rattle.par2_slices.specs.Positions.{buffers_of};
+ghost use Rattle.par2_create.specs.Records.{slices_of_records, ArePadded};
 
 use par2_files::{Folder, Name};
 use par2_packets::FileRecord;
@@ -12,7 +13,8 @@ use par2_slices::{slice_bytes, slice_count};
 use par2_spec::Result;
 use std::alloc::Global;
 
-// The bytes of a file, none where it is absent.
+/// The bytes of the file of this name, none if it is absent. Unlike `Folder::bytes_of` it takes a string, as records
+/// have it.
 pub(crate) fn bytes_of<'a>(folder: &'a Folder, name: &str) -> &'a [u8]
     ensures { result.now ≡ bytes_of folder.now.files name.now }
 {
@@ -24,11 +26,11 @@ pub(crate) fn bytes_of<'a>(folder: &'a Folder, name: &str) -> &'a [u8]
     folder.bytes_of(&name)
 }
 
-// The slices, and after them those of one more file.
+// The slices, followed by those of one more file of these bytes, each of `s` bytes but the last.
 fn with_slices<'a>(slices: Vec<&'a [u8]>, bytes: &'a [u8], s: u64) -> Result<Vec<&'a [u8]>>
     requires { 1 ≤ s }
-    ensures { IfOk result (λ all. map (spec.padded s) (texts_of all.items)
-        ≡ map (spec.padded s) (texts_of slices.entry.items) ++ spec.slices s bytes.now) }
+    ensures { IfOk result (λ all. map (spec.padded s) (buffers_of all.items)
+        ≡ map (spec.padded s) (buffers_of slices.entry.items) ++ spec.slices s bytes.now) }
 {
     let mut all = slices;
     for j in 0..slice_count(bytes.len() as u64, s) {
@@ -37,8 +39,8 @@ fn with_slices<'a>(slices: Vec<&'a [u8]>, bytes: &'a [u8], s: u64) -> Result<Vec
     Ok(all)
 }
 
-/// The slices of the files of these records, one file after the other. The last one of a file is as short as the file
-/// leaves it; a file that is absent has no slices.
+/// The slices of the files of these records, each of `s` bytes, one file after the other: the inputs of recovery
+/// slices. The last slice of a file isn't padded, and an absent file has no slices.
 pub fn input_slices<'a>(
     alloc: Global,
     files: &[FileRecord],
@@ -46,7 +48,8 @@ pub fn input_slices<'a>(
     folder: &'a Folder,
 ) -> Result<Vec<&'a [u8]>>
     requires { 1 ≤ s }
-    ensures { IfOk result (λ all. ArePadded s (slices_of folder.now.files s files.now) all.items) }
+    ensures { IfOk result
+        (λ all. ArePadded s (slices_of_records folder.now.files s files.now) all.items) }
 {
     let mut all = Vec::new(alloc);
     for i in 0..files.len() {

@@ -1,11 +1,11 @@
-//! The bytes of volumes. Their packets are there from the start, with zeros for recovery slices and MD5s; the slices are
-//! written into them, all at once, and the MD5s at the end.
+//! The bytes of volumes. Their packets are laid out first, with zeros for recovery slices and MD5s. The recovery slices
+//! are computed in place, all at once, and the MD5s are filled in at the end.
 
 ghost use Rattle.std.specs.Prelude.{◌≡◌, ◌≤◌, ◌<◌, ◌^◌, length, map, IfOk, OnOk};
 ghost use Rattle.par2_spec.specs.Answers.{Appends};
 ghost use Rattle.par2_spec.specs.Sums.{lists_of};
-ghost use Rattle.par2_create.specs.Outputs.{HasExponents, HasSlices, HaveExponents, volume_text};
-ghost use Rattle.par2_create.specs.Volumes.{AreFiles, AreTexts, blank_volume, exponents_of, length_with, places_in, places_of, with_slices};
+ghost use Rattle.par2_create.specs.Outputs.{HasExponents, HasSlices, HaveExponents, volume_file_name};
+ghost use Rattle.par2_create.specs.Volumes.{AreFiles, AreBuffers, blank_volume, volume_exponents, length_with, places_in, places_of, with_slices};
 
 use crate::names::Volume;
 use crate::outputs::Parts;
@@ -18,71 +18,78 @@ use par2_spec::Result;
 use par2_transform::{Place, Places};
 use std::alloc::Global;
 
-// What a packet has beside the bytes of a recovery slice: its header, and the exponent.
+// The bytes of a packet before its recovery slice: the header and the exponent.
 const RECOVERY_HEAD: usize = 68;
 
-// How many bytes a volume of this many recovery slices has.
+// The length in bytes of a volume of `count` recovery slices: that of the index and of `count` packets. It saturates,
+// because it only reserves memory.
 fn volume_len(parts: &Parts, count: u32) -> usize {
     let each = (parts.set.slice as usize).saturating_add(RECOVERY_HEAD);
     each.saturating_mul(count as usize)
         .saturating_add(parts.index.len())
 }
 
-// The bytes of a volume whose recovery slices and MD5s are still to come.
+// The bytes of a volume, the index and then its recovery packets, with zeros for their slices and MD5s.
 fn blank_volume(alloc: Global, parts: &Parts, volume: &Volume) -> Result<Vec<u8>>
     requires small { parts.now.set.now.slice ≤ 2 ^ 30 }
     requires exponents { HasExponents volume.now }
     ensures { IfOk result (λ bytes. bytes.items ≡ blank_volume parts.now volume.now) }
 {
-    let mut text = Vec::with_capacity(alloc, volume_len(parts, volume.count))?;
-    text.extend_from_slice(&parts.index)?;
+    let mut bytes = Vec::with_capacity(alloc, volume_len(parts, volume.count))?;
+    bytes.extend_from_slice(&parts.index)?;
     let size = parts.set.slice as usize;
-    with_undigested(text, &parts.set_id, volume.first, volume.count, size)
+    with_undigested(bytes, &parts.set_id, volume.first, volume.count, size)
 }
 
-// Adds the places of a volume's recovery slices, which is volume `i`.
+// Appends the places of the recovery slices of volume `i`, from 0: buffer `i`, and the offset in bytes of each slice.
+// `bytes` is that buffer, which only the contract uses.
 fn append_places(
     places: &mut Vec<Place>,
     parts: &Parts,
     volume: &Volume,
     i: usize,
-    text: &[u8],
+    bytes: &[u8],
 ) -> Result<()>
     requires small { parts.now.set.now.slice ≤ 2 ^ 30 }
-    requires text { length text.now ≡ length_with parts.now volume.now.count }
+    requires bytes { length bytes.now ≡ length_with parts.now volume.now.count }
     ensures { Appends (places_in parts.now (i, volume.now)) places.old places.new result }
 {
     let packet = RECOVERY_HEAD + parts.set.slice as usize;
     for k in 0..volume.count {
         let at = parts.index.len() + k as usize * packet + RECOVERY_HEAD;
-        places.push(Place { text: i, at })?;
+        places.push(Place { buffer: i, at })?;
     }
     Ok(())
 }
 
-// The bytes of all volumes whose recovery slices and MD5s are still to come.
+// The bytes of all volumes, each in a buffer of its own, with zeros for their recovery slices and MD5s.
 fn blank_volumes(alloc: Global, parts: &Parts, volumes: &[Volume]) -> Result<Vec<Vec<u8>>>
     requires small { parts.now.set.now.slice ≤ 2 ^ 30 }
     requires exponents { HaveExponents volumes.now }
-    ensures { IfOk result (AreTexts (blank_volume parts.now) volumes.now) }
+    ensures { IfOk result (AreBuffers (blank_volume parts.now) volumes.now) }
 {
-    let mut texts = Vec::with_capacity(alloc, volumes.len())?;
+    let mut buffers = Vec::with_capacity(alloc, volumes.len())?;
     for volume in volumes {
-        let text = blank_volume(alloc, parts, volume)?;
-        texts.push(text)?;
+        let bytes = blank_volume(alloc, parts, volume)?;
+        buffers.push(bytes)?;
     }
-    Ok(texts)
+    Ok(buffers)
 }
 
-// The places of the recovery slices of all volumes, which have these bytes, in order.
-fn places(alloc: Global, parts: &Parts, volumes: &[Volume], texts: &[Vec<u8>]) -> Result<Vec<Place>>
+// The places of the recovery slices of all volumes, in order. `buffers` has the bytes of the volumes.
+fn places(
+    alloc: Global,
+    parts: &Parts,
+    volumes: &[Volume],
+    buffers: &[Vec<u8>],
+) -> Result<Vec<Place>>
     requires parts { HasSlices parts.now }
-    requires texts { lists_of texts.now ≡ map (blank_volume parts.now) volumes.now }
+    requires buffers { lists_of buffers.now ≡ map (blank_volume parts.now) volumes.now }
     ensures { IfOk result (λ places. places.items ≡ places_of parts.now volumes.now) }
 {
     let mut places = Vec::new(alloc);
     for i in 0..volumes.len() {
-        append_places(&mut places, parts, &volumes[i], i, &texts[i])?;
+        append_places(&mut places, parts, &volumes[i], i, &buffers[i])?;
     }
     Ok(places)
 }
@@ -90,7 +97,7 @@ fn places(alloc: Global, parts: &Parts, volumes: &[Volume], texts: &[Vec<u8>]) -
 // The exponents of all volumes' recovery slices, in order.
 fn exponents_of(alloc: Global, volumes: &[Volume]) -> Result<Vec<u32>>
     requires exponents { HaveExponents volumes.now }
-    ensures { IfOk result (λ exponents. exponents.items ≡ exponents_of volumes.now) }
+    ensures { IfOk result (λ exponents. exponents.items ≡ volume_exponents volumes.now) }
 {
     volumes
         .iter()
@@ -98,7 +105,7 @@ fn exponents_of(alloc: Global, volumes: &[Volume]) -> Result<Vec<u32>>
         .collect(alloc)
 }
 
-// Writes the recovery slices of all volumes where they belong.
+// Writes the recovery slices of all volumes at their places in `out`, the buffers of the volumes.
 fn write_slices(alloc: Global, parts: &Parts, volumes: &[Volume], out: &mut [Vec<u8>]) -> Result<()>
     requires parts { HasSlices parts.now }
     requires exponents { HaveExponents volumes.now }
@@ -113,38 +120,39 @@ fn write_slices(alloc: Global, parts: &Parts, volumes: &[Volume], out: &mut [Vec
     write_recovery_slices(alloc, &gf, &inputs, &exponents, out, &outputs)
 }
 
-// Puts the MD5s into a volume.
-fn digest_volume(alloc: Global, text: &mut [u8], parts: &Parts, volume: &Volume) -> Result<()>
+// Fills in the MD5s of the recovery packets of a volume, which are the last of its bytes.
+fn digest_volume(alloc: Global, bytes: &mut [u8], parts: &Parts, volume: &Volume) -> Result<()>
     requires parts { HasSlices parts.now }
-    requires before { text.old ≡ with_slices parts.now volume.now }
-    ensures { OnOk result (text.new ≡ volume_text parts.now volume.now) }
+    requires before { bytes.old ≡ with_slices parts.now volume.now }
+    ensures { OnOk result (bytes.new ≡ volume_file_name parts.now volume.now) }
 {
-    let packets = &mut text[parts.index.len()..];
+    let packets = &mut bytes[parts.index.len()..];
     let size = parts.set.slice as usize;
     digest_recoveries(alloc, packets, size, volume.count as usize)
 }
 
-// Takes the volumes, puts the MD5s into them, and gives them under their names.
+// Takes the buffers of the volumes, fills in the MD5s, and returns the buffers with the names of the volumes.
 fn digested(
     alloc: Global,
-    texts: &mut Vec<Vec<u8>>,
+    buffers: &mut Vec<Vec<u8>>,
     parts: &Parts,
     volumes: &[Volume],
 ) -> Result<Vec<(Name, Vec<u8>)>>
     requires parts { HasSlices parts.now }
-    requires before { AreTexts (with_slices parts.now) volumes.now texts.old }
+    requires before { AreBuffers (with_slices parts.now) volumes.now buffers.old }
     ensures { IfOk result (AreFiles parts.now volumes.now) }
 {
     let mut files = Vec::with_capacity(alloc, volumes.len())?;
     for volume in volumes {
-        let mut text = texts.remove(0);
-        digest_volume(alloc, text.as_mut_slice(), parts, volume)?;
-        files.push((volume.name.copied(), text))?;
+        let mut bytes = buffers.remove(0);
+        digest_volume(alloc, bytes.as_mut_slice(), parts, volume)?;
+        files.push((volume.name.copied(), bytes))?;
     }
     Ok(files)
 }
 
-/// The volumes as files, in order. Where there are none, no table is made and no input looked up.
+/// The volumes as files, in order: names with bytes. If there are none, no table of the field is made and no input is
+/// read.
 pub(crate) fn volume_files(
     alloc: Global,
     parts: &Parts,
@@ -157,7 +165,7 @@ pub(crate) fn volume_files(
     if volumes.is_empty() {
         return Ok(Vec::new(alloc));
     }
-    let mut texts = blank_volumes(alloc, parts, volumes)?;
-    write_slices(alloc, parts, volumes, texts.as_mut_slice())?;
-    digested(alloc, &mut texts, parts, volumes)
+    let mut buffers = blank_volumes(alloc, parts, volumes)?;
+    write_slices(alloc, parts, volumes, buffers.as_mut_slice())?;
+    digested(alloc, &mut buffers, parts, volumes)
 }

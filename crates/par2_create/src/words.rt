@@ -1,4 +1,5 @@
-//! Whether the words of a create can be taken, and why not.
+//! Whether the arguments of a create are valid, and why not, without the folder: `index_name` checks the numbers and
+//! the base, `bad_name` the inputs, and `input_names` then takes their names.
 ghost use Rattle.std.specs.Prelude.{◌≡◌, ◌<◌, ◌&&◌, not, position, map, string_bytes, is_some, if◌then◌else◌, IfOk, IfErr, IfSome, Some, None};
 ghost use Rattle.par2_spec.specs.Names as names;
 ghost use Rattle.par2_spec.specs.Views.{create_args_of};
@@ -9,7 +10,8 @@ use par2_slices::is_slice_size;
 use par2_spec::{CreateArgs, Fault, Result};
 use std::alloc::Global;
 
-// The name that the word is, where it can be one of an index, or else one of an input.
+// The argument as a name, if it is one of an index (`is_index`), which ends in `.par2`, or one of an input (otherwise),
+// which doesn't.
 fn name_of(word: &str, is_index: bool) -> Option<Name>
     ensures variant { let is_par = names.is_par_name word.now in
         is_some result ≡ (names.is_name word.now && (if is_index then is_par else not is_par)) }
@@ -21,7 +23,8 @@ fn name_of(word: &str, is_index: bool) -> Option<Name>
     }
 }
 
-/// The name of the index, where nothing is wrong with the numbers, the base and the count of inputs.
+/// The name of the index, if the slice size, the exponents, the base and the number of inputs are valid. Otherwise it
+/// returns the first fault of these (`head_fault`).
 #[tactic(auto, unfolding(par2_spec::specs::Refusals::head_fault))]
 pub fn index_name(args: &CreateArgs) -> Result<Name, Fault>
     ensures refused { IfErr result (λ fault. head_fault (create_args_of args.now) ≡ Some fault) }
@@ -43,7 +46,7 @@ pub fn index_name(args: &CreateArgs) -> Result<Name, Fault>
     Ok(name)
 }
 
-// The first of the words that can't be the name of an input.
+// The index, from 0, of the first argument that can't be the name of an input.
 fn first_bad(words: &[String]) -> Option<usize>
     ensures place { result ≡ position (λ word. not (is_input_name (string_bytes word))) words.now }
     ensures fits { IfSome result (λ place. place < usize.MAX) }
@@ -51,7 +54,8 @@ fn first_bad(words: &[String]) -> Option<usize>
     words.iter().position(|word| name_of(word, false).is_none())
 }
 
-/// What is wrong where a word can't be the name of an input. It takes no memory.
+/// The fault `BadName` with the place of the first argument, from 1, that can't be the name of an input. It takes no
+/// memory.
 pub fn bad_name(words: &[String]) -> Option<Fault>
     ensures { result ≡ bad_name (map string_bytes words.now) }
 {
@@ -61,7 +65,7 @@ pub fn bad_name(words: &[String]) -> Option<Fault>
     }
 }
 
-/// The names of the inputs, where each word can be one.
+/// The names of the inputs, in order, once `bad_name` has found no fault.
 pub(crate) fn input_names(alloc: Global, words: &[String]) -> Result<Vec<Name>>
     requires { bad_name (map string_bytes words.now) ≡ None }
     ensures { IfOk result (λ names. names.items ≡ map string_bytes words.now) }

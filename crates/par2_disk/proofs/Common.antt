@@ -4,7 +4,7 @@ pub use Rattle.std.proofs.Common.{IfErr, List, OnErr, OnOk, Result, Some, [], ap
 pub use Rattle.std.proofs.raw_atomic.Walks.{proved}
 pub use Rattle.std.specs.FinMap.{entries}
 pub use Rattle.std.specs.Int.Bits.{bit_and}
-pub use Rattle.par2_disk.specs.Filling.{IsTried}
+pub use Rattle.par2_disk.specs.Filling.{IsWrittenAs}
 pub use Rattle.par2_disk.specs.Stores.{OnlyReads}
 pub use Rattle.par2_spec.specs.Changes.{FolderState, Write, state_after}
 unfoldable pub use Rattle.par2_spec.specs.Changes.{change_refusal, effect, is_applicable}

@@ -2,4 +2,4 @@ mod Common
 pub mod Steps
 pub mod Filling
 pub mod Stores
-pub mod Rights
+pub mod Permissions

@@ -1,4 +1,4 @@
--- The walks of the count of failures: a struct without fields owns nothing, whatever its ghost field says.
+-- The constructors of `Count`: a struct without fields owns nothing, whatever its ghost field is.
 use Rattle.par2_disk.proofs.Common.{List, [], ◌∷◌, refl}
 use seplogic.Ra.Ura.{Ura}
 use mir.Val.{Val, vstruct, vnil}
@@ -16,7 +16,7 @@ nothing_inside = vstruct vnil
 abbrev pub no_fields : RattleType
 no_fields = Struct (record { name = []; args = []; types = []; fields = [] })
 
--- owning its fields and what it owns beside them takes nothing
+-- owning its fields, and what it owns beside them, is trivial
 pub made_of_nothing : {M : Type 1} {𝓤 : Ura M} {𝓛 : Logic 𝓤} {K : Type 0} {Γ : List (Item 𝓤)} {G : Goal 𝓤 𝓛.H} → K → Step K 𝓛 (‵ (no_fields.own_val tt (nothing_inside ∷ [])) ∷ Γ) G Γ G
 made_of_nothing t = step (λ rest.
     nothing t $ feq_i t (List Val) (nothing_inside ∷ []) (nothing_inside ∷ []) refl $ fjoin t

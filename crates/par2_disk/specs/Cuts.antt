@@ -1,30 +1,30 @@
--- What a power cut may leave of a directory, and of a store. Bytes that were written may be there up to any place until
--- they were waited for. A change of names may be there or not until it was waited for, each by itself; it is never there
--- in part. What was waited for is there.
+-- What a power cut may leave of a directory, and of a store. Until written bytes are synced, any prefix of them may be
+-- left. Until a change of names is synced, it may be there or not, independently of others, but never in part. Synced
+-- bytes and names stay.
 use Rattle.std.specs.Prelude.{◌≡◌, ◌⊎◌, ℕ, List, take, Option, Some}
 use Rattle.par2_spec.specs.Stores.{Contents}
 
--- no other contents may remain than these
-abbrev pub Lasts : (Contents → Type 0) → Contents → Type 0
-Lasts may_remain contents = (left : Contents) → may_remain left → left ≡ contents
+-- a power cut leaves these contents and no others
+abbrev pub IsDurable : (Contents → Type 0) → Contents → Type 0
+IsDurable crash_states contents = (left : Contents) → crash_states left → left ≡ contents
 
--- no other contents may remain than those from before and those from after
-abbrev pub RemainsEither : (Contents → Type 0) → Contents → Contents → Type 0
-RemainsEither may_remain before after = (left : Contents) → may_remain left → (left ≡ before) ⊎ (left ≡ after)
+-- a power cut leaves the contents before or the contents after
+abbrev pub CrashStatesAreEither : (Contents → Type 0) → Contents → Contents → Type 0
+CrashStatesAreEither crash_states before after = (left : Contents) → crash_states left → (left ≡ before) ⊎ (left ≡ after)
 
--- no more may remain than before
-abbrev pub NoMoreRemains : (Contents → Type 0) → (Contents → Type 0) → Type 0
-NoMoreRemains old new = (left : Contents) → new left → old left
+-- whatever a power cut may leave now, it could leave before
+abbrev pub NoMoreCrashStates : (Contents → Type 0) → (Contents → Type 0) → Type 0
+NoMoreCrashStates old new = (left : Contents) → new left → old left
 
--- a change that was not waited for: of what might remain before, each may remain without it, or with it
+-- a change that is not synced: each earlier crash state may be left without the change or with it
 abbrev pub MayBeMade : (Contents → Contents → Type 0) → (Contents → Type 0) → (Contents → Type 0) → Type 0
 MayBeMade IsChange old new =
     (left : Contents) → new left → old left ⊎ ((before : Contents) × old before × IsChange before left)
 
--- bytes that were not waited for: any first part of them may remain
+-- bytes that are not synced: any prefix of them may be left
 abbrev pub MayBeCutOff : (List ℕ → Type 0) → List ℕ → Type 0
-MayBeCutOff may_remain bytes = (left : List ℕ) → may_remain left → (n : ℕ) × (left ≡ take n bytes)
+MayBeCutOff crash_states bytes = (left : List ℕ) → crash_states left → (n : ℕ) × (left ≡ take n bytes)
 
--- bytes that were waited for: no others may remain
+-- bytes that are synced: a power cut leaves exactly these
 abbrev pub AreKept : (List ℕ → Type 0) → Option (List ℕ) → Type 0
-AreKept may_remain bytes = (left : List ℕ) → may_remain left → bytes ≡ Some left
+AreKept crash_states bytes = (left : List ℕ) → crash_states left → bytes ≡ Some left

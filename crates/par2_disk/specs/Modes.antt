@@ -1,55 +1,57 @@
--- Who may read and write a file, by the bits of its mode: 0o070 are the rights of its group, 0o007 those of others.
+-- The permission bits of a file's mode: 0o600 for its owner, 0o070 for its group, 0o007 for others.
 use Rattle.std.specs.Prelude.{◌≡◌, ℕ, List, [], ◌++◌, ◌∷◌, bit_and}
 use Rattle.std.specs.List.{All}
 use Rattle.par2_disk.specs.declared.directory.Place.{Place}
 use Rattle.par2_disk.specs.declared.directory.Place.TheVariants as place
 use Rattle.par2_disk.specs.declared.modes.Modes.{Modes}
 
--- a mode gives no right that another doesn't
-abbrev pub IsWithin : ℕ → ℕ → Type 0
-IsWithin mode other = bit_and mode other ≡ mode
+-- a mode has no bit that the other doesn't have
+abbrev pub GivesNoMore : ℕ → ℕ → Type 0
+GivesNoMore mode other = bit_and mode other ≡ mode
 
+-- the group may read
 abbrev pub CanGroupRead : ℕ → Type 0
 CanGroupRead mode = bit_and mode 0o040 ≡ 0 → ⊥
 
+-- others may read
 abbrev pub CanOthersRead : ℕ → Type 0
 CanOthersRead mode = bit_and mode 0o004 ≡ 0 → ⊥
 
--- rights that may be given beside a file: none to whom can't read it
-pub record IsClosedAs (rights mode : ℕ) : Type 0 where
-  pub group : bit_and mode 0o040 ≡ 0 → bit_and rights 0o070 ≡ 0
-  pub others : bit_and mode 0o004 ≡ 0 → bit_and rights 0o007 ≡ 0
+-- the permissions give nothing to the group or to others if they can't read a file of this mode
+pub record IsClosedAs (permissions mode : ℕ) : Type 0 where
+  pub group : bit_and mode 0o040 ≡ 0 → bit_and permissions 0o070 ≡ 0
+  pub others : bit_and mode 0o004 ≡ 0 → bit_and permissions 0o007 ≡ 0
 
--- of rights, those are left that a file of a mode doesn't forbid
-pub record AreLeft (rights left mode : ℕ) : Type 0 where
-  pub owner : bit_and left 0o600 ≡ bit_and rights 0o600
-  pub group : CanGroupRead mode → bit_and left 0o070 ≡ bit_and rights 0o070
-  pub others : CanOthersRead mode → bit_and left 0o007 ≡ bit_and rights 0o007
+-- `left` keeps all permissions that a file of this mode doesn't forbid
+pub record AreLeft (permissions left mode : ℕ) : Type 0 where
+  pub owner : bit_and left 0o600 ≡ bit_and permissions 0o600
+  pub group : CanGroupRead mode → bit_and left 0o070 ≡ bit_and permissions 0o070
+  pub others : CanOthersRead mode → bit_and left 0o007 ≡ bit_and permissions 0o007
 
--- what may be given beside each file that was read
+-- the permissions that no file that was read forbids
 abbrev pub allowed_of : Modes → ℕ
 allowed_of modes = modes.allowed
 
 -- the mode of the journal that was read
-abbrev pub journal_of : Modes → ℕ
-journal_of modes = modes.journal
+abbrev pub journal_mode : Modes → ℕ
+journal_mode modes = modes.journal
 
 -- the names of the files that were read, each with its mode
-abbrev pub files_of : Modes → List (List ℕ × ℕ)
-files_of modes = modes.files.items
+abbrev pub file_modes : Modes → List (List ℕ × ℕ)
+file_modes modes = modes.files.items
 
--- no right that a file lacked that was read under the name
+-- the mode has no bit that a file read under the name lacked
 abbrev pub IsWithinThoseNamed : List (List ℕ × ℕ) → List ℕ → ℕ → Type 0
-IsWithinThoseNamed files name mode = All (λ (file : List ℕ × ℕ). file.0 ≡ name → IsWithin mode file.1) files
+IsWithinThoseNamed files name mode = All (λ (file : List ℕ × ℕ). file.0 ≡ name → GivesNoMore mode file.1) files
 
--- the mode of the file that was read at a place is noted
+-- the mode of a file that was read at a place is noted
 abbrev pub IsNotedAt : Place → ℕ → Modes → Modes → Type 0
-IsNotedAt (place.File name) mode old new = (files_of new ≡ files_of old ++ (name.now, mode) ∷ []) × (journal_of new ≡ journal_of old)
-IsNotedAt place.Journal mode old new = (files_of new ≡ files_of old) × (journal_of new ≡ bit_and (journal_of old) mode)
-IsNotedAt place.Temporary mode old new = (files_of new ≡ files_of old) × (journal_of new ≡ journal_of old)
+IsNotedAt (place.File name) mode old new = (file_modes new ≡ file_modes old ++ (name.now, mode) ∷ []) × (journal_mode new ≡ journal_mode old)
+IsNotedAt place.Journal mode old new = (file_modes new ≡ file_modes old) × (journal_mode new ≡ bit_and (journal_mode old) mode)
+IsNotedAt place.Temporary mode old new = (file_modes new ≡ file_modes old) × (journal_mode new ≡ journal_mode old)
 
--- a mode gives no right that the file lacked that was read at the place
+-- the mode has no bit that the file read at the place lacked
 abbrev pub IsAllowedAt : Modes → Place → ℕ → Type 0
-IsAllowedAt modes (place.File name) mode = IsWithinThoseNamed (files_of modes) name.now mode
-IsAllowedAt modes place.Journal mode = IsWithin mode (journal_of modes)
+IsAllowedAt modes (place.File name) mode = IsWithinThoseNamed (file_modes modes) name.now mode
+IsAllowedAt modes place.Journal mode = GivesNoMore mode (journal_mode modes)
 IsAllowedAt modes place.Temporary mode = Unit {0}

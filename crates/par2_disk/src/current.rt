@@ -1,14 +1,15 @@
-//! The current directory.
+//! The current directory, by calls of the runtime. Its effects on the disk are tested, not proved: it isn't `honest`
+//! for contracts, so a `DiskStore` over it has the promises only of stores that may do anything.
 ghost use Rattle.std.specs.Prelude.{◌≡◌, ◌+◌, ◌⊎◌, ◌↔◌, Err, IfErr, IfOk, IsOk, IsErr, IsTrue, OnErr};
 ghost use Rattle.std.specs.IoError.{error_kind};
 ghost use Rattle.par2_disk.specs.Directories.{IsFoundBy};
-ghost use Rattle.par2_disk.specs.Reading.{IsToldAs};
+ghost use Rattle.par2_disk.specs.Reading.{IsReportedAs};
 ghost use Rattle.par2_disk.specs.Stores.{CountsFailures};
 
 use crate::directory::{Directory, Found, Place};
 use crate::listing::names_listed;
 use crate::modes::Modes;
-use crate::reading::{read_opened, wait_for, written_to};
+use crate::reading::{read_opened, sync_opened, written_to};
 use crate::stamp::{Stamp, stamp_by};
 use crate::view::Disk;
 use crate::{Count, ReadFault, StoreFault};
@@ -19,25 +20,27 @@ use std::io::{Error, ErrorKind};
 use std::os::unix::fs::{OpenOptionsExt, PermissionsExt};
 use std::{fs, io};
 
-/// The current directory, by a runtime that reaches it. Of what it holds nothing is promised, so each call of the
-/// store is a call or a few of the runtime here, and what is made of the answers is said beside it.
+/// The current directory, accessed by the runtime. Nothing is promised of its contents, so each method is one or a
+/// few calls of the runtime, and functions with contracts interpret the results.
 #[derive(Drop)]
 pub struct CurrentDirectory<'r, R: Files<File = File> + AllocGlobal> {
     rt: &'r R,
-    // The directory itself, from the first call on: it is locked, beside others or alone, until this is dropped.
+    // The directory itself, open from the first successful `share` or `hold_alone`; None if unreadable or after a
+    // failed `hold_alone`. It is locked, shared or alone, until this is dropped.
     folder: Option<File>,
     // Whether it is held alone.
     is_alone: bool,
-    // What stood at the journal's place when it was looked at last.
+    // The journal's stamp when it was last looked at.
     looked: Option<Stamp>,
     modes: Modes,
-    // The temporary file, from when it is written until it is waited for.
+    // The temporary file, from its write to its sync.
     written: Option<File>,
     failures: Count,
 }
 
-// Whether a run goes on after it asked for a lock. Where a file system has no locks it does.
-fn go_on(answer: Result<(), TryLockError>) -> io::Result<()>
+// Interprets the result of trying a lock: fails only if another run has it. A file system without locks doesn't stop a
+// run.
+fn unless_locked(answer: Result<(), TryLockError>) -> io::Result<()>
     ensures { IsErr result ↔ (answer ≡ Err TryLockError.WouldBlock) }
 {
     match answer {
@@ -46,7 +49,8 @@ fn go_on(answer: Result<(), TryLockError>) -> io::Result<()>
     }
 }
 
-// What was found by what the runtime says of a path.
+// Finds out whether nothing, a file or something else is at a path, from `answer`, the runtime's result for it: an
+// error of kind NotFound says that nothing is there, and any other is a fault.
 fn found_of(answer: io::Result<Metadata>) -> Result<Found, StoreFault>
     ensures found { IfOk result (IsFoundBy (λ e. error_kind e ≡ ErrorKind.NotFound) answer) }
     ensures fault { IsErr result → IsErr answer }
@@ -59,7 +63,8 @@ fn found_of(answer: io::Result<Metadata>) -> Result<Found, StoreFault>
     }
 }
 
-// Reads the file that was opened at a place to its end, and notes who may read it.
+// Reads the opened file of a place to its end, notes its mode in `modes`, and returns its bytes and its stamp. `size`
+// is a hint.
 fn read_noted(
     opened: io::Result<File>,
     modes: &mut Modes,
@@ -68,7 +73,7 @@ fn read_noted(
     size: u64,
 ) -> Result<(Vec<u8>, Stamp), ReadFault>
     ensures unopened { IsErr opened → IsErr result }
-    ensures told { IfErr opened (λ error. IfErr result (IsToldAs error)) }
+    ensures reported { IfErr opened (λ error. IfErr result (IsReportedAs error)) }
 {
     let file = opened?;
     let metadata = file.metadata()?;
@@ -77,14 +82,15 @@ fn read_noted(
     Ok((bytes, Stamp::new(&metadata)))
 }
 
-// Makes a file with a mode where nothing is.
+// Creates a file with a mode, at a path where nothing may exist yet, and opens it for writing.
 fn create_with<R: Files<File = File>>(rt: &R, path: &str, mode: u32) -> io::Result<File> {
     let mut options = File::options();
     options.read(true).write(true).create_new(true).mode(mode);
     options.open(rt, path)
 }
 
-// Whether a link failed since there are none in the directory. That the name is taken is another failure.
+// Whether a hard link failed because the file system supports none, so that a rename is tried. A taken name is another
+// error.
 fn has_no_links(error: &Error) -> bool
     ensures { IsTrue result ↔ (error_kind error.now ≡ ErrorKind.PermissionDenied)
         ⊎ (error_kind error.now ≡ ErrorKind.Unsupported) }
@@ -94,6 +100,7 @@ fn has_no_links(error: &Error) -> bool
 }
 
 impl<'r, R: Files<File = File> + AllocGlobal> CurrentDirectory<'r, R> {
+    /// The current directory, which is opened and locked only by the first `share` or `hold_alone`.
     pub fn new(rt: &'r R) -> CurrentDirectory<'r, R> {
         CurrentDirectory {
             rt,
@@ -106,24 +113,26 @@ impl<'r, R: Files<File = File> + AllocGlobal> CurrentDirectory<'r, R> {
         }
     }
 
-    // The directory itself, opened and locked beside others.
+    // Opens the directory itself with a shared lock, for `share`. It fails if a run that writes has the lock.
     fn shared(&self) -> io::Result<File> {
         let folder = fs::open(self.rt, ".")?;
-        go_on(folder.try_lock_shared())?;
+        unless_locked(folder.try_lock_shared())?;
         Ok(folder)
     }
 
-    // The directory itself, which may be open already, locked alone. Where that fails no lock is left.
+    // Locks the directory itself alone, for `hold_alone`; `opened` is the directory if it is open already, maybe with a
+    // shared lock. If that fails, it is closed, and no lock is left.
     fn locked_alone(&self, opened: Option<File>) -> io::Result<File> {
         let folder = match opened {
             Some(folder) => folder,
             None => fs::open(self.rt, ".")?,
         };
-        go_on(folder.try_lock())?;
+        unless_locked(folder.try_lock())?;
         Ok(folder)
     }
 
-    // Whether a change was made. Where it wasn't, that counts as a failure.
+    // The last step of a call that locks, writes or syncs: counts a failure, for contracts
+    // only, if it returned an error.
     fn counted(&mut self, answer: io::Result<()>) -> Result<(), StoreFault>
         ensures made { IsOk result ↔ IsOk answer }
         ensures failed { OnErr result (self.new.failures.count ≡ self.old.failures.count + 1) }
@@ -140,8 +149,8 @@ impl<'r, R: Files<File = File> + AllocGlobal> CurrentDirectory<'r, R> {
         }
     }
 
-    // Makes the temporary file anew, with a mode. One that a stop has left may be a file with a name, too, and may have
-    // another mode, so it isn't written over.
+    // Creates the temporary file with a mode, for `write_temporary`. A temporary file that a stop left is removed and
+    // not overwritten, because it may also be linked under a name, and may have another mode.
     fn made_anew(&self, mode: u32) -> io::Result<File> {
         let path = Place::Temporary.path();
         match create_with(self.rt, path, mode) {
@@ -153,8 +162,8 @@ impl<'r, R: Files<File = File> + AllocGlobal> CurrentDirectory<'r, R> {
         }
     }
 
-    // Gives the temporary file a path that nothing has, where there are no links: a moment is left in which another file
-    // may get it.
+    // Renames the temporary file to a path that nothing has, for directories without links. Another file may get the
+    // path between the check and the rename.
     fn rename_to_free(&self, path: &str) -> io::Result<()> {
         match fs::symlink_metadata(self.rt, path) {
             Ok(_) => Err(Error::from(ErrorKind::AlreadyExists)),
@@ -165,7 +174,7 @@ impl<'r, R: Files<File = File> + AllocGlobal> CurrentDirectory<'r, R> {
         }
     }
 
-    // Gives the temporary file a path that nothing has. A link fails where something has it.
+    // Moves the temporary file to a path that nothing has, by a link, which fails if something has the path.
     fn linked_to_free(&self, path: &str) -> io::Result<()> {
         match fs::hard_link(self.rt, Place::Temporary.path(), path) {
             Ok(()) => fs::remove_file(self.rt, Place::Temporary.path()),
@@ -189,9 +198,9 @@ impl<'r, R: Files<File = File> + AllocGlobal> Disk for CurrentDirectory<'r, R> {
 
     ghost temporary = { λ _. None };
 
-    ghost may_remain = { λ _ _. ⊥ };
+    ghost crash_states = { λ _ _. ⊥ };
 
-    ghost bytes_may_remain = { λ _ _. ⊥ };
+    ghost temporary_crash_states = { λ _ _. ⊥ };
 
     ghost barred = { λ _ _. ⊥ };
 
@@ -210,12 +219,13 @@ impl<'r, R: Files<File = File> + AllocGlobal> Directory for CurrentDirectory<'r,
                 self.folder = Some(folder);
                 Ok(())
             }
-            // One that may not be listed can't be opened. Its files can be read, and it can't be written.
+            // A directory without read permission can't be opened. Its files can be read, but it can't be written.
             Err(error) if error.kind() == ErrorKind::PermissionDenied => Ok(()),
             Err(in_use) => self.counted(Err(in_use)),
         }
     }
 
+    // Raises a shared lock. If that fails, none is left. Succeeds where the file system has no locks.
     fn hold_alone(&mut self) -> Result<(), StoreFault> {
         if self.is_alone {
             return Ok(());
@@ -266,9 +276,9 @@ impl<'r, R: Files<File = File> + AllocGlobal> Directory for CurrentDirectory<'r,
         }
     }
 
-    fn wait_for_temporary(&mut self) -> Result<(), StoreFault> {
+    fn sync_temporary(&mut self) -> Result<(), StoreFault> {
         let written = self.written.take();
-        let answer = wait_for(written.ok_or(Error::from(ErrorKind::NotFound)));
+        let answer = sync_opened(written.ok_or(Error::from(ErrorKind::NotFound)));
         self.counted(answer)
     }
 
@@ -292,8 +302,8 @@ impl<'r, R: Files<File = File> + AllocGlobal> Directory for CurrentDirectory<'r,
         self.counted(answer)
     }
 
-    fn wait(&mut self) -> Result<(), StoreFault> {
-        let answer = wait_for(fs::open(self.rt, "."));
+    fn sync(&mut self) -> Result<(), StoreFault> {
+        let answer = sync_opened(fs::open(self.rt, "."));
         self.counted(answer)
     }
 }

@@ -1,4 +1,5 @@
-//! A directory, by the few calls that a store on a disk makes of it.
+//! The trait of directories: the few calls that a `DiskStore` makes. To write a file it calls `write_temporary`,
+//! `sync_temporary`, then `put_temporary` over a file or `name_temporary` at a free place, and `sync`.
 ghost use Rattle.std.specs.Prelude.{◌≡◌, OnOk};
 ghost use Rattle.par2_disk.specs.Directories.{path_of, Finds, KeepsNames, KeepsTemporary, ListsNames, LooksAtJournal, NamesTemporary, PutsTemporary, ReadsAt, RemovesFile, RenamesFile, Stays, WritesTemporary};
 ghost use Rattle.par2_disk.specs.Stores.{CountsFailures};
@@ -9,7 +10,7 @@ use crate::{ReadFault, StoreFault};
 use par2_files::Name;
 use std::alloc::Global;
 
-/// Where a store looks: for a file, for the journal, or for what either is written to first.
+/// Where a store looks: a file, the journal, or the temporary file that either is first written to.
 #[derive(Clone, Copy, Drop)]
 pub enum Place<'a> {
     File(&'a Name),
@@ -30,7 +31,7 @@ impl<'a> Place<'a> {
     }
 }
 
-/// What stands at a place.
+/// What is at a place.
 #[derive(Clone, Copy, Drop)]
 pub enum Found {
     Nothing,
@@ -40,36 +41,37 @@ pub enum Found {
     Other,
 }
 
-/// A flat directory, with what else stands there beside files. What is said of it holds where it is honest: nobody but
-/// runs of this program writes it, and what is read is what was written. Of a power cut a call that writes says what it
-/// may leave, and a call that waits takes that away, so that what is there may remain alone. A run holds it beside others
-/// while it reads, and alone from before its first call that writes.
+/// A flat directory, which may also have entries that aren't files. The contracts hold if it is honest: only runs of
+/// this program write it, and reads return what was written. A writing call says what a power cut may leave, and a
+/// sync makes the contents durable, so that a power cut leaves nothing else. A run shares the directory with others
+/// while it reads, and holds it alone before its first writing call.
 pub trait Directory: Disk {
-    /// Holds the directory beside others that only read it, until the run ends. Where one that writes holds it, it fails.
+    /// Shares the directory with other readers until the run ends. It fails if a run that writes holds the directory.
     fn share(&mut self) -> Result<(), StoreFault>
         ensures stays { Stays Self.Disk self.old self.new }
         ensures failures { CountsFailures Self.failures self.old self.new result };
 
-    /// Holds the directory alone, until the run ends. Where another run holds it, it fails.
+    /// Holds the directory alone until the run ends. It fails if another run holds the directory.
     fn hold_alone(&mut self) -> Result<(), StoreFault>
         ensures stays { Stays Self.Disk self.old self.new }
         ensures alone { OnOk result (Self.alone self.new) }
         ensures failures { CountsFailures Self.failures self.old self.new result };
 
-    /// What stands at the journal's place, while no other run can change it.
+    /// The journal's stamp, or None without a journal, while no other run can change it. It is compared with the stamp
+    /// of the journal that the run read.
     fn look_at_journal(&mut self) -> Result<Option<Stamp>, StoreFault>
         requires alone { Self.alone self.old }
         ensures { LooksAtJournal Self.Disk self.old self.new result };
 
-    /// The names of the files, in order.
+    /// The names of the files, sorted, without the journal and the temporary file.
     fn names(&self, alloc: Global) -> Result<Vec<Name>, ReadFault>
         ensures { ListsNames Self.Disk self.now result };
 
-    /// What stands at a place.
+    /// Finds out whether nothing, a file or something else is at a place. An error says that this can't be found out.
     fn find(&self, place: Place<'_>) -> Result<Found, StoreFault>
         ensures { Finds Self.Disk self.now place.entry result };
 
-    /// The bytes of the file at a place, which is of about this size, and which file it was.
+    /// The bytes of the file at a place, and its stamp. The size is a hint.
     fn read(
         &mut self,
         alloc: Global,
@@ -78,45 +80,45 @@ pub trait Directory: Disk {
     ) -> Result<(Vec<u8>, Stamp), ReadFault>
         ensures { ReadsAt Self.Disk self.old self.new place.entry result };
 
-    /// Writes the temporary file, which is to get a place. What stands in its place and is no file, as a link, would lead
-    /// elsewhere.
+    /// Writes the temporary file, which is later moved to the place. Nothing but a file may be at its path: a link
+    /// would lead elsewhere.
     fn write_temporary(&mut self, place: Place<'_>, bytes: &[u8]) -> Result<(), StoreFault>
         requires alone { Self.alone self.old }
         ensures written { WritesTemporary Self.Disk self.old self.new bytes.now result }
         ensures failures { CountsFailures Self.failures self.old self.new result };
 
-    /// Waits until the bytes of the temporary file, which was just written, are kept.
-    fn wait_for_temporary(&mut self) -> Result<(), StoreFault>
+    /// Syncs the temporary file, which was just written, so that a power cut leaves its bytes whole.
+    fn sync_temporary(&mut self) -> Result<(), StoreFault>
         requires alone { Self.alone self.old }
         ensures kept { KeepsTemporary Self.Disk self.old self.new result }
         ensures failures { CountsFailures Self.failures self.old self.new result };
 
-    /// Gives the temporary file a place, over the file that is there. What is there and is no file would be lost.
+    /// Renames the temporary file to a place, over an existing file. Something that isn't a file would be lost there.
     fn put_temporary(&mut self, place: Place<'_>) -> Result<(), StoreFault>
         requires alone { Self.alone self.old }
         ensures put { PutsTemporary Self.Disk self.old self.new place.entry result }
         ensures failures { CountsFailures Self.failures self.old self.new result };
 
-    /// Gives the temporary file a place that nothing has. Where something has it, it does nothing and fails.
+    /// Moves the temporary file to a free place. It does nothing and fails if something is there.
     fn name_temporary(&mut self, place: Place<'_>) -> Result<(), StoreFault>
         requires alone { Self.alone self.old }
         ensures named { NamesTemporary Self.Disk self.old self.new place.entry result }
         ensures failures { CountsFailures Self.failures self.old self.new result };
 
-    /// Gives a file another name, which nothing has.
+    /// Renames a file to a name that nothing has; the caller has checked that.
     fn rename(&mut self, from: &Name, to: &Name) -> Result<(), StoreFault>
         requires alone { Self.alone self.old }
         ensures renamed { RenamesFile Self.Disk self.old self.new from.now to.now result }
         ensures failures { CountsFailures Self.failures self.old self.new result };
 
-    /// Removes a file.
+    /// Removes a file. The removal is durable only after a `sync`.
     fn remove(&mut self, name: &Name) -> Result<(), StoreFault>
         requires alone { Self.alone self.old }
         ensures removed { RemovesFile Self.Disk self.old self.new name.now result }
         ensures failures { CountsFailures Self.failures self.old self.new result };
 
-    /// Waits until the names that the files and the journal have are kept.
-    fn wait(&mut self) -> Result<(), StoreFault>
+    /// Syncs the directory, so that the names of the files and of the journal are durable.
+    fn sync(&mut self) -> Result<(), StoreFault>
         requires alone { Self.alone self.old }
         ensures kept { KeepsNames Self.Disk self.old self.new result }
         ensures failures { CountsFailures Self.failures self.old self.new result };

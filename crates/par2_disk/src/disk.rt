@@ -1,7 +1,9 @@
-//! A store over a directory.
+//! A store over a directory. Reading calls share the directory. A writing call holds it alone (`hold`), which checks
+//! once that the journal is the one that was read, makes one change (`write_new`, `replace_file`, `rename_file`,
+//! `remove_file`, `write_at`), and is counted (`counted_write`).
 ghost use Rattle.std.specs.Prelude.{◌≡◌, ◌+◌, IfErr, IsFalse};
 ghost use Rattle.par2_spec.specs.Changes.{Write, Replace, Rename, Remove};
-ghost use Rattle.par2_disk.specs.Disk.{directory_of, disk_failures, disk_impossible, disk_writing_calls, is_entered, over, Blocks, CountsNoFailure, FailsToMake, FailsToReadFile, FailsToReadJournal, FindsFile, FindsJournal, FindsNothing, HasFailedToRead, HasSeenAsMuch, Holds, LooksAgain, MakesTemporary, OnlyLooks, RemembersJournal, TellsFree, WritesAt};
+ghost use Rattle.par2_disk.specs.Disk.{directory_of, disk_failures, disk_impossible, disk_writing_calls, is_entered, over, Blocks, CountsNoFailure, FailsToMake, FailsToReadFile, FailsToReadJournal, FindsFile, FindsJournal, FindsNothing, HasFailedToRead, HasSeenAsMuch, HoldsDirectory, LooksAgain, MakesTemporary, OnlyLooks, RemembersJournal, ReportsFree, WritesAt};
 ghost use Rattle.par2_disk.specs.Stores.{CountsFailures, CountsReadFailures, Makes, OnlyReads, ReadsFile, ReadsJournal, ReadsNames};
 
 use crate::current::CurrentDirectory;
@@ -12,23 +14,23 @@ use par2_files::Name;
 use std::alloc::Global;
 use std::fs::{File, Files};
 
-/// The regular files of a directory, with the journal. Folders, links and devices are no files: they are not listed,
-/// and a call that meets one fails and leaves all as it is. It is honest where the directory is.
+/// The regular files of a directory, and the journal. Folders, links and devices are not files: they aren't listed,
+/// and a call that meets one fails and changes nothing. The store is honest if the directory is.
 #[derive(Drop)]
 pub struct DiskStore<D: Directory> {
     directory: D,
-    // What stood at the journal's place when it was read, if it was.
+    // The journal's stamp when it was read, if it was read.
     seen: Option<Option<Stamp>>,
-    // Whether that was found there again, once the directory was held alone.
+    // Whether the directory is held alone and the journal, if it was read, was found unchanged then.
     is_entered: bool,
     failures: Count,
-    // Those of calls that can't be done, as far as the store has seen it.
+    // Failures of calls that can't be done, as far as the store has seen that.
     impossible: Count,
     writing_calls: Count,
 }
 
 impl<'r, R: Files<File = File> + AllocGlobal> DiskStore<CurrentDirectory<'r, R>> {
-    /// The current directory, by a runtime that reaches it. It has not failed yet.
+    /// The current directory, accessed by the runtime, with no failures yet.
     pub fn new(rt: &'r R) -> DiskStore<CurrentDirectory<'r, R>>
         ensures failures { disk_failures result ≡ 0 }
         ensures impossible { disk_impossible result ≡ 0 }
@@ -46,19 +48,20 @@ impl<'r, R: Files<File = File> + AllocGlobal> DiskStore<CurrentDirectory<'r, R>>
     }
 }
 
-// What could not be held could not be read.
 impl From<StoreFault> for ReadFault {
     ghost use Rattle.par2_disk.specs.declared.store.ReadFault.{ReadFault};
 
     ghost from_gives = { λ _ fault. fault ≡ ReadFault.Store };
 
+    // For `?` after a call of the directory: one that can't be shared or looked at can't be read.
     fn from(_fault: StoreFault) -> Self {
         ReadFault::Store
     }
 }
 
 impl<D: Directory> DiskStore<D> {
-    // Looks whether the journal is the one that was read. Where it isn't, another run has written the folder since.
+    // Checks that the journal has the stamp `seen`, that of the journal that was read. If it hasn't, another run has
+    // written the folder meanwhile.
     fn look_again(&mut self, seen: Option<Stamp>) -> Result<(), StoreFault>
         requires alone { D.alone (directory_of self.old) }
         ensures looks { LooksAgain D.Disk self.old self.new seen result }
@@ -72,9 +75,10 @@ impl<D: Directory> DiskStore<D> {
         }
     }
 
-    // Holds the directory alone, before the first call that writes, with the journal as it was read.
+    // Called first by each writing call: holds the directory alone, and checks once that the journal is the one that
+    // was read, if it was read.
     fn hold(&mut self) -> Result<(), StoreFault>
-        ensures holds { Holds D.Disk self.old self.new result }
+        ensures holds { HoldsDirectory D.Disk self.old self.new result }
         ensures counts { CountsNoFailure self.old self.new }
     {
         self.directory.hold_alone()?;
@@ -87,7 +91,7 @@ impl<D: Directory> DiskStore<D> {
         Ok(())
     }
 
-    // The bytes of the journal, if there is one. What is no file can't be read.
+    // The bytes and the stamp of the journal, if there is one. Anything that isn't a file can't be read.
     fn find_journal(&mut self, alloc: Global) -> Result<Option<(Vec<u8>, Stamp)>, ReadFault>
         ensures found { FindsJournal D.Disk (directory_of self.old) (directory_of self.new) result }
         ensures counts { CountsNoFailure self.old self.new }
@@ -101,7 +105,8 @@ impl<D: Directory> DiskStore<D> {
         }
     }
 
-    // Counts a call that can't be done.
+    // Counts a call that can't be done, such as a read of a name without a file, and returns its fault. `OnlyLooks`:
+    // the directory stays.
     fn refuse(&mut self) -> StoreFault
         ensures counts { OnlyLooks self.old self.new }
         ensures impossible { disk_impossible self.new ≡ disk_impossible self.old + 1 }
@@ -110,7 +115,7 @@ impl<D: Directory> DiskStore<D> {
         StoreFault
     }
 
-    // The size of the file that has the name. Where none has it, what was asked for can't be done.
+    // The size of the named file, for a call that needs one. If there is none, the call can't be done.
     fn find_file(&mut self, name: &Name) -> Result<u64, StoreFault>
         ensures file { FindsFile D.Disk self.old self.new name.now result }
         ensures looks { OnlyLooks self.old self.new }
@@ -121,7 +126,7 @@ impl<D: Directory> DiskStore<D> {
         }
     }
 
-    // Looks that nothing has the name. Where a file has it, what was asked for can't be done.
+    // Checks that nothing has the name, for a write or a rename to it. If a file has it, the call can't be done.
     fn find_nothing(&mut self, name: &Name) -> Result<(), StoreFault>
         ensures nothing { FindsNothing D.Disk self.old self.new name.now result }
         ensures looks { OnlyLooks self.old self.new }
@@ -129,20 +134,21 @@ impl<D: Directory> DiskStore<D> {
         match self.directory.find(Place::File(name))? {
             Found::Nothing => Ok(()),
             Found::File(_) => Err(self.refuse()),
-            // No file has the name, and yet it can't be given.
+            // No file has the name, but it is not free either.
             Found::Other => Err(StoreFault),
         }
     }
 
-    // Whether a file can be written there: nothing else has the name.
+    // Whether a file can be put at a place: nothing is there, or a file, which would be replaced. False if that can't
+    // be found out.
     fn is_free(&self, place: Place<'_>) -> bool
-        ensures { TellsFree D.Disk (directory_of self.now) place.entry result }
+        ensures { ReportsFree D.Disk (directory_of self.now) place.entry result }
     {
         let found = self.directory.find(place);
         matches!(found, Ok(Found::Nothing | Found::File(_)))
     }
 
-    // Writes the temporary file, which is to get a place, and waits until its bytes are kept.
+    // Writes the temporary file, which is later moved to the place and gets the mode for it, and syncs it.
     fn make_temporary(&mut self, place: Place<'_>, bytes: &[u8]) -> Result<(), StoreFault>
         requires alone { D.alone (directory_of self.old) }
         ensures made { MakesTemporary D.Disk self.old self.new bytes.now result }
@@ -152,11 +158,11 @@ impl<D: Directory> DiskStore<D> {
             return Err(StoreFault);
         }
         self.directory.write_temporary(place, bytes)?;
-        self.directory.wait_for_temporary()
+        self.directory.sync_temporary()
     }
 
-    // Writes the file at a place, over the one that is there, by way of the temporary one. Its bytes are kept before it
-    // gets the name, and the name is kept before the answer is Ok.
+    // Writes a file or the journal at a place, over the one that is there, by way of the temporary file. The bytes are
+    // synced before the rename, and the directory is synced before this returns Ok.
     fn write_at(&mut self, place: Place<'_>, bytes: &[u8]) -> Result<(), StoreFault>
         requires alone { D.alone (directory_of self.old) }
         ensures written { WritesAt D.Disk self.old self.new place.entry bytes.now result }
@@ -167,10 +173,10 @@ impl<D: Directory> DiskStore<D> {
         }
         self.make_temporary(place, bytes)?;
         self.directory.put_temporary(place)?;
-        self.directory.wait()
+        self.directory.sync()
     }
 
-    // Writes a file of a name that nothing has. Whoever gives it to another file meanwhile keeps it.
+    // Writes a file under a name that nothing has. If another file gets the name meanwhile, it isn't overwritten.
     #[tactic(auto, unfolding(par2_spec::specs::Changes::is_applicable, par2_spec::specs::Changes::effect))]
     fn write_new(&mut self, name: &Name, bytes: &[u8]) -> Result<(), StoreFault>
         requires alone { D.alone (directory_of self.old) }
@@ -182,10 +188,11 @@ impl<D: Directory> DiskStore<D> {
         self.find_nothing(name)?;
         self.make_temporary(Place::File(name), bytes)?;
         self.directory.name_temporary(Place::File(name))?;
-        self.directory.wait()
+        self.directory.sync()
     }
 
-    // Writes other bytes over those of a file.
+    // Replaces the bytes of a file, while the directory is held alone. If no file has the name, the call can't be done.
+    // `Blocks`: a change that can't be made leaves the directory as it is.
     #[tactic(auto, unfolding(par2_spec::specs::Changes::is_applicable))]
     fn replace_file(&mut self, name: &Name, bytes: &[u8]) -> Result<(), StoreFault>
         requires alone { D.alone (directory_of self.old) }
@@ -198,7 +205,7 @@ impl<D: Directory> DiskStore<D> {
         self.write_at(Place::File(name), bytes)
     }
 
-    // Gives a file a name that nothing has.
+    // Renames a file to a name that nothing has, while the directory is held alone, and syncs the directory.
     #[tactic(auto, unfolding(par2_spec::specs::Changes::is_applicable))]
     fn rename_file(&mut self, from: &Name, to: &Name) -> Result<(), StoreFault>
         requires alone { D.alone (directory_of self.old) }
@@ -210,10 +217,10 @@ impl<D: Directory> DiskStore<D> {
         let _size = self.find_file(from)?;
         self.find_nothing(to)?;
         self.directory.rename(from, to)?;
-        self.directory.wait()
+        self.directory.sync()
     }
 
-    // Removes a file.
+    // Removes a file, while the directory is held alone, and syncs the directory.
     #[tactic(auto, unfolding(par2_spec::specs::Changes::is_applicable))]
     fn remove_file(&mut self, name: &Name) -> Result<(), StoreFault>
         requires alone { D.alone (directory_of self.old) }
@@ -224,10 +231,10 @@ impl<D: Directory> DiskStore<D> {
     {
         let _size = self.find_file(name)?;
         self.directory.remove(name)?;
-        self.directory.wait()
+        self.directory.sync()
     }
 
-    // Holds the directory beside others, and lists its files.
+    // Holds the directory with other readers, and lists its files.
     fn list_files(&mut self, alloc: Global) -> Result<Vec<Name>, ReadFault>
         ensures names { ReadsNames (over D.Disk) self.old self.new result }
         ensures reads { OnlyReads (over D.Disk) self.old self.new }
@@ -240,7 +247,7 @@ impl<D: Directory> DiskStore<D> {
         self.directory.names(alloc)
     }
 
-    // Holds the directory beside others, and reads a file.
+    // Holds the directory with other readers, and reads a file.
     fn read_file(&mut self, alloc: Global, name: &Name) -> Result<Vec<u8>, ReadFault>
         ensures file { ReadsFile (over D.Disk) self.old self.new name.now result }
         ensures reads { OnlyReads (over D.Disk) self.old self.new }
@@ -255,7 +262,7 @@ impl<D: Directory> DiskStore<D> {
         Ok(bytes)
     }
 
-    // Holds the directory beside others, reads the journal if there is one, and remembers which it was.
+    // Holds the directory with other readers, reads the journal if there is one, and remembers its stamp.
     fn take_journal(&mut self, alloc: Global) -> Result<Option<Vec<u8>>, ReadFault>
         ensures bytes { ReadsJournal (over D.Disk) self.old self.new result }
         ensures reads { OnlyReads (over D.Disk) self.old self.new }
@@ -277,11 +284,14 @@ impl<D: Directory> DiskStore<D> {
         }
     }
 
-    // Counts a failure where that is the answer of a reading call.
+    // The last step of a reading call: counts a failure if it returned one. Running out of memory is none of the
+    // store's.
     fn counted_read<T>(&mut self, answer: Result<T, ReadFault>) -> Result<T, ReadFault>
+        // The result is passed on, and nothing but the counts changes.
         ensures answer { result ≡ answer }
         ensures directory { directory_of self.new ≡ directory_of self.old }
         ensures journal { HasSeenAsMuch self.old self.new }
+        // Only a failure of the store is counted, and no writing call.
         ensures failures { CountsReadFailures disk_failures self.old self.new result }
         ensures possible { disk_impossible self.new ≡ disk_impossible self.old }
         ensures unwritten { disk_writing_calls self.new ≡ disk_writing_calls self.old }
@@ -292,11 +302,13 @@ impl<D: Directory> DiskStore<D> {
         answer
     }
 
-    // Counts a writing call, and a failure where that is its answer.
+    // The last step of a writing call: counts it, and a failure if it returned one.
     fn counted_write(&mut self, answer: Result<(), StoreFault>) -> Result<(), StoreFault>
+        // The result is passed on, and nothing but the counts changes.
         ensures answer { result ≡ answer }
         ensures directory { directory_of self.new ≡ directory_of self.old }
         ensures journal { HasSeenAsMuch self.old self.new }
+        // A failure is counted, and the writing call always.
         ensures failures { CountsFailures disk_failures self.old self.new result }
         ensures possible { disk_impossible self.new ≡ disk_impossible self.old }
         ensures counted { disk_writing_calls self.new ≡ disk_writing_calls self.old + 1 }
@@ -316,7 +328,7 @@ impl<D: Directory> Store for DiskStore<D> {
 
     ghost contents = { λ store. D.contents (directory_of store) };
 
-    ghost may_remain = { λ store. D.may_remain (directory_of store) };
+    ghost crash_states = { λ store. D.crash_states (directory_of store) };
 
     ghost failures = { disk_failures };
 
@@ -371,7 +383,8 @@ impl<D: Directory> FolderStore for DiskStore<D> {
         ensures made { Makes (over D.Disk) self.old self.new (Write name.now bytes.now) result }
         ensures failures { CountsFailures disk_failures self.old self.new result }
         ensures counted { disk_writing_calls self.new ≡ disk_writing_calls self.old + 1 }
-        ensures reason { FailsToHoldAndMake D.Disk self.old self.new (Write name.now bytes.now) result }
+        ensures reason { FailsToHoldAndMake D.Disk self.old self.new
+            (Write name.now bytes.now) result }
     {
         let answer = match self.hold() {
             Ok(()) => self.write_new(name, bytes),
@@ -384,7 +397,8 @@ impl<D: Directory> FolderStore for DiskStore<D> {
         ensures made { Makes (over D.Disk) self.old self.new (Replace name.now bytes.now) result }
         ensures failures { CountsFailures disk_failures self.old self.new result }
         ensures counted { disk_writing_calls self.new ≡ disk_writing_calls self.old + 1 }
-        ensures reason { FailsToHoldAndMake D.Disk self.old self.new (Replace name.now bytes.now) result }
+        ensures reason { FailsToHoldAndMake D.Disk self.old self.new
+            (Replace name.now bytes.now) result }
     {
         let answer = match self.hold() {
             Ok(()) => self.replace_file(name, bytes),
@@ -397,7 +411,8 @@ impl<D: Directory> FolderStore for DiskStore<D> {
         ensures made { Makes (over D.Disk) self.old self.new (Rename from.now to.now) result }
         ensures failures { CountsFailures disk_failures self.old self.new result }
         ensures counted { disk_writing_calls self.new ≡ disk_writing_calls self.old + 1 }
-        ensures reason { FailsToHoldAndMake D.Disk self.old self.new (Rename from.now to.now) result }
+        ensures reason { FailsToHoldAndMake D.Disk self.old self.new
+            (Rename from.now to.now) result }
     {
         let answer = match self.hold() {
             Ok(()) => self.rename_file(from, to),

@@ -1,5 +1,7 @@
-//! Stores that hold a flat folder and its journal: what a call of one does, also where it fails or the power is cut, and
-//! the store in a directory on disk.
+//! Stores of a flat folder and its journal: what each call does, even if it fails or the power is cut, and the store
+//! over a directory on disk.
+//!
+//! The program and its output depend on it. It must not know what a journal's bytes mean, nor anything of PAR2.
 #![tactic(auto)]
 
 mod current;

@@ -1,4 +1,5 @@
-//! The listing of a folder.
+//! The names of the files of a directory, from its listing: `names_listed` collects the names of its items
+//! (`names_given`, `add_name`, `name_in`, `name_of`) and sorts them.
 ghost use Rattle.std.specs.Prelude.{◌≡◌, ◌⊎◌, List, ℕ, [], Result, IfOk, IfErr, IsErr, IsErrOf, IsPermutation};
 ghost use Rattle.std.specs.Cmp.Lexicographic.{slice_cmp};
 ghost use Rattle.std.specs.IoError.{error_kind};
@@ -8,7 +9,7 @@ ghost use Rattle.std.specs.Ordering.{nat_cmp};
 ghost use Rattle.std.specs.declared.fs.attrs.FileType.{FileType};
 ghost use Rattle.std.specs.declared.io.Error.{Error};
 ghost use Rattle.par2_disk.specs.Listings.{Adds, AreNamesOf, CountsAs, FailsAtItem, FailsBy, IsCounted, IsMisnamed};
-ghost use Rattle.par2_disk.specs.Reading.{IsToldAs};
+ghost use Rattle.par2_disk.specs.Reading.{IsReportedAs};
 
 use crate::ReadFault;
 use par2_files::{BadName, Name, is_reserved};
@@ -16,71 +17,73 @@ use std::alloc::Global;
 use std::fs::{DirEntry, FileType, Files};
 use std::io::{self, Error, ErrorKind};
 
-/// An entry of a folder.
+/// An entry of a directory.
 pub trait Entry {
-    /// What may be answered when its kind is asked for.
+    /// The results that `kind` may return.
     ghost kind_gives: { Self → Result FileType Error → Type 0 };
 
-    /// The text of its name.
-    ghost text_of: { Self → List ℕ };
+    /// The bytes of its name.
+    ghost entry_name: { Self → List ℕ };
 
-    /// Whether it is a file, a folder or something else, where that is known.
+    /// Whether it is a file, a folder or something else, or an error if that is unknown.
     fn kind(&self) -> io::Result<FileType>
         ensures { kind_gives self.now result };
 
-    /// The text of its name.
-    fn text(&self) -> &str
-        ensures { result.now ≡ text_of self.now };
+    /// Its name, which need not be a `Name`.
+    fn name(&self) -> &str
+        ensures { result.now ≡ entry_name self.now };
 }
 
-// What a runtime answers of an entry's kind is not known.
+// Nothing is promised of the kind that the runtime returns.
 impl<R: Files + AllocGlobal> Entry for DirEntry<R> {
     ghost use Rattle.std.specs.Prelude.{⊤};
     ghost use Rattle.std.specs.Fs.{dir_entry_name};
 
     ghost kind_gives = { λ _ _. ⊤ };
 
-    ghost text_of = { dir_entry_name };
+    ghost entry_name = { dir_entry_name };
 
     fn kind(&self) -> io::Result<FileType> {
         self.file_type()
     }
 
-    fn text(&self) -> &str {
+    fn name(&self) -> &str {
         self.file_name()
     }
 }
 
-// What an entry of this kind counts as.
-fn name_of(kind: FileType, text: &str) -> io::Result<Option<Name>>
-    ensures name { IfOk result (CountsAs kind text.now) }
-    ensures failed { IfErr result (IsMisnamed kind text.now) }
+// The name of an entry of this kind if it is a file, and None if it isn't or belongs to the history. Another name that
+// isn't a `Name` is an error, because a run must not overlook a file.
+fn name_of(kind: FileType, name: &str) -> io::Result<Option<Name>>
+    ensures name { IfOk result (CountsAs kind name.now) }
+    ensures failed { IfErr result (IsMisnamed kind name.now) }
 {
     if !kind.is_file() {
         return Ok(None);
     }
-    match Name::new(text) {
+    match Name::new(name) {
         Ok(name) => Ok(Some(name)),
-        Err(BadName) if is_reserved(text.as_bytes()) => Ok(None),
+        Err(BadName) if is_reserved(name.as_bytes()) => Ok(None),
         Err(BadName) => Err(Error::from(ErrorKind::InvalidFilename)),
     }
 }
 
-// What an item of a listing counts as.
+// The name that an item of a listing adds to the files, if any; or the item's error, or that of its kind or its name.
 fn name_in<E: Entry + Drop>(item: io::Result<E>) -> io::Result<Option<Name>>
-    ensures name { IfOk result (IsCounted E.kind_gives E.text_of item) }
-    ensures failed { IfErr result (FailsBy E.kind_gives E.text_of item) }
+    ensures name { IfOk result (IsCounted E.kind_gives E.entry_name item) }
+    ensures failed { IfErr result (FailsBy E.kind_gives E.entry_name item) }
 {
     let entry = item?;
-    name_of(entry.kind()?, entry.text())
+    name_of(entry.kind()?, entry.name())
 }
 
-// Adds what an item of a listing counts as.
+// Adds the name of an item of a listing to `names`, if the item is a file of the folder. Out of memory is an error,
+// too.
 fn add_name<E: Entry + Drop>(names: &mut Vec<Name>, item: io::Result<E>) -> io::Result<()>
-    ensures added { IfOk result (λ _. Adds E.kind_gives E.text_of names.old.items item
+    ensures added { IfOk result (λ _. Adds E.kind_gives E.entry_name names.old.items item
         names.new.items) }
     ensures failed { IfErr result (λ error. error_kind error ≡ ErrorKind.OutOfMemory
-        ⊎ FailsBy E.kind_gives E.text_of item error) }
+        ⊎ FailsBy E.kind_gives E.entry_name item error) }
 {
     if let Some(name) = name_in(item)? {
         names.push(name)?;
@@ -88,17 +91,18 @@ fn add_name<E: Entry + Drop>(names: &mut Vec<Name>, item: io::Result<E>) -> io::
     Ok(())
 }
 
-// The names that a listing gives, as they come.
+// The names of a listing's files, in the order of the listing; or the error of the first item that fails
+// (`FailsAtItem`).
 fn names_given<I: Iterator<Item = io::Result<E>> + Drop, E: Entry + Drop>(
     listing: I,
     alloc: Global,
 ) -> io::Result<Vec<Name>>
     requires can { I.can_next listing }
     requires ends { IsFinite (I.remaining listing) }
-    ensures names { IfOk result (λ names. AreNamesOf E.kind_gives E.text_of I.next_gives listing
+    ensures names { IfOk result (λ names. AreNamesOf E.kind_gives E.entry_name I.next_gives listing
         names.items) }
     ensures failed { IfErr result (λ error. error_kind error ≡ ErrorKind.OutOfMemory
-        ⊎ FailsAtItem E.kind_gives E.text_of I.next_gives listing error) }
+        ⊎ FailsAtItem E.kind_gives E.entry_name I.next_gives listing error) }
 {
     let mut names = Vec::new(alloc);
     for item in listing {
@@ -107,23 +111,26 @@ fn names_given<I: Iterator<Item = io::Result<E>> + Drop, E: Entry + Drop>(
     Ok(names)
 }
 
-/// The names of the regular files of a listing that was opened, if it was: in order, and without those that are kept
-/// for the history.
+/// The sorted names of the regular files of an opened listing, without the files of the history; or the fault of the
+/// open or of the first item that fails.
 pub fn names_listed<I: Iterator<Item = io::Result<E>> + Drop, E: Entry + Drop>(
     opened: io::Result<I>,
     alloc: Global,
 ) -> Result<Vec<Name>, ReadFault>
+    // The listing can be iterated to its end.
     requires can { IfOk opened I.can_next }
     requires ends { IfOk opened (λ listing. IsFinite (I.remaining listing)) }
+    // The result has the names of its files, sorted.
     ensures names { IfOk result (λ names. IfOk opened (λ listing. (given : List (List ℕ))
-        × AreNamesOf E.kind_gives E.text_of I.next_gives listing given
+        × AreNamesOf E.kind_gives E.entry_name I.next_gives listing given
         × IsPermutation given names.items)) }
     ensures sorted { IfOk result (λ names. IsSorted (slice_cmp nat_cmp) names.items) }
+    // A failed open is reported by its kind. If an opened listing gives Store, one of its items failed.
     ensures unopened { IsErr opened → IsErr result }
-    ensures told { IfErr opened (λ error. IfErr result (IsToldAs error)) }
+    ensures reported { IfErr opened (λ error. IfErr result (IsReportedAs error)) }
     ensures store { IsErrOf result ReadFault.Store → IfOk opened (λ listing.
-        (error : Error) × IsToldAs error ReadFault.Store
-        × FailsAtItem E.kind_gives E.text_of I.next_gives listing error) }
+        (error : Error) × IsReportedAs error ReadFault.Store
+        × FailsAtItem E.kind_gives E.entry_name I.next_gives listing error) }
 {
     let mut names = names_given(opened?, alloc)?;
     names.sort_unstable();

@@ -1,17 +1,18 @@
-//! Reading a file to its end, and waiting until a system has kept what was written.
+//! Reading a file to its end (`read_opened`), writing one (`written_to`), and syncing it (`sync_opened`). Each takes
+//! the runtime's result of the open, so that the current directory passes errors on without a test.
 ghost use Rattle.std.specs.Io.KnownBytes.{Appends};
 ghost use Rattle.std.specs.Prelude.{◌≡◌, IfOk, IfErr, IfSome, IsErr};
-ghost use Rattle.par2_disk.specs.Reading.{IsToldAs};
+ghost use Rattle.par2_disk.specs.Reading.{IsReportedAs};
 
 use crate::ReadFault;
 use std::alloc::{AllocError, Global};
 use std::fs::OpenFile;
 use std::io::{self, Error, ErrorKind, Read, Write};
 
-// How much is read at a time.
+// The most bytes that are read at a time.
 const BLOCK: usize = 1 << 16;
 
-// A file that has not ended after so many reads can't be read.
+// The most reads of a file: if it hasn't ended by then, reading it fails.
 const READS: u64 = 1 << 32;
 
 impl From<AllocError> for ReadFault {
@@ -19,15 +20,16 @@ impl From<AllocError> for ReadFault {
 
     ghost from_gives = { λ _ fault. fault ≡ ReadFault.Memory };
 
+    // For `?` after an allocation. `From<StoreFault>` is in disk.rt.
     fn from(_error: AllocError) -> Self {
         ReadFault::Memory
     }
 }
 
-// Out of memory, or a failure.
 impl From<Error> for ReadFault {
-    ghost from_gives = { λ error fault. IsToldAs error fault };
+    ghost from_gives = { λ error fault. IsReportedAs error fault };
 
+    // For `?` after a call of the runtime: an error of kind OutOfMemory is Memory, and any other is Store.
     fn from(error: Error) -> Self {
         match error.kind() {
             ErrorKind::OutOfMemory => ReadFault::Memory,
@@ -36,7 +38,8 @@ impl From<Error> for ReadFault {
     }
 }
 
-/// The bytes of a reader that ends within so many reads. Places for `size` of them are made at once.
+/// The bytes that a reader has left, to its end. It fails with Store if that takes more than `reads` reads, so that
+/// reading ends whatever the reader does. `size`, a hint, is how many bytes are reserved at first.
 pub fn read_within<F: Read>(
     file: &mut F,
     alloc: Global,
@@ -58,7 +61,8 @@ pub fn read_within<F: Read>(
     Err(ReadFault::Store)
 }
 
-/// The bytes of a file that was opened, if it was. Its size is a hint of how much memory it wants.
+/// The bytes of an opened file, to its end, or the error of the open. `size` is a hint for how many bytes to reserve.
+/// `IsReportedAs`: the fault is Memory exactly for an error of kind OutOfMemory.
 pub fn read_opened<F: Read + Drop>(
     opened: io::Result<F>,
     alloc: Global,
@@ -67,13 +71,13 @@ pub fn read_opened<F: Read + Drop>(
     ensures bytes { IfOk result (λ bytes. IfOk opened (λ file.
         IfSome (F.remaining file) (λ left. bytes.items ≡ left))) }
     ensures unopened { IsErr opened → IsErr result }
-    ensures told { IfErr opened (λ error. IfErr result (IsToldAs error)) }
+    ensures reported { IfErr opened (λ error. IfErr result (IsReportedAs error)) }
 {
     let mut reader = opened?;
     read_within(&mut reader, alloc, size as usize, READS)
 }
 
-/// A file that was opened, once the bytes are written to it.
+/// Writes all bytes to an opened file, and returns it, to be synced; or the error of the open or of a write.
 pub fn written_to<F: Write + Drop>(opened: io::Result<F>, bytes: &[u8]) -> io::Result<F>
     ensures bytes { IfOk result (λ file. IfOk opened (λ before.
         Appends (F.contents before) (F.contents file) bytes.now)) }
@@ -84,8 +88,8 @@ pub fn written_to<F: Write + Drop>(opened: io::Result<F>, bytes: &[u8]) -> io::R
     Ok(file)
 }
 
-/// Waits for a file, or for a directory, that was opened.
-pub fn wait_for<F: OpenFile + Drop>(opened: io::Result<F>) -> io::Result<()>
+/// Syncs an opened file or directory (fsync), or returns the error of the open.
+pub fn sync_opened<F: OpenFile + Drop>(opened: io::Result<F>) -> io::Result<()>
     ensures { IsErr opened → IsErr result }
 {
     opened?.sync_all()

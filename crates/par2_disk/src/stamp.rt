@@ -1,4 +1,5 @@
-//! Which file stands at a path, and in what state.
+//! Which file is at a path, and in what state. The stamp of the journal that a run read is compared before its first
+//! writing call, to see that no other run has written the folder.
 ghost use Rattle.std.specs.Prelude.{◌≡◌, IfOk, IsErr};
 ghost use Rattle.std.specs.IoError.{error_kind};
 ghost use Rattle.par2_disk.specs.Looking.{IsStampOf, IsStampedBy};
@@ -8,8 +9,8 @@ use std::fs::Metadata;
 use std::io::{self, ErrorKind};
 use std::os::unix::fs::MetadataExt;
 
-/// A file as it was looked at: its device and number, its size, and when it was written last. A file that is written
-/// under another name and then gets the path has another.
+/// The identity and state of a file: device, inode, size and time of the last write. A file that is written under
+/// another name and then renamed to the path has another stamp.
 #[derive(Clone, Copy, PartialEq, Eq)]
 pub struct Stamp {
     device: u64,
@@ -20,7 +21,7 @@ pub struct Stamp {
 }
 
 impl Stamp {
-    /// That of a file, by what the system says of it.
+    /// The stamp of a file with this metadata. `IsStampOf`: contracts know only that the size is the file's.
     pub fn new(metadata: &Metadata) -> Stamp
         ensures { IsStampOf metadata.now result }
     {
@@ -34,7 +35,8 @@ impl Stamp {
     }
 }
 
-/// What stands at a path, by what a runtime says of it.
+/// The stamp of the file at a path, `None` if nothing is there, from `answer`, the runtime's result for the path. An
+/// error other than NotFound is a fault.
 pub fn stamp_by(answer: io::Result<Metadata>) -> Result<Option<Stamp>, StoreFault>
     ensures stamp { IfOk result (IsStampedBy (λ e. error_kind e ≡ ErrorKind.NotFound) answer) }
     ensures fault { IsErr result → IsErr answer }

@@ -1,4 +1,4 @@
-//! A place that keeps a flat folder and a journal, and how its folder is read into memory.
+//! The trait of stores, which keep a flat folder and a journal, and how a store's folder is read into memory.
 ghost use Rattle.std.specs.Prelude.{◌≡◌, ◌+◌, IfOk};
 ghost use Rattle.par2_spec.specs.Changes.{Write, Replace, Rename, Remove};
 ghost use Rattle.par2_disk.specs.Filling.{HasFilesOf};
@@ -9,9 +9,10 @@ use par2_files::{Change, Folder, Name};
 use std::alloc::Global;
 use thiserror::Error;
 
-/// Why a reading call has no answer.
+/// Why a reading call fails.
 #[derive(Debug, Error, Clone, Copy, PartialEq, Eq)]
 pub enum ReadFault {
+    /// Any cause but memory: no lock, unreadable, too many reads.
     #[error("the folder could not be read")]
     Store,
     #[error("out of memory")]
@@ -23,18 +24,18 @@ pub enum ReadFault {
 #[error("the folder could not be written")]
 pub struct StoreFault;
 
-/// A flat folder of files, and a journal beside it. What is said of its contents holds where it is honest: nobody but
-/// runs of this program writes it, and what is read is what was written. A writing call that fails has done its whole
-/// work or none. So it is with a power cut: after a writing call that answers Ok it leaves what the call made. After one
-/// that fails, or in the middle of one, it leaves what was there before it or what the call makes.
+/// A flat folder of files, and a journal beside it. The contracts on its contents hold if the store is honest: only
+/// runs of this program write it, and reads return what was written. A writing call that fails has done all of its
+/// work or none. After a writing call that returns Ok, a power cut leaves what the call wrote. After one that fails,
+/// or during one, a power cut leaves either the contents before the call or those that the call writes.
 pub trait FolderStore: Store {
-    /// The names of the files, in order.
+    /// The names of the files, sorted.
     fn names(&mut self, alloc: Global) -> Result<Vec<Name>, ReadFault>
         ensures names { ReadsNames Self.Store self.old self.new result }
         ensures reads { OnlyReads Self.Store self.old self.new }
         ensures failures { CountsReadFailures Self.failures self.old self.new result };
 
-    /// The bytes of a file. To read a name that no file has is a failure.
+    /// The bytes of a file. It fails if no file has the name.
     fn read(&mut self, alloc: Global, name: &Name) -> Result<Vec<u8>, ReadFault>
         ensures file { ReadsFile Self.Store self.old self.new name.now result }
         ensures reads { OnlyReads Self.Store self.old self.new }
@@ -46,39 +47,39 @@ pub trait FolderStore: Store {
         ensures reads { OnlyReads Self.Store self.old self.new }
         ensures failures { CountsReadFailures Self.failures self.old self.new result };
 
-    /// Writes a file, under a name that no file has. Where one has it, it does nothing and fails.
+    /// Writes a new file. It does nothing and fails if a file has the name.
     fn write(&mut self, name: &Name, bytes: &[u8]) -> Result<(), StoreFault>
         ensures made { Makes Self.Store self.old self.new (Write name.now bytes.now) result }
         ensures failures { CountsFailures Self.failures self.old self.new result }
         ensures counted { Self.writing_calls self.new ≡ Self.writing_calls self.old + 1 };
 
-    /// Writes other bytes over those of a file. Where no file has the name, it does nothing and fails.
+    /// Replaces the bytes of a file. It does nothing and fails if no file has the name.
     fn replace(&mut self, name: &Name, bytes: &[u8]) -> Result<(), StoreFault>
         ensures made { Makes Self.Store self.old self.new (Replace name.now bytes.now) result }
         ensures failures { CountsFailures Self.failures self.old self.new result }
         ensures counted { Self.writing_calls self.new ≡ Self.writing_calls self.old + 1 };
 
-    /// Gives a file another name. Where no file has the first name, or one has the second, it does nothing and fails.
+    /// Renames a file. It does nothing and fails if no file has the first name, or one has the second.
     fn rename(&mut self, from: &Name, to: &Name) -> Result<(), StoreFault>
         ensures made { Makes Self.Store self.old self.new (Rename from.now to.now) result }
         ensures failures { CountsFailures Self.failures self.old self.new result }
         ensures counted { Self.writing_calls self.new ≡ Self.writing_calls self.old + 1 };
 
-    /// Removes a file. Where no file has the name, it does nothing and fails.
+    /// Removes a file. It does nothing and fails if no file has the name.
     fn remove(&mut self, name: &Name) -> Result<(), StoreFault>
         ensures made { Makes Self.Store self.old self.new (Remove name.now) result }
         ensures failures { CountsFailures Self.failures self.old self.new result }
         ensures counted { Self.writing_calls self.new ≡ Self.writing_calls self.old + 1 };
 
-    /// Writes the journal whole, over the one that is there.
+    /// Writes the whole journal, over an existing one.
     fn put_journal(&mut self, bytes: &[u8]) -> Result<(), StoreFault>
         ensures put { PutsJournal Self.Store self.old self.new bytes.now result }
         ensures failures { CountsFailures Self.failures self.old self.new result }
         ensures counted { Self.writing_calls self.new ≡ Self.writing_calls self.old + 1 };
 }
 
-/// The folder of a store: its names are read, and then each file in their order. Where a store that is not honest
-/// lists a name twice, the bytes that it gave first count.
+/// Reads the folder of a store into memory, as the first step of opening it: the names, and then each file in their
+/// order. If a store that isn't honest lists a name twice, the bytes that were read first count.
 pub fn read_folder<S: FolderStore>(alloc: Global, store: &mut S) -> Result<Folder, ReadFault>
     ensures files { S.honest store.old → IfOk result (HasFilesOf (S.contents store.old)) }
     ensures reads { OnlyReads S.Store store.old store.new }

@@ -1,4 +1,4 @@
-//! What contracts alone see: of stores, of the directories that they go by, and how often something has happened.
+//! Ghost state for contracts: the state of stores and of directories, and counts.
 ghost use Rattle.std.specs.Prelude.{ℕ, List, Option, ◌≡◌, ◌+◌};
 ghost use Rattle.par2_spec.specs.Stores.{Contents};
 ghost use Rattle.par2_disk.specs.declared.stamp.Stamp.{Stamp};
@@ -7,62 +7,62 @@ ghost use Rattle.std.specs.Borrow.{ftrue};
 
 use std::marker::Model;
 
-/// What contracts see of a store. It takes nothing when it runs.
+/// The ghost state of a store. It costs nothing at run time.
 pub trait Store {
-    /// Whether nobody but runs of this program writes, and what is read is what was written.
+    /// Whether only runs of this program write it, and reads return what was written.
     ghost honest: { Self → Type 0 };
 
     /// The files and the journal.
     ghost contents: { Self → Contents };
 
-    /// What a power cut now may leave of them.
-    ghost may_remain: { Self → Contents → Type 0 };
+    /// The contents that a power cut may leave now.
+    ghost crash_states: { Self → Contents → Type 0 };
 
-    /// How often it has failed.
+    /// The number of its failures.
     ghost failures: { Self → ℕ };
 
-    /// How often it was asked for what can't be done. That is to read, replace or remove a name that no file has, to
-    /// write one that is taken, or to rename one that no file has or to one that is taken.
+    /// The number of calls that can't be done: to read, replace, remove or rename a name that no file has, or to write
+    /// or rename to a name that is taken.
     ghost impossible: { Self → ℕ };
 
-    /// How many writing calls were made of it, those that failed among them.
+    /// The number of writing calls, including those that failed.
     ghost writing_calls: { Self → ℕ };
 }
 
-/// What contracts see of a directory. It takes nothing when it runs.
+/// The ghost state of a directory. It costs nothing at run time.
 pub trait Disk {
-    /// Whether nobody but runs of this program writes, and what is read is what was written.
+    /// Whether only runs of this program write it, and reads return what was written.
     ghost honest: { Self → Type 0 };
 
     /// Whether the run holds it alone, so that no other run writes.
     ghost alone: { Self → Type 0 };
 
-    /// What stands at the journal's place, as far as it was looked at.
+    /// The journal's stamp, as far as it was looked at, and `None` if there is no journal.
     ghost stamp: { Self → Option Stamp };
 
-    /// The files with names, and the journal.
+    /// The named files, and the journal.
     ghost contents: { Self → Contents };
 
     /// The bytes of the temporary file, if there is one.
     ghost temporary: { Self → Option (List ℕ) };
 
-    /// What a power cut now may leave of the files and the journal.
-    ghost may_remain: { Self → Contents → Type 0 };
+    /// The files and the journal that a power cut may leave now.
+    ghost crash_states: { Self → Contents → Type 0 };
 
-    /// What it may leave of the bytes of the temporary file.
-    ghost bytes_may_remain: { Self → List ℕ → Type 0 };
+    /// The bytes of the temporary file that a power cut may leave now.
+    ghost temporary_crash_states: { Self → List ℕ → Type 0 };
 
-    /// Whether something stands at a path that is no file.
+    /// Whether something other than a file is at a path.
     ghost barred: { Self → List ℕ → Type 0 };
 
-    /// With what a call that reads may fail now.
+    /// The faults that a reading call may return now.
     ghost may_fail: { Self → ReadFault → Type 0 };
 
-    /// How often a call that holds it, writes or waits has failed.
+    /// The number of failed calls that hold it, write or sync.
     ghost failures: { Self → ℕ };
 }
 
-/// A count.
+/// A ghost count.
 #[derive(Drop)]
 pub struct Count {
     pub ghost count: { ℕ },
@@ -73,14 +73,14 @@ impl Model for Count {
 }
 
 impl Count {
-    /// None yet.
+    /// The count before any call: zero. It exists for contracts only, and takes no memory.
     pub fn new() -> Count
         ensures { result.count ≡ 0 }
     {
         Count {}
     }
 
-    // The count after one more.
+    // The count after one more, for `rise`. For the prover: a new ghost value, which no code computes.
     fn next(&self) -> Count
         ensures { result.count ≡ self.now.count + 1 }
     {

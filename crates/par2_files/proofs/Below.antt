@@ -1,11 +1,11 @@
--- The files of a folder before a name, which changes from the name on leave as they are, and what is hashed of them.
-use Rattle.par2_files.proofs.Common.{◌≡◌, ℕ, zero, suc, ◌<◌, ◌≤◌, Bool, true, false, cond, List, ◌∷◌, ◌++◌, length, take, Option, Some, None, refl, sym, ap, ◌∙◌, arith, is_lt, is_eq, eq_by_cmp, ord_min, Ordering, Less, Equal, Greater, nat_list_cmp_total, entries, same_map, entries-from_sorted, get-from_sorted, get-retain_keys, get-insert, get-remove, where_key, find-where_key, is_sorted-where_key, cases_lt, File, Folder, behind_length, bytes_of, name_cmp, IsSortedByName, folder_of, file_at, IsAt, IsGapFor, IsKept, is_below, folder_below, fingerprint_input, IsFrom, IsFront, by_true, effect, Change, Write, Replace, Rename, Remove, flat_map-append}
+-- The files of a folder before a name, which changes from the name on leave as they are, and their message.
+use Rattle.par2_files.proofs.Common.{◌≡◌, ℕ, zero, suc, ◌<◌, ◌≤◌, Bool, true, false, cond, List, ◌∷◌, ◌++◌, length, take, Option, Some, None, refl, sym, ap, ◌∙◌, arith, is_lt, is_eq, eq_by_cmp, ord_min, Ordering, Less, Equal, Greater, nat_list_cmp_total, entries, same_map, entries-from_sorted, get-from_sorted, get-retain_keys, get-insert, get-remove, where_key, find-where_key, is_sorted-where_key, cases_lt, File, Folder, behind_length, bytes_of, name_cmp, IsSortedByName, folder_of, file_at, IsFileAt, IsGapFor, AreFolderFiles, is_below, folder_below, fingerprint_input, IsFrom, IsFront, by_true, effect, Change, Write, Replace, Rename, Remove, flat_map-append}
 use Rattle.std.specs.FinMap as map_of
-use Rattle.par2_files.proofs.SortedFiles.{same_names, rises, turned, turned_back}
+use Rattle.par2_files.proofs.SortedFiles.{same_names, rises, inverted, reversed_back}
 
--- ---- the files before a place
+-- ---- the files before a position
 
--- a test that holds of the names before a place alone
+-- a test that only the names before a position pass
 front_only : (p : List ℕ → Bool) (files : List File) (at : ℕ) → at ≤ length files → ((j : ℕ) → j < at → p (file_at files j).0 ≡ true)
     → ((j : ℕ) → at ≤ j → j < length files → p (file_at files j).0 ≡ false) → where_key name_cmp p files ≡ take at files
 front_only p (f ∷ files) zero le before after =
@@ -16,7 +16,7 @@ front_only p (f ∷ files) (suc at) le before after =
     ∙ ap (λ l. f ∷ l) (front_only p files at (omega (arith, le)) (λ j lt. before (suc j) (omega arith)) (λ j ge lt. after (suc j) (omega arith) (omega arith)))
 front_only p files at le before after = grind (arith)
 
--- a test counts for a name as for one that is equal to it
+-- a test gives the same for equal names
 alike : (p : List ℕ → Bool) (q x : List ℕ) → name_cmp q x ≡ Equal → p x ≡ p q
 alike p q x e = ap p (sym (same_names q x e))
 
@@ -29,31 +29,31 @@ kept_where p files h =
     ∙ sym (find-where_key name_cmp p q (alike p q) files) ∙ sym (get-from_sorted name_cmp _ q sorted)))
     ∙ entries-from_sorted name_cmp _ sorted
 
--- a search tells how many names come before the name
+-- a search returns the number of names before the name
 pub front_gap : (files : List File) (name : List ℕ) (at : ℕ) → IsGapFor files name at → IsFront (is_below name) files at
 front_gap files name at gap = grind (arith)
 
-pub front_at : (files : List File) → IsKept files → (name : List ℕ) (at : ℕ) → IsAt files name at → IsFront (is_below name) files at
-front_at files kept name at here = grind (arith, rises, cases_lt, turned)
+pub front_at : (files : List File) → AreFolderFiles files → (name : List ℕ) (at : ℕ) → IsFileAt files name at → IsFront (is_below name) files at
+front_at files kept name at here = grind (arith, rises, cases_lt, inverted)
 
--- the files that pass a test are those before a place
-pub front_entries : (test : List ℕ → Bool) (files : List File) → IsKept files → (count : ℕ) → IsFront test files count
+-- the files that pass a test are those before a position
+pub front_entries : (test : List ℕ → Bool) (files : List File) → AreFolderFiles files → (count : ℕ) → IsFront test files count
     → entries (map_of.retain_keys (folder_of files) test) ≡ take count files
 front_entries test files kept count front = grind (arith, kept_where, front_only)
 
--- a test that more names pass has a longer front
+-- if more names pass a test, its front is longer
 pub front_further : (test wider : List ℕ → Bool) (files : List File) (a b : ℕ) → IsFront test files a → IsFront wider files b
     → ((name : List ℕ) → test name ≡ true → wider name ≡ true) → a ≤ b
 front_further test wider files a b front longer further = grind (arith, cases_lt)
 
--- ---- what is hashed
+-- ---- messages
 
 pub hashed-append : (xs ys : List File) → fingerprint_input (xs ++ ys) ≡ fingerprint_input xs ++ fingerprint_input ys
 hashed-append xs ys = flat_map-append (λ file. behind_length file.0 ++ behind_length file.1) xs ys
 
 -- ---- changes
 
--- where a name is not before another, which is not before a third, it is not before the third
+-- "not less than" is transitive
 pub not_before : (name a b : List ℕ) → is_below a b ≡ false → is_below name a ≡ false → is_below name b ≡ false
 not_before name a b h k = by_case (name_cmp b a) (name_cmp b name) refl refl h
   where
@@ -62,10 +62,10 @@ not_before name a b h k = by_case (name_cmp b a) (name_cmp b name) refl refl h
     by_case r Greater e f h = refl
     by_case Less Less e f h = h
     by_case Equal Less e f h = ap is_lt (sym f) ∙ ap (is_below name) (same_names b a e) ∙ k
-    by_case Greater Less e f h = ap is_lt (sym (nat_list_cmp_total.trans a b name (turned_back b a e) f)) ∙ k
+    by_case Greater Less e f h = ap is_lt (sym (nat_list_cmp_total.trans a b name (reversed_back b a e) f)) ∙ k
 
 not_after : (a b : List ℕ) (r : Ordering) → name_cmp b a ≡ r → is_lt r ≡ true → is_below b a ≡ false
-not_after a b r e h = grind (arith, turned)
+not_after a b r e h = grind (arith, inverted)
 
 both_from : (name a b : List ℕ) → is_below name (ord_min name_cmp a b) ≡ false → (is_below name a ≡ false) × (is_below name b ≡ false)
 both_from name a b = grind (arith, not_before, not_after)
@@ -73,7 +73,7 @@ both_from name a b = grind (arith, not_before, not_after)
 get_below : (name : List ℕ) (folder : Folder) (q : List ℕ) → map_of.get (folder_below name folder) q ≡ cond (is_below name q) (map_of.get folder q) None
 get_below name folder q = get-retain_keys folder (is_below name) q (alike (is_below name) q)
 
--- what stands at a name that is not before another doesn't count among the names before that
+-- another value at a name that is not before `name` leaves the files before `name`
 elsewhere : (name n q : List ℕ) (o g : Option (List ℕ)) → is_below name n ≡ false → cond (is_below name q) (cond (eq_by_cmp name_cmp q n) o g) None ≡ cond (is_below name q) g None
 elsewhere name n q o g h = by_case (name_cmp q n) refl
   where
@@ -95,7 +95,7 @@ module _ (name n : List ℕ) (folder : Folder) (h : is_below name n ≡ false) w
       get_below name _ q ∙ ap (λ o. cond (is_below name q) o None) (get-remove nat_list_cmp_total folder n q)
       ∙ elsewhere name n q None (map_of.get folder q) h ∙ sym (get_below name folder q))
 
--- a change from the name on leaves what is before it
+-- a change from the name on leaves the files before it
 pub effect_below : (name : List ℕ) (folder : Folder) (change : Change) → IsFrom name change → folder_below name (effect folder change) ≡ folder_below name folder
 unfolding effect
 effect_below name folder (Write n bytes) h = put_from name n folder h bytes

@@ -19,19 +19,19 @@ pub use Rattle.std.specs.declared.cmp.Ordering.{Ordering}
 pub use Rattle.std.specs.declared.cmp.Ordering.TheVariants.{Equal, Greater, Less}
 pub use Rattle.md5.specs.Md5.{md5}
 pub use Rattle.par2_md5_lanes.specs.Messages.{HasAbsorbed, message_of}
-pub use Rattle.par2_md5_lanes.specs.Texts.{texts_of}
+pub use Rattle.par2_md5_lanes.specs.Buffers.{buffers_of}
 pub use Rattle.par2_md5_lanes.specs.declared.midstate.Midstate.{Midstate}
 pub use Rattle.par2_md5_lanes.specs.declared.pending.Pending.{Pending}
 pub use Rattle.par2_files.specs.Below.{IsFrom, IsFront, fingerprint_input, folder_below, is_below}
-pub use Rattle.par2_files.specs.Borders.{IsFurther, comes_before, is_before, new_run, run_texts, text_before, touches}
-unfoldable pub use Rattle.par2_files.specs.Borders.{later_texts}
-pub use Rattle.par2_files.specs.Landmarks.{AreBehind, AreLandmarksOf, IsLandmarkOf}
-pub use Rattle.par2_files.specs.Runs.{AreTo, HaveAbsorbed, ReachEach, Reaches}
+pub use Rattle.par2_files.specs.Splits.{IsFurther, comes_before, is_before, new_run, run_buffers, bytes_before, touches}
+unfoldable pub use Rattle.par2_files.specs.Splits.{later_buffers}
+pub use Rattle.par2_files.specs.Checkpoints.{AreBehind, AreCheckpointsOf, IsCheckpointOf}
+pub use Rattle.par2_files.specs.Runs.{AreTo, HaveAbsorbed, ReachEach, AbsorbsTo}
 pub use Rattle.par2_files.specs.Snapshots.{file_of, files_in, folder_in}
-pub use Rattle.par2_files.specs.Sorting.{IsAt, IsFile, IsGapFor, IsKept, IsSortedByName, file_at, folder_of, name_cmp}
+pub use Rattle.par2_files.specs.Sorting.{IsFileAt, IsFile, IsGapFor, AreFolderFiles, IsSortedByName, file_at, folder_of, name_cmp}
 pub use Rattle.par2_files.specs.Views.{change_of}
-pub use Rattle.par2_files.specs.declared.snapshot.Border.{Border}
-pub use Rattle.par2_files.specs.declared.snapshot.Border.TheVariants.{At, Beginning, End}
+pub use Rattle.par2_files.specs.declared.snapshot.Split.{Split}
+pub use Rattle.par2_files.specs.declared.snapshot.Split.TheVariants.{At, Beginning, End}
 pub use Rattle.par2_files.specs.declared.snapshot.BorrowedFile.{BorrowedFile}
 pub use Rattle.par2_spec.proofs.FolderLaws.{taken_are_applicable, takes_first, takes_rest}
 pub use Rattle.par2_spec.proofs.TestLaws.{by_true, cond-not, is_true}

@@ -1,4 +1,4 @@
--- Changes that were lent and written.
+-- Changes that were borrowed mutably and written.
 use Rattle.par2_files.proofs.Common.{◌≡◌, ℕ, List, ◌++◌, length, map, take, drop, sym, ap, ◌∙◌, take-map, drop-map, map-append, length-map}
 
 -- seen by f, the first n of the new items, filled up from the old ones

@@ -1,11 +1,11 @@
 mod Common
-pub mod Texts
+pub mod Output
 pub mod SortedFiles
 pub mod Lists
 pub mod Below
 mod LentChanges
 pub mod Snapshots
-pub mod Borders
+pub mod Splits
 pub mod RunLaws
 pub mod Walks
-pub mod Surveys
+pub mod Fingerprinting

@@ -29,8 +29,7 @@ unfolding inverses way_back
 inverses_reversed folder [] = refl
 inverses_reversed folder (change ∷ changes) = grind (arith, common_steps, reverse-append, inverses, effect, inverses_reversed (effect folder change) changes)
 
--- ---- a loop that applies changes in turn, seen through v: given is what it began with, and now what stands there at
--- the place i
+-- ---- a loop that applies changes in order, seen through v: the list was `given` at first, and is `now` at position i
 
 module _ {A : Type 0} (v : A → Change) where
   pub record IsOnItsWay (start state : FolderState) (given now : List A) (i : ℕ) : Type 0 where
@@ -58,7 +57,7 @@ module _ {A : Type 0} (v : A → Change) where
     is_accepted = takes_first state (v x) _ taken_now
 
     pub goes_on : (next : FolderState) (y : A) → next ≡ state_after state (v x) → v y ≡ inverse state.files (v x) → IsOnItsWay start next given (set now i y) (i + 1)
-    goes_on next y moved turned =
+    goes_on next y moved inverted =
         let files : next.files ≡ effect state.files (v x) = ap (λ (s : FolderState). s.files) moved in
         rw add-one (record {
           taken = subst (λ s. IsTrue (takes_all s (map v (drop (suc i) given)))) (sym moved) (takes_rest state (v x) _ taken_now);
@@ -67,7 +66,7 @@ module _ {A : Type 0} (v : A → Change) where
           back = ap (λ l. map v l ++ inverses next.files (map v (drop (suc i) given))) (take-suc-set now i y lt)
               ∙ ap (λ l. l ++ inverses next.files (map v (drop (suc i) given))) (map-append v (take i now) (y ∷ []))
               ∙ append_assoc (map v (take i now)) (v y ∷ []) (inverses next.files (map v (drop (suc i) given)))
-              ∙ ap (λ l. map v (take i now) ++ l) (ap (λ c. c ∷ inverses next.files (map v (drop (suc i) given))) turned ∙ ap (λ f. inverse state.files (v x) ∷ inverses f (map v (drop (suc i) given))) files ∙ sym (inverses_first state.files (v x) _) ∙ ap (λ l. inverses state.files (map v l)) (sym split))
+              ∙ ap (λ l. map v (take i now) ++ l) (ap (λ c. c ∷ inverses next.files (map v (drop (suc i) given))) inverted ∙ ap (λ f. inverse state.files (v x) ∷ inverses f (map v (drop (suc i) given))) files ∙ sym (inverses_first state.files (v x) _) ∙ ap (λ l. inverses state.files (map v l)) (sym split))
               ∙ so_far.back;
         })
 
@@ -78,5 +77,5 @@ module _ {A : Type 0} (v : A → Change) where
   pub arrived : (start state : FolderState) (given now : List A) (i : ℕ) → IsOnItsWay start state given now i → length given ≤ i → state ≡ state_after_all start (map v given)
   arrived start state given now i so_far over = sym (after_none state) ∙ ap (λ l. state_after_all state (map v l)) (sym (drop_all i given over)) ∙ so_far.after
 
-  pub turned_round : (start state : FolderState) (given now : List A) (i : ℕ) → IsOnItsWay start state given now i → length given ≤ i → length now ≤ i → map v (reverse now) ≡ way_back start.files (map v given)
-  turned_round start state given now i so_far over over_now = grind (arith, map-reverse, take_all, append-nil, inverses_none, inverses, drop_all, inverses_reversed)
+  pub reversed_round : (start state : FolderState) (given now : List A) (i : ℕ) → IsOnItsWay start state given now i → length given ≤ i → length now ≤ i → map v (reverse now) ≡ way_back start.files (map v given)
+  reversed_round start state given now i so_far over over_now = grind (arith, map-reverse, take_all, append-nil, inverses_none, inverses, drop_all, inverses_reversed)

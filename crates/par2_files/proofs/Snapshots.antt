@@ -1,5 +1,5 @@
 -- A snapshot's files, through searches and edits.
-use Rattle.par2_files.proofs.Common.{◌≡◌, ℕ, suc, ◌<◌, false, List, [], ◌∷◌, length, map, get_or, set, Some, None, is_some, Result, Ok, Err, IfOk, IfErr, IsTrue, sym, ap, subst, ◌∙◌, arith, insert, remove, IsSearchInRange, IsBinarySearchResult, Ordering, length-map, get_or-map, map-set, File, Folder, has, bytes_of, name_cmp, folder_of, file_at, IsAt, IsGapFor, IsFile, IsKept, BorrowedFile, file_of, common_steps}
+use Rattle.par2_files.proofs.Common.{◌≡◌, ℕ, suc, ◌<◌, false, List, [], ◌∷◌, length, map, get_or, set, Some, None, is_some, Result, Ok, Err, IfOk, IfErr, IsTrue, sym, ap, subst, ◌∙◌, arith, insert, remove, IsSearchInRange, IsBinarySearchResult, Ordering, length-map, get_or-map, map-set, File, Folder, has, bytes_of, name_cmp, folder_of, file_at, IsFileAt, IsGapFor, IsFile, AreFolderFiles, BorrowedFile, file_of, common_steps}
 use Rattle.std.specs.FinMap as map_of
 use Rattle.par2_files.proofs.SortedFiles.{Makes, searched_folder, inserted, exchanged, removed, bytes_at}
 
@@ -13,7 +13,7 @@ map-remove : {A B : Type 0} (v : A → B) (xs : List A) (i : ℕ) → map v (rem
 map-remove v (y ∷ xs) (suc i) = ap (λ l. v y ∷ l) (map-remove v xs i)
 map-remove v xs i = grind (arith, common_steps)
 
--- an item whose view stands in the list of the views
+-- an item whose view is in the list of the views
 some_item : {A B : Type 0} (v : A → B) (xs : List A) (i : ℕ) (d : B) → i < length xs → (x : A) × (v (get_or xs i x) ≡ get_or (map v xs) i d)
 some_item v [] i d lt = absurd (omega (arith, lt))
 some_item v (x ∷ xs) i d lt = (x, sym (get_or-map v (x ∷ xs) i x d lt))
@@ -36,9 +36,9 @@ searched_through v order xs (Err at) in_range found =
 
 -- ---- a snapshot's files
 
-module _ (items : List BorrowedFile) (kept : IsKept (map file_of items)) (name : List ℕ) where
+module _ (items : List BorrowedFile) (kept : AreFolderFiles (map file_of items)) (name : List ℕ) where
   pub searched_files : (r : Result ℕ ℕ) → IsSearchInRange r (length items) → IsBinarySearchResult (λ item. name_cmp (file_of item).0 name) items r
-      → record { found : IfOk r (IsAt (map file_of items) name); absent : IfErr r (IsGapFor (map file_of items) name); there : IfOk r (λ at. map_of.get (folder_of (map file_of items)) name ≡ Some (file_at (map file_of items) at).1); not_there : IfErr r (λ _. map_of.get (folder_of (map file_of items)) name ≡ None) }
+      → record { found : IfOk r (IsFileAt (map file_of items) name); absent : IfErr r (IsGapFor (map file_of items) name); there : IfOk r (λ at. map_of.get (folder_of (map file_of items)) name ≡ Some (file_at (map file_of items) at).1); not_there : IfErr r (λ _. map_of.get (folder_of (map file_of items)) name ≡ None) }
   searched_files r in_range found =
       searched_folder (map file_of items) kept name r (rw length-map in_range) (searched_through file_of (λ (file : File). name_cmp file.0 name) items r in_range found)
 
@@ -49,19 +49,19 @@ module _ (items : List BorrowedFile) (kept : IsKept (map file_of items)) (name :
       subst (λ l. Makes l folder) (ap (λ n. insert (map file_of items) at (n, file.bytes.now)) (sym same) ∙ sym (map-insert file_of items at file))
       (inserted (map file_of items) kept name file.bytes.now at gap is)
 
-  pub put_at : (file : BorrowedFile) (at : ℕ) → file.name.now ≡ name → IsAt (map file_of items) name at → IsFile (name, file.bytes.now)
+  pub put_at : (file : BorrowedFile) (at : ℕ) → file.name.now ≡ name → IsFileAt (map file_of items) name at → IsFile (name, file.bytes.now)
       → Makes (map file_of (set items at file)) (map_of.insert (folder_of (map file_of items)) name file.bytes.now)
   put_at file at same here is =
       let folder = map_of.insert (folder_of (map file_of items)) name file.bytes.now in
       subst (λ l. Makes l folder) (ap (λ n. set (map file_of items) at (n, file.bytes.now)) (sym same) ∙ sym (map-set file_of items at file))
       (exchanged (map file_of items) kept name file.bytes.now at here is)
 
-  pub taken_from : (at : ℕ) → IsAt (map file_of items) name at → Makes (map file_of (remove items at)) (map_of.remove (folder_of (map file_of items)) name)
+  pub taken_from : (at : ℕ) → IsFileAt (map file_of items) name at → Makes (map file_of (remove items at)) (map_of.remove (folder_of (map file_of items)) name)
   taken_from at here = search (arith, map-remove, removed)
 
-  pub bytes_taken : (at : ℕ) (file : BorrowedFile) → IsAt (map file_of items) name at → file ≡ get_or items at file → file.bytes.now ≡ bytes_of (folder_of (map file_of items)) name
+  pub bytes_taken : (at : ℕ) (file : BorrowedFile) → IsFileAt (map file_of items) name at → file ≡ get_or items at file → file.bytes.now ≡ bytes_of (folder_of (map file_of items)) name
   bytes_taken at file here is = grind (arith, length-map, get_or-map, bytes_at)
 
--- a name that a search doesn't find is none of a file
+-- no file has a name that a search doesn't find
 pub not_absent : (folder : Folder) (name : List ℕ) → IsTrue (has folder name) → map_of.get folder name ≡ None → ⊥
 not_absent folder name there none = let missing : has folder name ≡ false = ap is_some none in cc

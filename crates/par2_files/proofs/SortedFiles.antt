@@ -1,6 +1,5 @@
--- Files sorted by their names: what a search finds in them, and what an edit at a place does to the folder that
--- they make.
-use Rattle.par2_files.proofs.Common.{◌≡◌, ℕ, zero, suc, ◌+◌, ◌<◌, ◌≤◌, Bool, true, false, cond, not, List, [], ◌∷◌, ◌++◌, length, take, drop, get_or, set, is_some, Option, Some, None, Result, Ok, Err, IfOk, IfErr, IsTrue, T, refl, sym, ap, subst, ◌∙◌, arith, insert, remove, AllByRecursion, IsSearchInRange, IsBinarySearchResult, IsNonDecreasingBy, ordering_index, ordering_reverse, eq_by_cmp, is_lt, is_eq, Ordering, Less, Equal, Greater, and_parts, nat_list_cmp_total, entries, is_sorted, find, put, IsAntisymmetric, slice_cmp-IsAntisymmetric, nat_cmp-IsAntisymmetric, same_entries_map, same_map, entries_sorted, entries-from_sorted, get-from_sorted, entries-insert, get-remove, get-empty, where_key, find-where_key, is_sorted-where_key, length-map, get_or-map, length-take-le, get_or-take, take_all, drop_all, take_more, get_or_default, All-from_recursion, recursion_from_All, All-set, File, Folder, IsFolder, has, names, name_cmp, IsSortedByName, folder_of, file_at, IsAt, IsGapFor, IsFile, IsKept, by_true, is_true, cond-not, common_steps}
+-- Files sorted by their names: what a search finds in them, and what an edit at a position does to their folder.
+use Rattle.par2_files.proofs.Common.{◌≡◌, ℕ, zero, suc, ◌+◌, ◌<◌, ◌≤◌, Bool, true, false, cond, not, List, [], ◌∷◌, ◌++◌, length, take, drop, get_or, set, is_some, Option, Some, None, Result, Ok, Err, IfOk, IfErr, IsTrue, T, refl, sym, ap, subst, ◌∙◌, arith, insert, remove, AllByRecursion, IsSearchInRange, IsBinarySearchResult, IsNonDecreasingBy, ordering_index, ordering_reverse, eq_by_cmp, is_lt, is_eq, Ordering, Less, Equal, Greater, and_parts, nat_list_cmp_total, entries, is_sorted, find, put, IsAntisymmetric, slice_cmp-IsAntisymmetric, nat_cmp-IsAntisymmetric, same_entries_map, same_map, entries_sorted, entries-from_sorted, get-from_sorted, entries-insert, get-remove, get-empty, where_key, find-where_key, is_sorted-where_key, length-map, get_or-map, length-take-le, get_or-take, take_all, drop_all, take_more, get_or_default, All-from_recursion, recursion_from_All, All-set, File, Folder, IsFolder, has, names, name_cmp, IsSortedByName, folder_of, file_at, IsFileAt, IsGapFor, IsFile, AreFolderFiles, by_true, is_true, cond-not, common_steps}
 use Rattle.std.specs.Cmp.{tied_itself, alike_right, eq_by_cmp_equiv}
 use Rattle.std.specs.FinMap as map_of
 use Rattle.std.proofs.lemmas.List.Sorted.{searchable_from_sorted}
@@ -11,7 +10,7 @@ same_names = slice_cmp-IsAntisymmetric nat_cmp-IsAntisymmetric
 pub less : (o : Ordering) → IsTrue (is_lt o) → o ≡ Less
 less o h = grind (arith)
 
-tail_at : (e : File) (files : List File) (name : List ℕ) (i : ℕ) → IsAt (e ∷ files) name (suc i) → IsAt files name i
+tail_at : (e : File) (files : List File) (name : List ℕ) (i : ℕ) → IsFileAt (e ∷ files) name (suc i) → IsFileAt files name i
 tail_at e files name i here = record { in_range = omega (arith, here.in_range); has_name = here.has_name }
 
 tail_gap : (e : File) (files : List File) (name : List ℕ) (i : ℕ) → IsGapFor (e ∷ files) name (suc i) → IsGapFor files name i
@@ -30,31 +29,31 @@ pub rises : (files : List File) → IsSortedByName files → (i j : ℕ) (d : Fi
 rises (e ∷ files) h (suc i) (suc j) d lt in_range = rises files (and_parts _ _ h).1 i j d (omega arith) (omega arith)
 rises files h i j d lt in_range = grind (arith, below, and_parts)
 
--- a name that comes earlier comes before
-pub turned : (a b : List ℕ) → name_cmp a b ≡ Less → name_cmp b a ≡ Greater
-turned a b h = nat_list_cmp_total.antisymm b a ∙ ap ordering_reverse h
+-- if a name is less than another, the other is greater
+pub inverted : (a b : List ℕ) → name_cmp a b ≡ Less → name_cmp b a ≡ Greater
+inverted a b h = nat_list_cmp_total.antisymm b a ∙ ap ordering_reverse h
 
-pub turned_back : (a b : List ℕ) → name_cmp a b ≡ Greater → name_cmp b a ≡ Less
-turned_back a b h = nat_list_cmp_total.antisymm b a ∙ ap ordering_reverse h
+pub reversed_back : (a b : List ℕ) → name_cmp a b ≡ Greater → name_cmp b a ≡ Less
+reversed_back a b h = nat_list_cmp_total.antisymm b a ∙ ap ordering_reverse h
 
--- the comparisons with a name rise along the files, as a binary search asks
+-- the comparisons with a name increase along the files, as a binary search requires
 comparisons_rise : (files : List File) → IsSortedByName files → (name : List ℕ) → IsNonDecreasingBy (λ file. ordering_index (name_cmp file.0 name)) files
 comparisons_rise files sorted name =
     searchable_from_sorted nat_list_cmp_total (λ (file : File). file.0) files name
-    (λ k d _ lt. ap is_lt (turned (get_or files k d).0 (get_or files (k + 1) d).0 (rises files sorted k (k + 1) d (omega arith) lt)))
+    (λ k d _ lt. ap is_lt (inverted (get_or files k d).0 (get_or files (k + 1) d).0 (rises files sorted k (k + 1) d (omega arith) lt)))
 
 -- ---- what is found
 
-pub find_at : (files : List File) → IsSortedByName files → (name : List ℕ) (at : ℕ) → IsAt files name at → find name_cmp name files ≡ Some (file_at files at).1
+pub find_at : (files : List File) → IsSortedByName files → (name : List ℕ) (at : ℕ) → IsFileAt files name at → find name_cmp name files ≡ Some (file_at files at).1
 find_at [] h name at here = absurd (omega (arith, here.in_range))
 find_at (e ∷ files) h name zero here = ap (λ o. cond (is_eq o) (Some e.1) (find name_cmp name files)) (subst (λ n. name_cmp n e.0 ≡ Equal) here.has_name (tied_itself nat_list_cmp_total e.0))
 find_at (e ∷ files) h name (suc at) here =
     let inside = tail_at e files name at here in
     let before : name_cmp e.0 name ≡ Less = subst (λ n. name_cmp e.0 n ≡ Less) inside.has_name (below e.0 files at ([], []) (and_parts _ _ h).0 inside.in_range) in
-    ap (λ o. cond (is_eq o) (Some e.1) (find name_cmp name files)) (turned e.0 name before) ∙ find_at files (and_parts _ _ h).1 name at inside
+    ap (λ o. cond (is_eq o) (Some e.1) (find name_cmp name files)) (inverted e.0 name before) ∙ find_at files (and_parts _ _ h).1 name at inside
 
 apart : (a b : List ℕ) (at : ℕ) (o : Ordering) → name_cmp a b ≡ o → is_eq o ≡ false → is_eq (name_cmp b a) ≡ false
-apart a b at o e h = grind (arith, turned, turned_back)
+apart a b at o e h = grind (arith, inverted, reversed_back)
 
 pub find_in_gap : (files : List File) (name : List ℕ) (at : ℕ) → IsGapFor files name at → find name_cmp name files ≡ None
 find_in_gap [] name at gap = refl
@@ -70,12 +69,12 @@ find_in_gap (e ∷ files) name (suc at) gap =
 put_in_gap : (files : List File) (name bytes : List ℕ) (at : ℕ) → IsGapFor files name at → put name_cmp name bytes files ≡ insert files at (name, bytes)
 put_in_gap [] name bytes zero gap = refl
 put_in_gap [] name bytes (suc at) gap = absurd (omega (arith, gap.in_range))
-put_in_gap (e ∷ files) name bytes zero gap = ap (λ o. map_of.Entries.by_order o ((name, bytes) ∷ e ∷ files) ((e.0, bytes) ∷ files) (e ∷ put name_cmp name bytes files)) (turned_back e.0 name (gap.greater_after 0 (omega arith) (omega arith)))
+put_in_gap (e ∷ files) name bytes zero gap = ap (λ o. map_of.Entries.by_order o ((name, bytes) ∷ e ∷ files) ((e.0, bytes) ∷ files) (e ∷ put name_cmp name bytes files)) (reversed_back e.0 name (gap.greater_after 0 (omega arith) (omega arith)))
 put_in_gap (e ∷ files) name bytes (suc at) gap =
-    ap (λ o. map_of.Entries.by_order o ((name, bytes) ∷ e ∷ files) ((e.0, bytes) ∷ files) (e ∷ put name_cmp name bytes files)) (turned e.0 name (gap.smaller_before 0 (omega arith)))
+    ap (λ o. map_of.Entries.by_order o ((name, bytes) ∷ e ∷ files) ((e.0, bytes) ∷ files) (e ∷ put name_cmp name bytes files)) (inverted e.0 name (gap.smaller_before 0 (omega arith)))
     ∙ ap (λ rest. e ∷ rest) (put_in_gap files name bytes at (tail_gap e files name at gap))
 
-put_at : (files : List File) → IsSortedByName files → (name bytes : List ℕ) (at : ℕ) → IsAt files name at → put name_cmp name bytes files ≡ set files at (name, bytes)
+put_at : (files : List File) → IsSortedByName files → (name bytes : List ℕ) (at : ℕ) → IsFileAt files name at → put name_cmp name bytes files ≡ set files at (name, bytes)
 put_at [] h name bytes at here = absurd (omega (arith, here.in_range))
 put_at (e ∷ files) h name bytes zero here =
     ap (λ o. map_of.Entries.by_order o ((name, bytes) ∷ e ∷ files) ((e.0, bytes) ∷ files) (e ∷ put name_cmp name bytes files)) (subst (λ n. name_cmp n e.0 ≡ Equal) here.has_name (tied_itself nat_list_cmp_total e.0))
@@ -83,7 +82,7 @@ put_at (e ∷ files) h name bytes zero here =
 put_at (e ∷ files) h name bytes (suc at) here =
     let inside = tail_at e files name at here in
     let before : name_cmp e.0 name ≡ Less = subst (λ n. name_cmp e.0 n ≡ Less) inside.has_name (below e.0 files at ([], []) (and_parts _ _ h).0 inside.in_range) in
-    ap (λ o. map_of.Entries.by_order o ((name, bytes) ∷ e ∷ files) ((e.0, bytes) ∷ files) (e ∷ put name_cmp name bytes files)) (turned e.0 name before)
+    ap (λ o. map_of.Entries.by_order o ((name, bytes) ∷ e ∷ files) ((e.0, bytes) ∷ files) (e ∷ put name_cmp name bytes files)) (inverted e.0 name before)
     ∙ ap (λ rest. e ∷ rest) (put_at files (and_parts _ _ h).1 name bytes at inside)
 
 abbrev other : List ℕ → List ℕ → Bool
@@ -95,7 +94,7 @@ all_others (e ∷ files) name h =
     ap (λ o. cond (not (is_eq o)) (e ∷ where_key name_cmp (other name) files) (where_key name_cmp (other name) files)) (less _ (and_parts _ _ h).0)
     ∙ ap (λ rest. e ∷ rest) (all_others files name (and_parts _ _ h).1)
 
-others_at : (files : List File) → IsSortedByName files → (name : List ℕ) (at : ℕ) → IsAt files name at → where_key name_cmp (other name) files ≡ remove files at
+others_at : (files : List File) → IsSortedByName files → (name : List ℕ) (at : ℕ) → IsFileAt files name at → where_key name_cmp (other name) files ≡ remove files at
 others_at [] h name at here = absurd (omega (arith, here.in_range))
 others_at (e ∷ files) h name zero here =
     ap (λ o. cond (not (is_eq o)) (e ∷ where_key name_cmp (other name) files) (where_key name_cmp (other name) files)) (subst (λ n. name_cmp n e.0 ≡ Equal) here.has_name (tied_itself nat_list_cmp_total e.0))
@@ -103,7 +102,7 @@ others_at (e ∷ files) h name zero here =
 others_at (e ∷ files) h name (suc at) here =
     let inside = tail_at e files name at here in
     let before : name_cmp e.0 name ≡ Less = subst (λ n. name_cmp e.0 n ≡ Less) inside.has_name (below e.0 files at ([], []) (and_parts _ _ h).0 inside.in_range) in
-    ap (λ o. cond (not (is_eq o)) (e ∷ where_key name_cmp (other name) files) (where_key name_cmp (other name) files)) (turned e.0 name before)
+    ap (λ o. cond (not (is_eq o)) (e ∷ where_key name_cmp (other name) files) (where_key name_cmp (other name) files)) (inverted e.0 name before)
     ∙ ap (λ rest. e ∷ rest) (others_at files (and_parts _ _ h).1 name at inside)
 
 -- ---- each file is a file
@@ -124,34 +123,34 @@ files_of files h = entries-from_sorted name_cmp files (by_true h)
 pub count_of : (files : List File) → IsSortedByName files → length files ≡ length (names (folder_of files))
 count_of files h = sym (length-map (entries (folder_of files)) (λ (file : File). file.0) ∙ ap length (files_of files h))
 
-pub is_folder : (files : List File) → IsKept files → IsFolder (folder_of files)
+pub is_folder : (files : List File) → AreFolderFiles files → IsFolder (folder_of files)
 is_folder files h = subst (AllByRecursion IsFile) (sym (files_of files h.sorted)) h.each
 
--- a folder's entries, where they are these files
+-- the entries of the folder of these files
 is_made_of : (files : List File) (folder : Folder) → entries folder ≡ files → record { sorted : IsSortedByName files; folder : folder_of files ≡ folder }
 is_made_of files folder e =
     let sorted = subst (λ l. T (is_sorted name_cmp l)) e (entries_sorted folder) in
     record { sorted = is_true sorted; folder = same_entries_map _ _ (entries-from_sorted name_cmp files sorted ∙ sym e) }
 
-pub bytes_at : (files : List File) → IsKept files → (name : List ℕ) (at : ℕ) → IsAt files name at → map_of.get (folder_of files) name ≡ Some (file_at files at).1
+pub bytes_at : (files : List File) → AreFolderFiles files → (name : List ℕ) (at : ℕ) → IsFileAt files name at → map_of.get (folder_of files) name ≡ Some (file_at files at).1
 bytes_at files h name at here = get-from_sorted name_cmp files name (by_true h.sorted) ∙ find_at files h.sorted name at here
 
--- the edited files are kept, and make this folder
+-- the edited files satisfy the invariant, and are this folder
 pub record Makes (files : List File) (folder : Folder) : Type 0 where
-  pub kept : IsKept files
+  pub kept : AreFolderFiles files
   pub is : folder_of files ≡ folder
 
-pub inserted : (files : List File) → IsKept files → (name bytes : List ℕ) (at : ℕ) → IsGapFor files name at → IsFile (name, bytes) → Makes (insert files at (name, bytes)) (map_of.insert (folder_of files) name bytes)
+pub inserted : (files : List File) → AreFolderFiles files → (name bytes : List ℕ) (at : ℕ) → IsGapFor files name at → IsFile (name, bytes) → Makes (insert files at (name, bytes)) (map_of.insert (folder_of files) name bytes)
 inserted files h name bytes at gap is =
     let made = is_made_of _ _ (entries-insert nat_list_cmp_total (folder_of files) name bytes ∙ ap (put name_cmp name bytes) (files_of files h.sorted) ∙ put_in_gap files name bytes at gap) in
     record { kept = record { sorted = made.sorted; each = each_insert files at (name, bytes) h.each is }; is = made.folder }
 
-pub exchanged : (files : List File) → IsKept files → (name bytes : List ℕ) (at : ℕ) → IsAt files name at → IsFile (name, bytes) → Makes (set files at (name, bytes)) (map_of.insert (folder_of files) name bytes)
+pub exchanged : (files : List File) → AreFolderFiles files → (name bytes : List ℕ) (at : ℕ) → IsFileAt files name at → IsFile (name, bytes) → Makes (set files at (name, bytes)) (map_of.insert (folder_of files) name bytes)
 exchanged files h name bytes at here is =
     let made = is_made_of _ _ (entries-insert nat_list_cmp_total (folder_of files) name bytes ∙ ap (put name_cmp name bytes) (files_of files h.sorted) ∙ put_at files h.sorted name bytes at here) in
     record { kept = record { sorted = made.sorted; each = recursion_from_All IsFile (set files at (name, bytes)) (All-set IsFile files at (name, bytes) is (All-from_recursion IsFile files h.each)) }; is = made.folder }
 
-pub removed : (files : List File) → IsKept files → (name : List ℕ) (at : ℕ) → IsAt files name at → Makes (remove files at) (map_of.remove (folder_of files) name)
+pub removed : (files : List File) → AreFolderFiles files → (name : List ℕ) (at : ℕ) → IsFileAt files name at → Makes (remove files at) (map_of.remove (folder_of files) name)
 removed files h name at here =
     let same = others_at files h.sorted name at here in
     let sorted = subst (λ l. T (is_sorted name_cmp l)) same (is_sorted-where_key name_cmp (other name) files (by_true h.sorted)) in
@@ -165,9 +164,9 @@ removed files h name at here =
           ∙ sym (get-remove nat_list_cmp_total (folder_of files) name q ∙ ap (cond (eq_by_cmp name_cmp q name) None) (get-from_sorted name_cmp files q (by_true h.sorted))));
     }
 
--- a binary search ends at the file of the name, or where it would go, and tells what the folder has there
-pub searched_folder : (files : List File) → IsKept files → (name : List ℕ) (r : Result ℕ ℕ) → IsSearchInRange r (length files) → IsBinarySearchResult (λ file. name_cmp file.0 name) files r
-    → record { found : IfOk r (IsAt files name); absent : IfErr r (IsGapFor files name); there : IfOk r (λ at. map_of.get (folder_of files) name ≡ Some (file_at files at).1); not_there : IfErr r (λ _. map_of.get (folder_of files) name ≡ None) }
+-- a binary search returns the position of the file, or where it would be inserted, and so what the folder has there
+pub searched_folder : (files : List File) → AreFolderFiles files → (name : List ℕ) (r : Result ℕ ℕ) → IsSearchInRange r (length files) → IsBinarySearchResult (λ file. name_cmp file.0 name) files r
+    → record { found : IfOk r (IsFileAt files name); absent : IfErr r (IsGapFor files name); there : IfOk r (λ at. map_of.get (folder_of files) name ≡ Some (file_at files at).1); not_there : IfErr r (λ _. map_of.get (folder_of files) name ≡ None) }
 searched_folder files h name (Ok at) in_range equal = grind (arith, same_names, bytes_at)
 searched_folder files h name (Err at) in_range parted =
     let places = parted (comparisons_rise files h.sorted name) in
@@ -194,7 +193,7 @@ pub record IsNext (whole folder : Folder) (i : ℕ) (name bytes : List ℕ) : Ty
   pub is_new : has folder name ≡ false
   pub files : entries (map_of.insert folder name bytes) ≡ take (i + 1) (entries whole)
 
-listed_at : (whole : Folder) (i : ℕ) (name d : List ℕ) → i < length (names whole) → name ≡ get_or (names whole) i d → IsAt (entries whole) name i
+listed_at : (whole : Folder) (i : ℕ) (name d : List ℕ) → i < length (names whole) → name ≡ get_or (names whole) i d → IsFileAt (entries whole) name i
 listed_at whole i name d lt is = grind (arith, entries, length-map, get_or_default, get_or-map)
 
 listed_is_there : (whole : Folder) (i : ℕ) (name d : List ℕ) → i < length (names whole) → name ≡ get_or (names whole) i d → IsTrue (has whole name)
@@ -202,7 +201,7 @@ listed_is_there whole i name d lt is =
     let all = entries whole in
     ap is_some (map_of.get-entries whole name ∙ find_at all (is_true (entries_sorted whole)) name i (listed_at whole i name d lt is))
 
--- a name that was listed is that of a file, as long as the folder stays
+-- a listed name is that of a file, as long as the folder doesn't change
 pub still_there : (whole folder : Folder) (list : List (List ℕ)) (i : ℕ) (name : List ℕ) → folder ≡ whole → list ≡ names whole → i < length list → name ≡ get_or list i name → IsTrue (has folder name)
 still_there whole folder list i name same listed lt is = grind (arith, listed_is_there)
 
@@ -210,7 +209,7 @@ pub next_file : (whole folder : Folder) (i : ℕ) (name bytes d : List ℕ) → 
 next_file whole folder i name bytes d so_far lt is found =
     let all = entries whole in
     let sorted : IsSortedByName all = is_true (entries_sorted whole) in
-    let here : IsAt all name i = listed_at whole i name d lt is in
+    let here : IsFileAt all name i = listed_at whole i name d lt is in
     let in_range = here.in_range in
     let named = here.has_name in
     let its_bytes : bytes ≡ (file_at all i).1 = let same = sym found ∙ map_of.get-entries whole name ∙ find_at all sorted name i here in cc in

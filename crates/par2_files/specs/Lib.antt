@@ -3,7 +3,7 @@ pub mod Views
 pub mod Below
 pub mod Lending
 pub mod Snapshots
-pub mod Borders
+pub mod Splits
 pub mod Runs
-pub mod Landmarks
-pub mod Surveys
+pub mod Checkpoints
+pub mod Fingerprinting

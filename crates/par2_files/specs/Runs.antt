@@ -1,29 +1,32 @@
--- States and the texts that they absorb.
+-- MD5 states and the messages that they absorb.
 use Rattle.std.specs.Prelude.{◌≡◌, ℕ, List, [], ◌∷◌, ◌++◌}
 use Rattle.par2_md5_lanes.specs.Messages.{HasAbsorbed, message_of}
 use Rattle.par2_md5_lanes.specs.declared.midstate.Midstate.{Midstate}
 use Rattle.par2_md5_lanes.specs.declared.pending.Pending.{Pending}
 use Rattle.par2_files.specs.declared.walk.Runs.{Runs}
 
--- after its parts the state has absorbed the text
-abbrev pub Reaches : Pending → List ℕ → Type 0
-Reaches pending text = (m : List ℕ) × (HasAbsorbed pending.state m × (m ++ message_of pending.parts.items ≡ text))
+-- once it has absorbed its parts, the pending state has absorbed exactly these bytes
+abbrev pub AbsorbsTo : Pending → List ℕ → Type 0
+AbsorbsTo pending bytes = (m : List ℕ) × (HasAbsorbed pending.state m × (m ++ message_of pending.parts.items ≡ bytes))
 
--- the states have absorbed the first texts, and the pending ones reach the others
+-- there are as many states as messages: the finished states have absorbed the first ones, and the pending states will
+-- have absorbed the others
 abbrev pub ReachEach : List Midstate → List Pending → List (List ℕ) → Type 0
-ReachEach (state ∷ states) pendings (text ∷ texts) = HasAbsorbed state text × ReachEach states pendings texts
+ReachEach (state ∷ states) pendings (bytes ∷ buffers) = HasAbsorbed state bytes × ReachEach states pendings buffers
 ReachEach (state ∷ states) pendings [] = ⊥
-ReachEach [] (pending ∷ pendings) (text ∷ texts) = Reaches pending text × ReachEach [] pendings texts
+ReachEach [] (pending ∷ pendings) (bytes ∷ buffers) = AbsorbsTo pending bytes × ReachEach [] pendings buffers
 ReachEach [] (pending ∷ pendings) [] = ⊥
-ReachEach [] [] (text ∷ texts) = ⊥
+ReachEach [] [] (bytes ∷ buffers) = ⊥
 ReachEach [] [] [] = Unit {0}
 
+-- each state has absorbed its message
 abbrev pub HaveAbsorbed : List Midstate → List (List ℕ) → Type 0
-HaveAbsorbed states texts = ReachEach states [] texts
+HaveAbsorbed states buffers = ReachEach states [] buffers
 
+-- state k, finished ones first, has absorbed message k or will
 abbrev pub AreTo : Runs → List (List ℕ) → Type 0
-AreTo runs texts = ReachEach runs.states.items runs.pendings.items texts
+AreTo runs buffers = ReachEach runs.states.items runs.pendings.items buffers
 
--- the runs lead to these texts
-abbrev pub LeadTo : List (List ℕ) → Runs → Type 0
-LeadTo texts runs = AreTo runs texts
+-- `AreTo` with the messages first, so that it applies to a result
+abbrev pub AllReach : List (List ℕ) → Runs → Type 0
+AllReach buffers runs = AreTo runs buffers

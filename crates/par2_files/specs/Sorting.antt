@@ -1,4 +1,4 @@
--- How a folder keeps its files: sorted by the bytes of their names.
+-- A folder as a vector of files, sorted by the bytes of their names.
 use Rattle.std.specs.Prelude.{◌≡◌, ℕ, ◌<◌, ◌≤◌, ◌^◌, List, [], length, slice_index_or, IsTrue}
 use Rattle.std.specs.FinMap.{from_sorted, is_sorted}
 use Rattle.std.specs.List.{AllByRecursion}
@@ -9,35 +9,38 @@ use Rattle.std.specs.Cmp.Lexicographic.{slice_cmp}
 use Rattle.par2_spec.specs.Folders.{Folder, File}
 use Rattle.par2_spec.specs.Names.{is_name}
 
--- the order of names
+-- names compared byte by byte
 abbrev pub name_cmp : List ℕ → List ℕ → Ordering
 name_cmp = slice_cmp nat_cmp
 
--- the names rise strictly
+-- the names increase strictly
 abbrev pub IsSortedByName : List File → Type 0
 IsSortedByName files = IsTrue (is_sorted name_cmp files)
 
+-- the folder of these files, which are sorted
 abbrev pub folder_of : List File → Folder
 folder_of files = from_sorted files
 
+-- the file at position i, and an empty file beyond the end
 abbrev pub file_at : List File → ℕ → File
 file_at files i = slice_index_or files i ([], [])
 
--- the file at place i has the name
-pub record IsAt (files : List File) (name : List ℕ) (i : ℕ) : Type 0 where
+-- the file at position i has the name
+pub record IsFileAt (files : List File) (name : List ℕ) (i : ℕ) : Type 0 where
   pub in_range : i < length files
   pub has_name : (file_at files i).0 ≡ name
 
--- a file of this name would go to place i
+-- no file has the name, and position i is where it would be inserted
 pub record IsGapFor (files : List File) (name : List ℕ) (i : ℕ) : Type 0 where
   pub in_range : i ≤ length files
   pub smaller_before : (j : ℕ) → j < i → name_cmp (file_at files j).0 name ≡ Less
   pub greater_after : (j : ℕ) → i ≤ j → j < length files → name_cmp (file_at files j).0 name ≡ Greater
 
+-- the name is valid, and the length of the bytes fits 64 bits
 abbrev pub IsFile : File → Type 0
 IsFile file = IsTrue (is_name file.0) × (length file.1 < 2 ^ 64)
 
--- what is true of the files that a folder keeps
-pub record IsKept (files : List File) : Type 0 where
+-- the invariant of a folder's files: sorted by name, and each valid
+pub record AreFolderFiles (files : List File) : Type 0 where
   pub sorted : IsSortedByName files
   pub each : AllByRecursion IsFile files

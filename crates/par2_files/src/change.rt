@@ -1,4 +1,5 @@
-//! What can happen to a folder: the bytes of files, changes, and lists of changes.
+//! A file's bytes, a change of a folder, and a list of changes. A plan builds a list with `Changes::push`.
+//! `Changes::apply_and_invert` applies it to a folder, and the list becomes the way back.
 ghost use Rattle.std.specs.Prelude.{◌≡◌, map, IfOk};
 ghost use Rattle.par2_files.specs.Views.{change_of};
 
@@ -8,7 +9,7 @@ use std::alloc::Global;
 use std::cmp::min;
 use std::marker::Model;
 
-/// The bytes of a file: a vector that contracts see as their list.
+/// The bytes of a file: a vector that contracts see as a list.
 #[derive(Drop)]
 pub struct Bytes {
     items: Vec<u8>,
@@ -35,7 +36,7 @@ impl From<Vec<u8>> for Bytes {
 impl Bytes {
     ghost use Rattle.std.specs.Prelude.{◌≡◌, IfOk, ◌<◌, ◌^◌, length};
 
-    /// The bytes.
+    /// The bytes as a slice.
     pub fn as_slice(&self) -> &[u8]
         ensures bytes { result.now ≡ self.now }
         ensures fits { length self.now < 2 ^ 64 }
@@ -43,7 +44,7 @@ impl Bytes {
         self.items.as_slice()
     }
 
-    /// A copy of the bytes.
+    /// A copy of the bytes, because a change owns the bytes that it writes.
     pub fn copy_of(alloc: Global, items: &[u8]) -> Result<Self>
         ensures { IfOk result (λ bytes. bytes ≡ items.now) }
     {
@@ -58,11 +59,11 @@ impl Bytes {
 pub enum Change {
     /// A new file.
     Write(Name, Bytes),
-    /// Other bytes for a file.
+    /// New bytes for a file.
     Replace(Name, Bytes),
-    /// Another name, which no file has, for a file.
+    /// A new name for a file; no other file may have it.
     Rename(Name, Name),
-    /// A file is no more.
+    /// The removal of a file.
     Remove(Name),
 }
 
@@ -71,6 +72,7 @@ impl Change {
     ghost use Rattle.par2_files.specs.Views.{change_of};
     ghost use Rattle.par2_files.specs.Below.{first_name};
 
+    // A copy of the change and of the bytes that it owns.
     pub(crate) fn copy_of(alloc: Global, change: &Change) -> Result<Change>
         ensures { IfOk result (λ copy. change_of copy ≡ change_of change.now) }
     {
@@ -88,7 +90,8 @@ impl Change {
         }
     }
 
-    // The first of the names that it touches, in their order.
+    // The least of the names that the change touches. Files with lesser names are equal before and after it, so a
+    // fingerprint can start from a checkpoint up to this name.
     pub(crate) fn first_name(&self) -> Name
         ensures { result ≡ first_name (change_of self.now) }
     {
@@ -101,7 +104,7 @@ impl Change {
     }
 }
 
-/// Changes, in the order in which they are applied: a vector that contracts see as their list.
+/// Changes, in the order in which they are applied: a vector that contracts see as a list.
 #[derive(Drop)]
 pub struct Changes {
     items: Vec<Change>,
@@ -128,7 +131,7 @@ impl Changes {
     ghost use Rattle.par2_files.specs.Views.{change_of};
     ghost use Rattle.par2_files.specs.Lending.{LendsChanges};
 
-    /// No change.
+    /// The empty list.
     pub fn new(alloc: Global) -> Self
         ensures { result ≡ [] }
     {
@@ -137,7 +140,7 @@ impl Changes {
         }
     }
 
-    /// One more change, after the others.
+    /// Adds a change at the end.
     pub fn push(&mut self, change: Change) -> Result<()>
         ensures ok { OnOk result (self.new ≡ self.old ++ change_of change ∷ []) }
         ensures err { OnErr result (self.new ≡ self.old) }
@@ -152,7 +155,8 @@ impl Changes {
         &self.items
     }
 
-    /// The changes in order, to be turned one by one.
+    /// The changes in order, to be applied and inverted one by one. `LendsChanges`: once the borrow ends, the list has
+    /// the changes that the slice then holds.
     pub fn as_mut_slice(&mut self) -> &mut [Change]
         ensures* writes_back { sem 𝓛 (LendsChanges self.entry result) }
         ensures value { map change_of result.now ≡ self.old }
@@ -160,22 +164,23 @@ impl Changes {
         &mut self.items
     }
 
-    /// How many changes there are.
+    /// The number of changes.
     pub fn len(&self) -> usize
         ensures { result ≡ length self.now }
     {
         self.items.len()
     }
 
-    /// Whether there is none.
+    /// Whether there are no changes.
     pub fn is_empty(&self) -> bool
         ensures { IsTrue result ↔ (self.now ≡ []) }
     {
         self.items.is_empty()
     }
 
-    /// Applies the changes in order, and becomes the way back. It takes no memory.
-    pub fn turn(&mut self, folder: &mut Folder)
+    /// Applies the changes in order, and becomes the way back: the inverses in reverse order. It doesn't allocate,
+    /// because `takes_all` says that each change applies and that each file written has a vacant place.
+    pub fn apply_and_invert(&mut self, folder: &mut Folder)
         requires { IsTrue (takes_all folder.old self.old) }
         ensures folder { folder.new ≡ state_after_all folder.old self.old }
         ensures way_back { self.new ≡ way_back folder.old.files self.old }
@@ -184,7 +189,8 @@ impl Changes {
     }
 }
 
-/// Copies of the changes, in order.
+/// Copies of the changes and their bytes, in order. Opening a halfway journal applies the changes that lead back to the
+/// folder in memory, which replaces them by their inverses, and needs the copies for the store.
 pub fn copies_of(alloc: Global, changes: &[Change]) -> Result<Vec<Change>>
     ensures { IfOk result (λ copies. map change_of copies.items ≡ map change_of changes.now) }
 {

@@ -1,9 +1,10 @@
-//! A flat folder in memory: sorted files, and what an edit at a place does to the folder that they make.
+//! A flat folder in memory: a vector of files that is sorted by name. `Folder::apply` finds the position of a name by
+//! `search` and edits the vector there by `insert_at`, `remove_at` or `exchange_at`.
 ghost use Rattle.std.specs.FinMap as map_of;
 ghost use Rattle.std.specs.Prelude.{◌≡◌, ℕ, ◌+◌, ◌<◌, List, IfOk, IfErr, Some, None, vec_len, vec_capacity};
-ghost use Rattle.par2_files.specs.Sorting.{IsAt, IsGapFor, IsKept, folder_of, file_at};
+ghost use Rattle.par2_files.specs.Sorting.{IsFileAt, IsGapFor, AreFolderFiles, folder_of, file_at};
 
-use crate::landmarks::Landmarks;
+use crate::checkpoints::Checkpoints;
 use crate::snapshot::{Snapshot, borrowed};
 use crate::walk::fingerprints;
 use crate::{Bytes, Change, Name};
@@ -12,7 +13,7 @@ use std::alloc::Global;
 use std::marker::Model;
 use std::mem;
 
-/// A flat folder: files by their names, and places for more of them that were made beforehand.
+/// A flat folder: files by name, and memory reserved for more of them.
 #[derive(Drop)]
 pub struct Folder {
     files: Vec<(Name, Bytes)>,
@@ -22,7 +23,7 @@ impl Model for Folder {
     ghost use Rattle.std.specs.Prelude.{◌-◌, vec_len, vec_capacity};
     ghost use Rattle.par2_spec.specs.Changes.{FolderState};
     ghost use Rattle.par2_spec.specs.Codes.{folder_state_code};
-    ghost use Rattle.par2_files.specs.Sorting.{IsKept, folder_of};
+    ghost use Rattle.par2_files.specs.Sorting.{AreFolderFiles, folder_of};
 
     ghost Value = { FolderState };
 
@@ -34,20 +35,20 @@ impl Model for Folder {
           vec_len a.files;
     } };
 
-    ghost invariant = { λ a. IsKept a.files.items };
+    ghost invariant = { λ a. AreFolderFiles a.files.items };
 }
 
 impl Folder {
     ghost use Rattle.std.specs.Prelude.{◌≡◌, ◌<◌, ◌^◌, Some, None, length, max, map, is_some, option_copied, IsTrue, IfOk, IfErr, OnOk, OnErr, IfSome};
     ghost use Rattle.std.specs.FinMap.{empty, get};
-    ghost use Rattle.par2_md5_lanes.specs.Texts.{texts_of};
+    ghost use Rattle.par2_md5_lanes.specs.Buffers.{buffers_of};
     ghost use Rattle.par2_spec.specs.Folders.{bytes_of, has, names, fingerprint, IsFolder};
     ghost use Rattle.par2_spec.specs.Changes.{Rename, change_refusal, state_after, inverse, takes_all, state_after_all, way_back};
     ghost use Rattle.par2_files.specs.Views.{change_of};
-    ghost use Rattle.par2_files.specs.Sorting.{IsKept};
+    ghost use Rattle.par2_files.specs.Sorting.{AreFolderFiles};
     ghost use Rattle.par2_files.specs.Snapshots.{files_in, folder_in};
 
-    /// The folder without files. It has no vacant places.
+    /// The empty folder. It has no vacant places.
     #[tactic(auto, using(crate::proofs::SortedFiles::no_files))]
     pub fn new(alloc: Global) -> Self
         ensures files { result.files ≡ empty }
@@ -58,7 +59,7 @@ impl Folder {
         }
     }
 
-    /// How many files there are.
+    /// The number of files.
     pub fn len(&self) -> usize
         ensures count { result ≡ length (names self.now.files) }
         ensures fits { result < 2 ^ 63 }
@@ -66,7 +67,7 @@ impl Folder {
         self.files.as_slice().len()
     }
 
-    /// How many files can be written without asking for memory.
+    /// How many more files can be written without allocating.
     pub fn vacant(&self) -> usize
         ensures vacant { result ≡ self.now.vacant }
         ensures folder { IsFolder self.now.files }
@@ -74,7 +75,7 @@ impl Folder {
         self.files.capacity() - self.files.len()
     }
 
-    /// Makes places for at least `n` more files.
+    /// Reserves places for at least `n` more files, so that changes which write up to `n` files don't allocate.
     pub fn reserve(&mut self, n: usize) -> Result<()>
         ensures files { self.new.files ≡ self.old.files }
         ensures ok { OnOk result (self.new.vacant ≡ max self.old.vacant n) }
@@ -95,22 +96,23 @@ impl Folder {
         }
     }
 
-    /// The bytes of a file, none where it is absent.
+    /// The bytes of a file, or an empty slice if there is no such file.
     pub fn bytes_of(&self, name: &Name) -> &[u8]
         ensures { result.now ≡ bytes_of self.now.files name.now }
     {
         self.get(name).unwrap_or(&[])
     }
 
-    /// The bytes of the files of these names, none for an absent one.
+    /// The bytes of each named file, in the order of the names. An absent file has no bytes.
     pub fn bytes_of_each(&self, names: &[Name]) -> Result<Vec<&[u8]>>
-        ensures { IfOk result (λ all. texts_of all.items ≡ map (bytes_of self.now.files) names.now) }
+        ensures { IfOk result
+            (λ all. buffers_of all.items ≡ map (bytes_of self.now.files) names.now) }
     {
         let all = names.iter().map(|name| self.bytes_of(name));
         all.collect(*self.files.allocator())
     }
 
-    /// The names of the files, in order.
+    /// The names of the files, in the order of their bytes.
     pub fn names(&self) -> Result<Vec<Name>>
         ensures { IfOk result (λ list. list.items ≡ names self.now.files) }
     {
@@ -118,18 +120,18 @@ impl Folder {
         names.collect(*self.files.allocator())
     }
 
-    /// What tells folders apart: the MD5 of names and bytes, in the order of the names, each after its length as
-    /// eight bytes.
+    /// The MD5 of all names and bytes, in the order of the names. Each name and each file's bytes follow their length
+    /// in eight bytes, so that different folders hash different messages.
     pub fn fingerprint(&self) -> Result<[u8; 16]>
         ensures { IfOk result (λ digest. digest ≡ fingerprint self.now.files) }
     {
         let alloc = *self.files.allocator();
-        Ok(fingerprints(alloc, self, &[], &Landmarks::none(alloc), &[])?.along[0])
+        Ok(fingerprints(alloc, self, &[], &Checkpoints::none(alloc), &[])?.along[0])
     }
 
-    // The files where they lie.
+    // Borrows all files, so that the folders after planned changes can be fingerprinted without changing this one.
     pub(crate) fn snapshot(&self) -> Result<Snapshot<'_>>
-        ensures kept { IfOk result (λ snapshot. IsKept (files_in snapshot)) }
+        ensures kept { IfOk result (λ snapshot. AreFolderFiles (files_in snapshot)) }
         ensures folder { IfOk result (λ snapshot. folder_in snapshot ≡ self.now.files) }
     {
         let files = self.files.iter().map(borrowed);
@@ -137,7 +139,7 @@ impl Folder {
         Ok(Snapshot { files })
     }
 
-    /// Does the change, and leaves in its place the change that takes it back. It takes no memory.
+    /// Applies the change and replaces it by its inverse, without allocating. After an error both are as before.
     #[tactic(auto, unfolding(par2_spec::specs::Changes::change_refusal, par2_spec::specs::Changes::effect, par2_spec::specs::Changes::inverse))]
     pub fn apply(&mut self, change: &mut Change) -> Result<(), ChangeFault>
         ensures refused { IfErr result (λ fault. change_refusal self.old (change_of change.old)
@@ -182,7 +184,7 @@ impl Folder {
         }
     }
 
-    // Gives the file another name, and exchanges the two names.
+    // Renames the file and swaps the two names, which makes the inverse rename.
     #[tactic(auto, unfolding(par2_spec::specs::Changes::change_refusal, par2_spec::specs::Changes::effect))]
     fn rename(&mut self, from: &mut Name, to: &mut Name) -> Result<(), ChangeFault>
         ensures refused { IfErr result (λ fault. change_refusal self.old (Rename from.old to.old)
@@ -208,8 +210,8 @@ impl Folder {
         Ok(())
     }
 
-    /// Does the changes in order, and leaves in their place those that take them back, in order. It takes no
-    /// memory.
+    /// Applies the changes in order and replaces them by the way back, in the order in which it is applied. It
+    /// doesn't allocate.
     pub fn apply_all(&mut self, changes: &mut [Change])
         requires { IsTrue (takes_all self.old (map change_of changes.old)) }
         ensures folder { self.new ≡ state_after_all self.old (map change_of changes.old) }
@@ -226,10 +228,10 @@ impl Folder {
     }
 }
 
-// Where the name is, or where it would go.
+// Ok with the position of the file with this name, or Err with the position where it would be inserted.
 fn search(files: &[(Name, Bytes)], name: &Name) -> Result<usize, usize>
-    requires { IsKept files.now }
-    ensures found { IfOk result (IsAt files.now name.now) }
+    requires { AreFolderFiles files.now }
+    ensures found { IfOk result (IsFileAt files.now name.now) }
     ensures absent { IfErr result (IsGapFor files.now name.now) }
     ensures there { IfOk result (λ at. map_of.get (folder_of files.now) name.now
         ≡ Some (file_at files.now at).1) }
@@ -238,53 +240,62 @@ fn search(files: &[(Name, Bytes)], name: &Name) -> Result<usize, usize>
     files.binary_search_by(|file| file.0.cmp(name))
 }
 
-// Puts a file at a place, where there is room.
+// Inserts a file at a position, within the capacity.
 fn insert_at(files: &mut Vec<(Name, Bytes)>, at: usize, name: Name, bytes: Bytes)
-    requires kept { IsKept files.old.items }
+    // The position is where the name sorts, and there is a vacant place.
+    requires kept { AreFolderFiles files.old.items }
     requires gap { IsGapFor files.old.items name at }
     requires room { vec_len files.old < vec_capacity files.old }
-    ensures kept { IsKept files.new.items }
+    // The files stay sorted, and the folder has the new file.
+    ensures kept { AreFolderFiles files.new.items }
     ensures folder { folder_of files.new.items
         ≡ map_of.insert (folder_of files.old.items) name bytes }
+    // It takes one place and doesn't allocate.
     ensures len { vec_len files.new ≡ vec_len files.old + 1 }
     ensures capacity { vec_capacity files.new ≡ vec_capacity files.old }
 {
-    // What each of them says of itself.
-    let (_text, _slice) = (name.as_str(), bytes.as_slice());
+    // For the prover: the name is valid, and the length of the bytes fits.
+    let (_bytes, _slice) = (name.as_str(), bytes.as_slice());
     match files.insert(at, (name, bytes)) {
         Ok(()) => {}
         Err(_) => unreachable!(),
     }
 }
 
-// Takes a file out of its place.
+// Removes the file at a position, and returns its bytes.
 fn remove_at(files: &mut Vec<(Name, Bytes)>, at: usize, name: &Name) -> Bytes
-    requires kept { IsKept files.old.items }
-    requires here { IsAt files.old.items name.now at }
+    // The file with the name is at the position.
+    requires kept { AreFolderFiles files.old.items }
+    requires here { IsFileAt files.old.items name.now at }
     ensures bytes { map_of.get (folder_of files.old.items) name.now ≡ Some result }
-    ensures kept { IsKept files.new.items }
+    // The files stay sorted, without this one; a name that was absent stays absent.
+    ensures kept { AreFolderFiles files.new.items }
     ensures folder { folder_of files.new.items
         ≡ map_of.remove (folder_of files.old.items) name.now }
     ensures absent { (q : List ℕ) → map_of.get (folder_of files.old.items) q ≡ None
         → map_of.get (folder_of files.new.items) q ≡ None }
+    // Its place becomes vacant.
     ensures len { vec_len files.new + 1 ≡ vec_len files.old }
     ensures capacity { vec_capacity files.new ≡ vec_capacity files.old }
 {
     files.remove(at).1
 }
 
-// Exchanges the bytes of a file.
+// Swaps the bytes of the file at a position with `bytes`.
 fn exchange_at(files: &mut Vec<(Name, Bytes)>, at: usize, name: &Name, bytes: &mut Bytes)
-    requires kept { IsKept files.old.items }
-    requires here { IsAt files.old.items name.now at }
+    // The file with the name is at the position.
+    requires kept { AreFolderFiles files.old.items }
+    requires here { IsFileAt files.old.items name.now at }
+    // The caller gets the old bytes, and the file has the caller's.
     ensures bytes { map_of.get (folder_of files.old.items) name.now ≡ Some bytes.new }
-    ensures kept { IsKept files.new.items }
+    ensures kept { AreFolderFiles files.new.items }
     ensures folder { folder_of files.new.items
         ≡ map_of.insert (folder_of files.old.items) name.now bytes.old }
+    // The number of files and the capacity don't change.
     ensures len { vec_len files.new ≡ vec_len files.old }
     ensures capacity { vec_capacity files.new ≡ vec_capacity files.old }
 {
-    // What each of them says of itself.
-    let (_text, _slice) = (name.as_str(), bytes.as_slice());
+    // For the prover: the name is valid, and the length of the bytes fits.
+    let (_bytes, _slice) = (name.as_str(), bytes.as_slice());
     mem::swap(&mut files[at].1, bytes);
 }

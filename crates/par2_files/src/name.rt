@@ -1,4 +1,4 @@
-//! Names of files, in place.
+//! File names, stored inline.
 ghost use Rattle.std.specs.Prelude.{◌≡◌, ◌↔◌, ◌==◌, ◌≤◌, ◌&&◌, ◌||◌, nat_le, length, is_some, IfOk, IfSome, IsOk, IsTrue, Ok, Some, None, nat_eq, refl, codes};
 ghost use Rattle.std.specs.Ordering.{nat_cmp};
 ghost use Rattle.std.specs.Cmp.{on_equiv, on_total, on_po, on_per, partial_equiv_from_equiv};
@@ -15,7 +15,7 @@ use thiserror::Error;
 /// beginning with `.par2undo`. Names are ordered by their bytes.
 #[derive(Debug, Drop)]
 pub struct Name {
-    text: ArrayString<255>,
+    string: ArrayString<255>,
 }
 
 impl Model for Name {
@@ -24,81 +24,82 @@ impl Model for Name {
 
     ghost Value = { List ℕ };
 
-    ghost view = { λ n. n.text.bytes };
+    ghost view = { λ n. n.string.bytes };
 
-    ghost invariant = { λ n. IsTrue (is_name n.text.bytes) };
+    ghost invariant = { λ n. IsTrue (is_name n.string.bytes) };
 }
 
-/// The text is no name of a file.
+/// The string is not the name of a file: see [`Name`].
 #[derive(Debug, Error, Clone, Copy)]
 #[error("the text is no name of a file")]
 pub struct BadName;
 
-// Whether the text has 1 to 255 bytes.
+// Whether the length is 1 to 255 bytes.
 fn has_length(bytes: &[u8]) -> bool
     ensures { result ≡ (nat_le 1 (length bytes.now) && nat_le (length bytes.now) 255) }
 {
     !bytes.is_empty() && bytes.len() <= 255
 }
 
-/// Whether the text begins as the files do that are kept for the history.
+/// Whether the bytes begin with `.par2undo`, the prefix of the journal's files. Such a file isn't one of the folder.
 pub fn is_reserved(bytes: &[u8]) -> bool
     ensures { result ≡ starts_with nat_eq bytes.now (codes ".par2undo") }
 {
     bytes.starts_with(b".par2undo")
 }
 
-// Whether the text is a name.
-#[tactic(auto, using(crate::proofs::Texts::name_parts))]
-fn is_name(text: &str) -> bool
-    ensures name { result ≡ is_name text.now }
-    ensures fits { IsTrue result → length text.now ≤ 255 }
+// Whether the string is a name.
+#[tactic(auto, using(crate::proofs::Output::name_parts))]
+fn is_name(string: &str) -> bool
+    ensures name { result ≡ is_name string.now }
+    ensures fits { IsTrue result → length string.now ≤ 255 }
 {
-    let bytes = text.as_bytes();
+    let bytes = string.as_bytes();
     if !has_length(bytes) || bytes.contains(&b'/') || bytes.contains(&0) {
         return false;
     }
-    if text == "." || text == ".." {
+    if string == "." || string == ".." {
         return false;
     }
     !is_reserved(bytes)
 }
 
 impl Name {
-    /// The name with this text.
-    pub fn new(text: &str) -> Result<Name, BadName>
-        ensures variant { IsOk result ↔ IsTrue (is_name text.now) }
-        ensures ok { IfOk result (λ name. name ≡ text.now) }
+    /// The string as a name.
+    pub fn new(string: &str) -> Result<Name, BadName>
+        ensures variant { IsOk result ↔ IsTrue (is_name string.now) }
+        ensures ok { IfOk result (λ name. name ≡ string.now) }
     {
-        if !is_name(text) {
+        if !is_name(string) {
             return Err(BadName);
         }
-        match ArrayString::from(text) {
-            Ok(text) => Ok(Name { text }),
+        match ArrayString::from(string) {
+            Ok(string) => Ok(Name { string }),
             Err(_) => Err(BadName),
         }
     }
 
-    /// The name with these bytes, where they are a name.
+    /// The bytes as a name, if they are one: for the names in packets and in a journal, which needn't be UTF-8.
     pub fn from_bytes(bytes: &[u8]) -> Option<Name>
         ensures variant { is_some result ≡ is_name bytes.now }
         ensures value { IfSome result (λ name. name ≡ bytes.now) }
     {
-        let Ok(text) = str::from_utf8(bytes) else {
+        let Ok(string) = str::from_utf8(bytes) else {
             return None;
         };
-        Name::new(text).ok()
+        Name::new(string).ok()
     }
 
-    /// The name's text.
+    /// The name as a string, without `/` and NUL.
     pub fn as_str(&self) -> &str
-        ensures text { result.now ≡ self.now }
+        ensures bytes { result.now ≡ self.now }
         ensures name { IsTrue (is_name self.now) }
     {
-        self.text.as_str()
+        self.string.as_str()
     }
 
-    /// Whether the name ends in `.par2`, in letters of either case.
+    /// Whether the name ends in `.par2`, ignoring ASCII case. Packets are sought in files with such names, and an input
+    /// of a create can't have one.
     pub fn is_par(&self) -> bool
         ensures { result ≡ is_par_name self.now }
     {
@@ -107,11 +108,13 @@ impl Name {
         ending.eq_ignore_ascii_case(b".par2")
     }
 
-    /// The same name once more. It takes no memory.
+    /// A copy of the name. It doesn't allocate.
     pub fn copied(&self) -> Name
         ensures { result ≡ self.now }
     {
-        Name { text: self.text }
+        Name {
+            string: self.string,
+        }
     }
 }
 

@@ -1,36 +1,38 @@
-//! The files of a folder where they lie, led through changes that are not made, and borders among their names.
+//! Borrowed files of a folder, to which changes are applied without changing the folder, and splits among names.
+//! `walk` applies the planned changes one by one, and `run_between` returns the files that each fingerprint hashes from
+//! one split to the next.
 ghost use Rattle.std.specs.FinMap as map_of;
 ghost use Rattle.std.specs.Prelude.{◌≡◌, map, Some, None, IfOk, IfErr, OnOk, IsTrue, ◌++◌, ◌∷◌, []};
 ghost use Rattle.par2_spec.specs.Folders.{has, bytes_of};
 ghost use Rattle.par2_spec.specs.Changes.{is_applicable, effect};
-ghost use Rattle.par2_files.specs.Runs.{Reaches};
-ghost use Rattle.par2_files.specs.Sorting.{IsAt, IsGapFor, IsKept, folder_of, file_at};
+ghost use Rattle.par2_files.specs.Runs.{AbsorbsTo};
+ghost use Rattle.par2_files.specs.Sorting.{IsFileAt, IsGapFor, AreFolderFiles, folder_of, file_at};
 ghost use Rattle.par2_files.specs.Views.{change_of};
 ghost use Rattle.par2_files.specs.Below.{IsFront, fingerprint_input};
 ghost use Rattle.par2_files.specs.Snapshots.{file_of, files_in, folder_in};
 ghost use Rattle.par2_md5_lanes.specs.Messages.{HasAbsorbed, message_of};
-ghost use Rattle.par2_files.specs.Borders.{IsFurther, comes_before, is_before, text_before, touches};
-ghost use Rattle.par2_files.specs.declared.snapshot.Border.TheVariants.{At};
+ghost use Rattle.par2_files.specs.Splits.{IsFurther, comes_before, is_before, bytes_before, touches};
+ghost use Rattle.par2_files.specs.declared.snapshot.Split.TheVariants.{At};
 
 use crate::{Bytes, Change, Name};
 use par2_md5_lanes::{Midstate, Part, Pending};
 use par2_spec::Result;
 use std::alloc::Global;
 
-/// A file by its name and its bytes, where they lie.
+/// A file: its name and its bytes, borrowed.
 #[derive(Clone, Copy)]
 pub struct BorrowedFile<'a> {
     pub name: &'a Name,
     pub bytes: &'a Bytes,
 }
 
-/// The files of a folder, sorted by name, where they lie.
+/// The files of a folder, borrowed and sorted by name.
 #[derive(Drop)]
 pub struct Snapshot<'a> {
     pub files: Vec<BorrowedFile<'a>>,
 }
 
-// The file where it lies.
+/// Borrows a file's name and bytes.
 pub fn borrowed(file: &(Name, Bytes)) -> BorrowedFile<'_>
     ensures { file_of result ≡ file.now }
 {
@@ -40,10 +42,10 @@ pub fn borrowed(file: &(Name, Bytes)) -> BorrowedFile<'_>
     }
 }
 
-// Where the name is, or where it would go.
+// Ok with the position of the file with this name, or Err with the position where it would be inserted.
 fn search_borrowed(files: &[BorrowedFile], name: &Name) -> Result<usize, usize>
-    requires { IsKept (map file_of files.now) }
-    ensures found { IfOk result (IsAt (map file_of files.now) name.now) }
+    requires { AreFolderFiles (map file_of files.now) }
+    ensures found { IfOk result (IsFileAt (map file_of files.now) name.now) }
     ensures absent { IfErr result (IsGapFor (map file_of files.now) name.now) }
     ensures there { let files = map file_of files.now in
         IfOk result (λ at. map_of.get (folder_of files) name.now ≡ Some (file_at files at).1) }
@@ -54,15 +56,15 @@ fn search_borrowed(files: &[BorrowedFile], name: &Name) -> Result<usize, usize>
 }
 
 impl<'a> Snapshot<'a> {
-    // Puts a file of this name and these bytes in, in place of one of the name.
-    fn put(&mut self, name: &'a Name, bytes: &'a Bytes) -> Result<()>
-        requires { IsKept (files_in self.old) }
-        ensures kept { OnOk result (IsKept (files_in self.new)) }
+    // Inserts the file, or replaces the one that has its name.
+    fn insert(&mut self, name: &'a Name, bytes: &'a Bytes) -> Result<()>
+        requires { AreFolderFiles (files_in self.old) }
+        ensures kept { OnOk result (AreFolderFiles (files_in self.new)) }
         ensures folder { OnOk result
             (folder_in self.new ≡ map_of.insert (folder_in self.old) name.now bytes.now) }
     {
-        // What each of them says of itself.
-        let (_text, _slice) = (name.as_str(), bytes.as_slice());
+        // For the prover: the name is valid, and the length of the bytes fits.
+        let (_bytes, _slice) = (name.as_str(), bytes.as_slice());
         let file = BorrowedFile { name, bytes };
         match search_borrowed(&self.files, name) {
             Ok(at) => self.files[at] = file,
@@ -71,12 +73,12 @@ impl<'a> Snapshot<'a> {
         Ok(())
     }
 
-    // Takes the file out, and answers its bytes.
+    // Removes the file, and returns its bytes.
     fn take_out(&mut self, name: &Name) -> &'a Bytes
-        requires kept { IsKept (files_in self.old) }
+        requires kept { AreFolderFiles (files_in self.old) }
         requires there { IsTrue (has (folder_in self.old) name.now) }
         ensures bytes { result.now ≡ bytes_of (folder_in self.old) name.now }
-        ensures kept { IsKept (files_in self.new) }
+        ensures kept { AreFolderFiles (files_in self.new) }
         ensures folder { folder_in self.new ≡ map_of.remove (folder_in self.old) name.now }
     {
         match search_borrowed(&self.files, name) {
@@ -85,21 +87,21 @@ impl<'a> Snapshot<'a> {
         }
     }
 
-    /// Goes on to the folder after the change.
+    /// Becomes the snapshot of the folder after the change, whose names and bytes it borrows.
     #[tactic(auto, unfolding(par2_spec::specs::Changes::is_applicable, par2_spec::specs::Changes::effect))]
     pub fn apply(&mut self, change: &'a Change) -> Result<()>
-        requires kept { IsKept (files_in self.old) }
+        requires kept { AreFolderFiles (files_in self.old) }
         requires applicable { IsTrue (is_applicable (folder_in self.old) (change_of change.now)) }
-        ensures kept { OnOk result (IsKept (files_in self.new)) }
+        ensures kept { OnOk result (AreFolderFiles (files_in self.new)) }
         ensures folder { OnOk result
             (folder_in self.new ≡ effect (folder_in self.old) (change_of change.now)) }
     {
         match change {
-            Change::Write(name, bytes) => self.put(name, bytes),
-            Change::Replace(name, bytes) => self.put(name, bytes),
+            Change::Write(name, bytes) => self.insert(name, bytes),
+            Change::Replace(name, bytes) => self.insert(name, bytes),
             Change::Rename(from, to) => {
                 let bytes = self.take_out(from);
-                self.put(to, bytes)
+                self.insert(to, bytes)
             }
             Change::Remove(name) => {
                 self.take_out(name);
@@ -109,53 +111,54 @@ impl<'a> Snapshot<'a> {
     }
 }
 
-/// A border among names: before all, before one, or after all.
+/// A position among sorted names: before all of them, before one, or after all. A fingerprint is computed from split to
+/// split.
 #[derive(Clone, Copy)]
-pub enum Border<'a> {
+pub enum Split<'a> {
     Beginning,
     At(&'a Name),
     End,
 }
 
-/// Whether the border comes before that at the name.
-pub fn is_further(border: Border<'_>, name: &Name) -> bool
-    ensures which { result ≡ comes_before border.entry name.now }
-    ensures further { IsTrue result → IsFurther border.entry (At name.entry) }
+/// Whether the name is further than the split: the split is before the one at the name. It is strict, unlike `IsFurther`.
+pub fn is_further(split: Split<'_>, name: &Name) -> bool
+    ensures which { result ≡ comes_before split.entry name.now }
+    ensures further { IsTrue result → IsFurther split.entry (At name.entry) }
 {
-    match border {
-        Border::Beginning => true,
-        Border::At(before) => before < name,
-        Border::End => false,
+    match split {
+        Split::Beginning => true,
+        Split::At(before) => before < name,
+        Split::End => false,
     }
 }
 
-/// Whether the change touches a name before the border.
-pub fn touches(border: Border<'_>, change: &Change) -> bool
-    ensures { result ≡ touches border.entry (change_of change.now) }
+/// Whether the change touches a name before the split. If it doesn't, the files there are equal before and after it.
+pub fn touches(split: Split<'_>, change: &Change) -> bool
+    ensures { result ≡ touches split.entry (change_of change.now) }
 {
-    match border {
-        Border::Beginning => false,
-        Border::At(next) => &change.first_name() < next,
-        Border::End => true,
+    match split {
+        Split::Beginning => false,
+        Split::At(next) => &change.first_name() < next,
+        Split::End => true,
     }
 }
 
-// How many files have names before the border.
-fn count_before(files: &[BorrowedFile], border: Border<'_>) -> usize
-    requires { IsKept (map file_of files.now) }
-    ensures { IsFront (is_before border.entry) (map file_of files.now) result }
+// The number of files whose names are before the split: `IsFront`, exactly the first ones.
+fn count_before(files: &[BorrowedFile], split: Split<'_>) -> usize
+    requires { AreFolderFiles (map file_of files.now) }
+    ensures { IsFront (is_before split.entry) (map file_of files.now) result }
 {
-    match border {
-        Border::Beginning => 0,
-        Border::At(name) => match search_borrowed(files, name) {
+    match split {
+        Split::Beginning => 0,
+        Split::At(name) => match search_borrowed(files, name) {
             Ok(at) => at,
             Err(at) => at,
         },
-        Border::End => files.len(),
+        Split::End => files.len(),
     }
 }
 
-// Adds the file's name and its bytes, each after its length.
+// Adds the file's name and its bytes, each preceded by its length.
 fn push_file<'a>(parts: &mut Vec<Part<'a>>, file: &BorrowedFile<'a>) -> Result<()>
     ensures { OnOk result (message_of parts.new.items
         ≡ message_of parts.old.items ++ fingerprint_input (file_of file.now ∷ [])) }
@@ -169,7 +172,7 @@ fn push_file<'a>(parts: &mut Vec<Part<'a>>, file: &BorrowedFile<'a>) -> Result<(
     ])
 }
 
-// The files as parts of a message.
+// The files as parts of the message that a fingerprint hashes, `fingerprint_input`.
 fn parts_of<'a>(alloc: Global, files: &[BorrowedFile<'a>]) -> Result<Vec<Part<'a>>>
     ensures { IfOk result (λ parts. message_of parts.items ≡ fingerprint_input (map file_of
         files.now)) }
@@ -181,19 +184,20 @@ fn parts_of<'a>(alloc: Global, files: &[BorrowedFile<'a>]) -> Result<Vec<Part<'a
     Ok(parts)
 }
 
-/// The state before the first border, with the files between the borders to absorb.
+/// The state at the split `from`, with the files from there to the split `to` still to absorb. `AbsorbsTo`: once it has
+/// absorbed its parts, it has absorbed exactly these bytes.
 pub fn run_between<'a>(
     alloc: Global,
     state: Midstate,
     snapshot: &Snapshot<'a>,
-    from: Border<'_>,
-    to: Border<'_>,
+    from: Split<'_>,
+    to: Split<'_>,
 ) -> Result<Pending<'a>>
-    requires kept { IsKept (files_in snapshot.now) }
+    requires kept { AreFolderFiles (files_in snapshot.now) }
     requires further { IsFurther from to }
     ensures { let folder = folder_in snapshot.now in
-        HasAbsorbed state (text_before from.entry folder)
-        → IfOk result (λ run. Reaches run (text_before to.entry folder)) }
+        HasAbsorbed state (bytes_before from.entry folder)
+        → IfOk result (λ run. AbsorbsTo run (bytes_before to.entry folder)) }
 {
     let files = &snapshot.files;
     let start = count_before(files, from);

@@ -1,29 +1,30 @@
-//! The folders that changes lead through, side by side along the names.
+//! Fingerprints of a folder before and after each of several changes, computed side by side.
 //!
-//! Before a border, neighbours among these folders are alike unless the change between them touches a name there. So
-//! they fall into runs, and one state that has absorbed the files before the border serves a run.
+//! Up to a split, two consecutive folders are equal unless the change between them touches a name there. So the
+//! folders fall into runs, and one MD5 state that has absorbed the files before the split serves a whole run.
+//! `fingerprints` goes from split to split by `runs_before`, and takes the digests of the runs at the end.
 ghost use Rattle.std.specs.Prelude.{◌≡◌, ◌≤◌, ◌++◌, ◌∷◌, [], ℕ, List, length, IfOk, OnOk, map, IsTrue};
-ghost use Rattle.par2_files.specs.Runs.{AreTo, HaveAbsorbed, LeadTo, Reaches};
+ghost use Rattle.par2_files.specs.Runs.{AreTo, HaveAbsorbed, AllReach, AbsorbsTo};
 ghost use Rattle.md5.specs.Md5.{md5};
 ghost use Rattle.par2_md5_lanes.specs.Messages.{HasAbsorbed};
-ghost use Rattle.par2_md5_lanes.specs.Texts.{texts_of};
+ghost use Rattle.par2_md5_lanes.specs.Buffers.{buffers_of};
 ghost use Rattle.par2_spec.specs.Changes.{are_applicable, folders_after, takes_all};
 ghost use Rattle.par2_spec.specs.Folders.{fingerprint};
 ghost use Rattle.par2_files.specs.Views.{change_of};
-ghost use Rattle.par2_files.specs.Borders.{texts_by, text_before, IsFurther};
+ghost use Rattle.par2_files.specs.Splits.{buffers_by, bytes_before, IsFurther};
 ghost use Rattle.par2_files.specs.Snapshots.{files_in, folder_in};
-ghost use Rattle.par2_files.specs.Sorting.{IsKept};
-ghost use Rattle.par2_files.specs.Landmarks.{AreLandmarksOf};
-ghost use Rattle.par2_files.specs.declared.snapshot.Border.TheVariants.{End};
+ghost use Rattle.par2_files.specs.Sorting.{AreFolderFiles};
+ghost use Rattle.par2_files.specs.Checkpoints.{AreCheckpointsOf};
+ghost use Rattle.par2_files.specs.declared.snapshot.Split.TheVariants.{End};
 
-use crate::landmarks::Landmarks;
-use crate::snapshot::{Border, Snapshot, is_further, run_between, touches};
+use crate::checkpoints::Checkpoints;
+use crate::snapshot::{Snapshot, Split, is_further, run_between, touches};
 use crate::{Change, Folder, Name};
 use par2_md5_lanes::{LANES, Midstate, Part, Pending, absorb_each};
 use par2_spec::Result;
 use std::alloc::Global;
 
-/// States, after which others have parts to absorb yet.
+/// MD5 states of runs: those that are finished, and then those that still have parts to absorb, at most sixteen.
 #[derive(Drop)]
 pub struct Runs<'a> {
     states: Vec<Midstate>,
@@ -31,9 +32,10 @@ pub struct Runs<'a> {
 }
 
 impl<'a> Runs<'a> {
+    /// No states. `AreTo`: state k, finished ones first, has absorbed message k or will.
     pub(crate) fn new(alloc: Global) -> Runs<'a>
         ensures few { length result.pendings.items ≤ 16 }
-        ensures texts { AreTo result [] }
+        ensures buffers { AreTo result [] }
     {
         Runs {
             states: Vec::new(alloc),
@@ -41,12 +43,12 @@ impl<'a> Runs<'a> {
         }
     }
 
-    // Absorbs all parts.
-    fn settle(&mut self) -> Result<()>
+    // Absorbs all parts by one `absorb_each` and appends the states to the finished ones.
+    fn absorb_all(&mut self) -> Result<()>
         requires few { length self.old.pendings.items ≤ 16 }
         ensures empty { OnOk result (self.new.pendings.items ≡ []) }
-        ensures texts { (texts : List (List ℕ))
-            → AreTo self.old texts → OnOk result (AreTo self.new texts) }
+        ensures buffers { (buffers : List (List ℕ))
+            → AreTo self.old buffers → OnOk result (AreTo self.new buffers) }
     {
         let states = absorb_each(&self.pendings);
         self.states
@@ -55,77 +57,79 @@ impl<'a> Runs<'a> {
         Ok(())
     }
 
-    /// Adds a state and the parts that it has to absorb.
+    /// Adds a state with the parts that it still has to absorb. If sixteen are pending, it absorbs them first.
     pub(crate) fn push(&mut self, pending: Pending<'a>) -> Result<()>
         requires few { length self.old.pendings.items ≤ 16 }
         ensures few { OnOk result (length self.new.pendings.items ≤ 16) }
-        ensures texts { (texts : List (List ℕ)) (text : List ℕ)
-            → AreTo self.old texts → Reaches pending.entry text
-            → OnOk result (AreTo self.new (texts ++ text ∷ [])) }
+        ensures buffers { (buffers : List (List ℕ)) (bytes : List ℕ)
+            → AreTo self.old buffers → AbsorbsTo pending.entry bytes
+            → OnOk result (AreTo self.new (buffers ++ bytes ∷ [])) }
     {
         if self.pendings.len() == LANES {
-            self.settle()?;
+            self.absorb_all()?;
         }
         Ok(self.pendings.push(pending)?)
     }
 
-    /// Adds the state before the first border, with the files between the borders to absorb.
+    /// Adds the state at the split `from`, with the snapshot's files from there to the split `to` still to absorb.
     pub(crate) fn push_between(
         &mut self,
         alloc: Global,
         state: Midstate,
         snapshot: &Snapshot<'a>,
-        from: Border<'_>,
-        to: Border<'_>,
+        from: Split<'_>,
+        to: Split<'_>,
     ) -> Result<()>
         requires few { length self.old.pendings.items ≤ 16 }
-        requires kept { IsKept (files_in snapshot.now) }
+        requires kept { AreFolderFiles (files_in snapshot.now) }
         requires further { IsFurther from to }
         ensures few { OnOk result (length self.new.pendings.items ≤ 16) }
-        ensures texts { (texts : List (List ℕ)) → AreTo self.old texts
-            → HasAbsorbed state (text_before from.entry (folder_in snapshot.now))
+        ensures buffers { (buffers : List (List ℕ)) → AreTo self.old buffers
+            → HasAbsorbed state (bytes_before from.entry (folder_in snapshot.now))
             → OnOk result
-            (AreTo self.new (texts ++ text_before to.entry (folder_in snapshot.now) ∷ [])) }
+            (AreTo self.new (buffers ++ bytes_before to.entry (folder_in snapshot.now) ∷ [])) }
     {
         self.push(run_between(alloc, state, snapshot, from, to)?)
     }
 
-    /// The states after all parts.
+    /// The states once all parts are absorbed, in the order in which they were added.
     pub(crate) fn finish(mut self) -> Result<Vec<Midstate>>
         requires few { length self.pendings.items ≤ 16 }
-        ensures { (texts : List (List ℕ)) → AreTo self.entry texts
-            → IfOk result (λ states. HaveAbsorbed states.items texts) }
+        ensures { (buffers : List (List ℕ)) → AreTo self.entry buffers
+            → IfOk result (λ states. HaveAbsorbed states.items buffers) }
     {
-        self.settle()?;
+        self.absorb_all()?;
         Ok(self.states)
     }
 }
 
-// The most borders at names: at each, the changes are gone along once.
-const MOST_BORDERS: usize = 64;
+// The most splits at names: each walks all changes once.
+const MOST_SPLITS: usize = 64;
 
-// The names where borders are: of the first names that the changes touch, the least and others in order.
-fn border_names(alloc: Global, changes: &[Change]) -> Result<Vec<Name>> {
+// The names of the splits: every n-th of the sorted first names that the changes touch, from the least on, with the
+// least n that leaves at most `MOST_SPLITS`.
+fn split_names(alloc: Global, changes: &[Change]) -> Result<Vec<Name>> {
     let mut names: Vec<Name> = changes.iter().map(Change::first_name).collect(alloc)?;
     names.sort_unstable();
-    let step = names.len().div_ceil(MOST_BORDERS).max(1);
+    let step = names.len().div_ceil(MOST_SPLITS).max(1);
     names.into_iter().step_by(step).collect(alloc)
 }
 
-// The runs up to a border, from the states before an earlier one.
+// The runs at the split `to`, from the states of the runs at the earlier split `from`: state k is that of run k, and a
+// change that touches a name before a split begins a run there. `buffers_by` has the message of each run.
 fn runs_before<'a>(
     alloc: Global,
     folder: &'a Folder,
     changes: &'a [Change],
     states: &[Midstate],
-    from: Border<'_>,
-    to: Border<'_>,
+    from: Split<'_>,
+    to: Split<'_>,
 ) -> Result<Runs<'a>>
     requires further { IsFurther from to }
     requires applicable { IsTrue (are_applicable folder.now.files (map change_of changes.now)) }
-    requires absorbed { HaveAbsorbed states.now (texts_by from folder.now.files changes.now) }
+    requires absorbed { HaveAbsorbed states.now (buffers_by from folder.now.files changes.now) }
     ensures few { IfOk result (λ runs. length runs.pendings.items ≤ 16) }
-    ensures texts { IfOk result (LeadTo (texts_by to.entry folder.now.files changes.now)) }
+    ensures buffers { IfOk result (AllReach (buffers_by to.entry folder.now.files changes.now)) }
 {
     let mut snapshot = folder.snapshot()?;
     let mut runs = Runs::new(alloc);
@@ -143,45 +147,46 @@ fn runs_before<'a>(
     Ok(runs)
 }
 
-// The runs of all folders, from the last landmark that the changes leave.
+// The runs at the end, one for the folder and one for the folder after each change, from the last checkpoint that has
+// no changed name before it.
 fn runs_along<'a>(
     alloc: Global,
-    landmarks: &Landmarks,
+    checkpoints: &Checkpoints,
     folder: &'a Folder,
     changes: &'a [Change],
 ) -> Result<Runs<'a>>
-    requires landmarks { AreLandmarksOf folder.now.files landmarks.now }
+    requires checkpoints { AreCheckpointsOf folder.now.files checkpoints.now }
     requires applicable { IsTrue (are_applicable folder.now.files (map change_of changes.now)) }
     ensures few { IfOk result (λ runs. length runs.pendings.items ≤ 16) }
-    ensures texts { IfOk result (LeadTo (texts_by End folder.now.files changes.now)) }
+    ensures buffers { IfOk result (AllReach (buffers_by End folder.now.files changes.now)) }
 {
-    let names = border_names(alloc, changes)?;
-    let (mut border, state) = landmarks.start(changes);
+    let names = split_names(alloc, changes)?;
+    let (mut split, state) = checkpoints.start(changes);
     let mut states = vec![in alloc; state]?;
     for name in &names {
-        if is_further(border, name) {
-            let next = Border::At(name);
-            states = runs_before(alloc, folder, changes, &states, border, next)?.finish()?;
-            border = next;
+        if is_further(split, name) {
+            let next = Split::At(name);
+            states = runs_before(alloc, folder, changes, &states, split, next)?.finish()?;
+            split = next;
         }
     }
-    runs_before(alloc, folder, changes, &states, border, Border::End)
+    runs_before(alloc, folder, changes, &states, split, Split::End)
 }
 
-/// The state, with the bytes of a text after it.
-pub fn run_of_text(alloc: Global, state: Midstate, text: &[u8]) -> Result<Pending<'_>>
+/// The state, with these bytes still to absorb: how a buffer is digested beside a fingerprint.
+pub fn run_of_bytes(alloc: Global, state: Midstate, bytes: &[u8]) -> Result<Pending<'_>>
     ensures { (m : List ℕ) → HasAbsorbed state m
-        → IfOk result (λ run. Reaches run (m ++ text.now)) }
+        → IfOk result (λ run. AbsorbsTo run (m ++ bytes.now)) }
 {
     let mut parts = Vec::with_capacity(alloc, 1)?;
-    parts.push(Part::Bytes(text))?;
+    parts.push(Part::Bytes(bytes))?;
     Ok(Pending { state, parts })
 }
 
-/// The digests of what the states have absorbed.
+/// The MD5 digests of what the states have absorbed, in order. `HaveAbsorbed`: state k has absorbed message k.
 pub fn digests_of(alloc: Global, states: &[Midstate]) -> Result<Vec<[u8; 16]>>
-    ensures { (texts : List (List ℕ)) → HaveAbsorbed states.now texts
-        → IfOk result (λ digests. digests.items ≡ map md5 texts) }
+    ensures { (buffers : List (List ℕ)) → HaveAbsorbed states.now buffers
+        → IfOk result (λ digests. digests.items ≡ map md5 buffers) }
 {
     let mut digests = Vec::with_capacity(alloc, states.len())?;
     for state in states {
@@ -190,46 +195,46 @@ pub fn digests_of(alloc: Global, states: &[Midstate]) -> Result<Vec<[u8; 16]>>
     Ok(digests)
 }
 
-/// The states after all runs, and after them those of texts that are absorbed side by side with them.
+/// The finished states of all runs, and then those of whole buffers, which are absorbed in the same lanes.
 pub fn states_with<'a>(
     alloc: Global,
     mut runs: Runs<'a>,
-    texts: &[&'a [u8]],
+    buffers: &[&'a [u8]],
 ) -> Result<Vec<Midstate>>
     requires { length runs.pendings.items ≤ 16 }
     ensures { (before : List (List ℕ)) → AreTo runs.entry before
-        → IfOk result (λ states. HaveAbsorbed states.items (before ++ texts_of texts.now)) }
+        → IfOk result (λ states. HaveAbsorbed states.items (before ++ buffers_of buffers.now)) }
 {
-    for text in texts {
-        runs.push(run_of_text(alloc, Midstate::new(), text)?)?;
+    for bytes in buffers {
+        runs.push(run_of_bytes(alloc, Midstate::new(), bytes)?)?;
     }
     runs.finish()
 }
 
-/// Digests of folders, and digests that were computed side by side with them.
+/// Fingerprints of folders, and the digests of buffers that were computed in the same lanes.
 #[derive(Drop)]
 pub struct Digests {
-    /// Of a folder, and of those that changes lead it through, one after the other.
+    /// The fingerprint of the folder, and those after each change.
     pub along: Vec<[u8; 16]>,
-    /// The MD5 digests of texts.
+    /// The MD5 digests of the buffers.
     pub beside: Vec<[u8; 16]>,
 }
 
-/// The fingerprints of a folder and of those that the changes lead it through, and the MD5 digests of texts. All are
-/// computed side by side, so that few texts take little time. The files before the last landmark that the changes
-/// leave as it is are not read.
+/// The fingerprints of a folder before the changes and after each of them, and the MD5 digests of buffers. All are
+/// computed side by side, so that a few buffers take little more time. `from` are the checkpoints to set out from. The
+/// files before the last of them that has no changed name before it are not read.
 pub fn fingerprints(
     alloc: Global,
     folder: &Folder,
     changes: &[Change],
-    from: &Landmarks,
+    from: &Checkpoints,
     beside: &[&[u8]],
 ) -> Result<Digests>
-    requires landmarks { AreLandmarksOf folder.now.files from.now }
+    requires checkpoints { AreCheckpointsOf folder.now.files from.now }
     requires taken { IsTrue (takes_all folder.now (map change_of changes.now)) }
     ensures along { let after = folders_after folder.now.files (map change_of changes.now) in
         IfOk result (λ found. found.along.items ≡ map fingerprint (folder.now.files ∷ after)) }
-    ensures beside { IfOk result (λ found. found.beside.items ≡ map md5 (texts_of beside.now)) }
+    ensures beside { IfOk result (λ found. found.beside.items ≡ map md5 (buffers_of beside.now)) }
 {
     let runs = runs_along(alloc, from, folder, changes)?;
     let states = states_with(alloc, runs, beside)?;

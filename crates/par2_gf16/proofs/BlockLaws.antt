@@ -104,7 +104,7 @@ looked_up f t js table long small =
     ∙ ap f (let k : (16 * ((0 + i) / 16) + get_or js i 0) % 16 ≡ get_or js i 0 = omega arith in k)
     ∙ sym (get_or-map f js i 0 0 lt))
 
--- two vectors that were computed lane by lane, one from xs and one from ys
+-- two vectors, computed lane by lane from xs and ys
 pub zip2_of_two : (f : ℕ → ℕ → ℕ) (g h : ℕ → ℕ) (xs ys : List ℕ) → zip2 f (map g xs) (map h ys) ≡ zip2 (λ x y. f (g x) (h y)) xs ys
 zip2_of_two f g h (x ∷ xs) (y ∷ ys) = ap (λ zs. f (g x) (h y) ∷ zs) (zip2_of_two f g h xs ys)
 zip2_of_two f g h xs ys = refl

@@ -19,6 +19,6 @@ pub use Rattle.par2_spec.proofs.FieldOrder.{double_product, logarithm, one_inver
 pub use Rattle.par2_spec.proofs.FieldProducts.{product-lt, product-one, product_assoc, product_comm, product_linear_right}
 pub use Rattle.par2_spec.proofs.FieldSteps.{double_high, double_low, one-power, power-mul}
 pub use Rattle.par2_spec.proofs.TestLaws.{by_either}
-pub use Rattle.par2_spec.specs.Field.{is_spared}
+pub use Rattle.par2_spec.specs.Field.{is_coprime}
 unfoldable pub use Rattle.par2_spec.specs.Field.{constant, constant_powers, mul, pow}
 pub use Rattle.par2_spec.specs.Slices.{word}

@@ -32,7 +32,7 @@ select_lanes (suc n) k (s ∷ ss) (v ∷ vs) a b =
     ap₂ (λ y ys. y ∷ ys) (ap (bit_xor s) (one_lane v k)) (select_lanes n k ss vs (omega arith) (omega arith))
 select_lanes n k ss vs a b = absurd (omega arith)
 
--- ---- the turns
+-- ---- the steps
 
 test_power : tested (λ i. eqb (pow 2 i) (2 ^ i)) 16 ≡ true
 unfolding pow
@@ -61,10 +61,10 @@ lanes_start c v sum hc e = record {
   copy = sym (product-one c hc);
 }
 
-pub lanes_turn : (c : ℕ) (v sum rest sum' rest' : List ℕ) (k k' j : ℕ) → c < 65536 → j < 16 → LanesSoFar c v sum rest k j
+pub lanes_step : (c : ℕ) (v sum rest sum' rest' : List ℕ) (k k' j : ℕ) → c < 65536 → j < 16 → LanesSoFar c v sum rest k j
     → sum' ≡ zip2 (λ s x. bit_xor s (x % 2 * k)) sum rest → rest' ≡ map (λ x. x / 2) rest → k' ≡ mul 2 k → LanesSoFar c v sum' rest' k' (j + 1)
 unfolding pow
-lanes_turn c v sum rest sum' rest' k k' j hc h so_far es er ek =
+lanes_step c v sum rest sum' rest' k k' j hc h so_far es er ek =
     let pj : pow 2 j < 65536 = power-lt 2 j (omega arith) in
     record {
       added = es

@@ -70,7 +70,7 @@ split_product c k1 k2 k3 l h hc e1 e2 e3 hl hh =
     ∙ sym ((product_linear_right c).on_xor (h % 16 * 256) (h / 16 * 4096)) ∙ ap (mul c) (sym shifted) in
     ap₂ bit_xor low high ∙ sym ((product_linear_right c).on_xor l (h * 256)) ∙ ap (mul c) (sym (word_bytes l h hl))
 
--- a part of the products of words, as a byte of each is, is the sum of that part of the products of their nibbles
+-- a part of the products of words, such as their lower bytes, is the sum of that part of the products of their nibbles
 pub by_nibbles : (part : ℕ → ℕ) → ((a b : ℕ) → part (bit_xor a b) ≡ bit_xor (part a) (part b)) → (c k1 k2 k3 : ℕ) (low high : List ℕ) → c < 65536 → k1 ≡ mul c 16 → k2 ≡ mul c 256 → k3 ≡ mul c 4096
     → Each1 (λ x. x < 256) low → Each1 (λ x. x < 256) high
     → zip2 (λ l h. bit_xor (bit_xor (part (mul c (l % 16))) (part (mul k1 (l / 16)))) (bit_xor (part (mul k2 (h % 16))) (part (mul k3 (h / 16))))) low high ≡ zip2 (λ l h. part (mul c (l + 256 * h))) low high
@@ -80,7 +80,7 @@ by_nibbles part splits c k1 k2 k3 low high hc e1 e2 e3 fits others =
     ∙ splits (bit_xor (mul c (l % 16)) (mul k1 (l / 16))) (bit_xor (mul k2 (h % 16)) (mul k3 (h / 16)))
     ∙ ap₂ bit_xor (splits (mul c (l % 16)) (mul k1 (l / 16))) (splits (mul k2 (h % 16)) (mul k3 (h / 16))))) low high fits others
 
--- each nibble, twice over
+-- each nibble, twice
 abbrev nibbles : List ℕ
 nibbles = range_with_len 0 16 ++ range_with_len 0 16
 

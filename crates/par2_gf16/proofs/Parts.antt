@@ -1,4 +1,4 @@
--- Words that are added one part after another, and where a source ends.
+-- Words that are added part by part, and the end of a source.
 use Rattle.par2_gf16.proofs.Common.{ℕ, ◌+◌, ◌*◌, ◌/◌, ◌<◌, ◌≤◌, ◌≡◌, refl, sym, ap, ◌∙◌, subst, arith, List, length, cases_lt, xor_zero_r, mul, word, product-zero, AddsProducts, AddsWithin, by_either}
 use Rattle.std.proofs.Common.{bit_xor}
 use Rattle.par2_spec.proofs.WordLaws.{word_past}
@@ -17,7 +17,7 @@ adds_after c src old mid new a b d ab bd first second = record {
         (λ before. second.below i before ∙ first.inside i g before room)
         (λ after. second.inside i after l (omega (arith, first.same_length)) ∙ ap (λ v. bit_xor v (mul c (word i src))) (first.above i after))
 
--- past the end of a source nothing is added
+-- nothing is added past the end of a source
 pub nothing_past : (c : ℕ) (src old : List ℕ) (from to : ℕ) → ((i : ℕ) → from ≤ i → i < to → length src ≤ 2 * i) → AddsWithin c src old old from to
 nothing_past c src old from to h = record {
   same_length = refl;
@@ -26,12 +26,12 @@ nothing_past c src old from to h = record {
   above = λ i low. refl;
 }
 
--- so the words up to its end are all
+-- so the words up to its end are all words
 pub up_to_end : (c : ℕ) (src old new : List ℕ) (from end to : ℕ) → from ≤ end → end ≤ to → ((i : ℕ) → end ≤ i → i < to → length src ≤ 2 * i)
     → AddsWithin c src old new from end → AddsWithin c src old new from to
 up_to_end c src old new from end to low high past added = adds_after c src old new new from end to low high added (nothing_past c src new end to past)
 
--- the words of whole blocks and those after them are all words
+-- whole blocks and the words after them are all words
 pub blocks_and_rest : (c : ℕ) (src old mid new : List ℕ) (a b d : ℕ) → a ≡ b → b ≤ d → d ≡ length old / 2
     → AddsWithin c src old mid 0 a → AddsWithin c src mid new b d → AddsProducts c src old new
 blocks_and_rest c src old mid new a b d met low end first second =

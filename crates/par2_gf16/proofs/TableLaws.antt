@@ -1,5 +1,5 @@
--- The tables, and the calls by them.
-use Rattle.par2_gf16.proofs.Common.{ℕ, zero, suc, ◌+◌, ◌-◌, ◌*◌, ◌<◌, ◌≡◌, inl, inr, refl, sym, ap, ap₂, ◌∙◌, subst, arith, List, [], ◌∷◌, ◌++◌, length, get_or, set, length-append, length-set, add-one, map, cond, true, false, ◌/◌, ◌%◌, append-nil, cases_eq, get_or-set_same, get_or-set_other, get_or_append_left, map-append, get_or-map, length-map, mul, is_spared, pow, constant, constant_powers, PowersBelow, LogsBelow, AreTables, FirstRound, SecondRound, constants_below, power-lt, power-add, power-65535, power-injective, logarithm, one_inverse, zero-product, product-one, power-mul, one-power, IsInverse, range_with_len, filter, by_either}
+-- The tables, and the calls that use them.
+use Rattle.par2_gf16.proofs.Common.{ℕ, zero, suc, ◌+◌, ◌-◌, ◌*◌, ◌<◌, ◌≡◌, inl, inr, refl, sym, ap, ap₂, ◌∙◌, subst, arith, List, [], ◌∷◌, ◌++◌, length, get_or, set, length-append, length-set, add-one, map, cond, true, false, ◌/◌, ◌%◌, append-nil, cases_eq, get_or-set_same, get_or-set_other, get_or_append_left, map-append, get_or-map, length-map, mul, is_coprime, pow, constant, constant_powers, PowersBelow, LogsBelow, AreTables, FirstRound, SecondRound, constants_below, power-lt, power-add, power-65535, power-injective, logarithm, one_inverse, zero-product, product-one, power-mul, one-power, IsInverse, range_with_len, filter, by_either}
 use Rattle.std.proofs.Math.Seq.{get_or-append_seam}
 use Rattle.par2_spec.proofs.ListsLaws.{range-append}
 use Rattle.par2_spec.proofs.FieldConstants.{length-constant_powers}
@@ -28,34 +28,34 @@ logs_more logs n x hn so_far e = record {
   ];
 }
 
-spared_more : (n : ℕ) → filter is_spared (range_with_len 0 (n + 1)) ≡ filter is_spared (range_with_len 0 n) ++ filter is_spared (n ∷ [])
-spared_more n =
-    ap (filter is_spared) (range-append 0 n 1 ∙ ap (λ x. range_with_len 0 n ++ x ∷ []) (let e : 0 + n ≡ n = omega arith in e))
-    ∙ filter-append is_spared (range_with_len 0 n) (n ∷ [])
+coprimes_more : (n : ℕ) → filter is_coprime (range_with_len 0 (n + 1)) ≡ filter is_coprime (range_with_len 0 n) ++ filter is_coprime (n ∷ [])
+coprimes_more n =
+    ap (filter is_coprime) (range-append 0 n 1 ∙ ap (λ x. range_with_len 0 n ++ x ∷ []) (let e : 0 + n ≡ n = omega arith in e))
+    ∙ filter-append is_coprime (range_with_len 0 n) (n ∷ [])
 
-constants_more : (n : ℕ) → constants_below (n + 1) ≡ constants_below n ++ map (pow 2) (filter is_spared (n ∷ []))
+constants_more : (n : ℕ) → constants_below (n + 1) ≡ constants_below n ++ map (pow 2) (filter is_coprime (n ∷ []))
 unfolding constants_below
-constants_more n = ap (map (pow 2)) (spared_more n) ∙ map-append (pow 2) (filter is_spared (range_with_len 0 n)) (filter is_spared (n ∷ []))
+constants_more n = ap (map (pow 2)) (coprimes_more n) ∙ map-append (pow 2) (filter is_coprime (range_with_len 0 n)) (filter is_coprime (n ∷ []))
 
-constants_pushed : (constants : List ℕ) (n x : ℕ) → constants ≡ constants_below n → x ≡ pow 2 n → is_spared n ≡ true → constants ++ x ∷ [] ≡ constants_below (n + 1)
-constants_pushed constants n x so_far e spared =
+constants_pushed : (constants : List ℕ) (n x : ℕ) → constants ≡ constants_below n → x ≡ pow 2 n → is_coprime n ≡ true → constants ++ x ∷ [] ≡ constants_below (n + 1)
+constants_pushed constants n x so_far e coprime =
     ap₂ (λ xs y. xs ++ y ∷ []) so_far e
-    ∙ sym (constants_more n ∙ ap (λ b. constants_below n ++ map (pow 2) (cond b (n ∷ []) [])) spared)
+    ∙ sym (constants_more n ∙ ap (λ b. constants_below n ++ map (pow 2) (cond b (n ∷ []) [])) coprime)
 
-constants_kept : (constants : List ℕ) (n : ℕ) → constants ≡ constants_below n → is_spared n ≡ false → constants ≡ constants_below (n + 1)
+constants_kept : (constants : List ℕ) (n : ℕ) → constants ≡ constants_below n → is_coprime n ≡ false → constants ≡ constants_below (n + 1)
 constants_kept constants n so_far other =
     so_far ∙ sym (constants_more n ∙ ap (λ b. constants_below n ++ map (pow 2) (cond b (n ∷ []) [])) other ∙ append-nil (constants_below n))
 
--- neither 0 nor the last number counts
-spared_from_one : (n : ℕ) → is_spared n ≡ false → filter is_spared (range_with_len 0 n) ≡ filter is_spared (range_with_len 1 n)
-spared_from_one n other =
-    sym (append-nil (filter is_spared (range_with_len 0 n)))
-    ∙ ap (λ b. filter is_spared (range_with_len 0 n) ++ cond b (n ∷ []) []) (sym other) ∙ sym (spared_more n)
-    ∙ ap (λ m. filter is_spared (range_with_len 0 m)) (add-one n)
+-- neither 0 nor n is coprime to 65,535, so a range up to n may begin at 1
+coprimes_from_one : (n : ℕ) → is_coprime n ≡ false → filter is_coprime (range_with_len 0 n) ≡ filter is_coprime (range_with_len 1 n)
+coprimes_from_one n other =
+    sym (append-nil (filter is_coprime (range_with_len 0 n)))
+    ∙ ap (λ b. filter is_coprime (range_with_len 0 n) ++ cond b (n ∷ []) []) (sym other) ∙ sym (coprimes_more n)
+    ∙ ap (λ m. filter is_coprime (range_with_len 0 m)) (add-one n)
 
 constants_whole : constants_below 65535 ≡ map (pow 2) constant_powers
 unfolding constants_below constant_powers
-constants_whole = ap (map (pow 2)) (spared_from_one 65535 refl)
+constants_whole = ap (map (pow 2)) (coprimes_from_one 65535 refl)
 
 pub first_start : (logs : List ℕ) → length logs ≡ 65536 → FirstRound logs [] [] 1 0
 unfolding pow constants_below
@@ -66,15 +66,15 @@ first_start logs e = record {
   next = refl;
 }
 
-pub first_pushed : (logs powers constants : List ℕ) (x y i : ℕ) → i < 65535 → FirstRound logs powers constants x i → y ≡ mul 2 x → is_spared i ≡ true → FirstRound (set logs x i) (powers ++ x ∷ []) (constants ++ x ∷ []) y (i + 1)
-first_pushed logs powers constants x y i h so_far e spared = record {
+pub first_pushed : (logs powers constants : List ℕ) (x y i : ℕ) → i < 65535 → FirstRound logs powers constants x i → y ≡ mul 2 x → is_coprime i ≡ true → FirstRound (set logs x i) (powers ++ x ∷ []) (constants ++ x ∷ []) y (i + 1)
+first_pushed logs powers constants x y i h so_far e coprime = record {
   logs_are = logs_more logs i x h so_far.logs_are so_far.next;
   powers_are = powers_more powers i x so_far.powers_are so_far.next;
-  constants_are = constants_pushed constants i x so_far.constants_are so_far.next spared;
+  constants_are = constants_pushed constants i x so_far.constants_are so_far.next coprime;
   next = e ∙ ap (mul 2) so_far.next ∙ next_power i;
 }
 
-pub first_kept : (logs powers constants : List ℕ) (x y i : ℕ) → i < 65535 → FirstRound logs powers constants x i → y ≡ mul 2 x → is_spared i ≡ false → FirstRound (set logs x i) (powers ++ x ∷ []) constants y (i + 1)
+pub first_kept : (logs powers constants : List ℕ) (x y i : ℕ) → i < 65535 → FirstRound logs powers constants x i → y ≡ mul 2 x → is_coprime i ≡ false → FirstRound (set logs x i) (powers ++ x ∷ []) constants y (i + 1)
 first_kept logs powers constants x y i h so_far e other = record {
   logs_are = logs_more logs i x h so_far.logs_are so_far.next;
   powers_are = powers_more powers i x so_far.powers_are so_far.next;
@@ -82,8 +82,8 @@ first_kept logs powers constants x y i h so_far e other = record {
   next = e ∙ ap (mul 2) so_far.next ∙ next_power i;
 }
 
-pub second_turn : (powers : List ℕ) (x y j : ℕ) → SecondRound powers x j → y ≡ mul 2 x → SecondRound (powers ++ x ∷ []) y (j + 1)
-second_turn powers x y j so_far e =
+pub second_step : (powers : List ℕ) (x y j : ℕ) → SecondRound powers x j → y ≡ mul 2 x → SecondRound (powers ++ x ∷ []) y (j + 1)
+second_step powers x y j so_far e =
     let s : 65535 + j + 1 ≡ 65535 + (j + 1) = omega arith in
     record {
       powers_are = subst (λ n. PowersBelow (powers ++ x ∷ []) n) s (powers_more powers (65535 + j) x so_far.powers_are so_far.next);
@@ -108,7 +108,7 @@ log_is logs a t z h =
 pub product_is : (a b i j : ℕ) → pow 2 i ≡ a → pow 2 j ≡ b → pow 2 (i + j) ≡ mul a b
 product_is a b i j ea eb = power-add 2 i j (omega arith) ∙ ap₂ mul ea eb
 
--- the powers of 2 come again after 65,535
+-- the powers of 2 repeat after 65,535
 pow_2-mod : (n : ℕ) → pow 2 (n % 65535) ≡ pow 2 n
 pow_2-mod n =
     let r = n % 65535 in
@@ -134,7 +134,7 @@ inverse_is a i h ha ea =
       only = λ c hc e. one_inverse a c (pow 2 (65535 - i)) ha hc (power-lt 2 (65535 - i) (omega arith)) e one;
     }
 
--- where the list of constants unfolds, its length would be computed
+-- For the prover: outside of the unfolding, because an unfolded list of constants would have its length computed
 constant_counted : (k : ℕ) → k < 32768 → k < length constant_powers
 constant_counted k h = omega (arith, length-constant_powers)
 

@@ -1,4 +1,4 @@
--- Words of bytes under writes.
+-- Words in bytes that are written.
 use Rattle.par2_gf16.proofs.Common.{ℕ, ◌+◌, ◌*◌, ◌/◌, ◌%◌, ◌^◌, ◌<◌, ◌≡◌, ◌≢◌, sym, ap, ap₂, ◌∙◌, subst, arith, List, length, get_or, set, length-set, get_or-set_same, get_or-set_other, xor_block, mul, word, AddsWithin}
 use Rattle.std.specs.Int.RustNames.{bit_xor}
 

@@ -1,4 +1,4 @@
--- What the calls give, where one equation does not say it.
+-- The results of the calls that one equation does not describe.
 use Rattle.std.specs.Prelude.{◌≡◌, ℕ, ◌+◌, ◌*◌, ◌^◌, ◌<◌, List, length, bit_xor}
 use Rattle.par2_spec.specs.Field.{mul}
 use Rattle.par2_spec.specs.Slices.{word}

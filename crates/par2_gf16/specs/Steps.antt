@@ -1,40 +1,40 @@
--- What the loops over words keep.
+-- The steps of the loops over words.
 use Rattle.std.specs.Prelude.{ℕ, ◌+◌, ◌*◌, ◌^◌, ◌<◌, ◌≤◌, ◌≡◌, ◌/◌, ◌%◌, List, length, map, slice_index, bit_xor}
 use Rattle.par2_spec.specs.Field.{mul, pow}
 use Rattle.par2_spec.specs.Slices.{word}
 
--- the words from `from` up to `to` have the product added, and the others are as before
+-- words `from` up to `to` have the products added, and the others are unchanged
 pub record AddsWithin (c : ℕ) (src old new : List ℕ) (from to : ℕ) : Type 0 where
   pub same_length : length new ≡ length old
   pub inside : (i : ℕ) → from ≤ i → i < to → 2 * i + 1 < length old → word i new ≡ bit_xor (word i old) (mul c (word i src))
   pub below : (i : ℕ) → i < from → word i new ≡ word i old
   pub above : (i : ℕ) → to ≤ i → word i new ≡ word i old
 
--- after j turns over the lanes v: the low j bits of each lane have been multiplied by c
+-- after j steps over the lanes v: the low j bits of each lane have been multiplied by c
 pub record LanesSoFar (c : ℕ) (v sum rest : List ℕ) (k j : ℕ) : Type 0 where
   pub added : sum ≡ map (λ x. mul c (x % 2 ^ j)) v
   pub left : rest ≡ map (λ x. x / 2 ^ j) v
   pub copy : k ≡ mul c (pow 2 j)
 
--- the bytes before `from` and those from `to` on are as before
+-- the bytes before `from` and from `to` on are unchanged
 pub record SameOutside (old new : List ℕ) (from to : ℕ) : Type 0 where
   pub same_length : length new ≡ length old
   pub below : (k : ℕ) → k < from → slice_index new k ≡ slice_index old k
   pub above : (k : ℕ) → to ≤ k → slice_index new k ≡ slice_index old k
 
--- a table of f at each nibble, twice over
+-- a table of f at each nibble, twice
 pub record IsTable (f : ℕ → ℕ) (table : List ℕ) : Type 0 where
   pub count : length table ≡ 32
   pub each : (n : ℕ) → n < 32 → slice_index table n ≡ f (n % 16)
 
--- the bytes are those of low and those of high in turn
+-- the bytes are those of low and of high, alternating
 pub record IsInterleaving (low high bytes : List ℕ) : Type 0 where
   pub low_count : length low ≡ 32
   pub high_count : length high ≡ 32
   pub lows : (j : ℕ) → j < 32 → slice_index bytes (2 * j) ≡ slice_index low j
   pub highs : (j : ℕ) → j < 32 → slice_index bytes (2 * j + 1) ≡ slice_index high j
 
--- to the n bytes from `at` on, those of v are added
+-- to the n bytes from `at` on, the bytes of v are added
 pub record AddsLanes (old new : List ℕ) (at n : ℕ) (v : List ℕ) : Type 0 where
   pub count : length v ≡ n
   pub others : SameOutside old new at (at + n)

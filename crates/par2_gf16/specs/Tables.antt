@@ -1,23 +1,23 @@
--- What the tables hold.
+-- The contents of the tables.
 use Rattle.std.specs.Prelude.{ℕ, ◌+◌, ◌<◌, ◌≡◌, List, length, slice_index, map, filter}
 use Rattle.std.specs.List.{range_with_len}
-use Rattle.par2_spec.specs.Field.{pow, is_spared, constant_powers}
+use Rattle.par2_spec.specs.Field.{pow, is_coprime, constant_powers}
 
 -- the powers of 2 from 2 ^ 0 on
 pub record PowersBelow (powers : List ℕ) (n : ℕ) : Type 0 where
   pub count : length powers ≡ n
   pub each : (i : ℕ) → i < n → slice_index powers i ≡ pow 2 i
 
--- at each power of 2 below 2 ^ n, its exponent
+-- the entry at each power of 2 below 2 ^ n is its exponent, the logarithm
 pub record LogsBelow (logs : List ℕ) (n : ℕ) : Type 0 where
   pub count : length logs ≡ 65536
   pub each : (i : ℕ) → i < n → slice_index logs (pow 2 i) ≡ i
 
--- the powers of 2 whose exponents below n are spared
+-- the powers of 2 whose exponents are below n and coprime to 65,535, as those of slice constants are (PAR2 2.0)
 unfoldable pub constants_below : ℕ → List ℕ
-constants_below n = map (pow 2) (filter is_spared (range_with_len 0 n))
+constants_below n = map (pow 2) (filter is_coprime (range_with_len 0 n))
 
--- the powers stand twice, so that the sum of two logarithms needs no remainder
+-- the powers are there twice, so that the sum of two logarithms needs no remainder
 pub record AreTables (logs powers constants : List ℕ) : Type 0 where
   pub logs_are : LogsBelow logs 65535
   pub powers_are : PowersBelow powers 131070

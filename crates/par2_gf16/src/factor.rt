@@ -1,5 +1,5 @@
-//! Thirty-two words at a time. A word is the sum of its four nibbles, each in its place, so its product is the sum of
-//! theirs, and those are looked up.
+//! Products of thirty-two words at a time. A word is the sum of its four nibbles, each in its place, so its product is
+//! the sum of four products, which are looked up.
 
 ghost use Rattle.std.specs.Prelude.{◌≡◌, ℕ, ◌+◌, ◌*◌, ◌/◌, ◌%◌, ◌^◌, ◌<◌, ◌≤◌, List, length, slice_index, take, drop, bit_xor};
 ghost use Rattle.std.specs.Simd.Lanes.{zip2};
@@ -15,7 +15,7 @@ use std::simd::prelude::*;
 
 const NIBBLES: [u16; 16] = [0, 1, 2, 3, 4, 5, 6, 7, 8, 9, 10, 11, 12, 13, 14, 15];
 
-/// The products of one element and each nibble: their lower and their higher bytes.
+// The products of one element and each nibble: their lower and their higher bytes.
 #[derive(Drop)]
 struct NibbleProducts {
     element: u16,
@@ -27,12 +27,13 @@ struct NibbleProducts {
 }
 
 impl NibbleProducts {
+    // Computes the element's products with the sixteen nibbles.
     #[inline(always)]
     fn new(element: u16) -> NibbleProducts
         ensures { result.element ≡ element }
     {
         let products = lanes::product_lanes(element, u16x16::from_array(NIBBLES), 4);
-        // a look-up sees sixteen lanes of a table at a time
+        // A look-up indexes each half of a vector by itself, so the table is there twice.
         let products = lanes::twice(products);
         let low = lanes::lower_bytes(products);
         let high = lanes::higher_bytes(products);
@@ -40,8 +41,8 @@ impl NibbleProducts {
     }
 }
 
-/// An element that goes over many bytes, with its products with the nibbles at each of the four places of a word: for
-/// `Gf::mul_add_by`.
+/// An element prepared for many bytes, for `Gf::mul_add_by`: its products with the nibbles at each of the four places
+/// of a word.
 #[derive(Drop)]
 pub struct Factor {
     first: NibbleProducts,
@@ -55,11 +56,13 @@ impl Model for Factor {
 
     ghost view = { λ f. f.first.element };
 
-    ghost invariant = { λ f. (f.second.element ≡ mul f.first.element 16) × (f.third.element ≡ mul f.first.element 256) × (f.fourth.element ≡ mul f.first.element 4096) };
+    ghost invariant = { λ f. (f.second.element ≡ mul f.first.element 16)
+        × (f.third.element ≡ mul f.first.element 256)
+        × (f.fourth.element ≡ mul f.first.element 4096) };
 }
 
 impl Factor {
-    /// Computes the products with the nibbles.
+    /// Prepares the element: computes its products with the nibbles at each place of a word.
     #[inline(always)]
     pub fn new(element: u16) -> Factor
         ensures { result ≡ element }
@@ -75,6 +78,7 @@ impl Factor {
         }
     }
 
+    /// The element, for the products of words that aren't in whole blocks.
     #[inline(always)]
     pub(crate) fn element(&self) -> u16
         ensures { result ≡ self.now }
@@ -82,7 +86,7 @@ impl Factor {
         self.first.element
     }
 
-    // the lower bytes of the products of words
+    // The lower bytes of the products of the element and the thirty-two words that have these nibbles.
     #[inline(always)]
     fn lower_bytes(&self, nibbles: Nibbles) -> u8x32
         ensures value { (low high : List ℕ) → AreNibbles low high nibbles
@@ -98,7 +102,7 @@ impl Factor {
         )
     }
 
-    // the higher bytes of the products of words
+    // The higher bytes of the products of the element and the thirty-two words that have these nibbles.
     #[inline(always)]
     fn higher_bytes(&self, nibbles: Nibbles) -> u8x32
         ensures { (low high : List ℕ) → AreNibbles low high nibbles
@@ -113,7 +117,7 @@ impl Factor {
         )
     }
 
-    // adds the products for the thirty-two words from word n on
+    /// Adds the element times each of the thirty-two words of `src` from word n on to the word of `dst` there.
     #[inline(always)]
     pub(crate) fn add_block(&self, src: &[u8], dst: &mut [u8], n: usize)
         requires fits { 2 * n + 64 ≤ length dst.old }
@@ -123,7 +127,7 @@ impl Factor {
         self.add_nibbles(nibbles_at(src, n), dst, n);
     }
 
-    // adds the products for the thirty-two words from word n on, which have these nibbles
+    /// Adds the element times thirty-two words, which have these nibbles, to the words of `dst` from word n on.
     #[inline(always)]
     pub(crate) fn add_nibbles(&self, nibbles: Nibbles, dst: &mut [u8], n: usize)
         requires fits { 2 * n + 64 ≤ length dst.old }
@@ -139,7 +143,7 @@ impl Factor {
     }
 }
 
-// the nibbles of the thirty-two words from word n on
+/// The nibbles of the thirty-two words from word n on.
 #[inline(always)]
 pub(crate) fn nibbles_at(src: &[u8], n: usize) -> Nibbles
     requires { 2 * n + 64 ≤ length src.now }
@@ -149,6 +153,7 @@ pub(crate) fn nibbles_at(src: &[u8], n: usize) -> Nibbles
     Nibbles::new(low, high)
 }
 
+// The product of 16 and the element x: a nibble at the next place is 16 times as much.
 #[inline(always)]
 fn sixteen_times(x: u16) -> u16
     ensures { result ≡ mul x 16 }
@@ -156,7 +161,8 @@ fn sixteen_times(x: u16) -> u16
     doubled(doubled(doubled(doubled(x))))
 }
 
-// the sum of what stands in four tables at the nibbles of words
+// The sum of four tables' entries at the nibbles of words. `first` and `second` are looked up at the lower and the
+// higher nibble of the low byte, `third` and `fourth` at those of the high byte.
 #[inline(always)]
 fn four_looked_up(first: u8x32, second: u8x32, third: u8x32, fourth: u8x32, at: Nibbles) -> u8x32
     ensures { (f g h k : ℕ → ℕ) (low high : List ℕ) → IsTable f first

@@ -1,4 +1,4 @@
-//! Operations on vectors, lane by lane.
+//! Operations on vectors, lane by lane. `Factor` computes its tables and its products with them.
 
 ghost use Rattle.std.specs.Prelude.{◌≡◌, ℕ, ◌+◌, ◌*◌, ◌/◌, ◌%◌, ◌^◌, ◌++◌, ◌<◌, ◌≤◌, length, slice_index, map, take, drop, bit_xor};
 ghost use Rattle.std.specs.Simd.Lanes.{zip2, Each1};
@@ -8,7 +8,7 @@ ghost use Rattle.par2_gf16.specs.Steps.{IsTable, IsInterleaving, AddsLanes};
 use crate::doubling::doubled;
 use std::simd::prelude::*;
 
-// k is added to the sum where the lowest bit of the lane is set
+// Adds k to the sum in the lanes of v whose lowest bit is set: a step of `product_lanes`.
 #[inline(always)]
 fn select_add(sum: u16x16, v: u16x16, k: u16) -> u16x16
     ensures { result ≡ zip2 (λ s x. bit_xor s (x % 2 * k)) sum v }
@@ -18,6 +18,7 @@ fn select_add(sum: u16x16, v: u16x16, k: u16) -> u16x16
     sum ^ odd.select(u16x16::splat(k), u16x16::splat(0))
 }
 
+// Each lane divided by 2, rounded down.
 #[inline(always)]
 fn halved(v: u16x16) -> u16x16
     ensures { result ≡ map (λ x. x / 2) v }
@@ -25,6 +26,7 @@ fn halved(v: u16x16) -> u16x16
     v >> u16x16::splat(1)
 }
 
+// A zero for each lane of `v`, which isn't read.
 #[inline(always)]
 fn zeros(v: u16x16) -> u16x16
     ensures { result ≡ map (λ _. 0) v }
@@ -32,8 +34,7 @@ fn zeros(v: u16x16) -> u16x16
     u16x16::splat(0)
 }
 
-// The sum of the copies of c, each doubled as often as its bit of the lane calls for: as many steps as the lanes have
-// bits.
+/// The product of c and each lane, by doubling and adding: one step for each of the `bits` bits that a lane may have.
 #[inline(always)]
 pub(crate) fn product_lanes(c: u16, v: u16x16, bits: u32) -> u16x16
     requires few { bits ≤ 16 }
@@ -51,6 +52,7 @@ pub(crate) fn product_lanes(c: u16, v: u16x16, bits: u32) -> u16x16
     sum
 }
 
+/// The lanes of v, twice.
 #[inline(always)]
 pub(crate) fn twice(v: u16x16) -> u16x32
     ensures { result ≡ v ++ v }
@@ -61,6 +63,7 @@ pub(crate) fn twice(v: u16x16) -> u16x32
     ])
 }
 
+/// The lower byte of each lane.
 #[inline(always)]
 pub(crate) fn lower_bytes(v: u16x32) -> u8x32
     ensures { result ≡ map (λ x. x % 256) v }
@@ -68,6 +71,7 @@ pub(crate) fn lower_bytes(v: u16x32) -> u8x32
     (v & u16x32::splat(255)).cast::<u8>()
 }
 
+/// The higher byte of each lane.
 #[inline(always)]
 pub(crate) fn higher_bytes(v: u16x32) -> u8x32
     ensures { result ≡ map (λ x. x / 256) v }
@@ -75,7 +79,7 @@ pub(crate) fn higher_bytes(v: u16x32) -> u8x32
     (v >> u16x32::splat(8)).cast::<u8>()
 }
 
-// the lower nibble of each lane
+/// The lower nibble of each lane.
 #[inline(always)]
 pub(crate) fn low_nibbles(v: u8x32) -> u8x32
     ensures value { result ≡ map (λ x. x % 16) v }
@@ -84,7 +88,7 @@ pub(crate) fn low_nibbles(v: u8x32) -> u8x32
     v & u8x32::splat(15)
 }
 
-// the higher nibble of each lane
+/// The higher nibble of each lane.
 #[inline(always)]
 pub(crate) fn high_nibbles(v: u8x32) -> u8x32
     ensures value { result ≡ map (λ x. x / 16) v }
@@ -93,7 +97,7 @@ pub(crate) fn high_nibbles(v: u8x32) -> u8x32
     v >> u8x32::splat(4)
 }
 
-// looks each lane up
+/// For each lane, the table's entry at the lane's nibble. `IsTable`: a table of a function at each nibble, twice.
 #[inline(always)]
 pub(crate) fn looked_up(table: u8x32, v: u8x32) -> u8x32
     requires { (i : ℕ) → slice_index v i < 16 }
@@ -102,6 +106,7 @@ pub(crate) fn looked_up(table: u8x32, v: u8x32) -> u8x32
     table.swizzle_dyn_within::<16>(v)
 }
 
+/// The exclusive or in each lane, which is the sum of elements.
 #[inline(always)]
 pub(crate) fn sum(a: u8x32, b: u8x32) -> u8x32
     ensures { result ≡ zip2 bit_xor a b }
@@ -109,6 +114,7 @@ pub(crate) fn sum(a: u8x32, b: u8x32) -> u8x32
     a ^ b
 }
 
+/// The thirty-two bytes from byte `at` on.
 #[inline(always)]
 pub(crate) fn vector_at(bytes: &[u8], at: usize) -> u8x32
     requires { at + 32 ≤ length bytes.now }
@@ -118,7 +124,7 @@ pub(crate) fn vector_at(bytes: &[u8], at: usize) -> u8x32
     u8x32::from_slice(&bytes[at..])
 }
 
-// the lower and the higher bytes of the thirty-two words from byte `at` on
+/// The lower and the higher bytes of the thirty-two words from byte `at` on.
 #[inline(always)]
 pub(crate) fn words_at(bytes: &[u8], at: usize) -> (u8x32, u8x32)
     requires { at + 64 ≤ length bytes.now }
@@ -128,6 +134,7 @@ pub(crate) fn words_at(bytes: &[u8], at: usize) -> (u8x32, u8x32)
     (lower_bytes(words), higher_bytes(words))
 }
 
+/// The thirty-two words with these lower and higher bytes, sixteen in each of two vectors.
 #[inline(always)]
 pub(crate) fn interleaved(low: u8x32, high: u8x32) -> (u8x32, u8x32)
     ensures { IsInterleaving low high (result.0 ++ result.1) }
@@ -135,7 +142,7 @@ pub(crate) fn interleaved(low: u8x32, high: u8x32) -> (u8x32, u8x32)
     low.interleave(high)
 }
 
-// adds a vector to the bytes from `at` on
+/// Adds a vector to the thirty-two bytes from byte `at` on.
 #[inline(always)]
 pub(crate) fn add_vector(dst: &mut [u8], at: usize, v: u8x32)
     requires { at + 32 ≤ length dst.old }

@@ -1,4 +1,4 @@
-//! The nibbles of thirty-two words.
+//! The nibbles of thirty-two words: the places at which `Factor` looks products up.
 
 ghost use Rattle.std.specs.Prelude.{◌≡◌, ℕ, ◌<◌, ◌/◌, ◌%◌, map, slice_index};
 ghost use Rattle.std.specs.Simd.Lanes.{Each1};
@@ -6,7 +6,7 @@ ghost use Rattle.std.specs.Simd.Lanes.{Each1};
 use crate::lanes;
 use std::simd::prelude::*;
 
-/// The nibbles of thirty-two words, those at each of the four places of a word in a vector.
+/// The nibbles of thirty-two words: a vector for each of the four places in a word.
 #[derive(Clone, Copy, Drop)]
 pub(crate) struct Nibbles {
     pub(crate) first: u8x32,
@@ -20,13 +20,15 @@ pub(crate) struct Nibbles {
 }
 
 impl Nibbles {
-    /// Those of the words with these lower and higher bytes.
+    /// The nibbles of the words with these lower and higher bytes.
     #[inline(always)]
     pub(crate) fn new(low: u8x32, high: u8x32) -> Nibbles
+        // From the lowest nibbles to the highest.
         ensures first { result.first ≡ map (λ x. x % 16) low }
         ensures second { result.second ≡ map (λ x. x / 16) low }
         ensures third { result.third ≡ map (λ x. x % 16) high }
         ensures fourth { result.fourth ≡ map (λ x. x / 16) high }
+        // For the prover: both vectors hold bytes.
         ensures low_fits { Each1 (λ x. x < 256) low }
         ensures high_fits { Each1 (λ x. x < 256) high }
     {

@@ -1,7 +1,7 @@
 //! The field by tables of logarithms and powers.
 
 ghost use Rattle.std.specs.Prelude.{◌≡◌, ◌<◌, ◌≤◌, ◌↔◌, ◌+◌, ◌*◌, ◌/◌, ◌%◌, length, slice_index, IfOk, IfSome, IsNone};
-ghost use Rattle.par2_spec.specs.Field.{mul, pow, constant, is_spared};
+ghost use Rattle.par2_spec.specs.Field.{mul, pow, constant, is_coprime};
 ghost use Rattle.par2_gf16.specs.Products.{IsInverse, AddsProducts};
 ghost use Rattle.par2_gf16.specs.Steps.{AddsWithin};
 ghost use Rattle.par2_gf16.specs.Tables.{AreTables};
@@ -13,19 +13,20 @@ use crate::words::{add_at, word_at};
 use par2_spec::Result;
 use std::alloc::Global;
 
-/// How many powers of 2 there are, which is how many elements but zero.
+// The order of 2, whose powers are all elements but zero.
 const ORDER: u16 = 65535;
 
-/// How many constants there are.
+// The number of slice constants: this many exponents below 65,535 are coprime to it (PAR2 2.0).
 const CONSTANTS: u32 = 32768;
 
-// The length is a variable, so that no search computes a list of that length.
+// `n` zeros. For the prover: the length is a variable, so that no search computes a list of that length.
 fn blank(alloc: Global, n: usize) -> Result<Vec<u16>>
     ensures { IfOk result (λ v. length v.items ≡ n) }
 {
     vec![in alloc; 0u16; n]
 }
 
+// The entry of a table at `place`.
 #[inline(always)]
 fn entry(table: &[u16], place: usize) -> u16
     requires { place < length table.now }
@@ -34,15 +35,15 @@ fn entry(table: &[u16], place: usize) -> u16
     table[place]
 }
 
-// whether the constants have this power of 2 among them
+// Whether 2 ^ n is a slice constant, which means that `n` is coprime to 65,535 (PAR2 2.0).
 fn is_constant_power(n: u16) -> bool
-    ensures { result ≡ is_spared n }
+    ensures { result ≡ is_coprime n }
 {
     n % 3 != 0 && n % 5 != 0 && n % 17 != 0 && n % 257 != 0
 }
 
-/// The field, with tables of the powers of 2, of their logarithms and of the constants of input slices. They take
-/// some 450 KB.
+/// The field, with tables of the powers of 2, their logarithms and the constants of input slices. The tables take about
+/// 450 KB.
 #[derive(Drop)]
 pub struct Gf {
     logs: Vec<u16>,
@@ -52,7 +53,7 @@ pub struct Gf {
 }
 
 impl Gf {
-    /// Fills the tables.
+    /// Fills the tables. Fails only when memory runs out.
     pub fn new(alloc: Global) -> Result<Gf> {
         let mut logs = blank(alloc, 65536)?;
         let mut powers = Vec::new(alloc);
@@ -87,7 +88,7 @@ impl Gf {
         self.power(self.log(a) as usize + self.log(b) as usize)
     }
 
-    /// The product of `e` copies of `a`: 1 where `e` is 0.
+    /// `a` to the power `e`, which is 1 if `e` is 0, even for zero.
     pub fn pow(&self, a: u16, e: u32) -> u16
         ensures { result ≡ pow a e }
     {
@@ -101,7 +102,7 @@ impl Gf {
         self.power(exponent as usize)
     }
 
-    /// The element whose product with `a` is 1, which zero alone does not have.
+    /// The multiplicative inverse of `a`; None for zero, which has none.
     pub fn inv(&self, a: u16) -> Option<u16>
         ensures none { IsNone result ↔ (a ≡ 0) }
         ensures inverse { IfSome result (IsInverse a) }
@@ -113,7 +114,8 @@ impl Gf {
         }
     }
 
-    /// What input slice `k`, counted from 0, is multiplied by in the recovery slice of exponent 1. There are 32,768.
+    /// The constant of input slice `k`, counted from 0: its factor in the recovery slice of exponent 1. There are
+    /// 32,768 constants.
     pub fn constant(&self, k: u32) -> Option<u16>
         ensures none { IsNone result ↔ (32768 ≤ k) }
         ensures value { IfSome result (λ c. c ≡ constant k) }
@@ -125,8 +127,8 @@ impl Gf {
         }
     }
 
-    /// To each word of `dst`, the lower byte first, adds the product of `c` and the word of `src`. The factor is made for
-    /// these bytes alone.
+    /// Adds to each little-endian word of `dst` the product of `c` and the word of `src`. It computes a factor for
+    /// these bytes alone. Only tests and benchmarks call it.
     pub fn mul_add(&self, c: u16, src: &[u8], dst: &mut [u8])
         requires same { length src.now ≡ length dst.old }
         requires even { length dst.old % 2 ≡ 0 }
@@ -135,8 +137,8 @@ impl Gf {
         self.mul_add_by(&Factor::new(c), src, dst);
     }
 
-    /// To each word of `dst`, the lower byte first, adds the product of the factor and the word of `src`. This is for
-    /// one factor that goes over many texts: it takes some tens of nanoseconds to make.
+    /// Adds to each little-endian word of `dst` the product of the factor and the word of `src`. Use it for one factor
+    /// over many buffers: a factor takes some tens of nanoseconds to compute.
     pub fn mul_add_by(&self, factor: &Factor, src: &[u8], dst: &mut [u8])
         requires same { length src.now ≡ length dst.old }
         requires even { length dst.old % 2 ≡ 0 }
@@ -149,18 +151,25 @@ impl Gf {
         self.add_words(factor.element(), src, dst, 32 * blocks, dst.len() / 2);
     }
 
-    /// Adds the product of the factor and each of the text's words to the word of `dst` at its place. This is for texts
-    /// that go to many targets: what can be done without the factor is done once, in the columns.
+    /// Adds the product of the factor and each word of the columns to the word of `dst` at the same position. Use it
+    /// for buffers that go to many targets: the work without the factor is done once, in the columns.
     pub fn mul_add_columns(&self, factor: &Factor, columns: &Columns, dst: &mut [u8])
         requires room { 2 * columns.now.to ≤ length dst.old }
-        ensures { AddsWithin factor.now columns.now.text dst.old dst.new
+        ensures { AddsWithin factor.now columns.now.bytes dst.old dst.new
             columns.now.from columns.now.to }
     {
         let behind = columns.add_blocks(factor, dst);
-        self.add_words(factor.element(), columns.text(), dst, behind, columns.end());
+        self.add_words(
+            factor.element(),
+            columns.bytes(),
+            dst,
+            behind,
+            columns.end(),
+        );
     }
 
-    // Adds the products for the words from one place up to another. Zeros follow a source that ends sooner.
+    // Adds c times each of the words `from` up to `to` of `src` to the word of `dst` there, one by one: for the words
+    // after the last whole block. Words past the end of the source are zero.
     fn add_words(&self, c: u16, src: &[u8], dst: &mut [u8], from: usize, to: usize)
         requires order { from ≤ to }
         requires room { 2 * to ≤ length dst.old }
@@ -172,7 +181,7 @@ impl Gf {
         }
     }
 
-    // adds the product for word i
+    // Adds c times word i of `src` to word i of `dst`.
     fn add_word(&self, c: u16, src: &[u8], dst: &mut [u8], i: usize)
         requires source { 2 * i < length src.now }
         requires room { 2 * i + 1 < length dst.old }
@@ -182,6 +191,7 @@ impl Gf {
         add_at(dst, 2 * i, p);
     }
 
+    // The logarithm of `a`: the exponent, below 65,535, of the power of 2 that is `a`.
     #[inline(always)]
     fn log(&self, a: u16) -> u16
         requires { 0 < a }
@@ -191,6 +201,7 @@ impl Gf {
         entry(&self.logs, a as usize)
     }
 
+    // 2 to the power `n`, from the table, which reaches as far as the sum of two logarithms.
     #[inline(always)]
     fn power(&self, n: usize) -> u16
         requires { n < 131070 }

@@ -3,7 +3,7 @@
 ghost use Rattle.std.specs.Prelude.{◌≡◌, ◌+◌, ◌*◌, ◌/◌, ◌%◌, ◌<◌, length, slice_index, slice_set, bit_xor};
 ghost use Rattle.par2_spec.specs.Slices.{word};
 
-// adds p to the word at byte `at`
+/// Adds p, by exclusive or, to the word at byte `at`.
 #[inline(always)]
 pub(crate) fn add_at(dst: &mut [u8], at: usize, p: u16)
     requires { at + 1 < length dst.old }
@@ -16,7 +16,7 @@ pub(crate) fn add_at(dst: &mut [u8], at: usize, p: u16)
     dst[at + 1] ^= high;
 }
 
-// Word i. Zero follows a last byte that is half a word.
+/// Word i of the bytes. A last byte that is half a word is padded with a zero byte.
 #[inline(always)]
 pub(crate) fn word_at(src: &[u8], i: usize) -> u16
     requires { 2 * i < length src.now }

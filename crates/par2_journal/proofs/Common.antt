@@ -14,10 +14,10 @@ pub use Rattle.std.specs.declared.alloc.Global.{Global}
 pub use Rattle.par2_files.specs.Views.{change_of}
 pub use Rattle.par2_journal.specs.Ahead.{IsAhead, next_changes}
 pub use Rattle.par2_journal.specs.Along.{AreAlong, ArePrintsAlong, Prints, prints_of}
-pub use Rattle.par2_journal.specs.Opening.{AnswersOpening, AnswersWhere, IsToldWhere, OpensAsIs, go_through, session_after_way, session_at}
+pub use Rattle.par2_journal.specs.Opening.{AnswersOpening, AnswersWhere, IsReportedWhere, OpensAsIs, go_through, session_after_way, session_at}
 pub use Rattle.par2_journal.specs.Ready.{CanBe, Changing, Fits, HasPrintsOf, IsKindOf, IsReady, Kind, Ready, Redoing, Undoing, after_commit, changes_by_kind, next_of}
 pub use Rattle.par2_journal.specs.Sessions.{kept_session}
-pub use Rattle.par2_journal.specs.Spelling.{Add, AreSpelled, HasNext, Replace, SpellsAction, SpellsReady, SpellsTurn, SpellsWhere, Turn, entries_with, halfway_with, settled_with, turn_of}
+pub use Rattle.par2_journal.specs.Spelling.{Add, AreSpelled, HasNext, Replace, SpellsAction, SpellsReady, SpellsHistoryStep, SpellsWhere, HistoryStep, entries_with, halfway_with, settled_with, history_step_of}
 pub use Rattle.par2_journal.specs.Walks.{AreNamesOf, IsSet, WentForth, names_in}
 pub use Rattle.par2_journal.specs.declared.ahead.Next.{Next}
 pub use Rattle.par2_journal.specs.declared.spelling.Fingerprints.{Fingerprints}
@@ -34,10 +34,10 @@ pub use Rattle.par2_spec.specs.History.{Accepted, Ended, History, IsChanging, Ma
 pub use Rattle.par2_spec.specs.Journals.{HalfwayPart, Journal, Spells}
 pub use Rattle.par2_spec.specs.Opening.{halfway_where, is_valid, opened_by_part}
 unfoldable pub use Rattle.par2_spec.specs.Opening.{halfway_journal, journals_of, leads, leads_through, settled_journal}
-pub use Rattle.par2_spec.specs.Plans.{LeadsToAfterAsked}
+pub use Rattle.par2_spec.specs.Plans.{LeadsToAfterRequested}
 pub use Rattle.par2_spec.specs.Refusals.{after, early_refusal, refusal}
 pub use Rattle.par2_spec.specs.Sessions.{CanWalk, KeptSession, OnlyGrew, Session, changes_unless, first_entry, history_of, others, session_of_kept, session_unless, session_with}
-unfoldable pub use Rattle.par2_spec.specs.Sessions.{changes_asked, kept_done, kept_redone, kept_undone, session_after, walks}
-pub use Rattle.par2_spec.specs.Texts.{Step, step_of}
+unfoldable pub use Rattle.par2_spec.specs.Sessions.{changes_requested, kept_done, kept_redone, kept_undone, session_after, walks}
+pub use Rattle.par2_spec.specs.Output.{Step, step_of}
 pub use Rattle.par2_spec.specs.Views.{action_of, create_args_of}
 pub use Rattle.par2_spec.specs.declared.Version.TheVariants.{Two}

@@ -1,4 +1,4 @@
--- The entries of a session before and after one of them was turned.
+-- The entries of a session before and after one of them is replaced by its inverse.
 use Rattle.par2_journal.proofs.Common.{map, ◌≡◌, ℕ, ◌+◌, ◌<◌, ◌≤◌, List, [], ◌∷◌, ◌++◌, length, get_or, set, take, drop, sym, ap, ◌∙◌, arith, length-take, drop_more, length-map, get_or-map, take_all, drop_all, take_more, take_more_set, take-set, reverse-append, drop-set-lt, reverse, insert}
 use Rattle.std.proofs.lemmas.List.Edits.{insert_end, length-insert}
 
@@ -33,6 +33,6 @@ module _ {X : Type 0} (xs : List X) (i : ℕ) (within : i ≤ length xs) (y : X)
   pub redos_added : drop (i + 1) (insert (take i xs) i y) ≡ []
   redos_added = drop_all (i + 1) (insert (take i xs) i y) (omega (arith, length_added))
 
--- what stands at i, of the values of a list from there on
+-- the item at i, and the items after it
 pub left_at : {W X : Type 0} (v : W → X) (xs : List W) (i : ℕ) → i < length xs → (w : W) → w ≡ get_or xs i w → drop i (map v xs) ≡ v w ∷ drop (i + 1) (map v xs)
 left_at v xs i lt w is = drop_more (map v xs) i (v w) (omega (arith, lt, length-map xs v)) ∙ ap (λ x. x ∷ drop (i + 1) (map v xs)) (get_or-map v xs i w (v w) lt ∙ ap v (sym is))

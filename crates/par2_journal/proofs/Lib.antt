@@ -1,6 +1,6 @@
 mod Common
 mod Entries
-mod Turns
+mod HistorySteps
 mod Readiness
 pub mod Actions
 pub mod SessionJournals

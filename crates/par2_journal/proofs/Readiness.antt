@@ -1,5 +1,5 @@
--- What is asked of a session, and what it makes ready.
-use Rattle.par2_journal.proofs.Common.{Action, Command, Do, Undo, Redo, Repair, ◌≡◌, ◌≢◌, inl, inr, ℕ, Bool, ◌<◌, ◌≤◌, List, [], ◌∷◌, length, map, None, Some, IsTrue, Result, Ok, Err, true, refl, sym, ap, subst, ◌∙◌, arith, nil_from_length, IfOk, IfErr, IsErrAnd, MatchResult, Change, Write, Rename, Remove, places_taken, are_applicable, effects, FolderState, Folder, LeadsToAfterAsked, KeptSession, OnlyGrew, session_of_kept, changes_unless, first_entry, changes_asked, Step, step_of, takes_applicable, AreAlong, prints_of, Fingerprints, Kind, Ready, Changing, Undoing, Redoing, CanBe, Fits, HasPrintsOf, IsKindOf, IsReady, changes_by_kind, next_of, IsChanging, refusal, after, early_refusal, HasItsMd5s, IsDraft, Draft}
+-- Actions that a session prepares.
+use Rattle.par2_journal.proofs.Common.{Action, Command, Do, Undo, Redo, Repair, ◌≡◌, ◌≢◌, inl, inr, ℕ, Bool, ◌<◌, ◌≤◌, List, [], ◌∷◌, length, map, None, Some, IsTrue, Result, Ok, Err, true, refl, sym, ap, subst, ◌∙◌, arith, nil_from_length, IfOk, IfErr, IsErrAnd, MatchResult, Change, Write, Rename, Remove, places_taken, are_applicable, effects, FolderState, Folder, LeadsToAfterRequested, KeptSession, OnlyGrew, session_of_kept, changes_unless, first_entry, changes_requested, Step, step_of, takes_applicable, AreAlong, prints_of, Fingerprints, Kind, Ready, Changing, Undoing, Redoing, CanBe, Fits, HasPrintsOf, IsKindOf, IsReady, changes_by_kind, next_of, IsChanging, refusal, after, early_refusal, HasItsMd5s, IsDraft, Draft}
 use Rattle.par2_journal.specs.Commands.{MakesReady, Prepares}
 use Rattle.par2_spec.specs.Changes.{Replace}
 use Rattle.par2_spec.specs.Plans as plans
@@ -13,31 +13,31 @@ use Rattle.par2_journal.specs.declared.preparation.SessionFault.TheVariants.{Pla
 
 -- a fault of the plan is one of the session
 refused_plan : (s : KeptSession) (command : Command) (fault : Fault) → MayFail command s fault → MayRefuse (Do command) s (Plan fault)
-unfolding changes_asked
+unfolding changes_requested
 refused_plan s command fault (inl memory) = inl (ap Plan memory)
 refused_plan s command fault (inr cause) = inr (ap (λ r. changes_unless r (plans.changes_of s.folder.files command)) cause)
 
--- what makes a command ready, or refuses it, answers its action
+-- a command's result is its action's
 pub prepares : (made : Result Ready Fault) (r : Result Ready SessionFault) (old new : KeptSession) (command : Command) (action : Action) → action ≡ Do command
     → MatchResult made (λ ready. r ≡ Ok ready) (λ fault. IsErrAnd r (λ e. e ≡ Plan fault)) → MakesReady command old new made → Prepares action old new r
-prepares (Ok ready) r old new command action asked is made = subst (λ (p : Action × Result Ready SessionFault). Prepares p.0 old new p.1) (λ i. (sym asked i, sym is i)) (record {
+prepares (Ok ready) r old new command action requested is made = subst (λ (p : Action × Result Ready SessionFault). Prepares p.0 old new p.1) (λ i. (sym requested i, sym is i)) (record {
   kept = made.kept;
   ready = made.ready;
   leads = made.leads;
   refused = tt;
   early = λ fault first. let same = made.early fault first in absurd (cc);
-  nothing_to_undo = λ asked none. absurd (cc);
-  nothing_to_redo = λ asked none. absurd (cc);
+  nothing_to_undo = λ requested none. absurd (cc);
+  nothing_to_redo = λ requested none. absurd (cc);
 })
-prepares (Err fault) (Ok ready) old new command action asked is made = absurd is
-prepares (Err fault) (Err e) old new command action asked is made = subst (λ (a : Action). Prepares a old new (Err e)) (sym asked) (record {
+prepares (Err fault) (Ok ready) old new command action requested is made = absurd is
+prepares (Err fault) (Err e) old new command action requested is made = subst (λ (a : Action). Prepares a old new (Err e)) (sym requested) (record {
   kept = made.kept;
   ready = tt;
   leads = tt;
   refused = subst (MayRefuse (Do command) old) (sym is) (refused_plan old command fault made.refused);
   early = λ found first. let same = made.early found first in cc;
-  nothing_to_undo = λ asked none. absurd (cc);
-  nothing_to_redo = λ asked none. absurd (cc);
+  nothing_to_undo = λ requested none. absurd (cc);
+  nothing_to_redo = λ requested none. absurd (cc);
 })
 
 -- each write takes one place
@@ -53,33 +53,33 @@ pub can_change : (old new : KeptSession) (changes : List Change) → OnlyGrew ol
 can_change old new changes grew applies room entry =
     (takes_applicable new.folder changes (ap (λ f. are_applicable f changes) grew.files ∙ applies) (omega (arith, places_within changes, room)), entry)
 
--- changes that lead where the definitions say are those of the command
-leads_asked_by : (folder : Folder) (command : Command) (changes : List Change) → changes ≡ plans.changes_of folder command → are_applicable folder changes ≡ true → effects folder changes ≡ after folder command
-    → LeadsToAfterAsked folder (Do command)
-leads_asked_by folder command changes are applies leads = λ accepted. (
+-- changes that lead to the folder of the definitions are those of the command
+leads_requested_by : (folder : Folder) (command : Command) (changes : List Change) → changes ≡ plans.changes_of folder command → are_applicable folder changes ≡ true → effects folder changes ≡ after folder command
+    → LeadsToAfterRequested folder (Do command)
+leads_requested_by folder command changes are applies leads = λ accepted. (
   subst (λ (cs : List Change). IsTrue (are_applicable folder cs)) are applies,
   ap (effects folder) (sym are) ∙ leads,
 )
 
--- an accepted command, of which the changes were made ready, as it was planned on the folder
+-- an accepted command, planned on the folder as it was, whose changes are ready
 module _ (old new : KeptSession) (command : Command) (changes : List Change) (changing : IsChanging (Do command)) (grew : OnlyGrew old new)
     (on : FolderState) (same : on ≡ old.folder) (accepted : refusal on.files command ≡ None) (are : changes ≡ plans.changes_of on.files command) where
   ready_command : (ready : Ready) → ready.kind ≡ Changing changes → Fits ready new → HasPrintsOf new ready → IsReady (Do command) old ready new
-  unfolding changes_asked
+  unfolding changes_requested
   ready_command ready is fits prints =
       let kind : IsKindOf (Do command) ready.kind = subst (IsKindOf (Do command)) (sym is) tt in
-      let asked : changes_asked (session_of_kept old) (Do command) ≡ Ok (changes_by_kind ready.kind old) =
+      let requested : changes_requested (session_of_kept old) (Do command) ≡ Ok (changes_by_kind ready.kind old) =
       ap (λ r. changes_unless r (plans.changes_of old.folder.files command)) (subst (λ (f : FolderState). refusal f.files command ≡ None) same accepted)
       ∙ ap Ok (sym (subst (λ (f : FolderState). changes ≡ plans.changes_of f.files command) same are) ∙ ap (λ k. changes_by_kind k old) (sym is)) in
       record {
         fits = fits;
         prints = prints;
         kind = kind;
-        asked = asked;
-        leads = command_done old new command ready.kind changing grew kind asked;
+        requested = requested;
+        leads = command_done old new command ready.kind changing grew kind requested;
       }
 
-  -- where nothing was found before memory was taken
+  -- no cause was found before memory was taken
   pub plan_ready : IsTrue (are_applicable on.files changes) → effects on.files changes ≡ after on.files command
       → ((fault : Fault) → early_refusal on.files command ≡ Some fault → ⊥)
       → (r : Result Ready Fault) → IfOk r (λ ready. ready.kind ≡ Changing changes) → IfOk r (λ ready. Fits ready new) → IfOk r (HasPrintsOf new) → IfErr r (λ fault. fault ≡ Memory)
@@ -87,7 +87,7 @@ module _ (old new : KeptSession) (command : Command) (changes : List Change) (ch
   plan_ready applies leads early (Ok ready) is fits prints memory = record {
     kept = grew;
     ready = ready_command ready is fits prints;
-    leads = subst (λ (f : FolderState). LeadsToAfterAsked f.files (Do command)) same (leads_asked_by on.files command changes are applies leads);
+    leads = subst (λ (f : FolderState). LeadsToAfterRequested f.files (Do command)) same (leads_requested_by on.files command changes are applies leads);
     refused = tt;
     early = λ fault found. absurd (early fault (subst (λ (f : FolderState). early_refusal f.files command ≡ Some fault) (sym same) found));
   }
@@ -99,21 +99,21 @@ module _ (old new : KeptSession) (command : Command) (changes : List Change) (ch
     early = λ fault found. absurd (early fault (subst (λ (f : FolderState). early_refusal f.files command ≡ Some fault) (sym same) found));
   }
 
--- a draft that was tested, with the fingerprints along its changes
+-- a draft with the described MD5s, and the fingerprints along its changes
 pub draft_ready : (old new : KeptSession) (base : List ℕ) (extras : List (List ℕ)) (purge : Bool) (draft : Draft) (changes : List Change) (steps : List Step) (prints : Fingerprints) → OnlyGrew old new
     → IsDraft old.folder.files base extras purge draft → HasItsMd5s draft → changes ≡ draft.changes → CanBe (Changing draft.changes) new → steps ≡ map step_of draft.changes → AreAlong new.folder.files draft.changes prints
     → ((fault : Fault) → early_refusal old.folder.files (Repair base extras purge) ≡ Some fault → ⊥)
     → MakesReady (Repair base extras purge) old new (Ok (record { kind = Changing changes; steps = steps; known = Some (prints_of prints) }))
-draft_ready old new base extras purge draft changes steps prints grew is has same can told along early =
+draft_ready old new base extras purge draft changes steps prints grew is has same can reported along early =
     let ready : Ready = record { kind = Changing changes; steps = steps; known = Some (prints_of prints) } in
     let fits : Fits ready new = record {
       can = subst (λ (cs : List Change). CanBe (Changing cs) new) (sym same) can;
-      steps = told ∙ ap (map step_of) (sym same);
+      steps = reported ∙ ap (map step_of) (sym same);
     } in
     plan_ready old new (Repair base extras purge) changes tt grew old.folder refl (is.accepted has) (same ∙ is.changes) (subst (λ (cs : List Change). IsTrue (are_applicable old.folder.files cs)) (sym same) is.applies)
     (ap (effects old.folder.files) same ∙ is.leads) early (Ok ready) refl fits (subst (λ (cs : List Change). AreAlong new.folder.files cs prints) (sym same) along) tt
 
--- a repair is refused whose draft has a wrong MD5
+-- a draft with a wrong MD5 is refused
 pub draft_refused : (r : Result Ready Fault) (old new : KeptSession) (base : List ℕ) (extras : List (List ℕ)) (purge : Bool) (draft : Draft) (fault : Fault) → (y : Fault) × (r ≡ Err y) × (y ≡ fault) → OnlyGrew old new
     → IsDraft old.folder.files base extras purge draft → ¬ (HasItsMd5s draft) → fault ≡ RepairFailed → ((fault : Fault) → early_refusal old.folder.files (Repair base extras purge) ≡ Some fault → ⊥)
     → MakesReady (Repair base extras purge) old new r
@@ -127,34 +127,34 @@ draft_refused r old new base extras purge draft fault p grew is lacks same early
     })
 
 pub nothing_to_undo : (s : KeptSession) → length s.undos ≡ 0 → MayRefuse Undo s NothingToUndo
-unfolding changes_asked
+unfolding changes_requested
 nothing_to_undo s none = inr (ap (first_entry history.NothingToUndo) (nil_from_length s.undos none))
 
 pub nothing_to_redo : (s : KeptSession) → length s.redos ≡ 0 → MayRefuse Redo s NothingToRedo
-unfolding changes_asked
+unfolding changes_requested
 nothing_to_redo s none = inr (ap (first_entry history.NothingToRedo) (nil_from_length s.redos none))
 
 pub ready_undo : (s : KeptSession) (steps : List Step) → s.undos ≢ [] → steps ≡ map step_of (next_of s.undos) → IsReady Undo s (record { kind = Undoing; steps = steps; known = None }) s
-unfolding changes_asked
-ready_undo s steps some told = record {
-  fits = record { can = some; steps = told };
+unfolding changes_requested
+ready_undo s steps some reported = record {
+  fits = record { can = some; steps = reported };
   prints = tt;
   kind = tt;
-  asked = first_is_next history.NothingToUndo s.undos some;
+  requested = first_is_next history.NothingToUndo s.undos some;
   leads = undo_done s some;
 }
 
 pub ready_redo : (s : KeptSession) (steps : List Step) → s.redos ≢ [] → steps ≡ map step_of (next_of s.redos) → IsReady Redo s (record { kind = Redoing; steps = steps; known = None }) s
-unfolding changes_asked
-ready_redo s steps some told = record {
-  fits = record { can = some; steps = told };
+unfolding changes_requested
+ready_redo s steps some reported = record {
+  fits = record { can = some; steps = reported };
   prints = tt;
   kind = tt;
-  asked = first_is_next history.NothingToRedo s.redos some;
+  requested = first_is_next history.NothingToRedo s.redos some;
   leads = redo_done s some;
 }
 
--- ---- what is ready while the session only grew
+-- ---- what is ready stays so while the session only grows
 
 pub same_changes : (kind : Kind) (old new : KeptSession) → OnlyGrew old new → changes_by_kind kind new ≡ changes_by_kind kind old
 same_changes (Changing changes) old new grew = refl

@@ -14,7 +14,7 @@ places_before es n =
 pub places_behind : (es : List (List Change)) (n : ℕ) → sum_by places_taken (drop n es) ≤ sum_by places_taken es
 places_behind es n = omega (arith, sum_by-take-drop places_taken es n)
 
--- a change takes a place at most
+-- a change takes one place at most
 pub places_counted : (es : List (List Change)) → sum_by places_taken es ≤ change_count es
 places_counted [] = omega arith
 places_counted (e ∷ es) =

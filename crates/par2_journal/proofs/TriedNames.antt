@@ -1,4 +1,4 @@
--- The names of a folder's files, through changes.
+-- The names of a folder's files along changes.
 use Rattle.par2_journal.proofs.Common.{◌≡◌, ℕ, ◌+◌, ◌<◌, ◌≤◌, Bool, true, false, ◌&&◌, List, [], ◌∷◌, length, map, drop, get_or, Option, Some, None, refl, sym, ap, ◌∙◌, arith, cond, is_some, drop_all, length-map, bytes_eq, Folder, has, Change, are_applicable, effect, effects, is_applicable, slice_cmp, nat_list_cmp_total, written, gone, leads, is_eq-slice_cmp, AreNamesOf, IsSet}
 use Rattle.std.specs.Ordering.{eq_by_cmp, nat_cmp}
 use Rattle.std.specs.Cmp.{eq_by_cmp_equiv}
@@ -28,7 +28,7 @@ module _ (files : Folder) (old new : List ℕ → Bool) (name : List ℕ) (are :
 -- ---- one after the other
 
 module _ {W X B : Type 0} (v : W → X) (all : Folder → List X → B) (files : Folder) (given : List W) where
-  -- from these files on the others of the list lead as all of them do
+  -- the changes that are left lead from these files on as all of them do
   pub record IsSoFar (i : ℕ) (names : List ℕ → Bool) : Type 0 where
     pub now : Folder
     pub are : AreNamesOf now names

@@ -1,5 +1,5 @@
--- Undos, one after the other, lead through the older folders.
-use Rattle.par2_journal.proofs.Common.{◌≡◌, ◌≢◌, ◌∙◌, ℕ, zero, suc, List, [], ◌∷◌, drop, Ok, true, refl, sym, ap, arith, Folder, Change, Undo, is_valid, Session, KeptSession, session_of_kept, session_with, session_after, changes_asked, kept_undone, next_of, accepted_next, undone_of_kept}
+-- Undos lead, one after the other, through the older folders.
+use Rattle.par2_journal.proofs.Common.{◌≡◌, ◌≢◌, ◌∙◌, ℕ, zero, suc, List, [], ◌∷◌, drop, Ok, true, refl, sym, ap, arith, Folder, Change, Undo, is_valid, Session, KeptSession, session_of_kept, session_with, session_after, changes_requested, kept_undone, next_of, accepted_next, undone_of_kept}
 use Rattle.par2_spec.specs.History.{folders, history_after}
 use Rattle.par2_spec.specs.Sessions.{folders_along, history_of}
 use Rattle.par2_spec.proofs.SessionLaws.{none_dropped}
@@ -10,9 +10,9 @@ use Rattle.par2_journal.specs.Commands.{AreUndone, UndosGiveBack, kept_history}
 undo_by : (folder : Folder) (undos redos : List (List Change)) → undos ≢ []
     → let s : Session = record { folder = folder; undos = undos; redos = redos } in
     session_after s Undo ≡ Ok (session_with s Undo (next_of undos))
-undo_by folder undos redos some = unfold session_after changes_asked in grind arith
+undo_by folder undos redos some = unfold session_after changes_requested in grind arith
 
--- where an older folder is left, an entry is
+-- if an older folder is left, so is an entry
 some_entry : (n : ℕ) (folder : Folder) (undos : List (List Change)) (now : Folder) (older : List Folder) → drop n (folders_along folder undos) ≡ now ∷ older → undos ≢ []
 unfolding folders_along
 some_entry n folder [] now older left none = none_dropped n now older left

@@ -1,4 +1,4 @@
--- What a session made ready, as its fields say it.
+-- A prepared action by its fields.
 use Rattle.std.specs.Prelude.{option_map}
 use Rattle.par2_journal.specs.Along.{prints_of}
 use Rattle.par2_journal.specs.Ready as ready
@@ -6,10 +6,12 @@ use Rattle.par2_journal.specs.declared.preparation.Prepared.TheInside.{Inside}
 use Rattle.par2_journal.specs.declared.preparation.Task.{Task}
 use Rattle.par2_journal.specs.declared.preparation.Task.TheVariants.{Change, Undo, Redo}
 
-abbrev pub kind_of : Task → ready.Kind
-kind_of (Change changes) = ready.Changing changes
-kind_of Undo = ready.Undoing
-kind_of Redo = ready.Redoing
+-- what a task does
+abbrev pub task_kind : Task → ready.Kind
+task_kind (Change changes) = ready.Changing changes
+task_kind Undo = ready.Undoing
+task_kind Redo = ready.Redoing
 
+-- the prepared action with these fields
 abbrev pub ready_of : Inside → ready.Ready
-ready_of a = record { kind = kind_of a.task; steps = a.steps; known = option_map prints_of a.known }
+ready_of a = record { kind = task_kind a.task; steps = a.steps; known = option_map prints_of a.known }

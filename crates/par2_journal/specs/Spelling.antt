@@ -1,4 +1,4 @@
--- The journals of a session, as its fields spell them.
+-- The journals of a session, by its fields.
 use Rattle.std.specs.Prelude.{◌+◌, ◌-◌, ◌<◌, ◌≤◌, ℕ, List, [], ◌∷◌, ◌++◌, map, take, get_or, set, Option, Some, None, Vec}
 use Rattle.std.specs.declared.alloc.Global.{Global}
 use Rattle.par2_spec.specs.Changes.{Change, FolderState, effects, folders_after, way_back}
@@ -12,47 +12,48 @@ use Rattle.par2_journal_format.specs.Fronts.{Begins, with_halfway}
 use Rattle.par2_journal.specs.Ready.{Kind, Changing, Undoing, Redoing, Ready, IsReady, changes_by_kind, journals_for}
 use Rattle.par2_journal.specs.declared.spelling.Journals.{Journals}
 
--- a text that spells the journal, or neither
+-- bytes that spell the journal, or neither bytes nor journal
 abbrev pub SpellsWhere : Option (Vec ℕ Global) → Option Journal → Type 0
 SpellsWhere None None = Unit {0}
 SpellsWhere None (Some j) = ⊥
-SpellsWhere (Some text) None = ⊥
-SpellsWhere (Some text) (Some j) = Spells text.items j
+SpellsWhere (Some bytes) None = ⊥
+SpellsWhere (Some bytes) (Some j) = Spells bytes.items j
 
--- the texts spell the two journals
+-- the bytes spell both journals
 abbrev pub AreSpelled : Journals → JournalPair → Type 0
 AreSpelled journals pair = SpellsWhere journals.halfway pair.before × Spells journals.after.items pair.after
 
--- the texts spell the journals of what is ready
+-- the bytes spell both journals of an action of this kind on the session
 abbrev pub SpellsReady : Kind → KeptSession → Journals → Type 0
 SpellsReady kind s journals = AreSpelled journals (journals_for kind s)
 
--- they spell those of the action for which it was made ready
+-- the bytes spell both journals of any action that was prepared so on an earlier session with the same folder and
+-- history
 abbrev pub SpellsAction : Ready → KeptSession → Journals → Type 0
 SpellsAction ready s journals =
     (action : Action) (before : KeptSession) → OnlyGrew before s → IsReady action before ready s
     → AreSpelled journals (journals_of Two (session_of_kept s) action (changes_by_kind ready.kind s))
 
--- What an action does to the list of entries. The way back of a command becomes the entry before the cursor, and those
--- after it go; or the way back takes the place of an entry, and the cursor goes to a next place.
-pub data Turn : Type 0 where
-  Add : Turn
-  Replace : ℕ → ℕ → Turn
+-- The effect of an action on the list of entries. The way back of a command becomes the entry before the cursor, and
+-- the entries after it go. The way back of an undo or redo replaces its entry, and the cursor moves.
+pub data HistoryStep : Type 0 where
+  Add : HistoryStep
+  Replace : ℕ → ℕ → HistoryStep
 
--- what committing does to the entries: an undo turns the entry before the cursor, a redo that after it
-abbrev pub turn_of : Kind → ℕ → Turn
-turn_of (Changing changes) cursor = Add
-turn_of Undoing cursor = Replace (cursor - 1) (cursor - 1)
-turn_of Redoing cursor = Replace cursor (cursor + 1)
+-- an undo replaces the entry before the cursor, a redo the one at it
+abbrev pub history_step_of : Kind → ℕ → HistoryStep
+history_step_of (Changing changes) cursor = Add
+history_step_of Undoing cursor = Replace (cursor - 1) (cursor - 1)
+history_step_of Redoing cursor = Replace cursor (cursor + 1)
 
--- the cursor of a session with n entries has an entry for what is to be done
+-- among n entries there is one before the cursor for an undo, and one at it for a redo
 abbrev pub HasNext : Kind → ℕ → ℕ → Type 0
 HasNext (Changing changes) cursor n = cursor ≤ n
 HasNext Undoing cursor n = (0 < cursor) × (cursor ≤ n)
 HasNext Redoing cursor n = cursor < n
 
 -- the entries and the cursor afterwards
-abbrev pub entries_with : Turn → ℕ → List (List Change) → List Change → List (List Change) × ℕ
+abbrev pub entries_with : HistoryStep → ℕ → List (List Change) → List Change → List (List Change) × ℕ
 entries_with Add cursor entries back = (take cursor entries ++ back ∷ [], cursor + 1)
 entries_with (Replace at next) cursor entries back = (set entries at back, next)
 
@@ -60,25 +61,25 @@ entries_with (Replace at next) cursor entries back = (set entries at back, next)
 abbrev pub settled_with : List ℕ → List (List Change) × ℕ → Journal
 settled_with print p = record { version = Two; fingerprint = print; cursor = p.1; entries = p.0; halfway = None }
 
--- the journal while changes are made, of which there is at least one
+-- the halfway journal, if there are changes
 abbrev pub halfway_with : Journal → List (List ℕ) → List Change → Option Journal
 halfway_with j prints [] = None
 halfway_with j prints (change ∷ back) = Some (with_halfway j (Some (record { fingerprints = prints; back = change ∷ back })))
 
--- with these fingerprints and this way back, the text spells each halfway journal that the front begins
+-- with these fingerprints and this way back, the bytes spell each halfway journal that the front begins
 abbrev pub CompletesHalfway : List ℕ → Option (Vec ℕ Global) → List (List ℕ) → List Change → Type 0
-CompletesHalfway front text prints back = (j : Journal) → Begins front j → SpellsWhere text (halfway_with j prints back)
+CompletesHalfway front bytes prints back = (j : Journal) → Begins front j → SpellsWhere bytes (halfway_with j prints back)
 
--- the journals of changes to a folder, of a session with these entries: the halfway one where there are changes, and
--- the settled one of what the turn makes of the entries
-pub record SpellsTurn (turn : Turn) (folder : FolderState) (cursor : ℕ) (entries : List (List Change)) (changes : List Change) (journals : Journals) : Type 0 where
+-- the journals of changes to a folder, of a session with these entries: the halfway one if there are changes, and the
+-- settled one with the entries after the step
+pub record SpellsHistoryStep (step : HistoryStep) (folder : FolderState) (cursor : ℕ) (entries : List (List Change)) (changes : List Change) (journals : Journals) : Type 0 where
   pub halfway : SpellsWhere journals.halfway (halfway_with (settled_with (fingerprint folder.files) (entries, cursor)) (map fingerprint (folders_after folder.files changes)) (way_back folder.files changes))
-  pub after : Spells journals.after.items (settled_with (fingerprint (effects folder.files changes)) (entries_with turn cursor entries (way_back folder.files changes)))
+  pub after : Spells journals.after.items (settled_with (fingerprint (effects folder.files changes)) (entries_with step cursor entries (way_back folder.files changes)))
 
--- those of a command with these changes
+-- the journals of a command with these changes
 abbrev pub SpellsCommand : FolderState → ℕ → List (List Change) → List Change → Journals → Type 0
-SpellsCommand folder cursor entries changes journals = SpellsTurn Add folder cursor entries changes journals
+SpellsCommand folder cursor entries changes journals = SpellsHistoryStep Add folder cursor entries changes journals
 
--- those of an undo or redo of the entry at this place
+-- the journals of an undo or redo of entry `at`, which moves the cursor to `next`
 abbrev pub SpellsEntry : FolderState → ℕ → List (List Change) → ℕ → ℕ → Journals → Type 0
-SpellsEntry folder cursor entries at next journals = SpellsTurn (Replace at next) folder cursor entries (get_or entries at []) journals
+SpellsEntry folder cursor entries at next journals = SpellsHistoryStep (Replace at next) folder cursor entries (get_or entries at []) journals

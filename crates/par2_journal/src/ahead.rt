@@ -1,29 +1,30 @@
-//! What an opening finds of the fingerprints that the next action's journals name.
+//! Fingerprints computed at opening for the next journals, and checkpoints that an opening or a create kept for them.
 ghost use Rattle.std.specs.Prelude.{◌≡◌, is_some, IfSome, IsTrue, Some};
-ghost use Rattle.par2_files.specs.declared.landmarks.Landmarks.{Landmarks as Marks};
+ghost use Rattle.par2_files.specs.declared.checkpoints.Checkpoints.{Checkpoints as Includes};
 ghost use Rattle.par2_journal.specs.declared.spelling.Fingerprints.{Fingerprints as Prints};
 ghost use Rattle.par2_journal.specs.Ahead.{AreFor, AreIn};
 
 use crate::spelling::Fingerprints;
-use par2_files::Landmarks;
+use par2_files::Checkpoints;
 
-/// What will be asked of a session next: to take the newest command back, or to do again what was taken back last.
+/// The action that comes next, for which an opening computes fingerprints.
 #[derive(Clone, Copy, PartialEq, Eq)]
 pub enum Next {
     Undo,
     Redo,
 }
 
-// What a session keeps of the digests that were taken when it was opened.
+// The digests that a session keeps for its next journals.
 #[derive(Drop)]
 pub enum Ahead {
     // The fingerprints along the changes of the next undo or redo.
     Fingerprints(Next, Fingerprints),
-    // From where the fingerprints along changes set out that are not known yet.
-    Landmarks(Landmarks),
+    // MD5 states from which fingerprints along other changes are computed.
+    Checkpoints(Checkpoints),
 }
 
-// The fingerprints, where they were computed for this.
+// The fingerprints that an opening computed, if it did so for this action: an undo after an opening for a redo has
+// none.
 pub(crate) fn fingerprints_for(found: Option<Ahead>, next: Next) -> Option<Fingerprints>
     ensures known { IfSome result (AreFor found next) }
     ensures used { (prints : Prints) → AreFor found next prints → result ≡ Some prints }
@@ -34,13 +35,14 @@ pub(crate) fn fingerprints_for(found: Option<Ahead>, next: Next) -> Option<Finge
     }
 }
 
-// The landmarks, where there are any.
-pub(crate) fn landmarks_in(found: &Option<Ahead>) -> Option<&Landmarks>
-    ensures known { IfSome result (λ marks. AreIn found.now marks.now) }
-    ensures used { (marks : Marks) → AreIn found.now marks → IsTrue (is_some result) }
+// The checkpoints that an opening or a create kept, if any. Later fingerprints are computed from them.
+pub(crate) fn checkpoints_in(found: &Option<Ahead>) -> Option<&Checkpoints>
+    ensures known { IfSome result (λ checkpoints. AreIn found.now checkpoints.now) }
+    ensures used { (checkpoints : Includes) → AreIn found.now checkpoints
+        → IsTrue (is_some result) }
 {
     match found {
-        Some(Ahead::Landmarks(landmarks)) => Some(landmarks),
+        Some(Ahead::Checkpoints(checkpoints)) => Some(checkpoints),
         _ => None,
     }
 }

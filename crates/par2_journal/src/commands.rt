@@ -1,9 +1,9 @@
-//! What a session is asked for. A command is planned and gets its room, an undo or redo has its entry: then it can be
-//! committed, or is carried out at once; runs of actions are made of these.
+//! The actions of a session. `prepare` plans a command and reserves its memory, or finds the entry of an undo or redo,
+//! so that it can be committed. `create`, `repair` and `purge` do both at once, and `play` does a list of actions.
 use crate::preparation::Task;
 use crate::{Changes, CreateArgs, Prepared, Session, SessionFault, Steps};
 use par2_create::plan_create;
-use par2_files::Landmarks;
+use par2_files::Checkpoints;
 use par2_laws::answers::{
     repair_leaves_each_file, repair_restores_the_files, repair_restores_the_inputs,
 };
@@ -17,14 +17,15 @@ impl Session {
     ghost use Rattle.par2_spec.specs.Commands.{Undo, Redo, Create, Purge};
     ghost use Rattle.par2_spec.specs.History.{Run, folders, IsChanging};
     ghost use Rattle.par2_spec.specs.Sessions.{OnlyGrew, CanWalk};
-    ghost use Rattle.par2_spec.specs.Texts.{step_of};
+    ghost use Rattle.par2_spec.specs.Output.{step_of};
     ghost use Rattle.par2_spec.specs.Views.{action_of, create_args_of};
-    ghost use Rattle.par2_laws.specs.Answers.{LeavesEachFile, RestoresFiles, RestoresInputs, leaving};
+    ghost use Rattle.par2_laws.specs.Answers.{LeavesEachFile, RestoresFiles, RestoresInputs, folder_left};
     ghost use Rattle.par2_journal.specs.Commands.{IsAfter, LeadsFrom, MakesReady, MayBePassed, Performs, Prepares, UndosGiveBack, Verifies, WritesFiles, kept_history, repair_of};
     ghost use Rattle.par2_journal.specs.Refusals.{MayRefuse};
     ghost use Rattle.par2_journal.specs.Ready.{CanBe, Changing, Fits, HasPrintsOf, IsReady};
 
-    // The steps of a command with these changes, and room for it.
+    // The steps of a planned command, which a run prints, and room in the session for its files and its entry. Err if
+    // memory runs out. `CanBe`: the changes can be applied, and there is room for the entry.
     fn make_way(&mut self, changes: &Changes) -> Result<Steps>
         requires { IsTrue (are_applicable self.old.folder.files changes.now) }
         ensures kept { OnlyGrew self.old self.new }
@@ -36,13 +37,18 @@ impl Session {
         Ok(steps)
     }
 
-    // Steps and room for what a command is planned as.
+    // The last step of preparing a create or a purge: the planned changes with their steps, and room for them. Their
+    // fingerprints are computed later, with the journals.
     fn prepare_changes(&mut self, changes: Changes) -> Result<Prepared, Fault>
+        // The changes were planned on this folder.
         requires { IsTrue (are_applicable self.old.folder.files changes) }
+        // The session only gets more room.
         ensures kept { OnlyGrew self.old self.new }
+        // A prepared command commits these changes. It has no fingerprints, so none can be wrong.
         ensures kind { IfOk result (λ prepared. prepared.kind ≡ Changing changes) }
         ensures fits { IfOk result (λ prepared. Fits prepared self.new) }
         ensures prints { IfOk result (HasPrintsOf self.new) }
+        // It is refused only if memory runs out.
         ensures refused { IfErr result (λ fault. fault ≡ Fault.Memory) }
     {
         let steps = self.make_way(&changes)?;
@@ -50,18 +56,20 @@ impl Session {
         Ok(Prepared { task, steps, known })
     }
 
-    // The landmark that is computed side by side with the MD5s of the inputs is kept for the create's journals.
+    // Plans a create on the folder in memory. `MakesReady`: it is ready to be committed, or refused, and the session
+    // only gets more room. The checkpoint that is computed side by side with the inputs' MD5s is kept for its journals.
     pub(crate) fn prepare_create(&mut self, args: &CreateArgs) -> Result<Prepared, Fault>
         ensures { MakesReady (Create (create_args_of args.now)) self.old self.new result }
     {
         let alloc = self.allocator();
-        let none = Landmarks::none(alloc);
-        let creation = plan_create(alloc, self.folder(), args, self.landmarks_or(&none))?;
-        self.keep_landmarks(creation.landmarks);
+        let none = Checkpoints::none(alloc);
+        let creation = plan_create(alloc, self.folder(), args, self.checkpoints_or(&none))?;
+        self.keep_checkpoints(creation.checkpoints);
         self.prepare_changes(creation.changes)
     }
 
-    // The MD5s of what is written are computed side by side with the fingerprints that the repair's journals name.
+    // Plans a repair on the folder in memory: drafts it, and refuses it (RepairFailed) if a written file has a wrong
+    // MD5. These MD5s are computed side by side with the fingerprints in the repair's journals.
     pub(crate) fn prepare_repair(
         &mut self,
         base: &str,
@@ -79,6 +87,7 @@ impl Session {
         Ok(Prepared { task, steps, known })
     }
 
+    // Plans a purge on the folder in memory: the set's PAR2 files are to be removed.
     pub(crate) fn prepare_purge(&mut self, base: &str) -> Result<Prepared, Fault>
         ensures { MakesReady (Purge base.now) self.old self.new result }
     {
@@ -86,6 +95,8 @@ impl Session {
         self.prepare_changes(changes)
     }
 
+    // Makes an undo of the newest command ready to be committed. It is refused if there is nothing to undo, or if
+    // memory for the steps runs out.
     fn prepare_undo(&self) -> Result<Prepared, SessionFault>
         ensures ready { IfOk result (λ prepared. IsReady Undo self.now prepared self.now) }
         ensures refused { IfErr result (MayRefuse Undo self.now) }
@@ -99,6 +110,8 @@ impl Session {
         Ok(Prepared { task, steps, known })
     }
 
+    // Makes a redo of the command undone last ready to be committed. It is refused if there is nothing to redo, or if
+    // memory for the steps runs out.
     fn prepare_redo(&self) -> Result<Prepared, SessionFault>
         ensures ready { IfOk result (λ prepared. IsReady Redo self.now prepared self.now) }
         ensures refused { IfErr result (MayRefuse Redo self.now) }
@@ -112,7 +125,7 @@ impl Session {
         Ok(Prepared { task, steps, known })
     }
 
-    /// Makes ready what committing an action will need, memory included. Names, bytes and history stay as they are.
+    /// Plans an action and reserves the memory that committing it needs. Names, bytes and history stay as they are.
     pub fn prepare(&mut self, action: &Action) -> Result<Prepared, SessionFault>
         ensures { Prepares (action_of action.now) self.old self.new result }
     {
@@ -132,14 +145,15 @@ impl Session {
         }
     }
 
-    /// What a verify of this base, with further files, reports.
+    /// The report of a verify of this base, which also searches `extras`.
     pub fn verify(&self, base: &str, extras: &[String]) -> Result<Report, Fault>
         ensures { Verifies base.now extras.now self.now.folder.files result }
     {
         check(self.allocator(), self.folder(), base, extras)
     }
 
-    /// Creates, and answers the steps. After a refusal names, bytes and history are as before.
+    /// Creates on the folder in memory at once, and returns the steps. After a refusal names, bytes and history are as
+    /// before. The program prepares and commits instead, because it writes to its store in between.
     pub fn create(&mut self, args: &CreateArgs) -> Result<Steps, Fault>
         ensures { Performs (Create (create_args_of args.now)) self.old self.new result }
     {
@@ -147,8 +161,8 @@ impl Session {
         Ok(self.commit(prepared))
     }
 
-    // Repairs, and returns the steps.
-    fn repair_as_asked(
+    // Prepares a repair and commits it: `repair` without the clauses about what a repair restores.
+    fn repair_as_requested(
         &mut self,
         base: &str,
         extras: &[String],
@@ -161,22 +175,23 @@ impl Session {
         Ok(self.commit(prepared))
     }
 
-    /// Repairs, with further files to search, and returns the steps. Where asked to it purges in the same command. Each
-    /// file that it writes from slices has the length and the MD5 that the set describes, and where the set was made
-    /// from certain files these stand in the folder afterwards. After a refusal names, bytes and history are as before.
+    /// Repairs on the folder in memory at once, searching `extras` too, and returns the steps; the program prepares and
+    /// commits instead. With `purge` the same command purges. Each file that it writes from slices has the length and
+    /// the MD5 that the set describes. If the set was made from certain files, and what is found of them is true, they
+    /// are in the folder afterwards. After a refusal names, bytes and history are as before.
     pub fn repair(&mut self, base: &str, extras: &[String], purge: bool) -> Result<Steps, Fault>
         ensures repairs { Performs (repair_of base.now extras.now purge) self.old self.new result }
         ensures written { WritesFiles base.now extras.now purge self.old result }
-        // Where the set was made from certain files, and what is found of them is true: these are in
-        // the folder afterwards, RepairFailed doesn't come, and NotRepairable only where other
+        // If the set was made from certain files, and what is found of them is true, they are in
+        // the folder afterwards. RepairFailed isn't returned, and NotRepairable only if other
         // slices, too, agree with all that is found.
-        ensures restores { RestoresFiles self.old.folder.files base.now (map string_bytes extras.now)
-            (leaving (λ _. self.new.folder.files) result) }
-        // So it is with the inputs of a create, after damage by another hand.
+        ensures restores { RestoresFiles self.old.folder.files base.now
+            (map string_bytes extras.now) (folder_left (λ _. self.new.folder.files) result) }
+        // The same holds for a create's inputs that were damaged after it.
         ensures inputs { RestoresInputs self.old.folder.files base.now (map string_bytes extras.now)
-            (leaving (λ _. self.new.folder.files) result) }
-        // Without a purge each file of the folder is as described, whatever the set; and the older
-        // folders stand after it.
+            (folder_left (λ _. self.new.folder.files) result) }
+        // Without a purge the folder is known file by file, whatever the set: targets, asides, and
+        // all others as they were. The older folders stay in the history.
         ensures holds { IsFalse purge → let words = map string_bytes extras.now in OnOk result
             (LeavesEachFile self.old.folder.files base.now words self.new.folder.files) }
         ensures undoable { OnOk result (folders (kept_history self.new)
@@ -185,12 +200,13 @@ impl Session {
         repair_restores_the_files();
         repair_restores_the_inputs();
         repair_leaves_each_file();
-        // A session can walk each way of its history.
+        // For the prover: a session can walk its history both ways.
         let _folder = self.folder();
-        self.repair_as_asked(base, extras, purge)
+        self.repair_as_requested(base, extras, purge)
     }
 
-    /// Removes the set's par files, and answers the steps. After a refusal names, bytes and history are as before.
+    /// Removes the set's PAR2 files on the folder in memory at once, and returns the steps. After a refusal names,
+    /// bytes and history are as before. The program prepares and commits instead.
     pub fn purge(&mut self, base: &str) -> Result<Steps, Fault>
         ensures { Performs (Purge base.now) self.old self.new result }
     {
@@ -198,7 +214,8 @@ impl Session {
         Ok(self.commit(prepared))
     }
 
-    // Whether an action was done. Undo and redo take no memory.
+    // One action of `play`: prepares and commits it, and returns whether it was accepted. Undo and redo are done
+    // without preparing and allocate nothing. `MayBePassed`: an undo or redo is refused only if there is none.
     fn act(&mut self, action: &Action) -> bool
         ensures done { IsTrue result → IsAfter (action_of action.now) self.old self.new }
         ensures leads { IsTrue result → LeadsFrom (action_of action.now) self.old }
@@ -220,13 +237,13 @@ impl Session {
         }
     }
 
-    /// Performs the actions in order, goes on after a refused one, and returns how many were accepted. As many
-    /// undos as commands were accepted lead back.
+    /// Performs the actions in order on the folder in memory, goes on after a refused one, and returns how many were
+    /// accepted. The program doesn't call it. If none is an undo or redo, as many undos lead back.
     pub fn play(&mut self, actions: &[Action]) -> usize
         ensures run { Run (kept_history self.old) (map action_of actions.now) result
             (kept_history self.new) }
-        // After creates, repairs and purges alone the folders but the newest are those from before, and
-        // as many undos give the folder back, names and bytes.
+        // If all actions are creates, repairs and purges, the older folders are those from before,
+        // and as many undos as were accepted give the folder back, names and bytes.
         ensures undos { AllByRecursion IsChanging (map action_of actions.now)
             → drop result (folders (kept_history self.new)) ≡ folders (kept_history self.old) }
         ensures back { AllByRecursion IsChanging (map action_of actions.now)
@@ -238,7 +255,7 @@ impl Session {
                 accepted += 1;
             }
         }
-        // A session can walk each way of its history.
+        // For the prover: a session can walk its history both ways.
         let _folder = self.folder();
         accepted
     }

@@ -1,12 +1,12 @@
-//! A law of what a session makes ready: it is the contract of a function that does nothing.
+//! A law about prepared actions: the contract of a function that does nothing.
 ghost use Rattle.std.specs.Prelude.{◌≡◌, IsTrue};
 ghost use Rattle.par2_spec.specs.Changes.{takes_all};
 ghost use Rattle.par2_spec.specs.Commands.{Action};
 ghost use Rattle.par2_spec.specs.Sessions.{KeptSession, OnlyGrew, CanWalk, session_of_kept, session_with};
 ghost use Rattle.par2_journal.specs.Ready.{Kind, Ready, CanBe, IsReady, changes_by_kind, after_commit};
 
-/// What is ready applies to a session whose entries can be walked, and committing it leaves the session that its
-/// action leads to.
+/// The changes of a prepared action apply to a session whose entries can be walked, and committing it leaves the
+/// session that its action leads to.
 pub fn ready_changes_apply()
     ensures applies { (kind : Kind) (s : KeptSession) → CanWalk s → CanBe kind s
         → IsTrue (takes_all s.folder (changes_by_kind kind s)) }

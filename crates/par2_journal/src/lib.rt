@@ -1,5 +1,5 @@
-//! A session on a folder: commands that change it, and undo and redo of each, by changes that turn into their
-//! inverses.
+//! Sessions on a folder: create, repair and purge, undo and redo of each, and the journals from which a later run opens
+//! a session. `par2_tool` uses it. It knows no store, and leaves the bytes of journals to `par2_journal_format`.
 #![tactic(auto)]
 
 mod ahead;

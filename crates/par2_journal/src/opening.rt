@@ -1,4 +1,6 @@
-//! A folder with a journal is opened as a session.
+//! Opening a folder with a journal as a session. `open_before` decodes the journal (`open_untested`). A settled one is
+//! opened by `open_settled`: `session_from` tries the entries on the folder's names, and `test_digests` compares the
+//! digests. A halfway one is opened by `open_halfway` (taking_back.rt). For a verify, `opens_as_is` digests no file.
 ghost use Rattle.std.specs.Prelude.{◌≡◌, ◌≤◌, ◌⊎◌, if◌then◌else◌, IfOk, IfErr, OnOk, length, map, Ok, None, true, false};
 ghost use Rattle.md5.specs.Md5.{md5};
 ghost use Rattle.par2_spec.specs.Changes.{are_applicable};
@@ -7,7 +9,7 @@ ghost use Rattle.par2_spec.specs.declared.JournalFault.TheVariants.{JournalInval
 ghost use Rattle.par2_journal_format.specs.Reading.{IsSealed};
 ghost use Rattle.par2_journal_format.specs.Untested.{AreCounted, change_count};
 ghost use Rattle.par2_journal_format.specs.Views.{changes_in, journal_of};
-ghost use Rattle.par2_journal.specs.Opening.{AnswersOpening, AnswersTest, AnswersWhere, IsToldWhere, OpensAsIs, are_valid, has_print, session_at};
+ghost use Rattle.par2_journal.specs.Opening.{AnswersOpening, AnswersTest, AnswersWhere, IsReportedWhere, OpensAsIs, are_valid, has_print, session_at};
 ghost use Rattle.par2_journal.specs.Walks.{EntriesWalk};
 
 use crate::taking_back::{Halfway, open_halfway};
@@ -19,13 +21,13 @@ use par2_spec::{JournalFault, Result};
 use std::alloc::{AllocError, Global};
 use std::collections::BTreeMap;
 
-// Whether changes and entries can be applied: it is tried on the names of the files.
+// Changes and entries are tried on the names of files alone.
 
-// The names of a folder's files, as changes leave them.
+// The names of a folder's files after some changes.
 #[derive(Drop)]
 pub struct Names<'a> {
     folder: &'a Folder,
-    // Whether there is a file of each name that a change touched.
+    // For each name that a change touched, whether it has a file.
     touched: BTreeMap<&'a Name, bool>,
 }
 
@@ -45,7 +47,7 @@ impl<'a> Names<'a> {
         Names { folder, touched }
     }
 
-    // Whether there is a file of the name.
+    // Whether the name has a file after the changes so far.
     fn has(&self, name: &'a Name) -> bool
         ensures { result ≡ names_in self.now name.now }
     {
@@ -55,7 +57,7 @@ impl<'a> Names<'a> {
         }
     }
 
-    // From now on there is a file of the name, or there is none.
+    // Records whether the name has a file after a change; other names stay (`IsSet`).
     fn set(&mut self, name: &'a Name, there: bool) -> Result<()>
         ensures { OnOk result (IsSet (names_in self.old) (names_in self.new) name.now there) }
     {
@@ -63,7 +65,8 @@ impl<'a> Names<'a> {
         Ok(())
     }
 
-    // Whether the change can be made.
+    // Whether the change can be made after the changes so far, by the names alone. `AreNamesOf`: the files have these
+    // names.
     #[tactic(auto, unfolding(par2_spec::specs::Changes::is_applicable))]
     fn can_take(&self, change: &'a Change) -> bool
         ensures { (files : Files) → AreNamesOf files (names_in self.now) →
@@ -77,7 +80,7 @@ impl<'a> Names<'a> {
         }
     }
 
-    // Makes the change.
+    // Records which names have a file after a change that can be made.
     fn take(&mut self, change: &'a Change) -> Result<()>
         ensures { (files : Files) → AreNamesOf files (names_in self.old) →
             OnOk result (AreNamesOf (effect files (change_of change.now)) (names_in self.new)) }
@@ -93,7 +96,8 @@ impl<'a> Names<'a> {
         }
     }
 
-    // Whether the changes can be made in order. If so, they are.
+    // Records the changes in order, up to the first that can't be made. Returns whether all could be. `IsTried`: the
+    // result is right, and if it is true, the names are those after all changes.
     fn go_along(&mut self, changes: &'a [Change]) -> Result<bool>
         ensures { let changes = changes_in changes.now in
             let new = names_in self.new in
@@ -110,14 +114,15 @@ impl<'a> Names<'a> {
     }
 }
 
-// Whether all of the changes can be made in order.
+// Whether the changes can be made in order. They are tried on the folder's names, and none is applied.
 pub(crate) fn can_apply(alloc: Global, folder: &Folder, changes: &[Change]) -> Result<bool>
     ensures { IfOk result (λ x. x ≡ are_applicable folder.now.files (changes_in changes.now)) }
 {
     Names::of(alloc, folder).go_along(changes)
 }
 
-// Whether the entries can be applied one after the other.
+// Whether the entries' changes can be made one after the other, each entry's on the folder that the one before it
+// leaves. They are tried on the folder's names. Opening tries the undos of a journal, and then its redos.
 fn can_walk(alloc: Global, folder: &Folder, entries: &[&Changes]) -> Result<bool>
     ensures { IfOk result (λ x. x ≡ leads folder.now.files (map (λ e. e.now) entries.now)) }
 {
@@ -130,7 +135,8 @@ fn can_walk(alloc: Global, folder: &Folder, entries: &[&Changes]) -> Result<bool
     Ok(true)
 }
 
-// Whether the entries can be those of a session on the folder, with this cursor.
+// Whether a session on the folder can have these entries and this cursor: all undos can be applied, the newest first,
+// and from the same folder all redos.
 fn are_valid(alloc: Global, folder: &Folder, entries: &[Changes], cursor: usize) -> Result<bool>
     requires { cursor ≤ length entries.now }
     ensures { IfOk result (λ x. x ≡ are_valid folder.now.files cursor entries.now) }
@@ -140,7 +146,7 @@ fn are_valid(alloc: Global, folder: &Folder, entries: &[Changes], cursor: usize)
     Ok(can_walk(alloc, folder, &undos)? && can_walk(alloc, folder, &redos)?)
 }
 
-// How many changes the entries have.
+// How many changes the entries have in all: none adds more than one file, so the folder needs that much room.
 fn change_count(entries: &[Changes]) -> usize
     requires { AreCounted entries.now }
     ensures { result ≡ change_count entries.now }
@@ -152,12 +158,16 @@ fn change_count(entries: &[Changes]) -> usize
     count
 }
 
-// Whether the entries are valid; the folder gets the room that they take.
+// Reserves room for all changes of the entries, and returns whether the entries are valid.
 fn settle(alloc: Global, folder: &mut Folder, entries: &[Changes], cursor: usize) -> Result<bool>
+    // A usize counts the changes, so that room can be reserved for them.
     requires cursor { cursor ≤ length entries.now }
     requires counted { AreCounted entries.now }
+    // The folder's files are as before, even if memory runs out.
     ensures files { folder.new.files ≡ folder.old.files }
     ensures vacant { folder.old.vacant ≤ folder.new.vacant }
+    // The result says whether the entries are valid. If they are, the folder has room for every
+    // undo and redo.
     ensures valid { IfOk result (λ x. x ≡ are_valid folder.old.files cursor entries.now) }
     ensures walks { result ≡ Ok true → EntriesWalk folder.new cursor entries.now }
 {
@@ -165,7 +175,8 @@ fn settle(alloc: Global, folder: &mut Folder, entries: &[Changes], cursor: usize
     are_valid(alloc, folder, entries, cursor)
 }
 
-// The session of these entries, where they can be applied.
+// A session with these entries from a journal if they can be applied to the folder; otherwise JournalInvalid, or
+// Memory, and the folder. `AnswersTest`: the session if the test is passed, otherwise a fault and the same files.
 pub(crate) fn session_from(
     alloc: Global,
     mut folder: Folder,
@@ -187,7 +198,7 @@ pub(crate) fn session_from(
 
 // The opening itself.
 
-/// What a folder with a journal opens as.
+/// The result of opening a folder with a journal.
 #[derive(Drop)]
 pub enum Opened {
     Settled(Session),
@@ -195,16 +206,17 @@ pub enum Opened {
     Halfway(Halfway),
 }
 
-/// A session of the folder, or why there is none, and the folder.
+/// A session on the folder, or why there is none, with the folder.
 pub type Opening = Result<Opened, (JournalFault, Folder)>;
 
-// Why nothing opens by a journal whose entries can't be applied to the folder: that it changed comes first, and is told
-// only where the text of the journal has this digest.
+// The fault of a journal whose entries can't be applied to the folder. `wanted` is the fingerprint in the journal, and
+// `digest` the one at its end. A changed folder is the first cause, but it is reported only if the journal's body has
+// this digest.
 fn why_invalid(folder: &Folder, wanted: [u8; 16], body: &[u8], digest: &[u8]) -> JournalFault
     ensures right { let same = has_print folder.now.files wanted in
         digest.now ≡ md5 body.now →
         (result ≡ Memory) ⊎ (result ≡ (if same then JournalInvalid else FolderChanged false)) }
-    ensures told { IsToldWhere (digest.now ≡ md5 body.now) result }
+    ensures reported { IsReportedWhere (digest.now ≡ md5 body.now) result }
 {
     let print = match folder.fingerprint() {
         Ok(print) => print,
@@ -216,7 +228,8 @@ fn why_invalid(folder: &Folder, wanted: [u8; 16], body: &[u8], digest: &[u8]) ->
     JournalFault::FolderChanged { halfway: false }
 }
 
-// Tests the digest of the text of a journal, and then the fingerprint of the folder.
+// The last step of opening a settled journal: compares the MD5 of its body with `digest`, the one at its end, and the
+// folder's fingerprint with `wanted`, the one in the journal. Fingerprints for `next` are computed on the way.
 fn test_digests(
     session: &mut Session,
     wanted: [u8; 16],
@@ -227,16 +240,16 @@ fn test_digests(
     ensures unchanged { session.new ≡ session.old }
     ensures digest { OnOk result (digest.now ≡ md5 body.now) }
     ensures folder { OnOk result (has_print session.old.folder.files wanted ≡ true) }
-    ensures told { IfErr result (IsToldWhere (digest.now ≡ md5 body.now)) }
+    ensures reported { IfErr result (IsReportedWhere (digest.now ≡ md5 body.now)) }
     ensures refused { let same = has_print session.old.folder.files wanted in
         digest.now ≡ md5 body.now →
         IfErr result (λ e. (e ≡ Memory) ⊎ ((e ≡ FolderChanged false) × (same ≡ false))) }
 {
     let found = match next {
-        None => session.survey(body)?,
+        None => session.fingerprint_with_checkpoints(body)?,
         Some(next) => session.digests_ahead(next, body)?,
     };
-    if digest != found.text.as_slice() {
+    if digest != found.bytes.as_slice() {
         return Err(JournalFault::JournalInvalid);
     }
     if found.folder.as_slice() != wanted.as_slice() {
@@ -245,8 +258,9 @@ fn test_digests(
     Ok(())
 }
 
-// Opens by a journal of a session that no command has left. The entries are tried before anything is digested; then the
-// text of the journal and the folder are digested side by side.
+// Opens a settled journal, whose `body` should have this `digest`. `AnswersWhere`: with that digest the result is the
+// definitions' or Memory; otherwise nothing opens. Its entries are tried before anything is digested; then its body and
+// the folder are digested side by side.
 fn open_settled(
     alloc: Global,
     folder: Folder,
@@ -273,7 +287,8 @@ fn open_settled(
     }
 }
 
-// Opens by the bytes of a journal. That memory ran out counts only where they end with their digest.
+// Opens a journal's bytes. Out of memory may be reported although they don't end with their digest: `where_sealed`
+// makes that `JournalInvalid`.
 fn open_untested(alloc: Global, folder: Folder, bytes: &[u8], next: Option<Next>) -> Opening
     ensures { AnswersWhere (IsSealed bytes.now) folder.files (Opens folder.files bytes.now) result }
 {
@@ -290,11 +305,11 @@ fn open_untested(alloc: Global, folder: Folder, bytes: &[u8], next: Option<Next>
     }
 }
 
-// The fault. Bytes that don't end with their digest are refused as such, also where memory ran out.
+// The fault to report: bytes that don't end with their digest are invalid, even if memory ran out.
 fn where_sealed(fault: JournalFault, bytes: &[u8]) -> JournalFault
     ensures sealed { IsSealed bytes.now → result ≡ fault }
     ensures unsealed { let sealed = IsSealed bytes.now in
-        ¬ sealed → IsToldWhere sealed fault → result ≡ JournalInvalid }
+        ¬ sealed → IsReportedWhere sealed fault → result ≡ JournalInvalid }
 {
     match fault {
         JournalFault::Memory if is_sealed(bytes) => fault,
@@ -304,16 +319,17 @@ fn where_sealed(fault: JournalFault, bytes: &[u8]) -> JournalFault
 }
 
 impl Session {
-    /// Opens a folder with the bytes of a journal, in either version. At a refusal the folder is given back, names and
-    /// bytes as they were. Bytes that don't end with their digest are refused as such, also where memory runs out.
+    /// Opens a folder with the bytes of a journal, in either version; a run calls [`Session::open_before`]. A refusal
+    /// returns the folder, names and bytes as they were. Bytes that don't end with their digest are invalid, even if
+    /// memory runs out.
     pub fn open(alloc: Global, folder: Folder, bytes: &[u8]) -> Opening
         ensures { AnswersOpening folder bytes.now result }
     {
         Session::open_before(alloc, folder, bytes, None)
     }
 
-    /// Opens as [`Session::open`] does. Where an undo or redo is next, the fingerprints that its journals name are
-    /// computed with that of the folder, side by side, so that [`Session::journals`] has no digest left to take.
+    /// Opens as [`Session::open`] does. Before an undo or redo (`next`), the fingerprints in its journals are computed
+    /// side by side with the folder's own, and [`Session::journals`] computes none.
     pub fn open_before(alloc: Global, folder: Folder, bytes: &[u8], next: Option<Next>) -> Opening
         ensures { AnswersOpening folder bytes.now result }
     {
@@ -324,9 +340,8 @@ impl Session {
     }
 }
 
-/// Whether a folder with the bytes of a journal opens as a session on this very folder. No digest of its files is
-/// taken, so that it is not said whether the session has the history of the journal or a new one. An answer of false
-/// says nothing: the folder is then to be opened.
+/// For a verify: whether a folder with this journal opens as a session on the folder as it is. Its files aren't
+/// digested, so that session has the journal's history or a new one. False says nothing: the folder has to be opened.
 pub fn opens_as_is(alloc: Global, folder: &Folder, bytes: &[u8]) -> Result<bool>
     ensures opens { result ≡ Ok true → OpensAsIs folder.now.files bytes.now }
     ensures unsealed { ¬ (IsSealed bytes.now) → result ≡ Ok false }

@@ -1,4 +1,5 @@
-//! What a session has made ready, and the steps that are reported of it.
+//! Prepared actions, and their steps. `Session::prepare` makes a `Prepared`, the journals are spelled from it, and
+//! `Session::commit` consumes it and returns its steps.
 use crate::spelling::Fingerprints;
 use par2_files::{Change, Name};
 use par2_repair::{Changes, Fault};
@@ -16,7 +17,7 @@ pub enum Step {
     Remove(Name),
 }
 
-/// Steps, in the order in which their changes are applied: a vector that contracts see as their list.
+/// Steps, in the order in which their changes are applied. Contracts see the vector as a list.
 #[derive(Drop)]
 pub struct Steps {
     items: Vec<Step>,
@@ -25,7 +26,7 @@ pub struct Steps {
 impl Model for Steps {
     ghost use Rattle.std.specs.Prelude.{List, map};
     ghost use Rattle.std.specs.Coded.{coded_list};
-    ghost use Rattle.par2_spec.specs.Texts as defined;
+    ghost use Rattle.par2_spec.specs.Output as defined;
     ghost use Rattle.par2_spec.specs.Codes.{step_code};
     ghost use Rattle.par2_journal.specs.Steps.{step_view};
 
@@ -38,11 +39,11 @@ impl Model for Steps {
 
 impl Step {
     ghost use Rattle.std.specs.Prelude.{◌≡◌};
-    ghost use Rattle.par2_spec.specs.Texts.{step_of};
+    ghost use Rattle.par2_spec.specs.Output.{step_of};
     ghost use Rattle.par2_files.specs.Views.{change_of};
     ghost use Rattle.par2_journal.specs.Steps.{step_view};
 
-    // The step of a change.
+    // The step that a run prints for a change: its kind, and copies of its names.
     fn of(change: &Change) -> Step
         ensures { step_view result ≡ step_of (change_of change.now) }
     {
@@ -57,11 +58,11 @@ impl Step {
 
 impl Steps {
     ghost use Rattle.std.specs.Prelude.{◌≡◌, map, length, IfOk};
-    ghost use Rattle.par2_spec.specs.Texts.{step_of};
+    ghost use Rattle.par2_spec.specs.Output.{step_of};
     ghost use Rattle.par2_files.specs.Views.{change_of};
     ghost use Rattle.par2_journal.specs.Steps.{step_view};
 
-    /// The steps of these changes.
+    /// The steps of these changes, in order, as a run prints them. It fails if memory runs out.
     pub fn of(alloc: Global, changes: &[Change]) -> Result<Steps>
         ensures { IfOk result (λ steps. steps ≡ map step_of (map change_of changes.now)) }
     {
@@ -101,6 +102,7 @@ impl From<Fault> for SessionFault {
 
     ghost from_gives = { λ fault refused. refused ≡ Plan fault };
 
+    // For `?` after a plan or a draft is refused.
     fn from(fault: Fault) -> Self {
         SessionFault::Plan(fault)
     }
@@ -113,12 +115,13 @@ impl From<AllocError> for SessionFault {
 
     ghost from_gives = { λ _ refused. refused ≡ Plan Memory };
 
+    // For `?` after an allocation.
     fn from(_: AllocError) -> Self {
         SessionFault::Plan(Fault::Memory)
     }
 }
 
-// What committing does.
+// The task of a prepared action: a command's own changes, or those of the next entry.
 #[derive(Drop)]
 pub enum Task {
     Change(Changes),
@@ -126,12 +129,12 @@ pub enum Task {
     Redo,
 }
 
-/// An action that a session has made ready: what it does, and the steps that are reported of it.
+/// An action that can be committed: what it does, and its steps.
 #[derive(Drop)]
 pub struct Prepared {
     pub(crate) task: Task,
     pub(crate) steps: Steps,
-    // The fingerprints along its changes, where they are known.
+    // The fingerprints along its changes, if they are known.
     pub(crate) known: Option<Fingerprints>,
 }
 
@@ -149,7 +152,7 @@ impl Model for Prepared {
 impl Prepared {
     ghost use Rattle.std.specs.Prelude.{◌≡◌};
 
-    /// The steps, in the order in which their changes are applied.
+    /// The steps, in the order in which their changes are applied. The program takes those that `commit` returns.
     pub fn steps(&self) -> &Steps
         ensures { result.now ≡ self.now.steps }
     {

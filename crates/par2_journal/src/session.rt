@@ -1,9 +1,11 @@
-//! One folder, the changes that lead back, and those that lead forward again.
-use crate::ahead::{Ahead, fingerprints_for, landmarks_in};
+//! One folder, the changes that lead back, and those that lead forward again. A run opens a session (opening.rt),
+//! prepares an action (commands.rt), spells its journals (`journals_as_prepared`), writes `changes`, and calls
+//! `commit`.
+use crate::ahead::{Ahead, checkpoints_in, fingerprints_for};
 use crate::preparation::Task;
 use crate::spelling::{Fingerprints, settled, spell_command, spell_entry};
 use crate::{Changes, Journals, Next, Prepared, Steps};
-use par2_files::{Change, Folder, Landmarks, survey_folder};
+use par2_files::{Change, Checkpoints, Folder, fingerprint_with_checkpoints};
 use par2_journal_format::encode;
 use par2_repair::Draft;
 use par2_spec::Result;
@@ -11,26 +13,27 @@ use std::alloc::Global;
 use std::marker::Model;
 use thiserror::Error;
 
-/// No command is left to take back.
+/// There is no command to undo.
 #[derive(Debug, Error, Drop)]
 #[error("nothing to undo")]
 pub struct NothingToUndo;
 
-/// No command is left to do again.
+/// There is no command to redo.
 #[derive(Debug, Error, Drop)]
 #[error("nothing to redo")]
 pub struct NothingToRedo;
 
-// The digests that tell whether a session is that of a journal.
+// The digests that an opening compares with those in a journal: the folder's fingerprint, and the MD5 of the journal's
+// body.
 #[derive(Drop)]
-pub struct Digests {
+pub struct SessionDigests {
     pub folder: [u8; 16],
-    pub text: [u8; 16],
+    pub bytes: [u8; 16],
 }
 
-/// A session on a folder: the folder, and a list of entries with a cursor. The entries before it are as undos apply
-/// them, those from it on as redos do. What its opening found of the folder's fingerprints stands ready for the next
-/// journals.
+/// A session on a folder: the folder, and a list of entries with a cursor. Entries before the cursor are stored as
+/// undos apply them, the others as redos do. `ahead` has the fingerprints or checkpoints that were computed for the
+/// next journals.
 #[derive(Drop)]
 pub struct Session {
     folder: Folder,
@@ -47,11 +50,11 @@ impl Model for Session {
 
     ghost coded = { kept_session_code };
 
-    ghost use Rattle.par2_journal.specs.Sessions.{kept_session, IsKept};
+    ghost use Rattle.par2_journal.specs.Sessions.{kept_session, IsKeptSession};
 
     ghost view = { kept_session };
 
-    ghost invariant = { IsKept };
+    ghost invariant = { IsKeptSession };
 }
 
 impl Session {
@@ -61,18 +64,18 @@ impl Session {
     ghost use Rattle.par2_spec.specs.Folders.{fingerprint};
     ghost use Rattle.par2_spec.specs.Sessions.{CanWalk, OnlyGrew, session_of_kept, kept_done, kept_undone, kept_redone};
     ghost use Rattle.par2_spec.specs.Journals.{Spells};
-    ghost use Rattle.par2_files.specs.Landmarks.{AreLandmarksOf};
+    ghost use Rattle.par2_files.specs.Checkpoints.{AreCheckpointsOf};
     ghost use Rattle.par2_files.specs.Views.{change_of};
-    ghost use Rattle.par2_repair.specs.Written.{texts_written};
+    ghost use Rattle.par2_repair.specs.Written.{buffers_written};
     ghost use Rattle.par2_journal.specs.Ahead.{next_changes};
     ghost use Rattle.par2_journal.specs.Along.{AreAlong};
-    ghost use Rattle.par2_journal.specs.Kinds.{kind_of};
+    ghost use Rattle.par2_journal.specs.Kinds.{task_kind};
     ghost use Rattle.par2_journal.specs.Opening.{session_at};
     ghost use Rattle.par2_journal.specs.Ready.{CanBe, Fits, HasPrintsOf, changes_by_kind, after_commit, kept_journal, next_of};
     ghost use Rattle.par2_journal.specs.Spelling.{SpellsAction, SpellsReady};
     ghost use Rattle.par2_journal.specs.Walks.{EntriesWalk};
 
-    /// The session on this folder, without a history.
+    /// A session on this folder, without a history: there is no journal, or its history is dropped or not needed.
     pub fn new(alloc: Global, folder: Folder) -> Session
         ensures folder { result.folder ≡ folder }
         ensures undos { result.undos ≡ [] }
@@ -86,7 +89,9 @@ impl Session {
         }
     }
 
-    // The session of these entries.
+    // A session with these entries from a journal that was tried: the first `cursor` are undos, the oldest first, and
+    // the others redos. `EntriesWalk`: from the cursor, they apply to the folder one after the other in both
+    // directions.
     pub(crate) fn from_entries(folder: Folder, entries: Vec<Changes>, cursor: usize) -> Session
         requires within { cursor ≤ length entries.items }
         requires walks { EntriesWalk folder cursor entries.items }
@@ -100,19 +105,19 @@ impl Session {
         }
     }
 
-    // Where the memory of its entries comes from, and of all that it makes.
+    // The allocator of its entries, which all that it creates uses.
     pub(crate) fn allocator(&self) -> Global {
         *self.entries.allocator()
     }
 
-    // The folder by itself.
+    // The folder alone, for the caller of an opening that is refused after the session was made.
     pub(crate) fn into_folder(self) -> Folder
         ensures { result ≡ self.folder }
     {
         self.folder
     }
 
-    /// The folder as it stands.
+    /// The folder as the commands so far left it. For the prover: its history can be walked both ways.
     pub fn folder(&self) -> &Folder
         ensures folder { result.now ≡ self.now.folder }
         ensures walks { CanWalk self.now }
@@ -120,21 +125,22 @@ impl Session {
         &self.folder
     }
 
-    /// How many commands can be taken back.
+    /// How many commands can be undone.
     pub fn undo_depth(&self) -> usize
         ensures { result ≡ length self.now.undos }
     {
         self.cursor
     }
 
-    /// How many commands can be done again.
+    /// How many commands can be redone.
     pub fn redo_depth(&self) -> usize
         ensures { result ≡ length self.now.redos }
     {
         self.entries.len() - self.cursor
     }
 
-    /// Takes the newest command back. It takes no memory.
+    /// Undoes the newest command on the folder in memory. It allocates nothing. `kept_undone`: the entry's changes are
+    /// applied, and their inverse becomes the next redo.
     pub fn undo(&mut self) -> Result<(), NothingToUndo>
         ensures refused { IsErr result ↔ (self.old.undos ≡ []) }
         ensures unchanged { OnErr result (self.new ≡ self.old) }
@@ -146,12 +152,13 @@ impl Session {
         let at = self.cursor - 1;
         self.ahead = None;
         let entry = &mut self.entries[at];
-        entry.turn(&mut self.folder);
+        entry.apply_and_invert(&mut self.folder);
         self.cursor = at;
         Ok(())
     }
 
-    /// Does the command again that was taken back last. It takes no memory.
+    /// Redoes on the folder in memory the command that was undone last. It allocates nothing. `kept_redone`: the
+    /// entry's changes are applied, and their inverse becomes the next undo.
     pub fn redo(&mut self) -> Result<(), NothingToRedo>
         ensures refused { IsErr result ↔ (self.old.redos ≡ []) }
         ensures unchanged { OnErr result (self.new ≡ self.old) }
@@ -163,21 +170,22 @@ impl Session {
         }
         self.ahead = None;
         let entry = &mut self.entries[at];
-        entry.turn(&mut self.folder);
+        entry.apply_and_invert(&mut self.folder);
         self.cursor = at + 1;
         Ok(())
     }
 
-    // The folder's fingerprint.
+    // The folder's fingerprint, for `encode`, from checkpoints if the session keeps any.
     pub(crate) fn fingerprint(&self) -> Result<[u8; 16]>
         ensures { IfOk result (λ print. print ≡ fingerprint self.now.folder.files) }
     {
         let alloc = self.allocator();
-        let landmarks = landmarks_in(&self.ahead);
-        Ok(Fingerprints::of(alloc, landmarks, &self.folder, &[])?.before)
+        let checkpoints = checkpoints_in(&self.ahead);
+        Ok(Fingerprints::of(alloc, checkpoints, &self.folder, &[])?.before)
     }
 
-    /// The bytes of the session's journal. Nothing but the result is made of the bytes of its changes.
+    /// The bytes of the session's settled journal. A run writes it only after taking back a halfway command; the
+    /// journals of an action come from [`Session::journals_as_prepared`].
     pub fn encode(&self) -> Result<Vec<u8>>
         ensures { IfOk result (λ bytes. Spells bytes.items (kept_journal self.now)) }
     {
@@ -186,7 +194,8 @@ impl Session {
         encode(self.allocator(), &parts)
     }
 
-    // Room for as many files and one more entry.
+    // Reserves room for `files` more files and one more entry, so that a commit allocates nothing. `OnlyGrew`: nothing
+    // but the room changes.
     pub(crate) fn make_room(&mut self, files: usize) -> Result<()>
         ensures kept { OnlyGrew self.old self.new }
         ensures vacant { OnOk result (files ≤ self.new.folder.vacant) }
@@ -196,7 +205,7 @@ impl Session {
         self.entries.reserve(1)
     }
 
-    // Applies the changes, and keeps the way back as the newest entry.
+    // Commits a command: applies its changes, keeps the way back as the newest entry, and drops all redos.
     #[tactic(auto, unfolding(par2_spec::specs::Sessions::kept_done))]
     fn add(&mut self, mut changes: Changes)
         requires applies { IsTrue (takes_all self.old.folder changes) }
@@ -204,9 +213,9 @@ impl Session {
         ensures { self.new ≡ kept_done self.old changes }
     {
         self.ahead = None;
-        changes.turn(&mut self.folder);
+        changes.apply_and_invert(&mut self.folder);
         self.entries.truncate(self.cursor);
-        // `insert` keeps the capacity, where `push` says only that it does not shrink.
+        // For the prover: `insert` keeps the capacity, and `push` only says that it doesn't shrink.
         match self.entries.insert(self.cursor, changes) {
             Ok(()) => {}
             Err(_) => unreachable!(),
@@ -214,7 +223,7 @@ impl Session {
         self.cursor += 1;
     }
 
-    // The changes of the next undo.
+    // The changes that the next undo applies, in order. `next_of`: the first entry of the list.
     pub(crate) fn next_undo(&self) -> &[Change]
         requires { self.now.undos ≢ [] }
         ensures { map change_of result.now ≡ next_of self.now.undos }
@@ -222,7 +231,7 @@ impl Session {
         self.entries[self.cursor - 1].as_slice()
     }
 
-    // The changes of the next redo.
+    // The changes that the next redo applies, in order. `next_of`: the first entry of the list.
     pub(crate) fn next_redo(&self) -> &[Change]
         requires { self.now.redos ≢ [] }
         ensures { map change_of result.now ≡ next_of self.now.redos }
@@ -230,7 +239,7 @@ impl Session {
         self.entries[self.cursor].as_slice()
     }
 
-    // The changes of the next undo or redo, none where there is none.
+    // The changes that the next undo or redo applies, or none if there is none, for `digests_ahead`.
     fn next_changes(&self, next: Next) -> &[Change]
         ensures { map change_of result.now ≡ next_changes next self.now }
     {
@@ -242,64 +251,69 @@ impl Session {
         }
     }
 
-    // Landmarks of the folder, and these where none stand ready.
-    pub(crate) fn landmarks_or<'a>(&'a self, none: &'a Landmarks) -> &'a Landmarks
-        requires { AreLandmarksOf self.now.folder.files none.now }
-        ensures { AreLandmarksOf self.now.folder.files result.now }
+    // The folder's checkpoints if an opening kept them, otherwise `none`, for a create, which digests the folder from
+    // them.
+    pub(crate) fn checkpoints_or<'a>(&'a self, none: &'a Checkpoints) -> &'a Checkpoints
+        requires { AreCheckpointsOf self.now.folder.files none.now }
+        ensures { AreCheckpointsOf self.now.folder.files result.now }
     {
-        landmarks_in(&self.ahead).unwrap_or(none)
+        checkpoints_in(&self.ahead).unwrap_or(none)
     }
 
-    // Keeps landmarks of the folder for the next journals.
-    pub(crate) fn keep_landmarks(&mut self, landmarks: Landmarks)
-        requires { AreLandmarksOf self.old.folder.files landmarks }
+    // Keeps checkpoints of the folder for the next journals. `AreCheckpointsOf`: MD5 states at names of this folder.
+    pub(crate) fn keep_checkpoints(&mut self, checkpoints: Checkpoints)
+        requires { AreCheckpointsOf self.old.folder.files checkpoints }
         ensures { self.new ≡ self.old }
     {
-        self.ahead = Some(Ahead::Landmarks(landmarks));
+        self.ahead = Some(Ahead::Checkpoints(checkpoints));
     }
 
-    // The digests of the folder and of a text, side by side. Landmarks are kept for the next journals.
-    pub(crate) fn survey(&mut self, text: &[u8]) -> Result<Digests>
+    // Digests the folder and `bytes`, the journal's body, side by side for an opening, and keeps checkpoints for the
+    // next journals.
+    pub(crate) fn fingerprint_with_checkpoints(&mut self, bytes: &[u8]) -> Result<SessionDigests>
         ensures unchanged { self.new ≡ self.old }
         ensures folder { IfOk result (λ x. x.folder ≡ fingerprint self.old.folder.files) }
-        ensures text { IfOk result (λ x. x.text ≡ md5 text.now) }
+        ensures bytes { IfOk result (λ x. x.bytes ≡ md5 bytes.now) }
     {
-        let found = survey_folder(self.allocator(), &self.folder, text)?;
-        let (folder, text) = (found.fingerprint, found.digest);
-        self.keep_landmarks(found.landmarks);
-        Ok(Digests { folder, text })
+        let found = fingerprint_with_checkpoints(self.allocator(), &self.folder, bytes)?;
+        let (folder, bytes) = (found.fingerprint, found.digest);
+        self.keep_checkpoints(found.checkpoints);
+        Ok(SessionDigests { folder, bytes })
     }
 
-    // The same where an undo or redo is next: the fingerprints along its changes, side by side with these, take little
-    // longer, and are kept for its journals.
-    pub(crate) fn digests_ahead(&mut self, next: Next, text: &[u8]) -> Result<Digests>
+    // Digests the folder and `bytes`, the journal's body, for an opening before the undo or redo `next`. The
+    // fingerprints along its changes are computed side by side with them, which takes little longer, and are kept for
+    // its journals.
+    pub(crate) fn digests_ahead(&mut self, next: Next, bytes: &[u8]) -> Result<SessionDigests>
         ensures unchanged { self.new ≡ self.old }
         ensures folder { IfOk result (λ x. x.folder ≡ fingerprint self.old.folder.files) }
-        ensures text { IfOk result (λ x. x.text ≡ md5 text.now) }
+        ensures bytes { IfOk result (λ x. x.bytes ≡ md5 bytes.now) }
     {
         let alloc = self.allocator();
         let changes = self.next_changes(next);
         let folder = self.folder();
-        let (prints, digests) = Fingerprints::and_digests(alloc, None, folder, changes, &[text])?;
-        let (folder, text) = (prints.before, digests[0]);
+        let (prints, digests) = Fingerprints::and_digests(alloc, None, folder, changes, &[bytes])?;
+        let (folder, bytes) = (prints.before, digests[0]);
         self.ahead = Some(Ahead::Fingerprints(next, prints));
-        Ok(Digests { folder, text })
+        Ok(SessionDigests { folder, bytes })
     }
 
-    // The fingerprints along a draft's changes, and the MD5s of the texts that these write, side by side with them.
+    // For a repair: the fingerprints along the draft's changes, computed side by side with the MD5s of the files that
+    // the draft writes. `AreAlong`: the fingerprints are those before the changes, after each and after all.
     pub(crate) fn digests_along(&self, draft: &Draft) -> Result<(Fingerprints, Vec<[u8; 16]>)>
         requires { IsTrue (takes_all self.now.folder draft.now.changes) }
         ensures along { IfOk result (λ x. AreAlong self.now.folder.files draft.now.changes x.0) }
-        ensures md5s { IfOk result (λ x. x.1.items ≡ map md5 (texts_written draft.now.changes)) }
+        ensures md5s { IfOk result (λ x. x.1.items ≡ map md5 (buffers_written draft.now.changes)) }
     {
         let alloc = self.allocator();
-        let texts = draft.texts(alloc)?;
+        let buffers = draft.buffers(alloc)?;
         let changes = draft.changes.as_slice();
-        let landmarks = landmarks_in(&self.ahead);
-        Fingerprints::and_digests(alloc, landmarks, &self.folder, changes, &texts)
+        let checkpoints = checkpoints_in(&self.ahead);
+        Fingerprints::and_digests(alloc, checkpoints, &self.folder, changes, &buffers)
     }
 
-    /// What committing does to the folder, in order.
+    /// The changes that committing makes, in order, to be made in the store first. `Fits`: the action can still be
+    /// committed on this session.
     pub fn changes<'a>(&'a self, prepared: &'a Prepared) -> &'a [Change]
         requires { Fits prepared.now self.now }
         ensures { map change_of result.now ≡ changes_by_kind prepared.now.kind self.now }
@@ -311,25 +325,25 @@ impl Session {
         }
     }
 
-    // The journals of a task, with the fingerprints along its changes, where they are known. The folder makes the
-    // changes and is turned back, also where memory runs out. Of the changes no bytes are copied but into the journals.
-    // Fingerprints that stand ready for an undo or redo are used once.
+    // The journals of a task, with the fingerprints along its changes if they are `known`. `CanBe`: the task has
+    // changes to apply, or an entry to undo or redo. The changes are applied to the folder and taken back, even if
+    // memory runs out; their bytes are copied only into the journals. Fingerprints in `ahead` are used once.
     fn spell(&mut self, task: &mut Task, known: Option<&Fingerprints>) -> Result<Journals>
-        requires can { CanBe (kind_of task.old) self.old }
-        requires known { let changes = changes_by_kind (kind_of task.old) self.old in
+        requires can { CanBe (task_kind task.old) self.old }
+        requires known { let changes = changes_by_kind (task_kind task.old) self.old in
             IfSome known (λ prints. AreAlong self.old.folder.files changes prints.now) }
         ensures unchanged { self.new ≡ self.old }
-        ensures task { kind_of task.new ≡ kind_of task.old }
-        ensures spelled { IfOk result (SpellsReady (kind_of task.old) self.old) }
+        ensures task { task_kind task.new ≡ task_kind task.old }
+        ensures spelled { IfOk result (SpellsReady (task_kind task.old) self.old) }
     {
         let alloc = self.allocator();
         let cursor = self.cursor;
         let folder = &mut self.folder;
         match task {
             Task::Change(changes) => {
-                let landmarks = landmarks_in(&self.ahead);
+                let checkpoints = checkpoints_in(&self.ahead);
                 let entries = &self.entries;
-                spell_command(alloc, known, landmarks, entries, cursor, folder, changes)
+                spell_command(alloc, known, checkpoints, entries, cursor, folder, changes)
             }
             Task::Undo => {
                 let at = cursor - 1;
@@ -344,8 +358,9 @@ impl Session {
         }
     }
 
-    /// The journals of what was prepared for an action, whose fingerprints are made anew. The folder makes the changes
-    /// and is turned back, also where memory runs out. Of the changes no bytes are copied but into the journals.
+    /// The journals of a prepared action. Fingerprints from its preparation aren't used, so the session may have
+    /// another folder by now; the program calls [`Session::journals_as_prepared`] instead. The changes are applied to
+    /// the folder and taken back, even if memory runs out; their bytes are copied only into the journals.
     pub fn journals(&mut self, prepared: &mut Prepared) -> Result<Journals>
         requires { Fits prepared.old self.old }
         ensures unchanged { self.new ≡ self.old }
@@ -356,20 +371,26 @@ impl Session {
         self.spell(&mut prepared.task, None)
     }
 
-    /// The same, where the folder is the one that the action was prepared on: fingerprints that were computed then are
-    /// used.
+    /// The journals of a prepared action, for a session that still has the folder on which it was prepared:
+    /// fingerprints that were computed then are used. They are put in the store before and after the action's changes.
     pub fn journals_as_prepared(&mut self, prepared: &mut Prepared) -> Result<Journals>
+        // The action can still be committed, and its fingerprints, if any, are along its changes to
+        // this folder.
         requires fits { Fits prepared.old self.old }
         requires prints { HasPrintsOf self.old prepared.old }
+        // Both are as before, even if memory runs out.
         ensures unchanged { self.new ≡ self.old }
         ensures prepared { prepared.new ≡ prepared.old }
+        // The journals are those of what is ready, and so those of the action that it was prepared
+        // for.
         ensures spelled { IfOk result (SpellsReady prepared.old.kind self.old) }
         ensures journals { IfOk result (SpellsAction prepared.old self.old) }
     {
         self.spell(&mut prepared.task, prepared.known.as_ref())
     }
 
-    /// Does what was prepared, and answers its steps. It takes no memory.
+    /// Commits a prepared action to the session, after its changes are made in the store, and returns its steps. It
+    /// allocates nothing. `after_commit`: the changes are applied, and their way back is the next undo or redo.
     pub fn commit(&mut self, prepared: Prepared) -> Steps
         requires { Fits prepared self.old }
         ensures session { self.new ≡ after_commit prepared.kind self.old }

@@ -1,24 +1,26 @@
-//! The journals of a session, and the fingerprints that stand in them.
+//! The journals of a session, and the fingerprints in them. `spell_command` spells both journals of a command, and
+//! `spell_entry` those of an undo or redo: each begins the halfway one, applies the changes, which turns them into the
+//! way back, finishes both journals from it (`both`), and takes the changes back.
 ghost use Rattle.std.specs.Prelude.{◌≡◌, ◌≤◌, ◌<◌, ◌∷◌, ◌+◌, [], List, IfOk, IfSome, IsTrue, length, map, get_or, slice_get, Some, Ok};
 ghost use Rattle.md5.specs.Md5.{md5};
-ghost use Rattle.par2_md5_lanes.specs.Texts.{texts_of};
+ghost use Rattle.par2_md5_lanes.specs.Buffers.{buffers_of};
 ghost use Rattle.par2_spec.specs.Changes as defined;
 ghost use Rattle.par2_spec.specs.Changes.{folders_after, takes_all};
 ghost use Rattle.par2_spec.specs.Folders.{Folder as Files, fingerprint};
 ghost use Rattle.par2_spec.specs.Journals.{Spells};
-ghost use Rattle.par2_files.specs.Landmarks.{AreLandmarksOf};
+ghost use Rattle.par2_files.specs.Checkpoints.{AreCheckpointsOf};
 ghost use Rattle.par2_journal_format.specs.Views.{changes_in, journal_from};
 ghost use Rattle.par2_journal.specs.Along.{AreAlong, ArePrintsOf};
 ghost use Rattle.par2_journal.specs.Spelling.{CompletesHalfway, SpellsCommand, SpellsEntry};
 
 use crate::Changes;
-use par2_files::{Change, Folder, Landmarks, fingerprints};
+use par2_files::{Change, Checkpoints, Folder, fingerprints};
 use par2_journal_format::{HalfwayPartView, JournalView, begin, encode, finish_both};
 use par2_spec::Result;
 use std::alloc::Global;
 use std::slice::from_ref;
 
-// The fingerprints of a folder along some changes.
+// Fingerprints of a folder along changes to it.
 #[derive(Drop)]
 pub struct Fingerprints {
     pub before: [u8; 16],
@@ -26,7 +28,7 @@ pub struct Fingerprints {
     pub after_all: [u8; 16],
 }
 
-// The fingerprint after the last change, or before where there is none.
+// The fingerprint after the last change, or before the changes if there is none.
 fn last_of(before: [u8; 16], after_each: &[[u8; 16]]) -> [u8; 16]
     ensures { slice_get (before ∷ after_each.now) (length after_each.now) ≡ Some result }
 {
@@ -34,7 +36,7 @@ fn last_of(before: [u8; 16], after_each: &[[u8; 16]]) -> [u8; 16]
 }
 
 impl Fingerprints {
-    // Of the fingerprints before the changes and after each, in order.
+    // Splits a list of fingerprints: the first is the one before the changes, and the others are those after each.
     fn of_list(mut list: Vec<[u8; 16]>) -> Fingerprints
         requires { 0 < length list.items }
         ensures { (files : Files) (changes : List defined.Change)
@@ -50,41 +52,45 @@ impl Fingerprints {
         }
     }
 
-    // The fingerprint before the changes, which aren't applied, and after each, from landmarks, where there are any;
-    // and the digests of texts, side by side with them.
+    // The fingerprints before the changes and after each, from checkpoints if there are any; and the MD5s of the
+    // buffers, computed side by side with them. The changes aren't applied.
     pub(crate) fn and_digests(
         alloc: Global,
-        landmarks: Option<&Landmarks>,
+        checkpoints: Option<&Checkpoints>,
         folder: &Folder,
         changes: &[Change],
-        texts: &[&[u8]],
+        buffers: &[&[u8]],
     ) -> Result<(Fingerprints, Vec<[u8; 16]>)>
-        requires landmarks { IfSome landmarks (λ from. AreLandmarksOf folder.now.files from.now) }
+        requires checkpoints { IfSome checkpoints
+            (λ from. AreCheckpointsOf folder.now.files from.now) }
         requires applies { IsTrue (takes_all folder.now (changes_in changes.now)) }
         ensures along { IfOk result (λ x. ArePrintsOf folder.now changes.now x.0) }
-        ensures digests { IfOk result (λ x. x.1.items ≡ map md5 (texts_of texts.now)) }
+        ensures digests { IfOk result (λ x. x.1.items ≡ map md5 (buffers_of buffers.now)) }
     {
-        let none = Landmarks::none(alloc);
-        let from = landmarks.unwrap_or(&none);
-        let found = fingerprints(alloc, folder, changes, from, texts)?;
+        let none = Checkpoints::none(alloc);
+        let from = checkpoints.unwrap_or(&none);
+        let found = fingerprints(alloc, folder, changes, from, buffers)?;
         Ok((Fingerprints::of_list(found.along), found.beside))
     }
 
-    // The same without texts.
+    // The fingerprints before the changes and after each (`ArePrintsOf`), from checkpoints if there are any. The
+    // changes aren't applied.
     pub(crate) fn of(
         alloc: Global,
-        landmarks: Option<&Landmarks>,
+        checkpoints: Option<&Checkpoints>,
         folder: &Folder,
         changes: &[Change],
     ) -> Result<Fingerprints>
-        requires landmarks { IfSome landmarks (λ from. AreLandmarksOf folder.now.files from.now) }
+        requires checkpoints { IfSome checkpoints
+            (λ from. AreCheckpointsOf folder.now.files from.now) }
         requires applies { IsTrue (takes_all folder.now (changes_in changes.now)) }
         ensures { IfOk result (ArePrintsOf folder.now changes.now) }
     {
-        Ok(Fingerprints::and_digests(alloc, landmarks, folder, changes, &[])?.0)
+        Ok(Fingerprints::and_digests(alloc, checkpoints, folder, changes, &[])?.0)
     }
 
-    // The same, computed only where they aren't known.
+    // The fingerprints before the changes and after each: those that an opening computed if they are `known`, otherwise
+    // computed now. For an undo or redo.
     fn known_or_of(
         alloc: Global,
         known: Option<Fingerprints>,
@@ -106,13 +112,14 @@ impl Fingerprints {
 /// The journals of an action, as bytes.
 #[derive(Drop)]
 pub struct Journals {
-    /// The one that stands while the action's changes are made, where there are any.
+    /// The halfway journal, which is in the store while the changes are made. An action without changes has none.
     pub halfway: Option<Vec<u8>>,
-    /// That of the session afterwards.
+    /// The journal of the session afterwards.
     pub after: Vec<u8>,
 }
 
-// The parts of the journal of a session that no action has left.
+// The parts of a settled journal: no command is halfway. Its entries are `entries`, and then `newer`, so that a
+// command's new entry needn't be copied into a list. The first `cursor` are undos.
 pub(crate) fn settled<'a>(
     fingerprint: [u8; 16],
     cursor: usize,
@@ -134,8 +141,9 @@ pub(crate) fn settled<'a>(
     }
 }
 
-// Both journals of an action with this way back, of which the halfway one begins so. These are the parts of the one
-// afterwards.
+// Both journals of an action with the way back `back`, or only the second if nothing is changed. `front` is what
+// `begin` wrote of the halfway one, and `after` has the parts of the one afterwards. `CompletesHalfway`: the bytes
+// spell that one.
 fn both(
     alloc: Global,
     front: Vec<u8>,
@@ -156,13 +164,14 @@ fn both(
     }
     let fingerprints = fingerprints.after_each.as_slice();
     let part = HalfwayPartView { fingerprints, back };
-    let texts = finish_both(alloc, front, &part, after)?;
-    let (halfway, after) = (Some(texts.halfway), texts.after);
+    let buffers = finish_both(alloc, front, &part, after)?;
+    let (halfway, after) = (Some(buffers.halfway), buffers.after);
     Ok(Journals { halfway, after })
 }
 
-// The journals of a command with these changes, along which these are the fingerprints. The changes are made and turned
-// back, also where memory runs out. Nothing of them is copied but into the journals.
+// The journals of a command with these changes, along which these are the fingerprints, in a session with these
+// entries, `cursor` of which are undos. The changes are applied and taken back, even if memory runs out; their bytes
+// are copied only into the journals.
 fn spell_along(
     alloc: Global,
     fingerprints: &Fingerprints,
@@ -171,51 +180,60 @@ fn spell_along(
     folder: &mut Folder,
     changes: &mut Changes,
 ) -> Result<Journals>
+    // The changes apply to the folder, along these fingerprints. The cursor is in the list.
     requires along { AreAlong folder.old.files changes.old fingerprints.now }
     requires applies { IsTrue (takes_all folder.old changes.old) }
     requires cursor { cursor ≤ length entries.now }
+    // The changes are taken back, even if memory runs out.
     ensures folder { folder.new ≡ folder.old }
     ensures changes { changes.new ≡ changes.old }
+    // Both journals are those of the command.
     ensures spelled { IfOk result (SpellsCommand folder.old cursor entries.now changes.old) }
 {
     let front = begin(alloc, &settled(fingerprints.before, cursor, entries, &[]))?;
-    changes.turn(folder);
+    changes.apply_and_invert(folder);
     let newer = from_ref(&*changes);
     let kept = &entries[..cursor];
     let after = settled(fingerprints.after_all, cursor + 1, kept, newer);
     let answer = both(alloc, front, fingerprints, changes, &after);
-    changes.turn(folder);
+    changes.apply_and_invert(folder);
     answer
 }
 
-/// The same, where the fingerprints may be known. Else they are computed, from landmarks, where there are any.
+// The journals of a create, repair or purge with these changes, in a session with these entries, `cursor` of which are
+// undos. Its fingerprints are computed if they aren't `known`, from checkpoints if there are any.
 pub(crate) fn spell_command(
     alloc: Global,
     known: Option<&Fingerprints>,
-    landmarks: Option<&Landmarks>,
+    checkpoints: Option<&Checkpoints>,
     entries: &[Changes],
     cursor: usize,
     folder: &mut Folder,
     changes: &mut Changes,
 ) -> Result<Journals>
+    // Fingerprints and checkpoints, if any, are those of this folder.
     requires known { IfSome known (λ prints. AreAlong folder.old.files changes.old prints.now) }
-    requires landmarks { IfSome landmarks (λ from. AreLandmarksOf folder.old.files from.now) }
+    requires checkpoints { IfSome checkpoints (λ from. AreCheckpointsOf folder.old.files from.now) }
+    // The changes apply to the folder. The cursor is in the list.
     requires applies { IsTrue (takes_all folder.old changes.old) }
     requires cursor { cursor ≤ length entries.now }
+    // The changes are taken back, even if memory runs out.
     ensures folder { folder.new ≡ folder.old }
     ensures changes { changes.new ≡ changes.old }
+    // Both journals are those of the command.
     ensures spelled { IfOk result (SpellsCommand folder.old cursor entries.now changes.old) }
 {
     if let Some(fingerprints) = known {
         return spell_along(alloc, fingerprints, entries, cursor, folder, changes);
     }
-    let fingerprints = Fingerprints::of(alloc, landmarks, folder, changes.as_slice())?;
+    let fingerprints = Fingerprints::of(alloc, checkpoints, folder, changes.as_slice())?;
     spell_along(alloc, &fingerprints, entries, cursor, folder, changes)
 }
 
-/// The journals of an undo or redo of entry `at`, which is made and turned back, also where memory runs out. `next` is
-/// the cursor afterwards. The halfway journal is part before the entry is turned, so nothing of it is copied but into
-/// the journals. The folder is digested only where the fingerprints along the entry aren't known.
+// The journals of an undo or redo of entry `at`, which is applied and taken back, even if memory runs out. `cursor` is
+// the number of undos before, and `next` the number afterwards. The halfway journal begins with the entries as they are
+// before that, so their bytes are copied only into the journals. The folder is digested only if the fingerprints along
+// the entry aren't known.
 pub(crate) fn spell_entry(
     alloc: Global,
     known: Option<Fingerprints>,
@@ -225,21 +243,25 @@ pub(crate) fn spell_entry(
     next: usize,
     folder: &mut Folder,
 ) -> Result<Journals>
+    // The entry applies to the folder. Fingerprints, if any, are along its changes.
     requires applies { IsTrue (takes_all folder.old (get_or entries.old at [])) }
     requires known { IfSome known (AreAlong folder.old.files (get_or entries.old at [])) }
+    // The entry and both cursors are in the list.
     requires place { at < length entries.old }
     requires cursor { cursor ≤ length entries.old }
     requires next { next ≤ length entries.old }
+    // The entry is taken back, even if memory runs out.
     ensures folder { folder.new ≡ folder.old }
     ensures entries { entries.new ≡ entries.old }
+    // Both journals are those of the undo or redo.
     ensures spelled { IfOk result (SpellsEntry folder.old cursor entries.old at next) }
 {
     let fingerprints = Fingerprints::known_or_of(alloc, known, folder, entries[at].as_slice())?;
     let front = begin(alloc, &settled(fingerprints.before, cursor, entries, &[]))?;
-    entries[at].turn(folder);
-    let turned = &*entries;
-    let after = settled(fingerprints.after_all, next, turned, &[]);
-    let answer = both(alloc, front, &fingerprints, &turned[at], &after);
-    entries[at].turn(folder);
+    entries[at].apply_and_invert(folder);
+    let inverted = &*entries;
+    let after = settled(fingerprints.after_all, next, inverted, &[]);
+    let answer = both(alloc, front, &fingerprints, &inverted[at], &after);
+    entries[at].apply_and_invert(folder);
     answer
 }

@@ -1,4 +1,6 @@
-//! A command that a stop left halfway is taken back.
+//! Taking back a command that a stop left halfway. `open_halfway` finds by the folder's fingerprint how many of its
+//! changes were made (`way_back`), and takes them back in memory (`take_back`). The caller then makes
+//! `Halfway::changes` in its store, puts the `settled` journal, and goes on with the session (`finish`).
 ghost use Rattle.std.specs.Prelude.{◌≡◌, ◌≤◌, ◌<◌, ◌&&◌, ⊤, IfSome, IfOk, IfErr, OnOk, OnErr, IsTrue, length, position, Ok, None, Some};
 ghost use Rattle.std.specs.Str.{bytes_eq};
 ghost use Rattle.par2_spec.specs.Journals.{Spells};
@@ -17,7 +19,7 @@ use par2_journal_format::{HalfwayPart, Journal};
 use par2_spec::{JournalFault, Result};
 use std::alloc::Global;
 
-/// A session of which a stop left a command halfway, as it was before the command.
+/// A session before a command that a stop left halfway, and the changes that lead back to it.
 #[derive(Drop)]
 pub struct Halfway {
     session: Session,
@@ -25,21 +27,21 @@ pub struct Halfway {
 }
 
 impl Halfway {
-    /// The changes that take the command back, in order.
+    /// The changes that take the command back, in order, to be made in the store.
     pub fn changes(&self) -> &[Change]
         ensures { changes_in result.now ≡ way_left self.now }
     {
         self.back.as_slice()
     }
 
-    /// The session, once they are made.
+    /// The session before the command. The store has its folder once `changes` are made.
     pub fn finish(self) -> Session
         ensures { result ≡ session_before self }
     {
         self.session
     }
 
-    /// The journal that is to stand then.
+    /// The settled journal of that session, to be put in the store after `changes`. Err if memory runs out.
     pub fn settled(&self) -> Result<Vec<u8>>
         ensures { IfOk result (λ x. Spells x.items (kept_journal (session_before self.now))) }
     {
@@ -47,7 +49,8 @@ impl Halfway {
     }
 }
 
-// Goes back by the changes, which are to leave folders with these fingerprints. They become the way forth.
+// Applies the changes `way` to the folder in memory if they lead through folders with the fingerprints `wanted`, one
+// after each change; otherwise the journal is invalid. `WentForth`: `way` becomes the changes that lead forward again.
 fn go_back(
     alloc: Global,
     folder: &mut Folder,
@@ -72,7 +75,8 @@ fn go_back(
     Ok(())
 }
 
-// The session of the entries, to which the changes go back. They are to leave folders with these fingerprints.
+// Applies the changes `way`, which must lead through folders with the fingerprints `wanted`, and opens a session with
+// these entries on the folder that they leave, all in memory. A refusal returns the folder as it was.
 fn take_back(
     alloc: Global,
     mut folder: Folder,
@@ -101,7 +105,8 @@ fn take_back(
     }
 }
 
-// Where the fingerprint first stands.
+// The first index of the fingerprint in `known`, which has those before a command and after each of its changes: this
+// many changes count as made.
 fn find_fingerprint(known: &[[u8; 16]], print: &[u8; 16]) -> Option<usize>
     ensures found { result ≡ position (bytes_eq print.now) known.now }
     ensures within { IfSome result (λ at. at < length known.now) }
@@ -111,8 +116,8 @@ fn find_fingerprint(known: &[[u8; 16]], print: &[u8; 16]) -> Option<usize>
         .position(|one| print.as_slice() == one.as_slice())
 }
 
-// The fingerprints to go back by: those before the place of the folder's, the last one first. There are none where the
-// folder has no place.
+// The fingerprints to go back by: those before the folder's own, the last one first. None if the folder's isn't among
+// them. `first` is the one before the command, and `others` are those after each of its changes. `LeadBack` says so.
 fn fingerprints_back(
     alloc: Global,
     folder: &Folder,
@@ -134,7 +139,8 @@ fn fingerprints_back(
     Ok(Some(known))
 }
 
-// The fingerprints to go back by, and copies of the changes that go back by them.
+// The fingerprints to go back by, the last one first, and copies of the changes that lead through them, for the store.
+// `first` is the fingerprint before the command. `HasNoPlace`: the folder's isn't in the journal, or memory ran out.
 fn way_back(
     alloc: Global,
     folder: &Folder,
@@ -156,7 +162,8 @@ fn way_back(
     Ok((wanted, back))
 }
 
-// Opens by the journal of a halfway command, which has this part.
+// Opens the journal of a halfway command, with this halfway part: the session before the command, and the changes that
+// lead back to it. It is refused if the folder isn't one that the command passes through.
 pub(crate) fn open_halfway(
     alloc: Global,
     folder: Folder,
@@ -166,7 +173,8 @@ pub(crate) fn open_halfway(
     requires cursor { journal.cursor ≤ length journal.entries.items }
     requires counted { AreCounted journal.entries.items }
     requires each { length part.fingerprints.items ≡ length part.back }
-    ensures { let answer = opened_by_part folder.files (journal_of journal) (halfway_of (Some part)) in
+    ensures { let answer =
+        opened_by_part folder.files (journal_of journal) (halfway_of (Some part)) in
         AnswersWhere ⊤ folder.files (λ given. given ≡ answer) result }
 {
     let (wanted, back) = match way_back(alloc, &folder, journal.fingerprint, &part) {

@@ -1,11 +1,11 @@
--- Blocks and numbers: what is read stood there, and what is written is read again.
+-- Blocks and numbers: what is read was there, and what is written is read again.
 use Rattle.par2_journal_format.proofs.Common.{◌≡◌, ℕ, zero, suc, ◌^◌, ◌≤◌, ◌<◌, Bool, true, false, cond, ltb, List, [], ◌∷◌, ◌++◌, length, take, drop, get_or, Option, Some, None, refl, sym, ap, subst, ◌∙◌, append_assoc, arith, flat_map, w64, to_le_bytes, from_le_bytes, AllByRecursion, ltb-false, le-ltb, same_Some, take_at, drop_at, take-append-drop, length-append, length-take-le, ◌>>=◌, block_at, number_at, many_at, AreBytes, bytes-take, bytes-drop, all_at}
 use Rattle.std.proofs.lemmas.Nat.{le_bytes_8, from_le_bytes-to_le_bytes_8}
 use Rattle.par2_journal_format.proofs.Many.{Reader}
 
 -- ---- steps
 
--- the value of a step that gave one
+-- if two steps give a value, so does the first one
 pub bind_some : {A B : Type 0} (o : Option A) (f : A → Option B) (y : B) → (o >>= f) ≡ Some y → (x : A) × (o ≡ Some x) × (f x ≡ Some y)
 bind_some (Some x) f y e = (x, refl, e)
 bind_some None f y e = absurd cc
@@ -14,9 +14,9 @@ passed : {A : Type 0} (b : Bool) (x y : A) → cond b None (Some x) ≡ Some y �
 passed true x y e = absurd cc
 passed false x y e = (refl, cc)
 
--- what was taken from the front
-pub record Took (bytes text rest : List ℕ) : Type 0 where
-  pub parts : bytes ≡ text ++ rest
+-- what was taken from the front, and the rest
+pub record Took (bytes content rest : List ℕ) : Type 0 where
+  pub parts : bytes ≡ content ++ rest
   pub fits : AreBytes rest
 
 pub Took-then : (a x b y c : List ℕ) → Took a x b → Took b y c → Took a (x ++ y) c
@@ -25,10 +25,10 @@ Took-then a x b y c p q = record { parts = p.parts ∙ ap (λ (t : List ℕ). x 
 pub Took-behind : (k : ℕ) (a x b : List ℕ) → Took a x b → Took (k ∷ a) (k ∷ x) b
 Took-behind k a x b p = record { parts = ap (λ (t : List ℕ). k ∷ t) p.parts; fits = p.fits }
 
--- a reader takes exactly the texts of what holds
-pub record IsRead {A : Type 0} (one : Reader A) (text_of : A → List ℕ) (P : A → Type 0) : Type 0 where
-  pub takes : (bytes : List ℕ) (x : A × List ℕ) → AreBytes bytes → one bytes ≡ Some x → Took bytes (text_of x.0) x.1 × P x.0
-  pub again : (a : A) (rest : List ℕ) → P a → one (text_of a ++ rest) ≡ Some (a, rest)
+-- a reader takes exactly the bytes of values of which P holds
+pub record IsRead {A : Type 0} (one : Reader A) (bytes_of : A → List ℕ) (P : A → Type 0) : Type 0 where
+  pub takes : (bytes : List ℕ) (x : A × List ℕ) → AreBytes bytes → one bytes ≡ Some x → Took bytes (bytes_of x.0) x.1 × P x.0
+  pub again : (a : A) (rest : List ℕ) → P a → one (bytes_of a ++ rest) ≡ Some (a, rest)
 
 -- ---- blocks
 
@@ -81,34 +81,34 @@ number_again n rest lt = number_split (to_le_bytes w64 n) rest refl ∙ ap (λ k
 pub number_read : IsRead number_at (to_le_bytes w64) (λ n. n < 2 ^ 64)
 number_read = record { takes = number_takes; again = number_again }
 
--- ---- many
+-- ---- several values
 
 abbrev pub AreMany : {A : Type 0} → (A → Type 0) → ℕ → List A → Type 0
 AreMany P n xs = (length xs ≡ n) × AllByRecursion P xs
 
-many_takes : {A : Type 0} (one : Reader A) (text_of : A → List ℕ) (P : A → Type 0) (read : IsRead one text_of P) (n : ℕ) (bytes : List ℕ) (x : List A × List ℕ)
-    → AreBytes bytes → many_at one n bytes ≡ Some x → Took bytes (flat_map text_of x.0) x.1 × AreMany P n x.0
+many_takes : {A : Type 0} (one : Reader A) (bytes_of : A → List ℕ) (P : A → Type 0) (read : IsRead one bytes_of P) (n : ℕ) (bytes : List ℕ) (x : List A × List ℕ)
+    → AreBytes bytes → many_at one n bytes ≡ Some x → Took bytes (flat_map bytes_of x.0) x.1 × AreMany P n x.0
 unfolding many_at
-many_takes one text_of P read zero bytes x fits e =
-    subst (λ y. Took bytes (flat_map text_of y.0) y.1 × AreMany P 0 y.0) (same_Some ([], bytes) x e) (record { parts = refl; fits = fits }, (refl, tt))
-many_takes one text_of P read (suc n) bytes x fits e =
+many_takes one bytes_of P read zero bytes x fits e =
+    subst (λ y. Took bytes (flat_map bytes_of y.0) y.1 × AreMany P 0 y.0) (same_Some ([], bytes) x e) (record { parts = refl; fits = fits }, (refl, tt))
+many_takes one bytes_of P read (suc n) bytes x fits e =
     let a = bind_some (one bytes) (λ first. many_at one n first.1 >>= λ others. Some (first.0 ∷ others.0, others.1)) x e in
     let b = bind_some (many_at one n a.0.1) (λ others. Some (a.0.0 ∷ others.0, others.1)) x a.2 in
     let t = read.takes bytes a.0 fits a.1 in
-    let u = many_takes one text_of P read n a.0.1 b.0 t.0.fits b.1 in
-    let both = Took-then bytes (text_of a.0.0) a.0.1 (flat_map text_of b.0.0) b.0.1 t.0 u.0 in
-    subst (λ y. Took bytes (flat_map text_of y.0) y.1 × AreMany P (suc n) y.0) (same_Some (a.0.0 ∷ b.0.0, b.0.1) x b.2) (both, (ap suc u.1.0, (t.1, u.1.1)))
+    let u = many_takes one bytes_of P read n a.0.1 b.0 t.0.fits b.1 in
+    let both = Took-then bytes (bytes_of a.0.0) a.0.1 (flat_map bytes_of b.0.0) b.0.1 t.0 u.0 in
+    subst (λ y. Took bytes (flat_map bytes_of y.0) y.1 × AreMany P (suc n) y.0) (same_Some (a.0.0 ∷ b.0.0, b.0.1) x b.2) (both, (ap suc u.1.0, (t.1, u.1.1)))
 
-many_again : {A : Type 0} (one : Reader A) (text_of : A → List ℕ) (P : A → Type 0) (read : IsRead one text_of P) (xs : List A) (rest : List ℕ)
-    → AllByRecursion P xs → many_at one (length xs) (flat_map text_of xs ++ rest) ≡ Some (xs, rest)
+many_again : {A : Type 0} (one : Reader A) (bytes_of : A → List ℕ) (P : A → Type 0) (read : IsRead one bytes_of P) (xs : List A) (rest : List ℕ)
+    → AllByRecursion P xs → many_at one (length xs) (flat_map bytes_of xs ++ rest) ≡ Some (xs, rest)
 unfolding many_at
-many_again one text_of P read [] rest fits = refl
-many_again one text_of P read (x ∷ xs) rest fits =
-    let apart : flat_map text_of (x ∷ xs) ++ rest ≡ text_of x ++ (flat_map text_of xs ++ rest) = append_assoc (text_of x) (flat_map text_of xs) rest in
-    ap (many_at one (suc (length xs))) apart ∙ rw (read.again x (flat_map text_of xs ++ rest) fits.0, many_again one text_of P read xs rest fits.1) refl
+many_again one bytes_of P read [] rest fits = refl
+many_again one bytes_of P read (x ∷ xs) rest fits =
+    let apart : flat_map bytes_of (x ∷ xs) ++ rest ≡ bytes_of x ++ (flat_map bytes_of xs ++ rest) = append_assoc (bytes_of x) (flat_map bytes_of xs) rest in
+    ap (many_at one (suc (length xs))) apart ∙ rw (read.again x (flat_map bytes_of xs ++ rest) fits.0, many_again one bytes_of P read xs rest fits.1) refl
 
-pub many_read : {A : Type 0} (one : Reader A) (text_of : A → List ℕ) (P : A → Type 0) → IsRead one text_of P → (n : ℕ) → IsRead (many_at one n) (flat_map text_of) (AreMany P n)
-many_read one text_of P read n = record {
-  takes = many_takes one text_of P read n;
-  again = λ xs rest h. subst (λ k. many_at one k (flat_map text_of xs ++ rest) ≡ Some (xs, rest)) h.0 (many_again one text_of P read xs rest h.1);
+pub many_read : {A : Type 0} (one : Reader A) (bytes_of : A → List ℕ) (P : A → Type 0) → IsRead one bytes_of P → (n : ℕ) → IsRead (many_at one n) (flat_map bytes_of) (AreMany P n)
+many_read one bytes_of P read n = record {
+  takes = many_takes one bytes_of P read n;
+  again = λ xs rest h. subst (λ k. many_at one k (flat_map bytes_of xs ++ rest) ≡ Some (xs, rest)) h.0 (many_again one bytes_of P read xs rest h.1);
 }

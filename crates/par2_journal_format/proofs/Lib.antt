@@ -3,5 +3,5 @@ pub mod Many
 pub mod Fields
 pub mod Pieces
 pub mod Whole
-pub mod UntestedTexts
+pub mod UntestedLaws
 pub mod Fronts

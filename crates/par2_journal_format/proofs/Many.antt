@@ -4,11 +4,11 @@ use Rattle.par2_journal_format.proofs.Common.{◌≡◌, ℕ, suc, ◌-◌, ◌+
 abbrev pub Reader : Type 0 → Type 0
 Reader A = List ℕ → Option (A × List ℕ)
 
--- what stands in front of what is read
+-- values that were read before, in front of those that are read now
 abbrev pub behind : {A : Type 0} → List A → Option (List A × List ℕ) → Option (List A × List ℕ)
 behind front read = read >>= λ x. Some (front ++ x.0, x.1)
 
--- at entry i of n, the list so far and the rest give what the whole gives
+-- at value i of n, the list so far and the rest give what the whole gives
 abbrev pub SoFar : {A : Type 0} → Reader A → ℕ → List ℕ → List A → ℕ → List ℕ → Type 0
 SoFar one n bytes front i rest = behind front (many_at one (n - i) rest) ≡ many_at one n bytes
 
@@ -47,14 +47,14 @@ ends one n bytes front i rest le so_far =
 
 -- ---- writing
 
--- the values, written by f, stand after what was there before, and P holds of each
+-- the values, written by f, follow what was there before, and P holds of each
 abbrev pub AreWritten : {X : Type 0} → (X → Type 0) → (X → List ℕ) → List X → List ℕ → List ℕ → Type 0
 AreWritten P f xs start out = record {
   bytes : out ≡ start ++ flat_map f xs;
   each : AllByRecursion P xs;
 }
 
--- the first i of them were written, and one more
+-- after the first i values, one more is written
 pub wrote_more : {X : Type 0} (xs : List X) (i : ℕ) (P : X → Type 0) (f : X → List ℕ) (start out new : List ℕ) (x : X) → i < length xs → x ≡ get_or xs i x
     → AreWritten P f (take i xs) start out → new ≡ out ++ f x → P x → AreWritten P f (take (i + 1) xs) start new
 wrote_more xs i P f start out new x lt is so_far step here =

@@ -27,7 +27,7 @@ name_again name rest h = rw (block_again (length name) name rest refl, h) refl
 name_read : IsRead name_at name_bytes IsName
 name_read = record { takes = name_takes; again = name_again }
 
--- ---- bytes after their number
+-- ---- bytes after their length
 
 counted_takes : (bytes : List ℕ) (x : List ℕ × List ℕ) → AreBytes bytes → behind_length_at bytes ≡ Some x → Took bytes (behind_length x.0) x.1 × IsFileBytes x.0
 unfolding behind_length_at
@@ -38,9 +38,9 @@ counted_takes bytes x fits e =
     let both = Took-then bytes (to_le_bytes w64 b.0.0) b.0.1 x.0 x.1 t.0 u.0 in
     (subst (λ (k : ℕ). Took bytes (to_le_bytes w64 k ++ x.0) x.1) (sym u.1) both, subst (λ (k : ℕ). k < 2 ^ 64) (sym u.1) t.1)
 
-counted_again : (text rest : List ℕ) → IsFileBytes text → behind_length_at (behind_length text ++ rest) ≡ Some (text, rest)
+counted_again : (bytes rest : List ℕ) → IsFileBytes bytes → behind_length_at (behind_length bytes ++ rest) ≡ Some (bytes, rest)
 unfolding behind_length_at
-counted_again text rest h = rw (append_assoc (to_le_bytes w64 (length text)) text rest, number_again (length text) (text ++ rest) h, block_again (length text) text rest refl) refl
+counted_again bytes rest h = rw (append_assoc (to_le_bytes w64 (length bytes)) bytes rest, number_again (length bytes) (bytes ++ rest) h, block_again (length bytes) bytes rest refl) refl
 
 counted_read : IsRead behind_length_at behind_length IsFileBytes
 counted_read = record { takes = counted_takes; again = counted_again }
@@ -120,8 +120,8 @@ entry_read = record { takes = entry_takes; again = entry_again }
 
 -- ---- the halfway part
 
-abbrev digests_text : List (List ℕ) → List ℕ
-digests_text ps = flat_map (λ (p : List ℕ). p) ps
+abbrev digests_bytes : List (List ℕ) → List ℕ
+digests_bytes ps = flat_map (λ (p : List ℕ). p) ps
 
 abbrev halfway_with : ℕ → List (List ℕ) × List ℕ → List Change × List ℕ → Option (Option HalfwayPart × List ℕ)
 halfway_with n prints back = some_where (leb 1 n) (Some (record { fingerprints = prints.0; back = back.0 }), back.1)
@@ -146,9 +146,9 @@ halfway_takes (suc zero ∷ bytes) x fits e =
     let t = number_read.takes bytes a.0 fits.1 a.1 in
     let u = (many_read (block_at 16) (λ (p : List ℕ). p) IsDigest (block_read 16) a.0.0).takes a.0.1 b.0 t.0.fits b.1 in
     let v = (many_read change_at change_bytes IsChange change_read a.0.0).takes b.0.1 c.0 u.0.fits c.1 in
-    let front = Took-then bytes (to_le_bytes w64 a.0.0) a.0.1 (digests_text b.0.0) b.0.1 t.0 u.0 in
-    let both = Took-then bytes (to_le_bytes w64 a.0.0 ++ digests_text b.0.0) b.0.1 (flat_map change_bytes c.0.0) c.0.1 front v.0 in
-    let counted_so = subst (λ (k : ℕ). Took bytes (to_le_bytes w64 k ++ digests_text b.0.0 ++ flat_map change_bytes c.0.0) c.0.1) (sym v.1.0) both in
+    let front = Took-then bytes (to_le_bytes w64 a.0.0) a.0.1 (digests_bytes b.0.0) b.0.1 t.0 u.0 in
+    let both = Took-then bytes (to_le_bytes w64 a.0.0 ++ digests_bytes b.0.0) b.0.1 (flat_map change_bytes c.0.0) c.0.1 front v.0 in
+    let counted_so = subst (λ (k : ℕ). Took bytes (to_le_bytes w64 k ++ digests_bytes b.0.0 ++ flat_map change_bytes c.0.0) c.0.1) (sym v.1.0) both in
     let joined = subst (λ (s : List ℕ). Took bytes (to_le_bytes w64 (length c.0.0) ++ s ++ flat_map change_bytes c.0.0) c.0.1) (sym (concat_is b.0.0)) counted_so in
     subst (λ (y : Option HalfwayPart × List ℕ). Took (1 ∷ bytes) (halfway_bytes y.0) y.1 × IfSome y.0 IsHalfwayPart) p.1 (
       Took-behind 1 bytes (to_le_bytes w64 (length c.0.0) ++ concat b.0.0 ++ flat_map change_bytes c.0.0) c.0.1 joined,
@@ -168,14 +168,14 @@ halfway_again (Some b) rest given =
     let h : IsHalfwayPart b = given in
     let n : ℕ = length b.back in
     let ways : List ℕ = flat_map change_bytes b.back in
-    let apart : to_le_bytes w64 n ++ concat b.fingerprints ++ ways ++ rest ≡ to_le_bytes w64 n ++ (digests_text b.fingerprints ++ (ways ++ rest)) =
+    let apart : to_le_bytes w64 n ++ concat b.fingerprints ++ ways ++ rest ≡ to_le_bytes w64 n ++ (digests_bytes b.fingerprints ++ (ways ++ rest)) =
     ap (λ (s : List ℕ). to_le_bytes w64 n ++ s ++ ways ++ rest) (concat_is b.fingerprints)
-    ∙ ap (λ (s : List ℕ). s ++ rest) (append_assoc (to_le_bytes w64 n) (digests_text b.fingerprints) ways)
-    ∙ append_assoc (to_le_bytes w64 n) (digests_text b.fingerprints ++ ways) rest
-    ∙ ap (λ (s : List ℕ). to_le_bytes w64 n ++ s) (append_assoc (digests_text b.fingerprints) ways rest) in
+    ∙ ap (λ (s : List ℕ). s ++ rest) (append_assoc (to_le_bytes w64 n) (digests_bytes b.fingerprints) ways)
+    ∙ append_assoc (to_le_bytes w64 n) (digests_bytes b.fingerprints ++ ways) rest
+    ∙ ap (λ (s : List ℕ). to_le_bytes w64 n ++ s) (append_assoc (digests_bytes b.fingerprints) ways rest) in
     let prints = (many_read (block_at 16) (λ (p : List ℕ). p) IsDigest (block_read 16) n).again b.fingerprints (ways ++ rest) (h.each, h.fingerprints) in
     let back = (many_read change_at change_bytes IsChange change_read n).again b.back rest (refl, h.back.1) in
-    rw (apart, number_again n (digests_text b.fingerprints ++ (ways ++ rest)) h.back.0, prints, back) (ap (λ (t : Bool). some_where t (Some b, rest)) (le-leb 1 n h.some))
+    rw (apart, number_again n (digests_bytes b.fingerprints ++ (ways ++ rest)) h.back.0, prints, back) (ap (λ (t : Bool). some_where t (Some b, rest)) (le-leb 1 n h.some))
 
 pub halfway_read : IsRead halfway_at halfway_bytes (λ o. IfSome o IsHalfwayPart)
 halfway_read = record { takes = halfway_takes; again = halfway_again }

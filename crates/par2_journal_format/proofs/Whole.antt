@@ -116,7 +116,7 @@ parts_take bytes j fits e =
     let u6 = Took-then bytes (heading v ++ b.0.0 ++ cursor_bytes v c.0.0 ++ to_le_bytes w64 n ++ flat_map entry_bytes f.0.0) f.0.1 (halfway_bytes g.0.0) g.0.1 u5 t6.0 in
     let nothing : g.0.1 ≡ [] = nil_from_length g.0.1 (eqb-true _ _ tests.1) in
     let spells : (cs ns rest : List ℕ) → List ℕ = λ cs ns rest. heading v ++ b.0.0 ++ cs ++ ns ++ flat_map entry_bytes f.0.0 ++ halfway_bytes g.0.0 ++ rest in
-    let text : bytes ≡ journal_bytes made =
+    let content : bytes ≡ journal_bytes made =
     u6.parts ∙ ap (λ (rest : List ℕ). spells (cursor_bytes v c.0.0) (to_le_bytes w64 n) rest) nothing
     ∙ append-nil (heading v ++ b.0.0 ++ cursor_bytes v c.0.0 ++ to_le_bytes w64 n ++ flat_map entry_bytes f.0.0 ++ halfway_bytes g.0.0)
     ∙ ap (λ (cs : List ℕ). heading v ++ b.0.0 ++ cs ++ to_le_bytes w64 n ++ flat_map entry_bytes f.0.0 ++ halfway_bytes g.0.0) (spelled v c.0.0 n)
@@ -128,7 +128,7 @@ parts_take bytes j fits e =
       entries = t5.1.1;
       halfway = t6.1;
     } in
-    subst (λ (k : Journal). IsJournal k × (bytes ≡ journal_bytes k)) p.1 (is, text)
+    subst (λ (k : Journal). IsJournal k × (bytes ≡ journal_bytes k)) p.1 (is, content)
 
 right : (a b c d e f : List ℕ) → a ++ b ++ c ++ d ++ e ++ f ≡ a ++ (b ++ (c ++ (d ++ (e ++ (f ++ [])))))
 right a b c d e f = simp (append_assoc, append-nil)
@@ -157,39 +157,39 @@ parts_again j is =
 
 -- ---- with the digest
 
--- a text of a body and its digest ends with the digest of the body
-module _ (body text : List ℕ) (is : text ≡ body ++ md5 body) where
-  long : length text ≡ length body + 16
+-- a body and its MD5 end with the body's digest
+module _ (body bytes : List ℕ) (is : bytes ≡ body ++ md5 body) where
+  long : length bytes ≡ length body + 16
   long = ap length is ∙ length-append body (md5 body) ∙ ap (λ (k : ℕ). length body + k) (length-md5 body)
 
-  front : take (length text - 16) text ≡ body
-  front = let n : length body ≡ length text - 16 = omega (arith, long) in ap (take (length text - 16)) is ∙ take_at body (md5 body) (length text - 16) n
+  front : take (length bytes - 16) bytes ≡ body
+  front = let n : length body ≡ length bytes - 16 = omega (arith, long) in ap (take (length bytes - 16)) is ∙ take_at body (md5 body) (length bytes - 16) n
 
-  pub seals : IsSealed text
+  pub seals : IsSealed bytes
   seals =
-      let n : length body ≡ length text - 16 = omega (arith, long) in
+      let n : length body ≡ length bytes - 16 = omega (arith, long) in
       record {
         long = omega (arith, long);
-        digest = ap (drop (length text - 16)) is ∙ drop_at body (md5 body) (length text - 16) n ∙ ap md5 (sym front);
+        digest = ap (drop (length bytes - 16)) is ∙ drop_at body (md5 body) (length bytes - 16) n ∙ ap md5 (sym front);
       }
 
--- what is spelled ends with its digest, and is read before it
-pub spells_sealed : (text : List ℕ) (j : Journal) → Spells text j → IsSealed text
+-- the bytes of a journal end with their digest, and are read before it
+pub spells_sealed : (bytes : List ℕ) (j : Journal) → Spells bytes j → IsSealed bytes
 unfolding spelling
-spells_sealed text j spells = seals (journal_bytes j) text spells.1
+spells_sealed bytes j spells = seals (journal_bytes j) bytes spells.1
 
-pub spells_parts : (text : List ℕ) (j : Journal) → Spells text j → parts_at (take (length text - 16) text) ≡ Some j
+pub spells_parts : (bytes : List ℕ) (j : Journal) → Spells bytes j → parts_at (take (length bytes - 16) bytes) ≡ Some j
 unfolding spelling
-spells_parts text j spells = ap parts_at (front (journal_bytes j) text spells.1) ∙ parts_again j spells.0
+spells_parts bytes j spells = ap parts_at (front (journal_bytes j) bytes spells.1) ∙ parts_again j spells.0
 
--- what is read before the digest is spelled so
-pub parts_spell : (text : List ℕ) (j : Journal) → AreBytes text → IsSealed text → parts_at (take (length text - 16) text) ≡ Some j → Spells text j
+-- the bytes spell the journal that is read before their digest
+pub parts_spell : (content : List ℕ) (j : Journal) → AreBytes content → IsSealed content → parts_at (take (length content - 16) content) ≡ Some j → Spells content j
 unfolding spelling
-parts_spell text j fits sealed is =
-    let n : ℕ = length text - 16 in
-    let t = parts_take (take n text) j (bytes-take n text fits) is in
-    (t.0, sym (take-append-drop n text) ∙ ap (λ (s : List ℕ). take n text ++ s) sealed.digest ∙ ap (λ (s : List ℕ). s ++ md5 s) t.1)
+parts_spell content j fits sealed is =
+    let n : ℕ = length content - 16 in
+    let t = parts_take (take n content) j (bytes-take n content fits) is in
+    (t.0, sym (take-append-drop n content) ∙ ap (λ (s : List ℕ). take n content ++ s) sealed.digest ∙ ap (λ (s : List ℕ). s ++ md5 s) t.1)
 
--- a text has one reading
-pub one_reading : (text : List ℕ) (a b : Journal) → Spells text a → Spells text b → a ≡ b
-one_reading text a b p q = same_Some a b (sym (spells_parts text a p) ∙ spells_parts text b q)
+-- bytes spell at most one journal
+pub one_reading : (bytes : List ℕ) (a b : Journal) → Spells bytes a → Spells bytes b → a ≡ b
+one_reading bytes a b p q = same_Some a b (sym (spells_parts bytes a p) ∙ spells_parts bytes b q)

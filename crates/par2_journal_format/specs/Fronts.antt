@@ -8,20 +8,20 @@ unfoldable pub front_bytes : Journal → List ℕ
 front_bytes j =
     heading j.version ++ j.fingerprint ++ cursor_bytes j.version j.cursor ++ to_le_bytes w64 (length j.entries) ++ flat_map entry_bytes j.entries
 
--- a journal with another halfway part
+-- the journal with this halfway part in place of its own
 abbrev pub with_halfway : Journal → Option HalfwayPart → Journal
 with_halfway j halfway = record { version = j.version; fingerprint = j.fingerprint; cursor = j.cursor; entries = j.entries; halfway = halfway }
 
--- the text has the bytes of a journal up to its entries, and what they say has a spelling
-pub record Begins (text : List ℕ) (j : Journal) : Type 0 where
+-- these are the bytes of a journal up to its entries, and a journal with these parts can be spelled
+pub record Begins (content : List ℕ) (j : Journal) : Type 0 where
   pub settled : IsJournal (with_halfway j None)
-  pub bytes : text ≡ front_bytes j
+  pub bytes : content ≡ front_bytes j
 
--- with this halfway part, the text is all but the digest of each journal that the front begins
+-- with this halfway part, the bytes are all but the digest of each journal that the front begins
 abbrev pub Continues : List ℕ → Option HalfwayPart → List ℕ → Type 0
-Continues front halfway text =
-    (j : Journal) → Begins front j → IsJournal (with_halfway j halfway) × (text ≡ journal_bytes (with_halfway j halfway))
+Continues front halfway bytes =
+    (j : Journal) → Begins front j → IsJournal (with_halfway j halfway) × (bytes ≡ journal_bytes (with_halfway j halfway))
 
--- with this halfway part, the text is the spelling of each journal that the front begins
+-- with this halfway part, the bytes spell each journal that the front begins
 abbrev pub Finishes : List ℕ → Option HalfwayPart → List ℕ → Type 0
-Finishes front halfway text = (j : Journal) → Begins front j → Spells text (with_halfway j halfway)
+Finishes front halfway bytes = (j : Journal) → Begins front j → Spells bytes (with_halfway j halfway)

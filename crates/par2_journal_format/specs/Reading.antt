@@ -11,43 +11,49 @@ use Rattle.par2_spec.specs.declared.Version.TheVariants.{One, Two}
 use Rattle.par2_journal_format.specs.declared.fault.DecodeFault.{DecodeFault}
 use Rattle.par2_journal_format.specs.declared.fault.DecodeFault.TheVariants.{JournalInvalid, Memory}
 
+-- the next step, if this one gives a value
 infixl 10 ◌>>=◌
 abbrev pub ◌>>=◌ : {A B : Type 0} → Option A → (A → Option B) → Option B
 (Some x) >>= f = f x
 None >>= f = None
 
--- with this fault a function says that reading gives nothing, unless memory ran out
+-- a reader's fault: JournalInvalid if the definition reads nothing, or Memory at any time
 abbrev pub Fails : {Y : Type 0} → DecodeFault → Option Y → Type 0
 Fails Memory read = Unit {0}
 Fails JournalInvalid read = read ≡ None
 
--- what a function returned, seen by the view, is what reading gives, unless memory ran out
+-- a reader's result, seen by `view`, is what the definition reads; its fault is JournalInvalid if that is nothing, or
+-- Memory
 abbrev pub Gives : {X Y : Type 0} → (X → Y) → Result X DecodeFault → Option Y → Type 0
 Gives view (Ok x) read = read ≡ Some (view x)
 Gives view (Err fault) read = Fails fault read
 
+-- a value, if it passes a test
 abbrev pub some_where : {A : Type 0} → Bool → A → Option A
 some_where test x = if test then Some x else None
 
--- as many bytes
+-- the first n bytes, and the bytes after them; nothing if there are fewer
 unfoldable pub block_at : ℕ → List ℕ → Option (List ℕ × List ℕ)
 block_at n bytes = if nat_lt (length bytes) n then None else Some (take n bytes, drop n bytes)
 
+-- a number: eight bytes, little-endian
 unfoldable pub number_at : List ℕ → Option (ℕ × List ℕ)
 number_at bytes = if nat_lt (length bytes) 8 then None else Some (from_le_bytes w64 (take 8 bytes), drop 8 bytes)
 
+-- a name: its length in one byte, then its bytes
 unfoldable pub name_at : List ℕ → Option (List ℕ × List ℕ)
 name_at [] = None
 name_at (n ∷ bytes) = do
   x ← block_at n bytes
   some_where (is_name x.0) x
 
--- bytes after their length
+-- a length, then as many bytes
 unfoldable pub behind_length_at : List ℕ → Option (List ℕ × List ℕ)
 behind_length_at bytes = do
   n ← number_at bytes
   block_at n.0 n.1
 
+-- a change: its kind in one byte, its name, and its content or its new name
 unfoldable pub change_at : List ℕ → Option (Change × List ℕ)
 change_at [] = None
 change_at (zero ∷ bytes) = None
@@ -76,12 +82,13 @@ many_at one (suc n) bytes = do
   others ← many_at one n first.1
   Some (first.0 ∷ others.0, others.1)
 
--- changes after their number
+-- a count, then as many changes
 unfoldable pub entry_at : List ℕ → Option (List Change × List ℕ)
 entry_at bytes = do
   n ← number_at bytes
   many_at change_at n.0 n.1
 
+-- the halfway part: 0 if there is none, or 1, a count, and as many fingerprints and changes
 unfoldable pub halfway_at : List ℕ → Option (Option HalfwayPart × List ℕ)
 halfway_at [] = None
 halfway_at (zero ∷ bytes) = Some (None, bytes)
@@ -92,22 +99,24 @@ halfway_at (suc zero ∷ bytes) = do
   some_where (nat_le 1 n.0) (Some (record { fingerprints = prints.0; back = back.0 }), back.1)
 halfway_at (suc (suc b) ∷ bytes) = None
 
+-- the heading, which says the version
 unfoldable pub heading_at : List ℕ → Option (Version × List ℕ)
 heading_at bytes = do
   x ← block_at 8 bytes
   if bytes_eq x.0 (heading One) then Some (One, x.1) else if bytes_eq x.0 (heading Two) then Some (Two, x.1) else None
 
--- the cursor, where the version has one
+-- the cursor, which version 1 doesn't have
 unfoldable pub cursor_at : Version → List ℕ → Option (ℕ × List ℕ)
 cursor_at One bytes = Some (0, bytes)
 cursor_at Two bytes = number_at bytes
 
--- the cursor of a journal with n entries, c being the one that was read
+-- the cursor of a journal with n entries: in version 1 all are undos, in version 2 it is c, which was read
 abbrev pub cursor_in : Version → ℕ → ℕ → ℕ
 cursor_in One c n = n
 cursor_in Two c n = c
 
--- what stands after the cursor that was read
+-- the rest of a journal, after its cursor: the number of entries, the entries and the halfway part, with no bytes after
+-- it
 unfoldable pub behind_cursor_at : Version → List ℕ → ℕ → List ℕ → Option Journal
 behind_cursor_at version print cursor bytes = do
   n ← number_at bytes
@@ -116,7 +125,7 @@ behind_cursor_at version print cursor bytes = do
   some_where (nat_le (cursor_in version cursor n.0) n.0 && length halfway.1 == 0)
       (record { version = version; fingerprint = print; cursor = cursor_in version cursor n.0; entries = entries.0; halfway = halfway.0 })
 
--- all of the bytes but the digest
+-- a journal without its digest: heading, fingerprint, cursor, and the rest
 unfoldable pub parts_at : List ℕ → Option Journal
 parts_at bytes = do
   version ← heading_at bytes
@@ -124,7 +133,7 @@ parts_at bytes = do
   cursor ← cursor_at version.0 print.1
   behind_cursor_at version.0 print.0 cursor.0 cursor.1
 
--- the text ends with the digest of all that stands before it
-pub record IsSealed (text : List ℕ) : Type 0 where
-  pub long : 16 ≤ length text
-  pub digest : drop (length text - 16) text ≡ md5 (take (length text - 16) text)
+-- the bytes end with the digest of all bytes before it
+pub record IsSealed (bytes : List ℕ) : Type 0 where
+  pub long : 16 ≤ length bytes
+  pub digest : drop (length bytes - 16) bytes ≡ md5 (take (length bytes - 16) bytes)

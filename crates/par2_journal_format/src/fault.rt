@@ -1,11 +1,11 @@
-//! Why no journal was read.
+//! The fault that all readers of `reading.rt` return.
 ghost use Rattle.std.specs.Prelude.{◌≡◌};
 ghost use Rattle.par2_journal_format.specs.declared.fault.DecodeFault.TheVariants.{Memory};
 
 use std::alloc::{AllocError, AllocFailed};
 use thiserror::Error;
 
-/// Why no journal was read.
+/// Why bytes weren't decoded as a journal.
 #[derive(Debug, Error, Clone, Copy, Drop)]
 pub enum DecodeFault {
     #[error("the journal is not valid")]
@@ -17,6 +17,7 @@ pub enum DecodeFault {
 impl From<AllocError> for DecodeFault {
     ghost from_gives = { λ _ fault. fault ≡ Memory };
 
+    // For `?` after an allocation.
     fn from(_: AllocError) -> DecodeFault {
         DecodeFault::Memory
     }
@@ -25,6 +26,7 @@ impl From<AllocError> for DecodeFault {
 impl<T: Drop> From<AllocFailed<T>> for DecodeFault {
     ghost from_gives = { λ _ fault. fault ≡ Memory };
 
+    // For `?` after a push, which returns the item that it had no memory for.
     fn from(_: AllocFailed<T>) -> DecodeFault {
         DecodeFault::Memory
     }

@@ -1,21 +1,21 @@
-//! The parts of a journal.
+//! The parts of a journal: owned as `decode` reads them, and borrowed as `encode` and `finish_both` write them.
 ghost use Rattle.std.specs.Prelude.{◌≡◌};
 ghost use Rattle.par2_spec.specs.Journals as journals;
 
 use par2_files::Changes;
 use par2_spec::Version;
 
-/// A journal that was read.
+/// A decoded journal.
 #[derive(Drop)]
 pub struct Journal {
     pub version: Version,
-    /// The fingerprint of the folder; of a halfway journal, of the folder before the command.
+    /// The fingerprint of the folder; in a halfway journal, of the folder before the command.
     pub fingerprint: [u8; 16],
-    /// How many entries an undo applies. The others are those that a redo applies.
+    /// How many entries are undos. The others are redos.
     pub cursor: usize,
     /// The oldest first.
     pub entries: Vec<Changes>,
-    /// There where a command is halfway.
+    /// The halfway command, if there is one.
     pub halfway: Option<HalfwayPart>,
 }
 
@@ -28,24 +28,24 @@ pub struct HalfwayPart {
     pub back: Changes,
 }
 
-/// The parts that a journal of version 2 is written from, as [`Journal`] has them. Nothing of them is copied.
+/// The parts from which a settled journal of version 2 is written. It borrows them.
 #[derive(Drop)]
 pub struct JournalView<'a> {
     pub fingerprint: [u8; 16],
     pub cursor: usize,
     pub entries: &'a [Changes],
-    /// Entries that follow the others.
+    /// Entries after those in `entries`.
     pub newer: &'a [Changes],
 }
 
-/// The parts of a halfway command, as [`HalfwayPart`] has them.
+/// The borrowed parts of a [`HalfwayPart`].
 #[derive(Drop)]
 pub struct HalfwayPartView<'a> {
     pub fingerprints: &'a [[u8; 16]],
     pub back: &'a Changes,
 }
 
-// The bytes with which a journal begins.
+// The first eight bytes of a journal, which say its version.
 pub(crate) fn heading(version: Version) -> &'static [u8]
     ensures { result.now ≡ journals.heading version }
 {

@@ -1,4 +1,5 @@
-//! Journals as bytes, in both versions.
+//! The bytes of journals: versions 1 and 2 are read, version 2 is written. `par2_journal` stores sessions with it. It
+//! knows no session: whether entries can be applied, and to which folder, is decided there.
 #![tactic(auto)]
 
 mod fault;
@@ -12,4 +13,4 @@ pub use journal::{HalfwayPart, HalfwayPartView, Journal, JournalView};
 pub use laws::one_reading;
 pub use par2_spec::Version;
 pub use reading::{Untested, decode, decode_untested, is_sealed};
-pub use writing::{JournalTexts, begin, encode, finish_both};
+pub use writing::{JournalBytes, begin, encode, finish_both};

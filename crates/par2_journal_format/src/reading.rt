@@ -1,4 +1,7 @@
-//! A journal from its bytes. Each reader takes its part from the front, and gives the bytes after it too.
+//! Decoding a journal. Each reader returns a part from the front of the bytes, and the bytes after it; `Gives`: it
+//! returns what its definition in `specs/Reading.antt` reads, JournalInvalid if that reads nothing, or Memory.
+//! `decode_untested` splits the digest off and reads heading, fingerprint, cursor, entries and halfway part; `decode`
+//! tests the digest first.
 ghost use Rattle.std.specs.Prelude.{◌≡◌, ◌↔◌, ◌<◌, ◌≤◌, ◌-◌, ◌^◌, length, take, drop, IfOk, IfErr, IsTrue, Err, MatchResult};
 ghost use Rattle.par2_spec.specs.Journals.{Journal as Defined, Spells};
 ghost use Rattle.par2_files.specs.Views.{change_of};
@@ -15,10 +18,11 @@ use par2_files::{Bytes, Change, Changes, Name};
 use par2_spec::Version;
 use std::alloc::Global;
 
-// What a reader takes from the front, and the bytes after it.
+// A part from the front, and the bytes after it.
 type Read<'a, T> = Result<(T, &'a [u8]), DecodeFault>;
 
-// As many bytes. Nothing is asked for before they are known to be there.
+// The first `len` bytes, borrowed, so that nothing is allocated for a length that is claimed only. JournalInvalid if
+// there are fewer.
 #[tactic(auto, unfolding(crate::specs::Reading::block_at))]
 fn read_block(bytes: &[u8], len: usize) -> Result<(&[u8], &[u8]), DecodeFault>
     ensures { Gives (λ x. (x.0.now, x.1.now)) result (reads.block_at len bytes.now) }
@@ -27,6 +31,7 @@ fn read_block(bytes: &[u8], len: usize) -> Result<(&[u8], &[u8]), DecodeFault>
     blocks.ok_or(DecodeFault::JournalInvalid)
 }
 
+// A number of eight bytes, little-endian: a length, a count or the cursor.
 #[tactic(auto, unfolding(crate::specs::Reading::number_at))]
 fn read_number(bytes: &[u8]) -> Result<(u64, &[u8]), DecodeFault>
     ensures { Gives (λ x. (x.0, x.1.now)) result (reads.number_at bytes.now) }
@@ -36,6 +41,7 @@ fn read_number(bytes: &[u8]) -> Result<(u64, &[u8]), DecodeFault>
     Ok((u64::from_le_bytes(*number), rest))
 }
 
+// A folder's fingerprint, at the front or in the halfway part; `split_digest` reads the digest at the end.
 #[tactic(auto, unfolding(crate::specs::Reading::block_at))]
 fn read_digest(bytes: &[u8]) -> Result<([u8; 16], &[u8]), DecodeFault>
     ensures { Gives (λ x. (x.0, x.1.now)) result (reads.block_at 16 bytes.now) }
@@ -45,6 +51,7 @@ fn read_digest(bytes: &[u8]) -> Result<([u8; 16], &[u8]), DecodeFault>
     Ok((*digest, rest))
 }
 
+// A file name: its length in one byte, then its bytes. JournalInvalid if they aren't a `Name`.
 #[tactic(auto, unfolding(crate::specs::Reading::name_at))]
 fn read_name(bytes: &[u8]) -> Result<(Name, &[u8]), DecodeFault>
     ensures { Gives (λ x. (x.0, x.1.now)) result (reads.name_at bytes.now) }
@@ -52,11 +59,12 @@ fn read_name(bytes: &[u8]) -> Result<(Name, &[u8]), DecodeFault>
     let [len, rest @ ..] = bytes else {
         return Err(DecodeFault::JournalInvalid);
     };
-    let (text, rest) = read_block(rest, *len as usize)?;
-    let name = Name::from_bytes(text).ok_or(DecodeFault::JournalInvalid)?;
+    let (encoded, rest) = read_block(rest, *len as usize)?;
+    let name = Name::from_bytes(encoded).ok_or(DecodeFault::JournalInvalid)?;
     Ok((name, rest))
 }
 
+// The bytes of a file, copied: their number in eight bytes, then the bytes.
 #[tactic(auto, unfolding(crate::specs::Reading::behind_length_at))]
 fn read_bytes(alloc: Global, bytes: &[u8]) -> Result<(Bytes, &[u8]), DecodeFault>
     ensures { Gives (λ x. (x.0, x.1.now)) result (reads.behind_length_at bytes.now) }
@@ -66,6 +74,7 @@ fn read_bytes(alloc: Global, bytes: &[u8]) -> Result<(Bytes, &[u8]), DecodeFault
     Ok((Bytes::copy_of(alloc, content)?, rest))
 }
 
+// One change: its kind in one byte (1 write, 2 replace, 3 rename, 4 remove), its name, and the bytes or the new name.
 #[tactic(auto, unfolding(crate::specs::Reading::change_at))]
 fn read_change(alloc: Global, bytes: &[u8]) -> Result<(Change, &[u8]), DecodeFault>
     ensures { Gives (λ x. (change_of x.0, x.1.now)) result (reads.change_at bytes.now) }
@@ -92,7 +101,8 @@ fn read_change(alloc: Global, bytes: &[u8]) -> Result<(Change, &[u8]), DecodeFau
     }
 }
 
-// As many changes. The list grows by changes that were read, never by the count that is claimed.
+// `count` changes one after the other. The list grows by changes that were read, so that no memory is taken for a count
+// that is claimed only.
 fn read_changes(alloc: Global, count: u64, bytes: &[u8]) -> Result<(Changes, &[u8]), DecodeFault>
     ensures { Gives (λ x. (x.0, x.1.now)) result (reads.many_at reads.change_at count bytes.now) }
 {
@@ -106,6 +116,7 @@ fn read_changes(alloc: Global, count: u64, bytes: &[u8]) -> Result<(Changes, &[u
     Ok((changes, rest))
 }
 
+// One entry of the history, an undo or a redo: the number of its changes, then the changes.
 #[tactic(auto, unfolding(crate::specs::Reading::entry_at))]
 fn read_entry(alloc: Global, bytes: &[u8]) -> Result<(Changes, &[u8]), DecodeFault>
     ensures { Gives (λ x. (x.0, x.1.now)) result (reads.entry_at bytes.now) }
@@ -114,7 +125,7 @@ fn read_entry(alloc: Global, bytes: &[u8]) -> Result<(Changes, &[u8]), DecodeFau
     read_changes(alloc, count, rest)
 }
 
-// As many entries, as `read_changes`.
+// `count` entries of the history, the oldest first. The list grows by entries that were read.
 fn read_entries(alloc: Global, count: u64, bytes: &[u8]) -> Read<'_, Vec<Changes>>
     ensures { Gives (λ x. (x.0.items, x.1.now)) result
         (reads.many_at reads.entry_at count bytes.now) }
@@ -129,7 +140,7 @@ fn read_entries(alloc: Global, count: u64, bytes: &[u8]) -> Read<'_, Vec<Changes
     Ok((entries, rest))
 }
 
-// As many digests, as `read_changes`.
+// `count` fingerprints, those after each change of a halfway command. The list grows by fingerprints that were read.
 fn read_digests(alloc: Global, count: u64, bytes: &[u8]) -> Read<'_, Vec<[u8; 16]>>
     ensures { Gives
         (λ x. (x.0.items, x.1.now)) result (reads.many_at (reads.block_at 16) count bytes.now) }
@@ -144,6 +155,8 @@ fn read_digests(alloc: Global, count: u64, bytes: &[u8]) -> Read<'_, Vec<[u8; 16
     Ok((digests, rest))
 }
 
+// The halfway part: a 0 if no command is halfway; otherwise a 1, a count that isn't 0, this many fingerprints, and as
+// many changes that take the command back.
 #[tactic(auto, unfolding(crate::specs::Reading::halfway_at, crate::specs::Reading::many_at))]
 fn read_halfway(alloc: Global, bytes: &[u8]) -> Result<(Option<HalfwayPart>, &[u8]), DecodeFault>
     ensures { Gives (λ x. (halfway_of x.0, x.1.now)) result (reads.halfway_at bytes.now) }
@@ -163,6 +176,7 @@ fn read_halfway(alloc: Global, bytes: &[u8]) -> Result<(Option<HalfwayPart>, &[u
     }
 }
 
+// The version, by the first eight bytes. JournalInvalid if they are no known heading.
 #[tactic(auto, unfolding(crate::specs::Reading::heading_at))]
 fn read_heading(bytes: &[u8]) -> Result<(Version, &[u8]), DecodeFault>
     ensures { Gives (λ x. (x.0, x.1.now)) result (reads.heading_at bytes.now) }
@@ -177,6 +191,8 @@ fn read_heading(bytes: &[u8]) -> Result<(Version, &[u8]), DecodeFault>
     }
 }
 
+// The cursor, the number of undos among the entries. A journal of version 1 has no cursor: nothing is read, and
+// `read_behind_cursor` doesn't use the 0.
 #[tactic(auto, unfolding(crate::specs::Reading::cursor_at))]
 fn read_cursor(version: Version, bytes: &[u8]) -> Result<(u64, &[u8]), DecodeFault>
     ensures { Gives (λ x. (x.0, x.1.now)) result (reads.cursor_at version bytes.now) }
@@ -187,7 +203,8 @@ fn read_cursor(version: Version, bytes: &[u8]) -> Result<(u64, &[u8]), DecodeFau
     }
 }
 
-// What stands after the cursor that was read.
+// The rest of a journal, after its cursor: the entries and the halfway part. `read` is the cursor that was read; in
+// version 1 all entries are undos. JournalInvalid if the cursor is above the number of entries, or if bytes are left.
 #[tactic(auto, unfolding(crate::specs::Reading::behind_cursor_at))]
 fn read_behind_cursor(
     alloc: Global,
@@ -218,7 +235,7 @@ fn read_behind_cursor(
     })
 }
 
-// All but the digest.
+// The whole journal, from its bytes without the digest at the end.
 #[tactic(auto, unfolding(crate::specs::Reading::parts_at))]
 fn read_parts(alloc: Global, bytes: &[u8]) -> Result<Journal, DecodeFault>
     ensures { Gives journal_of result (reads.parts_at bytes.now) }
@@ -229,7 +246,7 @@ fn read_parts(alloc: Global, bytes: &[u8]) -> Result<Journal, DecodeFault>
     read_behind_cursor(alloc, version, fingerprint, cursor, rest)
 }
 
-// A text of a journal, in two: what its digest is of, and the digest at its end.
+// Splits a journal's bytes into its body and the digest at the end, an MD5. The digest isn't tested.
 fn split_digest(bytes: &[u8]) -> Result<(&[u8], &[u8]), DecodeFault>
     ensures long { IfOk result (λ _. 16 ≤ length bytes.now) }
     ensures body { IfOk result (λ x. x.0.now ≡ take (length bytes.now - 16) bytes.now) }
@@ -243,7 +260,7 @@ fn split_digest(bytes: &[u8]) -> Result<(&[u8], &[u8]), DecodeFault>
     Ok(bytes.split_at(bytes.len() - 16))
 }
 
-/// Whether the bytes end with the digest of all that stands before it. It takes no memory.
+/// Whether the bytes end with the MD5 of all bytes before it (`IsSealed`), as every journal does. It allocates nothing.
 pub fn is_sealed(bytes: &[u8]) -> bool
     ensures { IsTrue result ↔ IsSealed bytes.now }
 {
@@ -253,8 +270,8 @@ pub fn is_sealed(bytes: &[u8]) -> bool
     }
 }
 
-/// The journal that the bytes spell. Where the digest at their end is false nothing is read, and no memory taken; else
-/// memory is asked for only once the bytes that it is for were found.
+/// The journal that the bytes spell. If they don't end with their digest, nothing is read or allocated. Otherwise
+/// memory is taken only for bytes that are there.
 pub fn decode(alloc: Global, bytes: &[u8]) -> Result<Journal, DecodeFault>
     ensures found { IfOk result (λ journal. Spells bytes.now (journal_of journal)) }
     ensures only { (j : Defined) → Spells bytes.now j
@@ -268,18 +285,18 @@ pub fn decode(alloc: Global, bytes: &[u8]) -> Result<Journal, DecodeFault>
     Ok(decode_untested(alloc, bytes)?.journal)
 }
 
-/// A journal that was read before the digest at the end of its text is tested.
+/// A journal that was decoded before the digest at its end is tested.
 #[derive(Drop)]
 pub struct Untested<'a> {
     pub journal: Journal,
-    /// All of the text but the digest.
+    /// All bytes but the digest.
     pub body: &'a [u8],
-    /// What the digest of the body should be.
+    /// The digest that the body should have.
     pub digest: &'a [u8],
 }
 
-/// The journal that the bytes spell if they end with their digest, which the caller tests: it can be computed side by
-/// side with other digests. Memory is asked for as [`decode`] does, but for a text that nobody wrote too.
+/// The journal that the bytes spell if they end with their digest. The caller tests that, because it can compute it
+/// side by side with other digests. Memory is taken as in [`decode`], but also for bytes with a wrong digest.
 pub fn decode_untested(alloc: Global, bytes: &[u8]) -> Result<Untested<'_>, DecodeFault>
     ensures found { IfOk result (IsUntested bytes.now) }
     ensures invalid { result ≡ Err JournalInvalid → (j : Defined) → Spells bytes.now j → ⊥ }

@@ -1,4 +1,6 @@
-//! The bytes of a journal. Each function adds its part at the end.
+//! Encoding a journal. `encode` writes a settled one. For an action, `begin` writes the halfway one up to its entries
+//! while they are as before the action, and `finish_both` writes the rest of it and the settled one. The `append_`
+//! functions each append one part to `out`; `Appends`: exactly these bytes are added if the call returns Ok.
 ghost use Rattle.std.specs.Prelude.{◌≡◌, ◌≤◌, ◌+◌, ◌∷◌, ◌++◌, length, flat_map, OnOk, IfOk, IfSome, IsTrue, Some};
 ghost use Rattle.std.specs.Int.{w64, to_le_bytes};
 ghost use Rattle.std.specs.List.{concat, AllByRecursion};
@@ -15,25 +17,28 @@ use crate::journal::heading;
 use crate::{HalfwayPartView, JournalView};
 use md5::{Digest, Md5};
 use par2_files::{Bytes, Change, Changes, Name};
-use par2_md5_lanes::text_digests;
+use par2_md5_lanes::buffer_digests;
 use par2_spec::{Result, Version};
 use std::alloc::Global;
 
+// Appends a length, a count or the cursor: eight bytes, little-endian.
 fn append_number(out: &mut Vec<u8>, number: u64) -> Result<()>
     ensures { Appends (to_le_bytes w64 number) out.old out.new result }
 {
     out.extend_from_slice(&number.to_le_bytes())
 }
 
+// Appends a file name: its length in one byte, then its bytes. For the prover: the name is a valid one.
 fn append_name(out: &mut Vec<u8>, name: &Name) -> Result<()>
     ensures bytes { Appends (journals.name_bytes name.now) out.old out.new result }
     ensures name { IsTrue (is_name name.now) }
 {
-    let text = name.as_str();
-    out.push(text.len() as u8)?;
-    out.extend_from_slice(text.as_bytes())
+    let string = name.as_str();
+    out.push(string.len() as u8)?;
+    out.extend_from_slice(string.as_bytes())
 }
 
+// Appends the bytes of a file: their number in eight bytes, then the bytes. For the prover: their number fits.
 fn append_bytes(out: &mut Vec<u8>, bytes: &Bytes) -> Result<()>
     ensures bytes { Appends (behind_length bytes.now) out.old out.new result }
     ensures fits { journals.IsFileBytes bytes.now }
@@ -43,7 +48,7 @@ fn append_bytes(out: &mut Vec<u8>, bytes: &Bytes) -> Result<()>
     out.extend_from_slice(content)
 }
 
-// The byte of a change's kind, and its name.
+// Appends what each change begins with: its kind in one byte (1 write, 2 replace, 3 rename, 4 remove), and its name.
 fn append_kind_and_name(out: &mut Vec<u8>, kind: u8, name: &Name) -> Result<()>
     ensures bytes { Appends (kind ∷ journals.name_bytes name.now) out.old out.new result }
     ensures name { OnOk result (IsTrue (is_name name.now)) }
@@ -52,6 +57,7 @@ fn append_kind_and_name(out: &mut Vec<u8>, kind: u8, name: &Name) -> Result<()>
     append_name(out, name)
 }
 
+// Appends one change: its kind, its name, and the bytes or the new name. `IsChange`: a journal can hold it.
 fn append_change(out: &mut Vec<u8>, change: &Change) -> Result<()>
     ensures bytes { Appends (journals.change_bytes (change_of change.now)) out.old out.new result }
     ensures change { OnOk result (journals.IsChange (change_of change.now)) }
@@ -73,6 +79,7 @@ fn append_change(out: &mut Vec<u8>, change: &Change) -> Result<()>
     }
 }
 
+// Appends changes one after the other, without their number, which the caller has appended.
 fn append_changes(out: &mut Vec<u8>, changes: &[Change]) -> Result<()>
     ensures bytes { let changes = changes_in changes.now in
         Appends (flat_map journals.change_bytes changes) out.old out.new result }
@@ -84,6 +91,7 @@ fn append_changes(out: &mut Vec<u8>, changes: &[Change]) -> Result<()>
     Ok(())
 }
 
+// Appends entries of the history, the oldest first: for each, the number of its changes, then the changes.
 fn append_entries(out: &mut Vec<u8>, entries: &[Changes]) -> Result<()>
     ensures bytes { Appends (flat_map journals.entry_bytes entries.now) out.old out.new result }
     ensures entries { OnOk result (AllByRecursion journals.IsEntry entries.now) }
@@ -95,6 +103,7 @@ fn append_entries(out: &mut Vec<u8>, entries: &[Changes]) -> Result<()>
     Ok(())
 }
 
+// Appends the fingerprints of the folder after each change of the halfway command, without their number.
 #[tactic(auto, using(std::proofs::lemmas::List::Concat::concat_is))]
 fn append_digests(out: &mut Vec<u8>, digests: &[[u8; 16]]) -> Result<()>
     ensures bytes { Appends (concat digests.now) out.old out.new result }
@@ -103,6 +112,8 @@ fn append_digests(out: &mut Vec<u8>, digests: &[[u8; 16]]) -> Result<()>
     out.extend_from_slice(digests.as_flattened())
 }
 
+// Appends the halfway part: a 0 if there is none, otherwise a 1, the number of changes, the fingerprint after each
+// change of the command, and the changes that take it back.
 fn append_halfway(out: &mut Vec<u8>, halfway: Option<&HalfwayPartView<'_>>) -> Result<()>
     requires some { IfSome halfway (λ h. 1 ≤ length h.now.back.now) }
     requires each { IfSome halfway (λ h. length h.now.fingerprints.now ≡ length h.now.back.now) }
@@ -119,7 +130,7 @@ fn append_halfway(out: &mut Vec<u8>, halfway: Option<&HalfwayPartView<'_>>) -> R
     append_changes(out, halfway.back.as_slice())
 }
 
-/// The bytes of the journal with these parts as far as its entries go, for [`finish_both`].
+/// The first step of an action's journals: the bytes of the halfway one up to its entries, for [`finish_both`].
 #[tactic(auto, unfolding(crate::specs::Fronts::front_bytes))]
 pub fn begin(alloc: Global, parts: &JournalView<'_>) -> Result<Vec<u8>>
     requires { parts.now.cursor ≤ length parts.now.entries.now + length parts.now.newer.now }
@@ -135,7 +146,8 @@ pub fn begin(alloc: Global, parts: &JournalView<'_>) -> Result<Vec<u8>>
     Ok(out)
 }
 
-// All but the digest of a journal whose front stands, with its halfway part.
+// All but the digest of a journal: its front, which `begin` wrote, and its halfway part. `Continues`: this holds for
+// each journal that the front begins.
 #[tactic(auto, unfolding(par2_spec::specs::Journals::journal_bytes, crate::specs::Fronts::front_bytes))]
 fn body(front: Vec<u8>, halfway: Option<&HalfwayPartView<'_>>) -> Result<Vec<u8>>
     requires some { IfSome halfway (λ h. 1 ≤ length h.now.back.now) }
@@ -143,13 +155,13 @@ fn body(front: Vec<u8>, halfway: Option<&HalfwayPartView<'_>>) -> Result<Vec<u8>
     ensures { IfOk result (λ body. Continues front.items (part_from halfway.entry) body.items) }
 {
     let mut out = front;
-    // A vector that is full isn't doubled for one byte and the digest.
+    // A full vector isn't doubled for one byte and the digest.
     out.reserve_exact(17)?;
     append_halfway(&mut out, halfway)?;
     Ok(out)
 }
 
-// Adds the digest of all that stands before it.
+// The last step of a journal: appends `digest`, which the caller computed as the MD5 of all bytes before it.
 fn append_digest(out: &mut Vec<u8>, digest: [u8; 16]) -> Result<()>
     requires { digest ≡ md5 out.old.items }
     ensures { OnOk result (out.new.items ≡ out.old.items ++ md5 out.old.items) }
@@ -158,53 +170,53 @@ fn append_digest(out: &mut Vec<u8>, digest: [u8; 16]) -> Result<()>
     out.extend_from_slice(&digest)
 }
 
-// Adds to each of two texts its digest. They are computed side by side.
+// The last step of two journals: appends to each its MD5, computed side by side with the other's.
 fn append_both_digests(alloc: Global, one: &mut Vec<u8>, other: &mut Vec<u8>) -> Result<()>
     ensures one { OnOk result (one.new.items ≡ one.old.items ++ md5 one.old.items) }
     ensures other { OnOk result (other.new.items ≡ other.old.items ++ md5 other.old.items) }
 {
-    let digests = text_digests(alloc, &[one.as_slice(), other.as_slice()])?;
+    let digests = buffer_digests(alloc, &[one.as_slice(), other.as_slice()])?;
     append_digest(one, digests[0])?;
     append_digest(other, digests[1])
 }
 
-/// The bytes of the journal with these parts.
+/// The bytes of the settled journal with these parts, its digest included. Err if memory runs out.
 pub fn encode(alloc: Global, parts: &JournalView<'_>) -> Result<Vec<u8>>
     requires { parts.now.cursor ≤ length parts.now.entries.now + length parts.now.newer.now }
     ensures { IfOk result (λ bytes. journals.Spells bytes.items (journal_from parts.now)) }
 {
-    let mut text = body(begin(alloc, parts)?, None)?;
-    let digest = Md5::digest(&text);
-    append_digest(&mut text, digest)?;
-    Ok(text)
+    let mut bytes = body(begin(alloc, parts)?, None)?;
+    let digest = Md5::digest(&bytes);
+    append_digest(&mut bytes, digest)?;
+    Ok(bytes)
 }
 
 /// The bytes of the two journals of a command.
 #[derive(Drop)]
-pub struct JournalTexts {
+pub struct JournalBytes {
     /// While it is halfway.
     pub halfway: Vec<u8>,
     /// Afterwards.
     pub after: Vec<u8>,
 }
 
-/// The bytes of the journal of a halfway command, whose front stands, and of the one with the parts `after`. Their
-/// digests are computed side by side.
+/// Both journals of a command: the halfway one that `front` begins, and the one afterwards with the parts `after`.
+/// Their digests are computed side by side.
 pub fn finish_both(
     alloc: Global,
     front: Vec<u8>,
     halfway: &HalfwayPartView<'_>,
     after: &JournalView<'_>,
-) -> Result<JournalTexts>
+) -> Result<JournalBytes>
     requires halfway_some { 1 ≤ length halfway.now.back.now }
     requires halfway_each { length halfway.now.fingerprints.now ≡ length halfway.now.back.now }
     requires cursor { after.now.cursor ≤ length after.now.entries.now + length after.now.newer.now }
-    ensures halfway { IfOk result (λ texts.
-        Finishes front.items (Some (halfway_from halfway.now)) texts.halfway.items) }
+    ensures halfway { IfOk result (λ buffers.
+        Finishes front.items (Some (halfway_from halfway.now)) buffers.halfway.items) }
     ensures after { IfOk result (λ t. journals.Spells t.after.items (journal_from after.now)) }
 {
     let mut halfway = body(front, Some(halfway))?;
     let mut after = body(begin(alloc, after)?, None)?;
     append_both_digests(alloc, &mut halfway, &mut after)?;
-    Ok(JournalTexts { halfway, after })
+    Ok(JournalBytes { halfway, after })
 }

@@ -1,8 +1,8 @@
--- What each answer to a repair says of the three tests of its set.
+-- Consequences of each result of a repair for the three tests of its set.
 use Rattle.par2_laws.proofs.Common.{◌≡◌, ℕ, List, [], ◌∷◌, true, false, Bool, not, Option, Some, None, arith, list_all, AllByRecursion, bytes_eq, and_parts, not-true, md5, Fault, NameTooLong, NotRepairable, RepairFailed, first_fault, fault_where, is_repairable, rank, IsRepairable, Folder, ParSet, Target, known, lost, survivors, rebuilt_targets, first_cause, repairable-iff, may_refuse, repair_refusal}
 use Rattle.std.proofs.lemmas.Slice.Eq.{bytes_eq-Decides}
 
--- the answer by whether the set is repairable, a name is too long, and the digests are right
+-- the refusal: whether the set is repairable, an aside is too long, and the MD5s are right
 abbrev answer : (repairable long right : Bool) (missing rank : ℕ) → Option Fault
 answer repairable long right missing rank =
     first_fault (
@@ -15,11 +15,11 @@ by_few : (repairable long right : Bool) (m r : ℕ) (fault : Fault) → (fault �
 by_few true false false m r fault never e = absurd (never (cc))
 by_few repairable long right m r fault never e = cc
 
--- a file that is written has its digest
+-- a file that is written has its MD5
 abbrev pub has_digest : Target × List ℕ → Bool
 has_digest c = bytes_eq (md5 c.1) c.0.md5
 
--- each of them
+-- each file has its MD5
 have_digests : (cs : List (Target × List ℕ)) → list_all has_digest cs ≡ true → AllByRecursion (λ c. md5 c.1 ≡ c.0.md5) cs
 have_digests [] h = tt
 have_digests (c ∷ cs) h =

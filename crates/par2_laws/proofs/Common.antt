@@ -1,4 +1,4 @@
--- The names that proofs of this crate take from elsewhere.
+-- Names that the proofs of this crate import.
 
 pub use Rattle.std.proofs.Common.{Bool, List, None, Ok, Option, Some, T, [], ap, append-nil, append_assoc, arith, cond, drop, false, inl, inr, length, length-append, map, min, not, refl, subst, suc, sym, take, true, unwrap_or, zero, ℕ, ◌%◌, ◌&&◌, ◌*◌, ◌++◌, ◌+◌, ◌-◌, ◌/◌, ◌<◌, ◌^◌, ◌||◌, ◌∙◌, ◌∷◌, ◌≡◌, ◌≤◌, ◌⊎◌}
 pub use Rattle.std.proofs.lemmas.Bool.{and_from, and_parts, both_ways, cases_Bool, eq-eqb, eqb-false, eqb-true, false≢true, le-leb, leb-true, ltb-false, not-false, not-true, or_from, or_left, or_parts}
@@ -18,7 +18,7 @@ pub use Rattle.std.specs.Prelude.{Err, IfOk, IsPermutation, IsTrue, OnOk, Result
 pub use Rattle.std.specs.Str.{bytes_eq}
 pub use Rattle.md5.proofs.StandardFacts.{length-md5}
 pub use Rattle.md5.specs.Md5.{md5}
-pub use Rattle.par2_laws.specs.Creates.{FitsCreate, FollowsCreate, IsDamage, may_refuse, output_names}
+pub use Rattle.par2_laws.specs.Creates.{FitsCreate, FollowsCreate, IsDamage, may_refuse, written_names}
 pub use Rattle.par2_laws.specs.Faults.{is_of_reading}
 pub use Rattle.par2_laws.specs.Packets.{AreAllOf, AreDescribed, IsOf, is_read}
 pub use Rattle.par2_laws.specs.Premises.{HoldsBytes, IsTrueTo}

@@ -1,5 +1,5 @@
--- What damage leaves of the par files of a create.
-use Rattle.par2_laws.proofs.Common.{◌≡◌, ℕ, ◌+◌, ◌^◌, ◌<◌, ◌≤◌, true, false, not, ◌&&◌, List, [], ◌∷◌, ◌++◌, length, map, take, Option, None, sym, ap, ◌∙◌, subst, append_assoc, length-append, arith, Bool, cond, Some, refl, inl, inr, ◌⊎◌, ◌||◌, unwrap_or, sum_by, nat_lt, ◌==◌, is_some, filter, AllByRecursion, list_any, enumerate_from, Contains, IsDistinct, bytes_eq, get-entries, nat_cmp, slice_cmp, not-false, and_parts, or_parts, eqb-true, eqb-false, ltb-false, false≢true, or_from, or_left, div_ceil_times, common_steps, length-map, sum_by-cons, Fault, BadSliceSize, BadCount, BadBase, NoInput, BadName, DuplicateInput, NoSuchFile, EmptyFile, TooManySlices, DuplicateId, NameTooLong, Exists, fault_where, fault_at, slice_count, slices, is_name, is_par_name, is_among, distinct, Folder, File, IsFolder, has, bytes_of, files, without, laid_over, id_of, volume_name, volume_numbers, volume_size, volumes_before, all_slices, in_id_order, volumes, record_of, is_slice_size, MadeFrom, target_of_file, target_names, CreateArgs, Create, files_of, outputs_of, are_counts, is_input_name, refusal, create_refusal, after, AreInputs, IsVolume, IsVolumeOrOther, IsOfOthers, set_id_of, HoldsVolumes, FitsCreate, IsDamage, output_names, FollowsCreate, all_weaker, size_positive, distinct_by_length, same_either_way, std_from_distinct, found_at_key, contained_first, contained_later, all-append, all-parts, all-flat_map, where_none, all_none, at_none, some_if, by_either, names_of_files, at_name, recursion_from_All, filter_passes, same_Some, IsPermutation-sym, IsPermutation-map, map-map, pair_of, Matches, windows, AreBytes, candidates, NoCollision, all-filter, moved-all, moved-ordered, IsTrueTo, accepted_after}
+-- The PAR2 files of a create after damage.
+use Rattle.par2_laws.proofs.Common.{◌≡◌, ℕ, ◌+◌, ◌^◌, ◌<◌, ◌≤◌, true, false, not, ◌&&◌, List, [], ◌∷◌, ◌++◌, length, map, take, Option, None, sym, ap, ◌∙◌, subst, append_assoc, length-append, arith, Bool, cond, Some, refl, inl, inr, ◌⊎◌, ◌||◌, unwrap_or, sum_by, nat_lt, ◌==◌, is_some, filter, AllByRecursion, list_any, enumerate_from, Contains, IsDistinct, bytes_eq, get-entries, nat_cmp, slice_cmp, not-false, and_parts, or_parts, eqb-true, eqb-false, ltb-false, false≢true, or_from, or_left, div_ceil_times, common_steps, length-map, sum_by-cons, Fault, BadSliceSize, BadCount, BadBase, NoInput, BadName, DuplicateInput, NoSuchFile, EmptyFile, TooManySlices, DuplicateId, NameTooLong, Exists, fault_where, fault_at, slice_count, slices, is_name, is_par_name, is_among, distinct, Folder, File, IsFolder, has, bytes_of, files, without, laid_over, id_of, volume_name, volume_numbers, volume_size, volumes_before, all_slices, in_id_order, volumes, record_of, is_slice_size, MadeFrom, target_of_file, target_names, CreateArgs, Create, files_of, outputs_of, are_counts, is_input_name, refusal, create_refusal, after, AreInputs, IsVolume, IsVolumeOrOther, IsOfOthers, set_id_of, HoldsVolumes, FitsCreate, IsDamage, written_names, FollowsCreate, all_weaker, size_positive, distinct_by_length, same_either_way, std_from_distinct, found_at_key, contained_first, contained_later, all-append, all-parts, all-flat_map, where_none, all_none, at_none, some_if, by_either, names_of_files, at_name, recursion_from_All, filter_passes, same_Some, IsPermutation-sym, IsPermutation-map, map-map, pair_of, Matches, windows, AreBytes, candidates, NoCollision, all-filter, moved-all, moved-ordered, IsTrueTo, accepted_after}
 use Rattle.std.proofs.Math.Seq.{take-append_seam, drop-append_seam}
 use Rattle.par2_spec.proofs.MovesLaws.{get_put, get_without}
 use Rattle.std.proofs.lemmas.List.Folds.{list_any-append}
@@ -9,7 +9,7 @@ use Rattle.std.specs.FinMap as map_of
 
 -- ---- tests that find no fault
 
--- what the tests of a create find where it is accepted
+-- the results of the tests of an accepted create
 pub record Passes (folder : Folder) (a : CreateArgs) : Type 0 where
   pub size : is_slice_size a.slice ≡ true
   pub counts : are_counts a.first a.count ≡ true
@@ -56,9 +56,9 @@ passes folder a h = unfold refusal create_refusal in
       ids = where_none (not (length (distinct (map id_of fs)) == length fs)) DuplicateId later.1.1.1.1.1.0;
     }
 
--- ---- each once
+-- ---- distinct items
 
--- none of those before
+-- none of the earlier items
 abbrev IsNew : List (List ℕ) → List (List ℕ) → Type 0
 IsNew front rest = AllByRecursion (λ y. is_among front y ≡ false) rest
 
@@ -96,7 +96,7 @@ files_named : (folder : Folder) (inputs : List (List ℕ)) → AllByRecursion (�
 files_named folder [] h = tt
 files_named folder (name ∷ inputs) h = ((and_parts (is_name name) (not (is_par_name name)) (not-false (is_input_name name) h.0)).0, files_named folder inputs h.1)
 
--- no more files than slices
+-- there are at most as many files as slices
 count_small : (s : ℕ) (fs : List File) → 0 < s → AllByRecursion (λ file. (length file.1 == 0) ≡ false) fs → length fs ≤ sum_by (λ file. slice_count s (length file.1)) fs
 count_small s [] positive h = omega arith
 count_small s (file ∷ fs) positive h = grind (arith, common_steps, sum_by-cons, div_ceil_times, eqb-false, zero-mul, count_small s fs positive h.1)
@@ -119,30 +119,30 @@ inputs_taken folder a accepted fits =
       slices = most;
     }
 
--- ---- what stands under a name
+-- ---- the file of a name
 
 -- the bytes of files
 abbrev pub bytes_in : List File → List (List ℕ)
 bytes_in files = map (λ file. file.1) files
 
--- after files were put into a folder a name has the bytes of one of them, or is none of theirs and has those from before
+-- after files are put into a folder, a name has the bytes of one of them, or is none of theirs and has its former bytes
 laid_cases : (files : List File) (folder : Folder) (q bytes : List ℕ) → map_of.get (laid_over files folder) q ≡ Some bytes
     → Contains (bytes_in files) bytes ⊎ ((is_among (map (λ file. file.0) files) q ≡ false) × (map_of.get folder q ≡ Some bytes))
 unfolding laid_over
 laid_cases [] folder q bytes h = inr (refl, h)
 laid_cases (file ∷ files) folder q bytes h = grind (arith, by_either, bytes, contained_later, get_put, same_Some, contained_first, or_from, laid_cases files (map_of.insert folder file.0 file.1) q bytes h)
 
--- ---- the names of what a create writes
+-- ---- the names of the files that a create writes
 
-par_volumes : (base : List ℕ) (first n : ℕ → ℕ) (texts : ℕ → List ℕ) (is : List ℕ)
-    → AllByRecursion (λ name. is_par_name name ≡ true) (map (λ file. file.0) (map (λ i. let v : File = (volume_name base (first i) (n i), texts i) in v) is))
-par_volumes base first n texts [] = tt
-par_volumes base first n texts (i ∷ is) = grind (arith, common_steps, length-append, drop-append_seam, par_volumes base first n texts is)
+par_volumes : (base : List ℕ) (first n : ℕ → ℕ) (buffers : ℕ → List ℕ) (is : List ℕ)
+    → AllByRecursion (λ name. is_par_name name ≡ true) (map (λ file. file.0) (map (λ i. let v : File = (volume_name base (first i) (n i), buffers i) in v) is))
+par_volumes base first n buffers [] = tt
+par_volumes base first n buffers (i ∷ is) = grind (arith, common_steps, length-append, drop-append_seam, par_volumes base first n buffers is)
 
-par_outputs : (before : Folder) (a : CreateArgs) → is_par_name a.base ≡ true → AllByRecursion (λ name. is_par_name name ≡ true) (output_names before a)
+par_outputs : (before : Folder) (a : CreateArgs) → is_par_name a.base ≡ true → AllByRecursion (λ name. is_par_name name ≡ true) (written_names before a)
 par_outputs before a h = unfold volumes in (h, par_volumes a.base (λ i. a.first + volumes_before i) (volume_size a.count) _ (volume_numbers a.count))
 
--- ---- the par files of a damaged folder
+-- ---- the PAR2 files of a damaged folder
 
 module _ (before damaged : Folder) (a : CreateArgs) (base : List ℕ) (accepted : refusal before (Create a) ≡ None) (fits : FitsCreate before a) (damage : IsDamage before damaged a base) where
   abbrev inputs : List File
@@ -151,7 +151,7 @@ module _ (before damaged : Folder) (a : CreateArgs) (base : List ℕ) (accepted 
   written : (bytes : List ℕ) → Contains (bytes_in (outputs_of before a)) bytes → IsVolume a.slice inputs bytes
   written bytes i = (a.base, a.first, a.count, (passes before a accepted).counts, i)
 
-  -- a par file that is there
+  -- a PAR2 file that exists
   is_there : (name : List ℕ) → is_par_name name ≡ true → has damaged name ≡ true → map_of.get (laid_over (outputs_of before a) before) name ≡ Some (bytes_of damaged name)
   is_there name par there = unfold after in sym (damage.pars name par there) ∙ some_if [] (map_of.get damaged name) there
 
@@ -169,7 +169,7 @@ module _ (before damaged : Folder) (a : CreateArgs) (base : List ℕ) (accepted 
 
   base_written : Contains (bytes_in (outputs_of before a)) (bytes_of damaged base)
   base_written =
-      let par = at_name (λ name. is_par_name name ≡ true) (output_names before a) base (par_outputs before a (and_parts (is_name a.base) (is_par_name a.base) (passes before a accepted).base).1) damage.written in
+      let par = at_name (λ name. is_par_name name ≡ true) (written_names before a) base (par_outputs before a (and_parts (is_name a.base) (is_par_name a.base) (passes before a accepted).base).1) damage.written in
       by_either (laid_cases (outputs_of before a) before base (bytes_of damaged base) (is_there base par damage.there))
       (λ i. i)
       (λ r. absurd (false≢true (sym r.0 ∙ damage.written)))
@@ -180,9 +180,9 @@ module _ (before damaged : Folder) (a : CreateArgs) (base : List ℕ) (accepted 
   pub set_of_files : MadeFrom damaged base (in_id_order inputs) a.slice
   set_of_files = set_made damaged base a.slice inputs (inputs_taken before a accepted fits) holds_volumes
 
--- ---- to remove files of what a create left is damage that leaves its par files as they are
+-- ---- removing files after a create is damage that leaves its PAR2 files as they are
 
--- a file that was put into a folder, or that was there, is there
+-- a file that was put into a folder, or was in it before, is in the folder
 laid_there : (files : List File) (folder : Folder) (q : List ℕ) → (is_among (map (λ file. file.0) files) q || has folder q) ≡ true → has (laid_over files folder) q ≡ true
 unfolding laid_over
 laid_there [] folder q h = h
@@ -191,12 +191,12 @@ laid_there (file ∷ files) folder q h =
     laid_there files (map_of.insert folder file.0 file.1) q
     (ap (λ o. is_among (map (λ f. f.0) files) q || is_some o) (get_put folder file.0 file.1 q) ∙ step (bytes_eq q file.0) (is_among (map (λ f. f.0) files) q) (map_of.get folder q) h)
 
-pub removal : (before : Folder) (a : CreateArgs) (base : List ℕ) (gone : List (List ℕ)) → is_among (output_names before a) base ≡ true → is_among gone base ≡ false
+pub removal : (before : Folder) (a : CreateArgs) (base : List ℕ) (gone : List (List ℕ)) → is_among (written_names before a) base ≡ true → is_among gone base ≡ false
     → IsDamage before (without gone (after before (Create a))) a base
 unfolding after
 removal before a base gone written stays = grind (arith, written, get_without, laid_there, or_left, false≢true)
 
--- ---- what is searched
+-- ---- searched files
 
 all_distinct : (P : List ℕ → Type 0) (xs : List (List ℕ)) → AllByRecursion P xs → AllByRecursion P (distinct xs)
 all_distinct P [] h = tt
@@ -205,7 +205,7 @@ all_distinct P (x ∷ xs) h = (h.0, all-filter P (λ other. not (bytes_eq x othe
 target_names_are : (s : ℕ) (files : List File) → map (λ t. t.name) (map (target_of_file s) files) ≡ map (λ file. file.0) files
 target_names_are s files = unfold record_of in map-map (λ t. t.name) (target_of_file s) files
 
--- what holds of each slice of the files
+-- a property of each slice of the files
 to_files : (P : List ℕ → Type 0) (s : ℕ) (files : List File) → AllByRecursion P (all_slices s files) → AllByRecursion (λ file. AllByRecursion P (slices s file.1)) files
 to_files P s [] h = tt
 to_files P s (file ∷ files) h = let r = all-parts P (slices s file.1) (all_slices s files) h in (r.0, to_files P s files r.1)
@@ -243,30 +243,30 @@ module _ (before damaged : Folder) (a : CreateArgs) (base : List ℕ) (extras : 
       all_distinct P (filter (has damaged) (target_names m.set) ++ extras)
       (all-append P (filter (has damaged) (target_names m.set)) extras (all-filter P (has damaged) (target_names m.set) mine) r.1)
 
-  -- a window of the file that matches the slice is it
-  abbrev IsTold : List ℕ → List ℕ → Type 0
-  IsTold slice name = AllByRecursion (λ w. Matches (pair_of slice) w → w ≡ slice) (windows s (bytes_of damaged name))
+  -- a window that matches the slice is the slice
+  abbrev IsRunResult : List ℕ → List ℕ → Type 0
+  IsRunResult slice name = AllByRecursion (λ w. Matches (pair_of slice) w → w ≡ slice) (windows s (bytes_of damaged name))
 
-  told : NoCollision damaged searched s (all_slices s ordered)
-  told =
-      from_files (λ slice. AllByRecursion (IsTold slice) searched) s ordered
-      (moved-all (λ file. AllByRecursion (λ slice. AllByRecursion (IsTold slice) searched) (slices s file.1)) given ordered (moved-ordered given)
-      (to_files (λ slice. AllByRecursion (IsTold slice) searched) s given
-      (all_weaker (λ slice. AllByRecursion (IsTold slice) (a.inputs ++ extras)) (λ slice. AllByRecursion (IsTold slice) searched) (λ slice h. among_searched (IsTold slice) h) (all_slices s given) follows.told)))
+  reported : NoCollision damaged searched s (all_slices s ordered)
+  reported =
+      from_files (λ slice. AllByRecursion (IsRunResult slice) searched) s ordered
+      (moved-all (λ file. AllByRecursion (λ slice. AllByRecursion (IsRunResult slice) searched) (slices s file.1)) given ordered (moved-ordered given)
+      (to_files (λ slice. AllByRecursion (IsRunResult slice) searched) s given
+      (all_weaker (λ slice. AllByRecursion (IsRunResult slice) (a.inputs ++ extras)) (λ slice. AllByRecursion (IsRunResult slice) searched) (λ slice h. among_searched (IsRunResult slice) h) (all_slices s given) follows.reported)))
 
   bytes : AllByRecursion (λ file. AreBytes file.1) ordered
   bytes = moved-all (λ file. AreBytes file.1) given ordered (moved-ordered given) follows.fits.bytes
 
-  -- what a repair finds of the files is true
+  -- no checksum of the files collides
   pub originals : IsTrueTo damaged base extras ordered s
-  originals = record { made = m; bytes = bytes; no_collision = told }
+  originals = record { made = m; bytes = bytes; no_collision = reported }
 
   as_before : (folder : Folder) (words : List (List ℕ)) → AllByRecursion (λ word. not (has before word) ≡ false) words → AllByRecursion (λ file. map_of.get folder file.0 ≡ Some file.1) (files_of before words)
       → AllByRecursion (λ name. map_of.get folder name ≡ map_of.get before name) words
   as_before folder [] there h = tt
   as_before folder (name ∷ words) there h = (h.0 ∙ sym (some_if [] (map_of.get before name) (not-false (has before name) there.0)), as_before folder words there.1 h.1)
 
-  -- a folder that has the files has them as they were
+  -- a folder with the files has the inputs as they were
   pub gives_back : (folder : Folder) → AllByRecursion (λ file. map_of.get folder file.0 ≡ Some file.1) ordered → AllByRecursion (λ name. map_of.get folder name ≡ map_of.get before name) a.inputs
   gives_back folder h =
       as_before folder a.inputs (passes before a follows.created).there

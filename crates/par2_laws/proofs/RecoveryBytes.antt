@@ -1,4 +1,4 @@
--- The recovery slices of a set that reads are bytes of its folder's files.
+-- The recovery slices of a set that can be read are bytes of its folder's files.
 use Rattle.par2_laws.proofs.Common.{ℕ, zero, suc, ◌+◌, ◌*◌, ◌/◌, ◌%◌, ◌^◌, ◌<◌, List, [], ◌∷◌, length, map, arith, ◌≡◌, sym, subst, refl, inl, inr, true, ◌-◌, drop, ap, ◌∙◌, T, cond, false, Bool, ◌&&◌, ◌⊎◌, unwrap_or, Ok, Option, Some, None, bit_xor, fold, flat_map, slice_get, Result, Err, nat_lt, ◌==◌, if◌then◌else◌, AllByRecursion, range_with_len, list_all, length-md5, crc_step, crc_steps, crc_byte, pair_of, IsPair, Pair, crc32, slice_at, slice_count, slices, AreBytes, AreSurvivors, Agrees, get-entries, is_sorted, entries_sorted, nat_cmp, eq_by_cmp, is_lt, is_eq, slice_cmp, window, windows, is_match, found, Folder, bytes_of, has, ParSet, all_pairs, packets_with, recovery_of, other_par_names, all_some, is_slice_size, main_of, description_of, are_in_profile, target_of, IsSound, set_of, read_set, HoldsBytes, all-each, found_one, found_at_key, all-flat_map, all-take, all-drop, all-filter_map, all-map, all-both, cases_Bool, and_parts, Fault, accepted, Packet, RecoveryBody, begins_with_packet, claimed_length, accepted_after, first_packet, read_recovery, is_of_reading, bytes_eq, all-filter, T-parts, all-entries, all_weaker, NoSuchFile, set_in, recovery_slice, size_even, length-map, known, common_steps}
 use Rattle.std.specs.FinMap.{find}
 use Rattle.par2_spec.proofs.RestoredLaws.{bytes-slice_at, length-window, bytes-window}
@@ -25,51 +25,51 @@ fold_small (b ∷ bytes) c h low = fold_small bytes (crc_byte c b) h.1 (steps_sm
 
 -- ---- the bytes of slices
 
-pairs_at : (s : ℕ) (text : List ℕ) (a n : ℕ) → AreBytes text → AllByRecursion IsPair (map pair_of (map (slice_at s text) (range_with_len a n)))
+pairs_at : (s : ℕ) (content : List ℕ) (a n : ℕ) → AreBytes content → AllByRecursion IsPair (map pair_of (map (slice_at s content) (range_with_len a n)))
 unfolding crc32
-pairs_at s text a zero h = tt
-pairs_at s text a (suc n) h = grind (arith, common_steps, length-md5, bytes-slice_at, xor_lt, fold_small, pairs_at s text (a + 1) n h)
+pairs_at s content a zero h = tt
+pairs_at s content a (suc n) h = grind (arith, common_steps, length-md5, bytes-slice_at, xor_lt, fold_small, pairs_at s content (a + 1) n h)
 
--- the pairs of a text's slices
-pub pairs_are : (s : ℕ) (text : List ℕ) → AreBytes text → AllByRecursion IsPair (map pair_of (slices s text))
-pairs_are s text h = pairs_at s text 0 (slice_count s (length text)) h
+-- the checksums of a file's slices
+pub pairs_are : (s : ℕ) (bytes : List ℕ) → AreBytes bytes → AllByRecursion IsPair (map pair_of (slices s bytes))
+pairs_are s bytes h = pairs_at s bytes 0 (slice_count s (length bytes)) h
 
--- ---- in a folder whose files hold bytes, what is found of slices is texts of bytes
+-- ---- in a folder whose files hold bytes, found slices are buffers of bytes
 
--- s bytes
-abbrev pub IsText : ℕ → List ℕ → Type 0
-IsText s text = (length text ≡ s) × AreBytes text
+-- a buffer of s bytes
+abbrev pub IsSliceBytes : ℕ → List ℕ → Type 0
+IsSliceBytes s bytes = (length bytes ≡ s) × AreBytes bytes
 
 pub bytes_of_file : (folder : Folder) (name : List ℕ) → HoldsBytes folder → AreBytes (bytes_of folder name)
 bytes_of_file folder name h = subst (λ o. AreBytes (unwrap_or o [])) (sym (get-entries folder name)) (found_at_key AreBytes (slice_cmp nat_cmp) name [] (map_of.entries folder) h tt)
 
 -- ---- windows
 
-window_is : (s : ℕ) (text : List ℕ) → AreBytes text → (o : ℕ) → IsText s (window s text o)
-window_is s text bytes o = (length-window s text o, bytes-window s text o bytes)
+window_is : (s : ℕ) (content : List ℕ) → AreBytes content → (o : ℕ) → IsSliceBytes s (window s content o)
+window_is s content bytes o = (length-window s content o, bytes-window s content o bytes)
 
-windows_are : (s : ℕ) (text : List ℕ) → AreBytes text → AllByRecursion (IsText s) (windows s text)
-windows_are s text bytes = all-each (IsText s) (window s text) (window_is s text bytes) (range_with_len 0 (length text))
+windows_are : (s : ℕ) (content : List ℕ) → AreBytes content → AllByRecursion (IsSliceBytes s) (windows s content)
+windows_are s content bytes = all-each (IsSliceBytes s) (window s content) (window_is s content bytes) (range_with_len 0 (length content))
 
-found_is : (folder : Folder) (searched : List (List ℕ)) (s : ℕ) → HoldsBytes folder → (pair : Pair) → ForSome (found s (map (bytes_of folder) searched) pair) (IsText s)
+found_is : (folder : Folder) (searched : List (List ℕ)) (s : ℕ) → HoldsBytes folder → (pair : Pair) → ForSome (found s (map (bytes_of folder) searched) pair) (IsSliceBytes s)
 found_is folder searched s held pair =
-    let texts = map (bytes_of folder) searched in
-    let each = all-each (λ text. AllByRecursion (IsText s) (windows s text)) (bytes_of folder) (λ name. windows_are s (bytes_of folder name) (bytes_of_file folder name held)) searched in
-    λ slice is. (found_one (IsText s) (is_match pair) (flat_map (windows s) texts) (all-flat_map (λ text. AllByRecursion (IsText s) (windows s text)) (IsText s) (windows s) (λ text all. all) texts each) slice is).0
+    let buffers = map (bytes_of folder) searched in
+    let each = all-each (λ bytes. AllByRecursion (IsSliceBytes s) (windows s bytes)) (bytes_of folder) (λ name. windows_are s (bytes_of folder name) (bytes_of_file folder name held)) searched in
+    λ slice is. (found_one (IsSliceBytes s) (is_match pair) (flat_map (windows s) buffers) (all-flat_map (λ bytes. AllByRecursion (IsSliceBytes s) (windows s bytes)) (IsSliceBytes s) (windows s) (λ bytes all. all) buffers each) slice is).0
 
--- each known slice is a text of the slice size
-pub known_are : (folder : Folder) (set : ParSet) (searched : List (List ℕ)) → HoldsBytes folder → AllByRecursion (λ slice. ForSome slice (IsText set.slice_size)) (known folder set searched)
+-- each known slice is a buffer of the slice size
+pub known_are : (folder : Folder) (set : ParSet) (searched : List (List ℕ)) → HoldsBytes folder → AllByRecursion (λ slice. ForSome slice (IsSliceBytes set.slice_size)) (known folder set searched)
 known_are folder set searched held = unfold known in search (arith, all-each, found_is)
 
--- ---- what reading a set answers: a set whose recovery slices are those of packets, or a fault of reading
+-- ---- the result of reading a set: a set whose recovery slices are those of packets, or a fault of reading
 
--- the recovery slices are those of the packets of these texts that have one identifier
+-- the recovery slices are those of packets in these files, with one Recovery Set ID
 abbrev pub IsOfPackets : List (List ℕ) → ParSet → Type 0
-IsOfPackets texts set = (id : List ℕ) × (set.recovery ≡ recovery_of (packets_with id (flat_map accepted texts)) set.slice_size)
+IsOfPackets buffers set = (id : List ℕ) × (set.recovery ≡ recovery_of (packets_with id (flat_map accepted buffers)) set.slice_size)
 
 abbrev pub IsAnswer : List (List ℕ) → Result ParSet Fault → Type 0
-IsAnswer texts (Ok set) = IsOfPackets texts set
-IsAnswer texts (Err fault) = is_of_reading fault ≡ true
+IsAnswer buffers (Ok set) = IsOfPackets buffers set
+IsAnswer buffers (Err fault) = is_of_reading fault ≡ true
 
 by_option : {A goal : Type 0} (o : Option A) → (o ≡ None → goal) → ((x : A) → o ≡ Some x → goal) → goal
 by_option o absent there = grind arith
@@ -91,7 +91,7 @@ read_set_answers base others = unfold read_set in
           ])))
     ]))))
 
--- the answer for a folder and a base
+-- the result for a folder and a base
 pub set_of_answers : (folder : Folder) (base : List ℕ) (answer : Result ParSet Fault) → set_of folder base ≡ answer → IsAnswer (map (bytes_of folder) (base ∷ other_par_names folder base)) answer
 set_of_answers folder base answer is = unfold set_of in grind (arith, read_set_answers)
 
@@ -100,18 +100,18 @@ set_of_answers folder base answer is = unfold set_of in grind (arith, read_set_a
 abbrev HasBytes : Packet → Type 0
 HasBytes p = AreBytes p.body
 
-first_has : (text : List ℕ) → AreBytes text → HasBytes (first_packet text)
-first_has text bytes = unfold first_packet in all-take (λ b. b < 256) _ (drop 64 text) (all-drop (λ b. b < 256) 64 text bytes)
+first_has : (content : List ℕ) → AreBytes content → HasBytes (first_packet content)
+first_has content bytes = unfold first_packet in all-take (λ b. b < 256) _ (drop 64 content) (all-drop (λ b. b < 256) 64 content bytes)
 
-packets_have : (n : ℕ) (text : List ℕ) → AreBytes text → AllByRecursion HasBytes (accepted_after n text)
+packets_have : (n : ℕ) (content : List ℕ) → AreBytes content → AllByRecursion HasBytes (accepted_after n content)
 unfolding accepted_after
 packets_have n [] bytes = tt
-packets_have (suc n) (b ∷ text) bytes = packets_have n text bytes.1
-packets_have zero (b ∷ text) bytes =
-    step (begins_with_packet (b ∷ text)) (first_packet (b ∷ text)) (first_has (b ∷ text) bytes) (packets_have (claimed_length (b ∷ text) - 1) text bytes.1) (packets_have zero text bytes.1)
+packets_have (suc n) (b ∷ content) bytes = packets_have n content bytes.1
+packets_have zero (b ∷ content) bytes =
+    step (begins_with_packet (b ∷ content)) (first_packet (b ∷ content)) (first_has (b ∷ content) bytes) (packets_have (claimed_length (b ∷ content) - 1) content bytes.1) (packets_have zero content bytes.1)
   where
-    step : (begins : Bool) (p : Packet) → HasBytes p → AllByRecursion HasBytes (accepted_after (claimed_length (b ∷ text) - 1) text) → AllByRecursion HasBytes (accepted_after zero text)
-        → AllByRecursion HasBytes (if begins then p ∷ accepted_after (claimed_length (b ∷ text) - 1) text else accepted_after zero text)
+    step : (begins : Bool) (p : Packet) → HasBytes p → AllByRecursion HasBytes (accepted_after (claimed_length (b ∷ content) - 1) content) → AllByRecursion HasBytes (accepted_after zero content)
+        → AllByRecursion HasBytes (if begins then p ∷ accepted_after (claimed_length (b ∷ content) - 1) content else accepted_after zero content)
     step begins p is behind next = grind arith
 
 said_has : (p : Packet) → HasBytes p → ForSome (read_recovery p.kind p.body) (λ r. AreBytes r.bytes)
@@ -128,7 +128,7 @@ recovery_has packets s h =
     let chosen = all-filter (λ (r : RecoveryBody). AreBytes r.bytes) (λ r. nat_lt r.exponent 65536 && length r.bytes == s) _ said in
     all-entries IsOfBytes _ (all-map (λ (r : RecoveryBody). AreBytes r.bytes) IsOfBytes (λ r. (r.exponent, r.bytes)) (λ r k. k) _ chosen)
 
--- each entry is what the map has at its key
+-- the map has each of its entries at the entry's key
 other_key : (k n : ℕ) → T (is_lt (nat_cmp k n)) → eq_by_cmp nat_cmp n k ≡ false
 other_key k n less = grind arith
 
@@ -149,39 +149,39 @@ own_values (e ∷ es) sorted =
 pub each_has_its_own : (set : ParSet) → AllByRecursion (λ r. map_of.get set.recovery r.0 ≡ Some r.1) (map_of.entries set.recovery)
 each_has_its_own set = search (arith, all_weaker, get-entries, own_values, entries_sorted)
 
--- the recovery slices of a set that is read in a folder whose files hold bytes
+-- the recovery slices of a set that is read are bytes, if the folder's files are
 pub recovery_of_bytes : (folder : Folder) (base : List ℕ) (set : ParSet) → HoldsBytes folder → set_of folder base ≡ Ok set → AllByRecursion (λ e. AreBytes e.1) (map_of.entries set.recovery)
 recovery_of_bytes folder base set held reads =
     let names = base ∷ other_par_names folder base in
-    let texts = map (bytes_of folder) names in
+    let buffers = map (bytes_of folder) names in
     let read = set_of_answers folder base (Ok set) reads in
-    let in_texts = all-each (λ text. AllByRecursion HasBytes (accepted text)) (bytes_of folder) (λ name. packets_have 0 (bytes_of folder name) (bytes_of_file folder name held)) names in
-    let in_packets = all-flat_map (λ text. AllByRecursion HasBytes (accepted text)) HasBytes accepted (λ text all. all) texts in_texts in
-    let kept = all-filter HasBytes (λ p. bytes_eq p.set_id read.0) (flat_map accepted texts) in_packets in
-    subst (λ recovery. AllByRecursion IsOfBytes (map_of.entries recovery)) (sym read.1) (recovery_has (packets_with read.0 (flat_map accepted texts)) set.slice_size kept)
+    let in_buffers = all-each (λ bytes. AllByRecursion HasBytes (accepted bytes)) (bytes_of folder) (λ name. packets_have 0 (bytes_of folder name) (bytes_of_file folder name held)) names in
+    let in_packets = all-flat_map (λ bytes. AllByRecursion HasBytes (accepted bytes)) HasBytes accepted (λ bytes all. all) buffers in_buffers in
+    let kept = all-filter HasBytes (λ p. bytes_eq p.set_id read.0) (flat_map accepted buffers) in_packets in
+    subst (λ recovery. AllByRecursion IsOfBytes (map_of.entries recovery)) (sym read.1) (recovery_has (packets_with read.0 (flat_map accepted buffers)) set.slice_size kept)
 
--- ---- the set that a repair reads, by which of its files are there
+-- ---- the set that a repair reads, depending on which files exist
 
 module _ (folder : Folder) (base : List ℕ) (extras : List (List ℕ)) where
   -- a set that is read is that of the base, in a folder with these files
   pub read_of : (set : ParSet) → set_in folder base extras ≡ Ok set → (set_of folder base ≡ Ok set) × (list_all (has folder) extras ≡ true)
   read_of set read = let r = set_in_reads folder base extras set read in (r.0, (and_parts (has folder base) (list_all (has folder) extras) r.1).1)
 
-  -- the set of the base is read, or a file is not there
+  -- the set of the base is read, or a file doesn't exist
   pub read_or_absent : (set : ParSet) → set_of folder base ≡ Ok set → (set_in folder base extras ≡ Ok set) ⊎ ((place : ℕ) × (set_in folder base extras ≡ Err (NoSuchFile place)))
   read_or_absent set reads = grind (arith, missing, in_full, in_part)
 
-  -- where none is read, the fault is one of reading
+  -- if none is read, the fault is one of reading
   pub fault_of_reading : (fault : Fault) → set_in folder base extras ≡ Err fault → is_of_reading fault ≡ true
   fault_of_reading fault unread = search (arith, missing, set_of_answers, in_full, in_part)
 
--- ---- what survives of a sound set in a folder whose files hold bytes is texts of bytes of the slice size
+-- ---- in a folder whose files hold bytes, the survivors of a sound set are buffers of the slice size
 
-sizes_of : (s : ℕ) (ks : List (Option (List ℕ))) → AllByRecursion (λ slice. ForSome slice (IsText s)) ks → AllByRecursion (λ slice. ForSome slice (λ found. length found ≡ s)) ks
-sizes_of s ks h = all_weaker (λ slice. ForSome slice (IsText s)) (λ slice. ForSome slice (λ found. length found ≡ s)) (λ slice text found is. (text found is).0) ks h
+sizes_of : (s : ℕ) (ks : List (Option (List ℕ))) → AllByRecursion (λ slice. ForSome slice (IsSliceBytes s)) ks → AllByRecursion (λ slice. ForSome slice (λ found. length found ≡ s)) ks
+sizes_of s ks h = all_weaker (λ slice. ForSome slice (IsSliceBytes s)) (λ slice. ForSome slice (λ found. length found ≡ s)) (λ slice bytes found is. (bytes found is).0) ks h
 
-bytes_of_each : (s : ℕ) (ks : List (Option (List ℕ))) → AllByRecursion (λ slice. ForSome slice (IsText s)) ks → AllByRecursion (λ slice. ForSome slice AreBytes) ks
-bytes_of_each s ks h = all_weaker (λ slice. ForSome slice (IsText s)) (λ slice. ForSome slice AreBytes) (λ slice text found is. (text found is).1) ks h
+bytes_of_each : (s : ℕ) (ks : List (Option (List ℕ))) → AllByRecursion (λ slice. ForSome slice (IsSliceBytes s)) ks → AllByRecursion (λ slice. ForSome slice AreBytes) ks
+bytes_of_each s ks h = all_weaker (λ slice. ForSome slice (IsSliceBytes s)) (λ slice. ForSome slice AreBytes) (λ slice bytes found is. (bytes found is).1) ks h
 
 module _ (set : ParSet) where
   slice_of_bytes : AllByRecursion (λ e. AreBytes e.1) (map_of.entries set.recovery) → (e : ℕ) → AreBytes (recovery_slice set e)
@@ -202,7 +202,7 @@ survivors_are folder base set searched sound held reads =
       each = each_slice set (map_of.entries set.recovery) sound.recovery (each_has_its_own set);
     }
 
--- ---- slices that agree with what survives are as many as the pairs of the set
+-- ---- there are as many agreeing slices as checksums in the set
 
 pub as_many_as_pairs : (folder : Folder) (set : ParSet) (searched : List (List ℕ)) (recovered : List (ℕ × List ℕ)) (slices : List (List ℕ))
     → Agrees set.slice_size (known folder set searched) recovered slices → length slices ≡ length (all_pairs set)

@@ -1,17 +1,17 @@
--- A set whose packets are those of certain files was made from them.
+-- A set whose packets are those of known files was made from them.
 use Rattle.par2_laws.proofs.Common.{◌≡◌, ℕ, ◌<◌, ◌^◌, false, List, [], ◌∷◌, ◌++◌, length, map, Some, refl, sym, ap, ◌∙◌, subst, arith, Bool, true, Option, None, inl, inr, ◌⊎◌, ◌&&◌, Ok, IsTrue, ◌==◌, nat_lt, filter_map, find, slice_get, option_map, option_and_then, if◌then◌else◌, flat_map, AllByRecursion, Contains, list_any, range_with_len, IsDistinct, length-map, recursion_from_All, All-contains_itself, same_Some, none-some, length-md5, Kind, Main, FileDesc, Ifsc, Recovery, Creator, Other, AreBytes, File, Folder, bytes_of, Packet, MainBody, DescBody, IfscBody, RecoveryBody, accepted, read_main, read_desc, read_ifsc, read_recovery, FileRecord, all_slices, main_bytes, desc_bytes, ifsc_bytes, recovery_bytes, id_of, record_of, packets_of, AreDescribed, is_read, IsOf, AreAllOf, all-append, of_contained, all-map, all-filter_map, found_one, all_unmap, all-passing, all-flat_map-map, bytes_eq, false≢true, and_parts, eqb-true, map-map, md5, Pair, pair_of, slice_count, slice_at, slices, Target, all_some, main_of, description_of, pairs_of, target_of, recovery_of, target_of_file, ParSet, MadeFrom, packets_with, read_set, other_par_names, set_of, all_weaker, all-filter, mapped, target_with, no_slices, all-entries, read_by, same_name, itself, main_reads, ifsc_reads, desc_reads, by_either, common_steps}
 use Rattle.par2_spec.specs.Recovery.{recovery}
 use Rattle.par2_laws.proofs.RecoveryBytes.{pairs_are}
 use Rattle.std.specs.FinMap as map_of
 
--- ---- what holds of each
+-- ---- properties of each item
 
 pub all_contained : {A : Type 0} (xs : List A) → AllByRecursion (Contains xs) xs
 all_contained xs = recursion_from_All (Contains xs) xs (All-contains_itself xs)
 
--- ---- what a packet may be
+-- ---- the packets of files
 
--- the body is that of one of the packets of the files
+-- the body is that of one of the files' packets
 abbrev pub Says : ℕ → List File → Kind → List ℕ → Type 0
 Says s files Main body = body ≡ main_bytes s (map (record_of s) files)
 Says s files FileDesc body = (file : File) × Contains files file × (body ≡ desc_bytes (record_of s file))
@@ -38,11 +38,11 @@ all_say s files e small =
     each kind body says [] h = tt
     each kind body says (file ∷ some) h = (says file h.0, each kind body says some h.1)
 
--- a packet of the files says what one of theirs does
+-- a packet of the files has the body of one of their packets
 pub packet_says : (s : ℕ) (files : List File) (p : Packet) → (IsTrue (is_read p.kind) → IsOf s files p) → Says s files p.kind p.body
 packet_says s files p h = grind (arith, common_steps, of_contained, all_say)
 
--- ---- what it is read as
+-- ---- the contents that are read
 
 unfoldable pub main_of_files : ℕ → List File → MainBody
 main_of_files s files = record { slice_size = s; ids = map (λ file. file.id) (map (record_of s) files) }
@@ -55,9 +55,9 @@ desc_of_file s file =
 unfoldable pub ifsc_of_file : ℕ → File → IfscBody
 ifsc_of_file s file = record { id = (record_of s file).id; pairs = (record_of s file).pairs }
 
--- ---- each part is read as what it is
+-- ---- each part is read back
 
--- a file whose packets say what was given
+-- a file that packets can describe
 pub record IsDescribed (file : File) : Type 0 where
   pub size : length file.1 < 2 ^ 64
   pub bytes : AreBytes file.1
@@ -91,7 +91,7 @@ unfolding read_main
 main_said s files d Main body says m h = sym (same_Some (main_of_files s files) m (sym (ap (read_main Main) says ∙ main_written s files d) ∙ h))
 main_said s files d kind body says m h = absurd (none-some m h)
 
--- it is said of one of the files
+-- this is the value of one of the files
 abbrev pub IsOfOne : {B : Type 0} → (File → B) → List File → B → Type 0
 IsOfOne of files x = (file : File) × Contains files file × (x ≡ of file)
 
@@ -100,8 +100,8 @@ pub desc_said : (s : ℕ) (files : List File) → AreDescribed s files → (kind
 unfolding read_desc
 desc_said s files d FileDesc body says x h =
     let file = says.0 in
-    let told = of_contained IsDescribed files file (each_described s files d) says.1 in
-    (file, says.1, sym (same_Some (desc_of_file s file) x (sym (ap (read_desc FileDesc) says.2 ∙ desc_written s file told) ∙ h)))
+    let reported = of_contained IsDescribed files file (each_described s files d) says.1 in
+    (file, says.1, sym (same_Some (desc_of_file s file) x (sym (ap (read_desc FileDesc) says.2 ∙ desc_written s file reported) ∙ h)))
 desc_said s files d kind body says x h = absurd (none-some x h)
 
 pub ifsc_said : (s : ℕ) (files : List File) → AreDescribed s files → (kind : Kind) (body : List ℕ) → Says s files kind body
@@ -109,11 +109,11 @@ pub ifsc_said : (s : ℕ) (files : List File) → AreDescribed s files → (kind
 unfolding read_ifsc
 ifsc_said s files d Ifsc body says x h =
     let file = says.0 in
-    let told = of_contained IsDescribed files file (each_described s files d) says.1 in
-    (file, says.1, sym (same_Some (ifsc_of_file s file) x (sym (ap (read_ifsc Ifsc) says.2 ∙ ifsc_written s file told) ∙ h)))
+    let reported = of_contained IsDescribed files file (each_described s files d) says.1 in
+    (file, says.1, sym (same_Some (ifsc_of_file s file) x (sym (ap (read_ifsc Ifsc) says.2 ∙ ifsc_written s file reported) ∙ h)))
 ifsc_said s files d kind body says x h = absurd (none-some x h)
 
--- the recovery slice is the true one
+-- the recovery slice is the one of the files
 abbrev pub IsTrueSlice : ℕ → List File → RecoveryBody → Type 0
 IsTrueSlice s files r = r.bytes ≡ recovery s (all_slices s files) r.exponent
 
@@ -127,7 +127,7 @@ first_one : {A : Type 0} (P : A → Type 0) (xs : List A) → AllByRecursion P x
 first_one P [] h x e = absurd (none-some x e)
 first_one P (y ∷ xs) h x e = subst P (same_Some y x e) h.0
 
--- items that are there are what each can only be
+-- if each item can only have one value, the items that are there have it
 all_there : {A B : Type 0} (g : A → Option B) (f : A → B) (xs : List A) → AllByRecursion (λ x. (y : B) → g x ≡ Some y → y ≡ f x) xs → (ys : List B) → all_some (map g xs) ≡ Some ys → ys ≡ map f xs
 all_there g f [] h ys e = sym (same_Some [] ys e)
 all_there {A = A} {B = B} g f (x ∷ xs) h ys e = step (g x) refl (all_some (map g xs)) (λ zs b. all_there g f xs h.1 zs b) e
@@ -154,26 +154,26 @@ one_by_id (x ∷ files) d a b i j e =
           (λ later. one_by_id files d.1 a b there later e)
     ]
 
--- ---- steps of the reading
+-- ---- steps of reading a set
 
--- a file without bytes has no slices
-no_pairs : (s : ℕ) (text : List ℕ) → length text ≡ 0 → map pair_of (slices s text) ≡ []
-no_pairs s text e = ap (λ n. map pair_of (map (slice_at s text) (range_with_len 0 n))) (ap (slice_count s) e ∙ no_slices s)
+-- an empty file has no slices
+no_pairs : (s : ℕ) (bytes : List ℕ) → length bytes ≡ 0 → map pair_of (slices s bytes) ≡ []
+no_pairs s bytes e = ap (λ n. map pair_of (map (slice_at s bytes) (range_with_len 0 n))) (ap (slice_count s) e ∙ no_slices s)
 
--- what is looked up for the File IDs of a Main is looked up for the files
+-- looking up the File IDs of a Main is looking up those of the files
 pub by_ids : {B : Type 0} (look : List ℕ → B) (s : ℕ) (files : List File) → map look (main_of_files s files).ids ≡ map (λ file. look (id_of file)) files
 unfolding main_of_files record_of
 by_ids look s [] = refl
 by_ids look s (file ∷ files) = ap (λ os. look (id_of file) ∷ os) (by_ids look s files)
 
--- ---- packets that say what the files do
+-- ---- packets with the bodies of the files' packets
 
--- each of them does
+-- each packet has such a body
 abbrev pub AllSay : ℕ → List File → List Packet → Type 0
 AllSay s files packets = AllByRecursion (λ p. Says s files p.kind p.body) packets
 
 module _ (s : ℕ) (files : List File) (d : AreDescribed s files) (packets : List Packet) (say : AllSay s files packets) where
-  -- the Main, where there is one
+  -- the Main, if there is one
   pub main_is : (id : List ℕ) (m : MainBody) → main_of id packets ≡ Some m → m ≡ main_of_files s files
   main_is id m e =
       first_one (λ x. x ≡ main_of_files s files) (filter_map read packets)
@@ -189,7 +189,7 @@ module _ (s : ℕ) (files : List File) (d : AreDescribed s files) (packets : Lis
           step true k = main_said s files d p.kind p.body says x k
           step false k = absurd (none-some x k)
 
-  -- the description of a file, where there is one
+  -- the description of a file, if there is one
   pub description_is : (file : File) → Contains files file → (x : DescBody) → description_of packets (id_of file) ≡ Some x → x ≡ desc_of_file s file
   description_is file i x e = unfold desc_of_file record_of in
       let found = found_one (IsOfOne (desc_of_file s) files) (λ c. bytes_eq c.id (id_of file)) (filter_map (λ p. read_desc p.kind p.body) packets)
@@ -197,7 +197,7 @@ module _ (s : ℕ) (files : List File) (d : AreDescribed s files) (packets : Lis
       let named : id_of found.0.0 ≡ id_of file = ap (λ c. c.id) (sym found.0.2) ∙ same_name x.id (id_of file) found.1 in
       found.0.2 ∙ ap (desc_of_file s) (one_by_id files d.ids_once found.0.0 file found.0.1 i named)
 
-  -- its checksums, where they are there
+  -- its checksums, if they are there
   pub pairs_are_its : (file : File) → Contains files file → (n : ℕ) (ps : List Pair) → pairs_of packets (id_of file) n ≡ Some ps → ps ≡ (record_of s file).pairs
   pairs_are_its file i n ps e = unfold ifsc_of_file record_of in
       let got = mapped (λ (c : IfscBody). c.pairs) (find (λ c. bytes_eq c.id (id_of file) && length c.pairs == n) (filter_map (λ p. read_ifsc p.kind p.body) packets)) ps e in
@@ -218,7 +218,7 @@ module _ (s : ℕ) (files : List File) (d : AreDescribed s files) (packets : Lis
       its true z ps k = sym (same_Some [] ps k) ∙ sym (no_pairs s file.1 (eqb-true (length file.1) 0 z))
       its false z ps k = pairs_are_its file i (slice_count s (length file.1)) ps k
 
-  -- what is read of all files
+  -- the descriptions of all files
   pub descriptions_are : (ds : List DescBody) → all_some (map (description_of packets) (main_of_files s files).ids) ≡ Some ds → ds ≡ map (desc_of_file s) files
   descriptions_are ds e =
       all_there (λ file. description_of packets (id_of file)) (desc_of_file s) files (all_weaker (Contains files) (λ file. (x : DescBody) → description_of packets (id_of file) ≡ Some x → x ≡ desc_of_file s file) description_is files (all_contained files)) ds
@@ -229,7 +229,7 @@ module _ (s : ℕ) (files : List File) (d : AreDescribed s files) (packets : Lis
       all_there (λ file. target_of packets s (desc_of_file s file)) (target_of_file s) files (all_weaker (Contains files) (λ file. (t : Target) → target_of packets s (desc_of_file s file) ≡ Some t → t ≡ target_of_file s file) target_is files (all_contained files)) ts
       (sym (ap all_some (map-map (target_of packets s) (desc_of_file s) files)) ∙ e)
 
-  -- each recovery slice is the true one
+  -- each recovery slice is the one of the files
   pub recovery_is : AllByRecursion (λ r. r.1 ≡ recovery s (all_slices s files) r.0) (map_of.entries (recovery_of packets s))
   recovery_is =
       all-entries (λ r. r.1 ≡ recovery s (all_slices s files) r.0) _
@@ -237,16 +237,16 @@ module _ (s : ℕ) (files : List File) (d : AreDescribed s files) (packets : Lis
       (all-filter (IsTrueSlice s files) (λ r. nat_lt r.exponent 65536 && length r.bytes == s) (filter_map (λ p. read_recovery p.kind p.body) packets)
       (all-filter_map (λ p. Says s files p.kind p.body) (IsTrueSlice s files) (λ p. read_recovery p.kind p.body) (λ p says. recovery_said s files p.kind p.body says) packets say)))
 
--- what is left to say of a set that was made from these files
-abbrev IsTold : ℕ → List File → ParSet → Type 0
-IsTold s files set =
+-- the remaining properties of a set that was made from these files
+abbrev IsRunResult : ℕ → List File → ParSet → Type 0
+IsRunResult s files set =
     (set.slice_size ≡ s) × (set.targets ≡ map (target_of_file s) files)
     × AllByRecursion (λ r. r.1 ≡ recovery s (all_slices s files) r.0) (map_of.entries set.recovery)
 
--- a set of this identifier that reads, where all packets of the identifier say what the files do
-told : (base : List ℕ) (others : List (List ℕ)) (set : ParSet) (s : ℕ) (files : List File) (d : AreDescribed s files)
-    → AllSay s files (packets_with set.id (flat_map accepted (base ∷ others))) → read_set base others ≡ Ok set → IsTold s files set
-told base others set s files d say h = unfold main_of_files in
+-- a set that can be read, if all packets with its Recovery Set ID have bodies of the files' packets
+reported : (base : List ℕ) (others : List (List ℕ)) (set : ParSet) (s : ℕ) (files : List File) (d : AreDescribed s files)
+    → AllSay s files (packets_with set.id (flat_map accepted (base ∷ others))) → read_set base others ≡ Ok set → IsRunResult s files set
+reported base others set s files d say h = unfold main_of_files in
     let r = read_by base others set h in
     let packets = packets_with r.id (flat_map accepted (base ∷ others)) in
     let all : AllSay s files packets = subst (λ x. AllSay s files (packets_with x (flat_map accepted (base ∷ others)))) (ap (λ p. p.id) (sym r.made)) say in
@@ -257,7 +257,7 @@ told base others set s files d say h = unfold main_of_files in
     let same_ts : r.targets ≡ map (target_of_file s) files =
     targets_are s files d packets all r.targets
     (sym (ap (λ k. all_some (map (target_of packets k) r.described)) same_size ∙ ap (λ ds. all_some (map (target_of packets s) ds)) same_ds) ∙ r.targets_there) in
-    subst (IsTold s files) r.made (
+    subst (IsRunResult s files) r.made (
       same_size,
       same_ts,
       subst (λ k. AllByRecursion (λ e. e.1 ≡ recovery s (all_slices s files) e.0) (map_of.entries (recovery_of packets k))) (sym same_size) (recovery_is s files d packets all),
@@ -265,14 +265,14 @@ told base others set s files d say h = unfold main_of_files in
 
 -- ---- the packets of a folder
 
--- a packet of this identifier says what the files do
+-- a packet with this Recovery Set ID has the body of one of the files' packets
 abbrev pub SaysIfOurs : List ℕ → ℕ → List File → Packet → Type 0
 SaysIfOurs id s files p = p.set_id ≡ id → Says s files p.kind p.body
 
 kept : (id : List ℕ) (s : ℕ) (files : List File) (ps : List Packet) → AllByRecursion (SaysIfOurs id s files) ps → AllSay s files (packets_with id ps)
 kept id s files ps h = all-passing (SaysIfOurs id s files) (λ p. Says s files p.kind p.body) (λ p. bytes_eq p.set_id id) (λ p says e. says (same_name p.set_id id e)) ps h
 
--- where each packet of the identifier says what the files do in each text, they do together
+-- if this holds for the packets of each file, it holds for all together
 pub folder_says : (folder : Folder) (base id : List ℕ) (s : ℕ) (files : List File)
     → AllByRecursion (λ name. AllByRecursion (SaysIfOurs id s files) (accepted (bytes_of folder name))) (base ∷ other_par_names folder base)
     → AllSay s files (packets_with id (flat_map accepted (bytes_of folder base ∷ map (bytes_of folder) (other_par_names folder base))))
@@ -281,7 +281,7 @@ folder_says folder base id s files h = kept id s files _ (all-flat_map-map (Says
 pub made_if_said : (folder : Folder) (base : List ℕ) (set : ParSet) (s : ℕ) (files : List File) → set_of folder base ≡ Ok set → AreDescribed s files
     → AllByRecursion (λ name. AllByRecursion (SaysIfOurs set.id s files) (accepted (bytes_of folder name))) (base ∷ other_par_names folder base) → MadeFrom folder base files s
 made_if_said folder base set s files reads d all = unfold set_of in
-    let is = told (bytes_of folder base) (map (bytes_of folder) (other_par_names folder base)) set s files d (folder_says folder base set.id s files all) reads in
+    let is = reported (bytes_of folder base) (map (bytes_of folder) (other_par_names folder base)) set s files d (folder_says folder base set.id s files all) reads in
     record { set = set; reads = reads; slice_size = is.0; targets = is.1; recovered = is.2 }
 
 pub made_from : (folder : Folder) (base : List ℕ) (set : ParSet) (s : ℕ) (files : List File) → set_of folder base ≡ Ok set → AreDescribed s files

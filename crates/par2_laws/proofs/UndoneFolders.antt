@@ -1,4 +1,4 @@
--- What an accepted undo leaves of a history.
+-- A history after an accepted undo.
 use Rattle.par2_laws.proofs.Common.{◌≡◌, arith, ℕ, suc, List, ◌∷◌, drop, Ok, Folder, History, after_undo, folders}
 
 -- an accepted undo leaves one folder fewer

@@ -1,9 +1,9 @@
--- A folder of volumes holds the set that was made from their files.
+-- A folder of volumes has the set that was made from their files.
 use Rattle.par2_laws.proofs.Common.{◌≡◌, ℕ, suc, ◌<◌, Bool, true, false, cond, ◌&&◌, List, [], ◌∷◌, ◌++◌, length, map, Option, Some, None, refl, sym, ap, ◌∙◌, subst, inl, inr, arith, ◌⊎◌, append_assoc, Ok, ◌==◌, filter, filter_map, find, slice_get, option_map, flat_map, ok_or, sum_by, AllByRecursion, Contains, slice_index_or, bytes_eq, false≢true, and_from, eq-eqb, le-leb, length-map, Contains-append_left, Contains-append_right, same_Some, map-map, Kind, Main, FileDesc, Ifsc, Creator, slice_count, File, Folder, bytes_of, Packet, IfscBody, read_desc, read_ifsc, accepted, DescBody, FileRecord, id_of, packet_of, main_id, main_bytes, desc_bytes, ifsc_bytes, creator_bytes, in_id_order, record_of, index_packets, packets_with, main_of, description_of, pairs_of, target_of, target_of_file, all_some, ParSet, MadeFrom, ◌>>=◌, unless, are_in_profile, other_par_names, read_set, set_of, AreDescribed, all_weaker, test_from_all, itself, distinct_same, distinct_from_std, contained_first, contained_later, of_contained, all-map, target_with, set_with, finished, by_checksums, by_profile, by_descriptions, by_size, by_main, sum_by-cons, NoPackets, NoMain, NoDescription, NoChecksums, BadSet, is_name, AreInputs, IsVolume, set_id_of, IsOfOthers, HoldsVolumes, moved-ordered, by_either, common_steps}
 use Rattle.par2_laws.proofs.SetsOfFiles.{all_contained, IsDescribed, each_described, main_of_files, desc_of_file, ifsc_of_file, main_written, desc_written, ifsc_written, AllSay, contained_cases, by_ids, description_is, pairs_are_its, target_is, SaysIfOurs, folder_says, made_if_said}
 use Rattle.par2_laws.proofs.VolumePackets.{pairs_count, index_of, moved, described, slices_of, IsReadAs, volumes_read, IsOurs, volume_ours}
 
--- ---- one of a list
+-- ---- one item of a list
 
 index_map : {A B : Type 0} (g : A → B) (xs : List A) (k : ℕ) (x : A) → slice_index_or (map g xs) k (g x) ≡ g (slice_index_or xs k x)
 index_map g (y ∷ xs) (suc k) x = index_map g xs k x
@@ -22,7 +22,7 @@ contained_filter {A = A} test (y ∷ xs) x i t = by_either (contained_cases y xs
     more true k = contained_later y (filter test xs) x k
     more false k = k
 
--- ---- what is there is found
+-- ---- searches that succeed
 
 none_pass : {A : Type 0} (test : A → Bool) (xs : List A) → find test xs ≡ None → AllByRecursion (λ y. test y ≡ false) xs
 none_pass test [] e = tt
@@ -39,12 +39,10 @@ some_found {B = B} read test xs x y i e t = step (find test (filter_map read xs)
     step (Some z) f = (z, f)
     step None f = absurd (false≢true (sym (of_contained (λ w. (v : B) → read w ≡ Some v → test v ≡ false) xs x (read_from read (λ v. test v ≡ false) xs (none_pass test (filter_map read xs) f)) i y e) ∙ t))
 
--- items that are all there
+-- if all items are there, `all_some` returns them
 all_are : {A B : Type 0} (g : A → Option B) (f : A → B) (xs : List A) → AllByRecursion (λ x. g x ≡ Some (f x)) xs → all_some (map g xs) ≡ Some (map f xs)
 all_are g f [] h = refl
 all_are g f (x ∷ xs) h = grind (arith, all_are g f xs h.1)
-
--- ---- a Main in front
 
 -- ---- the packets of an index
 
@@ -91,7 +89,7 @@ module _ (s : ℕ) (files : List File) (d : AreDescribed s files) (tail : List P
   is_described : (file : File) → Contains files file → IsDescribed file
   is_described file i = of_contained IsDescribed files file (each_described s files d) i
 
-  -- where all packets say what the files do, each part is found
+  -- if all packets have bodies of the files' packets, each part is found
   module _ (say : AllSay s files packets) where
     description_found : (file : File) → Contains files file → description_of packets (id_of file) ≡ Some (desc_of_file s file)
     description_found file i = unfold desc_of_file record_of in
@@ -122,7 +120,7 @@ module _ (s : ℕ) (files : List File) (d : AreDescribed s files) (tail : List P
         ∙ all_are (λ file. target_of packets s (desc_of_file s file)) (target_of_file s) files
         (all_weaker (Contains files) (λ file. target_of packets s (desc_of_file s file) ≡ Some (target_of_file s file)) target_found files (all_contained files))
 
--- ---- what is described is in the profile
+-- ---- the descriptions are in the profile
 
 are_names : (s : ℕ) (files : List File) → AllByRecursion (λ file. is_name file.0 ≡ true) files → AllByRecursion (λ (x : DescBody). is_name x.name ≡ true) (map (desc_of_file s) files)
 are_names s files h = unfold desc_of_file record_of in all-map (λ file. is_name file.0 ≡ true) (λ (x : DescBody). is_name x.name ≡ true) (desc_of_file s) (λ file k. k) files h
@@ -137,7 +135,7 @@ in_profile s files is = unfold desc_of_file record_of in grind (arith, desc_of_f
 
 -- ---- the base is read
 
--- the set of files in this order, read from these texts
+-- the set of files in this order, read from these packets
 abbrev set_read : ℕ → List File → List Packet → ParSet
 set_read s files packets = set_with (main_id s (map (record_of s) files)) packets s (map (target_of_file s) files)
 
@@ -175,12 +173,12 @@ module _ (folder : Folder) (base : List ℕ) (s : ℕ) (files : List File) (is :
   inputs : AreInputs s ordered
   inputs = moved s files ordered (moved-ordered files) is
 
-  volume_says : (text : List ℕ) → IsVolume s files text → AllByRecursion (SaysIfOurs their_id s ordered) (accepted text)
-  volume_says text v = all_weaker (IsOurs s ordered) (SaysIfOurs their_id s ordered) (λ p ours own. ours.1) (accepted text) (volume_ours s ordered text (volumes_read s files inputs text v))
+  volume_says : (bytes : List ℕ) → IsVolume s files bytes → AllByRecursion (SaysIfOurs their_id s ordered) (accepted bytes)
+  volume_says bytes v = all_weaker (IsOurs s ordered) (SaysIfOurs their_id s ordered) (λ p ours own. ours.1) (accepted bytes) (volume_ours s ordered bytes (volumes_read s files inputs bytes v))
 
-  each_says : (text : List ℕ) → IsVolume s files text ⊎ IsOfOthers their_id text → AllByRecursion (SaysIfOurs their_id s ordered) (accepted text)
-  each_says text (inl v) = volume_says text v
-  each_says text (inr h) = grind (arith, all_weaker, false≢true, itself)
+  each_says : (bytes : List ℕ) → IsVolume s files bytes ⊎ IsOfOthers their_id bytes → AllByRecursion (SaysIfOurs their_id s ordered) (accepted bytes)
+  each_says bytes (inl v) = volume_says bytes v
+  each_says bytes (inr h) = grind (arith, all_weaker, false≢true, itself)
 
   all_say : AllByRecursion (λ name. AllByRecursion (SaysIfOurs their_id s ordered) (accepted (bytes_of folder name))) (base ∷ other_par_names folder base)
   all_say = (
@@ -191,7 +189,7 @@ module _ (folder : Folder) (base : List ℕ) (s : ℕ) (files : List File) (is :
 
   pub set_made : MadeFrom folder base ordered s
   set_made = unfold set_of in
-      let texts = map (bytes_of folder) (other_par_names folder base) in
-      made_if_said folder base (set_read s ordered (packets_with their_id (flat_map accepted (bytes_of folder base ∷ texts)))) s ordered
-      (base_reads s ordered inputs (bytes_of folder base) texts (volumes_read s files inputs (bytes_of folder base) holds.of_base) (folder_says folder base their_id s ordered all_say))
+      let buffers = map (bytes_of folder) (other_par_names folder base) in
+      made_if_said folder base (set_read s ordered (packets_with their_id (flat_map accepted (bytes_of folder base ∷ buffers)))) s ordered
+      (base_reads s ordered inputs (bytes_of folder base) buffers (volumes_read s files inputs (bytes_of folder base) holds.of_base) (folder_says folder base their_id s ordered all_say))
       (described s ordered inputs) all_say

@@ -1,4 +1,4 @@
--- What is read of a volume: the packets that were written.
+-- The packets that are read from a volume are those that were written.
 use Rattle.par2_laws.proofs.Common.{◌≡◌, ℕ, ◌^◌, ◌<◌, ◌≤◌, true, false, List, [], ◌∷◌, length, map, sym, ◌∙◌, subst, arith, zero, suc, ◌+◌, min, ◌&&◌, ◌++◌, refl, ap, append-nil, IsTrue, IsPermutation, sum_by, ◌==◌, flat_map, nat_le, AllByRecursion, list_any, range_with_len, Contains, bytes_eq, not-true, leb-true, and_parts, length-map, sum_by-cons, IsPermutation-map, sum_by-IsPermutation, length_permutation, length-md5, pair_of, slice_count, slice_at, slices, is_name, AreBytes, File, IsFileRecord, id_of, FileRecord, all_slices, in_id_order, volumes_before, volume_size, volume_numbers, recovery_packets, packet_of, main_id, main_bytes, desc_bytes, ifsc_bytes, creator_bytes, record_of, volumes, index_packets, AreDescribed, AreInputs, IsVolume, all-map, all-append, of_contained, all_weaker, moved-all, same_either_way, size_parts, flat_map-append, common_steps, Kind, Main, FileDesc, Ifsc, Creator, Packet, packet, accepted, are_counts, index_reads, recovery_slices_read}
 use Rattle.std.proofs.lemmas.List.FromFn.{length-range_with_len}
 use Rattle.std.proofs.lemmas.Map.Keys.{IsDistinct-IsPermutation}
@@ -7,7 +7,7 @@ use Rattle.par2_spec.proofs.NameTests.{tests_of}
 use Rattle.par2_spec.proofs.WrittenPackets.{none_short}
 use Rattle.par2_laws.proofs.SetsOfFiles.{Says, all_contained}
 
--- ---- in another order
+-- ---- files in another order
 
 pub moved : (s : ℕ) (files others : List File) → IsPermutation files others → AreInputs s files → AreInputs s others
 moved s files others m is = record {
@@ -21,9 +21,9 @@ moved s files others m is = record {
   slices = subst (λ n. n ≤ 32768) (sym (sum_by-IsPermutation (λ file. slice_count s (length file.1)) files others m)) is.slices;
 }
 
--- ---- what a set says of them
+-- ---- the records of files
 
--- a name is short and has no zero byte
+-- a name is short and has no NUL byte
 name_parts : (name : List ℕ) → is_name name ≡ true → (length name ≤ 255) × (list_any (λ b. b == 0) name ≡ false)
 name_parts name h =
     let t = tests_of name h in
@@ -34,7 +34,7 @@ each_below : {A : Type 0} (f : A → ℕ) (xs : List A) (n : ℕ) → sum_by f x
 each_below f [] n h = tt
 each_below f (x ∷ xs) n h = let e = sum_by-cons f x xs in (omega (arith, e, h), each_below f xs n (omega (arith, e, h)))
 
--- one file that a create takes
+-- one file that a create accepts
 record IsInput (s : ℕ) (file : File) : Type 0 where
   size : length file.1 < 2 ^ 64
   bytes : AreBytes file.1
@@ -49,9 +49,9 @@ each_input s (file ∷ files) a b c d = (record { size = a.0; bytes = b.0; name 
 inputs_are : (s : ℕ) (files : List File) → AreInputs s files → AllByRecursion (IsInput s) files
 inputs_are s files is = each_input s files is.sizes is.bytes is.names (each_below (λ file. slice_count s (length file.1)) files 32768 is.slices)
 
--- as many pairs as slices
-pub pairs_count : (s : ℕ) (text : List ℕ) → length (map pair_of (slices s text)) ≡ slice_count s (length text)
-pairs_count s text = length-map (slices s text) pair_of ∙ length-map (range_with_len 0 (slice_count s (length text))) (slice_at s text) ∙ length-range_with_len 0 (slice_count s (length text))
+-- there are as many checksums as slices
+pub pairs_count : (s : ℕ) (bytes : List ℕ) → length (map pair_of (slices s bytes)) ≡ slice_count s (length bytes)
+pairs_count s bytes = length-map (slices s bytes) pair_of ∙ length-map (range_with_len 0 (slice_count s (length bytes))) (slice_at s bytes) ∙ length-range_with_len 0 (slice_count s (length bytes))
 
 record_fits : (s : ℕ) (file : File) → IsInput s file → IsFileRecord (record_of s file)
 record_fits s file is = unfold record_of in
@@ -91,14 +91,14 @@ index_of s files = index_packets s (map (record_of s) files)
 abbrev pub slices_of : ℕ → List File → ℕ → ℕ → List Packet
 slices_of s files e n = recovery_packets s (main_id s (map (record_of s) files)) (all_slices s files) e n
 
--- what a volume of files in this order is read as
-pub record IsReadAs (s : ℕ) (files : List File) (text : List ℕ) : Type 0 where
+-- the packets that a volume of files in this order is read as
+pub record IsReadAs (s : ℕ) (files : List File) (bytes : List ℕ) : Type 0 where
   pub first : ℕ
   pub count : ℕ
   pub low : (k : ℕ) → k < count → first + k < 65536
-  pub packets : accepted text ≡ index_of s files ++ slices_of s files first count
+  pub packets : accepted bytes ≡ index_of s files ++ slices_of s files first count
 
--- ---- what was written is read
+-- ---- written packets are read back
 
 module _ (s : ℕ) (files : List File) (is : AreInputs s files) where
   empty_read : accepted [] ≡ []
@@ -132,21 +132,21 @@ counts_end : (f c : ℕ) → are_counts f c ≡ true → f + c ≤ 65536
 counts_end f c h = leb-true (f + c) 65536 (and_parts (nat_le c 65536 && nat_le f 65535) (nat_le (f + c) 65536) h).1
 
 -- each volume of the files is read as its packets
-pub volumes_read : (s : ℕ) (files : List File) → AreInputs s (in_id_order files) → (text : List ℕ) → IsVolume s files text → IsReadAs s (in_id_order files) text
-volumes_read s files is text v = unfold volumes in
+pub volumes_read : (s : ℕ) (files : List File) → AreInputs s (in_id_order files) → (bytes : List ℕ) → IsVolume s files bytes → IsReadAs s (in_id_order files) bytes
+volumes_read s files is bytes v = unfold volumes in
     let small = counts_end v.1 v.2 v.3 in
     let first : IsReadAs s (in_id_order files) (flat_map packet (index_of s (in_id_order files))) =
     record { first = 0; count = 0; low = λ k l. absurd (omega (arith, l)); packets = index_read s (in_id_order files) is } in
-    of_contained (IsReadAs s (in_id_order files)) (map (λ file. file.1) (volumes v.0 s v.1 v.2 files)) text
+    of_contained (IsReadAs s (in_id_order files)) (map (λ file. file.1) (volumes v.0 s v.1 v.2 files)) bytes
     (first, each_volume s (in_id_order files) is v.1 v.2 _ (volume_numbers v.2) small) v.4
 
--- ---- what they say
+-- ---- the contents of the packets
 
 module _ (s : ℕ) (files : List File) where
   abbrev id : List ℕ
   id = main_id s (map (record_of s) files)
 
-  -- a packet of the set that says what the files do
+  -- a packet of the set with the body of one of the files' packets
   abbrev pub IsOurs : Packet → Type 0
   IsOurs p = (p.set_id ≡ id) × Says s files p.kind p.body
 
@@ -176,5 +176,5 @@ module _ (s : ℕ) (files : List File) where
       let here : e < 65536 = (let h = low 0 (omega arith) in omega (arith, h)) in
       ((refl, (e, here, refl)), slices_ours (e + 1) n (λ k l. let h = low (suc k) (omega (arith, l)) in omega (arith, h)))
 
-  pub volume_ours : (text : List ℕ) → IsReadAs s files text → AllByRecursion IsOurs (accepted text)
-  volume_ours text r = grind (arith, all-append, index_ours, slices_ours)
+  pub volume_ours : (bytes : List ℕ) → IsReadAs s files bytes → AllByRecursion IsOurs (accepted bytes)
+  volume_ours bytes r = grind (arith, all-append, index_ours, slices_ours)

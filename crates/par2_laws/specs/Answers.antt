@@ -1,4 +1,4 @@
--- How a repair answers: with the folder that it leaves, or with a fault.
+-- The result of a repair: the folder that it leaves, or a fault.
 use Rattle.std.specs.Prelude.{◌≡◌, ◌≢◌, ◌⊎◌, ℕ, Bool, IsTrue, List, Some, None, Result, Ok, Err, IfErr, IfOk}
 use Rattle.std.specs.List.{AllByRecursion}
 use Rattle.std.specs.FinMap as map_of
@@ -15,57 +15,59 @@ use Rattle.par2_spec.specs.declared.Fault.TheVariants.{Memory, NotRepairable, Re
 use Rattle.par2_laws.specs.Creates.{FollowsCreate, HaveAChoice, may_refuse}
 use Rattle.par2_laws.specs.Premises.{IsTrueTo}
 
--- what a call answers, by the folder that is left
-abbrev pub leaving : {A : Type 0} → (A → Folder) → Result A Fault → Result Folder Fault
-leaving left (Ok x) = Ok (left x)
-leaving left (Err fault) = Err fault
+-- the result of a call, as the folder that it leaves
+abbrev pub folder_left : {A : Type 0} → (A → Folder) → Result A Fault → Result Folder Fault
+folder_left left (Ok x) = Ok (left x)
+folder_left left (Err fault) = Err fault
 
 -- the repair is accepted, and the new folder is the one after it
 pub record IsRepaired (old new : Folder) (command : Command) : Type 0 where
   pub accepted : refusal old command ≡ None
   pub left : new ≡ after old command
 
--- the answer is that of the definitions, or memory ran out
+-- the result of a repair, a folder or a fault, is that of the definitions, or memory ran out
 pub record AnswersRepair (folder : Folder) (base : List ℕ) (extras : List (List ℕ)) (purge : Bool) (answer : Result Folder Fault) : Type 0 where
   pub left : IfOk answer (λ left. IsRepaired folder left (Repair base extras purge))
   pub refused : IfErr answer (λ fault. (fault ≡ Memory) ⊎ (refusal folder (Repair base extras purge) ≡ Some fault))
 
--- ---- where the set was made from certain files, and what is found of them is true
+-- ---- a set that was made from known files, if no checksum collides
 
--- each file stands in the folder under its name, with its bytes
+-- the folder has each of these files, with its bytes
 abbrev pub HasFiles : List File → Folder → Type 0
 HasFiles originals folder = AllByRecursion (λ file. map_of.get folder file.0 ≡ Some file.1) originals
 
--- slices other than those of the files, too, agree with all that is found
+-- slices other than the files' also agree with everything that is found
 abbrev pub OthersAgree : (folder : Folder) (base : List ℕ) (extras : List (List ℕ)) (originals : List File) (s : ℕ) → IsTrueTo folder base extras originals s → Type 0
 OthersAgree folder base extras originals s original =
     let set = original.made.set in
     AnotherAgrees s (known folder set (candidates folder set extras)) (map_of.entries set.recovery) (all_slices s originals)
 
+-- with this result a repair restores the files that its set was made from
 pub record RestoresFiles (folder : Folder) (base : List ℕ) (extras : List (List ℕ)) (answer : Result Folder Fault) : Type 0 where
   -- an accepted repair leaves each of the files
   pub restored : (originals : List File) (s : ℕ) → IsTrueTo folder base extras originals s → IfOk answer (HasFiles originals)
-  -- no rebuilt file has another digest
+  -- no rebuilt file has a wrong MD5
   pub right : (originals : List File) (s : ℕ) → IsTrueTo folder base extras originals s → IfErr answer (λ fault. fault ≢ RepairFailed)
-  -- and too few slices are left only where others, too, agree with all that is found
+  -- a repair is refused as not repairable only if other slices also agree
   pub undetermined : (originals : List File) (s missing rank : ℕ) (original : IsTrueTo folder base extras originals s) → IfErr answer (λ fault. fault ≡ NotRepairable missing rank → OthersAgree folder base extras originals s original)
 
--- ---- where a create left the folder, and another hand damaged it since
+-- ---- a folder that was damaged after a create
 
 -- each of these files is as it was
 abbrev pub KeepsFiles : List (List ℕ) → Folder → Folder → Type 0
 KeepsFiles names before folder = AllByRecursion (λ name. map_of.get folder name ≡ map_of.get before name) names
 
+-- with this result a repair restores the inputs of a create
 pub record RestoresInputs (folder : Folder) (base : List ℕ) (extras : List (List ℕ)) (answer : Result Folder Fault) : Type 0 where
   -- an accepted repair leaves each input as it was
   pub restored : (before : Folder) (a : CreateArgs) → FollowsCreate before folder a base extras → IfOk answer (KeepsFiles a.inputs before)
-  -- the set is read, and no rebuilt file has another digest
+  -- the set can be read, and no rebuilt file has a wrong MD5
   pub right : (before : Folder) (a : CreateArgs) → FollowsCreate before folder a base extras → IfErr answer (λ fault. (fault ≡ Memory) ⊎ IsTrue (may_refuse fault))
-  -- and too few slices are left only where others, too, agree with all that is found
+  -- a repair is refused as not repairable only if other slices also agree
   pub undetermined : (before : Folder) (a : CreateArgs) (missing rank : ℕ) → FollowsCreate before folder a base extras → IfErr answer (λ fault. fault ≡ NotRepairable missing rank → HaveAChoice before folder a base extras)
 
--- ---- whatever the set
+-- ---- any set
 
--- a repair that doesn't purge leaves this folder, file by file: targets, asides, all others as they were
+-- a repair that doesn't purge leaves this folder, file by file: targets and asides, and all others as they were
 abbrev pub LeavesEachFile : Folder → List ℕ → List (List ℕ) → Folder → Type 0
 LeavesEachFile folder base extras left = (set : ParSet) → set_in folder base extras ≡ Ok set → HoldsRepaired folder set (candidates folder set extras) left

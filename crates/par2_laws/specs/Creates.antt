@@ -1,4 +1,4 @@
--- A folder that a create is run in, and one that it left and that was damaged since.
+-- The folder before a create, and the folder after it with later damage.
 use Rattle.std.specs.Prelude.{◌≡◌, ℕ, Bool, true, false, IsTrue, IsFalse, List, ◌++◌, map, Ok, None}
 use Rattle.std.specs.List.{AllByRecursion}
 use Rattle.std.specs.FinMap as map_of
@@ -15,44 +15,44 @@ use Rattle.par2_spec.specs.declared.Fault.TheVariants.{NoSuchFile, NotRepairable
 use Rattle.par2_laws.specs.Volumes.{IsVolumeOrOther}
 
 -- the names of the files that a create writes
-abbrev pub output_names : Folder → CreateArgs → List (List ℕ)
-output_names before a = map (λ file. file.0) (outputs_of before a)
+abbrev pub written_names : Folder → CreateArgs → List (List ℕ)
+written_names before a = map (λ file. file.0) (outputs_of before a)
 
--- a folder as a computer holds it. Of the par files that the create does not write, each is a volume of the
--- same files or is of other sets
+-- the folder before a create is one as on a disk. Each `.par2` file that the create does not write is a volume of the
+-- same files or has no packets of their set
 pub record FitsCreate (before : Folder) (a : CreateArgs) : Type 0 where
   pub whole : IsFolder before
   pub bytes : AllByRecursion (λ file. AreBytes file.1) (files_of before a.inputs)
   pub other_pars : (name : List ℕ) → IsTrue (is_par_name name) → IsTrue (has before name)
-      → IsFalse (is_among (output_names before a) name)
+      → IsFalse (is_among (written_names before a) name)
       → IsVolumeOrOther a.slice (files_of before a.inputs) (bytes_of before name)
 
--- damage by another hand to what a create left: each par file that is there is as the create left it, and the
--- base, any of those that it wrote, is there. The other files may be anything, or gone
+-- damage to the files after a create: each `.par2` file that is left is as the create left it, and the base, any of
+-- those that it wrote, is left. The other files may be changed or gone
 pub record IsDamage (before damaged : Folder) (a : CreateArgs) (base : List ℕ) : Type 0 where
-  pub written : IsTrue (is_among (output_names before a) base)
+  pub written : IsTrue (is_among (written_names before a) base)
   pub there : IsTrue (has damaged base)
   pub pars : (name : List ℕ) → IsTrue (is_par_name name) → IsTrue (has damaged name)
       → map_of.get damaged name ≡ map_of.get (after before (Create a)) name
 
--- an accepted create and such damage since, where what a repair finds of the files is true
+-- an accepted create, and damage after it as `IsDamage` says, without a checksum collision
 pub record FollowsCreate (before damaged : Folder) (a : CreateArgs) (base : List ℕ)
     (extras : List (List ℕ)) : Type 0 where
   pub created : refusal before (Create a) ≡ None
   pub fits : FitsCreate before a
   pub damage : IsDamage before damaged a base
-  pub told : let slices = all_slices a.slice (files_of before a.inputs) in
+  pub reported : let slices = all_slices a.slice (files_of before a.inputs) in
       NoCollision damaged (a.inputs ++ extras) a.slice slices
 
--- why a repair of such a folder is refused, if it is: a further file isn't there, too few slices are left, or
--- the name for a file to be put aside would be too long
+-- why a repair of such a folder is refused, if it is: an extra file doesn't exist, too few slices are left, or an aside
+-- would be too long
 abbrev pub may_refuse : Fault → Bool
 may_refuse (NoSuchFile k) = true
 may_refuse (NotRepairable missing rank) = true
 may_refuse NameTooLong = true
 may_refuse other = false
 
--- the set of the base is read, and slices other than those of the files, too, agree with all that is found
+-- the set of the base can be read, and slices other than the inputs' also agree with everything that is found
 pub record HaveAChoice (before damaged : Folder) (a : CreateArgs) (base : List ℕ)
     (extras : List (List ℕ)) : Type 0 where
   pub set : ParSet

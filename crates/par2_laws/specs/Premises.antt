@@ -1,4 +1,4 @@
--- What the laws of repair suppose.
+-- Premises of the laws of repair.
 use Rattle.std.specs.Prelude.{ℕ, List}
 use Rattle.std.specs.List.{AllByRecursion}
 use Rattle.par2_spec.specs.Rank.{AreBytes}
@@ -7,8 +7,7 @@ use Rattle.par2_spec.specs.Volumes.{all_slices}
 use Rattle.par2_spec.specs.Sets.{MadeFrom}
 use Rattle.par2_spec.specs.Search.{candidates, NoCollision}
 
--- the set of the base was made from these files, cut into slices of s bytes, and what a repair
--- finds of them is true
+-- the set of the base was made from these files, cut into slices of s bytes, and no checksum collides
 pub record IsTrueTo (folder : Folder) (base : List ℕ) (extras : List (List ℕ))
     (originals : List File) (s : ℕ) : Type 0 where
   pub made : MadeFrom folder base originals s

@@ -1,4 +1,4 @@
--- Which texts are volumes of certain files.
+-- The volumes of known files.
 use Rattle.std.specs.Prelude.{◌≡◌, ℕ, ◌<◌, ◌≤◌, ◌^◌, ◌⊎◌, false, IsTrue, List, length, map, sum_by}
 use Rattle.std.specs.List.{AllByRecursion, Contains, IsDistinct}
 use Rattle.std.specs.Str.{bytes_eq}
@@ -11,7 +11,7 @@ use Rattle.par2_spec.specs.Volumes.{id_of, main_id, record_of, in_id_order, volu
 use Rattle.par2_spec.specs.Sets.{is_slice_size, other_par_names}
 use Rattle.par2_spec.specs.Refusals.{are_counts}
 
--- files that a create takes
+-- files that a create accepts
 pub record AreInputs (s : ℕ) (files : List File) : Type 0 where
   pub slice_size : IsTrue (is_slice_size s)
   pub few : length files < 2 ^ 32
@@ -32,15 +32,16 @@ IsVolume s files bytes =
 abbrev pub set_id_of : ℕ → List File → List ℕ
 set_id_of s files = main_id s (map (record_of s) (in_id_order files))
 
--- no accepted packet has this set identifier
+-- no accepted packet has this Recovery Set ID
 abbrev pub IsOfOthers : List ℕ → List ℕ → Type 0
 IsOfOthers id bytes = AllByRecursion (λ p. bytes_eq p.set_id id ≡ false) (accepted bytes)
 
--- a volume of these files, or of other sets
+-- a volume of these files, or a file without packets of their set
 abbrev pub IsVolumeOrOther : ℕ → List File → List ℕ → Type 0
 IsVolumeOrOther s files bytes = IsVolume s files bytes ⊎ IsOfOthers (set_id_of s files) bytes
 
--- the base is a volume of these files, and each other file whose name ends in `.par2` is one or of others
+-- the base is a volume of these files, and each other file whose name ends in `.par2` is one or has no packets of their
+-- set
 pub record HoldsVolumes (folder : Folder) (base : List ℕ) (s : ℕ) (files : List File) : Type 0 where
   pub of_base : IsVolume s files (bytes_of folder base)
   pub of_others : let others = other_par_names folder base in

@@ -1,4 +1,5 @@
-//! Laws of what a repair answers, whatever call answers it.
+//! Laws of the result of a repair, whichever call returns it: `plan_repair` of `par2_repair` or `Session::repair` of
+//! `par2_journal`, whose contracts need them. The result is the folder that is left, or a fault.
 
 ghost use Rattle.std.specs.Prelude.{ℕ, Bool, false, List, Result};
 ghost use Rattle.par2_spec.specs.Commands.{Repair};
@@ -17,7 +18,8 @@ use crate::restored_files::{
 };
 use par2_spec::repair_laws::{candidates_fit, repaired_folder_holds};
 
-/// A repair that answers as the definitions do restores the files that its set was made from.
+/// A repair that returns the result of the definitions restores the files that its set was made from. `RestoresFiles`:
+/// an accepted repair leaves them all, no MD5 is wrong, and it is refused only if other slices agree as well.
 pub fn repair_restores_the_files()
     ensures { (folder : Folder) (base : List ℕ) (extras : List (List ℕ)) (purge : Bool)
         (answer : Result Folder Fault) → AnswersRepair folder base extras purge answer
@@ -28,7 +30,8 @@ pub fn repair_restores_the_files()
     refused_repair_leaves_a_choice();
 }
 
-/// So it does with the inputs of a create, after damage by another hand.
+/// A repair that returns the result of the definitions restores the inputs of a create, after damage that changes or
+/// adds no `.par2` file. `RestoresInputs` says the same of the inputs as `RestoresFiles`.
 pub fn repair_restores_the_inputs()
     ensures { (folder : Folder) (base : List ℕ) (extras : List (List ℕ)) (purge : Bool)
         (answer : Result Folder Fault) → AnswersRepair folder base extras purge answer
@@ -39,7 +42,8 @@ pub fn repair_restores_the_inputs()
     created_files_not_repairable_have_a_choice();
 }
 
-/// An accepted repair that doesn't purge leaves each file as the definitions say.
+/// An accepted repair that doesn't purge leaves each file as `HoldsRepaired` says: targets have their bytes, files that
+/// were put aside are under their asides, and all others are as before.
 pub fn repair_leaves_each_file()
     ensures { (folder left : Folder) (base : List ℕ) (extras : List (List ℕ))
         → IsRepaired folder left (Repair base extras false)

@@ -1,7 +1,7 @@
-//! What a repair promises, and where sets come from, over the definitions: the laws of `par2_spec` composed on what a
-//! repair is refused for and on the folder after it, on when the set that a base reads as was made from certain files, and
-//! on what a repair then leaves. Each law is the contract of a function that does nothing but call the laws that it
-//! follows from.
+//! Laws of repair, composed of those of `par2_spec`: why a repair is refused, which folder it leaves, when a set was
+//! made from known files, and what a repair then restores. Each law is the contract of a function that does nothing but
+//! call the laws that it follows from. `par2_repair`, `par2_journal` and `par2_tool` are built on this crate, which
+//! must not know how anything is computed, stored or printed.
 #![tactic(auto)]
 
 pub mod answers;

@@ -1,4 +1,5 @@
-//! Laws of why the repair of a set is refused.
+//! Laws of the causes for which the repair of a set is refused: each says of a result whether the lost slices are
+//! determined and whether the written files have their MD5s.
 
 ghost use Rattle.std.specs.Prelude.{◌≡◌, ℕ, List, IsFalse, Some, None};
 ghost use Rattle.std.specs.List.{list_all, AllByRecursion};
@@ -12,8 +13,7 @@ ghost use Rattle.par2_spec.specs.Search.{known, lost, survivors};
 ghost use Rattle.par2_spec.specs.Repairs.{rebuilt_targets};
 ghost use Rattle.par2_spec.specs.Refusals.{repair_refusal};
 
-/// Where a repair is accepted, the lost slices are determined, and each file that it writes from
-/// slices has its digest.
+/// If a repair is accepted, the lost slices are determined, and each file that it writes from slices has its MD5.
 pub fn accepted_repair_is_right()
     ensures repairable { (folder : Folder) (set : ParSet) (searched : List (List ℕ))
         → repair_refusal folder set searched ≡ None
@@ -23,8 +23,8 @@ pub fn accepted_repair_is_right()
         → AllByRecursion (λ c. md5 c.1 ≡ c.0.md5) (rebuilt_targets folder set searched) }
 {}
 
-/// Where a repair fails, the lost slices are determined, and a file that it would write has another
-/// digest.
+/// If a repair is refused as `RepairFailed`, the lost slices are determined, and a file that it would write has a wrong
+/// MD5.
 pub fn failed_repair_is_wrong()
     ensures repairable { (folder : Folder) (set : ParSet) (searched : List (List ℕ))
         → repair_refusal folder set searched ≡ Some RepairFailed
@@ -35,7 +35,7 @@ pub fn failed_repair_is_wrong()
         IsFalse (list_all (λ c. bytes_eq (md5 c.1) c.0.md5) written) }
 {}
 
-/// Where a set is not repairable, the lost slices are not determined.
+/// If a repair is refused as `NotRepairable`, the lost slices are not determined.
 pub fn lost_slices_are_not_determined()
     ensures { (folder : Folder) (set : ParSet) (searched : List (List ℕ)) (missing rank : ℕ)
         → repair_refusal folder set searched ≡ Some (NotRepairable missing rank)

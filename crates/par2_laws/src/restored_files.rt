@@ -1,4 +1,5 @@
-//! Laws of repair where a set was made from certain files, and what is found of them is true.
+//! Laws of repair for sets that were made from known files, if no checksum collides: `IsTrueTo`. The contract of `run`
+//! of `par2_tool` needs them.
 
 ghost use Rattle.std.specs.Prelude.{◌≡◌, ℕ, Bool, List, Some, None};
 ghost use Rattle.std.specs.List.{AllByRecursion};
@@ -19,7 +20,7 @@ use crate::reading::{
 use crate::refusals::{accepted_repair_is_right, failed_repair_is_wrong};
 use par2_spec::restored_laws::{refused_repair_has_a_choice, repair_leaves_the_files};
 
-/// A repair is never refused because a rebuilt file has another digest.
+/// A repair is never refused as `RepairFailed`, because each rebuilt file is the original one and has its MD5.
 pub fn repair_never_fails()
     ensures { (folder : Folder) (base : List ℕ) (extras : List (List ℕ)) (purge : Bool)
         (files : List File) (s : ℕ) → IsTrueTo folder base extras files s
@@ -32,7 +33,7 @@ pub fn repair_never_fails()
     repair_leaves_the_files();
 }
 
-/// An accepted repair leaves each of the files, with its bytes.
+/// An accepted repair leaves each of the original files under its name and with its bytes, also one that purges.
 pub fn accepted_repair_leaves_the_files()
     ensures { (folder : Folder) (base : List ℕ) (extras : List (List ℕ)) (purge : Bool)
         (files : List File) (s : ℕ) → IsTrueTo folder base extras files s
@@ -48,8 +49,8 @@ pub fn accepted_repair_leaves_the_files()
     repair_leaves_the_files();
 }
 
-/// A repair is refused as not repairable only where other slices than those of the files, too,
-/// agree with all that is found.
+/// A repair is refused as not repairable only if slices other than the files' also agree with everything that is found,
+/// so a repair can't tell which to write.
 pub fn refused_repair_leaves_a_choice()
     ensures { (folder : Folder) (base : List ℕ) (extras : List (List ℕ)) (purge : Bool)
         (files : List File) (s missing rank : ℕ) (original : IsTrueTo folder base extras files s)

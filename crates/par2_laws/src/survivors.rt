@@ -1,4 +1,4 @@
-//! Laws of what survives of a set: its known slices, and its recovery slices.
+//! Laws of what survives of a set: its known slices and its recovery slices.
 
 ghost use Rattle.std.specs.Prelude.{◌≡◌, ℕ, List, Ok};
 ghost use Rattle.std.specs.FinMap as map_of;
@@ -11,9 +11,9 @@ ghost use Rattle.par2_laws.specs.Slices.{recovery_slice};
 
 use par2_spec::search_laws::set_is_sound;
 
-/// Where the folder's files hold bytes, the known slices and the recovery slices of a set are texts
-/// of bytes of the slice size.
-pub fn what_survives_is_texts()
+/// If the folder's files hold bytes, numbers below 256, the known slices and the recovery slices of a set are bytes of
+/// the slice size, and exponents are below 65,536. The laws of `par2_spec::rank_laws` have this as a premise.
+pub fn what_survives_is_buffers()
     ensures { (folder : Folder) (base : List ℕ) (set : ParSet) (searched : List (List ℕ))
         → HoldsBytes folder → set_of folder base ≡ Ok set
         → AreSurvivors set.slice_size 65536 (known folder set searched)

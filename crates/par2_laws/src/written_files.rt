@@ -1,4 +1,4 @@
-//! Laws of the files that a repair writes from slices, whatever set it reads.
+//! Laws of the files that a repair writes from slices, for any set, whether or not it was made from known files.
 
 ghost use Rattle.std.specs.Prelude.{◌≡◌, ℕ, Bool, List, Ok, None, length};
 ghost use Rattle.std.specs.List.{AllByRecursion};
@@ -15,25 +15,26 @@ ghost use Rattle.par2_laws.specs.Slices.{kept_recovery};
 
 use crate::reading::{refusal_is_that_of_the_set, set_is_of_the_base};
 use crate::refusals::accepted_repair_is_right;
-use crate::survivors::what_survives_is_texts;
+use crate::survivors::what_survives_is_buffers;
 use par2_spec::rank_laws::{rebuilt_slices_agree, some_slices_agree};
 use par2_spec::repair_laws::written_files_have_their_length;
 use par2_spec::search_laws::set_is_sound;
 
-/// What is rebuilt agrees with the known slices and with the recovery slices of the kept exponents.
+/// The rebuilt slices agree with the known slices and with the recovery slices of the kept exponents, even if the
+/// surviving recovery slices contradict each other.
 pub fn rebuilt_slices_agree_with_what_survives()
     ensures { (folder : Folder) (base : List ℕ) (set : ParSet) (searched : List (List ℕ))
         → HoldsBytes folder → set_of folder base ≡ Ok set
         → let slices = known folder set searched in
         Agrees set.slice_size slices (kept_recovery set slices) (rebuilt set slices) }
 {
-    what_survives_is_texts();
+    what_survives_is_buffers();
     some_slices_agree();
     rebuilt_slices_agree();
 }
 
-/// Each file that a repair writes from slices has the described length and, where the repair is
-/// accepted, the described MD5.
+/// Each file that a repair writes from slices has the described length and, if the repair is accepted, the described
+/// MD5. So an accepted repair writes no wrong file, unless an MD5 collides. Nothing calls it.
 pub fn written_files_are_as_described()
     ensures lengths { (folder : Folder) (base : List ℕ) (extras : List (List ℕ)) (set : ParSet)
         → HoldsBytes folder → set_in folder base extras ≡ Ok set

@@ -1,15 +1,16 @@
--- An equation takes its place in a reduced system.
-use Rattle.par2_matrix.proofs.Common.{ℕ, ◌+◌, ◌*◌, ◌<◌, ◌≡◌, ◌≢◌, ◌↔◌, inl, inr, refl, sym, ap, ap₂, ◌∙◌, arith, List, length, get_or, bit_xor, cases_eq, cases_lt, xor_self, mul, word, product-zero, zero-product, cancel, Echelon, echelon, Vanishes, Meets, IsReduced, ReducedBelow, IsMultiple, PutAt, row_sum, AreElements, list_at, word_empty, word-lt, row_sum_empty, row_sum_added, row_sum_scaled, row_sum-lt, xor_off, xor_same}
+-- An equation gets its pivot in a reduced system.
+use Rattle.par2_matrix.proofs.Common.{ℕ, ◌+◌, ◌*◌, ◌<◌, ◌≡◌, ◌≢◌, ◌↔◌, inl, inr, refl, sym, ap, ap₂, ◌∙◌, arith, List, length, get_or, bit_xor, cases_eq, cases_lt, xor_self, mul, word, product-zero, zero-product, cancel, Echelon, echelon, Vanishes, Meets, IsReduced, ReducedBelow, IsMultiple, PutAt, row_sum, GivesElements, list_at, word_empty, word-lt, row_sum_empty, row_sum_added, row_sum_scaled, row_sum-lt, xor_off, xor_same}
 
--- new has, beside row at q, the rows of old with q cleared
+-- the new system has the row at q, and the old rows with column q cleared
 pub record Eliminated (n q : ℕ) (old new : List (List ℕ)) (row : List ℕ) : Type 0 where
   pub small : (p i : ℕ) → word i (list_at old p) < 65536
   pub small_row : (i : ℕ) → word i row < 65536
   pub formula : (p i : ℕ) → p < n → p ≢ q → i < n → word i (list_at new p) ≡ bit_xor (word i (list_at old p)) (mul (word q (list_at old p)) (word i row))
   pub here : list_at new q ≡ row
 
--- What holds of the old equations and of the one at q holds of the new ones, and the other way round; t has what each old equation is to give, and u the one at q.
-pub holds_forth : (n q : ℕ) (old new : List (List ℕ)) (row : List ℕ) → Eliminated n q old new row → (f t t' : ℕ → ℕ) (u : ℕ) → AreElements f
+-- the old equations and the one at q hold exactly if the new ones do; t has the values of the old equations, and u that
+-- of the one at q
+pub holds_forth : (n q : ℕ) (old new : List (List ℕ)) (row : List ℕ) → Eliminated n q old new row → (f t t' : ℕ → ℕ) (u : ℕ) → GivesElements f
     → t' q ≡ u → ((p : ℕ) → p < n → p ≢ q → t' p ≡ bit_xor (t p) (mul (word q (list_at old p)) u))
     → ((p : ℕ) → p < n → row_sum n (list_at old p) f ≡ t p) → row_sum n row f ≡ u → (p : ℕ) → p < n → row_sum n (list_at new p) f ≡ t' p
 holds_forth n q old new row e f t t' u v tq tp holds here p hp = elim (cases_eq p q) [
@@ -19,7 +20,7 @@ holds_forth n q old new row e f t t' u v tq tp holds here p hp = elim (cases_eq 
       ∙ ap₂ (λ x y. bit_xor x (mul (word q (list_at old p)) y)) (holds p hp) here ∙ sym (tp p hp other)
 ]
 
-pub holds_back : (n q : ℕ) (old new : List (List ℕ)) (row : List ℕ) → Eliminated n q old new row → (f t t' : ℕ → ℕ) (u : ℕ) → q < n → AreElements f
+pub holds_back : (n q : ℕ) (old new : List (List ℕ)) (row : List ℕ) → Eliminated n q old new row → (f t t' : ℕ → ℕ) (u : ℕ) → q < n → GivesElements f
     → t' q ≡ u → ((p : ℕ) → p < n → p ≢ q → t' p ≡ bit_xor (t p) (mul (word q (list_at old p)) u))
     → length (list_at old q) ≡ 0 → t q ≡ 0
     → ((p : ℕ) → p < n → row_sum n (list_at new p) f ≡ t' p) → (row_sum n row f ≡ u) × ((p : ℕ) → p < n → row_sum n (list_at old p) f ≡ t p)
@@ -39,9 +40,9 @@ holds_back n q old new row e f t t' u hq v tq tp free tz holds =
       ],
     )
 
--- ---- the equation takes its place
+-- ---- the equation gets its pivot
 
--- all that is known when the equation stands in its place
+-- all that is known when the equation is at its pivot
 pub record Placed (n b rank : ℕ) (R D R'' D'' : List (List ℕ)) (q : ℕ) (row right : List ℕ) : Type 0 where
   pub reduced : IsReduced (echelon n b rank R D)
   pub put : PutAt q row right R D R'' D''
@@ -68,10 +69,10 @@ eliminated n b rank R D R'' D'' q row right h = record {
   here = h.put.at_row;
 }
 
--- what the equations send to 0, and what meets them, is cut down by one equation
+-- the null space and the solutions are cut down by one equation
 pub record Cut (old new : Echelon) (row right : List ℕ) : Type 0 where
-  pub kills : (f : ℕ → ℕ) → AreElements f → Vanishes new f ↔ (Vanishes old f × (row_sum old.columns row f ≡ 0))
-  pub solves : (f : ℕ → ℕ) (w : ℕ) → AreElements f → 2 * w + 1 < old.bytes → Meets new w f ↔ (Meets old w f × (row_sum old.columns row f ≡ word w right))
+  pub kills : (f : ℕ → ℕ) → GivesElements f → Vanishes new f ↔ (Vanishes old f × (row_sum old.columns row f ≡ 0))
+  pub solves : (f : ℕ → ℕ) (w : ℕ) → GivesElements f → 2 * w + 1 < old.bytes → Meets new w f ↔ (Meets old w f × (row_sum old.columns row f ≡ word w right))
 
 pub cut_down : (n b rank : ℕ) (R D R'' D'' : List (List ℕ)) (q : ℕ) (row0 right0 row1 right1 row right : List ℕ)
     → Placed n b rank R D R'' D'' q row right → IsMultiple n b row1 right1 row right → ((k : ℕ) → get_or row1 k 0 < 256) → ((k : ℕ) → get_or right1 k 0 < 256)
@@ -79,7 +80,7 @@ pub cut_down : (n b rank : ℕ) (R D R'' D'' : List (List ℕ)) (q : ℕ) (row0 
 cut_down n b rank R D R'' D'' q row0 right0 row1 right1 row right h m bytes1 right_bytes1 taken =
     let c = m.factor in
     let small1 : (i : ℕ) → word i row1 < 65536 = λ i. word-lt row1 i bytes1 in
-    let scaled : (f : ℕ → ℕ) → AreElements f → row_sum n row f ≡ mul c (row_sum n row1 f) = λ f v. row_sum_scaled n c row1 row f m.is_element small1 v m.entries in
+    let scaled : (f : ℕ → ℕ) → GivesElements f → row_sum n row f ≡ mul c (row_sum n row1 f) = λ f v. row_sum_scaled n c row1 row f m.is_element small1 v m.entries in
     let e = eliminated n b rank R D R'' D'' q row right h in
     let zeros : (p : ℕ) → p < n → p ≢ q → 0 ≡ bit_xor 0 (mul (word q (list_at R p)) 0) = λ p l o. sym (product-zero (word q (list_at R p))) in
     record {
@@ -102,7 +103,7 @@ cut_down n b rank R D R'' D'' q row0 right0 row1 right1 row right h m bytes1 rig
                 (ap (λ xs. word w xs) h.put.at_right) words h.free (word_empty (list_at D q) w (h.reduced.absent q h.free)) met in
                 let one : row_sum n row1 f ≡ word w right1 =
                 cancel c (row_sum n row1 f) (word w right1) m.positive m.is_element (row_sum-lt n row1 f small1 v) (word-lt right1 w right_bytes1)
-                (sym (scaled f v) ∙ back.0 ∙ m.texts w hw) in (
+                (sym (scaled f v) ∙ back.0 ∙ m.buffers w hw) in (
                   back.1,
                   xor_same (row_sum n row0 f) (word w right0)
                       (sym (taken.solves f w v hw back.1) ∙ ap (λ x. bit_xor x (word w right1)) one ∙ xor_self (word w right1)),
@@ -112,6 +113,6 @@ cut_down n b rank R D R'' D'' q row0 right0 row1 right1 row right h m bytes1 rig
                 xor_same (row_sum n row1 f) (word w right1)
                 (taken.solves f w v hw both.0 ∙ ap (λ x. bit_xor x (word w right0)) both.1 ∙ xor_self (word w right0)) in
                 holds_forth n q R R'' row e f (λ p. word w (list_at D p)) (λ p. word w (list_at D'' p)) (word w right) v
-                (ap (λ xs. word w xs) h.put.at_right) words both.0 (scaled f v ∙ ap (mul c) one ∙ sym (m.texts w hw))),
+                (ap (λ xs. word w xs) h.put.at_right) words both.0 (scaled f v ∙ ap (mul c) one ∙ sym (m.buffers w hw))),
           );
     }

@@ -1,6 +1,6 @@
--- What the contracts promise, of reduced systems.
-use Rattle.par2_matrix.proofs.Common.{ℕ, suc, ◌+◌, ◌*◌, ◌<◌, ◌≡◌, ◌↔◌, refl, sym, ap, ◌∙◌, subst, arith, List, [], ◌∷◌, length, get_or, map, true, false, suc-ne-zero, false≢true, ext_get_or, get_or-map-range_with_len, length-map-range_with_len, AllByRecursion, range_with_len, word, dot, IsVector, Equations, rank, no_equations, IsKilled, AreTexts, CutDown, IsIndependent, IsDependent, IsUndetermined, OnlyZeroIsKilled, IsTheSolution, Echelon, echelon, Vanishes, IsReduced, system_of, Spells, AllEmpty, equations, row_sum, AreElements, list_at, bytes_at, word-lt, combination_words, same_texts, field_sum_same, row_sum-lt, all_at, all_from, common_steps}
-use Rattle.par2_matrix.proofs.ReducedSystems.{ToldApart, all_present, unit_row, full_rank, free_vector}
+-- The promises of the contracts, for reduced systems.
+use Rattle.par2_matrix.proofs.Common.{ℕ, suc, ◌+◌, ◌*◌, ◌<◌, ◌≡◌, ◌↔◌, refl, sym, ap, ◌∙◌, subst, arith, List, [], ◌∷◌, length, get_or, map, true, false, suc-ne-zero, false≢true, ext_get_or, get_or-map-range_with_len, length-map-range_with_len, AllByRecursion, range_with_len, word, dot, IsVector, Equations, rank, no_equations, IsKilled, AreSolutionBuffers, CutDown, IsIndependent, IsDependent, IsUndetermined, OnlyZeroIsKilled, IsTheSolution, Echelon, echelon, Vanishes, IsReduced, system_of, HoldsRow, AllEmpty, equations, row_sum, GivesElements, list_at, bytes_at, word-lt, combination_words, same_buffers, field_sum_same, row_sum-lt, all_at, all_from, common_steps}
+use Rattle.par2_matrix.proofs.ReducedSystems.{IsDistinguished, all_present, unit_row, full_rank, free_vector}
 use Rattle.par2_matrix.proofs.Placing.{Cut}
 use Rattle.par2_matrix.proofs.Views.{elements_of, dot_spelled, rank_view, kills_view, solves_view, words_at, words_are_elements, words_by_elements}
 
@@ -13,7 +13,7 @@ listed_at : (n : ℕ) (f : ℕ → ℕ) (i : ℕ) → i < n → get_or (listed n
 unfolding listed
 listed_at n f i h = get_or-map-range_with_len f 0 n i i 0 h (omega arith)
 
-listed_vector : (n : ℕ) (f : ℕ → ℕ) → AreElements f → IsVector n (listed n f)
+listed_vector : (n : ℕ) (f : ℕ → ℕ) → GivesElements f → IsVector n (listed n f)
 unfolding listed
 listed_vector n f small =
     let count : length (map f (range_with_len 0 n)) ≡ n = length-map-range_with_len f 0 n in
@@ -22,7 +22,7 @@ listed_vector n f small =
 listed_sum : (n : ℕ) (f : ℕ → ℕ) (row : List ℕ) → row_sum n row (λ i. get_or (listed n f) i 0) ≡ row_sum n row f
 listed_sum n f row = grind (arith, field_sum_same, listed, listed_at)
 
-killed_listed : (e : Echelon) → IsReduced e → (f : ℕ → ℕ) → AreElements f → Vanishes e f → IsKilled (system_of e) (listed e.columns f)
+killed_listed : (e : Echelon) → IsReduced e → (f : ℕ → ℕ) → GivesElements f → Vanishes e f → IsKilled (system_of e) (listed e.columns f)
 killed_listed e r f small vanishes =
     (kills_view e r (listed e.columns f) (listed_vector e.columns f small)).1 (λ p hp. listed_sum e.columns f (list_at e.rows p) ∙ vanishes p hp)
 
@@ -36,30 +36,30 @@ no_equations_there ([] ∷ R) (d ∷ D) none = no_equations_there R D (λ i. non
 no_equations_there ((b ∷ r) ∷ R) (d ∷ D) none = absurd (let z : suc (length r) ≡ 0 = ap length (none 0) in omega arith)
 
 pub new_system : (n m b : ℕ) (R D : List (List ℕ)) → m ≡ n → AllEmpty R n → AllEmpty D n → system_of (echelon m b 0 R D) ≡ no_equations n b
-new_system n m b R D e rows rights = grind (arith, no_equations_there)
+new_system n m b R D e rows right_sides = grind (arith, no_equations_there)
 
 -- ---- offer
 
-pub follows : (e : Echelon) → IsReduced e → (row bytes : List ℕ) → Spells row bytes (length row) → length row ≡ e.columns
-    → ((f : ℕ → ℕ) → AreElements f → Vanishes e f → row_sum e.columns bytes f ≡ 0) → IsDependent (system_of e) row
+pub follows : (e : Echelon) → IsReduced e → (row bytes : List ℕ) → HoldsRow row bytes (length row) → length row ≡ e.columns
+    → ((f : ℕ → ℕ) → GivesElements f → Vanishes e f → row_sum e.columns bytes f ≡ 0) → IsDependent (system_of e) row
 follows e r row bytes spells size sums v is killed =
     dot_spelled e.columns row bytes v spells size
     ∙ sums (λ i. get_or v i 0) (elements_of e.columns v is) ((kills_view e r v is).0 killed)
 
-pub tells : (e : Echelon) → IsReduced e → (row bytes : List ℕ) → Spells row bytes (length row) → length row ≡ e.columns → ToldApart e bytes → IsIndependent (system_of e) row
-tells e r row bytes spells size t =
+pub determines : (e : Echelon) → IsReduced e → (row bytes : List ℕ) → HoldsRow row bytes (length row) → length row ≡ e.columns → IsDistinguished e bytes → IsIndependent (system_of e) row
+determines e r row bytes spells size t =
     let is = listed_vector e.columns t.vector t.are_elements in
     record {
       vector = listed e.columns t.vector;
       is_vector = is;
       killed = killed_listed e r t.vector t.are_elements t.killed;
-      not_killed = λ z. t.told (sym (listed_sum e.columns t.vector bytes) ∙ sym (dot_spelled e.columns row bytes (listed e.columns t.vector) spells size) ∙ z);
+      not_killed = λ z. t.reported (sym (listed_sum e.columns t.vector bytes) ∙ sym (dot_spelled e.columns row bytes (listed e.columns t.vector) spells size) ∙ z);
     }
 
-pub cuts : (e new : Echelon) → IsReduced e → IsReduced new → (row bytes right : List ℕ) → Spells row bytes (length row) → length row ≡ e.columns
+pub cuts : (e new : Echelon) → IsReduced e → IsReduced new → (row bytes right : List ℕ) → HoldsRow row bytes (length row) → length row ≡ e.columns
     → ((k : ℕ) → get_or bytes k 0 < 256) → length right ≡ e.bytes → ((k : ℕ) → get_or right k 0 < 256)
     → new.columns ≡ e.columns → new.bytes ≡ e.bytes → new.rank ≡ e.rank + 1 → Cut e new bytes right → CutDown (system_of e) (system_of new) row right
-cuts e new r s row bytes right spells size small right_size right_bytes columns texts_size one cut = record {
+cuts e new r s row bytes right spells size small right_size right_bytes columns buffers_size one cut = record {
   rank = rank_view new s ∙ one ∙ ap (λ x. x + 1) (sym (rank_view e r));
   kills = λ v is.
       let f : ℕ → ℕ = λ i. get_or v i 0 in
@@ -70,24 +70,24 @@ cuts e new r s row bytes right spells size small right_size right_bytes columns 
         (λ killed. let both = cut.0 (after.0 killed) in (before.1 both.0, sum ∙ both.1)),
         (λ both. after.1 (cut.1 (before.0 both.0, sym sum ∙ both.1))),
       );
-  solves = λ texts are.
-      let are_new : AreTexts (system_of new) texts = record {
+  solves = λ buffers are.
+      let are_new : AreSolutionBuffers (system_of new) buffers = record {
         count = are.count ∙ sym columns;
-        sizes = subst (λ n. AllByRecursion (λ (text : List ℕ). length text ≡ n) texts) (sym texts_size) are.sizes;
+        sizes = subst (λ n. AllByRecursion (λ (content : List ℕ). length content ≡ n) buffers) (sym buffers_size) are.sizes;
         bytes = are.bytes;
       } in
-      let sum : (w : ℕ) → dot row (map (word w) texts) ≡ row_sum e.columns bytes (words_at texts w) = words_by_elements (system_of e) texts are row bytes spells size in
-      let elements : (w : ℕ) → AreElements (words_at texts w) = words_are_elements (system_of e) texts are in
-      let meets = combination_words e.bytes row texts right r.even
-      (λ w. subst (λ x. x < 65536) (sym (sum w)) (row_sum-lt e.columns bytes (words_at texts w) (λ i. word-lt bytes i small) (elements w))) right_size right_bytes in
-      let before = solves_view e r texts are in
-      let after = solves_view new s texts are_new in (
+      let sum : (w : ℕ) → dot row (map (word w) buffers) ≡ row_sum e.columns bytes (words_at buffers w) = words_by_elements (system_of e) buffers are row bytes spells size in
+      let elements : (w : ℕ) → GivesElements (words_at buffers w) = words_are_elements (system_of e) buffers are in
+      let meets = combination_words e.bytes row buffers right r.even
+      (λ w. subst (λ x. x < 65536) (sym (sum w)) (row_sum-lt e.columns bytes (words_at buffers w) (λ i. word-lt bytes i small) (elements w))) right_size right_bytes in
+      let before = solves_view e r buffers are in
+      let after = solves_view new s buffers are_new in (
         (λ solved.
-            let both = λ (w : ℕ) (h : 2 * w + 1 < e.bytes). (cut.solves (words_at texts w) w (elements w) h).0 (after.0 solved w (subst (λ n. 2 * w + 1 < n) (sym texts_size) h)) in
+            let both = λ (w : ℕ) (h : 2 * w + 1 < e.bytes). (cut.solves (words_at buffers w) w (elements w) h).0 (after.0 solved w (subst (λ n. 2 * w + 1 < n) (sym buffers_size) h)) in
             (before.1 (λ w h. (both w h).0), meets.1 (λ w h. sum w ∙ (both w h).1))),
         (λ both. after.1 (λ w h.
-            let low : 2 * w + 1 < e.bytes = subst (λ n. 2 * w + 1 < n) texts_size h in
-            (cut.solves (words_at texts w) w (elements w) low).1 (before.0 both.0 w low, sym (sum w) ∙ meets.0 both.1 w low))),
+            let low : 2 * w + 1 < e.bytes = subst (λ n. 2 * w + 1 < n) buffers_size h in
+            (cut.solves (words_at buffers w) w (elements w) low).1 (before.0 both.0 w low, sym (sum w) ∙ meets.0 both.1 w low))),
       );
 }
 
@@ -118,26 +118,26 @@ not_full e r below = (λ f. absurd (false≢true f), λ full. absurd (let h : e.
 
 -- ---- the solution
 
-text_at : (s : Equations) (texts : List (List ℕ)) → AreTexts s texts → (i : ℕ) → i < s.columns → length (list_at texts i) ≡ s.bytes
-text_at s texts are i h = grind (arith, common_steps)
+buffer_at : (s : Equations) (buffers : List (List ℕ)) → AreSolutionBuffers s buffers → (i : ℕ) → i < s.columns → length (list_at buffers i) ≡ s.bytes
+buffer_at s buffers are i h = grind (arith, common_steps)
 
-pub the_solution : (e : Echelon) → IsReduced e → e.rank ≡ e.columns → IsTheSolution (system_of e) e.rights
+pub the_solution : (e : Echelon) → IsReduced e → e.rank ≡ e.columns → IsTheSolution (system_of e) e.right_sides
 unfolding words_at
 the_solution e r full =
     let all = all_present e.rows e.columns (sym r.rank ∙ full) in
-    let are : AreTexts (system_of e) e.rights = record {
+    let are : AreSolutionBuffers (system_of e) e.right_sides = record {
       count = r.right_count;
-      sizes = all_from (λ (text : List ℕ). length text ≡ e.bytes) [] e.rights (λ i h. r.right_size i (all i (omega (arith, r.right_count))));
-      bytes = all_from (λ (text : List ℕ). AllByRecursion (λ b. b < 256) text) [] e.rights (λ i h. all_from (λ b. b < 256) 0 (list_at e.rights i) (λ k l. r.are_bytes i k));
+      sizes = all_from (λ (content : List ℕ). length content ≡ e.bytes) [] e.right_sides (λ i h. r.right_size i (all i (omega (arith, r.right_count))));
+      bytes = all_from (λ (content : List ℕ). AllByRecursion (λ b. b < 256) content) [] e.right_sides (λ i h. all_from (λ b. b < 256) 0 (list_at e.right_sides i) (λ k l. r.are_bytes i k));
     } in
     record {
-      are_texts = are;
-      solves = (solves_view e r e.rights are).1 (λ w hw p hp. unit_row e r full (words_at e.rights w) (words_are_elements (system_of e) e.rights are w) p hp);
+      are_buffers = are;
+      solves = (solves_view e r e.right_sides are).1 (λ w hw p hp. unit_row e r full (words_at e.right_sides w) (words_are_elements (system_of e) e.right_sides are w) p hp);
       only = λ others given solved.
-          ext_get_or [] others e.rights (given.count ∙ sym r.right_count)
+          ext_get_or [] others e.right_sides (given.count ∙ sym r.right_count)
           (λ p h.
           let hp : p < e.columns = omega (arith, given.count) in
-          same_texts e.bytes (list_at others p) (list_at e.rights p) r.even (text_at (system_of e) others given p hp) (r.right_size p (all p hp))
+          same_buffers e.bytes (list_at others p) (list_at e.right_sides p) r.even (buffer_at (system_of e) others given p hp) (r.right_size p (all p hp))
           (λ k. bytes_at others given.bytes p k)
           (r.are_bytes p)
           (λ w hw. sym (unit_row e r full (words_at others w) (words_are_elements (system_of e) others given w) p hp) ∙ (solves_view e r others given).0 solved w hw p hp));

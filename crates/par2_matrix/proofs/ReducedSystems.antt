@@ -1,14 +1,15 @@
--- What a reduced system kills and what solves it.
-use Rattle.par2_matrix.proofs.Common.{ℕ, zero, suc, ◌+◌, ◌<◌, ◌≤◌, ◌≡◌, ◌≢◌, ◌⊎◌, ◌↔◌, inl, inr, refl, sym, ap, ap₂, ◌∙◌, subst, arith, List, length, bit_xor, cond, eqb, cases_eq, cases_lt, eq-eqb, ne_eqb, cond-true, cond-false, suc-ne-zero, xor_self, mul, word, product_comm, product-one, product-zero, zero-product, Echelon, Vanishes, IsReduced, count_present, row_sum, AreElements, list_at, word_empty, field_sum_one, field_sum_two, row_sum_empty, row_sum_unit, by_either}
+-- The null space and the solutions of a system in reduced row echelon form.
+use Rattle.par2_matrix.proofs.Common.{ℕ, zero, suc, ◌+◌, ◌<◌, ◌≤◌, ◌≡◌, ◌≢◌, ◌⊎◌, ◌↔◌, inl, inr, refl, sym, ap, ap₂, ◌∙◌, subst, arith, List, length, bit_xor, cond, eqb, cases_eq, cases_lt, eq-eqb, ne_eqb, cond-true, cond-false, suc-ne-zero, xor_self, mul, word, product_comm, product-one, product-zero, zero-product, Echelon, Vanishes, IsReduced, count_present, row_sum, GivesElements, list_at, word_empty, field_sum_one, field_sum_two, row_sum_empty, row_sum_unit, by_either}
 
--- a vector that the equations send to 0 and the row doesn't
-pub record ToldApart (s : Echelon) (row : List ℕ) : Type 0 where
+-- a vector of the null space that the row does not send to 0
+pub record IsDistinguished (s : Echelon) (row : List ℕ) : Type 0 where
   pub vector : ℕ → ℕ
-  pub are_elements : AreElements vector
+  pub are_elements : GivesElements vector
   pub killed : Vanishes s vector
-  pub told : row_sum s.columns row vector ≢ 0
+  pub reported : row_sum s.columns row vector ≢ 0
 
--- the vector of a place with no equation: 1 there, and at each pivot what that equation has there
+-- a vector of the null space for a column without a pivot: 1 there, and at each pivot the element of that equation in
+-- this column
 witness : List (List ℕ) → ℕ → ℕ → ℕ
 witness rows q i = cond (eqb i q) 1 (word q (list_at rows i))
 
@@ -20,7 +21,7 @@ witness_else : (rows : List (List ℕ)) (q i : ℕ) → i ≢ q → witness rows
 unfolding witness
 witness_else rows q i n = cond-false (eqb i q) 1 (word q (list_at rows i)) (ne_eqb i q n)
 
-witness_vector : (s : Echelon) → IsReduced s → (q : ℕ) → AreElements (witness s.rows q)
+witness_vector : (s : Echelon) → IsReduced s → (q : ℕ) → GivesElements (witness s.rows q)
 witness_vector s r q i = grind (arith, by_either, cases_eq, witness, witness_here, witness_else)
 
 witness_killed : (s : Echelon) → IsReduced s → (q : ℕ) → q < s.columns → length (list_at s.rows q) ≡ 0 → Vanishes s (witness s.rows q)
@@ -39,10 +40,10 @@ witness_killed s r q hq free p hp = at (cases_lt 0 (length (list_at s.rows p)))
         (ap₂ mul (r.pivot p there) (witness_else s.rows q p apart) ∙ product_comm 1 v (omega arith) (r.small p q) ∙ product-one v (r.small p q))
         (ap (mul v) (witness_here s.rows q) ∙ product-one v (r.small p q)) ∙ xor_self v
 
--- A row that is 0 at each pivot and not at q tells the witness apart.
-pub told_apart : (s : Echelon) → IsReduced s → (row : List ℕ) (q : ℕ) → q < s.columns → word q row ≢ 0 → ((i : ℕ) → word i row < 65536)
-    → ((p : ℕ) → p < s.columns → 0 < length (list_at s.rows p) → word p row ≡ 0) → ToldApart s row
-told_apart s r row q hq nonzero small none =
+-- a row that is 0 at each pivot and not at q does not send this vector to 0
+pub distinguished : (s : Echelon) → IsReduced s → (row : List ℕ) (q : ℕ) → q < s.columns → word q row ≢ 0 → ((i : ℕ) → word i row < 65536)
+    → ((p : ℕ) → p < s.columns → 0 < length (list_at s.rows p) → word p row ≡ 0) → IsDistinguished s row
+distinguished s r row q hq nonzero small none =
     let free : length (list_at s.rows q) ≡ 0 = by_either (cases_lt 0 (length (list_at s.rows q)))
     (λ there. absurd (nonzero (none q hq there)))
     (λ e. omega arith) in
@@ -50,7 +51,7 @@ told_apart s r row q hq nonzero small none =
       vector = witness s.rows q;
       are_elements = witness_vector s r q;
       killed = witness_killed s r q hq free;
-      told = λ e. nonzero (sym
+      reported = λ e. nonzero (sym
           (field_sum_one s.columns q (λ i. mul (word i row) (witness s.rows q i)) hq
           (λ i h n. by_either (cases_lt 0 (length (list_at s.rows i)))
           (λ present. ap (λ x. mul x (witness s.rows q i)) (none i h present) ∙ zero-product (witness s.rows q i))
@@ -90,14 +91,14 @@ one_absent rows (suc n) h = elim (cases_eq (length (list_at rows n)) 0) [
       (rest.0, (omega (arith, rest.1.0), rest.1.1))
 ]
 
--- in a full system each equation is about its own place alone
-pub unit_row : (s : Echelon) → IsReduced s → s.rank ≡ s.columns → (f : ℕ → ℕ) → AreElements f → (p : ℕ) → p < s.columns → row_sum s.columns (list_at s.rows p) f ≡ f p
+-- at full rank, each equation is about its own unknown alone
+pub unit_row : (s : Echelon) → IsReduced s → s.rank ≡ s.columns → (f : ℕ → ℕ) → GivesElements f → (p : ℕ) → p < s.columns → row_sum s.columns (list_at s.rows p) f ≡ f p
 unit_row s r full f v p h = grind (arith, all_present, row_sum_unit)
 
--- a vector that the equations send to 0, with 1 at a place
+-- a vector of the null space with 1 at one position
 pub record FreeVector (s : Echelon) : Type 0 where
   pub vector : ℕ → ℕ
-  pub are_elements : AreElements vector
+  pub are_elements : GivesElements vector
   pub killed : Vanishes s vector
   pub place : ℕ
   pub within : place < s.columns
@@ -115,8 +116,8 @@ free_vector s r below =
       one = witness_here s.rows free.0;
     }
 
--- only the zero vector is killed exactly where the rank is the number of columns
-pub full_rank : (s : Echelon) → IsReduced s → (s.rank ≡ s.columns) ↔ ((f : ℕ → ℕ) → AreElements f → Vanishes s f → (i : ℕ) → i < s.columns → f i ≡ 0)
+-- the null space is zero exactly if the rank is the number of columns
+pub full_rank : (s : Echelon) → IsReduced s → (s.rank ≡ s.columns) ↔ ((f : ℕ → ℕ) → GivesElements f → Vanishes s f → (i : ℕ) → i < s.columns → f i ≡ 0)
 full_rank s r = (
   λ full f v k i h. sym (unit_row s r full f v i h) ∙ k i h,
   λ only. elim (cases_lt s.rank s.columns) [

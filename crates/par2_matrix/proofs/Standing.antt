@@ -1,4 +1,4 @@
--- The system with the new equation is reduced again, and the texts of a full system.
+-- The system with the new equation is reduced again, and the buffers of a system of full rank.
 use Rattle.par2_matrix.proofs.Common.{ℕ, zero, suc, ◌+◌, ◌*◌, ◌%◌, ◌<◌, ◌≤◌, ◌≡◌, ◌≢◌, inl, inr, refl, sym, ap, ap₂, ◌∙◌, subst, arith, List, [], length, get_or, bit_xor, cond, eqb, cases_eq, cases_lt, eq-eqb, ne_eqb, get_or_past, xor_self, mul, word, product-one, product-lt, product-zero, Echelon, echelon, IsReduced, AllEmpty, count_present, list_at, word_past, word_empty, word-lt, by_either}
 use Rattle.std.proofs.lemmas.Nat.{xor_lt}
 use Rattle.par2_matrix.proofs.ReducedSystems.{present_at_most}
@@ -30,14 +30,14 @@ pub placed_reduced : (n b rank : ℕ) (R D R'' D'' : List (List ℕ)) (q : ℕ) 
     → IsReduced (echelon n b (rank + 1) R'' D'')
 placed_reduced n b rank R D R'' D'' q row right h =
     let sizes : (p : ℕ) → p ≢ q → length (list_at R'' p) ≡ length (list_at R p) = λ p o. ap length (h.put.other_rows.others p o) ∙ h.put.cleared.row_sizes p in
-    let right_sizes : (p : ℕ) → p ≢ q → length (list_at D'' p) ≡ length (list_at D p) = λ p o. ap length (h.put.other_rights.others p o) ∙ h.put.cleared.right_sizes p in
+    let right_sizes : (p : ℕ) → p ≢ q → length (list_at D'' p) ≡ length (list_at D p) = λ p o. ap length (h.put.other_right_sides.others p o) ∙ h.put.cleared.right_sizes p in
     let here : length (list_at R'' q) ≡ 2 * n = ap length h.put.at_row ∙ h.row_size in
     let past : (p : ℕ) → n ≤ p → length (list_at R p) ≡ 0 = λ p l. ap length (get_or_past R p [] (omega (arith, h.reduced.row_count))) in
     let within : (p : ℕ) → 0 < length (list_at R p) → p < n = λ p there. elim (cases_lt p n) [ inl l ↦ l | inr g ↦ absurd (omega (arith, past p g)) ] in
     let there_before : (p : ℕ) → p ≢ q → 0 < length (list_at R'' p) → 0 < length (list_at R p) = λ p o there. omega (arith, sizes p o) in
     record {
       row_count = h.put.other_rows.count ∙ h.put.cleared.row_count ∙ h.reduced.row_count;
-      right_count = h.put.other_rights.count ∙ h.put.cleared.right_count ∙ h.reduced.right_count;
+      right_count = h.put.other_right_sides.count ∙ h.put.cleared.right_count ∙ h.reduced.right_count;
       small = λ p i. elim (cases_eq p q) [
         | inl same ↦ subst (λ x. x < 65536) (sym (ap (λ x. word i (list_at R'' x)) same ∙ ap (λ xs. word i xs) h.put.at_row)) (word-lt row i h.put.row_bytes)
         | inr other ↦ elim (cases_lt i n) [
@@ -54,7 +54,7 @@ placed_reduced n b rank R D R'' D'' q row right h =
       ];
       are_bytes = λ p k. by_either (cases_eq p q)
           (λ same. subst (λ x. x < 256) (sym (ap (λ x. get_or (list_at D'' x) k 0) same ∙ ap (λ xs. get_or xs k 0) h.put.at_right)) (h.put.right_bytes k))
-          (λ other. subst (λ x. x < 256) (sym (ap (λ xs. get_or xs k 0) (h.put.other_rights.others p other))) (h.put.cleared.are_bytes p k));
+          (λ other. subst (λ x. x < 256) (sym (ap (λ xs. get_or xs k 0) (h.put.other_right_sides.others p other))) (h.put.cleared.are_bytes p k));
       even = h.reduced.even;
       absent = λ p e. by_either (cases_eq p q)
           (λ same. absurd (let l : length (list_at R'' p) ≡ 2 * n = ap (λ x. length (list_at R'' x)) same ∙ here in let g = h.place in omega arith))
@@ -97,18 +97,18 @@ placed_reduced n b rank R D R'' D'' q row right h =
 pub rank_most : (s : Echelon) → IsReduced s → s.rank ≤ s.columns
 rank_most s r = subst (λ x. x ≤ s.columns) (sym r.rank) (present_at_most s.rows s.columns)
 
--- a system with no equations
+-- a system without equations
 pub none_reduced : (n b : ℕ) (R D : List (List ℕ)) → b % 2 ≡ 0 → AllEmpty R n → AllEmpty D n → IsReduced (echelon n b 0 R D)
 unfolding count_present
-none_reduced n b R D even rows rights =
+none_reduced n b R D even rows right_sides =
     let z : (p : ℕ) → length (list_at R p) ≡ 0 = λ p. ap length (rows.each p) in
     record {
       row_count = rows.count;
-      right_count = rights.count;
+      right_count = right_sides.count;
       small = λ p i. let e : word i (list_at R p) ≡ 0 = word_empty (list_at R p) i (z p) in omega arith;
-      are_bytes = λ p k. let e : get_or (list_at D p) k 0 ≡ 0 = ap (λ xs. get_or xs k 0) (rights.each p) in omega arith;
+      are_bytes = λ p k. let e : get_or (list_at D p) k 0 ≡ 0 = ap (λ xs. get_or xs k 0) (right_sides.each p) in omega arith;
       even = even;
-      absent = λ p e. ap length (rights.each p);
+      absent = λ p e. ap length (right_sides.each p);
       row_size = λ p there. absurd (omega (arith, z p));
       right_size = λ p there. absurd (omega (arith, z p));
       pivot = λ p there. absurd (omega (arith, z p));

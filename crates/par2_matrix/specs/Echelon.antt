@@ -1,79 +1,81 @@
--- How a system keeps its equations: in reduced row echelon form, each at the column of its pivot. A row is kept
--- as the bytes of its words, so that rows and texts are added by the same kernel.
+-- The reduced row echelon form in which a system keeps its equations (Gauss-Jordan elimination): each is at the column
+-- of its pivot. A row is kept as the bytes of its words, so that one kernel adds rows and buffers.
 use Rattle.std.specs.Prelude.{ℕ, zero, suc, ◌+◌, ◌*◌, ◌^◌, ◌%◌, ◌<◌, ◌≤◌, ◌≡◌, ◌≢◌, bit_xor, List, [], ◌∷◌, length, slice_index, slice_index_or, Vec, if◌then◌else◌, ◌==◌}
 use Rattle.std.specs.declared.alloc.Global.{Global}
 use Rattle.par2_spec.specs.Field.{mul}
 use Rattle.par2_spec.specs.Slices.{word, words}
 use Rattle.par2_matrix.specs.Systems.{Equations}
-use Rattle.par2_spec.specs.Sums.{OneChanged, AreElements, row_sum, list_at, lists_of}
+use Rattle.par2_spec.specs.Sums.{OneChanged, GivesElements, row_sum, list_at, lists_of}
 
--- For each column the row and the right side of the equation with this pivot, or two empty lists.
+-- for each column, the row and the right-hand side of the equation with this pivot, or two empty lists
 pub record Echelon : Type 0 where
   pub columns : ℕ
   pub bytes : ℕ
   pub rank : ℕ
   pub rows : List (List ℕ)
-  pub rights : List (List ℕ)
+  pub right_sides : List (List ℕ)
 
+-- a reduced system from its parts
 abbrev pub echelon : (columns bytes rank : ℕ) → List (List ℕ) → List (List ℕ) → Echelon
-echelon columns bytes rank rows rights = record { columns = columns; bytes = bytes; rank = rank; rows = rows; rights = rights }
+echelon columns bytes rank rows right_sides = record { columns = columns; bytes = bytes; rank = rank; rows = rows; right_sides = right_sides }
 
--- the same, of the vectors that the code holds
+-- a reduced system from the vectors of the code; it has as many columns as rows, because an absent row is empty
 abbrev pub echelon_of : (bytes rank : ℕ) → List (Vec ℕ Global) → List (Vec ℕ Global) → Echelon
-echelon_of bytes rank rows rights = echelon (length rows) bytes rank (lists_of rows) (lists_of rights)
+echelon_of bytes rank rows right_sides = echelon (length rows) bytes rank (lists_of rows) (lists_of right_sides)
 
--- the equations that are there
+-- the kept equations, in the order of their pivots
 unfoldable pub equations : List (List ℕ) → List (List ℕ) → List (List ℕ × List ℕ)
-equations [] rights = []
+equations [] right_sides = []
 equations (row ∷ rows) [] = []
-equations ([] ∷ rows) (right ∷ rights) = equations rows rights
-equations ((b ∷ row) ∷ rows) (right ∷ rights) = (words (b ∷ row), right) ∷ equations rows rights
+equations ([] ∷ rows) (right ∷ right_sides) = equations rows right_sides
+equations ((b ∷ row) ∷ rows) (right ∷ right_sides) = (words (b ∷ row), right) ∷ equations rows right_sides
 
--- the system that is kept
+-- the kept equations as a system
 abbrev pub system_of : Echelon → Equations
-system_of e = record { columns = e.columns; bytes = e.bytes; kept = equations e.rows e.rights }
+system_of e = record { columns = e.columns; bytes = e.bytes; kept = equations e.rows e.right_sides }
 
--- how many of the first n rows are there
+-- the number of kept rows below n
 unfoldable pub count_present : List (List ℕ) → ℕ → ℕ
 count_present rows zero = 0
 count_present rows (suc n) = count_present rows n + (if length (list_at rows n) == 0 then 0 else 1)
 
--- An equation stands at its pivot, where its coefficient is 1 and that of each other equation 0.
+-- reduced row echelon form: each equation is at its pivot, where its coefficient is 1 and that of every other equation
+-- is 0
 pub record IsReduced (e : Echelon) : Type 0 where
   pub row_count : length e.rows ≡ e.columns
-  pub right_count : length e.rights ≡ e.columns
+  pub right_count : length e.right_sides ≡ e.columns
   pub small : (p i : ℕ) → word i (list_at e.rows p) < 2 ^ 16
-  pub are_bytes : (p k : ℕ) → slice_index (list_at e.rights p) k < 2 ^ 8
+  pub are_bytes : (p k : ℕ) → slice_index (list_at e.right_sides p) k < 2 ^ 8
   pub even : e.bytes % 2 ≡ 0
-  pub absent : (p : ℕ) → length (list_at e.rows p) ≡ 0 → length (list_at e.rights p) ≡ 0
+  pub absent : (p : ℕ) → length (list_at e.rows p) ≡ 0 → length (list_at e.right_sides p) ≡ 0
   pub row_size : (p : ℕ) → 0 < length (list_at e.rows p) → length (list_at e.rows p) ≡ 2 * e.columns
-  pub right_size : (p : ℕ) → 0 < length (list_at e.rows p) → length (list_at e.rights p) ≡ e.bytes
+  pub right_size : (p : ℕ) → 0 < length (list_at e.rows p) → length (list_at e.right_sides p) ≡ e.bytes
   pub pivot : (p : ℕ) → 0 < length (list_at e.rows p) → word p (list_at e.rows p) ≡ 1
   pub cleared : (p q : ℕ) → p ≢ q → 0 < length (list_at e.rows q) → word q (list_at e.rows p) ≡ 0
   pub rank : e.rank ≡ count_present e.rows e.columns
 
--- each row sends f to 0
+-- f is in the null space: each row sends it to 0
 abbrev pub Vanishes : Echelon → (ℕ → ℕ) → Type 0
 Vanishes e f = (p : ℕ) → p < e.columns → row_sum e.columns (list_at e.rows p) f ≡ 0
 
--- the row sends to 0 what the equations do
+-- the row sends the whole null space of the equations to 0
 abbrev pub IsImplied : Echelon → List ℕ → Type 0
-IsImplied e row = (f : ℕ → ℕ) → AreElements f → Vanishes e f → row_sum e.columns row f ≡ 0
+IsImplied e row = (f : ℕ → ℕ) → GivesElements f → Vanishes e f → row_sum e.columns row f ≡ 0
 
--- each row sends f to the word at w of its right side
+-- f solves the equations for word w of the right-hand sides
 abbrev pub Meets : Echelon → ℕ → (ℕ → ℕ) → Type 0
-Meets e w f = (p : ℕ) → p < e.columns → row_sum e.columns (list_at e.rows p) f ≡ word w (list_at e.rights p)
+Meets e w f = (p : ℕ) → p < e.columns → row_sum e.columns (list_at e.rows p) f ≡ word w (list_at e.right_sides p)
 
 -- ---- words
 
--- word i is x, and the other words are as before
+-- word i is x, and the other words are unchanged
 pub record WordPut (i x : ℕ) (old new : List ℕ) : Type 0 where
   pub same_length : length new ≡ length old
   pub here : word i new ≡ x
   pub others : (k : ℕ) → k ≢ i → word k new ≡ word k old
 
 -- the words below n are those of the row
-pub record Spells (row bytes : List ℕ) (n : ℕ) : Type 0 where
+pub record HoldsRow (row bytes : List ℕ) (n : ℕ) : Type 0 where
   pub size : length bytes ≡ 2 * length row
   pub each : (i : ℕ) → i < n → i < length row → word i bytes ≡ slice_index row i
 
@@ -85,24 +87,24 @@ pub record Scaled (c : ℕ) (old new : List ℕ) (n : ℕ) : Type 0 where
 
 -- ---- the steps of an offer
 
--- The equation old became new by adding multiples of the equations of e at the pivots below n.
+-- the old equation became the new one by adding multiples of the equations of e whose pivots are below n
 pub record ReducedBelow (e : Echelon) (old_row old_right row right : List ℕ) (n : ℕ) : Type 0 where
   pub row_size : length row ≡ 2 * e.columns
   pub right_size : length right ≡ e.bytes
   pub none : (p : ℕ) → p < n → 0 < length (list_at e.rows p) → word p row ≡ 0
-  pub kills : (f : ℕ → ℕ) → AreElements f → Vanishes e f → row_sum e.columns row f ≡ row_sum e.columns old_row f
-  pub solves : (f : ℕ → ℕ) (w : ℕ) → AreElements f → 2 * w + 1 < e.bytes → Meets e w f
+  pub kills : (f : ℕ → ℕ) → GivesElements f → Vanishes e f → row_sum e.columns row f ≡ row_sum e.columns old_row f
+  pub solves : (f : ℕ → ℕ) (w : ℕ) → GivesElements f → 2 * w + 1 < e.bytes → Meets e w f
       → bit_xor (row_sum e.columns row f) (word w right) ≡ bit_xor (row_sum e.columns old_row f) (word w old_right)
 
--- an equation and the same times a factor
+-- an equation, and a multiple of it by a nonzero factor
 pub record IsMultiple (n b : ℕ) (row1 right1 row right : List ℕ) : Type 0 where
   pub factor : ℕ
   pub positive : 0 < factor
   pub is_element : factor < 2 ^ 16
   pub entries : (i : ℕ) → i < n → word i row ≡ mul factor (word i row1)
-  pub texts : (w : ℕ) → 2 * w + 1 < b → word w right ≡ mul factor (word w right1)
+  pub buffers : (w : ℕ) → 2 * w + 1 < b → word w right ≡ mul factor (word w right1)
 
--- an equation is ready to take the place q
+-- the equation is reduced and scaled, and ready to get its pivot in column q
 pub record IsPrepared (e : Echelon) (row0 right0 row right : List ℕ) (q : ℕ) : Type 0 where
   pub bytes0 : (k : ℕ) → slice_index row0 k < 2 ^ 8
   pub right_bytes0 : (k : ℕ) → slice_index right0 k < 2 ^ 8
@@ -118,31 +120,31 @@ pub record IsPrepared (e : Echelon) (row0 right0 row right : List ℕ) (q : ℕ)
   pub right_size : length right ≡ e.bytes
   pub pivot : word q row ≡ 1
 
--- The multiples of an equation that clear the place q have been added to the equations below n.
-pub record ClearedBelow (q : ℕ) (row right : List ℕ) (old_rows old_rights rows rights : List (List ℕ)) (n : ℕ) : Type 0 where
+-- multiples of the new equation were added to the equations below n, so that their column q is zero
+pub record ClearedBelow (q : ℕ) (row right : List ℕ) (old_rows old_right_sides rows right_sides : List (List ℕ)) (n : ℕ) : Type 0 where
   pub row_count : length rows ≡ length old_rows
-  pub right_count : length rights ≡ length old_rights
+  pub right_count : length right_sides ≡ length old_right_sides
   pub row_sizes : (p : ℕ) → length (list_at rows p) ≡ length (list_at old_rows p)
-  pub right_sizes : (p : ℕ) → length (list_at rights p) ≡ length (list_at old_rights p)
+  pub right_sizes : (p : ℕ) → length (list_at right_sides p) ≡ length (list_at old_right_sides p)
   pub entries : (p i : ℕ) → p < n → 2 * i + 1 < length (list_at old_rows p)
       → word i (list_at rows p) ≡ bit_xor (word i (list_at old_rows p)) (mul (word q (list_at old_rows p)) (word i row))
-  pub texts : (p w : ℕ) → p < n → 2 * w + 1 < length (list_at old_rights p)
-      → word w (list_at rights p) ≡ bit_xor (word w (list_at old_rights p)) (mul (word q (list_at old_rows p)) (word w right))
-  pub are_bytes : (p k : ℕ) → slice_index (list_at rights p) k < 2 ^ 8
+  pub buffers : (p w : ℕ) → p < n → 2 * w + 1 < length (list_at old_right_sides p)
+      → word w (list_at right_sides p) ≡ bit_xor (word w (list_at old_right_sides p)) (mul (word q (list_at old_rows p)) (word w right))
+  pub are_bytes : (p k : ℕ) → slice_index (list_at right_sides p) k < 2 ^ 8
   pub rows_above : (p : ℕ) → n ≤ p → list_at rows p ≡ list_at old_rows p
-  pub rights_above : (p : ℕ) → n ≤ p → list_at rights p ≡ list_at old_rights p
+  pub right_sides_above : (p : ℕ) → n ≤ p → list_at right_sides p ≡ list_at old_right_sides p
 
--- an equation was cleared from the others and put at its place
-pub record PutAt (q : ℕ) (row right : List ℕ) (old_rows old_rights rows rights : List (List ℕ)) : Type 0 where
+-- column q of the other equations was cleared, and the new equation was put there
+pub record PutAt (q : ℕ) (row right : List ℕ) (old_rows old_right_sides rows right_sides : List (List ℕ)) : Type 0 where
   pub cleared_rows : List (List ℕ)
-  pub cleared_rights : List (List ℕ)
-  pub cleared : ClearedBelow q row right old_rows old_rights cleared_rows cleared_rights (length old_rows)
+  pub cleared_right_sides : List (List ℕ)
+  pub cleared : ClearedBelow q row right old_rows old_right_sides cleared_rows cleared_right_sides (length old_rows)
   pub at_row : list_at rows q ≡ row
-  pub at_right : list_at rights q ≡ right
+  pub at_right : list_at right_sides q ≡ right
   pub row_bytes : (k : ℕ) → slice_index row k < 2 ^ 8
   pub right_bytes : (k : ℕ) → slice_index right k < 2 ^ 8
   pub other_rows : OneChanged cleared_rows rows q
-  pub other_rights : OneChanged cleared_rights rights q
+  pub other_right_sides : OneChanged cleared_right_sides right_sides q
 
 -- ---- a system without equations
 

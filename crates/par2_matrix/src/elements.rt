@@ -2,7 +2,7 @@
 
 ghost use Rattle.std.specs.Prelude.{◌≡◌, ◌+◌, ◌*◌, ◌<◌, length, IfOk};
 ghost use Rattle.par2_spec.specs.Slices.{word};
-ghost use Rattle.par2_matrix.specs.Echelon.{WordPut, Spells};
+ghost use Rattle.par2_matrix.specs.Echelon.{WordPut, HoldsRow};
 
 use par2_spec::Result;
 use std::alloc::Global;
@@ -16,7 +16,7 @@ pub fn element(row: &[u8], i: usize) -> u16
     u16::from_le_bytes([row[2 * i], row[2 * i + 1]])
 }
 
-/// Makes an element the `i`th of a row, and changes no other byte.
+/// Sets element `i` of a row, and changes no other byte.
 #[inline(always)]
 pub fn put_element(row: &mut [u8], i: usize, element: u16)
     requires { 2 * i + 1 < length row.old }
@@ -27,18 +27,19 @@ pub fn put_element(row: &mut [u8], i: usize, element: u16)
     row[2 * i + 1] = high;
 }
 
+// Writes the elements of the row to the bytes, which have just room for them.
 fn spell(row: &[u16], bytes: &mut [u8])
     requires { length bytes.old ≡ 2 * length row.now }
-    ensures { Spells row.now bytes.new (length row.now) }
+    ensures { HoldsRow row.now bytes.new (length row.now) }
 {
     for i in 0..row.len() {
         put_element(bytes, i, row[i]);
     }
 }
 
-/// The bytes of a row.
+/// The bytes of a row of elements, as `System` keeps rows. Fails only when memory runs out.
 pub fn bytes_of_row(alloc: Global, row: &[u16]) -> Result<Vec<u8>>
-    ensures { IfOk result (λ bytes. Spells row.now bytes.items (length row.now)) }
+    ensures { IfOk result (λ bytes. HoldsRow row.now bytes.items (length row.now)) }
 {
     let mut bytes = vec![in alloc; 0u8; 2 * row.len()]?;
     spell(row, bytes.as_mut_slice());

@@ -1,5 +1,7 @@
-//! Linear equations over the field of 65,536 elements, with texts on the right side: Gauss-Jordan elimination, one
-//! equation at a time.
+//! Linear equations over the field of 65,536 elements, with buffers as unknowns and right-hand sides: Gauss-Jordan
+//! elimination, one equation at a time.
+//!
+//! `par2_solve` uses it, and it uses `par2_gf16`. It knows no slices, exponents or files.
 #![tactic(auto)]
 
 mod elements;

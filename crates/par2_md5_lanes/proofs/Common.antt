@@ -17,8 +17,8 @@ pub use Rattle.par2_md5_lanes.specs.Lanes.{Have, four_words_at, lane, lane_words
 pub use Rattle.par2_md5_lanes.specs.Messages.{HasAbsorbed, message_of, part_bytes}
 pub use Rattle.par2_md5_lanes.specs.Pendings.{TakeAll, TakesAll, bytes_to_absorb}
 pub use Rattle.par2_md5_lanes.specs.Tails.{tail_len, tail_of}
-pub use Rattle.par2_md5_lanes.specs.Tasks.{HasBlocks, HasTaken, HaveBlocks, LeadOn, LeadsTo, LeadsWith, work, work_of, works}
-pub use Rattle.par2_md5_lanes.specs.Texts.{text_at, texts_of}
+pub use Rattle.par2_md5_lanes.specs.Tasks.{HasBlocks, HasTaken, HaveBlocks, AllEndIn, EndsIn, EndsInWith, work, work_of, works}
+pub use Rattle.par2_md5_lanes.specs.Buffers.{buffer_at, buffers_of}
 pub use Rattle.par2_md5_lanes.specs.declared.midstate.Midstate.{Midstate}
 pub use Rattle.par2_md5_lanes.specs.declared.pending.Pending.{Pending}
-pub use Rattle.par2_md5_lanes.specs.declared.tasks.Task.{Task}
+pub use Rattle.par2_md5_lanes.specs.declared.tasks.LaneTask.{LaneTask}

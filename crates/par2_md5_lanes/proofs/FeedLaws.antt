@@ -30,12 +30,12 @@ blocks_first hash bytes a (suc n) =
     ap₂ compress (blocks_first hash bytes a n) (ap (take 64) (drop-drop (n * 64) (a * 64) bytes ∙ ap (λ (m : ℕ). drop m bytes) place))
     ∙ ap (hash_behind hash bytes) (sym e)
 
--- a block more
-pub hash_one_more : (hash text : List ℕ) (n : ℕ) → compress (hash_behind hash text n) (take 64 (drop (64 * n) text)) ≡ hash_behind hash text (n + 1)
+-- one more block
+pub hash_one_more : (hash bytes : List ℕ) (n : ℕ) → compress (hash_behind hash bytes n) (take 64 (drop (64 * n) bytes)) ≡ hash_behind hash bytes (n + 1)
 unfolding hash_behind
-hash_one_more hash text n = grind (arith, compress, hash_behind)
+hash_one_more hash bytes n = grind (arith, compress, hash_behind)
 
--- bytes that begin alike
+-- bytes with the same beginning
 pub blocks_alike : (hash x y : List ℕ) (n m : ℕ) → n * 64 ≤ m → take m x ≡ take m y → hash_behind hash x n ≡ hash_behind hash y n
 unfolding hash_behind
 blocks_alike hash x y zero m room same = refl
@@ -43,7 +43,7 @@ blocks_alike hash x y (suc n) m room same = ap₂ compress (blocks_alike hash x 
 
 -- ---- a block that is filled piece by piece
 
--- bytes that go on after those which the block has
+-- bytes that continue those in the block
 pub filled_more : (whole rest old new : List ℕ) (f r : ℕ) → rest ≡ drop f whole → take f old ≡ take f whole
     → take (f + r) new ≡ take f old ++ take r rest → take (f + r) new ≡ take (f + r) whole
 filled_more whole rest old new f r rest_is old_is new_is =
@@ -78,11 +78,11 @@ pub same_rest : (bytes rest : List ℕ) (count : ℕ) → count ≡ min 64 (leng
     → drop (length rest / 64 * 64) rest ≡ drop (length bytes / 64 * 64) bytes
 same_rest bytes rest count counted full rest_is = grind (arith, size_behind, drop-drop)
 
--- a message goes on in a text that has its next blocks
-pub message_goes_on : (p text : List ℕ) (a n : ℕ) → take (n * 64) (drop (a * 64) p) ≡ take (n * 64) text → hash_behind (hash_after p a) text n ≡ hash_after p (a + n)
-message_goes_on p text a n same = blocks_alike (hash_after p a) text (drop (a * 64) p) n (n * 64) (omega arith) (sym same) ∙ behind_blocks p a n
+-- a message goes on in a buffer that has its next blocks
+pub message_goes_on : (p bytes : List ℕ) (a n : ℕ) → take (n * 64) (drop (a * 64) p) ≡ take (n * 64) bytes → hash_behind (hash_after p a) bytes n ≡ hash_after p (a + n)
+message_goes_on p bytes a n same = blocks_alike (hash_after p a) bytes (drop (a * 64) p) n (n * 64) (omega arith) (sym same) ∙ behind_blocks p a n
 
--- what was taken in as a longer message's beginning
+-- the bytes absorbed are the beginning of a longer message
 pub hash_of_longer : (p x : List ℕ) (n : ℕ) → n * 64 ≤ length p → hash_after p n ≡ hash_after (p ++ x) n
 unfolding hash_after
 hash_of_longer p x zero room = refl
@@ -91,7 +91,7 @@ hash_of_longer p x (suc n) room =
     ap₂ compress (hash_of_longer p x n (omega arith))
     (sym (ap (take 64) (drop-append-le (n * 64) p x (omega arith)) ∙ take-append-le 64 (drop (n * 64) p) x fits))
 
--- a hash value goes on: q blocks of m are taken in, and the rest of m and x are left
+-- a hash value goes on: q blocks of m are absorbed, and the rest of m and x are left
 pub goes_on : (m x bytes hash : List ℕ) → hash ≡ hash_after m (length m / 64) → bytes ≡ drop (length m / 64 * 64) m ++ x
     → hash_behind hash bytes (length bytes / 64) ≡ hash_after (m ++ x) (length (m ++ x) / 64)
 goes_on m x bytes hash hash_is bytes_is =
@@ -103,7 +103,7 @@ goes_on m x bytes hash hash_is bytes_is =
     ∙ behind_blocks (m ++ x) q n
     ∙ ap (hash_after (m ++ x)) count
 
--- what is after the blocks stays so
+-- the bytes after the blocks are unchanged
 pub end_goes_on : (m x bytes : List ℕ) → bytes ≡ drop (length m / 64 * 64) m ++ x → drop (length bytes / 64 * 64) bytes ≡ drop (length (m ++ x) / 64 * 64) (m ++ x)
 end_goes_on m x bytes bytes_is =
     let q : ℕ = length m / 64 in

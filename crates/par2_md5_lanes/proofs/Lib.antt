@@ -5,6 +5,6 @@ pub mod BlockLaws
 pub mod TailLaws
 pub mod FeedLaws
 pub mod TaskLaws
-pub mod TextLaws
+pub mod BufferLaws
 pub mod PendingLaws
 pub mod SixteenLaws

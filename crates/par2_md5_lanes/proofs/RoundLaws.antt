@@ -9,7 +9,7 @@ use Rattle.std.proofs.lemmas.Nat.Bits.{bit_at-lt, bit_at_and, bit_at_not, bit_at
 pub sum_reordered : (a f constant word : ℕ) → add32 (add32 (add32 a word) constant) f ≡ add32 (add32 (add32 a f) constant) word
 sum_reordered a f constant word = omega arith
 
--- a word has no bit in common with what has none of its bits
+-- two words have no bit in common if one has none of the other's bits
 apart : (x y z : ℕ) → z < 2 ^ 32 → bit_and (bit_and x z) (bit_and y (bit_not w32 z)) ≡ 0
 apart x y z fits = search (arith, and-not_self, and_assoc, and_comm, and_zero_r)
 
@@ -17,7 +17,7 @@ apart x y z fits = search (arith, and-not_self, and_assoc, and_comm, and_zero_r)
 pub terms_of_g : (sum x y z : ℕ) → z < 2 ^ 32 → add32 (add32 sum (bit_and y (bit_not w32 z))) (bit_and x z) ≡ add32 sum (g_fn x y z)
 terms_of_g sum x y z fits = grind (arith, or_disjoint, apart)
 
--- what I leaves of all bits
+-- the complement of I
 rest_of_i : (x y z : ℕ) → x < 2 ^ 32 → y < 2 ^ 32 → z < 2 ^ 32 → bit_xor y (bit_and (bit_not w32 x) z) ≡ bit_not w32 (i_fn x y z)
 rest_of_i x y z fits_x fits_y fits_z =
     same_from_bits_below 32 _ _ (xor_lt 32 y _ fits_y (omega (arith, and_le_r (bit_not w32 x) z))) (omega arith)
@@ -51,7 +51,7 @@ rounds_more : (h w : List ℕ) (t : ℕ) → rounds h w (t + 1)
 unfolding rounds
 rounds_more h w t = rw (add-one t) refl
 
--- a step more, from what it reads
+-- one more step, from the values that it reads
 pub after_step : (h w v new : List ℕ) (t f word : ℕ) → new ≡ round v f (slice_index step_constants t) word (slice_index step_shifts t)
     → v ≡ rounds h w t → f ≡ step_fn t (slice_index v 1) (slice_index v 2) (slice_index v 3) → word ≡ slice_index w (word_place t) → new ≡ rounds h w (t + 1)
 after_step h w v new t f word is held value read = is ∙ (rw (rounds_more h w t, ← held, value, read) refl)

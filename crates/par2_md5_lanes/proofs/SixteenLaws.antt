@@ -1,25 +1,25 @@
--- Sixteen messages: eight, and eight after them.
-use Rattle.par2_md5_lanes.proofs.Common.{Bor, ap, subst, sym, ◌∙◌, ◌+◌, ◌-◌, ◌≡◌, ◌<◌, ℕ, List, [], get_or, take, drop, true, nat_lt, refl, arith, inl, inr, cases_lt, take-map, drop-map, get_or-take, get_or-drop, slice_index, lane, text_at, texts_of}
+-- Sixteen messages in two groups of eight.
+use Rattle.par2_md5_lanes.proofs.Common.{Bor, ap, subst, sym, ◌∙◌, ◌+◌, ◌-◌, ◌≡◌, ◌<◌, ℕ, List, [], get_or, take, drop, true, nat_lt, refl, arith, inl, inr, cases_lt, take-map, drop-map, get_or-take, get_or-drop, slice_index, lane, buffer_at, buffers_of}
 use Rattle.std.specs.Prelude.{false}
 use Rattle.std.proofs.lemmas.Bool.Decides.{nat_tests}
 use Rattle.par2_md5_lanes.specs.Lanes.{hash_of_sixteen}
 use Rattle.par2_md5_lanes.specs.declared.blocks.Sixteen.{Sixteen}
 
 abbrev bytes_of : Bor (List ℕ) → List ℕ
-bytes_of text = text.now
+bytes_of bytes = bytes.now
 
--- the texts of each group
-pub text_of_low : (texts : List (Bor (List ℕ))) (k : ℕ) → k < 8 → text_at (take 8 texts) k ≡ text_at texts k
-text_of_low texts k low = ap (λ (ts : List (List ℕ)). get_or ts k []) (sym (take-map bytes_of 8 texts)) ∙ get_or-take 8 (texts_of texts) k [] low
+-- the buffers of each group
+pub bytes_of_low : (buffers : List (Bor (List ℕ))) (k : ℕ) → k < 8 → buffer_at (take 8 buffers) k ≡ buffer_at buffers k
+bytes_of_low buffers k low = ap (λ (ts : List (List ℕ)). get_or ts k []) (sym (take-map bytes_of 8 buffers)) ∙ get_or-take 8 (buffers_of buffers) k [] low
 
-pub text_of_high : (texts : List (Bor (List ℕ))) (n k : ℕ) → k < n → text_at (take n (drop 8 texts)) k ≡ text_at texts (8 + k)
-text_of_high texts n k low =
-    ap (λ (ts : List (List ℕ)). get_or ts k []) (sym (take-map bytes_of n (drop 8 texts)))
-    ∙ get_or-take n (texts_of (drop 8 texts)) k [] low
-    ∙ ap (λ (ts : List (List ℕ)). get_or ts k []) (sym (drop-map bytes_of 8 texts))
-    ∙ get_or-drop 8 (texts_of texts) k []
+pub bytes_of_high : (buffers : List (Bor (List ℕ))) (n k : ℕ) → k < n → buffer_at (take n (drop 8 buffers)) k ≡ buffer_at buffers (8 + k)
+bytes_of_high buffers n k low =
+    ap (λ (ts : List (List ℕ)). get_or ts k []) (sym (take-map bytes_of n (drop 8 buffers)))
+    ∙ get_or-take n (buffers_of (drop 8 buffers)) k [] low
+    ∙ ap (λ (ts : List (List ℕ)). get_or ts k []) (sym (drop-map bytes_of 8 buffers))
+    ∙ get_or-drop 8 (buffers_of buffers) k []
 
--- what holds of the hash values of each group
+-- properties of the hash values of each group
 pub each_of_sixteen : (P : ℕ → List ℕ → Type 0) (hashes : Sixteen) → ((k : ℕ) → k < 8 → P k (lane slice_index k hashes.low)) → ((k : ℕ) → k < 8 → P (8 + k) (lane slice_index k hashes.high))
     → (k : ℕ) → k < 16 → P k (hash_of_sixteen k hashes)
 each_of_sixteen P hashes low high k within =

@@ -5,7 +5,7 @@ use Rattle.std.proofs.lemmas.Slice.{take-put_mid_below}
 use Rattle.par2_md5_lanes.proofs.BlockLaws.{same_parts}
 use borrow.Rule.Slice.PartMut.{put_mid}
 
--- how many zeros stand in the padding
+-- the number of zeros in the padding
 zeros : ℕ → ℕ
 zeros len = (119 - len % 64) % 64
 
@@ -14,19 +14,19 @@ unfolding zeros
 padding_len len = grind (arith, replicate, zeros, length-append, length-replicate)
 
 -- the byte 0x80 and the zeros of the padding, from 64 bytes
-pub marks_are : (n : ℕ) → n ≤ 63 → let marks : List ℕ = 0x80 ∷ replicate 63 0 in take (n + 1) marks ≡ 0x80 ∷ replicate n 0
-marks_are n low =
-    let marks : List ℕ = 0x80 ∷ replicate 63 0 in
+pub padding_is : (n : ℕ) → n ≤ 63 → let padding_prefix : List ℕ = 0x80 ∷ replicate 63 0 in take (n + 1) padding_prefix ≡ 0x80 ∷ replicate n 0
+padding_is n low =
+    let padding_prefix : List ℕ = 0x80 ∷ replicate 63 0 in
     let more : n + 1 ≡ suc n = omega arith in
-    ap (λ (k : ℕ). take k marks) more ∙ ap (λ (xs : List ℕ). 0x80 ∷ xs) (take-replicate n 63 0 low)
+    ap (λ (k : ℕ). take k padding_prefix) more ∙ ap (λ (xs : List ℕ). 0x80 ∷ xs) (take-replicate n 63 0 low)
 
--- ---- the tails of eight messages, one after the other
+-- ---- the tails of the messages, one after the other
 
--- a tail at `at` in the room of all
+-- a tail at `at` in the bytes for all
 pub tail_at : (tails tail : List ℕ) (at j n : ℕ) → at + 128 ≤ length tails → length tail ≡ 128 → n ≤ 128 → take n (drop at (put_mid at j tails tail)) ≡ take n tail
 tail_at tails tail at j n room size low = grind (arith, drop_at, length-take-le, take-append-le)
 
--- the tails before `at` stay
+-- the tails before `at` are unchanged
 pub tail_before : (tails tail : List ℕ) (at j before n : ℕ) → at ≤ length tails → before + n ≤ at
     → take n (drop before (put_mid at j tails tail)) ≡ take n (drop before tails)
 tail_before tails tail at j before n room low = grind (arith, same_parts, take-put_mid_below)
@@ -50,6 +50,6 @@ pub tail_fits : (len : ℕ) → tail_len len ≤ 128
 unfolding zeros
 tail_fits len = omega (arith, padding_len len)
 
--- the tail that is left in a feed is put into its room as a whole
+-- the whole tail is copied from the feed
 pub tail_put : (left rest block : List ℕ) (n len : ℕ) → left ≡ rest ++ padding len → length rest ≡ len % 64 → n ≡ min 128 (length left) → take n block ≡ take n left → take (tail_len len) block ≡ rest ++ padding len
 tail_put left rest block n len left_is size count put = grind (arith, length-append, tail_fits, take_all)

@@ -5,4 +5,4 @@ pub mod Messages
 pub mod Pendings
 pub mod Tails
 pub mod Tasks
-pub mod Texts
+pub mod Buffers

@@ -1,4 +1,4 @@
--- The tail of a message: what is left of it after its whole blocks, and then its padding.
+-- The tail of a message: its bytes after the whole blocks, and then its padding (RFC 1321, 3.1 and 3.2).
 use Rattle.std.specs.Prelude.{ℕ, ◌+◌, ◌*◌, ◌/◌, ◌%◌, List, ◌++◌, length, drop}
 use Rattle.md5.specs.Md5.{padding}
 
@@ -6,6 +6,6 @@ use Rattle.md5.specs.Md5.{padding}
 abbrev pub tail_of : ℕ → List ℕ → List ℕ
 tail_of len message = drop (len / 64 * 64) message ++ padding len
 
--- how many bytes it has
+-- the number of bytes in it
 abbrev pub tail_len : ℕ → ℕ
 tail_len len = len % 64 + length (padding len)

@@ -1,4 +1,5 @@
-//! The bytes of parts, block by block.
+//! The bytes of a list of parts, block by block: without a copy inside a part (`take_at_hand`), and copied across parts
+//! (`fill`).
 
 ghost use Rattle.std.specs.Prelude.{true, false, ◌≡◌, ◌≤◌, ◌<◌, ◌+◌, ◌-◌, ◌*◌, ◌^◌, ◌++◌, [], length, take, drop, min};
 ghost use Rattle.par2_md5_lanes.specs.Feeds.{at_hand, bytes_left};
@@ -7,16 +8,17 @@ ghost use Rattle.par2_md5_lanes.specs.Messages.{message_of, part_bytes};
 use crate::midstate::Part;
 use std::convert::AsSlice;
 
-/// What is left of some parts.
+/// The bytes that are left of a list of parts.
 #[derive(Clone, Copy, Drop)]
 pub(crate) struct Feed<'a> {
     part: Part<'a>,
-    // How many bytes of the part are taken.
+    // The number of bytes of `part` that are taken.
     at: usize,
     // The parts after it.
     parts: &'a [Part<'a>],
 }
 
+// The bytes from `at` on; none past the end.
 fn behind(bytes: &[u8], at: usize) -> &[u8]
     ensures value { result.now ≡ drop at bytes.now }
     ensures fits { at + length result.now < 2 ^ 64 }
@@ -24,7 +26,7 @@ fn behind(bytes: &[u8], at: usize) -> &[u8]
     &bytes[at.min(bytes.len())..]
 }
 
-// Copies as many of the bytes as the block has room for after `from`.
+// Copies as many of the bytes as the block has room for after its first `from` bytes, and returns their number.
 fn copy_into(block: &mut [u8], from: usize, bytes: &[u8]) -> usize
     requires { from ≤ length block.old }
     ensures count { result ≡ min (length bytes.now) (length block.old - from) }
@@ -36,7 +38,7 @@ fn copy_into(block: &mut [u8], from: usize, bytes: &[u8]) -> usize
 }
 
 impl<'a> Feed<'a> {
-    /// The bytes, and the parts after them.
+    /// A feed of the bytes, followed by the parts. `bytes_left`: all bytes that the feed has still to give.
     pub(crate) fn new(bytes: &'a [u8], parts: &'a [Part<'a>]) -> Feed<'a>
         ensures { bytes_left result ≡ bytes.now ++ message_of parts.now }
     {
@@ -47,13 +49,16 @@ impl<'a> Feed<'a> {
         }
     }
 
-    // Copies as much of the part at hand as the block has room for.
+    // Copies as much of the current part as the block has room for after its first `from` bytes, and returns the number
+    // of bytes. It is the step of `fill`.
     fn copy_part(&mut self, block: &mut [u8], from: usize) -> usize
         requires { from ≤ length block.old }
+        // As many bytes as fit and the part has left follow those in the block.
         ensures count { result
             ≡ min (length (drop self.old.at (part_bytes self.old.part))) (length block.old - from) }
         ensures after { take (from + result) block.new
             ≡ take from block.old ++ take result (bytes_left self.old) }
+        // The feed goes on after these bytes, in the same part.
         ensures rest { bytes_left self.new ≡ drop result (bytes_left self.old) }
         ensures part { drop self.new.at (part_bytes self.new.part)
             ≡ drop result (drop self.old.at (part_bytes self.old.part)) }
@@ -67,7 +72,7 @@ impl<'a> Feed<'a> {
         count
     }
 
-    // Goes on to the next part, if there is one.
+    // Moves on to the next part, or returns false if there is none.
     fn go_on(&mut self) -> bool
         requires { drop self.old.at (part_bytes self.old.part) ≡ [] }
         ensures same { bytes_left self.new ≡ bytes_left self.old }
@@ -83,7 +88,7 @@ impl<'a> Feed<'a> {
         true
     }
 
-    /// How many blocks the part at hand has left.
+    /// The number of whole blocks, of 64 bytes, that are left in the current part. A length is never read as a block.
     pub(crate) fn blocks_at_hand(&self) -> usize
         ensures blocks { result * 64 ≤ length (at_hand self.now) }
         ensures room { result * 64 < 2 ^ 64 }
@@ -94,7 +99,7 @@ impl<'a> Feed<'a> {
         }
     }
 
-    /// Takes so many blocks of the part at hand, where they lie.
+    /// Takes the next `count` blocks, which lie in the current part, without a copy.
     pub(crate) fn take_at_hand(&mut self, count: usize) -> &'a [u8]
         requires { count * 64 ≤ length (at_hand self.old) }
         ensures bytes { result.now ≡ take (count * 64) (bytes_left self.old) }
@@ -108,7 +113,8 @@ impl<'a> Feed<'a> {
         blocks
     }
 
-    /// Fills the blocks with the bytes that come next; how many there were.
+    /// Fills the blocks with copies of the next bytes, and returns their number: fewer than fit only if no more are
+    /// left.
     pub(crate) fn fill(&mut self, blocks: &mut [u8]) -> usize
         ensures count { result ≡ min (length blocks.old) (length (bytes_left self.old)) }
         ensures bytes { take result blocks.new ≡ take result (bytes_left self.old) }

@@ -6,50 +6,58 @@ ghost use Rattle.md5.specs.Md5.{add32, f_fn, g_fn, h_fn, i_fn};
 ghost use Rattle.par2_md5_lanes.specs.Lanes.{AreFourWords, Have};
 
 use crate::quads::four_words;
-use crate::steps::State;
+use crate::steps::HashState;
 use std::simd::prelude::*;
 
-/// A word of each of several messages.
+/// One word of each of several messages.
 pub(crate) trait Lanes: Copy {
-    // How many messages.
+    // The number of messages.
     ghost count: { ℕ };
 
-    // The word in a lane.
+    // The word in one lane.
     ghost at: { Self → ℕ → ℕ };
 
+    /// The function F: the bits of `y` at the ones of `x`, and those of `z` at its zeros.
     fn f(x: Self, y: Self, z: Self) -> Self
         ensures { (k : ℕ) → k < count → at result k ≡ f_fn (at x k) (at y k) (at z k) };
 
-    // A sum and the function G. The two terms of G have no bit in common, so each is added by itself, the one with `x`
-    // last: its value is there as soon as `x` is.
+    // A sum plus the function G. The two terms of G have no bit in common, so they are added one by one. The term with
+    // `x` comes last, because `x` is the result of the step before.
     fn plus_g(sum: Self, x: Self, y: Self, z: Self) -> Self
         ensures { (k : ℕ) → k < count
             → at result k ≡ add32 (at sum k) (g_fn (at x k) (at y k) (at z k)) };
 
+    /// The function H: the exclusive or of the three.
     fn h(x: Self, y: Self, z: Self) -> Self
         ensures { (k : ℕ) → k < count → at result k ≡ h_fn (at x k) (at y k) (at z k) };
 
-    // A sum, one, and the function I. What I leaves of all bits is subtracted, which spares the complement of `z`.
+    // A sum plus one plus the function I. The complement of I is subtracted instead, which saves the complement of `z`.
     fn plus_one_and_i(sum: Self, x: Self, y: Self, z: Self) -> Self
         ensures { (k : ℕ) → k < count
             → at result k ≡ add32 (add32 (at sum k) 1) (i_fn (at x k) (at y k) (at z k)) };
 
+    /// The sum modulo 2^32, in each lane.
     fn plus(x: Self, y: Self) -> Self
         ensures { (k : ℕ) → k < count → at result k ≡ add32 (at x k) (at y k) };
 
+    /// The same word in each lane.
     fn splat(x: u32) -> Self
         ensures { (k : ℕ) → k < count → at result k ≡ x };
 
+    /// Each word, rotated left by `shift` bits.
     fn rotated(x: Self, shift: u32) -> Self
         ensures { (k : ℕ) → k < count → at result k ≡ rotate_left w32 (at x k) shift };
 
-    /// Four words of each text, from the offset on.
-    fn four_words(texts: &[&[u8]], offset: usize) -> State<Self>
-        requires enough { count ≤ length texts.now }
+    /// Four words of each buffer, from byte `offset` on: one vector for each of the four places.
+    fn four_words(buffers: &[&[u8]], offset: usize) -> HashState<Self>
+        // There is a buffer for each lane, and it has four words from the offset on.
+        requires enough { count ≤ length buffers.now }
         requires room { offset + 16 < 2 ^ 64 }
-        requires within { Have count (offset + 16) texts.now }
-        ensures { AreFourWords count at texts.now offset result };
+        requires within { Have count (offset + 16) buffers.now }
+        // The lanes of `a`, `b`, `c` and `d` are the first to the fourth of these words.
+        ensures { AreFourWords count at buffers.now offset result };
 
+    /// The word in lane k.
     fn word(self, k: usize) -> u32
         requires { k < count }
         ensures { result ≡ at self k };
@@ -97,8 +105,8 @@ impl<const N: usize> Lanes for Simd<u32, N> {
     }
 
     #[inline(always)]
-    fn four_words(texts: &[&[u8]], offset: usize) -> State<Self> {
-        four_words(texts, offset)
+    fn four_words(buffers: &[&[u8]], offset: usize) -> HashState<Self> {
+        four_words(buffers, offset)
     }
 
     #[inline(always)]

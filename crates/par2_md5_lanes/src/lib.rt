@@ -1,11 +1,15 @@
-//! The MD5 digests of windows of one text, up to sixteen side by side.
+//! MD5 (RFC 1321) of up to sixteen messages side by side, each in a lane of a vector. A message is a window of a
+//! buffer, a buffer, or a list of parts; `Midstate` is the state after the first bytes of a message.
+//!
+//! `par2_files`, `par2_packets`, `par2_slices` and others use it. It knows messages and digests, but no files, packets
+//! or slices.
 #![tactic(auto)]
 
 ghost use Rattle.std.specs.Prelude.{◌≡◌, ◌≤◌, ◌<◌, ◌+◌, ◌*◌, ◌/◌, ℕ, length, take, drop, slice_index};
 ghost use Rattle.std.specs.Int.{to_le_bytes};
 ghost use Rattle.md5.specs.Md5.{digest_bytes, hash_after, md5, padded_message};
 ghost use Rattle.par2_md5_lanes.specs.Digests.{digest_at};
-ghost use Rattle.par2_md5_lanes.specs.Texts.{text_at, AreSixteenths};
+ghost use Rattle.par2_md5_lanes.specs.Buffers.{buffer_at, AreSixteenths};
 
 mod blocks;
 mod feeds;
@@ -21,14 +25,14 @@ use blocks::{Hashes, Sixteen};
 use md5::{Digest, Md5};
 pub use midstate::{Midstate, Part};
 use padding::{tail_blocks, tails_of_windows};
-pub use pending::{Pending, absorb_each, text_digests};
+pub use pending::{Pending, absorb_each, buffer_digests};
 use std::simd::prelude::*;
-use steps::State;
+use steps::HashState;
 
-/// How many messages are digested side by side, at most.
+/// The largest number of messages that are digested side by side.
 pub const LANES: usize = 16;
 
-/// The bytes in sixteen equal parts, one after the other.
+// The bytes in sixteen equal parts, one after the other, as the buffers of sixteen lanes.
 fn sixteenths(bytes: &[u8]) -> [&[u8]; LANES]
     ensures { AreSixteenths bytes.now result }
 {
@@ -40,11 +44,11 @@ fn sixteenths(bytes: &[u8]) -> [&[u8]; LANES]
     parts
 }
 
-/// The windows of `len` bytes that begin at the starts.
+// The windows of `len` bytes that begin at `starts`, one for each lane.
 fn windows<'a>(bytes: &'a [u8], starts: &[usize; LANES], len: usize) -> [&'a [u8]; LANES]
     requires within { (k : ℕ) → k < 16 → slice_index starts.now k + len ≤ length bytes.now }
     ensures { (k : ℕ)
-        → k < 16 → text_at result k ≡ take len (drop (slice_index starts.now k) bytes.now) }
+        → k < 16 → buffer_at result k ≡ take len (drop (slice_index starts.now k) bytes.now) }
 {
     let mut windows = [bytes; LANES];
     for k in 0..LANES {
@@ -53,7 +57,7 @@ fn windows<'a>(bytes: &'a [u8], starts: &[usize; LANES], len: usize) -> [&'a [u8
     windows
 }
 
-/// The digest of a last hash value, low byte first.
+// The digest of a last hash value: its four words, low byte first (RFC 1321, 3.5).
 fn digest_of(hash: [u32; 4]) -> [u8; 16]
     ensures { result ≡ digest_bytes hash 4 }
 {
@@ -67,12 +71,13 @@ fn digest_of(hash: [u32; 4]) -> [u8; 16]
     ]
 }
 
-/// The digests of the first `count` windows: after all blocks of each, its padding.
+// The digests of the first `count` windows, of `len` bytes each, in as many lanes as `H` has. Each absorbs its whole
+// blocks, and then its tail: the rest and the padding.
 fn digests<H: Hashes>(windows: &[&[u8]; LANES], count: usize, len: usize) -> [[u8; 16]; LANES]
     requires lanes { count ≤ H.count }
     requires few { H.count ≤ 16 }
-    requires within { (k : ℕ) → k < 16 → length (text_at windows.now k) ≡ len }
-    ensures { (k : ℕ) → k < count → digest_at result k ≡ md5 (text_at windows.now k) }
+    requires within { (k : ℕ) → k < 16 → length (buffer_at windows.now k) ≡ len }
+    ensures { (k : ℕ) → k < count → digest_at result k ≡ md5 (buffer_at windows.now k) }
 {
     let tails = tails_of_windows(windows, len);
     let start = digest_of(Midstate::new().hash);
@@ -85,8 +90,8 @@ fn digests<H: Hashes>(windows: &[&[u8]; LANES], count: usize, len: usize) -> [[u
     digests
 }
 
-/// The MD5 digests of the windows of `len` bytes that begin at the first `count` starts, in their order. The windows may
-/// overlap.
+/// The MD5 digests of the windows of `len` bytes that begin at the first `count` starts, in their order. Windows may
+/// overlap. The other digests have no meaning.
 pub fn window_digests(
     bytes: &[u8],
     starts: &[usize; LANES],
@@ -101,9 +106,9 @@ pub fn window_digests(
 {
     let windows = windows(bytes, starts, len);
     match count {
-        // Some side by side take about the time of two, so one alone is faster by itself.
+        // Several messages side by side take about as long as two, so one alone is faster by itself.
         0..=1 => [Md5::digest(windows[0]); LANES],
-        2..=8 => digests::<State<u32x8>>(&windows, count, len),
+        2..=8 => digests::<HashState<u32x8>>(&windows, count, len),
         _ => digests::<Sixteen>(&windows, count, len),
     }
 }

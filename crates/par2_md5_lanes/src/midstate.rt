@@ -1,4 +1,5 @@
-//! MD5 after the first bytes of a message.
+//! The state of MD5 after the first bytes of a message: `new`, then `absorb` any number of times, and `digest` at any
+//! time.
 
 ghost use Rattle.std.specs.Prelude.{◌≡◌, ◌++◌, ◌-◌, ◌%◌, ◌^◌, [], ◌∷◌, replicate, ℕ, List, length};
 ghost use Rattle.md5.specs.Md5.{md5, padding};
@@ -8,31 +9,32 @@ use crate::blocks::hashed;
 use crate::digest_of;
 use crate::feeds::Feed;
 
-// The padding's first bytes: a bit 1, then zeros.
+// The first bytes of a padding: a bit 1, then zeros (RFC 1321, 3.1).
 const PADDING: [u8; 64] = [
     0x80, 0, 0, 0, 0, 0, 0, 0, 0, 0, 0, 0, 0, 0, 0, 0, 0, 0, 0, 0, 0, 0, 0, 0, 0, 0, 0, 0, 0, 0, 0,
     0, 0, 0, 0, 0, 0, 0, 0, 0, 0, 0, 0, 0, 0, 0, 0, 0, 0, 0, 0, 0, 0, 0, 0, 0, 0, 0, 0, 0, 0, 0, 0,
     0,
 ];
 
-/// A part of a message: a length, as eight bytes with the low one first, or bytes.
+/// A part of a message: bytes, or a length as eight bytes, the low one first.
 #[derive(Clone, Copy, Drop)]
 pub enum Part<'a> {
     Length(u64),
     Bytes(&'a [u8]),
 }
 
-/// MD5 after the first bytes of a message.
+/// MD5 after the first bytes of a message, from which it can go on.
 #[derive(Clone, Copy, Drop)]
 pub struct Midstate {
-    // The hash value after the whole blocks.
+    /// The hash value after the whole blocks.
     pub(crate) hash: [u32; 4],
-    // Begins with the bytes after them.
+    /// Begins with the bytes after the whole blocks.
     pub(crate) rest: [u8; 64],
-    // How many bytes there were, modulo 2^64, as the padding writes it.
+    /// The number of bytes so far, modulo 2^64, as the padding needs it (RFC 1321, 3.2).
     pub(crate) length: u64,
 }
 
+// The number of bytes of the part.
 fn part_len(part: &Part) -> usize
     ensures { result ≡ length (part_bytes part.now) }
 {
@@ -42,7 +44,7 @@ fn part_len(part: &Part) -> usize
     }
 }
 
-/// How many bytes the parts have, modulo 2^64.
+/// The number of bytes of all parts together, modulo 2^64.
 pub(crate) fn length_of(parts: &[Part]) -> u64
     ensures { result ≡ length (message_of parts.now) % 2 ^ 64 }
 {
@@ -53,19 +55,19 @@ pub(crate) fn length_of(parts: &[Part]) -> u64
     length
 }
 
-// The padding before the length.
-fn marks(length: u64) -> &'static [u8]
+// The padding of a message of `length` bytes without its last eight bytes, which are the length (RFC 1321, 3.1).
+fn padding_prefix(length: u64) -> &'static [u8]
     ensures { result.now ≡ 0x80 ∷ replicate ((119 - length % 64) % 64) 0 }
 {
     &PADDING[..((119 - length % 64) % 64) as usize + 1]
 }
 
-/// The padding of a message of this length (RFC 1321, 3.1 and 3.2).
+/// The padding of a message of this many bytes, modulo 2^64, as parts (RFC 1321, 3.1 and 3.2).
 pub(crate) fn ending(length: u64) -> [Part<'static>; 2]
     ensures { (n : ℕ) → n % 2 ^ 64 ≡ length → message_of result ≡ padding n }
 {
     [
-        Part::Bytes(marks(length)),
+        Part::Bytes(padding_prefix(length)),
         Part::Length(length.wrapping_mul(8)),
     ]
 }
@@ -82,20 +84,20 @@ impl Midstate {
         }
     }
 
-    /// Goes on after the parts.
+    /// Absorbs the parts, so that the message goes on with them. `HasAbsorbed`: the state is that after these bytes.
     pub fn absorb(&mut self, parts: &[Part])
         ensures { (m : List ℕ) → HasAbsorbed self.old m
             → HasAbsorbed self.new (m ++ message_of parts.now) }
     {
         let rest = self.rest;
-        // Borrowed anew, for as long as the rest and what its parts borrow.
+        // Reborrowed, so that `rest` and the bytes of the parts have one lifetime.
         let parts = &parts[..];
         let feed = Feed::new(&rest[..(self.length % 64) as usize], parts);
         self.length = self.length.wrapping_add(length_of(parts));
         self.hash = hashed(self.hash, feed, &mut self.rest);
     }
 
-    /// The MD5 digest of what was absorbed.
+    /// The MD5 digest of the message so far. The state is unchanged, and can absorb more.
     pub fn digest(&self) -> [u8; 16]
         ensures { (m : List ℕ) → HasAbsorbed self.now m → result ≡ md5 m }
     {

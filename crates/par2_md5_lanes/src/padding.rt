@@ -1,22 +1,22 @@
 //! The padding of messages of one length (RFC 1321, 3.1 and 3.2).
 //!
-//! The tail of a message is what is left of it after its whole blocks, and then its padding: one block or two.
+//! The tail of a message is its bytes after the whole blocks, and then its padding: one block or two.
 
 ghost use Rattle.std.specs.Prelude.{◌≡◌, ◌≤◌, ◌<◌, ◌*◌, ◌/◌, ◌%◌, ℕ, length, take, drop};
 ghost use Rattle.par2_md5_lanes.specs.Tails.{tail_len, tail_of};
-ghost use Rattle.par2_md5_lanes.specs.Texts.{text_at};
+ghost use Rattle.par2_md5_lanes.specs.Buffers.{buffer_at};
 
 use crate::LANES;
 use crate::feeds::Feed;
 use crate::midstate::ending;
 
-// The room for the tail of a message.
+// The largest number of bytes in the tail of a message.
 const TAIL_LEN: usize = 128;
 
-// The room for the tails of all messages.
+// The number of bytes for the tails of all messages.
 const TAILS_LEN: usize = LANES * TAIL_LEN;
 
-/// How many blocks the tail of a message of `len` bytes has.
+/// The number of blocks in the tail of a message of `len` bytes.
 pub(crate) fn tail_blocks(len: usize) -> usize
     ensures whole { result * 64 ≡ tail_len len }
     ensures few { result ≤ 2 }
@@ -24,7 +24,7 @@ pub(crate) fn tail_blocks(len: usize) -> usize
     if len % 64 < 56 { 1 } else { 2 }
 }
 
-/// What is left of a window after its whole blocks.
+// The bytes of a window after its whole blocks, fewer than 64.
 fn rest_of(window: &[u8]) -> &[u8]
     ensures value { result.now ≡ drop (length window.now / 64 * 64) window.now }
     ensures size { length result.now ≡ length window.now % 64 }
@@ -32,12 +32,12 @@ fn rest_of(window: &[u8]) -> &[u8]
     &window[window.len() / 64 * 64..]
 }
 
-/// The tails of the windows of `len` bytes, one at each 128 bytes.
+/// The tails of the windows of `len` bytes: that of window k begins at byte 128 k of the result.
 pub(crate) fn tails_of_windows(windows: &[&[u8]; LANES], len: usize) -> [u8; TAILS_LEN]
-    requires within { (k : ℕ) → k < 16 → length (text_at windows.now k) ≡ len }
+    requires within { (k : ℕ) → k < 16 → length (buffer_at windows.now k) ≡ len }
     ensures size { length result ≡ 2048 }
     ensures tails { (k : ℕ) → k < 16 → take (tail_len len) (drop (128 * k) result)
-        ≡ tail_of len (text_at windows.now k) }
+        ≡ tail_of len (buffer_at windows.now k) }
 {
     let padding = ending(len as u64);
     let mut tails = [0; TAILS_LEN];

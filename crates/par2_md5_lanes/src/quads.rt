@@ -1,20 +1,21 @@
-//! Four words of each of several messages at once. One by one, the words of eight messages take a fifth of a block's
-//! time. So sixteen bytes of a message are read as a row, and the rows of four or eight messages are exchanged into
-//! columns.
+//! Four words of each of several messages at once. Reading the words of eight messages one by one takes a fifth of the
+//! time of a block. So sixteen bytes of each message are read as a row, and the rows of four or eight messages are
+//! transposed.
 
 ghost use Rattle.std.specs.Prelude.{◌≡◌, ◌≤◌, ◌<◌, ◌+◌, ◌^◌, ◌++◌, ℕ, length, slice_index};
 ghost use Rattle.md5.specs.Md5.{word_at};
 ghost use Rattle.par2_md5_lanes.specs.Lanes.{four_words_at, AreFourWords, Have};
-ghost use Rattle.par2_md5_lanes.specs.Texts.{text_at};
+ghost use Rattle.par2_md5_lanes.specs.Buffers.{buffer_at};
 
-use crate::steps::State;
+use crate::steps::HashState;
 use std::simd::prelude::*;
 
-// The first two words of each half of two vectors, in turn; and the last two.
+// The first two words of each half of two vectors, alternating; and the last two.
 const LOW_WORDS: [usize; 8] = [0, 8, 1, 9, 4, 12, 5, 13];
 
 const HIGH_WORDS: [usize; 8] = [2, 10, 3, 11, 6, 14, 7, 15];
 
+// The little-endian word at byte `at`.
 #[inline(always)]
 fn word(bytes: &[u8], at: usize) -> u32
     requires { at + 4 ≤ length bytes.now }
@@ -23,89 +24,90 @@ fn word(bytes: &[u8], at: usize) -> u32
     u32::from_le_bytes([bytes[at], bytes[at + 1], bytes[at + 2], bytes[at + 3]])
 }
 
-// The words of the texts at the offset.
+// The word at byte `offset` of each of the first N buffers, read one by one: for other N than four and eight.
 #[inline(always)]
-fn gathered_words<const N: usize>(texts: &[&[u8]], offset: usize) -> Simd<u32, N>
-    requires enough { N ≤ length texts.now }
-    requires within { Have N (offset + 4) texts.now }
-    ensures { (k : ℕ) → k < N → slice_index result k ≡ word_at (text_at texts.now k) offset }
+fn gathered_words<const N: usize>(buffers: &[&[u8]], offset: usize) -> Simd<u32, N>
+    requires enough { N ≤ length buffers.now }
+    requires within { Have N (offset + 4) buffers.now }
+    ensures { (k : ℕ) → k < N → slice_index result k ≡ word_at (buffer_at buffers.now k) offset }
 {
     let mut words = [0; N];
     for k in 0..N {
-        words[k] = word(texts[k], offset);
+        words[k] = word(buffers[k], offset);
     }
     Simd::from_array(words)
 }
 
-// Four words of a text.
+// The four words of a buffer from byte `offset` on.
 #[inline(always)]
-fn words_of_one(text: &[u8], offset: usize) -> u32x4
-    requires { offset + 16 ≤ length text.now }
-    ensures { result ≡ four_words_at text.now offset }
+fn words_of_one(bytes: &[u8], offset: usize) -> u32x4
+    requires { offset + 16 ≤ length bytes.now }
+    ensures { result ≡ four_words_at bytes.now offset }
 {
-    u32x4::from_le_bytes(u8x16::from_slice(&text[offset..]))
+    u32x4::from_le_bytes(u8x16::from_slice(&bytes[offset..]))
 }
 
-// Four words of text k.
+// The four words of buffer k from byte `offset` on.
 #[inline(always)]
-fn row(texts: &[&[u8]], k: usize, offset: usize) -> u32x4
-    requires place { k < length texts.now }
-    requires within { offset + 16 ≤ length (text_at texts.now k) }
-    ensures { result ≡ four_words_at (text_at texts.now k) offset }
+fn row(buffers: &[&[u8]], k: usize, offset: usize) -> u32x4
+    requires place { k < length buffers.now }
+    requires within { offset + 16 ≤ length (buffer_at buffers.now k) }
+    ensures { result ≡ four_words_at (buffer_at buffers.now k) offset }
 {
-    words_of_one(texts[k], offset)
+    words_of_one(buffers[k], offset)
 }
 
-// The front end makes no struct of vectors whose count of lanes is a parameter.
+// The state of these four vectors. The front end cannot construct a struct of vectors whose number of lanes is a
+// parameter, so a generic function does.
 #[inline(always)]
-fn state_of<V: Copy>(a: V, b: V, c: V, d: V) -> State<V>
+fn state_of<V: Copy>(a: V, b: V, c: V, d: V) -> HashState<V>
     ensures a { result.a ≡ a }
     ensures b { result.b ≡ b }
     ensures c { result.c ≡ c }
     ensures d { result.d ≡ d }
 {
-    State { a, b, c, d }
+    HashState { a, b, c, d }
 }
 
-// Four words of each of four texts.
+// The four words from byte `offset` on of each of four buffers: their rows, transposed.
 #[inline(always)]
-fn words_of_four(texts: &[&[u8]], offset: usize) -> State<u32x4>
-    requires enough { 4 ≤ length texts.now }
-    requires within { Have 4 (offset + 16) texts.now }
-    ensures { AreFourWords 4 slice_index texts.now offset result }
+fn words_of_four(buffers: &[&[u8]], offset: usize) -> HashState<u32x4>
+    requires enough { 4 ≤ length buffers.now }
+    requires within { Have 4 (offset + 16) buffers.now }
+    ensures { AreFourWords 4 slice_index buffers.now offset result }
 {
-    let (even_low, even_high) = row(texts, 0, offset).interleave(row(texts, 2, offset));
-    let (odd_low, odd_high) = row(texts, 1, offset).interleave(row(texts, 3, offset));
+    let (even_low, even_high) = row(buffers, 0, offset).interleave(row(buffers, 2, offset));
+    let (odd_low, odd_high) = row(buffers, 1, offset).interleave(row(buffers, 3, offset));
     let (a, b) = even_low.interleave(odd_low);
     let (c, d) = even_high.interleave(odd_high);
-    State { a, b, c, d }
+    HashState { a, b, c, d }
 }
 
-// Four words of text k, and after them four of text k + 4.
+// The four words of buffer k from byte `offset` on, followed by those of buffer k + 4: a step of `words_of_eight`.
 #[inline(always)]
-fn pair(texts: &[&[u8]], k: usize, offset: usize) -> u32x8
+fn pair(buffers: &[&[u8]], k: usize, offset: usize) -> u32x8
     requires place { k < 4 }
-    requires enough { 8 ≤ length texts.now }
-    requires within { Have 8 (offset + 16) texts.now }
-    ensures { result ≡ four_words_at (text_at texts.now k) offset
-        ++ four_words_at (text_at texts.now (k + 4)) offset }
+    requires enough { 8 ≤ length buffers.now }
+    requires within { Have 8 (offset + 16) buffers.now }
+    ensures { result ≡ four_words_at (buffer_at buffers.now k) offset
+        ++ four_words_at (buffer_at buffers.now (k + 4)) offset }
 {
-    row(texts, k, offset).shuffle(row(texts, k + 4, offset), [0, 1, 2, 3, 4, 5, 6, 7])
+    row(buffers, k, offset).shuffle(row(buffers, k + 4, offset), [0, 1, 2, 3, 4, 5, 6, 7])
 }
 
-// Four words of each of eight texts. The rows of two texts are exchanged at once, each half by itself, which AVX2 does
-// in one operation.
+// The four words from byte `offset` on of each of eight buffers. Rows are shuffled in pairs, each half by itself, which
+// AVX2 does in one instruction.
 #[inline(always)]
-fn words_of_eight(texts: &[&[u8]], offset: usize) -> State<u32x8>
-    requires enough { 8 ≤ length texts.now }
-    requires within { Have 8 (offset + 16) texts.now }
-    ensures { AreFourWords 8 slice_index texts.now offset result }
+fn words_of_eight(buffers: &[&[u8]], offset: usize) -> HashState<u32x8>
+    requires enough { 8 ≤ length buffers.now }
+    requires within { Have 8 (offset + 16) buffers.now }
+    ensures { AreFourWords 8 slice_index buffers.now offset result }
 {
-    let (a, b) = (pair(texts, 0, offset), pair(texts, 1, offset));
-    let (c, d) = (pair(texts, 2, offset), pair(texts, 3, offset));
+    let (a, b) = (pair(buffers, 0, offset), pair(buffers, 1, offset));
+    let (c, d) = (pair(buffers, 2, offset), pair(buffers, 3, offset));
     let (even_low, even_high) = (a.shuffle(c, LOW_WORDS), a.shuffle(c, HIGH_WORDS));
     let (odd_low, odd_high) = (b.shuffle(d, LOW_WORDS), b.shuffle(d, HIGH_WORDS));
-    State {
+    HashState {
         a: even_low.shuffle(odd_low, LOW_WORDS),
         b: even_low.shuffle(odd_low, HIGH_WORDS),
         c: even_high.shuffle(odd_high, LOW_WORDS),
@@ -113,7 +115,7 @@ fn words_of_eight(texts: &[&[u8]], offset: usize) -> State<u32x8>
     }
 }
 
-// The same vector, where two counts of lanes are one.
+// The same vector for the type checker, if the two numbers of lanes are equal.
 #[inline(always)]
 fn with_lanes<const M: usize, const N: usize>(vector: Simd<u32, M>) -> Simd<u32, N>
     requires { M ≡ N }
@@ -122,26 +124,29 @@ fn with_lanes<const M: usize, const N: usize>(vector: Simd<u32, M>) -> Simd<u32,
     Simd::from_slice(&vector.to_array())
 }
 
-/// Four words of each text, from the offset on.
+/// The four words from byte `offset` on of each of the first N buffers: one vector for each of the four places.
 #[inline(always)]
-pub(crate) fn four_words<const N: usize>(texts: &[&[u8]], offset: usize) -> State<Simd<u32, N>>
-    requires enough { N ≤ length texts.now }
+pub(crate) fn four_words<const N: usize>(
+    buffers: &[&[u8]],
+    offset: usize,
+) -> HashState<Simd<u32, N>>
+    requires enough { N ≤ length buffers.now }
     requires room { offset + 16 < 2 ^ 64 }
-    requires within { Have N (offset + 16) texts.now }
-    ensures { AreFourWords N slice_index texts.now offset result }
+    requires within { Have N (offset + 16) buffers.now }
+    ensures { AreFourWords N slice_index buffers.now offset result }
 {
     if N == 8 {
-        let State { a, b, c, d } = words_of_eight(texts, offset);
+        let HashState { a, b, c, d } = words_of_eight(buffers, offset);
         state_of(with_lanes(a), with_lanes(b), with_lanes(c), with_lanes(d))
     } else if N == 4 {
-        let State { a, b, c, d } = words_of_four(texts, offset);
+        let HashState { a, b, c, d } = words_of_four(buffers, offset);
         state_of(with_lanes(a), with_lanes(b), with_lanes(c), with_lanes(d))
     } else {
         state_of(
-            gathered_words(texts, offset),
-            gathered_words(texts, offset + 4),
-            gathered_words(texts, offset + 8),
-            gathered_words(texts, offset + 12),
+            gathered_words(buffers, offset),
+            gathered_words(buffers, offset + 4),
+            gathered_words(buffers, offset + 8),
+            gathered_words(buffers, offset + 12),
         )
     }
 }

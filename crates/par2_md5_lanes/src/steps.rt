@@ -1,13 +1,14 @@
-//! The 64 steps of a block (RFC 1321, 3.4) on several messages at once.
+//! The 64 steps of a block, in four rounds (RFC 1321, 3.4), on several messages at once. `compressed` does them for one
+//! group of messages, and `both_compressed` for two.
 
 ghost use Rattle.std.specs.Prelude.{◌≡◌, ◌≤◌, ◌<◌, ◌+◌, ℕ, slice_index};
 ghost use Rattle.md5.specs.Md5.{add32, add_state, round, step_constants, step_shifts};
-ghost use Rattle.par2_md5_lanes.specs.Lanes.{lane, AreBehind, GoesOn};
+ghost use Rattle.par2_md5_lanes.specs.Lanes.{lane, HaveHashesAfter, Advances};
 
 use crate::lanes::Lanes;
 use std::alloc::AllocError;
 
-// T, the constants of the steps.
+// The table T (RFC 1321, 3.4).
 const CONSTANTS: [u32; 64] = [
     0xd76aa478, 0xe8c7b756, 0x242070db, 0xc1bdceee, 0xf57c0faf, 0x4787c62a, 0xa8304613, 0xfd469501,
     0x698098d8, 0x8b44f7af, 0xffff5bb1, 0x895cd7be, 0x6b901122, 0xfd987193, 0xa679438e, 0x49b40821,
@@ -19,23 +20,23 @@ const CONSTANTS: [u32; 64] = [
     0x6fa87e4f, 0xfe2ce6e0, 0xa3014314, 0x4e0811a1, 0xf7537e82, 0xbd3af235, 0x2ad7d2bb, 0xeb86d391,
 ];
 
-// The shift of each step.
+// The shift of each step (RFC 1321, 3.4).
 const SHIFTS: [u32; 64] = [
     7, 12, 17, 22, 7, 12, 17, 22, 7, 12, 17, 22, 7, 12, 17, 22, 5, 9, 14, 20, 5, 9, 14, 20, 5, 9,
     14, 20, 5, 9, 14, 20, 4, 11, 16, 23, 4, 11, 16, 23, 4, 11, 16, 23, 4, 11, 16, 23, 6, 10, 15,
     21, 6, 10, 15, 21, 6, 10, 15, 21, 6, 10, 15, 21,
 ];
 
-/// The four variables of several messages, or four words of each.
+/// The variables A, B, C and D of several messages, or four words of each.
 #[derive(Copy)]
-pub(crate) struct State<V> {
+pub(crate) struct HashState<V> {
     pub(crate) a: V,
     pub(crate) b: V,
     pub(crate) c: V,
     pub(crate) d: V,
 }
 
-impl<V: Copy> Clone for State<V> {
+impl<V: Copy> Clone for HashState<V> {
     fn clone(&self) -> Result<Self, AllocError> {
         Ok(*self)
     }
@@ -44,34 +45,34 @@ impl<V: Copy> Clone for State<V> {
 /// The sixteen words of a block of each message.
 pub(crate) type Words<V> = [V; 16];
 
-/// The four variables in a lane.
-pub(crate) fn in_lane<V: Lanes>(state: &State<V>, k: usize) -> [u32; 4]
+/// The variables A, B, C and D of message k, which is in lane k.
+pub(crate) fn in_lane<V: Lanes>(state: &HashState<V>, k: usize) -> [u32; 4]
     requires { k < V.count }
     ensures { result ≡ lane V.at k state.now }
 {
-    let State { a, b, c, d } = *state;
+    let HashState { a, b, c, d } = *state;
     [a.word(k), b.word(k), c.word(k), d.word(k)]
 }
 
-// The sum of a step, as far as it doesn't hang on the step before.
+// The part of a step's sum that does not depend on the step before: A + word + constant.
 #[inline(always)]
-fn early_sum<V: Lanes>(state: State<V>, word: V, constant: u32) -> V
+fn early_sum<V: Lanes>(state: HashState<V>, word: V, constant: u32) -> V
     ensures { (k : ℕ) → k < V.count
         → V.at result k ≡ add32 (add32 (V.at state.a k) (V.at word k)) constant }
 {
     V::plus(V::plus(state.a, word), V::splat(constant))
 }
 
-// The variables after a step, by its sum.
+// The variables after step `t`. `sum` is A + word + constant + round function, before the rotation.
 #[inline(always)]
-fn turned<V: Lanes>(state: State<V>, sum: V, t: usize) -> State<V>
+fn next_state<V: Lanes>(state: HashState<V>, sum: V, t: usize) -> HashState<V>
     requires { t < 64 }
     ensures { (k : ℕ) (f word : ℕ) → k < V.count
         → V.at sum k ≡ add32 (add32 (add32 (V.at state.a k) word) (slice_index step_constants t)) f
         → lane V.at k result ≡ round
         (lane V.at k state) f (slice_index step_constants t) word (slice_index step_shifts t) }
 {
-    State {
+    HashState {
         a: state.d,
         b: V::plus(state.b, V::rotated(sum, SHIFTS[t])),
         c: state.b,
@@ -79,13 +80,14 @@ fn turned<V: Lanes>(state: State<V>, sum: V, t: usize) -> State<V>
     }
 }
 
-// Step t.
+// Step `t` of a block, counted from 0. The round, t / 16, decides the function and the order of the words. `Advances`:
+// if the steps before `t` of a block of these words are done, so are those before `t + 1` afterwards.
 #[inline(always)]
-fn step<V: Lanes>(state: State<V>, words: &Words<V>, t: usize) -> State<V>
+fn step<V: Lanes>(state: HashState<V>, words: &Words<V>, t: usize) -> HashState<V>
     requires { t < 64 }
-    ensures { GoesOn V.count V.at words.now t state (t + 1) result }
+    ensures { Advances V.count V.at words.now t state (t + 1) result }
 {
-    let State { b, c, d, .. } = state;
+    let HashState { b, c, d, .. } = state;
     let constant = CONSTANTS[t];
     let sum = match t / 16 {
         0 => V::plus(early_sum(state, words[t], constant), V::f(b, c, d)),
@@ -99,14 +101,14 @@ fn step<V: Lanes>(state: State<V>, words: &Words<V>, t: usize) -> State<V>
             V::plus_one_and_i(sum, b, c, d)
         }
     };
-    turned(state, sum, t)
+    next_state(state, sum, t)
 }
 
-// Four steps, from step t on.
+// The four steps of a block from step `t` on.
 #[inline(always)]
-fn four_steps<V: Lanes>(state: State<V>, words: &Words<V>, t: usize) -> State<V>
+fn four_steps<V: Lanes>(state: HashState<V>, words: &Words<V>, t: usize) -> HashState<V>
     requires { t + 3 < 64 }
-    ensures { GoesOn V.count V.at words.now t state (t + 4) result }
+    ensures { Advances V.count V.at words.now t state (t + 4) result }
 {
     let state = step(state, words, t);
     let state = step(state, words, t + 1);
@@ -114,13 +116,13 @@ fn four_steps<V: Lanes>(state: State<V>, words: &Words<V>, t: usize) -> State<V>
     step(state, words, t + 3)
 }
 
-// The sums of the variables.
+// Adds the variables from before the block, `state`, to those after its steps: the hash values after the block.
 #[inline(always)]
-fn sums<V: Lanes>(state: State<V>, after: State<V>) -> State<V>
+fn sums<V: Lanes>(state: HashState<V>, after: HashState<V>) -> HashState<V>
     ensures { (k : ℕ) → k < V.count
         → lane V.at k result ≡ add_state (lane V.at k state) (lane V.at k after) }
 {
-    State {
+    HashState {
         a: V::plus(state.a, after.a),
         b: V::plus(state.b, after.b),
         c: V::plus(state.c, after.c),
@@ -128,7 +130,7 @@ fn sums<V: Lanes>(state: State<V>, after: State<V>) -> State<V>
     }
 }
 
-/// The 64 steps of a block, by fours.
+// The 64 steps of a block, four at a time.
 macro_rules! all_steps {
     ($state:ident, $words:ident, $($t:literal)*) => {{
         $(let $state = four_steps($state, $words, $t);)*
@@ -136,7 +138,7 @@ macro_rules! all_steps {
     }};
 }
 
-/// Those of two groups, whose fours take turns.
+// The 64 steps of two groups, which alternate every four steps.
 macro_rules! all_steps_of_both {
     ($a:ident, $a_words:ident, $b:ident, $b_words:ident, $($t:literal)*) => {{
         $(let ($a, $b) = (four_steps($a, $a_words, $t), four_steps($b, $b_words, $t));)*
@@ -144,28 +146,28 @@ macro_rules! all_steps_of_both {
     }};
 }
 
-/// The hash values after a block more.
+/// The hash values after one more block of each message, which has these words.
 #[inline(always)]
-pub(crate) fn compressed<V: Lanes>(state: State<V>, words: &Words<V>) -> State<V>
-    ensures { AreBehind V.count V.at state words.now result }
+pub(crate) fn compressed<V: Lanes>(state: HashState<V>, words: &Words<V>) -> HashState<V>
+    ensures { HaveHashesAfter V.count V.at state words.now result }
 {
     let after = state;
     let after = all_steps!(after, words, 0 4 8 12 16 20 24 28 32 36 40 44 48 52 56 60);
     sums(state, after)
 }
 
-/// Those of two groups, whose steps take turns.
-// Four at a time, a group's variables mostly stay in registers where these are few, and the other group's steps are near
-// enough for the processor to do them in the meantime.
+/// The hash values of two groups after one more block. Their steps alternate.
+// The groups alternate every four steps: a group's variables then mostly stay in registers, even where there are few,
+// and the steps of the other group are close enough to be executed out of order.
 #[inline(always)]
 pub(crate) fn both_compressed<V: Lanes>(
-    low: State<V>,
+    low: HashState<V>,
     low_words: &Words<V>,
-    high: State<V>,
+    high: HashState<V>,
     high_words: &Words<V>,
-) -> (State<V>, State<V>)
-    ensures low { AreBehind V.count V.at low low_words.now result.0 }
-    ensures high { AreBehind V.count V.at high high_words.now result.1 }
+) -> (HashState<V>, HashState<V>)
+    ensures low { HaveHashesAfter V.count V.at low low_words.now result.0 }
+    ensures high { HaveHashesAfter V.count V.at high high_words.now result.1 }
 {
     let (a, b) = (low, high);
     let (a, b) = all_steps_of_both!(

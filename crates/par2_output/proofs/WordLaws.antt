@@ -7,7 +7,7 @@ word_at-get_or [] k = refl
 word_at-get_or (word ∷ words) zero = refl
 word_at-get_or (word ∷ words) (suc k) = word_at-get_or words k
 
--- past place 0 stand the further words
+-- the further words are after place 0
 further : (base : List ℕ) (words : List (List ℕ)) (place : ℕ) → (place ≡ 0 → ⊥) → word_at words (place - 1) ≡ word_at (base ∷ words) place
 further base words zero past = absurd (past refl)
 further base words (suc k) past = let e : suc k - 1 ≡ k = omega arith in ap (word_at words) e

@@ -1,4 +1,4 @@
--- What a printer has done once a text was written to it.
+-- The state of a printer after bytes were written to it.
 use Rattle.std.specs.Prelude.{◌≡◌, ◌<◌, ℕ, List, Option, Result, true}
 use Rattle.std.specs.Io.KnownBytes.{Appends}
 use Rattle.par2_spec.specs.Writing as writing
@@ -8,7 +8,7 @@ use Rattle.par2_output.specs.declared.printer.Printer.{Printer}
 abbrev pub writer_of : {W : Type 0} → Printer W → W
 writer_of printer = printer.writer
 
--- how often it has failed
+-- the number of its failures
 abbrev pub failures_of : {W : Type 0} → Printer W → ℕ
 failures_of printer = printer.failures.count
 
@@ -16,23 +16,23 @@ failures_of printer = printer.failures.count
 abbrev pub IsFlushed : {W : Type 0} → Printer W → Type 0
 IsFlushed printer = printer.is_flushed ≡ true
 
--- what its writer has taken, and how often it has failed
+-- a printer as the definitions see it: the bytes that its writer has taken, and the number of failures
 abbrev pub seen : {W : Type 0} → (W → Option (List ℕ)) → Printer W → writing.Writer
 seen contents printer = record { taken = contents (writer_of printer); failures = failures_of printer }
 
--- the writer took the text, and has not failed
-abbrev pub TookAll : {W : Type 0} → (W → Option (List ℕ)) → Printer W → Printer W → List ℕ → Type 0
-TookAll contents old new text = writing.TookAll (seen contents old) (seen contents new) text
+-- the writer took all bytes and has not failed
+abbrev pub PrinterTookAll : {W : Type 0} → (W → Option (List ℕ)) → Printer W → Printer W → List ℕ → Type 0
+PrinterTookAll contents old new bytes = writing.TookAll (seen contents old) (seen contents new) bytes
 
--- it took a part of the text from its beginning, and has failed
-abbrev pub TookPart : {W : Type 0} → (W → Option (List ℕ)) → Printer W → Printer W → List ℕ → Type 0
-TookPart contents old new text = writing.TookPart (seen contents old) (seen contents new) text
+-- the writer took a prefix of the bytes and has failed
+abbrev pub PrinterTookPart : {W : Type 0} → (W → Option (List ℕ)) → Printer W → Printer W → List ℕ → Type 0
+PrinterTookPart contents old new bytes = writing.TookPart (seen contents old) (seen contents new) bytes
 
--- the writer took the text, and failed to pass it on
+-- the writer took all bytes but failed to pass them on
 abbrev pub TookInVain : {W : Type 0} → (W → Option (List ℕ)) → Printer W → Printer W → List ℕ → Type 0
-TookInVain contents old new text =
-    Appends (contents (writer_of old)) (contents (writer_of new)) text × (failures_of old < failures_of new)
+TookInVain contents old new bytes =
+    Appends (contents (writer_of old)) (contents (writer_of new)) bytes × (failures_of old < failures_of new)
 
--- a text was written, or only a part of it, since the writer failed
-abbrev pub Wrote : {W T E : Type 0} → (W → Option (List ℕ)) → Printer W → Printer W → List ℕ → Result T E → Type 0
-Wrote contents old new text r = writing.Wrote (seen contents old) (seen contents new) text r
+-- a call that writes these bytes: Ok if the writer took all and did not fail, an error if it failed and took a prefix
+abbrev pub PrinterWrote : {W T E : Type 0} → (W → Option (List ℕ)) → Printer W → Printer W → List ℕ → Result T E → Type 0
+PrinterWrote contents old new bytes r = writing.Wrote (seen contents old) (seen contents new) bytes r

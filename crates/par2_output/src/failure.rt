@@ -1,15 +1,17 @@
-//! The line of a failure.
+//! The line of a failure: `write_failure` chooses the reason, and `write_fault` does so for a refused command and adds
+//! the name (`word`) or the numbers that complete it.
 ghost use Rattle.std.specs.Prelude.{◌≡◌, ◌++◌, ◌∷◌, codes, map, string_bytes};
-ghost use Rattle.par2_spec.specs.Texts.{error_of, fault_text, line, word_at};
+ghost use Rattle.par2_spec.specs.Output.{error_of, fault_line, line, word_at};
 ghost use Rattle.par2_output.specs.Views.{words_given};
-ghost use Rattle.par2_output.specs.Writing.{Wrote};
+ghost use Rattle.par2_output.specs.Writing.{PrinterWrote};
 
 use crate::printer::{Printer, Written, write_line};
 use crate::report::write_lost;
 use par2_spec::{Action, Command, Failure, Fault};
 use std::io::Write;
 
-// The word at a place: the base at 0, and then the further names.
+// The name at a place of a command with these names: the base at place 0, and the k-th further name at place k. Empty
+// if there is none.
 fn listed<'a>(base: &'a str, further: &'a [String], place: usize) -> &'a str
     ensures { result.now ≡ word_at (base.now ∷ map string_bytes further.now) place }
 {
@@ -22,7 +24,8 @@ fn listed<'a>(base: &'a str, further: &'a [String], place: usize) -> &'a str
     }
 }
 
-// The word at a place of a command, and no text where it has none there.
+// The name at a place of a command, which a fault refers to: 0 is the base, k the k-th further name. Empty if there is
+// none.
 fn word<'a>(command: Option<&'a Command>, place: usize) -> &'a str
     ensures { result.now ≡ word_at (words_given command.entry) place }
 {
@@ -35,26 +38,27 @@ fn word<'a>(command: Option<&'a Command>, place: usize) -> &'a str
     }
 }
 
-// Writes `par2: ` and a reason as a line.
+// Writes `par2: ` and the reason, as a line, for a failure that names no word.
 fn write_reason<W: Write>(out: &mut Printer<W>, reason: &str) -> Written
-    ensures { Wrote W.contents out.old out.new (line (codes "par2: " ++ reason.now)) result }
+    ensures { PrinterWrote W.contents out.old out.new (line (codes "par2: " ++ reason.now)) result }
 {
     write_line(out, &["par2: ", reason])
 }
 
-// Writes `par2: ` and a reason with the word of which it speaks, as a line.
+// Writes `par2: `, the reason and the word that it is about, as a line.
 fn write_reason_with<W: Write>(out: &mut Printer<W>, reason: &str, word: &str) -> Written
-    ensures { Wrote W.contents out.old out.new
+    ensures { PrinterWrote W.contents out.old out.new
         (line (codes "par2: " ++ reason.now ++ word.now)) result }
 {
     write_line(out, &["par2: ", reason, word])
 }
 
-// Writes the line of a refusal.
-#[tactic(auto, unfolding(par2_spec::specs::Texts::fault_text))]
+// Writes the line of a refused command: the reason of the fault, and the name at its place, or the numbers of lost
+// slices. `command` is the command that was read.
+#[tactic(auto, unfolding(par2_spec::specs::Output::fault_line))]
 fn write_fault<W: Write>(out: &mut Printer<W>, command: Option<&Command>, fault: Fault) -> Written
-    ensures { Wrote W.contents out.old out.new
-        (line (codes "par2: " ++ fault_text (words_given command.entry) fault)) result }
+    ensures { PrinterWrote W.contents out.old out.new
+        (line (codes "par2: " ++ fault_line (words_given command.entry) fault)) result }
 {
     let reason = fault.reason();
     match fault {
@@ -74,15 +78,15 @@ const USAGE: &str =
 
 /// Writes the line of a failure: `par2: `, why the run failed, and a newline.
 ///
-/// A fault that has a place names the word there as it was given, place 0 being the base. `command` is the one
-/// that was read, if one was.
-#[tactic(auto, unfolding(par2_spec::specs::Texts::error_of, par2_spec::specs::Texts::failure_text))]
+/// If the fault has a place, the line ends with the word that was given there; place 0 is the base. `command` is the
+/// command that was read, if there was one.
+#[tactic(auto, unfolding(par2_spec::specs::Output::error_of, par2_spec::specs::Output::failure_line))]
 pub fn write_failure<W: Write>(
     out: &mut Printer<W>,
     command: Option<&Command>,
     failure: Failure,
 ) -> Written
-    ensures { Wrote W.contents out.old out.new
+    ensures { PrinterWrote W.contents out.old out.new
         (error_of (words_given command.entry) failure) result }
 {
     match failure {

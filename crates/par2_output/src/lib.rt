@@ -1,3 +1,6 @@
+//! The lines that the program prints: reports, steps, notes and failures, written through a [`Printer`] that counts its
+//! writer's failures. par2_tool prints with it. It must not know sessions and stores: it gets names, numbers and
+//! verdicts.
 #![tactic(auto)]
 
 mod failure;

@@ -1,9 +1,10 @@
-//! Writers whose failures are counted, and texts on them.
+//! Writers whose failures are counted, and writing lines to them. `write_line` writes each string with `write_bytes`,
+//! which calls `Printer::write` until all bytes are taken. A run flushes once, at its end.
 ghost use Rattle.std.specs.Prelude.{◌≡◌, ◌+◌, ◌<◌, ◌≤◌, [], length, take, IfOk, OnOk, OnErr};
 ghost use Rattle.std.specs.Io.KnownBytes.{Appends};
 ghost use Rattle.std.specs.List.{flat_map};
-ghost use Rattle.par2_spec.specs.Texts.{line};
-ghost use Rattle.par2_output.specs.Writing.{IsFlushed, Wrote, failures_of, writer_of};
+ghost use Rattle.par2_spec.specs.Output.{line};
+ghost use Rattle.par2_output.specs.Writing.{IsFlushed, PrinterWrote, failures_of, writer_of};
 
 use par2_disk::Count;
 use std::io::{ErrorKind, Write};
@@ -14,10 +15,10 @@ use thiserror::Error;
 #[error("a text could not be written")]
 pub struct WriteFault;
 
-/// What comes of writing a text.
+/// The result of writing bytes or a line.
 pub type Written = Result<(), WriteFault>;
 
-/// A writer, and how often it has failed, which contracts alone see.
+/// A writer and the number of its failures, which only contracts see.
 #[derive(Drop)]
 pub struct Printer<W: Write> {
     writer: W,
@@ -27,7 +28,7 @@ pub struct Printer<W: Write> {
 }
 
 impl<W: Write> Printer<W> {
-    /// The writer has not failed yet.
+    /// A printer whose writer has not failed yet.
     pub fn new(writer: W) -> Self
         ensures writer { writer_of result ≡ writer }
         ensures failures { failures_of result ≡ 0 }
@@ -39,14 +40,14 @@ impl<W: Write> Printer<W> {
         }
     }
 
-    /// The writer, as it stands.
+    /// Returns the writer without flushing it. The program doesn't call it; tests look at what a writer took.
     pub fn into_inner(self) -> W
         ensures { result ≡ writer_of self }
     {
         self.writer
     }
 
-    // Counts a failure.
+    // Counts a failure of the writer, and returns the fault to report.
     fn fault(&mut self) -> WriteFault
         ensures writer { writer_of self.new ≡ writer_of self.old }
         ensures failures { failures_of self.new ≡ failures_of self.old + 1 }
@@ -55,7 +56,8 @@ impl<W: Write> Printer<W> {
         WriteFault
     }
 
-    // Counts a failure after this many interruptions in a row. There are no fewer.
+    // Counts a failure after `u64::MAX` interrupted calls in a row, and returns the fault to report. The `requires`
+    // rules out giving up earlier.
     fn give_up(&mut self, interruptions: u64) -> WriteFault
         requires { interruptions ≡ u64.MAX }
         ensures writer { writer_of self.new ≡ writer_of self.old }
@@ -64,15 +66,18 @@ impl<W: Write> Printer<W> {
         self.fault()
     }
 
-    // The writer takes some of the bytes: how many. A call that was interrupted is made again; to fail otherwise, or to
-    // take none of the bytes, counts as a failure.
+    // One step of `write_bytes`: writes some of the bytes and returns how many. An interrupted call is made again. Any
+    // other error counts as a failure, and so does a writer that takes no byte.
     fn write(&mut self, bytes: &[u8]) -> Result<usize, WriteFault>
+        // A success takes at least one byte, and exactly the first `n` of them.
         ensures some { IfOk result (λ n. 0 < n) }
         ensures within { IfOk result (λ n. n ≤ length bytes.now) }
         ensures taken { IfOk result (λ n. Appends (W.contents (writer_of self.old))
             (W.contents (writer_of self.new)) (take n bytes.now)) }
+        // A failure takes none.
         ensures none { OnErr result (Appends (W.contents (writer_of self.old))
             (W.contents (writer_of self.new)) []) }
+        // Failures are counted, and only failures.
         ensures steady { OnOk result (failures_of self.new ≡ failures_of self.old) }
         ensures cause { OnErr result (failures_of self.old < failures_of self.new) }
     {
@@ -89,8 +94,8 @@ impl<W: Write> Printer<W> {
         Err(self.give_up(interruptions))
     }
 
-    /// Has the writer pass on all bytes that it holds back. A call that was interrupted is made again; to fail otherwise
-    /// counts as a failure.
+    /// Flushes the writer, as the last step of printing. An interrupted call is made again; any other error counts as a
+    /// failure.
     pub fn flush(&mut self) -> Written
         ensures bytes { Appends (W.contents (writer_of self.old))
             (W.contents (writer_of self.new)) [] }
@@ -113,11 +118,11 @@ impl<W: Write> Printer<W> {
     }
 }
 
-// Writes the bytes, by as many calls as it takes.
-fn write_bytes<W: Write>(out: &mut Printer<W>, text: &[u8]) -> Written
-    ensures { Wrote W.contents out.old out.new text.now result }
+// Writes all bytes, with as many calls as that needs. After a fault the writer has taken a prefix of them.
+fn write_bytes<W: Write>(out: &mut Printer<W>, bytes: &[u8]) -> Written
+    ensures { PrinterWrote W.contents out.old out.new bytes.now result }
 {
-    let mut rest = text;
+    let mut rest = bytes;
     while !rest.is_empty() {
         match out.write(rest) {
             Ok(n) => rest = &rest[n..],
@@ -127,13 +132,13 @@ fn write_bytes<W: Write>(out: &mut Printer<W>, text: &[u8]) -> Written
     Ok(())
 }
 
-/// Writes the texts, one after the other, as a line.
-pub(crate) fn write_line<W: Write>(out: &mut Printer<W>, texts: &[&str]) -> Written
-    ensures { let text = flat_map (λ text. text.now) texts.now in
-        Wrote W.contents out.old out.new (line text) result }
+/// Writes the strings, one after the other, and a newline. Each line that the program prints is written with it.
+pub(crate) fn write_line<W: Write>(out: &mut Printer<W>, strings: &[&str]) -> Written
+    ensures { let string = flat_map (λ string. string.now) strings.now in
+        PrinterWrote W.contents out.old out.new (line string) result }
 {
-    for text in texts {
-        write_bytes(out, text.as_bytes())?;
+    for string in strings {
+        write_bytes(out, string.as_bytes())?;
     }
     write_bytes(out, b"\n")
 }

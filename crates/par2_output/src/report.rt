@@ -1,17 +1,18 @@
-//! The lines of a report, and of what a command has done.
+//! The lines of a verify's report (`write_set`, `write_target` for each target, `write_verdict`) and of any other
+//! accepted command (`write_note`, `write_step` for each step, `write_done`). `par2_tool` calls them in this order.
 ghost use Rattle.std.specs.Prelude.{◌≡◌, ◌++◌, codes, decimal};
 ghost use Rattle.hex.specs.Hex.{encode_lower};
 ghost use Rattle.par2_spec.specs.Reports.{Report};
-ghost use Rattle.par2_spec.specs.Texts.{line, lost_text, note_text, of_all, step_line, target_line, verdict_text};
+ghost use Rattle.par2_spec.specs.Output.{line, lost_line, note_line, of_all, step_line, target_line, verdict_words};
 ghost use Rattle.par2_output.specs.Views.{step_shown, target_shown};
-ghost use Rattle.par2_output.specs.Writing.{Wrote};
+ghost use Rattle.par2_output.specs.Writing.{PrinterWrote};
 
 use crate::printer::{Printer, Written, write_line};
 use itoa::Buffer;
 use par2_spec::Verdict;
 use std::io::Write;
 
-/// How it is with a target's file.
+/// The state of a target's file.
 #[derive(Clone, Copy)]
 pub enum PrintedState<'a> {
     Complete,
@@ -20,19 +21,19 @@ pub enum PrintedState<'a> {
     Missing,
 }
 
-/// A target of a report.
+/// A target in a report.
 #[derive(Clone, Copy)]
 pub struct PrintedTarget<'a> {
     pub name: &'a str,
     pub state: PrintedState<'a>,
-    /// How many of its slices are known.
+    /// How many of its `total` slices are known.
     pub found: usize,
     pub total: usize,
 }
 
-/// Writes `set` and the identifier of the set in hexadecimal digits, as a line.
+/// Writes `set` and the Recovery Set ID in hexadecimal digits, as the first line of a report.
 pub fn write_set<W: Write>(out: &mut Printer<W>, set_id: &[u8; 16]) -> Written
-    ensures { Wrote W.contents out.old out.new
+    ensures { PrinterWrote W.contents out.old out.new
         (line (codes "set " ++ encode_lower set_id.now)) result }
 {
     let mut digits = [0; 32];
@@ -45,8 +46,10 @@ pub fn write_set<W: Write>(out: &mut Printer<W>, set_id: &[u8; 16]) -> Written
     }
 }
 
+// Writes the line of a damaged or missing target: `state`, which ends with a space, the name, and how many of its
+// slices are known and how many it has, as `3/8`.
 fn write_counts<W: Write>(out: &mut Printer<W>, state: &str, target: PrintedTarget<'_>) -> Written
-    ensures { Wrote W.contents out.old out.new (line (state.now
+    ensures { PrinterWrote W.contents out.old out.new (line (state.now
         ++ target.entry.name.now ++ codes " " ++ of_all (target_shown target.entry))) result }
 {
     let mut found = Buffer::new();
@@ -55,9 +58,10 @@ fn write_counts<W: Write>(out: &mut Printer<W>, state: &str, target: PrintedTarg
     write_line(out, &[state, target.name, " ", found, "/", total])
 }
 
-/// Writes the line of a target.
+/// Writes the line of a target: its state, its name, and its other name if it is misplaced, or its numbers of slices.
 pub fn write_target<W: Write>(out: &mut Printer<W>, target: PrintedTarget<'_>) -> Written
-    ensures { Wrote W.contents out.old out.new (target_line (target_shown target.entry)) result }
+    ensures { PrinterWrote W.contents out.old out.new
+        (target_line (target_shown target.entry)) result }
 {
     match target.state {
         PrintedState::Complete => write_line(out, &["complete ", target.name]),
@@ -69,14 +73,16 @@ pub fn write_target<W: Write>(out: &mut Printer<W>, target: PrintedTarget<'_>) -
     }
 }
 
-// Writes that so many slices are lost, and that so many recovery slices are of use, as a line that starts like this.
+// Writes `start`, the number of lost slices and the rank of the recovery slices for them, as a line: of a verdict, or
+// of a refused repair. `lost_line` has no newline; `line` adds it.
 pub(crate) fn write_lost<W: Write>(
     out: &mut Printer<W>,
     start: &str,
     lost: usize,
     rank: usize,
 ) -> Written
-    ensures { Wrote W.contents out.old out.new (line (start.now ++ lost_text lost rank)) result }
+    ensures { PrinterWrote W.contents out.old out.new
+        (line (start.now ++ lost_line lost rank)) result }
 {
     let mut slices = Buffer::new();
     let mut kept = Buffer::new();
@@ -84,7 +90,7 @@ pub(crate) fn write_lost<W: Write>(
     write_line(out, &[start, "lost ", lost, ", rank ", rank])
 }
 
-/// Writes what is concluded of a set with so many lost slices and of this rank, as a line.
+/// Writes the verdict on a set with this number of lost slices and this rank, as the last line of a report.
 pub fn write_verdict<W: Write>(
     out: &mut Printer<W>,
     verdict: Verdict,
@@ -92,8 +98,8 @@ pub fn write_verdict<W: Write>(
     rank: usize,
 ) -> Written
     ensures { (r : Report) → r.lost ≡ lost → r.rank ≡ rank
-        → Wrote W.contents out.old out.new
-        (line (codes "result: " ++ verdict_text r verdict)) result }
+        → PrinterWrote W.contents out.old out.new
+        (line (codes "result: " ++ verdict_words r verdict)) result }
 {
     match verdict {
         Verdict::Complete => write_line(out, &["result: ", "complete"]),
@@ -102,7 +108,7 @@ pub fn write_verdict<W: Write>(
     }
 }
 
-/// A change without its bytes, with the names that it has.
+/// A change without its bytes: only its names.
 #[derive(Clone, Copy, PartialEq, Eq)]
 pub enum PrintedStep<'a> {
     Write(&'a str),
@@ -111,9 +117,9 @@ pub enum PrintedStep<'a> {
     Remove(&'a str),
 }
 
-/// Writes `note: history dropped` as a line where it was.
+/// Writes the line `note: history dropped` if opening dropped the history, and nothing otherwise.
 pub fn write_note<W: Write>(out: &mut Printer<W>, dropped: bool) -> Written
-    ensures { Wrote W.contents out.old out.new (note_text dropped) result }
+    ensures { PrinterWrote W.contents out.old out.new (note_line dropped) result }
 {
     if dropped {
         write_line(out, &["note: history dropped"])
@@ -122,9 +128,9 @@ pub fn write_note<W: Write>(out: &mut Printer<W>, dropped: bool) -> Written
     }
 }
 
-/// Writes the line of a step.
+/// Writes the line of a step: its kind, and its one or two names.
 pub fn write_step<W: Write>(out: &mut Printer<W>, step: PrintedStep<'_>) -> Written
-    ensures { Wrote W.contents out.old out.new (step_line (step_shown step.entry)) result }
+    ensures { PrinterWrote W.contents out.old out.new (step_line (step_shown step.entry)) result }
 {
     match step {
         PrintedStep::Write(name) => write_line(out, &["write ", name]),
@@ -134,9 +140,10 @@ pub fn write_step<W: Write>(out: &mut Printer<W>, step: PrintedStep<'_>) -> Writ
     }
 }
 
-/// Writes `done: K` as a line.
+/// Writes `done: K` as the last line after the steps, where K is their number.
 pub fn write_done<W: Write>(out: &mut Printer<W>, count: usize) -> Written
-    ensures { Wrote W.contents out.old out.new (line (codes "done: " ++ decimal count)) result }
+    ensures { PrinterWrote W.contents out.old out.new
+        (line (codes "done: " ++ decimal count)) result }
 {
     let mut buffer = Buffer::new();
     write_line(out, &["done: ", buffer.format(count)])

@@ -8,7 +8,7 @@ use Rattle.par2_spec.proofs.NamesLaws.{same_either_way}
 
 -- ---- sixteen bytes and their number
 
--- the number that n bytes spell, the lowest first
+-- the little-endian number of n bytes
 abbrev number : (ℕ → ℕ) → ℕ → ℕ
 number bytes zero = 0
 number bytes (suc n) = bytes 0 + 256 * number (λ k. bytes (suc k)) n
@@ -33,7 +33,7 @@ pub same_ids : (xs ys : List ℕ) → length xs ≡ 16 → length ys ≡ 16 → 
 same_ids xs ys l m p q is =
     ext_get_or 0 xs ys (l ∙ sym m) (λ k low. same_bytes (λ i. get_or xs i 0) (λ i. get_or ys i 0) 16 p q (sym (number_16 xs) ∙ is ∙ number_16 ys) k (omega (arith, low, l)))
 
--- ---- what is sorted rises where no two neighbours are equal
+-- ---- a sorted list without equal neighbours increases strictly
 
 pub rises_more : {X : Type 0} (n : X → ℕ) (xs : List X) (i : ℕ) (a b : X) → 0 < i → i < length xs → IsNonDecreasingBy n xs
     → AllAdjacentBelow (λ x y. n x < n y) xs i → a ≡ get_or xs (i - 1) a → b ≡ get_or xs i b → n a ≢ n b → AllAdjacentBelow (λ x y. n x < n y) xs (i + 1)
@@ -45,9 +45,9 @@ rises_more n xs i a b above within up inv at_a at_b differ =
     let order : n (get_or xs (i - 1) d) ≤ n (get_or xs i d) = up (i - 1) i d (omega arith) within in
     omega (arith, first, second, order, differ))
 
--- ---- what rises is distinct
+-- ---- a strictly increasing list is distinct
 
--- what rises by a number of a key has distinct keys
+-- a list that increases strictly by a number of its keys has distinct keys
 keys_differ : {X : Type 0} (key : X → List ℕ) (m : List ℕ → ℕ) (xs : List X) → IsStrictlyIncreasing (map (λ x. m (key x)) xs) → AllPairs (λ a b. a ≢ b) (map key xs)
 keys_differ key m [] up i j d before within same = absurd (omega arith)
 keys_differ key m (x ∷ xs) up i j d before within same =
@@ -66,7 +66,7 @@ distinct_keys key m xs ys moved up =
     IsDistinct-IsPermutation bytes_eq same_either_way (map key ys) (map key xs) (IsPermutation-sym _ _ (IsPermutation-map key xs ys moved))
     (IsDistinct-from_AllPairs bytes_eq-Decides (map key ys) (keys_differ key m ys up))
 
--- what was moved has distinct keys as before
+-- a permutation of distinct keys is distinct
 pub moved_distinct : {X : Type 0} (key : X → List ℕ) (xs ys : List X) → IsPermutation xs ys → IsDistinct bytes_eq (map key xs) → IsDistinct bytes_eq (map key ys)
 moved_distinct key xs ys moved = IsDistinct-IsPermutation bytes_eq same_either_way (map key xs) (map key ys) (IsPermutation-map key xs ys moved)
 

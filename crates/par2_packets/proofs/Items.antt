@@ -17,7 +17,7 @@ at_range f n k lt =
     slice_get-get_or (map f (range_with_len 0 n)) k (f 0) (let size : length (map f (range_with_len 0 n)) ≡ n = length-map-range_with_len f 0 n in omega arith)
     ∙ ap (λ x. Some x) (get_or-map-range_with_len f 0 n k k (f 0) lt (let e : 0 + k ≡ k = omega arith in e))
 
--- the parts of a pair, where it lies
+-- the parts of a pair of checksums, in place
 pair_parts : (body : List ℕ) (o : ℕ) → (take 16 (bytes_at o 20 body) ≡ bytes_at o 16 body) × (u32_at 16 (bytes_at o 20 body) ≡ u32_at (o + 16) body)
 unfolding u32_at
 pair_parts body o =
@@ -35,7 +35,7 @@ pair_there body k lt =
     ∙ ap (λ (x : List ℕ). Some (let p : Pair = (x, u32_at 16 (bytes_at (16 + 20 * k) 20 body)) in p)) parts.0
     ∙ ap (λ (x : ℕ). Some (let p : Pair = (bytes_at (16 + 20 * k) 16 body, x) in p)) parts.1
 
--- ---- the same of what a view gives, whose body this is
+-- ---- the same for the view of a body
 
 pub id_fits : (main : MainBody) (body : List ℕ) (k : ℕ) → main_said body ≡ main → 12 + 16 * u32_at 8 body ≤ length body → k < length main.ids → 12 + 16 * k + 16 ≤ length body
 id_fits main body k is room lt =

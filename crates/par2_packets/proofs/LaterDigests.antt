@@ -1,22 +1,22 @@
--- Recovery packets, whose MD5s are put in later, and what stands before their slices.
+-- Recovery packets whose MD5s are filled in later, and the bytes before their slices.
 use Rattle.par2_packets.proofs.Common.{◌≡◌, ℕ, ◌+◌, ◌-◌, ◌*◌, ◌<◌, ◌≤◌, List, [], ◌++◌, length, take, drop, replicate, refl, sym, ap, ap₂, ◌∙◌, subst, append_assoc, append-nil, arith, length-append, w32, w64, to_le_bytes, length-replicate, drop-drop, drop-take, md5, magic, type_of, digest_input, bytes_at, packet, overwritten, ArePieces, changed_below, recovery_packet, digested, digest_put, AreDigested, undigested}
 use Rattle.par2_spec.specs.declared.Kind.TheVariants.{Recovery}
 use Rattle.md5.proofs.StandardFacts.{length-md5}
 use Rattle.par2_packets.proofs.Parts.{regrouped}
 use Rattle.par2_packets.proofs.Pieces.{overwritten_front, overwritten_behind, drop_behind, length-overwritten, piece_at, from_on, none_changed, next_changed, all_changed, same_pieces}
 
--- the parts after a text are the text and the packet
-pub undigested_in_parts : (text id : List ℕ) (e size : ℕ) (b c d out : List ℕ) → b ≡ text ++ (magic ++ (to_le_bytes w64 (68 + size) ++ []))
+-- the buffer with the parts appended is the buffer with the packet appended
+pub undigested_in_parts : (bytes id : List ℕ) (e size : ℕ) (b c d out : List ℕ) → b ≡ bytes ++ (magic ++ (to_le_bytes w64 (68 + size) ++ []))
     → c ≡ b ++ (replicate 16 0 ++ (id ++ (type_of Recovery ++ []))) → d ≡ c ++ to_le_bytes w32 e → out ≡ d ++ replicate size 0
-    → out ≡ text ++ undigested id e (replicate size 0)
+    → out ≡ bytes ++ undigested id e (replicate size 0)
 unfolding undigested
-undigested_in_parts text id e size b c d out is_b is_c is_d is =
+undigested_in_parts bytes id e size b c d out is_b is_c is_d is =
     let zeros : List ℕ = replicate size 0 in
     let claim = to_le_bytes w64 (68 + size) in
     let after = λ (xs : List ℕ). ((xs ++ (replicate 16 0 ++ (id ++ (type_of Recovery ++ [])))) ++ to_le_bytes w32 e) ++ zeros in
     is ∙ ap (λ (xs : List ℕ). xs ++ zeros) (is_d ∙ ap (λ (xs : List ℕ). xs ++ to_le_bytes w32 e) is_c) ∙ ap after is_b
-    ∙ regrouped text magic claim (replicate 16 0) id (type_of Recovery) (to_le_bytes w32 e) zeros
-    ∙ ap (λ (n : ℕ). text ++ (magic ++ to_le_bytes w64 (68 + n) ++ replicate 16 0 ++ (id ++ type_of Recovery ++ (to_le_bytes w32 e ++ zeros)))) (sym (length-replicate {A = ℕ} size 0))
+    ∙ regrouped bytes magic claim (replicate 16 0) id (type_of Recovery) (to_le_bytes w32 e) zeros
+    ∙ ap (λ (n : ℕ). bytes ++ (magic ++ to_le_bytes w64 (68 + n) ++ replicate 16 0 ++ (id ++ type_of Recovery ++ (to_le_bytes w32 e ++ zeros)))) (sym (length-replicate {A = ℕ} size 0))
 
 pub length-undigested : (id : List ℕ) (e : ℕ) (slice : List ℕ) → length id ≡ 16 → length (undigested id e slice) ≡ 68 + length slice
 unfolding undigested
@@ -26,7 +26,7 @@ length-undigested id e slice sixteen =
     ∙ (let a = length-append id (type_of Recovery) in let b = length-append (to_le_bytes w32 e) slice in omega (arith, sixteen, a, b)) in
     length-append (magic ++ to_le_bytes w64 (68 + length slice) ++ replicate 16 0) (digest_input (recovery_packet id e slice)) ∙ omega (arith, input)
 
--- with its MD5 it is the packet
+-- with its MD5 filled in it is the packet
 pub digest_put_into : (id : List ℕ) (e : ℕ) (slice : List ℕ) → digest_put (undigested id e slice) ≡ digested id e slice
 unfolding undigested packet
 digest_put_into id e slice =
@@ -46,13 +46,13 @@ digest_put_into id e slice =
     whole : (d : List ℕ) → length d ≡ 16 → overwritten 0 d (replicate 16 0) ≡ d
     whole d e = ap (λ n. d ++ drop n (replicate 16 0)) (let f : 0 + length d ≡ 16 = omega (arith, e) in f) ∙ append-nil d
 
--- what follows the first bytes of a packet in a text
-pub part_from : (k m at : ℕ) (text : List ℕ) → at ≤ m → take ((k + 1) * m - (k * m + at)) (drop (k * m + at) text) ≡ drop at (take m (drop (k * m) text))
-part_from k m at text within =
-    ap₂ (λ (n : ℕ) (xs : List ℕ). take n xs) (let e : (k + 1) * m - (k * m + at) ≡ m - at = omega arith in e) (sym (drop-drop at (k * m) text))
-    ∙ sym (drop-take at (m - at) (drop (k * m) text)) ∙ ap (λ n. drop at (take n (drop (k * m) text))) (let e : at + (m - at) ≡ m = omega (arith, within) in e)
+-- the bytes after the first ones of a packet in a buffer
+pub part_from : (k m at : ℕ) (bytes : List ℕ) → at ≤ m → take ((k + 1) * m - (k * m + at)) (drop (k * m + at) bytes) ≡ drop at (take m (drop (k * m) bytes))
+part_from k m at bytes within =
+    ap₂ (λ (n : ℕ) (xs : List ℕ). take n xs) (let e : (k + 1) * m - (k * m + at) ≡ m - at = omega arith in e) (sym (drop-drop at (k * m) bytes))
+    ∙ sym (drop-take at (m - at) (drop (k * m) bytes)) ∙ ap (λ n. drop at (take n (drop (k * m) bytes))) (let e : at + (m - at) ≡ m = omega (arith, within) in e)
 
--- ---- MD5s that are put in one after the other
+-- ---- MD5s that are filled in one after the other
 
 put_sizes : (m : ℕ) (packet : ℕ → List ℕ) → 32 ≤ m → ((k : ℕ) → length (packet k) ≡ m) → (k : ℕ) → length (digest_put (packet k)) ≡ m
 put_sizes m packet head sizes k =
@@ -74,7 +74,7 @@ digested_next m first k old now new d head so_far is written packet e n sizes wi
     let sixteen : length d ≡ 16 = ap length its ∙ length-md5 (drop 32 (packet (e + j))) in
     let next : j + 1 ≡ first + (k + 1) = omega arith in
     subst (λ b. ArePieces m (changed_below (e + b) put packet) e n new) next
-    (subst (λ (text : List ℕ). ArePieces m (changed_below (e + (j + 1)) put packet) e n text) (sym written)
+    (subst (λ (bytes : List ℕ). ArePieces m (changed_below (e + (j + 1)) put packet) e n bytes) (sym written)
     (next_changed m put packet e n j 16 (j * m + 16) d now (put_sizes m packet head sizes) sizes low refl (omega (arith, sixteen, head))
     (ap (λ (xs : List ℕ). overwritten 16 xs (packet (e + j))) its) (so_far packet e n sizes (omega (arith, within)) pieces)))
 
@@ -97,9 +97,9 @@ all_digested m n old new head done id first slice pieces =
     (done packet first n pieces.sizes (omega arith)
     (subst (λ b. ArePieces m (changed_below b put packet) first n old) start (none_changed m put packet first n old sizes pieces))))
 
--- ---- what stands before a packet's slice
+-- ---- the bytes before a packet's slice
 
--- the bytes of a packet before its slice, which has so many
+-- the bytes of a packet before its slice, which has `size` bytes
 abbrev pub head_of : (id : List ℕ) (e size : ℕ) → List ℕ
 head_of id e size = (magic ++ to_le_bytes w64 (68 + size) ++ replicate 16 0) ++ ((id ++ type_of Recovery) ++ to_le_bytes w32 e)
 

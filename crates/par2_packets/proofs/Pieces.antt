@@ -1,7 +1,7 @@
--- Pieces of equal length, one after the other: which bytes are those of a piece, and what is written into one.
+-- Pieces of equal length, one after the other: the bytes of each, and writes into one.
 use Rattle.par2_packets.proofs.Common.{◌≡◌, ◌≢◌, ℕ, zero, suc, ◌+◌, ◌*◌, ◌<◌, ◌≤◌, List, [], ◌∷◌, ◌++◌, length, take, drop, inl, inr, refl, sym, ap, ap₂, ◌∙◌, subst, arith, append_assoc, length-append, mul-le-mul_right, flat_map, range_with_len, cases_lt, cond_below, cond_above, take-append-le, drop-append-le, take_at, length-take-le, length-drop, flat_map_more, bytes_at, range-append, overwritten, ArePieces, changed_below}
 
--- ---- what is written into one of two texts
+-- ---- writes into one of two buffers
 
 take_behind : (a n : ℕ) (xs ys : List ℕ) → a ≡ length xs + n → take a (xs ++ ys) ≡ xs ++ take n ys
 take_behind a n [] ys e = ap (λ k. take k ys) (let f : a ≡ n = omega (arith, e) in f)
@@ -38,7 +38,7 @@ pieces_same f g e zero same = refl
 pieces_same f g e (suc n) same =
     ap₂ (λ (a b : List ℕ). a ++ b) (same e (omega arith) (omega arith)) (pieces_same f g (e + 1) n (λ k low high. same k (omega (arith, low)) (omega (arith, high))))
 
--- what is written into one piece changes this piece
+-- a write into one piece changes only this piece
 written_into : (m : ℕ) (f g : ℕ → List ℕ) → ((k : ℕ) → length (f k) ≡ m) → (at : ℕ) (bytes : List ℕ) → at + length bytes ≤ m
     → (e n k j place : ℕ) → k < n → j ≡ e + k → place ≡ k * m + at → overwritten at bytes (f j) ≡ g j → ((i : ℕ) → i ≢ j → f i ≡ g i)
     → overwritten place bytes (flat_map f (range_with_len e n)) ≡ flat_map g (range_with_len e n)
@@ -56,11 +56,11 @@ written_into m f g sizes at bytes fits e (suc n) (suc k) j place low is there he
     ∙ ap₂ (λ (a b : List ℕ). a ++ b) (others e (λ x. omega (arith, is, x)))
     (written_into m f g sizes at bytes fits (e + 1) n k j (k * m + at) (omega (arith, low)) (omega (arith, is)) refl here others)
 
-pub length-overwritten : (at : ℕ) (bytes text : List ℕ) → at + length bytes ≤ length text → length (overwritten at bytes text) ≡ length text
-length-overwritten at bytes text fits =
-    let front = length-take-le at text (omega (arith, fits)) in
-    let rest = length-drop (at + length bytes) text in
-    length-append (take at text ++ bytes) (drop (at + length bytes) text) ∙ (let a = length-append (take at text) bytes in omega (arith, a, front, rest, fits))
+pub length-overwritten : (at : ℕ) (bytes content : List ℕ) → at + length bytes ≤ length content → length (overwritten at bytes content) ≡ length content
+length-overwritten at bytes content fits =
+    let front = length-take-le at content (omega (arith, fits)) in
+    let rest = length-drop (at + length bytes) content in
+    length-append (take at content ++ bytes) (drop (at + length bytes) content) ∙ (let a = length-append (take at content) bytes in omega (arith, a, front, rest, fits))
 
 -- the bytes of a piece
 piece_from : (m : ℕ) (f : ℕ → List ℕ) → ((k : ℕ) → length (f k) ≡ m) → (e n k j place : ℕ) → k < n → j ≡ e + k → place ≡ k * m → take m (drop place (flat_map f (range_with_len e n))) ≡ f j
@@ -73,20 +73,20 @@ piece_from m f sizes e (suc n) (suc k) j place low is there =
     ap (take m) (drop_behind place (k * m) (f e) (flat_map f (range_with_len (e + 1) n)) (omega (arith, there, first)))
     ∙ piece_from m f sizes (e + 1) n k j (k * m) (omega (arith, low)) (omega (arith, is)) refl
 
-pub piece_at : (m : ℕ) (f : ℕ → List ℕ) (e n k : ℕ) (text : List ℕ) → ArePieces m f e n text → k < n → bytes_at (k * m) m text ≡ f (e + k)
-piece_at m f e n k text pieces low = ap (λ (t : List ℕ). bytes_at (k * m) m t) pieces.is ∙ piece_from m f pieces.sizes e n k (e + k) (k * m) low refl refl
+pub piece_at : (m : ℕ) (f : ℕ → List ℕ) (e n k : ℕ) (bytes : List ℕ) → ArePieces m f e n bytes → k < n → bytes_at (k * m) m bytes ≡ f (e + k)
+piece_at m f e n k bytes pieces low = ap (λ (t : List ℕ). bytes_at (k * m) m t) pieces.is ∙ piece_from m f pieces.sizes e n k (e + k) (k * m) low refl refl
 
-pub same_pieces : (m : ℕ) (f g : ℕ → List ℕ) (e n : ℕ) (text : List ℕ) → ((k : ℕ) → f k ≡ g k) → ArePieces m f e n text → ArePieces m g e n text
-same_pieces m f g e n text same pieces = record {
+pub same_pieces : (m : ℕ) (f g : ℕ → List ℕ) (e n : ℕ) (bytes : List ℕ) → ((k : ℕ) → f k ≡ g k) → ArePieces m f e n bytes → ArePieces m g e n bytes
+same_pieces m f g e n bytes same pieces = record {
   sizes = λ k. ap length (sym (same k)) ∙ pieces.sizes k;
   is = pieces.is ∙ pieces_same f g e n (λ k _ _. same k);
 }
 
--- a piece more, after others
-pub piece_more : (f : ℕ → List ℕ) (e k : ℕ) (text out new : List ℕ) → out ≡ text ++ flat_map f (range_with_len e k) → new ≡ out ++ f (e + k) → new ≡ text ++ flat_map f (range_with_len e (k + 1))
-piece_more f e k text out new so_far is =
-    is ∙ ap (λ (xs : List ℕ). xs ++ f (e + k)) so_far ∙ flat_map_more f text (range_with_len e k) (e + k)
-    ∙ ap (λ (ks : List ℕ). text ++ flat_map f ks) (sym (range-append e k 1))
+-- one more piece, after others
+pub piece_more : (f : ℕ → List ℕ) (e k : ℕ) (bytes out new : List ℕ) → out ≡ bytes ++ flat_map f (range_with_len e k) → new ≡ out ++ f (e + k) → new ≡ bytes ++ flat_map f (range_with_len e (k + 1))
+piece_more f e k bytes out new so_far is =
+    is ∙ ap (λ (xs : List ℕ). xs ++ f (e + k)) so_far ∙ flat_map_more f bytes (range_with_len e k) (e + k)
+    ∙ ap (λ (ks : List ℕ). bytes ++ flat_map f ks) (sym (range-append e k 1))
 
 -- ---- pieces that are changed one after the other
 
@@ -102,23 +102,23 @@ changed_sizes m b g f gs fs k = elim (cases_lt k b) [
   | inr high ↦ ap length (from_on b g f k high) ∙ fs k
 ]
 
-pub none_changed : (m : ℕ) (g f : ℕ → List ℕ) (e n : ℕ) (text : List ℕ) → ((k : ℕ) → length (g k) ≡ m) → ArePieces m f e n text → ArePieces m (changed_below e g f) e n text
-none_changed m g f e n text sizes pieces = record {
+pub none_changed : (m : ℕ) (g f : ℕ → List ℕ) (e n : ℕ) (bytes : List ℕ) → ((k : ℕ) → length (g k) ≡ m) → ArePieces m f e n bytes → ArePieces m (changed_below e g f) e n bytes
+none_changed m g f e n bytes sizes pieces = record {
   sizes = changed_sizes m e g f sizes pieces.sizes;
   is = pieces.is ∙ pieces_same f (changed_below e g f) e n (λ k low _. sym (from_on e g f k low));
 }
 
-pub all_changed : (m : ℕ) (g f : ℕ → List ℕ) (e n : ℕ) (text : List ℕ) → ((k : ℕ) → length (g k) ≡ m) → ArePieces m (changed_below (e + n) g f) e n text → ArePieces m g e n text
-all_changed m g f e n text sizes pieces = record {
+pub all_changed : (m : ℕ) (g f : ℕ → List ℕ) (e n : ℕ) (bytes : List ℕ) → ((k : ℕ) → length (g k) ≡ m) → ArePieces m (changed_below (e + n) g f) e n bytes → ArePieces m g e n bytes
+all_changed m g f e n bytes sizes pieces = record {
   sizes = sizes;
   is = pieces.is ∙ pieces_same (changed_below (e + n) g f) g e n (λ k _ high. below (e + n) g f k high);
 }
 
--- one piece more is changed by what is written into it
-pub next_changed : (m : ℕ) (g f : ℕ → List ℕ) (e n k at place : ℕ) (bytes text : List ℕ) → ((i : ℕ) → length (g i) ≡ m) → ((i : ℕ) → length (f i) ≡ m)
+-- one more piece is changed, by a write into it
+pub next_changed : (m : ℕ) (g f : ℕ → List ℕ) (e n k at place : ℕ) (bytes content : List ℕ) → ((i : ℕ) → length (g i) ≡ m) → ((i : ℕ) → length (f i) ≡ m)
     → k < n → place ≡ k * m + at → at + length bytes ≤ m → overwritten at bytes (f (e + k)) ≡ g (e + k)
-    → ArePieces m (changed_below (e + k) g f) e n text → ArePieces m (changed_below (e + (k + 1)) g f) e n (overwritten place bytes text)
-next_changed m g f e n k at place bytes text gs fs low there fits here pieces = record {
+    → ArePieces m (changed_below (e + k) g f) e n content → ArePieces m (changed_below (e + (k + 1)) g f) e n (overwritten place bytes content)
+next_changed m g f e n k at place bytes content gs fs low there fits here pieces = record {
   sizes = changed_sizes m (e + (k + 1)) g f gs fs;
   is =
       ap (overwritten place bytes) pieces.is
@@ -133,7 +133,7 @@ next_changed m g f e n k at place bytes text gs fs low there fits here pieces = 
     apart : (i : ℕ) → e + k ≤ i → i ≢ e + k → e + (k + 1) ≤ i
     apart i after other = omega (arith, after, other)
 
--- a piece lies within the text of all of them
+-- a piece is within the buffer of all pieces
 pub room_for : (first k n m : ℕ) → k < n → (first + k) * m + m ≤ (first + n) * m
 room_for first k n m low = let e = mul-le-mul_right m (let f : (first + k) + 1 ≤ first + n = omega (arith, low) in f) in omega (arith, e)
 

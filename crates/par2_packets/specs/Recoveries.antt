@@ -1,4 +1,4 @@
--- The packets of recovery slices.
+-- Recovery packets (PAR2 2.0, Recovery Slice packet).
 use Rattle.std.specs.Prelude.{ℕ, ◌≡◌, ◌≤◌, ◌+◌, List, ◌++◌, length, drop, replicate}
 use Rattle.std.specs.Int.{w64, to_le_bytes}
 use Rattle.md5.specs.Md5.{md5}
@@ -7,24 +7,25 @@ use Rattle.par2_spec.specs.Volumes.{packet_of, recovery_bytes}
 use Rattle.par2_spec.specs.declared.Kind.TheVariants.{Recovery}
 use Rattle.par2_packets.specs.Pieces.{overwritten, ArePieces, changed_below}
 
--- the packet of a recovery slice
+-- the packet of the recovery slice of exponent e
 abbrev pub recovery_packet : List ℕ → ℕ → List ℕ → Packet
 recovery_packet set_id e slice = packet_of set_id Recovery (recovery_bytes e slice)
 
--- its bytes, with zeros where its MD5 stands
+-- the bytes of that packet, with zeros in place of its MD5
 unfoldable pub undigested : List ℕ → ℕ → List ℕ → List ℕ
 undigested set_id e slice =
     magic ++ to_le_bytes w64 (68 + length slice) ++ replicate 16 0 ++ digest_input (recovery_packet set_id e slice)
 
--- its bytes
+-- the bytes of that packet, with its MD5
 abbrev pub digested : List ℕ → ℕ → List ℕ → List ℕ
 digested set_id e slice = packet (recovery_packet set_id e slice)
 
--- the bytes of a packet, with its MD5 put at its place
+-- the bytes of a packet, with its MD5 filled in
 abbrev pub digest_put : List ℕ → List ℕ
-digest_put text = overwritten 16 (md5 (drop 32 text)) text
+digest_put bytes = overwritten 16 (md5 (drop 32 bytes)) bytes
 
--- the packets of a text, of m bytes each, have their MD5s up to packet b where they had them up to packet a
+-- if the packets of the old buffer, of m bytes each, have their MD5s up to packet a, those of the new one have them up
+-- to packet b
 abbrev pub AreDigested : (m a b : ℕ) (old new : List ℕ) → Type 0
 AreDigested m a b old new =
     (packet : ℕ → List ℕ) (e n : ℕ) → ((k : ℕ) → length (packet k) ≡ m) → b ≤ n

@@ -1,4 +1,4 @@
--- What the types of this crate say, without where they lie in memory.
+-- The types of this crate as those of the definitions.
 use Rattle.std.specs.Prelude.{ℕ, List, string_bytes}
 use Rattle.std.specs.Int.{w128, from_le_bytes}
 use Rattle.par2_spec.specs.Packets as packets
@@ -8,7 +8,7 @@ use Rattle.par2_packets.specs.declared.record.FileRecord.{FileRecord}
 use Rattle.par2_packets.specs.declared.scan.Packet.{Packet}
 use Rattle.par2_packets.specs.declared.scan.Packets.{Packets}
 
--- what a record says of a file
+-- a record of a file
 abbrev pub file_record_of : FileRecord → volumes.FileRecord
 file_record_of file = record {
   id = file.id;
@@ -20,13 +20,13 @@ file_record_of file = record {
 }
 
 -- the File ID as a little-endian number
-abbrev pub id_number : FileRecord → ℕ
-id_number file = from_le_bytes w128 file.id
+abbrev pub record_id_number : FileRecord → ℕ
+record_id_number file = from_le_bytes w128 file.id
 
--- a packet
-abbrev pub packet_of : Packet → packets.Packet
-packet_of p = record { set_id = p.set_id; kind = p.kind; body = p.body.now }
+-- a packet with its body as a list of bytes
+abbrev pub packet_view : Packet → packets.Packet
+packet_view p = record { set_id = p.set_id; kind = p.kind; body = p.body.now }
 
--- the packets that an iterator has left
-abbrev pub packets_of : Packets → List packets.Packet
-packets_of p = packets.accepted (rest_of p.cursor)
+-- the packets that the iterator still returns
+abbrev pub remaining_packets : Packets → List packets.Packet
+remaining_packets p = packets.accepted (rest_of p.cursor)

@@ -1,4 +1,4 @@
-//! Packets are written.
+//! Writing packets: an `append_` function for each kind makes the body, and `append_packet` adds the header.
 
 ghost use Rattle.std.specs.Prelude.{◌≡◌, ◌≤◌, ◌+◌, ◌-◌, ◌%◌, ◌++◌, length, map, OnOk, OnErr};
 ghost use Rattle.md5.specs.Md5.{md5};
@@ -16,7 +16,8 @@ use md5::{Digest, Md5};
 use par2_spec::{Kind, Result};
 use std::alloc::Global;
 
-// The MD5 of a packet whose body is given in two parts.
+// The MD5 in a packet's header: of set ID, type and body, whose two parts are `head` and `tail` (PAR2 2.0, packet
+// header).
 fn packet_digest(set_id: &[u8; 16], kind: Kind, head: &[u8], tail: &[u8]) -> [u8; 16]
     ensures { result ≡ md5 (((set_id.now ++ packets.type_of kind) ++ head.now) ++ tail.now) }
 {
@@ -28,7 +29,8 @@ fn packet_digest(set_id: &[u8; 16], kind: Kind, head: &[u8], tail: &[u8]) -> [u8
     hasher.finalize()
 }
 
-// The packet whose body is given in two parts.
+// Appends a packet whose body has two parts, `head` and `tail`, or nothing if memory runs out. `set_id` is the Recovery
+// Set ID.
 fn append_packet(
     out: &mut Vec<u8>,
     set_id: &[u8; 16],
@@ -50,7 +52,8 @@ fn append_packet(
     out.extend_from_slice(tail)
 }
 
-/// Adds the Main of a set of these files, whose order it keeps.
+/// Appends the Main packet of a set of these files, which are ordered by File ID, with slices of `s` bytes. Without
+/// memory `out` stays as it was.
 pub fn append_main(alloc: Global, out: &mut Vec<u8>, s: u64, files: &[FileRecord]) -> Result<()>
     requires { length files.now ≤ 32768 }
     ensures ok { let records = map file_record_of files.now in
@@ -66,7 +69,8 @@ pub fn append_main(alloc: Global, out: &mut Vec<u8>, s: u64, files: &[FileRecord
     append_packet(out, &Md5::digest(&body), Kind::Main, &body, &[])
 }
 
-/// Adds the FileDesc of a file.
+/// Appends the FileDesc packet of a file: its File ID, MD5s, length and name. The name is padded with NULs to a
+/// multiple of 4 bytes.
 pub fn append_desc(
     alloc: Global,
     out: &mut Vec<u8>,
@@ -86,7 +90,7 @@ pub fn append_desc(
     append_packet(out, set_id, Kind::FileDesc, &body, &[])
 }
 
-/// Adds the IFSC of a file: the checksums of its slices.
+/// Appends the IFSC packet of a file: its File ID and the checksums of its slices.
 pub fn append_ifsc(
     alloc: Global,
     out: &mut Vec<u8>,
@@ -105,7 +109,7 @@ pub fn append_ifsc(
     append_packet(out, set_id, Kind::Ifsc, &body, &[])
 }
 
-/// Adds the Creator, which names this program's profile.
+/// Appends the Creator packet, which names this program's profile.
 pub fn append_creator(_alloc: Global, out: &mut Vec<u8>, set_id: &[u8; 16]) -> Result<()>
     ensures ok { let added = packet_of set_id.now Kind.Creator creator_bytes in
         OnOk result (out.new.items ≡ out.old.items ++ packet added) }
@@ -114,7 +118,8 @@ pub fn append_creator(_alloc: Global, out: &mut Vec<u8>, set_id: &[u8; 16]) -> R
     append_packet(out, set_id, Kind::Creator, b"par2 undo profile 1", &[0])
 }
 
-/// Adds the recovery slice of exponent `e`. Several cost less by `with_undigested` and `digest_recoveries`.
+/// Appends the recovery packet of exponent `e`, whose recovery slice is `bytes`. For several, `with_undigested` and
+/// `digest_recoveries` are faster. Only tests and benchmarks call it.
 pub fn append_recovery(
     _alloc: Global,
     out: &mut Vec<u8>,

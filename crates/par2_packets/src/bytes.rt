@@ -1,4 +1,4 @@
-//! Parts of a text at given places, and the bytes of numbers.
+//! Reading and writing fixed-size fields: sixteen bytes, and little-endian numbers.
 
 ghost use Rattle.std.specs.Prelude.{◌≡◌, ◌+◌, ◌≤◌, length};
 ghost use Rattle.std.specs.Int.{w32, w64, to_le_bytes};
@@ -6,35 +6,35 @@ ghost use Rattle.par2_spec.specs.Packets as packets;
 
 use byteorder::{ByteOrder, LittleEndian};
 
-/// Sixteen bytes.
-pub fn block(text: &[u8], at: usize) -> [u8; 16]
-    requires { at + 16 ≤ length text.now }
-    ensures { result ≡ packets.bytes_at at 16 text.now }
+/// The sixteen bytes from position `at` on.
+pub fn block(bytes: &[u8], at: usize) -> [u8; 16]
+    requires { at + 16 ≤ length bytes.now }
+    ensures { result ≡ packets.bytes_at at 16 bytes.now }
 {
     let mut block = [0; 16];
-    block.copy_from_slice(&text[at..at + 16]);
+    block.copy_from_slice(&bytes[at..at + 16]);
     block
 }
 
-/// The number that eight bytes spell, the lowest first.
+/// The little-endian number in the eight bytes from position `at` on.
 #[tactic(auto, unfolding(par2_spec::specs::Packets::u64_at))]
-pub fn u64_at(text: &[u8], at: usize) -> u64
-    requires { at + 8 ≤ length text.now }
-    ensures { result ≡ packets.u64_at at text.now }
+pub fn u64_at(bytes: &[u8], at: usize) -> u64
+    requires { at + 8 ≤ length bytes.now }
+    ensures { result ≡ packets.u64_at at bytes.now }
 {
-    LittleEndian::read_u64(&text[at..at + 8])
+    LittleEndian::read_u64(&bytes[at..at + 8])
 }
 
-/// The number that four bytes spell, the lowest first.
+/// The little-endian number in the four bytes from position `at` on.
 #[tactic(auto, unfolding(par2_spec::specs::Packets::u32_at))]
-pub fn u32_at(text: &[u8], at: usize) -> u32
-    requires { at + 4 ≤ length text.now }
-    ensures { result ≡ packets.u32_at at text.now }
+pub fn u32_at(bytes: &[u8], at: usize) -> u32
+    requires { at + 4 ≤ length bytes.now }
+    ensures { result ≡ packets.u32_at at bytes.now }
 {
-    LittleEndian::read_u32(&text[at..at + 4])
+    LittleEndian::read_u32(&bytes[at..at + 4])
 }
 
-/// The eight bytes that spell a number, the lowest first.
+/// The eight bytes of a number, little-endian.
 pub fn u64_bytes(number: u64) -> [u8; 8]
     ensures { result ≡ to_le_bytes w64 number }
 {
@@ -43,7 +43,7 @@ pub fn u64_bytes(number: u64) -> [u8; 8]
     bytes
 }
 
-/// The four bytes that spell a number, the lowest first.
+/// The four bytes of a number, little-endian.
 pub fn u32_bytes(number: u32) -> [u8; 4]
     ensures { result ≡ to_le_bytes w32 number }
 {

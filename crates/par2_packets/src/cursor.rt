@@ -1,11 +1,12 @@
-//! Going over a text from packet to packet, with digests of packets that are computed side by side.
+//! A cursor that walks bytes from packet to packet, and computes the MD5s of packets side by side. `scan` finds the
+//! next magic, asks `claimed_length` and `digest` whether a packet is there, and moves on by `advance`.
 
 ghost use Rattle.std.specs.Prelude.{◌≡◌, ◌≤◌, ◌<◌, ◌+◌, ◌-◌, ◌^◌, ℕ, false, length, drop, slice_index, IfSome, MatchOption};
 ghost use Rattle.std.specs.Option.{ForSome};
 ghost use Rattle.md5.specs.Md5.{md5};
 ghost use Rattle.par2_spec.specs.Packets.{begins_with_packet, bytes_at};
 ghost use Rattle.par2_packets.specs.Heads.{IsHead};
-ghost use Rattle.par2_packets.specs.Runs.{AreDigests, IsPlace, IsRunFrom};
+ghost use Rattle.par2_packets.specs.Runs.{AreDigests, IsPacketPlace, IsRunFrom};
 
 use crate::bytes::u64_at;
 use md5::{Digest, Md5};
@@ -13,7 +14,8 @@ use par2_md5_lanes::{LANES, window_digests};
 
 pub(crate) const MAGIC: &[u8; 8] = b"PAR2\0PKT";
 
-// Digests of packets of one length that were computed side by side, `count` of them, and where each packet begins.
+// The digests of `count` packets of `len` bytes each, which were computed side by side, and the position in the file
+// where each packet begins.
 #[derive(Clone, Copy, Drop)]
 struct Run {
     len: usize,
@@ -23,12 +25,14 @@ struct Run {
 }
 
 impl Run {
-    // That of the packets of this length that begin at the first `count` places.
-    fn new(text: &[u8], starts: [usize; LANES], count: usize, len: usize) -> Run
+    // Digests the packets of `len` bytes at the first `count` starts. The other starts only fill lanes.
+    fn new(bytes: &[u8], starts: [usize; LANES], count: usize, len: usize) -> Run
+        // At most sixteen packets, and each start has `len` bytes, also in the lanes that aren't used.
         requires head { 32 ≤ len }
         requires few { count ≤ 16 }
-        requires within { (k : ℕ) → k < 16 → slice_index starts k + len ≤ length text.now }
-        ensures digests { AreDigests text.now result }
+        requires within { (k : ℕ) → k < 16 → slice_index starts k + len ≤ length bytes.now }
+        // The digests are those of these packets, and the arguments are kept.
+        ensures digests { AreDigests bytes.now result }
         ensures starts { result.starts ≡ starts }
         ensures count { result.count ≡ count }
         ensures len { result.len ≡ len }
@@ -37,14 +41,14 @@ impl Run {
             len,
             count,
             starts,
-            // Without the magic, the length and the digest of each packet.
-            digests: window_digests(&text[32..], &starts, count, len - 32),
+            // The MD5 leaves out the first 32 bytes of a packet: magic, length and the MD5 itself.
+            digests: window_digests(&bytes[32..], &starts, count, len - 32),
         }
     }
 
-    // Which packet of the run has this place and length.
+    // The number, from 0, of the run's packet that begins at `at`, if the run's packets have `len` bytes.
     fn place_of(&self, at: usize, len: usize) -> Option<usize>
-        ensures { IfSome result (λ k. IsPlace self.now at len k) }
+        ensures { IfSome result (λ k. IsPacketPlace self.now at len k) }
     {
         if len != self.len {
             return None;
@@ -52,44 +56,45 @@ impl Run {
         self.starts.iter().position(|&start| start == at)
     }
 
-    // Whether a packet of the run is still ahead of this place.
+    // Whether a packet of the run begins after the position `at`, so that its digest is still needed.
     fn is_ahead_of(&self, at: usize) -> bool {
         self.starts.iter().any(|&start| start > at)
     }
 }
 
-/// The length that the text claims for the packet at its front, where a packet of that length can stand there.
+/// The length that the bytes claim for a packet at their front, or `None` if no packet can be there. `IsHead`: a packet
+/// of this length is there exactly if its MD5 is right.
 #[tactic(auto, unfolding(par2_spec::specs::Packets::begins_with_packet))]
-pub(crate) fn claimed_length(text: &[u8]) -> Option<usize>
-    ensures { MatchOption result (begins_with_packet text.now ≡ false)
-        (λ len. IsHead text.now len) }
+pub(crate) fn claimed_length(bytes: &[u8]) -> Option<usize>
+    ensures { MatchOption result (begins_with_packet bytes.now ≡ false)
+        (λ len. IsHead bytes.now len) }
 {
-    if text.len() < 64 || &text[..8] != MAGIC.as_slice() {
+    if bytes.len() < 64 || &bytes[..8] != MAGIC.as_slice() {
         return None;
     }
-    let claim = u64_at(text, 8);
-    if claim % 4 != 0 || claim < 64 || claim > text.len() as u64 {
+    let claim = u64_at(bytes, 8);
+    if claim % 4 != 0 || claim < 64 || claim > bytes.len() as u64 {
         return None;
     }
     Some(claim as usize)
 }
 
-// The packets of this length: the one at `at`, and those ahead that are found from packet to packet by what each claims; in
-// the lanes that are left stands the first again. Some side by side take about the time of two, so there is no answer
-// for fewer than three.
+// A run of packets of this length: the one at `at`, and those that are found ahead by walking along the claimed
+// lengths. Unused lanes repeat the first. Digesting side by side takes about the time of two packets, so there is no
+// run of fewer than three.
 //
-// A look at a head costs less than the MD5 of 64 bytes. So a walk that looks at more than sixteen costs less than the
+// Reading a header costs less than the MD5 of 64 bytes. So a walk over more than sixteen headers costs less than the
 // digest of the packet at `at`.
-fn run_ahead(text: &[u8], at: usize, len: usize) -> Option<Run>
+fn run_ahead(bytes: &[u8], at: usize, len: usize) -> Option<Run>
     requires head { 32 ≤ len }
-    requires within { at + len ≤ length text.now }
-    ensures { IfSome result (IsRunFrom text.now at len) }
+    requires within { at + len ≤ length bytes.now }
+    ensures { IfSome result (IsRunFrom bytes.now at len) }
 {
     let mut starts = [at; LANES];
     let mut count = 1;
     let mut place = at + len;
     for _ in 0..LANES.max(len / 64) {
-        let Some(claim) = claimed_length(&text[place..]) else {
+        let Some(claim) = claimed_length(&bytes[place..]) else {
             break;
         };
         if claim == len {
@@ -101,10 +106,10 @@ fn run_ahead(text: &[u8], at: usize, len: usize) -> Option<Run>
         }
         place += claim;
     }
-    (count >= 3).then(|| Run::new(text, starts, count, len))
+    (count >= 3).then(|| Run::new(bytes, starts, count, len))
 }
 
-// Bytes whose digest is known.
+// A packet's bytes from offset 32 on, and their MD5.
 #[derive(Clone, Copy, Drop)]
 struct Digested<'a> {
     bytes: &'a [u8],
@@ -112,48 +117,50 @@ struct Digested<'a> {
     ghost right: { digest ≡ md5 bytes.now },
 }
 
-/// A place in a text, and digests of packets: those that were computed there side by side, and the longest that was
-/// computed alone, in this text or in one before.
+/// A position in bytes, and known digests: those of the last run, and that of the longest packet that was digested
+/// alone, here or in earlier bytes.
 #[derive(Clone, Copy, Drop)]
 pub(crate) struct Cursor<'a> {
-    text: &'a [u8],
+    bytes: &'a [u8],
     at: usize,
     run: Option<Run>,
     longest: Option<Digested<'a>>,
-    ghost within: { at ≤ length text.now },
-    ghost known: { ForSome run (AreDigests text.now) },
+    ghost within: { at ≤ length bytes.now },
+    ghost known: { ForSome run (AreDigests bytes.now) },
 }
 
 impl<'a> Cursor<'a> {
     ghost use Rattle.par2_packets.specs.Cursors.{rest_of};
 
-    pub(crate) fn new(text: &'a [u8]) -> Cursor<'a>
-        ensures { rest_of result ≡ text.now }
+    /// A cursor at the front of the bytes, without known digests.
+    pub(crate) fn new(bytes: &'a [u8]) -> Cursor<'a>
+        ensures { rest_of result ≡ bytes.now }
     {
         Cursor {
-            text,
+            bytes,
             at: 0,
             run: None,
             longest: None,
         }
     }
 
-    /// At the front of another text, in which packets may stand that were digested here.
-    pub(crate) fn in_text(&self, text: &'a [u8]) -> Cursor<'a>
-        ensures { rest_of result ≡ text.now }
+    /// A cursor at the front of other bytes, which may repeat a packet that was digested here.
+    pub(crate) fn in_bytes(&self, bytes: &'a [u8]) -> Cursor<'a>
+        ensures { rest_of result ≡ bytes.now }
     {
-        let mut cursor = Cursor::new(text);
+        let mut cursor = Cursor::new(bytes);
         cursor.longest = self.longest;
         cursor
     }
 
-    /// The text from here on.
+    /// The bytes from the cursor on.
     pub(crate) fn rest(&self) -> &'a [u8]
         ensures { result.now ≡ rest_of self.now }
     {
-        &self.text[self.at..]
+        &self.bytes[self.at..]
     }
 
+    /// Moves on by `len` bytes.
     pub(crate) fn advance(&mut self, len: usize)
         requires { len ≤ length (rest_of self.old) }
         ensures { rest_of self.new ≡ drop len (rest_of self.old) }
@@ -161,8 +168,8 @@ impl<'a> Cursor<'a> {
         self.at += len;
     }
 
-    // The digest of the packet here, if it was computed beside others, or its bytes are the longest that were digested
-    // alone.
+    // The MD5 of the packet of `len` bytes here, if it is in the run, or if its bytes are those of the longest packet
+    // that was digested alone.
     fn known_digest(&self, len: usize) -> Option<[u8; 16]>
         requires low { 32 ≤ len }
         requires high { len ≤ length (rest_of self.now) }
@@ -178,20 +185,20 @@ impl<'a> Cursor<'a> {
         (longest.bytes == &self.rest()[32..len]).then_some(longest.digest)
     }
 
-    // The packets that are digested beside the one here. Shorter packets take no run's place while one of its packets is
-    // still ahead, since they stand between these.
+    // A run that begins with the packet of `len` bytes here, if it pays. A shorter packet doesn't replace the current
+    // run while one of that run's packets is still ahead, because it is between them.
     fn next_run(&self, len: usize) -> Option<Run>
         requires low { 32 ≤ len }
         requires high { len ≤ length (rest_of self.now) }
-        ensures { IfSome result (IsRunFrom self.now.text.now self.now.at len) }
+        ensures { IfSome result (IsRunFrom self.now.bytes.now self.now.at len) }
     {
         match self.run {
             Some(run) if len < run.len && run.is_ahead_of(self.at) => None,
-            _ => run_ahead(self.text, self.at, len),
+            _ => run_ahead(self.bytes, self.at, len),
         }
     }
 
-    // The digest of these bytes alone, which is kept where they are the longest so far.
+    // Digests these bytes of one packet alone, and keeps the digest if they are the longest so far.
     fn digest_alone(&mut self, bytes: &'a [u8]) -> [u8; 16]
         ensures digest { result ≡ md5 bytes.now }
         ensures kept { rest_of self.new ≡ rest_of self.old }
@@ -204,7 +211,7 @@ impl<'a> Cursor<'a> {
         digest
     }
 
-    /// The digest of the packet of this length here, without the bytes in front of what is digested.
+    /// The MD5 of the packet of this length here, as its header should have it: without the first 32 bytes.
     pub(crate) fn digest(&mut self, len: usize) -> [u8; 16]
         requires low { 64 ≤ len }
         requires high { len ≤ length (rest_of self.old) }

@@ -1,4 +1,4 @@
-//! Kinds of packets by their types.
+//! The kinds of packets, and the types in their headers.
 
 ghost use Rattle.std.specs.Prelude.{◌≡◌};
 ghost use Rattle.par2_spec.specs.Packets as packets;
@@ -15,7 +15,7 @@ const RECOVERY: [u8; 16] = *b"PAR 2.0\0RecvSlic";
 
 const CREATOR: [u8; 16] = *b"PAR 2.0\0Creator\0";
 
-/// The sixteen bytes of a type.
+/// The type of a kind: the sixteen bytes at the end of a packet's header (PAR2 2.0).
 pub fn type_of(kind: Kind) -> [u8; 16]
     ensures { result ≡ packets.type_of kind }
 {
@@ -29,7 +29,7 @@ pub fn type_of(kind: Kind) -> [u8; 16]
     }
 }
 
-/// The kind that has this type.
+/// The kind of a type, the inverse of `type_of`: `Other` if the type is unknown.
 #[tactic(auto, unfolding(par2_spec::specs::Packets::kind_of))]
 pub fn kind_of(bytes: [u8; 16]) -> Kind
     ensures { result ≡ packets.kind_of bytes }

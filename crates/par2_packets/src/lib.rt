@@ -1,4 +1,7 @@
-//! The packets of the PAR 2.0 format: written, and found in a text.
+//! PAR2 2.0 packets: finding them in bytes (`Packets`), reading their bodies (`read_main` and so on), and writing them
+//! (`append_main` and so on; `with_undigested` and `digest_recoveries` for recovery packets).
+//!
+//! Create and sets of volumes depend on it. It must not know folders, disks or the arithmetic of recovery slices.
 #![tactic(auto)]
 
 mod append;

@@ -1,10 +1,11 @@
-//! The packets of a text, found one after the other.
+//! Scanning bytes for packets: the iterator `Packets` returns the accepted packets of a file. It is created anew for
+//! each further file of a set by `in_bytes`.
 
 ghost use Rattle.std.specs.Prelude.{◌≡◌, ◌≤◌, [], ◌∷◌, length, MatchOption};
 ghost use Rattle.std.specs.Iterator.{YieldsFirstBy, item_count};
 ghost use Rattle.par2_spec.specs.Packets as packets;
 ghost use Rattle.par2_packets.specs.Cursors.{rest_of};
-ghost use Rattle.par2_packets.specs.Views.{packet_of, packets_of};
+ghost use Rattle.par2_packets.specs.Views.{packet_view, remaining_packets};
 
 use crate::bytes::{block, u64_at};
 use crate::cursor::{Cursor, MAGIC, claimed_length};
@@ -12,7 +13,7 @@ use crate::kind::kind_of;
 use memchr::memmem::Finder;
 use par2_spec::Kind;
 
-/// A packet, whose body is a part of the text that it was found in.
+/// A packet. Its body is borrowed from the bytes that it was found in.
 #[derive(Clone, Copy, Drop)]
 pub struct Packet<'a> {
     /// The Recovery Set ID.
@@ -21,38 +22,39 @@ pub struct Packet<'a> {
     pub body: &'a [u8],
 }
 
-// Whether a packet stands at the cursor, which stays there.
+// Whether an accepted packet is at the cursor, which doesn't move: the claimed length fits and the MD5 is right.
 fn begins_with_packet(cursor: &mut Cursor<'_>) -> bool
     ensures begins { result ≡ packets.begins_with_packet (rest_of cursor.old) }
     ensures kept { rest_of cursor.new ≡ rest_of cursor.old }
 {
-    let text = cursor.rest();
-    let Some(len) = claimed_length(text) else {
+    let bytes = cursor.rest();
+    let Some(len) = claimed_length(bytes) else {
         return false;
     };
-    cursor.digest(len) == block(text, 16)
+    cursor.digest(len) == block(bytes, 16)
 }
 
-// The packet at the front of the text.
+// The packet at the front of the bytes, which `begins_with_packet` has found.
 #[tactic(auto, unfolding(par2_spec::specs::Packets::first_packet))]
-fn first_packet(text: &[u8]) -> Packet<'_>
-    requires low { 64 ≤ packets.claimed_length text.now }
-    requires high { packets.claimed_length text.now ≤ length text.now }
-    ensures { packet_of result ≡ packets.first_packet text.now }
+fn first_packet(bytes: &[u8]) -> Packet<'_>
+    requires low { 64 ≤ packets.claimed_length bytes.now }
+    requires high { packets.claimed_length bytes.now ≤ length bytes.now }
+    ensures { packet_view result ≡ packets.first_packet bytes.now }
 {
-    let claim = u64_at(text, 8) as usize;
+    let claim = u64_at(bytes, 8) as usize;
     Packet {
-        set_id: block(text, 32),
-        kind: kind_of(block(text, 48)),
-        body: &text[64..claim],
+        set_id: block(bytes, 32),
+        kind: kind_of(block(bytes, 48)),
+        body: &bytes[64..claim],
     }
 }
 
-// The first packet from the cursor on, which then is past it.
+// The next accepted packet, or `None` at the end of the bytes. The cursor moves past it.
 fn next_packet<'a>(cursor: &mut Cursor<'a>) -> Option<Packet<'a>>
     ensures { let found = packets.accepted (rest_of cursor.old) in
         let others = packets.accepted (rest_of cursor.new) in
-        MatchOption result ((found ≡ []) × (others ≡ [])) (λ packet. found ≡ packet_of packet ∷ others) }
+        MatchOption result ((found ≡ []) × (others ≡ []))
+        (λ packet. found ≡ packet_view packet ∷ others) }
 {
     let finder = Finder::new(MAGIC);
     while let Some(place) = finder.find(cursor.rest()) {
@@ -67,35 +69,35 @@ fn next_packet<'a>(cursor: &mut Cursor<'a>) -> Option<Packet<'a>>
     None
 }
 
-/// The accepted packets of a text, in order: those with the magic, a claimed length that is a multiple of 4, at
-/// least 64 and within the text, and the right MD5. What stands between them is passed over, and so is a packet with
-/// a false digest, whose claim hides none.
+/// The accepted packets in bytes, in order: those with the magic, a claimed length that is a multiple of 4, at least
+/// 64 and within the bytes, and the right MD5. Anything between them is skipped. After a packet with a false MD5 the
+/// scan continues at the next byte, so its claimed length hides no packet.
 ///
-/// The time is that of a search for the magic and of one MD5 of each packet; packets of one length are digested side by
-/// side, also where others stand between them. Where a false digest stands after a magic it is the MD5 of what that claims.
-/// So a text of n bytes that was made for it takes up to the time of n * n / 32 bytes of MD5.
+/// It takes a search for the magic and one MD5 of each packet. Packets of one length are digested side by side, even
+/// with others between them. A false packet also costs the MD5 of its claimed length, so an adversary's n bytes can
+/// cost the MD5 of up to n * n / 32 bytes.
 #[derive(Clone, Copy, Drop)]
 pub struct Packets<'a> {
     cursor: Cursor<'a>,
 }
 
 impl<'a> Packets<'a> {
-    /// Those of this text. Nothing is allocated, here or by the iterator.
-    pub fn new(text: &'a [u8]) -> Packets<'a>
-        ensures { packets_of result ≡ packets.accepted text.now }
+    /// Scans these bytes. Neither this nor the iterator allocates.
+    pub fn new(bytes: &'a [u8]) -> Packets<'a>
+        ensures { remaining_packets result ≡ packets.accepted bytes.now }
     {
         Packets {
-            cursor: Cursor::new(text),
+            cursor: Cursor::new(bytes),
         }
     }
 
-    /// Those of another text of the same set, as each volume repeats what the index file says. The longest packet that
-    /// was digested alone in these texts so far is digested once: where the same bytes stand again, they are compared.
-    pub fn in_text(&self, text: &'a [u8]) -> Packets<'a>
-        ensures { packets_of result ≡ packets.accepted text.now }
+    /// Scans another file of the same set. Each volume repeats packets of the index file. So the longest packet that
+    /// was digested alone so far isn't digested again when it is repeated: its bytes are compared.
+    pub fn in_bytes(&self, bytes: &'a [u8]) -> Packets<'a>
+        ensures { remaining_packets result ≡ packets.accepted bytes.now }
     {
         Packets {
-            cursor: self.cursor.in_text(text),
+            cursor: self.cursor.in_bytes(bytes),
         }
     }
 }
@@ -103,9 +105,9 @@ impl<'a> Packets<'a> {
 impl<'a> Iterator for Packets<'a> {
     type Item = Packet<'a>;
 
-    ghost next_gives = { YieldsFirstBy packet_of packets_of };
+    ghost next_gives = { YieldsFirstBy packet_view remaining_packets };
 
-    ghost remaining = { item_count packets_of };
+    ghost remaining = { item_count remaining_packets };
 
     fn next(&mut self) -> Option<Packet<'a>> {
         next_packet(&mut self.cursor)

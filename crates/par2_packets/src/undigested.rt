@@ -1,5 +1,5 @@
-//! Recovery packets whose slices are written later. Zeros stand for what is still to come, and the MD5s are put in at the
-//! end.
+//! Recovery packets whose slices are computed in place: `with_undigested` writes them with zeros for the slice and the
+//! MD5, the caller fills in the slices, and `digest_recoveries` fills in the MD5s.
 
 ghost use Rattle.std.specs.Prelude.{◌≡◌, ◌≤◌, ◌+◌, ◌*◌, ◌++◌, ℕ, List, length, map, drop, flat_map, replicate, OnOk, IfOk};
 ghost use Rattle.std.specs.List.{range_with_len};
@@ -12,17 +12,17 @@ ghost use Rattle.par2_packets.specs.Recoveries.{undigested, digested, AreDigeste
 use crate::bytes::{u32_bytes, u64_bytes};
 use crate::cursor::MAGIC;
 use crate::kind::type_of;
-use par2_md5_lanes::text_digests;
+use par2_md5_lanes::buffer_digests;
 use par2_spec::{Kind, Result};
 use std::alloc::Global;
 
-// How many packets are digested at a time.
+// The most packets that are digested at a time.
 const GROUP: usize = 1024;
 
-// What a packet has beside the bytes of its recovery slice: the header, and the exponent.
+// The bytes of a packet before its recovery slice: the header of 64 bytes and the exponent.
 const HEAD: usize = 68;
 
-// Adds zeros.
+// Appends `count` zeros, in place of a recovery slice.
 fn append_zeros(out: &mut Vec<u8>, count: usize) -> Result<()>
     ensures { OnOk result (out.new.items ≡ out.old.items ++ replicate count 0) }
 {
@@ -30,7 +30,7 @@ fn append_zeros(out: &mut Vec<u8>, count: usize) -> Result<()>
     out.resize(out.len() + count, 0)
 }
 
-// Adds the packet of exponent `e`, with zeros for the slice and for the MD5.
+// Appends the recovery packet of exponent `e`, with zeros for its slice of `size` bytes and for its MD5.
 fn append_undigested(out: &mut Vec<u8>, set_id: &[u8; 16], e: u32, size: usize) -> Result<()>
     requires { 68 + size ≤ usize.MAX }
     ensures { Appends (undigested set_id.now e (replicate size 0)) out.old out.new result }
@@ -41,10 +41,10 @@ fn append_undigested(out: &mut Vec<u8>, set_id: &[u8; 16], e: u32, size: usize) 
     append_zeros(out, size)
 }
 
-/// The text, and after it the packets of `count` exponents from `first` on: their slices are zeros, and their MD5s are
-/// still to come.
+/// Appends the recovery packets of the `count` exponents from `first` on to the bytes, which it returns, with zeros for
+/// their slices and MD5s. `size` is the number of bytes of a slice, `set_id` the Recovery Set ID.
 pub fn with_undigested(
-    text: Vec<u8>,
+    bytes: Vec<u8>,
     set_id: &[u8; 16],
     first: u32,
     count: u32,
@@ -54,24 +54,24 @@ pub fn with_undigested(
     requires exponents { first + count ≤ 65536 }
     ensures { let added = λ (e : ℕ). undigested set_id.now e (replicate size 0) in
         IfOk result (λ all. all.items
-        ≡ text.items ++ flat_map added (range_with_len first count)) }
+        ≡ bytes.items ++ flat_map added (range_with_len first count)) }
 {
-    let mut all = text;
+    let mut all = bytes;
     for k in 0..count {
         append_undigested(&mut all, set_id, first + k, size)?;
     }
     Ok(all)
 }
 
-// Writes over the bytes from `at` on.
-fn overwrite(text: &mut [u8], at: usize, bytes: &[u8])
-    requires { at + length bytes.now ≤ length text.old }
-    ensures { text.new ≡ overwritten at bytes.now text.old }
+// Writes the bytes over those of the buffer from position `at` on: a packet's MD5 over its zeros.
+fn overwrite(buffer: &mut [u8], at: usize, bytes: &[u8])
+    requires { at + length bytes.now ≤ length buffer.old }
+    ensures { buffer.new ≡ overwritten at bytes.now buffer.old }
 {
-    text[at..at + bytes.len()].copy_from_slice(bytes);
+    buffer[at..at + bytes.len()].copy_from_slice(bytes);
 }
 
-// What the MD5 of packet `k` is taken of.
+// The bytes of packet `k`, from 0, that its MD5 is computed from: all but the first 32. Each packet has `len` bytes.
 fn digest_input(packets: &[u8], len: usize, k: usize) -> &[u8]
     requires packet { (k + 1) * len ≤ length packets.now }
     requires head { 32 ≤ len }
@@ -80,8 +80,8 @@ fn digest_input(packets: &[u8], len: usize, k: usize) -> &[u8]
     &packets[k * len + 32..(k + 1) * len]
 }
 
-// The MD5s of packets, from packet `first` on.
-fn digests(
+// The MD5s of `count` packets of `len` bytes each from packet number `first` on, computed side by side.
+fn packet_digests(
     alloc: Global,
     packets: &[u8],
     len: usize,
@@ -96,10 +96,11 @@ fn digests(
     let inputs = (first..first + count)
         .map(|k| digest_input(packets, len, k))
         .collect::<Vec<&[u8]>>(alloc)?;
-    text_digests(alloc, &inputs)
+    buffer_digests(alloc, &inputs)
 }
 
-// Puts the MD5s of some packets at their places.
+// Fills in the MD5s of `count` packets of `len` bytes each from packet number `first` on. `AreDigested`: if the packets
+// before these have their MD5s, all up to the last of these then have them.
 fn digest_group(
     alloc: Global,
     packets: &mut [u8],
@@ -111,14 +112,16 @@ fn digest_group(
     requires head { 32 ≤ len }
     ensures { OnOk result (AreDigested len first (first + count) packets.old packets.new) }
 {
-    let digests = digests(alloc, packets, len, first, count)?;
+    let digests = packet_digests(alloc, packets, len, first, count)?;
     for k in 0..count {
         overwrite(packets, (first + k) * len + 16, &digests[k]);
     }
     Ok(())
 }
 
-/// Puts the MD5 of each recovery packet at its place. The slices have `size` bytes.
+/// Fills in the MD5s of `count` recovery packets, the bytes `packets`, whose slices are filled in. A packet has 68
+/// bytes, header and exponent, before its slice of `size` bytes. In the contract `first` is the exponent of the first
+/// packet, and `ArePieces` says that the bytes are these packets one after the other.
 pub fn digest_recoveries(alloc: Global, packets: &mut [u8], size: usize, count: usize) -> Result<()>
     requires fits { 68 + size ≤ usize.MAX }
     requires packets { count * (68 + size) ≤ length packets.old }

@@ -1,4 +1,5 @@
-//! What the bodies of packets say, read where they lie.
+//! Views of packet bodies, which read the fields in place. The `read_` function of a kind checks the body of a packet
+//! and returns the view.
 
 ghost use Rattle.std.specs.Prelude.{◌≡◌, ◌<◌, Some, length, slice_get};
 ghost use Rattle.par2_spec.specs.Packets as packets;
@@ -9,7 +10,7 @@ use crate::scan::Packet;
 use par2_spec::Kind;
 use std::marker::Model;
 
-/// What a Main says.
+/// A view of the body of a Main packet.
 #[derive(Drop)]
 pub struct MainView<'a> {
     body: &'a [u8],
@@ -28,13 +29,14 @@ impl<'a> Model for MainView<'a> {
 }
 
 impl<'a> MainView<'a> {
+    /// The slice size in bytes.
     pub fn slice_size(&self) -> u64
         ensures { result ≡ self.now.slice_size }
     {
         u64_at(self.body, 0)
     }
 
-    /// How many files are in the recovery set.
+    /// The number of files in the recovery set, which are those that recovery slices are computed from.
     pub fn count(&self) -> usize
         ensures { result ≡ length self.now.ids }
     {
@@ -51,7 +53,7 @@ impl<'a> MainView<'a> {
     }
 }
 
-/// What a FileDesc says.
+/// A view of the body of a FileDesc packet.
 #[derive(Drop)]
 pub struct DescView<'a> {
     body: &'a [u8],
@@ -70,7 +72,7 @@ impl<'a> Model for DescView<'a> {
 }
 
 impl<'a> DescView<'a> {
-    /// The File ID.
+    /// The File ID of the file that the packet describes.
     pub fn id(&self) -> [u8; 16]
         ensures { result ≡ self.now.id }
     {
@@ -84,21 +86,21 @@ impl<'a> DescView<'a> {
         block(self.body, 16)
     }
 
-    /// The MD5 of its first 16,384 bytes, or of all where it is shorter.
+    /// The MD5 of its first 16,384 bytes, or of all if it is shorter. Only tests call it: reading a set computes no File ID.
     pub fn md5_16k(&self) -> [u8; 16]
         ensures { result ≡ self.now.md5_16k }
     {
         block(self.body, 32)
     }
 
-    /// How many bytes the file has.
+    /// The length of the file in bytes.
     pub fn length(&self) -> u64
         ensures { result ≡ self.now.length }
     {
         u64_at(self.body, 48)
     }
 
-    /// The name without the zero bytes at its end. It may be no text.
+    /// The name without trailing NULs. It need not be UTF-8.
     pub fn name_bytes(&self) -> &'a [u8]
         ensures { result.now ≡ self.now.name }
     {
@@ -107,7 +109,7 @@ impl<'a> DescView<'a> {
     }
 }
 
-/// What an IFSC says.
+/// A view of the body of an IFSC packet.
 #[derive(Drop)]
 pub struct IfscView<'a> {
     body: &'a [u8],
@@ -126,7 +128,7 @@ impl<'a> Model for IfscView<'a> {
 }
 
 impl<'a> IfscView<'a> {
-    /// The File ID.
+    /// The File ID of the file whose slices have these checksums.
     pub fn id(&self) -> [u8; 16]
         ensures { result ≡ self.now.id }
     {
@@ -134,7 +136,7 @@ impl<'a> IfscView<'a> {
         block(body, 0)
     }
 
-    /// How many slices have checksums here.
+    /// The number of slices that have checksums here.
     pub fn count(&self) -> usize
         ensures { result ≡ length self.now.pairs }
     {
@@ -152,7 +154,7 @@ impl<'a> IfscView<'a> {
     }
 }
 
-/// What a RecvSlic says.
+/// A view of the body of a RecvSlic packet.
 #[derive(Drop)]
 pub struct RecoveryView<'a> {
     body: &'a [u8],
@@ -171,6 +173,7 @@ impl<'a> Model for RecoveryView<'a> {
 }
 
 impl<'a> RecoveryView<'a> {
+    /// The exponent of the recovery slice.
     pub fn exponent(&self) -> u32
         ensures { result ≡ self.now.exponent }
     {
@@ -185,7 +188,7 @@ impl<'a> RecoveryView<'a> {
     }
 }
 
-// The bytes without the zeros at their end.
+// The bytes without trailing NULs, with which a FileDesc pads the name.
 fn stripped(bytes: &[u8]) -> &[u8]
     ensures { result.now ≡ packets.without_end_zeros bytes.now }
 {
@@ -196,8 +199,8 @@ fn stripped(bytes: &[u8]) -> &[u8]
     &bytes[..len]
 }
 
-/// What a Main says: `None` for another kind, and for a body that isn't well-formed, as one that claims
-/// more files than it lists.
+/// Reads a Main packet: `None` for another kind, and for a malformed body, such as one that claims more files than
+/// it lists.
 #[tactic(auto, unfolding(par2_spec::specs::Packets::read_main))]
 pub fn read_main<'a>(packet: &Packet<'a>) -> Option<MainView<'a>>
     ensures { result ≡ packets.read_main packet.now.kind packet.now.body.now }
@@ -212,7 +215,7 @@ pub fn read_main<'a>(packet: &Packet<'a>) -> Option<MainView<'a>>
     Some(MainView { body })
 }
 
-/// What a FileDesc says: `None` for another kind, and for a body that isn't well-formed.
+/// Reads a FileDesc packet: `None` for another kind, and for a body that is too short for the fields before the name.
 #[tactic(auto, unfolding(par2_spec::specs::Packets::read_desc))]
 pub fn read_desc<'a>(packet: &Packet<'a>) -> Option<DescView<'a>>
     ensures { result ≡ packets.read_desc packet.now.kind packet.now.body.now }
@@ -224,7 +227,7 @@ pub fn read_desc<'a>(packet: &Packet<'a>) -> Option<DescView<'a>>
     Some(DescView { body })
 }
 
-/// What an IFSC says: `None` for another kind, and for a body that isn't well-formed.
+/// Reads an IFSC packet: `None` for another kind, and for a body that isn't a File ID and 20 bytes for each slice.
 #[tactic(auto, unfolding(par2_spec::specs::Packets::read_ifsc))]
 pub fn read_ifsc<'a>(packet: &Packet<'a>) -> Option<IfscView<'a>>
     ensures { result ≡ packets.read_ifsc packet.now.kind packet.now.body.now }
@@ -236,7 +239,7 @@ pub fn read_ifsc<'a>(packet: &Packet<'a>) -> Option<IfscView<'a>>
     Some(IfscView { body })
 }
 
-/// What a RecvSlic says: `None` for another kind, and for a body that isn't well-formed.
+/// Reads a RecvSlic packet: `None` for another kind, and for a body that is too short for the exponent.
 #[tactic(auto, unfolding(par2_spec::specs::Packets::read_recovery))]
 pub fn read_recovery<'a>(packet: &Packet<'a>) -> Option<RecoveryView<'a>>
     ensures { result ≡ packets.read_recovery packet.now.kind packet.now.body.now }

@@ -1,16 +1,17 @@
-//! A create of which nothing is known beforehand.
+//! A create without checkpoints, for callers that have no session.
 ghost use Rattle.std.specs.Prelude.{IsTrue, IfOk};
 ghost use Rattle.par2_spec.specs.Changes.{are_applicable};
 ghost use Rattle.par2_spec.specs.Commands.{Create};
 ghost use Rattle.par2_spec.specs.Planned.{FailsAs, GivesChanges, LeadsAs, RefusesEarly, SucceedsAs};
 ghost use Rattle.par2_spec.specs.Views.{create_args_of};
 
-use par2_files::{Changes, Folder, Landmarks};
+use par2_files::{Changes, Checkpoints, Folder};
 use par2_spec::{CreateArgs, Fault};
 use std::alloc::Global;
 
-/// The changes of a create: its outputs are written in order, the index first. Memory is answered only where a growth is
-/// refused.
+/// The changes of a create, which writes its outputs in order, the index first. Memory is reported only if an
+/// allocation fails. Unlike that of `par2_create` it neither takes nor returns checkpoints, which save a session
+/// hashing files again. Only tests call it.
 pub fn plan_create(alloc: Global, folder: &Folder, args: &CreateArgs) -> Result<Changes, Fault>
     // It is refused as the definitions say, or memory ran out; early refusals need no memory.
     ensures refused { FailsAs folder.now.files (Create (create_args_of args.now)) result }
@@ -21,6 +22,6 @@ pub fn plan_create(alloc: Global, folder: &Folder, args: &CreateArgs) -> Result<
     ensures applies { IfOk result (λ changes. IsTrue (are_applicable folder.now.files changes)) }
     ensures leads { LeadsAs folder.now.files (Create (create_args_of args.now)) result }
 {
-    let made = par2_create::plan_create(alloc, folder, args, &Landmarks::none(alloc))?;
+    let made = par2_create::plan_create(alloc, folder, args, &Checkpoints::none(alloc))?;
     Ok(made.changes)
 }

@@ -1,5 +1,6 @@
-//! What a create, a repair and a purge change in a folder, or why they are refused, and what a verify reports. A verify,
-//! a repair and a purge are planned in `par2_repair`, a create in `par2_create`.
+//! The changes or the report of each command, on one folder in memory: the calls of `par2_create` and `par2_repair`
+//! under one name. Tests use it, the program doesn't, because a session (`par2_journal`) calls those crates with its
+//! checkpoints and digests. It knows neither stores nor sessions.
 #![tactic(auto)]
 
 mod create;

@@ -1,4 +1,4 @@
--- The names that proofs of this crate take from elsewhere.
+-- Names from other crates that the proofs of this one use.
 
 pub use Rattle.std.proofs.Common.{List, [], ap, ap₂, arith, drop, get_or, length, map, refl, replicate, rules, subst, sym, take, ℕ, ◌*◌, ◌+◌, ◌<◌, ◌∙◌, ◌≡◌}
 pub use Rattle.std.proofs.lemmas.Bool.{false≢true}
@@ -7,9 +7,9 @@ pub use Rattle.std.proofs.lemmas.List.FromFn.{get_or-map-range_with_len, get_or-
 pub use Rattle.std.specs.List.{range_with_len}
 pub use Rattle.std.specs.Prelude.{◌/◌}
 pub use Rattle.par2_create.specs.Records.{AreRecords}
-pub use Rattle.par2_solve.specs.Views.{AreBlank, texts_of}
+pub use Rattle.par2_solve.specs.Views.{AreBlank, buffers_of}
 pub use Rattle.par2_solve.specs.Writing.{AreWritten, AreZeros, output_at}
 pub use Rattle.par2_spec.specs.Slices.{padded}
 pub use Rattle.par2_spec.specs.Sums.{list_at, lists_of}
-pub use Rattle.par2_transform.specs.Adding.{AreWholeTexts, HaveWords, place_at}
+pub use Rattle.par2_transform.specs.Adding.{AreWholeBuffers, HaveWords, place_at}
 pub use Rattle.par2_transform.specs.declared.outputs.Place.{Place}

@@ -1,2 +1,2 @@
 mod Common
-pub mod OwnTexts
+pub mod OwnBytes

@@ -1,4 +1,4 @@
-//! What a set says of files of a folder, by one call.
+//! The record of a set of a folder's files, by one call.
 
 ghost use Rattle.std.specs.Prelude.{◌≡◌, ◌≤◌, map, Err, IfOk, IsOk};
 ghost use Rattle.std.specs.List.{IsDistinct};
@@ -6,17 +6,18 @@ ghost use Rattle.std.specs.List.Sorted.{IsStrictlyIncreasing};
 ghost use Rattle.std.specs.Str.{bytes_eq};
 ghost use Rattle.par2_spec.specs.Volumes.{id_of, in_id_order};
 ghost use Rattle.par2_spec.specs.Commands.{files_of};
-ghost use Rattle.par2_packets.specs.Views.{id_number};
+ghost use Rattle.par2_packets.specs.Views.{record_id_number};
 ghost use Rattle.par2_create.specs.Records.{AreRecords, names_of};
 
 use par2_create::{file_records, sorted_by_id};
 use par2_files::{Folder, Name};
-use par2_md5_lanes::text_digests;
+use par2_md5_lanes::buffer_digests;
 use par2_packets::{DuplicateId, FileRecord};
 use std::alloc::{AllocError, Global};
 use thiserror::Error;
 
-// What a set of slice size `s` says of the files of these names, in their order.
+// The records of the files of these names, in this order, for slices of `s` bytes: their MD5s are computed side by
+// side. `AreRecords`: record k is that of file k.
 fn records_of(
     alloc: Global,
     folder: &Folder,
@@ -27,7 +28,7 @@ fn records_of(
     ensures { IfOk result (λ list. AreRecords s (files_of folder.now.files names.now) list.items) }
 {
     let contents = folder.bytes_of_each(names)?;
-    let md5s = text_digests(alloc, &contents)?;
+    let md5s = buffer_digests(alloc, &contents)?;
     file_records(alloc, folder, names, &md5s, s)
 }
 
@@ -37,7 +38,7 @@ pub enum RecordFault {
     /// Two files have one File ID.
     #[error("two inputs have one file id")]
     DuplicateId,
-    /// A growth was refused.
+    /// Memory ran out.
     #[error("out of memory")]
     Memory,
 }
@@ -53,7 +54,7 @@ impl From<AllocError> for RecordFault {
     }
 }
 
-/// What a set says of its files.
+/// A set: its slice size and the records of its files.
 #[derive(Drop)]
 pub struct SetRecord {
     /// The slice size in bytes.
@@ -63,8 +64,8 @@ pub struct SetRecord {
 }
 
 impl SetRecord {
-    /// What a set of slice size `s` says of the files of these names, in the order of their File IDs. DuplicateId is
-    /// returned exactly where two of them have one File ID, unless memory ran out before.
+    /// The set of the files of these names, with slices of `s` bytes. It returns `DuplicateId` exactly if two of them
+    /// have one File ID, unless memory runs out first. `in_id_order`: the order of File IDs as little-endian numbers.
     pub fn of_files(
         alloc: Global,
         folder: &Folder,
@@ -72,12 +73,16 @@ impl SetRecord {
         s: u64,
     ) -> Result<SetRecord, RecordFault>
         requires { 1 ≤ s }
+        // The set has this slice size and the records of the files, in the order of their File IDs.
         ensures slice { IfOk result (λ set. set.slice ≡ s) }
         ensures files { IfOk result (λ set.
             AreRecords s (in_id_order (files_of folder.now.files names.now)) set.files.items) }
         ensures order { IfOk result (λ set. files_of folder.now.files (names_of set.files.items)
             ≡ in_id_order (files_of folder.now.files names.now)) }
-        ensures rising { IfOk result (λ set. IsStrictlyIncreasing (map id_number set.files.items)) }
+        ensures rising { IfOk result
+            (λ set. IsStrictlyIncreasing (map record_id_number set.files.items)) }
+        // It succeeds only if the File IDs are distinct, and reports `DuplicateId` only if they
+        // aren't.
         ensures distinct { IsOk result
             → IsDistinct bytes_eq (map id_of (files_of folder.now.files names.now)) }
         ensures duplicate { result ≡ Err RecordFault.DuplicateId

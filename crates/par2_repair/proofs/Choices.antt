@@ -7,7 +7,7 @@ use Rattle.std.proofs.Math.Bool.{and-false}
 pub filter_push : (p : List ℕ → Bool) (xs : List (List ℕ)) (x : List ℕ) → filter p (xs ++ x ∷ []) ≡ filter p xs ++ cond (p x) (x ∷ []) []
 filter_push p xs x = filter-append p xs (x ∷ [])
 
--- one more name stands there once, where it was not there before
+-- one more name is added if it is new
 pub distinct_more : (xs : List (List ℕ)) (x : List ℕ) → distinct (xs ++ x ∷ []) ≡ cond (is_among xs x) (distinct xs) (distinct xs ++ x ∷ [])
 distinct_more [] x = refl
 distinct_more (y ∷ xs) x = step (is_among xs x) (bytes_eq x y) (same_either_way y x) (distinct_more xs x)
@@ -27,7 +27,7 @@ distinct_more (y ∷ xs) x = step (is_among xs x) (bytes_eq x y) (same_either_wa
 out_of_filter : (x : List ℕ) (xs : List (List ℕ)) → is_among (filter (λ z. not (bytes_eq x z)) xs) x ≡ false
 out_of_filter x xs = among-filter (λ z. not (bytes_eq x z)) xs x ∙ ap (λ b. is_among xs x && not b) ((bytes_eq-Decides x x).1 refl) ∙ and-false (is_among xs x)
 
--- each name stands there once
+-- each name is there once
 pub distinct_once : (xs : List (List ℕ)) → AreDistinct (distinct xs)
 distinct_once [] = tt
 distinct_once (x ∷ xs) = (out_of_filter x (distinct xs), distinct-filter (λ z. not (bytes_eq x z)) (distinct xs) (distinct_once xs))

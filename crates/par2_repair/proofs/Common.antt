@@ -28,18 +28,18 @@ pub use Rattle.std.specs.Str.{bytes_eq}
 pub use Rattle.std.specs.Vec.Iter.{into_iter_items, into_iter_len}
 pub use Rattle.par2_files.specs.Views.{change_of}
 pub use Rattle.par2_repair.specs.Drafts.{HasItsMd5s, IsDraft, IsDraftBy, has_digest, wrong_digest}
-pub use Rattle.par2_repair.specs.Findings.{AreFindings, GoesOn, found_by, is_sought, lost_by, lost_from, pairs_of, report_by, reports_by, said_by, said_of}
+pub use Rattle.par2_repair.specs.Findings.{AreFindings, TakesMatch, found_by, is_sought, lost_by, unfound_from, pairs_sought, report_by, reports_by, said_by, said_of}
 pub use Rattle.par2_repair.specs.Repairing.{AreRestored, HoldsAsides, IsAsDescribed, IsWholeWhereMatched, WritesAsDescribed, files_removed, known_by, matches_taken, names_there, place_by, repair_by, writes}
 pub use Rattle.par2_repair.specs.Restoring.{chosen_at, known_in, md5s_of, target_at, targets_among, undetermined_fault}
-pub use Rattle.par2_repair.specs.SliceTexts.{slices_of, text_of, windows_and_texts}
-pub use Rattle.par2_repair.specs.Views.{state_of, target_report_of}
-pub use Rattle.par2_repair.specs.Written.{bytes_written, texts_written}
+pub use Rattle.par2_repair.specs.SliceBytes.{slices_of, slice_bytes, windows_and_buffers}
+pub use Rattle.par2_repair.specs.Views.{state_view, target_report_of}
+pub use Rattle.par2_repair.specs.Written.{bytes_written, buffers_written}
 pub use Rattle.par2_repair.specs.declared.restored_slices.Slice.{Slice}
 pub use Rattle.par2_solve.specs.Rebuilding.{AreEnough, AreRebuilt, known_among}
 pub use Rattle.par2_solve.specs.Survivors.{IsTrueFault, exponents_of, known_alone, known_of, recovered_of, with_lost_slices}
 pub use Rattle.par2_sets.specs.Asides.{long_aside}
-pub use Rattle.par2_slices.specs.Matching.{Describe, NumbersAreNames, first_intact, matched_from, matched_numbers, text_at, without}
-pub use Rattle.par2_slices.specs.Texts.{AreShort, Window, padded_window, padded_windows, texts_of}
+pub use Rattle.par2_slices.specs.Matching.{Describe, NumbersAreNames, first_intact, matched_from, matched_numbers, listed_at, without_number}
+pub use Rattle.par2_slices.specs.Positions.{AreShort, Window, padded_window, padded_windows, buffers_of}
 pub use Rattle.par2_spec.proofs.AcceptedCommands.{command_leads, in_full, in_part, missing, set_in_reads}
 pub use Rattle.par2_spec.proofs.FoundLaws.{all-filter, targets_found}
 pub use Rattle.par2_spec.proofs.ListsLaws.{all-append, all-each, all_at, all_below_are, filter-map, found_one, map-cond}
@@ -64,9 +64,9 @@ pub use Rattle.par2_spec.specs.Refusals.{absent_file, after, by_set, purge_refus
 unfoldable pub use Rattle.par2_spec.specs.Refusals.{early_refusal, refusal, repair_refusal}
 pub use Rattle.par2_spec.specs.Repairs.{AreFew, aside, cut_into, files_of_slices, is_par_file, names_without_match, par_files, put_aside, rebuilt}
 unfoldable pub use Rattle.par2_spec.specs.Repairs.{rebuilt_targets}
-pub use Rattle.par2_spec.specs.Reports.{Complete, IsVerdictIn, Report, State, TargetReport, is_complete, needing_state, states_by, verdict_of}
+pub use Rattle.par2_spec.specs.Reports.{Complete, IsVerdictIn, Report, State, TargetReport, is_complete, incomplete_state, states_by, verdict_of}
 unfoldable pub use Rattle.par2_spec.specs.Reports.{report_in, report_of, report_of_target}
-pub use Rattle.par2_spec.specs.Search.{candidates, intact_names, is_needing, lost, matching, needing, needing_names, survivors}
+pub use Rattle.par2_spec.specs.Search.{candidates, intact_names, is_incomplete, lost, matching, incomplete, incomplete_names, survivors}
 unfoldable pub use Rattle.par2_spec.specs.Search.{known, matches}
 pub use Rattle.par2_spec.specs.Sets.{ParSet, Target, all_pairs, set_of}
 pub use Rattle.par2_spec.specs.Slices.{padded}

@@ -1,7 +1,7 @@
 -- Files that are cut out of slices.
 use Rattle.par2_repair.proofs.Common.{◌≡◌, ◌∙◌, ℕ, zero, suc, ◌+◌, ◌-◌, ◌≤◌, List, [], ◌∷◌, ◌++◌, length, take, refl, sym, ap, arith, min, replicate, concat, length-replicate, length-take, take-replicate, take_all, take_min, length-append, concat-append, padded, append-nil, append_assoc}
 
--- the first items of two lists one after the other
+-- the first items of two lists, appended
 pub take-append : (n : ℕ) (xs ys : List ℕ) → take n (xs ++ ys) ≡ take n xs ++ take (n - length xs) ys
 take-append zero [] ys = refl
 take-append (suc n) [] ys = let e : suc n ≡ suc n - 0 = omega arith in ap (λ k. take k ys) e
@@ -16,27 +16,27 @@ take-zeros k n =
     ∙ take-replicate {X = ℕ} (min k n) n 0 (omega arith)
 
 -- the first bytes of a file with one more slice
-pub one_more_slice : (size s : ℕ) (old text file : List ℕ) (n : ℕ) → length old ≤ size
-    → file ≡ old ++ take (min (size - length old) (length text)) text
-    → n ≡ length file + min (size - length file) (s - length text)
-    → take n file ++ replicate (n - length file) 0 ≡ take size (old ++ padded s text)
-one_more_slice size s old text file n fits made long =
+pub one_more_slice : (size s : ℕ) (old bytes file : List ℕ) (n : ℕ) → length old ≤ size
+    → file ≡ old ++ take (min (size - length old) (length bytes)) bytes
+    → n ≡ length file + min (size - length file) (s - length bytes)
+    → take n file ++ replicate (n - length file) 0 ≡ take size (old ++ padded s bytes)
+one_more_slice size s old bytes file n fits made long =
     let room : ℕ = size - length old in
-    let zeros : ℕ = s - length text in
-    let front : file ≡ old ++ take room text = made ∙ ap (λ xs. old ++ xs) (take_min room text) in
-    let count : length file ≡ length old + min room (length text) = ap length front ∙ length-append old (take room text) ∙ ap (λ k. length old + k) (length-take room text) in
-    let left : size - length file ≡ room - length text = omega (arith, count) in
-    let added : n - length file ≡ min (room - length text) zeros = omega (arith, long, ap (λ k. min k zeros) left) in
+    let zeros : ℕ = s - length bytes in
+    let front : file ≡ old ++ take room bytes = made ∙ ap (λ xs. old ++ xs) (take_min room bytes) in
+    let count : length file ≡ length old + min room (length bytes) = ap length front ∙ length-append old (take room bytes) ∙ ap (λ k. length old + k) (length-take room bytes) in
+    let left : size - length file ≡ room - length bytes = omega (arith, count) in
+    let added : n - length file ≡ min (room - length bytes) zeros = omega (arith, long, ap (λ k. min k zeros) left) in
     let whole : take n file ≡ file = take_all n file (omega (arith, long)) in
     ap (λ xs. xs ++ replicate (n - length file) 0) (whole ∙ front)
-    ∙ ap (λ k. (old ++ take room text) ++ replicate k 0) added
-    ∙ append_assoc old (take room text) (replicate (min (room - length text) zeros) 0)
-    ∙ ap (λ xs. old ++ (take room text ++ xs)) (sym (take-zeros (room - length text) zeros))
-    ∙ ap (λ xs. old ++ xs) (sym (take-append room text (replicate zeros 0)))
-    ∙ ap (λ xs. xs ++ take room (padded s text)) (sym (take_all size old fits))
-    ∙ sym (take-append size old (padded s text))
+    ∙ ap (λ k. (old ++ take room bytes) ++ replicate k 0) added
+    ∙ append_assoc old (take room bytes) (replicate (min (room - length bytes) zeros) 0)
+    ∙ ap (λ xs. old ++ (take room bytes ++ xs)) (sym (take-zeros (room - length bytes) zeros))
+    ∙ ap (λ xs. old ++ xs) (sym (take-append room bytes (replicate zeros 0)))
+    ∙ ap (λ xs. xs ++ take room (padded s bytes)) (sym (take_all size old fits))
+    ∙ sym (take-append size old (padded s bytes))
 
--- what is cut off once needn't be cut off before
+-- cutting the first list before makes no difference
 pub take-again : (n : ℕ) (xs ys : List ℕ) → take n (take n xs ++ ys) ≡ take n (xs ++ ys)
 take-again zero xs ys = refl
 take-again (suc n) [] ys = refl

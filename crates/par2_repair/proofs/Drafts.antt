@@ -1,5 +1,5 @@
 -- A draft of a repair, by the targets that it writes.
-use Rattle.par2_repair.proofs.Common.{◌≡◌, ◌∙◌, ℕ, List, [], ◌∷◌, ◌++◌, length, map, drop, get_or, refl, sym, ap, ap₂, subst, Bool, true, false, not, Ok, append-nil, Option, filter, filter_map, option_map, None, Some, AllByRecursion, cons_option, list_all, and_from, and_parts, false_from_ne_true, filter_map-append, bytes_eq-Decides, Change, Write, Rename, Remove, are_applicable, effects, Repair, fault_where, Folder, is_among, changes_of, now_at, repair_changes, repair_removals, set_in, refusal, aside, put_aside, rebuilt_targets, par_files, AreFew, candidates, matches, matching, ParSet, Target, RepairFailed, set_in_reads, same_ok, md5s_of, HasItsMd5s, IsDraft, IsDraftBy, has_digest, IsAsDescribed, repair_by, bytes_written, texts_written, IsTrue}
+use Rattle.par2_repair.proofs.Common.{◌≡◌, ◌∙◌, ℕ, List, [], ◌∷◌, ◌++◌, length, map, drop, get_or, refl, sym, ap, ap₂, subst, Bool, true, false, not, Ok, append-nil, Option, filter, filter_map, option_map, None, Some, AllByRecursion, cons_option, list_all, and_from, and_parts, false_from_ne_true, filter_map-append, bytes_eq-Decides, Change, Write, Rename, Remove, are_applicable, effects, Repair, fault_where, Folder, is_among, changes_of, now_at, repair_changes, repair_removals, set_in, refusal, aside, put_aside, rebuilt_targets, par_files, AreFew, candidates, matches, matching, ParSet, Target, RepairFailed, set_in_reads, same_ok, md5s_of, HasItsMd5s, IsDraft, IsDraftBy, has_digest, IsAsDescribed, repair_by, bytes_written, buffers_written, IsTrue}
 use Rattle.md5.specs.Md5.{md5}
 use Rattle.par2_repair.specs.declared.draft.Draft.{Draft}
 use Rattle.par2_repair.proofs.PlanParts.{repair_refused, repair_leads}
@@ -7,22 +7,22 @@ use Rattle.par2_repair.proofs.PlanParts as parts
 
 -- ---- what a repair writes
 
--- changes of which none writes
-writes_none : {A : Type 0} (f : A → Change) → ((x : A) → bytes_written (f x) ≡ None) → (xs : List A) → texts_written (map f xs) ≡ []
+-- changes that write nothing
+writes_none : {A : Type 0} (f : A → Change) → ((x : A) → bytes_written (f x) ≡ None) → (xs : List A) → buffers_written (map f xs) ≡ []
 writes_none f none [] = refl
-writes_none f none (x ∷ xs) = ap (λ o. cons_option o (texts_written (map f xs))) (none x) ∙ writes_none f none xs
+writes_none f none (x ∷ xs) = ap (λ o. cons_option o (buffers_written (map f xs))) (none x) ∙ writes_none f none xs
 
-matches_write_none : (place : List ℕ → List ℕ) (ms : List (Target × Option (List ℕ))) → texts_written (filter_map (λ m. option_map (λ name. Rename (place name) m.0.name) m.1) ms) ≡ []
+matches_write_none : (place : List ℕ → List ℕ) (ms : List (Target × Option (List ℕ))) → buffers_written (filter_map (λ m. option_map (λ name. Rename (place name) m.0.name) m.1) ms) ≡ []
 matches_write_none place [] = refl
 matches_write_none place ((t, None) ∷ ms) = matches_write_none place ms
 matches_write_none place ((t, Some name) ∷ ms) = matches_write_none place ms
 
-targets_written : (cs : List (Target × List ℕ)) → texts_written (map (λ c. Write c.0.name c.1) cs) ≡ map (λ c. c.1) cs
+targets_written : (cs : List (Target × List ℕ)) → buffers_written (map (λ c. Write c.0.name c.1) cs) ≡ map (λ c. c.1) cs
 targets_written [] = refl
-targets_written (c ∷ cs) = ap (λ texts. c.1 ∷ texts) (targets_written cs)
+targets_written (c ∷ cs) = ap (λ buffers. c.1 ∷ buffers) (targets_written cs)
 
 module _ (folder : Folder) (set : ParSet) (searched : List (List ℕ)) where
-  changes_write : texts_written (repair_changes folder set searched) ≡ map (λ c. c.1) (rebuilt_targets folder set searched)
+  changes_write : buffers_written (repair_changes folder set searched) ≡ map (λ c. c.1) (rebuilt_targets folder set searched)
   unfolding repair_changes
   changes_write =
       let renamed : List Change = map (λ name. Rename name (aside folder set name)) (put_aside folder set) in
@@ -34,7 +34,7 @@ module _ (folder : Folder) (set : ParSet) (searched : List (List ℕ)) where
       ∙ ap₂ (λ (a b : List (List ℕ)). a ++ b) (writes_none (λ name. Rename name (aside folder set name)) (λ name. refl) (put_aside folder set)) (matches_write_none (now_at folder set) (matches folder set searched)))
       (targets_written (rebuilt_targets folder set searched))
 
-  removals_write : texts_written (repair_removals folder set searched) ≡ []
+  removals_write : buffers_written (repair_removals folder set searched) ≡ []
   unfolding repair_removals
   removals_write =
       let left : List (List ℕ) = filter (λ name. not (is_among (matching folder set searched) name)) (put_aside folder set) in
@@ -42,15 +42,15 @@ module _ (folder : Folder) (set : ParSet) (searched : List (List ℕ)) where
       filter_map-append bytes_written (map (λ name. Remove (aside folder set name)) left) (map Remove files)
       ∙ ap₂ (λ (a b : List (List ℕ)). a ++ b) (writes_none (λ name. Remove (aside folder set name)) (λ name. refl) left) (writes_none Remove (λ name. refl) files)
 
-  repair_writes : (purge : Bool) → texts_written (repair_by purge folder set searched) ≡ map (λ c. c.1) (rebuilt_targets folder set searched)
+  repair_writes : (purge : Bool) → buffers_written (repair_by purge folder set searched) ≡ map (λ c. c.1) (rebuilt_targets folder set searched)
   repair_writes false = changes_write
   repair_writes true =
       filter_map-append bytes_written (repair_changes folder set searched) (repair_removals folder set searched)
       ∙ ap₂ (λ (a b : List (List ℕ)). a ++ b) changes_write removals_write ∙ append-nil (map (λ (c : Target × List ℕ). c.1) (rebuilt_targets folder set searched))
 
--- ---- its digests
+-- ---- MD5s
 
--- the bytes of targets have the MD5s of these
+-- the bytes have the MD5s that the targets describe
 abbrev HaveMd5s : List (Target × List ℕ) → Type 0
 HaveMd5s cs = map md5 (map (λ c. c.1) cs) ≡ md5s_of cs
 
@@ -77,14 +77,14 @@ module _ (folder : Folder) (base : List ℕ) (extras : List (List ℕ)) (purge :
   abbrev targets : List (Target × List ℕ)
   targets = rebuilt_targets folder set (candidates folder set extras)
 
-  texts_are : map md5 (texts_written draft.changes) ≡ map md5 (map (λ c. c.1) targets)
-  texts_are = ap (λ changes. map md5 (texts_written changes)) is.changes ∙ ap (map md5) (repair_writes folder set (candidates folder set extras) purge)
+  buffers_are : map md5 (buffers_written draft.changes) ≡ map md5 (map (λ c. c.1) targets)
+  buffers_are = ap (λ changes. map md5 (buffers_written changes)) is.changes ∙ ap (map md5) (repair_writes folder set (candidates folder set extras) purge)
 
   right : HasItsMd5s draft → list_all has_digest targets ≡ true
-  right has = all_right targets (sym texts_are ∙ has ∙ is.md5s)
+  right has = all_right targets (sym buffers_are ∙ has ∙ is.md5s)
 
   wrong : ¬ (HasItsMd5s draft) → list_all has_digest targets ≡ false
-  wrong lacks = false_from_ne_true _ (λ all. lacks (texts_are ∙ have_md5s targets all ∙ sym is.md5s))
+  wrong lacks = false_from_ne_true _ (λ all. lacks (buffers_are ∙ have_md5s targets all ∙ sym is.md5s))
 
   refused : (b : Bool) → list_all has_digest targets ≡ b → refusal folder (Repair base extras purge) ≡ fault_where (not b) RepairFailed
   refused b e = repair_refused folder base extras purge set reads ∙ is.cause ∙ ap (λ b. fault_where (not b) RepairFailed) e

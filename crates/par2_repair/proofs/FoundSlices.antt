@@ -1,14 +1,14 @@
 -- Whether slices are found.
-use Rattle.par2_repair.proofs.Common.{◌≡◌, ◌∙◌, ◌++◌, ◌∷◌, [], append-nil, ℕ, List, Bool, true, false, cond, length, map, take, drop, refl, sym, ap, ap₂, subst, is_some, filter, flat_map, Option, None, Some, AllByRecursion, length-map, map-append, Pair, Target, Window, padded_windows, found_by, pairs_of}
+use Rattle.par2_repair.proofs.Common.{◌≡◌, ◌∙◌, ◌++◌, ◌∷◌, [], append-nil, ℕ, List, Bool, true, false, cond, length, map, take, drop, refl, sym, ap, ap₂, subst, is_some, filter, flat_map, Option, None, Some, AllByRecursion, length-map, map-append, Pair, Target, Window, padded_windows, found_by, pairs_sought}
 use Rattle.std.proofs.Math.Seq.{drop-append_seam, take-append_seam}
 
--- a window is there where its slice is found
+-- there is a window if and only if its slice is found
 pub windows_there : (s : ℕ) (windows : List Window) → map (λ w. is_some w) windows ≡ map (λ slice. is_some slice) (padded_windows s windows)
 windows_there s [] = refl
 windows_there s (None ∷ windows) = ap (λ bs. false ∷ bs) (windows_there s windows)
 windows_there s (Some w ∷ windows) = ap (λ bs. true ∷ bs) (windows_there s windows)
 
--- the pairs of a target that are sought, and the first answers
+-- the slice checksums of a target that is searched for, and the first answers
 abbrev own : Target → Bool → List Pair
 own t b = cond b t.pairs []
 
@@ -23,7 +23,7 @@ found_agree p q h [] answers = refl
 found_agree p q h (t ∷ ts) answers =
     ap (λ b. with_next p t ts answers b) (h t) ∙ ap (λ bs. first t answers (q t) ++ bs) (found_agree p q h ts (drop (length (own t (q t))) answers))
 
--- the seam of two lists
+-- taking and dropping at the seam of two lists
 pub seam : (xs ys : List Bool) (n : ℕ) → length xs ≡ n → (take n (xs ++ ys) ≡ xs) × (drop n (xs ++ ys) ≡ ys)
 seam xs ys n e = subst (λ k. (take k (xs ++ ys) ≡ xs) × (drop k (xs ++ ys) ≡ ys)) e (take-append_seam xs ys, drop-append_seam xs ys)
 
@@ -42,14 +42,14 @@ module _ (f : Pair → Option (List ℕ)) where
   all_found [] h = refl
   all_found (pair ∷ pairs) h = ap₂ (λ b (bs : List Bool). b ∷ bs) (sym h.0) (all_found pairs h.1)
 
-  -- where the others are found, they all are told
-  pub told : (sought : Target → Bool) (ts : List Target) → AllByRecursion (λ t. sought t ≡ false → AllByRecursion (λ pair. is_some (f pair) ≡ true) t.pairs) ts
-      → found_by sought ts (answers (pairs_of sought ts)) ≡ answers (flat_map (λ t. t.pairs) ts)
-  told sought [] h = refl
-  told sought (t ∷ ts) h = step (sought t) refl (told sought ts h.1)
+  -- if all slices of the other targets are found, the answers are right for all
+  pub reported : (sought : Target → Bool) (ts : List Target) → AllByRecursion (λ t. sought t ≡ false → AllByRecursion (λ pair. is_some (f pair) ≡ true) t.pairs) ts
+      → found_by sought ts (answers (pairs_sought sought ts)) ≡ answers (flat_map (λ t. t.pairs) ts)
+  reported sought [] h = refl
+  reported sought (t ∷ ts) h = step (sought t) refl (reported sought ts h.1)
     where
       later : List Pair
-      later = pairs_of sought ts
+      later = pairs_sought sought ts
 
       given : Bool → List Bool
       given b = answers (flat_map (λ u. u.pairs) (cond b (t ∷ filter sought ts) (filter sought ts)))

@@ -1,8 +1,8 @@
--- What a repair and a purge are by the set that they read.
+-- A repair and a purge by the set that they read.
 use Rattle.par2_repair.proofs.Common.{◌≡◌, ◌∙◌, ℕ, List, [], refl, sym, ap, subst, Bool, Ok, Err, Verify, Repair, Purge, then_fault, Folder, purge_changes, LeadsToAfter, changes_of, absent_file, set_in, repair_refusal, purge_refusal, by_set, early_refusal, refusal, AreFew, candidates, ParSet, Fault, command_leads, set_in_reads, same_ok, IsWholeWhereMatched, repair_by, Some}
 use Rattle.par2_repair.proofs.RepairParts.{whole_where_matched}
 
--- ---- what is refused first
+-- ---- early refusals
 
 pub early_verify : (folder : Folder) (base : List ℕ) (extras : List (List ℕ)) → early_refusal folder (Verify base extras) ≡ absent_file folder base extras
 unfolding early_refusal

@@ -1,4 +1,4 @@
--- The base and the further files that are there.
+-- The base and the extras that are in the folder.
 use Rattle.par2_repair.proofs.Common.{◌≡◌, ℕ, ◌+◌, List, [], ◌∷◌, refl, sym, ap, ap₂, ◌∙◌, Bool, true, false, not, cond, arith, not-false, filter, option_map, None, Some, position_from, AllByRecursion, NoSuchFile, Folder, has, set_of, absent_file, set_in, missing, in_full, in_part, position_from-zero, no_place, Err}
 
 -- ---- the first word that is absent
@@ -46,11 +46,11 @@ module _ (folder : Folder) (base : List ℕ) (extras : List (List ℕ)) where
       in_part folder base extras 0 (position_from-zero test (base ∷ extras) ∙ ap (λ b. cond (not b) (Some 0) (position_from test 1 extras)) gone)
 
   module _ (there : has folder base ≡ true) where
-    -- where no word is absent, the set is that of the base
+    -- if no word is absent, the set is that of the base
     pub all_present : missing folder extras ≡ None → set_in folder base extras ≡ set_of folder base
     all_present e = in_full folder base extras (missing_behind folder base extras there ∙ ap (option_map (λ k. 1 + k)) e)
 
--- and each word is a file's name
+-- if no word is absent, each is a file's name
 pub all_there : (folder : Folder) (words : List (List ℕ)) → missing folder words ≡ None → filter (has folder) words ≡ words
 all_there folder words e = kept words (no_place (λ word. not (has folder word)) 0 words (sym (position_from-zero (λ word. not (has folder word)) words) ∙ e))
   where

@@ -1,14 +1,14 @@
 -- The parts of a repair are those of the definitions.
-use Rattle.par2_repair.proofs.Common.{◌≡◌, ◌⊎◌, inl, inr, subst, ℕ, List, [], ◌∷◌, ◌++◌, length, map, refl, sym, ap, ap₂, ◌∙◌, Bool, true, false, not, cond, ◌&&◌, ◌||◌, ◌+◌, suc, arith, Ok, ◌==◌, Option, is_none, filter, filter_map, flat_map, None, Some, AllByRecursion, enumerate_from, list_any, bytes_eq, ne_eqb, or_right, and_parts, not-true, false_from_ne_true, is_needing, matching, matches, lost, survivors, candidates, needing_names, known, is_par_name, is_among, map-map, Change, Rename, Remove, Pair, first_fault, fault_where, Folder, bytes_of, has, now_at, repair_changes, repair_removals, is_repairable, rank, aside, put_aside, names_without_match, rebuilt, par_files, files_of_slices, is_par_file, rebuilt_targets, ParSet, Target, set_of, found, Fault, NotRepairable, all-append, filter-map, all-each, all-filter, lost_of, long_aside, undetermined_fault, targets_among, wrong_digest, AreRestored, IsWholeWhereMatched, matches_taken, writes, files_removed, place_by, known_by, itself, among-filter, among_some, clash, repair_refusal}
+use Rattle.par2_repair.proofs.Common.{◌≡◌, ◌⊎◌, inl, inr, subst, ℕ, List, [], ◌∷◌, ◌++◌, length, map, refl, sym, ap, ap₂, ◌∙◌, Bool, true, false, not, cond, ◌&&◌, ◌||◌, ◌+◌, suc, arith, Ok, ◌==◌, Option, is_none, filter, filter_map, flat_map, None, Some, AllByRecursion, enumerate_from, list_any, bytes_eq, ne_eqb, or_right, and_parts, not-true, false_from_ne_true, is_incomplete, matching, matches, lost, survivors, candidates, incomplete_names, known, is_par_name, is_among, map-map, Change, Rename, Remove, Pair, first_fault, fault_where, Folder, bytes_of, has, now_at, repair_changes, repair_removals, is_repairable, rank, aside, put_aside, names_without_match, rebuilt, par_files, files_of_slices, is_par_file, rebuilt_targets, ParSet, Target, set_of, found, Fault, NotRepairable, all-append, filter-map, all-each, all-filter, lost_of, long_aside, undetermined_fault, targets_among, wrong_digest, AreRestored, IsWholeWhereMatched, matches_taken, writes, files_removed, place_by, known_by, itself, among-filter, among_some, clash, repair_refusal}
 use Rattle.par2_spec.specs.Packets.{accepted}
 use Rattle.par2_spec.specs.Folders.{names as names_in}
 use Rattle.par2_spec.proofs.RankLaws.{repairable-iff}
-use Rattle.par2_spec.proofs.SearchLaws.{matches_of_needing}
+use Rattle.par2_spec.proofs.SearchLaws.{matches_of_incomplete}
 
 abbrev Pairs : Type 0
 Pairs = List (Target × Option (List ℕ))
 
--- ---- files that are put aside stand under their asides
+-- ---- files that are put aside have their asides as names
 
 own_places : (aside : List ℕ → List ℕ) (all : List (List ℕ)) (change : List ℕ → List ℕ → Change) (names : List (List ℕ)) → AllByRecursion (λ n. is_among all n ≡ true) names
     → map (λ n. change n (place_by aside all n)) names ≡ map (λ n. change n (aside n)) names
@@ -16,7 +16,7 @@ own_places aside all change [] h = refl
 own_places aside all change (name ∷ names) h =
     ap₂ (λ (place : List ℕ) (changes : List Change). change name place ∷ changes) (ap (λ b. cond b (aside name) name) h.0) (own_places aside all change names h.1)
 
--- the others stand where they stood
+-- the others keep their names
 old_places : (aside : List ℕ → List ℕ) (all : List (List ℕ)) (change : List ℕ → Change) (names : List (List ℕ)) → AllByRecursion (λ n. is_among all n ≡ false) names
     → map (λ n. change (place_by aside all n)) names ≡ map change names
 old_places aside all change [] h = refl
@@ -36,7 +36,7 @@ all_own [] more h = tt
 all_own (name ∷ names) more h =
     (h name (ap (λ b. b || is_among names name) (itself name)), all_own names more (λ q k. h q (or_right (bytes_eq q name) _ k)))
 
--- ---- nothing is lost where each needing target has a match
+-- ---- nothing is lost if each incomplete target has a match
 
 quiet : (n : ℕ) (xs : List (Bool × Option (List ℕ))) → AllByRecursion (λ x. x.0 ≡ false) xs → filter (λ (z : ℕ × (Bool × Option (List ℕ))). z.1.0 && is_none z.1.1) (enumerate_from n xs) ≡ []
 quiet n [] h = refl
@@ -56,7 +56,7 @@ whole_where_matched folder base set extras reads = λ none.
     ∙ ap (λ names. map (λ (z : ℕ × (Bool × Option (List ℕ))). z.0) (filter (λ z. z.1.0 && is_none z.1.1) (enumerate_from 0 (of_names names)))) none
     ∙ ap (map (λ (z : ℕ × (Bool × Option (List ℕ))). z.0)) (quiet 0 (of_names []) (all_quiet f set.targets))
 
--- no slice is repairable
+-- zero lost slices are repairable
 none_to_repair : (survivors : List ℕ) → is_repairable [] survivors ≡ true
 none_to_repair survivors = (repairable-iff [] survivors).1 (λ v h k. no_element v h.0)
   where
@@ -73,7 +73,7 @@ none_among : (files : List (Target × List ℕ)) → filter (λ c. is_among [] c
 none_among [] = refl
 none_among (file ∷ files) = none_among files
 
--- where there are no names, no file is restored
+-- without names, no file is restored
 pub none_restored : (set : ParSet) (known : List (Option (List ℕ))) (names : List (List ℕ)) (restored : List (Target × List ℕ)) → names ≡ [] → restored ≡ [] → AreRestored set known names restored
 none_restored set known names restored none is =
     let targets : targets_among set (rebuilt set known) names ≡ [] = ap (targets_among set (rebuilt set known)) none ∙ none_among (files_of_slices set (rebuilt set known)) in
@@ -83,15 +83,15 @@ none_restored set known names restored none is =
       determined = inl none;
     }
 
--- ---- of a folder, a set and the names that are searched
+-- ---- a folder, a set and the names that are searched
 
 module _ (folder : Folder) (set : ParSet) (searched : List (List ℕ)) where
   abbrev ms : Pairs
   ms = matches folder set searched
 
-  pub names_in_pairs : needing_names folder set ≡ map (λ m. m.0.name) ms
+  pub names_in_pairs : incomplete_names folder set ≡ map (λ m. m.0.name) ms
   names_in_pairs =
-      ap (map (λ (t : Target). t.name)) (sym (matches_of_needing folder set searched))
+      ap (map (λ (t : Target). t.name)) (sym (matches_of_incomplete folder set searched))
       ∙ map-map (λ (t : Target). t.name) (λ (m : Target × Option (List ℕ)). m.0) ms
 
   -- ---- refusals
@@ -103,15 +103,15 @@ module _ (folder : Folder) (set : ParSet) (searched : List (List ℕ)) where
   pub not_repairable : (fault : Fault) → undetermined_fault set (known_by folder set searched) ≡ Some fault → repair_refusal folder set searched ≡ Some fault
   not_repairable fault h = by_parts ∙ ap (λ f. first_fault (f ∷ long_aside folder set (put_aside folder set) ∷ wrong_digest (rebuilt_targets folder set searched) ∷ [])) h
 
-  module _ (told : undetermined_fault set (known_by folder set searched) ≡ None) where
+  module _ (reported : undetermined_fault set (known_by folder set searched) ≡ None) where
     pub too_long : (fault : Fault) → long_aside folder set (put_aside folder set) ≡ Some fault → repair_refusal folder set searched ≡ Some fault
     too_long fault h =
-        by_parts ∙ ap₂ (λ f g. first_fault (f ∷ g ∷ wrong_digest (rebuilt_targets folder set searched) ∷ [])) told h
+        by_parts ∙ ap₂ (λ f g. first_fault (f ∷ g ∷ wrong_digest (rebuilt_targets folder set searched) ∷ [])) reported h
 
     module _ (short : long_aside folder set (put_aside folder set) ≡ None) where
       pub by_digests : repair_refusal folder set searched ≡ wrong_digest (rebuilt_targets folder set searched)
       by_digests =
-          by_parts ∙ ap₂ (λ f g. first_fault (f ∷ g ∷ wrong_digest (rebuilt_targets folder set searched) ∷ [])) told short ∙ alone (wrong_digest (rebuilt_targets folder set searched))
+          by_parts ∙ ap₂ (λ f g. first_fault (f ∷ g ∷ wrong_digest (rebuilt_targets folder set searched) ∷ [])) reported short ∙ alone (wrong_digest (rebuilt_targets folder set searched))
         where
           alone : (f : Option Fault) → first_fault (f ∷ []) ≡ f
           alone None = refl
@@ -119,11 +119,11 @@ module _ (folder : Folder) (set : ParSet) (searched : List (List ℕ)) where
 
   -- ---- slices and files
 
-  pub told_by : (names : List (List ℕ)) → names ≡ names_without_match ms → IsWholeWhereMatched folder set searched → (names ≡ []) ⊎ (undetermined_fault set (known_by folder set searched) ≡ None)
+  pub reported_by : (names : List (List ℕ)) → names ≡ names_without_match ms → IsWholeWhereMatched folder set searched → (names ≡ []) ⊎ (undetermined_fault set (known_by folder set searched) ≡ None)
       → undetermined_fault set (known_by folder set searched) ≡ None
   unfolding known
-  told_by names e whole (inl none) = determined_without set (known_by folder set searched) (whole (sym e ∙ none))
-  told_by names e whole (inr told) = told
+  reported_by names e whole (inl none) = determined_without set (known_by folder set searched) (whole (sym e ∙ none))
+  reported_by names e whole (inr reported) = reported
 
   pub targets_are : (names : List (List ℕ)) → names ≡ names_without_match ms → targets_among set (rebuilt set (known_by folder set searched)) names ≡ rebuilt_targets folder set searched
   unfolding rebuilt_targets known
@@ -131,30 +131,30 @@ module _ (folder : Folder) (set : ParSet) (searched : List (List ℕ)) where
 
   -- ---- changes
 
-  pub changes_are : (needing : Pairs) (names : List (List ℕ)) (targets : List (Target × List ℕ)) → needing ≡ ms → names ≡ put_aside folder set → targets ≡ rebuilt_targets folder set searched
-      → map (λ n. Rename n (now_at folder set n)) names ++ matches_taken (now_at folder set) needing ++ writes targets ≡ repair_changes folder set searched
+  pub changes_are : (incomplete : Pairs) (names : List (List ℕ)) (targets : List (Target × List ℕ)) → incomplete ≡ ms → names ≡ put_aside folder set → targets ≡ rebuilt_targets folder set searched
+      → map (λ n. Rename n (now_at folder set n)) names ++ matches_taken (now_at folder set) incomplete ++ writes targets ≡ repair_changes folder set searched
   unfolding repair_changes
-  changes_are needing names targets of_needing of_names of_targets =
+  changes_are incomplete names targets of_incomplete of_names of_targets =
       ap₂ (λ (a b : List Change). a ++ b)
       (ap₂ (λ (a b : List Change). a ++ b)
       (ap (map (λ n. Rename n (now_at folder set n))) of_names ∙ own_places (aside folder set) (put_aside folder set) Rename (put_aside folder set) (all_own (put_aside folder set) (put_aside folder set) (λ q h. h)))
-      (ap (matches_taken (now_at folder set)) of_needing))
+      (ap (matches_taken (now_at folder set)) of_incomplete))
       (ap writes of_targets)
 
-  -- a par file is no target, so that it isn't put aside
+  -- a PAR2 file is no target, so it isn't put aside
   par_file_stays : (n : List ℕ) → is_par_file folder set n ≡ true → is_among (put_aside folder set) n ≡ false
   par_file_stays n e =
       let targets = map (λ (t : Target). t.name) set.targets in
       let some = (and_parts (is_par_name n && not (is_among targets n) && list_any (λ p. bytes_eq p.set_id set.id) (accepted (bytes_of folder n))) _ e).0 in
       let other = not-true (is_among targets n) (and_parts (is_par_name n) _ (and_parts (is_par_name n && not (is_among targets n)) _ some).0).1 in
-      false_from_ne_true _ (λ h. clash (among_some (λ (t : Target). t.name) (is_needing folder set) set.targets n (and_parts _ _ (sym (among-filter (has folder) (needing_names folder set) n) ∙ h)).0) other)
+      false_from_ne_true _ (λ h. clash (among_some (λ (t : Target). t.name) (is_incomplete folder set) set.targets n (and_parts _ _ (sym (among-filter (has folder) (incomplete_names folder set) n) ∙ h)).0) other)
 
-  pub removals_are : (needing : Pairs) (names files : List (List ℕ)) → needing ≡ ms → names ≡ put_aside folder set → files ≡ par_files folder set
-      → files_removed (now_at folder set) (filter_map (λ m. m.1) needing) names ++ files_removed (now_at folder set) (filter_map (λ m. m.1) needing) files ≡ repair_removals folder set searched
+  pub removals_are : (incomplete : Pairs) (names files : List (List ℕ)) → incomplete ≡ ms → names ≡ put_aside folder set → files ≡ par_files folder set
+      → files_removed (now_at folder set) (filter_map (λ m. m.1) incomplete) names ++ files_removed (now_at folder set) (filter_map (λ m. m.1) incomplete) files ≡ repair_removals folder set searched
   unfolding repair_removals
-  removals_are needing names files of_needing of_names of_files =
+  removals_are incomplete names files of_incomplete of_names of_files =
       let free = λ (n : List ℕ). not (is_among (matching folder set searched) n) in
-      ap₂ (λ (ms : Pairs) (ns : List (List ℕ)). files_removed (now_at folder set) (filter_map (λ m. m.1) ms) ns ++ files_removed (now_at folder set) (filter_map (λ m. m.1) ms) files) of_needing of_names
+      ap₂ (λ (ms : Pairs) (ns : List (List ℕ)). files_removed (now_at folder set) (filter_map (λ m. m.1) ms) ns ++ files_removed (now_at folder set) (filter_map (λ m. m.1) ms) files) of_incomplete of_names
       ∙ ap₂ (λ (a b : List Change). a ++ b)
       (own_places (aside folder set) (put_aside folder set) (λ n other. Remove other) (filter free (put_aside folder set))
       (all-filter (λ n. is_among (put_aside folder set) n ≡ true) free (put_aside folder set) (all_own (put_aside folder set) (put_aside folder set) (λ q h. h))))
@@ -162,17 +162,17 @@ module _ (folder : Folder) (set : ParSet) (searched : List (List ℕ)) where
       ∙ old_places (aside folder set) (put_aside folder set) Remove (filter free (par_files folder set))
       (all-filter (λ n. is_among (put_aside folder set) n ≡ false) free (par_files folder set) (all_passing (λ n. is_among (put_aside folder set) n ≡ false) (is_par_file folder set) par_file_stays (names_in folder))))
 
-  pub put_aside_in : (needing : Pairs) → needing ≡ ms → map (λ m. m.0.name) (filter (λ m. has folder m.0.name) needing) ≡ put_aside folder set
-  put_aside_in needing e =
+  pub put_aside_in : (incomplete : Pairs) → incomplete ≡ ms → map (λ m. m.0.name) (filter (λ m. has folder m.0.name) incomplete) ≡ put_aside folder set
+  put_aside_in incomplete e =
       ap (λ (ms : Pairs). map (λ m. m.0.name) (filter (λ m. has folder m.0.name) ms)) e
       ∙ sym (filter-map (has folder) (λ (m : Target × Option (List ℕ)). m.0.name) ms) ∙ ap (filter (has folder)) (sym names_in_pairs)
 
 -- ---- purges
 
--- some targets are needing where one is
-pub any_needing : (test : Target → Bool) (ts : List Target) → not (length (filter test ts) == 0) ≡ list_any test ts
-any_needing test [] = refl
-any_needing test (t ∷ ts) = step (test t) (any_needing test ts)
+-- some targets are incomplete if and only if one is
+pub any_incomplete : (test : Target → Bool) (ts : List Target) → not (length (filter test ts) == 0) ≡ list_any test ts
+any_incomplete test [] = refl
+any_incomplete test (t ∷ ts) = step (test t) (any_incomplete test ts)
   where
     step : (b : Bool) → not (length (filter test ts) == 0) ≡ list_any test ts → not (length (cond b (t ∷ filter test ts) (filter test ts)) == 0) ≡ (b || list_any test ts)
     step true h = ap not (ne_eqb (suc (length (filter test ts))) 0 (λ e. absurd (omega (arith, e))))

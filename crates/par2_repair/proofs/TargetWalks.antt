@@ -1,14 +1,14 @@
--- The targets one after the other, with their bytes by the slices that are left.
+-- The targets one after the other, cut out of the slices that are left.
 use Rattle.par2_repair.proofs.Common.{◌≡◌, ◌∙◌, ℕ, ◌+◌, List, [], ◌∷◌, ◌++◌, length, map, take, drop, refl, sym, ap, Bool, true, false, cond, filter, zip, concat, drop-drop, is_among, cut_into, Target, target_at, chosen_at, append_assoc}
 
 abbrev pub walked : List Target → List (List ℕ) → List (Target × List ℕ)
 walked ts slices = map (λ z. (z.0, take z.0.length (concat z.1))) (zip ts (cut_into (map (λ t. length t.pairs) ts) slices))
 
--- those of these names
+-- those with these names
 abbrev pub among : List (List ℕ) → List Target → List (List ℕ) → List (Target × List ℕ)
 among names ts slices = filter (λ c. is_among names c.0.name) (walked ts slices)
 
--- the first target, whose slices begin with that of number `first`, and the others
+-- the first target, whose slices begin with number `first`, and the others
 pub among-cons : (names : List (List ℕ)) (t : Target) (ts : List Target) (slices : List (List ℕ)) (first : ℕ)
     → among names (t ∷ ts) (drop first slices) ≡ chosen_at names slices first t ++ among names ts (drop (first + length t.pairs) slices)
 among-cons names t ts slices first =

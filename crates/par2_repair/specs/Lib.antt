@@ -2,7 +2,7 @@ pub mod Drafts
 pub mod Findings
 pub mod Repairing
 pub mod Restoring
-pub mod SliceTexts
+pub mod SliceBytes
 pub mod Survivors
 pub mod Views
 pub mod Written

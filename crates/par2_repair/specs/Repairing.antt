@@ -17,23 +17,24 @@ use Rattle.par2_spec.specs.Sets.{ParSet, Target}
 use Rattle.par2_repair.specs.Restoring.{known_in, targets_among, undetermined_fault}
 use Rattle.par2_repair.specs.declared.moves.Moves.{Moves}
 
--- where each needing target has a match, nothing is lost
+-- if each incomplete target has a match, nothing is lost
 abbrev pub IsWholeWhereMatched : Folder → ParSet → List (List ℕ) → Type 0
 IsWholeWhereMatched folder set searched = names_without_match (search.matches folder set searched) ≡ [] → lost (known folder set searched) ≡ []
 
 -- ---- slices and files
 
--- the slices of a set that files have, by the names that are searched
+-- the slices of a set that are found in the files of these names
 abbrev pub known_by : Folder → ParSet → List (List ℕ) → List (Option (List ℕ))
 known_by folder set searched = known_in set (map (bytes_of folder) searched)
 
--- the targets of these names, by the slices that are known; where there are names, the lost slices can be rebuilt
+-- the targets with these names, cut out of the known and rebuilt slices. If there are names, the lost slices can be
+-- rebuilt
 pub record AreRestored (set : ParSet) (known : List (Option (List ℕ))) (names : List (List ℕ)) (restored : List (Target × List ℕ)) : Type 0 where
   pub targets : restored ≡ targets_among set (rebuilt set known) names
   pub lengths : AllByRecursion (λ c. length c.1 ≡ c.0.length) (targets_among set (rebuilt set known) names)
   pub determined : (names ≡ []) ⊎ (undetermined_fault set known ≡ None)
 
--- a file has the length and the MD5 that its target describes
+-- a target's bytes have the length and the MD5 that it describes
 pub record IsAsDescribed (c : Target × List ℕ) : Type 0 where
   pub length : length c.1 ≡ c.0.length
   pub md5 : md5 c.1 ≡ c.0.md5
@@ -45,7 +46,7 @@ WritesAsDescribed folder base extras =
 
 -- ---- changes
 
--- each needing target that has a match takes it, from the place where it stands
+-- each match is renamed to the name of its target, from `place name`, the name that it has by then
 abbrev pub matches_taken : (List ℕ → List ℕ) → List (Target × Option (List ℕ)) → List Change
 matches_taken place ms = filter_map (λ m. option_map (λ name. Rename (place name) m.0.name) m.1) ms
 
@@ -53,26 +54,27 @@ matches_taken place ms = filter_map (λ m. option_map (λ name. Rename (place na
 abbrev pub writes : List (Target × List ℕ) → List Change
 writes targets = map (λ c. Write c.0.name c.1) targets
 
--- files that are nobody's match are removed, from where they stand
+-- the files of these names that aren't matches are removed under `place name`, the name that each has by then
 abbrev pub files_removed : (List ℕ → List ℕ) → List (List ℕ) → List (List ℕ) → List Change
 files_removed place matching names = map (λ name. Remove (place name)) (filter (λ name. not (is_among matching name)) names)
 
--- where a file stands once those of these names are put aside
+-- the name of a file once the files of these names are put aside
 abbrev pub place_by : (List ℕ → List ℕ) → List (List ℕ) → List ℕ → List ℕ
 place_by aside names name = if is_among names name then aside name else name
 
--- a tree holds for exactly these names their asides
+-- a tree has exactly these names, each with its aside
 abbrev pub HoldsAsides : (List ℕ → List ℕ) → List (List ℕ) → BTreeMap (List ℕ) (List ℕ) → Type 0
 HoldsAsides aside names tree =
     (name : List ℕ) → get (slice_cmp nat_cmp) tree name ≡ (if is_among names name then Some (aside name) else None)
 
--- the names of those of these targets whose files are there
+-- the names of those targets that are in the folder
 abbrev pub names_there : Folder → List (Target × Option (List ℕ)) → List (List ℕ)
-names_there folder needing = map (λ m. m.0.name) (filter (λ m. has folder m.0.name) needing)
+names_there folder incomplete = map (λ m. m.0.name) (filter (λ m. has folder m.0.name) incomplete)
 
--- what a repair moves in a folder, by the names that are searched
+-- what a repair moves, by the names that are searched: the incomplete targets with their matches, and the files put
+-- aside with their asides
 pub record AreMoves (folder : Folder) (set : ParSet) (searched : List (List ℕ)) (moves : Moves) : Type 0 where
-  pub needing : moves.needing.now ≡ search.matches folder set searched
+  pub incomplete : moves.incomplete.now ≡ search.matches folder set searched
   pub names : moves.put_aside.items ≡ put_aside folder set
   pub asides : HoldsAsides (aside folder set) (put_aside folder set) moves.asides
 

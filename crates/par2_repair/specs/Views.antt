@@ -1,4 +1,4 @@
--- Reports of this crate as those of the definitions.
+-- Reports of this crate in the words of the definitions.
 use Rattle.std.specs.Prelude.{map}
 use Rattle.par2_spec.specs.Reports as reports
 use Rattle.par2_repair.specs.declared.report.State.{State}
@@ -6,22 +6,25 @@ use Rattle.par2_repair.specs.declared.report.State.TheVariants.{Complete, Mispla
 use Rattle.par2_repair.specs.declared.report.TargetReport.{TargetReport}
 use Rattle.par2_repair.specs.declared.report.Report.{Report}
 
-abbrev pub state_of : State → reports.State
-state_of Complete = reports.Complete
-state_of (Misplaced name) = reports.Misplaced name
-state_of Damaged = reports.Damaged
-state_of Missing = reports.Missing
+-- the state of a target
+abbrev pub state_view : State → reports.State
+state_view Complete = reports.Complete
+state_view (Misplaced name) = reports.Misplaced name
+state_view Damaged = reports.Damaged
+state_view Missing = reports.Missing
 
+-- the report on a target
 abbrev pub target_report_of : TargetReport → reports.TargetReport
 target_report_of report = record {
   name = report.name;
-  state = state_of report.state;
+  state = state_view report.state;
   found = report.found;
   total = report.total;
 }
 
-abbrev pub report_of : Report → reports.Report
-report_of report = record {
+-- the report on a set
+abbrev pub report_view : Report → reports.Report
+report_view report = record {
   set_id = report.set_id;
   targets = map target_report_of report.targets.items;
   lost = report.lost;

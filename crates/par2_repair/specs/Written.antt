@@ -1,4 +1,4 @@
--- What changes write.
+-- The bytes that changes write.
 use Rattle.std.specs.Prelude.{ℕ, List, filter_map, Option, Some, None}
 use Rattle.par2_spec.specs.Changes.{Change, Write, Replace, Rename, Remove}
 
@@ -9,6 +9,6 @@ bytes_written (Replace name bytes) = Some bytes
 bytes_written (Rename from to) = None
 bytes_written (Remove name) = None
 
--- the texts that changes write, in order
-abbrev pub texts_written : List Change → List (List ℕ)
-texts_written changes = filter_map bytes_written changes
+-- the bytes of the files that changes write, in order
+abbrev pub buffers_written : List Change → List (List ℕ)
+buffers_written changes = filter_map bytes_written changes

@@ -1,4 +1,4 @@
-//! The files that are searched for what is left of a set's files.
+//! Candidates: the names of the files that a verify and a repair search for a set's files and slices.
 ghost use Rattle.std.specs.Prelude.{◌≡◌, map, IfOk};
 ghost use Rattle.par2_spec.specs.Names.{distinct};
 ghost use Rattle.par2_spec.specs.Search as search;
@@ -10,7 +10,7 @@ use par2_spec::Result;
 use std::alloc::Global;
 use std::collections::BTreeSet;
 
-// Each name once, where it comes first.
+// Each name once, in the order of first occurrence: an extra file may be named twice or be a target.
 fn distinct(alloc: Global, names: &[&Name]) -> Result<Vec<Name>>
     ensures { IfOk result (λ list. list.items ≡ distinct (map (λ name. name.now) names.now)) }
 {
@@ -24,7 +24,7 @@ fn distinct(alloc: Global, names: &[&Name]) -> Result<Vec<Name>>
     Ok(list)
 }
 
-/// The names of the targets that are in the folder, then the further names, each once.
+/// The names of the targets that are in the folder, then the extra names, each once.
 pub fn candidates(alloc: Global, folder: &Folder, set: &ParSet, extra: &[Name]) -> Result<Vec<Name>>
     ensures { Lists (search.candidates folder.now.files set.now extra.now) result }
 {

@@ -1,4 +1,5 @@
-//! A repair whose written files aren't tested yet.
+//! Drafts: repairs whose written files aren't checked yet. The caller digests `Draft::buffers`, and `Draft::tested`
+//! compares the MD5s and returns the changes.
 ghost use Rattle.std.specs.Prelude.{◌≡◌};
 ghost use Rattle.std.specs.Option.{option_copied};
 ghost use Rattle.par2_files.specs.Views.{change_of};
@@ -8,12 +9,12 @@ use par2_files::{Change, Changes};
 use par2_spec::{Fault, Result};
 use std::alloc::Global;
 
-/// What a repair changes, before it is known whether the files that it writes have their MD5s, which can be computed
-/// side by side with other digests.
+/// The changes of a repair before the MD5s of the files that it writes are checked, so that these can be computed side
+/// by side with other digests.
 #[derive(Drop)]
 pub struct Draft {
     pub changes: Changes,
-    /// The MD5s that the files have to have which the changes write, in order.
+    /// The MD5s that the set describes for the written files, in order.
     pub md5s: Vec<[u8; 16]>,
 }
 
@@ -31,26 +32,28 @@ fn bytes_of(change: &Change) -> Option<&[u8]>
 impl Draft {
     ghost use Rattle.std.specs.Prelude.{◌≡◌, map, IfOk, IfErr, OnOk, OnErr};
     ghost use Rattle.md5.specs.Md5.{md5};
-    ghost use Rattle.par2_md5_lanes.specs.Texts.{texts_of};
+    ghost use Rattle.par2_md5_lanes.specs.Buffers.{buffers_of};
     ghost use Rattle.par2_repair.specs.Drafts.{HasItsMd5s};
-    ghost use Rattle.par2_repair.specs.Written.{texts_written};
+    ghost use Rattle.par2_repair.specs.Written.{buffers_written};
 
-    /// The texts that the changes write, in order.
-    pub fn texts(&self, alloc: Global) -> Result<Vec<&[u8]>>
-        ensures { IfOk result (λ texts. texts_of texts.items ≡ texts_written self.now.changes) }
+    /// The bytes of the files that the changes write, in order: the caller computes their MD5s for `tested`.
+    pub fn buffers(&self, alloc: Global) -> Result<Vec<&[u8]>>
+        ensures { IfOk result
+            (λ buffers. buffers_of buffers.items ≡ buffers_written self.now.changes) }
     {
-        let mut texts = Vec::new(alloc);
+        let mut buffers = Vec::new(alloc);
         for change in self.changes.as_slice() {
             if let Some(bytes) = bytes_of(change) {
-                texts.push(bytes)?;
+                buffers.push(bytes)?;
             }
         }
-        Ok(texts)
+        Ok(buffers)
     }
 
-    /// The changes, by the MD5s of the texts that they write: where one is wrong, the repair is refused.
+    /// The changes, if the MD5s `found` of the written files are those that the set describes (`HasItsMd5s`). Otherwise
+    /// it returns `RepairFailed`.
     pub fn tested(self, found: &[[u8; 16]]) -> Result<Changes, Fault>
-        requires { found.now ≡ map md5 (texts_written self.changes) }
+        requires { found.now ≡ map md5 (buffers_written self.changes) }
         ensures changes { IfOk result (λ changes. changes ≡ self.changes) }
         ensures right { OnOk result (HasItsMd5s self) }
         ensures wrong { OnErr result (¬ (HasItsMd5s self)) }

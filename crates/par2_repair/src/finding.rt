@@ -1,4 +1,5 @@
-//! What is found of a set: the matches of its targets, and which of its slices are found.
+//! Findings on a set, for the report of a verify: the matches of its targets, and which of its slices are found. Only
+//! the slices of targets without a match are searched.
 ghost use Rattle.std.specs.Prelude.{◌≡◌, true, map, take, drop, is_some, IfOk, if◌then◌else◌};
 ghost use Rattle.std.specs.BTreeSet.{contains};
 ghost use Rattle.std.specs.Cmp.Lexicographic.{slice_cmp};
@@ -8,7 +9,7 @@ ghost use Rattle.std.specs.Str.{bytes_eq};
 ghost use Rattle.par2_spec.specs.Answers.{Lists};
 ghost use Rattle.par2_spec.specs.Folders.{bytes_of};
 ghost use Rattle.par2_spec.specs.Windows.{found};
-ghost use Rattle.par2_repair.specs.Findings.{AreFindings, found_by, pairs_of};
+ghost use Rattle.par2_repair.specs.Findings.{AreFindings, found_by, pairs_sought};
 
 use crate::matching::{Targets, matches};
 use crate::moves::unmatched;
@@ -19,18 +20,18 @@ use par2_spec::Result;
 use std::alloc::Global;
 use std::collections::BTreeSet;
 
-/// What is found of a set.
+/// Findings on a set, from which `report_on` makes the report.
 #[derive(Drop)]
 pub struct Findings<'s> {
-    /// Its targets, with the matches of the needing ones.
+    /// Its targets, with the matches of the incomplete ones.
     pub targets: Targets<'s>,
     /// Whether each of its slices is found, in order. Those of intact and matched targets are, without a search.
     pub found: Vec<bool>,
 }
 
-// The pairs of the targets of these names.
+// The slice checksums of the targets with these names, in the order of the set: those that are searched for.
 fn sought_pairs(alloc: Global, set: &ParSet, names: &BTreeSet<Name>) -> Result<Vec<Pair>>
-    ensures { Lists (pairs_of (λ t. contains (slice_cmp nat_cmp) names.now t.name)
+    ensures { Lists (pairs_sought (λ t. contains (slice_cmp nat_cmp) names.now t.name)
         set.now.targets) result }
 {
     let mut pairs = Vec::new(alloc);
@@ -42,7 +43,7 @@ fn sought_pairs(alloc: Global, set: &ParSet, names: &BTreeSet<Name>) -> Result<V
     Ok(pairs)
 }
 
-/// The first items, so many or all that there are, and the others.
+/// The first `count` items, or all if there are fewer, and the rest: one target's slices, and those of later targets.
 pub fn split_at_most<T>(items: &[T], count: usize) -> (&[T], &[T])
     ensures first { result.0.now ≡ take count items.now }
     ensures others { result.1.now ≡ drop count items.now }
@@ -50,7 +51,8 @@ pub fn split_at_most<T>(items: &[T], count: usize) -> (&[T], &[T])
     items.split_at(count.min(items.len()))
 }
 
-// Whether each slice of these targets is found: those of the targets of these names by the answers, all of the others.
+// Whether each slice of these targets is found. `answers` has a result for each slice of the targets with these names,
+// in order. All slices of the other targets are found, because each is intact or has a match.
 fn found_slices(
     alloc: Global,
     targets: &[Target],
@@ -75,7 +77,7 @@ fn found_slices(
     Ok(found)
 }
 
-// Whether each slice of the targets of these names is found in the files of the candidates.
+// Whether each slice of the targets with these names is found in the candidates, one result for each slice in order.
 fn are_found(
     alloc: Global,
     folder: &Folder,
@@ -83,17 +85,19 @@ fn are_found(
     names: &BTreeSet<Name>,
     candidates: &[Name],
 ) -> Result<Vec<bool>>
-    ensures { let texts = map (bytes_of folder.now.files) candidates.now in
-        let pairs = pairs_of (λ t. contains (slice_cmp nat_cmp) names.now t.name) set.now.targets in
-        Lists (map is_some (map (found set.now.slice_size texts) pairs)) result }
+    ensures { let buffers = map (bytes_of folder.now.files) candidates.now in
+        let pairs = pairs_sought (λ t. contains (slice_cmp nat_cmp) names.now t.name)
+        set.now.targets in
+        Lists (map is_some (map (found set.now.slice_size buffers) pairs)) result }
 {
     let pairs = sought_pairs(alloc, set, names)?;
-    let texts = folder.bytes_of_each(candidates)?;
-    let windows = found_windows(alloc, &texts, set.slice_size(), &pairs)?;
+    let buffers = folder.bytes_of_each(candidates)?;
+    let windows = found_windows(alloc, &buffers, set.slice_size(), &pairs)?;
     windows.iter().map(Option::is_some).collect(alloc)
 }
 
-/// What is found of a set by the files of these names.
+/// The findings on a set in the candidates. `AreFindings`: `needs` and the matches are those of the definitions, and
+/// each slice is found that is in a candidate or that belongs to an intact or matched target.
 pub fn findings_of<'s>(
     alloc: Global,
     folder: &Folder,
@@ -104,7 +108,7 @@ pub fn findings_of<'s>(
     ensures { IfOk result (AreFindings folder.now.files set.now candidates.now) }
 {
     let targets = matches(alloc, folder, set, candidates)?;
-    let unmatched = unmatched(alloc, &targets.needing)?;
+    let unmatched = unmatched(alloc, &targets.incomplete)?;
     let answers = are_found(alloc, folder, set, &unmatched, candidates)?;
     let found = found_slices(alloc, set.targets(), &unmatched, &answers)?;
     Ok(Findings { targets, found })

@@ -1,4 +1,6 @@
-//! Which targets of a set are needing, and which other files are intact for them.
+//! Which targets of a set are incomplete, and which candidates (targets in the folder, then extra files) are intact for
+//! them: their matches. `matches` parts the targets, leaves out the names of intact ones, and matches the others with the
+//! files of the remaining names.
 ghost use Rattle.std.specs.Prelude.{◌≡◌, ℕ, List, not, map, filter, IfOk, option_and_then, slice_get, zip};
 ghost use Rattle.std.specs.List.{IsDistinct};
 ghost use Rattle.std.specs.Str.{bytes_eq};
@@ -17,15 +19,16 @@ use std::alloc::Global;
 use std::collections::BTreeSet;
 use std::marker::Model;
 
-/// A target whose file is absent or not intact.
+/// A target whose file is absent or not intact. A file is intact for a target if it has its length and its slices'
+/// checksums.
 #[derive(Drop)]
-pub struct Needing<'s> {
+pub struct Incomplete<'s> {
     pub target: &'s Target,
-    /// The name of its match, where it has one.
+    /// The name of its match, if it has one: of another file that is intact for it.
     pub found: Option<Name>,
 }
 
-impl<'s> Model for Needing<'s> {
+impl<'s> Model for Incomplete<'s> {
     ghost use Rattle.std.specs.Prelude.{List, ℕ, Option};
     ghost use Rattle.par2_spec.specs.Sets.{Target as Described};
 
@@ -34,18 +37,18 @@ impl<'s> Model for Needing<'s> {
     ghost view = { λ n. (n.target.now, n.found) };
 }
 
-/// The targets of a set.
+/// The result of `matches`: which targets of a set are incomplete, and their matches.
 #[derive(Drop)]
 pub struct Targets<'s> {
-    /// Whether each one is needing.
+    /// Whether each target is incomplete, in target order.
     pub needs: Vec<bool>,
-    /// The needing ones, in target order.
-    pub needing: Vec<Needing<'s>>,
+    /// The incomplete ones, in target order.
+    pub incomplete: Vec<Incomplete<'s>>,
 }
 
-/// Whether the file of the target's name is absent or not intact.
-pub fn is_needing(folder: &Folder, set: &ParSet, target: &Target) -> bool
-    ensures { result ≡ search.is_needing folder.now.files set.now target.now }
+/// Whether the file of the target's name is absent or doesn't have the target's length and slice checksums.
+pub fn is_incomplete(folder: &Folder, set: &ParSet, target: &Target) -> bool
+    ensures { result ≡ search.is_incomplete folder.now.files set.now target.now }
 {
     match folder.get(target.name()) {
         Some(bytes) => !is_intact(bytes, set.slice_size(), target.length(), target.pairs()),
@@ -53,36 +56,37 @@ pub fn is_needing(folder: &Folder, set: &ParSet, target: &Target) -> bool
     }
 }
 
-// Whether each target of a set is needing, the needing ones, and the names of the others.
+// Whether each target of a set is incomplete, the incomplete ones in order, and a tree of the names of the others.
 fn parted<'s>(
     alloc: Global,
     folder: &Folder,
     set: &'s ParSet,
 ) -> Result<(Vec<bool>, Vec<&'s Target>, BTreeSet<&'s Name>)>
-    ensures needs { let needs = map (search.is_needing folder.now.files set.now) set.now.targets in
+    ensures needs { let needs =
+        map (search.is_incomplete folder.now.files set.now) set.now.targets in
         IfOk result (λ parted. parted.0.items ≡ needs) }
-    ensures needing { let needing = search.needing folder.now.files set.now in
-        IfOk result (λ parted. map (λ t. t.now) parted.1.items ≡ needing) }
+    ensures incomplete { let incomplete = search.incomplete folder.now.files set.now in
+        IfOk result (λ parted. map (λ t. t.now) parted.1.items ≡ incomplete) }
     ensures intact { let intact = search.intact_names folder.now.files set.now in
         IfOk result (λ parted. HoldsNames parted.2 intact) }
 {
     let targets = set.targets();
     let mut needs = Vec::with_capacity(alloc, targets.len())?;
-    let mut needing = Vec::new(alloc);
+    let mut incomplete = Vec::new(alloc);
     let mut intact = BTreeSet::new(alloc);
     for target in targets {
-        let is_needing = is_needing(folder, set, target);
-        needs.push(is_needing)?;
-        if is_needing {
-            needing.push(target)?;
+        let is_incomplete = is_incomplete(folder, set, target);
+        needs.push(is_incomplete)?;
+        if is_incomplete {
+            incomplete.push(target)?;
         } else {
             intact.insert(target.name())?;
         }
     }
-    Ok((needs, needing, intact))
+    Ok((needs, incomplete, intact))
 }
 
-// The candidates that are no intact target's.
+// The candidates that aren't names of intact targets, in order, because a file that is in its place is no match.
 fn free_names<'n>(alloc: Global, intact: BTreeSet<&'n Name>, names: &'n [Name]) -> Result<Vec<Name>>
     ensures { (all : List (List ℕ)) → HoldsNames intact.entry all →
         Lists (filter (λ name. not (is_among all name)) names.now) result }
@@ -96,7 +100,7 @@ fn free_names<'n>(alloc: Global, intact: BTreeSet<&'n Name>, names: &'n [Name]) 
     Ok(free)
 }
 
-// The needing targets, as the search knows them.
+// The incomplete targets as `par2_slices` takes them: `Describe`, their lengths and slice checksums.
 fn described<'s>(alloc: Global, targets: &[&'s Target]) -> Result<Vec<par2_slices::Target<'s>>>
     ensures { IfOk result (λ list. Describe list.items (map (λ t. t.now) targets.now)) }
 {
@@ -109,41 +113,42 @@ fn described<'s>(alloc: Global, targets: &[&'s Target]) -> Result<Vec<par2_slice
         .collect(alloc)
 }
 
-// The name of a number, where there is one.
+// The name with this number, counted from 0 in the searched names, if the target has a match.
 fn name_at(names: &[Name], number: Option<usize>) -> Option<Name>
     ensures { result ≡ option_and_then (slice_get names.now) number }
 {
     names.get(number?).map(Name::copied)
 }
 
-// The needing targets with their matches among the files of these names.
+// These targets, all incomplete ones of the set, with their matches among the files of these names. `matched_numbers`
+// has for each target the number of the first name whose file is intact for it and is no earlier target's match.
 fn with_matches<'s>(
     alloc: Global,
     folder: &Folder,
     set: &ParSet,
     names: &[Name],
     targets: &[&'s Target],
-) -> Result<Vec<Needing<'s>>>
-    ensures { let texts = map (bytes_of folder.now.files) names.now in
-        let needing = map (λ t. t.now) targets.now in
-        let numbers = matched_numbers set.now.slice_size texts needing in
-        Lists (zip needing (map (option_and_then (slice_get names.now)) numbers)) result }
+) -> Result<Vec<Incomplete<'s>>>
+    ensures { let buffers = map (bytes_of folder.now.files) names.now in
+        let incomplete = map (λ t. t.now) targets.now in
+        let numbers = matched_numbers set.now.slice_size buffers incomplete in
+        Lists (zip incomplete (map (option_and_then (slice_get names.now)) numbers)) result }
 {
-    let texts = folder.bytes_of_each(names)?;
+    let buffers = folder.bytes_of_each(names)?;
     let described = described(alloc, targets)?;
-    let numbers = matched(alloc, &texts, set.slice_size(), &described)?;
+    let numbers = matched(alloc, &buffers, set.slice_size(), &described)?;
     targets
         .iter()
         .zip(&numbers)
-        .map(|(target, number)| Needing {
+        .map(|(target, number)| Incomplete {
             target,
             found: name_at(names, *number),
         })
         .collect(alloc)
 }
 
-/// The targets of a set. The match of each needing one is among the candidates that are no intact target's, of which each
-/// is given once.
+/// Which targets of a set are incomplete, and their matches. The match of an incomplete one is among the candidates
+/// that aren't names of intact targets. Candidates must be distinct, because a file is the match of one target at most.
 pub fn matches<'s>(
     alloc: Global,
     folder: &Folder,
@@ -151,15 +156,16 @@ pub fn matches<'s>(
     candidates: &'s [Name],
 ) -> Result<Targets<'s>>
     requires { IsDistinct bytes_eq candidates.now }
-    ensures needs { let needs = map (search.is_needing folder.now.files set.now) set.now.targets in
+    ensures needs { let needs =
+        map (search.is_incomplete folder.now.files set.now) set.now.targets in
         IfOk result (λ targets. targets.needs.items ≡ needs) }
-    ensures needing { let matches = search.matches folder.now.files set.now candidates.now in
-        IfOk result (λ targets. targets.needing.items ≡ matches) }
+    ensures incomplete { let matches = search.matches folder.now.files set.now candidates.now in
+        IfOk result (λ targets. targets.incomplete.items ≡ matches) }
 {
-    // The law goes from the numbers of texts to their names.
+    // For the prover: matches by number are matches by name.
     matches_by_number_are_by_name();
-    let (needs, needing, intact) = parted(alloc, folder, set)?;
+    let (needs, incomplete, intact) = parted(alloc, folder, set)?;
     let free = free_names(alloc, intact, candidates)?;
-    let needing = with_matches(alloc, folder, set, &free, &needing)?;
-    Ok(Targets { needs, needing })
+    let incomplete = with_matches(alloc, folder, set, &free, &incomplete)?;
+    Ok(Targets { needs, incomplete })
 }

@@ -1,4 +1,6 @@
-//! The parts of a repair's changes.
+//! The parts of a repair's changes: `moves_of` chooses the asides, the names to which files of incomplete targets are
+//! renamed. `repair_changes` lists the renames and the writes, and `push_removals` the removals of a repair that
+//! purges.
 ghost use Rattle.std.specs.Prelude.{◌≡◌, ◌++◌, ℕ, List, Some, None, is_none, map, filter_map, if◌then◌else◌, IfOk, OnOk};
 ghost use Rattle.par2_spec.specs.Answers.{FailsFor, Lists};
 ghost use Rattle.par2_spec.specs.Changes as spec;
@@ -12,7 +14,7 @@ ghost use Rattle.par2_spec.specs.Search.{matches};
 ghost use Rattle.par2_spec.specs.Sets as sets;
 
 use crate::Changes;
-use crate::matching::Needing;
+use crate::matching::Incomplete;
 use crate::restored_files::Restored;
 use par2_files::{Change, Folder, Name};
 use par2_sets::{ParSet, asides};
@@ -20,52 +22,53 @@ use par2_spec::{Fault, Result};
 use std::alloc::Global;
 use std::collections::{BTreeMap, BTreeSet};
 
-// Where each file that is put aside stands then.
+// The aside of each file that is put aside, by the file's name.
 type Asides = BTreeMap<Name, Name>;
 
-/// What a repair moves.
+/// The renames of a repair.
 #[derive(Drop)]
 pub struct Moves<'n, 's> {
-    /// The needing targets, which take their matches.
-    pub needing: &'n [Needing<'s>],
-    /// The names of those whose files are there, and are put aside.
+    /// The incomplete targets, which take their matches.
+    pub incomplete: &'n [Incomplete<'s>],
+    /// The names of those that are in the folder, which are put aside.
     pub put_aside: Vec<Name>,
-    /// Where these files stand then.
+    /// Their asides.
     pub asides: Asides,
 }
 
-// The names of the needing targets whose files are there.
-fn present(alloc: Global, folder: &Folder, targets: &[Needing]) -> Result<Vec<Name>>
+// The names of the incomplete targets that are in the folder: their files are put aside.
+fn present(alloc: Global, folder: &Folder, targets: &[Incomplete]) -> Result<Vec<Name>>
     ensures { Lists (names_there folder.now.files targets.now) result }
 {
     let mut names = Vec::new(alloc);
-    for needing in targets {
-        if folder.get(needing.target.name()).is_some() {
-            names.push(needing.target.name().copied())?;
+    for incomplete in targets {
+        if folder.get(incomplete.target.name()).is_some() {
+            names.push(incomplete.target.name().copied())?;
         }
     }
     Ok(names)
 }
 
-// The name of a needing target, where it has no match.
-fn unmatched_name(needing: &Needing) -> Option<Name>
-    ensures { let name = needing.now.0.name in
-        result ≡ if is_none needing.now.1 then Some name else None }
+// The name of an incomplete target, if it has no match.
+fn unmatched_name(incomplete: &Incomplete) -> Option<Name>
+    ensures { let name = incomplete.now.0.name in
+        result ≡ if is_none incomplete.now.1 then Some name else None }
 {
-    match needing.found {
+    match incomplete.found {
         Some(_) => None,
-        None => Some(needing.target.name().copied()),
+        None => Some(incomplete.target.name().copied()),
     }
 }
 
-/// The names of the needing targets that have no match.
-pub fn unmatched(alloc: Global, needing: &[Needing]) -> Result<BTreeSet<Name>>
-    ensures { IfOk result (λ tree. HoldsOwned tree (names_without_match needing.now)) }
+/// The names of the incomplete targets that have no match: their files are written from slices. `HoldsOwned`: the tree
+/// has exactly these names.
+pub fn unmatched(alloc: Global, incomplete: &[Incomplete]) -> Result<BTreeSet<Name>>
+    ensures { IfOk result (λ tree. HoldsOwned tree (names_without_match incomplete.now)) }
 {
-    needing.iter().filter_map(unmatched_name).collect(alloc)
+    incomplete.iter().filter_map(unmatched_name).collect(alloc)
 }
 
-// The asides by the names of the files that are put aside.
+// A map of the asides by the names of the files that are put aside. `asides[k]` is that of `names[k]`.
 fn asides_by_name(alloc: Global, names: &[Name], asides: &[Name]) -> Result<Asides>
     ensures { IfOk result (λ tree. (aside : List ℕ → List ℕ) →
         asides.now ≡ map aside names.now → HoldsAsides aside names.now tree) }
@@ -75,43 +78,44 @@ fn asides_by_name(alloc: Global, names: &[Name], asides: &[Name]) -> Result<Asid
     pairs.collect(alloc)
 }
 
-/// What a repair of a set moves, whose needing targets these are.
+/// The moves of a repair of a set with these incomplete targets. It returns `NameTooLong` if an aside would have more
+/// than 255 bytes.
 pub fn moves_of<'n, 's>(
     alloc: Global,
     folder: &Folder,
     set: &ParSet,
-    needing: &'n [Needing<'s>],
+    incomplete: &'n [Incomplete<'s>],
 ) -> Result<Moves<'n, 's>, Fault>
-    ensures refused { let names = names_there folder.now.files needing.now in
+    ensures refused { let names = names_there folder.now.files incomplete.now in
         FailsFor (long_aside folder.now.files set.now names) result }
-    ensures short { let names = names_there folder.now.files needing.now in
+    ensures short { let names = names_there folder.now.files incomplete.now in
         IfOk result (λ _. long_aside folder.now.files set.now names ≡ None) }
     ensures few { IfOk result (λ _. AreFew folder.now.files set.now) }
     ensures moves { (searched : List (List ℕ)) →
-        needing.now ≡ matches folder.now.files set.now searched →
+        incomplete.now ≡ matches folder.now.files set.now searched →
         IfOk result (AreMoves folder.now.files set.now searched) }
 {
-    let put_aside = present(alloc, folder, needing)?;
+    let put_aside = present(alloc, folder, incomplete)?;
     let others = asides(alloc, folder, set, &put_aside)?;
     let asides = asides_by_name(alloc, &put_aside, &others)?;
     Ok(Moves {
-        needing,
+        incomplete,
         put_aside,
         asides,
     })
 }
 
-// The names of the matches.
-fn matching(alloc: Global, targets: &[Needing]) -> Result<BTreeSet<Name>>
+// The names of the matches. A repair that purges doesn't remove these files, because they become targets.
+fn matching(alloc: Global, targets: &[Incomplete]) -> Result<BTreeSet<Name>>
     ensures { IfOk result (λ names. HoldsOwned names (filter_map (λ m. m.1) targets.now)) }
 {
     let names = targets
         .iter()
-        .filter_map(|needing| Some(needing.found.as_ref()?.copied()));
+        .filter_map(|incomplete| Some(incomplete.found.as_ref()?.copied()));
     names.collect(alloc)
 }
 
-// Where a file stands once others are put aside.
+// The name of a file once files are put aside: its aside, if it is one of them, and otherwise its own name.
 fn now_at(asides: &Asides, name: &Name) -> Name
     ensures { (aside : List ℕ → List ℕ) (names : List (List ℕ)) →
         HoldsAsides aside names asides.now → result ≡ place_by aside names name.now }
@@ -122,7 +126,7 @@ fn now_at(asides: &Asides, name: &Name) -> Name
     }
 }
 
-// Files are put aside.
+// Adds the changes that put these files aside, each by a rename.
 fn push_asides(changes: &mut Changes, names: &[Name], asides: &Asides) -> Result<()>
     ensures { (aside : List ℕ → List ℕ) (all : List (List ℕ)) →
         HoldsAsides aside all asides.now →
@@ -135,23 +139,23 @@ fn push_asides(changes: &mut Changes, names: &[Name], asides: &Asides) -> Result
     Ok(())
 }
 
-// Each target that has a match takes it. A match that was put aside is taken from there.
-fn push_matches(changes: &mut Changes, targets: &[Needing], asides: &Asides) -> Result<()>
+// Adds the changes that rename each match to its target's name, from its aside if it was put aside.
+fn push_matches(changes: &mut Changes, targets: &[Incomplete], asides: &Asides) -> Result<()>
     ensures { (aside : List ℕ → List ℕ) (all : List (List ℕ)) →
         HoldsAsides aside all asides.now →
         let taken = matches_taken (place_by aside all) targets.now in
         OnOk result (changes.new ≡ changes.old ++ taken) }
 {
-    for needing in targets {
-        if let Some(found) = &needing.found {
+    for incomplete in targets {
+        if let Some(found) = &incomplete.found {
             let from = now_at(asides, found);
-            changes.push(Change::Rename(from, needing.target.name().copied()))?;
+            changes.push(Change::Rename(from, incomplete.target.name().copied()))?;
         }
     }
     Ok(())
 }
 
-// Targets are written, in order.
+// Adds the changes that write these targets, in order.
 fn push_writes(changes: &mut Changes, restored: Vec<Restored>) -> Result<()>
     ensures { OnOk result (changes.new ≡ changes.old ++ writes restored.entry.items) }
 {
@@ -161,7 +165,7 @@ fn push_writes(changes: &mut Changes, restored: Vec<Restored>) -> Result<()>
     Ok(())
 }
 
-// Files that are nobody's match are removed, from where they stand.
+// Adds the changes that remove the files of these names under the names that they have by then, except matches.
 fn push_removed(
     changes: &mut Changes,
     names: &[Name],
@@ -181,7 +185,8 @@ fn push_removed(
     Ok(())
 }
 
-/// The changes of a repair that doesn't purge: files are put aside, targets take their matches, and the others are written.
+/// The changes of a repair without its removals: files are put aside, targets take their matches, and the targets
+/// without a match, `restored`, are written.
 pub fn repair_changes(alloc: Global, moves: &Moves, restored: Vec<Restored>) -> Result<Changes>
     ensures { (folder : folders.Folder) (set : sets.ParSet) (searched : List (List ℕ))
         → AreMoves folder set searched moves.now
@@ -190,12 +195,13 @@ pub fn repair_changes(alloc: Global, moves: &Moves, restored: Vec<Restored>) -> 
 {
     let mut changes = Changes::new(alloc);
     push_asides(&mut changes, &moves.put_aside, &moves.asides)?;
-    push_matches(&mut changes, moves.needing, &moves.asides)?;
+    push_matches(&mut changes, moves.incomplete, &moves.asides)?;
     push_writes(&mut changes, restored)?;
     Ok(changes)
 }
 
-/// Then the asides that are left are removed, and the par files.
+/// Appends the removals of a repair that purges: the asides that are left, then the set's PAR2 files, whose names are
+/// `files`. A match is kept, because it is a target by then.
 pub fn push_removals(
     alloc: Global,
     changes: &mut Changes,
@@ -207,7 +213,7 @@ pub fn push_removals(
         → files.now ≡ par_files folder set
         → OnOk result (changes.new ≡ changes.old ++ repair_removals folder set searched) }
 {
-    let matching = matching(alloc, moves.needing)?;
+    let matching = matching(alloc, moves.incomplete)?;
     push_removed(changes, &moves.put_aside, &moves.asides, &matching)?;
     push_removed(changes, files, &moves.asides, &matching)
 }

@@ -1,4 +1,4 @@
-//! What a purge changes.
+//! The changes of a purge, or why it is refused.
 ghost use Rattle.std.specs.Prelude.{◌≡◌, None, IsTrue, IfOk, OnOk};
 ghost use Rattle.par2_spec.specs.Changes.{are_applicable};
 ghost use Rattle.par2_spec.specs.Commands.{Purge};
@@ -8,21 +8,22 @@ ghost use Rattle.par2_spec.specs.Answers.{FailsFor};
 ghost use Rattle.par2_spec.specs.Planned.{FailsAs, GivesChanges, LeadsAs, RefusesEarly, SucceedsAs};
 
 use crate::Changes;
-use crate::matching::is_needing;
+use crate::matching::is_incomplete;
 use crate::reading::read;
 use par2_files::{Change, Folder};
 use par2_sets::{ParSet, par_files};
 use par2_spec::Fault;
 use std::alloc::Global;
 
-// The changes of a purge of this set.
+// The changes of a purge of this set: a removal for each of its PAR2 files. It returns `NotComplete` if a target is
+// absent or not intact.
 fn purge_of(alloc: Global, folder: &Folder, set: &ParSet) -> Result<Changes, Fault>
     ensures refused { FailsFor (purge_refusal folder.now.files set.now) result }
     ensures accepted { OnOk result (purge_refusal folder.now.files set.now ≡ None) }
     ensures changes { IfOk result (λ changes. changes ≡ purge_changes folder.now.files set.now) }
 {
     let mut targets = set.targets().iter();
-    if targets.any(|target| is_needing(folder, set, target)) {
+    if targets.any(|target| is_incomplete(folder, set, target)) {
         return Err(Fault::NotComplete);
     }
     let files = par_files(alloc, folder, set)?;
@@ -33,12 +34,14 @@ fn purge_of(alloc: Global, folder: &Folder, set: &ParSet) -> Result<Changes, Fau
     Ok(changes)
 }
 
-/// The changes of a purge: the set's par files are removed, where each target is complete. Memory is answered only where
-/// a growth is refused.
+/// The changes of a purge, which removes the set's PAR2 files if all targets are complete, and is refused otherwise.
+/// Memory is reported only if an allocation fails.
 pub fn plan_purge(alloc: Global, folder: &Folder, base: &str) -> Result<Changes, Fault>
+    // It is refused as the definitions say, or memory ran out; early refusals need no memory.
     ensures refused { FailsAs folder.now.files (Purge base.now) result }
     ensures accepted { SucceedsAs folder.now.files (Purge base.now) result }
     ensures early { RefusesEarly folder.now.files (Purge base.now) result }
+    // The changes are those of the definitions. They apply in order and lead to their folder.
     ensures changes { GivesChanges folder.now.files (Purge base.now) result }
     ensures applies { IfOk result (λ changes. IsTrue (are_applicable folder.now.files changes)) }
     ensures leads { LeadsAs folder.now.files (Purge base.now) result }

@@ -1,34 +1,35 @@
-//! What a command reads first: the set of its base, and the names of its further files.
+//! Verify, repair and purge first call `read`: it checks that the base and the extra files exist, and reads the set of
+//! the base's packets.
 ghost use Rattle.std.specs.Prelude.{◌≡◌, ◌<◌, Some, not, map, filter, position, string_bytes, is_some, IfOk, IfSome, IsErrOf};
 ghost use Rattle.par2_spec.specs.Answers.{Lists};
 ghost use Rattle.par2_spec.specs.Folders.{has};
 ghost use Rattle.par2_spec.specs.Refusals.{absent_file, set_in};
-ghost use Rattle.par2_sets.specs.Steps.{Gives};
+ghost use Rattle.par2_sets.specs.Steps.{Returns};
 
 use par2_files::{Folder, Name};
 use par2_sets::{ParSet, set_of};
 use par2_spec::{Fault, Result};
 use std::alloc::Global;
 
-/// The set of a base, and the names of further files.
+/// The result of `read`: the set of a base, and the names of the extra files.
 #[derive(Drop)]
 pub struct Reading<'a> {
     pub set: ParSet<'a>,
     pub extras: Vec<Name>,
 }
 
-// The name of a file, where the word is one.
+// The word as a name, if a file of the folder has this name.
 fn present(folder: &Folder, word: &str) -> Option<Name>
     ensures variant { is_some result ≡ has folder.now.files word.now }
     ensures value { IfSome result (λ name. name ≡ word.now) }
 {
-    // It says that the names in a folder are names.
+    // For the prover: names in a folder are valid.
     let _ = folder.vacant();
     let name = Name::new(word).ok()?;
     folder.get(&name).is_some().then_some(name)
 }
 
-// The first of the words that is no file's name.
+// The index, from 0, of the first extra word that isn't the name of a file in the folder.
 fn first_absent(folder: &Folder, words: &[String]) -> Option<usize>
     ensures place { result
         ≡ position (λ word. not (has folder.now.files (string_bytes word))) words.now }
@@ -39,7 +40,7 @@ fn first_absent(folder: &Folder, words: &[String]) -> Option<usize>
         .position(|word| present(folder, word).is_none())
 }
 
-// The names of those words that are files' names.
+// The words that are names of files in the folder: all of them, once `first_absent` has found none.
 fn present_extras(alloc: Global, folder: &Folder, extras: &[String]) -> Result<Vec<Name>>
     ensures { Lists (filter (has folder.now.files) (map string_bytes extras.now)) result }
 {
@@ -47,7 +48,8 @@ fn present_extras(alloc: Global, folder: &Folder, extras: &[String]) -> Result<V
     names.collect(alloc)
 }
 
-/// Reads the set of the base, where the base and the further files are there. Whether they are is found without memory.
+/// Reads the set of the base. `NoSuchFile` has the number of the first absent file: 0 for the base, then the extras.
+/// Finding it takes no memory.
 pub fn read<'a>(
     alloc: Global,
     folder: &'a Folder,
@@ -55,7 +57,7 @@ pub fn read<'a>(
     extras: &[String],
 ) -> Result<Reading<'a>, Fault>
     ensures set { let set = set_in folder.now.files base.now (map string_bytes extras.now) in
-        Gives (λ reading. reading.set) result set }
+        Returns (λ reading. reading.set) result set }
     ensures early { (fault : Fault)
         → absent_file folder.now.files base.now (map string_bytes extras.now) ≡ Some fault
         → IsErrOf result fault }

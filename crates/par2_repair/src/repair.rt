@@ -1,11 +1,12 @@
-//! What a repair changes.
+//! The changes of a repair. `draft_repair` reads the set, finds the matches, rebuilds the targets without one, and
+//! lists the changes. `plan_repair` also checks the MD5s of the files that they write.
 ghost use Rattle.std.specs.Prelude.{◌≡◌, ℕ, List, map, string_bytes, IsTrue, IfOk, OnOk};
 ghost use Rattle.par2_spec.specs.Changes.{are_applicable, effects};
 ghost use Rattle.par2_spec.specs.Plans.{AreFewFor};
 ghost use Rattle.par2_spec.specs.Refusals.{repair_refusal};
 ghost use Rattle.par2_spec.specs.Repairs.{rebuilt_targets};
 ghost use Rattle.par2_spec.specs.Search as search;
-ghost use Rattle.par2_laws.specs.Answers.{RestoresFiles, RestoresInputs, leaving};
+ghost use Rattle.par2_laws.specs.Answers.{RestoresFiles, RestoresInputs, folder_left};
 ghost use Rattle.par2_repair.specs.Restoring.{md5s_of, undetermined_fault};
 ghost use Rattle.par2_sets.specs.Asides.{HoldsOwned};
 ghost use Rattle.par2_spec.specs.Answers.{FailsFor, Lists};
@@ -14,7 +15,7 @@ ghost use Rattle.par2_repair.specs.Drafts.{IsDraft, IsDraftBy};
 ghost use Rattle.par2_repair.specs.Repairing.{IsWholeWhereMatched, AreMoves, AreRestored, known_by, repair_by, WritesAsDescribed};
 
 use crate::candidates::candidates;
-use crate::matching::{Needing, matches};
+use crate::matching::{Incomplete, matches};
 use crate::moves::{Moves, moves_of, push_removals, repair_changes, unmatched};
 use crate::reading::read;
 use crate::restored_files::{Restored, restored_files};
@@ -22,13 +23,14 @@ use crate::restored_slices::restored_slices;
 use crate::{Changes, Draft};
 use par2_files::{Folder, Name};
 use par2_laws::answers::{repair_restores_the_files, repair_restores_the_inputs};
-use par2_md5_lanes::text_digests;
+use par2_md5_lanes::buffer_digests;
 use par2_sets::{ParSet, par_files};
 use par2_spec::{Fault, Result};
 use std::alloc::Global;
 use std::collections::BTreeSet;
 
-// The targets without a match, by slices that are found or rebuilt. Where there are none, nothing is searched.
+// The targets without a match, whose names are `unmatched`, by slices that are found in the candidates or rebuilt. If
+// there are none, nothing is searched. It returns `NotRepairable` if the lost slices aren't determined.
 fn files_for<'s>(
     alloc: Global,
     folder: &Folder,
@@ -45,19 +47,19 @@ fn files_for<'s>(
     if unmatched.is_empty() {
         return Ok(Vec::new(alloc));
     }
-    let texts = folder.bytes_of_each(candidates)?;
-    let slices = restored_slices(alloc, set, &texts)?;
+    let buffers = folder.bytes_of_each(candidates)?;
+    let slices = restored_slices(alloc, set, &buffers)?;
     Ok(restored_files(alloc, set, &slices, unmatched)?)
 }
 
-// The MD5s that targets describe.
+// The MD5s that the set describes for these targets, in order, with which `Draft::tested` compares.
 fn md5s_of(alloc: Global, restored: &[Restored]) -> Result<Vec<[u8; 16]>>
     ensures { Lists (md5s_of restored.now) result }
 {
     restored.iter().map(Restored::md5).collect(alloc)
 }
 
-// The changes of a repair, which may purge.
+// The changes of a repair: moves, writes of the restored targets and, with `purge`, removals.
 fn changes_with(
     alloc: Global,
     folder: &Folder,
@@ -78,34 +80,35 @@ fn changes_with(
     Ok(changes)
 }
 
-// The draft of a repair of this set, whose needing targets these are, with their matches among the candidates.
+// The draft of a repair of this set, with its incomplete targets and their matches among the candidates. It is refused
+// if the lost slices aren't determined or an aside is too long. `IsDraftBy`: only a wrong MD5 can still refuse it.
 fn draft_with(
     alloc: Global,
     folder: &Folder,
     set: &ParSet,
     candidates: &[Name],
-    needing: &[Needing],
+    incomplete: &[Incomplete],
     purge: bool,
 ) -> Result<Draft, Fault>
-    requires needing { needing.now ≡ search.matches folder.now.files set.now candidates.now }
+    requires incomplete { incomplete.now ≡ search.matches folder.now.files set.now candidates.now }
     requires whole { IsWholeWhereMatched folder.now.files set.now candidates.now }
     ensures refused { FailsFor (repair_refusal folder.now.files set.now candidates.now) result }
     ensures draft { IfOk result (IsDraftBy purge folder.now.files set.now candidates.now) }
 {
     let restored = {
-        let unmatched = unmatched(alloc, needing)?;
+        let unmatched = unmatched(alloc, incomplete)?;
         files_for(alloc, folder, set, candidates, &unmatched)?
     };
     let md5s = md5s_of(alloc, &restored)?;
-    let moves = moves_of(alloc, folder, set, needing)?;
+    let moves = moves_of(alloc, folder, set, incomplete)?;
     let changes = changes_with(alloc, folder, set, &moves, restored, purge)?;
     Ok(Draft { changes, md5s })
 }
 
-/// The changes of a repair: the files of needing targets are put aside, targets that have a match take it, and the others
-/// are written from slices that are found or rebuilt. A repair that purges then removes the asides that are left and the
-/// set's par files. The MD5s of what is written are left to be tested, and a wrong one is the last cause of a refusal.
-/// Memory is answered only where a growth is refused.
+/// The draft of a repair. Files of incomplete targets are put aside, targets with a match take it, and the others are
+/// written from found or rebuilt slices. With `purge`, the asides that are left and the set's PAR2 files are then
+/// removed. The MD5s of the written files are left to check, because `par2_journal` computes them beside fingerprints.
+/// A wrong one is the last cause of a refusal. Memory is reported only if an allocation fails.
 pub fn draft_repair(
     alloc: Global,
     folder: &Folder,
@@ -113,7 +116,7 @@ pub fn draft_repair(
     extras: &[String],
     purge: bool,
 ) -> Result<Draft, Fault>
-    // It is refused as the definitions say, or memory ran out; what is refused first wants none.
+    // It is refused as the definitions say, or memory ran out; early refusals need no memory.
     ensures refused { FailsAs folder.now.files (repair_of base.now extras.now purge) result }
     ensures early { RefusesEarly folder.now.files (repair_of base.now extras.now purge) result }
     ensures draft { let words = map string_bytes extras.now in
@@ -123,10 +126,11 @@ pub fn draft_repair(
     let set = &reading.set;
     let candidates = candidates(alloc, folder, set, &reading.extras)?;
     let targets = matches(alloc, folder, set, &candidates)?;
-    draft_with(alloc, folder, set, &candidates, &targets.needing, purge)
+    draft_with(alloc, folder, set, &candidates, &targets.incomplete, purge)
 }
 
-// The changes of a repair, as its draft has them, whose written files are tested.
+// `plan_repair` without the clauses that follow from laws: it drafts the repair, computes the MD5s of the written files
+// and returns the changes if they are the described ones.
 fn tested_changes(
     alloc: Global,
     folder: &Folder,
@@ -134,31 +138,7 @@ fn tested_changes(
     extras: &[String],
     purge: bool,
 ) -> Result<Changes, Fault>
-    ensures refused { FailsAs folder.now.files (repair_of base.now extras.now purge) result }
-    ensures accepted { SucceedsAs folder.now.files (repair_of base.now extras.now purge) result }
-    ensures early { RefusesEarly folder.now.files (repair_of base.now extras.now purge) result }
-    ensures changes { GivesChanges folder.now.files (repair_of base.now extras.now purge) result }
-    ensures applies { IfOk result (λ changes. IsTrue (are_applicable folder.now.files changes)) }
-    ensures leads { LeadsAs folder.now.files (repair_of base.now extras.now purge) result }
-    ensures written { let words = map string_bytes extras.now in
-        OnOk result (WritesAsDescribed folder.now.files base.now words) }
-    ensures few { OnOk result (AreFewFor folder.now.files (repair_of base.now extras.now purge)) }
-{
-    let draft = draft_repair(alloc, folder, base, extras, purge)?;
-    let md5s = text_digests(alloc, &draft.texts(alloc)?)?;
-    draft.tested(&md5s)
-}
-
-/// The changes of a repair, as its draft has them, whose written files are tested. Where the set was made from certain
-/// files, they lead to a folder that has these files.
-pub fn plan_repair(
-    alloc: Global,
-    folder: &Folder,
-    base: &str,
-    extras: &[String],
-    purge: bool,
-) -> Result<Changes, Fault>
-    // It is refused as the definitions say, or memory ran out; what is refused first wants none.
+    // It is refused as the definitions say, or memory ran out; early refusals need no memory.
     ensures refused { FailsAs folder.now.files (repair_of base.now extras.now purge) result }
     ensures accepted { SucceedsAs folder.now.files (repair_of base.now extras.now purge) result }
     ensures early { RefusesEarly folder.now.files (repair_of base.now extras.now purge) result }
@@ -166,19 +146,48 @@ pub fn plan_repair(
     ensures changes { GivesChanges folder.now.files (repair_of base.now extras.now purge) result }
     ensures applies { IfOk result (λ changes. IsTrue (are_applicable folder.now.files changes)) }
     ensures leads { LeadsAs folder.now.files (repair_of base.now extras.now purge) result }
-    // Each file that is written from slices has the described length and MD5, whatever the files
-    // of the folder hold; and there are so few names that asides can be numbered.
+    // Each file that is written from slices has the described length and MD5, whatever the folder's
+    // files hold. The folder has few enough names to number the asides.
     ensures written { let words = map string_bytes extras.now in
         OnOk result (WritesAsDescribed folder.now.files base.now words) }
     ensures few { OnOk result (AreFewFor folder.now.files (repair_of base.now extras.now purge)) }
-    // Where the set was made from certain files, and what is found of them is true: these are in
-    // the folder that the changes lead to, RepairFailed doesn't come, and NotRepairable only where
-    // other slices, too, agree with all that is found.
+{
+    let draft = draft_repair(alloc, folder, base, extras, purge)?;
+    let md5s = buffer_digests(alloc, &draft.buffers(alloc)?)?;
+    draft.tested(&md5s)
+}
+
+/// The changes of a repair whose written files have the described MD5s. If the set was made from certain files, and
+/// what is found of them is true, the changes lead to a folder that has these files. Only tests call it, because a
+/// session drafts its repairs.
+pub fn plan_repair(
+    alloc: Global,
+    folder: &Folder,
+    base: &str,
+    extras: &[String],
+    purge: bool,
+) -> Result<Changes, Fault>
+    // It is refused as the definitions say, or memory ran out; early refusals need no memory.
+    ensures refused { FailsAs folder.now.files (repair_of base.now extras.now purge) result }
+    ensures accepted { SucceedsAs folder.now.files (repair_of base.now extras.now purge) result }
+    ensures early { RefusesEarly folder.now.files (repair_of base.now extras.now purge) result }
+    // The changes are those of the definitions. They apply in order and lead to their folder.
+    ensures changes { GivesChanges folder.now.files (repair_of base.now extras.now purge) result }
+    ensures applies { IfOk result (λ changes. IsTrue (are_applicable folder.now.files changes)) }
+    ensures leads { LeadsAs folder.now.files (repair_of base.now extras.now purge) result }
+    // Each file that is written from slices has the described length and MD5, whatever the folder's
+    // files hold. The folder has few enough names to number the asides.
+    ensures written { let words = map string_bytes extras.now in
+        OnOk result (WritesAsDescribed folder.now.files base.now words) }
+    ensures few { OnOk result (AreFewFor folder.now.files (repair_of base.now extras.now purge)) }
+    // If the set was made from certain files, and what is found of them is true, they are in the
+    // folder that the changes lead to. RepairFailed isn't returned, and NotRepairable only if other
+    // slices, too, agree with all that is found.
     ensures restores { RestoresFiles folder.now.files base.now (map string_bytes extras.now)
-        (leaving (effects folder.now.files) result) }
-    // So it is with the inputs of a create, after damage by another hand.
+        (folder_left (effects folder.now.files) result) }
+    // The same holds for a create's inputs that were damaged after it.
     ensures inputs { RestoresInputs folder.now.files base.now (map string_bytes extras.now)
-        (leaving (effects folder.now.files) result) }
+        (folder_left (effects folder.now.files) result) }
 {
     repair_restores_the_files();
     repair_restores_the_inputs();

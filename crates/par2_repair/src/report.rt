@@ -1,4 +1,5 @@
-//! What a verify reports.
+//! Reports of a verify, and their verdict. `report_on` reports each target, numbers the slices that aren't found, and
+//! computes the rank of the surviving recovery slices in them.
 ghost use Rattle.std.specs.Prelude.{◌≡◌, ◌≤◌, ◌<◌, ℕ, List, length, map, filter, slice_index, option_map, Ok, IfOk, if◌then◌else◌};
 ghost use Rattle.std.specs.List.{list_all};
 ghost use Rattle.std.specs.Slice.Iter.{iter_rest};
@@ -6,13 +7,13 @@ ghost use Rattle.par2_spec.specs.Answers.{Lists};
 ghost use Rattle.par2_spec.specs.Folders as folders;
 ghost use Rattle.par2_spec.specs.Folders.{has};
 ghost use Rattle.par2_spec.specs.Rank as ranks;
-ghost use Rattle.par2_spec.specs.Reports.{Complete, is_complete, needing_state, verdict_of, report_in, IsVerdictIn};
+ghost use Rattle.par2_spec.specs.Reports.{Complete, is_complete, incomplete_state, verdict_of, report_in, IsVerdictIn};
 ghost use Rattle.par2_spec.specs.Search.{survivors};
-ghost use Rattle.par2_repair.specs.Findings.{GoesOn, lost_by, report_by, reports_by, said_of};
-ghost use Rattle.par2_repair.specs.Views.{state_of, target_report_of, report_of};
+ghost use Rattle.par2_repair.specs.Findings.{TakesMatch, lost_by, report_by, reports_by, said_of};
+ghost use Rattle.par2_repair.specs.Views.{state_view, target_report_of, report_view};
 
 use crate::finding::{Findings, split_at_most};
-use crate::matching::Needing;
+use crate::matching::Incomplete;
 use par2_files::{Folder, Name};
 use par2_gf16::Gf;
 use par2_sets::{ParSet, Target};
@@ -21,20 +22,20 @@ use par2_spec::{Result, Verdict};
 use std::alloc::Global;
 use std::slice::Iter;
 
-/// How it is with a target.
+/// The state of a target.
 #[derive(Drop)]
 pub enum State {
     /// Its file is intact.
     Complete,
-    /// It isn't, and the file of this name is intact for the target.
+    /// Its file is absent or not intact, and the file of this name is intact for the target.
     Misplaced(Name),
-    /// It isn't, and no other file is intact for the target.
+    /// Its file isn't intact, and no other file is intact for the target.
     Damaged,
-    /// There is no file of its name, and no other is intact for the target.
+    /// Its file is absent, and no other is intact for the target.
     Missing,
 }
 
-/// What is said of a target.
+/// The report on a target.
 #[derive(Drop)]
 pub struct TargetReport {
     pub name: Name,
@@ -45,7 +46,7 @@ pub struct TargetReport {
     pub total: usize,
 }
 
-/// What is said of a set.
+/// The report on a set, which a verify prints.
 #[derive(Drop)]
 pub struct Report {
     /// The Recovery Set ID.
@@ -54,13 +55,14 @@ pub struct Report {
     pub targets: Vec<TargetReport>,
     /// How many slices are lost.
     pub lost: usize,
-    /// How many of them the surviving recovery slices tell.
+    /// The rank of the surviving recovery slices in the lost ones, at most `lost`. If it is `lost`, they can be
+    /// rebuilt.
     pub rank: usize,
 }
 
-// Whether each target is complete.
+// Whether each target is complete, which is the verdict `Complete`.
 fn are_complete(targets: &[TargetReport]) -> bool
-    ensures { result ≡ list_all (λ target. is_complete (state_of target.state)) targets.now }
+    ensures { result ≡ list_all (λ target. is_complete (state_view target.state)) targets.now }
 {
     targets
         .iter()
@@ -68,12 +70,13 @@ fn are_complete(targets: &[TargetReport]) -> bool
 }
 
 impl Report {
-    /// What follows from the report: complete, repairable or neither. Of a report on a set it is repairable exactly where
-    /// a target is needing and the lost slices are determined. It takes no memory.
+    /// Complete, repairable or neither. A report on a set is repairable if and only if a target is incomplete and the
+    /// surviving recovery slices determine the lost slices, that is, if the rank is the number of lost slices. It
+    /// allocates nothing.
     pub fn verdict(&self) -> Verdict
-        ensures answer { result ≡ verdict_of (report_of self.now) }
+        ensures answer { result ≡ verdict_of (report_view self.now) }
         ensures words { (folder : folders.Folder) (base : List ℕ) (extras : List (List ℕ))
-            → report_in folder base extras ≡ Ok (report_of self.now)
+            → report_in folder base extras ≡ Ok (report_view self.now)
             → IsVerdictIn folder base extras result }
     {
         if are_complete(&self.targets) {
@@ -86,21 +89,22 @@ impl Report {
     }
 }
 
-// The match of the next of these needing targets, where the target is needing.
-fn next_match<'n>(needs: bool, needing: &mut Iter<'n, Needing>) -> Option<&'n Name>
-    ensures { GoesOn needs (iter_rest needing.old) result (iter_rest needing.new) }
+// The match of a target, which is the next of the incomplete ones if `needs` says that it is incomplete. `TakesMatch`:
+// the iterator moves on only in this case.
+fn next_match<'n>(needs: bool, incomplete: &mut Iter<'n, Incomplete>) -> Option<&'n Name>
+    ensures { TakesMatch needs (iter_rest incomplete.old) result (iter_rest incomplete.new) }
 {
     if !needs {
         return None;
     }
-    needing.next()?.found.as_ref()
+    incomplete.next()?.found.as_ref()
 }
 
-// The state of a target, by whether it is needing, and its match.
+// The state of a target. `needs` says whether it is incomplete, and `matched` is its match if it has one.
 fn state_of(folder: &Folder, target: &Target, needs: bool, matched: Option<&Name>) -> State
     ensures { let is_there = has folder.now.files target.now.name in
         let matched = option_map (λ name. name.now) matched.entry in
-        state_of result ≡ if needs then needing_state is_there matched else Complete }
+        state_view result ≡ if needs then incomplete_state is_there matched else Complete }
 {
     match matched {
         _ if !needs => State::Complete,
@@ -110,14 +114,15 @@ fn state_of(folder: &Folder, target: &Target, needs: bool, matched: Option<&Name
     }
 }
 
-// How many of these slices are found.
+// How many of these slices, those of one target, are found.
 fn count_found(found: &[bool]) -> usize
     ensures { result ≡ length (filter (λ b. b) found.now) }
 {
     found.iter().filter(|found| **found).count()
 }
 
-// What is said of a target, by whether it is needing, its match, and whether each of its slices is found.
+// The report on a target: `needs` says whether it is incomplete, `matched` is its match if it has one, and `found` says
+// whether each of its own slices is found.
 fn target_report(
     folder: &Folder,
     target: &Target,
@@ -136,7 +141,8 @@ fn target_report(
     }
 }
 
-// What is said of each target.
+// The report on each target, in order. `findings` has the matches of the incomplete targets and whether each slice of
+// all targets is found, in the same order.
 fn target_reports(
     alloc: Global,
     folder: &Folder,
@@ -147,18 +153,18 @@ fn target_reports(
         IfOk result (λ list. map target_report_of list.items ≡ reports) }
 {
     let mut reports = Vec::with_capacity(alloc, targets.len())?;
-    let mut needing = findings.targets.needing.iter();
+    let mut incomplete = findings.targets.incomplete.iter();
     let mut found = findings.found.as_slice();
     for (target, needs) in targets.iter().zip(&findings.targets.needs) {
         let (own, others) = split_at_most(found, target.pairs().len());
         found = others;
-        let matched = next_match(*needs, &mut needing);
+        let matched = next_match(*needs, &mut incomplete);
         reports.push(target_report(folder, target, *needs, matched, own))?;
     }
     Ok(reports)
 }
 
-// The numbers of the slices that aren't found, rising.
+// The numbers of the slices that aren't found, increasing. They count the slices of the set from 0.
 fn lost_slices(alloc: Global, found: &[bool]) -> Result<Vec<u32>>
     requires { length found.now ≤ 32768 }
     ensures { Lists (lost_by found.now) result }
@@ -172,15 +178,15 @@ fn lost_slices(alloc: Global, found: &[bool]) -> Result<Vec<u32>>
     Ok(lost)
 }
 
-// The exponents of recovery slices.
+// The exponents of recovery slices, which are all that their rank depends on.
 fn exponents(alloc: Global, recovery: &[(u32, &[u8])]) -> Result<Vec<u32>>
     ensures { IfOk result (λ list. list.items ≡ map (λ slice. slice.0) recovery.now) }
 {
     recovery.iter().map(|slice| slice.0).collect(alloc)
 }
 
-// How many of these lost slices the surviving recovery slices tell. The field's tables are made only where equations
-// must decide it.
+// The rank of the set's recovery slices in the lost slices of these numbers: how many of their equations are linearly
+// independent. The field's tables are built only if runs of exponents don't determine it.
 fn rank_of(alloc: Global, set: &ParSet, lost: &[u32]) -> Result<usize>
     requires { (i : ℕ) → slice_index lost.now i < 32768 }
     ensures { IfOk result (λ n. n ≡ ranks.rank lost.now (survivors set.now)) }
@@ -192,7 +198,7 @@ fn rank_of(alloc: Global, set: &ParSet, lost: &[u32]) -> Result<usize>
     }
 }
 
-/// What is said of a set, by what is found of it.
+// The report on a set with these findings. Memory is its only error.
 pub(crate) fn report_on(
     alloc: Global,
     folder: &Folder,
@@ -201,7 +207,7 @@ pub(crate) fn report_on(
 ) -> Result<Report>
     requires { length findings.now.found.items ≤ 32768 }
     ensures { let report = report_by folder.now.files set.now findings.now in
-        IfOk result (λ said. report_of said ≡ report) }
+        IfOk result (λ said. report_view said ≡ report) }
 {
     let targets = target_reports(alloc, folder, set.targets(), findings)?;
     let lost = lost_slices(alloc, &findings.found)?;

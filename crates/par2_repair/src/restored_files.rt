@@ -1,4 +1,4 @@
-//! Files that are cut out of slices.
+//! Files that are cut out of slices: `restored_files` makes the targets without a match that a repair writes.
 ghost use Rattle.std.specs.Prelude.{◌≡◌, ◌+◌, ◌≤◌, ℕ, List, length, IfOk};
 ghost use Rattle.std.specs.List.{AllByRecursion};
 ghost use Rattle.par2_spec.specs.Answers.{Appends, Lists};
@@ -6,7 +6,7 @@ ghost use Rattle.par2_spec.specs.Sets.{all_pairs};
 ghost use Rattle.par2_sets.specs.Asides.{HoldsOwned};
 ghost use Rattle.par2_repair.specs.Restoring.{targets_among, chosen_at};
 
-use crate::restored_slices::Slices;
+use crate::restored_slices::RestoredSlices;
 use par2_files::{Bytes, Name};
 use par2_sets::{ParSet, Target};
 use par2_spec::Result;
@@ -15,7 +15,7 @@ use std::alloc::Global;
 use std::collections::BTreeSet;
 use std::marker::Model;
 
-/// A target, with the bytes that are cut out of slices for it. Nothing says whether they have its MD5.
+/// A target, with the bytes that are cut out of slices for it. They needn't have its MD5.
 #[derive(Drop)]
 pub struct Restored<'s> {
     pub target: &'s Target,
@@ -34,7 +34,7 @@ impl<'s> Model for Restored<'s> {
 impl<'s> Restored<'s> {
     ghost use Rattle.std.specs.Prelude.{◌≡◌};
 
-    /// The MD5 that the target describes.
+    /// The MD5 that the set describes for the target.
     pub fn md5(&self) -> [u8; 16]
         ensures { result ≡ self.now.0.md5 }
     {
@@ -42,13 +42,14 @@ impl<'s> Restored<'s> {
     }
 }
 
-// Adds the target with its bytes, if it is among these names. Its slices begin with that of number `first`.
+// Adds the target with its bytes, if its name is in `among`. Its slices begin with number `first` of all slices, which
+// are counted from 0.
 fn push_among<'s>(
     alloc: Global,
     restored: &mut Vec<Restored<'s>>,
     among: &BTreeSet<Name>,
     target: &'s Target,
-    slices: &Slices,
+    slices: &RestoredSlices,
     first: usize,
 ) -> Result<()>
     requires { first + length target.now.pairs ≤ length slices.now }
@@ -64,12 +65,12 @@ fn push_among<'s>(
     Ok(())
 }
 
-/// The targets of these names, in the order of the set, by all its slices. Each has as many bytes as it describes, and
-/// the MD5s are left to be tested.
+/// The targets whose names are in `among`, in the order of the set, cut out of all its slices. Each has the described
+/// length, and its MD5 is left to check.
 pub fn restored_files<'s>(
     alloc: Global,
     set: &'s ParSet,
-    slices: &Slices,
+    slices: &RestoredSlices,
     among: &BTreeSet<Name>,
 ) -> Result<Vec<Restored<'s>>>
     requires count { length slices.now ≡ length (all_pairs set.now) }
@@ -80,7 +81,7 @@ pub fn restored_files<'s>(
         let targets = targets_among set.now slices.now names in
         IfOk result (λ _. AllByRecursion (λ c. length c.1 ≡ c.0.length) targets) }
 {
-    // The law that says so.
+    // For the prover: files that are cut so have their length.
     written_files_have_their_length();
     let mut restored = Vec::with_capacity(alloc, among.len())?;
     let mut first = 0;

@@ -1,4 +1,5 @@
-//! All slices of a set: those that are found, and between them those that are rebuilt.
+//! All slices of a set: found slices, and between them rebuilt ones. `restored_slices` searches for the slices, lets
+//! `par2_solve` rebuild the lost ones, and merges both. `RestoredSlices::file` cuts files out of them.
 ghost use Rattle.std.specs.Prelude.{◌≡◌, ◌⊎◌, ◌+◌, ◌++◌, ◌∷◌, ◌<◌, ◌≤◌, ℕ, List, None, length, map, take, drop, IfOk, IfErr, IsOk, OnOk};
 ghost use Rattle.std.specs.List.{AllByRecursion, concat};
 ghost use Rattle.par2_spec.specs.Sums.{lists_of};
@@ -7,12 +8,12 @@ ghost use Rattle.par2_spec.specs.Search.{lost};
 ghost use Rattle.par2_spec.specs.Sets.{all_pairs};
 ghost use Rattle.par2_spec.specs.Slices.{padded};
 ghost use Rattle.std.specs.Vec.Iter.{into_iter_items};
-ghost use Rattle.par2_slices.specs.Texts.{Window, texts_of};
+ghost use Rattle.par2_slices.specs.Positions.{Window, buffers_of};
 ghost use Rattle.par2_solve.specs.Survivors.{exponents_of, IsTrueFault};
 ghost use Rattle.par2_repair.specs.Restoring.{known_in, undetermined_fault};
-ghost use Rattle.par2_repair.specs.Survivors.{AreSurvivors, fault_of};
+ghost use Rattle.par2_repair.specs.Survivors.{AreSurvivorsOf, repair_fault_of};
 ghost use Rattle.par2_solve.specs.Rebuilding.{known_among, AreRebuilt, AreEnough, CanRebuild};
-ghost use Rattle.par2_repair.specs.SliceTexts.{windows_and_texts, slices_of, text_of};
+ghost use Rattle.par2_repair.specs.SliceBytes.{windows_and_buffers, slices_of, slice_bytes};
 
 use par2_sets::{ParSet, Target};
 use par2_slices::{Pair, found_windows};
@@ -23,7 +24,7 @@ use std::alloc::Global;
 use std::marker::Model;
 use std::vec::IntoIter;
 
-// A slice, of which zeros may be missing at the end.
+// A slice, which may lack padding at its end.
 #[derive(Drop)]
 enum Slice<'a> {
     Found(&'a [u8]),
@@ -31,36 +32,35 @@ enum Slice<'a> {
 }
 
 impl<'a> Slice<'a> {
-    // Its bytes.
+    // Its bytes, without the padding that it lacks.
     fn bytes(&self) -> &[u8]
-        ensures { result.now ≡ text_of self.now }
+        ensures { result.now ≡ slice_bytes self.now }
     {
         match self {
             Slice::Found(window) => window,
-            Slice::Rebuilt(text) => text,
+            Slice::Rebuilt(bytes) => bytes,
         }
     }
 }
 
-/// All slices of a set, in order, with the zeros after the end of their files. Those that are found stand in the
-/// texts, and none is copied.
+/// All slices of a set, in order, with the padding at the ends of files. Found slices borrow from the buffers.
 #[derive(Drop)]
-pub struct Slices<'a> {
+pub struct RestoredSlices<'a> {
     slice_size: usize,
     slices: Vec<Slice<'a>>,
 }
 
-impl<'a> Model for Slices<'a> {
+impl<'a> Model for RestoredSlices<'a> {
     ghost use Rattle.std.specs.Prelude.{List, ℕ};
     ghost use Rattle.std.specs.Coded.{coded_list, coded_ℕ};
-    ghost use Rattle.par2_repair.specs.SliceTexts.{slices_of};
+    ghost use Rattle.par2_repair.specs.SliceBytes.{slices_of};
 
     ghost Value = { List (List ℕ) };
 
     ghost view = { λ a. slices_of a.slice_size a.slices.items };
 }
 
-// Adds a slice to the first bytes of a file, with the zeros that are missing in it, as far as the file goes.
+// Appends a slice and its padding to the first bytes of a file, up to `size`, the file's length in bytes.
 fn push_slice(file: &mut Vec<u8>, slice: &[u8], slice_size: usize, size: usize) -> Result<()>
     requires { length file.old.items ≤ size }
     ensures { let longer = file.old.items ++ padded slice_size slice.now in
@@ -73,7 +73,7 @@ fn push_slice(file: &mut Vec<u8>, slice: &[u8], slice_size: usize, size: usize) 
     file.resize(file.len() + room.min(zeros), 0)
 }
 
-// The bytes of a file of this size by its slices.
+// The first `size` bytes of these slices, joined with their padding: the file of this length that has these slices.
 fn joined(alloc: Global, slices: &[Slice], slice_size: usize, size: usize) -> Result<Vec<u8>>
     ensures { let slices = slices_of slice_size slices.now in
         IfOk result (λ file. file.items ≡ take size (concat slices)) }
@@ -85,8 +85,8 @@ fn joined(alloc: Global, slices: &[Slice], slice_size: usize, size: usize) -> Re
     Ok(file)
 }
 
-impl<'a> Slices<'a> {
-    // The bytes of a file of this size that has so many slices from that of number `at` on.
+impl<'a> RestoredSlices<'a> {
+    // The file of `size` bytes that has the `count` slices from number `at` of the set on.
     pub(crate) fn file(&self, alloc: Global, at: usize, count: usize, size: u64) -> Result<Vec<u8>>
         requires { at + count ≤ length self.now }
         ensures { let slices = take count (drop at self.now) in
@@ -97,7 +97,7 @@ impl<'a> Slices<'a> {
     }
 }
 
-/// The pairs of all slices of a set.
+/// The checksums of all slices of a set, in order, by which the slices are searched.
 pub fn all_pairs(alloc: Global, set: &ParSet) -> Result<Vec<Pair>>
     ensures { IfOk result (λ pairs. pairs.items ≡ all_pairs set.now) }
 {
@@ -105,53 +105,61 @@ pub fn all_pairs(alloc: Global, set: &ParSet) -> Result<Vec<Pair>>
     pairs.copied().collect(alloc)
 }
 
-// What survives of a set's slices, which are found in these texts.
-fn survivors_of<'a>(alloc: Global, set: &ParSet<'a>, texts: &[&'a [u8]]) -> Result<Survivors<'a>>
+// The survivors of a set: the slices that are found in these buffers, which are those of the candidates, and its
+// recovery slices. `CanRebuild`: they have the sizes and numbers that `rebuild_lost` requires.
+fn survivors_of<'a>(alloc: Global, set: &ParSet<'a>, buffers: &[&'a [u8]]) -> Result<Survivors<'a>>
     ensures fit { IfOk result CanRebuild }
-    ensures these { IfOk result (AreSurvivors set.now (known_in set.now (texts_of texts.now))) }
+    ensures these { IfOk result
+        (AreSurvivorsOf set.now (known_in set.now (buffers_of buffers.now))) }
 {
     let slice_size = set.slice_size();
     let pairs = all_pairs(alloc, set)?;
     Ok(Survivors {
         slice: slice_size as usize,
-        known: found_windows(alloc, texts, slice_size, &pairs)?,
+        known: found_windows(alloc, buffers, slice_size, &pairs)?,
         recovery: Vec::from_slice(alloc, set.recovery())?,
     })
 }
 
-// The slice at a window: what is found there, or else the next of these texts, none once there are no more.
-fn slice_at<'a>(alloc: Global, window: Option<&'a [u8]>, texts: &mut IntoIter<Vec<u8>>) -> Slice<'a>
+// The slice of a window: the found one, or else the next rebuilt one. It is empty if none is left. `buffers` are the
+// rebuilt slices in order.
+fn slice_at<'a>(
+    alloc: Global,
+    window: Option<&'a [u8]>,
+    buffers: &mut IntoIter<Vec<u8>>,
+) -> Slice<'a>
     ensures { (windows : List Window) →
-        let left = windows_and_texts windows (lists_of (into_iter_items texts.new)) in
-        let all = windows_and_texts (window.entry ∷ windows) (lists_of (into_iter_items texts.old)) in
-        text_of result ∷ left ≡ all }
+        let left = windows_and_buffers windows (lists_of (into_iter_items buffers.new)) in
+        let all = windows_and_buffers (window.entry ∷ windows)
+        (lists_of (into_iter_items buffers.old)) in
+        slice_bytes result ∷ left ≡ all }
 {
     match window {
         Some(bytes) => Slice::Found(bytes),
-        None => Slice::Rebuilt(texts.next().unwrap_or(Vec::new(alloc))),
+        None => Slice::Rebuilt(buffers.next().unwrap_or(Vec::new(alloc))),
     }
 }
 
-// The windows, and between them the texts of the lost slices.
+// The found slices, and between them the rebuilt ones: the k-th rebuilt slice takes the place of the k-th `None`.
 fn merged<'a>(
     alloc: Global,
     windows: &[Option<&'a [u8]>],
     rebuilt: Vec<Vec<u8>>,
 ) -> Result<Vec<Slice<'a>>>
-    ensures { let texts = windows_and_texts windows.now (lists_of rebuilt.items) in
-        IfOk result (λ slices. map text_of slices.items ≡ texts) }
+    ensures { let buffers = windows_and_buffers windows.now (lists_of rebuilt.items) in
+        IfOk result (λ slices. map slice_bytes slices.items ≡ buffers) }
 {
     let mut slices = Vec::with_capacity(alloc, windows.len())?;
-    let mut texts = rebuilt.into_iter();
+    let mut buffers = rebuilt.into_iter();
     for window in windows {
-        slices.push(slice_at(alloc, *window, &mut texts))?;
+        slices.push(slice_at(alloc, *window, &mut buffers))?;
     }
     Ok(slices)
 }
 
-// Why a repair is refused where this is why nothing is rebuilt.
+// The fault of a repair whose lost slices `rebuild_lost` couldn't rebuild.
 fn fault_of(fault: RebuildFault) -> Fault
-    ensures { result ≡ fault_of fault }
+    ensures { result ≡ repair_fault_of fault }
 {
     match fault {
         RebuildFault::NotRepairable { missing, rank } => Fault::NotRepairable { missing, rank },
@@ -159,8 +167,12 @@ fn fault_of(fault: RebuildFault) -> Fault
     }
 }
 
-// All slices by what survives of them.
-fn slices_by<'a>(alloc: Global, survivors: &Survivors<'a>) -> Result<Slices<'a>, RebuildFault>
+// All slices of a set by what survives. It fails as `NotRepairable` if the recovery slices don't determine the lost
+// ones.
+fn slices_by<'a>(
+    alloc: Global,
+    survivors: &Survivors<'a>,
+) -> Result<RestoredSlices<'a>, RebuildFault>
     requires { CanRebuild survivors.now }
     ensures rebuilt { IfOk result (AreRebuilt survivors.now) }
     ensures enough { IsOk result → AreEnough survivors.now }
@@ -168,33 +180,34 @@ fn slices_by<'a>(alloc: Global, survivors: &Survivors<'a>) -> Result<Slices<'a>,
         IfErr result (IsTrueFault (lost (known_among survivors.now)) exponents) }
 {
     let rebuilt = rebuild_lost(alloc, survivors)?;
-    Ok(Slices {
+    Ok(RestoredSlices {
         slice_size: survivors.slice,
         slices: merged(alloc, &survivors.known, rebuilt)?,
     })
 }
 
-/// The slices of a set by what of them is found in these texts, and by its recovery slices.
+/// All slices of a set, by those that are found in these buffers and its recovery slices. It returns `NotRepairable` if
+/// these don't determine the lost ones. `known_in` are the slices found, and `rebuilt` the list that agrees with them.
 pub fn restored_slices<'a>(
     alloc: Global,
     set: &ParSet<'a>,
-    texts: &[&'a [u8]],
-) -> Result<Slices<'a>, Fault>
-    ensures refused { let known = known_in set.now (texts_of texts.now) in
+    buffers: &[&'a [u8]],
+) -> Result<RestoredSlices<'a>, Fault>
+    ensures refused { let known = known_in set.now (buffers_of buffers.now) in
         IfErr result (λ fault. (fault ≡ Fault.Memory) ⊎ (undetermined_fault set.now known
         ≡ Some fault)) }
-    ensures determined { let known = known_in set.now (texts_of texts.now) in
+    ensures determined { let known = known_in set.now (buffers_of buffers.now) in
         IfOk result (λ _. undetermined_fault set.now known ≡ None) }
-    ensures slices { let known = known_in set.now (texts_of texts.now) in
+    ensures slices { let known = known_in set.now (buffers_of buffers.now) in
         IfOk result (λ slices. slices ≡ rebuilt set.now known) }
     ensures count { IfOk result (λ slices. length slices ≡ length (all_pairs set.now)) }
     ensures sizes { IfOk result (λ slices.
         AllByRecursion (λ slice. length slice ≡ set.now.slice_size) slices) }
 {
-    // By these laws what is rebuilt is the one list that agrees.
+    // For the prover: the rebuilt slices are the only list that agrees.
     rebuilt_slices_agree();
     tests_say_the_words();
-    let survivors = survivors_of(alloc, set, texts)?;
+    let survivors = survivors_of(alloc, set, buffers)?;
     match slices_by(alloc, &survivors) {
         Ok(slices) => Ok(slices),
         Err(fault) => Err(fault_of(fault)),

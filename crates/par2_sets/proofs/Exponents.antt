@@ -1,5 +1,5 @@
 -- The recovery slices of the packets, by their exponents.
-use Rattle.par2_sets.proofs.Common.{◌≡◌, ℕ, ◌==◌, ◌&&◌, T, Bool, true, false, cond, List, [], ◌∷◌, Option, Some, None, length, map, refl, sym, ap, ◌∙◌, subst, nat_lt, filter, filter_map, option_map, option_and_then, if◌then◌else◌, Bor, Less, nat_cmp, is_lt, eq_by_cmp, nat_cmp_total, cons_option, AllByRecursion, IsStrictlyIncreasing, IsStrictlySortedBy, lookup, keys_of, FinMap, is_sorted, same_map, same_entries_map, entries_sorted, nat_cmp-IsAntisymmetric, entries-from_sorted, get-from_sorted, get-from_entries, Packet, RecoveryBody, read_recovery, recovery_of, entry_of, exponents_of, recovered_of, usable, lookup-map_values}
+use Rattle.par2_sets.proofs.Common.{◌≡◌, ℕ, ◌==◌, ◌&&◌, T, Bool, true, false, cond, List, [], ◌∷◌, Option, Some, None, length, map, refl, sym, ap, ◌∙◌, subst, nat_lt, filter, filter_map, option_map, option_and_then, if◌then◌else◌, Bor, Less, nat_cmp, is_lt, eq_by_cmp, nat_cmp_total, cons_option, AllByRecursion, IsStrictlyIncreasing, IsStrictlySortedBy, lookup, keys_of, FinMap, is_sorted, same_map, same_entries_map, entries_sorted, nat_cmp-IsAntisymmetric, entries-from_sorted, get-from_sorted, get-from_entries, Packet, RecoveryBody, read_recovery, recovery_of, entry_of, set_exponents, set_recovery, usable, lookup-map_values}
 use Rattle.std.proofs.Math.Facts.{yes_and}
 use Rattle.std.proofs.lemmas.Map.Keys.{sorted_from_strictly_increasing, IsStrictlyIncreasing-from_sorted}
 use Rattle.std.specs.FinMap as map_of
@@ -14,7 +14,7 @@ fits s r = nat_lt r.exponent 65536 && length r.bytes == s
 abbrev pub pair_of : RecoveryBody → ℕ × List ℕ
 pair_of r = (r.exponent, r.bytes)
 
--- the exponents and the slices that a set has a use for, in the order of the packets
+-- the exponents and slices that a set can use, in the order of the packets
 abbrev pub slices_in : List Packet → ℕ → List (ℕ × List ℕ)
 slices_in packets s = map pair_of (filter_map (usable s) packets)
 
@@ -50,7 +50,7 @@ unfolding IsStrictlySortedBy
 sorted [] h = tt
 sorted (e ∷ es) h = yes_and _ _ (below e.0 es h.0) (sorted es h.1)
 
--- a map that has at each exponent what the packets have first
+-- a map with the packets' first slice of each exponent
 pub first_slices : (packets : List Packet) (s : ℕ) (es : List (ℕ × Bor (List ℕ))) → IsStrictlySortedBy nat_cmp (keys_of es)
     → ((q : ℕ) → option_map (λ x. x.now) (lookup (eq_by_cmp nat_cmp q) es) ≡ lookup (eq_by_cmp nat_cmp q) (slices_in packets s))
     → map entry_of es ≡ map_of.entries (recovery_of packets s)
@@ -63,17 +63,17 @@ first_slices packets s es up says =
 
 -- ---- the parts of a set
 
-keys_are : (es : List (ℕ × Bor (List ℕ))) → exponents_of es ≡ keys_of es
+keys_are : (es : List (ℕ × Bor (List ℕ))) → set_exponents es ≡ keys_of es
 keys_are [] = refl
 keys_are (e ∷ es) = ap (λ ks. e.0 ∷ ks) (keys_are es)
 
--- exponents that rise are those of a map
-pub kept_entries : (es : List (ℕ × Bor (List ℕ))) → IsStrictlyIncreasing (exponents_of es) → map_of.entries (map_of.from_sorted {R = nat_cmp} (recovered_of es)) ≡ recovered_of es
-kept_entries es up = entries-from_sorted nat_cmp (recovered_of es) (sorted es (sorted_from_strictly_increasing (keys_of es) (subst IsStrictlyIncreasing (keys_are es) up)))
+-- strictly increasing exponents are those of a map
+pub kept_entries : (es : List (ℕ × Bor (List ℕ))) → IsStrictlyIncreasing (set_exponents es) → map_of.entries (map_of.from_sorted {R = nat_cmp} (set_recovery es)) ≡ set_recovery es
+kept_entries es up = entries-from_sorted nat_cmp (set_recovery es) (sorted es (sorted_from_strictly_increasing (keys_of es) (subst IsStrictlyIncreasing (keys_are es) up)))
 
-pub made_of : (es : List (ℕ × Bor (List ℕ))) (m : FinMap nat_cmp (List ℕ)) → recovered_of es ≡ map_of.entries m → map_of.from_sorted (recovered_of es) ≡ m
-made_of es m e = same_entries_map _ _ (entries-from_sorted nat_cmp (recovered_of es) (subst (λ xs. T (is_sorted nat_cmp xs)) (sym e) (entries_sorted m)) ∙ e)
+pub made_of : (es : List (ℕ × Bor (List ℕ))) (m : FinMap nat_cmp (List ℕ)) → set_recovery es ≡ map_of.entries m → map_of.from_sorted (set_recovery es) ≡ m
+made_of es m e = same_entries_map _ _ (entries-from_sorted nat_cmp (set_recovery es) (subst (λ xs. T (is_sorted nat_cmp xs)) (sym e) (entries_sorted m)) ∙ e)
 
--- entries in order have exponents that rise
-pub rising : (es : List (ℕ × Bor (List ℕ))) → IsStrictlySortedBy nat_cmp (keys_of es) → IsStrictlyIncreasing (exponents_of es)
+-- entries in order have strictly increasing exponents
+pub rising : (es : List (ℕ × Bor (List ℕ))) → IsStrictlySortedBy nat_cmp (keys_of es) → IsStrictlyIncreasing (set_exponents es)
 rising es up = subst IsStrictlyIncreasing (sym (keys_are es)) (IsStrictlyIncreasing-from_sorted (keys_of es) up)

@@ -18,7 +18,7 @@ lookup_more test (x ∷ es) e = step (test x.0) (lookup_more test es e)
     step true h = refl
     step false h = h
 
--- keys that the order doesn't tell apart have one value
+-- keys that are equal in the order have one value
 same_value : {K X : Type 0} {E : K → K → Bool} → IsEquivalence E → (es : List (K × X)) (a b : K) → E a b ≡ true → lookup (E a) es ≡ lookup (E b) es
 same_value laws [] a b same = refl
 same_value laws (e ∷ es) a b same = ap₂ (λ t rest. cond t (Some e.1) rest) (laws.congr a b e.0 same) (same_value laws es a b same)
@@ -27,7 +27,7 @@ module _ {K X : Type 0} {R : K → K → Ordering} (total : IsTotalOrder R) (es 
   at_key : (q : K) → eq_by_cmp R q key ≡ true → is_some (lookup (eq_by_cmp R q) es) ≡ is_some (get R old key)
   at_key q same = ap is_some (same_value (eq_by_cmp_equiv total) es q key same ∙ sym (so_far key))
 
-  -- its key has a value
+  -- its key has a value already
   pub first_stays : is_some (get R old key) ≡ true → HasFirsts R (es ++ (key, value) ∷ []) old
   first_stays some q = so_far q ∙ stays (lookup (eq_by_cmp R q) es) (eq_by_cmp R q key) (λ same. at_key q same ∙ some) ∙ sym (lookup_more (eq_by_cmp R q) es (key, value))
     where
@@ -36,7 +36,7 @@ module _ {K X : Type 0} {R : K → K → Ordering} (total : IsTotalOrder R) (es 
       stays None true h = absurd (false≢true (h refl))
       stays None false h = refl
 
-  -- its key has none
+  -- its key has no value yet
   pub first_added : (new : BTreeMap K X) → is_some (get R old key) ≡ false → Updates R old new key (Some value) → HasFirsts R (es ++ (key, value) ∷ []) new
   first_added new none puts q =
       puts.0 q ∙ ap₂ (λ t o. cond t (Some value) o) ((eq_by_cmp_equiv total).symm key q) (so_far q)
@@ -47,11 +47,11 @@ module _ {K X : Type 0} {R : K → K → Ordering} (total : IsTotalOrder R) (es 
       added (Some x) true h = absurd (false≢true (sym (h refl)))
       added (Some x) false h = refl
 
--- the items of a chain
+-- the items of a chain of iterators
 pub items_of : {S A B : Type 0} {steps : S → Option A → S → Type 0} {s : S} {all : List B} (v : A → B) (xs : List A) → Drains steps s xs → YieldsList steps v s all → map v xs ≡ all
 items_of {steps = steps} {s = s} {all = all} v xs ran road = gives_Drains steps v xs all s road.runs ran
 
--- what `firsts` answers for them
+-- what `firsts` returns for them
 pub firsts_of : {S K X E : Type 0} {steps : S → Option (K × X) → S → Type 0} {s : S} {all : List (K × X)} (R : K → K → Ordering) (r : Result (BTreeMap K X) E)
     → IfOk r (λ m. (es : List (K × X)) × Drains steps s es × HasFirsts R es m) → YieldsList steps (λ x. x) s all → IfOk r (HasFirsts R all)
 firsts_of R (Ok m) ran road = subst (λ es. HasFirsts R es m) (sym (map-id ran.0) ∙ items_of (λ x. x) ran.0 ran.1 road) ran.2
@@ -90,11 +90,11 @@ module _ {P D K : Type 0} (test : K → Bool) (read : P → Option D) (key : D �
 
 -- ---- the keys
 
--- File IDs are told apart by their bytes
+-- File IDs are equal if their bytes are
 pub same_id : (a b : List ℕ) → eq_by_cmp id_cmp a b ≡ bytes_eq b a
 same_id a b = is_eq-slice_cmp a b ∙ same_either_way a b
 
--- and numbers of slices by what they are
+-- keys are equal if their File IDs and numbers of slices are
 pub same_count : (id other : List ℕ) (n m : ℕ) → eq_by_cmp count_cmp (id, n) (other, m) ≡ (bytes_eq other id && m == n)
 same_count id other n m = both (id_cmp id other) (nat_cmp n m) ∙ ap₂ (λ a b. a && b) (same_id id other) (same_number n m)
   where

@@ -1,4 +1,4 @@
--- Lists of which each item has to be there, and lists made by a function.
+-- Lists whose items must all be there, and lists that a function makes.
 use Rattle.par2_sets.proofs.Common.{◌≡◌, ℕ, zero, suc, ◌+◌, ◌<◌, List, [], ◌∷◌, ◌++◌, Option, Some, None, length, map, take, get_or, refl, sym, ap, ◌∙◌, arith, slice_get, option_map, option_and_then, map_more, all_some}
 use Rattle.std.proofs.lemmas.Option.{slice_get_within, get_or_from_slice_get}
 
@@ -36,6 +36,6 @@ all_some_none {B = B} f (a ∷ xs) (suc i) x low is none = step (f a) (all_some_
     step None e = refl
     step (Some y) e = ap (option_map (λ ys. y ∷ ys)) e
 
--- the item at a place
+-- the item at an index
 pub item_at : {A : Type 0} (xs : List A) (i : ℕ) (x : A) → slice_get xs i ≡ Some x → (i < length xs) × (x ≡ get_or xs i x)
 item_at xs i x h = (slice_get_within xs i x h, sym (get_or_from_slice_get xs i x x h))

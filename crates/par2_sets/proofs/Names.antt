@@ -1,4 +1,4 @@
--- When names stand in a list once each.
+-- Lists of distinct names.
 use Rattle.par2_sets.proofs.Common.{◌≡◌, ℕ, suc, ◌==◌, Bool, true, false, ◌||◌, cond, List, [], ◌∷◌, length, map, refl, ap, ap₂, ◌∙◌, eq-eqb, IsDistinct, distinct_count, unique_keys, is_member, bytes_eq, nat_list_eq_equiv, eqb-true, distinct, distinct_from_std, distinct_same, std_from_distinct, distinct_by_length, IsDistinct-from_count, distinct_count-from_IsDistinct}
 use Rattle.std.specs.Bool.{Decides}
 use Rattle.std.proofs.lemmas.Bool.Decides.{same_from_decides}
@@ -20,7 +20,7 @@ module _ {K : Type 0} (same : K → K → Bool) (name : K → List ℕ) (by_name
       length-cond (is_member same ks k) k (unique_keys same ks) (unique_keys bytes_eq (map name ks)) (distinct_count-map ks)
       ∙ ap (λ b. length (cond b (unique_keys bytes_eq (map name ks)) (name k ∷ unique_keys bytes_eq (map name ks)))) (is_member-map ks k)
 
--- ---- names each once
+-- ---- distinct names
 
 by_count : (xs : List (List ℕ)) → Decides (distinct_count bytes_eq xs == length xs) (IsDistinct bytes_eq xs)
 by_count xs = (
@@ -34,6 +34,6 @@ by_distinct xs = (
   λ d. eq-eqb _ _ (ap length (distinct_same xs (distinct_from_std xs d))),
 )
 
--- as many keys as names is no name twice
+-- there are as many keys as names if and only if the names are distinct
 pub counted : (xs : List (List ℕ)) → (distinct_count bytes_eq xs == length xs) ≡ (length (distinct xs) == length xs)
 counted xs = same_from_decides _ _ (by_count xs) (by_distinct xs)

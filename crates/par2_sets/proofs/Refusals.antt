@@ -1,18 +1,18 @@
 -- Faults that are passed on.
-use Rattle.par2_sets.proofs.Common.{◌≡◌, ◌⊎◌, ◌<◌, ℕ, List, length, get_or, map, refl, sym, ap, ◌∙◌, None, Some, Option, Err, Result, ok_or, IsErrAnd, err_from_is_err_and, Fault, Memory, all_some, err_again, Gives}
+use Rattle.par2_sets.proofs.Common.{◌≡◌, ◌⊎◌, ◌<◌, ℕ, List, length, get_or, map, refl, sym, ap, ◌∙◌, None, Some, Option, Err, Result, ok_or, IsErrAnd, err_from_is_err_and, Fault, Memory, all_some, err_again, Returns}
 use Rattle.par2_sets.proofs.Lists.{all_some_none}
 
--- what a `?` answers, where a step has ended in a fault
+-- what `?` returns if a step ended in a fault
 pub passed_on : {X Y : Type 0} (view : X → Y) (r : Result X Fault) (whole : Result Y Fault) (fault : Fault)
-    → IsErrAnd r (λ y. y ≡ fault) → (fault ≡ Memory) ⊎ (whole ≡ Err fault) → Gives view r whole
-passed_on view r whole fault is h = err_again (λ x. Gives view x whole) r fault (err_from_is_err_and r is) h
+    → IsErrAnd r (λ y. y ≡ fault) → (fault ≡ Memory) ⊎ (whole ≡ Err fault) → Returns view r whole
+passed_on view r whole fault is h = err_again (λ x. Returns view x whole) r fault (err_from_is_err_and r is) h
 
--- what was missing
+-- the part that was missing
 missing_one : {A : Type 0} (o : Option A) (missing fault : Fault) → ok_or o missing ≡ Err fault → (o ≡ None) × (fault ≡ missing)
 missing_one None missing fault h = (refl, cc)
 missing_one (Some x) missing fault h = (cc, cc)
 
--- one is missing among all
+-- if one is missing, the whole list is
 pub one_missing : {A B : Type 0} (f : A → Option B) (xs : List A) (i : ℕ) (x : A) (missing fault : Fault)
     → i < length xs → x ≡ get_or xs i x → ok_or (f x) missing ≡ Err fault → ok_or (all_some (map f xs)) missing ≡ Err fault
 one_missing f xs i x missing fault low is h =

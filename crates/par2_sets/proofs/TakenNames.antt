@@ -12,18 +12,18 @@ names_of_files : (entries : List File) → AllByRecursion (λ file. IsTrue (is_n
 names_of_files [] h = refl
 names_of_files (file ∷ entries) h = and_from _ _ h.0.0 (names_of_files entries h.1)
 
--- the names in a folder and those of targets are names
+-- the names in a folder and of targets are valid
 pub all_names : (folder : Folder) (set : ParSet) → IsFolder folder → IsSound set → IsTrue (list_all is_name (taken_for folder set))
 all_names folder set kept sound =
     list_all-append is_name (names folder) (target_names set) ∙ and_from _ _ (names_of_files (files folder) kept) sound.are_names
 
 -- ---- numbers
 
--- the name with the first of the numbers from n up to `most` that is free
+-- the name with the first free number from n up to `most`
 abbrev pub first_from : List (List ℕ) → List ℕ → ℕ → ℕ → List ℕ
 first_from taken name most n = unwrap_or (find (λ other. not (is_among taken other)) (map (numbered name) (range_with_len n (most + 1 - n)))) []
 
--- an aside is the first of all
+-- an aside has the first free number from 1 on
 pub from_one : (folder : Folder) (set : ParSet) (name : List ℕ) (most : ℕ) → most ≡ length (taken_for folder set) + 1
     → aside folder set name ≡ first_from (taken_for folder set) name most 1
 unfolding aside
@@ -43,7 +43,7 @@ module _ (taken : List (List ℕ)) (name : List ℕ) (most n : ℕ) (low : n ≤
   pub first_here : is_among taken (numbered name n) ≡ false → first_from taken name most n ≡ numbered name n
   first_here free = one_more false free
 
-  -- a number that is taken is passed over
+  -- a number that is taken is skipped
   pub first_later : is_among taken (numbered name n) ≡ true → first_from taken name most n ≡ first_from taken name most (n + 1)
   first_later full =
       one_more true full
@@ -52,7 +52,7 @@ module _ (taken : List (List ℕ)) (name : List ℕ) (most n : ℕ) (low : n ≤
 
 -- ---- refusals
 
--- what a `?` answers, where a step has ended in a fault
+-- what `?` returns if a step ended in a fault
 pub passed_on : {X : Type 0} (r : Result X Fault) (fault : Fault) (long : Option Fault) → IsErrAnd r (λ y. y ≡ fault)
     → (fault ≡ Memory) ⊎ (long ≡ Some fault) → IfErr r (λ f. (f ≡ Memory) ⊎ (long ≡ Some f))
 passed_on r fault long is h = err_again (λ x. IfErr x (λ f. (f ≡ Memory) ⊎ (long ≡ Some f))) r fault (err_from_is_err_and r is) h
@@ -61,19 +61,19 @@ passed_on r fault long is h = err_again (λ x. IfErr x (λ f. (f ≡ Memory) ⊎
 pub too_long : (folder : Folder) (set : ParSet) (name : List ℕ) → 255 < length (aside folder set name) → long_aside folder set (name ∷ []) ≡ Some NameTooLong
 too_long folder set name h = ap (λ b. fault_where (b || false) NameTooLong) (lt-ltb 255 (length (aside folder set name)) h)
 
-no_longer : (text : List ℕ) → IsTrue (is_name text) → nat_lt 255 (length text) ≡ false
-no_longer text named =
-    false_from_ne_true _ (λ long. let most : length text ≤ 255 = leb-true (length text) 255 (name_is_short text named) in absurd (omega (arith, most, ltb-true 255 (length text) long)))
+no_longer : (bytes : List ℕ) → IsTrue (is_name bytes) → nat_lt 255 (length bytes) ≡ false
+no_longer bytes named =
+    false_from_ne_true _ (λ long. let most : length bytes ≤ 255 = leb-true (length bytes) 255 (name_is_short bytes named) in absurd (omega (arith, most, ltb-true 255 (length bytes) long)))
 
--- what is too long is no name
-pub long_is_no_name : (text : List ℕ) → 255 < length text → is_name text ≡ false
-long_is_no_name text h = false_from_ne_true _ (λ named. false≢true (sym (no_longer text named) ∙ lt-ltb 255 (length text) h))
+-- bytes that are too long are no name
+pub long_is_no_name : (bytes : List ℕ) → 255 < length bytes → is_name bytes ≡ false
+long_is_no_name bytes h = false_from_ne_true _ (λ named. false≢true (sym (no_longer bytes named) ∙ lt-ltb 255 (length bytes) h))
 
--- a numbered name is only no name where it is too long
-pub long_where_err : {E : Type 0} (r : Result (List ℕ) E) (name : List ℕ) (n : ℕ) (text : List ℕ) → n < 2 ^ 64 → IsTrue (is_name name) → text ≡ numbered name n
-    → (IsTrue (is_name text) → IsOk r) → IfErr r (λ _. 255 < length (numbered name n))
-long_where_err (Ok x) name n text small named is h = tt
-long_where_err (Err e) name n text small named is h = elim (cases_lt 255 (length (numbered name n))) as (λ _. 255 < length (numbered name n)) [
+-- a numbered name is invalid only if it is too long
+pub long_where_err : {E : Type 0} (r : Result (List ℕ) E) (name : List ℕ) (n : ℕ) (bytes : List ℕ) → n < 2 ^ 64 → IsTrue (is_name name) → bytes ≡ numbered name n
+    → (IsTrue (is_name bytes) → IsOk r) → IfErr r (λ _. 255 < length (numbered name n))
+long_where_err (Ok x) name n bytes small named is h = tt
+long_where_err (Err e) name n bytes small named is h = elim (cases_lt 255 (length (numbered name n))) as (λ _. 255 < length (numbered name n)) [
   | inl long ↦ long
   | inr short ↦ absurd (false≢true (h (ap is_name is ∙ numbered_is_name name n small named short)))
 ]
@@ -89,7 +89,7 @@ module _ (folder : Folder) (set : ParSet) (names : List (List ℕ)) (i : ℕ) (n
       ap (λ xs. xs ++ other ∷ []) before ∙ ap (λ x. map (aside folder set) (take i names) ++ x ∷ []) (named ∙ ap (aside folder set) is)
       ∙ sym (map_more (aside folder set) names i name low)
 
-  -- where its aside is a name, none is too long yet
+  -- if its aside is a name, none is too long so far
   pub one_more_short : IsTrue (is_name other) → long_aside folder set (take i names) ≡ None → long_aside folder set (take (i + 1) names) ≡ None
   one_more_short good before =
       let test : List ℕ → Bool = λ x. nat_lt 255 (length (aside folder set x)) in

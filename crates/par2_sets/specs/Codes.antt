@@ -1,4 +1,4 @@
--- One-to-one codes of targets and sets, for models.
+-- Encodings of targets and sets, for models.
 use Rattle.std.specs.Prelude.{ℕ, List, refl}
 use Rattle.std.specs.Coded.{Coded, code_by, coded×, coded_ℕ, coded_list}
 use Rattle.std.specs.FinMap as map_of
@@ -7,11 +7,11 @@ use Rattle.std.specs.Ordering.{nat_cmp}
 use Rattle.par2_spec.specs.Checksums.{Pair}
 use Rattle.par2_spec.specs.Sets.{ParSet, Target}
 
--- a text
+-- bytes
 abbrev pub bytes_code : Coded (List ℕ)
 bytes_code = coded_list coded_ℕ
 
--- a target, as its fields
+-- a target, by its fields
 abbrev pub target_code : Coded Target
 target_code =
     code_by (List ℕ × (ℕ × (List ℕ × List Pair)))
@@ -24,7 +24,7 @@ target_code =
 abbrev pub recovery_code : Coded (FinMap nat_cmp (List ℕ))
 recovery_code = map_of.code coded_ℕ bytes_code
 
--- a set, as its fields
+-- a set, by its fields
 abbrev pub set_code : Coded ParSet
 set_code =
     code_by (List ℕ × (ℕ × (List Target × FinMap nat_cmp (List ℕ))))

@@ -26,7 +26,7 @@ abbrev pub HoldDescriptions : List Packet → BTreeMap (List ℕ) scan.Packet �
 HoldDescriptions packets firsts =
     (id : List ℕ) → option_and_then (λ p. read_desc p.kind p.body.now) (get id_cmp firsts id) ≡ description_of packets id
 
--- the map has the first checksums of each File ID with so many slices
+-- the map has the first checksums of each File ID with each number of slices
 abbrev pub HoldChecksums : List Packet → BTreeMap (List ℕ × ℕ) IfscBody → Type 0
 HoldChecksums packets firsts =
     (id : List ℕ) (n : ℕ) → option_map (λ c. c.pairs) (get count_cmp firsts (id, n)) ≡ pairs_of packets id n

@@ -1,4 +1,6 @@
-//! The set that the PAR2 packets of a folder describe, read once.
+//! The set that the PAR2 packets of a folder describe. `par2_repair` plans by it: it calls `set_of` first, then
+//! `asides` for a repair, and `par_files` for a purge. It searches no slices and repairs nothing: it reads one folder
+//! in memory, and names files.
 #![tactic(auto)]
 
 mod listing;

@@ -1,4 +1,5 @@
-//! The names of a set's targets and par files, and those under which files are put aside.
+//! The names of a set's targets and PAR2 files, and asides: the names to which a repair renames files of incomplete
+//! targets before it writes the targets.
 
 ghost use Rattle.std.specs.Prelude.{◌≡◌, ◌&&◌, ℕ, List, IfOk, ◌⊎◌, ◌<◌, ◌+◌, ◌++◌, ◌∷◌, [], None, length, map, IfErr};
 ghost use Rattle.std.specs.List.{list_any, list_all};
@@ -22,7 +23,7 @@ use par2_spec::{Fault, Result};
 use std::alloc::Global;
 use std::collections::BTreeSet;
 
-// Whether a file has packets, all of the set with this identifier.
+// Whether a file has packets, and only of the set with this identifier, so that a purge may remove it.
 fn has_only_packets_of(bytes: &[u8], id: &[u8; 16]) -> bool
     ensures { let packets = accepted bytes.now in
         result ≡ (list_any (λ p. bytes_eq p.set_id id.now) packets
@@ -38,7 +39,7 @@ fn has_only_packets_of(bytes: &[u8], id: &[u8; 16]) -> bool
     found
 }
 
-// Whether the name is that of a par file of the set.
+// Whether the name is that of a PAR2 file of the set. `targets` has the names of the set's targets.
 fn is_par_file(folder: &Folder, set: &ParSet, targets: &BTreeSet<Name>, name: &Name) -> bool
     requires { HoldsOwned targets.now (target_names set.now) }
     ensures { result ≡ repairs.is_par_file folder.now.files set.now name.now }
@@ -48,8 +49,8 @@ fn is_par_file(folder: &Folder, set: &ParSet, targets: &BTreeSet<Name>, name: &N
         && has_only_packets_of(folder.bytes_of(name), &set.id())
 }
 
-/// The names of the set's par files, in order: they end in `.par2`, have packets of the set and of no other, and aren't
-/// targets.
+/// The names of the set's PAR2 files, in order, which a purge removes: they end in `.par2`, have packets of the set and
+/// of no other, and aren't targets.
 pub fn par_files(alloc: Global, folder: &Folder, set: &ParSet) -> Result<Vec<Name>>
     ensures { Lists (repairs.par_files folder.now.files set.now) result }
 {
@@ -59,7 +60,7 @@ pub fn par_files(alloc: Global, folder: &Folder, set: &ParSet) -> Result<Vec<Nam
     Ok(names)
 }
 
-// The names of the set's targets.
+// A tree of the names of the set's targets. `HoldsOwned`: it has exactly these.
 fn target_names(alloc: Global, set: &ParSet) -> Result<BTreeSet<Name>>
     ensures { IfOk result (λ names. HoldsOwned names (target_names set.now)) }
 {
@@ -67,19 +68,19 @@ fn target_names(alloc: Global, set: &ParSet) -> Result<BTreeSet<Name>>
     names.collect(alloc)
 }
 
-// The name NAME.n, where that is not too long.
+// The name NAME.n, from which `aside` tries n = 1, 2 and so on. It returns `NameTooLong` above 255 bytes.
 fn numbered(alloc: Global, name: &Name, n: usize) -> Result<Name, Fault>
     ensures refused { let long = 255 < length (names.numbered name.now n) in
         IfErr result (λ fault. (fault ≡ Fault.Memory) ⊎ ((fault ≡ Fault.NameTooLong) × long)) }
     ensures name { IfOk result (λ other. other ≡ names.numbered name.now n) }
 {
-    let mut text = String::from_str(alloc, name.as_str())?;
-    text.push_str(".")?;
-    text.push_str(Buffer::new().format(n))?;
-    Name::new(&text).map_err(|_| Fault::NameTooLong)
+    let mut string = String::from_str(alloc, name.as_str())?;
+    string.push_str(".")?;
+    string.push_str(Buffer::new().format(n))?;
+    Name::new(&string).map_err(|_| Fault::NameTooLong)
 }
 
-// Whether the name is in the folder or a target's.
+// Whether the name is in the folder or a target's, so that it can't be an aside.
 fn is_taken(folder: &Folder, targets: &BTreeSet<Name>, name: &Name) -> bool
     ensures { (all : List (List ℕ)) → HoldsOwned targets.now all
         → result ≡ is_among (folders.names folder.now.files ++ all) name.now }
@@ -87,7 +88,8 @@ fn is_taken(folder: &Folder, targets: &BTreeSet<Name>, name: &Name) -> bool
     folder.get(name).is_some() || targets.contains(name)
 }
 
-// The aside of a name, which has one of the first `most` numbers.
+// The aside of a name: NAME.n with the least n from 1 on that isn't taken. `most` is one more than there are taken
+// names, so one of the numbers up to it is free. `long_aside`: it returns `NameTooLong` if the aside is too long.
 fn aside(
     alloc: Global,
     folder: &Folder,
@@ -101,9 +103,9 @@ fn aside(
     ensures refused { FailsFor (long_aside folder.now.files set.now (name.now ∷ [])) result }
     ensures aside { IfOk result (λ other. other ≡ aside folder.now.files set.now name.now) }
 {
-    // By this law a number is free.
+    // For the prover: one of these numbers is free.
     aside_is_found();
-    // The names in a folder and those of targets are names, say these: what is too long for one is not taken.
+    // For the prover: names in the folder and of targets are valid, so a name that is too long isn't taken.
     let _ = folder.vacant();
     let _ = set.targets();
     for n in 1..=most {
@@ -115,7 +117,7 @@ fn aside(
     unreachable!()
 }
 
-// The asides of these names.
+// The asides of these names, in order, with `targets` and `most` as `aside` takes them.
 fn asides_of(
     alloc: Global,
     folder: &Folder,
@@ -137,8 +139,8 @@ fn asides_of(
     Ok(asides)
 }
 
-/// The names under which the files of these names are put aside: each the name with the least number from 1 on that is
-/// neither in the folder nor a target's. The answer is `NameTooLong` where one of them has more than 255 bytes.
+/// The asides of these names, in order: each is NAME.n with the least number n from 1 on that is neither in the folder
+/// nor a target's. It returns `NameTooLong` if one has more than 255 bytes. `AreFew`: the numbers fit in 64 bits.
 pub fn asides(
     alloc: Global,
     folder: &Folder,
@@ -151,7 +153,7 @@ pub fn asides(
     ensures few { IfOk result (λ _. AreFew folder.now.files set.now) }
 {
     let targets = target_names(alloc, set)?;
-    // One number more than there are names to keep away from.
+    // One number more than there are names to avoid.
     let most = folder.len() + set.targets().len() + 1;
     asides_of(alloc, folder, set, &targets, most, names)
 }

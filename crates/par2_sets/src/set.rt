@@ -1,4 +1,5 @@
-//! The set of a base.
+//! The set of a base: `set_of` takes the Recovery Set ID of the base's first packet, collects the packets with this ID,
+//! and reads the set from them.
 
 ghost use Rattle.std.specs.Prelude.{◌≡◌, ◌⊎◌, length, map, Ok, Err, IfOk, IfErr};
 ghost use Rattle.std.specs.List.{AllByRecursion};
@@ -6,9 +7,9 @@ ghost use Rattle.std.specs.List.Sorted.{IsStrictlyIncreasing};
 ghost use Rattle.std.specs.FinMap.{entries};
 ghost use Rattle.par2_spec.specs.Sets as sets;
 ghost use Rattle.par2_spec.specs.Sets.{IsSound};
-ghost use Rattle.par2_packets.specs.Views.{packet_of};
-ghost use Rattle.par2_sets.specs.Slices.{recovered_of, exponents_of};
-ghost use Rattle.par2_sets.specs.Steps.{Gives, set_in};
+ghost use Rattle.par2_packets.specs.Views.{packet_view};
+ghost use Rattle.par2_sets.specs.Slices.{set_recovery, set_exponents};
+ghost use Rattle.par2_sets.specs.Steps.{Returns, set_from_packets};
 
 use crate::Target;
 use crate::packets::packets_of;
@@ -22,7 +23,8 @@ use par2_spec::search_laws::set_is_sound;
 use std::alloc::Global;
 use std::marker::Model;
 
-/// The set of a base. Its recovery slices stand in the folder, and none is copied.
+/// The set of a base. Its recovery slices borrow from the folder. `IsReadSet`: the exponents increase, and the set is
+/// sound, as `IsSound` of `par2_spec` defines it.
 #[derive(Drop)]
 pub struct ParSet<'a> {
     id: [u8; 16],
@@ -34,7 +36,7 @@ pub struct ParSet<'a> {
 impl<'a> Model for ParSet<'a> {
     ghost use Rattle.par2_spec.specs.Sets as sets;
     ghost use Rattle.par2_sets.specs.Codes.{set_code};
-    ghost use Rattle.par2_sets.specs.Slices.{IsKept, set_view};
+    ghost use Rattle.par2_sets.specs.Slices.{IsReadSet, set_view};
 
     ghost Value = { sets.ParSet };
 
@@ -42,7 +44,7 @@ impl<'a> Model for ParSet<'a> {
 
     ghost view = { λ p. set_view p.id p.slice_size p.targets.items p.recovery.items };
 
-    ghost invariant = { λ p. IsKept p.id p.slice_size p.targets.items p.recovery.items };
+    ghost invariant = { λ p. IsReadSet p.id p.slice_size p.targets.items p.recovery.items };
 }
 
 impl<'a> ParSet<'a> {
@@ -61,7 +63,7 @@ impl<'a> ParSet<'a> {
         self.slice_size
     }
 
-    /// The files that it describes, in the order of the Main.
+    /// The files that it describes, in the order of the Main. Their slices are numbered in this order.
     pub fn targets(&self) -> &[Target]
         ensures value { result.now ≡ self.now.targets }
         ensures sound { IsSound self.now }
@@ -69,21 +71,23 @@ impl<'a> ParSet<'a> {
         &self.targets
     }
 
-    /// The surviving recovery slices with their exponents, which rise strictly.
+    /// The surviving recovery slices with their exponents, strictly increasing.
     pub fn recovery(&self) -> &[(u32, &'a [u8])]
-        ensures value { recovered_of result.now ≡ entries self.now.recovery }
-        ensures rising { IsStrictlyIncreasing (exponents_of result.now) }
-        ensures sizes { let slices = recovered_of result.now in
+        ensures value { set_recovery result.now ≡ entries self.now.recovery }
+        ensures rising { IsStrictlyIncreasing (set_exponents result.now) }
+        ensures sizes { let slices = set_recovery result.now in
             AllByRecursion (λ r. length r.1 ≡ self.now.slice_size) slices }
     {
         &self.recovery
     }
 }
 
-// The set of the packets that have its identifier.
+// The set that these packets describe, all of which have the Recovery Set ID `id`. It returns the fault of the first
+// step that fails: no Main, a slice size or names outside the profile, or a file without description or checksums.
 fn set_in<'a>(alloc: Global, id: [u8; 16], packets: &[Packet<'a>]) -> Result<ParSet<'a>, Fault>
-    requires { (set : sets.ParSet) → set_in id (map packet_of packets.now) ≡ Ok set → IsSound set }
-    ensures { Gives (λ set. set) result (set_in id (map packet_of packets.now)) }
+    requires { (set : sets.ParSet)
+        → set_from_packets id (map packet_view packets.now) ≡ Ok set → IsSound set }
+    ensures { Returns (λ set. set) result (set_from_packets id (map packet_view packets.now)) }
 {
     let Some(main) = main_of(packets, &id) else {
         return Err(Fault::NoMain);
@@ -106,8 +110,8 @@ fn set_in<'a>(alloc: Global, id: [u8; 16], packets: &[Packet<'a>]) -> Result<Par
     })
 }
 
-/// The set that the packets of the base and of the other `.par2` files describe, or the first part
-/// of it that is absent.
+/// The set that the packets of the base and of the other `.par2` files describe, or the fault of the first part that is
+/// absent or wrong. Its Recovery Set ID is that of the base's first packet, and packets of other sets are ignored.
 #[tactic(auto, unfolding(par2_spec::specs::Sets::set_of, par2_spec::specs::Sets::read_set))]
 pub fn set_of<'a>(alloc: Global, folder: &'a Folder, base: &Name) -> Result<ParSet<'a>, Fault>
     ensures refused { let read = sets.set_of folder.now.files base.now in
@@ -115,7 +119,7 @@ pub fn set_of<'a>(alloc: Global, folder: &'a Folder, base: &Name) -> Result<ParS
     ensures read { IfOk result (λ set. sets.set_of folder.now.files base.now ≡ Ok set) }
     ensures sound { IfOk result IsSound }
 {
-    // By this law the set is sound.
+    // For the prover: the set is sound.
     set_is_sound();
     let first = Packets::new(folder.bytes_of(base)).next();
     let id = first.ok_or(Fault::NoPackets)?.set_id;

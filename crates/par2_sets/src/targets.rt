@@ -1,9 +1,10 @@
-//! The files that a set describes.
+//! Targets: the files that a set describes. `are_in_profile` checks their descriptions, and `targets_of` adds the
+//! checksums of their slices.
 
 ghost use Rattle.std.specs.Prelude.{◌≡◌, ◌≤◌, List, map, ◌==◌, nat_le, length, sum_by, IfOk, IsTrue};
-ghost use Rattle.par2_packets.specs.Views.{packet_of};
+ghost use Rattle.par2_packets.specs.Views.{packet_view};
 ghost use Rattle.par2_sets.specs.Firsts.{HoldChecksums};
-ghost use Rattle.par2_sets.specs.Steps.{Gives, targets_or_fault, target_or_fault};
+ghost use Rattle.par2_sets.specs.Steps.{Returns, targets_or_fault, target_or_fault};
 ghost use Rattle.std.specs.List.{list_all};
 ghost use Rattle.par2_spec.specs.Names.{distinct, is_name};
 ghost use Rattle.par2_spec.specs.Sets.{are_in_profile};
@@ -38,6 +39,7 @@ impl Model for Target {
 }
 
 impl Target {
+    /// The name that the set has for the file.
     pub fn name(&self) -> &Name
         ensures { result.now ≡ self.now.name }
     {
@@ -51,7 +53,7 @@ impl Target {
         self.length
     }
 
-    /// The MD5 of the file.
+    /// The MD5 of the file, with which a repair compares the files that it writes.
     pub fn md5(&self) -> [u8; 16]
         ensures { result ≡ self.now.md5 }
     {
@@ -66,7 +68,8 @@ impl Target {
     }
 }
 
-// The target of a description.
+// The target of a description, with the checksums of its slices of `s` bytes. It returns `NoChecksums` if there are
+// none.
 fn target_of(
     alloc: Global,
     checksums: &Checksums,
@@ -76,7 +79,7 @@ fn target_of(
     requires size { 1 ≤ s }
     requires name { IsTrue (is_name description.now.name) }
     ensures { (packets : List spec.Packet) → HoldChecksums packets checksums.now →
-        Gives (λ t. t) result (target_or_fault packets s description.now) }
+        Returns (λ t. t) result (target_or_fault packets s description.now) }
 {
     let Some(name) = Name::from_bytes(description.name_bytes()) else {
         unreachable!()
@@ -89,7 +92,7 @@ fn target_of(
     })
 }
 
-/// The targets of the descriptions, in order.
+// The targets of the descriptions, in order, with slices of `s` bytes. It returns `NoChecksums` if a target has none.
 pub(crate) fn targets_of(
     alloc: Global,
     packets: &[Packet],
@@ -98,8 +101,8 @@ pub(crate) fn targets_of(
 ) -> Result<Vec<Target>, Fault>
     requires size { 1 ≤ s }
     requires names { IsTrue (list_all (λ d. is_name d.name) descriptions.now) }
-    ensures { let all = targets_or_fault (map packet_of packets.now) s descriptions.now in
-        Gives (λ targets. targets.items) result all }
+    ensures { let all = targets_or_fault (map packet_view packets.now) s descriptions.now in
+        Returns (λ targets. targets.items) result all }
 {
     let checksums = checksums_in(alloc, packets)?;
     let mut targets = Vec::new(alloc);
@@ -109,7 +112,7 @@ pub(crate) fn targets_of(
     Ok(targets)
 }
 
-// Whether the files have no more slices than a set may have.
+// Whether the files have no more than 32,768 slices of `s` bytes, as many as there are constants for slices.
 fn have_few_slices(s: u64, descriptions: &[DescView]) -> bool
     requires { 1 ≤ s }
     ensures { result ≡ nat_le (sum_by (λ d. slice_count s d.length) descriptions.now) 32768 }
@@ -125,14 +128,14 @@ fn have_few_slices(s: u64, descriptions: &[DescView]) -> bool
     true
 }
 
-// Whether the bytes of each name are one.
+// Whether each described name is one that a file of a folder can have.
 fn have_names(descriptions: &[DescView]) -> bool
     ensures { result ≡ list_all (λ d. is_name d.name) descriptions.now }
 {
     descriptions.iter().all(|description| Name::from_bytes(description.name_bytes()).is_some())
 }
 
-// Whether each name stands there once.
+// Whether no two described names are equal.
 fn are_distinct(alloc: Global, descriptions: &[DescView]) -> Result<bool>
     ensures { let names = map (λ d. d.name) descriptions.now in
         IfOk result (λ b. b ≡ (length (distinct names) == length descriptions.now)) }
@@ -142,7 +145,7 @@ fn are_distinct(alloc: Global, descriptions: &[DescView]) -> Result<bool>
     Ok(distinct.len() == descriptions.len())
 }
 
-/// Whether the profile takes the files.
+// Whether the files are in the profile: at most 32,768 slices of `s` bytes, and valid, distinct names.
 pub(crate) fn are_in_profile(alloc: Global, s: u64, descriptions: &[DescView]) -> Result<bool>
     requires { 1 ≤ s }
     ensures { IfOk result (λ b. b ≡ are_in_profile s descriptions.now) }

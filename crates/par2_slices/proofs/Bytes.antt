@@ -1,10 +1,10 @@
--- Bytes taken in by sixteens.
+-- Bytes in groups of sixteen.
 use Rattle.par2_slices.proofs.Common.{◌≡◌, ℕ, zero, suc, ◌+◌, ◌*◌, ◌^◌, ◌<◌, ◌%◌, ◌/◌, List, [], ◌∷◌, ◌++◌, length, take, drop, get_or, sym, ap, ap₂, ◌∙◌, arith, bit_xor, concat, All, from_le_bytes, to_le_bytes, w32, All-from_get_or, All-get_or, All-drop, All-take, length-drop, length-take-le, take_more, take_all, take-append-drop, append-nil, nil_from_length, xor_assoc, xor_zero_r, xor_comm, concat-append, crc_byte, crc_steps, crc_steps-add, crc_steps-split, crc_steps-xor, crc_byte-steps, fold-append, joined, steps}
 use Rattle.std.specs.Simd.{first_chunks}
 use Rattle.std.proofs.Math.Seq.{take-add}
 use Rattle.std.specs.Prelude.{fold}
 
--- the lowest byte by a table of its own, the bits above it by eight steps fewer
+-- the lowest byte by its own table, the bits above it by eight steps fewer
 byte_more : (m n w sum value : ℕ) → n ≡ m + 1 → sum ≡ steps (8 * m) (w / 256) → value ≡ steps (8 * n) (w % 256) → bit_xor sum value ≡ steps (8 * n) w
 unfolding steps
 byte_more m n w sum value next sum_is value_is =
@@ -14,7 +14,7 @@ byte_more m n w sum value next sum_is value_is =
     ∙ sym (crc_steps-split (8 * m) 8 w)
     ∙ ap (λ t. crc_steps t w) (sym more)
 
--- a word of four bytes, a table for each
+-- a word of four bytes, with a table for each
 pub by_four_tables : (w later a b c d : ℕ) (bytes : List ℕ) → w < 2 ^ 32 → bytes ≡ to_le_bytes w32 w → a ≡ steps (8 * (later + 1)) (get_or bytes 3 0) → b ≡ steps (8 * (later + 1 + 1)) (get_or bytes 2 0)
     → c ≡ steps (8 * (later + 2 + 1)) (get_or bytes 1 0) → d ≡ steps (8 * (later + 3 + 1)) (get_or bytes 0 0) → bit_xor (bit_xor (bit_xor a b) c) d ≡ steps (8 * (later + 4)) w
 by_four_tables w later a b c d bytes below are a_is b_is c_is d_is =
@@ -39,7 +39,7 @@ none_taken c = sym (xor_zero_r c)
 pub fold_more : (bytes : List ℕ) (c k : ℕ) → k < length bytes → fold crc_byte c (take (k + 1) bytes) ≡ crc_byte (fold crc_byte c (take k bytes)) (get_or bytes k 0)
 fold_more bytes c k below = ap (fold crc_byte c) (take_more bytes k 0 below) ∙ fold-append (take k bytes) (get_or bytes k 0 ∷ []) c
 
--- the first k + 1 bytes as a number, where the first k are x
+-- the first k + 1 bytes as a number, if the first k are x
 further : (c : ℕ) (bytes : List ℕ) (k n x : ℕ) → k < length bytes → x < 2 ^ n → fold crc_byte c (take k bytes) ≡ steps n (bit_xor c x) → fold crc_byte c (take (k + 1) bytes) ≡ steps (n + 8) (bit_xor c (x + get_or bytes k 0 * 2 ^ n))
 further c bytes k n x within below is = fold_more bytes c k within ∙ taken n c x (get_or bytes k 0) (fold crc_byte c (take k bytes)) below is
 
@@ -57,7 +57,7 @@ four_bytes c bytes len all_small =
     let s4 : fold crc_byte c (take 4 bytes) ≡ steps 32 (bit_xor c (x3 + at 3 * 2 ^ 24)) = further c bytes 3 24 x3 (omega (arith, len)) (omega (arith, small)) s3 in
     ap (fold crc_byte c) (sym (take_all 4 bytes (omega (arith, len)))) ∙ s4
 
--- the remainder after a word more
+-- the remainder after one more word
 after_word : ℕ → List ℕ → ℕ
 after_word c word = steps 32 (bit_xor c (from_le_bytes w32 word))
 
@@ -111,7 +111,7 @@ concat-first_chunks n (suc k) xs =
     ∙ sym (take-add n (k * n) xs)
     ∙ ap (λ t. take t xs) (let e : n + k * n ≡ suc k * n = omega arith in e)
 
--- one group more
+-- one more group
 pub fold_group : (c : ℕ) (groups : List (List ℕ)) (i : ℕ) (none : List ℕ) → i < length groups → fold crc_byte c (concat (take (i + 1) groups)) ≡ fold crc_byte (fold crc_byte c (concat (take i groups))) (get_or groups i none)
 fold_group c groups i none below =
     ap (λ t. fold crc_byte c (concat t)) (take_more groups i none below)

@@ -1,4 +1,4 @@
--- The names that proofs of this crate take from elsewhere.
+-- Names from other crates that the proofs of this one use.
 
 pub use Rattle.std.proofs.Common.{Bool, Decides, List, [], ap, ap₂, arith, below_more, cond, drop, false, fold, get_or, get_or-set_other, get_or-set_same, inl, inr, length, length-set, map, min, not, refl, replicate, rules, set, subst, suc, sym, take, true, zero, zero-add, ℕ, ◌%◌, ◌&&◌, ◌*◌, ◌++◌, ◌+◌, ◌-◌, ◌/◌, ◌<◌, ◌^◌, ◌||◌, ◌∙◌, ◌∷◌, ◌≡◌, ◌≢◌, ◌≤◌}
 pub use Rattle.std.proofs.Math.Nat.{div-mul-le_self, lt_of_not-le, mul-le-mul_right, mul_assoc, ne_of_lt, pow-suc, suc-ne-zero}
@@ -23,23 +23,23 @@ pub use Rattle.std.specs.Prelude.{IfSome, None, Option, Some, bit_and, bit_or, b
 pub use Rattle.std.specs.Str.{bytes_eq}
 pub use Rattle.md5.specs.Md5.{Holds, md5}
 pub use Rattle.par2_md5_lanes.specs.Digests.{digest_at}
-pub use Rattle.par2_slices.specs.Filters.{AreAlike, Groups, IsLong, Marks}
+pub use Rattle.par2_slices.specs.Filters.{AreAlike, Groups, IsLong, Includes}
 pub use Rattle.par2_slices.specs.Intact.{HaveCrc32s, HaveMd5s}
-pub use Rattle.par2_slices.specs.Matching.{Describe, Describes, IsFirst, NumbersAreNames, first_intact, matched_from, matched_numbers, text_at, without}
+pub use Rattle.par2_slices.specs.Matching.{Describe, Describes, IsFirst, NumbersAreNames, first_intact, matched_from, matched_numbers, listed_at, without_number}
 pub use Rattle.par2_slices.specs.Pairs.{first_pairs}
 pub use Rattle.par2_slices.specs.Rolls.{IsLeaving, Roll}
 unfoldable pub use Rattle.par2_slices.specs.Rolls.{after_slide, leaving}
-pub use Rattle.par2_slices.specs.Rows.{AreCrcs, AreRows, IsNoted, crc_in, no_row, row_at}
-pub use Rattle.par2_slices.specs.Scans.{AreAnswered, IsAt, IsWhole, IsWindow, answer_below, crc_of, earlier_answer, window_of}
+pub use Rattle.par2_slices.specs.Rows.{AreCrcs, AreCandidateRows, IsNoted, crc_in, no_row, row_at}
+pub use Rattle.par2_slices.specs.Scans.{AreAnswered, IsScannedTo, IsWhole, IsWindow, answer_below, crc_of, earlier_answer, window_of}
 unfoldable pub use Rattle.par2_slices.specs.Scans.{after_candidates, first_below}
-pub use Rattle.par2_slices.specs.Searches.{AreStarts, HaveAnswers, HoldsGroup, IsIndex, IsOfOpenPair, IsPlace, IsStart, IsTally, after_window, answer_at, candidate_at, first_spot, first_spot_from, has_checksums, is_awaited, no_candidate, no_pair, no_place, pair_at, place_at, spot_in}
+pub use Rattle.par2_slices.specs.Searches.{AreStarts, HaveAnswers, HoldsGroup, IsIndex, IsOfOpenPair, IsPlace, IsStart, IsTally, after_window, answer_at, candidate_at, first_position, first_position_from, has_checksums, is_awaited, no_candidate, no_pair, no_place, pair_at, pair_place_at, position_in}
 unfoldable pub use Rattle.par2_slices.specs.Steps.{steps}
-pub use Rattle.par2_slices.specs.Texts.{AreShort, IsWithin, Window, padded_window, padded_windows, texts_of, window_in}
+pub use Rattle.par2_slices.specs.Positions.{AreShort, IsWithin, Window, padded_window, padded_windows, buffers_of, window_in}
 pub use Rattle.par2_slices.specs.declared.batch.Candidate.{Candidate}
-pub use Rattle.par2_slices.specs.declared.batch.Spot.{Spot}
+pub use Rattle.par2_slices.specs.declared.batch.Position.{Position}
 pub use Rattle.par2_slices.specs.declared.rows.Row.{Row}
 pub use Rattle.par2_slices.specs.declared.scan.Scan.{Scan}
-pub use Rattle.par2_slices.specs.declared.wanted_pairs.Place.{Place}
+pub use Rattle.par2_slices.specs.declared.wanted_pairs.PairPlace.{PairPlace}
 pub use Rattle.par2_spec.proofs.ChecksumLaws.{crc32-slide, crc_byte-steps, crc_steps-add, crc_steps-shifted, crc_steps-split, crc_steps-swap, crc_steps-xor, fold-append, fold-zeros, joined}
 pub use Rattle.par2_spec.proofs.ListsLaws.{map-cond, range-append}
 pub use Rattle.par2_spec.proofs.TestLaws.{none_from, or_nothing}

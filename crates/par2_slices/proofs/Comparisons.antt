@@ -12,7 +12,7 @@ parts_of_match pair slice h =
     let parts = and_parts (crc32 slice == pair.1) (bytes_eq (md5 slice) pair.0) h in
     (eqb-true (crc32 slice) pair.1 parts.0, (bytes_eq-Decides (md5 slice) pair.0).0 parts.1)
 
--- whether the slices from number a on, of which there are k, have the checksums of the pairs
+-- whether the k slices from number a on have the checksums of the pairs
 abbrev all_match : ℕ → List ℕ → List Pair → ℕ → ℕ → Bool
 all_match s bytes pairs a k = list_all (λ z. is_match z.0 z.1) (zip pairs (map (slice_at s bytes) (range_with_len a k)))
 
@@ -74,7 +74,7 @@ intact_from_alike s t bytes size alike =
     (alike.crcs j inside ∙ ap (λ (p : Pair). p.1) same)
     (alike.digests j (omega arith) inside ∙ ap (λ (p : Pair). p.0) same))
 
--- where the CRC-32s agree, the MD5s decide
+-- if the CRC-32s agree, the MD5s decide
 pub intact_by_md5s : (s : ℕ) (t : Target) (bytes : List ℕ) (first : List Pair) (digests : Bool) → length bytes ≡ t.length → first ≡ compared s t → HaveCrc32s s bytes first → Decides digests (HaveMd5s s bytes first 0 (length first)) → digests ≡ is_intact s t bytes
 intact_by_md5s s t bytes first digests size is crcs decides =
     same_from_decides {P = AreAlike s bytes first} digests (is_intact s t bytes)
@@ -83,7 +83,7 @@ intact_by_md5s s t bytes first digests size is crcs decides =
       λ alike. intact_from_alike s t bytes size (subst (AreAlike s bytes) is alike),
     )
 
--- where they don't, the bytes are not intact
+-- if they don't, the file isn't intact
 pub not_intact_by_crcs : (s : ℕ) (t : Target) (bytes : List ℕ) (first : List Pair) (crcs : Bool) → first ≡ compared s t → Decides crcs (HaveCrc32s s bytes first) → crcs ≡ false → crcs ≡ is_intact s t bytes
 not_intact_by_crcs s t bytes first crcs is decides differ =
     differ ∙ sym (false_from_ne_true _ (λ e. false≢true (sym differ ∙ decides.1 (subst (AreAlike s bytes) (sym is) (alike_from_intact s t bytes e)).crcs)))
@@ -97,7 +97,7 @@ slices_are_some s n size some = elim (cases_lt 0 (slice_count s n)) [
       absurd (omega (arith, fits, some))
 ]
 
--- where the first one doesn't, they are not either
+-- nor is it if the first one doesn't agree
 pub not_intact_by_first : (s : ℕ) (t : Target) (bytes : List ℕ) → 1 ≤ s → 0 < length bytes → 0 < length t.pairs → crc32 (slice_at s bytes 0) ≢ (pair_at t.pairs 0).1 → is_intact s t bytes ≡ false
 not_intact_by_first s t bytes some_size some pairs differ = false_from_ne_true _ (λ e. differ (first_of e))
   where

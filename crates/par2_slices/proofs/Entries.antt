@@ -1,4 +1,4 @@
--- The tables hold what they should.
+-- The tables have the entries that they should.
 use Rattle.par2_slices.proofs.Common.{◌≡◌, ℕ, ◌+◌, ◌*◌, ◌<◌, List, map, get_or, refl, ap, ◌∙◌, arith, range_with_len, get_or-map-range_with_len, crc_steps, steps}
 use Rattle.par2_slices.specs.declared.tables.TheConstants.{TABLES}
 

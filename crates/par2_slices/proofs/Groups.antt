@@ -1,6 +1,6 @@
 -- Sets of groups of checksums.
 use Prim.Native.Nat.{max}
-use Rattle.par2_slices.proofs.Common.{◌≡◌, ◌≢◌, ℕ, zero, suc, ◌+◌, ◌-◌, ◌*◌, ◌^◌, ◌<◌, ◌%◌, ◌/◌, List, length, get_or, set, replicate, refl, subst, sym, ap, ◌∙◌, get_or-set_same, get_or-set_other, arith, inl, inr, ◌⊎◌, bit_and, bit_or, w8, bit_at, bit_not, cases_eq, get_or_read, shr_below, suc-ne-zero, Groups, IsLong, Marks}
+use Rattle.par2_slices.proofs.Common.{◌≡◌, ◌≢◌, ℕ, zero, suc, ◌+◌, ◌-◌, ◌*◌, ◌^◌, ◌<◌, ◌%◌, ◌/◌, List, length, get_or, set, replicate, refl, subst, sym, ap, ◌∙◌, get_or-set_same, get_or-set_other, arith, inl, inr, ◌⊎◌, bit_and, bit_or, w8, bit_at, bit_not, cases_eq, get_or_read, shr_below, suc-ne-zero, Groups, IsLong, Includes}
 use Rattle.std.proofs.lemmas.Nat.Bits.{bit_at_or, bit_at-zero, bit_at_set_same, bit_at_set_other, bit_at_clear_same, bit_at_clear_other}
 
 pub within : (crc shift : ℕ) → crc < 2 ^ 32 → shift < 32 → crc / 2 ^ shift < 2 ^ (32 - shift)
@@ -12,7 +12,7 @@ pub below : {shift : ℕ} → (shift ≡ 13) ⊎ (shift ≡ 15) → (n : ℕ) �
 below (inl few) n low = omega (arith, few, low)
 below (inr many) n low = omega (arith, many, low)
 
--- a checksum's byte is there, and what is read there
+-- a checksum's byte is in the table, and what is read there
 pub its_place : (shift crc : ℕ) (bytes : List ℕ) → crc < 2 ^ 32 → IsLong shift bytes → crc / 2 ^ shift < length bytes
 its_place shift crc bytes fits long = subst (λ (n : ℕ). crc / 2 ^ shift < n) (sym long.len) (within crc shift fits (below long.either 32 (omega arith)))
 
@@ -31,7 +31,7 @@ with_bit shift crc bytes = record { shift = shift; bytes = set bytes (crc / 2 ^ 
 abbrev pub without_bit : ℕ → ℕ → List ℕ → Groups
 without_bit shift crc bytes = record { shift = shift; bytes = set bytes (crc / 2 ^ shift) (bit_and (get_or bytes (crc / 2 ^ shift) 0) (bit_not w8 (1 * 2 ^ (crc % 8) % 2 ^ 8))) }
 
--- a group's bit where another byte was put into its place, and where it was put into another place
+-- a group's bit after another byte was written at its index, or at another one
 in_place : (shift crc other byte : ℕ) (bytes : List ℕ) → crc / 2 ^ shift < length bytes → other / 2 ^ shift ≡ crc / 2 ^ shift → bit_at (get_or (set bytes (crc / 2 ^ shift) byte) (other / 2 ^ shift) 0) (other % 8) ≡ bit_at byte (other % 8)
 in_place shift crc other byte bytes place same =
     ap (λ i. bit_at (get_or (set bytes (crc / 2 ^ shift) byte) i 0) (other % 8)) same
@@ -40,28 +40,28 @@ in_place shift crc other byte bytes place same =
 elsewhere : (shift crc other byte : ℕ) (bytes : List ℕ) → other / 2 ^ shift ≢ crc / 2 ^ shift → bit_at (get_or (set bytes (crc / 2 ^ shift) byte) (other / 2 ^ shift) 0) (other % 8) ≡ bit_at (get_or bytes (other / 2 ^ shift) 0) (other % 8)
 elsewhere shift crc other byte bytes apart = ap (λ w. bit_at w (other % 8)) (get_or-set_other bytes (crc / 2 ^ shift) (other / 2 ^ shift) byte 0 apart)
 
--- the bit in the byte of the same place
+-- the bit in the byte at the same index
 here : (shift crc other : ℕ) (bytes : List ℕ) → other / 2 ^ shift ≡ crc / 2 ^ shift → bit_at (get_or bytes (other / 2 ^ shift) 0) (other % 8) ≡ bit_at (get_or bytes (crc / 2 ^ shift) 0) (other % 8)
 here shift crc other bytes same = ap (λ i. bit_at (get_or bytes i 0) (other % 8)) same
 
-pub marked : (shift crc : ℕ) (bytes : List ℕ) → crc / 2 ^ shift < length bytes → Marks (with_bit shift crc bytes) crc
-marked shift crc bytes place =
+pub included : (shift crc : ℕ) (bytes : List ℕ) → crc / 2 ^ shift < length bytes → Includes (with_bit shift crc bytes) crc
+included shift crc bytes place =
     record { bit = in_place shift crc crc _ bytes place refl ∙ bit_at_set_same w8 (get_or bytes (crc / 2 ^ shift) 0) (crc % 8) (omega arith) }
 
--- a bit of a byte stays where another is set
+-- a bit of a byte stays set when another is set
 stays : (byte k j : ℕ) → k < 8 → bit_at byte j ≡ 1 → bit_at (bit_or byte (1 * 2 ^ k % 2 ^ 8)) j ≡ 1
 stays byte k j low is = elim (cases_eq j k) [
   | inl same ↦ ap (bit_at (bit_or byte (1 * 2 ^ k % 2 ^ 8))) same ∙ bit_at_set_same w8 byte k low
   | inr other ↦ bit_at_set_other w8 byte k low j other ∙ is
 ]
 
-pub kept_by_insert : (shift crc : ℕ) (bytes : List ℕ) → crc / 2 ^ shift < length bytes → (other : ℕ) → Marks (record { shift = shift; bytes = bytes }) other → Marks (with_bit shift crc bytes) other
+pub kept_by_insert : (shift crc : ℕ) (bytes : List ℕ) → crc / 2 ^ shift < length bytes → (other : ℕ) → Includes (record { shift = shift; bytes = bytes }) other → Includes (with_bit shift crc bytes) other
 kept_by_insert shift crc bytes place other is = elim (cases_eq (other / 2 ^ shift) (crc / 2 ^ shift)) [
   | inl same ↦ record { bit = in_place shift crc other _ bytes place same ∙ stays (get_or bytes (crc / 2 ^ shift) 0) (crc % 8) (other % 8) (omega arith) (sym (here shift crc other bytes same) ∙ is.bit) }
   | inr apart ↦ record { bit = elsewhere shift crc other _ bytes apart ∙ is.bit }
 ]
 
-pub only_by_insert : (shift crc : ℕ) (bytes : List ℕ) → crc / 2 ^ shift < length bytes → (other : ℕ) → Marks (with_bit shift crc bytes) other → (other / 2 ^ shift ≡ crc / 2 ^ shift) × (other % 8 ≡ crc % 8) ⊎ Marks (record { shift = shift; bytes = bytes }) other
+pub only_by_insert : (shift crc : ℕ) (bytes : List ℕ) → crc / 2 ^ shift < length bytes → (other : ℕ) → Includes (with_bit shift crc bytes) other → (other / 2 ^ shift ≡ crc / 2 ^ shift) × (other % 8 ≡ crc % 8) ⊎ Includes (record { shift = shift; bytes = bytes }) other
 only_by_insert shift crc bytes place other is = elim (cases_eq (other / 2 ^ shift) (crc / 2 ^ shift)) [
   | inl same ↦ elim (cases_eq (other % 8) (crc % 8)) [
     | inl low ↦ inl (same, low)
@@ -70,17 +70,17 @@ only_by_insert shift crc bytes place other is = elim (cases_eq (other / 2 ^ shif
   | inr apart ↦ inr (record { bit = sym (elsewhere shift crc other _ bytes apart) ∙ is.bit })
 ]
 
-pub gone : (shift crc : ℕ) (bytes : List ℕ) → crc / 2 ^ shift < length bytes → Marks (without_bit shift crc bytes) crc → ⊥
+pub gone : (shift crc : ℕ) (bytes : List ℕ) → crc / 2 ^ shift < length bytes → Includes (without_bit shift crc bytes) crc → ⊥
 gone shift crc bytes place is =
     suc-ne-zero 0 (sym is.bit ∙ in_place shift crc crc _ bytes place refl ∙ bit_at_clear_same w8 (get_or bytes (crc / 2 ^ shift) 0) (crc % 8) (omega arith))
 
-pub kept_by_remove : (shift crc : ℕ) (bytes : List ℕ) → crc / 2 ^ shift < length bytes → (other : ℕ) → ((other / 2 ^ shift ≡ crc / 2 ^ shift) × (other % 8 ≡ crc % 8) → ⊥) → Marks (record { shift = shift; bytes = bytes }) other → Marks (without_bit shift crc bytes) other
+pub kept_by_remove : (shift crc : ℕ) (bytes : List ℕ) → crc / 2 ^ shift < length bytes → (other : ℕ) → ((other / 2 ^ shift ≡ crc / 2 ^ shift) × (other % 8 ≡ crc % 8) → ⊥) → Includes (record { shift = shift; bytes = bytes }) other → Includes (without_bit shift crc bytes) other
 kept_by_remove shift crc bytes place other differs is = elim (cases_eq (other / 2 ^ shift) (crc / 2 ^ shift)) [
   | inl same ↦ record { bit = in_place shift crc other _ bytes place same ∙ bit_at_clear_other w8 (get_or bytes (crc / 2 ^ shift) 0) (crc % 8) (omega arith) (other % 8) (omega arith) (λ low. differs (same, low)) ∙ sym (here shift crc other bytes same) ∙ is.bit }
   | inr apart ↦ record { bit = elsewhere shift crc other _ bytes apart ∙ is.bit }
 ]
 
-pub only_by_remove : (shift crc : ℕ) (bytes : List ℕ) → crc / 2 ^ shift < length bytes → (other : ℕ) → Marks (without_bit shift crc bytes) other → Marks (record { shift = shift; bytes = bytes }) other
+pub only_by_remove : (shift crc : ℕ) (bytes : List ℕ) → crc / 2 ^ shift < length bytes → (other : ℕ) → Includes (without_bit shift crc bytes) other → Includes (record { shift = shift; bytes = bytes }) other
 only_by_remove shift crc bytes place other is = elim (cases_eq (other / 2 ^ shift) (crc / 2 ^ shift)) [
   | inl same ↦
       let byte : ℕ = get_or bytes (crc / 2 ^ shift) 0 in
@@ -91,7 +91,7 @@ only_by_remove shift crc bytes place other is = elim (cases_eq (other / 2 ^ shif
   | inr apart ↦ record { bit = sym (elsewhere shift crc other _ bytes apart) ∙ is.bit }
 ]
 
--- what has a bit isn't zero, and what has the bits of both has each
+-- a byte with a bit isn't zero, and the union of two bytes has the bits of each
 not_zero : (byte k : ℕ) → bit_at byte k ≡ 1 → byte ≢ 0
 not_zero byte k is none = suc-ne-zero 0 (sym is ∙ ap (λ b. bit_at b k) none ∙ bit_at-zero k)
 

@@ -1,7 +1,7 @@
--- Zeros after the bytes, in pieces.
+-- Padding, in pieces.
 use Rattle.par2_slices.proofs.Common.{◌≡◌, ℕ, ◌+◌, ◌-◌, ◌*◌, ◌%◌, ◌/◌, List, ◌++◌, length, take, replicate, ap, ◌∙◌, arith, append_assoc, replicate-append-replicate, take-replicate, padded}
 
--- one piece more
+-- one more piece
 pub more_zeros : (bytes : List ℕ) (n k : ℕ) → (bytes ++ replicate (n * k) 0) ++ replicate k 0 ≡ bytes ++ replicate ((n + 1) * k) 0
 more_zeros bytes n k =
     append_assoc bytes (replicate (n * k) 0) (replicate k 0)

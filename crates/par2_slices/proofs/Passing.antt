@@ -1,48 +1,48 @@
--- Windows that are passed over, since each pair of their checksums has its answer.
-use Rattle.par2_slices.proofs.Common.{◌≡◌, ℕ, zero, suc, ◌+◌, ◌-◌, ◌*◌, ◌<◌, ◌≤◌, Bool, List, [], ◌∷◌, ◌++◌, length, drop, get_or, refl, sym, ap, subst, ◌∙◌, inl, inr, arith, below_more, get_or-drop, get_or_append_left, get_or_at, length_push, after_slide, AreCrcs, AreRows, IsNoted, crc_of, row_at, ◌⊎◌, Option, None, Some, is_match, cases_lt, window_of, Groups, Candidate, Scan, Spot, IsAt, AreAnswered, pair_at, answer_below, after_window, spot_in, Row, no_row}
+-- Windows that are passed over, because each pair of their checksums is found.
+use Rattle.par2_slices.proofs.Common.{◌≡◌, ℕ, zero, suc, ◌+◌, ◌-◌, ◌*◌, ◌<◌, ◌≤◌, Bool, List, [], ◌∷◌, ◌++◌, length, drop, get_or, refl, sym, ap, subst, ◌∙◌, inl, inr, arith, below_more, get_or-drop, get_or_append_left, get_or_at, length_push, after_slide, AreCrcs, AreCandidateRows, IsNoted, crc_of, row_at, ◌⊎◌, Option, None, Some, is_match, cases_lt, window_of, Groups, Candidate, Scan, Position, IsScannedTo, AreAnswered, pair_at, answer_below, after_window, position_in, Row, no_row}
 use Rattle.par2_slices.proofs.NextWindows.{slid_window}
 use Rattle.par2_slices.proofs.Searching.{below-more, passed-one}
 
--- how far into a stretch its windows have been looked at before row j
+-- how far a stretch has been searched before row j
 pub reached : List Row → ℕ → ℕ
 reached rows zero = 0
 reached rows (suc j) = (row_at rows j).at + 1
 
--- an answer stays
+-- a found pair stays found
 answered-more : (scan : Scan) (o n : ℕ) (crc : ℕ) → AreAnswered scan o crc → AreAnswered scan (o + n) crc
 answered-more scan o zero crc have i h its none =
     have i h its (ap (λ a. answer_below scan a (pair_at scan.wanted.now i)) (let e : o ≡ o + 0 = omega arith in e) ∙ none)
 answered-more scan o (suc n) crc have i h its none =
     answered-more scan o n crc have i h its
-    (was_none (is_match (pair_at scan.wanted.now i) (window_of scan (o + n))) (spot_in (length scan.earlier.now) (o + n)) (answer_below scan (o + n) (pair_at scan.wanted.now i))
+    (was_none (is_match (pair_at scan.wanted.now i) (window_of scan (o + n))) (position_in (length scan.earlier.now) (o + n)) (answer_below scan (o + n) (pair_at scan.wanted.now i))
     (sym (below-more scan (o + n) (pair_at scan.wanted.now i)) ∙ ap (λ a. answer_below scan a (pair_at scan.wanted.now i)) (let e : o + n + 1 ≡ o + suc n = omega arith in e) ∙ none))
   where
-    was_none : (m : Bool) (spot : Spot) (old : Option Spot) → after_window m spot old ≡ None → old ≡ None
-    was_none m spot None nothing = refl
-    was_none m spot (Some x) nothing = nothing
+    was_none : (m : Bool) (position : Position) (old : Option Position) → after_window m position old ≡ None → old ≡ None
+    was_none m position None nothing = refl
+    was_none m position (Some x) nothing = nothing
 
--- so many windows are passed over
-passed : (scan : Scan) (from o n : ℕ) (found : List (Option Spot)) (left : ℕ) (filter : Groups) (batch : List Candidate) → from ≤ o → IsAt scan o found left filter batch
-    → ((d : ℕ) → d < n → AreAnswered scan from (crc_of scan (o + d))) → IsAt scan (o + n) found left filter batch
+-- n windows are passed over
+passed : (scan : Scan) (from o n : ℕ) (found : List (Option Position)) (left : ℕ) (filter : Groups) (batch : List Candidate) → from ≤ o → IsScannedTo scan o found left filter batch
+    → ((d : ℕ) → d < n → AreAnswered scan from (crc_of scan (o + d))) → IsScannedTo scan (o + n) found left filter batch
 passed scan from o zero found left filter batch before at have =
-    subst (λ a. IsAt scan a found left filter batch) (let e : o ≡ o + 0 = omega arith in e) at
+    subst (λ a. IsScannedTo scan a found left filter batch) (let e : o ≡ o + 0 = omega arith in e) at
 passed scan from o (suc n) found left filter batch before at have =
     let here : o + n ≡ from + (o + n - from) = omega (arith, before) in
-    subst (λ a. IsAt scan a found left filter batch) (let e : o + n + 1 ≡ o + suc n = omega arith in e)
+    subst (λ a. IsScannedTo scan a found left filter batch) (let e : o + n + 1 ≡ o + suc n = omega arith in e)
     (passed-one scan (o + n) found left filter batch
     (passed scan from o n found left filter batch before at (λ d h. have d (omega (arith, h))))
     (subst (λ a. AreAnswered scan a (crc_of scan (o + n))) (sym here)
     (answered-more scan from (o + n - from) (crc_of scan (o + n)) (have n (omega arith)))))
 
--- the windows of stretch k from a row to before the next one, or to the end, are passed over
-pub passed-to : (scan : Scan) (start len k j m : ℕ) (rows : List Row) (found : List (Option Spot)) (left : ℕ) (filter : Groups) (batch : List Candidate)
-    → AreRows scan start len len rows → k < 4 → m ≤ len → reached rows j ≤ m → j ≤ length rows → ((i : ℕ) → j ≤ i → i < length rows → m ≤ (row_at rows i).at)
-    → IsAt scan (start + k * len + reached rows j) found left filter batch → IsAt scan (start + k * len + m) found left filter batch
+-- the windows of stretch k from a row up to the next one, or to the end, are passed over
+pub passed-to : (scan : Scan) (start len k j m : ℕ) (rows : List Row) (found : List (Option Position)) (left : ℕ) (filter : Groups) (batch : List Candidate)
+    → AreCandidateRows scan start len len rows → k < 4 → m ≤ len → reached rows j ≤ m → j ≤ length rows → ((i : ℕ) → j ≤ i → i < length rows → m ≤ (row_at rows i).at)
+    → IsScannedTo scan (start + k * len + reached rows j) found left filter batch → IsScannedTo scan (start + k * len + m) found left filter batch
 unfolding reached
 passed-to scan start len k j m rows found left filter batch are stretch inside from below after at =
     let o : ℕ = start + k * len + reached rows j in
     let n : ℕ = m - reached rows j in
-    subst (λ a. IsAt scan a found left filter batch) (let e : o + n ≡ start + k * len + m = omega (arith, from) in e)
+    subst (λ a. IsScannedTo scan a found left filter batch) (let e : o + n ≡ start + k * len + m = omega (arith, from) in e)
     (passed scan start o n found left filter batch (omega arith) at
     (λ d h.
     let row : ℕ = reached rows j + d in
@@ -68,9 +68,9 @@ passed-to scan start len k j m rows found left filter batch are stretch inside f
       | inr late ↦ (let more : m ≤ (row_at rows i).at = after i late h in omega (arith, more, is, low))
     ]
 
--- a row that isn't noted
-pub skipped : (scan : Scan) (start len at : ℕ) (rows : List Row) → AreRows scan start len at rows
-    → ((k : ℕ) → k < 4 → AreAnswered scan start (crc_of scan (start + k * len + at))) → AreRows scan start len (at + 1) rows
+-- a row that isn't recorded
+pub skipped : (scan : Scan) (start len at : ℕ) (rows : List Row) → AreCandidateRows scan start len at rows
+    → ((k : ℕ) → k < 4 → AreAnswered scan start (crc_of scan (start + k * len + at))) → AreCandidateRows scan start len (at + 1) rows
 skipped scan start len at rows are free = record {
   rising = are.rising;
   below = λ j h. omega (arith, are.below j h);
@@ -78,9 +78,9 @@ skipped scan start len at rows are free = record {
   others = below_more (λ a. IsNoted rows a ⊎ ((k : ℕ) → k < 4 → AreAnswered scan start (crc_of scan (start + k * len + a)))) at are.others (inr free);
 }
 
--- a row that is noted
-pub noted : (scan : Scan) (start len at : ℕ) (crcs : List ℕ) (rows : List Row) → AreRows scan start len at rows
-    → AreCrcs scan.rolling.now.size scan.bytes.now start len at crcs → AreRows scan start len (at + 1) (rows ++ record { at = at; crcs = crcs } ∷ [])
+-- a row that is recorded
+pub noted : (scan : Scan) (start len at : ℕ) (crcs : List ℕ) (rows : List Row) → AreCandidateRows scan start len at rows
+    → AreCrcs scan.rolling.now.size scan.bytes.now start len at crcs → AreCandidateRows scan start len (at + 1) (rows ++ record { at = at; crcs = crcs } ∷ [])
 noted scan start len at crcs rows are its = record {
   rising = λ i j less h. elim (cases_lt j (length rows)) [
     | inl early ↦ (let up : (row_at rows i).at < (row_at rows j).at = are.rising i j less early in omega (arith, up, ap (λ (r : Row). r.at) (old i (omega (arith, less, early))), ap (λ (r : Row). r.at) (old j early)))
@@ -122,40 +122,40 @@ pub next_row : (scan : Scan) (start len at : ℕ) (crcs after outs nexts : List 
     → ((k : ℕ) → k < 4 → get_or after k 0 ≡ after_slide scan.rolling.now.size (get_or crcs k 0) (get_or outs (k * len + at) 0) (get_or nexts (k * len + at) 0)) → AreCrcs scan.rolling.now.size scan.bytes.now start len (at + 1) after
 next_row scan start len at crcs after outs nexts some outs_is nexts_is are each k h =
     let s : ℕ = scan.rolling.now.size in
-    let text : List ℕ = scan.bytes.now in
+    let content : List ℕ = scan.bytes.now in
     let o : ℕ = start + k * len + at in
-    let out_at : (j : ℕ) → get_or outs j 0 ≡ get_or text (start + j) 0 = λ j. ap (λ bytes. get_or bytes j 0) outs_is ∙ get_or-drop start text j 0 in
-    let out_is : get_or outs (k * len + at) 0 ≡ get_or text o 0 = out_at (k * len + at) ∙ ap (λ j. get_or text j 0) (let e : start + (k * len + at) ≡ o = omega arith in e) in
-    let next_is : get_or nexts (k * len + at) 0 ≡ get_or text (s + o) 0 = ap (λ bytes. get_or bytes (k * len + at) 0) nexts_is ∙ get_or-drop s outs (k * len + at) 0
-    ∙ out_at (s + (k * len + at)) ∙ ap (λ j. get_or text j 0) (let e : start + (s + (k * len + at)) ≡ s + o = omega arith in e) in
+    let out_at : (j : ℕ) → get_or outs j 0 ≡ get_or content (start + j) 0 = λ j. ap (λ bytes. get_or bytes j 0) outs_is ∙ get_or-drop start content j 0 in
+    let out_is : get_or outs (k * len + at) 0 ≡ get_or content o 0 = out_at (k * len + at) ∙ ap (λ j. get_or content j 0) (let e : start + (k * len + at) ≡ o = omega arith in e) in
+    let next_is : get_or nexts (k * len + at) 0 ≡ get_or content (s + o) 0 = ap (λ bytes. get_or bytes (k * len + at) 0) nexts_is ∙ get_or-drop s outs (k * len + at) 0
+    ∙ out_at (s + (k * len + at)) ∙ ap (λ j. get_or content j 0) (let e : start + (s + (k * len + at)) ≡ s + o = omega arith in e) in
     each k h
-    ∙ slid_window s text o (get_or crcs k 0) (get_or outs (k * len + at) 0) (get_or nexts (k * len + at) 0) some (are k h) out_is next_is
+    ∙ slid_window s content o (get_or crcs k 0) (get_or outs (k * len + at) 0) (get_or nexts (k * len + at) 0) some (are k h) out_is next_is
     ∙ ap (λ a. crc_of scan a) (let e : o + 1 ≡ start + k * len + (at + 1) = omega arith in e)
 
--- none of its windows have been looked at
-pub at-start : (scan : Scan) (o : ℕ) (rows : List Row) (found : List (Option Spot)) (left : ℕ) (filter : Groups) (batch : List Candidate) → IsAt scan o found left filter batch → IsAt scan (o + reached rows 0) found left filter batch
+-- before any of its windows is examined
+pub at-start : (scan : Scan) (o : ℕ) (rows : List Row) (found : List (Option Position)) (left : ℕ) (filter : Groups) (batch : List Candidate) → IsScannedTo scan o found left filter batch → IsScannedTo scan (o + reached rows 0) found left filter batch
 unfolding reached
-at-start scan o rows found left filter batch at = subst (λ a. IsAt scan a found left filter batch) (let e : o ≡ o + 0 = omega arith in e) at
+at-start scan o rows found left filter batch at = subst (λ a. IsScannedTo scan a found left filter batch) (let e : o ≡ o + 0 = omega arith in e) at
 
 pub after-row : (rows : List Row) (j : ℕ) → reached rows (j + 1) ≡ (row_at rows j).at + 1
 unfolding reached
 after-row rows j = ap (reached rows) (let e : j + 1 ≡ suc j = omega arith in e)
 
--- rows that are noted are in order
-pub no-earlier : (scan : Scan) (start len count : ℕ) (rows : List Row) → AreRows scan start len count rows → (j : ℕ) → j < length rows → reached rows j ≤ (row_at rows j).at
+-- recorded rows are in order
+pub no-earlier : (scan : Scan) (start len count : ℕ) (rows : List Row) → AreCandidateRows scan start len count rows → (j : ℕ) → j < length rows → reached rows j ≤ (row_at rows j).at
 unfolding reached
 no-earlier scan start len count rows are zero h = omega arith
 no-earlier scan start len count rows are (suc j) h = let up : (row_at rows j).at < (row_at rows (suc j)).at = are.rising j (suc j) (omega arith) h in omega (arith, up)
 
 -- the last of them is within the stretch
-pub within-all : (scan : Scan) (start len count : ℕ) (rows : List Row) → AreRows scan start len count rows → (j : ℕ) → j ≤ length rows → reached rows j ≤ count
+pub within-all : (scan : Scan) (start len count : ℕ) (rows : List Row) → AreCandidateRows scan start len count rows → (j : ℕ) → j ≤ length rows → reached rows j ≤ count
 unfolding reached
 within-all scan start len count rows are zero h = omega arith
 within-all scan start len count rows are (suc j) h = let low : (row_at rows j).at < count = are.below j (omega (arith, h)) in omega (arith, low)
 
 -- the windows of stretch k before row j
-pub passed-to-row : (scan : Scan) (start len k j : ℕ) (rows : List Row) (found : List (Option Spot)) (left : ℕ) (filter : Groups) (batch : List Candidate) → AreRows scan start len len rows → k < 4 → j < length rows
-    → IsAt scan (start + k * len + reached rows j) found left filter batch → IsAt scan (start + k * len + (row_at rows j).at) found left filter batch
+pub passed-to-row : (scan : Scan) (start len k j : ℕ) (rows : List Row) (found : List (Option Position)) (left : ℕ) (filter : Groups) (batch : List Candidate) → AreCandidateRows scan start len len rows → k < 4 → j < length rows
+    → IsScannedTo scan (start + k * len + reached rows j) found left filter batch → IsScannedTo scan (start + k * len + (row_at rows j).at) found left filter batch
 passed-to-row scan start len k j rows found left filter batch are stretch h =
     let low : (row_at rows j).at < len = are.below j h in
     passed-to scan start len k j (row_at rows j).at rows found left filter batch are stretch (omega (arith, low)) (no-earlier scan start len len rows are j h) (omega (arith, h))
@@ -165,10 +165,10 @@ passed-to-row scan start len k j rows found left filter batch are stretch h =
     ])
 
 -- the windows of stretch k after all rows
-pub passed-to-end : (scan : Scan) (start len k j : ℕ) (rows : List Row) (found : List (Option Spot)) (left : ℕ) (filter : Groups) (batch : List Candidate) → AreRows scan start len len rows → k < 4 → j ≡ length rows
-    → IsAt scan (start + k * len + reached rows j) found left filter batch → IsAt scan (start + (k + 1) * len) found left filter batch
+pub passed-to-end : (scan : Scan) (start len k j : ℕ) (rows : List Row) (found : List (Option Position)) (left : ℕ) (filter : Groups) (batch : List Candidate) → AreCandidateRows scan start len len rows → k < 4 → j ≡ length rows
+    → IsScannedTo scan (start + k * len + reached rows j) found left filter batch → IsScannedTo scan (start + (k + 1) * len) found left filter batch
 passed-to-end scan start len k j rows found left filter batch are stretch all at =
     let e : start + k * len + len ≡ start + (k + 1) * len = omega arith in
-    subst (λ a. IsAt scan a found left filter batch) e
+    subst (λ a. IsScannedTo scan a found left filter batch) e
     (passed-to scan start len k j len rows found left filter batch are stretch (omega arith) (within-all scan start len len rows are j (omega (arith, all))) (omega (arith, all))
     (λ i from inside. absurd (omega (arith, all, from, inside))) at)

@@ -1,42 +1,42 @@
 -- The places of the pairs.
-use Rattle.par2_slices.proofs.Common.{◌≡◌, ℕ, ◌+◌, ◌-◌, ◌/◌, ◌^◌, ◌<◌, ◌≤◌, List, map, length, take, drop, get_or, refl, subst, sym, ap, ◌∙◌, arith, All, range_with_len, IsPermutation, IsNonDecreasingBy, get_or_default, get_or-take, get_or-drop, length-take-le, length-drop, All-get_or, All-from_get_or, get_or-map-range_with_len, length-map-range_with_len, All-permutation, Contains-permutation, lt_of_not-le, ne_of_lt, Pair, no_place, pair_at, place_at, IsPlace, IsIndex, IsStart, AreStarts, HoldsGroup, Place}
+use Rattle.par2_slices.proofs.Common.{◌≡◌, ℕ, ◌+◌, ◌-◌, ◌/◌, ◌^◌, ◌<◌, ◌≤◌, List, map, length, take, drop, get_or, refl, subst, sym, ap, ◌∙◌, arith, All, range_with_len, IsPermutation, IsNonDecreasingBy, get_or_default, get_or-take, get_or-drop, length-take-le, length-drop, All-get_or, All-from_get_or, get_or-map-range_with_len, length-map-range_with_len, All-permutation, Contains-permutation, lt_of_not-le, ne_of_lt, Pair, no_place, pair_at, pair_place_at, IsPlace, IsIndex, IsStart, AreStarts, HoldsGroup, PairPlace}
 
-abbrev pub place_of : List Pair → ℕ → Place
+abbrev pub place_of : List Pair → ℕ → PairPlace
 place_of pairs i = record { crc = (pair_at pairs i).1; index = i }
 
 its_place : (pairs : List Pair) (i : ℕ) → i < length pairs → IsPlace pairs (place_of pairs i)
 its_place pairs i below = record { within = below; crc = refl }
 
-place_i : (pairs : List Pair) (i : ℕ) (d : Place) → i < length pairs → get_or (map (place_of pairs) (range_with_len 0 (length pairs))) i d ≡ place_of pairs i
+place_i : (pairs : List Pair) (i : ℕ) (d : PairPlace) → i < length pairs → get_or (map (place_of pairs) (range_with_len 0 (length pairs))) i d ≡ place_of pairs i
 place_i pairs i d below = get_or-map-range_with_len (place_of pairs) 0 (length pairs) i i d below (let e : 0 + i ≡ i = omega arith in e)
 
--- in another order, these are the places of all pairs
-pub index_of : (pairs : List Pair) (places sorted : List Place) → places ≡ map (place_of pairs) (range_with_len 0 (length pairs)) → IsPermutation places sorted → IsNonDecreasingBy (λ place. place.crc) sorted → IsIndex pairs sorted
+-- sorted, these are still the places of all pairs
+pub index_of : (pairs : List Pair) (places sorted : List PairPlace) → places ≡ map (place_of pairs) (range_with_len 0 (length pairs)) → IsPermutation places sorted → IsNonDecreasingBy (λ place. place.crc) sorted → IsIndex pairs sorted
 index_of pairs places sorted are moved rising =
     let size : length places ≡ length pairs = ap length are ∙ length-map-range_with_len (place_of pairs) 0 (length pairs) in
-    let at : (i : ℕ) (d : Place) → i < length pairs → get_or places i d ≡ place_of pairs i = λ i d below. ap (λ ps. get_or ps i d) are ∙ place_i pairs i d below in
-    let Its : Place → Type 0 = IsPlace pairs in
+    let at : (i : ℕ) (d : PairPlace) → i < length pairs → get_or places i d ≡ place_of pairs i = λ i d below. ap (λ ps. get_or ps i d) are ∙ place_i pairs i d below in
+    let Its : PairPlace → Type 0 = IsPlace pairs in
     let all : All Its places = All-from_get_or Its places no_place (λ i below. let h : i < length pairs = omega (arith, below, size) in subst Its (sym (at i no_place h)) (its_place pairs i h)) in
     let all_sorted : All Its sorted = All-permutation Its places sorted moved all in
     record {
       rising = rising;
       each = λ k below. All-get_or Its sorted k no_place below all_sorted;
       whole = λ i below.
-          let x : Place = place_of pairs i in
+          let x : PairPlace = place_of pairs i in
           let found = Contains-permutation places sorted x moved (i, omega (arith, below, size), at i x below) in
-          (found.0, found.1, ap (λ (place : Place). place.index) (get_or_default sorted found.0 no_place x found.1 ∙ found.2));
+          (found.0, found.1, ap (λ (place : PairPlace). place.index) (get_or_default sorted found.0 no_place x found.1 ∙ found.2));
     }
 
 not_below : (k start : ℕ) → (k < start → ⊥) → start ≤ k
 not_below k start h = omega (arith, h)
 
 -- the places of one group are before those of the next
-pub in_order : (places : List Place) (group start end : ℕ) → IsStart places group start → IsStart places (group + 1) end → start ≤ end
+pub in_order : (places : List PairPlace) (group start end : ℕ) → IsStart places group start → IsStart places (group + 1) end → start ≤ end
 in_order places group start end first next =
     not_below end start (λ early. omega (arith, first.below end early, next.above end (omega arith) (omega (arith, early, first.bound))))
 
--- where a group begins and ends, as it was read
-pub ends_of : (places : List Place) (starts : List ℕ) (group start end : ℕ) → AreStarts places starts → group < 2 ^ 15
+-- where a group begins and ends, as read from the table
+pub ends_of : (places : List PairPlace) (starts : List ℕ) (group start end : ℕ) → AreStarts places starts → group < 2 ^ 15
     → start ≡ get_or starts group start → end ≡ get_or starts (group + 1) end → IsStart places group start × IsStart places (group + 1) end
 ends_of places starts group start end are low first next = (begins group start (omega (arith, low)) first, begins (group + 1) end (omega (arith, low)) next)
   where
@@ -47,31 +47,31 @@ one_group : (group x : ℕ) → group ≤ x → x < group + 1 → x ≡ group
 one_group group x low high = omega (arith, low, high)
 
 -- the places between the starts of a group and of the next
-pub group_of : (pairs : List Pair) (places : List Place) (crc start end : ℕ) →
+pub group_of : (pairs : List Pair) (places : List PairPlace) (crc start end : ℕ) →
     IsIndex pairs places → IsStart places (crc / 2 ^ 17) start → IsStart places (crc / 2 ^ 17 + 1) end →
     HoldsGroup pairs crc (take (end - start) (drop start places))
 group_of pairs places crc start end index first next =
     let group : ℕ = crc / 2 ^ 17 in
     let count : ℕ = end - start in
-    let rest : List Place = drop start places in
+    let rest : List PairPlace = drop start places in
     let size : length rest ≡ length places - start = length-drop start places in
     let order : start ≤ end = in_order places group start end first next in
     let within : count ≤ length rest = omega (arith, size, next.bound) in
     let taken : length (take count rest) ≡ count = length-take-le count rest within in
-    let cut : (k : ℕ) → k < count → place_at (take count rest) k ≡ place_at places (start + k) = λ k h. get_or-take count rest k no_place h ∙ get_or-drop start places k no_place in
+    let cut : (k : ℕ) → k < count → pair_place_at (take count rest) k ≡ pair_place_at places (start + k) = λ k h. get_or-take count rest k no_place h ∙ get_or-drop start places k no_place in
     record {
       only = λ k h.
           let low : k < count = omega (arith, h, taken) in
           let inside : start + k < length places = omega (arith, low, next.bound) in
-          ap (λ (p : Place). p.crc / 2 ^ 17) (cut k low) ∙ one_group group _ (first.above (start + k) (omega arith) inside) (next.below (start + k) (omega (arith, low)));
+          ap (λ (p : PairPlace). p.crc / 2 ^ 17) (cut k low) ∙ one_group group _ (first.above (start + k) (omega arith) inside) (next.below (start + k) (omega (arith, low)));
       each = λ k h.
           let low : k < count = omega (arith, h, taken) in
-          let Its : Place → Type 0 = IsPlace pairs in
+          let Its : PairPlace → Type 0 = IsPlace pairs in
           subst Its (sym (cut k low)) (index.each (start + k) (omega (arith, low, next.bound)));
       whole = λ i h same.
           let found = index.whole i h in
           let k : ℕ = found.0 in
-          let place : Place = place_at places k in
+          let place : PairPlace = pair_place_at places k in
           let its : place.crc / 2 ^ 17 ≡ group = (
           ap (λ c. c / 2 ^ 17) (sym ((index.each k found.1).crc) ∙ ap (λ j. (pair_at pairs j).1) found.2) ∙ same
           ) in
@@ -80,6 +80,6 @@ group_of pairs places crc start end index first next =
           let low : k - start < count = omega (arith, from, until) in (
             k - start,
             omega (arith, low, taken),
-            ap (λ (p : Place). p.index) (cut (k - start) low ∙ ap (place_at places) (let e : start + (k - start) ≡ k = omega (arith, from) in e)) ∙ found.2,
+            ap (λ (p : PairPlace). p.index) (cut (k - start) low ∙ ap (pair_place_at places) (let e : start + (k - start) ≡ k = omega (arith, from) in e)) ∙ found.2,
           );
     }

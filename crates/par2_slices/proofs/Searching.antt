@@ -1,5 +1,5 @@
--- A search under way.
-use Rattle.par2_slices.proofs.Common.{shr-shr, ◌≡◌, ℕ, zero, suc, ◌+◌, ◌-◌, ◌*◌, ◌/◌, ◌%◌, ◌^◌, ◌<◌, ◌≤◌, Bool, true, false, cond, List, [], ◌∷◌, ◌++◌, length, map, drop, get_or, set, replicate, refl, sym, ap, subst, ◌∙◌, get_or-set_same, get_or-set_other, inl, inr, arith, ◌⊎◌, ◌==◌, Option, Some, None, find, option_map, bit_at, count_by, list_all, range_with_len, is_none, option_or, bytes_eq, and_from, and_left, and_right, cases_eq, cases_lt, eq-eqb, ne_eqb, length-replicate, length-map, get_or-map, ext_get_or, get_or_append_left, get_or_at, length_push, drop_more, find-append, sum_by-zero, sum_by-replicate, list_all_at, md5, Pair, is_match, first_match, range-append, or_nothing, AreAlike, Groups, Marks, no_pair, IsOfOpenPair, no_place, no_candidate, pair_at, place_at, candidate_at, answer_at, answer_below, spot_in, first_spot, first_spot_from, HoldsGroup, is_awaited, after_window, has_checksums, IsWindow, IsTally, IsAt, after_candidates, first_below, Candidate, Spot, Place, sum_by-set, Scan, window_of, crc_of, earlier_answer, AreAnswered, HaveAnswers, Bor, and_parts, false_from_ne_true, none_from, eqb-true, All-from_get_or, IsWhole}
+-- A search in progress.
+use Rattle.par2_slices.proofs.Common.{shr-shr, ◌≡◌, ℕ, zero, suc, ◌+◌, ◌-◌, ◌*◌, ◌/◌, ◌%◌, ◌^◌, ◌<◌, ◌≤◌, Bool, true, false, cond, List, [], ◌∷◌, ◌++◌, length, map, drop, get_or, set, replicate, refl, sym, ap, subst, ◌∙◌, get_or-set_same, get_or-set_other, inl, inr, arith, ◌⊎◌, ◌==◌, Option, Some, None, find, option_map, bit_at, count_by, list_all, range_with_len, is_none, option_or, bytes_eq, and_from, and_left, and_right, cases_eq, cases_lt, eq-eqb, ne_eqb, length-replicate, length-map, get_or-map, ext_get_or, get_or_append_left, get_or_at, length_push, drop_more, find-append, sum_by-zero, sum_by-replicate, list_all_at, md5, Pair, is_match, first_match, range-append, or_nothing, AreAlike, Groups, Includes, no_pair, IsOfOpenPair, no_place, no_candidate, pair_at, pair_place_at, candidate_at, answer_at, answer_below, position_in, first_position, first_position_from, HoldsGroup, is_awaited, after_window, has_checksums, IsWindow, IsTally, IsScannedTo, after_candidates, first_below, Candidate, Position, PairPlace, sum_by-set, Scan, window_of, crc_of, earlier_answer, AreAnswered, HaveAnswers, Bor, and_parts, false_from_ne_true, none_from, eqb-true, All-from_get_or, IsWhole}
 use Rattle.par2_slices.proofs.Groups.{replicate_at}
 use Rattle.std.specs.Prelude.{◌&&◌}
 use Rattle.std.proofs.lemmas.List.{length-set}
@@ -13,88 +13,88 @@ first_below-more scan o pair =
     ∙ find-append test (range_with_len 0 o) (range_with_len (0 + o) 1)
     ∙ ap (λ k. option_or (find test (range_with_len 0 o)) (cond (test k) (Some k) None)) (let e : 0 + o ≡ o = omega arith in e)
 
--- one offset more
+-- one more offset
 pub below-more : (scan : Scan) (o : ℕ) (pair : Pair)
-    → answer_below scan (o + 1) pair ≡ after_window (is_match pair (window_of scan o)) (spot_in (length scan.earlier.now) o) (answer_below scan o pair)
+    → answer_below scan (o + 1) pair ≡ after_window (is_match pair (window_of scan o)) (position_in (length scan.earlier.now) o) (answer_below scan o pair)
 below-more scan o pair =
-    ap (λ f. option_or (earlier_answer scan pair) (option_map (spot_in (length scan.earlier.now)) f)) (first_below-more scan o pair)
+    ap (λ f. option_or (earlier_answer scan pair) (option_map (position_in (length scan.earlier.now)) f)) (first_below-more scan o pair)
     ∙ step (earlier_answer scan pair) (first_below scan o pair) (is_match pair (window_of scan o))
   where
-    step : (before : Option Spot) (below : Option ℕ) (m : Bool)
-        → option_or before (option_map (spot_in (length scan.earlier.now)) (option_or below (cond m (Some o) None)))
-        ≡ after_window m (spot_in (length scan.earlier.now) o) (option_or before (option_map (spot_in (length scan.earlier.now)) below))
+    step : (before : Option Position) (below : Option ℕ) (m : Bool)
+        → option_or before (option_map (position_in (length scan.earlier.now)) (option_or below (cond m (Some o) None)))
+        ≡ after_window m (position_in (length scan.earlier.now) o) (option_or before (option_map (position_in (length scan.earlier.now)) below))
     step (Some x) below m = refl
     step None (Some x) m = refl
     step None None true = refl
     step None None false = refl
 
--- an answer that is there stands
-pub settled_some : (scan : Scan) (pair : Pair) (candidates : List Candidate) (x : Spot) → after_candidates scan pair candidates (Some x) ≡ Some x
+-- a found position stays as it is
+pub settled_some : (scan : Scan) (pair : Pair) (candidates : List Candidate) (x : Position) → after_candidates scan pair candidates (Some x) ≡ Some x
 unfolding after_candidates
 settled_some scan pair [] x = refl
 settled_some scan pair (candidate ∷ rest) x = settled_some scan pair rest x
 
-settled_open : (scan : Scan) (pair : Pair) (candidates : List Candidate) (answer : Option Spot) → after_candidates scan pair candidates answer ≡ None → answer ≡ None
+settled_open : (scan : Scan) (pair : Pair) (candidates : List Candidate) (answer : Option Position) → after_candidates scan pair candidates answer ≡ None → answer ≡ None
 settled_open scan pair candidates None is = refl
 settled_open scan pair candidates (Some x) is = sym (settled_some scan pair candidates x) ∙ is
 
--- no candidate more
-settled_none : (scan : Scan) (pair : Pair) (answer : Option Spot) → after_candidates scan pair [] answer ≡ answer
+-- before any candidate
+settled_none : (scan : Scan) (pair : Pair) (answer : Option Position) → after_candidates scan pair [] answer ≡ answer
 unfolding after_candidates
 settled_none scan pair answer = refl
 
-pub none_settled : (scan : Scan) (pair : Pair) (candidates : List Candidate) (answer : Option Spot) → length candidates ≡ 0 → after_candidates scan pair candidates answer ≡ answer
+pub none_settled : (scan : Scan) (pair : Pair) (candidates : List Candidate) (answer : Option Position) → length candidates ≡ 0 → after_candidates scan pair candidates answer ≡ answer
 none_settled scan pair [] answer none = settled_none scan pair answer
 none_settled scan pair (candidate ∷ rest) answer none = absurd (omega (arith, none))
 
--- a candidate after the others
-settled_more : (scan : Scan) (pair : Pair) (candidates : List Candidate) (candidate : Candidate) (answer : Option Spot) → after_candidates scan pair (candidates ++ candidate ∷ []) answer ≡ after_window (is_match pair (window_of scan candidate.spot.offset)) candidate.spot (after_candidates scan pair candidates answer)
+-- one more candidate after the others
+settled_more : (scan : Scan) (pair : Pair) (candidates : List Candidate) (candidate : Candidate) (answer : Option Position) → after_candidates scan pair (candidates ++ candidate ∷ []) answer ≡ after_window (is_match pair (window_of scan candidate.position.offset)) candidate.position (after_candidates scan pair candidates answer)
 unfolding after_candidates
-settled_more scan pair candidates candidate answer = fold-append (λ (so_far : Option Spot) (c : Candidate). after_window (is_match pair (window_of scan c.spot.offset)) c.spot so_far) answer candidates (candidate ∷ [])
+settled_more scan pair candidates candidate answer = fold-append (λ (so_far : Option Position) (c : Candidate). after_window (is_match pair (window_of scan c.position.offset)) c.position so_far) answer candidates (candidate ∷ [])
 
--- candidate k in front of those after it
-pub settled_from : (scan : Scan) (pair : Pair) (candidates : List Candidate) (k : ℕ) (answer : Option Spot) → k < length candidates →
-    after_candidates scan pair (drop k candidates) answer ≡ after_candidates scan pair (drop (k + 1) candidates) (after_window (is_match pair (window_of scan (candidate_at candidates k).spot.offset)) (candidate_at candidates k).spot answer)
+-- candidate k before those after it
+pub settled_from : (scan : Scan) (pair : Pair) (candidates : List Candidate) (k : ℕ) (answer : Option Position) → k < length candidates →
+    after_candidates scan pair (drop k candidates) answer ≡ after_candidates scan pair (drop (k + 1) candidates) (after_window (is_match pair (window_of scan (candidate_at candidates k).position.offset)) (candidate_at candidates k).position answer)
 unfolding after_candidates
 settled_from scan pair candidates k answer inside = ap (λ cs. after_candidates scan pair cs answer) (drop_more candidates k no_candidate inside)
 
--- where an answer stands, or nothing matches, it stays
-pub stays : (m : Bool) (spot : Spot) (old : Option Spot) → (old ≡ None → m ≡ false) → old ≡ after_window m spot old
-stays m spot None fails = ap (λ b. cond b (Some spot) None) (sym (fails refl))
-stays m spot (Some x) fails = refl
+-- a position stays if the pair is found or the window doesn't match
+pub stays : (m : Bool) (position : Position) (old : Option Position) → (old ≡ None → m ≡ false) → old ≡ after_window m position old
+stays m position None fails = ap (λ b. cond b (Some position) None) (sym (fails refl))
+stays m position (Some x) fails = refl
 
--- the same where it may have advanced before
-kept : (m : Bool) (spot : Spot) (old now : Option Spot) → (now ≡ old) ⊎ (now ≡ after_window m spot old) → (now ≡ None → m ≡ false) → now ≡ after_window m spot old
-kept m spot old now (inl same) fails = same ∙ stays m spot old (λ none. fails (same ∙ none))
-kept m spot old now (inr done) fails = done
+-- the same if it may have been set before
+kept : (m : Bool) (position : Position) (old now : Option Position) → (now ≡ old) ⊎ (now ≡ after_window m position old) → (now ≡ None → m ≡ false) → now ≡ after_window m position old
+kept m position old now (inl same) fails = same ∙ stays m position old (λ none. fails (same ∙ none))
+kept m position old now (inr done) fails = done
 
-was_open : (m : Bool) (spot : Spot) (old now : Option Spot) → (now ≡ old) ⊎ (now ≡ after_window m spot old) → now ≡ None → old ≡ None
-was_open m spot None now either none = refl
-was_open m spot (Some x) now (inl same) none = sym same ∙ none
-was_open m spot (Some x) now (inr done) none = sym done ∙ none
+was_open : (m : Bool) (position : Position) (old now : Option Position) → (now ≡ old) ⊎ (now ≡ after_window m position old) → now ≡ None → old ≡ None
+was_open m position None now either none = refl
+was_open m position (Some x) now (inl same) none = sym same ∙ none
+was_open m position (Some x) now (inr done) none = sym done ∙ none
 
 pub no_crc : (pair : Pair) (md5 : List ℕ) (crc : ℕ) → (pair.1 ≡ crc → ⊥) → has_checksums md5 crc pair ≡ false
 no_crc pair md5 crc other = and_left (crc == pair.1) _ (ne_eqb crc pair.1 (λ same. other (sym same)))
 
 -- a window is passed over
-pub passed-one : (scan : Scan) (o : ℕ) (found : List (Option Spot)) (left : ℕ) (filter : Groups) (batch : List Candidate) → IsAt scan o found left filter batch → AreAnswered scan o (crc_of scan o) → IsAt scan (o + 1) found left filter batch
+pub passed-one : (scan : Scan) (o : ℕ) (found : List (Option Position)) (left : ℕ) (filter : Groups) (batch : List Candidate) → IsScannedTo scan o found left filter batch → AreAnswered scan o (crc_of scan o) → IsScannedTo scan (o + 1) found left filter batch
 passed-one scan o found left filter batch at have = record {
   tally = at.tally;
   answers = λ i h.
       let pair : Pair = pair_at scan.wanted.now i in
       at.answers i h
-      ∙ stays (is_match pair (window_of scan o)) (spot_in (length scan.earlier.now) o) (answer_below scan o pair)
+      ∙ stays (is_match pair (window_of scan o)) (position_in (length scan.earlier.now) o) (answer_below scan o pair)
       (λ none. no_crc pair _ (crc_of scan o) (λ same. have i h same none))
       ∙ sym (below-more scan o pair);
   candidates = at.candidates;
 }
 
--- an answer of the search so far is one below the offset
-pub answered : (scan : Scan) (o : ℕ) (found : List (Option Spot)) (left : ℕ) (filter : Groups) (batch : List Candidate) (crc : ℕ) → IsAt scan o found left filter batch → HaveAnswers scan.wanted.now found crc → AreAnswered scan o crc
+-- what the search has found so far is below the offset
+pub answered : (scan : Scan) (o : ℕ) (found : List (Option Position)) (left : ℕ) (filter : Groups) (batch : List Candidate) (crc : ℕ) → IsScannedTo scan o found left filter batch → HaveAnswers scan.wanted.now found crc → AreAnswered scan o crc
 answered scan o found left filter batch crc at have i h its none =
     have i h its (settled_open scan (pair_at scan.wanted.now i) batch (answer_at found i) (at.answers i h ∙ none))
 
-pub no_more : (scan : Scan) (o : ℕ) (found : List (Option Spot)) (left : ℕ) (filter : Groups) (batch : List Candidate) (crc : ℕ) → IsAt scan o found left filter batch → crc ≡ crc_of scan o → HaveAnswers scan.wanted.now found crc → IsAt scan (o + 1) found left filter batch
+pub no_more : (scan : Scan) (o : ℕ) (found : List (Option Position)) (left : ℕ) (filter : Groups) (batch : List Candidate) (crc : ℕ) → IsScannedTo scan o found left filter batch → crc ≡ crc_of scan o → HaveAnswers scan.wanted.now found crc → IsScannedTo scan (o + 1) found left filter batch
 no_more scan o found left filter batch crc at is have =
     passed-one scan o found left filter batch at (answered scan o found left filter batch (crc_of scan o) at (subst (HaveAnswers scan.wanted.now found) is have))
 
@@ -106,60 +106,60 @@ none_counted X p xs i d none h holds =
     let both : true ≡ false = all ∙ some in
     cc
 
--- no pair that has a checksum of a group that isn't marked is open
-pub unmarked : (pairs : List Pair) (found : List (Option Spot)) (left : ℕ) (filter : Groups) (crc : ℕ) → IsTally pairs found left filter → (Marks filter crc → ⊥) → HaveAnswers pairs found crc
-unmarked pairs found left filter crc tally not_marked i h same none = not_marked (subst (λ (c : ℕ). Marks filter c) same (tally.marked i h none))
+-- no open pair has a checksum of a group that isn't in the filter
+pub unmarked : (pairs : List Pair) (found : List (Option Position)) (left : ℕ) (filter : Groups) (crc : ℕ) → IsTally pairs found left filter → (Includes filter crc → ⊥) → HaveAnswers pairs found crc
+unmarked pairs found left filter crc tally not_included i h same none = not_included (subst (λ (c : ℕ). Includes filter c) same (tally.included i h none))
 
--- no pair that has this checksum is open
-pub unawaited : (pairs : List Pair) (found : List (Option Spot)) (crc : ℕ) (group : List Place) → HoldsGroup pairs crc group → count_by (is_awaited crc found) group ≡ 0 → HaveAnswers pairs found crc
+-- no open pair has this checksum
+pub unawaited : (pairs : List Pair) (found : List (Option Position)) (crc : ℕ) (group : List PairPlace) → HoldsGroup pairs crc group → count_by (is_awaited crc found) group ≡ 0 → HaveAnswers pairs found crc
 unawaited pairs found crc group holds closed i h its none =
     let place = holds.whole i h (ap (λ c. c / 2 ^ 17) its) in
-    let crc_is : (place_at group place.0).crc ≡ crc = sym (holds.each place.0 place.1).crc ∙ ap (λ j. (pair_at pairs j).1) place.2 ∙ its in
-    let unanswered : answer_at found (place_at group place.0).index ≡ None = ap (answer_at found) place.2 ∙ none in
-    none_counted Place (is_awaited crc found) group place.0 no_place closed place.1
-    (ap (λ b. b && is_none (answer_at found (place_at group place.0).index)) (eq-eqb (place_at group place.0).crc crc crc_is) ∙ ap is_none unanswered)
+    let crc_is : (pair_place_at group place.0).crc ≡ crc = sym (holds.each place.0 place.1).crc ∙ ap (λ j. (pair_at pairs j).1) place.2 ∙ its in
+    let unanswered : answer_at found (pair_place_at group place.0).index ≡ None = ap (answer_at found) place.2 ∙ none in
+    none_counted PairPlace (is_awaited crc found) group place.0 no_place closed place.1
+    (ap (λ b. b && is_none (answer_at found (pair_place_at group place.0).index)) (eq-eqb (pair_place_at group place.0).crc crc crc_is) ∙ ap is_none unanswered)
 
--- each pair that has this checksum is answered
-pub all_answered : (pairs : List Pair) (found : List (Option Spot)) (crc : ℕ) (group : List Place) → HoldsGroup pairs crc group → HaveAnswers pairs found crc → count_by (is_awaited crc found) group ≡ 0
+-- each pair that has this checksum is found
+pub all_answered : (pairs : List Pair) (found : List (Option Position)) (crc : ℕ) (group : List PairPlace) → HoldsGroup pairs crc group → HaveAnswers pairs found crc → count_by (is_awaited crc found) group ≡ 0
 all_answered pairs found crc group holds have =
     eqb-true _ 0 (sum_by-zero (λ place. cond (is_awaited crc found place) 1 0) group ∙ list_all-from_AllPass _ group (All-from_get_or (λ place. cond (is_awaited crc found place) 1 0 == 0 ≡ true) group no_place (λ k h.
-    let place : Place = place_at group k in
+    let place : PairPlace = pair_place_at group k in
     let its = holds.each k h in
-    ap (λ b. cond b 1 0 == 0) (false_from_ne_true (is_awaited crc found place) (λ waits.
-    let parts = and_parts (place.crc == crc) (is_none (answer_at found place.index)) waits in
+    ap (λ b. cond b 1 0 == 0) (false_from_ne_true (is_awaited crc found place) (λ pending.
+    let parts = and_parts (place.crc == crc) (is_none (answer_at found place.index)) pending in
     have place.index its.within (its.crc ∙ eqb-true _ _ parts.0) (none_from (answer_at found place.index) parts.1))))))
 
--- checksums are those of a window
+-- the checksums are those of a window
 pub matches : (scan : Scan) (o : ℕ) (digest : List ℕ) (crc : ℕ) (pair : Pair) → digest ≡ md5 (window_of scan o) → crc ≡ crc_of scan o → has_checksums digest crc pair ≡ is_match pair (window_of scan o)
 matches scan o digest crc pair digest_is crc_is =
     ap (λ m. has_checksums m crc pair) digest_is ∙ ap (λ k. has_checksums (md5 (window_of scan o)) k pair) crc_is
 
--- the window at the offset has been compared, and no candidate waits
-pub compared : (scan : Scan) (o : ℕ) (old new : List (Option Spot)) (left after : ℕ) (filter marks : Groups) (batch : List Candidate) (digest : List ℕ) (crc : ℕ) → IsAt scan o old left filter batch → batch ≡ [] → digest ≡ md5 (window_of scan o) → crc ≡ crc_of scan o → IsTally scan.wanted.now new after marks →
-    ((i : ℕ) → i < length scan.wanted.now → answer_at new i ≡ after_window (has_checksums digest crc (pair_at scan.wanted.now i)) (spot_in (length scan.earlier.now) o) (answer_at old i)) →
-    IsAt scan (o + 1) new after marks batch
-compared scan o old new left after filter marks batch digest crc at empty digest_is crc_is tally all = record {
+-- the window at the offset has been compared, and the batch is empty
+pub compared : (scan : Scan) (o : ℕ) (old new : List (Option Position)) (left after : ℕ) (filter included : Groups) (batch : List Candidate) (digest : List ℕ) (crc : ℕ) → IsScannedTo scan o old left filter batch → batch ≡ [] → digest ≡ md5 (window_of scan o) → crc ≡ crc_of scan o → IsTally scan.wanted.now new after included →
+    ((i : ℕ) → i < length scan.wanted.now → answer_at new i ≡ after_window (has_checksums digest crc (pair_at scan.wanted.now i)) (position_in (length scan.earlier.now) o) (answer_at old i)) →
+    IsScannedTo scan (o + 1) new after included batch
+compared scan o old new left after filter included batch digest crc at empty digest_is crc_is tally all = record {
   tally = tally;
   answers = λ i h.
       let pair : Pair = pair_at scan.wanted.now i in
-      let spot : Spot = spot_in (length scan.earlier.now) o in
-      let none : (answer : Option Spot) → after_candidates scan pair batch answer ≡ answer = λ answer. none_settled scan pair batch answer (ap length empty) in
+      let position : Position = position_in (length scan.earlier.now) o in
+      let none : (answer : Option Position) → after_candidates scan pair batch answer ≡ answer = λ answer. none_settled scan pair batch answer (ap length empty) in
       none (answer_at new i)
       ∙ all i h
-      ∙ ap (λ b. after_window b spot (answer_at old i)) (matches scan o digest crc pair digest_is crc_is)
-      ∙ ap (after_window (is_match pair (window_of scan o)) spot) (sym (none (answer_at old i)) ∙ at.answers i h)
+      ∙ ap (λ b. after_window b position (answer_at old i)) (matches scan o digest crc pair digest_is crc_is)
+      ∙ ap (after_window (is_match pair (window_of scan o)) position) (sym (none (answer_at old i)) ∙ at.answers i h)
       ∙ sym (below-more scan o pair);
   candidates = at.candidates;
 }
 
--- the window at the offset is a candidate more
-pub pushed : (scan : Scan) (o crc : ℕ) (found : List (Option Spot)) (left : ℕ) (filter : Groups) (batch : List Candidate) → IsAt scan o found left filter batch → IsWhole scan o → crc ≡ crc_of scan o → IsAt scan (o + 1) found left filter (batch ++ record { spot = spot_in (length scan.earlier.now) o; crc = crc } ∷ [])
+-- the window at the offset is added to the candidates
+pub pushed : (scan : Scan) (o crc : ℕ) (found : List (Option Position)) (left : ℕ) (filter : Groups) (batch : List Candidate) → IsScannedTo scan o found left filter batch → IsWhole scan o → crc ≡ crc_of scan o → IsScannedTo scan (o + 1) found left filter (batch ++ record { position = position_in (length scan.earlier.now) o; crc = crc } ∷ [])
 pushed scan o crc found left filter batch at whole crc_is = record {
   tally = at.tally;
   answers = λ i h.
       let pair : Pair = pair_at scan.wanted.now i in
       settled_more scan pair batch candidate (answer_at found i)
-      ∙ ap (after_window (is_match pair (window_of scan o)) candidate.spot) (at.answers i h)
+      ∙ ap (after_window (is_match pair (window_of scan o)) candidate.position) (at.answers i h)
       ∙ sym (below-more scan o pair);
   candidates = λ k h.
       let Is : Candidate → Type 0 = IsWindow scan in
@@ -170,13 +170,13 @@ pushed scan o crc found left filter batch at whole crc_is = record {
 }
   where
     candidate : Candidate
-    candidate = record { spot = spot_in (length scan.earlier.now) o; crc = crc }
+    candidate = record { position = position_in (length scan.earlier.now) o; crc = crc }
 
 -- the candidates have been compared
-pub emptied : (scan : Scan) (o : ℕ) (old new : List (Option Spot)) (left after : ℕ) (filter marks : Groups) (candidates rest : List Candidate) → IsAt scan o old left filter candidates → IsTally scan.wanted.now new after marks → rest ≡ [] →
+pub emptied : (scan : Scan) (o : ℕ) (old new : List (Option Position)) (left after : ℕ) (filter included : Groups) (candidates rest : List Candidate) → IsScannedTo scan o old left filter candidates → IsTally scan.wanted.now new after included → rest ≡ [] →
     ((i : ℕ) → i < length scan.wanted.now → answer_at new i ≡ after_candidates scan (pair_at scan.wanted.now i) candidates (answer_at old i)) →
-    IsAt scan o new after marks rest
-emptied scan o old new left after filter marks candidates rest at tally empty all = record {
+    IsScannedTo scan o new after included rest
+emptied scan o old new left after filter included candidates rest at tally empty all = record {
   tally = tally;
   answers = λ i h.
       none_settled scan (pair_at scan.wanted.now i) rest (answer_at new i) (ap length empty)
@@ -185,51 +185,51 @@ emptied scan o old new left after filter marks candidates rest at tally empty al
   candidates = λ k h. absurd (omega (arith, h, ap length empty));
 }
 
--- an open pair is of no group whose pairs all have answers
-pub not_closed : (shift : ℕ) (pairs : List Pair) (found : List (Option Spot)) (crc : ℕ) (group : List Place) → shift ≤ 17 → HoldsGroup pairs crc group → ((k : ℕ) → k < length group → AreAlike shift crc (place_at group k).crc → answer_at found (place_at group k).index ≡ None → ⊥)
+-- an open pair isn't in a group whose pairs are all found
+pub not_closed : (shift : ℕ) (pairs : List Pair) (found : List (Option Position)) (crc : ℕ) (group : List PairPlace) → shift ≤ 17 → HoldsGroup pairs crc group → ((k : ℕ) → k < length group → AreAlike shift crc (pair_place_at group k).crc → answer_at found (pair_place_at group k).index ≡ None → ⊥)
     → (i : ℕ) → i < length pairs → answer_at found i ≡ None → AreAlike shift crc (pair_at pairs i).1 → ⊥
 not_closed shift pairs found crc group fine holds closed i h none same =
     let coarser : (c : ℕ) → c / 2 ^ shift / 2 ^ (17 - shift) ≡ c / 2 ^ 17 = λ c. shr-shr c shift (17 - shift) ∙ ap (λ n. c / 2 ^ n) (let e : shift + (17 - shift) ≡ 17 = omega (arith, fine) in e) in
     let place = holds.whole i h (sym (coarser (pair_at pairs i).1) ∙ ap (λ b. b / 2 ^ (17 - shift)) same.0 ∙ coarser crc) in
-    let its : (place_at group place.0).crc ≡ (pair_at pairs i).1 = sym (holds.each place.0 place.1).crc ∙ ap (λ j. (pair_at pairs j).1) place.2 in
+    let its : (pair_place_at group place.0).crc ≡ (pair_at pairs i).1 = sym (holds.each place.0 place.1).crc ∙ ap (λ j. (pair_at pairs j).1) place.2 in
     closed place.0 place.1 (subst (AreAlike shift crc) (sym its) same) (ap (answer_at found) place.2 ∙ none)
 
--- a pair that waits is of the group
-pub waiting_pair : (shift : ℕ) (pairs : List Pair) (found : List (Option Spot)) (crc : ℕ) (group : List Place) → HoldsGroup pairs crc group → (k : ℕ) → k < length group → AreAlike shift crc (place_at group k).crc → answer_at found (place_at group k).index ≡ None
+-- a pair that keeps a group in the filter is of that group
+pub waiting_pair : (shift : ℕ) (pairs : List Pair) (found : List (Option Position)) (crc : ℕ) (group : List PairPlace) → HoldsGroup pairs crc group → (k : ℕ) → k < length group → AreAlike shift crc (pair_place_at group k).crc → answer_at found (pair_place_at group k).index ≡ None
     → (other : ℕ) → AreAlike shift crc other → IsOfOpenPair shift pairs found other
 waiting_pair shift pairs found crc group holds k h same none other alike =
-    let place : Place = place_at group k in
+    let place : PairPlace = pair_place_at group k in
     let its = holds.each k h in
     (place.index, its.within, none, subst (λ (c : ℕ). AreAlike shift c other) (sym its.crc) (alike.0 ∙ sym same.0, alike.1 ∙ sym same.1))
 
-pub marks_alike : (groups : Groups) (crc other : ℕ) → AreAlike groups.shift crc other → Marks groups other → Marks groups crc
-marks_alike groups crc other alike is = record {
+pub included_alike : (groups : Groups) (crc other : ℕ) → AreAlike groups.shift crc other → Includes groups other → Includes groups crc
+included_alike groups crc other alike is = record {
   bit =
       ap (λ i. bit_at (get_or groups.bytes i 0) (crc % 8)) (sym alike.0)
       ∙ ap (bit_at (get_or groups.bytes (other / 2 ^ groups.shift) 0)) (sym alike.1)
       ∙ is.bit;
 }
 
--- the checksum is of the group of a pair's
+-- the checksum is of the group of a pair
 abbrev IsOfPair : ℕ → List Pair → ℕ → Type 0
 IsOfPair shift pairs crc = (i : ℕ) × (i < length pairs) × AreAlike shift (pair_at pairs i).1 crc
 
--- the checksums of the first n pairs were added to a filter without groups
+-- the checksums of the first n pairs were added to an empty filter
 pub record IsFilled (pairs : List Pair) (n : ℕ) (filter : Groups) : Type 0 where
-  pub marked : (k : ℕ) → k < n → Marks filter (pair_at pairs k).1
-  pub only : (crc : ℕ) → Marks filter crc → IsOfPair filter.shift pairs crc
+  pub included : (k : ℕ) → k < n → Includes filter (pair_at pairs k).1
+  pub only : (crc : ℕ) → Includes filter crc → IsOfPair filter.shift pairs crc
   pub fine : filter.shift ≤ 17
 
--- a checksum more is added
+-- one more checksum is added
 pub filled_more : (pairs : List Pair) (n : ℕ) (before after : Groups) → IsFilled pairs n before → n < length pairs → (crc : ℕ)
-    → after.shift ≡ before.shift → Marks after crc → ((other : ℕ) → Marks before other → Marks after other)
-    → ((other : ℕ) → Marks after other → AreAlike before.shift crc other ⊎ Marks before other)
+    → after.shift ≡ before.shift → Includes after crc → ((other : ℕ) → Includes before other → Includes after other)
+    → ((other : ℕ) → Includes after other → AreAlike before.shift crc other ⊎ Includes before other)
     → crc ≡ (pair_at pairs n).1 → IsFilled pairs (n + 1) after
-filled_more pairs n before after filled low crc shift marked kept only its = record {
-  marked = λ k h.
+filled_more pairs n before after filled low crc shift included kept only its = record {
+  included = λ k h.
       elim (cases_lt k n) [
-        | inl early ↦ kept (pair_at pairs k).1 (filled.marked k early)
-        | inr late ↦ subst (λ (c : ℕ). Marks after c) (its ∙ ap (λ j. (pair_at pairs j).1) (let e : n ≡ k = omega (arith, late, h) in e)) marked
+        | inl early ↦ kept (pair_at pairs k).1 (filled.included k early)
+        | inr late ↦ subst (λ (c : ℕ). Includes after c) (its ∙ ap (λ j. (pair_at pairs j).1) (let e : n ≡ k = omega (arith, late, h) in e)) included
       ];
   only = λ other is. subst (λ (shift : ℕ). IsOfPair shift pairs other) (sym shift)
       (elim (only other is) [
@@ -239,16 +239,16 @@ filled_more pairs n before after filled low crc shift marked kept only its = rec
   fine = omega (arith, shift, filled.fine);
 }
 
--- before the first text
-pub none_answered : (pairs : List Pair) (found : List (Option Spot)) (left : ℕ) (filter : Groups) → found ≡ replicate (length pairs) None → left ≡ length pairs → IsFilled pairs (length pairs) filter → IsTally pairs found left filter
+-- before the first buffer
+pub none_answered : (pairs : List Pair) (found : List (Option Position)) (left : ℕ) (filter : Groups) → found ≡ replicate (length pairs) None → left ≡ length pairs → IsFilled pairs (length pairs) filter → IsTally pairs found left filter
 none_answered pairs found left filter found_is left_is filled = record {
   len = ap length found_is ∙ length-replicate (length pairs) None;
   count =
       left_is
       ∙ (let e : length pairs ≡ length pairs * 1 = omega arith in e)
-      ∙ sym (sum_by-replicate (λ (x : Option Spot). cond (is_none x) 1 0) (length pairs) None)
+      ∙ sym (sum_by-replicate (λ (x : Option Position). cond (is_none x) 1 0) (length pairs) None)
       ∙ ap (count_by is_none) (sym found_is);
-  marked = λ i h none. filled.marked i h;
+  included = λ i h none. filled.included i h;
   only = λ crc is.
       let its = filled.only crc is in
       (its.0, its.1, ap (λ f. answer_at f its.0) found_is ∙ replicate_at (length pairs) its.0 None, its.2);
@@ -256,10 +256,10 @@ none_answered pairs found left filter found_is left_is filled = record {
 }
 
 abbrev pub bytes_of : Bor (List ℕ) → List ℕ
-bytes_of text = text.now
+bytes_of bytes = bytes.now
 
 -- before the first offset
-pub at_start : (scan : Scan) (found : List (Option Spot)) (left : ℕ) (filter : Groups) (batch : List Candidate) → IsTally scan.wanted.now found left filter → ((i : ℕ) → i < length scan.wanted.now → answer_at found i ≡ earlier_answer scan (pair_at scan.wanted.now i)) → batch ≡ [] → IsAt scan 0 found left filter batch
+pub at_start : (scan : Scan) (found : List (Option Position)) (left : ℕ) (filter : Groups) (batch : List Candidate) → IsTally scan.wanted.now found left filter → ((i : ℕ) → i < length scan.wanted.now → answer_at found i ≡ earlier_answer scan (pair_at scan.wanted.now i)) → batch ≡ [] → IsScannedTo scan 0 found left filter batch
 unfolding first_below
 at_start scan found left filter batch tally before empty = record {
   tally = tally;
@@ -269,65 +269,65 @@ at_start scan found left filter batch tally before empty = record {
   candidates = λ k h. absurd (omega (arith, h, ap length empty));
 }
 
--- where no pair is open, no offset more changes an answer
-pub none_left : (scan : Scan) (o n : ℕ) (found : List (Option Spot)) (left : ℕ) (filter : Groups) (batch : List Candidate) → IsAt scan o found left filter batch → left ≡ 0 → IsAt scan (o + n) found left filter batch
+-- if no pair is open, no further offset changes a position
+pub none_left : (scan : Scan) (o n : ℕ) (found : List (Option Position)) (left : ℕ) (filter : Groups) (batch : List Candidate) → IsScannedTo scan o found left filter batch → left ≡ 0 → IsScannedTo scan (o + n) found left filter batch
 none_left scan o zero found left filter batch at none =
-    subst (λ (k : ℕ). IsAt scan k found left filter batch) (let e : o ≡ o + 0 = omega arith in e) at
+    subst (λ (k : ℕ). IsScannedTo scan k found left filter batch) (let e : o ≡ o + 0 = omega arith in e) at
 none_left scan o (suc n) found left filter batch at none =
-    subst (λ (k : ℕ). IsAt scan k found left filter batch) (let e : o + n + 1 ≡ o + suc n = omega arith in e)
+    subst (λ (k : ℕ). IsScannedTo scan k found left filter batch) (let e : o + n + 1 ≡ o + suc n = omega arith in e)
     (no_more scan (o + n) found left filter batch (crc_of scan (o + n)) (none_left scan o n found left filter batch at none) refl
-    (λ i h same none_yet. none_counted (Option Spot) is_none found i None (sym at.tally.count ∙ none) (omega (arith, h, at.tally.len)) (ap is_none none_yet)))
+    (λ i h same none_yet. none_counted (Option Position) is_none found i None (sym at.tally.count ∙ none) (omega (arith, h, at.tally.len)) (ap is_none none_yet)))
 
--- at the end, when no candidate waits
-finished : (scan : Scan) (found : List (Option Spot)) (left : ℕ) (filter : Groups) (batch : List Candidate) (i : ℕ) → IsAt scan (length scan.bytes.now) found left filter batch → batch ≡ [] → i < length scan.wanted.now
-    → answer_at found i ≡ option_or (earlier_answer scan (pair_at scan.wanted.now i)) (option_map (spot_in (length scan.earlier.now)) (first_match scan.rolling.now.size scan.bytes.now (pair_at scan.wanted.now i)))
+-- at the end, with an empty batch
+finished : (scan : Scan) (found : List (Option Position)) (left : ℕ) (filter : Groups) (batch : List Candidate) (i : ℕ) → IsScannedTo scan (length scan.bytes.now) found left filter batch → batch ≡ [] → i < length scan.wanted.now
+    → answer_at found i ≡ option_or (earlier_answer scan (pair_at scan.wanted.now i)) (option_map (position_in (length scan.earlier.now)) (first_match scan.rolling.now.size scan.bytes.now (pair_at scan.wanted.now i)))
 unfolding first_below
 finished scan found left filter batch i at empty inside =
     sym (none_settled scan (pair_at scan.wanted.now i) batch (answer_at found i) (ap length empty)) ∙ at.answers i inside
 
--- one text more
-first_spot-more : (n s : ℕ) (texts : List (List ℕ)) (text : List ℕ) (pair : Pair)
-    → first_spot_from n s (texts ++ text ∷ []) pair ≡ option_or (first_spot_from n s texts pair) (option_map (spot_in (n + length texts)) (first_match s text pair))
-first_spot-more n s [] text pair =
-    sym (or_nothing (option_map (spot_in n) (first_match s text pair)))
-    ∙ ap (λ k. option_map (spot_in k) (first_match s text pair)) (let e : n ≡ n + 0 = omega arith in e)
-first_spot-more n s (t ∷ texts) text pair =
-    ap (option_or (option_map (spot_in n) (first_match s t pair))) (first_spot-more (n + 1) s texts text pair)
-    ∙ or_or (option_map (spot_in n) (first_match s t pair)) (first_spot_from (n + 1) s texts pair) (option_map (spot_in (n + 1 + length texts)) (first_match s text pair))
-    ∙ ap (λ k. option_or (option_or (option_map (spot_in n) (first_match s t pair)) (first_spot_from (n + 1) s texts pair)) (option_map (spot_in k) (first_match s text pair))) (let e : n + 1 + length texts ≡ n + suc (length texts) = omega arith in e)
+-- one more buffer
+first_position-more : (n s : ℕ) (buffers : List (List ℕ)) (bytes : List ℕ) (pair : Pair)
+    → first_position_from n s (buffers ++ bytes ∷ []) pair ≡ option_or (first_position_from n s buffers pair) (option_map (position_in (n + length buffers)) (first_match s bytes pair))
+first_position-more n s [] bytes pair =
+    sym (or_nothing (option_map (position_in n) (first_match s bytes pair)))
+    ∙ ap (λ k. option_map (position_in k) (first_match s bytes pair)) (let e : n ≡ n + 0 = omega arith in e)
+first_position-more n s (t ∷ buffers) bytes pair =
+    ap (option_or (option_map (position_in n) (first_match s t pair))) (first_position-more (n + 1) s buffers bytes pair)
+    ∙ or_or (option_map (position_in n) (first_match s t pair)) (first_position_from (n + 1) s buffers pair) (option_map (position_in (n + 1 + length buffers)) (first_match s bytes pair))
+    ∙ ap (λ k. option_or (option_or (option_map (position_in n) (first_match s t pair)) (first_position_from (n + 1) s buffers pair)) (option_map (position_in k) (first_match s bytes pair))) (let e : n + 1 + length buffers ≡ n + suc (length buffers) = omega arith in e)
   where
     or_or : {A : Type 0} (a b c : Option A) → option_or a (option_or b c) ≡ option_or (option_or a b) c
     or_or None b c = refl
     or_or (Some x) b c = refl
 
--- a text more has been searched
-pub text_done : (scan : Scan) (found : List (Option Spot)) (left : ℕ) (filter : Groups) (batch : List Candidate) (i : ℕ) → IsAt scan (length scan.bytes.now) found left filter batch → batch ≡ [] → i < length scan.wanted.now
-    → answer_at found i ≡ first_spot scan.rolling.now.size (map bytes_of scan.earlier.now ++ scan.bytes.now ∷ []) (pair_at scan.wanted.now i)
-text_done scan found left filter batch i at empty inside =
+-- one more buffer has been searched
+pub bytes_done : (scan : Scan) (found : List (Option Position)) (left : ℕ) (filter : Groups) (batch : List Candidate) (i : ℕ) → IsScannedTo scan (length scan.bytes.now) found left filter batch → batch ≡ [] → i < length scan.wanted.now
+    → answer_at found i ≡ first_position scan.rolling.now.size (map bytes_of scan.earlier.now ++ scan.bytes.now ∷ []) (pair_at scan.wanted.now i)
+bytes_done scan found left filter batch i at empty inside =
     let pair : Pair = pair_at scan.wanted.now i in
     finished scan found left filter batch i at empty inside
-    ∙ ap (λ n. option_or (earlier_answer scan pair) (option_map (spot_in n) (first_match scan.rolling.now.size scan.bytes.now pair))) (let e : length scan.earlier.now ≡ 0 + length (map bytes_of scan.earlier.now) = omega (arith, length-map scan.earlier.now bytes_of) in e)
-    ∙ sym (first_spot-more 0 scan.rolling.now.size (map bytes_of scan.earlier.now) scan.bytes.now pair)
+    ∙ ap (λ n. option_or (earlier_answer scan pair) (option_map (position_in n) (first_match scan.rolling.now.size scan.bytes.now pair))) (let e : length scan.earlier.now ≡ 0 + length (map bytes_of scan.earlier.now) = omega (arith, length-map scan.earlier.now bytes_of) in e)
+    ∙ sym (first_position-more 0 scan.rolling.now.size (map bytes_of scan.earlier.now) scan.bytes.now pair)
 
--- the answers once each text has been searched
-pub all_done : (s : ℕ) (texts : List (List ℕ)) (pairs : List Pair) (found : List (Option Spot)) → length found ≡ length pairs → ((i : ℕ) → i < length pairs → answer_at found i ≡ first_spot s texts (pair_at pairs i)) → found ≡ map (first_spot s texts) pairs
-all_done s texts pairs found size each =
-    ext_get_or None found (map (first_spot s texts) pairs)
-    (size ∙ sym (length-map pairs (first_spot s texts)))
+-- the positions once each buffer has been searched
+pub all_done : (s : ℕ) (buffers : List (List ℕ)) (pairs : List Pair) (found : List (Option Position)) → length found ≡ length pairs → ((i : ℕ) → i < length pairs → answer_at found i ≡ first_position s buffers (pair_at pairs i)) → found ≡ map (first_position s buffers) pairs
+all_done s buffers pairs found size each =
+    ext_get_or None found (map (first_position s buffers) pairs)
+    (size ∙ sym (length-map pairs (first_position s buffers)))
     (λ i h.
     let inside : i < length pairs = omega (arith, h, size) in
-    each i inside ∙ sym (get_or-map (first_spot s texts) pairs i no_pair None inside))
+    each i inside ∙ sym (get_or-map (first_position s buffers) pairs i no_pair None inside))
 
--- what a walk over the first n places of a group has settled
-pub record Settled (pairs : List Pair) (md5 : List ℕ) (crc : ℕ) (spot : Spot) (old : List (Option Spot)) (group : List Place) (n : ℕ) (found : List (Option Spot)) (count : ℕ) : Type 0 where
+-- the invariant of the loop over the first n places of a group
+pub record Settled (pairs : List Pair) (md5 : List ℕ) (crc : ℕ) (position : Position) (old : List (Option Position)) (group : List PairPlace) (n : ℕ) (found : List (Option Position)) (count : ℕ) : Type 0 where
   pub len : length found ≡ length old
-  pub each : (i : ℕ) → i < length pairs → (answer_at found i ≡ answer_at old i) ⊎ (answer_at found i ≡ after_window (has_checksums md5 crc (pair_at pairs i)) spot (answer_at old i))
-  pub done : (k : ℕ) → k < n → answer_at found (place_at group k).index ≡ after_window (has_checksums md5 crc (pair_at pairs (place_at group k).index)) spot (answer_at old (place_at group k).index)
+  pub each : (i : ℕ) → i < length pairs → (answer_at found i ≡ answer_at old i) ⊎ (answer_at found i ≡ after_window (has_checksums md5 crc (pair_at pairs i)) position (answer_at old i))
+  pub done : (k : ℕ) → k < n → answer_at found (pair_place_at group k).index ≡ after_window (has_checksums md5 crc (pair_at pairs (pair_place_at group k).index)) position (answer_at old (pair_place_at group k).index)
   pub total : count + count_by is_none found ≡ count_by is_none old
 
-pub not_settled : (pairs : List Pair) (md5 : List ℕ) (crc : ℕ) (spot : Spot) (old : List (Option Spot)) (group : List Place) (n : ℕ) (found : List (Option Spot)) (count : ℕ) → Settled pairs md5 crc spot old group n found count → (place_at group n).index < length pairs → (answer_at found (place_at group n).index ≡ None → has_checksums md5 crc (pair_at pairs (place_at group n).index) ≡ false) → Settled pairs md5 crc spot old group (n + 1) found count
-not_settled pairs md5 crc spot old group n found count so_far inside fails =
-    let i : ℕ = (place_at group n).index in
+pub not_settled : (pairs : List Pair) (md5 : List ℕ) (crc : ℕ) (position : Position) (old : List (Option Position)) (group : List PairPlace) (n : ℕ) (found : List (Option Position)) (count : ℕ) → Settled pairs md5 crc position old group n found count → (pair_place_at group n).index < length pairs → (answer_at found (pair_place_at group n).index ≡ None → has_checksums md5 crc (pair_at pairs (pair_place_at group n).index) ≡ false) → Settled pairs md5 crc position old group (n + 1) found count
+not_settled pairs md5 crc position old group n found count so_far inside fails =
+    let i : ℕ = (pair_place_at group n).index in
     let m : Bool = has_checksums md5 crc (pair_at pairs i) in
     record {
       len = so_far.len;
@@ -336,7 +336,7 @@ not_settled pairs md5 crc spot old group n found count so_far inside fails =
         | inl early ↦ so_far.done k early
         | inr late ↦ (
             let here : n ≡ k = omega (arith, h, late) in
-            subst (λ (j : ℕ). answer_at found (place_at group j).index ≡ after_window (has_checksums md5 crc (pair_at pairs (place_at group j).index)) spot (answer_at old (place_at group j).index)) here (kept m spot (answer_at old i) (answer_at found i) (so_far.each i inside) fails)
+            subst (λ (j : ℕ). answer_at found (pair_place_at group j).index ≡ after_window (has_checksums md5 crc (pair_at pairs (pair_place_at group j).index)) position (answer_at old (pair_place_at group j).index)) here (kept m position (answer_at old i) (answer_at found i) (so_far.each i inside) fails)
             )
       ];
       total = so_far.total;
@@ -345,76 +345,76 @@ not_settled pairs md5 crc spot old group n found count so_far inside fails =
 not_there : (k n : ℕ) → k < n + 1 → (k ≡ n → ⊥) → k < n
 not_there k n h other = omega (arith, h, other)
 
-pub one_settled : (pairs : List Pair) (md5 : List ℕ) (crc : ℕ) (spot : Spot) (old : List (Option Spot)) (group : List Place) (n : ℕ) (found : List (Option Spot)) (count : ℕ) → Settled pairs md5 crc spot old group n found count → length old ≡ length pairs → (place_at group n).index < length pairs → answer_at found (place_at group n).index ≡ None → has_checksums md5 crc (pair_at pairs (place_at group n).index) ≡ true → Settled pairs md5 crc spot old group (n + 1) (set found (place_at group n).index (Some spot)) (count + 1)
-one_settled pairs md5 crc spot old group n found count so_far size inside none match_is =
-    let i : ℕ = (place_at group n).index in
+pub one_settled : (pairs : List Pair) (md5 : List ℕ) (crc : ℕ) (position : Position) (old : List (Option Position)) (group : List PairPlace) (n : ℕ) (found : List (Option Position)) (count : ℕ) → Settled pairs md5 crc position old group n found count → length old ≡ length pairs → (pair_place_at group n).index < length pairs → answer_at found (pair_place_at group n).index ≡ None → has_checksums md5 crc (pair_at pairs (pair_place_at group n).index) ≡ true → Settled pairs md5 crc position old group (n + 1) (set found (pair_place_at group n).index (Some position)) (count + 1)
+one_settled pairs md5 crc position old group n found count so_far size inside none match_is =
+    let i : ℕ = (pair_place_at group n).index in
     let m : ℕ → Bool = λ j. has_checksums md5 crc (pair_at pairs j) in
     let within : i < length found = omega (arith, inside, size, so_far.len) in
-    let new : List (Option Spot) = set found i (Some spot) in
-    let Is : ℕ → Type 0 = λ j. answer_at new j ≡ after_window (m j) spot (answer_at old j) in
+    let new : List (Option Position) = set found i (Some position) in
+    let Is : ℕ → Type 0 = λ j. answer_at new j ≡ after_window (m j) position (answer_at old j) in
     let here : Is i = (
-    get_or-set_same found i (Some spot) None within
-    ∙ sym (ap (λ b. after_window b spot (answer_at old i)) match_is ∙ ap (λ o. after_window true spot o) (was_open (m i) spot (answer_at old i) (answer_at found i) (so_far.each i inside) none))
+    get_or-set_same found i (Some position) None within
+    ∙ sym (ap (λ b. after_window b position (answer_at old i)) match_is ∙ ap (λ o. after_window true position o) (was_open (m i) position (answer_at old i) (answer_at found i) (so_far.each i inside) none))
     ) in
-    let weight : Option Spot → ℕ = λ x. cond (is_none x) 1 0 in
-    let weighed : count_by is_none new + weight (answer_at found i) ≡ count_by is_none found + 0 = sum_by-set weight found i (Some spot) None within in
+    let weight : Option Position → ℕ = λ x. cond (is_none x) 1 0 in
+    let weighed : count_by is_none new + weight (answer_at found i) ≡ count_by is_none found + 0 = sum_by-set weight found i (Some position) None within in
     let heavy : weight (answer_at found i) ≡ 1 = ap weight none in
     record {
-      len = length-set found i (Some spot) ∙ so_far.len;
+      len = length-set found i (Some position) ∙ so_far.len;
       each = λ j h. elim (cases_eq j i) [
         | inl same ↦ inr (subst Is (sym same) here)
         | inr other ↦ elim (so_far.each j h) [
-          | inl stayed ↦ inl (get_or-set_other found i j (Some spot) None other ∙ stayed)
-          | inr moved ↦ inr (get_or-set_other found i j (Some spot) None other ∙ moved)
+          | inl stayed ↦ inl (get_or-set_other found i j (Some position) None other ∙ stayed)
+          | inr moved ↦ inr (get_or-set_other found i j (Some position) None other ∙ moved)
         ]
       ];
-      done = λ k h. elim (cases_eq (place_at group k).index i) [
+      done = λ k h. elim (cases_eq (pair_place_at group k).index i) [
         | inl same ↦ subst Is (sym same) here
         | inr other ↦ (
-            let early : k < n = not_there k n h (λ is. other (ap (λ j. (place_at group j).index) is)) in
-            get_or-set_other found i (place_at group k).index (Some spot) None other ∙ so_far.done k early
+            let early : k < n = not_there k n h (λ is. other (ap (λ j. (pair_place_at group j).index) is)) in
+            get_or-set_other found i (pair_place_at group k).index (Some position) None other ∙ so_far.done k early
             )
       ];
       total = omega (arith, weighed, heavy, so_far.total);
     }
 
--- each place of the group has been settled, so each pair has
-pub all_settled : (pairs : List Pair) (md5 : List ℕ) (crc : ℕ) (spot : Spot) (old new : List (Option Spot)) (group : List Place) → HoldsGroup pairs crc group
-    → ((i : ℕ) → i < length pairs → (answer_at new i ≡ answer_at old i) ⊎ (answer_at new i ≡ after_window (has_checksums md5 crc (pair_at pairs i)) spot (answer_at old i)))
-    → ((k : ℕ) → k < length group → answer_at new (place_at group k).index ≡ after_window (has_checksums md5 crc (pair_at pairs (place_at group k).index)) spot (answer_at old (place_at group k).index))
-    → (i : ℕ) → i < length pairs → answer_at new i ≡ after_window (has_checksums md5 crc (pair_at pairs i)) spot (answer_at old i)
-all_settled pairs md5 crc spot old new group holds each done i low =
+-- each place of the group was visited, so each pair was
+pub all_settled : (pairs : List Pair) (md5 : List ℕ) (crc : ℕ) (position : Position) (old new : List (Option Position)) (group : List PairPlace) → HoldsGroup pairs crc group
+    → ((i : ℕ) → i < length pairs → (answer_at new i ≡ answer_at old i) ⊎ (answer_at new i ≡ after_window (has_checksums md5 crc (pair_at pairs i)) position (answer_at old i)))
+    → ((k : ℕ) → k < length group → answer_at new (pair_place_at group k).index ≡ after_window (has_checksums md5 crc (pair_at pairs (pair_place_at group k).index)) position (answer_at old (pair_place_at group k).index))
+    → (i : ℕ) → i < length pairs → answer_at new i ≡ after_window (has_checksums md5 crc (pair_at pairs i)) position (answer_at old i)
+all_settled pairs md5 crc position old new group holds each done i low =
     elim (cases_eq (pair_at pairs i).1 crc) [
-      | inl same ↦ (let its = holds.whole i low (ap (λ c. c / 2 ^ 17) same) in subst (λ (j : ℕ). answer_at new j ≡ after_window (has_checksums md5 crc (pair_at pairs j)) spot (answer_at old j)) its.2 (done its.0 its.1))
-      | inr other ↦ kept (has_checksums md5 crc (pair_at pairs i)) spot (answer_at old i) (answer_at new i) (each i low) (λ none. no_crc (pair_at pairs i) md5 crc other)
+      | inl same ↦ (let its = holds.whole i low (ap (λ c. c / 2 ^ 17) same) in subst (λ (j : ℕ). answer_at new j ≡ after_window (has_checksums md5 crc (pair_at pairs j)) position (answer_at old j)) its.2 (done its.0 its.1))
+      | inr other ↦ kept (has_checksums md5 crc (pair_at pairs i)) position (answer_at old i) (answer_at new i) (each i low) (λ none. no_crc (pair_at pairs i) md5 crc other)
     ]
 
 -- an open pair of another checksum stays open
-still_open : (pair : Pair) (md5 : List ℕ) (crc : ℕ) (spot : Spot) (old new : Option Spot) → (new ≡ old) ⊎ (new ≡ after_window (has_checksums md5 crc pair) spot old) → (pair.1 ≡ crc → ⊥) → old ≡ None → new ≡ None
-still_open pair md5 crc spot old new (inl same) other none = same ∙ none
-still_open pair md5 crc spot old new (inr done) other none =
-    done ∙ ap (λ m. after_window m spot old) (no_crc pair md5 crc other) ∙ ap (λ o. after_window false spot o) none
+still_open : (pair : Pair) (md5 : List ℕ) (crc : ℕ) (position : Position) (old new : Option Position) → (new ≡ old) ⊎ (new ≡ after_window (has_checksums md5 crc pair) position old) → (pair.1 ≡ crc → ⊥) → old ≡ None → new ≡ None
+still_open pair md5 crc position old new (inl same) other none = same ∙ none
+still_open pair md5 crc position old new (inr done) other none =
+    done ∙ ap (λ m. after_window m position old) (no_crc pair md5 crc other) ∙ ap (λ o. after_window false position o) none
 
--- the tally of what is open afterwards; the group of the checksum stays marked where a pair of it is open
-pub tally_settled : (pairs : List Pair) (md5 : List ℕ) (crc : ℕ) (spot : Spot) (old new : List (Option Spot)) (left count : ℕ) (filter after : Groups) → IsTally pairs old left filter → length new ≡ length old
-    → ((i : ℕ) → i < length pairs → (answer_at new i ≡ answer_at old i) ⊎ (answer_at new i ≡ after_window (has_checksums md5 crc (pair_at pairs i)) spot (answer_at old i)))
+-- the tally of the open pairs afterwards; the filter keeps the group if a pair of it is open
+pub tally_settled : (pairs : List Pair) (md5 : List ℕ) (crc : ℕ) (position : Position) (old new : List (Option Position)) (left count : ℕ) (filter after : Groups) → IsTally pairs old left filter → length new ≡ length old
+    → ((i : ℕ) → i < length pairs → (answer_at new i ≡ answer_at old i) ⊎ (answer_at new i ≡ after_window (has_checksums md5 crc (pair_at pairs i)) position (answer_at old i)))
     → count + count_by is_none new ≡ count_by is_none old
-    → ((i : ℕ) → i < length pairs → answer_at new i ≡ None → Marks filter (pair_at pairs i).1 → Marks after (pair_at pairs i).1)
+    → ((i : ℕ) → i < length pairs → answer_at new i ≡ None → Includes filter (pair_at pairs i).1 → Includes after (pair_at pairs i).1)
     → after.shift ≡ filter.shift
-    → ((other : ℕ) → Marks after other → Marks filter other)
-    → ((other : ℕ) → Marks after other → AreAlike filter.shift crc other → IsOfOpenPair filter.shift pairs new other)
+    → ((other : ℕ) → Includes after other → Includes filter other)
+    → ((other : ℕ) → Includes after other → AreAlike filter.shift crc other → IsOfOpenPair filter.shift pairs new other)
     → IsTally pairs new (left - count) after
-tally_settled pairs md5 crc spot old new left count filter after tally size each total keeps shift fewer waits = record {
+tally_settled pairs md5 crc position old new left count filter after tally size each total keeps shift fewer pending = record {
   len = size ∙ tally.len;
   count = omega (arith, total, tally.count);
-  marked = λ i low none. keeps i low none (tally.marked i low (was_open (has_checksums md5 crc (pair_at pairs i)) spot (answer_at old i) (answer_at new i) (each i low) none));
+  included = λ i low none. keeps i low none (tally.included i low (was_open (has_checksums md5 crc (pair_at pairs i)) position (answer_at old i) (answer_at new i) (each i low) none));
   only = λ other is.
       let its = tally.only other (fewer other is) in
       let i : ℕ = its.0 in
       subst (λ (shift : ℕ). IsOfOpenPair shift pairs new other) (sym shift)
       (elim (cases_eq (pair_at pairs i).1 crc) [
-        | inl same ↦ waits other is (subst (λ (c : ℕ). AreAlike filter.shift c other) same its.3)
-        | inr apart ↦ (i, its.1, still_open (pair_at pairs i) md5 crc spot (answer_at old i) (answer_at new i) (each i its.1) apart its.2, its.3)
+        | inl same ↦ pending other is (subst (λ (c : ℕ). AreAlike filter.shift c other) same its.3)
+        | inr apart ↦ (i, its.1, still_open (pair_at pairs i) md5 crc position (answer_at old i) (answer_at new i) (each i its.1) apart its.2, its.3)
       ]);
   fine = omega (arith, shift, tally.fine);
 }
@@ -422,10 +422,10 @@ tally_settled pairs md5 crc spot old new left count filter after tally size each
 pub has_is : (pair : Pair) (md5 : List ℕ) (crc : ℕ) → pair.1 ≡ crc → bytes_eq md5 pair.0 ≡ true → has_checksums md5 crc pair ≡ true
 has_is pair md5 crc same equal = and_from (crc == pair.1) _ (eq-eqb crc pair.1 (sym same)) equal
 
--- a pair without an answer that isn't awaited has another checksum
-pub not_awaited : (crc : ℕ) (found : List (Option Spot)) (place : Place) (pair : Pair) (md5 : List ℕ) → pair.1 ≡ place.crc → is_awaited crc found place ≡ false → answer_at found place.index ≡ None → has_checksums md5 crc pair ≡ false
-not_awaited crc found place pair md5 same waits none =
-    no_crc pair md5 crc (λ is. let both : true ≡ false = sym (and_from (place.crc == crc) _ (eq-eqb place.crc crc (sym same ∙ is)) (ap is_none none)) ∙ waits in cc)
+-- an open pair that doesn't match has another checksum
+pub not_awaited : (crc : ℕ) (found : List (Option Position)) (place : PairPlace) (pair : Pair) (md5 : List ℕ) → pair.1 ≡ place.crc → is_awaited crc found place ≡ false → answer_at found place.index ≡ None → has_checksums md5 crc pair ≡ false
+not_awaited crc found place pair md5 same pending none =
+    no_crc pair md5 crc (λ is. let both : true ≡ false = sym (and_from (place.crc == crc) _ (eq-eqb place.crc crc (sym same ∙ is)) (ap is_none none)) ∙ pending in cc)
 
 pub no_md5 : (pair : Pair) (md5 : List ℕ) (crc : ℕ) → bytes_eq md5 pair.0 ≡ false → has_checksums md5 crc pair ≡ false
 no_md5 pair md5 crc differs = and_right (crc == pair.1) _ differs

@@ -18,7 +18,7 @@ of_bit n (suc (suc bit)) one below = absurd (omega (arith, below))
 low_part : (i m low : ℕ) → low < 2 ^ i → i + m ≡ 31 → low * 2 ^ m < 2 ^ 31
 low_part i m low below is = let Below : ℕ → Type 0 = λ t. low * 2 ^ m < 2 ^ t in subst Below is (shl_below low i m below)
 
--- one bit of the factor more
+-- one more bit of the factor
 pub more_product : (n a b i m product : ℕ) → i + m ≡ 31 → b ≡ steps n 0x80000000 → product ≡ steps n (a % 2 ^ i * 2 ^ suc m) → bit_xor (crc_step product) (a / 2 ^ i % 2 * b) ≡ steps n (a % 2 ^ (i + 1) * 2 ^ m)
 unfolding steps
 more_product n a b i m product is power product_is =
@@ -46,7 +46,7 @@ pub squared : (n one p square : ℕ) → p ≡ steps n one → ((m : ℕ) → p 
 unfolding steps
 squared n one p square is product = product n is ∙ ap (crc_steps n) is ∙ sym (crc_steps-add n n one)
 
--- one zero byte more
+-- one more zero byte
 pub one_more : (n one p : ℕ) → p ≡ steps n one → crc_byte p 0 ≡ steps (n + 8) one
 unfolding steps
 one_more n one p is = ap (crc_steps 8) (xor_zero_r p ∙ is) ∙ sym (crc_steps-add n 8 one)

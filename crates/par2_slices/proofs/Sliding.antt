@@ -1,4 +1,4 @@
--- A window moves on by a byte.
+-- A window slides by a byte.
 use Rattle.par2_slices.proofs.Common.{◌≡◌, ℕ, suc, ◌+◌, ◌*◌, List, [], ◌∷◌, ◌++◌, length, sym, ap, ap₂, ◌∙◌, arith, bit_xor, crc_byte, crc_steps, crc32, crc32-slide, steps, after_slide, leaving}
 
 pub slid : (s out next before : ℕ) (rest : List ℕ) → length rest + 1 ≡ s → before ≡ crc32 (out ∷ rest) → after_slide s before out next ≡ crc32 (rest ++ next ∷ [])

@@ -2,19 +2,19 @@
 use Rattle.std.specs.Prelude.{◌≡◌, ◌⊎◌, ℕ, ◌-◌, ◌/◌, ◌%◌, ◌^◌, List, length, slice_index}
 use Rattle.std.specs.Int.{bit_at}
 
--- checksums that have the same bits from bit `shift` on share a byte; those that have the same low three bits too are of
--- one group, which has a bit there
+-- Checksums that have the same bits from bit `shift` on share a byte. Those that have the same low three bits too are
+-- of one group, which has a bit in that byte.
 pub record Groups : Type 0 where
   pub shift : ℕ
   pub bytes : List ℕ
 
--- as many bytes as the bits from bit `shift` on tell apart
+-- there is a byte for each value of the bits from bit `shift` on
 pub record IsLong (shift : ℕ) (bytes : List ℕ) : Type 0 where
   pub either : (shift ≡ 13) ⊎ (shift ≡ 15)
   pub len : length bytes ≡ 2 ^ (32 - shift)
 
 -- the group of a checksum is in the set
-pub record Marks (groups : Groups) (crc : ℕ) : Type 0 where
+pub record Includes (groups : Groups) (crc : ℕ) : Type 0 where
   pub bit : bit_at (slice_index groups.bytes (crc / 2 ^ groups.shift)) (crc % 8) ≡ 1
 
 -- the checksums are of one group

@@ -1,7 +1,8 @@
--- The steps of the checksum, closed: a goal that names their number doesn't write each step out.
+-- For the prover: the steps of the checksum, closed, so that a goal that names their number doesn't write each step
+-- out.
 use Rattle.std.specs.Prelude.{ℕ}
 use Rattle.par2_spec.specs.Checksums.{crc_steps}
 
--- what a remainder becomes when n zero bits follow
+-- the remainder after n more zero bits
 unfoldable pub steps : ℕ → ℕ → ℕ
 steps n c = crc_steps n c

@@ -1,7 +1,6 @@
-//! The CRC-32 of a slice, by tables (ISO 3309); of bytes with many zeros after them in a number of steps that doesn't
-//! grow with the zeros.
+//! The CRC-32 of a slice (ISO 3309), by tables. The padding takes a number of steps that doesn't grow with its length.
 //!
-//! A remainder is a polynomial, the lowest bit first, and each zero bit after the bytes multiplies it by x.
+//! A remainder is a polynomial with the lowest bit first, and each zero bit after the bytes multiplies it by x.
 
 ghost use Rattle.std.specs.Prelude.{◌≡◌, ◌≤◌, ◌+◌, ◌*◌, ◌<◌, ℕ, fold, length};
 ghost use Rattle.std.specs.List.{concat};
@@ -11,7 +10,7 @@ ghost use Rattle.par2_slices.specs.Steps.{steps};
 
 use crate::tables::TABLES;
 
-/// What a byte becomes when `table` bytes more follow it.
+// The remainder of a byte that `table` more zero bytes follow, from the table for this number.
 fn entry(table: usize, byte: u8) -> u32
     requires table { table < 16 }
     ensures { result ≡ steps (8 * (table + 1)) byte }
@@ -19,7 +18,7 @@ fn entry(table: usize, byte: u8) -> u32
     TABLES[table][byte as usize]
 }
 
-/// The remainder after one more byte.
+/// The remainder of some bytes, after one more byte.
 pub(crate) fn after_byte(remainder: u32, byte: u8) -> u32
     ensures { result ≡ spec.crc_byte remainder byte }
 {
@@ -27,7 +26,7 @@ pub(crate) fn after_byte(remainder: u32, byte: u8) -> u32
     entry(0, (mixed % 256) as u8) ^ mixed >> 8
 }
 
-/// What the four bytes of a word become when `later` bytes more follow them.
+// The remainder of the four bytes of a little-endian word that `later` more zero bytes follow.
 fn four_later(word: u32, later: usize) -> u32
     requires later { later ≤ 12 }
     ensures { result ≡ steps (8 * (later + 4)) word }
@@ -39,19 +38,19 @@ fn four_later(word: u32, later: usize) -> u32
         ^ entry(later + 3, first)
 }
 
-/// The remainder after sixteen more bytes.
+// The remainder after sixteen more bytes, as the sum of four words' remainders: the fast loop of `after_bytes`.
 fn after_sixteen(remainder: u32, bytes: &[u8; 16]) -> u32
     ensures { result ≡ fold spec.crc_byte remainder bytes.now }
 {
     let (words, _) = bytes.as_chunks::<4>();
-    // The words that don't hang on the remainder come first: their sum is there before it.
+    // The words that don't depend on the remainder come first, so that their sum doesn't wait for it.
     four_later(u32::from_le_bytes(words[3]), 0)
         ^ four_later(u32::from_le_bytes(words[2]), 4)
         ^ four_later(u32::from_le_bytes(words[1]), 8)
         ^ four_later(remainder ^ u32::from_le_bytes(words[0]), 12)
 }
 
-/// The remainder after some groups of sixteen bytes more.
+// The remainder after more groups of sixteen bytes.
 fn after_groups(remainder: u32, groups: &[[u8; 16]]) -> u32
     ensures { result ≡ fold spec.crc_byte remainder (concat groups.now) }
 {
@@ -62,7 +61,7 @@ fn after_groups(remainder: u32, groups: &[[u8; 16]]) -> u32
     after
 }
 
-/// The remainder after more bytes.
+/// The remainder after more bytes: groups of sixteen first, and then the rest byte by byte.
 pub(crate) fn after_bytes(remainder: u32, bytes: &[u8]) -> u32
     ensures { result ≡ fold spec.crc_byte remainder bytes.now }
 {
@@ -85,14 +84,14 @@ pub fn crc32(bytes: &[u8]) -> u32
 // The polynomial 1.
 const ONE: u32 = 0x8000_0000;
 
-/// The remainder after one zero bit more.
+// The remainder after one more zero bit: the product with x.
 fn step(remainder: u32) -> u32
     ensures { result ≡ spec.crc_step remainder }
 {
     (remainder / 2) ^ (remainder % 2) * 0xEDB8_8320
 }
 
-/// The product of two remainders: where `b` is what zero bits make of 1, it is what they make of `a`.
+/// The product of two remainders. If `b` is 1 with some zero bits after it, this is `a` with as many after it.
 pub(crate) fn multiply(a: u32, b: u32) -> u32
     ensures { (n : ℕ) → b ≡ steps n ONE → result ≡ steps n a }
 {
@@ -103,8 +102,8 @@ pub(crate) fn multiply(a: u32, b: u32) -> u32
     product
 }
 
-/// What `count` zero bytes make of 1.
-pub(crate) fn power(count: u64) -> u32
+/// The remainder of 1 with `count` zero bytes after it, by square and multiply.
+pub(crate) fn power_of_x(count: u64) -> u32
     ensures { result ≡ steps (8 * count) ONE }
 {
     let mut power = ONE;
@@ -117,14 +116,14 @@ pub(crate) fn power(count: u64) -> u32
     power
 }
 
-/// The remainder after `count` zero bytes more.
+// The remainder after `count` more zero bytes, the padding: one product instead of `count` steps.
 fn after_zeros(remainder: u32, count: u64) -> u32
     ensures { result ≡ steps (8 * count) remainder }
 {
-    multiply(remainder, power(count))
+    multiply(remainder, power_of_x(count))
 }
 
-/// The CRC-32 of the slice that the bytes are when zeros fill it up to `s` bytes.
+/// The CRC-32 of the bytes, padded with zeros to `s` bytes, as the checksum of a last slice is.
 pub fn padded_crc32(bytes: &[u8], s: u64) -> u32
     requires { length bytes.now ≤ s }
     ensures { result ≡ spec.crc32 (padded s bytes.now) }

@@ -4,7 +4,7 @@ ghost use Rattle.std.specs.Prelude.{◌≡◌, ◌*◌, ◌<◌, ◌≤◌, leng
 ghost use Rattle.par2_spec.specs.Sets as sets;
 ghost use Rattle.par2_spec.specs.Slices as spec;
 
-/// How many slices a set may have.
+/// The most slices that a set may have. The field has a constant for each.
 pub const MOST_SLICES: u64 = 32768;
 
 /// Whether slices may have this size: a multiple of 4 from 4 to 2^30.
@@ -14,7 +14,7 @@ pub fn is_slice_size(size: u64) -> bool
     size % 4 == 0 && 4 <= size && size <= 1 << 30
 }
 
-/// How many slices of `s` bytes a file of `len` bytes has.
+/// The number of slices of `s` bytes that a file of `len` bytes has; the last one may be shorter.
 pub fn slice_count(len: u64, s: u64) -> u64
     requires { 1 ≤ s }
     ensures { result ≡ spec.slice_count s len }
@@ -22,7 +22,8 @@ pub fn slice_count(len: u64, s: u64) -> u64
     len.div_ceil(s)
 }
 
-/// The bytes of the file in its slice `j`: fewer than `s` where the slice is the last one and padded.
+/// The bytes of the file in its slice `j`. The last slice may have fewer than `s`, because its padding isn't in the
+/// file.
 pub fn slice_bytes(bytes: &[u8], s: u64, j: u64) -> &[u8]
     requires size { 1 ≤ s }
     requires place { j < spec.slice_count s (length bytes.now) }
@@ -32,7 +33,7 @@ pub fn slice_bytes(bytes: &[u8], s: u64, j: u64) -> &[u8]
     window_bytes(bytes, s, (j * s) as usize)
 }
 
-/// The bytes of the file in its window at `offset`: fewer than `s` at the end of the file.
+/// The bytes of the file in its window at `offset`. At the end of the file they may be fewer than `s`.
 pub fn window_bytes(bytes: &[u8], s: u64, offset: usize) -> &[u8]
     requires { offset ≤ length bytes.now }
     ensures { result.now ≡ take s (drop offset bytes.now) }
@@ -45,7 +46,7 @@ pub fn window_bytes(bytes: &[u8], s: u64, offset: usize) -> &[u8]
     }
 }
 
-/// Writes slice `j` of the file into `dst`, with its padding.
+/// Writes slice `j` of the file into `dst`, which has `s` bytes, with its padding. Only tests call it.
 pub fn slice_into(bytes: &[u8], s: u64, j: u64, dst: &mut [u8])
     requires size { 1 ≤ s }
     requires place { j < spec.slice_count s (length bytes.now) }

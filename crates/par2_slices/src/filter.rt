@@ -1,30 +1,31 @@
-//! Which checksums may be wanted still, one bit for all those that have the same high bits and the same low three bits.
+//! A set of checksums that are still searched for, with one bit for all checksums that have the same high bits and the
+//! same low three bits.
 //!
-//! The high bits give the byte, and the low ones the bit in it. A search looks there for each offset, mostly whether the
-//! byte is zero: that takes three steps, and a look at the bit five. Few bytes stay near the processor, and into many
-//! bytes few offsets fall that are looked at for nothing; so there are an eighth of a MiB for some pairs and half a MiB
-//! for many.
+//! The high bits give the byte, and the low ones the bit in it. A search tests for each offset, mostly just whether the
+//! byte is zero: that takes three steps, and testing the bit takes five. A small table stays in the nearest cache, and
+//! a large one has fewer false hits; so it has 128 KiB for few pairs and 512 KiB for many.
 //!
-//! A filter is exactly the set of groups that were added and not taken away. A search keeps a group exactly as long as a
-//! pair of it has no answer.
+//! A filter is exactly the set of groups that were added and not removed. A search keeps a group exactly as long as a
+//! pair of it isn't found.
 
 ghost use Rattle.std.specs.Prelude.{◌≡◌, ◌≤◌, ◌%◌, ◌<◌, ◌↔◌, ◌⊎◌, ℕ, IfOk, IsTrue, slice_index};
 ghost use Rattle.std.specs.Int.{bit_at};
-ghost use Rattle.par2_slices.specs.Filters.{AreAlike, Marks};
+ghost use Rattle.par2_slices.specs.Filters.{AreAlike, Includes};
 
 use par2_spec::Result;
 use std::alloc::Global;
 use std::marker::Model;
 
-/// How many low bits the checksums of a byte may differ in, where there are few pairs and where there are many.
+/// In how many low bits the checksums of a byte may differ, for few pairs and for many.
 pub(crate) const FEW: u32 = 15;
 
 pub(crate) const MANY: u32 = 13;
 
-/// The most pairs that are few.
+// The most pairs that count as few.
 const MOST_FEW: usize = 2048;
 
-/// A set of groups of checksums; a group is those that have the same bits from `shift` on and the same low three bits.
+/// A set of groups of checksums. The checksums of a group have the same bits from `shift` on and the same low three
+/// bits.
 #[derive(Drop)]
 pub(crate) struct Filter {
     shift: u32,
@@ -42,9 +43,9 @@ impl Model for Filter {
 }
 
 impl Filter {
-    /// No group, for the checksums of so many pairs.
+    /// The empty set, for the checksums of this many pairs.
     pub(crate) fn new(alloc: Global, pairs: usize) -> Result<Filter>
-        ensures empty { IfOk result (λ filter. (crc : ℕ) → ¬ (Marks filter crc)) }
+        ensures empty { IfOk result (λ filter. (crc : ℕ) → ¬ (Includes filter crc)) }
         ensures fine { IfOk result (λ filter. filter.shift ≤ 17) }
     {
         let (shift, bytes) = if pairs > MOST_FEW {
@@ -58,52 +59,52 @@ impl Filter {
         })
     }
 
-    /// Whether checksums are of one group.
+    /// Whether the checksums are of one group, so that the filter doesn't distinguish them.
     pub(crate) fn are_alike(&self, crc: u32, other: u32) -> bool
         ensures { IsTrue result ↔ AreAlike self.now.shift crc other }
     {
         other >> self.shift == crc >> self.shift && other % 8 == crc % 8
     }
 
-    /// Adds the group of `crc`.
+    /// Adds the group of `crc`, and so each checksum of it. `Includes`: the group of a checksum is in the set.
     pub(crate) fn insert(&mut self, crc: u32)
         ensures shift { self.new.shift ≡ self.old.shift }
-        ensures marked { Marks self.new crc }
-        ensures kept { (other : ℕ) → Marks self.old other → Marks self.new other }
-        ensures only { (other : ℕ) → Marks self.new other
-            → AreAlike self.old.shift crc other ⊎ Marks self.old other }
+        ensures included { Includes self.new crc }
+        ensures kept { (other : ℕ) → Includes self.old other → Includes self.new other }
+        ensures only { (other : ℕ) → Includes self.new other
+            → AreAlike self.old.shift crc other ⊎ Includes self.old other }
     {
         self.bytes[(crc >> self.shift) as usize] |= 1 << (crc % 8);
     }
 
-    /// Takes the group of `crc` away.
+    /// Removes the group of `crc`, when no open pair has a checksum of it any more.
     pub(crate) fn remove(&mut self, crc: u32)
         ensures shift { self.new.shift ≡ self.old.shift }
-        ensures gone { ¬ (Marks self.new crc) }
+        ensures gone { ¬ (Includes self.new crc) }
         ensures kept { (other : ℕ) → ¬ (AreAlike self.old.shift crc other)
-            → Marks self.old other → Marks self.new other }
-        ensures only { (other : ℕ) → Marks self.new other → Marks self.old other }
+            → Includes self.old other → Includes self.new other }
+        ensures only { (other : ℕ) → Includes self.new other → Includes self.old other }
     {
         self.bytes[(crc >> self.shift) as usize] &= !(1 << (crc % 8));
     }
 
-    /// The byte of the group of `crc`.
+    // The byte in which the group of `crc` has its bit. `shift` is the filter's; some callers know it as a constant.
     #[inline(always)]
     fn byte_at(&self, crc: u32, shift: u32) -> u8
         requires { shift ≡ self.now.shift }
-        ensures { bit_at result (crc % 8) ≡ 1 ↔ Marks self.now crc }
+        ensures { bit_at result (crc % 8) ≡ 1 ↔ Includes self.now crc }
     {
         self.bytes[(crc >> shift) as usize]
     }
 
     /// Whether the group of `crc` is in the set.
     pub(crate) fn contains(&self, crc: u32) -> bool
-        ensures { IsTrue result ↔ Marks self.now crc }
+        ensures { IsTrue result ↔ Includes self.now crc }
     {
         (self.byte_at(crc, self.shift) >> (crc % 8)) % 2 == 1
     }
 
-    /// Whether it is for many pairs.
+    /// Whether the filter is for many pairs. This decides its shift, and so the constant for `may_contain_any`.
     pub(crate) fn is_for_many(&self) -> bool
         ensures many { IsTrue result → self.now.shift ≡ 13 }
         ensures few { ¬ (IsTrue result) → self.now.shift ≡ 15 }
@@ -111,12 +112,12 @@ impl Filter {
         self.shift == MANY
     }
 
-    /// Whether the group of one of four may be in the set: it or another group of its byte is.
-    // All four are looked up before there is a test, since hardly any is in the set.
+    /// Whether the group of one of the four may be in the set: true if any group of its byte is.
+    // All four are looked up before the test, because hardly any is in the set.
     #[inline(always)]
     pub(crate) fn may_contain_any<const SHIFT: u32>(&self, crcs: &[u32; 4]) -> bool
         requires { SHIFT ≡ self.now.shift }
-        ensures { (k : ℕ) → k < 4 → Marks self.now (slice_index crcs.now k) → IsTrue result }
+        ensures { (k : ℕ) → k < 4 → Includes self.now (slice_index crcs.now k) → IsTrue result }
     {
         let [first, second, third, fourth] = *crcs;
         let low = self.byte_at(first, SHIFT) | self.byte_at(second, SHIFT);

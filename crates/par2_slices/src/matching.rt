@@ -1,4 +1,4 @@
-//! Whether texts are those of targets, by their lengths and the checksums of their slices; which text is a target's match.
+//! Whether files are intact, by their lengths and the checksums of their slices, and which of the candidates is a target's match.
 
 ghost use Rattle.std.specs.Prelude.{◌≡◌, ◌↔◌, ◌≤◌, ◌<◌, ◌+◌, ℕ, List, All, IfOk, IfSome, IsTrue, length};
 ghost use Rattle.std.specs.List.{range_with_len};
@@ -7,8 +7,8 @@ ghost use Rattle.par2_spec.specs.Search as search;
 ghost use Rattle.par2_spec.specs.Sets as sets;
 ghost use Rattle.par2_spec.specs.Slices as slices;
 ghost use Rattle.par2_slices.specs.Intact.{HaveCrc32s, HaveMd5s};
-ghost use Rattle.par2_slices.specs.Matching.{AreFirst, Describe, Describes, IsFirst, NumbersAreNames, first_intact, matched_numbers, without};
-ghost use Rattle.par2_slices.specs.Texts.{texts_of};
+ghost use Rattle.par2_slices.specs.Matching.{AreFirst, Describe, Describes, IsFirst, NumbersAreNames, first_intact, matched_numbers, without_number};
+ghost use Rattle.par2_slices.specs.Positions.{buffers_of};
 
 use crate::cutting::slice_count;
 use crate::pairs::{Pair, slice_crc32, slice_md5s};
@@ -16,7 +16,7 @@ use par2_md5_lanes::LANES;
 use par2_spec::Result;
 use std::alloc::Global;
 
-/// Whether each pair has the CRC-32 of the slice of its number.
+// Whether each pair j has the CRC-32 of slice j of the file. `is_intact` asks this first.
 fn have_crc32s(bytes: &[u8], s: u64, pairs: &[Pair]) -> bool
     requires size { 1 ≤ s }
     requires count { length pairs.now ≤ slices.slice_count s (length bytes.now) }
@@ -30,7 +30,7 @@ fn have_crc32s(bytes: &[u8], s: u64, pairs: &[Pair]) -> bool
     true
 }
 
-/// Whether `count` pairs from pair `first` on, sixteen at most, have the MD5s of the slices of their numbers.
+// Whether `count` pairs from pair `first` on, at most sixteen, have the MD5s of the slices with their numbers.
 fn group_has_md5s(bytes: &[u8], s: u64, pairs: &[Pair], first: usize, count: usize) -> bool
     requires size { 1 ≤ s }
     requires few { count ≤ 16 }
@@ -47,7 +47,7 @@ fn group_has_md5s(bytes: &[u8], s: u64, pairs: &[Pair], first: usize, count: usi
     true
 }
 
-/// Whether each pair has the MD5 of the slice of its number.
+// Whether each pair j has the MD5 of slice j of the file, sixteen side by side.
 fn have_md5s(bytes: &[u8], s: u64, pairs: &[Pair]) -> bool
     requires size { 1 ≤ s }
     requires count { length pairs.now ≤ slices.slice_count s (length bytes.now) }
@@ -62,8 +62,8 @@ fn have_md5s(bytes: &[u8], s: u64, pairs: &[Pair]) -> bool
     true
 }
 
-/// Whether the bytes are those of a target of this size and these pairs, by their length and the checksums of their
-/// slices.
+/// Whether these are the bytes of a target of this size and these pairs, by their length and the checksums of their
+/// slices of `s` bytes.
 pub fn is_intact(bytes: &[u8], s: u64, size: u64, pairs: &[Pair]) -> bool
     requires { 1 ≤ s }
     ensures { (t : sets.Target) → t.length ≡ size → t.pairs ≡ pairs.now
@@ -74,130 +74,134 @@ pub fn is_intact(bytes: &[u8], s: u64, size: u64, pairs: &[Pair]) -> bool
     }
     let count = pairs.len().min(slice_count(size, s) as usize);
     let pairs = &pairs[..count];
-    // All CRC-32s come first: where bytes are damaged, one of them tells it before any MD5.
+    // All CRC-32s are compared first, because one of them reveals damage before any MD5 is computed.
     have_crc32s(bytes, s, pairs) && have_md5s(bytes, s, pairs)
 }
 
-/// A target, by the length of its file and the checksums of its slices.
+/// A target: the length of its file and the checksums of its slices.
 #[derive(Clone, Copy, Drop)]
 pub struct Target<'a> {
     pub length: u64,
     pub pairs: &'a [Pair],
 }
 
-/// The numbers below `n`.
+// The numbers below `n`: those of all buffers, which are free at first.
 fn numbers_below(alloc: Global, n: usize) -> Result<Vec<usize>>
     ensures { IfOk result (λ numbers. numbers.items ≡ range_with_len 0 n) }
 {
     (0..n).collect(alloc)
 }
 
-// The CRC-32 of a text's first slice, where a target has the length of the text.
-fn first_crc32(text: &[u8], s: u64, targets: &[Target]) -> Option<u32>
+// The CRC-32 of the file's first slice, if some target has the length of the file; otherwise no target needs it.
+fn first_crc32(bytes: &[u8], s: u64, targets: &[Target]) -> Option<u32>
     requires { 1 ≤ s }
-    ensures { IfSome result (IsFirst s text.now) }
+    ensures { IfSome result (IsFirst s bytes.now) }
 {
     for target in targets {
-        if target.length == text.len() as u64 && !text.is_empty() {
-            return Some(slice_crc32(text, s, 0));
+        if target.length == bytes.len() as u64 && !bytes.is_empty() {
+            return Some(slice_crc32(bytes, s, 0));
         }
     }
     None
 }
 
-/// The CRC-32s of the texts' first slices. A text that has the length of many targets is compared with each, and mostly
-/// the first slice tells that it is another.
+// The CRC-32s of the files' first slices. A file that has the length of many targets is compared with each of them,
+// and the first slice mostly shows that they differ.
 fn first_crc32s(
     alloc: Global,
-    texts: &[&[u8]],
+    buffers: &[&[u8]],
     s: u64,
     targets: &[Target],
 ) -> Result<Vec<Option<u32>>>
     requires { 1 ≤ s }
-    ensures { IfOk result (λ firsts. AreFirst s (texts_of texts.now) firsts.items) }
+    ensures { IfOk result (λ firsts. AreFirst s (buffers_of buffers.now) firsts.items) }
 {
-    let firsts = texts.iter().map(|text| first_crc32(text, s, targets));
+    let firsts = buffers.iter().map(|bytes| first_crc32(bytes, s, targets));
     firsts.collect(alloc)
 }
 
-// Whether the text is intact for the target, by the CRC-32 of its first slice where that is known and another.
-fn is_intact_by(text: &[u8], first: Option<u32>, s: u64, target: &Target) -> bool
+// Whether the file is intact for the target. If the CRC-32 of its first slice is known and differs, no other slice is
+// read.
+fn is_intact_by(bytes: &[u8], first: Option<u32>, s: u64, target: &Target) -> bool
     requires size { 1 ≤ s }
-    requires first { IfSome first (IsFirst s text.now) }
-    ensures { (t : sets.Target) → Describes target.now t → result ≡ search.is_intact s t text.now }
+    requires first { IfSome first (IsFirst s bytes.now) }
+    ensures { (t : sets.Target) → Describes target.now t → result ≡ search.is_intact s t bytes.now }
 {
     if let Some(crc) = first {
         if !target.pairs.is_empty() && target.pairs[0].1 != crc {
             return false;
         }
     }
-    is_intact(text, s, target.length, target.pairs)
+    is_intact(bytes, s, target.length, target.pairs)
 }
 
-/// The first of the free texts, by their numbers, that is intact for the target.
+// The number of the first of the free buffers that is intact for the target. `Describes`: a target has this length and
+// these pairs.
 fn first_intact(
-    texts: &[&[u8]],
+    buffers: &[&[u8]],
     firsts: &[Option<u32>],
     s: u64,
     target: &Target,
     free: &[usize],
 ) -> Option<usize>
     requires size { 1 ≤ s }
-    requires firsts { AreFirst s (texts_of texts.now) firsts.now }
-    requires free { All (λ i. i < length texts.now) free.now }
+    requires firsts { AreFirst s (buffers_of buffers.now) firsts.now }
+    requires free { All (λ i. i < length buffers.now) free.now }
     ensures { (t : sets.Target) → Describes target.now t
-        → result ≡ first_intact s (texts_of texts.now) t free.now }
+        → result ≡ first_intact s (buffers_of buffers.now) t free.now }
 {
     for &i in free {
-        if is_intact_by(texts[i], firsts[i], s, target) {
+        if is_intact_by(buffers[i], firsts[i], s, target) {
             return Some(i);
         }
     }
     None
 }
 
-/// Takes the first of the free texts that is intact for the target.
+// Takes the number of the first of the free buffers that is intact for the target, so that no other target gets it.
 fn take_first(
-    texts: &[&[u8]],
+    buffers: &[&[u8]],
     firsts: &[Option<u32>],
     s: u64,
     target: &Target,
     free: &mut Vec<usize>,
 ) -> Option<usize>
+    // Each free number is that of a buffer, and `firsts` has the CRC-32s of the first slices.
     requires size { 1 ≤ s }
-    requires firsts { AreFirst s (texts_of texts.now) firsts.now }
-    requires free { All (λ i. i < length texts.now) free.old.items }
-    ensures free { All (λ i. i < length texts.now) free.new.items }
+    requires firsts { AreFirst s (buffers_of buffers.now) firsts.now }
+    requires free { All (λ i. i < length buffers.now) free.old.items }
+    // It returns the first free buffer that is intact for the target, and removes it from `free`.
+    ensures free { All (λ i. i < length buffers.now) free.new.items }
     ensures first { (t : sets.Target) → Describes target.now t
-        → result ≡ first_intact s (texts_of texts.now) t free.old.items }
-    ensures left { free.new.items ≡ without result free.old.items }
+        → result ≡ first_intact s (buffers_of buffers.now) t free.old.items }
+    ensures left { free.new.items ≡ without_number result free.old.items }
 {
-    let first = first_intact(texts, firsts, s, target, free)?;
+    let first = first_intact(buffers, firsts, s, target, free)?;
     free.retain(move |&i| i != first);
     Some(first)
 }
 
-/// For each target, in order, the number of the first text that is intact for it; each text is given once.
+/// For each target, in order, the number of the first buffer that is intact for it. Each buffer is used once.
 pub fn matched(
     alloc: Global,
-    texts: &[&[u8]],
+    buffers: &[&[u8]],
     s: u64,
     targets: &[Target],
 ) -> Result<Vec<Option<usize>>>
     requires { 1 ≤ s }
     ensures { IfOk result (λ numbers. (ts : List sets.Target) → Describe targets.now ts
-        → numbers.items ≡ matched_numbers s (texts_of texts.now) ts) }
+        → numbers.items ≡ matched_numbers s (buffers_of buffers.now) ts) }
 {
-    let firsts = first_crc32s(alloc, texts, s, targets)?;
-    let mut free = numbers_below(alloc, texts.len())?;
+    let firsts = first_crc32s(alloc, buffers, s, targets)?;
+    let mut free = numbers_below(alloc, buffers.len())?;
     let mut numbers = Vec::with_capacity(alloc, targets.len())?;
     for target in targets {
-        numbers.push(take_first(texts, &firsts, s, target, &mut free))?;
+        numbers.push(take_first(buffers, &firsts, s, target, &mut free))?;
     }
     Ok(numbers)
 }
 
-/// Where texts have distinct names, the matches by the numbers of the texts are those by their names.
+/// For the prover: if names are distinct, the matches by the numbers of their files are those by their names.
 pub fn matches_by_number_are_by_name()
     ensures { (folder : Folder) (s : ℕ) (names : List (List ℕ)) (ts : List sets.Target)
         → NumbersAreNames folder s names ts }

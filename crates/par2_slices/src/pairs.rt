@@ -1,4 +1,5 @@
-//! The checksums of the slices of a file, sixteen side by side.
+//! The checksums of the slices of a file: `pairs_of` computes the MD5s of sixteen slices side by side, and their
+//! CRC-32s one by one.
 
 ghost use Rattle.std.specs.Prelude.{◌≡◌, ◌≤◌, ◌<◌, ◌+◌, ◌-◌, ◌*◌, ◌^◌, ◌++◌, min, ℕ, IfOk, OnOk, length, map, slice_index};
 ghost use Rattle.md5.specs.Md5.{Holds, md5};
@@ -15,12 +16,14 @@ use par2_spec::Result;
 use std::alloc::Global;
 use std::array;
 
-/// The checksums of a slice: its MD5, then its CRC-32.
+/// The checksums of a slice: its MD5 and its CRC-32 (Parity Volume Set Specification 2.0, "Input File Slice Checksum
+/// packet").
 pub type Pair = ([u8; 16], u32);
 
+// The padding, absorbed in pieces of this size.
 static ZEROS: [u8; 1024] = [0; 1024];
 
-/// The MD5 of the slice that the bytes are when zeros fill it up to `s` bytes.
+/// The MD5 of the bytes, padded with zeros to `s` bytes.
 pub fn padded_md5(bytes: &[u8], s: u64) -> [u8; 16]
     requires { length bytes.now ≤ s }
     ensures { result ≡ md5 (padded s bytes.now) }
@@ -35,7 +38,7 @@ pub fn padded_md5(bytes: &[u8], s: u64) -> [u8; 16]
     hasher.finalize()
 }
 
-/// The checksums of the slice that the bytes are when zeros fill it up to `s` bytes.
+/// The checksums of the bytes, padded with zeros to `s` bytes. Only tests and benchmarks call it.
 pub fn pair_of(bytes: &[u8], s: u64) -> Pair
     requires { length bytes.now ≤ s }
     ensures { result ≡ checksums.pair_of (padded s bytes.now) }
@@ -43,7 +46,7 @@ pub fn pair_of(bytes: &[u8], s: u64) -> Pair
     (padded_md5(bytes, s), padded_crc32(bytes, s))
 }
 
-/// The CRC-32 of slice `j`.
+/// The CRC-32 of slice `j` of a file, with its padding.
 pub(crate) fn slice_crc32(bytes: &[u8], s: u64, j: u64) -> u32
     requires size { 1 ≤ s }
     requires place { j < slice_count s (length bytes.now) }
@@ -51,14 +54,14 @@ pub(crate) fn slice_crc32(bytes: &[u8], s: u64, j: u64) -> u32
 {
     let slice = slice_bytes(bytes, s, j);
     if slice.len() as u64 == s {
-        // Sooner than with padding, which takes time even where there is none.
+        // This is faster than with padding, which takes time even if there is none.
         crc32(slice)
     } else {
         padded_crc32(slice, s)
     }
 }
 
-/// Where `count` slices begin, of which the first is slice `first`; the last of them again in the lanes that are left.
+// The offsets of `count` slices of `s` bytes from slice `first` on, for each lane. Unused lanes repeat the last one.
 fn starts_from(first: usize, count: usize, s: usize) -> [usize; LANES]
     requires some { 1 ≤ count }
     requires last { first + count < 2 ^ 64 }
@@ -68,7 +71,7 @@ fn starts_from(first: usize, count: usize, s: usize) -> [usize; LANES]
     array::from_fn(|lane| (first + lane.min(count - 1)) * s)
 }
 
-/// The MD5s of `count` whole slices, sixteen at most, of which the first is slice `first`, side by side.
+// The MD5s of `count` whole slices from slice `first` on, at most sixteen, side by side.
 fn whole_md5s(bytes: &[u8], s: usize, first: usize, count: usize) -> [[u8; 16]; LANES]
     requires size { 1 ≤ s }
     requires few { count ≤ 16 }
@@ -81,7 +84,8 @@ fn whole_md5s(bytes: &[u8], s: usize, first: usize, count: usize) -> [[u8; 16]; 
     window_digests(bytes, &starts_from(first, count, s), count, s)
 }
 
-/// The MD5s of `count` slices, sixteen at most, of which the first is slice `first`.
+/// The MD5s of `count` slices from slice `first` on, at most sixteen, each with its padding. Other lanes have no
+/// meaning.
 pub(crate) fn slice_md5s(bytes: &[u8], s: u64, first: usize, count: usize) -> [[u8; 16]; LANES]
     requires size { 1 ≤ s }
     requires few { count ≤ 16 }
@@ -98,13 +102,16 @@ pub(crate) fn slice_md5s(bytes: &[u8], s: u64, first: usize, count: usize) -> [[
     md5s
 }
 
-/// Adds the checksums of `count` slices, sixteen at most, to those of the slices before them.
+// Appends the checksums of `count` slices from slice `first` on, at most sixteen, to those of the slices before them.
 fn push_group(pairs: &mut Vec<Pair>, bytes: &[u8], s: u64, first: usize, count: usize) -> Result<()>
+    // The pairs are those of the slices before `first`.
     requires before { pairs.old.items ≡ first_pairs s bytes.now first }
+    // The file has these slices, and they are at most as many as there are MD5 lanes.
     requires size { 1 ≤ s }
     requires few { count ≤ 16 }
     requires fits { first + count < 2 ^ 64 }
     requires slices { first + count ≤ slice_count s (length bytes.now) }
+    // Afterwards the pairs are those of the slices before `first + count`.
     ensures { OnOk result (pairs.new.items ≡ first_pairs s bytes.now (first + count)) }
 {
     let md5s = slice_md5s(bytes, s, first, count);
@@ -114,7 +121,7 @@ fn push_group(pairs: &mut Vec<Pair>, bytes: &[u8], s: u64, first: usize, count: 
     Ok(())
 }
 
-/// The checksums of the slices of a file.
+/// The checksums of the slices of `s` bytes of a file, in order. An error is that memory ran out.
 pub fn pairs_of(alloc: Global, bytes: &[u8], s: u64) -> Result<Vec<Pair>>
     requires { 1 ≤ s }
     ensures { IfOk result (λ pairs. pairs.items ≡ map checksums.pair_of (slices s bytes.now)) }

@@ -1,4 +1,5 @@
-//! The CRC-32 of a window that moves along a file.
+//! The CRC-32 of a window that slides along a file. A search keeps the CRC-32s itself, and computes each from the one
+//! before it by `slid`.
 
 ghost use Rattle.std.specs.Prelude.{◌≡◌, ◌≤◌, ◌<◌, ◌+◌, ◌*◌, ◌++◌, ◌∷◌, [], List, ℕ, IfOk, length, slice_index};
 ghost use Rattle.par2_spec.specs.Checksums as spec;
@@ -6,12 +7,12 @@ ghost use Rattle.par2_spec.specs.Slices.{padded};
 ghost use Rattle.par2_slices.specs.Rolls.{after_slide, leaving};
 ghost use Rattle.par2_slices.specs.Steps.{steps};
 
-use crate::checksum::{after_byte, crc32, multiply, padded_crc32, power};
+use crate::checksum::{after_byte, crc32, multiply, padded_crc32, power_of_x};
 use par2_spec::Result;
 use std::alloc::Global;
 use std::marker::Model;
 
-/// The CRC-32 of a window of a fixed size, which moves on by a byte at a time in a constant number of steps.
+/// The CRC-32 of a window of fixed size. Sliding it by a byte takes a constant number of steps.
 #[derive(Drop)]
 pub struct Rolling {
     size: u64,
@@ -30,12 +31,12 @@ impl Model for Rolling {
     ghost invariant = { λ a. (1 ≤ a.size) × IsLeaving a.size a.leaving.value };
 }
 
-/// What each byte adds to the checksum when it leaves a window of `s` bytes.
+// For each byte, what it adds to the checksum when it leaves a window of `s` bytes.
 fn leaving_table(s: u64) -> [u32; 256]
     ensures { (byte : ℕ) → byte < 256 → slice_index result byte ≡ leaving s byte }
 {
     let none = crc32(&[0]);
-    let zeros = power(s);
+    let zeros = power_of_x(s);
     let mut table = [0; 256];
     for byte in 0..256usize {
         table[byte] = multiply(crc32(&[byte as u8]), zeros) ^ none;
@@ -44,7 +45,7 @@ fn leaving_table(s: u64) -> [u32; 256]
 }
 
 impl Rolling {
-    /// For windows of `s` bytes. Before `start` the value is 0, that of no bytes.
+    /// For windows of `s` bytes. Before `start` the value is 0, the CRC-32 of no bytes.
     pub fn new(alloc: Global, s: u64) -> Result<Rolling>
         requires { 1 ≤ s }
         ensures size { IfOk result (λ rolling. rolling.size ≡ s) }
@@ -57,7 +58,7 @@ impl Rolling {
         })
     }
 
-    /// The size of the windows.
+    /// The size of the windows in bytes.
     pub(crate) fn size(&self) -> u64
         ensures value { result ≡ self.now.size }
         ensures some { 1 ≤ result }
@@ -65,7 +66,8 @@ impl Rolling {
         self.size
     }
 
-    /// Begins at a window. A shorter one is padded with zeros.
+    /// Begins at a window: computes its CRC-32. A window shorter than the size is padded with zeros. Only tests call
+    /// it.
     pub fn start(&mut self, window: &[u8])
         requires { length window.now ≤ self.old.size }
         ensures size { self.new.size ≡ self.old.size }
@@ -75,7 +77,8 @@ impl Rolling {
         self.value = padded_crc32(window, self.size);
     }
 
-    /// Moves the window on by a byte: `out` leaves it in front, `next` comes in at the end.
+    /// Slides the window by a byte: `out` leaves it at the front, `next` enters at the end. Only tests call it; a
+    /// search calls `slid`.
     pub fn slide(&mut self, out: u8, next: u8)
         ensures size { self.new.size ≡ self.old.size }
         ensures value { (rest : List ℕ) → length rest + 1 ≡ self.old.size → self.old.value
@@ -84,7 +87,8 @@ impl Rolling {
         self.value = self.slid(self.value, out, next);
     }
 
-    /// The value after one slide of a window whose value is `value`.
+    /// The CRC-32 after one slide of a window whose CRC-32 is `value`: `out` leaves it, `next` enters. Its own value
+    /// isn't used, so that four windows can slide side by side.
     #[inline(always)]
     pub(crate) fn slid(&self, value: u32, out: u8, next: u8) -> u32
         ensures { result ≡ after_slide self.now.size value out next }
@@ -92,7 +96,7 @@ impl Rolling {
         after_byte(value, next) ^ self.leaving[out as usize]
     }
 
-    /// The CRC-32 of the window.
+    /// The CRC-32 of the window where it is now. Only tests call it.
     pub fn value(&self) -> u32
         ensures { result ≡ self.now.value }
     {

@@ -1,7 +1,7 @@
-//! Windows of four stretches of a text, side by side.
+//! Windows of four stretches of a file, side by side.
 //!
-//! Each CRC-32 of a window waits for that of the window before it. Four that don't wait for each other take half of the
-//! time of one after the other.
+//! The CRC-32 of a window depends on that of the window before it. Four independent ones take half the time of four in
+//! sequence.
 
 ghost use Rattle.std.specs.Prelude.{◌≡◌, ◌≤◌, ◌<◌, ◌+◌, ◌*◌, ℕ, length, slice_index};
 ghost use Rattle.par2_spec.specs.Checksums as spec;
@@ -13,14 +13,14 @@ use crate::checksum::crc32;
 use crate::cutting::window_bytes;
 use crate::rolling::Rolling;
 
-/// The windows that are `at` bytes into each of four stretches, by their CRC-32s.
+/// The windows at `at` bytes into each of four stretches, by their CRC-32s.
 #[derive(Clone, Copy, Default, Drop)]
 pub(crate) struct Row {
     pub(crate) at: usize,
     pub(crate) crcs: [u32; 4],
 }
 
-/// The CRC-32 of the window at an offset.
+// The CRC-32 of the window of `s` bytes at an offset. The window lies in the buffer.
 fn crc_at(bytes: &[u8], s: u64, offset: usize) -> u32
     requires { offset + s ≤ length bytes.now }
     ensures { result ≡ spec.crc32 (window s bytes.now offset) }
@@ -28,7 +28,7 @@ fn crc_at(bytes: &[u8], s: u64, offset: usize) -> u32
     crc32(window_bytes(bytes, s, offset))
 }
 
-/// The first row of stretches of `LEN` offsets, from `start` on.
+/// The CRC-32s of the first windows of four stretches of `LEN` offsets each, from offset `start` on: the first row.
 pub(crate) fn first_crcs<const LEN: usize>(bytes: &[u8], s: u64, start: usize) -> [u32; 4]
     requires { start + 3 * LEN + s ≤ length bytes.now }
     ensures { AreCrcs s bytes.now start LEN 0 result }
@@ -41,8 +41,8 @@ pub(crate) fn first_crcs<const LEN: usize>(bytes: &[u8], s: u64, start: usize) -
     ]
 }
 
-/// The CRC-32s of the row after this one. `outs` begins where the first stretch does, `nexts` a window later.
-// The length of a stretch is known when this is compiled, so one register is enough for the bytes of all four.
+/// The CRC-32s of the row after this one. `outs` begins where the first stretch does, and `nexts` a window later.
+// The length of a stretch is a constant, so that one register addresses the bytes of all four.
 #[inline(always)]
 pub(crate) fn next_crcs<const LEN: usize>(
     rolling: &Rolling,

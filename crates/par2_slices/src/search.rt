@@ -1,4 +1,6 @@
-//! The search for slices in a file by their checksums.
+//! The search for slices in files by their checksums. A pair is open until it is found. `find_among` searches one
+//! buffer after the other (`search_bytes`): windows of long buffers by four stretches side by side, the rest one by
+//! one. A window whose CRC-32 an open pair has becomes a candidate of the batch, whose MD5s are compared later.
 
 ghost use Rattle.std.specs.Prelude.{None, option_map, ◌≡◌, ◌≤◌, ◌<◌, ◌+◌, ◌*◌, ◌⊎◌, ◌↔◌, [], ℕ, List, IfOk, IfSome, IsTrue, length, map, drop, slice_index};
 ghost use Rattle.std.specs.List.{count_by};
@@ -6,33 +8,33 @@ ghost use Rattle.std.specs.Option.{is_none};
 ghost use Rattle.par2_spec.specs.Answers.{Lists};
 ghost use Rattle.par2_spec.specs.Checksums.{crc32};
 ghost use Rattle.par2_spec.specs.Windows.{first_match, window};
-ghost use Rattle.par2_slices.specs.Rows.{AreRows};
+ghost use Rattle.par2_slices.specs.Rows.{AreCandidateRows};
 ghost use Rattle.par2_slices.specs.Scans.{crc_of, after_candidates, AreWindows, IsSearching, IsTallied, IsWhole};
-ghost use Rattle.par2_slices.specs.Searches.{after_window, candidate_at, has_checksums, is_awaited, answer_at, pair_at, place_at, first_spot, AreOpen, ArePlaces, HaveAnswers, IsWaiting};
+ghost use Rattle.par2_slices.specs.Searches.{after_window, candidate_at, has_checksums, is_awaited, answer_at, pair_at, pair_place_at, first_position, AreOpen, ArePlaces, HaveAnswers, IsWaiting};
 
-use crate::batch::{Candidate, Spot, digests};
+use crate::batch::{Candidate, Position, batch_md5s};
 use crate::checksum::padded_crc32;
 use crate::filter::{FEW, Filter, MANY};
 use crate::pairs::{Pair, padded_md5};
 use crate::rolling::Rolling;
 use crate::rows::{Row, first_crcs, next_crcs};
 use crate::scan::Scan;
-use crate::wanted_pairs::{Place, Wanted};
+use crate::wanted_pairs::{PairPlace, Wanted};
 use arrayvec::ArrayVec;
 use par2_md5_lanes::LANES;
 use par2_spec::Result;
 use std::alloc::Global;
 
-/// How many pairs of the group have this CRC-32 and no answer yet.
-fn awaited(group: &[Place], crc: u32, found: &[Option<Spot>]) -> usize
+// How many open pairs of the group have this CRC-32. `found` has the position of each pair, None while it is open.
+fn awaited(group: &[PairPlace], crc: u32, found: &[Option<Position>]) -> usize
     ensures { result ≡ count_by (is_awaited crc found.now) group.now }
 {
     let awaited = group.iter().filter(|place| place.is_awaited(crc, found));
     awaited.count()
 }
 
-/// Whether a pair of the group whose CRC-32 the filter doesn't tell from this one has no answer yet.
-fn is_waiting(group: &[Place], crc: u32, found: &[Option<Spot>], filter: &Filter) -> bool
+// Whether an open pair of the group has a CRC-32 that shares a bit of the filter with this one. Then the bit must stay.
+fn is_waiting(group: &[PairPlace], crc: u32, found: &[Option<Position>], filter: &Filter) -> bool
     ensures { IsTrue result ↔ IsWaiting filter.now.shift group.now crc found.now }
 {
     group.iter().any(|place| {
@@ -40,7 +42,7 @@ fn is_waiting(group: &[Place], crc: u32, found: &[Option<Spot>], filter: &Filter
     })
 }
 
-/// Whether no candidate has this CRC-32.
+// Whether no candidate of the batch has this CRC-32.
 fn is_new(candidates: &[Candidate], crc: u32) -> bool
     ensures { IsTrue result ↔ ((k : ℕ) → k < length candidates.now
         → ¬ ((candidate_at candidates.now k).crc ≡ crc)) }
@@ -48,17 +50,18 @@ fn is_new(candidates: &[Candidate], crc: u32) -> bool
     candidates.iter().all(|candidate| candidate.crc != crc)
 }
 
-/// Gives each pair that has these checksums and no answer yet the candidate's spot, and counts them.
-fn settle(
+// Records the candidate's position for each open pair that has the candidate's CRC-32 and this MD5, and counts these
+// pairs. `after_window`: an open pair gets the position if it matches, and a found one keeps its own.
+fn answer_pairs(
     wanted: &Wanted,
     candidate: Candidate,
     md5: &[u8; 16],
-    found: &mut Vec<Option<Spot>>,
+    found: &mut Vec<Option<Position>>,
 ) -> usize
     requires { length found.old.items ≡ length wanted.now }
     ensures each { (i : ℕ) → i < length wanted.now → answer_at found.new.items i
         ≡ after_window (has_checksums md5.now candidate.crc (pair_at wanted.now i))
-        candidate.spot
+        candidate.position
         (answer_at found.old.items i) }
     ensures len { length found.new.items ≡ length found.old.items }
     ensures count { result + count_by is_none found.new.items ≡ count_by is_none found.old.items }
@@ -67,22 +70,23 @@ fn settle(
     let mut count = 0;
     for place in wanted.group(candidate.crc) {
         if place.is_awaited(candidate.crc, found) && *md5 == pairs[place.index].0 {
-            found[place.index] = Some(candidate.spot);
+            found[place.index] = Some(candidate.position);
             count += 1;
         }
     }
     count
 }
 
-/// How many rows of four stretches may hold wanted windows: twice as many as they hold slices.
+// The most rows of four stretches that may hold windows looked for: twice the number of slices that the stretches
+// hold.
 const MOST_ROWS: usize = 512;
 
-/// A search under way: the answers so far, how many are open, which checksums these have, and a batch of windows that
-/// are still to be compared. `awaited` is how many open pairs have the checksums of these: it decides when the batch is
-/// settled, which changes no answer, and so no clause speaks of it.
+// A search in progress: the positions found, the number of open pairs, the filter of their checksums, and a batch of
+// windows still to be compared. `awaited` counts the open pairs that have the checksums of the batch. It only decides
+// when the batch is compared, which changes no result, so no clause mentions it.
 #[derive(Drop)]
 struct Search {
-    found: Vec<Option<Spot>>,
+    found: Vec<Option<Position>>,
     left: usize,
     filter: Filter,
     batch: ArrayVec<Candidate, LANES>,
@@ -90,7 +94,7 @@ struct Search {
 }
 
 impl Search {
-    /// Before the first text.
+    // A search before the first buffer: all pairs are open, and their CRC-32s are in the filter.
     fn new(alloc: Global, wanted: &Wanted) -> Result<Search>
         ensures tally { IfOk result (λ search. IsTallied wanted.now search) }
         ensures open { IfOk result (λ search. AreOpen search.found.items) }
@@ -110,38 +114,42 @@ impl Search {
         })
     }
 
-    /// Whether each pair has an answer.
+    // Whether each pair is found.
     fn is_finished(&self) -> bool
         ensures { IsTrue result ↔ self.now.left ≡ 0 }
     {
         self.left == 0
     }
 
-    /// Gives the pairs that have these checksums and no answer yet the candidate's offset.
+    // Records the candidate's position for the open pairs that have its CRC-32 and this MD5, and removes the CRC-32
+    // from the filter if no open pair shares its bit. `IsTallied`: the count and the filter are those of the open
+    // pairs.
     fn answer(&mut self, wanted: &Wanted, candidate: Candidate, md5: &[u8; 16])
         requires { IsTallied wanted.now self.old }
         ensures tally { IsTallied wanted.now self.new }
         ensures each { (i : ℕ) → i < length wanted.now → answer_at self.new.found.items i
             ≡ after_window (has_checksums md5.now candidate.crc (pair_at wanted.now i))
-            candidate.spot
+            candidate.position
             (answer_at self.old.found.items i) }
         ensures batch { self.new.batch.items ≡ self.old.batch.items }
     {
-        self.left -= settle(wanted, candidate, md5, &mut self.found);
+        self.left -= answer_pairs(wanted, candidate, md5, &mut self.found);
         let crc = candidate.crc;
         if !is_waiting(wanted.group(crc), crc, &self.found, &self.filter) {
             self.filter.remove(crc);
         }
     }
 
-    /// Compares the candidates of the batch, in the order of their offsets, and empties it.
-    fn settle_batch(&mut self, scan: &Scan)
+    // Compares the candidates of the batch with the open pairs by their MD5s, in the order of their offsets, and
+    // empties it.
+    fn compare_batch(&mut self, scan: &Scan)
         requires tally { IsTallied scan.now.wanted.now self.old }
         requires candidates { AreWindows scan.now self.old.batch.items }
         ensures tally { IsTallied scan.now.wanted.now self.new }
         ensures each { (i : ℕ) → i < length scan.now.wanted.now → answer_at self.new.found.items i
             ≡ after_candidates scan.now
-            (pair_at scan.now.wanted.now i) self.old.batch.items (answer_at self.old.found.items i) }
+            (pair_at scan.now.wanted.now i) self.old.batch.items
+            (answer_at self.old.found.items i) }
         ensures batch { self.new.batch.items ≡ [] }
     {
         if self.batch.is_empty() {
@@ -150,15 +158,14 @@ impl Search {
         let batch = self.batch.take();
         self.awaited = 0;
         let candidates = batch.as_slice();
-        let digests = digests(scan.bytes, scan.rolling.size(), candidates);
+        let digests = batch_md5s(scan.bytes, scan.rolling.size(), candidates);
         for (k, &candidate) in candidates.iter().enumerate() {
             self.answer(scan.wanted, candidate, &digests[k]);
         }
     }
 
-    /// Settles a full batch, one that has a candidate of this CRC-32, and each one before a window that reaches past the
-    /// end of the file.
-    // Of windows of one CRC-32 the first mostly answers each pair that waits for it: then the others need no MD5.
+    // Compares the batch if it is full, if it has a candidate of this CRC-32, or if the window reaches past the end of
+    // the file. The first window of a CRC-32 mostly matches each open pair of it, and then the others need no MD5.
     fn make_room(&mut self, scan: &Scan, offset: usize, crc: u32)
         requires at { IsSearching scan.now offset self.old }
         requires within { offset < length scan.now.bytes.now }
@@ -167,23 +174,26 @@ impl Search {
         ensures short { ¬ (IsWhole scan.now offset) → self.new.batch.items ≡ [] }
     {
         if !scan.is_whole(offset) || self.batch.is_full() || !is_new(self.batch.as_slice(), crc) {
-            self.settle_batch(scan);
+            self.compare_batch(scan);
         }
     }
 
-    /// Puts the window at `offset`, for which `pairs` open pairs wait, into the batch. One that reaches past the end of the
-    /// file is compared at once, since the batch has whole windows only.
-    fn put(&mut self, scan: &Scan, offset: usize, crc: u32, pairs: usize)
+    // Adds the window at `offset`, whose CRC-32 `pairs` open pairs have, to the batch. A window that reaches past the
+    // end of the file is compared at once, because the batch has whole windows only.
+    fn add_candidate(&mut self, scan: &Scan, offset: usize, crc: u32, pairs: usize)
+        // The offsets before this one have been searched, and `crc` is that of the window here.
         requires at { IsSearching scan.now offset self.old }
         requires within { offset < length scan.now.bytes.now }
         requires crc { crc ≡ crc_of scan.now offset }
+        // The batch has room, and it is empty if the window reaches past the end.
         requires room { length self.old.batch.items < 16 }
         requires short { ¬ (IsWhole scan.now offset) → self.old.batch.items ≡ [] }
+        // Afterwards this offset has been searched too.
         ensures { IsSearching scan.now (offset + 1) self.new }
     {
-        let text = scan.earlier.len();
-        let spot = Spot { text, offset };
-        let candidate = Candidate { spot, crc };
+        let buffer = scan.earlier.len();
+        let position = Position { buffer, offset };
+        let candidate = Candidate { position, crc };
         if !scan.is_whole(offset) {
             let md5 = padded_md5(scan.window(offset), scan.rolling.size());
             self.answer(scan.wanted, candidate, &md5);
@@ -192,13 +202,14 @@ impl Search {
         self.batch.push(candidate);
         self.awaited = self.awaited.saturating_add(pairs);
         if self.awaited >= self.left {
-            // Each open pair may get its answer now, and then the search need not go on to fill the batch.
-            self.settle_batch(scan);
+            // The batch may match each open pair, and then the search can stop without filling it.
+            self.compare_batch(scan);
         }
     }
 
-    /// Looks at the window at `offset`, whose CRC-32 `crc` is of a marked group.
-    // Few are, and the loop over all offsets is faster without these lines in it.
+    // Takes the search past `offset`: makes its window a candidate if an open pair has the CRC-32 `crc`. The caller
+    // knows that the filter contains `crc`; no clause needs it. These windows are few, and the loop over all offsets is
+    // faster without this code in it.
     #[cold]
     #[inline(never)]
     fn look(&mut self, scan: &Scan, offset: usize, crc: u32)
@@ -210,11 +221,12 @@ impl Search {
         self.make_room(scan, offset, crc);
         let pairs = awaited(scan.wanted.group(crc), crc, &self.found);
         if pairs > 0 {
-            self.put(scan, offset, crc, pairs);
+            self.add_candidate(scan, offset, crc, pairs);
         }
     }
 
-    /// Looks at the window at `offset`, whose CRC-32 is `crc`.
+    // Takes the search past `offset`; looks only if the filter contains `crc`. Its contract is that of `look`, because
+    // a window whose CRC-32 the filter doesn't contain matches no open pair, so that nothing is to be done for it.
     fn test(&mut self, scan: &Scan, offset: usize, crc: u32)
         requires at { IsSearching scan.now offset self.old }
         requires within { offset < length scan.now.bytes.now }
@@ -226,7 +238,7 @@ impl Search {
         }
     }
 
-    /// Whether a pair without an answer has this CRC-32.
+    // Whether an open pair has this CRC-32. `HaveAnswers`: each pair of this CRC-32 is found.
     fn awaits(&self, wanted: &Wanted, crc: u32) -> bool
         requires { IsTallied wanted.now self.now }
         ensures { ¬ (IsTrue result) ↔ HaveAnswers wanted.now self.now.found.items crc }
@@ -234,8 +246,7 @@ impl Search {
         self.filter.contains(crc) && awaited(wanted.group(crc), crc, &self.found) > 0
     }
 
-    /// Whether a pair without an answer has one of these CRC-32s.
-    // Few rows get here, as `look`.
+    // Whether an open pair has one of the CRC-32s of a row. As with `look`, few rows get here.
     #[cold]
     #[inline(never)]
     fn awaits_any(&self, wanted: &Wanted, crcs: [u32; 4]) -> bool
@@ -246,7 +257,8 @@ impl Search {
         crcs.iter().any(|&crc| self.awaits(wanted, crc))
     }
 
-    /// The same rows, by a filter of this shift.
+    // The rows of four stretches in which an open pair may have the CRC-32 of a window, as `rows`, with the filter's
+    // shift as a constant for the loop.
     fn rows_by<const LEN: usize, const SHIFT: u32>(
         &self,
         scan: &Scan,
@@ -255,7 +267,7 @@ impl Search {
         requires shift { SHIFT ≡ self.now.filter.shift }
         requires at { IsSearching scan.now start self.now }
         requires within { IsWhole scan.now (start + 4 * LEN) }
-        ensures { IfSome result (λ rows. AreRows scan.now start LEN LEN rows.items) }
+        ensures { IfSome result (λ rows. AreCandidateRows scan.now start LEN LEN rows.items) }
     {
         let rolling = scan.rolling;
         let outs = &scan.bytes[start..];
@@ -274,12 +286,12 @@ impl Search {
         Some(rows)
     }
 
-    /// The rows of four stretches of `LEN` offsets in which a pair without an answer may have the CRC-32 of a window. None
-    /// where there are more than `MOST_ROWS`.
+    // The rows of four stretches of `LEN` offsets, from `start` on, in which an open pair may have the CRC-32 of a
+    // window. None if there are more than `MOST_ROWS`. A row is the windows at the same distance into each stretch.
     fn rows<const LEN: usize>(&self, scan: &Scan, start: usize) -> Option<ArrayVec<Row, MOST_ROWS>>
         requires at { IsSearching scan.now start self.now }
         requires within { IsWhole scan.now (start + 4 * LEN) }
-        ensures { IfSome result (λ rows. AreRows scan.now start LEN LEN rows.items) }
+        ensures { IfSome result (λ rows. AreCandidateRows scan.now start LEN LEN rows.items) }
     {
         if self.filter.is_for_many() {
             self.rows_by::<LEN, MANY>(scan, start)
@@ -288,12 +300,13 @@ impl Search {
         }
     }
 
-    /// Looks at the windows of stretch `k`, of four of `len` offsets, that stand in the rows: no other is wanted.
+    // Takes the search past stretch `k` of four of `len` offsets: tests the windows of the stretch that are in the
+    // rows. No other window can match an open pair.
     fn test_stretch(&mut self, scan: &Scan, start: usize, rows: &[Row], len: usize, k: usize)
         requires at { IsSearching scan.now (start + k * len) self.old }
         requires stretch { k < 4 }
         requires within { start + 4 * len ≤ length scan.now.bytes.now }
-        requires rows { AreRows scan.now start len len rows.now }
+        requires rows { AreCandidateRows scan.now start len len rows.now }
         ensures { IsSearching scan.now (start + (k + 1) * len) self.new }
     {
         for row in rows {
@@ -301,7 +314,8 @@ impl Search {
         }
     }
 
-    /// Looks at the windows of four stretches of `LEN` offsets, in their order.
+    // Takes the search past four stretches of `LEN` offsets: tests the windows in their candidate rows in the order of
+    // offsets, or all windows one by one if these rows are too many.
     fn search_four<const LEN: usize>(&mut self, scan: &Scan, start: usize)
         requires within { IsWhole scan.now (start + 4 * LEN) }
         requires at { IsSearching scan.now start self.old }
@@ -316,8 +330,8 @@ impl Search {
         }
     }
 
-    /// Looks at windows from `start` on by four stretches of `LEN` offsets, as often as they are whole. Gives the offset
-    /// after them.
+    // Takes the search from `start` on by four stretches of `LEN` offsets at a time, as long as their windows are whole
+    // and `is_fit` allows it. Returns the offset after them.
     fn by_stretches<const LEN: usize>(&mut self, scan: &Scan, start: usize) -> usize
         requires stretch { 1 ≤ LEN }
         requires within { start ≤ length scan.now.bytes.now }
@@ -333,7 +347,7 @@ impl Search {
         offset
     }
 
-    /// Looks at the windows from `start` up to `end`, one by one.
+    // Takes the search from `start` to `end`, window by window. It stops early if each pair is found.
     fn one_by_one(&mut self, scan: &Scan, start: usize, end: usize)
         requires from { start ≤ end }
         requires within { end ≤ length scan.now.bytes.now }
@@ -353,8 +367,8 @@ impl Search {
         }
     }
 
-    /// Searches a text for the pairs without an answer.
-    fn search_text(&mut self, scan: &Scan)
+    // Searches a whole buffer for the open pairs. The batch is empty before and afterwards.
+    fn search_bytes(&mut self, scan: &Scan)
         requires at { IsSearching scan.now 0 self.old }
         requires empty { self.old.batch.items ≡ [] }
         ensures at { IsSearching scan.now (length scan.now.bytes.now) self.new }
@@ -363,7 +377,8 @@ impl Search {
         if self.is_finished() {
             return;
         }
-        // No length is a multiple of a page: the nearest caches would have the same few places for all four stretches.
+        // No length is a multiple of a page; otherwise all four stretches would compete for the same few lines of the
+        // caches.
         let offset = self.by_stretches::<4198464>(scan, 0);
         let offset = self.by_stretches::<1052736>(scan, offset);
         let offset = self.by_stretches::<266304>(scan, offset);
@@ -372,12 +387,13 @@ impl Search {
         let offset = self.by_stretches::<4160>(scan, offset);
         let offset = self.by_stretches::<1088>(scan, offset);
         self.one_by_one(scan, offset, scan.bytes.len());
-        self.settle_batch(scan);
+        self.compare_batch(scan);
     }
 }
 
-/// Whether what is left of a text is searched by four stretches of `len` offsets: they lie in it, with a window after
-/// them; the CRC-32s of their first windows cost less than is won; and each holds at most 64 slices.
+// Whether the rest of a buffer, `left` bytes, is searched by four stretches of `len` offsets, for windows of `s` bytes:
+// the stretches lie in it with a window after them, they save more than the CRC-32s of their first windows cost, and
+// each holds at most 64 slices.
 fn is_fit(left: usize, s: u64, len: usize) -> bool
     ensures { IsTrue result → 4 * len + s ≤ left }
 {
@@ -385,56 +401,57 @@ fn is_fit(left: usize, s: u64, len: usize) -> bool
     is_long && s / 8 <= len as u64 && len as u64 / 64 <= s
 }
 
-/// For each pair the first text with a window of `s` bytes that matches it, zeros standing past the end of the text, and
-/// the least offset of such a window there; None where there is none.
+/// For each pair the first buffer with a window of `s` bytes that matches it, and the least offset of such a window
+/// there; None if there is none. A window that reaches past the end of its buffer is padded with zeros.
 ///
-/// It costs one slide and one look at a filter for each offset, the CRC-32 of eight bytes at most, and an MD5 of `s` bytes
-/// for each window whose CRC is that of a pair without an answer. Up to sixteen of these MD5s are computed side by side,
-/// which takes a fifth of the time or less; where fewer such windows follow each other, an MD5 costs at most what it does
-/// alone. At worst each window has such a CRC and none the MD5: then it costs an MD5 of `s` bytes for each offset, which
-/// only pairs that were made for it lead to. A text costs nothing for the pairs that aren't found in it.
+/// For each offset this takes one slide, one look at a filter and the CRC-32 of at most eight bytes, and for each
+/// window whose CRC-32 is that of an open pair an MD5 of `s` bytes. Up to sixteen of these MD5s are computed side by
+/// side, in a fifth of the time or less; if fewer such windows follow each other, an MD5 costs at most what it does
+/// alone. In the worst case each window has such a CRC-32 and none has the MD5, and each offset costs an MD5 of `s`
+/// bytes. Only pairs made for this lead to it. A buffer costs nothing for the pairs that aren't found in it.
 pub fn find_among(
     alloc: Global,
-    texts: &[&[u8]],
+    buffers: &[&[u8]],
     s: u64,
     wanted: &Wanted,
-) -> Result<Vec<Option<Spot>>>
+) -> Result<Vec<Option<Position>>>
     requires { 1 ≤ s }
-    ensures { Lists (map (first_spot s (map (λ text. text.now) texts.now)) wanted.now) result }
+    ensures { Lists (map (first_position s (map (λ buffer. buffer.now) buffers.now)) wanted.now)
+        result }
 {
     let rolling = Rolling::new(alloc, s)?;
     let mut search = Search::new(alloc, wanted)?;
-    for (text, bytes) in texts.iter().enumerate() {
-        search.search_text(&Scan {
+    for (buffer, bytes) in buffers.iter().enumerate() {
+        search.search_bytes(&Scan {
             wanted,
             rolling: &rolling,
-            earlier: &texts[..text],
+            earlier: &buffers[..buffer],
             bytes,
         });
     }
     Ok(search.found)
 }
 
-/// The offset of a spot.
-fn offset_of(spot: &Option<Spot>) -> Option<usize>
-    ensures { result ≡ option_map (λ spot. spot.offset) spot.now }
+// The offset of a position, which `find` needs because it has only one buffer.
+fn offset_of(position: &Option<Position>) -> Option<usize>
+    ensures { result ≡ option_map (λ position. position.offset) position.now }
 {
-    spot.map(|spot| spot.offset)
+    position.map(|position| position.offset)
 }
 
-/// The offsets of spots.
-fn offsets_of(alloc: Global, spots: &[Option<Spot>]) -> Result<Vec<Option<usize>>>
-    ensures { Lists (map (option_map (λ spot. spot.offset)) spots.now) result }
+// The offsets of positions, for `find`.
+fn offsets_of(alloc: Global, positions: &[Option<Position>]) -> Result<Vec<Option<usize>>>
+    ensures { Lists (map (option_map (λ position. position.offset)) positions.now) result }
 {
-    spots.iter().map(offset_of).collect(alloc)
+    positions.iter().map(offset_of).collect(alloc)
 }
 
-/// For each pair the least offset at which the window of `s` bytes of the text matches it, zeros standing past the end
-/// of the text; None where there is no such offset. It costs what `find_among` does.
+/// For each pair the least offset at which the window of `s` bytes matches it; None if there is none. A window that
+/// reaches past the end is padded with zeros. The cost is that of `find_among`. Only tests call it.
 pub fn find(alloc: Global, bytes: &[u8], s: u64, wanted: &Wanted) -> Result<Vec<Option<usize>>>
     requires { 1 ≤ s }
     ensures { IfOk result (λ offsets. offsets.items ≡ map (first_match s bytes.now) wanted.now) }
 {
-    let spots = find_among(alloc, &[bytes], s, wanted)?;
-    offsets_of(alloc, &spots)
+    let positions = find_among(alloc, &[bytes], s, wanted)?;
+    offsets_of(alloc, &positions)
 }

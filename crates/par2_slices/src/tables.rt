@@ -1,6 +1,7 @@
-//! The tables of the checksum.
+//! The tables of the CRC-32.
 
-/// The entries of a table, from those of the bytes that are a power of two: a checksum of a sum is the sum of theirs.
+/// The entries of a table, from those of the bytes that are a power of two. The checksum is linear, so the entry of a
+/// sum is the sum of the entries.
 macro_rules! table {
     ([$($entry:expr),*]) => { [$($entry),*] };
     ([$($entry:expr),*] $power:literal $($more:literal)*) => {

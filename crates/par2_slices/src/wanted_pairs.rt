@@ -1,43 +1,44 @@
-//! The checksums that a search looks for.
+//! The checksums that a search looks for, with an index by CRC-32: the places of the pairs in groups whose CRC-32s have
+//! the same high bits.
 
 ghost use Rattle.std.specs.Prelude.{◌≡◌, ◌≤◌, ◌<◌, ◌/◌, ◌^◌, ℕ, IfOk, length};
 ghost use Rattle.std.specs.List.Sorted.{IsNonDecreasingBy};
-ghost use Rattle.par2_slices.specs.Searches.{is_awaited, place_at, AreStarts, HoldsGroup, IsIndex, IsStart};
+ghost use Rattle.par2_slices.specs.Searches.{is_awaited, pair_place_at, AreStarts, HoldsGroup, IsIndex, IsStart};
 
-use crate::batch::Spot;
+use crate::batch::Position;
 use crate::pairs::Pair;
 use par2_spec::Result;
 use std::alloc::Global;
 use std::marker::Model;
 
-/// How many groups the places are in.
+// The number of groups that the places are in.
 const GROUPS: usize = 1 << 15;
 
-/// The number of low bits in which the checksums of a group differ.
+// In how many low bits the checksums of a group may differ.
 const SHIFT: u32 = 17;
 
-/// Where a pair stands among the pairs that are wanted, and its CRC-32.
+/// The index of a pair among the pairs looked for, with its CRC-32.
 #[derive(Clone, Copy, Drop)]
-pub(crate) struct Place {
+pub(crate) struct PairPlace {
     pub(crate) crc: u32,
     pub(crate) index: usize,
 }
 
-impl Place {
-    /// Whether the pair has this CRC-32 and no answer yet.
-    pub(crate) fn is_awaited(&self, crc: u32, found: &[Option<Spot>]) -> bool
+impl PairPlace {
+    /// Whether the pair has this CRC-32 and isn't found yet.
+    pub(crate) fn is_awaited(&self, crc: u32, found: &[Option<Position>]) -> bool
         ensures { result ≡ is_awaited crc found.now self.now }
     {
         self.crc == crc && found.get(self.index).copied().flatten().is_none()
     }
 }
 
-/// The pairs that a search looks for, in order. A pair may be there more than once.
+/// The pairs that a search looks for, in order. A pair may occur more than once.
 #[derive(Drop)]
 pub struct Wanted {
     pairs: Vec<Pair>,
-    places: Vec<Place>,
-    // Where the places of each group begin, and then the number of all places.
+    places: Vec<PairPlace>,
+    // The index where the places of each group begin, followed by the number of all places.
     starts: Vec<usize>,
 }
 
@@ -54,23 +55,24 @@ impl Model for Wanted {
         a.starts.items };
 }
 
-/// The places of the pairs, by rising CRC-32s.
-fn places_of(alloc: Global, pairs: &[Pair]) -> Result<Vec<Place>>
+// The places of the pairs, by ascending CRC-32s.
+fn places_of(alloc: Global, pairs: &[Pair]) -> Result<Vec<PairPlace>>
     ensures { IfOk result (λ places. IsIndex pairs.now places.items) }
 {
     let mut places = Vec::with_capacity(alloc, pairs.len())?;
     for (index, pair) in pairs.iter().enumerate() {
-        places.push(Place { crc: pair.1, index })?;
+        places.push(PairPlace { crc: pair.1, index })?;
     }
     places.sort_unstable_by_key(|place| place.crc);
     Ok(places)
 }
 
-/// Where the places of the group, or of the groups above it, begin. Those before `start` are of groups below it.
-fn group_start(places: &[Place], group: usize, start: usize) -> usize
+// The index where the places of this group and of those above it begin. Places before `start` are of groups below, so
+// that the search for the next group goes on where the last one ended.
+fn group_start(places: &[PairPlace], group: usize, start: usize) -> usize
     requires rising { IsNonDecreasingBy (λ place. place.crc) places.now }
     requires bound { start ≤ length places.now }
-    requires below { (k : ℕ) → k < start → (place_at places.now k).crc / 2 ^ 17 < group }
+    requires below { (k : ℕ) → k < start → (pair_place_at places.now k).crc / 2 ^ 17 < group }
     ensures { IsStart places.now group result }
 {
     for k in start..places.len() {
@@ -81,8 +83,8 @@ fn group_start(places: &[Place], group: usize, start: usize) -> usize
     places.len()
 }
 
-/// Where the places of each group begin, and then the number of all places.
-fn group_starts(alloc: Global, places: &[Place]) -> Result<Vec<usize>>
+// The index where the places of each group begin, followed by the number of all places: `Wanted::starts`.
+fn group_starts(alloc: Global, places: &[PairPlace]) -> Result<Vec<usize>>
     requires { IsNonDecreasingBy (λ place. place.crc) places.now }
     ensures { IfOk result (λ starts. AreStarts places.now starts.items) }
 {
@@ -96,7 +98,7 @@ fn group_starts(alloc: Global, places: &[Place]) -> Result<Vec<usize>>
 }
 
 impl Wanted {
-    /// Keeps the pairs in their order.
+    /// The pairs to look for, in their order, with the index. An error is that memory ran out.
     pub fn new(alloc: Global, pairs: &[Pair]) -> Result<Wanted>
         ensures { IfOk result (λ wanted. wanted ≡ pairs.now) }
     {
@@ -110,7 +112,7 @@ impl Wanted {
         })
     }
 
-    /// The pairs.
+    /// The pairs, in the order in which they were given.
     pub(crate) fn pairs(&self) -> &[Pair]
         ensures { result.now ≡ self.now }
     {
@@ -118,7 +120,7 @@ impl Wanted {
     }
 
     /// The places of the pairs whose CRC-32 has the same bits from `SHIFT` on as `crc`.
-    pub(crate) fn group(&self, crc: u32) -> &[Place]
+    pub(crate) fn group(&self, crc: u32) -> &[PairPlace]
         ensures { HoldsGroup self.now crc result.now }
     {
         let group = (crc >> SHIFT) as usize;

@@ -1,4 +1,4 @@
--- The loops that add products.
+-- The invariants of the loops that add products.
 use Rattle.par2_solve.proofs.Common.{ℕ, suc, ◌+◌, ◌*◌, ◌<◌, ◌≤◌, ◌≡◌, inl, inr, refl, sym, ap, ap₂, ◌∙◌, subst, arith, List, length, get_or, bit_xor, cases_lt, xor_assoc, xor_zero_r, get_or_past, product-zero, mul, word, list_at, field_sum, AddsSource, Adds, products}
 
 -- an empty source adds nothing
@@ -17,7 +17,7 @@ empty_source factor source old from to n none = record {
     no_word : (p : ℕ) → word p source ≡ 0
     no_word p = ap₂ (λ x y. x + 256 * y) (get_or_past source (2 * p) 0 (omega (arith, none))) (get_or_past source (2 * p + 1) 0 (omega (arith, none)))
 
--- no source was added yet
+-- before the first source
 pub no_source : (factors sources old : List (List ℕ)) (from to : ℕ) → Adds factors sources old old from to 0
 unfolding field_sum
 no_source factors sources old from to = record {
@@ -61,7 +61,7 @@ next_source factors sources old mid new from to n so_far added = record {
     more : (m : ℕ) (f : ℕ → ℕ) → bit_xor (field_sum m f) (f m) ≡ field_sum (m + 1) f
     more m f = let e : suc m ≡ m + 1 = omega arith in ap (λ x. field_sum x f) e
 
--- columns after columns
+-- adjacent columns joined
 pub more_columns : (factors sources old mid new : List (List ℕ)) (a b d n : ℕ) → a ≤ b → b ≤ d → Adds factors sources old mid a b n → Adds factors sources mid new b d n
     → Adds factors sources old new a d n
 more_columns factors sources old mid new a b d n ab bd first second = record {
@@ -77,7 +77,7 @@ more_columns factors sources old mid new a b d n ab bd first second = record {
   above = λ r p h. second.above r p h ∙ first.above r p (omega arith);
 }
 
--- after some blocks of columns
+-- one block of columns more
 pub more_blocks : (factors sources old mid new : List (List ℕ)) (from to at next n : ℕ) → from ≡ at → to ≡ next → at ≤ next → Adds factors sources old mid 0 at n
     → Adds factors sources mid new from to n → Adds factors sources old new 0 next n
 more_blocks factors sources old mid new from to at next n e f order first second =

@@ -1,11 +1,11 @@
--- Recovery slices, added to texts.
-use Rattle.par2_solve.proofs.Common.{inl, inr, ℕ, ◌+◌, ◌-◌, ◌*◌, ◌<◌, ◌≤◌, ◌≡◌, refl, sym, ap, ap₂, ◌∙◌, subst, arith, List, [], length, drop, get_or, map, bit_xor, zero-add, take, range_with_len, xor_zero_l, cases_lt, length-map, get_or-map, get_or-take, get_or-drop, get_or_past, length-take-le, length-drop, get_or-map-range_with_len, mul, coefficient, padded, word, coefficients, recovery, list_at, product_comm, product-one, word-lt, field_sum_same, within, place_at, AddsAt, AreApart, LieWithin, recovered, adds_more, adds_same, within-in, within_joined, within_same, length-group, adds_to_group, AreBytes, products, all_coefficients, window, AreProducts}
+-- Recovery slices that are added to outputs.
+use Rattle.par2_solve.proofs.Common.{inl, inr, ℕ, ◌+◌, ◌-◌, ◌*◌, ◌<◌, ◌≤◌, ◌≡◌, refl, sym, ap, ap₂, ◌∙◌, subst, arith, List, [], length, drop, get_or, map, bit_xor, zero-add, take, range_with_len, xor_zero_l, cases_lt, length-map, get_or-map, get_or-take, get_or-drop, get_or_past, length-take-le, length-drop, get_or-map-range_with_len, mul, coefficient, padded, word, coefficients, recovery, list_at, product_comm, product-one, word-lt, field_sum_same, within, place_at, AddsAt, AreApart, LieWithin, recovered, adds_more, adds_same, within-in, within_joined, within_same, length-group, adds_to_group, AreByteLists, products, all_coefficients, chunk, AreProducts}
 use Rattle.par2_transform.specs.declared.outputs.Place.{Place}
 use Rattle.par2_solve.specs.Writing.{output_at, AreWritten, AreZeros}
 use Rattle.par2_solve.proofs.Combinations.{blank_word, recovered_by_words}
 use Rattle.par2_solve.proofs.Solving.{word-window}
 
--- ---- what is added to texts
+-- ---- what is added to outputs
 
 row_at : (n : ℕ) (exponents : List ℕ) (j : ℕ) → j < length exponents → list_at (all_coefficients n exponents) j ≡ coefficients (range_with_len 0 n) (get_or exponents j 0)
 row_at n exponents j low = get_or-map (coefficients (range_with_len 0 n)) exponents j 0 [] low
@@ -30,14 +30,14 @@ products_are n len exponents rows slices old new places rows_are e many added =
 abbrev pub sum_word : (from to : ℕ) (sums : List (List ℕ)) (t p : ℕ) → ℕ
 sum_word from to sums t p = within from to p (word (p - from) (list_at sums t))
 
--- to the first n outputs, others were added
-abbrev pub FirstAdded : List Place → (len n : ℕ) (other : ℕ → ℕ → ℕ) (was texts : List (List ℕ)) → Type 0
-FirstAdded places len n other was texts = AddsAt places len (λ t p. within 0 n t (other t p)) was texts
+-- the first n outputs had their sums added
+abbrev pub FirstAdded : List Place → (len n : ℕ) (other : ℕ → ℕ → ℕ) (was buffers : List (List ℕ)) → Type 0
+FirstAdded places len n other was buffers = AddsAt places len (λ t p. within 0 n t (other t p)) was buffers
 
-pub next_sum : (places : List Place) (len from to n : ℕ) (row : List ℕ) (sums was half texts : List (List ℕ)) → row ≡ list_at sums n → AreBytes sums → FirstAdded places len n (sum_word from to sums) was half
-    → AddsAt places len (λ t p. within n (n + 1) t (within from to p (mul 1 (word (p - from) row)))) half texts → FirstAdded places len (n + 1) (sum_word from to sums) was texts
-next_sum places len from to n row sums was half texts is bytes so_far added =
-    adds_more places len (λ t p. within 0 n t (sum_word from to sums t p)) (λ t p. within n (n + 1) t (within from to p (mul 1 (word (p - from) row)))) (λ t p. within 0 (n + 1) t (sum_word from to sums t p)) was half texts so_far added
+pub next_sum : (places : List Place) (len from to n : ℕ) (row : List ℕ) (sums was half buffers : List (List ℕ)) → row ≡ list_at sums n → AreByteLists sums → FirstAdded places len n (sum_word from to sums) was half
+    → AddsAt places len (λ t p. within n (n + 1) t (within from to p (mul 1 (word (p - from) row)))) half buffers → FirstAdded places len (n + 1) (sum_word from to sums) was buffers
+next_sum places len from to n row sums was half buffers is bytes so_far added =
+    adds_more places len (λ t p. within 0 n t (sum_word from to sums t p)) (λ t p. within n (n + 1) t (within from to p (mul 1 (word (p - from) row)))) (λ t p. within 0 (n + 1) t (sum_word from to sums t p)) was half buffers so_far added
     (λ t p _ _.
     ap (bit_xor (within 0 n t (sum_word from to sums t p)))
     (within_same n (n + 1) t (within from to p (mul 1 (word (p - from) row))) (sum_word from to sums t p)
@@ -50,60 +50,60 @@ next_sum places len from to n row sums was half texts is bytes so_far added =
         ap (λ xs. mul 1 (word q xs)) is ∙ product_comm 1 (word q (list_at sums n)) (omega arith) small ∙ product-one (word q (list_at sums n)) small
 
 -- the sums are those of products of windows, which are parts of slices
-pub sums_are : (places : List Place) (len from to n : ℕ) (rows slices windows sums was texts : List (List ℕ)) → from ≤ to → windows ≡ map (window (2 * from) (2 * (to - from))) slices → n ≡ length slices
-    → length rows ≡ length places → AreProducts (2 * (to - from)) rows windows sums → AddsAt places len (sum_word from to sums) was texts → AddsAt places len (λ t p. within from to p (products n rows slices t p)) was texts
-sums_are places len from to n rows slices windows sums was texts order are n_is many made added =
-    adds_same places len (sum_word from to sums) (λ t p. within from to p (products n rows slices t p)) was texts added
+pub sums_are : (places : List Place) (len from to n : ℕ) (rows slices windows sums was buffers : List (List ℕ)) → from ≤ to → windows ≡ map (chunk (2 * from) (2 * (to - from))) slices → n ≡ length slices
+    → length rows ≡ length places → AreProducts (2 * (to - from)) rows windows sums → AddsAt places len (sum_word from to sums) was buffers → AddsAt places len (λ t p. within from to p (products n rows slices t p)) was buffers
+sums_are places len from to n rows slices windows sums was buffers order are n_is many made added =
+    adds_same places len (sum_word from to sums) (λ t p. within from to p (products n rows slices t p)) was buffers added
     (λ t p low _. within_same from to p (word (p - from) (list_at sums t)) (products n rows slices t p) (λ p_low p_high.
     let q : ℕ = p - from in
     let fits : 2 * q + 1 < 2 * (to - from) = omega (arith, p_low, p_high) in
     made.words t q (omega (arith, many, low)) fits
-    ∙ ap (λ k. products k rows windows t q) (ap length are ∙ length-map slices (window (2 * from) (2 * (to - from))))
+    ∙ ap (λ k. products k rows windows t q) (ap length are ∙ length-map slices (chunk (2 * from) (2 * (to - from))))
     ∙ field_sum_same (length slices) (λ k. mul (get_or (list_at rows t) k 0) (word q (list_at windows k))) (λ k. mul (get_or (list_at rows t) k 0) (word p (list_at slices k)))
     (λ k here. ap (mul (get_or (list_at rows t) k 0))
-    (ap (λ xs. word q (list_at xs k)) are ∙ ap (word q) (get_or-map (window (2 * from) (2 * (to - from))) slices k [] [] here)
+    (ap (λ xs. word q (list_at xs k)) are ∙ ap (word q) (get_or-map (chunk (2 * from) (2 * (to - from))) slices k [] [] here)
     ∙ word-window (2 * from) (2 * (to - from)) from (list_at slices k) q refl fits ∙ ap (λ w. word w (list_at slices k)) (let e : from + q ≡ p = omega (arith, p_low) in e)))
     ∙ ap (λ k. products k rows slices t p) (sym n_is)))
 
 -- ---- columns after columns
 
-abbrev pub ColumnsAdded : List Place → (len n : ℕ) (other : ℕ → ℕ → ℕ) (was texts : List (List ℕ)) → Type 0
-ColumnsAdded places len n other was texts = AddsAt places len (λ t p. within 0 n p (other t p)) was texts
+abbrev pub ColumnsAdded : List Place → (len n : ℕ) (other : ℕ → ℕ → ℕ) (was buffers : List (List ℕ)) → Type 0
+ColumnsAdded places len n other was buffers = AddsAt places len (λ t p. within 0 n p (other t p)) was buffers
 
-pub next_columns : (places : List Place) (len from to : ℕ) (other : ℕ → ℕ → ℕ) (was half texts : List (List ℕ)) → from ≤ to → ColumnsAdded places len from other was half
-    → AddsAt places len (λ t p. within from to p (other t p)) half texts → ColumnsAdded places len to other was texts
-next_columns places len from to other was half texts order so_far added =
-    adds_more places len (λ t p. within 0 from p (other t p)) (λ t p. within from to p (other t p)) (λ t p. within 0 to p (other t p)) was half texts so_far added
+pub next_columns : (places : List Place) (len from to : ℕ) (other : ℕ → ℕ → ℕ) (was half buffers : List (List ℕ)) → from ≤ to → ColumnsAdded places len from other was half
+    → AddsAt places len (λ t p. within from to p (other t p)) half buffers → ColumnsAdded places len to other was buffers
+next_columns places len from to other was half buffers order so_far added =
+    adds_more places len (λ t p. within 0 from p (other t p)) (λ t p. within from to p (other t p)) (λ t p. within 0 to p (other t p)) was half buffers so_far added
     (λ t p _ _. within_joined 0 from to p (other t p) (omega arith) order)
 
-pub all_columns_added : (places : List Place) (len n : ℕ) (other : ℕ → ℕ → ℕ) (was texts : List (List ℕ)) → len ≤ n → ColumnsAdded places len n other was texts → AddsAt places len other was texts
-all_columns_added places len n other was texts enough added =
-    adds_same places len (λ t p. within 0 n p (other t p)) other was texts added (λ t p _ low. within-in 0 n p (other t p) (omega arith) (omega (arith, enough, low)))
+pub all_columns_added : (places : List Place) (len n : ℕ) (other : ℕ → ℕ → ℕ) (was buffers : List (List ℕ)) → len ≤ n → ColumnsAdded places len n other was buffers → AddsAt places len other was buffers
+all_columns_added places len n other was buffers enough added =
+    adds_same places len (λ t p. within 0 n p (other t p)) other was buffers added (λ t p _ low. within-in 0 n p (other t p) (omega arith) (omega (arith, enough, low)))
 
 -- ---- group by group
 
 abbrev pub group : {A : Type 0} → ℕ → ℕ → List A → List A
 group at to xs = take (to - at) (drop at xs)
 
--- a group more
-pub adds_group : (places part : List Place) (len words at to : ℕ) (exponents : List ℕ) (slices was half texts : List (List ℕ)) → at ≤ to → to ≤ length places → AreApart len places → part ≡ group at to places → words ≡ len
+-- one group more
+pub adds_group : (places part : List Place) (len words at to : ℕ) (exponents : List ℕ) (slices was half buffers : List (List ℕ)) → at ≤ to → to ≤ length places → AreApart len places → part ≡ group at to places → words ≡ len
     → FirstAdded places len at (λ t p. recovered slices (get_or exponents t 0) p) was half
-    → AddsAt part words (λ t p. recovered slices (get_or (group at to exponents) t 0) p) half texts
-    → FirstAdded places len to (λ t p. recovered slices (get_or exponents t 0) p) was texts
-adds_group places part len words at to exponents slices was half texts order fits apart part_is words_is so_far added =
+    → AddsAt part words (λ t p. recovered slices (get_or (group at to exponents) t 0) p) half buffers
+    → FirstAdded places len to (λ t p. recovered slices (get_or exponents t 0) p) was buffers
+adds_group places part len words at to exponents slices was half buffers order fits apart part_is words_is so_far added =
     let other = λ (t p : ℕ). recovered slices (get_or exponents t 0) p in
     let given = λ (t p : ℕ). recovered slices (get_or (group at to exponents) t 0) p in
-    let here : AddsAt (group at to places) len given half texts =
-    subst (λ (n : ℕ). AddsAt (group at to places) n given half texts) words_is (subst (λ (ps : List Place). AddsAt ps words given half texts) part_is added) in
-    let moved : AddsAt (group at to places) len (λ t p. other (at + t) p) half texts =
-    adds_same (group at to places) len given (λ t p. other (at + t) p) half texts here
+    let here : AddsAt (group at to places) len given half buffers =
+    subst (λ (n : ℕ). AddsAt (group at to places) n given half buffers) words_is (subst (λ (ps : List Place). AddsAt ps words given half buffers) part_is added) in
+    let moved : AddsAt (group at to places) len (λ t p. other (at + t) p) half buffers =
+    adds_same (group at to places) len given (λ t p. other (at + t) p) half buffers here
     (λ t p low _. ap (λ e. recovered slices e p) (get_or-take (to - at) (drop at exponents) t 0 (let n = length-group at to places order fits in omega (arith, n, low)) ∙ get_or-drop at exponents t 0)) in
-    adds_more places len (λ t p. within 0 at t (other t p)) (λ t p. within at to t (other t p)) (λ t p. within 0 to t (other t p)) was half texts so_far (adds_to_group at to len other places half texts order fits apart moved)
+    adds_more places len (λ t p. within 0 at t (other t p)) (λ t p. within at to t (other t p)) (λ t p. within 0 to t (other t p)) was half buffers so_far (adds_to_group at to len other places half buffers order fits apart moved)
     (λ t p _ _. within_joined 0 at to t (other t p) (omega arith) order)
 
 -- ---- outputs that were zeros
 
-pub are_written : (places : List Place) (words : ℕ) (exponents : List ℕ) (slices old new : List (List ℕ)) → AreBytes slices → AreBytes new → LieWithin words places old → AreZeros words places old
+pub are_written : (places : List Place) (words : ℕ) (exponents : List ℕ) (slices old new : List (List ℕ)) → AreByteLists slices → AreByteLists new → LieWithin words places old → AreZeros words places old
     → AddsAt places words (λ t p. recovered slices (get_or exponents t 0) p) old new → AreWritten words slices exponents places old new
 are_written places words exponents slices old new bytes fits within zeros added = record {
   count = added.count;
@@ -112,25 +112,25 @@ are_written places words exponents slices old new bytes fits within zeros added 
   others = added.others;
 }
   where
-    front : (s w : ℕ) (text : List ℕ) → 2 * w + 1 < s → word w (take s text) ≡ word w text
-    front s w text here = ap₂ (λ a b. a + 256 * b) (get_or-take s text (2 * w) 0 (omega (arith, here))) (get_or-take s text (2 * w + 1) 0 here)
+    front : (s w : ℕ) (content : List ℕ) → 2 * w + 1 < s → word w (take s content) ≡ word w content
+    front s w content here = ap₂ (λ a b. a + 256 * b) (get_or-take s content (2 * w) 0 (omega (arith, here))) (get_or-take s content (2 * w + 1) 0 here)
 
     written : (t : ℕ) → t < length places → (place : Place) → place_at places t ≡ place → output_at (2 * words) place new ≡ recovery (2 * words) (map (padded (2 * words)) slices) (get_or exponents t 0)
     written t low place is =
         let s : ℕ = 2 * words in
-        let text = list_at new place.text in
-        let room : place.at + s ≤ length (list_at old place.text) = subst (λ (x : Place). x.at + 2 * words ≤ length (list_at old x.text)) is (within t low).1 in
-        let long : length (drop place.at text) ≡ length text - place.at = length-drop place.at text in
-        let size : length (output_at s place new) ≡ s = length-take-le s (drop place.at text) (let e = added.sizes place.text in omega (arith, long, room, e)) in
+        let content = list_at new place.buffer in
+        let room : place.at + s ≤ length (list_at old place.buffer) = subst (λ (x : Place). x.at + 2 * words ≤ length (list_at old x.buffer)) is (within t low).1 in
+        let long : length (drop place.at content) ≡ length content - place.at = length-drop place.at content in
+        let size : length (output_at s place new) ≡ s = length-take-le s (drop place.at content) (let e = added.sizes place.buffer in omega (arith, long, room, e)) in
         let byte : (k : ℕ) → get_or (output_at s place new) k 0 < 256 =
         λ k. elim (cases_lt k s) [
-          | inl inside ↦ subst (λ x. x < 256) (sym (get_or-take s (drop place.at text) k 0 inside ∙ get_or-drop place.at text k 0)) (fits place.text (place.at + k))
+          | inl inside ↦ subst (λ x. x < 256) (sym (get_or-take s (drop place.at content) k 0 inside ∙ get_or-drop place.at content k 0)) (fits place.buffer (place.at + k))
           | inr past ↦ subst (λ x. x < 256) (sym (get_or_past (output_at s place new) k 0 (omega (arith, size, past)))) (omega arith)
         ] in
         recovered_by_words s (get_or exponents t 0) slices (output_at s place new) (omega arith) bytes size byte
         (λ w here.
-        front s w (drop place.at text) here ∙ ap (λ (x : Place). word w (drop x.at (list_at new x.text))) (sym is)
+        front s w (drop place.at content) here ∙ ap (λ (x : Place). word w (drop x.at (list_at new x.buffer))) (sym is)
         ∙ added.each t w low (omega (arith, here)) ∙ ap (λ x. bit_xor x (recovered slices (get_or exponents t 0) w))
-        (ap (λ (x : Place). word w (drop x.at (list_at old x.text))) is ∙ sym (front s w (drop place.at (list_at old place.text)) here)
+        (ap (λ (x : Place). word w (drop x.at (list_at old x.buffer))) is ∙ sym (front s w (drop place.at (list_at old place.buffer)) here)
         ∙ ap (λ (x : Place). word w (output_at s x old)) (sym is) ∙ ap (word w) (zeros t low) ∙ blank_word s w)
         ∙ xor_zero_l (recovered slices (get_or exponents t 0) w))

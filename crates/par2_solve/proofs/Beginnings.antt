@@ -1,4 +1,4 @@
--- Where the first exponents, as many as slices are lost, determine these, they are the kept ones.
+-- If the first exponents, as many as slices are lost, determine the lost slices, they are the kept ones.
 use Rattle.par2_solve.proofs.Common.{ℕ, zero, suc, ◌+◌, ◌-◌, ◌<◌, ◌≤◌, ◌≡◌, refl, sym, ap, ◌∙◌, subst, arith, Bool, true, false, cond, List, [], ◌∷◌, length, get_or, map, take, filter, Option, Some, None, AllByRecursion, Contains, range_with_len, IsStrictlyIncreasing, length-map, length-take, ext_get_or, get_or-take, length-take-le, take-map, Contains-get_or, length-range_with_len, get_or-range_with_len, kept, kept_slices, AreClose, HasRun, IsRepairable, is_independent, coefficients, all_from, all_get, all_unmap, filter-map, BeginsWithRun, lost_from, recovered_of, exponents_of, Bor}
 use Rattle.std.proofs.lemmas.List.Sums.{count_by-le-length, length-filter}
 use Rattle.par2_spec.proofs.FullRank.{full-iff}
@@ -44,7 +44,7 @@ has_run_front xs f n front i low =
 
 -- ---- the kept exponents
 
--- what a filter leaves, where it leaves n and the first n pass
+-- if a filter leaves n items and the first n pass, it leaves these
 filter_first : {A : Type 0} (p : A → Bool) (n : ℕ) (xs : List A) → length (filter p xs) ≡ n → AllByRecursion (λ x. p x ≡ true) (take n xs) → filter p xs ≡ take n xs
 filter_first p zero xs count h = none xs (filter p xs) count
   where
@@ -58,7 +58,7 @@ filter_first p (suc n) (x ∷ xs) count h =
     let more : suc (length (filter p xs)) ≡ suc n = sym (ap length here) ∙ count in
     here ∙ ap (λ ys. x ∷ ys) (filter_first p n xs (omega (arith, more)) h.1)
 
--- where a filter leaves as many as there are, all pass
+-- if a filter leaves as many items as there are, all pass
 all_pass : {A : Type 0} (p : A → Bool) (xs : List A) → length (filter p xs) ≡ length xs → AllByRecursion (λ x. p x ≡ true) xs
 all_pass p [] e = tt
 all_pass p (x ∷ xs) e = step (p x) refl e (all_pass p xs)
@@ -79,7 +79,7 @@ take_sooner (suc i) zero xs h = absurd (omega (arith, h))
 take_sooner (suc i) (suc n) [] h = refl
 take_sooner (suc i) (suc n) (x ∷ xs) h = ap (λ ys. x ∷ ys) (take_sooner i n xs (omega (arith, h)))
 
--- whether an exponent is kept follows from those before it
+-- whether an exponent is kept depends only on those before it
 kept_alone : (ks es : List ℕ) (n i : ℕ) → IsStrictlyIncreasing es → n ≤ length es → i < n → is_kept ks es (get_or es i 0) ≡ is_kept ks (take n es) (get_or es i 0)
 kept_alone ks es n i rise within low =
     let long = length-take-le n es within in
@@ -88,7 +88,7 @@ kept_alone ks es n i rise within low =
     ∙ ap (λ before. is_independent (length ks) (map (coefficients ks) before) (coefficients ks (get_or es i 0))) (sym (take_sooner i n es (omega (arith, low))))
     ∙ subst (λ e. is_independent (length ks) (map (coefficients ks) (take i (take n es))) (coefficients ks e) ≡ is_kept ks (take n es) e) at (sym (is_kept_at ks (take n es) i (take_rises es n rise within) (omega (arith, low, long))))
 
--- the first exponents, as many as slices are lost, are kept where they determine these
+-- the first exponents, as many as slices are lost, are kept if they determine the lost slices
 first_pass : (ks es : List ℕ) → IsStrictlyIncreasing es → length ks ≤ length es → IsRepairable ks (take (length ks) es) → AllByRecursion (λ e. is_kept ks es e ≡ true) (take (length ks) es)
 first_pass ks es rise within enough =
     all_from (λ e. is_kept ks es e ≡ true) 0 first (λ i low.
@@ -162,6 +162,6 @@ lost_rise a (None ∷ known) (suc k) h =
 pub recovered_front : (recovery first : List (ℕ × Bor (List ℕ))) (n : ℕ) → first ≡ take n recovery → recovered_of first ≡ take n (recovered_of recovery)
 recovered_front recovery first n is = ap (λ (rs : List (ℕ × Bor (List ℕ))). recovered_of rs) is ∙ sym (take-map (λ (r : ℕ × Bor (List ℕ)). (r.0, r.1.now)) n recovery)
 
--- the exponents of the first ones
+-- the exponents of the first recovery slices
 pub exponents_front : (recovery first : List (ℕ × Bor (List ℕ))) (n : ℕ) → recovered_of first ≡ take n (recovered_of recovery) → exponents_of first ≡ take n (exponents_of recovery)
 exponents_front recovery first n is = ap (map (λ r. r.0)) is ∙ sym (take-map (λ (r : ℕ × List ℕ). r.0) n (recovered_of recovery))

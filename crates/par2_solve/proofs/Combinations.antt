@@ -1,5 +1,5 @@
 -- From added products to recovery slices.
-use Rattle.par2_solve.proofs.Common.{cases_lt, inl, inr, ℕ, zero, suc, ◌+◌, ◌-◌, ◌*◌, ◌%◌, ◌<◌, ◌≤◌, ◌≡◌, refl, sym, ap, ap₂, ◌∙◌, subst, arith, List, [], ◌∷◌, ◌++◌, length, get_or, map, replicate, Vec, Global, zero-add, Bor, range_with_len, get_or-map, length-map, length_push, map_push, get_or_append_left, get_or_push, get_or_past, get_or-map-range_with_len, length-map-range_with_len, length-range_with_len, get_or-range_with_len, mul, coefficient, padded, word, dot, coefficients, combination, recovery, all_at, product-lt, field_sum, list_at, lists_of, field_sum_same, field_sum-lt, dot_sum, product_at, coefficients_are, combination_words, word-lt, AreBytes, recovered, zeros_read, all_coefficients, texts_of, AreBlank}
+use Rattle.par2_solve.proofs.Common.{cases_lt, inl, inr, ℕ, zero, suc, ◌+◌, ◌-◌, ◌*◌, ◌%◌, ◌<◌, ◌≤◌, ◌≡◌, refl, sym, ap, ap₂, ◌∙◌, subst, arith, List, [], ◌∷◌, ◌++◌, length, get_or, map, replicate, Vec, Global, zero-add, Bor, range_with_len, get_or-map, length-map, length_push, map_push, get_or_append_left, get_or_push, get_or_past, get_or-map-range_with_len, length-map-range_with_len, length-range_with_len, get_or-range_with_len, mul, coefficient, padded, word, dot, coefficients, combination, recovery, all_at, product-lt, field_sum, list_at, lists_of, field_sum_same, field_sum-lt, dot_sum, product_at, coefficients_are, combination_words, word-lt, AreByteLists, recovered, zeros_read, all_coefficients, buffers_of, AreBlank}
 
 -- ---- padding
 
@@ -12,7 +12,7 @@ padded_read (x ∷ t) m (suc i) = padded_read t m i
 pub word-padded : (s : ℕ) (t : List ℕ) (p : ℕ) → word p (padded s t) ≡ word p t
 word-padded s t p = ap₂ (λ x y. x + 256 * y) (padded_read t (s - length t) (2 * p)) (padded_read t (s - length t) (2 * p + 1))
 
--- padding changes no word of any text
+-- padding changes no word of any list
 words_padded : (s w : ℕ) (lists : List (List ℕ)) → map (word w) (map (padded s) lists) ≡ map (word w) lists
 words_padded s w [] = refl
 words_padded s w (t ∷ lists) = ap₂ (λ x xs. x ∷ xs) (word-padded s t w) (words_padded s w lists)
@@ -22,16 +22,16 @@ words_padded s w (t ∷ lists) = ap₂ (λ x xs. x ∷ xs) (word-padded s t w) (
 pub coefficients-lt : (numbers : List ℕ) (e k : ℕ) → get_or (coefficients numbers e) k 0 < 65536
 coefficients-lt numbers e k = all_at (λ x. x < 65536) 0 (omega arith) (coefficients numbers e) (coefficients_are e numbers) k
 
-words_of : (texts : List (List ℕ)) (w i : ℕ) → get_or (map (word w) texts) i 0 ≡ word w (list_at texts i)
+words_of : (buffers : List (List ℕ)) (w i : ℕ) → get_or (map (word w) buffers) i 0 ≡ word w (list_at buffers i)
 words_of [] w i = refl
-words_of (t ∷ texts) w zero = refl
-words_of (t ∷ texts) w (suc i) = words_of texts w i
+words_of (t ∷ buffers) w zero = refl
+words_of (t ∷ buffers) w (suc i) = words_of buffers w i
 
--- the sum of products at a word, by places
-pub dot_at : (n : ℕ) (row : List ℕ) (texts : List (List ℕ)) (w : ℕ) → length row ≤ n → dot row (map (word w) texts) ≡ field_sum n (λ i. mul (get_or row i 0) (word w (list_at texts i)))
-dot_at n row texts w h =
-    dot_sum n row (map (word w) texts) h
-    ∙ field_sum_same n (product_at row (map (word w) texts)) (λ i. mul (get_or row i 0) (word w (list_at texts i))) (λ i low. ap (mul (get_or row i 0)) (words_of texts w i))
+-- the sum of products at a word, by index
+pub dot_at : (n : ℕ) (row : List ℕ) (buffers : List (List ℕ)) (w : ℕ) → length row ≤ n → dot row (map (word w) buffers) ≡ field_sum n (λ i. mul (get_or row i 0) (word w (list_at buffers i)))
+dot_at n row buffers w h =
+    dot_sum n row (map (word w) buffers) h
+    ∙ field_sum_same n (product_at row (map (word w) buffers)) (λ i. mul (get_or row i 0) (word w (list_at buffers i))) (λ i low. ap (mul (get_or row i 0)) (words_of buffers w i))
 
 -- a word of a recovery slice is such a sum
 pub recovered_dot : (e : ℕ) (lists : List (List ℕ)) (w : ℕ) → dot (coefficients (range_with_len 0 (length lists)) e) (map (word w) lists) ≡ recovered lists e w
@@ -42,7 +42,7 @@ recovered_dot e lists w =
     ∙ field_sum_same n (λ i. mul (get_or row i 0) (word w (list_at lists i))) (λ i. mul (coefficient e i) (word w (list_at lists i)))
     (λ i h. ap (λ c. mul c (word w (list_at lists i))) (get_or-map-range_with_len (coefficient e) 0 n i i 0 h (zero-add i)))
 
-pub recovered-lt : (lists : List (List ℕ)) (e w : ℕ) → AreBytes lists → recovered lists e w < 65536
+pub recovered-lt : (lists : List (List ℕ)) (e w : ℕ) → AreByteLists lists → recovered lists e w < 65536
 recovered-lt lists e w bytes =
     field_sum-lt (length lists) (λ i. mul (coefficient e i) (word w (list_at lists i))) (λ i. product-lt _ _ (coefficients_are e (i ∷ [])).0 (word-lt (list_at lists i) w (bytes i)))
 
@@ -54,7 +54,7 @@ pub lists_push : (xs : List (Vec ℕ Global)) (x : Vec ℕ Global) {new : List (
 lists_push xs x pushed so_far is =
     ap (λ (vs : List (Vec ℕ Global)). lists_of vs) pushed ∙ map_push (λ (v : Vec ℕ Global). v.items) xs x ∙ ap₂ (λ (ls : List (List ℕ)) l. ls ++ l ∷ []) so_far is
 
--- what each of n lists is, each of one more is
+-- what holds of each of n lists and of one more holds of each of n + 1
 pub each_push : (P : ℕ → List ℕ → Type 0) (xs : List (Vec ℕ Global)) (x : Vec ℕ Global) (n : ℕ) → length (lists_of xs) ≡ n → ((r : ℕ) → r < n → P r (list_at (lists_of xs) r)) → P n x.items
     → (length (lists_of (xs ++ x ∷ [])) ≡ n + 1) × ((r : ℕ) → r < n + 1 → P r (list_at (lists_of (xs ++ x ∷ [])) r))
 each_push P xs x n count each here =
@@ -69,18 +69,18 @@ each_push P xs x n count each here =
     ]
 
 pub blank_push : (s n : ℕ) (xs : List (Vec ℕ Global)) (v : Vec ℕ Global) → AreBlank s n (lists_of xs) → v.items ≡ replicate s 0 → AreBlank s (n + 1) (lists_of (xs ++ v ∷ []))
-blank_push s n xs v so_far is = let all = each_push (λ _ text. text ≡ replicate s 0) xs v n so_far.count so_far.each is in record { count = all.0; each = all.1 }
+blank_push s n xs v so_far is = let all = each_push (λ _ bytes. bytes ≡ replicate s 0) xs v n so_far.count so_far.each is in record { count = all.0; each = all.1 }
 
 pub blank_word : (s p : ℕ) → word p (replicate s 0) ≡ 0
 blank_word s p = ap₂ (λ x y. x + 256 * y) (zeros_read s (2 * p)) (zeros_read s (2 * p + 1))
 
--- a text is the recovery slice that its words are those of
-pub recovered_by_words : (s e : ℕ) (lists : List (List ℕ)) (text : List ℕ) → s % 2 ≡ 0 → AreBytes lists → length text ≡ s → ((k : ℕ) → get_or text k 0 < 256)
-    → ((w : ℕ) → 2 * w + 1 < s → word w text ≡ recovered lists e w) → text ≡ recovery s (map (padded s) lists) e
+-- a list is the recovery slice if its words are the recovery slice's
+pub recovered_by_words : (s e : ℕ) (lists : List (List ℕ)) (content : List ℕ) → s % 2 ≡ 0 → AreByteLists lists → length content ≡ s → ((k : ℕ) → get_or content k 0 < 256)
+    → ((w : ℕ) → 2 * w + 1 < s → word w content ≡ recovered lists e w) → content ≡ recovery s (map (padded s) lists) e
 unfolding recovery
-recovered_by_words s e lists text even bytes size fits words =
+recovered_by_words s e lists content even bytes size fits words =
     sym (ap (λ n. combination s (coefficients (range_with_len 0 n) e) (map (padded s) lists)) (length-map lists (padded s))
-    ∙ (combination_words s row (map (padded s) lists) text even (λ w. subst (λ x. x < 65536) (sym (dots w)) (recovered-lt lists e w bytes)) size fits).1
+    ∙ (combination_words s row (map (padded s) lists) content even (λ w. subst (λ x. x < 65536) (sym (dots w)) (recovered-lt lists e w bytes)) size fits).1
     (λ w low. dots w ∙ sym (words w (omega (arith, low)))))
   where
     row : List ℕ
@@ -108,5 +108,5 @@ rows_long n exponents xs e r low =
     ∙ length-map (range_with_len 0 n) (coefficient (get_or exponents r 0)) ∙ length-range_with_len 0 n in
     omega (arith, long)
 
-pub length-texts_of : (xs : List (Bor (List ℕ))) → length (texts_of xs) ≡ length xs
-length-texts_of xs = length-map xs (λ (x : Bor (List ℕ)). x.now)
+pub length-buffers_of : (xs : List (Bor (List ℕ))) → length (buffers_of xs) ≡ length xs
+length-buffers_of xs = length-map xs (λ (x : Bor (List ℕ)). x.now)

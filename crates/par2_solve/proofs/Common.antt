@@ -1,4 +1,4 @@
--- The names that proofs of this crate take from elsewhere.
+-- Names from other crates that the proofs of this one use.
 
 pub use Rattle.std.proofs.Common.{Bool, Global, IsTrue, List, T, Vec, [], ap, append-nil, append_assoc, ap₂, arith, bit_xor, cond, drop, eqb, eqb→eq, false, get_or, inl, inr, length, length-append, ltb, map, min, not, refl, replicate, rules, set, string_bytes, subst, suc, sym, take, true, zero, zero-add, ℕ, ◌%◌, ◌&&◌, ◌*◌, ◌++◌, ◌+◌, ◌-◌, ◌/◌, ◌<◌, ◌^◌, ◌||◌, ◌↔◌, ◌∙◌, ◌∷◌, ◌≡◌, ◌≢◌, ◌≤◌}
 pub use Rattle.std.proofs.Math.Facts.{Fits-lt-pow, and_yes, yes_and}
@@ -18,16 +18,16 @@ pub use Rattle.std.specs.List.{AllByRecursion, AllZip, Contains, enumerate_from,
 pub use Rattle.std.specs.List.Sorted.{IsStrictlyIncreasing}
 pub use Rattle.std.specs.Prelude.{IfErr, IfSome, IsPermutation, None, Ok, Option, Result, Some, filter, is_none, slice_index, unwrap_or}
 pub use Rattle.std.specs.Vec.{with_items}
-pub use Rattle.par2_matrix.specs.Systems.{AreTexts, CutDown, Equations, IsDependent, IsIndependent, IsTheSolution, OnlyZeroIsKilled, Solves}
+pub use Rattle.par2_matrix.specs.Systems.{AreSolutionBuffers, CutDown, Equations, IsDependent, IsIndependent, IsTheSolution, OnlyZeroIsKilled, Solves}
 pub use Rattle.par2_matrix.specs.declared.system.Offer.TheVariants.{Dependent, Kept}
-pub use Rattle.par2_solve.specs.Elements.{AreRows, IsUnit}
-pub use Rattle.par2_solve.specs.Inverses.{CutByUnit, GivesUnit, IsEliminated, IsInverse, identity, recovery_at}
-pub use Rattle.par2_solve.specs.Products.{Adds, AddsSource, AreBytes, products}
+pub use Rattle.par2_solve.specs.Elements.{AreByteRows, IsUnit}
+pub use Rattle.par2_solve.specs.Inverses.{CutByUnit, GivesUnit, IsEliminated, IsInverseMatrix, identity, recovery_at}
+pub use Rattle.par2_solve.specs.Products.{Adds, AddsSource, AreByteLists, products}
 pub use Rattle.par2_solve.specs.Rebuilding.{AreRebuilt, CanRebuild, known_among}
 pub use Rattle.par2_solve.specs.RunInverses.{AreScaledQuotients, BeginsWithRun, IsScaledQuotient}
 pub use Rattle.par2_solve.specs.Survivors.{IsTrueFault, bytes_or_none, exponents_of, known_alone, known_of, lost_from, recovered_of, with_lost_slices}
-pub use Rattle.par2_solve.specs.Syndromes.{AreExtended, AreProducts, AreRun, AreSolved, all_coefficients, syndrome, window}
-pub use Rattle.par2_solve.specs.Views.{AreBlank, texts_of}
+pub use Rattle.par2_solve.specs.Syndromes.{AreExtended, AreProducts, AreRun, AreSolved, all_coefficients, syndrome, chunk}
+pub use Rattle.par2_solve.specs.Views.{AreBlank, buffers_of}
 pub use Rattle.par2_spec.proofs.FieldConstants.{constant-injective, constant-lt, constant-nonzero}
 pub use Rattle.par2_spec.proofs.FieldOrder.{no_zero_divisor, power-lt, product-zero, zero-product}
 pub use Rattle.par2_spec.proofs.FieldProducts.{product-lt, product-one, product_assoc, product_comm, product_linear_left, product_linear_right}
@@ -49,7 +49,7 @@ unfoldable pub use Rattle.par2_spec.specs.Recovery.{dot, recovery}
 pub use Rattle.par2_spec.specs.Runs.{AreClose, AreSlices, HasRun}
 pub use Rattle.par2_spec.specs.Search.{lost}
 pub use Rattle.par2_spec.specs.Slices.{padded, word}
-pub use Rattle.par2_spec.specs.Sums.{AreElements, list_at, lists_of}
+pub use Rattle.par2_spec.specs.Sums.{GivesElements, list_at, lists_of}
 unfoldable pub use Rattle.par2_spec.specs.Sums.{field_sum}
 pub use Rattle.par2_transform.proofs.AddingLaws.{adds_more, adds_same, still_within, within-in, within_joined, within_same, zeros_read}
 pub use Rattle.par2_transform.proofs.GroupLaws.{adds_to_group, group_within, length-group}

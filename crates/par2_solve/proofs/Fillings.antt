@@ -1,12 +1,12 @@
--- The inverse for exponents with holes between them: the inverse of the holes' equations makes the syndromes of the
--- holes of those of the exponents, and the window begins with a run.
-use Rattle.par2_solve.proofs.Common.{ℕ, ◌+◌, ◌-◌, ◌^◌, ◌<◌, ◌≤◌, ◌≡◌, refl, sym, ap, ap₂, ◌∙◌, subst, arith, Bool, true, false, cond, inl, inr, cases_eq, cases_lt, eq-eqb, ne_eqb, le-ltb, List, [], ◌∷◌, ◌++◌, length, length-append, get_or_append_left, get_or_at, get_or, map, filter, take, take_all, bit_xor, xor_zero_l, AllByRecursion, AllPairs-from_increasing, Contains, Contains-get_or, range_with_len, IsStrictlyIncreasing, length-map, length-range_with_len, get_or-map, get_or-range_with_len, get_or-map-range_with_len, length-map-range_with_len, mul, coefficient, coefficients, constant, dot, dot_sum, product_at, field_sum, field_sum_same, IsVector, IsRepairable, Kills, AreSlices, kept, with_roots_elements, all_at, all_from, all-each, dot-lt, coefficients_are, run_determines, identity, IsInverse, list_at, AreRows, Equations, OnlyZeroIsKilled, IsTheSolution}
+-- The inverse for exponents with holes between them: the inverse of the holes' equations maps the syndromes
+-- of the exponents to those of the holes, and the window begins with a run.
+use Rattle.par2_solve.proofs.Common.{ℕ, ◌+◌, ◌-◌, ◌^◌, ◌<◌, ◌≤◌, ◌≡◌, refl, sym, ap, ap₂, ◌∙◌, subst, arith, Bool, true, false, cond, inl, inr, cases_eq, cases_lt, eq-eqb, ne_eqb, le-ltb, List, [], ◌∷◌, ◌++◌, length, length-append, get_or_append_left, get_or_at, get_or, map, filter, take, take_all, bit_xor, xor_zero_l, AllByRecursion, AllPairs-from_increasing, Contains, Contains-get_or, range_with_len, IsStrictlyIncreasing, length-map, length-range_with_len, get_or-map, get_or-range_with_len, get_or-map-range_with_len, length-map-range_with_len, mul, coefficient, coefficients, constant, dot, dot_sum, product_at, field_sum, field_sum_same, IsVector, IsRepairable, Kills, AreSlices, kept, with_roots_elements, all_at, all_from, all-each, dot-lt, coefficients_are, run_determines, identity, IsInverseMatrix, list_at, AreByteRows, Equations, OnlyZeroIsKilled, IsTheSolution}
 use Rattle.std.specs.Int.Bits.{xor_self}
 use Rattle.par2_spec.proofs.ExistLaws.{IsSolved, solved, length-sums}
 use Rattle.par2_spec.proofs.SumLaws.{xor_same}
 use Rattle.par2_spec.proofs.UniqueLaws.{sums, dot-sums, no_difference, sums-elements}
 use Rattle.par2_solve.specs.Filling.{row_times, matrix_product, identity_rows, from_origin, origin_at, IsOriginAt, AreOrigins}
-use Rattle.par2_solve.specs.Holes.{locator, shifted_at, shifted, shifted_rows, span, is_hole, holes, places_of, AreHoleInverse, AreHoleEquations}
+use Rattle.par2_solve.specs.Holes.{locator, shifted_at, shifted, shifted_rows, span, is_hole, holes, exponent_places, AreHoleInverse, AreHoleEquations}
 use Rattle.par2_solve.specs.declared.filling.Origin.{Origin}
 use Rattle.par2_solve.specs.declared.filling.Origin.TheVariants.{Exponent, Hole}
 use Rattle.par2_solve.proofs.Beginnings.{kept_first}
@@ -66,7 +66,7 @@ one_origin_more es origins origin n are here = record {
 
 -- ---- sums over a window
 
--- the holes hold of none but holes
+-- what holds of each number that passes a test holds of all that a filter leaves
 all_holes : (P : ℕ → Type 0) (t : ℕ → Bool) (xs : List ℕ) → ((x : ℕ) → t x ≡ true → P x) → AllByRecursion P (filter t xs)
 all_holes P t [] h = tt
 all_holes P t (x ∷ xs) h = step (t x) refl (filter t xs) (all_holes P t xs h)
@@ -79,7 +79,7 @@ same_values : {A B : Type 0} (g h : A → B) (xs : List A) → AllByRecursion (�
 same_values g h [] same = refl
 same_values g h (x ∷ xs) same = ap₂ (λ y ys. y ∷ ys) same.0 (same_values g h xs same.1)
 
--- where the numbers that are no holes give 0 but one, which gives 1, their sum is what this one is multiplied by
+-- if all numbers but the holes give 0, except one that gives 1, their sum is the factor of that one
 known_sum : (es : List ℕ) (a g : ℕ → ℕ) (x : ℕ) → x < span es + 1 → IsStrictlyIncreasing es → 0 < length es → is_hole es x ≡ false → ((y : ℕ) → is_hole es y ≡ false → g y ≡ identity y x) → ((i : ℕ) → a i < 65536)
     → dot (map a (others es)) (map g (others es)) ≡ a x
 known_sum es a g x within rise some here at are =
@@ -115,7 +115,7 @@ known_sum es a g x within rise some here at are =
 
 -- ---- the sums of the holes
 
--- what the inverse makes of a column of what the equations multiply the syndromes of the exponents by solves the equations
+-- the inverse times a column of the exponents' coefficients solves the equations
 hole_column : (p hs places : List ℕ) (n : ℕ) (inverse : List (List ℕ)) → AllByRecursion (λ c. c < 2 ^ 16) p → AreHoleInverse p hs n inverse → (u k : ℕ) → u < n → k < length places
     → field_sum (length hs) (λ q. mul (get_or (shifted p u hs) q 0) (row_times n (list_at inverse q) (shifted_rows p places n) k)) ≡ shifted_at p u (get_or places k 0)
 hole_column p hs places n inverse are is u k hu hk =
@@ -137,11 +137,11 @@ hole_column p hs places n inverse are is u k hu hk =
     b : ℕ → ℕ
     b v = get_or (list_at (shifted_rows p places n) v) k 0
 
--- So this column is what a vector gives the holes, where it gives the exponents a column of the identity.
+-- So this column is what a vector gives the holes if it gives the exponents a column of the identity.
 holes_are : (ks es v : List ℕ) (n : ℕ) (inverse : List (List ℕ)) (k : ℕ) → IsStrictlyIncreasing es → 0 < length es → n + length ks ≤ span es + 1 → AreHoleInverse (locator ks) (holes es) n inverse
-    → AllByRecursion (λ x. x < 2 ^ 16) v → k < length es → is_hole es (get_or (places_of es) k 0) ≡ false → get_or (places_of es) k 0 < span es + 1
-    → ((y : ℕ) → is_hole es y ≡ false → given_at ks es v y ≡ identity y (get_or (places_of es) k 0))
-    → (q : ℕ) → q < length (holes es) → given_at ks es v (get_or (holes es) q 0) ≡ row_times n (list_at inverse q) (shifted_rows (locator ks) (places_of es) n) k
+    → AllByRecursion (λ x. x < 2 ^ 16) v → k < length es → is_hole es (get_or (exponent_places es) k 0) ≡ false → get_or (exponent_places es) k 0 < span es + 1
+    → ((y : ℕ) → is_hole es y ≡ false → given_at ks es v y ≡ identity y (get_or (exponent_places es) k 0))
+    → (q : ℕ) → q < length (holes es) → given_at ks es v (get_or (holes es) q 0) ≡ row_times n (list_at inverse q) (shifted_rows (locator ks) (exponent_places es) n) k
 holes_are ks es v n inverse k rise some fit is v_is hk place inside at q hq =
     sym (get_or-map g hs q 0 0 hq)
     ∙ ap (λ xs. get_or xs q 0) (no_difference (map g hs) column (long ∙ sym column_long) (is.only (sums (map g hs) column) (length-sums (map g hs) column (long ∙ sym column_long) ∙ column_long, sums-elements (map g hs) column g_elements column_elements) killed))
@@ -157,13 +157,13 @@ holes_are ks es v n inverse k rise some fit is v_is hk place inside at q hq =
     h = length (holes es)
 
     places : List ℕ
-    places = places_of es
+    places = exponent_places es
 
     g : ℕ → ℕ
     g = given_at ks es v
 
     f : ℕ → ℕ
-    f i = row_times n (list_at inverse i) (shifted_rows (locator ks) (places_of es) n) k
+    f i = row_times n (list_at inverse i) (shifted_rows (locator ks) (exponent_places es) n) k
 
     column : List ℕ
     column = map f (range_with_len 0 h)
@@ -200,39 +200,39 @@ holes_are ks es v n inverse k rise some fit is v_is hk place inside at q hq =
 
 -- ---- the system's solution
 
-pub are_hole_inverse : (p places : List ℕ) (n : ℕ) (system : Equations) (texts rows : List (List ℕ)) → AllByRecursion (λ c. c < 2 ^ 16) p → AreHoleEquations p places n n system → OnlyZeroIsKilled system → IsTheSolution system texts
-    → AreRows rows texts (length texts) → AreHoleInverse p places n rows
-are_hole_inverse p places n system texts rows elements are regular solution rows_are = record {
+pub are_hole_inverse : (p places : List ℕ) (n : ℕ) (system : Equations) (buffers rows : List (List ℕ)) → AllByRecursion (λ c. c < 2 ^ 16) p → AreHoleEquations p places n n system → OnlyZeroIsKilled system → IsTheSolution system buffers
+    → AreByteRows rows buffers (length buffers) → AreHoleInverse p places n rows
+are_hole_inverse p places n system buffers rows elements are regular solution rows_are = record {
   count = rows_are.count ∙ count;
-  vectors = λ q low. row_vector n system texts rows solution.are_texts are.bytes rows_are q (omega (arith, low, count));
+  vectors = λ q low. row_vector n system buffers rows solution.are_buffers are.bytes rows_are q (omega (arith, low, count));
   product = λ u k hu hk.
-      unit_product (length places) n u k (shifted p u places) texts rows (let long = length-map places (shifted_at p u) in omega (arith, long)) (shifted_vector p places u elements).1 solution.are_texts.bytes
-      (λ i hi. row_read n system texts rows solution.are_texts are.bytes rows_are i k (omega (arith, hi, count)) hk) hk
-      (are.solves texts solution.are_texts solution.solves u hu hu);
+      unit_product (length places) n u k (shifted p u places) buffers rows (let long = length-map places (shifted_at p u) in omega (arith, long)) (shifted_vector p places u elements).1 solution.are_buffers.bytes
+      (λ i hi. row_read n system buffers rows solution.are_buffers are.bytes rows_are i k (omega (arith, hi, count)) hk) hk
+      (are.solves buffers solution.are_buffers solution.solves u hu hu);
   only = only_zero_fits p places n n system are regular;
 }
   where
-    count : length texts ≡ length places
-    count = solution.are_texts.count ∙ are.columns
+    count : length buffers ≡ length places
+    count = solution.are_buffers.count ∙ are.columns
 
 -- ---- the inverse
 
--- which number of the window an exponent is
-place_of : (es : List ℕ) (j : ℕ) → IsStrictlyIncreasing es → j < length es → get_or es 0 0 + get_or (places_of es) j 0 ≡ get_or es j 0
+-- the place of an exponent in the window, added to the first exponent, is the exponent
+place_of : (es : List ℕ) (j : ℕ) → IsStrictlyIncreasing es → j < length es → get_or es 0 0 + get_or (exponent_places es) j 0 ≡ get_or es j 0
 place_of es j rise low =
     let by = rises_between es rise 0 j (omega arith) low in
-    let at : get_or (places_of es) j 0 ≡ get_or es j 0 - get_or es 0 0 = get_or-map (λ e. e - get_or es 0 0) es j 0 0 low in
+    let at : get_or (exponent_places es) j 0 ≡ get_or es j 0 - get_or es 0 0 = get_or-map (λ e. e - get_or es 0 0) es j 0 0 low in
     omega (arith, by, at)
 
-place_within : (es : List ℕ) (j : ℕ) → IsStrictlyIncreasing es → j < length es → get_or (places_of es) j 0 < span es + 1
+place_within : (es : List ℕ) (j : ℕ) → IsStrictlyIncreasing es → j < length es → get_or (exponent_places es) j 0 < span es + 1
 place_within es j rise low =
     let at = place_of es j rise low in
     let first = rises_between es rise 0 (length es - 1) (omega arith) (omega (arith, low)) in
     let last = rises_between es rise j (length es - 1) (omega (arith, low)) (omega (arith, low)) in
     omega (arith, at, first, last)
 
-exponent_place : (es : List ℕ) (j : ℕ) → IsStrictlyIncreasing es → j < length es → is_hole es (get_or (places_of es) j 0) ≡ false
-exponent_place es j rise low = exponent_no_hole es (get_or (places_of es) j 0) (subst (Contains es) (sym (place_of es j rise low)) (Contains-get_or es j 0 low))
+exponent_place : (es : List ℕ) (j : ℕ) → IsStrictlyIncreasing es → j < length es → is_hole es (get_or (exponent_places es) j 0) ≡ false
+exponent_place es j rise low = exponent_no_hole es (get_or (exponent_places es) j 0) (subst (Contains es) (sym (place_of es j rise low)) (Contains-get_or es j 0 low))
 
 -- different exponents are different numbers
 rising_identity : (es : List ℕ) → IsStrictlyIncreasing es → (i j : ℕ) → i < length es → j < length es → identity (get_or es i 0) (get_or es j 0) ≡ identity i j
@@ -245,8 +245,8 @@ rising_identity es rise i j hi hj = elim (cases_eq i j) [
 ]
 
 pub filled_inverse : (ks es : List ℕ) (n : ℕ) (inverse run : List (List ℕ)) (origins : List Origin) → AreSlices ks → IsStrictlyIncreasing es → 0 < length es → length es ≡ length ks → n + length es ≡ span es + 1
-    → AreHoleInverse (locator ks) (holes es) n inverse → AreOrigins es (length ks) origins → IsInverse ks (range_with_len (get_or es 0 0) (length ks)) run
-    → IsInverse ks es (matrix_product (length ks) (length ks) run (map (from_origin (identity_rows (length ks)) (matrix_product n (length ks) inverse (shifted_rows (locator ks) (places_of es) n))) origins))
+    → AreHoleInverse (locator ks) (holes es) n inverse → AreOrigins es (length ks) origins → IsInverseMatrix ks (range_with_len (get_or es 0 0) (length ks)) run
+    → IsInverseMatrix ks es (matrix_product (length ks) (length ks) run (map (from_origin (identity_rows (length ks)) (matrix_product n (length ks) inverse (shifted_rows (locator ks) (exponent_places es) n))) origins))
 filled_inverse ks es n inverse run origins are rise some square fit is origins_are run_is = record {
   square = square;
   count = length-product l l run sources ∙ run_is.count;
@@ -268,7 +268,7 @@ filled_inverse ks es n inverse run origins are rise some square fit is origins_a
     p = locator ks
 
     known : List (List ℕ)
-    known = shifted_rows (locator ks) (places_of es) n
+    known = shifted_rows (locator ks) (exponent_places es) n
 
     filled : List (List ℕ)
     filled = matrix_product n (length ks) inverse known
@@ -292,7 +292,7 @@ filled_inverse ks es n inverse run origins are rise some square fit is origins_a
       where
         of_origin : (o : Origin) → IsOriginAt es s o → IsVector (length ks) (from_origin (identity_rows (length ks)) filled o)
         of_origin (Exponent j) h = identity_vector (length ks) j (omega (arith, h.0, square))
-        of_origin (Hole q) h = product_vector n (length ks) inverse known q (let count = is.count in omega (arith, h.0, count)) inverse_elements (known_elements (locator ks) (places_of es) n (locator_elements ks))
+        of_origin (Hole q) h = product_vector n (length ks) inverse known q (let count = is.count in omega (arith, h.0, count)) inverse_elements (known_elements (locator ks) (exponent_places es) n (locator_elements ks))
 
     source_elements : HasElements sources
     source_elements = rows_elements sources l (λ s low. source_vector s (let long = length-map origins (from_origin (identity_rows l) filled) in let count = origins_are.count in omega (arith, low, long, count)))
@@ -316,16 +316,16 @@ filled_inverse ks es n inverse run origins are rise some square fit is origins_a
         let most = rises_between es rise at.0 (length es - 1) (omega (arith, at.1)) (omega (arith, some)) in
         (found k).gives e (omega (arith, most, at.2)) (subst (λ xs. Contains xs e) (sym all_kept) here)
 
-    at_place : (k y : ℕ) → k < length ks → is_hole es y ≡ false → given_at ks es (found k).vector y ≡ identity y (get_or (places_of es) k 0)
+    at_place : (k y : ℕ) → k < length ks → is_hole es y ≡ false → given_at ks es (found k).vector y ≡ identity y (get_or (exponent_places es) k 0)
     at_place k y hk e =
         at_exponent k (f + y) (no_hole es y e)
         ∙ ap (identity (f + y)) (sym (place_of es k rise (omega (arith, hk, square))))
-        ∙ identity_moved f y (get_or (places_of es) k 0)
+        ∙ identity_moved f y (get_or (exponent_places es) k 0)
 
-    place_is : (k : ℕ) → k < length ks → is_hole es (get_or (places_of es) k 0) ≡ false
+    place_is : (k : ℕ) → k < length ks → is_hole es (get_or (exponent_places es) k 0) ≡ false
     place_is k hk = exponent_place es k rise (omega (arith, hk, square))
 
-    -- it gives the run what the sources are made of
+    -- it gives the run the same as the sources do
     source_is : (s k : ℕ) → s < length ks → k < length ks → get_or (list_at sources s) k 0 ≡ given_at ks es (found k).vector s
     source_is s k hs hk =
         ap (λ row. get_or row k 0) (get_or-map (from_origin (identity_rows l) filled) origins s (Exponent 0) [] (let count = origins_are.count in omega (arith, hs, count)))
@@ -342,7 +342,7 @@ filled_inverse ks es n inverse run origins are rise some square fit is origins_a
             ∙ sym (holes_are ks es (found k).vector n inverse k rise some (omega (arith, fit, square)) is (found k).is_vector.1 (omega (arith, hk, square)) (place_is k hk) (place_within es k rise (omega (arith, hk, square))) (λ y e. at_place k y hk e) q h.0)
             ∙ ap (given_at ks es (found k).vector) h.1
 
-    -- and the column of the inverse gives the run the same
+    -- and so does the column of the inverse
     column : ℕ → List ℕ
     column k = map (λ i. x i k) (range_with_len 0 (length ks))
 
@@ -365,7 +365,7 @@ filled_inverse ks es n inverse run origins are rise some square fit is origins_a
         (λ t ht. ap (λ z. mul z (v t)) (ap (λ e. field_sum l (λ i. mul (get_or (coefficients ks e) i 0) (r i t))) (sym (get_or-range_with_len f l s 0 hs)) ∙ run_is.product s t hs ht))
         ∙ sum_of_row l s v hs (λ t. source_elements t k)
 
-    -- so it is that vector
+    -- so the column is that vector
     same_column : (k : ℕ) → k < length ks → column k ≡ (found k).vector
     same_column k hk =
         let v = (found k).vector in

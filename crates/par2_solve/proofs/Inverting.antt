@@ -1,9 +1,9 @@
--- The inverse of the equations of the kept exponents.
-use Rattle.par2_solve.proofs.Common.{inl, inr, ℕ, ◌+◌, ◌*◌, ◌/◌, ◌%◌, ◌<◌, ◌≤◌, ◌≡◌, ◌≢◌, refl, sym, ap, ◌∙◌, arith, cond, List, [], ◌∷◌, ◌++◌, Vec, Global, length, get_or, map, subst, bit_xor, Bor, xor_zero_l, cases_eq, eq-eqb, ne_eqb, get_or-map, length-map, length-replicate, mul, coefficient, word, dot, coefficients, kept, field_sum, list_at, lists_of, AreElements, zero-product, product_comm, product-one, all_at, all_from, all_get, field_sum_same, field_sum_one, coefficients_are, dot-lt, words_are, bytes_at, combination_words, word-lt, Equations, IsTheSolution, AreRows, IsUnit, recovery_at, IsEliminated, IsInverse, identity, Adds, products, recovered_of, texts_of, AreBlank, AreTexts, GivesUnit, IsVector, AllByRecursion, ◌^◌}
-use Rattle.par2_matrix.specs.Echelon.{Spells}
+-- The inverse of the matrix of the kept exponents.
+use Rattle.par2_solve.proofs.Common.{inl, inr, ℕ, ◌+◌, ◌*◌, ◌/◌, ◌%◌, ◌<◌, ◌≤◌, ◌≡◌, ◌≢◌, refl, sym, ap, ◌∙◌, arith, cond, List, [], ◌∷◌, ◌++◌, Vec, Global, length, get_or, map, subst, bit_xor, Bor, xor_zero_l, cases_eq, eq-eqb, ne_eqb, get_or-map, length-map, length-replicate, mul, coefficient, word, dot, coefficients, kept, field_sum, list_at, lists_of, GivesElements, zero-product, product_comm, product-one, all_at, all_from, all_get, field_sum_same, field_sum_one, coefficients_are, dot-lt, words_are, bytes_at, combination_words, word-lt, Equations, IsTheSolution, AreByteRows, IsUnit, recovery_at, IsEliminated, IsInverseMatrix, identity, Adds, products, recovered_of, buffers_of, AreBlank, AreSolutionBuffers, GivesUnit, IsVector, AllByRecursion, ◌^◌}
+use Rattle.par2_matrix.specs.Echelon.{HoldsRow}
 use Rattle.par2_matrix.specs.Systems as systems
 use Rattle.par2_solve.proofs.Dots.{combined}
-use Rattle.par2_solve.proofs.Combinations.{coefficients-lt, dot_at, blank_word, each_push, length-texts_of}
+use Rattle.par2_solve.proofs.Combinations.{coefficients-lt, dot_at, blank_word, each_push, length-buffers_of}
 
 -- ---- recovery slices
 
@@ -13,12 +13,12 @@ length-recovered_of recovery = length-map recovery (λ (r : ℕ × Bor (List ℕ
 pub length-slices : (recovery : List (ℕ × List ℕ)) → length (map (λ r. r.1) recovery) ≡ length recovery
 length-slices recovery = length-map recovery (λ (r : ℕ × List ℕ). r.1)
 
-pub many_texts : (kept : List (ℕ × Bor (List ℕ))) (texts : List (Bor (List ℕ))) → texts_of texts ≡ map (λ r. r.1) (recovered_of kept) → length texts ≡ length kept
-many_texts kept texts are = sym (length-texts_of texts) ∙ ap length are ∙ length-slices (recovered_of kept) ∙ length-recovered_of kept
+pub many_buffers : (kept : List (ℕ × Bor (List ℕ))) (buffers : List (Bor (List ℕ))) → buffers_of buffers ≡ map (λ r. r.1) (recovered_of kept) → length buffers ≡ length kept
+many_buffers kept buffers are = sym (length-buffers_of buffers) ∙ ap length are ∙ length-slices (recovered_of kept) ∙ length-recovered_of kept
 
 -- ---- sums
 
--- what was added to zeros
+-- the result of adding to zeros is the sum itself
 pub from_zeros : (size n words k : ℕ) (factors sources zeros sums : List (List ℕ)) → AreBlank size n zeros → 2 * words ≤ size → Adds factors sources zeros sums 0 words k
     → (r p : ℕ) → r < n → p < words → word p (list_at sums r) ≡ products k factors sources r p
 from_zeros size n words k factors sources zeros sums blank room added r p low here =
@@ -41,24 +41,24 @@ identity-lt i k = elim (cases_eq i k) [
   | inr other ↦ (let e = identity-others i k other in omega (arith, e))
 ]
 
--- the row of the identity picks a value
-pub sum_of_row : (n i : ℕ) (f : ℕ → ℕ) → i < n → AreElements f → field_sum n (λ k. mul (identity i k) (f k)) ≡ f i
+-- a row of the identity picks one value
+pub sum_of_row : (n i : ℕ) (f : ℕ → ℕ) → i < n → GivesElements f → field_sum n (λ k. mul (identity i k) (f k)) ≡ f i
 sum_of_row n i f low are =
     field_sum_one n i (λ k. mul (identity i k) (f k)) low (λ k h other. ap (λ x. mul x (f k)) (identity-others i k (λ e. other (sym e))) ∙ zero-product (f k))
     ∙ ap (λ x. mul x (f i)) (identity-itself i) ∙ product_comm 1 (f i) (omega arith) (are i) ∙ product-one (f i) (are i)
 
 -- ---- the solution for unit vectors is the inverse
 
-unit_bytes : (n i : ℕ) (text : List ℕ) → IsUnit n i text → (k : ℕ) → get_or text k 0 < 256
-unit_bytes n i text is k =
+unit_bytes : (n i : ℕ) (bytes : List ℕ) → IsUnit n i bytes → (k : ℕ) → get_or bytes k 0 < 256
+unit_bytes n i bytes is k =
     let p = k / 2 in
-    let small : word p text < 2 = elim (cases_eq p i) [
-      | inl same ↦ (let e : word p text ≡ 1 = ap (λ q. word q text) same ∙ is.one in omega (arith, e))
-      | inr other ↦ (let e : word p text ≡ 0 = is.zeros p other in omega (arith, e))
+    let small : word p bytes < 2 = elim (cases_eq p i) [
+      | inl same ↦ (let e : word p bytes ≡ 1 = ap (λ q. word q bytes) same ∙ is.one in omega (arith, e))
+      | inr other ↦ (let e : word p bytes ≡ 0 = is.zeros p other in omega (arith, e))
     ] in
     elim (cases_eq (k % 2) 0) [
-      | inl even ↦ (let e : k ≡ 2 * p = omega arith in let at : get_or text k 0 ≡ get_or text (2 * p) 0 = ap (λ q. get_or text q 0) e in omega (arith, at, small))
-      | inr odd ↦ (let e : k ≡ 2 * p + 1 = omega arith in let at : get_or text k 0 ≡ get_or text (2 * p + 1) 0 = ap (λ q. get_or text q 0) e in omega (arith, at, small))
+      | inl even ↦ (let e : k ≡ 2 * p = omega arith in let at : get_or bytes k 0 ≡ get_or bytes (2 * p) 0 = ap (λ q. get_or bytes q 0) e in omega (arith, at, small))
+      | inr odd ↦ (let e : k ≡ 2 * p + 1 = omega arith in let at : get_or bytes k 0 ≡ get_or bytes (2 * p + 1) 0 = ap (λ q. get_or bytes q 0) e in omega (arith, at, small))
     ]
 
 unit_word : (n j : ℕ) (unit : List ℕ) (k : ℕ) → IsUnit n j unit → word k unit ≡ identity j k
@@ -67,59 +67,59 @@ unit_word n j unit k is = elim (cases_eq k j) [
   | inr other ↦ is.zeros k other ∙ sym (identity-others j k (λ e. other (sym e)))
 ]
 
--- the elements of texts of n words
-pub row_long : (n : ℕ) (system : Equations) (texts rows : List (List ℕ)) → AreTexts system texts → system.bytes ≡ 2 * n → AreRows rows texts (length texts) → (i : ℕ) → i < length texts → length (list_at rows i) ≡ n
-row_long n system texts rows are_texts bytes are i h =
+-- the elements of buffers of n words
+pub row_long : (n : ℕ) (system : Equations) (buffers rows : List (List ℕ)) → AreSolutionBuffers system buffers → system.bytes ≡ 2 * n → AreByteRows rows buffers (length buffers) → (i : ℕ) → i < length buffers → length (list_at rows i) ≡ n
+row_long n system buffers rows are_buffers bytes are i h =
     let size = (are.each i h).size in
-    let all = all_get (λ (text : List ℕ). length text ≡ system.bytes) texts i [] h are_texts.sizes in
+    let all = all_get (λ (content : List ℕ). length content ≡ system.bytes) buffers i [] h are_buffers.sizes in
     omega (arith, size, all, bytes)
 
-pub row_read : (n : ℕ) (system : Equations) (texts rows : List (List ℕ)) → AreTexts system texts → system.bytes ≡ 2 * n → AreRows rows texts (length texts) → (i k : ℕ) → i < length texts → k < n → word k (list_at texts i) ≡ get_or (list_at rows i) k 0
-row_read n system texts rows are_texts bytes are i k hi hk = let size = row_long n system texts rows are_texts bytes are i hi in (are.each i hi).each k (omega (arith, size, hk)) (omega (arith, size, hk))
+pub row_read : (n : ℕ) (system : Equations) (buffers rows : List (List ℕ)) → AreSolutionBuffers system buffers → system.bytes ≡ 2 * n → AreByteRows rows buffers (length buffers) → (i k : ℕ) → i < length buffers → k < n → word k (list_at buffers i) ≡ get_or (list_at rows i) k 0
+row_read n system buffers rows are_buffers bytes are i k hi hk = let size = row_long n system buffers rows are_buffers bytes are i hi in (are.each i hi).each k (omega (arith, size, hk)) (omega (arith, size, hk))
 
-pub row_vector : (n : ℕ) (system : Equations) (texts rows : List (List ℕ)) → AreTexts system texts → system.bytes ≡ 2 * n → AreRows rows texts (length texts) → (i : ℕ) → i < length texts → IsVector n (list_at rows i)
-row_vector n system texts rows are_texts bytes are i h = (
-  row_long n system texts rows are_texts bytes are i h,
+pub row_vector : (n : ℕ) (system : Equations) (buffers rows : List (List ℕ)) → AreSolutionBuffers system buffers → system.bytes ≡ 2 * n → AreByteRows rows buffers (length buffers) → (i : ℕ) → i < length buffers → IsVector n (list_at rows i)
+row_vector n system buffers rows are_buffers bytes are i h = (
+  row_long n system buffers rows are_buffers bytes are i h,
   all_from (λ y. y < 65536) 0 (list_at rows i) (λ k low.
-      let here : k < n = (let size = row_long n system texts rows are_texts bytes are i h in omega (arith, size, low)) in
-      subst (λ y. y < 65536) (row_read n system texts rows are_texts bytes are i k h here) (word-lt (list_at texts i) k (bytes_at texts are_texts.bytes i))),
+      let here : k < n = (let size = row_long n system buffers rows are_buffers bytes are i h in omega (arith, size, low)) in
+      subst (λ y. y < 65536) (row_read n system buffers rows are_buffers bytes are i k h here) (word-lt (list_at buffers i) k (bytes_at buffers are_buffers.bytes i))),
 )
 
--- a row that combines the texts to a unit vector, times their elements, is a row of the identity
-pub unit_product : (m n j k : ℕ) (row : List ℕ) (texts rows : List (List ℕ)) → length row ≤ m → AllByRecursion (λ c. c < 2 ^ 16) row → AllByRecursion (λ (text : List ℕ). AllByRecursion (λ b. b < 256) text) texts
-    → ((i : ℕ) → i < m → word k (list_at texts i) ≡ get_or (list_at rows i) k 0) → k < n → GivesUnit n j row texts → field_sum m (λ i. mul (get_or row i 0) (get_or (list_at rows i) k 0)) ≡ identity j k
-unit_product m n j k row texts rows fit elements bytes read low gives =
-    field_sum_same m (λ i. mul (get_or row i 0) (get_or (list_at rows i) k 0)) (λ i. mul (get_or row i 0) (word k (list_at texts i))) (λ i hi. ap (mul (get_or row i 0)) (sym (read i hi)))
-    ∙ sym (dot_at m row texts k fit)
-    ∙ (combination_words (2 * n) row texts gives.unit (omega arith) (λ p. dot-lt row (map (word p) texts) elements (words_are p texts bytes)) gives.is_unit.size (unit_bytes n j gives.unit gives.is_unit)).0 gives.combined k (omega (arith, low))
+-- if a row times the buffers is a unit vector, the row times their elements is a row of the identity
+pub unit_product : (m n j k : ℕ) (row : List ℕ) (buffers rows : List (List ℕ)) → length row ≤ m → AllByRecursion (λ c. c < 2 ^ 16) row → AllByRecursion (λ (content : List ℕ). AllByRecursion (λ b. b < 256) content) buffers
+    → ((i : ℕ) → i < m → word k (list_at buffers i) ≡ get_or (list_at rows i) k 0) → k < n → GivesUnit n j row buffers → field_sum m (λ i. mul (get_or row i 0) (get_or (list_at rows i) k 0)) ≡ identity j k
+unit_product m n j k row buffers rows fit elements bytes read low gives =
+    field_sum_same m (λ i. mul (get_or row i 0) (get_or (list_at rows i) k 0)) (λ i. mul (get_or row i 0) (word k (list_at buffers i))) (λ i hi. ap (mul (get_or row i 0)) (sym (read i hi)))
+    ∙ sym (dot_at m row buffers k fit)
+    ∙ (combination_words (2 * n) row buffers gives.unit (omega arith) (λ p. dot-lt row (map (word p) buffers) elements (words_are p buffers bytes)) gives.is_unit.size (unit_bytes n j gives.unit gives.is_unit)).0 gives.combined k (omega (arith, low))
     ∙ unit_word n j gives.unit k gives.is_unit
 
-pub are_inverse : (lost : List ℕ) (recs kept_ones : List (ℕ × List ℕ)) (system : Equations) (texts rows : List (List ℕ)) → IsEliminated lost recs kept_ones system → IsTheSolution system texts
-    → systems.rank system ≡ system.columns → AreRows rows texts (length texts) → IsInverse lost (map (λ r. r.0) kept_ones) rows
-are_inverse lost recs kept_ones system texts rows found solution full are = record {
+pub are_inverse : (lost : List ℕ) (recs kept_ones : List (ℕ × List ℕ)) (system : Equations) (buffers rows : List (List ℕ)) → IsEliminated lost recs kept_ones system → IsTheSolution system buffers
+    → systems.rank system ≡ system.columns → AreByteRows rows buffers (length buffers) → IsInverseMatrix lost (map (λ r. r.0) kept_ones) rows
+are_inverse lost recs kept_ones system buffers rows found solution full are = record {
   square = length-map kept_ones (λ (r : ℕ × List ℕ). r.0) ∙ kept_count;
   count = are.count ∙ count;
-  vectors = λ i h. row_vector n system texts rows solution.are_texts found.bytes are i (omega (arith, h, count));
+  vectors = λ i h. row_vector n system buffers rows solution.are_buffers found.bytes are i (omega (arith, h, count));
   product = λ j k hj hk.
       let e : ℕ = (recovery_at kept_ones j).0 in
       let fit : length (coefficients lost e) ≤ n = (let long = length-map lost (coefficient e) in omega (arith, long)) in
       ap (λ x. field_sum n (λ i. mul (get_or (coefficients lost x) i 0) (get_or (list_at rows i) k 0))) (get_or-map (λ (r : ℕ × List ℕ). r.0) kept_ones j (0, []) 0 (omega (arith, hj, kept_count)))
-      ∙ unit_product n n j k (coefficients lost e) texts rows fit (coefficients_are e lost) solution.are_texts.bytes (λ i hi. row_read n system texts rows solution.are_texts found.bytes are i k (omega (arith, hi, count)) hk) hk
-      (found.solves texts solution.are_texts solution.solves j (omega (arith, hj, kept_count)));
+      ∙ unit_product n n j k (coefficients lost e) buffers rows fit (coefficients_are e lost) solution.are_buffers.bytes (λ i hi. row_read n system buffers rows solution.are_buffers found.bytes are i k (omega (arith, hi, count)) hk) hk
+      (found.solves buffers solution.are_buffers solution.solves j (omega (arith, hj, kept_count)));
 }
   where
     n : ℕ
     n = length lost
 
-    count : length texts ≡ n
-    count = solution.are_texts.count ∙ found.columns
+    count : length buffers ≡ n
+    count = solution.are_buffers.count ∙ found.columns
 
     kept_count : length kept_ones ≡ n
     kept_count = sym found.count ∙ full ∙ found.columns
 
--- ---- what the exponents give for the inverse times some elements are these elements
+-- ---- the exponents' matrix times the inverse times some elements is these elements
 
-pub gives_back : (lost es : List ℕ) (inverse made : List (List ℕ)) (w : ℕ) (s : ℕ → ℕ) → IsInverse lost es inverse → AreElements s
+pub gives_back : (lost es : List ℕ) (inverse made : List (List ℕ)) (w : ℕ) (s : ℕ → ℕ) → IsInverseMatrix lost es inverse → GivesElements s
     → ((i : ℕ) → i < length lost → word w (list_at made i) ≡ field_sum (length lost) (λ j. mul (get_or (list_at inverse i) j 0) (s j)))
     → (j : ℕ) → j < length lost → dot (coefficients lost (get_or es j 0)) (map (word w) made) ≡ s j
 gives_back lost es inverse made w s is are made_is j low =
@@ -132,7 +132,7 @@ gives_back lost es inverse made w s is are made_is j low =
     ∙ field_sum_same n (λ k. mul (field_sum n (λ i. mul (get_or row i 0) (x i k))) (s k)) (λ k. mul (identity j k) (s k)) (λ k hk. ap (λ z. mul z (s k)) (is.product j k low hk))
     ∙ sum_of_row n j s low are
 
--- the elements of one text more
-pub rows_push : (texts : List (List ℕ)) (rows : List (Vec ℕ Global)) (row : Vec ℕ Global) (r : ℕ) → AreRows (lists_of rows) texts r → Spells row.items (list_at texts r) (length row.items)
-    → AreRows (lists_of (rows ++ row ∷ [])) texts (r + 1)
-rows_push texts rows row r are is = let all = each_push (λ q row. Spells row (list_at texts q) (length row)) rows row r are.count are.each is in record { count = all.0; each = all.1 }
+-- the elements of one buffer more
+pub rows_push : (buffers : List (List ℕ)) (rows : List (Vec ℕ Global)) (row : Vec ℕ Global) (r : ℕ) → AreByteRows (lists_of rows) buffers r → HoldsRow row.items (list_at buffers r) (length row.items)
+    → AreByteRows (lists_of (rows ++ row ∷ [])) buffers (r + 1)
+rows_push buffers rows row r are is = let all = each_push (λ q row. HoldsRow row (list_at buffers q) (length row)) rows row r are.count are.each is in record { count = all.0; each = all.1 }

@@ -20,3 +20,4 @@ pub mod Windows
 pub mod Matrices
 pub mod Fillings
 pub mod Filled
+mod SpanLaws

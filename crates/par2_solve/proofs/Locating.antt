@@ -1,5 +1,5 @@
--- The rows that a locator gives are the scaled quotients.
-use Rattle.par2_solve.proofs.Common.{Vec, Global, lists_of, length-lists_of, ℕ, zero, suc, ◌+◌, ◌-◌, ◌*◌, ◌^◌, ◌<◌, ◌≤◌, ◌≡◌, refl, sym, ap, ap₂, ◌∙◌, subst, arith, List, [], ◌∷◌, ◌++◌, inl, inr, cases_lt, length-append, get_or_append_left, get_or_at, length, get_or, drop, map, bit_xor, range_with_len, get_or-drop, length-drop, get_or-map, length-map, ext_get_or, get_or-map-range_with_len, length-map-range_with_len, mul, pow, field_sum, field_sum_head, field_sum_none, field_sum_same, field_sum_scaled, zero-product, product-one, product_assoc, product_comm, power-lt, all_at, all_from, list_at, times, value, with_roots, quotient, length-quotient, length-with_roots, with_roots_elements, AreSlices, constant, constant-lt, IsInverse, AreProducts, products, word, AreBlank, AddsToEach, xor_zero_l, length-replicate}
+-- The rows that a locator represents are the scaled quotients.
+use Rattle.par2_solve.proofs.Common.{Vec, Global, lists_of, length-lists_of, ℕ, zero, suc, ◌+◌, ◌-◌, ◌*◌, ◌^◌, ◌<◌, ◌≤◌, ◌≡◌, refl, sym, ap, ap₂, ◌∙◌, subst, arith, List, [], ◌∷◌, ◌++◌, inl, inr, cases_lt, length-append, get_or_append_left, get_or_at, length, get_or, drop, map, bit_xor, range_with_len, get_or-drop, length-drop, get_or-map, length-map, ext_get_or, get_or-map-range_with_len, length-map-range_with_len, mul, pow, field_sum, field_sum_head, field_sum_none, field_sum_same, field_sum_scaled, zero-product, product-one, product_assoc, product_comm, power-lt, all_at, all_from, list_at, times, value, with_roots, quotient, length-quotient, length-with_roots, with_roots_elements, AreSlices, constant, constant-lt, IsInverseMatrix, AreProducts, products, word, AreBlank, AddsToEach, xor_zero_l, length-replicate}
 use Rattle.par2_solve.specs.Solvers.{AreFactors}
 use Rattle.par2_solve.specs.Located.{quotient_rows}
 use Rattle.par2_spec.specs.Polynomials.{AreElements}
@@ -10,7 +10,7 @@ use Rattle.par2_solve.proofs.Combinations.{blank_word}
 use Rattle.par2_solve.proofs.Quotients.{quotient_at}
 use Rattle.par2_solve.proofs.RunInverses.{constants-lt, constant_at, is_inverse, scaled_is}
 
--- a value by Horner's rule is the sum of the coefficients, each times its power
+-- the value by Horner's rule is the sum of the coefficients, each times its power
 pub value_is_sum : (z : ℕ) (xs : List ℕ) (m : ℕ) → AreElements xs → z < 2 ^ 16 → length xs ≤ m → value xs z ≡ field_sum m (λ t. mul (get_or xs t 0) (pow z t))
 unfolding value pow
 value_is_sum z [] m h hz fits = sym (field_sum_none m (λ t. mul (get_or [] t 0) (pow z t)) (λ t _. zero-product (pow z t)))
@@ -19,11 +19,11 @@ value_is_sum z (c ∷ xs) (suc m) h hz fits =
     ap₂ bit_xor (sym (product-one c h.0))
     (ap (mul z) (value_is_sum z xs m h.1 hz (omega (arith, fits)))
     ∙ sym (field_sum_scaled m z (λ t. mul (get_or xs t 0) (pow z t)))
-    ∙ field_sum_same m (λ t. mul z (mul (get_or xs t 0) (pow z t))) (λ t. mul (get_or xs t 0) (mul z (pow z t))) (λ t _. turn (get_or xs t 0) (pow z t) (all_at (λ x. x < 65536) 0 (omega arith) xs h.1 t) (power-lt z t hz)))
+    ∙ field_sum_same m (λ t. mul z (mul (get_or xs t 0) (pow z t))) (λ t. mul (get_or xs t 0) (mul z (pow z t))) (λ t _. step (get_or xs t 0) (pow z t) (all_at (λ x. x < 65536) 0 (omega arith) xs h.1 t) (power-lt z t hz)))
     ∙ sym (field_sum_head m (λ t. mul (get_or (c ∷ xs) t 0) (pow z t)))
   where
-    turn : (a p : ℕ) → a < 65536 → p < 65536 → mul z (mul a p) ≡ mul a (mul z p)
-    turn a p ha hp = sym (product_assoc z a p hz ha hp) ∙ ap (λ v. mul v p) (product_comm z a hz ha) ∙ product_assoc a z p ha hz hp
+    step : (a p : ℕ) → a < 65536 → p < 65536 → mul z (mul a p) ≡ mul a (mul z p)
+    step a p ha hp = sym (product_assoc z a p hz ha hp) ∙ ap (λ v. mul v p) (product_comm z a hz ha) ∙ product_assoc a z p ha hz hp
 
 elements_drop : (n : ℕ) (p : List ℕ) → AreElements p → AreElements (drop n p)
 elements_drop n p h = all_from (λ c. c < 2 ^ 16) 0 (drop n p) (λ i _. subst (λ x. x < 65536) (sym (get_or-drop n p i 0)) (all_at (λ x. x < 65536) 0 (omega arith) p h (n + i)))
@@ -40,7 +40,7 @@ coefficient_is c s p h hc =
     (λ t _. ap (λ x. mul x (pow c t))
     (get_or-drop (suc s) p t 0 ∙ ap (λ i. get_or p i 0) (let e : suc s + t ≡ 1 + (s + t) = omega arith in e) ∙ sym (get_or-drop 1 p (s + t) 0))))
 
--- the row of a point
+-- the row of a point is its scaled quotient
 pub row_is : (points factors p : List ℕ) (j : ℕ) → AreElements p → j < length points → get_or points j 0 < 2 ^ 16
     → list_at (quotient_rows (drop 1 p) points factors) j ≡ times (get_or factors j 0) (quotient (get_or points j 0) p)
 row_is points factors p j h low hc =
@@ -95,9 +95,9 @@ next_factor f n b p points factors so_far product small = record {
     here : (j : ℕ) → j ≡ n → get_or (factors ++ b ∷ []) j 0 ≡ b
     here j last = ap (λ k. get_or (factors ++ b ∷ []) k 0) last ∙ get_or_at factors b [] 0 n so_far.count
 
--- with these factors they are the inverse for a run
+-- with Forney's factors the rows are the inverse for a run
 pub located_inverse : (ks : List ℕ) (f : ℕ) (factors : List ℕ) → AreSlices ks → AreFactors f (with_roots (map constant ks)) (map constant ks) factors (length ks)
-    → IsInverse ks (range_with_len f (length ks)) (quotient_rows (drop 1 (with_roots (map constant ks))) (map constant ks) factors)
+    → IsInverseMatrix ks (range_with_len f (length ks)) (quotient_rows (drop 1 (with_roots (map constant ks))) (map constant ks) factors)
 located_inverse ks f factors are given =
     is_inverse ks f (quotient_rows (drop 1 p) points factors) are (record {
       count = length-map-range_with_len (λ i. map (quotient_coefficient (drop 1 p) points factors i) (range_with_len 0 (length (drop 1 p)))) 0 (length points) ∙ many;
@@ -129,14 +129,14 @@ located_wide ks =
     let rest = length-drop 1 (with_roots (map constant ks)) in
     omega (arith, many, all, rest)
 
--- how many rows there are
+-- the number of rows
 pub rows_long : (rows : List (Vec ℕ Global)) → length rows ≡ length (lists_of rows)
 rows_long rows = sym (length-lists_of rows)
 
 pub located_long : (sequence points factors : List ℕ) → length (quotient_rows sequence points factors) ≡ length points
 located_long sequence points factors = length-map-range_with_len (λ i. map (quotient_coefficient sequence points factors i) (range_with_len 0 (length sequence))) 0 (length points)
 
--- the products, as the locator adds them, are those with the rows
+-- the sums that the locator adds are the products with its rows
 pub located_sums : (sequence points factors : List ℕ) (sources sums : List (List ℕ)) (size : ℕ) → length sources ≡ length sequence → length sums ≡ length points
     → ((r : ℕ) → r < length points → length (list_at sums r) ≡ size)
     → ((r w : ℕ) → r < length points → 2 * w + 1 < size → word w (list_at sums r) ≡ quotient_sum sequence points factors (words_at sources w) r)
@@ -160,7 +160,7 @@ located_sums sequence points factors sources sums size sources_count count sizes
         ap (λ xs. get_or xs s 0) (get_or-map-range_with_len (λ i. map (quotient_coefficient sequence points factors i) (range_with_len 0 (length sequence))) 0 (length points) r r [] low (omega arith))
         ∙ get_or-map-range_with_len (quotient_coefficient sequence points factors r) 0 (length sequence) s s 0 here (omega arith)
 
--- what was added to blank texts
+-- the result of adding to zeros is the sums themselves
 pub added_to_blank : (size n : ℕ) (other : ℕ → ℕ → ℕ) (blank sums : List (List ℕ)) → AreBlank size n blank → AddsToEach other blank sums
     → (r w : ℕ) → r < n → 2 * w + 1 < size → word w (list_at sums r) ≡ other r w
 added_to_blank size n other blank sums is added r w low fits =

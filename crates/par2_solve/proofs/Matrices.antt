@@ -1,6 +1,6 @@
--- Products of matrices, and of a matrix and texts.
-use Rattle.par2_solve.proofs.Common.{ℕ, ◌+◌, ◌*◌, ◌^◌, ◌<◌, ◌≡◌, sym, ap, ◌∙◌, subst, arith, inl, inr, cases_lt, List, [], length, get_or, map, range_with_len, get_or-map, length-map, get_or_past, get_or-map-range_with_len, length-map-range_with_len, mul, field_sum, field_sum_same, field_sum-lt, product-lt, IsVector, all_at, all-each, list_at, word, word-lt, AreBytes, AreProducts, products, identity}
-use Rattle.par2_solve.specs.Filling.{row_times, matrix_product, identity_rows, from_origin, origin_at, IsWithin}
+-- Products of matrices, and of a matrix and buffers.
+use Rattle.par2_solve.proofs.Common.{ℕ, ◌+◌, ◌*◌, ◌^◌, ◌<◌, ◌≡◌, sym, ap, ◌∙◌, subst, arith, inl, inr, cases_lt, List, [], length, get_or, map, range_with_len, get_or-map, length-map, get_or_past, get_or-map-range_with_len, length-map-range_with_len, mul, field_sum, field_sum_same, field_sum-lt, product-lt, IsVector, all_at, all-each, list_at, word, word-lt, AreByteLists, AreProducts, products, identity}
+use Rattle.par2_solve.specs.Filling.{row_times, matrix_product, identity_rows, from_origin, origin_at, HasRoomFor}
 use Rattle.par2_solve.specs.declared.filling.Origin.{Origin}
 use Rattle.par2_solve.specs.declared.filling.Origin.TheVariants.{Exponent, Hole}
 use Rattle.par2_solve.proofs.Dots.{combined}
@@ -8,7 +8,7 @@ use Rattle.par2_solve.proofs.Inverting.{identity-lt, sum_of_row}
 
 -- ---- elements
 
--- each place of the matrix has an element
+-- each row of the matrix has elements only
 abbrev pub HasElements : List (List ℕ) → Type 0
 HasElements matrix = (i k : ℕ) → get_or (list_at matrix i) k 0 < 65536
 
@@ -53,24 +53,24 @@ identity_vector n j hj =
     subst (IsVector n) (sym (get_or-map-range_with_len (λ i. map (identity i) (range_with_len 0 n)) 0 n j j [] hj (omega arith)))
     (length-map-range_with_len (identity j) 0 n, all-each (λ x. x < 2 ^ 16) (identity j) (identity-lt j) (range_with_len 0 n))
 
--- ---- products of texts
+-- ---- products of buffers
 
--- a matrix times texts that are a matrix times others is the product of both matrices times these
-pub products_joined : (size : ℕ) (rows matrix texts made sums : List (List ℕ)) → HasElements rows → HasElements matrix → AreBytes texts → length made ≡ length matrix
-    → ((i w : ℕ) → i < length matrix → 2 * w + 1 < size → word w (list_at made i) ≡ products (length texts) matrix texts i w)
-    → AreProducts size rows made sums → AreProducts size (matrix_product (length matrix) (length texts) rows matrix) texts sums
-products_joined size rows matrix texts made sums are_rows are_matrix bytes count words sums_are = record {
+-- applying one matrix and then another is applying their product
+pub products_joined : (size : ℕ) (rows matrix buffers made sums : List (List ℕ)) → HasElements rows → HasElements matrix → AreByteLists buffers → length made ≡ length matrix
+    → ((i w : ℕ) → i < length matrix → 2 * w + 1 < size → word w (list_at made i) ≡ products (length buffers) matrix buffers i w)
+    → AreProducts size rows made sums → AreProducts size (matrix_product (length matrix) (length buffers) rows matrix) buffers sums
+products_joined size rows matrix buffers made sums are_rows are_matrix bytes count words sums_are = record {
   count = sums_are.count ∙ sym many;
   sizes = λ r low. sums_are.sizes r (omega (arith, low, many));
   words = λ r w low fits.
       let here : r < length rows = omega (arith, low, many) in
-      let v : ℕ → ℕ = λ k. word w (list_at texts k) in
+      let v : ℕ → ℕ = λ k. word w (list_at buffers k) in
       let x : ℕ → ℕ = λ i. get_or (list_at rows r) i 0 in
       let a : ℕ → ℕ → ℕ = λ i k. get_or (list_at matrix i) k 0 in
       sums_are.words r w here fits
       ∙ ap (λ n. products n rows made r w) count
       ∙ field_sum_same n (λ i. mul (x i) (word w (list_at made i))) (λ i. mul (x i) (field_sum m (λ k. mul (a i k) (v k)))) (λ i hi. ap (mul (x i)) (words i w hi fits))
-      ∙ combined n m x a v (are_rows r) (λ i _. are_matrix i) (λ k. word-lt (list_at texts k) w (bytes k))
+      ∙ combined n m x a v (are_rows r) (λ i _. are_matrix i) (λ k. word-lt (list_at buffers k) w (bytes k))
       ∙ field_sum_same m (λ k. mul (row_times n (list_at rows r) matrix k) (v k)) (λ k. mul (get_or (list_at (matrix_product n m rows matrix) r) k 0) (v k))
       (λ k hk. ap (λ z. mul z (v k)) (sym (entry n m rows matrix r k here hk)));
 }
@@ -79,28 +79,28 @@ products_joined size rows matrix texts made sums are_rows are_matrix bytes count
     n = length matrix
 
     m : ℕ
-    m = length texts
+    m = length buffers
 
     many : length (matrix_product n m rows matrix) ≡ length rows
     many = length-product n m rows matrix
 
 -- the words of the syndromes of a run
-pub run_words : (size : ℕ) (origins : List Origin) (filled texts sums : List (List ℕ)) → AreBytes texts → AreProducts size filled texts sums
-    → (x w : ℕ) → x < length origins → 2 * w + 1 < size → IsWithin (length texts) (length filled) (origin_at origins x)
-    → word w (list_at (map (from_origin texts sums) origins) x) ≡ products (length texts) (map (from_origin (identity_rows (length texts)) filled) origins) texts x w
-run_words size origins filled texts sums bytes are x w low fits within =
-    ap (word w) (get_or-map (from_origin texts sums) origins x (Exponent 0) [] low)
+pub run_words : (size : ℕ) (origins : List Origin) (filled buffers sums : List (List ℕ)) → AreByteLists buffers → AreProducts size filled buffers sums
+    → (x w : ℕ) → x < length origins → 2 * w + 1 < size → HasRoomFor (length buffers) (length filled) (origin_at origins x)
+    → word w (list_at (map (from_origin buffers sums) origins) x) ≡ products (length buffers) (map (from_origin (identity_rows (length buffers)) filled) origins) buffers x w
+run_words size origins filled buffers sums bytes are x w low fits within =
+    ap (word w) (get_or-map (from_origin buffers sums) origins x (Exponent 0) [] low)
     ∙ of_origin (origin_at origins x) within
     ∙ ap (λ row. field_sum n (λ k. mul (get_or row k 0) (v k))) (sym (get_or-map (from_origin (identity_rows n) filled) origins x (Exponent 0) [] low))
   where
     n : ℕ
-    n = length texts
+    n = length buffers
 
     v : ℕ → ℕ
-    v k = word w (list_at texts k)
+    v k = word w (list_at buffers k)
 
-    of_origin : (o : Origin) → IsWithin (length texts) (length filled) o → word w (from_origin texts sums o) ≡ field_sum n (λ k. mul (get_or (from_origin (identity_rows n) filled o) k 0) (v k))
+    of_origin : (o : Origin) → HasRoomFor (length buffers) (length filled) o → word w (from_origin buffers sums o) ≡ field_sum n (λ k. mul (get_or (from_origin (identity_rows n) filled o) k 0) (v k))
     of_origin (Exponent j) h =
         sym (field_sum_same n (λ k. mul (get_or (list_at (identity_rows n) j) k 0) (v k)) (λ k. mul (identity j k) (v k)) (λ k hk. ap (λ z. mul z (v k)) (identity_entry n j k h hk))
-        ∙ sum_of_row n j v h (λ k. word-lt (list_at texts k) w (bytes k)))
+        ∙ sum_of_row n j v h (λ k. word-lt (list_at buffers k) w (bytes k)))
     of_origin (Hole q) h = are.words q w h fits

@@ -1,7 +1,7 @@
 -- Coefficients of products and quotients, one after the other.
 use Rattle.par2_solve.proofs.Common.{append_assoc, ℕ, zero, suc, ◌+◌, ◌-◌, ◌<◌, ◌≤◌, ◌≡◌, set, refl, sym, ap, ◌∙◌, arith, List, [], ◌∷◌, ◌++◌, length, get_or, drop, bit_xor, inl, inr, cases_eq, ext_get_or, drop_more, get_or-set_same, get_or-set_other, drop_all, mul, times, times_root, value, plus, with_roots, quotient, length-quotient}
 
--- one more coefficient of a product with a root
+-- one more coefficient of the product with z - c
 pub root_step : (c before t : ℕ) (p done : List ℕ) → t < length p
     → done ++ plus (times c (drop t p)) (before ∷ drop t p) ≡ (done ++ bit_xor (mul c (get_or p t 0)) before ∷ []) ++ plus (times c (drop (t + 1) p)) (get_or p t 0 ∷ drop (t + 1) p)
 unfolding plus
@@ -13,7 +13,7 @@ pub root_end : (c before t : ℕ) (p done : List ℕ) → length p ≤ t → don
 unfolding plus
 root_end c before t p done h = ap (λ q. done ++ plus (times c q) (before ∷ q)) (drop_all t p h)
 
--- a coefficient of the quotient is the value of what stands after its place
+-- a coefficient of the quotient is the value of the coefficients after its place
 pub quotient_at : (c : ℕ) (p : List ℕ) (i : ℕ) → get_or (quotient c p) i 0 ≡ value (drop (suc i) p) c
 unfolding quotient value
 quotient_at c [] i = refl
@@ -28,7 +28,7 @@ quotient_whole c n p q is count each =
     let next : i + 1 ≡ suc i = omega arith in
     each i (omega arith) (omega (arith, h, count)) ∙ ap (λ m. value (drop m p) c) next ∙ sym (quotient_at c p i))
 
--- Horner's rule
+-- one step of Horner's rule
 pub value_from : (p : List ℕ) (z t : ℕ) → t < length p → value (drop t p) z ≡ bit_xor (get_or p t 0) (mul z (value (drop (t + 1) p) z))
 unfolding value
 value_from p z t h = ap (λ xs. value xs z) (drop_more p t 0 h)

@@ -1,4 +1,4 @@
--- What the offered equations of some exponents say of the exponents.
+-- What the system after some exponents' equations were offered says of these exponents.
 use Rattle.par2_solve.proofs.Common.{ℕ, zero, suc, ◌+◌, ◌<◌, ◌≤◌, ◌≡◌, ◌≢◌, ◌↔◌, inl, inr, refl, sym, ap, ap₂, ◌∙◌, subst, arith, Bool, true, false, cond, ltb, List, [], ◌∷◌, ◌++◌, length, get_or, map, bit_xor, append-nil, take, filter, Result, Ok, cases_eq, cases_lt, lt-ltb, le-ltb, length_push, take_more, map-append, take_all, filter_more, AllPairs-from_increasing, AllByRecursion, IsStrictlyIncreasing, mul, coefficients, dot, IsVector, is_independent, smaller, kept, product-zero, all-append, all-parts, Equations, CutDown, IsIndependent, OnlyZeroIsKilled, Kept, Dependent}
 use Rattle.par2_matrix.specs.Systems as systems
 use Rattle.std.specs.declared.alloc.AllocError.{AllocError}
@@ -7,7 +7,7 @@ use Rattle.par2_solve.proofs.RankTests.{AllKill, independent, dependent}
 
 -- ---- the exponents before one
 
--- what passes a test are the first i
+-- if exactly the first i items pass a test, a filter leaves these
 pub filter_front : (t : ℕ → Bool) (xs : List ℕ) (i : ℕ) → ((k : ℕ) → k < i → k < length xs → t (get_or xs k 0) ≡ true) → ((k : ℕ) → i ≤ k → k < length xs → t (get_or xs k 0) ≡ false) → filter t xs ≡ take i xs
 filter_front t [] zero inside past = refl
 filter_front t [] (suc i) inside past = refl
@@ -54,7 +54,7 @@ pub kept_more : {A : Type 0} (p : A → Bool) (xs : List A) (i : ℕ) (d : A) (b
     → filter p (take (i + 1) xs) ≡ filter p (take i xs) ++ cond b (get_or xs i d ∷ []) []
 kept_more p xs i d b h e = filter_more p xs i d h ∙ ap (λ c. filter p (take i xs) ++ cond c (get_or xs i d ∷ []) []) e
 
--- the row of exponent i among the smaller ones
+-- the test of exponent i among the smaller ones
 pub is_kept_at : (lost all : List ℕ) (i : ℕ) → IsStrictlyIncreasing all → i < length all
     → is_kept lost all (get_or all i 0) ≡ is_independent (length lost) (map (coefficients lost) (take i all)) (coefficients lost (get_or all i 0))
 is_kept_at lost all i up h =
@@ -62,11 +62,11 @@ is_kept_at lost all i up h =
 
 pub kept_is : (lost all : List ℕ) (i : ℕ) (s : Equations) → IsStrictlyIncreasing all → i < length all → Eliminated lost all i s → IsIndependent s (coefficients lost (get_or all i 0))
     → is_kept lost all (get_or all i 0) ≡ true
-kept_is lost all i s up h so_far told =
-    let vector : IsVector (length lost) told.vector = subst (λ n. IsVector n told.vector) so_far.columns told.is_vector in
+kept_is lost all i s up h so_far reported =
+    let vector : IsVector (length lost) reported.vector = subst (λ n. IsVector n reported.vector) so_far.columns reported.is_vector in
     is_kept_at lost all i up h
     ∙ independent (length lost) (map (coefficients lost) (take i all)) (coefficients lost (get_or all i 0))
-    (told.vector, vector, (so_far.kills told.vector vector).0 told.killed, told.not_killed)
+    (reported.vector, vector, (so_far.kills reported.vector vector).0 reported.killed, reported.not_killed)
 
 pub dependent_is : (lost all : List ℕ) (i : ℕ) (s : Equations) → IsStrictlyIncreasing all → i < length all → Eliminated lost all i s → systems.IsDependent s (coefficients lost (get_or all i 0))
     → is_kept lost all (get_or all i 0) ≡ false
@@ -75,10 +75,10 @@ dependent_is lost all i s up h so_far follows =
     ∙ dependent (length lost) (map (coefficients lost) (take i all)) (coefficients lost (get_or all i 0))
     (λ v is killed. follows v (subst (λ n. IsVector n v) (sym so_far.columns) is) ((so_far.kills v is).1 killed))
 
--- an equation was kept
+-- the equation was kept
 pub one_kept : (lost all : List ℕ) (i : ℕ) (s new : Equations) (right : List ℕ) → IsStrictlyIncreasing all → i < length all → Eliminated lost all i s
     → new.columns ≡ s.columns → CutDown s new (coefficients lost (get_or all i 0)) right → IsIndependent s (coefficients lost (get_or all i 0)) → Eliminated lost all (i + 1) new
-one_kept lost all i s new right up h so_far same cut told = record {
+one_kept lost all i s new right up h so_far same cut reported = record {
   columns = same ∙ so_far.columns;
   kills = λ v is.
       let old = so_far.kills v is in
@@ -86,10 +86,10 @@ one_kept lost all i s new right up h so_far same cut told = record {
       let more = all_more (λ row. dot row v ≡ 0) (map (coefficients lost) (take i all)) (coefficients lost (get_or all i 0)) in
       subst (λ rows. systems.IsKilled new v ↔ AllKill rows v) (sym (rows_more lost all i h))
       ((λ k. more.1 (old.0 (now.0 k).0, (now.0 k).1)), (λ k. now.1 (old.1 (more.0 k).0, (more.0 k).1)));
-  rank = cut.rank ∙ ap (λ n. n + 1) so_far.rank ∙ sym (ap length (kept_more (is_kept lost all) all i 0 true h (kept_is lost all i s up h so_far told)) ∙ length_push (filter (is_kept lost all) (take i all)) (get_or all i 0));
+  rank = cut.rank ∙ ap (λ n. n + 1) so_far.rank ∙ sym (ap length (kept_more (is_kept lost all) all i 0 true h (kept_is lost all i s up h so_far reported)) ∙ length_push (filter (is_kept lost all) (take i all)) (get_or all i 0));
 }
 
--- an equation was not kept
+-- the equation was dropped
 pub none_kept : (lost all : List ℕ) (i : ℕ) (s : Equations) → IsStrictlyIncreasing all → i < length all → Eliminated lost all i s
     → systems.IsDependent s (coefficients lost (get_or all i 0)) → Eliminated lost all (i + 1) s
 none_kept lost all i s up h so_far follows = record {
@@ -102,7 +102,7 @@ none_kept lost all i s up h so_far follows = record {
   rank = so_far.rank ∙ sym (ap length (kept_more (is_kept lost all) all i 0 false h (dependent_is lost all i s up h so_far follows) ∙ append-nil (filter (is_kept lost all) (take i all))));
 }
 
--- where only zero is killed, each row follows
+-- if only the zero vector is in the null space, each row follows
 dot_zeros : (row v : List ℕ) → AllByRecursion (λ x. x ≡ 0) v → dot row v ≡ 0
 unfolding dot
 dot_zeros [] v h = refl
@@ -113,24 +113,24 @@ pub full_follows : (s : Equations) (row : List ℕ) → OnlyZeroIsKilled s → s
 full_follows s row alone v is killed = dot_zeros row v (alone v is killed)
 
 pub independent_below : (s : Equations) (n : ℕ) (row : List ℕ) → n ≤ s.columns → (n ≡ s.columns) ↔ OnlyZeroIsKilled s → IsIndependent s row → n < s.columns
-independent_below s n row most full told = elim (cases_lt n s.columns) [
+independent_below s n row most full reported = elim (cases_lt n s.columns) [
   | inl below ↦ below
-  | inr high ↦ absurd (told.not_killed (full_follows s row (full.0 (omega (arith, most, high))) told.vector told.is_vector told.killed))
+  | inr high ↦ absurd (reported.not_killed (full_follows s row (full.0 (omega (arith, most, high))) reported.vector reported.is_vector reported.killed))
 ]
 
 pub all_offered : (lost all : List ℕ) (i : ℕ) (s : Equations) → i ≡ length all → Eliminated lost all i s → systems.rank s ≡ length (kept lost all)
 all_offered lost all i s e so_far = so_far.rank ∙ ap (λ xs. length (filter (is_kept lost all) xs)) (take_all i all (omega (arith, e)))
 
--- an equation that follows is not kept
+-- a dependent equation isn't kept
 pub dependent_is_not_kept : (r : Result Offer AllocError) → r ≡ Ok Dependent → r ≡ Ok Kept → ⊥
 dependent_is_not_kept r is kept = (cc)
 
--- what an offer gives, kept or not
+-- after an offer, kept or not
 pub offered : (lost all : List ℕ) (i : ℕ) (s new : Equations) (right : List ℕ) (r : Result Offer AllocError) (o : Offer) → r ≡ Ok o → IsStrictlyIncreasing all → i < length all
     → Eliminated lost all i s → new.columns ≡ s.columns
     → (r ≡ Ok Kept → CutDown s new (coefficients lost (get_or all i 0)) right) → (r ≡ Ok Kept → IsIndependent s (coefficients lost (get_or all i 0)))
     → (r ≡ Ok Dependent → systems.IsDependent s (coefficients lost (get_or all i 0))) → (r ≢ Ok Kept → new ≡ s) → Eliminated lost all (i + 1) new
-offered lost all i s new right r Kept is up h so_far same cut told follows still = one_kept lost all i s new right up h so_far same (cut is) (told is)
-offered lost all i s new right r Dependent is up h so_far same cut told follows still =
+offered lost all i s new right r Kept is up h so_far same cut reported follows still = one_kept lost all i s new right up h so_far same (cut is) (reported is)
+offered lost all i s new right r Dependent is up h so_far same cut reported follows still =
     let other : r ≡ Ok Kept → ⊥ = λ k. (cc) in
     subst (λ x. Eliminated lost all (i + 1) x) (sym (still other)) (none_kept lost all i s up h so_far (follows is))

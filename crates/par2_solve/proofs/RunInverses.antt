@@ -1,5 +1,5 @@
--- The scaled quotients by the constants of the lost slices are the inverse of the equations of a run.
-use Rattle.par2_solve.proofs.Common.{ℕ, zero, suc, ◌+◌, ◌^◌, ◌<◌, ◌≡◌, ◌≢◌, refl, sym, ap, ap₂, ◌∙◌, subst, arith, List, [], ◌∷◌, length, get_or, map, bit_xor, cond, inl, inr, cases_lt, cases_eq, eq-eqb, ne_eqb, length-range_with_len, get_or-range_with_len, length-map, get_or-map, Contains-get_or, AllPairs-from_increasing, Contains, range_with_len, mul, constant, pow, coefficient, AreSlices, list_at, field_sum, times, with_roots, quotient, ArePoints, value, power-lt, product-zero, no_zero_divisor, product_assoc, product_comm, product_linear_right, product-one, all_get, all-each, all_at, value-lt, value_times, with_roots_elements, length-with_roots, quotient_elements, length-quotient, times_elements, quotient_others, quotient_itself, field_sum_same, field_sum_head, field_sum_one, dot_sum, close_kept, coefficients, IsInverse, identity, IsScaledQuotient, AreScaledQuotients, constant-lt, constant-nonzero, constant-injective}
+-- The scaled quotients for the constants of the lost slices are the inverse for a run.
+use Rattle.par2_solve.proofs.Common.{ℕ, zero, suc, ◌+◌, ◌^◌, ◌<◌, ◌≡◌, ◌≢◌, refl, sym, ap, ap₂, ◌∙◌, subst, arith, List, [], ◌∷◌, length, get_or, map, bit_xor, cond, inl, inr, cases_lt, cases_eq, eq-eqb, ne_eqb, length-range_with_len, get_or-range_with_len, length-map, get_or-map, Contains-get_or, AllPairs-from_increasing, Contains, range_with_len, mul, constant, pow, coefficient, AreSlices, list_at, field_sum, times, with_roots, quotient, ArePoints, value, power-lt, product-zero, no_zero_divisor, product_assoc, product_comm, product_linear_right, product-one, all_get, all-each, all_at, value-lt, value_times, with_roots_elements, length-with_roots, quotient_elements, length-quotient, times_elements, quotient_others, quotient_itself, field_sum_same, field_sum_head, field_sum_one, dot_sum, close_kept, coefficients, IsInverseMatrix, identity, IsScaledQuotient, AreScaledQuotients, constant-lt, constant-nonzero, constant-injective}
 use Rattle.par2_spec.specs.Polynomials.{AreElements}
 use Rattle.std.proofs.lemmas.Bool.Decides.{Decides-eqb}
 use Rattle.std.proofs.lemmas.Map.Made.{IsDistinct-from_AllPairs}
@@ -11,7 +11,7 @@ use Rattle.par2_solve.proofs.Runs.{close_range, range_has}
 
 -- ---- the sum over a run is a value
 
--- what a row gives with the coefficients of slice k at the exponents from f on: the sum of the products
+-- the sum of the products of a row and slice k's coefficients at the exponents from f on
 abbrev pub run_sum : ℕ → List ℕ → ℕ → ℕ
 run_sum f row k = field_sum (length row) (λ t. mul (get_or row t 0) (coefficient (f + t) k))
 
@@ -86,7 +86,7 @@ identity_moved f j k = elim (cases_eq j k) [
 
 -- ---- the rows
 
--- what the quotient by one of the points gives at it
+-- the value at a point of the quotient by that point isn't 0
 pub at_itself : (ks : List ℕ) (f j : ℕ) → AreSlices ks → j < length ks → let c = get_or (map constant ks) j 0 in mul (pow c f) (value (quotient c (with_roots (map constant ks))) c) ≢ 0
 at_itself ks f j are h e =
     let k = get_or ks j 0 in
@@ -99,7 +99,7 @@ at_itself ks f j are h e =
     (no_zero_divisor (pow c f) (value (quotient c (with_roots points)) c) (omega (arith, power)) (power-lt c f hc)
     (value-lt (quotient c (with_roots points)) c (quotient_elements c (with_roots points) hc (with_roots_elements points (constants-lt ks))) hc) here)
 
--- the quotient times the inverse of what it gives
+-- the quotient times the inverse of that value is the scaled quotient
 pub scaled_is : (f c b : ℕ) (p row : List ℕ) → c < 2 ^ 16 → b < 2 ^ 16 → AreElements p → mul (mul (pow c f) (value (quotient c p) c)) b ≡ 1 → row ≡ times b (quotient c p) → IsScaledQuotient f c p row
 scaled_is f c b p row hc hb h inverse is =
     let q = quotient c p in
@@ -127,7 +127,7 @@ length-row c factor points =
     length-map (quotient c (with_roots points)) (mul factor) ∙ omega (arith, long, count)
 
 pub is_inverse : (ks : List ℕ) (f : ℕ) (rows : List (List ℕ)) → AreSlices ks → AreScaledQuotients f (with_roots (map constant ks)) (map constant ks) rows (length ks)
-    → IsInverse ks (range_with_len f (length ks)) rows
+    → IsInverseMatrix ks (range_with_len f (length ks)) rows
 is_inverse ks f rows are rows_are = record {
   square = length-range_with_len f n;
   count = rows_are.count;
@@ -180,7 +180,7 @@ is_inverse ks f rows are rows_are = record {
         ]))
         ∙ product-zero factor
 
-    -- the product of the inverse and these
+    -- the product of the inverse and the matrix
     left : (i k : ℕ) → i < n → k < n → field_sum n (λ t. mul (x i t) (a t k)) ≡ identity i k
     left i k hi hk =
         field_sum_same n (λ t. mul (x i t) (a t k)) (λ t. mul (x i t) (coefficient (f + t) (get_or ks k 0))) (λ t low. ap (mul (x i t)) (get_or-map (coefficient (f + t)) ks k 0 0 hk))
@@ -193,7 +193,7 @@ is_inverse ks f rows are rows_are = record {
               ∙ sym (ap (λ b. cond b 1 0) (ne_eqb i k other))
         ])
 
-    -- for some vector they give the exponent in place k 1, and the others 0
+    -- for some vector exponent k of the run gives 1 and the others give 0
     found : (k : ℕ) → IsSolved ks (range_with_len f n) (λ e. identity e (f + k)) (f + n)
     found k = solved ks (range_with_len f n) (λ e. identity e (f + k)) (λ e. identity-lt e (f + k)) (f + n)
 
@@ -212,7 +212,7 @@ is_inverse ks f rows are rows_are = record {
     y-lt : (k m : ℕ) → y k m < 65536
     y-lt k m = all_at (λ z. z < 65536) 0 (omega arith) (found k).vector (found k).is_vector.1 m
 
-    -- which is the column of the inverse
+    -- that vector is column k of the inverse
     is_given : (i k : ℕ) → i < n → k < n → x i k ≡ y k i
     is_given i k hi hk =
         sym (sum_of_column n k (x i) hk (λ t. x-lt i t hi))

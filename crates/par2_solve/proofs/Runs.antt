@@ -1,4 +1,4 @@
--- Exponents that are close, and runs of them, by the places where they stand.
+-- Exponents that are close, and runs of them, by their indices.
 use Rattle.par2_solve.proofs.Common.{AreSlices, AreClose, HasRun, all_from, Option, IfSome, slice_get, Contains, range_with_len, [], ◌∷◌, ◌↔◌, IsTrue, false, eqb, ltb, ℕ, zero, suc, ◌+◌, ◌-◌, ◌<◌, ◌≤◌, ◌≡◌, refl, sym, ap, ◌∙◌, subst, arith, inl, inr, List, length, get_or, drop, take, IsStrictlyIncreasing, cases_lt, eqb-false, ltb-true, lt-ltb, false≢true, get_or-take, get_or-drop, get_or_default, length-take-le, length-drop, Contains-get_or, get_or-range_with_len, length-range_with_len}
 
 -- numbers of slices that rise
@@ -10,7 +10,7 @@ pub first_is : (P : ℕ → Type 0) (xs : List ℕ) (r : Option ℕ) → r ≡ s
 first_is P [] r is holds = subst (λ o. IfSome o P) (sym is) tt
 first_is P (x ∷ xs) r is holds = subst (λ o. IfSome o P) (sym is) holds
 
--- numbers that rise do so by one at least
+-- numbers that rise do so by at least one
 rises_by : (xs : List ℕ) → IsStrictlyIncreasing xs → (i k : ℕ) → i + k < length xs → get_or xs i 0 + k ≤ get_or xs (i + k) 0
 rises_by xs rise i zero h = let e : get_or xs (i + 0) 0 ≡ get_or xs i 0 = ap (λ n. get_or xs n 0) (let same : i + 0 ≡ i = omega arith in same) in omega (arith, e)
 rises_by xs rise i (suc k) h =
@@ -24,11 +24,11 @@ rises_between xs rise i j low h =
     let e : i + (j - i) ≡ j = omega (arith, low) in
     subst (λ n. get_or xs i 0 + (j - i) ≤ get_or xs n 0) e (rises_by xs rise i (j - i) (omega (arith, e, h)))
 
--- what stands in the place of a contained number
+-- a contained number is at some index
 pub placed : (xs : List ℕ) (x : ℕ) → Contains xs x → (i : ℕ) × (i < length xs) × (get_or xs i 0 ≡ x)
 placed xs x c = (c.0, c.1, get_or_default xs c.0 0 x c.1 ∙ c.2)
 
--- exponents are close where the last and the first are
+-- exponents are close if the last and the first are
 pub close_from : (xs : List ℕ) (n : ℕ) → IsStrictlyIncreasing xs → 0 < length xs → get_or xs (length xs - 1) 0 - get_or xs 0 0 < n → AreClose n xs
 close_from xs n rise some near e f first second =
     let i = placed xs e first in
@@ -53,7 +53,7 @@ close-iff xs n rise some = (
   λ close. let ends = close_ends xs n some close in let order = rises_to_the_end xs rise some in lt-ltb _ _ (omega (arith, ends, order)),
 )
 
--- ---- n of the numbers, from place i on
+-- ---- n of the numbers, from index i on
 
 abbrev pub part : ℕ → ℕ → List ℕ → List ℕ
 part i n xs = take n (drop i xs)
@@ -79,7 +79,7 @@ take_rises xs n rise h = subst (λ ys. IsStrictlyIncreasing (take n ys)) (drop_n
     drop_none [] = refl
     drop_none (y ∷ ys) = refl
 
--- n that are close are a run
+-- n numbers that are close are a run
 pub close_run : (xs : List ℕ) (i n : ℕ) → IsStrictlyIncreasing xs → i + n ≤ length xs → AreClose n (part i n xs) → HasRun (get_or xs i 0) n xs
 close_run xs i n rise h close k low =
     let long = length-part xs i n h in
@@ -94,7 +94,7 @@ close_run xs i n rise h close k low =
     let at : get_or xs (i + k) 0 ≡ get_or xs i 0 + k = omega (arith, ends, first, first_is, last_is, below, above, low) in
     subst (Contains xs) at (Contains-get_or xs (i + k) 0 (omega (arith, low, h)))
 
--- ---- a run stands in places that follow one another
+-- ---- a run has consecutive indices
 
 place_after : (xs : List ℕ) → IsStrictlyIncreasing xs → (i j : ℕ) → i < length xs → get_or xs i 0 < get_or xs j 0 → i < j
 place_after xs rise i j h less = elim (cases_lt i j) [
@@ -102,7 +102,7 @@ place_after xs rise i j h less = elim (cases_lt i j) [
   | inr high ↦ (let by = rises_between xs rise j i high h in absurd (omega (arith, by, less)))
 ]
 
--- the k-th exponent of a run stands k places after the first one at least
+-- the k-th exponent of a run is at least k indices after its first
 run_place : (xs : List ℕ) (f n i : ℕ) → IsStrictlyIncreasing xs → HasRun f n xs → i < length xs → get_or xs i 0 ≡ f
     → (k : ℕ) → k < n → (j : ℕ) × (j < length xs) × (get_or xs j 0 ≡ f + k) × (i + k ≤ j)
 run_place xs f n i rise run h is zero low = (i, h, omega (arith, is), omega arith)
@@ -134,9 +134,9 @@ run_close xs f (suc m) rise run =
           omega (arith, a.2, b.2, e_is, g_is, least, most, start.2, last.2),
     )
 
--- ---- the parts that end before a place
+-- ---- the parts that end before an index
 
--- none of the parts of n numbers that end before a place is close
+-- no part of n numbers that ends before the index is close
 abbrev pub NoneClose : List ℕ → ℕ → ℕ → Type 0
 NoneClose xs n end = (j : ℕ) → n ≤ j → j < end → AreClose n (part (j - n) n xs) → ⊥
 

@@ -1,5 +1,5 @@
 -- The loop that offers the surviving recovery slices.
-use Rattle.par2_solve.proofs.Common.{inl, inr, length-append, ℕ, ◌+◌, ◌*◌, ◌<◌, ◌≡◌, ◌↔◌, refl, sym, ap, ap₂, ◌∙◌, subst, arith, Bool, true, false, cond, eqb, ◌&&◌, ◌||◌, List, [], ◌∷◌, ◌++◌, length, get_or, map, append-nil, take, filter, list_any, AllByRecursion, IsStrictlyIncreasing, eqb-true, eq-eqb, cases_lt, get_or-map, length-map, map-append, get_or_append_left, get_or_at, take_all, dot, coefficients, combination, IsVector, IsRepairable, Kills, kept, kept_slices, Equations, CutDown, IsIndependent, IsDependent, Solves, AreTexts, OnlyZeroIsKilled, recovered_of, IsUnit, recovery_at, CutByUnit, GivesUnit, IsEliminated, Bor, all-map, all_unmap}
+use Rattle.par2_solve.proofs.Common.{inl, inr, length-append, ℕ, ◌+◌, ◌*◌, ◌<◌, ◌≡◌, ◌↔◌, refl, sym, ap, ap₂, ◌∙◌, subst, arith, Bool, true, false, cond, eqb, ◌&&◌, ◌||◌, List, [], ◌∷◌, ◌++◌, length, get_or, map, append-nil, take, filter, list_any, AllByRecursion, IsStrictlyIncreasing, eqb-true, eq-eqb, cases_lt, get_or-map, length-map, map-append, get_or_append_left, get_or_at, take_all, dot, coefficients, combination, IsVector, IsRepairable, Kills, kept, kept_slices, Equations, CutDown, IsIndependent, IsDependent, Solves, AreSolutionBuffers, OnlyZeroIsKilled, recovered_of, IsUnit, recovery_at, CutByUnit, GivesUnit, IsEliminated, Bor, all-map, all_unmap}
 use Rattle.std.proofs.lemmas.Map.Views.{any-filter_same}
 use Rattle.par2_spec.proofs.RankLaws.{all_weaker}
 use Rattle.std.proofs.Math.Bool.{and-true, or-true}
@@ -39,46 +39,46 @@ pub record Standing (lost : List ℕ) (recs kept : List (ℕ × List ℕ)) (i : 
   pub bytes : system.bytes ≡ 2 * length lost
   pub are_kept : kept ≡ filter (λ r. is_kept lost (map (λ r. r.0) recs) r.0) (take i recs)
   pub count : systems.rank system ≡ length kept
-  pub solves : (texts : List (List ℕ)) → AreTexts system texts → Solves system texts
-      → (j : ℕ) → j < length kept → GivesUnit (length lost) j (coefficients lost (recovery_at kept j).0) texts
+  pub solves : (buffers : List (List ℕ)) → AreSolutionBuffers system buffers → Solves system buffers
+      → (j : ℕ) → j < length kept → GivesUnit (length lost) j (coefficients lost (recovery_at kept j).0) buffers
 
 -- a recovery slice was kept
 pub stands_more : (lost : List ℕ) (recs kept_ones : List (ℕ × List ℕ)) (i : ℕ) (system new : Equations) → IsStrictlyIncreasing (map (λ r. r.0) recs) → i < length recs
     → Standing lost recs kept_ones i system → new.columns ≡ system.columns → new.bytes ≡ system.bytes
     → CutByUnit system new (coefficients lost (recovery_at recs i).0) → IsIndependent system (coefficients lost (recovery_at recs i).0)
     → Standing lost recs (kept_ones ++ recovery_at recs i ∷ []) (i + 1) new
-stands_more lost recs kept_ones i system new up h before columns new_bytes made told =
+stands_more lost recs kept_ones i system new up h before columns new_bytes made reported =
     let found = recovery_at recs i in
     let all = map (λ (r : ℕ × List ℕ). r.0) recs in
     let low : i < length all = omega (arith, length-map recs (λ (r : ℕ × List ℕ). r.0)) in
     let e : get_or all i 0 ≡ found.0 = get_or-map (λ (r : ℕ × List ℕ). r.0) recs i (0, []) 0 h in
-    let told_here : IsIndependent system (coefficients lost (get_or all i 0)) = subst (λ x. IsIndependent system (coefficients lost x)) (sym e) told in
+    let reported_here : IsIndependent system (coefficients lost (get_or all i 0)) = subst (λ x. IsIndependent system (coefficients lost x)) (sym e) reported in
     let cut_here : CutDown system new (coefficients lost (get_or all i 0)) made.unit = subst (λ x. CutDown system new (coefficients lost x) made.unit) (sym e) made.cut in
-    let yes_kept : is_kept lost all found.0 ≡ true = ap (is_kept lost all) (sym e) ∙ kept_is lost all i system up low before.so_far told_here in
+    let yes_kept : is_kept lost all found.0 ≡ true = ap (is_kept lost all) (sym e) ∙ kept_is lost all i system up low before.so_far reported_here in
     record {
-      so_far = one_kept lost all i system new made.unit up low before.so_far columns cut_here told_here;
+      so_far = one_kept lost all i system new made.unit up low before.so_far columns cut_here reported_here;
       bytes = new_bytes ∙ before.bytes;
       are_kept = ap (λ xs. xs ++ found ∷ []) before.are_kept ∙ sym (kept_more (λ r. is_kept lost all r.0) recs i (0, []) true h yes_kept);
       count = made.cut.rank ∙ ap (λ n. n + 1) before.count ∙ sym (length-append kept_ones (found ∷ []));
-      solves = λ texts are solved j hj.
-          let are_old : AreTexts system texts = record {
+      solves = λ buffers are solved j hj.
+          let are_old : AreSolutionBuffers system buffers = record {
             count = are.count ∙ columns;
-            sizes = subst (λ n. AllByRecursion (λ text. length text ≡ n) texts) new_bytes are.sizes;
+            sizes = subst (λ n. AllByRecursion (λ content. length content ≡ n) buffers) new_bytes are.sizes;
             bytes = are.bytes;
           } in
-          let both = (made.cut.solves texts are_old).0 solved in
+          let both = (made.cut.solves buffers are_old).0 solved in
           elim (cases_lt j (length kept_ones)) [
             | inl early ↦
-                subst (λ (r : ℕ × List ℕ). GivesUnit (length lost) j (coefficients lost r.0) texts) (sym (get_or_append_left kept_ones (found ∷ []) (0, []) j early))
-                (before.solves texts are_old both.0 j early)
+                subst (λ (r : ℕ × List ℕ). GivesUnit (length lost) j (coefficients lost r.0) buffers) (sym (get_or_append_left kept_ones (found ∷ []) (0, []) j early))
+                (before.solves buffers are_old both.0 j early)
             | inr late ↦
                 let last : j ≡ length kept_ones = (let n = length-append kept_ones (found ∷ []) in omega (arith, n)) in
-                subst (λ m. GivesUnit (length lost) m (coefficients lost (recovery_at (kept_ones ++ found ∷ []) m).0) texts) (sym last)
-                (subst (λ (r : ℕ × List ℕ). GivesUnit (length lost) (length kept_ones) (coefficients lost r.0) texts) (sym (get_or_at kept_ones found [] (0, []) (length kept_ones) refl))
+                subst (λ m. GivesUnit (length lost) m (coefficients lost (recovery_at (kept_ones ++ found ∷ []) m).0) buffers) (sym last)
+                (subst (λ (r : ℕ × List ℕ). GivesUnit (length lost) (length kept_ones) (coefficients lost r.0) buffers) (sym (get_or_at kept_ones found [] (0, []) (length kept_ones) refl))
                 (record {
                   unit = made.unit;
                   is_unit = subst (λ m. IsUnit m (length kept_ones) made.unit) before.so_far.columns (subst (λ m. IsUnit system.columns m made.unit) before.count made.is_unit);
-                  combined = subst (λ m. combination m (coefficients lost found.0) texts ≡ made.unit) before.bytes both.1;
+                  combined = subst (λ m. combination m (coefficients lost found.0) buffers ≡ made.unit) before.bytes both.1;
                 }))
           ];
     }
@@ -101,24 +101,24 @@ stands_still lost recs kept_ones i system up h before follows =
       solves = before.solves;
     }
 
--- a recovery slice as it is read
+-- a recovery slice as the loop reads it
 recovered_at : (recovery : List (ℕ × Bor (List ℕ))) (i : ℕ) (d : ℕ × Bor (List ℕ)) → i < length recovery → recovery_at (recovered_of recovery) i ≡ ((get_or recovery i d).0, (get_or recovery i d).1.now)
 recovered_at recovery i d h = get_or-map (λ (r : ℕ × Bor (List ℕ)). (r.0, r.1.now)) recovery i d (0, []) h
 
--- a turn of the loop, where the slice is kept and where it is dropped
-pub kept_turn : (lost : List ℕ) (recovery : List (ℕ × Bor (List ℕ))) (i : ℕ) (system new : Equations) (xs ys : List (ℕ × Bor (List ℕ))) (d : ℕ × Bor (List ℕ)) → IsStrictlyIncreasing (map (λ r. r.0) (recovered_of recovery)) → i < length recovery
+-- one iteration of the loop, with the slice kept or dropped
+pub kept_step : (lost : List ℕ) (recovery : List (ℕ × Bor (List ℕ))) (i : ℕ) (system new : Equations) (xs ys : List (ℕ × Bor (List ℕ))) (d : ℕ × Bor (List ℕ)) → IsStrictlyIncreasing (map (λ r. r.0) (recovered_of recovery)) → i < length recovery
     → ys ≡ xs ++ get_or recovery i d ∷ [] → Standing lost (recovered_of recovery) (recovered_of xs) i system → new.columns ≡ system.columns → new.bytes ≡ system.bytes
     → CutByUnit system new (coefficients lost (get_or recovery i d).0) → IsIndependent system (coefficients lost (get_or recovery i d).0) → Standing lost (recovered_of recovery) (recovered_of ys) (i + 1) new
-kept_turn lost recovery i system new xs ys d up h is before columns new_bytes made told =
+kept_step lost recovery i system new xs ys d up h is before columns new_bytes made reported =
     let at = recovered_at recovery i d h in
     subst (λ rs. Standing lost (recovered_of recovery) rs (i + 1) new)
     (sym (ap recovered_of is ∙ map-append (λ (r : ℕ × Bor (List ℕ)). (r.0, r.1.now)) xs (get_or recovery i d ∷ []) ∙ ap (λ r. recovered_of xs ++ r ∷ []) (sym at)))
     (stands_more lost (recovered_of recovery) (recovered_of xs) i system new up (omega (arith, h, length-recovered_of recovery)) before columns new_bytes
-    (subst (λ (r : ℕ × List ℕ). CutByUnit system new (coefficients lost r.0)) (sym at) made) (subst (λ (r : ℕ × List ℕ). IsIndependent system (coefficients lost r.0)) (sym at) told))
+    (subst (λ (r : ℕ × List ℕ). CutByUnit system new (coefficients lost r.0)) (sym at) made) (subst (λ (r : ℕ × List ℕ). IsIndependent system (coefficients lost r.0)) (sym at) reported))
 
-pub dropped_turn : (lost : List ℕ) (recovery : List (ℕ × Bor (List ℕ))) (kept_ones : List (ℕ × List ℕ)) (i : ℕ) (system new : Equations) (d : ℕ × Bor (List ℕ)) → IsStrictlyIncreasing (map (λ r. r.0) (recovered_of recovery)) → i < length recovery
+pub dropped_step : (lost : List ℕ) (recovery : List (ℕ × Bor (List ℕ))) (kept_ones : List (ℕ × List ℕ)) (i : ℕ) (system new : Equations) (d : ℕ × Bor (List ℕ)) → IsStrictlyIncreasing (map (λ r. r.0) (recovered_of recovery)) → i < length recovery
     → Standing lost (recovered_of recovery) kept_ones i system → IsDependent system (coefficients lost (get_or recovery i d).0) → new ≡ system → Standing lost (recovered_of recovery) kept_ones (i + 1) new
-dropped_turn lost recovery kept_ones i system new d up h before follows same =
+dropped_step lost recovery kept_ones i system new d up h before follows same =
     rw same
     (stands_still lost (recovered_of recovery) kept_ones i system up (omega (arith, h, length-recovered_of recovery)) before (subst (λ (r : ℕ × List ℕ). IsDependent system (coefficients lost r.0)) (sym (recovered_at recovery i d h)) follows))
 

@@ -1,5 +1,5 @@
 -- The equations of the holes between exponents.
-use Rattle.par2_solve.proofs.Common.{rules, ℕ, zero, suc, ◌+◌, ◌-◌, ◌^◌, ◌<◌, ◌≤◌, ◌≡◌, refl, sym, ap, ap₂, ◌∙◌, ◌↔◌, subst, arith, Bool, true, false, cond, not, inl, inr, List, [], ◌∷◌, ◌++◌, length, get_or, map, filter, take, append-nil, bit_xor, xor_comm, xor_assoc, xor_zero_l, xor_zero_r, AllByRecursion, Contains, range_with_len, IsStrictlyIncreasing, Result, Ok, cases_lt, cases_eq, eqb-true, lt-ltb, le-ltb, false_from_ne_true, length-map, get_or-map, get_or-range_with_len, get_or-map-range_with_len, length-map-range_with_len, length-range_with_len, map-range_with_len_more, Contains-get_or, mul, constant, pow, coefficient, coefficients, dot, field_sum, dot_sum, product_at, dot-lt, coefficients_are, field_sum_same, field_sum_none, product-zero, zero-product, IsVector, IsRepairable, Kills, AreSlices, value, with_roots_elements, length-with_roots, all_at, all_get, all_from, all_unmap, all-each, run_determines, rank, Equations, CutDown, OnlyZeroIsKilled, AreTexts, combination, ◌*◌}
+use Rattle.par2_solve.proofs.Common.{rules, ℕ, zero, suc, ◌+◌, ◌-◌, ◌^◌, ◌<◌, ◌≤◌, ◌≡◌, refl, sym, ap, ap₂, ◌∙◌, ◌↔◌, subst, arith, Bool, true, false, cond, not, inl, inr, List, [], ◌∷◌, ◌++◌, length, get_or, map, filter, take, append-nil, bit_xor, xor_comm, xor_assoc, xor_zero_l, xor_zero_r, AllByRecursion, Contains, range_with_len, IsStrictlyIncreasing, Result, Ok, cases_lt, cases_eq, eqb-true, lt-ltb, le-ltb, false_from_ne_true, length-map, get_or-map, get_or-range_with_len, get_or-map-range_with_len, length-map-range_with_len, length-range_with_len, map-range_with_len_more, Contains-get_or, mul, constant, pow, coefficient, coefficients, dot, field_sum, dot_sum, product_at, dot-lt, coefficients_are, field_sum_same, field_sum_none, product-zero, zero-product, IsVector, IsRepairable, Kills, AreSlices, value, with_roots_elements, length-with_roots, all_at, all_get, all_from, all_unmap, all-each, run_determines, rank, Equations, CutDown, OnlyZeroIsKilled, AreSolutionBuffers, combination, ◌*◌}
 use Rattle.std.specs.Result.{IsOk, MatchResult, is_err}
 use Rattle.std.specs.Prelude.{Err, nat_eq}
 use Rattle.std.proofs.lemmas.List.{get_or_past, map-id}
@@ -31,7 +31,7 @@ from p u k =
     let e : u + k - u ≡ k = omega arith in
     ap (λ b. cond b 0 (get_or p (u + k - u) 0)) (le-ltb (u + k) u (omega arith)) ∙ ap (λ n. get_or p n 0) e
 
--- where the first values or the last ones are 0, they are left out of a sum
+-- leading or trailing zeros can be left out of a sum
 leading : (u n : ℕ) (f : ℕ → ℕ) → ((x : ℕ) → x < u → f x ≡ 0) → field_sum (u + n) f ≡ field_sum n (λ k. f (u + k))
 unfolding field_sum
 leading u zero f none = ap (λ m. field_sum m f) (let e : u + 0 ≡ u = omega arith in e) ∙ field_sum_none u f none
@@ -44,7 +44,7 @@ trailing n zero f none = ap (λ m. field_sum m f) (let e : n + 0 ≡ n = omega a
 trailing n (suc r) f none =
     ap (λ m. field_sum m f) (let e : n + suc r ≡ suc (n + r) = omega arith in e) ∙ ap₂ bit_xor (trailing n r f none) (none r) ∙ xor_zero_r (field_sum n f)
 
--- over a whole window it gives the products of its coefficients
+-- over a whole window it gives the products of the polynomial's coefficients
 pub shifted_sum : (p : List ℕ) (u w : ℕ) (g : ℕ → ℕ) → u + length p ≤ w
     → dot (shifted p u (range_with_len 0 w)) (map g (range_with_len 0 w)) ≡ field_sum (length p) (λ k. mul (get_or p k 0) (g (u + k)))
 shifted_sum p u w g h =
@@ -68,7 +68,7 @@ shifted_sum p u w g h =
     f : ℕ → ℕ
     f x = mul (shifted_at p u x) (g x)
 
--- a sum over some places is the sum over those that pass a test and over the others
+-- a sum over some numbers is that over those that pass a test plus that over the others
 pub parted : (a g : ℕ → ℕ) (t : ℕ → Bool) (xs : List ℕ)
     → dot (map a xs) (map g xs) ≡ bit_xor (dot (map a (filter t xs)) (map g (filter t xs))) (dot (map a (filter (λ x. not (t x)) xs)) (map g (filter (λ x. not (t x)) xs)))
 unfolding dot
@@ -96,7 +96,7 @@ none_given a g (x ∷ xs) h = ap₂ bit_xor (ap (mul (a x)) h.0 ∙ product-zero
 
 -- ---- sums of powers satisfy the recurrence of the locator
 
--- what an exponent gives a vector
+-- what an exponent gives a vector: the sum of the constants' powers times the vector's elements
 abbrev pub given : List ℕ → List ℕ → ℕ → ℕ
 given ks v e = dot (coefficients ks e) v
 
@@ -167,7 +167,7 @@ one_place_more es x b is =
 pub window_holds : (es : List ℕ) → IsStrictlyIncreasing es → 0 < length es → length es ≤ span es + 1
 window_holds es rise some = let by = rises_between es rise 0 (length es - 1) (omega arith) (omega (arith, some)) in omega (arith, by, some)
 
--- what a binary search says of a hole
+-- a binary search that finds nothing means a hole
 pub searched_hole : (es : List ℕ) (q : ℕ) (r : Result ℕ ℕ)
     → MatchResult r (λ i. (i < length es) × (get_or es i 0 ≡ q)) (λ i. (i ≤ length es) × ((k : ℕ) → k < i → get_or es k 0 < q) × ((k : ℕ) → i ≤ k → k < length es → q < get_or es k 0))
     → is_err r ≡ not (among es q)
@@ -180,7 +180,7 @@ searched_hole es q (Err i) h =
       | inr high ↦ (let more = h.2 at.0 high at.1 in absurd (omega (arith, more, at.2)))
     ])))
 
--- a number that is there is found
+-- a number that is contained is found
 pub found_place : (hs : List ℕ) (x : ℕ) (r : Result ℕ ℕ)
     → MatchResult r (λ i. (i < length hs) × (get_or hs i 0 ≡ x)) (λ i. (i ≤ length hs) × ((k : ℕ) → k < i → get_or hs k 0 < x) × ((k : ℕ) → i ≤ k → k < length hs → x < get_or hs k 0))
     → Contains hs x → IsOk r
@@ -192,7 +192,7 @@ found_place hs x (Err i) h here =
       | inr high ↦ (let more = h.2 at.0 high at.1 in absurd (omega (arith, more, at.2)))
     ]
 
--- a number of the window that is a hole is among them
+-- a contained number that passes a test is among those that pass
 contained_filter : (t : ℕ → Bool) (xs : List ℕ) (x : ℕ) → Contains xs x → t x ≡ true → Contains (filter t xs) x
 contained_filter t [] x here e = absurd (omega (arith, here.1))
 contained_filter t (y ∷ ys) x here e = elim (cases_eq x y) [
@@ -227,7 +227,7 @@ holes_rise es = IsStrictlyIncreasing-filter (is_hole es) (range_with_len 0 (span
 
 pub no_equation : (p places : List ℕ) (m : ℕ) (system : Equations) → system ≡ systems.no_equations (length places) (2 * m) → AreHoleEquations p places m 0 system
 no_equation p places m system is =
-    subst (AreHoleEquations p places m 0) (sym is) (record { columns = refl; bytes = refl; kills = λ v vector fits. tt; solves = λ texts are solved u low. absurd (omega (arith, low)) })
+    subst (AreHoleEquations p places m 0) (sym is) (record { columns = refl; bytes = refl; kills = λ v vector fits. tt; solves = λ buffers are solved u low. absurd (omega (arith, low)) })
 
 pub one_equation_more : (p places row right : List ℕ) (m u : ℕ) (old new : Equations) → AreHoleEquations p places m u old → new.columns ≡ old.columns → new.bytes ≡ old.bytes → row ≡ shifted p u places → (u < m → IsUnit m u right)
     → CutDown old new row right → AreHoleEquations p places m (u + 1) new
@@ -237,19 +237,19 @@ one_equation_more p places row right m u old new before columns bytes is unit cu
   kills = λ v vector fits.
       (cut.kills v (subst (λ n. IsVector n v) (sym before.columns) vector)).1
       (before.kills v vector (λ k low. fits k (omega (arith, low))), ap (λ xs. dot xs v) is ∙ fits u (omega arith));
-  solves = λ texts are solved k low inside.
-      let are_old : AreTexts old texts = record {
+  solves = λ buffers are solved k low inside.
+      let are_old : AreSolutionBuffers old buffers = record {
         count = are.count ∙ columns;
-        sizes = subst (λ n. AllByRecursion (λ (text : List ℕ). length text ≡ n) texts) bytes are.sizes;
+        sizes = subst (λ n. AllByRecursion (λ (content : List ℕ). length content ≡ n) buffers) bytes are.sizes;
         bytes = are.bytes;
       } in
-      let both = (cut.solves texts are_old).0 solved in
+      let both = (cut.solves buffers are_old).0 solved in
       elim (cases_lt k u) [
-        | inl early ↦ before.solves texts are_old both.0 k early inside
+        | inl early ↦ before.solves buffers are_old both.0 k early inside
         | inr late ↦
             let last : u ≡ k = omega (arith, low, late) in
-            subst (λ j. GivesUnit m j (shifted p j places) texts) last
-            (record { unit = right; is_unit = unit (omega (arith, last, inside)); combined = ap₂ (λ b xs. combination b xs texts) (sym before.bytes) (sym is) ∙ both.1 })
+            subst (λ j. GivesUnit m j (shifted p j places) buffers) last
+            (record { unit = right; is_unit = unit (omega (arith, last, inside)); combined = ap₂ (λ b xs. combination b xs buffers) (sym before.bytes) (sym is) ∙ both.1 })
       ];
 }
 
@@ -259,7 +259,7 @@ only_zero_fits p places m n system are regular v vector fits =
 
 -- ---- the exponents determine the lost slices
 
--- what holds of those that pass a test and of the others
+-- what holds of the items that pass a test and of the others holds of all
 all_parted : (P : ℕ → Type 0) (t : ℕ → Bool) (xs : List ℕ) → AllByRecursion P (filter t xs) → ((x : ℕ) → t x ≡ false → P x) → AllByRecursion P xs
 all_parted P t [] h others = tt
 all_parted P t (x ∷ xs) h others = step (t x) refl h (λ rest. all_parted P t xs rest others)
@@ -276,8 +276,8 @@ all_others P t (x ∷ xs) others = step (t x) refl (filter (λ y. not (t y)) xs)
     step true e rest h = h
     step false e rest h = (others x e, h)
 
--- what a vector gives the numbers of a window, at those places that are no holes and at the holes, each times the locator,
--- shifted by a number, adds up to 0
+-- for the window of a shifted locator, the sums at places that are no holes and at the holes, each times the locator's
+-- coefficient, add up to 0
 abbrev pub others : List ℕ → List ℕ
 others es = filter (λ x. not (is_hole es x)) (range_with_len 0 (span es + 1))
 
@@ -340,11 +340,11 @@ holes_determine ks es n are rise some fit only v is killed =
     g : ℕ → ℕ
     g x = given ks v (f + x)
 
-    -- the exponents give 0
+    -- at the exponents it is 0
     at_exponent : (x : ℕ) → is_hole es x ≡ false → g x ≡ 0
     at_exponent x e = of_contained (λ e. Kills ks e v) es (f + x) killed (no_hole es x e)
 
-    -- so what they give the holes satisfies the holes' equations
+    -- so at the holes it satisfies the holes' equations
     fits : KilledByShifts (locator ks) (holes es) n (map g (holes es))
     fits u low =
         let p = locator ks in
@@ -367,7 +367,7 @@ holes_determine ks es n are rise some fit only v is killed =
         let at : get_or (range_with_len 0 w) i 0 ≡ i = get_or-range_with_len 0 w i 0 low ∙ (let e : 0 + i ≡ i = omega arith in e) in
         subst (λ x. g x ≡ 0) at (all_get (λ x. g x ≡ 0) (range_with_len 0 w) i 0 (omega (arith, long, low)) zeros)
 
--- so do more
+-- if the first n exponents determine the lost slices, all do
 pub more_determine : (ks es : List ℕ) (n : ℕ) → IsRepairable ks (take n es) → IsRepairable ks es
 more_determine ks es n first v is killed = first v is (all-take (λ e. Kills ks e v) n es killed)
 

@@ -1,4 +1,4 @@
--- What calls ask for and answer, in a word each.
+-- Short names for what the crate's functions require and return.
 use Rattle.std.specs.Prelude.{◌≡◌, ◌<◌, ◌≤◌, ℕ, List, Vec, length, slice_index}
 use Rattle.std.specs.Borrow.{Bor}
 use Rattle.std.specs.declared.alloc.Global.{Global}
@@ -11,43 +11,43 @@ use Rattle.par2_transform.specs.declared.outputs.Places.{Places}
 use Rattle.par2_solve.specs.Rebuilding.{AreRebuilt, known_among}
 use Rattle.par2_solve.specs.Solvers.{Inverts}
 use Rattle.par2_solve.specs.Survivors.{exponents_of, recovered_of, with_lost_slices, IsTrueFault}
-use Rattle.par2_solve.specs.Views.{texts_of}
+use Rattle.par2_solve.specs.Views.{buffers_of}
 use Rattle.par2_solve.specs.declared.inverse.Inversion.{Inversion}
 use Rattle.par2_solve.specs.declared.rebuild_slices.RebuildFault.{RebuildFault}
 use Rattle.par2_solve.specs.declared.rebuild_slices.Survivors.{Survivors}
 
 -- ---- lists
 
--- each list has so many items at least
+-- each list has at least n items
 abbrev pub HaveAtLeast : ℕ → List (Vec ℕ Global) → Type 0
 HaveAtLeast n lists = (r : ℕ) → r < length lists → n ≤ length (list_at (lists_of lists) r)
 
--- each list has exactly so many
+-- each list has exactly n items
 abbrev pub HaveAll : ℕ → List (Vec ℕ Global) → Type 0
 HaveAll n lists = (r : ℕ) → r < length lists → length (list_at (lists_of lists) r) ≡ n
 
--- each list has an item at this place
+-- each list has an item at place k
 abbrev pub HaveItem : ℕ → List (Vec ℕ Global) → Type 0
 HaveItem k lists = (r : ℕ) → r < length lists → k < length (list_at (lists_of lists) r)
 
--- each text has so many bytes
+-- each buffer has `size` bytes
 abbrev pub AreOfSize : ℕ → List (Bor (List ℕ)) → Type 0
-AreOfSize size texts = (j : ℕ) → j < length texts → length (list_at (texts_of texts) j) ≡ size
+AreOfSize size buffers = (j : ℕ) → j < length buffers → length (list_at (buffers_of buffers) j) ≡ size
 
--- each text has so many bytes at least
+-- each buffer has at least n bytes
 abbrev pub HaveColumns : ℕ → List (Bor (List ℕ)) → Type 0
-HaveColumns n texts = (j : ℕ) → j < length texts → n ≤ length (list_at (texts_of texts) j)
+HaveColumns n buffers = (j : ℕ) → j < length buffers → n ≤ length (list_at (buffers_of buffers) j)
 
 -- ---- outputs
 
--- each output lies in its text
+-- each output lies in its buffer
 abbrev pub LieIn : Places → List (Vec ℕ Global) → Type 0
-LieIn outputs texts = LieWithin outputs.words outputs.places.now (lists_of texts)
+LieIn outputs buffers = LieWithin outputs.words outputs.places.now (lists_of buffers)
 
--- to each output, the recovery slice of the exponent at its place is added
+-- to each output, the recovery slice of its exponent is added
 abbrev pub AddsRecovery : Places → List (Bor (List ℕ)) → List ℕ → List (Vec ℕ Global) → List (Vec ℕ Global) → Type 0
 AddsRecovery outputs slices exponents old new =
-    AddsAt outputs.places.now outputs.words (λ t p. recovered (texts_of slices) (slice_index exponents t) p) (lists_of old) (lists_of new)
+    AddsAt outputs.places.now outputs.words (λ t p. recovered (buffers_of slices) (slice_index exponents t) p) (lists_of old) (lists_of new)
 
 -- ---- kept exponents
 
@@ -55,7 +55,7 @@ AddsRecovery outputs slices exponents old new =
 abbrev pub KeepsThose : List ℕ → List (ℕ × Bor (List ℕ)) → Inversion → Type 0
 KeepsThose lost recovery found = recovered_of found.kept.items ≡ kept_slices lost (exponents_of recovery) (recovered_of recovery)
 
--- and the matrix is their inverse
+-- the inverse is that of the matrix of the kept exponents
 abbrev pub HasInverse : List ℕ → Inversion → Type 0
 HasInverse lost found = Inverts lost (exponents_of found.kept.items) found.inverse
 
@@ -65,10 +65,10 @@ HasInverse lost found = Inverts lost (exponents_of found.kept.items) found.inver
 abbrev pub lost_among : Survivors → List ℕ
 lost_among survivors = lost (known_among survivors)
 
--- why they can't be rebuilt
+-- the fault says truly why the lost slices can't be rebuilt: if it is NotRepairable, they aren't determined
 abbrev pub IsFaultOf : Survivors → RebuildFault → Type 0
 IsFaultOf survivors fault = IsTrueFault (lost_among survivors) (exponents_of survivors.recovery.items) fault
 
--- the texts are the lost slices
+-- the buffers are the lost slices
 abbrev pub Rebuild : Survivors → List (Vec ℕ Global) → Type 0
-Rebuild survivors texts = AreRebuilt survivors (with_lost_slices (known_among survivors) (lists_of texts))
+Rebuild survivors buffers = AreRebuilt survivors (with_lost_slices (known_among survivors) (lists_of buffers))

@@ -1,5 +1,5 @@
--- The inverse for exponents with holes between them: the inverse for the run that the first numbers of their window are,
--- times what makes the syndromes of the run of those of the exponents.
+-- The inverse for exponents with holes between them. It is the product of two matrices: the inverse for the run at the
+-- front of the window, and the matrix that maps the exponents' syndromes to the run's.
 use Rattle.std.specs.Prelude.{ℕ, ◌≡◌, ◌+◌, ◌<◌, List, length, map, slice_index, slice_index_or}
 use Rattle.std.specs.List.{range_with_len}
 use Rattle.par2_spec.specs.Field.{mul}
@@ -14,51 +14,52 @@ use Rattle.par2_solve.specs.declared.filling.Origin.TheVariants.{Exponent, Hole}
 
 -- ---- matrices
 
--- the n elements of a row times a matrix, at column k
+-- the product of a row of n elements and a matrix, at column k
 abbrev pub row_times : ℕ → List ℕ → List (List ℕ) → ℕ → ℕ
 row_times n row matrix k = field_sum n (λ i. mul (slice_index row i) (slice_index (list_at matrix i) k))
 
--- the product of a matrix of n columns and one of m columns
+-- the product of a matrix of n columns and a matrix of m columns
 unfoldable pub matrix_product : (n m : ℕ) → List (List ℕ) → List (List ℕ) → List (List ℕ)
 unfolding mul
 matrix_product n m rows matrix = map (λ row. map (row_times n row matrix) (range_with_len 0 m)) rows
 
--- the identity matrix
+-- the identity matrix of n rows
 abbrev pub identity_rows : ℕ → List (List ℕ)
 identity_rows n = map (λ j. map (identity j) (range_with_len 0 n)) (range_with_len 0 n)
 
 -- ---- the syndromes of a run
 
--- the list at the number of the exponent or of the hole
+-- the list at the index that the origin names, among the exponents' or the holes'
 abbrev pub from_origin : List (List ℕ) → List (List ℕ) → Origin → List ℕ
 from_origin exponents holes (Exponent j) = list_at exponents j
 from_origin exponents holes (Hole q) = list_at holes q
 
--- there are so many exponents and holes at least
-abbrev pub IsWithin : ℕ → ℕ → Origin → Type 0
-IsWithin n h (Exponent j) = j < n
-IsWithin n h (Hole q) = q < h
+-- the origin is one of n exponents or of h holes
+abbrev pub HasRoomFor : ℕ → ℕ → Origin → Type 0
+HasRoomFor n h (Exponent j) = j < n
+HasRoomFor n h (Hole q) = q < h
 
+-- the origin of number x of the run
 abbrev pub origin_at : List Origin → ℕ → Origin
 origin_at origins x = slice_index_or origins x (Exponent 0)
 
--- the exponent or the hole that is at a place of the window
+-- the exponent or the hole at place x of the window
 abbrev pub IsOriginAt : List ℕ → ℕ → Origin → Type 0
 IsOriginAt exponents x (Exponent j) = (j < length exponents) × (slice_index exponents j ≡ slice_index exponents 0 + x)
 IsOriginAt exponents x (Hole q) = (q < length (holes exponents)) × (slice_index (holes exponents) q ≡ x)
 
--- those at the first n places
+-- the origins of the first n numbers of the window
 pub record AreOrigins (exponents : List ℕ) (n : ℕ) (origins : List Origin) : Type 0 where
   pub count : length origins ≡ n
   pub each : (x : ℕ) → x < n → IsOriginAt exponents x (origin_at origins x)
 
 -- ---- the inverse
 
--- what the syndromes of the exponents are multiplied by to make those of the holes
+-- the matrix that maps the syndromes of the exponents to those of the holes
 abbrev pub hole_rows : Filling → List (List ℕ)
 hole_rows filling = matrix_product (length filling.known.items) (length filling.origins.items) (lists_of filling.holes.items) (lists_of filling.known.items)
 
--- and those of the run
+-- the matrix that maps the syndromes of the exponents to those of the run
 abbrev pub run_rows : Filling → List (List ℕ)
 run_rows filling = map (from_origin (identity_rows (length filling.origins.items)) (hole_rows filling)) filling.origins.items
 
@@ -66,10 +67,11 @@ run_rows filling = map (from_origin (identity_rows (length filling.origins.items
 abbrev pub filled_rows : Filling → List (List ℕ)
 filled_rows filling = matrix_product (length filling.origins.items) (length filling.origins.items) (located_rows filling.locator) (run_rows filling)
 
--- it is of n exponents
+-- the parts of the filling have the sizes for n exponents: matrices and locator fit each other, and origins name
+-- existing syndromes
 pub record IsFilled (n : ℕ) (filling : Filling) : Type 0 where
   pub count : length filling.origins.items ≡ n
-  pub origins : (x : ℕ) → x < n → IsWithin n (length filling.holes.items) (origin_at filling.origins.items x)
+  pub origins : (x : ℕ) → x < n → HasRoomFor n (length filling.holes.items) (origin_at filling.origins.items x)
   pub known : (u : ℕ) → u < length filling.known.items → IsVector n (list_at (lists_of filling.known.items) u)
   pub holes : (q : ℕ) → q < length filling.holes.items → IsVector (length filling.known.items) (list_at (lists_of filling.holes.items) q)
   pub sequence : length filling.locator.sequence.items ≡ n

@@ -1,5 +1,5 @@
--- Holes between exponents: what is missing of the numbers from the first one to the last one. A number of this window
--- is named by its place, which is 0 for the first exponent.
+-- Holes between exponents: the numbers from the first exponent to the last that are no exponents. A number of this
+-- window is named by its place, which is 0 for the first exponent.
 use Rattle.std.specs.Prelude.{◌≡◌, ◌+◌, ◌-◌, ◌*◌, ◌<◌, ◌==◌, if◌then◌else◌, Bool, not, nat_lt, ℕ, List, filter, length, map, slice_index}
 use Rattle.std.specs.List.{AllByRecursion, list_any, range_with_len}
 use Rattle.par2_spec.specs.Field.{constant, mul}
@@ -7,10 +7,10 @@ use Rattle.par2_spec.specs.Polynomials.{with_roots}
 use Rattle.par2_spec.specs.Rank.{IsVector}
 use Rattle.par2_spec.specs.Recovery.{dot}
 use Rattle.par2_spec.specs.Sums.{field_sum, list_at}
-use Rattle.par2_matrix.specs.Systems.{AreTexts, Equations, IsKilled, Solves}
+use Rattle.par2_matrix.specs.Systems.{AreSolutionBuffers, Equations, IsKilled, Solves}
 use Rattle.par2_solve.specs.Inverses.{GivesUnit, identity}
 
--- the polynomial whose roots are the constants of the lost slices (Peterson 1960: the error locator)
+-- the error locator (Peterson 1960): the polynomial whose roots are the constants of the lost slices
 abbrev pub locator : List ℕ → List ℕ
 locator lost = with_roots (map constant lost)
 
@@ -18,42 +18,42 @@ locator lost = with_roots (map constant lost)
 abbrev pub shifted_at : List ℕ → ℕ → ℕ → ℕ
 shifted_at p u x = if nat_lt x u then 0 else slice_index p (x - u)
 
--- what a polynomial times z ^ u has at these places
+-- the coefficients of a polynomial times z ^ u at these places
 abbrev pub shifted : List ℕ → ℕ → List ℕ → List ℕ
 shifted p u places = map (shifted_at p u) places
 
--- how far the last exponent is from the first one
+-- the difference between the last exponent and the first
 abbrev pub span : List ℕ → ℕ
 span exponents = slice_index exponents (length exponents - 1) - slice_index exponents 0
 
--- none of the exponents is at this place
+-- no exponent is at place x
 abbrev pub is_hole : List ℕ → ℕ → Bool
 is_hole exponents x = not (list_any (λ e. slice_index exponents 0 + x == e) exponents)
 
--- the places of the missing numbers
+-- the places of the holes
 abbrev pub holes : List ℕ → List ℕ
 holes exponents = filter (is_hole exponents) (range_with_len 0 (span exponents))
 
--- A vector has an element for each place. It fits the first n equations: the sum of what the polynomial, shifted by the
--- number of the equation, has at each place, times the element, is 0.
+-- The vector v has an element for each place. It satisfies the first n equations: for each u below n, the coefficients
+-- of the polynomial times z ^ u, at the places, times v, add up to 0.
 abbrev pub KilledByShifts : List ℕ → List ℕ → ℕ → List ℕ → Type 0
 KilledByShifts p places n v = (u : ℕ) → u < n → dot (shifted p u places) v ≡ 0
 
--- only the zero vector fits the first n equations
+-- only the zero vector satisfies the first n equations
 abbrev pub OnlyZeroFits : List ℕ → List ℕ → ℕ → Type 0
 OnlyZeroFits p places n = (v : List ℕ) → IsVector (length places) v → KilledByShifts p places n v → AllByRecursion (λ x. x ≡ 0) v
 
--- A vector that fits the first n equations of the places is killed by the system. The right-hand side of an equation is
--- the unit vector of its number, of m elements.
+-- A vector that satisfies the first n equations of the places is in the null space of the system. The right-hand side
+-- of equation u is unit vector u of m elements.
 pub record AreHoleEquations (p places : List ℕ) (m n : ℕ) (system : Equations) : Type 0 where
   pub columns : system.columns ≡ length places
   pub bytes : system.bytes ≡ 2 * m
   pub kills : (v : List ℕ) → IsVector (length places) v → KilledByShifts p places n v → IsKilled system v
-  pub solves : (texts : List (List ℕ)) → AreTexts system texts → Solves system texts
-      → (u : ℕ) → u < n → u < m → GivesUnit m u (shifted p u places) texts
+  pub solves : (buffers : List (List ℕ)) → AreSolutionBuffers system buffers → Solves system buffers
+      → (u : ℕ) → u < n → u < m → GivesUnit m u (shifted p u places) buffers
 
--- The inverse of what the polynomial, shifted by each number below n, has at the places: their product is the identity,
--- and only the zero vector fits these equations.
+-- The inverse of the matrix of the first n equations of the holes. Its product with this matrix is the identity, and
+-- only the zero vector satisfies the equations.
 pub record AreHoleInverse (p places : List ℕ) (n : ℕ) (rows : List (List ℕ)) : Type 0 where
   pub count : length rows ≡ length places
   pub vectors : (q : ℕ) → q < length places → IsVector n (list_at rows q)
@@ -61,10 +61,10 @@ pub record AreHoleInverse (p places : List ℕ) (n : ℕ) (rows : List (List ℕ
       → field_sum (length places) (λ q. mul (slice_index (shifted p u places) q) (slice_index (list_at rows q) k)) ≡ identity u k
   pub only : OnlyZeroFits p places n
 
--- the places of the exponents
-abbrev pub places_of : List ℕ → List ℕ
-places_of exponents = map (λ e. e - slice_index exponents 0) exponents
+-- the places of the exponents in the window (despite its name, not those of the holes)
+abbrev pub exponent_places : List ℕ → List ℕ
+exponent_places exponents = map (λ e. e - slice_index exponents 0) exponents
 
--- what the polynomial, shifted by each number below n, has at these places
+-- the coefficients of the polynomial, shifted by each number below n, at these places
 abbrev pub shifted_rows : List ℕ → List ℕ → ℕ → List (List ℕ)
 shifted_rows p places n = map (λ u. shifted p u places) (range_with_len 0 n)

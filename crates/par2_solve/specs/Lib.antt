@@ -12,3 +12,4 @@ pub mod Solvers
 pub mod Holes
 pub mod Writing
 pub mod Answers
+pub mod Spans

@@ -1,21 +1,19 @@
--- What the loops that add products keep. A word is two bytes, and zeros follow a text that is too short.
+-- The invariants of the loops that add products. A word is two bytes, and a buffer that is too short is read as if
+-- zeros followed.
 use Rattle.std.specs.Prelude.{ℕ, ◌+◌, ◌*◌, ◌^◌, ◌<◌, ◌≤◌, ◌≡◌, bit_xor, List, length, slice_index}
 use Rattle.par2_spec.specs.Field.{mul}
 use Rattle.par2_spec.specs.Slices.{word}
 use Rattle.par2_gf16.specs.Steps.{AddsWithin}
 use Rattle.par2_spec.specs.Sums.{field_sum, list_at}
+pub use Rattle.par2_transform.specs.Columns.{AreByteLists}
 
--- all are bytes
-abbrev pub AreBytes : List (List ℕ) → Type 0
-AreBytes lists = (r k : ℕ) → slice_index (list_at lists r) k < 2 ^ 8
-
--- the products of one source were added to the first n targets, in the words from `from` up to `to`
+-- one source, times target r's factor, was added to each of the first n targets, in the words from `from` up to `to`
 pub record AddsSource (factor : ℕ → ℕ) (source : List ℕ) (old new : List (List ℕ)) (from to n : ℕ) : Type 0 where
   pub count : length new ≡ length old
   pub done : (r : ℕ) → r < n → AddsWithin (factor r) source (list_at old r) (list_at new r) from to
   pub rest : (r : ℕ) → n ≤ r → list_at new r ≡ list_at old r
 
--- at word p, the sum of the first n factors of row r, each times the source at its place
+-- word p of the product of row r and the first n sources
 abbrev pub products : ℕ → List (List ℕ) → List (List ℕ) → ℕ → ℕ → ℕ
 products n factors sources r p = field_sum n (λ k. mul (slice_index (list_at factors r) k) (word p (list_at sources k)))
 

@@ -9,7 +9,7 @@ use Rattle.par2_solve.specs.declared.rebuild_slices.RebuildFault.{RebuildFault}
 use Rattle.par2_solve.specs.declared.rebuild_slices.RebuildFault.TheVariants.{NotRepairable, Memory}
 use Rattle.par2_solve.specs.declared.rebuild_slices.Survivors.{Survivors}
 
--- what `rebuild` wants of them
+-- what `rebuild` requires: at most 32,768 slices of an even size, and exponents that rise
 pub record CanRebuild (survivors : Survivors) : Type 0 where
   pub count : length survivors.known.items ≤ 32768
   pub even : survivors.slice % 2 ≡ 0
@@ -17,29 +17,29 @@ pub record CanRebuild (survivors : Survivors) : Type 0 where
   pub recovery : AllByRecursion (λ r. length r.1 ≡ survivors.slice) (recovered_of survivors.recovery.items)
   pub exponents : IsStrictlyIncreasing (exponents_of survivors.recovery.items)
 
--- the slices that are known among them, with their padding
+-- for each input slice its bytes with their padding, if it is known
 abbrev pub known_among : Survivors → List (Option (List ℕ))
 known_among survivors = known_of survivors.slice survivors.known.items
 
--- these slices alone agree with them
+-- this list of slices is the only one that agrees with the known slices and the kept recovery slices
 abbrev pub AreRebuilt : Survivors → List (List ℕ) → Type 0
 AreRebuilt survivors slices =
     let known = known_among survivors in
     let exponents = exponents_of survivors.recovery.items in
     IsRebuilt survivors.slice known (kept_slices (lost known) exponents (recovered_of survivors.recovery.items)) slices
 
--- they determine the lost slices
+-- the recovery slices determine the lost slices
 abbrev pub AreEnough : Survivors → Type 0
 AreEnough survivors = IsRepairable (lost (known_among survivors)) (exponents_of survivors.recovery.items)
 
--- ---- where they don't
+-- ---- if they don't
 
--- too few exponents are kept
+-- the fault is NotRepairable
 abbrev pub IsNotRepairable : RebuildFault → Type 0
 IsNotRepairable (NotRepairable missing rank) = Unit {0}
 IsNotRepairable Memory = ⊥
 
--- for each list of slices that agrees with the known and with all recovery slices another one does
+-- for each list of slices that agrees with the known slices and all recovery slices, another one agrees too
 abbrev pub AnotherAlwaysAgrees : Survivors → Type 0
 AnotherAlwaysAgrees survivors =
     let s = survivors.slice in

@@ -14,17 +14,18 @@ known_of s known = map (option_map (λ slice. padded s slice.now)) known
 abbrev pub recovered_of : List (ℕ × Bor (List ℕ)) → List (ℕ × List ℕ)
 recovered_of recovery = map (λ r. (r.0, r.1.now)) recovery
 
+-- the exponents of the surviving recovery slices
 abbrev pub exponents_of : List (ℕ × Bor (List ℕ)) → List ℕ
 exponents_of recovery = map (λ r. r.0) (recovered_of recovery)
 
--- the slices, of which the lost ones are these texts, in order
+-- all slices in order, with these buffers in place of the lost ones
 abbrev pub with_lost_slices : List (Option (List ℕ)) → List (List ℕ) → List (List ℕ)
-with_lost_slices [] texts = []
-with_lost_slices (Some slice ∷ known) texts = slice ∷ with_lost_slices known texts
+with_lost_slices [] buffers = []
+with_lost_slices (Some slice ∷ known) buffers = slice ∷ with_lost_slices known buffers
 with_lost_slices (None ∷ known) [] = [] ∷ with_lost_slices known []
-with_lost_slices (None ∷ known) (text ∷ texts) = text ∷ with_lost_slices known texts
+with_lost_slices (None ∷ known) (bytes ∷ buffers) = bytes ∷ with_lost_slices known buffers
 
--- the numbers of the lost slices, the first slice having the number a
+-- the numbers of the lost slices, if the first slice has the number a
 abbrev pub lost_from : {A : Type 0} → ℕ → List (Option A) → List ℕ
 lost_from a [] = []
 lost_from a (None ∷ known) = a ∷ lost_from (a + 1) known
@@ -36,12 +37,12 @@ known_alone [] = []
 known_alone (None ∷ known) = known_alone known
 known_alone (Some slice ∷ known) = slice ∷ known_alone known
 
--- a slice's bytes, none where it is lost
+-- a slice's bytes, none if it is lost
 abbrev pub bytes_or_none : Option (Bor (List ℕ)) → List ℕ
 bytes_or_none None = []
 bytes_or_none (Some slice) = slice.now
 
--- what a refusal says: of how many lost slices how many exponents are kept, and that they are too few
+-- a NotRepairable fault gives the number of lost slices and the true rank, and the lost slices are not determined
 abbrev pub IsTrueFault : List ℕ → List ℕ → RebuildFault → Type 0
 IsTrueFault lost exponents (NotRepairable missing rank) = (missing ≡ length lost) × (rank ≡ ranks.rank lost exponents) × (ranks.IsRepairable lost exponents → ⊥)
 IsTrueFault lost exponents Memory = Unit {0}

@@ -1,4 +1,6 @@
-//! Which lost slices the surviving recovery slices determine.
+//! Whether the surviving recovery slices determine the lost slices: the rank of their equations. `rank` compares the
+//! exponents first (`rank_by_runs`), which takes no memory, then tries the equations of the holes between them
+//! (`determine`), and last the elimination of all equations.
 
 ghost use Rattle.std.specs.Prelude.{◌≡◌, ◌≢◌, ◌↔◌, ◌<◌, ◌≤◌, ℕ, length, slice_index, IfOk, IfSome, IsTrue, Ok};
 ghost use Rattle.std.specs.List.Sorted.{IsStrictlyIncreasing};
@@ -14,7 +16,7 @@ use par2_matrix::{Offer, System};
 use par2_spec::Result;
 use std::alloc::Global;
 
-// What the recovery slice of exponent e multiplies input slice k by.
+// The coefficient of input slice `k` in the recovery slice of exponent `e`: the slice's constant to the power `e`.
 #[tactic(auto, unfolding(par2_spec::specs::Field::coefficient))]
 fn coefficient(gf: &Gf, k: u32, e: u32) -> u16
     requires { k < 32768 }
@@ -23,7 +25,8 @@ fn coefficient(gf: &Gf, k: u32, e: u32) -> u16
     gf.pow(gf.constant(k).unwrap(), e)
 }
 
-/// What the recovery slice of exponent `e` multiplies each of these input slices by.
+/// The coefficient of each of the input slices `numbers` in the recovery slice of exponent `e`. For the lost slices
+/// this is the left-hand side of the exponent's equation.
 pub(crate) fn coefficients(alloc: Global, gf: &Gf, numbers: &[u32], e: u32) -> Result<Vec<u16>>
     requires { (i : ℕ) → slice_index numbers.now i < 32768 }
     ensures { IfOk result (λ row. row.items ≡ coefficients numbers.now e) }
@@ -32,7 +35,9 @@ pub(crate) fn coefficients(alloc: Global, gf: &Gf, numbers: &[u32], e: u32) -> R
     row.collect(alloc)
 }
 
-// Offers the equation of an exponent, unless the system has its full rank.
+/// Offers the equation of exponent `e` for the `lost` slices, with the right-hand side `right`, to the system, which
+/// keeps it if it is independent of those kept before. If the system has full rank already, every equation is
+/// dependent, and the row isn't computed. An error is that memory ran out.
 pub(crate) fn offer(
     alloc: Global,
     gf: &Gf,
@@ -41,14 +46,18 @@ pub(crate) fn offer(
     e: u32,
     right: Vec<u8>,
 ) -> Result<Offer>
+    // The system has a column for each lost slice and right-hand sides as long as this one.
     requires lost { (i : ℕ) → slice_index lost.now i < 32768 }
     requires columns { system.old.columns ≡ length lost.now }
     requires right { length right.items ≡ system.old.bytes }
+    // The result says whether the row was independent of those kept before, and a kept one is added
+    // to the system.
     ensures kept { result ≡ Ok Offer.Kept
         → CutDown system.old system.new (coefficients lost.now e) right.items }
-    ensures told { result ≡ Ok Offer.Kept → IsIndependent system.old (coefficients lost.now e) }
+    ensures reported { result ≡ Ok Offer.Kept → IsIndependent system.old (coefficients lost.now e) }
     ensures dependent { result ≡ Ok Offer.Dependent
         → IsDependent system.old (coefficients lost.now e) }
+    // The shape never changes, and the system changes only if the equation is kept.
     ensures columns { system.new.columns ≡ system.old.columns }
     ensures bytes { system.new.bytes ≡ system.old.bytes }
     ensures unchanged { result ≢ Ok Offer.Kept → system.new ≡ system.old }
@@ -60,14 +69,15 @@ pub(crate) fn offer(
     system.offer(gf, &row, right)
 }
 
-/// Whether the numbers rise.
+/// Whether the numbers are strictly increasing.
 pub(crate) fn rise(numbers: &[u32]) -> bool
     ensures { IsTrue result ↔ IsStrictlyIncreasing numbers.now }
 {
     numbers.windows(2).all(|pair| pair[0] < pair[1])
 }
 
-/// Whether any two of these exponents, which rise, differ by less than `count`: the last and the first do.
+/// Whether any two of these exponents, which rise, differ by less than `count`. It is enough to compare the first and
+/// the last.
 pub(crate) fn are_close(exponents: &[u32], count: usize) -> bool
     requires { IsStrictlyIncreasing exponents.now }
     ensures { IsTrue result ↔ AreClose count exponents.now }
@@ -79,7 +89,7 @@ pub(crate) fn are_close(exponents: &[u32], count: usize) -> bool
     (span as usize) < count
 }
 
-// Whether `count` of these exponents, which rise, follow one another without a gap: as many that are close do.
+// Whether `count` of these exponents, which rise, are consecutive: they are if they lie within `count` numbers.
 fn has_run(exponents: &[u32], count: usize) -> bool
     requires { IsStrictlyIncreasing exponents.now }
     ensures { IsTrue result ↔ (first : ℕ) × HasRun first count exponents.now }
@@ -92,9 +102,9 @@ fn has_run(exponents: &[u32], count: usize) -> bool
     false
 }
 
-/// The rank, where the exponents tell it without their equations: any two of them differ by less than the number of lost
-/// slices, which rise, or a run of consecutive ones has as many as slices are lost. It takes no memory, and the time of
-/// one look at each.
+/// The rank, if the exponents alone determine it: either any two of them differ by less than the number of lost slices,
+/// or a run of consecutive ones is as long as that. None otherwise, and if `lost` isn't increasing. It takes no memory
+/// and passes over the exponents once.
 pub fn rank_by_runs(lost: &[u32], exponents: &[u32]) -> Option<usize>
     requires lost { (i : ℕ) → slice_index lost.now i < 32768 }
     requires exponents { IsStrictlyIncreasing exponents.now }
@@ -112,7 +122,7 @@ pub fn rank_by_runs(lost: &[u32], exponents: &[u32]) -> Option<usize>
     None
 }
 
-// The rank by the equations of all exponents.
+// The rank by elimination of the equations of all exponents. The rank needs no right-hand sides, so they are empty.
 fn rank_by_elimination(alloc: Global, gf: &Gf, lost: &[u32], exponents: &[u32]) -> Result<usize>
     requires lost { (i : ℕ) → slice_index lost.now i < 32768 }
     requires exponents { IsStrictlyIncreasing exponents.now }
@@ -125,7 +135,8 @@ fn rank_by_elimination(alloc: Global, gf: &Gf, lost: &[u32], exponents: &[u32]) 
     Ok(system.rank())
 }
 
-// The rank by equations: those of the holes between the first exponents, where these tell it, else those of all.
+// The rank by equations: those of the holes between the first exponents if these settle it, otherwise those of all
+// exponents.
 fn rank_by_equations(alloc: Global, gf: &Gf, lost: &[u32], exponents: &[u32]) -> Result<usize>
     requires lost { (i : ℕ) → slice_index lost.now i < 32768 }
     requires exponents { IsStrictlyIncreasing exponents.now }
@@ -137,8 +148,8 @@ fn rank_by_equations(alloc: Global, gf: &Gf, lost: &[u32], exponents: &[u32]) ->
     rank_by_elimination(alloc, gf, lost, exponents)
 }
 
-/// How many of the exponents are kept, for these lost slices: as many as are lost exactly where the recovery slices of
-/// the exponents determine them.
+/// The rank of the exponents' equations for these lost slices, which is how many exponents are kept. It equals the
+/// number of lost slices exactly if the recovery slices of these exponents determine them.
 pub fn rank(alloc: Global, gf: &Gf, lost: &[u32], exponents: &[u32]) -> Result<usize>
     requires lost { (i : ℕ) → slice_index lost.now i < 32768 }
     requires exponents { IsStrictlyIncreasing exponents.now }

@@ -1,22 +1,22 @@
-//! The inverse for exponents with holes between them. The equations of the holes say of the syndromes of a window what
-//! those of the kept exponents, times what the shifted locator has there, add up to: the right-hand sides. The inverse of
-//! what it has at the holes, times these, is the syndromes of the holes. With them the first numbers of the window, as
-//! many as slices are lost, are a run, and its locator makes the lost slices. For L lost slices and g holes it takes some
-//! g x g x g products of words, and g x (L + g) products of syndromes beside those of the locator.
+//! The inverse for exponents with holes between them. The equations of the holes (see `holes`) relate the syndromes of
+//! a window. With the syndromes of the kept exponents on the right-hand side, each multiplied by the coefficient of the
+//! shifted locator at its exponent, they are a square system for the syndromes of the holes. The window then begins
+//! with a run as long as slices are lost, and its locator gives the lost slices. For L lost slices and g holes this
+//! takes about g x g x g products of words, and g x (L + g) products of syndromes beside those of the locator.
 
 ghost use Rattle.std.specs.Prelude.{◌≡◌, ◌%◌, ◌<◌, ◌≤◌, length, map, IfOk, IfSome};
 ghost use Rattle.std.specs.List.{Contains};
 ghost use Rattle.std.specs.List.Sorted.{IsStrictlyIncreasing};
 ghost use Rattle.par2_spec.specs.Runs.{AreSlices};
 ghost use Rattle.par2_spec.specs.Sums.{lists_of};
-ghost use Rattle.par2_solve.specs.Filling.{AreOrigins, IsFilled, IsOriginAt, IsWithin, filled_rows, hole_rows, from_origin};
+ghost use Rattle.par2_solve.specs.Filling.{AreOrigins, IsFilled, IsOriginAt, HasRoomFor, filled_rows, hole_rows, from_origin};
 ghost use Rattle.par2_solve.specs.Holes.{holes, shifted_rows};
 ghost use Rattle.par2_solve.specs.Solvers.{InvertsFirst};
 ghost use Rattle.par2_solve.specs.Syndromes.{AreProducts};
-ghost use Rattle.par2_solve.specs.Views.{texts_of};
+ghost use Rattle.par2_solve.specs.Views.{buffers_of};
 
 use crate::holes::{count_equations, front, hole_inverse, holes, locator, places_of, shifted};
-use crate::products::{fit_texts, products_of, source_at, text_at};
+use crate::products::{buffer_at, buffers_fit, products_of, source_at};
 use crate::run_locator::run_locator;
 use crate::solver::{Inverse, located_products};
 use crate::syndromes::borrowed;
@@ -25,31 +25,33 @@ use par2_spec::Result;
 use par2_transform::Locator;
 use std::alloc::Global;
 
-/// Which syndrome is that of a number of the run.
+/// The origin of the syndrome of a number of the run.
 #[derive(Clone, Copy, Drop)]
 pub(crate) enum Origin {
-    /// That of the kept exponent with this number among them.
+    /// It is the syndrome of the kept exponent with this index.
     Exponent(usize),
-    /// That of the hole with this number among them.
+    /// It is the syndrome of the hole with this index.
     Hole(usize),
 }
 
-/// The inverse for exponents with holes between them.
+/// The inverse for exponents with holes between them, as factors that are applied one after the other.
 #[derive(Drop)]
 pub(crate) struct Filling<'a> {
-    /// For each equation of the holes, what it multiplies the syndromes of the kept exponents by.
+    /// For each equation of the holes, the coefficients of the kept exponents' syndromes.
     pub(crate) known: Vec<Vec<u16>>,
-    /// The inverse of what the equations multiply the syndromes of the holes by.
+    /// The inverse of the matrix of the holes' coefficients in these equations.
     pub(crate) holes: Vec<Vec<u16>>,
-    /// The syndromes of the run, in order.
+    /// The origins of the syndromes of the run, in order.
     pub(crate) origins: Vec<Origin>,
-    /// The inverse for the run.
+    /// The locator of the lost slices for the run.
     pub(crate) locator: Locator<'a>,
 }
 
-// For each equation of the holes, what the locator, shifted by its number, has at the places of the exponents.
+// For each of the first `count` equations of the holes, the coefficients of the kept exponents' syndromes, which lie at
+// these places of the window: those of the locator, shifted by the equation's number. This is `Filling::known`.
 fn known_rows(alloc: Global, locator: &[u16], places: &[u32], count: usize) -> Result<Vec<Vec<u16>>>
-    ensures { IfOk result (λ rows. lists_of rows.items ≡ shifted_rows locator.now places.now count) }
+    ensures { IfOk result
+        (λ rows. lists_of rows.items ≡ shifted_rows locator.now places.now count) }
 {
     let mut rows = Vec::with_capacity(alloc, count)?;
     for u in 0..count {
@@ -58,7 +60,8 @@ fn known_rows(alloc: Global, locator: &[u16], places: &[u32], count: usize) -> R
     Ok(rows)
 }
 
-// The number of the hole at a place.
+// The index, among all holes of the window, of the hole at place `x`, which is `x` above the first exponent. `places`
+// are those of all holes.
 fn hole_at(exponents: &[u32], places: &[u32], x: u32) -> usize
     requires places { places.now ≡ holes exponents.now }
     requires hole { Contains places.now x }
@@ -67,7 +70,8 @@ fn hole_at(exponents: &[u32], places: &[u32], x: u32) -> usize
     places.binary_search(&x).unwrap()
 }
 
-// Which syndrome is that of the number at a place.
+// The origin of the syndrome of the number at place `x`, which is `x` above the first exponent: the exponent with this
+// number, or else a hole. `places` are those of all holes.
 fn origin_at(exponents: &[u32], places: &[u32], x: u32) -> Origin
     requires rise { IsStrictlyIncreasing exponents.now }
     requires within { x < length exponents.now }
@@ -80,7 +84,8 @@ fn origin_at(exponents: &[u32], places: &[u32], x: u32) -> Origin
     }
 }
 
-// Which syndromes are those of the run.
+// The origins of the syndromes of the run, in order. The run begins with the first exponent and has as many numbers as
+// there are exponents. `places` are those of all holes.
 fn origins(alloc: Global, exponents: &[u32], places: &[u32]) -> Result<Vec<Origin>>
     requires rise { IsStrictlyIncreasing exponents.now }
     requires count { length exponents.now ≤ 32768 }
@@ -95,13 +100,14 @@ fn origins(alloc: Global, exponents: &[u32], places: &[u32]) -> Result<Vec<Origi
     Ok(origins)
 }
 
-// Whether the syndromes of so many holes take no more products than the rows of an inverse, which elimination gives.
+// Whether computing the syndromes of `holes` holes takes no more products than applying an inverse by elimination, for
+// `lost` lost slices.
 fn are_few(holes: usize, lost: usize) -> bool {
     holes.saturating_mul(holes.saturating_add(lost)) <= lost.saturating_mul(lost)
 }
 
-/// The inverse for the first exponents, as many as slices are lost, where few numbers are missing between them and the
-/// equations of these holes are independent.
+/// The inverse for the first exponents, as many as slices are lost. None if there are too many holes between them or
+/// the equations of the holes are dependent.
 pub(crate) fn inverse_over_holes<'a>(
     alloc: Global,
     gf: &'a Gf,
@@ -134,19 +140,20 @@ pub(crate) fn inverse_over_holes<'a>(
     Ok(Some(Inverse::Filled(filling)))
 }
 
-// The bytes of an exponent's syndrome or of a hole's.
+// The bytes of the syndrome with this origin. `sources` are the syndromes of the exponents, `holes` those of the holes.
 fn source_of<'a, 'b: 'a>(origin: Origin, sources: &[&'b [u8]], holes: &'a [Vec<u8>]) -> &'a [u8]
-    requires { IsWithin (length sources.now) (length holes.now) origin }
-    ensures { result.now ≡ from_origin (texts_of sources.now) (lists_of holes.now) origin }
+    requires { HasRoomFor (length sources.now) (length holes.now) origin }
+    ensures { result.now ≡ from_origin (buffers_of sources.now) (lists_of holes.now) origin }
 {
     match origin {
         Origin::Exponent(j) => source_at(sources, j),
-        Origin::Hole(q) => text_at(holes, q),
+        Origin::Hole(q) => buffer_at(holes, q),
     }
 }
 
 impl<'a> Filling<'a> {
-    // The syndromes of the holes, by those of the exponents.
+    // The syndromes of the holes, of `size` bytes each, from those of the exponents (`sources`): the right-hand sides
+    // of the holes' equations (`known` times the sources), then the inverse of their matrix times these.
     fn hole_products(
         &self,
         alloc: Global,
@@ -156,15 +163,16 @@ impl<'a> Filling<'a> {
     ) -> Result<Vec<Vec<u8>>>
         requires sources { IsFilled (length sources.now) self.now }
         requires even { size % 2 ≡ 0 }
-        ensures { IfOk result (λ sums. AreProducts size (hole_rows self.now) (texts_of sources.now)
+        ensures { IfOk result
+            (λ sums. AreProducts size (hole_rows self.now) (buffers_of sources.now)
             (lists_of sums.items)) }
     {
-        fit_texts(sources);
+        buffers_fit(sources);
         let right = products_of(alloc, gf, &self.known, sources, size)?;
         products_of(alloc, gf, &self.holes, &borrowed(alloc, &right)?, size)
     }
 
-    // The syndromes of the run, by those of the exponents and of the holes.
+    // The syndromes of the run, in order: each is that of an exponent (`sources`) or of a hole, as its origin says.
     fn run<'b, 'c: 'b>(
         &self,
         alloc: Global,
@@ -173,8 +181,8 @@ impl<'a> Filling<'a> {
     ) -> Result<Vec<&'b [u8]>>
         requires sources { IsFilled (length sources.now) self.now }
         requires holes { length holes.now ≡ length self.now.holes.items }
-        ensures { IfOk result (λ run. texts_of run.items ≡ map
-            (from_origin (texts_of sources.now) (lists_of holes.now)) self.now.origins.items) }
+        ensures { IfOk result (λ run. buffers_of run.items ≡ map
+            (from_origin (buffers_of sources.now) (lists_of holes.now)) self.now.origins.items) }
     {
         let mut run = Vec::with_capacity(alloc, self.origins.len())?;
         for x in 0..self.origins.len() {
@@ -183,7 +191,9 @@ impl<'a> Filling<'a> {
         Ok(run)
     }
 
-    /// The sums of the sources, each times its factor in a row, of so many bytes: one for each row.
+    /// The product of the inverse and the syndromes of the kept exponents (`sources`), of `size` bytes each: for each
+    /// lost slice a buffer. It computes the holes' syndromes, and the locator solves the run. `room` is memory in
+    /// bytes.
     pub(crate) fn products(
         &self,
         alloc: Global,
@@ -195,9 +205,9 @@ impl<'a> Filling<'a> {
         requires sources { IsFilled (length sources.now) self.now }
         requires even { size % 2 ≡ 0 }
         ensures { IfOk result (λ sums. AreProducts size (filled_rows self.now)
-            (texts_of sources.now) (lists_of sums.items)) }
+            (buffers_of sources.now) (lists_of sums.items)) }
     {
-        fit_texts(sources);
+        buffers_fit(sources);
         let holes = self.hole_products(alloc, gf, sources, size)?;
         let run = self.run(alloc, sources, &holes)?;
         located_products(alloc, &self.locator, &run, size, room)

@@ -1,15 +1,16 @@
-//! Holes between exponents. Let the first ones, as many as slices are lost, lie in a window of consecutive numbers of
-//! which some are missing: the holes. Any vector gives each exponent a sum of powers, and these satisfy the linear
-//! recurrence of the locator (Peterson 1960), the polynomial whose roots are the constants of the lost slices: `m_0`
-//! times the sum of exponent `s`, `m_1` times that of `s + 1` and so on add up to 0, for each `s`. A window has as many
-//! of these equations as it has holes. Where they are independent, the sums of the exponents tell those of the holes,
-//! the window is a run, and the exponents determine the lost slices.
+//! Holes between exponents. Take the first exponents, as many as slices are lost. They lie in a window of consecutive
+//! numbers; those of the window that aren't among them are the holes. For a vector with an element for each lost slice,
+//! let the sum of a number be that of the elements, each times its slice's constant to the power of the number. These
+//! sums satisfy the linear recurrence of the error locator (Peterson 1960), the polynomial whose roots are the
+//! constants of the lost slices: from each number on, the sums, each times the next coefficient of the locator, add up
+//! to 0. A window has as many of these equations as it has holes. If they are independent, the sums of the exponents
+//! determine those of the holes, the window becomes a run, and the exponents determine the lost slices.
 
 ghost use Rattle.std.specs.Prelude.{◌≡◌, ℕ, ◌+◌, ◌*◌, ◌<◌, ◌≤◌, length, slice_index, take, IfOk, IfSome, IsTrue};
 ghost use Rattle.std.specs.List.Sorted.{IsStrictlyIncreasing};
 ghost use Rattle.par2_spec.specs.Rank.{IsRepairable};
 ghost use Rattle.par2_spec.specs.Sums.{lists_of};
-ghost use Rattle.par2_solve.specs.Holes.{shifted_at, shifted, span, is_hole, holes, places_of, locator, AreHoleEquations, AreHoleInverse, OnlyZeroFits};
+ghost use Rattle.par2_solve.specs.Holes.{shifted_at, shifted, span, is_hole, holes, exponent_places, locator, AreHoleEquations, AreHoleInverse, OnlyZeroFits};
 
 use crate::exponents::{are_close, coefficients, rise};
 use crate::inverse::{rows_of, unit};
@@ -19,13 +20,15 @@ use par2_matrix::{Offer, System};
 use par2_spec::Result;
 use std::alloc::Global;
 
-/// The first exponents, as many as `count`, where no more numbers than that are missing between them: with as many holes
-/// as exponents, the equations of the holes are as many as those of the exponents, and elimination is as fast.
+/// The first `count` exponents, if there are at most as many holes between them. With more holes, their equations would
+/// outnumber those of the exponents, and elimination would be as fast.
 pub(crate) fn front(exponents: &[u32], count: usize) -> Option<&[u32]>
     requires { IsStrictlyIncreasing exponents.now }
+    // It returns the first `count` exponents, of which there is at least one.
     ensures first { IfSome result (λ first. first.now ≡ take count exponents.now) }
     ensures some { IfSome result (λ first. 0 < length first.now) }
     ensures count { IfSome result (λ first. length first.now ≡ count) }
+    // They rise, and at most `count` numbers are missing between them.
     ensures rise { IfSome result (λ first. IsStrictlyIncreasing first.now) }
     ensures near { IfSome result (λ first. span first.now < 2 * count) }
 {
@@ -39,7 +42,7 @@ pub(crate) fn front(exponents: &[u32], count: usize) -> Option<&[u32]>
     Some(first)
 }
 
-// How far the last exponent is from the first one.
+// The difference between the last exponent and the first: the place of the last one in the window.
 fn span(exponents: &[u32]) -> u32
     requires some { 0 < length exponents.now }
     requires rise { IsStrictlyIncreasing exponents.now }
@@ -48,7 +51,7 @@ fn span(exponents: &[u32]) -> u32
     exponents[exponents.len() - 1] - exponents[0]
 }
 
-// Whether none of the exponents, which rise, is at this place from the first one on.
+// Whether no exponent is at this place of the window. The exponents rise, and the first one is at place 0.
 fn is_hole(exponents: &[u32], x: u32) -> bool
     requires some { 0 < length exponents.now }
     requires rise { IsStrictlyIncreasing exponents.now }
@@ -58,7 +61,7 @@ fn is_hole(exponents: &[u32], x: u32) -> bool
     exponents.binary_search(&(exponents[0] + x)).is_err()
 }
 
-/// The places of the numbers that are missing between the exponents, which rise.
+/// The places of the holes between the exponents, which rise: for each hole, how far it is above the first exponent.
 pub(crate) fn holes(alloc: Global, exponents: &[u32]) -> Result<Vec<u32>>
     requires some { 0 < length exponents.now }
     requires rise { IsStrictlyIncreasing exponents.now }
@@ -73,10 +76,10 @@ pub(crate) fn holes(alloc: Global, exponents: &[u32]) -> Result<Vec<u32>>
     Ok(places)
 }
 
-/// The places of the exponents, which rise.
+/// The places of the exponents, which rise, in the window: for each, how far it is above the first one.
 pub(crate) fn places_of(alloc: Global, exponents: &[u32]) -> Result<Vec<u32>>
     requires { 0 < length exponents.now }
-    ensures { IfOk result (λ places. places.items ≡ places_of exponents.now) }
+    ensures { IfOk result (λ places. places.items ≡ exponent_places exponents.now) }
 {
     let first = exponents[0];
     exponents
@@ -85,7 +88,7 @@ pub(crate) fn places_of(alloc: Global, exponents: &[u32]) -> Result<Vec<u32>>
         .collect(alloc)
 }
 
-// The coefficient of `z ^ x` in a polynomial times `z ^ u`.
+// The coefficient of `z ^ x` in a polynomial times `z ^ u`. `p` has the polynomial's coefficients from `z ^ 0` on.
 fn shifted_at(p: &[u16], u: usize, x: u32) -> u16
     ensures { result ≡ shifted_at p.now u x }
 {
@@ -96,15 +99,17 @@ fn shifted_at(p: &[u16], u: usize, x: u32) -> u16
     p.get(x - u).copied().unwrap_or(0)
 }
 
-/// What a polynomial times `z ^ u` has at these places.
+/// The coefficients of a polynomial times `z ^ u` at these places. For the locator and the places of holes, this is row
+/// `u` of the holes' equations; for those of exponents, it leads to the right-hand side.
 pub(crate) fn shifted(alloc: Global, p: &[u16], u: usize, places: &[u32]) -> Result<Vec<u16>>
     ensures { IfOk result (λ row. row.items ≡ shifted p.now u places.now) }
 {
     places.iter().map(|x| shifted_at(p, u, *x)).collect(alloc)
 }
 
-// The system of the first equations of the holes at these places, where they are independent: in each the locator is
-// shifted by its number. The right-hand side is the unit vector of its number, which has `units` elements.
+// The system of the first `count` equations of the holes at these places; None if they are dependent. Row `u` has the
+// coefficients of the locator shifted by `u`, and its right-hand side is unit vector `u` of `units` elements. If only
+// the rank is needed, `units` is 0.
 fn hole_system(
     alloc: Global,
     gf: &Gf,
@@ -128,17 +133,18 @@ fn hole_system(
     Ok(Some(system))
 }
 
-/// The locator of the lost slices.
+/// The error locator of the lost slices: the coefficients, from `z ^ 0` on, of the polynomial whose roots are their
+/// constants.
 pub(crate) fn locator(alloc: Global, gf: &Gf, lost: &[u32]) -> Result<Vec<u16>>
     requires lost { (i : ℕ) → slice_index lost.now i < 32768 }
     ensures { IfOk result (λ p. p.items ≡ locator lost.now) }
 {
-    // A slice's constant is what exponent 1 multiplies it by.
+    // Exponent 1 multiplies each slice by its constant.
     let constants = coefficients(alloc, gf, lost, 1)?;
     with_roots(alloc, gf, &constants)
 }
 
-/// How many equations the holes have in the window: as many as it has more numbers than there are exponents.
+/// The number of equations of the holes in the window, which is the number of holes.
 pub(crate) fn count_equations(exponents: &[u32]) -> usize
     requires some { 0 < length exponents.now }
     requires rise { IsStrictlyIncreasing exponents.now }
@@ -148,7 +154,8 @@ pub(crate) fn count_equations(exponents: &[u32]) -> usize
     numbers - exponents.len()
 }
 
-// Whether the equations of the holes at these places are regular.
+// Whether the first `count` equations of the holes at these places are independent and as many as the holes. Then they
+// determine the holes' sums, and the exponents around the holes determine the lost slices.
 fn are_regular(alloc: Global, gf: &Gf, lost: &[u32], places: &[u32], count: usize) -> Result<bool>
     requires lost { (i : ℕ) → slice_index lost.now i < 32768 }
     ensures { IfOk result (λ yes. IsTrue yes → OnlyZeroFits (locator lost.now) places.now count) }
@@ -160,8 +167,8 @@ fn are_regular(alloc: Global, gf: &Gf, lost: &[u32], places: &[u32], count: usiz
     }
 }
 
-/// The inverse of what the first equations of the holes at these places multiply the holes' sums by, where there are as
-/// many equations as holes and they are independent.
+/// The rows of the inverse of the matrix of the first `count` equations of the holes at these places, for `Filling`.
+/// None if they are dependent or fewer than the holes. An error is that memory ran out.
 pub(crate) fn hole_inverse(
     alloc: Global,
     gf: &Gf,
@@ -180,13 +187,13 @@ pub(crate) fn hole_inverse(
         return Ok(None);
     }
     match system.into_solution() {
-        Ok(texts) => Ok(Some(rows_of(alloc, &texts)?)),
+        Ok(buffers) => Ok(Some(rows_of(alloc, &buffers)?)),
         Err(_) => Ok(None),
     }
 }
 
 /// Whether the first exponents, as many as slices are lost, determine these by the equations of the holes between them.
-/// If it says no, they may still do. It takes holes x holes x holes products, one after the other, and holes x holes
+/// If it returns false, they may still do so. For h holes it takes h^3 products of single words, and memory for h^2
 /// words.
 pub(crate) fn determine(alloc: Global, gf: &Gf, lost: &[u32], exponents: &[u32]) -> Result<bool>
     requires lost { (i : ℕ) → slice_index lost.now i < 32768 }

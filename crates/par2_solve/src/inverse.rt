@@ -1,4 +1,7 @@
-//! The equations of the kept exponents, and their inverse.
+//! Which exponents a repair keeps, and the inverse of the matrix of their coefficients for the lost slices. `invert`
+//! tries the first exponents, as many as slices are lost (`inverse_at_front`); if they don't suffice, it offers the
+//! equations of all exponents to a system in order, with unit vectors on the right-hand side, whose solution is the
+//! inverse.
 
 ghost use Rattle.std.specs.Prelude.{◌≡◌, ◌≢◌, ℕ, ◌*◌, ◌<◌, ◌≤◌, length, map, slice_index, IfErr, IfOk, IsOk, Ok, ◌%◌, IfSome, IsNone};
 ghost use Rattle.std.specs.List.Sorted.{IsStrictlyIncreasing};
@@ -6,19 +9,19 @@ ghost use Rattle.par2_spec.specs.Rank.{IsRepairable};
 ghost use Rattle.par2_spec.specs.Recovery.{coefficients};
 ghost use Rattle.par2_spec.specs.Sums.{lists_of, list_at};
 ghost use Rattle.par2_solve.specs.Answers.{HasInverse, KeepsThose};
-ghost use Rattle.par2_solve.specs.Views.{texts_of};
+ghost use Rattle.par2_solve.specs.Views.{buffers_of};
 ghost use Rattle.par2_solve.specs.Survivors.{recovered_of, exponents_of, IsTrueFault};
 ghost use Rattle.par2_solve.specs.Inverses.{CutByUnit, IsEliminated};
-ghost use Rattle.par2_matrix.specs.Echelon.{Spells};
+ghost use Rattle.par2_matrix.specs.Echelon.{HoldsRow};
 ghost use Rattle.par2_matrix.specs.Systems.{IsIndependent, IsDependent};
-ghost use Rattle.par2_solve.specs.Elements.{AreRows, IsUnit};
+ghost use Rattle.par2_solve.specs.Elements.{AreByteRows, IsUnit};
 ghost use Rattle.par2_solve.specs.RunInverses.{BeginsWithRun};
 ghost use Rattle.par2_spec.specs.Runs.{AreSlices};
 ghost use Rattle.par2_solve.specs.Solvers.{InvertsFirst};
 
 use crate::exponents::{are_close, offer};
 use crate::filling::inverse_over_holes;
-use crate::products::text_at;
+use crate::products::buffer_at;
 use crate::rebuild_slices::RebuildFault;
 use crate::run_locator::{LOCATED, inverse_for_run};
 use crate::solver::Inverse;
@@ -27,32 +30,38 @@ use par2_matrix::{Offer, System, element, put_element};
 use par2_spec::Result;
 use std::alloc::Global;
 
-// The recovery slices of the kept exponents, in order, and the system of their equations: the right side of the j-th one
-// is the j-th unit vector.
+// The recovery slices of the kept exponents in order, and the system of their equations. The right-hand side of
+// equation `j` is unit vector `j`.
 #[derive(Drop)]
 struct Elimination<'a> {
     kept: Vec<(u32, &'a [u8])>,
     system: System,
 }
 
-/// The recovery slices of the kept exponents, in order, and the inverse of what these multiply the lost slices by.
+/// The recovery slices of the kept exponents in order, and the inverse of the matrix of their coefficients for the lost
+/// slices.
 #[derive(Drop)]
 pub(crate) struct Inversion<'a> {
     pub(crate) kept: Vec<(u32, &'a [u8])>,
     pub(crate) inverse: Inverse<'a>,
 }
 
-// Offers the equation of an exponent, whose right side is the unit vector of the number of equations.
+// Offers the equation of exponent `e`. Its right-hand side is the unit vector of its number among the kept ones, so
+// that the solution of the system is the inverse. `CutByUnit`: the equation was kept with this right-hand side.
 fn offer_unit(alloc: Global, gf: &Gf, system: &mut System, lost: &[u32], e: u32) -> Result<Offer>
+    // The system has a column for each lost slice, and right-hand sides of as many elements.
     requires count { length lost.now ≤ 32768 }
     requires lost { (i : ℕ) → slice_index lost.now i < 32768 }
     requires columns { system.old.columns ≡ length lost.now }
     requires bytes { system.old.bytes ≡ 2 * length lost.now }
+    // The result says whether the row was independent of those kept before, and a kept one is added
+    // to the system.
     ensures kept { result ≡ Ok Offer.Kept
         → CutByUnit system.old system.new (coefficients lost.now e) }
-    ensures told { result ≡ Ok Offer.Kept → IsIndependent system.old (coefficients lost.now e) }
+    ensures reported { result ≡ Ok Offer.Kept → IsIndependent system.old (coefficients lost.now e) }
     ensures dependent { result ≡ Ok Offer.Dependent
         → IsDependent system.old (coefficients lost.now e) }
+    // The shape never changes, and the system changes only if the equation is kept.
     ensures columns { system.new.columns ≡ system.old.columns }
     ensures bytes { system.new.bytes ≡ system.old.bytes }
     ensures unchanged { result ≢ Ok Offer.Kept → system.new ≡ system.old }
@@ -61,7 +70,7 @@ fn offer_unit(alloc: Global, gf: &Gf, system: &mut System, lost: &[u32], e: u32)
     offer(alloc, gf, system, lost, e, right)
 }
 
-// Takes the recovery slices in order, and keeps those of the kept exponents.
+// Offers the equations of the recovery slices in order, and collects the recovery slices whose equations are kept.
 fn eliminate<'a>(
     alloc: Global,
     gf: &Gf,
@@ -86,27 +95,32 @@ fn eliminate<'a>(
     Ok(Elimination { kept, system })
 }
 
-// The kept exponents and their inverse, where they determine the lost slices.
+// The kept exponents and their inverse by elimination of all equations. `invert` calls it if the first exponents give
+// no inverse. An error is that the exponents don't determine the lost slices, or that memory ran out.
 fn invert_by_elimination<'a>(
     alloc: Global,
     gf: &Gf,
     lost: &[u32],
     recovery: &[(u32, &'a [u8])],
 ) -> Result<Inversion<'a>, RebuildFault>
+    // The slices are numbers of a PAR2 set, and the exponents rise.
     requires count { length lost.now ≤ 32768 }
     requires lost { (i : ℕ) → slice_index lost.now i < 32768 }
     requires exponents { IsStrictlyIncreasing (exponents_of recovery.now) }
+    // The first exponents whose equations are independent are kept, and the inverse is theirs.
     ensures kept { IfOk result (KeepsThose lost.now recovery.now) }
     ensures inverse { IfOk result (HasInverse lost.now) }
+    // It succeeds only if the lost slices are determined; otherwise the fault says so with the true
+    // rank.
     ensures enough { IsOk result → IsRepairable lost.now (exponents_of recovery.now) }
     ensures refused { IfErr result (IsTrueFault lost.now (exponents_of recovery.now)) }
 {
     let Elimination { kept, system } = eliminate(alloc, gf, lost, recovery)?;
     let rank = system.rank();
     match system.into_solution() {
-        Ok(texts) => Ok(Inversion {
+        Ok(buffers) => Ok(Inversion {
             kept,
-            inverse: Inverse::Rows(rows_of(alloc, &texts)?),
+            inverse: Inverse::Rows(rows_of(alloc, &buffers)?),
         }),
         Err(_) => Err(RebuildFault::NotRepairable {
             missing: lost.len(),
@@ -115,62 +129,64 @@ fn invert_by_elimination<'a>(
     }
 }
 
-/// The bytes of the recovery slices.
+/// The bytes of the kept recovery slices, in order.
 pub(crate) fn bytes_of<'a>(alloc: Global, kept: &[(u32, &'a [u8])]) -> Result<Vec<&'a [u8]>>
-    ensures { IfOk result (λ texts. texts_of texts.items ≡ map (λ r. r.1) (recovered_of kept.now)) }
+    ensures { IfOk result
+        (λ buffers. buffers_of buffers.items ≡ map (λ r. r.1) (recovered_of kept.now)) }
 {
     kept.iter().map(|slice| slice.1).collect(alloc)
 }
 
-/// The exponents of the recovery slices.
+/// The exponents of the recovery slices, in order.
 pub(crate) fn exponents_of(alloc: Global, kept: &[(u32, &[u8])]) -> Result<Vec<u32>>
     ensures { IfOk result (λ exponents. exponents.items ≡ exponents_of kept.now) }
 {
     kept.iter().map(|slice| slice.0).collect(alloc)
 }
 
-// The elements of a text.
-fn row_of(alloc: Global, text: &[u8]) -> Result<Vec<u16>>
-    requires { length text.now % 2 ≡ 0 }
-    ensures { IfOk result (λ row. Spells row.items text.now (length row.items)) }
+// The elements of a right-hand side, two bytes each. After elimination they are a row of the inverse.
+fn row_of(alloc: Global, bytes: &[u8]) -> Result<Vec<u16>>
+    requires { length bytes.now % 2 ≡ 0 }
+    ensures { IfOk result (λ row. HoldsRow row.items bytes.now (length row.items)) }
 {
-    let count = text.len() / 2;
+    let count = bytes.len() / 2;
     let mut row = Vec::with_capacity(alloc, count)?;
     for i in 0..count {
-        row.push(element(text, i))?;
+        row.push(element(bytes, i))?;
     }
     Ok(row)
 }
 
-/// The elements of each text.
-pub(crate) fn rows_of(alloc: Global, texts: &[Vec<u8>]) -> Result<Vec<Vec<u16>>>
-    requires { (r : ℕ) → r < length texts.now → length (list_at (lists_of texts.now) r) % 2 ≡ 0 }
+/// The elements of each right-hand side. `AreByteRows`: row r has the elements whose bytes are buffer r.
+pub(crate) fn rows_of(alloc: Global, buffers: &[Vec<u8>]) -> Result<Vec<Vec<u16>>>
+    requires { (r : ℕ) → r < length buffers.now
+        → length (list_at (lists_of buffers.now) r) % 2 ≡ 0 }
     ensures { IfOk result
-        (λ rows. AreRows (lists_of rows.items) (lists_of texts.now) (length texts.now)) }
+        (λ rows. AreByteRows (lists_of rows.items) (lists_of buffers.now) (length buffers.now)) }
 {
-    let mut rows = Vec::with_capacity(alloc, texts.len())?;
-    for r in 0..texts.len() {
-        rows.push(row_of(alloc, text_at(texts, r))?)?;
+    let mut rows = Vec::with_capacity(alloc, buffers.len())?;
+    for r in 0..buffers.len() {
+        rows.push(row_of(alloc, buffer_at(buffers, r))?)?;
     }
     Ok(rows)
 }
 
-/// The text of the unit vector of n elements that has 1 at i, or of zeros, where i is none of its places.
+/// The bytes of unit vector `i` of `n` elements (1 at place `i`, 0 elsewhere); zeros if `i` isn't below `n`.
 pub(crate) fn unit(alloc: Global, n: usize, i: usize) -> Result<Vec<u8>>
     requires { n < 65536 }
-    ensures size { IfOk result (λ text. length text.items ≡ 2 * n) }
-    ensures unit { i < n → IfOk result (λ text. IsUnit n i text.items) }
+    ensures size { IfOk result (λ bytes. length bytes.items ≡ 2 * n) }
+    ensures unit { i < n → IfOk result (λ bytes. IsUnit n i bytes.items) }
 {
-    let mut text = vec![in alloc; 0u8; 2 * n]?;
+    let mut bytes = vec![in alloc; 0u8; 2 * n]?;
     if i >= n {
-        return Ok(text);
+        return Ok(bytes);
     }
-    put_element(text.as_mut_slice(), i, 1);
-    Ok(text)
+    put_element(bytes.as_mut_slice(), i, 1);
+    Ok(bytes)
 }
 
-// The first of `count` exponents, where these are the first ones and follow one another without a gap: they rise, so they
-// do where any two of them differ by less than `count`.
+// The first exponent, if the first `count` exponents are consecutive, and None otherwise. Because they rise, they are
+// consecutive if any two of them differ by less than `count`.
 fn run_at_front(exponents: &[u32], count: usize) -> Option<u32>
     requires { IsStrictlyIncreasing exponents.now }
     ensures run { IfSome result (λ first. BeginsWithRun first count exponents.now) }
@@ -183,9 +199,9 @@ fn run_at_front(exponents: &[u32], count: usize) -> Option<u32>
     exponents.first().copied()
 }
 
-// The inverse for the first exponents, as many as slices are lost, where these are a run, or where there are holes
-// between them whose equations are independent. For few lost slices elimination takes less time than the products of
-// slices that holes take.
+// The inverse for the first exponents, as many as slices are lost, if they are a run or have holes whose equations are
+// independent. None if `invert` must eliminate; if few slices are lost, elimination takes less time than the products
+// of slices that holes need.
 fn inverse_at_front<'a>(
     alloc: Global,
     gf: &'a Gf,
@@ -206,21 +222,25 @@ fn inverse_at_front<'a>(
     inverse_over_holes(alloc, gf, lost, exponents)
 }
 
-/// The kept exponents and their inverse, where they determine the lost slices. Where the first exponents, as many as
-/// slices are lost, are a run or have few holes between them, these are kept, and the locator of the lost slices makes
-/// their inverse; else elimination does.
+/// The kept exponents and their inverse; `NotRepairable` if the exponents don't determine the lost slices. If the first
+/// exponents, as many as slices are lost, are a run or have few holes between them, they are the kept ones and the
+/// error locator gives the inverse. Otherwise elimination does.
 pub(crate) fn invert<'a>(
     alloc: Global,
     gf: &'a Gf,
     lost: &[u32],
     recovery: &[(u32, &'a [u8])],
 ) -> Result<Inversion<'a>, RebuildFault>
+    // The lost slices and the exponents rise, and slices are numbers of a PAR2 set.
     requires count { length lost.now ≤ 32768 }
     requires lost { (i : ℕ) → slice_index lost.now i < 32768 }
     requires rise { IsStrictlyIncreasing lost.now }
     requires exponents { IsStrictlyIncreasing (exponents_of recovery.now) }
+    // The first exponents whose equations are independent are kept, and the inverse is theirs.
     ensures kept { IfOk result (KeepsThose lost.now recovery.now) }
     ensures inverse { IfOk result (HasInverse lost.now) }
+    // It succeeds only if the lost slices are determined; otherwise the fault says so with the true
+    // rank.
     ensures enough { IsOk result → IsRepairable lost.now (exponents_of recovery.now) }
     ensures refused { IfErr result (IsTrueFault lost.now (exponents_of recovery.now)) }
 {

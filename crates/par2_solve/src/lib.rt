@@ -1,4 +1,7 @@
-//! Recovery slices are made of slices, and lost slices are rebuilt from them.
+//! The mathematics of recovery: computes recovery slices from input slices, rebuilds lost slices from recovery slices,
+//! and determines whether that is possible. Creating and repairing sets build on it. It works on bytes in memory and
+//! doesn't know files, packets or volumes. `write_recovery_slices` creates, `rebuild` repairs, and `rank` says whether
+//! a repair is possible.
 #![tactic(auto)]
 
 mod additions;
@@ -13,6 +16,7 @@ mod room;
 mod run_inverse;
 mod run_locator;
 mod solver;
+mod spans;
 mod syndromes;
 
 pub use additions::numbers_from;

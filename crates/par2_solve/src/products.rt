@@ -1,34 +1,38 @@
-//! Sums of products of factors and texts.
+//! The product of a matrix of factors and a list of buffers (sources): each target gets the sum of the sources, each
+//! times its factor in the target's row. `products_of` makes targets of zeros. `add_products` passes over blocks of
+//! columns, `add_columns` over the sources and `add_source` over the targets.
 
 ghost use Rattle.std.specs.Prelude.{◌≡◌, ℕ, ◌+◌, ◌*◌, ◌%◌, ◌^◌, ◌<◌, ◌≤◌, length, map, slice_index, IfOk};
 ghost use Rattle.par2_gf16.specs.Steps.{AddsWithin};
 ghost use Rattle.par2_spec.specs.Sums.{OneChanged, list_at, lists_of};
 ghost use Rattle.par2_solve.specs.Answers.{HaveAtLeast, HaveItem};
-ghost use Rattle.par2_solve.specs.Products.{AddsSource, Adds, AreBytes};
+ghost use Rattle.par2_solve.specs.Products.{AddsSource, Adds, AreByteLists};
 ghost use Rattle.par2_solve.specs.Survivors.{bytes_or_none, recovered_of};
 ghost use Rattle.par2_solve.specs.Syndromes.{AreProducts};
-ghost use Rattle.par2_solve.specs.Views.{texts_of};
+ghost use Rattle.par2_solve.specs.Views.{buffers_of};
 
 use crate::recovery::blank;
 use par2_gf16::{Columns, Factor, Gf};
 use par2_spec::Result;
 use std::alloc::Global;
 
-/// How many words of every text are taken at a time, so that a source's nibbles and what is written stay in the caches.
+/// How many words of each buffer are processed at a time, so that a source's nibbles and the words written stay in the
+/// caches.
 pub(crate) const BLOCK: usize = 4096;
 
-// Adds to list r.
-fn add_to(gf: &Gf, lists: &mut [Vec<u8>], r: usize, factor: &Factor, source: &Columns)
+// Adds to target `r` the product of the factor and the source, in the source's columns.
+fn add_product(gf: &Gf, lists: &mut [Vec<u8>], r: usize, factor: &Factor, source: &Columns)
     requires place { r < length lists.old }
     requires room { 2 * source.now.to ≤ length (list_at (lists_of lists.old) r) }
     ensures changed { OneChanged (lists_of lists.old) (lists_of lists.new) r }
-    ensures added { AddsWithin factor.now source.now.text
+    ensures added { AddsWithin factor.now source.now.bytes
         (list_at (lists_of lists.old) r) (list_at (lists_of lists.new) r)
         source.now.from source.now.to }
 {
     gf.mul_add_columns(factor, source, lists[r].as_mut_slice());
 }
 
+// The factor of source `k` for target `r`.
 #[inline(always)]
 fn factor_at(rows: &[Vec<u16>], r: usize, k: usize) -> u16
     requires row { r < length rows.now }
@@ -38,44 +42,48 @@ fn factor_at(rows: &[Vec<u16>], r: usize, k: usize) -> u16
     rows[r][k]
 }
 
-// Adds the multiples of a source, which is the k-th one, to all targets.
+// Adds to each target the source, which is number `k`, times the target's factor for it, in the source's columns.
+// `AddsSource` gives the sum for the first n targets; the others are unchanged.
 fn add_source(gf: &Gf, factors: &[Vec<u16>], k: usize, source: &Columns, targets: &mut [Vec<u8>])
     requires rows { length factors.now ≡ length targets.old }
     requires factors { HaveItem k factors.now }
     requires room { HaveAtLeast (2 * source.now.to) targets.old }
-    ensures { AddsSource (λ r. slice_index (list_at (lists_of factors.now) r) k) source.now.text
+    ensures { AddsSource (λ r. slice_index (list_at (lists_of factors.now) r) k) source.now.bytes
         (lists_of targets.old) (lists_of targets.new)
         source.now.from source.now.to (length targets.old) }
 {
     for r in 0..targets.len() {
         let factor = Factor::new(factor_at(factors, r, k));
-        add_to(gf, targets, r, &factor, source);
+        add_product(gf, targets, r, &factor, source);
     }
 }
 
+/// The bytes of buffer `r`. For a list of borrowed buffers, it is `source_at`.
 #[inline(always)]
-pub(crate) fn text_at(texts: &[Vec<u8>], r: usize) -> &[u8]
-    requires { r < length texts.now }
-    ensures { result.now ≡ list_at (lists_of texts.now) r }
+pub(crate) fn buffer_at(buffers: &[Vec<u8>], r: usize) -> &[u8]
+    requires { r < length buffers.now }
+    ensures { result.now ≡ list_at (lists_of buffers.now) r }
 {
-    &texts[r]
+    &buffers[r]
 }
 
+/// The bytes of borrowed buffer `k`.
 #[inline(always)]
 pub(crate) fn source_at<'a>(sources: &[&'a [u8]], k: usize) -> &'a [u8]
     requires { k < length sources.now }
-    ensures { result.now ≡ list_at (texts_of sources.now) k }
+    ensures { result.now ≡ list_at (buffers_of sources.now) k }
 {
     sources[k]
 }
 
-// Adds the multiples of a text, in some columns. An empty one adds nothing.
-fn add_text(
+// Adds to each target source `k`, whose bytes these are, times the target's factor for it, in the columns (words) from
+// `from` up to `to`. An empty source, which is a lost slice, adds nothing.
+fn add_bytes(
     alloc: Global,
     gf: &Gf,
     factors: &[Vec<u16>],
     k: usize,
-    text: &[u8],
+    bytes: &[u8],
     targets: &mut [Vec<u8>],
     from: usize,
     to: usize,
@@ -85,18 +93,18 @@ fn add_text(
     requires order { from ≤ to }
     requires room { HaveAtLeast (2 * to) targets.old }
     ensures { IfOk result (λ _. AddsSource
-        (λ r. slice_index (list_at (lists_of factors.now) r) k) text.now
+        (λ r. slice_index (list_at (lists_of factors.now) r) k) bytes.now
         (lists_of targets.old) (lists_of targets.new) from to (length targets.old)) }
 {
-    if text.is_empty() {
+    if bytes.is_empty() {
         return Ok(());
     }
-    let source = Columns::new(alloc, text, from, to)?;
+    let source = Columns::new(alloc, bytes, from, to)?;
     add_source(gf, factors, k, &source, targets);
     Ok(())
 }
 
-// Adds the multiples of all sources, in some columns.
+// Adds to each target all sources, each times the target's factor for it, in the columns from `from` up to `to`.
 fn add_columns(
     alloc: Global,
     gf: &Gf,
@@ -110,18 +118,18 @@ fn add_columns(
     requires factors { HaveAtLeast (length sources.now) factors.now }
     requires order { from ≤ to }
     requires room { HaveAtLeast (2 * to) targets.old }
-    ensures { IfOk result (λ _. Adds (lists_of factors.now) (texts_of sources.now)
+    ensures { IfOk result (λ _. Adds (lists_of factors.now) (buffers_of sources.now)
         (lists_of targets.old) (lists_of targets.new) from to (length sources.now)) }
 {
     for k in 0..sources.len() {
-        let text = source_at(sources, k);
-        add_text(alloc, gf, factors, k, text, targets, from, to)?;
+        let bytes = source_at(sources, k);
+        add_bytes(alloc, gf, factors, k, bytes, targets, from, to)?;
     }
     Ok(())
 }
 
-/// To each of the first `words` words of each target, adds the sum of the sources' words there, each times its factor
-/// in the row of the target. All sources are read once, some columns of all of them at a time.
+/// Adds to each of the first `words` words of each target the sum of the sources' words there, each times its factor in
+/// the target's row. All sources are read once, some columns of all of them at a time.
 pub(crate) fn add_products(
     alloc: Global,
     gf: &Gf,
@@ -133,7 +141,7 @@ pub(crate) fn add_products(
     requires rows { length factors.now ≡ length targets.old }
     requires factors { HaveAtLeast (length sources.now) factors.now }
     requires room { HaveAtLeast (2 * words) targets.old }
-    ensures { IfOk result (λ _. Adds (lists_of factors.now) (texts_of sources.now)
+    ensures { IfOk result (λ _. Adds (lists_of factors.now) (buffers_of sources.now)
         (lists_of targets.old) (lists_of targets.new) 0 words (length sources.now)) }
 {
     for block in 0..words.div_ceil(BLOCK) {
@@ -144,7 +152,8 @@ pub(crate) fn add_products(
     Ok(())
 }
 
-/// The sums of the sources, each times its factor in a row, of so many bytes: one for each row.
+/// The product of a matrix of factors and the sources: for each row a buffer of `size` bytes. A shorter source is read
+/// as if zeros followed. An error is that memory ran out.
 pub(crate) fn products_of(
     alloc: Global,
     gf: &Gf,
@@ -154,7 +163,7 @@ pub(crate) fn products_of(
 ) -> Result<Vec<Vec<u8>>>
     requires factors { HaveAtLeast (length sources.now) factors.now }
     requires even { size % 2 ≡ 0 }
-    ensures { IfOk result (λ sums. AreProducts size (lists_of factors.now) (texts_of sources.now)
+    ensures { IfOk result (λ sums. AreProducts size (lists_of factors.now) (buffers_of sources.now)
         (lists_of sums.items)) }
 {
     let mut sums = blank(alloc, factors.len(), size)?;
@@ -162,25 +171,25 @@ pub(crate) fn products_of(
     Ok(sums)
 }
 
-/// What the type says of each byte of each text, for proofs.
-pub(crate) fn fit_texts(texts: &[&[u8]])
-    ensures { AreBytes (texts_of texts.now) }
+/// For the prover: each item of these buffers is a byte.
+pub(crate) fn buffers_fit(buffers: &[&[u8]])
+    ensures { AreByteLists (buffers_of buffers.now) }
 {
-    for i in 0..texts.len() {
-        fit_bytes(source_at(texts, i));
+    for i in 0..buffers.len() {
+        fit_bytes(source_at(buffers, i));
     }
 }
 
-/// The same of lists of bytes.
-pub(crate) fn fit_lists(texts: &[Vec<u8>])
-    ensures { AreBytes (lists_of texts.now) }
+/// For the prover: each item of these lists is a byte.
+pub(crate) fn fit_lists(buffers: &[Vec<u8>])
+    ensures { AreByteLists (lists_of buffers.now) }
 {
-    for i in 0..texts.len() {
-        fit_bytes(text_at(texts, i));
+    for i in 0..buffers.len() {
+        fit_bytes(buffer_at(buffers, i));
     }
 }
 
-// The bytes of a slice, none where it is lost.
+// The bytes of slice `k`, none if it is lost.
 #[inline(always)]
 fn known_at<'a>(known: &[Option<&'a [u8]>], k: usize) -> &'a [u8]
     requires { k < length known.now }
@@ -189,16 +198,16 @@ fn known_at<'a>(known: &[Option<&'a [u8]>], k: usize) -> &'a [u8]
     known[k].unwrap_or(&[])
 }
 
-/// The same of the slices that are known.
+/// For the prover: each item of the known slices is a byte.
 pub(crate) fn fit_known(known: &[Option<&[u8]>])
-    ensures { AreBytes (map bytes_or_none known.now) }
+    ensures { AreByteLists (map bytes_or_none known.now) }
 {
     for i in 0..known.len() {
         fit_bytes(known_at(known, i));
     }
 }
 
-// The bytes of a recovery slice.
+// The bytes of recovery slice `k` of the list, whatever its exponent.
 #[inline(always)]
 fn recovered_at<'a>(recovery: &[(u32, &'a [u8])], k: usize) -> &'a [u8]
     requires { k < length recovery.now }
@@ -207,16 +216,16 @@ fn recovered_at<'a>(recovery: &[(u32, &'a [u8])], k: usize) -> &'a [u8]
     recovery[k].1
 }
 
-/// The same of recovery slices.
+/// For the prover: each item of the recovery slices is a byte.
 pub(crate) fn fit_recovery(recovery: &[(u32, &[u8])])
-    ensures { AreBytes (map (λ r. r.1) (recovered_of recovery.now)) }
+    ensures { AreByteLists (map (λ r. r.1) (recovered_of recovery.now)) }
 {
     for i in 0..recovery.len() {
         fit_bytes(recovered_at(recovery, i));
     }
 }
 
-// What the type says of each byte, for proofs.
+// For the prover: each byte is less than 256.
 #[inline(always)]
 fn fit_bytes(bytes: &[u8])
     ensures { (k : ℕ) → slice_index bytes.now k < 2 ^ 8 }

@@ -1,9 +1,10 @@
-//! Lost slices are rebuilt.
+//! Rebuilds lost slices from what survives of a set: `rebuild` takes the numbers of the lost slices, `invert` chooses
+//! the exponents and inverts their matrix, and `solve` multiplies the inverse by the syndromes.
 
 ghost use Rattle.std.specs.Prelude.{◌≡◌, ◌≤◌, length, map, IfOk, IfErr, IsOk};
 ghost use Rattle.par2_spec.specs.Search.{lost};
 ghost use Rattle.par2_solve.specs.Answers.{lost_among, HasInverse, IsFaultOf, KeepsThose, Rebuild};
-ghost use Rattle.par2_solve.specs.Views.{texts_of};
+ghost use Rattle.par2_solve.specs.Views.{buffers_of};
 ghost use Rattle.par2_solve.specs.Survivors.{exponents_of, lost_from, bytes_or_none};
 ghost use Rattle.par2_solve.specs.Rebuilding.{AnotherAlwaysAgrees, AreEnough, CanRebuild, IsNotRepairable, TwoAlwaysAgree};
 
@@ -16,24 +17,25 @@ use par2_spec::rank_laws::{another_list_agrees, two_lists_agree};
 use std::alloc::{AllocError, Global};
 use thiserror::Error;
 
-/// What survives of the slices of a set.
+/// The slices of a set that survive.
 #[derive(Drop)]
 pub struct Survivors<'a> {
-    /// The slice size in bytes.
+    /// The slice size in bytes, which is even.
     pub slice: usize,
-    /// For each slice its bytes, of which zeros may be missing at the end, or None where it is lost.
+    /// For each input slice its bytes, which may lack zeros at the end, or None if it is lost.
     pub known: Vec<Option<&'a [u8]>>,
-    /// The recovery slices with their exponents, which rise.
+    /// The recovery slices with their exponents, which rise. Each has `slice` bytes.
     pub recovery: Vec<(u32, &'a [u8])>,
 }
 
-/// Why lost slices aren't rebuilt.
+/// Why lost slices couldn't be rebuilt.
 #[derive(Debug, Error, Clone, Copy, Drop)]
 pub enum RebuildFault {
-    /// Too few exponents are kept.
+    /// The recovery slices don't determine the lost slices: `missing` slices are lost, and the rank of the equations is
+    /// `rank`.
     #[error("not repairable, lost {missing}, rank {rank}")]
     NotRepairable { missing: usize, rank: usize },
-    /// There was no memory.
+    /// Memory ran out.
     #[error("out of memory")]
     Memory,
 }
@@ -49,7 +51,7 @@ impl From<AllocError> for RebuildFault {
     }
 }
 
-// The numbers of the lost slices.
+// The numbers of the lost slices, which are those of which `known` has no bytes.
 fn lost_numbers(alloc: Global, known: &[Option<&[u8]>]) -> Result<Vec<u32>>
     requires { length known.now ≤ 32768 }
     ensures { IfOk result (λ numbers. numbers.items ≡ lost_from 0 known.now) }
@@ -63,21 +65,24 @@ fn lost_numbers(alloc: Global, known: &[Option<&[u8]>]) -> Result<Vec<u32>>
     Ok(lost)
 }
 
-// The bytes of each slice, none where it is lost.
+// The bytes of each slice; an empty buffer for a lost one, which contributes nothing to a recovery slice.
 fn slices_or_none<'a>(alloc: Global, known: &[Option<&'a [u8]>]) -> Result<Vec<&'a [u8]>>
-    ensures { IfOk result (λ slices. texts_of slices.items ≡ map bytes_or_none known.now) }
+    ensures { IfOk result (λ slices. buffers_of slices.items ≡ map bytes_or_none known.now) }
 {
     let slices = known.iter().map(|&slice| slice.unwrap_or(&[]));
     slices.collect(alloc)
 }
 
-// The lost slices by the kept exponents and their inverse.
+// The lost slices, one buffer for each: the inverse times the syndromes of the kept exponents.
 fn solve(alloc: Global, gf: &Gf, survivors: &Survivors, found: &Inversion) -> Result<Vec<Vec<u8>>>
+    // The recovery slices determine the lost ones, and `found` has the kept exponents and their
+    // inverse.
     requires survivors { CanRebuild survivors.now }
     requires enough { AreEnough survivors.now }
     requires kept { KeepsThose (lost_among survivors.now) survivors.now.recovery.items found.now }
     requires inverse { HasInverse (lost_among survivors.now) found.now }
-    ensures rebuilt { IfOk result (λ texts. Rebuild survivors.now texts.items) }
+    // It returns the lost slices, one buffer for each.
+    ensures rebuilt { IfOk result (λ buffers. Rebuild survivors.now buffers.items) }
     ensures count { IfOk result (λ it. length it.items ≡ length (lost_among survivors.now)) }
 {
     let exponents = exponents_of(alloc, &found.kept)?;
@@ -85,24 +90,26 @@ fn solve(alloc: Global, gf: &Gf, survivors: &Survivors, found: &Inversion) -> Re
     let slices = slices_or_none(alloc, &survivors.known)?;
     let inverse = &found.inverse;
     let size = survivors.slice;
-    let texts = solved(alloc, gf, inverse, &exponents, &recovery, &slices, size)?;
-    fit_lists(&texts);
-    Ok(texts)
+    let buffers = solved(alloc, gf, inverse, &exponents, &recovery, &slices, size)?;
+    fit_lists(&buffers);
+    Ok(buffers)
 }
 
-/// The lost slices in order, with their padding. NotRepairable is returned where the recovery slices don't determine
-/// them: then of `missing` lost slices no more than `rank` exponents are kept.
+/// The lost slices in order, with their padding. If the recovery slices don't determine them, it returns
+/// `NotRepairable` with the number of lost slices and of kept exponents. `Rebuild`: the buffers are the only slices
+/// that agree with the known slices and the kept recovery slices.
 pub fn rebuild(alloc: Global, gf: &Gf, survivors: &Survivors) -> Result<Vec<Vec<u8>>, RebuildFault>
     requires { CanRebuild survivors.now }
-    ensures rebuilt { IfOk result (λ texts. Rebuild survivors.now texts.items) }
-    ensures count { IfOk result (λ texts. length texts.items ≡ length (lost_among survivors.now)) }
+    ensures rebuilt { IfOk result (λ buffers. Rebuild survivors.now buffers.items) }
+    ensures count { IfOk result
+        (λ buffers. length buffers.items ≡ length (lost_among survivors.now)) }
     ensures enough { IsOk result → AreEnough survivors.now }
     ensures refused { IfErr result (IsFaultOf survivors.now) }
-    // Where it returns NotRepairable, and slices have two bytes or more: whatever list agrees with
-    // all that survives, another one does too,
+    // If it returns `NotRepairable` and a slice has two bytes or more, the lost slices can't be
+    // known: for each list of slices that agrees with all that survives, another one agrees too,
     ensures another { 2 ≤ survivors.now.slice
         → IfErr result (λ fault. IsNotRepairable fault → AnotherAlwaysAgrees survivors.now) }
-    // and always two agree with the known slices and the kept exponents.
+    // and there are always two that agree with the known slices and the kept exponents.
     ensures two { 2 ≤ survivors.now.slice
         → IfErr result (λ fault. IsNotRepairable fault → TwoAlwaysAgree survivors.now) }
 {
@@ -115,11 +122,12 @@ pub fn rebuild(alloc: Global, gf: &Gf, survivors: &Survivors) -> Result<Vec<Vec<
     Ok(solve(alloc, gf, survivors, &found)?)
 }
 
-/// What `rebuild` answers, which makes the tables of the field.
+/// The same as `rebuild`, with tables of the field that it makes itself.
 pub fn rebuild_lost(alloc: Global, survivors: &Survivors) -> Result<Vec<Vec<u8>>, RebuildFault>
     requires { CanRebuild survivors.now }
-    ensures rebuilt { IfOk result (λ texts. Rebuild survivors.now texts.items) }
-    ensures count { IfOk result (λ texts. length texts.items ≡ length (lost_among survivors.now)) }
+    ensures rebuilt { IfOk result (λ buffers. Rebuild survivors.now buffers.items) }
+    ensures count { IfOk result
+        (λ buffers. length buffers.items ≡ length (lost_among survivors.now)) }
     ensures enough { IsOk result → AreEnough survivors.now }
     ensures refused { IfErr result (IsFaultOf survivors.now) }
 {

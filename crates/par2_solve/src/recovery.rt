@@ -1,50 +1,52 @@
-//! Recovery slices that are written into texts (Parity Volume Set Specification 2.0, "Recovery Slice packet").
+//! Writes recovery slices into buffers (Parity Volume Set Specification 2.0, "Recovery Slice packet"). To write is to
+//! add to zeros, so this is `add_recovery` with as much memory as `room` allows.
 
 ghost use Rattle.std.specs.Prelude.{◌≡◌, ◌≤◌, length, IfOk};
 ghost use Rattle.par2_spec.specs.Sums.{lists_of};
 ghost use Rattle.par2_solve.specs.Answers.{LieIn};
-ghost use Rattle.par2_solve.specs.Views.{texts_of, AreBlank};
+ghost use Rattle.par2_solve.specs.Views.{buffers_of, AreBlank};
 ghost use Rattle.par2_solve.specs.Writing.{AreWritten, AreZeros};
 
 use crate::additions::add_recovery;
-use crate::products::{fit_lists, fit_texts};
+use crate::products::{buffers_fit, fit_lists};
 use crate::room::whole_room;
 use par2_gf16::Gf;
 use par2_spec::Result;
 use par2_transform::Places;
 use std::alloc::Global;
 
-/// So many texts of `size` zeros.
+/// `count` buffers of `size` zero bytes each, to which products or recovery slices are added.
 pub fn blank(alloc: Global, count: usize, size: usize) -> Result<Vec<Vec<u8>>>
-    ensures { IfOk result (λ texts. AreBlank size count (lists_of texts.items)) }
+    ensures { IfOk result (λ buffers. AreBlank size count (lists_of buffers.items)) }
 {
-    let mut texts = Vec::with_capacity(alloc, count)?;
+    let mut buffers = Vec::with_capacity(alloc, count)?;
     for _i in 0..count {
-        texts.push(vec![in alloc; 0u8; size]?)?;
+        buffers.push(vec![in alloc; 0u8; size]?)?;
     }
-    Ok(texts)
+    Ok(buffers)
 }
 
-/// Writes recovery slices into texts, at the places of outputs that are zeros: to each the one of the exponent at its place.
-/// Zeros follow a slice that is shorter.
+/// Writes into each output, which is zeros, the recovery slice of its exponent over all `slices`. A slice that is
+/// shorter than an output is padded with zeros. `outputs` says where in the buffers the outputs lie. An error is that
+/// memory ran out; then the outputs may be partly written.
 pub fn write_recovery_slices(
     alloc: Global,
     gf: &Gf,
     slices: &[&[u8]],
     exponents: &[u32],
-    texts: &mut [Vec<u8>],
+    buffers: &mut [Vec<u8>],
     outputs: &Places,
 ) -> Result<()>
     requires slices { length slices.now ≤ 32768 }
     requires count { length exponents.now ≡ length outputs.now.places.now }
-    requires room { LieIn outputs.now texts.old }
-    requires zeros { AreZeros outputs.now.words outputs.now.places.now (lists_of texts.old) }
-    ensures { IfOk result (λ _. AreWritten outputs.now.words (texts_of slices.now) exponents.now
-        outputs.now.places.now (lists_of texts.old) (lists_of texts.new)) }
+    requires room { LieIn outputs.now buffers.old }
+    requires zeros { AreZeros outputs.now.words outputs.now.places.now (lists_of buffers.old) }
+    ensures { IfOk result (λ _. AreWritten outputs.now.words (buffers_of slices.now) exponents.now
+        outputs.now.places.now (lists_of buffers.old) (lists_of buffers.new)) }
 {
-    fit_texts(slices);
+    buffers_fit(slices);
     let room = whole_room(slices);
-    add_recovery(alloc, gf, slices, exponents, texts, outputs, room)?;
-    fit_lists(texts);
+    add_recovery(alloc, gf, slices, exponents, buffers, outputs, room)?;
+    fit_lists(buffers);
     Ok(())
 }

@@ -1,37 +1,41 @@
-//! How much memory is taken beside slices: for columns of recovery slices, and for what computes them.
+//! How much memory may be taken beside the slices: for columns of recovery slices, and for the transform's rows, by
+//! which they are computed. Creating takes all of it for rows (`whole_room`); a repair also keeps columns
+//! (`columns_at_once`).
 
 ghost use Rattle.std.specs.Prelude.{◌≡◌, ◌%◌, ◌≤◌};
 
-// How much memory columns and rows may take together, beside a 64th of the slices. A quarter is for columns.
+// The memory that columns and rows may take together, beside a 64th of the slices, in bytes. A quarter is for columns.
 const ROOM: usize = 1024 * 1024;
 
-// What the columns of a recovery slice take beside their bytes: their `Vec`, and what the allocator adds.
+// The memory of a recovery slice's columns beside their bytes: their `Vec` and the allocator's overhead.
 const OVERHEAD: usize = 40;
 
-// Of how many columns a block is a multiple: of the bytes of 32 words, as the rows of the transform are.
+// The number of columns in a block is a multiple of this: the bytes of 32 words, the unit of the transform's rows.
 const STEP: usize = 64;
 
-// How many steps a row has at most.
+// The most steps of a row.
 const WIDEST: usize = 32;
 
-// A quarter of the room.
+// A quarter of the memory allowed beside these slices, in bytes.
 fn quarter(slices: &[&[u8]]) -> usize {
     let lens = slices.iter().map(|slice| slice.len());
     let total = lens.fold(0usize, |total, len| total.saturating_add(len));
     (total / 256).saturating_add(ROOM / 4)
 }
 
-/// How much memory what computes recovery slices may take where there are no columns beside it.
+/// The memory that computing recovery slices may take, in bytes, if there are no columns beside it, as when a set is
+/// created.
 pub(crate) fn whole_room(slices: &[&[u8]]) -> usize {
     quarter(slices).saturating_mul(4)
 }
 
-/// How much memory rows over the slices may take: three quarters of the room.
+/// The memory that the transform's rows may take in a repair, in bytes: three quarters of the memory allowed.
 pub(crate) fn rows_room(slices: &[&[u8]]) -> usize {
     quarter(slices).saturating_mul(3)
 }
 
-// How many steps the rows have that so many outputs are computed by: three rows for each, of a power of 2 of them.
+// How many steps of `STEP` bytes each row has, if the transform computes `count` outputs. There are three rows for each
+// output, with the number of outputs rounded up to a power of 2.
 fn row_steps(slices: &[&[u8]], count: usize) -> usize
     ensures { 1 ≤ result }
 {
@@ -39,8 +43,9 @@ fn row_steps(slices: &[&[u8]], count: usize) -> usize
     (rows_room(slices) / rows / STEP).clamp(1, WIDEST)
 }
 
-/// How many columns of so many recovery slices are made at a time over slices of `size` bytes, in blocks that are about
-/// equal, and that rows of the transform take whole. Each time these columns of all slices are read.
+/// How many columns, in bytes, of `count` recovery slices over slices of `size` bytes are computed at a time. Blocks
+/// are about equal and at most a whole number of the transform's rows. For each block, these columns of all slices are
+/// read.
 pub(crate) fn columns_at_once(slices: &[&[u8]], count: usize, size: usize) -> usize
     ensures some { 1 ≤ result }
     ensures even { result % 2 ≡ 0 }

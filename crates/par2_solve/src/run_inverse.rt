@@ -1,7 +1,8 @@
-//! The inverse of the equations of a run of exponents, as many as slices are lost. The exponents from `f` on multiply
-//! lost slice `j` by the powers of its constant `c` from `c ^ f` on. Let `m` be the polynomial whose roots are the
-//! constants of the lost slices. The quotient on its division by `z - c` is 0 at the other ones and not at `c`: so its
-//! coefficients, scaled, are row `j` of the inverse.
+//! The inverse for a run of exponents, as many as slices are lost. Exponent `f + k` multiplies lost slice `j` by power
+//! `f + k` of its constant `c`: this is a Vandermonde matrix with scaled columns. Let `m` be the polynomial whose roots
+//! are the constants of the lost slices. Its quotient on division by `z - c` is 0 at the other constants and not 0 at
+//! `c`, so its coefficients, scaled, are row `j` of the inverse. A polynomial is the list of its coefficients, from
+//! that of `z ^ 0` on.
 
 ghost use Rattle.std.specs.Prelude.{◌≡◌, ◌≢◌, ℕ, ◌<◌, ◌^◌, length, slice_index, IfOk};
 ghost use Rattle.std.specs.List.{range_with_len};
@@ -9,7 +10,7 @@ ghost use Rattle.par2_spec.specs.Field.{mul, pow};
 ghost use Rattle.par2_spec.specs.Polynomials.{value, times, times_root, with_roots, quotient};
 ghost use Rattle.par2_spec.specs.Runs.{AreSlices};
 ghost use Rattle.par2_spec.specs.Sums.{lists_of};
-ghost use Rattle.par2_solve.specs.Inverses.{IsInverse};
+ghost use Rattle.par2_solve.specs.Inverses.{IsInverseMatrix};
 ghost use Rattle.par2_solve.specs.RunInverses.{AreScaledQuotients, IsScaledQuotient};
 
 use crate::exponents::coefficients;
@@ -31,7 +32,7 @@ fn times_root(alloc: Global, gf: &Gf, c: u16, p: &[u16]) -> Result<Vec<u16>>
     Ok(product)
 }
 
-/// The polynomial of these roots.
+/// The monic polynomial with these roots: its coefficients, from that of `z ^ 0` on.
 pub(crate) fn with_roots(alloc: Global, gf: &Gf, points: &[u16]) -> Result<Vec<u16>>
     ensures { IfOk result (λ p. p.items ≡ with_roots points.now) }
 {
@@ -42,7 +43,7 @@ pub(crate) fn with_roots(alloc: Global, gf: &Gf, points: &[u16]) -> Result<Vec<u
     Ok(p)
 }
 
-/// The quotient of a polynomial on division by `z - c`.
+/// The quotient of a polynomial on division by `z - c`, without the remainder, by Horner's rule (synthetic division).
 pub(crate) fn quotient(alloc: Global, gf: &Gf, c: u16, p: &[u16]) -> Result<Vec<u16>>
     ensures { IfOk result (λ q. q.items ≡ quotient c p.now) }
 {
@@ -56,7 +57,7 @@ pub(crate) fn quotient(alloc: Global, gf: &Gf, c: u16, p: &[u16]) -> Result<Vec<
     Ok(quotient)
 }
 
-/// The value of a polynomial at `z`.
+/// The value of a polynomial at `z`, by Horner's rule. `p` has its coefficients from that of `z ^ 0` on.
 pub(crate) fn value(gf: &Gf, p: &[u16], z: u16) -> u16
     ensures { result ≡ value p.now z }
 {
@@ -67,14 +68,14 @@ pub(crate) fn value(gf: &Gf, p: &[u16], z: u16) -> u16
     value
 }
 
-// A polynomial times `k`.
+// The product of a polynomial and the field element `k`: each coefficient times `k`.
 fn scaled(alloc: Global, gf: &Gf, k: u16, p: &[u16]) -> Result<Vec<u16>>
     ensures { IfOk result (λ multiple. multiple.items ≡ times k p.now) }
 {
     p.iter().map(|a| gf.mul(k, *a)).collect(alloc)
 }
 
-/// The inverse of an element.
+/// The multiplicative inverse of a field element that isn't 0.
 pub(crate) fn inverse_of(gf: &Gf, a: u16) -> u16
     requires { a ≢ 0 }
     ensures product { mul a result ≡ 1 }
@@ -83,7 +84,8 @@ pub(crate) fn inverse_of(gf: &Gf, a: u16) -> u16
     gf.inv(a).unwrap()
 }
 
-// The row of the inverse for the constant `c`, by the polynomial of all constants, for the exponents from `first` on.
+// The row of the inverse for the constant `c`, for the exponents from `first` on. `p` is the polynomial whose roots are
+// the lost slices' constants, `c` among them.
 fn inverse_row(alloc: Global, gf: &Gf, p: &[u16], c: u16, first: u32) -> Result<Vec<u16>>
     requires { mul (pow c first) (value (quotient c p.now) c) ≢ 0 }
     ensures { IfOk result (λ row. IsScaledQuotient first c p.now row.items) }
@@ -93,7 +95,8 @@ fn inverse_row(alloc: Global, gf: &Gf, p: &[u16], c: u16, first: u32) -> Result<
     scaled(alloc, gf, inverse_of(gf, at_c), &quotient)
 }
 
-// The rows of the inverse for these constants, by their polynomial, for the exponents from `first` on.
+// The rows of the inverse for the lost slices' constants `points`, for the exponents from `first` on. `p` is the
+// polynomial whose roots are these constants.
 fn all_rows(alloc: Global, gf: &Gf, p: &[u16], points: &[u16], first: u32) -> Result<Vec<Vec<u16>>>
     requires { (j : ℕ) → j < length points.now
         → let c = slice_index points.now j in mul (pow c first) (value (quotient c p.now) c) ≢ 0 }
@@ -107,13 +110,14 @@ fn all_rows(alloc: Global, gf: &Gf, p: &[u16], points: &[u16], first: u32) -> Re
     Ok(rows)
 }
 
-/// The inverse for the exponents from `first` on, as many as slices are lost.
+/// The rows of the inverse for the exponents from `first` on, as many as slices are lost. `IsInverseMatrix`: the
+/// product of the matrix of their coefficients for the lost slices and these rows is the identity.
 pub(crate) fn run_inverse(alloc: Global, gf: &Gf, lost: &[u32], first: u32) -> Result<Vec<Vec<u16>>>
     requires { AreSlices lost.now }
-    ensures { IfOk result (λ rows. IsInverse
+    ensures { IfOk result (λ rows. IsInverseMatrix
         lost.now (range_with_len first (length lost.now)) (lists_of rows.items)) }
 {
-    // A slice's constant is what exponent 1 multiplies it by.
+    // Exponent 1 multiplies each slice by its constant.
     let constants = coefficients(alloc, gf, lost, 1)?;
     let points = constants.as_slice();
     let p = with_roots(alloc, gf, points)?;

@@ -1,5 +1,6 @@
-//! The locator of the lost slices for a run of exponents, as many as slices are lost: the inverse whose rows are the scaled
-//! quotients, of which none is made.
+//! The error locator of the lost slices for a run of exponents, as many as slices are lost. It represents the inverse
+//! whose rows are the scaled quotients (see `run_inverse`), without computing any of them. `inverse_for_run` chooses
+//! between the rows and the locator.
 
 ghost use Rattle.std.specs.Prelude.{◌≡◌, ◌≢◌, ℕ, ◌<◌, ◌≤◌, ◌^◌, length, drop, slice_index, IfOk};
 ghost use Rattle.std.specs.List.{range_with_len};
@@ -16,10 +17,11 @@ use par2_spec::Result;
 use par2_transform::Locator;
 use std::alloc::Global;
 
-/// From so many lost slices on, the locator is faster than rows.
+/// The fewest lost slices for which the locator is faster than rows.
 pub(crate) const LOCATED: usize = 768;
 
-// The inverse of what the quotient for the constant `c` gives there, times power `first` of it.
+// The factor that scales the quotient for the constant `c` to a row of the inverse: 1 over `c ^ first` times the
+// quotient's value at `c`. `p` is the polynomial whose roots are the lost slices' constants, `c` among them.
 fn factor(alloc: Global, gf: &Gf, p: &[u16], c: u16, first: u32) -> Result<u16>
     requires { mul (pow c first) (value (quotient c p.now) c) ≢ 0 }
     ensures product { IfOk result (λ b.
@@ -31,7 +33,8 @@ fn factor(alloc: Global, gf: &Gf, p: &[u16], c: u16, first: u32) -> Result<u16>
     Ok(inverse_of(gf, at_c))
 }
 
-// The factors for these constants, by their polynomial, for the exponents from `first` on.
+// The factors for the lost slices' constants `points`, for the exponents from `first` on. `p` is the polynomial whose
+// roots are these constants.
 fn factors(alloc: Global, gf: &Gf, p: &[u16], points: &[u16], first: u32) -> Result<Vec<u16>>
     requires { (j : ℕ) → j < length points.now
         → let c = slice_index points.now j in mul (pow c first) (value (quotient c p.now) c) ≢ 0 }
@@ -45,7 +48,7 @@ fn factors(alloc: Global, gf: &Gf, p: &[u16], points: &[u16], first: u32) -> Res
     Ok(factors)
 }
 
-// The coefficients from 1 on.
+// The coefficients without that of `z ^ 0`, on which no quotient depends: the sequence of a `Locator`.
 fn after_first(alloc: Global, p: &[u16]) -> Result<Vec<u16>>
     requires { 1 ≤ length p.now }
     ensures { IfOk result (λ rest. rest.items ≡ drop 1 p.now) }
@@ -53,7 +56,8 @@ fn after_first(alloc: Global, p: &[u16]) -> Result<Vec<u16>>
     Vec::from_slice(alloc, &p[1..])
 }
 
-/// The locator for the exponents from `first` on.
+/// The locator for the exponents from `first` on, as many as slices are lost. `Inverts`: the rows that it represents
+/// are the inverse of the matrix of these exponents.
 pub(crate) fn run_locator<'a>(
     alloc: Global,
     gf: &'a Gf,
@@ -65,7 +69,7 @@ pub(crate) fn run_locator<'a>(
     ensures { IfOk result (λ locator. Inverts
         lost.now (range_with_len first (length lost.now)) (Inverse.Located locator)) }
 {
-    // A slice's constant is what exponent 1 multiplies it by.
+    // Exponent 1 multiplies each slice by its constant.
     let constants = coefficients(alloc, gf, lost, 1)?;
     let p = with_roots(alloc, gf, &constants)?;
     let factors = factors(alloc, gf, &p, &constants, first)?;
@@ -74,7 +78,8 @@ pub(crate) fn run_locator<'a>(
     Ok(locator)
 }
 
-/// The inverse for the exponents from `first` on, as many as slices are lost: where these are few, its rows.
+/// The inverse for the exponents from `first` on, as many as slices are lost: its rows if these are few, otherwise the
+/// locator.
 pub(crate) fn inverse_for_run<'a>(
     alloc: Global,
     gf: &'a Gf,

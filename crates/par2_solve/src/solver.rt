@@ -1,11 +1,12 @@
-//! The product of an inverse and the syndromes.
+//! The inverse of the matrix of the kept exponents, in one of three forms, and its product with the syndromes, which is
+//! the lost slices.
 
 ghost use Rattle.std.specs.Prelude.{◌≡◌, ◌%◌, ◌<◌, length, IfOk};
 ghost use Rattle.par2_spec.specs.Sums.{lists_of};
 ghost use Rattle.par2_solve.specs.Located.{located_rows};
 ghost use Rattle.par2_solve.specs.Solvers.{TakesSources, rows_of};
 ghost use Rattle.par2_solve.specs.Syndromes.{AreProducts};
-ghost use Rattle.par2_solve.specs.Views.{texts_of};
+ghost use Rattle.par2_solve.specs.Views.{buffers_of};
 
 use crate::filling::Filling;
 use crate::products::products_of;
@@ -15,21 +16,22 @@ use par2_spec::Result;
 use par2_transform::Locator;
 use std::alloc::Global;
 
-// The fewest bytes of each slice that are solved at a time by rows. For each of these blocks all rows are read, which takes
-// longer than the products of a short one.
+// The fewest bytes of each slice that are solved at a time by rows. All rows are read for each of these blocks, and for
+// a short block this takes longer than the products.
 const LEAST: usize = 2048;
 
-/// The inverse of the equations of the kept exponents: its rows, or what gives them, of which no row is made.
+/// The inverse of the matrix of the kept exponents: its rows, or a form by which it is applied without computing them.
 #[derive(Drop)]
 pub(crate) enum Inverse<'a> {
     Rows(Vec<Vec<u16>>),
-    /// For a run of exponents, their locator.
+    /// For a run of exponents, the error locator.
     Located(Locator<'a>),
-    /// For exponents with holes between them, what fills these, and the locator.
+    /// For exponents with holes between them, what computes the holes' syndromes, and the locator.
     Filled(Filling<'a>),
 }
 
-/// The product of the rows that a locator gives and the sources.
+/// The product of the inverse that a locator represents and the sources, which are the syndromes of its run: for each
+/// lost slice a buffer of `size` bytes. `room` is the memory that the locator may take, in bytes.
 pub(crate) fn located_products(
     alloc: Global,
     locator: &Locator,
@@ -40,7 +42,7 @@ pub(crate) fn located_products(
     requires sources { length locator.now.sequence.items ≡ length sources.now }
     requires even { size % 2 ≡ 0 }
     ensures { IfOk result (λ sums. AreProducts size (located_rows locator.now)
-        (texts_of sources.now) (lists_of sums.items)) }
+        (buffers_of sources.now) (lists_of sums.items)) }
 {
     let mut sums = blank(alloc, locator.points.len(), size)?;
     locator.add_products(alloc, sources, size / 2, sums.as_mut_slice(), room)?;
@@ -48,7 +50,7 @@ pub(crate) fn located_products(
 }
 
 impl<'a> Inverse<'a> {
-    /// How many rows there are.
+    /// The number of rows, which is that of the lost slices.
     #[tactic(auto, using(crate::proofs::Locating::rows_long, crate::proofs::Locating::located_long))]
     pub(crate) fn len(&self) -> usize
         ensures { result ≡ length (rows_of self.now) }
@@ -60,7 +62,8 @@ impl<'a> Inverse<'a> {
         }
     }
 
-    /// The fewest bytes of each slice that are solved at a time.
+    /// The fewest bytes of each slice that are solved at a time: more than 0 for a form that reads all its rows for
+    /// each of these blocks.
     pub(crate) fn least(&self) -> usize
         ensures { result % 2 ≡ 0 }
     {
@@ -71,7 +74,9 @@ impl<'a> Inverse<'a> {
         }
     }
 
-    /// The sums of the sources, each times its factor in a row, of so many bytes: one for each row.
+    /// The product of the inverse and the sources, which are the syndromes of the kept exponents: for each lost slice a
+    /// buffer of `size` bytes. `room` is the memory that a locator may take, in bytes. `TakesSources`: the inverse has
+    /// a column for each source.
     pub(crate) fn products(
         &self,
         alloc: Global,
@@ -82,7 +87,7 @@ impl<'a> Inverse<'a> {
     ) -> Result<Vec<Vec<u8>>>
         requires sources { TakesSources (length sources.now) self.now }
         requires even { size % 2 ≡ 0 }
-        ensures { IfOk result (λ sums. AreProducts size (rows_of self.now) (texts_of sources.now)
+        ensures { IfOk result (λ sums. AreProducts size (rows_of self.now) (buffers_of sources.now)
             (lists_of sums.items)) }
     {
         match self {

@@ -1,17 +1,18 @@
-//! The lost slices by their syndromes: for each kept exponent its recovery slice and what the known slices give to it,
-//! which is what the lost slices alone give to it. The inverse makes the lost slices of these, some columns at a time. A
-//! slice that is lost gives nothing, as an empty one does.
+//! Computes the lost slices from syndromes. The syndrome of a kept exponent is its recovery slice plus the contribution
+//! of the known slices to it, so it is what the lost slices alone contribute. The inverse times the syndromes is the
+//! lost slices. It is computed some columns at a time. A lost slice is given as an empty one, which contributes
+//! nothing.
 
 ghost use Rattle.std.specs.Prelude.{◌≡◌, ◌%◌, ◌<◌, ◌≤◌, ◌+◌, ◌++◌, length, map, IfOk};
 ghost use Rattle.par2_spec.specs.Sums.{OneChanged, list_at, lists_of};
 ghost use Rattle.par2_solve.specs.Answers.{AreOfSize, HaveColumns};
-ghost use Rattle.par2_solve.specs.Products.{AreBytes};
+ghost use Rattle.par2_solve.specs.Products.{AreByteLists};
 ghost use Rattle.par2_solve.specs.Solvers.{TakesSources, rows_of};
-ghost use Rattle.par2_solve.specs.Syndromes.{window, AreSolved, AreExtended};
-ghost use Rattle.par2_solve.specs.Views.{texts_of, AreBlank};
+ghost use Rattle.par2_solve.specs.Syndromes.{chunk, AreSolved, AreExtended};
+ghost use Rattle.par2_solve.specs.Views.{buffers_of, AreBlank};
 
 use crate::additions::with_recovery_slices;
-use crate::products::{fit_texts, text_at};
+use crate::products::{buffer_at, buffers_fit};
 use crate::room::{columns_at_once, rows_room};
 use crate::solver::Inverse;
 use par2_gf16::Gf;
@@ -19,35 +20,36 @@ use par2_slices::window_bytes;
 use par2_spec::Result;
 use std::alloc::Global;
 
-// The bytes of a text from `from` on, `count` of them where it doesn't end sooner.
-fn window_of(text: &[u8], from: usize, count: usize) -> &[u8]
-    ensures { result.now ≡ window from count text.now }
+// The bytes of a buffer from byte `from` on, at most `count` of them; none past the end.
+fn window_of(bytes: &[u8], from: usize, count: usize) -> &[u8]
+    ensures { result.now ≡ chunk from count bytes.now }
 {
-    window_bytes(text, count as u64, from.min(text.len()))
+    window_bytes(bytes, count as u64, from.min(bytes.len()))
 }
 
-/// The bytes of each text from `from` on, `count` of them where it doesn't end sooner.
+/// The bytes of each buffer from `from` on, at most `count` of them.
 pub(crate) fn windows<'a>(
     alloc: Global,
-    texts: &[&'a [u8]],
+    buffers: &[&'a [u8]],
     from: usize,
     count: usize,
 ) -> Result<Vec<&'a [u8]>>
     ensures { IfOk result
-        (λ windows. texts_of windows.items ≡ map (window from count) (texts_of texts.now)) }
+        (λ windows. buffers_of windows.items ≡ map (chunk from count) (buffers_of buffers.now)) }
 {
-    let windows = texts.iter().map(|text| window_of(*text, from, count));
+    let windows = buffers.iter().map(|bytes| window_of(*bytes, from, count));
     windows.collect(alloc)
 }
 
-/// The same texts, by reference.
-pub(crate) fn borrowed(alloc: Global, texts: &[Vec<u8>]) -> Result<Vec<&[u8]>>
-    ensures { IfOk result (λ slices. texts_of slices.items ≡ lists_of texts.now) }
+/// The same buffers, borrowed, as sources of products.
+pub(crate) fn borrowed(alloc: Global, buffers: &[Vec<u8>]) -> Result<Vec<&[u8]>>
+    ensures { IfOk result (λ slices. buffers_of slices.items ≡ lists_of buffers.now) }
 {
-    texts.iter().map(|text| text.as_slice()).collect(alloc)
+    buffers.iter().map(|bytes| bytes.as_slice()).collect(alloc)
 }
 
-// The lost slices of the `count` columns from `from` on: the inverse times the syndromes.
+// The `count` bytes from byte `from` on of each lost slice: the inverse times the syndromes of these bytes. `recovery`
+// are the recovery slices of the exponents, and `slices` the input slices. `room` is memory in bytes.
 fn solved_block(
     alloc: Global,
     gf: &Gf,
@@ -59,14 +61,17 @@ fn solved_block(
     count: usize,
     room: usize,
 ) -> Result<Vec<Vec<u8>>>
+    // The inverse has a column for each exponent, and each exponent has its recovery slice.
     requires inverse { TakesSources (length recovery.now) inverse.now }
     requires count { length slices.now ≤ 32768 }
     requires exponents { length exponents.now ≡ length recovery.now }
+    // The bytes are whole words that each recovery slice has.
     requires size { HaveColumns (from + count) recovery.now }
     requires even { count % 2 ≡ 0 }
-    ensures { IfOk result (λ texts. AreSolved count (rows_of inverse.now) exponents.now
-        (map (window from count) (texts_of slices.now))
-        (map (window from count) (texts_of recovery.now)) (lists_of texts.items)) }
+    // The result is the inverse times the syndromes of these bytes.
+    ensures { IfOk result (λ buffers. AreSolved count (rows_of inverse.now) exponents.now
+        (map (chunk from count) (buffers_of slices.now))
+        (map (chunk from count) (buffers_of recovery.now)) (lists_of buffers.items)) }
 {
     let recovery = windows(alloc, recovery, from, count)?;
     let slices = windows(alloc, slices, from, count)?;
@@ -76,41 +81,42 @@ fn solved_block(
     inverse.products(alloc, gf, &sources, count, room)
 }
 
-// Empty texts, with room for so many bytes each.
+// `count` empty buffers with capacity for `size` bytes each: a lost slice for each row of the inverse.
 fn reserved(alloc: Global, count: usize, size: usize) -> Result<Vec<Vec<u8>>>
-    ensures { IfOk result (λ texts. AreBlank 0 count (lists_of texts.items)) }
+    ensures { IfOk result (λ buffers. AreBlank 0 count (lists_of buffers.items)) }
 {
-    let mut texts = Vec::with_capacity(alloc, count)?;
+    let mut buffers = Vec::with_capacity(alloc, count)?;
     for _i in 0..count {
-        texts.push(Vec::with_capacity(alloc, size)?)?;
+        buffers.push(Vec::with_capacity(alloc, size)?)?;
     }
-    Ok(texts)
+    Ok(buffers)
 }
 
-// Puts the block after text r.
-fn extend_at(texts: &mut [Vec<u8>], r: usize, block: &[u8]) -> Result<()>
-    requires { r < length texts.old }
-    ensures changed { OneChanged (lists_of texts.old) (lists_of texts.new) r }
-    ensures here { IfOk result (λ _. list_at (lists_of texts.new) r
-        ≡ list_at (lists_of texts.old) r ++ block.now) }
+// Appends to buffer `r`, which is a lost slice as far as it is solved, its next block.
+fn extend_at(buffers: &mut [Vec<u8>], r: usize, block: &[u8]) -> Result<()>
+    requires { r < length buffers.old }
+    ensures changed { OneChanged (lists_of buffers.old) (lists_of buffers.new) r }
+    ensures here { IfOk result (λ _. list_at (lists_of buffers.new) r
+        ≡ list_at (lists_of buffers.old) r ++ block.now) }
 {
-    texts[r].extend_from_slice(block)?;
+    buffers[r].extend_from_slice(block)?;
     Ok(())
 }
 
-// Puts each block after the text at its place.
-fn extend(texts: &mut [Vec<u8>], blocks: &[Vec<u8>]) -> Result<()>
-    requires { length blocks.now ≡ length texts.old }
-    ensures { IfOk result (λ _. AreExtended (lists_of texts.old) (lists_of blocks.now)
-        (lists_of texts.new) (length blocks.now)) }
+// Appends to each buffer its next block: to buffer r block r.
+fn extend(buffers: &mut [Vec<u8>], blocks: &[Vec<u8>]) -> Result<()>
+    requires { length blocks.now ≡ length buffers.old }
+    ensures { IfOk result (λ _. AreExtended (lists_of buffers.old) (lists_of blocks.now)
+        (lists_of buffers.new) (length blocks.now)) }
 {
     for r in 0..blocks.len() {
-        extend_at(texts, r, text_at(blocks, r))?;
+        extend_at(buffers, r, buffer_at(blocks, r))?;
     }
     Ok(())
 }
 
-/// The lost slices: the inverse times the syndromes of these exponents.
+/// The lost slices, of `size` bytes each: the inverse times the syndromes of these exponents, block by block.
+/// `recovery` are the recovery slices of the exponents, and `slices` all input slices, a lost one empty.
 pub(crate) fn solved(
     alloc: Global,
     gf: &Gf,
@@ -120,29 +126,33 @@ pub(crate) fn solved(
     slices: &[&[u8]],
     size: usize,
 ) -> Result<Vec<Vec<u8>>>
+    // The inverse has a column for each exponent, and each exponent has its recovery slice.
     requires inverse { TakesSources (length recovery.now) inverse.now }
     requires count { length slices.now ≤ 32768 }
     requires exponents { length exponents.now ≡ length recovery.now }
+    // Recovery slices are whole words, all of the same size.
     requires size { AreOfSize size recovery.now }
     requires even { size % 2 ≡ 0 }
-    ensures solved { IfOk result (λ texts. AreSolved size (rows_of inverse.now)
-        exponents.now (texts_of slices.now) (texts_of recovery.now) (lists_of texts.items)) }
-    ensures slices { IfOk result (λ _. AreBytes (texts_of slices.now)) }
-    ensures recovery { IfOk result (λ _. AreBytes (texts_of recovery.now)) }
+    // The result is the inverse times the syndromes.
+    ensures solved { IfOk result (λ buffers. AreSolved size (rows_of inverse.now)
+        exponents.now (buffers_of slices.now) (buffers_of recovery.now) (lists_of buffers.items)) }
+    // For the prover: each item of the slices is a byte.
+    ensures slices { IfOk result (λ _. AreByteLists (buffers_of slices.now)) }
+    ensures recovery { IfOk result (λ _. AreByteLists (buffers_of recovery.now)) }
 {
-    fit_texts(slices);
-    fit_texts(recovery);
+    buffers_fit(slices);
+    buffers_fit(recovery);
     let at_once = columns_at_once(slices, recovery.len(), size).max(inverse.least());
     let room = rows_room(slices);
-    let mut texts = reserved(alloc, inverse.len(), size)?;
+    let mut buffers = reserved(alloc, inverse.len(), size)?;
     let mut from = 0;
     while from < size {
         let count = at_once.min(size - from);
         let lost = solved_block(
             alloc, gf, inverse, exponents, recovery, slices, from, count, room,
         )?;
-        extend(texts.as_mut_slice(), &lost)?;
+        extend(buffers.as_mut_slice(), &lost)?;
         from += count;
     }
-    Ok(texts)
+    Ok(buffers)
 }

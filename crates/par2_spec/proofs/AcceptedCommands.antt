@@ -16,11 +16,11 @@ in_full folder base extras e = unfold set_in in rw e refl
 pub in_part : (folder : Folder) (base : List ℕ) (extras : List (List ℕ)) (k : ℕ) → missing folder (base ∷ extras) ≡ Some k → set_in folder base extras ≡ Err (NoSuchFile (0 + k))
 in_part folder base extras k e = unfold set_in in rw e refl
 
--- what a set that is read in a folder with these names tells
+-- a set that is read is that of its base, and all named files are in the folder
 pub set_in_reads : (folder : Folder) (base : List ℕ) (extras : List (List ℕ)) (set : ParSet) → set_in folder base extras ≡ Ok set → (set_of folder base ≡ Ok set) × (list_all (has folder) (base ∷ extras) ≡ true)
 set_in_reads folder base extras set h = grind (arith, in_full, all_there, ok_no_err, in_part)
 
--- ---- what leads
+-- ---- changes that lead to a folder
 
 abbrev Leads : Folder → List Change → Folder → Type 0
 Leads folder changes goal = (are_applicable folder changes ≡ true) × (effects folder changes ≡ goal)

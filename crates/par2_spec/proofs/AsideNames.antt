@@ -1,14 +1,14 @@
--- A numbered name is a name, where it has at most 255 bytes.
+-- A numbered name is valid if it has at most 255 bytes.
 use Rattle.par2_spec.proofs.Common.{◌≡◌, ℕ, zero, suc, ◌+◌, ◌%◌, ◌^◌, ◌<◌, ◌≤◌, List, [], ◌∷◌, ◌++◌, length, map, drop, refl, sym, ap, ◌∙◌, subst, cond, true, false, Bool, not, arith, eqb, length-append, append_assoc, find, Option, Some, None, is_some, unwrap_or, decimal, codes, ◌==◌, nat_eq, range_with_len, list_all, list_any, starts_with, bytes_eq, IsUtf8, drop-append_seam, and_parts, and_from, or_cases, or_parts, or_from, cases_Bool, ne_eqb, not_from_false, cases_eq, false≢true, not-true, not-false, false_from_ne_true, le-leb, leb-true, nat_list_eq_equiv, list_all-append, list_any-append, length-map-range_with_len, length-le_from_is_member, is_among, numbered, IsLeastFree, is_name, Folder, names, ParSet, target_names, taken_for, AreFew, aside, IsUtf8-append, IsUtf8-from_ascii, IsUtf8-from_is_utf8, is_utf8-from_IsUtf8}
 use Rattle.std.proofs.lemmas.Fmt.{decimal_by_steps, decimal_injective, decimal_nonempty, IsAscii-decimal}
 use Rattle.par2_spec.proofs.Basics.{same_name, other_name, among-append, AreDistinct, std_from_distinct, clash, found_passes, by_either}
 use Rattle.par2_spec.proofs.NameTests.{no_name, tests_of, name_of}
 use Rattle.std.proofs.lemmas.Str.Ascii.{IsAscii-cons}
 
--- ---- a numbered name tells its name
+-- ---- a numbered name determines its name
 
 abbrev pub is_dotless : List ℕ → Bool
-is_dotless text = list_all (λ b. not (b == 46)) text
+is_dotless bytes = list_all (λ b. not (b == 46)) bytes
 
 dotless_digit : (d : ℕ) → is_dotless ((48 + d) ∷ []) ≡ true
 dotless_digit d = and_from _ _ (not_from_false _ (ne_eqb (48 + d) 46 (λ e. absurd (omega (arith, e))))) refl
@@ -18,7 +18,7 @@ dotless_decimal n small =
     decimal_by_steps (λ n ds. is_dotless ds ≡ true) (λ n h. dotless_digit n)
     (λ n ds h k. list_all-append (λ b. not (b == 46)) ds ((48 + n % 10) ∷ []) ∙ and_from _ _ k (dotless_digit (n % 10))) n small
 
--- what stands before the last dot
+-- the bytes before the last dot
 abbrev cut_here : Bool → ℕ → Option (List ℕ) → Option (List ℕ)
 cut_here dot b (Some front) = Some (b ∷ front)
 cut_here true b None = Some []
@@ -26,17 +26,17 @@ cut_here false b None = None
 
 abbrev before_last_dot : List ℕ → Option (List ℕ)
 before_last_dot [] = None
-before_last_dot (b ∷ text) = cut_here (b == 46) b (before_last_dot text)
+before_last_dot (b ∷ bytes) = cut_here (b == 46) b (before_last_dot bytes)
 
-no_dot : (text : List ℕ) → is_dotless text ≡ true → before_last_dot text ≡ None
+no_dot : (bytes : List ℕ) → is_dotless bytes ≡ true → before_last_dot bytes ≡ None
 no_dot [] h = refl
-no_dot (b ∷ text) h =
-    let r = and_parts (not (b == 46)) (is_dotless text) h in
-    ap (cut_here (b == 46) b) (no_dot text r.1) ∙ ap (λ t. cut_here t b None) (not-true (b == 46) r.0)
+no_dot (b ∷ bytes) h =
+    let r = and_parts (not (b == 46)) (is_dotless bytes) h in
+    ap (cut_here (b == 46) b) (no_dot bytes r.1) ∙ ap (λ t. cut_here t b None) (not-true (b == 46) r.0)
 
-one_dot : (name text : List ℕ) → is_dotless text ≡ true → before_last_dot (name ++ 46 ∷ text) ≡ Some name
-one_dot [] text h = ap (cut_here true 46) (no_dot text h)
-one_dot (b ∷ name) text h = ap (cut_here (b == 46) b) (one_dot name text h)
+one_dot : (name bytes : List ℕ) → is_dotless bytes ≡ true → before_last_dot (name ++ 46 ∷ bytes) ≡ Some name
+one_dot [] bytes h = ap (cut_here true 46) (no_dot bytes h)
+one_dot (b ∷ name) bytes h = ap (cut_here (b == 46) b) (one_dot name bytes h)
 
 pub numbered_is : (name : List ℕ) (n : ℕ) → numbered name n ≡ name ++ 46 ∷ decimal n
 numbered_is name n = append_assoc name (codes ".") (decimal n)
@@ -64,7 +64,7 @@ first_found : (test : List ℕ → Bool) (g : ℕ → List ℕ) (a k : ℕ) → 
 first_found test g a zero h = absurd (false≢true h)
 first_found test g a (suc k) h = grind (arith, by_either, cases_eq, first_found test g (a + 1) k)
 
--- ---- there is room
+-- ---- a number is free
 
 none_passes : (test : List ℕ → Bool) (xs : List (List ℕ)) → is_some (find test xs) ≡ false → (q : List ℕ) → is_among xs q ≡ true → test q ≡ false
 none_passes test [] h q i = absurd (false≢true i)
@@ -83,7 +83,7 @@ numbered_once : (name : List ℕ) (a k : ℕ) → a + k ≤ 2 ^ 64 → AreDistin
 numbered_once name a zero h = tt
 numbered_once name a (suc k) h = (not_later name a (a + 1) k (omega arith) (omega (arith, h)), numbered_once name (a + 1) k (omega (arith, h)))
 
--- of one name more than are taken, one is free
+-- among one name more than are taken, one is free
 one_is_free : (name : List ℕ) (taken : List (List ℕ)) → length taken + 1 < 2 ^ 64 → is_some (find (λ other. not (is_among taken other)) (map (numbered name) (range_with_len 1 (length taken + 1)))) ≡ true
 one_is_free name taken few =
     let free : List ℕ → Bool = λ other. not (is_among taken other) in
@@ -96,7 +96,7 @@ one_is_free name taken few =
 
 -- ---- asides
 
--- an aside is the name with the least number by which it is not taken
+-- an aside is the name with the least number that is not taken
 pub aside_is : (folder : Folder) (set : ParSet) (name : List ℕ) → AreFew folder set
     → (n : ℕ) × IsFirst (λ other. not (is_among (taken_for folder set) other)) (numbered name) 1 (length (taken_for folder set) + 1) n × (aside folder set name ≡ numbered name n)
 aside_is folder set name few = unfold aside in
@@ -130,7 +130,7 @@ aside_least folder set name few =
 no_empty_name : is_name [] ≡ false
 no_empty_name = unfold is_name in refl
 
--- an aside is no target's, also where no number is free
+-- an aside is no target's name, even if no number is free
 pub aside_no_target : (folder : Folder) (set : ParSet) (name : List ℕ) → list_all is_name (target_names set) ≡ true → is_among (target_names set) (aside folder set name) ≡ false
 unfolding aside
 aside_no_target folder set name are_names = step (find free numbers) (found_passes free numbers)
@@ -145,7 +145,7 @@ aside_no_target folder set name are_names = step (find free numbers) (found_pass
     step None h = no_name (target_names set) [] are_names no_empty_name
     step (Some q) h = (or_parts _ _ (sym (among-append (names folder) (target_names set) q) ∙ not-true _ (h q refl).1)).1
 
--- a byte below the digits is none of them
+-- a byte below the digits is not a digit
 no_low_digit : (low d : ℕ) → low < 48 → list_any (λ b. b == low) ((48 + d) ∷ []) ≡ false
 no_low_digit low d h = or_from _ _ (ne_eqb (48 + d) low (λ e. absurd (omega (arith, e, h)))) refl
 
@@ -157,14 +157,14 @@ no_low low n h small =
 no_low_numbered : (low : ℕ) (name : List ℕ) (n : ℕ) → low < 48 → (46 ≡ low → ⊥) → n < 2 ^ 64 → list_any (λ b. b == low) name ≡ false → list_any (λ b. b == low) (numbered name n) ≡ false
 no_low_numbered low name n h other small out = grind (arith, numbered_is, list_any-append, or_from, ne_eqb, no_low)
 
--- what is dotless and stands at the front of a numbered name stands at the front of the name
+-- a dotless prefix of a numbered name is a prefix of the name
 pub front_of_name : (front name rest : List ℕ) → is_dotless front ≡ true → starts_with nat_eq (name ++ 46 ∷ rest) front ≡ true → starts_with nat_eq name front ≡ true
 front_of_name (b ∷ front) (c ∷ name) rest h k =
     let r = and_parts (eqb b c) (starts_with nat_eq (name ++ 46 ∷ rest) front) k in
     and_from _ _ r.0 (front_of_name front name rest (and_parts (not (b == 46)) _ h).1 r.1)
 front_of_name front name rest h k = grind arith
 
--- of a front whose first byte alone is a dot
+-- the same for a prefix with a dot as its first byte only
 front_of_numbered : (front name rest : List ℕ) → is_dotless front ≡ true → 0 < length name → starts_with nat_eq (name ++ 46 ∷ rest) (46 ∷ front) ≡ true → starts_with nat_eq name (46 ∷ front) ≡ true
 front_of_numbered front name rest h l k = grind (arith, and_parts, and_from, front_of_name)
 
@@ -180,8 +180,8 @@ numbered_is_name name n small h short =
     name_of (numbered name n) (record {
       some = le-leb 1 (length (numbered name n)) (omega (arith, some, long));
       short = le-leb (length (numbered name n)) 255 short;
-      text = is_utf8-from_IsUtf8 (numbered name n) (subst IsUtf8 (sym (numbered_is name n))
-          (IsUtf8-append name (46 ∷ decimal n) (IsUtf8-from_is_utf8 name t.text) (IsUtf8-from_ascii (46 ∷ decimal n) (IsAscii-cons 46 (decimal n) (omega arith) (IsAscii-decimal n small)))));
+      bytes = is_utf8-from_IsUtf8 (numbered name n) (subst IsUtf8 (sym (numbered_is name n))
+          (IsUtf8-append name (46 ∷ decimal n) (IsUtf8-from_is_utf8 name t.bytes) (IsUtf8-from_ascii (46 ∷ decimal n) (IsAscii-cons 46 (decimal n) (omega arith) (IsAscii-decimal n small)))));
       no_slash = not_from_false _ (no_low_numbered 0x2F name n (omega arith) (λ e. absurd (omega (arith, e))) small (not-true _ t.no_slash));
       no_zero = not_from_false _ (no_low_numbered 0 name n (omega arith) (λ e. absurd (omega (arith, e))) small (not-true _ t.no_zero));
       no_dot = not_from_false _ (longer (numbered name n) (codes ".") (omega (arith, some, digits, long)));

@@ -1,4 +1,4 @@
--- The lemmas that the proofs of this crate take from each other, beside those of one subject.
+-- Lemmas that several proofs of this crate share.
 pub use Rattle.par2_spec.proofs.CommandLaws.{create_leads, gone_first, none_gone, put_in, removals_lead}
 pub use Rattle.par2_spec.proofs.FieldBits.{xor_middle}
 pub use Rattle.par2_spec.proofs.FieldConstants.{constant-injective, constant-lt, constant-nonzero, length-constant_powers}
@@ -10,8 +10,8 @@ pub use Rattle.par2_spec.proofs.ListsLaws.{all-append, all-both, all-drop, all-e
 pub use Rattle.par2_spec.proofs.NamesLaws.{AreDistinct, among-append, among-filter, among_some, apart_by_test, clash, distinct-append, distinct-filter, distinct-map, distinct_from_std, distinct_some, image_in, image_of, itself, not_first, other_name, same_either_way, same_name, std_from_distinct}
 pub use Rattle.par2_spec.proofs.RankLaws.{agrees-iff, all_weaker, counts, counts-iff, independent-iff, kept-iff, killed_vector, none_kept, rebuilt_agrees, rebuilt_is_only, repairable-iff, test_from_all}
 pub use Rattle.par2_spec.proofs.ReadLaws.{came_out, candidates_there, each_there, fits_of, present_searched, size_parts, size_positive, sized_from_counted, sound_of}
-pub use Rattle.par2_spec.proofs.SearchLaws.{found_passes, matches_follow, matches_of_needing, names_of_pairs, pairs_with, taken_once, taken_was_free}
+pub use Rattle.par2_spec.proofs.SearchLaws.{found_passes, matches_follow, matches_of_incomplete, names_of_pairs, pairs_with, taken_once, taken_was_free}
 pub use Rattle.par2_spec.proofs.SessionLaws.{accepted_next, done_can_walk, done_of_kept, grown_can_walk, next_taken, ok_no_err, redo_of_undo, redone_can_walk, redone_of_kept, refused_alike, same_ok, undo_of_redo, undone_can_walk, undone_of_kept, walked_is_valid}
 pub use Rattle.par2_spec.proofs.SumLaws.{dot_sum, field_sum_one, product_at, xor_off, xor_same}
 pub use Rattle.par2_spec.proofs.TestLaws.{T-parts, by_either, by_test, cond-not, no_place, none_if, same_tests, some_if}
-pub use Rattle.par2_spec.proofs.WordLaws.{byte_at, bytes-spelled, length-spelled, same_texts, spelled, word-lt, word_of}
+pub use Rattle.par2_spec.proofs.WordLaws.{byte_at, bytes-spelled, length-spelled, same_buffers, spelled, word-lt, word_of}

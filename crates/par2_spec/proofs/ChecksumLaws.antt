@@ -1,4 +1,4 @@
--- The checksum is linear over the exclusive or, a bit, a byte or any number of bytes at a time.
+-- CRC-32 is linear over exclusive or, for a bit, a byte or any number of bytes.
 use Rattle.par2_spec.proofs.Common.{◌≡◌, ℕ, zero, suc, ◌+◌, ◌*◌, ◌^◌, ◌<◌, ◌%◌, ◌/◌, List, [], ◌∷◌, ◌++◌, length, refl, sym, ap, ◌∙◌, arith, pow-suc, zero-mul, pow_pos, fold, replicate, bit_at, xor_assoc, xor_self, xor_zero_r, mul_assoc, xor_comm, xor_shr, xor_block, shr_split, mod_below, length_push, bit_at_lowest, bit_at_xor, crc_step, crc_steps, crc_byte, crc32, bit_xor}
 use Rattle.par2_spec.proofs.Basics.{xor_middle, xor_off}
 
@@ -32,7 +32,7 @@ pub crc_steps-add : (m n c : ℕ) → crc_steps (m + n) c ≡ crc_steps n (crc_s
 crc_steps-add zero n c = ap (λ k. crc_steps k c) (let e : 0 + n ≡ n = omega arith in e)
 crc_steps-add (suc m) n c = ap (λ k. crc_steps k c) (let e : suc m + n ≡ suc (m + n) = omega arith in e) ∙ crc_steps-add m n (crc_step c)
 
--- the order of two numbers of steps is free
+-- two numbers of steps can be swapped
 pub crc_steps-swap : (m n c : ℕ) → crc_steps m (crc_steps n c) ≡ crc_steps n (crc_steps m c)
 crc_steps-swap m n c = sym (crc_steps-add n m c) ∙ ap (λ k. crc_steps k c) (let e : n + m ≡ m + n = omega arith in e) ∙ crc_steps-add m n c
 
@@ -42,7 +42,7 @@ crc_step-double x =
     ∙ ap (λ t. bit_xor x (t * 0xEDB88320)) (let e : x * 2 % 2 ≡ 0 = omega arith in e)
     ∙ xor_zero_r x
 
--- n steps take n zero bits away
+-- n steps remove n zero bits
 pub crc_steps-shifted : (n x : ℕ) → crc_steps n (x * 2 ^ n) ≡ x
 crc_steps-shifted zero x = let e : x * 1 ≡ x = omega arith in e
 crc_steps-shifted (suc n) x =
@@ -67,7 +67,7 @@ crc_steps-split m n c =
     ∙ crc_steps-xor (n + m) (c % 2 ^ n) (c / 2 ^ n * 2 ^ n)
     ∙ ap (bit_xor (crc_steps (n + m) (c % 2 ^ n))) (crc_steps-add n m (c / 2 ^ n * 2 ^ n) ∙ ap (crc_steps m) (crc_steps-shifted n (c / 2 ^ n)))
 
--- a byte is taken in as the bits above the others
+-- a byte after n bits is the next eight bits, above these n
 pub crc_byte-steps : (n c byte : ℕ) → crc_byte (crc_steps n c) byte ≡ crc_steps (n + 8) (bit_xor c (byte * 2 ^ n))
 crc_byte-steps n c byte = grind (arith, crc_steps-shifted, crc_steps-xor, crc_steps-add)
 
@@ -79,7 +79,7 @@ crc_byte-xor a b byte =
 more_steps : (n c : ℕ) → crc_steps (8 * n) (crc_steps 8 c) ≡ crc_steps (8 * suc n) c
 more_steps n c = sym (crc_steps-add 8 (8 * n) c) ∙ ap (λ k. crc_steps k c) (let e : 8 + 8 * n ≡ 8 * suc n = omega arith in e)
 
--- a change of the remainder goes through the bytes by itself
+-- a change of the remainder passes through the bytes independently
 pub fold-xor : (bytes : List ℕ) (a b : ℕ) → fold crc_byte (bit_xor a b) bytes ≡ bit_xor (fold crc_byte a bytes) (crc_steps (8 * length bytes) b)
 fold-xor [] a b = refl
 fold-xor (byte ∷ bytes) a b =
@@ -91,7 +91,7 @@ pub fold-append : (xs ys : List ℕ) (c : ℕ) → fold crc_byte c (xs ++ ys) �
 fold-append [] ys c = refl
 fold-append (x ∷ xs) ys c = fold-append xs ys (crc_byte c x)
 
--- zeros take steps alone
+-- zeros only take steps
 pub fold-zeros : (n c : ℕ) → fold crc_byte c (replicate n 0) ≡ crc_steps (8 * n) c
 fold-zeros zero c = refl
 fold-zeros (suc n) c =
@@ -102,8 +102,8 @@ fold-zeros (suc n) c =
 pub crc32-zeros : (bytes : List ℕ) (n : ℕ) → crc32 (bytes ++ replicate n 0) ≡ bit_xor (crc_steps (8 * n) (bit_xor (crc32 bytes) 0xFFFFFFFF)) 0xFFFFFFFF
 crc32-zeros bytes n = unfold crc32 in grind (arith, fold-append, fold-zeros, xor_off)
 
-turned : (p q r s : ℕ) → bit_xor (bit_xor (bit_xor p q) r) s ≡ bit_xor p (bit_xor r (bit_xor q s))
-turned p q r s =
+stepped : (p q r s : ℕ) → bit_xor (bit_xor (bit_xor p q) r) s ≡ bit_xor p (bit_xor r (bit_xor q s))
+stepped p q r s =
     xor_assoc (bit_xor p q) r s ∙ xor_assoc p q (bit_xor r s)
     ∙ ap (bit_xor p) (sym (xor_assoc q r s) ∙ ap (λ x. bit_xor x s) (xor_comm q r) ∙ xor_assoc r q s)
 
@@ -125,4 +125,4 @@ crc32-slide out next rest = unfold crc32 in
     ap (λ c. crc_byte c next) (sym (xor_off whole ones)) ∙ crc_byte-xor (bit_xor whole ones) ones next
     ) in
     ap (λ c. bit_xor c ones) (sym (xor_off after behind) ∙ ap (λ c. bit_xor c behind) (both ∙ here))
-    ∙ turned (crc_byte (bit_xor whole ones) next) (crc_steps 8 ones) behind ones
+    ∙ stepped (crc_byte (bit_xor whole ones) next) (crc_steps 8 ones) behind ones

@@ -16,7 +16,7 @@ all_put_in test folder (file ∷ files) =
 pub create_leads : (folder : Folder) (a : CreateArgs) → effects folder (create_changes folder a) ≡ laid_over (outputs_of folder a) folder
 create_leads folder a = all_put_in (has folder) folder (outputs_of folder a)
 
--- a name counts as another that is equal to it
+-- a test agrees on names that compare as equal
 alike : (p : List ℕ → Bool) (q x : List ℕ) → slice_cmp nat_cmp q x ≡ Equal → p x ≡ p q
 alike p q x e = ap p (sym (slice_cmp-IsAntisymmetric nat_cmp-IsAntisymmetric q x e))
 
@@ -33,7 +33,7 @@ gone_first folder name names = same_folder _ _ (λ q.
 pub none_gone : (folder : Folder) → folder ≡ without [] folder
 none_gone folder = same_folder _ _ (λ q. sym (get-retain_keys folder (λ x. true) q (λ x e. refl)))
 
--- to remove the files one after the other leaves the folder without them
+-- removing files one after the other leaves the folder without them
 pub removals_lead : (folder : Folder) (names : List (List ℕ)) → effects folder (map Remove names) ≡ without names folder
 unfolding effects effect
 removals_lead folder [] = none_gone folder

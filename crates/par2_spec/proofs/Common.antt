@@ -1,4 +1,4 @@
--- The names that proofs of this crate take from elsewhere.
+-- Names that the proofs of this crate import.
 
 pub use Rattle.std.proofs.Common.{Bool, Global, IsTrue, Less, List, T, Vec, [], add-zero, ap, append-nil, append_assoc, ap₂, arith, cond, div-lt_iff_lt-mul, drop, eqb, false, get_or, inl, inr, leb, length, length-append, length-drop, length-set, ltb, map, mod-lt, mul_comm, not, one-mul, pow-add, pow-suc, pow_pos, refl, set, subst, suc, suc-add, sym, take, true, zero, zero-add, zero-mul, ℕ, ◌%◌, ◌&&◌, ◌*◌, ◌++◌, ◌+◌, ◌-◌, ◌/◌, ◌<◌, ◌^◌, ◌||◌, ◌∙◌, ◌∷◌, ◌≡◌, ◌≢◌, ◌≤◌, ◌⊎◌}
 pub use Rattle.std.proofs.Math.Bool.{and-false, and-true, and_assoc, not-not}
@@ -50,20 +50,20 @@ pub use Rattle.par2_spec.specs.Checksums.{IsPair, Pair, crc_byte, crc_step, crc_
 unfoldable pub use Rattle.par2_spec.specs.Checksums.{crc32}
 pub use Rattle.par2_spec.specs.Commands.{Action, Command, Create, CreateArgs, Do, Purge, Redo, Repair, Undo, Verify, files_of, outputs_of}
 pub use Rattle.par2_spec.specs.Faults.{fault_at, fault_of, fault_where, first_fault, then_fault}
-pub use Rattle.par2_spec.specs.Field.{is_spared, modulus}
+pub use Rattle.par2_spec.specs.Field.{is_coprime, modulus}
 unfoldable pub use Rattle.par2_spec.specs.Field.{coefficient, constant, constant_powers, mul, pow, product, remainder}
 pub use Rattle.par2_spec.specs.Folders.{File, Folder, IsFolder, bytes_of, files, fingerprint, has, names, without}
 unfoldable pub use Rattle.par2_spec.specs.Folders.{laid_over}
-pub use Rattle.par2_spec.specs.Laws.{AgreeingListsAreOne, DescIsRead, FilesHaveTheirSize, HalfwayJournalOpensAsBefore, HalfwayJournalStillOpens, HalfwayTextOpensAsBefore, HalfwayTextStillOpens, MainIsRead, OnlyOneOrder, RecoverySlicesAreRead, RefusedRepairHasAChoice, SomeSlicesAgree, TrueSlicesAreRebuilt, TwoListsAgree}
-pub use Rattle.par2_spec.specs.Lists.{all_texts}
+pub use Rattle.par2_spec.specs.Laws.{AgreeingListsAreOne, DescIsRead, FilesHaveTheirSize, HalfwayJournalOpensAsBefore, HalfwayJournalStillOpens, HalfwayBytesOpenAsBefore, HalfwayBytesStillOpen, MainIsRead, OnlyOneOrder, RecoverySlicesAreRead, RefusedRepairHasAChoice, SomeSlicesAgree, TrueSlicesAreRebuilt, TwoListsAgree}
+pub use Rattle.par2_spec.specs.Lists.{all_buffers}
 unfoldable pub use Rattle.par2_spec.specs.Lists.{all_below, all_lists}
 pub use Rattle.par2_spec.specs.Names.{IsLeastFree, distinct, is_among, is_par_name, numbered}
 unfoldable pub use Rattle.par2_spec.specs.Names.{is_name}
-pub use Rattle.par2_spec.specs.Opening.{Halfway, Opened, Settled, TellsApart, is_valid, kept_in, opened_by_part, opened_if_found, session_of, session_of_opened}
+pub use Rattle.par2_spec.specs.Opening.{Halfway, Opened, Settled, FingerprintsDiffer, is_valid, kept_in, opened_by_part, opened_if_found, session_of, session_of_opened}
 unfoldable pub use Rattle.par2_spec.specs.Opening.{Opens, OpensAs, halfway_journal, leads, leads_through, opened, settled_journal, taken_back}
 pub use Rattle.par2_spec.specs.Packets.{DescBody, IfscBody, IsCanonical, IsPacket, MainBody, Packet, RecoveryBody, accepted, bytes_at, claimed_length, digest_input, items_at, magic, type_of, without_end_zeros}
 unfoldable pub use Rattle.par2_spec.specs.Packets.{accepted_after, begins_with_packet, first_packet, kind_of, packet, read_desc, read_ifsc, read_main, read_recovery, u32_at, u64_at}
-pub use Rattle.par2_spec.specs.Plans.{AreFewFor, LeadsToAfter, LeadsToAfterAsked, create_changes, now_at, purge_changes}
+pub use Rattle.par2_spec.specs.Plans.{AreFewFor, LeadsToAfter, LeadsToAfterRequested, create_changes, now_at, purge_changes}
 unfoldable pub use Rattle.par2_spec.specs.Plans.{changes_of, repair_changes, repair_removals}
 pub use Rattle.par2_spec.specs.Polynomials.{AreElements, ArePoints, Interpolates, times, times_root}
 unfoldable pub use Rattle.par2_spec.specs.Polynomials.{plus, quotient, value, with_roots}
@@ -75,12 +75,12 @@ pub use Rattle.par2_spec.specs.Refusals.{absent_file, are_counts, bad_name, by_s
 unfoldable pub use Rattle.par2_spec.specs.Refusals.{after, create_refusal, early_refusal, head_fault, refusal, repair_refusal, set_in}
 pub use Rattle.par2_spec.specs.Repairs.{AreFew, FitsRepair, HoldsRepaired, after_purge, after_repair_and_purge, aside_files, cut_into, files_of_slices, is_par_file, lost_of_unmatched, matched_files, names_without_match, par_files, put_aside, slices_by_target, taken_for}
 unfoldable pub use Rattle.par2_spec.specs.Repairs.{after_repair, aside, rebuilt, rebuilt_targets}
-pub use Rattle.par2_spec.specs.Reports.{Complete, HasIntactFile, IntactAreFound, IsByTarget, IsFound, IsFoundWhole, IsVerdict, IsVerdictIn, MatchedAreFound, RefusedAsReported, Report, State, StatesFollow, found_of, is_complete, needing_state, states_by, verdict_of}
+pub use Rattle.par2_spec.specs.Reports.{Complete, HasIntactFile, IntactAreFound, IsByTarget, IsFound, IsFoundWhole, IsVerdict, IsVerdictIn, MatchedAreFound, RefusedAsReported, Report, State, StatesFollow, found_of, is_complete, incomplete_state, states_by, verdict_of}
 unfoldable pub use Rattle.par2_spec.specs.Reports.{report_in, report_of, report_of_target, state_of}
-pub use Rattle.par2_spec.specs.Search.{AreFirstMatches, NoCollision, candidates, intact_names, is_intact, is_needing, lost, match_of, matched, matching, needing, needing_names, survivors}
+pub use Rattle.par2_spec.specs.Search.{AreFirstMatches, NoCollision, candidates, intact_names, is_intact, is_incomplete, lost, match_of, matched, matching, incomplete, incomplete_names, survivors}
 unfoldable pub use Rattle.par2_spec.specs.Search.{known, matches}
 pub use Rattle.par2_spec.specs.Sessions.{CanWalk, KeptSession, OnlyGrew, Session, changes_unless, first_entry, others, session_of_kept, session_unless}
-unfoldable pub use Rattle.par2_spec.specs.Sessions.{changes_asked, folders_along, history_of, kept_done, kept_redone, kept_undone, session_after, session_with, walks}
+unfoldable pub use Rattle.par2_spec.specs.Sessions.{changes_requested, folders_along, history_of, kept_done, kept_redone, kept_undone, session_after, session_with, walks}
 pub use Rattle.par2_spec.specs.Sets.{IsSound, MadeFrom, ParSet, Target, all_pairs, all_some, are_in_profile, description_of, is_slice_size, main_of, other_par_names, packets_with, pairs_of, recovery_of, target_names, target_of, target_of_file, unless, ◌>>=◌}
 unfoldable pub use Rattle.par2_spec.specs.Sets.{read_set, set_of}
 pub use Rattle.par2_spec.specs.Slices.{slice_at, slice_count, slices, word}

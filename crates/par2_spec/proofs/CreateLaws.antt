@@ -7,11 +7,11 @@ use Rattle.par2_spec.proofs.MovesLaws.{has_put}
 
 -- ---- the names of the volumes
 
--- what stands after the same front
+-- equal bytes with the same prefix have the same rest
 same_rest : (front a b : List ℕ) → front ++ a ≡ front ++ b → a ≡ b
 same_rest front a b e = sym (drop-append_seam front a) ∙ ap (drop (length front)) e ∙ drop-append_seam front b
 
--- the front of each volume name, and what follows
+-- the prefix of each volume name, and the rest
 abbrev front_of : List ℕ → List ℕ
 front_of base = stem base ++ codes ".vol"
 
@@ -21,11 +21,11 @@ rest_of x n = five_digits x ++ (codes "+" ++ (five_digits n ++ codes ".par2"))
 volume_name_is : (base : List ℕ) (x n : ℕ) → volume_name base x n ≡ front_of base ++ rest_of x n
 volume_name_is base x n = grind (arith, append_assoc)
 
--- a volume name tells its first exponent up to a multiple of 100,000
-name_tells_first : (base : List ℕ) (x m y n : ℕ) → volume_name base x m ≡ volume_name base y n → x % 100000 ≡ y % 100000
-name_tells_first base x m y n e = grind (arith, same_rest, volume_name_is)
+-- a volume name determines its first exponent modulo 100,000
+name_determines_first : (base : List ℕ) (x m y n : ℕ) → volume_name base x m ≡ volume_name base y n → x % 100000 ≡ y % 100000
+name_determines_first base x m y n e = grind (arith, same_rest, volume_name_is)
 
--- the first exponents rise, by less than 2 ^ 16
+-- the first exponents increase, by less than 2 ^ 16
 firsts_apart : (f i j : ℕ) → i < j → j < 17 → (f + volumes_before i) % 100000 ≡ (f + volumes_before j) % 100000 → ⊥
 firsts_apart f i j less high e =
     let too_near : (f a b : ℕ) → a < b → b ≤ 65536 → 1 ≤ a → (f + (a - 1)) % 100000 ≡ (f + (b - 1)) % 100000 → ⊥ = λ f a b less top some e. omega (arith, less, top, some, e) in
@@ -43,14 +43,14 @@ no_later_volume : (base : List ℕ) (f c i a n : ℕ) → i < a → a + n ≤ 17
 no_later_volume base f c i a zero low high = refl
 no_later_volume base f c i a (suc n) low high =
     or_from _ _ (other_name (volume_at base f c i) (volume_at base f c a) (λ e.
-    firsts_apart f i a low (omega (arith, high)) (name_tells_first base (f + volumes_before i) (volume_size c i) (f + volumes_before a) (volume_size c a) e)))
+    firsts_apart f i a low (omega (arith, high)) (name_determines_first base (f + volumes_before i) (volume_size c i) (f + volumes_before a) (volume_size c a) e)))
     (no_later_volume base f c i (a + 1) n (omega (arith, low)) (omega (arith, high)))
 
 volumes_once : (base : List ℕ) (f c a n : ℕ) → a + n ≤ 17 → AreDistinct (map (volume_at base f c) (range_with_len a n))
 volumes_once base f c a zero h = tt
 volumes_once base f c a (suc n) h = (no_later_volume base f c a (a + 1) n (omega arith) (omega (arith, h)), volumes_once base f c (a + 1) n (omega (arith, h)))
 
--- the base is shorter than the volumes
+-- the base is shorter than the names of the volumes
 base_no_volume : (base : List ℕ) (f c : ℕ) (is : List ℕ) → is_among (map (volume_at base f c) is) base ≡ false
 base_no_volume base f c [] = refl
 base_no_volume base f c (i ∷ is) = grind (arith, or_from, other_name, length-take, volume_name_is, length-append, base_no_volume base f c is)
@@ -83,6 +83,6 @@ pub create_applies : (folder : Folder) (a : CreateArgs) → are_applicable folde
 create_applies folder a =
     puts_apply (has folder) folder (outputs_of folder a) (outputs_once a.base a.slice a.first a.count _) (λ q i. refl)
 
--- without recovery slices the index is all
+-- without recovery slices the index is the only output
 pub index_alone : (base : List ℕ) (s f : ℕ) (files : List File) → volumes base s f 0 files ≡ (base, flat_map packet (index_packets s (map (record_of s) (in_id_order files)))) ∷ []
 index_alone base s f files = unfold volumes in refl

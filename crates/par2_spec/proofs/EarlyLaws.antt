@@ -1,12 +1,12 @@
--- What refuses a command before it takes any memory is its refusal.
+-- An early refusal of a command is its refusal.
 use Rattle.par2_spec.proofs.Common.{◌≡◌, ℕ, List, [], ◌∷◌, ◌++◌, length, refl, ap, ◌∙◌, not, ◌&&◌, Option, Some, None, Err, ◌==◌, Fault, BadSliceSize, BadCount, BadBase, NoInput, first_fault, fault_where, fault_of, then_fault, is_name, is_par_name, Folder, is_slice_size, ParSet, candidates, CreateArgs, Command, Create, Verify, Repair, Purge, are_counts, bad_name, absent_file, repair_refusal, purge_refusal, head_fault, create_refusal, set_in, refusal, early_refusal}
 
--- the first of all is the first of the first ones, or else of the rest
+-- the first fault of all tests is that of the first part or else that of the rest
 pub first-append : {F : Type 0} (xs ys : List (Option F)) → first_fault (xs ++ ys) ≡ first_fault (first_fault xs ∷ ys)
 first-append (None ∷ xs) ys = first-append xs ys
 first-append xs ys = refl
 
--- the first of some is the first of all
+-- the first fault of the first part is the first of all
 first_before : {F : Type 0} (xs ys : List (Option F)) (fault : F) → first_fault xs ≡ Some fault → first_fault (xs ++ ys) ≡ Some fault
 first_before xs ys fault h = first-append xs ys ∙ ap (λ f. first_fault (f ∷ ys)) h
 

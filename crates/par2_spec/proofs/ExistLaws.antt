@@ -1,11 +1,11 @@
 -- Slices that agree with the known ones and with the recovery slices of the kept exponents always exist.
 use Rattle.par2_spec.proofs.Basics.{by_either, killed_vector, kept-iff, counts, counts-iff, byte_at, word-lt, spelled, length-spelled, bytes-spelled, word_of, product_linear_right, product-lt, product_comm, product-one, product_assoc, product-zero, has_inverse, clash, all-map, all_unmap, all-passing, contained_later, of_contained, all-filter}
 use Rattle.par2_spec.proofs.Common.{◌≡◌, ℕ, zero, suc, ◌+◌, ◌*◌, ◌/◌, ◌%◌, ◌^◌, ◌<◌, ◌≤◌, List, [], ◌∷◌, length, map, drop, refl, sym, ap, ap₂, ◌∙◌, subst, arith, true, false, Bool, inl, inr, flat_map, slice_index, Option, Some, None, is_some, filter, ◌==◌, replicate, unwrap_or, w16, to_le_bytes, xor_assoc, xor_self, xor_zero_r, range_with_len, AllByRecursion, AllZip, list_any, Contains, ForSome, xor_lt, xor_comm, length-map, AllZip-long, false≢true, cases_eq, or_cases, eqb-true, word, coefficients, dot, combination, recovery, IsVector, Kills, IsRepairable, Agrees, AnotherAgrees, kept, AreBytes, kept_slices, lost, AreElements, drop-cons, mul, coefficient, TwoListsAgree, SomeSlicesAgree, bit_xor}
-use Rattle.par2_spec.proofs.UniqueLaws.{sums, AreTexts, IsZeroAtKnown, at_lost, lost_from, dot-at_lost, dot-sums, whole_row, dot-lt, coefficients_are, sums-elements, words_are, same_words}
+use Rattle.par2_spec.proofs.UniqueLaws.{sums, AreBuffers, IsZeroAtKnown, at_lost, lost_from, dot-at_lost, dot-sums, whole_row, dot-lt, coefficients_are, sums-elements, words_are, same_words}
 
 -- ---- a vector over the lost slices, among all slices
 
--- its elements at the lost places, 0 at the known ones
+-- its elements at the lost positions, 0 at the known ones
 abbrev spread : List (Option (List ℕ)) → List ℕ → List ℕ
 spread [] v = []
 spread (None ∷ ks) [] = 0 ∷ spread ks []
@@ -41,12 +41,12 @@ zero_at_lost (None ∷ ks) (x ∷ d) h = (h.0, zero_at_lost ks d h.1)
 zero_at_lost (Some y ∷ ks) (x ∷ d) h = zero_at_lost ks d h.1
 zero_at_lost ks d h = grind arith
 
--- ---- an element added to the first word of a text
+-- ---- an element added to the first word of a buffer
 
-abbrev marked : ℕ → List ℕ → List ℕ
-marked x [] = []
-marked x (a ∷ []) = a ∷ []
-marked x (a ∷ b ∷ text) = bit_xor x (a + 256 * b) % 256 ∷ bit_xor x (a + 256 * b) / 256 ∷ text
+abbrev word_added : ℕ → List ℕ → List ℕ
+word_added x [] = []
+word_added x (a ∷ []) = a ∷ []
+word_added x (a ∷ b ∷ bytes) = bit_xor x (a + 256 * b) % 256 ∷ bit_xor x (a + 256 * b) / 256 ∷ bytes
 
 pair-lt : (a b : ℕ) → a < 256 → b < 256 → a + 256 * b < 2 ^ 16
 pair-lt a b ha hb = omega (arith, ha, hb)
@@ -54,69 +54,69 @@ pair-lt a b ha hb = omega (arith, ha, hb)
 parts-lt : (y : ℕ) → y < 2 ^ 16 → (y % 256 < 256) × (y / 256 < 256)
 parts-lt y h = (omega arith, omega (arith, h))
 
-bytes-marked : (x : ℕ) (text : List ℕ) → x < 2 ^ 16 → AllByRecursion (λ b. b < 256) text → AllByRecursion (λ b. b < 256) (marked x text)
-bytes-marked x [] small h = tt
-bytes-marked x (a ∷ []) small h = h
-bytes-marked x (a ∷ b ∷ text) small h =
+bytes-word_added : (x : ℕ) (content : List ℕ) → x < 2 ^ 16 → AllByRecursion (λ b. b < 256) content → AllByRecursion (λ b. b < 256) (word_added x content)
+bytes-word_added x [] small h = tt
+bytes-word_added x (a ∷ []) small h = h
+bytes-word_added x (a ∷ b ∷ content) small h =
     let parts = parts-lt (bit_xor x (a + 256 * b)) (xor_lt 16 x (a + 256 * b) small (pair-lt a b h.0 h.1.0)) in
     (parts.0, (parts.1, h.1.1))
 
--- ---- the elements of a vector added to the texts, each to its own
+-- ---- the elements of a vector added to the buffers, each to its own
 
-abbrev all_marked : List ℕ → List (List ℕ) → List (List ℕ)
-all_marked [] texts = texts
-all_marked (x ∷ d) [] = []
-all_marked (x ∷ d) (text ∷ texts) = marked x text ∷ all_marked d texts
+abbrev words_added : List ℕ → List (List ℕ) → List (List ℕ)
+words_added [] buffers = buffers
+words_added (x ∷ d) [] = []
+words_added (x ∷ d) (bytes ∷ buffers) = word_added x bytes ∷ words_added d buffers
 
-length-all_marked : (d : List ℕ) (texts : List (List ℕ)) → length (all_marked d texts) ≡ length texts
-length-all_marked (x ∷ d) (text ∷ texts) = ap suc (length-all_marked d texts)
-length-all_marked d texts = refl
+length-words_added : (d : List ℕ) (buffers : List (List ℕ)) → length (words_added d buffers) ≡ length buffers
+length-words_added (x ∷ d) (bytes ∷ buffers) = ap suc (length-words_added d buffers)
+length-words_added d buffers = refl
 
-sizes-all_marked : (s : ℕ) (d : List ℕ) (texts : List (List ℕ)) → AllByRecursion (λ text. length text ≡ s) texts → AllByRecursion (λ text. length text ≡ s) (all_marked d texts)
-sizes-all_marked s (x ∷ d) (text ∷ texts) h = grind (arith, sizes-all_marked s d texts h.1)
-sizes-all_marked s d texts h = grind arith
+sizes-words_added : (s : ℕ) (d : List ℕ) (buffers : List (List ℕ)) → AllByRecursion (λ bytes. length bytes ≡ s) buffers → AllByRecursion (λ bytes. length bytes ≡ s) (words_added d buffers)
+sizes-words_added s (x ∷ d) (bytes ∷ buffers) h = grind (arith, sizes-words_added s d buffers h.1)
+sizes-words_added s d buffers h = grind arith
 
-bytes-all_marked : (d : List ℕ) (texts : List (List ℕ)) → AreElements d → AreTexts texts → AreTexts (all_marked d texts)
-bytes-all_marked (x ∷ d) (text ∷ texts) small h = (bytes-marked x text small.0 h.0, bytes-all_marked d texts small.1 h.1)
-bytes-all_marked d texts small h = grind arith
+bytes-words_added : (d : List ℕ) (buffers : List (List ℕ)) → AreElements d → AreBuffers buffers → AreBuffers (words_added d buffers)
+bytes-words_added (x ∷ d) (content ∷ buffers) small h = (bytes-word_added x content small.0 h.0, bytes-words_added d buffers small.1 h.1)
+bytes-words_added d buffers small h = grind arith
 
-first_words : (s : ℕ) (d : List ℕ) (texts : List (List ℕ)) → 2 ≤ s → AllByRecursion (λ text. length text ≡ s) texts → length d ≡ length texts → map (word 0) (all_marked d texts) ≡ sums d (map (word 0) texts)
+first_words : (s : ℕ) (d : List ℕ) (buffers : List (List ℕ)) → 2 ≤ s → AllByRecursion (λ bytes. length bytes ≡ s) buffers → length d ≡ length buffers → map (word 0) (words_added d buffers) ≡ sums d (map (word 0) buffers)
 first_words s [] [] some h e = refl
-first_words s (x ∷ d) (text ∷ texts) some h e = grind (arith, first_words s d texts some h.1 (omega (arith, e)))
-first_words s d texts some h e = absurd (omega (arith, e))
+first_words s (x ∷ d) (bytes ∷ buffers) some h e = grind (arith, first_words s d buffers some h.1 (omega (arith, e)))
+first_words s d buffers some h e = absurd (omega (arith, e))
 
-later_words : (p : ℕ) (d : List ℕ) (texts : List (List ℕ)) → map (word (suc p)) (all_marked d texts) ≡ map (word (suc p)) texts
-later_words p (x ∷ d) (text ∷ texts) = grind (arith, later_words p d texts)
-later_words p d texts = refl
+later_words : (p : ℕ) (d : List ℕ) (buffers : List (List ℕ)) → map (word (suc p)) (words_added d buffers) ≡ map (word (suc p)) buffers
+later_words p (x ∷ d) (bytes ∷ buffers) = grind (arith, later_words p d buffers)
+later_words p d buffers = refl
 
 -- the known slices stay as they are
-known-all_marked : (ks : List (Option (List ℕ))) (v : List ℕ) (texts : List (List ℕ)) → AreTexts texts → AllZip (λ slice text. ForSome slice (λ found. text ≡ found)) ks texts
-    → AllZip (λ slice text. ForSome slice (λ found. text ≡ found)) ks (all_marked (spread ks v) texts)
-known-all_marked (None ∷ ks) [] (text ∷ texts) small h = ((λ found e. absurd (false≢true (ap is_some e))), known-all_marked ks [] texts small.1 h.1)
-known-all_marked (None ∷ ks) (x ∷ v) (text ∷ texts) small h = ((λ found e. absurd (false≢true (ap is_some e))), known-all_marked ks v texts small.1 h.1)
-known-all_marked (Some y ∷ ks) v (text ∷ texts) small h = grind (arith, known-all_marked ks v texts small.1 h.1)
-known-all_marked ks v texts small h = grind arith
+known-words_added : (ks : List (Option (List ℕ))) (v : List ℕ) (buffers : List (List ℕ)) → AreBuffers buffers → AllZip (λ slice bytes. ForSome slice (λ found. bytes ≡ found)) ks buffers
+    → AllZip (λ slice bytes. ForSome slice (λ found. bytes ≡ found)) ks (words_added (spread ks v) buffers)
+known-words_added (None ∷ ks) [] (bytes ∷ buffers) small h = ((λ found e. absurd (false≢true (ap is_some e))), known-words_added ks [] buffers small.1 h.1)
+known-words_added (None ∷ ks) (x ∷ v) (bytes ∷ buffers) small h = ((λ found e. absurd (false≢true (ap is_some e))), known-words_added ks v buffers small.1 h.1)
+known-words_added (Some y ∷ ks) v (bytes ∷ buffers) small h = grind (arith, known-words_added ks v buffers small.1 h.1)
+known-words_added ks v buffers small h = grind arith
 
 -- ---- recovery slices
 
 -- a vector that an exponent kills changes no recovery slice of it
-same_recovery : (s e : ℕ) (d : List ℕ) (texts : List (List ℕ)) → 2 ≤ s → AllByRecursion (λ text. length text ≡ s) texts → length d ≡ length texts → dot (whole_row (length texts) e) d ≡ 0 → recovery s (all_marked d texts) e ≡ recovery s texts e
+same_recovery : (s e : ℕ) (d : List ℕ) (buffers : List (List ℕ)) → 2 ≤ s → AllByRecursion (λ bytes. length bytes ≡ s) buffers → length d ≡ length buffers → dot (whole_row (length buffers) e) d ≡ 0 → recovery s (words_added d buffers) e ≡ recovery s buffers e
 unfolding recovery combination
-same_recovery s e d texts some sizes long killed =
-    ap (λ n. combination s (whole_row n e) (all_marked d texts)) (length-all_marked d texts)
+same_recovery s e d buffers some sizes long killed =
+    ap (λ n. combination s (whole_row n e) (words_added d buffers)) (length-words_added d buffers)
     ∙ ap (λ (f : ℕ → ℕ). flat_map (λ p. to_le_bytes w16 (f p)) (range_with_len 0 (s / 2))) (λ i p. same_dot p i)
   where
     row : List ℕ
-    row = whole_row (length texts) e
+    row = whole_row (length buffers) e
 
-    same_dot : (p : ℕ) → dot row (map (word p) (all_marked d texts)) ≡ dot row (map (word p) texts)
+    same_dot : (p : ℕ) → dot row (map (word p) (words_added d buffers)) ≡ dot row (map (word p) buffers)
     same_dot zero =
-        ap (dot row) (first_words s d texts some sizes long) ∙ dot-sums row d (map (word 0) texts) (long ∙ sym (length-map texts (word 0)))
-        ∙ ap (λ t. bit_xor t (dot row (map (word 0) texts))) killed
-    same_dot (suc p) = ap (dot row) (later_words p d texts)
+        ap (dot row) (first_words s d buffers some sizes long) ∙ dot-sums row d (map (word 0) buffers) (long ∙ sym (length-map buffers (word 0)))
+        ∙ ap (λ t. bit_xor t (dot row (map (word 0) buffers))) killed
+    same_dot (suc p) = ap (dot row) (later_words p d buffers)
 
-all_recovered : (s : ℕ) (known : List (Option (List ℕ))) (d : List ℕ) (slices : List (List ℕ)) (rs : List (ℕ × List ℕ)) → 2 ≤ s → AllByRecursion (λ text. length text ≡ s) slices → length d ≡ length slices
-    → AllByRecursion (λ e. dot (whole_row (length slices) e) d ≡ 0) (map (λ r. r.0) rs) → AllByRecursion (λ r. recovery s slices r.0 ≡ r.1) rs → AllByRecursion (λ r. recovery s (all_marked d slices) r.0 ≡ r.1) rs
+all_recovered : (s : ℕ) (known : List (Option (List ℕ))) (d : List ℕ) (slices : List (List ℕ)) (rs : List (ℕ × List ℕ)) → 2 ≤ s → AllByRecursion (λ bytes. length bytes ≡ s) slices → length d ≡ length slices
+    → AllByRecursion (λ e. dot (whole_row (length slices) e) d ≡ 0) (map (λ r. r.0) rs) → AllByRecursion (λ r. recovery s slices r.0 ≡ r.1) rs → AllByRecursion (λ r. recovery s (words_added d slices) r.0 ≡ r.1) rs
 all_recovered s known d slices [] some sizes long killed h = tt
 all_recovered s known d slices (r ∷ rs) some sizes long killed h = (same_recovery s r.0 d slices some sizes long killed.0 ∙ h.0, all_recovered s known d slices rs some sizes long killed.1 h.1)
 
@@ -130,11 +130,11 @@ no_change d u e h = grind arith
 
 pub another_agrees : (s : ℕ) (known : List (Option (List ℕ))) (rs : List (ℕ × List ℕ)) (slices : List (List ℕ)) → 2 ≤ s → (IsRepairable (lost known) (map (λ r. r.0) rs) → ⊥) → Agrees s known rs slices → AnotherAgrees s known rs slices
 another_agrees s known rs slices some unrepairable agrees = (
-  all_marked d slices,
+  words_added d slices,
   record {
-    sizes = sizes-all_marked s d slices agrees.sizes;
-    bytes = bytes-all_marked d slices (elements-spread known v found.1.1) agrees.bytes;
-    as_known = known-all_marked known v slices agrees.bytes agrees.as_known;
+    sizes = sizes-words_added s d slices agrees.sizes;
+    bytes = bytes-words_added d slices (elements-spread known v found.1.1) agrees.bytes;
+    as_known = known-words_added known v slices agrees.bytes agrees.as_known;
     as_recovered = all_recovered s known d slices rs some agrees.sizes long (killed (map (λ r. r.0) rs) found.2) agrees.as_recovered;
   },
   λ same. found.3 (subst (AllByRecursion (λ x. x ≡ 0)) back (zero_at_lost known d (no_change d (map (word 0) slices) (long ∙ sym (length-map slices (word 0))) (sym (first_words s d slices some agrees.sizes long) ∙ ap (map (word 0)) same)))),
@@ -150,7 +150,7 @@ another_agrees s known rs slices some unrepairable agrees = (
     d = spread known v
 
     all : length slices ≡ length known
-    all = AllZip-long (λ slice text. ForSome slice (λ found. text ≡ found)) known slices agrees.as_known
+    all = AllZip-long (λ slice bytes. ForSome slice (λ found. bytes ≡ found)) known slices agrees.as_known
 
     long : length d ≡ length slices
     long = length-spread known v ∙ sym all
@@ -182,13 +182,13 @@ pub length-sums : (u v : List ℕ) → length u ≡ length v → length (sums u 
 length-sums (x ∷ u) (y ∷ v) e = ap suc (length-sums u v (omega (arith, e)))
 length-sums u v e = grind arith
 
--- ---- a vector for which each kept exponent gives its number
+-- ---- a vector with a given product for each kept exponent
 
 pub zeros_are : (n : ℕ) → IsVector n (replicate n 0)
 zeros_are zero = (refl, tt)
 zeros_are (suc n) = let rest = zeros_are n in (ap suc rest.0, (omega arith, rest.1))
 
--- x and a multiple of v, by which the row gives this number
+-- x plus a multiple of v, so that the product with the row is this number
 record Moved (row x v : List ℕ) (goal : ℕ) : Type 0 where
   vector : List ℕ
   factor : ℕ
@@ -220,7 +220,7 @@ moved row x v goal hr hx hv long small nonzero =
           ∙ xor_assoc goal q q ∙ ap (bit_xor goal) (xor_self q) ∙ xor_zero_r goal;
     }
 
--- the kept exponents below m give their numbers for the vector
+-- the kept exponents below m have their given products with the vector
 pub record IsSolved (is es : List ℕ) (goal : ℕ → ℕ) (m : ℕ) : Type 0 where
   pub vector : List ℕ
   pub is_vector : IsVector (length is) vector
@@ -239,10 +239,10 @@ solved is es goal small (suc m) = step (counts (kept is es) m) refl (solved is e
           (λ other. before.gives e (omega (arith, lt, other)) c);
     }
     step true in_kept before =
-        let told = (kept-iff is es m).0 ((counts-iff (kept is es) m).0 in_kept) in
-        let v = told.1.0 in
-        let v_is = told.1.1 in
-        let new = moved (coefficients is m) before.vector v (goal m) (coefficients_are m is) before.is_vector.1 v_is.1 (v_is.0 ∙ sym before.is_vector.0) (small m) told.1.3 in
+        let reported = (kept-iff is es m).0 ((counts-iff (kept is es) m).0 in_kept) in
+        let v = reported.1.0 in
+        let v_is = reported.1.1 in
+        let new = moved (coefficients is m) before.vector v (goal m) (coefficients_are m is) before.is_vector.1 v_is.1 (v_is.0 ∙ sym before.is_vector.0) (small m) reported.1.3 in
         let long : length (scaled new.factor v) ≡ length before.vector = length-map v (mul new.factor) ∙ v_is.0 ∙ sym before.is_vector.0 in record {
           vector = new.vector;
           is_vector = (
@@ -253,56 +253,56 @@ solved is es goal small (suc m) = step (counts (kept is es) m) refl (solved is e
             | inl here ↦ subst (λ k. dot (coefficients is k) new.vector ≡ goal k) (sym here) new.hits
             | inr other ↦
                 let low : e < m = omega (arith, lt, other) in
-                let killed : dot (coefficients is e) v ≡ 0 = of_contained (λ k. k < m → Kills is k v) es e told.1.2 (((kept-iff is es e).0 c).0) low in
+                let killed : dot (coefficients is e) v ≡ 0 = of_contained (λ k. k < m → Kills is k v) es e reported.1.2 (((kept-iff is es e).0 c).0) low in
                 ap (dot (coefficients is e)) new.is ∙ dot-sums (coefficients is e) (scaled new.factor v) before.vector long
                 ∙ ap (λ t. bit_xor t (dot (coefficients is e) before.vector)) (dot-scaled new.factor (coefficients is e) v new.small (coefficients_are e is) v_is.1 ∙ ap (mul new.factor) killed ∙ product-zero new.factor)
                 ∙ before.gives e low c
           ];
         }
 
--- ---- slices with the known ones and these texts at the lost places
+-- ---- slices with the known ones and these buffers at the lost positions
 
--- the j-th lost slice and those after it get the texts from the j-th on
+-- the j-th lost slice and the later ones are the buffers from the j-th on
 abbrev filled : (ℕ → List ℕ) → ℕ → List (Option (List ℕ)) → List (List ℕ)
-filled text j [] = []
-filled text j (Some y ∷ ks) = y ∷ filled text j ks
-filled text j (None ∷ ks) = text j ∷ filled text (j + 1) ks
+filled bytes j [] = []
+filled bytes j (Some y ∷ ks) = y ∷ filled bytes j ks
+filled bytes j (None ∷ ks) = bytes j ∷ filled bytes (j + 1) ks
 
-length-filled : (text : ℕ → List ℕ) (j : ℕ) (ks : List (Option (List ℕ))) → length (filled text j ks) ≡ length ks
-length-filled text j [] = refl
-length-filled text j (Some y ∷ ks) = ap suc (length-filled text j ks)
-length-filled text j (None ∷ ks) = ap suc (length-filled text (j + 1) ks)
+length-filled : (bytes : ℕ → List ℕ) (j : ℕ) (ks : List (Option (List ℕ))) → length (filled bytes j ks) ≡ length ks
+length-filled bytes j [] = refl
+length-filled bytes j (Some y ∷ ks) = ap suc (length-filled bytes j ks)
+length-filled bytes j (None ∷ ks) = ap suc (length-filled bytes (j + 1) ks)
 
-all-filled : (P : List ℕ → Type 0) (text : ℕ → List ℕ) → ((j : ℕ) → P (text j)) → (j : ℕ) (ks : List (Option (List ℕ))) → AllByRecursion (λ slice. ForSome slice P) ks → AllByRecursion P (filled text j ks)
-all-filled P text h j [] k = tt
-all-filled P text h j (Some y ∷ ks) k = (k.0 y refl, all-filled P text h j ks k.1)
-all-filled P text h j (None ∷ ks) k = (h j, all-filled P text h (j + 1) ks k.1)
+all-filled : (P : List ℕ → Type 0) (bytes : ℕ → List ℕ) → ((j : ℕ) → P (bytes j)) → (j : ℕ) (ks : List (Option (List ℕ))) → AllByRecursion (λ slice. ForSome slice P) ks → AllByRecursion P (filled bytes j ks)
+all-filled P bytes h j [] k = tt
+all-filled P bytes h j (Some y ∷ ks) k = (k.0 y refl, all-filled P bytes h j ks k.1)
+all-filled P bytes h j (None ∷ ks) k = (h j, all-filled P bytes h (j + 1) ks k.1)
 
-known-filled : (text : ℕ → List ℕ) (j : ℕ) (ks : List (Option (List ℕ))) → AllZip (λ slice found. ForSome slice (λ y. found ≡ y)) ks (filled text j ks)
-known-filled text j [] = tt
-known-filled text j (Some y ∷ ks) = ((λ found e. ap (λ o. unwrap_or o y) e), known-filled text j ks)
-known-filled text j (None ∷ ks) = ((λ found e. absurd (false≢true (ap is_some e))), known-filled text (j + 1) ks)
+known-filled : (bytes : ℕ → List ℕ) (j : ℕ) (ks : List (Option (List ℕ))) → AllZip (λ slice found. ForSome slice (λ y. found ≡ y)) ks (filled bytes j ks)
+known-filled bytes j [] = tt
+known-filled bytes j (Some y ∷ ks) = ((λ found e. ap (λ o. unwrap_or o y) e), known-filled bytes j ks)
+known-filled bytes j (None ∷ ks) = ((λ found e. absurd (false≢true (ap is_some e))), known-filled bytes (j + 1) ks)
 
--- what the known slices give to a word of a recovery slice
+-- the known slices' part of a word of a recovery slice
 abbrev of_known : ℕ → ℕ → List (Option (List ℕ)) → ℕ → ℕ
 of_known e i [] p = 0
 of_known e i (Some y ∷ ks) p = bit_xor (mul (coefficient e i) (word p y)) (of_known e (i + 1) ks p)
 of_known e i (None ∷ ks) p = of_known e (i + 1) ks p
 
--- a word of a recovery slice: what the lost slices give, whose words are the elements of a vector, and what the known
--- ones give
-dot-filled : (e p i j : ℕ) (text : ℕ → List ℕ) (v : List ℕ) (ks : List (Option (List ℕ))) → ((k : ℕ) → word p (text k) ≡ slice_index v k) → length (lost_from i ks) + j ≡ length v
-    → dot (coefficients (range_with_len i (length ks)) e) (map (word p) (filled text j ks)) ≡ bit_xor (dot (coefficients (lost_from i ks) e) (drop j v)) (of_known e i ks p)
+-- a word of a recovery slice: the part of the lost slices, whose words are the elements of a vector, plus the part of
+-- the known ones
+dot-filled : (e p i j : ℕ) (bytes : ℕ → List ℕ) (v : List ℕ) (ks : List (Option (List ℕ))) → ((k : ℕ) → word p (bytes k) ≡ slice_index v k) → length (lost_from i ks) + j ≡ length v
+    → dot (coefficients (range_with_len i (length ks)) e) (map (word p) (filled bytes j ks)) ≡ bit_xor (dot (coefficients (lost_from i ks) e) (drop j v)) (of_known e i ks p)
 unfolding dot
-dot-filled e p i j text v [] same long = refl
-dot-filled e p i j text v (Some y ∷ ks) same long =
+dot-filled e p i j bytes v [] same long = refl
+dot-filled e p i j bytes v (Some y ∷ ks) same long =
     let exchange : (a b c : ℕ) → bit_xor a (bit_xor b c) ≡ bit_xor b (bit_xor a c) = λ a b c. sym (xor_assoc a b c) ∙ ap (λ t. bit_xor t c) (xor_comm a b) ∙ xor_assoc b a c in
-    ap (bit_xor (mul (coefficient e i) (word p y))) (dot-filled e p (i + 1) j text v ks same long)
+    ap (bit_xor (mul (coefficient e i) (word p y))) (dot-filled e p (i + 1) j bytes v ks same long)
     ∙ exchange (mul (coefficient e i) (word p y)) (dot (coefficients (lost_from (i + 1) ks) e) (drop j v)) (of_known e (i + 1) ks p)
-dot-filled e p i j text v (None ∷ ks) same long =
+dot-filled e p i j bytes v (None ∷ ks) same long =
     let one_more : suc j ≡ j + 1 = omega arith in
     let next : drop j v ≡ slice_index v j ∷ drop (j + 1) v = drop-cons v j 0 (omega (arith, long)) ∙ ap (λ n. slice_index v j ∷ drop n v) one_more in
-    ap₂ bit_xor (ap (mul (coefficient e i)) (same j)) (dot-filled e p (i + 1) (j + 1) text v ks same (omega (arith, long)))
+    ap₂ bit_xor (ap (mul (coefficient e i)) (same j)) (dot-filled e p (i + 1) (j + 1) bytes v ks same (omega (arith, long)))
     ∙ sym (xor_assoc (mul (coefficient e i) (slice_index v j)) (dot (coefficients (lost_from (i + 1) ks) e) (drop (j + 1) v)) (of_known e (i + 1) ks p))
     ∙ ap (λ w. bit_xor (dot (coefficients (lost_from i (None ∷ ks)) e) w) (of_known e (i + 1) ks p)) (sym next)
 
@@ -323,15 +323,15 @@ contained [] q h = absurd (false≢true h)
 contained (x ∷ xs) q h =
     by_either (or_cases (x == q) (list_any (λ y. y == q) xs) h) (λ here. (0, omega arith, eqb-true x q here)) (λ there. contained_later x xs q (contained xs q there))
 
--- a recovery slice is spelled by its words
-as_spelled : (s : ℕ) (texts : List (List ℕ)) (e : ℕ) → recovery s texts e ≡ spelled (λ p. dot (whole_row (length texts) e) (map (word p) texts)) 0 (s / 2)
-as_spelled s texts e = unfold recovery combination in refl
+-- a recovery slice is determined by its words
+as_spelled : (s : ℕ) (buffers : List (List ℕ)) (e : ℕ) → recovery s buffers e ≡ spelled (λ p. dot (whole_row (length buffers) e) (map (word p) buffers)) 0 (s / 2)
+as_spelled s buffers e = unfold recovery combination in refl
 
 pub agreeing_exist : SomeSlicesAgree
-agreeing_exist s m known rs text survive =
+agreeing_exist s m known rs content survive =
     let es : List ℕ = map (λ r. r.0) rs in
-    let goal : ℕ → ℕ → ℕ = λ p e. bit_xor (word p (text e)) (of_known e 0 known p) in
-    let small : (p e : ℕ) → goal p e < 2 ^ 16 = λ p e. xor_lt 16 _ _ (word-lt (text e) p (byte_at (text e) (survive.bytes e))) (of_known-lt e 0 known p survive.known_bytes) in
+    let goal : ℕ → ℕ → ℕ = λ p e. bit_xor (word p (content e)) (of_known e 0 known p) in
+    let small : (p e : ℕ) → goal p e < 2 ^ 16 = λ p e. xor_lt 16 _ _ (word-lt (content e) p (byte_at (content e) (survive.bytes e))) (of_known-lt e 0 known p survive.known_bytes) in
     let at : (p : ℕ) → IsSolved (lost known) es (goal p) m = λ p. solved (lost known) es (goal p) (small p) m in
     let element : (j p : ℕ) → slice_index (at p).vector j < 2 ^ 16 = λ j p. element_at (at p).vector j (at p).is_vector.1 in
     let made : ℕ → List ℕ = λ j. spelled (λ p. slice_index (at p).vector j) 0 (s / 2) in
@@ -339,8 +339,8 @@ agreeing_exist s m known rs text survive =
     let whole : 2 * (s / 2) ≡ s = (let even = survive.even in omega (arith, even)) in
     let sizes : AllByRecursion (λ y. length y ≡ s) slices =
     all-filled (λ y. length y ≡ s) made (λ j. length-spelled (λ p. slice_index (at p).vector j) 0 (s / 2) ∙ whole) 0 known survive.known_sizes in
-    let bytes : AreTexts slices = all-filled AreBytes made (λ j. bytes-spelled (λ p. slice_index (at p).vector j) 0 (s / 2)) 0 known survive.known_bytes in
-    let recovers : (r : ℕ × List ℕ) → r.0 < m → length r.1 ≡ s → text r.0 ≡ r.1 → Contains (kept (lost known) es) r.0 → recovery s slices r.0 ≡ r.1 = (λ r low size is_text is_kept.
+    let bytes : AreBuffers slices = all-filled AreBytes made (λ j. bytes-spelled (λ p. slice_index (at p).vector j) 0 (s / 2)) 0 known survive.known_bytes in
+    let recovers : (r : ℕ × List ℕ) → r.0 < m → length r.1 ≡ s → content r.0 ≡ r.1 → Contains (kept (lost known) es) r.0 → recovery s slices r.0 ≡ r.1 = (λ r low size is_bytes is_kept.
     let dots : ℕ → ℕ = λ p. dot (whole_row (length slices) r.0) (map (word p) slices) in
     let dots_small : (p : ℕ) → dots p < 2 ^ 16 =
     λ p. dot-lt (whole_row (length slices) r.0) (map (word p) slices) (coefficients_are r.0 (range_with_len 0 (length slices))) (words_are p slices bytes) in
@@ -350,10 +350,10 @@ agreeing_exist s m known rs text survive =
     ap (λ n. dot (whole_row n r.0) (map (word p) slices)) (length-filled made 0 known)
     ∙ dot-filled r.0 p 0 0 made (at p).vector known (λ j. word_of (λ q. slice_index (at q).vector j) (element j) (s / 2) p lt) (let e = (at p).is_vector.0 in omega (arith, e))
     ∙ ap (λ t. bit_xor t (of_known r.0 0 known p)) ((at p).gives r.0 low is_kept)
-    ∙ xor_assoc (word p (text r.0)) (of_known r.0 0 known p) (of_known r.0 0 known p)
-    ∙ ap (bit_xor (word p (text r.0))) (xor_self (of_known r.0 0 known p)) ∙ xor_zero_r (word p (text r.0)) ∙ ap (word p) is_text) in
+    ∙ xor_assoc (word p (content r.0)) (of_known r.0 0 known p) (of_known r.0 0 known p)
+    ∙ ap (bit_xor (word p (content r.0))) (xor_self (of_known r.0 0 known p)) ∙ xor_zero_r (word p (content r.0)) ∙ ap (word p) is_bytes) in
     same_words s (recovery s slices r.0) r.1 survive.even (is_spelled ∙ length-spelled dots 0 (s / 2) ∙ whole) size (subst AreBytes (sym spelling) (bytes-spelled dots 0 (s / 2)))
-    (subst AreBytes is_text (survive.bytes r.0))
+    (subst AreBytes is_bytes (survive.bytes r.0))
     (λ p lt. ap (word p) spelling ∙ word_of dots dots_small (s / 2) p lt ∙ of_word p lt)) in (
       slices,
       record {
@@ -364,13 +364,13 @@ agreeing_exist s m known rs text survive =
       },
     )
 
--- what all exponents kill, the kept ones kill
+-- a vector that all exponents kill is killed by the kept ones
 kills_kept : (P : ℕ → Type 0) (p : ℕ × List ℕ → Bool) (rs : List (ℕ × List ℕ)) → AllByRecursion P (map (λ r. r.0) rs) → AllByRecursion P (map (λ r. r.0) (filter p rs))
 kills_kept P p rs h = all-map (λ r. P r.0) P (λ r. r.0) (λ r k. k) (filter p rs) (all-filter (λ r. P r.0) p rs (all_unmap P (λ r. r.0) rs h))
 
 pub two_agree : TwoListsAgree
-two_agree s m known rs text survive some unrepairable =
-    let one = agreeing_exist s m known rs text survive in (
+two_agree s m known rs bytes survive some unrepairable =
+    let one = agreeing_exist s m known rs bytes survive in (
       one.0,
       one.1,
       another_agrees s known (kept_slices (lost known) (map (λ r. r.0) rs) rs) one.0 some

@@ -2,7 +2,7 @@
 use Rattle.par2_spec.proofs.Common.{ℕ, zero, suc, ◌+◌, ◌*◌, ◌/◌, ◌%◌, ◌^◌, ◌<◌, ◌≡◌, ◌⊎◌, inl, inr, refl, sym, ap, ap₂, ◌∙◌, subst, Bool, true, eqb, ◌&&◌, arith, add-zero, zero-mul, one-mul, pow_pos, pow-suc, mod-lt, div-lt_iff_lt-mul, mul_comm, div-add-mod, xor_comm, xor_block, bit_at_xor, eqb-true, and_parts, cases_eq, bit_at, xor_assoc, xor_self, xor_zero_r, xor_shifted, bit_xor}
 use Rattle.par2_spec.proofs.TestLaws.{by_either}
 
--- f takes an exclusive or to the exclusive or of its values
+-- f maps an exclusive or to the exclusive or of its values
 pub record IsLinear (f : ℕ → ℕ) : Type 0 where
   pub on_xor : (x y : ℕ) → f (bit_xor x y) ≡ bit_xor (f x) (f y)
 
@@ -38,7 +38,7 @@ bit_xor_times x y i v =
           (λ f. rw f (zero-mul v ∙ sym (xor_self (1 * v)))))
     ]
 
--- What holds of 0, of each power of 2 below 2 ^ n, and of the exclusive or of two numbers of which it holds, holds below 2 ^ n.
+-- A property of 0 and of each power of 2 below 2 ^ n that exclusive or preserves holds for all numbers below 2 ^ n.
 pub bits_ind : (P : ℕ → Type 0) → P 0 → ((x y : ℕ) → P x → P y → P (bit_xor x y)) → (n : ℕ) → ((i : ℕ) → i < n → P (2 ^ i)) → (x : ℕ) → x < 2 ^ n → P x
 bits_ind P none more zero ones x h = let e : x ≡ 0 = omega arith in subst P (sym e) none
 bits_ind P none more (suc n) ones x h =

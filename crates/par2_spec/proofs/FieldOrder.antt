@@ -1,11 +1,11 @@
--- 2 has the order 65535, and each element but 0 is a power of 2 and has one inverse.
+-- 2 has order 65,535, so each element but 0 is a power of 2 and has one inverse.
 use Rattle.par2_spec.proofs.Common.{eqb-false, eqb-true, ne_eqb, or_cases, cases_eq, false≢true, not-true, and_parts, ℕ, zero, suc, ◌<◌, ◌≤◌, ◌≡◌, ◌⊎◌, inl, inr, refl, sym, ap, ◌∙◌, true, false, eqb, arith, List, [], ◌∷◌, length, ◌+◌, ◌-◌, ◌*◌, ◌^◌, ap₂, Bool, ◌&&◌, not, suc-add, zero-add, list_any, AllByRecursion, IsDistinct, bit_at, modulus, mul, pow, bit_xor}
 use Rattle.std.proofs.lemmas.Map.Steps.{length-le_from_distinct_below}
 use Rattle.par2_spec.proofs.FieldBits.{IsLinear, xor_middle, xor_shl, bit_xor_times, linear_same_tested, linear-zero, tested}
 use Rattle.par2_spec.proofs.FieldProducts.{product-lt, product_comm, product-one, product_assoc, product_linear_left, product_linear_right}
 use Rattle.par2_spec.proofs.TestLaws.{by_either}
 
--- ---- an injective function from the numbers below n to the numbers below n takes each of them as a value
+-- ---- an injective function from the numbers below n to the numbers below n is surjective (pigeonhole principle)
 
 values : (ℕ → ℕ) → ℕ → List ℕ
 values f zero = []
@@ -101,7 +101,7 @@ walk_power (suc n) x h =
 walk_one : (n : ℕ) → walk n 1 ≡ pow 2 n
 walk_one n = walk_power n 1 (omega arith) ∙ product-one (pow 2 n) (power-lt 2 n (omega arith))
 
--- whether none of the next n doublings is 1, but the one after them
+-- whether doubling n + 1 gives 1 and none of the n before it does
 comes_round : ℕ → ℕ → Bool → Bool
 comes_round zero x so_far = so_far && eqb (double x) 1
 comes_round (suc n) x so_far = let y = double x in comes_round n y (so_far && not (eqb y 1))
@@ -121,7 +121,7 @@ comes_round_at (suc n) x so_far e =
     at y first later zero h = eqb-false y 1 first
     at y first later (suc k) h = later k (omega arith)
 
--- the computation: 65535 doublings lead from 1 to 1, and no fewer do
+-- by computation: 65,535 doublings lead from 1 to 1, and no fewer do
 test_order : comes_round 65534 1 true ≡ true
 unfolding comes_round double
 test_order = refl
@@ -154,7 +154,7 @@ power-injective i j h k e =
     power-sooner (i + (65535 - j)) (omega arith) (omega arith)
     (power-add 2 i (65535 - j) (omega arith) ∙ ap (λ v. mul v (pow 2 (65535 - j))) e ∙ power-whole j (65535 - j) (omega arith))
 
--- 0, and then the powers of 2
+-- 0, then the powers of 2
 element : ℕ → ℕ
 element zero = 0
 element (suc i) = pow 2 i
@@ -184,7 +184,7 @@ has_inverse a z h =
       ),
     )
 
--- a product with an element that has an inverse can be undone
+-- a factor that has an inverse can be cancelled
 pub cancel : (a b c : ℕ) → 0 < a → a < 65536 → b < 65536 → c < 65536 → mul a b ≡ mul a c → b ≡ c
 cancel a b c z ha hb hc e =
     let i = has_inverse a z ha in

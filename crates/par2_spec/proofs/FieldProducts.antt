@@ -31,7 +31,7 @@ pub product_linear_left : (b : ℕ) → IsLinear (λ a. mul a b)
 unfolding mul
 product_linear_left b = record { on_xor = λ x y. ap (λ v. remainder v 15) (product-left 16 b x y) ∙ remainder-xor 15 (product x b 16) (product y b 16) }
 
--- each of these is a computation over the powers of 2 alone
+-- each of these is computed for the powers of 2 only
 test_comm : tested (λ i. tested (λ j. eqb (mul (2 ^ i) (2 ^ j)) (mul (2 ^ j) (2 ^ i))) 16) 16 ≡ true
 unfolding mul
 test_comm = refl

@@ -1,4 +1,4 @@
--- A doubling as a shift of sixteen bits, and powers of powers.
+-- Doubling as a 16-bit shift, and powers of powers.
 use Rattle.par2_spec.proofs.Common.{ℕ, zero, suc, ◌+◌, ◌*◌, ◌%◌, ◌^◌, ◌<◌, ◌≤◌, ◌≡◌, refl, sym, ap, ◌∙◌, arith, zero-mul, mul_comm, zero-add, xor_block, bit_at, xor_zero_r, modulus, mul, pow, bit_xor}
 use Rattle.par2_spec.proofs.Basics.{product-one, power-add, power-65535, logarithm}
 use Rattle.par2_spec.proofs.FieldOrder.{double}

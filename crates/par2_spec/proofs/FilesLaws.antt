@@ -1,12 +1,12 @@
 -- A repair leaves each of the files that a set was made from.
-use Rattle.par2_spec.proofs.Common.{◌≡◌, ℕ, zero, suc, ◌+◌, ◌*◌, ◌%◌, ◌<◌, ◌≤◌, List, [], ◌∷◌, ◌++◌, length, map, refl, sym, ap, ◌∙◌, subst, cond, true, false, Bool, not, arith, filter, find, zip, Option, Some, None, option_to_list, range_with_len, list_all, AllByRecursion, ForSome, bytes_eq, and_parts, and_from, or_from, or_cases, or_left, or_right, eqb-true, false_from_ne_true, false≢true, not-false, cases_eq, not-true, not-not, md5, pair_of, slice_at, slices, window, windows, is_match, IsRepairable, is_among, Folder, File, has, bytes_of, names, all_slices, record_of, ParSet, Target, target_of_file, MadeFrom, is_slice_size, is_intact, is_needing, needing, intact_names, known, lost, survivors, NoCollision, matches, aside, put_aside, names_without_match, files_of_slices, after_repair, after_repair_and_purge, par_files, rebuilt_targets, files_of}
+use Rattle.par2_spec.proofs.Common.{◌≡◌, ℕ, zero, suc, ◌+◌, ◌*◌, ◌%◌, ◌<◌, ◌≤◌, List, [], ◌∷◌, ◌++◌, length, map, refl, sym, ap, ◌∙◌, subst, cond, true, false, Bool, not, arith, filter, find, zip, Option, Some, None, option_to_list, range_with_len, list_all, AllByRecursion, ForSome, bytes_eq, and_parts, and_from, or_from, or_cases, or_left, or_right, eqb-true, false_from_ne_true, false≢true, not-false, cases_eq, not-true, not-not, md5, pair_of, slice_at, slices, window, windows, is_match, IsRepairable, is_among, Folder, File, has, bytes_of, names, all_slices, record_of, ParSet, Target, target_of_file, MadeFrom, is_slice_size, is_intact, is_incomplete, incomplete, intact_names, known, lost, survivors, NoCollision, matches, aside, put_aside, names_without_match, files_of_slices, after_repair, after_repair_and_purge, par_files, rebuilt_targets, files_of}
 use Rattle.std.specs.FinMap as map_of
 use Rattle.par2_spec.proofs.Basics.{same_name, itself, clash, among-filter, among-append, apart_by_test, slice_begins, all-filter, all_by_test, all_weaker, pairs_with, found_passes, sound_of, size_positive, size_parts, by_either, some_if, all-parts, all-both, all_unmap, filter-map}
 use Rattle.par2_spec.proofs.MovesLaws.{get_without}
 use Rattle.par2_spec.proofs.RepairLaws.{Fits, match_free, matched_ones, written_ones, other_ones, target_no_aside}
-use Rattle.par2_spec.proofs.RestoredLaws.{IsTold, same_slices, true_slices_rebuilt, true_files}
+use Rattle.par2_spec.proofs.RestoredLaws.{IsRunResult, same_slices, true_slices_rebuilt, true_files}
 
--- ---- bytes that are intact for a file are the file's
+-- ---- bytes that are intact for a file are its bytes
 
 at_range : {A : Type 0} (P : A → Type 0) (f : ℕ → A) (a n o : ℕ) → AllByRecursion P (map f (range_with_len a n)) → a ≤ o → o < a + n → P (f o)
 at_range P f a zero o h low high = absurd (omega (arith, low, high))
@@ -19,30 +19,30 @@ at_name P [] q h i = absurd (false≢true i)
 at_name P (x ∷ names) q h i =
     by_either (or_cases (bytes_eq q x) (is_among names q) i) (λ here. subst P (sym (same_name q x here)) h.0) (λ there. at_name P names q h.1 there)
 
-matched_slices : (s : ℕ) (bytes text : List ℕ) (a k : ℕ) → ((j : ℕ) → j < a + k → j * s < length bytes)
-    → AllByRecursion (λ x. AllByRecursion (λ w. is_match (pair_of x) w ≡ true → w ≡ x) (windows s bytes)) (map (slice_at s text) (range_with_len a k))
-    → list_all (λ z. is_match z.0 z.1) (zip (map pair_of (map (slice_at s text) (range_with_len a k))) (map (slice_at s bytes) (range_with_len a k))) ≡ true
-    → map (slice_at s bytes) (range_with_len a k) ≡ map (slice_at s text) (range_with_len a k)
-matched_slices s bytes text a zero begins told h = refl
-matched_slices s bytes text a (suc k) begins told h =
-    let x = slice_at s text a in
-    let r = and_parts (is_match (pair_of x) (slice_at s bytes a)) (list_all (λ z. is_match z.0 z.1) (zip (map pair_of (map (slice_at s text) (range_with_len (a + 1) k))) (map (slice_at s bytes) (range_with_len (a + 1) k)))) h in
+matched_slices : (s : ℕ) (bytes content : List ℕ) (a k : ℕ) → ((j : ℕ) → j < a + k → j * s < length bytes)
+    → AllByRecursion (λ x. AllByRecursion (λ w. is_match (pair_of x) w ≡ true → w ≡ x) (windows s bytes)) (map (slice_at s content) (range_with_len a k))
+    → list_all (λ z. is_match z.0 z.1) (zip (map pair_of (map (slice_at s content) (range_with_len a k))) (map (slice_at s bytes) (range_with_len a k))) ≡ true
+    → map (slice_at s bytes) (range_with_len a k) ≡ map (slice_at s content) (range_with_len a k)
+matched_slices s bytes content a zero begins reported h = refl
+matched_slices s bytes content a (suc k) begins reported h =
+    let x = slice_at s content a in
+    let r = and_parts (is_match (pair_of x) (slice_at s bytes a)) (list_all (λ z. is_match z.0 z.1) (zip (map pair_of (map (slice_at s content) (range_with_len (a + 1) k))) (map (slice_at s bytes) (range_with_len (a + 1) k)))) h in
     let inside : a * s < length bytes = begins a (omega arith) in
-    let same : slice_at s bytes a ≡ x = at_range (λ w. is_match (pair_of x) w ≡ true → w ≡ x) (window s bytes) 0 (length bytes) (a * s) told.0 (omega arith) (omega (arith, inside)) r.0 in
+    let same : slice_at s bytes a ≡ x = at_range (λ w. is_match (pair_of x) w ≡ true → w ≡ x) (window s bytes) 0 (length bytes) (a * s) reported.0 (omega arith) (omega (arith, inside)) r.0 in
     ap (λ y. y ∷ map (slice_at s bytes) (range_with_len (a + 1) k)) same
-    ∙ ap (λ ys. x ∷ ys) (matched_slices s bytes text (a + 1) k (λ j l. begins j (omega (arith, l))) told.1 r.1)
+    ∙ ap (λ ys. x ∷ ys) (matched_slices s bytes content (a + 1) k (λ j l. begins j (omega (arith, l))) reported.1 r.1)
 
--- the file is the only text that is intact for it among the searched ones
+-- the file's bytes are the only ones among the searched files that are intact for it
 abbrev IsExact : Folder → ℕ → List (List ℕ) → File → Type 0
 IsExact folder s searched file = (name : List ℕ) → is_among searched name ≡ true → is_intact s (target_of_file s file) (bytes_of folder name) ≡ true → bytes_of folder name ≡ file.1
 
-exact_file : (folder : Folder) (s : ℕ) (searched : List (List ℕ)) (file : File) → 0 < s → AllByRecursion (IsTold folder searched s) (slices s file.1) → IsExact folder s searched file
-exact_file folder s searched file positive told name i h = unfold record_of in grind (arith, and_parts, eqb-true, all_weaker, at_name, same_slices, matched_slices, slice_begins)
+exact_file : (folder : Folder) (s : ℕ) (searched : List (List ℕ)) (file : File) → 0 < s → AllByRecursion (IsRunResult folder searched s) (slices s file.1) → IsExact folder s searched file
+exact_file folder s searched file positive reported name i h = unfold record_of in grind (arith, and_parts, eqb-true, all_weaker, at_name, same_slices, matched_slices, slice_begins)
 
 exact_files : (folder : Folder) (s : ℕ) (searched : List (List ℕ)) (files : List File) → 0 < s → NoCollision folder searched s (all_slices s files) → AllByRecursion (IsExact folder s searched) files
-exact_files folder s searched [] positive told = tt
-exact_files folder s searched (file ∷ files) positive told =
-    let r = all-parts (IsTold folder searched s) (slices s file.1) (all_slices s files) told in
+exact_files folder s searched [] positive reported = tt
+exact_files folder s searched (file ∷ files) positive reported =
+    let r = all-parts (IsRunResult folder searched s) (slices s file.1) (all_slices s files) reported in
     (exact_file folder s searched file positive r.0, exact_files folder s searched files positive r.1)
 
 -- ---- file by file
@@ -51,19 +51,19 @@ exact_files folder s searched (file ∷ files) positive told =
 abbrev pub Holds : Folder → File → Type 0
 Holds folder file = map_of.get folder file.0 ≡ Some file.1
 
-needing_hold : (folder after : Folder) (s : ℕ) (searched free : List (List ℕ)) (files : List File) (is_written : List ℕ → Bool)
+incomplete_hold : (folder after : Folder) (s : ℕ) (searched free : List (List ℕ)) (files : List File) (is_written : List ℕ → Bool)
     → ((q : List ℕ) → is_among free q ≡ true → is_among searched q ≡ true)
     → ((q : List ℕ) → is_among (names_without_match (pairs_with folder s free (map (target_of_file s) files))) q ≡ true → is_written q ≡ true)
     → AllByRecursion (λ file. is_written file.0 ≡ true → Holds after file) files → AllByRecursion (IsExact folder s searched) files
     → AllByRecursion (λ m. ForSome m.1 (λ name. map_of.get after m.0.name ≡ Some (bytes_of folder name))) (pairs_with folder s free (map (target_of_file s) files))
     → AllByRecursion (Holds after) files
 unfolding record_of
-needing_hold folder after s searched free [] is_written within written by_slices exact by_match = tt
-needing_hold folder after s searched free (file ∷ files) is_written within written by_slices exact by_match =
+incomplete_hold folder after s searched free [] is_written within written by_slices exact by_match = tt
+incomplete_hold folder after s searched free (file ∷ files) is_written within written by_slices exact by_match =
     let p = (λ (name : List ℕ). is_intact s (target_of_file s file) (bytes_of folder name)) in
     let later = filter (λ name. not (is_among (option_to_list (find p free)) name)) free in (
       head (find p free) (found_passes p free) (written file.0) by_match.0,
-      needing_hold folder after s searched later files is_written
+      incomplete_hold folder after s searched later files is_written
           (λ q h. within q (and_parts _ _ (sym (among-filter (λ name. not (is_among (option_to_list (find p free)) name)) free q) ∙ h)).0)
           (λ q h. written q (tail (find p free) (pairs_with folder s later (map (target_of_file s) files)) q h))
           by_slices.1 exact.1 by_match.1,
@@ -78,7 +78,7 @@ needing_hold folder after s searched free (file ∷ files) is_written within wri
     tail : (o : Option (List ℕ)) (ms : List (Target × Option (List ℕ))) (q : List ℕ) → is_among (names_without_match ms) q ≡ true → is_among (names_without_match ((target_of_file s file, o) ∷ ms)) q ≡ true
     tail o ms q h = grind arith
 
--- those that a test chooses, written from slices
+-- the files that a test selects, written from slices
 written_files : (after : Folder) (s : ℕ) (test : List ℕ → Bool) (files : List File) → AllByRecursion (λ c. map_of.get after c.0.name ≡ Some c.1) (filter (λ c. test c.0.name) (map (λ (file : File). let c : Target × List ℕ = (target_of_file s file, file.1) in c) files))
     → AllByRecursion (λ file. test file.0 ≡ true → Holds after file) files
 unfolding record_of
@@ -95,7 +95,7 @@ chosen_names : {A : Type 0} (name : A → List ℕ) (p : A → Bool) (xs : List 
 chosen_names name p [] = tt
 chosen_names {A = A} name p (x ∷ xs) = grind (arith, or_left, itself, all_weaker, or_right, chosen_names name p xs)
 
--- the names of files are those by which they were taken
+-- files that are read by their names have those names
 pub names_of_files : (folder : Folder) (names : List (List ℕ)) → map (λ file. file.0) (files_of folder names) ≡ names
 names_of_files folder [] = refl
 names_of_files folder (name ∷ names) = ap (λ ns. name ∷ ns) (names_of_files folder names)
@@ -113,24 +113,24 @@ module _ (folder : Folder) (base : List ℕ) (files : List File) (s : ℕ) (sear
   targets = map (λ t. t.name) m.set.targets
 
   abbrev IsWanted : File → Bool
-  IsWanted file = is_needing folder m.set (target_of_file s file)
+  IsWanted file = is_incomplete folder m.set (target_of_file s file)
 
   abbrev free : List (List ℕ)
   free = filter (λ name. not (is_among (intact_names folder m.set) name)) searched
 
-  -- each target's name is one, and an intact one's is an intact one's
+  -- a target's name is among the targets' names and, if the target is intact, among the intact ones'
   abbrev IsNamed : Target → Type 0
-  IsNamed t = (is_among (map (λ u. u.name) m.set.targets) t.name ≡ true) × (not (is_needing folder m.set t) ≡ true → is_among (intact_names folder m.set) t.name ≡ true)
+  IsNamed t = (is_among (map (λ u. u.name) m.set.targets) t.name ≡ true) × (not (is_incomplete folder m.set t) ≡ true → is_among (intact_names folder m.set) t.name ≡ true)
 
   named : AllByRecursion (λ file. IsNamed (target_of_file s file)) files
   named =
       all_unmap IsNamed (target_of_file s) files (subst (AllByRecursion IsNamed) m.targets
-      (all-both (λ t. is_among targets t.name ≡ true) (λ t. not (is_needing folder m.set t) ≡ true → is_among (intact_names folder m.set) t.name ≡ true) IsNamed (λ t own intact. (own, intact)) m.set.targets (all_names (λ t. t.name) m.set.targets) (chosen_names (λ t. t.name) (λ t. not (is_needing folder m.set t)) m.set.targets)))
+      (all-both (λ t. is_among targets t.name ≡ true) (λ t. not (is_incomplete folder m.set t) ≡ true → is_among (intact_names folder m.set) t.name ≡ true) IsNamed (λ t own intact. (own, intact)) m.set.targets (all_names (λ t. t.name) m.set.targets) (chosen_names (λ t. t.name) (λ t. not (is_incomplete folder m.set t)) m.set.targets)))
 
   untouched : (q : List ℕ) → is_among targets q ≡ true → is_among (intact_names folder m.set) q ≡ true → map_of.get after q ≡ map_of.get folder q
   untouched q own intact =
       other_ones folder m.set searched all q
-      (apart_by_test (λ t. t.name) (λ t. not (is_needing folder m.set t)) (is_needing folder m.set) (λ t. sym (not-not (is_needing folder m.set t))) m.set.targets all.once q intact)
+      (apart_by_test (λ t. t.name) (λ t. not (is_incomplete folder m.set t)) (is_incomplete folder m.set) (λ t. sym (not-not (is_incomplete folder m.set t))) m.set.targets all.once q intact)
       (false_from_ne_true _ (λ i. clash intact (not-true _ (match_free folder m.set searched all q i).1)))
       (target_no_aside folder m.set searched all (put_aside folder m.set) q own)
 
@@ -140,31 +140,31 @@ module _ (folder : Folder) (base : List ℕ) (files : List File) (s : ℕ) (sear
   intact_hold present [] n x = tt
   intact_hold present (file ∷ fs) n x = grind (arith, and_parts, not-false, untouched, some_if, intact_hold present fs n.1 x.1)
 
-  -- each file stands there
+  -- each file is there
   pub repaired_files : ((q : List ℕ) → is_among (map (λ t. t.name) m.set.targets) q ≡ true → has folder q ≡ true → is_among searched q ≡ true) → 0 < s → s % 2 ≡ 0 → NoCollision folder searched s (all_slices s files)
       → AllByRecursion (λ file. AllByRecursion (λ b. b < 256) file.1) files → IsRepairable (lost (known folder m.set searched)) (survivors m.set) → AllByRecursion (Holds (after_repair folder m.set searched)) files
-  repaired_files present positive even told bytes repairable = unfold matches rebuilt_targets in
-      let exact = exact_files folder s searched files positive told in
+  repaired_files present positive even reported bytes repairable = unfold matches rebuilt_targets in
+      let exact = exact_files folder s searched files positive reported in
       let test = is_among (names_without_match (matches folder m.set searched)) in
       let wanted = filter IsWanted files in
-      let needed : needing folder m.set ≡ map (target_of_file s) wanted = ap (filter (is_needing folder m.set)) m.targets ∙ filter-map (is_needing folder m.set) (target_of_file s) files in
+      let needed : incomplete folder m.set ≡ map (target_of_file s) wanted = ap (filter (is_incomplete folder m.set)) m.targets ∙ filter-map (is_incomplete folder m.set) (target_of_file s) files in
       let pairs : matches folder m.set searched ≡ pairs_with folder s free (map (target_of_file s) wanted) = ap (λ ts. pairs_with folder m.set.slice_size free ts) needed ∙ ap (λ n. pairs_with folder n free (map (target_of_file s) wanted)) m.slice_size in
-      let cut = ap (files_of_slices m.set) (true_slices_rebuilt folder base files s searched m even told bytes repairable) ∙ true_files folder base files s m positive in
+      let cut = ap (files_of_slices m.set) (true_slices_rebuilt folder base files s searched m even reported bytes repairable) ∙ true_files folder base files s m positive in
       let by_slices = written_files after s test files (subst (λ cs. AllByRecursion (λ c. map_of.get after c.0.name ≡ Some c.1) (filter (λ c. test c.0.name) cs)) cut (written_ones folder m.set searched all)) in
       all_by_test (Holds after) IsWanted files (intact_hold present files named exact)
-      (needing_hold folder after s searched free wanted test
+      (incomplete_hold folder after s searched free wanted test
       (λ q h. (and_parts _ _ (sym (among-filter (λ name. not (is_among (intact_names folder m.set) name)) searched q) ∙ h)).0)
       (λ q h. ap (λ ms. is_among (names_without_match ms) q) pairs ∙ h)
       (all-filter (λ file. test file.0 ≡ true → Holds after file) IsWanted files by_slices)
       (all-filter (IsExact folder s searched) IsWanted files exact)
       (subst (AllByRecursion (λ n. ForSome n.1 (λ name. map_of.get after n.0.name ≡ Some (bytes_of folder name)))) pairs (matched_ones folder m.set searched all)))
 
-  -- with their digests
+  -- the files have their MD5s
   pub right_digests : 0 < s → s % 2 ≡ 0 → NoCollision folder searched s (all_slices s files) → AllByRecursion (λ file. AllByRecursion (λ b. b < 256) file.1) files → IsRepairable (lost (known folder m.set searched)) (survivors m.set)
       → list_all (λ c. bytes_eq (md5 c.1) c.0.md5) (rebuilt_targets folder m.set searched) ≡ true
   unfolding rebuilt_targets record_of
-  right_digests positive even told bytes repairable =
-      let cut = ap (files_of_slices m.set) (true_slices_rebuilt folder base files s searched m even told bytes repairable) ∙ true_files folder base files s m positive in
+  right_digests positive even reported bytes repairable =
+      let cut = ap (files_of_slices m.set) (true_slices_rebuilt folder base files s searched m even reported bytes repairable) ∙ true_files folder base files s m positive in
       ap (λ cs. list_all is_right (filter (λ c. is_among (names_without_match (matches folder m.set searched)) c.0.name) cs)) cut ∙ some_right (λ c. is_among (names_without_match (matches folder m.set searched)) c.0.name) files
     where
       is_right : Target × List ℕ → Bool
@@ -193,12 +193,12 @@ module _ (folder : Folder) (base : List ℕ) (files : List File) (s : ℕ) (sear
   pub purged_files : AllByRecursion (Holds (after_repair folder m.set searched)) files → AllByRecursion (Holds (after_repair_and_purge folder m.set searched)) files
   purged_files h = all_stay files named h
 
--- ---- of a command
+-- ---- the command
 
 pub size_even : (s : ℕ) → is_slice_size s ≡ true → s % 2 ≡ 0
 size_even s h = let fours : s % 4 ≡ 0 = (size_parts s h).0 in omega (arith, fours)
 
--- what a set that was made from files gives for its slice size
+-- the slice size of a set that was made from files
 pub made_size : (folder : Folder) (base : List ℕ) (files : List File) (s : ℕ) (m : MadeFrom folder base files s) → (0 < s) × (s % 2 ≡ 0)
 made_size folder base files s m =
     let right = subst (λ n. is_slice_size n ≡ true) m.slice_size (sound_of folder base m.set m.reads).size in

@@ -1,13 +1,13 @@
--- A change and its inverse; changes in order and their way back; the same for a folder as it is kept.
+-- A change and its inverse; changes in order and their way back; the same for a folder in memory.
 use Rattle.par2_spec.proofs.Common.{◌≡◌, ℕ, ◌+◌, ◌<◌, ◌≤◌, List, [], ◌∷◌, ◌++◌, refl, sym, ap, subst, ◌∙◌, cond, true, Bool, not, ◌&&◌, IsTrue, append_assoc, append-nil, arith, unwrap_or, Some, None, Option, is_some, is_none, nat_lt, same_map, slice_cmp-IsAntisymmetric, nat_cmp-IsAntisymmetric, get-insert, get-remove, get_tied, nat_cmp, eq_by_cmp, is_eq, Ordering, Equal, eq_by_cmp_equiv, slice_cmp, nat_list_cmp_total, nat_tests, and_parts, and_from, Folder, has, bytes_of, Change, Write, Replace, Rename, Remove, FolderState, fault_unless, state_after, places_taken, effect, inverse, is_applicable, effects, way_back, are_applicable, change_refusal, takes_all, state_after_all, common_steps}
 use Rattle.std.specs.FinMap as map_of
 use Rattle.par2_spec.specs.declared.ChangeFault.TheVariants.{NameTaken, NoSuchName}
 use Rattle.par2_spec.specs.declared.ChangeFault.{ChangeFault}
 use Rattle.par2_spec.proofs.TestLaws.{none_from}
 
--- ---- what a changed folder has under a name
+-- ---- the file of a name in a changed folder
 
--- two folders that answer alike are equal
+-- two folders with the same file for each name are equal
 pub same_folder : (f g : Folder) → ((q : List ℕ) → map_of.get f q ≡ map_of.get g q) → f ≡ g
 same_folder f g is = same_map nat_list_cmp_total (slice_cmp-IsAntisymmetric nat_cmp-IsAntisymmetric) f g is
 
@@ -129,7 +129,7 @@ way_back_twice f (c ∷ cs) h =
     ∙ ap (λ d. d ∷ way_back end home) (inverse_twice f c)
     ∙ ap (λ l. c ∷ l) (way_back_twice (effect f c) cs rest)
 
--- ---- whether changes apply is a matter of the names alone
+-- ---- whether changes apply depends on the names only
 
 AreAlike : Folder → Folder → Type 0
 AreAlike f g = (q : List ℕ) → has f q ≡ has g q
@@ -152,7 +152,7 @@ alike_all f g (c ∷ cs) h = λ i. alike_applicable f g c h i && alike_all (effe
 pub applicable_by_names : (f g : Folder) (cs : List Change) → ((q : List ℕ) → has f q ≡ has g q) → are_applicable f cs ≡ are_applicable g cs
 applicable_by_names f g cs h = unfold AreAlike in alike_all f g cs h
 
--- ---- a kept folder
+-- ---- a folder in memory
 
 not_refused : (b : Bool) (x : ChangeFault) (o : Option ChangeFault) → fault_unless b x o ≡ None → IsTrue b × (o ≡ None)
 not_refused b x o h = grind arith
@@ -240,7 +240,7 @@ unfolding change_refusal state_after_all
 more_room_all s k [] h = (takes_none _, refl)
 more_room_all s k (c ∷ cs) h = grind (arith, common_steps, takes_first, takes_rest, takes_both, more_room_all (state_after s c) k cs (takes_rest s c cs h))
 
--- with places enough a kept folder takes changes that apply in order
+-- with enough vacant places a folder in memory takes changes that apply in order
 pub takes_applicable : (s : FolderState) (cs : List Change) → IsTrue (are_applicable s.files cs) → places_taken cs ≤ s.vacant → IsTrue (takes_all s cs)
 unfolding are_applicable change_refusal is_applicable
 takes_applicable s [] h room = takes_none s

@@ -1,5 +1,5 @@
 -- The slices of intact and of matched targets are found.
-use Rattle.par2_spec.proofs.Common.{◌≡◌, ℕ, zero, suc, ◌+◌, ◌*◌, ◌<◌, ◌≤◌, List, [], ◌∷◌, ◌++◌, length, map, refl, sym, ap, ◌∙◌, subst, cond, true, false, Bool, not, ◌&&◌, arith, filter, flat_map, find, zip, Option, Some, None, is_some, is_none, option_to_list, ◌==◌, div_ceil, list_any, list_all, range_with_len, enumerate_from, AllByRecursion, bytes_eq, map-append, and_parts, or_cases, or_left, or_right, eqb-true, false≢true, not-false, div_ceil_times, mul-le-mul_right, add-mul, Pair, window, windows, is_match, found, slice_count, is_among, Folder, bytes_of, has, ParSet, Target, is_intact, is_needing, needing, intact_names, lost, matches, known, names_without_match, slices_by_target, lost_of_unmatched, IsFound}
+use Rattle.par2_spec.proofs.Common.{◌≡◌, ℕ, zero, suc, ◌+◌, ◌*◌, ◌<◌, ◌≤◌, List, [], ◌∷◌, ◌++◌, length, map, refl, sym, ap, ◌∙◌, subst, cond, true, false, Bool, not, ◌&&◌, arith, filter, flat_map, find, zip, Option, Some, None, is_some, is_none, option_to_list, ◌==◌, div_ceil, list_any, list_all, range_with_len, enumerate_from, AllByRecursion, bytes_eq, map-append, and_parts, or_cases, or_left, or_right, eqb-true, false≢true, not-false, div_ceil_times, mul-le-mul_right, add-mul, Pair, window, windows, is_match, found, slice_count, is_among, Folder, bytes_of, has, ParSet, Target, is_intact, is_incomplete, incomplete, intact_names, lost, matches, known, names_without_match, slices_by_target, lost_of_unmatched, IsFound}
 use Rattle.par2_spec.proofs.NamesLaws.{same_name, itself, clash, among-filter}
 use Rattle.par2_spec.proofs.ListsLaws.{any-map, any-flat_map, in_range_some, map-cond, all-passing}
 use Rattle.par2_spec.proofs.SearchLaws.{found_passes, pairs_with}
@@ -9,11 +9,11 @@ is_some-find : {A : Type 0} (test : A → Bool) (xs : List A) → is_some (find 
 is_some-find test [] = refl
 is_some-find {A = A} test (x ∷ xs) = grind (arith, is_some-find test xs)
 
--- the slice of number j begins within the text
+-- slice j begins within the file
 pub slice_begins : (n s j : ℕ) → 0 < s → j < div_ceil n s → j * s < n
 slice_begins n s j positive h = grind (arith, div_ceil_times, mul-le-mul_right, add-mul)
 
--- the pairs that the slices match are matched by windows
+-- the checksums that the slices match are matched by windows
 abbrev Windowed : ℕ → List ℕ → List Pair → Type 0
 Windowed s bytes pairs = AllByRecursion (λ pair. list_any (is_match pair) (windows s bytes) ≡ true) pairs
 
@@ -28,7 +28,7 @@ slices_are_windows s bytes (pair ∷ pairs) a (suc k) short begins h =
       slices_are_windows s bytes pairs (a + 1) k (omega (arith, short)) (λ j l. begins j (omega (arith, l))) r.1,
     )
 
--- bytes that are intact for a target have each of its slices
+-- bytes that are intact for a target contain each of its slices
 pub intact_windowed : (s : ℕ) (t : Target) (bytes : List ℕ) → 0 < s → length t.pairs ≤ slice_count s t.length → is_intact s t bytes ≡ true → Windowed s bytes t.pairs
 intact_windowed s t bytes positive short h =
     let r = and_parts (length bytes == t.length) _ h in
@@ -46,21 +46,21 @@ pub windowed_found : (folder : Folder) (s : ℕ) (names : List (List ℕ)) (name
 windowed_found folder s names name [] h w = tt
 windowed_found folder s names name (pair ∷ pairs) h w = grind (arith, is_some-find, any-flat_map, any-map, any_at, windowed_found folder s names name pairs h w.1)
 
--- as many pairs as slices at most
+-- there are at most as many pairs as slices
 abbrev pub AreSized : ℕ → List Target → Type 0
 AreSized s ts = AllByRecursion (λ t. length t.pairs ≤ slice_count s t.length) ts
 
--- of needing targets those are found that have a match
-needing_found : (folder : Folder) (s : ℕ) (names free : List (List ℕ)) (ts : List Target) (is_lost : List ℕ → Bool) → 0 < s → AreSized s ts
+-- the slices of incomplete targets that have a match are found
+incomplete_found : (folder : Folder) (s : ℕ) (names free : List (List ℕ)) (ts : List Target) (is_lost : List ℕ → Bool) → 0 < s → AreSized s ts
     → ((q : List ℕ) → is_among free q ≡ true → is_among names q ≡ true)
     → ((q : List ℕ) → is_among (names_without_match (pairs_with folder s free ts)) q ≡ true → is_lost q ≡ true)
     → AllByRecursion (λ t. is_lost t.name ≡ false → IsFound folder s names t) ts
-needing_found folder s names free [] is_lost positive sized within lost_ones = tt
-needing_found folder s names free (t ∷ ts) is_lost positive sized within lost_ones =
+incomplete_found folder s names free [] is_lost positive sized within lost_ones = tt
+incomplete_found folder s names free (t ∷ ts) is_lost positive sized within lost_ones =
     let p = (λ (name : List ℕ). is_intact s t (bytes_of folder name)) in
     let later = filter (λ name. not (is_among (option_to_list (find p free)) name)) free in (
       head (find p free) (found_passes p free) (lost_ones t.name),
-      needing_found folder s names later ts is_lost positive sized.1
+      incomplete_found folder s names later ts is_lost positive sized.1
           (λ q h. within q (and_parts _ _ (sym (among-filter (λ name. not (is_among (option_to_list (find p free)) name)) free q) ∙ h)).0)
           (λ q h. lost_ones q (tail (find p free) (pairs_with folder s later ts) q h)),
     )
@@ -77,7 +77,7 @@ needing_found folder s names free (t ∷ ts) is_lost positive sized within lost_
 pub all-filter : {A : Type 0} (P : A → Type 0) (p : A → Bool) (xs : List A) → AllByRecursion P xs → AllByRecursion P (filter p xs)
 all-filter P p xs h = all-passing P P p (λ x k e. k) xs h
 
--- what holds of those that pass a test and of those that do not holds of all
+-- a property of the items that pass a test and of those that don't holds for all items
 pub all_by_test : {A : Type 0} (P : A → Type 0) (p : A → Bool) (xs : List A) → AllByRecursion (λ x. p x ≡ false → P x) xs → AllByRecursion P (filter p xs) → AllByRecursion P xs
 all_by_test P p [] out h = tt
 all_by_test {A = A} P p (x ∷ xs) out h =
@@ -87,7 +87,7 @@ all_by_test {A = A} P p (x ∷ xs) out h =
 
 pub intact_found : (folder : Folder) (set : ParSet) (names : List (List ℕ)) (ts : List Target) → 0 < set.slice_size → AreSized set.slice_size ts
     → ((q : List ℕ) → is_among (map (λ t. t.name) ts) q ≡ true → has folder q ≡ true → is_among names q ≡ true)
-    → AllByRecursion (λ t. is_needing folder set t ≡ false → IsFound folder set.slice_size names t) ts
+    → AllByRecursion (λ t. is_incomplete folder set t ≡ false → IsFound folder set.slice_size names t) ts
 intact_found folder set names [] positive sized searched = tt
 intact_found folder set names (t ∷ ts) positive sized searched = (
   λ e. let r = and_parts (has folder t.name) _ (not-false (has folder t.name && is_intact set.slice_size t (bytes_of folder t.name)) e) in
@@ -103,34 +103,34 @@ pub targets_found : (folder : Folder) (set : ParSet) (names : List (List ℕ)) �
 unfolding matches
 targets_found folder set names positive sized searched =
     let free = filter (λ name. not (is_among (intact_names folder set) name)) names in
-    let is_lost = is_among (names_without_match (pairs_with folder set.slice_size free (needing folder set))) in
-    all_by_test (λ t. is_lost t.name ≡ false → IsFound folder set.slice_size names t) (is_needing folder set) set.targets
+    let is_lost = is_among (names_without_match (pairs_with folder set.slice_size free (incomplete folder set))) in
+    all_by_test (λ t. is_lost t.name ≡ false → IsFound folder set.slice_size names t) (is_incomplete folder set) set.targets
     (weaker is_lost set.targets (intact_found folder set names set.targets positive sized searched))
-    (needing_found folder set.slice_size names free (needing folder set) is_lost positive (all-filter _ (is_needing folder set) set.targets sized)
+    (incomplete_found folder set.slice_size names free (incomplete folder set) is_lost positive (all-filter _ (is_incomplete folder set) set.targets sized)
     (λ q h. (and_parts _ _ (sym (among-filter (λ name. not (is_among (intact_names folder set) name)) names q) ∙ h)).0) (λ q h. h))
   where
-    weaker : (is_lost : List ℕ → Bool) (ts : List Target) → AllByRecursion (λ t. is_needing folder set t ≡ false → IsFound folder set.slice_size names t) ts
-        → AllByRecursion (λ t. is_needing folder set t ≡ false → is_lost t.name ≡ false → IsFound folder set.slice_size names t) ts
+    weaker : (is_lost : List ℕ → Bool) (ts : List Target) → AllByRecursion (λ t. is_incomplete folder set t ≡ false → IsFound folder set.slice_size names t) ts
+        → AllByRecursion (λ t. is_incomplete folder set t ≡ false → is_lost t.name ≡ false → IsFound folder set.slice_size names t) ts
     weaker is_lost [] h = tt
     weaker is_lost (t ∷ ts) h = (λ e _. h.0 e, weaker is_lost ts h.1)
 
 -- ---- the lost slices
 
-abbrev Told : List (Bool × Option (List ℕ)) → Type 0
-Told zs = AllByRecursion (λ z. z.0 ≡ false → is_some z.1 ≡ true) zs
+abbrev Reported : List (Bool × Option (List ℕ)) → Type 0
+Reported zs = AllByRecursion (λ z. z.0 ≡ false → is_some z.1 ≡ true) zs
 
-told-append : (xs ys : List (Bool × Option (List ℕ))) → Told xs → Told ys → Told (xs ++ ys)
-told-append [] ys h k = k
-told-append (x ∷ xs) ys h k = (h.0, told-append xs ys h.1 k)
+reported-append : (xs ys : List (Bool × Option (List ℕ))) → Reported xs → Reported ys → Reported (xs ++ ys)
+reported-append [] ys h k = k
+reported-append (x ∷ xs) ys h k = (h.0, reported-append xs ys h.1 k)
 
-told-map : (b : Bool) (f : Pair → Option (List ℕ)) (pairs : List Pair) → (b ≡ false → AllByRecursion (λ pair. is_some (f pair) ≡ true) pairs) → Told (map (λ pair. (b, f pair)) pairs)
-told-map b f [] h = tt
-told-map b f (pair ∷ pairs) h = (λ e. (h e).0, told-map b f pairs (λ e. (h e).1))
+reported-map : (b : Bool) (f : Pair → Option (List ℕ)) (pairs : List Pair) → (b ≡ false → AllByRecursion (λ pair. is_some (f pair) ≡ true) pairs) → Reported (map (λ pair. (b, f pair)) pairs)
+reported-map b f [] h = tt
+reported-map b f (pair ∷ pairs) h = (λ e. (h e).0, reported-map b f pairs (λ e. (h e).1))
 
-told_by_target : (is_lost : List ℕ → Bool) (f : Pair → Option (List ℕ)) (ts : List Target) → AllByRecursion (λ t. is_lost t.name ≡ false → AllByRecursion (λ pair. is_some (f pair) ≡ true) t.pairs) ts
-    → Told (flat_map (λ t. map (λ pair. (is_lost t.name, f pair)) t.pairs) ts)
-told_by_target is_lost f [] h = tt
-told_by_target is_lost f (t ∷ ts) h = told-append (map (λ pair. (is_lost t.name, f pair)) t.pairs) _ (told-map (is_lost t.name) f t.pairs h.0) (told_by_target is_lost f ts h.1)
+reported_by_target : (is_lost : List ℕ → Bool) (f : Pair → Option (List ℕ)) (ts : List Target) → AllByRecursion (λ t. is_lost t.name ≡ false → AllByRecursion (λ pair. is_some (f pair) ≡ true) t.pairs) ts
+    → Reported (flat_map (λ t. map (λ pair. (is_lost t.name, f pair)) t.pairs) ts)
+reported_by_target is_lost f [] h = tt
+reported_by_target is_lost f (t ∷ ts) h = reported-append (map (λ pair. (is_lost t.name, f pair)) t.pairs) _ (reported-map (is_lost t.name) f t.pairs h.0) (reported_by_target is_lost f ts h.1)
 
 abbrev second_of : Bool × Option (List ℕ) → Option (List ℕ)
 second_of z = z.1
@@ -146,11 +146,11 @@ found_by_target is_lost f (t ∷ ts) =
     ∙ ap (λ front. front ++ map second_of (flat_map (λ u. map (λ pair. (is_lost u.name, f pair)) u.pairs) ts)) (map_second (is_lost t.name) f t.pairs)
     ∙ ap (λ rest. map f t.pairs ++ rest) (found_by_target is_lost f ts) ∙ sym (map-append f t.pairs (flat_map (λ u. u.pairs) ts))
 
-lost_alike : (n : ℕ) (zs : List (Bool × Option (List ℕ))) → Told zs → map (λ z. z.0) (filter (λ z. is_none z.1) (enumerate_from n (map (λ z. z.1) zs))) ≡ map (λ z. z.0) (filter (λ z. z.1.0 && is_none z.1.1) (enumerate_from n zs))
+lost_alike : (n : ℕ) (zs : List (Bool × Option (List ℕ))) → Reported zs → map (λ z. z.0) (filter (λ z. is_none z.1) (enumerate_from n (map (λ z. z.1) zs))) ≡ map (λ z. z.0) (filter (λ z. z.1.0 && is_none z.1.1) (enumerate_from n zs))
 lost_alike n [] h = refl
 lost_alike n ((b, o) ∷ zs) h = grind (arith, map-cond, false≢true, lost_alike (n + 1) zs h.1)
 
--- the lost slices are those of the needing targets without a match that are not found
+-- the lost slices are those of the incomplete targets without a match that are not found
 pub lost_is : (folder : Folder) (set : ParSet) (names : List (List ℕ)) → 0 < set.slice_size → AreSized set.slice_size set.targets
     → ((q : List ℕ) → is_among (map (λ t. t.name) set.targets) q ≡ true → has folder q ≡ true → is_among names q ≡ true)
     → lost (known folder set names) ≡ lost_of_unmatched folder set names
@@ -158,4 +158,4 @@ lost_is folder set names positive sized searched = unfold known in
     let f = found set.slice_size (map (bytes_of folder) names) in
     let is_lost = is_among (names_without_match (matches folder set names)) in
     ap (λ found. map (λ z. z.0) (filter (λ z. is_none z.1) (enumerate_from 0 found))) (sym (found_by_target is_lost f set.targets))
-    ∙ lost_alike 0 (slices_by_target folder set names) (told_by_target is_lost f set.targets (targets_found folder set names positive sized searched))
+    ∙ lost_alike 0 (slices_by_target folder set names) (reported_by_target is_lost f set.targets (targets_found folder set names positive sized searched))

@@ -1,4 +1,4 @@
--- The rank is at most the number of lost slices, and that number exactly where they are determined.
+-- The rank is at most the number of lost slices, and equal to it exactly if these are determined.
 use Rattle.par2_spec.proofs.Common.{◌≡◌, ℕ, zero, suc, ◌+◌, ◌*◌, ◌/◌, ◌%◌, ◌^◌, ◌<◌, ◌≤◌, List, [], ◌∷◌, length, map, drop, pow-add, refl, sym, ap, ap₂, ◌∙◌, subst, cond, false, eqb, inl, inr, arith, ◌↔◌, replicate, slice_index, xor_self, AllByRecursion, IsDistinct, IsStrictlyIncreasing, pow_below, Decides-eqb, cases_lt, eq-eqb, length-map, AllPairs-from_increasing, IsStrictlyIncreasing-filter, IsDistinct-from_AllPairs, coefficients, dot, kept, rank, IsVector, Kills, IsRepairable, AreElements, bit_xor}
 use Rattle.par2_spec.proofs.Basics.{onto_from_injective, product-zero, all-each, all-both, of_contained, all_weaker, all-filter}
 use Rattle.par2_spec.proofs.UniqueLaws.{sums, dot-sums, dot-lt, coefficients_are, sums-elements, no_difference, all_from_contains, kept_kill_all}
@@ -46,7 +46,7 @@ vector-number n v h = let e = h.0 in absurd (omega (arith, e))
 
 -- ---- functions from vectors to vectors
 
--- g gives each vector of n elements one of m elements
+-- g maps each vector of n elements to one of m elements
 abbrev Leads : ℕ → ℕ → (List ℕ → List ℕ) → Type 0
 Leads n m g = (v : List ℕ) → IsVector n v → IsVector m (g v)
 
@@ -57,7 +57,7 @@ IsInjective n g = (u v : List ℕ) → IsVector n u → IsVector n v → g u ≡
 abbrev IsOnto : ℕ → ℕ → (List ℕ → List ℕ) → Type 0
 IsOnto n m g = (w : List ℕ) → IsVector m w → (v : List ℕ) × IsVector n v × (g v ≡ w)
 
--- the same from number to number
+-- g on the numbers of vectors
 between : ℕ → (List ℕ → List ℕ) → ℕ → ℕ
 between n g i = number (g (vector n i))
 
@@ -71,7 +71,7 @@ between_injective n m g leads injective i j hi hj e = unfold between in
     let same : g u ≡ g v = sym (vector-number m (g u) (leads u (vector_is n i))) ∙ ap (vector m) e ∙ vector-number m (g v) (leads v (vector_is n j)) in
     sym (number-vector n i hi) ∙ ap number (injective u v (vector_is n i) (vector_is n j) same) ∙ number-vector n j hj
 
--- there are no more vectors than values
+-- if g is injective, n is at most m
 injective-le : (n m : ℕ) (g : List ℕ → List ℕ) → Leads n m g → IsInjective n g → n ≤ m
 injective-le n m g leads injective = elim (cases_lt m n) [
   | inr small ↦ small
@@ -86,7 +86,7 @@ injective-le n m g leads injective = elim (cases_lt m n) [
       absurd (omega (arith, same, low))
 ]
 
--- where there are as many, each vector is a value
+-- if g is injective on vectors of one length, it is surjective
 injective_onto : (n : ℕ) (g : List ℕ → List ℕ) → Leads n n g → IsInjective n g → IsOnto n n g
 injective_onto n g leads injective w is = unfold between in
     let one = between_injective n n g leads injective in
@@ -94,7 +94,7 @@ injective_onto n g leads injective w is = unfold between in
     let v = vector n found.0 in
     (v, vector_is n found.0, sym (vector-number n (g v) (leads v (vector_is n found.0))) ∙ ap (vector n) found.1.1 ∙ vector-number n w is)
 
--- a vector of which a vector is the value
+-- a vector that g maps to the given one
 source : (n m : ℕ) (g : List ℕ → List ℕ) → IsOnto n m g → List ℕ → List ℕ
 source n m g onto w = (onto (vector m (number w)) (vector_is m (number w))).0
 
@@ -110,7 +110,7 @@ source_injective n m g onto u v hu hv e = sym (of_source n m g onto u hu) ∙ ap
 onto-le : (n m : ℕ) (g : List ℕ → List ℕ) → IsOnto n m g → m ≤ n
 onto-le n m g onto = injective-le m n (source n m g onto) (source_leads n m g onto) (source_injective n m g onto)
 
--- where each of as many vectors is a value, it is the value of one alone
+-- if g is surjective on vectors of one length, it is injective
 onto_injective : (n : ℕ) (g : List ℕ → List ℕ) → IsOnto n n g → IsInjective n g
 onto_injective n g onto u v hu hv e =
     let every = injective_onto n (source n n g onto) (source_leads n n g onto) (source_injective n n g onto) in
@@ -119,16 +119,16 @@ onto_injective n g onto u v hu hv e =
     let back : (w : List ℕ) (from : (x : List ℕ) × IsVector n x × (source n n g onto x ≡ w)) → g w ≡ from.0 = λ w from. ap g (sym from.2) ∙ of_source n n g onto from.0 from.1 in
     sym a.2 ∙ ap (source n n g onto) (sym (back u a) ∙ e ∙ back v b) ∙ b.2
 
--- ---- what the kept exponents give for a vector
+-- ---- the products of the kept exponents with a vector
 
--- what each of some exponents gives
+-- the product of each exponent with the vector
 abbrev given : List ℕ → List ℕ → List ℕ → List ℕ
 given lost es v = map (λ e. dot (coefficients lost e) v) es
 
 given_leads : (lost es : List ℕ) → Leads (length lost) (length es) (given lost es)
 given_leads lost es v is = (length-map es (λ e. dot (coefficients lost e) v), all-each (λ x. x < 2 ^ 16) (λ e. dot (coefficients lost e) v) (λ e. dot-lt (coefficients lost e) v (coefficients_are e lost) is.1) es)
 
--- the number that stands in a list at the place of an exponent among others
+-- the number in a list at the position of an exponent among others
 numbered : List ℕ → List ℕ → ℕ → ℕ
 numbered (x ∷ es) (y ∷ g) e = cond (eqb x e) y (numbered es g e)
 numbered es g e = 0
@@ -138,7 +138,7 @@ unfolding numbered
 numbered-lt (x ∷ es) (y ∷ g) e h = grind (arith, numbered, numbered-lt es g e h.1)
 numbered-lt es g e h = omega arith
 
--- where the exponents are distinct and a function gives each its number, its values are the list
+-- if the exponents are distinct and a function maps each to its number, its values are the list
 values_are : (f : ℕ → ℕ) (es g : List ℕ) → IsDistinct eqb es → length es ≡ length g → AllByRecursion (λ e. f e ≡ numbered es g e) es → map f es ≡ g
 unfolding numbered IsDistinct
 values_are f [] [] d long h = refl
@@ -147,7 +147,7 @@ values_are f (x ∷ es) (y ∷ g) d long h =
     (values_are f es g d.1 (omega (arith, long)) (all-both (λ e. eqb x e ≡ false) (λ e. f e ≡ cond (eqb x e) y (numbered es g e)) (λ e. f e ≡ numbered es g e) (λ e other k. k ∙ ap (λ b. cond b y (numbered es g e)) other) es d.0 h.1))
 values_are f es g d long h = absurd (omega (arith, long))
 
--- a number above all of a list
+-- a number above all items of a list
 above : List ℕ → ℕ
 above [] = 0
 above (e ∷ es) = suc e + above es
@@ -162,7 +162,7 @@ distinct_kept lost survivors up =
     let pairs = AllPairs-from_increasing (kept lost survivors) (IsStrictlyIncreasing-filter _ survivors up) in
     IsDistinct-from_AllPairs Decides-eqb (kept lost survivors) (λ i j d low h same. let less = pairs i j d low h in omega (arith, less, same))
 
--- each list of elements is given
+-- each list of elements is the list of products of some vector
 given_onto : (lost survivors : List ℕ) → IsStrictlyIncreasing survivors → IsOnto (length lost) (rank lost survivors) (given lost (kept lost survivors))
 given_onto lost survivors up g is =
     let es = kept lost survivors in
@@ -182,7 +182,7 @@ same_given : (f g : ℕ → ℕ) (es : List ℕ) → map f es ≡ map g es → A
 same_given f g [] h = tt
 same_given f g (e ∷ es) h = (ap (λ xs. slice_index xs 0) h, same_given f g es (ap (drop 1) h))
 
--- where the lost slices are determined, the kept exponents tell vectors apart
+-- if the lost slices are determined, different vectors have different products with the kept exponents
 given_injective : (lost survivors : List ℕ) → IsRepairable lost survivors → IsInjective (length lost) (given lost (kept lost survivors))
 given_injective lost survivors repairable u v hu hv e =
     let long : length u ≡ length v = hu.0 ∙ sym hv.0 in
@@ -204,7 +204,7 @@ given_same : (f g : ℕ → ℕ) (es : List ℕ) → AllByRecursion (λ e. f e �
 given_same f g [] h = refl
 given_same f g (e ∷ es) h = ap₂ (λ x xs. x ∷ xs) h.0 (given_same f g es h.1)
 
--- where there are as many kept exponents as lost slices, the lost slices are determined
+-- if as many exponents are kept as slices are lost, the lost slices are determined
 full_is_repairable : (lost survivors : List ℕ) → IsStrictlyIncreasing survivors → rank lost survivors ≡ length lost → IsRepairable lost survivors
 full_is_repairable lost survivors up full v is killed =
     let n = length lost in

@@ -1,9 +1,9 @@
--- Renames and writes one after the other, as one change of a map.
+-- Renames and writes in order, as one change of a map.
 use Rattle.par2_spec.proofs.Common.{◌≡◌, ℕ, ◌<◌, ◌^◌, List, [], ◌∷◌, ◌++◌, length, map, refl, sym, ap, ◌∙◌, subst, T, cond, true, false, Bool, not, ◌&&◌, ◌||◌, IsTrue, arith, filter, Option, Some, None, is_some, unwrap_or, get-insert, get-remove, get-retain_keys, slice_cmp-IsAntisymmetric, nat_cmp-IsAntisymmetric, contains_key-keys, entries_sorted, nat_cmp, eq_by_cmp, is_lt, is_eq, Ordering, is_sorted, below_all, slice_cmp, nat_list_cmp_total, bytes_eq, list_any, AllByRecursion, is_eq-slice_cmp, or_left, or_right, or_from, false_from_ne_true, and_from, not_from_false, or_parts, is_name, is_among, Change, Write, Rename, Remove, effect, effects, is_applicable, are_applicable, Folder, has, bytes_of, names, File, files, without, IsFolder, laid_over}
 use Rattle.std.specs.FinMap as map_of
 use Rattle.par2_spec.proofs.Basics.{same_folder, gone_first, none_gone, among-append, same_name, itself, clash, other_name, AreDistinct, not_first, T-parts, none_if, cond-not}
 
--- ---- what a changed folder has under a name
+-- ---- the file of a name in a changed folder
 
 pub get_put : (f : Folder) (n b q : List ℕ) → map_of.get (map_of.insert f n b) q ≡ cond (bytes_eq q n) (Some b) (map_of.get f q)
 get_put f n b q = get-insert nat_list_cmp_total f n b q ∙ ap (λ t. cond t (Some b) (map_of.get f q)) (is_eq-slice_cmp q n)
@@ -66,11 +66,11 @@ none_named word unnamed (file ∷ entries) h =
     or_from (bytes_eq word file.0) (is_among (map (λ file. file.0) entries) word)
     (false_from_ne_true _ (λ e. clash (ap is_name (same_name word file.0 e) ∙ h.0.0) unnamed)) (none_named word unnamed entries h.1)
 
--- what is no name is no file's
+-- a name that is not valid is no file's name
 pub no_names_file : (folder : Folder) (word : List ℕ) → IsFolder folder → is_name word ≡ false → has folder word ≡ false
 no_names_file folder word kept unnamed = has_by_names folder word ∙ none_named word unnamed (files folder) kept
 
--- ---- files laid over a folder
+-- ---- files put into a folder
 
 pub get_laid : (files : List File) (f : Folder) (q : List ℕ) → is_among (map (λ file. file.0) files) q ≡ false → map_of.get (laid_over files f) q ≡ map_of.get f q
 unfolding laid_over
@@ -79,7 +79,7 @@ get_laid (file ∷ files) f q h =
     get_laid files (map_of.insert f file.0 file.1) q (or_parts (bytes_eq q file.0) _ h).1 ∙ get_put f file.0 file.1 q
     ∙ ap (λ t. cond t (Some file.1) (map_of.get f q)) (or_parts (bytes_eq q file.0) _ h).0
 
--- files of different names stand under their names, in a folder that holds under these what was laid over
+-- files with distinct names are in each folder that agrees on these names with the folder they were put into
 pub all_laid : (files : List File) (f g : Folder) → AreDistinct (map (λ file. file.0) files) → ((q : List ℕ) → is_among (map (λ file. file.0) files) q ≡ true → map_of.get g q ≡ map_of.get (laid_over files f) q) → AllByRecursion (λ file. map_of.get g file.0 ≡ Some file.1) files
 unfolding laid_over
 all_laid [] f g d h = tt
@@ -123,7 +123,7 @@ without_put gone f n b = step (is_among gone n) refl
         ∙ over (bytes_eq q n) (is_among gone q) (Some b) (map_of.get f q) (λ e. subst (λ x. is_among gone x ≡ false) (sym (same_name q n e)) h)
         ∙ sym (get_put (without gone f) n b q ∙ ap (cond (bytes_eq q n) (Some b)) (get_without gone f q)))
 
--- to take names away from what was laid over is to lay over what has other names
+-- removing names from files put into a folder is the same as putting the files of other names into it
 pub without-laid_over : (gone : List (List ℕ)) (files : List File) (f : Folder) → without gone (laid_over files f) ≡ laid_over (filter (λ file. not (is_among gone file.0)) files) (without gone f)
 unfolding laid_over
 without-laid_over gone [] f = refl
@@ -133,7 +133,7 @@ without-laid_over gone (file ∷ files) f =
     ∙ ap (laid_over (filter (λ other. not (is_among gone other.0)) files)) (without_put gone f file.0 file.1)
     ∙ step (not (is_among gone file.0)) (filter (λ other. not (is_among gone other.0)) files) (without gone f)
 
--- folders without names that tell the same of each file
+-- removing either of two lists of names gives the same folder if both name the same of its files
 pub same_without : (gone more : List (List ℕ)) (f : Folder) → ((q : List ℕ) → has f q ≡ true → is_among gone q ≡ is_among more q) → without gone f ≡ without more f
 same_without gone more f h = grind (arith, same_folder, get_without)
 
@@ -146,7 +146,7 @@ without_without gone more f =
 
 -- ---- renames in a row
 
--- from names to names
+-- a rename: the old name and the new one
 abbrev pub Move : Type 0
 Move = List ℕ × List ℕ
 
@@ -159,7 +159,7 @@ sources moves = map (λ m. m.0) moves
 abbrev pub goals : List Move → List (List ℕ)
 goals moves = map (λ m. m.1) moves
 
--- the sources are names of the folder and the goals are none, each once
+-- the old names are in the folder and the new ones are not, each once
 pub record CanMove (f : Folder) (moves : List Move) : Type 0 where
   pub sources_once : AreDistinct (sources moves)
   pub goals_once : AreDistinct (goals moves)
@@ -198,7 +198,7 @@ same_arrived f g (m ∷ moves) h =
 goal_no_source : (f : Folder) (m : Move) (moves : List Move) → CanMove f (m ∷ moves) → is_among (sources moves) m.1 ≡ false
 goal_no_source f m moves c = false_from_ne_true _ (λ h. clash (c.there m.1 (or_right (bytes_eq m.1 m.0) _ h)) (c.free m.1 (or_left _ _ (itself m.1))))
 
--- the renames, made one after the other, are one move of all
+-- the renames in order are one simultaneous move
 pub renames_lead : (f : Folder) (moves : List Move) → CanMove f moves → effects f (renames moves) ≡ laid_over (arrived f moves) (without (sources moves) f)
 unfolding effects laid_over effect
 renames_lead f [] c = none_gone f

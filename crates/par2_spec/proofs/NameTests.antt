@@ -5,7 +5,7 @@ use Rattle.par2_spec.proofs.Basics.{clash, other_name}
 pub record Tests (name : List ℕ) : Type 0 where
   pub some : nat_le 1 (length name) ≡ true
   pub short : nat_le (length name) 255 ≡ true
-  pub text : is_utf8 name ≡ true
+  pub bytes : is_utf8 name ≡ true
   pub no_slash : not (list_any (λ b. b == 0x2F) name) ≡ true
   pub no_zero : not (list_any (λ b. b == 0) name) ≡ true
   pub no_dot : not (bytes_eq name (codes ".")) ≡ true
@@ -21,13 +21,13 @@ name_of name t = unfold is_name in grind arith
 pub name_is_short : (name : List ℕ) → is_name name ≡ true → nat_le (length name) 255 ≡ true
 name_is_short name h = (tests_of name h).short
 
--- what is no text is no name
-pub no_text : (bytes : List ℕ) → (IsUtf8 bytes → ⊥) → is_name bytes ≡ false
-no_text bytes not_text = false_from_ne_true (is_name bytes) (λ h. not_text (IsUtf8-from_is_utf8 bytes (tests_of bytes h).text))
+-- bytes that are not UTF-8 are not a valid name
+pub no_bytes : (bytes : List ℕ) → (IsUtf8 bytes → ⊥) → is_name bytes ≡ false
+no_bytes bytes not_bytes = false_from_ne_true (is_name bytes) (λ h. not_bytes (IsUtf8-from_is_utf8 bytes (tests_of bytes h).bytes))
 
--- what is no name is not among names
-pub no_name : (names : List (List ℕ)) (text : List ℕ) → list_all is_name names ≡ true → is_name text ≡ false → is_among names text ≡ false
-no_name [] text h unnamed = refl
-no_name (name ∷ names) text h unnamed =
+-- a name that is not valid is not among valid names
+pub no_name : (names : List (List ℕ)) (bytes : List ℕ) → list_all is_name names ≡ true → is_name bytes ≡ false → is_among names bytes ≡ false
+no_name [] bytes h unnamed = refl
+no_name (name ∷ names) bytes h unnamed =
     let all = and_parts (is_name name) (list_all is_name names) h in
-    or_from _ _ (other_name text name (λ e. clash (ap is_name e ∙ all.0) unnamed)) (no_name names text all.1 unnamed)
+    or_from _ _ (other_name bytes name (λ e. clash (ap is_name e ∙ all.0) unnamed)) (no_name names bytes all.1 unnamed)

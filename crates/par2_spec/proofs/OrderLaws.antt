@@ -1,16 +1,16 @@
--- The files in the order of their File IDs, and that one list alone rises.
+-- The files sorted by File ID, and only one list of them is strictly increasing.
 use Rattle.par2_spec.proofs.Common.{◌≡◌, ◌≢◌, ℕ, zero, suc, ◌+◌, ◌<◌, ◌≤◌, List, [], ◌∷◌, length, map, refl, sym, ap₂, subst, true, false, Bool, eqb, arith, nat_le, if◌then◌else◌, IsPermutation, slice_index, w128, from_le_bytes, AllByRecursion, IsDistinct, IsStrictlyIncreasing, IsNonDecreasingBy, leb-true, leb-false, eqb-true, eq-eqb, false_from_ne_true, All-from_recursion, recursion_from_All, IsDistinct-IsPermutation, Folder, File, bytes_of, FileRecord, id_number, insert_by_id, record_of, in_id_order, files_of, OnlyOneOrder}
 use Rattle.std.proofs.lemmas.List.Sorted.{All-permutation, IsPermutation-sym, IsPermutation-refl, IsPermutation-trans, IsPermutation-cons, IsPermutation-swap, IsPermutation-map}
 use Rattle.par2_spec.proofs.Basics.{clash, all-map, all-both, all_weaker, same_tests}
 
--- ---- what rises
+-- ---- increasing lists
 
--- the number of each is below those of the later ones
+-- the number of each item is below those of later items
 abbrev Rises : {A : Type 0} → (A → ℕ) → List A → Type 0
 Rises n [] = Unit {0}
 Rises n (x ∷ xs) = AllByRecursion (λ y. n x < n y) xs × Rises n xs
 
--- no two have one number
+-- no two items have the same number
 abbrev AreApart : {A : Type 0} → (A → ℕ) → List A → Type 0
 AreApart n [] = Unit {0}
 AreApart n (x ∷ xs) = AllByRecursion (λ y. n y ≡ n x → ⊥) xs × AreApart n xs
@@ -25,7 +25,7 @@ rises-increasing n (x ∷ y ∷ xs) h =
     ((first, all_weaker (λ z. n y < n z) (λ z. n x < n z) (λ z l. omega (arith, first, l)) xs rest.0), rest)
 rises-increasing n xs h = grind arith
 
--- what holds of all but the least ones of one list holds of those of the other
+-- a property of one list without its least item holds for the other without its own
 all_but_least : {A : Type 0} (n : A → ℕ) (x y : A) (xs ys : List A) → n x ≡ n y → AllByRecursion (λ z. n y < n z) ys → ((P : A → Type 0) → AllByRecursion P (x ∷ xs) → AllByRecursion P (y ∷ ys))
     → (P : A → Type 0) → AllByRecursion P xs → AllByRecursion P ys
 all_but_least {A = A} n x y xs ys same above forth P h =
@@ -33,7 +33,7 @@ all_but_least {A = A} n x y xs ys same above forth P h =
     all-both (λ z. n y < n z) Q P (λ z l q. q (λ e. absurd (omega (arith, l, e, same)))) ys above
     (forth Q ((λ apart. absurd (apart refl)), all_weaker P Q (λ z p apart. p) xs h)).1
 
--- two lists that rise and have the same members are one
+-- two increasing lists with the same members are equal
 rising_once : {A : Type 0} (n : A → ℕ) (xs ys : List A) → Rises n xs → Rises n ys → ((P : A → Type 0) → AllByRecursion P xs → AllByRecursion P ys) → ((P : A → Type 0) → AllByRecursion P ys → AllByRecursion P xs) → xs ≡ ys
 rising_once n [] [] a b forth back = refl
 rising_once n [] (y ∷ ys) a b forth back = absurd ((forth (λ z. ⊥) tt).0)
@@ -47,7 +47,7 @@ rising_once n (x ∷ xs) (y ∷ ys) a b forth back =
 
 -- ---- the files in order
 
--- the number of each is at most those of the later ones
+-- the number of each item is at most those of later items
 abbrev Climbs : {A : Type 0} → (A → ℕ) → List A → Type 0
 Climbs n [] = Unit {0}
 Climbs n (x ∷ xs) = AllByRecursion (λ y. n x ≤ n y) xs × Climbs n xs
@@ -105,7 +105,7 @@ climbs-ordered (file ∷ files) = climbs-inserted file (in_id_order files) (clim
 pub no_fall-ordered : (files : List File) → IsNonDecreasingBy id_number (in_id_order files)
 no_fall-ordered files = no_fall id_number (in_id_order files) (climbs-ordered files)
 
--- ---- what is said of the files, in order
+-- ---- the records of the files, in order
 
 -- the File ID in a record as a number
 abbrev number_in : FileRecord → ℕ
@@ -114,8 +114,8 @@ number_in file = from_le_bytes w128 file.id
 abbrev has_one_number : FileRecord → FileRecord → Bool
 has_one_number a b = eqb (number_in a) (number_in b)
 
-turned : (a b : FileRecord) → has_one_number a b ≡ has_one_number b a
-turned a b = same_tests (eqb (number_in a) (number_in b)) (eqb (number_in b) (number_in a)) (λ e. eq-eqb _ _ (sym (eqb-true _ _ e))) (λ e. eq-eqb _ _ (sym (eqb-true _ _ e)))
+swapped : (a b : FileRecord) → has_one_number a b ≡ has_one_number b a
+swapped a b = same_tests (eqb (number_in a) (number_in b)) (eqb (number_in b) (number_in a)) (λ e. eq-eqb _ _ (sym (eqb-true _ _ e))) (λ e. eq-eqb _ _ (sym (eqb-true _ _ e)))
 
 distinct-rises : (records : List FileRecord) → Rises number_in records → IsDistinct has_one_number records
 unfolding IsDistinct
@@ -130,14 +130,14 @@ apart-distinct (r ∷ records) h = (all_weaker (λ z. has_one_number r z ≡ fal
 climbs-records : (s : ℕ) (files : List File) → Climbs id_number files → Climbs number_in (map (record_of s) files)
 climbs-records s files h = unfold record_of in climbs-map number_in (record_of s) files h
 
--- records of these files that rise by their File IDs are those of the files in order
+-- records of these files with increasing File IDs are those of the files in order
 pub rising_records : OnlyOneOrder
 rising_records s files records moved up =
     let ordered : List FileRecord = map (record_of s) (in_id_order files) in
     let there : IsPermutation records ordered =
     IsPermutation-trans records (map (record_of s) files) ordered (IsPermutation-sym (map (record_of s) files) records moved) (IsPermutation-map (record_of s) files (in_id_order files) (moved-ordered files)) in
     let rises : Rises number_in records = rises-increasing number_in records up in
-    let apart : AreApart number_in ordered = apart-distinct ordered (IsDistinct-IsPermutation has_one_number turned records ordered there (distinct-rises records rises)) in
+    let apart : AreApart number_in ordered = apart-distinct ordered (IsDistinct-IsPermutation has_one_number swapped records ordered there (distinct-rises records rises)) in
     rising_once number_in records ordered rises (rises-climbs number_in ordered (climbs-records s (in_id_order files) (climbs-ordered files)) apart) (λ P h. moved-all P records ordered there h) (λ P h. moved-all P ordered records (IsPermutation-sym records ordered there) h)
 
 -- ---- the files in order, by their names
@@ -153,7 +153,7 @@ files_by_name : (folder : Folder) (files : List File) → AllByRecursion (HasIts
 files_by_name folder [] h = refl
 files_by_name folder (file ∷ files) h = ap₂ (λ f fs. f ∷ fs) h.0 (files_by_name folder files h.1)
 
--- the files of their names are they
+-- reading the files by their names returns the files
 pub files_of_ordered : (folder : Folder) (names : List (List ℕ)) → files_of folder (map (λ file. file.0) (in_id_order (files_of folder names))) ≡ in_id_order (files_of folder names)
 files_of_ordered folder names =
     let files = files_of folder names in

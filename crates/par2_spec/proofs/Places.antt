@@ -1,4 +1,4 @@
--- The first place whose item passes a test.
+-- The first position whose item passes a test.
 use Rattle.par2_spec.proofs.Common.{◌≡◌, ◌+◌, List, [], ◌∷◌, map, refl, ap, ap₂, Bool, not, cond, position, position_or_len, length-map}
 use Rattle.std.proofs.Common.{Some, nat_lt, None}
 

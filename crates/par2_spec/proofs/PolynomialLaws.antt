@@ -28,7 +28,7 @@ unfolding quotient
 quotient_elements c (a ∷ b ∷ p) small h = (value-lt (b ∷ p) c h.1 small, quotient_elements c (b ∷ p) small h.1)
 quotient_elements c p small h = tt
 
--- a sum with a polynomial that has no more coefficients
+-- the sum with a polynomial that has at most as many coefficients
 pub length-plus : (p q : List ℕ) → length q ≡ suc (length p) → length (plus p q) ≡ suc (length p)
 unfolding plus
 length-plus (a ∷ p) (b ∷ q) e = ap suc (length-plus p q (omega (arith, e)))
@@ -118,7 +118,7 @@ unfolding with_roots
 with_roots_zero [] h = tt
 with_roots_zero (c ∷ points) h = grind (arith, with_roots_elements, value_times_root, xor_self, zero-product, all-both, product-zero, with_roots_zero points h.1)
 
--- a factor that is not 0 is taken off
+-- a nonzero factor can be cancelled
 no_root : (c z v : ℕ) → c < 2 ^ 16 → z < 2 ^ 16 → v < 2 ^ 16 → z ≢ c → mul (bit_xor z c) v ≡ 0 → v ≡ 0
 no_root c z v hc hz hv apart e =
     let positive : (n : ℕ) → n ≢ 0 → 0 < n = λ n k. omega arith in
@@ -148,21 +148,21 @@ times_zero : (k : ℕ) (p : List ℕ) → AreZero p → AreZero (times k p)
 times_zero k [] h = tt
 times_zero k (a ∷ p) h = (ap (mul k) h.0 ∙ product-zero k, times_zero k p h.1)
 
--- what is divided without a remainder and to zero
+-- a polynomial is zero if its quotient and its remainder are
 zero_by_quotient : (c : ℕ) (p : List ℕ) → value p c ≡ 0 → AreZero (quotient c p) → AreZero p
 zero_by_quotient c [] e h = tt
 zero_by_quotient c (a ∷ p) e h =
     let q = quotient c (a ∷ p) in
     subst AreZero (sym (divided c a p)) (plus_zero (times_root c q) (value (a ∷ p) c ∷ []) (plus_zero (times c q) (0 ∷ q) (times_zero c q h) (refl, h)) (e, tt))
 
--- what each of the points but the first is
+-- each later point differs from the first
 pub apart : (c : ℕ) (points : List ℕ) → ArePoints (c ∷ points) → AllByRecursion (λ z. z ≢ c) points
 apart c points are = unfold IsDistinct in all_weaker (λ z. nat_eq c z ≡ false) (λ z. z ≢ c) (λ z other same. eqb-false c z other (sym same)) points are.distinct.0
 
 pub other_points : (c : ℕ) (points : List ℕ) → ArePoints (c ∷ points) → ArePoints points
 other_points c points are = unfold IsDistinct in record { elements = are.elements.1; distinct = are.distinct.1 }
 
--- the factor theorem, again and again: as many distinct roots as coefficients, and each coefficient is 0
+-- the factor theorem, repeated: with as many distinct roots as coefficients, each coefficient is 0
 pub only_zero : (points p : List ℕ) → ArePoints points → IsVector (length points) p → AllByRecursion (λ z. value p z ≡ 0) points → AreZero p
 only_zero [] [] are is h = tt
 only_zero [] (a ∷ p) are is h = absurd (let e : suc (length p) ≡ 0 = is.0 in omega (arith, e))
@@ -201,7 +201,7 @@ same_at : (p q points : List ℕ) → AllByRecursion (λ z. value q z ≡ 0) poi
 same_at p q [] h = refl
 same_at p q (z ∷ points) h = grind (arith, value_plus, xor_zero_r, same_at p q points h.1)
 
--- some multiple of an element that is not 0 takes a to y
+-- some multiple of a nonzero element, added to a, gives y
 reached : (a y w : ℕ) → a < 2 ^ 16 → y < 2 ^ 16 → w < 2 ^ 16 → w ≢ 0 → (k : ℕ) × (k < 2 ^ 16) × (bit_xor a (mul k w) ≡ y)
 reached a y w ha hy hw other =
     let inverse = has_inverse w (omega (arith, other)) hw in
@@ -214,7 +214,7 @@ reached a y w ha hy hw other =
           ∙ xor_comm a d ∙ xor_off y a,
     )
 
--- a multiple of the polynomial of the points is added, so that the value at one more point is y
+-- a multiple of the polynomial with the points as roots is added, so that the value at one more point is y
 pub some_polynomial : (points values : List ℕ) → ArePoints points → IsVector (length points) values → (p : List ℕ) × Interpolates points values p
 some_polynomial [] [] are is = ([], record { vector = (refl, tt); at_points = refl })
 some_polynomial [] (y ∷ values) are is = absurd (let e : suc (length values) ≡ 0 = is.0 in omega (arith, e))
@@ -272,7 +272,7 @@ quotient_others points c z h first second other =
     (sym (xor_zero_r _) ∙ ap (bit_xor (mul (bit_xor z c) (value q z))) (sym (of_contained (λ x. value w x ≡ 0) points c none first))
     ∙ sym (value_divided c z w hc hz w_are) ∙ of_contained (λ x. value w x ≡ 0) points z none second)
 
--- and not at this one
+-- the quotient is nonzero at this root
 pub quotient_itself : (points : List ℕ) (c : ℕ) → ArePoints points → Contains points c → value (quotient c (with_roots points)) c ≢ 0
 quotient_itself points c are first e =
     let h = are.elements in

@@ -1,5 +1,5 @@
--- The tests over all vectors and all texts say what the words say.
-use Rattle.par2_spec.proofs.Common.{◌≡◌, ℕ, ◌^◌, ◌<◌, List, [], ◌∷◌, length, map, refl, sym, ap, ◌∙◌, subst, true, Bool, ◌&&◌, not, arith, IsTrue, ◌↔◌, ◌==◌, filter, find, zip, Option, Some, None, is_some, unwrap_or, nat_eq, list_all, list_any, AllByRecursion, AllZip, Contains, ForSome, bytes_eq, and_parts, and_from, eqb-true, eq-eqb, ltb-true, lt-ltb, not_from_false, false_from_ne_true, false≢true, true_from_ne_false, both_ways, not-true, AllZip-long, nat_eq_equiv, coefficients, recovery, dot, kills, is_zero, is_repairable, kept, smaller, Kills, IsRepairable, IsKept, IsVector, Agrees, is_as_known, kept_slices, IsRebuilt, is_independent, is_solvable, agrees, ParSet, lost, survivors, all_lists, all_texts, all_below, rebuilt}
+-- The tests over all vectors and all buffers are equivalent to the definitions.
+use Rattle.par2_spec.proofs.Common.{◌≡◌, ℕ, ◌^◌, ◌<◌, List, [], ◌∷◌, length, map, refl, sym, ap, ◌∙◌, subst, true, Bool, ◌&&◌, not, arith, IsTrue, ◌↔◌, ◌==◌, filter, find, zip, Option, Some, None, is_some, unwrap_or, nat_eq, list_all, list_any, AllByRecursion, AllZip, Contains, ForSome, bytes_eq, and_parts, and_from, eqb-true, eq-eqb, ltb-true, lt-ltb, not_from_false, false_from_ne_true, false≢true, true_from_ne_false, both_ways, not-true, AllZip-long, nat_eq_equiv, coefficients, recovery, dot, kills, is_zero, is_repairable, kept, smaller, Kills, IsRepairable, IsKept, IsVector, Agrees, is_as_known, kept_slices, IsRebuilt, is_independent, is_solvable, agrees, ParSet, lost, survivors, all_lists, all_buffers, all_below, rebuilt}
 use Rattle.std.specs.FinMap as map_of
 use Rattle.std.proofs.lemmas.Map.Views.{Contains-from_any, list_any-from_Contains}
 use Rattle.par2_spec.proofs.ListsLaws.{AreOf, IsBelow, some_list, all_below_are, all_below_complete, all_lists_are, all_lists_complete, find_one, filter-none, all-both}
@@ -53,7 +53,7 @@ repairable-iff lost survivors = unfold is_solvable in
           false≢true (sym (ap not (test_from_zero found.0 (h found.0 found.1 (all_killed lost found.0 survivors r.1)))) ∙ r.0))),
     )
 
--- where the lost slices are not determined, a vector that is not zero is killed by all
+-- if the lost slices are not determined, all survivors kill some nonzero vector
 pub killed_vector : (lost survivors : List ℕ) → (IsRepairable lost survivors → ⊥)
     → (v : List ℕ) × IsVector (length lost) v × AllByRecursion (λ e. Kills lost e v) survivors × (AllByRecursion (λ x. x ≡ 0) v → ⊥)
 killed_vector lost survivors unrepairable = unfold is_solvable in
@@ -65,7 +65,7 @@ killed_vector lost survivors unrepairable = unfold is_solvable in
 
 -- ---- kept exponents
 
--- what holds of the smaller ones
+-- a property of the smaller survivors
 all_smaller : (P : ℕ → Type 0) (e : ℕ) (es : List ℕ) → AllByRecursion P (smaller e es) → AllByRecursion (λ x. x < e → P x) es
 all_smaller P e [] h = tt
 all_smaller P e (x ∷ es) h = grind (arith, clash, lt-ltb, all_smaller P e es)
@@ -119,35 +119,35 @@ kept-iff lost survivors e =
       λ c. law.1 (c.0, (independent-iff lost survivors e).1 c.1),
     )
 
--- ---- where no slice is lost
+-- ---- no lost slices
 
--- no exponent tells anything
+-- no exponent is kept
 pub none_kept : (survivors : List ℕ) → kept [] survivors ≡ []
 none_kept survivors = unfold all_lists dot is_independent in grind (arith, filter-none, by_test)
 
 -- ---- lists that agree
 
-known_one : (o : Option (List ℕ)) (text : List ℕ) → is_as_known (o, text) ≡ true → ForSome o (λ found. text ≡ found)
-known_one None text h = λ x e. absurd (false≢true (ap is_some e))
-known_one (Some y) text h = λ x e. sym (same_name y text h) ∙ ap (λ o. unwrap_or o y) e
+known_one : (o : Option (List ℕ)) (bytes : List ℕ) → is_as_known (o, bytes) ≡ true → ForSome o (λ found. bytes ≡ found)
+known_one None bytes h = λ x e. absurd (false≢true (ap is_some e))
+known_one (Some y) bytes h = λ x e. sym (same_name y bytes h) ∙ ap (λ o. unwrap_or o y) e
 
-one_known : (o : Option (List ℕ)) (text : List ℕ) → ForSome o (λ found. text ≡ found) → is_as_known (o, text) ≡ true
-one_known None text h = refl
-one_known (Some y) text h = subst (λ z. bytes_eq y z ≡ true) (sym (h y refl)) (itself y)
+one_known : (o : Option (List ℕ)) (bytes : List ℕ) → ForSome o (λ found. bytes ≡ found) → is_as_known (o, bytes) ≡ true
+one_known None bytes h = refl
+one_known (Some y) bytes h = subst (λ z. bytes_eq y z ≡ true) (sym (h y refl)) (itself y)
 
-as_known : (known : List (Option (List ℕ))) (slices : List (List ℕ)) → length slices ≡ length known → list_all is_as_known (zip known slices) ≡ true → AllZip (λ slice text. ForSome slice (λ found. text ≡ found)) known slices
+as_known : (known : List (Option (List ℕ))) (slices : List (List ℕ)) → length slices ≡ length known → list_all is_as_known (zip known slices) ≡ true → AllZip (λ slice bytes. ForSome slice (λ found. bytes ≡ found)) known slices
 as_known (x ∷ xs) (y ∷ ys) e h =
     let r = and_parts (is_as_known (x, y)) (list_all is_as_known (zip xs ys)) h in
     (known_one x y r.0, as_known xs ys (omega (arith, e)) r.1)
 as_known known slices e h = grind arith
 
-known_as : (known : List (Option (List ℕ))) (slices : List (List ℕ)) → AllZip (λ slice text. ForSome slice (λ found. text ≡ found)) known slices → list_all is_as_known (zip known slices) ≡ true
+known_as : (known : List (Option (List ℕ))) (slices : List (List ℕ)) → AllZip (λ slice bytes. ForSome slice (λ found. bytes ≡ found)) known slices → list_all is_as_known (zip known slices) ≡ true
 known_as (x ∷ xs) (y ∷ ys) h = and_from _ _ (one_known x y h.0) (known_as xs ys h.1)
 known_as known slices h = grind arith
 
--- a list of texts of s bytes passes the test exactly if it agrees
+-- a list of slices of s bytes passes the test exactly if it agrees
 pub agrees-iff : (s : ℕ) (known : List (Option (List ℕ))) (recovered : List (ℕ × List ℕ)) (slices : List (List ℕ))
-    → AllByRecursion (λ text. length text ≡ s) slices → AllByRecursion (λ text. AllByRecursion (λ b. b < 256) text) slices
+    → AllByRecursion (λ content. length content ≡ s) slices → AllByRecursion (λ content. AllByRecursion (λ b. b < 256) content) slices
     → IsTrue (agrees s known recovered slices) ↔ Agrees s known recovered slices
 agrees-iff s known recovered slices sizes bytes = unfold agrees in (
   λ h. let r = and_parts (length slices == length known && list_all is_as_known (zip known slices)) _ h in
@@ -159,36 +159,36 @@ agrees-iff s known recovered slices sizes bytes = unfold agrees in (
         as_recovered = all_weaker (λ (r : ℕ × List ℕ). bytes_eq (recovery s slices r.0) r.1 ≡ true) (λ (r : ℕ × List ℕ). recovery s slices r.0 ≡ r.1) (λ r e. same_name (recovery s slices r.0) r.1 e) recovered
             (all_from_test (λ (r : ℕ × List ℕ). bytes_eq (recovery s slices r.0) r.1) recovered r.1);
       },
-  λ a. and_from _ _ (and_from _ _ (eq-eqb (length slices) (length known) (AllZip-long (λ slice text. ForSome slice (λ found. text ≡ found)) known slices a.as_known)) (known_as known slices a.as_known))
+  λ a. and_from _ _ (and_from _ _ (eq-eqb (length slices) (length known) (AllZip-long (λ slice content. ForSome slice (λ found. content ≡ found)) known slices a.as_known)) (known_as known slices a.as_known))
       (test_from_all (λ (r : ℕ × List ℕ). bytes_eq (recovery s slices r.0) r.1) recovered
       (all_weaker (λ (r : ℕ × List ℕ). recovery s slices r.0 ≡ r.1) (λ (r : ℕ × List ℕ). bytes_eq (recovery s slices r.0) r.1 ≡ true) (λ r e. subst (λ z. bytes_eq (recovery s slices r.0) z ≡ true) e (itself (recovery s slices r.0))) recovered a.as_recovered)),
 )
 
--- ---- what is rebuilt
+-- ---- the rebuilt slices
 
--- a text of s bytes
-abbrev IsText : ℕ → List ℕ → Type 0
-IsText s text = AreOf (IsBelow 256) s text
+-- a buffer of s bytes
+abbrev IsSliceBytes : ℕ → List ℕ → Type 0
+IsSliceBytes s bytes = AreOf (IsBelow 256) s bytes
 
-texts_from : (s : ℕ) (slices : List (List ℕ)) → AllByRecursion (λ text. length text ≡ s) slices → AllByRecursion (λ text. AllByRecursion (λ b. b < 256) text) slices → AllByRecursion (IsText s) slices
-texts_from s slices h k = all-both (λ text. length text ≡ s) (λ text. AllByRecursion (λ b. b < 256) text) (IsText s) (λ x long bytes. (long, bytes)) slices h k
+buffers_from : (s : ℕ) (slices : List (List ℕ)) → AllByRecursion (λ content. length content ≡ s) slices → AllByRecursion (λ content. AllByRecursion (λ b. b < 256) content) slices → AllByRecursion (IsSliceBytes s) slices
+buffers_from s slices h k = all-both (λ content. length content ≡ s) (λ content. AllByRecursion (λ b. b < 256) content) (IsSliceBytes s) (λ x long bytes. (long, bytes)) slices h k
 
-sizes_from : (s : ℕ) (slices : List (List ℕ)) → AllByRecursion (IsText s) slices → AllByRecursion (λ text. length text ≡ s) slices
-sizes_from s slices h = all_weaker (IsText s) (λ text. length text ≡ s) (λ x t. t.0) slices h
+sizes_from : (s : ℕ) (slices : List (List ℕ)) → AllByRecursion (IsSliceBytes s) slices → AllByRecursion (λ bytes. length bytes ≡ s) slices
+sizes_from s slices h = all_weaker (IsSliceBytes s) (λ bytes. length bytes ≡ s) (λ x t. t.0) slices h
 
-bytes_from : (s : ℕ) (slices : List (List ℕ)) → AllByRecursion (IsText s) slices → AllByRecursion (λ text. AllByRecursion (λ b. b < 256) text) slices
-bytes_from s slices h = all_weaker (IsText s) (λ text. AllByRecursion (λ b. b < 256) text) (λ x t. t.1) slices h
+bytes_from : (s : ℕ) (slices : List (List ℕ)) → AllByRecursion (IsSliceBytes s) slices → AllByRecursion (λ bytes. AllByRecursion (λ b. b < 256) bytes) slices
+bytes_from s slices h = all_weaker (IsSliceBytes s) (λ bytes. AllByRecursion (λ b. b < 256) bytes) (λ x t. t.1) slices h
 
-texts_are : (s : ℕ) → AllByRecursion (IsText s) (all_texts s)
-texts_are s = all_lists_are (IsBelow 256) (all_below 256) (all_below_are 256) s
+buffers_are : (s : ℕ) → AllByRecursion (IsSliceBytes s) (all_buffers s)
+buffers_are s = all_lists_are (IsBelow 256) (all_below 256) (all_below_are 256) s
 
--- where a list agrees, one is found, and it agrees
+-- if a list agrees, one is found, and it agrees
 pub agreeing_found : (s : ℕ) (known : List (Option (List ℕ))) (recovered : List (ℕ × List ℕ)) (slices : List (List ℕ)) → Agrees s known recovered slices
-    → (found : List (List ℕ)) × (find (agrees s known recovered) (all_lists (all_texts s) (length known)) ≡ Some found) × Agrees s known recovered found
+    → (found : List (List ℕ)) × (find (agrees s known recovered) (all_lists (all_buffers s) (length known)) ≡ Some found) × Agrees s known recovered found
 agreeing_found s known recovered slices a =
-    let r = find_one (AreOf (IsText s) (length known)) (agrees s known recovered) (all_lists (all_texts s) (length known)) (all_lists_are (IsText s) (all_texts s) (texts_are s) (length known))
-    (all_lists_complete (IsText s) (all_texts s) (all_lists_complete (IsBelow 256) (all_below 256) (all_below_complete 256) s) (length known) (agrees s known recovered) slices
-    (AllZip-long (λ slice text. ForSome slice (λ found. text ≡ found)) known slices a.as_known, texts_from s slices a.sizes a.bytes)
+    let r = find_one (AreOf (IsSliceBytes s) (length known)) (agrees s known recovered) (all_lists (all_buffers s) (length known)) (all_lists_are (IsSliceBytes s) (all_buffers s) (buffers_are s) (length known))
+    (all_lists_complete (IsSliceBytes s) (all_buffers s) (all_lists_complete (IsBelow 256) (all_below 256) (all_below_complete 256) s) (length known) (agrees s known recovered) slices
+    (AllZip-long (λ slice content. ForSome slice (λ found. content ≡ found)) known slices a.as_known, buffers_from s slices a.sizes a.bytes)
     (by_true ((agrees-iff s known recovered slices a.sizes a.bytes).1 a))) in
     (r.0, r.1, (agrees-iff s known recovered r.0 (sizes_from s r.0 r.2.1) (bytes_from s r.0 r.2.1)).0 (is_true r.3))
 

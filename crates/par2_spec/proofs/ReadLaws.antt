@@ -1,4 +1,4 @@
--- What holds of a set that reads, and of the names that are searched.
+-- Properties of sets that can be read, and of the searched names.
 use Rattle.par2_spec.proofs.Common.{◌≡◌, ℕ, suc, ◌≤◌, List, [], ◌∷◌, ◌++◌, length, map, refl, sym, ap, ◌∙◌, subst, cond, true, false, Bool, not, ◌&&◌, ◌||◌, arith, length-append, ◌<◌, ◌+◌, ◌^◌, ◌-◌, ◌*◌, take, drop, length-drop, ◌%◌, min, nat_lt, filter, filter_map, flat_map, find, sum_by, nat_le, Option, Some, unwrap_or, option_map, option_and_then, Result, Ok, Err, ok_or, ◌==◌, if◌then◌else◌, zip, list_all, AllByRecursion, Contains, concat, entries-insert, len-entries, len-empty, nat_cmp-IsAntisymmetric, nat_cmp_total, put, by_order, nat_cmp, Ordering, zero-div, zero-mod, bytes_eq, length-map, nil_from_length, length-take-le, sum_by-cons, list_all-map, recursion_from_All, All-contains_itself, and_parts, and_from, or_cases, or_left, or_right, false_from_ne_true, eqb-true, leb-true, ltb-true, false≢true, Fault, NoMain, NoDescription, NoChecksums, BadSet, Pair, slice_count, is_name, is_among, distinct, Packet, accepted, MainBody, DescBody, RecoveryBody, read_recovery, Folder, has, bytes_of, ParSet, Target, ◌>>=◌, unless, all_some, is_slice_size, packets_with, main_of, description_of, pairs_of, target_of, are_in_profile, recovery_of, other_par_names, IsSound, read_set, set_of, candidates, known, lost, AreFew, FitsRepair, lost_of_unmatched, cut_into, div_ceil, div_ceil_times, FilesHaveTheirSize}
 use Rattle.par2_spec.proofs.NamesLaws.{same_name, itself, clash, among-filter, among-append, AreDistinct, std_from_distinct}
 use Rattle.par2_spec.proofs.FoundLaws.{AreSized, lost_is}
@@ -6,7 +6,7 @@ use Rattle.par2_spec.proofs.ListsLaws.{found_one, all-take, all-drop}
 use Rattle.std.specs.FinMap as map_of
 use Rattle.par2_spec.proofs.TestLaws.{by_either}
 
--- ---- each name once
+-- ---- distinct names
 
 among-distinct : (xs : List (List ℕ)) (q : List ℕ) → is_among (distinct xs) q ≡ is_among xs q
 among-distinct [] q = refl
@@ -33,7 +33,7 @@ length-distinct-le : (xs : List (List ℕ)) → length (distinct xs) ≤ length 
 length-distinct-le [] = omega arith
 length-distinct-le (x ∷ xs) = omega (arith, length-filter-le (λ other. not (bytes_eq x other)) (distinct xs), length-distinct-le xs)
 
--- names of which none is left out are distinct
+-- names are distinct if `distinct` leaves out none
 pub distinct_by_length : (xs : List (List ℕ)) → length (distinct xs) ≡ length xs → AreDistinct xs
 distinct_by_length [] e = tt
 distinct_by_length (x ∷ xs) e =
@@ -45,7 +45,7 @@ distinct_by_length (x ∷ xs) e =
       distinct_by_length xs (omega (arith, a, b, c)),
     )
 
--- ---- a set that reads
+-- ---- a set that can be read
 
 abbrev pub came_out : {A : Type 0} → Result A Fault → Bool
 came_out (Ok a) = true
@@ -107,7 +107,7 @@ targets_are packets s (d ∷ ds) ts h =
           ∙ ap (λ n. slice_count s d.length + n) rest.2 ∙ sym (sum_by-cons (λ d. slice_count s d.length) d ds),
     )
 
--- as many pairs as slices are not more
+-- if there are as many pairs as slices, there are at most as many
 pub sized_from_counted : (s : ℕ) (ts : List Target) → AreCounted s ts → AreSized s ts
 sized_from_counted s [] h = tt
 sized_from_counted s (t ∷ ts) h = (subst (λ n. length t.pairs ≤ n) h.0 (omega arith), sized_from_counted s ts h.1)
@@ -124,7 +124,7 @@ put_entry P k v (r ∷ rs) is h = grind (arith, put, by_order, nat_cmp-IsAntisym
 pub entries-empty : {K : Type 0} (R : K → K → Ordering) (X : Type 0) → map_of.entries (map_of.empty {X = X} {R = R}) ≡ []
 entries-empty R X = nil_from_length (map_of.entries (map_of.empty {X = X} {R = R})) (sym (len-entries map_of.empty) ∙ len-empty R X)
 
--- what holds of each entry that a map is made from holds of each that it has
+-- a property of all entries that a map is made from holds for all entries of the map
 pub all-entries : (P : ℕ × List ℕ → Type 0) (rs : List (ℕ × List ℕ)) → AllByRecursion P rs → AllByRecursion P (map_of.entries (map_of.from_entries {R = nat_cmp} rs))
 all-entries P [] h = subst (AllByRecursion P) (sym (entries-empty nat_cmp (List ℕ))) tt
 all-entries P (r ∷ rs) h =
@@ -134,7 +134,7 @@ chosen_are : (s : ℕ) (rs : List RecoveryBody) → AreRecovery s (map (λ r. (r
 chosen_are s [] = tt
 chosen_are s (r ∷ rs) = grind (arith, and_parts, ltb-true, eqb-true, chosen_are s rs)
 
--- the steps of the reading, the last one first
+-- the steps of reading a set, the last one first
 abbrev pub set_with : List ℕ → List Packet → ℕ → List Target → ParSet
 set_with id packets s targets = record { id = id; slice_size = s; targets = targets; recovery = recovery_of packets s }
 
@@ -158,7 +158,7 @@ by_main base others first =
     let packets = packets_with first.set_id (flat_map accepted (base ∷ others)) in
     ok_or (main_of first.set_id packets) NoMain >>= by_size first.set_id packets
 
--- what was found on the way to a set that is read from these texts
+-- the intermediate results of reading a set from these bytes
 pub record IsReadBy (base : List ℕ) (others : List (List ℕ)) (set : ParSet) : Type 0 where
   pub id : List ℕ
   pub main : MainBody
@@ -174,7 +174,7 @@ pub record IsReadBy (base : List ℕ) (others : List (List ℕ)) (set : ParSet) 
 pub read_by : (base : List ℕ) (others : List (List ℕ)) (set : ParSet) → read_set base others ≡ Ok set → IsReadBy base others set
 read_by base others set h = unfold read_set in grind (arith, took, was_some, passed)
 
--- a set that reads is sound
+-- a set that can be read is sound
 pub sound_set : (base : List ℕ) (others : List (List ℕ)) (set : ParSet) → read_set base others ≡ Ok set → IsSound set
 sound_set base others set h =
     let r = read_by base others set h in
@@ -195,7 +195,7 @@ sound_set base others set h =
       recovery = all-entries (λ r. (r.0 < 65536) × (length r.1 ≡ s)) _ (chosen_are s (filter_map (λ p. read_recovery p.kind p.body) packets));
     })
 
--- a slice size is a multiple of 4, not zero and not large
+-- a slice size is a multiple of 4, nonzero and limited
 pub size_parts : (s : ℕ) → is_slice_size s ≡ true → (s % 4 ≡ 0) × (4 ≤ s) × (s ≤ 2 ^ 30)
 size_parts s h = grind (arith, and_parts, eqb-true, leb-true)
 
@@ -219,7 +219,7 @@ each_there folder (x ∷ extras) h q i =
 candidates_are : (folder : Folder) (set : ParSet) (extras : List (List ℕ)) (q : List ℕ) → is_among (candidates folder set extras) q ≡ ((is_among (map (λ t. t.name) set.targets) q && has folder q) || is_among extras q)
 candidates_are folder set extras q = grind (arith, among-distinct, among-append, among-filter)
 
--- where the extra names are in the folder, all candidates are
+-- if the extra names are in the folder, all candidates are
 pub candidates_there : (folder : Folder) (set : ParSet) (extras : List (List ℕ)) → list_all (has folder) extras ≡ true → (q : List ℕ) → is_among (candidates folder set extras) q ≡ true → has folder q ≡ true
 candidates_there folder set extras h q i = grind (arith, by_either, or_cases, candidates_are, and_parts, each_there)
 
@@ -227,7 +227,7 @@ candidates_there folder set extras h q i = grind (arith, by_either, or_cases, ca
 pub present_searched : (folder : Folder) (set : ParSet) (extras : List (List ℕ)) (q : List ℕ) → is_among (map (λ t. t.name) set.targets) q ≡ true → has folder q ≡ true → is_among (candidates folder set extras) q ≡ true
 present_searched folder set extras q i h = candidates_are folder set extras q ∙ or_left _ _ (and_from _ _ i h)
 
--- ---- what follows for a set of a folder
+-- ---- consequences for a set of a folder
 
 pub sound_of : (folder : Folder) (base : List ℕ) (set : ParSet) → set_of folder base ≡ Ok set → IsSound set
 sound_of folder base set h = unfold set_of in sound_set (bytes_of folder base) (map (bytes_of folder) (other_par_names folder base)) set h
@@ -246,28 +246,28 @@ lost_of folder base set extras h =
 
 -- ---- files that are cut out of slices have the lengths that the set describes
 
-length-concat : (s : ℕ) (texts : List (List ℕ)) → AllByRecursion (λ text. length text ≡ s) texts → length (concat texts) ≡ length texts * s
+length-concat : (s : ℕ) (buffers : List (List ℕ)) → AllByRecursion (λ bytes. length bytes ≡ s) buffers → length (concat buffers) ≡ length buffers * s
 length-concat s [] h = omega arith
-length-concat s (text ∷ texts) h = grind (arith, length-append, length-concat s texts h.1)
+length-concat s (bytes ∷ buffers) h = grind (arith, length-append, length-concat s buffers h.1)
 
 -- the slices of a target hold its bytes
-cut_long : (s size n : ℕ) (texts : List (List ℕ)) → 0 < s → n ≡ slice_count s size → n ≤ length texts → AllByRecursion (λ text. length text ≡ s) texts → length (take size (concat (take n texts))) ≡ size
-cut_long s size n texts positive count some sizes =
-    let whole : length (concat (take n texts)) ≡ length (take n texts) * s = length-concat s (take n texts) (all-take _ n texts sizes) in
-    let many : length (take n texts) ≡ n = length-take-le n texts some in
+cut_long : (s size n : ℕ) (buffers : List (List ℕ)) → 0 < s → n ≡ slice_count s size → n ≤ length buffers → AllByRecursion (λ bytes. length bytes ≡ s) buffers → length (take size (concat (take n buffers))) ≡ size
+cut_long s size n buffers positive count some sizes =
+    let whole : length (concat (take n buffers)) ≡ length (take n buffers) * s = length-concat s (take n buffers) (all-take _ n buffers sizes) in
+    let many : length (take n buffers) ≡ n = length-take-le n buffers some in
     let bound : size ≤ (div_ceil size s) * s = (div_ceil_times size s positive).0 in
-    let enough : size ≤ length (concat (take n texts)) =
+    let enough : size ≤ length (concat (take n buffers)) =
     subst (λ k. size ≤ k) (sym (whole ∙ ap (λ k. k * s) (many ∙ count))) bound in
-    length-take-le size (concat (take n texts)) enough
+    length-take-le size (concat (take n buffers)) enough
 
-cut_lengths : (s : ℕ) (ts : List Target) (texts : List (List ℕ)) → 0 < s → AllByRecursion (λ t. length t.pairs ≡ slice_count s t.length) ts → length (flat_map (λ t. t.pairs) ts) ≤ length texts → AllByRecursion (λ text. length text ≡ s) texts
-    → AllByRecursion (λ (c : Target × List ℕ). length c.1 ≡ c.0.length) (map (λ z. (z.0, take z.0.length (concat z.1))) (zip ts (cut_into (map (λ t. length t.pairs) ts) texts)))
-cut_lengths s [] texts positive counts some sizes = tt
-cut_lengths s (t ∷ ts) texts positive counts some sizes =
+cut_lengths : (s : ℕ) (ts : List Target) (buffers : List (List ℕ)) → 0 < s → AllByRecursion (λ t. length t.pairs ≡ slice_count s t.length) ts → length (flat_map (λ t. t.pairs) ts) ≤ length buffers → AllByRecursion (λ bytes. length bytes ≡ s) buffers
+    → AllByRecursion (λ (c : Target × List ℕ). length c.1 ≡ c.0.length) (map (λ z. (z.0, take z.0.length (concat z.1))) (zip ts (cut_into (map (λ t. length t.pairs) ts) buffers)))
+cut_lengths s [] buffers positive counts some sizes = tt
+cut_lengths s (t ∷ ts) buffers positive counts some sizes =
     let joined : length (t.pairs ++ flat_map (λ u. u.pairs) ts) ≡ length t.pairs + length (flat_map (λ u. u.pairs) ts) = length-append t.pairs (flat_map (λ u. u.pairs) ts) in
-    let left : length (drop (length t.pairs) texts) ≡ length texts - length t.pairs = length-drop (length t.pairs) texts in (
-      cut_long s t.length (length t.pairs) texts positive counts.0 (omega (arith, some, joined)) sizes,
-      cut_lengths s ts (drop (length t.pairs) texts) positive counts.1 (omega (arith, some, joined, left)) (all-drop _ (length t.pairs) texts sizes),
+    let left : length (drop (length t.pairs) buffers) ≡ length buffers - length t.pairs = length-drop (length t.pairs) buffers in (
+      cut_long s t.length (length t.pairs) buffers positive counts.0 (omega (arith, some, joined)) sizes,
+      cut_lengths s ts (drop (length t.pairs) buffers) positive counts.1 (omega (arith, some, joined, left)) (all-drop _ (length t.pairs) buffers sizes),
     )
 
 pub written_lengths : FilesHaveTheirSize

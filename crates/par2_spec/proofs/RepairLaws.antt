@@ -1,5 +1,5 @@
 -- The changes of a repair lead to its folder.
-use Rattle.par2_spec.proofs.Common.{◌≡◌, ℕ, List, [], ◌∷◌, ◌++◌, length, map, inl, inr, refl, sym, ap, ◌∙◌, subst, cond, true, false, Bool, not, ◌&&◌, ◌||◌, take, drop, arith, filter, filter_map, zip, Option, Some, None, Ok, option_map, is_some, is_none, unwrap_or, if◌then◌else◌, concat, list_all, AllByRecursion, ForSome, bytes_eq, map-append, map-id, map-map, and_parts, and_right, or_parts, or_cases, or_left, or_right, or_from, and_from, false_from_ne_true, cases_Bool, not_from_false, false≢true, not-true, and-false, is_among, Folder, has, bytes_of, names, File, without, laid_over, Write, Rename, Remove, effects, are_applicable, ParSet, Target, set_of, target_names, candidates, known, needing, needing_names, is_needing, intact_names, matching, matches, aside, put_aside, files_of_slices, cut_into, rebuilt, matched_files, names_without_match, aside_files, is_par_file, par_files, after_repair_and_purge, FitsRepair, HoldsRepaired, AreFew, taken_for, rebuilt_targets, after_repair, now_at, purge_changes, repair_changes, repair_removals}
+use Rattle.par2_spec.proofs.Common.{◌≡◌, ℕ, List, [], ◌∷◌, ◌++◌, length, map, inl, inr, refl, sym, ap, ◌∙◌, subst, cond, true, false, Bool, not, ◌&&◌, ◌||◌, take, drop, arith, filter, filter_map, zip, Option, Some, None, Ok, option_map, is_some, is_none, unwrap_or, if◌then◌else◌, concat, list_all, AllByRecursion, ForSome, bytes_eq, map-append, map-id, map-map, and_parts, and_right, or_parts, or_cases, or_left, or_right, or_from, and_from, false_from_ne_true, cases_Bool, not_from_false, false≢true, not-true, and-false, is_among, Folder, has, bytes_of, names, File, without, laid_over, Write, Rename, Remove, effects, are_applicable, ParSet, Target, set_of, target_names, candidates, known, incomplete, incomplete_names, is_incomplete, intact_names, matching, matches, aside, put_aside, files_of_slices, cut_into, rebuilt, matched_files, names_without_match, aside_files, is_par_file, par_files, after_repair_and_purge, FitsRepair, HoldsRepaired, AreFew, taken_for, rebuilt_targets, after_repair, now_at, purge_changes, repair_changes, repair_removals}
 use Rattle.std.specs.FinMap as map_of
 use Rattle.par2_spec.proofs.Basics.{effects-append, are_applicable-append, removals_lead, same_name, itself, clash, AreDistinct, among-filter, among-append, among_some, apart_by_test, distinct-map, distinct-filter, distinct_some, image_of, image_in, distinct-append, distinct_from_std, each_there, candidates_there, sound_of, names_of_pairs, taken_was_free, taken_once, by_either, same_tests, none_if, some_if, filter-map, map-cond}
 use Rattle.par2_spec.proofs.MovesLaws.{Move, CanMove, renames, sources, goals, arrived, renames_apply, renames_lead, writes_apply, writes_lead, get_put, get_laid, get_without, has_laid, has_without, has_by_names, laid_over-append, without-laid_over, without_without, same_without, removals_apply, names_once, all_laid}
@@ -31,7 +31,7 @@ renames-moves now [] = refl
 renames-moves now ((t, None) ∷ ms) = renames-moves now ms
 renames-moves now ((t, Some x) ∷ ms) = ap (λ cs. Rename (now x) t.name ∷ cs) (renames-moves now ms)
 
--- each match arrives with its bytes of the folder
+-- each match gets its target's name, with its bytes of the folder
 arrived-moves : (now : List ℕ → List ℕ) (f g : Folder) (ms : Pairs) → ((q : List ℕ) → is_among (taken ms) q ≡ true → bytes_of g (now q) ≡ bytes_of f q) → arrived g (moves_of now ms) ≡ matched_files f ms
 arrived-moves now f g [] h = refl
 arrived-moves now f g ((t, None) ∷ ms) h = arrived-moves now f g ms h
@@ -49,7 +49,7 @@ names-matched f ((t, Some x) ∷ ms) = ap (λ ns. t.name ∷ ns) (names-matched 
 abbrev put_under : (List ℕ → List ℕ) → Folder → List (List ℕ) → List File
 put_under g f ns = map (λ n. (g n, bytes_of f n)) ns
 
--- under the new name of a file stand its bytes
+-- a file has its bytes under its new name
 get_under : (g : List ℕ → List ℕ) (f base : Folder) (ns : List (List ℕ)) → ((a b : List ℕ) → g a ≡ g b → a ≡ b) → (x : List ℕ) → is_among ns x ≡ true → map_of.get (laid_over (put_under g f ns) base) (g x) ≡ Some (bytes_of f x)
 unfolding laid_over
 get_under g f base [] one x h = absurd (false≢true h)
@@ -80,14 +80,14 @@ names_of_contents f (t ∷ ts) slices = ap (λ ns. t.name ∷ ns) (names_of_cont
 
 -- ---- the law
 
--- what the targets want: their names are distinct, the names that are searched are the folder's, and no aside is a
--- target's
+-- premises on the targets: their names are distinct, the searched names are in the folder, and no aside is a target's
+-- name
 pub record Fits (folder : Folder) (set : ParSet) (given : List (List ℕ)) : Type 0 where
   pub once : AreDistinct (map (λ t. t.name) set.targets)
   pub there : (q : List ℕ) → is_among given q ≡ true → has folder q ≡ true
   pub aside_apart : (n : List ℕ) → is_among (map (λ t. t.name) set.targets) (aside folder set n) ≡ false
 
--- and what the files that are put aside want: no aside is in the folder, and each name has its own
+-- premises on the files put aside: no aside is in the folder, and distinct names have distinct asides
 pub record AreFree (folder : Folder) (set : ParSet) : Type 0 where
   pub aside_free : (n : List ℕ) → has folder (aside folder set n) ≡ false
   pub aside_one : (a b : List ℕ) → aside folder set a ≡ aside folder set b → a ≡ b
@@ -97,7 +97,7 @@ module _ (folder : Folder) (set : ParSet) (given : List (List ℕ)) (fits : Fits
   targets = map (λ t. t.name) set.targets
 
   abbrev wanted : List (List ℕ)
-  wanted = map (λ t. t.name) (needing folder set)
+  wanted = map (λ t. t.name) (incomplete folder set)
 
   abbrev intact : List (List ℕ)
   intact = intact_names folder set
@@ -117,15 +117,15 @@ module _ (folder : Folder) (set : ParSet) (given : List (List ℕ)) (fits : Fits
   pub target_no_aside : (ns : List (List ℕ)) (q : List ℕ) → is_among targets q ≡ true → is_among (map off ns) q ≡ false
   target_no_aside ns q h = false_from_ne_true _ (λ i. let r = image_of off ns q i in clash h (subst (λ x. is_among targets x ≡ false) (sym r.2) (fits.aside_apart r.0)))
 
-  -- the heads of the matches are the needing targets
+  -- the targets of the matches are the incomplete targets
   heads : map (λ m. m.0.name) (matches folder set given) ≡ wanted
-  heads = unfold matches in names_of_pairs folder set.slice_size (filter (λ name. not (is_among intact name)) given) (needing folder set)
+  heads = unfold matches in names_of_pairs folder set.slice_size (filter (λ name. not (is_among intact name)) given) (incomplete folder set)
 
   wanted_is_target : (q : List ℕ) → is_among wanted q ≡ true → is_among targets q ≡ true
-  wanted_is_target q h = among_some (λ t. t.name) (is_needing folder set) set.targets q h
+  wanted_is_target q h = among_some (λ t. t.name) (is_incomplete folder set) set.targets q h
 
   wanted_once : AreDistinct wanted
-  wanted_once = distinct_some (λ t. t.name) (is_needing folder set) set.targets fits.once
+  wanted_once = distinct_some (λ t. t.name) (is_incomplete folder set) set.targets fits.once
 
   heads_once : AreDistinct (map (λ m. m.0.name) (matches folder set given))
   heads_once = subst AreDistinct (sym heads) wanted_once
@@ -134,7 +134,7 @@ module _ (folder : Folder) (set : ParSet) (given : List (List ℕ)) (fits : Fits
   pub match_free : (q : List ℕ) → is_among taken_names q ≡ true → (is_among given q ≡ true) × (not (is_among intact q) ≡ true)
   match_free q h = unfold matches in grind (arith, and_parts, among-filter, taken_was_free)
 
-  -- the present needing targets
+  -- the incomplete targets that exist
   moved_is : (q : List ℕ) → is_among moved q ≡ (is_among wanted q && has folder q)
   moved_is q = among-filter (has folder) wanted q
 
@@ -144,7 +144,7 @@ module _ (folder : Folder) (set : ParSet) (given : List (List ℕ)) (fits : Fits
   won_wanted : (q : List ℕ) → is_among won q ≡ true → is_among wanted q ≡ true
   won_wanted q h = subst (λ ns. is_among ns q ≡ true) heads (among_some (λ m. m.0.name) (λ m. is_some m.1) (matches folder set given) q h)
 
-  -- the folder then, as the map of the repair has it
+  -- the folder after the renames, as the map of the repair
   abbrev settled : Folder
   settled =
       laid_over (matched_files folder (matches folder set given))
@@ -185,7 +185,7 @@ module _ (folder : Folder) (set : ParSet) (given : List (List ℕ)) (fits : Fits
     match_there q h = fits.there q (match_free q h).0
 
     matches_once : AreDistinct taken_names
-    matches_once = unfold matches in taken_once folder set.slice_size (filter (λ name. not (is_among intact name)) given) (needing folder set)
+    matches_once = unfold matches in taken_once folder set.slice_size (filter (λ name. not (is_among intact name)) given) (incomplete folder set)
 
     wanted_moved : (q : List ℕ) → is_among wanted q ≡ true → has folder q ≡ true → is_among moved q ≡ true
     wanted_moved q h k = moved_is q ∙ and_from _ _ h k
@@ -199,11 +199,11 @@ module _ (folder : Folder) (set : ParSet) (given : List (List ℕ)) (fits : Fits
     now_other : (q : List ℕ) → is_among moved q ≡ false → now q ≡ q
     now_other q h = ap (λ b. if b then off q else q) h
 
-    -- two matches stand at two places
+    -- distinct matches have distinct current names
     now_one : (a b : List ℕ) → is_among taken_names a ≡ true → is_among taken_names b ≡ true → now a ≡ now b → a ≡ b
     now_one a b i j e = grind (arith, cases_Bool, by_either, aside_one, now_moved, clash, match_there, now_other)
 
-    -- ---- first: the present needing targets are put aside
+    -- ---- first: the existing incomplete targets are put aside
 
     abbrev first : List Move
     first = map (λ n. (n, off n)) moved
@@ -222,7 +222,7 @@ module _ (folder : Folder) (set : ParSet) (given : List (List ℕ)) (fits : Fits
       free = λ q h. let r = image_of off moved q (subst (λ ns. is_among ns q ≡ true) first_goals h) in subst (λ x. has folder x ≡ false) (sym r.2) (free.aside_free r.0);
     }
 
-    -- the folder then
+    -- the folder after that
     abbrev cleared : Folder
     cleared = laid_over (put_under off folder moved) (without moved folder)
 
@@ -235,11 +235,11 @@ module _ (folder : Folder) (set : ParSet) (given : List (List ℕ)) (fits : Fits
     cleared_has : (q : List ℕ) → has cleared q ≡ (is_among (map off moved) q || (not (is_among moved q) && has folder q))
     cleared_has q = grind (arith, has_laid, map-map, has_without)
 
-    -- no target that is needed stands there
+    -- no incomplete target is there
     cleared_wanted : (q : List ℕ) → is_among wanted q ≡ true → has cleared q ≡ false
     cleared_wanted q h = grind (arith, cleared_has, or_from, target_no_aside, wanted_is_target, wanted_moved, and-false)
 
-    -- a match has its bytes where it stands now
+    -- a match has its bytes under its current name
     cleared_match : (q : List ℕ) → is_among taken_names q ≡ true → map_of.get cleared (now q) ≡ map_of.get folder q
     cleared_match q h = elim (cases_Bool (is_among moved q)) as (λ _. map_of.get cleared (now q) ≡ map_of.get folder q) [
       | inl k ↦ ap (map_of.get cleared) (now_moved q k) ∙ get_under off folder (without moved folder) moved free.aside_one q k ∙ sym (some_if [] (map_of.get folder q) (match_there q h))
@@ -268,7 +268,7 @@ module _ (folder : Folder) (set : ParSet) (given : List (List ℕ)) (fits : Fits
       free = λ q h. cleared_wanted q (won_wanted q (subst (λ ns. is_among ns q ≡ true) second_goals h));
     }
 
-    -- a needing target that is put aside and matched leaves no file under its aside
+    -- an incomplete target that is put aside and is a match leaves no file under its aside
     aside_taken : (n : List ℕ) → is_among moved n ≡ true → is_among (map now taken_names) (off n) ≡ is_among taken_names n
     aside_taken n k =
         let from : (x : List ℕ) → is_among taken_names x ≡ true → off n ≡ now x → is_among taken_names n ≡ true = λ x i e. by_either (cases_Bool (is_among moved x))
@@ -278,7 +278,7 @@ module _ (folder : Folder) (set : ParSet) (given : List (List ℕ)) (fits : Fits
         (λ h. let r = image_of now taken_names (off n) h in from r.0 r.1 r.2)
         (λ h. subst (λ x. is_among (map now taken_names) x ≡ true) (now_moved n k) (image_in now taken_names n h))
 
-    -- the asides that stay
+    -- the asides that are left
     asides_left : (ns : List (List ℕ)) → ((n : List ℕ) → is_among ns n ≡ true → is_among moved n ≡ true) → filter (λ file. not (is_among (map now taken_names) file.0)) (put_under off folder ns) ≡ put_under off folder (filter (λ n. not (is_among taken_names n)) ns)
     asides_left [] k = refl
     asides_left (n ∷ ns) k =
@@ -287,7 +287,7 @@ module _ (folder : Folder) (set : ParSet) (given : List (List ℕ)) (fits : Fits
         ∙ ap (λ fs. cond (not (is_among taken_names n)) ((off n, bytes_of folder n) ∷ fs) fs) (asides_left ns (λ m i. k m (or_right _ _ i)))
         ∙ sym (map-cond (λ m. (off m, bytes_of folder m)) (not (is_among taken_names n)) n (filter (λ m. not (is_among taken_names m)) ns))
 
-    -- what is gone from the folder before
+    -- the names that are gone from the folder
     gone_alike : (q : List ℕ) → has folder q ≡ true → is_among (map now taken_names ++ moved) q ≡ is_among (map (λ m. m.0.name) (matches folder set given) ++ taken_names) q
     gone_alike q k =
         let in_goals : is_among wanted q ≡ true → is_among (map (λ m. m.0.name) (matches folder set given) ++ taken_names) q ≡ true =
@@ -321,7 +321,7 @@ module _ (folder : Folder) (set : ParSet) (given : List (List ℕ)) (fits : Fits
 
     -- ---- third: the others are written
 
-    -- where the needing targets' names are free, and then those that are matched are taken
+    -- the names of incomplete targets are free, and then those of the matched ones are taken
     settled_has : (q : List ℕ) → is_among wanted q ≡ true → has settled q ≡ is_among won q
     settled_has q h = grind (arith, second_leads, renames_lead, can_take, has_laid, arrived, sources, map-map, second_goals, has_without, cleared_wanted)
 
@@ -345,11 +345,11 @@ module _ (folder : Folder) (set : ParSet) (given : List (List ℕ)) (fits : Fits
     pub repair_applies : are_applicable folder (repair_changes folder set given) ≡ true
     repair_applies = grind (arith, changes_are, are_applicable-append, renames, renames_apply, can_put_aside, first_leads, can_take, effects-append, second_leads, third_apply)
 
-    -- and lead to its folder
+    -- the changes lead to its folder
     pub repair_leads : effects folder (repair_changes folder set given) ≡ after_repair folder set given
     repair_leads = unfold after_repair in grind (arith, changes_are, effects-append, renames, first_leads, second_leads, writes_lead, laid_over-append)
 
-    -- ---- then the asides that are left and the par files are removed
+    -- ---- then the asides that are left and the PAR2 files are removed
 
     abbrev par_left : List (List ℕ)
     par_left = filter (λ name. not (is_among taken_names name)) (par_files folder set)
@@ -368,14 +368,14 @@ module _ (folder : Folder) (set : ParSet) (given : List (List ℕ)) (fits : Fits
         ∙ ap (λ ns. is_among ns q || has (without gone_names folder) q) (map-map (λ file. file.0) (λ n. (off n, bytes_of folder n)) left)
         ∙ ap (λ b. is_among (map off left) q || b) (has_without gone_names folder q)))
 
-    -- a name that is no target's is there only as an aside that is left, or as before
+    -- a name that is no target's exists only as an aside that is left, or as before
     after_other : (q : List ℕ) → is_among targets q ≡ false → has (after_repair folder set given) q ≡ (is_among (map off left) q || (not (is_among gone_names q) && has folder q))
     after_other q h = grind (arith, after_has, false≢true, among-filter, false_from_ne_true, clash, wanted_is_target, won_wanted)
 
     par_left_is : (q : List ℕ) → is_among par_left q ≡ (is_among (par_files folder set) q && not (is_among taken_names q))
     par_left_is q = among-filter (λ name. not (is_among taken_names name)) (par_files folder set) q
 
-    -- nothing stands under the aside of a match
+    -- no file has the aside of a match
     pub vacant_aside : (q : List ℕ) → is_among taken_names q ≡ true → has (after_repair folder set given) (off q) ≡ false
     vacant_aside q h = grind (arith, image_of, aside_one, clash, not-true, and_parts, left_is, after_other, or_from, false_from_ne_true, and_right)
 
@@ -388,11 +388,11 @@ module _ (folder : Folder) (set : ParSet) (given : List (List ℕ)) (fits : Fits
     par_there : (q : List ℕ) → is_among (par_files folder set) q ≡ true → has folder q ≡ true
     par_there q h = has_by_names folder q ∙ (and_parts _ _ (sym (among-filter (is_par_file folder set) (names folder) q) ∙ h)).0
 
-    -- a par file that was taken as a match is there no more
+    -- a PAR2 file that was a match is no longer there
     par_taken : (q : List ℕ) → is_among (par_files folder set) q ≡ true → is_among taken_names q ≡ true → has (after_repair folder set given) q ≡ false
     par_taken q i j = grind (arith, after_other, par_no_target, or_from, present_no_aside, par_there, among-append, or_right)
 
-    -- what stands after the repair and is to go is what is removed
+    -- the names to remove that exist after the repair are those that are removed
     removed_alike : (q : List ℕ) → has (after_repair folder set given) q ≡ true → is_among (map off left ++ par_left) q ≡ is_among (map off moved ++ par_files folder set) q
     removed_alike q k =
         let to : is_among (map off left ++ par_left) q ≡ true → is_among (map off moved ++ par_files folder set) q ≡ true = (λ h. elim (or_cases (is_among (map off left) q) (is_among par_left q) (sym (among-append (map off left) par_left q) ∙ h)) as (λ _. is_among (map off moved ++ par_files folder set) q ≡ true) [
@@ -453,11 +453,11 @@ module _ (folder : Folder) (set : ParSet) (given : List (List ℕ)) (fits : Fits
   after_is : after_repair folder set given ≡ laid_over (written folder set given fits) (settled folder set given fits)
   after_is = unfold after_repair in laid_over-append (matched_files folder (matches folder set given)) (written folder set given fits) with_asides
 
-  -- what is not written stands as it did before
+  -- a name that is not written has the same file as before
   unwritten : (q : List ℕ) → is_among (unwon folder set given fits) q ≡ false → map_of.get (after_repair folder set given) q ≡ map_of.get (settled folder set given fits) q
   unwritten q h = grind (arith, after_is, get_laid, written_names, among-filter, and-false)
 
-  -- a name that no target needs stands as it did with the asides
+  -- a name of no incomplete target has the same file as after the asides
   unwanted : (q : List ℕ) → is_among (wanted folder set given fits) q ≡ false → map_of.get (after_repair folder set given) q ≡ map_of.get with_asides q
   unwanted q h = grind (arith, unwritten, false_from_ne_true, clash, get_laid, names-matched, won_wanted, heads, among_some)
 
@@ -481,7 +481,7 @@ module _ (folder : Folder) (set : ParSet) (given : List (List ℕ)) (fits : Fits
       (subst AreDistinct (sym (names-matched folder (matches folder set given))) (distinct_some (λ m. m.0.name) (λ m. is_some m.1) (matches folder set given) (heads_once folder set given fits)))
       (λ q h. unwritten q (false_from_ne_true _ (λ i. clash (subst (λ ns. is_among ns q ≡ true) (names-matched folder (matches folder set given)) h) (unwon_apart folder set given fits q i)))))
 
-  -- each other needing target its slices
+  -- each other incomplete target has its rebuilt bytes
   pub written_ones : AllByRecursion (λ c. map_of.get (after_repair folder set given) c.0.name ≡ Some c.1) (rebuilt_targets folder set given)
   written_ones =
       written_hold (after_repair folder set given) (rebuilt_targets folder set given)
@@ -489,8 +489,8 @@ module _ (folder : Folder) (set : ParSet) (given : List (List ℕ)) (fits : Fits
       (subst AreDistinct (sym (written_names folder set given fits)) (distinct-filter (is_among (unwon folder set given fits)) (targets folder set given fits) fits.once))
       (λ q h. ap (λ f. map_of.get f q) after_is))
 
-  -- what is no needing target's name, no match and no aside stands as before
-  pub other_ones : (name : List ℕ) → is_among (needing_names folder set) name ≡ false → is_among (matching folder set given) name ≡ false
+  -- a name that is no incomplete target's, no match and no aside has the same file as before
+  pub other_ones : (name : List ℕ) → is_among (incomplete_names folder set) name ≡ false → is_among (matching folder set given) name ≡ false
       → is_among (map (aside folder set) (put_aside folder set)) name ≡ false → map_of.get (after_repair folder set given) name ≡ map_of.get folder name
   other_ones name h k l = grind (arith, unwanted, unaside, false_from_ne_true, image_of, clash, image_in, left_moved, get_without, among-append, or_from, heads)
 
@@ -509,9 +509,9 @@ module _ (folder : Folder) (set : ParSet) (given : List (List ℕ)) (fits : Fits
     others = other_ones;
   }
 
--- ---- from what a repair wants
+-- ---- from the premises of a repair
 
--- what is not taken is in no folder and no target's
+-- a name that is not taken is in no folder and no target's
 apart_parts : (folder : Folder) (set : ParSet) (n : List ℕ) → is_among (taken_for folder set) (aside folder set n) ≡ false → (is_among (names folder) (aside folder set n) ≡ false) × (is_among (target_names set) (aside folder set n) ≡ false)
 apart_parts folder set n h = or_parts _ _ (sym (among-append (names folder) (target_names set) (aside folder set n)) ∙ h)
 
@@ -522,8 +522,8 @@ fits_all folder set given f = record {
   aside_apart = λ n. (apart_parts folder set n (aside_out folder set n f.few)).1;
 }
 
--- of a set that reads, without a bound on the names: where no number is free, the aside is the empty name, and that is
--- no target's
+-- for any set that can be read, without a bound on the names: if no number is free, the aside is the empty name, which
+-- is no target's
 pub targets_fit : (folder : Folder) (name : List ℕ) (set : ParSet) (extras : List (List ℕ)) → set_of folder name ≡ Ok set → list_all (has folder) extras ≡ true → Fits folder set (candidates folder set extras)
 targets_fit folder name set extras h there =
     let sound = sound_of folder name set h in

@@ -1,4 +1,4 @@
--- Exponents that are close are kept, and a run of as many as slices are lost determines these.
+-- Close exponents are kept, and a run with an exponent for each lost slice determines the lost slices.
 use Rattle.par2_spec.proofs.Common.{◌≡◌, ◌≢◌, ℕ, zero, suc, ◌+◌, ◌-◌, ◌^◌, ◌<◌, ◌≤◌, List, [], ◌∷◌, length, map, take, get_or, refl, sym, ap, ap₂, ◌∙◌, subst, cond, true, Bool, eqb, inl, inr, arith, filter, AllByRecursion, Contains, range_with_len, IsStrictlyIncreasing, Decides-eqb, cases_lt, eq-eqb, ne_eqb, length-map, get_or-map, get_or-take, get_or_default, Contains-get_or, length-range_with_len, get_or-range_with_len, AllPairs-from_increasing, IsDistinct-from_AllPairs, mul, constant, pow, coefficient, coefficients, dot, kept, rank, smaller, is_independent, IsVector, Kills, IsKept, IsRepairable, AreElements, ArePoints, Interpolates, value, bit_xor}
 use Rattle.par2_spec.proofs.FieldConstants.{range_rises}
 use Rattle.par2_spec.specs.Runs.{AreSlices, AreClose, HasRun}
@@ -7,7 +7,7 @@ use Rattle.par2_spec.proofs.UniqueLaws.{all_from_contains}
 use Rattle.par2_spec.proofs.FullRank.{full-iff}
 use Rattle.par2_spec.proofs.PolynomialLaws.{value-lt, some_polynomial}
 
--- ---- rows that a function gives
+-- ---- rows given by a function
 
 row_same : (g h : ℕ → ℕ) → ((k : ℕ) → g k ≡ h k) → (ks v : List ℕ) → dot (map g ks) v ≡ dot (map h ks) v
 unfolding dot
@@ -33,7 +33,7 @@ row_times a g small fits (k ∷ ks) (x ∷ v) h =
     ∙ sym ((product_linear_right a).on_xor (mul (g k) x) (dot (map g ks) v))
 row_times a g small fits ks v h = sym (product-zero a)
 
--- ---- what kills a vector together
+-- ---- exponents that together kill a vector
 
 -- coefficient k of exponent u times the value of a polynomial at its constant
 weighted : ℕ → List ℕ → ℕ → ℕ
@@ -53,7 +53,7 @@ one_more u a p small h k = unfold weighted coefficient value pow in
     ∙ ap₂ bit_xor (product_comm power a hp small)
     (sym (product_assoc power c v hp hc (value-lt p c h hc)) ∙ ap (λ x. mul x v) (product_comm power c hp hc))
 
--- a vector that a run of exponents kills is killed by the combinations of their rows: those of the values of polynomials
+-- a vector that a run of exponents kills is killed by each combination of their rows: the values of a polynomial
 killed_by_polynomial : (ks v : List ℕ) → AreElements v → (p : List ℕ) → AreElements p → (u : ℕ) → ((i : ℕ) → i < length p → Kills ks (u + i) v) → dot (map (weighted u p) ks) v ≡ 0
 unfolding weighted value
 killed_by_polynomial ks v is [] h u kills = row_none (weighted u []) (λ k. product-zero (coefficient u k)) ks v
@@ -66,7 +66,7 @@ killed_by_polynomial ks v is (a ∷ p) h u kills =
     ∙ ap₂ bit_xor (row_times a (coefficient u) h.0 (coefficient-lt u) ks v is ∙ ap (mul a) (subst (λ n. Kills ks n v) at_first (kills 0 (omega arith))) ∙ product-zero a)
     (killed_by_polynomial ks v is p h.1 (suc u) later)
 
--- ---- a polynomial that is 1 at one of the points and 0 at the others
+-- ---- a polynomial that is 1 at one of the points and 0 at the others (Lagrange basis)
 
 is_one_at : ℕ → ℕ → ℕ
 is_one_at c z = cond (eqb z c) 1 0
@@ -104,13 +104,13 @@ points_are ks are = record {
       (sym (get_or-map constant ks i 0 d first) ∙ same ∙ get_or-map constant ks j 0 d second));
 }
 
--- the constants of the slices at two places
+-- the constants of the slices at two positions
 apart : (ks : List ℕ) → AreSlices ks → (i q : ℕ) → i < length ks → q < length ks → i ≢ q → constant (get_or ks i 0) ≢ constant (get_or ks q 0)
 apart ks are i q hi hq other = grind (arith, by_either, cases_lt, constants_differ)
 
 -- ---- a whole run
 
--- what a run of as many exponents as slices are lost kills is 0 at each place
+-- a vector that a run with an exponent for each lost slice kills is 0 at each position
 zero_at : (ks v : List ℕ) (f q : ℕ) → AreSlices ks → IsVector (length ks) v → ((i : ℕ) → i < length ks → Kills ks (f + i) v) → q < length ks → get_or v q 0 ≡ 0
 zero_at ks v f q are is kills hq = unfold weighted is_one_at in
     let k = get_or ks q 0 in
@@ -152,7 +152,7 @@ run_determines ks exponents f are run v is killed =
 pub run_rank : (ks exponents : List ℕ) (f : ℕ) → AreSlices ks → IsStrictlyIncreasing exponents → HasRun f (length ks) exponents → rank ks exponents ≡ length ks
 run_rank ks exponents f are rise run = (full-iff ks exponents rise).1 (run_determines ks exponents f are run)
 
--- ---- of a whole run each is kept
+-- ---- each exponent of a whole run is kept
 
 range_has : (f n e : ℕ) → f ≤ e → e < f + n → Contains (range_with_len f n) e
 range_has f n e low high =
@@ -165,7 +165,7 @@ filter-le : (p : ℕ → Bool) (xs : List ℕ) → length (filter p xs) ≤ leng
 filter-le p [] = omega arith
 filter-le p (x ∷ xs) = grind (arith, filter-le p xs)
 
--- where a filter leaves as many, each passes
+-- if a filter leaves as many items, each item passes
 all_pass : (p : ℕ → Bool) (xs : List ℕ) → length (filter p xs) ≡ length xs → AllByRecursion (λ x. p x ≡ true) xs
 all_pass p [] h = tt
 all_pass p (x ∷ xs) h = grind (arith, filter-le, all_pass p xs)
@@ -182,7 +182,7 @@ run_kept ks f e are low high =
 
 -- ---- exponents that are close
 
--- an exponent is kept where each smaller one is close to it
+-- an exponent is kept if each smaller one is close to it
 near_kept : (ks exponents : List ℕ) (e : ℕ) → AreSlices ks → e < e + length ks → ((other : ℕ) → Contains exponents other → other < e → e < other + length ks) → IsKept ks exponents e
 near_kept ks exponents e are some near =
     let n = length ks in
@@ -211,7 +211,7 @@ filter_all p (x ∷ xs) h = ap (λ b. cond b (x ∷ filter p xs) (filter p xs)) 
 pub close_kept : (ks exponents : List ℕ) → AreSlices ks → AreClose (length ks) exponents → kept ks exponents ≡ exponents
 close_kept ks exponents are close = search (arith, filter_all, all_from_contains, near_passes)
 
--- a place of the first n is below n
+-- a position in the first n items is below n
 place-lt : (i n : ℕ) (xs : List ℕ) → i < length (take n xs) → (i < n) × (i < length xs)
 place-lt i zero xs h = absurd (omega (arith, h))
 place-lt i (suc n) [] h = absurd (omega (arith, h))
@@ -224,7 +224,7 @@ lt-place j (suc n) [] h k = absurd (omega (arith, k))
 lt-place zero (suc n) (x ∷ xs) h k = omega arith
 lt-place (suc j) (suc n) (x ∷ xs) h k = let r = lt-place j n xs (omega (arith, h)) (omega (arith, k)) in omega (arith, r)
 
--- a smaller exponent stands before
+-- a smaller exponent comes earlier
 stands_before : (exponents : List ℕ) (n e other : ℕ) → IsStrictlyIncreasing exponents → Contains (take n exponents) e → Contains exponents other → other < e → Contains (take n exponents) other
 stands_before exponents n e other rise first second lower =
     let i = first.0 in

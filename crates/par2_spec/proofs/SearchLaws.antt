@@ -1,6 +1,6 @@
--- What the matches of a set are.
+-- The matches of a set.
 use Rattle.par2_spec.proofs.TestLaws.{by_either}
-use Rattle.par2_spec.proofs.Common.{◌≡◌, ◌&&◌, ℕ, List, [], ◌∷◌, map, refl, sym, ap, ◌∙◌, subst, cond, true, false, Bool, not, ◌||◌, ◌++◌, arith, filter, filter_map, find, zip, Option, Some, None, option_to_list, is_some, cons_option, bytes_eq, and_parts, or_cases, or_left, or_right, false_from_ne_true, false≢true, same_Some, and-true, and_assoc, is_among, Folder, bytes_of, ParSet, Target, is_intact, matched, needing, intact_names, AreFirstMatches, matches}
+use Rattle.par2_spec.proofs.Common.{◌≡◌, ◌&&◌, ℕ, List, [], ◌∷◌, map, refl, sym, ap, ◌∙◌, subst, cond, true, false, Bool, not, ◌||◌, ◌++◌, arith, filter, filter_map, find, zip, Option, Some, None, option_to_list, is_some, cons_option, bytes_eq, and_parts, or_cases, or_left, or_right, false_from_ne_true, false≢true, same_Some, and-true, and_assoc, is_among, Folder, bytes_of, ParSet, Target, is_intact, matched, incomplete, intact_names, AreFirstMatches, matches}
 use Rattle.par2_spec.proofs.NamesLaws.{same_name, itself, clash, AreDistinct, among-filter, among-append}
 
 -- the targets with their matches, and the matches alone
@@ -18,7 +18,7 @@ names_of_pairs folder s free [] = refl
 names_of_pairs folder s free (t ∷ ts) =
     ap (λ ns. t.name ∷ ns) (names_of_pairs folder s (without_found (find (λ name. is_intact s t (bytes_of folder name)) free) free) ts)
 
--- what is found is one of the names, and passes
+-- a name that is found is one of the names, and passes
 pub found_passes : (p : List ℕ → Bool) (names : List (List ℕ)) (q : List ℕ) → find p names ≡ Some q → (is_among names q ≡ true) × (p q ≡ true)
 found_passes p [] q h = absurd (false≢true (ap is_some h))
 found_passes p (x ∷ names) q h = step (p x) refl h (found_passes p names q)
@@ -27,7 +27,7 @@ found_passes p (x ∷ names) q h = step (p x) refl h (found_passes p names q)
     step true i e k = (or_left _ _ (subst (λ y. bytes_eq q y ≡ true) (sym (same_Some x q e)) (itself q)), subst (λ y. p y ≡ true) (same_Some x q e) i)
     step false i e k = let r = k e in (or_right (bytes_eq q x) (is_among names q) r.0, r.1)
 
--- what is taken was free
+-- a match was a free name
 pub taken_was_free : (folder : Folder) (s : ℕ) (free : List (List ℕ)) (ts : List Target) (q : List ℕ) → is_among (taken_by folder s free ts) q ≡ true → is_among free q ≡ true
 taken_was_free folder s free [] q h = absurd (false≢true h)
 taken_was_free folder s free (t ∷ ts) q h =
@@ -39,7 +39,7 @@ taken_was_free folder s free (t ∷ ts) q h =
     step (Some x) k rest r i =
         by_either (or_cases (bytes_eq q x) (is_among rest q) i) (λ here. subst (λ y. is_among free y ≡ true) (sym (same_name q x here)) (k x refl)) (λ there. r there)
 
--- and each name is taken once
+-- each name is a match at most once
 pub taken_once : (folder : Folder) (s : ℕ) (free : List (List ℕ)) (ts : List Target) → AreDistinct (taken_by folder s free ts)
 taken_once folder s free [] = tt
 taken_once folder s free (t ∷ ts) =
@@ -102,15 +102,15 @@ first_matches folder s searched intact before (t ∷ ts) =
 -- the matches of a set are those of the rule, in target order
 pub matches_follow : (folder : Folder) (set : ParSet) (searched : List (List ℕ)) → AreFirstMatches folder set.slice_size searched (intact_names folder set) [] (matches folder set searched)
 matches_follow folder set searched = unfold matches in
-    subst (λ free. AreFirstMatches folder set.slice_size searched (intact_names folder set) [] (pairs_with folder set.slice_size free (needing folder set)))
+    subst (λ free. AreFirstMatches folder set.slice_size searched (intact_names folder set) [] (pairs_with folder set.slice_size free (incomplete folder set)))
     (filter_alike _ _ searched (λ x. and-true (not (is_among (intact_names folder set) x))))
-    (first_matches folder set.slice_size searched (intact_names folder set) [] (needing folder set))
+    (first_matches folder set.slice_size searched (intact_names folder set) [] (incomplete folder set))
 
 targets_of_pairs : (folder : Folder) (s : ℕ) (free : List (List ℕ)) (ts : List Target) → map (λ m. m.0) (pairs_with folder s free ts) ≡ ts
 targets_of_pairs folder s free [] = refl
 targets_of_pairs folder s free (t ∷ ts) =
     ap (λ us. t ∷ us) (targets_of_pairs folder s (without_found (find (λ name. is_intact s t (bytes_of folder name)) free) free) ts)
 
--- each needing target stands there, in order
-pub matches_of_needing : (folder : Folder) (set : ParSet) (searched : List (List ℕ)) → map (λ m. m.0) (matches folder set searched) ≡ needing folder set
-matches_of_needing folder set searched = unfold matches in grind (arith, targets_of_pairs)
+-- each incomplete target is there, in order
+pub matches_of_incomplete : (folder : Folder) (set : ParSet) (searched : List (List ℕ)) → map (λ m. m.0) (matches folder set searched) ≡ incomplete folder set
+matches_of_incomplete folder set searched = unfold matches in grind (arith, targets_of_pairs)

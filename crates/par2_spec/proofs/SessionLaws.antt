@@ -1,10 +1,10 @@
--- A session is a history, and a kept session keeps its room.
-use Rattle.par2_spec.proofs.Common.{◌≡◌, ℕ, zero, suc, ◌+◌, ◌-◌, ◌≤◌, List, [], ◌∷◌, refl, sym, ap, ◌∙◌, true, arith, drop, length, Option, None, Result, Ok, Err, replicate, sum_by, is_ok, AllByRecursion, and_parts, and_from, false≢true, sum_by-cons, drop-nil, Fault, Folder, Change, Write, Replace, Rename, Remove, state_after, effects, are_applicable, way_back, FolderState, takes_all, places_taken, state_after_all, Command, Action, Do, Undo, Redo, refusal, changes_of, LeadsToAfter, LeadsToAfterAsked, Session, first_entry, changes_unless, others, session_unless, KeptSession, session_of_kept, CanWalk, OnlyGrew, folders_along, history_of, changes_asked, session_with, session_after, walks, kept_done, kept_undone, kept_redone, is_valid, leads}
+-- A session follows its history, and a session in memory keeps its capacity.
+use Rattle.par2_spec.proofs.Common.{◌≡◌, ℕ, zero, suc, ◌+◌, ◌-◌, ◌≤◌, List, [], ◌∷◌, refl, sym, ap, ◌∙◌, true, arith, drop, length, Option, None, Result, Ok, Err, replicate, sum_by, is_ok, AllByRecursion, and_parts, and_from, false≢true, sum_by-cons, drop-nil, Fault, Folder, Change, Write, Replace, Rename, Remove, state_after, effects, are_applicable, way_back, FolderState, takes_all, places_taken, state_after_all, Command, Action, Do, Undo, Redo, refusal, changes_of, LeadsToAfter, LeadsToAfterRequested, Session, first_entry, changes_unless, others, session_unless, KeptSession, session_of_kept, CanWalk, OnlyGrew, folders_along, history_of, changes_requested, session_with, session_after, walks, kept_done, kept_undone, kept_redone, is_valid, leads}
 use Rattle.par2_spec.specs.History.{History, Refusal, NothingToUndo, NothingToRedo, after_command, unless_refused, after_undo, after_redo, Run, Ended, Accepted, Passed, folders, IsChanging}
 use Rattle.par2_spec.specs.History.{history_after}
 use Rattle.par2_spec.proofs.FolderLaws.{undo_changes, undo_are_applicable, state_files, taken_are_applicable, state_all_back, way_back_taken, changes_back, with_room, more_room_all, takes_applicable}
 
--- ---- what came out
+-- ---- results of actions
 
 ok_or_else : {A E : Type 0} → A → Result A E → A
 ok_or_else a (Ok x) = x
@@ -27,7 +27,7 @@ leads_back folder cs entries h l = unfold leads in and_from _ _ (undo_are_applic
 
 -- ---- an accepted action
 
--- a session after an accepted action: it is the history after it, and can be walked again
+-- the session after an accepted action is that of the history after it, and its entries can be applied again
 abbrev IsNext : Session → Action → Session → Type 0
 IsNext s action t = (history_after (history_of s) action ≡ Ok (history_of t)) × (is_valid t ≡ true)
 
@@ -46,9 +46,9 @@ redo_next : (folder : Folder) (undos redos : List (List Change)) (t : Session) �
     → (after_redo (folders_along folder undos) folder (folders_along folder redos) ≡ Ok (history_of t)) × (is_valid t ≡ true)
 redo_next folder undos redos t v h = unfold session_with history_of folders_along leads in grind (arith, ok_no_err, same_ok, and_parts, along_back, and_from, leads_back)
 
--- a session that can be walked goes where the history goes, and can be walked again
-pub accepted_next : (s t : Session) (action : Action) → is_valid s ≡ true → LeadsToAfterAsked s.folder action → session_after s action ≡ Ok t → IsNext s action t
-unfolding session_after changes_asked history_after history_of
+-- a session whose entries can be applied follows its history, and they can be applied again
+pub accepted_next : (s t : Session) (action : Action) → is_valid s ≡ true → LeadsToAfterRequested s.folder action → session_after s action ≡ Ok t → IsNext s action t
+unfolding session_after changes_requested history_after history_of
 accepted_next s t (Do command) v l h = done_next s t command (refusal s.folder command) v l h
 accepted_next s t Undo v l h = undo_next s.folder s.undos s.redos t v h
 accepted_next s t Redo v l h = redo_next s.folder s.undos s.redos t v h
@@ -56,7 +56,7 @@ accepted_next s t Redo v l h = redo_next s.folder s.undos s.redos t v h
 -- ---- a refused action
 
 pub refused_alike : (s : Session) (action : Action) (reason : Refusal) → session_after s action ≡ Err reason → history_after (history_of s) action ≡ Err reason
-refused_alike s action reason e = unfold session_after changes_asked history_after history_of in grind arith
+refused_alike s action reason e = unfold session_after changes_requested history_after history_of in grind arith
 
 -- ---- runs of commands
 
@@ -67,7 +67,7 @@ drop_one_more : {A : Type 0} (n : ℕ) (xs : List A) (y : A) (ys : List A) → d
 drop_one_more (suc n) (x ∷ xs) y ys e = drop_one_more n xs y ys e
 drop_one_more n xs y ys e = grind arith
 
--- n accepted ones left the n folders before them
+-- n accepted commands leave the n folders before them
 pub run_leaves : (start end : History) (actions : List Action) (n : ℕ) → Run start actions n end → AllByRecursion IsChanging actions → drop n (folders end) ≡ folders start
 run_leaves start end actions n Ended is = refl
 run_leaves start end actions n (Accepted {next = next} {action = action} {actions = rest} {n = m} e run) is = grind (arith, drop_one_more, changed_older, run_leaves next end rest m run is.1)
@@ -88,16 +88,16 @@ one_undone n h folder older (f ∷ fs) i k later =
     let r = later next k in
     (r.0, Accepted (ap (λ o. after_undo h.now o h.newer) i) r.1, r.2)
 
--- n undos pass over n folders
+-- n undos go back n folders
 undos_pass : (n : ℕ) (h : History) (folder : Folder) (older : List Folder) → drop n (folders h) ≡ folder ∷ older → Undone n h folder older
 undos_pass zero h folder older e = (h, Ended, e)
 undos_pass (suc n) h folder older e = one_undone n h folder older h.older refl e (λ next k. undos_pass n next folder older k)
 
--- n undos after n accepted ones lead back
+-- n undos after n accepted commands lead back
 pub undos_lead_back : (start end : History) (actions : List Action) (n : ℕ) → Run start actions n end → AllByRecursion IsChanging actions → (back : History) × Run end (replicate n Undo) n back × (folders back ≡ folders start)
 undos_lead_back start end actions n run is = undos_pass n end start.now start.older (run_leaves start end actions n run is)
 
--- ---- kept sessions
+-- ---- sessions in memory
 
 pub done_of_kept : (s : KeptSession) (command : Command) (cs : List Change) → IsChanging (Do command) → session_of_kept (kept_done s cs) ≡ session_with (session_of_kept s) (Do command) cs
 done_of_kept s command cs is = unfold kept_done session_with in grind (arith, state_files)
@@ -115,7 +115,7 @@ walks_back folder cs entries h w = unfold walks in and_from _ _ (way_back_taken 
 pub done_can_walk : (s : KeptSession) (cs : List Change) → CanWalk s → takes_all s.folder cs ≡ true → CanWalk (kept_done s cs)
 done_can_walk s cs c h = unfold kept_done walks in record { back = walks_back s.folder cs s.undos h c.back; forth = refl }
 
--- the next entry is taken, and the entries after it can be walked
+-- the folder takes the next entry, and the later entries can be walked
 pub next_taken : (folder : FolderState) (entries : List (List Change)) (cs : List Change) (rest : List (List Change)) → walks folder entries ≡ true → entries ≡ cs ∷ rest → (takes_all folder cs ≡ true) × (walks (state_after_all folder cs) rest ≡ true)
 next_taken folder entries cs rest w e = unfold walks in and_parts (takes_all folder cs) (walks (state_after_all folder cs) rest) (sym (ap (walks folder) e) ∙ w)
 
@@ -140,7 +140,7 @@ undo_of_redo s cs rest c e = unfold kept_redone kept_undone in
     let taken = (next_taken s.folder s.redos cs rest c.forth e).0 in
     λ i. record { folder = state_all_back s.folder cs taken i; undos = s.undos; redos = (ap (λ d. d ∷ others s.redos) (changes_back s.folder cs taken) ∙ ap (λ es. cs ∷ others es) e ∙ sym e) i; room = s.room }
 
--- ---- room
+-- ---- capacity
 
 roomier_walks : (folder : FolderState) (k : ℕ) (entries : List (List Change)) → walks folder entries ≡ true → walks (with_room folder k) entries ≡ true
 unfolding walks
@@ -177,7 +177,7 @@ walked_is_valid s c = and_from _ _ (walked_leads s.folder s.undos c.back) (walke
 
 -- ---- places
 
--- of the vacant places only those of the files that are written are taken
+-- changes take vacant places only for the files that they write
 places_left : (folder : FolderState) (cs : List Change) → folder.vacant ≤ (state_after_all folder cs).vacant + places_taken cs
 unfolding state_after_all
 places_left folder [] = omega arith

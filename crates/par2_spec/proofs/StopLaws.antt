@@ -1,14 +1,14 @@
--- Whatever a stopped command left, it opens as the session from before it.
-use Rattle.par2_spec.proofs.Common.{◌≡◌, ℕ, zero, suc, ◌+◌, ◌-◌, ◌<◌, ◌≤◌, List, [], ◌∷◌, ◌++◌, length, map, take, drop, get_or, refl, sym, ap, ◌∙◌, subst, cond, true, false, Bool, ◌&&◌, inl, arith, length-append, length-drop, append-nil, IfSome, reverse, position, Option, Some, None, Result, Ok, Err, unwrap_or, is_some, if◌then◌else◌, AllByRecursion, position_from, bytes_eq, drop-append_seam, take-append_seam, reverse-reverse, reverse-append, length-reverse, get_or-reverse, get_or-map, take-append-drop, length-map, length-take-le, take-map, take-take, get_or-take, drop-drop, reverse_onto, common_steps, and_parts, and_from, false≢true, position_from-zero, Folder, fingerprint, Change, effect, inverse, is_applicable, effects, are_applicable, way_back, folders_after, Session, session_of, is_valid, Opened, Settled, Halfway, opened_if_found, opened_by_part, TellsApart, session_of_opened, kept_in, settled_journal, halfway_journal, leads, leads_through, taken_back, opened, OpensAs, Opens, HalfwayJournalOpensAsBefore, HalfwayTextOpensAsBefore, HalfwayJournalStillOpens, HalfwayTextStillOpens}
+-- A folder that a stopped command left opens as the session from before the command.
+use Rattle.par2_spec.proofs.Common.{◌≡◌, ℕ, zero, suc, ◌+◌, ◌-◌, ◌<◌, ◌≤◌, List, [], ◌∷◌, ◌++◌, length, map, take, drop, get_or, refl, sym, ap, ◌∙◌, subst, cond, true, false, Bool, ◌&&◌, inl, arith, length-append, length-drop, append-nil, IfSome, reverse, position, Option, Some, None, Result, Ok, Err, unwrap_or, is_some, if◌then◌else◌, AllByRecursion, position_from, bytes_eq, drop-append_seam, take-append_seam, reverse-reverse, reverse-append, length-reverse, get_or-reverse, get_or-map, take-append-drop, length-map, length-take-le, take-map, take-take, get_or-take, drop-drop, reverse_onto, common_steps, and_parts, and_from, false≢true, position_from-zero, Folder, fingerprint, Change, effect, inverse, is_applicable, effects, are_applicable, way_back, folders_after, Session, session_of, is_valid, Opened, Settled, Halfway, opened_if_found, opened_by_part, FingerprintsDiffer, session_of_opened, kept_in, settled_journal, halfway_journal, leads, leads_through, taken_back, opened, OpensAs, Opens, HalfwayJournalOpensAsBefore, HalfwayBytesOpenAsBefore, HalfwayJournalStillOpens, HalfwayBytesStillOpen}
 use Rattle.par2_spec.specs.declared.Version.{Version}
 use Rattle.par2_spec.specs.Journals.{Journal, HalfwayPart, IsHalfwayPart, Spells}
 use Rattle.par2_spec.specs.declared.JournalFault.{JournalFault}
 use Rattle.par2_spec.specs.declared.JournalFault.TheVariants.{JournalInvalid}
 use Rattle.par2_spec.proofs.Basics.{undo_changes, undo_change, undo_is_applicable, effects-append, way_back-append, itself, same_name, all_get, by_test}
 
--- ---- places in a list
+-- ---- positions in a list
 
--- the least place of what stands at n
+-- the first position of the item at n
 place_from : (q : List ℕ) (i : ℕ) (all : List (List ℕ)) (n : ℕ) → n < length all → get_or all n q ≡ q → (k : ℕ) × (position_from (bytes_eq q) i all ≡ Some (i + k)) × (k ≤ n) × (get_or all k q ≡ q)
 place_from q i (x ∷ all) (suc n) lt here = step (bytes_eq q x) refl (place_from q (i + 1) all n (omega (arith, lt)) here)
   where
@@ -23,7 +23,7 @@ least_place q all n lt here =
     let r = place_from q 0 all n lt here in
     (r.0, position_from-zero (bytes_eq q) all ∙ r.1 ∙ ap Some (let e : 0 + r.0 ≡ r.0 = omega arith in e), r.2, r.3)
 
--- what stands at the place that was found
+-- the item at the position that was found
 at_place : (q : List ℕ) (i : ℕ) (all : List (List ℕ)) (k : ℕ) → position_from (bytes_eq q) i all ≡ Some k → (n : ℕ) × (k ≡ i + n) × (n < length all) × (get_or all n q ≡ q)
 at_place q i [] k h = absurd (false≢true (ap is_some h))
 at_place q i (x ∷ all) k h = by_test (bytes_eq q x)
@@ -45,8 +45,8 @@ unfolding folders_after effects
 passed_at folder (c ∷ cs) (suc j) d le = passed_at (effect folder c) cs j d (omega (arith, le))
 passed_at folder cs j d le = grind arith
 
--- told apart, two folders of one fingerprint are one
-one_folder : (folder : Folder) (cs : List Change) (a b : ℕ) → TellsApart folder cs → a ≤ length cs → b ≤ length cs → fingerprint (effects folder (take a cs)) ≡ fingerprint (effects folder (take b cs)) → effects folder (take a cs) ≡ effects folder (take b cs)
+-- if fingerprints differ, two folders with the same fingerprint are equal
+one_folder : (folder : Folder) (cs : List Change) (a b : ℕ) → FingerprintsDiffer folder cs → a ≤ length cs → b ≤ length cs → fingerprint (effects folder (take a cs)) ≡ fingerprint (effects folder (take b cs)) → effects folder (take a cs) ≡ effects folder (take b cs)
 one_folder folder cs a b apart le_a le_b e =
     let size : length (passed folder cs) ≡ length cs + 1 = length-passed folder cs in
     let first = passed_at folder cs a folder le_a in
@@ -149,7 +149,7 @@ applicable-take folder [] (suc k) h = refl
 applicable-take folder (c ∷ cs) (suc k) h =
     let r = and_parts (is_applicable folder c) (are_applicable (effect folder c) cs) h in and_from _ _ r.0 (applicable-take (effect folder c) cs k r.1)
 
--- of the folder after the first k changes
+-- the opening of the folder after the first k changes
 taken_from : (v : Version) (s : Session) (cs : List Change) (k : ℕ) → is_valid s ≡ true → are_applicable s.folder cs ≡ true → k ≤ length cs
     → taken_back (effects s.folder (take k cs)) (halfway_journal v s cs) (part s.folder cs) k ≡ Ok (Halfway (kept_in v s) (way_back s.folder (take k cs)))
 taken_from v s cs k valid applies le = unfold taken_back halfway_journal in
@@ -188,9 +188,9 @@ halfway_opens v s cs j valid applies apart le = unfold opened halfway_journal in
           ∙ taken_from v s cs k valid applies le_k,
     )
 
--- ---- what is opened
+-- ---- opened journals
 
--- what is to be taken back, where it is
+-- the changes to take back, if there are any
 back_of : Result Opened JournalFault → Option (List Change)
 back_of (Ok (Halfway s back)) = Some back
 back_of s = None
@@ -200,7 +200,7 @@ session_or other (Ok (Settled s)) = s
 session_or other (Ok (Halfway s back)) = s
 session_or other (Err fault) = other
 
--- the parts of an opening that takes back
+-- the conditions of an opening that takes changes back
 record TakesBack (folder : Folder) (journal : Journal) (s : Session) (back : List Change) : Type 0 where
   halfway : HalfwayPart
   halfway_there : journal.halfway ≡ Some halfway
@@ -251,19 +251,19 @@ drop-reverse xs k a le_a le_k =
     ∙ drop-append_seam (reverse rest) (reverse front)
     ∙ ap reverse (take-take (k - a) k xs (omega arith))
 
--- the fingerprints along the way back are those of the journal, the last one that of the folder before
+-- the fingerprints along the way back are those of the journal, the last one being that of the folder before
 print_along : (folder : Folder) (prints : List (List ℕ)) (back : List Change) (k a : ℕ) (d : List ℕ) → length back ≡ k → k < length prints → get_or prints k d ≡ fingerprint folder → leads_through folder back (reverse (take k prints)) ≡ true
     → a ≤ k → get_or prints (k - a) d ≡ fingerprint (effects folder (take a back))
 unfolding effects
 print_along folder prints back k zero d size lt here h le = ap (λ n. get_or prints n d) (let e : k - 0 ≡ k = omega arith in e) ∙ here
 print_along folder prints back k (suc m) d size lt here h le =
     let long : length (take k prints) ≡ k = length-take-le k prints (omega (arith, lt)) in
-    let turned : get_or (reverse (take k prints)) m d ≡ get_or (take k prints) (length (take k prints) - 1 - m) d = get_or-reverse (take k prints) m d (omega (arith, long, le)) in
+    let stepped : get_or (reverse (take k prints)) m d ≡ get_or (take k prints) (length (take k prints) - 1 - m) d = get_or-reverse (take k prints) m d (omega (arith, long, le)) in
     let place : length (take k prints) - 1 - m ≡ k - suc m = omega (arith, long) in
-    sym (get_or-take k prints (k - suc m) d (omega (arith, le))) ∙ ap (λ n. get_or (take k prints) n d) (sym place) ∙ sym turned
+    sym (get_or-take k prints (k - suc m) d (omega (arith, le))) ∙ ap (λ n. get_or (take k prints) n d) (sym place) ∙ sym stepped
     ∙ through_at folder back (reverse (take k prints)) m d h (omega (arith, size, le))
 
--- from a folder on the way back the rest of it is taken back
+-- a folder on the way back opens with the rest of the way back
 rest_taken : (folder : Folder) (journal : Journal) (h : HalfwayPart) (s : Session) (back : List Change) (k a : ℕ) → k ≤ length h.back → k < length (journal.fingerprint ∷ h.fingerprints) → a ≤ k
     → back ≡ drop (length h.back - k) h.back → leads_through folder back (reverse (take k (journal.fingerprint ∷ h.fingerprints))) ≡ true
     → s ≡ session_of (effects folder back) journal → is_valid s ≡ true
@@ -288,7 +288,7 @@ within_all xs k d e lt = grind arith
 still_taken : (journal : Journal) (folder : Folder) (h : HalfwayPart) (s : Session) (back : List Change) (k i : ℕ) → length h.fingerprints ≡ length h.back → k < length (journal.fingerprint ∷ h.fingerprints)
     → get_or (journal.fingerprint ∷ h.fingerprints) k (fingerprint folder) ≡ fingerprint folder
     → back ≡ drop (length h.back - k) h.back → leads_through folder back (reverse (take k (journal.fingerprint ∷ h.fingerprints))) ≡ true
-    → s ≡ session_of (effects folder back) journal → is_valid s ≡ true → TellsApart folder back → i ≤ length back
+    → s ≡ session_of (effects folder back) journal → is_valid s ≡ true → FingerprintsDiffer folder back → i ≤ length back
     → (rest : List Change) × (opened_if_found (effects folder (take i back)) journal h (position (bytes_eq (fingerprint (effects folder (take i back)))) (journal.fingerprint ∷ h.fingerprints)) ≡ Ok (Halfway s rest))
 still_taken journal folder h s back k i each lt here last through session valid apart le =
     let prints = journal.fingerprint ∷ h.fingerprints in
@@ -301,15 +301,15 @@ still_taken journal folder h s back k i each lt here last through session valid 
     let place = least_place q prints (k - i) (omega (arith, lt)) (print_along folder prints back k i q size lt start through le_i) in
     let low : place.0 ≤ k - i = place.2 in
     let a = k - place.0 in
-    let turn : k - a ≡ place.0 = omega (arith, low) in
-    let alike : fingerprint (effects folder (take a back)) ≡ q = sym (print_along folder prints back k a q size lt start through (omega arith)) ∙ ap (λ n. get_or prints n q) turn ∙ place.3 in
+    let step : k - a ≡ place.0 = omega (arith, low) in
+    let alike : fingerprint (effects folder (take a back)) ≡ q = sym (print_along folder prints back k a q size lt start through (omega arith)) ∙ ap (λ n. get_or prints n q) step ∙ place.3 in
     let same : effects folder (take a back) ≡ g = one_folder folder back a i apart (omega (arith, size)) le alike in (
       drop a back,
-      ap (opened_if_found g journal h) place.1 ∙ ap (taken_back g journal h) (sym turn) ∙ ap (λ f. taken_back f journal h (k - a)) (sym same)
+      ap (opened_if_found g journal h) place.1 ∙ ap (taken_back g journal h) (sym step) ∙ ap (λ f. taken_back f journal h (k - a)) (sym same)
           ∙ rest_taken folder journal h s back k a le_k lt (omega arith) last through session valid,
     )
 
--- where a halfway journal opens a folder, it opens each folder that the way back passes through as that session too
+-- if a halfway journal opens a folder, it opens each folder that the way back passes through as that session
 pub still_opens : HalfwayJournalStillOpens
 still_opens journal folder s back i is e apart le = unfold opened in
     let t = takes_back folder journal s back e in
@@ -323,7 +323,7 @@ still_opens journal folder s back i is e apart le = unfold opened in
     let r = still_taken journal folder h s back k i each (subst (λ n. n < length prints) (sym place) found.2) (ap (λ n. get_or prints n (fingerprint folder)) place ∙ found.3) t.last t.through t.session t.valid apart le in
     (r.0, ap (opened_by_part (effects folder (take i back)) journal) t.halfway_there ∙ r.1)
 
--- what is taken back applies and leads to the session's folder, and the session can be walked
+-- the changes taken back apply and lead to the session's folder, and the session's entries can be applied
 pub taken_back_leads : (journal : Journal) (folder : Folder) (s : Session) (back : List Change) → opened folder journal ≡ Ok (Halfway s back) → (are_applicable folder back ≡ true) × (effects folder back ≡ s.folder) × (is_valid s ≡ true)
 taken_back_leads journal folder s back e =
     let t = takes_back folder journal s back e in
@@ -331,18 +331,18 @@ taken_back_leads journal folder s back e =
 
 -- ---- in a store
 
-stored_opens : (folder : Folder) (text : List ℕ) (journal : Journal) (o : Opened) → Spells text journal → opened folder journal ≡ Ok o → OpensAs folder (Some text) (Ok (record { session = session_of_opened o; dropped = false }))
-stored_opens folder text journal o spells e = unfold OpensAs Opens in (Ok o, inl (journal, spells, sym e), refl)
+stored_opens : (folder : Folder) (bytes : List ℕ) (journal : Journal) (o : Opened) → Spells bytes journal → opened folder journal ≡ Ok o → OpensAs folder (Some bytes) (Ok (record { session = session_of_opened o; dropped = false }))
+stored_opens folder bytes journal o spells e = unfold OpensAs Opens in (Ok o, inl (journal, spells, sym e), refl)
 
-pub settled_stored : (v : Version) (s : Session) (text : List ℕ) → is_valid s ≡ true → Spells text (settled_journal v s) → OpensAs s.folder (Some text) (Ok (record { session = kept_in v s; dropped = false }))
-settled_stored v s text valid spells = stored_opens s.folder text (settled_journal v s) (Settled (kept_in v s)) spells (settled_opens v s valid)
+pub settled_stored : (v : Version) (s : Session) (bytes : List ℕ) → is_valid s ≡ true → Spells bytes (settled_journal v s) → OpensAs s.folder (Some bytes) (Ok (record { session = kept_in v s; dropped = false }))
+settled_stored v s bytes valid spells = stored_opens s.folder bytes (settled_journal v s) (Settled (kept_in v s)) spells (settled_opens v s valid)
 
-pub halfway_stored : HalfwayTextOpensAsBefore
-halfway_stored v s cs j text valid applies apart le spells =
+pub halfway_stored : HalfwayBytesOpenAsBefore
+halfway_stored v s cs j bytes valid applies apart le spells =
     let r = halfway_opens v s cs j valid applies apart le in
-    stored_opens (effects s.folder (take j cs)) text (halfway_journal v s cs) (Halfway (kept_in v s) r.0) spells r.1
+    stored_opens (effects s.folder (take j cs)) bytes (halfway_journal v s cs) (Halfway (kept_in v s) r.0) spells r.1
 
-pub still_stored : HalfwayTextStillOpens
-still_stored journal folder s back i text spells e apart le =
+pub still_stored : HalfwayBytesStillOpen
+still_stored journal folder s back i bytes spells e apart le =
     let r = still_opens journal folder s back i spells.0 e apart le in
-    stored_opens (effects folder (take i back)) text journal (Halfway s r.0) spells r.1
+    stored_opens (effects folder (take i back)) bytes journal (Halfway s r.0) spells r.1

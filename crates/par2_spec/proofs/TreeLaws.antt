@@ -1,4 +1,4 @@
--- Trees of names, or of keys that stand for names.
+-- B-tree sets of names, or of keys that represent names.
 use Rattle.par2_spec.proofs.Common.{◌≡◌, ℕ, List, [], ◌∷◌, ◌++◌, sym, ap₂, ◌∙◌, Bool, true, false, cond, ◌||◌, arith, slice_cmp, nat_cmp, bytes_eq, Ordering, is_eq-slice_cmp, is_among}
 use Rattle.std.specs.BTreeSet.{BTreeSet, contains}
 use Rattle.std.specs.BTreeMap.{is_at}

@@ -1,11 +1,11 @@
--- Where the lost slices are determined, one list alone agrees.
-use Rattle.par2_spec.proofs.Basics.{by_either, xor_middle, product_linear_right, product-lt, product-zero, power-lt, constant-lt, clash, kept-iff, byte_at, word-lt, same_texts, xor_same, all-both, contained_first, contained_later}
+-- If the lost slices are determined, at most one list agrees.
+use Rattle.par2_spec.proofs.Basics.{by_either, xor_middle, product_linear_right, product-lt, product-zero, power-lt, constant-lt, clash, kept-iff, byte_at, word-lt, same_buffers, xor_same, all-both, contained_first, contained_later}
 use Rattle.par2_spec.proofs.Common.{◌≡◌, ℕ, zero, suc, ◌+◌, ◌/◌, ◌%◌, ◌^◌, ◌<◌, ◌≤◌, List, [], ◌∷◌, length, map, take, drop, get_or, refl, sym, ap, ◌∙◌, subst, cond, true, Bool, arith, flat_map, filter, slice_index, ◌==◌, Option, Some, None, is_none, w16, to_le_bytes, from_le_bytes, xor_self, range_with_len, enumerate_from, list_any, AllByRecursion, AllZip, Contains, ForSome, xor_lt, from_le_bytes-to_le_bytes_2, length-map, or_right, cases_eq, AllZip-long, mul, coefficient, word, coefficients, dot, combination, recovery, kept, IsVector, Kills, IsRepairable, Agrees, kept_slices, IsRebuilt, AreElements, ParSet, lost, survivors, AgreeingListsAreOne, bit_xor}
 use Rattle.std.specs.FinMap as map_of
 
 -- ---- sums of lists
 
--- the sum at each place
+-- the sum at each position
 abbrev pub sums : List ℕ → List ℕ → List ℕ
 sums [] v = []
 sums (x ∷ u) [] = []
@@ -31,16 +31,16 @@ coefficients_are e (i ∷ is) = (power-lt _ e (constant-lt i), coefficients_are 
 
 -- ---- words
 
-abbrev pub AreTexts : List (List ℕ) → Type 0
-AreTexts texts = AllByRecursion (λ text. AllByRecursion (λ b. b < 256) text) texts
+abbrev pub AreBuffers : List (List ℕ) → Type 0
+AreBuffers buffers = AllByRecursion (λ bytes. AllByRecursion (λ b. b < 256) bytes) buffers
 
-pub words_are : (p : ℕ) (texts : List (List ℕ)) → AreTexts texts → AreElements (map (word p) texts)
+pub words_are : (p : ℕ) (buffers : List (List ℕ)) → AreBuffers buffers → AreElements (map (word p) buffers)
 words_are p [] h = tt
-words_are p (text ∷ texts) h = (word-lt text p (byte_at text h.0), words_are p texts h.1)
+words_are p (bytes ∷ buffers) h = (word-lt bytes p (byte_at bytes h.0), words_are p buffers h.1)
 
--- texts of an even length with the same words are the same
+-- buffers of an even length with the same words are equal
 pub same_words : (s : ℕ) (a b : List ℕ) → s % 2 ≡ 0 → length a ≡ s → length b ≡ s → AllByRecursion (λ x. x < 256) a → AllByRecursion (λ x. x < 256) b → ((p : ℕ) → p < s / 2 → word p a ≡ word p b) → a ≡ b
-same_words s a b even la lb ha hb same = same_texts s a b even la lb (byte_at a ha) (byte_at b hb) (λ w h. same w (omega (arith, h)))
+same_words s a b even la lb ha hb same = same_buffers s a b even la lb (byte_at a ha) (byte_at b hb) (λ w h. same w (omega (arith, h)))
 
 -- ---- equal recovery slices have equal sums
 
@@ -58,7 +58,7 @@ same_number m n small_m small_n e = sym (from_le_bytes-to_le_bytes_2 m small_m) 
 abbrev pub whole_row : ℕ → ℕ → List ℕ
 whole_row n e = coefficients (range_with_len 0 n) e
 
-same_dots : (s e : ℕ) (a b : List (List ℕ)) → AreTexts a → AreTexts b → length a ≡ length b → recovery s a e ≡ recovery s b e → (p : ℕ) → p < s / 2
+same_dots : (s e : ℕ) (a b : List (List ℕ)) → AreBuffers a → AreBuffers b → length a ≡ length b → recovery s a e ≡ recovery s b e → (p : ℕ) → p < s / 2
     → dot (whole_row (length a) e) (map (word p) a) ≡ dot (whole_row (length a) e) (map (word p) b)
 same_dots s e a b ha hb long h p lt = unfold recovery combination in
     let row = whole_row (length a) e in
@@ -67,12 +67,12 @@ same_dots s e a b ha hb long h p lt = unfold recovery combination in
     (dot-lt row (map (word p) b) (coefficients_are e (range_with_len 0 (length a))) (words_are p b hb))
     (pieces (λ q. dot row (map (word q) a)) (λ q. dot row (map (word q) b)) 0 (s / 2) same p (omega arith) (omega (arith, lt)))
 
--- ---- what is not zero is at a lost place
+-- ---- a vector that is zero except at the lost slices
 
 abbrev pub lost_from : ℕ → List (Option (List ℕ)) → List ℕ
 lost_from i ks = map (λ z. z.0) (filter (λ z. is_none z.1) (enumerate_from i ks))
 
--- zero at each known place
+-- zero at each known slice
 abbrev pub IsZeroAtKnown : List (Option (List ℕ)) → List ℕ → Type 0
 IsZeroAtKnown [] [] = Unit {0}
 IsZeroAtKnown [] (x ∷ d) = ⊥
@@ -80,7 +80,7 @@ IsZeroAtKnown (k ∷ ks) [] = ⊥
 IsZeroAtKnown (None ∷ ks) (x ∷ d) = IsZeroAtKnown ks d
 IsZeroAtKnown (Some y ∷ ks) (x ∷ d) = (x ≡ 0) × IsZeroAtKnown ks d
 
--- what stands at the lost places
+-- the elements at the lost slices
 abbrev pub at_lost : List (Option (List ℕ)) → List ℕ → List ℕ
 at_lost [] d = []
 at_lost (k ∷ ks) [] = []
@@ -97,7 +97,7 @@ elements-at_lost (None ∷ ks) (x ∷ d) h = (h.0, elements-at_lost ks d h.1)
 elements-at_lost (Some y ∷ ks) (x ∷ d) h = elements-at_lost ks d h.1
 elements-at_lost ks d h = grind arith
 
--- the sum over all places is that over the lost ones
+-- the sum over all slices is that over the lost ones
 pub dot-at_lost : (e i : ℕ) (ks : List (Option (List ℕ))) (d : List ℕ) → IsZeroAtKnown ks d → dot (coefficients (range_with_len i (length ks)) e) d ≡ dot (coefficients (lost_from i ks) e) (at_lost ks d)
 unfolding dot
 dot-at_lost e i (None ∷ ks) (x ∷ d) z = ap (bit_xor (mul (coefficient e i) x)) (dot-at_lost e (i + 1) ks d z)
@@ -121,15 +121,15 @@ pub sums-elements : (u v : List ℕ) → AreElements u → AreElements v → Are
 sums-elements (x ∷ u) (y ∷ v) h k = (xor_lt 16 x y h.0 k.0, sums-elements u v h.1 k.1)
 sums-elements u v h k = tt
 
--- two lists that agree with the known slices do not differ there
-zero_at_known : (ks : List (Option (List ℕ))) (a b : List (List ℕ)) (p : ℕ) → AllZip (λ slice text. ForSome slice (λ found. text ≡ found)) ks a → AllZip (λ slice text. ForSome slice (λ found. text ≡ found)) ks b
+-- two lists that agree with the known slices are equal there
+zero_at_known : (ks : List (Option (List ℕ))) (a b : List (List ℕ)) (p : ℕ) → AllZip (λ slice bytes. ForSome slice (λ found. bytes ≡ found)) ks a → AllZip (λ slice bytes. ForSome slice (λ found. bytes ≡ found)) ks b
     → IsZeroAtKnown ks (sums (map (word p) a) (map (word p) b))
 zero_at_known (None ∷ ks) (x ∷ a) (y ∷ b) p h k = zero_at_known ks a b p h.1 k.1
 zero_at_known (Some z ∷ ks) (x ∷ a) (y ∷ b) p h k =
     (ap (λ t. bit_xor (word p t) (word p y)) (h.0 z refl) ∙ ap (λ t. bit_xor (word p z) (word p t)) (k.0 z refl) ∙ xor_self (word p z), zero_at_known ks a b p h.1 k.1)
 zero_at_known ks a b p h k = grind arith
 
--- ---- what all kept exponents kill, all survivors kill
+-- ---- a vector that all kept exponents kill is killed by all survivors
 
 pub all_from_contains : (P : ℕ → Type 0) (xs : List ℕ) → ((q : ℕ) → Contains xs q → P q) → AllByRecursion P xs
 all_from_contains P [] h = tt
@@ -165,9 +165,9 @@ of_kept P is rs h e c =
 both_recovered : (s : ℕ) (a b : List (List ℕ)) (rs : List (ℕ × List ℕ)) → AllByRecursion (λ r. recovery s a r.0 ≡ r.1) rs → AllByRecursion (λ r. recovery s b r.0 ≡ r.1) rs → AllByRecursion (λ r. recovery s a r.0 ≡ recovery s b r.0) rs
 both_recovered s a b rs h k = all-both (λ r. recovery s a r.0 ≡ r.1) (λ r. recovery s b r.0 ≡ r.1) (λ r. recovery s a r.0 ≡ recovery s b r.0) (λ r p q. p ∙ sym q) rs h k
 
--- ---- one list alone agrees
+-- ---- at most one list agrees
 
-all_same : (s : ℕ) (a b : List (List ℕ)) → s % 2 ≡ 0 → length a ≡ length b → AllByRecursion (λ text. length text ≡ s) a → AllByRecursion (λ text. length text ≡ s) b → AreTexts a → AreTexts b
+all_same : (s : ℕ) (a b : List (List ℕ)) → s % 2 ≡ 0 → length a ≡ length b → AllByRecursion (λ bytes. length bytes ≡ s) a → AllByRecursion (λ bytes. length bytes ≡ s) b → AreBuffers a → AreBuffers b
     → ((p : ℕ) → p < s / 2 → map (word p) a ≡ map (word p) b) → a ≡ b
 all_same s [] [] even e la lb ha hb same = refl
 all_same s (x ∷ a) (y ∷ b) even e la lb ha hb same =
@@ -192,11 +192,11 @@ agreeing_are_one s known rs a b even repairable ga gb =
     (of_kept (λ x. recovery s a x ≡ recovery s b x) (lost known) rs (both_recovered s a b (kept_slices (lost known) (map (λ r. r.0) rs) rs) ga.as_recovered gb.as_recovered) e c) p lt))
     ∙ xor_self (dot (whole_row (length known) e) v)) in
     no_difference u v long (all_zero known d z (repairable (at_lost known d) vector (kept_kill_all (lost known) (map (λ r. r.0) rs) (at_lost known d) vector kills)))) in
-    let long_a : length a ≡ length known = AllZip-long (λ slice text. ForSome slice (λ found. text ≡ found)) known a ga.as_known in
-    let long_b : length b ≡ length known = AllZip-long (λ slice text. ForSome slice (λ found. text ≡ found)) known b gb.as_known in
+    let long_a : length a ≡ length known = AllZip-long (λ slice content. ForSome slice (λ found. content ≡ found)) known a ga.as_known in
+    let long_b : length b ≡ length known = AllZip-long (λ slice content. ForSome slice (λ found. content ≡ found)) known b gb.as_known in
     all_same s a b even (long_a ∙ sym long_b) ga.sizes gb.sizes ga.bytes gb.bytes (λ p lt. words_alike p lt (long_a) (long_b))
 
--- what agrees is what is rebuilt
+-- a list that agrees is the rebuilt one
 pub agreeing_is_rebuilt : (set : ParSet) (known : List (Option (List ℕ))) (slices : List (List ℕ)) → set.slice_size % 2 ≡ 0 → IsRepairable (lost known) (survivors set)
     → Agrees set.slice_size known (kept_slices (lost known) (survivors set) (map_of.entries set.recovery)) slices → IsRebuilt set.slice_size known (kept_slices (lost known) (survivors set) (map_of.entries set.recovery)) slices
 agreeing_is_rebuilt set known slices even repairable agrees = search (arith, agreeing_are_one)

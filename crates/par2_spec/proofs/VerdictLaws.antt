@@ -1,5 +1,5 @@
--- The verdict on what a verify reports, by the words.
-use Rattle.par2_spec.proofs.Common.{◌≡◌, ◌+◌, ℕ, List, [], ◌∷◌, T, length, map, refl, sym, ap, ◌∙◌, subst, Bool, true, false, not, cond, ◌&&◌, Less, arith, ◌↔◌, ◌==◌, nat_lt, Option, Some, Result, Ok, filter, is_some, is_none, if◌then◌else◌, bytes_eq, md5, nat_cmp, is_lt, entries_sorted, is_sorted, below_all, list_all, list_any, enumerate_from, AllByRecursion, eqb-true, eq-eqb, false≢true, not-true, false_from_ne_true, IsStrictlyIncreasing-from_sorted, Fault, NotRepairable, NameTooLong, RepairFailed, then_fault, first_fault, fault_where, Folder, has, bytes_of, ParSet, Target, set_of, all_pairs, ◌>>=◌, found, is_needing, needing, matches, match_of, lost, survivors, candidates, known, is_repairable, IsRepairable, rank, aside, put_aside, rebuilt_targets, Repair, set_in, refusal, repair_refusal, Report, is_complete, needing_state, found_of, verdict_of, IsFound, IsVerdict, IsVerdictIn, RefusedAsReported, state_of, report_of_target, report_of, report_in, IsStrictlySortedBy, Ordering}
+-- The meaning of the verdict.
+use Rattle.par2_spec.proofs.Common.{◌≡◌, ◌+◌, ℕ, List, [], ◌∷◌, T, length, map, refl, sym, ap, ◌∙◌, subst, Bool, true, false, not, cond, ◌&&◌, Less, arith, ◌↔◌, ◌==◌, nat_lt, Option, Some, Result, Ok, filter, is_some, is_none, if◌then◌else◌, bytes_eq, md5, nat_cmp, is_lt, entries_sorted, is_sorted, below_all, list_all, list_any, enumerate_from, AllByRecursion, eqb-true, eq-eqb, false≢true, not-true, false_from_ne_true, IsStrictlyIncreasing-from_sorted, Fault, NotRepairable, NameTooLong, RepairFailed, then_fault, first_fault, fault_where, Folder, has, bytes_of, ParSet, Target, set_of, all_pairs, ◌>>=◌, found, is_incomplete, incomplete, matches, match_of, lost, survivors, candidates, known, is_repairable, IsRepairable, rank, aside, put_aside, rebuilt_targets, Repair, set_in, refusal, repair_refusal, Report, is_complete, incomplete_state, found_of, verdict_of, IsFound, IsVerdict, IsVerdictIn, RefusedAsReported, state_of, report_of_target, report_of, report_in, IsStrictlySortedBy, Ordering}
 use Rattle.std.specs.FinMap as map_of
 use Rattle.par2_spec.specs.declared.Verdict.{Verdict}
 use Rattle.par2_spec.specs.declared.Verdict.TheVariants.{Complete, Repairable}
@@ -11,7 +11,7 @@ use Rattle.par2_spec.proofs.RefusedLaws.{first_cause}
 use Rattle.par2_spec.proofs.AcceptedCommands.{set_in_reads}
 use Rattle.par2_spec.proofs.ReportLaws.{by_target, intact_are_found}
 
--- ---- the exponents of a map rise
+-- ---- the exponents of a map increase
 
 below_keys : {X : Type 0} (k : ℕ) (es : List (ℕ × X)) → T (below_all nat_cmp k es) → AllByRecursion (λ y. nat_cmp k y ≡ Less) (map (λ e. e.0) es)
 below_keys k [] h = tt
@@ -24,7 +24,7 @@ unfolding IsStrictlySortedBy
 sorted_keys [] h = tt
 sorted_keys (e ∷ es) h = let r = T-parts _ _ h in (below_keys e.0 es r.0, sorted_keys es r.1)
 
--- ---- complete where no target is needing
+-- ---- complete if no target is incomplete
 
 abbrev is_nil : {A : Type 0} → List A → Bool
 is_nil [] = true
@@ -34,28 +34,28 @@ nil-iff : {A : Type 0} (xs : List A) → (is_nil xs ≡ true) ↔ (xs ≡ [])
 nil-iff xs = grind arith
 
 complete_by_target : (folder : Folder) (set : ParSet) (searched : List (List ℕ)) (ts : List Target)
-    → list_all (λ r. is_complete r.state) (map (λ t. report_of_target folder set searched (t, found_of folder set searched t)) ts) ≡ is_nil (filter (is_needing folder set) ts)
+    → list_all (λ r. is_complete r.state) (map (λ t. report_of_target folder set searched (t, found_of folder set searched t)) ts) ≡ is_nil (filter (is_incomplete folder set) ts)
 unfolding report_of_target state_of
 complete_by_target folder set searched [] = refl
 complete_by_target folder set searched (t ∷ ts) =
     let rest : Bool = list_all (λ r. is_complete r.state) (map (λ t. report_of_target folder set searched (t, found_of folder set searched t)) ts) in
-    let needs : List Target = filter (is_needing folder set) ts in
+    let needs : List Target = filter (is_incomplete folder set) ts in
     let there : Bool = has folder t.name in
     let match : Option (List ℕ) = match_of (matches folder set searched) t.name in
-    let step : (b : Bool) → rest ≡ is_nil needs → (is_complete (cond b (needing_state there match) reports.Complete) && rest) ≡ is_nil (cond b (t ∷ needs) needs) = λ b e. grind arith in
-    step (is_needing folder set t) (complete_by_target folder set searched ts)
+    let step : (b : Bool) → rest ≡ is_nil needs → (is_complete (cond b (incomplete_state there match) reports.Complete) && rest) ≡ is_nil (cond b (t ∷ needs) needs) = λ b e. grind arith in
+    step (is_incomplete folder set t) (complete_by_target folder set searched ts)
 
--- ---- nothing is lost where no target is needing
+-- ---- no slice is lost if no target is incomplete
 
 none_lost : (n : ℕ) (slices : List (Option (List ℕ))) → AllByRecursion (λ slice. is_some slice ≡ true) slices → filter (λ z. is_none z.1) (enumerate_from n slices) ≡ []
 none_lost n (Some slice ∷ slices) h = none_lost (n + 1) slices h.1
 none_lost n slices h = grind arith
 
-lost_of_complete : (folder : Folder) (base : List ℕ) (set : ParSet) (extras : List (List ℕ)) → set_of folder base ≡ Ok set → needing folder set ≡ [] → lost (known folder set (candidates folder set extras)) ≡ []
+lost_of_complete : (folder : Folder) (base : List ℕ) (set : ParSet) (extras : List (List ℕ)) → set_of folder base ≡ Ok set → incomplete folder set ≡ [] → lost (known folder set (candidates folder set extras)) ≡ []
 lost_of_complete folder base set extras reads none = unfold known in
     let searched = candidates folder set extras in
     let f = found set.slice_size (map (bytes_of folder) searched) in
-    let all = all_by_test (IsFound folder set.slice_size searched) (is_needing folder set) set.targets (intact_are_found folder base set extras reads) (subst (AllByRecursion (IsFound folder set.slice_size searched)) (sym none) tt) in
+    let all = all_by_test (IsFound folder set.slice_size searched) (is_incomplete folder set) set.targets (intact_are_found folder base set extras reads) (subst (AllByRecursion (IsFound folder set.slice_size searched)) (sym none) tt) in
     ap (map (λ z. z.0)) (none_lost 0 (map f (all_pairs set)) (all-map (λ pair. is_some (f pair) ≡ true) (λ slice. is_some slice ≡ true) f (λ pair h. h) (all_pairs set)
     (all-flat_map (IsFound folder set.slice_size searched) (λ pair. is_some (f pair) ≡ true) (λ t. t.pairs) (λ t h. h) set.targets all)))
 
@@ -85,7 +85,7 @@ module _ (folder : Folder) (base : List ℕ) (extras : List (List ℕ)) (set : P
   abbrev is_full : Bool
   is_full = rank missing (survivors set) == length missing
 
-  verdict_is : verdict_of (report_of folder set searched) ≡ said (is_nil (needing folder set)) is_full
+  verdict_is : verdict_of (report_of folder set searched) ≡ said (is_nil (incomplete folder set)) is_full
   verdict_is = unfold said report_of in ap (λ a. said a is_full) (ap (list_all (λ r. is_complete r.state)) (by_target folder set searched) ∙ complete_by_target folder set searched set.targets)
 
   repairable_if_full : (is_full ≡ true) ↔ IsRepairable missing (survivors set)
@@ -95,10 +95,10 @@ module _ (folder : Folder) (base : List ℕ) (extras : List (List ℕ)) (set : P
 
   by_words : IsVerdict folder set searched (verdict_of (report_of folder set searched))
   by_words = subst (IsVerdict folder set searched) (sym verdict_is) (record {
-    complete = let law = said-complete (is_nil (needing folder set)) is_full in (λ e. (nil-iff _).0 (law.0 e), λ e. law.1 ((nil-iff _).1 e));
+    complete = let law = said-complete (is_nil (incomplete folder set)) is_full in (λ e. (nil-iff _).0 (law.0 e), λ e. law.1 ((nil-iff _).1 e));
     repairable = λ some.
         let law = said-repairable is_full in
-        let none : is_nil (needing folder set) ≡ false = false_from_ne_true _ (λ e. some ((nil-iff _).0 e)) in
+        let none : is_nil (incomplete folder set) ≡ false = false_from_ne_true _ (λ e. some ((nil-iff _).0 e)) in
         subst (λ a. (said a is_full ≡ verdict.Repairable) ↔ IsRepairable missing (survivors set)) (sym none) (λ e. repairable_if_full.0 (law.0 e), λ h. law.1 (repairable_if_full.1 h));
   })
 
@@ -108,14 +108,14 @@ module _ (folder : Folder) (base : List ℕ) (extras : List (List ℕ)) (set : P
   is_less : is_repairable missing (survivors set) ≡ false → is_full ≡ false
   is_less short = false_from_ne_true _ (λ full. false≢true (sym short ∙ (repairable-iff missing (survivors set)).1 (repairable_if_full.0 full)))
 
-  -- where no target is needing, as many exponents are kept as slices are lost: none
-  some_needing : is_full ≡ false → is_nil (needing folder set) ≡ false
-  some_needing less = false_from_ne_true _ (λ none.
+  -- if no target is incomplete, the rank and the number of lost slices are both 0
+  some_incomplete : is_full ≡ false → is_nil (incomplete folder set) ≡ false
+  some_incomplete less = false_from_ne_true _ (λ none.
       let nothing : missing ≡ [] = lost_of_complete folder base set extras (set_in_reads folder base extras set reads).0 ((nil-iff _).0 none) in
       false≢true (sym less ∙ ap (λ xs. rank xs (survivors set) == length xs) nothing ∙ ap (λ n. n == 0) (ap length (none_kept (survivors set)))))
 
-  -- the refusal, by whether the lost slices are determined, whether an aside's name is too long and whether all digests
-  -- are right
+  -- the refusal, from three tests: whether the lost slices are determined, whether an aside is too long, and whether
+  -- all MD5s are right
   refusal_by : Bool → Bool → Bool → Option Fault
   refusal_by determined long right =
       first_fault (fault_where (not determined) (NotRepairable (length missing) (rank missing (survivors set))) ∷ fault_where long NameTooLong ∷ fault_where (not right) RepairFailed ∷ [])
@@ -131,14 +131,14 @@ module _ (folder : Folder) (base : List ℕ) (extras : List (List ℕ)) (set : P
 
   as_refused : RefusedAsReported folder base extras (report_of folder set searched)
   as_refused purge = unfold report_of refusal_by in
-      let law = said-not_repairable (is_nil (needing folder set)) is_full in (
+      let law = said-not_repairable (is_nil (incomplete folder set)) is_full in (
         λ e. refused purge ∙ ap (λ b. refusal_by b is_long are_right) (is_unrepairable (law.0 (sym verdict_is ∙ e)).1),
-        λ e. let less = is_less (not-true _ (first_cause _ is_long (not are_right) (length missing) (rank missing (survivors set)) _ _ (sym (refused purge) ∙ e))) in verdict_is ∙ law.1 (some_needing less, less),
+        λ e. let less = is_less (not-true _ (first_cause _ is_long (not are_right) (length missing) (rank missing (survivors set)) _ _ (sym (refused purge) ∙ e))) in verdict_is ∙ law.1 (some_incomplete less, less),
       )
 
--- ---- of a report
+-- ---- the verdict of a report
 
--- what is read is reported
+-- a set that is read is reported
 reported_set : (P : Report → Type 0) (folder : Folder) (base : List ℕ) (extras : List (List ℕ)) (report : Report) → report_in folder base extras ≡ Ok report
     → ((set : ParSet) → set_in folder base extras ≡ Ok set → P (report_of folder set (candidates folder set extras))) → P report
 unfolding report_in

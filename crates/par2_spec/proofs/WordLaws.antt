@@ -1,4 +1,4 @@
--- Words of texts, texts by their words, and vectors of texts.
+-- Words of buffers, buffers from their words, and vectors of buffers.
 use Rattle.par2_spec.proofs.TestLaws.{by_either}
 use Rattle.par2_spec.proofs.Common.{ℕ, zero, suc, ◌+◌, ◌*◌, ◌/◌, ◌%◌, ◌^◌, ◌<◌, ◌≤◌, ◌≡◌, refl, sym, ap, ap₂, ◌∙◌, arith, List, [], length, get_or, set, map, Vec, Global, length-set, w16, to_le_bytes, AllByRecursion, range_with_len, cases_eq, map-set, get_or-set_same, get_or-set_other, length-map, get_or-map, get_or_past, ext_get_or, word, dot, combination, list_at, lists_of, OneChanged, ◌↔◌, flat_map}
 use Rattle.par2_spec.proofs.ListsLaws.{all_at}
@@ -12,16 +12,16 @@ word_empty xs w e = word_past xs w (omega arith)
 pub word-lt : (xs : List ℕ) (w : ℕ) → ((k : ℕ) → get_or xs k 0 < 256) → word w xs < 65536
 word-lt xs w small = omega (arith, small (2 * w), small (2 * w + 1))
 
--- a byte of a text
-pub byte_at : (text : List ℕ) → AllByRecursion (λ b. b < 256) text → (k : ℕ) → get_or text k 0 < 256
-byte_at text fits = all_at (λ b. b < 256) 0 (omega arith) text fits
+-- a byte of a buffer
+pub byte_at : (bytes : List ℕ) → AllByRecursion (λ b. b < 256) bytes → (k : ℕ) → get_or bytes k 0 < 256
+byte_at bytes fits = all_at (λ b. b < 256) 0 (omega arith) bytes fits
 
-pub bytes_at : (texts : List (List ℕ)) → AllByRecursion (λ text. AllByRecursion (λ b. b < 256) text) texts → (i k : ℕ) → get_or (list_at texts i) k 0 < 256
-bytes_at texts fit i = byte_at (list_at texts i) (all_at (λ (text : List ℕ). AllByRecursion (λ b. b < 256) text) [] tt texts fit i)
+pub bytes_at : (buffers : List (List ℕ)) → AllByRecursion (λ bytes. AllByRecursion (λ b. b < 256) bytes) buffers → (i k : ℕ) → get_or (list_at buffers i) k 0 < 256
+bytes_at buffers fit i = byte_at (list_at buffers i) (all_at (λ (bytes : List ℕ). AllByRecursion (λ b. b < 256) bytes) [] tt buffers fit i)
 
--- ---- texts of given words
+-- ---- buffers with given words
 
--- the text whose words from place a on are these
+-- the buffer whose words from position a on are these
 abbrev pub spelled : (ℕ → ℕ) → ℕ → ℕ → List ℕ
 spelled f a n = flat_map (λ p. to_le_bytes w16 (f p)) (range_with_len a n)
 
@@ -43,10 +43,10 @@ word_of f small n p lt = let e : 0 + p ≡ p = omega arith in word-spelled f sma
 same_word : (a b x y : ℕ) → a < 256 → b < 256 → x < 256 → y < 256 → a + 256 * b ≡ x + 256 * y → (a ≡ x) × (b ≡ y)
 same_word a b x y ha hb hx hy e = (omega arith, omega arith)
 
--- texts of an even size are the same where their words are
-pub same_texts : (n : ℕ) (xs ys : List ℕ) → n % 2 ≡ 0 → length xs ≡ n → length ys ≡ n → ((k : ℕ) → get_or xs k 0 < 256) → ((k : ℕ) → get_or ys k 0 < 256)
+-- buffers of an even size are equal if their words are
+pub same_buffers : (n : ℕ) (xs ys : List ℕ) → n % 2 ≡ 0 → length xs ≡ n → length ys ≡ n → ((k : ℕ) → get_or xs k 0 < 256) → ((k : ℕ) → get_or ys k 0 < 256)
     → ((w : ℕ) → 2 * w + 1 < n → word w xs ≡ word w ys) → xs ≡ ys
-same_texts n xs ys even lx ly hx hy same = ext_get_or 0 xs ys (lx ∙ sym ly) (λ k hk.
+same_buffers n xs ys even lx ly hx hy same = ext_get_or 0 xs ys (lx ∙ sym ly) (λ k hk.
     let w = k / 2 in
     let hw : 2 * w + 1 < n = omega arith in
     let both = same_word (get_or xs (2 * w) 0) (get_or xs (2 * w + 1) 0) (get_or ys (2 * w) 0) (get_or ys (2 * w + 1) 0) (hx (2 * w)) (hx (2 * w + 1)) (hy (2 * w)) (hy (2 * w + 1)) (same w hw) in
@@ -54,15 +54,15 @@ same_texts n xs ys even lx ly hx hy same = ext_get_or 0 xs ys (lx ∙ sym ly) (�
     (λ even. let j : k ≡ 2 * w = omega arith in ap (λ x. get_or xs x 0) j ∙ both.0 ∙ sym (ap (λ x. get_or ys x 0) j))
     (λ odd. let j : k ≡ 2 * w + 1 = omega arith in ap (λ x. get_or xs x 0) j ∙ both.1 ∙ sym (ap (λ x. get_or ys x 0) j)))
 
--- A combination of texts is a text exactly where each of its words is the sum at that word.
-pub combination_words : (s : ℕ) (row : List ℕ) (texts : List (List ℕ)) (right : List ℕ) → s % 2 ≡ 0 → ((w : ℕ) → dot row (map (word w) texts) < 65536)
+-- Bytes are a combination of buffers exactly if each of their words is the sum at that word.
+pub combination_words : (s : ℕ) (row : List ℕ) (buffers : List (List ℕ)) (right : List ℕ) → s % 2 ≡ 0 → ((w : ℕ) → dot row (map (word w) buffers) < 65536)
     → length right ≡ s → ((k : ℕ) → get_or right k 0 < 256)
-    → (combination s row texts ≡ right) ↔ ((w : ℕ) → 2 * w + 1 < s → dot row (map (word w) texts) ≡ word w right)
-combination_words s row texts right even small size bytes = unfold combination in
-    let g : ℕ → ℕ = λ w. dot row (map (word w) texts) in
+    → (combination s row buffers ≡ right) ↔ ((w : ℕ) → 2 * w + 1 < s → dot row (map (word w) buffers) ≡ word w right)
+combination_words s row buffers right even small size bytes = unfold combination in
+    let g : ℕ → ℕ = λ w. dot row (map (word w) buffers) in
     let each : (w : ℕ) → 2 * w + 1 < s → word w (spelled g 0 (s / 2)) ≡ g w = λ w h. word_of g small (s / 2) w (omega arith) in (
       (λ e w h. sym (each w h) ∙ ap (λ xs. word w xs) e),
-      (λ same. same_texts s (spelled g 0 (s / 2)) right even (length-spelled g 0 (s / 2) ∙ (let h : 2 * (s / 2) ≡ s = omega arith in h)) size (byte_at (spelled g 0 (s / 2)) (bytes-spelled g 0 (s / 2))) bytes
+      (λ same. same_buffers s (spelled g 0 (s / 2)) right even (length-spelled g 0 (s / 2) ∙ (let h : 2 * (s / 2) ≡ s = omega arith in h)) size (byte_at (spelled g 0 (s / 2)) (bytes-spelled g 0 (s / 2))) bytes
           (λ w h. each w h ∙ same w h)),
     )
 

@@ -1,32 +1,32 @@
--- Texts that are written one after the other.
+-- Output that is written in parts.
 use Rattle.par2_spec.proofs.Common.{◌≡◌, ◌∙◌, ◌++◌, map, ◌+◌, ◌-◌, ◌<◌, ℕ, suc, List, [], take, drop, length, ap, sym, subst, append-nil, append_assoc, length-drop, length-append, arith, get_or, take-append_seam, take-append-add, drop-cons, take-append-drop, take-append-le, take_all, take_more, flat_map-append, common_steps, flat_map-map, Option, Result, Ok, Err, flat_map}
 use Rattle.std.specs.Io.KnownBytes.{Appends}
 use Rattle.std.proofs.KnownBytes.{Appends-trans}
 use Rattle.par2_spec.specs.Writing.{Writer, TookAll, TookPart, Wrote}
 
 -- nothing more was taken
-pub part : (a b c : Option (List ℕ)) (sent rest text : List ℕ) → text ≡ sent ++ rest → 0 < length rest → Appends a b sent → Appends b c []
-    → (n : ℕ) × (n < length text) × Appends a c (take n text)
-part a b c sent rest text is more p q =
-    let seam : sent ++ [] ≡ take (length sent) text = append-nil sent ∙ sym (take-append_seam sent rest) ∙ ap (take (length sent)) (sym is) in
-    let size : length text ≡ length sent + length rest = ap length is ∙ length-append sent rest in
+pub part : (a b c : Option (List ℕ)) (sent rest bytes : List ℕ) → bytes ≡ sent ++ rest → 0 < length rest → Appends a b sent → Appends b c []
+    → (n : ℕ) × (n < length bytes) × Appends a c (take n bytes)
+part a b c sent rest bytes is more p q =
+    let seam : sent ++ [] ≡ take (length sent) bytes = append-nil sent ∙ sym (take-append_seam sent rest) ∙ ap (take (length sent)) (sym is) in
+    let size : length bytes ≡ length sent + length rest = ap length is ∙ length-append sent rest in
     (length sent, omega (arith, size, more), subst (Appends a c) seam (Appends-trans a b c sent [] p q))
 
 -- n more bytes were taken
-pub step : (a b c : Option (List ℕ)) (sent rest text : List ℕ) (n : ℕ) → text ≡ sent ++ rest → Appends a b sent → Appends b c (take n rest)
-    → (s : List ℕ) × (text ≡ s ++ take (length rest - n) (drop n rest)) × Appends a c s
-step a b c sent rest text n is p q =
+pub step : (a b c : Option (List ℕ)) (sent rest bytes : List ℕ) (n : ℕ) → bytes ≡ sent ++ rest → Appends a b sent → Appends b c (take n rest)
+    → (s : List ℕ) × (bytes ≡ s ++ take (length rest - n) (drop n rest)) × Appends a c s
+step a b c sent rest bytes n is p q =
     let all : take (length rest - n) (drop n rest) ≡ drop n rest = take_all (length rest - n) (drop n rest) (omega (arith, length-drop n rest)) in
-    let parts : text ≡ (sent ++ take n rest) ++ drop n rest =
+    let parts : bytes ≡ (sent ++ take n rest) ++ drop n rest =
     is ∙ ap (λ r. sent ++ r) (sym (take-append-drop n rest)) ∙ sym (append_assoc sent (take n rest) (drop n rest)) in
     (sent ++ take n rest, parts ∙ ap (λ r. (sent ++ take n rest) ++ r) (sym all), Appends-trans a b c sent (take n rest) p q)
 
--- of whatever is seen as a writer
+-- laws for any view of a writer
 module _ {P : Type 0} (seen : P → Writer) where
   pub took_both : (a b c : P) (xs ys : List ℕ) → TookAll (seen a) (seen b) xs → TookAll (seen b) (seen c) ys → TookAll (seen a) (seen c) (xs ++ ys)
   took_both a b c xs ys p q = grind (arith, common_steps)
 
-  -- a text was written, and then a part of another
+  -- one part was written, then a prefix of the next
   pub part_behind : (a b c : P) (xs ys : List ℕ) → TookAll (seen a) (seen b) xs → TookPart (seen b) (seen c) ys → TookPart (seen a) (seen c) (xs ++ ys)
   part_behind a b c xs ys p q = (
     (
@@ -38,16 +38,16 @@ module _ {P : Type 0} (seen : P → Writer) where
     omega (arith, p.1, q.1),
   )
 
-  -- a text was written, and then another
+  -- one part was written, then another
   pub wrote_then : {T E : Type 0} (a b c : P) (xs ys : List ℕ) (r : Result T E) → TookAll (seen a) (seen b) xs → Wrote (seen b) (seen c) ys r → Wrote (seen a) (seen c) (xs ++ ys) r
   wrote_then a b c xs ys (Ok v) p q = took_both a b c xs ys p q
   wrote_then a b c xs ys (Err e) p q = part_behind a b c xs ys p q
 
-  -- a part of a text is a part of a longer one
+  -- a prefix of a part is a prefix of the whole
   pub wrote_less : (a b : P) (xs ys : List ℕ) → TookPart (seen a) (seen b) xs → TookPart (seen a) (seen b) (xs ++ ys)
   wrote_less a b xs ys p = grind (arith, length-append, take-append-le)
 
-  -- the lines before the i-th were written, and then a part of that one
+  -- the lines before the i-th were written, then a prefix of that one
   pub lines_cut : {X : Type 0} (f : X → List ℕ) (a b c : P) (items : List X) (i : ℕ) (item : X) → i < length items
       → TookAll (seen a) (seen b) (flat_map f (take i items)) → TookPart (seen b) (seen c) (f (get_or items i item)) → TookPart (seen a) (seen c) (flat_map f items)
   lines_cut f a b c items i item within before some =
@@ -59,7 +59,7 @@ module _ {P : Type 0} (seen : P → Writer) where
       subst (TookPart (seen a) (seen c)) (sym whole)
       (part_behind a b c (flat_map f (take i items)) (here ++ after) before (wrote_less b c here after some))
 
-  -- the same for the lines of what the items stand for, where the line was written by a text that equals the i-th item's
+  -- the same for items seen through `view`, if `shown` is the view of the i-th item
   pub shown_lines_cut : {X Y : Type 0} (f : Y → List ℕ) (view : X → Y) (a b c : P) (items : List X) (i : ℕ) (item : X) (shown : Y)
       → i < length items → shown ≡ view (get_or items i item) → TookAll (seen a) (seen b) (flat_map f (map view (take i items)))
       → TookPart (seen b) (seen c) (f shown) → TookPart (seen a) (seen c) (flat_map f (map view items))

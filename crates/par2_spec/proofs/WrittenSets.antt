@@ -1,10 +1,10 @@
--- The packets of a set, as they are written, are read as they are.
+-- Written packets of a set are read back.
 use Rattle.par2_spec.proofs.Common.{◌≡◌, ℕ, suc, ◌-◌, ◌+◌, ◌*◌, ◌/◌, ◌%◌, ◌^◌, ◌<◌, true, leb, eqb, ◌&&◌, List, [], ◌∷◌, ◌++◌, length, take, drop, map, refl, sym, ap, ◌∙◌, append_assoc, arith, zero, Bool, false, length-append, append-nil, flat_map, Option, Some, None, reverse, replicate, w32, w64, to_le_bytes, from_le_bytes, w16, AllByRecursion, range_with_len, list_any, prefix_len, suffix_len, le-leb, eq-eqb, and_from, cond-true, or_parts, or_from, take_at, drop_at, length-replicate, reverse-append, replicate_more, from_le_bytes-to_le_bytes_4, from_le_bytes-to_le_bytes_8, Pair, IsPair, bytes_at, items_at, MainBody, IfscBody, without_end_zeros, DescBody, Packet, packet, accepted, IsCanonical, IsPacket, u64_at, u32_at, read_main, read_ifsc, read_recovery, read_desc, kind_of, FileRecord, main_bytes, ifsc_bytes, pair_bytes, recovery_bytes, desc_bytes, padded_4, IsFileRecord, creator_bytes, main_id, packet_of, recovery_packets, index_packets, list_any-append, prefix_len-append, prefix_len-replicate, length-range_with_len, length-md5, Kind, dot, coefficients, recovery, combination, word, MainIsRead, DescIsRead, RecoverySlicesAreRead, common_steps}
 use Rattle.par2_spec.specs.declared.Kind.TheVariants.{Main, Ifsc, Recovery, FileDesc, Creator}
 use Rattle.par2_spec.proofs.WrittenPackets.{part_at, len3, packets_then}
 use Rattle.par2_spec.proofs.Basics.{all-each, all-map, all-append}
 
--- ---- numbers at a place
+-- ---- numbers at an offset
 
 u32_there : (front rest : List ℕ) (o n : ℕ) → length front ≡ o → n < 2 ^ 32 → u32_at o (front ++ (to_le_bytes w32 n ++ rest)) ≡ n
 u32_there front rest o n h lt = unfold u32_at in ap (from_le_bytes w32) (part_at front (to_le_bytes w32 n) rest o 4 h refl) ∙ from_le_bytes-to_le_bytes_4 n lt
@@ -14,19 +14,19 @@ u64_there front rest o n h lt = unfold u64_at in ap (from_le_bytes w64) (part_at
 
 -- ---- items of one length
 
-pub length_items : {A : Type 0} (text : A → List ℕ) (item : ℕ) (xs : List A) → AllByRecursion (λ x. length (text x) ≡ item) xs → length (flat_map text xs) ≡ item * length xs
-length_items text item [] h = omega arith
-length_items text item (x ∷ xs) h = grind (arith, length-append, length_items text item xs h.1)
+pub length_items : {A : Type 0} (bytes : A → List ℕ) (item : ℕ) (xs : List A) → AllByRecursion (λ x. length (bytes x) ≡ item) xs → length (flat_map bytes xs) ≡ item * length xs
+length_items bytes item [] h = omega arith
+length_items bytes item (x ∷ xs) h = grind (arith, length-append, length_items bytes item xs h.1)
 
-items_there : {A : Type 0} (text : A → List ℕ) (head item : ℕ) (body front : List ℕ) (xs : List A) (a : ℕ) → AllByRecursion (λ x. length (text x) ≡ item) xs
-    → length front ≡ head + item * a → body ≡ front ++ flat_map text xs → map (λ k. bytes_at (head + item * k) item body) (range_with_len a (length xs)) ≡ map text xs
-items_there text head item body front [] a h at is = refl
-items_there text head item body front (x ∷ xs) a h at is =
-    let here : bytes_at (head + item * a) item body ≡ text x = ap (bytes_at (head + item * a) item) is ∙ part_at front (text x) (flat_map text xs) (head + item * a) item at h.0 in
-    let next : length (front ++ text x) ≡ head + item * (a + 1) =
-    length-append front (text x) ∙ ap (λ (n : ℕ). n + length (text x)) at ∙ ap (λ (n : ℕ). head + item * a + n) h.0 ∙ (let e : head + item * a + item ≡ head + item * (a + 1) = omega arith in e) in
-    let others = items_there text head item body (front ++ text x) xs (a + 1) h.1 next (is ∙ sym (append_assoc front (text x) (flat_map text xs))) in
-    ap (λ (t : List ℕ). t ∷ map (λ k. bytes_at (head + item * k) item body) (range_with_len (a + 1) (length xs))) here ∙ ap (λ (ts : List (List ℕ)). text x ∷ ts) others
+items_there : {A : Type 0} (bytes : A → List ℕ) (head item : ℕ) (body front : List ℕ) (xs : List A) (a : ℕ) → AllByRecursion (λ x. length (bytes x) ≡ item) xs
+    → length front ≡ head + item * a → body ≡ front ++ flat_map bytes xs → map (λ k. bytes_at (head + item * k) item body) (range_with_len a (length xs)) ≡ map bytes xs
+items_there bytes head item body front [] a h at is = refl
+items_there bytes head item body front (x ∷ xs) a h at is =
+    let here : bytes_at (head + item * a) item body ≡ bytes x = ap (bytes_at (head + item * a) item) is ∙ part_at front (bytes x) (flat_map bytes xs) (head + item * a) item at h.0 in
+    let next : length (front ++ bytes x) ≡ head + item * (a + 1) =
+    length-append front (bytes x) ∙ ap (λ (n : ℕ). n + length (bytes x)) at ∙ ap (λ (n : ℕ). head + item * a + n) h.0 ∙ (let e : head + item * a + item ≡ head + item * (a + 1) = omega arith in e) in
+    let others = items_there bytes head item body (front ++ bytes x) xs (a + 1) h.1 next (is ∙ sym (append_assoc front (bytes x) (flat_map bytes xs))) in
+    ap (λ (t : List ℕ). t ∷ map (λ k. bytes_at (head + item * k) item body) (range_with_len (a + 1) (length xs))) here ∙ ap (λ (ts : List (List ℕ)). bytes x ∷ ts) others
 
 -- ---- Main
 
@@ -116,8 +116,8 @@ none_reversed : (xs : List ℕ) → list_any is_zero xs ≡ false → list_any i
 none_reversed [] h = refl
 none_reversed (x ∷ xs) h =
     let p = or_parts (is_zero x) (list_any is_zero xs) h in
-    let turned : reverse (x ∷ xs) ≡ reverse xs ++ x ∷ [] = reverse-append (x ∷ []) xs in
-    ap (list_any is_zero) turned ∙ list_any-append is_zero (reverse xs) (x ∷ [])
+    let reversed : reverse (x ∷ xs) ≡ reverse xs ++ x ∷ [] = reverse-append (x ∷ []) xs in
+    ap (list_any is_zero) reversed ∙ list_any-append is_zero (reverse xs) (x ∷ [])
     ∙ or_from (list_any is_zero (reverse xs)) (list_any is_zero (x ∷ [])) (none_reversed xs p.1) (or_from (is_zero x) false p.0 refl)
 
 zeros_reversed : (k : ℕ) → reverse (zeros k) ≡ zeros k
@@ -131,9 +131,9 @@ pub stripped-padded : (name : List ℕ) (k : ℕ) → list_any (λ b. eqb b 0) n
 stripped-padded name k none =
     let bytes : List ℕ = name ++ replicate k 0 in
     let size : length bytes ≡ length name + k = length-append name (replicate k 0) ∙ ap (λ (n : ℕ). length name + n) (length-replicate k 0) in
-    let turned : reverse bytes ≡ replicate k 0 ++ reverse name = reverse-append name (replicate k 0) ∙ ap (λ (xs : List ℕ). xs ++ reverse name) (zeros_reversed k) in
+    let reversed : reverse bytes ≡ replicate k 0 ++ reverse name = reverse-append name (replicate k 0) ∙ ap (λ (xs : List ℕ). xs ++ reverse name) (zeros_reversed k) in
     let first : prefix_len is_zero (reverse name) ≡ 0 = none_first (reverse name) (none_reversed name none) in
-    let zeros : suffix_len is_zero bytes ≡ k = ap (prefix_len is_zero) turned ∙ zeros_first k (reverse name) ∙ ap (λ (n : ℕ). k + n) first ∙ (let e : k + 0 ≡ k = omega arith in e) in
+    let zeros : suffix_len is_zero bytes ≡ k = ap (prefix_len is_zero) reversed ∙ zeros_first k (reverse name) ∙ ap (λ (n : ℕ). k + n) first ∙ (let e : k + 0 ≡ k = omega arith in e) in
     take_at name (replicate k 0) (length bytes - suffix_len is_zero bytes) (omega (arith, size, zeros))
 
 -- ---- the body
@@ -178,7 +178,7 @@ desc_reads file i d s low none = unfold read_desc in
     ∙ ap (λ (x : ℕ). desc_of file.id file.md5 file.md5_16k x (without_end_zeros (drop 56 body))) e4
     ∙ ap (λ (x : List ℕ). desc_of file.id file.md5 file.md5_16k file.length x) e5
 
--- ---- the known kinds are written as themselves
+-- ---- the known kinds are read back as themselves
 
 main_known : IsCanonical Main
 main_known = unfold kind_of in (refl, refl)
@@ -236,26 +236,26 @@ index_made s files few each = unfold index_packets in
     (packet_of id Creator creator_bytes ∷ [])
     (all-append IsPacket (packet_of id Main (main_bytes s files) ∷ map (λ file. packet_of id FileDesc (desc_bytes file)) files) (map (λ file. packet_of id Ifsc (ifsc_bytes file)) files) front ifscs) end
 
-pub index_reads : (s : ℕ) (files : List FileRecord) (text : List ℕ) → length files < 2 ^ 32 → AllByRecursion IsFileRecord files
-    → accepted (flat_map packet (index_packets s files) ++ text) ≡ index_packets s files ++ accepted text
-index_reads s files text few each = packets_then (index_packets s files) text (index_made s files few each)
+pub index_reads : (s : ℕ) (files : List FileRecord) (bytes : List ℕ) → length files < 2 ^ 32 → AllByRecursion IsFileRecord files
+    → accepted (flat_map packet (index_packets s files) ++ bytes) ≡ index_packets s files ++ accepted bytes
+index_reads s files bytes few each = packets_then (index_packets s files) bytes (index_made s files few each)
 
 words_length : (f : ℕ → ℕ) (places : List ℕ) → length (flat_map (λ p. to_le_bytes w16 (f p)) places) ≡ 2 * length places
 words_length f [] = omega arith
 words_length f (p ∷ places) = grind (arith, length-append, words_length f places)
 
 -- a recovery slice is as long as the slices
-pub recovery_length : (s : ℕ) (texts : List (List ℕ)) (e : ℕ) → s % 2 ≡ 0 → length (recovery s texts e) ≡ s
-recovery_length s texts e even = unfold recovery combination in
-    let size : length (recovery s texts e) ≡ 2 * length (range_with_len 0 (s / 2)) = words_length (λ p. dot (coefficients (range_with_len 0 (length texts)) e) (map (word p) texts)) (range_with_len 0 (s / 2)) in
+pub recovery_length : (s : ℕ) (buffers : List (List ℕ)) (e : ℕ) → s % 2 ≡ 0 → length (recovery s buffers e) ≡ s
+recovery_length s buffers e even = unfold recovery combination in
+    let size : length (recovery s buffers e) ≡ 2 * length (range_with_len 0 (s / 2)) = words_length (λ p. dot (coefficients (range_with_len 0 (length buffers)) e) (map (word p) buffers)) (range_with_len 0 (s / 2)) in
     omega (arith, size, length-range_with_len 0 (s / 2), even)
 
-pub recovery_made : (s : ℕ) (id : List ℕ) (texts : List (List ℕ)) (e n : ℕ) → length id ≡ 16 → s % 4 ≡ 0 → s < 2 ^ 60 → AllByRecursion IsPacket (recovery_packets s id texts e n)
-recovery_made s id texts e n sixteen even few =
-    all-each IsPacket (λ k. packet_of id Recovery (recovery_bytes k (recovery s texts k)))
+pub recovery_made : (s : ℕ) (id : List ℕ) (buffers : List (List ℕ)) (e n : ℕ) → length id ≡ 16 → s % 4 ≡ 0 → s < 2 ^ 60 → AllByRecursion IsPacket (recovery_packets s id buffers e n)
+recovery_made s id buffers e n sixteen even few =
+    all-each IsPacket (λ k. packet_of id Recovery (recovery_bytes k (recovery s buffers k)))
     (λ k.
-    let size : length (recovery s texts k) ≡ s = recovery_length s texts k (omega (arith, even)) in
-    recovery_packet id k (recovery s texts k) sixteen (omega (arith, size, even)) (omega (arith, size, few))) (range_with_len e n)
+    let size : length (recovery s buffers k) ≡ s = recovery_length s buffers k (omega (arith, even)) in
+    recovery_packet id k (recovery s buffers k) sixteen (omega (arith, size, even)) (omega (arith, size, few))) (range_with_len e n)
 
 pub recovery_slices_read : RecoverySlicesAreRead
-recovery_slices_read s id texts e n text sixteen even few = packets_then (recovery_packets s id texts e n) text (recovery_made s id texts e n sixteen even few)
+recovery_slices_read s id buffers e n bytes sixteen even few = packets_then (recovery_packets s id buffers e n) bytes (recovery_made s id buffers e n sixteen even few)

@@ -5,7 +5,7 @@ use Rattle.par2_spec.specs.Folders.{Folder, has, bytes_of}
 use Rattle.par2_spec.specs.declared.ChangeFault.{ChangeFault}
 use Rattle.par2_spec.specs.declared.ChangeFault.TheVariants.{NameTaken, NoRoom, NoSuchName}
 
--- a change of one folder
+-- a change of a folder
 pub data Change : Type 0 where
   Write : List ℕ → List ℕ → Change
   Replace : List ℕ → List ℕ → Change
@@ -26,7 +26,7 @@ effect folder (Replace name bytes) = map_of.insert folder name bytes
 effect folder (Rename from to) = map_of.insert (map_of.remove folder from) to (bytes_of folder from)
 effect folder (Remove gone) = map_of.remove folder gone
 
--- the change that gives the folder back
+-- the change that restores the folder
 unfoldable pub inverse : Folder → Change → Change
 inverse folder (Write name bytes) = Remove name
 inverse folder (Replace name bytes) = Replace name (bytes_of folder name)
@@ -57,47 +57,49 @@ unfolding effect
 folders_after folder [] = []
 folders_after folder (change ∷ changes) = effect folder change ∷ folders_after (effect folder change) changes
 
--- ---- a folder as it is kept
+-- ---- a folder in memory
 
--- the files, and how many more can be written without asking for memory
+-- the files, and how many more can be written without taking memory
 pub record FolderState : Type 0 where
   pub files : Folder
   pub vacant : ℕ
 
+-- the fault if the test fails, and else the next one
 abbrev pub fault_unless : Bool → ChangeFault → Option ChangeFault → Option ChangeFault
 fault_unless true fault next = next
 fault_unless false fault next = Some fault
 
--- why a change of a kept folder is refused, if it is
+-- why a folder in memory refuses a change, if it does
 unfoldable pub change_refusal : FolderState → Change → Option ChangeFault
 change_refusal f (Write name bytes) = fault_unless (not (has f.files name)) NameTaken (fault_unless (nat_lt 0 f.vacant) NoRoom None)
 change_refusal f (Replace name bytes) = fault_unless (has f.files name) NoSuchName None
 change_refusal f (Rename from to) = fault_unless (has f.files from) NoSuchName (fault_unless (not (has f.files to)) NameTaken None)
 change_refusal f (Remove name) = fault_unless (has f.files name) NoSuchName None
 
--- the room after a change: a write takes a place, and a removal makes one
+-- the vacant places after a change: a write takes one, and a removal frees one
 abbrev pub vacant_after : ℕ → Change → ℕ
 vacant_after n (Write name bytes) = n - 1
 vacant_after n (Replace name bytes) = n
 vacant_after n (Rename from to) = n
 vacant_after n (Remove name) = n + 1
 
+-- a folder in memory after a change
 abbrev pub state_after : FolderState → Change → FolderState
 state_after f change = record { files = effect f.files change; vacant = vacant_after f.vacant change }
 
--- whether a kept folder takes each of the changes in turn
+-- whether a folder in memory takes the changes in order
 unfoldable pub takes_all : FolderState → List Change → Bool
 unfolding change_refusal effect
 takes_all state [] = true
 takes_all state (change ∷ changes) = is_none (change_refusal state change) && takes_all (state_after state change) changes
 
--- the kept folder after the changes
+-- a folder in memory after the changes
 unfoldable pub state_after_all : FolderState → List Change → FolderState
 unfolding effect
 state_after_all state [] = state
 state_after_all state (change ∷ changes) = state_after_all (state_after state change) changes
 
--- how many places the changes take: those of the files that they write
+-- how many places the changes take: one for each file that they write
 abbrev pub places_taken : List Change → ℕ
 places_taken [] = 0
 places_taken (Write name bytes ∷ changes) = 1 + places_taken changes

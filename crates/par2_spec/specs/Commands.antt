@@ -1,19 +1,19 @@
--- The commands and actions that can be asked for.
+-- Commands and actions.
 use Rattle.std.specs.Prelude.{ℕ, Bool, List, ◌∷◌, [], map}
 use Rattle.par2_spec.specs.Folders.{Folder, File, bytes_of}
 use Rattle.par2_spec.specs.Volumes.{volumes}
 
--- the words of a create
+-- the arguments of a create
 pub record CreateArgs : Type 0 where
   pub base : List ℕ
   pub slice : ℕ
-  -- how many recovery slices, and the exponent of the first
+  -- the number of recovery slices, and the exponent of the first
   pub count : ℕ
   pub first : ℕ
   pub overwrite : Bool
   pub inputs : List (List ℕ)
 
--- a command: create with its words; verify and repair with base and further files, repair with whether it also
+-- a command: create with its arguments; verify and repair with base and extra files, repair with whether it also
 -- purges; purge with its base
 pub data Command : Type 0 where
   Create : CreateArgs → Command
@@ -21,7 +21,7 @@ pub data Command : Type 0 where
   Repair : List ℕ → List (List ℕ) → Bool → Command
   Purge : List ℕ → Command
 
--- what can be asked of a session
+-- an action on a session
 pub data Action : Type 0 where
   Do : Command → Action
   Undo : Action
@@ -35,7 +35,7 @@ files_of folder inputs = map (λ name. (name, bytes_of folder name)) inputs
 abbrev pub outputs_of : Folder → CreateArgs → List File
 outputs_of folder a = volumes a.base a.slice a.first a.count (files_of folder a.inputs)
 
--- the words that a fault of the command can speak of: base and further names, by their places
+-- the names that a fault of the command refers to by their places: the base, then the further names
 abbrev pub words_of : Command → List (List ℕ)
 words_of (Create a) = a.base ∷ a.inputs
 words_of (Verify base extras) = base ∷ extras

@@ -13,14 +13,15 @@ use Rattle.par2_spec.specs.Names.{is_name, is_among}
 abbrev pub Folder : Type 0
 Folder = FinMap (slice_cmp nat_cmp) (List ℕ)
 
--- a file by its name and its bytes
+-- a file: its name and its bytes
 abbrev pub File : Type 0
 File = List ℕ × List ℕ
 
+-- whether the folder has a file of this name
 abbrev pub has : Folder → List ℕ → Bool
 has folder name = is_some (map_of.get folder name)
 
--- the bytes of a file, none where it is absent
+-- the bytes of a file, empty if it is absent
 abbrev pub bytes_of : Folder → List ℕ → List ℕ
 bytes_of folder name = unwrap_or (map_of.get folder name) []
 
@@ -32,11 +33,11 @@ names folder = map_of.keys folder
 abbrev pub files : Folder → List File
 files folder = map_of.entries folder
 
--- a folder as a computer holds it: its names are names, and each length fits a 64-bit number
+-- a folder as on a disk: its names are valid, and each length fits in 64 bits
 abbrev pub IsFolder : Folder → Type 0
 IsFolder folder = AllByRecursion (λ file. IsTrue (is_name file.0) × (length file.1 < 2 ^ 64)) (files folder)
 
--- the folder once these files were put into it, one after the other
+-- the folder after these files are put into it in order
 unfoldable pub laid_over : List File → Folder → Folder
 laid_over [] folder = folder
 laid_over (file ∷ files) folder = laid_over files (map_of.insert folder file.0 file.1)
@@ -45,10 +46,10 @@ laid_over (file ∷ files) folder = laid_over files (map_of.insert folder file.0
 abbrev pub without : List (List ℕ) → Folder → Folder
 without gone folder = map_of.retain_keys folder (λ name. not (is_among gone name))
 
--- bytes after their length
+-- the bytes, prefixed with their length
 abbrev pub behind_length : List ℕ → List ℕ
 behind_length bytes = to_le_bytes w64 (length bytes) ++ bytes
 
--- what tells folders apart: the MD5 of their names and bytes, each after its length
+-- the fingerprint of a folder: the MD5 of its names and bytes, each prefixed with its length
 unfoldable pub fingerprint : Folder → List ℕ
 fingerprint folder = md5 (flat_map (λ file. behind_length file.0 ++ behind_length file.1) (files folder))

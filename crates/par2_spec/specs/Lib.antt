@@ -24,7 +24,7 @@ pub mod Refusals
 pub mod Plans
 pub mod Reports
 pub mod Views
-pub mod Texts
+pub mod Output
 pub mod Writing
 pub mod History
 pub mod Sessions

@@ -1,4 +1,4 @@
--- Trees of names, by reference.
+-- B-tree sets of borrowed names.
 use Rattle.std.specs.Prelude.{◌≡◌, ℕ, List}
 use Rattle.std.specs.Borrow.{Bor}
 use Rattle.std.specs.BTreeSet.{BTreeSet, contains}
@@ -7,10 +7,10 @@ use Rattle.std.specs.declared.cmp.Ordering.{Ordering}
 use Rattle.std.specs.Cmp.Lexicographic.{slice_cmp}
 use Rattle.par2_spec.specs.Names.{is_among}
 
--- the order of names, by reference
-abbrev pub name_cmp : Bor (List ℕ) → Bor (List ℕ) → Ordering
-name_cmp a b = slice_cmp nat_cmp a.now b.now
+-- the order of borrowed names: by their bytes
+abbrev pub borrowed_name_cmp : Bor (List ℕ) → Bor (List ℕ) → Ordering
+borrowed_name_cmp a b = slice_cmp nat_cmp a.now b.now
 
 -- a tree holds exactly these names
 abbrev pub HoldsNames : BTreeSet (Bor (List ℕ)) → List (List ℕ) → Type 0
-HoldsNames tree names = (name : Bor (List ℕ)) → contains name_cmp tree name ≡ is_among names name.now
+HoldsNames tree names = (name : Bor (List ℕ)) → contains borrowed_name_cmp tree name ≡ is_among names name.now

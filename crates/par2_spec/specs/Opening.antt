@@ -1,4 +1,4 @@
--- What a folder with a journal opens as.
+-- The session that a folder with a journal opens as.
 use Rattle.std.specs.Prelude.{◌≡◌, ◌⊎◌, ℕ, ◌-◌, ◌&&◌, Bool, true, false, not, List, [], ◌∷◌, ◌++◌, length, take, drop, reverse, position, Option, Some, None, Result, Ok, Err, if◌then◌else◌, map}
 use Rattle.std.specs.Str.{bytes_eq}
 use Rattle.std.specs.List.{AllByRecursion}
@@ -14,35 +14,37 @@ use Rattle.par2_spec.specs.declared.Version.TheVariants.{One, Two}
 
 -- ---- the journals of a session
 
--- the settled journal of a session. Version 1 keeps what an undo applies alone
+-- the settled journal of a session. Version 1 stores the undos only
 unfoldable pub settled_journal : Version → Session → Journal
 unfolding fingerprint
 settled_journal One s = record { version = One; fingerprint = fingerprint s.folder; cursor = length s.undos; entries = reverse s.undos; halfway = None }
 settled_journal Two s = record { version = Two; fingerprint = fingerprint s.folder; cursor = length s.undos; entries = reverse s.undos ++ s.redos; halfway = None }
 
--- what a journal keeps of a session: version 1 has no place for what could be redone
+-- the part of a session that a journal stores: version 1 has no place for redos
 abbrev pub kept_in : Version → Session → Session
 kept_in One s = record { folder = s.folder; undos = s.undos; redos = [] }
 kept_in Two s = s
 
--- the journal of a session that is about to make these changes, at least one: the fingerprint after each, and
--- the way back
+-- the halfway journal of a session that is about to make these changes, at least one: it adds the fingerprint after
+-- each, and the way back
 unfoldable pub halfway_journal : Version → Session → List Change → Journal
 unfolding settled_journal way_back folders_after
 halfway_journal v s changes = record (settled_journal v s) {
   halfway = Some (record { fingerprints = map fingerprint (folders_after s.folder changes); back = way_back s.folder changes });
 }
 
--- the two journals of an action that applies these changes: the halfway one where there is a change, and the
--- settled one of the session afterwards
+-- the two journals of an action that applies these changes: the halfway one, if there is a change, and the settled one
+-- of the session afterwards
 pub record JournalPair : Type 0 where
   pub before : Option Journal
   pub after : Journal
 
+-- the halfway journal, if there is a change
 abbrev pub halfway_where : Version → Session → List Change → Option Journal
 halfway_where v s [] = None
 halfway_where v s (change ∷ changes) = Some (halfway_journal v s (change ∷ changes))
 
+-- the journals of an action on a session
 unfoldable pub journals_of : Version → Session → Action → List Change → JournalPair
 unfolding halfway_journal settled_journal session_with
 journals_of v s action changes = record {
@@ -58,15 +60,15 @@ unfolding are_applicable effects
 leads folder [] = true
 leads folder (entry ∷ entries) = are_applicable folder entry && leads (effects folder entry) entries
 
--- the session of the entries, the folder being the one from which they lead
+-- the session of a journal's entries, which apply to this folder
 abbrev pub session_of : Folder → Journal → Session
 session_of folder j = record { folder = folder; undos = reverse (take j.cursor j.entries); redos = drop j.cursor j.entries }
 
--- all undos can be applied, and all redos
+-- all undos apply in order, and all redos
 abbrev pub is_valid : Session → Bool
 is_valid s = leads s.folder s.undos && leads s.folder s.redos
 
--- whether the changes can be applied, and leave folders with these fingerprints one after the other
+-- whether the changes apply in order and lead through folders of these fingerprints
 unfoldable pub leads_through : Folder → List Change → List (List ℕ) → Bool
 unfolding is_applicable effect fingerprint
 leads_through folder [] prints = true
@@ -75,7 +77,7 @@ leads_through folder (change ∷ changes) (print ∷ prints) =
     is_applicable folder change && bytes_eq (fingerprint (effect folder change)) print
     && leads_through (effect folder change) changes prints
 
--- what a journal opens as: a session; or a command to be taken back by these changes, and the session afterwards
+-- an opened journal: a session; or the changes that take an unfinished command back, and the session afterwards
 pub data Opened : Type 0 where
   Settled : Session → Opened
   Halfway : Session → List Change → Opened
@@ -85,7 +87,7 @@ abbrev pub session_of_opened : Opened → Session
 session_of_opened (Settled s) = s
 session_of_opened (Halfway s back) = s
 
--- a folder after the first k changes of a halfway command
+-- the opening of a folder after the first k changes of a halfway command
 unfoldable pub taken_back : Folder → Journal → HalfwayPart → ℕ → Result Opened JournalFault
 unfolding leads_through effects leads
 taken_back folder j h k =
@@ -95,12 +97,13 @@ taken_back folder j h k =
     then Ok (Halfway session back)
     else Err JournalInvalid
 
+-- the opening of a folder with a halfway journal, after as many changes as were found
 abbrev pub opened_if_found : Folder → Journal → HalfwayPart → Option ℕ → Result Opened JournalFault
 opened_if_found folder j h None = Err (FolderChanged true)
 opened_if_found folder j h (Some k) = taken_back folder j h k
 
--- a settled journal wants the folder that it was made for. In a halfway one the folder is the one after the least
--- number of changes whose fingerprint it has
+-- a settled journal needs the folder that it was made for. With a halfway journal, the first fingerprint that equals
+-- the folder's says how many changes were made
 abbrev pub opened_by_part : Folder → Journal → Option HalfwayPart → Result Opened JournalFault
 opened_by_part folder j None =
     if not (bytes_eq (fingerprint folder) j.fingerprint) then Err (FolderChanged false)
@@ -109,26 +112,26 @@ opened_by_part folder j None =
 opened_by_part folder j (Some h) =
     opened_if_found folder j h (position (bytes_eq (fingerprint folder)) (j.fingerprint ∷ h.fingerprints))
 
--- what a folder with this journal opens as
+-- the result of opening a folder with this journal
 unfoldable pub opened : Folder → Journal → Result Opened JournalFault
 unfolding fingerprint taken_back leads
 opened folder j = opened_by_part folder j j.halfway
 
--- what a folder with this text opens as: the journal that the text spells decides, and a text that spells none is
--- refused
+-- the result of opening a folder with these bytes of a journal; bytes that are no journal are refused
 unfoldable pub Opens : Folder → List ℕ → Result Opened JournalFault → Type 0
 unfolding opened
-Opens folder text answer =
-    ((j : Journal) × Spells text j × (answer ≡ opened folder j))
-    ⊎ (((j : Journal) → Spells text j → ⊥) × (answer ≡ Err JournalInvalid))
+Opens folder bytes answer =
+    ((j : Journal) × Spells bytes j × (answer ≡ opened folder j))
+    ⊎ (((j : Journal) → Spells bytes j → ⊥) × (answer ≡ Err JournalInvalid))
 
--- ---- what a store opens as
+-- ---- opening a store
 
 -- a session, and whether a history was dropped
 pub record Started : Type 0 where
   pub session : Session
   pub dropped : Bool
 
+-- a session without a history
 abbrev pub new_session : Folder → Session
 new_session folder = record { folder = folder; undos = []; redos = [] }
 
@@ -138,19 +141,19 @@ started folder (Ok o) = Ok (record { session = session_of_opened o; dropped = fa
 started folder (Err (FolderChanged false)) = Ok (record { session = new_session folder; dropped = true })
 started folder (Err fault) = Err fault
 
--- what a store with this folder and this journal, if any, opens as
+-- the result of opening a store with this folder and this journal, if any
 unfoldable pub OpensAs : Folder → Option (List ℕ) → Result Started JournalFault → Type 0
 unfolding Opens
 OpensAs folder None answer = answer ≡ Ok (record { session = new_session folder; dropped = false })
-OpensAs folder (Some text) answer = (o : Result Opened JournalFault) × Opens folder text o × (answer ≡ started folder o)
+OpensAs folder (Some bytes) answer = (o : Result Opened JournalFault) × Opens folder bytes o × (answer ≡ started folder o)
 
 -- ---- the premise on fingerprints
 
--- equal fingerprints among these folders are those of equal folders
-abbrev pub AreToldApart : List Folder → Type 0
-AreToldApart folders =
+-- among these folders, equal fingerprints mean equal folders
+abbrev pub HaveDifferentFingerprints : List Folder → Type 0
+HaveDifferentFingerprints folders =
     AllByRecursion (λ a. AllByRecursion (λ b. fingerprint a ≡ fingerprint b → a ≡ b) folders) folders
 
--- fingerprints tell apart the folders that these changes pass through
-abbrev pub TellsApart : Folder → List Change → Type 0
-TellsApart folder changes = AreToldApart (folder ∷ folders_after folder changes)
+-- the different folders that these changes pass through have different fingerprints
+abbrev pub FingerprintsDiffer : Folder → List Change → Type 0
+FingerprintsDiffer folder changes = HaveDifferentFingerprints (folder ∷ folders_after folder changes)

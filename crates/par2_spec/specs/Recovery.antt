@@ -6,23 +6,24 @@ use Rattle.std.specs.List.{range_with_len}
 use Rattle.par2_spec.specs.Field.{mul, coefficient}
 use Rattle.par2_spec.specs.Slices.{word}
 
--- the sum of the products at each place
+-- the dot product of a row and a vector
 unfoldable pub dot : List ℕ → List ℕ → ℕ
 unfolding mul
 dot [] v = 0
 dot (c ∷ row) [] = 0
 dot (c ∷ row) (x ∷ v) = bit_xor (mul c x) (dot row v)
 
--- what an exponent multiplies each of these input slices by
+-- the row of exponent e over these input slices, in the Vandermonde matrix of their constants
 abbrev pub coefficients : List ℕ → ℕ → List ℕ
 coefficients slices e = map (coefficient e) slices
 
--- the combination of texts of s bytes by a row, s being even: at each word the sum of the products
+-- the linear combination of buffers of s bytes by a row, word by word; s is even
 unfoldable pub combination : ℕ → List ℕ → List (List ℕ) → List ℕ
 unfolding dot
-combination s row texts = flat_map (λ p. to_le_bytes w16 (dot row (map (word p) texts))) (range_with_len 0 (s / 2))
+combination s row buffers = flat_map (λ p. to_le_bytes w16 (dot row (map (word p) buffers))) (range_with_len 0 (s / 2))
 
--- the recovery slice of exponent e over slices of s bytes, at most 32,768 of them
+-- the recovery slice of exponent e over at most 32,768 slices of s bytes, by a Reed-Solomon code ("Recovery Slice
+-- packet")
 unfoldable pub recovery : ℕ → List (List ℕ) → ℕ → List ℕ
 unfolding combination coefficient
 recovery s slices e = combination s (coefficients (range_with_len 0 (length slices)) e) slices

@@ -10,25 +10,25 @@ use Rattle.par2_spec.specs.Names.{is_name, is_par_name, is_among, distinct}
 use Rattle.par2_spec.specs.Folders.{Folder, has}
 use Rattle.par2_spec.specs.Volumes.{id_of, after_create}
 use Rattle.par2_spec.specs.Sets.{ParSet, set_of, is_slice_size}
-use Rattle.par2_spec.specs.Search.{candidates, needing, known, lost, survivors}
+use Rattle.par2_spec.specs.Search.{candidates, incomplete, known, lost, survivors}
 use Rattle.par2_spec.specs.Repairs.{aside, put_aside, rebuilt_targets, after_repair, after_repair_and_purge, after_purge}
 use Rattle.par2_spec.specs.Commands.{CreateArgs, Command, Create, Verify, Repair, Purge, Action, Do, Undo, Redo, files_of, outputs_of}
 use Rattle.par2_spec.specs.declared.Fault.{Fault}
 use Rattle.par2_spec.specs.declared.Fault.TheVariants.{BadSliceSize, BadCount, BadBase, NoInput, BadName, DuplicateInput, NoSuchFile, EmptyFile, TooManySlices, DuplicateId, NameTooLong, Exists, NotRepairable, RepairFailed, NotComplete}
 
--- `count` recovery slices with the exponents from `first` on, which stay below 65,536
+-- the `count` exponents from `first` on stay below 65,536
 abbrev pub are_counts : ℕ → ℕ → Bool
 are_counts first count = nat_le count 65536 && nat_le first 65535 && nat_le (first + count) 65536
 
--- an input may not be a name that a set's own files could have
+-- a valid name of an input, which is not one that a set's own files could have
 abbrev pub is_input_name : List ℕ → Bool
 is_input_name word = is_name word && not (is_par_name word)
 
--- a word that can't be the name of an input
+-- the first name that is not allowed for an input
 abbrev pub bad_name : List (List ℕ) → Option Fault
 bad_name inputs = fault_at 1 BadName (λ word. not (is_input_name word)) inputs
 
--- the first causes of a create: those of the numbers, of the base, and of the count of inputs
+-- the first tests of a create: its numbers, its base, and whether it has inputs
 unfoldable pub head_fault : CreateArgs → Option Fault
 head_fault a = first_fault (
     fault_where (not (is_slice_size a.slice)) BadSliceSize
@@ -37,7 +37,7 @@ head_fault a = first_fault (
     ∷ fault_where (length a.inputs == 0) NoInput
     ∷ [])
 
--- why a create is refused, if it is: the first cause that holds, each tested over all inputs in order
+-- why a create is refused, if it is: the first cause that holds. Each is tested over all inputs in order
 unfoldable pub create_refusal : Folder → CreateArgs → Option Fault
 create_refusal folder a =
     let files = files_of folder a.inputs in
@@ -56,11 +56,11 @@ create_refusal folder a =
     ∷ fault_where (not a.overwrite && list_any (λ file. has folder file.0) (outputs_of folder a)) Exists
     ∷ [])
 
--- a file that is not there: place 0 is the base, place k the k-th further name
+-- the first file that doesn't exist: place 0 is the base, place k the k-th further name
 abbrev pub absent_file : Folder → List ℕ → List (List ℕ) → Option Fault
 absent_file folder base extras = fault_at 0 NoSuchFile (λ word. not (has folder word)) (base ∷ extras)
 
--- the set that verify, repair and purge read. A file that is not there is refused first
+-- the set that verify, repair and purge read. A missing file is reported first
 unfoldable pub set_in : Folder → List ℕ → List (List ℕ) → Result ParSet Fault
 unfolding set_of
 set_in folder base extras = in_full (absent_file folder base extras)
@@ -80,9 +80,9 @@ repair_refusal folder set searched =
     ∷ fault_where (not (list_all (λ c. bytes_eq (md5 c.1) c.0.md5) (rebuilt_targets folder set searched))) RepairFailed
     ∷ [])
 
--- a purge wants complete files
+-- a purge needs complete files
 abbrev pub purge_refusal : Folder → ParSet → Option Fault
-purge_refusal folder set = fault_where (not (length (needing folder set) == 0)) NotComplete
+purge_refusal folder set = fault_where (not (length (incomplete folder set) == 0)) NotComplete
 
 -- why a command is refused, if it is
 unfoldable pub refusal : Folder → Command → Option Fault
@@ -92,7 +92,7 @@ refusal folder (Verify base extras) = fault_of (set_in folder base extras)
 refusal folder (Repair base extras purge) = then_fault (set_in folder base extras) (λ set. repair_refusal folder set (candidates folder set extras))
 refusal folder (Purge base) = then_fault (set_in folder base []) (purge_refusal folder)
 
--- why a command is refused before it takes any memory, if it is: by words or absent files
+-- why a command is refused before it takes any memory, if it is: bad arguments, or missing files
 unfoldable pub early_refusal : Folder → Command → Option Fault
 unfolding head_fault
 early_refusal folder (Create a) = first_fault (head_fault a ∷ bad_name a.inputs ∷ [])
@@ -100,18 +100,18 @@ early_refusal folder (Verify base extras) = absent_file folder base extras
 early_refusal folder (Repair base extras purge) = absent_file folder base extras
 early_refusal folder (Purge base) = absent_file folder base []
 
--- the same of an action. An undo or a redo takes no words
+-- why an action is refused before it takes any memory, if it is. An undo or redo has no arguments
 abbrev pub early_refusal_of : Folder → Action → Option Fault
 early_refusal_of folder (Do command) = early_refusal folder command
 early_refusal_of folder Undo = None
 early_refusal_of folder Redo = None
 
--- what a command makes of a folder by its set, where there is one
+-- a function of the set, or a default if no set was read
 abbrev pub by_set : {A : Type 0} → A → (ParSet → A) → Result ParSet Fault → A
 by_set otherwise use_set (Ok set) = use_set set
 by_set otherwise use_set (Err fault) = otherwise
 
--- the folder after a command that is accepted
+-- the folder after an accepted command
 unfoldable pub after : Folder → Command → Folder
 unfolding set_in after_repair
 after folder (Create a) = after_create folder (outputs_of folder a)

@@ -3,13 +3,13 @@ use Rattle.std.specs.Prelude.{ℕ, ◌+◌, ◌&&◌, Bool, IsTrue, not, List, [
 use Rattle.std.specs.FinMap as map_of
 use Rattle.std.specs.List.{list_all, list_any, range_with_len, concat, enumerate_from, IsDistinct, AllByRecursion}
 use Rattle.std.specs.Str.{bytes_eq}
-use Rattle.par2_spec.specs.Lists.{all_lists, all_texts}
+use Rattle.par2_spec.specs.Lists.{all_lists, all_buffers}
 use Rattle.par2_spec.specs.Rank.{agrees, kept_slices, AreBytes, IsRepairable}
 use Rattle.par2_spec.specs.Names.{is_among, numbered, is_par_name}
 use Rattle.par2_spec.specs.Packets.{accepted}
 use Rattle.par2_spec.specs.Folders.{Folder, File, has, bytes_of, names, laid_over, without}
 use Rattle.par2_spec.specs.Sets.{ParSet, Target, target_names, MadeFrom}
-use Rattle.par2_spec.specs.Search.{needing, matches, known, lost, survivors, matching, needing_names, candidates, NoCollision}
+use Rattle.par2_spec.specs.Search.{incomplete, matches, known, lost, survivors, matching, incomplete_names, candidates, NoCollision}
 use Rattle.par2_spec.specs.Windows.{found}
 use Rattle.std.specs.Option.{ForSome}
 use Rattle.par2_spec.specs.Volumes.{all_slices}
@@ -18,37 +18,37 @@ use Rattle.par2_spec.specs.Volumes.{all_slices}
 unfoldable pub rebuilt : ParSet → List (Option (List ℕ)) → List (List ℕ)
 unfolding agrees
 rebuilt set known =
-    unwrap_or (find (agrees set.slice_size known (kept_slices (lost known) (survivors set) (map_of.entries set.recovery))) (all_lists (all_texts set.slice_size) (length known))) []
+    unwrap_or (find (agrees set.slice_size known (kept_slices (lost known) (survivors set) (map_of.entries set.recovery))) (all_lists (all_buffers set.slice_size) (length known))) []
 
--- the items cut into lists of these lengths, in turn
+-- the items, cut into lists of these lengths in order
 abbrev pub cut_into : {A : Type 0} → List ℕ → List A → List (List A)
 cut_into [] items = []
 cut_into (n ∷ counts) items = take n items ∷ cut_into counts (drop n items)
 
--- the targets with their bytes by a list of all slices
+-- the targets with their bytes, cut out of a list of all slices
 abbrev pub files_of_slices : ParSet → List (List ℕ) → List (Target × List ℕ)
 files_of_slices set slices =
     map (λ z. (z.0, take z.0.length (concat z.1))) (zip set.targets (cut_into (map (λ t. length t.pairs) set.targets) slices))
 
--- the names that an aside keeps away from: those of the folder and of the targets
+-- the names that an aside must not have: those of the folder and of the targets
 abbrev pub taken_for : Folder → ParSet → List (List ℕ)
 taken_for folder set = names folder ++ target_names set
 
--- so few that each number up to one more than they are is written in full
+-- the names of `taken_for` are few enough that the number of an aside fits in 64 bits
 abbrev pub AreFew : Folder → ParSet → Type 0
 AreFew folder set = length (taken_for folder set) + 1 < 2 ^ 64
 
--- the least number from 1 on by which a name is neither in the folder nor a target's
+-- the aside of a name: the name with the least number from 1 on that is neither in the folder nor a target's
 unfoldable pub aside : Folder → ParSet → List ℕ → List ℕ
 aside folder set name =
     let taken = names folder ++ map (λ t. t.name) set.targets in
     unwrap_or (find (λ other. not (is_among taken other)) (map (numbered name) (range_with_len 1 (length taken + 1)))) []
 
--- the needing targets that have a match, under their names
+-- the incomplete targets that have a match, with the bytes of the match
 abbrev pub matched_files : Folder → List (Target × Option (List ℕ)) → List File
 matched_files folder ms = filter_map (λ m. option_map (λ name. (m.0.name, bytes_of folder name)) m.1) ms
 
--- the names of the needing targets that have none
+-- the names of the incomplete targets that have no match
 abbrev pub names_without_match : List (Target × Option (List ℕ)) → List (List ℕ)
 names_without_match ms = map (λ m. m.0.name) (filter (λ m. is_none m.1) ms)
 
@@ -58,29 +58,29 @@ unfolding matches known rebuilt
 rebuilt_targets folder set searched =
     filter (λ c. is_among (names_without_match (matches folder set searched)) c.0.name) (files_of_slices set (rebuilt set (known folder set searched)))
 
--- each slice, with whether its target is needing and has no match, and where it is found
+-- for each slice whether its target is incomplete without a match, and the slice if it is found
 abbrev pub slices_by_target : Folder → ParSet → List (List ℕ) → List (Bool × Option (List ℕ))
 slices_by_target folder set searched =
     flat_map (λ t. map (λ pair. (is_among (names_without_match (matches folder set searched)) t.name, found set.slice_size (map (bytes_of folder) searched) pair)) t.pairs)
     set.targets
 
--- the numbers of the slices of needing targets without a match that are not found
+-- the numbers of the slices that are not found and whose targets are incomplete without a match
 abbrev pub lost_of_unmatched : Folder → ParSet → List (List ℕ) → List ℕ
 lost_of_unmatched folder set searched =
     map (λ z. z.0) (filter (λ z. z.1.0 && is_none z.1.1) (enumerate_from 0 (slices_by_target folder set searched)))
 
--- the present needing targets, whose files are put aside
+-- the incomplete targets that exist, whose files are put aside
 abbrev pub put_aside : Folder → ParSet → List (List ℕ)
-put_aside folder set = filter (has folder) (map (λ t. t.name) (needing folder set))
+put_aside folder set = filter (has folder) (map (λ t. t.name) (incomplete folder set))
 
--- under their asides the old bytes of those that are nobody's match
+-- the files put aside that are no match, under their asides
 abbrev pub aside_files : Folder → ParSet → List (List ℕ) → List File
 aside_files folder set match_names =
     map (λ name. (aside folder set name, bytes_of folder name))
     (filter (λ name. not (is_among match_names name)) (put_aside folder set))
 
--- the folder after a repair: the asides and the needing targets over the folder without the needing
--- targets' names and their matches' names
+-- the folder after a repair: without the incomplete targets and the matches, then with the asides and the repaired
+-- targets
 unfoldable pub after_repair : Folder → ParSet → List (List ℕ) → Folder
 unfolding matches rebuilt_targets aside laid_over
 after_repair folder set searched =
@@ -89,52 +89,53 @@ after_repair folder set searched =
     laid_over (matched_files folder ms ++ map (λ c. (c.0.name, c.1)) (rebuilt_targets folder set searched))
     (laid_over (aside_files folder set match_names) (without (map (λ m. m.0.name) ms ++ match_names) folder))
 
--- the name ends in `.par2`, the file has an accepted packet of the set and none of another, and it is
--- no target
+-- a PAR2 file of the set: its name ends in `.par2` and is no target's, and its accepted packets, at least one, are all
+-- of the set
 abbrev pub is_par_file : Folder → ParSet → List ℕ → Bool
 is_par_file folder set name =
     let packets = accepted (bytes_of folder name) in
     is_par_name name && not (is_among (map (λ t. t.name) set.targets) name)
     && list_any (λ p. bytes_eq p.set_id set.id) packets && list_all (λ p. bytes_eq p.set_id set.id) packets
 
--- the par files of a set, in the order of their names
+-- the PAR2 files of a set, in the order of their names
 abbrev pub par_files : Folder → ParSet → List (List ℕ)
 par_files folder set = filter (is_par_file folder set) (names folder)
 
--- the folder after a repair that also removes the asides and the par files
+-- the folder after a repair that also removes the asides and the PAR2 files
 abbrev pub after_repair_and_purge : Folder → ParSet → List (List ℕ) → Folder
 after_repair_and_purge folder set searched =
     without (map (aside folder set) (put_aside folder set) ++ par_files folder set) (after_repair folder set searched)
 
+-- the folder after a purge: without the PAR2 files
 abbrev pub after_purge : Folder → ParSet → Folder
 after_purge folder set = without (par_files folder set) folder
 
--- what a repair wants of the folder, the set and the names that are searched
+-- the premises of a repair on the folder, the set and the searched names
 pub record FitsRepair (folder : Folder) (set : ParSet) (searched : List (List ℕ)) : Type 0 where
   pub names_once : IsDistinct bytes_eq (target_names set)
   pub all_there : IsTrue (list_all (has folder) searched)
   pub few : AreFew folder set
 
--- what a folder holds after a repair, file by file
+-- the folder after a repair, file by file
 pub record HoldsRepaired (folder : Folder) (set : ParSet) (searched : List (List ℕ)) (after : Folder) : Type 0 where
-  -- each matched target the bytes of its match
+  -- each matched target has the bytes of its match
   pub matched_ones : AllByRecursion (λ m. ForSome m.1 (λ name. map_of.get after m.0.name ≡ Some (bytes_of folder name))) (matches folder set searched)
-  -- each other needing target its slices
+  -- each other incomplete target has its rebuilt bytes
   pub written_ones : AllByRecursion (λ c. map_of.get after c.0.name ≡ Some c.1) (rebuilt_targets folder set searched)
-  -- under its aside each file that was put aside and is nobody's match
+  -- each file put aside that is no match is under its aside
   pub asides : (name : List ℕ) → IsTrue (is_among (put_aside folder set) name) → IsFalse (is_among (matching folder set searched) name) → map_of.get after (aside folder set name) ≡ Some (bytes_of folder name)
-  -- nothing under its aside, where a file that was put aside is a match
+  -- a file put aside that is a match is not under its aside
   pub taken_asides : (name : List ℕ) → IsTrue (is_among (put_aside folder set) name)
       → IsTrue (is_among (matching folder set searched) name)
       → map_of.get after (aside folder set name) ≡ None
-  -- no match under its old name, where that is no needing target's
-  pub moved_away : (name : List ℕ) → IsTrue (is_among (matching folder set searched) name) → IsFalse (is_among (needing_names folder set) name) → map_of.get after name ≡ None
-  -- each other file as it was
-  pub others : (name : List ℕ) → IsFalse (is_among (needing_names folder set) name) → IsFalse (is_among (matching folder set searched) name)
+  -- a match is not under its old name, unless an incomplete target has that name
+  pub moved_away : (name : List ℕ) → IsTrue (is_among (matching folder set searched) name) → IsFalse (is_among (incomplete_names folder set) name) → map_of.get after name ≡ None
+  -- each other file is as it was
+  pub others : (name : List ℕ) → IsFalse (is_among (incomplete_names folder set) name) → IsFalse (is_among (matching folder set searched) name)
       → IsFalse (is_among (map (aside folder set) (put_aside folder set)) name) → map_of.get after name ≡ map_of.get folder name
 
--- what holds of a repair where the further files are there, what it finds of the files that the set was made from is
--- true, these hold bytes, and the lost slices are determined
+-- the statement holds if the extra files exist, no checksum collides, the original files hold bytes, and the lost
+-- slices are determined
 abbrev pub Restores : (folder : Folder) (base : List ℕ) (extras : List (List ℕ)) (files : List File) (s : ℕ) → MadeFrom folder base files s → Type 0 → Type 0
 Restores folder base extras files s m what =
     let searched = candidates folder m.set extras in

@@ -1,9 +1,10 @@
--- Exponents that lie close together, and runs of them: they give the rank without the equations.
+-- Exponents that are close together, and runs of consecutive exponents. They give the rank without elimination, because
+-- the rows of consecutive exponents are a Vandermonde matrix with scaled columns.
 use Rattle.std.specs.Prelude.{ℕ, ◌+◌, ◌<◌, List}
 use Rattle.std.specs.List.{AllByRecursion, Contains}
 use Rattle.std.specs.List.Sorted.{IsStrictlyIncreasing}
 
--- numbers of input slices in order, each of them with a constant
+-- increasing numbers of input slices, all of which have a constant
 pub record AreSlices (numbers : List ℕ) : Type 0 where
   pub rise : IsStrictlyIncreasing numbers
   pub below : AllByRecursion (λ k. k < 32768) numbers

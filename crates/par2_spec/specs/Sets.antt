@@ -1,5 +1,5 @@
--- The set of a base: what the packets of a folder describe. What packets say is that of Parity Volume Set Specification
--- 2.0; which of them are taken, and which sets are in the profile, are rules of this program.
+-- The set of a base, as the packets of a folder describe it. The contents of packets are those of Parity Volume Set
+-- Specification 2.0. Which packets are used, and which sets are in the profile, are rules of this program.
 use Rattle.std.specs.Prelude.{◌≡◌, ℕ, ◌^◌, ◌%◌, ◌==◌, ◌&&◌, nat_le, nat_lt, Bool, true, false, not, List, [], ◌∷◌, length, map, flat_map, filter, filter_map, sum_by, find, slice_get, Option, Some, None, Result, Ok, Err, ok_or, option_map, option_and_then, if◌then◌else◌, ◌<◌, ◌≤◌, IsTrue}
 use Rattle.std.specs.FinMap as map_of
 use Rattle.std.specs.FinMap.{FinMap}
@@ -24,6 +24,7 @@ pub record Target : Type 0 where
   pub md5 : List ℕ
   pub pairs : List Pair
 
+-- a recovery set
 pub record ParSet : Type 0 where
   pub id : List ℕ
   pub slice_size : ℕ
@@ -32,7 +33,7 @@ pub record ParSet : Type 0 where
   -- the recovery slice of each surviving exponent
   pub recovery : FinMap nat_cmp (List ℕ)
 
--- what follows an answer, unless it is a fault
+-- the next step of a computation, unless a fault has ended it
 infixl 10 ◌>>=◌
 abbrev pub ◌>>=◌ : {A B : Type 0} → Result A Fault → (A → Result B Fault) → Result B Fault
 (Ok x) >>= f = f x
@@ -43,19 +44,20 @@ abbrev pub unless : Bool → Fault → Result Bool Fault
 unless true fault = Ok true
 unless false fault = Err fault
 
--- the items, where each is there
+-- the items, if all are there
 abbrev pub all_some : {A : Type 0} → List (Option A) → Option (List A)
 all_some [] = Some []
 all_some (item ∷ items) = option_and_then (λ x. option_map (λ xs. x ∷ xs) (all_some items)) item
 
--- a multiple of 4 from 4 to 2 ^ 30
+-- a slice size of the profile: a multiple of 4 from 4 to 2 ^ 30
 abbrev pub is_slice_size : ℕ → Bool
 is_slice_size s = s % 4 == 0 && nat_le 4 s && nat_le s (2 ^ 30)
 
+-- the packets with this Recovery Set ID
 abbrev pub packets_with : List ℕ → List Packet → List Packet
 packets_with id packets = filter (λ p. bytes_eq p.set_id id) packets
 
--- the first well-formed Main whose body has the set identifier as its MD5
+-- the first well-formed Main whose body has the Recovery Set ID as its MD5
 abbrev pub main_of : List ℕ → List Packet → Option MainBody
 main_of id packets =
     slice_get (filter_map (λ p. if bytes_eq (md5 p.body) id then read_main p.kind p.body else None) packets) 0
@@ -64,19 +66,19 @@ main_of id packets =
 abbrev pub description_of : List Packet → List ℕ → Option DescBody
 description_of packets id = find (λ d. bytes_eq d.id id) (filter_map (λ p. read_desc p.kind p.body) packets)
 
--- the first IFSC with this File ID and n pairs
+-- the checksums of the first IFSC with this File ID and n pairs
 abbrev pub pairs_of : List Packet → List ℕ → ℕ → Option (List Pair)
 pairs_of packets id n =
     option_map (λ c. c.pairs)
     (find (λ c. bytes_eq c.id id && length c.pairs == n) (filter_map (λ p. read_ifsc p.kind p.body) packets))
 
--- the target of a description. A file without bytes needs no checksums
+-- the target of a description. An empty file needs no checksums
 abbrev pub target_of : List Packet → ℕ → DescBody → Option Target
 target_of packets s d =
     option_map (λ pairs. let t : Target = record { name = d.name; length = d.length; md5 = d.md5; pairs = pairs } in t)
     (if d.length == 0 then Some [] else pairs_of packets d.id (slice_count s d.length))
 
--- names that are names, each once, and no more slices than there are constants
+-- the names are valid and distinct, and there are no more slices than constants
 abbrev pub are_in_profile : ℕ → List DescBody → Bool
 are_in_profile s ds =
     nat_le (sum_by (λ d. slice_count s d.length) ds) 32768 && list_all (λ d. is_name d.name) ds
@@ -88,8 +90,8 @@ recovery_of packets s =
     map_of.from_entries (map (λ r. (r.exponent, r.bytes))
     (filter (λ r. nat_lt r.exponent 65536 && length r.bytes == s) (filter_map (λ p. read_recovery p.kind p.body) packets)))
 
--- the set that the texts of a base and of other files describe, or the first part that is absent. Its
--- identifier is that of the base's first packet
+-- the set that the bytes of a base and of other files describe, or the first part that is missing. Its Recovery Set ID
+-- is that of the base's first packet
 unfoldable pub read_set : List ℕ → List (List ℕ) → Result ParSet Fault
 unfolding accepted_after read_main read_desc read_ifsc read_recovery is_name
 read_set base others = do
@@ -111,7 +113,7 @@ read_set base others = do
 abbrev pub other_par_names : Folder → List ℕ → List (List ℕ)
 other_par_names folder base = filter (λ name. is_par_name name && not (bytes_eq name base)) (names folder)
 
--- the pairs of all slices, in order
+-- the checksums of all slices, in order
 abbrev pub all_pairs : ParSet → List Pair
 all_pairs set = flat_map (λ t. t.pairs) set.targets
 
@@ -119,13 +121,13 @@ all_pairs set = flat_map (λ t. t.pairs) set.targets
 abbrev pub target_names : ParSet → List (List ℕ)
 target_names set = map (λ t. t.name) set.targets
 
--- the set of a base
+-- the set of a base in a folder
 unfoldable pub set_of : Folder → List ℕ → Result ParSet Fault
 unfolding read_set
 set_of folder base = read_set (bytes_of folder base) (map (bytes_of folder) (other_par_names folder base))
 
--- what holds of each set that reads: names that are names, each once, a slice size in the profile, a pair for each
--- slice, no more slices than there are constants, and recovery slices of their size
+-- a sound set, as is every set that can be read: the names are valid and distinct, the slice size is in the profile,
+-- each slice has checksums, there are no more slices than constants, and recovery slices have the slice size
 pub record IsSound (set : ParSet) : Type 0 where
   pub are_names : IsTrue (list_all is_name (target_names set))
   pub names_once : IsDistinct bytes_eq (target_names set)
@@ -134,9 +136,9 @@ pub record IsSound (set : ParSet) : Type 0 where
   pub slices : length (all_pairs set) ≤ 32768
   pub recovery : AllByRecursion (λ r. (r.0 < 65536) × (length r.1 ≡ set.slice_size)) (map_of.entries set.recovery)
 
--- ---- a set that was made from certain files
+-- ---- a set that was made from known files
 
--- what a reader learns of a file
+-- the target that describes a file
 abbrev pub target_of_file : ℕ → File → Target
 target_of_file s file =
     let r = record_of s file in

@@ -1,9 +1,9 @@
--- What a place that keeps a folder and a journal holds.
+-- The contents of a store: a folder and its journal.
 use Rattle.std.specs.Prelude.{ℕ, List, Option, Some}
 use Rattle.par2_spec.specs.Folders.{Folder}
 use Rattle.par2_spec.specs.Changes.{Change, effect}
 
--- a folder, and the bytes of a journal where there is one
+-- a folder, and the bytes of its journal if there is one
 pub record Contents : Type 0 where
   pub files : Folder
   pub journal : Option (List ℕ)

@@ -1,5 +1,5 @@
 -- The packets that describe files, and the files that a create writes (Parity Volume Set Specification 2.0; each
--- definition of a layout names its section. Which packets a file holds, and in which order, is a rule of this program).
+-- definition of a layout names its section). Which packets a file has, and in which order, are rules of this program.
 use Rattle.std.specs.Prelude.{ℕ, ◌+◌, ◌-◌, ◌/◌, ◌%◌, ◌^◌, min, nat_lt, nat_le, List, [], ◌∷◌, ◌++◌, length, take, map, flat_map, filter, replicate, if◌then◌else◌, codes, ◌≡◌, ◌==◌, ◌<◌, false}
 use Rattle.std.specs.Int.{w32, w64, w128, to_le_bytes, from_le_bytes}
 use Rattle.std.specs.List.{range_with_len, AllByRecursion, list_any}
@@ -12,7 +12,7 @@ use Rattle.par2_spec.specs.Folders.{File, Folder, laid_over}
 use Rattle.par2_spec.specs.declared.Kind.{Kind}
 use Rattle.par2_spec.specs.declared.Kind.TheVariants.{Main, FileDesc, Ifsc, Recovery, Creator}
 
--- what a set says of a file
+-- the record of a file in a set
 pub record FileRecord : Type 0 where
   pub id : List ℕ
   pub md5 : List ℕ
@@ -21,7 +21,7 @@ pub record FileRecord : Type 0 where
   pub name : List ℕ
   pub pairs : List Pair
 
--- what a set can say of a file: its parts have their sizes, and its name has no zero byte
+-- a valid file record: its parts have their sizes, and its name has no NUL byte
 pub record IsFileRecord (file : FileRecord) : Type 0 where
   pub id : length file.id ≡ 16
   pub md5 : length file.md5 ≡ 16
@@ -36,6 +36,7 @@ pub record IsFileRecord (file : FileRecord) : Type 0 where
 abbrev pub file_id : List ℕ → ℕ → List ℕ → List ℕ
 file_id md5_16k len name = md5 (md5_16k ++ to_le_bytes w64 len ++ name)
 
+-- the MD5 of the first 16 KiB ("File Description packet")
 abbrev pub md5_16k : File → List ℕ
 md5_16k file = md5 (take 16384 file.1)
 
@@ -43,7 +44,7 @@ md5_16k file = md5 (take 16384 file.1)
 abbrev pub id_of : File → List ℕ
 id_of file = file_id (md5_16k file) (length file.1) file.0
 
--- what a set of slice size s says of a file
+-- the record of a file in a set of slice size s
 unfoldable pub record_of : ℕ → File → FileRecord
 record_of s file = record {
   id = id_of file;
@@ -58,41 +59,41 @@ record_of s file = record {
 abbrev pub id_number : File → ℕ
 id_number file = from_le_bytes w128 (id_of file)
 
--- a file among files in that order, before those whose number is not less
+-- the file inserted into sorted files, before those whose number is not less
 abbrev pub insert_by_id : File → List File → List File
 insert_by_id file [] = file ∷ []
 insert_by_id file (next ∷ files) = if nat_le (id_number file) (id_number next) then file ∷ next ∷ files else next ∷ insert_by_id file files
 
--- the files in the order of their File IDs
+-- the files sorted by File ID ("Main packet")
 unfoldable pub in_id_order : List File → List File
 in_id_order [] = []
 in_id_order (file ∷ files) = insert_by_id file (in_id_order files)
 
--- the bytes and as many zeros as bring them to a multiple of 4
+-- the bytes, padded with zeros to a multiple of 4
 abbrev pub padded_4 : List ℕ → List ℕ
 padded_4 bytes = bytes ++ replicate ((4 - length bytes % 4) % 4) 0
 
--- ("Main packet")
+-- the body of a Main ("Main packet")
 abbrev pub main_bytes : ℕ → List FileRecord → List ℕ
 main_bytes s files = to_le_bytes w64 s ++ to_le_bytes w32 (length files) ++ flat_map (λ file. file.id) files
 
--- ("File Description packet")
+-- the body of a FileDesc ("File Description packet")
 abbrev pub desc_bytes : FileRecord → List ℕ
 desc_bytes file = file.id ++ file.md5 ++ file.md5_16k ++ to_le_bytes w64 file.length ++ padded_4 file.name
 
--- ("Input File Slice Checksum packet")
+-- the checksums of a slice in an IFSC ("Input File Slice Checksum packet")
 abbrev pub pair_bytes : Pair → List ℕ
 pair_bytes pair = pair.0 ++ to_le_bytes w32 pair.1
 
--- ("Input File Slice Checksum packet")
+-- the body of an IFSC ("Input File Slice Checksum packet")
 abbrev pub ifsc_bytes : FileRecord → List ℕ
 ifsc_bytes file = file.id ++ flat_map pair_bytes file.pairs
 
--- ("Recovery Slice packet")
+-- the body of a RecvSlic ("Recovery Slice packet")
 abbrev pub recovery_bytes : ℕ → List ℕ → List ℕ
 recovery_bytes e bytes = to_le_bytes w32 e ++ bytes
 
--- ("Creator packet")
+-- the body of the Creator ("Creator packet")
 abbrev pub creator_bytes : List ℕ
 creator_bytes = padded_4 (codes "par2 undo profile 1")
 
@@ -100,6 +101,7 @@ creator_bytes = padded_4 (codes "par2 undo profile 1")
 abbrev pub main_id : ℕ → List FileRecord → List ℕ
 main_id s files = md5 (main_bytes s files)
 
+-- the packet with this Recovery Set ID, kind and body
 abbrev pub packet_of : List ℕ → Kind → List ℕ → Packet
 packet_of set_id kind body = record { set_id = set_id; kind = kind; body = body }
 
@@ -114,21 +116,23 @@ index_packets s files =
 
 -- the packets of n recovery slices from exponent e on, over these slices
 abbrev pub recovery_packets : ℕ → List ℕ → List (List ℕ) → ℕ → ℕ → List Packet
-recovery_packets s set_id texts e n =
-    map (λ k. packet_of set_id Recovery (recovery_bytes k (recovery s texts k))) (range_with_len e n)
+recovery_packets s set_id buffers e n =
+    map (λ k. packet_of set_id Recovery (recovery_bytes k (recovery s buffers k))) (range_with_len e n)
 
--- volume i of c recovery slices has 2 ^ i of them, the last one the rest: a rule of this program
+-- how many recovery slices come before volume i: each volume i has 2 ^ i of them, the last one the rest. A rule of this
+-- program
 abbrev pub volumes_before : ℕ → ℕ
 volumes_before i = 2 ^ i - 1
 
--- the volumes of c recovery slices, c being at most 65,536: the first 17 would hold 131,071
+-- the numbers of the volumes of c recovery slices, at most 65,536: the first 17 would have 131,071
 abbrev pub volume_numbers : ℕ → List ℕ
 volume_numbers c = filter (λ i. nat_lt (volumes_before i) c) (range_with_len 0 17)
 
+-- how many of c recovery slices volume i has
 abbrev pub volume_size : ℕ → ℕ → ℕ
 volume_size c i = min (2 ^ i) (c - volumes_before i)
 
--- five decimal digits, of a number below 100,000
+-- a number below 100,000 in five decimal digits
 abbrev pub five_digits : ℕ → List ℕ
 five_digits n = map (λ k. 48 + n / 10 ^ k % 10) (4 ∷ 3 ∷ 2 ∷ 1 ∷ 0 ∷ [])
 
@@ -145,8 +149,8 @@ volume_name base first n =
 abbrev pub all_slices : ℕ → List File → List (List ℕ)
 all_slices s files = flat_map (λ file. slices s file.1) files
 
--- the files that a create of these files writes, in order: the index, and volumes of c recovery slices from
--- exponent f on, c at most 65,536 and f + c too
+-- the files that a create of these files writes, in order: the index, then volumes of c recovery slices from exponent f
+-- on. Neither c nor f + c is above 65,536
 unfoldable pub volumes : List ℕ → ℕ → ℕ → ℕ → List File → List File
 unfolding record_of in_id_order index_packets
 volumes base s f c files =
@@ -163,7 +167,7 @@ volumes base s f c files =
     ))
     (volume_numbers c)
 
--- what can be said of these files: the kinds and bodies of their packets, with recovery slices of these exponents
+-- the kinds and bodies of these files' packets, with recovery slices of these exponents
 unfoldable pub packets_of : ℕ → List File → List ℕ → List (Kind × List ℕ)
 unfolding record_of
 packets_of s files exponents =
@@ -173,6 +177,6 @@ packets_of s files exponents =
     ++ map (λ file. (Ifsc, ifsc_bytes file)) records
     ++ map (λ e. (Recovery, recovery_bytes e (recovery s (all_slices s files) e))) exponents
 
--- the folder once these files were written
+-- the folder after these files are written
 abbrev pub after_create : Folder → List File → Folder
 after_create folder files = laid_over files folder

@@ -1,23 +1,23 @@
-//! What can be asked of the program, as its callers hand it in.
+//! The commands of the program, as its callers pass them in.
 
-/// The words of a create.
+/// The arguments of a create.
 #[derive(Debug, Drop)]
 pub struct CreateArgs {
     /// The slice size in bytes.
     pub slice: u64,
-    /// How many recovery slices.
+    /// The number of recovery slices.
     pub count: u32,
     /// The exponent of the first recovery slice.
     pub first: u32,
     /// The name of the index file.
     pub base: String,
-    /// The names of the files that are protected.
+    /// The names of the files to protect.
     pub inputs: Vec<String>,
-    /// Whether outputs that exist are replaced.
+    /// Whether existing outputs are replaced.
     pub overwrite: bool,
 }
 
-/// What changes a folder or its history.
+/// A command that changes a folder or its history.
 #[derive(Debug, Drop)]
 pub enum Action {
     Create(CreateArgs),
@@ -33,7 +33,7 @@ pub enum Action {
     Redo,
 }
 
-/// What a run of the program is asked for.
+/// The command of one run of the program. Definitions call it an action; their command is what `Do` holds.
 #[derive(Debug, Drop)]
 pub enum Command {
     Verify { base: String, extras: Vec<String> },

@@ -1,4 +1,5 @@
-//! Laws of create: each is the contract of a function that does nothing.
+//! Laws of create: its outputs, and the order of the files in its set. Each law is the contract of an empty function,
+//! which nothing calls.
 
 ghost use Rattle.std.specs.Prelude.{◌≡◌, ◌∷◌, ℕ, List, [], IsTrue, IsPermutation, map, flat_map};
 ghost use Rattle.std.specs.List.{IsDistinct};
@@ -12,13 +13,14 @@ ghost use Rattle.par2_spec.specs.Commands.{CreateArgs, files_of, outputs_of};
 ghost use Rattle.par2_spec.specs.Plans.{create_changes};
 ghost use Rattle.par2_spec.specs.Laws.{OnlyOneOrder};
 
-/// The outputs of a create have names of their own.
+/// The outputs of a create have distinct names, so no change of it overwrites the output of another.
 pub fn outputs_are_distinct()
     ensures { (base : List ℕ) (s f c : ℕ) (files : List File)
         → IsDistinct bytes_eq (map (λ file. file.0) (volumes base s f c files)) }
 {}
 
-/// The changes of a create apply in order and lead to its folder, on every folder.
+/// On every folder the changes of a create apply in order and lead to `after_create`, the folder with the outputs. Its
+/// other files are as before.
 pub fn create_leads_to_its_folder()
     ensures applies { (folder : Folder) (a : CreateArgs)
         → IsTrue (are_applicable folder (create_changes folder a)) }
@@ -26,14 +28,14 @@ pub fn create_leads_to_its_folder()
         → effects folder (create_changes folder a) ≡ after_create folder (outputs_of folder a) }
 {}
 
-/// Without recovery slices the index is the only output.
+/// With 0 recovery slices the index is the only output of a create: Main, FileDescs, IFSCs and Creator.
 pub fn index_alone()
     ensures { (base : List ℕ) (s f : ℕ) (files : List File) → volumes base s f 0 files
         ≡ (base, flat_map packet (index_packets s (map (record_of s) (in_id_order files)))) ∷ [] }
 {}
 
-/// The files in the order of their File IDs are the files, no File ID falls, and one list alone of what a set says of
-/// them rises. The files of their names are again they.
+/// `in_id_order` returns the files sorted by File ID. Only one order of their records has strictly increasing File IDs.
+/// The names in that order give the files in that order again.
 pub fn files_in_order()
     ensures same { (files : List File) → IsPermutation files (in_id_order files) }
     ensures order { (files : List File) → IsNonDecreasingBy id_number (in_id_order files) }

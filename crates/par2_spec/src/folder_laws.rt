@@ -1,11 +1,14 @@
-//! Laws of folders and changes: each is the contract of a function that does nothing.
+//! Laws of folders and changes: changes that are applied can be taken back. The first laws are about a folder alone,
+//! the last ones about a `FolderState`, which also counts vacant places. Each law is the contract of an empty function,
+//! which nothing calls.
 
 ghost use Rattle.std.specs.Prelude.{◌≡◌, ◌+◌, ◌≤◌, ℕ, List, None, IsTrue};
 ghost use Rattle.par2_spec.specs.Folders.{Folder, has};
 ghost use Rattle.par2_spec.specs.Changes.{Change, FolderState, effect, inverse, is_applicable, effects, way_back, are_applicable, change_refusal, state_after, takes_all, state_after_all, places_taken};
 ghost use Rattle.par2_spec.specs.Laws.{MorePlacesStay};
 
-/// The inverse of a change that applies gives the folder back, and its own inverse is the change.
+/// The inverse of an applicable change is applicable afterwards and restores the folder, and the inverse of the inverse
+/// is the change. An undo and a redo of one change depend on it.
 pub fn change_and_inverse()
     ensures applies { (folder : Folder) (change : Change) → IsTrue (is_applicable folder change)
         → IsTrue (is_applicable (effect folder change) (inverse folder change)) }
@@ -15,7 +18,8 @@ pub fn change_and_inverse()
         → inverse (effect folder change) (inverse folder change) ≡ change }
 {}
 
-/// The way back of changes that apply in order gives the folder back, and its own way back is the changes.
+/// The way back, the inverses in reverse order, of changes that apply in order restores the folder, and the way back of
+/// the way back is the changes. An undo and a redo of a command depend on it.
 pub fn way_back_gives_back()
     ensures applies { (folder : Folder) (changes : List Change)
         → IsTrue (are_applicable folder changes)
@@ -28,14 +32,16 @@ pub fn way_back_gives_back()
         → way_back (effects folder changes) (way_back folder changes) ≡ changes }
 {}
 
-/// Whether changes apply in order is a matter of the names alone.
+/// Whether changes apply in order depends on the names in the folder, not on the bytes: two folders with the same names
+/// take the same changes.
 pub fn applying_reads_names_alone()
     ensures { (one other : Folder) (changes : List Change) → ((name : List ℕ) → has one name
         ≡ has other name) → are_applicable one changes ≡ are_applicable other changes }
 {}
 
-/// A kept folder takes changes that apply in order where it has a place for each file that they write, it takes no
-/// others, and its files are then those of the folder after them.
+/// A `FolderState` (the model of `Folder`: files and vacant places) takes changes that apply in order if it has a
+/// vacant place for each file that they write. It takes no changes that don't apply, and its files are then those of
+/// `effects`.
 pub fn kept_folder_takes_changes()
     ensures taken { (state : FolderState) (changes : List Change)
         → IsTrue (are_applicable state.files changes)
@@ -46,7 +52,8 @@ pub fn kept_folder_takes_changes()
         → (state_after_all state changes).files ≡ effects state.files changes }
 {}
 
-/// More vacant places do no harm, and they are left over.
+/// With more vacant places the same changes are taken, and `MorePlacesStay`: they lead to the same files, and the extra
+/// places stay vacant. Places are vacant entries of a folder, for files that can be added without allocating.
 pub fn more_places_do_no_harm()
     ensures taken { (state : FolderState) (places : ℕ) (changes : List Change)
         → IsTrue (takes_all state changes) → IsTrue
@@ -54,8 +61,8 @@ pub fn more_places_do_no_harm()
     ensures state { MorePlacesStay }
 {}
 
-/// A change that a kept folder took can be taken back: the folder takes the inverse, and files, vacant places and
-/// change are then as before.
+/// `change_and_inverse` for a `FolderState`: it takes the inverse of a change that it took, so undoing needs no memory.
+/// Files and vacant places are then as before, and the inverse of the inverse is the change.
 pub fn kept_folder_takes_a_change_back()
     ensures taken { (state : FolderState) (change : Change) → change_refusal state change ≡ None
         → change_refusal (state_after state change) (inverse state.files change) ≡ None }
@@ -65,8 +72,8 @@ pub fn kept_folder_takes_a_change_back()
         → inverse (state_after state change).files (inverse state.files change) ≡ change }
 {}
 
-/// So can changes that it took in order: it takes the way back, and files, vacant places and changes are then as
-/// before.
+/// `way_back_gives_back` for a `FolderState`: it takes the way back of changes that it took. Files and vacant places
+/// are then as before, and the way back of the way back is the changes.
 pub fn kept_folder_takes_changes_back()
     ensures taken { (state : FolderState) (changes : List Change)
         → IsTrue (takes_all state changes)

@@ -1,4 +1,7 @@
-//! The definitions that every crate of this repository cites, and the plain enums that they speak of.
+//! Definitions that all contracts cite, the enums and structs that definitions and code share, and laws about the
+//! definitions. Every crate but `par2_md5_lanes` is built on this one. It has no code but messages and conversions of
+//! faults, and must not know how anything is computed, stored or printed. The functions of the `_laws` modules are
+//! empty: the contract of each is a law. A function calls the laws that its contract needs.
 #![tactic(auto)]
 
 pub mod checksum_laws;
@@ -22,10 +25,10 @@ use std::alloc::{AllocError, AllocFailed};
 use std::fmt::{self, Display, Formatter, Write};
 use thiserror::Error;
 
-/// An answer where memory alone may be wanting, or one with a fault of its own.
+/// A result that fails only if memory runs out, unless it names another error.
 pub type Result<T, E = AllocError> = std::result::Result<T, E>;
 
-/// The type of a packet.
+/// The type of a packet (PAR2 2.0, Packet Header).
 #[derive(Clone, Copy, PartialEq, Eq, Drop)]
 pub enum Kind {
     Main,
@@ -36,60 +39,60 @@ pub enum Kind {
     Other([u8; 16]),
 }
 
-/// Why a command is refused. Place 0 is the base, place k the k-th further name. Where the program prints the name at a
-/// place, the fault itself knows the place alone, and shows that.
+/// Why a command is refused. A place counts the names of the command: 0 is the base, k the k-th further name. `Display`
+/// shows the place, because the fault doesn't have the name; the program prints the name.
 #[derive(Debug, Clone, Copy, PartialEq, Eq, Drop)]
 pub enum Fault {
-    /// The slice size is no multiple of 4 from 4 to 2^30.
+    /// The slice size is not a multiple of 4 from 4 to 2^30.
     BadSliceSize,
     /// An exponent would be above 65,535.
     BadCount,
-    /// The base is no file name that ends in `.par2`.
+    /// The base is not a file name that ends in `.par2`.
     BadBase,
     /// No input is named.
     NoInput,
-    /// The name at this place can't be that of an input.
+    /// The name at this place is not allowed for an input.
     BadName(usize),
-    /// The name at this place is that of an input before.
+    /// The name at this place is that of an earlier input.
     DuplicateInput(usize),
     /// No file has the name at this place.
     NoSuchFile(usize),
-    /// The file of the name at this place has no bytes.
+    /// The file at this place is empty.
     EmptyFile(usize),
     /// The inputs have more than 32,768 slices.
     TooManySlices,
-    /// Two inputs have one File ID.
+    /// Two inputs have the same File ID.
     DuplicateId,
     /// A file name would be longer than 255 bytes.
     NameTooLong,
-    /// An output exists, and may not be replaced.
+    /// An output exists and may not be replaced.
     Exists,
     /// The base has no packets.
     NoPackets,
-    /// No Main packet is in the set.
+    /// The set has no Main packet.
     NoMain,
     /// A target has no FileDesc packet.
     NoDescription,
     /// A target has no IFSC packet.
     NoChecksums,
-    /// The set is not in this profile.
+    /// The set is outside the profile of this program.
     BadSet,
-    /// So many slices are lost, and the recovery slices are of a lower rank.
+    /// `missing` slices are lost, and the recovery slices have a lower rank.
     NotRepairable { missing: usize, rank: usize },
-    /// A rebuilt file has another MD5 than its target.
+    /// A rebuilt file does not have the MD5 of its target.
     RepairFailed,
-    /// A target is not complete.
+    /// A target is not complete, so a purge is refused.
     NotComplete,
-    /// A growth was refused.
+    /// Memory ran out.
     Memory,
 }
 
 impl Fault {
     ghost use Rattle.std.specs.Prelude.{◌≡◌};
-    ghost use Rattle.par2_spec.specs.Texts.{fault_reason};
+    ghost use Rattle.par2_spec.specs.Output.{fault_reason};
 
-    /// What is said of the fault, before the word or the numbers of which it speaks.
-    #[tactic(auto, unfolding(crate::specs::Texts::fault_reason))]
+    /// The message of the fault, without the name or numbers that complete it.
+    #[tactic(auto, unfolding(crate::specs::Output::fault_reason))]
     pub fn reason(self) -> &'static str
         ensures { result.now ≡ fault_reason self }
     {
@@ -162,7 +165,7 @@ impl<T: Drop> From<AllocFailed<T>> for Fault {
 pub enum JournalFault {
     #[error("the journal is not valid")]
     JournalInvalid,
-    /// The journal, which is that of a halfway command where `halfway` holds, is another folder's.
+    /// The journal is that of another folder. `halfway` is true if it is the journal of an unfinished command.
     #[error("the folder is not as the journal left it")]
     FolderChanged { halfway: bool },
     #[error("out of memory")]
@@ -191,7 +194,7 @@ pub enum ChangeFault {
     NoSuchName,
 }
 
-/// What a verify concludes.
+/// The verdict of a verify.
 #[derive(Clone, Copy, PartialEq, Eq, Debug, Drop)]
 pub enum Verdict {
     Complete,
@@ -211,11 +214,11 @@ pub enum Failure {
     NothingToRedo,
 }
 
-/// The version of a journal's spelling.
+/// The version of the journal format.
 #[derive(Clone, Copy, PartialEq, Eq, Drop)]
 pub enum Version {
-    /// Without a cursor: each entry is one that an undo applies.
+    /// Without a cursor: all entries are undos.
     One,
-    /// With a cursor, after which the entries are those that a redo applies.
+    /// With a cursor: the entries after it are redos.
     Two,
 }

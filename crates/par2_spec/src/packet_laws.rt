@@ -1,4 +1,5 @@
-//! Laws of packets. Each is the contract of a function that does nothing.
+//! Laws of packets: which packets bytes have, how written bodies are read, and why written packets are accepted. Each
+//! law is the contract of an empty function, which nothing calls.
 
 ghost use Rattle.std.specs.Prelude.{◌≡◌, ◌<◌, ◌^◌, ◌%◌, ◌++◌, ℕ, List, [], ◌∷◌, Some, flat_map, length, drop, true, false};
 ghost use Rattle.std.specs.List.{AllByRecursion};
@@ -8,89 +9,93 @@ ghost use Rattle.par2_spec.specs.Volumes.{FileRecord, main_bytes, desc_bytes, if
 ghost use Rattle.par2_spec.specs.Checksums.{IsPair};
 ghost use Rattle.par2_spec.specs.Laws.{MainIsRead, DescIsRead, RecoverySlicesAreRead};
 
-/// A text of fewer than 64 bytes has no packets.
-pub fn none_in_short_text()
-    ensures { (text : List ℕ) → length text < 64 → accepted text ≡ [] }
+/// Fewer than 64 bytes, the length of a packet's header, hold no packet.
+pub fn none_in_short_bytes()
+    ensures { (bytes : List ℕ) → length bytes < 64 → accepted bytes ≡ [] }
 {}
 
-/// Where a packet stands at the front, the packets are that one and those of what is after it.
+/// If the bytes begin with a packet, their packets are that one and those of the bytes after it. With
+/// `none_in_short_bytes` and `none_in_front` it says for all bytes which packets `accepted` finds.
 pub fn packet_in_front()
-    ensures { (text : List ℕ) → begins_with_packet text ≡ true
-        → accepted text ≡ first_packet text ∷ accepted (drop (claimed_length text) text) }
+    ensures { (bytes : List ℕ) → begins_with_packet bytes ≡ true
+        → accepted bytes ≡ first_packet bytes ∷ accepted (drop (claimed_length bytes) bytes) }
 {}
 
-/// Where none stands at the front, they are those of the text without its first byte.
+/// If the bytes don't begin with a packet, their packets are those of the bytes after the first one.
 pub fn none_in_front()
-    ensures { (byte : ℕ) (text : List ℕ) → begins_with_packet (byte ∷ text) ≡ false
-        → accepted (byte ∷ text) ≡ accepted text }
+    ensures { (byte : ℕ) (bytes : List ℕ) → begins_with_packet (byte ∷ bytes) ≡ false
+        → accepted (byte ∷ bytes) ≡ accepted bytes }
 {}
 
-/// Packets followed by any text are read as those packets, then as that text is.
-pub fn packets_then_text()
-    ensures { (packets : List Packet) (text : List ℕ) → AllByRecursion IsPacket packets
-        → accepted (flat_map packet packets ++ text) ≡ packets ++ accepted text }
+/// Written packets followed by any bytes are read as those packets, then as the packets of those bytes. `IsPacket`:
+/// each can be written, because its fields have their lengths.
+pub fn packets_then_bytes()
+    ensures { (packets : List Packet) (bytes : List ℕ) → AllByRecursion IsPacket packets
+        → accepted (flat_map packet packets ++ bytes) ≡ packets ++ accepted bytes }
 {}
 
-/// A Main that was written says what was given.
+/// A written Main is read back with its slice size and File IDs.
 pub fn main_is_read()
     ensures { MainIsRead }
 {}
 
-/// A FileDesc that was written says what was given.
+/// A written FileDesc is read back as the file's record, if its name has no NUL byte.
 pub fn desc_is_read()
     ensures { DescIsRead }
 {}
 
-/// An IFSC that was written says what was given.
+/// A written IFSC is read back with its File ID and checksums.
 pub fn ifsc_is_read()
     ensures { (file : FileRecord) → length file.id ≡ 16 → AllByRecursion IsPair file.pairs
         → read_ifsc Ifsc (ifsc_bytes file) ≡ Some (record { id = file.id; pairs = file.pairs }) }
 {}
 
-/// A RecvSlic that was written says what was given.
+/// A written RecvSlic is read back with its exponent and bytes.
 pub fn recovery_is_read()
     ensures { (e : ℕ) (bytes : List ℕ) → e < 2 ^ 32 → read_recovery Recovery
         (recovery_bytes e bytes) ≡ Some (record { exponent = e; bytes = bytes }) }
 {}
 
-/// The Main of such records is one packet, and is read as it is.
+/// The Main of valid file records is a packet that is accepted once it is written.
 pub fn main_is_a_packet()
     ensures { (s : ℕ) (files : List FileRecord)
         → length files < 2 ^ 32 → AllByRecursion IsFileRecord files
         → IsPacket (packet_of (main_id s files) Main (main_bytes s files)) }
 {}
 
-/// So is the FileDesc of such a record.
+/// The FileDesc of a valid file record is a packet that is accepted once it is written.
 pub fn desc_is_a_packet()
     ensures { (id : List ℕ) (file : FileRecord) → length id ≡ 16 → IsFileRecord file
         → IsPacket (packet_of id FileDesc (desc_bytes file)) }
 {}
 
-/// So is its IFSC.
+/// The IFSC of a valid file record is a packet that is accepted once it is written.
 pub fn ifsc_is_a_packet()
     ensures { (id : List ℕ) (file : FileRecord) → length id ≡ 16 → IsFileRecord file
         → IsPacket (packet_of id Ifsc (ifsc_bytes file)) }
 {}
 
-/// So is the Creator.
+/// The Creator is a packet that is accepted once it is written.
 pub fn creator_is_a_packet()
     ensures { (id : List ℕ) → length id ≡ 16 → IsPacket (packet_of id Creator creator_bytes) }
 {}
 
-/// So is a RecvSlic of a multiple of 4 bytes.
+/// A RecvSlic whose slice has a multiple of 4 bytes is a packet that is accepted once it is written.
 pub fn recovery_is_a_packet()
     ensures { (id : List ℕ) (e : ℕ) (bytes : List ℕ) → length id ≡ 16 → length bytes % 4
         ≡ 0 → length bytes < 2 ^ 60 → IsPacket (packet_of id Recovery (recovery_bytes e bytes)) }
 {}
 
-/// The packets of an index that was written are read as they are, and what is after them as it is.
+/// A written index is read back as its packets, followed by the packets of the bytes after it: those of a volume's
+/// recovery slices.
 pub fn index_is_read()
-    ensures { (s : ℕ) (files : List FileRecord) (text : List ℕ)
-        → length files < 2 ^ 32 → AllByRecursion IsFileRecord files → accepted
-        (flat_map packet (index_packets s files) ++ text) ≡ index_packets s files ++ accepted text }
+    ensures { (s : ℕ) (files : List FileRecord) (bytes : List ℕ)
+        → length files < 2 ^ 32 → AllByRecursion IsFileRecord files
+        → accepted (flat_map packet (index_packets s files) ++ bytes)
+        ≡ index_packets s files ++ accepted bytes }
 {}
 
-/// So are the recovery slices of a volume.
+/// Written recovery slices are read back as their packets, followed by the packets of the bytes after them.
 pub fn recovery_slices_are_read()
     ensures { RecoverySlicesAreRead }
 {}

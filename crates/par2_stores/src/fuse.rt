@@ -1,4 +1,5 @@
-//! A store that passes some calls on, and then fails.
+//! A store that passes its first calls on to another store, and then fails, as if the run were stopped there. Each call
+//! first takes its fate from `next_call`. Tests stop a run at each of its calls with it.
 ghost use Rattle.std.specs.Prelude.{◌≡◌, ◌+◌};
 ghost use Rattle.par2_stores.specs.Fuse.{fuse, inner_store, fuse_writing_calls, calls_left, change_in, does_work, Becomes, FusesChange};
 ghost use Rattle.par2_disk.specs.Stores.{CountsFailures, Makes};
@@ -8,18 +9,20 @@ use par2_files::Name;
 use std::alloc::Global;
 use std::mem;
 
-/// A store that passes its first calls on to another store, and then fails each. The first call that fails may do
-/// its work first.
+/// A store that passes its first calls on to another store, and fails all later ones. The first call that fails may
+/// still do its work.
 #[derive(Drop)]
 pub struct FuseStore<S: FolderStore> {
     inner: S,
+    // How many calls are still passed on.
     left: u64,
+    // Whether the first call that fails does its work before it fails. False after that call.
     works: bool,
     failures: Count,
     writing_calls: Count,
 }
 
-// A change of a folder, by what lies elsewhere.
+// A change of a folder, with borrowed names and bytes.
 #[derive(Clone, Copy)]
 enum BorrowedChange<'a> {
     Write(&'a Name, &'a [u8]),
@@ -28,17 +31,17 @@ enum BorrowedChange<'a> {
     Remove(&'a Name),
 }
 
-// What becomes of a call.
+// The fate of a call.
 #[derive(Clone, Copy, Drop)]
 enum Fate {
     // It is passed on.
     Passes,
-    // It does its work if it writes, and fails.
+    // It fails, and does its work first if it is a writing call.
     Works,
     Fails,
 }
 
-// Makes the change in a store.
+// Makes the change in the other store, by the one writing call for it. For `make`.
 fn make_in<S: FolderStore>(store: &mut S, change: BorrowedChange<'_>) -> Result<(), StoreFault>
     ensures made { Makes S.Store store.old store.new (change_in change.entry) result }
     ensures failures { CountsFailures S.failures store.old store.new result }
@@ -52,7 +55,8 @@ fn make_in<S: FolderStore>(store: &mut S, change: BorrowedChange<'_>) -> Result<
 }
 
 impl<S: FolderStore> FuseStore<S> {
-    /// The store passes `k` calls on, and the next one does its work before it fails where `works` is set.
+    /// A store that passes `k` calls on to `inner` and fails all later ones. With `works` the first call that fails
+    /// does its work all the same, if it is a writing call, as one that was stopped just after its work.
     pub fn new(inner: S, k: u64, works: bool) -> Self
         ensures inner { inner_store result ≡ inner }
         ensures left { calls_left result ≡ k }
@@ -67,14 +71,16 @@ impl<S: FolderStore> FuseStore<S> {
         }
     }
 
-    /// The other store, as it stands.
+    /// The other store, as the calls so far left it.
     pub fn into_inner(self) -> S
         ensures { result ≡ inner_store self }
     {
         self.inner
     }
 
-    // Counts a call, or its failure, and answers what becomes of it.
+    // Makes no call, but decides what becomes of the next one, which its caller then makes or not: it is passed on if
+    // calls are left, and one fewer is left then. Otherwise a failure is counted, and if `works` is set the call does
+    // its work before it fails, and `works` is cleared.
     fn next_call(&mut self) -> Fate
         ensures fate { Becomes self.old self.new result }
         ensures inner { inner_store self.new ≡ inner_store self.old }
@@ -92,7 +98,8 @@ impl<S: FolderStore> FuseStore<S> {
         }
     }
 
-    // Passes a change on, or fails.
+    // A writing call that makes a change: passes it on, or fails, by its fate. `FusesChange` says which. `fuse` is the
+    // ghost state of this store from that of the other.
     fn make(&mut self, change: BorrowedChange<'_>) -> Result<(), StoreFault>
         ensures made { Makes (fuse S.Store) self.old self.new (change_in change.entry) result }
         ensures failures { CountsFailures (fuse S.Store).failures self.old self.new result }
@@ -119,7 +126,7 @@ impl<S: FolderStore> Store for FuseStore<S> {
 
     ghost contents = { λ store. S.contents (inner_store store) };
 
-    ghost may_remain = { λ store. S.may_remain (inner_store store) };
+    ghost crash_states = { λ store. S.crash_states (inner_store store) };
 
     ghost failures = { λ store. S.failures (inner_store store) + fuse_failures store };
 

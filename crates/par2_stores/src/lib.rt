@@ -1,5 +1,6 @@
-//! Stores beside the one on a disk: one in memory, and one that passes some calls on and then fails. The program stands
-//! on neither.
+//! Stores for tests and for users of the libraries: one in memory, and one that passes some calls on and then fails.
+//!
+//! The program uses neither. They must not know the directory on disk, nor what a journal's bytes mean.
 #![tactic(auto)]
 
 mod fuse;

@@ -1,18 +1,19 @@
-//! A store in memory.
+//! A store in memory, for tests and for users of the libraries. Each writing call is counted; a write takes its memory
+//! with `make_place`, and `change` applies any change.
 use par2_disk::{Count, FolderStore, ReadFault, Store, StoreFault};
 use par2_files::{Bytes, Change, Folder, Name};
 use par2_spec::Result;
 use std::alloc::{AllocError, Global};
 
-/// A folder and a journal in memory. It is honest, and where a growth is refused in a writing call it fails. It has no
-/// power to lose: what may remain is what is there.
+/// A folder and a journal in memory. The store is honest, and a writing call fails if memory runs out. A power cut is
+/// not modelled: its only crash state is its contents.
 #[derive(Drop)]
 pub struct MemoryStore {
     alloc: Global,
     folder: Folder,
     journal: Option<Bytes>,
     failures: Count,
-    // Those of calls that can't be done.
+    // Calls that can't be done.
     impossible: Count,
     writing_calls: Count,
 }
@@ -25,7 +26,7 @@ impl MemoryStore {
     ghost use Rattle.par2_stores.specs.Memory.{memory_contents, memory_failures, memory_impossible, memory_writing_calls};
     ghost use Rattle.par2_files.specs.Views.{change_of};
 
-    /// A store without files and without a journal, which has not failed yet.
+    /// A store without files and without a journal, with no failures yet.
     pub fn new(alloc: Global) -> Self
         ensures files { (memory_contents result).files ≡ empty }
         ensures journal { (memory_contents result).journal ≡ None }
@@ -43,7 +44,7 @@ impl MemoryStore {
         }
     }
 
-    // Counts a failure.
+    // Counts a failure for lack of memory, or of a call that can't be done, and returns the fault to report.
     fn fault(&mut self) -> StoreFault
         ensures contents { memory_contents self.new ≡ memory_contents self.old }
         ensures failures { memory_failures self.new ≡ memory_failures self.old + 1 }
@@ -54,7 +55,7 @@ impl MemoryStore {
         StoreFault
     }
 
-    // Counts a failure of a call that can't be done.
+    // Counts a failure of a call that can't be done, such as a read of a name without a file, and returns the fault.
     fn refuse(&mut self) -> StoreFault
         ensures contents { memory_contents self.new ≡ memory_contents self.old }
         ensures failures { memory_failures self.new ≡ memory_failures self.old + 1 }
@@ -65,13 +66,15 @@ impl MemoryStore {
         self.fault()
     }
 
-    // Copies the bytes and makes a place for them: as many as there are files, so that many puts copy each file a few
-    // times.
+    // For a write: copies the bytes, and reserves a place for the file if none is vacant. It reserves as many places as
+    // there are files, so that a series of writes moves each file only a few times.
     fn make_place(&mut self, bytes: &[u8]) -> Result<Bytes>
+        // The contents and all counts stay.
         ensures contents { memory_contents self.new ≡ memory_contents self.old }
         ensures failures { memory_failures self.new ≡ memory_failures self.old }
         ensures impossible { memory_impossible self.new ≡ memory_impossible self.old }
         ensures writing_calls { memory_writing_calls self.new ≡ memory_writing_calls self.old }
+        // It returns a copy of the bytes, and there is a place for a file.
         ensures copy { IfOk result (λ copy. copy ≡ bytes.now) }
         ensures place { OnOk result (0 < self.new.folder.vacant) }
     {
@@ -82,10 +85,11 @@ impl MemoryStore {
         Ok(copy)
     }
 
-    // Makes a change that there is a place for, or counts that it can't be made.
+    // The last step of a writing call: applies a change that there is a place for, or counts a call that can't be done.
     #[tactic(auto, unfolding(par2_spec::specs::Changes::change_refusal, par2_spec::specs::Changes::is_applicable))]
     fn change(&mut self, mut change: Change) -> Result<(), StoreFault>
         requires { places_taken (change_of change ∷ []) ≤ self.old.folder.vacant }
+        // An applicable change is made, and any other is refused and changes nothing.
         ensures made { IsTrue (is_applicable (memory_contents self.old).files (change_of change))
             → IsOk result
             × (memory_contents self.new ≡ with_change (memory_contents self.old) (change_of
@@ -93,6 +97,7 @@ impl MemoryStore {
         ensures refused { IsFalse (is_applicable
             (memory_contents self.old).files (change_of change)) → IsErr result
             × (memory_contents self.new ≡ memory_contents self.old) }
+        // A refusal counts as a failure and as a call that can't be done. Writing calls are counted by the caller.
         ensures cause { OnErr result (memory_failures self.new ≡ memory_failures self.old + 1) }
         ensures steady { OnOk result (memory_failures self.new ≡ memory_failures self.old) }
         ensures possible { OnOk result (memory_impossible self.new ≡ memory_impossible self.old) }
@@ -115,7 +120,7 @@ impl Store for MemoryStore {
 
     ghost contents = { memory_contents };
 
-    ghost may_remain = { λ store left. left ≡ memory_contents store };
+    ghost crash_states = { λ store left. left ≡ memory_contents store };
 
     ghost failures = { memory_failures };
 

@@ -1,4 +1,4 @@
--- The names that proofs of this crate take from elsewhere.
+-- Names from elsewhere that the proofs of this crate use.
 
 pub use Rattle.std.proofs.Common.{Bool, Err, IsTrue, List, None, Ok, Option, Result, Some, Vec, [], ap, arith, drop, false, get_or, inl, inr, le-add_right, le_refl, le_trans, length, map, refl, replicate, rules, subst, suc, sym, take, true, true≢false, zero, ℕ, ◌++◌, ◌+◌, ◌<◌, ◌∙◌, ◌∷◌, ◌≡◌, ◌≢◌, ◌≤◌, ◌⊎◌}
 pub use Rattle.std.proofs.lemmas.Bool.{and_parts, false≢true}
@@ -17,8 +17,8 @@ pub use Rattle.par2_journal.specs.Steps.{step_view}
 pub use Rattle.par2_journal.specs.declared.preparation.SessionFault.TheVariants.{NothingToRedo, NothingToUndo, Plan}
 pub use Rattle.par2_journal.specs.declared.spelling.Journals.{Journals}
 pub use Rattle.par2_laws.specs.Creates.{may_refuse}
-pub use Rattle.par2_repair.specs.Views.{report_of, target_report_of}
-pub use Rattle.par2_output.specs.Writing.{TookAll, Wrote, seen}
+pub use Rattle.par2_repair.specs.Views.{report_view, target_report_of}
+pub use Rattle.par2_output.specs.Writing.{PrinterTookAll, PrinterWrote, seen}
 pub use Rattle.par2_spec.proofs.SessionLaws.{accepted_next, done_can_walk, grown_can_walk, ok_no_err, redone_can_walk, refused_alike, same_ok, same_session, undone_can_walk, walked_is_valid}
 pub use Rattle.par2_spec.proofs.StopLaws.{halfway_stored, settled_stored, still_stored, taken_back_leads}
 pub use Rattle.par2_spec.proofs.TestLaws.{by_either}
@@ -30,18 +30,18 @@ pub use Rattle.par2_spec.specs.Folders.{Folder}
 pub use Rattle.par2_spec.specs.History.{Accepted, Ended, History, IsChanging, Passed, Refusal, Run, folders}
 unfoldable pub use Rattle.par2_spec.specs.History.{history_after}
 pub use Rattle.par2_spec.specs.Journals.{Journal, Spells}
-pub use Rattle.par2_spec.specs.Opening.{Halfway, Opened, Settled, Started, TellsApart, halfway_where, is_valid, new_session, opened, settled_journal, started}
+pub use Rattle.par2_spec.specs.Opening.{Halfway, Opened, Settled, Started, FingerprintsDiffer, halfway_where, is_valid, new_session, opened, settled_journal, started}
 unfoldable pub use Rattle.par2_spec.specs.Opening.{Opens, OpensAs, journals_of, leads}
-pub use Rattle.par2_spec.specs.Plans.{LeadsToAfterAsked, changes_of}
+pub use Rattle.par2_spec.specs.Plans.{LeadsToAfterRequested, changes_of}
 pub use Rattle.par2_spec.specs.Refusals.{early_refusal_of, set_in}
 unfoldable pub use Rattle.par2_spec.specs.Refusals.{refusal}
 pub use Rattle.par2_spec.specs.Reports.{Report, verdict_of}
 unfoldable pub use Rattle.par2_spec.specs.Reports.{report_in}
 pub use Rattle.par2_spec.specs.Sessions.{CanWalk, KeptSession, OnlyGrew, Session, changes_unless, session_of_kept, session_unless, session_with}
-unfoldable pub use Rattle.par2_spec.specs.Sessions.{changes_asked, history_of, kept_done, kept_redone, kept_undone, session_after}
+unfoldable pub use Rattle.par2_spec.specs.Sessions.{changes_requested, history_of, kept_done, kept_redone, kept_undone, session_after}
 pub use Rattle.par2_spec.specs.Stores.{Contents, with_change, with_journal}
-pub use Rattle.par2_spec.specs.Texts.{Outcome, line, step_line, target_line, verdict_text}
-unfoldable pub use Rattle.par2_spec.specs.Texts.{output_of, report_text, status_of, status_of_failure, status_of_fault}
+pub use Rattle.par2_spec.specs.Output.{Outcome, line, step_line, target_line, verdict_words}
+unfoldable pub use Rattle.par2_spec.specs.Output.{output_of, report_lines, status_of, status_of_failure, status_of_fault}
 pub use Rattle.par2_spec.specs.Views.{action_of, command_of}
 pub use Rattle.par2_spec.specs.declared.Failure.{Failure}
 pub use Rattle.par2_spec.specs.declared.Failure.TheVariants.{Arguments, FolderChanged, JournalInvalid, Refused, Store}
@@ -49,16 +49,16 @@ pub use Rattle.par2_spec.specs.declared.Fault.{Fault}
 pub use Rattle.par2_spec.specs.declared.Fault.TheVariants.{Memory, NotRepairable, RepairFailed}
 pub use Rattle.par2_spec.specs.declared.JournalFault.{JournalFault}
 pub use Rattle.par2_spec.specs.declared.Version.TheVariants.{Two}
-pub use Rattle.par2_tool.specs.Asking.{AskFor}
-pub use Rattle.par2_tool.specs.Calls.{AreAtMost, AreCallsToOpen, AreCallsToRun, CountsCalls, CountsFailedRun, CountsOpening, CountsRefusedRun, IsCalled, IsHalfway, calls_asked, calls_to_write, calls_unless}
-pub use Rattle.par2_tool.specs.Holding.{HasJournalOf, Holds, IsOpening, IsSettled, OpensAsBefore, OpensAsBeforeOrAfter, TellsApartAlong, TellsApartBack, TellsApartInRun, with_history}
-pub use Rattle.par2_tool.specs.Opening.{IsCounted, IsOpened, IsRead, IsStillHalfway, IsTakenBack, IsUnopened, LeavesUnopened, OnlyTakesBack, StandsFor, StartsWithout, TakesBack, started_of}
-pub use Rattle.par2_tool.specs.Performing.{AreSomeMade, HoldsJournaled, IsAnswer, IsReport, IsStoppedAt, IsVerify, IsWritten, after_write_down, outcome_of, with_all_changes, with_halfway}
+pub use Rattle.par2_tool.specs.CommandLines.{AskFor}
+pub use Rattle.par2_tool.specs.Calls.{AreAtMost, AreCallsToOpen, AreCallsToRun, CountsCalls, CountsFailedRun, CountsOpening, CountsRefusedRun, IsCalled, IsHalfway, calls_requested, calls_to_write, calls_unless}
+pub use Rattle.par2_tool.specs.StoreContents.{HasJournalOf, Holds, IsOpening, IsSettled, OpensAsBefore, OpensAsBeforeOrAfter, FingerprintsDifferAlong, FingerprintsDifferBack, FingerprintsDifferInRun, with_history}
+pub use Rattle.par2_tool.specs.Opening.{IsCounted, IsOpened, WasRead, IsStillHalfway, IsTakenBack, IsUnopened, LeavesUnopened, OnlyTakesBack, StandsFor, StartsWithout, TakesBack, started_of}
+pub use Rattle.par2_tool.specs.Performing.{AreSomeMade, HoldsJournaled, IsAnswer, IsReport, IsStoppedAt, IsVerify, IsWritten, after_write_down, outcome_of, with_all_changes, with_halfway_journal}
 pub use Rattle.par2_tool.specs.Refusals.{IsRefused, IsSession, failure_for, unopened_as}
 pub use Rattle.par2_tool.specs.Repairs.{AskForRepair}
 pub use Rattle.par2_tool.specs.Runs.{Effective, HasNoEffect, Runs, TakesEffect}
-pub use Rattle.par2_tool.specs.StoreOpenings.{KeepsStore, Stands, Verifies}
-pub use Rattle.par2_tool.specs.Telling.{Answered, Failed, IsAtTheEnd, IsBack, IsCause, IsDone, IsFailed, IsPrinted, IsRefusedFor, IsShown, IsStopped, IsUnread, Leaves, MakesCalls, OpensAsBeforeOrAfterRun, SameOutput, Telling}
-pub use Rattle.par2_tool.specs.Writing.{AreSomeWritten, IsKept}
+pub use Rattle.par2_tool.specs.StoreOpenings.{KeepsStore, Stands, IsVerifyCommand}
+pub use Rattle.par2_tool.specs.RunResult.{Answered, Failed, IsAtTheEnd, IsBack, IsCause, IsDone, IsFailed, IsPrinted, IsRefusedFor, IsShown, IsStopped, IsUnread, Leaves, MakesCalls, OpensAsBeforeOrAfterRun, SameOutput, RunResult}
+pub use Rattle.par2_tool.specs.Writing.{AreSomeWritten, ContentsAreDurable}
 pub use Rattle.par2_tool.specs.declared.opening.OpenFault.{OpenFault}
 pub use Rattle.par2_tool.specs.declared.performing.PerformFault.{PerformFault}

@@ -1,5 +1,5 @@
--- Changes that were made one after the other in a store.
-use Rattle.par2_tool.proofs.Common.{◌≡◌, ◌<◌, ◌+◌, ℕ, zero, suc, List, [], ◌∷◌, ◌++◌, length, map, get_or, take, IsTrue, refl, sym, ap, subst, ◌∙◌, arith, ◌⊎◌, inl, inr, ◌≤◌, map_more, length-map, take_all, take-map, and_parts, Contents, with_change, with_journal, change_of, KeptSession, OnlyGrew, Kind, changes_by_kind, with_all_changes, with_halfway, IsStoppedAt, Journals, AreSomeWritten}
+-- Changes that were made in order in a store.
+use Rattle.par2_tool.proofs.Common.{◌≡◌, ◌<◌, ◌+◌, ℕ, zero, suc, List, [], ◌∷◌, ◌++◌, length, map, get_or, take, IsTrue, refl, sym, ap, subst, ◌∙◌, arith, ◌⊎◌, inl, inr, ◌≤◌, map_more, length-map, take_all, take-map, and_parts, Contents, with_change, with_journal, change_of, KeptSession, OnlyGrew, Kind, changes_by_kind, with_all_changes, with_halfway_journal, IsStoppedAt, Journals, AreSomeWritten}
 use Rattle.par2_files.specs.declared.change.Change.{Change}
 use Rattle.par2_spec.specs.Changes as defined
 
@@ -7,7 +7,7 @@ changed_more : (k : Contents) (cs : List defined.Change) (c : defined.Change) �
 changed_more k [] c = refl
 changed_more k (d ∷ cs) c = changed_more (with_change k d) cs c
 
--- changes that are made one after the other are made in the folder alone
+-- changes that are made in order change only the folder
 pub all_changed_is : (k : Contents) (cs : List defined.Change) → with_all_changes k cs ≡ record { files = defined.effects k.files cs; journal = k.journal }
 unfolding defined.effects
 all_changed_is k [] = refl
@@ -20,7 +20,7 @@ made_next k changes i item within is =
     ∙ ap (λ x. with_all_changes k (map change_of (take i changes) ++ change_of x ∷ [])) is
     ∙ ap (with_all_changes k) (sym (map_more change_of changes i item within))
 
--- where changes apply one after the other, each does after those before it
+-- if changes apply in order, each applies after those before it
 applicable_next : (k : Contents) (changes : List Change) (i : ℕ) (item : Change) → i < length changes → item ≡ get_or changes i item → IsTrue (defined.are_applicable k.files (map change_of changes))
     → IsTrue (defined.is_applicable (with_all_changes k (map change_of (take i changes))).files (change_of item))
 unfolding defined.are_applicable
@@ -28,23 +28,23 @@ applicable_next k [] i item within is all = absurd (omega (arith, within))
 applicable_next k (c ∷ cs) zero item within is all = subst (λ x. IsTrue (defined.is_applicable k.files (change_of x))) (sym is) (and_parts _ _ all).0
 applicable_next k (c ∷ cs) (suc i) item within is all = applicable_next (with_change k (change_of c)) cs i item (omega (arith, within)) is (and_parts _ _ all).1
 
--- so does it where they were made
+-- it also applies to the store in which they were made
 pub applicable_here : (k now : Contents) (changes : List Change) (i : ℕ) (item : Change) → now ≡ with_all_changes k (map change_of (take i changes)) → i < length changes → item ≡ get_or changes i item
     → IsTrue (defined.are_applicable k.files (map change_of changes)) → IsTrue (defined.is_applicable now.files (change_of item))
 applicable_here k now changes i item made within is all = grind (arith, applicable_next)
 
--- what was made ready applies the changes that were asked for
+-- what was prepared applies the requested changes
 pub same_changes : (old mid : KeptSession) (kind : Kind) → OnlyGrew old mid → changes_by_kind kind old ≡ changes_by_kind kind mid
 same_changes old mid kind grew = grind arith
 
--- ---- what a power cut may leave of changes that are written down between two journals
+-- ---- what a power cut may leave of changes that are written between two journals
 
--- where all changes were made, as many of them were as there are
-pub all_remain : (start now left : Contents) (changes : List Change) (i : ℕ) → length changes ≤ i → now ≡ with_all_changes start (map change_of (take i changes)) → left ≡ now
+-- all changes are made: a prefix of their full length
+pub all_crash_states : (start now left : Contents) (changes : List Change) (i : ℕ) → length changes ≤ i → now ≡ with_all_changes start (map change_of (take i changes)) → left ≡ now
     → AreSomeWritten start (map change_of changes) left
-all_remain start now left changes i whole made is = grind (arith, length-map, take_all, take-map)
+all_crash_states start now left changes i whole made is = grind (arith, length-map, take_all, take-map)
 
--- where the first ones were made, and the next one was or wasn't
+-- the first ones were made, and the next one was or wasn't
 pub next_remains : (start now left : Contents) (changes : List Change) (i : ℕ) (item : Change) → i < length changes → item ≡ get_or changes i item → now ≡ with_all_changes start (map change_of (take i changes))
     → (left ≡ now) ⊎ (left ≡ with_change now (change_of item)) → AreSomeWritten start (map change_of changes) left
 next_remains start now left changes i item within at made (inl none) =
@@ -60,14 +60,14 @@ next_remains start now left changes i item within at made (inr one) = (
 
 module _ (old : Contents) (journals : Journals) where
   -- when the halfway journal was put
-  pub begun_remains : (cs : List defined.Change) (left : Contents) → (left ≡ old) ⊎ (left ≡ with_halfway old journals.halfway) → IsStoppedAt old journals cs left
+  pub begun_remains : (cs : List defined.Change) (left : Contents) → (left ≡ old) ⊎ (left ≡ with_halfway_journal old journals.halfway) → IsStoppedAt old journals cs left
   begun_remains cs left h = grind arith
 
   -- when the changes were made, or some of them
-  pub some_remain : (cs : List defined.Change) (mid left : Contents) → mid ≡ with_halfway old journals.halfway → AreSomeWritten mid cs left → IsStoppedAt old journals cs left
-  some_remain cs mid left begun some = inr (inl (some.0, some.1, some.2 ∙ ap (λ k. with_all_changes k (take some.0 cs)) begun))
+  pub some_crash_states : (cs : List defined.Change) (mid left : Contents) → mid ≡ with_halfway_journal old journals.halfway → AreSomeWritten mid cs left → IsStoppedAt old journals cs left
+  some_crash_states cs mid left begun some = inr (inl (some.0, some.1, some.2 ∙ ap (λ k. with_all_changes k (take some.0 cs)) begun))
 
   -- when the journal of afterwards was put
-  pub ended_remains : (cs : List defined.Change) (mid done left : Contents) → mid ≡ with_halfway old journals.halfway → done ≡ with_all_changes mid cs → (left ≡ done) ⊎ (left ≡ with_journal done journals.after.items)
+  pub ended_remains : (cs : List defined.Change) (mid done left : Contents) → mid ≡ with_halfway_journal old journals.halfway → done ≡ with_all_changes mid cs → (left ≡ done) ⊎ (left ≡ with_journal done journals.after.items)
       → IsStoppedAt old journals cs left
   ended_remains cs mid done left begun made h = grind (arith, take_all)

@@ -1,5 +1,5 @@
--- What a store is opened as for a command, and what comes of an action on it.
-use Rattle.par2_tool.proofs.Common.{by_either, ◌≡◌, inl, inr, ℕ, List, Result, Ok, Err, Bool, true, false, refl, sym, ap, subst, ◌∙◌, arith, Some, None, Option, false≢true, Change, Action, Command, Do, Verify, Started, OpensAs, new_session, Session, KeptSession, session_of_kept, changes_asked, changes_unless, session_after, Contents, Fault, Memory, Plan, NothingToUndo, NothingToRedo, TellsApartAlong, TellsApartBack, OpensAsBefore, OpensAsBeforeOrAfter, with_history, IsOpened, IsUnopened, StandsFor, IsCounted, IsRead, started_of, IsVerify, IsAnswer, IsReport, IsWritten, IsRefused, IsSession, failure_for, unopened_as, IsBack, IsCause, IsFailed, IsAtTheEnd, IsStopped, OpensAsBeforeOrAfterRun, IsDone, SameOutput, OpenFault, PerformFault, IfOk, Folder, changes_of, LeadsToAfterAsked, refusal, report_in, Outcome, output_of, Stands, Verifies}
+-- What a store is opened as for a command, and the result of an action on it.
+use Rattle.par2_tool.proofs.Common.{by_either, ◌≡◌, inl, inr, ℕ, List, Result, Ok, Err, Bool, true, false, refl, sym, ap, subst, ◌∙◌, arith, Some, None, Option, false≢true, Change, Action, Command, Do, Verify, Started, OpensAs, new_session, Session, KeptSession, session_of_kept, changes_requested, changes_unless, session_after, Contents, Fault, Memory, Plan, NothingToUndo, NothingToRedo, FingerprintsDifferAlong, FingerprintsDifferBack, OpensAsBefore, OpensAsBeforeOrAfter, with_history, IsOpened, IsUnopened, StandsFor, IsCounted, WasRead, started_of, IsVerify, IsAnswer, IsReport, IsWritten, IsRefused, IsSession, failure_for, unopened_as, IsBack, IsCause, IsFailed, IsAtTheEnd, IsStopped, OpensAsBeforeOrAfterRun, IsDone, SameOutput, OpenFault, PerformFault, IfOk, Folder, changes_of, LeadsToAfterRequested, refusal, report_in, Outcome, output_of, Stands, IsVerifyCommand}
 use Rattle.par2_journal.specs.declared.preparation.SessionFault.{SessionFault}
 use Rattle.par2_tool.specs.declared.performing.PerformFault.TheVariants.{Session as Refusing, Store}
 use Rattle.std.specs.Borrow.{Bor}
@@ -19,30 +19,30 @@ is_plan (Err (history.Refused fault)) = true
 is_plan (Err history.NothingToUndo) = false
 is_plan (Err history.NothingToRedo) = false
 
-at_an_end : (s : Session) (action : Action) (end : history.Refusal) → is_plan {A = List Change} (Err end) ≡ false → changes_asked s action ≡ Err end → IsBack action
-at_an_end s action end is e = unfold changes_asked is_plan in grind (arith, false≢true, is_plan)
+at_an_end : (s : Session) (action : Action) (end : history.Refusal) → is_plan {A = List Change} (Err end) ≡ false → changes_requested s action ≡ Err end → IsBack action
+at_an_end s action end is e = unfold changes_requested is_plan in grind (arith, false≢true, is_plan)
 
 -- ---- stops
 
--- a stop of a command, or what a cut leaves of it, is one of the whole run
-pub stopped_command : (action : Action) (old mid new : Contents) (start : Started) → IsOpened old mid start → (TellsApartAlong start.session action → OpensAsBeforeOrAfter start.session action mid new) → IsStopped action old new
+-- a stop of a command, or a cut during it, is one of the whole run
+pub stopped_command : (action : Action) (old mid new : Contents) (start : Started) → IsOpened old mid start → (FingerprintsDifferAlong start.session action → OpensAsBeforeOrAfter start.session action mid new) → IsStopped action old new
 stopped_command action old mid new start opened stopped = λ _ along. all_stops (stopped (along start opened.opens))
   where
     all_stops : OpensAsBeforeOrAfter start.session action mid new → OpensAsBeforeOrAfterRun action old new
     all_stops (inl e) = inr (start, opened.opens, inl (subst (λ (k : Contents). IsOpened old k start) (sym e) opened).holds.opens)
     all_stops (inr stop) = inr (start, opened.opens, inr stop)
 
--- so is one of the opening
-pub stopped_opening : (action : Action) (old new : Contents) → (TellsApartBack old → OpensAsBefore old new) → IsStopped action old new
+-- a stop of the opening is one of the whole run, too
+pub stopped_opening : (action : Action) (old new : Contents) → (FingerprintsDifferBack old → OpensAsBefore old new) → IsStopped action old new
 stopped_opening action old new stopped = λ back _. all_stops (stopped back)
   where
     all_stops : OpensAsBefore old new → OpensAsBeforeOrAfterRun action old new
     all_stops (inl e) = inl e
     all_stops (inr s) = inr (s.0, s.1, inl s.2)
 
--- whatever a cut leaves while a command is performed, where a verify leaves all as it was
+-- a cut while a command is performed; during a verify the store doesn't change
 pub cut_of_command : (Honest : Type 0) (action : Action) (old mid left : Contents) (opened started : Started) → Honest → StandsFor action opened started → (Honest → IsOpened old mid opened)
-    → (mid.files ≡ started.session.folder → TellsApartAlong started.session action → OpensAsBeforeOrAfter started.session action mid left) → (IsVerify action → left ≡ mid) → IsStopped action old left
+    → (mid.files ≡ started.session.folder → FingerprintsDifferAlong started.session action → OpensAsBeforeOrAfter started.session action mid left) → (IsVerify action → left ≡ mid) → IsStopped action old left
 cut_of_command Honest action old mid left opened started honest (inl same) found cut verified =
     let there : IsOpened old mid started = subst (λ (t : Started). IsOpened old mid t) same (found honest) in
     stopped_command action old mid left started there (cut there.holds.files)
@@ -65,26 +65,26 @@ module _ (action : Action) (old mid new : Contents) (s later : KeptSession) (dro
   unchanged : new ≡ mid → IsOpened old new start
   unchanged same = subst (λ (k : Contents). IsOpened old k start) (sym same) opened
 
-  ended : (end : history.Refusal) → is_plan {A = List Change} (Err end) ≡ false → changes_asked (session_of_kept s) action ≡ Err end → new ≡ mid → IsAtTheEnd action old new end
-  ended end is asked same =
-      let none = back (at_an_end (session_of_kept s) action end is asked) in (
+  ended : (end : history.Refusal) → is_plan {A = List Change} (Err end) ≡ false → changes_requested (session_of_kept s) action ≡ Err end → new ≡ mid → IsAtTheEnd action old new end
+  ended end is requested same =
+      let none = back (at_an_end (session_of_kept s) action end is requested) in (
         session_of_kept s,
         subst (λ b. IsOpened old new (record { session = session_of_kept s; dropped = b })) none (unchanged same),
-        asked,
+        requested,
       )
 
   pub perform_failed : (before after : ℕ) (fault : PerformFault) → IsRefused action s later before after fault → (IsSession fault → new ≡ mid)
-      → (TellsApartAlong (session_of_kept s) action → OpensAsBeforeOrAfter (session_of_kept s) action mid new) → IsFailed action old new (failure_for fault)
+      → (FingerprintsDifferAlong (session_of_kept s) action → OpensAsBeforeOrAfter (session_of_kept s) action mid new) → IsFailed action old new (failure_for fault)
   unfolding memory_of is_plan_fault is_plan
   perform_failed before after (Refusing (Plan reason)) refused same stopped =
-      by_either refused.0 (λ memory. inl (ap memory_of memory, inr (start, unchanged (same tt)))) (λ asked. inr (start, unchanged (same tt), asked))
+      by_either refused.0 (λ memory. inl (ap memory_of memory, inr (start, unchanged (same tt)))) (λ requested. inr (start, unchanged (same tt), requested))
   perform_failed before after (Refusing NothingToUndo) refused same stopped =
-      by_either refused.0 (λ memory. absurd (false≢true (ap is_plan_fault memory))) (λ asked. ended history.NothingToUndo refl asked (same tt))
+      by_either refused.0 (λ memory. absurd (false≢true (ap is_plan_fault memory))) (λ requested. ended history.NothingToUndo refl requested (same tt))
   perform_failed before after (Refusing NothingToRedo) refused same stopped =
-      by_either refused.0 (λ memory. absurd (false≢true (ap is_plan_fault memory))) (λ asked. ended history.NothingToRedo refl asked (same tt))
+      by_either refused.0 (λ memory. absurd (false≢true (ap is_plan_fault memory))) (λ requested. ended history.NothingToRedo refl requested (same tt))
   perform_failed before after Store refused same stopped = stopped_command action old mid new start opened stopped
 
-pub opening_failed : (action : Action) (old new : Contents) (fault : OpenFault) → IsUnopened old new fault → (TellsApartBack old → OpensAsBefore old new) → IsFailed action old new (unopened_as fault)
+pub opening_failed : (action : Action) (old new : Contents) (fault : OpenFault) → IsUnopened old new fault → (FingerprintsDifferBack old → OpensAsBefore old new) → IsFailed action old new (unopened_as fault)
 opening_failed action old new unopened.JournalInvalid is stopped = is
 opening_failed action old new unopened.FolderChanged is stopped = inl is
 opening_failed action old new unopened.Memory is stopped = inl (refl, inl is)
@@ -98,27 +98,27 @@ opening_cause action before after fault counted = grind arith
 pub perform_cause : (action : Action) (s later : KeptSession) (before middle after : ℕ) (fault : PerformFault) → middle ≡ before → IsRefused action s later middle after fault → IsCause action before after (failure_for fault)
 unfolding memory_of is_plan_fault
 perform_cause action s later before middle after (Refusing (Plan reason)) steady refused =
-    by_either refused.0 (λ memory. (inl (ap memory_of memory), refused.2 ∙ steady)) (λ asked. (inr (session_of_kept s, asked), refused.2 ∙ steady))
+    by_either refused.0 (λ memory. (inl (ap memory_of memory), refused.2 ∙ steady)) (λ requested. (inr (session_of_kept s, requested), refused.2 ∙ steady))
 perform_cause action s later before middle after (Refusing NothingToUndo) steady refused =
-    by_either refused.0 (λ memory. absurd (false≢true (ap is_plan_fault memory))) (λ asked. ((session_of_kept s, asked), refused.2 ∙ steady))
+    by_either refused.0 (λ memory. absurd (false≢true (ap is_plan_fault memory))) (λ requested. ((session_of_kept s, requested), refused.2 ∙ steady))
 perform_cause action s later before middle after (Refusing NothingToRedo) steady refused =
-    by_either refused.0 (λ memory. absurd (false≢true (ap is_plan_fault memory))) (λ asked. ((session_of_kept s, asked), refused.2 ∙ steady))
+    by_either refused.0 (λ memory. absurd (false≢true (ap is_plan_fault memory))) (λ requested. ((session_of_kept s, requested), refused.2 ∙ steady))
 perform_cause action s later before middle after Store steady refused = omega (arith, steady, refused)
 
 -- ---- opening
 
-pub opened_as_is : (contents : Contents) (files : Folder) (text : List ℕ) (started : Started) → IsRead contents files (Some text) → OpensAs files (Some text) (Ok started) → started.session.folder ≡ files → IsOpened contents contents started
-opened_as_is contents files text started read opens on = grind arith
+pub opened_as_is : (contents : Contents) (files : Folder) (bytes : List ℕ) (started : Started) → WasRead contents files (Some bytes) → OpensAs files (Some bytes) (Ok started) → started.session.folder ≡ files → IsOpened contents contents started
+opened_as_is contents files bytes started read opens on = grind arith
 
-pub opened_new : (contents : Contents) (files : Folder) → IsRead contents files None → IsOpened contents contents (with_history (new_session files))
+pub opened_new : (contents : Contents) (files : Folder) → WasRead contents files None → IsOpened contents contents (with_history (new_session files))
 opened_new contents files read = grind (arith, opened_on, opens_new)
 
--- what a store was opened as stands for itself
+-- what a store was opened as has the same outcomes as itself
 pub stands_itself : (command : Option (Bor given.Command)) (o : Started) → Stands command o o
 stands_itself command o = grind arith
 
--- and for a verify, what is on the same folder
-pub stands_for_verify : (command : Option (Bor given.Command)) (o s : Started) → Verifies command → o.session.folder ≡ s.session.folder → Stands command o s
+-- for a verify, what is on the same folder has the same outcome
+pub stands_for_verify : (command : Option (Bor given.Command)) (o s : Started) → IsVerifyCommand command → o.session.folder ≡ s.session.folder → Stands command o s
 stands_for_verify command o s is on = grind arith
 
 pub stands : {E : Type 0} (command : Option (Bor given.Command)) (honest : Type 0) (result : Result program.Started E) (old new : Contents) → (honest → IfOk result (λ s. IsOpened old new (started_of s)))
@@ -126,12 +126,12 @@ pub stands : {E : Type 0} (command : Option (Bor given.Command)) (honest : Type 
 stands command honest (Err e) old new opened = tt
 stands command honest (Ok s) old new opened = (started_of s, stands_itself command (started_of s), opened)
 
--- where no command is given, the answer is what the store opens as
+-- without a command the result is what the store opens as
 pub starts : {E : Type 0} (honest : Type 0) (result : Result program.Started E) (old new : Contents) → IfOk result (λ s. (o : Started) × (o ≡ started_of s) × (honest → IsOpened old new o))
     → honest → IfOk result (λ s. IsOpened old new (started_of s))
 starts honest result old new opened h = grind arith
 
--- the store is on the folder of what stands for it
+-- the store is on the folder of whatever has the same outcomes
 pub files_of : (action : Action) (old mid : Contents) (o s : Started) → StandsFor action o s → IsOpened old mid o → mid.files ≡ s.session.folder
 files_of action old mid o s h opened = grind arith
 
@@ -140,10 +140,9 @@ files_of action old mid o s h opened = grind arith
 pub no_way_back : (action : Action) → IsVerify action → IsBack action → ⊥
 no_way_back action is = for_verify (λ a. IsBack a → ⊥) (λ base extras back. back) action is
 
-same_asked : (s t : Session) (command : Command) → s.folder ≡ t.folder → changes_asked s (Do command) ≡ changes_asked t (Do command)
-same_asked s t command on = unfold changes_asked in ap (λ f. changes_unless (refusal f command) (changes_of f command)) on
+same_requested : (s t : Session) (command : Command) → s.folder ≡ t.folder → changes_requested s (Do command) ≡ changes_requested t (Do command)
+same_requested s t command on = unfold changes_requested in ap (λ f. changes_unless (refusal f command) (changes_of f command)) on
 
--- a session that is kept, without room
 standing : Session → KeptSession
 standing s = record { folder = record { files = s.folder; vacant = 0 }; undos = s.undos; redos = s.redos; room = 0 }
 
@@ -161,7 +160,7 @@ verify_failed action old mid new o s later is on opening same before after fault
     refused_on base extras (Refusing reason) r =
         by_either r.0
         (λ memory. (inl memory, as_it_was (standing o.session), r.2))
-        (λ asked. (inr (same_asked o.session (session_of_kept s) (Verify base extras) on ∙ asked), as_it_was (standing o.session), r.2))
+        (λ requested. (inr (same_requested o.session (session_of_kept s) (Verify base extras) on ∙ requested), as_it_was (standing o.session), r.2))
 
 -- ---- an accepted action
 
@@ -169,7 +168,7 @@ module _ (honest : Type 0) (old mid new : Contents) (o : Started) (s later : Ses
   abbrev Is : Action → Type 0
   Is action = (d : Bool) × SameOutput d dropped outcome × (honest → IsDone action old new d outcome)
 
-  reported : (base : List ℕ) (extras : List (List ℕ)) → o.session.folder ≡ s.folder → IsReport s base extras outcome → LeadsToAfterAsked s.folder (Do (Verify base extras)) → (honest → mid.files ≡ s.folder → new ≡ mid) → Is (Do (Verify base extras))
+  reported : (base : List ℕ) (extras : List (List ℕ)) → o.session.folder ≡ s.folder → IsReport s base extras outcome → LeadsToAfterRequested s.folder (Do (Verify base extras)) → (honest → mid.files ≡ s.folder → new ≡ mid) → Is (Do (Verify base extras))
   reported base extras on answer leads written = unfold output_of in
       let same = ap (λ f. report_in f base extras) on ∙ answer.1 in (
         o.dropped,
@@ -181,15 +180,15 @@ module _ (honest : Type 0) (old mid new : Contents) (o : Started) (s later : Ses
           answer = (answer.0, same, answer.2);
           after = o.session;
           accepted = verify_leaves o.session base extras answer.0 same;
-          leads = subst (λ f. LeadsToAfterAsked f (Do (Verify base extras))) (sym on) leads;
+          leads = subst (λ f. LeadsToAfterRequested f (Do (Verify base extras))) (sym on) leads;
           written = written h ((opening h).holds.files ∙ on);
         },
       )
 
-  pub done_for : (action : Action) → StandsFor action o (record { session = s; dropped = dropped }) → IsAnswer s action outcome → session_after s action ≡ Ok later → LeadsToAfterAsked s.folder action
+  pub done_for : (action : Action) → StandsFor action o (record { session = s; dropped = dropped }) → IsAnswer s action outcome → session_after s action ≡ Ok later → LeadsToAfterRequested s.folder action
       → (honest → mid.files ≡ s.folder → IsWritten action later mid new) → Is action
   done_for action (inr verify) answer accepted leads written =
-      for_verify (λ a. IsAnswer s a outcome → LeadsToAfterAsked s.folder a → (honest → mid.files ≡ s.folder → IsWritten a later mid new) → Is a)
+      for_verify (λ a. IsAnswer s a outcome → LeadsToAfterRequested s.folder a → (honest → mid.files ≡ s.folder → IsWritten a later mid new) → Is a)
       (λ base extras answer leads written. reported base extras verify.1 answer leads written) action verify.0 answer leads written
   done_for action (inl same) answer accepted leads written = (
     dropped,

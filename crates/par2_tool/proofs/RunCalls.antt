@@ -1,5 +1,5 @@
 -- How many writing calls a run made.
-use Rattle.par2_tool.proofs.Common.{◌≡◌, ◌+◌, inl, inr, ℕ, List, subst, arith, Action, Do, Verify, Contents, Answered, Failed, Telling, MakesCalls, Failure, Store, AskFor, Change, AreCallsToOpen, AreCallsToRun, CountsFailedRun, CountsRefusedRun, IsHalfway}
+use Rattle.par2_tool.proofs.Common.{◌≡◌, ◌+◌, inl, inr, ℕ, List, subst, arith, Action, Do, Verify, Contents, Answered, Failed, RunResult, MakesCalls, Failure, Store, AskFor, Change, AreCallsToOpen, AreCallsToRun, CountsFailedRun, CountsRefusedRun, IsHalfway}
 use Rattle.par2_tool.proofs.RunEffects.{one_action}
 
 module _ (words : List (List ℕ)) (old : Contents) (before after : ℕ) (base : List ℕ) (extras : List (List ℕ)) (none : (back : List Change) → IsHalfway old back → ⊥) where
@@ -22,10 +22,10 @@ module _ (words : List (List ℕ)) (old : Contents) (before after : ℕ) (base :
   failed_by reason counted = refused_by counted
 
   -- a verify makes none where no command is halfway
-  pub verify_makes_none : AskFor words verify → (told : Telling) → MakesCalls words told old before after → after ≡ before
-  verify_makes_none asked (Answered dropped outcome) (action, also, (calls, run, sum)) =
-      let zero = run_by calls (subst (λ a. AreCallsToRun a old calls) (one_action words action verify also asked) run) in
+  pub verify_makes_none : AskFor words verify → (reported : RunResult) → MakesCalls words reported old before after → after ≡ before
+  verify_makes_none requested (Answered dropped outcome) (action, also, (calls, run, sum)) =
+      let zero = run_by calls (subst (λ a. AreCallsToRun a old calls) (one_action words action verify also requested) run) in
       omega (arith, zero, sum)
-  verify_makes_none asked (Failed spoken reason) (inl (unread, same)) = same
-  verify_makes_none asked (Failed spoken reason) (inr (action, also, counted)) =
-      failed_by reason (subst (λ a. CountsFailedRun a old before after reason) (one_action words action verify also asked) counted)
+  verify_makes_none requested (Failed spoken reason) (inl (unread, same)) = same
+  verify_makes_none requested (Failed spoken reason) (inr (action, also, counted)) =
+      failed_by reason (subst (λ a. CountsFailedRun a old before after reason) (one_action words action verify also requested) counted)

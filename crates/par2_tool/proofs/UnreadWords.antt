@@ -10,6 +10,6 @@ is_memory : WordsFault → Bool
 is_memory Arguments = false
 is_memory Memory = true
 
--- words that are a command line are refused only where memory runs out
+-- a valid command line is refused only if memory runs out
 pub unread_words : (words : List Text) (fault : WordsFault) → (takes par2_app words ≡ true → is_some (subcommand_of par2_app words) ≡ true → fault ≡ Memory) → IsUnread words (unread_as fault)
 unread_words words fault memory = unfold is_memory in grind arith

@@ -1,5 +1,5 @@
--- What a verify answers and leaves, and what the other commands leave.
-use Rattle.par2_tool.proofs.Common.{◌≡◌, ◌⊎◌, inl, inr, ℕ, List, Some, None, Result, Ok, Err, refl, ap, arith, Do, Verify, Folder, Contents, action_of, changes_of, set_in, refusal, Report, report_in, Session, KeptSession, OnlyGrew, session_unless, changes_unless, session_after, changes_asked, Fault, Memory, MayRefuse, Plan, HoldsJournaled, IsVerify, IsWritten}
+-- What a verify returns and leaves, and what the other commands leave.
+use Rattle.par2_tool.proofs.Common.{◌≡◌, ◌⊎◌, inl, inr, ℕ, List, Some, None, Result, Ok, Err, refl, ap, arith, Do, Verify, Folder, Contents, action_of, changes_of, set_in, refusal, Report, report_in, Session, KeptSession, OnlyGrew, session_unless, changes_unless, session_after, changes_requested, Fault, Memory, MayRefuse, Plan, HoldsJournaled, IsVerify, IsWritten}
 use Rattle.par2_spec.specs.declared.commands.Action.{Action}
 use Rattle.par2_spec.specs.Reports.{report_of}
 use Rattle.par2_spec.specs.Search.{candidates}
@@ -24,13 +24,13 @@ module _ (folder : Folder) (base : List ℕ) (extras : List (List ℕ)) where
 
 -- its fault is one of the session
 pub verify_refused : (s : KeptSession) (base : List ℕ) (extras : List (List ℕ)) (fault : Fault) → (fault ≡ Memory) ⊎ (report_in s.folder.files base extras ≡ Err fault) → MayRefuse (Do (Verify base extras)) s (Plan fault)
-unfolding changes_asked
+unfolding changes_requested
 verify_refused s base extras fault (inl memory) = inl (ap Plan memory)
 verify_refused s base extras fault (inr e) = inr (ap (λ o. changes_unless o (changes_of s.folder.files (Verify base extras))) (refused s.folder.files base extras fault e))
 
 -- the session stays
 pub verify_leaves : (s : Session) (base : List ℕ) (extras : List (List ℕ)) (report : Report) → report_in s.folder base extras ≡ Ok report → session_after s (Do (Verify base extras)) ≡ Ok s
-verify_leaves s base extras report e = unfold session_after changes_asked in
+verify_leaves s base extras report e = unfold session_after changes_requested in
     ap (λ o. session_unless s (Do (Verify base extras)) (changes_unless o (changes_of s.folder (Verify base extras)))) (accepted s.folder base extras report e)
 
 pub as_it_was : (s : KeptSession) → OnlyGrew s s
@@ -40,6 +40,6 @@ as_it_was s = record { files = refl; undos = refl; redos = refl; vacant = omega 
 pub written_by : (action : Action) (after : Session) (old new : Contents) → HoldsJournaled after new → IsWritten (action_of action) after old new
 written_by action after old new holds = grind arith
 
--- nor is one of them a verify
+-- and none of them is a verify
 pub not_verify : (action : Action) → IsVerify (action_of action) → ⊥
 not_verify action is = grind arith

@@ -1,4 +1,4 @@
--- What the session of a command answers, and why it refuses one.
+-- What a performed command returns, and which refusals come first.
 use Rattle.std.specs.Prelude.{◌≡◌, [], Some, Result, IsErrOf}
 use Rattle.par2_spec.specs.Commands.{Action, Undo, Redo}
 use Rattle.par2_spec.specs.Refusals.{early_refusal_of}
@@ -10,17 +10,18 @@ use Rattle.par2_tool.specs.declared.performing.Outcome.{Outcome}
 use Rattle.par2_tool.specs.declared.performing.PerformFault.{PerformFault}
 use Rattle.par2_tool.specs.declared.performing.PerformFault.TheVariants.{Session}
 
--- the answer to an accepted action
+-- the outcome of an accepted action on this session: a verify's report, or the steps of any other action
 abbrev pub Answers : KeptSession → Action → Outcome → Type 0
 Answers session action outcome = IsAnswer (session_of_kept session) action (outcome_of outcome)
 
--- what is refused before memory is wanted is answered as itself
-abbrev pub RefusesEarly : {A : Type 0} → KeptSession → Action → Result A PerformFault → Type 0
-RefusesEarly session action result = (fault : Fault) → early_refusal_of session.folder.files action ≡ Some fault → IsErrOf result (Session (Plan fault))
+-- if an action is refused for a cause that is found before memory is taken, the result is this cause
+abbrev pub PerformRefusesEarly : {A : Type 0} → KeptSession → Action → Result A PerformFault → Type 0
+PerformRefusesEarly session action result = (fault : Fault) → early_refusal_of session.folder.files action ≡ Some fault → IsErrOf result (Session (Plan fault))
 
--- so is an undo or a redo where none is left
+-- an undo with nothing to undo is refused as that
 abbrev pub RefusesUndo : {A : Type 0} → KeptSession → Action → Result A PerformFault → Type 0
 RefusesUndo session action result = action ≡ Undo → session.undos ≡ [] → IsErrOf result (Session NothingToUndo)
 
+-- a redo with nothing to redo is refused as that
 abbrev pub RefusesRedo : {A : Type 0} → KeptSession → Action → Result A PerformFault → Type 0
 RefusesRedo session action result = action ≡ Redo → session.redos ≡ [] → IsErrOf result (Session NothingToRedo)

@@ -1,12 +1,12 @@
 pub mod Performing
 pub mod Answering
-pub mod Holding
+pub mod StoreContents
 pub mod Opening
 pub mod Calls
 pub mod Writing
 pub mod StoreOpenings
 pub mod Refusals
-pub mod Asking
-pub mod Telling
+pub mod CommandLines
+pub mod RunResult
 pub mod Runs
 pub mod Repairs

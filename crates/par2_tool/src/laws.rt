@@ -1,19 +1,19 @@
-//! Laws of runs on one store: each is the contract of a function that does nothing.
+//! Laws about runs on one store. Each is the contract of a function that does nothing.
 ghost use Rattle.std.specs.Prelude.{◌≡◌, List, Ok, Err, length, replicate};
 ghost use Rattle.par2_spec.specs.Commands.{Action, Undo};
 ghost use Rattle.par2_spec.specs.History.{Refusal, Run, history_after, IsChanging, folders};
 ghost use Rattle.par2_spec.specs.Opening.{Started};
 ghost use Rattle.par2_spec.specs.Sessions.{history_of};
 ghost use Rattle.par2_spec.specs.Stores.{Contents};
-ghost use Rattle.par2_tool.specs.Holding.{IsOpening, IsSettled};
+ghost use Rattle.par2_tool.specs.StoreContents.{IsOpening, IsSettled};
 ghost use Rattle.par2_tool.specs.Runs.{HasNoEffect, Runs, TakesEffect};
-ghost use Rattle.par2_tool.specs.Telling.{IsRefusedFor};
+ghost use Rattle.par2_tool.specs.RunResult.{IsRefusedFor};
 ghost use Rattle.std.specs.List.{AllByRecursion};
 
 use par2_journal_format::one_reading;
 use par2_spec::session_laws::undos_lead_back;
 
-/// A store opens in one way.
+/// Opening is deterministic: a store opens as one session only.
 pub fn stores_open_in_one_way()
     ensures { (contents : Contents) (a b : Started)
         → IsOpening contents (Ok a) → IsOpening contents (Ok b) → a ≡ b }
@@ -21,19 +21,19 @@ pub fn stores_open_in_one_way()
     one_reading();
 }
 
-/// Runs on one store, each of which opens it anew, go through the history that one lasting session would have, and the
-/// store opens as that session afterwards. Runs without effect, as stopped ones may be, change neither.
+/// Runs on one store, each of which opens it again, have the history of one session that does all their actions, and
+/// afterwards the store opens as that session. Runs without effect, as stopped ones may be, change neither.
 pub fn runs_keep_one_history()
-    ensures kept { (old new : Contents) (started : Started) (asked done : List Action)
-        → IsOpening old (Ok started) → Runs old asked done new
+    ensures kept { (old new : Contents) (started : Started) (requested done : List Action)
+        → IsOpening old (Ok started) → Runs old requested done new
         → (end : Started)
         × Run (history_of started.session) done (length done) (history_of end.session)
         × IsOpening new (Ok end) }
-    // what is refused, the history refuses too
+    // If a run is refused, the history refuses the action, too.
     ensures refused { (old new : Contents) (started : Started) (action : Action) (reason : Refusal)
         → IsOpening old (Ok started) → IsRefusedFor action old new reason
         → history_after (history_of started.session) action ≡ Err reason }
-    // and no command is halfway afterwards
+    // After a run that takes effect no command is halfway.
     ensures settled { (old new : Contents) (action : Action)
         → TakesEffect action old new → IsSettled new }
 {
@@ -41,17 +41,17 @@ pub fn runs_keep_one_history()
 }
 
 /// After runs on one store in which creates, repairs and purges took effect, and then as many undos, names and bytes
-/// are those from before. Between them others may have been refused, have failed, or were stopped without effect.
+/// are those from before. Runs between them may have been refused, have failed, or have been stopped without effect.
 pub fn undone_runs_lead_back()
-    // the store opens on the folder from before, with the older ones after it,
-    ensures opens { (old mid new : Contents) (started : Started) (asked done more : List Action)
-        → IsOpening old (Ok started) → Runs old asked done mid → AllByRecursion IsChanging done
+    // The store opens on the folder from before, with the same older ones.
+    ensures opens { (old mid new : Contents) (started : Started) (requested done more : List Action)
+        → IsOpening old (Ok started) → Runs old requested done mid → AllByRecursion IsChanging done
         → Runs mid more (replicate (length done) Undo) new
         → (end : Started) × IsOpening new (Ok end)
         × (folders (history_of end.session) ≡ folders (history_of started.session)) }
-    // and its files are those from before, where no command was halfway then or is now
-    ensures files { (old mid new : Contents) (asked done more : List Action)
-        → IsSettled old → Runs old asked done mid → AllByRecursion IsChanging done
+    // Its files are those from before, if no command was halfway then or is now.
+    ensures files { (old mid new : Contents) (requested done more : List Action)
+        → IsSettled old → Runs old requested done mid → AllByRecursion IsChanging done
         → Runs mid more (replicate (length done) Undo) new → IsSettled new
         → new.files ≡ old.files }
 {

@@ -1,5 +1,6 @@
-//! The program over any store and any two writers: a store is opened as a session, commands are performed on both,
-//! and what comes of it is printed.
+//! The whole program, generic over its store and its two writers: it opens a store as a session, performs a command on
+//! both and prints the outcome. The binary and the tests of whole runs use it. It must not know the bytes of packets
+//! and journals, nor the system calls behind a store.
 #![tactic(auto)]
 
 mod headline;

@@ -1,13 +1,15 @@
-//! A store is opened as a session.
+//! Opening a store as a session. `open_for` reads folder and journal (`read_store`) and opens both (`open_with`), which
+//! drops the history of a changed folder (`without_journal`) or takes back a halfway command in the store
+//! (`take_back`).
 ghost use Rattle.std.specs.Prelude.{◌≡◌, ◌+◌, IfOk, IsErrOf, Ok, Some, length, true};
 ghost use Rattle.par2_journal.specs.Opening.{OpensAsIs, session_before, way_left};
 ghost use Rattle.par2_spec.specs.Opening.{new_session};
 ghost use Rattle.par2_spec.specs.Sessions.{session_of_kept};
 ghost use Rattle.par2_disk.specs.Stores.{OnlyReads};
 ghost use Rattle.par2_tool.specs.Calls.{CountsCalls};
-ghost use Rattle.par2_tool.specs.Holding.{with_history};
-ghost use Rattle.par2_tool.specs.Opening.{started_of, CountsFailures, IsRead, StartsWithout};
-ghost use Rattle.par2_tool.specs.StoreOpenings.{KeepsStore, Opens, ReadsStore, Starts, StartsFor, TakesWayBack, Verifies};
+ghost use Rattle.par2_tool.specs.StoreContents.{with_history};
+ghost use Rattle.par2_tool.specs.Opening.{started_of, CountsOpeningFailures, WasRead, StartsWithout};
+ghost use Rattle.par2_tool.specs.StoreOpenings.{KeepsStore, OpensStore, ReadsStore, Starts, StartsFor, TakesWayBack, IsVerifyCommand};
 
 use crate::writing::write_down;
 use par2_disk::{FolderStore, ReadFault, read_folder};
@@ -17,11 +19,11 @@ use par2_spec::{Action, Command, Failure, Fault, JournalFault, Result};
 use std::alloc::{AllocError, Global};
 use thiserror::Error;
 
-/// A store that was opened.
+/// An opened store.
 #[derive(Drop)]
 pub struct Started {
     pub session: Session,
-    /// Whether a history was given up, since the folder is not as it was left.
+    /// Whether a history was dropped because the folder is not as the journal left it.
     pub dropped: bool,
 }
 
@@ -34,7 +36,7 @@ pub enum OpenFault {
     Memory,
     #[error("the journal is not valid")]
     JournalInvalid,
-    /// A command was left halfway in another folder than this one, so that it can't be taken back.
+    /// A command is halfway, but the folder isn't the one it was left in, so it can't be taken back.
     #[error("the folder is not as the journal left it")]
     FolderChanged,
 }
@@ -45,6 +47,7 @@ impl From<AllocError> for OpenFault {
 
     ghost from_gives = { λ _ unopened. unopened ≡ Memory };
 
+    // For `?` after an allocation.
     fn from(_: AllocError) -> Self {
         OpenFault::Memory
     }
@@ -52,10 +55,11 @@ impl From<AllocError> for OpenFault {
 
 impl From<ReadFault> for OpenFault {
     ghost use Rattle.std.specs.Prelude.{◌≡◌};
-    ghost use Rattle.par2_tool.specs.Opening.{unread_as};
+    ghost use Rattle.par2_tool.specs.Opening.{open_fault_of};
 
-    ghost from_gives = { λ fault unopened. unopened ≡ unread_as fault };
+    ghost from_gives = { λ fault unopened. unopened ≡ open_fault_of fault };
 
+    // For `?` after a reading call of the store.
     fn from(fault: ReadFault) -> Self {
         match fault {
             ReadFault::Store => OpenFault::Store,
@@ -70,6 +74,7 @@ impl From<OpenFault> for Failure {
 
     ghost from_gives = { λ fault failure. failure ≡ unopened_as fault };
 
+    // The failure that a run prints if the store can't be opened.
     fn from(fault: OpenFault) -> Self {
         match fault {
             OpenFault::Store => Failure::Store,
@@ -80,7 +85,8 @@ impl From<OpenFault> for Failure {
     }
 }
 
-// A store that opens on this folder without a history.
+// The opened store if it has no journal, or if a verify needs none: a new session on the folder, and no history
+// dropped.
 fn without_history(alloc: Global, folder: Folder) -> Started
     ensures { started_of result ≡ with_history (new_session folder.files) }
 {
@@ -90,7 +96,8 @@ fn without_history(alloc: Global, folder: Folder) -> Started
     }
 }
 
-// What a folder whose journal is refused opens as: a new session, where it isn't as a finished command left it.
+// The result of opening if the journal was refused for `fault`: if the folder isn't as a finished command left it, a
+// new session whose history was dropped, otherwise the fault. `StartsWithout`: this is what the definitions say.
 fn without_journal(alloc: Global, fault: JournalFault, folder: Folder) -> Result<Started, OpenFault>
     ensures { StartsWithout folder.files fault result }
 {
@@ -105,7 +112,7 @@ fn without_journal(alloc: Global, fault: JournalFault, folder: Folder) -> Result
     }
 }
 
-// Reads the folder of a store, and its journal where there is one.
+// The first step of opening: reads the store's folder into memory, and its journal if there is one.
 fn read_store<S: FolderStore>(
     alloc: Global,
     store: &mut S,
@@ -118,13 +125,16 @@ fn read_store<S: FolderStore>(
     Ok((folder, journal))
 }
 
-// Takes a halfway command back in the store, and settles its journal.
+// Takes back a halfway command in the store: makes the changes that lead back (`way_left`), puts the settled journal of
+// the session before the command, and returns that session. The halfway journal is already in the store.
 fn take_back<S: FolderStore>(store: &mut S, halfway: Halfway) -> Result<Session, OpenFault>
+    // The session is the one before the command, and an honest store is led back to it.
     ensures session { IfOk result (λ session. session ≡ session_before halfway) }
     ensures taken { S.honest store.old → TakesWayBack S.Store store.old store.new
         (session_of_kept (session_before halfway)) (way_left halfway) result }
+    // The store stays honest. Only the store or memory can fail; failures and calls are counted.
     ensures honest { S.honest store.old → S.honest store.new }
-    ensures failures { CountsFailures (S.failures store.old) (S.failures store.new) result }
+    ensures failures { CountsOpeningFailures (S.failures store.old) (S.failures store.new) result }
     ensures no_journal { (IsErrOf result OpenFault.JournalInvalid → ⊥)
         × (IsErrOf result OpenFault.FolderChanged → ⊥) }
     ensures calls { CountsCalls (length (way_left halfway) + 1)
@@ -140,23 +150,24 @@ fn take_back<S: FolderStore>(store: &mut S, halfway: Halfway) -> Result<Session,
     }
 }
 
-// Opens a store with this folder and this journal.
+// Opens what was read from the store as a session: the folder, and the journal's bytes. The fingerprints for `next`,
+// the undo or redo to come, are computed on the way. A halfway command is first taken back in the store.
 fn open_with<S: FolderStore>(
     alloc: Global,
     store: &mut S,
     folder: Folder,
-    text: &[u8],
+    bytes: &[u8],
     next: Option<Next>,
 ) -> Result<Started, OpenFault>
     ensures opened { S.honest store.old
-        → IsRead (S.contents store.old) folder.files (Some text.now)
+        → WasRead (S.contents store.old) folder.files (Some bytes.now)
         → Starts S.Store store.old store.new result }
     ensures opens { S.honest store.old
-        → IsRead (S.contents store.old) folder.files (Some text.now)
-        → Opens S.Store store.old store.new result }
+        → WasRead (S.contents store.old) folder.files (Some bytes.now)
+        → OpensStore S.Store store.old store.new result }
     ensures keeps { KeepsStore S.Store store.old store.new result }
 {
-    let opened = match Session::open_before(alloc, folder, text, next) {
+    let opened = match Session::open_before(alloc, folder, bytes, next) {
         Ok(opened) => opened,
         Err((fault, folder)) => return without_journal(alloc, fault, folder),
     };
@@ -170,7 +181,7 @@ fn open_with<S: FolderStore>(
     }
 }
 
-// The undo or redo that a command is.
+// The undo or redo that the command is, if it is one. Opening computes the fingerprints for its journals.
 fn next_of(command: Option<&Command>) -> Option<Next> {
     match command {
         Some(Command::Act(Action::Undo)) => Some(Next::Undo),
@@ -179,49 +190,51 @@ fn next_of(command: Option<&Command>) -> Option<Next> {
     }
 }
 
-// Whether the history needn't be looked at: a verify asks for the folder alone, where that opens as it is.
+// Whether the session can do without its history: the command is a verify, which needs only the folder, and a folder
+// with this journal (`bytes`) opens as it is, with no command halfway (`OpensAsIs`).
 fn needs_no_history(
     alloc: Global,
     command: Option<&Command>,
     folder: &Folder,
-    text: &[u8],
+    bytes: &[u8],
 ) -> Result<bool>
-    ensures verify { result ≡ Ok true → Verifies command.entry }
-    ensures opens { result ≡ Ok true → OpensAsIs folder.now.files text.now }
+    ensures verify { result ≡ Ok true → IsVerifyCommand command.entry }
+    ensures opens { result ≡ Ok true → OpensAsIs folder.now.files bytes.now }
 {
     match command {
-        Some(Command::Verify { .. }) => opens_as_is(alloc, folder, text),
+        Some(Command::Verify { .. }) => opens_as_is(alloc, folder, bytes),
         _ => Ok(false),
     }
 }
 
-/// Opens a store for a command, if one is given, as [`open_store`] does; for a verify, on the same folder, but maybe
-/// without the history, nor is it said then whether one was given up.
+/// Opens a store for a command, if one is given, as [`open_store`] does; a run calls it. For a verify the session is on
+/// the same folder but may lack its history, and `dropped` may be false although a history was dropped.
 pub(crate) fn open_for<S: FolderStore>(
     alloc: Global,
     store: &mut S,
     command: Option<&Command>,
 ) -> Result<Started, OpenFault>
     ensures opened { StartsFor S.Store store.old store.new command.entry result }
-    ensures opens { S.honest store.old → Opens S.Store store.old store.new result }
+    ensures opens { S.honest store.old → OpensStore S.Store store.old store.new result }
     ensures keeps { KeepsStore S.Store store.old store.new result }
 {
     let (folder, journal) = read_store(alloc, store)?;
-    let Some(text) = journal else {
+    let Some(bytes) = journal else {
         return Ok(without_history(alloc, folder));
     };
-    if needs_no_history(alloc, command, &folder, &text)? {
+    if needs_no_history(alloc, command, &folder, &bytes)? {
         return Ok(without_history(alloc, folder));
     }
-    open_with(alloc, store, folder, &text, next_of(command))
+    open_with(alloc, store, folder, &bytes, next_of(command))
 }
 
-/// Opens a store as a session: its names, files and journal are read, and a halfway command is taken back.
-/// Where the folder isn't as the journal of a finished command left it, the session is a new one. Nothing else is done
-/// to the store. After Store and Memory it opens as it did, and so does what a power cut leaves at any moment.
+/// Opens a store as a session: reads its names, files and journal, and takes back a halfway command. If the folder
+/// isn't as the journal of a finished command left it, the session is a new one. Nothing else is done to the store.
+/// After [`OpenFault::Store`] and [`OpenFault::Memory`] it opens as it did before; so does what a power cut leaves at
+/// any moment. For users of the library and tests: a run opens for its command, with `open_for`.
 pub fn open_store<S: FolderStore>(alloc: Global, store: &mut S) -> Result<Started, OpenFault>
     ensures opened { S.honest store.old → Starts S.Store store.old store.new result }
-    ensures opens { S.honest store.old → Opens S.Store store.old store.new result }
+    ensures opens { S.honest store.old → OpensStore S.Store store.old store.new result }
     ensures keeps { KeepsStore S.Store store.old store.new result }
 {
     open_for(alloc, store, None)

@@ -1,15 +1,16 @@
-//! A command is performed on a store and its session.
+//! One command on an opened store and its session. `perform` prepares it in memory (`Session::prepare`, then
+//! `journals_as_prepared`), writes it to the store (`write_down`), and commits it to the session (`Session::commit`).
 ghost use Rattle.std.specs.Prelude.{◌≡◌, ◌+◌, ◌<◌, ◌≤◌, IfOk, IfErr, OnOk, OnErr};
-ghost use Rattle.par2_spec.specs.Sessions.{session_of_kept, changes_asked};
+ghost use Rattle.par2_spec.specs.Sessions.{session_of_kept, changes_requested};
 ghost use Rattle.par2_spec.specs.Stores.{Contents};
 ghost use Rattle.par2_spec.specs.Views.{command_of};
 ghost use Rattle.par2_journal.specs.Commands.{IsAfter, LeadsFrom};
-ghost use Rattle.par2_tool.specs.Answering.{Answers, RefusesEarly, RefusesRedo, RefusesUndo};
-ghost use Rattle.par2_tool.specs.Calls.{AreAtMost, calls_asked};
-ghost use Rattle.par2_tool.specs.Holding.{TellsApartAlong, OpensAsBeforeOrAfter};
+ghost use Rattle.par2_tool.specs.Answering.{Answers, PerformRefusesEarly, RefusesRedo, RefusesUndo};
+ghost use Rattle.par2_tool.specs.Calls.{AreAtMost, calls_requested};
+ghost use Rattle.par2_tool.specs.StoreContents.{FingerprintsDifferAlong, OpensAsBeforeOrAfter};
 ghost use Rattle.par2_tool.specs.Performing.{AreSomeMade, IsVerify, IsWritten};
 ghost use Rattle.par2_tool.specs.Refusals.{IsRefused, IsSession};
-ghost use Rattle.par2_tool.specs.Writing.{IsKept, StaysKept};
+ghost use Rattle.par2_tool.specs.Writing.{ContentsAreDurable, StaysKept};
 
 use crate::writing::write_down;
 use par2_disk::FolderStore;
@@ -18,16 +19,16 @@ use par2_spec::{Command, Failure, Fault};
 use std::alloc::{AllocError, Global};
 use thiserror::Error;
 
-/// What an accepted command answers.
+/// The outcome of an accepted command.
 #[derive(Drop)]
 pub enum Outcome {
-    /// A verify: what it reports.
+    /// Of a verify.
     Report(Report),
-    /// Any other command: the steps of its changes.
+    /// Of any other command: the steps of its changes.
     Done(Steps),
 }
 
-/// Why a command is not performed.
+/// Why a command was not performed.
 #[derive(Debug, Error, Clone, Copy, Drop)]
 pub enum PerformFault {
     #[error(transparent)]
@@ -44,6 +45,7 @@ impl From<AllocError> for PerformFault {
 
     ghost from_gives = { λ _ fault. fault ≡ refused.Session (Plan Memory) };
 
+    // For `?` after an allocation.
     fn from(_: AllocError) -> Self {
         PerformFault::Session(SessionFault::Plan(Fault::Memory))
     }
@@ -55,6 +57,7 @@ impl From<PerformFault> for Failure {
 
     ghost from_gives = { λ fault failure. failure ≡ failure_for fault };
 
+    // The failure that a run prints if the command isn't performed.
     fn from(fault: PerformFault) -> Self {
         match fault {
             PerformFault::Session(SessionFault::Plan(fault)) => Failure::Refused(fault),
@@ -65,19 +68,19 @@ impl From<PerformFault> for Failure {
     }
 }
 
-/// Performs a command. A verify answers its report, and leaves store and session alone. Of any other command what it
-/// wants is made ready in memory, its changes are made in the store between two journals, the session goes along, and
-/// the steps are answered. After a refusal store and session are as before. After Store the session is to be dropped
-/// and the store opened again: it opens as the session from before the command or as the one from afterwards. So does
-/// what a power cut leaves at any moment.
+/// Performs a command. A verify returns its report and changes neither store nor session. Any other command is prepared
+/// in memory; its changes are then made in the store between two journals, the session is advanced, and the steps are
+/// returned. A refusal leaves store and session as they were. After [`PerformFault::Store`] drop the session and open
+/// the store again: it opens as the session from before the command or from after it. So does what a power cut leaves
+/// at any moment.
 pub fn perform<S: FolderStore>(
     _alloc: Global,
     store: &mut S,
     session: &mut Session,
     command: &Command,
 ) -> Result<Outcome, PerformFault>
-    // The session is the one from after the action, whose changes lead to its folder; the answer is
-    // theirs, and the store holds that session. A verify leaves both alone.
+    // The session becomes the one after the action, and the action's changes lead to its folder. The outcome is that
+    // action's, and the store holds the new session. A verify changes neither.
     ensures session { OnOk result (IsAfter (command_of command.now) session.old session.new) }
     ensures leads { OnOk result (LeadsFrom (command_of command.now) session.old) }
     ensures answer { IfOk result (Answers session.old (command_of command.now)) }
@@ -86,34 +89,34 @@ pub fn perform<S: FolderStore>(
         (session_of_kept session.new) (S.contents store.old) (S.contents store.new)) }
     ensures verify { IsVerify (command_of command.now)
         → (store.new ≡ store.old) × (session.new ≡ session.old) }
-    // A refusal has a cause and leaves the session as it was; it is reported before memory is taken
-    // where it can be.
+    // A refusal has a cause and leaves the session as it was. Refusals that need no memory come before any is
+    // allocated.
     ensures refused { IfErr result (IsRefused (command_of command.now) session.old session.new
         (S.failures store.old) (S.failures store.new)) }
-    ensures early { RefusesEarly session.old (command_of command.now) result }
+    ensures early { PerformRefusesEarly session.old (command_of command.now) result }
     ensures nothing_to_undo { RefusesUndo session.old (command_of command.now) result }
     ensures nothing_to_redo { RefusesRedo session.old (command_of command.now) result }
-    // So it leaves an honest store. Where the store fails, it opens as before or as afterwards, and the
-    // changes are made in their order.
+    // A refusal also leaves an honest store as it was. If the store fails, it opens as before or as after the action,
+    // and a prefix of the changes is made.
     ensures unchanged { S.honest store.old
         → IfErr result (λ fault. IsSession fault → S.contents store.new ≡ S.contents store.old) }
     ensures stopped { S.honest store.old
         → (S.contents store.old).files ≡ session.old.folder.files
-        → TellsApartAlong (session_of_kept session.old) (command_of command.now)
+        → FingerprintsDifferAlong (session_of_kept session.old) (command_of command.now)
         → OnErr result (OpensAsBeforeOrAfter (session_of_kept session.old)
         (command_of command.now) (S.contents store.old) (S.contents store.new)) }
     ensures in_order { S.honest store.old → OnErr result (AreSomeMade
-        (changes_asked (session_of_kept session.old) (command_of command.now))
+        (changes_requested (session_of_kept session.old) (command_of command.now))
         (S.contents store.old).files (S.contents store.new).files) }
-    // What a power cut leaves of it afterwards, and at any moment.
-    ensures lasts { StaysKept S.Store store.old store.new result }
-    ensures cut { S.honest store.old → IsKept S.Store store.old
+    // What a power cut leaves, after the call and at any moment during it.
+    ensures durable { StaysKept S.Store store.old store.new result }
+    ensures cut { S.honest store.old → ContentsAreDurable S.Store store.old
         → (S.contents store.old).files ≡ session.old.folder.files
-        → TellsApartAlong (session_of_kept session.old) (command_of command.now)
-        → (left : Contents) → S.may_remain store.new left
+        → FingerprintsDifferAlong (session_of_kept session.old) (command_of command.now)
+        → (left : Contents) → S.crash_states store.new left
         → OpensAsBeforeOrAfter (session_of_kept session.old)
         (command_of command.now) (S.contents store.old) left }
-    // Of the store nothing is asked that can't be done. Its failures and writing calls are counted.
+    // No impossible call is made of the store. Its failures and its writing calls are counted.
     ensures honest { S.honest store.old → S.honest store.new }
     ensures possible { S.honest store.old
         → (S.contents store.old).files ≡ session.old.folder.files
@@ -121,14 +124,14 @@ pub fn perform<S: FolderStore>(
     ensures later { S.failures store.old ≤ S.failures store.new }
     ensures steady { OnOk result (S.failures store.new ≡ S.failures store.old) }
     ensures calls { OnOk result (S.writing_calls store.new ≡ S.writing_calls store.old
-        + calls_asked (session_of_kept session.old) (command_of command.now)) }
-    ensures at_most { AreAtMost (calls_asked (session_of_kept session.old)
+        + calls_requested (session_of_kept session.old) (command_of command.now)) }
+    ensures at_most { AreAtMost (calls_requested (session_of_kept session.old)
         (command_of command.now)) (S.writing_calls store.old) (S.writing_calls store.new) }
     ensures unwritten { IfErr result (λ fault. IsSession fault
         → S.writing_calls store.new ≡ S.writing_calls store.old) }
 {
-    // What a stop leaves opens only where the session's entries can be walked: the call's contract says so. Then what
-    // is ready can be applied, by this law.
+    // For the prover: what a stop leaves opens only if the session's entries can be walked, which the contract of
+    // `folder` says. Then this law says that the prepared changes apply.
     let _folder = session.folder();
     ready_changes_apply();
     let action = match command {

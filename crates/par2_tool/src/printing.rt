@@ -1,14 +1,16 @@
-//! What comes of a run is printed.
+//! The output of a run, and its exit status. `tell` prints the outcome of an accepted command, `fail` a failure; both
+//! then flush (`finish`). The other functions write one part of the output, or convert a value to what `par2_output`
+//! prints.
 ghost use Rattle.std.specs.Io.KnownBytes.{Appends};
 ghost use Rattle.std.specs.Prelude.{◌≡◌, ◌<◌, ◌++◌, ◌⊎◌, [], map, flat_map};
-ghost use Rattle.par2_spec.specs.Texts.{done_text, note_text, step_line, target_line, report_text, output_of, error_of};
-ghost use Rattle.par2_spec.specs.Texts as texts;
+ghost use Rattle.par2_spec.specs.Output.{done_lines, note_line, step_line, target_line, report_lines, output_of, error_of};
+ghost use Rattle.par2_spec.specs.Output as buffers;
 ghost use Rattle.par2_journal.specs.Steps.{step_view};
-ghost use Rattle.par2_repair.specs.Views.{state_of, target_report_of, report_of};
+ghost use Rattle.par2_repair.specs.Views.{state_view, target_report_of, report_view};
 ghost use Rattle.par2_output.specs.Views.{step_shown, state_shown, target_shown, words_given};
-ghost use Rattle.par2_output.specs.Writing.{IsFlushed, Wrote, failures_of, writer_of};
+ghost use Rattle.par2_output.specs.Writing.{IsFlushed, PrinterWrote, failures_of, writer_of};
 ghost use Rattle.par2_tool.specs.Performing.{outcome_of};
-ghost use Rattle.par2_tool.specs.Telling.{IsPrinted};
+ghost use Rattle.par2_tool.specs.RunResult.{IsPrinted};
 
 use crate::performing::Outcome;
 use par2_journal::{Report, State, Step, TargetReport};
@@ -19,9 +21,10 @@ use par2_output::{
 use par2_spec::{Command, Failure, Fault, Verdict};
 use std::io::Write;
 
-// The status where a writer fails.
+// The exit status if a writer fails.
 const WRITER_FAILED: u8 = 6;
 
+// The step as `par2_output` prints it, with borrowed names.
 fn printed(step: &Step) -> PrintedStep<'_>
     ensures { step_shown result ≡ step_view step.now }
 {
@@ -33,8 +36,9 @@ fn printed(step: &Step) -> PrintedStep<'_>
     }
 }
 
+// Writes a line for each step of a command, in order.
 fn write_steps<W: Write>(out: &mut Printer<W>, steps: &[Step]) -> Written
-    ensures { Wrote W.contents out.old out.new
+    ensures { PrinterWrote W.contents out.old out.new
         (flat_map step_line (map step_view steps.now)) result }
 {
     for step in steps {
@@ -43,17 +47,20 @@ fn write_steps<W: Write>(out: &mut Printer<W>, steps: &[Step]) -> Written
     Ok(())
 }
 
+// Writes the lines of an accepted command other than a verify: a note if opening dropped a history (`dropped`), then a
+// line for each step that was done, and their number.
 fn write_accepted<W: Write>(out: &mut Printer<W>, steps: &[Step], dropped: bool) -> Written
-    ensures { Wrote W.contents out.old out.new
-        (note_text dropped ++ done_text (map step_view steps.now)) result }
+    ensures { PrinterWrote W.contents out.old out.new
+        (note_line dropped ++ done_lines (map step_view steps.now)) result }
 {
     write_note(out, dropped)?;
     write_steps(out, steps)?;
     write_done(out, steps.len())
 }
 
+// The state of a target's file as `par2_output` prints it, with a borrowed name.
 fn printed_state(state: &State) -> PrintedState<'_>
-    ensures { state_shown result ≡ state_of state.now }
+    ensures { state_shown result ≡ state_view state.now }
 {
     match state {
         State::Complete => PrintedState::Complete,
@@ -63,6 +70,7 @@ fn printed_state(state: &State) -> PrintedState<'_>
     }
 }
 
+// A target of a verify's report as `par2_output` prints it, with borrowed names.
 fn printed_target(target: &TargetReport) -> PrintedTarget<'_>
     ensures { target_shown result ≡ target_report_of target.now }
 {
@@ -74,8 +82,9 @@ fn printed_target(target: &TargetReport) -> PrintedTarget<'_>
     }
 }
 
+// Writes a line for each target of a verify's report, in order.
 fn write_targets<W: Write>(out: &mut Printer<W>, targets: &[TargetReport]) -> Written
-    ensures { Wrote W.contents out.old out.new
+    ensures { PrinterWrote W.contents out.old out.new
         (flat_map target_line (map target_report_of targets.now)) result }
 {
     for target in targets {
@@ -84,17 +93,22 @@ fn write_targets<W: Write>(out: &mut Printer<W>, targets: &[TargetReport]) -> Wr
     Ok(())
 }
 
+// Writes the lines of a verify: the set's ID, each target, and the verdict.
 fn write_report<W: Write>(out: &mut Printer<W>, report: &Report) -> Written
-    ensures { Wrote W.contents out.old out.new (report_text (report_of report.now)) result }
+    ensures { PrinterWrote W.contents out.old out.new
+        (report_lines (report_view report.now)) result }
 {
     write_set(out, &report.set_id)?;
     write_targets(out, &report.targets)?;
     write_verdict(out, report.verdict(), report.lost, report.rank)
 }
 
-#[tactic(auto, unfolding(par2_spec::specs::Texts::output_of))]
+// Writes what `tell` prints, without a flush: the report of a verify, or the steps of any other command. `dropped` says
+// that opening dropped a history, which a report doesn't show.
+#[tactic(auto, unfolding(par2_spec::specs::Output::output_of))]
 fn write_outcome<W: Write>(out: &mut Printer<W>, outcome: &Outcome, dropped: bool) -> Written
-    ensures { Wrote W.contents out.old out.new (output_of dropped (outcome_of outcome.now)) result }
+    ensures { PrinterWrote W.contents out.old out.new
+        (output_of dropped (outcome_of outcome.now)) result }
 {
     match outcome {
         Outcome::Report(report) => write_report(out, report),
@@ -102,10 +116,10 @@ fn write_outcome<W: Write>(out: &mut Printer<W>, outcome: &Outcome, dropped: boo
     }
 }
 
-// The status after an accepted command.
-#[tactic(auto, unfolding(par2_spec::specs::Texts::status_of))]
+// The exit status of an accepted command, if it can be printed: a verify's depends on its verdict, any other is 0.
+#[tactic(auto, unfolding(par2_spec::specs::Output::status_of))]
 fn status_of(outcome: &Outcome) -> u8
-    ensures { result ≡ texts.status_of (outcome_of outcome.now) }
+    ensures { result ≡ buffers.status_of (outcome_of outcome.now) }
 {
     match outcome {
         Outcome::Report(report) => match report.verdict() {
@@ -117,10 +131,12 @@ fn status_of(outcome: &Outcome) -> u8
     }
 }
 
-// The status after a text was written, which is its own once the text is flushed.
+// The last step of `tell` and `fail`: flushes what was written. Returns `own`, the status of the outcome or failure, or
+// 6 if the flush fails.
 fn finish<W: Write>(out: &mut Printer<W>, own: u8) -> u8
     ensures bytes { Appends (W.contents (writer_of out.old)) (W.contents (writer_of out.new)) [] }
-    ensures answer { ((result ≡ own) × IsFlushed out.new × (failures_of out.new ≡ failures_of out.old))
+    ensures answer { ((result ≡ own) × IsFlushed out.new
+        × (failures_of out.new ≡ failures_of out.old))
         ⊎ ((result ≡ 6) × (failures_of out.old < failures_of out.new)) }
 {
     match out.flush() {
@@ -129,11 +145,11 @@ fn finish<W: Write>(out: &mut Printer<W>, own: u8) -> u8
     }
 }
 
-/// Prints what an accepted command answers on the output, steps below a note where the history was dropped, and
-/// answers the status.
+/// Prints the outcome of an accepted command on the output, and returns the exit status: 6 if the writer fails. Steps
+/// come below a note if opening dropped a history (`dropped`).
 pub fn tell<W: Write>(out: &mut Printer<W>, outcome: &Outcome, dropped: bool) -> u8
     ensures { IsPrinted W.contents out.old out.new (output_of dropped (outcome_of outcome.now))
-        (texts.status_of (outcome_of outcome.now)) result }
+        (buffers.status_of (outcome_of outcome.now)) result }
 {
     match write_outcome(out, outcome, dropped) {
         Ok(()) => finish(out, status_of(outcome)),
@@ -141,10 +157,11 @@ pub fn tell<W: Write>(out: &mut Printer<W>, outcome: &Outcome, dropped: bool) ->
     }
 }
 
-// The status of a refused command.
-#[tactic(auto, unfolding(par2_spec::specs::Texts::status_of_fault))]
+// The exit status of a command that is refused for this fault: 4 for an unreadable set, 2 and 5 for a repair that can't
+// be done or gave wrong bytes, 1 for a purge of an incomplete set, 8 for memory, and 3 for wrong numbers or names.
+#[tactic(auto, unfolding(par2_spec::specs::Output::status_of_fault))]
 fn status_of_fault(fault: Fault) -> u8
-    ensures { result ≡ texts.status_of_fault fault }
+    ensures { result ≡ buffers.status_of_fault fault }
 {
     match fault {
         Fault::NoPackets
@@ -160,10 +177,11 @@ fn status_of_fault(fault: Fault) -> u8
     }
 }
 
-// The status of a failure.
-#[tactic(auto, unfolding(par2_spec::specs::Texts::status_of_failure))]
+// The exit status of a failed run, if the failure can be printed: that of the fault if the command was refused, 6 for
+// the store, 3 for wrong words, and 9 for a journal or a history that the run can't use.
+#[tactic(auto, unfolding(par2_spec::specs::Output::status_of_failure))]
 fn status_of_failure(failure: Failure) -> u8
-    ensures { result ≡ texts.status_of_failure failure }
+    ensures { result ≡ buffers.status_of_failure failure }
 {
     match failure {
         Failure::Refused(fault) => status_of_fault(fault),
@@ -176,10 +194,11 @@ fn status_of_failure(failure: Failure) -> u8
     }
 }
 
-/// Prints a failure on the error writer, and answers the status.
+/// Prints a failure on the error writer and returns the exit status: 6 if the writer fails. `command` is the command if
+/// one was read; the line may end with one of its names.
 pub fn fail<W: Write>(err: &mut Printer<W>, command: Option<&Command>, failure: Failure) -> u8
     ensures { IsPrinted W.contents err.old err.new
-        (error_of (words_given command.entry) failure) (texts.status_of_failure failure) result }
+        (error_of (words_given command.entry) failure) (buffers.status_of_failure failure) result }
 {
     match write_failure(err, command, failure) {
         Ok(()) => finish(err, status_of_failure(failure)),

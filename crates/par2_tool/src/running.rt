@@ -1,11 +1,12 @@
-//! A run of the program.
+//! A whole run: `run` reads the words as a command, `carry_out` opens the store and performs it, and `run` prints the
+//! result. `start` calls `headline::run`, which calls this `run` and proves more clauses of it by laws.
 ghost use Rattle.std.specs.Prelude.{◌≡◌, ◌≤◌, IsTrue, map, string_bytes};
-ghost use Rattle.par2_spec.specs.Commands.{Action as Asked};
+ghost use Rattle.par2_spec.specs.Commands.{Action as Requested};
 ghost use Rattle.par2_spec.specs.Stores.{Contents};
 ghost use Rattle.par2_spec.specs.Views.{command_of};
-ghost use Rattle.par2_tool.specs.Asking.{AskFor};
-ghost use Rattle.par2_tool.specs.Telling.{IsBack, IsCarriedOut, IsRun, IsStopped};
-ghost use Rattle.par2_tool.specs.Writing.{IsKept};
+ghost use Rattle.par2_tool.specs.CommandLines.{AskFor};
+ghost use Rattle.par2_tool.specs.RunResult.{IsBack, IsCarriedOut, IsRun, IsStopped};
+ghost use Rattle.par2_tool.specs.Writing.{ContentsAreDurable};
 
 use crate::opening::open_for;
 use crate::performing::{Outcome, perform};
@@ -17,7 +18,8 @@ use par2_spec::{Action, Command, Failure};
 use std::alloc::Global;
 use std::io::Write;
 
-// Whether a command undoes or does again where the history was dropped, so that there is nothing to go back to.
+// Whether the command is an undo or a redo but the history was dropped, so there is nothing to go back to. `dropped` is
+// `Started::dropped`. The run then fails because the folder has changed, not because there is nothing to undo.
 fn lacks_history(dropped: bool, command: &Command) -> bool
     ensures back { IsTrue result → IsBack (command_of command.now) }
     ensures dropped { IsBack (command_of command.now) → result ≡ dropped }
@@ -25,15 +27,16 @@ fn lacks_history(dropped: bool, command: &Command) -> bool
     dropped && matches!(command, Command::Act(Action::Undo | Action::Redo))
 }
 
-// What a command answers, and whether a history was dropped; or why it fails.
+// A command's outcome and whether a history was dropped; or why it failed.
 type Answer = Result<(Outcome, bool), Failure>;
 
-// Performs a command on a store that is opened for it.
+// Opens the store for the command and performs it; `run` prints the result. `IsCarriedOut`: a failure has its cause,
+// and an honest store shows the effect of the result. `IsStopped`: it opens as before the command or as after it.
 fn carry_out<S: FolderStore>(alloc: Global, store: &mut S, command: &Command) -> Answer
     ensures honest { S.honest store.old → S.honest store.new }
     ensures comes { IsCarriedOut S.Store (command_of command.now) store.old store.new result }
-    ensures cut { S.honest store.old → IsKept S.Store store.old
-        → (left : Contents) → S.may_remain store.new left
+    ensures cut { S.honest store.old → ContentsAreDurable S.Store store.old
+        → (left : Contents) → S.crash_states store.new left
         → IsStopped (command_of command.now) (S.contents store.old) left }
     ensures later { S.failures store.old ≤ S.failures store.new }
     ensures possible { S.honest store.old → S.impossible store.new ≡ S.impossible store.old }
@@ -51,8 +54,9 @@ fn carry_out<S: FolderStore>(alloc: Global, store: &mut S, command: &Command) ->
     }
 }
 
-/// The run of [`crate::run`], without what it comes to. What a power cut leaves at any moment opens as before the run
-/// or as after it.
+/// Reads the words, carries out the command, prints the outcome on `out` or the failure on `err`, and returns the exit
+/// status: [`crate::run`] without the clauses about what a run achieves. A power cut at any moment leaves a store that
+/// opens as before the run or as after it.
 pub(crate) fn run<S: FolderStore, O: Write, E: Write>(
     alloc: Global,
     words: &[String],
@@ -61,11 +65,11 @@ pub(crate) fn run<S: FolderStore, O: Write, E: Write>(
     err: &mut Printer<E>,
 ) -> u8
     ensures honest { S.honest store.old → S.honest store.new }
-    ensures told { IsRun S.Store O.contents E.contents (map string_bytes words.now)
+    ensures reported { IsRun S.Store O.contents E.contents (map string_bytes words.now)
         store.old store.new out.old out.new err.old err.new result }
-    ensures cut { (action : Asked) → S.honest store.old → IsKept S.Store store.old
+    ensures cut { (action : Requested) → S.honest store.old → ContentsAreDurable S.Store store.old
         → AskFor (map string_bytes words.now) action
-        → (left : Contents) → S.may_remain store.new left
+        → (left : Contents) → S.crash_states store.new left
         → IsStopped action (S.contents store.old) left }
     ensures later { S.failures store.old ≤ S.failures store.new }
     ensures possible { S.honest store.old → S.impossible store.new ≡ S.impossible store.old }

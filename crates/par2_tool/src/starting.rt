@@ -1,8 +1,9 @@
-//! The start of the program: all that `main` does with its arguments, its folder and its two outputs.
+//! Startup: `main` calls `start` once, with its arguments, its store and its two printers. `words_of` takes the words
+//! after the program's name (`after_name`, then `words_in`), and `run` (headline.rt) does the rest.
 ghost use Rattle.std.specs.Prelude.{◌≡◌, drop, map, string_bytes, IfErr, IfOk, IsErrOf, IsOk};
 ghost use Rattle.std.specs.IoError.{error_kind};
 ghost use Rattle.std.specs.Vec.Iter.{into_iter_items};
-ghost use Rattle.par2_tool.specs.Telling.{IsNotStarted, IsRun};
+ghost use Rattle.par2_tool.specs.RunResult.{IsNotStarted, IsRun};
 
 use crate::headline::run;
 use crate::printing::fail;
@@ -13,7 +14,7 @@ use std::alloc::{AllocError, Global};
 use std::env::Args;
 use std::io::{self, ErrorKind, Write};
 
-// The arguments after the program's name.
+// Skips the program's name, the first argument, because the command line is defined without it.
 fn after_name(mut args: Args) -> Args
     ensures { into_iter_items result ≡ drop 1 (into_iter_items args) }
 {
@@ -21,14 +22,15 @@ fn after_name(mut args: Args) -> Args
     args
 }
 
-// The arguments as a list.
+// Collects the arguments in order, as `run` takes them. Err if memory runs out.
 fn words_in(args: Args, alloc: Global) -> Result<Vec<String>, AllocError>
     ensures { IfOk result (λ words. words.items ≡ into_iter_items args) }
 {
     args.collect(alloc)
 }
 
-// The words after the program's name, or why there are none: memory is wanting, or a word isn't UTF-8.
+// The words after the program's name, or the failure that `start` prints. `given` is the runtime's result: an error of
+// kind OutOfMemory is reported as out of memory, and any other, such as a word that isn't UTF-8, as wrong arguments.
 fn words_of(given: io::Result<Args>, alloc: Global) -> Result<Vec<String>, Failure>
     ensures words { IfOk given (λ args. IfOk result (λ words.
         words.items ≡ drop 1 (into_iter_items args))) }
@@ -50,8 +52,9 @@ fn words_of(given: io::Result<Args>, alloc: Global) -> Result<Vec<String>, Failu
     }
 }
 
-/// Runs with the arguments behind the first one, which is the program's name, and returns the status. Where they can't
-/// be read, the error writer says why.
+/// Runs the program with the arguments after the first, which is the program's name, and returns the exit status. If
+/// they can't be read, prints the reason on the error writer and leaves the store as it is. `IsRun`: a run with these
+/// words; `IsNotStarted`: only the reason is printed.
 pub fn start<S: FolderStore, O: Write, E: Write>(
     alloc: Global,
     given: io::Result<Args>,
@@ -59,7 +62,8 @@ pub fn start<S: FolderStore, O: Write, E: Write>(
     out: &mut Printer<O>,
     err: &mut Printer<E>,
 ) -> u8
-    ensures run { IfOk given (λ args. let words = map string_bytes (drop 1 (into_iter_items args)) in
+    ensures run { IfOk given (λ args.
+        let words = map string_bytes (drop 1 (into_iter_items args)) in
         IsRun S.Store O.contents E.contents words
         store.old store.new out.old out.new err.old err.new result) }
     ensures memory { IfErr given (λ error. error_kind error ≡ ErrorKind.OutOfMemory

@@ -1,15 +1,18 @@
-//! Changes are written down in a store, between two journals.
+//! Writing changes to a store between two journals: `write_down` puts the halfway journal (`begin`), makes the changes
+//! (`write_changes`), and puts the journal of afterwards. `perform` calls it, and so does taking back a halfway
+//! command.
 ghost use Rattle.std.specs.Prelude.{◌≡◌, ◌+◌, length, OnOk};
 ghost use Rattle.par2_disk.specs.Stores.{CountsFailures, Makes};
 ghost use Rattle.par2_files.specs.Views.{change_of};
 ghost use Rattle.par2_tool.specs.Calls.{calls_before, calls_to_write};
-ghost use Rattle.par2_tool.specs.Writing.{AllPossible, CountsWrites, IsKept, PutsHalfway, StaysKept, WritesChanges, WritesDown};
+ghost use Rattle.par2_tool.specs.Writing.{AllPossible, CountsWrites, ContentsAreDurable, PutsHalfway, StaysKept, WritesChanges, WritesDown};
 
 use par2_disk::{FolderStore, StoreFault};
 use par2_files::Change;
 use par2_journal::Journals;
 
-// Makes one change in a store, by one writing call. What can't be made fails, so a file that nobody listed stays.
+// Makes one change with one writing call. An impossible change fails, so a file that the listing left out is never
+// overwritten.
 #[tactic(auto, unfolding(par2_spec::specs::Changes::effect))]
 fn write_change<S: FolderStore>(store: &mut S, change: &Change) -> Result<(), StoreFault>
     ensures made { Makes S.Store store.old store.new (change_of change.now) result }
@@ -24,7 +27,8 @@ fn write_change<S: FolderStore>(store: &mut S, change: &Change) -> Result<(), St
     }
 }
 
-// Makes changes in a store, in order. Where it fails, some of them are made, from the first on.
+// Makes changes in order, each with one writing call. If the store fails, a prefix of them is made. `AllPossible`: if
+// they apply to the store's files, no call is impossible.
 fn write_changes<S: FolderStore>(store: &mut S, changes: &[Change]) -> Result<(), StoreFault>
     ensures written { WritesChanges S.Store store.old store.new changes.now result }
     ensures kept { StaysKept S.Store store.old store.new result }
@@ -41,7 +45,8 @@ fn write_changes<S: FolderStore>(store: &mut S, changes: &[Change]) -> Result<()
     Ok(())
 }
 
-// Puts the halfway journal, where there is one.
+// Puts the halfway journal, if there is one, so that what a stop leaves can be taken back. There is none if nothing is
+// changed, or if the changes take a command back: its halfway journal is in the store already.
 fn begin<S: FolderStore>(store: &mut S, halfway: &Option<Vec<u8>>) -> Result<(), StoreFault>
     ensures written { PutsHalfway S.Store store.old store.new halfway.now result }
     ensures kept { StaysKept S.Store store.old store.new result }
@@ -50,20 +55,21 @@ fn begin<S: FolderStore>(store: &mut S, halfway: &Option<Vec<u8>>) -> Result<(),
     ensures calls { CountsWrites S.Store store.old store.new (calls_before halfway.now) result }
 {
     match halfway {
-        Some(text) => store.put_journal(text),
+        Some(bytes) => store.put_journal(bytes),
         None => Ok(()),
     }
 }
 
-/// Makes changes in a store, in order, between two journals: the halfway one, if there is one, and the one that stands
-/// afterwards.
+/// Makes changes in a store, in order, between two journals: the halfway one, if there is one, and the one of
+/// afterwards. `WritesDown`: a failure or a power cut leaves the store before this, after some of the changes, or after
+/// everything.
 pub fn write_down<S: FolderStore>(
     store: &mut S,
     journals: &Journals,
     changes: &[Change],
 ) -> Result<(), StoreFault>
     ensures written { WritesDown S.Store store.old store.new journals.now changes.now result }
-    ensures kept { S.honest store.old → OnOk result (IsKept S.Store store.new) }
+    ensures kept { S.honest store.old → OnOk result (ContentsAreDurable S.Store store.new) }
     ensures failures { CountsFailures S.failures store.old store.new result }
     ensures possible { AllPossible S.Store store.old store.new changes.now }
     ensures calls { let number = calls_to_write journals.now (length changes.now)

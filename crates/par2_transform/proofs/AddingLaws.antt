@@ -1,6 +1,6 @@
--- What is added to texts.
+-- Additions to buffers.
 use Rattle.par2_transform.proofs.Common.{inl, inr, ℕ, suc, ◌+◌, ◌-◌, ◌*◌, ◌<◌, ◌≤◌, ◌≡◌, ◌≢◌, refl, sym, ap, ap₂, ◌∙◌, arith, Bool, true, false, List, ◌++◌, length, get_or, take, drop, bit_xor, zero, replicate, if◌then◌else◌, ◌&&◌, nat_le, nat_lt, slice_index, cases_lt, cases_eq, lt-ltb, le-ltb, le-leb, get_or-append_right, get_or_append_left, get_or-take, get_or-drop, length-take-le, length-drop, lt_of_le-ne, xor_assoc, xor_zero_r, xor_zero_l, word, list_at, OneChanged, field_sum, within, place_at, output_word, AddsAt, AddsTo, AddsToPart, AreApart, HasByte, LieWithin, Place}
-use Rattle.std.proofs.lemmas.Bool.Decides.{leb_tells}
+use Rattle.std.proofs.lemmas.Bool.{lt-leb}
 use borrow.Rule.Slice.PartMut.{put_mid, same_len_mid, mid_len}
 
 -- ---- within
@@ -15,7 +15,7 @@ pub within-below : (from to p x : ℕ) → p < from → within from to p x ≡ 0
 within-below from to p x low = ap (λ a. if a && nat_lt p to then x else 0) (leb-no from p low)
   where
     leb-no : (a b : ℕ) → b < a → nat_le a b ≡ false
-    leb-no a b h = elim (leb_tells a b) [ inl y ↦ absurd (let e : a ≤ b = y.1 in omega (arith, e)) | inr n ↦ n.0 ]
+    leb-no a b h = lt-leb a b h
 
 pub within-above : (from to p x : ℕ) → to ≤ p → within from to p x ≡ 0
 within-above from to p x high = ap (λ b. if nat_le from p && b then x else 0) (le-ltb p to high) ∙ none (nat_le from p)
@@ -50,14 +50,14 @@ within_same from to p x y same = elim (cases_lt p from) [
   ]
 ]
 
--- a range and a place, both moved
+-- a range and a position, both shifted
 pub within_moved : (at n q p x : ℕ) → p ≡ at + q → within 0 n q x ≡ within at (at + n) p x
 within_moved at n q p x is = elim (cases_lt q n) [
   | inl low ↦ within-in 0 n q x (omega arith) low ∙ sym (within-in at (at + n) p x (omega arith) (omega arith))
   | inr high ↦ within-above 0 n q x high ∙ sym (within-above at (at + n) p x (omega arith))
 ]
 
--- ---- texts
+-- ---- buffers
 
 pub adds_none : (places : List Place) (len : ℕ) (other : ℕ → ℕ → ℕ) (old : List (List ℕ)) → ((t p : ℕ) → other t p ≡ 0) → AddsAt places len other old old
 adds_none places len other old none = record {
@@ -89,7 +89,7 @@ adds_same places len first second old new a same = record {
   others = a.others;
 }
 
--- one more part of a sum
+-- a sum with one more term
 pub adds_next : (places : List Place) (len n : ℕ) (part : ℕ → ℕ → ℕ → ℕ) (old mid new : List (List ℕ)) → AddsAt places len (λ t p. field_sum n (λ j. part j t p)) old mid → AddsAt places len (part n) mid new
     → AddsAt places len (λ t p. field_sum (n + 1) (λ j. part j t p)) old new
 unfolding field_sum
@@ -97,22 +97,22 @@ adds_next places len n part old mid new a b =
     adds_more places len (λ t p. field_sum n (λ j. part j t p)) (part n) (λ t p. field_sum (n + 1) (λ j. part j t p)) old mid new a b
     (λ t p low fits. ap (λ k. field_sum k (λ j. part j t p)) (let e : suc n ≡ n + 1 = omega arith in e))
 
--- the texts still hold the outputs
-pub still_within : (places : List Place) (len words : ℕ) (other : ℕ → ℕ → ℕ) (was texts : List (List ℕ)) → AddsAt places len other was texts → LieWithin words places was → LieWithin words places texts
-still_within places len words other was texts added within t h =
+-- the outputs still lie within the buffers
+pub still_within : (places : List Place) (len words : ℕ) (other : ℕ → ℕ → ℕ) (was buffers : List (List ℕ)) → AddsAt places len other was buffers → LieWithin words places was → LieWithin words places buffers
+still_within places len words other was buffers added within t h =
     let place = within t h in
     let count = added.count in
-    let size = added.sizes (place_at places t).text in
-    let low : (place_at places t).text < length texts = (let l = place.0 in omega (arith, l, count)) in
-    let fits : (place_at places t).at + 2 * words ≤ length (list_at texts (place_at places t).text) = (let l = place.1 in omega (arith, l, size)) in
+    let size = added.sizes (place_at places t).buffer in
+    let low : (place_at places t).buffer < length buffers = (let l = place.0 in omega (arith, l, count)) in
+    let fits : (place_at places t).at + 2 * words ≤ length (list_at buffers (place_at places t).buffer) = (let l = place.1 in omega (arith, l, size)) in
     (low, fits)
 
 -- ---- one output alone
 
--- the bytes of the texts that aren't the output's are as they were
-byte_kept : (place : Place) (words : ℕ) (other : ℕ → ℕ) (old new : List (List ℕ)) → OneChanged old new place.text → AddsToPart place.at words other (list_at old place.text) (list_at new place.text)
+-- the bytes of the buffers outside the output are unchanged
+byte_kept : (place : Place) (words : ℕ) (other : ℕ → ℕ) (old new : List (List ℕ)) → OneChanged old new place.buffer → AddsToPart place.at words other (list_at old place.buffer) (list_at new place.buffer)
     → (i k : ℕ) → (HasByte words place i k → ⊥) → slice_index (list_at new i) k ≡ slice_index (list_at old i) k
-byte_kept place words other old new changed added i k outside = elim (cases_eq i place.text) [
+byte_kept place words other old new changed added i k outside = elim (cases_eq i place.buffer) [
   | inl same ↦
       ap (λ m. slice_index (list_at new m) k) same
       ∙ elim (cases_lt k place.at) [
@@ -126,16 +126,16 @@ byte_kept place words other old new changed added i k outside = elim (cases_eq i
   | inr another ↦ ap (λ xs. slice_index xs k) (changed.others i another)
 ]
 
--- a word of the text from a place on
-pub word_from : (at p : ℕ) (text : List ℕ) → word p (drop at text) ≡ get_or text (at + 2 * p) 0 + 256 * get_or text (at + (2 * p + 1)) 0
-word_from at p text = ap₂ (λ a b. a + 256 * b) (get_or-drop at text (2 * p) 0) (get_or-drop at text (2 * p + 1) 0)
+-- a word of the buffer from a byte on
+pub word_from : (at p : ℕ) (bytes : List ℕ) → word p (drop at bytes) ≡ get_or bytes (at + 2 * p) 0 + 256 * get_or bytes (at + (2 * p + 1)) 0
+word_from at p bytes = ap₂ (λ a b. a + 256 * b) (get_or-drop at bytes (2 * p) 0) (get_or-drop at bytes (2 * p + 1) 0)
 
-pub adds_to_one : (places : List Place) (words t : ℕ) (other : ℕ → ℕ) (old new : List (List ℕ)) → AreApart words places → t < length places → OneChanged old new (place_at places t).text
-    → AddsToPart (place_at places t).at words other (list_at old (place_at places t).text) (list_at new (place_at places t).text)
+pub adds_to_one : (places : List Place) (words t : ℕ) (other : ℕ → ℕ) (old new : List (List ℕ)) → AreApart words places → t < length places → OneChanged old new (place_at places t).buffer
+    → AddsToPart (place_at places t).at words other (list_at old (place_at places t).buffer) (list_at new (place_at places t).buffer)
     → AddsAt places words (λ s p. within t (t + 1) s (other p)) old new
 adds_to_one places words t other old new apart in_places changed added = record {
   count = changed.count;
-  sizes = λ i. elim (cases_eq i place.text) [
+  sizes = λ i. elim (cases_eq i place.buffer) [
     | inl same ↦ ap (λ k. length (list_at new k)) same ∙ added.same_length ∙ ap (λ k. length (list_at old k)) (sym same)
     | inr another ↦ ap length (changed.others i another)
   ];
@@ -154,16 +154,16 @@ adds_to_one places words t other old new apart in_places changed added = record 
     place = place_at places t
 
     kept : (s k : ℕ) → s < length places → s ≢ t → (place_at places s).at ≤ k → k < (place_at places s).at + 2 * words
-        → slice_index (list_at new (place_at places s).text) k ≡ slice_index (list_at old (place_at places s).text) k
+        → slice_index (list_at new (place_at places s).buffer) k ≡ slice_index (list_at old (place_at places s).buffer) k
     kept s k low another from_here inside =
-        byte_kept place words other old new changed added (place_at places s).text k (λ has. another (apart s t (place_at places s).text k low in_places (refl, (from_here, inside)) has))
+        byte_kept place words other old new changed added (place_at places s).buffer k (λ has. another (apart s t (place_at places s).buffer k low in_places (refl, (from_here, inside)) has))
 
     untouched : (s p : ℕ) → s < length places → p < words → s ≢ t → output_word places s p new ≡ output_word places s p old
     untouched s p low fits another =
         let at : ℕ = (place_at places s).at in
-        word_from at p (list_at new (place_at places s).text)
+        word_from at p (list_at new (place_at places s).buffer)
         ∙ ap₂ (λ a b. a + 256 * b) (kept s (at + 2 * p) low another (omega arith) (omega (arith, fits))) (kept s (at + (2 * p + 1)) low another (omega arith) (omega (arith, fits)))
-        ∙ sym (word_from at p (list_at old (place_at places s).text))
+        ∙ sym (word_from at p (list_at old (place_at places s).buffer))
 
     outside : (s p : ℕ) → s ≢ t → within t (t + 1) s (other p) ≡ 0
     outside s p another = elim (cases_lt s t) [
@@ -171,7 +171,7 @@ adds_to_one places words t other old new apart in_places changed added = record 
       | inr above ↦ within-above t (t + 1) s (other p) (let e : t < s = lt_of_le-ne above (λ e. another (sym e)) in omega (arith, e))
     ]
 
--- ---- a part of a text that is written
+-- ---- a part of a buffer that is written
 
 pub part_below : {A : Type 0} (a k i : ℕ) (none : A) (xs ys : List A) → i < a → a ≤ length xs → get_or (put_mid a k xs ys) i none ≡ get_or xs i none
 part_below a k i none xs ys low fits =
@@ -193,44 +193,44 @@ part_above a k i none xs ys high fits size =
     ∙ get_or-drop a xs (k + (i - a - k)) none
     ∙ ap (λ m. get_or xs m none) (let e : a + (k + (i - a - k)) ≡ i = omega arith in e)
 
--- what was added to a part of a text
-pub adds_within : (at words k : ℕ) (other : ℕ → ℕ) (text new : List ℕ) → k ≡ 2 * words → at + k ≤ length text → AddsTo other (take k (drop at text)) new
-    → AddsToPart at words other text (put_mid at k text new)
-adds_within at words k other text new size fits added = record {
-  same_length = same_len_mid at k text new added.same_length;
+-- the addition to a part of a buffer
+pub adds_within : (at words k : ℕ) (other : ℕ → ℕ) (bytes new : List ℕ) → k ≡ 2 * words → at + k ≤ length bytes → AddsTo other (take k (drop at bytes)) new
+    → AddsToPart at words other bytes (put_mid at k bytes new)
+adds_within at words k other bytes new size fits added = record {
+  same_length = same_len_mid at k bytes new added.same_length;
   each = λ p low.
       ap₂ (λ a b. a + 256 * b) (written (2 * p) (omega (arith, low, size))) (written (2 * p + 1) (omega (arith, low, size)))
       ∙ added.each p (omega (arith, low, size, long))
-      ∙ ap (λ x. bit_xor x (other p)) (ap₂ (λ a b. a + 256 * b) (get_or-take k (drop at text) (2 * p) 0 (omega (arith, low, size))) (get_or-take k (drop at text) (2 * p + 1) 0 (omega (arith, low, size))));
-  before = λ i low. part_below at k i 0 text new low (omega (arith, fits));
-  behind = λ i high. part_above at k i 0 text new (omega (arith, high, size)) (omega (arith, fits)) new_size;
+      ∙ ap (λ x. bit_xor x (other p)) (ap₂ (λ a b. a + 256 * b) (get_or-take k (drop at bytes) (2 * p) 0 (omega (arith, low, size))) (get_or-take k (drop at bytes) (2 * p + 1) 0 (omega (arith, low, size))));
+  before = λ i low. part_below at k i 0 bytes new low (omega (arith, fits));
+  behind = λ i high. part_above at k i 0 bytes new (omega (arith, high, size)) (omega (arith, fits)) new_size;
 }
   where
-    long : length (take k (drop at text)) ≡ k
-    long = length-take-le k (drop at text) (let e = length-drop at text in omega (arith, e, fits))
+    long : length (take k (drop at bytes)) ≡ k
+    long = length-take-le k (drop at bytes) (let e = length-drop at bytes in omega (arith, e, fits))
 
     new_size : length new ≡ k
     new_size = added.same_length ∙ long
 
-    written : (i : ℕ) → i < k → get_or (drop at (put_mid at k text new)) i 0 ≡ get_or new i 0
-    written i low = get_or-drop at (put_mid at k text new) i 0 ∙ part_here at k i 0 text new low (omega (arith, fits)) new_size
+    written : (i : ℕ) → i < k → get_or (drop at (put_mid at k bytes new)) i 0 ≡ get_or new i 0
+    written i low = get_or-drop at (put_mid at k bytes new) i 0 ∙ part_here at k i 0 bytes new low (omega (arith, fits)) new_size
 
--- what f makes of the words of a row's front, added to a part of a text
-pub adds_to_part : (f : ℕ → ℕ) (from to : ℕ) (row text new : List ℕ) → from ≤ to → 2 * to ≤ 2 * from + length row → 2 * to ≤ length text
+-- f of the words at the front of a row, added to a part of a buffer
+pub adds_to_part : (f : ℕ → ℕ) (from to : ℕ) (row bytes new : List ℕ) → from ≤ to → 2 * to ≤ 2 * from + length row → 2 * to ≤ length bytes
     → length new ≡ 2 * to - 2 * from
-    → ((p : ℕ) → 2 * p + 1 < 2 * to - 2 * from → word p new ≡ bit_xor (word p (take (2 * to - 2 * from) (drop (2 * from) text))) (f (word p (take (2 * (to - from)) row))))
-    → AddsTo (λ p. within from to p (f (word (p - from) row))) text (put_mid (2 * from) (2 * to - 2 * from) text new)
-adds_to_part f from to row text new order in_row in_text size each = record {
-  same_length = same_len_mid (2 * from) (2 * to - 2 * from) text new (size ∙ sym (mid_len (2 * from) (2 * to) text in_text));
+    → ((p : ℕ) → 2 * p + 1 < 2 * to - 2 * from → word p new ≡ bit_xor (word p (take (2 * to - 2 * from) (drop (2 * from) bytes))) (f (word p (take (2 * (to - from)) row))))
+    → AddsTo (λ p. within from to p (f (word (p - from) row))) bytes (put_mid (2 * from) (2 * to - 2 * from) bytes new)
+adds_to_part f from to row bytes new order in_row in_bytes size each = record {
+  same_length = same_len_mid (2 * from) (2 * to - 2 * from) bytes new (size ∙ sym (mid_len (2 * from) (2 * to) bytes in_bytes));
   each = λ p fits. elim (cases_lt p from) [
     | inl below ↦
-        ap₂ (λ a b. a + 256 * b) (part_below (2 * from) k (2 * p) 0 text new (omega arith) (omega arith)) (part_below (2 * from) k (2 * p + 1) 0 text new (omega arith) (omega arith))
-        ∙ sym (ap (bit_xor (word p text)) (within-below from to p (f (word (p - from) row)) below) ∙ xor_zero_r (word p text))
+        ap₂ (λ a b. a + 256 * b) (part_below (2 * from) k (2 * p) 0 bytes new (omega arith) (omega arith)) (part_below (2 * from) k (2 * p + 1) 0 bytes new (omega arith) (omega arith))
+        ∙ sym (ap (bit_xor (word p bytes)) (within-below from to p (f (word (p - from) row)) below) ∙ xor_zero_r (word p bytes))
     | inr from_here ↦ elim (cases_lt p to) [
       | inl here ↦ inside p (p - from) (omega arith) (omega arith)
       | inr above ↦
-          ap₂ (λ a b. a + 256 * b) (part_above (2 * from) k (2 * p) 0 text new (omega arith) (omega arith) size) (part_above (2 * from) k (2 * p + 1) 0 text new (omega arith) (omega arith) size)
-          ∙ sym (ap (bit_xor (word p text)) (within-above from to p (f (word (p - from) row)) above) ∙ xor_zero_r (word p text))
+          ap₂ (λ a b. a + 256 * b) (part_above (2 * from) k (2 * p) 0 bytes new (omega arith) (omega arith) size) (part_above (2 * from) k (2 * p + 1) 0 bytes new (omega arith) (omega arith) size)
+          ∙ sym (ap (bit_xor (word p bytes)) (within-above from to p (f (word (p - from) row)) above) ∙ xor_zero_r (word p bytes))
     ]
   ];
 }
@@ -239,22 +239,22 @@ adds_to_part f from to row text new order in_row in_text size each = record {
     k = 2 * to - 2 * from
 
     inside : (p q : ℕ) → p ≡ from + q → p < to
-        → word p (put_mid (2 * from) k text new) ≡ bit_xor (word p text) (within from to p (f (word (p - from) row)))
+        → word p (put_mid (2 * from) k bytes new) ≡ bit_xor (word p bytes) (within from to p (f (word (p - from) row)))
     inside p q place here =
         let low : 2 * q + 1 < k = omega (arith, place) in
         let back : p - from ≡ q = omega arith in
-        let written : word p (put_mid (2 * from) k text new) ≡ word q new =
+        let written : word p (put_mid (2 * from) k bytes new) ≡ word q new =
         ap₂ (λ a b. a + 256 * b)
-        (ap (λ m. get_or (put_mid (2 * from) k text new) m 0) (let e : 2 * p ≡ 2 * from + 2 * q = omega (arith, place) in e) ∙ part_here (2 * from) k (2 * q) 0 text new (omega arith) (omega arith) size)
-        (ap (λ m. get_or (put_mid (2 * from) k text new) m 0) (let e : 2 * p + 1 ≡ 2 * from + (2 * q + 1) = omega (arith, place) in e) ∙ part_here (2 * from) k (2 * q + 1) 0 text new (omega arith) (omega arith) size) in
-        let was : word q (take k (drop (2 * from) text)) ≡ word p text =
+        (ap (λ m. get_or (put_mid (2 * from) k bytes new) m 0) (let e : 2 * p ≡ 2 * from + 2 * q = omega (arith, place) in e) ∙ part_here (2 * from) k (2 * q) 0 bytes new (omega arith) (omega arith) size)
+        (ap (λ m. get_or (put_mid (2 * from) k bytes new) m 0) (let e : 2 * p + 1 ≡ 2 * from + (2 * q + 1) = omega (arith, place) in e) ∙ part_here (2 * from) k (2 * q + 1) 0 bytes new (omega arith) (omega arith) size) in
+        let was : word q (take k (drop (2 * from) bytes)) ≡ word p bytes =
         ap₂ (λ a b. a + 256 * b)
-        (get_or-take k (drop (2 * from) text) (2 * q) 0 (omega arith) ∙ get_or-drop (2 * from) text (2 * q) 0 ∙ ap (λ m. get_or text m 0) (let e : 2 * from + 2 * q ≡ 2 * p = omega (arith, place) in e))
-        (get_or-take k (drop (2 * from) text) (2 * q + 1) 0 low ∙ get_or-drop (2 * from) text (2 * q + 1) 0 ∙ ap (λ m. get_or text m 0) (let e : 2 * from + (2 * q + 1) ≡ 2 * p + 1 = omega (arith, place) in e)) in
+        (get_or-take k (drop (2 * from) bytes) (2 * q) 0 (omega arith) ∙ get_or-drop (2 * from) bytes (2 * q) 0 ∙ ap (λ m. get_or bytes m 0) (let e : 2 * from + 2 * q ≡ 2 * p = omega (arith, place) in e))
+        (get_or-take k (drop (2 * from) bytes) (2 * q + 1) 0 low ∙ get_or-drop (2 * from) bytes (2 * q + 1) 0 ∙ ap (λ m. get_or bytes m 0) (let e : 2 * from + (2 * q + 1) ≡ 2 * p + 1 = omega (arith, place) in e)) in
         let factor : word q (take (2 * (to - from)) row) ≡ word (p - from) row =
         ap₂ (λ a b. a + 256 * b) (get_or-take (2 * (to - from)) row (2 * q) 0 (omega arith)) (get_or-take (2 * (to - from)) row (2 * q + 1) 0 (omega arith))
         ∙ ap (λ m. word m row) (sym back) in
-        written ∙ each q low ∙ ap₂ (λ a b. bit_xor a (f b)) was factor ∙ ap (bit_xor (word p text)) (sym (within-in from to p (f (word (p - from) row)) (omega arith) here))
+        written ∙ each q low ∙ ap₂ (λ a b. bit_xor a (f b)) was factor ∙ ap (bit_xor (word p bytes)) (sym (within-in from to p (f (word (p - from) row)) (omega arith) here))
 
 -- ---- zeros
 

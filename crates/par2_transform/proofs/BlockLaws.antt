@@ -1,21 +1,21 @@
 -- Blocks of outputs, one after the other.
-use Rattle.par2_transform.proofs.Common.{inl, inr, ℕ, ◌+◌, ◌*◌, ◌<◌, ◌≡◌, ◌≢◌, refl, sym, ap, ap₂, subst, ◌∙◌, arith, bit_xor, List, [], ◌∷◌, ◌++◌, length, get_or, length-append, get_or_append_left, get_or_at, get_or_default, get_or-set_other, get_or-set_same, length-set, mul, Grid, column, IsAdded, cases_eq, cases_lt, AddsAt, Outputs, IsBlock, AreBlocks, RowsGathered, OneBecomes, BlocksBecome, Keeps, block_at, block_part, weight_at, Cut, HasWeights, Place, field_sum}
+use Rattle.par2_transform.proofs.Common.{inl, inr, ℕ, ◌+◌, ◌*◌, ◌<◌, ◌≡◌, ◌≢◌, refl, sym, ap, ap₂, subst, ◌∙◌, arith, bit_xor, List, [], ◌∷◌, ◌++◌, length, get_or, length-append, get_or_append_left, get_or_at, get_or_default, get_or-set_other, get_or-set_same, length-set, mul, Grid, column, IsAdded, cases_eq, cases_lt, AddsAt, Outputs, IsBlock, AreBlocks, RowsGathered, OneBecomes, BlocksBecome, Keeps, outputs_at, block_part, weight_at, Cut, HasWeights, Place, field_sum}
 use Rattle.std.proofs.Math.ListN.{set}
 use Rattle.par2_transform.proofs.AddingLaws.{adds_none, adds_next}
 
--- what is read at any default is a block
-pub is_block_at : (blocks : List Outputs) (j : ℕ) (block : Outputs) → j < length blocks → get_or blocks j block ≡ block_at blocks j
+-- a block is read whatever the default is
+pub is_block_at : (blocks : List Outputs) (j : ℕ) (block : Outputs) → j < length blocks → get_or blocks j block ≡ outputs_at blocks j
 is_block_at blocks j block low = get_or_default blocks j block _ low
 
 -- a block is set
 pub one_set : (relation : Outputs → Outputs → Type 0) (blocks : List Outputs) (j : ℕ) (block new : Outputs) → j < length blocks → relation (get_or blocks j block) new → OneBecomes relation j blocks (set blocks j new)
 one_set relation blocks j block new low is = record {
   count = length-set blocks j new;
-  here = subst (relation (block_at blocks j)) (sym (get_or-set_same blocks j new _ low)) (subst (λ b. relation b new) (is_block_at blocks j block low) is);
+  here = subst (relation (outputs_at blocks j)) (sym (get_or-set_same blocks j new _ low)) (subst (λ b. relation b new) (is_block_at blocks j block low) is);
   others = λ i other. get_or-set_other blocks j i new _ other;
 }
 
--- a block stays one of the same outputs where only what is gathered differs
+-- a block is still one of the same outputs if only the gathered sums differ
 pub kept_block : (cut : Cut) (columns e : ℕ) (old new : Outputs) → Keeps old new → IsBlock cut columns e old → IsBlock cut columns e new
 kept_block cut columns e old new kept is = record {
   exponent = kept.exponent ∙ is.exponent;
@@ -33,30 +33,30 @@ pub next_becomes : (relation : Outputs → Outputs → Type 0) (n : ℕ) (old mi
 next_becomes relation n old mid new so_far one = record {
   count = one.count ∙ so_far.count;
   done = λ j h. elim (cases_eq j n) [
-    | inl same ↦ subst (λ i. relation (block_at old i) (block_at new i)) (sym same) (subst (λ b. relation b (block_at new n)) (so_far.rest n (omega arith)) one.here)
-    | inr other ↦ subst (λ b. relation (block_at old j) b) (sym (one.others j other)) (so_far.done j (omega arith))
+    | inl same ↦ subst (λ i. relation (outputs_at old i) (outputs_at new i)) (sym same) (subst (λ b. relation b (outputs_at new n)) (so_far.rest n (omega arith)) one.here)
+    | inr other ↦ subst (λ b. relation (outputs_at old j) b) (sym (one.others j other)) (so_far.done j (omega arith))
   ];
   rest = λ j h. one.others j (λ e. omega arith) ∙ so_far.rest j (omega arith);
 }
 
--- the first n blocks were added to the outputs
-pub record AddedSoFar (places : List Place) (len : ℕ) (cut : Cut) (size r from to n : ℕ) (old blocks : List Outputs) (was texts : List (List ℕ)) : Type 0 where
+-- the first n blocks have been added to the outputs
+pub record AddedSoFar (places : List Place) (len : ℕ) (cut : Cut) (size r from to n : ℕ) (old blocks : List Outputs) (was buffers : List (List ℕ)) : Type 0 where
   pub kept : BlocksBecome Keeps n old blocks
-  pub added : AddsAt places len (λ t p. field_sum n (λ j. block_part cut size r from to (block_at old j) j t p)) was texts
+  pub added : AddsAt places len (λ t p. field_sum n (λ j. block_part cut size r from to (outputs_at old j) j t p)) was buffers
 
-pub none_added : (places : List Place) (len : ℕ) (cut : Cut) (size r from to : ℕ) (blocks : List Outputs) (texts : List (List ℕ)) → AddedSoFar places len cut size r from to 0 blocks blocks texts texts
+pub none_added : (places : List Place) (len : ℕ) (cut : Cut) (size r from to : ℕ) (blocks : List Outputs) (buffers : List (List ℕ)) → AddedSoFar places len cut size r from to 0 blocks blocks buffers buffers
 unfolding field_sum
-none_added places len cut size r from to blocks texts = record {
+none_added places len cut size r from to blocks buffers = record {
   kept = none_becomes Keeps blocks;
-  added = adds_none places len (λ t p. field_sum 0 (λ j. block_part cut size r from to (block_at blocks j) j t p)) texts (λ t p. refl);
+  added = adds_none places len (λ t p. field_sum 0 (λ j. block_part cut size r from to (outputs_at blocks j) j t p)) buffers (λ t p. refl);
 }
 
-pub next_added : (places : List Place) (len : ℕ) (cut : Cut) (size r from to n : ℕ) (old mid blocks : List Outputs) (was before texts : List (List ℕ)) → AddedSoFar places len cut size r from to n old mid was before
-    → OneBecomes Keeps n mid blocks → AddsAt places len (block_part cut size r from to (block_at mid n) n) before texts → AddedSoFar places len cut size r from to (n + 1) old blocks was texts
-next_added places len cut size r from to n old mid blocks was before texts so_far kept added = record {
+pub next_added : (places : List Place) (len : ℕ) (cut : Cut) (size r from to n : ℕ) (old mid blocks : List Outputs) (was before buffers : List (List ℕ)) → AddedSoFar places len cut size r from to n old mid was before
+    → OneBecomes Keeps n mid blocks → AddsAt places len (block_part cut size r from to (outputs_at mid n) n) before buffers → AddedSoFar places len cut size r from to (n + 1) old blocks was buffers
+next_added places len cut size r from to n old mid blocks was before buffers so_far kept added = record {
   kept = next_becomes Keeps n old mid blocks so_far.kept kept;
-  added = adds_next places len n (λ j t p. block_part cut size r from to (block_at old j) j t p) was before texts so_far.added
-      (subst (λ b. AddsAt places len (block_part cut size r from to b n) before texts) (so_far.kept.rest n (omega arith)) added);
+  added = adds_next places len n (λ j t p. block_part cut size r from to (outputs_at old j) j t p) was before buffers so_far.added
+      (subst (λ b. AddsAt places len (block_part cut size r from to b n) before buffers) (so_far.kept.rest n (omega arith)) added);
 }
 
 -- ---- rows
@@ -105,7 +105,7 @@ next_value f n x xs so_far is = record {
 
 -- ---- blocks made
 
--- the first n blocks of so many outputs
+-- the first n blocks, of `size` outputs each
 pub record BlocksMade (cut : Cut) (columns first size n : ℕ) (blocks : List Outputs) : Type 0 where
   pub count : length blocks ≡ n
   pub are : AreBlocks cut columns first size blocks
@@ -118,7 +118,7 @@ next_block cut columns first size n e blocks block so_far is place = record {
     | inl low ↦ subst (IsBlock cut columns (first + j * size)) (sym (before j low)) (so_far.are j (let c = so_far.count in omega (arith, c)))
     | inr high ↦
         (let same : j ≡ n = (let c = so_far.count in let l = length-append blocks (block ∷ []) in omega (arith, c, l)) in
-        subst (λ k. IsBlock cut columns (first + k * size) (block_at (blocks ++ block ∷ []) k)) (sym same)
+        subst (λ k. IsBlock cut columns (first + k * size) (outputs_at (blocks ++ block ∷ []) k)) (sym same)
         (subst (IsBlock cut columns (first + n * size)) (sym here) (subst (λ k. IsBlock cut columns k block) place is)))
   ];
 }
@@ -126,8 +126,8 @@ next_block cut columns first size n e blocks block so_far is place = record {
     none : Outputs
     none = record { exponent = 0; windows = 0; weights = []; sums = record { levels = 0; words = 0; bytes = [] } }
 
-    before : (j : ℕ) → j < n → block_at (blocks ++ block ∷ []) j ≡ block_at blocks j
+    before : (j : ℕ) → j < n → outputs_at (blocks ++ block ∷ []) j ≡ outputs_at blocks j
     before j low = get_or_append_left blocks (block ∷ []) none j (let c = so_far.count in omega (arith, c))
 
-    here : block_at (blocks ++ block ∷ []) n ≡ block
+    here : outputs_at (blocks ++ block ∷ []) n ≡ block
     here = get_or_at blocks block [] none n so_far.count

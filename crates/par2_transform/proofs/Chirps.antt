@@ -1,5 +1,5 @@
 -- Chirps, and sums of products with them.
-use Rattle.par2_transform.proofs.Common.{ℕ, zero, suc, ◌+◌, ◌*◌, ◌^◌, ◌<◌, ◌≤◌, ◌≡◌, refl, sym, ap, ◌∙◌, arith, mul_comm, mul_assoc, mul-add, add_comm, mul-zero, add-zero, mul, pow, field_sum, AreElements, power-lt, power-add, no_zero_divisor, product-lt, product_comm, product-one, product_assoc, product_linear_left, power_inverse, field_sum_same, field_sum_scaled, point, value, AreWeights, triangle, chirp, chirp_inverse}
+use Rattle.par2_transform.proofs.Common.{ℕ, zero, suc, ◌+◌, ◌*◌, ◌^◌, ◌<◌, ◌≤◌, ◌≡◌, refl, sym, ap, ◌∙◌, arith, mul_comm, mul_assoc, mul-add, add_comm, mul-zero, add-zero, mul, pow, field_sum, GivesElements, power-lt, power-add, no_zero_divisor, product-lt, product_comm, product-one, product_assoc, product_linear_left, power_inverse, field_sum_same, field_sum_scaled, point, value, AreWeights, triangle, chirp, chirp_inverse}
 use Rattle.par2_transform.proofs.Subspaces.{point-lt}
 use Rattle.par2_transform.proofs.Sums.{field_sum_swap, field_sum_linear}
 
@@ -61,25 +61,25 @@ power_by_chirps d m e =
     ∙ sym (product_assoc j b p hj hb hp) ∙ ap (λ v. mul v p) (product_comm j b hj hb ∙ chirp_inverse_is d e)
     ∙ product_comm 1 p (omega arith) hp ∙ product-one p hp)
 
--- ---- sums of products of a sequence's values and others, whose places add up
+-- ---- sums of products of two sequences, at positions that add up
 
--- by weights for the sequence and the values of the polynomial that has the others as coefficients
-pub hankel_sum : (k b n t : ℕ) (sequence weights others : ℕ → ℕ) → AreElements weights → AreElements others → n + t ≤ 2 ^ k → AreWeights k sequence b weights
+-- from weights for the sequence, and the values of the polynomial with the others as coefficients
+pub hankel_sum : (k b n t : ℕ) (sequence weights others : ℕ → ℕ) → GivesElements weights → GivesElements others → n + t ≤ 2 ^ k → AreWeights k sequence b weights
     → field_sum n (λ m. mul (sequence (b + (m + t))) (others m)) ≡ field_sum (2 ^ k) (λ u. mul (mul (weights u) (value n others (point u))) (pow (point u) t))
 hankel_sum k b n t sequence weights others hw ho fits are =
     field_sum_same n (λ m. mul (sequence (b + (m + t))) (others m)) (λ m. field_sum (2 ^ k) (λ u. mul (mul (weights u) (mul (others m) (pow (point u) m))) (pow (point u) t)))
     (λ m h. ap (λ v. mul v (others m)) (are (m + t) (omega arith))
     ∙ sym (field_sum_linear (2 ^ k) (λ x. mul x (others m)) (λ u. mul (weights u) (pow (point u) (m + t))) (product_linear_left (others m)))
     ∙ field_sum_same (2 ^ k) (λ u. mul (mul (weights u) (pow (point u) (m + t))) (others m)) (λ u. mul (mul (weights u) (mul (others m) (pow (point u) m))) (pow (point u) t))
-    (λ u l. turn (weights u) (others m) (pow (point u) m) (pow (point u) t) (pow (point u) (m + t)) (hw u) (ho m) (power-lt (point u) m (point-lt u)) (power-lt (point u) t (point-lt u)) (power-add (point u) m t (point-lt u))))
+    (λ u l. step (weights u) (others m) (pow (point u) m) (pow (point u) t) (pow (point u) (m + t)) (hw u) (ho m) (power-lt (point u) m (point-lt u)) (power-lt (point u) t (point-lt u)) (power-add (point u) m t (point-lt u))))
     ∙ field_sum_swap n (2 ^ k) (λ m u. mul (mul (weights u) (mul (others m) (pow (point u) m))) (pow (point u) t))
     ∙ field_sum_same (2 ^ k) (λ u. field_sum n (λ m. mul (mul (weights u) (mul (others m) (pow (point u) m))) (pow (point u) t)))
     (λ u. mul (mul (weights u) (value n others (point u))) (pow (point u) t))
     (λ u l. field_sum_linear n (λ x. mul x (pow (point u) t)) (λ m. mul (weights u) (mul (others m) (pow (point u) m))) (product_linear_left (pow (point u) t))
     ∙ ap (λ v. mul v (pow (point u) t)) (field_sum_scaled n (weights u) (λ m. mul (others m) (pow (point u) m))))
   where
-    turn : (w v p q r : ℕ) → w < 65536 → v < 65536 → p < 65536 → q < 65536 → r ≡ mul p q → mul (mul w r) v ≡ mul (mul w (mul v p)) q
-    turn w v p q r hw hv hp hq is =
+    step : (w v p q r : ℕ) → w < 65536 → v < 65536 → p < 65536 → q < 65536 → r ≡ mul p q → mul (mul w r) v ≡ mul (mul w (mul v p)) q
+    step w v p q r hw hv hp hq is =
         let hpq : mul p q < 65536 = product-lt p q hp hq in
         let hvp : mul v p < 65536 = product-lt v p hv hp in
         ap (λ x. mul (mul w x) v) is ∙ product_assoc w (mul p q) v hw hpq hv
@@ -88,8 +88,8 @@ hankel_sum k b n t sequence weights others hw ho fits are =
 
 -- ---- a class of numbers
 
--- the sum over the numbers d * m + r, m below n, of power e of each one's power of 2 times a value
-pub class_sum : (d r e n : ℕ) (values : ℕ → ℕ) → AreElements values
+-- the sum, over the numbers d * m + r with m below n, of a value times power e of 2 to that number
+pub class_sum : (d r e n : ℕ) (values : ℕ → ℕ) → GivesElements values
     → field_sum n (λ m. mul (pow 2 (e * (d * m + r))) (values m))
     ≡ mul (mul (pow 2 (e * r)) (chirp_inverse d e)) (field_sum n (λ m. mul (chirp d (m + e)) (mul (chirp_inverse d m) (values m))))
 class_sum d r e n values elements =

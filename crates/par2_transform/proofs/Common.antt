@@ -21,16 +21,16 @@ pub use Rattle.par2_spec.proofs.FieldSteps.{one-power, power-mul, power_inverse}
 pub use Rattle.par2_spec.proofs.FoundLaws.{slice_begins}
 pub use Rattle.par2_spec.proofs.SumLaws.{field_sum-lt, field_sum_head, field_sum_none, field_sum_one, field_sum_same, field_sum_scaled, field_sum_xor, xor_off}
 pub use Rattle.par2_spec.proofs.WordLaws.{length-lists_of, read_at, word-lt, written_changed, written_here}
-pub use Rattle.par2_spec.specs.Field.{is_spared}
+pub use Rattle.par2_spec.specs.Field.{is_coprime}
 unfoldable pub use Rattle.par2_spec.specs.Field.{coefficient, constant, constant_powers, mul, pow}
 pub use Rattle.par2_spec.specs.Slices.{word}
-pub use Rattle.par2_spec.specs.Sums.{AreElements, OneChanged, list_at, lists_of}
+pub use Rattle.par2_spec.specs.Sums.{GivesElements, OneChanged, list_at, lists_of}
 unfoldable pub use Rattle.par2_spec.specs.Sums.{field_sum}
-pub use Rattle.par2_transform.specs.Adding.{AddsAt, AddsTo, AddsToEach, AddsToPart, AreApart, AreWholeTexts, HasByte, HaveWords, LieWithin, output_word, place_at, within}
-pub use Rattle.par2_transform.specs.Blocks.{AreBlocks, AreCoefficients, AreWeightRows, AreWindowValues, BlocksBecome, EachBlock, Gathers, GathersWindow, HaveShape, IsBlock, IsCleared, IsGathered, Keeps, OneBecomes, Outputs, RowsGathered, Takes, block_at, block_part, class_sum_at, from_gathered, weight_at}
-pub use Rattle.par2_transform.specs.Chirps.{AreFirst, AreWeights}
-unfoldable pub use Rattle.par2_transform.specs.Chirps.{chirp, chirp_inverse, spared_below, triangle, word_at_power}
-pub use Rattle.par2_transform.specs.Columns.{AreBytes, AreNumbers, recovered, texts_of, words_at}
+pub use Rattle.par2_transform.specs.Adding.{AddsAt, AddsTo, AddsToEach, AddsToPart, AreApart, AreWholeBuffers, HasByte, HaveWords, LieWithin, output_word, place_at, within}
+pub use Rattle.par2_transform.specs.Blocks.{AreBlocks, AreCoefficients, AreWeightRows, AreWindowValues, BlocksBecome, EachBlock, Gathers, GathersWindow, HaveShape, IsBlock, IsCleared, IsGathered, Keeps, OneBecomes, Outputs, RowsGathered, Takes, outputs_at, block_part, class_sum_at, from_gathered, weight_at}
+pub use Rattle.par2_transform.specs.Chirps.{AreWordsOfFirst, AreWeights}
+unfoldable pub use Rattle.par2_transform.specs.Chirps.{chirp, chirp_inverse, coprimes_below, triangle, word_at_power}
+pub use Rattle.par2_transform.specs.Columns.{AreByteLists, AreNumbers, recovered, byte_lists, words_at}
 pub use Rattle.par2_transform.specs.Cosets.{AreListedValues, HoldListed, IsListed, IsListedLevel, IsListedSplit, run_in}
 pub use Rattle.par2_transform.specs.Evaluations.{AreValues, IsSplit, from, value}
 pub use Rattle.par2_transform.specs.Grids.{AddsWords, AreRows, EachColumn, Grid, IsAdded, column}
@@ -39,7 +39,7 @@ pub use Rattle.par2_transform.specs.Locators.{AreFit, AreNumbered, AreNumerators
 pub use Rattle.par2_transform.specs.Plans.{cut_of}
 pub use Rattle.par2_transform.specs.PowerSums.{ArePowerSums, IsMerged, member, sum_ahead}
 unfoldable pub use Rattle.par2_transform.specs.PowerSums.{power_sum}
-pub use Rattle.par2_transform.specs.Steps.{AheadAdded, FirstRuns, IsDivided, IsLowered, IsOneAdded, IsRaised, IsSpreadAbove, IsSpreadBelow, OnElements, OneRun, RunAdded, RunAddedBy, SameOutside, spread_beyond, spread_within}
+pub use Rattle.par2_transform.specs.Steps.{AheadAdded, FirstRuns, IsDivided, IsLowered, IsOneAdded, IsRaised, IsSpreadAbove, IsSpreadBelow, OnElements, OneRun, RunAdded, RunAddedBy, SameValuesOutside, spread_beyond, spread_within}
 unfoldable pub use Rattle.par2_transform.specs.Subspaces.{basis, bit_numbers, point, point_number, powers_in, vanishing}
 pub use Rattle.par2_transform.specs.Transforms.{Cut, HasWeights, Reaches, class_part, coefficient_of, gathered, window_value}
 pub use Rattle.par2_transform.specs.declared.outputs.Place.{Place}

@@ -1,5 +1,5 @@
--- Runs of a coset that are split where a listed point is in them.
-use Rattle.par2_transform.proofs.Common.{ℕ, suc, ◌+◌, ◌-◌, ◌*◌, ◌%◌, ◌^◌, ◌<◌, ◌≤◌, ◌≡◌, refl, sym, ap, ap₂, subst, ◌∙◌, arith, bit_xor, pow-suc, inl, inr, add_assoc, mul_assoc, add-mul, one-mul, cases_lt, cases_eq, pow-add, xor_comm, xor_lt, pow-le-pow_right, mul-le-mul_right, xor_zero_l, xor_self, xor_zero_r, xor_assoc, List, length, min, get_or, set, get_or-set_same, get_or-set_other, mul, pow, AreElements, zero-product, product-one, product_comm, field_sum_same, xor_off, point, vanishing, member, value, from, IsListed, IsListedSplit, IsListedLevel, HoldListed, field_sum, run_in}
+-- Runs of a coset, split if they contain a listed point.
+use Rattle.par2_transform.proofs.Common.{ℕ, suc, ◌+◌, ◌-◌, ◌*◌, ◌%◌, ◌^◌, ◌<◌, ◌≤◌, ◌≡◌, refl, sym, ap, ap₂, subst, ◌∙◌, arith, bit_xor, pow-suc, inl, inr, add_assoc, mul_assoc, add-mul, one-mul, cases_lt, cases_eq, pow-add, xor_comm, xor_lt, pow-le-pow_right, mul-le-mul_right, xor_zero_l, xor_self, xor_zero_r, xor_assoc, List, length, min, get_or, set, get_or-set_same, get_or-set_other, mul, pow, GivesElements, zero-product, product-one, product_comm, field_sum_same, xor_off, point, vanishing, member, value, from, IsListed, IsListedSplit, IsListedLevel, HoldListed, field_sum, run_in}
 use Rattle.par2_transform.proofs.Subspaces.{point-lt}
 use Rattle.par2_transform.proofs.PowerSums.{first_half, second_half, vanishing_on, point_odd}
 use Rattle.par2_transform.proofs.LevelLaws.{half_below, cases_parity, value-lt, zero-mul-add}
@@ -8,7 +8,7 @@ use Rattle.par2_transform.proofs.Divisions.{split_of_first}
 
 -- ---- numbers of runs
 
--- of a coset among all
+-- the number of a coset among all
 pub run_in-lt : (k i coset q : ℕ) → k ≤ 16 → i < k → q < 2 ^ (k - suc i) → coset < 2 ^ (16 - k) → run_in k coset (suc i) q < 2 ^ (16 - suc i)
 run_in-lt k i coset q few level low in_field =
     let size : ℕ = 2 ^ (k - suc i) in
@@ -17,11 +17,11 @@ run_in-lt k i coset q few level low in_field =
     let next : (coset + 1) * size ≡ coset * size + size = add-mul coset 1 size ∙ ap (λ n. coset * size + n) (one-mul size) in
     omega (arith, more, whole, next, low)
 
--- a run of one is within all points
+-- a run of a coset lies within all points
 pub run_fits : (k i coset q : ℕ) → k ≤ 16 → i < k → q < 2 ^ (k - suc i) → coset < 2 ^ (16 - k) → run_in k coset (suc i) q * 2 ^ suc i + 2 ^ suc i ≤ 65536
 run_fits k i coset q few level low in_field = pairs_fit 16 i (run_in k coset (suc i) q) (omega (arith, few, level)) (run_in-lt k i coset q few level low in_field)
 
--- so the run's first point is one of all
+-- so its first point is one of them
 pub double-lt : (k i coset q : ℕ) → k ≤ 16 → i < k → q < 2 ^ (k - suc i) → coset < 2 ^ (16 - k) → 2 * run_in k coset (suc i) q < 65536
 double-lt k i coset q few level low in_field =
     let small : run_in k coset (suc i) q < 2 ^ (16 - suc i) = run_in-lt k i coset q few level low in_field in
@@ -36,7 +36,7 @@ number_is k i coset q r few level low in_field is =
     let same : coset * 2 ^ (r - i - 1) ≡ coset * 2 ^ (k - suc i) = ap (λ n. coset * 2 ^ n) (let e : r - i - 1 ≡ k - suc i = omega (arith, is) in e) in
     omega (arith, small, most, same)
 
--- and the size
+-- and its size
 pub size_is : (i : ℕ) → i < 16 → 2 * 2 ^ i % 18446744073709551616 ≡ 2 ^ suc i
 size_is i few =
     let under : 2 ^ i + 2 ^ i ≤ 2 ^ 16 = power_below i 16 few in
@@ -68,7 +68,7 @@ listed_begin next whole values k coset same q u hq hu listed =
     field_sum_same (2 ^ k) (λ m. mul (values (q * 2 ^ k + m)) (pow x m)) (λ m. mul (whole m) (pow x m))
     (λ m h. ap (λ v. mul v (pow x m)) (ap (λ n. values (n * 2 ^ k + m)) none ∙ ap values (zero-mul-add (2 ^ k) m) ∙ same m h))
 
-pub listed_end : (next whole values : ℕ → ℕ) (k coset : ℕ) → AreElements values → HoldListed next whole k coset 0 values → (u : ℕ) → u < 2 ^ k → IsListed next (coset * 2 ^ k + u)
+pub listed_end : (next whole values : ℕ → ℕ) (k coset : ℕ) → GivesElements values → HoldListed next whole k coset 0 values → (u : ℕ) → u < 2 ^ k → IsListed next (coset * 2 ^ k + u)
     → values u ≡ value (2 ^ k) whole (point (coset * 2 ^ k + u))
 unfolding field_sum pow
 listed_end next whole values k coset elements hold u h listed =
@@ -79,7 +79,7 @@ listed_end next whole values k coset elements hold u h listed =
     ∙ hold u 0 (subst (λ n. u < 2 ^ n) (sym all) h) (omega arith) (subst (IsListed next) (sym at) listed)
     ∙ ap (λ n. value (2 ^ k) whole (point n)) at
 
-pub listed_on : (next whole old new : ℕ → ℕ) → AreElements new → (k coset i : ℕ) → k ≤ 16 → i < k → coset < 2 ^ (16 - k)
+pub listed_on : (next whole old new : ℕ → ℕ) → GivesElements new → (k coset i : ℕ) → k ≤ 16 → i < k → coset < 2 ^ (16 - k)
     → IsListedLevel next k coset i old new → HoldListed next whole k coset (suc i) old → HoldListed next whole k coset i new
 listed_on next whole old new elements k coset i hk hi hc level hold q u hq hu listed = elim (cases_parity q) [
   | inl even ↦
@@ -154,7 +154,7 @@ listed_on next whole old new elements k coset i hk hi hc level hold q u hq hu li
 
 -- ---- lists of numbers
 
--- what is named from place a on, down from the last one
+-- the entries from place a on, computed down from the last one
 pub record NamedFrom (a : ℕ) (old new : List ℕ) : Type 0 where
   pub least : (n b : ℕ) → n < length old → get_or old n 0 ≤ n → a ≤ b + 1 → b ≤ n → get_or new b 0 ≤ n
   pub rest : (b : ℕ) → b + 1 < a → get_or new b 0 ≡ get_or old b 0
@@ -188,7 +188,7 @@ next_named a v old new some in_list size is so_far = record {
 pub all_named : (a : ℕ) (old new : List ℕ) → a ≤ 1 → NamedFrom a old new → (n : ℕ) → n < length old → get_or old n 0 ≤ n → IsListed (λ i. get_or new i 0) n
 all_named a old new end named n low at_most b order = named.least n b low at_most (omega (arith, end)) order
 
--- the first n numbers are named
+-- the first n numbers are entered
 pub AreNamed : List ℕ → List ℕ → ℕ → Type 0
 AreNamed numbers next n = (j : ℕ) → j < n → get_or next (get_or numbers j 0) 0 ≤ get_or numbers j 0
 

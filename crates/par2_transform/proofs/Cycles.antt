@@ -1,11 +1,11 @@
--- Powers of 2 are the same again after 65,535 of them, and so are chirps.
+-- Powers of 2 repeat after 65,535 of them, and so do chirps.
 use Rattle.par2_transform.proofs.Common.{ℕ, zero, suc, ◌+◌, ◌-◌, ◌*◌, ◌/◌, ◌%◌, ◌<◌, ◌≡◌, refl, sym, ap, ◌∙◌, arith, mul_comm, mul_assoc, mul-add, mul, pow, power-lt, power-add, power-65535, product_comm, product-one, power-mul, one-power, triangle, chirp}
 use Rattle.par2_transform.proofs.Chirps.{chirp-lt, chirp_product}
 
 pub power_whole_rounds : (q : ℕ) → pow 2 (q * 65535) ≡ 1
 power_whole_rounds q = sym (power-mul 2 65535 q (omega arith)) ∙ ap (λ a. pow a q) power-65535 ∙ one-power q
 
--- what stands after whole rounds
+-- a power of 2 after whole cycles
 pub power_behind_rounds : (q r : ℕ) → pow 2 (q * 65535 + r) ≡ pow 2 r
 power_behind_rounds q r =
     let small : pow 2 r < 65536 = power-lt 2 r (omega arith) in
@@ -18,7 +18,7 @@ triangle_twice zero = refl
 triangle_twice (suc m) =
     let so_far : triangle (suc m) * 2 ≡ suc m * m = triangle_twice m in
     let more : suc m * (m + 2) ≡ suc m * m + suc m * 2 = mul-add (suc m) m 2 in
-    let turned : suc (suc m) * suc m ≡ suc m * (m + 2) = mul_comm (suc (suc m)) (suc m) ∙ ap (λ k. suc m * k) (let e : suc (suc m) ≡ m + 2 = omega arith in e) in
+    let stepped : suc (suc m) * suc m ≡ suc m * (m + 2) = mul_comm (suc (suc m)) (suc m) ∙ ap (λ k. suc m * k) (let e : suc (suc m) ≡ m + 2 = omega arith in e) in
     let r : (triangle (suc m) + suc m) * 2 ≡ suc (suc m) * suc m = omega arith in r
 
 pub triangle_is : (m : ℕ) → m * (m - 1) / 2 ≡ triangle m
@@ -48,7 +48,7 @@ chirp_around d (suc q) r =
     ap (chirp d) (let e : r + suc q * 65535 ≡ r + q * 65535 + 65535 = omega arith in e)
     ∙ chirp_once_around d (r + q * 65535) ∙ chirp_around d q r
 
--- a chirp by what is left of its number
+-- a chirp by the residue of its number modulo 65,535
 pub chirp_round : (d m : ℕ) → pow 2 (d * (m % 65535 * (m % 65535 - 1) / 2)) ≡ chirp d m
 unfolding chirp
 chirp_round d m =

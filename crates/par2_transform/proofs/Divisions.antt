@@ -1,5 +1,5 @@
--- The division of a run of coefficients by the vanishing polynomial less a constant.
-use Rattle.par2_transform.proofs.Common.{ℕ, suc, ◌+◌, ◌-◌, ◌*◌, ◌^◌, ◌<◌, ◌≤◌, ◌≡◌, sym, ap, ap₂, ◌∙◌, subst, arith, bit_xor, refl, add_assoc, bit_at, xor_zero_l, xor_zero_r, xor_assoc, xor_self, xor_comm, mul, pow, AreElements, field_sum, bit_times_xor, power-lt, power-add, product-lt, product_comm, product_assoc, product_linear_left, field_sum_same, field_sum_xor, field_sum_scaled, xor_off, vanishing, powers_in, value, from, IsSplit, OnElements, OneRun, RunAddedBy, RunAdded, spread_beyond, spread_within, IsSpreadAbove, IsSpreadBelow, IsDivided}
+-- The division of a run of coefficients by the subspace polynomial minus a constant.
+use Rattle.par2_transform.proofs.Common.{ℕ, suc, ◌+◌, ◌-◌, ◌*◌, ◌^◌, ◌<◌, ◌≤◌, ◌≡◌, sym, ap, ap₂, ◌∙◌, subst, arith, bit_xor, refl, add_assoc, bit_at, xor_zero_l, xor_zero_r, xor_assoc, xor_self, xor_comm, mul, pow, GivesElements, field_sum, bit_times_xor, power-lt, power-add, product-lt, product_comm, product_assoc, product_linear_left, field_sum_same, field_sum_xor, field_sum_scaled, xor_off, vanishing, powers_in, value, from, IsSplit, OnElements, OneRun, RunAddedBy, RunAdded, spread_beyond, spread_within, IsSpreadAbove, IsSpreadBelow, IsDivided}
 use Rattle.par2_transform.proofs.Subspaces.{leading_power, lower_powers}
 use Rattle.par2_transform.proofs.Sums.{field_sum_join, field_sum_linear, field_sum_bit_set, field_sum_bit_unset, bit_product}
 use Rattle.par2_transform.proofs.StepLaws.{power_below, double_power, same_outside, outside_then, run_fit, run_by_fit, IsOfFirst}
@@ -17,7 +17,7 @@ pub value_run : (k : ℕ → ℕ) (at to n r x : ℕ) (f g : ℕ → ℕ) → Ru
 value_run k at to n r x f g added =
     parts g ∙ ap₂ bit_xor (field_sum_same to (term g) (term f) (λ m l. ap (λ v. mul v (pow x m)) (added.others.below m l)))
     (ap₂ bit_xor middle (field_sum_same r (λ d. term g (to + (n + d))) (λ d. term f (to + (n + d))) (λ d l. ap (λ v. mul v (pow x (to + (n + d)))) (added.others.above (to + (n + d)) (omega arith)))))
-    ∙ turn (field_sum to (term f)) (field_sum n (λ d. term f (to + d))) more (field_sum r (λ d. term f (to + (n + d))))
+    ∙ step (field_sum to (term f)) (field_sum n (λ d. term f (to + d))) more (field_sum r (λ d. term f (to + (n + d))))
     ∙ ap (λ v. bit_xor v more) (sym (parts f))
   where
     term : (ℕ → ℕ) → ℕ → ℕ
@@ -35,8 +35,8 @@ value_run k at to n r x f g added =
         (λ d l. ap (λ v. mul v (pow x (to + d))) (added.run d l) ∙ (product_linear_left (pow x (to + d))).on_xor (f (to + d)) (k (f (at + d))))
         ∙ field_sum_xor n (λ d. term f (to + d)) (λ d. mul (k (f (at + d))) (pow x (to + d)))
 
-    turn : (a b m c : ℕ) → bit_xor a (bit_xor (bit_xor b m) c) ≡ bit_xor (bit_xor a (bit_xor b c)) m
-    turn a b m c = ap (bit_xor a) (xor_assoc b m c ∙ ap (bit_xor b) (xor_comm m c) ∙ sym (xor_assoc b c m)) ∙ sym (xor_assoc a (bit_xor b c) m)
+    step : (a b m c : ℕ) → bit_xor a (bit_xor (bit_xor b m) c) ≡ bit_xor (bit_xor a (bit_xor b c)) m
+    step a b m c = ap (bit_xor a) (xor_assoc b m c ∙ ap (bit_xor b) (xor_comm m c) ∙ sym (xor_assoc b c m)) ∙ sym (xor_assoc a (bit_xor b c) m)
 
 -- ---- spreading
 
@@ -126,8 +126,8 @@ below_unset i start n f g unset so_far = record {
 
 -- ---- dividing
 
--- coefficients that are put some places ahead
-put_ahead : (n m x : ℕ) (u : ℕ → ℕ) → x < 65536 → AreElements u → field_sum n (λ d. mul (u d) (pow x (m + d))) ≡ mul (pow x m) (value n u x)
+-- coefficients shifted by some powers
+put_ahead : (n m x : ℕ) (u : ℕ → ℕ) → x < 65536 → GivesElements u → field_sum n (λ d. mul (u d) (pow x (m + d))) ≡ mul (pow x m) (value n u x)
 put_ahead n m x u hx fit =
     field_sum_same n (λ d. mul (u d) (pow x (m + d))) (λ d. mul (pow x m) (mul (u d) (pow x d)))
     (λ d l.
@@ -138,8 +138,8 @@ put_ahead n m x u hx fit =
     ap (mul (u d)) (power-add x m d hx) ∙ sym (product_assoc (u d) p q (fit d) hp hq) ∙ ap (λ v. mul v q) (product_comm (u d) p (fit d) hp) ∙ product_assoc p (u d) q hp (fit d) hq)
     ∙ field_sum_scaled n (pow x m) (λ d. mul (u d) (pow x d))
 
--- all that a power spreads
-spread_whole : (i j x : ℕ) (u : ℕ → ℕ) → j < i → x < 65536 → AreElements u
+-- all additions of one power
+spread_whole : (i j x : ℕ) (u : ℕ → ℕ) → j < i → x < 65536 → GivesElements u
     → bit_xor (spread_within i u x j) (spread_beyond i u x j) ≡ mul (pow x (2 ^ j)) (value (2 ^ i) u x)
 spread_whole i j x u low hx fit =
     let under : 2 ^ j + 2 ^ j ≤ 2 ^ i = power_below j i low in
@@ -149,8 +149,8 @@ spread_whole i j x u low hx fit =
     ∙ sym (field_sum_join (2 ^ i - 2 ^ j) (2 ^ j) (λ d. mul (u d) (pow x (2 ^ j + d))))
     ∙ ap (λ m. field_sum m (λ d. mul (u d) (pow x (2 ^ j + d)))) whole ∙ put_ahead (2 ^ i) (2 ^ j) x u hx fit
 
--- all that the lower powers spread
-spread_all : (i x : ℕ) (u : ℕ → ℕ) → x < 65536 → AreElements u
+-- all additions of the lower powers
+spread_all : (i x : ℕ) (u : ℕ → ℕ) → x < 65536 → GivesElements u
     → bit_xor (field_sum i (λ j. bit_at (powers_in i) j * spread_within i u x j)) (field_sum i (λ j. bit_at (powers_in i) j * spread_beyond i u x j)) ≡ mul (lower_powers i x) (value (2 ^ i) u x)
 spread_all i x u hx fit =
     let bits = powers_in i in
@@ -168,7 +168,7 @@ divided_runs i c start f g k h hc above below scaled = record {
   fit = elements;
   values = λ x hx fit.
       let u = upper h in
-      let fits : AreElements u = λ e. elements fit (start + (2 ^ i + e)) in
+      let fits : GivesElements u = λ e. elements fit (start + (2 ^ i + e)) in
       let y = value (2 ^ i) u x in
       let l = value (2 ^ i) (from start h) x in
       let p = pow x (2 ^ i) in
@@ -217,10 +217,10 @@ divided_runs i c start f g k h hc above below scaled = record {
     same : (e : ℕ) → upper h e ≡ upper g e
     same e = last e ∙ below.others.above (start + (2 ^ i + e)) (omega arith)
 
-    elements : AreElements f → AreElements h
+    elements : GivesElements f → GivesElements h
     elements fit = run_by_fit (mul c) (start + 2 ^ i) start (2 ^ i) k h (λ v lt. product-lt c v hc lt) scaled (below.fit (above.fit fit))
 
-    -- what was before, from what is after
+    -- the value before, from the one after
     balance : (b e w s l p : ℕ) → bit_xor (bit_xor (bit_xor b e) w) s ≡ bit_xor l p → b ≡ bit_xor l (bit_xor (bit_xor p s) (bit_xor w e))
     balance b e w s l p is =
         sym (ap (λ v. bit_xor v (bit_xor s (bit_xor w e))) (sym is)

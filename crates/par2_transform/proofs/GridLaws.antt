@@ -29,7 +29,7 @@ each_then_two first second third both a b d e one two three join = record {
 
 -- ---- words added to rows
 
--- where row u begins and ends
+-- the first word of row u, and of the row after it
 pub row_after : (u words : ℕ) → suc u * words ≡ u * words + words
 row_after u words = ap (λ v. v * words) (let s : suc u ≡ u + 1 = omega arith in s) ∙ add-mul u 1 words ∙ ap (λ v. u * words + v) (one-mul words)
 
@@ -39,7 +39,7 @@ rows_below u n words h =
     let next : suc u * words ≡ u * words + words = row_after u words in
     omega (arith, fits, next)
 
--- some rows end within the bytes
+-- some rows lie within the bytes
 pub rows_fit : (levels words at n : ℕ) (bytes : List ℕ) → AreRows levels words bytes → at + n ≤ 2 ^ levels → 2 * (at * words + n * words) ≤ length bytes
 rows_fit levels words at n bytes are fits =
     let most : (at + n) * words ≤ 2 ^ levels * words = mul-le-mul_right words fits in
@@ -51,8 +51,8 @@ pub rows_apart : (words from to n : ℕ) → (from + n ≤ to) ⊎ (to + n ≤ f
 rows_apart words from to n (inl before) = inl (let less : (from + n) * words ≤ to * words = mul-le-mul_right words before in let sum : (from + n) * words ≡ from * words + n * words = add-mul from n words in omega (arith, less, sum))
 rows_apart words from to n (inr after) = inr (let less : (to + n) * words ≤ from * words = mul-le-mul_right words after in let sum : (to + n) * words ≡ to * words + n * words = add-mul to n words in omega (arith, less, sum))
 
-word_past : (p : ℕ) (text : List ℕ) → length text ≤ 2 * p → word p text ≡ 0
-word_past p text h = ap₂ (λ a b. a + 256 * b) (get_or_past text (2 * p) 0 h) (get_or_past text (2 * p + 1) 0 (omega arith))
+word_past : (p : ℕ) (bytes : List ℕ) → length bytes ≤ 2 * p → word p bytes ≡ 0
+word_past p bytes h = ap₂ (λ a b. a + 256 * b) (get_or_past bytes (2 * p) 0 h) (get_or_past bytes (2 * p + 1) 0 (omega arith))
 
 -- a word to which nothing is added
 word_kept : (other : ℕ → ℕ) (p half : ℕ) (old new : List ℕ) → length old ≡ 2 * half → AddsTo other old new → other p ≡ 0 → word p new ≡ word p old
@@ -109,7 +109,7 @@ row_added levels words to other old new are low added =
           ∙ ap₂ (λ t p. bit_xor (column (record { levels = levels; words = words; bytes = old }) c t) (other p)) (let e : to + 0 ≡ to = omega arith in e) (let e : 0 * words + c ≡ c = omega arith in e);
     }
 
--- what f makes of some rows, to as many others
+-- f of some rows, added to as many others
 pub run_added : (f : ℕ → ℕ) (levels words at to n : ℕ) (old new : List ℕ) → AreRows levels words old → to + n ≤ 2 ^ levels
     → AddsTo (λ p. within (to * words) (to * words + n * words) p (f (word (at * words + (p - to * words)) old))) old new
     → EachColumn (RunAddedBy f at to n) (record { levels = levels; words = words; bytes = old }) (record { levels = levels; words = words; bytes = new })
@@ -127,7 +127,7 @@ run_added f levels words at to n old new are fits added =
       };
     }
 
--- the same, by the places of their words
+-- the same, by the positions of their words
 pub run_added_at : (f : ℕ → ℕ) (levels words at to n a b m : ℕ) (old new : List ℕ) → AreRows levels words old → to + n ≤ 2 ^ levels → a ≡ at * words → b ≡ to * words → m ≡ n * words
     → AddsTo (λ p. within b (b + m) p (f (word (a + (p - b)) old))) old new
     → EachColumn (RunAddedBy f at to n) (record { levels = levels; words = words; bytes = old }) (record { levels = levels; words = words; bytes = new })
@@ -145,6 +145,6 @@ zero_column grid zeros c u = elim (cases_lt c grid.words) [
   | inr high ↦ within-above 0 grid.words c (word (u * grid.words + c) grid.bytes) high
 ]
 
--- rows whose bytes are written stay as many rows
+-- the shape of rows whose bytes are written is unchanged
 pub kept_rows : (levels words : ℕ) (v : Vec ℕ Global) (old new : List ℕ) → AreRows levels words v.items → old ≡ v.items → length new ≡ length old → length new ≡ v.len → AreRows levels words (with_items v new).items
 kept_rows levels words v old new are is same size = record { few = are.few; count = ap length (with_items_is v new size) ∙ same ∙ ap length is ∙ are.count }

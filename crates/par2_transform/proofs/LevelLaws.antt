@@ -1,19 +1,19 @@
--- From level to level of a transform.
-use Rattle.par2_transform.proofs.Common.{ℕ, suc, ◌+◌, ◌-◌, ◌*◌, ◌/◌, ◌%◌, ◌^◌, ◌<◌, ◌≤◌, ◌≡◌, refl, sym, ap, subst, ◌∙◌, arith, bit_xor, pow_pos, pow-suc, inl, inr, add_assoc, zero-add, zero-mul, add-mul, one-mul, ◌⊎◌, cases_lt, pow-add, xor_comm, xor_lt, pow-le-pow_right, xor_zero_l, xor_self, xor_zero_r, xor_assoc, mul, pow, AreElements, field_sum, zero-product, power-lt, product-one, product_comm, product-lt, field_sum_same, field_sum-lt, xor_off, point, vanishing, member, power_sum, value, from, HoldPowerSums, HoldPolynomials, IsMergedLevel, IsSplitLevel, ComeFrom, AreWeights}
+-- From one level of a transform to the next.
+use Rattle.par2_transform.proofs.Common.{ℕ, suc, ◌+◌, ◌-◌, ◌*◌, ◌/◌, ◌%◌, ◌^◌, ◌<◌, ◌≤◌, ◌≡◌, refl, sym, ap, subst, ◌∙◌, arith, bit_xor, pow_pos, pow-suc, inl, inr, add_assoc, zero-add, zero-mul, add-mul, one-mul, ◌⊎◌, cases_lt, pow-add, xor_comm, xor_lt, pow-le-pow_right, xor_zero_l, xor_self, xor_zero_r, xor_assoc, mul, pow, GivesElements, field_sum, zero-product, power-lt, product-one, product_comm, product-lt, field_sum_same, field_sum-lt, xor_off, point, vanishing, member, power_sum, value, from, HoldPowerSums, HoldPolynomials, IsMergedLevel, IsSplitLevel, ComeFrom, AreWeights}
 use Rattle.std.proofs.Common.{mul-le-mul_right}
 use Rattle.par2_transform.proofs.Subspaces.{point-lt}
 use Rattle.par2_transform.proofs.PowerSums.{first_half, second_half, vanishing_on, point_odd, merged_power_sums}
 
 -- ---- numbers of cosets
 
--- of a pair's cosets
+-- the cosets of a pair
 pairs : (k i q : ℕ) → i < k → q < 2 ^ (k - suc i) → 2 * q + 1 < 2 ^ (k - i)
 pairs k i q h l =
     let e : k - i ≡ suc (k - suc i) = omega arith in
     let p : 2 ^ (k - i) ≡ 2 ^ (k - suc i) * 2 = ap (λ n. 2 ^ n) e ∙ pow-suc 2 (k - suc i) in
     omega arith
 
--- all cosets of a level are within 2 ^ k
+-- all cosets of a level lie within 2 ^ k
 cosets_fit : (k i q : ℕ) → i ≤ k → q < 2 ^ (k - i) → suc q * 2 ^ i ≤ 2 ^ k
 cosets_fit k i q h l =
     let whole : 2 ^ (k - i) * 2 ^ i ≡ 2 ^ k = sym (pow-add 2 (k - i) i) ∙ ap (λ n. 2 ^ n) (let e : k - i + i ≡ k = omega arith in e) in
@@ -39,12 +39,12 @@ cases_parity q = elim (cases_lt (q % 2) 1) [
   | inr odd ↦ inr (q / 2, omega arith)
 ]
 
-pub value-lt : (i : ℕ) (f : ℕ → ℕ) → AreElements f → (x : ℕ) → x < 65536 → value (2 ^ i) f x < 65536
+pub value-lt : (i : ℕ) (f : ℕ → ℕ) → GivesElements f → (x : ℕ) → x < 65536 → value (2 ^ i) f x < 65536
 value-lt i f elements x h = field_sum-lt (2 ^ i) (λ m. mul (f m) (pow x m)) (λ m. product-lt (f m) (pow x m) (elements m) (power-lt x m h))
 
 -- ---- power sums
 
-pub power_sums_begin : (weight : ℕ → ℕ) → AreElements weight → (k : ℕ) (values : ℕ → ℕ) → ((u : ℕ) → u < 2 ^ k → values u ≡ weight u) → HoldPowerSums weight k 0 values
+pub power_sums_begin : (weight : ℕ → ℕ) → GivesElements weight → (k : ℕ) (values : ℕ → ℕ) → ((u : ℕ) → u < 2 ^ k → values u ≡ weight u) → HoldPowerSums weight k 0 values
 unfolding power_sum field_sum pow
 power_sums_begin weight elements k values same q e hq he =
     let none : e ≡ 0 = omega arith in
@@ -54,7 +54,7 @@ power_sums_begin weight elements k values same q e hq he =
     ∙ sym (ap (λ n. field_sum 1 (λ u. mul (weight (member 0 q u)) (pow (point (member 0 q u)) n))) none
     ∙ xor_zero_l _ ∙ product-one (weight (member 0 q 0)) (elements (member 0 q 0)) ∙ ap weight first)
 
-pub power_sums_on : (weight : ℕ → ℕ) → AreElements weight → (k i : ℕ) (split merged : ℕ → ℕ) → k ≤ 16 → i < k
+pub power_sums_on : (weight : ℕ → ℕ) → GivesElements weight → (k i : ℕ) (split merged : ℕ → ℕ) → k ≤ 16 → i < k
     → IsMergedLevel k i split merged → HoldPowerSums weight k i split → HoldPowerSums weight k (suc i) merged
 power_sums_on weight elements k i split merged hk hi level hold q e hq he =
     let two : 2 * q + 1 < 2 ^ (k - i) = pairs k i q hi hq in
@@ -69,7 +69,7 @@ power_sums_end weight k values hold e h =
     let p : 0 < 2 ^ (k - k) = pow_pos (k - k) in
     sym (ap values (zero-mul-add (2 ^ k) e)) ∙ hold 0 e p h
 
--- ---- weights for certain power sums
+-- ---- weights that have given power sums
 
 pub come_from_themselves : (k : ℕ) (sums : ℕ → ℕ) → ComeFrom k k sums sums
 come_from_themselves k sums = record { back = λ weight elements hold. power_sums_end weight k sums hold }
@@ -89,7 +89,7 @@ polynomials_begin whole values k same q u hq hu =
     field_sum_same (2 ^ k) (λ m. mul (values (q * 2 ^ k + m)) (pow x m)) (λ m. mul (whole m) (pow x m))
     (λ m h. ap (λ v. mul v (pow x m)) (ap (λ n. values (n * 2 ^ k + m)) none ∙ ap values (zero-mul-add (2 ^ k) m) ∙ same m h))
 
-pub polynomials_end : (whole values : ℕ → ℕ) → AreElements values → (k : ℕ) → HoldPolynomials whole k 0 values → (u : ℕ) → u < 2 ^ k → values u ≡ value (2 ^ k) whole (point u)
+pub polynomials_end : (whole values : ℕ → ℕ) → GivesElements values → (k : ℕ) → HoldPolynomials whole k 0 values → (u : ℕ) → u < 2 ^ k → values u ≡ value (2 ^ k) whole (point u)
 unfolding field_sum pow
 polynomials_end whole values elements k hold u h =
     let place : u * 2 ^ 0 + 0 ≡ u = omega arith in
@@ -97,7 +97,7 @@ polynomials_end whole values elements k hold u h =
     sym (xor_zero_l _ ∙ product-one (values (u * 2 ^ 0 + 0)) (elements (u * 2 ^ 0 + 0)) ∙ ap values place)
     ∙ hold u 0 (subst (λ n. u < 2 ^ n) (sym all) h) (omega arith) ∙ ap (λ n. value (2 ^ k) whole (point n)) place
 
-pub polynomials_on : (whole old new : ℕ → ℕ) → AreElements new → (k i : ℕ) → k ≤ 16 → i < k
+pub polynomials_on : (whole old new : ℕ → ℕ) → GivesElements new → (k i : ℕ) → k ≤ 16 → i < k
     → IsSplitLevel k i old new → HoldPolynomials whole k (suc i) old → HoldPolynomials whole k i new
 polynomials_on whole old new elements k i hk hi level hold q u hq hu = elim (cases_parity q) [
   | inl even ↦
@@ -119,7 +119,7 @@ polynomials_on whole old new elements k i hk hi level hold q u hq hu = elim (cas
     high : ℕ → ℕ → ℕ
     high p x = value (2 ^ i) (from (2 ^ i) (from (place p) new)) x
 
-    -- the value that the run of both had
+    -- the value of the run before it was split
     before : (p n : ℕ) → p < 2 ^ (k - suc i) → n < 2 ^ suc i → value (2 ^ suc i) (from (place p) old) (point (place p + n)) ≡ value (2 ^ k) whole (point (place p + n))
     before p n l h = hold p n l h
 
@@ -165,8 +165,8 @@ polynomials_on whole old new elements k i hk hi level hold q u hq hu = elim (cas
         ∙ ap (bit_xor (low p x)) once ∙ sym (xor_assoc (low p x) (low p x) (high p x)) ∙ ap (λ v. bit_xor v (high p x)) (xor_self (low p x)) ∙ xor_zero_l (high p x))
         ∙ ap (λ n. value (2 ^ suc i) (from (place p) old) (point n)) (sym at) ∙ before p (2 ^ i + u) l inside ∙ ap (λ n. value (2 ^ k) whole (point n)) at
 
--- weights that came from values have them as power sums
-pub are_weights : (k : ℕ) (sums weight : ℕ → ℕ) → AreElements weight → ComeFrom k 0 sums weight
+-- weights that come from values have the values as power sums
+pub are_weights : (k : ℕ) (sums weight : ℕ → ℕ) → GivesElements weight → ComeFrom k 0 sums weight
     → (sequence : ℕ → ℕ) (b : ℕ) → ((e : ℕ) → e < 2 ^ k → sums e ≡ sequence (b + e)) → AreWeights k sequence b weight
 unfolding power_sum
 are_weights k sums weight elements come sequence b same e h =

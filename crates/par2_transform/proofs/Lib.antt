@@ -4,9 +4,9 @@ mod Subspaces
 mod PowerSums
 mod LevelLaws
 mod Chirps
-mod SparedSums
+mod CoprimeSums
 mod Transforms
-mod TextLaws
+mod BufferLaws
 mod StepLaws
 mod Divisions
 mod CosetLaws
@@ -22,4 +22,4 @@ mod OutputLaws
 mod LocatorLaws
 mod ColumnLaws
 pub mod GroupLaws
-pub mod WholeTexts
+pub mod WholeBuffers

@@ -1,5 +1,5 @@
 -- Sums of sources by the error locator.
-use Rattle.par2_transform.proofs.Common.{inl, inr, ℕ, ◌+◌, ◌-◌, ◌*◌, ◌%◌, ◌^◌, ◌<◌, ◌≤◌, ◌≡◌, sym, ap, ap₂, subst, ◌∙◌, arith, bit_xor, zero-add, add-mul, one-mul, List, length, min, get_or, slice_index, get_or_past, length-map, pow-le-pow_right, point_number, cases_eq, cases_lt, pow-add, mul-le-mul_right, word, xor_zero_l, mul, pow, AreElements, product-lt, product_comm, product-one, product_assoc, product_linear_left, zero-product, power-lt, word-lt, field_sum, field_sum-lt, field_sum_same, field_sum_scaled, within, AddsAt, RowsGathered, AreBytes, words_at, list_at, AreValues, AreWeights, value, from, Grid, column, IsAdded, EachColumn, ArePowerSums, power_sum, point, IsListed, AreListedValues, AreNumbered, AreNumerators, AreValuesOf, HaveFirst, IsWeighed, in_coset, numerator, quotient_sum, Place}
+use Rattle.par2_transform.proofs.Common.{inl, inr, ℕ, ◌+◌, ◌-◌, ◌*◌, ◌%◌, ◌^◌, ◌<◌, ◌≤◌, ◌≡◌, sym, ap, ap₂, subst, ◌∙◌, arith, bit_xor, zero-add, add-mul, one-mul, List, length, min, get_or, slice_index, get_or_past, length-map, pow-le-pow_right, point_number, cases_eq, cases_lt, pow-add, mul-le-mul_right, word, xor_zero_l, mul, pow, GivesElements, product-lt, product_comm, product-one, product_assoc, product_linear_left, zero-product, power-lt, word-lt, field_sum, field_sum-lt, field_sum_same, field_sum_scaled, within, AddsAt, RowsGathered, AreByteLists, words_at, list_at, AreValues, AreWeights, value, from, Grid, column, IsAdded, EachColumn, ArePowerSums, power_sum, point, IsListed, AreListedValues, AreNumbered, AreNumerators, AreValuesOf, HaveFirst, IsWeighed, in_coset, numerator, quotient_sum, Place}
 use Rattle.std.proofs.Common.{map}
 use Rattle.std.proofs.lemmas.List.{get_or-map}
 use Rattle.par2_transform.proofs.AddingLaws.{adds_none, adds_more, adds_same, within-in, within-below, within-above, within_joined, within_same}
@@ -9,16 +9,16 @@ use Rattle.par2_transform.proofs.Subspaces.{point_number-lt, point_of_number}
 use Rattle.par2_transform.proofs.Sums.{field_sum_swap, field_sum_linear}
 use Rattle.par2_transform.proofs.WindowLaws.{field_sum_short}
 
--- ---- what a locator has
+-- ---- the parts of a locator
 
 pub shifted_most : (i : ℕ) → i ≤ 16 → 1 * 2 ^ i % 18446744073709551616 ≡ 2 ^ i
 shifted_most i few =
     let most : 2 ^ i ≤ 2 ^ 16 = pow-le-pow_right (let two : 0 < 2 = omega arith in two) few in
     omega (arith, most)
 
-pub numbered_by : (points read numbers told next : List ℕ) → AreElements (slice_index points) → read ≡ points → numbers ≡ map point_number read → told ≡ numbers → length next ≡ 65536
-    → ((j : ℕ) → j < length told → IsListed (slice_index next) (get_or told j 0)) → AreNumbered points numbers next
-numbered_by points read numbers told next fit read_is are told_is places listed = record {
+pub numbered_by : (points read numbers reported next : List ℕ) → GivesElements (slice_index points) → read ≡ points → numbers ≡ map point_number read → reported ≡ numbers → length next ≡ 65536
+    → ((j : ℕ) → j < length reported → IsListed (slice_index next) (get_or reported j 0)) → AreNumbered points numbers next
+numbered_by points read numbers reported next fit read_is are reported_is places listed = record {
   count = count;
   small = λ j. elim (cases_lt j (length points)) [
     | inl low ↦ subst (λ x. x < 65536) (sym (number_is j low)) (point_number-lt (get_or points j 0))
@@ -26,7 +26,7 @@ numbered_by points read numbers told next fit read_is are told_is places listed 
   ];
   places = places;
   points_are = λ j low. ap point (number_is j low) ∙ point_of_number (get_or points j 0) (fit j);
-  listed = λ j low. subst (λ xs. IsListed (slice_index next) (get_or xs j 0)) told_is (listed j (let same = ap (λ (xs : List ℕ). length xs) told_is in omega (arith, low, count, same)));
+  listed = λ j low. subst (λ xs. IsListed (slice_index next) (get_or xs j 0)) reported_is (listed j (let same = ap (λ (xs : List ℕ). length xs) reported_is in omega (arith, low, count, same)));
 }
   where
     are_points : numbers ≡ map point_number points
@@ -38,10 +38,10 @@ numbered_by points read numbers told next fit read_is are told_is places listed 
     number_is : (j : ℕ) → j < length points → get_or numbers j 0 ≡ point_number (get_or points j 0)
     number_is j low = ap (λ xs. get_or xs j 0) are_points ∙ get_or-map point_number points j 0 0 low
 
-pub weighed_by : (k : ℕ) (sequence all told weights : List ℕ) → told ≡ all → length all ≡ 2 ^ k → ((i : ℕ) → i < 2 ^ k → get_or all i 0 ≡ get_or sequence i 0)
-    → length weights ≡ length told → AreElements (slice_index weights)
-    → ((given : ℕ → ℕ) (b : ℕ) → ((e : ℕ) → e < 2 ^ k → get_or told e 0 ≡ given (b + e)) → AreWeights k given b (slice_index weights)) → IsWeighed k sequence weights
-weighed_by k sequence all told weights is count each size fit are = record {
+pub weighed_by : (k : ℕ) (sequence all reported weights : List ℕ) → reported ≡ all → length all ≡ 2 ^ k → ((i : ℕ) → i < 2 ^ k → get_or all i 0 ≡ get_or sequence i 0)
+    → length weights ≡ length reported → GivesElements (slice_index weights)
+    → ((given : ℕ → ℕ) (b : ℕ) → ((e : ℕ) → e < 2 ^ k → get_or reported e 0 ≡ given (b + e)) → AreWeights k given b (slice_index weights)) → IsWeighed k sequence weights
+weighed_by k sequence all reported weights is count each size fit are = record {
   count = size ∙ ap (λ (xs : List ℕ). length xs) is ∙ count;
   fit = fit;
   are = are (slice_index sequence) 0 (λ e low. ap (λ xs. get_or xs e 0) is ∙ each e low ∙ ap (λ m. get_or sequence m 0) (sym (zero-add e)));
@@ -69,10 +69,10 @@ next_first given i other old mid new so_far added is = record {
 pub one_times : (x : ℕ) → x < 65536 → mul 1 x ≡ x
 one_times x h = product_comm 1 x (omega arith) h ∙ product-one x h
 
-pub words_at-lt : (sources : List (List ℕ)) (p : ℕ) → AreBytes sources → AreElements (words_at sources p)
+pub words_at-lt : (sources : List (List ℕ)) (p : ℕ) → AreByteLists sources → GivesElements (words_at sources p)
 words_at-lt sources p bytes i = word-lt (list_at sources i) p (bytes i)
 
--- a value whose further coefficients are 0
+-- the value of a polynomial whose further coefficients are 0
 short_value : (n k : ℕ) (f g : ℕ → ℕ) (x : ℕ) → n ≤ 2 ^ k → ((m : ℕ) → m < n → f m ≡ g m) → ((m : ℕ) → n ≤ m → f m ≡ 0) → value (2 ^ k) f x ≡ value n g x
 short_value n k f g x fits same none =
     field_sum_short n (2 ^ k) (λ m. mul (f m) (pow x m)) fits (λ m h. ap (λ v. mul v (pow x m)) (none m h) ∙ zero-product (pow x m))
@@ -81,7 +81,7 @@ short_value n k f g x fits same none =
 -- ---- numerators
 
 pub numerators_are : (sequence weights : List ℕ) (sources : List (List ℕ)) (k at : ℕ) (rows filled values sums cleared gathered new : Grid)
-    → length sources ≡ length sequence → 2 * length sequence ≤ 2 ^ k → AreBytes sources → IsWeighed k sequence weights
+    → length sources ≡ length sequence → 2 * length sequence ≤ 2 ^ k → AreByteLists sources → IsWeighed k sequence weights
     → rows.levels ≡ k → sums.levels ≡ k → rows.words ≡ sums.words
     → HaveFirst (length sources) (λ c s. words_at sources (at + c) s) rows filled → EachColumn (AreValues filled.levels) filled values
     → cleared.levels ≡ sums.levels → cleared.words ≡ sums.words → ((c u : ℕ) → column cleared c u ≡ 0)
@@ -141,13 +141,13 @@ values_of next k coset n sums old mid new fits levels have values = record {
 
 -- ---- the product, by the numerator's values
 
-pub by_numerator : (n b x : ℕ) (h w : ℕ → ℕ) → b < 65536 → x < 65536 → AreElements h → AreElements w
+pub by_numerator : (n b x : ℕ) (h w : ℕ → ℕ) → b < 65536 → x < 65536 → GivesElements h → GivesElements w
     → mul b (value n (λ t. field_sum n (λ s. mul (h (s + t)) (w s))) x) ≡ field_sum n (λ s. mul (mul b (value n (from s h) x)) (w s))
 by_numerator n b x h w hb hx hh hw =
     ap (mul b)
     (field_sum_same n (λ t. mul (field_sum n (λ s. mul (h (s + t)) (w s))) (pow x t)) (λ t. field_sum n (λ s. mul (mul (h (s + t)) (pow x t)) (w s)))
     (λ t l. sym (field_sum_linear n (λ v. mul v (pow x t)) (λ s. mul (h (s + t)) (w s)) (product_linear_left (pow x t)))
-    ∙ field_sum_same n (λ s. mul (mul (h (s + t)) (w s)) (pow x t)) (λ s. mul (mul (h (s + t)) (pow x t)) (w s)) (λ s m. turn (h (s + t)) (w s) (pow x t) (hh (s + t)) (hw s) (power-lt x t hx)))
+    ∙ field_sum_same n (λ s. mul (mul (h (s + t)) (w s)) (pow x t)) (λ s. mul (mul (h (s + t)) (pow x t)) (w s)) (λ s m. step (h (s + t)) (w s) (pow x t) (hh (s + t)) (hw s) (power-lt x t hx)))
     ∙ field_sum_swap n n (λ t s. mul (mul (h (s + t)) (pow x t)) (w s))
     ∙ field_sum_same n (λ s. field_sum n (λ t. mul (mul (h (s + t)) (pow x t)) (w s))) (λ s. mul (value n (from s h) x) (w s))
     (λ s l. field_sum_linear n (λ v. mul v (w s)) (λ t. mul (h (s + t)) (pow x t)) (product_linear_left (w s))))
@@ -155,12 +155,12 @@ by_numerator n b x h w hb hx hh hw =
     ∙ field_sum_same n (λ s. mul b (mul (value n (from s h) x) (w s))) (λ s. mul (mul b (value n (from s h) x)) (w s))
     (λ s l. sym (product_assoc b (value n (from s h) x) (w s) hb (field_sum-lt n (λ t. mul (h (s + t)) (pow x t)) (λ t. product-lt (h (s + t)) (pow x t) (hh (s + t)) (power-lt x t hx))) (hw s)))
   where
-    turn : (a v p : ℕ) → a < 65536 → v < 65536 → p < 65536 → mul (mul a v) p ≡ mul (mul a p) v
-    turn a v p ha hv hp = product_assoc a v p ha hv hp ∙ ap (mul a) (product_comm v p hv hp) ∙ sym (product_assoc a p v ha hp hv)
+    step : (a v p : ℕ) → a < 65536 → v < 65536 → p < 65536 → mul (mul a v) p ≡ mul (mul a p) v
+    step a v p ha hv hp = product_assoc a v p ha hv hp ∙ ap (mul a) (product_comm v p hv hp) ∙ sym (product_assoc a p v ha hp hv)
 
--- what a point's value gives to its output
+-- the addition of a point's value to its output
 pub given_is : (sequence points factors numbers next : List ℕ) (sources : List (List ℕ)) (k coset at : ℕ) (sums old rows : Grid)
-    → AreBytes sources → AreElements (slice_index sequence) → AreElements (slice_index points) → AreElements (slice_index factors) → AreNumbered points numbers next
+    → AreByteLists sources → GivesElements (slice_index sequence) → GivesElements (slice_index points) → GivesElements (slice_index factors) → AreNumbered points numbers next
     → AreValuesOf next k coset (length sequence) sums old rows → sums.words ≡ old.words
     → ((c t : ℕ) → c < sums.words → t < length sequence → column sums c t ≡ numerator sequence (words_at sources (at + c)) t)
     → (j p : ℕ) → j < length points → at ≤ p → p < at + old.words → coset * 2 ^ k ≤ get_or numbers j 0 → get_or numbers j 0 < coset * 2 ^ k + 2 ^ k
@@ -199,7 +199,7 @@ given_is sequence points factors numbers next sources k coset at sums old rows b
 
 -- ---- one point
 
--- a coset is within all points
+-- a coset lies within all points
 pub coset_fits : (k coset : ℕ) → k ≤ 16 → coset < 2 ^ (16 - k) → coset * 2 ^ k + 2 ^ k ≤ 65536
 coset_fits k coset few low =
     let more : (coset + 1) * 2 ^ k ≤ 2 ^ (16 - k) * 2 ^ k = mul-le-mul_right (2 ^ k) (let s : coset + 1 ≤ 2 ^ (16 - k) = omega (arith, low) in s) in
@@ -216,50 +216,50 @@ within_zero from to p x is = ap (within from to p) is ∙ (elim (cases_lt p from
   | inr at_least ↦ elim (cases_lt p to) [ inl here ↦ within-in from to p 0 at_least here | inr above ↦ within-above from to p 0 above ]
 ])
 
-pub point_before : (places : List Place) (len : ℕ) (numbers : List ℕ) (k coset j : ℕ) (given : ℕ → ℕ) (texts : List (List ℕ)) → get_or numbers j 0 < coset * 2 ^ k
-    → AddsAt places len (λ t p. within j (j + 1) t (in_coset numbers k coset j (given p))) texts texts
-point_before places len numbers k coset j given texts before =
-    adds_none places len (λ t p. within j (j + 1) t (in_coset numbers k coset j (given p))) texts
+pub point_before : (places : List Place) (len : ℕ) (numbers : List ℕ) (k coset j : ℕ) (given : ℕ → ℕ) (buffers : List (List ℕ)) → get_or numbers j 0 < coset * 2 ^ k
+    → AddsAt places len (λ t p. within j (j + 1) t (in_coset numbers k coset j (given p))) buffers buffers
+point_before places len numbers k coset j given buffers before =
+    adds_none places len (λ t p. within j (j + 1) t (in_coset numbers k coset j (given p))) buffers
     (λ t p. within_zero j (j + 1) t (in_coset numbers k coset j (given p)) (within-below (coset * 2 ^ k) (coset * 2 ^ k + 2 ^ k) (get_or numbers j 0) (given p) before))
 
-pub point_behind : (places : List Place) (len : ℕ) (numbers : List ℕ) (k coset j : ℕ) (given : ℕ → ℕ) (texts : List (List ℕ)) → coset * 2 ^ k + 2 ^ k ≤ get_or numbers j 0
-    → AddsAt places len (λ t p. within j (j + 1) t (in_coset numbers k coset j (given p))) texts texts
-point_behind places len numbers k coset j given texts behind =
-    adds_none places len (λ t p. within j (j + 1) t (in_coset numbers k coset j (given p))) texts
+pub point_behind : (places : List Place) (len : ℕ) (numbers : List ℕ) (k coset j : ℕ) (given : ℕ → ℕ) (buffers : List (List ℕ)) → coset * 2 ^ k + 2 ^ k ≤ get_or numbers j 0
+    → AddsAt places len (λ t p. within j (j + 1) t (in_coset numbers k coset j (given p))) buffers buffers
+point_behind places len numbers k coset j given buffers behind =
+    adds_none places len (λ t p. within j (j + 1) t (in_coset numbers k coset j (given p))) buffers
     (λ t p. within_zero j (j + 1) t (in_coset numbers k coset j (given p)) (within-above (coset * 2 ^ k) (coset * 2 ^ k + 2 ^ k) (get_or numbers j 0) (given p) behind))
 
-pub point_taken : (places : List Place) (len : ℕ) (numbers : List ℕ) (k coset j at to c b u : ℕ) (row : List ℕ) (rows : Grid) (was texts : List (List ℕ)) → c ≡ b → ((q : ℕ) → word q row ≡ column rows q u)
+pub point_taken : (places : List Place) (len : ℕ) (numbers : List ℕ) (k coset j at to c b u : ℕ) (row : List ℕ) (rows : Grid) (was buffers : List (List ℕ)) → c ≡ b → ((q : ℕ) → word q row ≡ column rows q u)
     → u ≡ get_or numbers j 0 - coset * 2 ^ k → coset * 2 ^ k ≤ get_or numbers j 0 → get_or numbers j 0 < coset * 2 ^ k + 2 ^ k
-    → AddsAt places len (λ t p. within j (j + 1) t (within at to p (mul c (word (p - at) row)))) was texts
-    → AddsAt places len (λ t p. within j (j + 1) t (in_coset numbers k coset j (within at to p (mul b (column rows (p - at) (get_or numbers j 0 - coset * 2 ^ k)))))) was texts
-point_taken places len numbers k coset j at to c b u row rows was texts factor words place first last added =
+    → AddsAt places len (λ t p. within j (j + 1) t (within at to p (mul c (word (p - at) row)))) was buffers
+    → AddsAt places len (λ t p. within j (j + 1) t (in_coset numbers k coset j (within at to p (mul b (column rows (p - at) (get_or numbers j 0 - coset * 2 ^ k)))))) was buffers
+point_taken places len numbers k coset j at to c b u row rows was buffers factor words place first last added =
     adds_same places len (λ t p. within j (j + 1) t (within at to p (mul c (word (p - at) row))))
-    (λ t p. within j (j + 1) t (in_coset numbers k coset j (within at to p (mul b (column rows (p - at) (get_or numbers j 0 - coset * 2 ^ k)))))) was texts added
+    (λ t p. within j (j + 1) t (in_coset numbers k coset j (within at to p (mul b (column rows (p - at) (get_or numbers j 0 - coset * 2 ^ k)))))) was buffers added
     (λ t p h fits. ap (within j (j + 1) t)
     (ap (within at to p) (ap₂ mul factor (words (p - at) ∙ ap (column rows (p - at)) place))
     ∙ sym (within-in (coset * 2 ^ k) (coset * 2 ^ k + 2 ^ k) (get_or numbers j 0) (within at to p (mul b (column rows (p - at) (get_or numbers j 0 - coset * 2 ^ k)))) first last)))
 
 -- ---- outputs, point by point
 
--- the first n points of a coset were taken
+-- the first n points of a coset have been added
 abbrev pub PointsAdded : List Place → ℕ → List ℕ → ℕ → ℕ → ℕ → ℕ → (ℕ → ℕ → ℕ) → ℕ → List (List ℕ) → List (List ℕ) → Type 0
-PointsAdded places len numbers k coset at to given n was texts =
-    AddsAt places len (λ t p. within 0 n t (in_coset numbers k coset t (within at to p (given t p)))) was texts
+PointsAdded places len numbers k coset at to given n was buffers =
+    AddsAt places len (λ t p. within 0 n t (in_coset numbers k coset t (within at to p (given t p)))) was buffers
 
 none_within : (x t : ℕ) → within 0 0 t x ≡ 0
 none_within x t = within-above 0 0 t x (omega arith)
 
-pub no_point : (places : List Place) (len : ℕ) (numbers : List ℕ) (k coset at to : ℕ) (given : ℕ → ℕ → ℕ) (texts : List (List ℕ)) → PointsAdded places len numbers k coset at to given 0 texts texts
-no_point places len numbers k coset at to given texts =
-    adds_none places len (λ t p. within 0 0 t (in_coset numbers k coset t (within at to p (given t p)))) texts (λ t p. none_within (in_coset numbers k coset t (within at to p (given t p))) t)
+pub no_point : (places : List Place) (len : ℕ) (numbers : List ℕ) (k coset at to : ℕ) (given : ℕ → ℕ → ℕ) (buffers : List (List ℕ)) → PointsAdded places len numbers k coset at to given 0 buffers buffers
+no_point places len numbers k coset at to given buffers =
+    adds_none places len (λ t p. within 0 0 t (in_coset numbers k coset t (within at to p (given t p)))) buffers (λ t p. none_within (in_coset numbers k coset t (within at to p (given t p))) t)
 
-pub next_point : (places : List Place) (len : ℕ) (numbers : List ℕ) (k coset at to n : ℕ) (given other : ℕ → ℕ → ℕ) (was half texts : List (List ℕ))
+pub next_point : (places : List Place) (len : ℕ) (numbers : List ℕ) (k coset at to n : ℕ) (given other : ℕ → ℕ → ℕ) (was half buffers : List (List ℕ))
     → PointsAdded places len numbers k coset at to given n was half
-    → AddsAt places len (λ t p. within n (n + 1) t (in_coset numbers k coset n (within at to p (other n p)))) half texts
+    → AddsAt places len (λ t p. within n (n + 1) t (in_coset numbers k coset n (within at to p (other n p)))) half buffers
     → ((p : ℕ) → at ≤ p → p < to → coset * 2 ^ k ≤ get_or numbers n 0 → get_or numbers n 0 < coset * 2 ^ k + 2 ^ k → other n p ≡ given n p)
-    → PointsAdded places len numbers k coset at to given (n + 1) was texts
-next_point places len numbers k coset at to n given other was half texts so_far added same =
-    adds_more places len (λ t p. within 0 n t (part t p)) (λ t p. within n (n + 1) t (in_coset numbers k coset n (within at to p (other n p)))) (λ t p. within 0 (n + 1) t (part t p)) was half texts so_far added
+    → PointsAdded places len numbers k coset at to given (n + 1) was buffers
+next_point places len numbers k coset at to n given other was half buffers so_far added same =
+    adds_more places len (λ t p. within 0 n t (part t p)) (λ t p. within n (n + 1) t (in_coset numbers k coset n (within at to p (other n p)))) (λ t p. within 0 (n + 1) t (part t p)) was half buffers so_far added
     (λ t p h fits.
     ap (bit_xor (within 0 n t (part t p)))
     (within_same n (n + 1) t (in_coset numbers k coset n (within at to p (other n p))) (part t p) (λ low high.
@@ -271,28 +271,28 @@ next_point places len numbers k coset at to n given other was half texts so_far 
     part : ℕ → ℕ → ℕ
     part t p = in_coset numbers k coset t (within at to p (given t p))
 
-pub all_points : (places : List Place) (len : ℕ) (numbers : List ℕ) (k coset at to n : ℕ) (given : ℕ → ℕ → ℕ) (was texts : List (List ℕ)) → length places ≡ n → PointsAdded places len numbers k coset at to given n was texts
-    → AddsAt places len (λ t p. in_coset numbers k coset t (within at to p (given t p))) was texts
-all_points places len numbers k coset at to n given was texts count added =
-    adds_same places len (λ t p. within 0 n t (in_coset numbers k coset t (within at to p (given t p)))) (λ t p. in_coset numbers k coset t (within at to p (given t p))) was texts added
+pub all_points : (places : List Place) (len : ℕ) (numbers : List ℕ) (k coset at to n : ℕ) (given : ℕ → ℕ → ℕ) (was buffers : List (List ℕ)) → length places ≡ n → PointsAdded places len numbers k coset at to given n was buffers
+    → AddsAt places len (λ t p. in_coset numbers k coset t (within at to p (given t p))) was buffers
+all_points places len numbers k coset at to n given was buffers count added =
+    adds_same places len (λ t p. within 0 n t (in_coset numbers k coset t (within at to p (given t p)))) (λ t p. in_coset numbers k coset t (within at to p (given t p))) was buffers added
     (λ t p h fits. within-in 0 n t (in_coset numbers k coset t (within at to p (given t p))) (omega arith) (omega (arith, h, count)))
 
 -- ---- coset by coset
 
--- the first n cosets were taken
+-- the first n cosets have been added
 abbrev pub CosetsAdded : List Place → ℕ → List ℕ → ℕ → ℕ → ℕ → (ℕ → ℕ → ℕ) → ℕ → List (List ℕ) → List (List ℕ) → Type 0
-CosetsAdded places len numbers k at to given n was texts =
-    AddsAt places len (λ t p. within 0 (n * 2 ^ k) (get_or numbers t 0) (within at to p (given t p))) was texts
+CosetsAdded places len numbers k at to given n was buffers =
+    AddsAt places len (λ t p. within 0 (n * 2 ^ k) (get_or numbers t 0) (within at to p (given t p))) was buffers
 
-pub no_coset : (places : List Place) (len : ℕ) (numbers : List ℕ) (k at to : ℕ) (given : ℕ → ℕ → ℕ) (texts : List (List ℕ)) → CosetsAdded places len numbers k at to given 0 texts texts
-no_coset places len numbers k at to given texts =
-    adds_none places len (λ t p. within 0 (0 * 2 ^ k) (get_or numbers t 0) (within at to p (given t p))) texts (λ t p. within-above 0 (0 * 2 ^ k) (get_or numbers t 0) (within at to p (given t p)) (omega arith))
+pub no_coset : (places : List Place) (len : ℕ) (numbers : List ℕ) (k at to : ℕ) (given : ℕ → ℕ → ℕ) (buffers : List (List ℕ)) → CosetsAdded places len numbers k at to given 0 buffers buffers
+no_coset places len numbers k at to given buffers =
+    adds_none places len (λ t p. within 0 (0 * 2 ^ k) (get_or numbers t 0) (within at to p (given t p))) buffers (λ t p. within-above 0 (0 * 2 ^ k) (get_or numbers t 0) (within at to p (given t p)) (omega arith))
 
-pub next_coset : (places : List Place) (len : ℕ) (numbers : List ℕ) (k at to n : ℕ) (given : ℕ → ℕ → ℕ) (was half texts : List (List ℕ)) → CosetsAdded places len numbers k at to given n was half
-    → AddsAt places len (λ t p. in_coset numbers k n t (within at to p (given t p))) half texts → CosetsAdded places len numbers k at to given (n + 1) was texts
-next_coset places len numbers k at to n given was half texts so_far added =
+pub next_coset : (places : List Place) (len : ℕ) (numbers : List ℕ) (k at to n : ℕ) (given : ℕ → ℕ → ℕ) (was half buffers : List (List ℕ)) → CosetsAdded places len numbers k at to given n was half
+    → AddsAt places len (λ t p. in_coset numbers k n t (within at to p (given t p))) half buffers → CosetsAdded places len numbers k at to given (n + 1) was buffers
+next_coset places len numbers k at to n given was half buffers so_far added =
     let end : n * 2 ^ k + 2 ^ k ≡ (n + 1) * 2 ^ k = sym (add-mul n 1 (2 ^ k) ∙ ap (λ m. n * 2 ^ k + m) (one-mul (2 ^ k))) in
-    adds_more places len (λ t p. within 0 (n * 2 ^ k) (get_or numbers t 0) (part t p)) (λ t p. in_coset numbers k n t (part t p)) (λ t p. within 0 ((n + 1) * 2 ^ k) (get_or numbers t 0) (part t p)) was half texts so_far added
+    adds_more places len (λ t p. within 0 (n * 2 ^ k) (get_or numbers t 0) (part t p)) (λ t p. in_coset numbers k n t (part t p)) (λ t p. within 0 ((n + 1) * 2 ^ k) (get_or numbers t 0) (part t p)) was half buffers so_far added
     (λ t p h fits.
     within_joined 0 (n * 2 ^ k) (n * 2 ^ k + 2 ^ k) (get_or numbers t 0) (part t p) (omega arith) (omega arith)
     ∙ ap (λ m. within 0 m (get_or numbers t 0) (part t p)) end)
@@ -300,35 +300,35 @@ next_coset places len numbers k at to n given was half texts so_far added =
     part : ℕ → ℕ → ℕ
     part t p = within at to p (given t p)
 
-pub all_cosets : (places : List Place) (len : ℕ) (numbers : List ℕ) (k at to n : ℕ) (given : ℕ → ℕ → ℕ) (was texts : List (List ℕ)) → k ≤ 16 → n ≡ 2 ^ (16 - k) → ((t : ℕ) → get_or numbers t 0 < 65536)
-    → CosetsAdded places len numbers k at to given n was texts → AddsAt places len (λ t p. within at to p (given t p)) was texts
-all_cosets places len numbers k at to n given was texts few is small added =
+pub all_cosets : (places : List Place) (len : ℕ) (numbers : List ℕ) (k at to n : ℕ) (given : ℕ → ℕ → ℕ) (was buffers : List (List ℕ)) → k ≤ 16 → n ≡ 2 ^ (16 - k) → ((t : ℕ) → get_or numbers t 0 < 65536)
+    → CosetsAdded places len numbers k at to given n was buffers → AddsAt places len (λ t p. within at to p (given t p)) was buffers
+all_cosets places len numbers k at to n given was buffers few is small added =
     let whole : n * 2 ^ k ≡ 65536 = ap (λ m. m * 2 ^ k) is ∙ sym (pow-add 2 (16 - k) k) ∙ ap (λ m. 2 ^ m) (let e : 16 - k + k ≡ 16 = omega (arith, few) in e) in
-    adds_same places len (λ t p. within 0 (n * 2 ^ k) (get_or numbers t 0) (within at to p (given t p))) (λ t p. within at to p (given t p)) was texts added
+    adds_same places len (λ t p. within 0 (n * 2 ^ k) (get_or numbers t 0) (within at to p (given t p))) (λ t p. within at to p (given t p)) was buffers added
     (λ t p h fits. within-in 0 (n * 2 ^ k) (get_or numbers t 0) (within at to p (given t p)) (omega arith) (omega (arith, whole, small t)))
 
 -- ---- columns by columns
 
 abbrev pub WordsAdded : List Place → ℕ → ℕ → (ℕ → ℕ → ℕ) → ℕ → List (List ℕ) → List (List ℕ) → Type 0
-WordsAdded places len columns given n was texts = AddsAt places len (λ t p. within 0 (min len (n * columns)) p (given t p)) was texts
+WordsAdded places len columns given n was buffers = AddsAt places len (λ t p. within 0 (min len (n * columns)) p (given t p)) was buffers
 
-pub no_words : (places : List Place) (len columns : ℕ) (given : ℕ → ℕ → ℕ) (texts : List (List ℕ)) → WordsAdded places len columns given 0 texts texts
-no_words places len columns given texts =
-    adds_none places len (λ t p. within 0 (min len (0 * columns)) p (given t p)) texts (λ t p. within-above 0 (min len (0 * columns)) p (given t p) (omega arith))
+pub no_words : (places : List Place) (len columns : ℕ) (given : ℕ → ℕ → ℕ) (buffers : List (List ℕ)) → WordsAdded places len columns given 0 buffers buffers
+no_words places len columns given buffers =
+    adds_none places len (λ t p. within 0 (min len (0 * columns)) p (given t p)) buffers (λ t p. within-above 0 (min len (0 * columns)) p (given t p) (omega arith))
 
-pub next_words : (places : List Place) (len columns n to : ℕ) (given : ℕ → ℕ → ℕ) (was half texts : List (List ℕ)) → WordsAdded places len columns given n was half → n * columns < len → to ≡ n * columns + min columns (len - n * columns)
-    → AddsAt places len (λ t p. within (n * columns) to p (given t p)) half texts → WordsAdded places len columns given (n + 1) was texts
-next_words places len columns n to given was half texts so_far low place added =
+pub next_words : (places : List Place) (len columns n to : ℕ) (given : ℕ → ℕ → ℕ) (was half buffers : List (List ℕ)) → WordsAdded places len columns given n was half → n * columns < len → to ≡ n * columns + min columns (len - n * columns)
+    → AddsAt places len (λ t p. within (n * columns) to p (given t p)) half buffers → WordsAdded places len columns given (n + 1) was buffers
+next_words places len columns n to given was half buffers so_far low place added =
     let here : min len (n * columns) ≡ n * columns = omega (arith, low) in
     let next : (n + 1) * columns ≡ n * columns + columns = omega arith in
     let there : to ≡ min len ((n + 1) * columns) = omega (arith, place, next, low) in
-    adds_more places len (λ t p. within 0 (min len (n * columns)) p (given t p)) (λ t p. within (n * columns) to p (given t p)) (λ t p. within 0 (min len ((n + 1) * columns)) p (given t p)) was half texts so_far added
+    adds_more places len (λ t p. within 0 (min len (n * columns)) p (given t p)) (λ t p. within (n * columns) to p (given t p)) (λ t p. within 0 (min len ((n + 1) * columns)) p (given t p)) was half buffers so_far added
     (λ t p h fits.
     ap (λ m. bit_xor (within 0 m p (given t p)) (within (n * columns) to p (given t p))) here
     ∙ within_joined 0 (n * columns) to p (given t p) (omega arith) (omega (arith, place))
     ∙ ap (λ m. within 0 m p (given t p)) there)
 
-pub all_words : (places : List Place) (len columns n : ℕ) (given : ℕ → ℕ → ℕ) (was texts : List (List ℕ)) → len ≤ n * columns → WordsAdded places len columns given n was texts → AddsAt places len given was texts
-all_words places len columns n given was texts enough added =
-    adds_same places len (λ t p. within 0 (min len (n * columns)) p (given t p)) given was texts added
+pub all_words : (places : List Place) (len columns n : ℕ) (given : ℕ → ℕ → ℕ) (was buffers : List (List ℕ)) → len ≤ n * columns → WordsAdded places len columns given n was buffers → AddsAt places len given was buffers
+all_words places len columns n given was buffers enough added =
+    adds_same places len (λ t p. within 0 (min len (n * columns)) p (given t p)) given was buffers added
     (λ t p h fits. within-in 0 (min len (n * columns)) p (given t p) (omega arith) (omega (arith, enough, fits)))

@@ -1,4 +1,4 @@
--- From power sums in rows to what a block gives to its outputs.
+-- From power sums in rows to the outputs of a block.
 use Rattle.par2_transform.proofs.Common.{inl, inr, ℕ, ◌+◌, ◌-◌, ◌*◌, ◌^◌, ◌<◌, ◌≤◌, ◌≡◌, sym, ap, ap₂, subst, ◌∙◌, arith, List, length, bit_xor, min, cases_lt, mul, pow, word, field_sum, field_sum_same, within, AddsAt, from_gathered, chirp_inverse, Grid, column, EachColumn, member, ArePowerSums, power_sum, point, Cut, Place}
 use Rattle.par2_transform.proofs.AddingLaws.{adds_none, adds_more, adds_same, within-in, within-below, within-above, within_joined, within_same}
 
@@ -9,17 +9,17 @@ power_sum_plain weight k e =
     field_sum_same (2 ^ k) (λ u. mul (weight (member k 0 u)) (pow (point (member k 0 u)) e)) (λ u. mul (weight u) (pow (point u) e))
     (λ u h. ap (λ m. mul (weight m) (pow (point m) e)) (let s : member k 0 u ≡ u = omega arith in s))
 
--- what output t of a block gets at word p
+-- the addition to word p of output t of a block
 abbrev pub output_part : Cut → Grid → ℕ → ℕ → ℕ → ℕ → ℕ → ℕ → ℕ → ℕ
 output_part cut sums e r from to first t p = within from to p (from_gathered cut (column sums (p - from)) e (t - first) r)
 
--- the first n outputs of the block got it
+-- the first n outputs of the block have it
 abbrev pub OutputsAdded : List Place → ℕ → Cut → Grid → ℕ → ℕ → ℕ → ℕ → ℕ → ℕ → List (List ℕ) → List (List ℕ) → Type 0
-OutputsAdded places len cut sums e r from to first n was texts =
-    AddsAt places len (λ t p. within first (first + n) t (output_part cut sums e r from to first t p)) was texts
+OutputsAdded places len cut sums e r from to first n was buffers =
+    AddsAt places len (λ t p. within first (first + n) t (output_part cut sums e r from to first t p)) was buffers
 
-pub no_output : (places : List Place) (len : ℕ) (cut : Cut) (sums : Grid) (e r from to first : ℕ) (texts : List (List ℕ)) → OutputsAdded places len cut sums e r from to first 0 texts texts
-no_output places len cut sums e r from to first texts = adds_none places len (λ t p. within first (first + 0) t (output_part cut sums e r from to first t p)) texts (λ t p. empty t (output_part cut sums e r from to first t p))
+pub no_output : (places : List Place) (len : ℕ) (cut : Cut) (sums : Grid) (e r from to first : ℕ) (buffers : List (List ℕ)) → OutputsAdded places len cut sums e r from to first 0 buffers buffers
+no_output places len cut sums e r from to first buffers = adds_none places len (λ t p. within first (first + 0) t (output_part cut sums e r from to first t p)) buffers (λ t p. empty t (output_part cut sums e r from to first t p))
   where
     empty : (t x : ℕ) → within first (first + 0) t x ≡ 0
     empty t x = elim (cases_lt t first) [
@@ -27,15 +27,15 @@ no_output places len cut sums e r from to first texts = adds_none places len (λ
       | inr above ↦ within-above first (first + 0) t x (omega arith)
     ]
 
-pub next_output : (places : List Place) (len : ℕ) (cut : Cut) (was_sums sums : Grid) (e r from to first n factor : ℕ) (row : List ℕ) (was before texts : List (List ℕ))
+pub next_output : (places : List Place) (len : ℕ) (cut : Cut) (was_sums sums : Grid) (e r from to first n factor : ℕ) (row : List ℕ) (was before buffers : List (List ℕ))
     → EachColumn (ArePowerSums was_sums.levels) was_sums sums → was_sums.levels ≡ cut.levels → n < 2 ^ cut.levels → to ≤ from + was_sums.words
     → factor ≡ mul (pow 2 ((e + n) * r)) (chirp_inverse cut.classes (e + n)) → ((c : ℕ) → word c row ≡ column sums c n)
     → OutputsAdded places len cut was_sums e r from to first n was before
-    → AddsAt places len (λ t p. within (first + n) (first + n + 1) t (within from to p (mul factor (word (p - from) row)))) before texts
-    → OutputsAdded places len cut was_sums e r from to first (n + 1) was texts
-next_output places len cut was_sums sums e r from to first n factor row was before texts sums_are levels low narrow factor_is row_is so_far added =
+    → AddsAt places len (λ t p. within (first + n) (first + n + 1) t (within from to p (mul factor (word (p - from) row)))) before buffers
+    → OutputsAdded places len cut was_sums e r from to first (n + 1) was buffers
+next_output places len cut was_sums sums e r from to first n factor row was before buffers sums_are levels low narrow factor_is row_is so_far added =
     adds_more places len (λ t p. within first (first + n) t (part t p)) (λ t p. within (first + n) (first + n + 1) t (within from to p (mul factor (word (p - from) row))))
-    (λ t p. within first (first + (n + 1)) t (part t p)) was before texts so_far added
+    (λ t p. within first (first + (n + 1)) t (part t p)) was before buffers so_far added
     (λ t p h fits.
     ap (bit_xor (within first (first + n) t (part t p)))
     (within_same (first + n) (first + n + 1) t (within from to p (mul factor (word (p - from) row))) (part t p)
@@ -53,11 +53,11 @@ next_output places len cut was_sums sums e r from to first n factor row was befo
         (row_is (p - from) ∙ sums_are.columns (p - from) (omega arith) n (subst (λ k. n < 2 ^ k) (sym levels) low)
         ∙ ap (λ k. power_sum (column was_sums (p - from)) k 0 n) levels ∙ power_sum_plain (column was_sums (p - from)) cut.levels n)
 
--- outputs past the end are none
-pub all_outputs : (places : List Place) (len : ℕ) (cut : Cut) (sums : Grid) (e r from to first size n : ℕ) (was texts : List (List ℕ)) → n ≡ min size (length places - first)
-    → OutputsAdded places len cut sums e r from to first n was texts → OutputsAdded places len cut sums e r from to first size was texts
-all_outputs places len cut sums e r from to first size n was texts is added =
-    adds_same places len (λ t p. within first (first + n) t (part t p)) (λ t p. within first (first + size) t (part t p)) was texts added (λ t p h fits. same t (part t p) h)
+-- there are no outputs past the end
+pub all_outputs : (places : List Place) (len : ℕ) (cut : Cut) (sums : Grid) (e r from to first size n : ℕ) (was buffers : List (List ℕ)) → n ≡ min size (length places - first)
+    → OutputsAdded places len cut sums e r from to first n was buffers → OutputsAdded places len cut sums e r from to first size was buffers
+all_outputs places len cut sums e r from to first size n was buffers is added =
+    adds_same places len (λ t p. within first (first + n) t (part t p)) (λ t p. within first (first + size) t (part t p)) was buffers added (λ t p h fits. same t (part t p) h)
   where
     part : ℕ → ℕ → ℕ
     part t p = output_part cut sums e r from to first t p

@@ -1,17 +1,17 @@
--- Power sums of two cosets give those of both.
-use Rattle.par2_transform.proofs.Common.{ℕ, zero, suc, ◌+◌, ◌-◌, ◌*◌, ◌^◌, ◌<◌, ◌≤◌, ◌≡◌, refl, sym, ap, ap₂, ◌∙◌, arith, bit_xor, pow_pos, pow-suc, inl, inr, mul_comm, mul_assoc, add_assoc, add-mul, one-mul, cases_lt, pow-lt, xor_comm, div-mul-add, bit_at, xor_assoc, xor_shifted, mul, pow, AreElements, field_sum, xor_middle, bit_times_xor, power-lt, power-add, product-lt, product_comm, product-one, product_assoc, product_linear_left, product_linear_right, field_sum_same, field_sum_xor, field_sum_scaled, field_sum-lt, vanishing, powers_in, basis, point, member, sum_ahead, IsMerged, power_sum}
+-- Power sums over two cosets give those over both.
+use Rattle.par2_transform.proofs.Common.{ℕ, zero, suc, ◌+◌, ◌-◌, ◌*◌, ◌^◌, ◌<◌, ◌≤◌, ◌≡◌, refl, sym, ap, ap₂, ◌∙◌, arith, bit_xor, pow_pos, pow-suc, inl, inr, mul_comm, mul_assoc, add_assoc, add-mul, one-mul, cases_lt, pow-lt, xor_comm, div-mul-add, bit_at, xor_assoc, xor_shifted, mul, pow, GivesElements, field_sum, xor_middle, bit_times_xor, power-lt, power-add, product-lt, product_comm, product-one, product_assoc, product_linear_left, product_linear_right, field_sum_same, field_sum_xor, field_sum_scaled, field_sum-lt, vanishing, powers_in, basis, point, member, sum_ahead, IsMerged, power_sum}
 use Rattle.par2_transform.proofs.Subspaces.{point-lt, point_linear, vanishing-lt, vanishing_point, lower_powers, leading_power}
 use Rattle.par2_transform.proofs.Sums.{field_sum_join, field_sum_swap, field_sum_linear, field_sum_bit, product_bit, bit_product}
 
--- what a point gives to the sum of powers e
+-- the term of a point in the sum of powers e
 abbrev pub given : (ℕ → ℕ) → ℕ → ℕ → ℕ
 given weight e u = mul (weight u) (pow (point u) e)
 
-given-lt : (weight : ℕ → ℕ) → AreElements weight → (e u : ℕ) → given weight e u < 65536
+given-lt : (weight : ℕ → ℕ) → GivesElements weight → (e u : ℕ) → given weight e u < 65536
 given-lt weight elements e u = product-lt (weight u) (pow (point u) e) (elements u) (power-lt (point u) e (point-lt u))
 
--- what a point gives to power 2 ^ i + e, by the polynomial that vanishes on subspace i
-pub given_ahead : (weight : ℕ → ℕ) → AreElements weight → (i e u : ℕ)
+-- the term of a point in the sum of powers 2 ^ i + e, by subspace polynomial i
+pub given_ahead : (weight : ℕ → ℕ) → GivesElements weight → (i e u : ℕ)
     → given weight (2 ^ i + e) u ≡ bit_xor (mul (vanishing i (point u)) (given weight e u)) (field_sum i (λ j. bit_at (powers_in i) j * given weight (e + 2 ^ j) u))
 given_ahead weight elements i e u =
     let x : ℕ = point u in
@@ -38,8 +38,8 @@ given_ahead weight elements i e u =
 abbrev sum_from : (ℕ → ℕ) → ℕ → ℕ → ℕ → ℕ
 sum_from weight a n e = field_sum n (λ u. given weight e (a + u))
 
--- a run of numbers on which the vanishing polynomial has one value
-sum_ahead_from : (weight : ℕ → ℕ) → AreElements weight → (i e a n c : ℕ) → ((u : ℕ) → u < n → vanishing i (point (a + u)) ≡ c)
+-- a run of numbers on whose points the subspace polynomial is constant
+sum_ahead_from : (weight : ℕ → ℕ) → GivesElements weight → (i e a n c : ℕ) → ((u : ℕ) → u < n → vanishing i (point (a + u)) ≡ c)
     → sum_from weight a n (2 ^ i + e) ≡ bit_xor (mul c (sum_from weight a n e)) (field_sum i (λ j. bit_at (powers_in i) j * sum_from weight a n (e + 2 ^ j)))
 sum_ahead_from weight elements i e a n c same =
     field_sum_same n (λ u. given weight (2 ^ i + e) (a + u))
@@ -54,14 +54,14 @@ sum_ahead_from weight elements i e a n c same =
 
 -- ---- two cosets
 
--- at each point of a coset its polynomial has the value that the coset's number tells
+-- the subspace polynomial is constant on a coset, and the number of the coset determines its value
 pub vanishing_on : (i q u : ℕ) → u < 2 ^ i → q * 2 ^ i + u < 65536 → vanishing i (point (member i q u)) ≡ point q
 vanishing_on i q u h fits = vanishing_point i (member i q u) fits ∙ ap point (div-mul-add q (2 ^ i) u h)
 
 twice : (q h : ℕ) → q * (h * 2) ≡ 2 * q * h
 twice q h = sym (mul_assoc q h 2) ∙ mul_comm (q * h) 2 ∙ sym (mul_assoc 2 q h)
 
--- where the cosets of a pair begin
+-- the first numbers of the cosets of a pair
 pub first_half : (i q : ℕ) → q * 2 ^ suc i ≡ 2 * q * 2 ^ i
 first_half i q = ap (λ n. q * n) (pow-suc 2 i) ∙ twice q (2 ^ i)
 
@@ -75,7 +75,7 @@ point_one = refl
 odd : (q : ℕ) → 2 * q + 1 ≡ bit_xor (2 * q) 1
 odd q = sym (ap (λ n. bit_xor n 1) (mul_comm 2 q) ∙ xor_shifted q 1 1 (omega arith) ∙ ap (λ n. n + 1) (mul_comm q 2))
 
--- the number one above an even one
+-- one more than an even number
 pub point_odd : (q : ℕ) → point (2 * q + 1) ≡ bit_xor (point (2 * q)) 1
 point_odd q = ap point (odd q) ∙ point_linear.on_xor (2 * q) 1 ∙ ap (bit_xor (point (2 * q))) point_one
 
@@ -92,8 +92,8 @@ power_sum_halves weight i q e =
     (field_sum_same (2 ^ i) (λ u. given weight e (q * 2 ^ suc i + (2 ^ i + u))) (λ u. given weight e ((2 * q + 1) * 2 ^ i + u))
     (λ u h. ap (given weight e) (sym (add_assoc (q * 2 ^ suc i) (2 ^ i) u) ∙ ap (λ n. n + u) (second_half i q))))
 
--- the sums of higher powers, by those of the second coset and of lower powers
-pub power_sum_ahead : (weight : ℕ → ℕ) → AreElements weight → (i q e : ℕ) → suc q * 2 ^ suc i ≤ 65536
+-- the sums of higher powers, from those of the second coset and of lower powers
+pub power_sum_ahead : (weight : ℕ → ℕ) → GivesElements weight → (i q e : ℕ) → suc q * 2 ^ suc i ≤ 65536
     → power_sum weight (suc i) q (2 ^ i + e)
     ≡ bit_xor (power_sum weight i (2 * q + 1) e)
     (bit_xor (mul (point (2 * q)) (power_sum weight (suc i) q e)) (sum_ahead i (power_sum weight (suc i) q) e))
@@ -138,8 +138,8 @@ power_sum_ahead weight elements i q e fits =
 
 -- ---- merging
 
--- power sums over two cosets, merged, are those over both
-pub merged_power_sums : (weight : ℕ → ℕ) → AreElements weight → (i q : ℕ) (split merged : ℕ → ℕ) → suc q * 2 ^ suc i ≤ 65536
+-- power sums over two cosets, merged, are the power sums over both
+pub merged_power_sums : (weight : ℕ → ℕ) → GivesElements weight → (i q : ℕ) (split merged : ℕ → ℕ) → suc q * 2 ^ suc i ≤ 65536
     → IsMerged i (point (2 * q)) split merged
     → ((e : ℕ) → e < 2 ^ i → split e ≡ power_sum weight i (2 * q) e) → ((e : ℕ) → e < 2 ^ i → split (2 ^ i + e) ≡ power_sum weight i (2 * q + 1) e)
     → (e : ℕ) → e < 2 ^ suc i → merged e ≡ power_sum weight (suc i) q e

@@ -1,5 +1,5 @@
 -- One column of values, through the loops of a level.
-use Rattle.par2_transform.proofs.Common.{ℕ, suc, ◌+◌, ◌-◌, ◌*◌, ◌%◌, ◌^◌, ◌<◌, ◌≤◌, ◌≡◌, inl, inr, ◌⊎◌, refl, sym, ap, ap₂, ◌∙◌, subst, arith, bit_xor, pow_pos, pow-suc, add_assoc, mul_assoc, add-mul, one-mul, mul-zero, List, length, get_or, set, bit_at, xor_zero_r, xor_assoc, pow-le-pow_right, cases_eq, cases_lt, get_or-set_same, get_or-set_other, pow-add, xor_lt, mul, AreElements, field_sum, bit_times_xor, field_sum_same, field_sum_none, field_sum_xor, xor_off, within, powers_in, sum_ahead, IsMerged, from, IsOneAdded, SameOutside, OneRun, FirstRuns, RunAddedBy, RunAdded, AheadAdded, IsRaised, IsLowered}
+use Rattle.par2_transform.proofs.Common.{ℕ, suc, ◌+◌, ◌-◌, ◌*◌, ◌%◌, ◌^◌, ◌<◌, ◌≤◌, ◌≡◌, inl, inr, ◌⊎◌, refl, sym, ap, ap₂, ◌∙◌, subst, arith, bit_xor, pow_pos, pow-suc, add_assoc, mul_assoc, add-mul, one-mul, mul-zero, List, length, get_or, set, bit_at, xor_zero_r, xor_assoc, pow-le-pow_right, cases_eq, cases_lt, get_or-set_same, get_or-set_other, pow-add, xor_lt, mul, GivesElements, field_sum, bit_times_xor, field_sum_same, field_sum_none, field_sum_xor, xor_off, within, powers_in, sum_ahead, IsMerged, from, IsOneAdded, SameValuesOutside, OneRun, FirstRuns, RunAddedBy, RunAdded, AheadAdded, IsRaised, IsLowered}
 use Rattle.std.proofs.Common.{mul-le-mul_right}
 use Rattle.par2_transform.proofs.AddingLaws.{within-in, within-below, within-above, within_joined, within_same}
 use Rattle.par2_transform.proofs.Sums.{field_sum_bit_set, field_sum_bit_unset}
@@ -19,7 +19,7 @@ shifted i h =
 pub double_power : (i : ℕ) → 2 ^ suc i ≡ 2 ^ i + 2 ^ i
 double_power i = let double : 2 ^ suc i ≡ 2 ^ i * 2 = pow-suc 2 i in omega arith
 
--- the same rows of as many levels
+-- the same rows if the levels are equal
 pub rows_within : {x n m : ℕ} → m ≡ n → x ≤ 2 ^ n → x ≤ 2 ^ m
 rows_within e h = rw e h
 
@@ -28,11 +28,11 @@ pub shifts : (i j : ℕ) → i < 16 → j < i
     → (1 * 2 ^ i % 18446744073709551616 ≡ 2 ^ i) × (1 * 2 ^ j % 18446744073709551616 ≡ 2 ^ j) × (2 ^ j + 2 ^ j ≤ 2 ^ i) × (2 ^ suc i ≡ 2 ^ i + 2 ^ i)
 shifts i j few low = (shifted i few, shifted j (omega arith), power_below j i low, double_power i)
 
--- where a pair of runs begins
+-- the first value of a pair of runs
 pub run_starts : (i q : ℕ) → q * 2 * 2 ^ i ≡ q * 2 ^ suc i
 run_starts i q = mul_assoc q 2 (2 ^ i) ∙ ap (λ n. q * n) (let double : 2 ^ suc i ≡ 2 ^ i + 2 ^ i = double_power i in let twice : 2 * 2 ^ i ≡ 2 ^ suc i = omega arith in twice)
 
--- all pairs of runs of a level are within 2 ^ k
+-- all pairs of runs of a level lie within 2 ^ k
 pub pairs_fit : (k i q : ℕ) → i < k → q < 2 ^ (k - suc i) → q * 2 ^ suc i + 2 ^ suc i ≤ 2 ^ k
 pairs_fit k i q h l =
     let whole : 2 ^ (k - suc i) * 2 ^ suc i ≡ 2 ^ k = sym (pow-add 2 (k - suc i) (suc i)) ∙ ap (λ n. 2 ^ n) (let e : k - suc i + suc i ≡ k = omega arith in e) in
@@ -40,23 +40,23 @@ pairs_fit k i q h l =
     let next : suc q * 2 ^ suc i ≡ q * 2 ^ suc i + 2 ^ suc i = ap (λ v. v * 2 ^ suc i) (let s : suc q ≡ q + 1 = omega arith in s) ∙ add-mul q 1 (2 ^ suc i) ∙ ap (λ v. q * 2 ^ suc i + v) (one-mul (2 ^ suc i)) in
     omega arith
 
--- a pair of runs, as the code computes its places
+-- the positions of a pair of runs, as the code computes them
 pub pair_places : (k i q : ℕ) → i < 16 → i < k → q < 2 ^ (k - suc i)
     → (1 * 2 ^ i % 18446744073709551616 ≡ 2 ^ i) × (q * 2 * (1 * 2 ^ i % 18446744073709551616) ≡ q * 2 ^ suc i) × (2 ^ suc i ≡ 2 ^ i + 2 ^ i) × (q * 2 ^ suc i + 2 ^ suc i ≤ 2 ^ k)
 pair_places k i q few level pair =
     let half : 1 * 2 ^ i % 18446744073709551616 ≡ 2 ^ i = shifted i few in
     (half, ap (λ n. q * 2 * n) half ∙ run_starts i q, double_power i, pairs_fit k i q level pair)
 
-pub same_outside : (a b : ℕ) (f : ℕ → ℕ) → SameOutside a b f f
+pub same_outside : (a b : ℕ) (f : ℕ → ℕ) → SameValuesOutside a b f f
 same_outside a b f = record { below = λ u h. refl; above = λ u h. refl }
 
-pub outside_then : (a b a1 b1 a2 b2 : ℕ) (f g h : ℕ → ℕ) → SameOutside a1 b1 f g → SameOutside a2 b2 g h → a ≤ a1 → a ≤ a2 → b1 ≤ b → b2 ≤ b → SameOutside a b f h
+pub outside_then : (a b a1 b1 a2 b2 : ℕ) (f g h : ℕ → ℕ) → SameValuesOutside a1 b1 f g → SameValuesOutside a2 b2 g h → a ≤ a1 → a ≤ a2 → b1 ≤ b → b2 ≤ b → SameValuesOutside a b f h
 outside_then a b a1 b1 a2 b2 f g h first second l1 l2 r1 r2 = record {
   below = λ u l. second.below u (omega arith) ∙ first.below u (omega arith);
   above = λ u l. second.above u (omega arith) ∙ first.above u (omega arith);
 }
 
-pub outside_one : (a b to v : ℕ) (f g : ℕ → ℕ) → IsOneAdded to v f g → a ≤ to → to < b → SameOutside a b f g
+pub outside_one : (a b to v : ℕ) (f g : ℕ → ℕ) → IsOneAdded to v f g → a ≤ to → to < b → SameValuesOutside a b f g
 outside_one a b to v f g one low high = record {
   below = λ u h. one.others u (λ e. omega arith);
   above = λ u h. one.others u (λ e. omega arith);
@@ -88,7 +88,7 @@ run_next at to n f g h apart so_far one = record {
   ];
 }
 
-pub run_by_fit : (k : ℕ → ℕ) (at to n : ℕ) (f g : ℕ → ℕ) → ((v : ℕ) → v < 65536 → k v < 65536) → RunAddedBy k at to n f g → AreElements f → AreElements g
+pub run_by_fit : (k : ℕ → ℕ) (at to n : ℕ) (f g : ℕ → ℕ) → ((v : ℕ) → v < 65536 → k v < 65536) → RunAddedBy k at to n f g → GivesElements f → GivesElements g
 run_by_fit k at to n f g small added fit u = elim (cases_lt u to) [
   | inl low ↦ subst (λ x. x < 65536) (sym (added.others.below u low)) (fit u)
   | inr high ↦ elim (cases_lt u (to + n)) [
@@ -99,10 +99,10 @@ run_by_fit k at to n f g small added fit u = elim (cases_lt u to) [
   ]
 ]
 
-pub run_fit : (at to n : ℕ) (f g : ℕ → ℕ) → RunAdded at to n f g → AreElements f → AreElements g
+pub run_fit : (at to n : ℕ) (f g : ℕ → ℕ) → RunAdded at to n f g → GivesElements f → GivesElements g
 run_fit at to n f g added fit = run_by_fit (λ x. x) at to n f g (λ v lt. lt) added fit
 
--- where zeros are added
+-- nothing changes if zeros are added
 pub run_none : (k : ℕ → ℕ) (at to n : ℕ) (f : ℕ → ℕ) → ((v : ℕ) → k v ≡ 0) → RunAddedBy k at to n f f
 run_none k at to n f none = record {
   others = same_outside to (to + n) f;
@@ -114,7 +114,7 @@ run_none k at to n f none = record {
 pub ahead_same : (i e d : ℕ) (f g : ℕ → ℕ) → ((j : ℕ) → j < i → f (e + 2 ^ j) ≡ g (d + 2 ^ j)) → sum_ahead i f e ≡ sum_ahead i g d
 ahead_same i e d f g same = field_sum_same i (λ j. bit_at (powers_in i) j * f (e + 2 ^ j)) (λ j. bit_at (powers_in i) j * g (d + 2 ^ j)) (λ j h. ap (λ v. bit_at (powers_in i) j * v) (same j h))
 
--- the first n of them were added
+-- the first n of them have been added
 abbrev pub ahead_below : ℕ → ℕ → ℕ → (ℕ → ℕ) → ℕ
 ahead_below i at n f = field_sum n (λ j. bit_at (powers_in i) j * f (at + 2 ^ j))
 
@@ -130,7 +130,7 @@ ahead_unset i start a b n f g unset so_far = record {
   run = λ e h. so_far.run e h ∙ ap (bit_xor (from start f (2 ^ i + e))) (sym (field_sum_bit_unset n (powers_in i) (λ j. within a b (e + 2 ^ j) (from start f (e + 2 ^ j))) unset));
 }
 
--- one more power, by a run from place s to place t of the upper half
+-- one more power: a run from s is added to one at t in the upper half
 pub ahead_set : (i start a b n s t count : ℕ) (f g h : ℕ → ℕ) → bit_at (powers_in i) n ≡ 1 → t + count ≤ 2 ^ i
     → ((e : ℕ) → e < count → (s + e ≡ t + e + 2 ^ n) × ((a ≤ t + e + 2 ^ n) × (t + e + 2 ^ n < b)))
     → ((e : ℕ) → e < 2 ^ i → (e < t) ⊎ (t + count ≤ e) → (e + 2 ^ n < a) ⊎ (b ≤ e + 2 ^ n))
@@ -170,7 +170,7 @@ ahead_set i start a b n s t count f g h set fits inside outside same so_far adde
       ]
     ]
 
--- what is added from the upper half is whole before
+-- the values that are read in the upper half are complete
 pub ahead_whole : (i start n : ℕ) (f g : ℕ → ℕ) → n ≤ i → AheadAdded i start (2 ^ i) (2 ^ suc i) n f g → (e : ℕ) → e + e < 2 ^ i → from start g (2 ^ i + e) ≡ from start f (2 ^ i + e)
 ahead_whole i start n f g few added e low =
     added.run e (omega arith)
@@ -203,7 +203,7 @@ raised_runs i c start f g k h scaled first second = record {
     upper : ℕ → ℕ
     upper e = field_sum i (λ j. bit_at (powers_in i) j * within (2 ^ i) (2 ^ suc i) (e + 2 ^ j) (from start k (e + 2 ^ j)))
 
-    -- the lower half stays
+    -- the lower half is unchanged
     low_same : (u : ℕ) → u < 2 ^ i → from start h u ≡ from start g u
     low_same u l = second.others.below (start + u) (omega arith) ∙ first.others.below (start + u) (omega arith)
 
@@ -243,7 +243,7 @@ merged_runs i c start f g h first second =
       };
     }
 
--- ---- lowering and taking apart
+-- ---- lowering and unmerging
 
 pub lower_start : (i c start m : ℕ) (f : ℕ → ℕ) → 2 ^ i ≤ m → IsLowered i c start m f f
 lower_start i c start m f h = record { others = same_outside (start + 2 ^ i + m) (start + 2 ^ suc i) f; run = λ e l low. absurd (omega (arith, h, l, low)) }
@@ -297,7 +297,7 @@ unmerged_runs i c start f g h first second =
 pub runs_start : (count : ℕ) (relation : ℕ → (ℕ → ℕ) → (ℕ → ℕ) → Type 0) (f : ℕ → ℕ) → FirstRuns count relation 0 f f
 runs_start count relation f = record { runs = λ q h. absurd (omega (arith, h)); others = λ u h. refl }
 
--- a relation that speaks of the first values alone
+-- a relation on the first values alone
 abbrev pub IsOfFirst : ℕ → ((ℕ → ℕ) → (ℕ → ℕ) → Type 0) → Type 0
 IsOfFirst count relation = (f f2 g g2 : ℕ → ℕ) → ((u : ℕ) → u < count → f2 u ≡ f u) → ((u : ℕ) → u < count → g2 u ≡ g u) → relation f g → relation f2 g2
 
@@ -330,7 +330,7 @@ merged_of_first i c f f2 g g2 sf sg is =
           sym (sg (e + 2 ^ j) (omega arith)))));
     }
 
--- ---- at places that are equal
+-- ---- at equal positions
 
 pub run_by_at : (k : ℕ → ℕ) (at at2 to to2 n m : ℕ) (f g : ℕ → ℕ) → at ≡ at2 → to ≡ to2 → n ≡ m → RunAddedBy k at to n f g → RunAddedBy k at2 to2 m f g
 run_by_at k at at2 to to2 n m f g ea et en added = subst (λ x. RunAddedBy k x to2 m f g) ea (subst (λ x. RunAddedBy k at x m f g) et (subst (λ x. RunAddedBy k at to x f g) en added))

@@ -1,4 +1,4 @@
--- What holds of a Cantor basis, and of the polynomials that vanish on its subspaces.
+-- Properties of a Cantor basis and of its subspace polynomials (Cantor 1989).
 use Rattle.par2_transform.proofs.Common.{ℕ, zero, suc, ◌+◌, ◌*◌, ◌/◌, ◌%◌, ◌^◌, ◌<◌, ◌≡◌, refl, sym, ap, ap₂, ◌∙◌, true, eqb, ltb, arith, get_or, bit_xor, inl, inr, zero-mul, one-mul, pow-suc, eqb-true, ltb-true, cases_lt, get_or_past, div-le_self, div-div-eq-div-mul, xor_comm, xor_lt, bit_at, xor_assoc, xor_zero_r, xor_zero_l, xor_self, IsLinear, xor_middle, bit_cases, bit_xor_times, bits_ind, linear-zero, tested, tested_at, power-lt, power-add, zero-product, product-lt, product_comm, product-one, product_linear_left, product_linear_right, field_sum_same, field_sum_xor, field_sum-lt, field_sum_head, xor_off, mul, pow, field_sum, basis, bit_numbers, point, point_number, vanishing, powers_in}
 use Rattle.std.proofs.lemmas.Nat.Bits.{bit_at-suc, bit_at_above, bit_at_xor, bit_at_lowest}
 
@@ -125,14 +125,14 @@ point_artin u h =
     u h
     ∙ half_is_half u
 
--- ---- vanishing polynomials
+-- ---- subspace polynomials
 
 pub vanishing-lt : (i x : ℕ) → x < 65536 → vanishing i x < 65536
 unfolding vanishing
 vanishing-lt zero x h = h
 vanishing-lt (suc i) x h = let l = vanishing-lt i x h in xor_lt 16 _ _ (product-lt (vanishing i x) (vanishing i x) l l) l
 
--- at a point it is the point whose number is without the lowest bits
+-- its value at a point is the point whose number lacks the i lowest bits
 pub vanishing_point : (i u : ℕ) → u < 65536 → vanishing i (point u) ≡ point (u / 2 ^ i)
 unfolding vanishing
 vanishing_point zero u h = ap point (let e : u ≡ u / 2 ^ 0 = omega arith in e)
@@ -142,7 +142,7 @@ vanishing_point (suc i) u h =
     ap artin so_far ∙ point_artin (u / 2 ^ i) small
     ∙ ap point (div-div-eq-div-mul u (2 ^ i) 2 ∙ ap (λ n. u / n) (sym (pow-suc 2 i)))
 
--- ---- the powers that a vanishing polynomial sums
+-- ---- the powers in a subspace polynomial
 
 doubled_bit : (m j : ℕ) → bit_at (m * 2) (suc j) ≡ bit_at m j
 doubled_bit m j = bit_at-suc (m * 2) j ∙ ap (λ n. bit_at n j) (let e : m * 2 / 2 ≡ m = omega arith in e)
@@ -167,7 +167,7 @@ powers_in_top (suc i) =
     let low : bit_at (powers_in i) (suc i) ≡ 0 = bit_at_above (powers_in i) (suc i) (suc i) (powers_in-lt i) (omega arith) in
     bit_at_xor (powers_in i * 2) (powers_in i) (suc i) ∙ ap₂ (λ a b. (a + b) % 2) high low
 
--- what power 2 ^ j of x has in it
+-- the term of power 2 ^ j of x
 abbrev term : ℕ → ℕ → ℕ → ℕ
 term m x j = bit_at m j * pow x (2 ^ j)
 
@@ -186,7 +186,7 @@ square_sum (suc n) f small =
 power_double : (x j : ℕ) → x < 65536 → mul (pow x (2 ^ j)) (pow x (2 ^ j)) ≡ pow x (2 ^ suc j)
 power_double x j h = sym (power-add x (2 ^ j) (2 ^ j) h) ∙ ap (pow x) (let e : 2 ^ suc j ≡ 2 ^ j * 2 = pow-suc 2 j in let f : 2 ^ j + 2 ^ j ≡ 2 ^ suc j = omega arith in f)
 
--- the square of the sum of n powers, one power each further
+-- the square of a sum of n powers is the sum of the next ones
 square_terms : (n m x : ℕ) → x < 65536 → mul (field_sum n (term m x)) (field_sum n (term m x)) ≡ field_sum (suc n) (term (m * 2) x)
 square_terms n m x h =
     square_sum n (term m x) (λ j. bit_times-lt m j (pow x (2 ^ j)) (power-lt x (2 ^ j) h))
@@ -217,7 +217,7 @@ vanishing_terms (suc i) x h =
 abbrev pub lower_powers : ℕ → ℕ → ℕ
 lower_powers i x = field_sum i (λ j. bit_at (powers_in i) j * pow x (2 ^ j))
 
--- power 2 ^ i, by the polynomial and the lower powers
+-- power 2 ^ i is the subspace polynomial plus the lower powers
 pub leading_power : (i x : ℕ) → x < 65536 → pow x (2 ^ i) ≡ bit_xor (vanishing i x) (lower_powers i x)
 unfolding field_sum
 leading_power i x h =

@@ -1,4 +1,4 @@
--- Sums in the field, put together and exchanged.
+-- Sums in the field: concatenated, exchanged, and distributed over.
 use Rattle.par2_transform.proofs.Common.{ℕ, zero, suc, ◌+◌, ◌*◌, ◌≡◌, refl, sym, ap, ◌∙◌, arith, bit_xor, add-zero, inl, inr, zero-mul, one-mul, mul-zero, bit_at, xor_assoc, xor_zero_r, mul, IsLinear, linear-zero, bit_cases, bit_times_xor, product-zero, zero-product, field_sum_xor, field_sum_none, field_sum}
 
 -- a sum in two parts
@@ -14,7 +14,7 @@ pub field_sum_next : (n : ℕ) (f : ℕ → ℕ) → field_sum (n + 1) f ≡ bit
 unfolding field_sum
 field_sum_next n f = ap (λ k. field_sum k f) (let e : n + 1 ≡ suc n = omega arith in e)
 
--- the sum with one more bit before a value
+-- a sum with one more bit in front of a value
 pub field_sum_bit_set : (n x : ℕ) (f : ℕ → ℕ) → bit_at x n ≡ 1 → field_sum (n + 1) (λ j. bit_at x j * f j) ≡ bit_xor (field_sum n (λ j. bit_at x j * f j)) (f n)
 field_sum_bit_set n x f set =
     field_sum_next n (λ j. bit_at x j * f j) ∙ ap (λ b. bit_xor (field_sum n (λ j. bit_at x j * f j)) (b * f n)) set ∙ ap (bit_xor (field_sum n (λ j. bit_at x j * f j))) (one-mul (f n))
@@ -33,21 +33,21 @@ field_sum_swap (suc m) n f =
     ap (λ s. bit_xor s (field_sum n (f m))) (field_sum_swap m n f)
     ∙ sym (field_sum_xor n (λ j. field_sum m (λ i. f i j)) (f m))
 
--- what respects the exclusive or, before a sum
+-- a function that respects the exclusive or, applied to a sum
 pub field_sum_linear : (n : ℕ) (g f : ℕ → ℕ) → IsLinear g → field_sum n (λ i. g (f i)) ≡ g (field_sum n f)
 unfolding field_sum
 field_sum_linear zero g f linear = sym (linear-zero g linear)
 field_sum_linear (suc n) g f linear =
     ap (λ s. bit_xor s (g (f n))) (field_sum_linear n g f linear) ∙ sym (linear.on_xor (field_sum n f) (f n))
 
--- a bit before a sum
+-- a bit in front of a sum
 pub field_sum_bit : (n x j : ℕ) (f : ℕ → ℕ) → field_sum n (λ i. bit_at x j * f i) ≡ bit_at x j * field_sum n f
 unfolding field_sum
 field_sum_bit zero x j f = sym (mul-zero (bit_at x j))
 field_sum_bit (suc n) x j f =
     ap (λ s. bit_xor s (bit_at x j * f n)) (field_sum_bit n x j f) ∙ sym (bit_times_xor x j (field_sum n f) (f n))
 
--- a bit before a product
+-- a bit in front of a product
 pub product_bit : (x j a b : ℕ) → mul a (bit_at x j * b) ≡ bit_at x j * mul a b
 product_bit x j a b = elim (bit_cases x j) [
   | inl e ↦ rw e (ap (mul a) (zero-mul b) ∙ product-zero a ∙ sym (zero-mul (mul a b)))

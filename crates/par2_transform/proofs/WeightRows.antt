@@ -1,18 +1,18 @@
 -- Weights of windows, one row after the other.
-use Rattle.par2_transform.proofs.Common.{inl, inr, ℕ, ◌+◌, ◌*◌, ◌^◌, ◌<◌, ◌≤◌, ◌≡◌, refl, sym, ap, subst, ◌∙◌, arith, List, [], ◌∷◌, ◌++◌, length, get_or, length-append, cases_lt, get_or_append_left, get_or_at, get_or_past, AreElements, list_at, AreWeightRows, weight_at, chirp, AreWeights, Cut, HasWeights}
+use Rattle.par2_transform.proofs.Common.{inl, inr, ℕ, ◌+◌, ◌*◌, ◌^◌, ◌<◌, ◌≤◌, ◌≡◌, refl, sym, ap, subst, ◌∙◌, arith, List, [], ◌∷◌, ◌++◌, length, get_or, length-append, cases_lt, get_or_append_left, get_or_at, get_or_past, GivesElements, list_at, AreWeightRows, weight_at, chirp, AreWeights, Cut, HasWeights}
 
 -- the first n windows have weights for exponent e
 pub record WindowsWeighed (cut : Cut) (e n : ℕ) (rows : List (List ℕ)) : Type 0 where
   pub count : length rows ≡ n
   pub size : (a : ℕ) → a < n → length (list_at rows a) ≡ 2 ^ cut.levels
-  pub fit : (a : ℕ) → a < n → AreElements (weight_at rows a)
+  pub fit : (a : ℕ) → a < n → GivesElements (weight_at rows a)
   pub are : (a : ℕ) → a < n → AreWeights cut.levels (chirp cut.classes) (a * cut.window + e) (weight_at rows a)
 
 pub none_weighed : (cut : Cut) (e : ℕ) → WindowsWeighed cut e 0 []
 none_weighed cut e = record { count = refl; size = λ a h. absurd (omega arith); fit = λ a h. absurd (omega arith); are = λ a h. absurd (omega arith) }
 
 pub next_weighed : (cut : Cut) (e n : ℕ) (rows : List (List ℕ)) (words : List ℕ) → WindowsWeighed cut e n rows → length words ≡ 2 ^ cut.levels
-    → AreElements (λ u. get_or words u 0) → AreWeights cut.levels (chirp cut.classes) (n * cut.window + e) (λ u. get_or words u 0)
+    → GivesElements (λ u. get_or words u 0) → AreWeights cut.levels (chirp cut.classes) (n * cut.window + e) (λ u. get_or words u 0)
     → WindowsWeighed cut e (n + 1) (rows ++ words ∷ [])
 next_weighed cut e n rows words so_far size fit are = record {
   count = length-append rows (words ∷ []) ∙ ap (λ k. k + 1) so_far.count;
@@ -37,7 +37,7 @@ next_weighed cut e n rows words so_far size fit are = record {
     here : (a : ℕ) → a < n + 1 → n ≤ a → list_at (rows ++ words ∷ []) a ≡ words
     here a h high = ap (list_at (rows ++ words ∷ [])) (let same : a ≡ n = omega arith in same) ∙ get_or_at rows words [] [] n so_far.count
 
--- all windows weighed are what a block takes
+-- a block takes the weights of all windows
 pub weight_rows : (cut : Cut) (e n : ℕ) (rows : List (List ℕ)) → WindowsWeighed cut e n rows → AreWeightRows cut.levels rows
 weight_rows cut e n rows all = record {
   size = λ a h. all.size a (let c = all.count in omega (arith, c));

@@ -1,5 +1,5 @@
--- From coefficients in rows to what the windows of a class give.
-use Rattle.par2_transform.proofs.Common.{inl, inr, ℕ, suc, ◌+◌, ◌-◌, ◌*◌, ◌^◌, ◌<◌, ◌≤◌, ◌≡◌, ◌≢◌, refl, sym, ap, ap₂, subst, ◌∙◌, arith, List, length, bit_xor, cases_lt, cases_eq, xor_zero_l, xor_zero_r, mul, pow, zero-product, field_sum_same, field_sum_none, Outputs, Keeps, IsCleared, Gathers, GathersWindow, IsGathered, EachBlock, block_at, weight_at, AreCoefficients, AreWindowValues, HaveShape, AreBlocks, words_at, value, AreValues, Grid, column, IsAdded, EachColumn, point, Cut, coefficient_of, window_value, field_sum}
+-- From coefficients in rows to the sums that the windows of a class gather.
+use Rattle.par2_transform.proofs.Common.{inl, inr, ℕ, suc, ◌+◌, ◌-◌, ◌*◌, ◌^◌, ◌<◌, ◌≤◌, ◌≡◌, ◌≢◌, refl, sym, ap, ap₂, subst, ◌∙◌, arith, List, length, bit_xor, cases_lt, cases_eq, xor_zero_l, xor_zero_r, mul, pow, zero-product, field_sum_same, field_sum_none, Outputs, Keeps, IsCleared, Gathers, GathersWindow, IsGathered, EachBlock, outputs_at, weight_at, AreCoefficients, AreWindowValues, HaveShape, AreBlocks, words_at, value, AreValues, Grid, column, IsAdded, EachColumn, point, Cut, coefficient_of, window_value, field_sum}
 use Rattle.par2_transform.proofs.Sums.{field_sum_join}
 
 -- ---- coefficients
@@ -101,7 +101,7 @@ pub record GatheredSoFar (cut : Cut) (slices : List (List ℕ)) (r from n : ℕ)
   pub each : EachBlock (IsGathered cut slices r from n) old blocks
 
 all_become : (first second both : Outputs → Outputs → Type 0) (old mid new : List Outputs) → EachBlock first old mid → EachBlock second mid new
-    → ((j : ℕ) → j < length old → first (block_at old j) (block_at mid j) → second (block_at mid j) (block_at new j) → both (block_at old j) (block_at new j)) → EachBlock both old new
+    → ((j : ℕ) → j < length old → first (outputs_at old j) (outputs_at mid j) → second (outputs_at mid j) (outputs_at new j) → both (outputs_at old j) (outputs_at new j)) → EachBlock both old new
 all_become first second both old mid new a b join = record {
   count = b.count ∙ a.count;
   done = λ j h. join j h (a.done j h) (b.done j (let e = a.count in omega (arith, e)));
@@ -109,15 +109,15 @@ all_become first second both old mid new a b join = record {
 }
 
 pub becomes_too : (first second : Outputs → Outputs → Type 0) (old new : List Outputs) → EachBlock first old new
-    → ((j : ℕ) → j < length old → first (block_at old j) (block_at new j) → second (block_at old j) (block_at new j)) → EachBlock second old new
-becomes_too first second old new a turn = record { count = a.count; done = λ j h. turn j h (a.done j h); rest = a.rest }
+    → ((j : ℕ) → j < length old → first (outputs_at old j) (outputs_at new j) → second (outputs_at old j) (outputs_at new j)) → EachBlock second old new
+becomes_too first second old new a step = record { count = a.count; done = λ j h. step j h (a.done j h); rest = a.rest }
 
 pub nothing_so_far : (cut : Cut) (slices : List (List ℕ)) (r from : ℕ) (rows : Grid) (old blocks : List Outputs) → EachBlock IsCleared old blocks
     → GatheredSoFar cut slices r from 0 rows rows old blocks
 nothing_so_far cut slices r from rows old blocks cleared = record {
   levels = refl;
   words = refl;
-  each = becomes_too IsCleared (IsGathered cut slices r from 0) old blocks cleared (λ j h c. nothing_gathered cut slices r from (block_at old j) (block_at blocks j) c);
+  each = becomes_too IsCleared (IsGathered cut slices r from 0) old blocks cleared (λ j h c. nothing_gathered cut slices r from (outputs_at old j) (outputs_at blocks j) c);
 }
 
 pub one_window_more : (cut : Cut) (slices : List (List ℕ)) (r from n : ℕ) (rows_were mid rows : Grid) (old before blocks : List Outputs)
@@ -127,7 +127,7 @@ one_window_more cut slices r from n rows_were mid rows old before blocks so_far 
   levels = levels ∙ so_far.levels;
   words = words ∙ so_far.words;
   each = all_become (IsGathered cut slices r from n) (GathersWindow cut slices r n from) (IsGathered cut slices r from (n + 1)) old before blocks so_far.each one
-      (λ j h first second. next_gathered cut slices r from n (block_at old j) (block_at before j) (block_at blocks j) first second);
+      (λ j h first second. next_gathered cut slices r from n (outputs_at old j) (outputs_at before j) (outputs_at blocks j) first second);
 }
 
 -- the blocks keep their shape

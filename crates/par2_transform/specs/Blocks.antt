@@ -1,4 +1,5 @@
--- Blocks of outputs: what all windows of a class give at the points, and how that becomes outputs.
+-- Blocks of outputs: the weighted values of all windows of a class at the points, and the outputs that their power sums
+-- give.
 use Rattle.std.specs.Prelude.{ℕ, ◌≡◌, ◌≢◌, ◌<◌, ◌≤◌, ◌+◌, ◌-◌, ◌*◌, ◌^◌, bit_xor, List, [], length, slice_index, slice_index_or}
 use Rattle.par2_spec.specs.Field.{mul, pow}
 use Rattle.par2_spec.specs.Sums.{field_sum, list_at}
@@ -13,19 +14,19 @@ use Rattle.par2_transform.specs.Transforms.{Cut, HasWeights, coefficient_of, win
 abbrev pub weight_at : List (List ℕ) → ℕ → ℕ → ℕ
 weight_at rows a u = slice_index (list_at rows a) u
 
--- consecutive outputs: the exponent of the first one, a weight for each window and point, and what is gathered so far
+-- consecutive outputs: the exponent of the first one, a weight for each window and point, and the sums gathered so far
 pub record Outputs : Type 0 where
   pub exponent : ℕ
   pub windows : ℕ
   pub weights : List (List ℕ)
   pub sums : Grid
 
--- weights for each window and point
+-- each window has a weight for each point, and all weights are elements
 pub record AreWeightRows (levels : ℕ) (rows : List (List ℕ)) : Type 0 where
   pub size : (a : ℕ) → a < length rows → length (list_at rows a) ≡ 2 ^ levels
   pub fit : (a u : ℕ) → slice_index (list_at rows a) u < 2 ^ 16
 
--- the outputs from exponent e on, cut so, in blocks of so many columns of words
+-- a block of the outputs from exponent e on: of this cut, and with this many columns of words
 pub record IsBlock (cut : Cut) (columns e : ℕ) (block : Outputs) : Type 0 where
   pub exponent : block.exponent ≡ e
   pub windows : block.windows ≡ cut.windows
@@ -33,7 +34,7 @@ pub record IsBlock (cut : Cut) (columns e : ℕ) (block : Outputs) : Type 0 wher
   pub levels : block.sums.levels ≡ cut.levels
   pub words : block.sums.words ≡ columns
 
--- only what is gathered differs
+-- only the gathered sums differ
 pub record Keeps (old new : Outputs) : Type 0 where
   pub exponent : new.exponent ≡ old.exponent
   pub windows : new.windows ≡ old.windows
@@ -41,12 +42,12 @@ pub record Keeps (old new : Outputs) : Type 0 where
   pub levels : new.sums.levels ≡ old.sums.levels
   pub words : new.sums.words ≡ old.sums.words
 
--- nothing is gathered
+-- the gathered sums are zero
 pub record IsCleared (old new : Outputs) : Type 0 where
   pub kept : Keeps old new
   pub zero : (c u : ℕ) → column new.sums c u ≡ 0
 
--- to the first n rows, the values are added, each times its weight
+-- to the first n rows, the values are added, each times the weight of its row
 pub record RowsGathered (weights : ℕ → ℕ) (values : Grid) (n : ℕ) (old new : Grid) : Type 0 where
   pub levels : new.levels ≡ old.levels
   pub words : new.words ≡ old.words
@@ -71,56 +72,58 @@ pub record GathersWindow (cut : Cut) (slices : List (List ℕ)) (r a from : ℕ)
   pub added : (c u : ℕ) → c < old.sums.words → u < 2 ^ cut.levels
       → column new.sums c u ≡ bit_xor (column old.sums c u) (mul (weight_at old.weights a u) (window_value cut (words_at slices (from + c)) r a u))
 
--- the first n windows of class r are gathered and nothing else
+-- the first n windows of class r are gathered, and nothing else
 pub record IsGathered (cut : Cut) (slices : List (List ℕ)) (r from n : ℕ) (old new : Outputs) : Type 0 where
   pub kept : Keeps old new
   pub sums : (c u : ℕ) → c < old.sums.words → u < 2 ^ cut.levels
       → column new.sums c u ≡ field_sum n (λ a. mul (weight_at old.weights a u) (window_value cut (words_at slices (from + c)) r a u))
 
--- the block is cut so, in so many columns
+-- the block has the shape of this cut, and this many columns
 pub record HasShape (cut : Cut) (columns : ℕ) (block : Outputs) : Type 0 where
   pub windows : block.windows ≡ cut.windows
   pub levels : block.sums.levels ≡ cut.levels
   pub words : block.sums.words ≡ columns
 
--- block j, or one of nothing
-abbrev pub block_at : List Outputs → ℕ → Outputs
-block_at blocks j = slice_index_or blocks j (record { exponent = 0; windows = 0; weights = []; sums = record { levels = 0; words = 0; bytes = [] } })
+-- block j, or an empty one past the end
+abbrev pub outputs_at : List Outputs → ℕ → Outputs
+outputs_at blocks j = slice_index_or blocks j (record { exponent = 0; windows = 0; weights = []; sums = record { levels = 0; words = 0; bytes = [] } })
 
--- one block becomes what the relation says of it
+-- block j changes by the relation, and no other block changes
 pub record OneBecomes (relation : Outputs → Outputs → Type 0) (j : ℕ) (old new : List Outputs) : Type 0 where
   pub count : length new ≡ length old
-  pub here : relation (block_at old j) (block_at new j)
-  pub others : (i : ℕ) → i ≢ j → block_at new i ≡ block_at old i
+  pub here : relation (outputs_at old j) (outputs_at new j)
+  pub others : (i : ℕ) → i ≢ j → outputs_at new i ≡ outputs_at old i
 
--- the first n blocks become what the relation says of them
+-- the first n blocks change by the relation, and no other block changes
 pub record BlocksBecome (relation : Outputs → Outputs → Type 0) (n : ℕ) (old new : List Outputs) : Type 0 where
   pub count : length new ≡ length old
-  pub done : (j : ℕ) → j < n → relation (block_at old j) (block_at new j)
-  pub rest : (j : ℕ) → n ≤ j → block_at new j ≡ block_at old j
+  pub done : (j : ℕ) → j < n → relation (outputs_at old j) (outputs_at new j)
+  pub rest : (j : ℕ) → n ≤ j → outputs_at new j ≡ outputs_at old j
 
--- each block becomes what the relation says of it
+-- each block changes by the relation
 abbrev pub EachBlock : (Outputs → Outputs → Type 0) → List Outputs → List Outputs → Type 0
 EachBlock relation old new = BlocksBecome relation (length old) old new
 
+-- all blocks have the shape of this cut, and this many columns
 abbrev pub HaveShape : Cut → ℕ → List Outputs → Type 0
-HaveShape cut columns blocks = (j : ℕ) → j < length blocks → HasShape cut columns (block_at blocks j)
+HaveShape cut columns blocks = (j : ℕ) → j < length blocks → HasShape cut columns (outputs_at blocks j)
 
--- the outputs from exponent `first` on in blocks of so many
+-- the blocks, of `size` outputs each, cover the outputs from exponent `first` on
 abbrev pub AreBlocks : Cut → ℕ → ℕ → ℕ → List Outputs → Type 0
-AreBlocks cut columns first size blocks = (j : ℕ) → j < length blocks → IsBlock cut columns (first + j * size) (block_at blocks j)
+AreBlocks cut columns first size blocks = (j : ℕ) → j < length blocks → IsBlock cut columns (first + j * size) (outputs_at blocks j)
 
--- what class r gives to exponent e + t, by what is gathered
+-- the part of class r in a word of the recovery slice of exponent e + t, from the gathered sums: power sum t of these,
+-- times the factor of the exponent
 abbrev pub from_gathered : Cut → (ℕ → ℕ) → ℕ → ℕ → ℕ → ℕ
 from_gathered cut sums e t r =
     mul (mul (pow 2 ((e + t) * r)) (chirp_inverse cut.classes (e + t))) (field_sum (2 ^ cut.levels) (λ u. mul (sums u) (pow (point u) t)))
 
--- what block j of so many outputs gives to word p of output t, in the columns from one place up to another
+-- the part of block j, of `size` outputs, in word p of output t, for the columns from `from` up to `to`
 abbrev pub block_part : Cut → ℕ → ℕ → ℕ → ℕ → Outputs → ℕ → ℕ → ℕ → ℕ
 block_part cut size r from to block j t p =
     within (j * size) (j * size + size) t (within from to p (from_gathered cut (column block.sums (p - from)) block.exponent (t - j * size) r))
 
--- what class r gives to exponent e
+-- the part of class r in a word of the recovery slice of exponent e: the sum over the slices of this class alone
 abbrev pub class_sum_at : Cut → (ℕ → ℕ) → ℕ → ℕ → ℕ
 class_sum_at cut words e r =
     field_sum (cut.windows * cut.window) (λ m. mul (pow 2 (e * (cut.classes * m + r))) (word_at_power words (cut.classes * m + r)))

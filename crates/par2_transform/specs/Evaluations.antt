@@ -1,4 +1,5 @@
--- Values of a polynomial, and how those on a coset come from polynomials of half as many coefficients.
+-- Values of a polynomial, and one step of the additive FFT (Cantor 1989; Gao and Mateer 2010): the values on two cosets
+-- come from two polynomials with half as many coefficients.
 use Rattle.std.specs.Prelude.{ℕ, suc, ◌≡◌, ◌<◌, ◌+◌, ◌^◌, bit_xor}
 use Rattle.par2_spec.specs.Field.{mul, pow}
 use Rattle.par2_spec.specs.Sums.{field_sum}
@@ -8,7 +9,7 @@ use Rattle.par2_transform.specs.Subspaces.{point, vanishing}
 abbrev pub value : ℕ → (ℕ → ℕ) → ℕ → ℕ
 value n coefficients x = field_sum n (λ m. mul (coefficients m) (pow x m))
 
--- these are the values at the points of subspace k of the polynomial with as many coefficients
+-- the values, at the points of subspace k, of the polynomial with 2 ^ k coefficients
 abbrev pub AreValues : ℕ → (ℕ → ℕ) → (ℕ → ℕ) → Type 0
 AreValues k coefficients values = (u : ℕ) → u < 2 ^ k → values u ≡ value (2 ^ k) coefficients (point u)
 
@@ -16,8 +17,8 @@ AreValues k coefficients values = (u : ℕ) → u < 2 ^ k → values u ≡ value
 abbrev pub from : ℕ → (ℕ → ℕ) → ℕ → ℕ
 from a values e = values (a + e)
 
--- a polynomial of 2 * 2 ^ i coefficients is divided by the vanishing polynomial less c: the lower half has what is left,
--- and the upper half what is left and the quotient
+-- the butterfly of the additive FFT: a polynomial with 2 ^ (i + 1) coefficients is divided by the subspace polynomial
+-- minus c. The lower half is the remainder, the upper half the remainder plus the quotient
 pub record IsSplit (i c : ℕ) (whole split : ℕ → ℕ) : Type 0 where
   pub divided : (x : ℕ) → x < 2 ^ 16 → value (2 ^ suc i) whole x
       ≡ bit_xor (value (2 ^ i) split x)

@@ -1,10 +1,10 @@
 -- Sums of products by the error locator of lost slices (W. W. Peterson, "Encoding and error-correction procedures for
--- the Bose-Chaudhuri codes", 1960; G. D. Forney, "On decoding BCH codes", 1965). The polynomial whose roots are some
--- points is divided by z less one of them: coefficient s of the quotient is the value there of the polynomial whose
--- coefficients are the whole one's from s + 1 on. `sequence` is that polynomial's coefficients from 1 on.
+-- the Bose-Chaudhuri codes", 1960; G. D. Forney, "On decoding BCH codes", 1965). A polynomial whose roots are the
+-- points is divided by z minus one of them. Coefficient s of the quotient is the value, at that point, of the
+-- polynomial's coefficients from s + 1 on. `sequence` has the polynomial's coefficients from 1 on.
 use Rattle.std.specs.Prelude.{ℕ, ◌≡◌, ◌<◌, ◌≤◌, ◌+◌, ◌*◌, ◌^◌, List, length, slice_index}
 use Rattle.par2_spec.specs.Field.{mul}
-use Rattle.par2_spec.specs.Sums.{field_sum, AreElements}
+use Rattle.par2_spec.specs.Sums.{field_sum, GivesElements}
 use Rattle.par2_transform.specs.Adding.{within}
 use Rattle.par2_transform.specs.Chirps.{AreWeights}
 use Rattle.par2_transform.specs.Columns.{words_at}
@@ -18,22 +18,22 @@ abbrev pub quotient_coefficient : (sequence points factors : List ℕ) → ℕ �
 quotient_coefficient sequence points factors j s =
     mul (slice_index factors j) (value (length sequence) (from s (slice_index sequence)) (slice_index points j))
 
--- the sum of the words, each times the coefficient at its place
+-- the sum of the words, each times its coefficient of the quotient
 abbrev pub quotient_sum : (sequence points factors : List ℕ) → (ℕ → ℕ) → ℕ → ℕ
 quotient_sum sequence points factors words j = field_sum (length sequence) (λ s. mul (quotient_coefficient sequence points factors j s) (words s))
 
--- coefficient t of the numerator (Forney's error evaluator): what the words from 0 on are multiplied by are the
--- coefficients from t on
+-- coefficient t of the numerator, the error evaluator of Forney's formula (Forney 1965): the words, in a repair the
+-- syndromes, times the coefficients from t on
 abbrev pub numerator : List ℕ → (ℕ → ℕ) → ℕ → ℕ
 numerator sequence words t = field_sum (length sequence) (λ s. mul (slice_index sequence (s + t)) (words s))
 
--- the sequence is the power sums of the weights over subspace k
+-- the sequence has the power sums of the weights over subspace k
 pub record IsWeighed (k : ℕ) (sequence weights : List ℕ) : Type 0 where
   pub count : length weights ≡ 2 ^ k
-  pub fit : AreElements (slice_index weights)
+  pub fit : GivesElements (slice_index weights)
   pub are : AreWeights k (slice_index sequence) 0 (slice_index weights)
 
--- the numbers of points, and a list of these numbers
+-- `numbers` has the number of each point, and `next` lists these numbers
 pub record AreNumbered (points numbers next : List ℕ) : Type 0 where
   pub count : length numbers ≡ length points
   pub small : (j : ℕ) → slice_index numbers j < 65536
@@ -41,13 +41,13 @@ pub record AreNumbered (points numbers next : List ℕ) : Type 0 where
   pub points_are : (j : ℕ) → j < length points → point (slice_index numbers j) ≡ slice_index points j
   pub listed : (j : ℕ) → j < length points → IsListed (slice_index next) (slice_index numbers j)
 
--- all are elements
+-- all coefficients, points and factors are elements
 pub record AreFit (sequence points factors : List ℕ) : Type 0 where
-  pub sequence_fit : AreElements (slice_index sequence)
-  pub points_fit : AreElements (slice_index points)
-  pub factors_fit : AreElements (slice_index factors)
+  pub sequence_fit : GivesElements (slice_index sequence)
+  pub points_fit : GivesElements (slice_index points)
+  pub factors_fit : GivesElements (slice_index factors)
 
--- the first n rows have these words, and the others are zero
+-- word c of row u has become `given c u` in the first n rows, and 0 in the others
 pub record HaveFirst (n : ℕ) (given : ℕ → ℕ → ℕ) (old new : Grid) : Type 0 where
   pub levels : new.levels ≡ old.levels
   pub words : new.words ≡ old.words
@@ -60,17 +60,18 @@ pub record AreNumerators (sequence : List ℕ) (sources : List (List ℕ)) (at :
   pub words : new.words ≡ old.words
   pub each : (c t : ℕ) → c < old.words → t < length sequence → column new c t ≡ numerator sequence (words_at sources (at + c)) t
 
--- the same, of the rows alone
+-- the first rows are the coefficients of the numerators over the sources' words from `at` on (as AreNumerators, of the
+-- rows alone)
 abbrev pub HoldNumerators : List ℕ → List (List ℕ) → ℕ → Grid → Type 0
 HoldNumerators sequence sources at sums =
     (c t : ℕ) → c < sums.words → t < length sequence → column sums c t ≡ numerator sequence (words_at sources (at + c)) t
 
--- the rows have the values at the listed points of a coset of the polynomials whose coefficients are the first n rows
+-- the rows have the values, at the listed points of a coset, of the polynomials whose coefficients are the first n rows
 pub record AreValuesOf (next : List ℕ) (k coset n : ℕ) (sums old new : Grid) : Type 0 where
   pub levels : new.levels ≡ old.levels
   pub words : new.words ≡ old.words
   pub each : (c u : ℕ) → c < old.words → u < 2 ^ k → IsListed (slice_index next) (coset * 2 ^ k + u) → column new c u ≡ value n (column sums c) (point (coset * 2 ^ k + u))
 
--- x where point j is in the coset, and 0 elsewhere
+-- x if point j is in the coset, and 0 otherwise
 abbrev pub in_coset : List ℕ → ℕ → ℕ → ℕ → ℕ → ℕ
 in_coset numbers k coset j x = within (coset * 2 ^ k) (coset * 2 ^ k + 2 ^ k) (slice_index numbers j) x

@@ -1,29 +1,30 @@
--- Sums of powers of the points of a coset, and how those of two cosets give those of both.
+-- Weighted sums of powers of the points of a coset, and the butterfly of the transposed additive FFT: the sums over two
+-- cosets give those over both.
 use Rattle.std.specs.Prelude.{ℕ, ◌≡◌, ◌<◌, ◌+◌, ◌*◌, ◌^◌, bit_xor}
 use Rattle.std.specs.Int.{bit_at}
 use Rattle.par2_spec.specs.Field.{mul, pow}
 use Rattle.par2_spec.specs.Sums.{field_sum}
 use Rattle.par2_transform.specs.Subspaces.{point, powers_in}
 
--- the number of point u of coset q of subspace i
+-- the number of point u in coset q of subspace i
 abbrev pub member : ℕ → ℕ → ℕ → ℕ
 member i q u = q * 2 ^ i + u
 
--- the sum over coset q of subspace i: each point's weight times its power e
+-- the sum over coset q of subspace i of each point's weight times its power e
 unfoldable pub power_sum : (ℕ → ℕ) → ℕ → ℕ → ℕ → ℕ
 unfolding field_sum mul pow point
 power_sum weight i q e = field_sum (2 ^ i) (λ u. mul (weight (member i q u)) (pow (point (member i q u)) e))
 
--- these are the sums of the first 2 ^ k powers of the points of subspace k
+-- the sums of the first 2 ^ k powers of the points of subspace k, the transpose of the additive FFT
 abbrev pub ArePowerSums : ℕ → (ℕ → ℕ) → (ℕ → ℕ) → Type 0
 ArePowerSums k weight sums = (e : ℕ) → e < 2 ^ k → sums e ≡ power_sum weight k 0 e
 
--- the sum of the values that stand as far after place e as the powers below 2 ^ i of the vanishing polynomial
+-- the sum of the values e + 2 ^ j, for the powers 2 ^ j below 2 ^ i of subspace polynomial i
 abbrev pub sum_ahead : ℕ → (ℕ → ℕ) → ℕ → ℕ
 sum_ahead i values e = field_sum i (λ j. bit_at (powers_in i) j * values (e + 2 ^ j))
 
--- two runs of 2 ^ i values are merged, the second one after the first: c is the value of the vanishing polynomial on the
--- first coset
+-- the butterfly of the transpose: two runs of 2 ^ i values, one after the other, are merged. c is the value of the
+-- subspace polynomial on the first coset
 pub record IsMerged (i c : ℕ) (split merged : ℕ → ℕ) : Type 0 where
   pub low : (e : ℕ) → e < 2 ^ i → merged e ≡ bit_xor (split e) (split (2 ^ i + e))
   pub high : (e : ℕ) → e < 2 ^ i → merged (2 ^ i + e) ≡ bit_xor (split (2 ^ i + e)) (bit_xor (mul c (merged e)) (sum_ahead i merged e))

@@ -1,20 +1,22 @@
-//! A basis of the field, its points and the powers in the polynomials that vanish on its subspaces.
+//! A Cantor basis of the field, its points, and the polynomials that vanish on its subspaces (Cantor 1989). Point u is
+//! the element to which row u of a transform belongs. Subspace i is the points below `2 ^ i`.
 
 ghost use Rattle.std.specs.Prelude.{◌≡◌, ◌<◌, slice_index};
 ghost use Rattle.par2_transform.specs.Subspaces.{basis, point, bit_numbers, point_number, powers_in};
 
+// The elements of the basis: the first is 1, and each is the sum of the next one and its square.
 const BASIS: [u16; 16] = [
     0x1, 0x15E, 0x1A, 0x1CF2, 0x169A, 0xBBAC, 0xFDE2, 0x468A, 0x712, 0x1B76, 0xAD6C, 0x4640,
     0xA79E, 0xF2B4, 0xF77A, 0x7FE2,
 ];
 
-// For each bit of an element, the number of the point that has this bit alone.
+// Entry i is the number of the point whose only set bit is bit i.
 const BIT_NUMBERS: [u16; 16] = [
     0x1, 0x1F70, 0x10C8, 0x7D8, 0x18AC, 0x48DC, 0x434, 0x141C, 0x14FA, 0x7E94, 0x6CB2, 0x35BC,
     0x62E, 0xECD8, 0x1E12, 0xFED4,
 ];
 
-// Element i.
+// Basis element i.
 #[inline(always)]
 fn element(i: usize) -> u16
     requires { i < 16 }
@@ -23,7 +25,7 @@ fn element(i: usize) -> u16
     BASIS[i]
 }
 
-/// Point u.
+/// Point u: the sum of the basis elements at the set bits of u.
 pub(crate) fn point(u: u16) -> u16
     ensures { result ≡ point u }
 {
@@ -36,7 +38,7 @@ pub(crate) fn point(u: u16) -> u16
     sum
 }
 
-// The number of the point that has bit i alone.
+// The number of the point whose only set bit is bit i.
 #[inline(always)]
 fn bit_number(i: usize) -> u16
     requires { i < 16 }
@@ -45,7 +47,7 @@ fn bit_number(i: usize) -> u16
     BIT_NUMBERS[i]
 }
 
-/// The number of point x.
+/// The number of the point that is the element x: the inverse of `point`. The locator needs it for the row of a root.
 pub(crate) fn point_number(x: u16) -> u16
     ensures { result ≡ point_number x }
 {
@@ -58,7 +60,8 @@ pub(crate) fn point_number(x: u16) -> u16
     sum
 }
 
-/// The powers `x ^ (2 ^ j)` of which the polynomial that vanishes on subspace i is the sum, as bits.
+/// The powers of subspace polynomial i, which vanishes on subspace i and is a sum of powers `x ^ (2 ^ j)`. Bit j of the
+/// result says whether this one is in it.
 pub(crate) fn powers_in(i: u32) -> u32
     requires { i < 16 }
     ensures { result ≡ powers_in i }

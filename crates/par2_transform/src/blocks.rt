@@ -1,10 +1,12 @@
-//! Blocks of outputs: what all windows of a class give at the points, and how that becomes outputs.
+//! Blocks of outputs. A block gathers the weighted values of all windows of a class at the points, and turns them into
+//! outputs by power sums. For each class, `clear_all` resets the sums of all blocks, `gather_all` is called for each
+//! window, and `add_all` adds the outputs. Row u of the sums belongs to point u, and a column is a word of the outputs.
 
 ghost use Rattle.std.specs.Prelude.{◌≡◌, ℕ, ◌+◌, ◌-◌, ◌*◌, ◌^◌, ◌<◌, ◌≤◌, length, slice_index, IfOk};
 ghost use Rattle.par2_spec.specs.Field.{mul, pow};
 ghost use Rattle.par2_spec.specs.Sums.{field_sum, list_at, lists_of};
 ghost use Rattle.par2_transform.specs.Adding.{within, AddsAt, LieWithin};
-ghost use Rattle.par2_transform.specs.Blocks.{IsBlock, IsCleared, RowsGathered, Gathers, Takes, Keeps, AreWeightRows, EachBlock, OneBecomes, from_gathered, block_at, block_part, weight_at};
+ghost use Rattle.par2_transform.specs.Blocks.{IsBlock, IsCleared, RowsGathered, Gathers, Takes, Keeps, AreWeightRows, EachBlock, OneBecomes, from_gathered, outputs_at, block_part, weight_at};
 ghost use Rattle.par2_transform.specs.Chirps.{chirp, chirp_inverse};
 ghost use Rattle.par2_transform.specs.Grids.{column};
 ghost use Rattle.par2_transform.specs.Plans.{cut_of};
@@ -20,7 +22,7 @@ use par2_gf16::{Factor, Gf};
 use std::alloc::{AllocError, Global};
 use std::marker::Model;
 
-/// Consecutive outputs: for each window the weights of the points, and what is gathered at the points so far.
+/// Consecutive outputs: the weights of the points for each window, and the sums gathered at the points so far.
 #[derive(Drop)]
 pub(crate) struct Block {
     exponent: u64,
@@ -45,7 +47,7 @@ impl Model for Block {
     ghost invariant = { λ b. AreWeightRows b.sums.levels (lists_of b.weights.items) };
 }
 
-// The chirps from m on.
+// The `2 ^ levels` chirps from chirp m on, of step `plan.classes`: the power sums that the weights of a window have.
 fn chirps(alloc: Global, gf: &Gf, plan: &Plan, m: u64) -> Result<Vec<u16>, AllocError>
     requires { m ≤ 2 ^ 40 }
     ensures count { IfOk result (λ chirps. length chirps.items ≡ 2 ^ plan.now.levels) }
@@ -60,8 +62,8 @@ fn chirps(alloc: Global, gf: &Gf, plan: &Plan, m: u64) -> Result<Vec<u16>, Alloc
     Ok(chirps)
 }
 
-// For each window the weights of the points, by which the chirps from the window's first number and the exponent on are
-// their power sums.
+// For each window, the weights of the points whose power sums are the chirps from the window's first number plus
+// `exponent` on.
 fn window_weights(
     alloc: Global,
     gf: &Gf,
@@ -83,6 +85,7 @@ fn window_weights(
     Ok(all)
 }
 
+// The weights of window a, one for each point.
 #[inline(always)]
 fn weights_at(rows: &[Vec<u16>], a: usize) -> &[u16]
     requires { a < length rows.now }
@@ -91,7 +94,8 @@ fn weights_at(rows: &[Vec<u16>], a: usize) -> &[u16]
     &rows[a]
 }
 
-/// To each row, adds the product of the point's weight and the values there.
+/// Adds to each row u of `sums` row u of `values` times the weight of point u. A block gathers a window with it, and a
+/// locator its sources.
 pub(crate) fn gather_rows(gf: &Gf, weights: &[u16], values: &Rows, sums: &mut Rows)
     requires weights { length weights.now ≡ 2 ^ sums.old.levels }
     requires levels { values.now.levels ≡ sums.old.levels }
@@ -106,7 +110,8 @@ pub(crate) fn gather_rows(gf: &Gf, weights: &[u16], values: &Rows, sums: &mut Ro
 }
 
 impl Block {
-    /// Computes the weights for the outputs from an exponent on.
+    /// The block of the outputs of the exponents from `exponent` on, as many as `plan.block`: computes their weights.
+    /// The sums are zero.
     pub(crate) fn new(
         alloc: Global,
         gf: &Gf,
@@ -125,14 +130,15 @@ impl Block {
         })
     }
 
-    /// Begins with nothing gathered.
+    /// Resets the gathered sums to zero, before the windows of the next class.
     pub(crate) fn clear(&mut self)
         ensures { IsCleared self.old self.new }
     {
         self.sums.clear();
     }
 
-    /// Adds the values of window a, each times its weight.
+    /// Adds to the gathered sums the values of window a, whose row u is for point u, each times the window's weight for
+    /// its point. `Takes`: the block has weights for this window and the shape of the values.
     pub(crate) fn gather(&mut self, gf: &Gf, a: usize, values: &Rows)
         requires { Takes a values.now self.old }
         ensures { Gathers a values.now self.old self.new }
@@ -140,8 +146,9 @@ impl Block {
         gather_rows(gf, weights_at(&self.weights, a), values, &mut self.sums);
     }
 
-    /// To some columns of the outputs from `first` on, adds what class r gives by what is gathered. What was gathered is
-    /// lost.
+    /// Turns the sums gathered for class r into outputs, and adds these to the outputs from `first` on, in columns
+    /// `from` up to `to`. `first` is the index, among all outputs, of the block's first one. The gathered sums are
+    /// overwritten.
     pub(crate) fn add_to(
         &mut self,
         gf: &Gf,
@@ -149,23 +156,27 @@ impl Block {
         r: usize,
         from: usize,
         to: usize,
-        texts: &mut [Vec<u8>],
+        buffers: &mut [Vec<u8>],
         outputs: &Places,
         first: usize,
     )
+        // The block has the shape of the plan, and r is one of its classes.
         requires exponent { self.old.exponent ≤ 2 ^ 34 }
         requires class { r < plan.now.classes }
         requires levels { self.old.sums.levels ≡ plan.now.levels }
         requires words { self.old.sums.words ≡ plan.now.columns }
+        // One block of columns at most, inside the outputs, which lie inside the buffers.
         requires order { from ≤ to }
         requires columns { to ≤ from + plan.now.columns }
         requires inside { to ≤ outputs.now.words }
-        requires room { LieWithin outputs.now.words outputs.now.places.now (lists_of texts.old) }
+        requires room { LieWithin outputs.now.words outputs.now.places.now (lists_of buffers.old) }
+        // The part of class r is added to the outputs of this block and to nothing else. Only the sums of the block
+        // change.
         ensures kept { Keeps self.old self.new }
         ensures added { AddsAt outputs.now.places.now outputs.now.words
             (λ t p. within first (first + plan.now.block) t
             (within from to p (from_gathered (cut_of plan.now) (column self.old.sums (p - from))
-            self.old.exponent (t - first) r))) (lists_of texts.old) (lists_of texts.new) }
+            self.old.exponent (t - first) r))) (lists_of buffers.old) (lists_of buffers.new) }
     {
         power_sums(gf, &mut self.sums);
         for t in 0..plan.block.min(outputs.len().saturating_sub(first)) {
@@ -174,7 +185,7 @@ impl Block {
                 gf,
                 factor,
                 self.sums.row(t),
-                texts,
+                buffers,
                 outputs,
                 first + t,
                 from,
@@ -184,7 +195,7 @@ impl Block {
     }
 }
 
-// What class r's power sum is multiplied by for exponent e.
+// The factor by which class r's power sum becomes its part in the output of exponent e: 2 ^ (e r) divided by chirp e.
 fn factor_of(gf: &Gf, plan: &Plan, r: usize, e: u64) -> u16
     requires class { r < plan.now.classes }
     requires exponent { e ≤ 2 ^ 40 }
@@ -196,7 +207,7 @@ fn factor_of(gf: &Gf, plan: &Plan, r: usize, e: u64) -> u16
     )
 }
 
-// Clears block j.
+// Resets the gathered sums of block j to zero: the step of `clear_all`. `OneBecomes`: no other block changes.
 fn clear_one(blocks: &mut [Block], j: usize)
     requires { j < length blocks.old }
     ensures { OneBecomes IsCleared j blocks.old blocks.new }
@@ -204,7 +215,7 @@ fn clear_one(blocks: &mut [Block], j: usize)
     blocks[j].clear();
 }
 
-/// Clears all blocks.
+/// Resets the gathered sums of all blocks to zero, before the windows of a class are gathered.
 pub(crate) fn clear_all(blocks: &mut [Block])
     ensures { EachBlock IsCleared blocks.old blocks.new }
 {
@@ -213,18 +224,18 @@ pub(crate) fn clear_all(blocks: &mut [Block])
     }
 }
 
-// Gathers in block j.
+// Gathers the values of window a in block j: the step of `gather_all`. No other block changes.
 fn gather_one(gf: &Gf, a: usize, values: &Rows, blocks: &mut [Block], j: usize)
     requires place { j < length blocks.old }
-    requires takes { Takes a values.now (block_at blocks.old j) }
+    requires takes { Takes a values.now (outputs_at blocks.old j) }
     ensures { OneBecomes (Gathers a values.now) j blocks.old blocks.new }
 {
     blocks[j].gather(gf, a, values);
 }
 
-/// Gathers in all blocks.
+/// Gathers in all blocks the values of window a at the points, each block with its own weights.
 pub(crate) fn gather_all(gf: &Gf, a: usize, values: &Rows, blocks: &mut [Block])
-    requires { (j : ℕ) → j < length blocks.old → Takes a values.now (block_at blocks.old j) }
+    requires { (j : ℕ) → j < length blocks.old → Takes a values.now (outputs_at blocks.old j) }
     ensures { EachBlock (Gathers a values.now) blocks.old blocks.new }
 {
     for j in 0..blocks.len() {
@@ -232,7 +243,8 @@ pub(crate) fn gather_all(gf: &Gf, a: usize, values: &Rows, blocks: &mut [Block])
     }
 }
 
-// Adds what block j gives.
+// Turns the sums that block j gathered for class r into outputs, and adds these in columns `from` up to `to`: the step
+// of `add_all`.
 fn add_one(
     gf: &Gf,
     plan: &Plan,
@@ -241,28 +253,31 @@ fn add_one(
     to: usize,
     blocks: &mut [Block],
     j: usize,
-    texts: &mut [Vec<u8>],
+    buffers: &mut [Vec<u8>],
     outputs: &Places,
 )
+    // Block j has the shape of the plan, and r is one of its classes.
     requires place { j < length blocks.old }
     requires few { length blocks.old * plan.now.block ≤ 2 ^ 34 }
-    requires exponent { (block_at blocks.old j).exponent ≤ 2 ^ 34 }
+    requires exponent { (outputs_at blocks.old j).exponent ≤ 2 ^ 34 }
     requires class { r < plan.now.classes }
-    requires levels { (block_at blocks.old j).sums.levels ≡ plan.now.levels }
-    requires words { (block_at blocks.old j).sums.words ≡ plan.now.columns }
+    requires levels { (outputs_at blocks.old j).sums.levels ≡ plan.now.levels }
+    requires words { (outputs_at blocks.old j).sums.words ≡ plan.now.columns }
+    // One block of columns at most, inside the outputs, which lie inside the buffers.
     requires order { from ≤ to }
     requires columns { to ≤ from + plan.now.columns }
     requires inside { to ≤ outputs.now.words }
-    requires room { LieWithin outputs.now.words outputs.now.places.now (lists_of texts.old) }
+    requires room { LieWithin outputs.now.words outputs.now.places.now (lists_of buffers.old) }
+    // The part of class r is added to the outputs of block j and to nothing else. Only its sums change.
     ensures kept { OneBecomes Keeps j blocks.old blocks.new }
     ensures added { AddsAt outputs.now.places.now outputs.now.words
-        (block_part (cut_of plan.now) plan.now.block r from to (block_at blocks.old j) j)
-        (lists_of texts.old) (lists_of texts.new) }
+        (block_part (cut_of plan.now) plan.now.block r from to (outputs_at blocks.old j) j)
+        (lists_of buffers.old) (lists_of buffers.new) }
 {
-    blocks[j].add_to(gf, plan, r, from, to, texts, outputs, j * plan.block);
+    blocks[j].add_to(gf, plan, r, from, to, buffers, outputs, j * plan.block);
 }
 
-/// To some columns of the outputs, adds what class r gives by what is gathered.
+/// Turns the sums that all blocks gathered for class r into outputs, and adds these in columns `from` up to `to`.
 pub(crate) fn add_all(
     gf: &Gf,
     plan: &Plan,
@@ -270,28 +285,31 @@ pub(crate) fn add_all(
     from: usize,
     to: usize,
     blocks: &mut [Block],
-    texts: &mut [Vec<u8>],
+    buffers: &mut [Vec<u8>],
     outputs: &Places,
 )
+    // All blocks have the shape of the plan, and r is one of its classes.
     requires few { length blocks.old * plan.now.block ≤ 2 ^ 34 }
     requires exponents { (j : ℕ) → j < length blocks.old
-        → (block_at blocks.old j).exponent ≤ 2 ^ 34 }
+        → (outputs_at blocks.old j).exponent ≤ 2 ^ 34 }
     requires class { r < plan.now.classes }
     requires levels { (j : ℕ) → j < length blocks.old
-        → (block_at blocks.old j).sums.levels ≡ plan.now.levels }
+        → (outputs_at blocks.old j).sums.levels ≡ plan.now.levels }
     requires words { (j : ℕ) → j < length blocks.old
-        → (block_at blocks.old j).sums.words ≡ plan.now.columns }
+        → (outputs_at blocks.old j).sums.words ≡ plan.now.columns }
+    // One block of columns at most, inside the outputs, which lie inside the buffers.
     requires order { from ≤ to }
     requires columns { to ≤ from + plan.now.columns }
     requires inside { to ≤ outputs.now.words }
-    requires room { LieWithin outputs.now.words outputs.now.places.now (lists_of texts.old) }
+    requires room { LieWithin outputs.now.words outputs.now.places.now (lists_of buffers.old) }
+    // Each output gets the sum of the parts of all blocks. Only the sums of the blocks change.
     ensures kept { EachBlock Keeps blocks.old blocks.new }
     ensures added { AddsAt outputs.now.places.now outputs.now.words
         (λ t p. field_sum (length blocks.old) (λ j.
-        block_part (cut_of plan.now) plan.now.block r from to (block_at blocks.old j) j t p))
-        (lists_of texts.old) (lists_of texts.new) }
+        block_part (cut_of plan.now) plan.now.block r from to (outputs_at blocks.old j) j t p))
+        (lists_of buffers.old) (lists_of buffers.new) }
 {
     for j in 0..blocks.len() {
-        add_one(gf, plan, r, from, to, blocks, j, texts, outputs);
+        add_one(gf, plan, r, from, to, blocks, j, buffers, outputs);
     }
 }

@@ -1,4 +1,6 @@
-//! Values of polynomials at some points of a coset of a subspace.
+//! The additive FFT pruned to some points of a coset: runs that contain none of these points are not split. The locator
+//! lists the numbers of its points once (`list`), and then evaluates at those of each coset (`values_in_coset`). A run
+//! of level i is the `2 ^ i` rows of a coset of subspace i.
 
 ghost use Rattle.std.specs.Prelude.{◌≡◌, ℕ, ◌+◌, ◌-◌, ◌*◌, ◌^◌, ◌<◌, ◌≤◌, suc, length, slice_index, IfOk};
 ghost use Rattle.par2_transform.specs.Cosets.{AreListedValues, IsListed, IsListedLevel, IsListedSplit, run_in};
@@ -11,10 +13,11 @@ use crate::rows::Rows;
 use par2_gf16::Gf;
 use std::alloc::{AllocError, Global};
 
-/// How many points there are.
+// The number of points of the whole field.
 const POINTS: usize = 65536;
 
-/// From each number on, the least of these numbers, or as many as there are points.
+/// For each n below 65,536, the least of `numbers` that is n or more, or 65,536 if there is none. One look at it tells
+/// whether a run contains a listed point. `IsListed`: the number is in the list.
 pub(crate) fn list(alloc: Global, numbers: &[u16]) -> Result<Vec<u32>, AllocError>
     ensures count { IfOk result (λ next. length next.items ≡ 65536) }
     ensures listed { IfOk result (λ next. (j : ℕ) → j < length numbers.now
@@ -25,7 +28,7 @@ pub(crate) fn list(alloc: Global, numbers: &[u16]) -> Result<Vec<u32>, AllocErro
     Ok(next)
 }
 
-// From each place on, names the least of the numbers.
+// Enters at each index of `next`, which has 65,536 everywhere, the least of the numbers from this index on.
 fn name_all(numbers: &[u16], next: &mut [u32])
     requires { length next.old ≡ 65536 }
     ensures { (j : ℕ) → j < length numbers.now
@@ -35,7 +38,7 @@ fn name_all(numbers: &[u16], next: &mut [u32])
     name_least(next);
 }
 
-// Names each number at its place.
+// The first step of `name_all`: enters each number at its own index.
 fn name_each(numbers: &[u16], next: &mut [u32])
     requires { length next.old ≡ 65536 }
     ensures { (j : ℕ) → j < length numbers.now
@@ -46,7 +49,7 @@ fn name_each(numbers: &[u16], next: &mut [u32])
     }
 }
 
-// At each place, names the least of what is named from there on.
+// The second step of `name_all`: replaces each entry by the least one from it on.
 fn name_least(next: &mut [u32])
     ensures { (n : ℕ) → n < length next.old → slice_index next.old n ≤ n
         → IsListed (slice_index next.new) n }
@@ -56,13 +59,17 @@ fn name_least(next: &mut [u32])
     }
 }
 
-// Splits run q of a coset into two, where a listed point is in it.
+// Splits run q of level i + 1 into two runs of level i if it contains a listed point. The rows hold one coset, which
+// has the number `coset`, and q counts the runs in it.
 fn split_listed(gf: &Gf, rows: &mut Rows, next: &[u32], coset: usize, i: u32, q: usize)
+    // Run q of level i + 1 lies in this coset of the subspace.
     requires few { rows.old.levels ≤ 16 }
     requires level { i < rows.old.levels }
     requires run { q < 2 ^ (rows.old.levels - suc i) }
     requires coset { coset < 2 ^ (16 - rows.old.levels) }
+    // The list has an entry for each point.
     requires count { length next.now ≡ 65536 }
+    // The run is split if it contains a listed point. No other run changes.
     ensures { EachColumn (OnElements (OneRun (q * 2 ^ suc i) (2 ^ suc i)
         (IsListedSplit (slice_index next.now) i (run_in rows.old.levels coset (suc i) q))))
         rows.old rows.new }
@@ -74,7 +81,7 @@ fn split_listed(gf: &Gf, rows: &mut Rows, next: &[u32], coset: usize, i: u32, q:
     }
 }
 
-// Splits the runs of the next level into two that have a listed point.
+// Splits each run of level i + 1 that contains a listed point into two of level i. `coset` is the coset of the rows.
 fn split_listed_level(gf: &Gf, rows: &mut Rows, next: &[u32], coset: usize, i: u32)
     requires few { rows.old.levels ≤ 16 }
     requires level { i < rows.old.levels }
@@ -89,7 +96,8 @@ fn split_listed_level(gf: &Gf, rows: &mut Rows, next: &[u32], coset: usize, i: u
     }
 }
 
-/// Of each column of coefficients, the values of the polynomial at the listed points of a coset.
+/// Replaces each column of coefficients by the values of the polynomial at the listed points of a coset. The other rows
+/// have no meaning afterwards. The field has `2 ^ (16 - levels)` cosets of `2 ^ levels` points.
 pub(crate) fn values_in_coset(gf: &Gf, rows: &mut Rows, next: &[u32], coset: usize)
     requires few { rows.old.levels ≤ 16 }
     requires coset { coset < 2 ^ (16 - rows.old.levels) }

@@ -1,4 +1,7 @@
-//! Power sums and values at the points of a subspace, level by level, of all columns of words.
+//! The additive FFT (values of polynomials at the points of a subspace) and its transpose (power sums), level by level,
+//! on all columns of words at once (Cantor 1989; Gao and Mateer 2010). Each level is a pass of butterflies, which add
+//! runs of rows to each other. A run of level i is the `2 ^ i` rows of a coset of subspace i, and run q begins at row
+//! `q * 2 ^ i`. The transpose merges runs from level 0 up, and the FFT splits them from the highest level down.
 
 ghost use Rattle.std.specs.Prelude.{◌<◌, ◌≤◌, ◌+◌, ◌-◌, ◌*◌, ◌^◌, ◌⊎◌, suc};
 ghost use Rattle.par2_spec.specs.Field.{mul};
@@ -13,7 +16,7 @@ use crate::basis::{point, powers_in};
 use crate::rows::Rows;
 use par2_gf16::{Factor, Gf};
 
-/// Of each column of weights, the sums of the first powers of the points.
+/// The transpose: replaces each column of weights by the weighted sums of the first `2 ^ levels` powers of the points.
 pub(crate) fn power_sums(gf: &Gf, rows: &mut Rows)
     ensures { EachColumn (ArePowerSums rows.old.levels) rows.old rows.new }
 {
@@ -23,7 +26,7 @@ pub(crate) fn power_sums(gf: &Gf, rows: &mut Rows)
     }
 }
 
-/// Of each column of coefficients, the values of the polynomial at the points.
+/// The additive FFT: replaces each column of coefficients by the values of the polynomial at the points.
 pub(crate) fn values_at_points(gf: &Gf, rows: &mut Rows)
     ensures { EachColumn (AreValues rows.old.levels) rows.old rows.new }
 {
@@ -34,7 +37,7 @@ pub(crate) fn values_at_points(gf: &Gf, rows: &mut Rows)
     rows.fit();
 }
 
-/// Merges each two runs of a level to one.
+/// The butterflies of level i of the transpose: merges the runs of `2 ^ i` rows in pairs.
 pub(crate) fn merge_level(gf: &Gf, rows: &mut Rows, i: u32)
     requires { i < rows.old.levels }
     ensures { EachColumn (IsMergedLevel rows.old.levels i) rows.old rows.new }
@@ -44,7 +47,7 @@ pub(crate) fn merge_level(gf: &Gf, rows: &mut Rows, i: u32)
     }
 }
 
-/// Splits each run of the next level into two.
+/// The butterflies of level i of the additive FFT: splits each run of `2 ^ (i + 1)` rows into two.
 pub(crate) fn split_level(gf: &Gf, rows: &mut Rows, i: u32)
     requires { i < rows.old.levels }
     ensures { EachColumn (IsSplitLevel rows.old.levels i) rows.old rows.new }
@@ -55,7 +58,8 @@ pub(crate) fn split_level(gf: &Gf, rows: &mut Rows, i: u32)
     }
 }
 
-// Merges a pair of runs.
+// Merges runs 2 q and 2 q + 1 of level i into run q of level i + 1: the power sums over two cosets give those over
+// both. `weights::unmerge` inverts it on one column.
 fn merge(gf: &Gf, rows: &mut Rows, i: u32, q: u16)
     requires few { rows.old.levels ≤ 16 }
     requires level { i < rows.old.levels }
@@ -69,7 +73,8 @@ fn merge(gf: &Gf, rows: &mut Rows, i: u32, q: u16)
     raise(gf, rows, i, start, point(2 * q));
 }
 
-/// Splits run q into two: c is the value of the vanishing polynomial on the first coset.
+/// Splits run q of level i + 1 into two of level i: from the coefficients of a polynomial to those of two polynomials
+/// that agree with it on one half of the coset each. c is the value of subspace polynomial i on the first half.
 pub(crate) fn split(gf: &Gf, rows: &mut Rows, i: u32, q: u16, c: u16)
     requires few { rows.old.levels ≤ 16 }
     requires level { i < rows.old.levels }
@@ -83,8 +88,7 @@ pub(crate) fn split(gf: &Gf, rows: &mut Rows, i: u32, q: u16, c: u16)
     rows.add_rows(start, start + half, half);
 }
 
-// To `count` rows from row `to` on, adds the products of c and those from row `from` on. In the first pair of each level
-// c is 0.
+// Adds c times the `count` rows from `from` on to those from `to` on, unless c is 0, as in the first run of each level.
 fn add_scaled(gf: &Gf, rows: &mut Rows, c: u16, from: usize, to: usize, count: usize)
     requires from { from + count ≤ 2 ^ rows.old.levels }
     requires to { to + count ≤ 2 ^ rows.old.levels }
@@ -96,8 +100,9 @@ fn add_scaled(gf: &Gf, rows: &mut Rows, c: u16, from: usize, to: usize, count: u
     }
 }
 
-// To each value of the upper half, adds what the higher power of its points has besides the vanishing polynomial. What is
-// added from the upper half is whole by then.
+// The second step of `merge`, on the run that begins at row `start`: adds c times value e, and value e + 2 ^ j for each
+// lower power 2 ^ j of the subspace polynomial, to value 2 ^ i + e. The lower half comes first, so that the values read
+// in the upper half are complete.
 fn raise(gf: &Gf, rows: &mut Rows, i: u32, start: usize, c: u16)
     requires few { rows.old.levels ≤ 16 }
     requires level { i < rows.old.levels }
@@ -110,8 +115,7 @@ fn raise(gf: &Gf, rows: &mut Rows, i: u32, start: usize, c: u16)
     add_upper_ahead(rows, i, start);
 }
 
-// To each value of the upper half, adds those of the lower half that are as far ahead in the run as the lower powers of
-// the vanishing polynomial.
+// A step of `raise`: adds to value 2 ^ i + e those of the values e + 2 ^ j that lie in the lower half of the run.
 fn add_lower_ahead(rows: &mut Rows, i: u32, start: usize)
     requires few { rows.old.levels ≤ 16 }
     requires level { i < rows.old.levels }
@@ -127,7 +131,7 @@ fn add_lower_ahead(rows: &mut Rows, i: u32, start: usize)
     }
 }
 
-// The same with those of the upper half.
+// A step of `raise`: adds to value 2 ^ i + e those of the values e + 2 ^ j that lie in the upper half of the run.
 fn add_upper_ahead(rows: &mut Rows, i: u32, start: usize)
     requires few { rows.old.levels ≤ 16 }
     requires level { i < rows.old.levels }
@@ -143,8 +147,9 @@ fn add_upper_ahead(rows: &mut Rows, i: u32, start: usize)
     }
 }
 
-// Divides by the vanishing polynomial less c: what is left in the lower half, the quotient in the upper one. The quotient
-// is whole before anything is added from it to the lower half.
+// The first step of `split`: divides the polynomial whose coefficients the run from row `start` on has by the subspace
+// polynomial minus c, and leaves the remainder in the lower half and the quotient in the upper one. The quotient is
+// complete before any of it is added to the lower half.
 fn divide(gf: &Gf, rows: &mut Rows, i: u32, start: usize, c: u16)
     requires few { rows.old.levels ≤ 16 }
     requires level { i < rows.old.levels }
@@ -157,8 +162,8 @@ fn divide(gf: &Gf, rows: &mut Rows, i: u32, start: usize, c: u16)
     add_scaled(gf, rows, c, start + half, start, half);
 }
 
-// Adds each coefficient of the upper half to those that the lower powers of the vanishing polynomial lead to, as far as
-// these are in the upper half.
+// A step of `divide`: adds coefficient 2 ^ i + e to coefficient e + 2 ^ j, for each lower power 2 ^ j of the subspace
+// polynomial, if that lies in the upper half.
 fn spread_above(rows: &mut Rows, i: u32, start: usize)
     requires few { rows.old.levels ≤ 16 }
     requires level { i < rows.old.levels }
@@ -174,7 +179,8 @@ fn spread_above(rows: &mut Rows, i: u32, start: usize)
     }
 }
 
-// The same, as far as these are in the lower half.
+// A step of `divide`: adds coefficient 2 ^ i + e to coefficient e + 2 ^ j, as `spread_above`, if it is in the lower
+// half.
 fn spread_below(rows: &mut Rows, i: u32, start: usize)
     requires few { rows.old.levels ≤ 16 }
     requires level { i < rows.old.levels }

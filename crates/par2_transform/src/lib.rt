@@ -1,9 +1,15 @@
-//! Recovery slices over n slices in some n log n products, and not one for each slice and exponent: by values of polynomials
-//! and power sums on subspaces of the field. The laws that this rests on are contracts of functions that do nothing.
+//! Recovery slices of many exponents, in about n log n products of slices instead of one product for each slice and
+//! exponent; and the last step of a repair, by the error locator. Both use an additive FFT and its transpose on
+//! subspaces of the field (Cantor 1989; Gao and Mateer 2010).
+//!
+//! `par2_create` and `par2_solve` use it, and it uses `par2_gf16`. It knows buffers of words, exponents and points,
+//! but no files, packets or checksums. The theorems that it rests on are contracts of functions with empty bodies, in
+//! `laws`.
 #![tactic(auto)]
 
 mod basis;
 mod blocks;
+mod buffers;
 mod cosets;
 mod exponents;
 pub mod laws;
@@ -14,10 +20,9 @@ mod plan;
 mod powers;
 mod recovery;
 mod rows;
-mod texts;
 mod weights;
 mod windows;
 
 pub use locator::Locator;
 pub use outputs::{Place, Places, add_to_output};
-pub use recovery::{add_recovery_slices, add_recovery_slices_at, whole_texts};
+pub use recovery::{add_recovery_slices, add_recovery_slices_at, whole_buffers};

@@ -1,13 +1,14 @@
-//! Sums of sources by the error locator. The coefficients of the quotients of a polynomial on division by z less each of
-//! its roots are a matrix of as many rows as roots. A product with it takes, for L roots, some L log L products of sources
-//! and not L x L: the sums of products with the polynomial's coefficients, by values on a subspace, are the coefficients
-//! of the numerator (Forney's error evaluator), and its values at the roots, scaled, are the product.
+//! Sums of sources by the error locator (Peterson 1960). A polynomial is divided by z minus each of its roots: the
+//! coefficients of the quotients are a matrix with a row for each root. For L roots, its product with L sources takes
+//! about L log L products of sources here and not L x L. The sums of products with the polynomial's coefficients are
+//! the coefficients of the numerator, Forney's error evaluator (Forney 1965). The values of the numerator at the roots,
+//! scaled, are the product.
 
 ghost use Rattle.std.specs.Prelude.{◌≡◌, ℕ, ◌+◌, ◌-◌, ◌*◌, ◌^◌, ◌<◌, ◌≤◌, length, map, slice_index, IfOk};
 ghost use Rattle.par2_spec.specs.Field.{mul};
 ghost use Rattle.par2_spec.specs.Sums.{list_at, lists_of};
 ghost use Rattle.par2_transform.specs.Adding.{within, AddsAt, AddsToEach, HaveWords, LieWithin};
-ghost use Rattle.par2_transform.specs.Columns.{texts_of, words_at, AreBytes};
+ghost use Rattle.par2_transform.specs.Columns.{byte_lists, words_at, AreByteLists};
 ghost use Rattle.par2_transform.specs.Grids.{column};
 ghost use Rattle.par2_transform.specs.Subspaces.{point_number};
 ghost use Rattle.par2_transform.specs.Locators.{AreFit, AreNumbered, AreNumerators, AreValuesOf, HaveFirst, HoldNumerators, IsWeighed, in_coset, quotient_sum};
@@ -15,18 +16,18 @@ ghost use Rattle.par2_transform.specs.Locators.{AreFit, AreNumbered, AreNumerato
 use crate::basis::point_number;
 use crate::blocks::gather_rows;
 use crate::cosets::{list, values_in_coset};
-use crate::exponents::{fit_texts, text_from};
+use crate::exponents::{buffers_fit, bytes_from};
 use crate::levels::{power_sums, values_at_points};
 use crate::outputs::{Places, add_to_output};
 use crate::plan::columns_for;
-use crate::recovery::whole_texts;
+use crate::recovery::whole_buffers;
 use crate::rows::Rows;
 use crate::weights::{fit_words, weights};
 use par2_gf16::{Factor, Gf};
 use std::alloc::{AllocError, Global};
 
-/// The quotients of a polynomial, whose coefficients from 1 on are `sequence`, on division by z less each of the points,
-/// each quotient times a factor: what their product with sources is computed by.
+/// Multiplies sources by the quotients of a polynomial on division by z minus each of the points. Each quotient is
+/// scaled by a factor. `sequence` has the polynomial's coefficients from 1 on.
 #[derive(Drop)]
 pub struct Locator<'a> {
     gf: &'a Gf,
@@ -45,7 +46,8 @@ pub struct Locator<'a> {
     ghost numbered: { AreNumbered points.items numbers.items next.items },
 }
 
-// The fewest levels of which there are twice as many points.
+// The least k such that 2 ^ k is at least twice `count`, the number of coefficients: with fewer points, the sums would
+// wrap around.
 #[tactic(auto, using(crate::proofs::StepLaws::shifted))]
 fn levels_for(count: usize) -> u32
     requires { count ≤ 32768 }
@@ -60,7 +62,7 @@ fn levels_for(count: usize) -> u32
     16
 }
 
-// The word at a place, 0 after the last one.
+// The word at `place`, or 0 past the end.
 #[tactic(auto, using(std::proofs::lemmas::List::get_or_past))]
 fn word_or_zero(words: &[u16], place: usize) -> u16
     ensures { result ≡ slice_index words.now place }
@@ -68,7 +70,7 @@ fn word_or_zero(words: &[u16], place: usize) -> u16
     if place < words.len() { words[place] } else { 0 }
 }
 
-// The words, and zeros after them, `count` in all.
+// The first `count` words, padded with zeros if there are fewer.
 fn padded(alloc: Global, words: &[u16], count: usize) -> Result<Vec<u16>, AllocError>
     ensures count { IfOk result (λ all. length all.items ≡ count) }
     ensures each { IfOk result (λ all. (i : ℕ) → i < count
@@ -81,7 +83,7 @@ fn padded(alloc: Global, words: &[u16], count: usize) -> Result<Vec<u16>, AllocE
     Ok(all)
 }
 
-// The weights that have these words as power sums, and zeros after them.
+// The weights of the `2 ^ levels` points whose power sums are these words, padded with zeros.
 fn weights_for(alloc: Global, gf: &Gf, words: &[u16], levels: u32) -> Result<Vec<u16>, AllocError>
     requires few { levels ≤ 16 }
     requires fit { length words.now ≤ 2 ^ levels }
@@ -92,38 +94,39 @@ fn weights_for(alloc: Global, gf: &Gf, words: &[u16], levels: u32) -> Result<Vec
     Ok(all)
 }
 
-// The points' numbers.
+// The numbers of the points, in order: which row of which coset each belongs to.
 fn numbers_of(alloc: Global, points: &[u16]) -> Result<Vec<u16>, AllocError>
     ensures { IfOk result (λ numbers. numbers.items ≡ map point_number points.now) }
 {
     points.iter().map(|x| point_number(*x)).collect(alloc)
 }
 
+// The bytes of source s.
 #[inline(always)]
 fn source_at<'a>(sources: &[&'a [u8]], s: usize) -> &'a [u8]
     requires { s < length sources.now }
-    ensures { result.now ≡ list_at (texts_of sources.now) s }
+    ensures { result.now ≡ list_at (byte_lists sources.now) s }
 {
     sources[s]
 }
 
-// Makes the first rows the words of the sources from one place on.
+// Copies the words of source s, from word `from` on, to row s. The rows after the last source become zero.
 fn fill(gf: &Gf, sources: &[&[u8]], from: usize, rows: &mut Rows)
     requires { length sources.now ≤ 2 ^ rows.old.levels }
-    ensures bytes { AreBytes (texts_of sources.now) }
+    ensures bytes { AreByteLists (byte_lists sources.now) }
     ensures rows { HaveFirst (length sources.now)
-        (λ c s. words_at (texts_of sources.now) (from + c) s) rows.old rows.new }
+        (λ c s. words_at (byte_lists sources.now) (from + c) s) rows.old rows.new }
 {
-    fit_texts(sources);
+    buffers_fit(sources);
     rows.clear();
     let factor = Factor::new(1);
     for s in 0..sources.len() {
         let source = source_at(sources, s);
-        rows.add_text(gf, &factor, text_from(source, from), s);
+        rows.add_bytes(gf, &factor, bytes_from(source, from), s);
     }
 }
 
-// Makes the first `count` rows those of others.
+// Copies the first `count` rows of `other` to the same rows. The rows after them become zero.
 fn copy(gf: &Gf, other: &Rows, count: usize, rows: &mut Rows)
     requires count { count ≤ 2 ^ rows.old.levels }
     requires levels { other.now.levels ≡ rows.old.levels }
@@ -139,7 +142,8 @@ fn copy(gf: &Gf, other: &Rows, count: usize, rows: &mut Rows)
 }
 
 impl<'a> Locator<'a> {
-    /// Finds the points' numbers, and the weights for the sequence.
+    /// For the polynomial with these coefficients from 1 on (`sequence`), its roots (`points`) and a factor for each.
+    /// Computes the numbers of the points, and the weights for the sequence. An error is that memory ran out.
     pub fn new(
         alloc: Global,
         gf: &'a Gf,
@@ -172,16 +176,21 @@ impl<'a> Locator<'a> {
         })
     }
 
-    // Makes the first rows of `sums` the coefficients of the numerators.
+    // Computes the coefficients of the numerators, coefficient t in row t of `sums`, over the sources' words from word
+    // `from` on: each column has a numerator of its own. `rows` is scratch.
     fn sum(&self, sources: &[&[u8]], from: usize, rows: &mut Rows, sums: &mut Rows)
+        // There is a source for each coefficient, and both sets of rows have the locator's shape.
         requires count { length sources.now ≡ length self.now.sequence.items }
         requires rows { rows.old.levels ≡ self.now.levels }
         requires sums { sums.old.levels ≡ self.now.levels }
         requires words { rows.old.words ≡ sums.old.words }
+        // The rows keep their shape.
         ensures levels { rows.new.levels ≡ rows.old.levels }
         ensures words { rows.new.words ≡ rows.old.words }
-        ensures bytes { AreBytes (texts_of sources.now) }
-        ensures numerators { AreNumerators self.now.sequence.items (texts_of sources.now) from
+        // For the prover: the sources are bytes.
+        ensures bytes { AreByteLists (byte_lists sources.now) }
+        // The first rows of `sums` are the coefficients of the numerators.
+        ensures numerators { AreNumerators self.now.sequence.items (byte_lists sources.now) from
             sums.old sums.new }
     {
         fill(self.gf, sources, from, rows);
@@ -191,7 +200,8 @@ impl<'a> Locator<'a> {
         power_sums(self.gf, sums);
     }
 
-    // Makes the rows the values of the numerators at the points in a coset.
+    // Replaces the rows by the values of the numerators, whose coefficients are the first rows of `sums`, at the points
+    // in the coset with this number.
     fn evaluate(&self, coset: usize, sums: &Rows, rows: &mut Rows)
         requires coset { coset < 2 ^ (16 - self.now.levels) }
         requires rows { rows.old.levels ≡ self.now.levels }
@@ -204,7 +214,8 @@ impl<'a> Locator<'a> {
         values_in_coset(self.gf, rows, &self.next, coset);
     }
 
-    // To output j, adds the value at its point, times its factor, where the point is in the coset.
+    // Adds the value at point j, times its factor, to output j in columns `from` up to `to`, if the point is in the
+    // coset whose values are in the rows.
     fn add_point(
         &self,
         coset: usize,
@@ -212,22 +223,25 @@ impl<'a> Locator<'a> {
         from: usize,
         to: usize,
         rows: &Rows,
-        texts: &mut [Vec<u8>],
+        buffers: &mut [Vec<u8>],
         outputs: &Places,
     )
+        // The coset and the output exist, there is an output for each point, and the rows have the locator's shape.
         requires coset { coset < 2 ^ (16 - self.now.levels) }
         requires place { j < length outputs.now.places.now }
         requires count { length outputs.now.places.now ≡ length self.now.points.items }
         requires rows { rows.now.levels ≡ self.now.levels }
+        // These columns fit the rows and lie inside the outputs, which lie inside the buffers.
         requires order { from ≤ to }
         requires columns { to ≤ from + rows.now.words }
         requires inside { to ≤ outputs.now.words }
-        requires room { LieWithin outputs.now.words outputs.now.places.now (lists_of texts.old) }
+        requires room { LieWithin outputs.now.words outputs.now.places.now (lists_of buffers.old) }
+        // The scaled value is added to output j if its point is in the coset, and nothing else changes.
         ensures { AddsAt outputs.now.places.now outputs.now.words (λ t p. within j (j + 1) t
             (in_coset self.now.numbers.items self.now.levels coset j (within from to p
             (mul (slice_index self.now.factors.items j) (column rows.now (p - from)
             (slice_index self.now.numbers.items j - coset * 2 ^ self.now.levels))))))
-            (lists_of texts.old) (lists_of texts.new) }
+            (lists_of buffers.old) (lists_of buffers.new) }
     {
         let number = word_or_zero(&self.numbers, j) as usize;
         let first = coset << self.levels;
@@ -237,11 +251,12 @@ impl<'a> Locator<'a> {
         let u = number - first;
         if u < 1 << self.levels {
             let factor = word_or_zero(&self.factors, j);
-            add_to_output(self.gf, factor, rows.row(u), texts, outputs, j, from, to);
+            add_to_output(self.gf, factor, rows.row(u), buffers, outputs, j, from, to);
         }
     }
 
-    // To the outputs whose points are in the coset, adds the values there, times their factors.
+    // Evaluates the numerators at the points in the coset, and adds the values, times their factors, to the outputs of
+    // these points in columns `from` up to `to`.
     fn add_coset(
         &self,
         sources: &[&[u8]],
@@ -250,35 +265,41 @@ impl<'a> Locator<'a> {
         to: usize,
         sums: &Rows,
         rows: &mut Rows,
-        texts: &mut [Vec<u8>],
+        buffers: &mut [Vec<u8>],
         outputs: &Places,
     )
+        // The coset exists, there is an output for each point, and both sets of rows have the locator's shape.
         requires coset { coset < 2 ^ (16 - self.now.levels) }
         requires count { length outputs.now.places.now ≡ length self.now.points.items }
         requires rows { rows.old.levels ≡ self.now.levels }
         requires sums { sums.now.levels ≡ self.now.levels }
         requires words { sums.now.words ≡ rows.old.words }
-        requires bytes { AreBytes (texts_of sources.now) }
-        requires numerators { HoldNumerators self.now.sequence.items (texts_of sources.now) from
+        // `sums` holds the coefficients of the numerators over the sources.
+        requires bytes { AreByteLists (byte_lists sources.now) }
+        requires numerators { HoldNumerators self.now.sequence.items (byte_lists sources.now) from
             sums.now }
+        // These columns fit the rows and lie inside the outputs, which lie inside the buffers.
         requires order { from ≤ to }
         requires columns { to ≤ from + rows.old.words }
         requires inside { to ≤ outputs.now.words }
-        requires room { LieWithin outputs.now.words outputs.now.places.now (lists_of texts.old) }
+        requires room { LieWithin outputs.now.words outputs.now.places.now (lists_of buffers.old) }
+        // The rows keep their shape, so that the next coset can use them.
         ensures levels { rows.new.levels ≡ rows.old.levels }
         ensures words { rows.new.words ≡ rows.old.words }
+        // Each output whose point is in the coset gets its sum. Nothing else changes.
         ensures added { AddsAt outputs.now.places.now outputs.now.words (λ t p.
             in_coset self.now.numbers.items self.now.levels coset t (within from to p
             (quotient_sum self.now.sequence.items self.now.points.items self.now.factors.items
-            (words_at (texts_of sources.now) p) t))) (lists_of texts.old) (lists_of texts.new) }
+            (words_at (byte_lists sources.now) p) t)))
+            (lists_of buffers.old) (lists_of buffers.new) }
     {
         self.evaluate(coset, sums, rows);
         for j in 0..outputs.len() {
-            self.add_point(coset, j, from, to, rows, texts, outputs);
+            self.add_point(coset, j, from, to, rows, buffers, outputs);
         }
     }
 
-    // To some columns of the outputs, adds their sums.
+    // Adds the sums to columns `from` up to `to` of the outputs: computes the numerators, then adds coset by coset.
     fn add_columns(
         &self,
         sources: &[&[u8]],
@@ -286,47 +307,54 @@ impl<'a> Locator<'a> {
         to: usize,
         rows: &mut Rows,
         sums: &mut Rows,
-        texts: &mut [Vec<u8>],
+        buffers: &mut [Vec<u8>],
         outputs: &Places,
     )
+        // There is a source for each coefficient and an output for each point, and both sets of rows have the locator's
+        // shape.
         requires sources { length sources.now ≡ length self.now.sequence.items }
         requires count { length outputs.now.places.now ≡ length self.now.points.items }
         requires rows { rows.old.levels ≡ self.now.levels }
         requires sums { sums.old.levels ≡ self.now.levels }
         requires words { rows.old.words ≡ sums.old.words }
+        // These columns fit the rows and lie inside the outputs, which lie inside the buffers.
         requires order { from ≤ to }
         requires columns { to ≤ from + rows.old.words }
         requires inside { to ≤ outputs.now.words }
-        requires room { LieWithin outputs.now.words outputs.now.places.now (lists_of texts.old) }
+        requires room { LieWithin outputs.now.words outputs.now.places.now (lists_of buffers.old) }
+        // Both sets of rows keep their shape, so that the next columns can use them.
         ensures rows_levels { rows.new.levels ≡ rows.old.levels }
         ensures rows_words { rows.new.words ≡ rows.old.words }
         ensures sums_levels { sums.new.levels ≡ sums.old.levels }
         ensures sums_words { sums.new.words ≡ sums.old.words }
+        // Each output gets its sum in these columns. Nothing else changes.
         ensures added { AddsAt outputs.now.places.now outputs.now.words (λ t p. within from to p
             (quotient_sum self.now.sequence.items self.now.points.items self.now.factors.items
-            (words_at (texts_of sources.now) p) t)) (lists_of texts.old) (lists_of texts.new) }
+            (words_at (byte_lists sources.now) p) t))
+            (lists_of buffers.old) (lists_of buffers.new) }
     {
         self.sum(sources, from, rows, sums);
         for coset in 0..1usize << (16 - self.levels) {
-            self.add_coset(sources, coset, from, to, sums, rows, texts, outputs);
+            self.add_coset(sources, coset, from, to, sums, rows, buffers, outputs);
         }
     }
 
-    // To the outputs, adds their sums, some columns at a time.
+    // Adds the sums to the outputs, some columns at a time: as many as `room` bytes allow.
     fn add_words(
         &self,
         alloc: Global,
         sources: &[&[u8]],
-        texts: &mut [Vec<u8>],
+        buffers: &mut [Vec<u8>],
         outputs: &Places,
         room: usize,
     ) -> Result<(), AllocError>
         requires sources { length sources.now ≡ length self.now.sequence.items }
         requires count { length outputs.now.places.now ≡ length self.now.points.items }
-        requires room { LieWithin outputs.now.words outputs.now.places.now (lists_of texts.old) }
+        requires room { LieWithin outputs.now.words outputs.now.places.now (lists_of buffers.old) }
         ensures { IfOk result (λ _. AddsAt outputs.now.places.now outputs.now.words (λ t p.
             quotient_sum self.now.sequence.items self.now.points.items self.now.factors.items
-            (words_at (texts_of sources.now) p) t) (lists_of texts.old) (lists_of texts.new)) }
+            (words_at (byte_lists sources.now) p) t)
+            (lists_of buffers.old) (lists_of buffers.new)) }
     {
         let columns = columns_for(2 << self.levels, outputs.words, room);
         let mut rows = Rows::new(alloc, self.levels, columns)?;
@@ -334,30 +362,31 @@ impl<'a> Locator<'a> {
         for k in 0..outputs.words.div_ceil(columns) {
             let from = k * columns;
             let to = from + columns.min(outputs.words - from);
-            self.add_columns(sources, from, to, &mut rows, &mut sums, texts, outputs);
+            self.add_columns(sources, from, to, &mut rows, &mut sums, buffers, outputs);
         }
         Ok(())
     }
 
-    /// To text j, adds the sum of the sources, each times the coefficient at its place of the quotient for point j. Beside
-    /// the texts this takes so many bytes, `room`, or as few as it can: two rows for each of the points' 2 ^ k.
+    /// Adds to buffer j the sum of the sources, each times its coefficient of the quotient for point j. Takes about
+    /// `room` bytes of memory beside the buffers, or the least it can, which is two rows of 32 words for each of
+    /// 2 ^ levels points.
     pub fn add_products(
         &self,
         alloc: Global,
         sources: &[&[u8]],
         words: usize,
-        texts: &mut [Vec<u8>],
+        buffers: &mut [Vec<u8>],
         room: usize,
     ) -> Result<(), AllocError>
         requires sources { length sources.now ≡ length self.now.sequence.items }
-        requires count { length texts.old ≡ length self.now.points.items }
-        requires size { HaveWords words (lists_of texts.old) }
+        requires count { length buffers.old ≡ length self.now.points.items }
+        requires size { HaveWords words (lists_of buffers.old) }
         ensures { IfOk result (λ _. AddsToEach (λ t p. quotient_sum self.now.sequence.items
-            self.now.points.items self.now.factors.items (words_at (texts_of sources.now) p) t)
-            (lists_of texts.old) (lists_of texts.new)) }
+            self.now.points.items self.now.factors.items (words_at (byte_lists sources.now) p) t)
+            (lists_of buffers.old) (lists_of buffers.new)) }
     {
-        let places = whole_texts(alloc, texts.len())?;
+        let places = whole_buffers(alloc, buffers.len())?;
         let outputs = Places::new(&places, words);
-        self.add_words(alloc, sources, texts, &outputs, room)
+        self.add_words(alloc, sources, buffers, &outputs, room)
     }
 }

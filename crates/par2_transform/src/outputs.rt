@@ -1,4 +1,4 @@
-//! Outputs at their places in texts.
+//! Outputs at their places inside buffers. A buffer may hold several outputs, with other bytes between them.
 
 ghost use Rattle.std.specs.Prelude.{◌≡◌, ◌+◌, ◌-◌, ◌*◌, ◌<◌, ◌≤◌, length, take, drop};
 ghost use Rattle.par2_spec.specs.Field.{mul};
@@ -6,17 +6,17 @@ ghost use Rattle.par2_spec.specs.Slices.{word};
 ghost use Rattle.par2_spec.specs.Sums.{OneChanged, list_at, lists_of};
 ghost use Rattle.par2_transform.specs.Adding.{within, place_at, AddsAt, AddsToPart, AreApart, LieWithin};
 
-use crate::texts::add_products;
+use crate::buffers::add_products;
 use par2_gf16::{Factor, Gf};
 
-/// Where an output lies: in which text, and from which byte on.
+/// Where an output lies: the number of its buffer, and its first byte there.
 #[derive(Clone, Copy)]
 pub struct Place {
-    pub text: usize,
+    pub buffer: usize,
     pub at: usize,
 }
 
-/// The places of outputs that have so many words each. No two have a byte in common.
+/// The places of outputs of `words` words each. No two overlap.
 #[derive(Clone, Copy)]
 pub struct Places<'a> {
     pub places: &'a [Place],
@@ -25,7 +25,7 @@ pub struct Places<'a> {
 }
 
 impl<'a> Places<'a> {
-    /// Outputs of so many words at these places.
+    /// Outputs of `words` words at these places, which must not overlap.
     pub fn new(places: &'a [Place], words: usize) -> Places<'a>
         requires apart { AreApart words places.now }
         ensures places { result.places.now ≡ places.now }
@@ -34,14 +34,14 @@ impl<'a> Places<'a> {
         Places { places, words }
     }
 
-    /// How many outputs there are.
+    /// The number of outputs.
     pub(crate) fn len(&self) -> usize
         ensures { result ≡ length self.now.places.now }
     {
         self.places.len()
     }
 
-    /// The outputs from one number up to another.
+    /// The places of outputs `from` up to `to`, so that output `from` becomes output 0.
     pub fn part(&self, from: usize, to: usize) -> Places<'a>
         requires order { from ≤ to }
         requires end { to ≤ length self.now.places.now }
@@ -55,6 +55,7 @@ impl<'a> Places<'a> {
     }
 }
 
+// The place of output t.
 #[inline(always)]
 fn place_of(places: &[Place], t: usize) -> Place
     requires { t < length places.now }
@@ -63,13 +64,13 @@ fn place_of(places: &[Place], t: usize) -> Place
     places[t]
 }
 
-// To the words of a text from byte `at` on, of which there are so many, adds the products of the factor and the words of
-// the row, from one word up to another.
+// Adds the factor times word k of the row to word `from + k`, below word `to`, of the output of `words` words that
+// begins at byte `at`.
 fn add_within(
     gf: &Gf,
     factor: &Factor,
     row: &[u8],
-    text: &mut [u8],
+    bytes: &mut [u8],
     at: usize,
     words: usize,
     from: usize,
@@ -78,40 +79,42 @@ fn add_within(
     requires order { from ≤ to }
     requires inside { to ≤ words }
     requires row { 2 * to ≤ 2 * from + length row.now }
-    requires room { at + 2 * words ≤ length text.old }
+    requires room { at + 2 * words ≤ length bytes.old }
     ensures { AddsToPart at words (λ p. within from to p (mul factor.now (word (p - from) row.now)))
-        text.old text.new }
+        bytes.old bytes.new }
 {
-    add_products(gf, factor, row, &mut text[at..at + 2 * words], from, to);
+    add_products(gf, factor, row, &mut bytes[at..at + 2 * words], from, to);
 }
 
-// The same in text `i`.
-fn add_to_text(
+// Adds to the output that begins at byte `at` of buffer `i`, as `add_within` does.
+fn add_to_bytes(
     gf: &Gf,
     factor: &Factor,
     row: &[u8],
-    texts: &mut [Vec<u8>],
+    buffers: &mut [Vec<u8>],
     i: usize,
     at: usize,
     words: usize,
     from: usize,
     to: usize,
 )
-    requires place { i < length texts.old }
+    // Words `from` up to `to` lie inside the output, and the output inside buffer `i`.
+    requires place { i < length buffers.old }
     requires order { from ≤ to }
     requires inside { to ≤ words }
     requires row { 2 * to ≤ 2 * from + length row.now }
-    requires room { at + 2 * words ≤ length (list_at (lists_of texts.old) i) }
-    ensures changed { OneChanged (lists_of texts.old) (lists_of texts.new) i }
+    requires room { at + 2 * words ≤ length (list_at (lists_of buffers.old) i) }
+    // The products are added to these words, and nothing else changes in any buffer.
+    ensures changed { OneChanged (lists_of buffers.old) (lists_of buffers.new) i }
     ensures added { AddsToPart at words
         (λ p. within from to p (mul factor.now (word (p - from) row.now)))
-        (list_at (lists_of texts.old) i) (list_at (lists_of texts.new) i) }
+        (list_at (lists_of buffers.old) i) (list_at (lists_of buffers.new) i) }
 {
     add_within(
         gf,
         factor,
         row,
-        texts[i].as_mut_slice(),
+        buffers[i].as_mut_slice(),
         at,
         words,
         from,
@@ -119,33 +122,37 @@ fn add_to_text(
     );
 }
 
-/// To the words of output `t` from one place up to another, adds the products of c and the words of the row.
+/// Adds c times word k of the row to word `from + k` of output `t`, for the words below word `to`. The transform adds
+/// its outputs with it, and `par2_solve` its sums of products.
 pub fn add_to_output(
     gf: &Gf,
     c: u16,
     row: &[u8],
-    texts: &mut [Vec<u8>],
+    buffers: &mut [Vec<u8>],
     outputs: &Places,
     t: usize,
     from: usize,
     to: usize,
 )
+    // Words `from` up to `to` lie inside output `t`, and all outputs inside the buffers.
     requires place { t < length outputs.now.places.now }
     requires order { from ≤ to }
     requires inside { to ≤ outputs.now.words }
     requires row { 2 * to ≤ 2 * from + length row.now }
-    requires room { LieWithin outputs.now.words outputs.now.places.now (lists_of texts.old) }
+    requires room { LieWithin outputs.now.words outputs.now.places.now (lists_of buffers.old) }
+    // The products are added to these words, and nothing else changes in any buffer.
     ensures { AddsAt outputs.now.places.now outputs.now.words (λ s p. within t (t + 1) s
-        (within from to p (mul c (word (p - from) row.now)))) (lists_of texts.old) (lists_of texts.new) }
+        (within from to p (mul c (word (p - from) row.now))))
+        (lists_of buffers.old) (lists_of buffers.new) }
 {
     let place = place_of(outputs.places, t);
     let factor = Factor::new(c);
-    add_to_text(
+    add_to_bytes(
         gf,
         &factor,
         row,
-        texts,
-        place.text,
+        buffers,
+        place.buffer,
         place.at,
         outputs.words,
         from,

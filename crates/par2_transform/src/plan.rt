@@ -1,18 +1,20 @@
-//! How a sum over slices is cut.
+//! How a sum over slices is cut into classes, windows, blocks and columns. `outputs_at_once` limits the outputs of one
+//! transform, and `Plan::new` cuts their sums.
 
 ghost use Rattle.std.specs.Prelude.{◌≡◌, ◌+◌, ◌*◌, ◌^◌, ◌<◌, ◌≤◌};
 
-/// How many classes the exponents fall into. No constant's exponent is in the first one, since 3 divides none.
+// The number of residue classes of the exponents of constants. The first one is empty, because 3 divides no exponent.
 const CLASSES: usize = 3;
 
-/// Of how many columns of words a row is a multiple.
+// The number of columns of a row is a multiple of this, as many as the kernels take at a time.
 const STEP: usize = 32;
 
-/// So many outputs are computed at once, whatever room there is.
+// At least this many outputs are computed at once, even if they exceed `room`.
 const FEWEST: usize = 256;
 
-/// How a sum over slices is cut: `windows` windows of `window` exponents in each of `classes` classes, `2 ^ levels` points,
-/// blocks of `block` outputs, and blocks of `columns` columns of words. Whatever these numbers are, the sums are the same.
+/// How a sum over slices is cut: `windows` windows of `window` exponents in each of `classes` classes, `2 ^ levels`
+/// points, blocks of `block` outputs, and blocks of `columns` columns of words. The numbers affect speed and memory,
+/// never the sums.
 #[derive(Clone, Copy)]
 pub(crate) struct Plan {
     pub(crate) classes: usize,
@@ -29,7 +31,7 @@ pub(crate) struct Plan {
     ghost fit: { window + block ≤ 2 ^ levels + 1 },
 }
 
-// How many levels a block of outputs takes.
+// The least k such that `outputs` is at most 2 ^ k, kept between 4 and 12. The transform has 2 ^ k points.
 fn levels_for(outputs: usize) -> u32
     requires { outputs ≤ 2 ^ 32 }
     ensures { (4 ≤ result) × (result ≤ 12) }
@@ -37,7 +39,7 @@ fn levels_for(outputs: usize) -> u32
     outputs.next_power_of_two().trailing_zeros().clamp(4, 12)
 }
 
-// Half of the points of so many levels.
+// Half the number of points, which is `2 ^ levels`: the most outputs of a block.
 fn half_of(levels: u32) -> usize
     requires { (4 ≤ levels) × (levels ≤ 12) }
     ensures half { 2 * result ≡ 2 ^ levels }
@@ -46,7 +48,7 @@ fn half_of(levels: u32) -> usize
     1 << (levels - 1)
 }
 
-// How many windows of so many numbers reach all exponents.
+// The number of windows of `window` numbers in each of the three classes that cover all exponents below `exponents`.
 fn windows_for(exponents: usize, window: usize) -> usize
     requires exponents { exponents ≤ 65536 }
     requires window { (1 ≤ window) × (window ≤ 8192) }
@@ -56,7 +58,8 @@ fn windows_for(exponents: usize, window: usize) -> usize
     exponents.div_ceil(CLASSES).div_ceil(window)
 }
 
-/// How many columns of words go through the levels at a time: as many as so many rows have room for, and at least 32.
+/// How many columns of words go through the levels at a time: as many as `rows` rows hold in `room` bytes, at least 32
+/// and at most 1,024. The outputs have `words` words each, which are divided about equally.
 pub(crate) fn columns_for(rows: usize, words: usize, room: usize) -> usize
     ensures { (1 ≤ result) × (result ≤ 1024) }
 {
@@ -70,7 +73,8 @@ pub(crate) fn columns_for(rows: usize, words: usize, room: usize) -> usize
         .min(1024)
 }
 
-/// Of how many outputs the rows have this room with the fewest columns: a power of 2, and there are three rows for each.
+/// How many outputs are computed at once: the largest power of 2 whose rows fit `room` bytes with the fewest columns,
+/// three rows for each output, and at least `FEWEST`.
 pub(crate) fn outputs_at_once(room: usize) -> usize
     ensures { 1 ≤ result }
 {
@@ -79,7 +83,8 @@ pub(crate) fn outputs_at_once(room: usize) -> usize
 }
 
 impl Plan {
-    /// The plan for so many exponents of constants, outputs and words of each slice, and room for rows.
+    /// A plan for constants with exponents below `exponents`, `outputs` outputs of `words` words each, and rows of
+    /// about `room` bytes.
     pub(crate) fn new(exponents: usize, outputs: usize, words: usize, room: usize) -> Plan
         requires exponents { exponents ≤ 65536 }
         requires outputs { outputs ≤ 2 ^ 32 }

@@ -1,10 +1,11 @@
-//! Recovery slices, added to texts.
+//! Recovery slices, added to outputs inside buffers or to whole buffers. The outputs are computed in groups as large as
+//! memory allows, each by one transform (`add_group`) over all columns, some at a time (`add_words`).
 
 ghost use Rattle.std.specs.Prelude.{◌+◌, ◌*◌, ◌^◌, ◌<◌, ◌≤◌, length, IfOk};
 ghost use Rattle.par2_spec.specs.Sums.{lists_of};
-ghost use Rattle.par2_transform.specs.Adding.{within, AddsAt, AddsToEach, AreWholeTexts, HaveWords, LieWithin};
+ghost use Rattle.par2_transform.specs.Adding.{within, AddsAt, AddsToEach, AreWholeBuffers, HaveWords, LieWithin};
 ghost use Rattle.par2_transform.specs.Blocks.{AreBlocks};
-ghost use Rattle.par2_transform.specs.Columns.{texts_of, recovered};
+ghost use Rattle.par2_transform.specs.Columns.{byte_lists, recovered};
 ghost use Rattle.par2_transform.specs.Plans.{cut_of};
 
 use crate::blocks::Block;
@@ -16,7 +17,7 @@ use crate::windows::Windows;
 use par2_gf16::Gf;
 use std::alloc::{AllocError, Global};
 
-// The blocks of so many outputs from an exponent on.
+// Blocks of outputs that cover the `count` exponents from `first` on. Block j begins `j * plan.block` exponents later.
 fn blocks_of(
     alloc: Global,
     gf: &Gf,
@@ -38,18 +39,19 @@ fn blocks_of(
 }
 
 impl<'a> Windows<'a> {
-    // To the outputs, adds what all classes give, some columns at a time.
+    // Adds to output t the recovery slice of exponent `self.first + t`, some columns at a time. `recovered` is a word
+    // of a recovery slice.
     fn add_words(
         &self,
         alloc: Global,
-        texts: &mut [Vec<u8>],
+        buffers: &mut [Vec<u8>],
         outputs: &Places,
     ) -> Result<(), AllocError>
         requires exponents { self.now.first + length outputs.now.places.now ≤ 2 ^ 32 }
-        requires room { LieWithin outputs.now.words outputs.now.places.now (lists_of texts.old) }
+        requires room { LieWithin outputs.now.words outputs.now.places.now (lists_of buffers.old) }
         ensures { IfOk result (λ _. AddsAt outputs.now.places.now outputs.now.words
             (λ t p. recovered self.now.slices (self.now.first + t) p)
-            (lists_of texts.old) (lists_of texts.new)) }
+            (lists_of buffers.old) (lists_of buffers.new)) }
     {
         let plan = self.plan;
         let words = outputs.words;
@@ -58,20 +60,19 @@ impl<'a> Windows<'a> {
         for k in 0..words.div_ceil(plan.columns) {
             let from = k * plan.columns;
             let to = from + plan.columns.min(words - from);
-            self.add_classes(from, to, &mut rows, blocks.as_mut_slice(), texts, outputs);
+            self.add_classes(from, to, &mut rows, blocks.as_mut_slice(), buffers, outputs);
         }
         Ok(())
     }
 }
 
-// To the outputs from one number up to another, adds their recovery slices, all of them together: to output t that of
-// exponent `first + t`.
+// Adds the recovery slices to outputs `from` up to `to` in one transform: to output t that of exponent `first + t`.
 fn add_group(
     alloc: Global,
     gf: &Gf,
     slices: &[&[u8]],
     first: u32,
-    texts: &mut [Vec<u8>],
+    buffers: &mut [Vec<u8>],
     outputs: &Places,
     from: usize,
     to: usize,
@@ -79,75 +80,76 @@ fn add_group(
 ) -> Result<(), AllocError>
     requires slices { length slices.now ≤ 32768 }
     requires exponents { first + length outputs.now.places.now ≤ 2 ^ 32 }
-    requires room { LieWithin outputs.now.words outputs.now.places.now (lists_of texts.old) }
+    requires room { LieWithin outputs.now.words outputs.now.places.now (lists_of buffers.old) }
     requires group { (from < to) × (to ≤ length outputs.now.places.now) }
     ensures { IfOk result (λ _. AddsAt outputs.now.places.now outputs.now.words
-        (λ t p. within from to t (recovered (texts_of slices.now) (first + t) p))
-        (lists_of texts.old) (lists_of texts.new)) }
+        (λ t p. within from to t (recovered (byte_lists slices.now) (first + t) p))
+        (lists_of buffers.old) (lists_of buffers.new)) }
 {
     let group = outputs.part(from, to);
     let first = first + from as u32;
     let windows = Windows::new(alloc, gf, slices, outputs.words, first, to - from, room)?;
-    windows.add_words(alloc, texts, &group)
+    windows.add_words(alloc, buffers, &group)
 }
 
-/// To output t, adds the recovery slice of exponent `first + t` over these slices. Zeros follow a slice that is shorter, so
-/// an empty one stands for a slice that is absent. Beside the texts this takes so many bytes, `room`, or as few as it can,
-/// which is some 100 KiB.
+/// Adds to output t the recovery slice of exponent `first + t` over these slices. Shorter slices are padded with zeros,
+/// so an absent slice is an empty one. Takes about `room` bytes of memory beside the buffers, but at least about 100
+/// KiB.
 pub fn add_recovery_slices_at(
     alloc: Global,
     gf: &Gf,
     slices: &[&[u8]],
     first: u32,
-    texts: &mut [Vec<u8>],
+    buffers: &mut [Vec<u8>],
     outputs: &Places,
     room: usize,
 ) -> Result<(), AllocError>
     requires slices { length slices.now ≤ 32768 }
     requires exponents { first + length outputs.now.places.now ≤ 2 ^ 32 }
-    requires room { LieWithin outputs.now.words outputs.now.places.now (lists_of texts.old) }
+    requires room { LieWithin outputs.now.words outputs.now.places.now (lists_of buffers.old) }
     ensures { IfOk result (λ _. AddsAt outputs.now.places.now outputs.now.words
-        (λ t p. recovered (texts_of slices.now) (first + t) p)
-        (lists_of texts.old) (lists_of texts.new)) }
+        (λ t p. recovered (byte_lists slices.now) (first + t) p)
+        (lists_of buffers.old) (lists_of buffers.new)) }
 {
     let at_once = outputs_at_once(room);
     let count = outputs.len();
     for k in 0..count.div_ceil(at_once) {
         let from = k * at_once;
         let to = from + at_once.min(count - from);
-        add_group(alloc, gf, slices, first, texts, outputs, from, to, room)?;
+        add_group(alloc, gf, slices, first, buffers, outputs, from, to, room)?;
     }
     Ok(())
 }
 
-/// The places of outputs that are a text each.
-pub fn whole_texts(alloc: Global, count: usize) -> Result<Vec<Place>, AllocError>
-    ensures { IfOk result (λ places. AreWholeTexts count places.items) }
+/// The places of `count` outputs that are a whole buffer each: output t is buffer t.
+pub fn whole_buffers(alloc: Global, count: usize) -> Result<Vec<Place>, AllocError>
+    ensures { IfOk result (λ places. AreWholeBuffers count places.items) }
 {
     let mut places = Vec::with_capacity(alloc, count)?;
-    for text in 0..count {
-        places.push(Place { text, at: 0 })?;
+    for buffer in 0..count {
+        places.push(Place { buffer, at: 0 })?;
     }
     Ok(places)
 }
 
-/// To text t, adds the recovery slice of exponent `first + t`, as [`add_recovery_slices_at`] does to outputs.
+/// Adds to buffer t, which has `words` words, the recovery slice of exponent `first + t`, as [`add_recovery_slices_at`]
+/// does to outputs.
 pub fn add_recovery_slices(
     alloc: Global,
     gf: &Gf,
     slices: &[&[u8]],
     words: usize,
     first: u32,
-    texts: &mut [Vec<u8>],
+    buffers: &mut [Vec<u8>],
     room: usize,
 ) -> Result<(), AllocError>
     requires slices { length slices.now ≤ 32768 }
-    requires exponents { first + length texts.old ≤ 2 ^ 32 }
-    requires size { HaveWords words (lists_of texts.old) }
-    ensures { IfOk result (λ _. AddsToEach (λ t p. recovered (texts_of slices.now) (first + t) p)
-        (lists_of texts.old) (lists_of texts.new)) }
+    requires exponents { first + length buffers.old ≤ 2 ^ 32 }
+    requires size { HaveWords words (lists_of buffers.old) }
+    ensures { IfOk result (λ _. AddsToEach (λ t p. recovered (byte_lists slices.now) (first + t) p)
+        (lists_of buffers.old) (lists_of buffers.new)) }
 {
-    let places = whole_texts(alloc, texts.len())?;
+    let places = whole_buffers(alloc, buffers.len())?;
     let outputs = Places::new(&places, words);
-    add_recovery_slices_at(alloc, gf, slices, first, texts, &outputs, room)
+    add_recovery_slices_at(alloc, gf, slices, first, buffers, &outputs, room)
 }

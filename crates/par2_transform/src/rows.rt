@@ -1,26 +1,28 @@
-//! Rows of words, as bytes.
+//! The rows of words that a transform works on, kept as bytes. Row u has the values of point u (or coefficient u), and
+//! each column of words is transformed by itself.
 
 ghost use Rattle.std.specs.Prelude.{◌≡◌, ℕ, ◌+◌, ◌*◌, ◌^◌, ◌<◌, ◌≤◌, ◌⊎◌, length, IfOk};
 ghost use Rattle.par2_spec.specs.Field.{mul};
 ghost use Rattle.par2_spec.specs.Slices.{word};
-ghost use Rattle.par2_spec.specs.Sums.{AreElements};
+ghost use Rattle.par2_spec.specs.Sums.{GivesElements};
 ghost use Rattle.par2_transform.specs.Grids.{column, EachColumn, IsAdded};
 ghost use Rattle.par2_transform.specs.Steps.{RunAddedBy, RunAdded};
 
-use crate::texts::{
+use crate::buffers::{
     add_products, add_products_within, add_words_within, clear, copy_padded, fit_bytes,
 };
 use par2_gf16::{Factor, Gf};
 use std::alloc::{AllocError, Global};
 use std::marker::Model;
 
-/// As many rows of words as a subspace has points, one after the other. A word is two bytes, the lower one first.
+/// `2 ^ levels` rows of words, one after the other. A word is two bytes, the lower one first.
 #[derive(Drop)]
 pub(crate) struct Rows {
     levels: u32,
     words: usize,
     bytes: Vec<u8>,
-    // A text on its way to a row. Copied whole, it is read from memory faster than by products.
+    // A buffer for the bytes that are added to a row. They are copied first, because a copy reads memory faster than
+    // the products do.
     source: Vec<u8>,
 }
 
@@ -41,7 +43,7 @@ impl Model for Rows {
 }
 
 impl Rows {
-    /// `2 ^ levels` rows of as many zeros.
+    /// `2 ^ levels` rows of `words` zeros each.
     pub(crate) fn new(alloc: Global, levels: u32, words: usize) -> Result<Rows, AllocError>
         requires few { levels ≤ 16 }
         requires fit { words ≤ 2 ^ 16 }
@@ -59,7 +61,7 @@ impl Rows {
         })
     }
 
-    /// How many levels there are: the logarithm of the number of rows.
+    /// The logarithm of the number of rows.
     pub(crate) fn levels(&self) -> u32
         ensures value { result ≡ self.now.levels }
         ensures most { result ≤ 16 }
@@ -67,7 +69,7 @@ impl Rows {
         self.levels
     }
 
-    /// Makes all words zero.
+    /// Sets all words to zero, before scratch rows are filled again.
     pub(crate) fn clear(&mut self)
         ensures levels { self.new.levels ≡ self.old.levels }
         ensures words { self.new.words ≡ self.old.words }
@@ -76,7 +78,7 @@ impl Rows {
         clear(self.bytes.as_mut_slice());
     }
 
-    // Where the words of row u begin.
+    // The number of words before row u.
     fn place(&self, u: usize) -> usize
         requires { u ≤ 2 ^ self.now.levels }
         ensures { result ≡ u * self.now.words }
@@ -84,7 +86,7 @@ impl Rows {
         u * self.words
     }
 
-    /// Row u.
+    /// The bytes of row u.
     pub(crate) fn row(&self, u: usize) -> &[u8]
         requires { u < 2 ^ self.now.levels }
         ensures size { length result.now ≡ 2 * self.now.words }
@@ -93,14 +95,13 @@ impl Rows {
         &self.bytes[2 * self.place(u)..2 * self.place(u + 1)]
     }
 
-    /// To each word of row `to`, adds the product of the factor and the text's word at its place. Zeros follow a text that
-    /// ends sooner.
-    pub(crate) fn add_text(&mut self, gf: &Gf, factor: &Factor, text: &[u8], to: usize)
+    /// Adds the factor times word c of the bytes to word c of row `to`. Bytes shorter than a row are padded with zeros.
+    pub(crate) fn add_bytes(&mut self, gf: &Gf, factor: &Factor, bytes: &[u8], to: usize)
         requires place { to < 2 ^ self.old.levels }
-        ensures { IsAdded self.old self.new to (λ c. mul factor.now (word c text.now)) }
+        ensures { IsAdded self.old self.new to (λ c. mul factor.now (word c bytes.now)) }
     {
         let (start, end) = (self.place(to), self.place(to + 1));
-        copy_padded(text, self.source.as_mut_slice());
+        copy_padded(bytes, self.source.as_mut_slice());
         add_products(
             gf,
             factor,
@@ -111,7 +112,7 @@ impl Rows {
         );
     }
 
-    /// To each word of row `to`, adds the product of the factor and the word of the other rows' row `from` at its place.
+    /// Adds the factor times row `from` of the other rows to row `to`.
     pub(crate) fn add_other(
         &mut self,
         gf: &Gf,
@@ -136,8 +137,7 @@ impl Rows {
         );
     }
 
-    /// To each word of `count` rows from row `to` on, adds the product of the factor and the word of the rows from `from`
-    /// on.
+    /// Adds the factor times the `count` rows from row `from` on to those from row `to` on. They don't overlap.
     pub(crate) fn add_products(
         &mut self,
         gf: &Gf,
@@ -155,7 +155,7 @@ impl Rows {
         add_products_within(gf, factor, self.bytes.as_mut_slice(), from, to, count);
     }
 
-    /// To each word of `count` rows from row `to` on, adds the word of the rows from `from` on.
+    /// Adds the `count` rows from row `from` on to those from row `to` on. They don't overlap.
     pub(crate) fn add_rows(&mut self, from: usize, to: usize, count: usize)
         requires from { from + count ≤ 2 ^ self.old.levels }
         requires to { to + count ≤ 2 ^ self.old.levels }
@@ -166,9 +166,9 @@ impl Rows {
         add_words_within(self.bytes.as_mut_slice(), from, to, count);
     }
 
-    /// What the type says of each word, for proofs.
+    /// For the prover: each word is below 2 ^ 16.
     pub(crate) fn fit(&self)
-        ensures { (c : ℕ) → AreElements (column self.now c) }
+        ensures { (c : ℕ) → GivesElements (column self.now c) }
     {
         fit_bytes(&self.bytes);
     }

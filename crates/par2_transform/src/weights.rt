@@ -1,7 +1,9 @@
-//! Weights of the points that have given power sums.
+//! The inverse of the transposed additive FFT: from power sums to the weights of the points that have them. It works on
+//! one column of words, level by level downwards: `unmerge_level`, `unmerge` and `lower` invert `merge_level`, `merge`
+//! and `raise`.
 
 ghost use Rattle.std.specs.Prelude.{◌≡◌, ◌<◌, ◌≤◌, ℕ, ◌+◌, ◌*◌, ◌^◌, suc, length, slice_index};
-ghost use Rattle.par2_spec.specs.Sums.{AreElements};
+ghost use Rattle.par2_spec.specs.Sums.{GivesElements};
 ghost use Rattle.par2_transform.specs.Subspaces.{point};
 ghost use Rattle.par2_transform.specs.PowerSums.{IsMerged, sum_ahead};
 ghost use Rattle.par2_transform.specs.Levels.{IsMergedLevel};
@@ -11,20 +13,21 @@ ghost use Rattle.par2_transform.specs.Steps.{OneRun, RunAdded, IsLowered};
 use crate::basis::{point, powers_in};
 use par2_gf16::Gf;
 
-/// What the type says of each word, for proofs.
+/// For the prover: each word is below 2 ^ 16.
 #[inline(always)]
 pub(crate) fn fit_words(words: &[u16])
-    ensures { AreElements (slice_index words.now) }
+    ensures { GivesElements (slice_index words.now) }
 {
     let _ = words.len();
 }
 
-/// From power sums, the weights of the points that have them.
+/// Replaces power sums, word e that of power e, by the weights that have them, word u that of point u. There are
+/// `2 ^ levels` words.
 pub(crate) fn weights(gf: &Gf, words: &mut [u16], levels: u32)
     requires few { levels ≤ 16 }
     requires count { length words.old ≡ 2 ^ levels }
     ensures count { length words.new ≡ length words.old }
-    ensures elements { AreElements (slice_index words.new) }
+    ensures elements { GivesElements (slice_index words.new) }
     ensures are { (sequence : ℕ → ℕ) (b : ℕ)
         → ((e : ℕ) → e < 2 ^ levels → slice_index words.old e ≡ sequence (b + e))
         → AreWeights levels sequence b (slice_index words.new) }
@@ -35,7 +38,7 @@ pub(crate) fn weights(gf: &Gf, words: &mut [u16], levels: u32)
     fit_words(words);
 }
 
-// Takes the pairs of runs of a level apart that were merged.
+// Inverts `merge_level` on one column: splits each run of level i + 1 into two of level i.
 fn unmerge_level(gf: &Gf, words: &mut [u16], levels: u32, i: u32)
     requires few { levels ≤ 16 }
     requires level { i < levels }
@@ -48,7 +51,7 @@ fn unmerge_level(gf: &Gf, words: &mut [u16], levels: u32, i: u32)
     }
 }
 
-// Takes a pair of runs apart that was merged.
+// Inverts `merge` on one column: splits run q of level i + 1 into two of level i.
 fn unmerge(gf: &Gf, words: &mut [u16], i: u32, q: u16)
     requires level { i < 16 }
     requires pair { q < 2 ^ 15 }
@@ -62,7 +65,7 @@ fn unmerge(gf: &Gf, words: &mut [u16], i: u32, q: u16)
     add_run(words, start + half, start, half);
 }
 
-// To each value of a run, adds the one of another run.
+// Adds the `count` values from `from` on to those from `to` on.
 fn add_run(words: &mut [u16], from: usize, to: usize, count: usize)
     requires from { from + count ≤ length words.old }
     requires to { to + count ≤ length words.old }
@@ -74,7 +77,8 @@ fn add_run(words: &mut [u16], from: usize, to: usize, count: usize)
     }
 }
 
-// From each value of the upper half, takes what the higher power of its points has besides the vanishing polynomial.
+// Inverts `raise` on one column, in the run that begins at `start`. It goes downwards, because the values that it reads
+// in the upper half must still be the merged ones.
 fn lower(gf: &Gf, words: &mut [u16], i: u32, start: usize, c: u16)
     requires level { i < 16 }
     requires fits { start + 2 ^ suc i ≤ length words.old }
@@ -87,7 +91,7 @@ fn lower(gf: &Gf, words: &mut [u16], i: u32, start: usize, c: u16)
     }
 }
 
-// The sum of the values that are the lower powers of the vanishing polynomial after a place.
+// The sum of the values at `at + 2 ^ j`, for the lower powers 2 ^ j of the subspace polynomial.
 fn sum_ahead(words: &[u16], i: u32, at: usize) -> u16
     requires level { i < 16 }
     requires fits { at + 2 ^ i < length words.now }

@@ -1,17 +1,19 @@
-//! Sums over slices by classes and windows of the exponents of their constants.
+//! Sums over slices, by classes and windows of the exponents of their constants. With d classes, exponent `d * m + r`
+//! is number m of class r, and window a is `window` consecutive numbers. `add_classes` takes a block of columns: for
+//! each class it evaluates each window at the points, gathers the values in the blocks, and adds the blocks' outputs.
 
 ghost use Rattle.std.specs.Prelude.{◌≡◌, ◌+◌, ◌-◌, ◌*◌, ◌^◌, ◌<◌, ◌≤◌, length, IfOk};
 ghost use Rattle.par2_spec.specs.Sums.{lists_of};
 ghost use Rattle.par2_transform.specs.Adding.{within, AddsAt, LieWithin};
 ghost use Rattle.par2_transform.specs.Blocks.{AreBlocks, AreCoefficients, EachBlock, GathersWindow, HaveShape, IsGathered, class_sum_at};
 ghost use Rattle.par2_transform.specs.Chirps.{chirp_inverse, AreInverses};
-ghost use Rattle.par2_transform.specs.Columns.{texts_of, words_at, recovered, AreBytes};
+ghost use Rattle.par2_transform.specs.Columns.{byte_lists, words_at, recovered, AreByteLists};
 ghost use Rattle.par2_transform.specs.Grids.{IsAdded};
 ghost use Rattle.par2_transform.specs.Plans.{cut_of};
 ghost use Rattle.par2_transform.specs.Transforms.{Reaches, coefficient_of};
 
 use crate::blocks::{Block, add_all, clear_all, gather_all};
-use crate::exponents::{Slices, text_from};
+use crate::exponents::{Slices, bytes_from};
 use crate::levels::values_at_points;
 use crate::outputs::Places;
 use crate::plan::Plan;
@@ -20,7 +22,7 @@ use crate::rows::Rows;
 use par2_gf16::{Factor, Gf};
 use std::alloc::{AllocError, Global};
 
-// The inverses of the first n chirps of step d.
+// The inverses of the first n chirps of step d: the factors of the numbers 0 to n - 1 of each class.
 fn inverse_chirps(alloc: Global, gf: &Gf, d: usize, n: usize) -> Result<Vec<u16>, AllocError>
     requires { d ≤ 65536 }
     ensures { IfOk result (λ inverses. AreInverses d n inverses.items) }
@@ -32,7 +34,7 @@ fn inverse_chirps(alloc: Global, gf: &Gf, d: usize, n: usize) -> Result<Vec<u16>
     Ok(inverses)
 }
 
-/// Slices, and how their sums are cut.
+/// Slices, and the plan by which their sums are cut.
 #[derive(Drop)]
 pub(crate) struct Windows<'a> {
     pub(crate) gf: &'a Gf,
@@ -41,28 +43,29 @@ pub(crate) struct Windows<'a> {
     pub(crate) first: u32,
     inverses: Vec<u16>,
     ghost few: { length slices ≤ 32768 },
-    ghost bytes: { AreBytes slices },
+    ghost bytes: { AreByteLists slices },
     ghost reaches: { Reaches (length slices) (cut_of plan) },
     ghost inverted: { AreInverses plan.classes (plan.windows * plan.window) inverses.items },
 }
 
 impl<'a> Windows<'a> {
-    /// Plans the sums of the slices for so many outputs from exponent `first` on.
+    /// Plans the sums of the slices for `outputs` outputs of `words` words each, from exponent `first` on. `room` is
+    /// the memory for rows, in bytes.
     pub(crate) fn new(
         alloc: Global,
         gf: &'a Gf,
-        texts: &'a [&'a [u8]],
+        buffers: &'a [&'a [u8]],
         words: usize,
         first: u32,
         outputs: usize,
         room: usize,
     ) -> Result<Windows<'a>, AllocError>
-        requires slices { length texts.now ≤ 32768 }
+        requires slices { length buffers.now ≤ 32768 }
         requires outputs { outputs ≤ 2 ^ 32 }
-        ensures slices { IfOk result (λ windows. windows.slices ≡ texts_of texts.now) }
+        ensures slices { IfOk result (λ windows. windows.slices ≡ byte_lists buffers.now) }
         ensures first { IfOk result (λ windows. windows.first ≡ first) }
     {
-        let slices = Slices::new(alloc, texts)?;
+        let slices = Slices::new(alloc, buffers)?;
         let plan = Plan::new(slices.exponents(), outputs, words, room);
         let inverses = inverse_chirps(alloc, gf, plan.classes, plan.windows * plan.window)?;
         Ok(Windows {
@@ -74,7 +77,7 @@ impl<'a> Windows<'a> {
         })
     }
 
-    // The inverse of the chirp of number m, by which its slice is multiplied.
+    // The inverse of chirp m: the factor by which the slice of number m of a class becomes a coefficient.
     fn inverse(&self, m: usize) -> u16
         requires { m < self.now.plan.windows * self.now.plan.window }
         ensures { result ≡ chirp_inverse self.now.plan.classes m }
@@ -82,7 +85,8 @@ impl<'a> Windows<'a> {
         self.inverses[m]
     }
 
-    // To row i, adds the coefficient of the window's number i.
+    // Adds to row i coefficient i of window a of class r, in the columns from word `from` of the slices on: the words
+    // of the slice whose constant has this exponent, times the factor of its number.
     fn add_coefficient(&self, r: usize, a: usize, i: usize, from: usize, rows: &mut Rows)
         requires class { r < self.now.plan.classes }
         requires window { a < self.now.plan.windows }
@@ -95,10 +99,10 @@ impl<'a> Windows<'a> {
         let m = a * self.plan.window + i;
         let slice = self.slices.at_power(self.plan.classes * m + r);
         let factor = Factor::new(self.inverse(m));
-        rows.add_text(self.gf, &factor, text_from(slice, from), i);
+        rows.add_bytes(self.gf, &factor, bytes_from(slice, from), i);
     }
 
-    // Makes the rows the coefficients of window a of class r, in the columns from `from` on.
+    // Sets row i to coefficient i of window a of class r, in the columns from word `from` of the slices on.
     fn fill(&self, r: usize, a: usize, from: usize, rows: &mut Rows)
         requires class { r < self.now.plan.classes }
         requires window { a < self.now.plan.windows }
@@ -112,15 +116,20 @@ impl<'a> Windows<'a> {
         }
     }
 
-    // Gathers the values of window a of class r at the points in all blocks.
+    // Evaluates window a of class r at the points, and gathers the values in all blocks. The columns begin with word
+    // `from` of the slices, and the rows are scratch.
     fn gather_window(&self, r: usize, a: usize, from: usize, rows: &mut Rows, blocks: &mut [Block])
+        // The class and the window are the plan's.
         requires class { r < self.now.plan.classes }
         requires window { a < self.now.plan.windows }
+        // The rows and the blocks have the shape of the plan.
         requires levels { rows.old.levels ≡ self.now.plan.levels }
         requires words { rows.old.words ≡ self.now.plan.columns }
         requires blocks { HaveShape (cut_of self.now.plan) self.now.plan.columns blocks.old }
+        // The rows keep their shape; what they hold is scratch.
         ensures levels { rows.new.levels ≡ rows.old.levels }
         ensures words { rows.new.words ≡ rows.old.words }
+        // Each block gathers the values of this window and nothing else.
         ensures gathered { EachBlock
             (GathersWindow (cut_of self.now.plan) self.now.slices r a from) blocks.old blocks.new }
     {
@@ -129,14 +138,17 @@ impl<'a> Windows<'a> {
         gather_all(self.gf, a, rows, blocks);
     }
 
-    // Gathers all windows of class r in all blocks.
+    // Gathers all windows of class r in all blocks, whose sums it resets first. The columns begin with word `from`.
     fn gather(&self, r: usize, from: usize, rows: &mut Rows, blocks: &mut [Block])
+        // The class is the plan's, and the rows and the blocks have its shape.
         requires class { r < self.now.plan.classes }
         requires levels { rows.old.levels ≡ self.now.plan.levels }
         requires words { rows.old.words ≡ self.now.plan.columns }
         requires blocks { HaveShape (cut_of self.now.plan) self.now.plan.columns blocks.old }
+        // The rows keep their shape; what they hold is scratch.
         ensures levels { rows.new.levels ≡ rows.old.levels }
         ensures words { rows.new.words ≡ rows.old.words }
+        // Each block holds the sums of all windows of this class, whatever it held before.
         ensures gathered { EachBlock
             (IsGathered (cut_of self.now.plan) self.now.slices r from self.now.plan.windows)
             blocks.old blocks.new }
@@ -147,7 +159,7 @@ impl<'a> Windows<'a> {
         }
     }
 
-    // To some columns of the outputs, adds what class r gives. In the first of three classes is no slice.
+    // Adds the part of class r to columns `from` up to `to` of the outputs. The first of three classes has no slice.
     fn add_class(
         &self,
         r: usize,
@@ -155,66 +167,78 @@ impl<'a> Windows<'a> {
         to: usize,
         rows: &mut Rows,
         blocks: &mut [Block],
-        texts: &mut [Vec<u8>],
+        buffers: &mut [Vec<u8>],
         outputs: &Places,
     )
+        // The class is the plan's, and the rows and the blocks have its shape.
         requires class { r < self.now.plan.classes }
         requires levels { rows.old.levels ≡ self.now.plan.levels }
         requires words { rows.old.words ≡ self.now.plan.columns }
         requires blocks { AreBlocks (cut_of self.now.plan) self.now.plan.columns self.now.first
             self.now.plan.block blocks.old }
+        // The blocks cover the outputs.
         requires covered { length outputs.now.places.now ≤ length blocks.old * self.now.plan.block }
         requires few { self.now.first + length blocks.old * self.now.plan.block ≤ 2 ^ 34 }
+        // One block of columns at most, inside the outputs, which lie inside the buffers.
         requires order { from ≤ to }
         requires columns { to ≤ from + self.now.plan.columns }
         requires inside { to ≤ outputs.now.words }
-        requires room { LieWithin outputs.now.words outputs.now.places.now (lists_of texts.old) }
+        requires room { LieWithin outputs.now.words outputs.now.places.now (lists_of buffers.old) }
+        // The rows and the blocks keep their shape, so that the next class can use them.
         ensures levels { rows.new.levels ≡ rows.old.levels }
         ensures words { rows.new.words ≡ rows.old.words }
         ensures count { length blocks.new ≡ length blocks.old }
         ensures blocks { AreBlocks (cut_of self.now.plan) self.now.plan.columns
             self.now.first self.now.plan.block blocks.new }
+        // The part of class r is added to these columns and to nothing else.
         ensures added { AddsAt outputs.now.places.now outputs.now.words (λ t p. within from to p
-            (class_sum_at (cut_of self.now.plan) (words_at self.now.slices p) (self.now.first + t) r))
-            (lists_of texts.old) (lists_of texts.new) }
+            (class_sum_at (cut_of self.now.plan) (words_at self.now.slices p)
+            (self.now.first + t) r))
+            (lists_of buffers.old) (lists_of buffers.new) }
     {
         if r == 0 && self.plan.classes == 3 {
             return;
         }
         self.gather(r, from, rows, blocks);
-        add_all(self.gf, &self.plan, r, from, to, blocks, texts, outputs);
+        add_all(self.gf, &self.plan, r, from, to, blocks, buffers, outputs);
     }
 
-    /// To some columns of the outputs, adds what all classes give.
+    /// Adds the recovery slices to columns `from` up to `to` of the outputs, class by class.
     pub(crate) fn add_classes(
         &self,
         from: usize,
         to: usize,
         rows: &mut Rows,
         blocks: &mut [Block],
-        texts: &mut [Vec<u8>],
+        buffers: &mut [Vec<u8>],
         outputs: &Places,
     )
+        // The rows and the blocks have the shape of the plan.
         requires levels { rows.old.levels ≡ self.now.plan.levels }
         requires words { rows.old.words ≡ self.now.plan.columns }
         requires blocks { AreBlocks (cut_of self.now.plan) self.now.plan.columns self.now.first
             self.now.plan.block blocks.old }
+        // The blocks cover the outputs.
         requires covered { length outputs.now.places.now ≤ length blocks.old * self.now.plan.block }
         requires few { self.now.first + length blocks.old * self.now.plan.block ≤ 2 ^ 34 }
+        // One block of columns at most, inside the outputs, which lie inside the buffers.
         requires order { from ≤ to }
         requires columns { to ≤ from + self.now.plan.columns }
         requires inside { to ≤ outputs.now.words }
-        requires room { LieWithin outputs.now.words outputs.now.places.now (lists_of texts.old) }
+        requires room { LieWithin outputs.now.words outputs.now.places.now (lists_of buffers.old) }
+        // The rows and the blocks keep their shape, so that the next columns can use them.
         ensures levels { rows.new.levels ≡ rows.old.levels }
         ensures words { rows.new.words ≡ rows.old.words }
         ensures count { length blocks.new ≡ length blocks.old }
         ensures blocks { AreBlocks (cut_of self.now.plan) self.now.plan.columns
             self.now.first self.now.plan.block blocks.new }
+        // The recovery slices are added in these columns, and nothing else changes.
         ensures added { AddsAt outputs.now.places.now outputs.now.words (λ t p. within from to p
-            (recovered self.now.slices (self.now.first + t) p)) (lists_of texts.old) (lists_of texts.new) }
+            (recovered self.now.slices (self.now.first + t) p))
+            (lists_of buffers.old) (lists_of buffers.new) }
     {
         for r in 0..self.plan.classes {
-            self.add_class(r, from, to, rows, blocks, texts, outputs);
+            self.add_class(r, from, to, rows, blocks, buffers, outputs);
         }
     }
 }

@@ -1,4 +1,4 @@
--- The names that proofs of this crate take from elsewhere.
+-- Names from elsewhere that the proofs of this crate use.
 
 pub use Rattle.std.proofs.Common.{IsTrue, List, [], ap, arith, below_more, get_or, inl, inr, length, map, refl, replicate, rules, subst, suc, sym, ℕ, ◌*◌, ◌+◌, ◌<◌, ◌∙◌, ◌∷◌, ◌≡◌, ◌≤◌}
 pub use Rattle.std.proofs.lemmas.List.{ext_get_or, get_or-replicate, length-map, length-replicate}

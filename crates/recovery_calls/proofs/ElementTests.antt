@@ -1,4 +1,4 @@
--- What tests of each element say of the lists that contracts name.
+-- For the prover: tests of each element determine the lists that contracts name.
 use Rattle.recovery_calls.proofs.Common.{ℕ, suc, ◌<◌, ◌≤◌, ◌≡◌, refl, ap, subst, arith, List, [], ◌∷◌, length, map, All, IfSome, Option, Some, None, Bor, AllByRecursion, AllAdjacentBelow}
 use Rattle.std.specs.List.Sorted.{IsStrictlyIncreasing}
 use Rattle.par2_spec.proofs.ListsLaws.{increasing}

@@ -1,4 +1,5 @@
-//! Calls of `par2_recovery` whose conditions are tested first, for tests and figures. What may not be asked for is None.
+//! Calls of `par2_recovery` and `par2_solve` that test their conditions first, for tests and benchmarks. They return
+//! None if a condition doesn't hold. No product crate uses them.
 #![tactic(auto)]
 
 ghost use Rattle.std.specs.Prelude.{◌≡◌, ◌<◌, ◌≤◌, ◌%◌, ℕ, length, slice_index, All, IsTrue, IfSome};
@@ -19,31 +20,31 @@ use par2_recovery::{
 use par2_solve::rebuild_lost;
 use std::alloc::{AllocError, Global};
 
-// How many slices a set may have.
+// The most slices of a set (PAR2 2.0).
 pub(crate) const MOST_SLICES: usize = 32768;
 
-/// A folder of these files. A text that is no name is left out.
+/// A folder of these files, without those whose name is invalid.
 pub fn folder_of(alloc: Global, files: &[(&str, &[u8])]) -> Result<Folder, AllocError> {
     let mut folder = Folder::new(alloc);
     folder.reserve(files.len())?;
-    for (text, bytes) in files {
-        if let Ok(name) = Name::new(text) {
+    for (string, bytes) in files {
+        if let Ok(name) = Name::new(string) {
             let _ = folder.apply(&mut Change::Write(name, Bytes::copy_of(alloc, bytes)?));
         }
     }
     Ok(folder)
 }
 
-/// What a set of slices of `s` bytes says of these files.
+/// The record of a set of these files with slices of `s` bytes.
 pub fn set_of(
     alloc: Global,
     folder: &Folder,
-    texts: &[&str],
+    strings: &[&str],
     s: u64,
 ) -> Result<Option<Result<SetRecord, RecordFault>>, AllocError> {
     let mut names = Vec::new(alloc);
-    for text in texts {
-        let Ok(name) = Name::new(text) else {
+    for string in strings {
+        let Ok(name) = Name::new(string) else {
             return Ok(None);
         };
         names.push(name)?;
@@ -54,7 +55,7 @@ pub fn set_of(
     Ok(Some(SetRecord::of_files(alloc, folder, &names, s)))
 }
 
-// Whether recovery slices may be made of so many slices of this size.
+// Whether recovery slices may be computed over this many slices of this size.
 fn can_combine(count: usize, size: u64) -> bool
     ensures slices { IsTrue result → count ≤ 32768 }
     ensures even { IsTrue result → size % 2 ≡ 0 }
@@ -152,7 +153,7 @@ fn can_rebuild(survivors: &Survivors) -> bool
     exponents_rise(&survivors.recovery)
 }
 
-/// What `rebuild` answers.
+/// The result of `rebuild`.
 pub fn rebuilt(
     alloc: Global,
     gf: &Gf,
@@ -164,7 +165,7 @@ pub fn rebuilt(
     Some(rebuild(alloc, gf, survivors))
 }
 
-/// What `rebuild_lost` answers.
+/// The result of `rebuild_lost`.
 pub fn lost_rebuilt(
     alloc: Global,
     survivors: &Survivors,
@@ -197,7 +198,7 @@ fn rise(exponents: &[u32]) -> bool
     true
 }
 
-/// What `rank` answers.
+/// The result of `rank`.
 pub fn rank_of(
     alloc: Global,
     gf: &Gf,

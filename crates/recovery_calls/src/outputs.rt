@@ -1,4 +1,4 @@
-//! Recovery slices at their places in texts.
+//! Recovery slices at their places in buffers.
 
 ghost use Rattle.std.specs.Prelude.{◌≡◌, ◌+◌, ◌*◌, ◌<◌, ◌≤◌, ℕ, length, replicate, IsTrue};
 ghost use Rattle.par2_spec.specs.Sums.{list_at, lists_of};
@@ -19,7 +19,7 @@ fn place_of(places: &[Place], t: usize) -> Place
     places[t]
 }
 
-// Whether an output of so many words ends where another one begins, or before.
+// Whether an output of this many words ends where another one begins, or before.
 fn ends_before(first: Place, second: Place, words: usize) -> bool
     ensures { IsTrue result → first.at + 2 * words ≤ second.at }
 {
@@ -30,7 +30,7 @@ fn ends_before(first: Place, second: Place, words: usize) -> bool
 fn are_two(first: Place, second: Place, words: usize) -> bool
     ensures { IsTrue result → AreBeside words first second }
 {
-    first.text != second.text
+    first.buffer != second.buffer
         || ends_before(first, second, words)
         || ends_before(second, first, words)
 }
@@ -60,45 +60,45 @@ fn are_apart(places: &[Place], words: usize) -> bool
     true
 }
 
-fn text_at(texts: &[Vec<u8>], i: usize) -> &[u8]
-    requires { i < length texts.now }
-    ensures { result.now ≡ list_at (lists_of texts.now) i }
+fn buffer_at(buffers: &[Vec<u8>], i: usize) -> &[u8]
+    requires { i < length buffers.now }
+    ensures { result.now ≡ list_at (lists_of buffers.now) i }
 {
-    &texts[i]
+    &buffers[i]
 }
 
-// Whether a text has so many words from byte `at` on.
-fn has_words(text: &[u8], at: usize, words: usize) -> bool
-    ensures { IsTrue result → at + 2 * words ≤ length text.now }
+// Whether a buffer has this many words from byte `at` on.
+fn has_words(bytes: &[u8], at: usize, words: usize) -> bool
+    ensures { IsTrue result → at + 2 * words ≤ length bytes.now }
 {
-    at <= text.len() && words <= (text.len() - at) / 2
+    at <= bytes.len() && words <= (bytes.len() - at) / 2
 }
 
-// Whether the texts have all bytes of an output.
-fn have_output(texts: &[Vec<u8>], place: Place, words: usize) -> bool
-    ensures text { IsTrue result → place.text < length texts.now }
+// Whether the buffers have all bytes of an output.
+fn have_output(buffers: &[Vec<u8>], place: Place, words: usize) -> bool
+    ensures bytes { IsTrue result → place.buffer < length buffers.now }
     ensures room { IsTrue result
-        → place.at + 2 * words ≤ length (list_at (lists_of texts.now) place.text) }
+        → place.at + 2 * words ≤ length (list_at (lists_of buffers.now) place.buffer) }
 {
-    place.text < texts.len() && has_words(text_at(texts, place.text), place.at, words)
+    place.buffer < buffers.len() && has_words(buffer_at(buffers, place.buffer), place.at, words)
 }
 
-fn lie_within(places: &[Place], words: usize, texts: &[Vec<u8>]) -> bool
-    ensures { IsTrue result → LieWithin words places.now (lists_of texts.now) }
+fn lie_within(places: &[Place], words: usize, buffers: &[Vec<u8>]) -> bool
+    ensures { IsTrue result → LieWithin words places.now (lists_of buffers.now) }
 {
     for t in 0..places.len() {
-        if !have_output(texts, place_of(places, t), words) {
+        if !have_output(buffers, place_of(places, t), words) {
             return false;
         }
     }
     true
 }
 
-fn is_blank(text: &[u8]) -> bool
-    ensures { IsTrue result → text.now ≡ replicate (length text.now) 0 }
+fn is_blank(bytes: &[u8]) -> bool
+    ensures { IsTrue result → bytes.now ≡ replicate (length bytes.now) 0 }
 {
-    for k in 0..text.len() {
-        if text[k] != 0 {
+    for k in 0..bytes.len() {
+        if bytes[k] != 0 {
             return false;
         }
     }
@@ -106,68 +106,68 @@ fn is_blank(text: &[u8]) -> bool
 }
 
 // Whether an output is zeros.
-fn is_output_blank(texts: &[Vec<u8>], place: Place, words: usize) -> bool
-    requires text { place.text < length texts.now }
-    requires room { place.at + 2 * words ≤ length (list_at (lists_of texts.now) place.text) }
+fn is_output_blank(buffers: &[Vec<u8>], place: Place, words: usize) -> bool
+    requires bytes { place.buffer < length buffers.now }
+    requires room { place.at + 2 * words ≤ length (list_at (lists_of buffers.now) place.buffer) }
     ensures { IsTrue result
-        → output_at (2 * words) place (lists_of texts.now) ≡ replicate (2 * words) 0 }
+        → output_at (2 * words) place (lists_of buffers.now) ≡ replicate (2 * words) 0 }
 {
-    is_blank(&text_at(texts, place.text)[place.at..place.at + 2 * words])
+    is_blank(&buffer_at(buffers, place.buffer)[place.at..place.at + 2 * words])
 }
 
-fn are_blank(places: &[Place], words: usize, texts: &[Vec<u8>]) -> bool
-    requires { LieWithin words places.now (lists_of texts.now) }
-    ensures { IsTrue result → AreZeros words places.now (lists_of texts.now) }
+fn are_blank(places: &[Place], words: usize, buffers: &[Vec<u8>]) -> bool
+    requires { LieWithin words places.now (lists_of buffers.now) }
+    ensures { IsTrue result → AreZeros words places.now (lists_of buffers.now) }
 {
     for t in 0..places.len() {
-        if !is_output_blank(texts, place_of(places, t), words) {
+        if !is_output_blank(buffers, place_of(places, t), words) {
             return false;
         }
     }
     true
 }
 
-/// Adds recovery slices of exponents from `first` on to outputs of so many words.
+/// Adds the recovery slices of exponents from `first` on to outputs of this many words.
 pub fn slices_added(
     alloc: Global,
     gf: &Gf,
     slices: &[&[u8]],
     first: u32,
-    texts: &mut [Vec<u8>],
+    buffers: &mut [Vec<u8>],
     places: &[Place],
     words: usize,
 ) -> Result<Option<()>, AllocError> {
     if slices.len() > MOST_SLICES || places.len() as u64 + first as u64 > 1 << 32 {
         return Ok(None);
     }
-    if !are_apart(places, words) || !lie_within(places, words, texts) {
+    if !are_apart(places, words) || !lie_within(places, words, buffers) {
         return Ok(None);
     }
     let outputs = Places::new(places, words);
-    add_recovery_slices_at(alloc, gf, slices, first, texts, &outputs, 100 * 1024)?;
+    add_recovery_slices_at(alloc, gf, slices, first, buffers, &outputs, 100 * 1024)?;
     Ok(Some(()))
 }
 
-/// Writes recovery slices of these exponents, at outputs of so many words.
+/// Writes the recovery slices of these exponents to outputs of this many words.
 pub fn slices_written(
     alloc: Global,
     gf: &Gf,
     slices: &[&[u8]],
     exponents: &[u32],
-    texts: &mut [Vec<u8>],
+    buffers: &mut [Vec<u8>],
     places: &[Place],
     words: usize,
 ) -> Result<Option<()>, AllocError> {
     if slices.len() > MOST_SLICES || exponents.len() != places.len() {
         return Ok(None);
     }
-    if !are_apart(places, words) || !lie_within(places, words, texts) {
+    if !are_apart(places, words) || !lie_within(places, words, buffers) {
         return Ok(None);
     }
-    if !are_blank(places, words, texts) {
+    if !are_blank(places, words, buffers) {
         return Ok(None);
     }
     let outputs = Places::new(places, words);
-    write_recovery_slices(alloc, gf, slices, exponents, texts, &outputs)?;
+    write_recovery_slices(alloc, gf, slices, exponents, buffers, &outputs)?;
     Ok(Some(()))
 }

@@ -1,5 +1,5 @@
-//! Calls of stores and folders, each in a function that promises nothing: of such a call the prover sees its type
-//! alone.
+//! Calls of stores and folders, each in a function without a contract. For the prover: it sees only the types of such a
+//! call.
 
 use par2_disk::{FolderStore, ReadFault, StoreFault, read_folder};
 use par2_files::{Folder, Name};
@@ -36,7 +36,7 @@ pub fn write_file<S: FolderStore>(
     store.write(name, bytes)
 }
 
-/// Writes other bytes over those of a file.
+/// Replaces the bytes of a file.
 pub fn replace_file<S: FolderStore>(
     store: &mut S,
     name: &Name,
@@ -45,7 +45,7 @@ pub fn replace_file<S: FolderStore>(
     store.replace(name, bytes)
 }
 
-/// Gives a file another name.
+/// Renames a file.
 pub fn rename_file<S: FolderStore>(
     store: &mut S,
     from: &Name,
@@ -54,12 +54,12 @@ pub fn rename_file<S: FolderStore>(
     store.rename(from, to)
 }
 
-/// Takes a file away.
+/// Removes a file.
 pub fn remove_file<S: FolderStore>(store: &mut S, name: &Name) -> Result<(), StoreFault> {
     store.remove(name)
 }
 
-/// Puts a journal in place of the one that is there.
+/// Replaces the journal.
 pub fn put_journal<S: FolderStore>(store: &mut S, bytes: &[u8]) -> Result<(), StoreFault> {
     store.put_journal(bytes)
 }

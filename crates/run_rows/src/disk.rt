@@ -1,5 +1,5 @@
-//! Calls of a store in the folder where the program runs, and what comes of them. These show what a user meets whom the
-//! modes of files bind, so not the superuser.
+//! Calls of a store in the folder where the program runs, and their results. They show what a user meets who is bound
+//! by the modes of files, so not the superuser.
 
 use crate::calls::{put_journal, read_file, remove_file, rename_file, replace_file, write_file};
 use crate::files::name_of;
@@ -15,21 +15,21 @@ fn show_answer(rt: &HostRuntime, call: &str, answer: Result<(), StoreFault>) -> 
     Ok(())
 }
 
-fn add<S: FolderStore>(rt: &HostRuntime, store: &mut S, text: &str, bytes: &[u8]) -> Result<()> {
-    let answer = write_file(store, &name_of(text)?, bytes);
+fn add<S: FolderStore>(rt: &HostRuntime, store: &mut S, string: &str, bytes: &[u8]) -> Result<()> {
+    let answer = write_file(store, &name_of(string)?, bytes);
     print!(rt; "add ")?;
-    show_answer(rt, text, answer)
+    show_answer(rt, string, answer)
 }
 
 fn replace<S: FolderStore>(
     rt: &HostRuntime,
     store: &mut S,
-    text: &str,
+    string: &str,
     bytes: &[u8],
 ) -> Result<()> {
-    let answer = replace_file(store, &name_of(text)?, bytes);
+    let answer = replace_file(store, &name_of(string)?, bytes);
     print!(rt; "replace ")?;
-    show_answer(rt, text, answer)
+    show_answer(rt, string, answer)
 }
 
 fn rename<S: FolderStore>(rt: &HostRuntime, store: &mut S, from: &str, to: &str) -> Result<()> {
@@ -38,26 +38,26 @@ fn rename<S: FolderStore>(rt: &HostRuntime, store: &mut S, from: &str, to: &str)
     show_answer(rt, to, answer)
 }
 
-fn remove<S: FolderStore>(rt: &HostRuntime, store: &mut S, text: &str) -> Result<()> {
-    let answer = remove_file(store, &name_of(text)?);
+fn remove<S: FolderStore>(rt: &HostRuntime, store: &mut S, string: &str) -> Result<()> {
+    let answer = remove_file(store, &name_of(string)?);
     print!(rt; "remove ")?;
-    show_answer(rt, text, answer)
+    show_answer(rt, string, answer)
 }
 
-fn read<S: FolderStore>(rt: &HostRuntime, store: &mut S, text: &str) -> Result<()> {
-    match read_file(rt.alloc(), store, &name_of(text)?) {
-        Ok(bytes) => println!(rt; "read {text}: {:?}", bytes.as_slice())?,
-        Err(fault) => println!(rt; "read {text}: {fault:?}")?,
+fn read<S: FolderStore>(rt: &HostRuntime, store: &mut S, string: &str) -> Result<()> {
+    match read_file(rt.alloc(), store, &name_of(string)?) {
+        Ok(bytes) => println!(rt; "read {string}: {:?}", bytes.as_slice())?,
+        Err(fault) => println!(rt; "read {string}: {fault:?}")?,
     }
     Ok(())
 }
 
-// Gives a file or a folder a mode, a number of base ten.
+// Sets the mode of a file or a folder, given as a decimal number.
 fn set_mode(rt: &HostRuntime, path: &str, mode: &str) -> Result<()> {
     Ok(fs::set_permissions(rt, path, Permissions::from_mode(mode.parse()?))?)
 }
 
-// What other programs do in the folder.
+// Does what other programs may do in the folder.
 fn prepare(rt: &HostRuntime, word: &str, rest: &str) -> Result<()> {
     let (first, second) = rest.split_once(' ').unwrap_or((rest, ""));
     match word {
@@ -70,7 +70,7 @@ fn prepare(rt: &HostRuntime, word: &str, rest: &str) -> Result<()> {
     }
 }
 
-// Makes the call of a line on a store, or what other programs do.
+// Makes the call of a line on a store, or does what other programs may do.
 fn call_on<S: FolderStore>(rt: &HostRuntime, store: &mut S, line: &str) -> Result<()> {
     let (word, rest) = line.split_once(' ').unwrap_or((line, ""));
     let (first, second) = rest.split_once(' ').unwrap_or((rest, ""));

@@ -1,4 +1,4 @@
-//! Changes of the files of a store, as another hand makes them, and copies of a store.
+//! Changes of a store's files from outside the program, and copies of a store.
 
 use crate::calls::{
     folder_of, journal_of, names_of, print_of, put_journal, read_file, remove_file, replace_file,
@@ -10,33 +10,33 @@ use par2_files::Name;
 use par2_stores::MemoryStore;
 use std::alloc::Global;
 
-/// The name of a text.
-pub fn name_of(text: &str) -> Result<Name> {
-    match Name::new(text) {
+/// The name with this string.
+pub fn name_of(string: &str) -> Result<Name> {
+    match Name::new(string) {
         Ok(name) => Ok(name),
         Err(fault) => Err(fault.into()),
     }
 }
 
-/// Takes all files and the journal away.
+/// Removes all files and the journal.
 pub fn clear(alloc: Global, store: &mut MemoryStore) -> Result<()> {
     *store = MemoryStore::new(alloc);
     Ok(())
 }
 
-/// Writes a file of a text, before which its name stands, or replaces the one that is there.
-pub fn put_text(store: &mut MemoryStore, rest: &str) -> Result<()> {
-    let (name, text) = rest.split_once(' ').unwrap_or((rest, ""));
+/// Writes a file, or replaces it: `rest` is its name and its content.
+pub fn put_bytes(store: &mut MemoryStore, rest: &str) -> Result<()> {
+    let (name, string) = rest.split_once(' ').unwrap_or((rest, ""));
     let name = name_of(name)?;
-    match replace_file(store, &name, text.as_bytes()) {
+    match replace_file(store, &name, string.as_bytes()) {
         Ok(()) => Ok(()),
-        Err(StoreFault) => Ok(write_file(store, &name, text.as_bytes())?),
+        Err(StoreFault) => Ok(write_file(store, &name, string.as_bytes())?),
     }
 }
 
-/// Takes a file away.
-pub fn remove(store: &mut MemoryStore, text: &str) -> Result<()> {
-    Ok(remove_file(store, &name_of(text)?)?)
+/// Removes a file.
+pub fn remove(store: &mut MemoryStore, string: &str) -> Result<()> {
+    Ok(remove_file(store, &name_of(string)?)?)
 }
 
 // Writes a file of a store into another one.
@@ -68,7 +68,7 @@ pub fn copy_of(alloc: Global, store: &mut MemoryStore) -> Result<MemoryStore> {
     Ok(copy)
 }
 
-/// Takes the journal away.
+/// Removes the journal.
 pub fn forget(alloc: Global, store: &mut MemoryStore) -> Result<()> {
     *store = files_of(alloc, store)?;
     Ok(())

@@ -1,4 +1,5 @@
-//! Calls after a line that begins with `>`. `tests/calls_out_of_memory.py` refuses each growth up to the next line.
+//! Calls that come after a printed line that begins with `>`. `tests/calls_out_of_memory.py` refuses each growth up to
+//! the next line.
 
 use crate::calls::{journal_of, print_of};
 use crate::files::fingerprint_of;
@@ -17,7 +18,7 @@ fn hold(rt: &HostRuntime, store: &mut MemoryStore) -> Result<()> {
     Ok(())
 }
 
-// Prints where a session stands.
+// Prints the state of a session.
 fn stand(rt: &HostRuntime, session: &Session) -> Result<()> {
     let files = u128::from_be_bytes(print_of(session.folder())?);
     let (undos, redos) = (session.undo_depth(), session.redo_depth());
@@ -25,7 +26,7 @@ fn stand(rt: &HostRuntime, session: &Session) -> Result<()> {
     Ok(())
 }
 
-// Opens a store, and says whether that was done.
+// Opens a store, and returns whether that succeeded.
 fn is_opened(rt: &HostRuntime, store: &mut MemoryStore) -> Result<bool> {
     match open_store(rt.alloc(), store) {
         Ok(started) => {
@@ -40,7 +41,7 @@ fn is_opened(rt: &HostRuntime, store: &mut MemoryStore) -> Result<bool> {
     }
 }
 
-// Opens a store, once more where it is refused.
+// Opens a store, and again if that is refused.
 fn open(rt: &HostRuntime, store: &mut MemoryStore) -> Result<()> {
     for _ in 0..2 {
         hold(rt, store)?;
@@ -52,7 +53,7 @@ fn open(rt: &HostRuntime, store: &mut MemoryStore) -> Result<()> {
     hold(rt, store)
 }
 
-// Reads the words of a line, once more where they are refused.
+// Reads the words of a line, and again if they are refused.
 fn read(rt: &HostRuntime, line: &str) -> Result<()> {
     let words = parted(rt.alloc(), line)?;
     for _ in 0..2 {
@@ -65,7 +66,7 @@ fn read(rt: &HostRuntime, line: &str) -> Result<()> {
     Ok(())
 }
 
-// Runs the words of a line, and opens what that leaves.
+// Runs the words of a line, and opens the store that this leaves.
 fn run(rt: &HostRuntime, store: &mut MemoryStore, line: &str) -> Result<()> {
     let words = parted(rt.alloc(), line)?;
     hold(rt, store)?;
@@ -93,7 +94,7 @@ fn session_of(alloc: Global, store: &mut MemoryStore) -> Result<Session> {
     }
 }
 
-// Performs the command of a line, and opens what that leaves.
+// Performs the command of a line, and opens the store that this leaves.
 fn act(rt: &HostRuntime, store: &mut MemoryStore, line: &str) -> Result<()> {
     let command = command_of(rt.alloc(), line)?;
     let mut session = session_of(rt.alloc(), store)?;
@@ -109,7 +110,7 @@ fn act(rt: &HostRuntime, store: &mut MemoryStore, line: &str) -> Result<()> {
     Ok(())
 }
 
-/// Makes a call, which is named before the line that it is about.
+/// Makes the call whose name comes first in `rest`, on the line after it.
 pub fn grow(rt: &HostRuntime, store: &mut MemoryStore, rest: &str) -> Result<()> {
     let (call, line) = rest.split_once(' ').unwrap_or((rest, ""));
     match call {

@@ -1,21 +1,21 @@
-//! The lines of the input: a word, a space and what the word is about.
+//! The lines of the input: a word, a space and the word's arguments.
 
 use crate::disk;
-use crate::files::{clear, forget, put_text, remove};
+use crate::files::{clear, forget, put_bytes, remove};
 use crate::growths::grow;
-use crate::rows::{answer_of, row, show, told};
+use crate::rows::{answer_of, reported, row, show};
 use crate::scarce_memory::want_memory;
 use crate::sessions::{failing_session, session};
 use crate::stopping_output::stop_output;
-use crate::stops::{stop, stop_and_repeat, stop_each, told_stop};
+use crate::stops::{reported_stop, stop, stop_and_repeat, stop_each};
 use crate::ways_back::{go_and_return, put_digits, refuse};
 use crate::words::read;
 use anyhow::{Error, Result};
 use par2_stores::MemoryStore;
 
-// Prints a text.
-fn say(rt: &HostRuntime, text: &str) -> Result<()> {
-    println!(rt; "{text}")?;
+// Prints a line.
+fn say(rt: &HostRuntime, bytes: &str) -> Result<()> {
+    println!(rt; "{bytes}")?;
     Ok(())
 }
 
@@ -25,13 +25,13 @@ fn run(rt: &HostRuntime, store: &mut MemoryStore, line: &str) -> Result<()> {
     Ok(())
 }
 
-// Sessions, and runs on stores that fail or want memory.
+// Sessions, and runs on stores that fail or run out of memory.
 fn fail(rt: &HostRuntime, store: &mut MemoryStore, word: &str, rest: &str) -> Result<()> {
     match word {
         "session" => session(rt, store),
         "session-failing" => failing_session(rt, store, rest == "after"),
         "stop" => stop(rt, store, rest),
-        "stop-told" => told_stop(rt, store, rest),
+        "stop-told" => reported_stop(rt, store, rest),
         "stop-each" => stop_each(rt, store, rest),
         "stop-and-repeat" => stop_and_repeat(rt, store, rest),
         "want-memory" => want_memory(rt, store, rest),
@@ -42,11 +42,11 @@ fn fail(rt: &HostRuntime, store: &mut MemoryStore, word: &str, rest: &str) -> Re
     }
 }
 
-// Commands, and what they leave.
+// Commands, and the stores that they leave.
 fn command(rt: &HostRuntime, store: &mut MemoryStore, word: &str, rest: &str) -> Result<()> {
     match word {
         "run" => run(rt, store, rest),
-        "told" => told(rt, store, rest),
+        "told" => reported(rt, store, rest),
         "row" => row(rt, store, rest),
         "return" => go_and_return(rt, store, rest),
         "refused" => refuse(rt, store, rest),
@@ -54,14 +54,14 @@ fn command(rt: &HostRuntime, store: &mut MemoryStore, word: &str, rest: &str) ->
     }
 }
 
-// Carries out a line. An empty one, and one that begins with `#`, is read over.
+// Carries out a line. Empty lines and lines that begin with `#` are skipped.
 fn carry_out(rt: &HostRuntime, store: &mut MemoryStore, line: &str) -> Result<()> {
     let (word, rest) = line.split_once(' ').unwrap_or((line, ""));
     match word {
         "" | "#" => Ok(()),
         "say" => say(rt, rest),
         "new" => clear(rt.alloc(), store),
-        "put" => put_text(store, rest),
+        "put" => put_bytes(store, rest),
         "remove" => remove(store, rest),
         "journal" => put_digits(rt, store, rest),
         "no-journal" => forget(rt.alloc(), store),

@@ -1,13 +1,12 @@
-//! Carries out the lines of its input and prints what comes of them. A line is for words that are read, for words that
-//! are run on stores in memory (with the files, their lengths and the journal's length), for actions on one session,
-//! or for calls on real folders. Words are also run on stores that fail or want memory at the first of their calls, at
-//! the second, and so on until none is refused. What whole commands answer in any folder is carried out by
-//! `tests/commands/run.py`.
+//! Carries out the lines of its input and prints the results. A line has words that are read, words that are run on
+//! stores in memory (it prints the files, their lengths and the journal's length), actions on one session, or calls on
+//! real folders. Words are also run on stores that fail or run out of memory at the first of their calls, at the
+//! second, and so on until none is refused. `tests/commands/run.py` carries out whole commands in any folder.
 //!
-//! `tests/calls_out_of_memory.py` has it make calls of which it refuses a growth.
+//! `tests/calls_out_of_memory.py` has this program make calls of which it refuses a growth.
 //!
-//! Memory is ample but where a store answers otherwise, so the stored output also refuses a `run` that always
-//! answers out of memory. `rt run` builds the program; `rt try` takes minutes and can't go into real folders.
+//! Memory suffices unless a store reports otherwise, so the stored output also fails a `run` that always returns out of
+//! memory. `rt run` builds the program; `rt try` takes minutes and can't go into real folders.
 #![tactic(auto)]
 
 mod calls;

@@ -1,4 +1,4 @@
-//! Runs on a store, and what comes of them.
+//! Runs on a store, and their results.
 
 use crate::calls::{journal_of, names_of, read_file};
 use anyhow::Result;
@@ -9,7 +9,7 @@ use par2_tool::{Printer, run};
 use std::alloc::{AllocError, Global};
 use std::io::Write;
 
-/// What came of a run.
+/// The result of a run.
 #[derive(Drop)]
 pub struct Answer {
     pub status: u8,
@@ -18,15 +18,15 @@ pub struct Answer {
 }
 
 impl Answer {
-    /// What the run wrote on its two writers.
-    pub fn text(&self, alloc: Global) -> Result<String, AllocError> {
-        let mut text = Vec::from_slice(alloc, &self.out)?;
-        text.extend_from_slice(&self.err)?;
-        String::from_utf8_lossy(alloc, &text)
+    /// The bytes that the run wrote on its two writers.
+    pub fn bytes(&self, alloc: Global) -> Result<String, AllocError> {
+        let mut bytes = Vec::from_slice(alloc, &self.out)?;
+        bytes.extend_from_slice(&self.err)?;
+        String::from_utf8_lossy(alloc, &bytes)
     }
 }
 
-/// The words of a line, which are parted by spaces.
+/// The words of a line, which spaces separate.
 pub fn parted(alloc: Global, line: &str) -> Result<Vec<String>, AllocError> {
     let mut words = Vec::new(alloc);
     for word in line.split_whitespace() {
@@ -35,12 +35,12 @@ pub fn parted(alloc: Global, line: &str) -> Result<Vec<String>, AllocError> {
     Ok(words)
 }
 
-/// A printer on bytes.
+/// A printer over a byte buffer.
 pub fn printer(alloc: Global) -> Printer<Vec<u8>> {
     Printer::new(Vec::new(alloc))
 }
 
-// What a printer wrote.
+// The bytes that a printer wrote.
 fn bytes_on(printer: Printer<Vec<u8>>) -> Vec<u8> {
     printer.into_inner()
 }
@@ -74,32 +74,32 @@ pub fn answer_of<S: FolderStore>(alloc: Global, store: &mut S, line: &str) -> Re
     Ok(answer_to(alloc, store, &words))
 }
 
-/// Prints what a writer got, if anything.
-pub fn show_text(rt: &HostRuntime, writer: &str, text: &[u8]) -> Result<()> {
-    if text.is_empty() {
+/// Prints what was written to a writer, if anything.
+pub fn show_bytes(rt: &HostRuntime, writer: &str, bytes: &[u8]) -> Result<()> {
+    if bytes.is_empty() {
         return Ok(());
     }
-    let text = String::from_utf8_lossy(rt.alloc(), text)?;
-    println!(rt; "  {writer} {:?}", text.as_str())?;
+    let bytes = String::from_utf8_lossy(rt.alloc(), bytes)?;
+    println!(rt; "  {writer} {:?}", bytes.as_str())?;
     Ok(())
 }
 
-/// Runs the words of a line on a store, and prints the status and what the writers got. Gives the status.
-pub fn status_told<S: FolderStore>(rt: &HostRuntime, store: &mut S, line: &str) -> Result<u8> {
+/// Runs the words of a line on a store, and prints the status and what was written. Returns the status.
+pub fn status_reported<S: FolderStore>(rt: &HostRuntime, store: &mut S, line: &str) -> Result<u8> {
     let answer = answer_of(rt.alloc(), store, line)?;
     println!(rt; "[{line}] {}", answer.status)?;
-    show_text(rt, "output", &answer.out)?;
-    show_text(rt, "error", &answer.err)?;
+    show_bytes(rt, "output", &answer.out)?;
+    show_bytes(rt, "error", &answer.err)?;
     Ok(answer.status)
 }
 
-/// Runs the words of a line on a store, and prints the status and what the writers got.
-pub fn told<S: FolderStore>(rt: &HostRuntime, store: &mut S, line: &str) -> Result<()> {
-    let _status = status_told(rt, store, line)?;
+/// Runs the words of a line on a store, and prints the status and what was written.
+pub fn reported<S: FolderStore>(rt: &HostRuntime, store: &mut S, line: &str) -> Result<()> {
+    let _status = status_reported(rt, store, line)?;
     Ok(())
 }
 
-// Prints a file with its length, or why it can't be read.
+// Prints a file with its length, or the reason why it can't be read.
 fn show_length<S: FolderStore>(rt: &HostRuntime, store: &mut S, name: &Name) -> Result<()> {
     match read_file(rt.alloc(), store, name) {
         Ok(bytes) => println!(rt; "  file {}: {}", name.as_str(), bytes.len())?,
@@ -108,7 +108,7 @@ fn show_length<S: FolderStore>(rt: &HostRuntime, store: &mut S, name: &Name) -> 
     Ok(())
 }
 
-// Prints the files with their lengths, as far as the store answers.
+// Prints the files with their lengths, as far as the store returns them.
 fn show_files<S: FolderStore>(rt: &HostRuntime, store: &mut S) -> Result<()> {
     match names_of(rt.alloc(), store) {
         Ok(names) => {
@@ -137,8 +137,8 @@ pub fn show<S: FolderStore>(rt: &HostRuntime, store: &mut S) -> Result<()> {
     show_journal(rt, store)
 }
 
-/// Runs the words of a line on a store, and prints what comes of it and what the store holds then.
+/// Runs the words of a line on a store, and prints the result and the store's contents afterwards.
 pub fn row(rt: &HostRuntime, store: &mut MemoryStore, line: &str) -> Result<()> {
-    told(rt, store, line)?;
+    reported(rt, store, line)?;
     show(rt, store)
 }

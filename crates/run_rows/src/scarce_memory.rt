@@ -1,8 +1,8 @@
-//! Runs on a store that has memory for some reading calls alone.
+//! Runs on a store that has memory for only some reading calls.
 ghost use Rattle.std.specs.Prelude.{◌≡◌};
 
 use crate::files::copy_of;
-use crate::rows::{show, status_told};
+use crate::rows::{show, status_reported};
 use anyhow::Result;
 use par2_disk::{FolderStore, ReadFault, Store, StoreFault};
 use par2_files::Name;
@@ -14,8 +14,8 @@ const MANY_CALLS: u64 = 20;
 
 const OUT_OF_MEMORY: u8 = 8;
 
-// A store in memory whose first reading calls have memory, and whose later ones want it. Nothing is promised of its
-// contents, since it wants memory for a name that no file has, too.
+// A store in memory that runs out of memory after its first reading calls. Nothing is promised of its contents, because
+// it also runs out of memory for a name that no file has.
 #[derive(Drop)]
 struct WantingStore {
     inner: MemoryStore,
@@ -23,12 +23,12 @@ struct WantingStore {
 }
 
 impl WantingStore {
-    // The store passes `k` reading calls on.
+    // A store that passes `k` reading calls on.
     fn new(inner: MemoryStore, k: u64) -> WantingStore {
         WantingStore { inner, left: k }
     }
 
-    // The other store, as it stands.
+    // Returns the inner store.
     fn into_inner(self) -> MemoryStore {
         self.inner
     }
@@ -54,7 +54,7 @@ impl Store for WantingStore {
 
     ghost contents = { λ _. record { files = empty; journal = None } };
 
-    ghost may_remain = { λ _ _. ⊥ };
+    ghost crash_states = { λ _ _. ⊥ };
 
     ghost failures = { λ store. memory_failures store.inner };
 
@@ -106,13 +106,13 @@ impl FolderStore for WantingStore {
     }
 }
 
-/// Runs words on a copy of the store that wants memory from the first of its reading calls on, from the second, and so
-/// on until none is refused.
+/// Runs words on a copy of the store that runs out of memory from the first of its reading calls on, then from the
+/// second, and so on until no run is refused.
 pub fn want_memory(rt: &HostRuntime, store: &mut MemoryStore, line: &str) -> Result<()> {
     for passed in 0..MANY_CALLS {
         println!(rt; "{passed} reading calls, then out of memory")?;
         let mut wanting = WantingStore::new(copy_of(rt.alloc(), store)?, passed);
-        let status = status_told(rt, &mut wanting, line)?;
+        let status = status_reported(rt, &mut wanting, line)?;
         show(rt, &mut wanting.into_inner())?;
         if status != OUT_OF_MEMORY {
             break;

@@ -8,11 +8,11 @@ use par2_stores::MemoryStore;
 use par2_tool::{Action, Command, CreateArgs, Outcome, Session, open_store, perform};
 use std::alloc::{AllocError, Global};
 
-// The calls of an opening over one file, of a create, of showing what the store holds then, and of the undo's first
+// The calls of opening a store with one file, of a create, of showing the store's contents, and of the undo's first
 // journal.
 const CALLS_BEFORE_REMOVAL: u64 = 11;
 
-// Performs a command, and prints what comes of it.
+// Performs a command, and prints its result.
 fn step<S: FolderStore>(
     rt: &HostRuntime,
     store: &mut S,
@@ -32,7 +32,7 @@ fn step<S: FolderStore>(
     show(rt, store)
 }
 
-// Of a create of an index over the file `a`.
+// The arguments of a create of an index over the file `a`.
 fn index_args(alloc: Global) -> Result<CreateArgs, AllocError> {
     Ok(CreateArgs {
         slice: 4,
@@ -67,7 +67,7 @@ pub fn session(rt: &HostRuntime, store: &mut MemoryStore) -> Result<()> {
     create_then_undo(rt, store)
 }
 
-/// A create and two undos on a store that fails at the call by which the first undo takes the index away.
+/// A create and two undos, on a store that fails at the call with which the first undo removes the index.
 pub fn failing_session(rt: &HostRuntime, store: &mut MemoryStore, works: bool) -> Result<()> {
     let mut failing = failing(rt.alloc(), store, CALLS_BEFORE_REMOVAL, works)?;
     create_then_undo(rt, &mut failing)?;

@@ -1,14 +1,14 @@
 //! Runs whose output writer stops.
 ghost use Rattle.std.specs.Prelude.{Some};
 
-use crate::rows::{parted, printer, show, show_text, status_of};
+use crate::rows::{parted, printer, show, show_bytes, status_of};
 use anyhow::Result;
 use par2_stores::MemoryStore;
 use par2_tool::Printer;
 use std::alloc::Global;
 use std::io::{self, ErrorKind, Write};
 
-// Takes so many bytes, and then fails or takes none.
+// A writer that takes this many bytes, and then fails or takes none.
 #[derive(Drop)]
 struct Stopping {
     held: Vec<u8>,
@@ -43,8 +43,7 @@ fn stopping_printer(alloc: Global, fails: bool) -> Printer<Stopping> {
     })
 }
 
-/// Runs the words of a line with an output that takes five bytes and then fails, or takes none, and prints what comes of
-/// it.
+/// Runs the words of a line with an output that takes five bytes and then fails or takes none, and prints the result.
 pub fn stop_output(
     rt: &HostRuntime,
     store: &mut MemoryStore,
@@ -56,7 +55,7 @@ pub fn stop_output(
     let mut err = printer(rt.alloc());
     let status = status_of(rt.alloc(), &words, store, &mut out, &mut err);
     println!(rt; "[{line}] {status}")?;
-    show_text(rt, "output", &out.into_inner().held)?;
-    show_text(rt, "error", &err.into_inner())?;
+    show_bytes(rt, "output", &out.into_inner().held)?;
+    show_bytes(rt, "error", &err.into_inner())?;
     show(rt, store)
 }

@@ -1,7 +1,7 @@
-//! Runs that are stopped, since the store fails from some call on, and the runs that come next.
+//! Runs that are stopped because the store fails from some call on, and the runs after them.
 
 use crate::files::{copy_of, fingerprint_of};
-use crate::rows::{Answer, answer_of, row, show, status_told, told};
+use crate::rows::{Answer, answer_of, reported, row, show, status_reported};
 use anyhow::Result;
 use par2_stores::{FuseStore, MemoryStore};
 use std::alloc::Global;
@@ -21,7 +21,7 @@ pub fn failing(
     Ok(FuseStore::new(copy_of(alloc, store)?, passed, works))
 }
 
-/// Runs the words of a line, before which a number says how many calls the store answers.
+/// Runs words that come after the number of calls before the store fails.
 pub fn stop(rt: &HostRuntime, store: &mut MemoryStore, rest: &str) -> Result<()> {
     let (passed, line) = rest.split_once(' ').unwrap_or(("0", rest));
     let mut failing = failing(rt.alloc(), store, passed.parse()?, false)?;
@@ -30,30 +30,30 @@ pub fn stop(rt: &HostRuntime, store: &mut MemoryStore, rest: &str) -> Result<()>
     Ok(())
 }
 
-/// Runs words as `stop` does, and prints what comes of it.
-pub fn told_stop(rt: &HostRuntime, store: &mut MemoryStore, rest: &str) -> Result<()> {
+/// Runs words as `stop` does, and prints the result.
+pub fn reported_stop(rt: &HostRuntime, store: &mut MemoryStore, rest: &str) -> Result<()> {
     let (passed, line) = rest.split_once(' ').unwrap_or(("0", rest));
     let mut failing = failing(rt.alloc(), store, passed.parse()?, false)?;
-    told(rt, &mut failing, line)?;
+    reported(rt, &mut failing, line)?;
     *store = failing.into_inner();
     Ok(())
 }
 
-// Runs words on a store that fails, and the next words on what it leaves. Says whether the first run was stopped.
+// Runs words on a store that fails, and the next words on what it leaves. Returns whether the first run was stopped.
 fn is_stopped(
     rt: &HostRuntime,
     mut store: FuseStore<MemoryStore>,
     line: &str,
     next: &str,
 ) -> Result<bool> {
-    let status = status_told(rt, &mut store, line)?;
+    let status = status_reported(rt, &mut store, line)?;
     let mut left = store.into_inner();
     show(rt, &mut left)?;
     row(rt, &mut left, next)?;
     Ok(status == STORE_FAILED)
 }
 
-/// Stops a run at each of its calls. After it and a semicolon stands the run that comes next.
+/// Stops a run at each of its calls. The run that comes next is after it and a semicolon.
 pub fn stop_each(rt: &HostRuntime, store: &mut MemoryStore, rest: &str) -> Result<()> {
     let (line, next) = rest.split_once("; ").unwrap_or((rest, ""));
     for works in [false, true] {
@@ -68,14 +68,14 @@ pub fn stop_each(rt: &HostRuntime, store: &mut MemoryStore, rest: &str) -> Resul
     Ok(())
 }
 
-// Prints the words of a line, the status of its run and what the run wrote.
+// Prints the words of a line, the status of its run and the bytes that it wrote.
 fn say(rt: &HostRuntime, line: &str, answer: &Answer) -> Result<()> {
-    let text = answer.text(rt.alloc())?;
-    println!(rt; "  [{line}] {} {:?}", answer.status, text.as_str())?;
+    let bytes = answer.bytes(rt.alloc())?;
+    println!(rt; "  [{line}] {} {:?}", answer.status, bytes.as_str())?;
     Ok(())
 }
 
-// Runs the same words again, which lead to the same folder whether they were performed before or not. Then undoes one
+// Runs the same words again, which lead to the same folder whether or not they were performed before. Then undoes one
 // command.
 fn go_on(rt: &HostRuntime, left: &mut MemoryStore, line: &str, wanted: [u8; 16]) -> Result<()> {
     say(rt, line, &answer_of(rt.alloc(), left, line)?)?;
@@ -85,7 +85,7 @@ fn go_on(rt: &HostRuntime, left: &mut MemoryStore, line: &str, wanted: [u8; 16])
     say(rt, "undo", &answer_of(rt.alloc(), left, "undo")?)
 }
 
-// Runs words on a store that fails, and goes on with what it leaves. Says whether the run was stopped.
+// Runs words on a store that fails, and continues with what it leaves. Returns whether the run was stopped.
 fn is_repeated(
     rt: &HostRuntime,
     mut store: FuseStore<MemoryStore>,

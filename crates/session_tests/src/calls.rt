@@ -1,5 +1,5 @@
-//! Calls of folders and sessions, each in a function that promises nothing or little: of such a call the prover sees
-//! its type and those few clauses.
+//! Calls of folders and sessions, each in a function with few clauses or none. For the prover: it sees only the types
+//! of such a call and those clauses.
 ghost use Rattle.std.specs.Prelude.{IfOk};
 ghost use Rattle.par2_journal.specs.Ready.{Fits};
 
@@ -15,7 +15,7 @@ pub fn applied(folder: &mut Folder, change: &mut Change) -> bool {
     folder.apply(change).is_ok()
 }
 
-// Makes places for so many files more.
+/// Reserves space for this many more files.
 pub fn reserve(folder: &mut Folder, places: usize) -> Result<(), AllocError> {
     folder.reserve(places)
 }
@@ -40,7 +40,7 @@ pub fn create(session: &mut Session, args: &CreateArgs) -> Result<Steps, Fault> 
     session.create(args)
 }
 
-// Repairs by the index `t.par2` alone.
+/// Repairs with only the index `t.par2`.
 pub fn repair(session: &mut Session, purge: bool) -> Result<Steps, Fault> {
     session.repair("t.par2", &[], purge)
 }
@@ -55,7 +55,7 @@ pub fn prepare(session: &mut Session, action: &Action) -> Result<Prepared, Sessi
     session.prepare(action)
 }
 
-// Whether one change was made ready, with one step.
+/// Whether one change was prepared, with one step.
 pub fn is_one_change(session: &Session, prepared: &Prepared) -> bool
     requires { Fits prepared.now session.now }
 {
@@ -69,14 +69,14 @@ pub fn journals_of(session: &mut Session, prepared: &mut Prepared) -> Result<Jou
     session.journals(prepared)
 }
 
-// How many steps were done.
+/// Returns the number of steps.
 pub fn commit(session: &mut Session, prepared: Prepared) -> usize
     requires { Fits prepared session.old }
 {
     session.commit(prepared).len()
 }
 
-// Whether there was something to undo.
+/// Returns whether there was something to undo.
 pub fn undo(session: &mut Session) -> bool {
     session.undo().is_ok()
 }
@@ -85,12 +85,12 @@ pub fn redo(session: &mut Session) -> bool {
     session.redo().is_ok()
 }
 
-// How many of the actions were done.
+/// Returns the number of actions that were done.
 pub fn play(session: &mut Session, actions: &[Action]) -> usize {
     session.play(actions)
 }
 
-// How many commands a session can undo and redo.
+/// The numbers of commands that a session can undo and redo.
 pub fn depths_of(session: &Session) -> (usize, usize) {
     (session.undo_depth(), session.redo_depth())
 }
@@ -99,7 +99,7 @@ pub fn folder_in(session: &Session) -> &Folder {
     session.folder()
 }
 
-// How many files the session's folder takes without memory.
+/// The number of files that the session's folder takes without allocating.
 pub fn vacant_in(session: &Session) -> usize {
     session.folder().vacant()
 }
@@ -108,23 +108,23 @@ pub fn encode(session: &Session) -> Result<Vec<u8>, AllocError> {
     session.encode()
 }
 
-pub fn open(alloc: Global, folder: Folder, text: &[u8]) -> Result<Opened, (JournalFault, Folder)> {
-    Session::open(alloc, folder, text)
+pub fn open(alloc: Global, folder: Folder, bytes: &[u8]) -> Result<Opened, (JournalFault, Folder)> {
+    Session::open(alloc, folder, bytes)
 }
 
 pub fn open_before_redo(
     alloc: Global,
     folder: Folder,
-    text: &[u8],
+    bytes: &[u8],
 ) -> Result<Opened, (JournalFault, Folder)> {
-    Session::open_before(alloc, folder, text, Some(Next::Redo))
+    Session::open_before(alloc, folder, bytes, Some(Next::Redo))
 }
 
 pub fn changes_back(halfway: &Halfway) -> &[Change] {
     halfway.changes()
 }
 
-pub fn settled_text(halfway: &Halfway) -> Result<Vec<u8>, AllocError> {
+pub fn settled_bytes(halfway: &Halfway) -> Result<Vec<u8>, AllocError> {
     halfway.settled()
 }
 

@@ -1,6 +1,6 @@
-//! The digest of a text beside the fingerprint of a folder.
+//! MD5 of a message, against the fingerprint of a folder.
 
-use par2_files::{Digests, Landmarks, fingerprints};
+use par2_files::{Checkpoints, Digests, fingerprints};
 use par2_folder::Folder;
 use std::alloc::{AllocError, Global};
 use std::test::Fail;
@@ -9,12 +9,12 @@ use std::test::Fail;
 fn fingerprint_and_digest(
     alloc: Global,
     folder: &Folder,
-    text: &[u8],
+    bytes: &[u8],
 ) -> Result<Digests, AllocError> {
-    fingerprints(alloc, folder, &[], &Landmarks::none(alloc), &[text])
+    fingerprints(alloc, folder, &[], &Checkpoints::none(alloc), &[bytes])
 }
 
-// The digests of no bytes and of `abc` stand in RFC 1321.
+// The digests of no bytes and of `abc` are in RFC 1321 (A.5).
 fn are_known(alloc: Global) -> Result<bool, AllocError> {
     let folder = Folder::new(alloc);
     let found = fingerprint_and_digest(alloc, &folder, b"abc")?;
@@ -27,7 +27,7 @@ fn is_only(digests: &[[u8; 16]], wanted: u128) -> bool {
 }
 
 #[test]
-fn empty_folder_beside_a_text(rt: HostRuntime) -> Result<(), Fail> {
+fn empty_folder_beside_a_message(rt: HostRuntime) -> Result<(), Fail> {
     assert!(rt; are_known(rt.alloc())?);
     Ok(())
 }

@@ -1,11 +1,11 @@
-//! Folders and the arguments of creates. The helpers of all tests take the allocator alone and answer what holds, so
-//! that one assertion in each test tells it.
+//! Folders and the arguments of creates. The helpers of all tests take only the allocator and return what holds, so
+//! that each test needs one assertion.
 use crate::calls::{applied, reserve};
 use par2_folder::{Bytes, Change, Folder, Name};
 use par2_plan::CreateArgs;
 use std::alloc::{AllocError, Global};
 
-/// Why a step of a test doesn't come about.
+/// Why a step of a test failed.
 #[derive(Debug, Drop)]
 pub enum Trouble {
     Memory,
@@ -21,10 +21,10 @@ impl From<AllocError> for Trouble {
 /// The name and the bytes of a file.
 pub type File = (&'static str, &'static [u8]);
 
-/// The file `a` alone.
+/// Only the file `a`.
 pub const A: &[File] = &[("a", b"abcdefgh")];
 
-// The words of a command.
+/// The words of a command.
 pub fn words_of(alloc: Global, words: &[&str]) -> Result<Vec<String>, AllocError> {
     let mut list = Vec::new(alloc);
     for word in words {
@@ -33,7 +33,7 @@ pub fn words_of(alloc: Global, words: &[&str]) -> Result<Vec<String>, AllocError
     Ok(list)
 }
 
-// A create without recovery slices.
+/// A create without recovery slices.
 pub fn args_of(
     alloc: Global,
     slice: u64,
@@ -50,16 +50,16 @@ pub fn args_of(
     })
 }
 
-// Writes a file into a folder that has a place for it.
-fn write(alloc: Global, folder: &mut Folder, text: &str, bytes: &[u8]) -> Result<(), Trouble> {
+// Writes a file into a folder that has space for it.
+fn write(alloc: Global, folder: &mut Folder, string: &str, bytes: &[u8]) -> Result<(), Trouble> {
     let bytes = Bytes::copy_of(alloc, bytes)?;
-    let Ok(name) = Name::new(text) else {
+    let Ok(name) = Name::new(string) else {
         return Err(Trouble::Refused);
     };
     apply(folder, Change::Write(name, bytes))
 }
 
-// Does a change.
+/// Makes a change.
 pub fn apply(folder: &mut Folder, mut change: Change) -> Result<(), Trouble> {
     if applied(folder, &mut change) {
         Ok(())
@@ -68,7 +68,7 @@ pub fn apply(folder: &mut Folder, mut change: Change) -> Result<(), Trouble> {
     }
 }
 
-// A folder of these files.
+/// A folder of these files.
 pub fn folder_of(alloc: Global, files: &[(&str, &[u8])]) -> Result<Folder, Trouble> {
     let mut folder = Folder::new(alloc);
     reserve(&mut folder, files.len())?;

@@ -1,4 +1,4 @@
-//! The journals of a session. Their texts were made by another program, from the formats alone.
+//! The journals of a session. Their bytes were made by another program, from the formats alone.
 ghost use Rattle.std.specs.Prelude.{IfOk};
 ghost use Rattle.par2_journal.specs.Ready.{Fits};
 
@@ -9,14 +9,14 @@ use crate::session::{Task, action_of};
 use par2_journal::{Action, Journals, Prepared, Session};
 use std::alloc::{AllocError, Global};
 
-/// The length of a text and its first bytes.
+/// The length of a journal and its first bytes.
 pub type Text = (usize, &'static [u8]);
 
-pub fn is_text(text: &[u8], wanted: &Text) -> bool {
-    text.len() == wanted.0 && text.starts_with(wanted.1)
+pub fn is_bytes(bytes: &[u8], wanted: &Text) -> bool {
+    bytes.len() == wanted.0 && bytes.starts_with(wanted.1)
 }
 
-/// Where the folder has the file `a` alone.
+/// The fingerprint of the folder with only the file `a`.
 pub const FINGERPRINT: [u8; 16] =
     *b"\xd3\x68\x83\xb6\x33\x05\xc2\x0b\x65\xe4\x20\x6a\x90\x61\x28\xc1";
 
@@ -24,7 +24,7 @@ pub const FINGERPRINT: [u8; 16] =
 pub const FRONT: &[u8] =
     b"P2UNDO2\n\xd3\x68\x83\xb6\x33\x05\xc2\x0b\x65\xe4\x20\x6a\x90\x61\x28\xc1";
 
-/// The version and the fingerprint, where the folder has the index `t.par2` too.
+/// The version and the fingerprint of the folder that has the index `t.par2`, too.
 pub const FRONT_AFTER: &[u8] =
     b"P2UNDO2\n\x14\x34\xa4\x51\x54\x3d\x21\xe1\x7e\x2c\xec\x58\x38\x6a\xb5\xf7";
 
@@ -47,16 +47,16 @@ pub const HALFWAY_JOURNAL: &[u8] = b"P2UNDO2\n\
     \x14\x34\xa4\x51\x54\x3d\x21\xe1\x7e\x2c\xec\x58\x38\x6a\xb5\xf7\x04\x06t.par2\
     \x30\x59\x57\xd2\x7b\x05\x01\x6f\xb4\x88\xb9\x87\x54\x2a\x93\xcc";
 
-/// The journal after the create was undone begins like this. A redo writes the 420 bytes of the index.
+/// The first bytes of the journal after the create was undone. A redo writes the 420 bytes of the index.
 pub const UNDONE_JOURNAL: &[u8] = b"P2UNDO2\n\
     \xd3\x68\x83\xb6\x33\x05\xc2\x0b\x65\xe4\x20\x6a\x90\x61\x28\xc1\
     \0\0\0\0\0\0\0\0\x01\0\0\0\0\0\0\0\x01\0\0\0\0\0\0\0\x01\x06t.par2\xa4\x01\0\0\0\0\0\0PAR2\0PKT";
 
-fn is_journal_of(session: &Session, text: &[u8]) -> Result<bool, AllocError> {
-    Ok(encode(session)?.as_slice() == text)
+fn is_journal_of(session: &Session, bytes: &[u8]) -> Result<bool, AllocError> {
+    Ok(encode(session)?.as_slice() == bytes)
 }
 
-// The journals of what was made ready, one change of one step. The session has this journal, as before.
+// The journals of a prepared action of one change and one step. Preparing leaves the session's own journal as it was.
 fn spelled(
     session: &mut Session,
     prepared: &mut Prepared,
@@ -76,7 +76,7 @@ fn spelled(
     }
 }
 
-// Makes an action ready, with its journals, by which the session stays as it is, and does it.
+// Prepares an action and its journals, which leaves the session as it was, and commits it.
 fn committed(session: &mut Session, action: &Action) -> Result<Journals, Trouble> {
     let before = encode(session)?;
     let Ok(mut prepared) = prepare(session, action) else {
@@ -90,13 +90,13 @@ fn committed(session: &mut Session, action: &Action) -> Result<Journals, Trouble
     }
 }
 
-// Whether these are the journals of a task: this one while it is halfway, and the other that stands afterwards.
+// Whether these are the journals of a task: the one while it is halfway, and the one after it.
 fn are_spelled(journals: &Journals, halfway: &Text, after: &[u8]) -> bool {
     journals.after.as_slice() == after
-        && matches!(&journals.halfway, Some(text) if is_text(text, halfway))
+        && matches!(&journals.halfway, Some(bytes) if is_bytes(bytes, halfway))
 }
 
-// Whether a task is done, with these journals.
+/// Whether a task is committed with these journals.
 pub fn commits(
     alloc: Global,
     session: &mut Session,

@@ -1,11 +1,11 @@
-//! The expected texts were made by another program, from the format alone.
+//! Journals as bytes. The expected bytes were made by another program, from the format alone.
 ghost use Rattle.std.specs.Prelude.{◌≡◌, length};
 
 use crate::fixtures::Trouble;
 use md5::{Digest, Md5};
 use par2_folder::{Bytes, Change, Changes, Name};
 use par2_journal_format::{
-    DecodeFault, HalfwayPart, HalfwayPartView, Journal, JournalTexts, JournalView, Version, begin,
+    DecodeFault, HalfwayPart, HalfwayPartView, Journal, JournalBytes, JournalView, Version, begin,
     decode, decode_untested, encode, finish_both, is_sealed,
 };
 use std::alloc::{AllocError, Global};
@@ -14,7 +14,7 @@ use std::test::Fail;
 
 const FINGERPRINT: [u8; 16] = *b"0123456789abcdef";
 
-// One entry, which removes `t.par2`, for an undo.
+// One entry for an undo: it removes `t.par2`.
 const UNDO_ONE: &[u8] =
     b"P2UNDO1\n0123456789abcdef\x01\0\0\0\0\0\0\0\x01\0\0\0\0\0\0\0\x04\x06t.par2\0\
     \x40\x01\xf7\xd1\x58\xca\x84\x40\xda\x05\xf0\x32\x1d\xa6\x3c\x04";
@@ -30,7 +30,7 @@ const NOTHING_ONE: &[u8] = b"P2UNDO1\n0123456789abcdef\0\0\0\0\0\0\0\0\0\
 const NOTHING_TWO: &[u8] = b"P2UNDO2\n0123456789abcdef\0\0\0\0\0\0\0\0\0\0\0\0\0\0\0\0\0\
     \xc9\xbe\x1d\x25\x2e\xe3\x18\xbb\x69\x4d\xeb\xcc\x6c\x50\x7d\x8d";
 
-// The digest of a version 2 journal with one entry, which writes `t.par2` with 420 zero bytes, for a redo.
+// The digest of a version 2 journal with one entry for a redo, which writes `t.par2` with 420 zero bytes.
 const REDO_DIGEST: &[u8] = b"\x7a\xc5\xb1\xb0\x62\xe9\xf6\x00\xf7\x3d\x28\x91\x39\x09\x52\x41";
 
 // No entry, and a halfway command. The way back removes `a` and renames `a.1` to `a`.
@@ -43,15 +43,15 @@ const HALFWAY_TWO: &[u8] =
     aaaaaaaaaaaaaaaabbbbbbbbbbbbbbbb\x04\x01a\x03\x03a.1\x01a\
     \xa5\xaf\xe3\x10\x8f\x1a\xef\xd1\x57\x29\x08\x40\xd7\xe9\x53\xd0";
 
-// A change.
+// A change, in plain strings and bytes.
 enum Line {
     Write(&'static str, &'static [u8]),
     Rename(&'static str, &'static str),
     Remove(&'static str),
 }
 
-fn name_of(text: &str) -> Result<Name, Trouble> {
-    match Name::new(text) {
+fn name_of(string: &str) -> Result<Name, Trouble> {
+    match Name::new(string) {
         Ok(name) => Ok(name),
         Err(_) => Err(Trouble::Refused),
     }
@@ -75,13 +75,13 @@ fn changes_of(alloc: Global, lines: &[Line]) -> Result<Changes, Trouble> {
 
 fn is_line(change: &Change, line: &Line) -> bool {
     match (change, line) {
-        (Change::Write(name, bytes), Line::Write(text, wanted)) => {
-            name.as_str() == *text && bytes.as_slice() == *wanted
+        (Change::Write(name, bytes), Line::Write(string, wanted)) => {
+            name.as_str() == *string && bytes.as_slice() == *wanted
         }
-        (Change::Rename(from, to), Line::Rename(text, other)) => {
-            from.as_str() == *text && to.as_str() == *other
+        (Change::Rename(from, to), Line::Rename(string, other)) => {
+            from.as_str() == *string && to.as_str() == *other
         }
-        (Change::Remove(name), Line::Remove(text)) => name.as_str() == *text,
+        (Change::Remove(name), Line::Remove(string)) => name.as_str() == *string,
         _ => false,
     }
 }
@@ -94,12 +94,13 @@ fn are_lines(changes: &[Change], lines: &[Line]) -> bool {
             .all(|(change, line)| is_line(change, line))
 }
 
-// A journal with one entry, or with none where it has no lines, and its text: how long it is, how it begins and ends.
+// A journal with one entry, or with none if it has no lines, and its bytes: their number, the first and the last of
+// them.
 struct Settled {
     version: Version,
     cursor: usize,
     entry: &'static [Line],
-    text: (usize, &'static [u8], &'static [u8]),
+    bytes: (usize, &'static [u8], &'static [u8]),
 }
 
 const SETTLED: &[Settled] = &[
@@ -107,31 +108,31 @@ const SETTLED: &[Settled] = &[
         version: Version::One,
         cursor: 1,
         entry: &[Line::Remove("t.par2")],
-        text: (65, UNDO_ONE, b""),
+        bytes: (65, UNDO_ONE, b""),
     },
     Settled {
         version: Version::Two,
         cursor: 1,
         entry: &[Line::Remove("t.par2")],
-        text: (73, UNDO_TWO, b""),
+        bytes: (73, UNDO_TWO, b""),
     },
     Settled {
         version: Version::One,
         cursor: 0,
         entry: &[],
-        text: (49, NOTHING_ONE, b""),
+        bytes: (49, NOTHING_ONE, b""),
     },
     Settled {
         version: Version::Two,
         cursor: 0,
         entry: &[],
-        text: (57, NOTHING_TWO, b""),
+        bytes: (57, NOTHING_TWO, b""),
     },
     Settled {
         version: Version::Two,
         cursor: 0,
         entry: &[Line::Write("t.par2", &[0; 420])],
-        text: (501, b"P2UNDO2\n0123456789abcdef", REDO_DIGEST),
+        bytes: (501, b"P2UNDO2\n0123456789abcdef", REDO_DIGEST),
     },
 ];
 
@@ -151,14 +152,14 @@ fn is_settled(journal: &Journal, row: &Settled) -> bool {
         && journal.halfway.is_none()
 }
 
-// Whether the text reads back as this journal.
-fn reads_settled(alloc: Global, text: &[u8], row: &Settled) -> bool {
-    let journal = decode(alloc, text);
+// Whether the bytes read back as this journal.
+fn reads_settled(alloc: Global, bytes: &[u8], row: &Settled) -> bool {
+    let journal = decode(alloc, bytes);
     matches!(&journal, Ok(journal) if is_settled(journal, row))
 }
 
-// The text of a journal of these entries, with no command halfway.
-fn settled_text(alloc: Global, cursor: usize, entries: &[Changes]) -> Result<Vec<u8>, Trouble> {
+// The bytes of a journal with these entries and no halfway command.
+fn settled_bytes(alloc: Global, cursor: usize, entries: &[Changes]) -> Result<Vec<u8>, Trouble> {
     if cursor > entries.len() {
         return Err(Trouble::Refused);
     }
@@ -171,23 +172,23 @@ fn settled_text(alloc: Global, cursor: usize, entries: &[Changes]) -> Result<Vec
     Ok(encode(alloc, &parts)?)
 }
 
-// The text of the row, which is written in version 2 alone.
-fn text_of(alloc: Global, row: &Settled) -> Result<Vec<u8>, Trouble> {
+// The bytes of the row, which are written only in version 2.
+fn bytes_of(alloc: Global, row: &Settled) -> Result<Vec<u8>, Trouble> {
     let changes = changes_of(alloc, row.entry)?;
     match row.version {
-        Version::One => Ok(Vec::from_slice(alloc, row.text.1)?),
-        Version::Two if changes.is_empty() => settled_text(alloc, row.cursor, &[]),
-        Version::Two => settled_text(alloc, row.cursor, from_ref(&changes)),
+        Version::One => Ok(Vec::from_slice(alloc, row.bytes.1)?),
+        Version::Two if changes.is_empty() => settled_bytes(alloc, row.cursor, &[]),
+        Version::Two => settled_bytes(alloc, row.cursor, from_ref(&changes)),
     }
 }
 
 fn is_spelled(alloc: Global, row: &Settled) -> Result<bool, Trouble> {
-    let text = text_of(alloc, row)?;
+    let bytes = bytes_of(alloc, row)?;
     Ok(
-        text.len() == row.text.0
-            && text.starts_with(row.text.1)
-            && text.ends_with(row.text.2)
-            && reads_settled(alloc, &text, row),
+        bytes.len() == row.bytes.0
+            && bytes.starts_with(row.bytes.1)
+            && bytes.ends_with(row.bytes.2)
+            && reads_settled(alloc, &bytes, row),
     )
 }
 
@@ -217,14 +218,14 @@ fn is_halfway(journal: &Journal, version: Version) -> bool {
         && matches!(&journal.halfway, Some(halfway) if is_halfway_part(halfway))
 }
 
-// Whether the text reads back as that journal.
-fn reads_halfway(alloc: Global, text: &[u8], version: Version) -> bool {
-    let journal = decode(alloc, text);
+// Whether the bytes read back as that journal.
+fn reads_halfway(alloc: Global, bytes: &[u8], version: Version) -> bool {
+    let journal = decode(alloc, bytes);
     matches!(&journal, Ok(journal) if is_halfway(journal, version))
 }
 
-// The texts of a command's two journals: while it is halfway, and afterwards.
-fn both_texts(alloc: Global, back: &Changes) -> Result<JournalTexts, AllocError>
+// The bytes of a command's two journals: while it is halfway, and afterwards.
+fn both_buffers(alloc: Global, back: &Changes) -> Result<JournalBytes, AllocError>
     requires { length back.now ≡ 2 }
 {
     let settled = JournalView {
@@ -246,8 +247,8 @@ fn are_both_spelled(alloc: Global) -> Result<bool, Trouble> {
     if back.len() != 2 {
         return Ok(false);
     }
-    let texts = both_texts(alloc, &back)?;
-    Ok(texts.halfway.as_slice() == HALFWAY_TWO && texts.after.as_slice() == NOTHING_TWO)
+    let buffers = both_buffers(alloc, &back)?;
+    Ok(buffers.halfway.as_slice() == HALFWAY_TWO && buffers.after.as_slice() == NOTHING_TWO)
 }
 
 #[test]
@@ -258,26 +259,26 @@ fn halfway_journals(rt: HostRuntime) -> Result<(), Fail> {
     Ok(())
 }
 
-// Whether the bytes are refused as no journal.
+// Whether the bytes are refused as an invalid journal.
 fn is_refused(alloc: Global, bytes: &[u8]) -> bool {
     matches!(decode(alloc, bytes), Err(DecodeFault::JournalInvalid))
 }
 
-// Whether each proper prefix is refused, the empty one too.
-fn are_prefixes_refused(alloc: Global, text: &[u8]) -> bool {
-    (0..text.len()).all(|n| is_refused(alloc, text.split_at(n).0))
+// Whether every proper prefix is refused, the empty one, too.
+fn are_prefixes_refused(alloc: Global, bytes: &[u8]) -> bool {
+    (0..bytes.len()).all(|n| is_refused(alloc, bytes.split_at(n).0))
 }
 
-// The body after which its digest stands.
+// The body, followed by its digest.
 fn closed(alloc: Global, body: &[u8]) -> Result<Vec<u8>, AllocError> {
-    let mut text = Vec::from_slice(alloc, body)?;
-    text.extend_from_slice(&Md5::digest(body))?;
-    Ok(text)
+    let mut bytes = Vec::from_slice(alloc, body)?;
+    bytes.extend_from_slice(&Md5::digest(body))?;
+    Ok(bytes)
 }
 
 // Whether the bytes are refused with any one byte changed.
-fn are_changes_refused(alloc: Global, text: &[u8]) -> Result<bool, AllocError> {
-    let mut changed = Vec::from_slice(alloc, text)?;
+fn are_changes_refused(alloc: Global, bytes: &[u8]) -> Result<bool, AllocError> {
+    let mut changed = Vec::from_slice(alloc, bytes)?;
     for n in 0..changed.len() {
         let byte = changed[n];
         changed[n] = byte ^ 1;
@@ -289,7 +290,7 @@ fn are_changes_refused(alloc: Global, text: &[u8]) -> Result<bool, AllocError> {
     Ok(true)
 }
 
-// Bodies of no journal, to which their digests are added.
+// Bodies of invalid journals, to which their digests are appended.
 const FALSE_BODIES: &[&[u8]] = &[
     // Claims of 2^64 - 1 entries, changes, bytes and fingerprints.
     b"P2UNDO1\n0123456789abcdef\xff\xff\xff\xff\xff\xff\xff\xff\0",
@@ -298,25 +299,25 @@ const FALSE_BODIES: &[&[u8]] = &[
         \x01\x01a\xff\xff\xff\xff\xff\xff\xff\xffabc\0",
     b"P2UNDO1\n0123456789abcdef\0\0\0\0\0\0\0\0\
         \x01\xff\xff\xff\xff\xff\xff\xff\xffaaaaaaaaaaaaaaaa\x04\x01a",
-    // A cursor of 2, where there is one entry.
+    // A cursor of 2 with only one entry.
     b"P2UNDO2\n0123456789abcdef\x02\0\0\0\0\0\0\0\x01\0\0\0\0\0\0\0\x01\0\0\0\0\0\0\0\x04\x06t.par2\0",
     // A byte after the last part.
     b"P2UNDO1\n0123456789abcdef\0\0\0\0\0\0\0\0\0\0",
-    // A way back of no change.
+    // A way back without changes.
     b"P2UNDO1\n0123456789abcdef\0\0\0\0\0\0\0\0\x01\0\0\0\0\0\0\0\0",
-    // A text that is no name.
+    // Bytes that aren't a name.
     b"P2UNDO1\n0123456789abcdef\x01\0\0\0\0\0\0\0\x01\0\0\0\0\0\0\0\x04\x03a/b\0",
 ];
 
-// Whether the bytes are refused with one more after them.
-fn is_longer_refused(alloc: Global, text: &[u8]) -> Result<bool, AllocError> {
-    let mut longer = Vec::from_slice(alloc, text)?;
+// Whether the bytes are refused with one more byte after them.
+fn is_longer_refused(alloc: Global, bytes: &[u8]) -> Result<bool, AllocError> {
+    let mut longer = Vec::from_slice(alloc, bytes)?;
     longer.push(0)?;
     Ok(is_refused(alloc, &longer))
 }
 
-fn is_journal(alloc: Global, text: &[u8]) -> bool {
-    is_sealed(text) && decode(alloc, text).is_ok()
+fn is_journal(alloc: Global, bytes: &[u8]) -> bool {
+    is_sealed(bytes) && decode(alloc, bytes).is_ok()
 }
 
 const JOURNALS: &[&[u8]] = &[
@@ -328,20 +329,20 @@ const JOURNALS: &[&[u8]] = &[
     HALFWAY_TWO,
 ];
 
-// Whether it is a journal, and none with any damage.
-fn is_damage_refused(alloc: Global, text: &[u8]) -> Result<bool, AllocError> {
+// Whether the bytes are a journal, and are refused with any damage.
+fn is_damage_refused(alloc: Global, bytes: &[u8]) -> Result<bool, AllocError> {
     Ok(
-        is_journal(alloc, text)
-            && are_prefixes_refused(alloc, text)
-            && are_changes_refused(alloc, text)?
-            && is_longer_refused(alloc, text)?,
+        is_journal(alloc, bytes)
+            && are_prefixes_refused(alloc, bytes)
+            && are_changes_refused(alloc, bytes)?
+            && is_longer_refused(alloc, bytes)?,
     )
 }
 
 #[test]
 fn damaged_journals(rt: HostRuntime) -> Result<(), Fail> {
-    for text in JOURNALS {
-        assert!(rt; is_damage_refused(rt.alloc(), text)?);
+    for bytes in JOURNALS {
+        assert!(rt; is_damage_refused(rt.alloc(), bytes)?);
     }
     Ok(())
 }
@@ -358,15 +359,15 @@ fn false_journals(rt: HostRuntime) -> Result<(), Fail> {
     Ok(())
 }
 
-// Whether the digest at the end of a text is that of what was read, where a journal was read.
-fn has_its_digest(alloc: Global, text: &[u8]) -> Option<bool> {
-    match decode_untested(alloc, text) {
+// Whether the digest at the end is that of the bytes before it; None if they aren't a journal.
+fn has_its_digest(alloc: Global, bytes: &[u8]) -> Option<bool> {
+    match decode_untested(alloc, bytes) {
         Ok(found) => Some(Md5::digest(found.body).as_slice() == found.digest),
         Err(_) => None,
     }
 }
 
-// Texts that are read, and whether their digest is true.
+// Bytes that are read without a test of their digest, and whether it is right.
 const UNTESTED: &[(&[u8], Option<bool>)] = &[
     (UNDO_TWO, Some(true)),
     (
@@ -379,7 +380,7 @@ const UNTESTED: &[(&[u8], Option<bool>)] = &[
 
 #[test]
 fn digest_left_to_the_caller(rt: HostRuntime) {
-    for (text, wanted) in UNTESTED {
-        assert!(rt; has_its_digest(rt.alloc(), text) == *wanted);
+    for (bytes, wanted) in UNTESTED {
+        assert!(rt; has_its_digest(rt.alloc(), bytes) == *wanted);
     }
 }

@@ -1,7 +1,9 @@
-//! Tests of plans, reports and sessions, of journals as bytes, of printed texts, and of the digest of a text beside a
-//! fingerprint. They stand apart from the libraries, so that these are proved without them.
+//! Tests of plans, reports and sessions, of journals as bytes, of printed lines, and of MD5 against a fingerprint. They
+//! are apart from the libraries, so that these are proved without them. Nothing depends on this crate.
 #![tactic(auto)]
 
+#[cfg(test)]
+mod messages;
 #[cfg(test)]
 mod calls;
 #[cfg(test)]
@@ -24,5 +26,3 @@ mod promises;
 mod reports;
 #[cfg(test)]
 mod session;
-#[cfg(test)]
-mod texts;

@@ -1,6 +1,6 @@
-//! Folders that are opened with a journal.
+//! Opens folders with a journal.
 use crate::calls::{
-    changes_back, encode, fingerprint, open, open_before_redo, settled_text, taken_back,
+    changes_back, encode, fingerprint, open, open_before_redo, settled_bytes, taken_back,
 };
 use crate::fixtures::{A, File, Trouble, folder_of};
 use crate::journal::{FINGERPRINT, HALFWAY_JOURNAL};
@@ -10,14 +10,14 @@ use par2_journal::{Halfway, JournalFault, Opened, Session};
 use std::alloc::Global;
 use std::test::Fail;
 
-// The session that the file `a` alone is opened as, with the journal of another.
+/// The session of a folder with only the file `a`, opened with the journal of another session.
 pub fn reopened(alloc: Global, session: &Session, is_redo_next: bool) -> Result<Session, Trouble> {
-    let text = encode(session)?;
+    let bytes = encode(session)?;
     let folder = folder_of(alloc, A)?;
     let opened = if is_redo_next {
-        open_before_redo(alloc, folder, &text)
+        open_before_redo(alloc, folder, &bytes)
     } else {
-        open(alloc, folder, &text)
+        open(alloc, folder, &bytes)
     };
     match opened {
         Ok(Opened::Settled(again)) => Ok(again),
@@ -25,48 +25,48 @@ pub fn reopened(alloc: Global, session: &Session, is_redo_next: bool) -> Result<
     }
 }
 
-// A folder of these files, opened by the journal of a halfway command.
-fn halfway_of(alloc: Global, files: &[(&str, &[u8])], text: &[u8]) -> Result<Halfway, Trouble> {
+// A folder of these files, opened with the journal of a halfway command.
+fn halfway_of(alloc: Global, files: &[(&str, &[u8])], bytes: &[u8]) -> Result<Halfway, Trouble> {
     let folder = folder_of(alloc, files)?;
-    match open(alloc, folder, text) {
+    match open(alloc, folder, bytes) {
         Ok(Opened::Halfway(halfway)) => Ok(halfway),
         _ => Err(Trouble::Refused),
     }
 }
 
-fn is_removal_of(changes: &[Change], text: &str) -> bool {
-    matches!(changes, [Change::Remove(name)] if name.as_str() == text)
+fn is_removal_of(changes: &[Change], string: &str) -> bool {
+    matches!(changes, [Change::Remove(name)] if name.as_str() == string)
 }
 
-// Whether the halfway command is to be taken back by removing the index, and this journal stands then.
-fn is_as_told(halfway: &Halfway, settled: &[u8]) -> Result<bool, Trouble> {
-    let text = settled_text(halfway)?;
-    Ok(text.as_slice() == settled && is_removal_of(changes_back(halfway), "t.par2"))
+// Whether removing the index takes the halfway command back, and this is the journal afterwards.
+fn is_as_reported(halfway: &Halfway, settled: &[u8]) -> Result<bool, Trouble> {
+    let bytes = settled_bytes(halfway)?;
+    Ok(bytes.as_slice() == settled && is_removal_of(changes_back(halfway), "t.par2"))
 }
 
-// Whether that is reported and done.
+// Whether that is reported, and happens.
 fn is_removed(halfway: Halfway, settled: &[u8]) -> Result<bool, Trouble> {
-    let is_told = is_as_told(&halfway, settled)?;
+    let is_reported = is_as_reported(&halfway, settled)?;
     let session = taken_back(halfway);
-    Ok(is_told && stands(&session, &("t.par2", 0, 0, None)))
+    Ok(is_reported && stands(&session, &("t.par2", 0, 0, None)))
 }
 
-// The same of a session's folder with the files `a` and `t.par2`, and of this halfway journal.
+/// The same for a session's folder with the files `a` and `t.par2`, and for this halfway journal.
 pub fn is_taken_back(
     alloc: Global,
     session: &Session,
-    text: &[u8],
+    bytes: &[u8],
     settled: &[u8],
 ) -> Result<bool, Trouble> {
     let Some(index) = file_in(session, "t.par2") else {
         return Ok(false);
     };
-    let halfway = halfway_of(alloc, &[("a", b"abcdefgh"), ("t.par2", index)], text)?;
+    let halfway = halfway_of(alloc, &[("a", b"abcdefgh"), ("t.par2", index)], bytes)?;
     is_removed(halfway, settled)
 }
 
-// A journal after whose undo the file `t.par2` of one byte can be written again, made by another program from the
-// format alone.
+// A journal made by another program, from the format alone. After its undo the file `t.par2` of one byte can be written
+// again.
 const UNDONE: &[u8] = b"P2UNDO2\n\
     \xd3\x68\x83\xb6\x33\x05\xc2\x0b\x65\xe4\x20\x6a\x90\x61\x28\xc1\
     \0\0\0\0\0\0\0\0\x01\0\0\0\0\0\0\0\x01\0\0\0\0\0\0\0\x01\x06t.par2\x01\0\0\0\0\0\0\x001\0\
@@ -74,11 +74,11 @@ const UNDONE: &[u8] = b"P2UNDO2\n\
 
 const B: &[File] = &[("b", b"abcdefgh")];
 
-// Where the folder has the file `b` alone.
+// The fingerprint of the folder with only the file `b`.
 const FINGERPRINT_OF_B: [u8; 16] =
     *b"\xf4\x12\xa7\x06\x1c\x88\xa5\x3c\x2d\xf2\x23\x15\x59\x1f\x05\xdd";
 
-// The files and their fingerprint, a journal that does not open them, and why.
+// The files and their fingerprint, a journal that does not open them, and the fault.
 type Foreign = (&'static [File], [u8; 16], &'static [u8], JournalFault);
 
 const FOREIGN: &[Foreign] = &[
@@ -97,14 +97,14 @@ const FOREIGN: &[Foreign] = &[
     ),
 ];
 
-// The folder that is given back by a refusal of this journal.
+// The folder that a refusal of this journal returns.
 fn given_back(
     alloc: Global,
     folder: Folder,
-    text: &[u8],
+    bytes: &[u8],
     wanted: JournalFault,
 ) -> Result<Folder, Trouble> {
-    let Err((fault, folder)) = open(alloc, folder, text) else {
+    let Err((fault, folder)) = open(alloc, folder, bytes) else {
         return Err(Trouble::Refused);
     };
     if fault == wanted {
@@ -114,7 +114,7 @@ fn given_back(
     }
 }
 
-// Whether the folder is given back as it was.
+// Whether the folder is returned as it was.
 fn is_refused(alloc: Global, row: &Foreign) -> Result<bool, Trouble> {
     let folder = given_back(alloc, folder_of(alloc, row.0)?, row.2, row.3)?;
     Ok(fingerprint(&folder)? == row.1)
@@ -128,7 +128,7 @@ fn foreign_journals(rt: HostRuntime) -> Result<(), Fail> {
     Ok(())
 }
 
-// A halfway journal, made by another program from the format alone: two files gave way to two others in four changes.
+// A halfway journal, made by another program, from the format alone: four changes replaced two files by two others.
 const FOUR_CHANGES: &[u8] = b"P2UNDO2\n\
     \xb7\x43\x87\x0e\x63\x2f\x99\xfb\x01\xaa\xfe\xf7\x6f\xdb\x40\xce\
     \0\0\0\0\0\0\0\0\0\0\0\0\0\0\0\0\x01\x04\0\0\0\0\0\0\0\
@@ -139,7 +139,7 @@ const FOUR_CHANGES: &[u8] = b"P2UNDO2\n\
     \x01\x03a.1\x08\0\0\0\0\0\0\0abcdefgh\x02\x01b\x03\0\0\0\0\0\0\0xyz\x04\x01a\x03\x03a.1\x01a\
     \xf7\xb0\xce\x82\x53\x26\x97\x86\x8a\xec\xae\xa6\x1e\x98\xeb\xb0";
 
-// The files in the folder of a halfway command, its journal, and how many changes were made.
+// The files in the folder of a halfway command, its journal, and the number of changes that were made.
 type Along = (&'static [File], &'static [u8], usize);
 
 const ALONG: &[Along] = &[

@@ -1,4 +1,5 @@
-//! Each fault of a create, and outputs beside bytes that another program made and par2cmdline verifies and repairs by.
+//! Every fault of a create, and its outputs, compared with bytes that another program made and that par2cmdline
+//! verifies and repairs with.
 use crate::calls::plan_of;
 use crate::fixtures::{A, File, Trouble, args_of, folder_of};
 use par2_folder::{Change, Folder};
@@ -21,7 +22,7 @@ const VOLUME_OF_ONE: Output = ("t.vol00000+00001.par2", 492, 0xee78_3aa6);
 
 const VOLUME_OF_TWO: Output = ("t.vol00001+00002.par2", 564, 0x668f_17d4);
 
-// A base of 255 bytes, to which the names of volumes add more.
+// A base of 255 bytes, for which the names of volumes are too long.
 const LONGEST_BASE: &str = "\
     bbbbbbbbbbbbbbbbbbbbbbbbbbbbbbbbbbbbbbbbbbbbbbbbbbbbbbbbbbbbbbbbbbbbbbbbbbbbbbbbbbbbbbbbbb\
     bbbbbbbbbbbbbbbbbbbbbbbbbbbbbbbbbbbbbbbbbbbbbbbbbbbbbbbbbbbbbbbbbbbbbbbbbbbbbbbbbbbbbbbbbb\
@@ -129,7 +130,7 @@ const PLANNED: &[Planned] = &[
         replaces: true,
         wanted: &[("t.par2", 400, 0xcfd6_e37e)],
     },
-    // The index doesn't tell its own name.
+    // The index doesn't contain its own name.
     Planned {
         files: A,
         base: LONGEST_BASE,
@@ -189,7 +190,7 @@ fn planned_creates(rt: HostRuntime) -> Result<(), Fail> {
     Ok(())
 }
 
-// Of creates that are refused the block size, the count, the first exponent, the base and the inputs.
+// A refused create: the slice size, the count, the first exponent, the base and the inputs, and the fault.
 type Refused = (u64, u32, u32, &'static str, &'static [&'static str], Fault);
 
 const REFUSED: &[Refused] = &[
@@ -203,13 +204,13 @@ const REFUSED: &[Refused] = &[
     (4, 0, 0, "t.par2", &["large", "empty"], Fault::EmptyFile(2)),
     (4, 0, 0, "there.par2", &["large"], Fault::TooManySlices),
     (4, 0, 0, "there.par2", &["a"], Fault::Exists),
-    // Its second volume is there.
+    // Its second volume exists.
     (4, 2, 0, "t.par2", &["a"], Fault::Exists),
     (4, 2, 65535, "t.par2", &["a"], Fault::BadCount),
     (4, 1, 0, LONGEST_BASE, &["a"], Fault::NameTooLong),
 ];
 
-// One byte more than 32,768 slices of 4 bytes have.
+// One byte more than 32,768 slices of 4 bytes.
 const LARGE: usize = 4 * 32768 + 1;
 
 fn refused_args(alloc: Global, row: &Refused) -> Result<CreateArgs, AllocError> {

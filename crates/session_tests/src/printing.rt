@@ -1,4 +1,4 @@
-//! The texts word for word, and writers that stop.
+//! The lines word for word, and writers that stop.
 ghost use Rattle.std.specs.Prelude.{◌≡◌, Some};
 
 use crate::fixtures::{Trouble, args_of};
@@ -11,7 +11,7 @@ use std::alloc::{AllocError, Global};
 use std::io::{self, BufWriter, ErrorKind, Write};
 use std::test::Fail;
 
-// Takes so many bytes, at most two at a time, and then fails or takes none.
+// A writer that takes this many bytes, at most two at a time, and then fails or takes none.
 #[derive(Drop)]
 struct Stopping {
     held: Vec<u8>,
@@ -37,7 +37,7 @@ impl Write for Stopping {
     }
 }
 
-// Whether both writes fail to a writer that takes five bytes, which it holds then.
+// Whether both writes to a writer that takes five bytes fail, after five bytes.
 fn stops_after_five_bytes_of(alloc: Global, fails: bool) -> bool {
     let mut out = Printer::new(Stopping {
         held: Vec::new(alloc),
@@ -56,7 +56,7 @@ fn stops_after_five_bytes(rt: HostRuntime) {
     }
 }
 
-// Is interrupted at so many calls before each that takes a byte, and at as many before it is flushed.
+// A writer that is interrupted this many times before each call that takes a byte, and before it is flushed.
 #[derive(Drop)]
 struct Halting {
     held: Vec<u8>,
@@ -65,7 +65,7 @@ struct Halting {
 }
 
 impl Halting {
-    // The error of a call that is interrupted.
+    // The error of an interrupted call.
     fn interruption(&mut self) -> io::Result<()>
         ensures { self.new.held ≡ self.old.held }
     {
@@ -93,7 +93,7 @@ impl Write for Halting {
     }
 }
 
-// Whether such a writer holds a line that is written and flushed.
+// Whether such a writer has a line after it is written and flushed.
 fn holds_a_line(alloc: Global, each: usize) -> bool {
     let mut out = Printer::new(Halting {
         held: Vec::new(alloc),
@@ -112,7 +112,7 @@ fn goes_on_after_interruptions(rt: HostRuntime) {
     }
 }
 
-// A printer over a writer that holds bytes back, in front of one that takes so many.
+// A printer over a buffering writer, in front of one that takes this many bytes.
 fn holding_back(
     alloc: Global,
     left: usize,
@@ -126,7 +126,7 @@ fn holding_back(
     Ok(Printer::new(BufWriter::new(alloc, stopping)?))
 }
 
-// Whether a line of eight bytes is written, and whether it is flushed then.
+// Whether a line of eight bytes is written, and whether it is then flushed.
 fn is_passed_on(alloc: Global, left: usize, fails: bool) -> io::Result<(bool, bool)> {
     let mut out = holding_back(alloc, left, fails)?;
     let is_written = write_step(&mut out, PrintedStep::Write("b")).is_ok();
@@ -141,7 +141,7 @@ fn flushes_what_is_held_back(rt: HostRuntime) {
     }
 }
 
-// What one of the calls writes.
+// One of the lines that the crate writes.
 #[derive(Clone, Copy)]
 enum Line {
     Note(bool),
@@ -163,7 +163,7 @@ fn write_line(out: &mut Printer<Vec<u8>>, line: Line) -> Result<(), WriteFault> 
     }
 }
 
-// The target `a` in this state, one of whose 20 slices is found.
+// The target `a` in this state, with one of 20 slices found.
 fn a_as(state: PrintedState<'static>) -> PrintedTarget<'static> {
     PrintedTarget {
         name: "a",
@@ -205,7 +205,7 @@ const LINES: &[(Line, &str)] = &[
     ),
 ];
 
-// What is written with this line after it.
+// The bytes with this line after them.
 fn line_behind(out: Vec<u8>, line: Line) -> Result<Vec<u8>, Trouble> {
     let mut printer = Printer::new(out);
     match write_line(&mut printer, line) {
@@ -214,14 +214,14 @@ fn line_behind(out: Vec<u8>, line: Line) -> Result<Vec<u8>, Trouble> {
     }
 }
 
-// The text of the first line that isn't written after those before it, if there is one.
+// The first expected line that isn't written, if there is one.
 fn first_unwritten(alloc: Global) -> Result<Option<&'static str>, Trouble> {
     let (mut out, mut expected) = (Vec::new(alloc), String::new(alloc));
-    for (line, text) in LINES {
+    for (line, bytes) in LINES {
         out = line_behind(out, *line)?;
-        expected.push_str(text)?;
+        expected.push_str(bytes)?;
         if out.as_slice() != expected.as_bytes() {
-            return Ok(Some(*text));
+            return Ok(Some(*bytes));
         }
     }
     Ok(None)
@@ -229,8 +229,8 @@ fn first_unwritten(alloc: Global) -> Result<Option<&'static str>, Trouble> {
 
 #[test]
 fn lines_of_a_report(rt: HostRuntime) -> Result<(), Fail> {
-    if let Some(text) = first_unwritten(rt.alloc())? {
-        panic!(rt; "at {text}");
+    if let Some(bytes) = first_unwritten(rt.alloc())? {
+        panic!(rt; "at {bytes}");
     }
     Ok(())
 }
@@ -241,7 +241,7 @@ fn create(alloc: Global) -> Result<Command, AllocError> {
     Ok(Command::Act(Action::Create(args)))
 }
 
-// The failure of a command with two inputs, and what is reported.
+// The failure of a command with two inputs, and the line that is printed.
 const REFUSALS: &[(Fault, &str)] = &[
     (
         Fault::BadSliceSize,
@@ -284,34 +284,38 @@ const REFUSALS: &[(Fault, &str)] = &[
     (Fault::Memory, "out of memory"),
 ];
 
-// What is reported of a failure.
-fn told(alloc: Global, command: Option<&Command>, failure: Failure) -> Result<Vec<u8>, WriteFault> {
+// The line that is printed of a failure.
+fn reported(
+    alloc: Global,
+    command: Option<&Command>,
+    failure: Failure,
+) -> Result<Vec<u8>, WriteFault> {
     let mut out = Printer::new(Vec::new(alloc));
     write_failure(&mut out, command, failure)?;
     Ok(out.into_inner())
 }
 
-// Whether a failure is reported by this text.
-pub fn is_told(
+/// Whether a failure prints this line.
+pub fn is_reported(
     alloc: Global,
     command: Option<&Command>,
     failure: Failure,
-    text: &str,
+    bytes: &str,
 ) -> Result<bool, AllocError> {
-    let told = told(alloc, command, failure);
-    let expected = format!(in alloc; "par2: {text}\n")?;
-    Ok(matches!(&told, Ok(told) if told.as_slice() == expected.as_bytes()))
+    let reported = reported(alloc, command, failure);
+    let expected = format!(in alloc; "par2: {bytes}\n")?;
+    Ok(matches!(&reported, Ok(reported) if reported.as_slice() == expected.as_bytes()))
 }
 
-fn is_refusal_told(alloc: Global, fault: Fault, text: &str) -> Result<bool, AllocError> {
+fn is_refusal_reported(alloc: Global, fault: Fault, bytes: &str) -> Result<bool, AllocError> {
     let command = create(alloc)?;
-    is_told(alloc, Some(&command), Failure::Refused(fault), text)
+    is_reported(alloc, Some(&command), Failure::Refused(fault), bytes)
 }
 
 #[test]
 fn fault_lines(rt: HostRuntime) -> Result<(), Fail> {
-    for (fault, text) in REFUSALS {
-        assert!(rt; is_refusal_told(rt.alloc(), *fault, text)?, "{text}");
+    for (fault, bytes) in REFUSALS {
+        assert!(rt; is_refusal_reported(rt.alloc(), *fault, bytes)?, "{bytes}");
     }
     Ok(())
 }
@@ -333,8 +337,8 @@ const FAILURES: &[(Failure, &str)] = &[
 
 #[test]
 fn failure_lines(rt: HostRuntime) -> Result<(), Fail> {
-    for (failure, text) in FAILURES {
-        assert!(rt; is_told(rt.alloc(), None, *failure, text)?, "{text}");
+    for (failure, bytes) in FAILURES {
+        assert!(rt; is_reported(rt.alloc(), None, *failure, bytes)?, "{bytes}");
     }
     Ok(())
 }

@@ -1,4 +1,4 @@
-//! What a session comes to: a repair gives a damaged file back, and as many undos as actions were accepted give the folder
+//! The promises of a session: a repair gives a damaged file back, and as many undos as accepted actions give the folder
 //! back.
 use crate::calls;
 use crate::fixtures::{A, Trouble, args_of, folder_of};
@@ -11,7 +11,7 @@ const INDEX: &str = "t.par2";
 
 const VOLUME: &str = "t.vol00000+00001.par2";
 
-// How many of the actions were accepted and taken back.
+// Returns the number of actions that were accepted and undone.
 fn taken_back(session: &mut Session, actions: &[Action]) -> usize {
     let accepted = calls::play(session, actions);
     for _ in 0..accepted {
@@ -33,7 +33,7 @@ fn protected(alloc: Global) -> Result<Session, Trouble> {
     }
 }
 
-// A session on the files of another one, the second slice of `a` being damaged.
+// A session on the files of another one, with the second slice of `a` damaged.
 fn damaged(alloc: Global, session: &Session) -> Result<Session, Trouble> {
     let Some(index) = file_in(session, INDEX) else {
         return Err(Trouble::Refused);
@@ -58,7 +58,7 @@ fn repair_gives_a_damaged_file_back(rt: HostRuntime) -> Result<(), Fail> {
     Ok(())
 }
 
-// The second of them is refused, since its index exists.
+// The second one is refused because its index exists.
 const CREATES: &[Task] = &[
     Task::Create("t.par2"),
     Task::Create("t.par2"),
@@ -73,7 +73,7 @@ fn actions_of(alloc: Global, tasks: &[Task]) -> Result<Vec<Action>, AllocError> 
     Ok(actions)
 }
 
-// Whether the creates are taken back: both indexes are gone, and can come again.
+// Whether the creates are undone: both indexes are gone, and can be written again.
 fn are_taken_back(alloc: Global) -> Result<bool, Trouble> {
     let actions = actions_of(alloc, CREATES)?;
     let mut session = Session::new(alloc, folder_of(alloc, A)?);

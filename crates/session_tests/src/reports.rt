@@ -1,4 +1,4 @@
-//! Reports on a set of two slices and a recovery slice: what is found of a file that was renamed, cut or shifted.
+//! Reports on a set of two slices and a recovery slice, with a file that was renamed, cut or shifted.
 use crate::calls::{plan_of, reserve};
 use crate::fixtures::{A, Trouble, apply, args_of, folder_of, words_of};
 use par2_folder::{Bytes, Change, Folder, Name, copies_of};
@@ -16,7 +16,7 @@ fn changes_of(alloc: Global, folder: &Folder) -> Result<Vec<Change>, Trouble> {
     }
 }
 
-// Does changes that write files.
+// Makes changes that write files.
 fn write_all(folder: &mut Folder, changes: Vec<Change>) -> Result<(), Trouble> {
     for change in changes {
         if !matches!(&change, Change::Write(..)) {
@@ -36,7 +36,7 @@ fn protected(alloc: Global) -> Result<Folder, Trouble> {
     Ok(folder)
 }
 
-/// What another hand makes of `a`.
+/// What happened to `a` outside the program.
 pub enum Damage {
     None,
     Bytes(&'static [u8]),
@@ -44,8 +44,8 @@ pub enum Damage {
     Renamed,
 }
 
-fn name_of(text: &str) -> Result<Name, Trouble> {
-    match Name::new(text) {
+fn name_of(string: &str) -> Result<Name, Trouble> {
+    match Name::new(string) {
         Ok(name) => Ok(name),
         Err(_) => Err(Trouble::Refused),
     }
@@ -60,7 +60,7 @@ fn change_of(alloc: Global, damage: &Damage) -> Result<Option<Change>, Trouble> 
     })
 }
 
-// The same folder after this damage.
+/// The same folder, after this damage.
 pub fn damaged(alloc: Global, damage: &Damage) -> Result<Folder, Trouble> {
     let mut folder = protected(alloc)?;
     if let Some(change) = change_of(alloc, damage)? {
@@ -69,7 +69,7 @@ pub fn damaged(alloc: Global, damage: &Damage) -> Result<Folder, Trouble> {
     Ok(folder)
 }
 
-// What a state says, and of a file that is found elsewhere its name.
+// The state of a file, with its name if it is found elsewhere.
 enum Said {
     Complete,
     Missing,
@@ -87,8 +87,8 @@ fn is_said(state: &State, wanted: &Said) -> bool {
     }
 }
 
-// The damage and the further files; then what is said of `a`: its state, how many slices are found, lost and can be
-// rebuilt, and what follows.
+// The damage and the extra files; then the expected report on `a`: its state, the slices that are found and lost, the
+// rank, and the verdict.
 type Row = (
     Damage,
     &'static [&'static str],
@@ -111,7 +111,7 @@ const ROWS: &[Row] = &[
     (Damage::Bytes(b"efgh"), &["a"], Said::Damaged, 1, 1, 1, Verdict::Repairable),
 ];
 
-// Whether a report says this of the file `a` alone.
+// Whether a report says this, and only of the file `a`.
 fn says(report: &Report, row: &Row) -> bool {
     let [target] = report.targets.as_slice() else {
         return false;
@@ -125,7 +125,7 @@ fn says(report: &Report, row: &Row) -> bool {
         && report.verdict() == row.6
 }
 
-// The report on the set, with these further files.
+// The report on the set, with these extra files.
 fn report_of(
     alloc: Global,
     folder: &Folder,
@@ -150,7 +150,7 @@ fn reports(rt: HostRuntime) -> Result<(), Fail> {
     Ok(())
 }
 
-// The base, the further files and the fault.
+// The base, the extra files and the fault.
 const REFUSED: &[(&str, &[&str], Fault)] = &[
     ("u.par2", &["zz"], Fault::NoSuchFile(0)),
     ("../t.par2", &[], Fault::NoSuchFile(0)),
@@ -158,7 +158,7 @@ const REFUSED: &[(&str, &[&str], Fault)] = &[
     ("a", &[], Fault::NoPackets),
 ];
 
-// Whether a report on the base, with the further files, is refused like this.
+// Whether a report on the base, with the extra files, is refused with this fault.
 fn is_refused(alloc: Global, base: &str, extras: &[&str], wanted: Fault) -> Result<bool, Trouble> {
     let folder = protected(alloc)?;
     let report = report_of(alloc, &folder, base, extras)?;

@@ -1,5 +1,5 @@
-//! Worked examples of a session and its journals, and each refusal that it knows. The helpers have no clauses, so that
-//! the proof of a test carries none from one call to the next.
+//! Worked examples of a session and its journals, and every refusal of a session. For the prover: the helpers have no
+//! clauses, so that the proof of a test carries none from one call to the next.
 use crate::calls;
 use crate::calls::{
     bytes_in, depths_of, encode, fingerprint, folder_in, new_session, prepare, vacant_in,
@@ -7,7 +7,7 @@ use crate::calls::{
 use crate::fixtures::{A, Trouble, args_of, folder_of};
 use crate::journal::{
     CREATE_JOURNAL, FINGERPRINT, FRONT, FRONT_AFTER, HALFWAY_JOURNAL, NEW_JOURNAL, Text,
-    UNDONE_JOURNAL, commits, is_text,
+    UNDONE_JOURNAL, commits, is_bytes,
 };
 use crate::opening::{is_taken_back, reopened};
 use crate::reports::{Damage, damaged};
@@ -22,25 +22,25 @@ fn session_of(alloc: Global) -> Result<Session, Trouble> {
     Ok(new_session(alloc, folder_of(alloc, A)?))
 }
 
-// The bytes of a file, where there is one.
-pub fn file_in<'a>(session: &'a Session, text: &str) -> Option<&'a [u8]> {
-    match Name::new(text) {
+/// The bytes of a file, if there is one.
+pub fn file_in<'a>(session: &'a Session, string: &str) -> Option<&'a [u8]> {
+    match Name::new(string) {
         Ok(name) => bytes_in(folder_in(session), &name),
         Err(_) => None,
     }
 }
 
-/// A file, the depths of undo and redo, and the file's length, where it is there.
+/// A file, the depths of undo and redo, and the file's length, if it exists.
 pub type Standing = (&'static str, usize, usize, Option<usize>);
 
-// Whether the session stands like this.
+/// Whether the session is in this state.
 pub fn stands(session: &Session, wanted: &Standing) -> bool {
     let (undos, redos) = depths_of(session);
     let length = file_in(session, wanted.0).map(|bytes| bytes.len());
     undos == wanted.1 && redos == wanted.2 && length == wanted.3
 }
 
-/// An action. A create writes this index over the file `a`, a repair and a purge are of `t.par2`.
+/// An action: a create of this index over the file `a`, or a repair or purge of `t.par2`.
 pub enum Task {
     Create(&'static str),
     Repair { purge: bool },
@@ -79,13 +79,13 @@ fn actions_of(alloc: Global, tasks: &[Task]) -> Result<Vec<Action>, AllocError> 
     Ok(actions)
 }
 
-// How many of the tasks are done.
+// Returns the number of tasks that were done.
 fn played(alloc: Global, session: &mut Session, tasks: &[Task]) -> Result<usize, Trouble> {
     let actions = actions_of(alloc, tasks)?;
     Ok(calls::play(session, &actions))
 }
 
-// The steps of a command, which the session's own call of it does.
+// The steps of a command, done by the session's own call for it.
 fn steps_of(alloc: Global, session: &mut Session, task: &Task) -> Result<Steps, Trouble> {
     let steps = match task {
         Task::Create(base) => {
@@ -99,7 +99,7 @@ fn steps_of(alloc: Global, session: &mut Session, task: &Task) -> Result<Steps, 
     steps.map_err(|_| Trouble::Refused)
 }
 
-fn told(step: &Step) -> PrintedStep<'_> {
+fn reported(step: &Step) -> PrintedStep<'_> {
     match step {
         Step::Write(name) => PrintedStep::Write(name.as_str()),
         Step::Replace(name) => PrintedStep::Replace(name.as_str()),
@@ -108,7 +108,7 @@ fn told(step: &Step) -> PrintedStep<'_> {
     }
 }
 
-// Whether a command is done by these steps.
+// Whether a command is done with these steps.
 fn does(
     alloc: Global,
     session: &mut Session,
@@ -116,10 +116,16 @@ fn does(
     wanted: &[PrintedStep<'_>],
 ) -> Result<bool, Trouble> {
     let steps = steps_of(alloc, session, task)?;
-    Ok(steps.as_slice().iter().map(told).eq(wanted.iter().copied()))
+    Ok(
+        steps
+            .as_slice()
+            .iter()
+            .map(reported)
+            .eq(wanted.iter().copied()),
+    )
 }
 
-// Whether a command is refused like this.
+// Whether a command is refused with this fault.
 fn refuses(
     alloc: Global,
     session: &mut Session,
@@ -136,17 +142,17 @@ fn has_fingerprint(session: &Session, wanted: &[u8; 16]) -> Result<bool, Trouble
 }
 
 fn has_journal(session: &Session, wanted: &Text) -> Result<bool, Trouble> {
-    Ok(is_text(&encode(session)?, wanted))
+    Ok(is_bytes(&encode(session)?, wanted))
 }
 
-/// What is done with a session, and what holds of it then.
+/// What is done with a session, and the expected result.
 pub enum Row {
-    /// A command, and the steps that it answers.
+    /// A command, and the steps that it returns.
     Does(Task, &'static [PrintedStep<'static>]),
     Refused(Task, SessionFault),
-    /// How many of these tasks are done.
+    /// The number of these tasks that are done.
     Play(&'static [Task], usize),
-    /// A task that is made ready, with its journal while it is halfway, and done.
+    /// A task that is prepared and committed, and its halfway journal.
     Commit(Task, Text),
     /// Whether there is something to undo.
     Undo(bool),
@@ -154,13 +160,13 @@ pub enum Row {
     Stands(Standing),
     Fingerprint([u8; 16]),
     Journal(Text),
-    /// The file `a` alone is opened with the session's journal, and whether a redo is next.
+    /// A folder with only the file `a` is opened with the session's journal; whether a redo is next.
     Reopen(bool),
     /// The session is a new one on the folder of a set, after this damage.
     Damaged(Damage),
-    /// At least so many files can be written without memory.
+    /// At least this many files can be written without allocating.
     Vacant(usize),
-    /// The folder as it stands is opened with the first journal. When that command is taken back, the second stands.
+    /// The present folder is opened with the first journal. When that command is taken back, the journal is the second.
     TakenBack(&'static [u8], &'static [u8]),
 }
 
@@ -184,11 +190,11 @@ fn is_met(alloc: Global, session: &mut Session, row: &Row) -> Result<bool, Troub
             Ok(true)
         }
         Row::Vacant(least) => Ok(vacant_in(session) >= *least),
-        Row::TakenBack(text, settled) => is_taken_back(alloc, session, text, settled),
+        Row::TakenBack(string, settled) => is_taken_back(alloc, session, string, settled),
     }
 }
 
-// Whether these rows hold in turn of a session on a folder with the file `a`.
+// Whether these rows hold, in order, of a session on a folder with the file `a`.
 fn are_met(alloc: Global, rows: &[Row]) -> Result<bool, Trouble> {
     let mut session = session_of(alloc)?;
     for row in rows {
@@ -201,7 +207,7 @@ fn are_met(alloc: Global, rows: &[Row]) -> Result<bool, Trouble> {
 
 const CREATE: &[Task] = &[Task::Create("t.par2")];
 
-/// What the rows of an example show, and these.
+// The purpose of an example, and its rows.
 type Example = (&'static str, &'static [Row]);
 
 const EXAMPLES: &[Example] = &[

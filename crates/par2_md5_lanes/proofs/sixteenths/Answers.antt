@@ -1,6 +1,6 @@
 use Rattle.par2_md5_lanes.proofs.Common.{◌≡◌, ◌<◌, ◌≤◌, ◌*◌, ◌+◌, ◌-◌, ◌/◌, ◌∙◌, ℕ, ap, arith, below_more, drop, length, length-drop, length-set, length-take-le, take}
 use Rattle.std.proofs.Math.Nat.{mul-le-mul_left}
-use Rattle.par2_md5_lanes.proofs.LaneLaws.{text_set_other, text_set_same}
+use Rattle.par2_md5_lanes.proofs.LaneLaws.{bytes_set_other, bytes_set_same}
 use Rattle.par2_md5_lanes.proofs.sixteenths.Goals as goal
 
 pub loop-k-preserved : goal.loop-k-preserved
@@ -13,8 +13,8 @@ loop-k-preserved c =
     let long : start + size - start ≡ size = omega arith in
     record {
       count = length-set parts k _ ∙ c.loop-k.invariant.count;
-      done = below_more _ _ (λ j h. text_set_other parts k j _ (omega (arith, h)) (omega (arith, h, there)) ∙ c.loop-k.invariant.done j h)
-          (text_set_same parts k _ there ∙ ap (λ (n : ℕ). take n (drop start c.args.bytes.now)) long);
+      done = below_more _ _ (λ j h. bytes_set_other parts k j _ (omega (arith, h)) (omega (arith, h, there)) ∙ c.loop-k.invariant.done j h)
+          (bytes_set_same parts k _ there ∙ ap (λ (n : ℕ). take n (drop start c.args.bytes.now)) long);
     }
 
 pub returns : goal.returns

@@ -3,4 +3,4 @@ use Rattle.par2_spec.specs.Sums.{list_at, lists_of}
 use Rattle.library_tests.proofs.transform.have_words.Given as goal
 
 abbrev pub invariant-loop-t : goal.invariant-loop-t
-invariant-loop-t l = (i : ℕ) → i < l.t → length (list_at (lists_of l.texts) i) ≡ 2 * l.words
+invariant-loop-t l = (i : ℕ) → i < l.t → length (list_at (lists_of l.buffers) i) ≡ 2 * l.words

@@ -1,5 +1,5 @@
 use Rattle.par2_arguments.proofs.Common.{◌≡◌, map, take, string_bytes}
 use Rattle.par2_arguments.proofs.read.files_of.Given as goal
 
-abbrev pub invariant-loop-text : goal.invariant-loop-text
-invariant-loop-text l = map string_bytes l.files.items ≡ map (λ v. v.now) (take l.text-index l.texts)
+abbrev pub invariant-loop-bytes : goal.invariant-loop-bytes
+invariant-loop-bytes l = map string_bytes l.files.items ≡ map (λ v. v.now) (take l.bytes-index l.buffers)

@@ -11,14 +11,14 @@ matches_so c = subst (λ (app : App). HasMatchesOf app (map string_bytes c.args.
 faultless_so : (c : In-Ok) → fault_of par2_app (map string_bytes c.args.words.now) ≡ []
 faultless_so c = faultless _ (map string_bytes c.args.words.now) c.in_ok-par2_command.ensures.0 c.in-Ok.ensures.kinds
 
--- the subcommand that it met
+-- the subcommand that it found
 met_so : (c : In-Some) → HasMatchesOf par2_app (map string_bytes c.args.words.now) c.in-Ok.matches → subcommand_of par2_app (map string_bytes c.args.words.now) ≡ Some (c.in-Some.name.now, rows_of (found_of c.in-Some.matches.now))
 met_so c has = met c.in-Ok.matches (map string_bytes c.args.words.now) c.in-Some.name.now (rows_of (found_of c.in-Some.matches.now)) has c.in-Some.ensures.name c.in-Some.ensures.rows
 
 pub returns-in_err-par2_command-clause-arguments : goal.returns-in_err-par2_command-clause-arguments
 returns-in_err-par2_command-clause-arguments c = λ taken there.
-    let told = err_from_is_err_and c.from_residual.result c.from_residual.ensures.1 in
-    rw told.1 told.2
+    let reported = err_from_is_err_and c.from_residual.result c.from_residual.ensures.1 in
+    rw reported.1 reported.2
 
 pub returns-in-Err-clause-arguments : goal.returns-in-Err-clause-arguments
 returns-in-Err-clause-arguments c = λ taken there.

@@ -53,8 +53,8 @@ returns c =
     let s = c.args.args.now.slice in
     let ordered = in_id_order (files_of folder a.inputs) in
     let records = map (record_of s) ordered in
-    let texts = all_slices set.slice (files_of folder (names_of set.files.items)) in
+    let buffers = all_slices set.slice (files_of folder (names_of set.files.items)) in
     let is_index : index ≡ flat_map packet (index_packets s records) = c.in_ok-index_of.ensures ∙ ap₂ (λ n files. flat_map packet (index_packets n files)) c.requires.set.slice (ap (map file_record_of) c.deref.ensures.value ∙ c.requires.set.files) in
     let is_id : id ≡ main_id s records = c.main_id.ensures ∙ ap₂ main_id c.requires.set.slice (ap (map file_record_of) c.deref-2.ensures.value ∙ c.requires.set.files) in
-    let same : written folder c.args.base index id set.slice texts volumes ≡ create_changes folder a = rw (c.requires.base, is_index, is_id, c.requires.set.slice, c.requires.set.order, c.requires.volumes) (create_written folder a) in
+    let same : written folder c.args.base index id set.slice buffers volumes ≡ create_changes folder a = rw (c.requires.base, is_index, is_id, c.requires.set.slice, c.requires.set.order, c.requires.volumes) (create_written folder a) in
     subst (λ w. IfOk c.changes_of.result (λ changes. changes ≡ w)) same c.changes_of.ensures

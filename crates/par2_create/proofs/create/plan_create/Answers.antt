@@ -1,4 +1,4 @@
-use Rattle.par2_create.proofs.Common.{◌≡◌, ◌∙◌, ◌∷◌, inr, refl, sym, ap, ap₂, subst, true, Some, Err, List, ℕ, map, string_bytes, None, Option, is_par_name, err_from_is_err_and, Folder, Create, CreateArgs, bad_name, early_refusal, refusal, after, create_args_of, Fault, Volume, long_name, existing, inputs_fault, volumes_of, names_of, output_names, are_applicable, effects, changes_of, create_applies, answered_so, never_found}
+use Rattle.par2_create.proofs.Common.{◌≡◌, ◌∙◌, ◌∷◌, inr, refl, sym, ap, ap₂, subst, true, Some, Err, List, ℕ, map, string_bytes, None, Option, is_par_name, err_from_is_err_and, Folder, Create, CreateArgs, bad_name, early_refusal, refusal, after, create_args_of, Fault, Volume, long_name, existing, inputs_fault, volumes_of, volume_names, output_names, are_applicable, effects, changes_of, create_applies, answered_so, never_found}
 use Rattle.par2_spec.proofs.EarlyLaws.{refused_early}
 use Rattle.par2_spec.proofs.CommandLaws.{create_leads}
 use Rattle.par2_create.proofs.GoodWords.{head_passed}
@@ -8,7 +8,7 @@ use Rattle.par2_create.proofs.create.plan_create.Goals.{In-Some, After-set_of_in
 use Rattle.par2_spec.proofs.PassedAnswers as passed
 use Rattle.par2_create.proofs.create.plan_create.Goals as goal
 
--- a word is bad: that is answered before memory is wanted
+-- a bad argument is reported before memory is needed
 early_word : (c : In-Some) → early_refusal c.args.folder.now.files (Create (create_args_of c.args.args.now)) ≡ Some c.in-Some.fault
 early_word c =
     early_by c.args.folder.now.files _ None (Some c.in-Some.fault) c.in_ok-base.ensures.accepted (ap (λ words. bad_name (map string_bytes words)) (sym c.deref.ensures.value) ∙ sym c.bad_name.ensures ∙ c.in-Some.is)
@@ -17,7 +17,7 @@ none_early : (c : After-set_of_inputs) → early_refusal c.args.folder.now.files
 none_early c =
     early_by c.args.folder.now.files _ None None c.in_ok-base.ensures.accepted (ap (λ words. bad_name (map string_bytes words)) (sym c.deref.ensures.value) ∙ sym c.bad_name.ensures ∙ c.in_default.is)
 
--- the outputs' names are not too long, and are those that were looked for
+-- the outputs' names are short enough, and are the ones that were looked up
 abbrev AreNamed : Folder → CreateArgs → Option Fault → Type 0
 AreNamed folder a answer = (long_name (output_names a) ≡ None) × (existing folder a.overwrite (output_names a) ≡ answer)
 
@@ -26,8 +26,8 @@ named c =
     let a = create_args_of c.args.args.now in
     let name = c.in_ok-base.ensures.name in
     let volumes : c.deref-2.result.now ≡ volumes_of a.base a.first a.count = c.deref-2.ensures.value ∙ c.in_ok-volumes.ensures.volumes ∙ ap (λ base. volumes_of base a.first a.count) name in
-    let names : c.in_ok-base.base ∷ names_of c.deref-2.result.now ≡ output_names a = ap₂ (λ (base : List ℕ) (vs : List Volume). base ∷ names_of vs) name volumes in (
-      long_without_base a c.in_ok-base.ensures.accepted ∙ subst (λ base. long_name (names_of (volumes_of base a.first a.count)) ≡ None) name c.in_ok-volumes.ensures.accepted,
+    let names : c.in_ok-base.base ∷ volume_names c.deref-2.result.now ≡ output_names a = ap₂ (λ (base : List ℕ) (vs : List Volume). base ∷ volume_names vs) name volumes in (
+      long_without_base a c.in_ok-base.ensures.accepted ∙ subst (λ base. long_name (volume_names (volumes_of base a.first a.count)) ≡ None) name c.in_ok-volumes.ensures.accepted,
       ap (existing c.args.folder.now.files a.overwrite) (sym names) ∙ sym c.existing.ensures,
     )
 
@@ -79,10 +79,10 @@ returns-in_err-volumes-clause-refused c =
     let a = create_args_of c.args.args.now in
     let fault : Fault = c.in_err-volumes.field-0.0 in
     let head = c.in_ok-base.ensures.accepted in
-    passed.refused_by (λ y. long_name (names_of (volumes_of c.in_ok-base.base a.first a.count)) ≡ Some y) (λ y. refusal folder (Create a) ≡ Some y) c.from_residual-in_err-volumes.result fault
+    passed.refused_by (λ y. long_name (volume_names (volumes_of c.in_ok-base.base a.first a.count)) ≡ Some y) (λ y. refusal folder (Create a) ≡ Some y) c.from_residual-in_err-volumes.result fault
     (err_from_is_err_and c.from_residual-in_err-volumes.result c.from_residual-in_err-volumes.ensures.1) c.in_err-volumes.ensures.refused
     (λ cause. refused_by folder a None None (Some fault) _ head c.in_ok-set.ensures.accepted
-    (long_without_base a head ∙ subst (λ base. long_name (names_of (volumes_of base a.first a.count)) ≡ Some fault) c.in_ok-base.ensures.name cause) refl)
+    (long_without_base a head ∙ subst (λ base. long_name (volume_names (volumes_of base a.first a.count)) ≡ Some fault) c.in_ok-base.ensures.name cause) refl)
 
 pub returns-in-Some-existing-clause-refused : goal.returns-in-Some-existing-clause-refused
 returns-in-Some-existing-clause-refused c =

@@ -2,4 +2,4 @@ use Rattle.par2_create.proofs.Common.{◌≡◌, ◌+◌, ◌++◌, ◌/◌, ◌
 use Rattle.par2_create.proofs.names.push_five_digits.Given as goal
 
 abbrev pub invariant-loop-power : goal.invariant-loop-power
-invariant-loop-power l = string_bytes l.text ≡ string_bytes l.initial.text ++ map (λ power. 48 + l.n / power % 10) (take l.power-index l.power-items)
+invariant-loop-power l = string_bytes l.string ≡ string_bytes l.initial.string ++ map (λ power. 48 + l.n / power % 10) (take l.power-index l.power-items)

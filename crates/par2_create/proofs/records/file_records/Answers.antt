@@ -5,7 +5,7 @@ use Rattle.par2_create.proofs.records.file_records.Goals.{After-as_str-name}
 use Rattle.par2_create.proofs.records.file_records.Goals as goal
 
 named : (c : After-as_str-name) → c.as_str-name.result.now ≡ get_or c.args.names.now c.loop-i.i []
-named c = c.as_str-name.ensures.text ∙ c.index-names-i.is ∙ get_or_default c.args.names.now c.loop-i.i _ [] c.loop-i-test.true
+named c = c.as_str-name.ensures.bytes ∙ c.index-names-i.is ∙ get_or_default c.args.names.now c.loop-i.i _ [] c.loop-i-test.true
 
 pub file_record_by_md5-requires-clause-digest : goal.file_record_by_md5-requires-clause-digest
 file_record_by_md5-requires-clause-digest c =

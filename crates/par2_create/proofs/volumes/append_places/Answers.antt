@@ -9,7 +9,7 @@ loop-k-preserved c =
     let place = place_in c.args.parts.now i in
     let was : List Place = c.args.places.now.items in
     c.in_ok-push.ensures.items
-    ∙ ap (λ n. c.loop-k.places.items ++ record { text = i; at = n + k * (68 + c.args.parts.now.set.now.slice) + 68 } ∷ []) (let size : c.len.result ≡ length c.args.parts.now.index.items = search rules in size)
+    ∙ ap (λ n. c.loop-k.places.items ++ record { buffer = i; at = n + k * (68 + c.args.parts.now.set.now.slice) + 68 } ∷ []) (let size : c.len.result ≡ length c.args.parts.now.index.items = search rules in size)
     ∙ ap (λ (xs : List Place). xs ++ place k ∷ []) c.loop-k.invariant
     ∙ append_assoc was (map place (range_with_len 0 k)) (place k ∷ [])
     ∙ ap (λ (xs : List Place). was ++ xs) (sym (map-range_with_len_more place 0 k k (zero-add k)))
@@ -24,12 +24,12 @@ returns c =
 
 pub overflow_mul-at : goal.overflow_mul-at
 overflow_mul-at c =
-    omega (arith, packet_ends (length c.args.parts.now.index.items) c.loop-k.k c.args.volume.now.count (68 + c.args.parts.now.set.now.slice) (length c.args.text.now) c.loop-k-test.true c.requires.text)
+    omega (arith, packet_ends (length c.args.parts.now.index.items) c.loop-k.k c.args.volume.now.count (68 + c.args.parts.now.set.now.slice) (length c.args.bytes.now) c.loop-k-test.true c.requires.bytes)
 
 pub overflow_add-at : goal.overflow_add-at
 overflow_add-at c =
-    omega (arith, packet_ends (length c.args.parts.now.index.items) c.loop-k.k c.args.volume.now.count (68 + c.args.parts.now.set.now.slice) (length c.args.text.now) c.loop-k-test.true c.requires.text)
+    omega (arith, packet_ends (length c.args.parts.now.index.items) c.loop-k.k c.args.volume.now.count (68 + c.args.parts.now.set.now.slice) (length c.args.bytes.now) c.loop-k-test.true c.requires.bytes)
 
 pub overflow_add-at-in-loop-k : goal.overflow_add-at-in-loop-k
 overflow_add-at-in-loop-k c =
-    omega (arith, packet_ends (length c.args.parts.now.index.items) c.loop-k.k c.args.volume.now.count (68 + c.args.parts.now.set.now.slice) (length c.args.text.now) c.loop-k-test.true c.requires.text)
+    omega (arith, packet_ends (length c.args.parts.now.index.items) c.loop-k.k c.args.volume.now.count (68 + c.args.parts.now.set.now.slice) (length c.args.bytes.now) c.loop-k-test.true c.requires.bytes)

@@ -2,9 +2,9 @@ use Rattle.par2_create.proofs.Common.{◌≡◌, ◌∙◌, List, ℕ, Vec, Glob
 use Rattle.par2_create.proofs.volumes.volume_files.Goals as goal
 
 pub write_slices-requires-clause-before : goal.write_slices-requires-clause-before
-write_slices-requires-clause-before c = ap (λ (texts : List (Vec ℕ Global)). lists_of texts) c.as_mut_slice.ensures.value ∙ c.in_ok-texts.ensures
+write_slices-requires-clause-before c = ap (λ (buffers : List (Vec ℕ Global)). lists_of buffers) c.as_mut_slice.ensures.value ∙ c.in_ok-buffers.ensures
 
 pub digested-requires-clause-before : goal.digested-requires-clause-before
 digested-requires-clause-before c =
-    let size : length c.write_slices.new.out ≡ c.in_ok-texts.texts.len = search rules in
-    ap (λ (texts : List (Vec ℕ Global)). lists_of texts) (with_items_is c.in_ok-texts.texts c.write_slices.new.out size) ∙ c.in_ok-write_slices.ensures
+    let size : length c.write_slices.new.out ≡ c.in_ok-buffers.buffers.len = search rules in
+    ap (λ (buffers : List (Vec ℕ Global)). lists_of buffers) (with_items_is c.in_ok-buffers.buffers c.write_slices.new.out size) ∙ c.in_ok-write_slices.ensures

@@ -1,14 +1,14 @@
-use Rattle.par2_create.proofs.Common.{◌≡◌, ◌∙◌, ◌*◌, ◌/◌, List, ℕ, map, sym, ap, subst, arith, length, length-map, on_ok_weaker, padded, lists_of, Place, AreWritten, texts_of}
+use Rattle.par2_create.proofs.Common.{◌≡◌, ◌∙◌, ◌*◌, ◌/◌, List, ℕ, map, sym, ap, subst, arith, length, length-map, on_ok_weaker, padded, lists_of, Place, AreWritten, buffers_of}
 use Rattle.std.specs.Borrow.{Bor}
 use Rattle.par2_create.proofs.VolumePlaces.{places_apart, places_blank, places_within, length-places, volumes_written}
-use Rattle.par2_create.specs.Records.{slices_of}
+use Rattle.par2_create.specs.Records.{slices_of_records}
 use Rattle.par2_packets.specs.declared.record.FileRecord.{FileRecord}
 use Rattle.par2_create.specs.declared.outputs.Parts.{Parts}
 use Rattle.par2_create.specs.Outputs.{inputs_of}
 use Rattle.par2_create.proofs.volumes.write_slices.Goals as goal
 
-of_files : (parts : Parts) (files : List FileRecord) → files ≡ parts.set.now.files.items → slices_of parts.folder.now.files parts.set.now.slice files ≡ inputs_of parts
-of_files parts files same = ap (slices_of parts.folder.now.files parts.set.now.slice) same
+of_files : (parts : Parts) (files : List FileRecord) → files ≡ parts.set.now.files.items → slices_of_records parts.folder.now.files parts.set.now.slice files ≡ inputs_of parts
+of_files parts files same = ap (slices_of_records parts.folder.now.files parts.set.now.slice) same
 
 pub new-outputs-requires : goal.new-outputs-requires
 new-outputs-requires c =
@@ -19,8 +19,8 @@ pub write_recovery_slices-requires-clause-slices : goal.write_recovery_slices-re
 write_recovery_slices-requires-clause-slices c =
     let inputs : List (Bor (List ℕ)) = c.deref-3.result.now in
     let pad = padded c.args.parts.now.set.now.slice in
-    let same = ap length (ap (λ (texts : List (Bor (List ℕ))). map pad (texts_of texts)) c.deref-3.ensures.value ∙ c.in_ok-inputs.ensures ∙ of_files c.args.parts.now c.deref.result.now c.deref.ensures.value) in
-    omega (arith, c.requires.parts.few, same, length-map (texts_of inputs) pad, length-map inputs (λ (text : Bor (List ℕ)). text.now))
+    let same = ap length (ap (λ (buffers : List (Bor (List ℕ))). map pad (buffers_of buffers)) c.deref-3.ensures.value ∙ c.in_ok-inputs.ensures ∙ of_files c.args.parts.now c.deref.result.now c.deref.ensures.value) in
+    omega (arith, c.requires.parts.few, same, length-map (buffers_of inputs) pad, length-map inputs (λ (bytes : Bor (List ℕ)). bytes.now))
 
 pub write_recovery_slices-requires-clause-count : goal.write_recovery_slices-requires-clause-count
 write_recovery_slices-requires-clause-count c =
@@ -43,13 +43,13 @@ pub returns : goal.returns
 returns c =
     let words = c.new-outputs.result.words in
     let pad = padded c.args.parts.now.set.now.slice in
-    let slices = texts_of c.deref-3.result.now in
+    let slices = buffers_of c.deref-3.result.now in
     let exponents : List ℕ = c.deref-4.result.now in
     let old = lists_of c.args.out.now in
-    let new = lists_of c.write_recovery_slices.new.texts in
+    let new = lists_of c.write_recovery_slices.new.buffers in
     on_ok_weaker c.write_recovery_slices.result
     (λ written. volumes_written c.args.parts.now words c.args.volumes.now slices exponents old new c.requires.parts (omega (arith, c.requires.parts.fours)) c.requires.parts.sixteen
-    (ap (λ (texts : List (Bor (List ℕ))). map pad (texts_of texts)) c.deref-3.ensures.value ∙ c.in_ok-inputs.ensures ∙ of_files c.args.parts.now c.deref.result.now c.deref.ensures.value)
+    (ap (λ (buffers : List (Bor (List ℕ))). map pad (buffers_of buffers)) c.deref-3.ensures.value ∙ c.in_ok-inputs.ensures ∙ of_files c.args.parts.now c.deref.result.now c.deref.ensures.value)
     (c.deref-4.ensures.value ∙ c.in_ok-exponents.ensures) c.requires.before
     (subst (λ (all : List Place). AreWritten words slices exponents all old new) (c.new-outputs.ensures.places ∙ c.deref-2.ensures.value ∙ c.in_ok-places.ensures) written))
     c.write_recovery_slices.ensures

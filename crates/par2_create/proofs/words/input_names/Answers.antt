@@ -2,7 +2,7 @@ use Rattle.par2_create.proofs.Common.{◌≡◌, ◌∙◌, ℕ, List, [], ◌�
 use Rattle.std.proofs.lemmas.Iterator.Consumers.{YieldsList-at, YieldsList-from_filter_map}
 use Rattle.par2_create.proofs.words.input_names.Goals as goal
 
--- the name that a word is
+-- the name that an argument is
 abbrev name_in : List ℕ → Option (List ℕ)
 name_in word = cond (is_input_name word) (Some word) None
 

@@ -1,5 +1,5 @@
 use Rattle.par2_disk.proofs.Common.{◌∙◌, ap, bit_and}
-use Rattle.par2_disk.proofs.Rights.{apart_within, within_on}
+use Rattle.par2_disk.proofs.Permissions.{apart_within, within_on}
 use Rattle.par2_disk.proofs.modes.beside.Goals as goal
 
 pub returns-clause-within : goal.returns-clause-within

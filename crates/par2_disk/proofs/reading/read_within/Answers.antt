@@ -4,7 +4,7 @@ use Rattle.std.proofs.KnownBytes.{Consumes-kept, Consumes-trans}
 use Rattle.par2_disk.proofs.reading.read_within.Goals.{in-Ok+in_ok-extend_from_slice-in-Ok, in-Err}
 use Rattle.par2_disk.proofs.reading.read_within.Goals as goal
 
--- the first bytes of a block whose front was read
+-- the first bytes of a block of which only a prefix was read
 first_read : (n size : ℕ) (front rest : List ℕ) → n ≤ length front → n ≤ size → take n (take size (front ++ rest)) ≡ take n front
 first_read n size front rest fits within = take-take n size (front ++ rest) within ∙ take-append-le n front rest fits
 

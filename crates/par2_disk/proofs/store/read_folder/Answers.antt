@@ -1,4 +1,4 @@
-use Rattle.par2_disk.proofs.Common.{◌∙◌, ◌≡◌, ◌<◌, ◌≤◌, length, get_or, Some, ap, subst, arith, entries, names, IsTried}
+use Rattle.par2_disk.proofs.Common.{◌∙◌, ◌≡◌, ◌<◌, ◌≤◌, length, get_or, Some, ap, subst, arith, entries, names, IsWrittenAs}
 use Rattle.std.specs.FinMap as map_of
 use Rattle.par2_files.proofs.SortedFiles.{begins_empty, still_there, next_file, is_whole}
 use Rattle.par2_spec.specs.Stores.{Contents}
@@ -21,8 +21,8 @@ pub loop-name-preserved : goal.loop-name-preserved
 loop-name-preserved g c =
     let so_far = c.loop-name.invariant in
     let name = c.name-item.result in
-    let tried : IsTried c.loop-name.folder c.apply-taken.new.self name c.into.result =
-    subst (λ n. IsTried c.loop-name.folder c.apply-taken.new.self n c.into.result) c.copied.ensures
+    let tried : IsWrittenAs c.loop-name.folder c.apply-taken.new.self name c.into.result =
+    subst (λ n. IsWrittenAs c.loop-name.folder c.apply-taken.new.self n c.into.result) c.copied.ensures
     (tried_by _ _ _ _ _ c.apply-taken.result c.apply-taken.ensures.refused c.apply-taken.ensures.unchanged c.apply-taken.ensures.folder) in
     record {
       reads = reads_on so_far.reads c.in_ok-bytes.ensures.reads;

@@ -1,5 +1,5 @@
 use Rattle.par2_files.proofs.Common.{arith}
-use Rattle.par2_files.proofs.Texts.{name_parts}
+use Rattle.par2_files.proofs.Output.{name_parts}
 use Rattle.par2_files.proofs.name.is_name.Goals as goal
 
 pub returns-clause-name : goal.returns-clause-name

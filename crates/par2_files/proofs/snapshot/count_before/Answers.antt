@@ -1,6 +1,6 @@
 use Rattle.par2_files.proofs.Common.{sym, length-map}
 use Rattle.par2_files.proofs.Below.{front_at, front_gap}
-use Rattle.par2_files.proofs.Borders.{all_before, none_before}
+use Rattle.par2_files.proofs.Splits.{all_before, none_before}
 use Rattle.par2_files.proofs.snapshot.count_before.Goals as goal
 
 pub returns-in-Beginning : goal.returns-in-Beginning

@@ -1,5 +1,5 @@
 use Rattle.par2_files.proofs.Common.{arith, common_steps}
-use Rattle.par2_files.proofs.Borders.{between, no_less}
+use Rattle.par2_files.proofs.Splits.{between, no_less}
 use Rattle.par2_files.proofs.snapshot.run_between.Goals as goal
 
 pub returns : goal.returns

@@ -2,7 +2,7 @@ use Rattle.par2_files.proofs.Common.{arith}
 use Rattle.par2_files.proofs.walk.runs_along.Goals as goal
 
 pub loop-name-init : goal.loop-name-init
-loop-name-init c = rw c.in_ok-states.ensures.items (c.start.ensures c.args.folder.now.files c.requires.landmarks)
+loop-name-init c = rw c.in_ok-states.ensures.items (c.start.ensures c.args.folder.now.files c.requires.checkpoints)
 
 pub loop-name-preserved : goal.loop-name-preserved
 loop-name-preserved c = grind (arith)

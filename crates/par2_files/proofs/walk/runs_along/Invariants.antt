@@ -1,5 +1,5 @@
-use Rattle.par2_files.proofs.Common.{map, change_of, run_texts, HaveAbsorbed}
+use Rattle.par2_files.proofs.Common.{map, change_of, run_buffers, HaveAbsorbed}
 use Rattle.par2_files.proofs.walk.runs_along.Given as goal
 
 abbrev pub invariant-loop-name : goal.invariant-loop-name
-invariant-loop-name l = HaveAbsorbed l.states.items (run_texts l.border l.folder.files (map change_of l.changes))
+invariant-loop-name l = HaveAbsorbed l.states.items (run_buffers l.split l.folder.files (map change_of l.changes))

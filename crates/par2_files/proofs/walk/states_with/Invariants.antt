@@ -1,8 +1,8 @@
-use Rattle.par2_files.proofs.Common.{◌≤◌, ◌++◌, ℕ, List, length, take, texts_of, AreTo}
+use Rattle.par2_files.proofs.Common.{◌≤◌, ◌++◌, ℕ, List, length, take, buffers_of, AreTo}
 use Rattle.par2_files.proofs.walk.states_with.Given as goal
 
-abbrev pub invariant-loop-text : goal.invariant-loop-text
-invariant-loop-text l = record {
+abbrev pub invariant-loop-bytes : goal.invariant-loop-bytes
+invariant-loop-bytes l = record {
   few : length l.runs.pendings.items ≤ 16;
-  texts : (before : List (List ℕ)) → AreTo l.fn.runs before → AreTo l.runs (before ++ texts_of (take l.text-index l.texts));
+  buffers : (before : List (List ℕ)) → AreTo l.fn.runs before → AreTo l.runs (before ++ buffers_of (take l.bytes-index l.buffers));
 }

@@ -1,5 +1,5 @@
 use Rattle.par2_gf16.proofs.Common.{arith}
-use Rattle.par2_gf16.proofs.LaneLaws.{lanes_start, lanes_turn, lanes_done}
+use Rattle.par2_gf16.proofs.LaneLaws.{lanes_start, lanes_step, lanes_done}
 use Rattle.par2_gf16.proofs.lanes.product_lanes.Goals as goal
 
 pub loop-j-init : goal.loop-j-init
@@ -8,7 +8,7 @@ loop-j-init c = lanes_start c.args.c c.args.v _ c.ranges.c.fits c.zeros-sum.ensu
 pub loop-j-preserved : goal.loop-j-preserved
 loop-j-preserved c =
     let l = c.loop-j in
-    lanes_turn c.args.c c.args.v l.sum l.rest _ _ l.k _ l.j c.ranges.c.fits (omega arith) l.invariant c.select_add-sum.ensures c.halved-rest.ensures c.doubled-k.ensures
+    lanes_step c.args.c c.args.v l.sum l.rest _ _ l.k _ l.j c.ranges.c.fits (omega arith) l.invariant c.select_add-sum.ensures c.halved-rest.ensures c.doubled-k.ensures
 
 pub returns : goal.returns
 returns c = let l = c.loop-j in lanes_done c.args.c c.args.bits c.args.v l.sum l.rest l.k l.j (omega arith) c.requires.lanes l.invariant

@@ -7,7 +7,7 @@ returns-then-not-branch c =
     let so_far = c.loop-entry.invariant in
     let item = c.entry-item.result in
     let tried = rw c.as_slice.ensures at (c.in_ok-go_along.ensures so_far.now so_far.are) in
-    entry_refused so_far.now item.now (drop (c.loop-entry.entry-index + 1) (map (λ (e : Bor (List Change)). e.now) c.args.entries.now)) (sym c.if-not-branch.true ∙ tried.told)
+    entry_refused so_far.now item.now (drop (c.loop-entry.entry-index + 1) (map (λ (e : Bor (List Change)). e.now) c.args.entries.now)) (sym c.if-not-branch.true ∙ tried.reported)
     ∙ here (λ (e : Bor (List Change)). e.now) leads c.args.folder.now.files c.args.entries.now _ _ so_far c.loop-entry-test.true item c.entry-item.is
 
 pub loop-entry-preserved : goal.loop-entry-preserved
@@ -16,7 +16,7 @@ loop-entry-preserved c =
     let item = c.entry-item.result in
     let tried = rw c.as_slice.ensures at (c.in_ok-go_along.ensures so_far.now so_far.are) in
     goes_on (λ (e : Bor (List Change)). e.now) leads c.args.folder.now.files c.args.entries.now _ _ so_far c.loop-entry-test.true item c.entry-item.is (effects so_far.now item.now) _ (tried.are c.if-not-branch.false)
-    (entry_made so_far.now item.now _ (sym c.if-not-branch.false ∙ tried.told))
+    (entry_made so_far.now item.now _ (sym c.if-not-branch.false ∙ tried.reported))
 
 pub returns : goal.returns
 returns c =

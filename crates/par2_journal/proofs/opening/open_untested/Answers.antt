@@ -6,7 +6,7 @@ pub returns-in-Err-JournalInvalid : goal.returns-in-Err-JournalInvalid
 returns-in-Err-JournalInvalid c = record {
   opened = tt;
   refused = λ _. inr (no_journal c.args.folder.files c.args.bytes.now (c.decode_untested.ensures.invalid (c.in-Err-JournalInvalid.is ∙ ap Err c.in-Err-JournalInvalid.field-0-is)));
-  told = inl refl;
+  reported = inl refl;
   files = refl;
 }
 

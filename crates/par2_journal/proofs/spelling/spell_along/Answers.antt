@@ -9,21 +9,21 @@ both-answer-requires-clause-each c =
       arith,
       ap length c.requires.along.after_each,
       folders_count c.args.folder.now.files c.args.changes.now,
-      ap length c.turn.ensures.way_back,
+      ap length c.apply_and_invert.ensures.way_back,
       back_length c.args.folder.now c.args.changes.now,
     )
 
-pub turn-requires-2 : goal.turn-requires-2
-turn-requires-2 c =
-    let made = c.turn.ensures in
-    back_taken c.args.folder.now c.turn.new.folder c.args.changes.now c.turn.new.self c.requires.applies made.folder made.way_back
+pub apply_and_invert-requires-2 : goal.apply_and_invert-requires-2
+apply_and_invert-requires-2 c =
+    let made = c.apply_and_invert.ensures in
+    back_taken c.args.folder.now c.apply_and_invert.new.folder c.args.changes.now c.apply_and_invert.new.self c.requires.applies made.folder made.way_back
 
 pub returns-clause-folder : goal.returns-clause-folder
 returns-clause-folder c =
-    let made = c.turn.ensures in
-    c.turn-2.ensures.folder ∙ back_leads c.args.folder.now c.turn.new.folder c.args.changes.now c.turn.new.self c.requires.applies made.folder made.way_back
+    let made = c.apply_and_invert.ensures in
+    c.apply_and_invert-2.ensures.folder ∙ back_leads c.args.folder.now c.apply_and_invert.new.folder c.args.changes.now c.apply_and_invert.new.self c.requires.applies made.folder made.way_back
 
 pub returns-clause-changes : goal.returns-clause-changes
 returns-clause-changes c =
-    let made = c.turn.ensures in
-    c.turn-2.ensures.way_back ∙ back_again c.args.folder.now c.turn.new.folder c.args.changes.now c.turn.new.self c.requires.applies made.folder made.way_back
+    let made = c.apply_and_invert.ensures in
+    c.apply_and_invert-2.ensures.way_back ∙ back_again c.args.folder.now c.apply_and_invert.new.folder c.args.changes.now c.apply_and_invert.new.self c.requires.applies made.folder made.way_back

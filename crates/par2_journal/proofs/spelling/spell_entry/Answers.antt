@@ -6,7 +6,7 @@ use Rattle.par2_journal.proofs.spelling.spell_entry.Goals as goal
 pub both-answer-requires-clause-each : goal.both-answer-requires-clause-each
 both-answer-requires-clause-each c =
     let entries = c.args.entries.now in
-    let turned = c.turn.ensures in
+    let inverted = c.apply_and_invert.ensures in
     omega (
       arith,
       ap length c.in_ok-fingerprints.ensures.along.after_each,
@@ -14,23 +14,23 @@ both-answer-requires-clause-each c =
       ap length c.as_slice.ensures,
       ap length c.index-entries-at.is,
       ap length (get_or_default entries c.args.at [] c.index-entries-at.result c.requires.place),
-      ap length c.index-turned-at.is,
-      entry_length c.args.folder.now c.turn.new.folder entries c.args.at c.requires.place c.index-entries-at-2.result c.turn.new.self c.requires.applies turned.folder turned.way_back c.index-turned-at.result,
+      ap length c.index-inverted-at.is,
+      entry_length c.args.folder.now c.apply_and_invert.new.folder entries c.args.at c.requires.place c.index-entries-at-2.result c.apply_and_invert.new.self c.requires.applies inverted.folder inverted.way_back c.index-inverted-at.result,
     )
 
-pub turn-requires-2 : goal.turn-requires-2
-turn-requires-2 c =
-    let turned = c.turn.ensures in
-    entry_taken c.args.folder.now c.turn.new.folder c.args.entries.now c.args.at c.requires.place c.index-entries-at-2.result c.turn.new.self c.requires.applies turned.folder turned.way_back c.index-entries-at-3.result
+pub apply_and_invert-requires-2 : goal.apply_and_invert-requires-2
+apply_and_invert-requires-2 c =
+    let inverted = c.apply_and_invert.ensures in
+    entry_taken c.args.folder.now c.apply_and_invert.new.folder c.args.entries.now c.args.at c.requires.place c.index-entries-at-2.result c.apply_and_invert.new.self c.requires.applies inverted.folder inverted.way_back c.index-entries-at-3.result
 
 pub returns-clause-folder : goal.returns-clause-folder
 returns-clause-folder c =
-    let turned = c.turn.ensures in
-    c.turn-2.ensures.folder
-    ∙ entry_leads c.args.folder.now c.turn.new.folder c.args.entries.now c.args.at c.requires.place c.index-entries-at-2.result c.turn.new.self c.requires.applies turned.folder turned.way_back c.index-entries-at-3.result
+    let inverted = c.apply_and_invert.ensures in
+    c.apply_and_invert-2.ensures.folder
+    ∙ entry_leads c.args.folder.now c.apply_and_invert.new.folder c.args.entries.now c.args.at c.requires.place c.index-entries-at-2.result c.apply_and_invert.new.self c.requires.applies inverted.folder inverted.way_back c.index-entries-at-3.result
 
 pub returns-clause-entries : goal.returns-clause-entries
 returns-clause-entries c =
-    let turned = c.turn.ensures in
-    entry_again c.args.folder.now c.turn.new.folder c.args.entries.now c.args.at c.requires.place c.index-entries-at-2.result c.turn.new.self c.requires.applies turned.folder turned.way_back c.index-entries-at-3.result
-    c.turn-2.new.self c.turn-2.ensures.way_back
+    let inverted = c.apply_and_invert.ensures in
+    entry_again c.args.folder.now c.apply_and_invert.new.folder c.args.entries.now c.args.at c.requires.place c.index-entries-at-2.result c.apply_and_invert.new.self c.requires.applies inverted.folder inverted.way_back c.index-entries-at-3.result
+    c.apply_and_invert-2.new.self c.apply_and_invert-2.ensures.way_back

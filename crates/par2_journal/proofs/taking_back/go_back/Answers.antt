@@ -7,11 +7,11 @@ use Rattle.par2_journal.proofs.Ways.{went_forth}
 use Rattle.par2_journal.proofs.taking_back.go_back.Goals.{After-ne}
 use Rattle.par2_journal.proofs.taking_back.go_back.Goals as goal
 
--- with a place for each, changes that can be made are taken
+-- changes that can be made are taken if there is a place for each
 taken : (folder : FolderState) (way : List Change) (can : Bool) → can ≡ are_applicable folder.files (changes_in way) → can ≡ true → length way ≤ folder.vacant → takes_all folder (changes_in way) ≡ true
 taken folder way can is so room = takes_applicable folder (changes_in way) (sym is ∙ so) (omega (arith, places_within (changes_in way), length-map way change_of, room))
 
--- whether the fingerprints that are left are those wanted
+-- whether the changes lead through the expected fingerprints
 leads : (c : After-ne) → pointwise bytes_eq c.as_slice.result.now c.args.wanted.now ≡ leads_through c.args.folder.now.files (changes_in c.args.way.now) c.args.wanted.now
 leads c =
     let way = changes_in c.args.way.now in

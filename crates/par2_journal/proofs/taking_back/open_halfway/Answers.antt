@@ -4,7 +4,7 @@ use Rattle.par2_journal.proofs.Openings.{answer, halfway_is}
 use Rattle.par2_journal.proofs.taking_back.open_halfway.Goals.{After-take_back}
 use Rattle.par2_journal.proofs.taking_back.open_halfway.Goals as goal
 
--- ---- the changes that go back, and the fingerprints that are wanted along them
+-- ---- the changes that lead back, and the fingerprints that are expected along them
 
 abbrev way : After-take_back → List Change
 way c = changes_in c.split_at_mut-way.result.1.now
@@ -15,7 +15,7 @@ cut c =
     let mid : n ≡ length c.args.part.back - length c.in-Ok.found.0.items = omega (arith, c.len.ensures, c.len-2.ensures) in
     ap changes_in c.split_at_mut-way.ensures.back ∙ sym (drop-map change_of n c.as_mut_slice.result.now) ∙ ap (drop n) c.as_mut_slice.ensures.value ∙ ap (λ m. drop m c.args.part.back) mid
 
--- what the journal opens as, by the test of the way, with the fingerprints as they are lent
+-- what the journal opens as by the test of the way, with the fingerprints as they are borrowed
 opens : (c : After-take_back) (b : Bool) → (leads_through c.args.folder.files (way c) c.deref.result.now && is_valid (session_at (effects c.args.folder.files (way c)) c.args.journal.cursor c.args.journal.entries.items)) ≡ b
     → defined.opened_by_part c.args.folder.files (journal_of c.args.journal) (halfway_of (Some c.args.part)) ≡ answer c.args.folder.files (journal_of c.args.journal) b (way c)
 opens c b test =
@@ -30,7 +30,7 @@ returns-in-Err c = record {
   opened = tt;
   refused = λ _. ⊎_map (λ memory. memory)
       (λ p. ap Err p.0 ∙ sym (ap (defined.opened_if_found c.args.folder.files (journal_of c.args.journal) (record { fingerprints = c.args.part.fingerprints.items; back = c.args.part.back })) p.1)) c.in-Err.ensures.refused;
-  told = inr (inr tt);
+  reported = inr (inr tt);
   files = refl;
 }
 
@@ -42,7 +42,7 @@ returns-in-Ok-take_back c =
     record {
       opened = (tt, (λ i. Ok (defined.Halfway (found.session i) (back i))) ∙ sym (opens here true found.passed));
       refused = tt;
-      told = tt;
+      reported = tt;
       files = tt;
     }
 
@@ -53,6 +53,6 @@ returns c =
     record {
       opened = tt;
       refused = λ _. ⊎_map (λ memory. memory) (λ p. ap Err p.0 ∙ sym (opens here false p.1)) refused.refused;
-      told = inr (inr tt);
+      reported = inr (inr tt);
       files = refused.files;
     }

@@ -1,6 +1,6 @@
 use Rattle.par2_journal_format.proofs.Common.{◌<◌, arith, err_from_is_err_and, parts_at, journal_of, all_from}
 use Rattle.par2_journal_format.proofs.Whole.{spells_sealed}
-use Rattle.par2_journal_format.proofs.UntestedTexts.{refused, sealed, too_short, unread, untested}
+use Rattle.par2_journal_format.proofs.UntestedLaws.{refused, sealed, too_short, unread, untested}
 use Rattle.par2_journal_format.proofs.reading.decode_untested.Goals as goal
 
 pub returns-in_err-body-clause-invalid : goal.returns-in_err-body-clause-invalid

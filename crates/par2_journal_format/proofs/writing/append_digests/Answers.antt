@@ -1,5 +1,6 @@
+use Rattle.std.proofs.Common.{rules}
 use Rattle.par2_journal_format.proofs.Common.{[], all_from, IsDigest}
 use Rattle.par2_journal_format.proofs.writing.append_digests.Goals as goal
 
 pub returns-clause-digests : goal.returns-clause-digests
-returns-clause-digests c = all_from IsDigest [] c.args.digests.now c.told-digests
+returns-clause-digests c = all_from IsDigest [] c.args.digests.now (search rules)

@@ -3,4 +3,4 @@ use Rattle.par2_journal_format.proofs.Fronts.{spelled}
 use Rattle.par2_journal_format.proofs.writing.encode.Goals as goal
 
 pub returns : goal.returns
-returns c = spelled c.in_ok-begin.field-0.items None c.in_ok-text.text.items c.in_ok-text.ensures _ c.in_ok-append_digest.ensures (journal_from c.args.parts.now) c.in_ok-begin.ensures
+returns c = spelled c.in_ok-begin.field-0.items None c.in_ok-bytes.bytes.items c.in_ok-bytes.ensures _ c.in_ok-append_digest.ensures (journal_from c.args.parts.now) c.in_ok-begin.ensures

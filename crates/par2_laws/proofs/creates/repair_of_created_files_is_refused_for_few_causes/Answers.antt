@@ -9,4 +9,4 @@ returns c before damaged a base extras purge fault follows refused =
     let never = c.repair_never_fails.ensures damaged base extras purge (in_id_order (files_of before a.inputs)) a.slice true_to in
     by_either (c.set_of_the_base_is_read.ensures damaged base extras set true_to.made.reads)
     (λ read. refused_by damaged set (candidates damaged set extras) fault (λ e. never (refused ∙ ap (λ f. Some f) e)) (sym (of_set.read damaged base extras purge set read) ∙ refused))
-    (λ absent. let told = sym (of_set.unread damaged base extras purge _ absent.1) ∙ refused in cc)
+    (λ absent. let reported = sym (of_set.unread damaged base extras purge _ absent.1) ∙ refused in cc)

@@ -1,4 +1,4 @@
-use Rattle.par2_matrix.proofs.Common.{◌≡◌, ◌∙◌, ℕ, List, ap, length, rules, subst, sym, Spells, with_items_is, length-replicate}
+use Rattle.par2_matrix.proofs.Common.{◌≡◌, ◌∙◌, ℕ, List, ap, length, rules, subst, sym, HoldsRow, with_items_is, length-replicate}
 use Rattle.par2_matrix.proofs.elements.bytes_of_row.Goals as goal
 
 pub spell-requires : goal.spell-requires
@@ -8,4 +8,4 @@ spell-requires c =
 pub returns : goal.returns
 returns c =
     let size : length c.spell.new.bytes ≡ c.in_ok-bytes.bytes.len = search rules in
-    subst (λ (xs : List ℕ). Spells c.args.row.now xs (length c.args.row.now)) (sym (with_items_is c.in_ok-bytes.bytes c.spell.new.bytes size)) c.spell.ensures
+    subst (λ (xs : List ℕ). HoldsRow c.args.row.now xs (length c.args.row.now)) (sym (with_items_is c.in_ok-bytes.bytes c.spell.new.bytes size)) c.spell.ensures

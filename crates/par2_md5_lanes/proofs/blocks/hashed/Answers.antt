@@ -9,7 +9,7 @@ loop-feed-init c =
     let size : length c.args.hash ≡ 4 = search rules in
     let fit : AreWords c.args.hash = record { a = search (rules, arith); b = search (rules, arith); c = search (rules, arith); d = search (rules, arith) } in
     let hash = words_of_hash c.digest_of.result c.args.hash _ fit (all_of_four c.args.hash size) c.digest_of.ensures (c.read-state.ensures 0 (omega arith)) in
-    record { hash = ap (λ h. hash_behind h (bytes_left c.args.feed) (length (bytes_left c.args.feed) / 64)) hash; block = c.told-block; size = refl; rest = refl }
+    record { hash = ap (λ h. hash_behind h (bytes_left c.args.feed) (length (bytes_left c.args.feed) / 64)) hash; block = search rules; size = refl; rest = refl }
 
 pub loop-feed-smaller : goal.loop-feed-smaller
 loop-feed-smaller c =

@@ -1,6 +1,6 @@
-use Rattle.par2_md5_lanes.proofs.Common.{◌≡◌, ◌+◌, ◌-◌, ◌*◌, ◌++◌, ◌≤◌, ◌/◌, ◌%◌, ◌∙◌, ℕ, List, ap, drop, length, length-drop, below_more, arith, length-take-le, padding, bytes_left, tail_len, text_at}
+use Rattle.par2_md5_lanes.proofs.Common.{◌≡◌, ◌+◌, ◌-◌, ◌*◌, ◌++◌, ◌≤◌, ◌/◌, ◌%◌, ◌∙◌, ℕ, List, ap, drop, length, length-drop, below_more, arith, length-take-le, padding, bytes_left, tail_len, buffer_at}
 use borrow.Rule.Slice.PartMut.{same_len_mid}
-use Rattle.par2_md5_lanes.proofs.LaneLaws.{text_here}
+use Rattle.par2_md5_lanes.proofs.LaneLaws.{bytes_here}
 use Rattle.par2_md5_lanes.proofs.TailLaws.{tail_at, tail_before, tail_fits, tail_put}
 use Rattle.par2_md5_lanes.proofs.padding.tails_of_windows.Goals as goal
 
@@ -12,8 +12,8 @@ loop-k-preserved c =
     let tail = c.fill.new.blocks in
     let len = c.args.len in
     let n = tail_len len in
-    let window = text_at c.args.windows.now k in
-    let here = text_here c.args.windows.now k (omega (arith, c.loop-k-test.true)) in
+    let window = buffer_at c.args.windows.now k in
+    let here = bytes_here c.args.windows.now k (omega (arith, c.loop-k-test.true)) in
     let whole = c.requires.within k c.loop-k-test.true in
     let rest = c.rest_of.result.now in
     let rest_is : rest ≡ drop (len / 64 * 64) window =

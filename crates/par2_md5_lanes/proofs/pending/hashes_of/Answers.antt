@@ -1,7 +1,7 @@
-use Rattle.par2_md5_lanes.proofs.Common.{text_at, ◌<◌, ◌≡◌, ◌≤◌, ◌+◌, ◌-◌, ◌*◌, ◌∙◌, ℕ, ap, sym, take, drop, length, get_or, inl, inr, arith, cases_lt, get_or_default, length-take-le, digest_bytes, Pending}
+use Rattle.par2_md5_lanes.proofs.Common.{buffer_at, ◌<◌, ◌≡◌, ◌≤◌, ◌+◌, ◌-◌, ◌*◌, ◌∙◌, ℕ, ap, sym, take, drop, length, get_or, inl, inr, arith, cases_lt, get_or_default, length-take-le, digest_bytes, Pending}
 use Rattle.std.proofs.lemmas.List.{length-drop}
 use borrow.Rule.Slice.PartMut.{put_mid, same_len_mid}
-use Rattle.par2_md5_lanes.proofs.PendingLaws.{hash_in_text}
+use Rattle.par2_md5_lanes.proofs.PendingLaws.{hash_in_bytes}
 use Rattle.par2_md5_lanes.proofs.TailLaws.{tail_before}
 use Rattle.par2_md5_lanes.proofs.TaskLaws.{blocks_at}
 use Rattle.par2_md5_lanes.proofs.pending.hashes_of.Goals as goal
@@ -39,7 +39,7 @@ returns g c = λ k m none low within held.
     let few : k < 16 = omega (arith, low, c.requires.lanes) in
     let room : 16 * 16 ≡ length c.loop-k.bytes = sym c.loop-k.invariant.size in
     let here = c.sixteenths.ensures.parts k 16 few room ∙ c.loop-k.invariant.done k none (omega (arith, c.loop-k-test.false)) in
-    hash_in_text (text_at c.sixteenths.result k) (get_or c.args.pendings.now k none).state.hash m _ _ here held.1.0 (c.read.ensures k low)
+    hash_in_bytes (buffer_at c.sixteenths.result k) (get_or c.args.pendings.now k none).state.hash m _ _ here held.1.0 (c.read.ensures k low)
 
 pub read-requires : goal.read-requires
 read-requires g c =

@@ -1,4 +1,4 @@
-use Rattle.par2_md5_lanes.proofs.Common.{◌≡◌, ◌<◌, ◌∙◌, ℕ, List, ap, sym, subst, length, length-set, get_or, get_or-set_other, get_or-set_same, inl, inr, arith, below_more, cases_eq, get_or_default, set, LeadsTo, work, works}
+use Rattle.par2_md5_lanes.proofs.Common.{◌≡◌, ◌<◌, ◌∙◌, ℕ, List, ap, sym, subst, length, length-set, get_or, get_or-set_other, get_or-set_same, inl, inr, arith, below_more, cases_eq, get_or_default, set, EndsIn, work, works}
 use Rattle.par2_md5_lanes.proofs.TaskLaws.{finished, leads_same, works_at}
 use Rattle.par2_md5_lanes.proofs.tasks.finish_all.Goals as goal
 
@@ -20,10 +20,10 @@ loop-k-preserved g c =
           elim (cases_eq j k) [
             | inl same ↦
                 let task : get_or (set tasks k new) j none ≡ new = ap (λ (n : ℕ). get_or (set tasks k new) n none) same ∙ get_or-set_same tasks k new none within in
-                let started : LeadsTo (get_or tasks k none) (at k state) last rest = subst (λ (n : ℕ). LeadsTo (get_or tasks n none) (at n state) last rest) same before in
+                let started : EndsIn (get_or tasks k none) (at k state) last rest = subst (λ (n : ℕ). EndsIn (get_or tasks n none) (at n state) last rest) same before in
                 let ended = c.finish.ensures.leads last rest
-                (leads_same _ _ _ last rest (get_or_default tasks k _ none within) (subst (λ (h : List ℕ). LeadsTo (get_or tasks k none) h last rest) (sym c.in_lane.ensures) started)) in
-                leads_same _ _ _ last rest task (subst (λ (h : List ℕ). LeadsTo new h last rest) (c.in_lane.ensures ∙ ap (λ (n : ℕ). at n state) (sym same)) ended)
+                (leads_same _ _ _ last rest (get_or_default tasks k _ none within) (subst (λ (h : List ℕ). EndsIn (get_or tasks k none) h last rest) (sym c.in_lane.ensures) started)) in
+                leads_same _ _ _ last rest task (subst (λ (h : List ℕ). EndsIn new h last rest) (c.in_lane.ensures ∙ ap (λ (n : ℕ). at n state) (sym same)) ended)
             | inr other ↦ leads_same _ _ _ last rest (get_or-set_other tasks k j new none other) before
           ];
       done = below_more (λ j. get_or (works (set tasks k new)) j 0 ≡ 0) _

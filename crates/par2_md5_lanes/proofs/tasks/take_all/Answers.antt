@@ -1,5 +1,5 @@
-use Rattle.par2_md5_lanes.proofs.Common.{◌≡◌, ◌≢◌, ◌<◌, ◌∙◌, ap, length, length-set, get_or, get_or-set_other, get_or-set_same, inl, inr, arith, cases_eq, cases_lt, get_or_default, Task}
-use Rattle.par2_md5_lanes.proofs.LaneLaws.{text_set_other, text_set_same}
+use Rattle.par2_md5_lanes.proofs.Common.{rules, ◌≡◌, ◌≢◌, ◌<◌, ◌∙◌, ap, length, length-set, get_or, get_or-set_other, get_or-set_same, inl, inr, arith, cases_eq, cases_lt, get_or_default, LaneTask}
+use Rattle.par2_md5_lanes.proofs.LaneLaws.{bytes_set_other, bytes_set_same}
 use Rattle.par2_md5_lanes.proofs.TaskLaws.{leads_alike, leads_same, less_more, shrink_same}
 use Rattle.par2_md5_lanes.proofs.tasks.take_all.Goals as goal
 
@@ -8,29 +8,29 @@ loop-k-preserved c =
     let k = c.loop-k.k in
     let held = c.loop-k.invariant in
     let tasks = c.loop-k.tasks in
-    let texts = c.loop-k.texts in
+    let buffers = c.loop-k.buffers in
     let new = c.take.new.self in
-    let text = c.take.result in
+    let bytes = c.take.result in
     let n = c.args.batch in
     let low : k < 16 = omega (arith, c.requires.few, c.loop-k-test.true) in
     let within : k < length tasks = omega (arith, held.tasks, low) in
-    let there : k < length texts = omega (arith, held.texts, low) in
-    let here = λ (none : Task). held.kept k none (omega arith) in
-    let its = text_set_same texts k text there in
+    let there : k < length buffers = omega (arith, held.buffers, low) in
+    let here = λ (none : LaneTask). held.kept k none (omega arith) in
+    let its = bytes_set_same buffers k bytes there in
     record {
       tasks = length-set tasks k new ∙ held.tasks;
-      texts = length-set texts k text ∙ held.texts;
+      buffers = length-set buffers k bytes ∙ held.buffers;
       room = λ j h.
           elim (cases_eq j k) [
             | inl same ↦ rw same (omega (arith, ap length its, c.take.ensures.room))
-            | inr other ↦ omega (arith, ap length (text_set_other texts k j text other (omega (arith, h, held.texts))), held.room j h)
+            | inr other ↦ omega (arith, ap length (bytes_set_other buffers k j bytes other (omega (arith, h, held.buffers))), held.room j h)
           ];
       leads = λ j none hash last rest h leads.
           elim (cases_lt j k) [
             | inl below ↦
                 let other : j ≢ k = omega (arith, below) in
                 leads_alike _ _ _ _ hash last rest n (get_or-set_other tasks k j new none other)
-                (text_set_other texts k j text other (omega (arith, below, there))) (held.leads j none hash last rest below leads)
+                (bytes_set_other buffers k j bytes other (omega (arith, below, there))) (held.leads j none hash last rest below leads)
             | inr above ↦
                 let same : j ≡ k = omega (arith, above, h) in
                 let started = rw same at leads in
@@ -38,7 +38,7 @@ loop-k-preserved c =
                 (c.take.ensures.leads hash last rest (leads_same _ _ _ last rest (get_or_default tasks k _ none within ∙ here none) started)))
           ];
       shrinks = λ j some h.
-          let turned = shrink_same (get_or tasks k) new (get_or c.args.tasks.now k new) (λ d. get_or_default tasks k d new within ∙ here new) _ (c.take.ensures.shrinks some) in
-          less_more tasks c.args.tasks.now new k j held.tasks c.told-tasks low turned (λ i below. held.shrinks i some below) h;
+          let next_state = shrink_same (get_or tasks k) new (get_or c.args.tasks.now k new) (λ d. get_or_default tasks k d new within ∙ here new) _ (c.take.ensures.shrinks some) in
+          less_more tasks c.args.tasks.now new k j held.tasks (let size : length c.args.tasks.now ≡ 16 = search rules in size) low next_state (λ i below. held.shrinks i some below) h;
       kept = λ j none h. let other : j ≢ k = omega arith in rw get_or-set_other (held.kept j none (omega arith));
     }

@@ -1,4 +1,4 @@
-use Rattle.par2_packets.proofs.Common.{◌≡◌, ◌<◌, ◌-◌, sym, ◌∙◌, arith, id_number, increasing}
+use Rattle.par2_packets.proofs.Common.{◌≡◌, ◌<◌, ◌-◌, sym, ◌∙◌, arith, record_id_number, increasing}
 use Rattle.par2_packets.proofs.Ids.{same_ids, rises_more, not_distinct}
 use Rattle.par2_packets.proofs.record.has_equal_neighbours.Goals as goal
 
@@ -14,8 +14,8 @@ returns-then-number_of-clause-some c equal =
 
 pub loop-i-preserved : goal.loop-i-preserved
 loop-i-preserved c =
-    rises_more id_number c.args.files.now c.loop-i.i c.index-files-i.result c.index-files-i-in-loop-i.result c.loop-i.auto.i c.loop-i-test.true c.requires c.loop-i.invariant
+    rises_more record_id_number c.args.files.now c.loop-i.i c.index-files-i.result c.index-files-i-in-loop-i.result c.loop-i.auto.i c.loop-i-test.true c.requires c.loop-i.invariant
     c.index-files-i.is c.index-files-i-in-loop-i.is (λ same. c.if-number_of.false (c.number_of.ensures.value ∙ same ∙ sym c.number_of-in-loop-i.ensures.value))
 
 pub returns-clause-none : goal.returns-clause-none
-returns-clause-none c differ = increasing id_number c.args.files.now (λ k d within. c.loop-i.invariant k d (omega (arith, within, c.loop-i-test.false)))
+returns-clause-none c differ = increasing record_id_number c.args.files.now (λ k d within. c.loop-i.invariant k d (omega (arith, within, c.loop-i-test.false)))

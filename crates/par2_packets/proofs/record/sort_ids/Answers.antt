@@ -1,9 +1,9 @@
-use Rattle.par2_packets.proofs.Common.{rules, w128, from_le_bytes, IsNonDecreasingBy-from_sort_by_key, id_number}
+use Rattle.par2_packets.proofs.Common.{rules, w128, from_le_bytes, IsNonDecreasingBy-from_sort_by_key, record_id_number}
 use Rattle.par2_packets.proofs.Ids.{distinct_keys, moved_distinct}
 use Rattle.par2_packets.proofs.record.sort_ids.Goals as goal
 
 pub has_equal_neighbours-requires : goal.has_equal_neighbours-requires
-has_equal_neighbours-requires c = IsNonDecreasingBy-from_sort_by_key id_number _ c.sort_unstable_by_key.ensures.sorted (λ a r q k. search rules)
+has_equal_neighbours-requires c = IsNonDecreasingBy-from_sort_by_key record_id_number _ c.sort_unstable_by_key.ensures.sorted (λ a r q k. search rules)
 
 pub returns-then-has_equal_neighbours-clause-distinct : goal.returns-then-has_equal_neighbours-clause-distinct
 returns-then-has_equal_neighbours-clause-distinct c = (

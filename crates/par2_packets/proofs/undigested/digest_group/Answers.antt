@@ -34,4 +34,4 @@ loop-k-preserved c =
     let is : d ≡ digest (first + k) =
     c.index.ensures ∙ get_or_default digests k d [] (omega (arith, count, low))
     ∙ ap (λ (xs : List (List ℕ)). get_or xs k []) c.in_ok-digests.ensures ∙ get_or-map-range_with_len digest first c.args.count k (first + k) [] low refl in
-    digested_next len first k all c.loop-k.packets c.overwrite.new.text d c.requires.head c.loop-k.invariant is c.overwrite.ensures
+    digested_next len first k all c.loop-k.packets c.overwrite.new.buffer d c.requires.head c.loop-k.invariant is c.overwrite.ensures

@@ -1,6 +1,6 @@
-use Rattle.par2_recovery.proofs.Common.{◌≡◌, ◌*◌, ◌∙◌, List, ℕ, rules, sym, ap, subst, arith, length, lists_of, ◌/◌, with_items_is, length-range_with_len, AreWholeTexts, texts_of}
-use Rattle.par2_transform.proofs.WholeTexts.{whole_within}
-use Rattle.par2_recovery.proofs.OwnTexts.{words_are, zeros_are, recovery_slices_are}
+use Rattle.par2_recovery.proofs.Common.{◌≡◌, ◌*◌, ◌∙◌, List, ℕ, rules, sym, ap, subst, arith, length, lists_of, ◌/◌, with_items_is, length-range_with_len, AreWholeBuffers, buffers_of}
+use Rattle.par2_transform.proofs.WholeBuffers.{whole_within}
+use Rattle.par2_recovery.proofs.OwnBytes.{words_are, zeros_are, recovery_slices_are}
 use Rattle.par2_recovery.proofs.slices.recovery_slices_over.Goals.{After-as_mut_slice}
 use Rattle.par2_recovery.proofs.slices.recovery_slices_over.Goals as goal
 
@@ -15,24 +15,24 @@ write_recovery_slices-requires-clause-count c =
 pub write_recovery_slices-requires-clause-room : goal.write_recovery_slices-requires-clause-room
 write_recovery_slices-requires-clause-room c =
     let at = (goal.at.write_recovery_slices-requires-clause-room c).After-as_mut_slice in
-    let old : List (List ℕ) = lists_of c.in_ok-texts.texts.items in
+    let old : List (List ℕ) = lists_of c.in_ok-buffers.buffers.items in
     let places = c.in_ok-places.places.items in
     rw (c.as_mut_slice.ensures.value, c.new-outputs.ensures.places, c.deref.ensures.value, c.new-outputs.ensures.words)
-    (whole_within (c.args.size / 2) places old (subst (λ n. AreWholeTexts n places) (sym c.in_ok-texts.ensures.count) c.in_ok-places.ensures)
-    (words_are c.args.size (c.args.size / 2) c.args.count places (halves at) c.in_ok-places.ensures old c.in_ok-texts.ensures))
+    (whole_within (c.args.size / 2) places old (subst (λ n. AreWholeBuffers n places) (sym c.in_ok-buffers.ensures.count) c.in_ok-places.ensures)
+    (words_are c.args.size (c.args.size / 2) c.args.count places (halves at) c.in_ok-places.ensures old c.in_ok-buffers.ensures))
 
 pub write_recovery_slices-requires-clause-zeros : goal.write_recovery_slices-requires-clause-zeros
 write_recovery_slices-requires-clause-zeros c =
     let at = (goal.at.write_recovery_slices-requires-clause-zeros c).After-as_mut_slice in
     rw (c.as_mut_slice.ensures.value, c.new-outputs.ensures.places, c.deref.ensures.value, c.new-outputs.ensures.words)
-    (zeros_are c.args.size (c.args.size / 2) c.args.count c.in_ok-places.places.items (halves at) c.in_ok-places.ensures (lists_of c.in_ok-texts.texts.items) c.in_ok-texts.ensures)
+    (zeros_are c.args.size (c.args.size / 2) c.args.count c.in_ok-places.places.items (halves at) c.in_ok-places.ensures (lists_of c.in_ok-buffers.buffers.items) c.in_ok-buffers.ensures)
 
 pub returns : goal.returns
 returns c =
     let at = (goal.at.returns c).After-as_mut_slice in
-    let new = c.write_recovery_slices.new.texts in
-    let size : length new ≡ c.in_ok-texts.texts.len = search rules in
-    rw (with_items_is c.in_ok-texts.texts new size)
-    (recovery_slices_are c.args.size (c.args.size / 2) c.args.count c.in_ok-places.places.items (halves at) c.in_ok-places.ensures (lists_of c.in_ok-texts.texts.items) c.in_ok-texts.ensures
-    c.args.first (texts_of c.args.slices.now) c.deref-2.result.now (lists_of new) (c.deref-2.ensures.value ∙ c.in_ok-exponents.ensures)
+    let new = c.write_recovery_slices.new.buffers in
+    let size : length new ≡ c.in_ok-buffers.buffers.len = search rules in
+    rw (with_items_is c.in_ok-buffers.buffers new size)
+    (recovery_slices_are c.args.size (c.args.size / 2) c.args.count c.in_ok-places.places.items (halves at) c.in_ok-places.ensures (lists_of c.in_ok-buffers.buffers.items) c.in_ok-buffers.ensures
+    c.args.first (buffers_of c.args.slices.now) c.deref-2.result.now (lists_of new) (c.deref-2.ensures.value ∙ c.in_ok-exponents.ensures)
     (rw (c.as_mut_slice.ensures.value, c.new-outputs.ensures.places, c.deref.ensures.value, c.new-outputs.ensures.words) at c.in_ok-write_recovery_slices.ensures))

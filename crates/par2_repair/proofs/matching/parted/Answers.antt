@@ -1,31 +1,31 @@
-use Rattle.par2_repair.proofs.Common.{◌≡◌, ◌∙◌, ◌+◌, ◌++◌, ◌∷◌, [], List, ℕ, Bool, Bor, true, false, not, cond, map, sym, ap, ap₂, subst, take, rules, append-nil, filter, filter-append, map-append, map_more, take_all, take_more, Target, is_needing, HoldsNames, holds_more}
+use Rattle.par2_repair.proofs.Common.{◌≡◌, ◌∙◌, ◌+◌, ◌++◌, ◌∷◌, [], List, ℕ, Bool, Bor, true, false, not, cond, map, sym, ap, ap₂, subst, take, rules, append-nil, filter, filter-append, map-append, map_more, take_all, take_more, Target, is_incomplete, HoldsNames, holds_more}
 use Rattle.par2_repair.proofs.matching.parted.Goals as goal
 
 pub loop-target-preserved : goal.loop-target-preserved
 loop-target-preserved c =
-    let test = is_needing c.args.folder.now.files c.args.set.now in
+    let test = is_incomplete c.args.folder.now.files c.args.set.now in
     let rest = λ (u : Target). not (test u) in
     let name = λ (u : Target). u.name in
     let now = λ (u : Bor Target). u.now in
     let i = c.loop-target.target-index in
     let t : Target = c.target-item.result in
     let before : List Target = take i c.targets-targets.result.now in
-    let is : c.is_needing-is_needing.result ≡ test t = c.is_needing-is_needing.ensures in
+    let is : c.is_incomplete-is_incomplete.result ≡ test t = c.is_incomplete-is_incomplete.ensures in
     let more : take (i + 1) c.targets-targets.result.now ≡ before ++ t ∷ [] = take_more c.targets-targets.result.now i t c.loop-target-test.true ∙ ap (λ u. before ++ u ∷ []) (sym c.target-item.is) in
-    let needing = λ (b : Bool). filter test before ++ cond b (t ∷ []) [] in
+    let incomplete = λ (b : Bool). filter test before ++ cond b (t ∷ []) [] in
     let intact = λ (b : Bool). map name (filter rest before ++ cond (not b) (t ∷ []) []) in
-    let both : (map now c.if-is_needing.needing.items ≡ needing (test t)) × HoldsNames c.if-is_needing.intact (intact (test t)) =
-    elim c.if-is_needing.branch as (λ _. (map now c.if-is_needing.needing.items ≡ needing (test t)) × HoldsNames c.if-is_needing.intact (intact (test t))) [
-      | goal.then-is_needing+in_ok-push-2 w ↦
-          let yes : test t ≡ true = sym is ∙ w.if-is_needing.true in
-          let new : c.if-is_needing.needing.items ≡ w.push-then-is_needing.new.self.items = search rules in (
-            ap (map now) (new ∙ w.in_ok-push-2.ensures.items) ∙ map-append now c.loop-target.needing.items _ ∙ ap (λ (us : List Target). us ++ t ∷ []) c.loop-target.invariant.needing ∙ ap needing (sym yes),
+    let both : (map now c.if-is_incomplete.incomplete.items ≡ incomplete (test t)) × HoldsNames c.if-is_incomplete.intact (intact (test t)) =
+    elim c.if-is_incomplete.branch as (λ _. (map now c.if-is_incomplete.incomplete.items ≡ incomplete (test t)) × HoldsNames c.if-is_incomplete.intact (intact (test t))) [
+      | goal.then-is_incomplete+in_ok-push-2 w ↦
+          let yes : test t ≡ true = sym is ∙ w.if-is_incomplete.true in
+          let new : c.if-is_incomplete.incomplete.items ≡ w.push-then-is_incomplete.new.self.items = search rules in (
+            ap (map now) (new ∙ w.in_ok-push-2.ensures.items) ∙ map-append now c.loop-target.incomplete.items _ ∙ ap (λ (us : List Target). us ++ t ∷ []) c.loop-target.invariant.incomplete ∙ ap incomplete (sym yes),
             subst (λ tree. HoldsNames tree (intact (test t))) (sym w.intact-is) (subst (HoldsNames c.loop-target.intact) (ap (map name) (sym (append-nil (filter rest before))) ∙ ap intact (sym yes)) c.loop-target.invariant.intact),
           )
-      | goal.else-is_needing+in_ok-insert w ↦
-          let no : test t ≡ false = sym is ∙ w.if-is_needing.false in
-          let same : c.if-is_needing.needing.items ≡ c.loop-target.needing.items = search rules in (
-            ap (map now) same ∙ c.loop-target.invariant.needing ∙ sym (append-nil (filter test before)) ∙ ap needing (sym no),
+      | goal.else-is_incomplete+in_ok-insert w ↦
+          let no : test t ≡ false = sym is ∙ w.if-is_incomplete.false in
+          let same : c.if-is_incomplete.incomplete.items ≡ c.loop-target.incomplete.items = search rules in (
+            ap (map now) same ∙ c.loop-target.invariant.incomplete ∙ sym (append-nil (filter test before)) ∙ ap incomplete (sym no),
             subst (λ tree. HoldsNames tree (intact (test t))) (sym w.intact-is)
                 (subst (HoldsNames w.insert.new.self) (ap (λ n. map name (filter rest before) ++ n ∷ []) w.name.ensures ∙ sym (map-append name (filter rest before) (t ∷ [])) ∙ ap intact (sym no))
                 (holds_more (λ (k : Bor (List ℕ)). k.now) _ _ w.name.result (map name (filter rest before)) w.in_ok-insert.ensures.updates.0 c.loop-target.invariant.intact)),
@@ -33,19 +33,19 @@ loop-target-preserved c =
     ] in
     record {
       needs = c.in_ok-push.ensures.items ∙ ap₂ (λ (bs : List Bool) b. bs ++ b ∷ []) c.loop-target.invariant.needs (is ∙ ap test c.target-item.is) ∙ sym (map_more test c.targets-targets.result.now i t c.loop-target-test.true);
-      needing = both.0 ∙ sym (filter-append test before (t ∷ [])) ∙ ap (filter test) (sym more);
-      intact = subst (HoldsNames c.if-is_needing.intact) (ap (map name) (sym (filter-append rest before (t ∷ [])) ∙ ap (filter rest) (sym more))) both.1;
+      incomplete = both.0 ∙ sym (filter-append test before (t ∷ [])) ∙ ap (filter test) (sym more);
+      intact = subst (HoldsNames c.if-is_incomplete.intact) (ap (map name) (sym (filter-append rest before (t ∷ [])) ∙ ap (filter rest) (sym more))) both.1;
     }
 
 pub returns-clause-needs : goal.returns-clause-needs
 returns-clause-needs c =
-    c.loop-target.invariant.needs ∙ ap (map (is_needing c.args.folder.now.files c.args.set.now)) (take_all c.loop-target.target-index c.targets-targets.result.now c.loop-target-test.false ∙ c.targets-targets.ensures.value)
+    c.loop-target.invariant.needs ∙ ap (map (is_incomplete c.args.folder.now.files c.args.set.now)) (take_all c.loop-target.target-index c.targets-targets.result.now c.loop-target-test.false ∙ c.targets-targets.ensures.value)
 
-pub returns-clause-needing : goal.returns-clause-needing
-returns-clause-needing c =
-    c.loop-target.invariant.needing ∙ ap (filter (is_needing c.args.folder.now.files c.args.set.now)) (take_all c.loop-target.target-index c.targets-targets.result.now c.loop-target-test.false ∙ c.targets-targets.ensures.value)
+pub returns-clause-incomplete : goal.returns-clause-incomplete
+returns-clause-incomplete c =
+    c.loop-target.invariant.incomplete ∙ ap (filter (is_incomplete c.args.folder.now.files c.args.set.now)) (take_all c.loop-target.target-index c.targets-targets.result.now c.loop-target-test.false ∙ c.targets-targets.ensures.value)
 
 pub returns-clause-intact : goal.returns-clause-intact
 returns-clause-intact c =
-    subst (λ (ts : List Target). HoldsNames c.loop-target.intact (map (λ u. u.name) (filter (λ u. not (is_needing c.args.folder.now.files c.args.set.now u)) ts)))
+    subst (λ (ts : List Target). HoldsNames c.loop-target.intact (map (λ u. u.name) (filter (λ u. not (is_incomplete c.args.folder.now.files c.args.set.now u)) ts)))
     (take_all c.loop-target.target-index c.targets-targets.result.now c.loop-target-test.false ∙ c.targets-targets.ensures.value) c.loop-target.invariant.intact

@@ -1,4 +1,4 @@
-use Rattle.par2_repair.proofs.Common.{◌≡◌, ◌∙◌, sym, subst, ap₂, List, [], ◌∷◌, ℕ, Bor, map, ap, refl, rules, bytes_of, matched_numbers, Describe, texts_of, zip, Option, slice_get, IfOk-weaker, Target, option_and_then, YieldsList-from_map, YieldsList-from_slice, YieldsList-from_zip, items_from_collect, YieldsList-at}
+use Rattle.par2_repair.proofs.Common.{◌≡◌, ◌∙◌, sym, subst, ap₂, List, [], ◌∷◌, ℕ, Bor, map, ap, refl, rules, bytes_of, matched_numbers, Describe, buffers_of, zip, Option, slice_get, IfOk-weaker, Target, option_and_then, YieldsList-from_map, YieldsList-from_slice, YieldsList-from_zip, items_from_collect, YieldsList-at}
 use Rattle.par2_repair.proofs.matching.with_matches.Goals as goal
 
 abbrev with_name : List (List ℕ) → Bor Target × Option ℕ → Target × Option (List ℕ)
@@ -13,9 +13,9 @@ pub returns : goal.returns
 returns c =
     let ts : List Target = map (λ (t : Bor Target). t.now) c.args.targets.now in
     let numbers : List (Option ℕ) = c.in_ok-numbers.numbers.items in
-    let told : Describe c.deref-2.result.now ts = subst (λ xs. Describe xs ts) (sym c.deref-2.ensures.value) c.in_ok-described.ensures in
-    let texts : texts_of c.deref.result.now ≡ map (bytes_of c.args.folder.now.files) c.args.names.now = ap texts_of c.deref.ensures.value ∙ c.in_ok-texts.ensures in
-    IfOk-weaker c.collect.result _ _ (λ list e. e ∙ zipped c.args.names.now c.args.targets.now numbers ∙ ap (λ (is : List (Option ℕ)). zip ts (map (option_and_then (slice_get c.args.names.now)) is)) (c.in_ok-numbers.ensures ts told ∙ ap₂ (λ s (xs : List (List ℕ)). matched_numbers s xs ts) c.slice_size.ensures.value texts))
+    let reported : Describe c.deref-2.result.now ts = subst (λ xs. Describe xs ts) (sym c.deref-2.ensures.value) c.in_ok-described.ensures in
+    let buffers : buffers_of c.deref.result.now ≡ map (bytes_of c.args.folder.now.files) c.args.names.now = ap buffers_of c.deref.ensures.value ∙ c.in_ok-buffers.ensures in
+    IfOk-weaker c.collect.result _ _ (λ list e. e ∙ zipped c.args.names.now c.args.targets.now numbers ∙ ap (λ (is : List (Option ℕ)). zip ts (map (option_and_then (slice_get c.args.names.now)) is)) (c.in_ok-numbers.ensures ts reported ∙ ap₂ (λ s (xs : List (List ℕ)). matched_numbers s xs ts) c.slice_size.ensures.value buffers))
     (items_from_collect _ c.collect.ensures.ran
     (YieldsList-from_map _ (with_name c.args.names.now)
     (YieldsList-at c.map.ensures.source (YieldsList-from_zip (YieldsList-from_slice c.args.targets.now cc) (YieldsList-from_slice numbers cc)))

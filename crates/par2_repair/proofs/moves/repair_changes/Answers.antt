@@ -9,6 +9,6 @@ returns c = λ folder set searched are files.
     c.in_ok-push_writes.ensures
     ∙ ap (λ (cs : List Change). cs ++ writes c.args.restored.items)
     (c.in_ok-push_matches.ensures (aside folder set) (put_aside folder set) are.asides
-    ∙ ap (λ (cs : List Change). cs ++ matches_taken (now_at folder set) moves.needing.now)
+    ∙ ap (λ (cs : List Change). cs ++ matches_taken (now_at folder set) moves.incomplete.now)
     (c.in_ok-push_asides.ensures (aside folder set) (put_aside folder set) are.asides ∙ ap (λ (cs : List Change). cs ++ moved) c.new-changes.ensures))
-    ∙ changes_are folder set searched _ _ _ are.needing (c.deref.ensures.value ∙ are.names) files
+    ∙ changes_are folder set searched _ _ _ are.incomplete (c.deref.ensures.value ∙ are.names) files

@@ -12,7 +12,7 @@ unmatched_are ((t, Some name) ∷ ms) = unmatched_are ms
 
 pub returns : goal.returns
 returns c =
-    let ms : List (Target × Option (List ℕ)) = c.args.needing.now in
+    let ms : List (Target × Option (List ℕ)) = c.args.incomplete.now in
     IfOk-weaker c.collect.result _ _ (λ tree is. holds (names_without_match ms) tree (subst (λ names. IsFromIterResult (slice_cmp nat_cmp) names tree) (unmatched_are ms) is))
     (fact_from_collect (IsFromIterResult (slice_cmp nat_cmp)) c.collect.result c.collect.ensures.ran
     (YieldsList-from_filter_map _ unmatched (YieldsList-from_slice ms cc) c.filter_map.ensures.closure (λ x r q k. search rules)))

@@ -1,21 +1,21 @@
-use Rattle.par2_repair.proofs.Common.{◌≡◌, ◌∙◌, ◌++◌, ◌∷◌, [], List, ℕ, length, map, not, sym, ap, ap₂, inr, rules, tests, ◌==◌, map_more, take_all, filter, list_any, fault_where, Change, Remove, is_needing, NotComplete, YieldsList-from_slice}
+use Rattle.par2_repair.proofs.Common.{◌≡◌, ◌∙◌, ◌++◌, ◌∷◌, [], List, ℕ, length, map, not, sym, ap, ap₂, inr, rules, tests, ◌==◌, map_more, take_all, filter, list_any, fault_where, Change, Remove, is_incomplete, NotComplete, YieldsList-from_slice}
 use Rattle.std.proofs.lemmas.Iterator.Search.{any_from_yields_List}
-use Rattle.par2_repair.proofs.RepairParts.{any_needing}
+use Rattle.par2_repair.proofs.RepairParts.{any_incomplete}
 use Rattle.par2_repair.proofs.purge.purge_of.Goals.{After-any}
 use Rattle.par2_repair.proofs.purge.purge_of.Goals as goal
 
-one_needing : (c : After-any) → not (length (filter (is_needing c.args.folder.now.files c.args.set.now) c.args.set.now.targets) == 0) ≡ c.any.result
-one_needing c =
-    let test = is_needing c.args.folder.now.files c.args.set.now in
+one_incomplete : (c : After-any) → not (length (filter (is_incomplete c.args.folder.now.files c.args.set.now) c.args.set.now.targets) == 0) ≡ c.any.result
+one_incomplete c =
+    let test = is_incomplete c.args.folder.now.files c.args.set.now in
     let any : c.any.result ≡ list_any test c.args.set.now.targets =
     any_from_yields_List test _ _ c.any.result c.any.ensures.ran (YieldsList-from_slice c.args.set.now.targets cc) (λ x b q k. search (rules, tests)) in
-    any_needing test c.args.set.now.targets ∙ sym any
+    any_incomplete test c.args.set.now.targets ∙ sym any
 
 pub returns-then-any-clause-refused : goal.returns-then-any-clause-refused
-returns-then-any-clause-refused c = inr (ap (λ b. fault_where b NotComplete) (one_needing (goal.at.returns-then-any-clause-refused c).After-any ∙ c.if-any.true))
+returns-then-any-clause-refused c = inr (ap (λ b. fault_where b NotComplete) (one_incomplete (goal.at.returns-then-any-clause-refused c).After-any ∙ c.if-any.true))
 
 pub returns-clause-accepted : goal.returns-clause-accepted
-returns-clause-accepted c = ap (λ b. fault_where b NotComplete) (one_needing (goal.at.returns-clause-accepted c).After-any ∙ c.if-any.false)
+returns-clause-accepted c = ap (λ b. fault_where b NotComplete) (one_incomplete (goal.at.returns-clause-accepted c).After-any ∙ c.if-any.false)
 
 pub loop-name-preserved : goal.loop-name-preserved
 loop-name-preserved c =

@@ -1,7 +1,7 @@
 use Rattle.par2_repair.proofs.Common.{◌≡◌, ◌∙◌, ◌∷◌, [], ℕ, List, Bool, map, refl, ap, cond, rules, tests, string_bytes, Global, true, false, filter, filter_map, is_some, IfSome, Option, String, Some, cons_option, Folder, has, IfOk-weaker, YieldsList-from_slice, items_from_collect, YieldsList-from_filter_map, None}
 use Rattle.par2_repair.proofs.reading.present_extras.Goals as goal
 
--- the name of a file, where the word is one
+-- the name of a file, if the word is one
 abbrev named : Folder → String Global → Option (List ℕ)
 named folder word = cond (has folder (string_bytes word)) (Some (string_bytes word)) None
 

@@ -1,16 +1,16 @@
 use Rattle.par2_repair.proofs.Common.{◌≡◌, ◌⊎◌, ◌+◌, ◌∙◌, refl, sym, ap, inl, inr, map, string_bytes, true, false, not, Err, rules, ok_or, position, Result, err_from_is_err_and, Fault, NoSuchFile, Memory, has, ParSet, set_of, absent_file, set_in, err_again, answered_so, never_found, Some, None}
-use Rattle.par2_sets.specs.Steps.{Gives}
+use Rattle.par2_sets.specs.Steps.{Returns}
 use Rattle.par2_spec.proofs.Places.{position-map}
 use Rattle.par2_repair.proofs.Present.{base_first, extra_first, none_absent, extra_refused, base_absent, all_present, all_there}
 use Rattle.par2_repair.proofs.reading.read.Goals.{In_err-base, After-first_absent, In-Some, After-present_extras, After-set_of}
 use Rattle.par2_repair.specs.declared.reading.Reading.{Reading}
 use Rattle.par2_repair.proofs.reading.read.Goals as goal
 
--- a set that was read, or the fault of that
+-- the set that was read, or its fault
 abbrev Answers : Result ParSet Fault → Result Reading Fault → Type 0
-Answers set r = Gives (λ (reading : Reading). reading.set) r set
+Answers set r = Returns (λ (reading : Reading). reading.set) r set
 
--- the base is absent, and that is the fault
+-- the base is absent, which is the fault
 gone : (c : In_err-base) → (has c.args.folder.now.files c.args.base.now ≡ false) × (c.in_err-base.field-0.0 ≡ NoSuchFile 0)
 gone c =
     let fault : ◌≡◌ {A = Fault} c.in_err-base.field-0.0 (NoSuchFile 0) = cc (c.in_err-base.ensures.value, ap (λ o. ok_or o (NoSuchFile 0)) c.in_err-base.ensures.ok_part) in
@@ -23,11 +23,11 @@ there c = sym c.present.ensures.variant ∙ sym c.in_ok-base.ensures.variant
 first : (c : In-Some) → position (λ word. not (has c.args.folder.now.files word)) (map string_bytes c.args.extras.now) ≡ Some c.in-Some.place
 first c = position-map (λ word. not (has c.args.folder.now.files word)) string_bytes c.args.extras.now ∙ sym c.first_absent.ensures.place ∙ c.in-Some.is
 
--- no further word is absent
+-- no extra is absent
 here : (c : After-present_extras) → position (λ word. not (has c.args.folder.now.files word)) (map string_bytes c.args.extras.now) ≡ None
 here c = position-map (λ word. not (has c.args.folder.now.files word)) string_bytes c.args.extras.now ∙ sym c.first_absent.ensures.place ∙ c.in_default.is
 
--- nothing is absent, where the base is there
+-- nothing is absent if the base is there
 none : (c : After-present_extras) → has c.args.folder.now.files c.args.base.now ≡ true → absent_file c.args.folder.now.files c.args.base.now (map string_bytes c.args.extras.now) ≡ None
 none c there = none_absent c.args.folder.now.files c.args.base.now (map string_bytes c.args.extras.now) there (here c)
 

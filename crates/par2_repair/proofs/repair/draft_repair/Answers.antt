@@ -13,7 +13,7 @@ returns-in_err-reading-clause-early c fault early =
     err_passed c.from_residual.result c.in_err-reading.field-0.0 fault (err_from_is_err_and c.from_residual.result c.from_residual.ensures.1)
     (sym c.in_err-reading.was ∙ c.read.ensures.early fault (sym (early_repair folder base extras c.args.purge) ∙ early))
 
--- what was read is refused by nothing that is refused first
+-- after reading, no early refusal is left
 none_early : (c : In_ok-reading) (fault : Fault) → early_refusal c.args.folder.now.files (Repair c.args.base.now (map string_bytes c.args.extras.now) c.args.purge) ≡ Some fault → ⊥
 none_early c fault early =
     ok_no_err c.in_ok-reading.reading fault
@@ -41,9 +41,9 @@ returns-in_err-reading-clause-refused c =
 pub matches-requires : goal.matches-requires
 matches-requires c = subst (IsDistinct bytes_eq) (sym (c.deref-2.ensures.value ∙ c.in_ok-candidates.ensures)) (std_from_distinct _ (distinct_once _))
 
-pub draft_with-requires-clause-needing : goal.draft_with-requires-clause-needing
-draft_with-requires-clause-needing c =
-    c.deref-4.ensures.value ∙ c.in_ok-targets.ensures.needing ∙ ap (matches c.args.folder.now.files c.in_ok-reading.reading.set) (c.deref-2.ensures.value ∙ sym c.deref-3.ensures.value)
+pub draft_with-requires-clause-incomplete : goal.draft_with-requires-clause-incomplete
+draft_with-requires-clause-incomplete c =
+    c.deref-4.ensures.value ∙ c.in_ok-targets.ensures.incomplete ∙ ap (matches c.args.folder.now.files c.in_ok-reading.reading.set) (c.deref-2.ensures.value ∙ sym c.deref-3.ensures.value)
 
 pub draft_with-requires-clause-whole : goal.draft_with-requires-clause-whole
 draft_with-requires-clause-whole c =

@@ -1,10 +1,10 @@
 use Rattle.par2_repair.proofs.Common.{map, string_bytes, effects}
-use Rattle.par2_laws.specs.Answers.{AnswersRepair, leaving}
+use Rattle.par2_laws.specs.Answers.{AnswersRepair, folder_left}
 use Rattle.par2_laws.proofs.RepairAnswers.{answers}
 use Rattle.par2_repair.proofs.repair.plan_repair.Goals as goal
 
--- the changes lead as the definitions say, or the refusal is theirs
-as_defined : (c : goal.After-tested_changes) → AnswersRepair c.args.folder.now.files c.args.base.now (map string_bytes c.args.extras.now) c.args.purge (leaving (effects c.args.folder.now.files) c.tested_changes.result)
+-- the changes lead to the folder of the definitions, or the refusal is theirs
+as_defined : (c : goal.After-tested_changes) → AnswersRepair c.args.folder.now.files c.args.base.now (map string_bytes c.args.extras.now) c.args.purge (folder_left (effects c.args.folder.now.files) c.tested_changes.result)
 as_defined c =
     let planned = c.tested_changes.ensures in
     answers c.args.folder.now.files c.args.base.now (map string_bytes c.args.extras.now) c.args.purge (effects c.args.folder.now.files) c.tested_changes.result planned.accepted planned.leads planned.refused

@@ -1,5 +1,5 @@
 use Rattle.par2_repair.proofs.Common.{◌≡◌, ◌∙◌, List, ℕ, Ok, Err, map, string_bytes, sym, ap, subst, err_from_is_err_and, set_in, report_in, ok_no_err, verdict_by_words, refused_as_reported, refused_by, err_passed}
-use Rattle.par2_repair.specs.Views.{report_of}
+use Rattle.par2_repair.specs.Views.{report_view}
 use Rattle.par2_repair.proofs.PlanParts.{early_verify}
 use Rattle.par2_repair.proofs.ReportValues.{refused_in}
 use Rattle.par2_repair.proofs.verify.check.Goals.{After-report_of}
@@ -48,8 +48,8 @@ returns-clause-report c =
 
 pub returns-clause-verdict : goal.returns-clause-verdict
 returns-clause-verdict c =
-    verdict_by_words c.args.folder.now.files c.args.base.now (map string_bytes c.args.extras.now) (report_of c.in_ok-report_of.field-0) (returns-clause-report c)
+    verdict_by_words c.args.folder.now.files c.args.base.now (map string_bytes c.args.extras.now) (report_view c.in_ok-report_of.field-0) (returns-clause-report c)
 
 pub returns-clause-repair : goal.returns-clause-repair
 returns-clause-repair c =
-    refused_as_reported c.args.folder.now.files c.args.base.now (map string_bytes c.args.extras.now) (report_of c.in_ok-report_of.field-0) (returns-clause-report c)
+    refused_as_reported c.args.folder.now.files c.args.base.now (map string_bytes c.args.extras.now) (report_view c.in_ok-report_of.field-0) (returns-clause-report c)

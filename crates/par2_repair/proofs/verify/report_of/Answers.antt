@@ -7,7 +7,7 @@ use Rattle.par2_repair.proofs.verify.report_of.Goals as goal
 pub findings_of-requires : goal.findings_of-requires
 findings_of-requires c = subst (IsDistinct bytes_eq) (sym (c.deref.ensures.value ∙ c.in_ok-candidates.ensures)) (std_from_distinct _ (distinct_once _))
 
--- what is found, by the names of the definitions
+-- the findings are for the names of the definitions
 are_findings : (c : In_ok-findings) → AreFindings c.args.folder.now.files c.args.set.now (candidates c.args.folder.now.files c.args.set.now c.args.extras.now) c.in_ok-findings.findings
 are_findings c =
     subst (λ (ns : List (List ℕ)). AreFindings c.args.folder.now.files c.args.set.now ns c.in_ok-findings.findings) (c.deref.ensures.value ∙ c.in_ok-candidates.ensures) c.in_ok-findings.ensures

@@ -1,12 +1,12 @@
-use Rattle.par2_sets.proofs.Common.{ℕ, ◌≡◌, ◌≤◌, ◌∙◌, true, sym, map, arith, rules, Ok, Some, is_slice_size, main_of, packet_of, set_view, set_in, size_parts}
+use Rattle.par2_sets.proofs.Common.{ℕ, ◌≡◌, ◌≤◌, ◌∙◌, true, sym, map, arith, rules, Ok, Some, is_slice_size, main_of, packet_view, set_view, set_from_packets, size_parts}
 use Rattle.par2_sets.proofs.Reading.{all_read}
 use Rattle.par2_sets.proofs.set.set_in.Goals.{In_ok-recovery}
 use Rattle.par2_sets.proofs.set.set_in.Goals as goal
 
-read : (c : In_ok-recovery) → set_in c.args.id (map packet_of c.args.packets.now)
+read : (c : In_ok-recovery) → set_from_packets c.args.id (map packet_view c.args.packets.now)
     ≡ Ok (set_view c.args.id c.slice_size-slice_size.result c.in_ok-targets.targets.items c.in_ok-recovery.recovery.items)
 read c =
-    let packets = map packet_of c.args.packets.now in
+    let packets = map packet_view c.args.packets.now in
     let main = c.in-Some.main in
     let has : main_of c.args.id packets ≡ Some main = sym c.main_of.ensures ∙ c.in-Some.is in
     all_read c.args.id packets main c.slice_size-slice_size.result _ c.in_ok-targets.targets.items c.in_ok-recovery.recovery.items has c.slice_size-slice_size.ensures (search rules) c.in_ok-described.ensures (search rules) (search rules) c.in_ok-recovery.ensures.value

@@ -1,11 +1,11 @@
-use Rattle.par2_sets.proofs.Common.{◌≡◌, ◌∙◌, ◌⊎◌, ◌++◌, ◌∷◌, [], map, inl, inr, sym, ap, rules, Some, Err, arith, Memory, NoChecksums, target_of, all_some, packet_of, targets_or_fault, was_some, ok_or, take_all}
+use Rattle.par2_sets.proofs.Common.{◌≡◌, ◌∙◌, ◌⊎◌, ◌++◌, ◌∷◌, [], map, inl, inr, sym, ap, rules, Some, Err, arith, Memory, NoChecksums, target_of, all_some, packet_view, targets_or_fault, was_some, ok_or, take_all}
 use Rattle.par2_sets.proofs.Lists.{all_some_more}
 use Rattle.par2_sets.proofs.Refusals.{passed_on, one_missing}
 use Rattle.par2_sets.proofs.targets.targets_of.Goals as goal
 
 pub returns-in_err-target_of : goal.returns-in_err-target_of
 returns-in_err-target_of c =
-    let packets = map packet_of c.args.packets.now in
+    let packets = map packet_view c.args.packets.now in
     let ds = c.args.descriptions.now in
     let fault = c.in_err-target_of.field-0.0 in
     passed_on _ _ _ fault c.from_residual-in_err-target_of.ensures.1 (
@@ -16,7 +16,7 @@ returns-in_err-target_of c =
 
 pub loop-description-preserved : goal.loop-description-preserved
 loop-description-preserved c =
-    let packets = map packet_of c.args.packets.now in
+    let packets = map packet_view c.args.packets.now in
     let ds = c.args.descriptions.now in
     let d = c.description-item.result in
     let target = c.in_ok-target_of.field-0 in
@@ -30,6 +30,6 @@ target_of-requires-clause-size c = c.requires.size
 
 pub returns : goal.returns
 returns c =
-    let made = target_of (map packet_of c.args.packets.now) c.args.s in
+    let made = target_of (map packet_view c.args.packets.now) c.args.s in
     let ds = c.args.descriptions.now in
     ap (λ o. ok_or o NoChecksums) (ap (λ xs. all_some (map made xs)) (sym (take_all c.loop-description.description-index ds (omega (arith, c.loop-description-test.false)))) ∙ c.loop-description.invariant)

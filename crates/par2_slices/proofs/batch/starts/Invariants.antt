@@ -4,6 +4,6 @@ use Rattle.par2_slices.proofs.batch.starts.Given as goal
 abbrev pub invariant-loop-k : goal.invariant-loop-k
 invariant-loop-k l = record {
   count : length l.starts ≡ 16;
-  own : (j : ℕ) → j < l.k → slice_index l.starts j ≡ (candidate_at l.batch j).spot.offset;
-  left : (j : ℕ) → j < 16 → l.k ≤ j → slice_index l.starts j ≡ (candidate_at l.batch 0).spot.offset;
+  own : (j : ℕ) → j < l.k → slice_index l.starts j ≡ (candidate_at l.batch j).position.offset;
+  left : (j : ℕ) → j < 16 → l.k ≤ j → slice_index l.starts j ≡ (candidate_at l.batch 0).position.offset;
 }

@@ -1,29 +1,29 @@
-use Rattle.par2_slices.proofs.Common.{◌≡◌, ◌∙◌, ℕ, ◌<◌, Bool, List, [], length, get_or, sym, ap, Bor, at_drop_all, get_or-map, is_intact, first_intact, text_at, texts_of}
+use Rattle.par2_slices.proofs.Common.{◌≡◌, ◌∙◌, ℕ, ◌<◌, Bool, List, [], length, get_or, sym, ap, Bor, at_drop_all, get_or-map, is_intact, first_intact, listed_at, buffers_of}
 use Rattle.par2_spec.specs.Sets as sets
 use Rattle.par2_slices.proofs.Matches.{first_here, first_later}
 use Rattle.par2_slices.proofs.matching.first_intact.Goals as goal
 
--- what is known of a text is known of it by its number
-at_number : (s : ℕ) (texts : List (Bor (List ℕ))) (t : sets.Target) (i : ℕ) (d : Bor (List ℕ)) (result : Bool) → i < length texts → result ≡ is_intact s t (get_or texts i d).now → is_intact s t (text_at (texts_of texts) i) ≡ result
-at_number s texts t i d result within is = ap (is_intact s t) (get_or-map (λ (text : Bor (List ℕ)). text.now) texts i d [] within) ∙ sym is
+-- what is known of a buffer is known of it by its number
+at_number : (s : ℕ) (buffers : List (Bor (List ℕ))) (t : sets.Target) (i : ℕ) (d : Bor (List ℕ)) (result : Bool) → i < length buffers → result ≡ is_intact s t (get_or buffers i d).now → is_intact s t (listed_at (buffers_of buffers) i) ≡ result
+at_number s buffers t i d result within is = ap (is_intact s t) (get_or-map (λ (bytes : Bor (List ℕ)). bytes.now) buffers i d [] within) ∙ sym is
 
 pub returns-then-is_intact_by : goal.returns-then-is_intact_by
 returns-then-is_intact_by c t h =
     let n : ℕ = c.loop-i.i-index in
     let i : ℕ = get_or c.args.free.now n 0 in
-    let within : i < length c.args.texts.now = c.requires.free n 0 c.loop-i-test.true in
-    sym (first_here c.args.s (texts_of c.args.texts.now) t c.args.free.now n c.loop-i-test.true (at_number c.args.s c.args.texts.now t i _ c.is_intact_by.result within (c.is_intact_by.ensures t h) ∙ c.if-is_intact_by.true))
+    let within : i < length c.args.buffers.now = c.requires.free n 0 c.loop-i-test.true in
+    sym (first_here c.args.s (buffers_of c.args.buffers.now) t c.args.free.now n c.loop-i-test.true (at_number c.args.s c.args.buffers.now t i _ c.is_intact_by.result within (c.is_intact_by.ensures t h) ∙ c.if-is_intact_by.true))
     ∙ c.loop-i.invariant t h
 
 pub loop-i-preserved : goal.loop-i-preserved
 loop-i-preserved c t h =
     let n : ℕ = c.loop-i.i-index in
     let i : ℕ = get_or c.args.free.now n 0 in
-    let within : i < length c.args.texts.now = c.requires.free n 0 c.loop-i-test.true in
-    first_later c.args.s (texts_of c.args.texts.now) t c.args.free.now n c.loop-i-test.true (at_number c.args.s c.args.texts.now t i _ c.is_intact_by.result within (c.is_intact_by.ensures t h) ∙ c.if-is_intact_by.false)
+    let within : i < length c.args.buffers.now = c.requires.free n 0 c.loop-i-test.true in
+    first_later c.args.s (buffers_of c.args.buffers.now) t c.args.free.now n c.loop-i-test.true (at_number c.args.s c.args.buffers.now t i _ c.is_intact_by.result within (c.is_intact_by.ensures t h) ∙ c.if-is_intact_by.false)
     ∙ c.loop-i.invariant t h
 
 pub returns : goal.returns
 returns c t h =
-    sym (at_drop_all (first_intact c.args.s (texts_of c.args.texts.now) t) c.args.free.now c.loop-i.i-index c.loop-i-test.false)
+    sym (at_drop_all (first_intact c.args.s (buffers_of c.args.buffers.now) t) c.args.free.now c.loop-i.i-index c.loop-i-test.false)
     ∙ c.loop-i.invariant t h

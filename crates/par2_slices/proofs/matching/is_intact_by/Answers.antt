@@ -5,11 +5,11 @@ use Rattle.par2_slices.proofs.matching.is_intact_by.Goals as goal
 pub returns-then-target-crc : goal.returns-then-target-crc
 returns-then-target-crc c t h =
     let s = c.args.s in
-    let text = c.args.text.now in
+    let bytes = c.args.bytes.now in
     let pairs : List Pair = c.args.target.now.pairs.now in
-    let first : IsFirst s text c.in-Some.crc = subst (λ f. IfSome f (IsFirst s text)) c.in-Some.is c.requires.first in
+    let first : IsFirst s bytes c.in-Some.crc = subst (λ f. IfSome f (IsFirst s bytes)) c.in-Some.is c.requires.first in
     let some : 0 < length pairs = search rules in
-    sym (not_intact_by_first s t text c.requires.size first.some (subst (λ ps. 0 < length ps) (sym h.pairs) some)
+    sym (not_intact_by_first s t bytes c.requires.size first.some (subst (λ ps. 0 < length ps) (sym h.pairs) some)
     (λ same.
     let e : (pair_at pairs 0).1 ≡ c.in-Some.crc = ap (λ (ps : List Pair). (pair_at ps 0).1) (sym h.pairs) ∙ sym same ∙ sym first.crc in
     c.if-target-crc.true e))

@@ -1,30 +1,30 @@
-use Rattle.par2_slices.proofs.Common.{◌∙◌, ℕ, ◌+◌, ◌++◌, List, length, drop, sym, ap, subst, arith, Bor, range_with_len, append-nil, at_drop_all, length-map, matched_from, texts_of}
+use Rattle.par2_slices.proofs.Common.{◌∙◌, ℕ, ◌+◌, ◌++◌, List, length, drop, sym, ap, subst, arith, Bor, range_with_len, append-nil, at_drop_all, length-map, matched_from, buffers_of}
 use Rattle.par2_slices.proofs.Matches.{AreBelow, below_length, described_all, match_pushed}
 use Rattle.par2_slices.proofs.matching.matched.Goals as goal
 
 pub loop-target-init : goal.loop-target-init
 loop-target-init c =
-    let texts : List (List ℕ) = texts_of c.args.texts.now in
+    let buffers : List (List ℕ) = buffers_of c.args.buffers.now in
     record {
-      free = subst (λ (free : List ℕ). AreBelow (length c.args.texts.now) free) (sym c.in_ok-free.ensures) (below_length (length c.args.texts.now));
-      numbers = λ ts h. ap (λ numbers. numbers ++ matched_from c.args.s texts c.in_ok-free.free.items ts) c.in_ok-numbers.ensures.items
-          ∙ ap (λ free. matched_from c.args.s texts free ts) (c.in_ok-free.ensures ∙ ap (range_with_len 0) (sym (length-map c.args.texts.now (λ (text : Bor (List ℕ)). text.now))));
+      free = subst (λ (free : List ℕ). AreBelow (length c.args.buffers.now) free) (sym c.in_ok-free.ensures) (below_length (length c.args.buffers.now));
+      numbers = λ ts h. ap (λ numbers. numbers ++ matched_from c.args.s buffers c.in_ok-free.free.items ts) c.in_ok-numbers.ensures.items
+          ∙ ap (λ free. matched_from c.args.s buffers free ts) (c.in_ok-free.ensures ∙ ap (range_with_len 0) (sym (length-map c.args.buffers.now (λ (bytes : Bor (List ℕ)). bytes.now))));
     }
 
 pub loop-target-preserved : goal.loop-target-preserved
 loop-target-preserved c =
-    let texts : List (List ℕ) = texts_of c.args.texts.now in
+    let buffers : List (List ℕ) = buffers_of c.args.buffers.now in
     let n : ℕ = c.loop-target.target-index in
     record {
       free = c.take_first.ensures.free;
-      numbers = λ ts h. ap (λ numbers. numbers ++ matched_from c.args.s texts c.take_first.new.free.items (drop (n + 1) ts)) c.in_ok-push.ensures.items
-          ∙ match_pushed c.args.s texts c.args.targets.now ts n _ c.loop-target.numbers.items c.take_first.result c.loop-target.free.items c.take_first.new.free.items
+      numbers = λ ts h. ap (λ numbers. numbers ++ matched_from c.args.s buffers c.take_first.new.free.items (drop (n + 1) ts)) c.in_ok-push.ensures.items
+          ∙ match_pushed c.args.s buffers c.args.targets.now ts n _ c.loop-target.numbers.items c.take_first.result c.loop-target.free.items c.take_first.new.free.items
           c.loop-target-test.true h c.take_first.ensures.first c.take_first.ensures.left (c.loop-target.invariant.numbers ts h);
     }
 
 pub returns : goal.returns
 returns c ts h =
-    let texts : List (List ℕ) = texts_of c.args.texts.now in
+    let buffers : List (List ℕ) = buffers_of c.args.buffers.now in
     sym (append-nil c.loop-target.numbers.items)
-    ∙ sym (at_drop_all (λ us. c.loop-target.numbers.items ++ matched_from c.args.s texts c.loop-target.free.items us) ts c.loop-target.target-index (omega (arith, described_all c.args.targets.now ts h, c.loop-target-test.false)))
+    ∙ sym (at_drop_all (λ us. c.loop-target.numbers.items ++ matched_from c.args.s buffers c.loop-target.free.items us) ts c.loop-target.target-index (omega (arith, described_all c.args.targets.now ts h, c.loop-target-test.false)))
     ∙ c.loop-target.invariant.numbers ts h

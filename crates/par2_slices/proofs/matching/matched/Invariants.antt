@@ -1,9 +1,9 @@
-use Rattle.par2_slices.proofs.Common.{◌≡◌, ◌++◌, ◌<◌, List, length, drop, All, Describe, matched_from, matched_numbers, texts_of}
+use Rattle.par2_slices.proofs.Common.{◌≡◌, ◌++◌, ◌<◌, List, length, drop, All, Describe, matched_from, matched_numbers, buffers_of}
 use Rattle.par2_spec.specs.Sets as sets
 use Rattle.par2_slices.proofs.matching.matched.Given as goal
 
 abbrev pub invariant-loop-target : goal.invariant-loop-target
 invariant-loop-target l = record {
-  free : All (λ i. i < length l.texts) l.free.items;
-  numbers : (ts : List sets.Target) → Describe l.targets ts → l.numbers.items ++ matched_from l.s (texts_of l.texts) l.free.items (drop l.target-index ts) ≡ matched_numbers l.s (texts_of l.texts) ts;
+  free : All (λ i. i < length l.buffers) l.free.items;
+  numbers : (ts : List sets.Target) → Describe l.targets ts → l.numbers.items ++ matched_from l.s (buffers_of l.buffers) l.free.items (drop l.target-index ts) ≡ matched_numbers l.s (buffers_of l.buffers) ts;
 }

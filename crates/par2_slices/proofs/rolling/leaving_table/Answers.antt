@@ -6,7 +6,7 @@ unfolding leaving
 loop-byte-preserved c =
     let byte = c.loop-byte.byte in
     let entry : bit_xor c.multiply.result c.crc32-none.result ≡ leaving c.args.s byte = (
-    ap (λ t. bit_xor t c.crc32-none.result) (c.multiply.ensures (8 * c.args.s) c.power-zeros.ensures ∙ ap (steps (8 * c.args.s)) c.crc32.ensures)
+    ap (λ t. bit_xor t c.crc32-none.result) (c.multiply.ensures (8 * c.args.s) c.power_of_x-zeros.ensures ∙ ap (steps (8 * c.args.s)) c.crc32.ensures)
     ∙ ap (bit_xor (steps (8 * c.args.s) _)) c.crc32-none.ensures
     ) in
     let within : byte < length c.loop-byte.table = omega (arith, c.loop-byte.invariant.len) in

@@ -1,6 +1,6 @@
-use Rattle.par2_solve.proofs.Common.{◌∙◌, ap, sym, arith, length, lists_of, products, texts_of}
+use Rattle.par2_solve.proofs.Common.{◌∙◌, ap, sym, arith, length, lists_of, products, buffers_of}
 use Rattle.par2_solve.proofs.AdditionLaws.{products_are, next_columns, all_columns_added}
-use Rattle.par2_solve.proofs.Combinations.{length-texts_of, rows_long}
+use Rattle.par2_solve.proofs.Combinations.{length-buffers_of, rows_long}
 use Rattle.par2_solve.proofs.additions.add_by_coefficients.Goals as goal
 
 pub add_columns-requires-clause-factors : goal.add_columns-requires-clause-factors
@@ -8,7 +8,7 @@ add_columns-requires-clause-factors c = rows_long _ c.args.exponents.now _ (ap l
 
 pub loop-from-preserved : goal.loop-from-preserved
 loop-from-preserved c = record {
-  added = next_columns c.args.outputs.now.places.now c.args.outputs.now.words c.loop-from.from _ _ (lists_of c.args.texts.now) (lists_of c.loop-from.texts) (lists_of c.add_columns.new.texts) (omega arith) c.loop-from.invariant.added
+  added = next_columns c.args.outputs.now.places.now c.args.outputs.now.words c.loop-from.from _ _ (lists_of c.args.buffers.now) (lists_of c.loop-from.buffers) (lists_of c.add_columns.new.buffers) (omega arith) c.loop-from.invariant.added
       (rw c.deref.ensures.value at c.in_ok-add_columns.ensures);
   within = omega arith;
 }
@@ -16,9 +16,9 @@ loop-from-preserved c = record {
 pub returns : goal.returns
 returns c =
     let n = length c.args.slices.now in
-    let slices = texts_of c.args.slices.now in
+    let slices = buffers_of c.args.slices.now in
     let rows = lists_of c.in_ok-rows.rows.items in
-    let was = lists_of c.args.texts.now in
-    let new = lists_of c.loop-from.texts in
-    products_are n c.args.outputs.now.words c.args.exponents.now rows slices was new c.args.outputs.now.places.now c.in_ok-rows.ensures (sym (length-texts_of c.args.slices.now)) c.requires.count
+    let was = lists_of c.args.buffers.now in
+    let new = lists_of c.loop-from.buffers in
+    products_are n c.args.outputs.now.words c.args.exponents.now rows slices was new c.args.outputs.now.places.now c.in_ok-rows.ensures (sym (length-buffers_of c.args.slices.now)) c.requires.count
     (all_columns_added c.args.outputs.now.places.now c.args.outputs.now.words c.loop-from.from (products n rows slices) was new (omega arith) c.loop-from.invariant.added)

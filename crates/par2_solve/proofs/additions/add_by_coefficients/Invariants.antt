@@ -1,10 +1,10 @@
-use Rattle.par2_solve.proofs.Common.{◌-◌, ◌≤◌, length, lists_of, products, texts_of}
+use Rattle.par2_solve.proofs.Common.{◌-◌, ◌≤◌, length, lists_of, products, buffers_of}
 use Rattle.par2_solve.proofs.AdditionLaws.{ColumnsAdded}
 use Rattle.par2_solve.proofs.additions.add_by_coefficients.Given as goal
 
 abbrev pub invariant-loop-from : goal.invariant-loop-from
 invariant-loop-from l = record {
-  added : ColumnsAdded l.outputs.places.now l.outputs.words l.from (products (length l.slices) (lists_of l.rows.items) (texts_of l.slices)) (lists_of l.initial.texts) (lists_of l.texts);
+  added : ColumnsAdded l.outputs.places.now l.outputs.words l.from (products (length l.slices) (lists_of l.rows.items) (buffers_of l.slices)) (lists_of l.initial.buffers) (lists_of l.buffers);
   within : l.from ≤ l.outputs.words;
 }
 

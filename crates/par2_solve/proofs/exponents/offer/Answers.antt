@@ -5,8 +5,8 @@ use Rattle.par2_solve.proofs.exponents.offer.Goals as goal
 pub returns-then-rank-lost-clause-kept : goal.returns-then-rank-lost-clause-kept
 returns-then-rank-lost-clause-kept c = λ e. absurd (dependent_is_not_kept (Ok Dependent) refl e)
 
-pub returns-then-rank-lost-clause-told : goal.returns-then-rank-lost-clause-told
-returns-then-rank-lost-clause-told c = λ e. absurd (dependent_is_not_kept (Ok Dependent) refl e)
+pub returns-then-rank-lost-clause-reported : goal.returns-then-rank-lost-clause-reported
+returns-then-rank-lost-clause-reported c = λ e. absurd (dependent_is_not_kept (Ok Dependent) refl e)
 
 pub returns-then-rank-lost-clause-dependent : goal.returns-then-rank-lost-clause-dependent
 returns-then-rank-lost-clause-dependent c =
@@ -15,8 +15,8 @@ returns-then-rank-lost-clause-dependent c =
 pub returns-clause-kept : goal.returns-clause-kept
 returns-clause-kept c = λ e. rw (c.deref.ensures.value, c.in_ok-row.ensures) at (c.offer.ensures.kept e)
 
-pub returns-clause-told : goal.returns-clause-told
-returns-clause-told c = λ e. rw (c.deref.ensures.value, c.in_ok-row.ensures) at (c.offer.ensures.independent e)
+pub returns-clause-reported : goal.returns-clause-reported
+returns-clause-reported c = λ e. rw (c.deref.ensures.value, c.in_ok-row.ensures) at (c.offer.ensures.independent e)
 
 pub returns-clause-dependent : goal.returns-clause-dependent
 returns-clause-dependent c = λ e. rw (c.deref.ensures.value, c.in_ok-row.ensures) at (c.offer.ensures.dependent e)

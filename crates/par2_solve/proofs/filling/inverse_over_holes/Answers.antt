@@ -1,5 +1,5 @@
 use Rattle.par2_solve.proofs.Common.{◌≡◌, ◌+◌, ◌∙◌, ℕ, List, ap, arith, subst, length, length-take, lists_of, IsRepairable}
-use Rattle.par2_solve.specs.Holes.{AreHoleInverse, holes, locator, places_of, shifted_rows, span}
+use Rattle.par2_solve.specs.Holes.{AreHoleInverse, holes, locator, exponent_places, shifted_rows, span}
 use Rattle.par2_solve.specs.Solvers.{Inverts}
 use Rattle.par2_solve.specs.declared.filling.Filling.{Filling}
 use Rattle.par2_solve.specs.declared.solver.Inverse.TheVariants.{Filled}
@@ -16,8 +16,8 @@ returns c =
     let n = c.count_equations-count.result in
     let fit : n + length es ≡ span es + 1 = c.count_equations-count.ensures in
     let p : c.deref-3.result.now ≡ locator ks = c.deref-3.ensures.value ∙ c.in_ok-p.ensures in
-    let places : c.deref-4.result.now ≡ places_of es = c.deref-4.ensures.value ∙ c.in_ok-places_of.ensures in
-    let known : lists_of c.in_ok-known_rows.field-0.items ≡ shifted_rows (locator ks) (places_of es) n = rw (p, places) at c.in_ok-known_rows.ensures in
+    let places : c.deref-4.result.now ≡ exponent_places es = c.deref-4.ensures.value ∙ c.in_ok-places_of.ensures in
+    let known : lists_of c.in_ok-known_rows.field-0.items ≡ shifted_rows (locator ks) (exponent_places es) n = rw (p, places) at c.in_ok-known_rows.ensures in
     let inverse : AreHoleInverse (locator ks) (holes es) n (lists_of c.in-Some-2.inverse.items) = rw (c.in-Some-2.is, c.deref.ensures.value, c.in_ok-p.ensures, c.deref-2.ensures.value, c.in_ok-places.ensures) at c.in_ok-inverse.ensures in
     let filling : Filling = record { known = c.in_ok-known_rows.field-0; holes = c.in-Some-2.inverse; origins = c.in_ok-origins.field-0; locator = c.in_ok-run_locator.field-0 } in
     let both = inverts_over_holes ks es n filling c.requires.slices c.in-Some.ensures.rise c.in-Some.ensures.some c.in-Some.ensures.count fit known inverse c.in_ok-origins.ensures c.in_ok-run_locator.ensures in

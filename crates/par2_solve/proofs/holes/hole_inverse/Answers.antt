@@ -7,10 +7,10 @@ pub returns-in-Ok : goal.returns-in-Ok
 returns-in-Ok c =
     let p = c.args.locator.now in
     let places = c.args.places.now in
-    let texts = c.in-Ok.texts.items in
+    let buffers = c.in-Ok.buffers.items in
     let system = c.in-Some.system in
     let are : AreHoleEquations p places c.args.count c.args.count system = rw c.in-Some.is at c.in_ok-system.ensures in
     let full : c.rank.result ≡ system.columns = omega (arith, c.rank.ensures.most, c.if-rank-places.false, are.columns) in
-    are_hole_inverse p places c.args.count system (lists_of texts) (lists_of c.in_ok-rows_of-in-Ok.field-0.items)
+    are_hole_inverse p places c.args.count system (lists_of buffers) (lists_of c.in_ok-rows_of-in-Ok.field-0.items)
     (all_from (λ x. x < 2 ^ 16) 0 p (λ i _. Fits-lt-pow (c.type_inv.locator i))) are (c.rank.ensures.full.0 full) c.in-Ok.ensures.ok
-    (rw (c.deref.ensures.value, ← length-lists_of texts) at c.in_ok-rows_of-in-Ok.ensures)
+    (rw (c.deref.ensures.value, ← length-lists_of buffers) at c.in_ok-rows_of-in-Ok.ensures)

@@ -19,9 +19,9 @@ slice_bounds-from_slice-end c =
 
 pub returns-clause-kept : goal.returns-clause-kept
 returns-clause-kept c =
-    let told = first (goal.at.returns-clause-kept c).In-Some in
+    let reported = first (goal.at.returns-clause-kept c).In-Some in
     recovered_front c.args.recovery.now c.in_ok-kept.kept.items (length c.args.lost.now) c.in_ok-kept.ensures.items
-    ∙ sym (kept_slices_first c.args.lost.now (recovered_of c.args.recovery.now) c.requires.exponents told.within told.enough)
+    ∙ sym (kept_slices_first c.args.lost.now (recovered_of c.args.recovery.now) c.requires.exponents reported.within reported.enough)
 
 pub returns-clause-inverse : goal.returns-clause-inverse
 returns-clause-inverse c =
@@ -30,5 +30,5 @@ returns-clause-inverse c =
 
 pub returns-clause-enough : goal.returns-clause-enough
 returns-clause-enough c = λ _.
-    let told = first (goal.at.returns-clause-enough c).In-Some in
-    more_determine c.args.lost.now (exponents_of c.args.recovery.now) (length c.args.lost.now) told.enough
+    let reported = first (goal.at.returns-clause-enough c).In-Some in
+    more_determine c.args.lost.now (exponents_of c.args.recovery.now) (length c.args.lost.now) reported.enough

@@ -4,11 +4,11 @@ use Rattle.par2_solve.proofs.inverse.invert_by_elimination.Goals as goal
 
 pub returns-in-Ok-clause-inverse : goal.returns-in-Ok-clause-inverse
 returns-in-Ok-clause-inverse c =
-    let texts = c.in-Ok.texts.items in
+    let buffers = c.in-Ok.buffers.items in
     record {
       wide = tt;
-      is_inverse = are_inverse c.args.lost.now (recovered_of c.args.recovery.now) (recovered_of c.in_ok-kept.field-0.kept.items) c.in_ok-kept.field-0.system (lists_of texts) (lists_of c.in_ok-rows_of-in-Ok.field-0.items) c.in_ok-kept.ensures c.in-Ok.ensures.ok (c.in-Ok.ensures.when.0 refl)
-          (rw (c.deref.ensures.value, ← length-lists_of texts) at c.in_ok-rows_of-in-Ok.ensures);
+      is_inverse = are_inverse c.args.lost.now (recovered_of c.args.recovery.now) (recovered_of c.in_ok-kept.field-0.kept.items) c.in_ok-kept.field-0.system (lists_of buffers) (lists_of c.in_ok-rows_of-in-Ok.field-0.items) c.in_ok-kept.ensures c.in-Ok.ensures.ok (c.in-Ok.ensures.when.0 refl)
+          (rw (c.deref.ensures.value, ← length-lists_of buffers) at c.in_ok-rows_of-in-Ok.ensures);
     }
 
 pub returns-clause-refused : goal.returns-clause-refused

@@ -10,6 +10,6 @@ loop-i-preserved c =
       count = length-append row (c.element.result ∷ []) ∙ ap (λ n. n + 1) count;
       each = λ p low. elim (cases_lt p c.loop-i.i) [
         | inl early ↦ c.loop-i.invariant.each p early ∙ sym (get_or_append_left row (c.element.result ∷ []) 0 p (omega (arith, early, count)))
-        | inr late ↦ (let same : p ≡ c.loop-i.i = omega (arith, low, late) in ap (λ q. word q c.args.text.now) same ∙ sym (get_or_push row c.element.result 0 p (count ∙ sym same) ∙ c.element.ensures))
+        | inr late ↦ (let same : p ≡ c.loop-i.i = omega (arith, low, late) in ap (λ q. word q c.args.bytes.now) same ∙ sym (get_or_push row c.element.result 0 p (count ∙ sym same) ∙ c.element.ensures))
       ];
     })

@@ -4,5 +4,5 @@ use Rattle.par2_solve.proofs.inverse.row_of.Given as goal
 abbrev pub invariant-loop-i : goal.invariant-loop-i
 invariant-loop-i l = record {
   count : length l.row.items ≡ l.i;
-  each : (p : ℕ) → p < l.i → word p l.text ≡ get_or l.row.items p 0;
+  each : (p : ℕ) → p < l.i → word p l.bytes ≡ get_or l.row.items p 0;
 }

@@ -4,4 +4,4 @@ use Rattle.par2_solve.proofs.inverse.rows_of.Goals as goal
 
 pub loop-r-preserved : goal.loop-r-preserved
 loop-r-preserved c =
-    rw c.in_ok-push.ensures.items (rows_push (lists_of c.args.texts.now) c.loop-r.rows.items c.in_ok-row_of.field-0 c.loop-r.r c.loop-r.invariant (rw c.text_at.ensures at c.in_ok-row_of.ensures))
+    rw c.in_ok-push.ensures.items (rows_push (lists_of c.args.buffers.now) c.loop-r.rows.items c.in_ok-row_of.field-0 c.loop-r.r c.loop-r.invariant (rw c.buffer_at.ensures at c.in_ok-row_of.ensures))

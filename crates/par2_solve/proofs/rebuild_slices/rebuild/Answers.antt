@@ -1,4 +1,4 @@
-use Rattle.par2_solve.proofs.Common.{◌≡◌, ◌∙◌, ℕ, List, Bor, map, refl, sym, ap, subst, rules, IfErr, AreBytes, bytes_or_none, recovered_of, IsTrueFault, lost_from, exponents_of, lost, known_among}
+use Rattle.par2_solve.proofs.Common.{◌≡◌, ◌∙◌, ℕ, List, Bor, map, refl, sym, ap, subst, rules, IfErr, AreByteLists, bytes_or_none, recovered_of, IsTrueFault, lost_from, exponents_of, lost, known_among}
 use Rattle.par2_solve.proofs.Beginnings.{lost_rise}
 use Rattle.par2_solve.proofs.Rebuilding.{lost_are, lost-lt, length-lost_from}
 use Rattle.par2_solve.proofs.Choices.{another, two}
@@ -26,8 +26,8 @@ invert-requires-clause-rise c = rw (missing_are (goal.at.invert-requires-clause-
 
 pub returns-in_err-found-clause-refused : goal.returns-in_err-found-clause-refused
 returns-in_err-found-clause-refused c =
-    let told : IfErr c.from_residual-in_err-found.result (IsTrueFault c.deref-4.result.now (exponents_of c.deref-5.result.now)) = search rules in
-    rw (are_lost (goal.at.returns-in_err-found-clause-refused c).After-deref-5, c.deref-5.ensures.value) at told
+    let reported : IfErr c.from_residual-in_err-found.result (IsTrueFault c.deref-4.result.now (exponents_of c.deref-5.result.now)) = search rules in
+    rw (are_lost (goal.at.returns-in_err-found-clause-refused c).After-deref-5, c.deref-5.ensures.value) at reported
 
 pub solve-requires-clause-kept : goal.solve-requires-clause-kept
 solve-requires-clause-kept c = rw (are_lost (goal.at.solve-requires-clause-kept c).After-deref-5, c.deref-5.ensures.value) at c.in_ok-found.ensures.kept
@@ -44,13 +44,13 @@ returns-clause-enough c = λ _. rw (are_lost (goal.at.returns-clause-enough c).A
 pub returns-in_err-found-clause-another : goal.returns-in_err-found-clause-another
 returns-in_err-found-clause-another c some =
     let survivors = c.args.survivors.now in
-    let known_bytes = subst AreBytes (ap (map bytes_or_none) c.deref.ensures.value) c.fit_known.ensures in
-    let recovery_bytes = subst AreBytes (ap bytes_given c.deref-2.ensures.value) c.fit_recovery.ensures in
+    let known_bytes = subst AreByteLists (ap (map bytes_or_none) c.deref.ensures.value) c.fit_known.ensures in
+    let recovery_bytes = subst AreByteLists (ap bytes_given c.deref-2.ensures.value) c.fit_recovery.ensures in
     another survivors c.requires known_bytes recovery_bytes c.from_residual-in_err-found.result c.another_list_agrees.ensures some (returns-in_err-found-clause-refused c)
 
 pub returns-in_err-found-clause-two : goal.returns-in_err-found-clause-two
 returns-in_err-found-clause-two c some =
     let survivors = c.args.survivors.now in
-    let known_bytes = subst AreBytes (ap (map bytes_or_none) c.deref.ensures.value) c.fit_known.ensures in
-    let recovery_bytes = subst AreBytes (ap bytes_given c.deref-2.ensures.value) c.fit_recovery.ensures in
+    let known_bytes = subst AreByteLists (ap (map bytes_or_none) c.deref.ensures.value) c.fit_known.ensures in
+    let recovery_bytes = subst AreByteLists (ap bytes_given c.deref-2.ensures.value) c.fit_recovery.ensures in
     two survivors c.requires known_bytes recovery_bytes c.from_residual-in_err-found.result c.two_lists_agree.ensures some (returns-in_err-found-clause-refused c)

@@ -1,8 +1,8 @@
-use Rattle.par2_solve.proofs.Common.{ℕ, ◌≡◌, ◌<◌, ◌∙◌, [], List, sym, ap, subst, arith, length, map, get_or-map, length-map, AllByRecursion, list_at, lists_of, all_get, all-filter, length-lists_of, AreBytes, known_among, bytes_or_none, recovered_of, exponents_of, lost, texts_of}
+use Rattle.par2_solve.proofs.Common.{ℕ, ◌≡◌, ◌<◌, ◌∙◌, [], List, sym, ap, subst, arith, length, map, get_or-map, length-map, AllByRecursion, list_at, lists_of, all_get, all-filter, length-lists_of, AreByteLists, known_among, bytes_or_none, recovered_of, exponents_of, lost, buffers_of}
 use Rattle.par2_solve.specs.Solvers.{TakesSources, rows_of}
-use Rattle.par2_solve.proofs.Combinations.{length-texts_of}
+use Rattle.par2_solve.proofs.Combinations.{length-buffers_of}
 use Rattle.par2_solve.proofs.Finishing.{answer, takes_sources}
-use Rattle.par2_solve.proofs.Inverting.{length-recovered_of, many_texts}
+use Rattle.par2_solve.proofs.Inverting.{length-recovered_of, many_buffers}
 use Rattle.par2_solve.proofs.Rebuilding.{lost_are}
 use Rattle.par2_solve.proofs.rebuild_slices.solve.Goals.{After-deref-6}
 use Rattle.par2_solve.proofs.rebuild_slices.solve.Goals as goal
@@ -10,14 +10,14 @@ use Rattle.par2_solve.proofs.rebuild_slices.solve.Goals as goal
 exponents_are : (c : After-deref-6) → c.deref-4.result.now ≡ exponents_of c.args.found.now.kept.items
 exponents_are c = c.deref-4.ensures.value ∙ c.in_ok-exponents.ensures ∙ ap exponents_of c.deref.ensures.value
 
-recovery_are : (c : After-deref-6) → texts_of c.deref-5.result.now ≡ map (λ r. r.1) (recovered_of c.args.found.now.kept.items)
-recovery_are c = ap texts_of c.deref-5.ensures.value ∙ c.in_ok-recovery.ensures ∙ ap (λ ks. map (λ (r : ℕ × List ℕ). r.1) (recovered_of ks)) c.deref-2.ensures.value
+recovery_are : (c : After-deref-6) → buffers_of c.deref-5.result.now ≡ map (λ r. r.1) (recovered_of c.args.found.now.kept.items)
+recovery_are c = ap buffers_of c.deref-5.ensures.value ∙ c.in_ok-recovery.ensures ∙ ap (λ ks. map (λ (r : ℕ × List ℕ). r.1) (recovered_of ks)) c.deref-2.ensures.value
 
-slices_are : (c : After-deref-6) → texts_of c.deref-6.result.now ≡ map bytes_or_none c.args.survivors.now.known.items
-slices_are c = ap texts_of c.deref-6.ensures.value ∙ c.in_ok-slices.ensures ∙ ap (map bytes_or_none) c.deref-3.ensures.value
+slices_are : (c : After-deref-6) → buffers_of c.deref-6.result.now ≡ map bytes_or_none c.args.survivors.now.known.items
+slices_are c = ap buffers_of c.deref-6.ensures.value ∙ c.in_ok-slices.ensures ∙ ap (map bytes_or_none) c.deref-3.ensures.value
 
 many : (c : After-deref-6) → length c.deref-5.result.now ≡ length c.args.found.now.kept.items
-many c = many_texts c.args.found.now.kept.items c.deref-5.result.now (recovery_are c)
+many c = many_buffers c.args.found.now.kept.items c.deref-5.result.now (recovery_are c)
 
 pub solved-requires-clause-inverse : goal.solved-requires-clause-inverse
 solved-requires-clause-inverse c = subst (λ n. TakesSources n c.args.found.now.inverse) (sym (many (goal.at.solved-requires-clause-inverse c).After-deref-6)) (takes_sources (lost (known_among c.args.survivors.now)) c.args.found.now.kept.items c.args.found.now.inverse c.requires.inverse)
@@ -29,7 +29,7 @@ solved-requires-clause-exponents c =
 
 pub solved-requires-clause-count : goal.solved-requires-clause-count
 solved-requires-clause-count c =
-    rw (← length-texts_of c.deref-6.result.now, slices_are (goal.at.solved-requires-clause-count c).After-deref-6, length-map c.args.survivors.now.known.items bytes_or_none) c.requires.survivors.count
+    rw (← length-buffers_of c.deref-6.result.now, slices_are (goal.at.solved-requires-clause-count c).After-deref-6, length-map c.args.survivors.now.known.items bytes_or_none) c.requires.survivors.count
 
 pub solved-requires-clause-size : goal.solved-requires-clause-size
 solved-requires-clause-size c = λ j h.
@@ -42,9 +42,9 @@ solved-requires-clause-size c = λ j h.
 pub returns : goal.returns
 returns c =
     let at = (goal.at.returns c).After-deref-6 in
-    let made = answer c.args.survivors.now c.requires.survivors (lost (known_among c.args.survivors.now)) (recovered_of c.args.found.now.kept.items) (rows_of c.args.found.now.inverse) (lists_of c.in_ok-texts.texts.items)
+    let made = answer c.args.survivors.now c.requires.survivors (lost (known_among c.args.survivors.now)) (recovered_of c.args.found.now.kept.items) (rows_of c.args.found.now.inverse) (lists_of c.in_ok-buffers.buffers.items)
     (lost_are c.args.survivors.now.slice c.args.survivors.now.known.items) c.requires.kept c.requires.inverse.is_inverse c.requires.enough
-    (subst AreBytes (slices_are at) c.in_ok-texts.ensures.slices)
-    (subst AreBytes (recovery_are at) c.in_ok-texts.ensures.recovery)
-    (rw (recovery_are at, slices_are at, exponents_are at) at c.in_ok-texts.ensures.solved) (rw c.deref-7.ensures.value at c.fit_lists.ensures) in
-    record { rebuilt = made.0; count = sym (length-lists_of c.in_ok-texts.texts.items) ∙ made.1 }
+    (subst AreByteLists (slices_are at) c.in_ok-buffers.ensures.slices)
+    (subst AreByteLists (recovery_are at) c.in_ok-buffers.ensures.recovery)
+    (rw (recovery_are at, slices_are at, exponents_are at) at c.in_ok-buffers.ensures.solved) (rw c.deref-7.ensures.value at c.fit_lists.ensures) in
+    record { rebuilt = made.0; count = sym (length-lists_of c.in_ok-buffers.buffers.items) ∙ made.1 }

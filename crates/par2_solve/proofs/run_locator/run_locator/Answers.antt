@@ -1,4 +1,4 @@
-use Rattle.par2_solve.proofs.Common.{◌≡◌, ◌<◌, ◌≤◌, ◌∙◌, ℕ, List, sym, ap, subst, arith, length, drop, map, length-map, constant, coefficients, with_roots, length-with_roots, IsInverse, range_with_len}
+use Rattle.par2_solve.proofs.Common.{◌≡◌, ◌<◌, ◌≤◌, ◌∙◌, ℕ, List, sym, ap, subst, arith, length, drop, map, length-map, constant, coefficients, with_roots, length-with_roots, IsInverseMatrix, range_with_len}
 use Rattle.par2_solve.specs.Solvers.{AreFactors}
 use Rattle.par2_solve.specs.Located.{quotient_rows}
 use Rattle.par2_solve.proofs.RunInverses.{first_powers, at_itself}
@@ -8,8 +8,8 @@ use Rattle.par2_solve.proofs.run_locator.run_locator.Goals as goal
 constants_are : (lost items : List ℕ) → items ≡ coefficients lost 1 → items ≡ map constant lost
 constants_are lost items is = is ∙ first_powers lost
 
-roots_are : (lost items told p : List ℕ) → items ≡ coefficients lost 1 → told ≡ items → p ≡ with_roots told → p ≡ with_roots (map constant lost)
-roots_are lost items told p is same roots = roots ∙ ap with_roots (same ∙ constants_are lost items is)
+roots_are : (lost items reported p : List ℕ) → items ≡ coefficients lost 1 → reported ≡ items → p ≡ with_roots reported → p ≡ with_roots (map constant lost)
+roots_are lost items reported p is same roots = roots ∙ ap with_roots (same ∙ constants_are lost items is)
 
 pub factors-requires : goal.factors-requires
 factors-requires c = λ j h.
@@ -50,16 +50,16 @@ returns c =
     let p_is : c.in_ok-p.p.items ≡ roots = roots_are lost items c.deref.result.now c.in_ok-p.p.items c.in_ok-constants.ensures c.deref.ensures.value c.in_ok-p.ensures in
     let sequence : locator.sequence.items ≡ drop 1 roots = c.in_ok-locator.ensures.sequence ∙ c.in_ok-sequence.ensures ∙ ap (drop 1) (c.deref-4.ensures.value ∙ p_is) in
     let points : locator.points.items ≡ constants = c.in_ok-locator.ensures.points ∙ constants_are lost items c.in_ok-constants.ensures in
-    let told : c.deref-3.result.now ≡ constants = c.deref-3.ensures.value ∙ constants_are lost items c.in_ok-constants.ensures in
+    let reported : c.deref-3.result.now ≡ constants = c.deref-3.ensures.value ∙ constants_are lost items c.in_ok-constants.ensures in
     let p : c.deref-2.result.now ≡ roots = c.deref-2.ensures.value ∙ p_is in
     let given : AreFactors first roots constants factors (length lost) =
     subst (λ n. AreFactors first roots constants factors n) (length-map lost constant)
-    (subst (λ (xs : List ℕ). AreFactors first roots xs factors (length xs)) told
+    (subst (λ (xs : List ℕ). AreFactors first roots xs factors (length xs)) reported
     (subst (λ (xs : List ℕ). AreFactors first xs c.deref-3.result.now factors (length c.deref-3.result.now)) p c.in_ok-factors.ensures)) in
     record {
-      is_inverse = subst (λ (xs : List ℕ). IsInverse lost run (quotient_rows xs locator.points.items locator.factors.items)) (sym sequence)
-          (subst (λ (xs : List ℕ). IsInverse lost run (quotient_rows (drop 1 roots) xs locator.factors.items)) (sym points)
-          (subst (λ (xs : List ℕ). IsInverse lost run (quotient_rows (drop 1 roots) constants xs)) (sym c.in_ok-locator.ensures.factors)
+      is_inverse = subst (λ (xs : List ℕ). IsInverseMatrix lost run (quotient_rows xs locator.points.items locator.factors.items)) (sym sequence)
+          (subst (λ (xs : List ℕ). IsInverseMatrix lost run (quotient_rows (drop 1 roots) xs locator.factors.items)) (sym points)
+          (subst (λ (xs : List ℕ). IsInverseMatrix lost run (quotient_rows (drop 1 roots) constants xs)) (sym c.in_ok-locator.ensures.factors)
           (located_inverse lost first factors c.requires.slices given)));
       wide = ap (λ (xs : List ℕ). length xs) sequence ∙ located_wide lost;
     }

@@ -1,8 +1,8 @@
-use Rattle.par2_solve.proofs.Common.{ℕ, List, Vec, Global, ◌≡◌, ◌*◌, ◌/◌, ◌∙◌, sym, ap, subst, arith, rules, length, length-replicate, list_at, lists_of, length-lists_of, texts_of, with_items_is, AddsToEach, AreProducts}
+use Rattle.par2_solve.proofs.Common.{ℕ, List, Vec, Global, ◌≡◌, ◌*◌, ◌/◌, ◌∙◌, sym, ap, subst, arith, rules, length, length-replicate, list_at, lists_of, length-lists_of, buffers_of, with_items_is, AddsToEach, AreProducts}
 use Rattle.par2_solve.specs.Located.{quotient_rows}
 use Rattle.par2_transform.specs.Columns.{words_at}
 use Rattle.par2_transform.specs.Locators.{quotient_sum}
-use Rattle.par2_solve.proofs.Combinations.{length-texts_of}
+use Rattle.par2_solve.proofs.Combinations.{length-buffers_of}
 use Rattle.par2_solve.proofs.Locating.{located_sums, added_to_blank}
 use Rattle.par2_solve.proofs.solver.located_products.Goals as goal
 
@@ -11,28 +11,28 @@ add_products-requires c =
     let even : c.args.size ≡ 2 * (c.args.size / 2) = omega (arith, c.requires.even) in
     let blank = c.in_ok-sums.ensures in
     let sums = c.in_ok-sums.sums.items in
-    let told = c.as_mut_slice.ensures.value in
+    let reported = c.as_mut_slice.ensures.value in
     let many : c.len.result ≡ length c.args.locator.now.points.items = search rules in
-    let count = ap (λ (xs : List (Vec ℕ Global)). length xs) told ∙ sym (length-lists_of sums) ∙ blank.count in
+    let count = ap (λ (xs : List (Vec ℕ Global)). length xs) reported ∙ sym (length-lists_of sums) ∙ blank.count in
     record {
       sources = sym c.requires.sources;
       count = count ∙ many;
-      size = λ t low. ap (λ (xs : List (Vec ℕ Global)). length (list_at (lists_of xs) t)) told ∙ ap length (blank.each t (let same = length-lists_of c.as_mut_slice.result.now in omega (arith, low, count, same))) ∙ length-replicate {A = ℕ} c.args.size 0 ∙ even;
+      size = λ t low. ap (λ (xs : List (Vec ℕ Global)). length (list_at (lists_of xs) t)) reported ∙ ap length (blank.each t (let same = length-lists_of c.as_mut_slice.result.now in omega (arith, low, count, same))) ∙ length-replicate {A = ℕ} c.args.size 0 ∙ even;
     }
 
 pub returns : goal.returns
 returns c =
     let locator = c.args.locator.now in
     let size = c.args.size in
-    let sources = texts_of c.args.sources.now in
-    let new = c.add_products.new.texts in
+    let sources = buffers_of c.args.sources.now in
+    let new = c.add_products.new.buffers in
     let blank = c.in_ok-sums.ensures in
-    let told = c.as_mut_slice.ensures.value in
+    let reported = c.as_mut_slice.ensures.value in
     let many : c.len.result ≡ length locator.points.items = search rules in
     let same : length new ≡ c.in_ok-sums.sums.len = search rules in
     let given = λ (t p : ℕ). quotient_sum locator.sequence.items locator.points.items locator.factors.items (words_at sources p) t in
-    let added : AddsToEach given (lists_of c.in_ok-sums.sums.items) (lists_of new) = subst (λ (xs : List (Vec ℕ Global)). AddsToEach given (lists_of xs) (lists_of new)) told c.in_ok-add_products.ensures in
+    let added : AddsToEach given (lists_of c.in_ok-sums.sums.items) (lists_of new) = subst (λ (xs : List (Vec ℕ Global)). AddsToEach given (lists_of xs) (lists_of new)) reported c.in_ok-add_products.ensures in
     subst (λ (xs : List (Vec ℕ Global)). AreProducts size (quotient_rows locator.sequence.items locator.points.items locator.factors.items) sources (lists_of xs)) (sym (with_items_is c.in_ok-sums.sums new same))
-    (located_sums locator.sequence.items locator.points.items locator.factors.items sources (lists_of new) size (length-texts_of c.args.sources.now ∙ sym c.requires.sources) (added.count ∙ blank.count ∙ many)
+    (located_sums locator.sequence.items locator.points.items locator.factors.items sources (lists_of new) size (length-buffers_of c.args.sources.now ∙ sym c.requires.sources) (added.count ∙ blank.count ∙ many)
     (λ r low. added.sizes r ∙ ap length (blank.each r (omega (arith, low, many))) ∙ length-replicate {A = ℕ} size 0)
     (λ r w low fits. added_to_blank size c.len.result given (lists_of c.in_ok-sums.sums.items) (lists_of new) blank added r w (omega (arith, low, many)) fits))

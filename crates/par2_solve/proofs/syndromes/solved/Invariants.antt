@@ -1,10 +1,10 @@
-use Rattle.par2_solve.proofs.Common.{◌≡◌, ◌≤◌, ◌-◌, ◌%◌, lists_of, AreSolved, texts_of}
+use Rattle.par2_solve.proofs.Common.{◌≡◌, ◌≤◌, ◌-◌, ◌%◌, lists_of, AreSolved, buffers_of}
 use Rattle.par2_solve.specs.Solvers.{rows_of}
 use Rattle.par2_solve.proofs.syndromes.solved.Given as goal
 
 abbrev pub invariant-loop-from : goal.invariant-loop-from
 invariant-loop-from l = record {
-  solved : AreSolved l.from (rows_of l.inverse) l.exponents (texts_of l.slices) (texts_of l.recovery) (lists_of l.texts.items);
+  solved : AreSolved l.from (rows_of l.inverse) l.exponents (buffers_of l.slices) (buffers_of l.recovery) (lists_of l.buffers.items);
   even : l.from % 2 ≡ 0;
   within : l.from ≤ l.size;
 }

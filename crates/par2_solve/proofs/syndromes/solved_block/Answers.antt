@@ -1,22 +1,22 @@
-use Rattle.par2_solve.proofs.Common.{◌≡◌, ◌<◌, ◌∙◌, ℕ, sym, ap, subst, arith, length, map, IfOk-weaker, list_at, lists_of, window, AreProducts, AreSolved, texts_of}
+use Rattle.par2_solve.proofs.Common.{◌≡◌, ◌<◌, ◌∙◌, ℕ, sym, ap, subst, arith, length, map, IfOk-weaker, list_at, lists_of, chunk, AreProducts, AreSolved, buffers_of}
 use Rattle.par2_solve.specs.Solvers.{TakesSources, rows_of}
-use Rattle.par2_solve.proofs.Combinations.{length-texts_of}
+use Rattle.par2_solve.proofs.Combinations.{length-buffers_of}
 use Rattle.par2_solve.proofs.Solving.{many_windows, window_size, words_solved}
 use Rattle.par2_solve.proofs.syndromes.solved_block.Goals.{After-deref-2}
 use Rattle.par2_solve.proofs.syndromes.solved_block.Goals as goal
 
-recovery_are : (c : After-deref-2) → texts_of c.deref-2.result.now ≡ map (window c.args.from c.args.count) (texts_of c.args.recovery.now)
-recovery_are c = ap texts_of c.deref-2.ensures.value ∙ c.in_ok-recovery.ensures
+recovery_are : (c : After-deref-2) → buffers_of c.deref-2.result.now ≡ map (chunk c.args.from c.args.count) (buffers_of c.args.recovery.now)
+recovery_are c = ap buffers_of c.deref-2.ensures.value ∙ c.in_ok-recovery.ensures
 
-slices_are : (c : After-deref-2) → texts_of c.deref.result.now ≡ map (window c.args.from c.args.count) (texts_of c.args.slices.now)
-slices_are c = ap texts_of c.deref.ensures.value ∙ c.in_ok-slices.ensures
+slices_are : (c : After-deref-2) → buffers_of c.deref.result.now ≡ map (chunk c.args.from c.args.count) (buffers_of c.args.slices.now)
+slices_are c = ap buffers_of c.deref.ensures.value ∙ c.in_ok-slices.ensures
 
 many : (c : After-deref-2) → length c.deref-2.result.now ≡ length c.args.recovery.now
 many c = many_windows c.args.from c.args.count c.args.recovery.now c.deref-2.result.now (recovery_are c)
 
-sizes : (c : After-deref-2) (j : ℕ) → j < length (texts_of c.deref-2.result.now) → length (list_at (texts_of c.deref-2.result.now) j) ≡ c.args.count
-sizes c j h = window_size c.args.from c.args.count (texts_of c.args.recovery.now) (texts_of c.deref-2.result.now) (recovery_are c)
-    (λ i low. c.requires.size i (let n = length-texts_of c.args.recovery.now in omega (arith, low, n))) j h
+sizes : (c : After-deref-2) (j : ℕ) → j < length (buffers_of c.deref-2.result.now) → length (list_at (buffers_of c.deref-2.result.now) j) ≡ c.args.count
+sizes c j h = window_size c.args.from c.args.count (buffers_of c.args.recovery.now) (buffers_of c.deref-2.result.now) (recovery_are c)
+    (λ i low. c.requires.size i (let n = length-buffers_of c.args.recovery.now in omega (arith, low, n))) j h
 
 pub with_recovery_slices-requires-clause-size : goal.with_recovery_slices-requires-clause-size
 with_recovery_slices-requires-clause-size c = λ j h. let size = sizes c j h in omega (arith, size, c.requires.even)
@@ -26,8 +26,8 @@ with_recovery_slices-requires-clause-count c = c.requires.exponents ∙ sym (man
 
 pub products-requires-clause-sources : goal.products-requires-clause-sources
 products-requires-clause-sources c =
-    let sources = ap texts_of c.deref-4.ensures.value ∙ c.in_ok-sources.ensures ∙ ap lists_of c.deref-3.ensures.value in
-    let count = sym (length-texts_of c.deref-4.result.now) ∙ ap length sources ∙ c.in_ok-syndromes.ensures.count ∙ length-texts_of c.deref-2.result.now ∙ many (goal.at.products-requires-clause-sources c).After-deref-2 in
+    let sources = ap buffers_of c.deref-4.ensures.value ∙ c.in_ok-sources.ensures ∙ ap lists_of c.deref-3.ensures.value in
+    let count = sym (length-buffers_of c.deref-4.result.now) ∙ ap length sources ∙ c.in_ok-syndromes.ensures.count ∙ length-buffers_of c.deref-2.result.now ∙ many (goal.at.products-requires-clause-sources c).After-deref-2 in
     subst (λ n. TakesSources n c.args.inverse.now) (sym count) c.requires.inverse
 
 pub returns : goal.returns
@@ -36,11 +36,11 @@ returns c =
     let n = c.args.count in
     let inverse = rows_of c.args.inverse.now in
     let exponents = c.args.exponents.now in
-    let recovery = map (window c.args.from n) (texts_of c.args.recovery.now) in
-    let sources = ap texts_of c.deref-4.ensures.value ∙ c.in_ok-sources.ensures ∙ ap lists_of c.deref-3.ensures.value in
-    IfOk-weaker c.products.result (λ texts. AreProducts n inverse (texts_of c.deref-4.result.now) (lists_of texts.items))
-    (λ texts. AreSolved n inverse exponents (map (window c.args.from n) (texts_of c.args.slices.now)) recovery (lists_of texts.items))
-    (λ texts sums.
+    let recovery = map (chunk c.args.from n) (buffers_of c.args.recovery.now) in
+    let sources = ap buffers_of c.deref-4.ensures.value ∙ c.in_ok-sources.ensures ∙ ap lists_of c.deref-3.ensures.value in
+    IfOk-weaker c.products.result (λ buffers. AreProducts n inverse (buffers_of c.deref-4.result.now) (lists_of buffers.items))
+    (λ buffers. AreSolved n inverse exponents (map (chunk c.args.from n) (buffers_of c.args.slices.now)) recovery (lists_of buffers.items))
+    (λ buffers sums.
     rw (← slices_are at, ← recovery_are at)
-    (words_solved n inverse (texts_of c.deref.result.now) (texts_of c.deref-2.result.now) (lists_of c.in_ok-syndromes.syndromes.items) (lists_of texts.items) exponents (sizes at) c.in_ok-syndromes.ensures (rw sources at sums)))
+    (words_solved n inverse (buffers_of c.deref.result.now) (buffers_of c.deref-2.result.now) (lists_of c.in_ok-syndromes.syndromes.items) (lists_of buffers.items) exponents (sizes at) c.in_ok-syndromes.ensures (rw sources at sums)))
     c.products.ensures

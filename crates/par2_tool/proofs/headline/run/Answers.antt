@@ -2,19 +2,19 @@ use Rattle.par2_tool.proofs.Common.{◌≡◌, ◌≢◌, ◌⊎◌, ◌<◌, in
 use Rattle.std.specs.FinMap as map_of
 use Rattle.par2_tool.proofs.RunEffects.{IsRefused, accepted_with_zero, effect_of, repair_refused, repaired, stopped_effect}
 use Rattle.par2_tool.proofs.RunCalls.{verify_makes_none}
-use Rattle.par2_tool.proofs.Statuses.{own_status, shown_status, told_of}
+use Rattle.par2_tool.proofs.Statuses.{own_status, shown_status, reported_of}
 use Rattle.par2_tool.proofs.UndoneRuns.{leaves_first, leaves_older}
 use Rattle.par2_tool.proofs.headline.run.Goals.{After-run}
 use Rattle.par2_tool.proofs.headline.run.Goals as goal
 
--- the status of what was reported, or that of a writer that failed
-status_of_run : (g : _) (c : After-run g) → (c.run.result ≡ own_status c.run.ensures.told.telling) ⊎ (c.run.result ≡ 6)
+-- the status of the reported result, or that of a failed writer
+status_of_run : (g : _) (c : After-run g) → (c.run.result ≡ own_status c.run.ensures.reported.run_result) ⊎ (c.run.result ≡ 6)
 status_of_run g c =
-    shown_status c.run.ensures.told.telling g.O.Write.contents c.args.out.now c.run.new.out g.E.Write.contents c.args.err.now c.run.new.err c.run.result c.run.ensures.told.shown
+    shown_status c.run.ensures.reported.run_result g.O.Write.contents c.args.out.now c.run.new.out g.E.Write.contents c.args.err.now c.run.new.err c.run.result c.run.ensures.reported.shown
 
 -- ---- a repair
 
--- one that ends with a status below 6 other than 0 and 3 is refused
+-- a repair that ends with a status below 6 other than 0 and 3 is refused
 refused_repair : (g : _) (c : After-run g) (folder : Folder) (base : List ℕ) (extras : List (List ℕ)) → g.S.Store.honest c.args.store.now
     → (asks : AskForRepair (map string_bytes c.args.words.now) (g.S.Store.contents c.args.store.now) folder base extras) → (n : ℕ) → c.run.result ≡ n → n ≢ 0 → n ≢ 3 → n < 6
     → IsRefused folder (g.S.Store.contents c.args.store.now) (g.S.Store.contents c.run.new.store) (Repair base extras asks.purge) n
@@ -22,28 +22,28 @@ refused_repair g c folder base extras honest asks n is zero three low =
     let words = map string_bytes c.args.words.now in
     let old = g.S.Store.contents c.args.store.now in
     let new = g.S.Store.contents c.run.new.store in
-    let told = c.run.ensures.told in
+    let reported = c.run.ensures.reported in
     subst (IsRefused folder old new (Repair base extras asks.purge)) is
-    (repair_refused c.stores_open_in_one_way.ensures words old new folder base extras asks told.telling c.run.result (status_of_run g c) (told.leaves honest)
+    (repair_refused c.stores_open_in_one_way.ensures words old new folder base extras asks reported.run_result c.run.result (status_of_run g c) (reported.leaves honest)
     (λ e. zero (sym is ∙ e)) (λ e. three (sym is ∙ e)) (omega (arith, is, low)))
 
 pub returns-clause-restored : goal.returns-clause-restored
 returns-clause-restored g c folder base extras originals s honest asks original zero =
-    let told = c.run.ensures.told in
+    let reported = c.run.ensures.reported in
     let is = repaired c.stores_open_in_one_way.ensures (map string_bytes c.args.words.now) (g.S.Store.contents c.args.store.now) (g.S.Store.contents c.run.new.store)
-    folder base extras asks told.telling c.run.result (status_of_run g c) (told.leaves honest) zero in
+    folder base extras asks reported.run_result c.run.result (status_of_run g c) (reported.leaves honest) zero in
     subst (λ (left : Folder). AllByRecursion (λ file. map_of.get left file.0 ≡ Some file.1) originals) (sym is.left)
     (c.accepted_repair_leaves_the_files.ensures folder base extras asks.purge originals s original is.accepted)
 
 pub returns-clause-right : goal.returns-clause-right
 returns-clause-right g c folder base extras originals s honest asks original five =
     let is = refused_repair g c folder base extras honest asks 5 five (λ e. omega (arith, e)) (λ e. omega (arith, e)) (omega arith) in
-    c.repair_never_fails.ensures folder base extras asks.purge originals s original (is.refused ∙ ap Some ((told_of is.fault).wrong is.told))
+    c.repair_never_fails.ensures folder base extras asks.purge originals s original (is.refused ∙ ap Some ((reported_of is.fault).wrong is.reported))
 
 pub returns-clause-undetermined : goal.returns-clause-undetermined
 returns-clause-undetermined g c folder base extras originals s honest asks original two =
     let is = refused_repair g c folder base extras honest asks 2 two (λ e. omega (arith, e)) (λ e. omega (arith, e)) (omega arith) in
-    let few = (told_of is.fault).few_left is.told in
+    let few = (reported_of is.fault).few_left is.reported in
     c.refused_repair_leaves_a_choice.ensures folder base extras asks.purge originals s few.0 few.1 original (is.refused ∙ ap Some few.2)
 
 pub returns-clause-unchanged : goal.returns-clause-unchanged
@@ -53,9 +53,9 @@ returns-clause-unchanged g c folder base extras honest asks two =
 
 pub returns-clause-inputs_restored : goal.returns-clause-inputs_restored
 returns-clause-inputs_restored g c before damaged a base extras honest asks follows zero =
-    let told = c.run.ensures.told in
+    let reported = c.run.ensures.reported in
     let is = repaired c.stores_open_in_one_way.ensures (map string_bytes c.args.words.now) (g.S.Store.contents c.args.store.now) (g.S.Store.contents c.run.new.store)
-    damaged base extras asks told.telling c.run.result (status_of_run g c) (told.leaves honest) zero in
+    damaged base extras asks reported.run_result c.run.result (status_of_run g c) (reported.leaves honest) zero in
     subst (λ (left : Folder). AllByRecursion (λ name. map_of.get left name ≡ map_of.get before name) a.inputs) (sym is.left)
     (c.repair_gives_the_created_files_back.ensures before damaged a base extras asks.purge follows is.accepted)
 
@@ -64,17 +64,17 @@ returns-clause-inputs_right g c before damaged a base extras honest asks follows
   λ four.
       let is = refused_repair g c damaged base extras honest asks 4 four (λ e. omega (arith, e)) (λ e. omega (arith, e)) (omega arith) in
       let few = c.repair_of_created_files_is_refused_for_few_causes.ensures before damaged a base extras asks.purge is.fault follows is.refused in
-      false≢true (sym ((told_of is.fault).unread is.told) ∙ few),
+      false≢true (sym ((reported_of is.fault).unread is.reported) ∙ few),
   λ five.
       let is = refused_repair g c damaged base extras honest asks 5 five (λ e. omega (arith, e)) (λ e. omega (arith, e)) (omega arith) in
       let few = c.repair_of_created_files_is_refused_for_few_causes.ensures before damaged a base extras asks.purge is.fault follows is.refused in
-      false≢true (ap may_refuse (sym ((told_of is.fault).wrong is.told)) ∙ few),
+      false≢true (ap may_refuse (sym ((reported_of is.fault).wrong is.reported)) ∙ few),
 )
 
 pub returns-clause-inputs_undetermined : goal.returns-clause-inputs_undetermined
 returns-clause-inputs_undetermined g c before damaged a base extras honest asks follows two =
     let is = refused_repair g c damaged base extras honest asks 2 two (λ e. omega (arith, e)) (λ e. omega (arith, e)) (omega arith) in
-    let few = (told_of is.fault).few_left is.told in
+    let few = (reported_of is.fault).few_left is.reported in
     c.created_files_not_repairable_have_a_choice.ensures before damaged a base extras asks.purge few.0 few.1 follows (is.refused ∙ ap Some few.2)
 
 -- ---- any action
@@ -82,37 +82,37 @@ returns-clause-inputs_undetermined g c before damaged a base extras honest asks 
 -- with status 0 it takes effect
 effect_with_zero : (g : _) (c : After-run g) (action : Action) → g.S.Store.honest c.args.store.now → AskFor (map string_bytes c.args.words.now) action → c.run.result ≡ 0
     → TakesEffect action (g.S.Store.contents c.args.store.now) (g.S.Store.contents c.run.new.store)
-effect_with_zero g c action honest asked zero =
-    inl (accepted_with_zero (map string_bytes c.args.words.now) _ _ action asked c.run.ensures.told.telling c.run.result (status_of_run g c) (c.run.ensures.told.leaves honest) zero)
+effect_with_zero g c action honest requested zero =
+    inl (accepted_with_zero (map string_bytes c.args.words.now) _ _ action requested c.run.ensures.reported.run_result c.run.result (status_of_run g c) (c.run.ensures.reported.leaves honest) zero)
 
 pub returns-clause-undone : goal.returns-clause-undone
-returns-clause-undone g c started honest asked opens zero =
-    let effect = effect_with_zero g c Undo honest asked zero in
+returns-clause-undone g c started honest requested opens zero =
+    let effect = effect_with_zero g c Undo honest requested zero in
     let laws = c.runs_keep_one_history.ensures in
     leaves_older laws.kept c.stores_open_in_one_way.ensures _ _ started opens effect (laws.settled _ _ Undo effect)
 
 pub returns-clause-back : goal.returns-clause-back
-returns-clause-back g c folder honest asked from zero =
-    let effect = effect_with_zero g c Undo honest asked zero in
+returns-clause-back g c folder honest requested from zero =
+    let effect = effect_with_zero g c Undo honest requested zero in
     let laws = c.runs_keep_one_history.ensures in
     leaves_first c.stores_open_in_one_way.ensures c.undone_runs_lead_back.ensures.opens folder _ _ from effect (laws.settled _ _ Undo effect)
 
 pub returns-clause-done : goal.returns-clause-done
-returns-clause-done g c action honest asked zero =
-    let effect = effect_with_zero g c action honest asked zero in
+returns-clause-done g c action honest requested zero =
+    let effect = effect_with_zero g c action honest requested zero in
     (effect, c.runs_keep_one_history.ensures.settled _ _ action effect)
 
 pub returns-clause-effect : goal.returns-clause-effect
-returns-clause-effect g c action honest asked apart =
-    let told = c.run.ensures.told in
-    effect_of (map string_bytes c.args.words.now) (g.S.Store.contents c.args.store.now) (g.S.Store.contents c.run.new.store) action asked told.telling (told.leaves honest) apart
+returns-clause-effect g c action honest requested apart =
+    let reported = c.run.ensures.reported in
+    effect_of (map string_bytes c.args.words.now) (g.S.Store.contents c.args.store.now) (g.S.Store.contents c.run.new.store) action requested reported.run_result (reported.leaves honest) apart
 
 pub returns-clause-cut : goal.returns-clause-cut
-returns-clause-cut g c action honest lasts asked apart left may =
-    stopped_effect (g.S.Store.contents c.args.store.now) left action (c.run.ensures.cut action honest lasts asked left may apart.back apart.along)
+returns-clause-cut g c action honest durable requested apart left may =
+    stopped_effect (g.S.Store.contents c.args.store.now) left action (c.run.ensures.cut action honest durable requested left may apart.back apart.along)
 
 pub returns-clause-unwritten : goal.returns-clause-unwritten
-returns-clause-unwritten g c base extras honest asked none =
-    let told = c.run.ensures.told in
+returns-clause-unwritten g c base extras honest requested none =
+    let reported = c.run.ensures.reported in
     verify_makes_none (map string_bytes c.args.words.now) (g.S.Store.contents c.args.store.now) (g.S.Store.writing_calls c.args.store.now) (g.S.Store.writing_calls c.run.new.store)
-    base extras none asked told.telling (told.calls honest)
+    base extras none requested reported.run_result (reported.calls honest)

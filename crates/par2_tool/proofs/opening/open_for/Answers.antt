@@ -1,6 +1,6 @@
-use Rattle.par2_tool.proofs.Common.{rules, Some, Ok, sym, ap, subst, ◌∙◌, Vec, ℕ, IfOk, option_map, Global, Started, started_of, IsOpened, IsRead, LeavesUnopened}
+use Rattle.par2_tool.proofs.Common.{rules, Some, Ok, sym, ap, subst, ◌∙◌, Vec, ℕ, IfOk, option_map, Global, Started, started_of, IsOpened, WasRead, LeavesUnopened}
 use Rattle.par2_tool.proofs.Outcomes.{opened_as_is, opened_new, stands, stands_for_verify, stands_itself}
-use Rattle.par2_tool.proofs.Openings.{text_read, opens_after_reading, reads_opens}
+use Rattle.par2_tool.proofs.Openings.{bytes_read, opens_after_reading, reads_opens}
 use Rattle.par2_tool.proofs.opening.open_for.Goals.{After-open_with}
 use Rattle.par2_tool.proofs.opening.open_for.Goals as goal
 
@@ -12,7 +12,7 @@ returns-in_default-clause-opened g c =
       opened,
       stands_itself c.args.command opened,
       λ honest.
-          let read = subst (λ journal. IsRead old files (option_map (λ (bytes : Vec ℕ Global). bytes.items) journal)) c.in_default.is (c.in_ok-folder.ensures.read.read honest) in
+          let read = subst (λ journal. WasRead old files (option_map (λ (bytes : Vec ℕ Global). bytes.items) journal)) c.in_default.is (c.in_ok-folder.ensures.read.read honest) in
           subst (λ k. IsOpened old k opened) (sym (c.read_store.ensures.reads.same honest))
           (subst (λ (s : Started). IsOpened old old s) (sym c.without_history.ensures) (opened_new old files read)),
     )
@@ -28,14 +28,14 @@ returns-then-branch-clause-opened g c =
       found.0,
       stands_for_verify c.args.command found.0 (started_of c.without_history-then-branch.result) (c.in_ok-needs_no_history.ensures.verify is) (found.2 ∙ sym standing),
       λ honest.
-          let read = text_read old files c.in_ok-folder.journal c.in-Some.text bytes (c.in_ok-folder.ensures.read.read honest) c.in-Some.is c.deref.ensures.value in
+          let read = bytes_read old files c.in_ok-folder.journal c.in-Some.bytes bytes (c.in_ok-folder.ensures.read.read honest) c.in-Some.is c.deref.ensures.value in
           subst (λ k. IsOpened old k found.0) (sym (c.read_store.ensures.reads.same honest)) (opened_as_is old files bytes found.0 read found.1 found.2),
     )
 
 -- what was read is what the store holds
-read_so : (g : _) (c : After-open_with g) → g.S.Store.honest c.args.store.now → IsRead (g.S.Store.contents c.args.store.now) c.in_ok-folder.folder.files (Some c.deref-2.result.now)
+read_so : (g : _) (c : After-open_with g) → g.S.Store.honest c.args.store.now → WasRead (g.S.Store.contents c.args.store.now) c.in_ok-folder.folder.files (Some c.deref-2.result.now)
 read_so g c honest =
-    text_read (g.S.Store.contents c.args.store.now) c.in_ok-folder.folder.files c.in_ok-folder.journal c.in-Some.text c.deref-2.result.now
+    bytes_read (g.S.Store.contents c.args.store.now) c.in_ok-folder.folder.files c.in_ok-folder.journal c.in-Some.bytes c.deref-2.result.now
     (c.in_ok-folder.ensures.read.read honest) c.in-Some.is c.deref-2.ensures.value
 
 pub returns-clause-opened : goal.returns-clause-opened
@@ -43,13 +43,13 @@ returns-clause-opened g c =
     let new = g.S.Store.contents c.open_with.new.store in
     let result = c.open_with.result in
     stands c.args.command (g.S.Store.honest c.args.store.now) result (g.S.Store.contents c.args.store.now) new
-    (λ honest. subst (λ k. IsRead k c.in_ok-folder.folder.files (Some c.deref-2.result.now) → IfOk result (λ s. IsOpened k new (started_of s))) (c.read_store.ensures.reads.same honest)
+    (λ honest. subst (λ k. WasRead k c.in_ok-folder.folder.files (Some c.deref-2.result.now) → IfOk result (λ s. IsOpened k new (started_of s))) (c.read_store.ensures.reads.same honest)
     (c.open_with.ensures.opened (c.read_store.ensures.reads.honest honest)) (read_so g (goal.at.returns-clause-opened g c).After-open_with honest))
 
 pub returns-clause-opens : goal.returns-clause-opens
 returns-clause-opens g c honest =
     let reads = c.read_store.ensures.reads in
-    let read = subst (λ k. IsRead k c.in_ok-folder.folder.files (Some c.deref-2.result.now)) (sym (reads.same honest)) (read_so g (goal.at.returns-clause-opens g c).After-open_with honest) in
+    let read = subst (λ k. WasRead k c.in_ok-folder.folder.files (Some c.deref-2.result.now)) (sym (reads.same honest)) (read_so g (goal.at.returns-clause-opens g c).After-open_with honest) in
     opens_after_reading g.S.Store c.args.store.now c.read_store.new.store c.open_with.new.store c.open_with.result reads honest (c.read_store.ensures.read.possible honest)
     (c.open_with.ensures.opens (reads.honest honest) read)
 

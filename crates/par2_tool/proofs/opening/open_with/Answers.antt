@@ -5,8 +5,8 @@ use Rattle.par2_tool.proofs.opening.open_with.Goals.{In-Halfway}
 use Rattle.par2_tool.proofs.opening.open_with.Goals as goal
 
 -- what is to be taken back
-opens_so : (g : _) (c : In-Halfway g) → Opens c.args.folder.files c.args.text.now (Ok (Halfway (session_of_kept (session_before c.in-Halfway.halfway)) (way_left c.in-Halfway.halfway)))
-opens_so g c = subst (λ found. Opens c.args.folder.files c.args.text.now (Ok (opened_of found))) c.in-Halfway.is c.in-Ok.ensures.opened
+opens_so : (g : _) (c : In-Halfway g) → Opens c.args.folder.files c.args.bytes.now (Ok (Halfway (session_of_kept (session_before c.in-Halfway.halfway)) (way_left c.in-Halfway.halfway)))
+opens_so g c = subst (λ found. Opens c.args.folder.files c.args.bytes.now (Ok (opened_of found))) c.in-Halfway.is c.in-Ok.ensures.opened
 
 -- the journal is refused
 pub returns-in-Err-clause-opened : goal.returns-in-Err-clause-opened
@@ -20,31 +20,31 @@ returns-in-Err-clause-opens g c honest read =
 pub returns-in-Err-clause-keeps : goal.returns-in-Err-clause-keeps
 returns-in-Err-clause-keeps g c =
     stays_keeps g.S.Store c.args.store.now c.without_journal.result
-    (counted_without (g.S.Store.contents c.args.store.now) _ c.args.text.now c.in-Err.fault c.without_journal.result _ c.in-Err.ensures.files c.without_journal.ensures _)
+    (counted_without (g.S.Store.contents c.args.store.now) _ c.args.bytes.now c.in-Err.fault c.without_journal.result _ c.in-Err.ensures.files c.without_journal.ensures _)
 
 pub returns-in-Settled-clause-opened : goal.returns-in-Settled-clause-opened
 returns-in-Settled-clause-opened g c honest read =
-    let opens = subst (λ found. Opens c.args.folder.files c.args.text.now (Ok (opened_of found))) c.in-Settled.is c.in-Ok.ensures.opened in
-    let holds = holds_settled (g.S.Store.contents c.args.store.now) c.args.folder.files c.args.text.now (session_of_kept c.in-Settled.session) read opens in
+    let opens = subst (λ found. Opens c.args.folder.files c.args.bytes.now (Ok (opened_of found))) c.in-Settled.is c.in-Ok.ensures.opened in
+    let holds = holds_settled (g.S.Store.contents c.args.store.now) c.args.folder.files c.args.bytes.now (session_of_kept c.in-Settled.session) read opens in
     record { opens = holds.opens; holds = holds; left = inl refl }
 
 pub returns-in_ok-session-in-Halfway-clause-opened : goal.returns-in_ok-session-in-Halfway-clause-opened
 returns-in_ok-session-in-Halfway-clause-opened g c honest read =
     let old = g.S.Store.contents c.args.store.now in
     let new = g.S.Store.contents c.take_back.new.store in
-    let text = c.args.text.now in
+    let bytes = c.args.bytes.now in
     let halfway = c.in-Halfway.halfway in
     let arm = c.in_ok-session-in-Halfway in
     let opens = opens_so g (goal.at.returns-in_ok-session-in-Halfway-clause-opened g c).In-Halfway in
     subst (λ (s : KeptSession). IsOpened old new (with_history (session_of_kept s))) (sym arm.ensures.session)
-    (opened_taken_back old new c.args.folder.files text (session_of_kept (session_before halfway)) (way_left halfway) read opens ((arm.ensures.taken honest).done))
+    (opened_taken_back old new c.args.folder.files bytes (session_of_kept (session_before halfway)) (way_left halfway) read opens ((arm.ensures.taken honest).done))
 
 -- a halfway command is taken back, or not
 pub returns-in_err-session-in-Halfway-clause-opens : goal.returns-in_err-session-in-Halfway-clause-opens
 returns-in_err-session-in-Halfway-clause-opens g c honest read =
     let old = g.S.Store.contents c.args.store.now in
     let files = c.args.folder.files in
-    let text = c.args.text.now in
+    let bytes = c.args.bytes.now in
     let session = session_of_kept (session_before c.in-Halfway.halfway) in
     let back = way_left c.in-Halfway.halfway in
     let opens = opens_so g (goal.at.returns-in_err-session-in-Halfway-clause-opens g c).In-Halfway in
@@ -54,31 +54,31 @@ returns-in_err-session-in-Halfway-clause-opens g c honest read =
         refused = search rules;
         stopped = λ apart.
             any_err c.from_residual.result (OpensAsBefore old (g.S.Store.contents c.take_back.new.store))
-            (opens_still old (g.S.Store.contents c.take_back.new.store) files text session back read opens apart (c.in_err-session-in-Halfway.ensures.taken honest).stopped);
+            (opens_still old (g.S.Store.contents c.take_back.new.store) files bytes session back read opens apart (c.in_err-session-in-Halfway.ensures.taken honest).stopped);
       };
-      cut = λ lasts apart left may. opens_still old left files text session back read opens apart (taken.remains lasts left may);
-      possible = taken.possible (way_applies old files text session back read opens);
+      cut = λ durable apart left may. opens_still old left files bytes session back read opens apart (taken.remains durable left may);
+      possible = taken.possible (way_applies old files bytes session back read opens);
       calls =
-          let told = err_from_is_err_and c.from_residual.result c.from_residual.ensures.1 in
-          back_calls old files text session back _ _ c.from_residual.result read opens
-          (refused_calls _ _ _ c.from_residual.result _ told.0 told.1 told.2 c.in_err-session-in-Halfway.ensures.calls.refused);
+          let reported = err_from_is_err_and c.from_residual.result c.from_residual.ensures.1 in
+          back_calls old files bytes session back _ _ c.from_residual.result read opens
+          (refused_calls _ _ _ c.from_residual.result _ reported.0 reported.1 reported.2 c.in_err-session-in-Halfway.ensures.calls.refused);
     }
 
 pub returns-in_ok-session-in-Halfway-clause-opens : goal.returns-in_ok-session-in-Halfway-clause-opens
 returns-in_ok-session-in-Halfway-clause-opens g c honest read =
     let old = g.S.Store.contents c.args.store.now in
     let files = c.args.folder.files in
-    let text = c.args.text.now in
+    let bytes = c.args.bytes.now in
     let session = session_of_kept (session_before c.in-Halfway.halfway) in
     let back = way_left c.in-Halfway.halfway in
     let opens = opens_so g (goal.at.returns-in_ok-session-in-Halfway-clause-opens g c).In-Halfway in
     let taken = c.take_back.ensures.taken honest in
     record {
       unopened = record { refused = tt; stopped = λ _. tt };
-      cut = λ lasts apart left may. opens_still old left files text session back read opens apart (taken.remains lasts left may);
-      possible = taken.possible (way_applies old files text session back read opens);
+      cut = λ durable apart left may. opens_still old left files bytes session back read opens apart (taken.remains durable left may);
+      possible = taken.possible (way_applies old files bytes session back read opens);
       calls =
-          back_calls old files text session back _ _ _ read opens (record { opened = c.in_ok-session-in-Halfway.ensures.calls.opened; refused = tt });
+          back_calls old files bytes session back _ _ _ read opens (record { opened = c.in_ok-session-in-Halfway.ensures.calls.opened; refused = tt });
     }
 
 -- nothing is done to the store

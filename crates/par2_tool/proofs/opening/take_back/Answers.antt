@@ -16,7 +16,7 @@ returns-in-Ok-clause-taken g c honest = record {
   done = search rules;
   stopped = tt;
   kept = c.in-Ok.ensures.kept honest;
-  remains = λ lasts left may. still_so g (goal.at.returns-in-Ok-clause-taken g c).After-write_down left (c.write_down.ensures.written.remains honest lasts left may);
+  remains = λ durable left may. still_so g (goal.at.returns-in-Ok-clause-taken g c).After-write_down left (c.write_down.ensures.written.remains honest durable left may);
   memory = search rules;
   possible = λ all. c.write_down.ensures.possible honest (subst (λ changes. IsTrue (are_applicable (g.S.Store.contents c.args.store.now).files changes)) (sym c.changes.ensures) all);
 }
@@ -26,7 +26,7 @@ returns-in-Err-clause-taken g c honest = record {
   done = tt;
   stopped = still_so g (goal.at.returns-in-Err-clause-taken g c).After-write_down _ (c.in-Err.ensures.written.stopped honest);
   kept = tt;
-  remains = λ lasts left may. still_so g (goal.at.returns-in-Err-clause-taken g c).After-write_down left (c.write_down.ensures.written.remains honest lasts left may);
+  remains = λ durable left may. still_so g (goal.at.returns-in-Err-clause-taken g c).After-write_down left (c.write_down.ensures.written.remains honest durable left may);
   memory = search rules;
   possible = λ all. c.write_down.ensures.possible honest (subst (λ changes. IsTrue (are_applicable (g.S.Store.contents c.args.store.now).files changes)) (sym c.changes.ensures) all);
 }

@@ -1,11 +1,11 @@
-use Rattle.par2_tool.proofs.Common.{inl, ◌≡◌, ◌+◌, List, length, refl, sym, ap, subst, ◌∙◌, map, arith, le_refl, le-add_right, IsVerify, after_write_down, AreSomeMade, HoldsJournaled, IsStoppedAt, IsWritten, length-map, Verify, LeadsToAfterAsked, session_of_kept, session_after, changes_asked, Contents, action_of, command_of, report_of, MayRefuse, Plan, Two, AreSpelled, change_of, changes_by_kind, after_commit, AreAtMost, calls_asked, calls_to_write, TellsApartAlong, OpensAsBeforeOrAfter, journals_of, ok_no_err, early_refusal_of}
+use Rattle.par2_tool.proofs.Common.{inl, ◌≡◌, ◌+◌, List, length, refl, sym, ap, subst, ◌∙◌, map, arith, le_refl, le-add_right, IsVerify, after_write_down, AreSomeMade, HoldsJournaled, IsStoppedAt, IsWritten, length-map, Verify, LeadsToAfterRequested, session_of_kept, session_after, changes_requested, Contents, action_of, command_of, report_view, MayRefuse, Plan, Two, AreSpelled, change_of, changes_by_kind, after_commit, AreAtMost, calls_requested, calls_to_write, FingerprintsDifferAlong, OpensAsBeforeOrAfter, journals_of, ok_no_err, early_refusal_of}
 use Rattle.par2_spec.specs.Changes as defined
 use Rattle.par2_spec.specs.declared.commands.Command.{Command}
 use Rattle.par2_spec.proofs.AcceptedCommands.{command_leads}
-use Rattle.par2_tool.proofs.Calls.{asked_calls, ready_calls}
+use Rattle.par2_tool.proofs.Calls.{requested_calls, ready_calls}
 use Rattle.par2_tool.proofs.Openings.{any_err}
 use Rattle.par2_tool.proofs.VerifyRuns.{as_it_was, not_verify, verify_leaves, verify_refused, written_by}
-use Rattle.par2_tool.proofs.Stops.{IsMadeReady, none_made, made_ready, ready_applies, written_holds, written_journal, stopped_opens, asked_in_order}
+use Rattle.par2_tool.proofs.Stops.{IsMadeReady, none_made, made_ready, ready_applies, written_holds, written_journal, stopped_opens, requested_in_order}
 use Rattle.par2_tool.proofs.performing.perform.Goals.{After-write_down}
 use Rattle.par2_tool.proofs.performing.perform.Goals as goal
 
@@ -13,12 +13,12 @@ pub returns-in-Ok-clause-session : goal.returns-in-Ok-clause-session
 returns-in-Ok-clause-session g c =
     let s = session_of_kept c.args.session.now in
     ap (λ (x : Command). session_after s (command_of x)) c.in-Verify.is
-    ∙ verify_leaves s _ _ (report_of c.in-Ok.report) (rw c.as_str.ensures.value at (rw c.as_slice.ensures.value at c.in-Ok.ensures.report))
+    ∙ verify_leaves s _ _ (report_view c.in-Ok.report) (rw c.as_str.ensures.value at (rw c.as_slice.ensures.value at c.in-Ok.ensures.report))
 
 pub returns-in-Ok-clause-leads : goal.returns-in-Ok-clause-leads
 returns-in-Ok-clause-leads g c =
     let folder = (session_of_kept c.args.session.now).folder in
-    subst (λ (x : Command). LeadsToAfterAsked folder (command_of x)) (sym c.in-Verify.is) (λ _. command_leads folder (Verify _ _) tt)
+    subst (λ (x : Command). LeadsToAfterRequested folder (command_of x)) (sym c.in-Verify.is) (λ _. command_leads folder (Verify _ _) tt)
 
 pub returns-in-Err-clause-refused : goal.returns-in-Err-clause-refused
 returns-in-Err-clause-refused g c =
@@ -30,39 +30,39 @@ returns-in-Err-clause-refused g c =
     )
 
 pub returns-in-Err-clause-in_order : goal.returns-in-Err-clause-in_order
-returns-in-Err-clause-in_order g c honest = none_made (g.S.Store.contents c.args.store.now).files (changes_asked (session_of_kept c.args.session.now) (command_of c.args.command.now))
+returns-in-Err-clause-in_order g c honest = none_made (g.S.Store.contents c.args.store.now).files (changes_requested (session_of_kept c.args.session.now) (command_of c.args.command.now))
 
 pub returns-in-Err-prepare-clause-in_order : goal.returns-in-Err-prepare-clause-in_order
-returns-in-Err-prepare-clause-in_order g c honest = none_made (g.S.Store.contents c.args.store.now).files (changes_asked (session_of_kept c.args.session.now) (command_of c.args.command.now))
+returns-in-Err-prepare-clause-in_order g c honest = none_made (g.S.Store.contents c.args.store.now).files (changes_requested (session_of_kept c.args.session.now) (command_of c.args.command.now))
 
 pub returns-in_err-journals-clause-in_order : goal.returns-in_err-journals-clause-in_order
 returns-in_err-journals-clause-in_order g c honest =
     let files = (g.S.Store.contents c.args.store.now).files in
-    let asked = changes_asked (session_of_kept c.args.session.now) (command_of c.args.command.now) in
-    any_err c.from_residual.result (AreSomeMade asked files files) (none_made files asked)
+    let requested = changes_requested (session_of_kept c.args.session.now) (command_of c.args.command.now) in
+    any_err c.from_residual.result (AreSomeMade requested files files) (none_made files requested)
 
--- ---- where the store is left alone
+-- ---- the store is left alone
 
 pub returns-in-Ok-clause-cut : goal.returns-in-Ok-clause-cut
-returns-in-Ok-clause-cut g c honest lasts files apart left may = inl (lasts left may)
+returns-in-Ok-clause-cut g c honest durable files apart left may = inl (durable left may)
 
 pub returns-in-Ok-clause-possible : goal.returns-in-Ok-clause-possible
 returns-in-Ok-clause-possible g c honest files = refl {a = g.S.Store.impossible c.args.store.now}
 
 pub returns-in-Err-clause-cut : goal.returns-in-Err-clause-cut
-returns-in-Err-clause-cut g c honest lasts files apart left may = inl (lasts left may)
+returns-in-Err-clause-cut g c honest durable files apart left may = inl (durable left may)
 
 pub returns-in-Err-clause-possible : goal.returns-in-Err-clause-possible
 returns-in-Err-clause-possible g c honest files = refl {a = g.S.Store.impossible c.args.store.now}
 
 pub returns-in-Err-prepare-clause-cut : goal.returns-in-Err-prepare-clause-cut
-returns-in-Err-prepare-clause-cut g c honest lasts files apart left may = inl (lasts left may)
+returns-in-Err-prepare-clause-cut g c honest durable files apart left may = inl (durable left may)
 
 pub returns-in-Err-prepare-clause-possible : goal.returns-in-Err-prepare-clause-possible
 returns-in-Err-prepare-clause-possible g c honest files = refl {a = g.S.Store.impossible c.args.store.now}
 
 pub returns-in_err-journals-clause-cut : goal.returns-in_err-journals-clause-cut
-returns-in_err-journals-clause-cut g c honest lasts files apart left may = inl (lasts left may)
+returns-in_err-journals-clause-cut g c honest durable files apart left may = inl (durable left may)
 
 pub returns-in_err-journals-clause-possible : goal.returns-in_err-journals-clause-possible
 returns-in_err-journals-clause-possible g c honest files = refl {a = g.S.Store.impossible c.args.store.now}
@@ -144,7 +144,7 @@ returns-in-Err-write_down-clause-nothing_to_redo g c is none = absurd (ok_no_err
 
 -- ---- an action
 
--- what was made ready, and the changes that were written
+-- what was prepared, and the changes that were written
 made_of : (g : _) (c : After-write_down g) → IsMadeReady (action_of c.in-Act.action) c.args.session.now c.in-Ok-prepare.prepared c.prepare.new.self
 made_of g c = made_ready c.ready_changes_apply.ensures.applies c.ready_changes_apply.ensures.commits (action_of c.in-Act.action) c.args.session.now c.in-Ok-prepare.prepared c.prepare.new.self c.in-Ok-prepare.ensures.kept c.in-Ok-prepare.ensures.ready c.folder-folder.ensures.walks
 
@@ -161,13 +161,13 @@ IsStop g c left = IsStoppedAt (g.S.Store.contents c.args.store.now) c.in_ok-jour
 stop_of : (g : _) (c : After-write_down g) (left : Contents) → IsStop g c left → IsStoppedAt (g.S.Store.contents c.args.store.now) c.in_ok-journals.journals (changes_by_kind c.in-Ok-prepare.prepared.kind c.prepare.new.self) left
 stop_of g c left = subst (λ (cs : List defined.Change). IsStoppedAt (g.S.Store.contents c.args.store.now) c.in_ok-journals.journals cs left) (changed_so g c)
 
-opens_so : (g : _) (c : After-write_down g) → (g.S.Store.contents c.args.store.now).files ≡ c.args.session.now.folder.files → TellsApartAlong (session_of_kept c.args.session.now) (command_of c.args.command.now) → (left : Contents) → IsStop g c left
+opens_so : (g : _) (c : After-write_down g) → (g.S.Store.contents c.args.store.now).files ≡ c.args.session.now.folder.files → FingerprintsDifferAlong (session_of_kept c.args.session.now) (command_of c.args.command.now) → (left : Contents) → IsStop g c left
     → OpensAsBeforeOrAfter (session_of_kept c.args.session.now) (command_of c.args.command.now) (g.S.Store.contents c.args.store.now) left
 opens_so g c files apart left stop =
     let session = session_of_kept c.args.session.now in
     subst (λ (x : Command). OpensAsBeforeOrAfter session (command_of x) (g.S.Store.contents c.args.store.now) left) (sym c.in-Act.is)
     (stopped_opens (action_of c.in-Act.action) c.args.session.now c.in-Ok-prepare.prepared c.prepare.new.self (made_of g c) c.in_ok-journals.journals (spelled_so g c) (g.S.Store.contents c.args.store.now) files left (stop_of g c left stop)
-    (subst (λ (x : Command). TellsApartAlong session (command_of x)) c.in-Act.is apart) c.in-Ok-prepare.ensures.leads)
+    (subst (λ (x : Command). FingerprintsDifferAlong session (command_of x)) c.in-Act.is apart) c.in-Ok-prepare.ensures.leads)
 
 pub returns-in-Ok-write_down-clause-written : goal.returns-in-Ok-write_down-clause-written
 returns-in-Ok-write_down-clause-written g c honest files =
@@ -196,8 +196,8 @@ returns-in-Err-write_down-clause-in_order g c honest =
     let at = (goal.at.returns-in-Err-write_down-clause-in_order g c).After-write_down in
     let start = g.S.Store.contents c.args.store.now in
     let new = g.S.Store.contents c.write_down.new.store in
-    subst (λ (x : Command). AreSomeMade (changes_asked (session_of_kept c.args.session.now) (command_of x)) start.files new.files) (sym c.in-Act.is)
-    (asked_in_order (action_of c.in-Act.action) c.args.session.now c.in-Ok-prepare.prepared c.prepare.new.self (made_of g at) start c.in_ok-journals.journals new (stop_of g at new (c.in-Err-write_down.ensures.written.stopped honest)))
+    subst (λ (x : Command). AreSomeMade (changes_requested (session_of_kept c.args.session.now) (command_of x)) start.files new.files) (sym c.in-Act.is)
+    (requested_in_order (action_of c.in-Act.action) c.args.session.now c.in-Ok-prepare.prepared c.prepare.new.self (made_of g at) start c.in_ok-journals.journals new (stop_of g at new (c.in-Err-write_down.ensures.written.stopped honest)))
 
 possible_so : (g : _) (c : After-write_down g) → g.S.Store.honest c.args.store.now → (g.S.Store.contents c.args.store.now).files ≡ c.args.session.now.folder.files → g.S.Store.impossible c.write_down.new.store ≡ g.S.Store.impossible c.args.store.now
 possible_so g c honest files = c.write_down.ensures.possible honest
@@ -210,25 +210,25 @@ pub returns-in-Err-write_down-clause-possible : goal.returns-in-Err-write_down-c
 returns-in-Err-write_down-clause-possible g c = possible_so g (goal.at.returns-in-Err-write_down-clause-possible g c).After-write_down
 
 pub returns-in-Ok-write_down-clause-cut : goal.returns-in-Ok-write_down-clause-cut
-returns-in-Ok-write_down-clause-cut g c honest lasts files apart left may = opens_so g (goal.at.returns-in-Ok-write_down-clause-cut g c).After-write_down files apart left (c.write_down.ensures.written.remains honest lasts left may)
+returns-in-Ok-write_down-clause-cut g c honest durable files apart left may = opens_so g (goal.at.returns-in-Ok-write_down-clause-cut g c).After-write_down files apart left (c.write_down.ensures.written.remains honest durable left may)
 
 pub returns-in-Err-write_down-clause-cut : goal.returns-in-Err-write_down-clause-cut
-returns-in-Err-write_down-clause-cut g c honest lasts files apart left may = opens_so g (goal.at.returns-in-Err-write_down-clause-cut g c).After-write_down files apart left (c.write_down.ensures.written.remains honest lasts left may)
+returns-in-Err-write_down-clause-cut g c honest durable files apart left may = opens_so g (goal.at.returns-in-Err-write_down-clause-cut g c).After-write_down files apart left (c.write_down.ensures.written.remains honest durable left may)
 
 -- ---- the writing calls
 
 pub returns-in-Ok-clause-calls : goal.returns-in-Ok-clause-calls
 returns-in-Ok-clause-calls g c =
     let made = g.S.Store.writing_calls c.args.store.now in
-    subst (λ (x : Command). made ≡ made + calls_asked (session_of_kept c.args.session.now) (command_of x)) (sym c.in-Verify.is) (omega arith)
+    subst (λ (x : Command). made ≡ made + calls_requested (session_of_kept c.args.session.now) (command_of x)) (sym c.in-Verify.is) (omega arith)
 
-calls_so : (g : _) (c : After-write_down g) → calls_to_write c.in_ok-journals.journals (length c.changes.result.now) ≡ calls_asked (session_of_kept c.args.session.now) (command_of c.args.command.now)
+calls_so : (g : _) (c : After-write_down g) → calls_to_write c.in_ok-journals.journals (length c.changes.result.now) ≡ calls_requested (session_of_kept c.args.session.now) (command_of c.args.command.now)
 calls_so g c =
     let old = c.args.session.now in
     ap (calls_to_write c.in_ok-journals.journals) (sym (length-map c.changes.result.now change_of) ∙ ap length (changed_so g c))
     ∙ ready_calls (action_of c.in-Act.action) old c.in-Ok-prepare.prepared c.prepare.new.self (made_of g c) c.in_ok-journals.journals (spelled_so g c)
-    ∙ asked_calls c.in-Act.action (session_of_kept old)
-    ∙ ap (λ (x : Command). calls_asked (session_of_kept old) (command_of x)) (sym c.in-Act.is)
+    ∙ requested_calls c.in-Act.action (session_of_kept old)
+    ∙ ap (λ (x : Command). calls_requested (session_of_kept old) (command_of x)) (sym c.in-Act.is)
 
 pub returns-in-Ok-write_down-clause-calls : goal.returns-in-Ok-write_down-clause-calls
 returns-in-Ok-write_down-clause-calls g c =

@@ -4,10 +4,10 @@ use Rattle.std.specs.Vec.Iter.{into_iter_items}
 use Rattle.std.proofs.lemmas.Result.{IfOk-weaker, IfErr-weaker}
 use Rattle.par2_spec.specs.declared.Failure.TheVariants as failure
 use Rattle.par2_spec.specs.declared.Fault.TheVariants as fault
-use Rattle.par2_tool.specs.Telling.{IsNotStarted, IsRun}
+use Rattle.par2_tool.specs.RunResult.{IsNotStarted, IsRun}
 use Rattle.par2_tool.proofs.starting.start.Goals as goal
 
--- what holds of all arguments holds where they were given
+-- what holds of all arguments holds of those that were given
 where_given : {A E : Type 0} (given : Result A E) (P : A → Type 0) → (IsOk given → (args : A) → P args) → IfOk given P
 where_given (Ok args) P all = all refl args
 where_given (Err error) P all = tt
@@ -17,7 +17,7 @@ returns-in-Ok-clause-run g c =
     IfOk-weaker c.args.given _ _
     (λ args is. subst
     (λ words. IsRun g.S.Store g.O.Write.contents g.E.Write.contents (map string_bytes words) c.args.store.now c.run.new.store c.args.out.now c.run.new.out c.args.err.now c.run.new.err c.run.result)
-    (c.as_slice.ensures.value ∙ is) c.run.ensures.told)
+    (c.as_slice.ensures.value ∙ is) c.run.ensures.reported)
     c.in-Ok.ensures.words
 
 pub returns-in-Ok-clause-memory : goal.returns-in-Ok-clause-memory
@@ -33,8 +33,8 @@ returns-in-Err-clause-run g c =
     (λ given args.
     let unread : IsUnread (map string_bytes (drop 1 (into_iter_items args))) c.in-Err.failure = inr (c.in-Err.ensures.whole given) in
     record {
-      telling = Failed [] c.in-Err.failure;
-      told = inl (refl, unread, refl {a = g.S.Store.failures store});
+      run_result = Failed [] c.in-Err.failure;
+      reported = inl (refl, unread, refl {a = g.S.Store.failures store});
       shown = (c.fail.ensures, refl {a = c.args.out.now});
       leaves = λ _. inl (unread, refl {a = g.S.Store.contents store});
       calls = λ _. inl (unread, refl {a = g.S.Store.writing_calls store});

@@ -1,5 +1,5 @@
 use Rattle.par2_tool.proofs.Common.{map, ap, ◌∙◌, arith, take_all, Contents, with_change, change_of, with_all_changes}
-use Rattle.par2_tool.proofs.MadeChanges.{applicable_here, made_next, all_remain, next_remains}
+use Rattle.par2_tool.proofs.MadeChanges.{applicable_here, made_next, all_crash_states, next_remains}
 use Rattle.par2_tool.proofs.writing.write_changes.Goals as goal
 
 pub returns-in-Err-clause-written : goal.returns-in-Err-clause-written
@@ -11,7 +11,7 @@ returns-in-Err-clause-written g c =
       honest = λ h. call.honest (held.honest h);
       done = λ _. tt;
       stopped = λ h. between _ c.args.changes.now c.loop-change.change-index c.change-item.result c.loop-change-test.true c.change-item.is (held.made h) (c.in-Err.ensures.made.writes.all_or_none (held.honest h));
-      remains = λ h lasts left may. between _ c.args.changes.now c.loop-change.change-index c.change-item.result c.loop-change-test.true c.change-item.is (held.made h) (call.remains (held.honest h) (held.lasts h lasts) left may);
+      remains = λ h durable left may. between _ c.args.changes.now c.loop-change.change-index c.change-item.result c.loop-change-test.true c.change-item.is (held.made h) (call.remains (held.honest h) (held.durable h durable) left may);
     }
 
 pub returns-clause-written : goal.returns-clause-written
@@ -23,7 +23,7 @@ returns-clause-written g c =
       honest = held.honest;
       done = λ h. held.made h ∙ ap (λ cs. with_all_changes start (map change_of cs)) (take_all c.loop-change.change-index changes c.loop-change-test.false);
       stopped = λ _. tt;
-      remains = λ h lasts left may. all_remain start (g.S.Store.contents c.loop-change.store) left changes c.loop-change.change-index c.loop-change-test.false (held.made h) (held.lasts h lasts left may);
+      remains = λ h durable left may. all_crash_states start (g.S.Store.contents c.loop-change.store) left changes c.loop-change.change-index c.loop-change-test.false (held.made h) (held.durable h durable left may);
     }
 
 pub returns-in-Err-clause-possible : goal.returns-in-Err-clause-possible
@@ -42,7 +42,7 @@ loop-change-preserved g c =
           call.done (held.honest h)
           ∙ ap (λ (k : Contents). with_change k (change_of item)) (held.made h)
           ∙ made_next (g.S.Store.contents c.args.store.now) c.args.changes.now c.loop-change.change-index item c.loop-change-test.true c.change-item.is;
-      lasts = λ h _. call.lasts (held.honest h);
+      durable = λ h _. call.durable (held.honest h);
       later = omega (arith, held.later, c.write_change.ensures.failures.later);
       steady = c.in-Ok.ensures.failures.steady ∙ held.steady;
       possible = λ h all.

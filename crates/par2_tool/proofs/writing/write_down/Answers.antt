@@ -1,11 +1,11 @@
 use Rattle.par2_tool.proofs.Common.{◌≡◌, IsTrue, subst, map, Result, Ok, Err, ap, sym, ◌∙◌, true≢false, are_applicable, Contents, with_journal, OnOk, IsErr, on_err_weaker, on_ok_weaker, change_of, with_all_changes, IsStoppedAt}
 use Rattle.par2_tool.proofs.Openings.{any_err}
-use Rattle.par2_tool.proofs.MadeChanges.{begun_remains, some_remain, ended_remains}
+use Rattle.par2_tool.proofs.MadeChanges.{begun_remains, some_crash_states, ended_remains}
 use Rattle.par2_tool.proofs.Stops.{halfway_files}
 use Rattle.par2_tool.proofs.writing.write_down.Goals.{After-write_changes}
 use Rattle.par2_tool.proofs.writing.write_down.Goals as goal
 
--- what was refused is not done
+-- a refused result is not a done one
 none_done : {T E : Type 0} (r : Result T E) (P : Type 0) → IsErr r → OnOk r P
 none_done (Ok v) P is = absurd (true≢false (sym is))
 none_done (Err e) P is = tt
@@ -20,7 +20,7 @@ returns-in_err-begin-clause-written g c =
       honest = c.begin.ensures.written.honest;
       done = λ h. none_done c.from_residual.result _ c.from_residual.ensures.0;
       stopped = λ h. any_err c.from_residual.result (IsStoppedAt old journals changes new) (begun_remains old journals changes new (c.in_err-begin.ensures.written.stopped h));
-      remains = λ h lasts left may. begun_remains old journals changes left (c.begin.ensures.written.remains h lasts left may);
+      remains = λ h durable left may. begun_remains old journals changes left (c.begin.ensures.written.remains h durable left may);
     }
 
 pub returns-in_err-write_changes-clause-written : goal.returns-in_err-write_changes-clause-written
@@ -36,8 +36,8 @@ returns-in_err-write_changes-clause-written g c =
       honest = λ h. some.honest (begun.written.honest h);
       done = λ h. none_done c.from_residual-in_err-write_changes.result _ c.from_residual-in_err-write_changes.ensures.0;
       stopped = λ h. any_err c.from_residual-in_err-write_changes.result (IsStoppedAt old journals changes new)
-          (some_remain old journals changes mid new (begun.written.done h) (c.in_err-write_changes.ensures.written.stopped (begun.written.honest h)));
-      remains = λ h lasts left may. some_remain old journals changes mid left (begun.written.done h) (some.remains (begun.written.honest h) (begun.kept h lasts) left may);
+          (some_crash_states old journals changes mid new (begun.written.done h) (c.in_err-write_changes.ensures.written.stopped (begun.written.honest h)));
+      remains = λ h durable left may. some_crash_states old journals changes mid left (begun.written.done h) (some.remains (begun.written.honest h) (begun.kept h durable) left may);
     }
 
 pub returns-clause-written : goal.returns-clause-written
@@ -59,8 +59,8 @@ returns-clause-written g c =
       stopped = λ h.
           let either = rw c.deref.ensures.value at (put.all_or_none (all.written.honest (begun.written.honest h))) in
           on_err_weaker c.put_journal.result (ended_remains old journals changes mid made new (begun.written.done h) (all.written.done (begun.written.honest h))) either;
-      remains = λ h lasts left may.
-          let kept = all.kept (begun.written.honest h) (begun.kept h lasts) in
+      remains = λ h durable left may.
+          let kept = all.kept (begun.written.honest h) (begun.kept h durable) in
           let either = rw c.deref.ensures.value at (put.remains (all.written.honest (begun.written.honest h)) kept left may) in
           ended_remains old journals changes mid made left (begun.written.done h) (all.written.done (begun.written.honest h)) either;
     }
@@ -74,7 +74,7 @@ pub returns-in_err-write_changes-clause-kept : goal.returns-in_err-write_changes
 returns-in_err-write_changes-clause-kept g c h = none_done c.from_residual-in_err-write_changes.result _ c.from_residual-in_err-write_changes.ensures.0
 
 pub returns-clause-kept : goal.returns-clause-kept
-returns-clause-kept g c h = c.put_journal.ensures.put.writes.lasts (c.in_ok-write_changes.ensures.written.honest (c.in_ok-begin.ensures.written.honest h))
+returns-clause-kept g c h = c.put_journal.ensures.put.writes.durable (c.in_ok-write_changes.ensures.written.honest (c.in_ok-begin.ensures.written.honest h))
 
 possible_so : (g : _) (c : After-write_changes g) → g.S.Store.honest c.args.store.now → IsTrue (are_applicable (g.S.Store.contents c.args.store.now).files (map change_of c.args.changes.now))
     → g.S.Store.impossible c.write_changes.new.store ≡ g.S.Store.impossible c.args.store.now

@@ -1,5 +1,5 @@
 use mir.Val.{bool_byte}
-use Rattle.par2_transform.proofs.Common.{if◌then◌else◌, arith, ◌≡◌, ◌+◌, ◌∙◌, ℕ, Bool, true, false, refl, ap, sym, subst, Vec, Global, is_spared}
+use Rattle.par2_transform.proofs.Common.{if◌then◌else◌, arith, ◌≡◌, ◌+◌, ◌∙◌, ℕ, Bool, true, false, refl, ap, sym, subst, Vec, Global, is_coprime}
 use Rattle.par2_transform.proofs.NumberLaws.{AreFound, bit_of, none_found, one_found, enough_found, all_found}
 use Rattle.par2_transform.proofs.exponents.slice_numbers.Goals.{then-found-n+in_ok-push, else-found-n}
 use Rattle.par2_transform.proofs.exponents.slice_numbers.Goals as goal
@@ -16,8 +16,8 @@ loop-exponent-preserved c = elim c.if-found-n.branch [
   | then-found-n+in_ok-push w ↦
       subst (λ xs. AreFound c.args.n xs c.if-found-n.found (c.loop-exponent.exponent + 1)) (sym (ap (λ (v : Vec ℕ Global). v.items) w.numbers-is ∙ w.in_ok-push.ensures.items))
       (one_found c.args.n c.loop-exponent.found c.loop-exponent.exponent w.number.result c.if-found-n.found c.loop-exponent.numbers.items c.loop-exponent.invariant w.if-found-n.true
-      (w.number.ensures ∙ ap (λ b. if b then c.loop-exponent.found else 65535) w.is_spared-spared.ensures)
-      (w.found-is ∙ ap (λ b. c.loop-exponent.found + bool_byte b) w.is_spared-spared.ensures ∙ ap (λ k. c.loop-exponent.found + k) (byte_is (is_spared c.loop-exponent.exponent))))
+      (w.number.ensures ∙ ap (λ b. if b then c.loop-exponent.found else 65535) w.is_coprime-coprime.ensures)
+      (w.found-is ∙ ap (λ b. c.loop-exponent.found + bool_byte b) w.is_coprime-coprime.ensures ∙ ap (λ k. c.loop-exponent.found + k) (byte_is (is_coprime c.loop-exponent.exponent))))
   | else-found-n w ↦
       subst (λ xs. AreFound c.args.n xs c.if-found-n.found (c.loop-exponent.exponent + 1)) (sym (ap (λ (v : Vec ℕ Global). v.items) w.numbers-is))
       (subst (λ k. AreFound c.args.n c.loop-exponent.numbers.items k (c.loop-exponent.exponent + 1)) (sym w.found-is)

@@ -2,28 +2,28 @@ use Rattle.par2_transform.proofs.Common.{◌-◌, ℕ, ap, subst, arith, length,
 use Rattle.par2_transform.proofs.AddingLaws.{adds_to_one}
 use Rattle.par2_transform.proofs.outputs.add_to_output.Goals as goal
 
-pub add_to_text-requires-clause-place : goal.add_to_text-requires-clause-place
-add_to_text-requires-clause-place c =
+pub add_to_bytes-requires-clause-place : goal.add_to_bytes-requires-clause-place
+add_to_bytes-requires-clause-place c =
     let low = (c.requires.room c.args.t c.requires.place).0 in
-    let same = ap (λ (place : Place). place.text) c.place_of-place.ensures in
-    let count = length-lists_of c.args.texts.now in
+    let same = ap (λ (place : Place). place.buffer) c.place_of-place.ensures in
+    let count = length-lists_of c.args.buffers.now in
     omega (arith, low, same, count)
 
-pub add_to_text-requires-clause-room : goal.add_to_text-requires-clause-room
-add_to_text-requires-clause-room c =
-    let texts = lists_of c.args.texts.now in
+pub add_to_bytes-requires-clause-room : goal.add_to_bytes-requires-clause-room
+add_to_bytes-requires-clause-room c =
+    let buffers = lists_of c.args.buffers.now in
     let fits = (c.requires.room c.args.t c.requires.place).1 in
     let at = ap (λ (place : Place). place.at) c.place_of-place.ensures in
-    let size = ap (λ (place : Place). length (list_at texts place.text)) c.place_of-place.ensures in
+    let size = ap (λ (place : Place). length (list_at buffers place.buffer)) c.place_of-place.ensures in
     omega (arith, fits, at, size)
 
 pub returns : goal.returns
 returns c =
-    let was = lists_of c.args.texts.now in
-    let new = lists_of c.add_to_text.new.texts in
+    let was = lists_of c.args.buffers.now in
+    let new = lists_of c.add_to_bytes.new.buffers in
     let place = c.place_of-place.result in
     let product = λ (k p : ℕ). within c.args.from c.args.to p (mul k (word (p - c.args.from) c.args.row.now)) in
     adds_to_one c.args.outputs.now.places.now c.args.outputs.now.words c.args.t (product c.args.c) was new c.args.outputs.now.apart c.requires.place
-    (subst (λ (x : Place). OneChanged was new x.text) c.place_of-place.ensures c.add_to_text.ensures.changed)
-    (subst (λ (x : Place). AddsToPart x.at c.args.outputs.now.words (product c.args.c) (list_at was x.text) (list_at new x.text)) c.place_of-place.ensures
-    (subst (λ (k : ℕ). AddsToPart place.at c.args.outputs.now.words (product k) (list_at was place.text) (list_at new place.text)) c.new-factor.ensures c.add_to_text.ensures.added))
+    (subst (λ (x : Place). OneChanged was new x.buffer) c.place_of-place.ensures c.add_to_bytes.ensures.changed)
+    (subst (λ (x : Place). AddsToPart x.at c.args.outputs.now.words (product c.args.c) (list_at was x.buffer) (list_at new x.buffer)) c.place_of-place.ensures
+    (subst (λ (k : ℕ). AddsToPart place.at c.args.outputs.now.words (product k) (list_at was place.buffer) (list_at new place.buffer)) c.new-factor.ensures c.add_to_bytes.ensures.added))

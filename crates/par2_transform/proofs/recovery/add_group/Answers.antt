@@ -1,4 +1,4 @@
-use Rattle.par2_transform.proofs.Common.{◌≤◌, ◌+◌, ℕ, List, length, sym, ap, ap₂, ◌∙◌, subst, arith, add_assoc, IfOk-weaker, lists_of, AddsAt, LieWithin, texts_of, recovered, Place}
+use Rattle.par2_transform.proofs.Common.{◌≤◌, ◌+◌, ℕ, List, length, sym, ap, ap₂, ◌∙◌, subst, arith, add_assoc, IfOk-weaker, lists_of, AddsAt, LieWithin, byte_lists, recovered, Place}
 use Rattle.par2_transform.proofs.AddingLaws.{adds_same}
 use Rattle.par2_transform.proofs.GroupLaws.{group_of, length-group, group_within, adds_to_group}
 use Rattle.par2_transform.proofs.recovery.add_group.Goals as goal
@@ -14,20 +14,20 @@ pub add_words-requires-clause-room : goal.add_words-requires-clause-room
 add_words-requires-clause-room c =
     let from = c.args.from in
     let to = c.args.to in
-    let texts = lists_of c.args.texts.now in
+    let buffers = lists_of c.args.buffers.now in
     let group = c.part-group.result in
     let order : from ≤ to = (let h = c.requires.group.0 in omega (arith, h)) in
-    subst (λ (places : List Place). LieWithin group.words places texts) (sym c.part-group.ensures.places)
-    (subst (λ (words : ℕ). LieWithin words (group_of from to c.args.outputs.now.places.now) texts) (sym c.part-group.ensures.words)
-    (group_within c.args.outputs.now.words from to c.args.outputs.now.places.now texts order c.requires.group.1 c.requires.room))
+    subst (λ (places : List Place). LieWithin group.words places buffers) (sym c.part-group.ensures.places)
+    (subst (λ (words : ℕ). LieWithin words (group_of from to c.args.outputs.now.places.now) buffers) (sym c.part-group.ensures.words)
+    (group_within c.args.outputs.now.words from to c.args.outputs.now.places.now buffers order c.requires.group.1 c.requires.room))
 
 pub returns : goal.returns
 returns c =
     let from = c.args.from in
     let to = c.args.to in
-    let was = lists_of c.args.texts.now in
-    let new = lists_of c.add_words.new.texts in
-    let slices = texts_of c.args.slices.now in
+    let was = lists_of c.args.buffers.now in
+    let new = lists_of c.add_words.new.buffers in
+    let slices = byte_lists c.args.slices.now in
     let first = c.args.first in
     let group = c.part-group.result in
     let windows = c.in_ok-windows.windows in

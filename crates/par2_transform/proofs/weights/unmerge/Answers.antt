@@ -2,7 +2,7 @@ use Rattle.par2_transform.proofs.Common.{ℕ, suc, ◌+◌, ◌*◌, ◌%◌, �
 use Rattle.par2_transform.proofs.StepLaws.{shifted, double_power, run_starts, unmerged_runs, run_at, lowered_at}
 use Rattle.par2_transform.proofs.weights.unmerge.Goals as goal
 
--- the places of a pair, as the code computes them
+-- the positions of a pair, as the code computes them
 places : (i q : ℕ) → i < 16 → (1 * 2 ^ i % 18446744073709551616 ≡ 2 ^ i) × (q * 2 * (1 * 2 ^ i % 18446744073709551616) ≡ q * 2 ^ suc i) × (2 ^ suc i ≡ 2 ^ i + 2 ^ i)
 places i q few = (shifted i few, ap (λ n. q * 2 * n) (shifted i few) ∙ run_starts i q, double_power i)
 

@@ -3,4 +3,4 @@ use Rattle.par2_solve.specs.Writing.{output_at}
 use Rattle.recovery_calls.proofs.outputs.are_blank.Given as goal
 
 abbrev pub invariant-loop-t : goal.invariant-loop-t
-invariant-loop-t l = (t : ℕ) → t < l.t → output_at (2 * l.words) (place_at l.places t) (lists_of l.texts) ≡ replicate (2 * l.words) 0
+invariant-loop-t l = (t : ℕ) → t < l.t → output_at (2 * l.words) (place_at l.places t) (lists_of l.buffers) ≡ replicate (2 * l.words) 0

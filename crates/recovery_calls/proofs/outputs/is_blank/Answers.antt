@@ -3,6 +3,6 @@ use Rattle.recovery_calls.proofs.outputs.is_blank.Goals as goal
 
 pub returns : goal.returns
 returns c = λ _.
-    let text = c.args.text.now in
-    ext_get_or 0 text (replicate (length text) 0) (sym (length-replicate {A = ℕ} (length text) 0))
-    (λ k low. c.loop-k.invariant k (omega (arith, low, c.loop-k-test.false)) ∙ sym (get_or-replicate (length text) k 0 0 low))
+    let bytes = c.args.bytes.now in
+    ext_get_or 0 bytes (replicate (length bytes) 0) (sym (length-replicate {A = ℕ} (length bytes) 0))
+    (λ k low. c.loop-k.invariant k (omega (arith, low, c.loop-k-test.false)) ∙ sym (get_or-replicate (length bytes) k 0 0 low))

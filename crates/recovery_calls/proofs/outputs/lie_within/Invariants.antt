@@ -3,4 +3,4 @@ use Rattle.recovery_calls.proofs.outputs.lie_within.Given as goal
 
 abbrev pub invariant-loop-t : goal.invariant-loop-t
 invariant-loop-t l =
-    (t : ℕ) → t < l.t → ((place_at l.places t).text < length (lists_of l.texts)) × ((place_at l.places t).at + 2 * l.words ≤ length (list_at (lists_of l.texts) (place_at l.places t).text))
+    (t : ℕ) → t < l.t → ((place_at l.places t).buffer < length (lists_of l.buffers)) × ((place_at l.places t).at + 2 * l.words ≤ length (list_at (lists_of l.buffers) (place_at l.places t).buffer))

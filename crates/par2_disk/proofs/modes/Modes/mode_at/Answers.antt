@@ -1,5 +1,5 @@
 use Rattle.par2_disk.proofs.Common.{bit_and}
-use Rattle.par2_disk.proofs.Rights.{narrower, within_first, within_on, within_second}
+use Rattle.par2_disk.proofs.Permissions.{narrower, within_first, within_on, within_second}
 use Rattle.par2_disk.proofs.modes.Modes.mode_at.Goals as goal
 
 pub returns-in-File-clause-all : goal.returns-in-File-clause-all

@@ -1,5 +1,5 @@
 use Rattle.par2_files.proofs.Common.{◌<◌, length, arith, change_of}
-use Rattle.par2_files.proofs.Lists.{sets_out, is_accepted, goes_on, arrived, turned_round}
+use Rattle.par2_files.proofs.Lists.{sets_out, is_accepted, goes_on, arrived, reversed_round}
 use Rattle.par2_files.proofs.folder.Folder.apply_all.Goals as goal
 
 pub loop-change-init : goal.loop-change-init
@@ -23,4 +23,4 @@ pub returns-clause-folder : goal.returns-clause-folder
 returns-clause-folder c = arrived change_of _ _ _ _ _ c.loop-change.invariant c.loop-change-test.false
 
 pub returns-clause-way_back : goal.returns-clause-way_back
-returns-clause-way_back c = rw c.reverse.ensures.after (turned_round change_of _ _ _ _ _ c.loop-change.invariant c.loop-change-test.false (omega arith))
+returns-clause-way_back c = rw c.reverse.ensures.after (reversed_round change_of _ _ _ _ _ c.loop-change.invariant c.loop-change-test.false (omega arith))

@@ -1,6 +1,6 @@
 use Rattle.par2_files.proofs.Common.{sym}
-use Rattle.par2_spec.proofs.NameTests.{no_text}
+use Rattle.par2_spec.proofs.NameTests.{no_bytes}
 use Rattle.par2_files.proofs.name.Name.from_bytes.Goals as goal
 
 pub returns-in_default-clause-variant : goal.returns-in_default-clause-variant
-returns-in_default-clause-variant c = sym (no_text c.args.bytes.now c.in_default.ensures.cases.0)
+returns-in_default-clause-variant c = sym (no_bytes c.args.bytes.now c.in_default.ensures.cases.0)

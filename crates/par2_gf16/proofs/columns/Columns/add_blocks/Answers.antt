@@ -12,7 +12,7 @@ loop-block-preserved c =
     let mid = c.loop-block.dst in
     let new = c.add_nibbles.new.dst in
     let low : n < length it.blocks.items = omega (arith, c.loop-block-test.true, c.len-block-end.ensures) in
-    let has = subst (λ b. HasNibbles (take 64 (drop (2 * at) it.text.now)) b) (sym c.index.ensures) (c.self.invariant.split n c.index.result.now low) in
+    let has = subst (λ b. HasNibbles (take 64 (drop (2 * at) it.bytes.now)) b) (sym c.index.ensures) (c.self.invariant.split n c.index.result.now low) in
     let is : it.from + 32 * (n + 1) ≡ at + 32 = omega arith in
     rw (← c.self.view_is, is)
-    (adds_after factor it.text.now old mid new it.from at (at + 32) (omega arith) (omega arith) (rw (← c.self.view_is) at c.loop-block.invariant) (c.add_nibbles.ensures it.text.now c.self.invariant.fits has))
+    (adds_after factor it.bytes.now old mid new it.from at (at + 32) (omega arith) (omega arith) (rw (← c.self.view_is) at c.loop-block.invariant) (c.add_nibbles.ensures it.bytes.now c.self.invariant.fits has))

@@ -9,6 +9,6 @@ loop-block-preserved c =
     let pushed = c.in_ok-push.ensures.items in
     let count : length c.push.new.self.items ≡ c.loop-block.block + 1 = omega (arith, ap length pushed, length-append blocks (block ∷ []), c.loop-block.invariant.0) in (
       count,
-      subst (AreSplit c.args.text.now c.args.from) (sym pushed)
-          (next_block c.args.text.now c.args.from c.loop-block.block blocks block c.loop-block.invariant.0 c.loop-block.invariant.1 c.nibbles_at.ensures),
+      subst (AreSplit c.args.bytes.now c.args.from) (sym pushed)
+          (next_block c.args.bytes.now c.args.from c.loop-block.block blocks block c.loop-block.invariant.0 c.loop-block.invariant.1 c.nibbles_at.ensures),
     )

@@ -5,5 +5,5 @@ pub returns : goal.returns
 returns c =
     let columns = c.args.columns.now in
     let blocks = c.add_blocks-behind in
-    adds_after c.args.factor.now columns.text c.args.dst.now blocks.new.dst c.add_words.new.dst columns.from blocks.result columns.to blocks.ensures.begun blocks.ensures.order blocks.ensures.added
-    (rw (c.element.ensures, c.text.ensures, c.end.ensures) at c.add_words.ensures)
+    adds_after c.args.factor.now columns.bytes c.args.dst.now blocks.new.dst c.add_words.new.dst columns.from blocks.result columns.to blocks.ensures.begun blocks.ensures.order blocks.ensures.added
+    (rw (c.element.ensures, c.bytes.ensures, c.end.ensures) at c.add_words.ensures)

@@ -1,5 +1,5 @@
 use Rattle.par2_gf16.proofs.Common.{arith, sym, ◌∙◌}
-use Rattle.par2_gf16.proofs.TableLaws.{first_start, first_pushed, first_kept, second_turn, tables_made}
+use Rattle.par2_gf16.proofs.TableLaws.{first_start, first_pushed, first_kept, second_step, tables_made}
 use Rattle.par2_gf16.proofs.tables.Gf.new.Goals.{then-is_constant_power+in_ok-push-2, else-is_constant_power}
 use Rattle.par2_gf16.proofs.tables.Gf.new.Goals as goal
 
@@ -21,7 +21,7 @@ loop-i-preserved c =
 pub loop-j-preserved : goal.loop-j-preserved
 loop-j-preserved c =
     let l = c.loop-j in
-    rw c.in_ok-push-3.ensures.items (second_turn l.powers.items l.x c.doubled-x-in-loop-j.result l.j l.invariant c.doubled-x-in-loop-j.ensures)
+    rw c.in_ok-push-3.ensures.items (second_step l.powers.items l.x c.doubled-x-in-loop-j.result l.j l.invariant c.doubled-x-in-loop-j.ensures)
 
 pub invariant_of-result : goal.invariant_of-result
 invariant_of-result c = record {

@@ -11,7 +11,7 @@ returns-then-not-can_take c files are =
     let item = c.change-item.result in
     let others = drop (c.loop-change.change-index + 1) (changes_in c.args.changes.now) in
     record {
-      told = change_refused so_far.now (change_of item) others (sym (c.can_take.ensures so_far.now so_far.are) ∙ c.if-not-can_take.true)
+      reported = change_refused so_far.now (change_of item) others (sym (c.can_take.ensures so_far.now so_far.are) ∙ c.if-not-can_take.true)
           ∙ ap (λ t. t.0) (here change_of tried files c.args.changes.now _ _ so_far c.loop-change-test.true item c.change-item.is);
       are = λ h. absurd (false≢true h);
     }
@@ -27,4 +27,4 @@ pub returns : goal.returns
 returns c files are =
     let so_far = c.loop-change.invariant files are in
     let end = sym (all_made so_far.now) ∙ ends change_of tried files c.args.changes.now _ _ so_far c.loop-change-test.false in
-    record { told = ap (λ t. t.0) end; are = λ _. subst (λ f. AreNamesOf f (names_in c.loop-change.self)) (ap (λ t. t.1) end) so_far.are }
+    record { reported = ap (λ t. t.0) end; are = λ _. subst (λ f. AreNamesOf f (names_in c.loop-change.self)) (ap (λ t. t.1) end) so_far.are }

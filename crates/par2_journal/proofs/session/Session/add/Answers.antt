@@ -1,7 +1,7 @@
 use Rattle.par2_journal.proofs.Common.{ap, sym, subst, ◌∙◌, arith, insert, takes_all, KeptSession}
 use Rattle.std.specs.Prelude.{IsTrue}
 use Rattle.par2_journal.proofs.Entries.{length_added}
-use Rattle.par2_journal.proofs.Turns.{done_walks}
+use Rattle.par2_journal.proofs.HistorySteps.{done_walks}
 use Rattle.par2_journal.proofs.session.Session.add.Goals as goal
 
 pub invariant_of-self : goal.invariant_of-self
@@ -9,11 +9,11 @@ invariant_of-self c =
     let xs = c.self.inside.entries.items in
     let n = c.self.inside.cursor in
     let within = c.self.invariant.within in
-    let turned = c.turn.new.self in
+    let inverted = c.apply_and_invert.new.self in
     let applies = subst (λ (s : KeptSession). IsTrue (takes_all s.folder c.args.changes)) (sym c.self.view_is) c.requires.applies in
-    let items = c.in-Ok.ensures.items ∙ ap (λ l. insert l n turned) c.truncate.ensures.items in
+    let items = c.in-Ok.ensures.items ∙ ap (λ l. insert l n inverted) c.truncate.ensures.items in
     record {
-      within = rw items (omega (arith, length_added xs n within turned));
-      walks = rw items (done_walks c.self.inside.folder c.turn.new.folder xs n within _ _ c.args.changes turned c.turn.ensures.folder c.turn.ensures.way_back c.self.invariant.walks applies);
+      within = rw items (omega (arith, length_added xs n within inverted));
+      walks = rw items (done_walks c.self.inside.folder c.apply_and_invert.new.folder xs n within _ _ c.args.changes inverted c.apply_and_invert.ensures.folder c.apply_and_invert.ensures.way_back c.self.invariant.walks applies);
       ahead = tt;
     }

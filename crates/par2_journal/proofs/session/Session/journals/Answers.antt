@@ -1,5 +1,5 @@
 use Rattle.par2_journal.proofs.Common.{sym, ap, subst, ◌∙◌, IfOk, Kind, Ready, CanBe}
-use Rattle.par2_journal.specs.Kinds.{kind_of, ready_of}
+use Rattle.par2_journal.specs.Kinds.{task_kind, ready_of}
 use Rattle.par2_journal.specs.Spelling.{SpellsReady}
 use Rattle.par2_journal.proofs.SessionJournals.{spelled_for, with_kind}
 use Rattle.par2_journal.proofs.session.Session.journals.Goals as goal

@@ -1,5 +1,5 @@
 use Rattle.par2_journal.proofs.Common.{sym, ap, subst, ◌∙◌, IfOk, IfSome, Kind, Ready, CanBe, ArePrintsAlong, changes_by_kind}
-use Rattle.par2_journal.specs.Kinds.{kind_of, ready_of}
+use Rattle.par2_journal.specs.Kinds.{task_kind, ready_of}
 use Rattle.par2_journal.specs.Spelling.{SpellsReady}
 use Rattle.par2_journal.proofs.SessionJournals.{spelled_for, with_kind}
 use Rattle.par2_journal.proofs.Prints.{known_here}
@@ -14,7 +14,7 @@ spell-requires-clause-known c =
     let s = c.args.self.now in
     let ready = c.args.prepared.now in
     let kind = ap (λ (r : Ready). r.kind) (sym c.prepared.view_is) in
-    known_here c.as_ref.result c.prepared.inside.known ready.known s.folder.files (changes_by_kind (kind_of c.prepared.inside.task) s) c.as_ref.ensures.value (ap (λ (r : Ready). r.known) c.prepared.view_is)
+    known_here c.as_ref.result c.prepared.inside.known ready.known s.folder.files (changes_by_kind (task_kind c.prepared.inside.task) s) c.as_ref.ensures.value (ap (λ (r : Ready). r.known) c.prepared.view_is)
     (subst (λ (k : Kind). IfSome ready.known (λ prints. ArePrintsAlong prints s.folder.files (changes_by_kind k s))) kind c.requires.prints)
 
 pub returns-clause-prepared : goal.returns-clause-prepared

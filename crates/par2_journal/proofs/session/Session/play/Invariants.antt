@@ -1,7 +1,7 @@
 use Rattle.par2_journal.proofs.Common.{ℕ, ◌+◌, ◌≤◌, drop, map, History, Run, session_of_kept, history_of, action_of}
 use Rattle.par2_journal.proofs.session.Session.play.Given as goal
 
--- a run of what is left is a run of all
+-- a run of the actions that are left is a run of all
 abbrev pub invariant-loop-action : goal.invariant-loop-action
 invariant-loop-action l =
     record {

@@ -6,6 +6,6 @@ pub returns : goal.returns
 returns c =
     let planned = c.in_ok-creation.ensures in
     let ready = c.prepare_changes.ensures in
-    let kept = subst (λ (s : KeptSession). OnlyGrew s c.prepare_changes.new.self) c.keep_landmarks.ensures ready.kept in
+    let kept = subst (λ (s : KeptSession). OnlyGrew s c.prepare_changes.new.self) c.keep_checkpoints.ensures ready.kept in
     plan_ready c.args.self.now c.prepare_changes.new.self (Create (create_args_of c.args.args.now)) c.in_ok-creation.creation.changes tt kept c.folder.result.now c.folder.ensures.folder
     planned.accepted planned.changes planned.applies planned.leads (λ fault found. ok_no_err _ _ (planned.early fault found)) c.prepare_changes.result ready.kind ready.fits ready.prints ready.refused

@@ -2,7 +2,7 @@ use Rattle.par2_journal.proofs.Common.{◌≡◌, List, ℕ, Bool, Some, map, st
 use Rattle.par2_journal.proofs.Readiness.{draft_ready, draft_refused}
 use Rattle.par2_journal.proofs.session.Session.prepare_repair.Goals as goal
 
--- the draft is of the folder as it is lent
+-- the draft is of the folder that is borrowed
 draft_here : (f g : FolderState) (base : List ℕ) (extras : List (String Global)) (purge : Bool) (draft : Draft) → f ≡ g → IsDraft f.files base (map string_bytes extras) purge draft → IsDraft g.files base (map string_bytes extras) purge draft
 draft_here f g base extras purge draft same is = subst (λ (s : FolderState). IsDraft s.files base (map string_bytes extras) purge draft) same is
 

@@ -1,5 +1,5 @@
 use Rattle.par2_journal.proofs.Common.{◌≡◌, ◌<◌, ◌+◌, ◌-◌, length, length-set, ap, ◌∙◌, arith, sym, vec_len, vec_capacity, KeptSession, kept_undone, next_of, kept_session}
-use Rattle.par2_journal.proofs.Turns.{undo_taken, undone_to, undone_walks, next_undo_is}
+use Rattle.par2_journal.proofs.HistorySteps.{undo_taken, undone_to, undone_walks, next_undo_is}
 use Rattle.par2_journal.proofs.session.Session.undo.Goals.{After-index_mut-entry}
 use Rattle.par2_journal.proofs.session.Session.undo.Goals as goal
 
@@ -10,9 +10,9 @@ before c =
     let one : c.self.inside.cursor - 1 + 1 ≡ c.self.inside.cursor = grind (arith, c.if-self-eq0.false) in
     record { one = one; within = omega (arith, one, least) }
 
-pub turn-requires : goal.turn-requires
-turn-requires c =
-    let at = before (goal.at.turn-requires c).After-index_mut-entry in
+pub apply_and_invert-requires : goal.apply_and_invert-requires
+apply_and_invert-requires c =
+    let at = before (goal.at.apply_and_invert-requires c).After-index_mut-entry in
     undo_taken _ _ at.within c.index_mut-entry.result.now c.index_mut-entry.ensures.value c.self.inside.cursor at.one c.self.inside.folder _ c.self.invariant.walks
 
 pub invariant_of-self : goal.invariant_of-self
@@ -21,8 +21,8 @@ invariant_of-self c =
     let n = c.self.inside.cursor in
     let at = before (goal.at.invariant_of-self c).After-index_mut-entry in
     record {
-      within = omega (arith, at.within, length-set xs (n - 1) c.turn.new.self);
-      walks = undone_walks xs (n - 1) at.within c.index_mut-entry.result.now c.index_mut-entry.ensures.value c.self.inside.folder c.turn.new.folder _ c.turn.new.self c.turn.ensures.folder c.turn.ensures.way_back n at.one c.self.invariant.walks;
+      within = omega (arith, at.within, length-set xs (n - 1) c.apply_and_invert.new.self);
+      walks = undone_walks xs (n - 1) at.within c.index_mut-entry.result.now c.index_mut-entry.ensures.value c.self.inside.folder c.apply_and_invert.new.folder _ c.apply_and_invert.new.self c.apply_and_invert.ensures.folder c.apply_and_invert.ensures.way_back n at.one c.self.invariant.walks;
       ahead = tt;
     }
 
@@ -32,6 +32,6 @@ returns-clause-undone c =
     let n = c.self.inside.cursor in
     let at = before (goal.at.returns-clause-undone c).After-index_mut-entry in
     let entry = c.index_mut-entry.result.now in
-    undone_to xs (n - 1) at.within entry c.index_mut-entry.ensures.value c.self.inside.folder c.turn.new.folder (vec_capacity c.self.inside.entries - vec_len c.self.inside.entries) c.turn.new.self c.turn.ensures.folder c.turn.ensures.way_back n at.one
+    undone_to xs (n - 1) at.within entry c.index_mut-entry.ensures.value c.self.inside.folder c.apply_and_invert.new.folder (vec_capacity c.self.inside.entries - vec_len c.self.inside.entries) c.apply_and_invert.new.self c.apply_and_invert.ensures.folder c.apply_and_invert.ensures.way_back n at.one
     ∙ ap (kept_undone (kept_session c.self.inside)) (sym (next_undo_is xs (n - 1) at.within entry c.index_mut-entry.ensures.value n at.one))
     ∙ ap (λ (s : KeptSession). kept_undone s (next_of s.undos)) c.self.view_is

@@ -20,4 +20,4 @@ returns-clause-ok c =
     let s = c.self.inside in
     let most : s.rank ≤ length s.rows.items = rank_most _ c.self.invariant in
     let full : s.rank ≡ length s.rows.items = omega (arith, c.len.ensures) in
-    subst (λ (e : Equations). IsTheSolution e (lists_of s.rights.items)) c.self.view_is (the_solution _ c.self.invariant full)
+    subst (λ (e : Equations). IsTheSolution e (lists_of s.right_sides.items)) c.self.view_is (the_solution _ c.self.invariant full)

@@ -1,34 +1,34 @@
-use Rattle.par2_md5_lanes.proofs.Common.{◌*◌, ◌+◌, ◌-◌, ◌≡◌, ◌∙◌, ℕ, List, ap, sym, arith, refl, drop, length, length-drop, length-take-le, take, block_words, slice_index, lane, hash_behind, text_at}
+use Rattle.par2_md5_lanes.proofs.Common.{◌*◌, ◌+◌, ◌-◌, ◌≡◌, ◌∙◌, ℕ, List, ap, sym, arith, refl, drop, length, length-drop, length-take-le, take, block_words, slice_index, lane, hash_behind, buffer_at}
 use Rattle.par2_md5_lanes.proofs.BlockLaws.{after_words}
 use Rattle.par2_md5_lanes.proofs.FeedLaws.{hash_one_more}
 use Rattle.par2_md5_lanes.specs.Lanes.{hash_of_sixteen}
-use Rattle.par2_md5_lanes.proofs.SixteenLaws.{each_of_sixteen, hash_of_high, hash_of_low, text_of_high, text_of_low}
+use Rattle.par2_md5_lanes.proofs.SixteenLaws.{each_of_sixteen, hash_of_high, hash_of_low, bytes_of_high, bytes_of_low}
 use Rattle.par2_md5_lanes.proofs.blocks.SixteenHashes.absorbed.Goals as goal
 
 pub read_words-low-requires : goal.read_words-low-requires
 read_words-low-requires c =
-    let texts = c.args.texts.now in (
+    let buffers = c.args.buffers.now in (
       omega arith,
       (
-        omega (arith, length-take-le 8 texts (omega (arith, c.requires.enough))),
+        omega (arith, length-take-le 8 buffers (omega (arith, c.requires.enough))),
         (
           omega (arith, c.requires.room, c.loop-block-test.true),
-          λ k low. omega (arith, c.requires.within k (omega (arith, low)), c.loop-block-test.true, ap length (text_of_low texts k low)),
+          λ k low. omega (arith, c.requires.within k (omega (arith, low)), c.loop-block-test.true, ap length (bytes_of_low buffers k low)),
         ),
       ),
     )
 
 pub read_words-high-requires : goal.read_words-high-requires
 read_words-high-requires c =
-    let texts = c.args.texts.now in
-    let n : ℕ = length texts - 8 in
-    let rest = length-take-le n (drop 8 texts) (omega (arith, length-drop 8 texts)) in (
+    let buffers = c.args.buffers.now in
+    let n : ℕ = length buffers - 8 in
+    let rest = length-take-le n (drop 8 buffers) (omega (arith, length-drop 8 buffers)) in (
       omega arith,
       (
         omega (arith, rest),
         (
           omega (arith, c.requires.room, c.loop-block-test.true),
-          λ k low. omega (arith, c.requires.within (8 + k) (omega (arith, low)), c.loop-block-test.true, ap length (text_of_high texts n k (omega (arith, low, c.requires.enough)))),
+          λ k low. omega (arith, c.requires.within (8 + k) (omega (arith, low)), c.loop-block-test.true, ap length (bytes_of_high buffers n k (omega (arith, low, c.requires.enough)))),
         ),
       ),
     )
@@ -39,29 +39,29 @@ loop-block-init c = record { low = λ k h. refl; high = λ k h. refl }
 
 pub loop-block-preserved : goal.loop-block-preserved
 loop-block-preserved c =
-    let texts = c.args.texts.now in
+    let buffers = c.args.buffers.now in
     let block = c.loop-block.block in
     let held = c.loop-block.invariant in
-    let words = λ (text : List ℕ). block_words (take 64 (drop (64 * block) text)) 16 in
+    let words = λ (bytes : List ℕ). block_words (take 64 (drop (64 * block) bytes)) 16 in
     record {
       low = λ k low.
-          after_words _ _ _ _ (take 64 (drop (64 * block) (text_at texts k))) _ (c.both_compressed.ensures.low k low) (held.low k low)
-          (c.read_words-low.ensures k low ∙ ap words (text_of_low texts k low))
-          (hash_one_more (lane slice_index k c.args.self.low) (text_at texts k) block);
+          after_words _ _ _ _ (take 64 (drop (64 * block) (buffer_at buffers k))) _ (c.both_compressed.ensures.low k low) (held.low k low)
+          (c.read_words-low.ensures k low ∙ ap words (bytes_of_low buffers k low))
+          (hash_one_more (lane slice_index k c.args.self.low) (buffer_at buffers k) block);
       high = λ k low.
-          after_words _ _ _ _ (take 64 (drop (64 * block) (text_at texts (8 + k)))) _ (c.both_compressed.ensures.high k low) (held.high k low)
-          (c.read_words-high.ensures k low ∙ ap words (text_of_high texts (length texts - 8) k (omega (arith, low, c.requires.enough))))
-          (hash_one_more (lane slice_index k c.args.self.high) (text_at texts (8 + k)) block);
+          after_words _ _ _ _ (take 64 (drop (64 * block) (buffer_at buffers (8 + k)))) _ (c.both_compressed.ensures.high k low) (held.high k low)
+          (c.read_words-high.ensures k low ∙ ap words (bytes_of_high buffers (length buffers - 8) k (omega (arith, low, c.requires.enough))))
+          (hash_one_more (lane slice_index k c.args.self.high) (buffer_at buffers (8 + k)) block);
     }
 
 pub returns : goal.returns
 returns c =
     let start = c.args.self in
-    let texts = c.args.texts.now in
+    let buffers = c.args.buffers.now in
     let blocks = c.args.blocks in
     let all : c.loop-block.block ≡ blocks = omega (arith, c.loop-block-test.false) in
-    each_of_sixteen (λ (k : ℕ) (hash : List ℕ). hash ≡ hash_behind (hash_of_sixteen k start) (text_at texts k) blocks) c.loop-block.after
-    (λ k low. c.loop-block.invariant.low k low ∙ ap (hash_behind (lane slice_index k start.low) (text_at texts k)) all
-    ∙ ap (λ hash. hash_behind hash (text_at texts k) blocks) (sym (hash_of_low start k low)))
-    (λ k low. c.loop-block.invariant.high k low ∙ ap (hash_behind (lane slice_index k start.high) (text_at texts (8 + k))) all
-    ∙ ap (λ hash. hash_behind hash (text_at texts (8 + k)) blocks) (sym (hash_of_high start k)))
+    each_of_sixteen (λ (k : ℕ) (hash : List ℕ). hash ≡ hash_behind (hash_of_sixteen k start) (buffer_at buffers k) blocks) c.loop-block.after
+    (λ k low. c.loop-block.invariant.low k low ∙ ap (hash_behind (lane slice_index k start.low) (buffer_at buffers k)) all
+    ∙ ap (λ hash. hash_behind hash (buffer_at buffers k) blocks) (sym (hash_of_low start k low)))
+    (λ k low. c.loop-block.invariant.high k low ∙ ap (hash_behind (lane slice_index k start.high) (buffer_at buffers (8 + k))) all
+    ∙ ap (λ hash. hash_behind hash (buffer_at buffers (8 + k)) blocks) (sym (hash_of_high start k)))

@@ -4,9 +4,9 @@ use Rattle.par2_packets.proofs.cursor.Run.new.Goals as goal
 
 pub returns-clause-digests : goal.returns-clause-digests
 returns-clause-digests c = λ k below.
-    let text : List ℕ = c.args.text.now in
+    let bytes : List ℕ = c.args.bytes.now in
     let size : ℕ = c.args.len - 32 in
     let start : ℕ = slice_index c.args.starts k in
-    let rest : take (length text - 32) (drop 32 text) ≡ drop 32 text = take_all (length text - 32) (drop 32 text) (omega (arith, length-drop 32 text)) in
+    let rest : take (length bytes - 32) (drop 32 bytes) ≡ drop 32 bytes = take_all (length bytes - 32) (drop 32 bytes) (omega (arith, length-drop 32 bytes)) in
     c.window_digests.ensures k below
-    ∙ ap (λ (t : List ℕ). md5 (take size t)) (ap (drop start) rest ∙ drop-drop start 32 text ∙ ap (λ (n : ℕ). drop n text) (omega arith) ∙ sym (drop-drop 32 start text))
+    ∙ ap (λ (t : List ℕ). md5 (take size t)) (ap (drop start) rest ∙ drop-drop start 32 bytes ∙ ap (λ (n : ℕ). drop n bytes) (omega arith) ∙ sym (drop-drop 32 start bytes))

@@ -1,12 +1,17 @@
+use Rattle.std.proofs.Common.{rules, length, ◌<◌, ◌^◌}
 use Rattle.par2_packets.proofs.Common.{◌+◌, ◌*◌, ℕ, List, Some, sym, ap, ◌∙◌, arith, Pair, u32_at}
 use Rattle.par2_packets.proofs.Items.{pair_fits, pair_of_view}
 use Rattle.par2_packets.proofs.views.IfscView.pair.Goals as goal
 
 pub overflow_mul-at : goal.overflow_mul-at
-overflow_mul-at c = omega (arith, pair_fits c.args.self.now c.self.inside.body.now c.args.k c.self.view_is c.self.invariant c.requires, c.self.told.0)
+overflow_mul-at c =
+    let small : length c.self.inside.body.now < 2 ^ 63 = search (rules, arith) in
+    omega (arith, small, pair_fits c.args.self.now c.self.inside.body.now c.args.k c.self.view_is c.self.invariant c.requires)
 
 pub overflow_add-at : goal.overflow_add-at
-overflow_add-at c = omega (arith, pair_fits c.args.self.now c.self.inside.body.now c.args.k c.self.view_is c.self.invariant c.requires, c.self.told.0)
+overflow_add-at c =
+    let small : length c.self.inside.body.now < 2 ^ 63 = search (rules, arith) in
+    omega (arith, small, pair_fits c.args.self.now c.self.inside.body.now c.args.k c.self.view_is c.self.invariant c.requires)
 
 pub block-requires : goal.block-requires
 block-requires c = omega (arith, pair_fits c.args.self.now c.self.inside.body.now c.args.k c.self.view_is c.self.invariant c.requires)

@@ -1,12 +1,17 @@
+use Rattle.std.proofs.Common.{rules, length, ◌<◌, ◌^◌}
 use Rattle.par2_packets.proofs.Common.{Some, sym, ap, ◌∙◌, arith}
 use Rattle.par2_packets.proofs.Items.{id_fits, id_of_view}
 use Rattle.par2_packets.proofs.views.MainView.id.Goals as goal
 
 pub overflow_mul-k : goal.overflow_mul-k
-overflow_mul-k c = omega (arith, id_fits c.args.self.now c.self.inside.body.now c.args.k c.self.view_is c.self.invariant c.requires, c.self.told.0)
+overflow_mul-k c =
+    let small : length c.self.inside.body.now < 2 ^ 63 = search (rules, arith) in
+    omega (arith, small, id_fits c.args.self.now c.self.inside.body.now c.args.k c.self.view_is c.self.invariant c.requires)
 
 pub overflow_add-k : goal.overflow_add-k
-overflow_add-k c = omega (arith, id_fits c.args.self.now c.self.inside.body.now c.args.k c.self.view_is c.self.invariant c.requires, c.self.told.0)
+overflow_add-k c =
+    let small : length c.self.inside.body.now < 2 ^ 63 = search (rules, arith) in
+    omega (arith, small, id_fits c.args.self.now c.self.inside.body.now c.args.k c.self.view_is c.self.invariant c.requires)
 
 pub block-requires : goal.block-requires
 block-requires c = id_fits c.args.self.now c.self.inside.body.now c.args.k c.self.view_is c.self.invariant c.requires

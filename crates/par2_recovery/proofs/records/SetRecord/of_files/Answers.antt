@@ -8,7 +8,7 @@ use Rattle.par2_packets.specs.Views.{file_record_of}
 use Rattle.par2_packets.specs.declared.record.FileRecord.{FileRecord}
 use Rattle.par2_recovery.proofs.records.SetRecord.of_files.Goals as goal
 
--- the identifiers in the records of files
+-- the identifiers in the records are those of the files
 ids_of_records : (s : ℕ) (files : List File) (records : List FileRecord) → AreRecords s files records → map (λ (file : FileRecord). file.id) records ≡ map id_of files
 unfolding record_of
 ids_of_records s files records are =

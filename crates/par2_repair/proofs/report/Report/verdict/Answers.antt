@@ -1,5 +1,5 @@
-use Rattle.par2_repair.proofs.Common.{◌≡◌, ◌∙◌, Bool, List, ℕ, Ok, sym, ap, ap₂, cond, subst, ◌==◌, list_all, eq-eqb, ne_eqb, list_all-map, Folder, is_complete, report_in, verdict_of, IsVerdictIn, verdict_by_words, target_report_of, state_of}
-use Rattle.par2_repair.specs.Views.{report_of}
+use Rattle.par2_repair.proofs.Common.{◌≡◌, ◌∙◌, Bool, List, ℕ, Ok, sym, ap, ap₂, cond, subst, ◌==◌, list_all, eq-eqb, ne_eqb, list_all-map, Folder, is_complete, report_in, verdict_of, IsVerdictIn, verdict_by_words, target_report_of, state_view}
+use Rattle.par2_repair.specs.Views.{report_view}
 use Rattle.par2_spec.specs.declared.Verdict.{Verdict}
 use Rattle.par2_spec.specs.Reports as reports
 use Rattle.par2_spec.specs.declared.Verdict.TheVariants as verdict
@@ -7,9 +7,9 @@ use Rattle.par2_repair.proofs.report.Report.verdict.Goals as goal
 
 -- the verdict by its two tests
 abbrev verdict_by : Bool → Bool → Verdict
-verdict_by complete told = cond complete verdict.Complete (cond told verdict.Repairable verdict.NotRepairable)
+verdict_by complete reported = cond complete verdict.Complete (cond reported verdict.Repairable verdict.NotRepairable)
 
--- the verdict on a report by the words, where it is that of the definitions
+-- the verdict is the one of the definitions if the report is
 by_words : (report : reports.Report) (v : Verdict) → v ≡ verdict_of report → (folder : Folder) (base : List ℕ) (extras : List (List ℕ)) → report_in folder base extras ≡ Ok report → IsVerdictIn folder base extras v
 by_words report v is folder base extras reported = subst (IsVerdictIn folder base extras) (sym is) (verdict_by_words folder base extras report reported)
 
@@ -17,28 +17,28 @@ pub returns-then-are_complete-clause-answer : goal.returns-then-are_complete-cla
 returns-then-are_complete-clause-answer c =
     let report = c.args.self.now in
     let all = list_all-map (λ (t : reports.TargetReport). is_complete t.state) target_report_of report.targets.items
-    ∙ sym (ap (list_all (λ target. is_complete (state_of target.state))) c.deref.ensures.value) ∙ sym c.are_complete.ensures in
+    ∙ sym (ap (list_all (λ target. is_complete (state_view target.state))) c.deref.ensures.value) ∙ sym c.are_complete.ensures in
     sym (ap (λ b. verdict_by b (report.rank == report.lost)) (all ∙ c.if-are_complete.true))
 
 pub returns-then-self-clause-answer : goal.returns-then-self-clause-answer
 returns-then-self-clause-answer c =
     let report = c.args.self.now in
     let all = list_all-map (λ (t : reports.TargetReport). is_complete t.state) target_report_of report.targets.items
-    ∙ sym (ap (list_all (λ target. is_complete (state_of target.state))) c.deref.ensures.value) ∙ sym c.are_complete.ensures in
+    ∙ sym (ap (list_all (λ target. is_complete (state_view target.state))) c.deref.ensures.value) ∙ sym c.are_complete.ensures in
     sym (ap₂ verdict_by (all ∙ c.if-are_complete.false) (eq-eqb report.rank report.lost c.if-self.true))
 
 pub returns-else-self-clause-answer : goal.returns-else-self-clause-answer
 returns-else-self-clause-answer c =
     let report = c.args.self.now in
     let all = list_all-map (λ (t : reports.TargetReport). is_complete t.state) target_report_of report.targets.items
-    ∙ sym (ap (list_all (λ target. is_complete (state_of target.state))) c.deref.ensures.value) ∙ sym c.are_complete.ensures in
+    ∙ sym (ap (list_all (λ target. is_complete (state_view target.state))) c.deref.ensures.value) ∙ sym c.are_complete.ensures in
     sym (ap₂ verdict_by (all ∙ c.if-are_complete.false) (ne_eqb report.rank report.lost c.if-self.false))
 
 pub returns-then-are_complete-clause-words : goal.returns-then-are_complete-clause-words
-returns-then-are_complete-clause-words c = by_words (report_of c.args.self.now) _ (returns-then-are_complete-clause-answer c)
+returns-then-are_complete-clause-words c = by_words (report_view c.args.self.now) _ (returns-then-are_complete-clause-answer c)
 
 pub returns-then-self-clause-words : goal.returns-then-self-clause-words
-returns-then-self-clause-words c = by_words (report_of c.args.self.now) _ (returns-then-self-clause-answer c)
+returns-then-self-clause-words c = by_words (report_view c.args.self.now) _ (returns-then-self-clause-answer c)
 
 pub returns-else-self-clause-words : goal.returns-else-self-clause-words
-returns-else-self-clause-words c = by_words (report_of c.args.self.now) _ (returns-else-self-clause-answer c)
+returns-else-self-clause-words c = by_words (report_view c.args.self.now) _ (returns-else-self-clause-answer c)

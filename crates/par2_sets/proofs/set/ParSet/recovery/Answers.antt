@@ -1,4 +1,4 @@
-use Rattle.par2_sets.proofs.Common.{◌≡◌, ◌∙◌, ◌<◌, length, sym, ap, subst, AllByRecursion, IsStrictlyIncreasing, entries, IsSound, exponents_of, recovered_of}
+use Rattle.par2_sets.proofs.Common.{◌≡◌, ◌∙◌, ◌<◌, length, sym, ap, subst, AllByRecursion, IsStrictlyIncreasing, entries, IsSound, set_exponents, set_recovery}
 use Rattle.par2_spec.proofs.RankLaws.{all_weaker}
 use Rattle.par2_sets.proofs.Exponents.{kept_entries}
 use Rattle.par2_sets.proofs.set.ParSet.recovery.Goals as goal
@@ -7,10 +7,10 @@ pub returns : goal.returns
 returns c =
     let set = c.args.self.now in
     let items : c.deref.result.now ≡ c.self.inside.recovery.items = c.deref.ensures.value in
-    let same : recovered_of c.deref.result.now ≡ entries set.recovery =
-    ap recovered_of items ∙ sym (kept_entries c.self.inside.recovery.items c.self.invariant.rising) ∙ ap (λ s. entries s.recovery) c.self.view_is in
+    let same : set_recovery c.deref.result.now ≡ entries set.recovery =
+    ap set_recovery items ∙ sym (kept_entries c.self.inside.recovery.items c.self.invariant.rising) ∙ ap (λ s. entries s.recovery) c.self.view_is in
     let sound = subst IsSound c.self.view_is c.self.invariant.sound in record {
       value = same;
-      rising = subst (λ rs. IsStrictlyIncreasing (exponents_of rs)) (sym items) c.self.invariant.rising;
-      sizes = all_weaker _ (λ r. length r.1 ≡ set.slice_size) (λ r h. h.1) (recovered_of c.deref.result.now) (subst (AllByRecursion (λ r. (r.0 < 65536) × (length r.1 ≡ set.slice_size))) (sym same) sound.recovery);
+      rising = subst (λ rs. IsStrictlyIncreasing (set_exponents rs)) (sym items) c.self.invariant.rising;
+      sizes = all_weaker _ (λ r. length r.1 ≡ set.slice_size) (λ r h. h.1) (set_recovery c.deref.result.now) (subst (AllByRecursion (λ r. (r.0 < 65536) × (length r.1 ≡ set.slice_size))) (sym same) sound.recovery);
     }

@@ -1,5 +1,5 @@
-use Rattle.par2_slices.proofs.Common.{arith, ap, ℕ, ◌*◌, ◌/◌, ◌%◌, ◌^◌, length-set, set, sym, ◌∙◌, subst, ◌⊎◌, bit_or, AreAlike, Groups, Marks}
-use Rattle.par2_slices.proofs.Groups.{its_place, byte_read, marked, kept_by_insert, only_by_insert}
+use Rattle.par2_slices.proofs.Common.{arith, ap, ℕ, ◌*◌, ◌/◌, ◌%◌, ◌^◌, length-set, set, sym, ◌∙◌, subst, ◌⊎◌, bit_or, AreAlike, Groups, Includes}
+use Rattle.par2_slices.proofs.Groups.{its_place, byte_read, included, kept_by_insert, only_by_insert}
 use Rattle.par2_slices.proofs.filter.Filter.insert.Goals as goal
 
 pub index_mut-requires : goal.index_mut-requires
@@ -12,12 +12,12 @@ returns c =
     let items = c.self.inside.bytes.items in
     let place = its_place shift crc items c.ranges.crc.fits c.self.invariant in
     let read = byte_read shift crc c.index_mut.result.now items c.ranges.crc.fits c.self.invariant c.index_mut.ensures.value in
-    let After : ℕ → ℕ → Type 0 = λ other byte. Marks (record { shift = shift; bytes = set items (crc / 2 ^ shift) (bit_or byte (1 * 2 ^ (crc % 8) % 2 ^ 8)) }) other in
+    let After : ℕ → ℕ → Type 0 = λ other byte. Includes (record { shift = shift; bytes = set items (crc / 2 ^ shift) (bit_or byte (1 * 2 ^ (crc % 8) % 2 ^ 8)) }) other in
     record {
       shift = ap (λ (groups : Groups). groups.shift) c.self.view_is;
-      marked = rw read (marked shift crc items place);
-      kept = λ other is. rw read (kept_by_insert shift crc items place other (subst (λ (groups : Groups). Marks groups other) (sym c.self.view_is) is));
-      only = λ other is. subst (λ (groups : Groups). AreAlike groups.shift crc other ⊎ Marks groups other) c.self.view_is (only_by_insert shift crc items place other (subst (After other) read is));
+      included = rw read (included shift crc items place);
+      kept = λ other is. rw read (kept_by_insert shift crc items place other (subst (λ (groups : Groups). Includes groups other) (sym c.self.view_is) is));
+      only = λ other is. subst (λ (groups : Groups). AreAlike groups.shift crc other ⊎ Includes groups other) c.self.view_is (only_by_insert shift crc items place other (subst (After other) read is));
     }
 
 pub invariant_of-self : goal.invariant_of-self

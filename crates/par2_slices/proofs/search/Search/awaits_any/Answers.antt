@@ -9,5 +9,5 @@ returns c =
     let Have : ℕ → Type 0 = HaveAnswers c.args.wanted.now c.args.self.now.found.items in
     let either = cases_from_any _ _ _ (λ crc. Have crc → ⊥) Have c.any.ensures.ran (YieldsList-from_slice c.args.crcs cc) (λ x q k. search (rules, tests)) (λ x q k. search (rules, tests)) in (
       λ no k h. MatchBool-at_false _ _ (false_from_ne_true _ no) either k 0 (omega arith) (let inside : k < length c.args.crcs = omega (arith, h) in inside),
-      λ have yes. let waits = MatchBool-at_true _ _ yes either in waits.2 0 (have waits.0 (let inside : waits.0 < 4 = omega (arith, waits.1) in inside)),
+      λ have yes. let pending = MatchBool-at_true _ _ yes either in pending.2 0 (have pending.0 (let inside : pending.0 < 4 = omega (arith, pending.1) in inside)),
     )

@@ -1,4 +1,4 @@
-use Rattle.par2_slices.proofs.Common.{◌≡◌, ◌∙◌, ◌+◌, ◌-◌, ◌≤◌, ℕ, List, get_or, refl, ap, subst, arith, get_or-drop, drop, length, rules, take, IsAt}
+use Rattle.par2_slices.proofs.Common.{◌≡◌, ◌∙◌, ◌+◌, ◌-◌, ◌≤◌, ℕ, List, get_or, refl, ap, subst, arith, get_or-drop, drop, length, rules, take, IsScannedTo}
 use Rattle.std.proofs.lemmas.List.{drop_min, take_rest}
 use Rattle.par2_slices.proofs.Searching.{none_left}
 use Rattle.par2_slices.proofs.NextWindows.{slid_window}
@@ -7,14 +7,14 @@ use Rattle.par2_slices.proofs.search.Search.one_by_one.Goals as goal
 pub loop-offset-preserved : goal.loop-offset-preserved
 loop-offset-preserved c =
     let s : ℕ = c.args.scan.now.rolling.now.size in
-    let text : List ℕ = c.args.scan.now.bytes.now in
+    let content : List ℕ = c.args.scan.now.bytes.now in
     let o : ℕ = c.loop-offset.offset in
     let next : ℕ = c.unwrap_or-next.result in
-    let incoming_is = take_rest text c.min.result ∙ ap (λ n. drop n text) c.min.ensures ∙ drop_min c.size.result text ∙ ap (λ s. drop s text) c.size.ensures.value in
-    let next_is : next ≡ get_or text (s + o) 0 = (let read : next ≡ get_or (take (length text - c.min.result) (drop c.min.result text)) o 0 = search rules in read) ∙ ap (λ t. get_or t o 0) incoming_is ∙ get_or-drop s text o 0 in
+    let incoming_is = take_rest content c.min.result ∙ ap (λ n. drop n content) c.min.ensures ∙ drop_min c.size.result content ∙ ap (λ s. drop s content) c.size.ensures.value in
+    let next_is : next ≡ get_or content (s + o) 0 = (let read : next ≡ get_or (take (length content - c.min.result) (drop c.min.result content)) o 0 = search rules in read) ∙ ap (λ t. get_or t o 0) incoming_is ∙ get_or-drop s content o 0 in
     record {
       at = c.test.ensures;
-      value = c.slid-crc.ensures ∙ slid_window s text o c.loop-offset.crc (get_or text o 0) next (subst (λ (s : ℕ). 1 ≤ s) c.size.ensures.value c.size.ensures.some) c.loop-offset.invariant.value refl next_is;
+      value = c.slid-crc.ensures ∙ slid_window s content o c.loop-offset.crc (get_or content o 0) next (subst (λ (s : ℕ). 1 ≤ s) c.size.ensures.value c.size.ensures.some) c.loop-offset.invariant.value refl next_is;
     }
 
 pub returns-then-is_finished : goal.returns-then-is_finished
@@ -22,10 +22,10 @@ returns-then-is_finished c =
     let search = c.loop-offset.self in
     let o : ℕ = c.loop-offset.offset in
     let end : ℕ = c.args.end in
-    subst (λ (o : ℕ). IsAt c.args.scan.now o search.found.items search.left search.filter search.batch.items) (let e : o + (end - o) ≡ end = omega (arith, c.loop-offset-test.true) in e)
+    subst (λ (o : ℕ). IsScannedTo c.args.scan.now o search.found.items search.left search.filter search.batch.items) (let e : o + (end - o) ≡ end = omega (arith, c.loop-offset-test.true) in e)
     (none_left c.args.scan.now o (end - o) search.found.items search.left search.filter search.batch.items c.loop-offset.invariant.at (c.is_finished.ensures.0 c.if-is_finished.true))
 
 pub returns-after-loop-offset : goal.returns-after-loop-offset
 returns-after-loop-offset c =
     let search = c.loop-offset.self in
-    subst (λ (o : ℕ). IsAt c.args.scan.now o search.found.items search.left search.filter search.batch.items) (let e : c.loop-offset.offset ≡ c.args.end = omega (arith, c.requires.from, c.loop-offset-test.false) in e) c.loop-offset.invariant.at
+    subst (λ (o : ℕ). IsScannedTo c.args.scan.now o search.found.items search.left search.filter search.batch.items) (let e : c.loop-offset.offset ≡ c.args.end = omega (arith, c.requires.from, c.loop-offset-test.false) in e) c.loop-offset.invariant.at

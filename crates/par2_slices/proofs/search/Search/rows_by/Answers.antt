@@ -1,4 +1,4 @@
-use Rattle.par2_slices.proofs.Common.{◌≡◌, ◌∙◌, ◌+◌, ◌*◌, ◌<◌, ◌≤◌, ℕ, List, true, false, take, drop, length, ◌-◌, get_or, sym, ap, subst, crc_of, AreRows, HaveAnswers, Row}
+use Rattle.par2_slices.proofs.Common.{◌≡◌, ◌∙◌, ◌+◌, ◌*◌, ◌<◌, ◌≤◌, ℕ, List, true, false, take, drop, length, ◌-◌, get_or, sym, ap, subst, crc_of, AreCandidateRows, HaveAnswers, Row}
 use Rattle.std.proofs.lemmas.List.{take_rest}
 use Rattle.par2_slices.proofs.Passing.{next_row, noted, skipped}
 use Rattle.par2_slices.proofs.Searching.{answered, unmarked}
@@ -15,7 +15,7 @@ loop-at-preserved g c =
     let are = c.loop-at.invariant.are in
     let crcs = c.loop-at.invariant.crcs in
     let outs : List ℕ = take (length scan.bytes.now - start) (drop start scan.bytes.now) in
-    let Are : List Row → Type 0 = λ rows. AreRows scan start len (at + 1) rows in
+    let Are : List Row → Type 0 = λ rows. AreCandidateRows scan start len (at + 1) rows in
     let Have : ℕ → Type 0 = HaveAnswers scan.wanted.now search.found.items in
     let free : ((k : ℕ) → k < 4 → Have (get_or c.loop-at.crcs k 0)) → Are c.loop-at.rows.items = λ have.
     skipped scan start len at c.loop-at.rows.items are (λ k h.
@@ -29,7 +29,7 @@ loop-at-preserved g c =
               | else-may_contain_any-via-then-may_contain_any+else-awaits_any v ↦ v.awaits_any.ensures.0 (λ is. let both : true ≡ false = sym is ∙ v.if-awaits_any.false in cc)
               | else-may_contain_any-via-else-may_contain_any v ↦ λ k h.
                   unmarked scan.wanted.now search.found.items search.left search.filter (get_or c.loop-at.crcs k 0) c.requires.at.tally
-                  (λ marks. let both : true ≡ false = sym (c.may_contain_any.ensures k h marks) ∙ v.if-may_contain_any.false in cc)
+                  (λ included. let both : true ≡ false = sym (c.may_contain_any.ensures k h included) ∙ v.if-may_contain_any.false in cc)
             ]))
       ];
       crcs = next_row scan start len at c.loop-at.crcs c.next_crcs-crcs.result _ _ (subst (λ (s : ℕ). 1 ≤ s) c.size.ensures.value c.size.ensures.some) (take_rest scan.bytes.now start) (take_rest _ c.size.result ∙ ap (λ s. drop s outs) c.size.ensures.value) crcs c.next_crcs-crcs.ensures;

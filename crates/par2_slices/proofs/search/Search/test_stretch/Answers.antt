@@ -1,4 +1,4 @@
-use Rattle.par2_slices.proofs.Common.{◌≡◌, ◌+◌, ◌*◌, ◌<◌, ◌≤◌, ◌∙◌, ℕ, List, ap, length, subst, sym, arith, mul-le-mul_right, IsAt, Row, row_at}
+use Rattle.par2_slices.proofs.Common.{◌≡◌, ◌+◌, ◌*◌, ◌<◌, ◌≤◌, ◌∙◌, ℕ, List, ap, length, subst, sym, arith, mul-le-mul_right, IsScannedTo, Row, row_at}
 use Rattle.par2_slices.proofs.Passing.{after-row, at-start, passed-to-end, passed-to-row}
 use Rattle.par2_slices.proofs.search.Search.test_stretch.Goals as goal
 
@@ -33,7 +33,7 @@ loop-row-preserved c =
     let after = c.test.new.self in
     let first : ℕ = c.args.start + c.args.k * c.args.len in
     let place : first + (row_at rows j).at + 1 ≡ first + ((row_at rows j).at + 1) = omega arith in
-    subst (λ (o : ℕ). IsAt c.args.scan.now o after.found.items after.left after.filter after.batch.items)
+    subst (λ (o : ℕ). IsScannedTo c.args.scan.now o after.found.items after.left after.filter after.batch.items)
     (place ∙ ap (λ (r : ℕ). first + r) (sym (after-row rows j))) c.test.ensures
 
 pub returns : goal.returns

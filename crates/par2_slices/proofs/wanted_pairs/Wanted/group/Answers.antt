@@ -1,4 +1,4 @@
-use Rattle.par2_slices.proofs.Common.{◌-◌, ◌/◌, ◌^◌, ℕ, List, take, drop, subst, sym, ap, length, arith, Pair, HoldsGroup, Place}
+use Rattle.par2_slices.proofs.Common.{◌-◌, ◌/◌, ◌^◌, ℕ, List, take, drop, subst, sym, ap, length, arith, Pair, HoldsGroup, PairPlace}
 use Rattle.par2_slices.proofs.Groups.{within}
 use Rattle.par2_slices.proofs.Places.{ends_of, group_of, in_order}
 use Rattle.par2_slices.proofs.wanted_pairs.Wanted.group.Goals as goal
@@ -18,6 +18,6 @@ returns c =
     let crc : ℕ = c.args.crc in
     let start : ℕ = c.index.result.now in let end : ℕ = c.index-2.result.now in
     let pairs : List Pair = c.self.inside.pairs.items in
-    let places : List Place = c.self.inside.places.items in
+    let places : List PairPlace = c.self.inside.places.items in
     let ends = ends_of places _ (crc / 2 ^ 17) start end c.self.invariant.1 (within crc 17 c.ranges.crc.fits (omega arith)) c.index.ensures c.index-2.ensures in
-    subst (λ (ps : List Pair). HoldsGroup ps crc (take (end - start) (drop start c.deref.result.now))) c.self.view_is (subst (λ (ps : List Place). HoldsGroup pairs crc (take (end - start) (drop start ps))) (sym c.deref.ensures.value) (group_of pairs places crc start end c.self.invariant.0 ends.0 ends.1))
+    subst (λ (ps : List Pair). HoldsGroup ps crc (take (end - start) (drop start c.deref.result.now))) c.self.view_is (subst (λ (ps : List PairPlace). HoldsGroup pairs crc (take (end - start) (drop start ps))) (sym c.deref.ensures.value) (group_of pairs places crc start end c.self.invariant.0 ends.0 ends.1))

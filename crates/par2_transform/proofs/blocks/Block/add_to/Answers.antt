@@ -4,10 +4,10 @@ use Rattle.par2_transform.proofs.OutputLaws.{no_output, next_output, all_outputs
 use Rattle.par2_transform.proofs.blocks.Block.add_to.Goals as goal
 
 pub loop-t-init : goal.loop-t-init
-loop-t-init c = no_output c.args.outputs.now.places.now c.args.outputs.now.words (cut_of c.args.plan.now) c.args.self.now.sums c.args.self.now.exponent c.args.r c.args.from c.args.to c.args.first (lists_of c.args.texts.now)
+loop-t-init c = no_output c.args.outputs.now.places.now c.args.outputs.now.words (cut_of c.args.plan.now) c.args.self.now.sums c.args.self.now.exponent c.args.r c.args.from c.args.to c.args.first (lists_of c.args.buffers.now)
 
 pub add_to_output-requires-clause-room : goal.add_to_output-requires-clause-room
-add_to_output-requires-clause-room c = still_within c.args.outputs.now.places.now c.args.outputs.now.words c.args.outputs.now.words _ (lists_of c.args.texts.now) (lists_of c.loop-t.texts) c.loop-t.invariant c.requires.room
+add_to_output-requires-clause-room c = still_within c.args.outputs.now.places.now c.args.outputs.now.words c.args.outputs.now.words _ (lists_of c.args.buffers.now) (lists_of c.loop-t.buffers) c.loop-t.invariant c.requires.room
 
 pub loop-t-preserved : goal.loop-t-preserved
 loop-t-preserved c =
@@ -19,13 +19,13 @@ loop-t-preserved c =
     let low : t < 2 ^ plan.levels = omega (arith, c.loop-t-test.true, c.min-t-end.ensures, plan.fit, plan.some.0) in
     let narrow : c.args.to ≤ c.args.from + was.sums.words = omega (arith, c.requires.columns, c.requires.words) in
     next_output c.args.outputs.now.places.now c.args.outputs.now.words (cut_of plan) was.sums c.power_sums.new.rows was.exponent c.args.r c.args.from c.args.to c.args.first t c.factor_of-factor.result c.row.result.now
-    (lists_of c.args.texts.now) (lists_of c.loop-t.texts) (lists_of c.add_to_output.new.texts)
+    (lists_of c.args.buffers.now) (lists_of c.loop-t.buffers) (lists_of c.add_to_output.new.buffers)
     (subst (λ s. EachColumn (ArePowerSums s.levels) s c.power_sums.new.rows) sums c.power_sums.ensures) c.requires.levels low narrow
     (c.factor_of-factor.ensures ∙ ap (λ e. mul (pow 2 ((e + t) * c.args.r)) (chirp_inverse plan.classes (e + t))) exponent) c.row.ensures.words c.loop-t.invariant c.add_to_output.ensures
 
 pub returns-clause-added : goal.returns-clause-added
 returns-clause-added c =
     let plan = c.args.plan.now in
-    let was = lists_of c.args.texts.now in
+    let was = lists_of c.args.buffers.now in
     let is : c.loop-t.t ≡ min plan.block (length c.args.outputs.now.places.now - c.args.first) = omega (arith, c.loop-t-test.false, c.loop-t.auto.t-end, c.min-t-end.ensures, c.saturating_sub.ensures, c.len.ensures) in
-    all_outputs c.args.outputs.now.places.now c.args.outputs.now.words (cut_of plan) c.args.self.now.sums c.args.self.now.exponent c.args.r c.args.from c.args.to c.args.first plan.block c.loop-t.t was (lists_of c.loop-t.texts) is c.loop-t.invariant
+    all_outputs c.args.outputs.now.places.now c.args.outputs.now.words (cut_of plan) c.args.self.now.sums c.args.self.now.exponent c.args.r c.args.from c.args.to c.args.first plan.block c.loop-t.t was (lists_of c.loop-t.buffers) is c.loop-t.invariant

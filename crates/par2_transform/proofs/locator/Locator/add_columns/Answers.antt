@@ -1,4 +1,4 @@
-use Rattle.par2_transform.proofs.Common.{◌+◌, ◌-◌, ◌^◌, ◌<◌, ◌≤◌, ◌≡◌, ◌∙◌, sym, subst, arith, lists_of, texts_of, words_at, quotient_sum}
+use Rattle.par2_transform.proofs.Common.{◌+◌, ◌-◌, ◌^◌, ◌<◌, ◌≤◌, ◌≡◌, ◌∙◌, sym, subst, arith, lists_of, byte_lists, words_at, quotient_sum}
 use Rattle.par2_transform.proofs.AddingLaws.{still_within}
 use Rattle.par2_transform.proofs.LocatorLaws.{shifted_most, no_coset, next_coset, all_cosets}
 use Rattle.par2_transform.proofs.locator.Locator.add_columns.Goals as goal
@@ -9,7 +9,7 @@ loop-coset-init c =
     record {
       levels = c.sum.ensures.levels;
       words = c.sum.ensures.words;
-      added = no_coset c.args.outputs.now.places.now c.args.outputs.now.words self.numbers.items self.levels c.args.from c.args.to (λ t p. quotient_sum self.sequence.items self.points.items self.factors.items (words_at (texts_of c.args.sources.now) p) t) (lists_of c.args.texts.now);
+      added = no_coset c.args.outputs.now.places.now c.args.outputs.now.words self.numbers.items self.levels c.args.from c.args.to (λ t p. quotient_sum self.sequence.items self.points.items self.factors.items (words_at (byte_lists c.args.sources.now) p) t) (lists_of c.args.buffers.now);
     }
 
 pub add_coset-requires : goal.add_coset-requires
@@ -28,7 +28,7 @@ add_coset-requires c =
       order = c.requires.order;
       columns = subst (λ n. c.args.to ≤ c.args.from + n) (sym l.invariant.words) c.requires.columns;
       inside = c.requires.inside;
-      room = still_within c.args.outputs.now.places.now c.args.outputs.now.words c.args.outputs.now.words _ (lists_of c.args.texts.now) (lists_of l.texts) l.invariant.added c.requires.room;
+      room = still_within c.args.outputs.now.places.now c.args.outputs.now.words c.args.outputs.now.words _ (lists_of c.args.buffers.now) (lists_of l.buffers) l.invariant.added c.requires.room;
     }
 
 pub loop-coset-preserved : goal.loop-coset-preserved
@@ -38,8 +38,8 @@ loop-coset-preserved c =
     record {
       levels = c.add_coset.ensures.levels ∙ l.invariant.levels;
       words = c.add_coset.ensures.words ∙ l.invariant.words;
-      added = next_coset c.args.outputs.now.places.now c.args.outputs.now.words self.numbers.items self.levels c.args.from c.args.to l.coset (λ t p. quotient_sum self.sequence.items self.points.items self.factors.items (words_at (texts_of c.args.sources.now) p) t)
-          (lists_of c.args.texts.now) (lists_of l.texts) (lists_of c.add_coset.new.texts) l.invariant.added c.add_coset.ensures.added;
+      added = next_coset c.args.outputs.now.places.now c.args.outputs.now.words self.numbers.items self.levels c.args.from c.args.to l.coset (λ t p. quotient_sum self.sequence.items self.points.items self.factors.items (words_at (byte_lists c.args.sources.now) p) t)
+          (lists_of c.args.buffers.now) (lists_of l.buffers) (lists_of c.add_coset.new.buffers) l.invariant.added c.add_coset.ensures.added;
     }
 
 pub returns-clause-rows_levels : goal.returns-clause-rows_levels
@@ -59,5 +59,5 @@ returns-clause-added c =
     let self = c.args.self.now in
     let l = c.loop-coset in
     let end : l.coset ≡ 2 ^ (16 - self.levels) = omega (arith, c.loop-coset-test.false, c.loop-coset.auto.coset-end, shifted_most (16 - self.levels) (omega arith)) in
-    all_cosets c.args.outputs.now.places.now c.args.outputs.now.words self.numbers.items self.levels c.args.from c.args.to l.coset (λ t p. quotient_sum self.sequence.items self.points.items self.factors.items (words_at (texts_of c.args.sources.now) p) t)
-    (lists_of c.args.texts.now) (lists_of l.texts) self.few end self.numbered.small l.invariant.added
+    all_cosets c.args.outputs.now.places.now c.args.outputs.now.words self.numbers.items self.levels c.args.from c.args.to l.coset (λ t p. quotient_sum self.sequence.items self.points.items self.factors.items (words_at (byte_lists c.args.sources.now) p) t)
+    (lists_of c.args.buffers.now) (lists_of l.buffers) self.few end self.numbered.small l.invariant.added

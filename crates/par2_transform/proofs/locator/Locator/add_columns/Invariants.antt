@@ -1,4 +1,4 @@
-use Rattle.par2_transform.proofs.Common.{◌≡◌, lists_of, texts_of, words_at, quotient_sum}
+use Rattle.par2_transform.proofs.Common.{◌≡◌, lists_of, byte_lists, words_at, quotient_sum}
 use Rattle.par2_transform.proofs.LocatorLaws.{CosetsAdded}
 use Rattle.par2_transform.proofs.locator.Locator.add_columns.Given as goal
 
@@ -6,5 +6,5 @@ abbrev pub invariant-loop-coset : goal.invariant-loop-coset
 invariant-loop-coset l = record {
   levels : l.rows.levels ≡ l.fn.rows.levels;
   words : l.rows.words ≡ l.fn.rows.words;
-  added : CosetsAdded l.outputs.places.now l.outputs.words l.self.numbers.items l.self.levels l.from l.to (λ t p. quotient_sum l.self.sequence.items l.self.points.items l.self.factors.items (words_at (texts_of l.sources) p) t) l.coset (lists_of l.fn.texts) (lists_of l.texts);
+  added : CosetsAdded l.outputs.places.now l.outputs.words l.self.numbers.items l.self.levels l.from l.to (λ t p. quotient_sum l.self.sequence.items l.self.points.items l.self.factors.items (words_at (byte_lists l.sources) p) t) l.coset (lists_of l.fn.buffers) (lists_of l.buffers);
 }

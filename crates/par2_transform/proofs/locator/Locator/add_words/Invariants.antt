@@ -1,4 +1,4 @@
-use Rattle.par2_transform.proofs.Common.{◌≡◌, lists_of, texts_of, words_at, quotient_sum}
+use Rattle.par2_transform.proofs.Common.{◌≡◌, lists_of, byte_lists, words_at, quotient_sum}
 use Rattle.par2_transform.proofs.LocatorLaws.{WordsAdded}
 use Rattle.par2_transform.proofs.locator.Locator.add_words.Given as goal
 
@@ -8,5 +8,5 @@ invariant-loop-k l = record {
   rows_words : l.rows.words ≡ l.columns;
   sums_levels : l.sums.levels ≡ l.self.levels;
   sums_words : l.sums.words ≡ l.columns;
-  added : WordsAdded l.outputs.places.now l.outputs.words l.columns (λ t p. quotient_sum l.self.sequence.items l.self.points.items l.self.factors.items (words_at (texts_of l.sources) p) t) l.k (lists_of l.fn.texts) (lists_of l.texts);
+  added : WordsAdded l.outputs.places.now l.outputs.words l.columns (λ t p. quotient_sum l.self.sequence.items l.self.points.items l.self.factors.items (words_at (byte_lists l.sources) p) t) l.k (lists_of l.fn.buffers) (lists_of l.buffers);
 }

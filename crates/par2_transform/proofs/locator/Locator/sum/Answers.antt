@@ -1,4 +1,4 @@
-use Rattle.par2_transform.proofs.Common.{ℕ, List, ◌+◌, ◌^◌, ◌≤◌, ◌≡◌, ◌∙◌, sym, ap, subst, arith, length, slice_index, texts_of, RowsGathered, HaveFirst, words_at, Bor, length-map}
+use Rattle.par2_transform.proofs.Common.{ℕ, List, ◌+◌, ◌^◌, ◌≤◌, ◌≡◌, ◌∙◌, sym, ap, subst, arith, length, slice_index, byte_lists, RowsGathered, HaveFirst, words_at, Bor, length-map}
 use Rattle.par2_transform.proofs.LocatorLaws.{numerators_are}
 use Rattle.par2_transform.proofs.locator.Locator.sum.Goals as goal
 
@@ -23,10 +23,10 @@ returns-clause-words c = c.values_at_points.ensures.words ∙ c.fill.ensures.row
 pub returns-clause-numerators : goal.returns-clause-numerators
 returns-clause-numerators c =
     let self = c.args.self.now in
-    let many : length (texts_of c.args.sources.now) ≡ length c.args.sources.now = length-map c.args.sources.now (λ (x : Bor (List ℕ)). x.now) in
-    numerators_are self.sequence.items self.weights.items (texts_of c.args.sources.now) self.levels c.args.from c.args.rows.now c.fill.new.rows c.values_at_points.new.rows c.args.sums.now c.clear.new.self c.gather_rows.new.sums c.power_sums.new.rows
+    let many : length (byte_lists c.args.sources.now) ≡ length c.args.sources.now = length-map c.args.sources.now (λ (x : Bor (List ℕ)). x.now) in
+    numerators_are self.sequence.items self.weights.items (byte_lists c.args.sources.now) self.levels c.args.from c.args.rows.now c.fill.new.rows c.values_at_points.new.rows c.args.sums.now c.clear.new.self c.gather_rows.new.sums c.power_sums.new.rows
     (many ∙ c.requires.count) self.fit c.fill.ensures.bytes self.weighed c.requires.rows c.requires.sums c.requires.words
-    (subst (λ n. HaveFirst n (λ k s. words_at (texts_of c.args.sources.now) (c.args.from + k) s) c.args.rows.now c.fill.new.rows) (sym many) c.fill.ensures.rows)
+    (subst (λ n. HaveFirst n (λ k s. words_at (byte_lists c.args.sources.now) (c.args.from + k) s) c.args.rows.now c.fill.new.rows) (sym many) c.fill.ensures.rows)
     c.values_at_points.ensures c.clear.ensures.levels c.clear.ensures.words c.clear.ensures.zero
     (subst (λ (xs : List ℕ). RowsGathered (slice_index xs) c.values_at_points.new.rows (2 ^ c.clear.new.self.levels) c.clear.new.self c.gather_rows.new.sums) c.deref.ensures.value c.gather_rows.ensures)
     c.power_sums.ensures

@@ -6,7 +6,7 @@ pub returns : goal.returns
 returns c =
     let inside = c.self.inside in
     let old = inside.bytes.items in
-    let new = c.add_products.new.text in
+    let new = c.add_products.new.bytes in
     let size : length new ≡ inside.bytes.len = search rules in
     let start = c.place-start.ensures ∙ ap (λ (g : Grid). c.args.to * g.words) (sym c.self.view_is) in
     let end = c.place-end.ensures ∙ ap (λ (g : Grid). (c.args.to + 1) * g.words) (sym c.self.view_is) in
@@ -24,4 +24,4 @@ returns c =
     (record { levels = refl; words = refl; others = all.others; here = λ k h. all.here k h ∙ ap (λ v. bit_xor (column (record { levels = inside.levels; words = inside.words; bytes = old }) k c.args.to) (mul c.args.factor.now v)) (same k h) }))
 
 pub invariant_of-self : goal.invariant_of-self
-invariant_of-self c = (kept_rows c.self.inside.levels c.self.inside.words c.self.inside.bytes c.as_mut_slice.result.now c.add_products.new.text c.self.invariant.0 c.as_mut_slice.ensures.value c.add_products.ensures.same_length (search rules), c.self.invariant.1)
+invariant_of-self c = (kept_rows c.self.inside.levels c.self.inside.words c.self.inside.bytes c.as_mut_slice.result.now c.add_products.new.bytes c.self.invariant.0 c.as_mut_slice.ensures.value c.add_products.ensures.same_length (search rules), c.self.invariant.1)

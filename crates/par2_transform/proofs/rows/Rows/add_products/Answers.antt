@@ -28,7 +28,7 @@ pub returns : goal.returns
 returns c =
     let inside = c.self.inside in
     let old = inside.bytes.items in
-    let new = c.add_products_within.new.text in
+    let new = c.add_products_within.new.bytes in
     let size : length new ≡ inside.bytes.len = search rules in
     let view = sym c.self.view_is in
     let added = subst (λ (xs : List ℕ). AddsTo (λ p. within c.place-to.result (c.place-to.result + c.place-count.result) p (mul c.args.factor.now (word (c.place-from.result + (p - c.place-to.result)) xs))) xs new) c.as_mut_slice.ensures.value c.add_products_within.ensures in
@@ -39,4 +39,4 @@ returns c =
     (c.place-from.ensures ∙ ap (λ (g : Grid). c.args.from * g.words) view) (c.place-to.ensures ∙ ap (λ (g : Grid). c.args.to * g.words) view) (c.place-count.ensures ∙ ap (λ (g : Grid). c.args.count * g.words) view) added))
 
 pub invariant_of-self : goal.invariant_of-self
-invariant_of-self c = (kept_rows c.self.inside.levels c.self.inside.words c.self.inside.bytes c.as_mut_slice.result.now c.add_products_within.new.text c.self.invariant.0 c.as_mut_slice.ensures.value c.add_products_within.ensures.same_length (search rules), c.self.invariant.1)
+invariant_of-self c = (kept_rows c.self.inside.levels c.self.inside.words c.self.inside.bytes c.as_mut_slice.result.now c.add_products_within.new.bytes c.self.invariant.0 c.as_mut_slice.ensures.value c.add_products_within.ensures.same_length (search rules), c.self.invariant.1)

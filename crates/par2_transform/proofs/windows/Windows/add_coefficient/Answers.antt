@@ -3,14 +3,14 @@ use Rattle.par2_transform.proofs.windows.Windows.add_coefficient.Goals as goal
 
 pub returns : goal.returns
 returns c =
-    let added = c.add_text.ensures in
+    let added = c.add_bytes.ensures in
     record {
       levels = added.levels;
       words = added.words;
       others = added.others;
       here = λ k h.
           added.here k h
-          ∙ ap (bit_xor (column c.args.rows.now k c.args.i)) (ap₂ mul (c.new-factor.ensures ∙ c.inverse.ensures) (c.text_from.ensures k ∙ c.at_power-slice.ensures (c.args.from + k)));
+          ∙ ap (bit_xor (column c.args.rows.now k c.args.i)) (ap₂ mul (c.new-factor.ensures ∙ c.inverse.ensures) (c.bytes_from.ensures k ∙ c.at_power-slice.ensures (c.args.from + k)));
     }
 
 pub inverse-requires : goal.inverse-requires
@@ -19,8 +19,8 @@ inverse-requires c =
     let within = mul-add-lt c.args.a plan.window c.args.i plan.windows c.requires.window c.requires.place in
     omega (arith, within)
 
-pub add_text-requires : goal.add_text-requires
-add_text-requires c =
+pub add_bytes-requires : goal.add_bytes-requires
+add_bytes-requires c =
     let plan = c.args.self.now.plan in
     record { place = subst (λ n. c.args.i < 2 ^ n) (sym c.requires.levels) (omega (arith, plan.fit, plan.some.1.0, c.requires.place)) }
 

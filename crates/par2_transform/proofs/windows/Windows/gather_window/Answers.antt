@@ -1,4 +1,4 @@
-use Rattle.par2_transform.proofs.Common.{arith, ◌≤◌, ◌^◌, ◌∙◌, ◌<◌, sym, subst, Gathers, GathersWindow, block_at, cut_of}
+use Rattle.par2_transform.proofs.Common.{arith, ◌≤◌, ◌^◌, ◌∙◌, ◌<◌, sym, subst, Gathers, GathersWindow, outputs_at, cut_of}
 use Rattle.par2_transform.proofs.WindowLaws.{becomes_too, gathers_values, values_of_window}
 use Rattle.par2_transform.proofs.windows.Windows.gather_window.Goals as goal
 
@@ -25,5 +25,5 @@ returns-clause-gathered c =
     let values = values_of_window cut c.args.self.now.slices c.args.r c.args.a c.args.from c.args.rows.now c.fill.new.rows c.values_at_points.new.rows fits
     (c.fill.ensures.levels ∙ c.requires.levels) c.fill.ensures c.values_at_points.ensures in
     becomes_too (Gathers c.args.a c.values_at_points.new.rows) (GathersWindow cut c.args.self.now.slices c.args.r c.args.a c.args.from) c.args.blocks.now c.gather_all.new.blocks c.gather_all.ensures
-    (λ j h g. gathers_values cut c.args.self.now.slices c.args.r c.args.a c.args.from c.args.rows.now c.values_at_points.new.rows (block_at c.args.blocks.now j) (block_at c.gather_all.new.blocks j)
+    (λ j h g. gathers_values cut c.args.self.now.slices c.args.r c.args.a c.args.from c.args.rows.now c.values_at_points.new.rows (outputs_at c.args.blocks.now j) (outputs_at c.gather_all.new.blocks j)
     (c.requires.blocks j h).levels ((c.requires.blocks j h).words ∙ sym c.requires.words) values g)

@@ -1,5 +1,0 @@
-use Rattle.library_tests.proofs.Common.{◌≡◌}
-use Rattle.library_tests.proofs.elimination.is_as_told.Given as goal
-
-abbrev pub invariant-loop-k : goal.invariant-loop-k
-invariant-loop-k g l = (l.system.columns ≡ l.columns) × (l.system.bytes ≡ l.bytes)

@@ -1,0 +1,30 @@
+use Rattle.par2_md5_lanes.proofs.Common.{◌*◌, arith, drop, take, rules, lane, slice_index, hash_behind, buffer_at}
+use Rattle.par2_md5_lanes.proofs.BlockLaws.{after_words}
+use Rattle.par2_md5_lanes.proofs.FeedLaws.{hash_one_more}
+use Rattle.par2_md5_lanes.proofs.blocks.HashStateSimdU32Hashes.absorbed.Goals as goal
+
+pub read_words-requires : goal.read_words-requires
+read_words-requires g c = (
+  omega (arith, c.requires.few),
+  (
+    c.requires.enough,
+    (omega (arith, c.requires.room, c.loop-block-test.true), λ k low. omega (arith, c.requires.within k low, c.loop-block-test.true)),
+  ),
+)
+
+pub compressed-after-requires : goal.compressed-after-requires
+compressed-after-requires g c = omega (arith, c.requires.few)
+
+pub loop-block-init : goal.loop-block-init
+unfolding hash_behind
+loop-block-init g c = search (rules, arith)
+
+pub loop-block-preserved : goal.loop-block-preserved
+loop-block-preserved g c = λ k low.
+    let block = c.loop-block.block in
+    let bytes = buffer_at c.args.buffers.now k in
+    after_words _ _ _ _ (take 64 (drop (64 * block) bytes)) _ (c.compressed-after.ensures k low) (c.loop-block.invariant k low) (c.read_words.ensures k low)
+    (hash_one_more (lane slice_index k c.args.self) bytes block)
+
+pub returns : goal.returns
+returns g c = grind (arith, hash_behind)

@@ -1,5 +1,0 @@
-use Rattle.par2_solve.proofs.Common.{ℕ, ◌<◌, get_or, list_at, texts_of}
-use Rattle.par2_solve.proofs.products.fit_texts.Given as goal
-
-abbrev pub invariant-loop-i : goal.invariant-loop-i
-invariant-loop-i l = (r k : ℕ) → r < l.i → get_or (list_at (texts_of l.texts) r) k 0 < 256

@@ -1,2 +1,0 @@
-pub returns : Rattle.par2_spec.proofs.packet_laws.packets_then_text.Goals.returns
-returns c = Rattle.par2_spec.proofs.WrittenPackets.packets_then

@@ -1,0 +1,56 @@
+-- Outputs that are a whole buffer each.
+use Rattle.par2_transform.proofs.Common.{inl, inr, ℕ, ◌+◌, ◌*◌, ◌<◌, ◌≤◌, ◌≡◌, refl, sym, ap, ap₂, subst, ◌∙◌, arith, bit_xor, List, [], ◌∷◌, ◌++◌, length, drop, length-append, cases_lt, get_or_append_left, get_or_at, word, list_at, place_at, output_word, AddsAt, AddsToEach, AreApart, AreWholeBuffers, HaveWords, LieWithin, Place}
+
+pub no_bytes : AreWholeBuffers 0 []
+no_bytes = record { count = refl; each = λ t h. absurd (omega arith) }
+
+pub next_bytes : (n : ℕ) (places : List Place) → AreWholeBuffers n places → AreWholeBuffers (n + 1) (places ++ record { buffer = n; at = 0 } ∷ [])
+next_bytes n places so_far = record {
+  count = length-append places (place ∷ []) ∙ ap (λ k. k + 1) so_far.count;
+  each = λ t h. elim (cases_lt t n) [
+    | inl low ↦
+        subst (λ (x : Place). (x.buffer ≡ t) × (x.at ≡ 0)) (sym (get_or_append_left places (place ∷ []) none t (let e = so_far.count in omega (arith, e, low)))) (so_far.each t low)
+    | inr high ↦
+        (let same : t ≡ n = omega arith in
+        subst (λ (x : Place). (x.buffer ≡ t) × (x.at ≡ 0)) (sym (ap (place_at (places ++ place ∷ [])) same ∙ get_or_at places place [] none n so_far.count)) (sym same, refl))
+  ];
+}
+  where
+    none : Place
+    none = record { buffer = 0; at = 0 }
+
+    place : Place
+    place = record { buffer = n; at = 0 }
+
+pub whole_apart : (words count : ℕ) (places : List Place) → AreWholeBuffers count places → AreApart words places
+whole_apart words count places whole s t i k s_low t_low a b =
+    let n = whole.count in
+    let s_is = (whole.each s (omega (arith, n, s_low))).0 in
+    let t_is = (whole.each t (omega (arith, n, t_low))).0 in
+    sym s_is ∙ a.0 ∙ sym b.0 ∙ t_is
+
+pub whole_within : (words : ℕ) (places : List Place) (buffers : List (List ℕ)) → AreWholeBuffers (length buffers) places → HaveWords words buffers → LieWithin words places buffers
+whole_within words places buffers whole have t h =
+    let n = whole.count in
+    let low : t < length buffers = omega (arith, n, h) in
+    let is = whole.each t low in
+    let bytes_is = is.0 in
+    let at_is = is.1 in
+    let size : length (list_at buffers (place_at places t).buffer) ≡ 2 * words = ap (λ (i : ℕ). length (list_at buffers i)) bytes_is ∙ have t low in
+    let in_buffers : (place_at places t).buffer < length buffers = omega (arith, bytes_is, low) in
+    let fits : (place_at places t).at + 2 * words ≤ length (list_at buffers (place_at places t).buffer) = omega (arith, at_is, size) in
+    (in_buffers, fits)
+
+pub whole_added : (words : ℕ) (other : ℕ → ℕ → ℕ) (places : List Place) (old new : List (List ℕ)) → AreWholeBuffers (length old) places → HaveWords words old
+    → AddsAt places words other old new → AddsToEach other old new
+whole_added words other places old new whole have added = record {
+  count = added.count;
+  sizes = added.sizes;
+  each = λ t p low fits.
+      let n = whole.count in
+      let size = have t low in
+      sym (here t p low new) ∙ added.each t p (omega (arith, n, low)) (omega (arith, size, fits)) ∙ ap (λ x. bit_xor x (other t p)) (here t p low old);
+}
+  where
+    here : (t p : ℕ) → t < length old → (buffers : List (List ℕ)) → output_word places t p buffers ≡ word p (list_at buffers t)
+    here t p low buffers = let is = whole.each t low in ap₂ (λ (i a : ℕ). word p (drop a (list_at buffers i))) is.0 is.1

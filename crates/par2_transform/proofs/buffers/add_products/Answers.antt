@@ -1,0 +1,12 @@
+use Rattle.par2_transform.proofs.Common.{◌+◌, ◌*◌, ◌-◌, ◌<◌, ◌≡◌, ◌∙◌, sym, subst, length, mul}
+use borrow.Rule.Slice.PartMut.{mid_len}
+use Rattle.par2_transform.proofs.AddingLaws.{adds_to_part}
+use Rattle.par2_transform.proofs.buffers.add_products.Goals as goal
+
+pub returns : goal.returns
+returns c =
+    let bytes = c.args.bytes.now in
+    let mid = mid_len (2 * c.args.from) (2 * c.args.to) bytes c.requires.room in
+    let size : length c.mul_add_by.new.dst ≡ 2 * c.args.to - 2 * c.args.from = c.mul_add_by.ensures.same_length ∙ mid in
+    adds_to_part (mul c.args.factor.now) c.args.from c.args.to c.args.src.now bytes c.mul_add_by.new.dst c.requires.order c.requires.source c.requires.room size
+    (λ p fits. c.mul_add_by.ensures.each p (subst (λ n. 2 * p + 1 < n) (sym mid) fits))

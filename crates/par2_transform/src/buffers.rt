@@ -1,0 +1,124 @@
+//! Sums of buffers, word by word. `Rows` adds rows by `add_words_within`, `add_products` and `add_products_within`;
+//! `add_to_output` ends in `add_products`.
+
+ghost use Rattle.std.specs.Prelude.{◌≡◌, ℕ, ◌+◌, ◌-◌, ◌*◌, ◌^◌, ◌<◌, ◌≤◌, ◌⊎◌, length, slice_index};
+ghost use Rattle.par2_spec.specs.Field.{mul};
+ghost use Rattle.par2_spec.specs.Slices.{word};
+ghost use Rattle.par2_transform.specs.Adding.{within, AddsTo};
+ghost use Rattle.par2_transform.specs.Grids.{AddsWords};
+
+use par2_gf16::{Factor, Gf};
+
+/// For the prover: each byte is below 2 ^ 8.
+#[inline(always)]
+pub(crate) fn fit_bytes(bytes: &[u8])
+    ensures { (k : ℕ) → slice_index bytes.now k < 2 ^ 8 }
+{
+    let _ = bytes.len();
+}
+
+/// Sets all bytes to zero.
+pub(crate) fn clear(bytes: &mut [u8])
+    ensures size { length bytes.new ≡ length bytes.old }
+    ensures zero { (k : ℕ) → slice_index bytes.new k ≡ 0 }
+{
+    for k in 0..bytes.len() {
+        bytes[k] = 0;
+    }
+}
+
+/// Copies as many of the bytes as fit, and fills the rest of `to` with zeros.
+pub(crate) fn copy_padded(bytes: &[u8], to: &mut [u8])
+    ensures size { length to.new ≡ length to.old }
+    ensures same { (k : ℕ) → k < length to.old → slice_index to.new k ≡ slice_index bytes.now k }
+{
+    let count = bytes.len().min(to.len());
+    let (front, back) = to.split_at_mut(count);
+    front.copy_from_slice(&bytes[..count]);
+    clear(back);
+}
+
+// Adds each word of `src` to the word of `dst` at the same place. The sum of two elements is their exclusive or.
+fn add(src: &[u8], dst: &mut [u8])
+    requires { length src.now ≡ length dst.old }
+    ensures { AddsWords src.now dst.old dst.new }
+{
+    fit_bytes(src);
+    fit_bytes(dst);
+    for k in 0..dst.len() {
+        dst[k] ^= src[k];
+    }
+}
+
+/// Adds the first words of `src` to words `from` up to `to` of the bytes: word k of `src` to word `from + k`.
+pub(crate) fn add_words(src: &[u8], bytes: &mut [u8], from: usize, to: usize)
+    requires order { from ≤ to }
+    requires source { 2 * to ≤ 2 * from + length src.now }
+    requires room { 2 * to ≤ length bytes.old }
+    ensures { AddsTo (λ p. within from to p (word (p - from) src.now)) bytes.old bytes.new }
+{
+    add(&src[..2 * (to - from)], &mut bytes[2 * from..2 * to]);
+}
+
+/// Adds the factor times the first words of `src` to words `from` up to `to` of the bytes: word k to word `from + k`.
+pub(crate) fn add_products(
+    gf: &Gf,
+    factor: &Factor,
+    src: &[u8],
+    bytes: &mut [u8],
+    from: usize,
+    to: usize,
+)
+    requires order { from ≤ to }
+    requires source { 2 * to ≤ 2 * from + length src.now }
+    requires room { 2 * to ≤ length bytes.old }
+    ensures { AddsTo (λ p. within from to p (mul factor.now (word (p - from) src.now)))
+        bytes.old bytes.new }
+{
+    gf.mul_add_by(
+        factor,
+        &src[..2 * (to - from)],
+        &mut bytes[2 * from..2 * to],
+    );
+}
+
+/// Adds the `count` words from word `from` on to those from word `to` on. The two ranges don't overlap.
+pub(crate) fn add_words_within(bytes: &mut [u8], from: usize, to: usize, count: usize)
+    requires from { 2 * (from + count) ≤ length bytes.old }
+    requires to { 2 * (to + count) ≤ length bytes.old }
+    requires apart { (from + count ≤ to) ⊎ (to + count ≤ from) }
+    ensures { AddsTo (λ p. within to (to + count) p (word (from + (p - to)) bytes.old))
+        bytes.old bytes.new }
+{
+    if from < to {
+        let (front, back) = bytes.split_at_mut(2 * to);
+        add_words(&front[2 * from..], back, 0, count);
+    } else {
+        let (front, back) = bytes.split_at_mut(2 * from);
+        add_words(back, front, to, to + count);
+    }
+}
+
+/// Adds the factor times the `count` words from word `from` on to those from word `to` on. The ranges don't overlap.
+pub(crate) fn add_products_within(
+    gf: &Gf,
+    factor: &Factor,
+    bytes: &mut [u8],
+    from: usize,
+    to: usize,
+    count: usize,
+)
+    requires from { 2 * (from + count) ≤ length bytes.old }
+    requires to { 2 * (to + count) ≤ length bytes.old }
+    requires apart { (from + count ≤ to) ⊎ (to + count ≤ from) }
+    ensures { AddsTo (λ p. within to (to + count) p
+        (mul factor.now (word (from + (p - to)) bytes.old))) bytes.old bytes.new }
+{
+    if from < to {
+        let (front, back) = bytes.split_at_mut(2 * to);
+        add_products(gf, factor, &front[2 * from..], back, 0, count);
+    } else {
+        let (front, back) = bytes.split_at_mut(2 * from);
+        add_products(gf, factor, back, front, to, to + count);
+    }
+}
