@@ -1,7 +1,7 @@
 //! Worked examples of folders and names, and every refusal.
 
 ghost use Rattle.std.specs.Prelude.{map, IsTrue};
-ghost use Rattle.par2_files.specs.Views.{change_of};
+ghost use Rattle.par2_files.specs.ChangeViews.{change_of};
 ghost use Rattle.par2_spec.specs.Changes.{takes_all};
 
 use crate::calls::{bytes_in, fingerprint, lists, name};

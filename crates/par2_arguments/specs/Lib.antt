@@ -1,3 +1,3 @@
 pub mod Definition
 pub mod Meanings
-pub mod Refusals
+pub mod ReadWords

@@ -5,7 +5,7 @@ ghost use Rattle.std.specs.Prelude.{◌≡◌, ◌⊎◌, [], IfOk, IfErr, Some,
 ghost use Rattle.clap.specs.Words.{fault_of, found_of, rows_of, kind_of, subcommand_of, takes};
 ghost use Rattle.par2_spec.specs.Views.{command_of};
 ghost use Rattle.par2_arguments.specs.Definition.{par2_app};
-ghost use Rattle.par2_arguments.specs.Refusals.{IsMeant};
+ghost use Rattle.par2_arguments.specs.ReadWords.{IsMeant};
 ghost use Rattle.par2_arguments.specs.Meanings.{requested_by, meaning, number_of, value_of, values_of, flag_of, create_meaning, verify_meaning, repair_meaning, purge_meaning};
 
 use crate::definition::par2_command;
@@ -38,7 +38,7 @@ impl From<AllocError> for WordsFault {
 
 impl From<WordsFault> for Failure {
     ghost use Rattle.std.specs.Prelude.{◌≡◌};
-    ghost use Rattle.par2_arguments.specs.Refusals.{unread_as};
+    ghost use Rattle.par2_arguments.specs.ReadWords.{unread_as};
 
     ghost from_gives = { λ fault failure. failure ≡ unread_as fault };
 

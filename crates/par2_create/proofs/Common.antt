@@ -24,11 +24,11 @@ pub use Rattle.par2_packets.proofs.LaterDigests.{head_of, length-head, length-un
 pub use Rattle.par2_packets.proofs.Pieces.{drop_behind, length-pieces, piece_at}
 pub use Rattle.par2_packets.specs.Pieces.{ArePieces}
 pub use Rattle.par2_packets.specs.Recoveries.{digested, undigested}
-pub use Rattle.par2_packets.specs.Views.{file_record_of}
+pub use Rattle.par2_packets.specs.PacketViews.{file_record_of}
 pub use Rattle.par2_packets.specs.declared.record.FileRecord.{FileRecord}
 pub use Rattle.par2_create.specs.Records.{AreRecords}
 pub use Rattle.par2_slices.specs.Positions.{buffers_of}
-pub use Rattle.par2_solve.specs.Writing.{AreWritten, AreZeros, output_at}
+pub use Rattle.par2_solve.specs.WrittenSlices.{AreWritten, AreZeros, output_at}
 pub use Rattle.par2_spec.proofs.CreateLaws.{create_applies, names_of_outputs}
 pub use Rattle.par2_spec.proofs.ListsLaws.{any-map, map-cond, range-append}
 pub use Rattle.par2_spec.proofs.NameTests.{name_is_short, name_of, tests_of}

@@ -3,7 +3,7 @@ use Rattle.par2_create.proofs.Common.{ℕ, ◌+◌, ◌<◌, ◌≡◌, refl, sy
 use Rattle.std.specs.Prelude.{IsPermutation}
 use Rattle.std.specs.List.Sorted.{IsStrictlyIncreasing}
 use Rattle.md5.specs.Md5.{md5}
-use Rattle.par2_packets.specs.Views.{record_id_number}
+use Rattle.par2_packets.specs.PacketViews.{record_id_number}
 use Rattle.std.specs.Int.{w128, from_le_bytes}
 use Rattle.par2_spec.specs.Volumes as volumes
 use Rattle.par2_spec.proofs.OrderLaws.{rising_records, files_of_ordered}

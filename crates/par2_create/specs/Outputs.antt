@@ -6,7 +6,7 @@ use Rattle.par2_spec.specs.Folders.{Folder, File, has}
 use Rattle.par2_spec.specs.Changes.{Change, Write, Replace}
 use Rattle.par2_spec.specs.Volumes.{volume_name, volume_numbers, volumes_before, volume_size, recovery_packets, record_of, in_id_order}
 use Rattle.par2_spec.specs.Commands.{CreateArgs, files_of}
-use Rattle.par2_packets.specs.Views.{file_record_of}
+use Rattle.par2_packets.specs.PacketViews.{file_record_of}
 use Rattle.par2_create.specs.Records as records
 use Rattle.par2_create.specs.declared.records.RecoverySet.{RecoverySet}
 use Rattle.par2_create.specs.declared.names.Volume.{Volume}

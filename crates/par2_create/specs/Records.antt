@@ -5,7 +5,7 @@ use Rattle.par2_spec.specs.Commands.{files_of}
 use Rattle.par2_spec.specs.Folders.{File, Folder}
 use Rattle.par2_spec.specs.Slices.{padded}
 use Rattle.par2_spec.specs.Volumes.{all_slices, record_of}
-use Rattle.par2_packets.specs.Views.{file_record_of}
+use Rattle.par2_packets.specs.PacketViews.{file_record_of}
 use Rattle.par2_packets.specs.declared.record.FileRecord.{FileRecord}
 use Rattle.par2_slices.specs.Positions.{buffers_of}
 

@@ -4,7 +4,7 @@ ghost use Rattle.par2_spec.specs.Answers.{Lists};
 ghost use Rattle.par2_spec.specs.Packets.{packet};
 ghost use Rattle.par2_spec.specs.Volumes.{packet_of, index_packets, desc_bytes, ifsc_bytes};
 ghost use Rattle.par2_spec.specs.declared.Kind.TheVariants.{FileDesc, Ifsc};
-ghost use Rattle.par2_packets.specs.Views.{file_record_of};
+ghost use Rattle.par2_packets.specs.PacketViews.{file_record_of};
 
 use par2_packets::{FileRecord, append_creator, append_desc, append_ifsc, append_main, main_id};
 use par2_spec::Result;

@@ -1,7 +1,7 @@
 //! The changes that write the files of a create: `changes_of` takes the index as it is, and the volumes from
 //! `volume_files`.
 ghost use Rattle.std.specs.Prelude.{◌≡◌, ◌++◌, map, IfOk, OnOk};
-ghost use Rattle.par2_files.specs.Views.{change_of};
+ghost use Rattle.par2_files.specs.ChangeViews.{change_of};
 ghost use Rattle.par2_create.specs.Outputs.{HasSlices, HaveExponents, put_change, output_changes};
 ghost use Rattle.par2_create.specs.Volumes.{as_file};
 

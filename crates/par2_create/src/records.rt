@@ -11,7 +11,7 @@ ghost use Rattle.par2_spec.specs.Folders.{File};
 ghost use Rattle.par2_spec.specs.Folders as spec;
 ghost use Rattle.par2_spec.specs.Volumes.{in_id_order, record_of};
 ghost use Rattle.par2_spec.specs.Commands.{files_of};
-ghost use Rattle.par2_packets.specs.Views.{record_id_number, file_record_of};
+ghost use Rattle.par2_packets.specs.PacketViews.{record_id_number, file_record_of};
 ghost use Rattle.par2_create.specs.Records.{AreRecords, names_of};
 
 use crate::sources::bytes_of;

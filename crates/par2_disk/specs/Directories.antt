@@ -8,8 +8,8 @@ use Rattle.par2_spec.specs.Changes.{Change, Remove, Rename, Replace, is_applicab
 use Rattle.par2_spec.specs.Folders.{names}
 use Rattle.par2_spec.specs.Stores.{Contents, with_change, with_journal}
 use Rattle.par2_disk.specs.Cuts.{AreKept, IsDurable, MayBeCutOff, MayBeMade, NoMoreCrashStates}
-use Rattle.par2_disk.specs.declared.directory.Place.{Place}
-use Rattle.par2_disk.specs.declared.directory.Place.TheVariants as place
+use Rattle.par2_disk.specs.declared.directory.Location.{Location}
+use Rattle.par2_disk.specs.declared.directory.Location.TheVariants as location
 use Rattle.par2_disk.specs.declared.directory.Found.{Found}
 use Rattle.par2_disk.specs.declared.directory.Found.TheVariants as found
 use Rattle.par2_disk.specs.declared.directory.Found.TheVariants.{Nothing}
@@ -19,25 +19,25 @@ use Rattle.par2_disk.specs.declared.store.ReadFault.TheVariants.{Store}
 use Rattle.par2_disk.specs.declared.store.StoreFault.{StoreFault}
 use Rattle.par2_disk.specs.declared.view.Disk.{Ghosts as DiskOf}
 
--- the path of a place
-abbrev pub path_of : Place → List ℕ
-path_of (place.File name) = name.now
-path_of place.Journal = codes ".par2undo"
-path_of place.Temporary = codes ".par2undo.tmp"
+-- the path of a location
+abbrev pub path_of : Location → List ℕ
+path_of (location.File name) = name.now
+path_of location.Journal = codes ".par2undo"
+path_of location.Temporary = codes ".par2undo.tmp"
 
--- the bytes of the file at a place, if there is one
-abbrev pub place_bytes : Contents → Option (List ℕ) → Place → Option (List ℕ)
-place_bytes contents temporary (place.File name) = map_of.get contents.files name.now
-place_bytes contents temporary place.Journal = contents.journal
-place_bytes contents temporary place.Temporary = temporary
+-- the bytes of the file at a location, if there is one
+abbrev pub place_bytes : Contents → Option (List ℕ) → Location → Option (List ℕ)
+place_bytes contents temporary (location.File name) = map_of.get contents.files name.now
+place_bytes contents temporary location.Journal = contents.journal
+place_bytes contents temporary location.Temporary = temporary
 
--- the contents with these bytes written to the file at a place
-abbrev pub put_at : Contents → Place → List ℕ → Contents
-put_at contents (place.File name) bytes = with_change contents (Replace name.now bytes)
-put_at contents place.Journal bytes = with_journal contents bytes
-put_at contents place.Temporary bytes = contents
+-- the contents with these bytes written to the file at a location
+abbrev pub put_at : Contents → Location → List ℕ → Contents
+put_at contents (location.File name) bytes = with_change contents (Replace name.now bytes)
+put_at contents location.Journal bytes = with_journal contents bytes
+put_at contents location.Temporary bytes = contents
 
--- what is found at a place, by the bytes of the file there and by whether something other than a file is there
+-- what is found at a location, by the bytes of the file there and by whether something other than a file is there
 abbrev pub StandsAs : Option (List ℕ) → Type 0 → Found → Type 0
 StandsAs bytes barred found.Nothing = (bytes ≡ None) × (barred → ⊥)
 StandsAs bytes barred (found.File size) = IsSome bytes × (barred → ⊥)
@@ -52,8 +52,8 @@ IsFoundBy IsMissing answer found.Other = MatchResult answer (λ metadata. IsFile
 
 -- ---- holding, and reading
 
--- nothing other than a file is at the place
-abbrev pub IsFree : {D : Type 0} → DiskOf D → D → Place → Type 0
+-- nothing other than a file is at the location
+abbrev pub IsFree : {D : Type 0} → DiskOf D → D → Location → Type 0
 IsFree disk it at = disk.barred it (path_of at) → ⊥
 
 -- no more paths are barred than before
@@ -83,17 +83,17 @@ pub record ListsNames {D : Type 0} (disk : DiskOf D) (it : D) (result : Result (
   pub names : disk.honest it → IfOk result (λ list. list.items ≡ names (disk.contents it).files)
   pub fault : IfErr result (disk.may_fail it)
 
--- what is at a place is found
-pub record Finds {D : Type 0} (disk : DiskOf D) (it : D) (at : Place) (result : Result Found StoreFault) : Type 0 where
+-- what is at a location is found
+pub record Finds {D : Type 0} (disk : DiskOf D) (it : D) (at : Location) (result : Result Found StoreFault) : Type 0 where
   pub found : disk.honest it → IfOk result (StandsAs (place_bytes (disk.contents it) (disk.temporary it) at) (disk.barred it (path_of at)))
-  pub stamp : disk.honest it → at ≡ place.Journal → result ≡ Ok Nothing → disk.stamp it ≡ None
+  pub stamp : disk.honest it → at ≡ location.Journal → result ≡ Ok Nothing → disk.stamp it ≡ None
   pub fault : IsErr result → disk.may_fail it Store
 
--- the bytes of the file at a place are read, with its stamp
-pub record ReadsAt {D : Type 0} (disk : DiskOf D) (old new : D) (at : Place) (result : Result (Vec ℕ Global × Stamp) ReadFault) : Type 0 where
+-- the bytes of the file at a location are read, with its stamp
+pub record ReadsAt {D : Type 0} (disk : DiskOf D) (old new : D) (at : Location) (result : Result (Vec ℕ Global × Stamp) ReadFault) : Type 0 where
   pub stays : Stays disk old new
   pub bytes : disk.honest old → IfOk result (λ read. place_bytes (disk.contents old) (disk.temporary old) at ≡ Some read.0.items)
-  pub stamp : disk.honest old → at ≡ place.Journal → IfOk result (λ read. disk.stamp old ≡ Some read.1)
+  pub stamp : disk.honest old → at ≡ location.Journal → IfOk result (λ read. disk.stamp old ≡ Some read.1)
   pub fault : disk.honest old → IsSome (place_bytes (disk.contents old) (disk.temporary old) at) → IfErr result (disk.may_fail old)
   pub unfailed : disk.failures new ≡ disk.failures old
 
@@ -103,11 +103,11 @@ pub record ReadsAt {D : Type 0} (disk : DiskOf D) (old new : D) (at : Place) (re
 pub record WritesTemporary {D : Type 0} (disk : DiskOf D) (old new : D) (bytes : List ℕ) (result : Result (Unit {0}) StoreFault) : Type 0 where
   pub honest : disk.honest old → disk.honest new
   pub alone : disk.alone old → disk.alone new
-  pub done : disk.honest old → IsFree disk old place.Temporary → OnOk result (disk.temporary new ≡ Some bytes)
-  pub same : disk.honest old → IsFree disk old place.Temporary → disk.contents new ≡ disk.contents old
+  pub done : disk.honest old → IsFree disk old location.Temporary → OnOk result (disk.temporary new ≡ Some bytes)
+  pub same : disk.honest old → IsFree disk old location.Temporary → disk.contents new ≡ disk.contents old
   pub barred : disk.honest old → NoMoreBarred disk old new
-  pub remains : disk.honest old → IsFree disk old place.Temporary → NoMoreCrashStates (disk.crash_states old) (disk.crash_states new)
-  pub cut_off : disk.honest old → IsFree disk old place.Temporary → OnOk result (MayBeCutOff (disk.temporary_crash_states new) bytes)
+  pub remains : disk.honest old → IsFree disk old location.Temporary → NoMoreCrashStates (disk.crash_states old) (disk.crash_states new)
+  pub cut_off : disk.honest old → IsFree disk old location.Temporary → OnOk result (MayBeCutOff (disk.temporary_crash_states new) bytes)
 
 -- its bytes are synced, and so durable (fsync of the file)
 pub record KeepsTemporary {D : Type 0} (disk : DiskOf D) (old new : D) (result : Result (Unit {0}) StoreFault) : Type 0 where
@@ -129,18 +129,18 @@ pub record Moves {D : Type 0} (disk : DiskOf D) (old new : D) (Can : Type 0) (Is
   pub all_or_none : disk.honest old → Can → OnErr result ((disk.contents new ≡ disk.contents old) ⊎ IsMade (disk.contents old) (disk.contents new))
   pub remains : disk.honest old → Can → MayBeMade MayBeLeft (disk.crash_states old) (disk.crash_states new)
 
--- the temporary file is moved to a place, with its bytes, or after a power cut with those that may be left of them
-abbrev pub MovesTemporary : {D : Type 0} → DiskOf D → D → D → Type 0 → Place → Result (Unit {0}) StoreFault → Type 0
+-- the temporary file is moved to a location, with its bytes, or after a power cut with those that may be left of them
+abbrev pub MovesTemporary : {D : Type 0} → DiskOf D → D → D → Type 0 → Location → Result (Unit {0}) StoreFault → Type 0
 MovesTemporary disk old new Can at result = Moves disk old new Can
     (λ before after. IfSome (disk.temporary old) (λ bytes. after ≡ put_at before at bytes))
     (λ before after. (bytes : List ℕ) × disk.temporary_crash_states old bytes × (after ≡ put_at before at bytes)) result
 
--- it is renamed to the place, over an existing file
-abbrev pub PutsTemporary : {D : Type 0} → DiskOf D → D → D → Place → Result (Unit {0}) StoreFault → Type 0
+-- it is renamed to the location, over an existing file
+abbrev pub PutsTemporary : {D : Type 0} → DiskOf D → D → D → Location → Result (Unit {0}) StoreFault → Type 0
 PutsTemporary disk old new at result = MovesTemporary disk old new (IsFree disk old at) at result
 
--- it is moved to a free place; a taken place is an error, and nothing changes
-pub record NamesTemporary {D : Type 0} (disk : DiskOf D) (old new : D) (at : Place) (result : Result (Unit {0}) StoreFault) : Type 0 where
+-- it is moved to a free location; a taken location is an error, and nothing changes
+pub record NamesTemporary {D : Type 0} (disk : DiskOf D) (old new : D) (at : Location) (result : Result (Unit {0}) StoreFault) : Type 0 where
   pub moves : MovesTemporary disk old new (Unit {0}) at result
   pub taken : disk.honest old → IsSome (place_bytes (disk.contents old) (disk.temporary old) at) ⊎ disk.barred old (path_of at) → IsErr result × (disk.contents new ≡ disk.contents old)
 

@@ -7,8 +7,8 @@ use Rattle.par2_spec.specs.Folders.{has}
 use Rattle.par2_disk.specs.Cuts.{AreKept, NoMoreCrashStates}
 use Rattle.par2_disk.specs.Directories.{IsFree, NoMoreBarred, Stays, path_of, put_at}
 use Rattle.par2_disk.specs.Stores.{Writes}
-use Rattle.par2_disk.specs.declared.directory.Place.{Place}
-use Rattle.par2_disk.specs.declared.directory.Place.TheVariants as place
+use Rattle.par2_disk.specs.declared.directory.Location.{Location}
+use Rattle.par2_disk.specs.declared.directory.Location.TheVariants as location
 use Rattle.par2_disk.specs.declared.disk.DiskStore.{DiskStore}
 use Rattle.par2_disk.specs.declared.stamp.Stamp.{Stamp}
 use Rattle.par2_disk.specs.declared.store.ReadFault.{ReadFault}
@@ -83,9 +83,9 @@ pub record FindsJournal {D : Type 0} (disk : DiskOf D) (old new : D) (result : R
   pub stays : Stays disk old new
   pub bytes : disk.honest old → IfOk result (λ found. option_map (λ (read : Vec ℕ Global × Stamp). read.0.items) found ≡ (disk.contents old).journal)
   pub stamp : disk.honest old → IfOk result (λ found. option_map (λ (read : Vec ℕ Global × Stamp). read.1) found ≡ disk.stamp old)
-  pub barred : disk.honest old → disk.barred old (path_of place.Journal) → IsErrOf result Store
+  pub barred : disk.honest old → disk.barred old (path_of location.Journal) → IsErrOf result Store
   pub absent : disk.honest old → (disk.contents old).journal ≡ None → (result ≡ Ok None) ⊎ IsErrOf result Store
-  pub reason : disk.honest old → IsFree disk old place.Journal → IfErr result (disk.may_fail old)
+  pub reason : disk.honest old → IsFree disk old location.Journal → IfErr result (disk.may_fail old)
   pub unfailed : disk.failures new ≡ disk.failures old
 
 -- `find_file`: the named file is found. If there is none, the call can't be done, which is counted
@@ -103,8 +103,8 @@ pub record FindsNothing {D : Type 0} (disk : DiskOf D) (old new : DiskStore D) (
   pub possible : disk.honest (directory_of old) → IsFalse (has (disk.contents (directory_of old)).files name) → disk_impossible new ≡ disk_impossible old
   pub grows : disk_impossible old ≤ disk_impossible new
 
--- whether a file can be written there: nothing other than a file is at the place
-pub record ReportsFree {D : Type 0} (disk : DiskOf D) (it : D) (at : Place) (answer : Bool) : Type 0 where
+-- whether a file can be written there: nothing other than a file is at the location
+pub record ReportsFree {D : Type 0} (disk : DiskOf D) (it : D) (at : Location) (answer : Bool) : Type 0 where
   pub free : disk.honest it → IsTrue answer → IsFree disk it at
   pub reason : disk.honest it → IsFree disk it at → IsFalse answer → disk.may_fail it Store
 
@@ -124,7 +124,7 @@ FailsToReadFile disk old new name result = FailsToRead disk old new (IsTrue (has
 
 -- why reading the journal fails: if nothing other than a file is at its path, only because of the directory
 abbrev pub FailsToReadJournal : {D T : Type 0} → DiskOf D → D → D → Result T ReadFault → Type 0
-FailsToReadJournal disk old new result = FailsToRead disk old new (IsFree disk old place.Journal) result
+FailsToReadJournal disk old new result = FailsToRead disk old new (IsFree disk old location.Journal) result
 
 -- if the call can be done, a writing call fails only because of the directory; a call that returns Ok counts no
 -- failure of the directory
@@ -134,8 +134,8 @@ pub record Blames {D : Type 0} (disk : DiskOf D) (old new : D) (Can : Type 0) (r
 
 -- nothing bars a change: neither its new name, nor the path of the temporary file
 abbrev pub IsClear : {D : Type 0} → DiskOf D → D → Change → Type 0
-IsClear disk it (Write name bytes) = (disk.barred it name → ⊥) × IsFree disk it place.Temporary
-IsClear disk it (Replace name bytes) = IsFree disk it place.Temporary
+IsClear disk it (Write name bytes) = (disk.barred it name → ⊥) × IsFree disk it location.Temporary
+IsClear disk it (Replace name bytes) = IsFree disk it location.Temporary
 IsClear disk it (Rename from to) = disk.barred it to → ⊥
 IsClear disk it (Remove name) = Unit {0}
 
@@ -152,9 +152,9 @@ FailsToMake disk old new change result =
     Blames disk (directory_of old) (directory_of new) (IsTrue (is_applicable (disk.contents (directory_of old)).files change) × IsClear disk (directory_of old) change) result
 
 -- why writing a file or the journal fails while the directory is held alone
-abbrev pub FailsToPut : {D : Type 0} → DiskOf D → DiskStore D → DiskStore D → Place → Result (Unit {0}) StoreFault → Type 0
+abbrev pub FailsToPut : {D : Type 0} → DiskOf D → DiskStore D → DiskStore D → Location → Result (Unit {0}) StoreFault → Type 0
 FailsToPut disk old new at result =
-    Blames disk (directory_of old) (directory_of new) (IsFree disk (directory_of old) at × IsFree disk (directory_of old) place.Temporary) result
+    Blames disk (directory_of old) (directory_of new) (IsFree disk (directory_of old) at × IsFree disk (directory_of old) location.Temporary) result
 
 -- the journal is the one that was read, if it was read, or the run has checked that while holding the directory alone
 abbrev pub IsAsRead : {D : Type 0} → DiskOf D → DiskStore D → Type 0
@@ -170,9 +170,9 @@ FailsToHoldAndMake disk old new change result =
     Blames disk (directory_of old) (directory_of new) (IsAsRead disk old × IsTrue (is_applicable (disk.contents (directory_of old)).files change) × IsClear disk (directory_of old) change) result
 
 -- why writing a file or the journal fails if the directory may have to be held first
-abbrev pub FailsToHoldAndPut : {D : Type 0} → DiskOf D → DiskStore D → DiskStore D → Place → Result (Unit {0}) StoreFault → Type 0
+abbrev pub FailsToHoldAndPut : {D : Type 0} → DiskOf D → DiskStore D → DiskStore D → Location → Result (Unit {0}) StoreFault → Type 0
 FailsToHoldAndPut disk old new at result =
-    Blames disk (directory_of old) (directory_of new) (IsAsRead disk old × IsFree disk (directory_of old) at × IsFree disk (directory_of old) place.Temporary) result
+    Blames disk (directory_of old) (directory_of new) (IsAsRead disk old × IsFree disk (directory_of old) at × IsFree disk (directory_of old) location.Temporary) result
 
 -- ---- holding
 
@@ -215,15 +215,15 @@ pub record MakesTemporary {D : Type 0} (disk : DiskOf D) (old new : DiskStore D)
   pub written : disk.honest (directory_of old) → OnOk result (disk.temporary (directory_of new) ≡ Some bytes)
   pub same : disk.honest (directory_of old) → disk.contents (directory_of new) ≡ disk.contents (directory_of old)
   pub barred : disk.honest (directory_of old) → NoMoreBarred disk (directory_of old) (directory_of new)
-  pub blocked : disk.honest (directory_of old) → disk.barred (directory_of old) (path_of place.Temporary) → IsErr result × (directory_of new ≡ directory_of old)
+  pub blocked : disk.honest (directory_of old) → disk.barred (directory_of old) (path_of location.Temporary) → IsErr result × (directory_of new ≡ directory_of old)
   pub remains : disk.honest (directory_of old) → NoMoreCrashStates (disk.crash_states (directory_of old)) (disk.crash_states (directory_of new))
   pub kept : disk.honest (directory_of old) → OnOk result (AreKept (disk.temporary_crash_states (directory_of new)) (Some bytes))
-  pub blames : Blames disk (directory_of old) (directory_of new) (IsFree disk (directory_of old) place.Temporary) result
+  pub blames : Blames disk (directory_of old) (directory_of new) (IsFree disk (directory_of old) location.Temporary) result
   pub possible : disk_impossible new ≡ disk_impossible old
 
 -- `write_at`: a file or the journal is written, over an existing one; something that isn't a file makes the call fail
-pub record WritesAt {D : Type 0} (disk : DiskOf D) (old new : DiskStore D) (at : Place) (bytes : List ℕ) (result : Result (Unit {0}) StoreFault) : Type 0 where
+pub record WritesAt {D : Type 0} (disk : DiskOf D) (old new : DiskStore D) (at : Location) (bytes : List ℕ) (result : Result (Unit {0}) StoreFault) : Type 0 where
   pub writes : Writes (over disk) old new (put_at (disk.contents (directory_of old)) at bytes) result
-  pub barred : disk.honest (directory_of old) → disk.barred (directory_of old) (path_of at) ⊎ disk.barred (directory_of old) (path_of place.Temporary) → IsErr result × (directory_of new ≡ directory_of old)
+  pub barred : disk.honest (directory_of old) → disk.barred (directory_of old) (path_of at) ⊎ disk.barred (directory_of old) (path_of location.Temporary) → IsErr result × (directory_of new ≡ directory_of old)
   pub blames : FailsToPut disk old new at result
   pub possible : disk_impossible new ≡ disk_impossible old

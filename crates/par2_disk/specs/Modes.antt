@@ -1,8 +1,8 @@
 -- The permission bits of a file's mode: 0o600 for its owner, 0o070 for its group, 0o007 for others.
 use Rattle.std.specs.Prelude.{◌≡◌, ℕ, List, [], ◌++◌, ◌∷◌, bit_and}
 use Rattle.std.specs.List.{All}
-use Rattle.par2_disk.specs.declared.directory.Place.{Place}
-use Rattle.par2_disk.specs.declared.directory.Place.TheVariants as place
+use Rattle.par2_disk.specs.declared.directory.Location.{Location}
+use Rattle.par2_disk.specs.declared.directory.Location.TheVariants as location
 use Rattle.par2_disk.specs.declared.modes.Modes.{Modes}
 
 -- a mode has no bit that the other doesn't have
@@ -44,14 +44,14 @@ file_modes modes = modes.files.items
 abbrev pub IsWithinThoseNamed : List (List ℕ × ℕ) → List ℕ → ℕ → Type 0
 IsWithinThoseNamed files name mode = All (λ (file : List ℕ × ℕ). file.0 ≡ name → GivesNoMore mode file.1) files
 
--- the mode of a file that was read at a place is noted
-abbrev pub IsNotedAt : Place → ℕ → Modes → Modes → Type 0
-IsNotedAt (place.File name) mode old new = (file_modes new ≡ file_modes old ++ (name.now, mode) ∷ []) × (journal_mode new ≡ journal_mode old)
-IsNotedAt place.Journal mode old new = (file_modes new ≡ file_modes old) × (journal_mode new ≡ bit_and (journal_mode old) mode)
-IsNotedAt place.Temporary mode old new = (file_modes new ≡ file_modes old) × (journal_mode new ≡ journal_mode old)
+-- the mode of a file that was read at a location is noted
+abbrev pub IsNotedAt : Location → ℕ → Modes → Modes → Type 0
+IsNotedAt (location.File name) mode old new = (file_modes new ≡ file_modes old ++ (name.now, mode) ∷ []) × (journal_mode new ≡ journal_mode old)
+IsNotedAt location.Journal mode old new = (file_modes new ≡ file_modes old) × (journal_mode new ≡ bit_and (journal_mode old) mode)
+IsNotedAt location.Temporary mode old new = (file_modes new ≡ file_modes old) × (journal_mode new ≡ journal_mode old)
 
--- the mode has no bit that the file read at the place lacked
-abbrev pub IsAllowedAt : Modes → Place → ℕ → Type 0
-IsAllowedAt modes (place.File name) mode = IsWithinThoseNamed (file_modes modes) name.now mode
-IsAllowedAt modes place.Journal mode = GivesNoMore mode (journal_mode modes)
-IsAllowedAt modes place.Temporary mode = Unit {0}
+-- the mode has no bit that the file read at the location lacked
+abbrev pub IsAllowedAt : Modes → Location → ℕ → Type 0
+IsAllowedAt modes (location.File name) mode = IsWithinThoseNamed (file_modes modes) name.now mode
+IsAllowedAt modes location.Journal mode = GivesNoMore mode (journal_mode modes)
+IsAllowedAt modes location.Temporary mode = Unit {0}

@@ -6,7 +6,7 @@ ghost use Rattle.par2_disk.specs.Directories.{IsFoundBy};
 ghost use Rattle.par2_disk.specs.Reading.{IsReportedAs};
 ghost use Rattle.par2_disk.specs.Stores.{CountsFailures};
 
-use crate::directory::{Directory, Found, Place};
+use crate::directory::{Directory, Found, Location};
 use crate::listing::names_listed;
 use crate::modes::Modes;
 use crate::reading::{read_opened, sync_opened, written_to};
@@ -63,13 +63,13 @@ fn found_of(answer: io::Result<Metadata>) -> Result<Found, StoreFault>
     }
 }
 
-// Reads the opened file of a place to its end, notes its mode in `modes`, and returns its bytes and its stamp. `size`
-// is a hint.
+// Reads the opened file of a location to its end, notes its mode in `modes`, and returns its bytes and its stamp.
+// `size` is a hint.
 fn read_noted(
     opened: io::Result<File>,
     modes: &mut Modes,
     alloc: Global,
-    place: Place<'_>,
+    location: Location<'_>,
     size: u64,
 ) -> Result<(Vec<u8>, Stamp), ReadFault>
     ensures unopened { IsErr opened → IsErr result }
@@ -77,7 +77,7 @@ fn read_noted(
 {
     let file = opened?;
     let metadata = file.metadata()?;
-    modes.note_at(place, metadata.permissions().mode())?;
+    modes.note_at(location, metadata.permissions().mode())?;
     let bytes = read_opened(Ok(file), alloc, size)?;
     Ok((bytes, Stamp::new(&metadata)))
 }
@@ -152,7 +152,7 @@ impl<'r, R: Files<File = File> + AllocGlobal> CurrentDirectory<'r, R> {
     // Creates the temporary file with a mode, for `write_temporary`. A temporary file that a stop left is removed and
     // not overwritten, because it may also be linked under a name, and may have another mode.
     fn made_anew(&self, mode: u32) -> io::Result<File> {
-        let path = Place::Temporary.path();
+        let path = Location::Temporary.path();
         match create_with(self.rt, path, mode) {
             Err(error) if error.kind() == ErrorKind::AlreadyExists => {
                 fs::remove_file(self.rt, path)?;
@@ -168,7 +168,7 @@ impl<'r, R: Files<File = File> + AllocGlobal> CurrentDirectory<'r, R> {
         match fs::symlink_metadata(self.rt, path) {
             Ok(_) => Err(Error::from(ErrorKind::AlreadyExists)),
             Err(error) if error.kind() == ErrorKind::NotFound => {
-                fs::rename(self.rt, Place::Temporary.path(), path)
+                fs::rename(self.rt, Location::Temporary.path(), path)
             }
             Err(error) => Err(error),
         }
@@ -176,8 +176,8 @@ impl<'r, R: Files<File = File> + AllocGlobal> CurrentDirectory<'r, R> {
 
     // Moves the temporary file to a path that nothing has, by a link, which fails if something has the path.
     fn linked_to_free(&self, path: &str) -> io::Result<()> {
-        match fs::hard_link(self.rt, Place::Temporary.path(), path) {
-            Ok(()) => fs::remove_file(self.rt, Place::Temporary.path()),
+        match fs::hard_link(self.rt, Location::Temporary.path(), path) {
+            Ok(()) => fs::remove_file(self.rt, Location::Temporary.path()),
             Err(error) if has_no_links(&error) => self.rename_to_free(path),
             Err(error) => Err(error),
         }
@@ -242,7 +242,7 @@ impl<'r, R: Files<File = File> + AllocGlobal> Directory for CurrentDirectory<'r,
     }
 
     fn look_at_journal(&mut self) -> Result<Option<Stamp>, StoreFault> {
-        let path = Place::Journal.path();
+        let path = Location::Journal.path();
         self.looked = stamp_by(fs::symlink_metadata(self.rt, path))?;
         Ok(self.looked)
     }
@@ -251,22 +251,22 @@ impl<'r, R: Files<File = File> + AllocGlobal> Directory for CurrentDirectory<'r,
         names_listed(fs::read_dir(&self.rt, "."), alloc)
     }
 
-    fn find(&self, place: Place<'_>) -> Result<Found, StoreFault> {
-        found_of(fs::symlink_metadata(self.rt, place.path()))
+    fn find(&self, location: Location<'_>) -> Result<Found, StoreFault> {
+        found_of(fs::symlink_metadata(self.rt, location.path()))
     }
 
     fn read(
         &mut self,
         alloc: Global,
-        place: Place<'_>,
+        location: Location<'_>,
         size: u64,
     ) -> Result<(Vec<u8>, Stamp), ReadFault> {
-        let opened = fs::open(self.rt, place.path());
-        read_noted(opened, &mut self.modes, alloc, place, size)
+        let opened = fs::open(self.rt, location.path());
+        read_noted(opened, &mut self.modes, alloc, location, size)
     }
 
-    fn write_temporary(&mut self, place: Place<'_>, bytes: &[u8]) -> Result<(), StoreFault> {
-        let mode = self.modes.mode_at(place);
+    fn write_temporary(&mut self, location: Location<'_>, bytes: &[u8]) -> Result<(), StoreFault> {
+        let mode = self.modes.mode_at(location);
         match written_to(self.made_anew(mode), bytes) {
             Ok(file) => {
                 self.written = Some(file);
@@ -282,13 +282,13 @@ impl<'r, R: Files<File = File> + AllocGlobal> Directory for CurrentDirectory<'r,
         self.counted(answer)
     }
 
-    fn put_temporary(&mut self, place: Place<'_>) -> Result<(), StoreFault> {
-        let answer = fs::rename(self.rt, Place::Temporary.path(), place.path());
+    fn put_temporary(&mut self, location: Location<'_>) -> Result<(), StoreFault> {
+        let answer = fs::rename(self.rt, Location::Temporary.path(), location.path());
         self.counted(answer)
     }
 
-    fn name_temporary(&mut self, place: Place<'_>) -> Result<(), StoreFault> {
-        let answer = self.linked_to_free(place.path());
+    fn name_temporary(&mut self, location: Location<'_>) -> Result<(), StoreFault> {
+        let answer = self.linked_to_free(location.path());
         self.counted(answer)
     }
 

@@ -1,5 +1,5 @@
 //! The trait of directories: the few calls that a `DiskStore` makes. To write a file it calls `write_temporary`,
-//! `sync_temporary`, then `put_temporary` over a file or `name_temporary` at a free place, and `sync`.
+//! `sync_temporary`, then `put_temporary` over a file or `name_temporary` at a free location, and `sync`.
 ghost use Rattle.std.specs.Prelude.{◌≡◌, OnOk};
 ghost use Rattle.par2_disk.specs.Directories.{path_of, Finds, KeepsNames, KeepsTemporary, ListsNames, LooksAtJournal, NamesTemporary, PutsTemporary, ReadsAt, RemovesFile, RenamesFile, Stays, WritesTemporary};
 ghost use Rattle.par2_disk.specs.Stores.{CountsFailures};
@@ -12,26 +12,26 @@ use std::alloc::Global;
 
 /// Where a store looks: a file, the journal, or the temporary file that either is first written to.
 #[derive(Clone, Copy, Drop)]
-pub enum Place<'a> {
+pub enum Location<'a> {
     File(&'a Name),
     Journal,
     Temporary,
 }
 
-impl<'a> Place<'a> {
-    /// The path of the place.
+impl<'a> Location<'a> {
+    /// The path of the location.
     pub fn path(self) -> &'a str
         ensures { result.now ≡ path_of self.entry }
     {
         match self {
-            Place::File(name) => name.as_str(),
-            Place::Journal => ".par2undo",
-            Place::Temporary => ".par2undo.tmp",
+            Location::File(name) => name.as_str(),
+            Location::Journal => ".par2undo",
+            Location::Temporary => ".par2undo.tmp",
         }
     }
 }
 
-/// What is at a place.
+/// What is at a location.
 #[derive(Clone, Copy, Drop)]
 pub enum Found {
     Nothing,
@@ -67,22 +67,22 @@ pub trait Directory: Disk {
     fn names(&self, alloc: Global) -> Result<Vec<Name>, ReadFault>
         ensures { ListsNames Self.Disk self.now result };
 
-    /// Finds out whether nothing, a file or something else is at a place. An error says that this can't be found out.
-    fn find(&self, place: Place<'_>) -> Result<Found, StoreFault>
-        ensures { Finds Self.Disk self.now place.entry result };
+    /// Finds out whether nothing, a file or something else is at a location. Err if this can't be found out.
+    fn find(&self, location: Location<'_>) -> Result<Found, StoreFault>
+        ensures { Finds Self.Disk self.now location.entry result };
 
-    /// The bytes of the file at a place, and its stamp. The size is a hint.
+    /// The bytes of the file at a location, and its stamp. The size is a hint.
     fn read(
         &mut self,
         alloc: Global,
-        place: Place<'_>,
+        location: Location<'_>,
         size: u64,
     ) -> Result<(Vec<u8>, Stamp), ReadFault>
-        ensures { ReadsAt Self.Disk self.old self.new place.entry result };
+        ensures { ReadsAt Self.Disk self.old self.new location.entry result };
 
-    /// Writes the temporary file, which is later moved to the place. Nothing but a file may be at its path: a link
+    /// Writes the temporary file, which is later moved to the location. Nothing but a file may be at its path: a link
     /// would lead elsewhere.
-    fn write_temporary(&mut self, place: Place<'_>, bytes: &[u8]) -> Result<(), StoreFault>
+    fn write_temporary(&mut self, location: Location<'_>, bytes: &[u8]) -> Result<(), StoreFault>
         requires alone { Self.alone self.old }
         ensures written { WritesTemporary Self.Disk self.old self.new bytes.now result }
         ensures failures { CountsFailures Self.failures self.old self.new result };
@@ -93,16 +93,16 @@ pub trait Directory: Disk {
         ensures kept { KeepsTemporary Self.Disk self.old self.new result }
         ensures failures { CountsFailures Self.failures self.old self.new result };
 
-    /// Renames the temporary file to a place, over an existing file. Something that isn't a file would be lost there.
-    fn put_temporary(&mut self, place: Place<'_>) -> Result<(), StoreFault>
+    /// Renames the temporary file to a location, over an existing file. It would also replace what isn't a file.
+    fn put_temporary(&mut self, location: Location<'_>) -> Result<(), StoreFault>
         requires alone { Self.alone self.old }
-        ensures put { PutsTemporary Self.Disk self.old self.new place.entry result }
+        ensures put { PutsTemporary Self.Disk self.old self.new location.entry result }
         ensures failures { CountsFailures Self.failures self.old self.new result };
 
-    /// Moves the temporary file to a free place. It does nothing and fails if something is there.
-    fn name_temporary(&mut self, place: Place<'_>) -> Result<(), StoreFault>
+    /// Moves the temporary file to a free location. It does nothing and fails if something is there.
+    fn name_temporary(&mut self, location: Location<'_>) -> Result<(), StoreFault>
         requires alone { Self.alone self.old }
-        ensures named { NamesTemporary Self.Disk self.old self.new place.entry result }
+        ensures named { NamesTemporary Self.Disk self.old self.new location.entry result }
         ensures failures { CountsFailures Self.failures self.old self.new result };
 
     /// Renames a file to a name that nothing has; the caller has checked that.

@@ -7,7 +7,7 @@ ghost use Rattle.par2_disk.specs.Disk.{directory_of, disk_failures, disk_impossi
 ghost use Rattle.par2_disk.specs.Stores.{CountsFailures, CountsReadFailures, Makes, OnlyReads, ReadsFile, ReadsJournal, ReadsNames};
 
 use crate::current::CurrentDirectory;
-use crate::directory::{Directory, Found, Place};
+use crate::directory::{Directory, Found, Location};
 use crate::stamp::Stamp;
 use crate::{Count, FolderStore, ReadFault, Store, StoreFault};
 use par2_files::Name;
@@ -98,9 +98,9 @@ impl<D: Directory> DiskStore<D> {
         ensures journal { HasSeenAsMuch self.old self.new }
         ensures possible { disk_impossible self.new ≡ disk_impossible self.old }
     {
-        match self.directory.find(Place::Journal) {
+        match self.directory.find(Location::Journal) {
             Ok(Found::Nothing) => Ok(None),
-            Ok(Found::File(size)) => Ok(Some(self.directory.read(alloc, Place::Journal, size)?)),
+            Ok(Found::File(size)) => Ok(Some(self.directory.read(alloc, Location::Journal, size)?)),
             Ok(Found::Other) | Err(StoreFault) => Err(ReadFault::Store),
         }
     }
@@ -120,7 +120,7 @@ impl<D: Directory> DiskStore<D> {
         ensures file { FindsFile D.Disk self.old self.new name.now result }
         ensures looks { OnlyLooks self.old self.new }
     {
-        match self.directory.find(Place::File(name))? {
+        match self.directory.find(Location::File(name))? {
             Found::File(size) => Ok(size),
             Found::Nothing | Found::Other => Err(self.refuse()),
         }
@@ -131,7 +131,7 @@ impl<D: Directory> DiskStore<D> {
         ensures nothing { FindsNothing D.Disk self.old self.new name.now result }
         ensures looks { OnlyLooks self.old self.new }
     {
-        match self.directory.find(Place::File(name))? {
+        match self.directory.find(Location::File(name))? {
             Found::Nothing => Ok(()),
             Found::File(_) => Err(self.refuse()),
             // No file has the name, but it is not free either.
@@ -139,40 +139,40 @@ impl<D: Directory> DiskStore<D> {
         }
     }
 
-    // Whether a file can be put at a place: nothing is there, or a file, which would be replaced. False if that can't
-    // be found out.
-    fn is_free(&self, place: Place<'_>) -> bool
-        ensures { ReportsFree D.Disk (directory_of self.now) place.entry result }
+    // Whether a file can be put at a location: nothing is there, or a file, which would be replaced. False if that
+    // can't be found out.
+    fn is_free(&self, location: Location<'_>) -> bool
+        ensures { ReportsFree D.Disk (directory_of self.now) location.entry result }
     {
-        let found = self.directory.find(place);
+        let found = self.directory.find(location);
         matches!(found, Ok(Found::Nothing | Found::File(_)))
     }
 
-    // Writes the temporary file, which is later moved to the place and gets the mode for it, and syncs it.
-    fn make_temporary(&mut self, place: Place<'_>, bytes: &[u8]) -> Result<(), StoreFault>
+    // Writes the temporary file, which is later moved to the location and gets the mode for it, and syncs it.
+    fn make_temporary(&mut self, location: Location<'_>, bytes: &[u8]) -> Result<(), StoreFault>
         requires alone { D.alone (directory_of self.old) }
         ensures made { MakesTemporary D.Disk self.old self.new bytes.now result }
         ensures counts { CountsNoFailure self.old self.new }
     {
-        if !self.is_free(Place::Temporary) {
+        if !self.is_free(Location::Temporary) {
             return Err(StoreFault);
         }
-        self.directory.write_temporary(place, bytes)?;
+        self.directory.write_temporary(location, bytes)?;
         self.directory.sync_temporary()
     }
 
-    // Writes a file or the journal at a place, over the one that is there, by way of the temporary file. The bytes are
-    // synced before the rename, and the directory is synced before this returns Ok.
-    fn write_at(&mut self, place: Place<'_>, bytes: &[u8]) -> Result<(), StoreFault>
+    // Writes a file or the journal at a location, over the one that is there, by way of the temporary file. The bytes
+    // are synced before the rename, and the directory is synced before this returns Ok.
+    fn write_at(&mut self, location: Location<'_>, bytes: &[u8]) -> Result<(), StoreFault>
         requires alone { D.alone (directory_of self.old) }
-        ensures written { WritesAt D.Disk self.old self.new place.entry bytes.now result }
+        ensures written { WritesAt D.Disk self.old self.new location.entry bytes.now result }
         ensures counts { CountsNoFailure self.old self.new }
     {
-        if !self.is_free(place) {
+        if !self.is_free(location) {
             return Err(StoreFault);
         }
-        self.make_temporary(place, bytes)?;
-        self.directory.put_temporary(place)?;
+        self.make_temporary(location, bytes)?;
+        self.directory.put_temporary(location)?;
         self.directory.sync()
     }
 
@@ -186,8 +186,8 @@ impl<D: Directory> DiskStore<D> {
         ensures counts { CountsNoFailure self.old self.new }
     {
         self.find_nothing(name)?;
-        self.make_temporary(Place::File(name), bytes)?;
-        self.directory.name_temporary(Place::File(name))?;
+        self.make_temporary(Location::File(name), bytes)?;
+        self.directory.name_temporary(Location::File(name))?;
         self.directory.sync()
     }
 
@@ -202,7 +202,7 @@ impl<D: Directory> DiskStore<D> {
         ensures counts { CountsNoFailure self.old self.new }
     {
         let _size = self.find_file(name)?;
-        self.write_at(Place::File(name), bytes)
+        self.write_at(Location::File(name), bytes)
     }
 
     // Renames a file to a name that nothing has, while the directory is held alone, and syncs the directory.
@@ -258,7 +258,7 @@ impl<D: Directory> DiskStore<D> {
     {
         self.directory.share()?;
         let size = self.find_file(name)?;
-        let (bytes, _stamp) = self.directory.read(alloc, Place::File(name), size)?;
+        let (bytes, _stamp) = self.directory.read(alloc, Location::File(name), size)?;
         Ok(bytes)
     }
 
@@ -438,10 +438,10 @@ impl<D: Directory> FolderStore for DiskStore<D> {
         ensures put { PutsJournal (over D.Disk) self.old self.new bytes.now result }
         ensures failures { CountsFailures disk_failures self.old self.new result }
         ensures counted { disk_writing_calls self.new ≡ disk_writing_calls self.old + 1 }
-        ensures reason { FailsToHoldAndPut D.Disk self.old self.new Place.Journal result }
+        ensures reason { FailsToHoldAndPut D.Disk self.old self.new Location.Journal result }
     {
         let answer = match self.hold() {
-            Ok(()) => self.write_at(Place::Journal, bytes),
+            Ok(()) => self.write_at(Location::Journal, bytes),
             Err(fault) => Err(fault),
         };
         self.counted_write(answer)

@@ -3,7 +3,7 @@
 ghost use Rattle.std.specs.Prelude.{◌≡◌, [], IsOk, bit_and};
 ghost use Rattle.par2_disk.specs.Modes.{allowed_of, file_modes, journal_mode, AreLeft, CanGroupRead, CanOthersRead, IsAllowedAt, IsClosedAs, IsNotedAt, GivesNoMore, IsWithinThoseNamed};
 
-use crate::directory::Place;
+use crate::directory::Location;
 use par2_files::Name;
 use std::alloc::{AllocError, Global};
 
@@ -97,17 +97,17 @@ impl Modes {
         self.allowed = beside(self.allowed, mode);
     }
 
-    /// Notes the mode of the file that was read at a place, for `mode_at`. Err if memory runs out.
-    pub fn note_at(&mut self, place: Place<'_>, mode: u32) -> Result<(), AllocError>
+    /// Notes the mode of the file that was read at a location, for `mode_at`. Err if memory runs out.
+    pub fn note_at(&mut self, location: Location<'_>, mode: u32) -> Result<(), AllocError>
         ensures within { GivesNoMore (allowed_of self.new) (allowed_of self.old) }
         ensures closed { IsOk result → IsClosedAs (allowed_of self.new) mode }
         ensures left { IsOk result → AreLeft (allowed_of self.old) (allowed_of self.new) mode }
-        ensures place { IsOk result → IsNotedAt place.entry mode self.old self.new }
+        ensures location { IsOk result → IsNotedAt location.entry mode self.old self.new }
     {
-        match place {
-            Place::File(name) => self.files.push((name.copied(), mode))?,
-            Place::Journal => self.journal &= mode,
-            Place::Temporary => {}
+        match location {
+            Location::File(name) => self.files.push((name.copied(), mode))?,
+            Location::Journal => self.journal &= mode,
+            Location::Temporary => {}
         }
         self.note(mode);
         Ok(())
@@ -125,17 +125,17 @@ impl Modes {
         permissions
     }
 
-    /// The mode for a file that is written at a place: 0o666, limited to what may be given beside the files that were
-    /// read, and to the mode of the file that was read at the place, if any.
-    pub fn mode_at(&self, place: Place<'_>) -> u32
+    /// The mode for a file that is written at a location: 0o666, limited to what may be given beside the files that
+    /// were read, and to the mode of the file that was read at the location, if any.
+    pub fn mode_at(&self, location: Location<'_>) -> u32
         ensures all { GivesNoMore result 0o666 }
         ensures allowed { GivesNoMore result (allowed_of self.now) }
-        ensures place { IsAllowedAt self.now place.entry result }
+        ensures location { IsAllowedAt self.now location.entry result }
     {
-        match place {
-            Place::File(name) => self.allowed & self.of_file(name),
-            Place::Journal => self.allowed & self.journal & ALL,
-            Place::Temporary => self.allowed & ALL,
+        match location {
+            Location::File(name) => self.allowed & self.of_file(name),
+            Location::Journal => self.allowed & self.journal & ALL,
+            Location::Temporary => self.allowed & ALL,
         }
     }
 }

@@ -1,8 +1,8 @@
--- States of runs of folders, from one split to the next along changes.
-use Rattle.par2_files.proofs.Common.{◌≡◌, ℕ, suc, ◌+◌, ◌<◌, ◌≤◌, Bool, cond, IsTrue, List, [], ◌∷◌, ◌++◌, Bor, length, map, take, drop, get_or, refl, sym, ap, subst, ◌∙◌, append_assoc, append-nil, add-one, drop-cons, arith, drop_all, map-append, take_more, and_parts, md5, HasAbsorbed, buffers_of, Midstate, Folder, fingerprint, effect, is_applicable, are_applicable, folders_after, AreFolderFiles, change_of, new_run, run_buffers, bytes_before, touches, later_buffers, AreBehind, AreTo, HaveAbsorbed, files_in, folder_in, Split, Beginning, End, common_steps}
+-- States of groups of equal folders, from one split to the next along changes.
+use Rattle.par2_files.proofs.Common.{◌≡◌, ℕ, suc, ◌+◌, ◌<◌, ◌≤◌, Bool, cond, IsTrue, List, [], ◌∷◌, ◌++◌, Bor, length, map, take, drop, get_or, refl, sym, ap, subst, ◌∙◌, append_assoc, append-nil, add-one, drop-cons, arith, drop_all, map-append, take_more, and_parts, md5, HasAbsorbed, buffers_of, Midstate, Folder, fingerprint, effect, is_applicable, are_applicable, folders_after, AreFolderFiles, change_of, new_group, group_buffers, bytes_before, touches, later_buffers, AreBehind, AreTo, HaveAbsorbed, files_in, folder_in, Split, Beginning, End, common_steps}
 use Rattle.par2_files.specs.declared.change.Change.{Change}
 use Rattle.par2_spec.specs.Changes as defined
-use Rattle.par2_files.specs.declared.walk.Runs.{Runs}
+use Rattle.par2_files.specs.declared.walk.Absorbing.{Absorbing}
 use Rattle.par2_files.specs.declared.snapshot.Snapshot.{Snapshot}
 use Rattle.par2_files.proofs.Splits.{no_bytes, bytes_on, whole_bytes}
 
@@ -50,7 +50,7 @@ unfolding are_applicable
 rest_applicable folder change rest h = (and_parts _ _ h).1
 
 later_first : (split : Split) (folder : Folder) (change : defined.Change) (rest : List defined.Change)
-    → later_buffers split folder (change ∷ rest) ≡ new_run split (effect folder change) change ++ later_buffers split (effect folder change) rest
+    → later_buffers split folder (change ∷ rest) ≡ new_group split (effect folder change) change ++ later_buffers split (effect folder change) rest
 unfolding later_buffers
 later_first split folder change rest = refl
 
@@ -60,24 +60,24 @@ later_none split folder = refl
 
 -- the states that are left after a change
 next_parents : (from : Split) (folder : Folder) (change : defined.Change) (rest : List defined.Change) (states : List Midstate) (place : ℕ)
-    → HaveAbsorbed (drop place states) (run_buffers from folder (change ∷ rest))
-    → HaveAbsorbed (drop (cond (touches from change) (place + 1) place) states) (run_buffers from (effect folder change) rest)
+    → HaveAbsorbed (drop place states) (group_buffers from folder (change ∷ rest))
+    → HaveAbsorbed (drop (cond (touches from change) (place + 1) place) states) (group_buffers from (effect folder change) rest)
 next_parents from folder change rest states place held = grind (arith, later_first, rest, effect, later_buffers, add-one, absorbed_behind, bytes_on)
 
 -- ---- a walk from one split to another
 
 -- the progress of the walk, with these changes still to come
-pub record IsWithin (from to : Split) (states : List Midstate) (folder : Folder) (changes : List Change) (snapshot : Snapshot) (runs : Runs) (place : ℕ) (rest : List Change) : Type 0 where
+pub record IsWithin (from to : Split) (states : List Midstate) (folder : Folder) (changes : List Change) (snapshot : Snapshot) (absorbing : Absorbing) (place : ℕ) (rest : List Change) : Type 0 where
   pub kept : AreFolderFiles (files_in snapshot)
-  pub few : length runs.pendings.items ≤ 16
+  pub few : length absorbing.pendings.items ≤ 16
   pub applicable : IsTrue (are_applicable (folder_in snapshot) (map change_of rest))
-  pub parents : HaveAbsorbed (drop place states) (run_buffers from (folder_in snapshot) (map change_of rest))
+  pub parents : HaveAbsorbed (drop place states) (group_buffers from (folder_in snapshot) (map change_of rest))
   pub done : List (List ℕ)
-  pub reached : AreTo runs done
-  pub whole : done ++ later_buffers to (folder_in snapshot) (map change_of rest) ≡ run_buffers to folder (map change_of changes)
+  pub reached : AreTo absorbing done
+  pub whole : done ++ later_buffers to (folder_in snapshot) (map change_of rest) ≡ group_buffers to folder (map change_of changes)
 
 module _ {from to : Split} {states : List Midstate} {folder : Folder} {changes : List Change} where
-  module _ {snapshot : Snapshot} {runs : Runs} {place i : ℕ} (within : IsWithin from to states folder changes snapshot runs place (drop i changes)) (lt : i < length changes) {change : Change} (is : change ≡ get_or changes i change) where
+  module _ {snapshot : Snapshot} {absorbing : Absorbing} {place i : ℕ} (within : IsWithin from to states folder changes snapshot absorbing place (drop i changes)) (lt : i < length changes) {change : Change} (is : change ≡ get_or changes i change) where
     split : drop i changes ≡ change ∷ drop (suc i) changes
     split = drop-cons changes i change lt ∙ ap (λ c. c ∷ drop (suc i) changes) (sym is)
 
@@ -88,18 +88,18 @@ module _ {from to : Split} {states : List Midstate} {folder : Folder} {changes :
     next_applicable = first_applicable _ _ _ (subst (λ l. IsTrue (are_applicable (folder_in snapshot) (map change_of l))) split within.applicable)
 
     module _ {there : ℕ} (place_is : there ≡ cond (touches from (change_of change)) (place + 1) place) where
-      pub parents_then : HaveAbsorbed (drop there states) (run_buffers from (effect (folder_in snapshot) (change_of change)) (map change_of (drop (suc i) changes)))
+      pub parents_then : HaveAbsorbed (drop there states) (group_buffers from (effect (folder_in snapshot) (change_of change)) (map change_of (drop (suc i) changes)))
       parents_then = grind (arith, effect, next_parents, split)
 
-      pub goes_on : (next : Snapshot) → folder_in next ≡ effect (folder_in snapshot) (change_of change) → AreFolderFiles (files_in next) → (more : Runs) → length more.pendings.items ≤ 16
+      pub goes_on : (next : Snapshot) → folder_in next ≡ effect (folder_in snapshot) (change_of change) → AreFolderFiles (files_in next) → (more : Absorbing) → length more.pendings.items ≤ 16
           → (begins : Bool) → touches to (change_of change) ≡ begins → AreTo more (within.done ++ cond begins (bytes_before to (folder_in next) ∷ []) [])
           → IsWithin from to states folder changes next more there (drop (i + 1) changes)
       goes_on next after kept more few begins is_begun reached = grind (arith, common_steps, rest, add-one, are_applicable, rest_applicable, split, parents_then, append_assoc, later_buffers, later_first)
 
   -- at the end
-  pub arrived : {snapshot : Snapshot} {runs : Runs} {place i : ℕ} → IsWithin from to states folder changes snapshot runs place (drop i changes) → length changes ≤ i
-      → AreTo runs (run_buffers to folder (map change_of changes))
-  arrived {snapshot = snapshot} {runs = runs} {i = i} within over = grind (arith, later_buffers, drop_all, later_none, append-nil)
+  pub arrived : {snapshot : Snapshot} {absorbing : Absorbing} {place i : ℕ} → IsWithin from to states folder changes snapshot absorbing place (drop i changes) → length changes ≤ i
+      → AreTo absorbing (group_buffers to folder (map change_of changes))
+  arrived {snapshot = snapshot} {absorbing = absorbing} {i = i} within over = grind (arith, later_buffers, drop_all, later_none, append-nil)
 
 -- ---- the start of a walk
 
@@ -113,11 +113,11 @@ none_later split folder (change ∷ changes) behind =
 
 -- one state, at a split with no changed name before it
 pub sets_out : (split : Split) (folder : Folder) (changes : List Change) (state : Midstate) → AreBehind split changes → HasAbsorbed state (bytes_before split folder)
-    → HaveAbsorbed (state ∷ []) (run_buffers split folder (map change_of changes))
+    → HaveAbsorbed (state ∷ []) (group_buffers split folder (map change_of changes))
 sets_out split folder changes state behind held = grind (arith, none_later)
 
 -- before all names the state has absorbed nothing
-pub sets_out_first : (folder : Folder) (changes : List Change) (state : Midstate) → HasAbsorbed state [] → HaveAbsorbed (state ∷ []) (run_buffers Beginning folder (map change_of changes))
+pub sets_out_first : (folder : Folder) (changes : List Change) (state : Midstate) → HasAbsorbed state [] → HaveAbsorbed (state ∷ []) (group_buffers Beginning folder (map change_of changes))
 sets_out_first folder changes state held = sets_out Beginning folder changes state (λ i none lt. refl) (subst (HasAbsorbed state) (sym (no_bytes folder)) held)
 
 -- ---- all folders
@@ -131,5 +131,5 @@ unfolding later_buffers folders_after
 later_fingerprints folder [] = refl
 later_fingerprints folder (change ∷ changes) = λ k. fingerprint_is (effect folder change) k ∷ later_fingerprints (effect folder change) changes k
 
-pub all_fingerprints : (folder : Folder) (changes : List defined.Change) → map md5 (run_buffers End folder changes) ≡ map fingerprint (folder ∷ folders_after folder changes)
+pub all_fingerprints : (folder : Folder) (changes : List defined.Change) → map md5 (group_buffers End folder changes) ≡ map fingerprint (folder ∷ folders_after folder changes)
 all_fingerprints folder changes = λ k. fingerprint_is folder k ∷ later_fingerprints folder changes k

@@ -5,7 +5,7 @@ use Rattle.par2_md5_lanes.specs.Messages.{HasAbsorbed}
 use Rattle.par2_spec.specs.Folders.{Folder}
 use Rattle.par2_files.specs.Below.{fingerprint_input, folder_below}
 use Rattle.par2_files.specs.Splits.{touches}
-use Rattle.par2_files.specs.Views.{change_of}
+use Rattle.par2_files.specs.ChangeViews.{change_of}
 use Rattle.par2_files.specs.declared.snapshot.Split.{Split}
 use Rattle.par2_files.specs.declared.change.Change.{Change}
 use Rattle.par2_files.specs.declared.checkpoints.Checkpoint.{Checkpoint}

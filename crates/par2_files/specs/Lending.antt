@@ -2,7 +2,7 @@
 use Rattle.std.specs.Prelude.{List, ◌++◌, length, map, take, drop}
 use Rattle.std.specs.Borrow.{Lends, MutBor, Fml, Array}
 use Rattle.par2_spec.specs.Changes as defined
-use Rattle.par2_files.specs.Views.{change_of}
+use Rattle.par2_files.specs.ChangeViews.{change_of}
 use Rattle.par2_files.specs.declared.change.Change.{Change}
 use Rattle.par2_files.specs.contracts.change.Change.{the_row as the_change}
 use Rattle.par2_files.specs.contracts.change.Changes.{the_row}

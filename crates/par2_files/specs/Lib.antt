@@ -1,9 +1,9 @@
 pub mod Sorting
-pub mod Views
+pub mod ChangeViews
 pub mod Below
 pub mod Lending
 pub mod Snapshots
 pub mod Splits
-pub mod Runs
+pub mod AbsorbedStates
 pub mod Checkpoints
 pub mod Fingerprinting

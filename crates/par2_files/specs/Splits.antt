@@ -1,10 +1,10 @@
--- Splits among names, and the runs of folders that are equal up to a split.
+-- Splits among names, and the groups of consecutive folders that are equal up to a split.
 use Rattle.std.specs.Prelude.{◌≡◌, ℕ, Bool, true, false, cond, List, [], ◌∷◌, ◌++◌, map}
 use Rattle.std.specs.FinMap as map_of
 use Rattle.par2_spec.specs.Folders.{Folder}
 use Rattle.par2_spec.specs.Changes.{Change, effect}
 use Rattle.par2_files.specs.Below.{first_name, fingerprint_input, is_below}
-use Rattle.par2_files.specs.Views.{change_of}
+use Rattle.par2_files.specs.ChangeViews.{change_of}
 use Rattle.par2_files.specs.declared.snapshot.Split.{Split}
 use Rattle.par2_files.specs.declared.snapshot.Split.TheVariants.{Beginning, At, End}
 use Rattle.par2_files.specs.declared.change.Change.{Change as Kept}
@@ -33,21 +33,21 @@ touches split change = is_before split (first_name change)
 abbrev pub bytes_before : Split → Folder → List ℕ
 bytes_before split folder = fingerprint_input (map_of.entries (map_of.retain_keys folder (is_before split)))
 
--- the message of the run that begins with the folder after a change, if one begins there
-abbrev pub new_run : Split → Folder → Change → List (List ℕ)
-new_run split after change = cond (touches split change) (bytes_before split after ∷ []) []
+-- the message of the group that begins with the folder after a change, if one begins there
+abbrev pub new_group : Split → Folder → Change → List (List ℕ)
+new_group split after change = cond (touches split change) (bytes_before split after ∷ []) []
 
--- the messages of the runs that begin after the changes
+-- the messages of the groups that begin after the changes
 unfoldable pub later_buffers : Split → Folder → List Change → List (List ℕ)
 unfolding effect
 later_buffers split folder [] = []
-later_buffers split folder (change ∷ changes) = new_run split (effect folder change) change ++ later_buffers split (effect folder change) changes
+later_buffers split folder (change ∷ changes) = new_group split (effect folder change) change ++ later_buffers split (effect folder change) changes
 
--- the messages of all runs at a split, in the order of their folders: the run of the folder itself, then one for each
--- change that touches a name before the split
-abbrev pub run_buffers : Split → Folder → List Change → List (List ℕ)
-run_buffers split folder changes = bytes_before split folder ∷ later_buffers split folder changes
+-- the messages of all groups at a split, in the order of their folders: the group of the folder itself, then one for
+-- each change that touches a name before the split
+abbrev pub group_buffers : Split → Folder → List Change → List (List ℕ)
+group_buffers split folder changes = bytes_before split folder ∷ later_buffers split folder changes
 
--- `run_buffers` for changes as `par2_files` has them
+-- `group_buffers` for changes as `par2_files` has them
 abbrev pub buffers_by : Split → Folder → List Kept → List (List ℕ)
-buffers_by split folder changes = run_buffers split folder (map change_of changes)
+buffers_by split folder changes = group_buffers split folder (map change_of changes)

@@ -1,7 +1,7 @@
 //! A file's bytes, a change of a folder, and a list of changes. A plan builds a list with `Changes::push`.
 //! `Changes::apply_and_invert` applies it to a folder, and the list becomes the way back.
 ghost use Rattle.std.specs.Prelude.{◌≡◌, map, IfOk};
-ghost use Rattle.par2_files.specs.Views.{change_of};
+ghost use Rattle.par2_files.specs.ChangeViews.{change_of};
 
 use crate::{Folder, Name};
 use par2_spec::Result;
@@ -69,7 +69,7 @@ pub enum Change {
 
 impl Change {
     ghost use Rattle.std.specs.Prelude.{◌≡◌, IfOk};
-    ghost use Rattle.par2_files.specs.Views.{change_of};
+    ghost use Rattle.par2_files.specs.ChangeViews.{change_of};
     ghost use Rattle.par2_files.specs.Below.{first_name};
 
     // A copy of the change and of the bytes that it owns.
@@ -115,7 +115,7 @@ impl Model for Changes {
     ghost use Rattle.std.specs.Coded.{coded_list};
     ghost use Rattle.par2_spec.specs.Changes as defined;
     ghost use Rattle.par2_spec.specs.Codes.{change_code};
-    ghost use Rattle.par2_files.specs.Views.{change_of};
+    ghost use Rattle.par2_files.specs.ChangeViews.{change_of};
 
     ghost Value = { List defined.Change };
 
@@ -128,7 +128,7 @@ impl Changes {
     ghost use Rattle.std.specs.Prelude.{◌≡◌, ◌↔◌, ◌++◌, ◌∷◌, [], length, map, IsTrue, OnOk, OnErr};
     ghost use Rattle.std.specs.Borrow.{sem};
     ghost use Rattle.par2_spec.specs.Changes.{takes_all, state_after_all, way_back};
-    ghost use Rattle.par2_files.specs.Views.{change_of};
+    ghost use Rattle.par2_files.specs.ChangeViews.{change_of};
     ghost use Rattle.par2_files.specs.Lending.{LendsChanges};
 
     /// The empty list.

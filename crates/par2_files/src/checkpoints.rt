@@ -5,10 +5,10 @@ ghost use Rattle.std.specs.Prelude.{◌<◌, ◌∷◌, [], length, map, OnOk, I
 ghost use Rattle.par2_md5_lanes.specs.Messages.{HasAbsorbed};
 ghost use Rattle.par2_spec.specs.Folders as defined;
 ghost use Rattle.par2_spec.specs.Folders.{fingerprint};
-ghost use Rattle.par2_files.specs.Splits.{IsFurther, run_buffers, bytes_before};
+ghost use Rattle.par2_files.specs.Splits.{IsFurther, group_buffers, bytes_before};
 ghost use Rattle.par2_files.specs.Checkpoints.{AreBehind, AreCheckpointsOf, HasCheckpoint};
-ghost use Rattle.par2_files.specs.Runs.{HaveAbsorbed};
-ghost use Rattle.par2_files.specs.Views.{change_of};
+ghost use Rattle.par2_files.specs.AbsorbedStates.{HaveAbsorbed};
+ghost use Rattle.par2_files.specs.ChangeViews.{change_of};
 ghost use Rattle.par2_files.specs.declared.snapshot.Split.TheVariants.{At, End};
 ghost use Rattle.md5.specs.Md5.{md5};
 ghost use Rattle.par2_md5_lanes.specs.Buffers.{buffers_of};
@@ -16,8 +16,8 @@ ghost use Rattle.par2_files.specs.Snapshots.{files_in, folder_in};
 ghost use Rattle.par2_files.specs.Sorting.{AreFolderFiles};
 ghost use Rattle.par2_files.specs.Fingerprinting.{IsAt};
 
-use crate::snapshot::{Snapshot, Split, is_further, run_between, touches};
-use crate::walk::{Runs, digests_of, run_of_bytes, states_with};
+use crate::snapshot::{Snapshot, Split, is_further, pending_between, touches};
+use crate::walk::{Absorbing, digests_of, pending_of_bytes, states_with};
 use crate::{Change, Folder, Name};
 use par2_md5_lanes::{Midstate, Part, absorb_each};
 use par2_spec::Result;
@@ -67,12 +67,12 @@ impl Checkpoints {
     }
 
     /// The start of fingerprints along the changes: the last checkpoint with no changed name before it or the
-    /// beginning, and the state there. It serves the folders before and after each change, so `run_buffers` has one
+    /// beginning, and the state there. It serves the folders before and after each change, so `group_buffers` has one
     /// message.
     pub(crate) fn start(&self, changes: &[Change]) -> (Split<'_>, Midstate)
         ensures { (folder : defined.Folder) → AreCheckpointsOf folder self.now
             → HaveAbsorbed (result.1 ∷ [])
-            (run_buffers result.0 folder (map change_of changes.now)) }
+            (group_buffers result.0 folder (map change_of changes.now)) }
     {
         let mut start = (Split::Beginning, Midstate::new());
         for checkpoint in &self.list {
@@ -163,10 +163,10 @@ fn advance_to<'a>(
     requires here { IsAt from (folder_in snapshot.now) bytes.now progress }
     ensures there { IfOk result (IsAt to.entry (folder_in snapshot.now) bytes.now) }
 {
-    let files = run_between(alloc, progress.folder, snapshot, from, to)?;
+    let files = pending_between(alloc, progress.folder, snapshot, from, to)?;
     let reached = progress.taken.saturating_add(bytes_lent(&files.parts));
     let end = bytes.len().min(reached);
-    let extra = run_of_bytes(alloc, progress.bytes, &bytes[progress.taken..end])?;
+    let extra = pending_of_bytes(alloc, progress.bytes, &bytes[progress.taken..end])?;
     let states = absorb_each(&[files, extra]);
     Ok(Progress {
         folder: states[0],
@@ -260,9 +260,9 @@ pub fn checkpoint_at(
 {
     let snapshot = folder.snapshot()?;
     let (split, state) = from.before(name);
-    let mut runs = Runs::new(alloc);
-    runs.push_between(alloc, state, &snapshot, split, Split::At(name))?;
-    let states = states_with(alloc, runs, beside)?;
+    let mut absorbing = Absorbing::new(alloc);
+    absorbing.push_between(alloc, state, &snapshot, split, Split::At(name))?;
+    let states = states_with(alloc, absorbing, beside)?;
     let beside = digests_of(alloc, &states[1..])?;
     let mut checkpoints = Checkpoints::none(alloc);
     checkpoints.mark(name, states[0])?;

@@ -44,7 +44,7 @@ impl Folder {
     ghost use Rattle.par2_md5_lanes.specs.Buffers.{buffers_of};
     ghost use Rattle.par2_spec.specs.Folders.{bytes_of, has, names, fingerprint, IsFolder};
     ghost use Rattle.par2_spec.specs.Changes.{Rename, change_refusal, state_after, inverse, takes_all, state_after_all, way_back};
-    ghost use Rattle.par2_files.specs.Views.{change_of};
+    ghost use Rattle.par2_files.specs.ChangeViews.{change_of};
     ghost use Rattle.par2_files.specs.Sorting.{AreFolderFiles};
     ghost use Rattle.par2_files.specs.Snapshots.{files_in, folder_in};
 

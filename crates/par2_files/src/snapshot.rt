@@ -1,13 +1,13 @@
 //! Borrowed files of a folder, to which changes are applied without changing the folder, and splits among names.
-//! `walk` applies the planned changes one by one, and `run_between` returns the files that each fingerprint hashes from
-//! one split to the next.
+//! `walk` applies the planned changes one by one, and `pending_between` returns the files that each fingerprint hashes
+//! from one split to the next.
 ghost use Rattle.std.specs.FinMap as map_of;
 ghost use Rattle.std.specs.Prelude.{◌≡◌, map, Some, None, IfOk, IfErr, OnOk, IsTrue, ◌++◌, ◌∷◌, []};
 ghost use Rattle.par2_spec.specs.Folders.{has, bytes_of};
 ghost use Rattle.par2_spec.specs.Changes.{is_applicable, effect};
-ghost use Rattle.par2_files.specs.Runs.{AbsorbsTo};
+ghost use Rattle.par2_files.specs.AbsorbedStates.{AbsorbsTo};
 ghost use Rattle.par2_files.specs.Sorting.{IsFileAt, IsGapFor, AreFolderFiles, folder_of, file_at};
-ghost use Rattle.par2_files.specs.Views.{change_of};
+ghost use Rattle.par2_files.specs.ChangeViews.{change_of};
 ghost use Rattle.par2_files.specs.Below.{IsFront, fingerprint_input};
 ghost use Rattle.par2_files.specs.Snapshots.{file_of, files_in, folder_in};
 ghost use Rattle.par2_md5_lanes.specs.Messages.{HasAbsorbed, message_of};
@@ -186,7 +186,7 @@ fn parts_of<'a>(alloc: Global, files: &[BorrowedFile<'a>]) -> Result<Vec<Part<'a
 
 /// The state at the split `from`, with the files from there to the split `to` still to absorb. `AbsorbsTo`: once it has
 /// absorbed its parts, it has absorbed exactly these bytes.
-pub fn run_between<'a>(
+pub fn pending_between<'a>(
     alloc: Global,
     state: Midstate,
     snapshot: &Snapshot<'a>,
@@ -197,7 +197,7 @@ pub fn run_between<'a>(
     requires further { IsFurther from to }
     ensures { let folder = folder_in snapshot.now in
         HasAbsorbed state (bytes_before from.entry folder)
-        → IfOk result (λ run. AbsorbsTo run (bytes_before to.entry folder)) }
+        → IfOk result (λ pending. AbsorbsTo pending (bytes_before to.entry folder)) }
 {
     let files = &snapshot.files;
     let start = count_before(files, from);

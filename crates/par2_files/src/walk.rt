@@ -1,16 +1,17 @@
 //! Fingerprints of a folder before and after each of several changes, computed side by side.
 //!
 //! Up to a split, two consecutive folders are equal unless the change between them touches a name there. So the
-//! folders fall into runs, and one MD5 state that has absorbed the files before the split serves a whole run.
-//! `fingerprints` goes from split to split by `runs_before`, and takes the digests of the runs at the end.
+//! folders fall into groups of neighbors that are equal there, and one MD5 state that has absorbed the files before the
+//! split serves a whole group. `fingerprints` goes from split to split by `absorbing_before`, and takes the digests of
+//! all states at the end.
 ghost use Rattle.std.specs.Prelude.{◌≡◌, ◌≤◌, ◌++◌, ◌∷◌, [], ℕ, List, length, IfOk, OnOk, map, IsTrue};
-ghost use Rattle.par2_files.specs.Runs.{AreTo, HaveAbsorbed, AllReach, AbsorbsTo};
+ghost use Rattle.par2_files.specs.AbsorbedStates.{AreTo, HaveAbsorbed, AllReach, AbsorbsTo};
 ghost use Rattle.md5.specs.Md5.{md5};
 ghost use Rattle.par2_md5_lanes.specs.Messages.{HasAbsorbed};
 ghost use Rattle.par2_md5_lanes.specs.Buffers.{buffers_of};
 ghost use Rattle.par2_spec.specs.Changes.{are_applicable, folders_after, takes_all};
 ghost use Rattle.par2_spec.specs.Folders.{fingerprint};
-ghost use Rattle.par2_files.specs.Views.{change_of};
+ghost use Rattle.par2_files.specs.ChangeViews.{change_of};
 ghost use Rattle.par2_files.specs.Splits.{buffers_by, bytes_before, IsFurther};
 ghost use Rattle.par2_files.specs.Snapshots.{files_in, folder_in};
 ghost use Rattle.par2_files.specs.Sorting.{AreFolderFiles};
@@ -18,26 +19,26 @@ ghost use Rattle.par2_files.specs.Checkpoints.{AreCheckpointsOf};
 ghost use Rattle.par2_files.specs.declared.snapshot.Split.TheVariants.{End};
 
 use crate::checkpoints::Checkpoints;
-use crate::snapshot::{Snapshot, Split, is_further, run_between, touches};
+use crate::snapshot::{Snapshot, Split, is_further, pending_between, touches};
 use crate::{Change, Folder, Name};
 use par2_md5_lanes::{LANES, Midstate, Part, Pending, absorb_each};
 use par2_spec::Result;
 use std::alloc::Global;
 
-/// MD5 states of runs: those that are finished, and then those that still have parts to absorb, at most sixteen.
+/// MD5 states: those that are finished, and then those that still have parts to absorb, at most sixteen.
 #[derive(Drop)]
-pub struct Runs<'a> {
+pub struct Absorbing<'a> {
     states: Vec<Midstate>,
     pendings: Vec<Pending<'a>>,
 }
 
-impl<'a> Runs<'a> {
+impl<'a> Absorbing<'a> {
     /// No states. `AreTo`: state k, finished ones first, has absorbed message k or will.
-    pub(crate) fn new(alloc: Global) -> Runs<'a>
+    pub(crate) fn new(alloc: Global) -> Absorbing<'a>
         ensures few { length result.pendings.items ≤ 16 }
         ensures buffers { AreTo result [] }
     {
-        Runs {
+        Absorbing {
             states: Vec::new(alloc),
             pendings: Vec::new(alloc),
         }
@@ -89,7 +90,7 @@ impl<'a> Runs<'a> {
             → OnOk result
             (AreTo self.new (buffers ++ bytes_before to.entry (folder_in snapshot.now) ∷ [])) }
     {
-        self.push(run_between(alloc, state, snapshot, from, to)?)
+        self.push(pending_between(alloc, state, snapshot, from, to)?)
     }
 
     /// The states once all parts are absorbed, in the order in which they were added.
@@ -115,25 +116,25 @@ fn split_names(alloc: Global, changes: &[Change]) -> Result<Vec<Name>> {
     names.into_iter().step_by(step).collect(alloc)
 }
 
-// The runs at the split `to`, from the states of the runs at the earlier split `from`: state k is that of run k, and a
-// change that touches a name before a split begins a run there. `buffers_by` has the message of each run.
-fn runs_before<'a>(
+// The states at the split `to`, one for each group of folders that are equal up to it, from those at the earlier split
+// `from`. A change that touches a name before a split begins a group there. `buffers_by` has the message of each group.
+fn absorbing_before<'a>(
     alloc: Global,
     folder: &'a Folder,
     changes: &'a [Change],
     states: &[Midstate],
     from: Split<'_>,
     to: Split<'_>,
-) -> Result<Runs<'a>>
+) -> Result<Absorbing<'a>>
     requires further { IsFurther from to }
     requires applicable { IsTrue (are_applicable folder.now.files (map change_of changes.now)) }
     requires absorbed { HaveAbsorbed states.now (buffers_by from folder.now.files changes.now) }
-    ensures few { IfOk result (λ runs. length runs.pendings.items ≤ 16) }
+    ensures few { IfOk result (λ absorbing. length absorbing.pendings.items ≤ 16) }
     ensures buffers { IfOk result (AllReach (buffers_by to.entry folder.now.files changes.now)) }
 {
     let mut snapshot = folder.snapshot()?;
-    let mut runs = Runs::new(alloc);
-    runs.push_between(alloc, states[0], &snapshot, from, to)?;
+    let mut absorbing = Absorbing::new(alloc);
+    absorbing.push_between(alloc, states[0], &snapshot, from, to)?;
     let mut place = 0;
     for change in changes {
         snapshot.apply(change)?;
@@ -141,23 +142,23 @@ fn runs_before<'a>(
             place += 1;
         }
         if touches(to, change) {
-            runs.push_between(alloc, states[place], &snapshot, from, to)?;
+            absorbing.push_between(alloc, states[place], &snapshot, from, to)?;
         }
     }
-    Ok(runs)
+    Ok(absorbing)
 }
 
-// The runs at the end, one for the folder and one for the folder after each change, from the last checkpoint that has
+// The states at the end, one for the folder and one for the folder after each change, from the last checkpoint that has
 // no changed name before it.
-fn runs_along<'a>(
+fn absorbing_along<'a>(
     alloc: Global,
     checkpoints: &Checkpoints,
     folder: &'a Folder,
     changes: &'a [Change],
-) -> Result<Runs<'a>>
+) -> Result<Absorbing<'a>>
     requires checkpoints { AreCheckpointsOf folder.now.files checkpoints.now }
     requires applicable { IsTrue (are_applicable folder.now.files (map change_of changes.now)) }
-    ensures few { IfOk result (λ runs. length runs.pendings.items ≤ 16) }
+    ensures few { IfOk result (λ absorbing. length absorbing.pendings.items ≤ 16) }
     ensures buffers { IfOk result (AllReach (buffers_by End folder.now.files changes.now)) }
 {
     let names = split_names(alloc, changes)?;
@@ -166,17 +167,17 @@ fn runs_along<'a>(
     for name in &names {
         if is_further(split, name) {
             let next = Split::At(name);
-            states = runs_before(alloc, folder, changes, &states, split, next)?.finish()?;
+            states = absorbing_before(alloc, folder, changes, &states, split, next)?.finish()?;
             split = next;
         }
     }
-    runs_before(alloc, folder, changes, &states, split, Split::End)
+    absorbing_before(alloc, folder, changes, &states, split, Split::End)
 }
 
 /// The state, with these bytes still to absorb: how a buffer is digested beside a fingerprint.
-pub fn run_of_bytes(alloc: Global, state: Midstate, bytes: &[u8]) -> Result<Pending<'_>>
+pub fn pending_of_bytes(alloc: Global, state: Midstate, bytes: &[u8]) -> Result<Pending<'_>>
     ensures { (m : List ℕ) → HasAbsorbed state m
-        → IfOk result (λ run. AbsorbsTo run (m ++ bytes.now)) }
+        → IfOk result (λ pending. AbsorbsTo pending (m ++ bytes.now)) }
 {
     let mut parts = Vec::with_capacity(alloc, 1)?;
     parts.push(Part::Bytes(bytes))?;
@@ -195,20 +196,20 @@ pub fn digests_of(alloc: Global, states: &[Midstate]) -> Result<Vec<[u8; 16]>>
     Ok(digests)
 }
 
-/// The finished states of all runs, and then those of whole buffers, which are absorbed in the same lanes.
+/// The finished states, and then those of whole buffers, which are absorbed in the same lanes.
 pub fn states_with<'a>(
     alloc: Global,
-    mut runs: Runs<'a>,
+    mut absorbing: Absorbing<'a>,
     buffers: &[&'a [u8]],
 ) -> Result<Vec<Midstate>>
-    requires { length runs.pendings.items ≤ 16 }
-    ensures { (before : List (List ℕ)) → AreTo runs.entry before
+    requires { length absorbing.pendings.items ≤ 16 }
+    ensures { (before : List (List ℕ)) → AreTo absorbing.entry before
         → IfOk result (λ states. HaveAbsorbed states.items (before ++ buffers_of buffers.now)) }
 {
     for bytes in buffers {
-        runs.push(run_of_bytes(alloc, Midstate::new(), bytes)?)?;
+        absorbing.push(pending_of_bytes(alloc, Midstate::new(), bytes)?)?;
     }
-    runs.finish()
+    absorbing.finish()
 }
 
 /// Fingerprints of folders, and the digests of buffers that were computed in the same lanes.
@@ -236,8 +237,8 @@ pub fn fingerprints(
         IfOk result (λ found. found.along.items ≡ map fingerprint (folder.now.files ∷ after)) }
     ensures beside { IfOk result (λ found. found.beside.items ≡ map md5 (buffers_of beside.now)) }
 {
-    let runs = runs_along(alloc, from, folder, changes)?;
-    let states = states_with(alloc, runs, beside)?;
+    let absorbing = absorbing_along(alloc, from, folder, changes)?;
+    let states = states_with(alloc, absorbing, beside)?;
     let mut along = digests_of(alloc, &states)?;
     let beside = along.split_off(along.len() - beside.len())?;
     Ok(Digests { along, beside })

@@ -1,5 +1,5 @@
 pub mod Products
 pub mod Tables
-pub mod Steps
+pub mod WordLoops
 pub mod Nibbles
 pub mod Columns

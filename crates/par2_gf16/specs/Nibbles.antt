@@ -1,7 +1,7 @@
 -- The nibbles of words in lanes.
 use Rattle.std.specs.Prelude.{ℕ, ◌+◌, ◌*◌, ◌<◌, ◌≡◌, ◌/◌, ◌%◌, List, length, map, take, drop, get_or}
 use Rattle.std.specs.Simd.Lanes.{Each1}
-use Rattle.par2_gf16.specs.Steps.{IsInterleaving}
+use Rattle.par2_gf16.specs.WordLoops.{IsInterleaving}
 use Rattle.par2_gf16.specs.declared.nibbles.Nibbles.{Nibbles}
 
 -- the vectors have the nibbles of the words whose lower and higher bytes these are

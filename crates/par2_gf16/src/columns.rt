@@ -1,7 +1,7 @@
 //! Some words of a buffer, prepared for many factors.
 
 ghost use Rattle.std.specs.Prelude.{◌≡◌, ◌+◌, ◌-◌, ◌*◌, ◌≤◌, length, IfOk};
-ghost use Rattle.par2_gf16.specs.Steps.{AddsWithin};
+ghost use Rattle.par2_gf16.specs.WordLoops.{AddsWithin};
 
 use crate::factor::{Factor, nibbles_at};
 use crate::nibbles::Nibbles;

@@ -4,7 +4,7 @@
 ghost use Rattle.std.specs.Prelude.{◌≡◌, ℕ, ◌+◌, ◌*◌, ◌/◌, ◌%◌, ◌^◌, ◌<◌, ◌≤◌, List, length, slice_index, take, drop, bit_xor};
 ghost use Rattle.std.specs.Simd.Lanes.{zip2};
 ghost use Rattle.par2_spec.specs.Field.{mul};
-ghost use Rattle.par2_gf16.specs.Steps.{AddsWithin, IsTable};
+ghost use Rattle.par2_gf16.specs.WordLoops.{AddsWithin, IsTable};
 ghost use Rattle.par2_gf16.specs.Nibbles.{AreNibbles, HasNibbles};
 
 use crate::doubling::doubled;

@@ -3,7 +3,7 @@
 ghost use Rattle.std.specs.Prelude.{◌≡◌, ℕ, ◌+◌, ◌*◌, ◌/◌, ◌%◌, ◌^◌, ◌++◌, ◌<◌, ◌≤◌, length, slice_index, map, take, drop, bit_xor};
 ghost use Rattle.std.specs.Simd.Lanes.{zip2, Each1};
 ghost use Rattle.par2_spec.specs.Field.{mul};
-ghost use Rattle.par2_gf16.specs.Steps.{IsTable, IsInterleaving, AddsLanes};
+ghost use Rattle.par2_gf16.specs.WordLoops.{IsTable, IsInterleaving, AddsLanes};
 
 use crate::doubling::doubled;
 use std::simd::prelude::*;

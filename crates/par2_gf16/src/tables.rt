@@ -3,7 +3,7 @@
 ghost use Rattle.std.specs.Prelude.{◌≡◌, ◌<◌, ◌≤◌, ◌↔◌, ◌+◌, ◌*◌, ◌/◌, ◌%◌, length, slice_index, IfOk, IfSome, IsNone};
 ghost use Rattle.par2_spec.specs.Field.{mul, pow, constant, is_coprime};
 ghost use Rattle.par2_gf16.specs.Products.{IsInverse, AddsProducts};
-ghost use Rattle.par2_gf16.specs.Steps.{AddsWithin};
+ghost use Rattle.par2_gf16.specs.WordLoops.{AddsWithin};
 ghost use Rattle.par2_gf16.specs.Tables.{AreTables};
 
 use crate::columns::Columns;

@@ -1,5 +1,5 @@
 -- Sessions after an accepted action, and after a run of actions.
-use Rattle.par2_journal.proofs.Common.{◌≡◌, ◌≢◌, ℕ, suc, ◌+◌, ◌<◌, ◌≤◌, List, [], ◌∷◌, length, map, get_or, drop, Ok, Err, Result, Bool, true, IsTrue, refl, sym, ap, subst, ◌∙◌, arith, false≢true, IsFalse, IsErr, ◌↔◌, OnOk, is_ok, length-map, drop_all, action_of, Change, Action, Do, Undo, Redo, Command, History, history_after, Run, Accepted, Passed, MayBeRefused, IsChanging, Refusal, Session, KeptSession, OnlyGrew, CanWalk, session_of_kept, session_with, session_unless, first_entry, history_of, kept_undone, kept_redone, session_after, changes_requested, accepted_next, refused_alike, done_of_kept, undone_of_kept, redone_of_kept, walked_is_valid, same_session, Kind, Changing, Undoing, Redoing, IsKindOf, changes_by_kind, after_commit, next_of, is_valid, LeadsToAfterRequested}
+use Rattle.par2_journal.proofs.Common.{◌≡◌, ◌≢◌, ℕ, suc, ◌+◌, ◌<◌, ◌≤◌, List, [], ◌∷◌, length, map, get_or, drop, Ok, Err, Result, Bool, true, IsTrue, refl, sym, ap, subst, ◌∙◌, arith, false≢true, IsFalse, IsErr, ◌↔◌, OnOk, is_ok, length-map, drop_all, action_of, Change, Action, Do, Undo, Redo, Command, History, history_after, Execution, Accepted, Passed, MayBeRefused, IsChanging, Refusal, Session, KeptSession, OnlyGrew, CanWalk, session_of_kept, session_with, session_unless, first_entry, history_of, kept_undone, kept_redone, session_after, changes_requested, accepted_next, refused_alike, done_of_kept, undone_of_kept, redone_of_kept, walked_is_valid, same_session, Kind, Changing, Undoing, Redoing, IsKindOf, changes_by_kind, after_commit, next_of, is_valid, LeadsToAfterRequested}
 use Rattle.par2_spec.specs.declared.commands.Action as given
 use Rattle.par2_spec.specs.History.{NothingToUndo, NothingToRedo}
 use Rattle.par2_journal.proofs.Entries.{left_at}
@@ -59,22 +59,22 @@ leads_requested s t action valid leads h = (accepted_next s t action valid leads
 
 -- an accepted or refused action, and a run of those that are left
 module _ (actions : List given.Action) (i : ℕ) (within : i < length actions) (item : given.Action) (is : item ≡ get_or actions i item) (start : History) (old new : KeptSession) (n : ℕ)
-    (on : (k : ℕ) (end : History) → Run (history_of (session_of_kept old)) (drop i (map action_of actions)) k end → Run start (map action_of actions) (n + k) end) where
+    (on : (k : ℕ) (end : History) → Execution (history_of (session_of_kept old)) (drop i (map action_of actions)) k end → Execution start (map action_of actions) (n + k) end) where
   left : drop i (map action_of actions) ≡ action_of item ∷ drop (i + 1) (map action_of actions)
   left = left_at action_of actions i within item is
 
   pub on_accepted : LeadsToAfterRequested old.folder.files (action_of item) → CanWalk old → session_after (session_of_kept old) (action_of item) ≡ Ok (session_of_kept new)
-      → (k : ℕ) (end : History) → Run (history_of (session_of_kept new)) (drop (i + 1) (map action_of actions)) k end → Run start (map action_of actions) (n + 1 + k) end
+      → (k : ℕ) (end : History) → Execution (history_of (session_of_kept new)) (drop (i + 1) (map action_of actions)) k end → Execution start (map action_of actions) (n + 1 + k) end
   on_accepted leads walks step k end run =
       let sum : n + suc k ≡ n + 1 + k = omega arith in
       let next = leads_requested (session_of_kept old) (session_of_kept new) (action_of item) (walked_is_valid old walks) leads step in
-      subst (λ m. Run start (map action_of actions) m end) sum (on (suc k) end (subst (λ l. Run (history_of (session_of_kept old)) l (suc k) end) (sym left) (Accepted next run)))
+      subst (λ m. Execution start (map action_of actions) m end) sum (on (suc k) end (subst (λ l. Execution (history_of (session_of_kept old)) l (suc k) end) (sym left) (Accepted next run)))
 
   pub on_refused : MayBeRefused (history_of (session_of_kept old)) (action_of item) → OnlyGrew old new
-      → (k : ℕ) (end : History) → Run (history_of (session_of_kept new)) (drop (i + 1) (map action_of actions)) k end → Run start (map action_of actions) (n + k) end
+      → (k : ℕ) (end : History) → Execution (history_of (session_of_kept new)) (drop (i + 1) (map action_of actions)) k end → Execution start (map action_of actions) (n + k) end
   on_refused may grew k end run =
-      on k end (subst (λ l. Run (history_of (session_of_kept old)) l k end) (sym left)
-      (Passed may (subst (λ s. Run (history_of s) (drop (i + 1) (map action_of actions)) k end) (same_session old new grew) run)))
+      on k end (subst (λ l. Execution (history_of (session_of_kept old)) l k end) (sym left)
+      (Passed may (subst (λ s. Execution (history_of s) (drop (i + 1) (map action_of actions)) k end) (same_session old new grew) run)))
 
 pub none_left : (actions : List given.Action) (i : ℕ) → length actions ≤ i → drop i (map action_of actions) ≡ []
 none_left actions i all = drop_all i (map action_of actions) (rw (length-map actions action_of) all)

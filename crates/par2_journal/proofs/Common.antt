@@ -11,7 +11,7 @@ pub use Rattle.std.specs.List.{insert}
 pub use Rattle.std.specs.Prelude.{IfErr, IfOk, IfSome, IsErr, IsErrAnd, IsFalse, MatchResult, OnOk, String, if◌then◌else◌, is_ok, option_map, position, reverse, slice_get, sum_by, unwrap_or, ◌↔◌, ◌⊎◌}
 pub use Rattle.std.specs.Str.{bytes_eq}
 pub use Rattle.std.specs.declared.alloc.Global.{Global}
-pub use Rattle.par2_files.specs.Views.{change_of}
+pub use Rattle.par2_files.specs.ChangeViews.{change_of}
 pub use Rattle.par2_journal.specs.Ahead.{IsAhead, next_changes}
 pub use Rattle.par2_journal.specs.Along.{AreAlong, ArePrintsAlong, Prints, prints_of}
 pub use Rattle.par2_journal.specs.Opening.{AnswersOpening, AnswersWhere, IsReportedWhere, OpensAsIs, go_through, session_after_way, session_at}
@@ -21,7 +21,7 @@ pub use Rattle.par2_journal.specs.Spelling.{Add, AreSpelled, HasNext, Replace, S
 pub use Rattle.par2_journal.specs.Walks.{AreNamesOf, IsSet, WentForth, names_in}
 pub use Rattle.par2_journal.specs.declared.ahead.Next.{Next}
 pub use Rattle.par2_journal.specs.declared.spelling.Fingerprints.{Fingerprints}
-pub use Rattle.par2_journal_format.specs.Views.{changes_in, halfway_of, journal_from, journal_of}
+pub use Rattle.par2_journal_format.specs.JournalViews.{changes_in, halfway_of, journal_from, journal_of}
 pub use Rattle.par2_repair.specs.Drafts.{HasItsMd5s, IsDraft}
 pub use Rattle.par2_repair.specs.declared.draft.Draft.{Draft}
 pub use Rattle.par2_spec.proofs.FolderLaws.{changes_back, gone, more_room_all, state_all_back, state_files, takes_applicable, takes_none, way_back_taken, written}
@@ -30,7 +30,7 @@ pub use Rattle.par2_spec.specs.Changes.{Change, FolderState, Remove, Rename, Wri
 unfoldable pub use Rattle.par2_spec.specs.Changes.{are_applicable, effect, effects, folders_after, takes_all, way_back}
 pub use Rattle.par2_spec.specs.Commands.{Action, Command, Create, Do, Purge, Redo, Repair, Undo}
 pub use Rattle.par2_spec.specs.Folders.{Folder, bytes_of, fingerprint, has}
-pub use Rattle.par2_spec.specs.History.{Accepted, Ended, History, IsChanging, MayBeRefused, Passed, Refusal, Run, history_after}
+pub use Rattle.par2_spec.specs.History.{Accepted, Ended, History, IsChanging, MayBeRefused, Passed, Refusal, Execution, history_after}
 pub use Rattle.par2_spec.specs.Journals.{HalfwayPart, Journal, Spells}
 pub use Rattle.par2_spec.specs.Opening.{halfway_where, is_valid, opened_by_part}
 unfoldable pub use Rattle.par2_spec.specs.Opening.{halfway_journal, journals_of, leads, leads_through, settled_journal}

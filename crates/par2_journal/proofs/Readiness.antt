@@ -6,7 +6,7 @@ use Rattle.par2_spec.specs.Plans as plans
 use Rattle.par2_spec.specs.History as history
 use Rattle.par2_spec.specs.declared.Fault.{Fault}
 use Rattle.par2_spec.specs.declared.Fault.TheVariants.{Memory, RepairFailed}
-use Rattle.par2_journal.specs.Refusals.{MayFail, MayRefuse}
+use Rattle.par2_journal.specs.SessionRefusals.{MayFail, MayRefuse}
 use Rattle.par2_journal.proofs.Actions.{command_done, first_is_next, undo_done, redo_done}
 use Rattle.par2_journal.specs.declared.preparation.SessionFault.{SessionFault}
 use Rattle.par2_journal.specs.declared.preparation.SessionFault.TheVariants.{Plan, NothingToUndo, NothingToRedo}

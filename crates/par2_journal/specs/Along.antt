@@ -4,7 +4,7 @@ use Rattle.std.specs.Coded.{Coded, code_by, coded×, coded_ℕ, coded_list}
 use Rattle.par2_spec.specs.Folders.{Folder, fingerprint}
 use Rattle.par2_spec.specs.Changes.{Change, FolderState, effects, folders_after}
 use Rattle.par2_files.specs.declared.change.Change as given
-use Rattle.par2_journal_format.specs.Views.{changes_in}
+use Rattle.par2_journal_format.specs.JournalViews.{changes_in}
 use Rattle.par2_journal.specs.declared.spelling.Fingerprints.{Fingerprints}
 
 -- the fingerprints of a folder before changes, after each and after all of them

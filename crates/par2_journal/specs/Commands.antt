@@ -13,10 +13,10 @@ use Rattle.par2_spec.specs.Output.{Step, step_of}
 use Rattle.par2_spec.specs.declared.Fault.{Fault}
 use Rattle.par2_spec.specs.declared.Fault.TheVariants.{Memory}
 use Rattle.par2_repair.specs.Repairing.{WritesAsDescribed}
-use Rattle.par2_repair.specs.Views.{report_view}
+use Rattle.par2_repair.specs.ReportViews.{report_view}
 use Rattle.par2_repair.specs.declared.report.Report.{Report}
 use Rattle.par2_journal.specs.Ready.{Ready, IsReady, next_of}
-use Rattle.par2_journal.specs.Refusals.{MayFail, MayRefuse}
+use Rattle.par2_journal.specs.SessionRefusals.{MayFail, MayRefuse}
 use Rattle.par2_journal.specs.declared.preparation.SessionFault.{SessionFault}
 use Rattle.par2_journal.specs.declared.preparation.SessionFault.TheVariants.{Plan, NothingToUndo, NothingToRedo}
 

@@ -1,10 +1,10 @@
-pub mod Steps
+pub mod StepViews
 pub mod Along
 pub mod Ready
 pub mod Kinds
 pub mod Ahead
 pub mod Sessions
-pub mod Refusals
+pub mod SessionRefusals
 pub mod Commands
 pub mod Walks
 pub mod Spelling

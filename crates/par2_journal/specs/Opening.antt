@@ -10,7 +10,7 @@ use Rattle.par2_spec.specs.Opening.{is_valid, leads_through}
 use Rattle.par2_spec.specs.declared.JournalFault.{JournalFault}
 use Rattle.par2_spec.specs.declared.JournalFault.TheVariants.{FolderChanged, JournalInvalid, Memory}
 use Rattle.par2_journal_format.specs.Reading.{IsSealed}
-use Rattle.par2_journal_format.specs.Views.{changes_in}
+use Rattle.par2_journal_format.specs.JournalViews.{changes_in}
 use Rattle.par2_files.specs.declared.change.Change as given
 use Rattle.par2_journal.specs.declared.opening.Opened.{Opened}
 use Rattle.par2_journal.specs.declared.opening.Opened.TheVariants as opening

@@ -8,7 +8,7 @@ use Rattle.par2_spec.specs.Folders.{Folder, has}
 use Rattle.par2_spec.specs.Changes.{Change, FolderState, effects, state_after_all, takes_all}
 use Rattle.par2_spec.specs.Sessions.{walks}
 use Rattle.par2_files.specs.declared.change.Change as given
-use Rattle.par2_journal_format.specs.Views.{changes_in}
+use Rattle.par2_journal_format.specs.JournalViews.{changes_in}
 use Rattle.par2_journal.specs.declared.opening.Names.{Names}
 
 -- whether the name has a file after the changes so far

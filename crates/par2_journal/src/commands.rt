@@ -15,13 +15,13 @@ impl Session {
     ghost use Rattle.std.specs.List.{AllByRecursion};
     ghost use Rattle.par2_spec.specs.Changes.{are_applicable};
     ghost use Rattle.par2_spec.specs.Commands.{Undo, Redo, Create, Purge};
-    ghost use Rattle.par2_spec.specs.History.{Run, folders, IsChanging};
+    ghost use Rattle.par2_spec.specs.History.{Execution, folders, IsChanging};
     ghost use Rattle.par2_spec.specs.Sessions.{OnlyGrew, CanWalk};
     ghost use Rattle.par2_spec.specs.Output.{step_of};
     ghost use Rattle.par2_spec.specs.Views.{action_of, create_args_of};
     ghost use Rattle.par2_laws.specs.Answers.{LeavesEachFile, RestoresFiles, RestoresInputs, folder_left};
     ghost use Rattle.par2_journal.specs.Commands.{IsAfter, LeadsFrom, MakesReady, MayBePassed, Performs, Prepares, UndosGiveBack, Verifies, WritesFiles, kept_history, repair_of};
-    ghost use Rattle.par2_journal.specs.Refusals.{MayRefuse};
+    ghost use Rattle.par2_journal.specs.SessionRefusals.{MayRefuse};
     ghost use Rattle.par2_journal.specs.Ready.{CanBe, Changing, Fits, HasPrintsOf, IsReady};
 
     // The steps of a planned command, which a run prints, and room in the session for its files and its entry. Err if
@@ -240,7 +240,7 @@ impl Session {
     /// Performs the actions in order on the folder in memory, goes on after a refused one, and returns how many were
     /// accepted. The program doesn't call it. If none is an undo or redo, as many undos lead back.
     pub fn play(&mut self, actions: &[Action]) -> usize
-        ensures run { Run (kept_history self.old) (map action_of actions.now) result
+        ensures run { Execution (kept_history self.old) (map action_of actions.now) result
             (kept_history self.new) }
         // If all actions are creates, repairs and purges, the older folders are those from before,
         // and as many undos as were accepted give the folder back, names and bytes.

@@ -8,7 +8,7 @@ ghost use Rattle.par2_spec.specs.Opening.{Opens, is_valid, leads, opened_by_part
 ghost use Rattle.par2_spec.specs.declared.JournalFault.TheVariants.{JournalInvalid, FolderChanged, Memory};
 ghost use Rattle.par2_journal_format.specs.Reading.{IsSealed};
 ghost use Rattle.par2_journal_format.specs.Untested.{AreCounted, change_count};
-ghost use Rattle.par2_journal_format.specs.Views.{changes_in, journal_of};
+ghost use Rattle.par2_journal_format.specs.JournalViews.{changes_in, journal_of};
 ghost use Rattle.par2_journal.specs.Opening.{AnswersOpening, AnswersTest, AnswersWhere, IsReportedWhere, OpensAsIs, are_valid, has_print, session_at};
 ghost use Rattle.par2_journal.specs.Walks.{EntriesWalk};
 
@@ -35,8 +35,8 @@ impl<'a> Names<'a> {
     ghost use Rattle.std.specs.Prelude.{◌≡◌, OnOk, IfOk};
     ghost use Rattle.par2_spec.specs.Changes.{are_applicable, effect, effects, is_applicable};
     ghost use Rattle.par2_spec.specs.Folders.{Folder as Files};
-    ghost use Rattle.par2_files.specs.Views.{change_of};
-    ghost use Rattle.par2_journal_format.specs.Views.{changes_in};
+    ghost use Rattle.par2_files.specs.ChangeViews.{change_of};
+    ghost use Rattle.par2_journal_format.specs.JournalViews.{changes_in};
     ghost use Rattle.par2_journal.specs.Walks.{AreNamesOf, IsSet, IsTried, names_in};
 
     // The names before any change.

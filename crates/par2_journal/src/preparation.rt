@@ -28,7 +28,7 @@ impl Model for Steps {
     ghost use Rattle.std.specs.Coded.{coded_list};
     ghost use Rattle.par2_spec.specs.Output as defined;
     ghost use Rattle.par2_spec.specs.Codes.{step_code};
-    ghost use Rattle.par2_journal.specs.Steps.{step_view};
+    ghost use Rattle.par2_journal.specs.StepViews.{step_view};
 
     ghost Value = { List defined.Step };
 
@@ -40,8 +40,8 @@ impl Model for Steps {
 impl Step {
     ghost use Rattle.std.specs.Prelude.{◌≡◌};
     ghost use Rattle.par2_spec.specs.Output.{step_of};
-    ghost use Rattle.par2_files.specs.Views.{change_of};
-    ghost use Rattle.par2_journal.specs.Steps.{step_view};
+    ghost use Rattle.par2_files.specs.ChangeViews.{change_of};
+    ghost use Rattle.par2_journal.specs.StepViews.{step_view};
 
     // The step that a run prints for a change: its kind, and copies of its names.
     fn of(change: &Change) -> Step
@@ -59,8 +59,8 @@ impl Step {
 impl Steps {
     ghost use Rattle.std.specs.Prelude.{◌≡◌, map, length, IfOk};
     ghost use Rattle.par2_spec.specs.Output.{step_of};
-    ghost use Rattle.par2_files.specs.Views.{change_of};
-    ghost use Rattle.par2_journal.specs.Steps.{step_view};
+    ghost use Rattle.par2_files.specs.ChangeViews.{change_of};
+    ghost use Rattle.par2_journal.specs.StepViews.{step_view};
 
     /// The steps of these changes, in order, as a run prints them. It fails if memory runs out.
     pub fn of(alloc: Global, changes: &[Change]) -> Result<Steps>

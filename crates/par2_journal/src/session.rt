@@ -65,7 +65,7 @@ impl Session {
     ghost use Rattle.par2_spec.specs.Sessions.{CanWalk, OnlyGrew, session_of_kept, kept_done, kept_undone, kept_redone};
     ghost use Rattle.par2_spec.specs.Journals.{Spells};
     ghost use Rattle.par2_files.specs.Checkpoints.{AreCheckpointsOf};
-    ghost use Rattle.par2_files.specs.Views.{change_of};
+    ghost use Rattle.par2_files.specs.ChangeViews.{change_of};
     ghost use Rattle.par2_repair.specs.Written.{buffers_written};
     ghost use Rattle.par2_journal.specs.Ahead.{next_changes};
     ghost use Rattle.par2_journal.specs.Along.{AreAlong};

@@ -9,7 +9,7 @@ ghost use Rattle.par2_spec.specs.Changes.{folders_after, takes_all};
 ghost use Rattle.par2_spec.specs.Folders.{Folder as Files, fingerprint};
 ghost use Rattle.par2_spec.specs.Journals.{Spells};
 ghost use Rattle.par2_files.specs.Checkpoints.{AreCheckpointsOf};
-ghost use Rattle.par2_journal_format.specs.Views.{changes_in, journal_from};
+ghost use Rattle.par2_journal_format.specs.JournalViews.{changes_in, journal_from};
 ghost use Rattle.par2_journal.specs.Along.{AreAlong, ArePrintsOf};
 ghost use Rattle.par2_journal.specs.Spelling.{CompletesHalfway, SpellsCommand, SpellsEntry};
 

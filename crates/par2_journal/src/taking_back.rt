@@ -6,7 +6,7 @@ ghost use Rattle.std.specs.Str.{bytes_eq};
 ghost use Rattle.par2_spec.specs.Journals.{Spells};
 ghost use Rattle.par2_spec.specs.Opening.{is_valid, opened_by_part};
 ghost use Rattle.par2_journal_format.specs.Untested.{AreCounted};
-ghost use Rattle.par2_journal_format.specs.Views.{changes_in, halfway_of, journal_of};
+ghost use Rattle.par2_journal_format.specs.JournalViews.{changes_in, halfway_of, journal_of};
 ghost use Rattle.par2_journal.specs.Opening.{AnswersTest, AnswersWhere, FailsTest, HasNoPlace, LeadBack, go_through, last_changes, place_among, session_after_way, session_before, way_left};
 ghost use Rattle.par2_journal.specs.Ready.{kept_journal};
 ghost use Rattle.par2_journal.specs.Walks.{WentForth};

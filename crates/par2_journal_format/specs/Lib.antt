@@ -1,4 +1,4 @@
-pub mod Views
+pub mod JournalViews
 pub mod Reading
 pub mod Untested
 pub mod Fronts

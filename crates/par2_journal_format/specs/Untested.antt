@@ -5,7 +5,7 @@ use Rattle.md5.specs.Md5.{md5}
 use Rattle.par2_spec.specs.Changes.{Change}
 use Rattle.par2_spec.specs.Journals.{Journal, IsJournal, Spells}
 use Rattle.par2_journal_format.specs.Reading.{IsSealed}
-use Rattle.par2_journal_format.specs.Views.{journal_of}
+use Rattle.par2_journal_format.specs.JournalViews.{journal_of}
 use Rattle.par2_journal_format.specs.declared.reading.Untested.{Untested}
 
 -- how many changes the entries have in all

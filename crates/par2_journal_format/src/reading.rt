@@ -4,11 +4,11 @@
 //! tests the digest first.
 ghost use Rattle.std.specs.Prelude.{◌≡◌, ◌↔◌, ◌<◌, ◌≤◌, ◌-◌, ◌^◌, length, take, drop, IfOk, IfErr, IsTrue, Err, MatchResult};
 ghost use Rattle.par2_spec.specs.Journals.{Journal as Defined, Spells};
-ghost use Rattle.par2_files.specs.Views.{change_of};
+ghost use Rattle.par2_files.specs.ChangeViews.{change_of};
 ghost use Rattle.par2_journal_format.specs.Reading as reads;
 ghost use Rattle.par2_journal_format.specs.Reading.{Gives, IsSealed};
 ghost use Rattle.par2_journal_format.specs.Untested.{IsUntested};
-ghost use Rattle.par2_journal_format.specs.Views.{halfway_of, journal_of};
+ghost use Rattle.par2_journal_format.specs.JournalViews.{halfway_of, journal_of};
 ghost use Rattle.par2_journal_format.specs.declared.fault.DecodeFault.TheVariants.{JournalInvalid, Memory};
 
 use crate::journal::heading;

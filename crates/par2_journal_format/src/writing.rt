@@ -9,9 +9,9 @@ ghost use Rattle.par2_spec.specs.Answers.{Appends};
 ghost use Rattle.par2_spec.specs.Names.{is_name};
 ghost use Rattle.par2_spec.specs.Folders.{behind_length};
 ghost use Rattle.par2_spec.specs.Journals as journals;
-ghost use Rattle.par2_files.specs.Views.{change_of};
+ghost use Rattle.par2_files.specs.ChangeViews.{change_of};
 ghost use Rattle.par2_journal_format.specs.Fronts.{Begins, Continues, Finishes};
-ghost use Rattle.par2_journal_format.specs.Views.{changes_in, halfway_from, journal_from, part_from};
+ghost use Rattle.par2_journal_format.specs.JournalViews.{changes_in, halfway_from, journal_from, part_from};
 
 use crate::journal::heading;
 use crate::{HalfwayPartView, JournalView};

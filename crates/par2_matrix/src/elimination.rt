@@ -64,8 +64,8 @@ fn reduce(gf: &Gf, rows: &[Vec<u8>], right_sides: &[Vec<u8>], row: &mut [u8], ri
         let factor = element(row, p);
         let source = list_at(rows, p);
         if factor != 0 && !source.is_empty() {
-            add_products(gf, factor, source, row);
-            add_products(gf, factor, list_at(right_sides, p), right);
+            add_multiple(gf, factor, source, row);
+            add_multiple(gf, factor, list_at(right_sides, p), right);
         }
     }
     fit_bytes(row);
@@ -144,12 +144,12 @@ fn add_row(gf: &Gf, lists: &mut [Vec<u8>], p: usize, factor: u16, src: &[u8])
         (list_at (lists_of lists.new) p) }
     ensures bytes { (k : ℕ) → slice_index (list_at (lists_of lists.new) p) k < 2 ^ 8 }
 {
-    add_products(gf, factor, src, lists[p].as_mut_slice());
+    add_multiple(gf, factor, src, lists[p].as_mut_slice());
 }
 
 // Adds `factor` times each word of `src` to the word of `dst` at the same place.
 #[inline(always)]
-fn add_products(gf: &Gf, factor: u16, src: &[u8], dst: &mut [u8])
+fn add_multiple(gf: &Gf, factor: u16, src: &[u8], dst: &mut [u8])
     requires same { length src.now ≡ length dst.old }
     requires even { length dst.old % 2 ≡ 0 }
     ensures added { AddsProducts factor src.now dst.old dst.new }

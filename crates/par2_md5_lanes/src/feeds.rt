@@ -73,7 +73,7 @@ impl<'a> Feed<'a> {
     }
 
     // Moves on to the next part, or returns false if there is none.
-    fn go_on(&mut self) -> bool
+    fn next_part(&mut self) -> bool
         requires { drop self.old.at (part_bytes self.old.part) ≡ [] }
         ensures same { bytes_left self.new ≡ bytes_left self.old }
         ensures end { result ≡ false → bytes_left self.old ≡ [] }
@@ -121,7 +121,7 @@ impl<'a> Feed<'a> {
         ensures rest { bytes_left self.new ≡ drop result (bytes_left self.old) }
     {
         let mut filled = self.copy_part(blocks, 0);
-        while filled < blocks.len() && self.go_on() {
+        while filled < blocks.len() && self.next_part() {
             filled += self.copy_part(blocks, filled);
         }
         filled

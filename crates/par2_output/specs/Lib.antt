@@ -1,2 +1,2 @@
-pub mod Writing
-pub mod Views
+pub mod PrinterStates
+pub mod PrintedValues

@@ -2,8 +2,8 @@
 //! the name (`word`) or the numbers that complete it.
 ghost use Rattle.std.specs.Prelude.{◌≡◌, ◌++◌, ◌∷◌, codes, map, string_bytes};
 ghost use Rattle.par2_spec.specs.Output.{error_of, fault_line, line, word_at};
-ghost use Rattle.par2_output.specs.Views.{words_given};
-ghost use Rattle.par2_output.specs.Writing.{PrinterWrote};
+ghost use Rattle.par2_output.specs.PrintedValues.{words_given};
+ghost use Rattle.par2_output.specs.PrinterStates.{PrinterWrote};
 
 use crate::printer::{Printer, Written, write_line};
 use crate::report::write_lost;

@@ -4,7 +4,7 @@ ghost use Rattle.std.specs.Prelude.{◌≡◌, ◌+◌, ◌<◌, ◌≤◌, [], 
 ghost use Rattle.std.specs.Io.KnownBytes.{Appends};
 ghost use Rattle.std.specs.List.{flat_map};
 ghost use Rattle.par2_spec.specs.Output.{line};
-ghost use Rattle.par2_output.specs.Writing.{IsFlushed, PrinterWrote, failures_of, writer_of};
+ghost use Rattle.par2_output.specs.PrinterStates.{IsFlushed, PrinterWrote, failures_of, writer_of};
 
 use par2_disk::Count;
 use std::io::{ErrorKind, Write};

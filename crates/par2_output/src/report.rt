@@ -4,8 +4,8 @@ ghost use Rattle.std.specs.Prelude.{◌≡◌, ◌++◌, codes, decimal};
 ghost use Rattle.hex.specs.Hex.{encode_lower};
 ghost use Rattle.par2_spec.specs.Reports.{Report};
 ghost use Rattle.par2_spec.specs.Output.{line, lost_line, note_line, of_all, step_line, target_line, verdict_words};
-ghost use Rattle.par2_output.specs.Views.{step_shown, target_shown};
-ghost use Rattle.par2_output.specs.Writing.{PrinterWrote};
+ghost use Rattle.par2_output.specs.PrintedValues.{step_shown, target_shown};
+ghost use Rattle.par2_output.specs.PrinterStates.{PrinterWrote};
 
 use crate::printer::{Printer, Written, write_line};
 use itoa::Buffer;

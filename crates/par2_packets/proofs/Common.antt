@@ -17,7 +17,7 @@ pub use Rattle.par2_packets.specs.Cursors.{rest_of}
 pub use Rattle.par2_packets.specs.Pieces.{ArePieces, changed_below, overwritten}
 pub use Rattle.par2_packets.specs.Recoveries.{AreDigested, digest_put, digested, recovery_packet}
 unfoldable pub use Rattle.par2_packets.specs.Recoveries.{undigested}
-pub use Rattle.par2_packets.specs.Views.{file_record_of, record_id_number, packet_view}
+pub use Rattle.par2_packets.specs.PacketViews.{file_record_of, record_id_number, packet_view}
 pub use Rattle.par2_spec.proofs.ListsLaws.{increasing, range-append}
 pub use Rattle.par2_spec.specs.Checksums.{Pair}
 pub use Rattle.par2_spec.specs.Packets.{DescBody, IfscBody, MainBody, Packet, accepted, bytes_at, claimed_length, digest_input, items_at, magic, type_of, without_end_zeros}

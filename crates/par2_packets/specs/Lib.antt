@@ -1,7 +1,7 @@
-pub mod Views
+pub mod PacketViews
 pub mod Bodies
 pub mod Pieces
 pub mod Recoveries
-pub mod Runs
+pub mod DigestBatches
 pub mod Cursors
 pub mod Heads

@@ -6,7 +6,7 @@ ghost use Rattle.par2_spec.specs.Answers.{Appends};
 ghost use Rattle.par2_spec.specs.Packets as packets;
 ghost use Rattle.par2_spec.specs.Packets.{packet};
 ghost use Rattle.par2_spec.specs.Volumes.{packet_of, main_id, main_bytes, desc_bytes, ifsc_bytes, creator_bytes, recovery_bytes};
-ghost use Rattle.par2_packets.specs.Views.{file_record_of};
+ghost use Rattle.par2_packets.specs.PacketViews.{file_record_of};
 
 use crate::bytes::{u32_bytes, u64_bytes};
 use crate::cursor::MAGIC;

@@ -6,7 +6,7 @@ ghost use Rattle.std.specs.Option.{ForSome};
 ghost use Rattle.md5.specs.Md5.{md5};
 ghost use Rattle.par2_spec.specs.Packets.{begins_with_packet, bytes_at};
 ghost use Rattle.par2_packets.specs.Heads.{IsHead};
-ghost use Rattle.par2_packets.specs.Runs.{AreDigests, IsPacketPlace, IsRunFrom};
+ghost use Rattle.par2_packets.specs.DigestBatches.{AreDigests, IsPacketPlace, IsBatchFrom};
 
 use crate::bytes::u64_at;
 use md5::{Digest, Md5};
@@ -17,16 +17,16 @@ pub(crate) const MAGIC: &[u8; 8] = b"PAR2\0PKT";
 // The digests of `count` packets of `len` bytes each, which were computed side by side, and the position in the file
 // where each packet begins.
 #[derive(Clone, Copy, Drop)]
-struct Run {
+struct DigestBatch {
     len: usize,
     count: usize,
     starts: [usize; LANES],
     digests: [[u8; 16]; LANES],
 }
 
-impl Run {
+impl DigestBatch {
     // Digests the packets of `len` bytes at the first `count` starts. The other starts only fill lanes.
-    fn new(bytes: &[u8], starts: [usize; LANES], count: usize, len: usize) -> Run
+    fn new(bytes: &[u8], starts: [usize; LANES], count: usize, len: usize) -> DigestBatch
         // At most sixteen packets, and each start has `len` bytes, also in the lanes that aren't used.
         requires head { 32 ≤ len }
         requires few { count ≤ 16 }
@@ -37,7 +37,7 @@ impl Run {
         ensures count { result.count ≡ count }
         ensures len { result.len ≡ len }
     {
-        Run {
+        DigestBatch {
             len,
             count,
             starts,
@@ -46,7 +46,7 @@ impl Run {
         }
     }
 
-    // The number, from 0, of the run's packet that begins at `at`, if the run's packets have `len` bytes.
+    // The number, from 0, of the batch's packet that begins at `at`, if the batch's packets have `len` bytes.
     fn place_of(&self, at: usize, len: usize) -> Option<usize>
         ensures { IfSome result (λ k. IsPacketPlace self.now at len k) }
     {
@@ -56,7 +56,7 @@ impl Run {
         self.starts.iter().position(|&start| start == at)
     }
 
-    // Whether a packet of the run begins after the position `at`, so that its digest is still needed.
+    // Whether a packet of the batch begins after the position `at`, so that its digest is still needed.
     fn is_ahead_of(&self, at: usize) -> bool {
         self.starts.iter().any(|&start| start > at)
     }
@@ -79,16 +79,16 @@ pub(crate) fn claimed_length(bytes: &[u8]) -> Option<usize>
     Some(claim as usize)
 }
 
-// A run of packets of this length: the one at `at`, and those that are found ahead by walking along the claimed
+// A batch of packets of this length: the one at `at`, and those that are found ahead by walking along the claimed
 // lengths. Unused lanes repeat the first. Digesting side by side takes about the time of two packets, so there is no
-// run of fewer than three.
+// batch of fewer than three.
 //
 // Reading a header costs less than the MD5 of 64 bytes. So a walk over more than sixteen headers costs less than the
 // digest of the packet at `at`.
-fn run_ahead(bytes: &[u8], at: usize, len: usize) -> Option<Run>
+fn batch_ahead(bytes: &[u8], at: usize, len: usize) -> Option<DigestBatch>
     requires head { 32 ≤ len }
     requires within { at + len ≤ length bytes.now }
-    ensures { IfSome result (IsRunFrom bytes.now at len) }
+    ensures { IfSome result (IsBatchFrom bytes.now at len) }
 {
     let mut starts = [at; LANES];
     let mut count = 1;
@@ -106,7 +106,7 @@ fn run_ahead(bytes: &[u8], at: usize, len: usize) -> Option<Run>
         }
         place += claim;
     }
-    (count >= 3).then(|| Run::new(bytes, starts, count, len))
+    (count >= 3).then(|| DigestBatch::new(bytes, starts, count, len))
 }
 
 // A packet's bytes from offset 32 on, and their MD5.
@@ -117,16 +117,16 @@ struct Digested<'a> {
     ghost right: { digest ≡ md5 bytes.now },
 }
 
-/// A position in bytes, and known digests: those of the last run, and that of the longest packet that was digested
+/// A position in bytes, and known digests: those of the last batch, and that of the longest packet that was digested
 /// alone, here or in earlier bytes.
 #[derive(Clone, Copy, Drop)]
 pub(crate) struct Cursor<'a> {
     bytes: &'a [u8],
     at: usize,
-    run: Option<Run>,
+    batch: Option<DigestBatch>,
     longest: Option<Digested<'a>>,
     ghost within: { at ≤ length bytes.now },
-    ghost known: { ForSome run (AreDigests bytes.now) },
+    ghost known: { ForSome batch (AreDigests bytes.now) },
 }
 
 impl<'a> Cursor<'a> {
@@ -139,7 +139,7 @@ impl<'a> Cursor<'a> {
         Cursor {
             bytes,
             at: 0,
-            run: None,
+            batch: None,
             longest: None,
         }
     }
@@ -168,33 +168,33 @@ impl<'a> Cursor<'a> {
         self.at += len;
     }
 
-    // The MD5 of the packet of `len` bytes here, if it is in the run, or if its bytes are those of the longest packet
+    // The MD5 of the packet of `len` bytes here, if it is in the batch, or if its bytes are those of the longest packet
     // that was digested alone.
     fn known_digest(&self, len: usize) -> Option<[u8; 16]>
         requires low { 32 ≤ len }
         requires high { len ≤ length (rest_of self.now) }
         ensures { IfSome result (λ d. d ≡ md5 (bytes_at 32 (len - 32) (rest_of self.now))) }
     {
-        if let Some(run) = self.run
-            && let Some(place) = run.place_of(self.at, len)
-            && place < run.count
+        if let Some(batch) = self.batch
+            && let Some(place) = batch.place_of(self.at, len)
+            && place < batch.count
         {
-            return Some(run.digests[place]);
+            return Some(batch.digests[place]);
         }
         let longest = self.longest?;
         (longest.bytes == &self.rest()[32..len]).then_some(longest.digest)
     }
 
-    // A run that begins with the packet of `len` bytes here, if it pays. A shorter packet doesn't replace the current
-    // run while one of that run's packets is still ahead, because it is between them.
-    fn next_run(&self, len: usize) -> Option<Run>
+    // A batch that begins with the packet of `len` bytes here, if it pays. A shorter packet doesn't replace the current
+    // batch while one of that batch's packets is still ahead, because it is between them.
+    fn next_batch(&self, len: usize) -> Option<DigestBatch>
         requires low { 32 ≤ len }
         requires high { len ≤ length (rest_of self.now) }
-        ensures { IfSome result (IsRunFrom self.now.bytes.now self.now.at len) }
+        ensures { IfSome result (IsBatchFrom self.now.bytes.now self.now.at len) }
     {
-        match self.run {
-            Some(run) if len < run.len && run.is_ahead_of(self.at) => None,
-            _ => run_ahead(self.bytes, self.at, len),
+        match self.batch {
+            Some(batch) if len < batch.len && batch.is_ahead_of(self.at) => None,
+            _ => batch_ahead(self.bytes, self.at, len),
         }
     }
 
@@ -221,11 +221,11 @@ impl<'a> Cursor<'a> {
         if let Some(digest) = self.known_digest(len) {
             return digest;
         }
-        let Some(run) = self.next_run(len) else {
+        let Some(batch) = self.next_batch(len) else {
             let rest = self.rest();
             return self.digest_alone(&rest[32..len]);
         };
-        self.run = Some(run);
-        run.digests[0]
+        self.batch = Some(batch);
+        batch.digests[0]
     }
 }

@@ -7,7 +7,7 @@ ghost use Rattle.std.specs.List.{IsDistinct};
 ghost use Rattle.std.specs.List.Sorted.{IsNonDecreasingBy, IsStrictlyIncreasing};
 ghost use Rattle.std.specs.Str.{bytes_eq};
 ghost use Rattle.par2_spec.specs.Volumes as volumes;
-ghost use Rattle.par2_packets.specs.Views.{file_record_of, record_id_number};
+ghost use Rattle.par2_packets.specs.PacketViews.{file_record_of, record_id_number};
 
 use crate::bytes::{u32_bytes, u64_bytes};
 use byteorder::{ByteOrder, LittleEndian};

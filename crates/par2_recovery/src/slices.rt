@@ -6,7 +6,7 @@ ghost use Rattle.par2_spec.specs.Slices.{padded};
 ghost use Rattle.par2_spec.specs.Recovery.{recovery};
 ghost use Rattle.par2_spec.specs.Sums.{lists_of};
 ghost use Rattle.par2_create.specs.Records.{slices_of_records};
-ghost use Rattle.par2_solve.specs.Views.{buffers_of};
+ghost use Rattle.par2_solve.specs.BufferContents.{buffers_of};
 
 use crate::SetRecord;
 use par2_create::input_slices;

@@ -4,5 +4,5 @@ pub mod Repairing
 pub mod Restoring
 pub mod SliceBytes
 pub mod Survivors
-pub mod Views
+pub mod ReportViews
 pub mod Written

@@ -2,7 +2,7 @@
 //! compares the MD5s and returns the changes.
 ghost use Rattle.std.specs.Prelude.{◌≡◌};
 ghost use Rattle.std.specs.Option.{option_copied};
-ghost use Rattle.par2_files.specs.Views.{change_of};
+ghost use Rattle.par2_files.specs.ChangeViews.{change_of};
 ghost use Rattle.par2_repair.specs.Written.{bytes_written};
 
 use par2_files::{Change, Changes};

@@ -4,7 +4,7 @@ ghost use Rattle.std.specs.Prelude.{◌≡◌, ◌<◌, Some, not, map, filter, 
 ghost use Rattle.par2_spec.specs.Answers.{Lists};
 ghost use Rattle.par2_spec.specs.Folders.{has};
 ghost use Rattle.par2_spec.specs.Refusals.{absent_file, set_in};
-ghost use Rattle.par2_sets.specs.Steps.{Returns};
+ghost use Rattle.par2_sets.specs.SetReading.{Returns};
 
 use par2_files::{Folder, Name};
 use par2_sets::{ParSet, set_of};

@@ -10,7 +10,7 @@ ghost use Rattle.par2_spec.specs.Rank as ranks;
 ghost use Rattle.par2_spec.specs.Reports.{Complete, is_complete, incomplete_state, verdict_of, report_in, IsVerdictIn};
 ghost use Rattle.par2_spec.specs.Search.{survivors};
 ghost use Rattle.par2_repair.specs.Findings.{TakesMatch, lost_by, report_by, reports_by, said_of};
-ghost use Rattle.par2_repair.specs.Views.{state_view, target_report_of, report_view};
+ghost use Rattle.par2_repair.specs.ReportViews.{state_view, target_report_of, report_view};
 
 use crate::finding::{Findings, split_at_most};
 use crate::matching::Incomplete;

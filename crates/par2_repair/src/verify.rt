@@ -4,7 +4,7 @@ ghost use Rattle.par2_spec.specs.Reports.{report_in, verdict_of, IsVerdictIn, Re
 ghost use Rattle.par2_spec.specs.Planned.{FailsIn, RefusesEarly, verify_of};
 ghost use Rattle.par2_spec.specs.Refusals.{set_in};
 ghost use Rattle.par2_repair.specs.Findings.{IsRead};
-ghost use Rattle.par2_repair.specs.Views.{report_view};
+ghost use Rattle.par2_repair.specs.ReportViews.{report_view};
 
 use crate::Report;
 use crate::candidates::candidates;

@@ -1,5 +1,5 @@
 pub mod Firsts
-pub mod Steps
+pub mod SetReading
 pub mod Slices
 pub mod Codes
 pub mod Asides

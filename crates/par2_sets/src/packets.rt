@@ -4,9 +4,9 @@
 ghost use Rattle.std.specs.Prelude.{◌≡◌, ◌++◌, map, IfOk, OnOk};
 ghost use Rattle.par2_spec.specs.Answers.{Lists};
 ghost use Rattle.par2_spec.specs.Sets.{packets_with, other_par_names};
-ghost use Rattle.par2_packets.specs.Views as views;
-ghost use Rattle.par2_packets.specs.Views.{packet_view};
-ghost use Rattle.par2_sets.specs.Steps.{packets_in, set_packets};
+ghost use Rattle.par2_packets.specs.PacketViews as views;
+ghost use Rattle.par2_packets.specs.PacketViews.{packet_view};
+ghost use Rattle.par2_sets.specs.SetReading.{packets_in, set_packets};
 
 use par2_files::{Folder, Name};
 use par2_packets::{Packet, Packets};

@@ -3,8 +3,8 @@
 
 ghost use Rattle.std.specs.Prelude.{◌≡◌, ◌≤◌, length, map, IfOk, List, option_map};
 ghost use Rattle.par2_spec.specs.Sets.{main_of, description_of, pairs_of, recovery_of};
-ghost use Rattle.par2_packets.specs.Views.{packet_view};
-ghost use Rattle.par2_sets.specs.Steps.{Returns, descriptions_of, checksums_for};
+ghost use Rattle.par2_packets.specs.PacketViews.{packet_view};
+ghost use Rattle.par2_sets.specs.SetReading.{Returns, descriptions_of, checksums_for};
 ghost use Rattle.par2_sets.specs.Firsts.{HasFirsts, HoldDescriptions, HoldChecksums};
 ghost use Rattle.std.specs.BTreeMap.{IsOrdered};
 ghost use Rattle.std.specs.FinMap.{entries};

@@ -7,9 +7,9 @@ ghost use Rattle.std.specs.List.Sorted.{IsStrictlyIncreasing};
 ghost use Rattle.std.specs.FinMap.{entries};
 ghost use Rattle.par2_spec.specs.Sets as sets;
 ghost use Rattle.par2_spec.specs.Sets.{IsSound};
-ghost use Rattle.par2_packets.specs.Views.{packet_view};
+ghost use Rattle.par2_packets.specs.PacketViews.{packet_view};
 ghost use Rattle.par2_sets.specs.Slices.{set_recovery, set_exponents};
-ghost use Rattle.par2_sets.specs.Steps.{Returns, set_from_packets};
+ghost use Rattle.par2_sets.specs.SetReading.{Returns, set_from_packets};
 
 use crate::Target;
 use crate::packets::packets_of;

@@ -2,9 +2,9 @@
 //! checksums of their slices.
 
 ghost use Rattle.std.specs.Prelude.{◌≡◌, ◌≤◌, List, map, ◌==◌, nat_le, length, sum_by, IfOk, IsTrue};
-ghost use Rattle.par2_packets.specs.Views.{packet_view};
+ghost use Rattle.par2_packets.specs.PacketViews.{packet_view};
 ghost use Rattle.par2_sets.specs.Firsts.{HoldChecksums};
-ghost use Rattle.par2_sets.specs.Steps.{Returns, targets_or_fault, target_or_fault};
+ghost use Rattle.par2_sets.specs.SetReading.{Returns, targets_or_fault, target_or_fault};
 ghost use Rattle.std.specs.List.{list_all};
 ghost use Rattle.par2_spec.specs.Names.{distinct, is_name};
 ghost use Rattle.par2_spec.specs.Sets.{are_in_profile};

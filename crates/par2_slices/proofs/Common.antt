@@ -33,7 +33,7 @@ pub use Rattle.par2_slices.specs.Rows.{AreCrcs, AreCandidateRows, IsNoted, crc_i
 pub use Rattle.par2_slices.specs.Scans.{AreAnswered, IsScannedTo, IsWhole, IsWindow, answer_below, crc_of, earlier_answer, window_of}
 unfoldable pub use Rattle.par2_slices.specs.Scans.{after_candidates, first_below}
 pub use Rattle.par2_slices.specs.Searches.{AreStarts, HaveAnswers, HoldsGroup, IsIndex, IsOfOpenPair, IsPlace, IsStart, IsTally, after_window, answer_at, candidate_at, first_position, first_position_from, has_checksums, is_awaited, no_candidate, no_pair, no_place, pair_at, pair_place_at, position_in}
-unfoldable pub use Rattle.par2_slices.specs.Steps.{steps}
+unfoldable pub use Rattle.par2_slices.specs.ChecksumSteps.{steps}
 pub use Rattle.par2_slices.specs.Positions.{AreShort, IsWithin, Window, padded_window, padded_windows, buffers_of, window_in}
 pub use Rattle.par2_slices.specs.declared.batch.Candidate.{Candidate}
 pub use Rattle.par2_slices.specs.declared.batch.Position.{Position}

@@ -1,7 +1,7 @@
 -- The contents of a rolling checksum.
 use Rattle.std.specs.Prelude.{◌≡◌, ℕ, ◌*◌, ◌<◌, List, [], ◌∷◌, bit_xor, slice_index}
 use Rattle.par2_spec.specs.Checksums.{crc_byte, crc32}
-use Rattle.par2_slices.specs.Steps.{steps}
+use Rattle.par2_slices.specs.ChecksumSteps.{steps}
 
 -- the size of its windows and a checksum
 pub record Roll : Type 0 where

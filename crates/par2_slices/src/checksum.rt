@@ -6,7 +6,7 @@ ghost use Rattle.std.specs.Prelude.{◌≡◌, ◌≤◌, ◌+◌, ◌*◌, ◌<
 ghost use Rattle.std.specs.List.{concat};
 ghost use Rattle.par2_spec.specs.Checksums as spec;
 ghost use Rattle.par2_spec.specs.Slices.{padded};
-ghost use Rattle.par2_slices.specs.Steps.{steps};
+ghost use Rattle.par2_slices.specs.ChecksumSteps.{steps};
 
 use crate::tables::TABLES;
 

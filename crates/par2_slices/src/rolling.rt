@@ -5,7 +5,7 @@ ghost use Rattle.std.specs.Prelude.{◌≡◌, ◌≤◌, ◌<◌, ◌+◌, ◌*
 ghost use Rattle.par2_spec.specs.Checksums as spec;
 ghost use Rattle.par2_spec.specs.Slices.{padded};
 ghost use Rattle.par2_slices.specs.Rolls.{after_slide, leaving};
-ghost use Rattle.par2_slices.specs.Steps.{steps};
+ghost use Rattle.par2_slices.specs.ChecksumSteps.{steps};
 
 use crate::checksum::{after_byte, crc32, multiply, padded_crc32, power_of_x};
 use par2_spec::Result;

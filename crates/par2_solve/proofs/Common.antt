@@ -27,7 +27,7 @@ pub use Rattle.par2_solve.specs.Rebuilding.{AreRebuilt, CanRebuild, known_among}
 pub use Rattle.par2_solve.specs.RunInverses.{AreScaledQuotients, BeginsWithRun, IsScaledQuotient}
 pub use Rattle.par2_solve.specs.Survivors.{IsTrueFault, bytes_or_none, exponents_of, known_alone, known_of, lost_from, recovered_of, with_lost_slices}
 pub use Rattle.par2_solve.specs.Syndromes.{AreExtended, AreProducts, AreRun, AreSolved, all_coefficients, syndrome, chunk}
-pub use Rattle.par2_solve.specs.Views.{AreBlank, buffers_of}
+pub use Rattle.par2_solve.specs.BufferContents.{AreBlank, buffers_of}
 pub use Rattle.par2_spec.proofs.FieldConstants.{constant-injective, constant-lt, constant-nonzero}
 pub use Rattle.par2_spec.proofs.FieldOrder.{no_zero_divisor, power-lt, product-zero, zero-product}
 pub use Rattle.par2_spec.proofs.FieldProducts.{product-lt, product-one, product_assoc, product_comm, product_linear_left, product_linear_right}

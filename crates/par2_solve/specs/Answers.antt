@@ -11,7 +11,7 @@ use Rattle.par2_transform.specs.declared.outputs.Places.{Places}
 use Rattle.par2_solve.specs.Rebuilding.{AreRebuilt, known_among}
 use Rattle.par2_solve.specs.Solvers.{Inverts}
 use Rattle.par2_solve.specs.Survivors.{exponents_of, recovered_of, with_lost_slices, IsTrueFault}
-use Rattle.par2_solve.specs.Views.{buffers_of}
+use Rattle.par2_solve.specs.BufferContents.{buffers_of}
 use Rattle.par2_solve.specs.declared.inverse.Inversion.{Inversion}
 use Rattle.par2_solve.specs.declared.rebuild_slices.RebuildFault.{RebuildFault}
 use Rattle.par2_solve.specs.declared.rebuild_slices.Survivors.{Survivors}

@@ -1,4 +1,4 @@
-pub mod Views
+pub mod BufferContents
 pub mod Products
 pub mod Elements
 pub mod Survivors
@@ -10,6 +10,6 @@ pub mod Located
 pub mod Filling
 pub mod Solvers
 pub mod Holes
-pub mod Writing
+pub mod WrittenSlices
 pub mod Answers
 pub mod Spans

@@ -3,7 +3,7 @@
 use Rattle.std.specs.Prelude.{ℕ, ◌+◌, ◌*◌, ◌^◌, ◌<◌, ◌≤◌, ◌≡◌, bit_xor, List, length, slice_index}
 use Rattle.par2_spec.specs.Field.{mul}
 use Rattle.par2_spec.specs.Slices.{word}
-use Rattle.par2_gf16.specs.Steps.{AddsWithin}
+use Rattle.par2_gf16.specs.WordLoops.{AddsWithin}
 use Rattle.par2_spec.specs.Sums.{field_sum, list_at}
 pub use Rattle.par2_transform.specs.Columns.{AreByteLists}
 

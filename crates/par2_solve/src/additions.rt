@@ -12,7 +12,7 @@ ghost use Rattle.par2_transform.specs.Columns.{recovered};
 ghost use Rattle.par2_solve.specs.Answers.{AddsRecovery, HaveAll, HaveAtLeast, LieIn};
 ghost use Rattle.par2_solve.specs.Products.{products};
 ghost use Rattle.par2_solve.specs.Syndromes.{all_coefficients, AreRun, IsLongRun};
-ghost use Rattle.par2_solve.specs.Views.{buffers_of};
+ghost use Rattle.par2_solve.specs.BufferContents.{buffers_of};
 
 use crate::exponents::coefficients;
 use crate::products::{BLOCK, buffer_at, fit_lists, products_of, source_at};

@@ -13,7 +13,7 @@ ghost use Rattle.par2_solve.specs.Filling.{AreOrigins, IsFilled, IsOriginAt, Has
 ghost use Rattle.par2_solve.specs.Holes.{holes, shifted_rows};
 ghost use Rattle.par2_solve.specs.Solvers.{InvertsFirst};
 ghost use Rattle.par2_solve.specs.Syndromes.{AreProducts};
-ghost use Rattle.par2_solve.specs.Views.{buffers_of};
+ghost use Rattle.par2_solve.specs.BufferContents.{buffers_of};
 
 use crate::holes::{count_equations, front, hole_inverse, holes, locator, places_of, shifted};
 use crate::products::{buffer_at, buffers_fit, products_of, source_at};

@@ -9,7 +9,7 @@ ghost use Rattle.par2_spec.specs.Rank.{IsRepairable};
 ghost use Rattle.par2_spec.specs.Recovery.{coefficients};
 ghost use Rattle.par2_spec.specs.Sums.{lists_of, list_at};
 ghost use Rattle.par2_solve.specs.Answers.{HasInverse, KeepsThose};
-ghost use Rattle.par2_solve.specs.Views.{buffers_of};
+ghost use Rattle.par2_solve.specs.BufferContents.{buffers_of};
 ghost use Rattle.par2_solve.specs.Survivors.{recovered_of, exponents_of, IsTrueFault};
 ghost use Rattle.par2_solve.specs.Inverses.{CutByUnit, IsEliminated};
 ghost use Rattle.par2_matrix.specs.Echelon.{HoldsRow};

@@ -1,15 +1,15 @@
 //! The product of a matrix of factors and a list of buffers (sources): each target gets the sum of the sources, each
-//! times its factor in the target's row. `products_of` makes targets of zeros. `add_products` passes over blocks of
-//! columns, `add_columns` over the sources and `add_source` over the targets.
+//! times its factor in the target's row. `products_of` makes targets of zeros. `add_matrix_product` passes over blocks
+//! of columns, `add_columns` over the sources and `add_source` over the targets.
 
 ghost use Rattle.std.specs.Prelude.{◌≡◌, ℕ, ◌+◌, ◌*◌, ◌%◌, ◌^◌, ◌<◌, ◌≤◌, length, map, slice_index, IfOk};
-ghost use Rattle.par2_gf16.specs.Steps.{AddsWithin};
+ghost use Rattle.par2_gf16.specs.WordLoops.{AddsWithin};
 ghost use Rattle.par2_spec.specs.Sums.{OneChanged, list_at, lists_of};
 ghost use Rattle.par2_solve.specs.Answers.{HaveAtLeast, HaveItem};
 ghost use Rattle.par2_solve.specs.Products.{AddsSource, Adds, AreByteLists};
 ghost use Rattle.par2_solve.specs.Survivors.{bytes_or_none, recovered_of};
 ghost use Rattle.par2_solve.specs.Syndromes.{AreProducts};
-ghost use Rattle.par2_solve.specs.Views.{buffers_of};
+ghost use Rattle.par2_solve.specs.BufferContents.{buffers_of};
 
 use crate::recovery::blank;
 use par2_gf16::{Columns, Factor, Gf};
@@ -130,7 +130,7 @@ fn add_columns(
 
 /// Adds to each of the first `words` words of each target the sum of the sources' words there, each times its factor in
 /// the target's row. All sources are read once, some columns of all of them at a time.
-pub(crate) fn add_products(
+pub(crate) fn add_matrix_product(
     alloc: Global,
     gf: &Gf,
     factors: &[Vec<u16>],
@@ -167,7 +167,7 @@ pub(crate) fn products_of(
         (lists_of sums.items)) }
 {
     let mut sums = blank(alloc, factors.len(), size)?;
-    add_products(alloc, gf, factors, sources, sums.as_mut_slice(), size / 2)?;
+    add_matrix_product(alloc, gf, factors, sources, sums.as_mut_slice(), size / 2)?;
     Ok(sums)
 }
 

@@ -4,7 +4,7 @@
 ghost use Rattle.std.specs.Prelude.{◌≡◌, ◌≤◌, length, map, IfOk, IfErr, IsOk};
 ghost use Rattle.par2_spec.specs.Search.{lost};
 ghost use Rattle.par2_solve.specs.Answers.{lost_among, HasInverse, IsFaultOf, KeepsThose, Rebuild};
-ghost use Rattle.par2_solve.specs.Views.{buffers_of};
+ghost use Rattle.par2_solve.specs.BufferContents.{buffers_of};
 ghost use Rattle.par2_solve.specs.Survivors.{exponents_of, lost_from, bytes_or_none};
 ghost use Rattle.par2_solve.specs.Rebuilding.{AnotherAlwaysAgrees, AreEnough, CanRebuild, IsNotRepairable, TwoAlwaysAgree};
 

@@ -4,8 +4,8 @@
 ghost use Rattle.std.specs.Prelude.{◌≡◌, ◌≤◌, length, IfOk};
 ghost use Rattle.par2_spec.specs.Sums.{lists_of};
 ghost use Rattle.par2_solve.specs.Answers.{LieIn};
-ghost use Rattle.par2_solve.specs.Views.{buffers_of, AreBlank};
-ghost use Rattle.par2_solve.specs.Writing.{AreWritten, AreZeros};
+ghost use Rattle.par2_solve.specs.BufferContents.{buffers_of, AreBlank};
+ghost use Rattle.par2_solve.specs.WrittenSlices.{AreWritten, AreZeros};
 
 use crate::additions::add_recovery;
 use crate::products::{buffers_fit, fit_lists};

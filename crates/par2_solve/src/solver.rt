@@ -6,7 +6,7 @@ ghost use Rattle.par2_spec.specs.Sums.{lists_of};
 ghost use Rattle.par2_solve.specs.Located.{located_rows};
 ghost use Rattle.par2_solve.specs.Solvers.{TakesSources, rows_of};
 ghost use Rattle.par2_solve.specs.Syndromes.{AreProducts};
-ghost use Rattle.par2_solve.specs.Views.{buffers_of};
+ghost use Rattle.par2_solve.specs.BufferContents.{buffers_of};
 
 use crate::filling::Filling;
 use crate::products::products_of;
@@ -45,7 +45,7 @@ pub(crate) fn located_products(
         (buffers_of sources.now) (lists_of sums.items)) }
 {
     let mut sums = blank(alloc, locator.points.len(), size)?;
-    locator.add_products(alloc, sources, size / 2, sums.as_mut_slice(), room)?;
+    locator.add_quotient_sums(alloc, sources, size / 2, sums.as_mut_slice(), room)?;
     Ok(sums)
 }
 

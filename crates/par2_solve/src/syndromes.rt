@@ -9,7 +9,7 @@ ghost use Rattle.par2_solve.specs.Answers.{AreOfSize, HaveColumns};
 ghost use Rattle.par2_solve.specs.Products.{AreByteLists};
 ghost use Rattle.par2_solve.specs.Solvers.{TakesSources, rows_of};
 ghost use Rattle.par2_solve.specs.Syndromes.{chunk, AreSolved, AreExtended};
-ghost use Rattle.par2_solve.specs.Views.{buffers_of, AreBlank};
+ghost use Rattle.par2_solve.specs.BufferContents.{buffers_of, AreBlank};
 
 use crate::additions::with_recovery_slices;
 use crate::products::{buffer_at, buffers_fit};

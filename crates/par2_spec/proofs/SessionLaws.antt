@@ -1,6 +1,6 @@
 -- A session follows its history, and a session in memory keeps its capacity.
 use Rattle.par2_spec.proofs.Common.{◌≡◌, ℕ, zero, suc, ◌+◌, ◌-◌, ◌≤◌, List, [], ◌∷◌, refl, sym, ap, ◌∙◌, true, arith, drop, length, Option, None, Result, Ok, Err, replicate, sum_by, is_ok, AllByRecursion, and_parts, and_from, false≢true, sum_by-cons, drop-nil, Fault, Folder, Change, Write, Replace, Rename, Remove, state_after, effects, are_applicable, way_back, FolderState, takes_all, places_taken, state_after_all, Command, Action, Do, Undo, Redo, refusal, changes_of, LeadsToAfter, LeadsToAfterRequested, Session, first_entry, changes_unless, others, session_unless, KeptSession, session_of_kept, CanWalk, OnlyGrew, folders_along, history_of, changes_requested, session_with, session_after, walks, kept_done, kept_undone, kept_redone, is_valid, leads}
-use Rattle.par2_spec.specs.History.{History, Refusal, NothingToUndo, NothingToRedo, after_command, unless_refused, after_undo, after_redo, Run, Ended, Accepted, Passed, folders, IsChanging}
+use Rattle.par2_spec.specs.History.{History, Refusal, NothingToUndo, NothingToRedo, after_command, unless_refused, after_undo, after_redo, Execution, Ended, Accepted, Passed, folders, IsChanging}
 use Rattle.par2_spec.specs.History.{history_after}
 use Rattle.par2_spec.proofs.FolderLaws.{undo_changes, undo_are_applicable, state_files, taken_are_applicable, state_all_back, way_back_taken, changes_back, with_room, more_room_all, takes_applicable}
 
@@ -68,7 +68,7 @@ drop_one_more (suc n) (x ∷ xs) y ys e = drop_one_more n xs y ys e
 drop_one_more n xs y ys e = grind arith
 
 -- n accepted commands leave the n folders before them
-pub run_leaves : (start end : History) (actions : List Action) (n : ℕ) → Run start actions n end → AllByRecursion IsChanging actions → drop n (folders end) ≡ folders start
+pub run_leaves : (start end : History) (actions : List Action) (n : ℕ) → Execution start actions n end → AllByRecursion IsChanging actions → drop n (folders end) ≡ folders start
 run_leaves start end actions n Ended is = refl
 run_leaves start end actions n (Accepted {next = next} {action = action} {actions = rest} {n = m} e run) is = grind (arith, drop_one_more, changed_older, run_leaves next end rest m run is.1)
 run_leaves start end actions n (Passed {actions = rest} may run) is = run_leaves start end rest n run is.1
@@ -77,7 +77,7 @@ pub none_dropped : {A : Type 0} (n : ℕ) (y : A) (ys : List A) → drop n [] �
 none_dropped n y ys e = let k : 0 ≡ suc (length ys) = ap length (sym (drop-nil n) ∙ e) in omega (arith, k)
 
 abbrev Undone : ℕ → History → Folder → List Folder → Type 0
-Undone n h folder older = (back : History) × Run h (replicate n Undo) n back × (folders back ≡ folder ∷ older)
+Undone n h folder older = (back : History) × Execution h (replicate n Undo) n back × (folders back ≡ folder ∷ older)
 
 one_undone : (n : ℕ) (h : History) (folder : Folder) (older : List Folder) (fs : List Folder) → h.older ≡ fs → drop n fs ≡ folder ∷ older
     → ((next : History) → drop n (folders next) ≡ folder ∷ older → Undone n next folder older) → Undone (suc n) h folder older
@@ -94,7 +94,7 @@ undos_pass zero h folder older e = (h, Ended, e)
 undos_pass (suc n) h folder older e = one_undone n h folder older h.older refl e (λ next k. undos_pass n next folder older k)
 
 -- n undos after n accepted commands lead back
-pub undos_lead_back : (start end : History) (actions : List Action) (n : ℕ) → Run start actions n end → AllByRecursion IsChanging actions → (back : History) × Run end (replicate n Undo) n back × (folders back ≡ folders start)
+pub undos_lead_back : (start end : History) (actions : List Action) (n : ℕ) → Execution start actions n end → AllByRecursion IsChanging actions → (back : History) × Execution end (replicate n Undo) n back × (folders back ≡ folders start)
 undos_lead_back start end actions n run is = undos_pass n end start.now start.older (run_leaves start end actions n run is)
 
 -- ---- sessions in memory

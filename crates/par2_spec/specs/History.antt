@@ -56,11 +56,11 @@ MayBeRefused h (Do command) = Unit {0}
 MayBeRefused h Undo = IsErr (history_after h Undo)
 MayBeRefused h Redo = IsErr (history_after h Redo)
 
--- a run of actions from one history to another. Each is accepted, or refused if it may be; n are accepted
-pub data Run : History → List Action → ℕ → History → Type 0 where
-  Ended : {h : History} → Run h [] 0 h
-  Accepted : {h next end : History} {action : Action} {actions : List Action} {n : ℕ} → history_after h action ≡ Ok next → Run next actions n end → Run h (action ∷ actions) (suc n) end
-  Passed : {h end : History} {action : Action} {actions : List Action} {n : ℕ} → MayBeRefused h action → Run h actions n end → Run h (action ∷ actions) n end
+-- the actions lead from one history to another. Each is accepted, or refused if it may be; n are accepted
+pub data Execution : History → List Action → ℕ → History → Type 0 where
+  Ended : {h : History} → Execution h [] 0 h
+  Accepted : {h next end : History} {action : Action} {actions : List Action} {n : ℕ} → history_after h action ≡ Ok next → Execution next actions n end → Execution h (action ∷ actions) (suc n) end
+  Passed : {h end : History} {action : Action} {actions : List Action} {n : ℕ} → MayBeRefused h action → Execution h actions n end → Execution h (action ∷ actions) n end
 
 -- the current folder and the older ones, newest first
 abbrev pub folders : History → List Folder

@@ -6,7 +6,7 @@ ghost use Rattle.std.specs.List.{AllByRecursion};
 ghost use Rattle.par2_spec.specs.Folders.{Folder};
 ghost use Rattle.par2_spec.specs.Changes.{Change, FolderState, takes_all, way_back, places_taken};
 ghost use Rattle.par2_spec.specs.Commands.{Command, Action, Do, Undo, Redo};
-ghost use Rattle.par2_spec.specs.History.{History, Refusal, history_after, Run, folders, IsChanging};
+ghost use Rattle.par2_spec.specs.History.{History, Refusal, history_after, Execution, folders, IsChanging};
 ghost use Rattle.par2_spec.specs.Refusals.{early_refusal, refusal};
 ghost use Rattle.par2_spec.specs.declared.Fault.{Fault};
 ghost use Rattle.par2_spec.specs.Sessions.{Session, history_of, session_with, session_after, KeptSession, session_of_kept, walks, CanWalk, OnlyGrew, kept_done, kept_undone, kept_redone};
@@ -44,11 +44,11 @@ pub fn session_is_a_history()
 /// undos lead back to the folders before the run. `undone_runs_lead_back` of `par2_tool` needs it.
 pub fn undos_lead_back()
     ensures folders { (start end : History) (actions : List Action) (n : ℕ)
-        → Run start actions n end
+        → Execution start actions n end
         → AllByRecursion IsChanging actions → drop n (folders end) ≡ folders start }
     ensures undos { (start end : History) (actions : List Action) (n : ℕ)
-        → Run start actions n end → AllByRecursion IsChanging actions
-        → (back : History) × Run end (replicate n Undo) n back × (folders back ≡ folders start) }
+        → Execution start actions n end → AllByRecursion IsChanging actions
+        → (back : History) × Execution end (replicate n Undo) n back × (folders back ≡ folders start) }
 {}
 
 /// A `KeptSession`, a session with its vacant places and its room for entries, follows the session without these: each

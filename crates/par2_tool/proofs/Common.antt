@@ -8,17 +8,17 @@ pub use Rattle.std.proofs.lemmas.Result.{err_from_is_err_and, on_err_weaker, on_
 pub use Rattle.std.specs.List.{AllByRecursion}
 pub use Rattle.std.specs.Prelude.{IfErr, IfOk, IsErr, OnErr, OnOk, codes, flat_map, is_some, option_map, string_bytes}
 pub use Rattle.std.specs.declared.alloc.Global.{Global}
-pub use Rattle.par2_files.specs.Views.{change_of}
+pub use Rattle.par2_files.specs.ChangeViews.{change_of}
 pub use Rattle.par2_journal.specs.Opening.{opened_of, session_before, way_left}
 pub use Rattle.par2_journal.specs.Ready.{CanBe, Changing, IsReady, Kind, Ready, Redoing, Undoing, after_commit, changes_by_kind, next_of}
-pub use Rattle.par2_journal.specs.Refusals.{MayRefuse}
+pub use Rattle.par2_journal.specs.SessionRefusals.{MayRefuse}
 pub use Rattle.par2_journal.specs.Spelling.{AreSpelled, SpellsWhere}
-pub use Rattle.par2_journal.specs.Steps.{step_view}
+pub use Rattle.par2_journal.specs.StepViews.{step_view}
 pub use Rattle.par2_journal.specs.declared.preparation.SessionFault.TheVariants.{NothingToRedo, NothingToUndo, Plan}
 pub use Rattle.par2_journal.specs.declared.spelling.Journals.{Journals}
 pub use Rattle.par2_laws.specs.Creates.{may_refuse}
-pub use Rattle.par2_repair.specs.Views.{report_view, target_report_of}
-pub use Rattle.par2_output.specs.Writing.{PrinterTookAll, PrinterWrote, seen}
+pub use Rattle.par2_repair.specs.ReportViews.{report_view, target_report_of}
+pub use Rattle.par2_output.specs.PrinterStates.{PrinterTookAll, PrinterWrote, seen}
 pub use Rattle.par2_spec.proofs.SessionLaws.{accepted_next, done_can_walk, grown_can_walk, ok_no_err, redone_can_walk, refused_alike, same_ok, same_session, undone_can_walk, walked_is_valid}
 pub use Rattle.par2_spec.proofs.StopLaws.{halfway_stored, settled_stored, still_stored, taken_back_leads}
 pub use Rattle.par2_spec.proofs.TestLaws.{by_either}
@@ -27,7 +27,7 @@ pub use Rattle.par2_spec.specs.Changes.{Change, are_applicable, takes_all}
 unfoldable pub use Rattle.par2_spec.specs.Changes.{effects}
 pub use Rattle.par2_spec.specs.Commands.{Action, Command, Do, Repair, Undo, Verify}
 pub use Rattle.par2_spec.specs.Folders.{Folder}
-pub use Rattle.par2_spec.specs.History.{Accepted, Ended, History, IsChanging, Passed, Refusal, Run, folders}
+pub use Rattle.par2_spec.specs.History.{Accepted, Ended, History, IsChanging, Passed, Refusal, Execution, folders}
 unfoldable pub use Rattle.par2_spec.specs.History.{history_after}
 pub use Rattle.par2_spec.specs.Journals.{Journal, Spells}
 pub use Rattle.par2_spec.specs.Opening.{Halfway, Opened, Settled, Started, FingerprintsDiffer, halfway_where, is_valid, new_session, opened, settled_journal, started}
@@ -54,11 +54,11 @@ pub use Rattle.par2_tool.specs.Calls.{AreAtMost, AreCallsToOpen, AreCallsToRun, 
 pub use Rattle.par2_tool.specs.StoreContents.{HasJournalOf, Holds, IsOpening, IsSettled, OpensAsBefore, OpensAsBeforeOrAfter, FingerprintsDifferAlong, FingerprintsDifferBack, FingerprintsDifferInRun, with_history}
 pub use Rattle.par2_tool.specs.Opening.{IsCounted, IsOpened, WasRead, IsStillHalfway, IsTakenBack, IsUnopened, LeavesUnopened, OnlyTakesBack, StandsFor, StartsWithout, TakesBack, started_of}
 pub use Rattle.par2_tool.specs.Performing.{AreSomeMade, HoldsJournaled, IsAnswer, IsReport, IsStoppedAt, IsVerify, IsWritten, after_write_down, outcome_of, with_all_changes, with_halfway_journal}
-pub use Rattle.par2_tool.specs.Refusals.{IsRefused, IsSession, failure_for, unopened_as}
+pub use Rattle.par2_tool.specs.ReportedFailures.{IsRefused, IsSession, failure_for, unopened_as}
 pub use Rattle.par2_tool.specs.Repairs.{AskForRepair}
-pub use Rattle.par2_tool.specs.Runs.{Effective, HasNoEffect, Runs, TakesEffect}
+pub use Rattle.par2_tool.specs.ProgramRuns.{Effective, HasNoEffect, Runs, TakesEffect}
 pub use Rattle.par2_tool.specs.StoreOpenings.{KeepsStore, Stands, IsVerifyCommand}
 pub use Rattle.par2_tool.specs.RunResult.{Answered, Failed, IsAtTheEnd, IsBack, IsCause, IsDone, IsFailed, IsPrinted, IsRefusedFor, IsShown, IsStopped, IsUnread, Leaves, MakesCalls, OpensAsBeforeOrAfterRun, SameOutput, RunResult}
-pub use Rattle.par2_tool.specs.Writing.{AreSomeWritten, ContentsAreDurable}
+pub use Rattle.par2_tool.specs.StoreWrites.{AreSomeWritten, ContentsAreDurable}
 pub use Rattle.par2_tool.specs.declared.opening.OpenFault.{OpenFault}
 pub use Rattle.par2_tool.specs.declared.performing.PerformFault.{PerformFault}

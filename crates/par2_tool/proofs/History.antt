@@ -1,8 +1,8 @@
 -- Runs on one store keep one history.
-use Rattle.par2_tool.proofs.Common.{◌≡◌, inl, inr, List, [], ◌∷◌, ◌++◌, Option, Some, None, Result, Ok, Err, Bool, true, false, refl, sym, ap, subst, ◌∙◌, ℕ, length, arith, Action, Do, Verify, Folder, Opened, Settled, Halfway, Started, opened, new_session, is_valid, started, OpensAs, Opens, leads, Session, history_of, session_unless, session_after, changes_requested, LeadsToAfterRequested, Contents, JournalFault, Journal, Spells, accepted_next, refused_alike, same_ok, ok_no_err, taken_back_leads, IsOpened, IsWritten, IsOpening, IsSettled, Holds, with_history, IsRefusedFor, Refusal, Run, history_after, HasNoEffect, Runs, Effective, TakesEffect}
+use Rattle.par2_tool.proofs.Common.{◌≡◌, inl, inr, List, [], ◌∷◌, ◌++◌, Option, Some, None, Result, Ok, Err, Bool, true, false, refl, sym, ap, subst, ◌∙◌, ℕ, length, arith, Action, Do, Verify, Folder, Opened, Settled, Halfway, Started, opened, new_session, is_valid, started, OpensAs, Opens, leads, Session, history_of, session_unless, session_after, changes_requested, LeadsToAfterRequested, Contents, JournalFault, Journal, Spells, accepted_next, refused_alike, same_ok, ok_no_err, taken_back_leads, IsOpened, IsWritten, IsOpening, IsSettled, Holds, with_history, IsRefusedFor, Refusal, Execution, history_after, HasNoEffect, Runs, Effective, TakesEffect}
 use Rattle.par2_spec.specs.declared.JournalFault.TheVariants.{FolderChanged}
 use Rattle.par2_spec.specs.History as history
-use Rattle.par2_tool.specs.Runs.{Ended, Passed}
+use Rattle.par2_tool.specs.ProgramRuns.{Ended, Passed}
 use Rattle.par2_tool.proofs.Openings.{settled_on, halfway_by}
 
 -- ---- a store opens in one way
@@ -108,7 +108,7 @@ refused_so one old new started action reason opens refused =
 -- ---- all of them
 
 pub runs_go : OneStart → (old new : Contents) (started : Started) (requested done : List Action) → IsOpening old (Ok started) → Runs old requested done new
-    → (end : Started) × Run (history_of started.session) done (length done) (history_of end.session) × IsOpening new (Ok end)
+    → (end : Started) × Execution (history_of started.session) done (length done) (history_of end.session) × IsOpening new (Ok end)
 runs_go one old new started _ _ opens Ended = (started, history.Ended, opens)
 runs_go one old new started _ _ opens (Effective {action = action} {requested = requested} {done = done} effect rest) =
     let next = effective one old started opens action _ effect in
@@ -117,7 +117,7 @@ runs_go one old new started _ _ opens (Effective {action = action} {requested = 
 runs_go one old new started _ done opens (Passed {requested = requested} none rest) =
     let next = passed one old started opens _ none in
     let later = runs_go one _ new next.0 requested done next.2 rest in
-    (later.0, subst (λ s. Run (history_of s) done (length done) (history_of later.0.session)) next.1 later.1, later.2)
+    (later.0, subst (λ s. Execution (history_of s) done (length done) (history_of later.0.session)) next.1 later.1, later.2)
 
 -- one more run takes effect
 pub run_more : {k mid end : Contents} {requested done : List Action} (action : Action) → Runs k requested done mid → TakesEffect action mid end → Runs k (requested ++ action ∷ []) (done ++ action ∷ []) end

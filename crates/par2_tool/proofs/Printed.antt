@@ -3,7 +3,7 @@ use Rattle.par2_tool.proofs.Common.{◌≡◌, ◌⊎◌, ◌<◌, ◌∙◌, �
 use Rattle.std.proofs.lemmas.List.{append-nil}
 use Rattle.std.specs.Io.KnownBytes.{Appends}
 use Rattle.std.proofs.KnownBytes.{Appends-trans}
-use Rattle.par2_output.specs.Writing.{IsFlushed, failures_of, writer_of}
+use Rattle.par2_output.specs.PrinterStates.{IsFlushed, failures_of, writer_of}
 use Rattle.par2_output.specs.declared.printer.Printer.{Printer}
 
 pub printed : {W : Type 0} (held : W → Option (List ℕ)) (a b c : Printer W) (bytes : List ℕ) (own status : ℕ)

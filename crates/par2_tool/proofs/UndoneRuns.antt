@@ -1,20 +1,20 @@
 -- As many undos as there were effective commands lead back.
-use Rattle.par2_tool.proofs.Common.{◌≡◌, ℕ, zero, suc, ◌≤◌, List, [], ◌∷◌, ◌++◌, length, Ok, refl, sym, ap, subst, ◌∙◌, arith, drop, replicate, Action, Undo, Folder, Started, Contents, IsOpening, IsSettled, history_of, AllByRecursion, Runs, TakesEffect, Effective, length-replicate, History, Run, Ended, Accepted, Passed, IsChanging, folders, history_after}
+use Rattle.par2_tool.proofs.Common.{◌≡◌, ℕ, zero, suc, ◌≤◌, List, [], ◌∷◌, ◌++◌, length, Ok, refl, sym, ap, subst, ◌∙◌, arith, drop, replicate, Action, Undo, Folder, Started, Contents, IsOpening, IsSettled, history_of, AllByRecursion, Runs, TakesEffect, Effective, length-replicate, History, Execution, Ended, Accepted, Passed, IsChanging, folders, history_after}
 use Rattle.par2_laws.proofs.UndoneFolders.{one_fewer}
 use Rattle.std.proofs.lemmas.List.{replicate_more}
-use Rattle.par2_tool.specs.Runs.{IsOneUndoFrom}
-use Rattle.par2_tool.specs.Runs as runs
+use Rattle.par2_tool.specs.ProgramRuns.{IsOneUndoFrom}
+use Rattle.par2_tool.specs.ProgramRuns as runs
 use Rattle.par2_tool.proofs.History.{run_more}
 use Rattle.par2_tool.proofs.RunEffects.{OneWay}
 
 -- at most all of the actions are accepted
-at_most : {h end : History} {actions : List Action} {n : ℕ} → Run h actions n end → n ≤ length actions
+at_most : {h end : History} {actions : List Action} {n : ℕ} → Execution h actions n end → n ≤ length actions
 at_most Ended = omega arith
 at_most (Accepted step run) = let fewer = at_most run in omega (arith, fewer)
 at_most (Passed may run) = let fewer = at_most run in omega (arith, fewer)
 
 -- n undos, each accepted, leave n folders fewer
-undos_drop : (n : ℕ) (h end : History) → Run h (replicate n Undo) n end → drop n (folders h) ≡ folders end
+undos_drop : (n : ℕ) (h end : History) → Execution h (replicate n Undo) n end → drop n (folders h) ≡ folders end
 unfolding history_after
 undos_drop zero h end Ended = refl
 undos_drop (suc n) h end (Accepted {next = next} step run) =
@@ -27,11 +27,11 @@ undos_drop (suc n) h end (Passed may run) =
 -- the law that runs keep one history
 abbrev pub KeepHistory : Type 0
 KeepHistory = (old new : Contents) (started : Started) (requested done : List Action) → IsOpening old (Ok started) → Runs old requested done new
-    → (end : Started) × Run (history_of started.session) done (length done) (history_of end.session) × IsOpening new (Ok end)
+    → (end : Started) × Execution (history_of started.session) done (length done) (history_of end.session) × IsOpening new (Ok end)
 
 -- the law that the folders without the first n are those before n accepted commands
 abbrev pub LeavesOlder : Type 0
-LeavesOlder = (start end : History) (actions : List Action) (n : ℕ) → Run start actions n end → AllByRecursion IsChanging actions → drop n (folders end) ≡ folders start
+LeavesOlder = (start end : History) (actions : List Action) (n : ℕ) → Execution start actions n end → AllByRecursion IsChanging actions → drop n (folders end) ≡ folders start
 
 -- the law that as many undos as commands lead back
 abbrev pub LeadBack : Type 0
@@ -56,7 +56,7 @@ module _ (keep : KeepHistory) where
   lead_back older old mid new started requested done more opens commands changing undos =
       let middle = keep old mid started requested done opens commands in
       let end = keep mid new middle.0 more (replicate (length done) Undo) middle.2 undos in
-      let undone = subst (λ n. Run (history_of middle.0.session) (replicate (length done) Undo) n (history_of end.0.session)) (length-replicate (length done) Undo) end.1 in
+      let undone = subst (λ n. Execution (history_of middle.0.session) (replicate (length done) Undo) n (history_of end.0.session)) (length-replicate (length done) Undo) end.1 in
       (end.0, end.2, sym (undos_drop (length done) (history_of middle.0.session) (history_of end.0.session) undone) ∙ older (history_of started.session) (history_of middle.0.session) done (length done) middle.1 changing)
 
   -- if no command is halfway, the files are those of the session
@@ -65,7 +65,7 @@ module _ (keep : KeepHistory) where
   leave_files one older old mid new requested done more before commands changing undos after = unfold history_of in grind (arith, lead_back, same_first)
 
   -- an undo that takes effect leaves the first of the older folders
-  older_of : (h next : History) → Run h (Undo ∷ []) 1 next → (rest : List Folder) × (h.older ≡ next.now ∷ rest)
+  older_of : (h next : History) → Execution h (Undo ∷ []) 1 next → (rest : List Folder) × (h.older ≡ next.now ∷ rest)
   older_of h next k = unfold history_after in grind arith
 
   pub leaves_older : OneWay → (old new : Contents) (started : Started) → IsOpening old (Ok started) → TakesEffect Undo old new → IsSettled new

@@ -2,7 +2,7 @@
 use Rattle.par2_tool.proofs.Common.{◌≡◌, Bool, List, true, false, arith, is_some, IsUnread}
 use Rattle.clap.specs.Words.{Text, takes, subcommand_of}
 use Rattle.par2_arguments.specs.Definition.{par2_app}
-use Rattle.par2_arguments.specs.Refusals.{unread_as}
+use Rattle.par2_arguments.specs.ReadWords.{unread_as}
 use Rattle.par2_arguments.specs.declared.read.WordsFault.{WordsFault}
 use Rattle.par2_arguments.specs.declared.read.WordsFault.TheVariants.{Arguments, Memory}
 

@@ -3,10 +3,10 @@ pub mod Answering
 pub mod StoreContents
 pub mod Opening
 pub mod Calls
-pub mod Writing
+pub mod StoreWrites
 pub mod StoreOpenings
-pub mod Refusals
+pub mod ReportedFailures
 pub mod CommandLines
 pub mod RunResult
-pub mod Runs
+pub mod ProgramRuns
 pub mod Repairs

@@ -8,7 +8,7 @@ use Rattle.par2_spec.specs.Reports.{Report, report_in}
 use Rattle.par2_spec.specs.Sessions.{Session, changes_requested}
 use Rattle.par2_spec.specs.Stores.{Contents, with_change, with_journal}
 use Rattle.par2_spec.specs.Output.{Outcome, Reported, Done, step_of}
-use Rattle.par2_repair.specs.Views.{report_view}
+use Rattle.par2_repair.specs.ReportViews.{report_view}
 use Rattle.par2_journal.specs.declared.spelling.Journals.{Journals}
 use Rattle.par2_tool.specs.StoreContents.{Holds, HasJournalOf, with_history}
 use Rattle.par2_tool.specs.declared.performing.Outcome as performing

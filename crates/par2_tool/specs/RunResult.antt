@@ -13,8 +13,8 @@ use Rattle.par2_spec.specs.declared.Failure.TheVariants as failure
 use Rattle.par2_spec.specs.declared.Fault.TheVariants as fault
 use Rattle.par2_spec.specs.declared.JournalFault.TheVariants as journal
 use Rattle.par2_disk.specs.declared.view.Store.{Ghosts as StoreOf}
-use Rattle.par2_output.specs.Views.{words_requested}
-use Rattle.par2_output.specs.Writing.{IsFlushed, PrinterTookAll, TookInVain, PrinterTookPart}
+use Rattle.par2_output.specs.PrintedValues.{words_requested}
+use Rattle.par2_output.specs.PrinterStates.{IsFlushed, PrinterTookAll, TookInVain, PrinterTookPart}
 use Rattle.par2_output.specs.declared.printer.Printer.{Printer}
 use Rattle.par2_tool.specs.CommandLines.{AskFor, IsCommandLine}
 use Rattle.par2_tool.specs.Calls.{CountsFailedRun, CountsRun}

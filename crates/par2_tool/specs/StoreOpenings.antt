@@ -14,7 +14,7 @@ use Rattle.par2_tool.specs.Calls.{CountsOpening}
 use Rattle.par2_tool.specs.StoreContents.{OpensAsBefore, FingerprintsDifferBack}
 use Rattle.par2_tool.specs.Opening.{started_of, CountsOpeningFailures, IsOpened, WasRead, IsStillHalfway, IsTakenBack, LeavesUnopened, StandsFor}
 use Rattle.par2_tool.specs.Performing.{IsVerify}
-use Rattle.par2_tool.specs.Writing.{ContentsAreDurable, StaysKept}
+use Rattle.par2_tool.specs.StoreWrites.{ContentsAreDurable, StaysKept}
 use Rattle.par2_tool.specs.declared.opening.OpenFault.{OpenFault}
 use Rattle.par2_tool.specs.declared.opening.OpenFault.TheVariants.{Memory}
 use Rattle.par2_tool.specs.declared.opening.Started.{Started}

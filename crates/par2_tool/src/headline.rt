@@ -18,7 +18,7 @@ ghost use Rattle.par2_tool.specs.CommandLines.{AskFor};
 ghost use Rattle.par2_tool.specs.Calls.{IsHalfway};
 ghost use Rattle.par2_tool.specs.StoreContents.{IsOpening, IsSettled, FingerprintsDifferInRun};
 ghost use Rattle.par2_tool.specs.Opening.{OnlyTakesBack};
-ghost use Rattle.par2_tool.specs.Runs.{HasNoEffect, IsOneUndoFrom, TakesEffect};
+ghost use Rattle.par2_tool.specs.ProgramRuns.{HasNoEffect, IsOneUndoFrom, TakesEffect};
 ghost use Rattle.par2_tool.specs.RunResult.{IsRun};
 ghost use Rattle.par2_tool.specs.Repairs.{AskForRepair};
 

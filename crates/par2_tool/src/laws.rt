@@ -1,12 +1,12 @@
 //! Laws about runs on one store. Each is the contract of a function that does nothing.
 ghost use Rattle.std.specs.Prelude.{◌≡◌, List, Ok, Err, length, replicate};
 ghost use Rattle.par2_spec.specs.Commands.{Action, Undo};
-ghost use Rattle.par2_spec.specs.History.{Refusal, Run, history_after, IsChanging, folders};
+ghost use Rattle.par2_spec.specs.History.{Refusal, Execution, history_after, IsChanging, folders};
 ghost use Rattle.par2_spec.specs.Opening.{Started};
 ghost use Rattle.par2_spec.specs.Sessions.{history_of};
 ghost use Rattle.par2_spec.specs.Stores.{Contents};
 ghost use Rattle.par2_tool.specs.StoreContents.{IsOpening, IsSettled};
-ghost use Rattle.par2_tool.specs.Runs.{HasNoEffect, Runs, TakesEffect};
+ghost use Rattle.par2_tool.specs.ProgramRuns.{HasNoEffect, Runs, TakesEffect};
 ghost use Rattle.par2_tool.specs.RunResult.{IsRefusedFor};
 ghost use Rattle.std.specs.List.{AllByRecursion};
 
@@ -27,7 +27,7 @@ pub fn runs_keep_one_history()
     ensures kept { (old new : Contents) (started : Started) (requested done : List Action)
         → IsOpening old (Ok started) → Runs old requested done new
         → (end : Started)
-        × Run (history_of started.session) done (length done) (history_of end.session)
+        × Execution (history_of started.session) done (length done) (history_of end.session)
         × IsOpening new (Ok end) }
     // If a run is refused, the history refuses the action, too.
     ensures refused { (old new : Contents) (started : Started) (action : Action) (reason : Refusal)

@@ -70,7 +70,7 @@ impl From<ReadFault> for OpenFault {
 
 impl From<OpenFault> for Failure {
     ghost use Rattle.std.specs.Prelude.{◌≡◌};
-    ghost use Rattle.par2_tool.specs.Refusals.{unopened_as};
+    ghost use Rattle.par2_tool.specs.ReportedFailures.{unopened_as};
 
     ghost from_gives = { λ fault failure. failure ≡ unopened_as fault };
 

@@ -9,8 +9,8 @@ ghost use Rattle.par2_tool.specs.Answering.{Answers, PerformRefusesEarly, Refuse
 ghost use Rattle.par2_tool.specs.Calls.{AreAtMost, calls_requested};
 ghost use Rattle.par2_tool.specs.StoreContents.{FingerprintsDifferAlong, OpensAsBeforeOrAfter};
 ghost use Rattle.par2_tool.specs.Performing.{AreSomeMade, IsVerify, IsWritten};
-ghost use Rattle.par2_tool.specs.Refusals.{IsRefused, IsSession};
-ghost use Rattle.par2_tool.specs.Writing.{ContentsAreDurable, StaysKept};
+ghost use Rattle.par2_tool.specs.ReportedFailures.{IsRefused, IsSession};
+ghost use Rattle.par2_tool.specs.StoreWrites.{ContentsAreDurable, StaysKept};
 
 use crate::writing::write_down;
 use par2_disk::FolderStore;
@@ -53,7 +53,7 @@ impl From<AllocError> for PerformFault {
 
 impl From<PerformFault> for Failure {
     ghost use Rattle.std.specs.Prelude.{◌≡◌};
-    ghost use Rattle.par2_tool.specs.Refusals.{failure_for};
+    ghost use Rattle.par2_tool.specs.ReportedFailures.{failure_for};
 
     ghost from_gives = { λ fault failure. failure ≡ failure_for fault };
 

@@ -5,10 +5,10 @@ ghost use Rattle.std.specs.Io.KnownBytes.{Appends};
 ghost use Rattle.std.specs.Prelude.{◌≡◌, ◌<◌, ◌++◌, ◌⊎◌, [], map, flat_map};
 ghost use Rattle.par2_spec.specs.Output.{done_lines, note_line, step_line, target_line, report_lines, output_of, error_of};
 ghost use Rattle.par2_spec.specs.Output as buffers;
-ghost use Rattle.par2_journal.specs.Steps.{step_view};
-ghost use Rattle.par2_repair.specs.Views.{state_view, target_report_of, report_view};
-ghost use Rattle.par2_output.specs.Views.{step_shown, state_shown, target_shown, words_given};
-ghost use Rattle.par2_output.specs.Writing.{IsFlushed, PrinterWrote, failures_of, writer_of};
+ghost use Rattle.par2_journal.specs.StepViews.{step_view};
+ghost use Rattle.par2_repair.specs.ReportViews.{state_view, target_report_of, report_view};
+ghost use Rattle.par2_output.specs.PrintedValues.{step_shown, state_shown, target_shown, words_given};
+ghost use Rattle.par2_output.specs.PrinterStates.{IsFlushed, PrinterWrote, failures_of, writer_of};
 ghost use Rattle.par2_tool.specs.Performing.{outcome_of};
 ghost use Rattle.par2_tool.specs.RunResult.{IsPrinted};
 

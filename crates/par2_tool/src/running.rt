@@ -6,7 +6,7 @@ ghost use Rattle.par2_spec.specs.Stores.{Contents};
 ghost use Rattle.par2_spec.specs.Views.{command_of};
 ghost use Rattle.par2_tool.specs.CommandLines.{AskFor};
 ghost use Rattle.par2_tool.specs.RunResult.{IsBack, IsCarriedOut, IsRun, IsStopped};
-ghost use Rattle.par2_tool.specs.Writing.{ContentsAreDurable};
+ghost use Rattle.par2_tool.specs.StoreWrites.{ContentsAreDurable};
 
 use crate::opening::open_for;
 use crate::performing::{Outcome, perform};

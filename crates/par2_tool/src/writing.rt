@@ -3,9 +3,9 @@
 //! command.
 ghost use Rattle.std.specs.Prelude.{◌≡◌, ◌+◌, length, OnOk};
 ghost use Rattle.par2_disk.specs.Stores.{CountsFailures, Makes};
-ghost use Rattle.par2_files.specs.Views.{change_of};
+ghost use Rattle.par2_files.specs.ChangeViews.{change_of};
 ghost use Rattle.par2_tool.specs.Calls.{calls_before, calls_to_write};
-ghost use Rattle.par2_tool.specs.Writing.{AllPossible, CountsWrites, ContentsAreDurable, PutsHalfway, StaysKept, WritesChanges, WritesDown};
+ghost use Rattle.par2_tool.specs.StoreWrites.{AllPossible, CountsWrites, ContentsAreDurable, PutsHalfway, StaysKept, WritesChanges, WritesDown};
 
 use par2_disk::{FolderStore, StoreFault};
 use par2_files::Change;

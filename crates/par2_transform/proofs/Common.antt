@@ -39,7 +39,7 @@ pub use Rattle.par2_transform.specs.Locators.{AreFit, AreNumbered, AreNumerators
 pub use Rattle.par2_transform.specs.Plans.{cut_of}
 pub use Rattle.par2_transform.specs.PowerSums.{ArePowerSums, IsMerged, member, sum_ahead}
 unfoldable pub use Rattle.par2_transform.specs.PowerSums.{power_sum}
-pub use Rattle.par2_transform.specs.Steps.{AheadAdded, FirstRuns, IsDivided, IsLowered, IsOneAdded, IsRaised, IsSpreadAbove, IsSpreadBelow, OnElements, OneRun, RunAdded, RunAddedBy, SameValuesOutside, spread_beyond, spread_within}
+pub use Rattle.par2_transform.specs.LevelSteps.{AheadAdded, FirstRuns, IsDivided, IsLowered, IsOneAdded, IsRaised, IsSpreadAbove, IsSpreadBelow, OnElements, OneRun, RunAdded, RunAddedBy, SameValuesOutside, spread_beyond, spread_within}
 unfoldable pub use Rattle.par2_transform.specs.Subspaces.{basis, bit_numbers, point, point_number, powers_in, vanishing}
 pub use Rattle.par2_transform.specs.Transforms.{Cut, HasWeights, Reaches, class_part, coefficient_of, gathered, window_value}
 pub use Rattle.par2_transform.specs.declared.outputs.Place.{Place}

@@ -6,7 +6,7 @@ pub mod Cosets
 pub mod Chirps
 pub mod Transforms
 pub mod Grids
-pub mod Steps
+pub mod LevelSteps
 pub mod Columns
 pub mod Plans
 pub mod Adding

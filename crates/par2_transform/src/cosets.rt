@@ -5,7 +5,7 @@
 ghost use Rattle.std.specs.Prelude.{◌≡◌, ℕ, ◌+◌, ◌-◌, ◌*◌, ◌^◌, ◌<◌, ◌≤◌, suc, length, slice_index, IfOk};
 ghost use Rattle.par2_transform.specs.Cosets.{AreListedValues, IsListed, IsListedLevel, IsListedSplit, run_in};
 ghost use Rattle.par2_transform.specs.Grids.{EachColumn};
-ghost use Rattle.par2_transform.specs.Steps.{OnElements, OneRun};
+ghost use Rattle.par2_transform.specs.LevelSteps.{OnElements, OneRun};
 
 use crate::basis::point;
 use crate::levels::split;

@@ -10,7 +10,7 @@ ghost use Rattle.par2_transform.specs.PowerSums.{ArePowerSums, IsMerged};
 ghost use Rattle.par2_transform.specs.Evaluations.{AreValues, IsSplit};
 ghost use Rattle.par2_transform.specs.Levels.{IsMergedLevel, IsSplitLevel};
 ghost use Rattle.par2_transform.specs.Grids.{EachColumn};
-ghost use Rattle.par2_transform.specs.Steps.{OnElements, OneRun, RunAddedBy, AheadAdded, IsRaised, IsSpreadAbove, IsSpreadBelow, IsDivided};
+ghost use Rattle.par2_transform.specs.LevelSteps.{OnElements, OneRun, RunAddedBy, AheadAdded, IsRaised, IsSpreadAbove, IsSpreadBelow, IsDivided};
 
 use crate::basis::{point, powers_in};
 use crate::rows::Rows;
@@ -96,7 +96,7 @@ fn add_scaled(gf: &Gf, rows: &mut Rows, c: u16, from: usize, to: usize, count: u
     ensures { EachColumn (RunAddedBy (mul c) from to count) rows.old rows.new }
 {
     if c != 0 {
-        rows.add_products(gf, &Factor::new(c), from, to, count);
+        rows.add_scaled_rows(gf, &Factor::new(c), from, to, count);
     }
 }
 

@@ -370,7 +370,7 @@ impl<'a> Locator<'a> {
     /// Adds to buffer j the sum of the sources, each times its coefficient of the quotient for point j. Takes about
     /// `room` bytes of memory beside the buffers, or the least it can, which is two rows of 32 words for each of
     /// 2 ^ levels points.
-    pub fn add_products(
+    pub fn add_quotient_sums(
         &self,
         alloc: Global,
         sources: &[&[u8]],

@@ -6,7 +6,7 @@ ghost use Rattle.par2_spec.specs.Field.{mul};
 ghost use Rattle.par2_spec.specs.Slices.{word};
 ghost use Rattle.par2_spec.specs.Sums.{GivesElements};
 ghost use Rattle.par2_transform.specs.Grids.{column, EachColumn, IsAdded};
-ghost use Rattle.par2_transform.specs.Steps.{RunAddedBy, RunAdded};
+ghost use Rattle.par2_transform.specs.LevelSteps.{RunAddedBy, RunAdded};
 
 use crate::buffers::{
     add_products, add_products_within, add_words_within, clear, copy_padded, fit_bytes,
@@ -138,7 +138,7 @@ impl Rows {
     }
 
     /// Adds the factor times the `count` rows from row `from` on to those from row `to` on. They don't overlap.
-    pub(crate) fn add_products(
+    pub(crate) fn add_scaled_rows(
         &mut self,
         gf: &Gf,
         factor: &Factor,

@@ -8,7 +8,7 @@ ghost use Rattle.par2_transform.specs.Subspaces.{point};
 ghost use Rattle.par2_transform.specs.PowerSums.{IsMerged, sum_ahead};
 ghost use Rattle.par2_transform.specs.Levels.{IsMergedLevel};
 ghost use Rattle.par2_transform.specs.Chirps.{AreWeights};
-ghost use Rattle.par2_transform.specs.Steps.{OneRun, RunAdded, IsLowered};
+ghost use Rattle.par2_transform.specs.LevelSteps.{OneRun, RunAdded, IsLowered};
 
 use crate::basis::{point, powers_in};
 use par2_gf16::Gf;

@@ -3,8 +3,6 @@
 #![tactic(auto)]
 
 #[cfg(test)]
-mod messages;
-#[cfg(test)]
 mod calls;
 #[cfg(test)]
 mod digests;
@@ -14,6 +12,8 @@ mod fixtures;
 mod journal;
 #[cfg(test)]
 mod journal_bytes;
+#[cfg(test)]
+mod messages;
 #[cfg(test)]
 mod opening;
 #[cfg(test)]

@@ -1,6 +1,6 @@
 use Rattle.recovery_calls.proofs.Common.{ℕ, List, length, ap, rules, arith, Bor, length-map}
 use Rattle.par2_spec.specs.Slices.{padded}
-use Rattle.par2_solve.specs.Views.{buffers_of}
+use Rattle.par2_solve.specs.BufferContents.{buffers_of}
 use Rattle.par2_create.specs.Records.{slices_of_records}
 use Rattle.par2_packets.specs.declared.record.FileRecord.{FileRecord}
 use Rattle.recovery_calls.proofs.recovery_slice_of.Goals as goal

@@ -3,14 +3,14 @@ use Rattle.par2_files.proofs.Walks.{bytes_more}
 use Rattle.par2_files.proofs.walk.states_with.Goals as goal
 
 pub loop-bytes-init : goal.loop-bytes-init
-loop-bytes-init c = record { few = c.requires; buffers = λ before are. subst (AreTo c.args.runs) (sym (append-nil before)) are }
+loop-bytes-init c = record { few = c.requires; buffers = λ before are. subst (AreTo c.args.absorbing) (sym (append-nil before)) are }
 
 pub loop-bytes-preserved : goal.loop-bytes-preserved
 loop-bytes-preserved c = record {
   few = c.in_ok-push.ensures.few;
   buffers = λ before are.
       subst (AreTo c.push.new.self) (bytes_more before c.args.buffers.now c.loop-bytes.bytes-index _ c.loop-bytes-test.true)
-      (c.in_ok-push.ensures.buffers _ _ (c.loop-bytes.invariant.buffers before are) (c.in_ok-run_of_bytes.ensures [] c.new.ensures));
+      (c.in_ok-push.ensures.buffers _ _ (c.loop-bytes.invariant.buffers before are) (c.in_ok-pending_of_bytes.ensures [] c.new.ensures));
 }
 
 pub returns : goal.returns

@@ -15,7 +15,7 @@ loop-p-preserved g c =
           let there : 0 < length c.list_at-source.result.now = search rules in
           rw (w.row-is, w.right-is)
           (reduce_step n b g.rank rows right_sides c.args.row.now c.args.right.now l.row l.right _ _ c.list_at-source.result.now w.list_at.result.now l.p c.element-factor.result c.requires.0 c.loop-p-test.true
-          c.element-factor.ensures c.element-factor.type_inv c.list_at-source.ensures w.list_at.ensures there w.add_products.ensures.added w.add_products-then-not-is_empty.ensures.added l.invariant)
+          c.element-factor.ensures c.element-factor.type_inv c.list_at-source.ensures w.list_at.ensures there w.add_multiple.ensures.added w.add_multiple-then-not-is_empty.ensures.added l.invariant)
       | else-factor-ne0 w ↦ rw (w.row-is, w.right-is)
           (reduce_pass n b rows right_sides c.args.row.now c.args.right.now l.row l.right c.list_at-source.result.now l.p c.element-factor.result c.element-factor.ensures c.list_at-source.ensures
           (elim w.else-factor-ne0.branch [

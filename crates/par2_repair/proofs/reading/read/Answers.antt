@@ -1,5 +1,5 @@
 use Rattle.par2_repair.proofs.Common.{◌≡◌, ◌⊎◌, ◌+◌, ◌∙◌, refl, sym, ap, inl, inr, map, string_bytes, true, false, not, Err, rules, ok_or, position, Result, err_from_is_err_and, Fault, NoSuchFile, Memory, has, ParSet, set_of, absent_file, set_in, err_again, answered_so, never_found, Some, None}
-use Rattle.par2_sets.specs.Steps.{Returns}
+use Rattle.par2_sets.specs.SetReading.{Returns}
 use Rattle.par2_spec.proofs.Places.{position-map}
 use Rattle.par2_repair.proofs.Present.{base_first, extra_first, none_absent, extra_refused, base_absent, all_present, all_there}
 use Rattle.par2_repair.proofs.reading.read.Goals.{In_err-base, After-first_absent, In-Some, After-present_extras, After-set_of}

@@ -1,5 +1,5 @@
 use Rattle.par2_repair.proofs.Common.{◌≡◌, ◌∙◌, List, ℕ, Ok, Err, map, string_bytes, sym, ap, subst, err_from_is_err_and, set_in, report_in, ok_no_err, verdict_by_words, refused_as_reported, refused_by, err_passed}
-use Rattle.par2_repair.specs.Views.{report_view}
+use Rattle.par2_repair.specs.ReportViews.{report_view}
 use Rattle.par2_repair.proofs.PlanParts.{early_verify}
 use Rattle.par2_repair.proofs.ReportValues.{refused_in}
 use Rattle.par2_repair.proofs.verify.check.Goals.{After-report_of}

@@ -6,8 +6,8 @@ use Rattle.par2_solve.proofs.Combinations.{length-buffers_of}
 use Rattle.par2_solve.proofs.Locating.{located_sums, added_to_blank}
 use Rattle.par2_solve.proofs.solver.located_products.Goals as goal
 
-pub add_products-requires : goal.add_products-requires
-add_products-requires c =
+pub add_quotient_sums-requires : goal.add_quotient_sums-requires
+add_quotient_sums-requires c =
     let even : c.args.size ≡ 2 * (c.args.size / 2) = omega (arith, c.requires.even) in
     let blank = c.in_ok-sums.ensures in
     let sums = c.in_ok-sums.sums.items in
@@ -25,13 +25,13 @@ returns c =
     let locator = c.args.locator.now in
     let size = c.args.size in
     let sources = buffers_of c.args.sources.now in
-    let new = c.add_products.new.buffers in
+    let new = c.add_quotient_sums.new.buffers in
     let blank = c.in_ok-sums.ensures in
     let reported = c.as_mut_slice.ensures.value in
     let many : c.len.result ≡ length locator.points.items = search rules in
     let same : length new ≡ c.in_ok-sums.sums.len = search rules in
     let given = λ (t p : ℕ). quotient_sum locator.sequence.items locator.points.items locator.factors.items (words_at sources p) t in
-    let added : AddsToEach given (lists_of c.in_ok-sums.sums.items) (lists_of new) = subst (λ (xs : List (Vec ℕ Global)). AddsToEach given (lists_of xs) (lists_of new)) reported c.in_ok-add_products.ensures in
+    let added : AddsToEach given (lists_of c.in_ok-sums.sums.items) (lists_of new) = subst (λ (xs : List (Vec ℕ Global)). AddsToEach given (lists_of xs) (lists_of new)) reported c.in_ok-add_quotient_sums.ensures in
     subst (λ (xs : List (Vec ℕ Global)). AreProducts size (quotient_rows locator.sequence.items locator.points.items locator.factors.items) sources (lists_of xs)) (sym (with_items_is c.in_ok-sums.sums new same))
     (located_sums locator.sequence.items locator.points.items locator.factors.items sources (lists_of new) size (length-buffers_of c.args.sources.now ∙ sym c.requires.sources) (added.count ∙ blank.count ∙ many)
     (λ r low. added.sizes r ∙ ap length (blank.each r (omega (arith, low, many))) ∙ length-replicate {A = ℕ} size 0)

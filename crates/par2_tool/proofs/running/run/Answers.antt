@@ -1,5 +1,5 @@
 use Rattle.par2_tool.proofs.Common.{◌∙◌, inl, inr, [], refl, sym, subst, map, string_bytes, Contents, command_of, status_of, outcome_of, Answered, Failed, IsUnread, IsPrinted, IsStopped, ContentsAreDurable, same_Some, AskFor, Action, Failure}
-use Rattle.par2_output.specs.Views.{words_requested}
+use Rattle.par2_output.specs.PrintedValues.{words_requested}
 use Rattle.par2_tool.proofs.UnreadWords.{unread_words}
 use Rattle.par2_tool.proofs.running.run.Goals.{After-carry_out}
 use Rattle.par2_tool.proofs.running.run.Goals as goal

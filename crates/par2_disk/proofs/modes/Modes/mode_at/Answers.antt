@@ -8,8 +8,8 @@ returns-in-File-clause-all c = within_on _ _ _ (within_second c.args.self.now.al
 pub returns-in-File-clause-allowed : goal.returns-in-File-clause-allowed
 returns-in-File-clause-allowed c = within_first c.args.self.now.allowed c.of_file.result
 
-pub returns-in-File-clause-place : goal.returns-in-File-clause-place
-returns-in-File-clause-place c = rw c.in-File.is (narrower _ _ _ _ (within_second c.args.self.now.allowed c.of_file.result) c.of_file.ensures.named)
+pub returns-in-File-clause-location : goal.returns-in-File-clause-location
+returns-in-File-clause-location c = rw c.in-File.is (narrower _ _ _ _ (within_second c.args.self.now.allowed c.of_file.result) c.of_file.ensures.named)
 
 pub returns-in-Journal : goal.returns-in-Journal
 returns-in-Journal c =
@@ -18,7 +18,7 @@ returns-in-Journal c =
     record {
       all = within_second both 0o666;
       allowed = within_on _ _ _ (within_first both 0o666) (within_first modes.allowed modes.journal);
-      place = rw c.in-Journal.is (within_on _ _ _ (within_first both 0o666) (within_second modes.allowed modes.journal));
+      location = rw c.in-Journal.is (within_on _ _ _ (within_first both 0o666) (within_second modes.allowed modes.journal));
     }
 
 pub returns-in-Temporary : goal.returns-in-Temporary
@@ -27,5 +27,5 @@ returns-in-Temporary c =
     record {
       all = within_second modes.allowed 0o666;
       allowed = within_first modes.allowed 0o666;
-      place = rw c.in-Temporary.is tt;
+      location = rw c.in-Temporary.is tt;
     }

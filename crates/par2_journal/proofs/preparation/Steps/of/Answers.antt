@@ -1,5 +1,5 @@
 use Rattle.par2_journal.proofs.Common.{◌≡◌, map, sym, subst, ◌∙◌, rules, IfOk, step_of, change_of}
-use Rattle.par2_journal.specs.Steps.{step_view}
+use Rattle.par2_journal.specs.StepViews.{step_view}
 use Rattle.std.proofs.lemmas.Iterator.{YieldsList-from_map_by, YieldsList-from_slice}
 use Rattle.std.proofs.lemmas.Iterator.Consumers.{map_from_collect}
 use Rattle.std.proofs.lemmas.Simd.{map-map}

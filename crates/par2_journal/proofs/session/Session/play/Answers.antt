@@ -1,4 +1,4 @@
-use Rattle.par2_journal.proofs.Common.{◌≡◌, ◌+◌, map, sym, subst, arith, action_of, Run, Ended, session_of_kept, history_of, run_leaves}
+use Rattle.par2_journal.proofs.Common.{◌≡◌, ◌+◌, map, sym, subst, arith, action_of, Execution, Ended, session_of_kept, history_of, run_leaves}
 use Rattle.par2_spec.proofs.SessionLaws.{walked_is_valid}
 use Rattle.par2_journal.proofs.Undos.{give_back}
 use Rattle.par2_journal.proofs.Actions.{none_left, on_accepted, on_refused}
@@ -34,7 +34,7 @@ returns-clause-run c =
     let here = history_of (session_of_kept c.loop-action.self) in
     let n = c.loop-action.accepted in
     let sum : n + 0 ≡ n = omega arith in
-    let run : Run start all n here = subst (λ m. Run start all m here) sum (c.loop-action.invariant.run 0 here (subst (λ l. Run here l 0 here) (sym (none_left actions i c.loop-action-test.false)) Ended)) in
+    let run : Execution start all n here = subst (λ m. Execution start all m here) sum (c.loop-action.invariant.run 0 here (subst (λ l. Execution here l 0 here) (sym (none_left actions i c.loop-action-test.false)) Ended)) in
     run
 
 pub returns-clause-undos : goal.returns-clause-undos

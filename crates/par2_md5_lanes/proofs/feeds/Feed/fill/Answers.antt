@@ -9,8 +9,8 @@ loop-filled-preserved c =
     let f = c.loop-filled.filled in
     let copied = c.copy_part-filled-in-loop-filled in
     let r = copied.result in
-    let feed = c.go_on.new.self in
-    let rest : bytes_left feed ≡ drop f whole = c.if-go_on.ensures.same ∙ held.rest in
+    let feed = c.next_part.new.self in
+    let rest : bytes_left feed ≡ drop f whole = c.if-next_part.ensures.same ∙ held.rest in
     let piece = drop feed.at (part_bytes feed.part) in
     record {
       room = omega (arith, copied.ensures.count, copied.auto.block, held.size);
@@ -21,8 +21,8 @@ loop-filled-preserved c =
       done = λ short. copied.ensures.part ∙ drop_all r piece (omega (arith, copied.ensures.count, held.size));
     }
 
-pub returns-else-go_on-clause-count : goal.returns-else-go_on-clause-count
-returns-else-go_on-clause-count c =
+pub returns-else-next_part-clause-count : goal.returns-else-next_part-clause-count
+returns-else-next_part-clause-count c =
     let held = c.loop-filled.invariant in
-    let none = c.if-go_on.ensures.end refl in
+    let none = c.if-next_part.ensures.end refl in
     omega (arith, held.within, ap length held.rest, ap length none, length-drop c.loop-filled.filled (bytes_left c.args.self.now))

@@ -4,7 +4,7 @@ use Rattle.par2_spec.specs.Commands.{files_of}
 use Rattle.par2_spec.specs.Folders.{File}
 use Rattle.par2_spec.specs.Volumes.{id_of, record_of}
 use Rattle.par2_spec.specs.Volumes as volumes
-use Rattle.par2_packets.specs.Views.{file_record_of}
+use Rattle.par2_packets.specs.PacketViews.{file_record_of}
 use Rattle.par2_packets.specs.declared.record.FileRecord.{FileRecord}
 use Rattle.par2_recovery.proofs.records.SetRecord.of_files.Goals as goal
 

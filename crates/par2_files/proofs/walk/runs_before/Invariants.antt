@@ -1,6 +1,0 @@
-use Rattle.par2_files.proofs.Common.{drop}
-use Rattle.par2_files.proofs.Walks.{IsWithin}
-use Rattle.par2_files.proofs.walk.runs_before.Given as goal
-
-abbrev pub invariant-loop-change : goal.invariant-loop-change
-invariant-loop-change l = IsWithin l.from l.to l.states l.folder.files l.changes l.snapshot l.runs l.place (drop l.change-index l.changes)
