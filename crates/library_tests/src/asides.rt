@@ -1,7 +1,7 @@
 //! The names under which files are put aside, and the PAR2 files of a set.
 
 use crate::calls::{are_named, name};
-use crate::set_packets::{Files, Part, folder_for, set_in};
+use crate::set_packets::{Files, Part, folder_for, read_in, set_in};
 use par2_folder::{Folder, Name};
 use par2_sets::{asides, par_files};
 use par2_spec::Fault;
@@ -99,7 +99,8 @@ const PAR_FILES: Files = &[
 
 // The PAR2 files of the set.
 fn par_files_in(rt: &(impl Abort + AllocGlobal), folder: &Folder) -> Vec<Name> {
-    par_files(rt.alloc(), folder, &set_in(rt, folder)).expect(rt, "memory")
+    let read = read_in(rt, folder);
+    par_files(rt.alloc(), &read.set, &read.own_files).expect(rt, "memory")
 }
 
 #[test]

@@ -4,7 +4,7 @@ use crate::calls::name;
 use md5::{Digest, Md5};
 use par2_folder::{Bytes, Change, Folder};
 use par2_packets::{FileRecord, Pair, append_desc, append_ifsc, append_main, main_id};
-use par2_sets::{ParSet, set_of};
+use par2_sets::{ParSet, ReadSet, set_of};
 use par2_spec::Fault;
 use std::process::Abort;
 use std::slice::from_ref;
@@ -206,10 +206,15 @@ pub fn read_set<'a>(
     rt: &(impl Abort + AllocGlobal),
     folder: &'a Folder,
 ) -> Result<ParSet<'a>, Fault> {
-    set_of(rt.alloc(), folder, &name(rt, "m.par2"))
+    Ok(set_of(rt.alloc(), folder, &name(rt, "m.par2"))?.set)
 }
 
 /// The set of the base `m.par2`.
 pub fn set_in<'a>(rt: &(impl Abort + AllocGlobal), folder: &'a Folder) -> ParSet<'a> {
     read_set(rt, folder).expect(rt, "a set")
+}
+
+/// The set of the base `m.par2`, and the files with packets of it alone.
+pub fn read_in<'a>(rt: &(impl Abort + AllocGlobal), folder: &'a Folder) -> ReadSet<'a> {
+    set_of(rt.alloc(), folder, &name(rt, "m.par2")).expect(rt, "a set")
 }

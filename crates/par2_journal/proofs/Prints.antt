@@ -1,6 +1,5 @@
 -- The fingerprints before changes and after each.
-use Rattle.par2_journal.proofs.Common.{◌≡◌, ℕ, List, [], ◌∷◌, length, map, Option, Some, None, Vec, refl, sym, ap, subst, ◌∙◌, Bor, IfSome, option_map, slice_get, unwrap_or, Global, Folder, fingerprint, Change, effect, effects, folders_after, KeptSession, OnlyGrew, IsAhead, next_changes, AreAlong, ArePrintsAlong, Prints, prints_of, Fingerprints, next_of, Next}
-use Rattle.std.specs.Option.{option_copied}
+use Rattle.par2_journal.proofs.Common.{◌≡◌, ℕ, List, [], ◌∷◌, length, map, Option, Some, None, Vec, refl, sym, ap, subst, ◌∙◌, slice_get, unwrap_or, Global, Folder, fingerprint, Change, effect, effects, folders_after, KeptSession, OnlyGrew, IsAhead, next_changes, AreAlong, next_of, Next}
 use Rattle.par2_files.specs.Checkpoints.{AreCheckpointsOf}
 use Rattle.par2_journal.specs.declared.ahead.Ahead.{Ahead}
 use Rattle.par2_journal.specs.declared.ahead.Ahead.TheVariants as ahead
@@ -33,13 +32,3 @@ ahead_still (Some (ahead.Fingerprints next prints)) old new grew h = by_next nex
     by_next : (next : Next) → AreAlong old.folder.files (next_changes next old) prints → AreAlong new.folder.files (next_changes next new) prints
     by_next Undo h = along (ap next_of (sym grew.undos)) h
     by_next Redo h = along (ap next_of (sym grew.redos)) h
-
--- ---- fingerprints of a prepared command
-
--- a reference to them has the same view
-pub known_here : (o : Option (Bor Fingerprints)) (known : Option Fingerprints) (reported : Option Prints) (f : Folder) (cs : List Change) → option_copied o ≡ known → option_map prints_of known ≡ reported
-    → IfSome reported (λ prints. ArePrintsAlong prints f cs) → IfSome o (λ prints. AreAlong f cs prints.now)
-known_here None known reported f cs copied are along = tt
-known_here (Some prints) known reported f cs copied are along =
-    let is : Some (prints_of prints.now) ≡ reported = ap (option_map prints_of) copied ∙ are in
-    subst (λ (q : Option Prints). IfSome q (λ ps. ArePrintsAlong ps f cs)) (sym is) along

@@ -175,4 +175,4 @@ module _ (xs : List (List Change)) (n : ℕ) (within : n ≤ length xs) (folder 
 
 -- a prepared action with another kind
 abbrev pub with_kind : Ready → Kind → Ready
-with_kind r kind = record { kind = kind; steps = r.steps; known = r.known }
+with_kind r kind = record { kind = kind; steps = r.steps; prints = r.prints }

@@ -1,4 +1,4 @@
--- Fingerprints and checkpoints that a session keeps for its next journals.
+-- Fingerprints and checkpoints that an opening computes for the next action.
 use Rattle.std.specs.Prelude.{◌≡◌, List, Option, Some, None}
 use Rattle.par2_spec.specs.Changes.{Change}
 use Rattle.par2_spec.specs.Sessions.{KeptSession}

@@ -1,7 +1,7 @@
 -- Results of commands and actions, and their effects on a session.
 use Rattle.std.specs.Prelude.{◌≡◌, ◌≢◌, ◌⊎◌, zero, suc, Bool, List, ℕ, [], map, String, string_bytes, Some, Ok, Err, Result, IfErr, IfOk, IsErrOf, OnErr, OnOk}
 use Rattle.std.specs.declared.alloc.Global.{Global}
-use Rattle.par2_spec.specs.Commands.{Action, Command, Do, Repair, Undo, Redo, Verify}
+use Rattle.par2_spec.specs.Commands.{Action, Command, Do, Undo, Redo, Verify}
 use Rattle.par2_spec.specs.Folders.{Folder}
 use Rattle.par2_spec.specs.History.{History, MayBeRefused}
 pub use Rattle.par2_spec.specs.Planned.{repair_of}

@@ -1,5 +1,4 @@
 -- A prepared action by its fields.
-use Rattle.std.specs.Prelude.{option_map}
 use Rattle.par2_journal.specs.Along.{prints_of}
 use Rattle.par2_journal.specs.Ready as ready
 use Rattle.par2_journal.specs.declared.preparation.Prepared.TheInside.{Inside}
@@ -14,4 +13,4 @@ task_kind Redo = ready.Redoing
 
 -- the prepared action with these fields
 abbrev pub ready_of : Inside → ready.Ready
-ready_of a = record { kind = task_kind a.task; steps = a.steps; known = option_map prints_of a.known }
+ready_of a = record { kind = task_kind a.task; steps = a.steps; prints = prints_of a.fingerprints }

@@ -1,7 +1,7 @@
 -- Prepared actions: when they can still be committed, and what committing them does.
-use Rattle.std.specs.Prelude.{◌≡◌, ◌≢◌, ◌<◌, ℕ, zero, suc, List, [], ◌∷◌, map, Option, IfSome, IsTrue, Ok}
+use Rattle.std.specs.Prelude.{◌≡◌, ◌≢◌, ◌<◌, ℕ, zero, suc, List, [], ◌∷◌, map, IsTrue, Ok}
 use Rattle.std.specs.Prelude.{refl}
-use Rattle.std.specs.Coded.{Coded, code_by, coded×, coded_ℕ, coded_list, coded_option}
+use Rattle.std.specs.Coded.{Coded, code_by, coded×, coded_ℕ, coded_list}
 use Rattle.par2_spec.specs.Codes.{change_code, step_code}
 use Rattle.par2_spec.specs.Changes.{Change, takes_all}
 use Rattle.par2_spec.specs.Commands.{Action, Do, Undo, Redo}
@@ -18,11 +18,11 @@ pub data Kind : Type 0 where
   Undoing : Kind
   Redoing : Kind
 
--- a prepared action: its kind, its steps, and the fingerprints along its changes if they are known
+-- a prepared action: its kind, its steps, and the fingerprints along its changes
 pub record Ready : Type 0 where
   pub kind : Kind
   pub steps : List Step
-  pub known : Option Prints
+  pub prints : Prints
 
 -- the next entry of one side, or no changes
 abbrev pub next_of : List (List Change) → List Change
@@ -41,14 +41,11 @@ CanBe (Changing changes) s = IsTrue (takes_all s.folder changes) × (0 < s.room)
 CanBe Undoing s = s.undos ≢ []
 CanBe Redoing s = s.redos ≢ []
 
--- a prepared action can be committed on this session
+-- a prepared action can be committed on this session, and its fingerprints are along its changes to the folder
 pub record Fits (ready : Ready) (s : KeptSession) : Type 0 where
   pub can : CanBe ready.kind s
   pub steps : ready.steps ≡ map step_of (changes_by_kind ready.kind s)
-
--- a prepared action's fingerprints, if it has any, are along its changes to the session's folder
-abbrev pub HasPrintsOf : KeptSession → Ready → Type 0
-HasPrintsOf s ready = IfSome ready.known (λ prints. ArePrintsAlong prints s.folder.files (changes_by_kind ready.kind s))
+  pub prints : ArePrintsAlong ready.prints s.folder.files (changes_by_kind ready.kind s)
 
 -- the session after committing an action of this kind: its changes are applied, and the history has moved on or back
 abbrev pub after_commit : Kind → KeptSession → KeptSession
@@ -74,11 +71,10 @@ IsKindOf Undo Undoing = Unit {0}
 IsKindOf Redo Redoing = Unit {0}
 IsKindOf action kind = ⊥
 
--- an action is prepared so: it can be committed, its fingerprints are the folder's, it applies the requested changes,
--- and it leads to the session after the action
+-- an action is prepared so: it can be committed, it applies the requested changes, and it leads to the session after
+-- the action
 pub record IsReady (action : Action) (old : KeptSession) (ready : Ready) (new : KeptSession) : Type 0 where
   pub fits : Fits ready new
-  pub prints : HasPrintsOf new ready
   pub kind : IsKindOf action ready.kind
   pub requested : changes_requested (session_of_kept old) action ≡ Ok (changes_by_kind ready.kind old)
   pub leads : session_after (session_of_kept old) action ≡ Ok (session_of_kept (after_commit ready.kind new))
@@ -108,5 +104,5 @@ kind_code = code_by (ℕ × List Change) (coded× coded_ℕ (coded_list change_c
 -- the encoding of prepared actions
 abbrev pub ready_code : Coded Ready
 ready_code =
-    code_by (Kind × (List Step × Option Prints)) (coded× kind_code (coded× (coded_list step_code) (coded_option prints_code))) (λ r. (r.kind, (r.steps, r.known)))
-    (λ p. record { kind = p.0; steps = p.1.0; known = p.1.1 }) (λ _. refl)
+    code_by (Kind × (List Step × Prints)) (coded× kind_code (coded× (coded_list step_code) prints_code)) (λ r. (r.kind, (r.steps, r.prints)))
+    (λ p. record { kind = p.0; steps = p.1.0; prints = p.1.1 }) (λ _. refl)

@@ -1,4 +1,4 @@
-//! Fingerprints computed at opening for the next journals, and checkpoints that an opening or a create kept for them.
+//! What an opening computes for the next action: fingerprints along an undo or redo, or checkpoints for a command's.
 ghost use Rattle.std.specs.Prelude.{◌≡◌, is_some, IfSome, IsTrue, Some};
 ghost use Rattle.par2_files.specs.declared.checkpoints.Checkpoints.{Checkpoints as Includes};
 ghost use Rattle.par2_journal.specs.declared.spelling.Fingerprints.{Fingerprints as Prints};
@@ -14,7 +14,7 @@ pub enum Next {
     Redo,
 }
 
-// The digests that a session keeps for its next journals.
+// What an opening computed for the next action.
 #[derive(Drop)]
 pub enum Ahead {
     // The fingerprints along the changes of the next undo or redo.
@@ -35,7 +35,7 @@ pub(crate) fn fingerprints_for(found: Option<Ahead>, next: Next) -> Option<Finge
     }
 }
 
-// The checkpoints that an opening or a create kept, if any. Later fingerprints are computed from them.
+// The checkpoints that an opening computed, if any. Later fingerprints are computed from them.
 pub(crate) fn checkpoints_in(found: &Option<Ahead>) -> Option<&Checkpoints>
     ensures known { IfSome result (λ checkpoints. AreIn found.now checkpoints.now) }
     ensures used { (checkpoints : Includes) → AreIn found.now checkpoints

@@ -1,7 +1,7 @@
 //! The actions of a session. `prepare` plans a command and reserves its memory, or finds the entry of an undo or redo,
 //! so that it can be committed. `create`, `repair` and `purge` do both at once, and `play` does a list of actions.
 use crate::preparation::Task;
-use crate::{Changes, CreateArgs, Prepared, Session, SessionFault, Steps};
+use crate::{Changes, CreateArgs, Next, Prepared, Session, SessionFault, Steps};
 use par2_create::plan_create;
 use par2_files::Checkpoints;
 use par2_laws::answers::{
@@ -11,7 +11,7 @@ use par2_repair::{Fault, Report, check, draft_repair, plan_purge};
 use par2_spec::{Action, Result};
 
 impl Session {
-    ghost use Rattle.std.specs.Prelude.{◌≡◌, [], ◌∷◌, map, string_bytes, IfOk, IfErr, IsErrOf, IsTrue, IsFalse, drop, OnOk};
+    ghost use Rattle.std.specs.Prelude.{◌≡◌, [], ◌∷◌, map, string_bytes, IfOk, IfErr, IfSome, IsErrOf, IsTrue, IsFalse, drop, OnOk};
     ghost use Rattle.std.specs.List.{AllByRecursion};
     ghost use Rattle.par2_spec.specs.Changes.{are_applicable};
     ghost use Rattle.par2_spec.specs.Commands.{Undo, Redo, Create, Purge};
@@ -19,10 +19,11 @@ impl Session {
     ghost use Rattle.par2_spec.specs.Sessions.{OnlyGrew, CanWalk};
     ghost use Rattle.par2_spec.specs.Output.{step_of};
     ghost use Rattle.par2_spec.specs.Views.{action_of, create_args_of};
+    ghost use Rattle.par2_files.specs.Checkpoints.{AreCheckpointsOf};
     ghost use Rattle.par2_laws.specs.Answers.{LeavesEachFile, RestoresFiles, RestoresInputs, folder_left};
     ghost use Rattle.par2_journal.specs.Commands.{IsAfter, LeadsFrom, MakesReady, MayBePassed, Performs, Prepares, UndosGiveBack, Verifies, WritesFiles, kept_history, repair_of};
     ghost use Rattle.par2_journal.specs.SessionRefusals.{MayRefuse};
-    ghost use Rattle.par2_journal.specs.Ready.{CanBe, Changing, Fits, HasPrintsOf, IsReady};
+    ghost use Rattle.par2_journal.specs.Ready.{CanBe, Changing, Fits, IsReady};
 
     // The steps of a planned command, which a run prints, and room in the session for its files and its entry. Err if
     // memory runs out. `CanBe`: the changes can be applied, and there is room for the entry.
@@ -37,35 +38,45 @@ impl Session {
         Ok(steps)
     }
 
-    // The last step of preparing a create or a purge: the planned changes with their steps, and room for them. Their
-    // fingerprints are computed later, with the journals.
-    fn prepare_changes(&mut self, changes: Changes) -> Result<Prepared, Fault>
-        // The changes were planned on this folder.
-        requires { IsTrue (are_applicable self.old.folder.files changes) }
+    // The last step of preparing a create or a purge: the planned changes with their steps and fingerprints, and room
+    // for them. The fingerprints are computed from the checkpoints `from`, if the plan has any.
+    fn prepare_changes(
+        &mut self,
+        changes: Changes,
+        from: Option<&Checkpoints>,
+    ) -> Result<Prepared, Fault>
+        // The changes were planned on this folder, and the checkpoints are of it.
+        requires applicable { IsTrue (are_applicable self.old.folder.files changes) }
+        requires checkpoints { IfSome from
+            (λ from. AreCheckpointsOf self.old.folder.files from.now) }
         // The session only gets more room.
         ensures kept { OnlyGrew self.old self.new }
-        // A prepared command commits these changes. It has no fingerprints, so none can be wrong.
+        // A prepared command commits these changes.
         ensures kind { IfOk result (λ prepared. prepared.kind ≡ Changing changes) }
         ensures fits { IfOk result (λ prepared. Fits prepared self.new) }
-        ensures prints { IfOk result (HasPrintsOf self.new) }
         // It is refused only if memory runs out.
         ensures refused { IfErr result (λ fault. fault ≡ Fault.Memory) }
     {
         let steps = self.make_way(&changes)?;
-        let (task, known) = (Task::Change(changes), None);
-        Ok(Prepared { task, steps, known })
+        let fingerprints = self.fingerprints_along(from, &changes)?;
+        let task = Task::Change(changes);
+        Ok(Prepared {
+            task,
+            steps,
+            fingerprints,
+        })
     }
 
     // Plans a create on the folder in memory. `MakesReady`: it is ready to be committed, or refused, and the session
-    // only gets more room. The checkpoint that is computed side by side with the inputs' MD5s is kept for its journals.
+    // only gets more room. Its fingerprints are computed from the checkpoint that the plan computed side by side with
+    // the inputs' MD5s.
     pub(crate) fn prepare_create(&mut self, args: &CreateArgs) -> Result<Prepared, Fault>
         ensures { MakesReady (Create (create_args_of args.now)) self.old self.new result }
     {
         let alloc = self.allocator();
         let none = Checkpoints::none(alloc);
-        let creation = plan_create(alloc, self.folder(), args, self.checkpoints_or(&none))?;
-        self.keep_checkpoints(creation.checkpoints);
-        self.prepare_changes(creation.changes)
+        let plan = plan_create(alloc, self.folder(), args, self.checkpoints_or(&none))?;
+        self.prepare_changes(plan.changes, Some(&plan.checkpoints))
     }
 
     // Plans a repair on the folder in memory: drafts it, and refuses it (RepairFailed) if a written file has a wrong
@@ -83,8 +94,12 @@ impl Session {
         let steps = self.make_way(&draft.changes)?;
         let (fingerprints, md5s) = self.digests_along(&draft)?;
         let changes = draft.tested(&md5s)?;
-        let (task, known) = (Task::Change(changes), Some(fingerprints));
-        Ok(Prepared { task, steps, known })
+        let task = Task::Change(changes);
+        Ok(Prepared {
+            task,
+            steps,
+            fingerprints,
+        })
     }
 
     // Plans a purge on the folder in memory: the set's PAR2 files are to be removed.
@@ -92,37 +107,49 @@ impl Session {
         ensures { MakesReady (Purge base.now) self.old self.new result }
     {
         let changes = plan_purge(self.allocator(), self.folder(), base)?;
-        self.prepare_changes(changes)
+        self.prepare_changes(changes, None)
     }
 
     // Makes an undo of the newest command ready to be committed. It is refused if there is nothing to undo, or if
-    // memory for the steps runs out.
-    fn prepare_undo(&self) -> Result<Prepared, SessionFault>
-        ensures ready { IfOk result (λ prepared. IsReady Undo self.now prepared self.now) }
-        ensures refused { IfErr result (MayRefuse Undo self.now) }
-        ensures at_the_end { self.now.undos ≡ [] → IsErrOf result SessionFault.NothingToUndo }
+    // memory runs out.
+    fn prepare_undo(&mut self) -> Result<Prepared, SessionFault>
+        ensures unchanged { self.new ≡ self.old }
+        ensures ready { IfOk result (λ prepared. IsReady Undo self.old prepared self.old) }
+        ensures refused { IfErr result (MayRefuse Undo self.old) }
+        ensures at_the_end { self.old.undos ≡ [] → IsErrOf result SessionFault.NothingToUndo }
     {
         if self.undo_depth() == 0 {
             return Err(SessionFault::NothingToUndo);
         }
         let steps = Steps::of(self.allocator(), self.next_undo())?;
-        let (task, known) = (Task::Undo, None);
-        Ok(Prepared { task, steps, known })
+        let fingerprints = self.fingerprints_next(Next::Undo)?;
+        let task = Task::Undo;
+        Ok(Prepared {
+            task,
+            steps,
+            fingerprints,
+        })
     }
 
     // Makes a redo of the command undone last ready to be committed. It is refused if there is nothing to redo, or if
-    // memory for the steps runs out.
-    fn prepare_redo(&self) -> Result<Prepared, SessionFault>
-        ensures ready { IfOk result (λ prepared. IsReady Redo self.now prepared self.now) }
-        ensures refused { IfErr result (MayRefuse Redo self.now) }
-        ensures at_the_end { self.now.redos ≡ [] → IsErrOf result SessionFault.NothingToRedo }
+    // memory runs out.
+    fn prepare_redo(&mut self) -> Result<Prepared, SessionFault>
+        ensures unchanged { self.new ≡ self.old }
+        ensures ready { IfOk result (λ prepared. IsReady Redo self.old prepared self.old) }
+        ensures refused { IfErr result (MayRefuse Redo self.old) }
+        ensures at_the_end { self.old.redos ≡ [] → IsErrOf result SessionFault.NothingToRedo }
     {
         if self.redo_depth() == 0 {
             return Err(SessionFault::NothingToRedo);
         }
         let steps = Steps::of(self.allocator(), self.next_redo())?;
-        let (task, known) = (Task::Redo, None);
-        Ok(Prepared { task, steps, known })
+        let fingerprints = self.fingerprints_next(Next::Redo)?;
+        let task = Task::Redo;
+        Ok(Prepared {
+            task,
+            steps,
+            fingerprints,
+        })
     }
 
     /// Plans an action and reserves the memory that committing it needs. Names, bytes and history stay as they are.

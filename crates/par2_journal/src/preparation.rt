@@ -134,8 +134,8 @@ pub enum Task {
 pub struct Prepared {
     pub(crate) task: Task,
     pub(crate) steps: Steps,
-    // The fingerprints along its changes, if they are known.
-    pub(crate) known: Option<Fingerprints>,
+    // The fingerprints along its changes, for its journals.
+    pub(crate) fingerprints: Fingerprints,
 }
 
 impl Model for Prepared {

@@ -1,6 +1,5 @@
 //! One folder, the changes that lead back, and those that lead forward again. A run opens a session (opening.rt),
-//! prepares an action (commands.rt), spells its journals (`journals_as_prepared`), writes `changes`, and calls
-//! `commit`.
+//! prepares an action (commands.rt), spells its `journals`, writes `changes`, and calls `commit`.
 use crate::ahead::{Ahead, checkpoints_in, fingerprints_for};
 use crate::preparation::Task;
 use crate::spelling::{Fingerprints, settled, spell_command, spell_entry};
@@ -32,8 +31,8 @@ pub struct SessionDigests {
 }
 
 /// A session on a folder: the folder, and a list of entries with a cursor. Entries before the cursor are stored as
-/// undos apply them, the others as redos do. `ahead` has the fingerprints or checkpoints that were computed for the
-/// next journals.
+/// undos apply them, the others as redos do. `ahead` has the fingerprints or checkpoints that its opening computed for
+/// the next action.
 #[derive(Drop)]
 pub struct Session {
     folder: Folder,
@@ -71,7 +70,7 @@ impl Session {
     ghost use Rattle.par2_journal.specs.Along.{AreAlong};
     ghost use Rattle.par2_journal.specs.Kinds.{task_kind};
     ghost use Rattle.par2_journal.specs.Opening.{session_at};
-    ghost use Rattle.par2_journal.specs.Ready.{CanBe, Fits, HasPrintsOf, changes_by_kind, after_commit, kept_journal, next_of};
+    ghost use Rattle.par2_journal.specs.Ready.{CanBe, Fits, changes_by_kind, after_commit, kept_journal, next_of};
     ghost use Rattle.par2_journal.specs.Spelling.{SpellsAction, SpellsReady};
     ghost use Rattle.par2_journal.specs.Walks.{EntriesWalk};
 
@@ -175,21 +174,12 @@ impl Session {
         Ok(())
     }
 
-    // The folder's fingerprint, for `encode`, from checkpoints if the session keeps any.
-    pub(crate) fn fingerprint(&self) -> Result<[u8; 16]>
-        ensures { IfOk result (λ print. print ≡ fingerprint self.now.folder.files) }
-    {
-        let alloc = self.allocator();
-        let checkpoints = checkpoints_in(&self.ahead);
-        Ok(Fingerprints::of(alloc, checkpoints, &self.folder, &[])?.before)
-    }
-
     /// The bytes of the session's settled journal. A run writes it only after taking back a halfway command; the
-    /// journals of an action come from [`Session::journals_as_prepared`].
+    /// journals of an action come from [`Session::journals`].
     pub fn encode(&self) -> Result<Vec<u8>>
         ensures { IfOk result (λ bytes. Spells bytes.items (kept_journal self.now)) }
     {
-        let fingerprint = self.fingerprint()?;
+        let fingerprint = self.folder.fingerprint()?;
         let parts = settled(fingerprint, self.cursor, &self.entries, &[]);
         encode(self.allocator(), &parts)
     }
@@ -260,16 +250,8 @@ impl Session {
         checkpoints_in(&self.ahead).unwrap_or(none)
     }
 
-    // Keeps checkpoints of the folder for the next journals. `AreCheckpointsOf`: MD5 states at names of this folder.
-    pub(crate) fn keep_checkpoints(&mut self, checkpoints: Checkpoints)
-        requires { AreCheckpointsOf self.old.folder.files checkpoints }
-        ensures { self.new ≡ self.old }
-    {
-        self.ahead = Some(Ahead::Checkpoints(checkpoints));
-    }
-
     // Digests the folder and `bytes`, the journal's body, side by side for an opening, and keeps checkpoints for the
-    // next journals.
+    // next action: MD5 states at names of the folder.
     pub(crate) fn fingerprint_with_checkpoints(&mut self, bytes: &[u8]) -> Result<SessionDigests>
         ensures unchanged { self.new ≡ self.old }
         ensures folder { IfOk result (λ x. x.folder ≡ fingerprint self.old.folder.files) }
@@ -277,13 +259,13 @@ impl Session {
     {
         let found = fingerprint_with_checkpoints(self.allocator(), &self.folder, bytes)?;
         let (folder, bytes) = (found.fingerprint, found.digest);
-        self.keep_checkpoints(found.checkpoints);
+        self.ahead = Some(Ahead::Checkpoints(found.checkpoints));
         Ok(SessionDigests { folder, bytes })
     }
 
     // Digests the folder and `bytes`, the journal's body, for an opening before the undo or redo `next`. The
     // fingerprints along its changes are computed side by side with them, which takes little longer, and are kept for
-    // its journals.
+    // it.
     pub(crate) fn digests_ahead(&mut self, next: Next, bytes: &[u8]) -> Result<SessionDigests>
         ensures unchanged { self.new ≡ self.old }
         ensures folder { IfOk result (λ x. x.folder ≡ fingerprint self.old.folder.files) }
@@ -296,6 +278,33 @@ impl Session {
         let (folder, bytes) = (prints.before, digests[0]);
         self.ahead = Some(Ahead::Fingerprints(next, prints));
         Ok(SessionDigests { folder, bytes })
+    }
+
+    // The fingerprints along changes that were planned on the folder, from the checkpoints `from`, or else from those of
+    // an opening, if any.
+    pub(crate) fn fingerprints_along(
+        &self,
+        from: Option<&Checkpoints>,
+        changes: &Changes,
+    ) -> Result<Fingerprints>
+        requires checkpoints { IfSome from
+            (λ from. AreCheckpointsOf self.now.folder.files from.now) }
+        requires applies { IsTrue (takes_all self.now.folder changes.now) }
+        ensures { IfOk result (AreAlong self.now.folder.files changes.now) }
+    {
+        let from = from.or(checkpoints_in(&self.ahead));
+        Fingerprints::of(self.allocator(), from, &self.folder, changes.as_slice())
+    }
+
+    // The fingerprints along the changes of the next undo or redo, or of none if there is none. Those that an opening
+    // computed for it are used once.
+    pub(crate) fn fingerprints_next(&mut self, next: Next) -> Result<Fingerprints>
+        ensures unchanged { self.new ≡ self.old }
+        ensures along { IfOk result (AreAlong self.old.folder.files (next_changes next self.old)) }
+    {
+        let known = fingerprints_for(self.ahead.take(), next);
+        let folder = self.folder();
+        Fingerprints::known_or_of(self.allocator(), known, folder, self.next_changes(next))
     }
 
     // For a repair: the fingerprints along the draft's changes, computed side by side with the MD5s of the files that
@@ -325,13 +334,13 @@ impl Session {
         }
     }
 
-    // The journals of a task, with the fingerprints along its changes if they are `known`. `CanBe`: the task has
-    // changes to apply, or an entry to undo or redo. The changes are applied to the folder and taken back, even if
-    // memory runs out; their bytes are copied only into the journals. Fingerprints in `ahead` are used once.
-    fn spell(&mut self, task: &mut Task, known: Option<&Fingerprints>) -> Result<Journals>
+    // The journals of a task, along whose changes these are the fingerprints. `CanBe`: the task has changes to apply, or
+    // an entry to undo or redo. The changes are applied to the folder and taken back, even if memory runs out; their
+    // bytes are copied only into the journals.
+    fn spell(&mut self, task: &mut Task, fingerprints: &Fingerprints) -> Result<Journals>
         requires can { CanBe (task_kind task.old) self.old }
-        requires known { let changes = changes_by_kind (task_kind task.old) self.old in
-            IfSome known (λ prints. AreAlong self.old.folder.files changes prints.now) }
+        requires along { let changes = changes_by_kind (task_kind task.old) self.old in
+            AreAlong self.old.folder.files changes fingerprints.now }
         ensures unchanged { self.new ≡ self.old }
         ensures task { task_kind task.new ≡ task_kind task.old }
         ensures spelled { IfOk result (SpellsReady (task_kind task.old) self.old) }
@@ -341,26 +350,39 @@ impl Session {
         let folder = &mut self.folder;
         match task {
             Task::Change(changes) => {
-                let checkpoints = checkpoints_in(&self.ahead);
-                let entries = &self.entries;
-                spell_command(alloc, known, checkpoints, entries, cursor, folder, changes)
+                spell_command(alloc, fingerprints, &self.entries, cursor, folder, changes)
             }
             Task::Undo => {
                 let at = cursor - 1;
-                let known = fingerprints_for(self.ahead.take(), Next::Undo);
-                spell_entry(alloc, known, &mut self.entries, at, cursor, at, folder)
+                spell_entry(
+                    alloc,
+                    fingerprints,
+                    &mut self.entries,
+                    at,
+                    cursor,
+                    at,
+                    folder,
+                )
             }
             Task::Redo => {
                 let to = cursor + 1;
-                let known = fingerprints_for(self.ahead.take(), Next::Redo);
-                spell_entry(alloc, known, &mut self.entries, cursor, cursor, to, folder)
+                spell_entry(
+                    alloc,
+                    fingerprints,
+                    &mut self.entries,
+                    cursor,
+                    cursor,
+                    to,
+                    folder,
+                )
             }
         }
     }
 
-    /// The journals of a prepared action. Fingerprints from its preparation aren't used, so the session may have
-    /// another folder by now; the program calls [`Session::journals_as_prepared`] instead. The changes are applied to
-    /// the folder and taken back, even if memory runs out; their bytes are copied only into the journals.
+    /// The journals of a prepared action, to be put in the store before and after its changes. The changes are applied
+    /// to the folder and taken back, even if memory runs out; their bytes are copied only into the journals.
+    /// `SpellsReady`: the journals are those of what is ready. `SpellsAction`: so they are those of each action that it
+    /// was prepared for.
     pub fn journals(&mut self, prepared: &mut Prepared) -> Result<Journals>
         requires { Fits prepared.old self.old }
         ensures unchanged { self.new ≡ self.old }
@@ -368,25 +390,7 @@ impl Session {
         ensures spelled { IfOk result (SpellsReady prepared.old.kind self.old) }
         ensures journals { IfOk result (SpellsAction prepared.old self.old) }
     {
-        self.spell(&mut prepared.task, None)
-    }
-
-    /// The journals of a prepared action, for a session that still has the folder on which it was prepared:
-    /// fingerprints that were computed then are used. They are put in the store before and after the action's changes.
-    pub fn journals_as_prepared(&mut self, prepared: &mut Prepared) -> Result<Journals>
-        // The action can still be committed, and its fingerprints, if any, are along its changes to
-        // this folder.
-        requires fits { Fits prepared.old self.old }
-        requires prints { HasPrintsOf self.old prepared.old }
-        // Both are as before, even if memory runs out.
-        ensures unchanged { self.new ≡ self.old }
-        ensures prepared { prepared.new ≡ prepared.old }
-        // The journals are those of what is ready, and so those of the action that it was prepared
-        // for.
-        ensures spelled { IfOk result (SpellsReady prepared.old.kind self.old) }
-        ensures journals { IfOk result (SpellsAction prepared.old self.old) }
-    {
-        self.spell(&mut prepared.task, prepared.known.as_ref())
+        self.spell(&mut prepared.task, &prepared.fingerprints)
     }
 
     /// Commits a prepared action to the session, after its changes are made in the store, and returns its steps. It

@@ -91,7 +91,7 @@ impl Fingerprints {
 
     // The fingerprints before the changes and after each: those that an opening computed if they are `known`, otherwise
     // computed now. For an undo or redo.
-    fn known_or_of(
+    pub(crate) fn known_or_of(
         alloc: Global,
         known: Option<Fingerprints>,
         folder: &Folder,
@@ -172,7 +172,7 @@ fn both(
 // The journals of a command with these changes, along which these are the fingerprints, in a session with these
 // entries, `cursor` of which are undos. The changes are applied and taken back, even if memory runs out; their bytes
 // are copied only into the journals.
-fn spell_along(
+pub(crate) fn spell_command(
     alloc: Global,
     fingerprints: &Fingerprints,
     entries: &[Changes],
@@ -200,52 +200,21 @@ fn spell_along(
     answer
 }
 
-// The journals of a create, repair or purge with these changes, in a session with these entries, `cursor` of which are
-// undos. Its fingerprints are computed if they aren't `known`, from checkpoints if there are any.
-pub(crate) fn spell_command(
-    alloc: Global,
-    known: Option<&Fingerprints>,
-    checkpoints: Option<&Checkpoints>,
-    entries: &[Changes],
-    cursor: usize,
-    folder: &mut Folder,
-    changes: &mut Changes,
-) -> Result<Journals>
-    // Fingerprints and checkpoints, if any, are those of this folder.
-    requires known { IfSome known (λ prints. AreAlong folder.old.files changes.old prints.now) }
-    requires checkpoints { IfSome checkpoints (λ from. AreCheckpointsOf folder.old.files from.now) }
-    // The changes apply to the folder. The cursor is in the list.
-    requires applies { IsTrue (takes_all folder.old changes.old) }
-    requires cursor { cursor ≤ length entries.now }
-    // The changes are taken back, even if memory runs out.
-    ensures folder { folder.new ≡ folder.old }
-    ensures changes { changes.new ≡ changes.old }
-    // Both journals are those of the command.
-    ensures spelled { IfOk result (SpellsCommand folder.old cursor entries.now changes.old) }
-{
-    if let Some(fingerprints) = known {
-        return spell_along(alloc, fingerprints, entries, cursor, folder, changes);
-    }
-    let fingerprints = Fingerprints::of(alloc, checkpoints, folder, changes.as_slice())?;
-    spell_along(alloc, &fingerprints, entries, cursor, folder, changes)
-}
-
 // The journals of an undo or redo of entry `at`, which is applied and taken back, even if memory runs out. `cursor` is
 // the number of undos before, and `next` the number afterwards. The halfway journal begins with the entries as they are
-// before that, so their bytes are copied only into the journals. The folder is digested only if the fingerprints along
-// the entry aren't known.
+// before that, so their bytes are copied only into the journals.
 pub(crate) fn spell_entry(
     alloc: Global,
-    known: Option<Fingerprints>,
+    fingerprints: &Fingerprints,
     entries: &mut [Changes],
     at: usize,
     cursor: usize,
     next: usize,
     folder: &mut Folder,
 ) -> Result<Journals>
-    // The entry applies to the folder. Fingerprints, if any, are along its changes.
+    // The entry applies to the folder, along these fingerprints.
+    requires along { AreAlong folder.old.files (get_or entries.old at []) fingerprints.now }
     requires applies { IsTrue (takes_all folder.old (get_or entries.old at [])) }
-    requires known { IfSome known (AreAlong folder.old.files (get_or entries.old at [])) }
     // The entry and both cursors are in the list.
     requires place { at < length entries.old }
     requires cursor { cursor ≤ length entries.old }
@@ -256,12 +225,11 @@ pub(crate) fn spell_entry(
     // Both journals are those of the undo or redo.
     ensures spelled { IfOk result (SpellsEntry folder.old cursor entries.old at next) }
 {
-    let fingerprints = Fingerprints::known_or_of(alloc, known, folder, entries[at].as_slice())?;
     let front = begin(alloc, &settled(fingerprints.before, cursor, entries, &[]))?;
     entries[at].apply_and_invert(folder);
     let inverted = &*entries;
     let after = settled(fingerprints.after_all, next, inverted, &[]);
-    let answer = both(alloc, front, &fingerprints, &inverted[at], &after);
+    let answer = both(alloc, front, fingerprints, &inverted[at], &after);
     entries[at].apply_and_invert(folder);
     answer
 }

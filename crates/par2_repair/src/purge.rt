@@ -5,19 +5,21 @@ ghost use Rattle.par2_spec.specs.Commands.{Purge};
 ghost use Rattle.par2_spec.specs.Plans.{purge_changes};
 ghost use Rattle.par2_spec.specs.Refusals.{purge_refusal};
 ghost use Rattle.par2_spec.specs.Answers.{FailsFor};
+ghost use Rattle.par2_sets.specs.SetReading.{own_files};
 ghost use Rattle.par2_spec.specs.Planned.{FailsAs, GivesChanges, LeadsAs, RefusesEarly, SucceedsAs};
 
 use crate::Changes;
 use crate::matching::is_incomplete;
 use crate::reading::read;
-use par2_files::{Change, Folder};
+use par2_files::{Change, Folder, Name};
 use par2_sets::{ParSet, par_files};
 use par2_spec::Fault;
 use std::alloc::Global;
 
-// The changes of a purge of this set: a removal for each of its PAR2 files. It returns `NotComplete` if a target is
-// absent or not intact.
-fn purge_of(alloc: Global, folder: &Folder, set: &ParSet) -> Result<Changes, Fault>
+// The changes of a purge of this set: a removal for each of its PAR2 files, which are `own` without targets. It returns
+// `NotComplete` if a target is absent or not intact.
+fn purge_of(alloc: Global, folder: &Folder, set: &ParSet, own: &[Name]) -> Result<Changes, Fault>
+    requires { own.now ≡ own_files folder.now.files set.now.id }
     ensures refused { FailsFor (purge_refusal folder.now.files set.now) result }
     ensures accepted { OnOk result (purge_refusal folder.now.files set.now ≡ None) }
     ensures changes { IfOk result (λ changes. changes ≡ purge_changes folder.now.files set.now) }
@@ -26,7 +28,7 @@ fn purge_of(alloc: Global, folder: &Folder, set: &ParSet) -> Result<Changes, Fau
     if targets.any(|target| is_incomplete(folder, set, target)) {
         return Err(Fault::NotComplete);
     }
-    let files = par_files(alloc, folder, set)?;
+    let files = par_files(alloc, set, own)?;
     let mut changes = Changes::new(alloc);
     for name in &files {
         changes.push(Change::Remove(name.copied()))?;
@@ -47,5 +49,5 @@ pub fn plan_purge(alloc: Global, folder: &Folder, base: &str) -> Result<Changes,
     ensures leads { LeadsAs folder.now.files (Purge base.now) result }
 {
     let reading = read(alloc, folder, base, &[])?;
-    purge_of(alloc, folder, &reading.set)
+    purge_of(alloc, folder, &reading.set, &reading.own_files)
 }

@@ -4,17 +4,18 @@ ghost use Rattle.std.specs.Prelude.{◌≡◌, ◌<◌, Some, not, map, filter, 
 ghost use Rattle.par2_spec.specs.Answers.{Lists};
 ghost use Rattle.par2_spec.specs.Folders.{has};
 ghost use Rattle.par2_spec.specs.Refusals.{absent_file, set_in};
-ghost use Rattle.par2_sets.specs.SetReading.{Returns};
+ghost use Rattle.par2_sets.specs.SetReading.{Returns, own_files};
 
 use par2_files::{Folder, Name};
-use par2_sets::{ParSet, set_of};
+use par2_sets::{ParSet, ReadSet, set_of};
 use par2_spec::{Fault, Result};
 use std::alloc::Global;
 
-/// The result of `read`: the set of a base, and the names of the extra files.
+/// The result of `read`: the set of a base, the files that have packets of the set alone, and the extra files.
 #[derive(Drop)]
 pub struct Reading<'a> {
     pub set: ParSet<'a>,
+    pub own_files: Vec<Name>,
     pub extras: Vec<Name>,
 }
 
@@ -61,6 +62,8 @@ pub fn read<'a>(
     ensures early { (fault : Fault)
         → absent_file folder.now.files base.now (map string_bytes extras.now) ≡ Some fault
         → IsErrOf result fault }
+    ensures own { IfOk result
+        (λ reading. reading.own_files.items ≡ own_files folder.now.files reading.set.id) }
     ensures extras { IfOk result (λ reading. reading.extras.items ≡ map string_bytes extras.now) }
 {
     let base = present(folder, base).ok_or(Fault::NoSuchFile(0))?;
@@ -68,6 +71,10 @@ pub fn read<'a>(
         return Err(Fault::NoSuchFile(place + 1));
     }
     let extras = present_extras(alloc, folder, extras)?;
-    let set = set_of(alloc, folder, &base)?;
-    Ok(Reading { set, extras })
+    let ReadSet { set, own_files } = set_of(alloc, folder, &base)?;
+    Ok(Reading {
+        set,
+        own_files,
+        extras,
+    })
 }

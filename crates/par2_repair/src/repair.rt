@@ -9,6 +9,8 @@ ghost use Rattle.par2_spec.specs.Search as search;
 ghost use Rattle.par2_laws.specs.Answers.{RestoresFiles, RestoresInputs, folder_left};
 ghost use Rattle.par2_repair.specs.Restoring.{md5s_of, undetermined_fault};
 ghost use Rattle.par2_sets.specs.Asides.{HoldsOwned};
+ghost use Rattle.par2_sets.specs.SetReading.{own_files};
+ghost use Rattle.par2_spec.specs.Folders.{Folder as Files};
 ghost use Rattle.par2_spec.specs.Answers.{FailsFor, Lists};
 ghost use Rattle.par2_spec.specs.Planned.{FailsAs, GivesChanges, LeadsAs, RefusesEarly, SucceedsAs, repair_of};
 ghost use Rattle.par2_repair.specs.Drafts.{IsDraft, IsDraftBy};
@@ -17,7 +19,7 @@ ghost use Rattle.par2_repair.specs.Repairing.{IsWholeWhereMatched, AreMoves, Are
 use crate::candidates::candidates;
 use crate::matching::{Incomplete, matches};
 use crate::moves::{Moves, moves_of, push_removals, repair_changes, unmatched};
-use crate::reading::read;
+use crate::reading::{Reading, read};
 use crate::restored_files::{Restored, restored_files};
 use crate::restored_slices::restored_slices;
 use crate::{Changes, Draft};
@@ -62,46 +64,51 @@ fn md5s_of(alloc: Global, restored: &[Restored]) -> Result<Vec<[u8; 16]>>
 // The changes of a repair: moves, writes of the restored targets and, with `purge`, removals.
 fn changes_with(
     alloc: Global,
-    folder: &Folder,
-    set: &ParSet,
+    reading: &Reading,
     moves: &Moves,
     restored: Vec<Restored>,
     purge: bool,
 ) -> Result<Changes>
-    ensures { (searched : List (List ℕ)) → AreMoves folder.now.files set.now searched moves.now
-        → restored.entry.items ≡ rebuilt_targets folder.now.files set.now searched
-        → IfOk result (λ changes. changes ≡ repair_by purge folder.now.files set.now searched) }
+    ensures { (files : Files) (searched : List (List ℕ))
+        → reading.now.own_files.items ≡ own_files files reading.now.set.id
+        → AreMoves files reading.now.set searched moves.now
+        → restored.entry.items ≡ rebuilt_targets files reading.now.set searched
+        → IfOk result (λ changes. changes ≡ repair_by purge files reading.now.set searched) }
 {
     let mut changes = repair_changes(alloc, moves, restored)?;
     if purge {
-        let files = par_files(alloc, folder, set)?;
+        let files = par_files(alloc, &reading.set, &reading.own_files)?;
         push_removals(alloc, &mut changes, moves, &files)?;
     }
     Ok(changes)
 }
 
-// The draft of a repair of this set, with its incomplete targets and their matches among the candidates. It is refused
+// The draft of a repair of the set, with its incomplete targets and their matches among the candidates. It is refused
 // if the lost slices aren't determined or an aside is too long. `IsDraftBy`: only a wrong MD5 can still refuse it.
 fn draft_with(
     alloc: Global,
     folder: &Folder,
-    set: &ParSet,
+    reading: &Reading,
     candidates: &[Name],
     incomplete: &[Incomplete],
     purge: bool,
 ) -> Result<Draft, Fault>
-    requires incomplete { incomplete.now ≡ search.matches folder.now.files set.now candidates.now }
-    requires whole { IsWholeWhereMatched folder.now.files set.now candidates.now }
-    ensures refused { FailsFor (repair_refusal folder.now.files set.now candidates.now) result }
-    ensures draft { IfOk result (IsDraftBy purge folder.now.files set.now candidates.now) }
+    requires own { reading.now.own_files.items ≡ own_files folder.now.files reading.now.set.id }
+    requires incomplete { incomplete.now
+        ≡ search.matches folder.now.files reading.now.set candidates.now }
+    requires whole { IsWholeWhereMatched folder.now.files reading.now.set candidates.now }
+    ensures refused { FailsFor (repair_refusal folder.now.files reading.now.set candidates.now)
+        result }
+    ensures draft { IfOk result (IsDraftBy purge folder.now.files reading.now.set candidates.now) }
 {
+    let set = &reading.set;
     let restored = {
         let unmatched = unmatched(alloc, incomplete)?;
         files_for(alloc, folder, set, candidates, &unmatched)?
     };
     let md5s = md5s_of(alloc, &restored)?;
     let moves = moves_of(alloc, folder, set, incomplete)?;
-    let changes = changes_with(alloc, folder, set, &moves, restored, purge)?;
+    let changes = changes_with(alloc, reading, &moves, restored, purge)?;
     Ok(Draft { changes, md5s })
 }
 
@@ -126,7 +133,14 @@ pub fn draft_repair(
     let set = &reading.set;
     let candidates = candidates(alloc, folder, set, &reading.extras)?;
     let targets = matches(alloc, folder, set, &candidates)?;
-    draft_with(alloc, folder, set, &candidates, &targets.incomplete, purge)
+    draft_with(
+        alloc,
+        folder,
+        &reading,
+        &candidates,
+        &targets.incomplete,
+        purge,
+    )
 }
 
 // `plan_repair` without the clauses that follow from laws: it drafts the repair, computes the MD5s of the written files

@@ -5,4 +5,5 @@ pub mod Exponents
 pub mod Firsts
 pub mod Refusals
 pub mod Reading
+mod OwnFiles
 pub mod TakenNames

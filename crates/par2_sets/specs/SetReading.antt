@@ -1,10 +1,13 @@
 -- The steps in which a set is read, each with its fault.
-use Rattle.std.specs.Prelude.{◌≡◌, ◌⊎◌, ℕ, ◌==◌, List, [], ◌∷◌, map, flat_map, Some, Result, Ok, Err, ok_or, if◌then◌else◌}
+use Rattle.std.specs.Prelude.{◌≡◌, ◌⊎◌, ℕ, ◌==◌, ◌&&◌, Bool, List, [], ◌∷◌, filter, map, flat_map, Some, Result, Ok, Err, ok_or, if◌then◌else◌}
+use Rattle.std.specs.List.{list_all, list_any}
+use Rattle.std.specs.Str.{bytes_eq}
 use Rattle.par2_spec.specs.declared.Fault.{Fault}
 use Rattle.par2_spec.specs.declared.Fault.TheVariants.{NoMain, BadSet, NoDescription, NoChecksums, Memory}
 use Rattle.par2_spec.specs.Checksums.{Pair}
 use Rattle.par2_spec.specs.Slices.{slice_count}
-use Rattle.par2_spec.specs.Folders.{Folder, bytes_of}
+use Rattle.par2_spec.specs.Folders.{Folder, bytes_of, names}
+use Rattle.par2_spec.specs.Names.{is_par_name}
 use Rattle.par2_spec.specs.Packets.{Packet, DescBody, accepted}
 use Rattle.par2_spec.specs.Sets.{ParSet, Target, ◌>>=◌, unless, is_slice_size, main_of, all_some, packets_with, are_in_profile, description_of, pairs_of, target_of, recovery_of, other_par_names}
 
@@ -21,6 +24,18 @@ packets_in folder base others id =
 -- the packets of a set in the base and in every other `.par2` file
 abbrev pub set_packets : Folder → List ℕ → List ℕ → List Packet
 set_packets folder base id = packets_in folder base (other_par_names folder base) id
+
+-- there are packets, and all are of the set with this identifier
+abbrev pub are_own : List ℕ → List Packet → Bool
+are_own id packets = list_any (λ p. bytes_eq p.set_id id) packets && list_all (λ p. bytes_eq p.set_id id) packets
+
+-- the file of this name has packets, all of the set
+abbrev pub has_own : Folder → List ℕ → List ℕ → Bool
+has_own folder id name = are_own id (accepted (bytes_of folder name))
+
+-- the names of the `.par2` files that have packets of the set alone, in order
+abbrev pub own_files : Folder → List ℕ → List (List ℕ)
+own_files folder id = filter (has_own folder id) (filter is_par_name (names folder))
 
 -- the descriptions of the files with these File IDs, or the fault that one has none
 abbrev pub descriptions_of : List Packet → List (List ℕ) → Result (List DescBody) Fault

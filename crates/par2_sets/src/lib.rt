@@ -10,5 +10,5 @@ mod set;
 mod targets;
 
 pub use listing::{asides, par_files};
-pub use set::{ParSet, set_of};
+pub use set::{ParSet, ReadSet, set_of};
 pub use targets::Target;

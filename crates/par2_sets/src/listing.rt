@@ -1,62 +1,39 @@
 //! The names of a set's targets and PAR2 files, and asides: the names to which a repair renames files of incomplete
 //! targets before it writes the targets.
 
-ghost use Rattle.std.specs.Prelude.{◌≡◌, ◌&&◌, ℕ, List, IfOk, ◌⊎◌, ◌<◌, ◌+◌, ◌++◌, ◌∷◌, [], None, length, map, IfErr};
-ghost use Rattle.std.specs.List.{list_any, list_all};
-ghost use Rattle.std.specs.Str.{bytes_eq};
+ghost use Rattle.std.specs.Prelude.{◌≡◌, ℕ, List, IfOk, ◌⊎◌, ◌<◌, ◌+◌, ◌++◌, ◌∷◌, [], None, length, map, IfErr};
 ghost use Rattle.par2_spec.specs.Answers.{Lists, FailsFor};
 ghost use Rattle.par2_spec.specs.Names.{is_among};
-ghost use Rattle.par2_spec.specs.Packets.{accepted};
 ghost use Rattle.par2_spec.specs.Sets.{target_names};
 ghost use Rattle.par2_sets.specs.Asides.{HoldsOwned, long_aside};
+ghost use Rattle.par2_sets.specs.SetReading.{own_files};
 ghost use Rattle.par2_spec.specs.Repairs.{aside, AreFew, taken_for};
 ghost use Rattle.par2_spec.specs.Repairs as repairs;
 ghost use Rattle.par2_spec.specs.Folders as folders;
+ghost use Rattle.par2_spec.specs.Folders.{Folder as Files};
 ghost use Rattle.par2_spec.specs.Names as names;
 
 use crate::ParSet;
 use itoa::Buffer;
 use par2_files::{Folder, Name};
-use par2_packets::Packets;
 use par2_spec::repair_laws::aside_is_found;
 use par2_spec::{Fault, Result};
 use std::alloc::Global;
 use std::collections::BTreeSet;
 
-// Whether a file has packets, and only of the set with this identifier, so that a purge may remove it.
-fn has_only_packets_of(bytes: &[u8], id: &[u8; 16]) -> bool
-    ensures { let packets = accepted bytes.now in
-        result ≡ (list_any (λ p. bytes_eq p.set_id id.now) packets
-        && list_all (λ p. bytes_eq p.set_id id.now) packets) }
-{
-    let mut found = false;
-    for packet in Packets::new(bytes) {
-        if packet.set_id != *id {
-            return false;
-        }
-        found = true;
-    }
-    found
-}
-
-// Whether the name is that of a PAR2 file of the set. `targets` has the names of the set's targets.
-fn is_par_file(folder: &Folder, set: &ParSet, targets: &BTreeSet<Name>, name: &Name) -> bool
-    requires { HoldsOwned targets.now (target_names set.now) }
-    ensures { result ≡ repairs.is_par_file folder.now.files set.now name.now }
-{
-    name.is_par()
-        && !targets.contains(name)
-        && has_only_packets_of(folder.bytes_of(name), &set.id())
-}
-
-/// The names of the set's PAR2 files, in order, which a purge removes: they end in `.par2`, have packets of the set and
-/// of no other, and aren't targets.
-pub fn par_files(alloc: Global, folder: &Folder, set: &ParSet) -> Result<Vec<Name>>
-    ensures { Lists (repairs.par_files folder.now.files set.now) result }
+/// The names of the set's PAR2 files, in order, which a purge removes. `own` has the files that `set_of` found to have
+/// packets of the set alone: those that are targets stay.
+pub fn par_files(alloc: Global, set: &ParSet, own: &[Name]) -> Result<Vec<Name>>
+    ensures { (files : Files) → own.now ≡ own_files files set.now.id
+        → Lists (repairs.par_files files set.now) result }
 {
     let targets = target_names(alloc, set)?;
-    let mut names = folder.names()?;
-    names.retain(|name| is_par_file(folder, set, &targets, name));
+    let mut names = Vec::new(alloc);
+    for name in own {
+        if !targets.contains(name) {
+            names.push(name.copied())?;
+        }
+    }
     Ok(names)
 }
 

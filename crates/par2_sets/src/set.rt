@@ -9,7 +9,7 @@ ghost use Rattle.par2_spec.specs.Sets as sets;
 ghost use Rattle.par2_spec.specs.Sets.{IsSound};
 ghost use Rattle.par2_packets.specs.PacketViews.{packet_view};
 ghost use Rattle.par2_sets.specs.Slices.{set_recovery, set_exponents};
-ghost use Rattle.par2_sets.specs.SetReading.{Returns, set_from_packets};
+ghost use Rattle.par2_sets.specs.SetReading.{Returns, own_files, set_from_packets};
 
 use crate::Target;
 use crate::packets::packets_of;
@@ -110,19 +110,31 @@ fn set_in<'a>(alloc: Global, id: [u8; 16], packets: &[Packet<'a>]) -> Result<Par
     })
 }
 
+/// A set, and the files that a purge may remove.
+#[derive(Drop)]
+pub struct ReadSet<'a> {
+    pub set: ParSet<'a>,
+    /// The names of the `.par2` files that have packets, all of the set, in order.
+    pub own_files: Vec<Name>,
+}
+
 /// The set that the packets of the base and of the other `.par2` files describe, or the fault of the first part that is
 /// absent or wrong. Its Recovery Set ID is that of the base's first packet, and packets of other sets are ignored.
 #[tactic(auto, unfolding(par2_spec::specs::Sets::set_of, par2_spec::specs::Sets::read_set))]
-pub fn set_of<'a>(alloc: Global, folder: &'a Folder, base: &Name) -> Result<ParSet<'a>, Fault>
+pub fn set_of<'a>(alloc: Global, folder: &'a Folder, base: &Name) -> Result<ReadSet<'a>, Fault>
     ensures refused { let read = sets.set_of folder.now.files base.now in
         IfErr result (λ fault. (fault ≡ Fault.Memory) ⊎ (read ≡ Err fault)) }
-    ensures read { IfOk result (λ set. sets.set_of folder.now.files base.now ≡ Ok set) }
-    ensures sound { IfOk result IsSound }
+    ensures read { IfOk result (λ read. sets.set_of folder.now.files base.now ≡ Ok read.set) }
+    ensures sound { IfOk result (λ read. IsSound read.set) }
+    ensures own { IfOk result
+        (λ read. read.own_files.items ≡ own_files folder.now.files read.set.id) }
 {
     // For the prover: the set is sound.
     set_is_sound();
     let first = Packets::new(folder.bytes_of(base)).next();
     let id = first.ok_or(Fault::NoPackets)?.set_id;
-    let packets = packets_of(alloc, folder, base, &id)?;
-    set_in(alloc, id, &packets)
+    let found = packets_of(alloc, folder, base, &id)?;
+    let set = set_in(alloc, id, &found.packets)?;
+    let own_files = found.own_files;
+    Ok(ReadSet { set, own_files })
 }

@@ -1,5 +1,5 @@
 //! One command on an opened store and its session. `perform` prepares it in memory (`Session::prepare`, then
-//! `journals_as_prepared`), writes it to the store (`write_down`), and commits it to the session (`Session::commit`).
+//! `Session::journals`), writes it to the store (`write_down`), and commits it to the session (`Session::commit`).
 ghost use Rattle.std.specs.Prelude.{◌≡◌, ◌+◌, ◌<◌, ◌≤◌, IfOk, IfErr, OnOk, OnErr};
 ghost use Rattle.par2_spec.specs.Sessions.{session_of_kept, changes_requested};
 ghost use Rattle.par2_spec.specs.Stores.{Contents};
@@ -147,7 +147,7 @@ pub fn perform<S: FolderStore>(
         Ok(prepared) => prepared,
         Err(fault) => return Err(PerformFault::Session(fault)),
     };
-    let journals = session.journals_as_prepared(&mut prepared)?;
+    let journals = session.journals(&mut prepared)?;
     match write_down(store, &journals, session.changes(&prepared)) {
         Ok(()) => Ok(Outcome::Done(session.commit(prepared))),
         Err(_) => Err(PerformFault::Store),

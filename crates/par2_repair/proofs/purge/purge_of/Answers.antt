@@ -27,4 +27,4 @@ loop-name-preserved c =
 pub returns-clause-changes : goal.returns-clause-changes
 returns-clause-changes c =
     c.loop-name.invariant
-    ∙ ap (map Remove) (take_all c.loop-name.name-index c.deref-name-items.result.now c.loop-name-test.false ∙ c.deref-name-items.ensures.value ∙ c.in_ok-files.ensures)
+    ∙ ap (map Remove) (take_all c.loop-name.name-index c.deref-name-items.result.now c.loop-name-test.false ∙ c.deref-name-items.ensures.value ∙ c.in_ok-files.ensures c.args.folder.now.files c.requires)

@@ -1,11 +1,10 @@
-use Rattle.par2_journal.proofs.Common.{subst, OnlyGrew, KeptSession, Create, create_args_of, ok_no_err}
+use Rattle.par2_journal.proofs.Common.{Create, create_args_of, ok_no_err}
 use Rattle.par2_journal.proofs.Readiness.{plan_ready}
 use Rattle.par2_journal.proofs.session.Session.prepare_create.Goals as goal
 
 pub returns : goal.returns
 returns c =
-    let planned = c.in_ok-creation.ensures in
+    let planned = c.in_ok-plan.ensures in
     let ready = c.prepare_changes.ensures in
-    let kept = subst (λ (s : KeptSession). OnlyGrew s c.prepare_changes.new.self) c.keep_checkpoints.ensures ready.kept in
-    plan_ready c.args.self.now c.prepare_changes.new.self (Create (create_args_of c.args.args.now)) c.in_ok-creation.creation.changes tt kept c.folder.result.now c.folder.ensures.folder
-    planned.accepted planned.changes planned.applies planned.leads (λ fault found. ok_no_err _ _ (planned.early fault found)) c.prepare_changes.result ready.kind ready.fits ready.prints ready.refused
+    plan_ready c.args.self.now c.prepare_changes.new.self (Create (create_args_of c.args.args.now)) c.in_ok-plan.plan.changes tt ready.kept c.folder.result.now c.folder.ensures.folder
+    planned.accepted planned.changes planned.applies planned.leads (λ fault found. ok_no_err _ _ (planned.early fault found)) c.prepare_changes.result ready.kind ready.fits ready.refused

@@ -1,4 +1,4 @@
-use Rattle.par2_journal.proofs.Common.{◌≡◌, ◌≢◌, ◌∙◌, length, ap, arith, step_of}
+use Rattle.par2_journal.proofs.Common.{◌≡◌, ◌≢◌, ◌∙◌, length, ap, arith, step_of, prints_of}
 use Rattle.std.specs.Prelude.{map}
 use Rattle.par2_journal.proofs.Readiness.{nothing_to_redo, ready_redo}
 use Rattle.par2_journal.proofs.session.Session.prepare_redo.Goals as goal
@@ -11,4 +11,5 @@ returns-then-redo_depth-eq0-clause-refused c =
 pub returns-clause-ready : goal.returns-clause-ready
 returns-clause-ready c =
     let some : length c.args.self.now.redos ≢ 0 = grind (arith, c.redo_depth.ensures, c.if-redo_depth-eq0.false) in
-    ready_redo c.args.self.now c.in_ok-steps.steps (λ none. some (ap length none)) (c.in_ok-steps.ensures ∙ ap (map step_of) c.next_redo.ensures)
+    ready_redo c.args.self.now c.in_ok-steps.steps (prints_of c.in_ok-fingerprints.fingerprints) (λ none. some (ap length none)) (c.in_ok-steps.ensures ∙ ap (map step_of) c.next_redo.ensures)
+    c.in_ok-fingerprints.ensures.along

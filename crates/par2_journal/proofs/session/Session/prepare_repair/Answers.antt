@@ -1,4 +1,4 @@
-use Rattle.par2_journal.proofs.Common.{◌≡◌, List, ℕ, Bool, Some, map, string_bytes, sym, subst, Global, err_from_is_err_and, Repair, FolderState, String, IsDraft, Draft, ok_no_err, early_refusal}
+use Rattle.par2_journal.proofs.Common.{◌≡◌, List, ℕ, Bool, Some, map, string_bytes, sym, subst, Global, err_from_is_err_and, Repair, FolderState, String, IsDraft, Draft, ok_no_err, early_refusal, prints_of}
 use Rattle.par2_journal.proofs.Readiness.{draft_ready, draft_refused}
 use Rattle.par2_journal.proofs.session.Session.prepare_repair.Goals as goal
 
@@ -25,7 +25,7 @@ returns-clause-ready c =
     let is = draft_here c.folder.result.now c.args.self.now.folder c.args.base.now c.args.extras.now c.args.purge c.in_ok-draft.draft c.folder.ensures.folder c.in_ok-draft.ensures.draft in
     let way = c.in_ok-steps.ensures in
     let tested = c.in_ok-changes.ensures in
-    draft_ready c.args.self.now c.make_way.new.self c.args.base.now (map string_bytes c.args.extras.now) c.args.purge c.in_ok-draft.draft c.in_ok-changes.changes c.in_ok-steps.steps c.in_ok-fingerprints.fingerprints
+    draft_ready c.args.self.now c.make_way.new.self c.args.base.now (map string_bytes c.args.extras.now) c.args.purge c.in_ok-draft.draft c.in_ok-changes.changes c.in_ok-steps.steps (prints_of c.in_ok-fingerprints.fingerprints)
     c.make_way.ensures.kept is tested.right tested.changes way.can way.steps c.in_ok-fingerprints.ensures.along
     (λ fault found. ok_no_err _ _ (c.in_ok-draft.ensures.early fault (subst (λ (f : FolderState). early_refusal f.files (Repair c.args.base.now (map string_bytes c.args.extras.now) c.args.purge) ≡ Some fault) (sym c.folder.ensures.folder) found)))
 

@@ -1,15 +1,34 @@
-use Rattle.par2_journal.proofs.Common.{◌+◌, ◌-◌, refl, sym, ap, subst, List, IfSome, Bor, Change, Folder, AreAlong, Fingerprints, vec_len, vec_capacity, length, arith, KeptSession, Kind, Undoing, Redoing, changes_by_kind, Add, history_step_of, Replace, HasNext}
+use Rattle.par2_journal.proofs.Common.{◌+◌, ◌-◌, refl, sym, ap, subst, ◌≡◌, List, Change, Folder, AreAlong, Fingerprints, vec_len, vec_capacity, length, arith, KeptSession, Kind, Undoing, Redoing, changes_by_kind, Add, history_step_of, Replace, HasNext}
 use Rattle.par2_journal.specs.Kinds.{task_kind}
 use Rattle.par2_journal.proofs.SessionJournals.{next_here, ready_applies, ready_spelled, undo_entry, redo_entry}
 use Rattle.par2_journal.proofs.session.Session.spell.Goals.{In-Undo}
 use Rattle.par2_journal.proofs.session.Session.spell.Goals as goal
 
-pub spell_command-requires-clause-known : goal.spell_command-requires-clause-known
-spell_command-requires-clause-known c =
+pub spell_command-requires-clause-along : goal.spell_command-requires-clause-along
+spell_command-requires-clause-along c =
     let kind = ap task_kind c.in-Change.is in
     let folder = ap (λ (s : KeptSession). s.folder.files) (sym c.self.view_is) in
-    subst (λ (p : Folder × List Change). IfSome c.args.known (λ (prints : Bor Fingerprints). AreAlong p.0 p.1 prints.now))
-    (λ i. (folder i, changes_by_kind (kind i) c.args.self.now)) c.requires.known
+    subst (λ (p : Folder × List Change). AreAlong p.0 p.1 c.args.fingerprints.now) (λ i. (folder i, changes_by_kind (kind i) c.args.self.now)) c.requires.along
+
+-- the fingerprints are along the entry, as the session's fields have it
+along_entry : (s t : KeptSession) (prints : Fingerprints) (entry changes : List Change) → s ≡ t → entry ≡ changes → AreAlong t.folder.files changes prints → AreAlong s.folder.files entry prints
+along_entry s t prints entry changes same is along = subst (λ (p : KeptSession × List Change). AreAlong p.0.folder.files p.1 prints) (λ i. (sym same i, sym is i)) along
+
+pub spell_entry-requires-clause-along : goal.spell_entry-requires-clause-along
+spell_entry-requires-clause-along c =
+    let s = c.self.inside in
+    let room = vec_capacity s.entries - vec_len s.entries in
+    let kind = ap task_kind c.in-Undo.is in
+    let are = undo_entry s.entries.items s.cursor c.self.invariant.within s.folder room c.args.self.now c.self.view_is (task_kind c.args.task.now) c.requires.can kind c.deref_mut.result.now c.deref_mut.ensures.value in
+    along_entry _ c.args.self.now c.args.fingerprints.now _ _ c.self.view_is are c.requires.along
+
+pub spell_entry-requires-in-Redo-clause-along : goal.spell_entry-requires-in-Redo-clause-along
+spell_entry-requires-in-Redo-clause-along c =
+    let s = c.self.inside in
+    let room = vec_capacity s.entries - vec_len s.entries in
+    let kind = ap task_kind c.in-Redo.is in
+    let are = redo_entry s.entries.items s.cursor c.self.invariant.within s.folder room c.args.self.now c.self.view_is (task_kind c.args.task.now) c.requires.can kind c.deref_mut-in-Redo.result.now c.deref_mut-in-Redo.ensures.value in
+    along_entry _ c.args.self.now c.args.fingerprints.now _ _ c.self.view_is are c.requires.along
 
 pub spell_entry-requires-clause-applies : goal.spell_entry-requires-clause-applies
 spell_entry-requires-clause-applies c =

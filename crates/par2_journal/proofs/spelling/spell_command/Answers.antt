@@ -1,7 +1,7 @@
 use Rattle.par2_journal.proofs.Common.{length, ap, ◌∙◌, arith}
 use Rattle.par2_journal.proofs.Ways.{back_taken, back_leads, back_again, back_length}
 use Rattle.par2_journal.proofs.SessionJournals.{folders_count}
-use Rattle.par2_journal.proofs.spelling.spell_along.Goals as goal
+use Rattle.par2_journal.proofs.spelling.spell_command.Goals as goal
 
 pub both-answer-requires-clause-each : goal.both-answer-requires-clause-each
 both-answer-requires-clause-each c =
