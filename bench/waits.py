@@ -32,9 +32,7 @@ class Waits:
         self.found = os.path.join(room, "found")
         self.here = os.path.join(room, "here")
         self.shim = os.path.join(room, "hurry.so")
-        kit = os.path.dirname(subprocess.check_output(["rt", "doc"], text=True).strip())
-        build = ["-shared", "-fPIC", "-O2", "-nostdlib", "-o", self.shim, os.path.join(HERE, "../tests/preload/forget_waits.c")]
-        subprocess.run([os.path.join(kit, "toolchain/bin/clang"), *build], check=True)
+        subprocess.run(["sh", os.path.join(HERE, "../tests/preload/build.sh"), "forget_waits", self.shim], check=True)
 
     def fresh(self, count, size):
         """Fills the folder with `count` files of random bytes."""

@@ -52,9 +52,7 @@ class Programs:
     def __init__(self, room):
         self.room = room
         self.shim = os.path.join(room, "refuse.so")
-        kit = os.path.dirname(subprocess.check_output(["rt", "doc"], text=True).strip())
-        build = ["-shared", "-fPIC", "-O2", "-nostdlib", "-o", self.shim, os.path.join(ROOT, "tests/preload/refuse_memory.c")]
-        subprocess.run([os.path.join(kit, "toolchain/bin/clang"), *build], check=True)
+        subprocess.run(["sh", os.path.join(ROOT, "tests/preload/build.sh"), "refuse_memory", self.shim], check=True)
 
     def said(self, name, words, lines="", **variables):
         """Returns what a program writes. If growths are shown, each is there as an exclamation mark."""

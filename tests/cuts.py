@@ -264,9 +264,7 @@ class Runs:
         self.room = room
         self.program = os.path.realpath(program)
         self.shim = os.path.join(room, "record.so")
-        kit = os.path.dirname(subprocess.check_output(["rt", "doc"], text=True).strip())
-        build = ["-shared", "-fPIC", "-O2", "-nostdlib", "-o", self.shim, os.path.join(HERE, "preload/record_calls.c")]
-        subprocess.run([os.path.join(kit, "toolchain/bin/clang"), *build], check=True)
+        subprocess.run(["sh", os.path.join(HERE, "preload/build.sh"), "record_calls", self.shim], check=True)
         self.record = open(os.path.join(room, "record"), "w+b", buffering=0)
         os.dup2(self.record.fileno(), RECORD)
 

@@ -288,11 +288,9 @@ def wrong_growths(room):
 
 
 def main():
-    clang = os.path.join(os.path.dirname(subprocess.check_output(["rt", "doc"], text=True).strip()), "toolchain/bin/clang")
     with tempfile.TemporaryDirectory() as room:
         shim = os.path.join(room, "refuse.so")
-        build = ["-shared", "-fPIC", "-O2", "-nostdlib", "-o", shim, os.path.join(ROOT, "tests/preload/refuse_memory.c")]
-        subprocess.run([clang, *build], check=True)
+        subprocess.run(["sh", os.path.join(ROOT, "tests/preload/build.sh"), "refuse_memory", shim], check=True)
         found = wrong(room)
     for line in found:
         print(line)

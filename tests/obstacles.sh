@@ -7,11 +7,10 @@
 # in a folder where some files are private, or a group's, can be read by nobody else, from the moment it is created.
 set -eu
 cd "$(dirname "$0")/.."
-clang=$(dirname "$(rt doc)")/toolchain/bin/clang
 room=$(mktemp -d)
 trap 'chmod -R u+rwx "$room"; rm -rf "$room"' EXIT
 cp crates/par2/out/par2 "$room/par2"
-"$clang" -shared -fPIC -O2 -nostdlib -o "$room/meddle.so" tests/preload/obstruct.c
+sh tests/preload/build.sh obstruct "$room/meddle.so"
 chmod 755 "$room" "$room/par2"
 mkdir "$room/outside" "$room/whole" "$room/found"
 printf 'of another folder' > "$room/outside/kept"

@@ -195,11 +195,9 @@ def undos(runs):
 
 
 def main():
-    kit = os.path.dirname(subprocess.run(["rt", "doc"], stdout=subprocess.PIPE, text=True, check=True).stdout.strip())
     with tempfile.TemporaryDirectory() as room:
         runs = Refusals(room)
-        compiler = [os.path.join(kit, "toolchain/bin/clang"), "-shared", "-fPIC", "-O2", "-nostdlib"]
-        subprocess.run([*compiler, "-o", runs.shim, os.path.join(ROOT, "tests/preload/refuse_memory.c")], check=True)
+        subprocess.run(["sh", os.path.join(ROOT, "tests/preload/build.sh"), "refuse_memory", runs.shim], check=True)
         for part in (creates, several_files, repairs, undos):
             part(runs)
 

@@ -5,10 +5,9 @@
 set -eu
 cd "$(dirname "$0")/.."
 par2=$PWD/crates/par2/out/par2
-clang=$(dirname "$(rt doc)")/toolchain/bin/clang
 room=$(mktemp -d)
 trap 'rm -rf "$room"' EXIT
-"$clang" -shared -fPIC -O2 -nostdlib -o "$room/stop.so" tests/preload/stop_calls.c
+sh tests/preload/build.sh stop_calls "$room/stop.so"
 
 # More calls than any of these runs makes.
 most=1000

@@ -56,9 +56,7 @@ class Runs:
         self.shim = os.path.join(room, "hold.so")
         self.alone = {}
         self.opened = {}
-        kit = os.path.dirname(subprocess.check_output(["rt", "doc"], text=True).strip())
-        build = ["-shared", "-fPIC", "-O2", "-nostdlib", "-o", self.shim, os.path.join(HERE, "preload/hold_calls.c")]
-        subprocess.run([os.path.join(kit, "toolchain/bin/clang"), *build], check=True)
+        subprocess.run(["sh", os.path.join(HERE, "preload/build.sh"), "hold_calls", self.shim], check=True)
 
     def folder(self, files):
         """Makes a folder of these files. Its journal is old, so that no later one is of the same time."""
