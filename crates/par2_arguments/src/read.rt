@@ -118,7 +118,8 @@ fn verify_of(alloc: Global, matches: &ArgMatches<'_>) -> Result<Command, WordsFa
     })
 }
 
-// The repair that the matches of its subcommand request. `IsMeant`: exactly that, or Memory.
+// The repair that the matches of its subcommand request. `IsMeant`: as an action of the definitions it is exactly that
+// one, or memory ran out.
 fn repair_of(alloc: Global, matches: &ArgMatches<'_>) -> Result<Command, WordsFault>
     ensures { IsMeant result (repair_meaning (rows_of (found_of matches.now))) }
 {

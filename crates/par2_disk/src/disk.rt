@@ -106,7 +106,7 @@ impl<D: Directory> DiskStore<D> {
     }
 
     // Counts a call that can't be done, such as a read of a name without a file, and returns its fault. `OnlyLooks`:
-    // the directory stays.
+    // nothing else changes.
     fn refuse(&mut self) -> StoreFault
         ensures counts { OnlyLooks self.old self.new }
         ensures impossible { disk_impossible self.new ≡ disk_impossible self.old + 1 }

@@ -68,7 +68,8 @@ fn name_of(kind: FileType, name: &str) -> io::Result<Option<Name>>
     }
 }
 
-// The name that an item of a listing adds to the files, if any; or the item's error, or that of its kind or its name.
+// The name of the file that an item of a listing is, or None if it is no file or belongs to the history. It fails with
+// the item's error, with that of asking its kind, or because the file's name isn't a `Name`.
 fn name_in<E: Entry + Drop>(item: io::Result<E>) -> io::Result<Option<Name>>
     ensures name { IfOk result (IsCounted E.kind_gives E.entry_name item) }
     ensures failed { IfErr result (FailsBy E.kind_gives E.entry_name item) }

@@ -91,7 +91,7 @@ impl Change {
     }
 
     // The least of the names that the change touches. Files with lesser names are equal before and after it, so a
-    // fingerprint can start from a checkpoint up to this name.
+    // fingerprint can start from a checkpoint whose name isn't above this one.
     pub(crate) fn first_name(&self) -> Name
         ensures { result ≡ first_name (change_of self.now) }
     {

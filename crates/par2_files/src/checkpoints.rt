@@ -37,7 +37,8 @@ pub struct Checkpoints {
     list: Vec<Checkpoint>,
 }
 
-// Whether no change touches a name before the split. A state at the split then serves the folder after each change.
+// Whether no change touches a name before the split; one may touch the split's own name. A state at the split then
+// serves the folder after each change.
 fn are_behind(split: Split<'_>, changes: &[Change]) -> bool
     ensures behind { IsTrue result → AreBehind split.entry changes.now }
     ensures all { AreBehind split.entry changes.now → IsTrue result }

@@ -5,8 +5,9 @@ ghost use Rattle.par2_spec.specs.Commands.{Action};
 ghost use Rattle.par2_spec.specs.Sessions.{KeptSession, OnlyGrew, CanWalk, session_of_kept, session_with};
 ghost use Rattle.par2_journal.specs.Ready.{Kind, Ready, CanBe, IsReady, changes_by_kind, after_commit};
 
-/// The changes of a prepared action apply to a session whose entries can be walked, and committing it leaves the
-/// session that its action leads to.
+/// `applies`: what can be committed (`CanBe`) applies to the folder if undos and redos can be walked (`CanWalk`).
+/// `commits`: committing it on the session for which it was prepared, or on one that only got more room (`OnlyGrew`),
+/// leaves the session that its action leads to.
 pub fn ready_changes_apply()
     ensures applies { (kind : Kind) (s : KeptSession) → CanWalk s → CanBe kind s
         → IsTrue (takes_all s.folder (changes_by_kind kind s)) }

@@ -57,7 +57,7 @@ impl<'a> Names<'a> {
         }
     }
 
-    // Records whether the name has a file after a change; other names stay (`IsSet`).
+    // Records that the name has a file now (`there`), or that it has none; other names stay (`IsSet`).
     fn set(&mut self, name: &'a Name, there: bool) -> Result<()>
         ensures { OnOk result (IsSet (names_in self.old) (names_in self.new) name.now there) }
     {
@@ -329,7 +329,7 @@ impl Session {
     }
 
     /// Opens as [`Session::open`] does. Before an undo or redo (`next`), the fingerprints in its journals are computed
-    /// side by side with the folder's own, and [`Session::journals`] computes none.
+    /// side by side with the folder's own, and [`Session::prepare`] computes none.
     pub fn open_before(alloc: Global, folder: Folder, bytes: &[u8], next: Option<Next>) -> Opening
         ensures { AnswersOpening folder bytes.now result }
     {

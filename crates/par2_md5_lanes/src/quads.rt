@@ -115,7 +115,8 @@ fn words_of_eight(buffers: &[&[u8]], offset: usize) -> HashState<u32x8>
     }
 }
 
-// The same vector for the type checker, if the two numbers of lanes are equal.
+// The same vector, with the type of one of N lanes. The caller has tested that M and N are equal, which the type checker
+// can't see.
 #[inline(always)]
 fn with_lanes<const M: usize, const N: usize>(vector: Simd<u32, M>) -> Simd<u32, N>
     requires { M ≡ N }

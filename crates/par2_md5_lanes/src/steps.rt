@@ -45,7 +45,7 @@ impl<V: Copy> Clone for HashState<V> {
 /// The sixteen words of a block of each message.
 pub(crate) type Words<V> = [V; 16];
 
-/// The variables A, B, C and D of message k, which is in lane k.
+/// The hash value of message k: lane k of the variables A, B, C and D. `V.at` is the word in a lane.
 pub(crate) fn in_lane<V: Lanes>(state: &HashState<V>, k: usize) -> [u32; 4]
     requires { k < V.count }
     ensures { result ≡ lane V.at k state.now }

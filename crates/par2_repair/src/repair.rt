@@ -172,8 +172,8 @@ fn tested_changes(
 }
 
 /// The changes of a repair whose written files have the described MD5s. If the set was made from certain files, and
-/// what is found of them is true, the changes lead to a folder that has these files. Only tests call it, because a
-/// session drafts its repairs.
+/// what is found of them is true, the changes lead to a folder that has these files. The program doesn't call it,
+/// because a session drafts its repairs.
 pub fn plan_repair(
     alloc: Global,
     folder: &Folder,

@@ -186,8 +186,9 @@ fn slices_by<'a>(
     })
 }
 
-/// All slices of a set, by those that are found in these buffers and its recovery slices. It returns `NotRepairable` if
-/// these don't determine the lost ones. `known_in` are the slices found, and `rebuilt` the list that agrees with them.
+/// All slices of a set: those that are found in `buffers`, the bytes of the candidates (`known_in`), and the lost ones,
+/// rebuilt from its recovery slices. `rebuilt`: the only list that agrees with both. It returns `NotRepairable` if more
+/// than one does.
 pub fn restored_slices<'a>(
     alloc: Global,
     set: &ParSet<'a>,

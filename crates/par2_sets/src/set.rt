@@ -119,7 +119,8 @@ pub struct ReadSet<'a> {
 }
 
 /// The set that the packets of the base and of the other `.par2` files describe, or the fault of the first part that is
-/// absent or wrong. Its Recovery Set ID is that of the base's first packet, and packets of other sets are ignored.
+/// absent or wrong. Its Recovery Set ID is that of the base's first packet, and packets of other sets are ignored. A
+/// base that isn't in the folder has no packets.
 #[tactic(auto, unfolding(par2_spec::specs::Sets::set_of, par2_spec::specs::Sets::read_set))]
 pub fn set_of<'a>(alloc: Global, folder: &'a Folder, base: &Name) -> Result<ReadSet<'a>, Fault>
     ensures refused { let read = sets.set_of folder.now.files base.now in

@@ -1,7 +1,7 @@
 //! The mathematics of recovery: computes recovery slices from input slices, rebuilds lost slices from recovery slices,
 //! and determines whether that is possible. Creating and repairing sets build on it. It works on bytes in memory and
-//! doesn't know files, packets or volumes. `write_recovery_slices` creates, `rebuild` repairs, and `rank` says whether
-//! a repair is possible.
+//! doesn't know files, packets or volumes. `write_recovery_slices` creates, `rebuild_lost` repairs, and `rank` says
+//! whether a repair is possible.
 #![tactic(auto)]
 
 mod additions;

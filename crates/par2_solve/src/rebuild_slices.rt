@@ -1,5 +1,5 @@
-//! Rebuilds lost slices from what survives of a set: `rebuild` takes the numbers of the lost slices, `invert` chooses
-//! the exponents and inverts their matrix, and `solve` multiplies the inverse by the syndromes.
+//! Rebuilds lost slices from what survives of a set: `rebuild_lost` and `rebuild` number the lost slices, `invert`
+//! chooses the exponents and inverts their matrix, and `solve` multiplies the inverse by the syndromes.
 
 ghost use Rattle.std.specs.Prelude.{◌≡◌, ◌≤◌, length, map, IfOk, IfErr, IsOk};
 ghost use Rattle.par2_spec.specs.Search.{lost};

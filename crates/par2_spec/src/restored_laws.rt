@@ -1,5 +1,5 @@
 //! Laws of sets that were made from known files, the original ones, which a repair restores. Each law is the contract
-//! of an empty function. `par2_laws` builds on them.
+//! of an empty function.
 
 ghost use Rattle.std.specs.Prelude.{◌≡◌, ◌<◌, ℕ, List, length, map, take};
 ghost use Rattle.std.specs.List.{concat};
@@ -19,8 +19,8 @@ pub fn slices_give_the_bytes_back()
         → 0 < s → length one ≡ length other → slices s one ≡ slices s other → one ≡ other }
 {}
 
-/// If no checksum collides and the lost slices are determined, the rebuilt slices are those of the original files, and
-/// the files are cut out of them.
+/// `slices`: if no checksum collides and the lost slices are determined, the rebuilt slices are those of the original
+/// files. `files`: what a repair cuts out of all slices of the original files are these files.
 pub fn true_slices_are_rebuilt()
     ensures slices { TrueSlicesAreRebuilt }
     ensures files { (folder : Folder) (base : List ℕ) (files : List File) (s : ℕ)

@@ -13,7 +13,8 @@ ghost use Rattle.par2_spec.specs.Sessions.{Session, history_of, session_with, se
 ghost use Rattle.par2_spec.specs.Opening.{leads, is_valid};
 ghost use Rattle.par2_spec.specs.Plans.{AreFewFor, LeadsToAfter, LeadsToAfterRequested};
 
-/// The changes of each command apply in order and lead to `after`, the folder that the definitions give it.
+/// The changes that the definitions give a command (`changes_of`) apply in order and lead to `after`, the folder that
+/// they give it.
 /// `AreFewFor`: the numbers of asides fit in 64 bits.
 pub fn commands_lead_to_their_folder()
     ensures { (folder : Folder) (command : Command)

@@ -18,8 +18,8 @@ use par2_spec::{Action, Command, Failure};
 use std::alloc::Global;
 use std::io::Write;
 
-// Whether the command is an undo or a redo but the history was dropped, so there is nothing to go back to. `dropped` is
-// `Started::dropped`. The run then fails because the folder has changed, not because there is nothing to undo.
+// Whether the command is an undo or a redo (`IsBack`) but the history was dropped (`Started::dropped`). The run then
+// fails because the folder has changed, not because there is nothing to undo or redo.
 fn lacks_history(dropped: bool, command: &Command) -> bool
     ensures back { IsTrue result → IsBack (command_of command.now) }
     ensures dropped { IsBack (command_of command.now) → result ≡ dropped }

@@ -122,8 +122,9 @@ fn add_to_bytes(
     );
 }
 
-/// Adds c times word k of the row to word `from + k` of output `t`, for the words below word `to`. The transform adds
-/// its outputs with it, and `par2_solve` its sums of products.
+/// Adds (exclusive or) c times word k of the row to word `from + k` of output `t`, for the words below word `to`. The
+/// transform adds its outputs with it, and `par2_solve` its sums of products. `within t (t + 1)`: no other output
+/// changes.
 pub fn add_to_output(
     gf: &Gf,
     c: u16,
