@@ -1,5 +1,5 @@
 -- Actions that a session prepares.
-use Rattle.par2_journal.proofs.Common.{Action, Command, Do, Undo, Redo, Repair, ◌≡◌, ◌≢◌, inl, inr, ℕ, Bool, ◌<◌, ◌≤◌, List, [], ◌∷◌, length, map, None, Some, IsTrue, Result, Ok, Err, true, refl, sym, ap, subst, ◌∙◌, arith, nil_from_length, IfOk, IfErr, IsErrAnd, MatchResult, Change, Write, Rename, Remove, places_taken, are_applicable, effects, FolderState, Folder, LeadsToAfterRequested, KeptSession, OnlyGrew, session_of_kept, changes_unless, first_entry, changes_requested, Step, step_of, takes_applicable, ArePrintsAlong, Prints, Kind, Ready, Changing, Undoing, Redoing, CanBe, Fits, IsKindOf, IsReady, changes_by_kind, next_of, IsChanging, refusal, after, early_refusal, HasItsMd5s, IsDraft, Draft}
+use Rattle.par2_journal.proofs.Common.{Action, Command, Do, Undo, Redo, Repair, ◌≡◌, ◌≢◌, inl, inr, ℕ, Bool, ◌<◌, ◌≤◌, List, [], ◌∷◌, length, map, None, Some, IsTrue, Result, Ok, Err, true, refl, sym, ap, subst, ◌∙◌, arith, nil_from_length, IfOk, IfErr, IsErrAnd, MatchResult, Change, Write, Rename, Remove, places_taken, are_applicable, effects, FolderState, Folder, LeadsToAfterRequested, KeptSession, OnlyGrew, session_of_kept, changes_unless, first_entry, changes_requested, Step, step_of, takes_applicable, ArePrintsAlong, Prints, Kind, Ready, Changing, Undoing, Redoing, CanBe, Fits, HasPrintsOf, IsKindOf, IsReady, changes_by_kind, next_of, IsChanging, refusal, after, early_refusal, HasItsMd5s, IsDraft, Draft}
 use Rattle.par2_journal.specs.Commands.{MakesReady, Prepares}
 use Rattle.par2_spec.specs.Changes.{Replace}
 use Rattle.par2_spec.specs.Plans as plans
@@ -64,15 +64,16 @@ leads_requested_by folder command changes are applies leads = λ accepted. (
 -- an accepted command, planned on the folder as it was, whose changes are ready
 module _ (old new : KeptSession) (command : Command) (changes : List Change) (changing : IsChanging (Do command)) (grew : OnlyGrew old new)
     (on : FolderState) (same : on ≡ old.folder) (accepted : refusal on.files command ≡ None) (are : changes ≡ plans.changes_of on.files command) where
-  ready_command : (ready : Ready) → ready.kind ≡ Changing changes → Fits ready new → IsReady (Do command) old ready new
+  ready_command : (ready : Ready) → ready.kind ≡ Changing changes → Fits ready new → HasPrintsOf new ready → IsReady (Do command) old ready new
   unfolding changes_requested
-  ready_command ready is fits =
+  ready_command ready is fits prints =
       let kind : IsKindOf (Do command) ready.kind = subst (IsKindOf (Do command)) (sym is) tt in
       let requested : changes_requested (session_of_kept old) (Do command) ≡ Ok (changes_by_kind ready.kind old) =
       ap (λ r. changes_unless r (plans.changes_of old.folder.files command)) (subst (λ (f : FolderState). refusal f.files command ≡ None) same accepted)
       ∙ ap Ok (sym (subst (λ (f : FolderState). changes ≡ plans.changes_of f.files command) same are) ∙ ap (λ k. changes_by_kind k old) (sym is)) in
       record {
         fits = fits;
+        prints = prints;
         kind = kind;
         requested = requested;
         leads = command_done old new command ready.kind changing grew kind requested;
@@ -81,16 +82,16 @@ module _ (old new : KeptSession) (command : Command) (changes : List Change) (ch
   -- no cause was found before memory was taken
   pub plan_ready : IsTrue (are_applicable on.files changes) → effects on.files changes ≡ after on.files command
       → ((fault : Fault) → early_refusal on.files command ≡ Some fault → ⊥)
-      → (r : Result Ready Fault) → IfOk r (λ ready. ready.kind ≡ Changing changes) → IfOk r (λ ready. Fits ready new) → IfErr r (λ fault. fault ≡ Memory)
+      → (r : Result Ready Fault) → IfOk r (λ ready. ready.kind ≡ Changing changes) → IfOk r (λ ready. Fits ready new) → IfOk r (HasPrintsOf new) → IfErr r (λ fault. fault ≡ Memory)
       → MakesReady command old new r
-  plan_ready applies leads early (Ok ready) is fits memory = record {
+  plan_ready applies leads early (Ok ready) is fits prints memory = record {
     kept = grew;
-    ready = ready_command ready is fits;
+    ready = ready_command ready is fits prints;
     leads = subst (λ (f : FolderState). LeadsToAfterRequested f.files (Do command)) same (leads_requested_by on.files command changes are applies leads);
     refused = tt;
     early = λ fault found. absurd (early fault (subst (λ (f : FolderState). early_refusal f.files command ≡ Some fault) (sym same) found));
   }
-  plan_ready applies leads early (Err fault) is fits memory = record {
+  plan_ready applies leads early (Err fault) is fits prints memory = record {
     kept = grew;
     ready = tt;
     leads = tt;
@@ -108,10 +109,9 @@ draft_ready old new base extras purge draft changes steps prints grew is has sam
     let fits : Fits ready new = record {
       can = subst (λ (cs : List Change). CanBe (Changing cs) new) (sym same) can;
       steps = reported ∙ ap (map step_of) (sym same);
-      prints = subst (ArePrintsAlong prints new.folder.files) (sym same) along;
     } in
     plan_ready old new (Repair base extras purge) changes tt grew old.folder refl (is.accepted has) (same ∙ is.changes) (subst (λ (cs : List Change). IsTrue (are_applicable old.folder.files cs)) (sym same) is.applies)
-    (ap (effects old.folder.files) same ∙ is.leads) early (Ok ready) refl fits tt
+    (ap (effects old.folder.files) same ∙ is.leads) early (Ok ready) refl fits (subst (ArePrintsAlong prints new.folder.files) (sym same) along) tt
 
 -- a draft with a wrong MD5 is refused
 pub draft_refused : (r : Result Ready Fault) (old new : KeptSession) (base : List ℕ) (extras : List (List ℕ)) (purge : Bool) (draft : Draft) (fault : Fault) → (y : Fault) × (r ≡ Err y) × (y ≡ fault) → OnlyGrew old new
@@ -137,7 +137,8 @@ nothing_to_redo s none = inr (ap (first_entry history.NothingToRedo) (nil_from_l
 pub ready_undo : (s : KeptSession) (steps : List Step) (prints : Prints) → s.undos ≢ [] → steps ≡ map step_of (next_of s.undos) → ArePrintsAlong prints s.folder.files (next_of s.undos) → IsReady Undo s (record { kind = Undoing; steps = steps; prints = prints }) s
 unfolding changes_requested
 ready_undo s steps prints some reported along = record {
-  fits = record { can = some; steps = reported; prints = along };
+  fits = record { can = some; steps = reported };
+  prints = along;
   kind = tt;
   requested = first_is_next history.NothingToUndo s.undos some;
   leads = undo_done s some;
@@ -146,7 +147,8 @@ ready_undo s steps prints some reported along = record {
 pub ready_redo : (s : KeptSession) (steps : List Step) (prints : Prints) → s.redos ≢ [] → steps ≡ map step_of (next_of s.redos) → ArePrintsAlong prints s.folder.files (next_of s.redos) → IsReady Redo s (record { kind = Redoing; steps = steps; prints = prints }) s
 unfolding changes_requested
 ready_redo s steps prints some reported along = record {
-  fits = record { can = some; steps = reported; prints = along };
+  fits = record { can = some; steps = reported };
+  prints = along;
   kind = tt;
   requested = first_is_next history.NothingToRedo s.redos some;
   leads = redo_done s some;

@@ -41,11 +41,14 @@ CanBe (Changing changes) s = IsTrue (takes_all s.folder changes) × (0 < s.room)
 CanBe Undoing s = s.undos ≢ []
 CanBe Redoing s = s.redos ≢ []
 
--- a prepared action can be committed on this session, and its fingerprints are along its changes to the folder
+-- a prepared action can be committed on this session
 pub record Fits (ready : Ready) (s : KeptSession) : Type 0 where
   pub can : CanBe ready.kind s
   pub steps : ready.steps ≡ map step_of (changes_by_kind ready.kind s)
-  pub prints : ArePrintsAlong ready.prints s.folder.files (changes_by_kind ready.kind s)
+
+-- its fingerprints are those along its changes to the session's folder
+abbrev pub HasPrintsOf : KeptSession → Ready → Type 0
+HasPrintsOf s ready = ArePrintsAlong ready.prints s.folder.files (changes_by_kind ready.kind s)
 
 -- the session after committing an action of this kind: its changes are applied, and the history has moved on or back
 abbrev pub after_commit : Kind → KeptSession → KeptSession
@@ -75,6 +78,7 @@ IsKindOf action kind = ⊥
 -- the action
 pub record IsReady (action : Action) (old : KeptSession) (ready : Ready) (new : KeptSession) : Type 0 where
   pub fits : Fits ready new
+  pub prints : HasPrintsOf new ready
   pub kind : IsKindOf action ready.kind
   pub requested : changes_requested (session_of_kept old) action ≡ Ok (changes_by_kind ready.kind old)
   pub leads : session_after (session_of_kept old) action ≡ Ok (session_of_kept (after_commit ready.kind new))

@@ -23,7 +23,7 @@ impl Session {
     ghost use Rattle.par2_laws.specs.Answers.{LeavesEachFile, RestoresFiles, RestoresInputs, folder_left};
     ghost use Rattle.par2_journal.specs.Commands.{IsAfter, LeadsFrom, MakesReady, MayBePassed, Performs, Prepares, UndosGiveBack, Verifies, WritesFiles, kept_history, repair_of};
     ghost use Rattle.par2_journal.specs.SessionRefusals.{MayRefuse};
-    ghost use Rattle.par2_journal.specs.Ready.{CanBe, Changing, Fits, IsReady};
+    ghost use Rattle.par2_journal.specs.Ready.{CanBe, Changing, Fits, HasPrintsOf, IsReady};
 
     // The steps of a planned command, which a run prints, and room in the session for its files and its entry. Err if
     // memory runs out. `CanBe`: the changes can be applied, and there is room for the entry.
@@ -54,6 +54,7 @@ impl Session {
         // A prepared command commits these changes.
         ensures kind { IfOk result (λ prepared. prepared.kind ≡ Changing changes) }
         ensures fits { IfOk result (λ prepared. Fits prepared self.new) }
+        ensures prints { IfOk result (HasPrintsOf self.new) }
         // It is refused only if memory runs out.
         ensures refused { IfErr result (λ fault. fault ≡ Fault.Memory) }
     {
@@ -204,13 +205,13 @@ impl Session {
 
     /// Repairs on the folder in memory at once, searching `extras` too, and returns the steps; the program prepares and
     /// commits instead. With `purge` the same command purges. Each file that it writes from slices has the length and
-    /// the MD5 that the set describes. If the set was made from certain files, and what is found of them is true, they
-    /// are in the folder afterwards. After a refusal names, bytes and history are as before.
+    /// the MD5 that the set describes. If the set was made from certain files, and no checksum collides, they are in
+    /// the folder afterwards. After a refusal names, bytes and history are as before.
     pub fn repair(&mut self, base: &str, extras: &[String], purge: bool) -> Result<Steps, Fault>
         ensures repairs { Performs (repair_of base.now extras.now purge) self.old self.new result }
         ensures written { WritesFiles base.now extras.now purge self.old result }
-        // If the set was made from certain files, and what is found of them is true, they are in
-        // the folder afterwards. RepairFailed isn't returned, and NotRepairable only if other
+        // If the set was made from certain files, and no checksum collides, they are in the
+        // folder afterwards. RepairFailed isn't returned, and NotRepairable only if other
         // slices, too, agree with all that is found.
         ensures restores { RestoresFiles self.old.folder.files base.now
             (map string_bytes extras.now) (folder_left (λ _. self.new.folder.files) result) }

@@ -70,7 +70,7 @@ impl Session {
     ghost use Rattle.par2_journal.specs.Along.{AreAlong};
     ghost use Rattle.par2_journal.specs.Kinds.{task_kind};
     ghost use Rattle.par2_journal.specs.Opening.{session_at};
-    ghost use Rattle.par2_journal.specs.Ready.{CanBe, Fits, changes_by_kind, after_commit, kept_journal, next_of};
+    ghost use Rattle.par2_journal.specs.Ready.{CanBe, Fits, HasPrintsOf, changes_by_kind, after_commit, kept_journal, next_of};
     ghost use Rattle.par2_journal.specs.Spelling.{SpellsAction, SpellsReady};
     ghost use Rattle.par2_journal.specs.Walks.{EntriesWalk};
 
@@ -381,10 +381,11 @@ impl Session {
 
     /// The journals of a prepared action, to be put in the store before and after its changes. The changes are applied
     /// to the folder and taken back, even if memory runs out; their bytes are copied only into the journals.
-    /// `SpellsReady`: the journals are those of what is ready. `SpellsAction`: so they are those of each action that it
-    /// was prepared for.
+    /// `HasPrintsOf`: the folder is the one that the action was prepared on. `SpellsReady`: the journals are those of
+    /// what is ready. `SpellsAction`: so they are those of each action that it was prepared for.
     pub fn journals(&mut self, prepared: &mut Prepared) -> Result<Journals>
-        requires { Fits prepared.old self.old }
+        requires fits { Fits prepared.old self.old }
+        requires prints { HasPrintsOf self.old prepared.old }
         ensures unchanged { self.new ≡ self.old }
         ensures prepared { prepared.new ≡ prepared.old }
         ensures spelled { IfOk result (SpellsReady prepared.old.kind self.old) }

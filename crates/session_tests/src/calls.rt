@@ -1,7 +1,7 @@
 //! Calls of folders and sessions, each in a function with few clauses or none. For the prover: it sees only the types
 //! of such a call and those clauses.
 ghost use Rattle.std.specs.Prelude.{IfOk};
-ghost use Rattle.par2_journal.specs.Ready.{Fits};
+ghost use Rattle.par2_journal.specs.Ready.{Fits, HasPrintsOf};
 
 use par2_folder::{Change, Changes, Folder, Name};
 use par2_journal::{
@@ -50,7 +50,8 @@ pub fn purge(session: &mut Session) -> Result<Steps, Fault> {
 }
 
 pub fn prepare(session: &mut Session, action: &Action) -> Result<Prepared, SessionFault>
-    ensures { IfOk result (λ prepared. Fits prepared session.new) }
+    ensures fits { IfOk result (λ prepared. Fits prepared session.new) }
+    ensures prints { IfOk result (HasPrintsOf session.new) }
 {
     session.prepare(action)
 }
@@ -63,7 +64,8 @@ pub fn is_one_change(session: &Session, prepared: &Prepared) -> bool
 }
 
 pub fn journals_of(session: &mut Session, prepared: &mut Prepared) -> Result<Journals, AllocError>
-    requires { Fits prepared.old session.old }
+    requires fits { Fits prepared.old session.old }
+    requires prints { HasPrintsOf session.old prepared.old }
     ensures { Fits prepared.new session.new }
 {
     session.journals(prepared)

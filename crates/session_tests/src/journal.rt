@@ -1,6 +1,6 @@
 //! The journals of a session. Their bytes were made by another program, from the formats alone.
 ghost use Rattle.std.specs.Prelude.{IfOk};
-ghost use Rattle.par2_journal.specs.Ready.{Fits};
+ghost use Rattle.par2_journal.specs.Ready.{Fits, HasPrintsOf};
 
 use crate::calls;
 use crate::calls::{encode, is_one_change, journals_of, prepare};
@@ -62,7 +62,8 @@ fn spelled(
     prepared: &mut Prepared,
     before: &[u8],
 ) -> Result<Journals, Trouble>
-    requires { Fits prepared.old session.old }
+    requires fits { Fits prepared.old session.old }
+    requires prints { HasPrintsOf session.old prepared.old }
     ensures { Fits prepared.new session.new }
 {
     if !is_one_change(session, prepared) {

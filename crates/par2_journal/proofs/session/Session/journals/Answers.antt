@@ -6,7 +6,7 @@ use Rattle.par2_journal.proofs.session.Session.journals.Goals as goal
 
 pub spell-requires-clause-can : goal.spell-requires-clause-can
 spell-requires-clause-can c =
-    subst (λ (kind : Kind). CanBe kind c.args.self.now) (ap (λ (r : Ready). r.kind) (sym c.prepared.view_is)) c.requires.can
+    subst (λ (kind : Kind). CanBe kind c.args.self.now) (ap (λ (r : Ready). r.kind) (sym c.prepared.view_is)) c.requires.fits.can
 
 pub spell-requires-clause-along : goal.spell-requires-clause-along
 spell-requires-clause-along c =

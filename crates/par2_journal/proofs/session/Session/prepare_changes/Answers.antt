@@ -4,8 +4,7 @@ pub fingerprints_along-requires-clause-applies : goal.fingerprints_along-require
 fingerprints_along-requires-clause-applies c = c.in_ok-steps.ensures.can.0
 
 pub returns-clause-fits : goal.returns-clause-fits
-returns-clause-fits c = record {
-  can = c.in_ok-steps.ensures.can;
-  steps = c.in_ok-steps.ensures.steps;
-  prints = c.in_ok-fingerprints.ensures;
-}
+returns-clause-fits c = record { can = c.in_ok-steps.ensures.can; steps = c.in_ok-steps.ensures.steps }
+
+pub returns-clause-prints : goal.returns-clause-prints
+returns-clause-prints c = c.in_ok-fingerprints.ensures
