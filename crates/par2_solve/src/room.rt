@@ -2,9 +2,9 @@
 //! which they are computed. Creating takes all of it for rows (`whole_room`); a repair also keeps columns
 //! (`columns_at_once`).
 
-ghost use Rattle.std.specs.Prelude.{◌≡◌, ◌%◌, ◌≤◌};
+ghost use Rattle.std.specs.Prelude.{◌≡◌, ◌%◌, ◌<◌, ◌≤◌};
 
-// The memory that columns and rows may take together, beside a 64th of the slices, in bytes. A quarter is for columns.
+// The memory that columns and rows may take together, beside a part of the slices, in bytes. A quarter is for columns.
 const ROOM: usize = 1024 * 1024;
 
 // The memory of a recovery slice's columns beside their bytes: their `Vec` and the allocator's overhead.
@@ -16,31 +16,48 @@ const STEP: usize = 64;
 // The most steps of a row.
 const WIDEST: usize = 32;
 
-// A quarter of the memory allowed beside these slices, in bytes.
-fn quarter(slices: &[&[u8]]) -> usize {
+// The number of bytes in these slices.
+fn total(slices: &[&[u8]]) -> usize {
     let lens = slices.iter().map(|slice| slice.len());
-    let total = lens.fold(0usize, |total, len| total.saturating_add(len));
-    (total / 256).saturating_add(ROOM / 4)
+    lens.fold(0usize, |total, len| total.saturating_add(len))
 }
 
 /// The memory that computing recovery slices may take, in bytes, if there are no columns beside it, as when a set is
-/// created.
+/// created: a 64th of the slices.
 pub(crate) fn whole_room(slices: &[&[u8]]) -> usize {
-    quarter(slices).saturating_mul(4)
+    (total(slices) / 64).saturating_add(ROOM)
+}
+
+// The number of outputs, rounded up to a power of 2. The transform has three rows for each.
+fn rounded(count: usize) -> usize
+    ensures some { 1 ≤ result }
+    ensures few { result < 131072 }
+{
+    count.clamp(1, 65536).next_power_of_two()
+}
+
+// A quarter of the memory that a repair may take for `count` outputs, in bytes: that of a 64th of the slices, or of up to
+// a 16th until rows are as wide as they get, because narrow rows are slow.
+fn quarter(slices: &[&[u8]], count: usize) -> usize {
+    let total = total(slices);
+    let widest = rounded(count) * WIDEST * STEP;
+    (total / 64)
+        .min(widest)
+        .max(total / 256)
+        .saturating_add(ROOM / 4)
 }
 
 /// The memory that the transform's rows may take in a repair, in bytes: three quarters of the memory allowed.
-pub(crate) fn rows_room(slices: &[&[u8]]) -> usize {
-    quarter(slices).saturating_mul(3)
+pub(crate) fn rows_room(slices: &[&[u8]], count: usize) -> usize {
+    quarter(slices, count).saturating_mul(3)
 }
 
-// How many steps of `STEP` bytes each row has, if the transform computes `count` outputs. There are three rows for each
-// output, with the number of outputs rounded up to a power of 2.
+// How many steps of `STEP` bytes each row has, if the transform computes `count` outputs.
 fn row_steps(slices: &[&[u8]], count: usize) -> usize
     ensures { 1 ≤ result }
 {
-    let rows = 3 * count.clamp(1, 65536).next_power_of_two();
-    (rows_room(slices) / rows / STEP).clamp(1, WIDEST)
+    let rows = 3 * rounded(count);
+    (rows_room(slices, count) / rows / STEP).clamp(1, WIDEST)
 }
 
 /// How many columns, in bytes, of `count` recovery slices over slices of `size` bytes are computed at a time. Blocks
@@ -50,7 +67,7 @@ pub(crate) fn columns_at_once(slices: &[&[u8]], count: usize, size: usize) -> us
     ensures some { 1 ≤ result }
     ensures even { result % 2 ≡ 0 }
 {
-    let each = (quarter(slices) / count.max(1)).saturating_sub(OVERHEAD);
+    let each = (quarter(slices, count) / count.max(1)).saturating_sub(OVERHEAD);
     let steps = (each / STEP).max(1);
     let row = row_steps(slices, count);
     let rest = steps % row;

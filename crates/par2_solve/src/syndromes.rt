@@ -1,7 +1,6 @@
 //! Computes the lost slices from syndromes. The syndrome of a kept exponent is its recovery slice plus the contribution
-//! of the known slices to it, so it is what the lost slices alone contribute. The inverse times the syndromes is the
-//! lost slices. It is computed some columns at a time. A lost slice is given as an empty one, which contributes
-//! nothing.
+//! of the known slices to it, so it is what the lost slices alone contribute. The inverse times the syndromes gives the
+//! lost slices, a block of columns at a time. A lost slice is given as an empty one, which contributes nothing.
 
 ghost use Rattle.std.specs.Prelude.{◌≡◌, ◌%◌, ◌<◌, ◌≤◌, ◌+◌, ◌++◌, length, map, IfOk};
 ghost use Rattle.par2_spec.specs.Sums.{OneChanged, list_at, lists_of};
@@ -143,7 +142,7 @@ pub(crate) fn solved(
     buffers_fit(slices);
     buffers_fit(recovery);
     let at_once = columns_at_once(slices, recovery.len(), size).max(inverse.least());
-    let room = rows_room(slices);
+    let room = rows_room(slices, recovery.len());
     let mut buffers = reserved(alloc, inverse.len(), size)?;
     let mut from = 0;
     while from < size {
