@@ -1,11 +1,11 @@
 #!/usr/bin/env python3
 """Makes library calls with the first allocation refused, then with the second, and so on until none is refused.
 
-A call of a library (`growth_tests`) returns what it returns without a refusal, or out of memory. (A list whose size is
-refused as a whole grows item by item: calls that make one are tried with two growths refused in a row, too.) Then its
-arguments are as before, and the same call made once more returns what it returns without a refusal. A call of the whole
-program (`run_rows`) on a store in memory is out of memory and leaves the store as before, or fails at a growth of the
-store itself: then the store opens as before or as after.
+A call of a library returns what it returns without a refusal, or out of memory. (A list whose size is refused as a whole
+grows item by item: calls that make one are tried with two growths refused in a row, too.) Then its arguments are as
+before, and the same call made once more returns what it returns without a refusal. A call of the whole program on a store
+in memory is out of memory and leaves the store as before, or fails at a growth of the store itself: then the store opens
+as before or as after.
 """
 import os
 import re
@@ -14,6 +14,7 @@ import sys
 import tempfile
 
 ROOT = os.path.join(os.path.dirname(os.path.realpath(__file__)), "..")
+PROGRAM = os.path.realpath(os.path.join(ROOT, "crates/run_rows/out/run_rows"))
 
 # The descriptor on which the allocator reports growths.
 REACHED = 9
@@ -46,52 +47,52 @@ MEMORY = ("8", "Session(Plan(Memory))")
 STORE = ("6", "Store")
 
 
-class Programs:
-    """Runs of the built programs, under an allocator that refuses one growth."""
+class Program:
+    """Runs of `run_rows`, under an allocator that refuses one growth."""
 
     def __init__(self, room):
         self.room = room
         self.shim = os.path.join(room, "refuse.so")
         subprocess.run(["sh", os.path.join(ROOT, "tests/preload/build.sh"), "refuse_memory", self.shim], check=True)
 
-    def said(self, name, words, lines="", **variables):
-        """Returns what a program writes. If growths are shown, each is there as an exclamation mark."""
-        program = os.path.join(ROOT, "crates", name, "out", name)
+    def said(self, lines, **variables):
+        """Returns what the program writes. If growths are shown, each is there as an exclamation mark."""
         with open(os.path.join(self.room, "told"), "w+b") as told, open(os.devnull, "wb") as nowhere:
             os.dup2((told if "SHOWN" in variables else nowhere).fileno(), REACHED)
             env = {**os.environ, **variables, "LD_PRELOAD": self.shim}
             how = {"cwd": self.room, "env": env, "input": lines.encode(), "stdout": told, "pass_fds": [REACHED]}
-            ended = subprocess.run([os.path.realpath(program), *words], check=False, **how)
+            ended = subprocess.run([PROGRAM], check=False, **how)
             told.seek(0)
             text = told.read().decode()
         if ended.returncode:
-            sys.exit(f"growths: {name} {words} {lines}: status {ended.returncode}: {text}")
+            sys.exit(f"growths: {lines}: status {ended.returncode}: {text}")
         return text
 
-    def refused_each(self, name, words, lines="", **variables):
+    def refused_each(self, lines, **variables):
         """Returns what the program writes, and what it writes with each growth of its call refused, one at a time."""
-        shown = self.said(name, words, lines, REFUSED="0", SHOWN="yes")
+        shown = self.said(lines, REFUSED="0", SHOWN="yes")
         # The line of the call, and its growths after it.
         call = re.search(r"^!*>.*\n(!*)", shown, re.MULTILINE)
         earlier = shown[: call.start(1)].count("!")
         numbers = range(earlier + 1, earlier + len(call[1]) + 1)
-        return shown.replace("!", ""), [self.said(name, words, lines, REFUSED=str(n), **variables) for n in numbers]
+        return shown.replace("!", ""), [self.said(lines, REFUSED=str(n), **variables) for n in numbers]
 
 
-def library_calls(programs):
+def library_calls(program):
     """Refuses the growths of each call of a library."""
-    told = programs.said("growth_tests", [])
+    told = program.said("call-all\n")
     calls = [line.split(": ") for line in told.splitlines() if ": " in line and not line.startswith(" ")]
     growths = 0
     for words in calls:
-        whole, refused = programs.refused_each("growth_tests", words)
+        call = f"call {' '.join(words)}\n"
+        whole, refused = program.refused_each(call)
         if words[1] in TOLD_AT_THE_SECOND:
-            refused += programs.refused_each("growth_tests", words, NEXT_TOO="yes")[1]
+            refused += program.refused_each(call, NEXT_TOO="yes")[1]
         before, line, behind = whole.partition(f"> {words[1]}\n")
         wanting = before + line + "out of memory\n" + before + line + behind
         wrong = [text for text in refused if text not in (whole, wanting)]
         is_told = wanting in refused or words[1] in NEVER_TOLD
-        if wrong or not behind.startswith("answered\n") or not refused or not is_told:
+        if wrong or not behind.startswith("returned\n") or not refused or not is_told:
             sys.exit(f"growths of {words[1]}: {whole}\nand with a growth refused {wrong or refused}")
         growths += len(refused)
     print(f"growths: {len(calls)} calls of libraries, {growths} growths refused one by one", flush=True)
@@ -105,13 +106,13 @@ def is_right(text, whole, stood):
     return text == whole or (answer in STORE and stands in (stood, whole.splitlines()[-1]))
 
 
-def calls_over_stores(programs):
+def calls_over_stores(program):
     """Refuses the growths of runs, and of commands on an open session."""
     growths, told = 0, set()
     for files, line in OVER_STORES:
-        stood = programs.said("run_rows", [], files + "grow open_store\n").splitlines()[-2]
+        stood = program.said(files + "grow open_store\n").splitlines()[-2]
         for call in ("run", "perform"):
-            whole, refused = programs.refused_each("run_rows", [], f"{files}grow {call} {line}\n")
+            whole, refused = program.refused_each(f"{files}grow {call} {line}\n")
             wrong = [text for text in refused if not is_right(text, whole, stood)]
             if wrong or not refused:
                 sys.exit(f"growths of {call} {line}: {whole}\nand with a growth refused {wrong}")
@@ -122,12 +123,12 @@ def calls_over_stores(programs):
     print(f"growths: {2 * len(OVER_STORES)} runs and commands over stores in memory, {growths} refused one by one", flush=True)
 
 
-def calls_made_again(programs):
+def calls_made_again(program):
     """Refuses the growths of openings and of calls that read words, which are made once more then."""
     calls = [(files, "open_store") for files in OPENED] + [("", f"read_words {line}") for line in READ]
     growths = 0
     for files, call in calls:
-        whole, refused = programs.refused_each("run_rows", [], f"{files}grow {call}\n")
+        whole, refused = program.refused_each(f"{files}grow {call}\n")
         before, line, behind = whole.partition(">\n")
         wanting = before + line + "Memory\n" + before + line + behind
         failing = before + line + "Store\n", line + behind
@@ -144,10 +145,10 @@ def calls_made_again(programs):
 
 def main():
     with tempfile.TemporaryDirectory() as room:
-        programs = Programs(room)
-        library_calls(programs)
-        calls_made_again(programs)
-        calls_over_stores(programs)
+        program = Program(room)
+        library_calls(program)
+        calls_made_again(program)
+        calls_over_stores(program)
 
 
 if __name__ == "__main__":

@@ -1,7 +1,7 @@
 //! Worked examples of recovery slices and rebuilding.
 
 use crate::calls::{are_buffers, lists_of, places_of};
-use crate::field::field;
+use crate::gf16::field;
 use par2_folder::Folder;
 use par2_gf16::Gf;
 use par2_packets::FileRecord;

@@ -3,7 +3,7 @@
 
 ghost use Rattle.std.specs.Prelude.{◌≡◌, ◌<◌, ◌≤◌};
 
-use crate::field::field;
+use crate::gf16::field;
 use crate::plain_elimination::{Equation, eliminated};
 use crate::plain_field::{power, product};
 use crate::recovery::recovery_of_a;

@@ -5,7 +5,7 @@ ghost use Rattle.par2_spec.specs.Sums.{list_at, lists_of};
 ghost use Rattle.par2_transform.specs.Adding.{HaveWords};
 
 use crate::calls::{are_buffers, lists_of, places_of};
-use crate::field::field;
+use crate::gf16::field;
 use par2_gf16::Gf;
 use par2_transform::{Place, add_recovery_slices, whole_buffers};
 use recovery_calls::slices_added;

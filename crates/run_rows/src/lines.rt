@@ -3,6 +3,7 @@
 use crate::disk;
 use crate::files::{clear, forget, put_bytes, remove};
 use crate::growths::grow;
+use crate::library_calls::{call, call_all};
 use crate::rows::{answer_of, reported, row, show};
 use crate::scarce_memory::want_memory;
 use crate::sessions::{failing_session, session};
@@ -25,7 +26,7 @@ fn run(rt: &HostRuntime, store: &mut MemoryStore, line: &str) -> Result<()> {
     Ok(())
 }
 
-// Sessions, and runs on stores that fail or run out of memory.
+// Sessions, runs on stores that fail or run out of memory, and calls of the libraries.
 fn fail(rt: &HostRuntime, store: &mut MemoryStore, word: &str, rest: &str) -> Result<()> {
     match word {
         "session" => session(rt, store),
@@ -38,6 +39,8 @@ fn fail(rt: &HostRuntime, store: &mut MemoryStore, word: &str, rest: &str) -> Re
         "output-fails" => stop_output(rt, store, rest, true),
         "output-full" => stop_output(rt, store, rest, false),
         "grow" => grow(rt, store, rest),
+        "call" => call(rt, rest),
+        "call-all" => call_all(rt),
         _ => Err(Error::msg("no such word")),
     }
 }

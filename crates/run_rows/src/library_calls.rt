@@ -1,32 +1,21 @@
-//! Makes the library calls that can return out of memory, each on a small input of its own, and prints the state before
-//! and after it. With the name of one call it makes that one; without words it makes all of them.
+//! Library calls that can return out of memory, each on a small input of its own. The state is printed before and after
+//! each.
 //!
 //! `tests/calls_out_of_memory.py` refuses each growth between a line that begins with `>` and the next one. A call that
 //! returns out of memory is made once more.
-#![tactic(auto)]
 
-mod buffers;
-mod calls;
-mod folders;
-mod inputs;
-mod openings;
-mod scene;
-mod sessions;
-mod systems;
-
-use anyhow::Result;
-use buffers::Buffers;
-use folders::Folders;
-use openings::Openings;
-use scene::tell;
-use sessions::Sessions;
-use std::env;
-use systems::Systems;
+use crate::buffers::Buffers;
+use crate::folders::Folders;
+use crate::library_sessions::Sessions;
+use crate::openings::Openings;
+use crate::scene::tell;
+use crate::systems::Systems;
+use anyhow::{Error, Result};
 
 // The inputs of the calls, and the calls.
 const CALLS: &[(&str, &[&str])] = &[
     (
-        "texts",
+        "buffers",
         &[
             "Gf::new",
             "Wanted::new",
@@ -46,7 +35,7 @@ const CALLS: &[(&str, &[&str])] = &[
             "recovery_slices_over",
             "write_recovery_slices",
             "add_recovery_slices_at",
-            "whole_texts",
+            "whole_buffers",
             "rank",
             "rebuild",
             "rebuild_lost",
@@ -93,30 +82,33 @@ const CALLS: &[(&str, &[&str])] = &[
     ),
 ];
 
-fn tell_one(rt: &HostRuntime, place: &str, name: &str) -> Result<()> {
+// Makes a call.
+fn call_one(rt: &HostRuntime, place: &str, name: &str) -> Result<()> {
     match place {
-        "texts" => tell(rt, Buffers::new(rt.alloc())?, name),
+        "buffers" => tell(rt, Buffers::new(rt.alloc())?, name),
         "systems" => tell(rt, Systems::new(rt.alloc())?, name),
         "folders" => tell(rt, Folders::new(rt.alloc())?, name),
         "sessions" => tell(rt, Sessions::new(rt.alloc())?, name),
-        _ => tell(rt, Openings::new(rt.alloc())?, name),
+        "openings" => tell(rt, Openings::new(rt.alloc())?, name),
+        _ => Err(Error::msg("no such place")),
     }
 }
 
-fn tell_all(rt: &HostRuntime) -> Result<()> {
+/// Makes the call that a line names: its place in `CALLS`, a space and its name.
+pub fn call(rt: &HostRuntime, line: &str) -> Result<()> {
+    match line.split_once(' ') {
+        Some((place, name)) => call_one(rt, place, name),
+        None => Err(Error::msg("no name")),
+    }
+}
+
+/// Makes all calls, each after a line with its place and name.
+pub fn call_all(rt: &HostRuntime) -> Result<()> {
     for (place, names) in CALLS {
         for name in *names {
             println!(rt; "{place}: {name}")?;
-            tell_one(rt, place, name)?;
+            call_one(rt, place, name)?;
         }
     }
     Ok(())
-}
-
-fn main(rt: HostRuntime) -> Result<()> {
-    let mut words = env::args(&rt)?.skip(1);
-    match (words.next(), words.next()) {
-        (Some(place), Some(name)) => tell_one(&rt, &place, &name),
-        _ => tell_all(&rt),
-    }
 }

@@ -89,9 +89,9 @@ pub trait Scene {
     fn show(&mut self, rt: &HostRuntime) -> Result<()>;
 }
 
-fn said(answer: Result<(), Refusal>) -> &'static str {
-    match answer {
-        Ok(()) => "answered",
+fn said(outcome: Result<(), Refusal>) -> &'static str {
+    match outcome {
+        Ok(()) => "returned",
         Err(Refusal::Memory) => "out of memory",
         Err(Refusal::Other) => "refused",
     }

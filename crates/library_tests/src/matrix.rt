@@ -3,7 +3,7 @@
 ghost use Rattle.std.specs.Prelude.{◌≡◌, ◌*◌, ◌%◌, length, IfErr};
 
 use crate::calls::are_buffers;
-use crate::field::field;
+use crate::gf16::field;
 use par2_gf16::Gf;
 use par2_matrix::{Offer, System, bytes_of_row, element, put_element};
 use std::process::Abort;

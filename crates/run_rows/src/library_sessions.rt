@@ -1,8 +1,8 @@
 //! Sessions on the folder of a set whose file `a` was cut, in which another set of that file was created afterwards.
 
-use crate::calls;
 use crate::inputs::{args_of, bytes_of, damaged};
 use crate::scene::{Refusal, Scene};
+use crate::session_calls as calls;
 use anyhow::{Error, Result};
 use par2_journal::{Action, CreateArgs, Session};
 use par2_slices::crc32;

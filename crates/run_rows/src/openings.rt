@@ -1,8 +1,8 @@
 //! Openings of the folder with only the file `a`.
 
-use crate::calls::{create, encode, open, settled};
 use crate::inputs::args_of;
 use crate::scene::{Refusal, Scene};
+use crate::session_calls::{create, encode, open, settled};
 use anyhow::{Error, Result};
 use par2_folder::Folder;
 use par2_journal::{Halfway, Opened, Session};

@@ -1,6 +1,6 @@
 //! Many lost slices, rebuilt from recovery slices with consecutive exponents.
 
-use crate::field::field;
+use crate::gf16::field;
 use crate::recovery::recovery_of_a;
 use crate::recovery_choices::with_exponents;
 use par2_recovery::Survivors;

@@ -1,49 +1,14 @@
-//! Calls whose contracts are long, each in a function without a contract. For the prover: it sees only the types of
+//! Calls of sessions whose contracts are long, each in a function without a contract. For the prover: it sees only the types of
 //! such a call.
 ghost use Rattle.std.specs.Prelude.{IfOk};
-ghost use Rattle.par2_journal.specs.Ready.{Fits};
+ghost use Rattle.par2_journal.specs.Ready.{Fits, HasPrintsOf};
 
-use par2_folder::{Folder, FolderStore, MemoryStore, Name, ReadFault, StoreFault, read_folder};
+use par2_folder::Folder;
 use par2_journal::{
     Action, CreateArgs, Fault, Halfway, JournalFault, Journals, Opened, Prepared, Report, Session,
     SessionFault, Steps,
 };
 use std::alloc::{AllocError, Global};
-
-/// The names of a store's files.
-pub fn names_of(alloc: Global, store: &mut MemoryStore) -> Result<Vec<Name>, ReadFault> {
-    store.names(alloc)
-}
-
-/// The bytes of a file.
-pub fn read(alloc: Global, store: &mut MemoryStore, name: &Name) -> Result<Vec<u8>, ReadFault> {
-    store.read(alloc, name)
-}
-
-/// The journal, if there is one.
-pub fn read_journal(alloc: Global, store: &mut MemoryStore) -> Result<Option<Vec<u8>>, ReadFault> {
-    store.read_journal(alloc)
-}
-
-/// Writes a file.
-pub fn write(store: &mut MemoryStore, name: &Name, bytes: &[u8]) -> Result<(), StoreFault> {
-    store.write(name, bytes)
-}
-
-/// Replaces the bytes of a file.
-pub fn replace(store: &mut MemoryStore, name: &Name, bytes: &[u8]) -> Result<(), StoreFault> {
-    store.replace(name, bytes)
-}
-
-/// Replaces the journal.
-pub fn put_journal(store: &mut MemoryStore, bytes: &[u8]) -> Result<(), StoreFault> {
-    store.put_journal(bytes)
-}
-
-/// The folder of a store.
-pub fn folder_in(alloc: Global, store: &mut MemoryStore) -> Result<Folder, ReadFault> {
-    read_folder(alloc, store)
-}
 
 pub fn create(session: &mut Session, args: &CreateArgs) -> Result<Steps, Fault> {
     session.create(args)
@@ -64,13 +29,15 @@ pub fn verify(session: &Session) -> Result<Report, Fault> {
 }
 
 pub fn prepare(session: &mut Session, action: &Action) -> Result<Prepared, SessionFault>
-    ensures { IfOk result (λ prepared. Fits prepared session.new) }
+    ensures fits { IfOk result (λ prepared. Fits prepared session.new) }
+    ensures prints { IfOk result (HasPrintsOf session.new) }
 {
     session.prepare(action)
 }
 
 pub fn journals_of(session: &mut Session, prepared: &mut Prepared) -> Result<Journals, AllocError>
-    requires { Fits prepared.old session.old }
+    requires fits { Fits prepared.old session.old }
+    requires prints { HasPrintsOf session.old prepared.old }
     ensures { Fits prepared.new session.new }
 {
     session.journals(prepared)

@@ -1,6 +1,8 @@
 //! Folders, stores in memory and plans.
 
-use crate::calls::{folder_in, names_of, put_journal, read, read_journal, replace, write};
+use crate::calls::{
+    folder_of, journal_of, names_of, put_journal, read_file, replace_file, write_file,
+};
 use crate::inputs::{args_of, damaged, name_of, protected};
 use crate::scene::{Refusal, Scene};
 use anyhow::Result;
@@ -30,7 +32,7 @@ pub struct Folders {
 // A store with the file `a` and a journal.
 fn store_of(alloc: Global, name: &Name) -> Result<MemoryStore> {
     let mut store = MemoryStore::new(alloc);
-    write(&mut store, name, b"abcdefgh")?;
+    write_file(&mut store, name, b"abcdefgh")?;
     put_journal(&mut store, b"journal")?;
     Ok(store)
 }
@@ -82,11 +84,11 @@ impl Folders {
     fn read(&mut self, alloc: Global, name: &str) -> Result<(), Refusal> {
         match name {
             "MemoryStore::names" => self.names = names_of(alloc, &mut self.store)?,
-            "MemoryStore::read" => self.bytes = read(alloc, &mut self.store, &self.name)?,
+            "MemoryStore::read" => self.bytes = read_file(alloc, &mut self.store, &self.name)?,
             "MemoryStore::read_journal" => {
-                self.bytes = read_journal(alloc, &mut self.store)?.ok_or(Refusal::Other)?;
+                self.bytes = journal_of(alloc, &mut self.store)?.ok_or(Refusal::Other)?;
             }
-            _ => self.folder = folder_in(alloc, &mut self.store)?,
+            _ => self.folder = folder_of(alloc, &mut self.store)?,
         }
         Ok(())
     }
@@ -94,8 +96,8 @@ impl Folders {
     // Writing calls of a store.
     fn write(&mut self, name: &str) -> Result<(), Refusal> {
         match name {
-            "MemoryStore::write" => write(&mut self.store, &self.other, b"new")?,
-            "MemoryStore::replace" => replace(&mut self.store, &self.name, b"new")?,
+            "MemoryStore::write" => write_file(&mut self.store, &self.other, b"new")?,
+            "MemoryStore::replace" => replace_file(&mut self.store, &self.name, b"new")?,
             _ => put_journal(&mut self.store, b"new journal")?,
         }
         Ok(())

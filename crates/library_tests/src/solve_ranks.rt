@@ -1,7 +1,7 @@
 //! The rank of lost slices and exponents against a plain elimination, with and without runs of exponents that determine
 //! it.
 
-use crate::field::field;
+use crate::gf16::field;
 use crate::plain_elimination::{Equation, eliminated};
 use crate::plain_field::power;
 use par2_gf16::Gf;

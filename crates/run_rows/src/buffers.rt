@@ -194,7 +194,7 @@ impl Buffers {
                 Ok(())
             }
             "write_recovery_slices" | "add_recovery_slices_at" => self.place(alloc, name),
-            "whole_texts" => {
+            "whole_buffers" => {
                 self.number = whole_buffers(alloc, 3)?.len();
                 Ok(())
             }

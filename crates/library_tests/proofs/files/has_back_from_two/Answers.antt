@@ -1,6 +1,6 @@
 use Rattle.library_tests.proofs.Common.{◌≡◌, [], ◌∷◌, IsTrue, None, sym, subst, ◌∙◌, takes_all, state_after, change_refusal, inverse, takes_both, inverse_taken, state_back, change_of}
 use Rattle.library_tests.proofs.ChangesBack.{back_taken}
-use Rattle.library_tests.proofs.folder.has_back_from_two.Goals as goal
+use Rattle.library_tests.proofs.files.has_back_from_two.Goals as goal
 
 pub has_along-requires : goal.has_along-requires
 has_along-requires g c =

@@ -4,7 +4,7 @@
 ghost use Rattle.std.specs.Prelude.{◌≡◌, ◌<◌, ◌≤◌};
 
 use crate::calls::are_buffers;
-use crate::field::field;
+use crate::gf16::field;
 use crate::plain_elimination::eliminated;
 use crate::plain_field::power;
 use crate::transform::next_number;
