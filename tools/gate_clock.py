@@ -25,7 +25,7 @@ def tasks_of(seconds, below):
     """Returns each task of the gate: its seconds and the tasks that it waits for."""
     tasks = {}
     for name, names in below.items():
-        takes, has_tests = seconds.get(name, 30), name.endswith("_tests") and name != "growth_tests"
+        takes, has_tests = seconds.get(name, 30), name.endswith("_tests")
         tasks[name, "proof"] = 10 if has_tests else takes, [(it, "proof") for it in names]
         both = [(name, "proof")]
         if has_tests:
@@ -36,23 +36,25 @@ def tasks_of(seconds, below):
     return tasks
 
 
-def span(tasks, lanes, done):
-    """Returns the seconds until all tasks are done, if those of `done` are."""
-    behind = {it: tasks[it][0] for it in tasks}
+def ends_of(tasks, lanes, kept):
+    """Returns for each task the second at which it ends by the table, with as many at a time as there are lanes. Those of
+    `kept` take no time."""
+    seconds = {it: 0 if it in kept else tasks[it][0] for it in tasks}
+    behind = dict(seconds)
     for it in reversed([*tasks]):
         for first in tasks[it][1]:
-            behind[first] = max(behind[first], tasks[first][0] + behind[it])
-    left = sorted((it for it in tasks if it not in done), key=lambda it: (it[1] not in ("proof", "tests"), -behind[it]))
-    ended, running, now = set(done), [], 0
+            behind[first] = max(behind[first], seconds[first] + behind[it])
+    left = sorted((it for it in tasks if it not in kept), key=lambda it: (it[1] not in ("proof", "tests"), -behind[it]))
+    ended, running, now = dict.fromkeys(kept, 0), [], 0
     while left or running:
         for it in [it for it in left if all(first in ended for first in tasks[it][1])]:
             if len(running) < lanes:
                 left.remove(it)
-                running.append((now + tasks[it][0], it))
+                running.append((now + seconds[it], it))
         now, it = min(running)
         running.remove((now, it))
-        ended.add(it)
-    return now
+        ended[it] = now
+    return ended
 
 
 class Gate:
@@ -69,22 +71,25 @@ class Gate:
     def ends(self, name, tests, how):
         """Notes a line of the log, and returns whether it was a proof of this run."""
         task = (name, "tests" if tests else "proof")
-        self.done.add(task)
         if how == "is kept":
             self.kept |= {it for it in self.tasks if it[0] == name}
-            self.done |= self.kept
+        else:
+            self.done.add(task)
         return how == "proved" and not tests
 
-    def minutes(self):
-        """Returns about how many minutes are left."""
-        whole, left = span(self.tasks, self.lanes, self.kept), span(self.tasks, self.lanes, self.done)
-        slower = (time.time() - self.start) / max(whole - left, 1)
+    def minutes(self, now):
+        """Returns about how many minutes are left at the second `now`: by the table, as many proofs as are done end at
+        `there`, and the rest takes as much longer than by the table as these did."""
+        ends = ends_of(self.tasks, self.lanes, self.kept)
+        proofs = sorted(ends[it] for it in ends if it[1] in ("proof", "tests") and it not in self.kept)
+        there = proofs[len(self.done - self.kept) - 1]
         after = max(AFTER, self.bodies() / max(self.lanes - 1, 1))
-        return (left + after) * min(max(slower, 0.2), 5) / 60
+        return (max(ends.values()) - there + after) * (now - self.start) / there / 60
 
-    def __str__(self):
-        left = sum(kind == "proof" and (name, kind) not in self.done for name, kind in self.tasks)
-        return f"{left} crates left to prove, about {max(self.minutes(), 1):.0f} minutes to the end"
+    def words(self):
+        """Says how many crates are left and about how long they take."""
+        left = sum(kind == "proof" and (name, kind) not in self.done | self.kept for name, kind in self.tasks)
+        return f"{left} crates left to prove, about {max(self.minutes(time.time()), 1):.0f} minutes to the end"
 
 
 def main(log, lanes):
@@ -99,7 +104,7 @@ def main(log, lanes):
                 continue
             found, text = LINE.match(text), ""
             if found and gate.ends(*found.groups()):
-                print(f"  {found[1]} is proved; {gate}", flush=True)
+                print(f"  {found[1]} is proved; {gate.words()}", flush=True)
 
 
 if __name__ == "__main__":
