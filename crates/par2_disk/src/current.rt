@@ -1,5 +1,5 @@
 //! The current directory, by calls of the runtime. Its effects on the disk are tested, not proved: it isn't `honest`
-//! for contracts, so a `DiskStore` over it has the promises only of stores that may do anything.
+//! for contracts, so a `DiskStore` over it promises no more than a store that may do anything.
 ghost use Rattle.std.specs.Prelude.{◌≡◌, ◌+◌, ◌⊎◌, ◌↔◌, Err, IfErr, IfOk, IsOk, IsErr, IsTrue, OnErr};
 ghost use Rattle.std.specs.IoError.{error_kind};
 ghost use Rattle.par2_disk.specs.Directories.{IsFoundBy};

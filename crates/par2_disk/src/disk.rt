@@ -1,5 +1,5 @@
-//! A store over a directory. Reading calls share the directory. A writing call holds it alone (`hold`), which checks
-//! once that the journal is the one that was read, makes one change (`write_new`, `replace_file`, `rename_file`,
+//! A store over a directory. Reading calls share the directory. A writing call holds it alone (`hold` also checks, once,
+//! that the journal is the one that was read), makes one change (`write_new`, `replace_file`, `rename_file`,
 //! `remove_file`, `write_at`), and is counted (`counted_write`).
 ghost use Rattle.std.specs.Prelude.{◌≡◌, ◌+◌, IfErr, IsFalse};
 ghost use Rattle.par2_spec.specs.Changes.{Write, Replace, Rename, Remove};
@@ -284,8 +284,8 @@ impl<D: Directory> DiskStore<D> {
         }
     }
 
-    // The last step of a reading call: counts a failure if it returned one. Running out of memory is none of the
-    // store's.
+    // The last step of a reading call: counts a failure if it returned one. Running out of memory isn't a failure of the
+    // store.
     fn counted_read<T>(&mut self, answer: Result<T, ReadFault>) -> Result<T, ReadFault>
         // The result is passed on, and nothing but the counts changes.
         ensures answer { result ≡ answer }
@@ -337,6 +337,8 @@ impl<D: Directory> Store for DiskStore<D> {
     ghost writing_calls = { disk_writing_calls };
 }
 
+// What the trait's contracts don't say: which error of the directory makes a call fail (`HasFailedToRead` and the like),
+// and that what is remembered of the journal stays (`HasSeenAsMuch`) or is its new stamp (`RemembersJournal`).
 impl<D: Directory> FolderStore for DiskStore<D> {
     ghost use Rattle.std.specs.Prelude.{◌≡◌, ◌+◌, IfErr};
     ghost use Rattle.par2_spec.specs.Changes.{Write, Replace, Rename, Remove};

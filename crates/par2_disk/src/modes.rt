@@ -97,7 +97,8 @@ impl Modes {
         self.allowed = beside(self.allowed, mode);
     }
 
-    /// Notes the mode of the file that was read at a location, for `mode_at`. Err if memory runs out.
+    /// Notes the mode of the file that was read at a location, for `mode_at`. Err if memory runs out; then outputs may
+    /// have no more permissions than before.
     pub fn note_at(&mut self, location: Location<'_>, mode: u32) -> Result<(), AllocError>
         ensures within { GivesNoMore (allowed_of self.new) (allowed_of self.old) }
         ensures closed { IsOk result → IsClosedAs (allowed_of self.new) mode }

@@ -24,7 +24,7 @@ pub enum ReadFault {
 #[error("the folder could not be written")]
 pub struct StoreFault;
 
-/// A flat folder of files, and a journal beside it. The contracts on its contents hold if the store is honest: only
+/// A flat folder of files, and a journal beside it. The contracts about its contents hold if the store is honest: only
 /// runs of this program write it, and reads return what was written. A writing call that fails has done all of its
 /// work or none. After a writing call that returns Ok, a power cut leaves what the call wrote. After one that fails,
 /// or during one, a power cut leaves either the contents before the call or those that the call writes.

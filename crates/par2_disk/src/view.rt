@@ -37,7 +37,7 @@ pub trait Disk {
     /// Whether the run holds it alone, so that no other run writes.
     ghost alone: { Self → Type 0 };
 
-    /// The journal's stamp, as far as it was looked at, and `None` if there is no journal.
+    /// The journal's stamp when it was last looked at, or `None` if there was no journal.
     ghost stamp: { Self → Option Stamp };
 
     /// The named files, and the journal.

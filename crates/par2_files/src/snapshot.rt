@@ -1,6 +1,6 @@
 //! Borrowed files of a folder, to which changes are applied without changing the folder, and splits among names.
-//! `walk` applies the planned changes one by one, and `pending_between` returns the files that each fingerprint hashes
-//! from one split to the next.
+//! `walk` applies the planned changes one by one, and `pending_between` returns an MD5 state with the files that it is to
+//! absorb next.
 ghost use Rattle.std.specs.FinMap as map_of;
 ghost use Rattle.std.specs.Prelude.{◌≡◌, map, Some, None, IfOk, IfErr, OnOk, IsTrue, ◌++◌, ◌∷◌, []};
 ghost use Rattle.par2_spec.specs.Folders.{has, bytes_of};
@@ -184,8 +184,8 @@ fn parts_of<'a>(alloc: Global, files: &[BorrowedFile<'a>]) -> Result<Vec<Part<'a
     Ok(parts)
 }
 
-/// The state at the split `from`, with the files from there to the split `to` still to absorb. `AbsorbsTo`: once it has
-/// absorbed its parts, it has absorbed exactly these bytes.
+/// The state at the split `from`, with the files from there to the split `to` still to absorb, so that several states
+/// are absorbed side by side. `AbsorbsTo`: once it has absorbed its parts, it has absorbed exactly the bytes before `to`.
 pub fn pending_between<'a>(
     alloc: Global,
     state: Midstate,

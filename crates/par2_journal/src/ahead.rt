@@ -1,4 +1,5 @@
-//! What an opening computes for the next action: fingerprints along an undo or redo, or checkpoints for a command's.
+//! What an opening computes for the next action: fingerprints along an undo or redo, or checkpoints from
+//! which those of a command are computed.
 ghost use Rattle.std.specs.Prelude.{◌≡◌, is_some, IfSome, IsTrue, Some};
 ghost use Rattle.par2_files.specs.declared.checkpoints.Checkpoints.{Checkpoints as Includes};
 ghost use Rattle.par2_journal.specs.declared.spelling.Fingerprints.{Fingerprints as Prints};
@@ -14,12 +15,12 @@ pub enum Next {
     Redo,
 }
 
-// What an opening computed for the next action.
+/// What an opening computed for the next action.
 #[derive(Drop)]
 pub enum Ahead {
-    // The fingerprints along the changes of the next undo or redo.
+    /// The fingerprints along the changes of the next undo or redo.
     Fingerprints(Next, Fingerprints),
-    // MD5 states from which fingerprints along other changes are computed.
+    /// MD5 states from which fingerprints along other changes are computed.
     Checkpoints(Checkpoints),
 }
 

@@ -146,7 +146,7 @@ fn are_valid(alloc: Global, folder: &Folder, entries: &[Changes], cursor: usize)
     Ok(can_walk(alloc, folder, &undos)? && can_walk(alloc, folder, &redos)?)
 }
 
-// How many changes the entries have in all: none adds more than one file, so the folder needs that much room.
+// How many changes the entries have in all: none adds more than one file, so room for that many files is enough.
 fn change_count(entries: &[Changes]) -> usize
     requires { AreCounted entries.now }
     ensures { result ≡ change_count entries.now }

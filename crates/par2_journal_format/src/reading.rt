@@ -21,7 +21,7 @@ use std::alloc::Global;
 // A part from the front, and the bytes after it.
 type Read<'a, T> = Result<(T, &'a [u8]), DecodeFault>;
 
-// The first `len` bytes, borrowed, so that nothing is allocated for a length that is claimed only. JournalInvalid if
+// The first `len` bytes, borrowed, so that nothing is allocated for a length that is only claimed. JournalInvalid if
 // there are fewer.
 #[tactic(auto, unfolding(crate::specs::Reading::block_at))]
 fn read_block(bytes: &[u8], len: usize) -> Result<(&[u8], &[u8]), DecodeFault>
@@ -102,7 +102,7 @@ fn read_change(alloc: Global, bytes: &[u8]) -> Result<(Change, &[u8]), DecodeFau
 }
 
 // `count` changes one after the other. The list grows by changes that were read, so that no memory is taken for a count
-// that is claimed only.
+// that is only claimed.
 fn read_changes(alloc: Global, count: u64, bytes: &[u8]) -> Result<(Changes, &[u8]), DecodeFault>
     ensures { Gives (λ x. (x.0, x.1.now)) result (reads.many_at reads.change_at count bytes.now) }
 {

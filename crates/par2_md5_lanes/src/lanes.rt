@@ -21,8 +21,8 @@ pub(crate) trait Lanes: Copy {
     fn f(x: Self, y: Self, z: Self) -> Self
         ensures { (k : ℕ) → k < count → at result k ≡ f_fn (at x k) (at y k) (at z k) };
 
-    // A sum plus the function G. The two terms of G have no bit in common, so they are added one by one. The term with
-    // `x` comes last, because `x` is the result of the step before.
+    /// A sum plus the function G. The two terms of G have no bit in common, so they are added one by one. The term with
+    /// `x` comes last, because `x` is the result of the step before.
     fn plus_g(sum: Self, x: Self, y: Self, z: Self) -> Self
         ensures { (k : ℕ) → k < count
             → at result k ≡ add32 (at sum k) (g_fn (at x k) (at y k) (at z k)) };
@@ -31,7 +31,8 @@ pub(crate) trait Lanes: Copy {
     fn h(x: Self, y: Self, z: Self) -> Self
         ensures { (k : ℕ) → k < count → at result k ≡ h_fn (at x k) (at y k) (at z k) };
 
-    // A sum plus one plus the function I. The complement of I is subtracted instead, which saves the complement of `z`.
+    /// A sum plus one plus the function I. The complement of I is subtracted instead, which saves the complement of `z`
+    /// but adds one more; `step` takes that off its constant.
     fn plus_one_and_i(sum: Self, x: Self, y: Self, z: Self) -> Self
         ensures { (k : ℕ) → k < count
             → at result k ≡ add32 (add32 (at sum k) 1) (i_fn (at x k) (at y k) (at z k)) };

@@ -29,7 +29,8 @@ pub(crate) struct LaneTask<'a> {
 }
 
 impl<'a> LaneTask<'a> {
-    // The number of blocks that can be taken without a copy. A message that has ended never limits the batch.
+    // A number of blocks that can be taken without a copy: the feed's, or any for a message that has ended, which never
+    // limits the batch.
     fn blocks_at_hand(&self) -> usize
         ensures blocks { HasBlocks self.now result }
         ensures room { result * 64 < 2 ^ 64 }

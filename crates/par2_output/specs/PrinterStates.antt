@@ -12,7 +12,7 @@ writer_of printer = printer.writer
 abbrev pub failures_of : {W : Type 0} → Printer W → ℕ
 failures_of printer = printer.failures.count
 
--- the last call to its writer was a flush that succeeded
+-- a flush has succeeded since the last write
 abbrev pub IsFlushed : {W : Type 0} → Printer W → Type 0
 IsFlushed printer = printer.is_flushed ≡ true
 
@@ -24,7 +24,7 @@ seen contents printer = record { taken = contents (writer_of printer); failures 
 abbrev pub PrinterTookAll : {W : Type 0} → (W → Option (List ℕ)) → Printer W → Printer W → List ℕ → Type 0
 PrinterTookAll contents old new bytes = writing.TookAll (seen contents old) (seen contents new) bytes
 
--- the writer took a prefix of the bytes and has failed
+-- the writer took a proper prefix of the bytes and has failed
 abbrev pub PrinterTookPart : {W : Type 0} → (W → Option (List ℕ)) → Printer W → Printer W → List ℕ → Type 0
 PrinterTookPart contents old new bytes = writing.TookPart (seen contents old) (seen contents new) bytes
 
@@ -33,6 +33,7 @@ abbrev pub TookInVain : {W : Type 0} → (W → Option (List ℕ)) → Printer W
 TookInVain contents old new bytes =
     Appends (contents (writer_of old)) (contents (writer_of new)) bytes × (failures_of old < failures_of new)
 
--- a call that writes these bytes: Ok if the writer took all and did not fail, an error if it failed and took a prefix
+-- a call that writes these bytes: Ok if the writer took all and did not fail, an error if it failed and took a
+-- proper prefix
 abbrev pub PrinterWrote : {W T E : Type 0} → (W → Option (List ℕ)) → Printer W → Printer W → List ℕ → Result T E → Type 0
 PrinterWrote contents old new bytes r = writing.Wrote (seen contents old) (seen contents new) bytes r

@@ -23,7 +23,7 @@ pub type Written = Result<(), WriteFault>;
 pub struct Printer<W: Write> {
     writer: W,
     failures: Count,
-    // Whether it was flushed after the last byte that it took.
+    // Whether a flush has succeeded since the last write.
     is_flushed: bool,
 }
 

@@ -1,5 +1,6 @@
 //! The lines of a verify's report (`write_set`, `write_target` for each target, `write_verdict`) and of any other
 //! accepted command (`write_note`, `write_step` for each step, `write_done`). `par2_tool` calls them in this order.
+//! `PrinterWrote` in their contracts: the line is written whole, or a proper prefix of it is, and a failure is counted.
 ghost use Rattle.std.specs.Prelude.{◌≡◌, ◌++◌, codes, decimal};
 ghost use Rattle.hex.specs.Hex.{encode_lower};
 ghost use Rattle.par2_spec.specs.Reports.{Report};

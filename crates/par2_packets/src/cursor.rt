@@ -83,8 +83,8 @@ pub(crate) fn claimed_length(bytes: &[u8]) -> Option<usize>
 // lengths. Unused lanes repeat the first. Digesting side by side takes about the time of two packets, so there is no
 // batch of fewer than three.
 //
-// Reading a header costs less than the MD5 of 64 bytes. So a walk over more than sixteen headers costs less than the
-// digest of the packet at `at`.
+// A walk over more than sixteen headers reads at most one for each 64 bytes of `len`. Reading a header costs less than the
+// MD5 of 64 bytes, so the walk costs less than the digest of the packet at `at`.
 fn batch_ahead(bytes: &[u8], at: usize, len: usize) -> Option<DigestBatch>
     requires head { 32 ≤ len }
     requires within { at + len ≤ length bytes.now }

@@ -10,8 +10,8 @@ use par2_spec::{CreateArgs, Fault};
 use std::alloc::Global;
 
 /// The changes of a create, which writes its outputs in order, the index first. Memory is reported only if an
-/// allocation fails. Unlike that of `par2_create` it neither takes nor returns checkpoints, which save a session
-/// hashing files again. Only tests call it.
+/// allocation fails. Unlike `plan_create` of `par2_create` it neither takes nor returns checkpoints, which spare a session
+/// from hashing files again. Only tests call it.
 pub fn plan_create(alloc: Global, folder: &Folder, args: &CreateArgs) -> Result<Changes, Fault>
     // It is refused as the definitions say, or memory ran out; early refusals need no memory.
     ensures refused { FailsAs folder.now.files (Create (create_args_of args.now)) result }

@@ -1,5 +1,5 @@
 //! Findings on a set, for the report of a verify: the matches of its targets, and which of its slices are found. Only
-//! the slices of targets without a match are searched.
+//! the slices of incomplete targets without a match are searched for.
 ghost use Rattle.std.specs.Prelude.{◌≡◌, true, map, take, drop, is_some, IfOk, if◌then◌else◌};
 ghost use Rattle.std.specs.BTreeSet.{contains};
 ghost use Rattle.std.specs.Cmp.Lexicographic.{slice_cmp};

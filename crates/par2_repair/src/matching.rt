@@ -1,5 +1,5 @@
 //! Which targets of a set are incomplete, and which candidates (targets in the folder, then extra files) are intact for
-//! them: their matches. `matches` parts the targets, leaves out the names of intact ones, and matches the others with the
+//! them: their matches. `matches` divides the targets, leaves out the names of intact ones, and matches the others with the
 //! files of the remaining names.
 ghost use Rattle.std.specs.Prelude.{◌≡◌, ℕ, List, not, map, filter, IfOk, option_and_then, slice_get, zip};
 ghost use Rattle.std.specs.List.{IsDistinct};
@@ -86,7 +86,7 @@ fn parted<'s>(
     Ok((needs, incomplete, intact))
 }
 
-// The candidates that aren't names of intact targets, in order, because a file that is in its place is no match.
+// The candidates that aren't names of intact targets, in order. A file that is in its place is no match.
 fn free_names<'n>(alloc: Global, intact: BTreeSet<&'n Name>, names: &'n [Name]) -> Result<Vec<Name>>
     ensures { (all : List (List ℕ)) → HoldsNames intact.entry all →
         Lists (filter (λ name. not (is_among all name)) names.now) result }

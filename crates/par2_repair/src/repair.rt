@@ -31,8 +31,8 @@ use par2_spec::{Fault, Result};
 use std::alloc::Global;
 use std::collections::BTreeSet;
 
-// The targets without a match, whose names are `unmatched`, by slices that are found in the candidates or rebuilt. If
-// there are none, nothing is searched. It returns `NotRepairable` if the lost slices aren't determined.
+// The targets without a match, whose names are `unmatched`, made from slices that are found in the candidates or
+// rebuilt. If there are none, nothing is searched. It returns `NotRepairable` if the lost slices aren't determined.
 fn files_for<'s>(
     alloc: Global,
     folder: &Folder,
@@ -172,7 +172,7 @@ fn tested_changes(
 }
 
 /// The changes of a repair whose written files have the described MD5s. If the set was made from certain files, and
-/// what is found of them is true, the changes lead to a folder that has these files. The program doesn't call it,
+/// no checksum collides, the changes lead to a folder that has these files. The program doesn't call it,
 /// because a session drafts its repairs.
 pub fn plan_repair(
     alloc: Global,
@@ -194,8 +194,8 @@ pub fn plan_repair(
     ensures written { let words = map string_bytes extras.now in
         OnOk result (WritesAsDescribed folder.now.files base.now words) }
     ensures few { OnOk result (AreFewFor folder.now.files (repair_of base.now extras.now purge)) }
-    // If the set was made from certain files, and what is found of them is true, they are in the
-    // folder that the changes lead to. RepairFailed isn't returned, and NotRepairable only if other
+    // If the set was made from certain files, and no checksum collides, they are in the folder
+    // that the changes lead to. RepairFailed isn't returned, and NotRepairable only if other
     // slices, too, agree with all that is found.
     ensures restores { RestoresFiles folder.now.files base.now (map string_bytes extras.now)
         (folder_left (effects folder.now.files) result) }

@@ -22,7 +22,7 @@ use std::alloc::Global;
 use std::collections::BTreeSet;
 
 /// The names of the set's PAR2 files, in order, which a purge removes. `own` has the files that `set_of` found to have
-/// packets of the set alone: those that are targets stay.
+/// packets of the set alone. Targets among them are left out, so that a purge keeps them.
 pub fn par_files(alloc: Global, set: &ParSet, own: &[Name]) -> Result<Vec<Name>>
     ensures { (files : Files) → own.now ≡ own_files files set.now.id
         → Lists (repairs.par_files files set.now) result }

@@ -61,7 +61,7 @@ pub record AreHoleInverse (p places : List ℕ) (n : ℕ) (rows : List (List ℕ
       → field_sum (length places) (λ q. mul (slice_index (shifted p u places) q) (slice_index (list_at rows q) k)) ≡ identity u k
   pub only : OnlyZeroFits p places n
 
--- the places of the exponents in the window (despite its name, not those of the holes)
+-- the places of the exponents in the window
 abbrev pub exponent_places : List ℕ → List ℕ
 exponent_places exponents = map (λ e. e - slice_index exponents 0) exponents
 

@@ -76,7 +76,7 @@ pub(crate) fn rise(numbers: &[u32]) -> bool
     numbers.windows(2).all(|pair| pair[0] < pair[1])
 }
 
-/// Whether any two of these exponents, which rise, differ by less than `count`. It is enough to compare the first and
+/// Whether any two of these increasing exponents differ by less than `count`. It is enough to compare the first and
 /// the last.
 pub(crate) fn are_close(exponents: &[u32], count: usize) -> bool
     requires { IsStrictlyIncreasing exponents.now }
@@ -89,7 +89,7 @@ pub(crate) fn are_close(exponents: &[u32], count: usize) -> bool
     (span as usize) < count
 }
 
-// Whether `count` of these exponents, which rise, are consecutive: they are if they lie within `count` numbers.
+// Whether `count` of these increasing exponents are consecutive: they are if they lie within `count` numbers.
 fn has_run(exponents: &[u32], count: usize) -> bool
     requires { IsStrictlyIncreasing exponents.now }
     ensures { IsTrue result ↔ (first : ℕ) × HasRun first count exponents.now }

@@ -61,7 +61,7 @@ fn is_hole(exponents: &[u32], x: u32) -> bool
     exponents.binary_search(&(exponents[0] + x)).is_err()
 }
 
-/// The places of the holes between the exponents, which rise: for each hole, how far it is above the first exponent.
+/// The places of the holes between the exponents, in increasing order: for each hole, how far it is above the first exponent.
 pub(crate) fn holes(alloc: Global, exponents: &[u32]) -> Result<Vec<u32>>
     requires some { 0 < length exponents.now }
     requires rise { IsStrictlyIncreasing exponents.now }
@@ -76,7 +76,7 @@ pub(crate) fn holes(alloc: Global, exponents: &[u32]) -> Result<Vec<u32>>
     Ok(places)
 }
 
-/// The places of the exponents, which rise, in the window: for each, how far it is above the first one.
+/// The places of increasing exponents in the window: for each, how far it is above the first one.
 pub(crate) fn places_of(alloc: Global, exponents: &[u32]) -> Result<Vec<u32>>
     requires { 0 < length exponents.now }
     ensures { IfOk result (λ places. places.items ≡ exponent_places exponents.now) }

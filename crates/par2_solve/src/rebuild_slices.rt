@@ -24,7 +24,7 @@ pub struct Survivors<'a> {
     pub slice: usize,
     /// For each input slice its bytes, which may lack zeros at the end, or None if it is lost.
     pub known: Vec<Option<&'a [u8]>>,
-    /// The recovery slices with their exponents, which rise. Each has `slice` bytes.
+    /// The recovery slices with their exponents, in increasing order. Each has `slice` bytes.
     pub recovery: Vec<(u32, &'a [u8])>,
 }
 

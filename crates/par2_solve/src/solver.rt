@@ -1,5 +1,5 @@
-//! The inverse of the matrix of the kept exponents, in one of three forms, and its product with the syndromes, which is
-//! the lost slices.
+//! The inverse of the matrix of the kept exponents, in one of three forms, and its product with the syndromes, which
+//! gives the lost slices.
 
 ghost use Rattle.std.specs.Prelude.{◌≡◌, ◌%◌, ◌<◌, length, IfOk};
 ghost use Rattle.par2_spec.specs.Sums.{lists_of};

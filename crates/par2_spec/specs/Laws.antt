@@ -23,7 +23,7 @@ use Rattle.par2_spec.specs.declared.Kind.TheVariants.{Main, FileDesc}
 use Rattle.par2_spec.specs.declared.Version.{Version}
 use Rattle.std.specs.FinMap as map_of
 
--- only one order of these files' records has strictly increasing File IDs: that of `in_id_order`
+-- at most one order of these files' records has strictly increasing File IDs, and it is that of `in_id_order`
 abbrev pub OnlyOneOrder : Type 0
 OnlyOneOrder =
     (s : ℕ) (files : List File) (records : List FileRecord)

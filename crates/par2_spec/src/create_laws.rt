@@ -34,8 +34,8 @@ pub fn index_alone()
         ≡ (base, flat_map packet (index_packets s (map (record_of s) (in_id_order files)))) ∷ [] }
 {}
 
-/// `in_id_order` returns the files sorted by File ID. Only one order of their records has strictly increasing File IDs.
-/// The names in that order give the files in that order again.
+/// `in_id_order` returns the files sorted by File ID. At most one order of their records has strictly increasing File IDs,
+/// and it is that of `in_id_order`. The names in that order give the files in that order again.
 pub fn files_in_order()
     ensures same { (files : List File) → IsPermutation files (in_id_order files) }
     ensures order { (files : List File) → IsNonDecreasingBy id_number (in_id_order files) }

@@ -68,8 +68,8 @@ pub fn some_slices_agree()
     ensures { SomeSlicesAgree }
 {}
 
-/// If the lost slices are not determined, at least two lists agree with the known slices and the recovery slices of the
-/// kept exponents. `rebuild` of `par2_solve` needs it.
+/// If the lost slices are not determined and slices have at least two bytes, at least two lists agree with the known
+/// slices and the recovery slices of the kept exponents. `rebuild` of `par2_solve` needs it.
 pub fn two_lists_agree()
     ensures { TwoListsAgree }
 {}

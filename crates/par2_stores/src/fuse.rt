@@ -56,7 +56,7 @@ fn make_in<S: FolderStore>(store: &mut S, change: BorrowedChange<'_>) -> Result<
 
 impl<S: FolderStore> FuseStore<S> {
     /// A store that passes `k` calls on to `inner` and fails all later ones. With `works` the first call that fails
-    /// does its work all the same, if it is a writing call, as one that was stopped just after its work.
+    /// does its work all the same, if it is a writing call, like one that was stopped just after its work.
     pub fn new(inner: S, k: u64, works: bool) -> Self
         ensures inner { inner_store result ≡ inner }
         ensures left { calls_left result ≡ k }
@@ -135,6 +135,8 @@ impl<S: FolderStore> Store for FuseStore<S> {
     ghost writing_calls = { fuse_writing_calls };
 }
 
+// What the trait's contracts don't say (`FusesRead`, `FusesChange`, `FusesJournal`): a call was passed on, or it failed,
+// and the first writing call that fails may have done its work.
 impl<S: FolderStore> FolderStore for FuseStore<S> {
     ghost use Rattle.std.specs.Prelude.{◌≡◌, ◌+◌};
     ghost use Rattle.par2_spec.specs.Changes.{Write, Replace, Rename, Remove};

@@ -46,7 +46,7 @@ pub fn run<S: FolderStore, O: Write, E: Write>(
     out: &mut Printer<O>,
     err: &mut Printer<E>,
 ) -> u8
-    // What is printed is what was done to the store, and no impossible call is made of it.
+    // What is printed is what was done to the store, and no impossible call is made on it.
     ensures honest { S.honest store.old → S.honest store.new }
     ensures reported { IsRun S.Store O.contents E.contents (map string_bytes words.now)
         store.old store.new out.old out.new err.old err.new result }
@@ -57,7 +57,7 @@ pub fn run<S: FolderStore, O: Write, E: Write>(
         → AskFor (map string_bytes words.now) (Do (Verify base extras))
         → ((back : List Change) → IsHalfway (S.contents store.old) back → ⊥)
         → S.writing_calls store.new ≡ S.writing_calls store.old }
-    // A repair of a set that was made from certain files, if what is found of them is true: with status 0 the store
+    // A repair of a set that was made from certain files, if no checksum collides (`IsTrueTo`): with status 0 the store
     // holds each of them afterwards, with its bytes;
     ensures restored { (folder : Folder) (base : List ℕ) (extras : List (List ℕ))
         (originals : List File) (s : ℕ) → S.honest store.old

@@ -230,8 +230,9 @@ pub(crate) fn open_for<S: FolderStore>(
 
 /// Opens a store as a session: reads its names, files and journal, and takes back a halfway command. If the folder
 /// isn't as the journal of a finished command left it, the session is a new one. Nothing else is done to the store.
-/// After [`OpenFault::Store`] and [`OpenFault::Memory`] it opens as it did before; so does what a power cut leaves at
-/// any moment. For users of the library and tests: a run opens for its command, with `open_for`.
+/// After [`OpenFault::Store`] and [`OpenFault::Memory`] it opens as it did before. So does what a power cut leaves at
+/// any moment, if what was written earlier is durable and the folders that a halfway command passes through have
+/// different fingerprints. For users of the library and tests: a run opens for its command, with `open_for`.
 pub fn open_store<S: FolderStore>(alloc: Global, store: &mut S) -> Result<Started, OpenFault>
     ensures opened { S.honest store.old → Starts S.Store store.old store.new result }
     ensures opens { S.honest store.old → OpensStore S.Store store.old store.new result }

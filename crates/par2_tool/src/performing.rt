@@ -116,7 +116,7 @@ pub fn perform<S: FolderStore>(
         → (left : Contents) → S.crash_states store.new left
         → OpensAsBeforeOrAfter (session_of_kept session.old)
         (command_of command.now) (S.contents store.old) left }
-    // No impossible call is made of the store. Its failures and its writing calls are counted.
+    // No impossible call is made on the store. Its failures and its writing calls are counted.
     ensures honest { S.honest store.old → S.honest store.new }
     ensures possible { S.honest store.old
         → (S.contents store.old).files ≡ session.old.folder.files
@@ -130,8 +130,8 @@ pub fn perform<S: FolderStore>(
     ensures unwritten { IfErr result (λ fault. IsSession fault
         → S.writing_calls store.new ≡ S.writing_calls store.old) }
 {
-    // For the prover: what a stop leaves opens only if the session's entries can be walked, which the contract of
-    // `folder` says. Then this law says that the prepared changes apply.
+    // For the prover: a store left by a stop opens only if the session's entries can be walked, which the contract of
+    // `folder` says. `ready_changes_apply` says that the prepared changes apply.
     let _folder = session.folder();
     ready_changes_apply();
     let action = match command {

@@ -1,5 +1,5 @@
 //! Writing changes to a store between two journals: `write_down` puts the halfway journal (`begin`), makes the changes
-//! (`write_changes`), and puts the journal of afterwards. `perform` calls it, and so does taking back a halfway
+//! (`write_changes`), and puts the final journal. `perform` calls it, and so does taking back a halfway
 //! command.
 ghost use Rattle.std.specs.Prelude.{◌≡◌, ◌+◌, length, OnOk};
 ghost use Rattle.par2_disk.specs.Stores.{CountsFailures, Makes};
@@ -60,9 +60,8 @@ fn begin<S: FolderStore>(store: &mut S, halfway: &Option<Vec<u8>>) -> Result<(),
     }
 }
 
-/// Makes changes in a store, in order, between two journals: the halfway one, if there is one, and the one of
-/// afterwards. `WritesDown`: a failure or a power cut leaves the store before this, after some of the changes, or after
-/// everything.
+/// Makes changes in a store, in order, between two journals: the halfway one, if there is one, and the final one.
+/// `WritesDown`: a failure or a power cut leaves the store as it was before, after some of the changes, or after all.
 pub fn write_down<S: FolderStore>(
     store: &mut S,
     journals: &Journals,

@@ -110,8 +110,8 @@ pub(crate) fn gather_rows(gf: &Gf, weights: &[u16], values: &Rows, sums: &mut Ro
 }
 
 impl Block {
-    /// The block of the outputs of the exponents from `exponent` on, as many as `plan.block`: computes their weights.
-    /// The sums are zero.
+    /// The block of the outputs of the exponents from `exponent` on, as many as `plan.block`: computes their weights. The
+    /// contract says nothing of the sums, because each class clears them first.
     pub(crate) fn new(
         alloc: Global,
         gf: &Gf,

@@ -17,7 +17,8 @@ pub fn subspaces_vanish()
         ≡ bit_xor (vanishing i x) (sum_ahead i (pow x) 0) }
 {}
 
-/// The transposed additive FFT: level by level, weights become weighted sums of powers of the points.
+/// The transposed additive FFT: level by level, weights become weighted sums of powers of the points. Before the first
+/// level the values are the weights (`begin`), and after the last one they are the power sums (`end`).
 pub fn power_sums_by_levels()
     ensures begin { (weight values : ℕ → ℕ) (k : ℕ) → GivesElements weight
         → ((u : ℕ) → u < 2 ^ k → values u ≡ weight u) → HoldPowerSums weight k 0 values }
@@ -40,7 +41,7 @@ pub fn weights_by_levels()
 {}
 
 /// The additive FFT (Cantor 1989; Gao and Mateer 2010): level by level, the coefficients of a polynomial become its
-/// values at the points.
+/// values at the points. Before the first level there are coefficients (`begin`), and after the last one values (`end`).
 pub fn values_by_levels()
     ensures begin { (whole values : ℕ → ℕ) (k : ℕ)
         → ((m : ℕ) → m < 2 ^ k → values m ≡ whole m) → HoldPolynomials whole k k values }

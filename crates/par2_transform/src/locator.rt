@@ -110,7 +110,8 @@ fn source_at<'a>(sources: &[&'a [u8]], s: usize) -> &'a [u8]
     sources[s]
 }
 
-// Copies the words of source s, from word `from` on, to row s. The rows after the last source become zero.
+// Copies the words of source s, from word `from` on, to row s: as many as a row has, and zeros for those past the
+// source's end. The rows after the last source become zero.
 fn fill(gf: &Gf, sources: &[&[u8]], from: usize, rows: &mut Rows)
     requires { length sources.now ≤ 2 ^ rows.old.levels }
     ensures bytes { AreByteLists (byte_lists sources.now) }

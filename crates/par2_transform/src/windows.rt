@@ -22,7 +22,8 @@ use crate::rows::Rows;
 use par2_gf16::{Factor, Gf};
 use std::alloc::{AllocError, Global};
 
-// The inverses of the first n chirps of step d: the factors of the numbers 0 to n - 1 of each class.
+// The inverses of the first n chirps of step d (see `powers`): the slice of number m in a class is multiplied by the
+// inverse of number m.
 fn inverse_chirps(alloc: Global, gf: &Gf, d: usize, n: usize) -> Result<Vec<u16>, AllocError>
     requires { d ≤ 65536 }
     ensures { IfOk result (λ inverses. AreInverses d n inverses.items) }
