@@ -5,7 +5,8 @@ after each further one by how fast the run has been.
 usage: gate_clock.py LOG LANES     LANES is how many checks there are at a time
 
 The seconds of a crate are those of tools/seconds.txt. The order is the gate's: what can begin, the longest chain first,
-proofs and tests before must-fail edits. What an earlier run kept takes no time.
+proofs and tests before must-fail edits. A crate that an earlier run kept takes no time. If its edits were not tried then,
+this says too little, because the gate tells that only at its end.
 """
 import glob
 import os
