@@ -1,8 +1,9 @@
 #!/bin/sh
 # Whole commands beside par2cmdline on one thread (-t1 -T1), over the same folders: the two take turns, and a line has the
 # least time of three runs of each, or of 15 short ones, in milliseconds, and their ratio. Par2cmdline runs once where it
-# takes minutes, and not at all where it would take an hour: `-` is in place of its time. Both programs must end as is said
-# for the scene. With QUICK=1 the scenes of thousands of recovery slices are left out, which take half an hour.
+# takes minutes, and not at all where one more such run would say nothing new: `-` is in place of its time. Both programs
+# must end as is said for the scene. With QUICK=1 the scenes of thousands of recovery slices are left out, which take
+# twenty minutes.
 # usage: against_par2cmdline.sh PROGRAM [TABLE]
 #     TABLE is a file that gets a line for each scene too: ratio, ours, theirs, scene, what bounds it. SCENES names those to
 #     run, of the functions below; all of them without the word
@@ -298,6 +299,7 @@ large() {
     restore
     mv set.vol00511+00512.par2 "$room/recovery"
     keep
+    their_rounds=0
     bound="the equations of 512 holes, MD5 of the folder"
     repair "the same, a volume of 512 gone from the middle" data
     mv "$room/recovery" set.vol00511+00512.par2

@@ -1,12 +1,12 @@
 -- The inverse for exponents with holes between them: the inverse of the holes' equations maps the syndromes
 -- of the exponents to those of the holes, and the window begins with a run.
-use Rattle.par2_solve.proofs.Common.{ℕ, ◌+◌, ◌-◌, ◌^◌, ◌<◌, ◌≤◌, ◌≡◌, refl, sym, ap, ap₂, ◌∙◌, subst, arith, Bool, true, false, cond, inl, inr, cases_eq, cases_lt, eq-eqb, ne_eqb, le-ltb, List, [], ◌∷◌, ◌++◌, length, length-append, get_or_append_left, get_or_at, get_or, map, filter, take, take_all, bit_xor, xor_zero_l, AllByRecursion, AllPairs-from_increasing, Contains, Contains-get_or, range_with_len, IsStrictlyIncreasing, length-map, length-range_with_len, get_or-map, get_or-range_with_len, get_or-map-range_with_len, length-map-range_with_len, mul, coefficient, coefficients, constant, dot, dot_sum, product_at, field_sum, field_sum_same, IsVector, IsRepairable, Kills, AreSlices, kept, with_roots_elements, all_at, all_from, all-each, dot-lt, coefficients_are, run_determines, identity, IsInverseMatrix, list_at, AreByteRows, Equations, OnlyZeroIsKilled, IsTheSolution}
+use Rattle.par2_solve.proofs.Common.{ℕ, ◌+◌, ◌-◌, ◌^◌, ◌<◌, ◌≤◌, ◌≡◌, refl, sym, ap, ap₂, ◌∙◌, subst, arith, Bool, true, false, cond, inl, inr, cases_eq, cases_lt, eq-eqb, ne_eqb, le-ltb, List, [], ◌∷◌, ◌++◌, length, length-append, get_or_append_left, get_or_at, get_or, slice_index, map, filter, take, take_all, bit_xor, xor_zero_l, AllByRecursion, AllPairs-from_increasing, Contains, Contains-get_or, range_with_len, IsStrictlyIncreasing, length-map, length-range_with_len, get_or-map, get_or-range_with_len, get_or-map-range_with_len, length-map-range_with_len, mul, coefficient, coefficients, constant, dot, dot_sum, product_at, field_sum, field_sum_same, IsVector, IsRepairable, Kills, AreSlices, kept, with_roots_elements, all_at, all_from, all-each, dot-lt, coefficients_are, run_determines, identity, IsInverseMatrix, list_at, AreByteRows, Equations, OnlyZeroIsKilled, IsTheSolution}
 use Rattle.std.specs.Int.Bits.{xor_self}
 use Rattle.par2_spec.proofs.ExistLaws.{IsSolved, solved, length-sums}
 use Rattle.par2_spec.proofs.SumLaws.{xor_same}
 use Rattle.par2_spec.proofs.UniqueLaws.{sums, dot-sums, no_difference, sums-elements}
 use Rattle.par2_solve.specs.Filling.{row_times, matrix_product, identity_rows, from_origin, origin_at, IsOriginAt, AreOrigins}
-use Rattle.par2_solve.specs.Holes.{locator, shifted_at, shifted, shifted_rows, span, is_hole, holes, exponent_places, AreHoleInverse, AreHoleEquations}
+use Rattle.par2_solve.specs.Holes.{locator, shifted_at, shifted, span, is_hole, holes, AreHoleInverse, AreHoleEquations}
 use Rattle.par2_solve.specs.declared.filling.Origin.{Origin}
 use Rattle.par2_solve.specs.declared.filling.Origin.TheVariants.{Exponent, Hole}
 use Rattle.par2_solve.proofs.Beginnings.{kept_first}
@@ -17,6 +17,16 @@ use Rattle.par2_solve.proofs.Matrices.{HasElements, rows_elements, length-produc
 use Rattle.par2_solve.proofs.RunInverses.{constants-lt, identity_moved, sum_of_column}
 use Rattle.par2_solve.proofs.Runs.{placed, range_has, rises_between}
 use Rattle.par2_solve.proofs.Windows.{below, parted, none_given, all_others, others, given_at, window_sum, no_hole, exponent_no_hole, holes_determine, only_zero_fits}
+
+-- ---- the right-hand sides of the holes' equations
+
+-- the places of the exponents in the window
+abbrev pub exponent_places : List ℕ → List ℕ
+exponent_places exponents = map (λ e. e - slice_index exponents 0) exponents
+
+-- for each of the first n equations, the coefficients of the exponents: those of the polynomial, shifted, at their places
+abbrev pub shifted_rows : List ℕ → List ℕ → ℕ → List (List ℕ)
+shifted_rows p places n = map (λ u. shifted p u places) (range_with_len 0 n)
 
 -- ---- the locator's elements
 
@@ -67,7 +77,7 @@ one_origin_more es origins origin n are here = record {
 -- ---- sums over a window
 
 -- what holds of each number that passes a test holds of all that a filter leaves
-all_holes : (P : ℕ → Type 0) (t : ℕ → Bool) (xs : List ℕ) → ((x : ℕ) → t x ≡ true → P x) → AllByRecursion P (filter t xs)
+pub all_holes : (P : ℕ → Type 0) (t : ℕ → Bool) (xs : List ℕ) → ((x : ℕ) → t x ≡ true → P x) → AllByRecursion P (filter t xs)
 all_holes P t [] h = tt
 all_holes P t (x ∷ xs) h = step (t x) refl (filter t xs) (all_holes P t xs h)
   where
@@ -75,7 +85,7 @@ all_holes P t (x ∷ xs) h = step (t x) refl (filter t xs) (all_holes P t xs h)
     step true e rest more = (h x e, more)
     step false e rest more = more
 
-same_values : {A B : Type 0} (g h : A → B) (xs : List A) → AllByRecursion (λ x. g x ≡ h x) xs → map g xs ≡ map h xs
+pub same_values : {A B : Type 0} (g h : A → B) (xs : List A) → AllByRecursion (λ x. g x ≡ h x) xs → map g xs ≡ map h xs
 same_values g h [] same = refl
 same_values g h (x ∷ xs) same = ap₂ (λ y ys. y ∷ ys) same.0 (same_values g h xs same.1)
 
@@ -218,24 +228,24 @@ are_hole_inverse p places n system buffers rows elements are regular solution ro
 -- ---- the inverse
 
 -- the place of an exponent in the window, added to the first exponent, is the exponent
-place_of : (es : List ℕ) (j : ℕ) → IsStrictlyIncreasing es → j < length es → get_or es 0 0 + get_or (exponent_places es) j 0 ≡ get_or es j 0
+pub place_of : (es : List ℕ) (j : ℕ) → IsStrictlyIncreasing es → j < length es → get_or es 0 0 + get_or (exponent_places es) j 0 ≡ get_or es j 0
 place_of es j rise low =
     let by = rises_between es rise 0 j (omega arith) low in
     let at : get_or (exponent_places es) j 0 ≡ get_or es j 0 - get_or es 0 0 = get_or-map (λ e. e - get_or es 0 0) es j 0 0 low in
     omega (arith, by, at)
 
-place_within : (es : List ℕ) (j : ℕ) → IsStrictlyIncreasing es → j < length es → get_or (exponent_places es) j 0 < span es + 1
+pub place_within : (es : List ℕ) (j : ℕ) → IsStrictlyIncreasing es → j < length es → get_or (exponent_places es) j 0 < span es + 1
 place_within es j rise low =
     let at = place_of es j rise low in
     let first = rises_between es rise 0 (length es - 1) (omega arith) (omega (arith, low)) in
     let last = rises_between es rise j (length es - 1) (omega (arith, low)) (omega (arith, low)) in
     omega (arith, at, first, last)
 
-exponent_place : (es : List ℕ) (j : ℕ) → IsStrictlyIncreasing es → j < length es → is_hole es (get_or (exponent_places es) j 0) ≡ false
+pub exponent_place : (es : List ℕ) (j : ℕ) → IsStrictlyIncreasing es → j < length es → is_hole es (get_or (exponent_places es) j 0) ≡ false
 exponent_place es j rise low = exponent_no_hole es (get_or (exponent_places es) j 0) (subst (Contains es) (sym (place_of es j rise low)) (Contains-get_or es j 0 low))
 
 -- different exponents are different numbers
-rising_identity : (es : List ℕ) → IsStrictlyIncreasing es → (i j : ℕ) → i < length es → j < length es → identity (get_or es i 0) (get_or es j 0) ≡ identity i j
+pub rising_identity : (es : List ℕ) → IsStrictlyIncreasing es → (i j : ℕ) → i < length es → j < length es → identity (get_or es i 0) (get_or es j 0) ≡ identity i j
 rising_identity es rise i j hi hj = elim (cases_eq i j) [
   | inl same ↦ ap (λ b. cond b 1 0) (eq-eqb (get_or es i 0) (get_or es j 0) (ap (λ n. get_or es n 0) same) ∙ sym (eq-eqb i j same))
   | inr other ↦ ap (λ b. cond b 1 0) (ne_eqb (get_or es i 0) (get_or es j 0) (λ e. elim (cases_lt i j) [

@@ -19,5 +19,6 @@ pub mod Choices
 pub mod Windows
 pub mod Matrices
 pub mod Fillings
+pub mod RightSides
 pub mod Filled
 mod SpanLaws

@@ -1,11 +1,10 @@
 -- The rows that a locator represents are the scaled quotients.
-use Rattle.par2_solve.proofs.Common.{Vec, Global, lists_of, length-lists_of, ℕ, zero, suc, ◌+◌, ◌-◌, ◌*◌, ◌^◌, ◌<◌, ◌≤◌, ◌≡◌, refl, sym, ap, ap₂, ◌∙◌, subst, arith, List, [], ◌∷◌, ◌++◌, inl, inr, cases_lt, length-append, get_or_append_left, get_or_at, length, get_or, drop, map, bit_xor, range_with_len, get_or-drop, length-drop, get_or-map, length-map, ext_get_or, get_or-map-range_with_len, length-map-range_with_len, mul, pow, field_sum, field_sum_head, field_sum_none, field_sum_same, field_sum_scaled, zero-product, product-one, product_assoc, product_comm, power-lt, all_at, all_from, list_at, times, value, with_roots, quotient, length-quotient, length-with_roots, with_roots_elements, AreSlices, constant, constant-lt, IsInverseMatrix, AreProducts, products, word, AreBlank, AddsToEach, xor_zero_l, length-replicate}
+use Rattle.par2_solve.proofs.Common.{Vec, Global, lists_of, length-lists_of, ℕ, zero, suc, ◌+◌, ◌-◌, ◌*◌, ◌^◌, ◌<◌, ◌≤◌, ◌≡◌, refl, sym, ap, ap₂, ◌∙◌, subst, arith, List, [], ◌∷◌, ◌++◌, inl, inr, cases_lt, length-append, get_or_append_left, get_or_at, length, get_or, drop, map, bit_xor, range_with_len, get_or-drop, length-drop, get_or-map, length-map, ext_get_or, get_or-map-range_with_len, length-map-range_with_len, mul, pow, field_sum, field_sum_head, field_sum_none, field_sum_same, field_sum_scaled, zero-product, product-one, product_assoc, product_comm, power-lt, all_at, all_from, list_at, times, value, with_roots, quotient, length-quotient, length-with_roots, with_roots_elements, AreSlices, constant, constant-lt, IsInverseMatrix, word, AreBlank, AddsToEach, xor_zero_l, length-replicate}
 use Rattle.par2_solve.specs.Solvers.{AreFactors}
 use Rattle.par2_solve.specs.Located.{quotient_rows}
 use Rattle.par2_spec.specs.Polynomials.{AreElements}
 use Rattle.par2_transform.specs.Evaluations as evaluations
-use Rattle.par2_transform.specs.Locators.{quotient_coefficient, quotient_sum}
-use Rattle.par2_transform.specs.Columns.{words_at}
+use Rattle.par2_transform.specs.Locators.{quotient_coefficient}
 use Rattle.par2_solve.proofs.Combinations.{blank_word}
 use Rattle.par2_solve.proofs.Quotients.{quotient_at}
 use Rattle.par2_solve.proofs.RunInverses.{constants-lt, constant_at, is_inverse, scaled_is}
@@ -135,30 +134,6 @@ rows_long rows = sym (length-lists_of rows)
 
 pub located_long : (sequence points factors : List ℕ) → length (quotient_rows sequence points factors) ≡ length points
 located_long sequence points factors = length-map-range_with_len (λ i. map (quotient_coefficient sequence points factors i) (range_with_len 0 (length sequence))) 0 (length points)
-
--- the sums that the locator adds are the products with its rows
-pub located_sums : (sequence points factors : List ℕ) (sources sums : List (List ℕ)) (size : ℕ) → length sources ≡ length sequence → length sums ≡ length points
-    → ((r : ℕ) → r < length points → length (list_at sums r) ≡ size)
-    → ((r w : ℕ) → r < length points → 2 * w + 1 < size → word w (list_at sums r) ≡ quotient_sum sequence points factors (words_at sources w) r)
-    → AreProducts size (quotient_rows sequence points factors) sources sums
-located_sums sequence points factors sources sums size sources_count count sizes words = record {
-  count = count ∙ sym many;
-  sizes = λ r low. sizes r (omega (arith, low, many));
-  words = λ r w low fits.
-      words r w (omega (arith, low, many)) fits
-      ∙ field_sum_same (length sequence) (λ s. mul (quotient_coefficient sequence points factors r s) (word w (list_at sources s)))
-      (λ s. mul (get_or (list_at (quotient_rows sequence points factors) r) s 0) (word w (list_at sources s)))
-      (λ s here. ap (λ x. mul x (word w (list_at sources s))) (sym (entry r s (omega (arith, low, many)) here)))
-      ∙ ap (λ m. products m (quotient_rows sequence points factors) sources r w) (sym sources_count);
-}
-  where
-    many : length (quotient_rows sequence points factors) ≡ length points
-    many = located_long sequence points factors
-
-    entry : (r s : ℕ) → r < length points → s < length sequence → get_or (list_at (quotient_rows sequence points factors) r) s 0 ≡ quotient_coefficient sequence points factors r s
-    entry r s low here =
-        ap (λ xs. get_or xs s 0) (get_or-map-range_with_len (λ i. map (quotient_coefficient sequence points factors i) (range_with_len 0 (length sequence))) 0 (length points) r r [] low (omega arith))
-        ∙ get_or-map-range_with_len (quotient_coefficient sequence points factors r) 0 (length sequence) s s 0 here (omega arith)
 
 -- the result of adding to zeros is the sums themselves
 pub added_to_blank : (size n : ℕ) (other : ℕ → ℕ → ℕ) (blank sums : List (List ℕ)) → AreBlank size n blank → AddsToEach other blank sums

@@ -84,6 +84,15 @@ products_joined size rows matrix buffers made sums are_rows are_matrix bytes cou
     many : length (matrix_product n m rows matrix) ≡ length rows
     many = length-product n m rows matrix
 
+-- the words of an exponent's syndrome
+pub exponent_word : (buffers : List (List ℕ)) (j w : ℕ) → AreByteLists buffers → j < length buffers
+    → word w (list_at buffers j) ≡ field_sum (length buffers) (λ k. mul (get_or (list_at (identity_rows (length buffers)) j) k 0) (word w (list_at buffers k)))
+exponent_word buffers j w bytes low =
+    let n = length buffers in
+    let v : ℕ → ℕ = λ k. word w (list_at buffers k) in
+    sym (field_sum_same n (λ k. mul (get_or (list_at (identity_rows n) j) k 0) (v k)) (λ k. mul (identity j k) (v k)) (λ k hk. ap (λ z. mul z (v k)) (identity_entry n j k low hk))
+    ∙ sum_of_row n j v low (λ k. word-lt (list_at buffers k) w (bytes k)))
+
 -- the words of the syndromes of a run
 pub run_words : (size : ℕ) (origins : List Origin) (filled buffers sums : List (List ℕ)) → AreByteLists buffers → AreProducts size filled buffers sums
     → (x w : ℕ) → x < length origins → 2 * w + 1 < size → HasRoomFor (length buffers) (length filled) (origin_at origins x)
@@ -100,7 +109,30 @@ run_words size origins filled buffers sums bytes are x w low fits within =
     v k = word w (list_at buffers k)
 
     of_origin : (o : Origin) → HasRoomFor (length buffers) (length filled) o → word w (from_origin buffers sums o) ≡ field_sum n (λ k. mul (get_or (from_origin (identity_rows n) filled o) k 0) (v k))
-    of_origin (Exponent j) h =
-        sym (field_sum_same n (λ k. mul (get_or (list_at (identity_rows n) j) k 0) (v k)) (λ k. mul (identity j k) (v k)) (λ k hk. ap (λ z. mul z (v k)) (identity_entry n j k h hk))
-        ∙ sum_of_row n j v h (λ k. word-lt (list_at buffers k) w (bytes k)))
+    of_origin (Exponent j) h = exponent_word buffers j w bytes h
     of_origin (Hole q) h = are.words q w h fits
+
+-- sums by coefficients are products with their matrix
+pub coefficient_products : (co : ℕ → ℕ → ℕ) (n m size : ℕ) (sources sums : List (List ℕ)) → length sources ≡ m → length sums ≡ n → ((r : ℕ) → r < n → length (list_at sums r) ≡ size)
+    → ((r w : ℕ) → r < n → 2 * w + 1 < size → word w (list_at sums r) ≡ field_sum m (λ s. mul (co r s) (word w (list_at sources s))))
+    → AreProducts size (map (λ r. map (co r) (range_with_len 0 m)) (range_with_len 0 n)) sources sums
+coefficient_products co n m size sources sums sources_count count sizes words = record {
+  count = count ∙ sym many;
+  sizes = λ r low. sizes r (omega (arith, low, many));
+  words = λ r w low fits.
+      words r w (omega (arith, low, many)) fits
+      ∙ field_sum_same m (λ s. mul (co r s) (word w (list_at sources s))) (λ s. mul (get_or (list_at matrix r) s 0) (word w (list_at sources s)))
+      (λ s here. ap (λ x. mul x (word w (list_at sources s))) (sym (coefficient_at r s (omega (arith, low, many)) here)))
+      ∙ ap (λ k. products k matrix sources r w) (sym sources_count);
+}
+  where
+    matrix : List (List ℕ)
+    matrix = map (λ r. map (co r) (range_with_len 0 m)) (range_with_len 0 n)
+
+    many : length matrix ≡ n
+    many = length-map-range_with_len (λ r. map (co r) (range_with_len 0 m)) 0 n
+
+    coefficient_at : (r s : ℕ) → r < n → s < m → get_or (list_at matrix r) s 0 ≡ co r s
+    coefficient_at r s low here =
+        ap (λ xs. get_or xs s 0) (get_or-map-range_with_len (λ i. map (co i) (range_with_len 0 m)) 0 n r r [] low (omega arith))
+        ∙ get_or-map-range_with_len (co r) 0 m s s 0 here (omega arith)

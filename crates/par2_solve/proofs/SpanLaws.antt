@@ -1,6 +1,6 @@
 -- The recovery slices of exponents, as some of those of all numbers from the first one on.
-use Rattle.par2_solve.proofs.Common.{ℕ, ◌+◌, ◌-◌, ◌*◌, ◌<◌, ◌≡◌, ap, ◌∙◌, arith, List, [], length, get_or, map, bit_xor, get_or-map, length-map, length-replicate, AddsAt, adds_same, list_at, recovered, within, word, xor_zero_l, AreBlank}
-use Rattle.par2_transform.specs.Adding.{AddsToEach, HaveWords}
+use Rattle.par2_solve.proofs.Common.{ℕ, ◌+◌, ◌-◌, ◌*◌, ◌<◌, ◌≡◌, ap, ◌∙◌, arith, List, [], length, get_or, bit_xor, get_or-map, length-map, length-replicate, AddsAt, adds_same, list_at, recovered, word, xor_zero_l, AreBlank}
+use Rattle.par2_transform.specs.Adding.{AddsToEach}
 use Rattle.par2_transform.specs.declared.outputs.Place.{Place}
 use Rattle.par2_transform.proofs.AddingLaws.{within-in}
 use Rattle.par2_solve.specs.Spans.{AreWithin, picked}

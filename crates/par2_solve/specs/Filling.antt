@@ -1,6 +1,7 @@
 -- The inverse for exponents with holes between them. It is the product of two matrices: the inverse for the run at the
--- front of the window, and the matrix that maps the exponents' syndromes to the run's.
-use Rattle.std.specs.Prelude.{ℕ, ◌≡◌, ◌+◌, ◌<◌, List, length, map, slice_index, slice_index_or}
+-- front of the window, and the matrix that maps the exponents' syndromes to the run's. A number of the window is named by
+-- its place, which is 0 for the first exponent.
+use Rattle.std.specs.Prelude.{ℕ, ◌≡◌, ◌+◌, ◌-◌, ◌<◌, ◌≤◌, List, [], length, map, slice_index, slice_index_or, take}
 use Rattle.std.specs.List.{range_with_len}
 use Rattle.par2_spec.specs.Field.{mul}
 use Rattle.par2_spec.specs.Rank.{IsVector}
@@ -27,7 +28,7 @@ matrix_product n m rows matrix = map (λ row. map (row_times n row matrix) (rang
 abbrev pub identity_rows : ℕ → List (List ℕ)
 identity_rows n = map (λ j. map (identity j) (range_with_len 0 n)) (range_with_len 0 n)
 
--- ---- the syndromes of a run
+-- ---- the syndromes of the window
 
 -- the list at the index that the origin names, among the exponents' or the holes'
 abbrev pub from_origin : List (List ℕ) → List (List ℕ) → Origin → List ℕ
@@ -39,7 +40,7 @@ abbrev pub HasRoomFor : ℕ → ℕ → Origin → Type 0
 HasRoomFor n h (Exponent j) = j < n
 HasRoomFor n h (Hole q) = q < h
 
--- the origin of number x of the run
+-- the origin of number x of the window
 abbrev pub origin_at : List Origin → ℕ → Origin
 origin_at origins x = slice_index_or origins x (Exponent 0)
 
@@ -53,26 +54,53 @@ pub record AreOrigins (exponents : List ℕ) (n : ℕ) (origins : List Origin) :
   pub count : length origins ≡ n
   pub each : (x : ℕ) → x < n → IsOriginAt exponents x (origin_at origins x)
 
+-- the lists of the origins, that of the last one first
+abbrev pub from_last : (Origin → List ℕ) → List Origin → List (List ℕ)
+from_last list origins = map (λ s. list (origin_at origins (length origins - 1 - s))) (range_with_len 0 (length origins))
+
+-- the matrix that maps the syndromes of n exponents to those of the window, the last number first; the rows of holes are empty
+abbrev pub window_rows : ℕ → List Origin → List (List ℕ)
+window_rows n origins = from_last (from_origin (identity_rows n) []) origins
+
+-- ---- the right-hand sides of the holes' equations
+
+-- the coefficients of a polynomial below z ^ n, the highest first
+abbrev pub falling : List ℕ → ℕ → List ℕ
+falling p n = map (λ i. slice_index p (n - 1 - i)) (range_with_len 0 n)
+
+-- the Hankel matrix of a sequence, of n rows (`numerator` in par2_transform): row t has the elements from t on
+abbrev pub numerator_rows : ℕ → List ℕ → List (List ℕ)
+numerator_rows n sequence = map (λ t. map (λ s. slice_index sequence (s + t)) (range_with_len 0 (length sequence))) (range_with_len 0 n)
+
+-- the number of exponents, which is that of the lost slices
+abbrev pub count_of : Filling → ℕ
+count_of filling = length filling.locator.numerators.sequence.items
+
+-- the matrix that maps the syndromes of the exponents to the right-hand sides
+abbrev pub known_rows : Filling → List (List ℕ)
+known_rows filling =
+    matrix_product (length filling.origins.items) (count_of filling) (numerator_rows filling.equations.count filling.equations.sequence.items) (window_rows (count_of filling) filling.origins.items)
+
 -- ---- the inverse
 
 -- the matrix that maps the syndromes of the exponents to those of the holes
 abbrev pub hole_rows : Filling → List (List ℕ)
-hole_rows filling = matrix_product (length filling.known.items) (length filling.origins.items) (lists_of filling.holes.items) (lists_of filling.known.items)
+hole_rows filling = matrix_product filling.equations.count (count_of filling) (lists_of filling.holes.items) (known_rows filling)
 
 -- the matrix that maps the syndromes of the exponents to those of the run
 abbrev pub run_rows : Filling → List (List ℕ)
-run_rows filling = map (from_origin (identity_rows (length filling.origins.items)) (hole_rows filling)) filling.origins.items
+run_rows filling = map (from_origin (identity_rows (count_of filling)) (hole_rows filling)) (take (count_of filling) filling.origins.items)
 
 -- the rows of the inverse
 abbrev pub filled_rows : Filling → List (List ℕ)
-filled_rows filling = matrix_product (length filling.origins.items) (length filling.origins.items) (located_rows filling.locator) (run_rows filling)
+filled_rows filling = matrix_product (count_of filling) (count_of filling) (located_rows filling.locator) (run_rows filling)
 
--- the parts of the filling have the sizes for n exponents: matrices and locator fit each other, and origins name
--- existing syndromes
+-- the parts of the filling have the sizes for n exponents: matrices, sequences and locator fit each other, and the run's
+-- origins name existing syndromes
 pub record IsFilled (n : ℕ) (filling : Filling) : Type 0 where
-  pub count : length filling.origins.items ≡ n
-  pub origins : (x : ℕ) → x < n → HasRoomFor n (length filling.holes.items) (origin_at filling.origins.items x)
-  pub known : (u : ℕ) → u < length filling.known.items → IsVector n (list_at (lists_of filling.known.items) u)
-  pub holes : (q : ℕ) → q < length filling.holes.items → IsVector (length filling.known.items) (list_at (lists_of filling.holes.items) q)
-  pub sequence : length filling.locator.sequence.items ≡ n
+  pub count : count_of filling ≡ n
+  pub window : n ≤ length filling.origins.items
+  pub origins : (x : ℕ) → x < length filling.origins.items → HasRoomFor n (length filling.holes.items) (origin_at filling.origins.items x)
+  pub equations : length filling.equations.sequence.items ≡ length filling.origins.items
+  pub holes : (q : ℕ) → q < length filling.holes.items → IsVector filling.equations.count (list_at (lists_of filling.holes.items) q)
   pub run : (i : ℕ) → i < length filling.locator.points.items → IsVector n (list_at (located_rows filling.locator) i)

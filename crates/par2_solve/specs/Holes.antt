@@ -60,11 +60,3 @@ pub record AreHoleInverse (p places : List ℕ) (n : ℕ) (rows : List (List ℕ
   pub product : (u k : ℕ) → u < n → k < n
       → field_sum (length places) (λ q. mul (slice_index (shifted p u places) q) (slice_index (list_at rows q) k)) ≡ identity u k
   pub only : OnlyZeroFits p places n
-
--- the places of the exponents in the window
-abbrev pub exponent_places : List ℕ → List ℕ
-exponent_places exponents = map (λ e. e - slice_index exponents 0) exponents
-
--- the coefficients of the polynomial, shifted by each number below n, at these places
-abbrev pub shifted_rows : List ℕ → List ℕ → ℕ → List (List ℕ)
-shifted_rows p places n = map (λ u. shifted p u places) (range_with_len 0 n)

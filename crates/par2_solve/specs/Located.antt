@@ -11,4 +11,4 @@ quotient_rows sequence points factors =
 
 -- the rows of the inverse that a locator represents
 abbrev pub located_rows : Locator → List (List ℕ)
-located_rows locator = quotient_rows locator.sequence.items locator.points.items locator.factors.items
+located_rows locator = quotient_rows locator.numerators.sequence.items locator.points.items locator.factors.items

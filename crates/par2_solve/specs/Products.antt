@@ -1,6 +1,6 @@
 -- The invariants of the loops that add products. A word is two bytes, and a buffer that is too short is read as if
 -- zeros followed.
-use Rattle.std.specs.Prelude.{ℕ, ◌+◌, ◌*◌, ◌^◌, ◌<◌, ◌≤◌, ◌≡◌, bit_xor, List, length, slice_index}
+use Rattle.std.specs.Prelude.{ℕ, ◌+◌, ◌*◌, ◌<◌, ◌≤◌, ◌≡◌, bit_xor, List, length, slice_index}
 use Rattle.par2_spec.specs.Field.{mul}
 use Rattle.par2_spec.specs.Slices.{word}
 use Rattle.par2_gf16.specs.WordLoops.{AddsWithin}

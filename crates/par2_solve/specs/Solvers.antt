@@ -26,13 +26,13 @@ rows_of (Filled filling) = filled_rows filling
 -- the inverse can be applied to n sources: it has a column for each
 abbrev pub TakesSources : ℕ → Inverse → Type 0
 TakesSources n (Rows rows) = (r : ℕ) → r < length rows.items → n ≤ length (list_at (lists_of rows.items) r)
-TakesSources n (Located locator) = length locator.sequence.items ≡ n
+TakesSources n (Located locator) = length locator.numerators.sequence.items ≡ n
 TakesSources n (Filled filling) = IsFilled n filling
 
 -- the inverse has n columns, as far as its rows don't say so themselves
 abbrev pub IsWide : ℕ → Inverse → Type 0
 IsWide n (Rows rows) = Unit {0}
-IsWide n (Located locator) = length locator.sequence.items ≡ n
+IsWide n (Located locator) = length locator.numerators.sequence.items ≡ n
 IsWide n (Filled filling) = IsFilled n filling
 
 -- it is the inverse of the matrix that the lost slices' constants and these exponents give

@@ -1,31 +1,33 @@
 //! The inverse for exponents with holes between them. The equations of the holes (see `holes`) relate the syndromes of
 //! a window. With the syndromes of the kept exponents on the right-hand side, each multiplied by the coefficient of the
 //! shifted locator at its exponent, they are a square system for the syndromes of the holes. The window then begins
-//! with a run as long as slices are lost, and its locator gives the lost slices. For L lost slices and g holes this
-//! takes about g x g x g products of words, and g x (L + g) products of syndromes beside those of the locator.
+//! with a run as long as slices are lost, and its locator gives the lost slices. The right-hand sides are numerators
+//! (see `par2_transform`). So for L lost slices and g holes this takes about g x g x g products of words, and g x g
+//! products of syndromes beside those of numerators and locator.
 
-ghost use Rattle.std.specs.Prelude.{◌≡◌, ◌%◌, ◌<◌, ◌≤◌, length, map, IfOk, IfSome};
+ghost use Rattle.std.specs.Prelude.{◌≡◌, ◌+◌, ◌%◌, ◌<◌, ◌≤◌, [], length, map, take, IfOk, IfSome, IsTrue};
 ghost use Rattle.std.specs.List.{Contains};
 ghost use Rattle.std.specs.List.Sorted.{IsStrictlyIncreasing};
 ghost use Rattle.par2_spec.specs.Runs.{AreSlices};
 ghost use Rattle.par2_spec.specs.Sums.{lists_of};
-ghost use Rattle.par2_solve.specs.Filling.{AreOrigins, IsFilled, IsOriginAt, HasRoomFor, filled_rows, hole_rows, from_origin};
-ghost use Rattle.par2_solve.specs.Holes.{holes, shifted_rows};
+ghost use Rattle.par2_solve.specs.Filling.{AreOrigins, IsFilled, IsOriginAt, falling, filled_rows, from_last, from_origin, hole_rows, known_rows};
+ghost use Rattle.par2_solve.specs.Holes.{holes, span};
 ghost use Rattle.par2_solve.specs.Solvers.{InvertsFirst};
 ghost use Rattle.par2_solve.specs.Syndromes.{AreProducts};
 ghost use Rattle.par2_solve.specs.BufferContents.{buffers_of};
 
-use crate::holes::{count_equations, front, hole_inverse, holes, locator, places_of, shifted};
+use crate::holes::{count_equations, front, hole_inverse, holes, locator};
 use crate::products::{buffer_at, buffers_fit, products_of, source_at};
+use crate::recovery::blank;
 use crate::run_locator::run_locator;
 use crate::solver::{Inverse, located_products};
 use crate::syndromes::borrowed;
 use par2_gf16::Gf;
 use par2_spec::Result;
-use par2_transform::Locator;
+use par2_transform::{Locator, Numerators};
 use std::alloc::Global;
 
-/// The origin of the syndrome of a number of the run.
+/// The origin of the syndrome of a number of the window.
 #[derive(Clone, Copy, Drop)]
 pub(crate) enum Origin {
     /// It is the syndrome of the kept exponent with this index.
@@ -37,27 +39,26 @@ pub(crate) enum Origin {
 /// The inverse for exponents with holes between them, as factors that are applied one after the other.
 #[derive(Drop)]
 pub(crate) struct Filling<'a> {
-    /// For each equation of the holes, the coefficients of the kept exponents' syndromes.
-    pub(crate) known: Vec<Vec<u16>>,
+    /// The right-hand sides of the holes' equations, as sums of the window's syndromes, the last number first. The
+    /// sequence has the locator's coefficients, the highest first.
+    pub(crate) equations: Numerators<'a>,
     /// The inverse of the matrix of the holes' coefficients in these equations.
     pub(crate) holes: Vec<Vec<u16>>,
-    /// The origins of the syndromes of the run, in order.
+    /// The origins of the syndromes of the window, in order.
     pub(crate) origins: Vec<Origin>,
     /// The locator of the lost slices for the run.
     pub(crate) locator: Locator<'a>,
 }
 
-// For each of the first `count` equations of the holes, the coefficients of the kept exponents' syndromes, which lie at
-// these places of the window: those of the locator, shifted by the equation's number. This is `Filling::known`.
-fn known_rows(alloc: Global, locator: &[u16], places: &[u32], count: usize) -> Result<Vec<Vec<u16>>>
-    ensures { IfOk result
-        (λ rows. lists_of rows.items ≡ shifted_rows locator.now places.now count) }
+// The coefficients of a polynomial below `z ^ count`, the highest first, as `Filling::equations` takes them.
+fn falling(alloc: Global, p: &[u16], count: usize) -> Result<Vec<u16>>
+    ensures { IfOk result (λ coefficients. coefficients.items ≡ falling p.now count) }
 {
-    let mut rows = Vec::with_capacity(alloc, count)?;
-    for u in 0..count {
-        rows.push(shifted(alloc, locator, u, places)?)?;
+    let mut coefficients = Vec::with_capacity(alloc, count)?;
+    for i in 0..count {
+        coefficients.push(p.get(count - 1 - i).copied().unwrap_or(0))?;
     }
-    Ok(rows)
+    Ok(coefficients)
 }
 
 // The index, among all holes of the window, of the hole at place `x`, which is `x` above the first exponent. `places`
@@ -73,8 +74,9 @@ fn hole_at(exponents: &[u32], places: &[u32], x: u32) -> usize
 // The origin of the syndrome of the number at place `x`, which is `x` above the first exponent: the exponent with this
 // number, or else a hole. `places` are those of all holes.
 fn origin_at(exponents: &[u32], places: &[u32], x: u32) -> Origin
+    requires some { 0 < length exponents.now }
     requires rise { IsStrictlyIncreasing exponents.now }
-    requires within { x < length exponents.now }
+    requires within { x ≤ span exponents.now }
     requires places { places.now ≡ holes exponents.now }
     ensures { IsOriginAt exponents.now x result }
 {
@@ -84,30 +86,36 @@ fn origin_at(exponents: &[u32], places: &[u32], x: u32) -> Origin
     }
 }
 
-// The origins of the syndromes of the run, in order. The run begins with the first exponent and has as many numbers as
-// there are exponents. `places` are those of all holes.
-fn origins(alloc: Global, exponents: &[u32], places: &[u32]) -> Result<Vec<Origin>>
+// The origins of the syndromes of the window, in order. `window` is how many numbers it has, and `places` are those of
+// all holes.
+fn origins(alloc: Global, exponents: &[u32], places: &[u32], window: usize) -> Result<Vec<Origin>>
+    requires some { 0 < length exponents.now }
     requires rise { IsStrictlyIncreasing exponents.now }
-    requires count { length exponents.now ≤ 32768 }
     requires places { places.now ≡ holes exponents.now }
-    ensures { IfOk result
-        (λ origins. AreOrigins exponents.now (length exponents.now) origins.items) }
+    requires window { window ≡ span exponents.now + 1 }
+    ensures { IfOk result (λ origins. AreOrigins exponents.now window origins.items) }
 {
-    let mut origins = Vec::with_capacity(alloc, exponents.len())?;
-    for x in 0..exponents.len() {
+    let mut origins = Vec::with_capacity(alloc, window)?;
+    for x in 0..window {
         origins.push(origin_at(exponents, places, x as u32))?;
     }
     Ok(origins)
 }
 
-// Whether computing the syndromes of `holes` holes takes no more products than applying an inverse by elimination, for
-// `lost` lost slices.
-fn are_few(holes: usize, lost: usize) -> bool {
-    holes.saturating_mul(holes.saturating_add(lost)) <= lost.saturating_mul(lost)
+// The most points of the transform.
+const POINTS: usize = 1 << 16;
+
+// Whether the transform has points enough for the sums of a window of `lost` exponents and these holes, of which there
+// are as many as holes.
+fn has_points(holes: usize, lost: usize) -> bool
+    ensures { IsTrue result → lost + holes + holes ≤ 65536 }
+{
+    lost.saturating_add(holes).saturating_add(holes) <= POINTS
 }
 
 /// The inverse for the first exponents, as many as slices are lost. None if there are too many holes between them or
-/// the equations of the holes are dependent.
+/// the equations of the holes are dependent. With at most as many holes as lost slices (`front`), it takes no more
+/// products than elimination.
 pub(crate) fn inverse_over_holes<'a>(
     alloc: Global,
     gf: &'a Gf,
@@ -123,7 +131,7 @@ pub(crate) fn inverse_over_holes<'a>(
         return Ok(None);
     };
     let count = count_equations(first);
-    if !are_few(count, lost.len()) {
+    if !has_points(count, lost.len()) {
         return Ok(None);
     }
     let places = holes(alloc, first)?;
@@ -131,35 +139,73 @@ pub(crate) fn inverse_over_holes<'a>(
     let Some(inverse) = hole_inverse(alloc, gf, &p, &places, count)? else {
         return Ok(None);
     };
+    let window = first.len() + count;
     let filling = Filling {
-        known: known_rows(alloc, &p, &places_of(alloc, first)?, count)?,
+        equations: Numerators::new(alloc, gf, falling(alloc, &p, window)?, count)?,
         holes: inverse,
-        origins: origins(alloc, first, &places)?,
+        origins: origins(alloc, first, &places, window)?,
         locator: run_locator(alloc, gf, lost, first[0])?,
     };
     Ok(Some(Inverse::Filled(filling)))
 }
 
-// The bytes of the syndrome with this origin. `sources` are the syndromes of the exponents, `holes` those of the holes.
+// The bytes of the syndrome with this origin, none if there is no such syndrome. `sources` are the syndromes of the
+// exponents, `holes` those of the holes.
 fn source_of<'a, 'b: 'a>(origin: Origin, sources: &[&'b [u8]], holes: &'a [Vec<u8>]) -> &'a [u8]
-    requires { HasRoomFor (length sources.now) (length holes.now) origin }
     ensures { result.now ≡ from_origin (buffers_of sources.now) (lists_of holes.now) origin }
 {
     match origin {
-        Origin::Exponent(j) => source_at(sources, j),
-        Origin::Hole(q) => buffer_at(holes, q),
+        Origin::Exponent(j) if j < sources.len() => source_at(sources, j),
+        Origin::Hole(q) if q < holes.len() => buffer_at(holes, q),
+        _ => &[],
     }
 }
 
 impl<'a> Filling<'a> {
-    // The syndromes of the holes, of `size` bytes each, from those of the exponents (`sources`): the right-hand sides
-    // of the holes' equations (`known` times the sources), then the inverse of their matrix times these.
+    // The syndromes of the window, the last number first. Those of the holes are empty.
+    fn window<'b>(&self, alloc: Global, sources: &[&'b [u8]]) -> Result<Vec<&'b [u8]>>
+        ensures { IfOk result (λ window. buffers_of window.items
+            ≡ from_last (from_origin (buffers_of sources.now) []) self.now.origins.items) }
+    {
+        let count = self.origins.len();
+        let mut window = Vec::with_capacity(alloc, count)?;
+        for s in 0..count {
+            window.push(source_of(self.origins[count - 1 - s], sources, &[]))?;
+        }
+        Ok(window)
+    }
+
+    // The right-hand sides of the holes' equations, of `size` bytes each. `sources` are the syndromes of the exponents.
+    fn right_sides(
+        &self,
+        alloc: Global,
+        sources: &[&[u8]],
+        size: usize,
+        room: usize,
+    ) -> Result<Vec<Vec<u8>>>
+        requires sources { IsFilled (length sources.now) self.now }
+        requires even { size % 2 ≡ 0 }
+        ensures { IfOk result
+            (λ sums. AreProducts size (known_rows self.now) (buffers_of sources.now)
+            (lists_of sums.items)) }
+    {
+        buffers_fit(sources);
+        let window = self.window(alloc, sources)?;
+        let mut sums = blank(alloc, self.equations.count, size)?;
+        self.equations
+            .add_sums(alloc, &window, size / 2, sums.as_mut_slice(), room)?;
+        Ok(sums)
+    }
+
+    // The syndromes of the holes, of `size` bytes each, from those of the exponents (`sources`): the inverse of the
+    // equations' matrix times their right-hand sides.
     fn hole_products(
         &self,
         alloc: Global,
         gf: &Gf,
         sources: &[&[u8]],
         size: usize,
+        room: usize,
     ) -> Result<Vec<Vec<u8>>>
         requires sources { IsFilled (length sources.now) self.now }
         requires even { size % 2 ≡ 0 }
@@ -168,7 +214,7 @@ impl<'a> Filling<'a> {
             (lists_of sums.items)) }
     {
         buffers_fit(sources);
-        let right = products_of(alloc, gf, &self.known, sources, size)?;
+        let right = self.right_sides(alloc, sources, size, room)?;
         products_of(alloc, gf, &self.holes, &borrowed(alloc, &right)?, size)
     }
 
@@ -179,13 +225,13 @@ impl<'a> Filling<'a> {
         sources: &[&'c [u8]],
         holes: &'b [Vec<u8>],
     ) -> Result<Vec<&'b [u8]>>
-        requires sources { IsFilled (length sources.now) self.now }
-        requires holes { length holes.now ≡ length self.now.holes.items }
+        requires { IsFilled (length sources.now) self.now }
         ensures { IfOk result (λ run. buffers_of run.items ≡ map
-            (from_origin (buffers_of sources.now) (lists_of holes.now)) self.now.origins.items) }
+            (from_origin (buffers_of sources.now) (lists_of holes.now))
+            (take (length sources.now) self.now.origins.items)) }
     {
-        let mut run = Vec::with_capacity(alloc, self.origins.len())?;
-        for x in 0..self.origins.len() {
+        let mut run = Vec::with_capacity(alloc, sources.len())?;
+        for x in 0..sources.len() {
             run.push(source_of(self.origins[x], sources, holes))?;
         }
         Ok(run)
@@ -208,7 +254,7 @@ impl<'a> Filling<'a> {
             (buffers_of sources.now) (lists_of sums.items)) }
     {
         buffers_fit(sources);
-        let holes = self.hole_products(alloc, gf, sources, size)?;
+        let holes = self.hole_products(alloc, gf, sources, size, room)?;
         let run = self.run(alloc, sources, &holes)?;
         located_products(alloc, &self.locator, &run, size, room)
     }

@@ -10,7 +10,7 @@ ghost use Rattle.std.specs.Prelude.{◌≡◌, ℕ, ◌+◌, ◌*◌, ◌<◌, �
 ghost use Rattle.std.specs.List.Sorted.{IsStrictlyIncreasing};
 ghost use Rattle.par2_spec.specs.Rank.{IsRepairable};
 ghost use Rattle.par2_spec.specs.Sums.{lists_of};
-ghost use Rattle.par2_solve.specs.Holes.{shifted_at, shifted, span, is_hole, holes, exponent_places, locator, AreHoleEquations, AreHoleInverse, OnlyZeroFits};
+ghost use Rattle.par2_solve.specs.Holes.{shifted_at, shifted, span, is_hole, holes, locator, AreHoleEquations, AreHoleInverse, OnlyZeroFits};
 
 use crate::exponents::{are_close, coefficients, rise};
 use crate::inverse::{rows_of, unit};
@@ -76,18 +76,6 @@ pub(crate) fn holes(alloc: Global, exponents: &[u32]) -> Result<Vec<u32>>
     Ok(places)
 }
 
-/// The places of increasing exponents in the window: for each, how far it is above the first one.
-pub(crate) fn places_of(alloc: Global, exponents: &[u32]) -> Result<Vec<u32>>
-    requires { 0 < length exponents.now }
-    ensures { IfOk result (λ places. places.items ≡ exponent_places exponents.now) }
-{
-    let first = exponents[0];
-    exponents
-        .iter()
-        .map(|e| e.saturating_sub(first))
-        .collect(alloc)
-}
-
 // The coefficient of `z ^ x` in a polynomial times `z ^ u`. `p` has the polynomial's coefficients from `z ^ 0` on.
 fn shifted_at(p: &[u16], u: usize, x: u32) -> u16
     ensures { result ≡ shifted_at p.now u x }
@@ -99,9 +87,9 @@ fn shifted_at(p: &[u16], u: usize, x: u32) -> u16
     p.get(x - u).copied().unwrap_or(0)
 }
 
-/// The coefficients of a polynomial times `z ^ u` at these places. For the locator and the places of holes, this is row
-/// `u` of the holes' equations; for those of exponents, it leads to the right-hand side.
-pub(crate) fn shifted(alloc: Global, p: &[u16], u: usize, places: &[u32]) -> Result<Vec<u16>>
+// The coefficients of a polynomial times `z ^ u` at these places. For the locator and the places of holes, this is row
+// `u` of the holes' equations.
+fn shifted(alloc: Global, p: &[u16], u: usize, places: &[u32]) -> Result<Vec<u16>>
     ensures { IfOk result (λ row. row.items ≡ shifted p.now u places.now) }
 {
     places.iter().map(|x| shifted_at(p, u, *x)).collect(alloc)

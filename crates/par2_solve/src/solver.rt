@@ -39,7 +39,7 @@ pub(crate) fn located_products(
     size: usize,
     room: usize,
 ) -> Result<Vec<Vec<u8>>>
-    requires sources { length locator.now.sequence.items ≡ length sources.now }
+    requires sources { length locator.now.numerators.sequence.items ≡ length sources.now }
     requires even { size % 2 ≡ 0 }
     ensures { IfOk result (λ sums. AreProducts size (located_rows locator.now)
         (buffers_of sources.now) (lists_of sums.items)) }

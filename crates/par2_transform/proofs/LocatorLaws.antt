@@ -80,20 +80,20 @@ short_value n k f g x fits same none =
 
 -- ---- numerators
 
-pub numerators_are : (sequence weights : List ℕ) (sources : List (List ℕ)) (k at : ℕ) (rows filled values sums cleared gathered new : Grid)
-    → length sources ≡ length sequence → 2 * length sequence ≤ 2 ^ k → AreByteLists sources → IsWeighed k sequence weights
+pub numerators_are : (m : ℕ) (sequence weights : List ℕ) (sources : List (List ℕ)) (k at : ℕ) (rows filled values sums cleared gathered new : Grid)
+    → length sources ≡ length sequence → length sequence + m ≤ 2 ^ k → AreByteLists sources → IsWeighed k sequence weights
     → rows.levels ≡ k → sums.levels ≡ k → rows.words ≡ sums.words
     → HaveFirst (length sources) (λ c s. words_at sources (at + c) s) rows filled → EachColumn (AreValues filled.levels) filled values
     → cleared.levels ≡ sums.levels → cleared.words ≡ sums.words → ((c u : ℕ) → column cleared c u ≡ 0)
     → RowsGathered (slice_index weights) values (2 ^ cleared.levels) cleared gathered → EachColumn (ArePowerSums gathered.levels) gathered new
-    → AreNumerators sequence sources at sums new
-numerators_are sequence weights sources k at rows filled values sums cleared gathered new count fit bytes weighed rows_levels sums_levels same_words have values_are clear_levels clear_words zero gather power = record {
+    → AreNumerators m sequence sources at sums new
+numerators_are m sequence weights sources k at rows filled values sums cleared gathered new count fit bytes weighed rows_levels sums_levels same_words have values_are clear_levels clear_words zero gather power = record {
   levels = power.levels ∙ gather.levels ∙ clear_levels;
   words = power.words ∙ gather.words ∙ clear_words;
   each = λ c t low h.
       let w = words c in
       let w_fit = words_at-lt sources (at + c) bytes in
-      power.columns c (omega (arith, low, gather.words, clear_words)) t (subst (λ m. t < 2 ^ m) (sym levels) (omega (arith, h, fit)))
+      power.columns c (omega (arith, low, gather.words, clear_words)) t (subst (λ l. t < 2 ^ l) (sym levels) (omega (arith, h, fit)))
       ∙ ap (λ m. power_sum (column gathered c) m 0 t) levels ∙ power_sum_plain (column gathered c) k t
       ∙ field_sum_same (2 ^ k) (λ u. mul (column gathered c u) (pow (point u) t)) (λ u. mul (mul (get_or weights u 0) (value n w (point u))) (pow (point u) t))
       (λ u l. ap (λ v. mul v (pow (point u) t)) (here c u low l))
@@ -123,6 +123,10 @@ numerators_are sequence weights sources k at rows filled values sums cleared gat
     here c u low l =
         gather.done c u (omega (arith, low, clear_words)) (subst (λ m. u < 2 ^ m) (sym (clear_levels ∙ sums_levels)) l)
         ∙ ap₂ bit_xor (zero c u) (ap (mul (get_or weights u 0)) (value_is c u low l)) ∙ xor_zero_l (mul (get_or weights u 0) (value n (words c) (point u)))
+
+pub numerator-lt : (sequence : List ℕ) (sources : List (List ℕ)) (p t : ℕ) → AreByteLists sources → GivesElements (slice_index sequence) → numerator sequence (words_at sources p) t < 65536
+numerator-lt sequence sources p t bytes fit =
+    field_sum-lt (length sequence) (λ s. mul (get_or sequence (s + t) 0) (words_at sources p s)) (λ s. product-lt (get_or sequence (s + t) 0) (words_at sources p s) (fit (s + t)) (words_at-lt sources p bytes s))
 
 -- ---- values at points
 
@@ -239,43 +243,50 @@ point_taken places len numbers k coset j at to c b u row rows was buffers factor
     (ap (within at to p) (ap₂ mul factor (words (p - at) ∙ ap (column rows (p - at)) place))
     ∙ sym (within-in (coset * 2 ^ k) (coset * 2 ^ k + 2 ^ k) (get_or numbers j 0) (within at to p (mul b (column rows (p - at) (get_or numbers j 0 - coset * 2 ^ k)))) first last)))
 
--- ---- outputs, point by point
+-- ---- outputs, one after the other
 
--- the first n points of a coset have been added
-abbrev pub PointsAdded : List Place → ℕ → List ℕ → ℕ → ℕ → ℕ → ℕ → (ℕ → ℕ → ℕ) → ℕ → List (List ℕ) → List (List ℕ) → Type 0
-PointsAdded places len numbers k coset at to given n was buffers =
-    AddsAt places len (λ t p. within 0 n t (in_coset numbers k coset t (within at to p (given t p)))) was buffers
+-- the first n outputs have been added
+abbrev pub FirstAdded : List Place → ℕ → (ℕ → ℕ → ℕ) → ℕ → List (List ℕ) → List (List ℕ) → Type 0
+FirstAdded places len part n was buffers = AddsAt places len (λ t p. within 0 n t (part t p)) was buffers
 
-none_within : (x t : ℕ) → within 0 0 t x ≡ 0
-none_within x t = within-above 0 0 t x (omega arith)
+pub none_added_yet : (places : List Place) (len : ℕ) (part : ℕ → ℕ → ℕ) (buffers : List (List ℕ)) → FirstAdded places len part 0 buffers buffers
+none_added_yet places len part buffers =
+    adds_none places len (λ t p. within 0 0 t (part t p)) buffers (λ t p. within-above 0 0 t (part t p) (omega arith))
 
-pub no_point : (places : List Place) (len : ℕ) (numbers : List ℕ) (k coset at to : ℕ) (given : ℕ → ℕ → ℕ) (buffers : List (List ℕ)) → PointsAdded places len numbers k coset at to given 0 buffers buffers
-no_point places len numbers k coset at to given buffers =
-    adds_none places len (λ t p. within 0 0 t (in_coset numbers k coset t (within at to p (given t p)))) buffers (λ t p. none_within (in_coset numbers k coset t (within at to p (given t p))) t)
-
-pub next_point : (places : List Place) (len : ℕ) (numbers : List ℕ) (k coset at to n : ℕ) (given other : ℕ → ℕ → ℕ) (was half buffers : List (List ℕ))
-    → PointsAdded places len numbers k coset at to given n was half
-    → AddsAt places len (λ t p. within n (n + 1) t (in_coset numbers k coset n (within at to p (other n p)))) half buffers
-    → ((p : ℕ) → at ≤ p → p < to → coset * 2 ^ k ≤ get_or numbers n 0 → get_or numbers n 0 < coset * 2 ^ k + 2 ^ k → other n p ≡ given n p)
-    → PointsAdded places len numbers k coset at to given (n + 1) was buffers
-next_point places len numbers k coset at to n given other was half buffers so_far added same =
-    adds_more places len (λ t p. within 0 n t (part t p)) (λ t p. within n (n + 1) t (in_coset numbers k coset n (within at to p (other n p)))) (λ t p. within 0 (n + 1) t (part t p)) was half buffers so_far added
+pub one_added_more : (places : List Place) (len n : ℕ) (part : ℕ → ℕ → ℕ) (other : ℕ → ℕ) (was half buffers : List (List ℕ)) → FirstAdded places len part n was half
+    → AddsAt places len (λ t p. within n (n + 1) t (other p)) half buffers → ((p : ℕ) → other p ≡ part n p) → FirstAdded places len part (n + 1) was buffers
+one_added_more places len n part other was half buffers so_far added same =
+    adds_more places len (λ t p. within 0 n t (part t p)) (λ t p. within n (n + 1) t (other p)) (λ t p. within 0 (n + 1) t (part t p)) was half buffers so_far added
     (λ t p h fits.
     ap (bit_xor (within 0 n t (part t p)))
-    (within_same n (n + 1) t (in_coset numbers k coset n (within at to p (other n p))) (part t p) (λ low high.
-    within_same (coset * 2 ^ k) (coset * 2 ^ k + 2 ^ k) (get_or numbers n 0) (within at to p (other n p)) (within at to p (given n p))
-    (λ first last. within_same at to p (other n p) (given n p) (λ a b. same p a b first last))
-    ∙ ap (λ m. part m p) (let e : n ≡ t = omega (arith, low, high) in e)))
+    (within_same n (n + 1) t (other p) (part t p) (λ low high. same p ∙ ap (λ m. part m p) (let e : n ≡ t = omega (arith, low, high) in e)))
     ∙ within_joined 0 n (n + 1) t (part t p) (omega arith) (omega arith))
-  where
-    part : ℕ → ℕ → ℕ
-    part t p = in_coset numbers k coset t (within at to p (given t p))
 
-pub all_points : (places : List Place) (len : ℕ) (numbers : List ℕ) (k coset at to n : ℕ) (given : ℕ → ℕ → ℕ) (was buffers : List (List ℕ)) → length places ≡ n → PointsAdded places len numbers k coset at to given n was buffers
-    → AddsAt places len (λ t p. in_coset numbers k coset t (within at to p (given t p))) was buffers
-all_points places len numbers k coset at to n given was buffers count added =
-    adds_same places len (λ t p. within 0 n t (in_coset numbers k coset t (within at to p (given t p)))) (λ t p. in_coset numbers k coset t (within at to p (given t p))) was buffers added
-    (λ t p h fits. within-in 0 n t (in_coset numbers k coset t (within at to p (given t p))) (omega arith) (omega (arith, h, count)))
+pub all_added : (places : List Place) (len n : ℕ) (part : ℕ → ℕ → ℕ) (was buffers : List (List ℕ)) → length places ≡ n → FirstAdded places len part n was buffers → AddsAt places len part was buffers
+all_added places len n part was buffers count added =
+    adds_same places len (λ t p. within 0 n t (part t p)) part was buffers added (λ t p h fits. within-in 0 n t (part t p) (omega arith) (omega (arith, h, count)))
+
+-- the part of a coset in the sums: those of its points
+abbrev pub coset_part : List ℕ → ℕ → ℕ → ℕ → ℕ → (ℕ → ℕ → ℕ) → ℕ → ℕ → ℕ
+coset_part numbers k coset at to given t p = in_coset numbers k coset t (within at to p (given t p))
+
+pub next_point : (places : List Place) (len : ℕ) (numbers : List ℕ) (k coset at to n : ℕ) (given other : ℕ → ℕ → ℕ) (was half buffers : List (List ℕ))
+    → FirstAdded places len (coset_part numbers k coset at to given) n was half
+    → AddsAt places len (λ t p. within n (n + 1) t (in_coset numbers k coset n (within at to p (other n p)))) half buffers
+    → ((p : ℕ) → at ≤ p → p < to → coset * 2 ^ k ≤ get_or numbers n 0 → get_or numbers n 0 < coset * 2 ^ k + 2 ^ k → other n p ≡ given n p)
+    → FirstAdded places len (coset_part numbers k coset at to given) (n + 1) was buffers
+next_point places len numbers k coset at to n given other was half buffers so_far added same =
+    one_added_more places len n (coset_part numbers k coset at to given) (λ p. in_coset numbers k coset n (within at to p (other n p))) was half buffers so_far added
+    (λ p. within_same (coset * 2 ^ k) (coset * 2 ^ k + 2 ^ k) (get_or numbers n 0) (within at to p (other n p)) (within at to p (given n p))
+    (λ first last. within_same at to p (other n p) (given n p) (λ a b. same p a b first last)))
+
+-- row t of the sums, added to output t
+pub next_row_added : (places : List Place) (len at to n : ℕ) (given : ℕ → ℕ → ℕ) (row : List ℕ) (was half buffers : List (List ℕ)) → FirstAdded places len (λ t p. within at to p (given t p)) n was half
+    → AddsAt places len (λ t p. within n (n + 1) t (within at to p (mul 1 (word (p - at) row)))) half buffers
+    → ((p : ℕ) → at ≤ p → p < to → mul 1 (word (p - at) row) ≡ given n p) → FirstAdded places len (λ t p. within at to p (given t p)) (n + 1) was buffers
+next_row_added places len at to n given row was half buffers so_far added same =
+    one_added_more places len n (λ t p. within at to p (given t p)) (λ p. within at to p (mul 1 (word (p - at) row))) was half buffers so_far added
+    (λ p. within_same at to p (mul 1 (word (p - at) row)) (given n p) (same p))
 
 -- ---- coset by coset
 

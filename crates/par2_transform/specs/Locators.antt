@@ -22,8 +22,9 @@ quotient_coefficient sequence points factors j s =
 abbrev pub quotient_sum : (sequence points factors : List ℕ) → (ℕ → ℕ) → ℕ → ℕ
 quotient_sum sequence points factors words j = field_sum (length sequence) (λ s. mul (quotient_coefficient sequence points factors j s) (words s))
 
--- coefficient t of the numerator, the error evaluator of Forney's formula (Forney 1965): the words, in a repair the
--- syndromes, times the coefficients from t on
+-- The words, in a repair the syndromes, times the elements of the sequence from t on. If the sequence has the coefficients
+-- of the error locator from 1 on, this is coefficient t of the numerator, the error evaluator of Forney's formula
+-- (Forney 1965).
 abbrev pub numerator : List ℕ → (ℕ → ℕ) → ℕ → ℕ
 numerator sequence words t = field_sum (length sequence) (λ s. mul (slice_index sequence (s + t)) (words s))
 
@@ -41,9 +42,8 @@ pub record AreNumbered (points numbers next : List ℕ) : Type 0 where
   pub points_are : (j : ℕ) → j < length points → point (slice_index numbers j) ≡ slice_index points j
   pub listed : (j : ℕ) → j < length points → IsListed (slice_index next) (slice_index numbers j)
 
--- all coefficients, points and factors are elements
-pub record AreFit (sequence points factors : List ℕ) : Type 0 where
-  pub sequence_fit : GivesElements (slice_index sequence)
+-- all points and factors are elements
+pub record AreFit (points factors : List ℕ) : Type 0 where
   pub points_fit : GivesElements (slice_index points)
   pub factors_fit : GivesElements (slice_index factors)
 
@@ -54,11 +54,11 @@ pub record HaveFirst (n : ℕ) (given : ℕ → ℕ → ℕ) (old new : Grid) : 
   pub first : (c u : ℕ) → c < old.words → u < n → column new c u ≡ given c u
   pub none : (c u : ℕ) → n ≤ u → column new c u ≡ 0
 
--- the rows have the coefficients of the numerators over the sources' words from `at` on
-pub record AreNumerators (sequence : List ℕ) (sources : List (List ℕ)) (at : ℕ) (old new : Grid) : Type 0 where
+-- the first n rows are the numerators over the sources' words from `at` on
+pub record AreNumerators (n : ℕ) (sequence : List ℕ) (sources : List (List ℕ)) (at : ℕ) (old new : Grid) : Type 0 where
   pub levels : new.levels ≡ old.levels
   pub words : new.words ≡ old.words
-  pub each : (c t : ℕ) → c < old.words → t < length sequence → column new c t ≡ numerator sequence (words_at sources (at + c)) t
+  pub each : (c t : ℕ) → c < old.words → t < n → column new c t ≡ numerator sequence (words_at sources (at + c)) t
 
 -- the first rows are the coefficients of the numerators over the sources' words from `at` on (as AreNumerators, of the
 -- rows alone)

@@ -15,6 +15,7 @@ mod exponents;
 pub mod laws;
 mod levels;
 mod locator;
+mod numerators;
 mod outputs;
 mod plan;
 mod powers;
@@ -24,5 +25,6 @@ mod weights;
 mod windows;
 
 pub use locator::Locator;
+pub use numerators::Numerators;
 pub use outputs::{Place, Places, add_to_output};
 pub use recovery::{add_recovery_slices, add_recovery_slices_at, whole_buffers};

@@ -1,4 +1,4 @@
-use Rattle.par2_solve.proofs.Common.{◌≡◌, ◌∙◌, ◌<◌, rules, ap, length, get_or, lists_of, length-lists_of, buffers_of, with_items_is, arith}
+use Rattle.par2_solve.proofs.Common.{◌≡◌, ◌∙◌, rules, ap, length, get_or, lists_of, length-lists_of, buffers_of, with_items_is, arith}
 use Rattle.par2_solve.specs.Spans.{picked}
 use Rattle.par2_solve.proofs.SpanLaws.{picked_sizes, span_added}
 use Rattle.par2_solve.proofs.spans.add_over_span.Goals as goal

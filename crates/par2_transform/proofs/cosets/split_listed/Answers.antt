@@ -1,4 +1,4 @@
-use Rattle.par2_transform.proofs.Common.{ℕ, suc, ◌+◌, ◌-◌, ◌*◌, ◌%◌, ◌^◌, ◌<◌, ◌≤◌, ◌≡◌, ap, ap₂, subst, ◌∙◌, arith, slice_index, point, from, IsSplit, OnElements, OneRun, IsListed, IsListedSplit, run_in}
+use Rattle.par2_transform.proofs.Common.{ℕ, suc, ◌+◌, ◌-◌, ◌*◌, ◌%◌, ◌^◌, ◌<◌, ◌≤◌, ◌≡◌, ap, ap₂, subst, ◌∙◌, arith, slice_index, point, from, IsSplit, OnElements, OneRun, IsListedSplit, run_in}
 use Rattle.par2_transform.proofs.StepLaws.{same_outside, power_below}
 use Rattle.par2_transform.proofs.GridLaws.{each_start, each_so}
 use Rattle.par2_transform.proofs.CosetLaws.{number_is, size_is, run_fits, double-lt}

@@ -1,6 +1,6 @@
 use Rattle.par2_transform.proofs.Common.{◌+◌, ◌-◌, ◌*◌, ◌^◌, ◌<◌, ◌≤◌, ◌≡◌, ◌∙◌, sym, subst, arith, rules, length, get_or, mul, lists_of, byte_lists, words_at, column, quotient_sum}
 use Rattle.par2_transform.proofs.AddingLaws.{still_within}
-use Rattle.par2_transform.proofs.LocatorLaws.{no_point, next_point, all_points, given_is}
+use Rattle.par2_transform.proofs.LocatorLaws.{none_added_yet, next_point, all_added, coset_part, given_is}
 use Rattle.par2_transform.proofs.locator.Locator.add_coset.Goals as goal
 
 pub add_point-requires : goal.add_point-requires
@@ -20,7 +20,8 @@ add_point-requires c =
 pub loop-j-init : goal.loop-j-init
 loop-j-init c =
     let self = c.args.self.now in
-    no_point c.args.outputs.now.places.now c.args.outputs.now.words self.numbers.items self.levels c.args.coset c.args.from c.args.to (λ t p. quotient_sum self.sequence.items self.points.items self.factors.items (words_at (byte_lists c.args.sources.now) p) t) (lists_of c.args.buffers.now)
+    none_added_yet c.args.outputs.now.places.now c.args.outputs.now.words
+    (coset_part self.numbers.items self.numerators.levels c.args.coset c.args.from c.args.to (λ t p. quotient_sum self.numerators.sequence.items self.points.items self.factors.items (words_at (byte_lists c.args.sources.now) p) t)) (lists_of c.args.buffers.now)
 
 pub loop-j-preserved : goal.loop-j-preserved
 loop-j-preserved c =
@@ -28,12 +29,12 @@ loop-j-preserved c =
     let sources = byte_lists c.args.sources.now in
     let rows = c.evaluate.new.rows in
     let low : c.loop-j.j < length c.args.outputs.now.places.now = search rules in
-    next_point c.args.outputs.now.places.now c.args.outputs.now.words self.numbers.items self.levels c.args.coset c.args.from c.args.to c.loop-j.j (λ t p. quotient_sum self.sequence.items self.points.items self.factors.items (words_at sources p) t)
-    (λ j p. mul (get_or self.factors.items j 0) (column rows (p - c.args.from) (get_or self.numbers.items j 0 - c.args.coset * 2 ^ self.levels)))
+    next_point c.args.outputs.now.places.now c.args.outputs.now.words self.numbers.items self.numerators.levels c.args.coset c.args.from c.args.to c.loop-j.j (λ t p. quotient_sum self.numerators.sequence.items self.points.items self.factors.items (words_at sources p) t)
+    (λ j p. mul (get_or self.factors.items j 0) (column rows (p - c.args.from) (get_or self.numbers.items j 0 - c.args.coset * 2 ^ self.numerators.levels)))
     (lists_of c.args.buffers.now) (lists_of c.loop-j.buffers) (lists_of c.add_point.new.buffers) c.loop-j.invariant c.add_point.ensures
     (λ p from_here high first last.
-    given_is self.sequence.items self.points.items self.factors.items self.numbers.items self.next.items sources self.levels c.args.coset c.args.from c.args.sums.now c.args.rows.now rows
-    c.requires.bytes self.elements.sequence_fit self.elements.points_fit self.elements.factors_fit self.numbered c.evaluate.ensures c.requires.words c.requires.numerators
+    given_is self.numerators.sequence.items self.points.items self.factors.items self.numbers.items self.next.items sources self.numerators.levels c.args.coset c.args.from c.args.sums.now c.args.rows.now rows
+    c.requires.bytes self.numerators.elements self.elements.points_fit self.elements.factors_fit self.numbered c.evaluate.ensures c.requires.words c.requires.numerators
     c.loop-j.j p (omega (arith, low, c.requires.count)) from_here (omega (arith, high, c.requires.columns)) first last)
 
 pub returns-clause-levels : goal.returns-clause-levels
@@ -46,5 +47,6 @@ pub returns-clause-added : goal.returns-clause-added
 returns-clause-added c =
     let self = c.args.self.now in
     let end : length c.args.outputs.now.places.now ≡ c.loop-j.j = search rules in
-    all_points c.args.outputs.now.places.now c.args.outputs.now.words self.numbers.items self.levels c.args.coset c.args.from c.args.to c.loop-j.j (λ t p. quotient_sum self.sequence.items self.points.items self.factors.items (words_at (byte_lists c.args.sources.now) p) t)
+    all_added c.args.outputs.now.places.now c.args.outputs.now.words c.loop-j.j
+    (coset_part self.numbers.items self.numerators.levels c.args.coset c.args.from c.args.to (λ t p. quotient_sum self.numerators.sequence.items self.points.items self.factors.items (words_at (byte_lists c.args.sources.now) p) t))
     (lists_of c.args.buffers.now) (lists_of c.loop-j.buffers) end c.loop-j.invariant

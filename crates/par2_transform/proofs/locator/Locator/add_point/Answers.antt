@@ -6,9 +6,9 @@ pub returns-then-number-first : goal.returns-then-number-first
 returns-then-number-first c =
     let self = c.args.self.now in
     let number = c.word_or_zero-number.ensures ∙ ap (λ (xs : List ℕ). get_or xs c.args.j 0) c.deref.ensures.value in
-    let first = coset_first self.levels c.args.coset self.few c.requires.coset in
-    point_before c.args.outputs.now.places.now c.args.outputs.now.words self.numbers.items self.levels c.args.coset c.args.j
-    (λ p. within c.args.from c.args.to p (mul (get_or self.factors.items c.args.j 0) (column c.args.rows.now (p - c.args.from) (get_or self.numbers.items c.args.j 0 - c.args.coset * 2 ^ self.levels)))) (lists_of c.args.buffers.now)
+    let first = coset_first self.numerators.levels c.args.coset self.numerators.few c.requires.coset in
+    point_before c.args.outputs.now.places.now c.args.outputs.now.words self.numbers.items self.numerators.levels c.args.coset c.args.j
+    (λ p. within c.args.from c.args.to p (mul (get_or self.factors.items c.args.j 0) (column c.args.rows.now (p - c.args.from) (get_or self.numbers.items c.args.j 0 - c.args.coset * 2 ^ self.numerators.levels)))) (lists_of c.args.buffers.now)
     (omega (arith, first, number, c.if-number-first.true))
 
 pub returns-then-u-self : goal.returns-then-u-self
@@ -16,18 +16,18 @@ returns-then-u-self c =
     let self = c.args.self.now in
     let number = c.word_or_zero-number.ensures ∙ ap (λ (xs : List ℕ). get_or xs c.args.j 0) c.deref.ensures.value in
     let factor = c.word_or_zero-factor.ensures ∙ ap (λ (xs : List ℕ). get_or xs c.args.j 0) c.deref-then-u-self.ensures.value in
-    let first = coset_first self.levels c.args.coset self.few c.requires.coset in
-    let size = shifted_most self.levels self.few in
-    point_taken c.args.outputs.now.places.now c.args.outputs.now.words self.numbers.items self.levels c.args.coset c.args.j c.args.from c.args.to c.word_or_zero-factor.result (get_or self.factors.items c.args.j 0)
-    (c.word_or_zero-number.result - c.args.coset * 2 ^ self.levels % 18446744073709551616) c.row.result.now c.args.rows.now (lists_of c.args.buffers.now) (lists_of c.add_to_output.new.buffers)
+    let first = coset_first self.numerators.levels c.args.coset self.numerators.few c.requires.coset in
+    let size = shifted_most self.numerators.levels self.numerators.few in
+    point_taken c.args.outputs.now.places.now c.args.outputs.now.words self.numbers.items self.numerators.levels c.args.coset c.args.j c.args.from c.args.to c.word_or_zero-factor.result (get_or self.factors.items c.args.j 0)
+    (c.word_or_zero-number.result - c.args.coset * 2 ^ self.numerators.levels % 18446744073709551616) c.row.result.now c.args.rows.now (lists_of c.args.buffers.now) (lists_of c.add_to_output.new.buffers)
     factor c.row.ensures.words (omega (arith, first, number)) (omega (arith, first, number, c.if-number-first.false)) (omega (arith, first, number, size, c.if-number-first.false, c.if-u-self.true)) c.add_to_output.ensures
 
 pub returns-else-u-self : goal.returns-else-u-self
 returns-else-u-self c =
     let self = c.args.self.now in
     let number = c.word_or_zero-number.ensures ∙ ap (λ (xs : List ℕ). get_or xs c.args.j 0) c.deref.ensures.value in
-    let first = coset_first self.levels c.args.coset self.few c.requires.coset in
-    let size = shifted_most self.levels self.few in
-    point_behind c.args.outputs.now.places.now c.args.outputs.now.words self.numbers.items self.levels c.args.coset c.args.j
-    (λ p. within c.args.from c.args.to p (mul (get_or self.factors.items c.args.j 0) (column c.args.rows.now (p - c.args.from) (get_or self.numbers.items c.args.j 0 - c.args.coset * 2 ^ self.levels)))) (lists_of c.args.buffers.now)
+    let first = coset_first self.numerators.levels c.args.coset self.numerators.few c.requires.coset in
+    let size = shifted_most self.numerators.levels self.numerators.few in
+    point_behind c.args.outputs.now.places.now c.args.outputs.now.words self.numbers.items self.numerators.levels c.args.coset c.args.j
+    (λ p. within c.args.from c.args.to p (mul (get_or self.factors.items c.args.j 0) (column c.args.rows.now (p - c.args.from) (get_or self.numbers.items c.args.j 0 - c.args.coset * 2 ^ self.numerators.levels)))) (lists_of c.args.buffers.now)
     (omega (arith, first, number, size, c.if-number-first.false, c.if-u-self.false))

@@ -28,7 +28,7 @@ returns c =
     let new = lists_of c.add_words.new.buffers in
     let places = c.in_ok-places.places.items in
     let outputs = c.new-outputs.result in
-    let given = λ (t p : ℕ). quotient_sum c.args.self.now.sequence.items c.args.self.now.points.items c.args.self.now.factors.items (words_at (byte_lists c.args.sources.now) p) t in
+    let given = λ (t p : ℕ). quotient_sum c.args.self.now.numerators.sequence.items c.args.self.now.points.items c.args.self.now.factors.items (words_at (byte_lists c.args.sources.now) p) t in
     let whole : AreWholeBuffers (length was) places = subst (λ (n : ℕ). AreWholeBuffers n places) (sym (length-lists_of c.args.buffers.now)) c.in_ok-places.ensures in
     IfOk-weaker c.add_words.result (λ _. AddsAt outputs.places.now outputs.words given was new) _
     (λ _ added.

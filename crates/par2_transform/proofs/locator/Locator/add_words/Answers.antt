@@ -1,4 +1,4 @@
-use Rattle.par2_transform.proofs.Common.{◌+◌, ◌-◌, ◌*◌, ◌≤◌, ◌≡◌, ◌∙◌, sym, ap, subst, arith, min, div_ceil, div_ceil_times, lists_of, byte_lists, words_at, quotient_sum}
+use Rattle.par2_transform.proofs.Common.{◌+◌, ◌-◌, ◌*◌, ◌≤◌, ◌≡◌, ◌∙◌, sym, ap, subst, arith, min, div_ceil_times, lists_of, byte_lists, words_at, quotient_sum}
 use Rattle.par2_transform.proofs.AddingLaws.{still_within}
 use Rattle.par2_transform.proofs.ColumnLaws.{begins, ends}
 use Rattle.par2_transform.proofs.LocatorLaws.{no_words, next_words, all_words}
@@ -46,7 +46,7 @@ loop-k-init c =
       rows_words = c.in_ok-rows.ensures.words;
       sums_levels = c.in_ok-sums.ensures.levels;
       sums_words = c.in_ok-sums.ensures.words;
-      added = no_words c.args.outputs.now.places.now c.args.outputs.now.words c.columns_for-columns.result (λ t p. quotient_sum self.sequence.items self.points.items self.factors.items (words_at (byte_lists c.args.sources.now) p) t) (lists_of c.args.buffers.now);
+      added = no_words c.args.outputs.now.places.now c.args.outputs.now.words c.columns_for-columns.result (λ t p. quotient_sum self.numerators.sequence.items self.points.items self.factors.items (words_at (byte_lists c.args.sources.now) p) t) (lists_of c.args.buffers.now);
     }
 
 pub loop-k-preserved : goal.loop-k-preserved
@@ -62,7 +62,7 @@ loop-k-preserved c =
       rows_words = e.rows_words ∙ l.invariant.rows_words;
       sums_levels = e.sums_levels ∙ l.invariant.sums_levels;
       sums_words = e.sums_words ∙ l.invariant.sums_words;
-      added = next_words c.args.outputs.now.places.now c.args.outputs.now.words columns l.k (l.k * columns + c.min.result) (λ t p. quotient_sum self.sequence.items self.points.items self.factors.items (words_at (byte_lists c.args.sources.now) p) t)
+      added = next_words c.args.outputs.now.places.now c.args.outputs.now.words columns l.k (l.k * columns + c.min.result) (λ t p. quotient_sum self.numerators.sequence.items self.points.items self.factors.items (words_at (byte_lists c.args.sources.now) p) t)
           (lists_of c.args.buffers.now) (lists_of l.buffers) (lists_of c.add_columns.new.buffers) l.invariant.added low place e.added;
     }
 
@@ -74,4 +74,4 @@ returns c =
     let k = c.loop-k.k in
     let end : k ≡ c.div_ceil-k-end.result = omega (arith, c.loop-k-test.false, c.loop-k.auto.k-end) in
     let enough : words ≤ k * columns = subst (λ n. words ≤ n * columns) (sym (end ∙ c.div_ceil-k-end.ensures)) (div_ceil_times words columns (let some = c.columns_for-columns.ensures.0 in omega (arith, some))).0 in
-    all_words c.args.outputs.now.places.now words columns k (λ t p. quotient_sum self.sequence.items self.points.items self.factors.items (words_at (byte_lists c.args.sources.now) p) t) (lists_of c.args.buffers.now) (lists_of c.loop-k.buffers) enough c.loop-k.invariant.added
+    all_words c.args.outputs.now.places.now words columns k (λ t p. quotient_sum self.numerators.sequence.items self.points.items self.factors.items (words_at (byte_lists c.args.sources.now) p) t) (lists_of c.args.buffers.now) (lists_of c.loop-k.buffers) enough c.loop-k.invariant.added

@@ -1,4 +1,4 @@
-use Rattle.par2_transform.proofs.Common.{rules, ◌≡◌, ◌+◌, ◌-◌, ◌*◌, ◌^◌, ◌≤◌, ◌∙◌, refl, sym, ap, subst, arith, length, min, List, div_ceil, div_ceil_times, with_items_is, lists_of, Outputs, AreBlocks, cut_of}
+use Rattle.par2_transform.proofs.Common.{rules, ◌≡◌, ◌+◌, ◌-◌, ◌*◌, ◌^◌, ◌≤◌, ◌∙◌, refl, sym, ap, subst, arith, length, min, List, div_ceil_times, with_items_is, lists_of, Outputs, AreBlocks, cut_of}
 use Rattle.par2_transform.proofs.AddingLaws.{still_within}
 use Rattle.par2_transform.proofs.ColumnLaws.{begins, ends, ColumnsAdded, no_column, next_column, all_columns}
 use Rattle.par2_transform.proofs.windows.Windows.add_words.Goals as goal

@@ -1,6 +1,6 @@
 use Rattle.par2_transform.proofs.Common.{ℕ, List, ◌+◌, ◌^◌, ◌<◌, ◌≡◌, ◌∙◌, sym, ap, ap₂, subst, arith, length, mul, word, byte_lists, words_at, HaveFirst}
 use Rattle.par2_transform.proofs.LocatorLaws.{no_first, next_first, one_times, words_at-lt}
-use Rattle.par2_transform.proofs.locator.fill.Goals as goal
+use Rattle.par2_transform.proofs.numerators.fill.Goals as goal
 
 pub loop-s-init : goal.loop-s-init
 loop-s-init c = no_first (λ k s. words_at (byte_lists c.args.sources.now) (c.args.from + k) s) c.args.rows.now c.clear.new.self c.clear.ensures.levels c.clear.ensures.words c.clear.ensures.zero

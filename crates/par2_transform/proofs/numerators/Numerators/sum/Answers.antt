@@ -1,6 +1,6 @@
 use Rattle.par2_transform.proofs.Common.{ℕ, List, ◌+◌, ◌^◌, ◌≤◌, ◌≡◌, ◌∙◌, sym, ap, subst, arith, length, slice_index, byte_lists, RowsGathered, HaveFirst, words_at, Bor, length-map}
 use Rattle.par2_transform.proofs.LocatorLaws.{numerators_are}
-use Rattle.par2_transform.proofs.locator.Locator.sum.Goals as goal
+use Rattle.par2_transform.proofs.numerators.Numerators.sum.Goals as goal
 
 pub fill-requires : goal.fill-requires
 fill-requires c = subst (λ m. length c.args.sources.now ≤ 2 ^ m) (sym c.requires.rows) (omega (arith, c.requires.count, c.args.self.now.fit))
@@ -24,7 +24,7 @@ pub returns-clause-numerators : goal.returns-clause-numerators
 returns-clause-numerators c =
     let self = c.args.self.now in
     let many : length (byte_lists c.args.sources.now) ≡ length c.args.sources.now = length-map c.args.sources.now (λ (x : Bor (List ℕ)). x.now) in
-    numerators_are self.sequence.items self.weights.items (byte_lists c.args.sources.now) self.levels c.args.from c.args.rows.now c.fill.new.rows c.values_at_points.new.rows c.args.sums.now c.clear.new.self c.gather_rows.new.sums c.power_sums.new.rows
+    numerators_are self.count self.sequence.items self.weights.items (byte_lists c.args.sources.now) self.levels c.args.from c.args.rows.now c.fill.new.rows c.values_at_points.new.rows c.args.sums.now c.clear.new.self c.gather_rows.new.sums c.power_sums.new.rows
     (many ∙ c.requires.count) self.fit c.fill.ensures.bytes self.weighed c.requires.rows c.requires.sums c.requires.words
     (subst (λ n. HaveFirst n (λ k s. words_at (byte_lists c.args.sources.now) (c.args.from + k) s) c.args.rows.now c.fill.new.rows) (sym many) c.fill.ensures.rows)
     c.values_at_points.ensures c.clear.ensures.levels c.clear.ensures.words c.clear.ensures.zero

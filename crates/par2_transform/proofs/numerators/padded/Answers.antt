@@ -1,6 +1,6 @@
 use Rattle.par2_transform.proofs.Common.{◌+◌, sym, subst, get_or}
 use Rattle.par2_transform.proofs.BlockLaws.{Tabulates, no_value, next_value}
-use Rattle.par2_transform.proofs.locator.padded.Goals as goal
+use Rattle.par2_transform.proofs.numerators.padded.Goals as goal
 
 pub loop-i-init : goal.loop-i-init
 loop-i-init c = subst (Tabulates (λ j. get_or c.args.words.now j 0) 0) (sym c.in_ok-all.ensures.items) (no_value (λ j. get_or c.args.words.now j 0))

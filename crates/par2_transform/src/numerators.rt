@@ -1,0 +1,245 @@
+//! The product of a Hankel matrix and sources, in about n log n products of sources: sum t is that of all sources, source
+//! s times element s + t of a sequence. If the sequence has the coefficients of an error locator and the sources are
+//! syndromes, these sums are the coefficients of the numerator, Forney's error evaluator (Forney 1965), or sides of the
+//! locator's recurrence.
+
+ghost use Rattle.std.specs.Prelude.{◌≡◌, ℕ, ◌+◌, ◌^◌, ◌<◌, ◌≤◌, length, slice_index, IfOk};
+ghost use Rattle.par2_spec.specs.Sums.{list_at, lists_of, GivesElements};
+ghost use Rattle.par2_transform.specs.Adding.{within, AddsAt, AddsToEach, HaveWords, LieWithin};
+ghost use Rattle.par2_transform.specs.Columns.{byte_lists, words_at, AreByteLists};
+ghost use Rattle.par2_transform.specs.Locators.{AreNumerators, HaveFirst, IsWeighed, numerator};
+
+use crate::blocks::gather_rows;
+use crate::exponents::{buffers_fit, bytes_from};
+use crate::levels::{power_sums, values_at_points};
+use crate::outputs::{Places, add_to_output};
+use crate::plan::columns_for;
+use crate::recovery::whole_buffers;
+use crate::rows::Rows;
+use crate::weights::{fit_words, weights};
+use par2_gf16::{Factor, Gf};
+use std::alloc::{AllocError, Global};
+
+/// The Hankel matrix of a sequence: row t, of which there are `count`, has the elements from t on. Elements past the end
+/// are 0.
+#[derive(Drop)]
+pub struct Numerators<'a> {
+    gf: &'a Gf,
+    pub sequence: Vec<u16>,
+    pub count: usize,
+    pub(crate) levels: u32,
+    weights: Vec<u16>,
+    ghost few: { levels ≤ 16 },
+    ghost fit: { length sequence.items + count ≤ 2 ^ levels },
+    ghost weighed: { IsWeighed levels sequence.items weights.items },
+    ghost elements: { GivesElements (slice_index sequence.items) },
+}
+
+// The least k such that 2 ^ k is at least `count`, the number of elements and sums: with fewer points, the sums would wrap
+// around.
+#[tactic(auto, using(crate::proofs::StepLaws::shifted))]
+fn levels_for(count: usize) -> u32
+    requires { count ≤ 65536 }
+    ensures few { result ≤ 16 }
+    ensures fit { count ≤ 2 ^ result }
+{
+    for levels in 0..16 {
+        if count <= 1 << levels {
+            return levels;
+        }
+    }
+    16
+}
+
+/// The word at `place`, or 0 past the end.
+#[tactic(auto, using(std::proofs::lemmas::List::get_or_past))]
+pub(crate) fn word_or_zero(words: &[u16], place: usize) -> u16
+    ensures { result ≡ slice_index words.now place }
+{
+    if place < words.len() { words[place] } else { 0 }
+}
+
+// The first `count` words, padded with zeros if there are fewer.
+fn padded(alloc: Global, words: &[u16], count: usize) -> Result<Vec<u16>, AllocError>
+    ensures count { IfOk result (λ all. length all.items ≡ count) }
+    ensures each { IfOk result (λ all. (i : ℕ) → i < count
+        → slice_index all.items i ≡ slice_index words.now i) }
+{
+    let mut all = Vec::with_capacity(alloc, count)?;
+    for i in 0..count {
+        all.push(word_or_zero(words, i))?;
+    }
+    Ok(all)
+}
+
+// The weights of the `2 ^ levels` points whose power sums are these words, padded with zeros.
+fn weights_for(alloc: Global, gf: &Gf, words: &[u16], levels: u32) -> Result<Vec<u16>, AllocError>
+    requires few { levels ≤ 16 }
+    requires fit { length words.now ≤ 2 ^ levels }
+    ensures { IfOk result (λ weights. IsWeighed levels words.now weights.items) }
+{
+    let mut all = padded(alloc, words, 1 << levels)?;
+    weights(gf, all.as_mut_slice(), levels);
+    Ok(all)
+}
+
+// The bytes of source s.
+#[inline(always)]
+fn source_at<'a>(sources: &[&'a [u8]], s: usize) -> &'a [u8]
+    requires { s < length sources.now }
+    ensures { result.now ≡ list_at (byte_lists sources.now) s }
+{
+    sources[s]
+}
+
+// Copies the words of source s, from word `from` on, to row s: as many as a row has, and zeros for those past the
+// source's end. The rows after the last source become zero.
+fn fill(gf: &Gf, sources: &[&[u8]], from: usize, rows: &mut Rows)
+    requires { length sources.now ≤ 2 ^ rows.old.levels }
+    ensures bytes { AreByteLists (byte_lists sources.now) }
+    ensures rows { HaveFirst (length sources.now)
+        (λ c s. words_at (byte_lists sources.now) (from + c) s) rows.old rows.new }
+{
+    buffers_fit(sources);
+    rows.clear();
+    let factor = Factor::new(1);
+    for s in 0..sources.len() {
+        let source = source_at(sources, s);
+        rows.add_bytes(gf, &factor, bytes_from(source, from), s);
+    }
+}
+
+impl<'a> Numerators<'a> {
+    /// For this sequence and `count` sums. Computes the weights of the points. An error is that memory ran out.
+    pub fn new(
+        alloc: Global,
+        gf: &'a Gf,
+        sequence: Vec<u16>,
+        count: usize,
+    ) -> Result<Numerators<'a>, AllocError>
+        requires { length sequence.items + count ≤ 65536 }
+        ensures sequence { IfOk result (λ made. made.sequence.items ≡ sequence.items) }
+        ensures count { IfOk result (λ made. made.count ≡ count) }
+    {
+        let levels = levels_for(sequence.len() + count);
+        let weights = weights_for(alloc, gf, &sequence, levels)?;
+        fit_words(&sequence);
+        Ok(Numerators {
+            gf,
+            sequence,
+            count,
+            levels,
+            weights,
+        })
+    }
+
+    /// Computes the sums of the sources' words from word `from` on, sum t in row t of `sums`. `rows` is scratch.
+    pub(crate) fn sum(&self, sources: &[&[u8]], from: usize, rows: &mut Rows, sums: &mut Rows)
+        // There is a source for each element, and both sets of rows have a row for each point.
+        requires count { length sources.now ≡ length self.now.sequence.items }
+        requires rows { rows.old.levels ≡ self.now.levels }
+        requires sums { sums.old.levels ≡ self.now.levels }
+        requires words { rows.old.words ≡ sums.old.words }
+        // The rows keep their shape.
+        ensures levels { rows.new.levels ≡ rows.old.levels }
+        ensures words { rows.new.words ≡ rows.old.words }
+        // For the prover: the sources are bytes.
+        ensures bytes { AreByteLists (byte_lists sources.now) }
+        // The first rows of `sums` are the numerators.
+        ensures numerators { AreNumerators self.now.count self.now.sequence.items
+            (byte_lists sources.now) from sums.old sums.new }
+    {
+        fill(self.gf, sources, from, rows);
+        values_at_points(self.gf, rows);
+        sums.clear();
+        gather_rows(self.gf, &self.weights, rows, sums);
+        power_sums(self.gf, sums);
+    }
+
+    // Adds sum t to output t in columns `from` up to `to`.
+    fn add_columns(
+        &self,
+        sources: &[&[u8]],
+        from: usize,
+        to: usize,
+        rows: &mut Rows,
+        sums: &mut Rows,
+        buffers: &mut [Vec<u8>],
+        outputs: &Places,
+    )
+        // There is a source for each element and a sum for each output, and both sets of rows have a row for each point.
+        requires sources { length sources.now ≡ length self.now.sequence.items }
+        requires count { length outputs.now.places.now ≤ self.now.count }
+        requires rows { rows.old.levels ≡ self.now.levels }
+        requires sums { sums.old.levels ≡ self.now.levels }
+        requires words { rows.old.words ≡ sums.old.words }
+        // These columns fit the rows and lie inside the outputs, which lie inside the buffers.
+        requires order { from ≤ to }
+        requires columns { to ≤ from + rows.old.words }
+        requires inside { to ≤ outputs.now.words }
+        requires room { LieWithin outputs.now.words outputs.now.places.now (lists_of buffers.old) }
+        // Both sets of rows keep their shape, so that the next columns can use them.
+        ensures rows_levels { rows.new.levels ≡ rows.old.levels }
+        ensures rows_words { rows.new.words ≡ rows.old.words }
+        ensures sums_levels { sums.new.levels ≡ sums.old.levels }
+        ensures sums_words { sums.new.words ≡ sums.old.words }
+        // Each output gets its sum in these columns. Nothing else changes.
+        ensures added { AddsAt outputs.now.places.now outputs.now.words (λ t p. within from to p
+            (numerator self.now.sequence.items (words_at (byte_lists sources.now) p) t))
+            (lists_of buffers.old) (lists_of buffers.new) }
+    {
+        self.sum(sources, from, rows, sums);
+        for t in 0..outputs.len() {
+            add_to_output(self.gf, 1, sums.row(t), buffers, outputs, t, from, to);
+        }
+    }
+
+    // Adds the sums to the outputs, some columns at a time: as many as `room` bytes allow.
+    fn add_words(
+        &self,
+        alloc: Global,
+        sources: &[&[u8]],
+        buffers: &mut [Vec<u8>],
+        outputs: &Places,
+        room: usize,
+    ) -> Result<(), AllocError>
+        requires sources { length sources.now ≡ length self.now.sequence.items }
+        requires count { length outputs.now.places.now ≤ self.now.count }
+        requires room { LieWithin outputs.now.words outputs.now.places.now (lists_of buffers.old) }
+        ensures { IfOk result (λ _. AddsAt outputs.now.places.now outputs.now.words (λ t p.
+            numerator self.now.sequence.items (words_at (byte_lists sources.now) p) t)
+            (lists_of buffers.old) (lists_of buffers.new)) }
+    {
+        let columns = columns_for(2 << self.levels, outputs.words, room);
+        let mut rows = Rows::new(alloc, self.levels, columns)?;
+        let mut sums = Rows::new(alloc, self.levels, columns)?;
+        for k in 0..outputs.words.div_ceil(columns) {
+            let from = k * columns;
+            let to = from + columns.min(outputs.words - from);
+            self.add_columns(sources, from, to, &mut rows, &mut sums, buffers, outputs);
+        }
+        Ok(())
+    }
+
+    /// Adds sum t to buffer t. Takes about `room` bytes of memory beside the buffers, or the least it can, which is two
+    /// rows of 32 words for each of 2 ^ levels points.
+    pub fn add_sums(
+        &self,
+        alloc: Global,
+        sources: &[&[u8]],
+        words: usize,
+        buffers: &mut [Vec<u8>],
+        room: usize,
+    ) -> Result<(), AllocError>
+        requires sources { length sources.now ≡ length self.now.sequence.items }
+        requires count { length buffers.old ≤ self.now.count }
+        requires size { HaveWords words (lists_of buffers.old) }
+        ensures { IfOk result (λ _. AddsToEach (λ t p. numerator self.now.sequence.items
+            (words_at (byte_lists sources.now) p) t)
+            (lists_of buffers.old) (lists_of buffers.new)) }
+    {
+        let places = whole_buffers(alloc, buffers.len())?;
+        let outputs = Places::new(&places, words);
+        self.add_words(alloc, sources, buffers, &outputs, room)
+    }
+}
