@@ -1,10 +1,11 @@
 -- Runs of a coset, split if they contain a listed point.
-use Rattle.par2_transform.proofs.Common.{ℕ, suc, ◌+◌, ◌-◌, ◌*◌, ◌%◌, ◌^◌, ◌<◌, ◌≤◌, ◌≡◌, refl, sym, ap, ap₂, subst, ◌∙◌, arith, bit_xor, pow-suc, inl, inr, add_assoc, mul_assoc, add-mul, one-mul, cases_lt, cases_eq, pow-add, xor_comm, xor_lt, pow-le-pow_right, mul-le-mul_right, xor_zero_l, xor_self, xor_zero_r, xor_assoc, List, length, min, get_or, set, get_or-set_same, get_or-set_other, mul, pow, GivesElements, zero-product, product-one, product_comm, field_sum_same, xor_off, point, vanishing, member, value, from, IsListed, IsListedSplit, IsListedLevel, HoldListed, field_sum, run_in}
+use Rattle.par2_transform.proofs.Common.{ℕ, suc, ◌+◌, ◌-◌, ◌*◌, ◌%◌, ◌^◌, ◌<◌, ◌≤◌, ◌≡◌, refl, sym, ap, ap₂, subst, ◌∙◌, arith, bit_xor, pow-suc, inl, inr, add_assoc, mul_assoc, add-mul, one-mul, cases_lt, cases_eq, pow-add, xor_comm, xor_lt, pow-le-pow_right, mul-le-mul_right, xor_zero_l, xor_self, xor_zero_r, xor_assoc, List, length, min, get_or, set, get_or-set_same, get_or-set_other, mul, GivesElements, zero-product, product-one, product_comm, xor_off, point, vanishing, member, from, IsListed, IsListedSplit, IsListedLevel, HoldListed, run_in}
 use Rattle.par2_transform.proofs.Subspaces.{point-lt}
 use Rattle.par2_transform.proofs.PowerSums.{first_half, second_half, vanishing_on, point_odd}
-use Rattle.par2_transform.proofs.LevelLaws.{half_below, cases_parity, value-lt, zero-mul-add}
+unfoldable use Rattle.par2_transform.specs.Combinations.{combined}
+use Rattle.par2_transform.proofs.CombinationLaws.{combined-lt, combined_same, split_combination_of_first}
+use Rattle.par2_transform.proofs.LevelLaws.{half_below, cases_parity, zero-mul-add}
 use Rattle.par2_transform.proofs.StepLaws.{pairs_fit, IsOfFirst, power_below}
-use Rattle.par2_transform.proofs.Divisions.{split_of_first}
 
 -- ---- numbers of runs
 
@@ -56,7 +57,7 @@ odd_run k i coset q p level is = omega (arith, doubled k i coset level, is)
 -- ---- runs that are split or not
 
 pub listed_of_first : (next : ℕ → ℕ) (i number : ℕ) → IsOfFirst (2 ^ suc i) (IsListedSplit next i number)
-listed_of_first next i number f f2 g g2 sf sg is u low listed = split_of_first i (point (2 * number)) f f2 g g2 sf sg (is u low listed)
+listed_of_first next i number f f2 g g2 sf sg is u low listed = split_combination_of_first i (point (2 * number)) f f2 g g2 sf sg (is u low listed)
 
 -- ---- from level to level
 
@@ -64,20 +65,18 @@ pub listed_begin : (next whole values : ℕ → ℕ) (k coset : ℕ) → ((m : �
 listed_begin next whole values k coset same q u hq hu listed =
     let one : 2 ^ (k - k) ≡ 1 = ap (λ n. 2 ^ n) (let z : k - k ≡ 0 = omega arith in z) in
     let none : q ≡ 0 = omega (arith, one, hq) in
-    let x : ℕ = point (member k (run_in k coset k q) u) in
-    field_sum_same (2 ^ k) (λ m. mul (values (q * 2 ^ k + m)) (pow x m)) (λ m. mul (whole m) (pow x m))
-    (λ m h. ap (λ v. mul v (pow x m)) (ap (λ n. values (n * 2 ^ k + m)) none ∙ ap values (zero-mul-add (2 ^ k) m) ∙ same m h))
+    combined_same k (from (q * 2 ^ k) values) whole (point (member k (run_in k coset k q) u)) (λ m h. ap (λ n. values (n * 2 ^ k + m)) none ∙ ap values (zero-mul-add (2 ^ k) m) ∙ same m h)
 
 pub listed_end : (next whole values : ℕ → ℕ) (k coset : ℕ) → GivesElements values → HoldListed next whole k coset 0 values → (u : ℕ) → u < 2 ^ k → IsListed next (coset * 2 ^ k + u)
-    → values u ≡ value (2 ^ k) whole (point (coset * 2 ^ k + u))
-unfolding field_sum pow
+    → values u ≡ combined k whole (point (coset * 2 ^ k + u))
+unfolding combined
 listed_end next whole values k coset elements hold u h listed =
     let all : k - 0 ≡ k = omega arith in
     let place : u * 2 ^ 0 + 0 ≡ u = omega arith in
     let at : member 0 (run_in k coset 0 u) 0 ≡ coset * 2 ^ k + u = (let e : coset * 2 ^ (k - 0) ≡ coset * 2 ^ k = ap (λ n. coset * 2 ^ n) all in omega (arith, e)) in
-    sym (xor_zero_l _ ∙ product-one (values (u * 2 ^ 0 + 0)) (elements (u * 2 ^ 0 + 0)) ∙ ap values place)
+    sym (ap values place)
     ∙ hold u 0 (subst (λ n. u < 2 ^ n) (sym all) h) (omega arith) (subst (IsListed next) (sym at) listed)
-    ∙ ap (λ n. value (2 ^ k) whole (point n)) at
+    ∙ ap (λ n. combined k whole (point n)) at
 
 pub listed_on : (next whole old new : ℕ → ℕ) → GivesElements new → (k coset i : ℕ) → k ≤ 16 → i < k → coset < 2 ^ (16 - k)
     → IsListedLevel next k coset i old new → HoldListed next whole k coset (suc i) old → HoldListed next whole k coset i new
@@ -86,14 +85,14 @@ listed_on next whole old new elements k coset i hk hi hc level hold q u hq hu li
       let p : ℕ = even.0 in
       let l : p < 2 ^ (k - suc i) = half_below k i q p hi (omega (arith, even.1)) hq in
       let at : run_in k coset i q ≡ 2 * number p = even_run k i coset q p hi even.1 in
-      ap₂ (λ n m. value (2 ^ i) (from (n * 2 ^ i) new) (point (member i m u))) even.1 at
-      ∙ lower p l (subst (λ m. IsListed next (member i m u)) at listed) ∙ ap (λ m. value (2 ^ k) whole (point (member i m u))) (sym at)
+      ap₂ (λ n m. combined i (from (n * 2 ^ i) new) (point (member i m u))) even.1 at
+      ∙ lower p l (subst (λ m. IsListed next (member i m u)) at listed) ∙ ap (λ m. combined k whole (point (member i m u))) (sym at)
   | inr odd ↦
       let p : ℕ = odd.0 in
       let l : p < 2 ^ (k - suc i) = half_below k i q p hi (omega (arith, odd.1)) hq in
       let at : run_in k coset i q ≡ 2 * number p + 1 = odd_run k i coset q p hi odd.1 in
-      ap₂ (λ n m. value (2 ^ i) (from (n * 2 ^ i) new) (point (member i m u))) odd.1 at
-      ∙ upper p l (subst (λ m. IsListed next (member i m u)) at listed) ∙ ap (λ m. value (2 ^ k) whole (point (member i m u))) (sym at)
+      ap₂ (λ n m. combined i (from (n * 2 ^ i) new) (point (member i m u))) odd.1 at
+      ∙ upper p l (subst (λ m. IsListed next (member i m u)) at listed) ∙ ap (λ m. combined k whole (point (member i m u))) (sym at)
 ]
   where
     -- the run's number
@@ -104,10 +103,10 @@ listed_on next whole old new elements k coset i hk hi hc level hold q u hq hu li
     place p = p * 2 ^ suc i
 
     low : ℕ → ℕ → ℕ
-    low p x = value (2 ^ i) (from (place p) new) x
+    low p x = combined i (from (place p) new) x
 
     high : ℕ → ℕ → ℕ
-    high p x = value (2 ^ i) (from (2 ^ i) (from (place p) new)) x
+    high p x = combined i (from (2 ^ i) (from (place p) new)) x
 
     small : (p n : ℕ) → p < 2 ^ (k - suc i) → n < 2 ^ suc i → number p * 2 ^ suc i + n < 65536
     small p n l h = omega (arith, run_fits k i coset p hk hi l hc, h)
@@ -116,7 +115,7 @@ listed_on next whole old new elements k coset i hk hi hc level hold q u hq hu li
     whole_size = let s : 2 ^ suc i ≡ 2 ^ i * 2 = pow-suc 2 i in omega arith
 
     lower : (p : ℕ) → p < 2 ^ (k - suc i) → IsListed next (member i (2 * number p) u)
-        → value (2 ^ i) (from (2 * p * 2 ^ i) new) (point (member i (2 * number p) u)) ≡ value (2 ^ k) whole (point (member i (2 * number p) u))
+        → combined i (from (2 * p * 2 ^ i) new) (point (member i (2 * number p) u)) ≡ combined k whole (point (member i (2 * number p) u))
     lower p l there =
         let inside : u < 2 ^ suc i = omega (arith, whole_size, hu) in
         let at : number p * 2 ^ suc i + u ≡ member i (2 * number p) u = ap (λ n. n + u) (first_half i (number p)) in
@@ -124,14 +123,14 @@ listed_on next whole old new elements k coset i hk hi hc level hold q u hq hu li
         let x : ℕ = point (member i (2 * number p) u) in
         let fits : 2 * number p * 2 ^ i + u < 65536 = omega (arith, small p u l inside, at) in
         let none : bit_xor (vanishing i x) (point (2 * number p)) ≡ 0 = ap (λ v. bit_xor v (point (2 * number p))) (vanishing_on i (2 * number p) u hu fits) ∙ xor_self (point (2 * number p)) in
-        ap (λ n. value (2 ^ i) (from n new) x) (sym (first_half i p))
+        ap (λ n. combined i (from n new) x) (sym (first_half i p))
         ∙ sym ((level p l u inside here).divided x (point-lt _)
         ∙ ap (λ v. bit_xor (low p x) (mul v (bit_xor (low p x) (high p x)))) none
         ∙ ap (bit_xor (low p x)) (zero-product (bit_xor (low p x) (high p x))) ∙ xor_zero_r (low p x))
-        ∙ ap (λ n. value (2 ^ suc i) (from (place p) old) (point n)) (sym at) ∙ hold p u l inside here ∙ ap (λ n. value (2 ^ k) whole (point n)) at
+        ∙ ap (λ n. combined (suc i) (from (place p) old) (point n)) (sym at) ∙ hold p u l inside here ∙ ap (λ n. combined k whole (point n)) at
 
     upper : (p : ℕ) → p < 2 ^ (k - suc i) → IsListed next (member i (2 * number p + 1) u)
-        → value (2 ^ i) (from ((2 * p + 1) * 2 ^ i) new) (point (member i (2 * number p + 1) u)) ≡ value (2 ^ k) whole (point (member i (2 * number p + 1) u))
+        → combined i (from ((2 * p + 1) * 2 ^ i) new) (point (member i (2 * number p + 1) u)) ≡ combined k whole (point (member i (2 * number p + 1) u))
     upper p l there =
         let inside : 2 ^ i + u < 2 ^ suc i = omega (arith, whole_size, hu) in
         let at : number p * 2 ^ suc i + (2 ^ i + u) ≡ member i (2 * number p + 1) u = sym (add_assoc (number p * 2 ^ suc i) (2 ^ i) u) ∙ ap (λ n. n + u) (second_half i (number p)) in
@@ -141,16 +140,15 @@ listed_on next whole old new elements k coset i hk hi hc level hold q u hq hu li
         let fits : (2 * number p + 1) * 2 ^ i + u < 65536 = omega (arith, small p (2 ^ i + u) l inside, at) in
         let one : bit_xor (vanishing i x) c ≡ 1 =
         ap (λ v. bit_xor v c) (vanishing_on i (2 * number p + 1) u hu fits ∙ point_odd (number p) ∙ xor_comm c 1) ∙ xor_off 1 c in
-        let hl : low p x < 65536 = value-lt i (from (place p) new) (λ m. elements _) x (point-lt _) in
-        let hh : high p x < 65536 = value-lt i (from (2 ^ i) (from (place p) new)) (λ m. elements _) x (point-lt _) in
+        let hl : low p x < 65536 = combined-lt i (from (place p) new) x (λ m. elements _) (point-lt _) in
+        let hh : high p x < 65536 = combined-lt i (from (2 ^ i) (from (place p) new)) x (λ m. elements _) (point-lt _) in
         let both : bit_xor (low p x) (high p x) < 65536 = xor_lt 16 (low p x) (high p x) hl hh in
         let once : mul 1 (bit_xor (low p x) (high p x)) ≡ bit_xor (low p x) (high p x) = product_comm 1 _ (omega arith) both ∙ product-one _ both in
-        sym (field_sum_same (2 ^ i) (λ m. mul (new (place p + (2 ^ i + m))) (pow x m)) (λ m. mul (new ((2 * p + 1) * 2 ^ i + m)) (pow x m))
-        (λ m h. ap (λ n. mul (new n) (pow x m)) (sym (add_assoc (place p) (2 ^ i) m) ∙ ap (λ n. n + m) (second_half i p))))
+        sym (combined_same i (from (2 ^ i) (from (place p) new)) (from ((2 * p + 1) * 2 ^ i) new) x (λ m h. ap new (sym (add_assoc (place p) (2 ^ i) m) ∙ ap (λ n. n + m) (second_half i p))))
         ∙ sym ((level p l (2 ^ i + u) inside here).divided x (point-lt _)
         ∙ ap (λ v. bit_xor (low p x) (mul v (bit_xor (low p x) (high p x)))) one
         ∙ ap (bit_xor (low p x)) once ∙ sym (xor_assoc (low p x) (low p x) (high p x)) ∙ ap (λ v. bit_xor v (high p x)) (xor_self (low p x)) ∙ xor_zero_l (high p x))
-        ∙ ap (λ n. value (2 ^ suc i) (from (place p) old) (point n)) (sym at) ∙ hold p (2 ^ i + u) l inside here ∙ ap (λ n. value (2 ^ k) whole (point n)) at
+        ∙ ap (λ n. combined (suc i) (from (place p) old) (point n)) (sym at) ∙ hold p (2 ^ i + u) l inside here ∙ ap (λ n. combined k whole (point n)) at
 
 -- ---- lists of numbers
 

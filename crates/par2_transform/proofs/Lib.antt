@@ -10,6 +10,7 @@ mod BufferLaws
 mod StepLaws
 mod Divisions
 mod CosetLaws
+mod CombinationLaws
 mod GridLaws
 mod Cycles
 mod NumberLaws

@@ -3,7 +3,10 @@ use Rattle.par2_transform.proofs.Common.{inl, inr, ℕ, ◌+◌, ◌-◌, ◌*�
 use Rattle.std.proofs.Common.{map}
 use Rattle.std.proofs.lemmas.List.{get_or-map}
 use Rattle.par2_transform.proofs.AddingLaws.{adds_none, adds_more, adds_same, within-in, within-below, within-above, within_joined, within_same}
+use Rattle.par2_transform.specs.Combinations.{combined, IsCombination}
+use Rattle.par2_transform.specs.Locators.{AreCombinations, HoldNumerators}
 use Rattle.par2_transform.proofs.Chirps.{hankel_sum}
+use Rattle.par2_transform.proofs.CombinationLaws.{combined_same}
 use Rattle.par2_transform.proofs.OutputLaws.{power_sum_plain}
 use Rattle.par2_transform.proofs.Subspaces.{point_number-lt, point_of_number}
 use Rattle.par2_transform.proofs.Sums.{field_sum_swap, field_sum_linear}
@@ -128,16 +131,28 @@ pub numerator-lt : (sequence : List ℕ) (sources : List (List ℕ)) (p t : ℕ)
 numerator-lt sequence sources p t bytes fit =
     field_sum-lt (length sequence) (λ s. mul (get_or sequence (s + t) 0) (words_at sources p s)) (λ s. product-lt (get_or sequence (s + t) 0) (words_at sources p s) (fit (s + t)) (words_at-lt sources p bytes s))
 
--- ---- values at points
+-- ---- combinations, and their values at points
 
-pub values_of : (next : List ℕ) (k coset n : ℕ) (sums old mid new : Grid) → n ≤ 2 ^ k → old.levels ≡ k → HaveFirst n (column sums) old mid
-    → EachColumn (AreListedValues (slice_index next) mid.levels coset) mid new → AreValuesOf next k coset n sums old new
-values_of next k coset n sums old mid new fits levels have values = record {
+pub combinations_of : (k n : ℕ) (sums old mid new : Grid) → n ≤ 2 ^ k → old.levels ≡ k → HaveFirst n (column sums) old mid → EachColumn (IsCombination mid.levels) mid new → AreCombinations k n sums old new
+combinations_of k n sums old mid new fits levels have combinations = record {
+  levels = combinations.levels ∙ have.levels;
+  words = combinations.words ∙ have.words;
+  each = λ c x low hx.
+      at_k.columns c (omega (arith, low, have.words)) x hx
+      ∙ short_value n k (column mid c) (column sums c) x fits (λ m h. have.first c m low h) (λ m h. have.none c m h);
+}
+  where
+    at_k : EachColumn (IsCombination k) mid new
+    at_k = subst (λ m. EachColumn (IsCombination m) mid new) (have.levels ∙ levels) combinations
+
+pub values_of : (next : List ℕ) (k coset : ℕ) (combinations old mid new : Grid) → old.levels ≡ k → HaveFirst (2 ^ k) (column combinations) old mid
+    → EachColumn (AreListedValues (slice_index next) mid.levels coset) mid new → AreValuesOf next k coset combinations old new
+values_of next k coset combinations old mid new levels have values = record {
   levels = values.levels ∙ have.levels;
   words = values.words ∙ have.words;
   each = λ c u low here listed.
       at_k.columns c (omega (arith, low, have.words)) u here listed
-      ∙ short_value n k (column mid c) (column sums c) (point (coset * 2 ^ k + u)) fits (λ m h. have.first c m low h) (λ m h. have.none c m h);
+      ∙ combined_same k (column mid c) (column combinations c) (point (coset * 2 ^ k + u)) (λ m h. have.first c m low h);
 }
   where
     at_k : EachColumn (AreListedValues (slice_index next) k coset) mid new
@@ -163,18 +178,17 @@ by_numerator n b x h w hb hx hh hw =
     step a v p ha hv hp = product_assoc a v p ha hv hp ∙ ap (mul a) (product_comm v p hv hp) ∙ sym (product_assoc a p v ha hp hv)
 
 -- the addition of a point's value to its output
-pub given_is : (sequence points factors numbers next : List ℕ) (sources : List (List ℕ)) (k coset at : ℕ) (sums old rows : Grid)
+pub given_is : (sequence points factors numbers next : List ℕ) (sources : List (List ℕ)) (k coset at : ℕ) (combinations old rows : Grid)
     → AreByteLists sources → GivesElements (slice_index sequence) → GivesElements (slice_index points) → GivesElements (slice_index factors) → AreNumbered points numbers next
-    → AreValuesOf next k coset (length sequence) sums old rows → sums.words ≡ old.words
-    → ((c t : ℕ) → c < sums.words → t < length sequence → column sums c t ≡ numerator sequence (words_at sources (at + c)) t)
+    → AreValuesOf next k coset combinations old rows → combinations.words ≡ old.words → HoldNumerators k sequence sources at combinations
     → (j p : ℕ) → j < length points → at ≤ p → p < at + old.words → coset * 2 ^ k ≤ get_or numbers j 0 → get_or numbers j 0 < coset * 2 ^ k + 2 ^ k
     → mul (get_or factors j 0) (column rows (p - at) (get_or numbers j 0 - coset * 2 ^ k)) ≡ quotient_sum sequence points factors (words_at sources p) j
-given_is sequence points factors numbers next sources k coset at sums old rows bytes sequence_fit points_fit factors_fit numbered values same numerators j p low from_at within_words first last =
+given_is sequence points factors numbers next sources k coset at combinations old rows bytes sequence_fit points_fit factors_fit numbered values same numerators j p low from_at within_words first last =
     ap (mul b)
     (values.each c u (omega (arith, from_at, within_words)) (omega (arith, first, last)) (subst (IsListed (slice_index next)) (sym number_is) (numbered.listed j low))
-    ∙ ap (value n (column sums c)) (ap point number_is ∙ numbered.points_are j low)
-    ∙ field_sum_same n (λ t. mul (column sums c t) (pow x t)) (λ t. mul (numerator sequence w t) (pow x t))
-    (λ t h. ap (λ v. mul v (pow x t)) (numerators c t (omega (arith, from_at, within_words, same)) h ∙ ap (λ q. numerator sequence (words_at sources q) t) place)))
+    ∙ ap (combined k (column combinations c)) (ap point number_is ∙ numbered.points_are j low)
+    ∙ numerators c x (omega (arith, from_at, within_words, same)) (points_fit j)
+    ∙ ap (λ q. value n (numerator sequence (words_at sources q)) x) place)
     ∙ by_numerator n b x (slice_index sequence) w (factors_fit j) (points_fit j) sequence_fit (words_at-lt sources p bytes)
   where
     n : ℕ

@@ -3,6 +3,7 @@ pub mod PowerSums
 pub mod Evaluations
 pub mod Levels
 pub mod Cosets
+pub mod Combinations
 pub mod Chirps
 pub mod Transforms
 pub mod Grids

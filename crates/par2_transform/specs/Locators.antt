@@ -8,6 +8,7 @@ use Rattle.par2_spec.specs.Sums.{field_sum, GivesElements}
 use Rattle.par2_transform.specs.Adding.{within}
 use Rattle.par2_transform.specs.Chirps.{AreWeights}
 use Rattle.par2_transform.specs.Columns.{words_at}
+use Rattle.par2_transform.specs.Combinations.{combined}
 use Rattle.par2_transform.specs.Cosets.{IsListed}
 use Rattle.par2_transform.specs.Evaluations.{value, from}
 use Rattle.par2_transform.specs.Grids.{Grid, column}
@@ -60,17 +61,22 @@ pub record AreNumerators (n : ℕ) (sequence : List ℕ) (sources : List (List �
   pub words : new.words ≡ old.words
   pub each : (c t : ℕ) → c < old.words → t < n → column new c t ≡ numerator sequence (words_at sources (at + c)) t
 
--- the first rows are the coefficients of the numerators over the sources' words from `at` on (as AreNumerators, of the
--- rows alone)
-abbrev pub HoldNumerators : List ℕ → List (List ℕ) → ℕ → Grid → Type 0
-HoldNumerators sequence sources at sums =
-    (c t : ℕ) → c < sums.words → t < length sequence → column sums c t ≡ numerator sequence (words_at sources (at + c)) t
-
--- the rows have the values, at the listed points of a coset, of the polynomials whose coefficients are the first n rows
-pub record AreValuesOf (next : List ℕ) (k coset n : ℕ) (sums old new : Grid) : Type 0 where
+-- the rows are combinations, each the polynomial whose coefficients are the first n rows of the sums
+pub record AreCombinations (k n : ℕ) (sums old new : Grid) : Type 0 where
   pub levels : new.levels ≡ old.levels
   pub words : new.words ≡ old.words
-  pub each : (c u : ℕ) → c < old.words → u < 2 ^ k → IsListed (slice_index next) (coset * 2 ^ k + u) → column new c u ≡ value n (column sums c) (point (coset * 2 ^ k + u))
+  pub each : (c x : ℕ) → c < old.words → x < 2 ^ 16 → combined k (column new c) x ≡ value n (column sums c) x
+
+-- the combinations are the numerators over the sources' words from `at` on
+abbrev pub HoldNumerators : ℕ → List ℕ → List (List ℕ) → ℕ → Grid → Type 0
+HoldNumerators k sequence sources at combinations =
+    (c x : ℕ) → c < combinations.words → x < 2 ^ 16 → combined k (column combinations c) x ≡ value (length sequence) (numerator sequence (words_at sources (at + c))) x
+
+-- the rows have the values of the combinations at the listed points of a coset
+pub record AreValuesOf (next : List ℕ) (k coset : ℕ) (combinations old new : Grid) : Type 0 where
+  pub levels : new.levels ≡ old.levels
+  pub words : new.words ≡ old.words
+  pub each : (c u : ℕ) → c < old.words → u < 2 ^ k → IsListed (slice_index next) (coset * 2 ^ k + u) → column new c u ≡ combined k (column combinations c) (point (coset * 2 ^ k + u))
 
 -- x if point j is in the coset, and 0 otherwise
 abbrev pub in_coset : List ℕ → ℕ → ℕ → ℕ → ℕ → ℕ

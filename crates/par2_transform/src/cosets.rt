@@ -1,6 +1,7 @@
-//! The additive FFT pruned to some points of a coset: runs that contain none of these points are not split. The locator
-//! lists the numbers of its points once (`list`), and then evaluates at those of each coset (`values_in_coset`). A run
-//! of level i is the `2 ^ i` rows of a coset of subspace i.
+//! The additive FFT of combinations of products of subspace polynomials (`to_combinations` in `levels`), pruned to some
+//! points of a coset: runs that contain none of these points are not split. The locator lists the numbers of its points
+//! once (`list`), and then evaluates at those of each coset (`values_in_coset`). A run of level i is the `2 ^ i` rows of
+//! a coset of subspace i.
 
 ghost use Rattle.std.specs.Prelude.{◌≡◌, ℕ, ◌+◌, ◌-◌, ◌*◌, ◌^◌, ◌<◌, ◌≤◌, suc, length, slice_index, IfOk};
 ghost use Rattle.par2_transform.specs.Cosets.{AreListedValues, IsListed, IsListedLevel, IsListedSplit, run_in};
@@ -8,7 +9,7 @@ ghost use Rattle.par2_transform.specs.Grids.{EachColumn};
 ghost use Rattle.par2_transform.specs.LevelSteps.{OnElements, OneRun};
 
 use crate::basis::point;
-use crate::levels::split;
+use crate::levels::split_combination;
 use crate::rows::Rows;
 use par2_gf16::Gf;
 use std::alloc::{AllocError, Global};
@@ -77,7 +78,7 @@ fn split_listed(gf: &Gf, rows: &mut Rows, next: &[u32], coset: usize, i: u32, q:
     let size = 2usize << i;
     let number = (coset << (rows.levels() - i - 1)) + q;
     if (next[number * size] as usize) < number * size + size {
-        split(gf, rows, i, q as u16, point(2 * number as u16));
+        split_combination(gf, rows, i, q as u16, point(2 * number as u16));
     }
 }
 
@@ -96,8 +97,8 @@ fn split_listed_level(gf: &Gf, rows: &mut Rows, next: &[u32], coset: usize, i: u
     }
 }
 
-/// Replaces each column of coefficients by the values of the polynomial at the listed points of a coset. The other rows
-/// have no meaning afterwards. The field has `2 ^ (16 - levels)` cosets of `2 ^ levels` points.
+/// Replaces each column of coefficients of a combination (`to_combinations`) by its values at the listed points of a
+/// coset. The other rows have no meaning afterwards. The field has `2 ^ (16 - levels)` cosets of `2 ^ levels` points.
 pub(crate) fn values_in_coset(gf: &Gf, rows: &mut Rows, next: &[u32], coset: usize)
     requires few { rows.old.levels ≤ 16 }
     requires coset { coset < 2 ^ (16 - rows.old.levels) }

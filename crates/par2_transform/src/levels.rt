@@ -7,6 +7,7 @@ ghost use Rattle.std.specs.Prelude.{◌<◌, ◌≤◌, ◌+◌, ◌-◌, ◌*�
 ghost use Rattle.par2_spec.specs.Field.{mul};
 ghost use Rattle.par2_transform.specs.Subspaces.{point};
 ghost use Rattle.par2_transform.specs.PowerSums.{ArePowerSums, IsMerged};
+ghost use Rattle.par2_transform.specs.Combinations.{IsCombination, IsHalved, IsHalvedLevel, IsSplitCombination};
 ghost use Rattle.par2_transform.specs.Evaluations.{AreValues, IsSplit};
 ghost use Rattle.par2_transform.specs.Levels.{IsMergedLevel, IsSplitLevel};
 ghost use Rattle.par2_transform.specs.Grids.{EachColumn};
@@ -85,6 +86,58 @@ pub(crate) fn split(gf: &Gf, rows: &mut Rows, i: u32, q: u16, c: u16)
     let half = 1usize << i;
     let start = q as usize * 2 * half;
     divide(gf, rows, i, start, c);
+    rows.add_rows(start, start + half, half);
+}
+
+/// Replaces each column of coefficients by those of the same polynomial as a combination of products of subspace
+/// polynomials (Lin, Chung and Han 2014): divides all runs, level by level. Then the butterflies at the points of any
+/// coset divide no more.
+pub(crate) fn to_combinations(gf: &Gf, rows: &mut Rows)
+    ensures { EachColumn (IsCombination rows.old.levels) rows.old rows.new }
+{
+    for i in (0..rows.levels()).rev() {
+        halve_level(gf, rows, i);
+        rows.fit();
+    }
+    rows.fit();
+}
+
+// Divides each run of `2 ^ (i + 1)` rows by subspace polynomial i.
+fn halve_level(gf: &Gf, rows: &mut Rows, i: u32)
+    requires { i < rows.old.levels }
+    ensures { EachColumn (IsHalvedLevel rows.old.levels i) rows.old rows.new }
+{
+    rows.fit();
+    for q in 0..1u16 << (rows.levels() - i - 1) {
+        halve(gf, rows, i, q);
+    }
+}
+
+// Divides run q of level i + 1 by subspace polynomial i.
+fn halve(gf: &Gf, rows: &mut Rows, i: u32, q: u16)
+    requires few { rows.old.levels ≤ 16 }
+    requires level { i < rows.old.levels }
+    requires pair { q < 2 ^ (rows.old.levels - suc i) }
+    ensures { EachColumn (OnElements (OneRun (q * 2 ^ suc i) (2 ^ suc i) (IsHalved i)))
+        rows.old rows.new }
+{
+    let half = 1usize << i;
+    let start = q as usize * 2 * half;
+    divide(gf, rows, i, start, 0);
+}
+
+/// Splits run q of level i + 1 of combinations into two of level i that agree with it on one half of the coset each. c is
+/// the value of subspace polynomial i on the first half.
+pub(crate) fn split_combination(gf: &Gf, rows: &mut Rows, i: u32, q: u16, c: u16)
+    requires few { rows.old.levels ≤ 16 }
+    requires level { i < rows.old.levels }
+    requires pair { q < 2 ^ (rows.old.levels - suc i) }
+    ensures { EachColumn (OnElements (OneRun (q * 2 ^ suc i) (2 ^ suc i) (IsSplitCombination i c)))
+        rows.old rows.new }
+{
+    let half = 1usize << i;
+    let start = q as usize * 2 * half;
+    add_scaled(gf, rows, c, start + half, start, half);
     rows.add_rows(start, start + half, half);
 }
 

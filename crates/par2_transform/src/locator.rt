@@ -11,10 +11,11 @@ ghost use Rattle.par2_transform.specs.Adding.{within, AddsAt, AddsToEach, HaveWo
 ghost use Rattle.par2_transform.specs.Columns.{byte_lists, words_at, AreByteLists};
 ghost use Rattle.par2_transform.specs.Grids.{column};
 ghost use Rattle.par2_transform.specs.Subspaces.{point_number};
-ghost use Rattle.par2_transform.specs.Locators.{AreFit, AreNumbered, AreValuesOf, HaveFirst, HoldNumerators, in_coset, quotient_sum};
+ghost use Rattle.par2_transform.specs.Locators.{AreCombinations, AreFit, AreNumbered, AreValuesOf, HaveFirst, HoldNumerators, in_coset, quotient_sum};
 
 use crate::basis::point_number;
 use crate::cosets::{list, values_in_coset};
+use crate::levels::to_combinations;
 use crate::numerators::{Numerators, word_or_zero};
 use crate::outputs::{Places, add_to_output};
 use crate::plan::columns_for;
@@ -94,17 +95,29 @@ impl<'a> Locator<'a> {
         })
     }
 
-    // Replaces the rows by the values of the numerators, whose coefficients are the first rows of `sums`, at the points
-    // in the coset with this number.
-    fn evaluate(&self, coset: usize, sums: &Rows, rows: &mut Rows)
-        requires coset { coset < 2 ^ (16 - self.now.numerators.levels) }
+    // Replaces the rows by the numerators, whose coefficients are the first rows of `sums`, as combinations of products of
+    // subspace polynomials.
+    fn combine(&self, sums: &Rows, rows: &mut Rows)
         requires rows { rows.old.levels ≡ self.now.numerators.levels }
         requires sums { sums.now.levels ≡ self.now.numerators.levels }
         requires words { sums.now.words ≡ rows.old.words }
-        ensures { AreValuesOf self.now.next.items self.now.numerators.levels coset
+        ensures { AreCombinations self.now.numerators.levels
             (length self.now.numerators.sequence.items) sums.now rows.old rows.new }
     {
         copy(self.gf, sums, self.numerators.sequence.len(), rows);
+        to_combinations(self.gf, rows);
+    }
+
+    // Replaces the rows by the values of the combinations at the points in the coset with this number.
+    fn evaluate(&self, coset: usize, combinations: &Rows, rows: &mut Rows)
+        requires coset { coset < 2 ^ (16 - self.now.numerators.levels) }
+        requires rows { rows.old.levels ≡ self.now.numerators.levels }
+        requires combinations { combinations.now.levels ≡ self.now.numerators.levels }
+        requires words { combinations.now.words ≡ rows.old.words }
+        ensures { AreValuesOf self.now.next.items self.now.numerators.levels coset combinations.now
+            rows.old rows.new }
+    {
+        copy(self.gf, combinations, 1 << self.numerators.levels, rows);
         values_in_coset(self.gf, rows, &self.next, coset);
     }
 
@@ -157,7 +170,7 @@ impl<'a> Locator<'a> {
         coset: usize,
         from: usize,
         to: usize,
-        sums: &Rows,
+        combinations: &Rows,
         rows: &mut Rows,
         buffers: &mut [Vec<u8>],
         outputs: &Places,
@@ -166,12 +179,12 @@ impl<'a> Locator<'a> {
         requires coset { coset < 2 ^ (16 - self.now.numerators.levels) }
         requires count { length outputs.now.places.now ≡ length self.now.points.items }
         requires rows { rows.old.levels ≡ self.now.numerators.levels }
-        requires sums { sums.now.levels ≡ self.now.numerators.levels }
-        requires words { sums.now.words ≡ rows.old.words }
-        // `sums` holds the coefficients of the numerators over the sources.
+        requires combinations { combinations.now.levels ≡ self.now.numerators.levels }
+        requires words { combinations.now.words ≡ rows.old.words }
+        // The combinations are the numerators over the sources.
         requires bytes { AreByteLists (byte_lists sources.now) }
-        requires numerators { HoldNumerators self.now.numerators.sequence.items (byte_lists sources.now) from
-            sums.now }
+        requires numerators { HoldNumerators self.now.numerators.levels
+            self.now.numerators.sequence.items (byte_lists sources.now) from combinations.now }
         // These columns fit the rows and lie inside the outputs, which lie inside the buffers.
         requires order { from ≤ to }
         requires columns { to ≤ from + rows.old.words }
@@ -187,7 +200,7 @@ impl<'a> Locator<'a> {
             (words_at (byte_lists sources.now) p) t)))
             (lists_of buffers.old) (lists_of buffers.new) }
     {
-        self.evaluate(coset, sums, rows);
+        self.evaluate(coset, combinations, rows);
         for j in 0..outputs.len() {
             self.add_point(coset, j, from, to, rows, buffers, outputs);
         }
@@ -228,8 +241,9 @@ impl<'a> Locator<'a> {
             (lists_of buffers.old) (lists_of buffers.new) }
     {
         self.numerators.sum(sources, from, rows, sums);
+        self.combine(sums, rows);
         for coset in 0..1usize << (16 - self.numerators.levels) {
-            self.add_coset(sources, coset, from, to, sums, rows, buffers, outputs);
+            self.add_coset(sources, coset, from, to, rows, sums, buffers, outputs);
         }
     }
 

@@ -1,4 +1,5 @@
-use Rattle.par2_transform.proofs.Common.{ℕ, suc, ◌+◌, ◌-◌, ◌*◌, ◌%◌, ◌^◌, ◌<◌, ◌≤◌, ◌≡◌, ap, ap₂, subst, ◌∙◌, arith, slice_index, point, from, IsSplit, OnElements, OneRun, IsListedSplit, run_in}
+use Rattle.par2_transform.proofs.Common.{ℕ, suc, ◌+◌, ◌-◌, ◌*◌, ◌%◌, ◌^◌, ◌<◌, ◌≤◌, ◌≡◌, ap, ap₂, subst, ◌∙◌, arith, slice_index, point, from, OnElements, OneRun, IsListedSplit, run_in}
+use Rattle.par2_transform.specs.Combinations.{IsSplitCombination}
 use Rattle.par2_transform.proofs.StepLaws.{same_outside, power_below}
 use Rattle.par2_transform.proofs.GridLaws.{each_start, each_so}
 use Rattle.par2_transform.proofs.CosetLaws.{number_is, size_is, run_fits, double-lt}
@@ -50,10 +51,10 @@ returns-then-next-number c =
     let place = c.args.q * 2 ^ suc i in
     let n = run_in c.args.rows.now.levels c.args.coset (suc i) c.args.q in
     let point_is : c.point.result ≡ point (2 * n) = c.point.ensures ∙ ap (λ m. point (2 * m)) (number at) in
-    each_so (OnElements (OneRun place (2 ^ suc i) (IsSplit i c.point.result))) (OnElements (OneRun place (2 ^ suc i) (IsListedSplit (slice_index c.args.next.now) i n))) c.args.rows.now c.split.new.rows c.split.ensures
+    each_so (OnElements (OneRun place (2 ^ suc i) (IsSplitCombination i c.point.result))) (OnElements (OneRun place (2 ^ suc i) (IsListedSplit (slice_index c.args.next.now) i n))) c.args.rows.now c.split_combination.new.rows c.split_combination.ensures
     (λ f g first fit.
     let one = first fit in
-    (one.0, record { others = one.1.others; run = λ u low listed. subst (λ v. IsSplit i v (from place f) (from place g)) point_is one.1.run }))
+    (one.0, record { others = one.1.others; run = λ u low listed. subst (λ v. IsSplitCombination i v (from place f) (from place g)) point_is one.1.run }))
 
 pub returns-else-next-number : goal.returns-else-next-number
 returns-else-next-number c =

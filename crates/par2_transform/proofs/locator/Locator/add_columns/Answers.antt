@@ -1,4 +1,4 @@
-use Rattle.par2_transform.proofs.Common.{◌+◌, ◌-◌, ◌^◌, ◌<◌, ◌≤◌, ◌≡◌, ◌∙◌, sym, subst, arith, lists_of, byte_lists, words_at, quotient_sum}
+use Rattle.par2_transform.proofs.Common.{◌+◌, ◌-◌, ◌^◌, ◌<◌, ◌≡◌, ◌∙◌, ap, sym, subst, arith, length, mul, pow, column, field_sum_same, numerator, lists_of, byte_lists, words_at, quotient_sum}
 use Rattle.par2_transform.proofs.AddingLaws.{still_within}
 use Rattle.par2_transform.proofs.LocatorLaws.{shifted_most, no_coset, next_coset, all_cosets}
 use Rattle.par2_transform.proofs.locator.Locator.add_columns.Goals as goal
@@ -7,8 +7,8 @@ pub loop-coset-init : goal.loop-coset-init
 loop-coset-init c =
     let self = c.args.self.now in
     record {
-      levels = c.sum.ensures.levels;
-      words = c.sum.ensures.words;
+      levels = c.sum.ensures.numerators.levels;
+      words = c.sum.ensures.numerators.words;
       added = no_coset c.args.outputs.now.places.now c.args.outputs.now.words self.numbers.items self.numerators.levels c.args.from c.args.to (λ t p. quotient_sum self.numerators.sequence.items self.points.items self.factors.items (words_at (byte_lists c.args.sources.now) p) t) (lists_of c.args.buffers.now);
     }
 
@@ -17,16 +17,22 @@ add_coset-requires c =
     let self = c.args.self.now in
     let l = c.loop-coset in
     let numerators = c.sum.ensures.numerators in
+    let combinations = c.combine.ensures in
+    let n = length self.numerators.sequence.items in
     record {
       coset = subst (λ n. l.coset < n) (shifted_most (16 - self.numerators.levels) (omega arith)) c.loop-coset-test.true;
       count = c.requires.count;
-      rows = l.invariant.levels ∙ c.requires.rows;
-      sums = numerators.levels ∙ c.requires.sums;
-      words = numerators.words ∙ sym c.requires.words ∙ sym l.invariant.words;
+      rows = l.invariant.levels ∙ c.requires.sums;
+      combinations = combinations.levels ∙ c.sum.ensures.levels ∙ c.requires.rows;
+      words = combinations.words ∙ c.sum.ensures.words ∙ c.requires.words ∙ sym l.invariant.words;
       bytes = c.sum.ensures.bytes;
-      numerators = λ k t low h. numerators.each k t (subst (λ n. k < n) numerators.words low) (omega (arith, h, self.whole));
+      numerators = λ k x low hx.
+          let here : k < c.args.sums.now.words = omega (arith, low, combinations.words, c.sum.ensures.words, c.requires.words) in
+          combinations.each k x (omega (arith, low, combinations.words)) hx
+          ∙ field_sum_same n (λ t. mul (column c.sum.new.sums k t) (pow x t)) (λ t. mul (numerator self.numerators.sequence.items (words_at (byte_lists c.args.sources.now) (c.args.from + k)) t) (pow x t))
+          (λ t h. ap (λ v. mul v (pow x t)) (numerators.each k t here (omega (arith, h, self.whole))));
       order = c.requires.order;
-      columns = subst (λ n. c.args.to ≤ c.args.from + n) (sym l.invariant.words) c.requires.columns;
+      columns = omega (arith, c.requires.columns, c.requires.words, l.invariant.words);
       inside = c.requires.inside;
       room = still_within c.args.outputs.now.places.now c.args.outputs.now.words c.args.outputs.now.words _ (lists_of c.args.buffers.now) (lists_of l.buffers) l.invariant.added c.requires.room;
     }
@@ -43,16 +49,16 @@ loop-coset-preserved c =
     }
 
 pub returns-clause-rows_levels : goal.returns-clause-rows_levels
-returns-clause-rows_levels c = c.loop-coset.invariant.levels
+returns-clause-rows_levels c = c.combine.ensures.levels ∙ c.sum.ensures.levels
 
 pub returns-clause-rows_words : goal.returns-clause-rows_words
-returns-clause-rows_words c = c.loop-coset.invariant.words
+returns-clause-rows_words c = c.combine.ensures.words ∙ c.sum.ensures.words
 
 pub returns-clause-sums_levels : goal.returns-clause-sums_levels
-returns-clause-sums_levels c = c.sum.ensures.numerators.levels
+returns-clause-sums_levels c = c.loop-coset.invariant.levels
 
 pub returns-clause-sums_words : goal.returns-clause-sums_words
-returns-clause-sums_words c = c.sum.ensures.numerators.words
+returns-clause-sums_words c = c.loop-coset.invariant.words
 
 pub returns-clause-added : goal.returns-clause-added
 returns-clause-added c =

@@ -4,7 +4,7 @@ use Rattle.par2_transform.proofs.locator.Locator.add_columns.Given as goal
 
 abbrev pub invariant-loop-coset : goal.invariant-loop-coset
 invariant-loop-coset l = record {
-  levels : l.rows.levels ≡ l.fn.rows.levels;
-  words : l.rows.words ≡ l.fn.rows.words;
+  levels : l.sums.levels ≡ l.fn.sums.levels;
+  words : l.sums.words ≡ l.fn.sums.words;
   added : CosetsAdded l.outputs.places.now l.outputs.words l.self.numbers.items l.self.numerators.levels l.from l.to (λ t p. quotient_sum l.self.numerators.sequence.items l.self.points.items l.self.factors.items (words_at (byte_lists l.sources) p) t) l.coset (lists_of l.fn.buffers) (lists_of l.buffers);
 }

@@ -33,7 +33,7 @@ loop-j-preserved c =
     (λ j p. mul (get_or self.factors.items j 0) (column rows (p - c.args.from) (get_or self.numbers.items j 0 - c.args.coset * 2 ^ self.numerators.levels)))
     (lists_of c.args.buffers.now) (lists_of c.loop-j.buffers) (lists_of c.add_point.new.buffers) c.loop-j.invariant c.add_point.ensures
     (λ p from_here high first last.
-    given_is self.numerators.sequence.items self.points.items self.factors.items self.numbers.items self.next.items sources self.numerators.levels c.args.coset c.args.from c.args.sums.now c.args.rows.now rows
+    given_is self.numerators.sequence.items self.points.items self.factors.items self.numbers.items self.next.items sources self.numerators.levels c.args.coset c.args.from c.args.combinations.now c.args.rows.now rows
     c.requires.bytes self.numerators.elements self.elements.points_fit self.elements.factors_fit self.numbered c.evaluate.ensures c.requires.words c.requires.numerators
     c.loop-j.j p (omega (arith, low, c.requires.count)) from_here (omega (arith, high, c.requires.columns)) first last)
 

@@ -1,0 +1,32 @@
+use Rattle.par2_transform.proofs.Common.{suc, ◌+◌, ◌*◌, ◌%◌, ◌^◌, ◌≡◌, ap, ◌∙◌, arith, mul, OnElements, OneRun, RunAdded, RunAddedBy}
+use Rattle.par2_transform.specs.Combinations.{IsSplitCombination}
+use Rattle.par2_transform.proofs.StepLaws.{rows_within, shifted, pair_places, run_starts, run_at, run_by_at}
+use Rattle.par2_transform.proofs.CombinationLaws.{combination_runs}
+use Rattle.par2_transform.proofs.GridLaws.{each_then}
+use Rattle.par2_transform.proofs.levels.split_combination.Goals as goal
+
+pub returns : goal.returns
+returns c =
+    let i = c.args.i in
+    let q = c.args.q in
+    let shift = 1 * 2 ^ i % 18446744073709551616 in
+    let half : shift ≡ 2 ^ i = shifted i (omega arith) in
+    let start = q * 2 ^ suc i in
+    let is : q * 2 * shift ≡ start = ap (λ n. q * 2 * n) half ∙ run_starts i q in
+    each_then (RunAddedBy (mul c.args.c) (q * 2 * shift + shift) (q * 2 * shift) shift) (RunAdded (q * 2 * shift) (q * 2 * shift + shift) shift) (OnElements (OneRun start (2 ^ suc i) (IsSplitCombination i c.args.c))) c.args.rows.now c.add_scaled.new.rows c.add_rows.new.self
+    c.add_scaled.ensures c.add_rows.ensures
+    (λ f g h first second. combination_runs i c.args.c start f g h c.ranges.c.fits
+    (run_by_at (mul c.args.c) (q * 2 * shift + shift) (start + 2 ^ i) (q * 2 * shift) start shift (2 ^ i) f g (omega arith) is half first)
+    (run_at (q * 2 * shift) start (q * 2 * shift + shift) (start + 2 ^ i) shift (2 ^ i) g h is (omega arith) half second))
+
+pub add_scaled-requires-clause-from : goal.add_scaled-requires-clause-from
+add_scaled-requires-clause-from c = omega (arith, pair_places c.args.rows.now.levels c.args.i c.args.q (omega arith) c.requires.level c.requires.pair)
+
+pub add_scaled-requires-clause-to : goal.add_scaled-requires-clause-to
+add_scaled-requires-clause-to c = omega (arith, pair_places c.args.rows.now.levels c.args.i c.args.q (omega arith) c.requires.level c.requires.pair)
+
+pub add_rows-requires-clause-from : goal.add_rows-requires-clause-from
+add_rows-requires-clause-from c = rows_within c.add_scaled.ensures.levels (omega (arith, pair_places c.args.rows.now.levels c.args.i c.args.q (omega arith) c.requires.level c.requires.pair))
+
+pub add_rows-requires-clause-to : goal.add_rows-requires-clause-to
+add_rows-requires-clause-to c = rows_within c.add_scaled.ensures.levels (omega (arith, pair_places c.args.rows.now.levels c.args.i c.args.q (omega arith) c.requires.level c.requires.pair))
