@@ -123,7 +123,7 @@ def goals_of(path, function, said):
     impl, name, first, last = function
     # The answers of a method are below its type, which may be another file's.
     place = f"(.*/)?{impl}[^/]*" if impl else re.sub(r"^src|(/lib|/main)?\.rt$", "", path).removeprefix("/")
-    answers = re.compile(rf"proofs/{place + '/' * bool(place)}{name}/")
+    answers = re.compile(rf"proofs/{place + '/' * bool(place)}\+?{name}/")
     goals = []
     for line in said.splitlines():
         at = PLACE.match(line)

@@ -1,6 +1,9 @@
 -- A block of words, in bytes and in lanes.
-use Rattle.par2_gf16.proofs.Common.{ℕ, zero, suc, ◌+◌, ◌-◌, ◌*◌, ◌/◌, ◌%◌, ◌^◌, ◌<◌, ◌≤◌, ◌≡◌, refl, sym, ap, ap₂, ◌∙◌, subst, arith, List, [], ◌∷◌, ◌++◌, map, flat_map, length, get_or, eqb, ◌&&◌, inl, inr, true, w8, Fits, bit_and, replicate, cases_lt, eqb-true, and_parts, and_mask, get_or-map, length-map, get_or_append_left, get_or-append_right, ext_get_or, Each1-get_or, Each1-from_get_or, below_from_Fits, length-chunk, get_or_wider, chunk-fits, zip2_splat, get_or-chunk, get_or-put_chunk_below, get_or-put_chunk_at, get_or-put_chunk_above, length-put_chunk, get_or-zip2, length-zip2, get_or-swz_l_below, length-swz_l, swz_l, SwzOk, SwzOk-from_below, range_with_len, bit_xor, mul, word, tested, tested_at, product-lt, AddsWithin, IsTable, IsInterleaving, AddsLanes}
+use Rattle.par2_gf16.proofs.Common.{ℕ, zero, suc, ◌+◌, ◌-◌, ◌*◌, ◌/◌, ◌%◌, ◌^◌, ◌<◌, ◌≤◌, ◌≡◌, refl, sym, ap, ap₂, ◌∙◌, subst, arith, List, [], ◌∷◌, ◌++◌, map, flat_map, length, get_or, eqb, ◌&&◌, inl, inr, true, w8, Fits, bit_and, replicate, cases_lt, eqb-true, and_parts, and_mask, get_or-map, length-map, get_or_append_left, get_or-append_right, ext_get_or, Each1-get_or, Each1-from_get_or, below_from_Fits, length-chunk, get_or_wider, chunk-fits, zip2_splat, get_or-chunk, get_or-put_chunk_below, get_or-put_chunk_at, get_or-put_chunk_above, length-put_chunk, get_or-zip2, length-zip2, get_or-swz_l_below, length-swz_l, swz_l, SwzOk, SwzOk-from_below, range_with_len, bit_xor, mul, word, tested, tested_at, product-lt, AddsWithin, IsTable, IsInterleaving, AddsLanes, lane_of}
 use Rattle.std.proofs.lemmas.List.{length-append}
+use Rattle.std.proofs.lemmas.List.FromFn.{get_or-map-range_with_len, length-map-range_with_len}
+use Rattle.std.proofs.lemmas.Bool.{ltb-true}
+use Rattle.std.proofs.Math.Dec.{ltb}
 use lib.Lanes.{number_l, digits_l, zip2, Each1, chunk, put_chunk, pick_l}
 use Rattle.par2_gf16.proofs.LaneLaws.{map_all}
 use Rattle.par2_gf16.proofs.WordLaws.{word_xor}
@@ -26,10 +29,35 @@ block_word n block j long small h =
     (get_or-chunk (2 * j) 2 block 0 0 (omega arith) ∙ ap (λ i. get_or block i 0) (let e : 2 * j + 0 ≡ 2 * j = omega arith in e))
     (get_or-chunk (2 * j) 2 block 1 0 (omega arith))
 
+-- ---- the lanes of words
+
+abbrev pub lanes : List ℕ
+lanes = map lane_of (range_with_len 0 32)
+
+test_lanes : tested (λ j. eqb (lane_of (lane_of j)) j && ltb (lane_of j) 32) 32 ≡ true
+test_lanes = refl
+
+pub lane : (j : ℕ) → j < 32 → (lane_of (lane_of j) ≡ j) × (lane_of j < 32)
+lane j h =
+    let parts = and_parts (eqb (lane_of (lane_of j)) j) (ltb (lane_of j) 32) (tested_at (λ i. eqb (lane_of (lane_of i)) i && ltb (lane_of i) 32) 32 j test_lanes h) in
+    (eqb-true _ _ parts.0, ltb-true _ _ parts.1)
+
+abbrev pub exchange : List ℕ → List ℕ
+exchange v = map (λ j. get_or v (lane_of j) 0) (range_with_len 0 32)
+
+exchanged_at : (v : List ℕ) (j : ℕ) → j < 32 → get_or (exchange v) j 0 ≡ get_or v (lane_of j) 0
+exchanged_at v j h = get_or-map-range_with_len (λ k. get_or v (lane_of k) 0) 0 32 j j 0 h (omega arith)
+
+exchanged_back : (v : List ℕ) (j : ℕ) → j < 32 → get_or (exchange v) (lane_of j) 0 ≡ get_or v j 0
+exchanged_back v j h = let l = lane j h in exchanged_at v (lane_of j) l.1 ∙ ap (λ k. get_or v k 0) l.0
+
+length-exchange : (v : List ℕ) → length (exchange v) ≡ 32
+length-exchange v = length-map-range_with_len (λ j. get_or v (lane_of j) 0) 0 32
+
 pub words_split : (bytes : List ℕ) (at : ℕ) (low high : List ℕ) → at + 64 ≤ length bytes → ((i : ℕ) → Fits w8 (get_or bytes i 0))
     → low ≡ map (λ x. x % 256) (digits_l 65536 32 (number_l 256 (chunk at 64 bytes)))
     → high ≡ map (λ x. x / 256) (digits_l 65536 32 (number_l 256 (chunk at 64 bytes)))
-    → IsInterleaving low high (chunk at 64 bytes)
+    → IsInterleaving (exchange low) (exchange high) (chunk at 64 bytes)
 words_split bytes at low high room fits el eh =
     let block = chunk at 64 bytes in
     let long : length block ≡ 64 = length-chunk at 64 bytes room in
@@ -37,28 +65,28 @@ words_split bytes at low high room fits el eh =
     let words = digits_l 65536 32 (number_l 256 block) in
     let count : length words ≡ 32 = length-digits_l 65536 32 (number_l 256 block) in
     record {
-      low_count = ap length el ∙ length-map words (λ x. x % 256) ∙ count;
-      high_count = ap length eh ∙ length-map words (λ x. x / 256) ∙ count;
+      low_count = length-exchange low;
+      high_count = length-exchange high;
       lows = λ j h.
           let byte : get_or block (2 * j) 0 < 256 = Each1-get_or (λ x. x < 256) block (2 * j) 0 (omega arith) small in
-          sym (ap (λ xs. get_or xs j 0) el ∙ get_or-map (λ x. x % 256) words j 0 0 (omega arith)
+          sym (exchanged_back low j h ∙ ap (λ xs. get_or xs j 0) el ∙ get_or-map (λ x. x % 256) words j 0 0 (omega arith)
           ∙ ap (λ x. x % 256) (block_word 32 block j long small h) ∙ omega arith);
       highs = λ j h.
           let byte : get_or block (2 * j) 0 < 256 = Each1-get_or (λ x. x < 256) block (2 * j) 0 (omega arith) small in
-          sym (ap (λ xs. get_or xs j 0) eh ∙ get_or-map (λ x. x / 256) words j 0 0 (omega arith)
+          sym (exchanged_back high j h ∙ ap (λ xs. get_or xs j 0) eh ∙ get_or-map (λ x. x / 256) words j 0 0 (omega arith)
           ∙ ap (λ x. x / 256) (block_word 32 block j long small h) ∙ omega arith);
     }
 
 abbrev pub woven : List ℕ
-woven = flat_map (λ j. j ∷ (32 + j) ∷ []) (range_with_len 0 32)
+woven = flat_map (λ j. lane_of j ∷ (32 + lane_of j) ∷ []) (range_with_len 0 32)
 
-test_woven : tested (λ j. eqb (get_or woven (2 * j) 0) j && eqb (get_or woven (2 * j + 1) 0) (32 + j)) 32 ≡ true
+test_woven : tested (λ j. eqb (get_or woven (2 * j) 0) (lane_of j) && eqb (get_or woven (2 * j + 1) 0) (32 + lane_of j)) 32 ≡ true
 test_woven = refl
 
-woven_at : (j : ℕ) → j < 32 → (get_or woven (2 * j) 0 ≡ j) × (get_or woven (2 * j + 1) 0 ≡ 32 + j)
+woven_at : (j : ℕ) → j < 32 → (get_or woven (2 * j) 0 ≡ lane_of j) × (get_or woven (2 * j + 1) 0 ≡ 32 + lane_of j)
 woven_at j h =
-    let parts = and_parts (eqb (get_or woven (2 * j) 0) j) (eqb (get_or woven (2 * j + 1) 0) (32 + j))
-    (tested_at (λ i. eqb (get_or woven (2 * i) 0) i && eqb (get_or woven (2 * i + 1) 0) (32 + i)) 32 j test_woven h) in
+    let parts = and_parts (eqb (get_or woven (2 * j) 0) (lane_of j)) (eqb (get_or woven (2 * j + 1) 0) (32 + lane_of j))
+    (tested_at (λ i. eqb (get_or woven (2 * i) 0) (lane_of i) && eqb (get_or woven (2 * i + 1) 0) (32 + lane_of i)) 32 j test_woven h) in
     (eqb-true _ _ parts.0, eqb-true _ _ parts.1)
 
 pub interleaving : (low high : List ℕ) → length low ≡ 32 → length high ≡ 32 → IsInterleaving low high (pick_l 0 (low ++ high) woven)
@@ -66,10 +94,11 @@ interleaving low high ll lh = record {
   low_count = ll;
   high_count = lh;
   lows = λ j h. get_or-map (λ k. get_or (low ++ high) k 0) woven (2 * j) 0 0 (omega arith)
-      ∙ ap (λ k. get_or (low ++ high) k 0) (woven_at j h).0 ∙ get_or_append_left low high 0 j (omega (arith, ll));
+      ∙ ap (λ k. get_or (low ++ high) k 0) (woven_at j h).0
+      ∙ get_or_append_left low high 0 (lane_of j) (subst (λ n. lane_of j < n) (sym ll) (lane j h).1);
   highs = λ j h. get_or-map (λ k. get_or (low ++ high) k 0) woven (2 * j + 1) 0 0 (omega arith)
       ∙ ap (λ k. get_or (low ++ high) k 0) (woven_at j h).1
-      ∙ get_or-append_right low high 32 (32 + j) 0 ll (omega arith) ∙ ap (λ k. get_or high k 0) (let e : 32 + j - 32 ≡ j = omega arith in e);
+      ∙ get_or-append_right low high 32 (32 + lane_of j) 0 ll (omega arith) ∙ ap (λ k. get_or high k 0) (let e : 32 + lane_of j - 32 ≡ lane_of j = omega arith in e);
 }
 
 -- ---- look-ups
@@ -207,15 +236,18 @@ pub products_in_bytes : (c : ℕ) (src low high lows highs bytes : List ℕ) (n 
     → IsInterleaving lows highs bytes → AreProducts c src n 32 bytes
 products_in_bytes c src low high lows highs bytes n hc fits from el eh to = record {
   fit = λ j h. product_fits c src (n + j) hc (λ k. (fits k).fits);
-  low = λ j h. to.lows j h ∙ ap (λ xs. get_or xs j 0) el
-      ∙ get_or-zip2 (λ l h. mul c (l + 256 * h) % 256) low high j 0 0 0 (omega (arith, from.low_count)) (omega (arith, from.high_count))
+  low = λ j h. to.lows j h ∙ ap (λ xs. get_or xs (lane_of j) 0) el
+      ∙ get_or-zip2 (λ l h. mul c (l + 256 * h) % 256) low high (lane_of j) 0 0 0 (within j h from.low_count) (within j h from.high_count)
       ∙ ap (λ x. mul c x % 256) (word_is j h);
-  high = λ j h. to.highs j h ∙ ap (λ xs. get_or xs j 0) eh
-      ∙ get_or-zip2 (λ l h. mul c (l + 256 * h) / 256) low high j 0 0 0 (omega (arith, from.low_count)) (omega (arith, from.high_count))
+  high = λ j h. to.highs j h ∙ ap (λ xs. get_or xs (lane_of j) 0) eh
+      ∙ get_or-zip2 (λ l h. mul c (l + 256 * h) / 256) low high (lane_of j) 0 0 0 (within j h from.low_count) (within j h from.high_count)
       ∙ ap (λ x. mul c x / 256) (word_is j h);
 }
   where
-    word_is : (j : ℕ) → j < 32 → get_or low j 0 + 256 * get_or high j 0 ≡ word (n + j) src
+    within : (j : ℕ) {m : ℕ} → j < 32 → m ≡ 32 → lane_of j < m
+    within j h many = subst (λ k. lane_of j < k) (sym many) (lane j h).1
+
+    word_is : (j : ℕ) → j < 32 → get_or low (lane_of j) 0 + 256 * get_or high (lane_of j) 0 ≡ word (n + j) src
     word_is j h =
         ap₂ (λ x y. x + 256 * y)
         (sym (from.lows j h) ∙ get_or-chunk (2 * n) 64 src (2 * j) 0 (omega arith))

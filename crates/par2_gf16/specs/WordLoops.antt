@@ -27,12 +27,16 @@ pub record IsTable (f : ℕ → ℕ) (table : List ℕ) : Type 0 where
   pub count : length table ≡ 32
   pub each : (n : ℕ) → n < 32 → slice_index table n ≡ f (n % 16)
 
--- the bytes are those of low and of high, alternating
+-- the lane of word j of a block of thirty-two: the quarters in the middle change places
+abbrev pub lane_of : ℕ → ℕ
+lane_of j = j % 8 + 8 * (j / 8 % 2 * 2 + j / 16)
+
+-- the bytes are those of thirty-two words whose lower and higher bytes are in the lanes of low and of high
 pub record IsInterleaving (low high bytes : List ℕ) : Type 0 where
   pub low_count : length low ≡ 32
   pub high_count : length high ≡ 32
-  pub lows : (j : ℕ) → j < 32 → slice_index bytes (2 * j) ≡ slice_index low j
-  pub highs : (j : ℕ) → j < 32 → slice_index bytes (2 * j + 1) ≡ slice_index high j
+  pub lows : (j : ℕ) → j < 32 → slice_index bytes (2 * j) ≡ slice_index low (lane_of j)
+  pub highs : (j : ℕ) → j < 32 → slice_index bytes (2 * j + 1) ≡ slice_index high (lane_of j)
 
 -- to the n bytes from `at` on, the bytes of v are added
 pub record AddsLanes (old new : List ℕ) (at n : ℕ) (v : List ℕ) : Type 0 where

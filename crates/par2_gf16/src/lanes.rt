@@ -1,9 +1,10 @@
 //! Operations on vectors, lane by lane. `Factor` computes its tables and its products with them.
 
 ghost use Rattle.std.specs.Prelude.{◌≡◌, ℕ, ◌+◌, ◌*◌, ◌/◌, ◌%◌, ◌^◌, ◌++◌, ◌<◌, ◌≤◌, length, slice_index, map, take, drop, bit_xor};
+ghost use Rattle.std.specs.List.{range_with_len};
 ghost use Rattle.std.specs.Simd.Lanes.{zip2, Each1};
 ghost use Rattle.par2_spec.specs.Field.{mul};
-ghost use Rattle.par2_gf16.specs.WordLoops.{IsTable, IsInterleaving, AddsLanes};
+ghost use Rattle.par2_gf16.specs.WordLoops.{lane_of, IsTable, IsInterleaving, AddsLanes};
 
 use crate::doubling::doubled;
 use std::simd::prelude::*;
@@ -124,14 +125,29 @@ pub(crate) fn vector_at(bytes: &[u8], at: usize) -> u8x32
     u8x32::from_slice(&bytes[at..])
 }
 
-/// The lower and the higher bytes of the thirty-two words from byte `at` on.
+// The lanes with the quarters in the middle exchanged. Instructions that pack and unpack work on each half of a vector
+// by itself: for words in this order they need no instruction that moves lanes between the halves.
+#[inline(always)]
+fn exchanged(v: u8x32) -> u8x32
+    ensures { result ≡ map (λ j. slice_index v (lane_of j)) (range_with_len 0 32) }
+{
+    v.swizzle([
+        0, 1, 2, 3, 4, 5, 6, 7, 16, 17, 18, 19, 20, 21, 22, 23, 8, 9, 10, 11, 12, 13, 14, 15, 24,
+        25, 26, 27, 28, 29, 30, 31,
+    ])
+}
+
+/// The lower and the higher bytes of the thirty-two words from byte `at` on, in the lanes that `lane_of` names.
 #[inline(always)]
 pub(crate) fn words_at(bytes: &[u8], at: usize) -> (u8x32, u8x32)
     requires { at + 64 ≤ length bytes.now }
     ensures { IsInterleaving result.0 result.1 (take 64 (drop at bytes.now)) }
 {
     let words = u16x32::from_le_bytes(u8x64::from_slice(&bytes[at..]));
-    (lower_bytes(words), higher_bytes(words))
+    (
+        exchanged(lower_bytes(words)),
+        exchanged(higher_bytes(words)),
+    )
 }
 
 /// The thirty-two words with these lower and higher bytes, sixteen in each of two vectors.
@@ -139,7 +155,22 @@ pub(crate) fn words_at(bytes: &[u8], at: usize) -> (u8x32, u8x32)
 pub(crate) fn interleaved(low: u8x32, high: u8x32) -> (u8x32, u8x32)
     ensures { IsInterleaving low high (result.0 ++ result.1) }
 {
-    low.interleave(high)
+    (
+        low.shuffle(
+            high,
+            [
+                0, 32, 1, 33, 2, 34, 3, 35, 4, 36, 5, 37, 6, 38, 7, 39, 16, 48, 17, 49, 18, 50, 19,
+                51, 20, 52, 21, 53, 22, 54, 23, 55,
+            ],
+        ),
+        low.shuffle(
+            high,
+            [
+                8, 40, 9, 41, 10, 42, 11, 43, 12, 44, 13, 45, 14, 46, 15, 47, 24, 56, 25, 57, 26,
+                58, 27, 59, 28, 60, 29, 61, 30, 62, 31, 63,
+            ],
+        ),
+    )
 }
 
 /// Adds a vector to the thirty-two bytes from byte `at` on.

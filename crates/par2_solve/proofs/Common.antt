@@ -5,7 +5,7 @@ pub use Rattle.std.proofs.Math.Facts.{Fits-lt-pow, and_yes, yes_and}
 pub use Rattle.std.proofs.lemmas.Bool.{cases_eq, cases_lt, eq-eqb, eqb-false, eqb-true, false_from_ne_true, false≢true, le-ltb, lt-ltb, ltb-true, ne_eqb}
 pub use Rattle.std.proofs.lemmas.Iterator.{YieldsList-from_map, YieldsList-from_map_by, YieldsList-from_range, YieldsList-from_slice, items_from_collect}
 pub use Rattle.std.proofs.lemmas.Iterator.Consumers.{map_from_collect}
-pub use Rattle.std.proofs.lemmas.List.{drop_all, drop_more, ext_get_or, get_or-append_right, get_or-drop, get_or-map, get_or-set_other, get_or-set_same, get_or-take, get_or_append_left, get_or_at, get_or_default, get_or_past, get_or_push, length-drop, length-map, length-replicate, length-set, length-take, length-take-le, length_push, map-append, map_more, map_push, take-map, take_all, take_more, with_items_is}
+pub use Rattle.std.proofs.lemmas.List.{drop_all, drop_more, ext_get_or, get_or-append_right, get_or-drop, get_or-map, get_or-reverse, get_or-set_other, get_or-set_same, get_or-take, get_or_append_left, get_or_at, get_or_default, get_or_past, get_or_push, length-drop, length-map, length-replicate, length-reverse, length-set, length-take, length-take-le, length_push, map-append, map_more, map_push, take-map, take_all, take_more, with_items_is}
 pub use Rattle.std.proofs.lemmas.List.Elements.{Contains-get_or, filter_more}
 pub use Rattle.std.proofs.lemmas.List.FromFn.{get_or-map-range_with_len, get_or-range_with_len, length-map-range_with_len, length-range_with_len, map-range_with_len_more}
 pub use Rattle.std.proofs.lemmas.List.Kept.{AllPairs-from_increasing}

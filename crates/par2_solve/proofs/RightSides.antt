@@ -1,5 +1,6 @@
 -- The right-hand sides of the holes' equations: sums of the window's syndromes by the falling coefficients.
-use Rattle.par2_solve.proofs.Common.{ℕ, ◌+◌, ◌-◌, ◌*◌, ◌^◌, ◌<◌, ◌≡◌, sym, ap, ap₂, ◌∙◌, subst, arith, cond, true, false, inl, inr, cases_eq, cases_lt, le-ltb, eq-eqb, ne_eqb, List, [], length, get_or, map, map-map, AllByRecursion, range_with_len, IsStrictlyIncreasing, length-map, get_or_past, get_or-map, get_or-map-range_with_len, length-map-range_with_len, mul, field_sum, field_sum_same, field_sum_none, zero-product, GivesElements, IsVector, slice_index, all_at, all_from, all_get, all-each, identity, list_at, word, AreByteLists, products}
+use Rattle.par2_solve.proofs.Common.{ℕ, ◌+◌, ◌-◌, ◌*◌, ◌^◌, ◌<◌, ◌≡◌, sym, ap, ap₂, ◌∙◌, subst, arith, cond, true, false, inl, inr, cases_eq, cases_lt, le-ltb, eq-eqb, ne_eqb, List, [], length, get_or, map, map-map, AllByRecursion, range_with_len, IsStrictlyIncreasing, length-map, length-reverse, get_or_past, get_or-map, get_or-reverse, get_or-map-range_with_len, length-map-range_with_len, mul, field_sum, field_sum_same, field_sum_none, zero-product, GivesElements, IsVector, slice_index, all_at, all_from, all_get, all-each, identity, list_at, word, AreByteLists, products}
+use Rattle.std.specs.Prelude.{reverse}
 use Rattle.std.proofs.lemmas.Grind.{same_number_lists}
 use Rattle.par2_solve.specs.Filling.{row_times, matrix_product, identity_rows, from_last, from_origin, origin_at, window_rows, falling, numerator_rows, IsOriginAt, AreOrigins, HasRoomFor}
 use Rattle.par2_solve.specs.Holes.{locator, shifted_at, shifted, span, is_hole, holes}
@@ -13,10 +14,14 @@ use Rattle.par2_solve.proofs.Windows.{below}
 -- ---- the falling coefficients
 
 pub falling_long : (p : List ℕ) (w : ℕ) → length (falling p w) ≡ w
-falling_long p w = length-map-range_with_len (λ i. slice_index p (w - 1 - i)) 0 w
+falling_long p w = length-reverse (map (slice_index p) (range_with_len 0 w)) ∙ length-map-range_with_len (slice_index p) 0 w
 
 falling_at : (p : List ℕ) (w i : ℕ) → i < w → get_or (falling p w) i 0 ≡ get_or p (w - 1 - i) 0
-falling_at p w i low = get_or-map-range_with_len (λ j. slice_index p (w - 1 - j)) 0 w i i 0 low (omega arith)
+falling_at p w i low =
+    let many = length-map-range_with_len (slice_index p) 0 w in
+    get_or-reverse (map (slice_index p) (range_with_len 0 w)) i 0 (omega (arith, low, many))
+    ∙ ap (λ m. get_or (map (slice_index p) (range_with_len 0 w)) (m - 1 - i) 0) many
+    ∙ get_or-map-range_with_len (slice_index p) 0 w (w - 1 - i) (w - 1 - i) 0 (omega (arith, low)) (omega arith)
 
 falling-lt : (p : List ℕ) (w i : ℕ) → AllByRecursion (λ c. c < 2 ^ 16) p → get_or (falling p w) i 0 < 65536
 falling-lt p w i are = elim (cases_lt i w) [
@@ -43,7 +48,9 @@ identity_reversed w s y hs hy = elim (cases_eq s (w - 1 - y)) [
 ]
 
 window_at : (f : Origin → List ℕ) (origins : List Origin) (s : ℕ) → s < length origins → list_at (from_last f origins) s ≡ f (origin_at origins (length origins - 1 - s))
-window_at f origins s low = get_or-map-range_with_len (λ i. f (origin_at origins (length origins - 1 - i))) 0 (length origins) s s [] low (omega arith)
+window_at f origins s low =
+    get_or-map f (reverse origins) s (Exponent 0) [] (let long = length-reverse origins in omega (arith, low, long))
+    ∙ ap f (get_or-reverse origins s (Exponent 0) low)
 
 -- the rows of the window: those of the identity at the exponents' places
 window_entry : (es : List ℕ) (l x k : ℕ) (o : Origin) → IsStrictlyIncreasing es → length es ≡ l → k < l → IsOriginAt es x o
@@ -66,7 +73,7 @@ pub numerator_long : (n : ℕ) (sequence : List ℕ) → length (numerator_rows 
 numerator_long n sequence = length-map-range_with_len (λ t. map (λ s. slice_index sequence (s + t)) (range_with_len 0 (length sequence))) 0 n
 
 pub from_last_long : (f : Origin → List ℕ) (origins : List Origin) → length (from_last f origins) ≡ length origins
-from_last_long f origins = length-map-range_with_len (λ s. f (origin_at origins (length origins - 1 - s))) 0 (length origins)
+from_last_long f origins = length-map (reverse origins) f ∙ length-reverse origins
 
 pub window_long : (n : ℕ) (origins : List Origin) → length (window_rows n origins) ≡ length origins
 window_long n origins = from_last_long (from_origin (identity_rows n) []) origins

@@ -1,7 +1,7 @@
 -- The inverse for exponents with holes between them. It is the product of two matrices: the inverse for the run at the
 -- front of the window, and the matrix that maps the exponents' syndromes to the run's. A number of the window is named by
 -- its place, which is 0 for the first exponent.
-use Rattle.std.specs.Prelude.{ℕ, ◌≡◌, ◌+◌, ◌-◌, ◌<◌, ◌≤◌, List, [], length, map, slice_index, slice_index_or, take}
+use Rattle.std.specs.Prelude.{ℕ, ◌≡◌, ◌+◌, ◌<◌, ◌≤◌, List, [], length, map, reverse, slice_index, slice_index_or, take}
 use Rattle.std.specs.List.{range_with_len}
 use Rattle.par2_spec.specs.Field.{mul}
 use Rattle.par2_spec.specs.Rank.{IsVector}
@@ -56,7 +56,7 @@ pub record AreOrigins (exponents : List ℕ) (n : ℕ) (origins : List Origin) :
 
 -- the lists of the origins, that of the last one first
 abbrev pub from_last : (Origin → List ℕ) → List Origin → List (List ℕ)
-from_last list origins = map (λ s. list (origin_at origins (length origins - 1 - s))) (range_with_len 0 (length origins))
+from_last list origins = map list (reverse origins)
 
 -- the matrix that maps the syndromes of n exponents to those of the window, the last number first; the rows of holes are empty
 abbrev pub window_rows : ℕ → List Origin → List (List ℕ)
@@ -66,7 +66,7 @@ window_rows n origins = from_last (from_origin (identity_rows n) []) origins
 
 -- the coefficients of a polynomial below z ^ n, the highest first
 abbrev pub falling : List ℕ → ℕ → List ℕ
-falling p n = map (λ i. slice_index p (n - 1 - i)) (range_with_len 0 n)
+falling p n = reverse (map (slice_index p) (range_with_len 0 n))
 
 -- the Hankel matrix of a sequence, of n rows (`numerator` in par2_transform): row t has the elements from t on
 abbrev pub numerator_rows : ℕ → List ℕ → List (List ℕ)

@@ -5,7 +5,7 @@
 //! (see `par2_transform`). So for L lost slices and g holes this takes about g x g x g products of words, and g x g
 //! products of syndromes beside those of numerators and locator.
 
-ghost use Rattle.std.specs.Prelude.{◌≡◌, ◌+◌, ◌%◌, ◌<◌, ◌≤◌, [], length, map, take, IfOk, IfSome, IsTrue};
+ghost use Rattle.std.specs.Prelude.{◌≡◌, ◌+◌, ◌%◌, ◌<◌, ◌≤◌, [], length, map, slice_index, take, IfOk, IfSome, IsTrue};
 ghost use Rattle.std.specs.List.{Contains};
 ghost use Rattle.std.specs.List.Sorted.{IsStrictlyIncreasing};
 ghost use Rattle.par2_spec.specs.Runs.{AreSlices};
@@ -50,14 +50,20 @@ pub(crate) struct Filling<'a> {
     pub(crate) locator: Locator<'a>,
 }
 
+// The coefficient of `z ^ i`, which is 0 past the end.
+fn coefficient_at(p: &[u16], i: usize) -> u16
+    ensures { result ≡ slice_index p.now i }
+{
+    p.get(i).copied().unwrap_or(0)
+}
+
 // The coefficients of a polynomial below `z ^ count`, the highest first, as `Filling::equations` takes them.
 fn falling(alloc: Global, p: &[u16], count: usize) -> Result<Vec<u16>>
     ensures { IfOk result (λ coefficients. coefficients.items ≡ falling p.now count) }
 {
-    let mut coefficients = Vec::with_capacity(alloc, count)?;
-    for i in 0..count {
-        coefficients.push(p.get(count - 1 - i).copied().unwrap_or(0))?;
-    }
+    let rising = (0..count).map(|i| coefficient_at(p, i));
+    let mut coefficients: Vec<u16> = rising.collect(alloc)?;
+    coefficients.reverse();
     Ok(coefficients)
 }
 
@@ -167,12 +173,9 @@ impl<'a> Filling<'a> {
         ensures { IfOk result (λ window. buffers_of window.items
             ≡ from_last (from_origin (buffers_of sources.now) []) self.now.origins.items) }
     {
-        let count = self.origins.len();
-        let mut window = Vec::with_capacity(alloc, count)?;
-        for s in 0..count {
-            window.push(source_of(self.origins[count - 1 - s], sources, &[]))?;
-        }
-        Ok(window)
+        let last_first = self.origins.iter().rev();
+        let window = last_first.map(|origin| source_of(*origin, sources, &[]));
+        window.collect(alloc)
     }
 
     // The right-hand sides of the holes' equations, of `size` bytes each. `sources` are the syndromes of the exponents.

@@ -57,13 +57,15 @@ pub(crate) fn quotient(alloc: Global, gf: &Gf, c: u16, p: &[u16]) -> Result<Vec<
     Ok(quotient)
 }
 
-/// The value of a polynomial at `z`, by Horner's rule. `p` has its coefficients from that of `z ^ 0` on.
-pub(crate) fn value(gf: &Gf, p: &[u16], z: u16) -> u16
-    ensures { result ≡ value p.now z }
+/// The value at `c` of the derivative of a polynomial, which is that of its quotient on division by `z - c`. In
+/// characteristic 2 only odd powers have a derivative, so it is a polynomial of the square of `c`.
+pub(crate) fn derivative(gf: &Gf, p: &[u16], c: u16) -> u16
+    ensures { result ≡ value (quotient c p.now) c }
 {
+    let square = gf.mul(c, c);
     let mut value = 0;
-    for t in (0..p.len()).rev() {
-        value = p[t] ^ gf.mul(z, value);
+    for k in (0..p.len() / 2).rev() {
+        value = p[2 * k + 1] ^ gf.mul(square, value);
     }
     value
 }
@@ -90,9 +92,8 @@ fn inverse_row(alloc: Global, gf: &Gf, p: &[u16], c: u16, first: u32) -> Result<
     requires { mul (pow c first) (value (quotient c p.now) c) ≢ 0 }
     ensures { IfOk result (λ row. IsScaledQuotient first c p.now row.items) }
 {
-    let quotient = quotient(alloc, gf, c, p)?;
-    let at_c = gf.mul(gf.pow(c, first), value(gf, &quotient, c));
-    scaled(alloc, gf, inverse_of(gf, at_c), &quotient)
+    let at_c = gf.mul(gf.pow(c, first), derivative(gf, p, c));
+    scaled(alloc, gf, inverse_of(gf, at_c), &quotient(alloc, gf, c, p)?)
 }
 
 // The rows of the inverse for the lost slices' constants `points`, for the exponents from `first` on. `p` is the

@@ -10,7 +10,7 @@ ghost use Rattle.par2_spec.specs.Runs.{AreSlices};
 ghost use Rattle.par2_solve.specs.Solvers.{AreFactors, Inverts};
 
 use crate::exponents::coefficients;
-use crate::run_inverse::{inverse_of, quotient, run_inverse, value, with_roots};
+use crate::run_inverse::{derivative, inverse_of, run_inverse, with_roots};
 use crate::solver::Inverse;
 use par2_gf16::Gf;
 use par2_spec::Result;
@@ -21,16 +21,13 @@ use std::alloc::Global;
 pub(crate) const LOCATED: usize = 768;
 
 // The factor that scales the quotient for the constant `c` to a row of the inverse: 1 over `c ^ first` times the
-// quotient's value at `c`. `p` is the polynomial whose roots are the lost slices' constants, `c` among them.
-fn factor(alloc: Global, gf: &Gf, p: &[u16], c: u16, first: u32) -> Result<u16>
+// derivative at `c`. `p` is the polynomial whose roots are the lost slices' constants, `c` among them.
+fn factor(gf: &Gf, p: &[u16], c: u16, first: u32) -> u16
     requires { mul (pow c first) (value (quotient c p.now) c) ≢ 0 }
-    ensures product { IfOk result (λ b.
-        mul (mul (pow c first) (value (quotient c p.now) c)) b ≡ 1) }
-    ensures small { IfOk result (λ b. b < 2 ^ 16) }
+    ensures product { mul (mul (pow c first) (value (quotient c p.now) c)) result ≡ 1 }
+    ensures small { result < 2 ^ 16 }
 {
-    let quotient = quotient(alloc, gf, c, p)?;
-    let at_c = gf.mul(gf.pow(c, first), value(gf, &quotient, c));
-    Ok(inverse_of(gf, at_c))
+    inverse_of(gf, gf.mul(gf.pow(c, first), derivative(gf, p, c)))
 }
 
 // The factors for the lost slices' constants `points`, for the exponents from `first` on. `p` is the polynomial whose
@@ -43,7 +40,7 @@ fn factors(alloc: Global, gf: &Gf, p: &[u16], points: &[u16], first: u32) -> Res
 {
     let mut factors = Vec::with_capacity(alloc, points.len())?;
     for j in 0..points.len() {
-        factors.push(factor(alloc, gf, p, points[j], first)?)?;
+        factors.push(factor(gf, p, points[j], first))?;
     }
     Ok(factors)
 }

@@ -31,15 +31,14 @@ pub use Rattle.par2_transform.specs.Blocks.{AreBlocks, AreCoefficients, AreWeigh
 pub use Rattle.par2_transform.specs.Chirps.{AreWordsOfFirst, AreWeights}
 unfoldable pub use Rattle.par2_transform.specs.Chirps.{chirp, chirp_inverse, coprimes_below, triangle, word_at_power}
 pub use Rattle.par2_transform.specs.Columns.{AreByteLists, AreNumbers, recovered, byte_lists, words_at}
-pub use Rattle.par2_transform.specs.Cosets.{AreListedValues, HoldListed, IsListed, IsListedLevel, IsListedSplit, run_in}
-pub use Rattle.par2_transform.specs.Evaluations.{AreValues, IsSplit, from, value}
+pub use Rattle.par2_transform.specs.Cosets.{AreListedValues, IsListed, next_of}
+pub use Rattle.par2_transform.specs.Evaluations.{AreValues, from, value}
 pub use Rattle.par2_transform.specs.Grids.{AddsWords, AreRows, EachColumn, Grid, IsAdded, column}
-pub use Rattle.par2_transform.specs.Levels.{ComeFrom, HoldPolynomials, HoldPowerSums, IsMergedLevel, IsSplitLevel}
 pub use Rattle.par2_transform.specs.Locators.{AreFit, AreNumbered, AreNumerators, AreValuesOf, HaveFirst, IsWeighed, in_coset, numerator, quotient_coefficient, quotient_sum}
 pub use Rattle.par2_transform.specs.Plans.{cut_of}
 pub use Rattle.par2_transform.specs.PowerSums.{ArePowerSums, IsMerged, member, sum_ahead}
 unfoldable pub use Rattle.par2_transform.specs.PowerSums.{power_sum}
-pub use Rattle.par2_transform.specs.LevelSteps.{AheadAdded, FirstRuns, IsDivided, IsLowered, IsOneAdded, IsRaised, IsSpreadAbove, IsSpreadBelow, OnElements, OneRun, RunAdded, RunAddedBy, SameValuesOutside, spread_beyond, spread_within}
+pub use Rattle.par2_transform.specs.LevelSteps.{AheadAdded, IsLowered, IsOneAdded, IsRaised, IsSpreadAbove, IsSpreadBelow, OneRun, RunAdded, RunAddedBy, SameValuesOutside, spread_beyond, spread_within}
 unfoldable pub use Rattle.par2_transform.specs.Subspaces.{basis, bit_numbers, point, point_number, powers_in, vanishing}
 pub use Rattle.par2_transform.specs.Transforms.{Cut, HasWeights, Reaches, class_part, coefficient_of, gathered, window_value}
 pub use Rattle.par2_transform.specs.declared.outputs.Place.{Place}

@@ -1,8 +1,9 @@
 -- The division of a run of coefficients by the subspace polynomial minus a constant.
-use Rattle.par2_transform.proofs.Common.{ℕ, suc, ◌+◌, ◌-◌, ◌*◌, ◌^◌, ◌<◌, ◌≤◌, ◌≡◌, sym, ap, ap₂, ◌∙◌, subst, arith, bit_xor, refl, add_assoc, bit_at, xor_zero_l, xor_zero_r, xor_assoc, xor_self, xor_comm, mul, pow, GivesElements, field_sum, bit_times_xor, power-lt, power-add, product-lt, product_comm, product_assoc, product_linear_left, field_sum_same, field_sum_xor, field_sum_scaled, xor_off, vanishing, powers_in, value, from, IsSplit, OnElements, OneRun, RunAddedBy, RunAdded, spread_beyond, spread_within, IsSpreadAbove, IsSpreadBelow, IsDivided}
+use Rattle.par2_transform.proofs.Common.{ℕ, suc, ◌+◌, ◌-◌, ◌*◌, ◌^◌, ◌<◌, ◌≤◌, ◌≡◌, sym, ap, ap₂, ◌∙◌, arith, bit_xor, refl, add_assoc, bit_at, xor_zero_r, xor_assoc, xor_comm, mul, pow, GivesElements, field_sum, bit_times_xor, power-lt, power-add, product_comm, product_assoc, product_linear_left, field_sum_same, field_sum_xor, field_sum_scaled, xor_off, vanishing, powers_in, value, from, OneRun, RunAddedBy, RunAdded, spread_beyond, spread_within, IsSpreadAbove, IsSpreadBelow}
+use Rattle.par2_transform.specs.Combinations.{IsHalved}
 use Rattle.par2_transform.proofs.Subspaces.{leading_power, lower_powers}
 use Rattle.par2_transform.proofs.Sums.{field_sum_join, field_sum_linear, field_sum_bit_set, field_sum_bit_unset, bit_product}
-use Rattle.par2_transform.proofs.StepLaws.{power_below, double_power, same_outside, outside_then, run_fit, run_by_fit, IsOfFirst}
+use Rattle.par2_transform.proofs.StepLaws.{power_below, double_power, same_outside, outside_then, run_fit}
 
 -- ---- a polynomial to which a run of coefficients is added
 
@@ -160,15 +161,13 @@ spread_all i x u hx fit =
     (λ j l. sym (bit_times_xor bits j (spread_within i u x j) (spread_beyond i u x j)) ∙ ap (λ v. bit_at bits j * v) (spread_whole i j x u l hx fit) ∙ sym (bit_product bits j (pow x (2 ^ j)) y))
     ∙ field_sum_linear i (λ t. mul t y) (λ j. bit_at bits j * pow x (2 ^ j)) (product_linear_left y)
 
-pub divided_runs : (i c start : ℕ) (f g k h : ℕ → ℕ) → c < 65536 → IsSpreadAbove i start i f g → IsSpreadBelow i start i g k
-    → RunAddedBy (mul c) (start + 2 ^ i) start (2 ^ i) k h → IsDivided i c start f h
-divided_runs i c start f g k h hc above below scaled = record {
-  others = outside_then start end start end start (start + 2 ^ i) f k h
-      (outside_then start end (start + 2 ^ i) end start (start + 2 ^ i) f g k above.others below.others (omega arith) (omega arith) (omega arith) (omega (arith, double))) scaled.others (omega arith) (omega arith) (omega arith) (omega (arith, double));
-  fit = elements;
-  values = λ x hx fit.
+-- a run is divided by the subspace polynomial: what is added to the lower half and to the quotient leaves the remainder
+pub halved_runs : (i start : ℕ) (f g h : ℕ → ℕ) → GivesElements f → IsSpreadAbove i start i f g → IsSpreadBelow i start i g h → OneRun start (2 ^ suc i) (IsHalved i) f h
+halved_runs i start f g h fit above below = record {
+  others = outside_then start end (start + 2 ^ i) end start (start + 2 ^ i) f g h above.others below.others (omega arith) (omega arith) (omega arith) (omega (arith, double));
+  run = λ x hx.
       let u = upper h in
-      let fits : GivesElements u = λ e. elements fit (start + (2 ^ i + e)) in
+      let fits : GivesElements u = λ e. below.fit (above.fit fit) (start + (2 ^ i + e)) in
       let y = value (2 ^ i) u x in
       let l = value (2 ^ i) (from start h) x in
       let p = pow x (2 ^ i) in
@@ -179,24 +178,17 @@ divided_runs i c start f g k h hc above below scaled = record {
       above.values x ∙ ap (bit_xor before) (field_sum_same i (λ j. bit_at (powers_in i) j * spread_beyond i (upper f) x j) (λ j. bit_at (powers_in i) j * spread_beyond i u x j)
       (λ j m. ap (λ v. bit_at (powers_in i) j * v) (field_sum_same (2 ^ j) (λ d. mul (upper f (2 ^ i - 2 ^ j + d)) (pow x (2 ^ i + d))) (λ d. mul (u (2 ^ i - 2 ^ j + d)) (pow x (2 ^ i + d)))
       (λ d b. ap (λ v. mul v (pow x (2 ^ i + d))) (sym (same (2 ^ i - 2 ^ j + d) ∙ above.kept (2 ^ i - 2 ^ j + d) (let under : 2 ^ j + 2 ^ j ≤ 2 ^ i = power_below j i m in omega (arith, under)))))))) in
-      let second : value (2 ^ suc i) (from start k) x ≡ bit_xor (bit_xor before beyond) within_sum =
+      let second : value (2 ^ suc i) (from start h) x ≡ bit_xor (bit_xor before beyond) within_sum =
       below.values x ∙ ap₂ bit_xor first (field_sum_same i (λ j. bit_at (powers_in i) j * spread_within i (upper g) x j) (λ j. bit_at (powers_in i) j * spread_within i u x j)
       (λ j m. ap (λ v. bit_at (powers_in i) j * v) (field_sum_same (2 ^ i - 2 ^ j) (λ d. mul (upper g d) (pow x (2 ^ j + d))) (λ d. mul (u d) (pow x (2 ^ j + d)))
       (λ d b. ap (λ v. mul v (pow x (2 ^ j + d))) (sym (same d)))))) in
-      let third : value (2 ^ suc i) (from start h) x ≡ bit_xor (bit_xor (bit_xor before beyond) within_sum) (mul c y) =
-      ap (λ m. value m (from start h) x) (sym whole)
-      ∙ value_run (mul c) (2 ^ i) 0 (2 ^ i) (2 ^ i) x (from start k) (from start h) (run_from (mul c) start (2 ^ i) 0 (2 ^ i) k h (subst (λ t. RunAddedBy (mul c) (start + 2 ^ i) t (2 ^ i) k h) (let e : start ≡ start + 0 = omega arith in e) scaled))
-      ∙ ap₂ bit_xor (ap (λ m. value m (from start k) x) whole ∙ second)
-      (field_sum_same (2 ^ i) (λ d. mul (mul c (from start k (2 ^ i + d))) (pow x (0 + d))) (λ d. mul c (mul (u d) (pow x d)))
-      (λ d b. ap₂ (λ v m. mul (mul c v) (pow x m)) (sym (last d)) (let e : 0 + d ≡ d = omega arith in e) ∙ product_assoc c (u d) (pow x d) hc (fits d) (power-lt x d hx))
-      ∙ field_sum_scaled (2 ^ i) c (λ d. mul (u d) (pow x d))) in
       let after : value (2 ^ suc i) (from start h) x ≡ bit_xor l (mul p y) =
       ap (λ m. value m (from start h) x) double ∙ field_sum_join (2 ^ i) (2 ^ i) (λ m. mul (from start h m) (pow x m)) ∙ ap (bit_xor l) (put_ahead (2 ^ i) (2 ^ i) x u hx fits) in
-      balance before beyond within_sum (mul c y) l (mul p y) (sym third ∙ after)
-      ∙ ap (bit_xor l) (ap (bit_xor (bit_xor (mul p y) (mul c y))) (spread_all i x u hx fits)
-      ∙ ap (λ t. bit_xor (bit_xor (mul t y) (mul c y)) (mul (lower_powers i x) y)) (leading_power i x hx)
-      ∙ ap (λ t. bit_xor (bit_xor t (mul c y)) (mul (lower_powers i x) y)) ((product_linear_left y).on_xor (vanishing i x) (lower_powers i x))
-      ∙ drop_out (mul (vanishing i x) y) (mul (lower_powers i x) y) (mul c y) ∙ sym ((product_linear_left y).on_xor (vanishing i x) c));
+      balance before beyond within_sum l (mul p y) (sym second ∙ after)
+      ∙ ap (bit_xor l) (ap (bit_xor (mul p y)) (spread_all i x u hx fits)
+      ∙ ap (λ t. bit_xor (mul t y) (mul (lower_powers i x) y)) (leading_power i x hx)
+      ∙ ap (λ t. bit_xor t (mul (lower_powers i x) y)) ((product_linear_left y).on_xor (vanishing i x) (lower_powers i x))
+      ∙ xor_off (mul (vanishing i x) y) (mul (lower_powers i x) y));
 }
   where
     end : ℕ
@@ -205,71 +197,15 @@ divided_runs i c start f g k h hc above below scaled = record {
     double : 2 ^ suc i ≡ 2 ^ i + 2 ^ i
     double = double_power i
 
-    whole : 0 + (2 ^ i + 2 ^ i) ≡ 2 ^ suc i
-    whole = omega (arith, double)
-
     upper : (ℕ → ℕ) → ℕ → ℕ
     upper v = from (2 ^ i) (from start v)
 
-    last : (e : ℕ) → upper h e ≡ upper k e
-    last e = scaled.others.above (start + (2 ^ i + e)) (omega arith)
-
     same : (e : ℕ) → upper h e ≡ upper g e
-    same e = last e ∙ below.others.above (start + (2 ^ i + e)) (omega arith)
-
-    elements : GivesElements f → GivesElements h
-    elements fit = run_by_fit (mul c) (start + 2 ^ i) start (2 ^ i) k h (λ v lt. product-lt c v hc lt) scaled (below.fit (above.fit fit))
+    same e = below.others.above (start + (2 ^ i + e)) (omega arith)
 
     -- the value before, from the one after
-    balance : (b e w s l p : ℕ) → bit_xor (bit_xor (bit_xor b e) w) s ≡ bit_xor l p → b ≡ bit_xor l (bit_xor (bit_xor p s) (bit_xor w e))
-    balance b e w s l p is =
-        sym (ap (λ v. bit_xor v (bit_xor s (bit_xor w e))) (sym is)
-        ∙ sym (xor_assoc (bit_xor (bit_xor (bit_xor b e) w) s) s (bit_xor w e))
-        ∙ ap (λ v. bit_xor v (bit_xor w e)) (xor_off (bit_xor (bit_xor b e) w) s)
+    balance : (b e w l p : ℕ) → bit_xor (bit_xor b e) w ≡ bit_xor l p → b ≡ bit_xor l (bit_xor p (bit_xor w e))
+    balance b e w l p is =
+        sym (ap (λ v. bit_xor v (bit_xor w e)) (sym is)
         ∙ sym (xor_assoc (bit_xor (bit_xor b e) w) w e) ∙ ap (λ v. bit_xor v e) (xor_off (bit_xor b e) w) ∙ xor_off b e)
-        ∙ xor_assoc l p (bit_xor s (bit_xor w e)) ∙ ap (bit_xor l) (sym (xor_assoc p s (bit_xor w e)))
-
-    drop_out : (v o s : ℕ) → bit_xor (bit_xor (bit_xor v o) s) o ≡ bit_xor v s
-    drop_out v o s = ap (λ a. bit_xor a o) (xor_assoc v o s ∙ ap (bit_xor v) (xor_comm o s) ∙ sym (xor_assoc v s o)) ∙ xor_off (bit_xor v s) o
-
-pub split_runs : (i c start : ℕ) (f g h : ℕ → ℕ) → IsDivided i c start f g → RunAdded start (start + 2 ^ i) (2 ^ i) g h → OnElements (OneRun start (2 ^ suc i) (IsSplit i c)) f h
-split_runs i c start f g h first second fit = (
-  run_fit start (start + 2 ^ i) (2 ^ i) g h second (first.fit fit),
-  record {
-    others = outside_then start (start + 2 ^ suc i) start (start + 2 ^ suc i) (start + 2 ^ i) (start + 2 ^ i + 2 ^ i) f g h first.others second.others (omega arith) (omega arith) (omega arith) (omega (arith, double_power i));
-    run = record { divided = λ x hx. first.values x hx fit ∙ ap₂ (λ r q. bit_xor r (mul (bit_xor (vanishing i x) c) q)) (sym (rest x)) (sym (quotient x)) };
-  },
-)
-  where
-    rest : (x : ℕ) → value (2 ^ i) (from start h) x ≡ value (2 ^ i) (from start g) x
-    rest x = field_sum_same (2 ^ i) (λ e. mul (from start h e) (pow x e)) (λ e. mul (from start g e) (pow x e)) (λ e l. ap (λ v. mul v (pow x e)) (second.others.below (start + e) (omega arith)))
-
-    high : ℕ → ℕ
-    high x = value (2 ^ i) (from (2 ^ i) (from start g)) x
-
-    upper : (x : ℕ) → value (2 ^ i) (from (2 ^ i) (from start h)) x ≡ bit_xor (high x) (value (2 ^ i) (from start g) x)
-    upper x =
-        field_sum_same (2 ^ i) (λ e. mul (h (start + (2 ^ i + e))) (pow x e)) (λ e. bit_xor (mul (from start g (2 ^ i + e)) (pow x e)) (mul (from start g e) (pow x e)))
-        (λ e l. ap (λ v. mul v (pow x e)) (ap h (sym (add_assoc start (2 ^ i) e)) ∙ second.run e l ∙ ap (λ v. bit_xor (g v) (g (start + e))) (add_assoc start (2 ^ i) e))
-        ∙ (product_linear_left (pow x e)).on_xor (from start g (2 ^ i + e)) (from start g e))
-        ∙ field_sum_xor (2 ^ i) (λ e. mul (from start g (2 ^ i + e)) (pow x e)) (λ e. mul (from start g e) (pow x e))
-
-    quotient : (x : ℕ) → bit_xor (value (2 ^ i) (from start h) x) (value (2 ^ i) (from (2 ^ i) (from start h)) x) ≡ high x
-    quotient x =
-        let r : ℕ = value (2 ^ i) (from start g) x in
-        ap₂ bit_xor (rest x) (upper x) ∙ ap (bit_xor r) (xor_comm (high x) r) ∙ sym (xor_assoc r r (high x)) ∙ ap (λ v. bit_xor v (high x)) (xor_self r) ∙ xor_zero_l (high x)
-
-pub split_of_first : (i c : ℕ) → IsOfFirst (2 ^ suc i) (IsSplit i c)
-split_of_first i c f f2 g g2 sf sg is =
-    let double : 2 ^ suc i ≡ 2 ^ i + 2 ^ i = double_power i in
-    record {
-      divided = λ x hx.
-          field_sum_same (2 ^ suc i) (λ e. mul (f2 e) (pow x e)) (λ e. mul (f e) (pow x e)) (λ e l. ap (λ v. mul v (pow x e)) (sf e l))
-          ∙ is.divided x hx
-          ∙ ap₂ (λ r q. bit_xor r (mul (bit_xor (vanishing i x) c) (bit_xor r q)))
-          (field_sum_same (2 ^ i) (λ e. mul (g e) (pow x e)) (λ e. mul (g2 e) (pow x e)) (λ e l. ap (λ v. mul v (pow x e)) (sym (sg e (omega arith)))))
-          (field_sum_same (2 ^ i) (λ e. mul (g (2 ^ i + e)) (pow x e)) (λ e. mul (g2 (2 ^ i + e)) (pow x e)) (λ e l. ap (λ v. mul v (pow x e)) (sym (sg (2 ^ i + e) (omega arith)))));
-    }
-
-pub divided_at : (i c c2 start start2 : ℕ) (f g : ℕ → ℕ) → c ≡ c2 → start ≡ start2 → IsDivided i c start f g → IsDivided i c2 start2 f g
-divided_at i c c2 start start2 f g ec es divided = subst (λ x. IsDivided i x start2 f g) ec (subst (λ x. IsDivided i c x f g) es divided)
+        ∙ xor_assoc l p (bit_xor w e)

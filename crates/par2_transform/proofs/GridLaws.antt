@@ -27,6 +27,19 @@ each_then_two first second third both a b d e one two three join = record {
       join (column a c) (column b c) (column d c) (column e c) (one.columns c h) (two.columns c h2) (three.columns c (subst (λ n. c < n) (sym two.words) h2));
 }
 
+-- nothing changes
+pub each_unchanged : (relation : (ℕ → ℕ) → (ℕ → ℕ) → Type 0) (a : Grid) → ((c : ℕ) → relation (column a c) (column a c)) → EachColumn relation a a
+each_unchanged relation a same = record { levels = refl; words = refl; columns = λ c h. same c }
+
+-- the same for the columns of these rows alone
+pub each_of : (first second both : (ℕ → ℕ) → (ℕ → ℕ) → Type 0) (a b d : Grid) → EachColumn first a b → EachColumn second b d
+    → ((c : ℕ) → first (column a c) (column b c) → second (column b c) (column d c) → both (column a c) (column d c)) → EachColumn both a d
+each_of first second both a b d one two join = record {
+  levels = two.levels ∙ one.levels;
+  words = two.words ∙ one.words;
+  columns = λ c h. join c (one.columns c h) (two.columns c (subst (λ n. c < n) (sym one.words) h));
+}
+
 -- ---- words added to rows
 
 -- the first word of row u, and of the row after it

@@ -2,7 +2,7 @@ mod Common
 mod Sums
 mod Subspaces
 mod PowerSums
-mod LevelLaws
+mod RunLaws
 mod Chirps
 mod CoprimeSums
 mod Transforms

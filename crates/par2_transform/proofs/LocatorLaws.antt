@@ -6,7 +6,6 @@ use Rattle.par2_transform.proofs.AddingLaws.{adds_none, adds_more, adds_same, wi
 use Rattle.par2_transform.specs.Combinations.{combined, IsCombination}
 use Rattle.par2_transform.specs.Locators.{AreCombinations, HoldNumerators}
 use Rattle.par2_transform.proofs.Chirps.{hankel_sum}
-use Rattle.par2_transform.proofs.CombinationLaws.{combined_same}
 use Rattle.par2_transform.proofs.OutputLaws.{power_sum_plain}
 use Rattle.par2_transform.proofs.Subspaces.{point_number-lt, point_of_number}
 use Rattle.par2_transform.proofs.Sums.{field_sum_swap, field_sum_linear}
@@ -88,7 +87,7 @@ pub numerators_are : (m : ℕ) (sequence weights : List ℕ) (sources : List (Li
     → rows.levels ≡ k → sums.levels ≡ k → rows.words ≡ sums.words
     → HaveFirst (length sources) (λ c s. words_at sources (at + c) s) rows filled → EachColumn (AreValues filled.levels) filled values
     → cleared.levels ≡ sums.levels → cleared.words ≡ sums.words → ((c u : ℕ) → column cleared c u ≡ 0)
-    → RowsGathered (slice_index weights) values (2 ^ cleared.levels) cleared gathered → EachColumn (ArePowerSums gathered.levels) gathered new
+    → RowsGathered (slice_index weights) values (2 ^ cleared.levels) cleared gathered → EachColumn (ArePowerSums gathered.levels 0) gathered new
     → AreNumerators m sequence sources at sums new
 numerators_are m sequence weights sources k at rows filled values sums cleared gathered new count fit bytes weighed rows_levels sums_levels same_words have values_are clear_levels clear_words zero gather power = record {
   levels = power.levels ∙ gather.levels ∙ clear_levels;
@@ -97,7 +96,7 @@ numerators_are m sequence weights sources k at rows filled values sums cleared g
       let w = words c in
       let w_fit = words_at-lt sources (at + c) bytes in
       power.columns c (omega (arith, low, gather.words, clear_words)) t (subst (λ l. t < 2 ^ l) (sym levels) (omega (arith, h, fit)))
-      ∙ ap (λ m. power_sum (column gathered c) m 0 t) levels ∙ power_sum_plain (column gathered c) k t
+      ∙ ap (λ m. power_sum m 0 (column gathered c) t) levels ∙ power_sum_plain (column gathered c) k t
       ∙ field_sum_same (2 ^ k) (λ u. mul (column gathered c u) (pow (point u) t)) (λ u. mul (mul (get_or weights u 0) (value n w (point u))) (pow (point u) t))
       (λ u l. ap (λ v. mul v (pow (point u) t)) (here c u low l))
       ∙ sym (hankel_sum k 0 n t (slice_index sequence) (slice_index weights) w weighed.fit w_fit (omega (arith, h, fit)) weighed.are)
@@ -145,18 +144,17 @@ combinations_of k n sums old mid new fits levels have combinations = record {
     at_k : EachColumn (IsCombination k) mid new
     at_k = subst (λ m. EachColumn (IsCombination m) mid new) (have.levels ∙ levels) combinations
 
-pub values_of : (next : List ℕ) (k coset : ℕ) (combinations old mid new : Grid) → old.levels ≡ k → HaveFirst (2 ^ k) (column combinations) old mid
-    → EachColumn (AreListedValues (slice_index next) mid.levels coset) mid new → AreValuesOf next k coset combinations old new
-values_of next k coset combinations old mid new levels have values = record {
-  levels = values.levels ∙ have.levels;
-  words = values.words ∙ have.words;
+pub values_of : (next : List ℕ) (k coset : ℕ) (combinations mid new : Grid) → combinations.levels ≡ k → mid ≡ combinations
+    → EachColumn (AreListedValues (slice_index next) mid.levels coset) mid new → AreValuesOf next k coset combinations mid new
+values_of next k coset combinations mid new levels same values = record {
+  levels = values.levels;
+  words = values.words;
   each = λ c u low here listed.
-      at_k.columns c (omega (arith, low, have.words)) u here listed
-      ∙ combined_same k (column mid c) (column combinations c) (point (coset * 2 ^ k + u)) (λ m h. have.first c m low h);
+      at_k.columns c low u here listed ∙ ap (λ grid. combined k (column grid c) (point (coset * 2 ^ k + u))) same;
 }
   where
     at_k : EachColumn (AreListedValues (slice_index next) k coset) mid new
-    at_k = subst (λ m. EachColumn (AreListedValues (slice_index next) m coset) mid new) (have.levels ∙ levels) values
+    at_k = subst (λ m. EachColumn (AreListedValues (slice_index next) m coset) mid new) (ap (λ grid. grid.levels) same ∙ levels) values
 
 -- ---- the product, by the numerator's values
 

@@ -3,11 +3,11 @@ use Rattle.par2_transform.proofs.Common.{inl, inr, ℕ, ◌+◌, ◌-◌, ◌*�
 use Rattle.par2_transform.proofs.AddingLaws.{adds_none, adds_more, adds_same, within-in, within-below, within-above, within_joined, within_same}
 
 -- the first coset's power sums are sums over the points
-pub power_sum_plain : (weight : ℕ → ℕ) (k e : ℕ) → power_sum weight k 0 e ≡ field_sum (2 ^ k) (λ u. mul (weight u) (pow (point u) e))
+pub power_sum_plain : (weight : ℕ → ℕ) (k e : ℕ) → power_sum k 0 weight e ≡ field_sum (2 ^ k) (λ u. mul (weight u) (pow (point u) e))
 unfolding power_sum
 power_sum_plain weight k e =
-    field_sum_same (2 ^ k) (λ u. mul (weight (member k 0 u)) (pow (point (member k 0 u)) e)) (λ u. mul (weight u) (pow (point u) e))
-    (λ u h. ap (λ m. mul (weight m) (pow (point m) e)) (let s : member k 0 u ≡ u = omega arith in s))
+    field_sum_same (2 ^ k) (λ u. mul (weight u) (pow (point (member k 0 u)) e)) (λ u. mul (weight u) (pow (point u) e))
+    (λ u h. ap (λ m. mul (weight u) (pow (point m) e)) (let s : member k 0 u ≡ u = omega arith in s))
 
 -- the addition to word p of output t of a block
 abbrev pub output_part : Cut → Grid → ℕ → ℕ → ℕ → ℕ → ℕ → ℕ → ℕ → ℕ
@@ -28,7 +28,7 @@ no_output places len cut sums e r from to first buffers = adds_none places len (
     ]
 
 pub next_output : (places : List Place) (len : ℕ) (cut : Cut) (was_sums sums : Grid) (e r from to first n factor : ℕ) (row : List ℕ) (was before buffers : List (List ℕ))
-    → EachColumn (ArePowerSums was_sums.levels) was_sums sums → was_sums.levels ≡ cut.levels → n < 2 ^ cut.levels → to ≤ from + was_sums.words
+    → EachColumn (ArePowerSums was_sums.levels 0) was_sums sums → was_sums.levels ≡ cut.levels → n < 2 ^ cut.levels → to ≤ from + was_sums.words
     → factor ≡ mul (pow 2 ((e + n) * r)) (chirp_inverse cut.classes (e + n)) → ((c : ℕ) → word c row ≡ column sums c n)
     → OutputsAdded places len cut was_sums e r from to first n was before
     → AddsAt places len (λ t p. within (first + n) (first + n + 1) t (within from to p (mul factor (word (p - from) row)))) before buffers
@@ -51,7 +51,7 @@ next_output places len cut was_sums sums e r from to first n factor row was befo
     product p p_low p_high =
         ap₂ mul factor_is
         (row_is (p - from) ∙ sums_are.columns (p - from) (omega arith) n (subst (λ k. n < 2 ^ k) (sym levels) low)
-        ∙ ap (λ k. power_sum (column was_sums (p - from)) k 0 n) levels ∙ power_sum_plain (column was_sums (p - from)) cut.levels n)
+        ∙ ap (λ k. power_sum k 0 (column was_sums (p - from)) n) levels ∙ power_sum_plain (column was_sums (p - from)) cut.levels n)
 
 -- there are no outputs past the end
 pub all_outputs : (places : List Place) (len : ℕ) (cut : Cut) (sums : Grid) (e r from to first size n : ℕ) (was buffers : List (List ℕ)) → n ≡ min size (length places - first)

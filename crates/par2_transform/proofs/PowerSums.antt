@@ -1,5 +1,5 @@
 -- Power sums over two cosets give those over both.
-use Rattle.par2_transform.proofs.Common.{ℕ, zero, suc, ◌+◌, ◌-◌, ◌*◌, ◌^◌, ◌<◌, ◌≤◌, ◌≡◌, refl, sym, ap, ap₂, ◌∙◌, arith, bit_xor, pow_pos, pow-suc, inl, inr, mul_comm, mul_assoc, add_assoc, add-mul, one-mul, cases_lt, pow-lt, xor_comm, div-mul-add, bit_at, xor_assoc, xor_shifted, mul, pow, GivesElements, field_sum, xor_middle, bit_times_xor, power-lt, power-add, product-lt, product_comm, product-one, product_assoc, product_linear_left, product_linear_right, field_sum_same, field_sum_xor, field_sum_scaled, field_sum-lt, vanishing, powers_in, basis, point, member, sum_ahead, IsMerged, power_sum}
+use Rattle.par2_transform.proofs.Common.{ℕ, zero, suc, ◌+◌, ◌-◌, ◌*◌, ◌^◌, ◌<◌, ◌≤◌, ◌≡◌, refl, sym, ap, ap₂, ◌∙◌, arith, bit_xor, pow_pos, pow-suc, inl, inr, mul_comm, mul_assoc, add_assoc, add-mul, one-mul, cases_lt, pow-lt, xor_comm, div-mul-add, bit_at, xor_assoc, xor_shifted, mul, pow, GivesElements, field_sum, xor_middle, bit_times_xor, power-lt, power-add, product-lt, product_comm, product-one, product_assoc, product_linear_left, product_linear_right, field_sum_same, field_sum_xor, field_sum_scaled, field_sum-lt, vanishing, powers_in, basis, point, member, sum_ahead, IsMerged, from, power_sum}
 use Rattle.par2_transform.proofs.Subspaces.{point-lt, point_linear, vanishing-lt, vanishing_point, lower_powers, leading_power}
 use Rattle.par2_transform.proofs.Sums.{field_sum_join, field_sum_swap, field_sum_linear, field_sum_bit, product_bit, bit_product}
 
@@ -79,10 +79,14 @@ odd q = sym (ap (λ n. bit_xor n 1) (mul_comm 2 q) ∙ xor_shifted q 1 1 (omega 
 pub point_odd : (q : ℕ) → point (2 * q + 1) ≡ bit_xor (point (2 * q)) 1
 point_odd q = ap point (odd q) ∙ point_linear.on_xor (2 * q) 1 ∙ ap (bit_xor (point (2 * q))) point_one
 
-abbrev halves : (ℕ → ℕ) → ℕ → ℕ → ℕ → ℕ
-halves weight i q e = bit_xor (power_sum weight i (2 * q) e) (power_sum weight i (2 * q + 1) e)
+-- the weighted sum of powers over a coset, of weights that are numbered through all points
+abbrev pub over : (ℕ → ℕ) → ℕ → ℕ → ℕ → ℕ
+over weight i q e = power_sum i q (from (q * 2 ^ i) weight) e
 
-pub power_sum_halves : (weight : ℕ → ℕ) (i q e : ℕ) → power_sum weight (suc i) q e ≡ halves weight i q e
+abbrev halves : (ℕ → ℕ) → ℕ → ℕ → ℕ → ℕ
+halves weight i q e = bit_xor (over weight i (2 * q) e) (over weight i (2 * q + 1) e)
+
+pub power_sum_halves : (weight : ℕ → ℕ) (i q e : ℕ) → over weight (suc i) q e ≡ halves weight i q e
 unfolding power_sum
 power_sum_halves weight i q e =
     ap (λ n. field_sum n (λ u. given weight e (q * 2 ^ suc i + u))) (let s : 2 ^ suc i ≡ 2 ^ i * 2 = pow-suc 2 i in let f : 2 ^ suc i ≡ 2 ^ i + 2 ^ i = omega arith in f)
@@ -94,16 +98,16 @@ power_sum_halves weight i q e =
 
 -- the sums of higher powers, from those of the second coset and of lower powers
 pub power_sum_ahead : (weight : ℕ → ℕ) → GivesElements weight → (i q e : ℕ) → suc q * 2 ^ suc i ≤ 65536
-    → power_sum weight (suc i) q (2 ^ i + e)
-    ≡ bit_xor (power_sum weight i (2 * q + 1) e)
-    (bit_xor (mul (point (2 * q)) (power_sum weight (suc i) q e)) (sum_ahead i (power_sum weight (suc i) q) e))
+    → over weight (suc i) q (2 ^ i + e)
+    ≡ bit_xor (over weight i (2 * q + 1) e)
+    (bit_xor (mul (point (2 * q)) (over weight (suc i) q e)) (sum_ahead i (over weight (suc i) q) e))
 unfolding power_sum
 power_sum_ahead weight elements i q e fits =
     let p : ℕ = 2 ^ i in
     let c : ℕ = point (2 * q) in
-    let low : ℕ → ℕ = power_sum weight i (2 * q) in
-    let high : ℕ → ℕ = power_sum weight i (2 * q + 1) in
-    let both : ℕ → ℕ = power_sum weight (suc i) q in
+    let low : ℕ → ℕ = over weight i (2 * q) in
+    let high : ℕ → ℕ = over weight i (2 * q + 1) in
+    let both : ℕ → ℕ = over weight (suc i) q in
     let bits : ℕ → ℕ = λ j. bit_at (powers_in i) j in
     let end : suc q * 2 ^ suc i ≡ (2 * q + 1) * 2 ^ i + 2 ^ i = ends i q in
     let at_low : low (2 ^ i + e) ≡ bit_xor (mul c (low e)) (sum_ahead i low e) =
@@ -141,12 +145,12 @@ power_sum_ahead weight elements i q e fits =
 -- power sums over two cosets, merged, are the power sums over both
 pub merged_power_sums : (weight : ℕ → ℕ) → GivesElements weight → (i q : ℕ) (split merged : ℕ → ℕ) → suc q * 2 ^ suc i ≤ 65536
     → IsMerged i (point (2 * q)) split merged
-    → ((e : ℕ) → e < 2 ^ i → split e ≡ power_sum weight i (2 * q) e) → ((e : ℕ) → e < 2 ^ i → split (2 ^ i + e) ≡ power_sum weight i (2 * q + 1) e)
-    → (e : ℕ) → e < 2 ^ suc i → merged e ≡ power_sum weight (suc i) q e
+    → ((e : ℕ) → e < 2 ^ i → split e ≡ over weight i (2 * q) e) → ((e : ℕ) → e < 2 ^ i → split (2 ^ i + e) ≡ over weight i (2 * q + 1) e)
+    → (e : ℕ) → e < 2 ^ suc i → merged e ≡ over weight (suc i) q e
 merged_power_sums weight elements i q split merged fits is low high e h = below (suc e) e (omega arith) h
   where
     both : ℕ → ℕ
-    both = power_sum weight (suc i) q
+    both = over weight (suc i) q
 
     below : (n e : ℕ) → e < n → e < 2 ^ suc i → merged e ≡ both e
     below zero e k h = absurd (omega arith)

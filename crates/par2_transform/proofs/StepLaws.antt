@@ -1,5 +1,5 @@
 -- One column of values, through the loops of a level.
-use Rattle.par2_transform.proofs.Common.{ℕ, suc, ◌+◌, ◌-◌, ◌*◌, ◌%◌, ◌^◌, ◌<◌, ◌≤◌, ◌≡◌, inl, inr, ◌⊎◌, refl, sym, ap, ap₂, ◌∙◌, subst, arith, bit_xor, pow_pos, pow-suc, add_assoc, mul_assoc, add-mul, one-mul, mul-zero, List, length, get_or, set, bit_at, xor_zero_r, xor_assoc, pow-le-pow_right, cases_eq, cases_lt, get_or-set_same, get_or-set_other, pow-add, xor_lt, mul, GivesElements, field_sum, bit_times_xor, field_sum_same, field_sum_none, field_sum_xor, xor_off, within, powers_in, sum_ahead, IsMerged, from, IsOneAdded, SameValuesOutside, OneRun, FirstRuns, RunAddedBy, RunAdded, AheadAdded, IsRaised, IsLowered}
+use Rattle.par2_transform.proofs.Common.{ℕ, suc, ◌+◌, ◌-◌, ◌*◌, ◌%◌, ◌^◌, ◌<◌, ◌≤◌, ◌≡◌, inl, inr, ◌⊎◌, refl, sym, ap, ap₂, ◌∙◌, subst, arith, bit_xor, pow-suc, add_assoc, mul_assoc, add-mul, one-mul, mul-zero, List, length, get_or, set, bit_at, xor_zero_r, xor_assoc, pow-le-pow_right, cases_eq, cases_lt, get_or-set_same, get_or-set_other, pow-add, xor_lt, mul, GivesElements, field_sum, bit_times_xor, field_sum_same, field_sum_none, field_sum_xor, xor_off, within, powers_in, sum_ahead, IsMerged, from, IsOneAdded, SameValuesOutside, OneRun, RunAddedBy, RunAdded, AheadAdded, IsRaised, IsLowered}
 use Rattle.std.proofs.Common.{mul-le-mul_right}
 use Rattle.par2_transform.proofs.AddingLaws.{within-in, within-below, within-above, within_joined, within_same}
 use Rattle.par2_transform.proofs.Sums.{field_sum_bit_set, field_sum_bit_unset}
@@ -32,12 +32,12 @@ shifts i j few low = (shifted i few, shifted j (omega arith), power_below j i lo
 pub run_starts : (i q : ℕ) → q * 2 * 2 ^ i ≡ q * 2 ^ suc i
 run_starts i q = mul_assoc q 2 (2 ^ i) ∙ ap (λ n. q * n) (let double : 2 ^ suc i ≡ 2 ^ i + 2 ^ i = double_power i in let twice : 2 * 2 ^ i ≡ 2 ^ suc i = omega arith in twice)
 
--- all pairs of runs of a level lie within 2 ^ k
-pub pairs_fit : (k i q : ℕ) → i < k → q < 2 ^ (k - suc i) → q * 2 ^ suc i + 2 ^ suc i ≤ 2 ^ k
-pairs_fit k i q h l =
-    let whole : 2 ^ (k - suc i) * 2 ^ suc i ≡ 2 ^ k = sym (pow-add 2 (k - suc i) (suc i)) ∙ ap (λ n. 2 ^ n) (let e : k - suc i + suc i ≡ k = omega arith in e) in
-    let fits : suc q * 2 ^ suc i ≤ 2 ^ (k - suc i) * 2 ^ suc i = mul-le-mul_right (2 ^ suc i) (let s : suc q ≤ 2 ^ (k - suc i) = omega arith in s) in
-    let next : suc q * 2 ^ suc i ≡ q * 2 ^ suc i + 2 ^ suc i = ap (λ v. v * 2 ^ suc i) (let s : suc q ≡ q + 1 = omega arith in s) ∙ add-mul q 1 (2 ^ suc i) ∙ ap (λ v. q * 2 ^ suc i + v) (one-mul (2 ^ suc i)) in
+-- a run lies within 2 ^ k
+pub run_fits : (k i q : ℕ) → i ≤ k → q < 2 ^ (k - i) → q * 2 ^ i + 2 ^ i ≤ 2 ^ k
+run_fits k i q h l =
+    let whole : 2 ^ (k - i) * 2 ^ i ≡ 2 ^ k = sym (pow-add 2 (k - i) i) ∙ ap (λ n. 2 ^ n) (let e : k - i + i ≡ k = omega arith in e) in
+    let fits : suc q * 2 ^ i ≤ 2 ^ (k - i) * 2 ^ i = mul-le-mul_right (2 ^ i) (let s : suc q ≤ 2 ^ (k - i) = omega arith in s) in
+    let next : suc q * 2 ^ i ≡ q * 2 ^ i + 2 ^ i = ap (λ v. v * 2 ^ i) (let s : suc q ≡ q + 1 = omega arith in s) ∙ add-mul q 1 (2 ^ i) ∙ ap (λ v. q * 2 ^ i + v) (one-mul (2 ^ i)) in
     omega arith
 
 -- the positions of a pair of runs, as the code computes them
@@ -45,7 +45,7 @@ pub pair_places : (k i q : ℕ) → i < 16 → i < k → q < 2 ^ (k - suc i)
     → (1 * 2 ^ i % 18446744073709551616 ≡ 2 ^ i) × (q * 2 * (1 * 2 ^ i % 18446744073709551616) ≡ q * 2 ^ suc i) × (2 ^ suc i ≡ 2 ^ i + 2 ^ i) × (q * 2 ^ suc i + 2 ^ suc i ≤ 2 ^ k)
 pair_places k i q few level pair =
     let half : 1 * 2 ^ i % 18446744073709551616 ≡ 2 ^ i = shifted i few in
-    (half, ap (λ n. q * 2 * n) half ∙ run_starts i q, double_power i, pairs_fit k i q level pair)
+    (half, ap (λ n. q * 2 * n) half ∙ run_starts i q, double_power i, run_fits k (suc i) q level pair)
 
 pub same_outside : (a b : ℕ) (f : ℕ → ℕ) → SameValuesOutside a b f f
 same_outside a b f = record { below = λ u h. refl; above = λ u h. refl }
@@ -290,44 +290,6 @@ unmerged_runs i c start f g h first second =
             sym (ap₂ bit_xor lower upper ∙ xor_off (f (start + e)) (g (start + (2 ^ i + e))));
         high = λ e l. first.run e (omega arith) l ∙ ap (λ v. bit_xor v (bit_xor (mul c (from start f e)) (sum_ahead i (from start f) e))) (sym (second.others.above (start + (2 ^ i + e)) (omega arith)));
       };
-    }
-
--- ---- all runs of a level
-
-pub runs_start : (count : ℕ) (relation : ℕ → (ℕ → ℕ) → (ℕ → ℕ) → Type 0) (f : ℕ → ℕ) → FirstRuns count relation 0 f f
-runs_start count relation f = record { runs = λ q h. absurd (omega (arith, h)); others = λ u h. refl }
-
--- a relation on the first values alone
-abbrev pub IsOfFirst : ℕ → ((ℕ → ℕ) → (ℕ → ℕ) → Type 0) → Type 0
-IsOfFirst count relation = (f f2 g g2 : ℕ → ℕ) → ((u : ℕ) → u < count → f2 u ≡ f u) → ((u : ℕ) → u < count → g2 u ≡ g u) → relation f g → relation f2 g2
-
-pub runs_next : (count : ℕ) (relation : ℕ → (ℕ → ℕ) → (ℕ → ℕ) → Type 0) → ((q : ℕ) → IsOfFirst count (relation q)) → (n : ℕ) (f g h : ℕ → ℕ)
-    → FirstRuns count relation n f g → OneRun (n * count) count (relation n) g h → FirstRuns count relation (n + 1) f h
-runs_next count relation first n f g h so_far one =
-    let end : (n + 1) * count ≡ n * count + count = add-mul n 1 count ∙ ap (λ v. n * count + v) (one-mul count) in
-    record {
-      runs = λ q l. elim (cases_eq q n) [
-        | inl last ↦ subst (λ d. relation d (from (d * count) f) (from (d * count) h)) (sym last)
-            (first n (from (n * count) g) (from (n * count) f) (from (n * count) h) (from (n * count) h) (λ u m. sym (so_far.others (n * count + u) (omega arith))) (λ u m. refl) one.run)
-        | inr other ↦
-            let fits : suc q * count ≤ n * count = mul-le-mul_right count (let s : suc q ≤ n = omega arith in s) in
-            let next : suc q * count ≡ q * count + count = ap (λ v. v * count) (let s : suc q ≡ q + 1 = omega arith in s) ∙ add-mul q 1 count ∙ ap (λ v. q * count + v) (one-mul count) in
-            first q (from (q * count) f) (from (q * count) f) (from (q * count) g) (from (q * count) h) (λ u m. refl) (λ u m. one.others.below (q * count + u) (omega arith)) (so_far.runs q (omega arith))
-      ];
-      others = λ u l. one.others.above u (omega arith) ∙ so_far.others u (omega arith);
-    }
-
-pub merged_of_first : (i c : ℕ) → IsOfFirst (2 ^ suc i) (IsMerged i c)
-merged_of_first i c f f2 g g2 sf sg is =
-    let double : 2 ^ suc i ≡ 2 ^ i + 2 ^ i = double_power i in
-    record {
-      low = λ e l. sg e (omega arith) ∙ is.low e l ∙ ap₂ bit_xor (sym (sf e (omega arith))) (sym (sf (2 ^ i + e) (omega arith)));
-      high = λ e l. sg (2 ^ i + e) (omega arith) ∙ is.high e l
-          ∙ ap₂ bit_xor (sym (sf (2 ^ i + e) (omega arith)))
-          (ap₂ bit_xor (ap (mul c) (sym (sg e (omega arith)))) (ahead_same i e e g g2 (λ j m.
-          let under : 2 ^ j + 2 ^ j ≤ 2 ^ i = power_below j i m in
-          let some : 0 < 2 ^ j = pow_pos j in
-          sym (sg (e + 2 ^ j) (omega arith)))));
     }
 
 -- ---- at equal positions

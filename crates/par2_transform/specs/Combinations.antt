@@ -1,6 +1,6 @@
 -- Polynomials as combinations of products of subspace polynomials (S.-J. Lin, W.-H. Chung and Y. S. Han, "Novel
 -- polynomial basis and its application to Reed-Solomon erasure codes", 2014).
-use Rattle.std.specs.Prelude.{ℕ, zero, suc, ◌≡◌, ◌<◌, ◌-◌, ◌*◌, ◌^◌, bit_xor}
+use Rattle.std.specs.Prelude.{ℕ, zero, suc, ◌≡◌, ◌<◌, ◌^◌, bit_xor}
 use Rattle.par2_spec.specs.Field.{mul}
 use Rattle.par2_transform.specs.Evaluations.{value, from}
 use Rattle.par2_transform.specs.Subspaces.{vanishing}
@@ -12,21 +12,17 @@ unfolding mul
 combined zero coefficients x = coefficients 0
 combined (suc i) coefficients x = bit_xor (combined i coefficients x) (mul (vanishing i x) (combined i (from (2 ^ i) coefficients) x))
 
--- the butterfly in this basis, as `IsSplit`: on the half of a coset where the subspace polynomial is c, the lower half of
--- the coefficients is the whole combination, and on the other half the upper one
-pub record IsSplitCombination (i c : ℕ) (whole split : ℕ → ℕ) : Type 0 where
+-- the butterfly of the additive FFT: where the subspace polynomial is c, the lower half of the coefficients is the whole
+-- combination, and where it is c + 1 the upper one
+pub record IsSplit (i c : ℕ) (whole split : ℕ → ℕ) : Type 0 where
   pub divided : (x : ℕ) → x < 2 ^ 16 → combined (suc i) whole x
       ≡ bit_xor (combined i split x) (mul (bit_xor (vanishing i x) c) (bit_xor (combined i split x) (combined i (from (2 ^ i) split) x)))
 
--- a run of 2 ^ (i + 1) coefficients is divided by the subspace polynomial: the remainder is in the lower half, the
--- quotient in the upper one
+-- a polynomial with 2 ^ (i + 1) coefficients is divided by the subspace polynomial: the remainder is in the lower half,
+-- the quotient in the upper one
 abbrev pub IsHalved : ℕ → (ℕ → ℕ) → (ℕ → ℕ) → Type 0
 IsHalved i whole halves = (x : ℕ) → x < 2 ^ 16 → value (2 ^ suc i) whole x ≡ bit_xor (value (2 ^ i) halves x) (mul (vanishing i x) (value (2 ^ i) (from (2 ^ i) halves) x))
 
--- each run of level i + 1 is divided
-abbrev pub IsHalvedLevel : ℕ → ℕ → (ℕ → ℕ) → (ℕ → ℕ) → Type 0
-IsHalvedLevel k i whole halves = (q : ℕ) → q < 2 ^ (k - suc i) → IsHalved i (from (q * 2 ^ suc i) whole) (from (q * 2 ^ suc i) halves)
-
--- the combination is the polynomial with these 2 ^ k coefficients
+-- the combination is the polynomial with these 2 ^ i coefficients
 abbrev pub IsCombination : ℕ → (ℕ → ℕ) → (ℕ → ℕ) → Type 0
-IsCombination k coefficients combination = (x : ℕ) → x < 2 ^ 16 → combined k combination x ≡ value (2 ^ k) coefficients x
+IsCombination i coefficients combination = (x : ℕ) → x < 2 ^ 16 → combined i combination x ≡ value (2 ^ i) coefficients x

@@ -4,7 +4,7 @@ use Rattle.std.specs.Int.{bit_at}
 use Rattle.par2_spec.specs.Field.{mul, pow}
 use Rattle.par2_spec.specs.Sums.{field_sum, GivesElements}
 use Rattle.par2_transform.specs.Adding.{within}
-use Rattle.par2_transform.specs.Subspaces.{vanishing, powers_in}
+use Rattle.par2_transform.specs.Subspaces.{powers_in}
 use Rattle.par2_transform.specs.PowerSums.{sum_ahead}
 use Rattle.par2_transform.specs.Evaluations.{value, from}
 
@@ -12,10 +12,6 @@ use Rattle.par2_transform.specs.Evaluations.{value, from}
 pub record IsOneAdded (to other : ℕ) (old new : ℕ → ℕ) : Type 0 where
   pub others : (u : ℕ) → u ≢ to → new u ≡ old u
   pub here : new to ≡ bit_xor (old to) other
-
--- if all old values are elements, so are the new ones, and the relation holds
-abbrev pub OnElements : ((ℕ → ℕ) → (ℕ → ℕ) → Type 0) → (ℕ → ℕ) → (ℕ → ℕ) → Type 0
-OnElements relation old new = GivesElements old → GivesElements new × relation old new
 
 -- the values below a and from b on are unchanged
 pub record SameValuesOutside (a b : ℕ) (old new : ℕ → ℕ) : Type 0 where
@@ -26,11 +22,6 @@ pub record SameValuesOutside (a b : ℕ) (old new : ℕ → ℕ) : Type 0 where
 pub record OneRun (start count : ℕ) (relation : (ℕ → ℕ) → (ℕ → ℕ) → Type 0) (old new : ℕ → ℕ) : Type 0 where
   pub others : SameValuesOutside start (start + count) old new
   pub run : relation (from start old) (from start new)
-
--- the first n runs of `count` values change, each by a relation of its own
-pub record FirstRuns (count : ℕ) (relation : ℕ → (ℕ → ℕ) → (ℕ → ℕ) → Type 0) (n : ℕ) (old new : ℕ → ℕ) : Type 0 where
-  pub runs : (q : ℕ) → q < n → relation q (from (q * count) old) (from (q * count) new)
-  pub others : (u : ℕ) → n * count ≤ u → new u ≡ old u
 
 -- to the n values from `to` on, f of the values from `at` on is added
 pub record RunAddedBy (f : ℕ → ℕ) (at to n : ℕ) (old new : ℕ → ℕ) : Type 0 where
@@ -86,11 +77,3 @@ pub record IsSpreadBelow (i start n : ℕ) (old new : ℕ → ℕ) : Type 0 wher
   pub fit : GivesElements old → GivesElements new
   pub values : (x : ℕ) → value (2 ^ suc i) (from start new) x
       ≡ bit_xor (value (2 ^ suc i) (from start old) x) (field_sum n (λ j. bit_at (powers_in i) j * spread_within i (from (2 ^ i) (from start old)) x j))
-
--- a run is divided by the subspace polynomial minus c: the remainder is in the lower half, and the quotient in the
--- upper one
-pub record IsDivided (i c start : ℕ) (old new : ℕ → ℕ) : Type 0 where
-  pub others : SameValuesOutside start (start + 2 ^ suc i) old new
-  pub fit : GivesElements old → GivesElements new
-  pub values : (x : ℕ) → x < 2 ^ 16 → GivesElements old → value (2 ^ suc i) (from start old) x
-      ≡ bit_xor (value (2 ^ i) (from start new) x) (mul (bit_xor (vanishing i x) c) (value (2 ^ i) (from (2 ^ i) (from start new)) x))

@@ -1,7 +1,6 @@
 pub mod Subspaces
 pub mod PowerSums
 pub mod Evaluations
-pub mod Levels
 pub mod Cosets
 pub mod Combinations
 pub mod Chirps

@@ -11,13 +11,13 @@ abbrev pub member : ℕ → ℕ → ℕ → ℕ
 member i q u = q * 2 ^ i + u
 
 -- the sum over coset q of subspace i of each point's weight times its power e
-unfoldable pub power_sum : (ℕ → ℕ) → ℕ → ℕ → ℕ → ℕ
+unfoldable pub power_sum : ℕ → ℕ → (ℕ → ℕ) → ℕ → ℕ
 unfolding field_sum mul pow point
-power_sum weight i q e = field_sum (2 ^ i) (λ u. mul (weight (member i q u)) (pow (point (member i q u)) e))
+power_sum i q weight e = field_sum (2 ^ i) (λ u. mul (weight u) (pow (point (member i q u)) e))
 
--- the sums of the first 2 ^ k powers of the points of subspace k, the transpose of the additive FFT
-abbrev pub ArePowerSums : ℕ → (ℕ → ℕ) → (ℕ → ℕ) → Type 0
-ArePowerSums k weight sums = (e : ℕ) → e < 2 ^ k → sums e ≡ power_sum weight k 0 e
+-- the sums of the first 2 ^ i powers of the points of a coset, the transpose of the additive FFT
+abbrev pub ArePowerSums : ℕ → ℕ → (ℕ → ℕ) → (ℕ → ℕ) → Type 0
+ArePowerSums i q weight sums = (e : ℕ) → e < 2 ^ i → sums e ≡ power_sum i q weight e
 
 -- the sum of the values e + 2 ^ j, for the powers 2 ^ j below 2 ^ i of subspace polynomial i
 abbrev pub sum_ahead : ℕ → (ℕ → ℕ) → ℕ → ℕ

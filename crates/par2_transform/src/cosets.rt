@@ -1,15 +1,15 @@
-//! The additive FFT of combinations of products of subspace polynomials (`to_combinations` in `levels`), pruned to some
-//! points of a coset: runs that contain none of these points are not split. The locator lists the numbers of its points
-//! once (`list`), and then evaluates at those of each coset (`values_in_coset`). A run of level i is the `2 ^ i` rows of
-//! a coset of subspace i.
+//! The additive FFT: values of polynomials at the points of a coset, from their coefficients in the basis of products of
+//! subspace polynomials (`to_combinations` in `levels`). The locator needs few of the points: it lists their numbers once
+//! (`list`), and runs that contain none of them are not split.
 
-ghost use Rattle.std.specs.Prelude.{◌≡◌, ℕ, ◌+◌, ◌-◌, ◌*◌, ◌^◌, ◌<◌, ◌≤◌, suc, length, slice_index, IfOk};
-ghost use Rattle.par2_transform.specs.Cosets.{AreListedValues, IsListed, IsListedLevel, IsListedSplit, run_in};
+ghost use Rattle.std.specs.Prelude.{◌≡◌, ℕ, ◌+◌, ◌-◌, ◌*◌, ◌^◌, ◌<◌, ◌≤◌, length, slice_index, IfOk, IfSome, IsTrue};
+ghost use Rattle.par2_transform.specs.Cosets.{AreListedValues, IsListed, next_of};
+ghost use Rattle.par2_transform.specs.Evaluations.{AreValues};
 ghost use Rattle.par2_transform.specs.Grids.{EachColumn};
-ghost use Rattle.par2_transform.specs.LevelSteps.{OnElements, OneRun};
+ghost use Rattle.par2_transform.specs.LevelSteps.{OneRun};
 
 use crate::basis::point;
-use crate::levels::split_combination;
+use crate::levels::{split, to_combinations};
 use crate::rows::Rows;
 use par2_gf16::Gf;
 use std::alloc::{AllocError, Global};
@@ -60,55 +60,56 @@ fn name_least(next: &mut [u32])
     }
 }
 
-// Splits run q of level i + 1 into two runs of level i if it contains a listed point. The rows hold one coset, which
-// has the number `coset`, and q counts the runs in it.
-fn split_listed(gf: &Gf, rows: &mut Rows, next: &[u32], coset: usize, i: u32, q: usize)
-    // Run q of level i + 1 lies in this coset of the subspace.
-    requires few { rows.old.levels ≤ 16 }
-    requires level { i < rows.old.levels }
-    requires run { q < 2 ^ (rows.old.levels - suc i) }
-    requires coset { coset < 2 ^ (16 - rows.old.levels) }
-    // The list has an entry for each point.
-    requires count { length next.now ≡ 65536 }
-    // The run is split if it contains a listed point. No other run changes.
-    ensures { EachColumn (OnElements (OneRun (q * 2 ^ suc i) (2 ^ suc i)
-        (IsListedSplit (slice_index next.now) i (run_in rows.old.levels coset (suc i) q))))
-        rows.old rows.new }
+// Whether a wanted point is in coset `number` of subspace i: a listed one, or any if there is no list.
+fn has_wanted(next: Option<&[u32]>, i: u32, number: u16) -> bool
+    requires list { IfSome next (λ list. length list.now ≡ 65536) }
+    requires number { number < 2 ^ (16 - i) }
+    requires few { i ≤ 16 }
+    ensures { (u : ℕ) → u < 2 ^ i → IsListed (next_of next.entry) (number * 2 ^ i + u) → IsTrue result }
 {
-    let size = 2usize << i;
-    let number = (coset << (rows.levels() - i - 1)) + q;
-    if (next[number * size] as usize) < number * size + size {
-        split_combination(gf, rows, i, q as u16, point(2 * number as u16));
-    }
+    let Some(next) = next else {
+        return true;
+    };
+    let first = (number as usize) << i;
+    (next[first] as usize) < first + (1usize << i)
 }
 
-// Splits each run of level i + 1 that contains a listed point into two of level i. `coset` is the coset of the rows.
-fn split_listed_level(gf: &Gf, rows: &mut Rows, next: &[u32], coset: usize, i: u32)
+// Replaces run q of level i by its values at the points of coset `number`, or at the listed ones among them.
+fn evaluate_run(gf: &Gf, rows: &mut Rows, next: Option<&[u32]>, i: u32, q: u16, number: u16)
+    // Run q of level i lies in the rows, and the coset in the field.
     requires few { rows.old.levels ≤ 16 }
-    requires level { i < rows.old.levels }
-    requires coset { coset < 2 ^ (16 - rows.old.levels) }
-    requires count { length next.now ≡ 65536 }
-    ensures { EachColumn (IsListedLevel (slice_index next.now) rows.old.levels coset i)
+    requires level { i ≤ rows.old.levels }
+    requires run { q < 2 ^ (rows.old.levels - i) }
+    requires number { number < 2 ^ (16 - i) }
+    // The list, if there is one, has an entry for each point.
+    requires list { IfSome next (λ list. length list.now ≡ 65536) }
+    // The run gets its values at the listed points. No other run changes.
+    ensures { EachColumn (OneRun (q * 2 ^ i) (2 ^ i) (AreListedValues (next_of next.entry) i number))
         rows.old rows.new }
 {
-    rows.fit();
-    for q in 0..1usize << (rows.levels() - i - 1) {
-        split_listed(gf, rows, next, coset, i, q);
+    if i > 0 && has_wanted(next, i, number) {
+        split(gf, rows, i - 1, q, point(2 * number));
+        rows.fit();
+        evaluate_run(gf, rows, next, i - 1, 2 * q, 2 * number);
+        evaluate_run(gf, rows, next, i - 1, 2 * q + 1, 2 * number + 1);
     }
 }
 
 /// Replaces each column of coefficients of a combination (`to_combinations`) by its values at the listed points of a
-/// coset. The other rows have no meaning afterwards. The field has `2 ^ (16 - levels)` cosets of `2 ^ levels` points.
-pub(crate) fn values_in_coset(gf: &Gf, rows: &mut Rows, next: &[u32], coset: usize)
-    requires few { rows.old.levels ≤ 16 }
+/// coset, or at all of its points if there is no list. Rows of other points have no meaning afterwards. The field has
+/// `2 ^ (16 - levels)` cosets of `2 ^ levels` points.
+pub(crate) fn values_in_coset(gf: &Gf, rows: &mut Rows, next: Option<&[u32]>, coset: u16)
     requires coset { coset < 2 ^ (16 - rows.old.levels) }
-    requires count { length next.now ≡ 65536 }
-    ensures { EachColumn (AreListedValues (slice_index next.now) rows.old.levels coset)
-        rows.old rows.new }
+    requires list { IfSome next (λ list. length list.now ≡ 65536) }
+    ensures { EachColumn (AreListedValues (next_of next.entry) rows.old.levels coset) rows.old rows.new }
 {
-    for i in (0..rows.levels()).rev() {
-        split_listed_level(gf, rows, next, coset, i);
-        rows.fit();
-    }
-    rows.fit();
+    evaluate_run(gf, rows, next, rows.levels(), 0, coset);
+}
+
+/// The additive FFT: replaces each column of coefficients by the values of the polynomial at the points of the subspace.
+pub(crate) fn values_at_points(gf: &Gf, rows: &mut Rows)
+    ensures { EachColumn (AreValues rows.old.levels) rows.old rows.new }
+{
+    to_combinations(rows);
+    values_in_coset(gf, rows, None, 0);
 }

@@ -1,17 +1,15 @@
-//! The additive FFT (values of polynomials at the points of a subspace) and its transpose (power sums), level by level,
-//! on all columns of words at once (Cantor 1989; Gao and Mateer 2010). Each level is a pass of butterflies, which add
-//! runs of rows to each other. A run of level i is the `2 ^ i` rows of a coset of subspace i, and run q begins at row
-//! `q * 2 ^ i`. The transpose merges runs from level 0 up, and the FFT splits them from the highest level down.
+//! The butterflies of the additive FFT (values of polynomials at the points of a subspace) and of its transpose (power
+//! sums), on all columns of words at once (Cantor 1989; Gao and Mateer 2010). Run q of level i is the `2 ^ i` rows from
+//! row `q * 2 ^ i` on, and belongs to a coset of subspace i. The transforms are recursions on runs: one half of a run is
+//! finished before the other one is begun, so that its rows stay in the caches.
 
 ghost use Rattle.std.specs.Prelude.{◌<◌, ◌≤◌, ◌+◌, ◌-◌, ◌*◌, ◌^◌, ◌⊎◌, suc};
 ghost use Rattle.par2_spec.specs.Field.{mul};
 ghost use Rattle.par2_transform.specs.Subspaces.{point};
 ghost use Rattle.par2_transform.specs.PowerSums.{ArePowerSums, IsMerged};
-ghost use Rattle.par2_transform.specs.Combinations.{IsCombination, IsHalved, IsHalvedLevel, IsSplitCombination};
-ghost use Rattle.par2_transform.specs.Evaluations.{AreValues, IsSplit};
-ghost use Rattle.par2_transform.specs.Levels.{IsMergedLevel, IsSplitLevel};
+ghost use Rattle.par2_transform.specs.Combinations.{IsCombination, IsHalved, IsSplit};
 ghost use Rattle.par2_transform.specs.Grids.{EachColumn};
-ghost use Rattle.par2_transform.specs.LevelSteps.{OnElements, OneRun, RunAddedBy, AheadAdded, IsRaised, IsSpreadAbove, IsSpreadBelow, IsDivided};
+ghost use Rattle.par2_transform.specs.LevelSteps.{OneRun, RunAddedBy, AheadAdded, IsRaised, IsSpreadAbove, IsSpreadBelow};
 
 use crate::basis::{point, powers_in};
 use crate::rows::Rows;
@@ -19,43 +17,23 @@ use par2_gf16::{Factor, Gf};
 
 /// The transpose: replaces each column of weights by the weighted sums of the first `2 ^ levels` powers of the points.
 pub(crate) fn power_sums(gf: &Gf, rows: &mut Rows)
-    ensures { EachColumn (ArePowerSums rows.old.levels) rows.old rows.new }
+    ensures { EachColumn (ArePowerSums rows.old.levels 0) rows.old rows.new }
 {
-    rows.fit();
-    for i in 0..rows.levels() {
-        merge_level(gf, rows, i);
-    }
+    sum_run(gf, rows, rows.levels(), 0);
 }
 
-/// The additive FFT: replaces each column of coefficients by the values of the polynomial at the points.
-pub(crate) fn values_at_points(gf: &Gf, rows: &mut Rows)
-    ensures { EachColumn (AreValues rows.old.levels) rows.old rows.new }
-{
-    for i in (0..rows.levels()).rev() {
-        split_level(gf, rows, i);
-        rows.fit();
-    }
-    rows.fit();
-}
-
-/// The butterflies of level i of the transpose: merges the runs of `2 ^ i` rows in pairs.
-pub(crate) fn merge_level(gf: &Gf, rows: &mut Rows, i: u32)
-    requires { i < rows.old.levels }
-    ensures { EachColumn (IsMergedLevel rows.old.levels i) rows.old rows.new }
-{
-    for q in 0..1u16 << (rows.levels() - i - 1) {
-        merge(gf, rows, i, q);
-    }
-}
-
-/// The butterflies of level i of the additive FFT: splits each run of `2 ^ (i + 1)` rows into two.
-pub(crate) fn split_level(gf: &Gf, rows: &mut Rows, i: u32)
-    requires { i < rows.old.levels }
-    ensures { EachColumn (IsSplitLevel rows.old.levels i) rows.old rows.new }
+// The transpose of run q of level i, whose rows are weights of the points of coset q.
+fn sum_run(gf: &Gf, rows: &mut Rows, i: u32, q: u16)
+    requires few { rows.old.levels ≤ 16 }
+    requires level { i ≤ rows.old.levels }
+    requires run { q < 2 ^ (rows.old.levels - i) }
+    ensures { EachColumn (OneRun (q * 2 ^ i) (2 ^ i) (ArePowerSums i q)) rows.old rows.new }
 {
     rows.fit();
-    for q in 0..1u16 << (rows.levels() - i - 1) {
-        split(gf, rows, i, q, point(2 * q));
+    if i > 0 {
+        sum_run(gf, rows, i - 1, 2 * q);
+        sum_run(gf, rows, i - 1, 2 * q + 1);
+        merge(gf, rows, i - 1, q);
     }
 }
 
@@ -74,67 +52,52 @@ fn merge(gf: &Gf, rows: &mut Rows, i: u32, q: u16)
     raise(gf, rows, i, start, point(2 * q));
 }
 
-/// Splits run q of level i + 1 into two of level i: from the coefficients of a polynomial to those of two polynomials
-/// that agree with it on one half of the coset each. c is the value of subspace polynomial i on the first half.
-pub(crate) fn split(gf: &Gf, rows: &mut Rows, i: u32, q: u16, c: u16)
-    requires few { rows.old.levels ≤ 16 }
-    requires level { i < rows.old.levels }
-    requires pair { q < 2 ^ (rows.old.levels - suc i) }
-    ensures { EachColumn (OnElements (OneRun (q * 2 ^ suc i) (2 ^ suc i) (IsSplit i c)))
-        rows.old rows.new }
-{
-    let half = 1usize << i;
-    let start = q as usize * 2 * half;
-    divide(gf, rows, i, start, c);
-    rows.add_rows(start, start + half, half);
-}
-
 /// Replaces each column of coefficients by those of the same polynomial as a combination of products of subspace
-/// polynomials (Lin, Chung and Han 2014): divides all runs, level by level. Then the butterflies at the points of any
-/// coset divide no more.
-pub(crate) fn to_combinations(gf: &Gf, rows: &mut Rows)
+/// polynomials (Lin, Chung and Han 2014). Then the butterflies at the points of any coset divide no more.
+pub(crate) fn to_combinations(rows: &mut Rows)
     ensures { EachColumn (IsCombination rows.old.levels) rows.old rows.new }
 {
-    for i in (0..rows.levels()).rev() {
-        halve_level(gf, rows, i);
-        rows.fit();
-    }
-    rows.fit();
+    combine_run(rows, rows.levels(), 0);
 }
 
-// Divides each run of `2 ^ (i + 1)` rows by subspace polynomial i.
-fn halve_level(gf: &Gf, rows: &mut Rows, i: u32)
-    requires { i < rows.old.levels }
-    ensures { EachColumn (IsHalvedLevel rows.old.levels i) rows.old rows.new }
+// The same of run q of level i alone.
+fn combine_run(rows: &mut Rows, i: u32, q: u16)
+    requires few { rows.old.levels ≤ 16 }
+    requires level { i ≤ rows.old.levels }
+    requires run { q < 2 ^ (rows.old.levels - i) }
+    ensures { EachColumn (OneRun (q * 2 ^ i) (2 ^ i) (IsCombination i)) rows.old rows.new }
 {
     rows.fit();
-    for q in 0..1u16 << (rows.levels() - i - 1) {
-        halve(gf, rows, i, q);
+    if i > 0 {
+        halve(rows, i - 1, q);
+        combine_run(rows, i - 1, 2 * q);
+        combine_run(rows, i - 1, 2 * q + 1);
     }
 }
 
-// Divides run q of level i + 1 by subspace polynomial i.
-fn halve(gf: &Gf, rows: &mut Rows, i: u32, q: u16)
+// Divides run q of level i + 1 by subspace polynomial i: leaves the remainder in the lower half and the quotient in the
+// upper one.
+fn halve(rows: &mut Rows, i: u32, q: u16)
     requires few { rows.old.levels ≤ 16 }
     requires level { i < rows.old.levels }
     requires pair { q < 2 ^ (rows.old.levels - suc i) }
-    ensures { EachColumn (OnElements (OneRun (q * 2 ^ suc i) (2 ^ suc i) (IsHalved i)))
-        rows.old rows.new }
+    ensures { EachColumn (OneRun (q * 2 ^ suc i) (2 ^ suc i) (IsHalved i)) rows.old rows.new }
 {
-    let half = 1usize << i;
-    let start = q as usize * 2 * half;
-    divide(gf, rows, i, start, 0);
+    rows.fit();
+    let start = q as usize * 2 * (1usize << i);
+    spread_above(rows, i, start);
+    spread_below(rows, i, start);
 }
 
 /// Splits run q of level i + 1 of combinations into two of level i that agree with it on one half of the coset each. c is
 /// the value of subspace polynomial i on the first half.
-pub(crate) fn split_combination(gf: &Gf, rows: &mut Rows, i: u32, q: u16, c: u16)
+pub(crate) fn split(gf: &Gf, rows: &mut Rows, i: u32, q: u16, c: u16)
     requires few { rows.old.levels ≤ 16 }
     requires level { i < rows.old.levels }
     requires pair { q < 2 ^ (rows.old.levels - suc i) }
-    ensures { EachColumn (OnElements (OneRun (q * 2 ^ suc i) (2 ^ suc i) (IsSplitCombination i c)))
-        rows.old rows.new }
+    ensures { EachColumn (OneRun (q * 2 ^ suc i) (2 ^ suc i) (IsSplit i c)) rows.old rows.new }
 {
+    rows.fit();
     let half = 1usize << i;
     let start = q as usize * 2 * half;
     add_scaled(gf, rows, c, start + half, start, half);
@@ -200,22 +163,7 @@ fn add_upper_ahead(rows: &mut Rows, i: u32, start: usize)
     }
 }
 
-// The first step of `split`: divides the polynomial whose coefficients the run from row `start` on has by the subspace
-// polynomial minus c, and leaves the remainder in the lower half and the quotient in the upper one. The quotient is
-// complete before any of it is added to the lower half.
-fn divide(gf: &Gf, rows: &mut Rows, i: u32, start: usize, c: u16)
-    requires few { rows.old.levels ≤ 16 }
-    requires level { i < rows.old.levels }
-    requires fits { start + 2 ^ suc i ≤ 2 ^ rows.old.levels }
-    ensures { EachColumn (IsDivided i c start) rows.old rows.new }
-{
-    let half = 1usize << i;
-    spread_above(rows, i, start);
-    spread_below(rows, i, start);
-    add_scaled(gf, rows, c, start + half, start, half);
-}
-
-// A step of `divide`: adds coefficient 2 ^ i + e to coefficient e + 2 ^ j, for each lower power 2 ^ j of the subspace
+// A step of `halve`: adds coefficient 2 ^ i + e to coefficient e + 2 ^ j, for each lower power 2 ^ j of the subspace
 // polynomial, if that lies in the upper half.
 fn spread_above(rows: &mut Rows, i: u32, start: usize)
     requires few { rows.old.levels ≤ 16 }
@@ -232,8 +180,8 @@ fn spread_above(rows: &mut Rows, i: u32, start: usize)
     }
 }
 
-// A step of `divide`: adds coefficient 2 ^ i + e to coefficient e + 2 ^ j, as `spread_above`, if it is in the lower
-// half.
+// A step of `halve`: adds coefficient 2 ^ i + e to coefficient e + 2 ^ j, as `spread_above`, if it is in the lower half.
+// The upper half, which is the quotient, is complete before.
 fn spread_below(rows: &mut Rows, i: u32, start: usize)
     requires few { rows.old.levels ≤ 16 }
     requires level { i < rows.old.levels }

@@ -105,7 +105,7 @@ impl<'a> Locator<'a> {
             (length self.now.numerators.sequence.items) sums.now rows.old rows.new }
     {
         copy(self.gf, sums, self.numerators.sequence.len(), rows);
-        to_combinations(self.gf, rows);
+        to_combinations(rows);
     }
 
     // Replaces the rows by the values of the combinations at the points in the coset with this number.
@@ -117,8 +117,8 @@ impl<'a> Locator<'a> {
         ensures { AreValuesOf self.now.next.items self.now.numerators.levels coset combinations.now
             rows.old rows.new }
     {
-        copy(self.gf, combinations, 1 << self.numerators.levels, rows);
-        values_in_coset(self.gf, rows, &self.next, coset);
+        rows.copy_from(combinations);
+        values_in_coset(self.gf, rows, Some(&self.next), coset as u16);
     }
 
     // Adds the value at point j, times its factor, to output j in columns `from` up to `to`, if the point is in the

@@ -1,7 +1,7 @@
 //! The product of a Hankel matrix and sources, in about n log n products of sources: sum t is that of all sources, source
 //! s times element s + t of a sequence. If the sequence has the coefficients of an error locator and the sources are
-//! syndromes, these sums are the coefficients of the numerator, Forney's error evaluator (Forney 1965), or sides of the
-//! locator's recurrence.
+//! syndromes, these sums are the coefficients of the numerator, Forney's error evaluator (Forney 1965), or
+//! right-hand sides of the locator's recurrence.
 
 ghost use Rattle.std.specs.Prelude.{◌≡◌, ℕ, ◌+◌, ◌^◌, ◌<◌, ◌≤◌, length, slice_index, IfOk};
 ghost use Rattle.par2_spec.specs.Sums.{list_at, lists_of, GivesElements};
@@ -10,8 +10,9 @@ ghost use Rattle.par2_transform.specs.Columns.{byte_lists, words_at, AreByteList
 ghost use Rattle.par2_transform.specs.Locators.{AreNumerators, HaveFirst, IsWeighed, numerator};
 
 use crate::blocks::gather_rows;
+use crate::cosets::values_at_points;
 use crate::exponents::{buffers_fit, bytes_from};
-use crate::levels::{power_sums, values_at_points};
+use crate::levels::power_sums;
 use crate::outputs::{Places, add_to_output};
 use crate::plan::columns_for;
 use crate::recovery::whole_buffers;

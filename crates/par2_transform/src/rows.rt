@@ -78,6 +78,15 @@ impl Rows {
         clear(self.bytes.as_mut_slice());
     }
 
+    /// Copies all words of the other rows.
+    pub(crate) fn copy_from(&mut self, other: &Rows)
+        requires levels { other.now.levels ≡ self.old.levels }
+        requires words { other.now.words ≡ self.old.words }
+        ensures { self.new ≡ other.now }
+    {
+        self.bytes.as_mut_slice().copy_from_slice(&other.bytes);
+    }
+
     // The number of words before row u.
     fn place(&self, u: usize) -> usize
         requires { u ≤ 2 ^ self.now.levels }

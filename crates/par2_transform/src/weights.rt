@@ -1,12 +1,10 @@
 //! The inverse of the transposed additive FFT: from power sums to the weights of the points that have them. It works on
-//! one column of words, level by level downwards: `unmerge_level`, `unmerge` and `lower` invert `merge_level`, `merge`
-//! and `raise`.
+//! one column of words: `weigh_run`, `unmerge` and `lower` invert `sum_run`, `merge` and `raise`.
 
-ghost use Rattle.std.specs.Prelude.{◌≡◌, ◌<◌, ◌≤◌, ℕ, ◌+◌, ◌*◌, ◌^◌, suc, length, slice_index};
+ghost use Rattle.std.specs.Prelude.{◌≡◌, ◌<◌, ◌≤◌, ℕ, ◌+◌, ◌-◌, ◌*◌, ◌^◌, suc, length, slice_index};
 ghost use Rattle.par2_spec.specs.Sums.{GivesElements};
 ghost use Rattle.par2_transform.specs.Subspaces.{point};
-ghost use Rattle.par2_transform.specs.PowerSums.{IsMerged, sum_ahead};
-ghost use Rattle.par2_transform.specs.Levels.{IsMergedLevel};
+ghost use Rattle.par2_transform.specs.PowerSums.{ArePowerSums, IsMerged, sum_ahead};
 ghost use Rattle.par2_transform.specs.Chirps.{AreWeights};
 ghost use Rattle.par2_transform.specs.LevelSteps.{OneRun, RunAdded, IsLowered};
 
@@ -32,22 +30,25 @@ pub(crate) fn weights(gf: &Gf, words: &mut [u16], levels: u32)
         → ((e : ℕ) → e < 2 ^ levels → slice_index words.old e ≡ sequence (b + e))
         → AreWeights levels sequence b (slice_index words.new) }
 {
-    for i in (0..levels).rev() {
-        unmerge_level(gf, words, levels, i);
-    }
+    weigh_run(gf, words, levels, 0);
     fit_words(words);
 }
 
-// Inverts `merge_level` on one column: splits each run of level i + 1 into two of level i.
-fn unmerge_level(gf: &Gf, words: &mut [u16], levels: u32, i: u32)
-    requires few { levels ≤ 16 }
-    requires level { i < levels }
-    requires count { length words.old ≡ 2 ^ levels }
+// The same of run q of level i, whose power sums are those of coset q.
+fn weigh_run(gf: &Gf, words: &mut [u16], i: u32, q: u16)
+    requires level { i ≤ 16 }
+    requires run { q < 2 ^ (16 - i) }
+    requires fits { q * 2 ^ i + 2 ^ i ≤ length words.old }
     ensures count { length words.new ≡ length words.old }
-    ensures merged { IsMergedLevel levels i (slice_index words.new) (slice_index words.old) }
+    ensures weights { OneRun (q * 2 ^ i) (2 ^ i) (λ sums weights. ArePowerSums i q weights sums)
+        (slice_index words.old) (slice_index words.new) }
 {
-    for q in 0..1u16 << (levels - i - 1) {
-        unmerge(gf, words, i, q);
+    fit_words(words);
+    if i > 0 {
+        unmerge(gf, words, i - 1, q);
+        weigh_run(gf, words, i - 1, 2 * q);
+        weigh_run(gf, words, i - 1, 2 * q + 1);
+        fit_words(words);
     }
 }
 

@@ -13,8 +13,8 @@ ghost use Rattle.par2_transform.specs.Plans.{cut_of};
 ghost use Rattle.par2_transform.specs.Transforms.{Reaches, coefficient_of};
 
 use crate::blocks::{Block, add_all, clear_all, gather_all};
+use crate::cosets::values_at_points;
 use crate::exponents::{Slices, bytes_from};
-use crate::levels::values_at_points;
 use crate::outputs::Places;
 use crate::plan::Plan;
 use crate::powers::chirp_inverse;

@@ -1,11 +1,11 @@
-use Rattle.par2_solve.proofs.Common.{List, ℕ, ◌-◌, ◌++◌, ◌∷◌, ◌∙◌, ◌≡◌, [], ap₂, sym, arith, rules, map-range_with_len_more, slice_index}
+use Rattle.par2_solve.proofs.Common.{rules, arith, List, ℕ, ◌-◌, ◌≡◌, ◌∙◌, ap, map, range_with_len, slice_index, YieldsList-from_map, YieldsList-from_range, items_from_collect}
+use Rattle.std.specs.Prelude.{Ok, reverse}
 use Rattle.par2_solve.proofs.filling.falling.Goals as goal
 
-pub loop-i-preserved : goal.loop-i-preserved
-loop-i-preserved c =
+pub returns : goal.returns
+returns c =
     let p = c.args.p.now in
-    let i = c.loop-i.i in
-    let here : c.unwrap_or.result ≡ slice_index p (c.args.count - 1 - i) = search rules in
-    c.in_ok-push.ensures.items
-    ∙ ap₂ (λ (xs : List ℕ) (x : ℕ). xs ++ x ∷ []) c.loop-i.invariant here
-    ∙ sym (map-range_with_len_more (λ j. slice_index p (c.args.count - 1 - j)) 0 i i (omega arith))
+    let n = c.args.count in
+    let rising : c.in_ok-coefficients.coefficients.items ≡ map (slice_index p) (range_with_len 0 n) =
+    items_from_collect {E = ℕ} (Ok c.in_ok-coefficients.coefficients) c.in_ok-coefficients.ensures.ran (YieldsList-from_map _ (slice_index p) (YieldsList-from_range 0 n n (cc) (let e : n - 0 ≡ n = omega arith in e)) c.map-rising.ensures.closure (λ x r q k. search rules)) in
+    c.reverse.ensures.items ∙ ap (λ (xs : List ℕ). reverse xs) rising

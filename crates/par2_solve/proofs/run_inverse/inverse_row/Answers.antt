@@ -6,9 +6,8 @@ pub returns : goal.returns
 returns c =
     let p = c.args.p.now in
     let z = c.args.c in
-    let q : c.deref.result.now ≡ quotient z p = c.deref.ensures.value ∙ c.in_ok-quotient.ensures in
-    let at_c : c.mul-at_c.result ≡ mul (pow z c.args.first) (value (quotient z p) z) = c.mul-at_c.ensures ∙ ap₂ mul c.pow.ensures (c.value.ensures ∙ ap (λ xs. value xs z) q) in
+    let at_c : c.mul-at_c.result ≡ mul (pow z c.args.first) (value (quotient z p) z) = c.mul-at_c.ensures ∙ ap₂ mul c.pow.ensures c.derivative.ensures in
     IfOk-weaker c.scaled.result _ _ (λ row is.
     scaled_is c.args.first z c.inverse_of.result p row.items c.ranges.c.fits c.inverse_of.ensures.small (all_from (λ x. x < 2 ^ 16) 0 p (λ i _. Fits-lt-pow (c.type_inv.p i))) (rw at_c at c.inverse_of.ensures.product)
-    (is ∙ ap (times c.inverse_of.result) (c.deref-2.ensures.value ∙ c.in_ok-quotient.ensures)))
+    (is ∙ ap (times c.inverse_of.result) (c.deref.ensures.value ∙ c.in_ok-quotient.ensures)))
     c.scaled.ensures

@@ -9,4 +9,4 @@ loop-j-init c = subst (λ xs. AreFactors c.args.first c.args.p.now c.args.points
 pub loop-j-preserved : goal.loop-j-preserved
 loop-j-preserved c =
     subst (λ xs. AreFactors c.args.first c.args.p.now c.args.points.now xs (c.loop-j.j + 1)) (sym c.in_ok-push.ensures.items)
-    (next_factor c.args.first c.loop-j.j c.in_ok-factor.field-0 c.args.p.now c.args.points.now c.loop-j.factors.items c.loop-j.invariant c.in_ok-factor.ensures.product c.in_ok-factor.ensures.small)
+    (next_factor c.args.first c.loop-j.j c.factor.result c.args.p.now c.args.points.now c.loop-j.factors.items c.loop-j.invariant c.factor.ensures.product c.factor.ensures.small)

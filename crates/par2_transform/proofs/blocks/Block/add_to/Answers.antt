@@ -20,7 +20,7 @@ loop-t-preserved c =
     let narrow : c.args.to ≤ c.args.from + was.sums.words = omega (arith, c.requires.columns, c.requires.words) in
     next_output c.args.outputs.now.places.now c.args.outputs.now.words (cut_of plan) was.sums c.power_sums.new.rows was.exponent c.args.r c.args.from c.args.to c.args.first t c.factor_of-factor.result c.row.result.now
     (lists_of c.args.buffers.now) (lists_of c.loop-t.buffers) (lists_of c.add_to_output.new.buffers)
-    (subst (λ s. EachColumn (ArePowerSums s.levels) s c.power_sums.new.rows) sums c.power_sums.ensures) c.requires.levels low narrow
+    (subst (λ s. EachColumn (ArePowerSums s.levels 0) s c.power_sums.new.rows) sums c.power_sums.ensures) c.requires.levels low narrow
     (c.factor_of-factor.ensures ∙ ap (λ e. mul (pow 2 ((e + t) * c.args.r)) (chirp_inverse plan.classes (e + t))) exponent) c.row.ensures.words c.loop-t.invariant c.add_to_output.ensures
 
 pub returns-clause-added : goal.returns-clause-added

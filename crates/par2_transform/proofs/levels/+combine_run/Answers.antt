@@ -1,0 +1,44 @@
+use Rattle.par2_transform.proofs.Common.{suc, ◌+◌, ◌-◌, ◌*◌, ◌^◌, ◌<◌, ◌≡◌, ◌∙◌, sym, subst, arith, EachColumn, OneRun, column, from}
+use Rattle.par2_transform.specs.Combinations.{IsCombination, IsHalved}
+use Rattle.par2_transform.proofs.GridLaws.{each_of, each_unchanged}
+use Rattle.par2_transform.proofs.RunLaws.{BothHalves, both_halves, combination_of_first, combination_of_one, combined_run, halves_below, unchanged_run}
+use Rattle.par2_transform.proofs.levels.+combine_run.Goals as goal
+
+pub combine_run-requires : goal.combine_run-requires
+combine_run-requires t c =
+    let same = c.halve.ensures.levels in
+    let halves = halves_below c.args.rows.now.levels c.args.i c.args.q c.if-i-gt0.true c.requires.level c.requires.run in
+    (omega (arith, c.decreases, c.if-i-gt0.true), (omega (arith, same, c.requires.few), (omega (arith, same, c.requires.level), subst (λ n. 2 * c.args.q < 2 ^ (n - (c.args.i - 1))) (sym same) (omega (arith, halves)))))
+
+pub combine_run-requires-then-i-gt0 : goal.combine_run-requires-then-i-gt0
+combine_run-requires-then-i-gt0 t c =
+    let same : c.combine_run.new.rows.levels ≡ c.args.rows.now.levels = c.combine_run.ensures.levels ∙ c.halve.ensures.levels in
+    let halves = halves_below c.args.rows.now.levels c.args.i c.args.q c.if-i-gt0.true c.requires.level c.requires.run in
+    (omega (arith, c.decreases, c.if-i-gt0.true), (omega (arith, same, c.requires.few), (omega (arith, same, c.requires.level), subst (λ n. 2 * c.args.q + 1 < 2 ^ (n - (c.args.i - 1))) (sym same) halves)))
+
+pub returns-then-i-gt0 : goal.returns-then-i-gt0
+returns-then-i-gt0 t c =
+    let i = c.args.i - 1 in
+    let q = c.args.q in
+    let a = c.args.rows.now in
+    let up : suc i ≡ c.args.i = omega (arith, c.if-i-gt0.true) in
+    let low = OneRun (2 * q * 2 ^ i) (2 ^ i) (IsCombination i) in
+    let high = OneRun ((2 * q + 1) * 2 ^ i) (2 ^ i) (IsCombination i) in
+    let both = BothHalves i q (IsCombination i) (IsCombination i) in
+    let b = c.halve.new.rows in
+    let d = c.combine_run.new.rows in
+    let e = c.combine_run-then-i-gt0.new.rows in
+    subst (λ n. EachColumn (OneRun (q * 2 ^ n) (2 ^ n) (IsCombination n)) a e) up
+    (each_of (OneRun (q * 2 ^ suc i) (2 ^ suc i) (IsHalved i)) both (OneRun (q * 2 ^ suc i) (2 ^ suc i) (IsCombination (suc i))) a b e
+    c.halve.ensures
+    (each_of low high both b d e c.combine_run.ensures c.combine_run-then-i-gt0.ensures
+    (λ k one two. both_halves i q (IsCombination i) (IsCombination i) (combination_of_first i) (combination_of_first i) (column b k) (column d k) (column e k) one two))
+    (λ k one two. combined_run i q (column a k) (column b k) (column e k) one two))
+
+pub returns-else-i-gt0 : goal.returns-else-i-gt0
+returns-else-i-gt0 t c =
+    let none : 0 ≡ c.args.i = omega (arith, c.if-i-gt0.false) in
+    let q = c.args.q in
+    let a = c.args.rows.now in
+    subst (λ n. EachColumn (OneRun (q * 2 ^ n) (2 ^ n) (IsCombination n)) a a) none
+    (each_unchanged (OneRun (q * 2 ^ 0) (2 ^ 0) (IsCombination 0)) a (λ k. unchanged_run (q * 2 ^ 0) (2 ^ 0) (IsCombination 0) (column a k) (combination_of_one (from (q * 2 ^ 0) (column a k)) (c.fit.ensures k _))))
