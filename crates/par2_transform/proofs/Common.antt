@@ -33,7 +33,7 @@ unfoldable pub use Rattle.par2_transform.specs.Chirps.{chirp, chirp_inverse, cop
 pub use Rattle.par2_transform.specs.Columns.{AreByteLists, AreNumbers, recovered, byte_lists, words_at}
 pub use Rattle.par2_transform.specs.Cosets.{AreListedValues, IsListed, next_of}
 pub use Rattle.par2_transform.specs.Evaluations.{AreValues, from, value}
-pub use Rattle.par2_transform.specs.Grids.{AddsWords, AreRows, EachColumn, Grid, IsAdded, column}
+pub use Rattle.par2_transform.specs.Grids.{AddsWords, AreCopied, AreRows, CopiesWords, EachColumn, Grid, IsAdded, column}
 pub use Rattle.par2_transform.specs.Locators.{AreFit, AreNumbered, AreNumerators, AreValuesOf, HaveFirst, IsWeighed, in_coset, numerator, quotient_coefficient, quotient_sum}
 pub use Rattle.par2_transform.specs.Plans.{cut_of}
 pub use Rattle.par2_transform.specs.PowerSums.{ArePowerSums, IsMerged, member, sum_ahead}

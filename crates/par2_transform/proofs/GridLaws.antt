@@ -1,5 +1,5 @@
 -- Rows and their columns.
-use Rattle.par2_transform.proofs.Common.{ℕ, suc, ◌+◌, ◌-◌, ◌*◌, ◌^◌, ◌<◌, ◌≤◌, ◌≡◌, ◌⊎◌, inl, inr, refl, sym, ap, ap₂, ◌∙◌, subst, List, length, get_or, bit_xor, arith, add-mul, one-mul, Vec, Global, xor_zero_r, cases_eq, cases_lt, get_or_past, with_items_is, word, within, AddsTo, Grid, column, AreRows, IsAdded, EachColumn, RunAddedBy, with_items}
+use Rattle.par2_transform.proofs.Common.{ℕ, suc, ◌+◌, ◌-◌, ◌*◌, ◌^◌, ◌<◌, ◌≤◌, ◌≡◌, ◌⊎◌, inl, inr, refl, sym, ap, ap₂, ◌∙◌, subst, List, length, get_or, bit_xor, arith, add-mul, one-mul, Vec, Global, xor_zero_r, cases_eq, cases_lt, get_or_past, with_items_is, word, within, AddsTo, Grid, column, AreCopied, AreRows, CopiesWords, IsAdded, EachColumn, RunAddedBy, with_items}
 use Rattle.std.proofs.Common.{mul-le-mul_right}
 use Rattle.par2_transform.proofs.AddingLaws.{within-in, within-below, within-above, within_same}
 
@@ -149,6 +149,21 @@ run_added_at f levels words at to n a b m old new are fits ea eb em added =
     (subst (λ k. AddsTo (λ p. within (to * words) (to * words + n * words) p (f (word (k + (p - to * words)) old))) old new) ea
     (subst (λ k. AddsTo (λ p. within k (k + n * words) p (f (word (a + (p - k)) old))) old new) eb
     (subst (λ k. AddsTo (λ p. within b (b + k) p (f (word (a + (p - b)) old))) old new) em added)))
+
+-- ---- rows copied
+
+pub rows_copied : (levels words n : ℕ) (other : Grid) (old new : List ℕ) → other.words ≡ words → CopiesWords (n * words) other.bytes old new
+    → AreCopied n other (record { levels = levels; words = words; bytes = old }) (record { levels = levels; words = words; bytes = new })
+rows_copied levels words n other old new same copied = record {
+  levels = refl;
+  words = refl;
+  first = λ c u low.
+      within_same 0 words c (word (u * words + c) new) (word (u * words + c) other.bytes) (λ a inside. copied.first (u * words + c) (omega (arith, rows_below u n words low, inside)))
+      ∙ ap (λ m. within 0 m c (word (u * m + c) other.bytes)) (sym same);
+  rest = λ c u high.
+      within_same 0 words c (word (u * words + c) new) (word (u * words + c) old)
+      (λ a inside. copied.rest (u * words + c) (let start : n * words ≤ u * words = mul-le-mul_right words high in omega (arith, start)));
+}
 
 -- ---- rows of zeros
 

@@ -1,9 +1,10 @@
 -- Sums of sources by the error locator.
-use Rattle.par2_transform.proofs.Common.{inl, inr, ℕ, ◌+◌, ◌-◌, ◌*◌, ◌%◌, ◌^◌, ◌<◌, ◌≤◌, ◌≡◌, sym, ap, ap₂, subst, ◌∙◌, arith, bit_xor, zero-add, add-mul, one-mul, List, length, min, get_or, slice_index, get_or_past, length-map, pow-le-pow_right, point_number, cases_eq, cases_lt, pow-add, mul-le-mul_right, word, xor_zero_l, mul, pow, GivesElements, product-lt, product_comm, product-one, product_assoc, product_linear_left, zero-product, power-lt, word-lt, field_sum, field_sum-lt, field_sum_same, field_sum_scaled, within, AddsAt, RowsGathered, AreByteLists, words_at, list_at, AreValues, AreWeights, value, from, Grid, column, IsAdded, EachColumn, ArePowerSums, power_sum, point, IsListed, AreListedValues, AreNumbered, AreNumerators, AreValuesOf, HaveFirst, IsWeighed, in_coset, numerator, quotient_sum, Place}
+use Rattle.par2_transform.proofs.Common.{inl, inr, suc, pow-suc, AreCopied, ℕ, ◌+◌, ◌-◌, ◌*◌, ◌%◌, ◌^◌, ◌<◌, ◌≤◌, ◌≡◌, sym, ap, ap₂, subst, ◌∙◌, arith, bit_xor, zero-add, add-mul, one-mul, List, length, min, get_or, slice_index, get_or_past, length-map, pow-le-pow_right, point_number, cases_eq, cases_lt, pow-add, mul-le-mul_right, word, xor_zero_l, mul, pow, GivesElements, product-lt, product_comm, product-one, product_assoc, product_linear_left, zero-product, power-lt, word-lt, field_sum, field_sum-lt, field_sum_same, field_sum_scaled, within, AddsAt, RowsGathered, AreByteLists, words_at, list_at, AreValues, AreWeights, value, from, Grid, column, IsAdded, EachColumn, ArePowerSums, power_sum, point, IsListed, AreListedValues, AreNumbered, AreNumerators, AreValuesOf, HaveFirst, IsWeighed, in_coset, numerator, quotient_sum, Place}
 use Rattle.std.proofs.Common.{map}
 use Rattle.std.proofs.lemmas.List.{get_or-map}
 use Rattle.par2_transform.proofs.AddingLaws.{adds_none, adds_more, adds_same, within-in, within-below, within-above, within_joined, within_same}
 use Rattle.par2_transform.specs.Combinations.{combined, IsCombination}
+use Rattle.par2_transform.proofs.CombinationLaws.{combined_same}
 use Rattle.par2_transform.specs.Locators.{AreCombinations, HoldNumerators}
 use Rattle.par2_transform.proofs.Chirps.{hankel_sum}
 use Rattle.par2_transform.proofs.OutputLaws.{power_sum_plain}
@@ -17,6 +18,25 @@ pub shifted_most : (i : ℕ) → i ≤ 16 → 1 * 2 ^ i % 18446744073709551616 �
 shifted_most i few =
     let most : 2 ^ i ≤ 2 ^ 16 = pow-le-pow_right (let two : 0 < 2 = omega arith in two) few in
     omega (arith, most)
+
+-- fewer levels have fewer rows
+pub less_rows : (i k : ℕ) → i ≤ k → 2 ^ i ≤ 2 ^ k
+less_rows i k few = pow-le-pow_right (let two : 0 < 2 = omega arith in two) few
+
+-- a numerator has at most half as many coefficients as there are points
+pub half_fits : (n k : ℕ) → n + n ≤ 2 ^ k → n ≤ 2 ^ (k - 1)
+half_fits n k fits = elim (cases_lt 0 k) [
+  | inl some ↦
+      let up : suc (k - 1) ≡ k = omega (arith, some) in
+      let double : 2 ^ suc (k - 1) ≡ 2 ^ (k - 1) * 2 = pow-suc 2 (k - 1) in
+      let whole : 2 ^ k ≡ 2 ^ (k - 1) * 2 = ap (λ m. 2 ^ m) (sym up) ∙ double in
+      omega (arith, fits, whole)
+  | inr none ↦
+      let e : k ≡ 0 = omega (arith, none) in
+      let one : 2 ^ k ≡ 1 = ap (λ m. 2 ^ m) e in
+      let empty : n ≡ 0 = omega (arith, fits, one) in
+      omega (arith, empty)
+]
 
 pub numbered_by : (points read numbers reported next : List ℕ) → GivesElements (slice_index points) → read ≡ points → numbers ≡ map point_number read → reported ≡ numbers → length next ≡ 65536
     → ((j : ℕ) → j < length reported → IsListed (slice_index next) (get_or reported j 0)) → AreNumbered points numbers next
@@ -132,29 +152,25 @@ numerator-lt sequence sources p t bytes fit =
 
 -- ---- combinations, and their values at points
 
-pub combinations_of : (k n : ℕ) (sums old mid new : Grid) → n ≤ 2 ^ k → old.levels ≡ k → HaveFirst n (column sums) old mid → EachColumn (IsCombination mid.levels) mid new → AreCombinations k n sums old new
-combinations_of k n sums old mid new fits levels have combinations = record {
-  levels = combinations.levels ∙ have.levels;
-  words = combinations.words ∙ have.words;
+pub combinations_of : (k n : ℕ) (sums old cleared mid new : Grid) → n ≤ 2 ^ k → cleared.levels ≡ old.levels → cleared.words ≡ old.words → ((c u : ℕ) → column cleared c u ≡ 0)
+    → AreCopied n sums cleared mid → EachColumn (IsCombination k) mid new → AreCombinations k n sums old new
+combinations_of k n sums old cleared mid new fits levels words zero copied combinations = record {
+  levels = combinations.levels ∙ copied.levels ∙ levels;
+  words = combinations.words ∙ copied.words ∙ words;
   each = λ c x low hx.
-      at_k.columns c (omega (arith, low, have.words)) x hx
-      ∙ short_value n k (column mid c) (column sums c) x fits (λ m h. have.first c m low h) (λ m h. have.none c m h);
+      combinations.columns c (omega (arith, low, copied.words, words)) x hx
+      ∙ short_value n k (column mid c) (column sums c) x fits (λ m h. copied.first c m h) (λ m h. copied.rest c m h ∙ zero c m);
 }
-  where
-    at_k : EachColumn (IsCombination k) mid new
-    at_k = subst (λ m. EachColumn (IsCombination m) mid new) (have.levels ∙ levels) combinations
 
-pub values_of : (next : List ℕ) (k coset : ℕ) (combinations mid new : Grid) → combinations.levels ≡ k → mid ≡ combinations
-    → EachColumn (AreListedValues (slice_index next) mid.levels coset) mid new → AreValuesOf next k coset combinations mid new
-values_of next k coset combinations mid new levels same values = record {
-  levels = values.levels;
-  words = values.words;
+pub values_of : (next : List ℕ) (k coset : ℕ) (combinations old mid new : Grid) → AreCopied (2 ^ k) combinations old mid
+    → EachColumn (AreListedValues (slice_index next) k coset) mid new → AreValuesOf next k coset combinations old new
+values_of next k coset combinations old mid new copied values = record {
+  levels = values.levels ∙ copied.levels;
+  words = values.words ∙ copied.words;
   each = λ c u low here listed.
-      at_k.columns c low u here listed ∙ ap (λ grid. combined k (column grid c) (point (coset * 2 ^ k + u))) same;
+      values.columns c (omega (arith, low, copied.words)) u here listed
+      ∙ combined_same k (column mid c) (column combinations c) (point (coset * 2 ^ k + u)) (λ m h. copied.first c m h);
 }
-  where
-    at_k : EachColumn (AreListedValues (slice_index next) k coset) mid new
-    at_k = subst (λ m. EachColumn (AreListedValues (slice_index next) m coset) mid new) (ap (λ grid. grid.levels) same ∙ levels) values
 
 -- ---- the product, by the numerator's values
 

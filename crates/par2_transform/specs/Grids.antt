@@ -23,6 +23,19 @@ pub record AddsWords (src old new : List ℕ) : Type 0 where
   pub same_length : length new ≡ length old
   pub each : (p : ℕ) → 2 * p + 1 < length old → word p new ≡ bit_xor (word p old) (word p src)
 
+-- the first n words are those of src, and the rest is unchanged
+pub record CopiesWords (n : ℕ) (src old new : List ℕ) : Type 0 where
+  pub same_length : length new ≡ length old
+  pub first : (p : ℕ) → p < n → word p new ≡ word p src
+  pub rest : (p : ℕ) → n ≤ p → word p new ≡ word p old
+
+-- the first n rows are those of the other rows, and the rest is unchanged
+pub record AreCopied (n : ℕ) (other old new : Grid) : Type 0 where
+  pub levels : new.levels ≡ old.levels
+  pub words : new.words ≡ old.words
+  pub first : (c u : ℕ) → u < n → column new c u ≡ column other c u
+  pub rest : (c u : ℕ) → n ≤ u → column new c u ≡ column old c u
+
 -- to word c of row `to`, `other c` is added, and no other row changes
 pub record IsAdded (old new : Grid) (to : ℕ) (other : ℕ → ℕ) : Type 0 where
   pub levels : new.levels ≡ old.levels

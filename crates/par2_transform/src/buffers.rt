@@ -5,7 +5,7 @@ ghost use Rattle.std.specs.Prelude.{◌≡◌, ℕ, ◌+◌, ◌-◌, ◌*◌, �
 ghost use Rattle.par2_spec.specs.Field.{mul};
 ghost use Rattle.par2_spec.specs.Slices.{word};
 ghost use Rattle.par2_transform.specs.Adding.{within, AddsTo};
-ghost use Rattle.par2_transform.specs.Grids.{AddsWords};
+ghost use Rattle.par2_transform.specs.Grids.{AddsWords, CopiesWords};
 
 use par2_gf16::{Factor, Gf};
 
@@ -36,6 +36,15 @@ pub(crate) fn copy_padded(bytes: &[u8], to: &mut [u8])
     let (front, back) = to.split_at_mut(count);
     front.copy_from_slice(&bytes[..count]);
     clear(back);
+}
+
+/// Copies the first `count` words of `src` to those of `dst`.
+pub(crate) fn copy_words(src: &[u8], dst: &mut [u8], count: usize)
+    requires source { 2 * count ≤ length src.now }
+    requires room { 2 * count ≤ length dst.old }
+    ensures { CopiesWords count src.now dst.old dst.new }
+{
+    dst[..2 * count].copy_from_slice(&src[..2 * count]);
 }
 
 // Adds each word of `src` to the word of `dst` at the same place. The sum of two elements is their exclusive or.

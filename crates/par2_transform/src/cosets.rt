@@ -95,21 +95,30 @@ fn evaluate_run(gf: &Gf, rows: &mut Rows, next: Option<&[u32]>, i: u32, q: u16, 
     }
 }
 
-/// Replaces each column of coefficients of a combination (`to_combinations`) by its values at the listed points of a
-/// coset, or at all of its points if there is no list. Rows of other points have no meaning afterwards. The field has
-/// `2 ^ (16 - levels)` cosets of `2 ^ levels` points.
-pub(crate) fn values_in_coset(gf: &Gf, rows: &mut Rows, next: Option<&[u32]>, coset: u16)
-    requires coset { coset < 2 ^ (16 - rows.old.levels) }
+/// Replaces the first `2 ^ levels` coefficients of each column, which are those of a combination (`to_combinations`), by
+/// its values at the listed points of a coset, or at all of its points if there is no list. Rows of other points have no
+/// meaning afterwards. The field has `2 ^ (16 - levels)` cosets of `2 ^ levels` points.
+pub(crate) fn values_in_coset(
+    gf: &Gf,
+    rows: &mut Rows,
+    next: Option<&[u32]>,
+    levels: u32,
+    coset: u16,
+)
+    requires few { rows.old.levels ≤ 16 }
+    requires levels { levels ≤ rows.old.levels }
+    requires coset { coset < 2 ^ (16 - levels) }
     requires list { IfSome next (λ list. length list.now ≡ 65536) }
-    ensures { EachColumn (AreListedValues (next_of next.entry) rows.old.levels coset) rows.old rows.new }
+    ensures { EachColumn (AreListedValues (next_of next.entry) levels coset) rows.old rows.new }
 {
-    evaluate_run(gf, rows, next, rows.levels(), 0, coset);
+    evaluate_run(gf, rows, next, levels, 0, coset);
 }
 
 /// The additive FFT: replaces each column of coefficients by the values of the polynomial at the points of the subspace.
 pub(crate) fn values_at_points(gf: &Gf, rows: &mut Rows)
     ensures { EachColumn (AreValues rows.old.levels) rows.old rows.new }
 {
-    to_combinations(rows);
-    values_in_coset(gf, rows, None, 0);
+    let levels = rows.levels();
+    to_combinations(rows, levels);
+    values_in_coset(gf, rows, None, levels, 0);
 }

@@ -52,12 +52,15 @@ fn merge(gf: &Gf, rows: &mut Rows, i: u32, q: u16)
     raise(gf, rows, i, start, point(2 * q));
 }
 
-/// Replaces each column of coefficients by those of the same polynomial as a combination of products of subspace
-/// polynomials (Lin, Chung and Han 2014). Then the butterflies at the points of any coset divide no more.
-pub(crate) fn to_combinations(rows: &mut Rows)
-    ensures { EachColumn (IsCombination rows.old.levels) rows.old rows.new }
+/// Replaces the first `2 ^ levels` coefficients of each column by those of the same polynomial as a combination of
+/// products of subspace polynomials (Lin, Chung and Han 2014). Then the butterflies at the points of any coset divide no
+/// more.
+pub(crate) fn to_combinations(rows: &mut Rows, levels: u32)
+    requires few { rows.old.levels ≤ 16 }
+    requires levels { levels ≤ rows.old.levels }
+    ensures { EachColumn (IsCombination levels) rows.old rows.new }
 {
-    combine_run(rows, rows.levels(), 0);
+    combine_run(rows, levels, 0);
 }
 
 // The same of run q of level i alone.

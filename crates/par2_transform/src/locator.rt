@@ -11,7 +11,7 @@ ghost use Rattle.par2_transform.specs.Adding.{within, AddsAt, AddsToEach, HaveWo
 ghost use Rattle.par2_transform.specs.Columns.{byte_lists, words_at, AreByteLists};
 ghost use Rattle.par2_transform.specs.Grids.{column};
 ghost use Rattle.par2_transform.specs.Subspaces.{point_number};
-ghost use Rattle.par2_transform.specs.Locators.{AreCombinations, AreFit, AreNumbered, AreValuesOf, HaveFirst, HoldNumerators, in_coset, quotient_sum};
+ghost use Rattle.par2_transform.specs.Locators.{AreCombinations, AreFit, AreNumbered, AreValuesOf, HoldNumerators, in_coset, quotient_sum};
 
 use crate::basis::point_number;
 use crate::cosets::{list, values_in_coset};
@@ -22,7 +22,7 @@ use crate::plan::columns_for;
 use crate::recovery::whole_buffers;
 use crate::rows::Rows;
 use crate::weights::fit_words;
-use par2_gf16::{Factor, Gf};
+use par2_gf16::Gf;
 use std::alloc::{AllocError, Global};
 
 /// Multiplies sources by the quotients of a polynomial on division by z minus each of the points. Each quotient is
@@ -35,6 +35,10 @@ pub struct Locator<'a> {
     pub factors: Vec<u16>,
     numbers: Vec<u16>,
     next: Vec<u32>,
+    // The numerator has at most `2 ^ levels` coefficients, so cosets of as many points serve.
+    levels: u32,
+    ghost few: { levels ≤ numerators.levels },
+    ghost fit: { length numerators.sequence.items ≤ 2 ^ levels },
     ghost whole: { numerators.count ≡ length numerators.sequence.items },
     ghost factors_count: { length factors.items ≡ length points.items },
     ghost elements: { AreFit points.items factors.items },
@@ -46,21 +50,6 @@ fn numbers_of(alloc: Global, points: &[u16]) -> Result<Vec<u16>, AllocError>
     ensures { IfOk result (λ numbers. numbers.items ≡ map point_number points.now) }
 {
     points.iter().map(|x| point_number(*x)).collect(alloc)
-}
-
-// Copies the first `count` rows of `other` to the same rows. The rows after them become zero.
-fn copy(gf: &Gf, other: &Rows, count: usize, rows: &mut Rows)
-    requires count { count ≤ 2 ^ rows.old.levels }
-    requires levels { other.now.levels ≡ rows.old.levels }
-    requires words { other.now.words ≡ rows.old.words }
-    ensures { HaveFirst count (column other.now) rows.old rows.new }
-{
-    other.fit();
-    rows.clear();
-    let factor = Factor::new(1);
-    for u in 0..count {
-        rows.add_other(gf, &factor, other, u, u);
-    }
 }
 
 impl<'a> Locator<'a> {
@@ -85,6 +74,7 @@ impl<'a> Locator<'a> {
         let next = list(alloc, &numbers)?;
         fit_words(&points);
         fit_words(&factors);
+        let levels = numerators.levels.saturating_sub(1);
         Ok(Locator {
             gf,
             numerators,
@@ -92,6 +82,7 @@ impl<'a> Locator<'a> {
             factors,
             numbers,
             next,
+            levels,
         })
     }
 
@@ -101,24 +92,25 @@ impl<'a> Locator<'a> {
         requires rows { rows.old.levels ≡ self.now.numerators.levels }
         requires sums { sums.now.levels ≡ self.now.numerators.levels }
         requires words { sums.now.words ≡ rows.old.words }
-        ensures { AreCombinations self.now.numerators.levels
+        ensures { AreCombinations self.now.levels
             (length self.now.numerators.sequence.items) sums.now rows.old rows.new }
     {
-        copy(self.gf, sums, self.numerators.sequence.len(), rows);
-        to_combinations(rows);
+        rows.clear();
+        rows.copy_from(sums, self.numerators.sequence.len());
+        to_combinations(rows, self.levels);
     }
 
     // Replaces the rows by the values of the combinations at the points in the coset with this number.
     fn evaluate(&self, coset: usize, combinations: &Rows, rows: &mut Rows)
-        requires coset { coset < 2 ^ (16 - self.now.numerators.levels) }
+        requires coset { coset < 2 ^ (16 - self.now.levels) }
         requires rows { rows.old.levels ≡ self.now.numerators.levels }
         requires combinations { combinations.now.levels ≡ self.now.numerators.levels }
         requires words { combinations.now.words ≡ rows.old.words }
-        ensures { AreValuesOf self.now.next.items self.now.numerators.levels coset combinations.now
+        ensures { AreValuesOf self.now.next.items self.now.levels coset combinations.now
             rows.old rows.new }
     {
-        rows.copy_from(combinations);
-        values_in_coset(self.gf, rows, Some(&self.next), coset as u16);
+        rows.copy_from(combinations, 1 << self.levels);
+        values_in_coset(self.gf, rows, Some(&self.next), self.levels, coset as u16);
     }
 
     // Adds the value at point j, times its factor, to output j in columns `from` up to `to`, if the point is in the
@@ -134,7 +126,7 @@ impl<'a> Locator<'a> {
         outputs: &Places,
     )
         // The coset and the output exist, there is an output for each point, and the rows have the locator's shape.
-        requires coset { coset < 2 ^ (16 - self.now.numerators.levels) }
+        requires coset { coset < 2 ^ (16 - self.now.levels) }
         requires place { j < length outputs.now.places.now }
         requires count { length outputs.now.places.now ≡ length self.now.points.items }
         requires rows { rows.now.levels ≡ self.now.numerators.levels }
@@ -145,18 +137,18 @@ impl<'a> Locator<'a> {
         requires room { LieWithin outputs.now.words outputs.now.places.now (lists_of buffers.old) }
         // The scaled value is added to output j if its point is in the coset, and nothing else changes.
         ensures { AddsAt outputs.now.places.now outputs.now.words (λ t p. within j (j + 1) t
-            (in_coset self.now.numbers.items self.now.numerators.levels coset j (within from to p
+            (in_coset self.now.numbers.items self.now.levels coset j (within from to p
             (mul (slice_index self.now.factors.items j) (column rows.now (p - from)
-            (slice_index self.now.numbers.items j - coset * 2 ^ self.now.numerators.levels))))))
+            (slice_index self.now.numbers.items j - coset * 2 ^ self.now.levels))))))
             (lists_of buffers.old) (lists_of buffers.new) }
     {
         let number = word_or_zero(&self.numbers, j) as usize;
-        let first = coset << self.numerators.levels;
+        let first = coset << self.levels;
         if number < first {
             return;
         }
         let u = number - first;
-        if u < 1 << self.numerators.levels {
+        if u < 1 << self.levels {
             let factor = word_or_zero(&self.factors, j);
             add_to_output(self.gf, factor, rows.row(u), buffers, outputs, j, from, to);
         }
@@ -176,14 +168,14 @@ impl<'a> Locator<'a> {
         outputs: &Places,
     )
         // The coset exists, there is an output for each point, and both sets of rows have the locator's shape.
-        requires coset { coset < 2 ^ (16 - self.now.numerators.levels) }
+        requires coset { coset < 2 ^ (16 - self.now.levels) }
         requires count { length outputs.now.places.now ≡ length self.now.points.items }
         requires rows { rows.old.levels ≡ self.now.numerators.levels }
         requires combinations { combinations.now.levels ≡ self.now.numerators.levels }
         requires words { combinations.now.words ≡ rows.old.words }
         // The combinations are the numerators over the sources.
         requires bytes { AreByteLists (byte_lists sources.now) }
-        requires numerators { HoldNumerators self.now.numerators.levels
+        requires numerators { HoldNumerators self.now.levels
             self.now.numerators.sequence.items (byte_lists sources.now) from combinations.now }
         // These columns fit the rows and lie inside the outputs, which lie inside the buffers.
         requires order { from ≤ to }
@@ -195,7 +187,7 @@ impl<'a> Locator<'a> {
         ensures words { rows.new.words ≡ rows.old.words }
         // Each output whose point is in the coset gets its sum. Nothing else changes.
         ensures added { AddsAt outputs.now.places.now outputs.now.words (λ t p.
-            in_coset self.now.numbers.items self.now.numerators.levels coset t (within from to p
+            in_coset self.now.numbers.items self.now.levels coset t (within from to p
             (quotient_sum self.now.numerators.sequence.items self.now.points.items self.now.factors.items
             (words_at (byte_lists sources.now) p) t)))
             (lists_of buffers.old) (lists_of buffers.new) }
@@ -242,7 +234,7 @@ impl<'a> Locator<'a> {
     {
         self.numerators.sum(sources, from, rows, sums);
         self.combine(sums, rows);
-        for coset in 0..1usize << (16 - self.numerators.levels) {
+        for coset in 0..1usize << (16 - self.levels) {
             self.add_coset(sources, coset, from, to, rows, sums, buffers, outputs);
         }
     }

@@ -5,11 +5,11 @@ ghost use Rattle.std.specs.Prelude.{◌≡◌, ℕ, ◌+◌, ◌*◌, ◌^◌, �
 ghost use Rattle.par2_spec.specs.Field.{mul};
 ghost use Rattle.par2_spec.specs.Slices.{word};
 ghost use Rattle.par2_spec.specs.Sums.{GivesElements};
-ghost use Rattle.par2_transform.specs.Grids.{column, EachColumn, IsAdded};
+ghost use Rattle.par2_transform.specs.Grids.{column, AreCopied, EachColumn, IsAdded};
 ghost use Rattle.par2_transform.specs.LevelSteps.{RunAddedBy, RunAdded};
 
 use crate::buffers::{
-    add_products, add_products_within, add_words_within, clear, copy_padded, fit_bytes,
+    add_products, add_products_within, add_words_within, clear, copy_padded, copy_words, fit_bytes,
 };
 use par2_gf16::{Factor, Gf};
 use std::alloc::{AllocError, Global};
@@ -78,15 +78,6 @@ impl Rows {
         clear(self.bytes.as_mut_slice());
     }
 
-    /// Copies all words of the other rows.
-    pub(crate) fn copy_from(&mut self, other: &Rows)
-        requires levels { other.now.levels ≡ self.old.levels }
-        requires words { other.now.words ≡ self.old.words }
-        ensures { self.new ≡ other.now }
-    {
-        self.bytes.as_mut_slice().copy_from_slice(&other.bytes);
-    }
-
     // The number of words before row u.
     fn place(&self, u: usize) -> usize
         requires { u ≤ 2 ^ self.now.levels }
@@ -102,6 +93,17 @@ impl Rows {
         ensures words { (c : ℕ) → word c result.now ≡ column self.now c u }
     {
         &self.bytes[2 * self.place(u)..2 * self.place(u + 1)]
+    }
+
+    /// Copies the first `count` of the other rows.
+    pub(crate) fn copy_from(&mut self, other: &Rows, count: usize)
+        requires count { count ≤ 2 ^ self.old.levels }
+        requires levels { other.now.levels ≡ self.old.levels }
+        requires words { other.now.words ≡ self.old.words }
+        ensures { AreCopied count other.now self.old self.new }
+    {
+        let count = self.place(count);
+        copy_words(&other.bytes, self.bytes.as_mut_slice(), count);
     }
 
     /// Adds the factor times word c of the bytes to word c of row `to`. Bytes shorter than a row are padded with zeros.

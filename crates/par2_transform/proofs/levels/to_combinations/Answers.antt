@@ -1,4 +1,4 @@
-use Rattle.par2_transform.proofs.Common.{◌*◌, ◌^◌, subst, EachColumn, OneRun}
+use Rattle.par2_transform.proofs.Common.{◌*◌, ◌^◌, OneRun}
 use Rattle.par2_transform.specs.Combinations.{IsCombination}
 use Rattle.par2_transform.proofs.GridLaws.{each_so}
 use Rattle.par2_transform.proofs.RunLaws.{combination_of_first, whole_run}
@@ -6,6 +6,5 @@ use Rattle.par2_transform.proofs.levels.to_combinations.Goals as goal
 
 pub returns : goal.returns
 returns c =
-    let k = c.levels.result in
-    subst (λ n. EachColumn (IsCombination n) c.args.rows.now c.combine_run.new.rows) c.levels.ensures.value
-    (each_so (OneRun (0 * 2 ^ k) (2 ^ k) (IsCombination k)) (IsCombination k) c.args.rows.now c.combine_run.new.rows c.combine_run.ensures (whole_run k (IsCombination k) (combination_of_first k)))
+    let k = c.args.levels in
+    each_so (OneRun (0 * 2 ^ k) (2 ^ k) (IsCombination k)) (IsCombination k) c.args.rows.now c.combine_run.new.rows c.combine_run.ensures (whole_run k (IsCombination k) (combination_of_first k))

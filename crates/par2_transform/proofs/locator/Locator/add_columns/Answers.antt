@@ -9,7 +9,7 @@ loop-coset-init c =
     record {
       levels = c.sum.ensures.numerators.levels;
       words = c.sum.ensures.numerators.words;
-      added = no_coset c.args.outputs.now.places.now c.args.outputs.now.words self.numbers.items self.numerators.levels c.args.from c.args.to (λ t p. quotient_sum self.numerators.sequence.items self.points.items self.factors.items (words_at (byte_lists c.args.sources.now) p) t) (lists_of c.args.buffers.now);
+      added = no_coset c.args.outputs.now.places.now c.args.outputs.now.words self.numbers.items self.levels c.args.from c.args.to (λ t p. quotient_sum self.numerators.sequence.items self.points.items self.factors.items (words_at (byte_lists c.args.sources.now) p) t) (lists_of c.args.buffers.now);
     }
 
 pub add_coset-requires : goal.add_coset-requires
@@ -20,7 +20,7 @@ add_coset-requires c =
     let combinations = c.combine.ensures in
     let n = length self.numerators.sequence.items in
     record {
-      coset = subst (λ n. l.coset < n) (shifted_most (16 - self.numerators.levels) (omega arith)) c.loop-coset-test.true;
+      coset = subst (λ n. l.coset < n) (shifted_most (16 - self.levels) (omega arith)) c.loop-coset-test.true;
       count = c.requires.count;
       rows = l.invariant.levels ∙ c.requires.sums;
       combinations = combinations.levels ∙ c.sum.ensures.levels ∙ c.requires.rows;
@@ -44,7 +44,7 @@ loop-coset-preserved c =
     record {
       levels = c.add_coset.ensures.levels ∙ l.invariant.levels;
       words = c.add_coset.ensures.words ∙ l.invariant.words;
-      added = next_coset c.args.outputs.now.places.now c.args.outputs.now.words self.numbers.items self.numerators.levels c.args.from c.args.to l.coset (λ t p. quotient_sum self.numerators.sequence.items self.points.items self.factors.items (words_at (byte_lists c.args.sources.now) p) t)
+      added = next_coset c.args.outputs.now.places.now c.args.outputs.now.words self.numbers.items self.levels c.args.from c.args.to l.coset (λ t p. quotient_sum self.numerators.sequence.items self.points.items self.factors.items (words_at (byte_lists c.args.sources.now) p) t)
           (lists_of c.args.buffers.now) (lists_of l.buffers) (lists_of c.add_coset.new.buffers) l.invariant.added c.add_coset.ensures.added;
     }
 
@@ -64,6 +64,6 @@ pub returns-clause-added : goal.returns-clause-added
 returns-clause-added c =
     let self = c.args.self.now in
     let l = c.loop-coset in
-    let end : l.coset ≡ 2 ^ (16 - self.numerators.levels) = omega (arith, c.loop-coset-test.false, c.loop-coset.auto.coset-end, shifted_most (16 - self.numerators.levels) (omega arith)) in
-    all_cosets c.args.outputs.now.places.now c.args.outputs.now.words self.numbers.items self.numerators.levels c.args.from c.args.to l.coset (λ t p. quotient_sum self.numerators.sequence.items self.points.items self.factors.items (words_at (byte_lists c.args.sources.now) p) t)
-    (lists_of c.args.buffers.now) (lists_of l.buffers) self.numerators.few end self.numbered.small l.invariant.added
+    let end : l.coset ≡ 2 ^ (16 - self.levels) = omega (arith, c.loop-coset-test.false, c.loop-coset.auto.coset-end, shifted_most (16 - self.levels) (omega arith)) in
+    all_cosets c.args.outputs.now.places.now c.args.outputs.now.words self.numbers.items self.levels c.args.from c.args.to l.coset (λ t p. quotient_sum self.numerators.sequence.items self.points.items self.factors.items (words_at (byte_lists c.args.sources.now) p) t)
+    (lists_of c.args.buffers.now) (lists_of l.buffers) (omega (arith, self.few, self.numerators.few)) end self.numbered.small l.invariant.added

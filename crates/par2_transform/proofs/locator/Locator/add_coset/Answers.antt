@@ -21,7 +21,7 @@ pub loop-j-init : goal.loop-j-init
 loop-j-init c =
     let self = c.args.self.now in
     none_added_yet c.args.outputs.now.places.now c.args.outputs.now.words
-    (coset_part self.numbers.items self.numerators.levels c.args.coset c.args.from c.args.to (λ t p. quotient_sum self.numerators.sequence.items self.points.items self.factors.items (words_at (byte_lists c.args.sources.now) p) t)) (lists_of c.args.buffers.now)
+    (coset_part self.numbers.items self.levels c.args.coset c.args.from c.args.to (λ t p. quotient_sum self.numerators.sequence.items self.points.items self.factors.items (words_at (byte_lists c.args.sources.now) p) t)) (lists_of c.args.buffers.now)
 
 pub loop-j-preserved : goal.loop-j-preserved
 loop-j-preserved c =
@@ -29,11 +29,11 @@ loop-j-preserved c =
     let sources = byte_lists c.args.sources.now in
     let rows = c.evaluate.new.rows in
     let low : c.loop-j.j < length c.args.outputs.now.places.now = search rules in
-    next_point c.args.outputs.now.places.now c.args.outputs.now.words self.numbers.items self.numerators.levels c.args.coset c.args.from c.args.to c.loop-j.j (λ t p. quotient_sum self.numerators.sequence.items self.points.items self.factors.items (words_at sources p) t)
-    (λ j p. mul (get_or self.factors.items j 0) (column rows (p - c.args.from) (get_or self.numbers.items j 0 - c.args.coset * 2 ^ self.numerators.levels)))
+    next_point c.args.outputs.now.places.now c.args.outputs.now.words self.numbers.items self.levels c.args.coset c.args.from c.args.to c.loop-j.j (λ t p. quotient_sum self.numerators.sequence.items self.points.items self.factors.items (words_at sources p) t)
+    (λ j p. mul (get_or self.factors.items j 0) (column rows (p - c.args.from) (get_or self.numbers.items j 0 - c.args.coset * 2 ^ self.levels)))
     (lists_of c.args.buffers.now) (lists_of c.loop-j.buffers) (lists_of c.add_point.new.buffers) c.loop-j.invariant c.add_point.ensures
     (λ p from_here high first last.
-    given_is self.numerators.sequence.items self.points.items self.factors.items self.numbers.items self.next.items sources self.numerators.levels c.args.coset c.args.from c.args.combinations.now c.args.rows.now rows
+    given_is self.numerators.sequence.items self.points.items self.factors.items self.numbers.items self.next.items sources self.levels c.args.coset c.args.from c.args.combinations.now c.args.rows.now rows
     c.requires.bytes self.numerators.elements self.elements.points_fit self.elements.factors_fit self.numbered c.evaluate.ensures c.requires.words c.requires.numerators
     c.loop-j.j p (omega (arith, low, c.requires.count)) from_here (omega (arith, high, c.requires.columns)) first last)
 
@@ -48,5 +48,5 @@ returns-clause-added c =
     let self = c.args.self.now in
     let end : length c.args.outputs.now.places.now ≡ c.loop-j.j = search rules in
     all_added c.args.outputs.now.places.now c.args.outputs.now.words c.loop-j.j
-    (coset_part self.numbers.items self.numerators.levels c.args.coset c.args.from c.args.to (λ t p. quotient_sum self.numerators.sequence.items self.points.items self.factors.items (words_at (byte_lists c.args.sources.now) p) t))
+    (coset_part self.numbers.items self.levels c.args.coset c.args.from c.args.to (λ t p. quotient_sum self.numerators.sequence.items self.points.items self.factors.items (words_at (byte_lists c.args.sources.now) p) t))
     (lists_of c.args.buffers.now) (lists_of c.loop-j.buffers) end c.loop-j.invariant
