@@ -91,22 +91,23 @@ only_by_remove shift crc bytes place other is = elim (cases_eq (other / 2 ^ shif
   | inr apart ↦ record { bit = sym (elsewhere shift crc other _ bytes apart) ∙ is.bit }
 ]
 
--- a byte with a bit isn't zero, and the union of two bytes has the bits of each
-not_zero : (byte k : ℕ) → bit_at byte k ≡ 1 → byte ≢ 0
+-- a byte with a bit isn't zero
+pub not_zero : (byte k : ℕ) → bit_at byte k ≡ 1 → byte ≢ 0
 not_zero byte k is none = suc-ne-zero 0 (sym is ∙ ap (λ b. bit_at b k) none ∙ bit_at-zero k)
 
-either : (a b k : ℕ) → (bit_at a k ≡ 1) ⊎ (bit_at b k ≡ 1) → bit_at (bit_or a b) k ≡ 1
-either a b k has =
-    let both : bit_at (bit_or a b) k ≡ max (bit_at a k) (bit_at b k) = bit_at_or a b k in
+-- the union of two bytes is odd if one of them is
+either : (a b : ℕ) → (a % 2 ≡ 1) ⊎ (b % 2 ≡ 1) → bit_or a b % 2 ≡ 1
+either a b has =
+    let both : bit_at (bit_or a b) 0 ≡ max (bit_at a 0) (bit_at b 0) = bit_at_or a b 0 in
     elim has [
       | inl first ↦ omega (arith, both, first)
       | inr second ↦ omega (arith, both, second)
     ]
 
--- one of four has a bit
-pub one_of_four : (P : ℕ → Type 0) (a b c d : ℕ) (place : ℕ → ℕ) → (P 0 → bit_at a (place 0) ≡ 1) → (P 1 → bit_at b (place 1) ≡ 1) → (P 2 → bit_at c (place 2) ≡ 1) → (P 3 → bit_at d (place 3) ≡ 1) → (k : ℕ) → k < 4 → P k → bit_or (bit_or a b) (bit_or c d) ≢ 0
-one_of_four P a b c d place first second third fourth zero low is = not_zero _ (place 0) (either (bit_or a b) (bit_or c d) (place 0) (inl (either a b (place 0) (inl (first is)))))
-one_of_four P a b c d place first second third fourth (suc zero) low is = not_zero _ (place 1) (either (bit_or a b) (bit_or c d) (place 1) (inl (either a b (place 1) (inr (second is)))))
-one_of_four P a b c d place first second third fourth (suc (suc zero)) low is = not_zero _ (place 2) (either (bit_or a b) (bit_or c d) (place 2) (inr (either c d (place 2) (inl (third is)))))
-one_of_four P a b c d place first second third fourth (suc (suc (suc zero))) low is = not_zero _ (place 3) (either (bit_or a b) (bit_or c d) (place 3) (inr (either c d (place 3) (inr (fourth is)))))
-one_of_four P a b c d place first second third fourth (suc (suc (suc (suc k)))) low is = absurd (omega (arith, low))
+-- and that of four
+pub one_of_four : (P : ℕ → Type 0) (a b c d : ℕ) → (P 0 → a % 2 ≡ 1) → (P 1 → b % 2 ≡ 1) → (P 2 → c % 2 ≡ 1) → (P 3 → d % 2 ≡ 1) → (k : ℕ) → k < 4 → P k → bit_or (bit_or a b) (bit_or c d) % 2 ≡ 1
+one_of_four P a b c d first second third fourth zero low is = either (bit_or a b) (bit_or c d) (inl (either a b (inl (first is))))
+one_of_four P a b c d first second third fourth (suc zero) low is = either (bit_or a b) (bit_or c d) (inl (either a b (inr (second is))))
+one_of_four P a b c d first second third fourth (suc (suc zero)) low is = either (bit_or a b) (bit_or c d) (inr (either c d (inl (third is))))
+one_of_four P a b c d first second third fourth (suc (suc (suc zero))) low is = either (bit_or a b) (bit_or c d) (inr (either c d (inr (fourth is))))
+one_of_four P a b c d first second third fourth (suc (suc (suc (suc k)))) low is = absurd (omega (arith, low))

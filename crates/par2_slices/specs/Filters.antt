@@ -1,5 +1,5 @@
 -- Sets of groups of checksums, as bits.
-use Rattle.std.specs.Prelude.{◌≡◌, ◌⊎◌, ℕ, ◌-◌, ◌/◌, ◌%◌, ◌^◌, List, length, slice_index}
+use Rattle.std.specs.Prelude.{◌≡◌, ◌≢◌, ◌⊎◌, ℕ, ◌-◌, ◌*◌, ◌/◌, ◌%◌, ◌^◌, List, length, slice_index}
 use Rattle.std.specs.Int.{bit_at}
 
 -- Checksums that have the same bits from bit `shift` on share a byte. Those that have the same low three bits too are
@@ -20,3 +20,12 @@ pub record Includes (groups : Groups) (crc : ℕ) : Type 0 where
 -- the checksums are of one group
 abbrev pub AreAlike : ℕ → ℕ → ℕ → Type 0
 AreAlike shift crc other = (other / 2 ^ shift ≡ crc / 2 ^ shift) × (other % 8 ≡ crc % 8)
+
+-- the summary's bit for the byte at this place is set
+abbrev pub IsMarked : List ℕ → ℕ → Type 0
+IsMarked summary place = bit_at (slice_index summary (place / 8)) (place % 8) ≡ 1
+
+-- the summary has a bit for each byte, which is set if the byte isn't 0
+pub record Summarizes (bytes summary : List ℕ) : Type 0 where
+  pub len : 8 * length summary ≡ length bytes
+  pub marked : (place : ℕ) → slice_index bytes place ≢ 0 → IsMarked summary place

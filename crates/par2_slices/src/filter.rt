@@ -1,16 +1,16 @@
 //! A set of checksums that are still searched for, with one bit for all checksums that have the same high bits and the
 //! same low three bits.
 //!
-//! The high bits give the byte, and the low ones the bit in it. A search tests for each offset, mostly just whether the
-//! byte is zero: that takes three steps, and testing the bit takes five. A small table stays in the nearest cache, and
-//! a large one has fewer false hits; so it has 128 KiB for few pairs and 512 KiB for many.
+//! The high bits give the byte, and the low ones the bit in it. A large table has few false hits but isn't in the nearest
+//! cache, so a summary has a bit for each byte: a search tests for each offset just whether the byte may differ from 0.
+//! The table has 128 KiB for few pairs and 512 KiB for many, and the summary an eighth.
 //!
 //! A filter is exactly the set of groups that were added and not removed. A search keeps a group exactly as long as a
 //! pair of it isn't found.
 
-ghost use Rattle.std.specs.Prelude.{◌≡◌, ◌≤◌, ◌%◌, ◌<◌, ◌↔◌, ◌⊎◌, ℕ, IfOk, IsTrue, slice_index};
+ghost use Rattle.std.specs.Prelude.{◌≡◌, ◌≢◌, ◌≤◌, ◌*◌, ◌%◌, ◌<◌, ◌↔◌, ◌⊎◌, ℕ, IfOk, IsTrue, length, slice_index};
 ghost use Rattle.std.specs.Int.{bit_at};
-ghost use Rattle.par2_slices.specs.Filters.{AreAlike, Includes};
+ghost use Rattle.par2_slices.specs.Filters.{AreAlike, Includes, IsMarked};
 
 use par2_spec::Result;
 use std::alloc::Global;
@@ -30,16 +30,40 @@ const MOST_FEW: usize = 2048;
 pub(crate) struct Filter {
     shift: u32,
     bytes: Vec<u8>,
+    // A bit for each byte, which is set if the byte isn't 0.
+    summary: Vec<u8>,
 }
 
 impl Model for Filter {
-    ghost use Rattle.par2_slices.specs.Filters.{Groups, IsLong};
+    ghost use Rattle.par2_slices.specs.Filters.{Groups, IsLong, Summarizes};
 
     ghost Value = { Groups };
 
     ghost view = { λ a. record { shift = a.shift; bytes = a.bytes.items } };
 
-    ghost invariant = { λ a. IsLong a.shift a.bytes.items };
+    ghost invariant = { λ a. IsLong a.shift a.bytes.items × Summarizes a.bytes.items a.summary.items };
+}
+
+// Sets the summary's bit for the byte at `place`.
+fn mark(summary: &mut [u8], place: usize)
+    requires { place < 8 * length summary.old }
+    ensures len { length summary.new ≡ length summary.old }
+    ensures marked { IsMarked summary.new place }
+    ensures kept { (other : ℕ) → IsMarked summary.old other → IsMarked summary.new other }
+{
+    summary[place / 8] |= 1 << (place % 8);
+}
+
+// Clears the summary's bit for the byte at `place` if that is 0.
+fn unmark_zero(summary: &mut [u8], place: usize, byte: u8)
+    requires { place < 8 * length summary.old }
+    ensures len { length summary.new ≡ length summary.old }
+    ensures here { byte ≢ 0 → IsMarked summary.old place → IsMarked summary.new place }
+    ensures kept { (other : ℕ) → other ≢ place → IsMarked summary.old other → IsMarked summary.new other }
+{
+    if byte == 0 {
+        summary[place / 8] &= !(1 << (place % 8));
+    }
 }
 
 impl Filter {
@@ -56,6 +80,7 @@ impl Filter {
         Ok(Filter {
             shift,
             bytes: vec![in alloc; 0u8; bytes]?,
+            summary: vec![in alloc; 0u8; bytes / 8]?,
         })
     }
 
@@ -74,7 +99,9 @@ impl Filter {
         ensures only { (other : ℕ) → Includes self.new other
             → AreAlike self.old.shift crc other ⊎ Includes self.old other }
     {
-        self.bytes[(crc >> self.shift) as usize] |= 1 << (crc % 8);
+        let place = (crc >> self.shift) as usize;
+        self.bytes[place] |= 1 << (crc % 8);
+        mark(self.summary.as_mut_slice(), place);
     }
 
     /// Removes the group of `crc`, when no open pair has a checksum of it any more.
@@ -85,23 +112,36 @@ impl Filter {
             → Includes self.old other → Includes self.new other }
         ensures only { (other : ℕ) → Includes self.new other → Includes self.old other }
     {
-        self.bytes[(crc >> self.shift) as usize] &= !(1 << (crc % 8));
+        let place = (crc >> self.shift) as usize;
+        self.bytes[place] &= !(1 << (crc % 8));
+        let byte = self.bytes[place];
+        unmark_zero(self.summary.as_mut_slice(), place, byte);
     }
 
-    // The byte in which the group of `crc` has its bit. `shift` is the filter's; some callers know it as a constant.
-    #[inline(always)]
-    fn byte_at(&self, crc: u32, shift: u32) -> u8
-        requires { shift ≡ self.now.shift }
+    // The byte in which the group of `crc` has its bit.
+    fn byte_at(&self, crc: u32) -> u8
         ensures { bit_at result (crc % 8) ≡ 1 ↔ Includes self.now crc }
     {
-        self.bytes[(crc >> shift) as usize]
+        self.bytes[(crc >> self.shift) as usize]
+    }
+
+    // A number that is odd if the byte of the group of `crc` isn't 0. `shift` is the filter's; callers know it as a
+    // constant.
+    #[inline(always)]
+    fn summary_at(&self, crc: u32, shift: u32) -> u8
+        requires { shift ≡ self.now.shift }
+        ensures { Includes self.now crc → result % 2 ≡ 1 }
+    {
+        let summary = self.summary.as_slice();
+        let place = (crc >> shift) as usize;
+        summary[place / 8] >> (place % 8)
     }
 
     /// Whether the group of `crc` is in the set.
     pub(crate) fn contains(&self, crc: u32) -> bool
         ensures { IsTrue result ↔ Includes self.now crc }
     {
-        (self.byte_at(crc, self.shift) >> (crc % 8)) % 2 == 1
+        (self.byte_at(crc) >> (crc % 8)) % 2 == 1
     }
 
     /// Whether the filter is for many pairs. This decides its shift, and so the constant for `may_contain_any`.
@@ -120,8 +160,8 @@ impl Filter {
         ensures { (k : ℕ) → k < 4 → Includes self.now (slice_index crcs.now k) → IsTrue result }
     {
         let [first, second, third, fourth] = *crcs;
-        let low = self.byte_at(first, SHIFT) | self.byte_at(second, SHIFT);
-        let high = self.byte_at(third, SHIFT) | self.byte_at(fourth, SHIFT);
-        low | high != 0
+        let low = self.summary_at(first, SHIFT) | self.summary_at(second, SHIFT);
+        let high = self.summary_at(third, SHIFT) | self.summary_at(fourth, SHIFT);
+        (low | high) % 2 == 1
     }
 }

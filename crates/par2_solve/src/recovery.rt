@@ -45,7 +45,7 @@ pub fn write_recovery_slices(
         outputs.now.places.now (lists_of buffers.old) (lists_of buffers.new)) }
 {
     buffers_fit(slices);
-    let room = whole_room(slices);
+    let room = whole_room(slices, exponents.len());
     add_recovery(alloc, gf, slices, exponents, buffers, outputs, room)?;
     fit_lists(buffers);
     Ok(())

@@ -22,12 +22,6 @@ fn total(slices: &[&[u8]]) -> usize {
     lens.fold(0usize, |total, len| total.saturating_add(len))
 }
 
-/// The memory that computing recovery slices may take, in bytes, if there are no columns beside it, as when a set is
-/// created: a 64th of the slices.
-pub(crate) fn whole_room(slices: &[&[u8]]) -> usize {
-    (total(slices) / 64).saturating_add(ROOM)
-}
-
 // The number of outputs, rounded up to a power of 2. The transform has three rows for each.
 fn rounded(count: usize) -> usize
     ensures some { 1 ≤ result }
@@ -36,8 +30,8 @@ fn rounded(count: usize) -> usize
     count.clamp(1, 65536).next_power_of_two()
 }
 
-// A quarter of the memory that a repair may take for `count` outputs, in bytes: that of a 64th of the slices, or of up to
-// a 16th until rows are as wide as they get, because narrow rows are slow.
+// A quarter of the memory that computing `count` recovery slices may take, in bytes: that of a 64th of the slices, or of
+// up to a 16th until rows are as wide as they get, because narrow rows are slow.
 fn quarter(slices: &[&[u8]], count: usize) -> usize {
     let total = total(slices);
     let widest = rounded(count) * WIDEST * STEP;
@@ -45,6 +39,12 @@ fn quarter(slices: &[&[u8]], count: usize) -> usize {
         .min(widest)
         .max(total / 256)
         .saturating_add(ROOM / 4)
+}
+
+/// The memory that computing `count` recovery slices may take, in bytes, if there are no columns beside it, as when a set
+/// is created.
+pub(crate) fn whole_room(slices: &[&[u8]], count: usize) -> usize {
+    quarter(slices, count).saturating_mul(4)
 }
 
 /// The memory that the transform's rows may take in a repair, in bytes: three quarters of the memory allowed.
