@@ -6,7 +6,7 @@ use Rattle.std.proofs.lemmas.Bool.{ltb-true}
 use Rattle.std.proofs.Math.Dec.{ltb}
 use lib.Lanes.{number_l, digits_l, zip2, Each1, chunk, put_chunk, pick_l}
 use Rattle.par2_gf16.proofs.LaneLaws.{map_all}
-use Rattle.par2_gf16.proofs.WordLaws.{word_xor}
+use Rattle.par2_gf16.proofs.WordLaws.{word_once, word_xor}
 
 -- ---- words and their bytes
 
@@ -228,6 +228,30 @@ block_added c m src old new bytes n products added = record {
         (added.each (2 * j + 1) (omega arith) ∙ ap (bit_xor high) (products.high j h))
         ∙ word_xor low high (mul c (word (n + j) src)) (added.fit (2 * j) (omega arith)) (added.fit (2 * j + 1) (omega arith)) (products.fit j h)
         ∙ ap (λ x. bit_xor x (mul c (word (n + j) src))) (sym (word_in old n j))
+
+-- words themselves, which are their products with 1
+pub bytes_in_two : (src : List ℕ) (n : ℕ) (first second : List ℕ) → 2 * n + 64 ≤ length src → ((i : ℕ) → get_or src i 0 < 256)
+    → first ≡ chunk (2 * n) 32 src → second ≡ chunk (2 * n + 32) 32 src → AreProducts 1 src n 32 (first ++ second)
+bytes_in_two src n first second room fits one two = record {
+  fit = λ j h. product_fits 1 src (n + j) (omega arith) fits;
+  low = λ j h.
+      let low : get_or src (2 * n + 2 * j) 0 ≡ word (n + j) src % 256 = omega (arith, word_in src n j, fits (2 * n + 2 * j)) in
+      byte (2 * j) (omega arith) ∙ low ∙ ap (λ x. x % 256) (sym (word_once src (n + j) fits));
+  high = λ j h.
+      let high : get_or src (2 * n + (2 * j + 1)) 0 ≡ word (n + j) src / 256 = omega (arith, word_in src n j, fits (2 * n + 2 * j)) in
+      byte (2 * j + 1) (omega arith) ∙ high ∙ ap (λ x. x / 256) (sym (word_once src (n + j) fits));
+}
+  where
+    count : length first ≡ 32
+    count = ap length one ∙ length-chunk (2 * n) 32 src (omega arith)
+
+    byte : (k : ℕ) → k < 64 → get_or (first ++ second) k 0 ≡ get_or src (2 * n + k) 0
+    byte k h = elim (cases_lt k 32) [
+      | inl l ↦ get_or_append_left first second 0 k (omega (arith, count)) ∙ ap (λ xs. get_or xs k 0) one ∙ get_or-chunk (2 * n) 32 src k 0 l
+      | inr g ↦
+          get_or-append_right first second 32 k 0 count g ∙ ap (λ xs. get_or xs (k - 32) 0) two ∙ get_or-chunk (2 * n + 32) 32 src (k - 32) 0 (omega arith)
+          ∙ ap (λ i. get_or src i 0) (let e : 2 * n + 32 + (k - 32) ≡ 2 * n + k = omega arith in e)
+    ]
 
 -- products whose bytes were looked up
 pub products_in_bytes : (c : ℕ) (src low high lows highs bytes : List ℕ) (n : ℕ) → c < 65536 → ((i : ℕ) → Fits w8 (get_or src i 0))

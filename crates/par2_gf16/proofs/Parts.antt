@@ -1,7 +1,8 @@
 -- Words that are added part by part, and the end of a source.
-use Rattle.par2_gf16.proofs.Common.{ℕ, ◌+◌, ◌*◌, ◌/◌, ◌<◌, ◌≤◌, ◌≡◌, refl, sym, ap, ◌∙◌, subst, arith, List, length, cases_lt, xor_zero_r, mul, word, product-zero, AddsProducts, AddsWithin, by_either}
+use Rattle.par2_gf16.proofs.Common.{ℕ, ◌+◌, ◌*◌, ◌/◌, ◌<◌, ◌≤◌, ◌≡◌, refl, sym, ap, ◌∙◌, subst, arith, List, length, get_or, cases_lt, xor_zero_r, mul, word, product-zero, AddsProducts, AddsWithin, AddsWords, IsButterfly, by_either}
 use Rattle.std.proofs.Common.{bit_xor}
 use Rattle.par2_spec.proofs.WordLaws.{word_past}
+use Rattle.par2_gf16.proofs.WordLaws.{word_once}
 
 -- one part after another
 pub adds_after : (c : ℕ) (src old mid new : List ℕ) (a b d : ℕ) → a ≤ b → b ≤ d → AddsWithin c src old mid a b → AddsWithin c src mid new b d → AddsWithin c src old new a d
@@ -39,3 +40,48 @@ blocks_and_rest c src old mid new a b d met low end first second =
       same_length = whole.same_length;
       each = λ p room. whole.inside p (omega arith) (omega (arith, end)) room;
     }
+
+-- ---- butterflies
+
+-- the products of equal words
+products_of : (c : ℕ) (src other old new : List ℕ) (from to : ℕ) → ((i : ℕ) → from ≤ i → i < to → word i other ≡ word i src) → AddsWithin c other old new from to → AddsWithin c src old new from to
+products_of c src other old new from to same added = record {
+  same_length = added.same_length;
+  inside = λ i low high fits. added.inside i low high fits ∙ ap (λ v. bit_xor (word i old) (mul c v)) (same i low high);
+  below = added.below;
+  above = added.above;
+}
+
+-- nothing is added to no words
+none_added : (c : ℕ) (src old : List ℕ) → AddsWithin c src old old 0 0
+none_added c src old = record {
+  same_length = refl;
+  inside = λ i low high fits. absurd (omega arith);
+  below = λ i low. refl;
+  above = λ i low. refl;
+}
+
+pub butterfly_none : (c : ℕ) (low high : List ℕ) → IsButterfly c low high low high 0 0
+butterfly_none c low high = record { lower = none_added c high low; upper = none_added 1 low high }
+
+-- the words of one part, and then those after them
+pub butterfly_after : (c : ℕ) (low high mid_low mid_high new_low new_high : List ℕ) (a b d : ℕ) → a ≤ b → b ≤ d → IsButterfly c low high mid_low mid_high a b
+    → IsButterfly c mid_low mid_high new_low new_high b d → IsButterfly c low high new_low new_high a d
+butterfly_after c low high mid_low mid_high new_low new_high a b d ab bd first second = record {
+  lower = adds_after c high low mid_low new_low a b d ab bd first.lower
+      (products_of c high mid_high mid_low new_low b d (λ i from to. first.upper.above i from) second.lower);
+  upper = adds_after 1 new_low high mid_high new_high a b d ab bd
+      (products_of 1 new_low mid_low high mid_high a b (λ i from to. sym (second.lower.below i to)) first.upper)
+      second.upper;
+}
+
+-- all words
+pub butterfly_words : (c : ℕ) (low high new_low new_high : List ℕ) (to : ℕ) → to ≡ length low / 2 → length high ≡ length low → IsButterfly c low high new_low new_high 0 to
+    → ((k : ℕ) → get_or new_low k 0 < 256) → AddsProducts c high low new_low × AddsWords new_low high new_high
+butterfly_words c low high new_low new_high to end same all fits = (
+  record { same_length = all.lower.same_length; each = λ p room. all.lower.inside p (omega arith) (omega arith) room },
+  record {
+    same_length = all.upper.same_length;
+    each = λ p room. all.upper.inside p (omega arith) (omega arith) room ∙ ap (bit_xor (word p high)) (word_once new_low p fits);
+  },
+)

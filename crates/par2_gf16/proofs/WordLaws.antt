@@ -1,5 +1,5 @@
 -- Words in bytes that are written.
-use Rattle.par2_gf16.proofs.Common.{ℕ, ◌+◌, ◌*◌, ◌/◌, ◌%◌, ◌^◌, ◌<◌, ◌≡◌, ◌≢◌, sym, ap, ap₂, ◌∙◌, subst, arith, List, length, get_or, set, length-set, get_or-set_same, get_or-set_other, xor_block, mul, word, AddsWithin}
+use Rattle.par2_gf16.proofs.Common.{ℕ, ◌+◌, ◌*◌, ◌/◌, ◌%◌, ◌^◌, ◌<◌, ◌≡◌, ◌≢◌, sym, ap, ap₂, ◌∙◌, subst, arith, List, length, get_or, set, length-set, get_or-set_same, get_or-set_other, xor_block, mul, product-one, product_comm, word, AddsWithin}
 use Rattle.std.specs.Int.RustNames.{bit_xor}
 
 two_writes : List ℕ → ℕ → ℕ → ℕ → List ℕ
@@ -45,3 +45,9 @@ word_added c src old i p h fits small is =
       below = λ k l. ap₂ (λ x y. x + 256 * y) (other_kept old (2 * i) low high (2 * k) (omega arith) (omega arith)) (other_kept old (2 * i) low high (2 * k + 1) (omega arith) (omega arith));
       above = λ k l. ap₂ (λ x y. x + 256 * y) (other_kept old (2 * i) low high (2 * k) (omega arith) (omega arith)) (other_kept old (2 * i) low high (2 * k + 1) (omega arith) (omega arith));
     }
+
+-- a word is its product with 1
+pub word_once : (src : List ℕ) (i : ℕ) → ((k : ℕ) → get_or src k 0 < 256) → mul 1 (word i src) ≡ word i src
+word_once src i fit =
+    let small : word i src < 65536 = omega (arith, fit (2 * i), fit (2 * i + 1)) in
+    product_comm 1 (word i src) (omega arith) small ∙ product-one (word i src) small

@@ -12,3 +12,8 @@ pub record IsInverse (a b : ℕ) : Type 0 where
 pub record AddsProducts (c : ℕ) (src old new : List ℕ) : Type 0 where
   pub same_length : length new ≡ length old
   pub each : (p : ℕ) → 2 * p + 1 < length old → word p new ≡ bit_xor (word p old) (mul c (word p src))
+
+-- to each word of old, the word of src is added
+pub record AddsWords (src old new : List ℕ) : Type 0 where
+  pub same_length : length new ≡ length old
+  pub each : (p : ℕ) → 2 * p + 1 < length old → word p new ≡ bit_xor (word p old) (word p src)

@@ -10,6 +10,12 @@ pub record AddsWithin (c : ℕ) (src old new : List ℕ) (from to : ℕ) : Type 
   pub below : (i : ℕ) → i < from → word i new ≡ word i old
   pub above : (i : ℕ) → to ≤ i → word i new ≡ word i old
 
+-- words `from` up to `to` of `high` have their products with c added to `low`, and then the new words of `low`, which are
+-- their products with 1, are added to `high`
+pub record IsButterfly (c : ℕ) (low high new_low new_high : List ℕ) (from to : ℕ) : Type 0 where
+  pub lower : AddsWithin c high low new_low from to
+  pub upper : AddsWithin 1 new_low high new_high from to
+
 -- after j steps over the lanes v: the low j bits of each lane have been multiplied by c
 pub record LanesSoFar (c : ℕ) (v sum rest : List ℕ) (k j : ℕ) : Type 0 where
   pub added : sum ≡ map (λ x. mul c (x % 2 ^ j)) v

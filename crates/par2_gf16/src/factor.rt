@@ -4,7 +4,7 @@
 ghost use Rattle.std.specs.Prelude.{◌≡◌, ℕ, ◌+◌, ◌*◌, ◌/◌, ◌%◌, ◌^◌, ◌<◌, ◌≤◌, List, length, slice_index, take, drop, bit_xor};
 ghost use Rattle.std.specs.Simd.Lanes.{zip2};
 ghost use Rattle.par2_spec.specs.Field.{mul};
-ghost use Rattle.par2_gf16.specs.WordLoops.{AddsWithin, IsTable};
+ghost use Rattle.par2_gf16.specs.WordLoops.{AddsWithin, IsButterfly, IsTable};
 ghost use Rattle.par2_gf16.specs.Nibbles.{AreNibbles, HasNibbles};
 
 use crate::doubling::doubled;
@@ -125,6 +125,19 @@ impl Factor {
         ensures { AddsWithin self.now src.now dst.old dst.new n (n + 32) }
     {
         self.add_nibbles(nibbles_at(src, n), dst, n);
+    }
+
+    /// The butterfly of the thirty-two words from word n on: adds the element times each of `high` to the word of `low`
+    /// there, and then each new one of `low` to the word of `high`.
+    #[inline(always)]
+    pub(crate) fn butterfly_block(&self, low: &mut [u8], high: &mut [u8], n: usize)
+        requires fits { 2 * n + 64 ≤ length low.old }
+        requires same { length high.old ≡ length low.old }
+        ensures { IsButterfly self.now low.old high.old low.new high.new n (n + 32) }
+    {
+        self.add_nibbles(nibbles_at(high, n), low, n);
+        lanes::add_vector(high, 2 * n, lanes::vector_at(low, 2 * n));
+        lanes::add_vector(high, 2 * n + 32, lanes::vector_at(low, 2 * n + 32));
     }
 
     /// Adds the element times thirty-two words, which have these nibbles, to the words of `dst` from word n on.

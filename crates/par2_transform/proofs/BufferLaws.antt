@@ -1,8 +1,9 @@
 -- Additions to buffers, whole and in two parts.
-use Rattle.par2_transform.proofs.Common.{ℕ, ◌+◌, ◌-◌, ◌*◌, ◌/◌, ◌%◌, ◌<◌, ◌≤◌, ◌≡◌, inl, inr, sym, ap, ap₂, ◌∙◌, arith, List, ◌++◌, length, get_or, min, take, drop, bit_xor, xor_zero_r, cases_lt, get_or_append_left, get_or-append_right, get_or_past, get_or-take, get_or-drop, length-take-le, word, within, AddsTo, AddsWords}
+use Rattle.par2_transform.proofs.Common.{ℕ, ◌+◌, ◌-◌, ◌*◌, ◌/◌, ◌%◌, ◌<◌, ◌≤◌, ◌≡◌, inl, inr, refl, sym, ap, ap₂, subst, ◌∙◌, arith, List, ◌++◌, length, get_or, min, take, drop, bit_xor, xor_zero_r, cases_lt, get_or_append_left, get_or-append_right, get_or_past, get_or-take, get_or-drop, length-take-le, word, within, AddsBoth, AddsTo, AddsWords}
 use Rattle.std.proofs.lemmas.List.{length-append}
 use Rattle.par2_gf16.proofs.WordLaws.{word_xor}
-use Rattle.par2_transform.proofs.AddingLaws.{within-below, within-above, within_same, within_moved}
+use Rattle.par2_transform.proofs.AddingLaws.{within-below, within-above, within_same, within_moved, adds_to_part, part_here}
+use borrow.Rule.Slice.PartMut.{put_mid}
 
 -- ---- bytes added
 
@@ -82,6 +83,43 @@ added_front f from to n bytes front back new whole at apart added = record {
   where
     source : (q : ℕ) → word q back ≡ word (from + q) bytes
     source q = ap (λ m. word m back) (let e : q ≡ from + q - from = omega arith in e) ∙ sym (word_back front back from (from + q) at (omega arith)) ∙ ap (word (from + q)) whole
+
+-- ---- the butterfly of words in two parts
+
+-- a word of the first words
+first_word : (k p : ℕ) (bytes : List ℕ) → 2 * p + 1 < k → word p (take k bytes) ≡ word p bytes
+first_word k p bytes low = ap₂ (λ a b. a + 256 * b) (get_or-take k bytes (2 * p) 0 (omega arith)) (get_or-take k bytes (2 * p + 1) 0 low)
+
+-- the lower words are in the front part, and the upper ones begin the back part
+pub added_both : (f : ℕ → ℕ) (low high n : ℕ) (bytes front back new_low new_high : List ℕ) → front ++ back ≡ bytes → length front ≡ 2 * high → low + n ≤ high → 2 * n ≤ length back
+    → length new_low ≡ 2 * (low + n) - 2 * low
+    → ((p : ℕ) → 2 * p + 1 < 2 * (low + n) - 2 * low → word p new_low ≡ bit_xor (word p (take (2 * (low + n) - 2 * low) (drop (2 * low) front))) (f (word p (take (2 * n) back))))
+    → length new_high ≡ 2 * n
+    → ((p : ℕ) → 2 * p + 1 < 2 * n → word p new_high ≡ bit_xor (word p (take (2 * n) back)) (word p new_low))
+    → AddsBoth f low high n bytes (put_mid (2 * low) (2 * (low + n) - 2 * low) front new_low ++ (new_high ++ drop (2 * n) back))
+added_both f low high n bytes front back new_low new_high whole at order room low_size lower high_size upper =
+    let k = 2 * (low + n) - 2 * low in
+    let new_front = put_mid (2 * low) k front new_low in
+    let twice : k ≡ 2 * n = omega arith in
+    let count : 2 * (low + n - low) ≡ 2 * n = omega arith in
+    let whole_count : 2 * n - 2 * 0 ≡ 2 * n = omega arith in
+    let front_added : AddsTo (λ p. within low (low + n) p (f (word (p - low) back))) front new_front =
+    adds_to_part f low (low + n) back front new_low (omega arith) (omega arith) (omega arith) low_size
+    (λ p fits. rw count (lower p fits)) in
+    let front_size : length new_front ≡ 2 * high = front_added.same_length ∙ at in
+    let read : (q : ℕ) → q < n → word q new_low ≡ word (low + q) new_front = λ q l. ap₂ (λ a b. a + 256 * b)
+    (sym (ap (λ m. get_or new_front m 0) (let e : 2 * (low + q) ≡ 2 * low + 2 * q = omega arith in e) ∙ part_here (2 * low) k (2 * q) 0 front new_low (omega arith) (omega arith) low_size))
+    (sym (ap (λ m. get_or new_front m 0) (let e : 2 * (low + q) + 1 ≡ 2 * low + (2 * q + 1) = omega arith in e) ∙ part_here (2 * low) k (2 * q + 1) 0 front new_low (omega arith) (omega arith) low_size)) in
+    let back_added : AddsTo (λ p. within 0 n p (word (p - 0) new_low)) back (new_high ++ drop (2 * n) back) =
+    subst (λ m. AddsTo (λ p. within 0 n p (word (p - 0) new_low)) back (new_high ++ drop m back)) whole_count
+    (adds_to_part (λ v. v) 0 n new_low back new_high (omega arith) (omega arith) room (high_size ∙ sym whole_count)
+    (λ p fits.
+    rw whole_count (upper p (omega arith)) ∙ ap (bit_xor (word p (take (2 * n - 2 * 0) back))) (sym (first_word (2 * (n - 0)) p new_low (omega arith))))) in
+    record {
+      between = new_front ++ back;
+      lower = added_front f high low n bytes front back new_front whole at order front_added;
+      upper = added_back (λ v. v) low high n (new_front ++ back) new_front back new_low (new_high ++ drop (2 * n) back) refl front_size order read back_added;
+    }
 
 -- ---- a buffer that is copied, and padded with zeros
 

@@ -1,9 +1,9 @@
 -- Combinations of products of subspace polynomials.
-use Rattle.par2_transform.proofs.Common.{ℕ, zero, suc, ◌+◌, ◌^◌, ◌<◌, ◌≡◌, refl, sym, ap, ap₂, ◌∙◌, arith, add_assoc, bit_xor, xor_assoc, xor_comm, xor_lt, xor_self, xor_zero_l, mul, GivesElements, product-lt, product_comm, product_assoc, product_linear_left, product_linear_right, vanishing, from, OneRun, RunAdded, RunAddedBy}
+use Rattle.par2_transform.proofs.Common.{ℕ, zero, suc, ◌+◌, ◌^◌, ◌<◌, ◌≡◌, refl, sym, ap, ap₂, ◌∙◌, arith, add_assoc, bit_xor, xor_assoc, xor_comm, xor_lt, xor_self, xor_zero_l, mul, GivesElements, product-lt, product_comm, product_assoc, product_linear_left, product_linear_right, vanishing, from, OneRun, IsButterfly}
 unfoldable use Rattle.par2_transform.specs.Combinations.{combined}
 use Rattle.par2_transform.specs.Combinations.{IsSplit}
 use Rattle.par2_spec.proofs.FieldBits.{xor_middle}
-use Rattle.par2_transform.proofs.StepLaws.{double_power, outside_then}
+use Rattle.par2_transform.proofs.StepLaws.{double_power}
 use Rattle.par2_transform.proofs.Subspaces.{vanishing-lt}
 
 pub combined_same : (i : ℕ) (f g : ℕ → ℕ) (x : ℕ) → ((m : ℕ) → m < 2 ^ i → f m ≡ g m) → combined i f x ≡ combined i g x
@@ -98,16 +98,14 @@ combined_split i c whole split x hc fit h lower upper =
         ∙ ap (bit_xor (combined i split x)) (xor_comm u (combined i split x))
         ∙ sym (xor_assoc (combined i split x) (combined i split x) u) ∙ ap (λ w. bit_xor w u) (xor_self (combined i split x)) ∙ xor_zero_l u
 
-pub split_runs : (i c start : ℕ) (f g h : ℕ → ℕ) → GivesElements f → c < 65536 → RunAddedBy (mul c) (start + 2 ^ i) start (2 ^ i) f g → RunAdded start (start + 2 ^ i) (2 ^ i) g h → OneRun start (2 ^ suc i) (IsSplit i c) f h
-split_runs i c start f g h fit hc first second = record {
-  others = outside_then start (start + 2 ^ suc i) start (start + 2 ^ i) (start + 2 ^ i) (start + 2 ^ i + 2 ^ i) f g h first.others second.others (omega arith) (omega arith) (omega (arith, double_power i)) (omega (arith, double_power i));
-  run = record { divided = λ x hx. combined_split i c (from start f) (from start h) x hc (λ m. fit (start + m)) hx lower upper };
+pub split_runs : (i c start : ℕ) (f g : ℕ → ℕ) → GivesElements f → c < 65536 → IsButterfly (mul c) start (start + 2 ^ i) (2 ^ i) f g → OneRun start (2 ^ suc i) (IsSplit i c) f g
+split_runs i c start f g fit hc both = record {
+  others = record { below = both.below; above = λ u l. both.above u (omega (arith, double_power i, l)) };
+  run = record { divided = λ x hx. combined_split i c (from start f) (from start g) x hc (λ m. fit (start + m)) hx lower upper };
 }
   where
-    lower : (m : ℕ) → m < 2 ^ i → h (start + m) ≡ bit_xor (f (start + m)) (mul c (f (start + (2 ^ i + m))))
-    lower m l = second.others.below (start + m) (omega (arith, l)) ∙ first.run m l ∙ ap (λ n. bit_xor (f (start + m)) (mul c (f n))) (add_assoc start (2 ^ i) m)
+    lower : (m : ℕ) → m < 2 ^ i → g (start + m) ≡ bit_xor (f (start + m)) (mul c (f (start + (2 ^ i + m))))
+    lower m l = both.lower m l ∙ ap (λ n. bit_xor (f (start + m)) (mul c (f n))) (add_assoc start (2 ^ i) m)
 
-    upper : (m : ℕ) → m < 2 ^ i → h (start + (2 ^ i + m)) ≡ bit_xor (f (start + (2 ^ i + m))) (h (start + m))
-    upper m l =
-        ap h (sym (add_assoc start (2 ^ i) m)) ∙ second.run m l
-        ∙ ap₂ bit_xor (first.others.above (start + 2 ^ i + m) (omega arith) ∙ ap f (add_assoc start (2 ^ i) m)) (sym (second.others.below (start + m) (omega (arith, l))))
+    upper : (m : ℕ) → m < 2 ^ i → g (start + (2 ^ i + m)) ≡ bit_xor (f (start + (2 ^ i + m))) (g (start + m))
+    upper m l = ap g (sym (add_assoc start (2 ^ i) m)) ∙ both.upper m l ∙ ap (λ n. bit_xor (f n) (g (start + m))) (add_assoc start (2 ^ i) m)

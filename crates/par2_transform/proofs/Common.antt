@@ -26,7 +26,7 @@ unfoldable pub use Rattle.par2_spec.specs.Field.{coefficient, constant, constant
 pub use Rattle.par2_spec.specs.Slices.{word}
 pub use Rattle.par2_spec.specs.Sums.{GivesElements, OneChanged, list_at, lists_of}
 unfoldable pub use Rattle.par2_spec.specs.Sums.{field_sum}
-pub use Rattle.par2_transform.specs.Adding.{AddsAt, AddsTo, AddsToEach, AddsToPart, AreApart, AreWholeBuffers, HasByte, HaveWords, LieWithin, output_word, place_at, within}
+pub use Rattle.par2_transform.specs.Adding.{AddsAt, AddsBoth, AddsTo, AddsToEach, AddsToPart, AreApart, AreWholeBuffers, HasByte, HaveWords, LieWithin, output_word, place_at, within}
 pub use Rattle.par2_transform.specs.Blocks.{AreBlocks, AreCoefficients, AreWeightRows, AreWindowValues, BlocksBecome, EachBlock, Gathers, GathersWindow, HaveShape, IsBlock, IsCleared, IsGathered, Keeps, OneBecomes, Outputs, RowsGathered, Takes, outputs_at, block_part, class_sum_at, from_gathered, weight_at}
 pub use Rattle.par2_transform.specs.Chirps.{AreWordsOfFirst, AreWeights}
 unfoldable pub use Rattle.par2_transform.specs.Chirps.{chirp, chirp_inverse, coprimes_below, triangle, word_at_power}
@@ -38,7 +38,7 @@ pub use Rattle.par2_transform.specs.Locators.{AreFit, AreNumbered, AreNumerators
 pub use Rattle.par2_transform.specs.Plans.{cut_of}
 pub use Rattle.par2_transform.specs.PowerSums.{ArePowerSums, IsMerged, member, sum_ahead}
 unfoldable pub use Rattle.par2_transform.specs.PowerSums.{power_sum}
-pub use Rattle.par2_transform.specs.LevelSteps.{AheadAdded, IsLowered, IsOneAdded, IsRaised, IsSpreadAbove, IsSpreadBelow, OneRun, RunAdded, RunAddedBy, SameValuesOutside, spread_beyond, spread_within}
+pub use Rattle.par2_transform.specs.LevelSteps.{AheadAdded, IsButterfly, IsLowered, IsOneAdded, IsRaised, IsSpreadAbove, IsSpreadBelow, OneRun, RunAdded, RunAddedBy, SameValuesOutside, spread_beyond, spread_within}
 unfoldable pub use Rattle.par2_transform.specs.Subspaces.{basis, bit_numbers, point, point_number, powers_in, vanishing}
 pub use Rattle.par2_transform.specs.Transforms.{Cut, HasWeights, Reaches, class_part, coefficient_of, gathered, window_value}
 pub use Rattle.par2_transform.specs.declared.outputs.Place.{Place}

@@ -1,7 +1,8 @@
 -- Rows and their columns.
-use Rattle.par2_transform.proofs.Common.{ℕ, suc, ◌+◌, ◌-◌, ◌*◌, ◌^◌, ◌<◌, ◌≤◌, ◌≡◌, ◌⊎◌, inl, inr, refl, sym, ap, ap₂, ◌∙◌, subst, List, length, get_or, bit_xor, arith, add-mul, one-mul, Vec, Global, xor_zero_r, cases_eq, cases_lt, get_or_past, with_items_is, word, within, AddsTo, Grid, column, AreCopied, AreRows, CopiesWords, IsAdded, EachColumn, RunAddedBy, with_items}
+use Rattle.par2_transform.proofs.Common.{ℕ, suc, ◌+◌, ◌-◌, ◌*◌, ◌^◌, ◌<◌, ◌≤◌, ◌≡◌, ◌⊎◌, inl, inr, refl, sym, ap, ap₂, ◌∙◌, subst, List, length, get_or, bit_xor, arith, add-mul, one-mul, Vec, Global, xor_zero_r, cases_eq, cases_lt, get_or_past, with_items_is, word, within, AddsBoth, AddsTo, Grid, column, AreCopied, AreRows, CopiesWords, IsAdded, EachColumn, IsButterfly, RunAdded, RunAddedBy, with_items}
 use Rattle.std.proofs.Common.{mul-le-mul_right}
 use Rattle.par2_transform.proofs.AddingLaws.{within-in, within-below, within-above, within_same}
+use Rattle.par2_transform.proofs.StepLaws.{butterfly_runs}
 
 pub each_start : (relation : (ℕ → ℕ) → (ℕ → ℕ) → Type 0) (a : Grid) → ((f : ℕ → ℕ) → relation f f) → EachColumn relation a a
 each_start relation a start = record { levels = refl; words = refl; columns = λ c h. start (column a c) }
@@ -59,10 +60,14 @@ rows_fit levels words at n bytes are fits =
     let sum : (at + n) * words ≡ at * words + n * words = add-mul at n words in
     omega (arith, most, sum, are.count)
 
+-- a run of rows that ends before another row, as words
+pub rows_before : (words from to n : ℕ) → from + n ≤ to → from * words + n * words ≤ to * words
+rows_before words from to n before = let less : (from + n) * words ≤ to * words = mul-le-mul_right words before in let sum : (from + n) * words ≡ from * words + n * words = add-mul from n words in omega (arith, less, sum)
+
 -- runs of rows that are apart, as words
 pub rows_apart : (words from to n : ℕ) → (from + n ≤ to) ⊎ (to + n ≤ from) → (from * words + n * words ≤ to * words) ⊎ (to * words + n * words ≤ from * words)
-rows_apart words from to n (inl before) = inl (let less : (from + n) * words ≤ to * words = mul-le-mul_right words before in let sum : (from + n) * words ≡ from * words + n * words = add-mul from n words in omega (arith, less, sum))
-rows_apart words from to n (inr after) = inr (let less : (to + n) * words ≤ from * words = mul-le-mul_right words after in let sum : (to + n) * words ≡ to * words + n * words = add-mul to n words in omega (arith, less, sum))
+rows_apart words from to n (inl before) = inl (rows_before words from to n before)
+rows_apart words from to n (inr after) = inr (rows_before words to from n after)
 
 word_past : (p : ℕ) (bytes : List ℕ) → length bytes ≤ 2 * p → word p bytes ≡ 0
 word_past p bytes h = ap₂ (λ a b. a + 256 * b) (get_or_past bytes (2 * p) 0 h) (get_or_past bytes (2 * p + 1) 0 (omega arith))
@@ -149,6 +154,15 @@ run_added_at f levels words at to n a b m old new are fits ea eb em added =
     (subst (λ k. AddsTo (λ p. within (to * words) (to * words + n * words) p (f (word (k + (p - to * words)) old))) old new) ea
     (subst (λ k. AddsTo (λ p. within k (k + n * words) p (f (word (a + (p - k)) old))) old new) eb
     (subst (λ k. AddsTo (λ p. within b (b + k) p (f (word (a + (p - b)) old))) old new) em added)))
+
+-- the butterfly of two runs of rows, by the positions of their words
+pub butterfly_added : (f : ℕ → ℕ) (levels words low high n a b m : ℕ) (old new : List ℕ) → AreRows levels words old → low + n ≤ high → high + n ≤ 2 ^ levels → a ≡ low * words → b ≡ high * words → m ≡ n * words
+    → AddsBoth f a b m old new → EachColumn (IsButterfly f low high n) (record { levels = levels; words = words; bytes = old }) (record { levels = levels; words = words; bytes = new })
+butterfly_added f levels words low high n a b m old new are order fits ea eb em both =
+    each_then (RunAddedBy f high low n) (RunAdded low high n) (IsButterfly f low high n) (record { levels = levels; words = words; bytes = old }) (record { levels = levels; words = words; bytes = both.between }) (record { levels = levels; words = words; bytes = new })
+    (run_added_at f levels words high low n b a m old both.between are (omega arith) eb ea em both.lower)
+    (run_added_at (λ v. v) levels words low high n a b m both.between new (record { few = are.few; count = both.lower.same_length ∙ are.count }) fits ea eb em both.upper)
+    (λ f0 g h. butterfly_runs f low high n f0 g h order)
 
 -- ---- rows copied
 

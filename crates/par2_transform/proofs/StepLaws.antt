@@ -1,5 +1,5 @@
 -- One column of values, through the loops of a level.
-use Rattle.par2_transform.proofs.Common.{ℕ, suc, ◌+◌, ◌-◌, ◌*◌, ◌%◌, ◌^◌, ◌<◌, ◌≤◌, ◌≡◌, inl, inr, ◌⊎◌, refl, sym, ap, ap₂, ◌∙◌, subst, arith, bit_xor, pow-suc, add_assoc, mul_assoc, add-mul, one-mul, mul-zero, List, length, get_or, set, bit_at, xor_zero_r, xor_assoc, pow-le-pow_right, cases_eq, cases_lt, get_or-set_same, get_or-set_other, pow-add, xor_lt, mul, GivesElements, field_sum, bit_times_xor, field_sum_same, field_sum_none, field_sum_xor, xor_off, within, powers_in, sum_ahead, IsMerged, from, IsOneAdded, SameValuesOutside, OneRun, RunAddedBy, RunAdded, AheadAdded, IsRaised, IsLowered}
+use Rattle.par2_transform.proofs.Common.{ℕ, suc, ◌+◌, ◌-◌, ◌*◌, ◌%◌, ◌^◌, ◌<◌, ◌≤◌, ◌≡◌, inl, inr, ◌⊎◌, refl, sym, ap, ap₂, ◌∙◌, subst, arith, bit_xor, pow-suc, add_assoc, mul_assoc, add-mul, one-mul, mul-zero, List, length, get_or, set, bit_at, xor_zero_r, xor_assoc, pow-le-pow_right, cases_eq, cases_lt, get_or-set_same, get_or-set_other, pow-add, xor_lt, mul, GivesElements, field_sum, bit_times_xor, field_sum_same, field_sum_none, field_sum_xor, xor_off, within, powers_in, sum_ahead, IsMerged, from, IsOneAdded, SameValuesOutside, OneRun, RunAddedBy, RunAdded, IsButterfly, AheadAdded, IsRaised, IsLowered}
 use Rattle.std.proofs.Common.{mul-le-mul_right}
 use Rattle.par2_transform.proofs.AddingLaws.{within-in, within-below, within-above, within_joined, within_same}
 use Rattle.par2_transform.proofs.Sums.{field_sum_bit_set, field_sum_bit_unset}
@@ -108,6 +108,19 @@ run_none k at to n f none = record {
   others = same_outside to (to + n) f;
   run = λ e l. sym (ap (bit_xor (f (to + e))) (none (f (at + e))) ∙ xor_zero_r (f (to + e)));
 }
+
+-- both runs of a butterfly, one after the other
+pub butterfly_runs : (k : ℕ → ℕ) (low high n : ℕ) (f g h : ℕ → ℕ) → low + n ≤ high → RunAddedBy k high low n f g → RunAdded low high n g h → IsButterfly k low high n f h
+butterfly_runs k low high n f g h order first second = record {
+  below = λ u l. second.others.below u (omega arith) ∙ first.others.below u l;
+  between = λ u l m. second.others.below u m ∙ first.others.above u l;
+  above = λ u l. second.others.above u l ∙ first.others.above u (omega arith);
+  lower = λ e l. second.others.below (low + e) (omega arith) ∙ first.run e l;
+  upper = λ e l. second.run e l ∙ ap₂ bit_xor (first.others.above (high + e) (omega arith)) (sym (second.others.below (low + e) (omega arith)));
+}
+
+pub butterfly_at : (k : ℕ → ℕ) (low low2 high high2 n m : ℕ) (f g : ℕ → ℕ) → low ≡ low2 → high ≡ high2 → n ≡ m → IsButterfly k low high n f g → IsButterfly k low2 high2 m f g
+butterfly_at k low low2 high high2 n m f g el eh en both = subst (λ x. IsButterfly k x high2 m f g) el (subst (λ x. IsButterfly k low x m f g) eh (subst (λ x. IsButterfly k low high x f g) en both))
 
 -- ---- values ahead
 

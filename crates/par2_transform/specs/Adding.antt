@@ -1,5 +1,5 @@
 -- Additions to buffers, word by word. A word is two bytes, the lower one first.
-use Rattle.std.specs.Prelude.{ℕ, ◌≡◌, ◌<◌, ◌≤◌, ◌+◌, ◌*◌, ◌&&◌, nat_le, nat_lt, bit_xor, List, length, drop, slice_index, slice_index_or, if◌then◌else◌}
+use Rattle.std.specs.Prelude.{ℕ, ◌≡◌, ◌<◌, ◌≤◌, ◌+◌, ◌-◌, ◌*◌, ◌&&◌, nat_le, nat_lt, bit_xor, List, length, drop, slice_index, slice_index_or, if◌then◌else◌}
 use Rattle.par2_spec.specs.Slices.{word}
 use Rattle.par2_spec.specs.Sums.{list_at}
 use Rattle.par2_transform.specs.declared.outputs.Place.{Place}
@@ -12,6 +12,12 @@ within from to p x = if nat_le from p && nat_lt p to then x else 0
 pub record AddsTo (other : ℕ → ℕ) (old new : List ℕ) : Type 0 where
   pub same_length : length new ≡ length old
   pub each : (p : ℕ) → 2 * p + 1 < length old → word p new ≡ bit_xor (word p old) (other p)
+
+-- to the n words from `low` on, f of those from `high` on is added, and then these to those from `high` on
+pub record AddsBoth (f : ℕ → ℕ) (low high n : ℕ) (old new : List ℕ) : Type 0 where
+  pub between : List ℕ
+  pub lower : AddsTo (λ p. within low (low + n) p (f (word (high + (p - low)) old))) old between
+  pub upper : AddsTo (λ p. within high (high + n) p (word (low + (p - high)) between)) between new
 
 -- to word p of buffer t, `other t p` is added
 pub record AddsToEach (other : ℕ → ℕ → ℕ) (old new : List (List ℕ)) : Type 0 where

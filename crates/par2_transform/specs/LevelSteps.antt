@@ -32,6 +32,15 @@ pub record RunAddedBy (f : ℕ → ℕ) (at to n : ℕ) (old new : ℕ → ℕ) 
 abbrev pub RunAdded : ℕ → ℕ → ℕ → (ℕ → ℕ) → (ℕ → ℕ) → Type 0
 RunAdded = RunAddedBy (λ x. x)
 
+-- the butterfly of two runs of n values: to those from `low` on, f of those from `high` on is added, and then the new ones
+-- to those from `high` on
+pub record IsButterfly (f : ℕ → ℕ) (low high n : ℕ) (old new : ℕ → ℕ) : Type 0 where
+  pub below : (u : ℕ) → u < low → new u ≡ old u
+  pub between : (u : ℕ) → low + n ≤ u → u < high → new u ≡ old u
+  pub above : (u : ℕ) → high + n ≤ u → new u ≡ old u
+  pub lower : (e : ℕ) → e < n → new (low + e) ≡ bit_xor (old (low + e)) (f (old (high + e)))
+  pub upper : (e : ℕ) → e < n → new (high + e) ≡ bit_xor (old (high + e)) (new (low + e))
+
 -- to value 2 ^ i + e of a run, the values e + 2 ^ j are added that are from a up to b, for the first n powers 2 ^ j of
 -- the subspace polynomial
 pub record AheadAdded (i start a b n : ℕ) (old new : ℕ → ℕ) : Type 0 where

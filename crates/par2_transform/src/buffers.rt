@@ -1,10 +1,10 @@
-//! Sums of buffers, word by word. `Rows` adds rows by `add_words_within`, `add_products` and `add_products_within`;
-//! `add_to_output` ends in `add_products`.
+//! Sums of buffers, word by word. `Rows` adds rows by `add_words_within`, `add_products`, `add_products_within` and
+//! `butterfly_within`; `add_to_output` ends in `add_products`.
 
 ghost use Rattle.std.specs.Prelude.{◌≡◌, ℕ, ◌+◌, ◌-◌, ◌*◌, ◌^◌, ◌<◌, ◌≤◌, ◌⊎◌, length, slice_index};
 ghost use Rattle.par2_spec.specs.Field.{mul};
 ghost use Rattle.par2_spec.specs.Slices.{word};
-ghost use Rattle.par2_transform.specs.Adding.{within, AddsTo};
+ghost use Rattle.par2_transform.specs.Adding.{within, AddsBoth, AddsTo};
 ghost use Rattle.par2_transform.specs.Grids.{AddsWords, CopiesWords};
 
 use par2_gf16::{Factor, Gf};
@@ -130,4 +130,26 @@ pub(crate) fn add_products_within(
         let (front, back) = bytes.split_at_mut(2 * from);
         add_products(gf, factor, back, front, to, to + count);
     }
+}
+
+/// The butterfly: adds the factor times the `count` words from word `high` on to those from word `low` on, and then these
+/// to those from word `high` on.
+pub(crate) fn butterfly_within(
+    gf: &Gf,
+    factor: &Factor,
+    bytes: &mut [u8],
+    low: usize,
+    high: usize,
+    count: usize,
+)
+    requires order { low + count ≤ high }
+    requires room { 2 * (high + count) ≤ length bytes.old }
+    ensures { AddsBoth (mul factor.now) low high count bytes.old bytes.new }
+{
+    let (front, back) = bytes.split_at_mut(2 * high);
+    gf.butterfly(
+        factor,
+        &mut front[2 * low..2 * (low + count)],
+        &mut back[..2 * count],
+    );
 }

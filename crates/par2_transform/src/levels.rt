@@ -103,8 +103,11 @@ pub(crate) fn split(gf: &Gf, rows: &mut Rows, i: u32, q: u16, c: u16)
     rows.fit();
     let half = 1usize << i;
     let start = q as usize * 2 * half;
-    add_scaled(gf, rows, c, start + half, start, half);
-    rows.add_rows(start, start + half, half);
+    if c == 0 {
+        rows.add_rows(start, start + half, half);
+    } else {
+        rows.butterfly(gf, &Factor::new(c), start, start + half, half);
+    }
 }
 
 // Adds c times the `count` rows from `from` on to those from `to` on, unless c is 0, as in the first run of each level.

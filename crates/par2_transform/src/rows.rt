@@ -6,10 +6,11 @@ ghost use Rattle.par2_spec.specs.Field.{mul};
 ghost use Rattle.par2_spec.specs.Slices.{word};
 ghost use Rattle.par2_spec.specs.Sums.{GivesElements};
 ghost use Rattle.par2_transform.specs.Grids.{column, AreCopied, EachColumn, IsAdded};
-ghost use Rattle.par2_transform.specs.LevelSteps.{RunAddedBy, RunAdded};
+ghost use Rattle.par2_transform.specs.LevelSteps.{RunAddedBy, RunAdded, IsButterfly};
 
 use crate::buffers::{
-    add_products, add_products_within, add_words_within, clear, copy_padded, copy_words, fit_bytes,
+    add_products, add_products_within, add_words_within, butterfly_within, clear, copy_padded,
+    copy_words, fit_bytes,
 };
 use par2_gf16::{Factor, Gf};
 use std::alloc::{AllocError, Global};
@@ -175,6 +176,24 @@ impl Rows {
     {
         let (from, to, count) = (self.place(from), self.place(to), self.place(count));
         add_words_within(self.bytes.as_mut_slice(), from, to, count);
+    }
+
+    /// The butterfly: adds the factor times the `count` rows from row `high` on to those from row `low` on, and then these
+    /// to those from row `high` on.
+    pub(crate) fn butterfly(
+        &mut self,
+        gf: &Gf,
+        factor: &Factor,
+        low: usize,
+        high: usize,
+        count: usize,
+    )
+        requires order { low + count ≤ high }
+        requires high { high + count ≤ 2 ^ self.old.levels }
+        ensures { EachColumn (IsButterfly (mul factor.now) low high count) self.old self.new }
+    {
+        let (low, high, count) = (self.place(low), self.place(high), self.place(count));
+        butterfly_within(gf, factor, self.bytes.as_mut_slice(), low, high, count);
     }
 
     /// For the prover: each word is below 2 ^ 16.

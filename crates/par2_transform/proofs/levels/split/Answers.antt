@@ -1,35 +1,45 @@
-use Rattle.par2_transform.proofs.Common.{suc, ◌+◌, ◌*◌, ◌%◌, ◌^◌, ◌≡◌, ap, ◌∙◌, arith, mul, OneRun, RunAdded, RunAddedBy, column}
+use Rattle.par2_transform.proofs.Common.{ℕ, suc, ◌+◌, ◌*◌, ◌%◌, ◌^◌, ◌<◌, ◌≡◌, ap, sym, subst, ◌∙◌, arith, mul, zero-product, GivesElements, Grid, EachColumn, OneRun, RunAdded, IsButterfly, column}
 use Rattle.par2_transform.specs.Combinations.{IsSplit}
-use Rattle.par2_transform.proofs.StepLaws.{rows_within, shifted, pair_places, run_starts, run_at, run_by_at}
+use Rattle.par2_transform.proofs.StepLaws.{shifted, pair_places, run_starts, run_none, butterfly_runs, butterfly_at}
 use Rattle.par2_transform.proofs.CombinationLaws.{split_runs}
-use Rattle.par2_transform.proofs.GridLaws.{each_of}
+use Rattle.par2_transform.proofs.GridLaws.{each_so}
 use Rattle.par2_transform.proofs.levels.split.Goals as goal
 
-pub returns : goal.returns
-returns c =
-    let i = c.args.i in
-    let q = c.args.q in
-    let shift = 1 * 2 ^ i % 18446744073709551616 in
-    let half : shift ≡ 2 ^ i = shifted i (omega arith) in
-    let start = q * 2 ^ suc i in
-    let is : q * 2 * shift ≡ start = ap (λ n. q * 2 * n) half ∙ run_starts i q in
-    let a = c.args.rows.now in
-    let b = c.add_scaled.new.rows in
-    let d = c.add_rows.new.self in
-    each_of (RunAddedBy (mul c.args.c) (q * 2 * shift + shift) (q * 2 * shift) shift) (RunAdded (q * 2 * shift) (q * 2 * shift + shift) shift) (OneRun start (2 ^ suc i) (IsSplit i c.args.c)) a b d
-    c.add_scaled.ensures c.add_rows.ensures
-    (λ k first second. split_runs i c.args.c start (column a k) (column b k) (column d k) (c.fit.ensures k) c.ranges.c.fits
-    (run_by_at (mul c.args.c) (q * 2 * shift + shift) (start + 2 ^ i) (q * 2 * shift) start shift (2 ^ i) (column a k) (column b k) (omega arith) is half first)
-    (run_at (q * 2 * shift) start (q * 2 * shift + shift) (start + 2 ^ i) shift (2 ^ i) (column b k) (column d k) is (omega arith) half second))
+-- half of a run, as a shift computes it
+abbrev half : ℕ → ℕ
+half i = 1 * 2 ^ i % 18446744073709551616
 
-pub add_scaled-requires-clause-from : goal.add_scaled-requires-clause-from
-add_scaled-requires-clause-from c = omega (arith, pair_places c.args.rows.now.levels c.args.i c.args.q (omega arith) c.requires.level c.requires.pair)
-
-pub add_scaled-requires-clause-to : goal.add_scaled-requires-clause-to
-add_scaled-requires-clause-to c = omega (arith, pair_places c.args.rows.now.levels c.args.i c.args.q (omega arith) c.requires.level c.requires.pair)
+all_split : (i q c : ℕ) (a b : Grid) → i < 16 → c < 65536 → ((k : ℕ) → GivesElements (column a k)) → EachColumn (IsButterfly (mul c) (q * 2 * half i) (q * 2 * half i + half i) (half i)) a b
+    → EachColumn (OneRun (q * 2 ^ suc i) (2 ^ suc i) (IsSplit i c)) a b
+all_split i q c a b few small fit both = record {
+  levels = both.levels;
+  words = both.words;
+  columns = λ k h.
+      let is_half : half i ≡ 2 ^ i = shifted i few in
+      let is : q * 2 * half i ≡ q * 2 ^ suc i = ap (λ n. q * 2 * n) is_half ∙ run_starts i q in
+      split_runs i c (q * 2 ^ suc i) (column a k) (column b k) (fit k) small
+      (butterfly_at (mul c) (q * 2 * half i) (q * 2 ^ suc i) (q * 2 * half i + half i) (q * 2 ^ suc i + 2 ^ i) (half i) (2 ^ i) (column a k) (column b k) is (omega (arith, is, is_half)) is_half (both.columns k h));
+}
 
 pub add_rows-requires-clause-from : goal.add_rows-requires-clause-from
-add_rows-requires-clause-from c = rows_within c.add_scaled.ensures.levels (omega (arith, pair_places c.args.rows.now.levels c.args.i c.args.q (omega arith) c.requires.level c.requires.pair))
+add_rows-requires-clause-from c = omega (arith, pair_places c.args.rows.now.levels c.args.i c.args.q (omega arith) c.requires.level c.requires.pair)
 
 pub add_rows-requires-clause-to : goal.add_rows-requires-clause-to
-add_rows-requires-clause-to c = rows_within c.add_scaled.ensures.levels (omega (arith, pair_places c.args.rows.now.levels c.args.i c.args.q (omega arith) c.requires.level c.requires.pair))
+add_rows-requires-clause-to c = omega (arith, pair_places c.args.rows.now.levels c.args.i c.args.q (omega arith) c.requires.level c.requires.pair)
+
+pub butterfly-requires-clause-high : goal.butterfly-requires-clause-high
+butterfly-requires-clause-high c = omega (arith, pair_places c.args.rows.now.levels c.args.i c.args.q (omega arith) c.requires.level c.requires.pair)
+
+-- products with 0 add nothing to the lower half
+pub returns-then-c-eq0 : goal.returns-then-c-eq0
+returns-then-c-eq0 c =
+    let n = half c.args.i in
+    let low = c.args.q * 2 * n in
+    let by = mul c.args.c in
+    all_split c.args.i c.args.q c.args.c c.args.rows.now c.add_rows.new.self (omega arith) c.ranges.c.fits c.fit.ensures
+    (each_so (RunAdded low (low + n) n) (IsButterfly by low (low + n) n) c.args.rows.now c.add_rows.new.self c.add_rows.ensures
+    (λ f g added. butterfly_runs by low (low + n) n f f g (omega arith) (run_none by (low + n) low n f (λ v. subst (λ k. mul k v ≡ 0) (sym c.if-c-eq0.true) (zero-product v))) added))
+
+pub returns-else-c-eq0 : goal.returns-else-c-eq0
+returns-else-c-eq0 c =
+    all_split c.args.i c.args.q c.args.c c.args.rows.now c.butterfly.new.self (omega arith) c.ranges.c.fits c.fit.ensures (rw c.new.ensures at c.butterfly.ensures)
