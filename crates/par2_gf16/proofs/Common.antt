@@ -11,7 +11,7 @@ pub use Rattle.std.specs.List.{filter, range_with_len}
 pub use Rattle.std.specs.Prelude.{bit_xor, drop, take}
 pub use Rattle.par2_gf16.specs.Nibbles.{AreSplit, HasNibbles}
 pub use Rattle.par2_gf16.specs.Products.{AddsProducts, AddsWords, IsInverse}
-pub use Rattle.par2_gf16.specs.WordLoops.{AddsLanes, AddsWithin, IsButterfly, IsInterleaving, IsTable, LanesSoFar, lane_of}
+pub use Rattle.par2_gf16.specs.WordLoops.{AddsLanes, AddsWithin, AddsButterfly, IsInterleaving, IsTable, LanesSoFar, lane_of}
 pub use Rattle.par2_gf16.specs.Tables.{AreTables, FirstRound, LogsBelow, PowersBelow, SecondRound}
 unfoldable pub use Rattle.par2_gf16.specs.Tables.{constants_below}
 pub use Rattle.par2_spec.proofs.FieldBits.{bit_cases, tested, tested_at, xor_shl}

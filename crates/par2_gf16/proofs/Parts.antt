@@ -1,5 +1,5 @@
 -- Words that are added part by part, and the end of a source.
-use Rattle.par2_gf16.proofs.Common.{ℕ, ◌+◌, ◌*◌, ◌/◌, ◌<◌, ◌≤◌, ◌≡◌, refl, sym, ap, ◌∙◌, subst, arith, List, length, get_or, cases_lt, xor_zero_r, mul, word, product-zero, AddsProducts, AddsWithin, AddsWords, IsButterfly, by_either}
+use Rattle.par2_gf16.proofs.Common.{ℕ, ◌+◌, ◌*◌, ◌/◌, ◌<◌, ◌≤◌, ◌≡◌, refl, sym, ap, ◌∙◌, subst, arith, List, length, get_or, cases_lt, xor_zero_r, mul, word, product-zero, AddsProducts, AddsWithin, AddsWords, AddsButterfly, by_either}
 use Rattle.std.proofs.Common.{bit_xor}
 use Rattle.par2_spec.proofs.WordLaws.{word_past}
 use Rattle.par2_gf16.proofs.WordLaws.{word_once}
@@ -61,12 +61,12 @@ none_added c src old = record {
   above = λ i low. refl;
 }
 
-pub butterfly_none : (c : ℕ) (low high : List ℕ) → IsButterfly c low high low high 0 0
+pub butterfly_none : (c : ℕ) (low high : List ℕ) → AddsButterfly c low high low high 0 0
 butterfly_none c low high = record { lower = none_added c high low; upper = none_added 1 low high }
 
 -- the words of one part, and then those after them
-pub butterfly_after : (c : ℕ) (low high mid_low mid_high new_low new_high : List ℕ) (a b d : ℕ) → a ≤ b → b ≤ d → IsButterfly c low high mid_low mid_high a b
-    → IsButterfly c mid_low mid_high new_low new_high b d → IsButterfly c low high new_low new_high a d
+pub butterfly_after : (c : ℕ) (low high mid_low mid_high new_low new_high : List ℕ) (a b d : ℕ) → a ≤ b → b ≤ d → AddsButterfly c low high mid_low mid_high a b
+    → AddsButterfly c mid_low mid_high new_low new_high b d → AddsButterfly c low high new_low new_high a d
 butterfly_after c low high mid_low mid_high new_low new_high a b d ab bd first second = record {
   lower = adds_after c high low mid_low new_low a b d ab bd first.lower
       (products_of c high mid_high mid_low new_low b d (λ i from to. first.upper.above i from) second.lower);
@@ -76,7 +76,7 @@ butterfly_after c low high mid_low mid_high new_low new_high a b d ab bd first s
 }
 
 -- all words
-pub butterfly_words : (c : ℕ) (low high new_low new_high : List ℕ) (to : ℕ) → to ≡ length low / 2 → length high ≡ length low → IsButterfly c low high new_low new_high 0 to
+pub butterfly_words : (c : ℕ) (low high new_low new_high : List ℕ) (to : ℕ) → to ≡ length low / 2 → length high ≡ length low → AddsButterfly c low high new_low new_high 0 to
     → ((k : ℕ) → get_or new_low k 0 < 256) → AddsProducts c high low new_low × AddsWords new_low high new_high
 butterfly_words c low high new_low new_high to end same all fits = (
   record { same_length = all.lower.same_length; each = λ p room. all.lower.inside p (omega arith) (omega arith) room },

@@ -12,7 +12,7 @@ pub record AddsWithin (c : ℕ) (src old new : List ℕ) (from to : ℕ) : Type 
 
 -- words `from` up to `to` of `high` have their products with c added to `low`, and then the new words of `low`, which are
 -- their products with 1, are added to `high`
-pub record IsButterfly (c : ℕ) (low high new_low new_high : List ℕ) (from to : ℕ) : Type 0 where
+pub record AddsButterfly (c : ℕ) (low high new_low new_high : List ℕ) (from to : ℕ) : Type 0 where
   pub lower : AddsWithin c high low new_low from to
   pub upper : AddsWithin 1 new_low high new_high from to
 

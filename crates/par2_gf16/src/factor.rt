@@ -4,7 +4,7 @@
 ghost use Rattle.std.specs.Prelude.{◌≡◌, ℕ, ◌+◌, ◌*◌, ◌/◌, ◌%◌, ◌^◌, ◌<◌, ◌≤◌, List, length, slice_index, take, drop, bit_xor};
 ghost use Rattle.std.specs.Simd.Lanes.{zip2};
 ghost use Rattle.par2_spec.specs.Field.{mul};
-ghost use Rattle.par2_gf16.specs.WordLoops.{AddsWithin, IsButterfly, IsTable};
+ghost use Rattle.par2_gf16.specs.WordLoops.{AddsWithin, AddsButterfly, IsTable};
 ghost use Rattle.par2_gf16.specs.Nibbles.{AreNibbles, HasNibbles};
 
 use crate::doubling::doubled;
@@ -133,7 +133,7 @@ impl Factor {
     pub(crate) fn butterfly_block(&self, low: &mut [u8], high: &mut [u8], n: usize)
         requires fits { 2 * n + 64 ≤ length low.old }
         requires same { length high.old ≡ length low.old }
-        ensures { IsButterfly self.now low.old high.old low.new high.new n (n + 32) }
+        ensures { AddsButterfly self.now low.old high.old low.new high.new n (n + 32) }
     {
         self.add_nibbles(nibbles_at(high, n), low, n);
         lanes::add_vector(high, 2 * n, lanes::vector_at(low, 2 * n));

@@ -26,6 +26,7 @@ unfoldable pub use Rattle.par2_spec.specs.Field.{coefficient, constant, constant
 pub use Rattle.par2_spec.specs.Slices.{word}
 pub use Rattle.par2_spec.specs.Sums.{GivesElements, OneChanged, list_at, lists_of}
 unfoldable pub use Rattle.par2_spec.specs.Sums.{field_sum}
+pub use Rattle.par2_gf16.specs.Products.{AddsWords}
 pub use Rattle.par2_transform.specs.Adding.{AddsAt, AddsBoth, AddsTo, AddsToEach, AddsToPart, AreApart, AreWholeBuffers, HasByte, HaveWords, LieWithin, output_word, place_at, within}
 pub use Rattle.par2_transform.specs.Blocks.{AreBlocks, AreCoefficients, AreWeightRows, AreWindowValues, BlocksBecome, EachBlock, Gathers, GathersWindow, HaveShape, IsBlock, IsCleared, IsGathered, Keeps, OneBecomes, Outputs, RowsGathered, Takes, outputs_at, block_part, class_sum_at, from_gathered, weight_at}
 pub use Rattle.par2_transform.specs.Chirps.{AreWordsOfFirst, AreWeights}
@@ -33,7 +34,7 @@ unfoldable pub use Rattle.par2_transform.specs.Chirps.{chirp, chirp_inverse, cop
 pub use Rattle.par2_transform.specs.Columns.{AreByteLists, AreNumbers, recovered, byte_lists, words_at}
 pub use Rattle.par2_transform.specs.Cosets.{AreListedValues, IsListed, next_of}
 pub use Rattle.par2_transform.specs.Evaluations.{AreValues, from, value}
-pub use Rattle.par2_transform.specs.Grids.{AddsWords, AreCopied, AreRows, CopiesWords, EachColumn, Grid, IsAdded, column}
+pub use Rattle.par2_transform.specs.Grids.{AreCopied, AreRows, CopiesWords, EachColumn, Grid, IsAdded, column}
 pub use Rattle.par2_transform.specs.Locators.{AreFit, AreNumbered, AreNumerators, AreValuesOf, HaveFirst, IsWeighed, in_coset, numerator, quotient_coefficient, quotient_sum}
 pub use Rattle.par2_transform.specs.Plans.{cut_of}
 pub use Rattle.par2_transform.specs.PowerSums.{ArePowerSums, IsMerged, member, sum_ahead}

@@ -18,11 +18,6 @@ pub record AreRows (levels words : ℕ) (bytes : List ℕ) : Type 0 where
   pub few : levels ≤ 16
   pub count : length bytes ≡ 2 * (2 ^ levels * words)
 
--- to each word of old, the word of src is added
-pub record AddsWords (src old new : List ℕ) : Type 0 where
-  pub same_length : length new ≡ length old
-  pub each : (p : ℕ) → 2 * p + 1 < length old → word p new ≡ bit_xor (word p old) (word p src)
-
 -- the first n words are those of src, and the rest is unchanged
 pub record CopiesWords (n : ℕ) (src old new : List ℕ) : Type 0 where
   pub same_length : length new ≡ length old

@@ -2,10 +2,11 @@
 //! `butterfly_within`; `add_to_output` ends in `add_products`.
 
 ghost use Rattle.std.specs.Prelude.{◌≡◌, ℕ, ◌+◌, ◌-◌, ◌*◌, ◌^◌, ◌<◌, ◌≤◌, ◌⊎◌, length, slice_index};
+ghost use Rattle.par2_gf16.specs.Products.{AddsWords};
 ghost use Rattle.par2_spec.specs.Field.{mul};
 ghost use Rattle.par2_spec.specs.Slices.{word};
 ghost use Rattle.par2_transform.specs.Adding.{within, AddsBoth, AddsTo};
-ghost use Rattle.par2_transform.specs.Grids.{AddsWords, CopiesWords};
+ghost use Rattle.par2_transform.specs.Grids.{CopiesWords};
 
 use par2_gf16::{Factor, Gf};
 

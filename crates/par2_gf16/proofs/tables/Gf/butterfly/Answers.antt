@@ -1,4 +1,4 @@
-use Rattle.par2_gf16.proofs.Common.{ℕ, ◌≡◌, ◌+◌, ◌*◌, ◌<◌, ◌/◌, get_or, length, subst, arith, IsButterfly}
+use Rattle.par2_gf16.proofs.Common.{ℕ, ◌≡◌, ◌+◌, ◌*◌, ◌<◌, ◌/◌, get_or, length, subst, arith, AddsButterfly}
 use Rattle.std.proofs.Common.{rules}
 use Rattle.par2_gf16.proofs.Parts.{butterfly_after, butterfly_words, butterfly_none}
 use Rattle.par2_gf16.proofs.tables.Gf.butterfly.Goals as goal
@@ -26,7 +26,7 @@ returns c =
     let fits : (i : ℕ) → get_or new_low i 0 < 256 = λ i. search rules in
     let size : length l.low ≡ length low = l.invariant.lower.same_length in
     let met : 32 * l.block ≡ from = omega arith in
-    let rest : IsButterfly factor l.low l.high new_low new_high from to = record { lower = rw c.element.ensures at c.add_words.ensures; upper = c.add_words-2.ensures } in
-    let all = butterfly_after factor low high l.low l.high new_low new_high 0 from to (omega arith) (omega (arith, size)) (subst (IsButterfly factor low high l.low l.high 0) met l.invariant) rest in
+    let rest : AddsButterfly factor l.low l.high new_low new_high from to = record { lower = rw c.element.ensures at c.add_words.ensures; upper = c.add_words-2.ensures } in
+    let all = butterfly_after factor low high l.low l.high new_low new_high 0 from to (omega arith) (omega (arith, size)) (subst (AddsButterfly factor low high l.low l.high 0) met l.invariant) rest in
     let both = butterfly_words factor low high new_low new_high to (omega (arith, size)) c.requires.same all fits in
     record { low = both.0; high = both.1 }
