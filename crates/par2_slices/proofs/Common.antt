@@ -23,7 +23,7 @@ pub use Rattle.std.specs.Prelude.{IfSome, None, Option, Some, bit_and, bit_or, b
 pub use Rattle.std.specs.Str.{bytes_eq}
 pub use Rattle.md5.specs.Md5.{Holds, md5}
 pub use Rattle.par2_md5_lanes.specs.Digests.{digest_at}
-pub use Rattle.par2_slices.specs.Filters.{AreAlike, Groups, IsLong, IsMarked, Includes, Summarizes}
+pub use Rattle.par2_slices.specs.Filters.{AreAlike, Groups, IsLong, HasBit, Includes, Summarizes}
 pub use Rattle.par2_slices.specs.Intact.{HaveCrc32s, HaveMd5s}
 pub use Rattle.par2_slices.specs.Matching.{Describe, Describes, IsFirst, NumbersAreNames, first_intact, matched_from, matched_numbers, listed_at, without_number}
 pub use Rattle.par2_slices.specs.Pairs.{first_pairs}

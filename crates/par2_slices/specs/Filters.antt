@@ -22,10 +22,10 @@ abbrev pub AreAlike : ℕ → ℕ → ℕ → Type 0
 AreAlike shift crc other = (other / 2 ^ shift ≡ crc / 2 ^ shift) × (other % 8 ≡ crc % 8)
 
 -- the summary's bit for the byte at this place is set
-abbrev pub IsMarked : List ℕ → ℕ → Type 0
-IsMarked summary place = bit_at (slice_index summary (place / 8)) (place % 8) ≡ 1
+abbrev pub HasBit : List ℕ → ℕ → Type 0
+HasBit summary place = bit_at (slice_index summary (place / 8)) (place % 8) ≡ 1
 
 -- the summary has a bit for each byte, which is set if the byte isn't 0
 pub record Summarizes (bytes summary : List ℕ) : Type 0 where
   pub len : 8 * length summary ≡ length bytes
-  pub marked : (place : ℕ) → slice_index bytes place ≢ 0 → IsMarked summary place
+  pub bits : (place : ℕ) → slice_index bytes place ≢ 0 → HasBit summary place

@@ -10,7 +10,7 @@
 
 ghost use Rattle.std.specs.Prelude.{◌≡◌, ◌≢◌, ◌≤◌, ◌*◌, ◌%◌, ◌<◌, ◌↔◌, ◌⊎◌, ℕ, IfOk, IsTrue, length, slice_index};
 ghost use Rattle.std.specs.Int.{bit_at};
-ghost use Rattle.par2_slices.specs.Filters.{AreAlike, Includes, IsMarked};
+ghost use Rattle.par2_slices.specs.Filters.{AreAlike, Includes, HasBit};
 
 use par2_spec::Result;
 use std::alloc::Global;
@@ -45,21 +45,21 @@ impl Model for Filter {
 }
 
 // Sets the summary's bit for the byte at `place`.
-fn mark(summary: &mut [u8], place: usize)
+fn set_bit(summary: &mut [u8], place: usize)
     requires { place < 8 * length summary.old }
     ensures len { length summary.new ≡ length summary.old }
-    ensures marked { IsMarked summary.new place }
-    ensures kept { (other : ℕ) → IsMarked summary.old other → IsMarked summary.new other }
+    ensures bit { HasBit summary.new place }
+    ensures kept { (other : ℕ) → HasBit summary.old other → HasBit summary.new other }
 {
     summary[place / 8] |= 1 << (place % 8);
 }
 
 // Clears the summary's bit for the byte at `place` if that is 0.
-fn unmark_zero(summary: &mut [u8], place: usize, byte: u8)
+fn clear_zero(summary: &mut [u8], place: usize, byte: u8)
     requires { place < 8 * length summary.old }
     ensures len { length summary.new ≡ length summary.old }
-    ensures here { byte ≢ 0 → IsMarked summary.old place → IsMarked summary.new place }
-    ensures kept { (other : ℕ) → other ≢ place → IsMarked summary.old other → IsMarked summary.new other }
+    ensures here { byte ≢ 0 → HasBit summary.old place → HasBit summary.new place }
+    ensures kept { (other : ℕ) → other ≢ place → HasBit summary.old other → HasBit summary.new other }
 {
     if byte == 0 {
         summary[place / 8] &= !(1 << (place % 8));
@@ -101,7 +101,7 @@ impl Filter {
     {
         let place = (crc >> self.shift) as usize;
         self.bytes[place] |= 1 << (crc % 8);
-        mark(self.summary.as_mut_slice(), place);
+        set_bit(self.summary.as_mut_slice(), place);
     }
 
     /// Removes the group of `crc`, when no open pair has a checksum of it any more.
@@ -115,7 +115,7 @@ impl Filter {
         let place = (crc >> self.shift) as usize;
         self.bytes[place] &= !(1 << (crc % 8));
         let byte = self.bytes[place];
-        unmark_zero(self.summary.as_mut_slice(), place, byte);
+        clear_zero(self.summary.as_mut_slice(), place, byte);
     }
 
     // The byte in which the group of `crc` has its bit.

@@ -1,6 +1,7 @@
 -- Recovery slices that are added to outputs.
-use Rattle.par2_solve.proofs.Common.{inl, inr, ℕ, ◌+◌, ◌-◌, ◌*◌, ◌<◌, ◌≤◌, ◌≡◌, refl, sym, ap, ap₂, ◌∙◌, subst, arith, List, [], length, drop, get_or, map, bit_xor, zero-add, take, range_with_len, xor_zero_l, cases_lt, length-map, get_or-map, get_or-take, get_or-drop, get_or_past, length-take-le, length-drop, get_or-map-range_with_len, mul, coefficient, padded, word, coefficients, recovery, list_at, product_comm, product-one, word-lt, field_sum_same, within, place_at, AddsAt, AreApart, LieWithin, recovered, adds_more, adds_same, within-in, within_joined, within_same, length-group, adds_to_group, AreByteLists, products, all_coefficients, chunk, AreProducts}
+use Rattle.par2_solve.proofs.Common.{inl, inr, ℕ, ◌+◌, ◌-◌, ◌*◌, ◌<◌, ◌≤◌, ◌≡◌, refl, sym, ap, ◌∙◌, subst, arith, List, [], length, drop, get_or, map, bit_xor, zero-add, take, range_with_len, xor_zero_l, cases_lt, length-map, get_or-map, get_or-take, get_or-drop, get_or_past, length-take-le, length-drop, get_or-map-range_with_len, mul, coefficient, padded, word, coefficients, recovery, list_at, product_comm, product-one, word-lt, field_sum_same, within, place_at, AddsAt, AreApart, LieWithin, recovered, adds_more, adds_same, within-in, within_joined, within_same, length-group, adds_to_group, AreByteLists, products, all_coefficients, chunk, AreProducts}
 use Rattle.par2_transform.specs.declared.outputs.Place.{Place}
+use Rattle.par2_transform.proofs.AddingLaws.{first_word}
 use Rattle.par2_solve.specs.WrittenSlices.{output_at, AreWritten, AreZeros}
 use Rattle.par2_solve.proofs.Combinations.{blank_word, recovered_by_words}
 use Rattle.par2_solve.proofs.Solving.{word-window}
@@ -112,9 +113,6 @@ are_written places words exponents slices old new bytes fits within zeros added 
   others = added.others;
 }
   where
-    front : (s w : ℕ) (content : List ℕ) → 2 * w + 1 < s → word w (take s content) ≡ word w content
-    front s w content here = ap₂ (λ a b. a + 256 * b) (get_or-take s content (2 * w) 0 (omega (arith, here))) (get_or-take s content (2 * w + 1) 0 here)
-
     written : (t : ℕ) → t < length places → (place : Place) → place_at places t ≡ place → output_at (2 * words) place new ≡ recovery (2 * words) (map (padded (2 * words)) slices) (get_or exponents t 0)
     written t low place is =
         let s : ℕ = 2 * words in
@@ -129,8 +127,8 @@ are_written places words exponents slices old new bytes fits within zeros added 
         ] in
         recovered_by_words s (get_or exponents t 0) slices (output_at s place new) (omega arith) bytes size byte
         (λ w here.
-        front s w (drop place.at content) here ∙ ap (λ (x : Place). word w (drop x.at (list_at new x.buffer))) (sym is)
+        first_word s w (drop place.at content) here ∙ ap (λ (x : Place). word w (drop x.at (list_at new x.buffer))) (sym is)
         ∙ added.each t w low (omega (arith, here)) ∙ ap (λ x. bit_xor x (recovered slices (get_or exponents t 0) w))
-        (ap (λ (x : Place). word w (drop x.at (list_at old x.buffer))) is ∙ sym (front s w (drop place.at (list_at old place.buffer)) here)
+        (ap (λ (x : Place). word w (drop x.at (list_at old x.buffer))) is ∙ sym (first_word s w (drop place.at (list_at old place.buffer)) here)
         ∙ ap (λ (x : Place). word w (output_at s x old)) (sym is) ∙ ap (word w) (zeros t low) ∙ blank_word s w)
         ∙ xor_zero_l (recovered slices (get_or exponents t 0) w))

@@ -3,6 +3,10 @@ use Rattle.par2_transform.proofs.Common.{inl, inr, ℕ, suc, ◌+◌, ◌-◌, �
 use Rattle.std.proofs.lemmas.Bool.{lt-leb}
 use borrow.Rule.Slice.PartMut.{put_mid, same_len_mid, mid_len}
 
+-- a word of the first bytes
+pub first_word : (n p : ℕ) (bytes : List ℕ) → 2 * p + 1 < n → word p (take n bytes) ≡ word p bytes
+first_word n p bytes low = ap₂ (λ a b. a + 256 * b) (get_or-take n bytes (2 * p) 0 (omega (arith, low))) (get_or-take n bytes (2 * p + 1) 0 low)
+
 -- ---- within
 
 pub within-in : (from to p x : ℕ) → from ≤ p → p < to → within from to p x ≡ x

@@ -2,7 +2,7 @@
 use Rattle.par2_transform.proofs.Common.{ℕ, ◌+◌, ◌-◌, ◌*◌, ◌/◌, ◌%◌, ◌<◌, ◌≤◌, ◌≡◌, inl, inr, refl, sym, ap, ap₂, subst, ◌∙◌, arith, List, ◌++◌, length, get_or, min, take, drop, bit_xor, xor_zero_r, cases_lt, get_or_append_left, get_or-append_right, get_or_past, get_or-take, get_or-drop, length-take-le, word, within, AddsBoth, AddsTo, AddsWords}
 use Rattle.std.proofs.lemmas.List.{length-append}
 use Rattle.par2_gf16.proofs.WordLaws.{word_xor}
-use Rattle.par2_transform.proofs.AddingLaws.{within-below, within-above, within_same, within_moved, adds_to_part, part_here}
+use Rattle.par2_transform.proofs.AddingLaws.{first_word, within-below, within-above, within_same, within_moved, adds_to_part, part_here}
 use borrow.Rule.Slice.PartMut.{put_mid}
 
 -- ---- bytes added
@@ -85,10 +85,6 @@ added_front f from to n bytes front back new whole at apart added = record {
     source q = ap (λ m. word m back) (let e : q ≡ from + q - from = omega arith in e) ∙ sym (word_back front back from (from + q) at (omega arith)) ∙ ap (word (from + q)) whole
 
 -- ---- the butterfly of words in two parts
-
--- a word of the first words
-first_word : (k p : ℕ) (bytes : List ℕ) → 2 * p + 1 < k → word p (take k bytes) ≡ word p bytes
-first_word k p bytes low = ap₂ (λ a b. a + 256 * b) (get_or-take k bytes (2 * p) 0 (omega arith)) (get_or-take k bytes (2 * p + 1) 0 low)
 
 -- the lower words are in the front part, and the upper ones begin the back part
 pub added_both : (f : ℕ → ℕ) (low high n : ℕ) (bytes front back new_low new_high : List ℕ) → front ++ back ≡ bytes → length front ≡ 2 * high → low + n ≤ high → 2 * n ≤ length back

@@ -10,9 +10,9 @@ abbrev pub IsListed : (ℕ → ℕ) → ℕ → Type 0
 IsListed next n = (a : ℕ) → a ≤ n → next a ≤ n
 
 -- the list of the wanted points, which has all points if none is given
-abbrev pub next_of : Option (Bor (List ℕ)) → ℕ → ℕ
-next_of None n = n
-next_of (Some list) n = slice_index list.now n
+abbrev pub listed_by : Option (Bor (List ℕ)) → ℕ → ℕ
+listed_by None n = n
+listed_by (Some list) n = slice_index list.now n
 
 -- the values, at the listed points of a coset of subspace k, of the combination with these 2 ^ k coefficients
 abbrev pub AreListedValues : (ℕ → ℕ) → ℕ → ℕ → (ℕ → ℕ) → (ℕ → ℕ) → Type 0

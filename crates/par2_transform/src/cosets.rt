@@ -3,7 +3,7 @@
 //! (`list`), and runs that contain none of them are not split.
 
 ghost use Rattle.std.specs.Prelude.{◌≡◌, ℕ, ◌+◌, ◌-◌, ◌*◌, ◌^◌, ◌<◌, ◌≤◌, length, slice_index, IfOk, IfSome, IsTrue};
-ghost use Rattle.par2_transform.specs.Cosets.{AreListedValues, IsListed, next_of};
+ghost use Rattle.par2_transform.specs.Cosets.{AreListedValues, IsListed, listed_by};
 ghost use Rattle.par2_transform.specs.Evaluations.{AreValues};
 ghost use Rattle.par2_transform.specs.Grids.{EachColumn};
 ghost use Rattle.par2_transform.specs.LevelSteps.{OneRun};
@@ -65,7 +65,7 @@ fn has_wanted(next: Option<&[u32]>, i: u32, number: u16) -> bool
     requires list { IfSome next (λ list. length list.now ≡ 65536) }
     requires number { number < 2 ^ (16 - i) }
     requires few { i ≤ 16 }
-    ensures { (u : ℕ) → u < 2 ^ i → IsListed (next_of next.entry) (number * 2 ^ i + u) → IsTrue result }
+    ensures { (u : ℕ) → u < 2 ^ i → IsListed (listed_by next.entry) (number * 2 ^ i + u) → IsTrue result }
 {
     let Some(next) = next else {
         return true;
@@ -84,7 +84,7 @@ fn evaluate_run(gf: &Gf, rows: &mut Rows, next: Option<&[u32]>, i: u32, q: u16, 
     // The list, if there is one, has an entry for each point.
     requires list { IfSome next (λ list. length list.now ≡ 65536) }
     // The run gets its values at the listed points. No other run changes.
-    ensures { EachColumn (OneRun (q * 2 ^ i) (2 ^ i) (AreListedValues (next_of next.entry) i number))
+    ensures { EachColumn (OneRun (q * 2 ^ i) (2 ^ i) (AreListedValues (listed_by next.entry) i number))
         rows.old rows.new }
 {
     if i > 0 && has_wanted(next, i, number) {
@@ -109,7 +109,7 @@ pub(crate) fn values_in_coset(
     requires levels { levels ≤ rows.old.levels }
     requires coset { coset < 2 ^ (16 - levels) }
     requires list { IfSome next (λ list. length list.now ≡ 65536) }
-    ensures { EachColumn (AreListedValues (next_of next.entry) levels coset) rows.old rows.new }
+    ensures { EachColumn (AreListedValues (listed_by next.entry) levels coset) rows.old rows.new }
 {
     evaluate_run(gf, rows, next, levels, 0, coset);
 }

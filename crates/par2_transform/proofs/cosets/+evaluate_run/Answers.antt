@@ -1,4 +1,4 @@
-use Rattle.par2_transform.proofs.Common.{ℕ, suc, ◌+◌, ◌-◌, ◌*◌, ◌^◌, ◌<◌, ◌≡◌, ◌∙◌, sym, subst, arith, point, AreListedValues, EachColumn, Grid, OneRun, column, from, next_of}
+use Rattle.par2_transform.proofs.Common.{ℕ, suc, ◌+◌, ◌-◌, ◌*◌, ◌^◌, ◌<◌, ◌≡◌, ◌∙◌, sym, subst, arith, point, AreListedValues, EachColumn, Grid, OneRun, column, from, listed_by}
 use Rattle.std.proofs.lemmas.Bool.{false≢true}
 use Rattle.par2_transform.specs.Combinations.{IsSplit}
 use Rattle.par2_transform.proofs.GridLaws.{each_of, each_unchanged}
@@ -25,7 +25,7 @@ returns-then-has_wanted t c =
     let i = c.args.i - 1 in
     let q = c.args.q in
     let n = c.args.number in
-    let next = next_of c.args.next in
+    let next = listed_by c.args.next in
     let a = c.args.rows.now in
     let b = c.split.new.rows in
     let d = c.evaluate_run.new.rows in
@@ -60,7 +60,7 @@ returns-else-i-gt0 t c = elim c.else-i-gt0.branch [
     n = c.args.number
 
     next : ℕ → ℕ
-    next = next_of c.args.next
+    next = listed_by c.args.next
 
     a : Grid
     a = c.args.rows.now

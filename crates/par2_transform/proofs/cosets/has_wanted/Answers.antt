@@ -1,4 +1,4 @@
-use Rattle.par2_transform.proofs.Common.{ℕ, ◌+◌, ◌-◌, ◌*◌, ◌%◌, ◌^◌, ◌<◌, ◌≤◌, ◌≡◌, sym, arith, subst, length, pow_pos, slice_index, next_of}
+use Rattle.par2_transform.proofs.Common.{ℕ, ◌+◌, ◌-◌, ◌*◌, ◌%◌, ◌^◌, ◌<◌, ◌≤◌, ◌≡◌, sym, arith, subst, length, pow_pos, slice_index, listed_by}
 use Rattle.std.specs.Prelude.{IfSome}
 use Rattle.std.proofs.lemmas.Bool.{lt-ltb}
 use Rattle.par2_transform.proofs.StepLaws.{run_fits}
@@ -20,6 +20,6 @@ pub returns : goal.returns
 returns c u low listed =
     let first = c.args.number * 2 ^ c.args.i in
     let at = places c.args.i c.args.number c.requires.few c.requires.number in
-    let here : slice_index c.in-Some.next.now first ≤ first + u = subst (λ o. next_of o first ≤ first + u) c.in-Some.is (listed first (omega arith)) in
+    let here : slice_index c.in-Some.next.now first ≤ first + u = subst (λ o. listed_by o first ≤ first + u) c.in-Some.is (listed first (omega arith)) in
     lt-ltb (slice_index c.in-Some.next.now (first % 18446744073709551616)) (first % 18446744073709551616 + 1 * 2 ^ c.args.i % 18446744073709551616)
     (subst (λ n. slice_index c.in-Some.next.now n < n + 1 * 2 ^ c.args.i % 18446744073709551616) (sym at.0) (omega (arith, here, low, at)))

@@ -1,4 +1,4 @@
-use Rattle.par2_slices.proofs.Common.{arith, ap, ℕ, ◌*◌, ◌/◌, ◌%◌, ◌^◌, length-set, set, sym, ◌∙◌, subst, ◌⊎◌, bit_or, AreAlike, Groups, Includes, IsMarked, Summarizes, List, length, ◌≡◌, get_or-set_other, cases_eq, inl, inr, rules}
+use Rattle.par2_slices.proofs.Common.{arith, ap, ℕ, ◌*◌, ◌/◌, ◌%◌, ◌^◌, length-set, set, sym, ◌∙◌, subst, ◌⊎◌, bit_or, AreAlike, Groups, Includes, HasBit, Summarizes, List, length, ◌≡◌, get_or-set_other, cases_eq, inl, inr, rules}
 use Rattle.std.proofs.lemmas.List.{with_items_is}
 use Rattle.par2_slices.proofs.Groups.{its_place, byte_read, included, kept_by_insert, only_by_insert}
 use Rattle.par2_slices.proofs.filter.Filter.insert.Goals as goal
@@ -27,15 +27,15 @@ invariant_of-self c =
     let items = c.self.inside.bytes.items in
     let place = c.args.crc / 2 ^ shift in
     let byte = (bit_or c.index_mut.result.now (1 * 2 ^ (c.args.crc % 8) % 2 ^ 8)) in
-    let summary = c.mark.new.summary in
+    let summary = c.set_bit.new.summary in
     let size : length summary ≡ c.self.inside.summary.len = search rules in (
       record { either = c.self.invariant.0.either; len = length-set items place byte ∙ c.self.invariant.0.len },
       subst (λ (xs : List ℕ). Summarizes (set items place byte) xs) (sym (with_items_is c.self.inside.summary summary size))
           (record {
-            len = omega (arith, c.mark.ensures.len, ap (λ (xs : List ℕ). length xs) c.as_mut_slice.ensures.value, c.self.invariant.1.len, length-set items place byte);
-            marked = λ other some. elim (cases_eq other place) [
-              | inl same ↦ subst (λ n. IsMarked summary n) (sym same) c.mark.ensures.marked
-              | inr apart ↦ c.mark.ensures.kept other (subst (λ (xs : List ℕ). IsMarked xs other) (sym c.as_mut_slice.ensures.value) (c.self.invariant.1.marked other (λ none. some (get_or-set_other items place other byte 0 apart ∙ none))))
+            len = omega (arith, c.set_bit.ensures.len, ap (λ (xs : List ℕ). length xs) c.as_mut_slice.ensures.value, c.self.invariant.1.len, length-set items place byte);
+            bits = λ other some. elim (cases_eq other place) [
+              | inl same ↦ subst (λ n. HasBit summary n) (sym same) c.set_bit.ensures.bit
+              | inr apart ↦ c.set_bit.ensures.kept other (subst (λ (xs : List ℕ). HasBit xs other) (sym c.as_mut_slice.ensures.value) (c.self.invariant.1.bits other (λ none. some (get_or-set_other items place other byte 0 apart ∙ none))))
             ];
           }),
     )
