@@ -3,7 +3,7 @@ set terminal svg size 900, 350 font "sans-serif,12" background "#ffffff"
 set datafile separator "\t"
 set datafile missing "-"
 set logscale xy
-set yrange [5:200000]
+set yrange [5:2000000]
 set ytics ("10 ms" 10, "0.1 s" 100, "1 s" 1000, "10 s" 10000, "100 s" 100000) textcolor "#1f2328"
 set xtics textcolor "#1f2328" rotate by -40 font ",10"
 set grid xtics ytics lc "#d8dee4" lw 1 dt 1
