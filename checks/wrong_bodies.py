@@ -2,7 +2,7 @@
 """Shows of the must-fail edits that each function that they change is refused by a goal of its own. The gate tries an
 edit as a whole and stops at the first goal that is refused, so it wouldn't see a change that no clause refuses any more.
 
-usage: wrong_bodies.py [--together] [--anew] [CRATE [EDIT..]]
+usage: wrong_bodies.py [--together] [CRATE [EDIT..]]
        (without CRATE each crate; EDIT: the name of a file in crates/CRATE/must-fail, without .edit; else all of them)
 
 The lines under one comment of an edit are a change. A copy of the crate is checked over a copy of what earlier checks
@@ -14,18 +14,17 @@ which of its own goals are refused; that it calls a function which is refused sh
 name (`NAME: ` begins its comment) is then checked by itself if another one changes the same function. `limit` marks a
 goal at which the search for a proof has ended at a limit, which is slow. Crates are checked side by side, one for each
 processor, as many as memory holds (RT_JOBS sets another number). The last line counts, and the status is 1 if a function
-has no such goal. The result of an edit is kept beside the toolchain, by a checksum of all its inputs, for later runs on
-this machine; --anew takes nothing from there.
+has no such goal.
 
 Otherwise each change is checked by itself, which takes 10 to 70 seconds: a line says whether it is refused, and by
 which goal. The status is 1 if one is proved.
 """
 import collections
 import difflib
-import hashlib
-import json
 import os
 import re
+import shutil
+import subprocess
 import sys
 import tempfile
 import time
@@ -37,6 +36,8 @@ import rt_module  # noqa: E402
 
 # The memory that a check may take.
 EACH = 5_000_000_000
+# What the gate leaves beside the program that it built: the checksum of its sources.
+SOURCES = "crates/par2/out/par2.sources"
 # A proof file that names what an edit removed, and what cites that proof: such a fault says nothing about a contract.
 TAKEN_AWAY = re.compile(r"has no field|is not in scope|has no `|was not admitted")
 HEAD = re.compile(r"( *)(?:pub(?:\([^)]*\))? )?(?:const )?fn (\w+)")
@@ -53,13 +54,17 @@ def toolchain():
     module = rt_module.loaded()
     # (its signals are set by the main thread)
     module.rtlib.guarded()
-    # What other checkouts on this machine have built of the same libraries is taken from there.
-    module.share_work(False)
-    built = module.rtlib.Crate.is_built
-    # A library without a stamp is one that the gate took from what it keeps.
-    is_gates = lambda it: os.path.isfile(f"{it.rlib}/format") and not os.path.exists(f"{it.folder}/out/rlib/stamp")
+    built, are_gates = module.rtlib.Crate.is_built, is_gated()
+    # The gate leaves its libraries without a stamp.
+    is_gates = lambda it: are_gates and os.path.isdir(it.rlib) and not os.path.exists(f"{it.folder}/out/rlib/stamp")
     module.rtlib.Crate.is_built = lambda it: built(it) or is_gates(it)
     return module
+
+
+def is_gated():
+    """Returns whether the gate has proved these sources, and not others since."""
+    said = subprocess.run(["sh", "tools/sources.sh"], check=True, capture_output=True, text=True)
+    return os.path.isfile(SOURCES) and text_of(SOURCES) == said.stdout
 
 
 def text_of(path):
@@ -207,31 +212,10 @@ def told_alone(rt, crate, edits, kept):
 def told(rt, crate, edits, tell):
     """Returns the result of a crate's edits, over a copy of what earlier checks of the crate kept."""
     with tempfile.TemporaryDirectory() as room:
-        rt.adopt(crate, is_alone=False)
         if os.path.isdir(f"{crate.folder}/out/incremental"):
-            rt.linked(f"{crate.folder}/out/incremental", f"{room}/kept")
+            shutil.copytree(f"{crate.folder}/out/incremental", f"{room}/kept")
         os.makedirs(f"{room}/kept", exist_ok=True)
         return tell(rt, crate, edits, f"{room}/kept")
-
-
-class Earlier:
-    """The results of edits in earlier runs on this machine, by a checksum of the toolchain, this script, the crate,
-    those below it and its edits."""
-
-    def __init__(self, rt, crates, anew):
-        self.rt, self.kept = rt, rt.Kept(crates, anew)
-
-    def name(self, crate, edits):
-        texts = [text_of(it) for it in [__file__, *edits]]
-        return hashlib.sha256(repr((self.rt.stamp_of(crate, {}), edits, texts)).encode()).hexdigest()
-
-    def told(self, name):
-        found = self.kept.tried(name)
-        return found and Told(*json.loads(found[1]))
-
-    def keep(self, name, crate, told):
-        if not told.faults and all(map(self.kept.is_untouched, [crate, *crate.below()])):
-            self.kept.keep_tried(name, self.rt.REFUSED, json.dumps(told))
 
 
 def edits_of(rt, crate, names):
@@ -248,21 +232,14 @@ def in_lanes(rt, work, tell):
         yield from zip(work, pool.map(lambda it: told(rt, *it, tell), work))
 
 
-def tell_all(rt, work, crates, is_anew):
+def tell_all(rt, work):
     """Prints the result of each crate's edits, together, and returns whether nothing is wrong."""
-    earlier, sums, functions, faults = Earlier(rt, crates, is_anew), {}, 0, 0
-    for crate, edits in work:
-        sums[crate.name] = earlier.name(crate, edits)
-        if found := earlier.told(sums[crate.name]):
-            print(*found.lines, f"{crate.name}: an earlier run on this machine came to that", sep="\n")
-            functions += found.functions
-    left = [it for it in work if not earlier.told(sums[it[0].name])]
-    if not built(left):
+    functions, faults = 0, 0
+    if not built(work):
         return False
-    for (crate, _), found in in_lanes(rt, left, told_together):
+    for _, found in in_lanes(rt, work, told_together):
         print(*found.lines, sep="\n", flush=True)
         functions, faults = functions + found.functions, faults + found.faults
-        earlier.keep(sums[crate.name], crate, found)
     whole = f"wrong bodies: {functions} functions of {sum(len(it) for _, it in work)} edits"
     print(f"{whole}, {f'{faults} FAULTS' if faults else 'each refused by a goal of its own'}")
     return not faults
@@ -279,11 +256,11 @@ def main(words):
     crates = rt.rtlib.crates_below(os.getcwd())
     asked = [(it, edits_of(rt, it, names[1:])) for it in crates if not names or it.name == names[0]]
     work = [it for it in asked if it[1]]
-    if not work or set(flags) - {"--together", "--anew"}:
+    if not work or set(flags) - {"--together"}:
         print(__doc__)
         return 2
     if "--together" in flags:
-        return 0 if tell_all(rt, work, crates, "--anew" in flags) else 1
+        return 0 if tell_all(rt, work) else 1
     faults = 0
     for _, found in in_lanes(rt, work, told_alone) if built(work) else ():
         print(*found.lines, sep="\n", flush=True)

@@ -18,8 +18,8 @@ if [ -x "$program" ] && [ -f "$built_from" ] && [ "$(cat "$built_from")" = "$sou
     echo "$program"
     exit 0
 fi
-echo "Proving $name and the libraries below it, and building it for $cpu. After \`make test\`, or where an earlier run on"
-echo "this machine proved the same, it takes seconds. There is a line for each crate."
+echo "Proving $name and the libraries below it, and building it for $cpu. After \`make test\` it takes seconds. There is a"
+echo "line for each crate."
 python3 tools/prove.py "$name" "$cpu" "$program"
 echo "$sources" > "$built_from"
 echo "It is built:"

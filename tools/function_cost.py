@@ -54,8 +54,6 @@ def main(words):
     tests = "--tests" in words
     most = int(words[words.index("--most") + 1]) if "--most" in words else 40
     rt = rt_module.loaded()
-    # What other checkouts on this machine have built of the same libraries is taken from there.
-    rt.share_work(False)
     crate = next((it for it in rt.rtlib.crates_below(os.getcwd()) if it.name == words[-1]), None)
     if not crate or any(it.build_rlib(["--jobs", "1"], anew=False) for it in crate.below()):
         return 2

@@ -167,7 +167,7 @@ fn add_columns(
     gf.mul_add_columns(&Factor::new(c), &columns, dst);
 }
 
-// Whether the element, the factor and the columns give what the word by word sum gives on a copy of `dst`.
+// Whether the element, the factor, the columns and a butterfly give what the word by word sum gives on a copy of `dst`.
 fn is_as_word_by_word(
     rt: &(impl Abort + AllocGlobal),
     gf: &Gf,
@@ -182,6 +182,18 @@ fn is_as_word_by_word(
     by_element(rt, gf, c, src, dst) == wanted
         && by_factor(rt, gf, c, src, dst) == wanted
         && by_columns(rt, gf, c, src, dst) == wanted
+        && is_butterfly(rt, gf, c, dst, src)
+}
+
+// Whether a butterfly adds the products to a copy of `low`, and the sums to a copy of `high`.
+fn is_butterfly(rt: &(impl Abort + AllocGlobal), gf: &Gf, c: u16, low: &[u8], high: &[u8]) -> bool
+    requires same { length high.now ≡ length low.now }
+    requires even { length low.now % 2 ≡ 0 }
+{
+    let mut lower = copied(rt, low);
+    let mut upper = copied(rt, high);
+    gf.butterfly(&Factor::new(c), &mut lower, &mut upper);
+    lower == by_words(rt, c, high, low) && upper == by_element(rt, gf, 1, &lower, high)
 }
 
 // The last four are random.
