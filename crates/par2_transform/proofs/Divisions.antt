@@ -1,5 +1,5 @@
 -- The division of a run of coefficients by the subspace polynomial minus a constant.
-use Rattle.par2_transform.proofs.Common.{ℕ, suc, ◌+◌, ◌-◌, ◌*◌, ◌^◌, ◌<◌, ◌≤◌, ◌≡◌, sym, ap, ap₂, ◌∙◌, arith, bit_xor, refl, add_assoc, bit_at, xor_zero_r, xor_assoc, xor_comm, mul, pow, GivesElements, field_sum, bit_times_xor, power-lt, power-add, product_comm, product_assoc, product_linear_left, field_sum_same, field_sum_xor, field_sum_scaled, xor_off, vanishing, powers_in, value, from, OneRun, RunAddedBy, RunAdded, spread_beyond, spread_within, IsSpreadAbove, IsSpreadBelow}
+use Rattle.par2_transform.proofs.Common.{ℕ, suc, ◌+◌, ◌-◌, ◌*◌, ◌^◌, ◌<◌, ◌≤◌, ◌≡◌, sym, ap, ap₂, ◌∙◌, arith, bit_xor, refl, add_assoc, bit_at, xor_zero_r, xor_assoc, xor_comm, mul, pow, GivesElements, field_sum, bit_times_xor, power-lt, power-add, product_comm, product_assoc, product_linear_left, field_sum_same, field_sum_xor, field_sum_scaled, xor_off, vanishing, powers_in, value, from, AreShort, cases_lt, inl, inr, field_sum_none, product-zero, zero-product, OneRun, RunAddedBy, RunAdded, spread_beyond, spread_within, IsSpreadAbove, IsSpreadBelow}
 use Rattle.par2_transform.specs.Combinations.{IsHalved}
 use Rattle.par2_transform.proofs.Subspaces.{leading_power, lower_powers}
 use Rattle.par2_transform.proofs.Sums.{field_sum_join, field_sum_linear, field_sum_bit_set, field_sum_bit_unset, bit_product}
@@ -46,6 +46,7 @@ unfolding field_sum
 above_start i start f = record {
   others = same_outside (start + 2 ^ i) (start + 2 ^ suc i) f;
   kept = λ e h. refl;
+  short = λ m h none. none;
   fit = λ fit. fit;
   values = λ x. sym (xor_zero_r (value (2 ^ suc i) (from start f) x));
 }
@@ -55,6 +56,7 @@ pub above_set : (i start n : ℕ) (f g h : ℕ → ℕ) → n < i → bit_at (po
 above_set i start n f g h low set so_far added = record {
   others = outside_then (start + 2 ^ i) (start + 2 ^ suc i) (start + 2 ^ i) (start + 2 ^ suc i) (start + 2 ^ i) (start + 2 ^ i + 2 ^ n) f g h so_far.others added.others (omega arith) (omega arith) (omega arith) (omega (arith, double, under));
   kept = λ e l. added.others.above (start + (2 ^ i + e)) (omega (arith, under, l)) ∙ so_far.kept e l;
+  short = λ m most none. spread_short m (so_far.short m most none) most;
   fit = λ fit. run_fit (start + (2 ^ i + (2 ^ i - 2 ^ n))) (start + 2 ^ i) (2 ^ n) g h added (so_far.fit fit);
   values = λ x.
       ap (λ m. value m (from start h) x) (sym whole)
@@ -78,10 +80,23 @@ above_set i start n f g h low set so_far added = record {
     terms : ℕ → ℕ → ℕ
     terms x j = spread_beyond i (from (2 ^ i) (from start f)) x j
 
+    -- zeros are added to zeros
+    spread_short : (m : ℕ) → AreShort m (suc i) (from start g) → 2 ^ i ≤ m → AreShort m (suc i) (from start h)
+    spread_short m none most k high low =
+        let e : ℕ = k - 2 ^ i in
+        let at : start + 2 ^ i + e ≡ start + k = omega (arith, most, high) in
+        elim (cases_lt e (2 ^ n)) [
+          | inl first ↦
+              let source : start + (2 ^ i + (2 ^ i - 2 ^ n)) + e ≡ start + (k + (2 ^ i - 2 ^ n)) = omega (arith, most, high, under) in
+              ap h (sym at) ∙ added.run e first ∙ ap₂ bit_xor (ap g at ∙ none k high low) (ap g source ∙ none (k + (2 ^ i - 2 ^ n)) (omega (arith, high)) (omega (arith, first, most, high, under, double)))
+          | inr past ↦ added.others.above (start + k) (omega (arith, past, most, high)) ∙ none k high low
+        ]
+
 pub above_unset : (i start n : ℕ) (f g : ℕ → ℕ) → (bit_at (powers_in i) n ≡ 1 → ⊥) → IsSpreadAbove i start n f g → IsSpreadAbove i start (n + 1) f g
 above_unset i start n f g unset so_far = record {
   others = so_far.others;
   kept = so_far.kept;
+  short = so_far.short;
   fit = so_far.fit;
   values = λ x. so_far.values x ∙ ap (bit_xor (value (2 ^ suc i) (from start f) x)) (sym (field_sum_bit_unset n (powers_in i) (spread_beyond i (from (2 ^ i) (from start f)) x) unset));
 }
@@ -161,11 +176,57 @@ spread_all i x u hx fit =
     (λ j l. sym (bit_times_xor bits j (spread_within i u x j) (spread_beyond i u x j)) ∙ ap (λ v. bit_at bits j * v) (spread_whole i j x u l hx fit) ∙ sym (bit_product bits j (pow x (2 ^ j)) y))
     ∙ field_sum_linear i (λ t. mul t y) (λ j. bit_at bits j * pow x (2 ^ j)) (product_linear_left y)
 
+-- a run without an upper half is divided already
+pub short_runs : (n i start : ℕ) (f : ℕ → ℕ) → n ≤ 2 ^ i → OneRun start (2 ^ suc i) (IsHalved n i) f f
+short_runs n i start f few = record {
+  others = same_outside start (start + 2 ^ suc i) f;
+  run = λ short.
+      let double : 2 ^ suc i ≡ 2 ^ i + 2 ^ i = double_power i in
+      let none : AreShort 0 i (from (2 ^ i) (from start f)) = λ m high low. short (2 ^ i + m) (omega (arith, few)) (omega (arith, low, double)) in
+      let zeros : (k x m : ℕ) → m < 2 ^ i → mul (from (2 ^ i) (from start f) m) (pow x k) ≡ 0 = λ k x m low. ap (λ v. mul v (pow x k)) (none m (omega arith) low) ∙ zero-product (pow x k) in
+      record {
+        divided = λ x hx.
+            ap (λ m. value m (from start f) x) double ∙ field_sum_join (2 ^ i) (2 ^ i) (λ m. mul (from start f m) (pow x m))
+            ∙ ap (bit_xor (value (2 ^ i) (from start f) x))
+            (field_sum_none (2 ^ i) (λ m. mul (from start f (2 ^ i + m)) (pow x (2 ^ i + m))) (λ m low. zeros (2 ^ i + m) x m low)
+            ∙ sym (ap (mul (vanishing i x)) (field_sum_none (2 ^ i) (λ m. mul (from (2 ^ i) (from start f) m) (pow x m)) (λ m low. zeros m x m low)) ∙ product-zero (vanishing i x)));
+        remainder = λ m high low. short m high (omega (arith, low, double));
+        quotient = λ m high low. none m (omega arith) low;
+      };
+}
+
 -- a run is divided by the subspace polynomial: what is added to the lower half and to the quotient leaves the remainder
-pub halved_runs : (i start : ℕ) (f g h : ℕ → ℕ) → GivesElements f → IsSpreadAbove i start i f g → IsSpreadBelow i start i g h → OneRun start (2 ^ suc i) (IsHalved i) f h
-halved_runs i start f g h fit above below = record {
+pub halved_runs : (n i start : ℕ) (f g h : ℕ → ℕ) → 2 ^ i < n → GivesElements f → IsSpreadAbove i start i f g → IsSpreadBelow i start i g h → OneRun start (2 ^ suc i) (IsHalved n i) f h
+halved_runs n i start f g h many fit above below = record {
   others = outside_then start end (start + 2 ^ i) end start (start + 2 ^ i) f g h above.others below.others (omega arith) (omega arith) (omega arith) (omega (arith, double));
-  run = λ x hx.
+  run = λ short. record {
+    divided = divided;
+    remainder = λ m high low. absurd (let no : m < m = omega (arith, many, high, low) in omega (arith, no));
+    quotient = λ m high low. same m ∙ above.short n (omega (arith, many)) short (2 ^ i + m) (omega (arith, many, high)) (omega (arith, low, double));
+  };
+}
+  where
+    end : ℕ
+    end = start + 2 ^ suc i
+
+    double : 2 ^ suc i ≡ 2 ^ i + 2 ^ i
+    double = double_power i
+
+    upper : (ℕ → ℕ) → ℕ → ℕ
+    upper v = from (2 ^ i) (from start v)
+
+    same : (e : ℕ) → upper h e ≡ upper g e
+    same e = below.others.above (start + (2 ^ i + e)) (omega arith)
+
+    -- the value before, from the one after
+    balance : (b e w l p : ℕ) → bit_xor (bit_xor b e) w ≡ bit_xor l p → b ≡ bit_xor l (bit_xor p (bit_xor w e))
+    balance b e w l p is =
+        sym (ap (λ v. bit_xor v (bit_xor w e)) (sym is)
+        ∙ sym (xor_assoc (bit_xor (bit_xor b e) w) w e) ∙ ap (λ v. bit_xor v e) (xor_off (bit_xor b e) w) ∙ xor_off b e)
+        ∙ xor_assoc l p (bit_xor w e)
+
+    divided : (x : ℕ) → x < 2 ^ 16 → value (2 ^ suc i) (from start f) x ≡ bit_xor (value (2 ^ i) (from start h) x) (mul (vanishing i x) (value (2 ^ i) (upper h) x))
+    divided x hx =
       let u = upper h in
       let fits : GivesElements u = λ e. below.fit (above.fit fit) (start + (2 ^ i + e)) in
       let y = value (2 ^ i) u x in
@@ -188,24 +249,4 @@ halved_runs i start f g h fit above below = record {
       ∙ ap (bit_xor l) (ap (bit_xor (mul p y)) (spread_all i x u hx fits)
       ∙ ap (λ t. bit_xor (mul t y) (mul (lower_powers i x) y)) (leading_power i x hx)
       ∙ ap (λ t. bit_xor t (mul (lower_powers i x) y)) ((product_linear_left y).on_xor (vanishing i x) (lower_powers i x))
-      ∙ xor_off (mul (vanishing i x) y) (mul (lower_powers i x) y));
-}
-  where
-    end : ℕ
-    end = start + 2 ^ suc i
-
-    double : 2 ^ suc i ≡ 2 ^ i + 2 ^ i
-    double = double_power i
-
-    upper : (ℕ → ℕ) → ℕ → ℕ
-    upper v = from (2 ^ i) (from start v)
-
-    same : (e : ℕ) → upper h e ≡ upper g e
-    same e = below.others.above (start + (2 ^ i + e)) (omega arith)
-
-    -- the value before, from the one after
-    balance : (b e w l p : ℕ) → bit_xor (bit_xor b e) w ≡ bit_xor l p → b ≡ bit_xor l (bit_xor p (bit_xor w e))
-    balance b e w l p is =
-        sym (ap (λ v. bit_xor v (bit_xor w e)) (sym is)
-        ∙ sym (xor_assoc (bit_xor (bit_xor b e) w) w e) ∙ ap (λ v. bit_xor v e) (xor_off (bit_xor b e) w) ∙ xor_off b e)
-        ∙ xor_assoc l p (bit_xor w e)
+      ∙ xor_off (mul (vanishing i x) y) (mul (lower_powers i x) y))

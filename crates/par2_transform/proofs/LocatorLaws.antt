@@ -105,7 +105,7 @@ short_value n k f g x fits same none =
 pub numerators_are : (m : ℕ) (sequence weights : List ℕ) (sources : List (List ℕ)) (k at : ℕ) (rows filled values sums cleared gathered new : Grid)
     → length sources ≡ length sequence → length sequence + m ≤ 2 ^ k → AreByteLists sources → IsWeighed k sequence weights
     → rows.levels ≡ k → sums.levels ≡ k → rows.words ≡ sums.words
-    → HaveFirst (length sources) (λ c s. words_at sources (at + c) s) rows filled → EachColumn (AreValues filled.levels) filled values
+    → HaveFirst (length sources) (λ c s. words_at sources (at + c) s) rows filled → EachColumn (AreValues (length sources) filled.levels) filled values
     → cleared.levels ≡ sums.levels → cleared.words ≡ sums.words → ((c u : ℕ) → column cleared c u ≡ 0)
     → RowsGathered (slice_index weights) values (2 ^ cleared.levels) cleared gathered → EachColumn (ArePowerSums gathered.levels 0) gathered new
     → AreNumerators m sequence sources at sums new
@@ -137,7 +137,7 @@ numerators_are m sequence weights sources k at rows filled values sums cleared g
 
     value_is : (c u : ℕ) → c < sums.words → u < 2 ^ k → column values c u ≡ value n (words c) (point u)
     value_is c u low l =
-        values_are.columns c (omega (arith, low, have.words, same_words)) u (subst (λ m. u < 2 ^ m) (sym filled_levels) l)
+        values_are.columns c (omega (arith, low, have.words, same_words)) (λ m high none. have.none c m high) u (subst (λ m. u < 2 ^ m) (sym filled_levels) l)
         ∙ ap (λ m. value (2 ^ m) (column filled c) (point u)) filled_levels
         ∙ short_value n k (column filled c) (words c) (point u) (omega (arith, fit)) (λ m h. have.first c m (omega (arith, low, same_words)) (omega (arith, h, count))) (λ m h. have.none c m (omega (arith, h, count)))
 
@@ -153,12 +153,12 @@ numerator-lt sequence sources p t bytes fit =
 -- ---- combinations, and their values at points
 
 pub combinations_of : (k n : ℕ) (sums old cleared mid new : Grid) → n ≤ 2 ^ k → cleared.levels ≡ old.levels → cleared.words ≡ old.words → ((c u : ℕ) → column cleared c u ≡ 0)
-    → AreCopied n sums cleared mid → EachColumn (IsCombination k) mid new → AreCombinations k n sums old new
+    → AreCopied n sums cleared mid → EachColumn (IsCombination n k) mid new → AreCombinations k n sums old new
 combinations_of k n sums old cleared mid new fits levels words zero copied combinations = record {
   levels = combinations.levels ∙ copied.levels ∙ levels;
   words = combinations.words ∙ copied.words ∙ words;
   each = λ c x low hx.
-      combinations.columns c (omega (arith, low, copied.words, words)) x hx
+      combinations.columns c (omega (arith, low, copied.words, words)) (λ m high none. copied.rest c m high ∙ zero c m) x hx
       ∙ short_value n k (column mid c) (column sums c) x fits (λ m h. copied.first c m h) (λ m h. copied.rest c m h ∙ zero c m);
 }
 

@@ -128,24 +128,26 @@ weighed_run i q f g h fit fits merged halves =
 
 -- ---- combinations
 
-pub combination_of_first : (i : ℕ) → IsOfFirst (2 ^ i) (IsCombination i)
-combination_of_first i f f2 g g2 sf sg is x hx =
-    combined_same i g2 g x sg ∙ is x hx ∙ field_sum_same (2 ^ i) (λ m. mul (f m) (pow x m)) (λ m. mul (f2 m) (pow x m)) (λ m l. ap (λ v. mul v (pow x m)) (sym (sf m l)))
+pub combination_of_first : (n i : ℕ) → IsOfFirst (2 ^ i) (IsCombination n i)
+combination_of_first n i f f2 g g2 sf sg is short x hx =
+    combined_same i g2 g x sg ∙ is (λ m high low. sym (sf m low) ∙ short m high low) x hx ∙ field_sum_same (2 ^ i) (λ m. mul (f m) (pow x m)) (λ m. mul (f2 m) (pow x m)) (λ m l. ap (λ v. mul v (pow x m)) (sym (sf m l)))
 
 -- of one coefficient
-pub combination_of_one : (f : ℕ → ℕ) → f 0 < 65536 → IsCombination 0 f f
+pub combination_of_one : (n : ℕ) (f : ℕ → ℕ) → f 0 < 65536 → IsCombination n 0 f f
 unfolding combined field_sum pow
-combination_of_one f fit x hx = sym (xor_zero_l _ ∙ product-one (f 0) fit)
+combination_of_one n f fit short x hx = sym (xor_zero_l _ ∙ product-one (f 0) fit)
 
-pub combined_run : (i q : ℕ) (f g h : ℕ → ℕ) → OneRun (q * 2 ^ suc i) (2 ^ suc i) (IsHalved i) f g → BothHalves i q (IsCombination i) (IsCombination i) g h
-    → OneRun (q * 2 ^ suc i) (2 ^ suc i) (IsCombination (suc i)) f h
+pub combined_run : (n i q : ℕ) (f g h : ℕ → ℕ) → OneRun (q * 2 ^ suc i) (2 ^ suc i) (IsHalved n i) f g → BothHalves i q (IsCombination n i) (IsCombination (n - 2 ^ i) i) g h
+    → OneRun (q * 2 ^ suc i) (2 ^ suc i) (IsCombination n (suc i)) f h
 unfolding combined
-combined_run i q f g h halved halves =
+combined_run n i q f g h halved halves =
     let start = q * 2 ^ suc i in
     let end = start + 2 ^ suc i in
     record {
       others = outside_then start end start end start end f g h halved.others halves.others (omega arith) (omega arith) (omega arith) (omega arith);
-      run = λ x hx. ap₂ (λ a b. bit_xor a (mul (vanishing i x) b)) (halves.lower x hx) (halves.upper x hx) ∙ sym (halved.run x hx);
+      run = λ short x hx.
+          let parts = halved.run short in
+          ap₂ (λ a b. bit_xor a (mul (vanishing i x) b)) (halves.lower parts.remainder x hx) (halves.upper parts.quotient x hx) ∙ sym (parts.divided x hx);
     }
 
 -- ---- values

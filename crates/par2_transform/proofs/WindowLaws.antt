@@ -41,12 +41,12 @@ field_sum_short n m f h none =
     ∙ ap (bit_xor (field_sum n f)) (field_sum_none (m - n) (λ i. f (n + i)) (λ i l. none (n + i) (omega arith))) ∙ xor_zero_r (field_sum n f)
 
 pub values_of_window : (cut : Cut) (slices : List (List ℕ)) (r a from : ℕ) (old mid new : Grid) → cut.window ≤ 2 ^ cut.levels → mid.levels ≡ cut.levels
-    → AreCoefficients cut slices r a from cut.window old mid → EachColumn (AreValues mid.levels) mid new → AreWindowValues cut slices r a from old new
+    → AreCoefficients cut slices r a from cut.window old mid → EachColumn (AreValues cut.window mid.levels) mid new → AreWindowValues cut slices r a from old new
 values_of_window cut slices r a from old mid new fits levels coefficients values = record {
   levels = values.levels ∙ coefficients.levels;
   words = values.words ∙ coefficients.words;
   values = λ c u low here.
-      values.columns c (let w = coefficients.words in omega (arith, w)) u (subst (λ k. u < 2 ^ k) (sym levels) here)
+      values.columns c (let w = coefficients.words in omega (arith, w)) (λ m high none. coefficients.none c m high) u (subst (λ k. u < 2 ^ k) (sym levels) here)
       ∙ ap (λ k. value (2 ^ k) (column mid c) (point u)) levels
       ∙ field_sum_short cut.window (2 ^ cut.levels) (λ m. mul (column mid c m) (pow (point u) m)) fits
       (λ m h. ap (λ x. mul x (pow (point u) m)) (coefficients.none c m h) ∙ zero-product (pow (point u) m))

@@ -1,8 +1,8 @@
 -- Polynomials as combinations of products of subspace polynomials (S.-J. Lin, W.-H. Chung and Y. S. Han, "Novel
 -- polynomial basis and its application to Reed-Solomon erasure codes", 2014).
-use Rattle.std.specs.Prelude.{ℕ, zero, suc, ◌≡◌, ◌<◌, ◌^◌, bit_xor}
+use Rattle.std.specs.Prelude.{ℕ, zero, suc, ◌≡◌, ◌<◌, ◌-◌, ◌^◌, bit_xor}
 use Rattle.par2_spec.specs.Field.{mul}
-use Rattle.par2_transform.specs.Evaluations.{value, from}
+use Rattle.par2_transform.specs.Evaluations.{value, from, AreShort}
 use Rattle.par2_transform.specs.Subspaces.{vanishing}
 
 -- the value at x of the combination with these 2 ^ i coefficients: number m is the coefficient of the product of the
@@ -18,11 +18,17 @@ pub record IsSplit (i c : ℕ) (whole split : ℕ → ℕ) : Type 0 where
   pub divided : (x : ℕ) → x < 2 ^ 16 → combined (suc i) whole x
       ≡ bit_xor (combined i split x) (mul (bit_xor (vanishing i x) c) (bit_xor (combined i split x) (combined i (from (2 ^ i) split) x)))
 
--- a polynomial with 2 ^ (i + 1) coefficients is divided by the subspace polynomial: the remainder is in the lower half,
--- the quotient in the upper one
-abbrev pub IsHalved : ℕ → (ℕ → ℕ) → (ℕ → ℕ) → Type 0
-IsHalved i whole halves = (x : ℕ) → x < 2 ^ 16 → value (2 ^ suc i) whole x ≡ bit_xor (value (2 ^ i) halves x) (mul (vanishing i x) (value (2 ^ i) (from (2 ^ i) halves) x))
+-- a polynomial with 2 ^ (i + 1) coefficients, of which those from number n on are 0, divided by the subspace polynomial:
+-- the remainder is in the lower half, the quotient in the upper one
+pub record Halves (n i : ℕ) (whole halves : ℕ → ℕ) : Type 0 where
+  pub divided : (x : ℕ) → x < 2 ^ 16 → value (2 ^ suc i) whole x
+      ≡ bit_xor (value (2 ^ i) halves x) (mul (vanishing i x) (value (2 ^ i) (from (2 ^ i) halves) x))
+  pub remainder : AreShort n i halves
+  pub quotient : AreShort (n - 2 ^ i) i (from (2 ^ i) halves)
 
--- the combination is the polynomial with these 2 ^ i coefficients
-abbrev pub IsCombination : ℕ → (ℕ → ℕ) → (ℕ → ℕ) → Type 0
-IsCombination i coefficients combination = (x : ℕ) → x < 2 ^ 16 → combined i combination x ≡ value (2 ^ i) coefficients x
+abbrev pub IsHalved : ℕ → ℕ → (ℕ → ℕ) → (ℕ → ℕ) → Type 0
+IsHalved n i whole halves = AreShort n (suc i) whole → Halves n i whole halves
+
+-- the combination is the polynomial with these 2 ^ i coefficients, if those from number n on are 0
+abbrev pub IsCombination : ℕ → ℕ → (ℕ → ℕ) → (ℕ → ℕ) → Type 0
+IsCombination n i coefficients combination = AreShort n i coefficients → (x : ℕ) → x < 2 ^ 16 → combined i combination x ≡ value (2 ^ i) coefficients x

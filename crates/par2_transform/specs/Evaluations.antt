@@ -1,5 +1,5 @@
 -- Values of a polynomial.
-use Rattle.std.specs.Prelude.{ℕ, ◌≡◌, ◌<◌, ◌+◌, ◌^◌}
+use Rattle.std.specs.Prelude.{ℕ, ◌≡◌, ◌<◌, ◌≤◌, ◌+◌, ◌^◌}
 use Rattle.par2_spec.specs.Field.{mul, pow}
 use Rattle.par2_spec.specs.Sums.{field_sum}
 use Rattle.par2_transform.specs.Subspaces.{point}
@@ -8,9 +8,13 @@ use Rattle.par2_transform.specs.Subspaces.{point}
 abbrev pub value : ℕ → (ℕ → ℕ) → ℕ → ℕ
 value n coefficients x = field_sum n (λ m. mul (coefficients m) (pow x m))
 
--- the values, at the points of subspace k, of the polynomial with 2 ^ k coefficients
-abbrev pub AreValues : ℕ → (ℕ → ℕ) → (ℕ → ℕ) → Type 0
-AreValues k coefficients values = (u : ℕ) → u < 2 ^ k → values u ≡ value (2 ^ k) coefficients (point u)
+-- of 2 ^ k coefficients, those from number n on are 0
+abbrev pub AreShort : ℕ → ℕ → (ℕ → ℕ) → Type 0
+AreShort n k coefficients = (m : ℕ) → n ≤ m → m < 2 ^ k → coefficients m ≡ 0
+
+-- the values, at the points of subspace k, of the polynomial with 2 ^ k coefficients, if those from number n on are 0
+abbrev pub AreValues : ℕ → ℕ → (ℕ → ℕ) → (ℕ → ℕ) → Type 0
+AreValues n k coefficients values = AreShort n k coefficients → (u : ℕ) → u < 2 ^ k → values u ≡ value (2 ^ k) coefficients (point u)
 
 -- the values from place a on
 abbrev pub from : ℕ → (ℕ → ℕ) → ℕ → ℕ

@@ -114,11 +114,12 @@ pub(crate) fn values_in_coset(
     evaluate_run(gf, rows, next, levels, 0, coset);
 }
 
-/// The additive FFT: replaces each column of coefficients by the values of the polynomial at the points of the subspace.
-pub(crate) fn values_at_points(gf: &Gf, rows: &mut Rows)
-    ensures { EachColumn (AreValues rows.old.levels) rows.old rows.new }
+/// The additive FFT: replaces each column of coefficients, of which those from number `count` on are 0, by the values of
+/// the polynomial at the points of the subspace.
+pub(crate) fn values_at_points(gf: &Gf, rows: &mut Rows, count: usize)
+    ensures { EachColumn (AreValues count rows.old.levels) rows.old rows.new }
 {
     let levels = rows.levels();
-    to_combinations(rows, levels);
+    to_combinations(rows, levels, count);
     values_in_coset(gf, rows, None, levels, 0);
 }

@@ -52,44 +52,48 @@ fn merge(gf: &Gf, rows: &mut Rows, i: u32, q: u16)
     raise(gf, rows, i, start, point(2 * q));
 }
 
-/// Replaces the first `2 ^ levels` coefficients of each column by those of the same polynomial as a combination of
-/// products of subspace polynomials (Lin, Chung and Han 2014). Then the butterflies at the points of any coset divide no
-/// more.
-pub(crate) fn to_combinations(rows: &mut Rows, levels: u32)
+/// Replaces the first `2 ^ levels` coefficients of each column, of which those from number `count` on are 0, by those of
+/// the same polynomial as a combination of products of subspace polynomials (Lin, Chung and Han 2014). Then the
+/// butterflies at the points of any coset divide no more.
+pub(crate) fn to_combinations(rows: &mut Rows, levels: u32, count: usize)
     requires few { rows.old.levels ≤ 16 }
     requires levels { levels ≤ rows.old.levels }
-    ensures { EachColumn (IsCombination levels) rows.old rows.new }
+    ensures { EachColumn (IsCombination count levels) rows.old rows.new }
 {
-    combine_run(rows, levels, 0);
+    combine_run(rows, levels, 0, count);
 }
 
 // The same of run q of level i alone.
-fn combine_run(rows: &mut Rows, i: u32, q: u16)
+fn combine_run(rows: &mut Rows, i: u32, q: u16, count: usize)
     requires few { rows.old.levels ≤ 16 }
     requires level { i ≤ rows.old.levels }
     requires run { q < 2 ^ (rows.old.levels - i) }
-    ensures { EachColumn (OneRun (q * 2 ^ i) (2 ^ i) (IsCombination i)) rows.old rows.new }
+    ensures { EachColumn (OneRun (q * 2 ^ i) (2 ^ i) (IsCombination count i)) rows.old rows.new }
 {
     rows.fit();
     if i > 0 {
-        halve(rows, i - 1, q);
-        combine_run(rows, i - 1, 2 * q);
-        combine_run(rows, i - 1, 2 * q + 1);
+        let half = 1usize << (i - 1);
+        halve(rows, i - 1, q, count);
+        combine_run(rows, i - 1, 2 * q, count);
+        combine_run(rows, i - 1, 2 * q + 1, count.saturating_sub(half));
     }
 }
 
-// Divides run q of level i + 1 by subspace polynomial i: leaves the remainder in the lower half and the quotient in the
-// upper one.
-fn halve(rows: &mut Rows, i: u32, q: u16)
+// Divides run q of level i + 1, whose coefficients from number `count` on are 0, by subspace polynomial i: leaves the
+// remainder in the lower half and the quotient in the upper one.
+fn halve(rows: &mut Rows, i: u32, q: u16, count: usize)
     requires few { rows.old.levels ≤ 16 }
     requires level { i < rows.old.levels }
     requires pair { q < 2 ^ (rows.old.levels - suc i) }
-    ensures { EachColumn (OneRun (q * 2 ^ suc i) (2 ^ suc i) (IsHalved i)) rows.old rows.new }
+    ensures { EachColumn (OneRun (q * 2 ^ suc i) (2 ^ suc i) (IsHalved count i)) rows.old rows.new }
 {
     rows.fit();
-    let start = q as usize * 2 * (1usize << i);
-    spread_above(rows, i, start);
-    spread_below(rows, i, start);
+    let half = 1usize << i;
+    if count > half {
+        let start = q as usize * 2 * half;
+        spread_above(rows, i, start);
+        spread_below(rows, i, start);
+    }
 }
 
 /// Splits run q of level i + 1 of combinations into two of level i that agree with it on one half of the coset each. c is

@@ -96,8 +96,9 @@ impl<'a> Locator<'a> {
             (length self.now.numerators.sequence.items) sums.now rows.old rows.new }
     {
         rows.clear();
-        rows.copy_from(sums, self.numerators.sequence.len());
-        to_combinations(rows, self.levels);
+        let count = self.numerators.sequence.len();
+        rows.copy_from(sums, count);
+        to_combinations(rows, self.levels, count);
     }
 
     // Replaces the rows by the values of the combinations at the points in the coset with this number.

@@ -151,7 +151,7 @@ impl<'a> Numerators<'a> {
             (byte_lists sources.now) from sums.old sums.new }
     {
         fill(self.gf, sources, from, rows);
-        values_at_points(self.gf, rows);
+        values_at_points(self.gf, rows, sources.len());
         sums.clear();
         gather_rows(self.gf, &self.weights, rows, sums);
         power_sums(self.gf, sums);

@@ -135,7 +135,7 @@ impl<'a> Windows<'a> {
             (GathersWindow (cut_of self.now.plan) self.now.slices r a from) blocks.old blocks.new }
     {
         self.fill(r, a, from, rows);
-        values_at_points(self.gf, rows);
+        values_at_points(self.gf, rows, self.plan.window);
         gather_all(self.gf, a, rows, blocks);
     }
 

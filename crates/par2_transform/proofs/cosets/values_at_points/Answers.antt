@@ -8,6 +8,7 @@ use Rattle.par2_transform.proofs.cosets.values_at_points.Goals as goal
 pub returns : goal.returns
 returns c =
     let k = c.levels-levels.result in
-    subst (λ n. EachColumn (AreValues n) c.args.rows.now c.values_in_coset.new.rows) c.levels-levels.ensures.value
-    (each_then (IsCombination k) (AreListedValues (λ n. n) k 0) (AreValues k) c.args.rows.now c.to_combinations.new.rows c.values_in_coset.new.rows c.to_combinations.ensures c.values_in_coset.ensures
-    (λ f g h combination values u low. values u low (λ a most. most) ∙ combination (point (0 * 2 ^ k + u)) (point-lt _) ∙ ap (λ n. value (2 ^ k) f (point n)) (zero-mul-add (2 ^ k) u)))
+    let count = c.args.count in
+    subst (λ n. EachColumn (AreValues count n) c.args.rows.now c.values_in_coset.new.rows) c.levels-levels.ensures.value
+    (each_then (IsCombination count k) (AreListedValues (λ n. n) k 0) (AreValues count k) c.args.rows.now c.to_combinations.new.rows c.values_in_coset.new.rows c.to_combinations.ensures c.values_in_coset.ensures
+    (λ f g h combination values short u low. values u low (λ a most. most) ∙ combination short (point (0 * 2 ^ k + u)) (point-lt _) ∙ ap (λ n. value (2 ^ k) f (point n)) (zero-mul-add (2 ^ k) u)))

@@ -1,6 +1,7 @@
-use Rattle.par2_transform.proofs.Common.{suc, ◌+◌, ◌-◌, ◌*◌, ◌^◌, ◌<◌, ◌≡◌, ◌∙◌, sym, subst, arith, EachColumn, OneRun, column, from}
+use Rattle.par2_transform.proofs.Common.{suc, ◌+◌, ◌-◌, ◌*◌, ◌%◌, ◌^◌, ◌<◌, ◌≡◌, ◌∙◌, sym, ap, subst, arith, EachColumn, OneRun, column, from}
 use Rattle.par2_transform.specs.Combinations.{IsCombination, IsHalved}
 use Rattle.par2_transform.proofs.GridLaws.{each_of, each_unchanged}
+use Rattle.par2_transform.proofs.StepLaws.{shifted}
 use Rattle.par2_transform.proofs.RunLaws.{BothHalves, both_halves, combination_of_first, combination_of_one, combined_run, halves_below, unchanged_run}
 use Rattle.par2_transform.proofs.levels.+combine_run.Goals as goal
 
@@ -22,23 +23,30 @@ returns-then-i-gt0 t c =
     let q = c.args.q in
     let a = c.args.rows.now in
     let up : suc i ≡ c.args.i = omega (arith, c.if-i-gt0.true) in
-    let low = OneRun (2 * q * 2 ^ i) (2 ^ i) (IsCombination i) in
-    let high = OneRun ((2 * q + 1) * 2 ^ i) (2 ^ i) (IsCombination i) in
-    let both = BothHalves i q (IsCombination i) (IsCombination i) in
+    let n = c.args.count in
+    let lower = IsCombination n i in
+    let upper = IsCombination (n - 2 ^ i) i in
+    let low = OneRun (2 * q * 2 ^ i) (2 ^ i) lower in
+    let high = OneRun ((2 * q + 1) * 2 ^ i) (2 ^ i) upper in
+    let both = BothHalves i q lower upper in
+    let half : 1 * 2 ^ i % 18446744073709551616 ≡ 2 ^ i = shifted i (omega (arith, c.requires.few, c.requires.level)) in
+    let left : c.saturating_sub.result ≡ n - 2 ^ i = c.saturating_sub.ensures ∙ ap (λ m. n - m) half in
     let b = c.halve.new.rows in
     let d = c.combine_run.new.rows in
     let e = c.combine_run-then-i-gt0.new.rows in
-    subst (λ n. EachColumn (OneRun (q * 2 ^ n) (2 ^ n) (IsCombination n)) a e) up
-    (each_of (OneRun (q * 2 ^ suc i) (2 ^ suc i) (IsHalved i)) both (OneRun (q * 2 ^ suc i) (2 ^ suc i) (IsCombination (suc i))) a b e
+    let second : EachColumn high d e = subst (λ m. EachColumn (OneRun ((2 * q + 1) * 2 ^ i) (2 ^ i) (IsCombination m i)) d e) left c.combine_run-then-i-gt0.ensures in
+    subst (λ k. EachColumn (OneRun (q * 2 ^ k) (2 ^ k) (IsCombination n k)) a e) up
+    (each_of (OneRun (q * 2 ^ suc i) (2 ^ suc i) (IsHalved n i)) both (OneRun (q * 2 ^ suc i) (2 ^ suc i) (IsCombination n (suc i))) a b e
     c.halve.ensures
-    (each_of low high both b d e c.combine_run.ensures c.combine_run-then-i-gt0.ensures
-    (λ k one two. both_halves i q (IsCombination i) (IsCombination i) (combination_of_first i) (combination_of_first i) (column b k) (column d k) (column e k) one two))
-    (λ k one two. combined_run i q (column a k) (column b k) (column e k) one two))
+    (each_of low high both b d e c.combine_run.ensures second
+    (λ k one two. both_halves i q lower upper (combination_of_first n i) (combination_of_first (n - 2 ^ i) i) (column b k) (column d k) (column e k) one two))
+    (λ k one two. combined_run n i q (column a k) (column b k) (column e k) one two))
 
 pub returns-else-i-gt0 : goal.returns-else-i-gt0
 returns-else-i-gt0 t c =
     let none : 0 ≡ c.args.i = omega (arith, c.if-i-gt0.false) in
     let q = c.args.q in
     let a = c.args.rows.now in
-    subst (λ n. EachColumn (OneRun (q * 2 ^ n) (2 ^ n) (IsCombination n)) a a) none
-    (each_unchanged (OneRun (q * 2 ^ 0) (2 ^ 0) (IsCombination 0)) a (λ k. unchanged_run (q * 2 ^ 0) (2 ^ 0) (IsCombination 0) (column a k) (combination_of_one (from (q * 2 ^ 0) (column a k)) (c.fit.ensures k _))))
+    let n = c.args.count in
+    subst (λ k. EachColumn (OneRun (q * 2 ^ k) (2 ^ k) (IsCombination n k)) a a) none
+    (each_unchanged (OneRun (q * 2 ^ 0) (2 ^ 0) (IsCombination n 0)) a (λ k. unchanged_run (q * 2 ^ 0) (2 ^ 0) (IsCombination n 0) (column a k) (combination_of_one n (from (q * 2 ^ 0) (column a k)) (c.fit.ensures k _))))

@@ -7,4 +7,5 @@ use Rattle.par2_transform.proofs.levels.to_combinations.Goals as goal
 pub returns : goal.returns
 returns c =
     let k = c.args.levels in
-    each_so (OneRun (0 * 2 ^ k) (2 ^ k) (IsCombination k)) (IsCombination k) c.args.rows.now c.combine_run.new.rows c.combine_run.ensures (whole_run k (IsCombination k) (combination_of_first k))
+    let is = IsCombination c.args.count k in
+    each_so (OneRun (0 * 2 ^ k) (2 ^ k) is) is c.args.rows.now c.combine_run.new.rows c.combine_run.ensures (whole_run k is (combination_of_first c.args.count k))

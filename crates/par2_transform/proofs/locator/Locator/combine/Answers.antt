@@ -1,4 +1,5 @@
-use Rattle.par2_transform.proofs.Common.{◌≡◌, subst, rules, length, AreCopied}
+use Rattle.par2_transform.proofs.Common.{◌≡◌, subst, rules, length, AreCopied, EachColumn}
+use Rattle.par2_transform.specs.Combinations.{IsCombination}
 use Rattle.par2_transform.proofs.LocatorLaws.{combinations_of}
 use Rattle.par2_transform.proofs.locator.Locator.combine.Goals as goal
 
@@ -6,6 +7,7 @@ pub returns : goal.returns
 returns c =
     let self = c.args.self.now in
     let n = length self.numerators.sequence.items in
-    let many : c.len.result ≡ n = search rules in
+    let many : c.len-count.result ≡ n = search rules in
     combinations_of self.levels n c.args.sums.now c.args.rows.now c.clear.new.self c.copy_from.new.self c.to_combinations.new.rows self.fit c.clear.ensures.levels c.clear.ensures.words c.clear.ensures.zero
-    (subst (λ m. AreCopied m c.args.sums.now c.clear.new.self c.copy_from.new.self) many c.copy_from.ensures) c.to_combinations.ensures
+    (subst (λ m. AreCopied m c.args.sums.now c.clear.new.self c.copy_from.new.self) many c.copy_from.ensures)
+    (subst (λ m. EachColumn (IsCombination m self.levels) c.copy_from.new.self c.to_combinations.new.rows) many c.to_combinations.ensures)

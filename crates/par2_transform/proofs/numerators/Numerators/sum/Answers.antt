@@ -1,4 +1,4 @@
-use Rattle.par2_transform.proofs.Common.{ℕ, List, ◌+◌, ◌^◌, ◌≤◌, ◌≡◌, ◌∙◌, sym, ap, subst, arith, length, slice_index, byte_lists, RowsGathered, HaveFirst, words_at, Bor, length-map}
+use Rattle.par2_transform.proofs.Common.{ℕ, List, ◌+◌, ◌^◌, ◌≤◌, ◌≡◌, ◌∙◌, sym, ap, subst, arith, length, slice_index, byte_lists, AreValues, EachColumn, RowsGathered, HaveFirst, words_at, Bor, length-map}
 use Rattle.par2_transform.proofs.LocatorLaws.{numerators_are}
 use Rattle.par2_transform.proofs.numerators.Numerators.sum.Goals as goal
 
@@ -27,6 +27,6 @@ returns-clause-numerators c =
     numerators_are self.count self.sequence.items self.weights.items (byte_lists c.args.sources.now) self.levels c.args.from c.args.rows.now c.fill.new.rows c.values_at_points.new.rows c.args.sums.now c.clear.new.self c.gather_rows.new.sums c.power_sums.new.rows
     (many ∙ c.requires.count) self.fit c.fill.ensures.bytes self.weighed c.requires.rows c.requires.sums c.requires.words
     (subst (λ n. HaveFirst n (λ k s. words_at (byte_lists c.args.sources.now) (c.args.from + k) s) c.args.rows.now c.fill.new.rows) (sym many) c.fill.ensures.rows)
-    c.values_at_points.ensures c.clear.ensures.levels c.clear.ensures.words c.clear.ensures.zero
+    (subst (λ n. EachColumn (AreValues n c.fill.new.rows.levels) c.fill.new.rows c.values_at_points.new.rows) (sym many) c.values_at_points.ensures) c.clear.ensures.levels c.clear.ensures.words c.clear.ensures.zero
     (subst (λ (xs : List ℕ). RowsGathered (slice_index xs) c.values_at_points.new.rows (2 ^ c.clear.new.self.levels) c.clear.new.self c.gather_rows.new.sums) c.deref.ensures.value c.gather_rows.ensures)
     c.power_sums.ensures
