@@ -1,9 +1,10 @@
 #!/bin/sh
 # How the time of create, verify and repair grows with the set, beside par2cmdline on one thread (-t1 -T1): slices of 4 KiB
 # in one file, recovery slices for a tenth of them, and a repair of as many lost slices, up to the largest set that there
-# can be. A line has the least milliseconds of three runs of ours and, up to 4,096 slices, of three of par2cmdline's; of
-# 8,192 it runs once, and of more not at all: then `-` is in place of its time. After each `x` is how many times ours takes
-# what it took for half of the slices and recovery slices. With QUICK=1 there are 4,096 slices at most.
+# can be. A line has the least milliseconds of some runs of ours, the more of them the shorter they are, and, up to 4,096
+# slices, of three of par2cmdline's; of 8,192 it runs once, and of more not at all: then `-` is in place of its time. After
+# each `x` is how many times ours takes what it took for half of the slices and recovery slices. With QUICK=1 there are 4,096
+# slices at most.
 # usage: growth.sh PROGRAM [TABLE]     TABLE is a file that gets the numbers too
 set -eu
 program=$1
@@ -45,7 +46,7 @@ grown() {
     echo "$now" > "$room/$1.before"
 }
 
-# scene SLICES COUNT THEIRS: THEIRS is how often par2cmdline runs.
+# scene SLICES COUNT OURS THEIRS: how often our program runs, and par2cmdline.
 scene() {
     mkdir "$room/here"
     cd "$room/here"
@@ -62,9 +63,9 @@ for k in range(count):
 with open(f"{room}/lost", "wb") as file:
     file.write(data)
 END
-    for round in 1 2 3; do
+    for round in $(seq "$3"); do
         cp "$room/whole" data
-        [ "$round" -gt "$3" ] || theirs "$2"
+        [ "$round" -gt "$4" ] || theirs "$2"
         ours "$2"
     done
     line="$1	$2"
@@ -82,12 +83,12 @@ END
 }
 
 printf '%7s %6s %25s %25s %25s\n' slices recov. "create: ours, theirs" "verify: ours, theirs" "repair: ours, theirs"
-scene 512 51 3
-scene 1024 102 3
-scene 2048 205 3
-scene 4096 410 3
+scene 512 51 25 3
+scene 1024 102 25 3
+scene 2048 205 15 3
+scene 4096 410 15 3
 [ -n "${QUICK:-}" ] || {
-    scene 8192 819 1
-    scene 16384 1638 0
-    scene 32768 3277 0
+    scene 8192 819 9 1
+    scene 16384 1638 7 0
+    scene 32768 3277 5 0
 }

@@ -227,26 +227,26 @@ halved_runs n i start f g h many fit above below = record {
 
     divided : (x : ℕ) → x < 2 ^ 16 → value (2 ^ suc i) (from start f) x ≡ bit_xor (value (2 ^ i) (from start h) x) (mul (vanishing i x) (value (2 ^ i) (upper h) x))
     divided x hx =
-      let u = upper h in
-      let fits : GivesElements u = λ e. below.fit (above.fit fit) (start + (2 ^ i + e)) in
-      let y = value (2 ^ i) u x in
-      let l = value (2 ^ i) (from start h) x in
-      let p = pow x (2 ^ i) in
-      let before = value (2 ^ suc i) (from start f) x in
-      let beyond = field_sum i (λ j. bit_at (powers_in i) j * spread_beyond i u x j) in
-      let within_sum = field_sum i (λ j. bit_at (powers_in i) j * spread_within i u x j) in
-      let first : value (2 ^ suc i) (from start g) x ≡ bit_xor before beyond =
-      above.values x ∙ ap (bit_xor before) (field_sum_same i (λ j. bit_at (powers_in i) j * spread_beyond i (upper f) x j) (λ j. bit_at (powers_in i) j * spread_beyond i u x j)
-      (λ j m. ap (λ v. bit_at (powers_in i) j * v) (field_sum_same (2 ^ j) (λ d. mul (upper f (2 ^ i - 2 ^ j + d)) (pow x (2 ^ i + d))) (λ d. mul (u (2 ^ i - 2 ^ j + d)) (pow x (2 ^ i + d)))
-      (λ d b. ap (λ v. mul v (pow x (2 ^ i + d))) (sym (same (2 ^ i - 2 ^ j + d) ∙ above.kept (2 ^ i - 2 ^ j + d) (let under : 2 ^ j + 2 ^ j ≤ 2 ^ i = power_below j i m in omega (arith, under)))))))) in
-      let second : value (2 ^ suc i) (from start h) x ≡ bit_xor (bit_xor before beyond) within_sum =
-      below.values x ∙ ap₂ bit_xor first (field_sum_same i (λ j. bit_at (powers_in i) j * spread_within i (upper g) x j) (λ j. bit_at (powers_in i) j * spread_within i u x j)
-      (λ j m. ap (λ v. bit_at (powers_in i) j * v) (field_sum_same (2 ^ i - 2 ^ j) (λ d. mul (upper g d) (pow x (2 ^ j + d))) (λ d. mul (u d) (pow x (2 ^ j + d)))
-      (λ d b. ap (λ v. mul v (pow x (2 ^ j + d))) (sym (same d)))))) in
-      let after : value (2 ^ suc i) (from start h) x ≡ bit_xor l (mul p y) =
-      ap (λ m. value m (from start h) x) double ∙ field_sum_join (2 ^ i) (2 ^ i) (λ m. mul (from start h m) (pow x m)) ∙ ap (bit_xor l) (put_ahead (2 ^ i) (2 ^ i) x u hx fits) in
-      balance before beyond within_sum l (mul p y) (sym second ∙ after)
-      ∙ ap (bit_xor l) (ap (bit_xor (mul p y)) (spread_all i x u hx fits)
-      ∙ ap (λ t. bit_xor (mul t y) (mul (lower_powers i x) y)) (leading_power i x hx)
-      ∙ ap (λ t. bit_xor t (mul (lower_powers i x) y)) ((product_linear_left y).on_xor (vanishing i x) (lower_powers i x))
-      ∙ xor_off (mul (vanishing i x) y) (mul (lower_powers i x) y))
+        let u = upper h in
+        let fits : GivesElements u = λ e. below.fit (above.fit fit) (start + (2 ^ i + e)) in
+        let y = value (2 ^ i) u x in
+        let l = value (2 ^ i) (from start h) x in
+        let p = pow x (2 ^ i) in
+        let before = value (2 ^ suc i) (from start f) x in
+        let beyond = field_sum i (λ j. bit_at (powers_in i) j * spread_beyond i u x j) in
+        let within_sum = field_sum i (λ j. bit_at (powers_in i) j * spread_within i u x j) in
+        let first : value (2 ^ suc i) (from start g) x ≡ bit_xor before beyond =
+        above.values x ∙ ap (bit_xor before) (field_sum_same i (λ j. bit_at (powers_in i) j * spread_beyond i (upper f) x j) (λ j. bit_at (powers_in i) j * spread_beyond i u x j)
+        (λ j m. ap (λ v. bit_at (powers_in i) j * v) (field_sum_same (2 ^ j) (λ d. mul (upper f (2 ^ i - 2 ^ j + d)) (pow x (2 ^ i + d))) (λ d. mul (u (2 ^ i - 2 ^ j + d)) (pow x (2 ^ i + d)))
+        (λ d b. ap (λ v. mul v (pow x (2 ^ i + d))) (sym (same (2 ^ i - 2 ^ j + d) ∙ above.kept (2 ^ i - 2 ^ j + d) (let under : 2 ^ j + 2 ^ j ≤ 2 ^ i = power_below j i m in omega (arith, under)))))))) in
+        let second : value (2 ^ suc i) (from start h) x ≡ bit_xor (bit_xor before beyond) within_sum =
+        below.values x ∙ ap₂ bit_xor first (field_sum_same i (λ j. bit_at (powers_in i) j * spread_within i (upper g) x j) (λ j. bit_at (powers_in i) j * spread_within i u x j)
+        (λ j m. ap (λ v. bit_at (powers_in i) j * v) (field_sum_same (2 ^ i - 2 ^ j) (λ d. mul (upper g d) (pow x (2 ^ j + d))) (λ d. mul (u d) (pow x (2 ^ j + d)))
+        (λ d b. ap (λ v. mul v (pow x (2 ^ j + d))) (sym (same d)))))) in
+        let after : value (2 ^ suc i) (from start h) x ≡ bit_xor l (mul p y) =
+        ap (λ m. value m (from start h) x) double ∙ field_sum_join (2 ^ i) (2 ^ i) (λ m. mul (from start h m) (pow x m)) ∙ ap (bit_xor l) (put_ahead (2 ^ i) (2 ^ i) x u hx fits) in
+        balance before beyond within_sum l (mul p y) (sym second ∙ after)
+        ∙ ap (bit_xor l) (ap (bit_xor (mul p y)) (spread_all i x u hx fits)
+        ∙ ap (λ t. bit_xor (mul t y) (mul (lower_powers i x) y)) (leading_power i x hx)
+        ∙ ap (λ t. bit_xor t (mul (lower_powers i x) y)) ((product_linear_left y).on_xor (vanishing i x) (lower_powers i x))
+        ∙ xor_off (mul (vanishing i x) y) (mul (lower_powers i x) y))
