@@ -1,5 +1,5 @@
 -- The records of files, one after the other.
-use Rattle.par2_create.proofs.Common.{ℕ, ◌+◌, ◌<◌, ◌≡◌, refl, sym, ap, ap₂, ◌∙◌, subst, List, [], ◌∷◌, ◌++◌, length, get_or, map, arith, take, string_bytes, get_or-map, length-map, take_more, map-append, map-map, Folder, File, bytes_of, in_id_order, record_of, files_of, file_record_of, FileRecord}
+use Rattle.par2_create.proofs.Common.{ℕ, ◌+◌, ◌<◌, ◌≡◌, refl, sym, ap, ap₂, ◌∙◌, subst, List, [], ◌∷◌, ◌++◌, length, get_or, map, take, string_bytes, get_or-map, map_more, map-append, map-map, Folder, File, Input, in_id_order, record_of, file_of, files_of, file_record_of, AreRecords, FileRecord}
 use Rattle.std.specs.Prelude.{IsPermutation}
 use Rattle.std.specs.List.Sorted.{IsStrictlyIncreasing}
 use Rattle.md5.specs.Md5.{md5}
@@ -8,24 +8,19 @@ use Rattle.std.specs.Int.{w128, from_le_bytes}
 use Rattle.par2_spec.specs.Volumes as volumes
 use Rattle.par2_spec.proofs.OrderLaws.{rising_records, files_of_ordered}
 
-pub record_push : (s : ℕ) (folder : Folder) (names : List (List ℕ)) (i : ℕ) (xs : List FileRecord) (x : FileRecord) (name bytes : List ℕ) → i < length names → name ≡ get_or names i [] → bytes ≡ bytes_of folder name
-    → map file_record_of xs ≡ map (record_of s) (files_of folder (take i names)) → file_record_of x ≡ record_of s (name, bytes)
-    → map file_record_of (xs ++ x ∷ []) ≡ map (record_of s) (files_of folder (take (i + 1) names))
-record_push s folder names i xs x name bytes low en eb so_far is =
-    map-append file_record_of xs (x ∷ [])
-    ∙ ap₂ (λ a b. a ++ b ∷ []) so_far (is ∙ ap (λ b. record_of s (name, b)) eb ∙ ap (λ n. record_of s (n, bytes_of folder n)) en)
-    ∙ sym (map-append (record_of s) (files_of folder (take i names)) ((get_or names i [], bytes_of folder (get_or names i [])) ∷ []))
-    ∙ ap (map (record_of s)) (sym (map-append (λ (n : List ℕ). (n, bytes_of folder n)) (take i names) (get_or names i [] ∷ [])))
-    ∙ ap (λ ns. map (record_of s) (files_of folder ns)) (sym (take_more names i [] low))
+-- one more record, that of the next input
+pub record_push : (s : ℕ) (inputs : List Input) (i : ℕ) (input : Input) (xs : List FileRecord) (x : FileRecord) → i < length inputs → input ≡ get_or inputs i input → AreRecords s (map file_of (take i inputs)) xs
+    → file_record_of x ≡ record_of s (file_of input) → AreRecords s (map file_of (take (i + 1) inputs)) (xs ++ x ∷ [])
+record_push s inputs i input xs x low at so_far is =
+    map-append file_record_of xs (x ∷ []) ∙ ap₂ (λ rs r. rs ++ r ∷ []) so_far (is ∙ ap (λ (z : Input). record_of s (file_of z)) at)
+    ∙ sym (ap (map (record_of s)) (map_more file_of inputs i input low) ∙ map-append (record_of s) (map file_of (take i inputs)) (file_of (get_or inputs i input) ∷ []))
 
--- the MD5 of the file of a name
-pub digest_at_name : (folder : Folder) (names md5s : List (List ℕ)) (i : ℕ) (d : List ℕ) → md5s ≡ map md5 (map (bytes_of folder) names) → i < length names
-    → get_or md5s i d ≡ md5 (bytes_of folder (get_or names i []))
-digest_at_name folder names md5s i d is low =
-    let many : length (map (bytes_of folder) names) ≡ length names = length-map names (bytes_of folder) in
-    ap (λ (l : List (List ℕ)). get_or l i d) is
-    ∙ get_or-map md5 (map (bytes_of folder) names) i [] d (omega (arith, low, many))
-    ∙ ap md5 (get_or-map (bytes_of folder) names i [] [] low)
+-- the MD5 of an input
+pub digest_at : (inputs : List Input) (md5s : List (List ℕ)) (i : ℕ) (d : List ℕ) (input : Input) → md5s ≡ map md5 (map (λ (input : Input). input.bytes.now) inputs) → i < length inputs → input ≡ get_or inputs i input
+    → get_or md5s i d ≡ md5 input.bytes.now
+digest_at inputs md5s i d input is low at =
+    ap (λ (l : List (List ℕ)). get_or l i d) (is ∙ map-map md5 (λ (input : Input). input.bytes.now) inputs) ∙ get_or-map (λ (input : Input). md5 input.bytes.now) inputs i input d low
+    ∙ ap (λ (z : Input). md5 z.bytes.now) (sym at)
 
 -- records that rise by their File IDs are those of the files in order
 pub in_order : (s : ℕ) (files : List File) (xs : List FileRecord) → IsPermutation (map (record_of s) files) (map file_record_of xs) → IsStrictlyIncreasing (map record_id_number xs)

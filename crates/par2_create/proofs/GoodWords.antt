@@ -49,14 +49,14 @@ pub inputs_passed : (folder : Folder) (size : ℕ) (inputs : List (List ℕ)) �
 unfolding inputs_fault files_fault ids_fault
 inputs_passed folder size inputs h =
     let all : List File = files_of folder inputs in
-    let no_such = fault_at 1 NoSuchFile (λ (word : List ℕ). not (has folder word)) inputs in
+    let absent = fault_at 1 NoSuchFile (λ (file : File). length file.1 == 0 && not (has folder file.0)) all in
     let empties = fault_at 1 EmptyFile (λ (file : File). length file.1 == 0) all in
     let too_many = nat_lt 32768 (sum_by (λ (file : File). slice_count size (length file.1)) all) in
-    let none = all_none (bad_name inputs ∷ duplicate_input inputs ∷ files_fault folder size inputs ∷ ids_fault (files_of folder inputs) ∷ []) h in
-    let files = all_none (no_such ∷ empties ∷ fault_where too_many TooManySlices ∷ []) none.1.1.0 in
+    let none = all_none (bad_name inputs ∷ duplicate_input inputs ∷ files_fault folder size all ∷ ids_fault all ∷ []) h in
+    let files = all_none (absent ∷ empties ∷ fault_where too_many TooManySlices ∷ []) none.1.1.0 in
     record {
-      filled = at_none 1 EmptyFile (λ (file : File). length file.1 == 0) (files_of folder inputs) files.1.0;
-      few = ltb-false 32768 (sum_by (λ (file : File). slice_count size (length file.1)) (files_of folder inputs)) (where_none too_many TooManySlices files.1.1.0);
+      filled = at_none 1 EmptyFile (λ (file : File). length file.1 == 0) all files.1.0;
+      few = ltb-false 32768 (sum_by (λ (file : File). slice_count size (length file.1)) all) (where_none too_many TooManySlices files.1.1.0);
     }
 
 -- ---- their records

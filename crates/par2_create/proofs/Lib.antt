@@ -1,5 +1,5 @@
 mod Common
-mod FileRecords
+pub mod FileRecords
 mod GoodWords
 mod Ids
 mod IndexBytes

@@ -1,5 +1,7 @@
 -- The first item that passes a test, and its index.
-use Rattle.par2_create.proofs.Common.{◌≡◌, ℕ, ◌+◌, ◌<◌, List, [], ◌∷◌, length, get_or, take, sym, ap, ap₂, ◌∙◌, Bool, true, false, not, cond, Some, nat_lt, arith, None, Option, position, option_map, sum_by, ◌==◌, position_or_len, enumerate_from, lt-ltb, le-ltb, position_or_len_is, get_or-enumerate_from, length-enumerate_from, first_fault, fault_where, is_among, slice_count, Folder, File, has, bytes_of, files_of, NoSuchFile, EmptyFile, TooManySlices, files_fault, position-map}
+use Rattle.par2_create.proofs.Common.{◌≡◌, ℕ, ◌+◌, ◌<◌, List, [], ◌∷◌, length, refl, Fault, get_or, take, sym, ap, ap₂, ◌∙◌, Bool, true, false, cond, Some, nat_lt, arith, None, Option, position, option_map, sum_by, ◌==◌, position_or_len, enumerate_from, lt-ltb, le-ltb, position_or_len_is, get_or-enumerate_from, length-enumerate_from, first_fault, fault_where, is_among, map, map-map, slice_count, sum-map, not, ◌&&◌, Folder, File, has, Input, file_of, NoSuchFile, EmptyFile, TooManySlices, files_fault, position-map}
+use Rattle.std.specs.Prelude.{sum}
+use Rattle.std.specs.Bool.{then_some}
 
 pub found_at : {X : Type 0} (p : X → Bool) (xs : List X) (i : ℕ) (d : X) → i < length xs → ((k : ℕ) → k < i → p (get_or xs k d) ≡ false) → p (get_or xs i d) ≡ true → position p xs ≡ Some i
 found_at p xs i d low none here =
@@ -32,13 +34,19 @@ again_nowhere names none =
     let size : length (enumerate_from 0 names) ≡ length names = length-enumerate_from 0 names in
     found_nowhere _ (enumerate_from 0 names) (0, []) (λ k h. let low : k < length names = omega (arith, size, h) in again_at names k low ∙ none k low)
 
--- ---- what is wrong with files, by the first indices
+-- ---- what is wrong with the inputs' files
 
-pub files_by : (folder : Folder) (size : ℕ) (names : List (List ℕ)) (absent empty : Option ℕ) (many : Bool)
-    → absent ≡ position (λ name. not (has folder name)) names → empty ≡ position (λ name. length (bytes_of folder name) == 0) names
-    → many ≡ nat_lt 32768 (sum_by (λ file. slice_count size (length file.1)) (files_of folder names))
-    → first_fault (option_map (λ k. NoSuchFile (1 + k)) absent ∷ option_map (λ k. EmptyFile (1 + k)) empty ∷ fault_where many TooManySlices ∷ []) ≡ files_fault folder size names
+pub too_many_by : (many : Bool) (fault : Fault) → then_some many fault ≡ first_fault (fault_where many fault ∷ [])
+too_many_by true fault = refl
+too_many_by false fault = refl
+
+pub files_by : (folder : Folder) (size : ℕ) (inputs : List Input) (absent empty : Option ℕ) (many : Bool)
+    → absent ≡ position (λ input. length input.bytes.now == 0 && not (has folder input.name.now)) inputs → empty ≡ position (λ input. length input.bytes.now == 0) inputs
+    → many ≡ nat_lt 32768 (sum_by (λ input. slice_count size (length input.bytes.now)) inputs)
+    → first_fault (option_map (λ k. NoSuchFile (1 + k)) absent ∷ option_map (λ k. EmptyFile (1 + k)) empty ∷ fault_where many TooManySlices ∷ []) ≡ files_fault folder size (map file_of inputs)
 unfolding files_fault
-files_by folder size names absent empty many there filled few =
+files_by folder size inputs absent empty many there filled few =
     let why = λ (a b : Option ℕ) (t : Bool). first_fault (option_map (λ k. NoSuchFile (1 + k)) a ∷ option_map (λ k. EmptyFile (1 + k)) b ∷ fault_where t TooManySlices ∷ []) in
-    ap₂ (λ a b. why a b many) there (filled ∙ sym (position-map (λ (file : File). length file.1 == 0) (λ name. (name, bytes_of folder name)) names)) ∙ ap (why _ _) few
+    let count = λ (file : File). slice_count size (length file.1) in
+    ap₂ (λ a b. why a b many) (there ∙ sym (position-map (λ (file : File). length file.1 == 0 && not (has folder file.0)) file_of inputs)) (filled ∙ sym (position-map (λ (file : File). length file.1 == 0) file_of inputs))
+    ∙ ap (why _ _) (few ∙ ap (nat_lt 32768) (sym (sum-map (λ input. count (file_of input)) inputs) ∙ ap sum (sym (map-map count file_of inputs)) ∙ sum-map count (map file_of inputs)))

@@ -10,12 +10,6 @@ appended_next f xs i x old out new low is so_far step =
 pub appended_all : {X A : Type 0} (f : X → List A) (xs : List X) (i : ℕ) (old out : List A) → length xs ≤ i → out ≡ old ++ flat_map f (take i xs) → out ≡ old ++ flat_map f xs
 appended_all f xs i old out done so_far = so_far ∙ ap (λ ys. old ++ flat_map f ys) (take_all i xs done)
 
--- the sum so far, and that with the next item, are at most the whole
-pub part_of_sum : {X Y : Type 0} (f : Y → ℕ) (g : X → Y) (xs : List X) (i : ℕ) (d : X) → i < length xs → sum_by f (map g (take i xs)) + f (g (get_or xs i d)) ≤ sum_by f (map g xs)
-part_of_sum f g xs i d low =
-    let more = sum_by_more_le f (map g xs) i (g d) (omega (arith, low, length-map xs g)) in
-    rw (← take-map g i xs, ← get_or-map g xs i d (g d) low) more
-
 -- the first of some buffers, and the others
 pub first_of : (xs : List (Vec ℕ Global)) (bytes : Vec ℕ Global) (t : List ℕ) (ts : List (List ℕ)) → lists_of xs ≡ t ∷ ts → bytes ≡ get_or xs 0 bytes → (bytes.items ≡ t) × (lists_of (drop 1 xs) ≡ ts)
 first_of [] bytes t ts e is = absurd cc

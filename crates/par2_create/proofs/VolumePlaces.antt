@@ -1,5 +1,5 @@
 -- The places of the recovery slices in volumes, and the volumes after they were written there.
-use Rattle.par2_create.proofs.Common.{drop_at, ext_get_or, get_or-take, get_or-drop, get_or_append_left, get_or-append_right, length-map, get_or-map, length-replicate, take_all, inl, inr, ℕ, zero, suc, ◌+◌, ◌-◌, ◌*◌, ◌/◌, ◌%◌, ◌<◌, ◌≤◌, ◌≡◌, refl, sym, ap, ap₂, subst, ◌∙◌, arith, List, [], ◌∷◌, ◌++◌, length, length-append, get_or, map, take, drop, zero-add, mul-le-mul_right, replicate, flat_map, range_with_len, enumerate_from, cases_lt, length-map-range_with_len, get_or-map-range_with_len, length-range_with_len, get_or-range_with_len, length-enumerate_from, get_or-enumerate_from, padded, list_at, ArePieces, undigested, length-pieces, piece_at, drop_behind, head_of, length-head, length-undigested, undigested_is, part_from, Place, output_at, AreWritten, AreZeros, HasSlices, inputs_of, exponents_in, length_with, nth_volume, place_in, places_in, places_of, slice_of, volume_with, volume_exponents, Volume, Parts, length-flat_map-take}
+use Rattle.par2_create.proofs.Common.{drop_at, ext_get_or, get_or-take, get_or-drop, get_or_append_left, get_or-append_right, length-map, get_or-map, length-replicate, take_all, inl, inr, ℕ, zero, suc, ◌+◌, ◌-◌, ◌*◌, ◌/◌, ◌%◌, ◌<◌, ◌≤◌, ◌≡◌, refl, sym, ap, ap₂, subst, ◌∙◌, arith, List, [], ◌∷◌, ◌++◌, length, length-append, get_or, map, take, drop, zero-add, mul-le-mul_right, replicate, flat_map, range_with_len, enumerate_from, cases_lt, length-map-range_with_len, get_or-map-range_with_len, length-range_with_len, get_or-range_with_len, length-enumerate_from, get_or-enumerate_from, padded, list_at, ArePieces, undigested, length-pieces, piece_at, drop_behind, head_of, length-head, length-undigested, undigested_is, part_from, Place, output_at, AreWritten, AreZeros, inputs_of, exponents_in, length_with, nth_volume, place_in, places_in, places_of, slice_of, volume_with, volume_exponents, Volume, Parts, length-flat_map-take}
 use Rattle.par2_transform.specs.Adding.{place_at, AreApart, HasByte, LieWithin}
 use Rattle.par2_spec.specs.Recovery.{recovery}
 use Rattle.std.proofs.lemmas.List.Concat.{get_or-flat_map}
@@ -139,18 +139,18 @@ byte_of_packet index m f e n k r sizes low here =
 
 -- ---- volumes
 
-sized : (parts : Parts) (f : ℕ → List ℕ) → length parts.set_id ≡ 16 → ((e : ℕ) → length (f e) ≡ parts.set.now.slice) → (e : ℕ) → length (undigested parts.set_id e (f e)) ≡ 68 + parts.set.now.slice
-sized parts f sixteen sizes e = length-undigested parts.set_id e (f e) sixteen ∙ ap (λ n. 68 + n) (sizes e)
+sized : (parts : Parts) (f : ℕ → List ℕ) → ((e : ℕ) → length (f e) ≡ parts.set.now.slice) → (e : ℕ) → length (undigested parts.set_id e (f e)) ≡ 68 + parts.set.now.slice
+sized parts f sizes e = length-undigested parts.set_id e (f e) parts.sixteen ∙ ap (λ n. 68 + n) (sizes e)
 
-pub length-volume : (parts : Parts) (f : ℕ → List ℕ) (volume : Volume) → length parts.set_id ≡ 16 → ((e : ℕ) → length (f e) ≡ parts.set.now.slice)
+pub length-volume : (parts : Parts) (f : ℕ → List ℕ) (volume : Volume) → ((e : ℕ) → length (f e) ≡ parts.set.now.slice)
     → length (volume_with parts f volume) ≡ length_with parts volume.count
-length-volume parts f volume sixteen sizes =
-    let packets = length-pieces (68 + parts.set.now.slice) (λ (e : ℕ). undigested parts.set_id e (f e)) (sized parts f sixteen sizes) volume.first volume.count in
+length-volume parts f volume sizes =
+    let packets = length-pieces (68 + parts.set.now.slice) (λ (e : ℕ). undigested parts.set_id e (f e)) (sized parts f sizes) volume.first volume.count in
     length-append parts.index.items (flat_map (λ (e : ℕ). undigested parts.set_id e (f e)) (range_with_len volume.first volume.count)) ∙ ap (λ n. length parts.index.items + n) packets
 
-pub places_within : (parts : Parts) (words : ℕ) (volumes : List Volume) (buffers : List (List ℕ)) → 2 * words ≡ parts.set.now.slice → length parts.set_id ≡ 16
+pub places_within : (parts : Parts) (words : ℕ) (volumes : List Volume) (buffers : List (List ℕ)) → 2 * words ≡ parts.set.now.slice
     → buffers ≡ map (volume_with parts (λ e. replicate parts.set.now.slice 0)) volumes → LieWithin words (places_of parts volumes) buffers
-places_within parts words volumes buffers size sixteen are t low =
+places_within parts words volumes buffers size are t low =
     let x = among parts volumes t low in
     let j = x.in_volumes in
     let volume = nth_volume volumes x.volume in
@@ -158,15 +158,15 @@ places_within parts words volumes buffers size sixteen are t low =
     let count = ap length are in
     let long : length (list_at buffers x.volume) ≡ length_with parts volume.count =
     ap (λ (xs : List (List ℕ)). length (list_at xs x.volume)) are ∙ ap length (get_or-map (volume_with parts zeros) volumes x.volume no_volume [] j)
-    ∙ length-volume parts zeros volume sixteen (λ e. length-replicate {A = ℕ} parts.set.now.slice 0) in
+    ∙ length-volume parts zeros volume (λ e. length-replicate {A = ℕ} parts.set.now.slice 0) in
     let ends = packet_ends (length parts.index.items) x.packet volume.count (68 + parts.set.now.slice) (length (list_at buffers x.volume)) x.in_packets long in
     let here : (x.volume < length buffers) × (length_with parts x.packet + 68 + 2 * words ≤ length (list_at buffers x.volume)) = (omega (arith, count, length-map volumes (volume_with parts zeros), j), omega (arith, ends, size)) in
     subst (λ (place : Place). (place.buffer < length buffers) × (place.at + 2 * words ≤ length (list_at buffers place.buffer))) (sym (stands parts volumes t x)) here
 
 -- a slice in a volume
-slice_in_volume : (parts : Parts) (f : ℕ → List ℕ) (volume : Volume) (k : ℕ) → length parts.set_id ≡ 16 → ((e : ℕ) → length (f e) ≡ parts.set.now.slice) → k < volume.count
+slice_in_volume : (parts : Parts) (f : ℕ → List ℕ) (volume : Volume) (k : ℕ) → ((e : ℕ) → length (f e) ≡ parts.set.now.slice) → k < volume.count
     → take parts.set.now.slice (drop (length_with parts k + 68) (volume_with parts f volume)) ≡ f (volume.first + k)
-slice_in_volume parts f volume k sixteen sizes low =
+slice_in_volume parts f volume k sizes low =
     let s : ℕ = parts.set.now.slice in
     let m : ℕ = 68 + s in
     let id : List ℕ = parts.set_id in
@@ -175,8 +175,8 @@ slice_in_volume parts f volume k sixteen sizes low =
     let packets = flat_map packet (range_with_len volume.first volume.count) in
     ap (take s) (drop_behind (length_with parts k + 68) (k * m + 68) parts.index.items packets (omega arith))
     ∙ ap (λ n. take n (drop (k * m + 68) packets)) (slice_end k m s refl) ∙ part_from k m 68 packets (omega arith)
-    ∙ ap (drop 68) (piece_at m packet volume.first volume.count k packets (record { sizes = sized parts f sixteen sizes; is = refl }) low ∙ undigested_is id e (f e))
-    ∙ drop_at (head_of id e (length (f e))) (f e) 68 (length-head id e (length (f e)) sixteen)
+    ∙ ap (drop 68) (piece_at m packet volume.first volume.count k packets (record { sizes = sized parts f sizes; is = refl }) low ∙ undigested_is id e (f e))
+    ∙ drop_at (head_of id e (length (f e))) (f e) 68 (length-head id e (length (f e)) parts.sixteen)
   where
     slice_end : (k m s : ℕ) → m ≡ 68 + s → s ≡ (k + 1) * m - (k * m + 68)
     slice_end k m s e = omega (arith, e)
@@ -187,22 +187,22 @@ same_at a n r xs ys low e =
     sym (get_or-drop a xs r 0) ∙ sym (get_or-take n (drop a xs) r 0 low) ∙ ap (λ (zs : List ℕ). get_or zs r 0) e ∙ get_or-take n (drop a ys) r 0 low ∙ get_or-drop a ys r 0
 
 -- the outputs of blank volumes are zeros
-pub places_blank : (parts : Parts) (words : ℕ) (volumes : List Volume) (buffers : List (List ℕ)) → 2 * words ≡ parts.set.now.slice → length parts.set_id ≡ 16
+pub places_blank : (parts : Parts) (words : ℕ) (volumes : List Volume) (buffers : List (List ℕ)) → 2 * words ≡ parts.set.now.slice
     → buffers ≡ map (volume_with parts (λ e. replicate parts.set.now.slice 0)) volumes → AreZeros words (places_of parts volumes) buffers
-places_blank parts words volumes buffers size sixteen are t low =
+places_blank parts words volumes buffers size are t low =
     let zeros = λ (e : ℕ). replicate {A = ℕ} parts.set.now.slice 0 in
     let x = among parts volumes t low in
     let bytes = ap (λ (xs : List (List ℕ)). list_at xs x.volume) are ∙ get_or-map (volume_with parts zeros) volumes x.volume no_volume [] x.in_volumes in
     ap (λ (place : Place). output_at (2 * words) place buffers) (stands parts volumes t x)
     ∙ ap₂ (λ (n : ℕ) (xs : List ℕ). take n (drop (length_with parts x.packet + 68) xs)) size bytes
-    ∙ slice_in_volume parts zeros (nth_volume volumes x.volume) x.packet sixteen (λ e. length-replicate {A = ℕ} parts.set.now.slice 0) x.in_packets
+    ∙ slice_in_volume parts zeros (nth_volume volumes x.volume) x.packet (λ e. length-replicate {A = ℕ} parts.set.now.slice 0) x.in_packets
     ∙ ap (λ n. replicate n 0) (sym size)
 
 -- the written volumes are those with the recovery slices
-pub volumes_written : (parts : Parts) (words : ℕ) (volumes : List Volume) (slices : List (List ℕ)) (exponents : List ℕ) (old new : List (List ℕ)) → HasSlices parts → 2 * words ≡ parts.set.now.slice → length parts.set_id ≡ 16
+pub volumes_written : (parts : Parts) (words : ℕ) (volumes : List Volume) (slices : List (List ℕ)) (exponents : List ℕ) (old new : List (List ℕ)) → 2 * words ≡ parts.set.now.slice
     → map (padded parts.set.now.slice) slices ≡ inputs_of parts → exponents ≡ volume_exponents volumes → old ≡ map (volume_with parts (λ e. replicate parts.set.now.slice 0)) volumes
     → AreWritten words slices exponents (places_of parts volumes) old new → new ≡ map (volume_with parts (slice_of parts)) volumes
-volumes_written parts words volumes slices exponents old new can size sixteen inputs numbers are written =
+volumes_written parts words volumes slices exponents old new size inputs numbers are written =
     ext_get_or [] new (map (volume_with parts (slice_of parts)) volumes) (written.count ∙ count ∙ sym (length-map volumes (volume_with parts (slice_of parts))))
     (λ i low.
     let here : i < length volumes = (let e = written.count in omega (arith, low, e, count)) in
@@ -215,7 +215,7 @@ volumes_written parts words volumes slices exponents old new can size sixteen in
     zeros_size e = length-replicate {A = ℕ} parts.set.now.slice 0
 
     slice_size : (e : ℕ) → length (slice_of parts e) ≡ parts.set.now.slice
-    slice_size e = length-slice parts can e
+    slice_size e = length-slice parts e
 
     count : length old ≡ length volumes
     count = ap length are ∙ length-map volumes (volume_with parts zeros)
@@ -239,9 +239,9 @@ volumes_written parts words volumes slices exponents old new can size sixteen in
     head_byte f volume k r sizes here small =
         let e : ℕ = volume.first + k in
         let head = head_of parts.set_id e (length (f e)) in
-        byte_of_packet parts.index.items (68 + parts.set.now.slice) (λ (e : ℕ). undigested parts.set_id e (f e)) volume.first volume.count k r (sized parts f sixteen sizes) here (omega (arith, small))
+        byte_of_packet parts.index.items (68 + parts.set.now.slice) (λ (e : ℕ). undigested parts.set_id e (f e)) volume.first volume.count k r (sized parts f sizes) here (omega (arith, small))
         ∙ ap (λ (xs : List ℕ). get_or xs r 0) (undigested_is parts.set_id e (f e))
-        ∙ get_or_append_left head (f e) 0 r (let long = length-head parts.set_id e (length (f e)) sixteen in omega (arith, long, small)) ∙ ap (λ n. get_or (head_of parts.set_id e n) r 0) (sizes e)
+        ∙ get_or_append_left head (f e) 0 r (let long = length-head parts.set_id e (length (f e)) parts.sixteen in omega (arith, long, small)) ∙ ap (λ n. get_or (head_of parts.set_id e n) r 0) (sizes e)
 
     in_head : (i k r : ℕ) → i < length volumes → k < (nth_volume volumes i).count → r < 68
         → get_or (list_at new i) (length_with parts k + r) 0 ≡ get_or (volume_with parts (slice_of parts) (nth_volume volumes i)) (length_with parts k + r) 0
@@ -264,7 +264,7 @@ volumes_written parts words volumes slices exponents old new can size sixteen in
         ap (λ n. take n (drop at (list_at new i))) (sym size) ∙ ap (λ (at : Place). output_at (2 * words) at new) (sym number.place) ∙ written.each (before volumes i + k) number.low
         ∙ ap (λ n. recovery n (map (padded n) slices) (get_or exponents (before volumes i + k) 0)) size
         ∙ ap₂ (λ (xs : List (List ℕ)) (e : ℕ). recovery parts.set.now.slice xs e) inputs (ap (λ (es : List ℕ). get_or es (before volumes i + k) 0) numbers ∙ number.exponent) in
-        same_at at parts.set.now.slice r (list_at new i) (volume_with parts (slice_of parts) volume) small (given ∙ sym (slice_in_volume parts (slice_of parts) volume k sixteen slice_size here))
+        same_at at parts.set.now.slice r (list_at new i) (volume_with parts (slice_of parts) volume) small (given ∙ sym (slice_in_volume parts (slice_of parts) volume k slice_size here))
 
     in_packets : (i q : ℕ) → i < length volumes → q < (nth_volume volumes i).count * (68 + parts.set.now.slice) → get_or (list_at new i) (length parts.index.items + q) 0 ≡ get_or (volume_with parts (slice_of parts) (nth_volume volumes i)) (length parts.index.items + q) 0
     in_packets i q low inside =
@@ -285,8 +285,8 @@ volumes_written parts words volumes slices exponents old new can size sixteen in
     one i low =
         let volume = nth_volume volumes i in
         let target = volume_with parts (slice_of parts) volume in
-        let long = length-volume parts (slice_of parts) volume sixteen slice_size in
-        let same : length (list_at new i) ≡ length target = written.sizes i ∙ ap length (was i low) ∙ length-volume parts zeros volume sixteen zeros_size ∙ sym long in
+        let long = length-volume parts (slice_of parts) volume slice_size in
+        let same : length (list_at new i) ≡ length target = written.sizes i ∙ ap length (was i low) ∙ length-volume parts zeros volume zeros_size ∙ sym long in
         ext_get_or 0 (list_at new i) target same
         (λ b b_low. elim (cases_lt b (length parts.index.items)) [
           | inl front ↦

@@ -15,12 +15,10 @@ use Rattle.par2_spec.specs.declared.Fault.TheVariants.{DuplicateInput, NoSuchFil
 abbrev pub duplicate_input : List (List ℕ) → Option Fault
 duplicate_input inputs = fault_at 1 DuplicateInput (λ z. is_among (take z.0 inputs) z.1) (enumerate_from 0 inputs)
 
--- the first fault of the files that the inputs name: absent, empty, or too many slices
-unfoldable pub files_fault : Folder → ℕ → List (List ℕ) → Option Fault
-files_fault folder size inputs =
-    let files = files_of folder inputs in
-    first_fault (
-    fault_at 1 NoSuchFile (λ word. not (has folder word)) inputs
+-- the first fault of the files: absent, empty, or too many slices. An absent file has no bytes
+unfoldable pub files_fault : Folder → ℕ → List File → Option Fault
+files_fault folder size files = first_fault (
+    fault_at 1 NoSuchFile (λ file. length file.1 == 0 && not (has folder file.0)) files
     ∷ fault_at 1 EmptyFile (λ file. length file.1 == 0) files
     ∷ fault_where (nat_lt 32768 (sum_by (λ file. slice_count size (length file.1)) files)) TooManySlices
     ∷ [])
@@ -32,7 +30,9 @@ ids_fault files = fault_where (not (length (distinct (map id_of files)) == lengt
 -- the first fault of the inputs: of their names, their files or their File IDs
 unfoldable pub inputs_fault : Folder → ℕ → List (List ℕ) → Option Fault
 unfolding files_fault ids_fault
-inputs_fault folder size inputs = first_fault (bad_name inputs ∷ duplicate_input inputs ∷ files_fault folder size inputs ∷ ids_fault (files_of folder inputs) ∷ [])
+inputs_fault folder size inputs =
+    let files = files_of folder inputs in
+    first_fault (bad_name inputs ∷ duplicate_input inputs ∷ files_fault folder size files ∷ ids_fault files ∷ [])
 
 -- the fault if one of the names is longer than a name may be
 abbrev pub long_name : List (List ℕ) → Option Fault

@@ -1,5 +1,5 @@
 -- The outputs of a create, by parts.
-use Rattle.std.specs.Prelude.{ℕ, ◌≡◌, ◌≤◌, ◌+◌, ◌%◌, ◌^◌, nat_lt, List, [], ◌∷◌, ◌++◌, length, map, flat_map, if◌then◌else◌}
+use Rattle.std.specs.Prelude.{ℕ, ◌≡◌, ◌≤◌, ◌+◌, nat_lt, List, [], ◌∷◌, ◌++◌, map, flat_map, if◌then◌else◌}
 use Rattle.std.specs.List.{All}
 use Rattle.par2_spec.specs.Packets.{Packet, packet}
 use Rattle.par2_spec.specs.Folders.{Folder, File, has}
@@ -10,7 +10,7 @@ use Rattle.par2_packets.specs.PacketViews.{file_record_of}
 use Rattle.par2_create.specs.Records as records
 use Rattle.par2_create.specs.declared.records.RecoverySet.{RecoverySet}
 use Rattle.par2_create.specs.declared.names.Volume.{Volume}
-use Rattle.par2_create.specs.declared.outputs.Parts.{Parts}
+use Rattle.par2_create.specs.declared.index.Parts.{Parts}
 
 -- volume i of c recovery slices from exponent f on
 abbrev pub volume_at : List ℕ → ℕ → ℕ → ℕ → Volume
@@ -52,19 +52,10 @@ output_names a = a.base ∷ volume_names (volumes_requested a)
 pub record RecordsInputs (folder : Folder) (a : CreateArgs) (set : RecoverySet) : Type 0 where
   pub slice : set.slice ≡ a.slice
   pub files : map file_record_of set.files.items ≡ map (record_of a.slice) (in_id_order (files_of folder a.inputs))
-  pub order : files_of folder (records.names_of set.files.items) ≡ in_id_order (files_of folder a.inputs)
 
 -- the padded slices of the set's files in the folder, one file after the other
 abbrev pub inputs_of : Parts → List (List ℕ)
 inputs_of parts = records.slices_of_records parts.folder.now.files parts.set.now.slice parts.set.now.files.items
-
--- recovery slices can be computed from the inputs, and packets made: the slice size and the numbers are in bounds
-pub record HasSlices (parts : Parts) : Type 0 where
-  pub sixteen : length parts.set_id ≡ 16
-  pub positive : 1 ≤ parts.set.now.slice
-  pub fours : parts.set.now.slice % 4 ≡ 0
-  pub small : parts.set.now.slice ≤ 2 ^ 30
-  pub few : length (inputs_of parts) ≤ 32768
 
 -- the packets of n recovery slices from exponent e on
 abbrev pub packets_between : Parts → ℕ → ℕ → List Packet

@@ -8,6 +8,11 @@ use Rattle.par2_spec.specs.Volumes.{all_slices, record_of}
 use Rattle.par2_packets.specs.PacketViews.{file_record_of}
 use Rattle.par2_packets.specs.declared.record.FileRecord.{FileRecord}
 use Rattle.par2_slices.specs.Positions.{buffers_of}
+use Rattle.par2_create.specs.declared.inputs.Input.{Input}
+
+-- an input as a file
+abbrev pub file_of : Input → File
+file_of input = (input.name.now, input.bytes.now)
 
 -- the names of the files, in order
 abbrev pub names_of : List FileRecord → List (List ℕ)

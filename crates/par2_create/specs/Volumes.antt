@@ -9,7 +9,7 @@ use Rattle.par2_packets.specs.Recoveries.{undigested}
 use Rattle.par2_transform.specs.declared.outputs.Place.{Place}
 use Rattle.par2_create.specs.Outputs.{inputs_of, volume_file}
 use Rattle.par2_create.specs.declared.names.Volume.{Volume}
-use Rattle.par2_create.specs.declared.outputs.Parts.{Parts}
+use Rattle.par2_create.specs.declared.index.Parts.{Parts}
 
 -- the recovery slice of exponent e
 abbrev pub slice_of : Parts → ℕ → List ℕ

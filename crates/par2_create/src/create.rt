@@ -2,25 +2,23 @@
 //! arguments and the inputs, describes the inputs, names the volumes, and lists the changes.
 ghost use Rattle.std.specs.Prelude.{◌≡◌, ◌≤◌, ◌⊎◌, Some, None, map, string_bytes, IsTrue, IfOk, IfErr, OnOk};
 ghost use Rattle.par2_spec.specs.Changes.{effects, are_applicable};
-ghost use Rattle.par2_spec.specs.Commands.{Create, files_of};
+ghost use Rattle.par2_spec.specs.Commands.{Create};
 ghost use Rattle.par2_spec.specs.Refusals.{head_fault, bad_name, after};
 ghost use Rattle.par2_spec.specs.Plans as plans;
 ghost use Rattle.par2_spec.specs.Views.{create_args_of};
-ghost use Rattle.par2_create.specs.Records.{AreRecords};
 ghost use Rattle.par2_files.specs.Checkpoints.{AreCheckpointsOf};
 ghost use Rattle.par2_spec.specs.Planned.{FailsAs, RefusesEarly, SucceedsAs};
 ghost use Rattle.par2_create.specs.Faults.{inputs_fault};
 ghost use Rattle.par2_create.specs.Outputs.{RecordsInputs, volumes_requested};
 
 use crate::Changes;
-use crate::index::index_of;
-use crate::inputs::{files_fault, no_duplicate, set_of};
+use crate::index::{Parts, index_of};
+use crate::inputs::{contents_of, files_fault, inputs_in, no_duplicate, set_of};
 use crate::names::{Volume, existing, volumes};
-use crate::outputs::{Parts, changes_of};
-use crate::records::{RecoverySet, file_records};
+use crate::outputs::changes_of;
+use crate::records::RecoverySet;
 use crate::words::{bad_name, index_name, input_names};
 use par2_files::{Checkpoints, Folder, Name, checkpoint_at};
-use par2_packets::{FileRecord, main_id};
 use par2_spec::{CreateArgs, Fault, Result};
 use std::alloc::Global;
 
@@ -33,29 +31,8 @@ pub struct Creation {
     pub checkpoints: Checkpoints,
 }
 
-// The records of the files of these names, in this order, for slices of `size` bytes. Their MD5s are computed side by
-// side with a checkpoint of the folder at `name`, the index, which is the least name that a create writes.
-fn records_beside(
-    alloc: Global,
-    folder: &Folder,
-    names: &[Name],
-    size: u64,
-    from: &Checkpoints,
-    name: &Name,
-) -> Result<(Vec<FileRecord>, Checkpoints)>
-    requires size { 1 ≤ size }
-    requires checkpoints { AreCheckpointsOf folder.now.files from.now }
-    ensures records { let files = files_of folder.now.files names.now in
-        IfOk result (λ found. AreRecords size files found.0.items) }
-    ensures checkpoints { IfOk result (λ found. AreCheckpointsOf folder.now.files found.1) }
-{
-    let buffers = folder.bytes_of_each(names)?;
-    let checkpointed = checkpoint_at(alloc, folder, from, name, &buffers)?;
-    let records = file_records(alloc, folder, names, &checkpointed.beside, size)?;
-    Ok((records, checkpointed.checkpoints))
-}
-
-// The set of the inputs, if nothing is wrong with them, and a checkpoint of the folder at `name`, which is the index's.
+// The set of the inputs, if nothing is wrong with them. Their MD5s are computed side by side with a checkpoint of the
+// folder at `name`, the index, which is the least name that a create writes.
 #[tactic(auto, unfolding(crate::specs::Faults::inputs_fault))]
 fn set_of_inputs(
     alloc: Global,
@@ -83,11 +60,14 @@ fn set_of_inputs(
 {
     let names = input_names(alloc, &args.inputs)?;
     no_duplicate(alloc, &names)?;
-    if let Some(fault) = files_fault(folder, &names, args.slice) {
+    let inputs = inputs_in(alloc, folder, &names)?;
+    if let Some(fault) = files_fault(folder, &inputs, args.slice) {
         return Err(fault);
     }
-    let (records, checkpoints) = records_beside(alloc, folder, &names, args.slice, from, name)?;
-    Ok((set_of(records, args.slice)?, checkpoints))
+    let contents = contents_of(alloc, &inputs)?;
+    let checkpointed = checkpoint_at(alloc, folder, from, name, &contents)?;
+    let set = set_of(alloc, &inputs, &checkpointed.beside, args.slice)?;
+    Ok((set, checkpointed.checkpoints))
 }
 
 // The changes that write the index `base` and these volumes, for a create with which nothing is wrong.
@@ -111,9 +91,10 @@ fn outputs_written(
     ensures { let all = plans.create_changes folder.now.files (create_args_of args.now) in
         IfOk result (λ changes. changes ≡ all) }
 {
+    let (set_id, index) = index_of(alloc, set.slice, &set.files)?;
     let parts = Parts {
-        index: index_of(alloc, set.slice, &set.files)?,
-        set_id: main_id(set.slice, &set.files),
+        index,
+        set_id,
         set,
         folder,
     };

@@ -1,14 +1,33 @@
 //! The index file of a set, whose packets each volume repeats.
-ghost use Rattle.std.specs.Prelude.{◌≡◌, ◌≤◌, ◌++◌, length, map, flat_map, OnOk};
-ghost use Rattle.par2_spec.specs.Answers.{Lists};
+ghost use Rattle.std.specs.Prelude.{◌≡◌, ◌≤◌, ◌%◌, ◌^◌, ◌++◌, length, map, flat_map, IfOk, OnOk};
 ghost use Rattle.par2_spec.specs.Packets.{packet};
+ghost use Rattle.par2_spec.specs.Volumes as spec;
 ghost use Rattle.par2_spec.specs.Volumes.{packet_of, index_packets, desc_bytes, ifsc_bytes};
 ghost use Rattle.par2_spec.specs.declared.Kind.TheVariants.{FileDesc, Ifsc};
 ghost use Rattle.par2_packets.specs.PacketViews.{file_record_of};
+ghost use Rattle.par2_create.specs.Records.{slices_of_records};
 
+use crate::records::RecoverySet;
+use par2_files::Folder;
 use par2_packets::{FileRecord, append_creator, append_desc, append_ifsc, append_main, main_id};
 use par2_spec::Result;
 use std::alloc::Global;
+
+/// The parts of the outputs: the bytes of the index, the Recovery Set ID, and the set, whose files are in the folder. The
+/// slice size and the number of input slices are ones that PAR2 allows.
+#[derive(Drop)]
+pub struct Parts<'a> {
+    pub index: Vec<u8>,
+    pub set_id: [u8; 16],
+    pub set: &'a RecoverySet,
+    pub folder: &'a Folder,
+    ghost sixteen: { length set_id ≡ 16 },
+    ghost positive: { 1 ≤ set.now.slice },
+    ghost fours: { set.now.slice % 4 ≡ 0 },
+    ghost small: { set.now.slice ≤ 2 ^ 30 },
+    ghost few: { let records = set.now.files.items in
+        length (slices_of_records folder.now.files set.now.slice records) ≤ 32768 },
+}
 
 // Appends the FileDescs of these files, in order. `id` is the Recovery Set ID.
 fn append_descs(alloc: Global, out: &mut Vec<u8>, id: &[u8; 16], files: &[FileRecord]) -> Result<()>
@@ -47,12 +66,14 @@ fn file_len(file: &FileRecord) -> usize {
     pairs.saturating_add(name).saturating_add(FILE_LEN)
 }
 
-/// The bytes of the index of a set of these files with slices of `s` bytes: Main, the FileDescs, the IFSCs, Creator.
-/// The caller orders the files by File ID, as Main requires; this function keeps their order.
+/// The Recovery Set ID of a set of these files with slices of `s` bytes, and the bytes of its index: Main, the FileDescs,
+/// the IFSCs, Creator. The caller orders the files by File ID, as Main requires; this function keeps their order.
 #[tactic(auto, unfolding(par2_spec::specs::Volumes::index_packets))]
-pub fn index_of(alloc: Global, s: u64, files: &[FileRecord]) -> Result<Vec<u8>>
+pub fn index_of(alloc: Global, s: u64, files: &[FileRecord]) -> Result<([u8; 16], Vec<u8>)>
     requires { length files.now ≤ 32768 }
-    ensures { Lists (flat_map packet (index_packets s (map file_record_of files.now))) result }
+    ensures id { IfOk result (λ made. made.0 ≡ spec.main_id s (map file_record_of files.now)) }
+    ensures bytes { let records = map file_record_of files.now in
+        IfOk result (λ made. made.1.items ≡ flat_map packet (index_packets s records)) }
 {
     let set_id = main_id(s, files);
     let lens = files.iter().map(file_len);
@@ -62,5 +83,5 @@ pub fn index_of(alloc: Global, s: u64, files: &[FileRecord]) -> Result<Vec<u8>>
     append_descs(alloc, &mut index, &set_id, files)?;
     append_ifscs(alloc, &mut index, &set_id, files)?;
     append_creator(alloc, &mut index, &set_id)?;
-    Ok(index)
+    Ok((set_id, index))
 }

@@ -2,25 +2,16 @@
 //! `volume_files`.
 ghost use Rattle.std.specs.Prelude.{◌≡◌, ◌++◌, map, IfOk, OnOk};
 ghost use Rattle.par2_files.specs.ChangeViews.{change_of};
-ghost use Rattle.par2_create.specs.Outputs.{HasSlices, HaveExponents, put_change, output_changes};
+ghost use Rattle.par2_create.specs.Outputs.{HaveExponents, put_change, output_changes};
 ghost use Rattle.par2_create.specs.Volumes.{as_file};
 
 use crate::Changes;
+use crate::index::Parts;
 use crate::names::Volume;
-use crate::records::RecoverySet;
 use crate::volumes::volume_files;
 use par2_files::{Bytes, Change, Folder, Name};
 use par2_spec::Result;
 use std::alloc::Global;
-
-/// The parts of the outputs: the bytes of the index, the Recovery Set ID, and the set, whose files are in the folder.
-#[derive(Drop)]
-pub struct Parts<'a> {
-    pub index: Vec<u8>,
-    pub set_id: [u8; 16],
-    pub set: &'a RecoverySet,
-    pub folder: &'a Folder,
-}
 
 // The change that writes a file, or replaces it if it exists already.
 fn put_change(folder: &Folder, name: Name, bytes: Vec<u8>) -> Change
@@ -44,11 +35,10 @@ fn push_files(changes: &mut Changes, folder: &Folder, files: Vec<(Name, Vec<u8>)
     Ok(())
 }
 
-/// The changes that write the outputs: the index under the name `base`, then the volumes in order. `HasSlices` and
-/// `HaveExponents`: the slice size, the number of input slices and the exponents are ones that PAR2 allows.
+/// The changes that write the outputs: the index under the name `base`, then the volumes in order. `HaveExponents`: the
+/// exponents are ones that PAR2 allows.
 pub fn changes_of(alloc: Global, base: Name, parts: Parts, volumes: &[Volume]) -> Result<Changes>
-    requires parts { HasSlices parts }
-    requires exponents { HaveExponents volumes.now }
+    requires { HaveExponents volumes.now }
     ensures { IfOk result (λ changes. changes ≡ output_changes base parts.entry volumes.now) }
 {
     let files = volume_files(alloc, &parts, volumes)?;

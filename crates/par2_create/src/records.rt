@@ -1,4 +1,4 @@
-//! The records of a set's files, from which packets are written. `file_records` makes them in the order of the names,
+//! The records of a set's files, from which packets are written. `file_records` makes them in the order of the inputs,
 //! and `sorted_by_id` orders them by File ID as in a Main packet.
 
 ghost use Rattle.std.specs.Prelude.{◌≡◌, ◌≤◌, ◌↔◌, ℕ, List, map, IfOk, IsOk, IsPermutation, take};
@@ -8,15 +8,12 @@ ghost use Rattle.std.specs.Str.{bytes_eq};
 ghost use Rattle.md5.specs.Md5.{md5};
 ghost use Rattle.md5.specs.Md5 as hash;
 ghost use Rattle.par2_spec.specs.Folders.{File};
-ghost use Rattle.par2_spec.specs.Folders as spec;
 ghost use Rattle.par2_spec.specs.Volumes.{in_id_order, record_of};
-ghost use Rattle.par2_spec.specs.Commands.{files_of};
 ghost use Rattle.par2_packets.specs.PacketViews.{record_id_number, file_record_of};
-ghost use Rattle.par2_create.specs.Records.{AreRecords, names_of};
+ghost use Rattle.par2_create.specs.Records.{AreRecords, file_of};
 
-use crate::sources::bytes_of;
+use crate::inputs::Input;
 use md5::{Digest, Md5};
-use par2_files::{Folder, Name};
 use par2_packets::{DuplicateId, FileRecord, file_id, sort_ids};
 use par2_slices::pairs_of;
 use par2_spec::Result;
@@ -31,24 +28,23 @@ pub struct RecoverySet {
     pub files: Vec<FileRecord>,
 }
 
-/// The records of the files of these names, in this order, for slices of `s` bytes. `md5s` are the MD5s of the files,
-/// which the caller computes side by side. `AreRecords`: record k is that of file k.
+/// The records of these inputs, in this order, for slices of `s` bytes. `md5s` are the MD5s of the inputs, which the
+/// caller computes side by side. `AreRecords`: record k is that of file k.
 pub fn file_records(
     alloc: Global,
-    folder: &Folder,
-    names: &[Name],
+    inputs: &[Input],
     md5s: &[[u8; 16]],
     s: u64,
 ) -> Result<Vec<FileRecord>>
     requires size { 1 ≤ s }
-    requires md5s { md5s.now ≡ map md5 (map (spec.bytes_of folder.now.files) names.now) }
-    ensures { IfOk result (λ list. AreRecords s (files_of folder.now.files names.now) list.items) }
+    requires md5s { md5s.now ≡ map md5 (map (λ input. input.bytes.now) inputs.now) }
+    ensures { IfOk result (λ list. AreRecords s (map file_of inputs.now) list.items) }
 {
-    let mut records = Vec::with_capacity(alloc, names.len())?;
-    for i in 0..names.len() {
-        let name = names[i].as_str();
-        let bytes = bytes_of(folder, name);
-        records.push(file_record_by_md5(alloc, name, bytes, md5s[i], s)?)?;
+    let mut records = Vec::with_capacity(alloc, inputs.len())?;
+    for i in 0..inputs.len() {
+        let input = &inputs[i];
+        let record = file_record_by_md5(alloc, input.name.as_str(), input.bytes, md5s[i], s)?;
+        records.push(record)?;
     }
     Ok(records)
 }
@@ -62,9 +58,6 @@ pub fn sorted_by_id(mut files: Vec<FileRecord>) -> Result<Vec<FileRecord>, Dupli
     ensures files { IfOk result (λ all. (s : ℕ) (inputs : List File)
         → AreRecords s inputs files.items
         → AreRecords s (in_id_order inputs) all.items) }
-    ensures order { IfOk result (λ all. (s : ℕ) (folder : spec.Folder) (names : List (List ℕ))
-        → AreRecords s (files_of folder names) files.items
-        → files_of folder (names_of all.items) ≡ in_id_order (files_of folder names)) }
 {
     sort_ids(files.as_mut_slice())?;
     Ok(files)

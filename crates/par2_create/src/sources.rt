@@ -13,9 +13,9 @@ use par2_slices::{slice_bytes, slice_count};
 use par2_spec::Result;
 use std::alloc::Global;
 
-/// The bytes of the file of this name, none if it is absent. Unlike `Folder::bytes_of` it takes a string, as records
-/// have it.
-pub(crate) fn bytes_of<'a>(folder: &'a Folder, name: &str) -> &'a [u8]
+// The bytes of the file of this name, none if it is absent. Unlike `Folder::bytes_of` it takes a string, as records
+// have it.
+fn bytes_of<'a>(folder: &'a Folder, name: &str) -> &'a [u8]
     ensures { result.now ≡ bytes_of folder.now.files name.now }
 {
     // For the prover: the names in a folder are names.

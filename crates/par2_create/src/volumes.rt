@@ -1,14 +1,14 @@
 //! The bytes of volumes. Their packets are laid out first, with zeros for recovery slices and MD5s. The recovery slices
 //! are computed in place, all at once, and the MD5s are filled in at the end.
 
-ghost use Rattle.std.specs.Prelude.{◌≡◌, ◌≤◌, ◌<◌, ◌^◌, length, map, IfOk, OnOk};
+ghost use Rattle.std.specs.Prelude.{◌≡◌, length, map, IfOk, OnOk};
 ghost use Rattle.par2_spec.specs.Answers.{Appends};
 ghost use Rattle.par2_spec.specs.Sums.{lists_of};
-ghost use Rattle.par2_create.specs.Outputs.{HasExponents, HasSlices, HaveExponents, volume_file_name};
+ghost use Rattle.par2_create.specs.Outputs.{HasExponents, HaveExponents, volume_file_name};
 ghost use Rattle.par2_create.specs.Volumes.{AreFiles, AreBuffers, blank_volume, volume_exponents, length_with, places_in, places_of, with_slices};
 
+use crate::index::Parts;
 use crate::names::Volume;
-use crate::outputs::Parts;
 use crate::sources::input_slices;
 use par2_files::Name;
 use par2_gf16::Gf;
@@ -31,8 +31,7 @@ fn volume_len(parts: &Parts, count: u32) -> usize {
 
 // The bytes of a volume, the index and then its recovery packets, with zeros for their slices and MD5s.
 fn blank_volume(alloc: Global, parts: &Parts, volume: &Volume) -> Result<Vec<u8>>
-    requires small { parts.now.set.now.slice ≤ 2 ^ 30 }
-    requires exponents { HasExponents volume.now }
+    requires { HasExponents volume.now }
     ensures { IfOk result (λ bytes. bytes.items ≡ blank_volume parts.now volume.now) }
 {
     let mut bytes = Vec::with_capacity(alloc, volume_len(parts, volume.count))?;
@@ -50,8 +49,7 @@ fn append_places(
     i: usize,
     bytes: &[u8],
 ) -> Result<()>
-    requires small { parts.now.set.now.slice ≤ 2 ^ 30 }
-    requires bytes { length bytes.now ≡ length_with parts.now volume.now.count }
+    requires { length bytes.now ≡ length_with parts.now volume.now.count }
     ensures { Appends (places_in parts.now (i, volume.now)) places.old places.new result }
 {
     let packet = RECOVERY_HEAD + parts.set.slice as usize;
@@ -64,8 +62,7 @@ fn append_places(
 
 // The bytes of all volumes, each in a buffer of its own, with zeros for their recovery slices and MD5s.
 fn blank_volumes(alloc: Global, parts: &Parts, volumes: &[Volume]) -> Result<Vec<Vec<u8>>>
-    requires small { parts.now.set.now.slice ≤ 2 ^ 30 }
-    requires exponents { HaveExponents volumes.now }
+    requires { HaveExponents volumes.now }
     ensures { IfOk result (AreBuffers (blank_volume parts.now) volumes.now) }
 {
     let mut buffers = Vec::with_capacity(alloc, volumes.len())?;
@@ -83,8 +80,7 @@ fn places(
     volumes: &[Volume],
     buffers: &[Vec<u8>],
 ) -> Result<Vec<Place>>
-    requires parts { HasSlices parts.now }
-    requires buffers { lists_of buffers.now ≡ map (blank_volume parts.now) volumes.now }
+    requires { lists_of buffers.now ≡ map (blank_volume parts.now) volumes.now }
     ensures { IfOk result (λ places. places.items ≡ places_of parts.now volumes.now) }
 {
     let mut places = Vec::new(alloc);
@@ -96,7 +92,7 @@ fn places(
 
 // The exponents of all volumes' recovery slices, in order.
 fn exponents_of(alloc: Global, volumes: &[Volume]) -> Result<Vec<u32>>
-    requires exponents { HaveExponents volumes.now }
+    requires { HaveExponents volumes.now }
     ensures { IfOk result (λ exponents. exponents.items ≡ volume_exponents volumes.now) }
 {
     volumes
@@ -107,7 +103,6 @@ fn exponents_of(alloc: Global, volumes: &[Volume]) -> Result<Vec<u32>>
 
 // Writes the recovery slices of all volumes at their places in `out`, the buffers of the volumes.
 fn write_slices(alloc: Global, parts: &Parts, volumes: &[Volume], out: &mut [Vec<u8>]) -> Result<()>
-    requires parts { HasSlices parts.now }
     requires exponents { HaveExponents volumes.now }
     requires before { lists_of out.old ≡ map (blank_volume parts.now) volumes.now }
     ensures { OnOk result (lists_of out.new ≡ map (with_slices parts.now) volumes.now) }
@@ -122,8 +117,7 @@ fn write_slices(alloc: Global, parts: &Parts, volumes: &[Volume], out: &mut [Vec
 
 // Fills in the MD5s of the recovery packets of a volume, which are the last of its bytes.
 fn digest_volume(alloc: Global, bytes: &mut [u8], parts: &Parts, volume: &Volume) -> Result<()>
-    requires parts { HasSlices parts.now }
-    requires before { bytes.old ≡ with_slices parts.now volume.now }
+    requires { bytes.old ≡ with_slices parts.now volume.now }
     ensures { OnOk result (bytes.new ≡ volume_file_name parts.now volume.now) }
 {
     let packets = &mut bytes[parts.index.len()..];
@@ -138,8 +132,7 @@ fn digested(
     parts: &Parts,
     volumes: &[Volume],
 ) -> Result<Vec<(Name, Vec<u8>)>>
-    requires parts { HasSlices parts.now }
-    requires before { AreBuffers (with_slices parts.now) volumes.now buffers.old }
+    requires { AreBuffers (with_slices parts.now) volumes.now buffers.old }
     ensures { IfOk result (AreFiles parts.now volumes.now) }
 {
     let mut files = Vec::with_capacity(alloc, volumes.len())?;
@@ -158,8 +151,7 @@ pub(crate) fn volume_files(
     parts: &Parts,
     volumes: &[Volume],
 ) -> Result<Vec<(Name, Vec<u8>)>>
-    requires parts { HasSlices parts.now }
-    requires exponents { HaveExponents volumes.now }
+    requires { HaveExponents volumes.now }
     ensures { IfOk result (AreFiles parts.now volumes.now) }
 {
     if volumes.is_empty() {

@@ -9,7 +9,7 @@ ghost use Rattle.par2_spec.specs.Commands.{files_of};
 ghost use Rattle.par2_packets.specs.PacketViews.{record_id_number};
 ghost use Rattle.par2_create.specs.Records.{AreRecords, names_of};
 
-use par2_create::{file_records, sorted_by_id};
+use par2_create::{contents_of, file_records, inputs_in, sorted_by_id};
 use par2_files::{Folder, Name};
 use par2_md5_lanes::buffer_digests;
 use par2_packets::{DuplicateId, FileRecord};
@@ -27,9 +27,10 @@ fn records_of(
     requires { 1 ≤ s }
     ensures { IfOk result (λ list. AreRecords s (files_of folder.now.files names.now) list.items) }
 {
-    let contents = folder.bytes_of_each(names)?;
+    let inputs = inputs_in(alloc, folder, names)?;
+    let contents = contents_of(alloc, &inputs)?;
     let md5s = buffer_digests(alloc, &contents)?;
-    file_records(alloc, folder, names, &md5s, s)
+    file_records(alloc, &inputs, &md5s, s)
 }
 
 /// Why there is no record of a set.

@@ -2,6 +2,7 @@ use Rattle.par2_create.proofs.Common.{create_changes, CreateArgs, files_of, flat
 use Rattle.md5.proofs.StandardFacts.{length-md5}
 use Rattle.par2_create.specs.Records.{names_of}
 use Rattle.par2_create.specs.declared.records.RecoverySet.{RecoverySet}
+use Rattle.par2_create.proofs.FileRecords.{files_of_records}
 use Rattle.par2_create.proofs.VolumeNumbers.{volumes_end}
 use Rattle.par2_create.proofs.GoodWords.{IsHead, AreInputs, head_passed, inputs_passed, few_slices, few_in_order}
 use Rattle.par2_create.proofs.OutputChanges.{written, create_written}
@@ -17,27 +18,25 @@ few_records folder a set records are head inputs same =
 pub index_of-requires : goal.index_of-requires
 index_of-requires c = few_records c.args.folder.now.files (create_args_of c.args.args.now) c.args.set.now _ c.requires.set c.requires.head c.requires.inputs c.deref.ensures.value
 
-pub main_id-requires : goal.main_id-requires
-main_id-requires c = few_records c.args.folder.now.files (create_args_of c.args.args.now) c.args.set.now _ c.requires.set c.requires.head c.requires.inputs c.deref-2.ensures.value
-
-pub changes_of-requires-clause-parts : goal.changes_of-requires-clause-parts
-changes_of-requires-clause-parts c =
+pub invariant_of-parts : goal.invariant_of-parts
+invariant_of-parts c =
     let inputs = map string_bytes c.args.args.now.inputs.items in
     let folder = c.args.folder.now.files in
     let s = c.args.args.now.slice in
     let slice = c.requires.set.slice in
+    let order = files_of_records s folder inputs c.args.set.now.files.items c.requires.set.files in
     let head : IsHead (create_args_of c.args.args.now) = head_passed _ c.requires.head in
     let are : AreInputs folder s inputs = inputs_passed _ _ _ c.requires.inputs in
     record {
-      sixteen = ap length c.main_id.ensures ∙ length-md5 _;
+      sixteen = ap length c.in_ok-set_id.ensures.id ∙ length-md5 _;
       positive = subst (λ n. 1 ≤ n) (sym slice) head.positive;
       fours = subst (λ n. n % 4 ≡ 0) (sym slice) head.fours;
       small = subst (λ n. n ≤ 2 ^ 30) (sym slice) head.small;
-      few = subst (λ n. n ≤ 32768) (sym (ap₂ (λ n files. length (all_slices n files)) slice c.requires.set.order)) (few_slices folder s inputs are);
+      few = subst (λ n. n ≤ 32768) (sym (ap₂ (λ n files. length (all_slices n files)) slice order)) (few_slices folder s inputs are);
     }
 
-pub changes_of-requires-clause-exponents : goal.changes_of-requires-clause-exponents
-changes_of-requires-clause-exponents c =
+pub changes_of-requires : goal.changes_of-requires
+changes_of-requires c =
     let head : IsHead (create_args_of c.args.args.now) = head_passed _ c.requires.head in
     subst HaveExponents (sym c.requires.volumes)
     (volumes_end (string_bytes c.args.args.now.base) c.args.args.now.first c.args.args.now.count head.exponents)
@@ -47,14 +46,16 @@ returns c =
     let folder = c.args.folder.now.files in
     let a = create_args_of c.args.args.now in
     let set = c.args.set.now in
-    let index = c.in_ok-index_of.field-0.items in
-    let id = c.main_id.result in
+    let index = c.in_ok-set_id.index.items in
+    let id = c.in_ok-set_id.set_id in
     let volumes = c.args.volumes.now in
     let s = c.args.args.now.slice in
     let ordered = in_id_order (files_of folder a.inputs) in
     let records = map (record_of s) ordered in
     let buffers = all_slices set.slice (files_of folder (names_of set.files.items)) in
-    let is_index : index ≡ flat_map packet (index_packets s records) = c.in_ok-index_of.ensures ∙ ap₂ (λ n files. flat_map packet (index_packets n files)) c.requires.set.slice (ap (map file_record_of) c.deref.ensures.value ∙ c.requires.set.files) in
-    let is_id : id ≡ main_id s records = c.main_id.ensures ∙ ap₂ main_id c.requires.set.slice (ap (map file_record_of) c.deref-2.ensures.value ∙ c.requires.set.files) in
-    let same : written folder c.args.base index id set.slice buffers volumes ≡ create_changes folder a = rw (c.requires.base, is_index, is_id, c.requires.set.slice, c.requires.set.order, c.requires.volumes) (create_written folder a) in
+    let order = files_of_records s folder a.inputs set.files.items c.requires.set.files in
+    let are = ap (map file_record_of) c.deref.ensures.value ∙ c.requires.set.files in
+    let is_index : index ≡ flat_map packet (index_packets s records) = c.in_ok-set_id.ensures.bytes ∙ ap₂ (λ n files. flat_map packet (index_packets n files)) c.requires.set.slice are in
+    let is_id : id ≡ main_id s records = c.in_ok-set_id.ensures.id ∙ ap₂ main_id c.requires.set.slice are in
+    let same : written folder c.args.base index id set.slice buffers volumes ≡ create_changes folder a = rw (c.requires.base, is_index, is_id, c.requires.set.slice, order, c.requires.volumes) (create_written folder a) in
     subst (λ w. IfOk c.changes_of.result (λ changes. changes ≡ w)) same c.changes_of.ensures

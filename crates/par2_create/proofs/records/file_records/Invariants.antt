@@ -1,5 +1,5 @@
-use Rattle.par2_create.proofs.Common.{◌≡◌, map, take, record_of, files_of, file_record_of}
+use Rattle.par2_create.proofs.Common.{map, take, file_of, AreRecords}
 use Rattle.par2_create.proofs.records.file_records.Given as goal
 
 abbrev pub invariant-loop-i : goal.invariant-loop-i
-invariant-loop-i l = map file_record_of l.records.items ≡ map (record_of l.s) (files_of l.folder.files (take l.i l.names))
+invariant-loop-i l = AreRecords l.s (map file_of (take l.i l.inputs)) l.records.items

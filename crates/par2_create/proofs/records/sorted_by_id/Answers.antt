@@ -1,7 +1,7 @@
-use Rattle.par2_create.proofs.Common.{◌≡◌, rules, length, with_items_is, files_of, file_record_of}
+use Rattle.par2_create.proofs.Common.{◌≡◌, rules, length, with_items_is, file_record_of}
 use Rattle.std.specs.Vec.{with_items}
 use Rattle.std.proofs.lemmas.List.Sorted.{IsPermutation-map}
-use Rattle.par2_create.proofs.FileRecords.{in_order, files_of_records}
+use Rattle.par2_create.proofs.FileRecords.{in_order}
 use Rattle.par2_create.proofs.records.sorted_by_id.Goals.{In_ok-sort_ids}
 use Rattle.par2_create.proofs.records.sorted_by_id.Goals as goal
 
@@ -19,6 +19,3 @@ returns-clause-files c = λ s inputs are.
     let moved = rw c.as_mut_slice.ensures.value at c.in_ok-sort_ids.ensures.permutation in
     rw (sorted (goal.at.returns-clause-files c).In_ok-sort_ids)
     (in_order s inputs c.sort_ids.new.files (rw are at (IsPermutation-map file_record_of c.args.files.items c.sort_ids.new.files moved)) c.in_ok-sort_ids.ensures.rising)
-
-pub returns-clause-order : goal.returns-clause-order
-returns-clause-order c = λ s folder names are. files_of_records s folder names _ (returns-clause-files c s (files_of folder names) are)

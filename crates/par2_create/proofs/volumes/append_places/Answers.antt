@@ -24,12 +24,12 @@ returns c =
 
 pub overflow_mul-at : goal.overflow_mul-at
 overflow_mul-at c =
-    omega (arith, packet_ends (length c.args.parts.now.index.items) c.loop-k.k c.args.volume.now.count (68 + c.args.parts.now.set.now.slice) (length c.args.bytes.now) c.loop-k-test.true c.requires.bytes)
+    omega (arith, packet_ends (length c.args.parts.now.index.items) c.loop-k.k c.args.volume.now.count (68 + c.args.parts.now.set.now.slice) (length c.args.bytes.now) c.loop-k-test.true c.requires)
 
 pub overflow_add-at : goal.overflow_add-at
 overflow_add-at c =
-    omega (arith, packet_ends (length c.args.parts.now.index.items) c.loop-k.k c.args.volume.now.count (68 + c.args.parts.now.set.now.slice) (length c.args.bytes.now) c.loop-k-test.true c.requires.bytes)
+    omega (arith, packet_ends (length c.args.parts.now.index.items) c.loop-k.k c.args.volume.now.count (68 + c.args.parts.now.set.now.slice) (length c.args.bytes.now) c.loop-k-test.true c.requires)
 
 pub overflow_add-at-in-loop-k : goal.overflow_add-at-in-loop-k
 overflow_add-at-in-loop-k c =
-    omega (arith, packet_ends (length c.args.parts.now.index.items) c.loop-k.k c.args.volume.now.count (68 + c.args.parts.now.set.now.slice) (length c.args.bytes.now) c.loop-k-test.true c.requires.bytes)
+    omega (arith, packet_ends (length c.args.parts.now.index.items) c.loop-k.k c.args.volume.now.count (68 + c.args.parts.now.set.now.slice) (length c.args.bytes.now) c.loop-k-test.true c.requires)

@@ -1,8 +1,8 @@
 use Rattle.par2_create.proofs.Common.{◌∙◌, ◌++◌, ◌∷◌, [], List, ℕ, Vec, Global, map, sym, ap, ap₂, subst, map-append, map_more, take_all, lists_of, HasExponents, blank_volume}
 use Rattle.par2_create.proofs.volumes.blank_volumes.Goals as goal
 
-pub blank_volume-requires-clause-exponents : goal.blank_volume-requires-clause-exponents
-blank_volume-requires-clause-exponents c = subst HasExponents (sym c.volume-item.is) (c.requires.exponents c.loop-volume.volume-index _ c.loop-volume-test.true)
+pub blank_volume-requires : goal.blank_volume-requires
+blank_volume-requires c = subst HasExponents (sym c.volume-item.is) (c.requires c.loop-volume.volume-index _ c.loop-volume-test.true)
 
 pub loop-volume-init : goal.loop-volume-init
 loop-volume-init c = ap (λ (buffers : List (Vec ℕ Global)). lists_of buffers) c.in_ok-buffers.ensures.items

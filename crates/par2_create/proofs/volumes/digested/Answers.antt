@@ -4,7 +4,7 @@ use Rattle.par2_create.proofs.SliceLists.{some_left, taken}
 use Rattle.par2_create.proofs.volumes.digested.Goals as goal
 
 pub loop-volume-init : goal.loop-volume-init
-loop-volume-init c = record { done = ap (map as_file) c.in_ok-files.ensures.items; left = c.requires.before }
+loop-volume-init c = record { done = ap (map as_file) c.in_ok-files.ensures.items; left = c.requires }
 
 pub remove-bytes-requires : goal.remove-bytes-requires
 remove-bytes-requires c =
@@ -30,8 +30,8 @@ loop-volume-preserved c =
       left = ap lists_of c.remove-bytes.ensures.items ∙ (taken (with_slices parts) volumes i volume c.loop-volume.buffers.items c.remove-bytes.result low c.volume-item.is c.loop-volume.invariant.left c.remove-bytes.ensures.value).1;
     }
 
-pub digest_volume-requires-clause-before : goal.digest_volume-requires-clause-before
-digest_volume-requires-clause-before c =
+pub digest_volume-requires : goal.digest_volume-requires
+digest_volume-requires c =
     c.as_mut_slice.ensures.value
     ∙ (taken (with_slices c.args.parts.now) c.args.volumes.now c.loop-volume.volume-index c.volume-item.result c.loop-volume.buffers.items c.remove-bytes.result c.loop-volume-test.true c.volume-item.is c.loop-volume.invariant.left c.remove-bytes.ensures.value).0
 

@@ -5,11 +5,11 @@ use Rattle.par2_create.proofs.volumes.places.Goals as goal
 
 pub bounds-buffers-i : goal.bounds-buffers-i
 bounds-buffers-i c =
-    let many = ap length c.requires.buffers in
+    let many = ap length c.requires in
     omega (arith, many, length-map c.args.buffers.now (λ (bytes : Vec ℕ Global). bytes.items), length-map c.args.volumes.now (blank_volume c.args.parts.now), c.loop-i-test.true)
 
-pub append_places-requires-clause-bytes : goal.append_places-requires-clause-bytes
-append_places-requires-clause-bytes c =
+pub append_places-requires : goal.append_places-requires
+append_places-requires c =
     let volumes : List Volume = c.args.volumes.now in
     let buffers : List (Vec ℕ Global) = c.args.buffers.now in
     let volume : Volume = c.index-volumes-i.result in
@@ -17,13 +17,13 @@ append_places-requires-clause-bytes c =
     let i = c.loop-i.i in
     let low = c.loop-i-test.true in
     let volume_bytes = blank_volume c.args.parts.now in
-    let many = ap length c.requires.buffers in
+    let many = ap length c.requires in
     let there : i < length buffers = omega (arith, many, length-map buffers (λ (content : Vec ℕ Global). content.items), length-map volumes volume_bytes, low) in
     ap (λ (bytes : List ℕ). length bytes) (
     c.deref.ensures.value ∙ ap (λ (t : Vec ℕ Global). t.items) (c.index-buffers-i.is ∙ get_or_default buffers i _ content there) ∙ sym (get_or-map (λ (t : Vec ℕ Global). t.items) buffers i content [] there)
-    ∙ ap (λ (xs : List (List ℕ)). get_or xs i []) c.requires.buffers ∙ get_or-map volume_bytes volumes i volume [] low
+    ∙ ap (λ (xs : List (List ℕ)). get_or xs i []) c.requires ∙ get_or-map volume_bytes volumes i volume [] low
     ∙ ap volume_bytes (sym (c.index-volumes-i.is ∙ get_or_default volumes i _ volume low)))
-    ∙ length-volume c.args.parts.now _ volume c.requires.parts.sixteen (λ _. length-replicate {A = ℕ} c.args.parts.now.set.now.slice 0)
+    ∙ length-volume c.args.parts.now _ volume (λ _. length-replicate {A = ℕ} c.args.parts.now.set.now.slice 0)
 
 pub loop-i-preserved : goal.loop-i-preserved
 loop-i-preserved c =

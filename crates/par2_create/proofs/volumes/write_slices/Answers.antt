@@ -3,7 +3,7 @@ use Rattle.std.specs.Borrow.{Bor}
 use Rattle.par2_create.proofs.VolumePlaces.{places_apart, places_blank, places_within, length-places, volumes_written}
 use Rattle.par2_create.specs.Records.{slices_of_records}
 use Rattle.par2_packets.specs.declared.record.FileRecord.{FileRecord}
-use Rattle.par2_create.specs.declared.outputs.Parts.{Parts}
+use Rattle.par2_create.specs.declared.index.Parts.{Parts}
 use Rattle.par2_create.specs.Outputs.{inputs_of}
 use Rattle.par2_create.proofs.volumes.write_slices.Goals as goal
 
@@ -13,14 +13,14 @@ of_files parts files same = ap (slices_of_records parts.folder.now.files parts.s
 pub new-outputs-requires : goal.new-outputs-requires
 new-outputs-requires c =
     let parts = c.args.parts.now in
-    record { apart = rw (c.deref-2.ensures.value, c.in_ok-places.ensures) (places_apart parts (parts.set.now.slice / 2) c.args.volumes.now (omega (arith, c.requires.parts.fours))) }
+    record { apart = rw (c.deref-2.ensures.value, c.in_ok-places.ensures) (places_apart parts (parts.set.now.slice / 2) c.args.volumes.now (omega (arith, c.args.parts.now.fours))) }
 
 pub write_recovery_slices-requires-clause-slices : goal.write_recovery_slices-requires-clause-slices
 write_recovery_slices-requires-clause-slices c =
     let inputs : List (Bor (List ℕ)) = c.deref-3.result.now in
     let pad = padded c.args.parts.now.set.now.slice in
     let same = ap length (ap (λ (buffers : List (Bor (List ℕ))). map pad (buffers_of buffers)) c.deref-3.ensures.value ∙ c.in_ok-inputs.ensures ∙ of_files c.args.parts.now c.deref.result.now c.deref.ensures.value) in
-    omega (arith, c.requires.parts.few, same, length-map (buffers_of inputs) pad, length-map inputs (λ (bytes : Bor (List ℕ)). bytes.now))
+    omega (arith, c.args.parts.now.few, same, length-map (buffers_of inputs) pad, length-map inputs (λ (bytes : Bor (List ℕ)). bytes.now))
 
 pub write_recovery_slices-requires-clause-count : goal.write_recovery_slices-requires-clause-count
 write_recovery_slices-requires-clause-count c =
@@ -29,15 +29,15 @@ write_recovery_slices-requires-clause-count c =
 
 pub write_recovery_slices-requires-clause-room : goal.write_recovery_slices-requires-clause-room
 write_recovery_slices-requires-clause-room c =
-    let size : 2 * c.new-outputs.result.words ≡ c.args.parts.now.set.now.slice = omega (arith, c.requires.parts.fours) in
+    let size : 2 * c.new-outputs.result.words ≡ c.args.parts.now.set.now.slice = omega (arith, c.args.parts.now.fours) in
     rw (c.new-outputs.ensures.places, c.deref-2.ensures.value, c.in_ok-places.ensures)
-    (places_within c.args.parts.now c.new-outputs.result.words c.args.volumes.now (lists_of c.args.out.now) size c.requires.parts.sixteen c.requires.before)
+    (places_within c.args.parts.now c.new-outputs.result.words c.args.volumes.now (lists_of c.args.out.now) size c.requires.before)
 
 pub write_recovery_slices-requires-clause-zeros : goal.write_recovery_slices-requires-clause-zeros
 write_recovery_slices-requires-clause-zeros c =
-    let size : 2 * c.new-outputs.result.words ≡ c.args.parts.now.set.now.slice = omega (arith, c.requires.parts.fours) in
+    let size : 2 * c.new-outputs.result.words ≡ c.args.parts.now.set.now.slice = omega (arith, c.args.parts.now.fours) in
     rw (c.new-outputs.ensures.places, c.deref-2.ensures.value, c.in_ok-places.ensures)
-    (places_blank c.args.parts.now c.new-outputs.result.words c.args.volumes.now (lists_of c.args.out.now) size c.requires.parts.sixteen c.requires.before)
+    (places_blank c.args.parts.now c.new-outputs.result.words c.args.volumes.now (lists_of c.args.out.now) size c.requires.before)
 
 pub returns : goal.returns
 returns c =
@@ -48,7 +48,7 @@ returns c =
     let old = lists_of c.args.out.now in
     let new = lists_of c.write_recovery_slices.new.buffers in
     on_ok_weaker c.write_recovery_slices.result
-    (λ written. volumes_written c.args.parts.now words c.args.volumes.now slices exponents old new c.requires.parts (omega (arith, c.requires.parts.fours)) c.requires.parts.sixteen
+    (λ written. volumes_written c.args.parts.now words c.args.volumes.now slices exponents old new (omega (arith, c.args.parts.now.fours))
     (ap (λ (buffers : List (Bor (List ℕ))). map pad (buffers_of buffers)) c.deref-3.ensures.value ∙ c.in_ok-inputs.ensures ∙ of_files c.args.parts.now c.deref.result.now c.deref.ensures.value)
     (c.deref-4.ensures.value ∙ c.in_ok-exponents.ensures) c.requires.before
     (subst (λ (all : List Place). AreWritten words slices exponents all old new) (c.new-outputs.ensures.places ∙ c.deref-2.ensures.value ∙ c.in_ok-places.ensures) written))

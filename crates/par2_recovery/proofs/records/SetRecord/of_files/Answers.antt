@@ -4,6 +4,7 @@ use Rattle.par2_spec.specs.Commands.{files_of}
 use Rattle.par2_spec.specs.Folders.{File}
 use Rattle.par2_spec.specs.Volumes.{id_of, record_of}
 use Rattle.par2_spec.specs.Volumes as volumes
+use Rattle.par2_create.proofs.FileRecords.{files_of_records}
 use Rattle.par2_packets.specs.PacketViews.{file_record_of}
 use Rattle.par2_packets.specs.declared.record.FileRecord.{FileRecord}
 use Rattle.par2_recovery.proofs.records.SetRecord.of_files.Goals as goal
@@ -20,7 +21,7 @@ pub returns-in-Ok-clause-files : goal.returns-in-Ok-clause-files
 returns-in-Ok-clause-files c = c.in-Ok.ensures.files c.args.s (files_of c.args.folder.now.files c.args.names.now) c.in_ok-records.ensures
 
 pub returns-in-Ok-clause-order : goal.returns-in-Ok-clause-order
-returns-in-Ok-clause-order c = c.in-Ok.ensures.order c.args.s c.args.folder.now.files c.args.names.now c.in_ok-records.ensures
+returns-in-Ok-clause-order c = files_of_records c.args.s c.args.folder.now.files c.args.names.now _ (returns-in-Ok-clause-files c)
 
 pub returns-in-Ok-clause-distinct : goal.returns-in-Ok-clause-distinct
 returns-in-Ok-clause-distinct c = λ _. rw (← ids_of_records c.args.s (files_of c.args.folder.now.files c.args.names.now) c.in_ok-records.records.items c.in_ok-records.ensures) (c.in-Ok.ensures.distinct.0 refl)

@@ -1,0 +1,9 @@
+use Rattle.par2_create.proofs.Common.{rules, Bor, ℕ, List, Input, YieldsList-from_slice}
+use Rattle.std.proofs.lemmas.Iterator.{YieldsList-from_map_by}
+use Rattle.std.proofs.lemmas.Iterator.Consumers.{map_from_collect}
+use Rattle.par2_create.proofs.inputs.contents_of.Goals as goal
+
+pub returns : goal.returns
+returns c =
+    map_from_collect _ c.collect.ensures.ran
+    (YieldsList-from_map_by _ (λ (bytes : Bor (List ℕ)). bytes.now) (λ (input : Input). input.bytes.now) (YieldsList-from_slice c.args.inputs.now (cc)) c.map.ensures.closure (λ x r q k. search rules))
