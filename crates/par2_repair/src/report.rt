@@ -1,19 +1,22 @@
 //! Reports of a verify, and their verdict. `report_on` reports each target, numbers the slices that aren't found, and
 //! computes the rank of the surviving recovery slices in them.
-ghost use Rattle.std.specs.Prelude.{◌≡◌, ◌≤◌, ◌<◌, ℕ, List, length, map, filter, not, slice_index, option_map, Ok, IfOk, if◌then◌else◌};
+ghost use Rattle.std.specs.Prelude.{◌≡◌, ◌≤◌, ◌<◌, ℕ, List, length, map, filter, not, slice_index, Ok, IfOk};
+ghost use Rattle.std.specs.BTreeMap.{get};
 ghost use Rattle.std.specs.BTreeSet.{contains};
+ghost use Rattle.std.specs.Cmp.Lexicographic.{slice_cmp};
 ghost use Rattle.std.specs.List.{list_all};
-ghost use Rattle.std.specs.Slice.Iter.{iter_rest};
+ghost use Rattle.std.specs.Option.{option_map_or};
+ghost use Rattle.std.specs.Ordering.{nat_cmp};
 ghost use Rattle.par2_spec.specs.Answers.{Lists};
 ghost use Rattle.par2_spec.specs.Folders as folders;
 ghost use Rattle.par2_spec.specs.Folders.{has};
 ghost use Rattle.par2_spec.specs.Rank as ranks;
 ghost use Rattle.par2_spec.specs.Reports.{Complete, is_complete, incomplete_state, verdict_of, report_in, IsVerdictIn};
 ghost use Rattle.par2_spec.specs.Search.{survivors};
-ghost use Rattle.par2_repair.specs.Findings.{TakesMatch, lost_from, pair_cmp, report_by, reports_by, said_of};
+ghost use Rattle.par2_repair.specs.Findings.{lost_from, pair_cmp, report_by, said_of};
 ghost use Rattle.par2_repair.specs.ReportViews.{state_view, target_report_of, report_view};
 
-use crate::matching::{Incomplete, Targets};
+use crate::matching::Matches;
 use crate::restored_slices::all_pairs;
 use par2_files::{Folder, Name};
 use par2_gf16::Gf;
@@ -23,7 +26,6 @@ use par2_solve::{rank, rank_by_runs};
 use par2_spec::{Result, Verdict};
 use std::alloc::Global;
 use std::collections::BTreeSet;
-use std::slice::Iter;
 
 /// The state of a target.
 #[derive(Drop)]
@@ -92,28 +94,17 @@ impl Report {
     }
 }
 
-// The match of a target, which is the next of the incomplete ones if `needs` says that it is incomplete. `TakesMatch`:
-// the iterator moves on only in this case.
-fn next_match<'n>(needs: bool, incomplete: &mut Iter<'n, Incomplete>) -> Option<&'n Name>
-    ensures { TakesMatch needs (iter_rest incomplete.old) result (iter_rest incomplete.new) }
-{
-    if !needs {
-        return None;
-    }
-    incomplete.next()?.found.as_ref()
-}
-
-// The state of a target. `needs` says whether it is incomplete, and `matched` is its match if it has one.
-fn state_of(folder: &Folder, target: &Target, needs: bool, matched: Option<&Name>) -> State
+// The state of a target. It is complete if it isn't in `matches`, which has the match of each incomplete one.
+fn state_of(folder: &Folder, target: &Target, matches: &Matches) -> State
     ensures { let is_there = has folder.now.files target.now.name in
-        let matched = option_map (λ name. name.now) matched.entry in
-        state_view result ≡ if needs then incomplete_state is_there matched else Complete }
+        let found = get (slice_cmp nat_cmp) matches.now target.now.name in
+        state_view result ≡ option_map_or (incomplete_state is_there) found Complete }
 {
-    match matched {
-        _ if !needs => State::Complete,
-        Some(name) => State::Misplaced(name.copied()),
-        None if folder.get(target.name()).is_some() => State::Damaged,
-        None => State::Missing,
+    match matches.get(target.name()) {
+        None => State::Complete,
+        Some(Some(name)) => State::Misplaced(name.copied()),
+        Some(None) if folder.get(target.name()).is_some() => State::Damaged,
+        Some(None) => State::Missing,
     }
 }
 
@@ -124,22 +115,19 @@ fn count_found(pairs: &[Pair], lost: &BTreeSet<Pair>) -> usize
     pairs.iter().filter(|pair| !lost.contains(*pair)).count()
 }
 
-// The report on a target: `needs` says whether it is incomplete, `matched` is its match if it has one, and `lost` has the
-// checksums of the lost slices.
+// The report on a target. `lost` has the checksums of the lost slices.
 fn target_report(
     folder: &Folder,
     target: &Target,
-    needs: bool,
-    matched: Option<&Name>,
+    matches: &Matches,
     lost: &BTreeSet<Pair>,
 ) -> TargetReport
-    ensures { let matched = option_map (λ name. name.now) matched.entry in
-        let is_lost = contains pair_cmp lost.now in
-        target_report_of result ≡ said_of folder.now.files (target.now, needs) matched is_lost }
+    ensures { let said = said_of folder.now.files matches.now (contains pair_cmp lost.now) in
+        target_report_of result ≡ said target.now }
 {
     TargetReport {
         name: target.name().copied(),
-        state: state_of(folder, target, needs, matched),
+        state: state_of(folder, target, matches),
         found: count_found(target.pairs(), lost),
         total: target.pairs().len(),
     }
@@ -150,20 +138,16 @@ fn target_reports(
     alloc: Global,
     folder: &Folder,
     targets: &[Target],
-    matches: &Targets,
+    matches: &Matches,
     lost: &BTreeSet<Pair>,
 ) -> Result<Vec<TargetReport>>
-    ensures { let is_lost = contains pair_cmp lost.now in
-        let reports = reports_by folder.now.files targets.now matches.now is_lost in
-        IfOk result (λ list. map target_report_of list.items ≡ reports) }
+    ensures { let said = said_of folder.now.files matches.now (contains pair_cmp lost.now) in
+        IfOk result (λ list. map target_report_of list.items ≡ map said targets.now) }
 {
-    let mut reports = Vec::with_capacity(alloc, targets.len())?;
-    let mut incomplete = matches.incomplete.iter();
-    for (target, needs) in targets.iter().zip(&matches.needs) {
-        let matched = next_match(*needs, &mut incomplete);
-        reports.push(target_report(folder, target, *needs, matched, lost))?;
-    }
-    Ok(reports)
+    let reports = targets
+        .iter()
+        .map(|target| target_report(folder, target, matches, lost));
+    reports.collect(alloc)
 }
 
 // The numbers of the lost slices, increasing. They count the slices of the set, which have these checksums, from 0.
@@ -205,7 +189,7 @@ pub(crate) fn report_on(
     alloc: Global,
     folder: &Folder,
     set: &ParSet,
-    matches: &Targets,
+    matches: &Matches,
     lost: &BTreeSet<Pair>,
 ) -> Result<Report>
     ensures { let is_lost = contains pair_cmp lost.now in

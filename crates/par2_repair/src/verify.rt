@@ -9,7 +9,7 @@ ghost use Rattle.par2_repair.specs.ReportViews.{report_view};
 use crate::Report;
 use crate::candidates::candidates;
 use crate::finding::lost_pairs;
-use crate::matching::matches;
+use crate::matching::{matches, matches_by_name};
 use crate::moves::unmatched;
 use crate::reading::read;
 use crate::report::report_on;
@@ -27,9 +27,10 @@ fn report_of(alloc: Global, folder: &Folder, set: &ParSet, extras: &[Name]) -> R
         IfOk result (λ report. answer ≡ Ok (report_view report)) }
 {
     let candidates = candidates(alloc, folder, set, extras)?;
-    let matches = matches(alloc, folder, set, &candidates)?;
-    let unmatched = unmatched(alloc, &matches.incomplete)?;
+    let incomplete = matches(alloc, folder, set, &candidates)?;
+    let unmatched = unmatched(alloc, &incomplete)?;
     let lost = lost_pairs(alloc, folder, set, &unmatched, &candidates)?;
+    let matches = matches_by_name(alloc, &incomplete)?;
     report_on(alloc, folder, set, &matches, &lost)
 }
 
