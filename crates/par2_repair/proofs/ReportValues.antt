@@ -1,73 +1,101 @@
 -- A report by what is found is that of the definitions.
-use Rattle.par2_repair.proofs.Common.{◌≡◌, ◌⊎◌, inl, inr, ◌<◌, ◌≤◌, ℕ, arith, ◌+◌, List, [], ◌∷◌, length, map, take, drop, refl, sym, ap, ap₂, ◌∙◌, Bool, true, false, not, cond, Option, is_none, is_some, filter, flat_map, zip, option_map, None, Some, slice_index_or, enumerate_from, AllByRecursion, length-map, filter-map, Fault, Pair, found, rank, Folder, bytes_of, has, ParSet, Target, all_pairs, is_incomplete, matches, lost, survivors, candidates, known, set_in, Complete, State, Report, TargetReport, incomplete_state, report_of_target, report_of, report_in, states_by, set_in_reads, sound_of, present_searched, size_positive, sized_from_counted, targets_found, AreFindings, TakesMatch, is_sought, lost_by, report_by, reports_by, said_by, said_of, Ok, Err}
+use Rattle.par2_repair.proofs.Common.{◌≡◌, ◌<◌, ◌≤◌, ℕ, suc, arith, ◌+◌, ◌||◌, List, [], ◌∷◌, length, map, refl, sym, ap, ap₂, ◌∙◌, Bool, true, false, not, cond, false_from_ne_true, Option, is_none, is_some, filter, option_map, option_and_then, None, Some, enumerate_from, list_any, AllByRecursion, length-map, bytes_eq, subst, IsDistinct, is_among, eq_by_cmp, slice_cmp, nat_cmp, BTreeMap, AreDistinct, among_some, clash, distinct_from_std, std_from_distinct, itself, same_either_way, Fault, Pair, found, rank, Folder, bytes_of, has, ParSet, Target, all_pairs, is_incomplete, matches, lost, survivors, candidates, known, set_in, Complete, Report, TargetReport, incomplete_state, report_of_target, report_of, report_in, set_in_reads, sound_of, present_searched, size_positive, sized_from_counted, targets_found, HoldsMatches, is_sought, lost_from, pair_cmp, pairs_sought, report_by, said_of, Ok, Err}
+use Rattle.std.proofs.lemmas.Bool.{or_parts}
+use Rattle.std.specs.BTreeMap.{get}
+use Rattle.std.specs.Option.{option_map_or}
+use Rattle.std.specs.Prelude.{find}
 use Rattle.par2_spec.specs.Reports.{state_of}
-use Rattle.std.specs.Borrow.{Bor}
-use Rattle.par2_spec.proofs.ReportLaws.{by_target, states_follow}
-use Rattle.par2_repair.specs.declared.finding.Findings.{Findings}
-use Rattle.par2_repair.proofs.FoundSlices.{answers, counted, joined, seam, reported}
-use Rattle.par2_repair.proofs.SliceLists.{heads}
+use Rattle.par2_spec.proofs.ListsLaws.{all-both, all-flat_map}
+use Rattle.par2_spec.proofs.RankLaws.{all_weaker}
+use Rattle.par2_spec.proofs.ReportLaws.{by_target}
+use Rattle.par2_spec.proofs.NamesLaws.{distinct_some}
+use Rattle.par2_repair.proofs.FoundSlices.{lost_exactly}
+use Rattle.par2_repair.proofs.RepairParts.{names_in_pairs}
 
 -- ---- numbers
 
-numbered : (n : ℕ) (slices : List (Option (List ℕ))) → map (λ z. z.0) (filter (λ z. not z.1) (enumerate_from n (map (λ slice. is_some slice) slices))) ≡ map (λ z. z.0) (filter (λ z. is_none z.1) (enumerate_from n slices))
-numbered n [] = refl
-numbered n (None ∷ slices) = ap (λ ns. n ∷ ns) (numbered (n + 1) slices)
-numbered n (Some slice ∷ slices) = numbered (n + 1) slices
-
 -- numbers from n on are less than the end
-pub lost_below : (n m : ℕ) (flags : List Bool) → n + length flags ≤ m → AllByRecursion (λ i. i < m) (map (λ z. z.0) (filter (λ z. not z.1) (enumerate_from n flags)))
-lost_below n m [] h = tt
-lost_below n m (true ∷ flags) h = lost_below (n + 1) m flags (omega (arith, h))
-lost_below n m (false ∷ flags) h = (omega (arith, h), lost_below (n + 1) m flags (omega (arith, h)))
+pub lost_below : (is_lost : Pair → Bool) (n m : ℕ) (pairs : List Pair) → n + length pairs ≤ m → AllByRecursion (λ i. i < m) (lost_from n is_lost pairs)
+lost_below is_lost n m [] h = tt
+lost_below is_lost n m (pair ∷ pairs) h = step (is_lost pair) (lost_below is_lost (n + 1) m pairs (omega (arith, h)))
+  where
+    step : (b : Bool) → AllByRecursion (λ i. i < m) (lost_from (n + 1) is_lost pairs) → AllByRecursion (λ i. i < m) (map (λ z. z.0) (cond b ((n, pair) ∷ filter (λ z. is_lost z.1) (enumerate_from (n + 1) pairs)) (filter (λ z. is_lost z.1) (enumerate_from (n + 1) pairs))))
+    step true k = (omega (arith, h), k)
+    step false k = k
+
+-- exactly the slices that aren't found are lost
+abbrev AreLost : (Pair → Option (List ℕ)) → (Pair → Bool) → List Pair → Type 0
+AreLost f is_lost pairs = AllByRecursion (λ pair. is_lost pair ≡ is_none (f pair)) pairs
+
+numbered : (f : Pair → Option (List ℕ)) (is_lost : Pair → Bool) (n : ℕ) (pairs : List Pair) → AreLost f is_lost pairs → lost_from n is_lost pairs ≡ map (λ z. z.0) (filter (λ z. is_none z.1) (enumerate_from n (map f pairs)))
+numbered f is_lost n [] h = refl
+numbered f is_lost n (pair ∷ pairs) h = step (is_lost pair) (is_none (f pair)) h.0 _ _ (numbered f is_lost (n + 1) pairs h.1)
+  where
+    step : (a b : Bool) → a ≡ b → (xs : List (ℕ × Pair)) (ys : List (ℕ × Option (List ℕ))) → map (λ z. z.0) xs ≡ map (λ z. z.0) ys → map (λ z. z.0) (cond a ((n, pair) ∷ xs) xs) ≡ map (λ z. z.0) (cond b ((n, f pair) ∷ ys) ys)
+    step true true e xs ys h = ap (λ ns. n ∷ ns) h
+    step true false e xs ys h = absurd (let no : ⊥ = cc in no)
+    step false true e xs ys h = absurd (let no : ⊥ = cc in no)
+    step false false e xs ys h = h
+
+found_count : (f : Pair → Option (List ℕ)) (is_lost : Pair → Bool) (pairs : List Pair) → AreLost f is_lost pairs → length (filter (λ pair. not (is_lost pair)) pairs) ≡ length (filter (λ slice. is_some slice) (map f pairs))
+found_count f is_lost [] h = refl
+found_count f is_lost (pair ∷ pairs) h = step (is_lost pair) (f pair) h.0 _ _ (found_count f is_lost pairs h.1)
+  where
+    step : (b : Bool) (o : Option (List ℕ)) → b ≡ is_none o → (xs : List Pair) (ys : List (Option (List ℕ))) → length xs ≡ length ys → length (cond (not b) (pair ∷ xs) xs) ≡ length (cond (is_some o) (o ∷ ys) ys)
+    step true None e xs ys h = h
+    step true (Some slice) e xs ys h = absurd (let no : ⊥ = cc in no)
+    step false None e xs ys h = absurd (let no : ⊥ = cc in no)
+    step false (Some slice) e xs ys h = ap suc h
 
 -- ---- target by target
 
-abbrev said : List ℕ → State → ℕ → ℕ → TargetReport
-said name state found total = record { name = name; state = state; found = found; total = total }
+found_there : (ms : List (Target × Option (List ℕ))) (q : List ℕ) → is_some (find (λ m. bytes_eq m.0.name q) ms) ≡ is_among (map (λ m. m.0.name) ms) q
+found_there [] q = refl
+found_there (m ∷ ms) q = grind (arith, same_either_way m.0.name q, found_there ms q)
 
--- the report on a target and on those after it, with the target's match
-pub said_more : (folder : Folder) (z : Target × Bool) (zs : List (Target × Bool)) (incomplete later : List (Target × Option (List ℕ))) (given : Option (Bor (List ℕ))) (flags : List Bool) → TakesMatch z.1 incomplete given later
-    → said_of folder z (option_map (λ name. name.now) given) (take (length z.0.pairs) flags) ∷ said_by folder zs (map (λ m. m.1) later) (drop (length z.0.pairs) flags) ≡ said_by folder (z ∷ zs) (map (λ m. m.1) incomplete) flags
-said_more folder (t, true) zs incomplete later given flags h =
-    ap₂ (λ (o : Option (List ℕ)) (os : List (Option (List ℕ))). said_of folder (t, true) o (take (length t.pairs) flags) ∷ said_by folder zs os (drop (length t.pairs) flags)) h.0 h.1
-said_more folder (t, false) zs incomplete later given flags h =
-    ap (λ (ms : List (Target × Option (List ℕ))). said_of folder (t, false) None (take (length t.pairs) flags) ∷ said_by folder zs (map (λ m. m.1) ms) (drop (length t.pairs) flags)) h
+others : (ts : List Target) (name : List ℕ) → is_among (map (λ t. t.name) ts) name ≡ false → AllByRecursion (λ t. bytes_eq t.name name ≡ false) ts
+others [] name h = tt
+others (t ∷ ts) name h = let r = or_parts (bytes_eq name t.name) _ h in (same_either_way t.name name ∙ r.0, others ts name r.1)
 
--- no report is left
-pub said_end : (folder : Folder) (ts : List Target) (flags : List Bool) (given : List (Option (List ℕ))) (found : List Bool) → (ts ≡ []) ⊎ (flags ≡ []) → said_by folder (zip ts flags) given found ≡ []
-said_end folder ts flags given found (inl e) = ap (λ (us : List Target). said_by folder (zip us flags) given found) e
-said_end folder [] flags given found (inr e) = refl
-said_end folder (t ∷ ts) flags given found (inr e) = ap (λ (bs : List Bool). said_by folder (zip (t ∷ ts) bs) given found) e
-
-said_so : (folder : Folder) (set : ParSet) (searched : List (List ℕ)) (f : Pair → Option (List ℕ)) (ts : List Target) (given : List (Option (List ℕ)))
-    → map (state_of folder set searched) ts ≡ states_by (is_incomplete folder set) (λ t. has folder t.name) ts given
-    → said_by folder (zip ts (map (is_incomplete folder set) ts)) given (answers f (flat_map (λ t. t.pairs) ts)) ≡ map (λ t. report_of_target folder set searched (t, map f t.pairs)) ts
-unfolding report_of_target
-said_so folder set searched f [] given e = refl
-said_so folder set searched f (t ∷ ts) given e =
-    let rest : List Pair = flat_map (λ (u : Target). u.pairs) ts in
-    let n = length t.pairs in
-    let parts = seam (answers f t.pairs) (answers f rest) n (counted f t.pairs) in
-    let states = by (is_incomplete folder set t) e in
-    let next = cond (is_incomplete folder set t) (drop 1 given) given in
-    ap (λ flags. said_by folder ((t, is_incomplete folder set t) ∷ zip ts (map (is_incomplete folder set) ts)) given flags) (joined f t.pairs rest)
-    ∙ ap₂ (λ own others. said_of folder (t, is_incomplete folder set t) (slice_index_or given 0 None) own ∷ said_by folder (zip ts (map (is_incomplete folder set) ts)) next others) parts.0 parts.1
-    ∙ ap₂ (λ (x : TargetReport) (xs : List TargetReport). x ∷ xs)
-    (ap₂ (λ state count. said t.name state count n) (sym states.0)
-    (ap length (filter-map (λ b. b) (λ slice. is_some slice) (map f t.pairs)) ∙ length-map (filter (λ slice. is_some slice) (map f t.pairs)) (λ slice. is_some slice))
-    ∙ ap (λ total. said t.name (state_of folder set searched t) (length (filter (λ slice. is_some slice) (map f t.pairs))) total) (sym (length-map t.pairs f)))
-    (said_so folder set searched f ts next states.1)
+-- the name of a target is among those that pass a test exactly if the target passes
+passing : (p : Target → Bool) (ts : List Target) → AreDistinct (map (λ t. t.name) ts) → AllByRecursion (λ t. is_among (map (λ u. u.name) (filter p ts)) t.name ≡ p t) ts
+passing p [] d = tt
+passing p (t ∷ ts) d = (first (p t), all-both _ _ _ (λ u out is. later (p t) u out ∙ is) ts (others ts t.name d.0) (passing p ts d.1))
   where
-    there : Target → Bool
-    there u = has folder u.name
+    rest : List Target
+    rest = filter p ts
 
-    by : (b : Bool)
-        → state_of folder set searched t ∷ map (state_of folder set searched) ts
-        ≡ cond b (incomplete_state (there t) (slice_index_or given 0 None) ∷ states_by (is_incomplete folder set) there ts (drop 1 given)) (Complete ∷ states_by (is_incomplete folder set) there ts given)
-        → (state_of folder set searched t ≡ cond b (incomplete_state (there t) (slice_index_or given 0 None)) Complete)
-        × (map (state_of folder set searched) ts ≡ states_by (is_incomplete folder set) there ts (cond b (drop 1 given) given))
-    by true e = heads _ _ _ _ e
-    by false e = heads _ _ _ _ e
+    first : (b : Bool) → is_among (map (λ u. u.name) (cond b (t ∷ rest) rest)) t.name ≡ b
+    first true = ap (λ b. b || is_among (map (λ u. u.name) rest) t.name) (itself t.name)
+    first false = false_from_ne_true _ (λ h. clash (among_some (λ u. u.name) p ts t.name h) d.0)
+
+    later : (b : Bool) (u : Target) → bytes_eq u.name t.name ≡ false → is_among (map (λ v. v.name) (cond b (t ∷ rest) rest)) u.name ≡ is_among (map (λ v. v.name) rest) u.name
+    later true u out = ap (λ b. b || is_among (map (λ v. v.name) rest) u.name) out
+    later false u out = refl
+
+state_is : (there : Bool) (o : Option (Target × Option (List ℕ))) (b : Bool) → is_some o ≡ b → option_map_or (incomplete_state there) (option_map (λ m. m.1) o) Complete ≡ cond b (incomplete_state there (option_and_then (λ m. m.1) o)) Complete
+state_is there None true e = absurd (let no : ⊥ = cc in no)
+state_is there None false e = refl
+state_is there (Some m) true e = refl
+state_is there (Some m) false e = absurd (let no : ⊥ = cc in no)
+
+module _ (folder : Folder) (set : ParSet) (searched : List (List ℕ)) (tree : BTreeMap (List ℕ) (Option (List ℕ))) (held : HoldsMatches (matches folder set searched) tree) where
+  states : AreDistinct (map (λ t. t.name) set.targets) → AllByRecursion (λ t. option_map_or (incomplete_state (has folder t.name)) (get (slice_cmp nat_cmp) tree t.name) Complete ≡ state_of folder set searched t) set.targets
+  unfolding state_of
+  states d = all_weaker _ _ (λ t is.
+      ap (λ o. option_map_or (incomplete_state (has folder t.name)) o Complete) (held t.name)
+      ∙ state_is (has folder t.name) (find (λ m. bytes_eq m.0.name t.name) (matches folder set searched)) (is_incomplete folder set t)
+      (found_there (matches folder set searched) t.name ∙ ap (λ ns. is_among ns t.name) (sym (names_in_pairs folder set searched)) ∙ is))
+      set.targets (passing (is_incomplete folder set) set.targets d)
+
+  said_so : (f : Pair → Option (List ℕ)) (is_lost : Pair → Bool) (ts : List Target) → AllByRecursion (λ t. option_map_or (incomplete_state (has folder t.name)) (get (slice_cmp nat_cmp) tree t.name) Complete ≡ state_of folder set searched t) ts
+      → AllByRecursion (λ t. AreLost f is_lost t.pairs) ts → map (said_of folder tree is_lost) ts ≡ map (λ t. report_of_target folder set searched (t, map f t.pairs)) ts
+  unfolding report_of_target
+  said_so f is_lost [] states lost = refl
+  said_so f is_lost (t ∷ ts) states lost =
+      ap₂ (λ (x : TargetReport) (xs : List TargetReport). x ∷ xs)
+      (let found = found_count f is_lost t.pairs lost.0 in let total : length t.pairs ≡ length (map f t.pairs) = sym (length-map t.pairs f) in let state = states.0 in cc)
+      (said_so f is_lost ts states.1 lost.1)
 
 module _ (folder : Folder) (base : List ℕ) (extras : List (List ℕ)) where
   pub refused_in : (fault : Fault) → set_in folder base extras ≡ Err fault → report_in folder base extras ≡ Err fault
@@ -82,31 +110,31 @@ module _ (folder : Folder) (base : List ℕ) (extras : List (List ℕ)) where
     unfolding report_in
     accepted_in = rw reads refl
 
-    module _ (findings : Findings) (are : AreFindings folder set names findings) where
-      found_so : findings.found.items ≡ map (λ slice. is_some slice) (known folder set names)
-      unfolding known
-      found_so =
-          let read = (set_in_reads folder base extras set reads).0 in
-          let sound = sound_of folder base set read in
-          are.found ∙ reported (found set.slice_size (map (bytes_of folder) names)) (is_sought folder set names) set.targets
-          (targets_found folder set names (size_positive set.slice_size sound.size) (sized_from_counted set.slice_size set.targets sound.pairs) (present_searched folder set extras))
+    -- the names of the incomplete targets are distinct
+    pub once : IsDistinct bytes_eq (map (λ m. m.0.name) (matches folder set names))
+    once =
+        let sound = sound_of folder base set (set_in_reads folder base extras set reads).0 in
+        subst (IsDistinct bytes_eq) (names_in_pairs folder set names) (std_from_distinct _ (distinct_some (λ (t : Target). t.name) (is_incomplete folder set) set.targets (distinct_from_std _ sound.names_once)))
 
-      pub few_found : length findings.found.items ≤ 32768
-      unfolding known
-      few_found =
-          let few = (sound_of folder base set (set_in_reads folder base extras set reads).0).slices in
-          let count : length findings.found.items ≡ length (all_pairs set) = ap length found_so ∙ counted (found set.slice_size (map (bytes_of folder) names)) (all_pairs set) in
-          omega (arith, few, count)
+    abbrev finder : Pair → Option (List ℕ)
+    finder = found set.slice_size (map (bytes_of folder) names)
 
-      pub answered : report_in folder base extras ≡ Ok (report_by folder set findings)
+    -- the report by the matches, and by the lost slices among those that are searched for
+    module _ (tree : BTreeMap (List ℕ) (Option (List ℕ))) (is_lost : Pair → Bool) (held : HoldsMatches (matches folder set names) tree)
+        (lost_are : (pair : Pair) → is_lost pair ≡ list_any (eq_by_cmp pair_cmp pair) (filter (λ p. is_none (finder p)) (pairs_sought (is_sought folder set names) set.targets))) where
+      are_lost : AllByRecursion (λ t. AreLost finder is_lost t.pairs) set.targets
+      are_lost =
+          let sound = sound_of folder base set (set_in_reads folder base extras set reads).0 in
+          all_weaker _ _ (λ t h. all_weaker _ _ (λ pair e. lost_are pair ∙ e) t.pairs h) set.targets
+          (lost_exactly finder (is_sought folder set names) (pairs_sought (is_sought folder set names) set.targets) set.targets (λ pair h. h)
+          (targets_found folder set names (size_positive set.slice_size sound.size) (sized_from_counted set.slice_size set.targets sound.pairs) (present_searched folder set extras)))
+
+      pub answered : report_in folder base extras ≡ Ok (report_by folder set tree is_lost)
       unfolding report_of known
       answered =
           let sound = sound_of folder base set (set_in_reads folder base extras set reads).0 in
-          let f = found set.slice_size (map (bytes_of folder) names) in
-          let targets : reports_by folder set.targets findings ≡ (report_of folder set names).targets =
-          ap (λ (flags : List Bool). said_by folder (zip set.targets flags) (map (λ (m : Target × Option (List ℕ)). m.1) findings.targets.incomplete.items) findings.found.items) are.needs
-          ∙ ap₂ (λ (ms : List (Target × Option (List ℕ))) (flags : List Bool). said_by folder (zip set.targets (map (is_incomplete folder set) set.targets)) (map (λ m. m.1) ms) flags) are.incomplete found_so
-          ∙ said_so folder set names f set.targets (map (λ (m : Target × Option (List ℕ)). m.1) (matches folder set names)) (states_follow folder set names sound) ∙ sym (by_target folder set names) in
-          let missing : lost_by findings.found.items ≡ lost (known folder set names) = ap lost_by found_so ∙ numbered 0 (known folder set names) in
+          let said : map (said_of folder tree is_lost) set.targets ≡ (report_of folder set names).targets =
+          said_so folder set names tree held finder is_lost set.targets (states folder set names tree held (distinct_from_std _ sound.names_once)) are_lost ∙ sym (by_target folder set names) in
+          let missing : lost_from 0 is_lost (all_pairs set) ≡ lost (known folder set names) = numbered finder is_lost 0 (all_pairs set) (all-flat_map _ _ (λ (t : Target). t.pairs) (λ t h. h) set.targets are_lost) in
           accepted_in ∙ ap Ok (sym (ap₂ (λ (reports : List TargetReport) (numbers : List ℕ).
-          let r : Report = record { set_id = set.id; targets = reports; lost = length numbers; rank = rank numbers (survivors set) } in r) targets missing))
+          let r : Report = record { set_id = set.id; targets = reports; lost = length numbers; rank = rank numbers (survivors set) } in r) said missing))

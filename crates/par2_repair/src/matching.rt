@@ -1,5 +1,5 @@
-//! Which targets of a set are incomplete, and which candidates (targets in the folder, then extra files) are intact for
-//! them: their matches. `matches` divides the targets, leaves out the names of intact ones, and matches the others with the
+//! The incomplete targets of a set, and which candidates (targets in the folder, then extra files) are intact for them:
+//! their matches. `matches` divides the targets, leaves out the names of intact ones, and matches the others with the
 //! files of the remaining names.
 ghost use Rattle.std.specs.Prelude.{◌≡◌, ℕ, List, not, map, filter, IfOk, option_and_then, slice_get, zip};
 ghost use Rattle.std.specs.List.{IsDistinct};
@@ -10,13 +10,14 @@ ghost use Rattle.par2_spec.specs.Answers.{Lists};
 ghost use Rattle.par2_spec.specs.Folders.{bytes_of};
 ghost use Rattle.par2_spec.specs.Names.{is_among};
 ghost use Rattle.par2_spec.specs.NameTrees.{HoldsNames};
+ghost use Rattle.par2_repair.specs.Findings.{HoldsMatches};
 
 use par2_files::{Folder, Name};
 use par2_sets::{ParSet, Target};
 use par2_slices::{is_intact, matched, matches_by_number_are_by_name};
 use par2_spec::Result;
 use std::alloc::Global;
-use std::collections::BTreeSet;
+use std::collections::{BTreeMap, BTreeSet};
 use std::marker::Model;
 
 /// A target whose file is absent or not intact. A file is intact for a target if it has its length and its slices'
@@ -28,6 +29,9 @@ pub struct Incomplete<'s> {
     pub found: Option<Name>,
 }
 
+/// The match of each incomplete target, if it has one, by the target's name.
+pub type Matches = BTreeMap<Name, Option<Name>>;
+
 impl<'s> Model for Incomplete<'s> {
     ghost use Rattle.std.specs.Prelude.{List, ℕ, Option};
     ghost use Rattle.par2_spec.specs.Sets.{Target as Described};
@@ -35,15 +39,6 @@ impl<'s> Model for Incomplete<'s> {
     ghost Value = { Described × Option (List ℕ) };
 
     ghost view = { λ n. (n.target.now, n.found) };
-}
-
-/// The result of `matches`: which targets of a set are incomplete, and their matches.
-#[derive(Drop)]
-pub struct Targets<'s> {
-    /// Whether each target is incomplete, in target order.
-    pub needs: Vec<bool>,
-    /// The incomplete ones, in target order.
-    pub incomplete: Vec<Incomplete<'s>>,
 }
 
 /// Whether the file of the target's name is absent or doesn't have the target's length and slice checksums.
@@ -56,34 +51,27 @@ pub fn is_incomplete(folder: &Folder, set: &ParSet, target: &Target) -> bool
     }
 }
 
-// Whether each target of a set is incomplete, the incomplete ones in order, and a tree of the names of the others.
+// The incomplete targets of a set, in order, and a tree of the names of the others.
 fn parted<'s>(
     alloc: Global,
     folder: &Folder,
     set: &'s ParSet,
-) -> Result<(Vec<bool>, Vec<&'s Target>, BTreeSet<&'s Name>)>
-    ensures needs { let needs =
-        map (search.is_incomplete folder.now.files set.now) set.now.targets in
-        IfOk result (λ parted. parted.0.items ≡ needs) }
+) -> Result<(Vec<&'s Target>, BTreeSet<&'s Name>)>
     ensures incomplete { let incomplete = search.incomplete folder.now.files set.now in
-        IfOk result (λ parted. map (λ t. t.now) parted.1.items ≡ incomplete) }
+        IfOk result (λ parted. map (λ t. t.now) parted.0.items ≡ incomplete) }
     ensures intact { let intact = search.intact_names folder.now.files set.now in
-        IfOk result (λ parted. HoldsNames parted.2 intact) }
+        IfOk result (λ parted. HoldsNames parted.1 intact) }
 {
-    let targets = set.targets();
-    let mut needs = Vec::with_capacity(alloc, targets.len())?;
     let mut incomplete = Vec::new(alloc);
     let mut intact = BTreeSet::new(alloc);
-    for target in targets {
-        let is_incomplete = is_incomplete(folder, set, target);
-        needs.push(is_incomplete)?;
-        if is_incomplete {
+    for target in set.targets() {
+        if is_incomplete(folder, set, target) {
             incomplete.push(target)?;
         } else {
             intact.insert(target.name())?;
         }
     }
-    Ok((needs, incomplete, intact))
+    Ok((incomplete, intact))
 }
 
 // The candidates that aren't names of intact targets, in order. A file that is in its place is no match.
@@ -147,25 +135,32 @@ fn with_matches<'s>(
         .collect(alloc)
 }
 
-/// Which targets of a set are incomplete, and their matches. The match of an incomplete one is among the candidates
-/// that aren't names of intact targets. Candidates must be distinct, because a file is the match of one target at most.
+/// The incomplete targets of a set, in target order, with their matches, which are among the candidates that aren't
+/// names of intact targets. Candidates must be distinct, because a file is the match of one target at most.
 pub fn matches<'s>(
     alloc: Global,
     folder: &Folder,
     set: &'s ParSet,
     candidates: &'s [Name],
-) -> Result<Targets<'s>>
+) -> Result<Vec<Incomplete<'s>>>
     requires { IsDistinct bytes_eq candidates.now }
-    ensures needs { let needs =
-        map (search.is_incomplete folder.now.files set.now) set.now.targets in
-        IfOk result (λ targets. targets.needs.items ≡ needs) }
-    ensures incomplete { let matches = search.matches folder.now.files set.now candidates.now in
-        IfOk result (λ targets. targets.incomplete.items ≡ matches) }
+    ensures { Lists (search.matches folder.now.files set.now candidates.now) result }
 {
     // For the prover: matches by number are matches by name.
     matches_by_number_are_by_name();
-    let (needs, incomplete, intact) = parted(alloc, folder, set)?;
+    let (incomplete, intact) = parted(alloc, folder, set)?;
     let free = free_names(alloc, intact, candidates)?;
-    let incomplete = with_matches(alloc, folder, set, &free, &incomplete)?;
-    Ok(Targets { needs, incomplete })
+    with_matches(alloc, folder, set, &free, &incomplete)
+}
+
+/// The matches of incomplete targets, whose names are distinct, by these names.
+pub fn matches_by_name(alloc: Global, incomplete: &[Incomplete]) -> Result<Matches>
+    ensures { IsDistinct bytes_eq (map (λ m. m.0.name) incomplete.now)
+        → IfOk result (HoldsMatches incomplete.now) }
+{
+    let matches = incomplete.iter().map(|one| (
+        one.target.name().copied(),
+        one.found.as_ref().map(Name::copied),
+    ));
+    matches.collect(alloc)
 }

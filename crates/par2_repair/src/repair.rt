@@ -132,15 +132,8 @@ pub fn draft_repair(
     let reading = read(alloc, folder, base, extras)?;
     let set = &reading.set;
     let candidates = candidates(alloc, folder, set, &reading.extras)?;
-    let targets = matches(alloc, folder, set, &candidates)?;
-    draft_with(
-        alloc,
-        folder,
-        &reading,
-        &candidates,
-        &targets.incomplete,
-        purge,
-    )
+    let incomplete = matches(alloc, folder, set, &candidates)?;
+    draft_with(alloc, folder, &reading, &candidates, &incomplete, purge)
 }
 
 // `plan_repair` without the clauses that follow from laws: it drafts the repair, computes the MD5s of the written files

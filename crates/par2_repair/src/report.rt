@@ -1,26 +1,31 @@
 //! Reports of a verify, and their verdict. `report_on` reports each target, numbers the slices that aren't found, and
 //! computes the rank of the surviving recovery slices in them.
-ghost use Rattle.std.specs.Prelude.{◌≡◌, ◌≤◌, ◌<◌, ℕ, List, length, map, filter, slice_index, option_map, Ok, IfOk, if◌then◌else◌};
+ghost use Rattle.std.specs.Prelude.{◌≡◌, ◌≤◌, ◌<◌, ℕ, List, length, map, filter, not, slice_index, Ok, IfOk};
+ghost use Rattle.std.specs.BTreeMap.{get};
+ghost use Rattle.std.specs.BTreeSet.{contains};
+ghost use Rattle.std.specs.Cmp.Lexicographic.{slice_cmp};
 ghost use Rattle.std.specs.List.{list_all};
-ghost use Rattle.std.specs.Slice.Iter.{iter_rest};
+ghost use Rattle.std.specs.Option.{option_map_or};
+ghost use Rattle.std.specs.Ordering.{nat_cmp};
 ghost use Rattle.par2_spec.specs.Answers.{Lists};
 ghost use Rattle.par2_spec.specs.Folders as folders;
 ghost use Rattle.par2_spec.specs.Folders.{has};
 ghost use Rattle.par2_spec.specs.Rank as ranks;
 ghost use Rattle.par2_spec.specs.Reports.{Complete, is_complete, incomplete_state, verdict_of, report_in, IsVerdictIn};
 ghost use Rattle.par2_spec.specs.Search.{survivors};
-ghost use Rattle.par2_repair.specs.Findings.{TakesMatch, lost_by, report_by, reports_by, said_of};
+ghost use Rattle.par2_repair.specs.Findings.{lost_from, pair_cmp, report_by, said_of};
 ghost use Rattle.par2_repair.specs.ReportViews.{state_view, target_report_of, report_view};
 
-use crate::finding::{Findings, split_at_most};
-use crate::matching::Incomplete;
+use crate::matching::Matches;
+use crate::restored_slices::all_pairs;
 use par2_files::{Folder, Name};
 use par2_gf16::Gf;
 use par2_sets::{ParSet, Target};
+use par2_slices::Pair;
 use par2_solve::{rank, rank_by_runs};
 use par2_spec::{Result, Verdict};
 use std::alloc::Global;
-use std::slice::Iter;
+use std::collections::BTreeSet;
 
 /// The state of a target.
 #[derive(Drop)]
@@ -89,93 +94,74 @@ impl Report {
     }
 }
 
-// The match of a target, which is the next of the incomplete ones if `needs` says that it is incomplete. `TakesMatch`:
-// the iterator moves on only in this case.
-fn next_match<'n>(needs: bool, incomplete: &mut Iter<'n, Incomplete>) -> Option<&'n Name>
-    ensures { TakesMatch needs (iter_rest incomplete.old) result (iter_rest incomplete.new) }
-{
-    if !needs {
-        return None;
-    }
-    incomplete.next()?.found.as_ref()
-}
-
-// The state of a target. `needs` says whether it is incomplete, and `matched` is its match if it has one.
-fn state_of(folder: &Folder, target: &Target, needs: bool, matched: Option<&Name>) -> State
+// The state of a target. It is complete if it isn't in `matches`, which has the match of each incomplete one.
+fn state_of(folder: &Folder, target: &Target, matches: &Matches) -> State
     ensures { let is_there = has folder.now.files target.now.name in
-        let matched = option_map (λ name. name.now) matched.entry in
-        state_view result ≡ if needs then incomplete_state is_there matched else Complete }
+        let found = get (slice_cmp nat_cmp) matches.now target.now.name in
+        state_view result ≡ option_map_or (incomplete_state is_there) found Complete }
 {
-    match matched {
-        _ if !needs => State::Complete,
-        Some(name) => State::Misplaced(name.copied()),
-        None if folder.get(target.name()).is_some() => State::Damaged,
-        None => State::Missing,
+    match matches.get(target.name()) {
+        None => State::Complete,
+        Some(Some(name)) => State::Misplaced(name.copied()),
+        Some(None) if folder.get(target.name()).is_some() => State::Damaged,
+        Some(None) => State::Missing,
     }
 }
 
-// How many of these slices, those of one target, are found.
-fn count_found(found: &[bool]) -> usize
-    ensures { result ≡ length (filter (λ b. b) found.now) }
+// How many of the slices with these checksums are found.
+fn count_found(pairs: &[Pair], lost: &BTreeSet<Pair>) -> usize
+    ensures { result ≡ length (filter (λ pair. not (contains pair_cmp lost.now pair)) pairs.now) }
 {
-    found.iter().filter(|found| **found).count()
+    pairs.iter().filter(|pair| !lost.contains(*pair)).count()
 }
 
-// The report on a target: `needs` says whether it is incomplete, `matched` is its match if it has one, and `found` says
-// whether each of its own slices is found.
+// The report on a target. `lost` has the checksums of the lost slices.
 fn target_report(
     folder: &Folder,
     target: &Target,
-    needs: bool,
-    matched: Option<&Name>,
-    found: &[bool],
+    matches: &Matches,
+    lost: &BTreeSet<Pair>,
 ) -> TargetReport
-    ensures { let matched = option_map (λ name. name.now) matched.entry in
-        target_report_of result ≡ said_of folder.now.files (target.now, needs) matched found.now }
+    ensures { let said = said_of folder.now.files matches.now (contains pair_cmp lost.now) in
+        target_report_of result ≡ said target.now }
 {
     TargetReport {
         name: target.name().copied(),
-        state: state_of(folder, target, needs, matched),
-        found: count_found(found),
+        state: state_of(folder, target, matches),
+        found: count_found(target.pairs(), lost),
         total: target.pairs().len(),
     }
 }
 
-// The report on each target, in order. `findings` has the matches of the incomplete targets and whether each slice of
-// all targets is found, in the same order.
+// The report on each target, in order.
 fn target_reports(
     alloc: Global,
     folder: &Folder,
     targets: &[Target],
-    findings: &Findings,
+    matches: &Matches,
+    lost: &BTreeSet<Pair>,
 ) -> Result<Vec<TargetReport>>
-    ensures { let reports = reports_by folder.now.files targets.now findings.now in
-        IfOk result (λ list. map target_report_of list.items ≡ reports) }
+    ensures { let said = said_of folder.now.files matches.now (contains pair_cmp lost.now) in
+        IfOk result (λ list. map target_report_of list.items ≡ map said targets.now) }
 {
-    let mut reports = Vec::with_capacity(alloc, targets.len())?;
-    let mut incomplete = findings.targets.incomplete.iter();
-    let mut found = findings.found.as_slice();
-    for (target, needs) in targets.iter().zip(&findings.targets.needs) {
-        let (own, others) = split_at_most(found, target.pairs().len());
-        found = others;
-        let matched = next_match(*needs, &mut incomplete);
-        reports.push(target_report(folder, target, *needs, matched, own))?;
-    }
-    Ok(reports)
+    let reports = targets
+        .iter()
+        .map(|target| target_report(folder, target, matches, lost));
+    reports.collect(alloc)
 }
 
-// The numbers of the slices that aren't found, increasing. They count the slices of the set from 0.
-fn lost_slices(alloc: Global, found: &[bool]) -> Result<Vec<u32>>
-    requires { length found.now ≤ 32768 }
-    ensures { Lists (lost_by found.now) result }
+// The numbers of the lost slices, increasing. They count the slices of the set, which have these checksums, from 0.
+fn lost_numbers(alloc: Global, pairs: &[Pair], lost: &BTreeSet<Pair>) -> Result<Vec<u32>>
+    requires { length pairs.now ≤ 32768 }
+    ensures { Lists (lost_from 0 (contains pair_cmp lost.now) pairs.now) result }
 {
-    let mut lost = Vec::new(alloc);
-    for i in 0..found.len() {
-        if !found[i] {
-            lost.push(i as u32)?;
+    let mut numbers = Vec::new(alloc);
+    for i in 0..pairs.len() {
+        if lost.contains(&pairs[i]) {
+            numbers.push(i as u32)?;
         }
     }
-    Ok(lost)
+    Ok(numbers)
 }
 
 // The exponents of recovery slices, which are all that their rank depends on.
@@ -198,19 +184,21 @@ fn rank_of(alloc: Global, set: &ParSet, lost: &[u32]) -> Result<usize>
     }
 }
 
-// The report on a set with these findings. Memory is its only error.
+// The report on a set with these matches and lost slices. Memory is its only error.
 pub(crate) fn report_on(
     alloc: Global,
     folder: &Folder,
     set: &ParSet,
-    findings: &Findings,
+    matches: &Matches,
+    lost: &BTreeSet<Pair>,
 ) -> Result<Report>
-    requires { length findings.now.found.items ≤ 32768 }
-    ensures { let report = report_by folder.now.files set.now findings.now in
+    ensures { let is_lost = contains pair_cmp lost.now in
+        let report = report_by folder.now.files set.now matches.now is_lost in
         IfOk result (λ said. report_view said ≡ report) }
 {
-    let targets = target_reports(alloc, folder, set.targets(), findings)?;
-    let lost = lost_slices(alloc, &findings.found)?;
+    let targets = target_reports(alloc, folder, set.targets(), matches, lost)?;
+    let pairs = all_pairs(alloc, set)?;
+    let lost = lost_numbers(alloc, &pairs, lost)?;
     let rank = rank_of(alloc, set, &lost)?;
     Ok(Report {
         set_id: set.id(),

@@ -8,7 +8,9 @@ ghost use Rattle.par2_repair.specs.ReportViews.{report_view};
 
 use crate::Report;
 use crate::candidates::candidates;
-use crate::finding::findings_of;
+use crate::finding::lost_pairs;
+use crate::matching::{matches, matches_by_name};
+use crate::moves::unmatched;
 use crate::reading::read;
 use crate::report::report_on;
 use par2_files::{Folder, Name};
@@ -25,8 +27,11 @@ fn report_of(alloc: Global, folder: &Folder, set: &ParSet, extras: &[Name]) -> R
         IfOk result (λ report. answer ≡ Ok (report_view report)) }
 {
     let candidates = candidates(alloc, folder, set, extras)?;
-    let findings = findings_of(alloc, folder, set, &candidates)?;
-    report_on(alloc, folder, set, &findings)
+    let incomplete = matches(alloc, folder, set, &candidates)?;
+    let unmatched = unmatched(alloc, &incomplete)?;
+    let lost = lost_pairs(alloc, folder, set, &unmatched, &candidates)?;
+    let matches = matches_by_name(alloc, &incomplete)?;
+    report_on(alloc, folder, set, &matches, &lost)
 }
 
 /// The report of a verify on the set of a base, whose slices are searched for in the files of its targets and in the

@@ -1,4 +1,4 @@
-use Rattle.par2_repair.proofs.Common.{◌≡◌, ◌∙◌, ◌+◌, ◌++◌, ◌∷◌, [], List, ℕ, Bool, Bor, true, false, not, cond, map, sym, ap, ap₂, subst, take, rules, append-nil, filter, filter-append, map-append, map_more, take_all, take_more, Target, is_incomplete, HoldsNames, holds_more}
+use Rattle.par2_repair.proofs.Common.{◌≡◌, ◌∙◌, ◌+◌, ◌++◌, ◌∷◌, [], List, ℕ, Bool, Bor, true, false, not, cond, map, sym, ap, subst, take, rules, append-nil, filter, filter-append, map-append, take_all, take_more, Target, is_incomplete, HoldsNames, holds_more}
 use Rattle.par2_repair.proofs.matching.parted.Goals as goal
 
 pub loop-target-preserved : goal.loop-target-preserved
@@ -9,17 +9,17 @@ loop-target-preserved c =
     let now = λ (u : Bor Target). u.now in
     let i = c.loop-target.target-index in
     let t : Target = c.target-item.result in
-    let before : List Target = take i c.targets-targets.result.now in
-    let is : c.is_incomplete-is_incomplete.result ≡ test t = c.is_incomplete-is_incomplete.ensures in
-    let more : take (i + 1) c.targets-targets.result.now ≡ before ++ t ∷ [] = take_more c.targets-targets.result.now i t c.loop-target-test.true ∙ ap (λ u. before ++ u ∷ []) (sym c.target-item.is) in
+    let before : List Target = take i c.targets-target-items.result.now in
+    let is : c.is_incomplete.result ≡ test t = c.is_incomplete.ensures in
+    let more : take (i + 1) c.targets-target-items.result.now ≡ before ++ t ∷ [] = take_more c.targets-target-items.result.now i t c.loop-target-test.true ∙ ap (λ u. before ++ u ∷ []) (sym c.target-item.is) in
     let incomplete = λ (b : Bool). filter test before ++ cond b (t ∷ []) [] in
     let intact = λ (b : Bool). map name (filter rest before ++ cond (not b) (t ∷ []) []) in
     let both : (map now c.if-is_incomplete.incomplete.items ≡ incomplete (test t)) × HoldsNames c.if-is_incomplete.intact (intact (test t)) =
     elim c.if-is_incomplete.branch as (λ _. (map now c.if-is_incomplete.incomplete.items ≡ incomplete (test t)) × HoldsNames c.if-is_incomplete.intact (intact (test t))) [
-      | goal.then-is_incomplete+in_ok-push-2 w ↦
+      | goal.then-is_incomplete+in_ok-push w ↦
           let yes : test t ≡ true = sym is ∙ w.if-is_incomplete.true in
-          let new : c.if-is_incomplete.incomplete.items ≡ w.push-then-is_incomplete.new.self.items = search rules in (
-            ap (map now) (new ∙ w.in_ok-push-2.ensures.items) ∙ map-append now c.loop-target.incomplete.items _ ∙ ap (λ (us : List Target). us ++ t ∷ []) c.loop-target.invariant.incomplete ∙ ap incomplete (sym yes),
+          let new : c.if-is_incomplete.incomplete.items ≡ w.push.new.self.items = search rules in (
+            ap (map now) (new ∙ w.in_ok-push.ensures.items) ∙ map-append now c.loop-target.incomplete.items _ ∙ ap (λ (us : List Target). us ++ t ∷ []) c.loop-target.invariant.incomplete ∙ ap incomplete (sym yes),
             subst (λ tree. HoldsNames tree (intact (test t))) (sym w.intact-is) (subst (HoldsNames c.loop-target.intact) (ap (map name) (sym (append-nil (filter rest before))) ∙ ap intact (sym yes)) c.loop-target.invariant.intact),
           )
       | goal.else-is_incomplete+in_ok-insert w ↦
@@ -32,20 +32,15 @@ loop-target-preserved c =
           )
     ] in
     record {
-      needs = c.in_ok-push.ensures.items ∙ ap₂ (λ (bs : List Bool) b. bs ++ b ∷ []) c.loop-target.invariant.needs (is ∙ ap test c.target-item.is) ∙ sym (map_more test c.targets-targets.result.now i t c.loop-target-test.true);
       incomplete = both.0 ∙ sym (filter-append test before (t ∷ [])) ∙ ap (filter test) (sym more);
       intact = subst (HoldsNames c.if-is_incomplete.intact) (ap (map name) (sym (filter-append rest before (t ∷ [])) ∙ ap (filter rest) (sym more))) both.1;
     }
 
-pub returns-clause-needs : goal.returns-clause-needs
-returns-clause-needs c =
-    c.loop-target.invariant.needs ∙ ap (map (is_incomplete c.args.folder.now.files c.args.set.now)) (take_all c.loop-target.target-index c.targets-targets.result.now c.loop-target-test.false ∙ c.targets-targets.ensures.value)
-
 pub returns-clause-incomplete : goal.returns-clause-incomplete
 returns-clause-incomplete c =
-    c.loop-target.invariant.incomplete ∙ ap (filter (is_incomplete c.args.folder.now.files c.args.set.now)) (take_all c.loop-target.target-index c.targets-targets.result.now c.loop-target-test.false ∙ c.targets-targets.ensures.value)
+    c.loop-target.invariant.incomplete ∙ ap (filter (is_incomplete c.args.folder.now.files c.args.set.now)) (take_all c.loop-target.target-index c.targets-target-items.result.now c.loop-target-test.false ∙ c.targets-target-items.ensures.value)
 
 pub returns-clause-intact : goal.returns-clause-intact
 returns-clause-intact c =
     subst (λ (ts : List Target). HoldsNames c.loop-target.intact (map (λ u. u.name) (filter (λ u. not (is_incomplete c.args.folder.now.files c.args.set.now u)) ts)))
-    (take_all c.loop-target.target-index c.targets-targets.result.now c.loop-target-test.false ∙ c.targets-targets.ensures.value) c.loop-target.invariant.intact
+    (take_all c.loop-target.target-index c.targets-target-items.result.now c.loop-target-test.false ∙ c.targets-target-items.ensures.value) c.loop-target.invariant.intact

@@ -4,9 +4,8 @@ use Rattle.par2_repair.proofs.matching.parted.Given as goal
 abbrev pub invariant-loop-target : goal.invariant-loop-target
 invariant-loop-target l =
     let test = is_incomplete l.folder.files l.set in
-    let before = take l.target-index l.targets in
+    let before = take l.target-index l.target-items in
     record {
-      needs : l.needs.items ≡ map test before;
       incomplete : map (λ (t : Bor Target). t.now) l.incomplete.items ≡ filter test before;
       intact : HoldsNames l.intact (map (λ (t : Target). t.name) (filter (λ t. not (test t)) before));
     }

@@ -22,8 +22,8 @@ none_early c fault early =
 pub returns-in_err-candidates-clause-early : goal.returns-in_err-candidates-clause-early
 returns-in_err-candidates-clause-early c fault early = absurd (none_early (goal.at.returns-in_err-candidates-clause-early c).In_ok-reading fault early)
 
-pub returns-in_err-targets-clause-early : goal.returns-in_err-targets-clause-early
-returns-in_err-targets-clause-early c fault early = absurd (none_early (goal.at.returns-in_err-targets-clause-early c).In_ok-reading fault early)
+pub returns-in_err-incomplete-clause-early : goal.returns-in_err-incomplete-clause-early
+returns-in_err-incomplete-clause-early c fault early = absurd (none_early (goal.at.returns-in_err-incomplete-clause-early c).In_ok-reading fault early)
 
 pub returns-clause-early : goal.returns-clause-early
 returns-clause-early c fault early = absurd (none_early (goal.at.returns-clause-early c).In_ok-reading fault early)
@@ -43,7 +43,7 @@ matches-requires c = subst (IsDistinct bytes_eq) (sym (c.deref-2.ensures.value �
 
 pub draft_with-requires-clause-incomplete : goal.draft_with-requires-clause-incomplete
 draft_with-requires-clause-incomplete c =
-    c.deref-4.ensures.value ∙ c.in_ok-targets.ensures.incomplete ∙ ap (matches c.args.folder.now.files c.in_ok-reading.reading.set) (c.deref-2.ensures.value ∙ sym c.deref-3.ensures.value)
+    c.deref-4.ensures.value ∙ c.in_ok-incomplete.ensures ∙ ap (matches c.args.folder.now.files c.in_ok-reading.reading.set) (c.deref-2.ensures.value ∙ sym c.deref-3.ensures.value)
 
 pub draft_with-requires-clause-whole : goal.draft_with-requires-clause-whole
 draft_with-requires-clause-whole c =

@@ -1,22 +1,25 @@
-use Rattle.par2_repair.proofs.Common.{◌∙◌, List, ℕ, Ok, sym, ap, subst, IsDistinct, bytes_eq, std_from_distinct, IfOk-weaker, candidates, AreFindings}
+use Rattle.par2_repair.proofs.Common.{◌≡◌, ◌∙◌, List, ℕ, Ok, sym, ap, ap₂, subst, map, flat_map, filter, is_none, list_any, eq_by_cmp, IsDistinct, bytes_eq, std_from_distinct, IfOk-weaker, candidates, matches, contains, slice_cmp, nat_cmp, filter_agree, found, bytes_of, is_among, names_without_match, Option, Target, HoldsMatches, is_sought, pair_cmp}
 use Rattle.par2_repair.proofs.Choices.{distinct_once}
-use Rattle.par2_repair.proofs.ReportValues.{answered, few_found}
-use Rattle.par2_repair.proofs.verify.report_of.Goals.{In_ok-findings}
+use Rattle.par2_repair.proofs.ReportValues.{answered, once}
 use Rattle.par2_repair.proofs.verify.report_of.Goals as goal
 
-pub findings_of-requires : goal.findings_of-requires
-findings_of-requires c = subst (IsDistinct bytes_eq) (sym (c.deref.ensures.value ∙ c.in_ok-candidates.ensures)) (std_from_distinct _ (distinct_once _))
-
--- the findings are for the names of the definitions
-are_findings : (c : In_ok-findings) → AreFindings c.args.folder.now.files c.args.set.now (candidates c.args.folder.now.files c.args.set.now c.args.extras.now) c.in_ok-findings.findings
-are_findings c =
-    subst (λ (ns : List (List ℕ)). AreFindings c.args.folder.now.files c.args.set.now ns c.in_ok-findings.findings) (c.deref.ensures.value ∙ c.in_ok-candidates.ensures) c.in_ok-findings.ensures
-
-pub report_on-requires : goal.report_on-requires
-report_on-requires c =
-    few_found c.args.folder.now.files c.requires.0 c.args.extras.now c.args.set.now c.requires.1 c.in_ok-findings.findings (are_findings (goal.at.report_on-requires c).In_ok-findings)
+pub matches-requires : goal.matches-requires
+matches-requires c = subst (IsDistinct bytes_eq) (sym (c.deref.ensures.value ∙ c.in_ok-candidates.ensures)) (std_from_distinct _ (distinct_once _))
 
 pub returns : goal.returns
 returns c = λ base reads.
-    let is = answered c.args.folder.now.files base c.args.extras.now c.args.set.now reads c.in_ok-findings.findings (are_findings (goal.at.returns c).In_ok-findings) in
+    let folder = c.args.folder.now.files in
+    let set = c.args.set.now in
+    let names : List (List ℕ) = candidates folder set c.args.extras.now in
+    let incomplete : c.in_ok-incomplete.incomplete.items ≡ matches folder set names = c.in_ok-incomplete.ensures ∙ ap (matches folder set) (c.deref.ensures.value ∙ c.in_ok-candidates.ensures) in
+    let among = λ (t : Target). contains (slice_cmp nat_cmp) c.in_ok-unmatched.unmatched t.name in
+    let sought : (t : Target) → among t ≡ is_sought folder set names t =
+    λ t. c.in_ok-unmatched.ensures t.name ∙ ap (λ (ms : List (Target × Option (List ℕ))). is_among (names_without_match ms) t.name) (c.deref-2.ensures.value ∙ incomplete) in
+    let own : c.deref-4.result.now ≡ matches folder set names = c.deref-4.ensures.value ∙ incomplete in
+    let held : HoldsMatches (matches folder set names) c.in_ok-matches.matches =
+    subst (λ ms. HoldsMatches ms c.in_ok-matches.matches) own (c.in_ok-matches.ensures (subst (λ ms. IsDistinct bytes_eq (map (λ m. m.0.name) ms)) (sym own) (once folder base c.args.extras.now set reads))) in
+    let is = answered folder base c.args.extras.now set reads c.in_ok-matches.matches (contains pair_cmp c.in_ok-lost.lost) held
+    (λ pair. c.in_ok-lost.ensures pair
+    ∙ ap₂ (λ (ns : List (List ℕ)) (ts : List Target). list_any (eq_by_cmp pair_cmp pair) (filter (λ p. is_none (found set.slice_size (map (bytes_of folder) ns) p)) (flat_map (λ t. t.pairs) ts)))
+    (c.deref-3.ensures.value ∙ c.in_ok-candidates.ensures) (filter_agree among (is_sought folder set names) sought set.targets)) in
     IfOk-weaker c.report_on.result _ _ (λ said e. is ∙ ap Ok (sym e)) c.report_on.ensures

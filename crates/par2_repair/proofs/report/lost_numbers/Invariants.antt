@@ -1,0 +1,5 @@
+use Rattle.par2_repair.proofs.Common.{◌≡◌, ◌++◌, drop, contains, lost_from, pair_cmp}
+use Rattle.par2_repair.proofs.report.lost_numbers.Given as goal
+
+abbrev pub invariant-loop-i : goal.invariant-loop-i
+invariant-loop-i l = let is_lost = contains pair_cmp l.lost in l.numbers.items ++ lost_from l.i is_lost (drop l.i l.pairs) ≡ lost_from 0 is_lost l.pairs
