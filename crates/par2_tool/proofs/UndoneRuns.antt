@@ -1,9 +1,7 @@
 -- As many undos as there were effective commands lead back.
-use Rattle.par2_tool.proofs.Common.{◌≡◌, ℕ, zero, suc, ◌≤◌, List, [], ◌∷◌, ◌++◌, length, Ok, refl, sym, ap, subst, ◌∙◌, arith, drop, replicate, Action, Undo, Folder, Started, Contents, IsOpening, IsSettled, history_of, AllByRecursion, Runs, TakesEffect, Effective, length-replicate, History, Execution, Ended, Accepted, Passed, IsChanging, folders, history_after}
+use Rattle.par2_tool.proofs.Common.{◌≡◌, ℕ, zero, suc, ◌≤◌, List, [], ◌∷◌, ◌++◌, length, Ok, refl, sym, ap, subst, ◌∙◌, arith, drop, replicate, Action, Undo, Folder, Started, Contents, IsOpening, IsSettled, history_of, AllByRecursion, Runs, TakesEffect, Effective, length-replicate, History, Execution, Ended, Accepted, Passed, IsChanging, folders, history_after, replicate_more, IsOneUndoFrom}
 use Rattle.par2_laws.proofs.UndoneFolders.{one_fewer}
-use Rattle.std.proofs.lemmas.List.{replicate_more}
-use Rattle.par2_tool.specs.ProgramRuns.{IsOneUndoFrom}
-use Rattle.par2_tool.specs.ProgramRuns as runs
+use Rattle.par2_tool.specs.Runs as runs
 use Rattle.par2_tool.proofs.History.{run_more}
 use Rattle.par2_tool.proofs.RunEffects.{OneWay}
 
