@@ -7,7 +7,7 @@ use Rattle.par2_tool.proofs.Openings.{settled_on, halfway_by}
 
 -- ---- a store opens in one way
 
-abbrev OneStart : Type 0
+abbrev pub OneStart : Type 0
 OneStart = (contents : Contents) (a b : Started) → IsOpening contents (Ok a) → IsOpening contents (Ok b) → a ≡ b
 
 -- bytes spell at most one journal

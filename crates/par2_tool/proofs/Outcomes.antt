@@ -1,5 +1,5 @@
 -- What a store is opened as for a command, and the result of an action on it.
-use Rattle.par2_tool.proofs.Common.{by_either, ◌≡◌, inl, inr, ℕ, List, Result, Ok, Err, Bool, true, false, refl, sym, ap, subst, ◌∙◌, arith, Some, None, ◌<◌, false≢true, Change, Action, Command, Do, Verify, Started, OpensAs, new_session, Session, KeptSession, session_of_kept, changes_requested, changes_unless, session_after, Contents, Fault, Memory, Plan, NothingToUndo, NothingToRedo, FingerprintsDifferAlong, OpensAsBeforeOrAfter, IsAnswer, IsWritten, IsRefused, failure_for, FingerprintsDifferBack, OpensAsBefore, with_history, IsOpened, IsUnopened, StandsFor, IsCounted, WasRead, started_of, IsVerify, unopened_as, IsBack, IsCause, IsFailed, IsStopped, IsDone, IsRefusedFor, OpenFault, PerformFault, IfOk, Folder, changes_of, LeadsToAfterRequested, refusal, report_in, Outcome, output_of, SessionFault}
+use Rattle.par2_tool.proofs.Common.{by_either, ◌≡◌, inl, inr, ℕ, List, Result, Ok, Err, Bool, true, false, refl, sym, ap, subst, ◌∙◌, arith, Some, None, ◌<◌, false≢true, Change, Action, Command, Do, Verify, Started, OpensAs, new_session, Session, KeptSession, session_of_kept, changes_requested, changes_unless, session_after, Contents, Memory, Plan, NothingToUndo, NothingToRedo, FingerprintsDifferAlong, OpensAsBeforeOrAfter, IsAnswer, IsWritten, IsRefused, failure_for, FingerprintsDifferBack, OpensAsBefore, with_history, IsOpened, IsUnopened, StandsFor, IsCounted, WasRead, started_of, IsVerify, unopened_as, IsBack, IsCause, IsFailed, IsStopped, IsDone, IsRefusedFor, OpenFault, PerformFault, IfOk, Folder, changes_of, LeadsToAfterRequested, refusal, report_in, Outcome, output_of, SessionFault}
 use Rattle.par2_tool.specs.declared.performing.PerformFault.TheVariants.{Session as Refusing, Store}
 use Rattle.par2_tool.proofs.Calls.{for_verify}
 use Rattle.par2_tool.proofs.Openings.{opened_on, opens_new}
@@ -42,14 +42,6 @@ cut_of_command Honest action old mid left opened started honest (inr verify) fou
 
 -- ---- faults of a session
 
-memory_of : SessionFault → Fault
-memory_of (Plan fault) = fault
-memory_of fault = Memory
-
-is_plan_fault : SessionFault → Bool
-is_plan_fault (Plan fault) = true
-is_plan_fault fault = false
-
 module _ (action : Action) (old mid new : Contents) (s later : KeptSession) (dropped : Bool) (opened : IsOpened old mid (record { session = session_of_kept s; dropped = dropped })) (back : IsBack action → dropped ≡ false) where
   abbrev start : Started
   start = record { session = session_of_kept s; dropped = dropped }
@@ -64,13 +56,13 @@ module _ (action : Action) (old mid new : Contents) (s later : KeptSession) (dro
 
   pub perform_failed : (before after : ℕ) (fault : PerformFault) → IsRefused action s later before after fault → ((reason : SessionFault) → fault ≡ Refusing reason → new ≡ mid)
       → (FingerprintsDifferAlong (session_of_kept s) action → OpensAsBeforeOrAfter (session_of_kept s) action mid new) → IsFailed action old new (failure_for fault)
-  unfolding memory_of is_plan_fault is_plan
+  unfolding is_plan
   perform_failed before after (Refusing (Plan reason)) refused same stopped =
-      by_either refused.0 (λ memory. inl (ap memory_of memory, inr (start, unchanged (same _ refl)))) (λ requested. inr (start, (unchanged (same _ refl), requested)))
+      by_either refused.0 (λ memory. inl (let is : reason ≡ Memory = cc memory in is, inr (start, unchanged (same _ refl)))) (λ requested. inr (start, (unchanged (same _ refl), requested)))
   perform_failed before after (Refusing NothingToUndo) refused same stopped =
-      by_either refused.0 (λ memory. absurd (false≢true (ap is_plan_fault memory))) (λ requested. ended history.NothingToUndo refl requested (same _ refl))
+      by_either refused.0 (λ memory. absurd (let no : ⊥ = cc memory in no)) (λ requested. ended history.NothingToUndo refl requested (same _ refl))
   perform_failed before after (Refusing NothingToRedo) refused same stopped =
-      by_either refused.0 (λ memory. absurd (false≢true (ap is_plan_fault memory))) (λ requested. ended history.NothingToRedo refl requested (same _ refl))
+      by_either refused.0 (λ memory. absurd (let no : ⊥ = cc memory in no)) (λ requested. ended history.NothingToRedo refl requested (same _ refl))
   perform_failed before after Store refused same stopped = stopped_command action old mid new start opened stopped
 
 pub opening_failed : (action : Action) (old new : Contents) (fault : OpenFault) → IsUnopened old new fault → (FingerprintsDifferBack old → OpensAsBefore old new) → IsFailed action old new (unopened_as fault)
@@ -85,13 +77,12 @@ pub opening_cause : (action : Action) (before after : ℕ) (fault : OpenFault) �
 opening_cause action before after fault counted = grind arith
 
 pub perform_cause : (action : Action) (s later : KeptSession) (before middle after : ℕ) (fault : PerformFault) → middle ≡ before → IsRefused action s later middle after fault → IsCause action before after (failure_for fault)
-unfolding memory_of is_plan_fault
 perform_cause action s later before middle after (Refusing (Plan reason)) steady refused =
-    by_either refused.0 (λ memory. (inl (ap memory_of memory), refused.2 ∙ steady)) (λ requested. (inr (session_of_kept s, requested), refused.2 ∙ steady))
+    by_either refused.0 (λ memory. (inl (let is : reason ≡ Memory = cc memory in is), refused.2 ∙ steady)) (λ requested. (inr (session_of_kept s, requested), refused.2 ∙ steady))
 perform_cause action s later before middle after (Refusing NothingToUndo) steady refused =
-    by_either refused.0 (λ memory. absurd (false≢true (ap is_plan_fault memory))) (λ requested. ((session_of_kept s, requested), refused.2 ∙ steady))
+    by_either refused.0 (λ memory. absurd (let no : ⊥ = cc memory in no)) (λ requested. ((session_of_kept s, requested), refused.2 ∙ steady))
 perform_cause action s later before middle after (Refusing NothingToRedo) steady refused =
-    by_either refused.0 (λ memory. absurd (false≢true (ap is_plan_fault memory))) (λ requested. ((session_of_kept s, requested), refused.2 ∙ steady))
+    by_either refused.0 (λ memory. absurd (let no : ⊥ = cc memory in no)) (λ requested. ((session_of_kept s, requested), refused.2 ∙ steady))
 perform_cause action s later before middle after Store steady refused = omega (arith, steady, refused)
 
 -- ---- opening

@@ -1,9 +1,10 @@
-use Rattle.par2_tool.proofs.Common.{◌≡◌, ◌≢◌, ◌⊎◌, inl, inr, ℕ, ◌<◌, Bool, List, Option, Some, Ok, Err, refl, sym, ap, subst, ◌∙◌, arith, Action, Command, Do, Repair, Folder, Started, Contents, Outcome, status_of, status_of_fault, status_of_failure, Fault, Memory, IsOpening, with_history, IsOpened, OnlyTakesBack, FingerprintsDifferInRun, Answered, Failed, IsDone, IsFailed, IsUnread, RunResult, AskFor, HasNoEffect, TakesEffect, AskForRepair, IsRunResult, IsStopped, Session, changes_requested, changes_unless, Failure, Refused, Store, JournalInvalid, FolderChanged, changes_of, refusal, HoldsAfter}
+use Rattle.par2_tool.proofs.Common.{◌≡◌, ◌≢◌, ◌⊎◌, inl, inr, ℕ, ◌<◌, Bool, List, Some, Ok, Err, refl, sym, ap, subst, ◌∙◌, arith, Action, Command, Do, Repair, Folder, Started, Contents, Outcome, status_of, status_of_fault, status_of_failure, Fault, Memory, IsOpening, with_history, IsOpened, OnlyTakesBack, FingerprintsDifferInRun, Answered, Failed, IsDone, IsFailed, IsUnread, RunResult, AskFor, HasNoEffect, TakesEffect, AskForRepair, IsRunResult, IsStopped, Session, changes_requested, Failure, Refused, Store, JournalInvalid, FolderChanged, refusal, HoldsAfter}
 use Rattle.par2_spec.specs.declared.Failure.TheVariants.{Arguments}
 use Rattle.par2_spec.specs.declared.Failure.TheVariants.{NothingToUndo, NothingToRedo}
 use Rattle.par2_spec.specs.History as history
 use Rattle.par2_laws.proofs.RepairAnswers.{IsRepaired, is_repaired}
 use Rattle.par2_disk.specs.declared.view.Store.{Ghosts as StoreOf}
+use Rattle.par2_tool.proofs.History.{OneStart}
 use Rattle.par2_tool.proofs.Statuses.{own_status, failure_is_reported}
 
 -- What a run did to the store by its words and its status.
@@ -11,10 +12,6 @@ use Rattle.par2_tool.proofs.Statuses.{own_status, failure_is_reported}
 -- words request at most one action
 pub one_action : (words : List (List ℕ)) (a b : Action) → AskFor words a → AskFor words b → a ≡ b
 one_action words a b first second = Rattle.std.proofs.lemmas.Option.same_Some a b (sym first.requested ∙ second.requested)
-
--- a store opens in one way
-abbrev pub OneWay : Type 0
-OneWay = (contents : Contents) (a b : Started) → IsOpening contents (Ok a) → IsOpening contents (Ok b) → a ≡ b
 
 -- ---- any action
 
@@ -77,11 +74,8 @@ leaves_of store words action old new requested (Failed spoken reason) (inr (why,
 -- ---- a repair
 
 -- why the session refuses it
-refused_of : (folder : Folder) (command : Command) (o : Option Fault) (fault : Fault) → changes_unless o (changes_of folder command) ≡ Err (history.Refused fault) → o ≡ Some fault
-refused_of folder command o fault e = grind arith
-
 session_refuses : (session : Session) (command : Command) (fault : Fault) → changes_requested session (Do command) ≡ Err (history.Refused fault) → refusal session.folder command ≡ Some fault
-session_refuses session command fault e = unfold changes_requested in refused_of session.folder command (refusal session.folder command) fault e
+session_refuses session command fault e = unfold changes_requested in grind arith
 
 -- what a refused repair reports and leaves
 pub record IsRefused (folder : Folder) (old new : Contents) (command : Command) (status : ℕ) : Type 0 where
@@ -91,7 +85,7 @@ pub record IsRefused (folder : Folder) (old new : Contents) (command : Command) 
   pub files : new.files ≡ folder
   pub left : OnlyTakesBack old new
 
-module _ (one : OneWay) (words : List (List ℕ)) (old new : Contents) (folder : Folder) (base : List ℕ) (extras : List (List ℕ)) (asks : AskForRepair words old folder base extras) where
+module _ (one : OneStart) (words : List (List ℕ)) (old new : Contents) (folder : Folder) (base : List ℕ) (extras : List (List ℕ)) (asks : AskForRepair words old folder base extras) where
   abbrev pub command : Command
   command = Repair base extras asks.purge
 

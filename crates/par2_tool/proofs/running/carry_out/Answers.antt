@@ -95,27 +95,13 @@ returns-clause-failed g c =
           ),
     )
 
--- ---- the store stays honest
-
-pub returns-in-Err-clause-honest : goal.returns-in-Err-clause-honest
-returns-in-Err-clause-honest g c = c.in-Err.ensures.keeps.honest
-
-pub returns-then-lacks_history-clause-honest : goal.returns-then-lacks_history-clause-honest
-returns-then-lacks_history-clause-honest g c = c.in-Ok.ensures.keeps.honest
+-- ---- the store stays honest, and the count of failures only grows
 
 pub returns-in-Ok-perform-clause-honest : goal.returns-in-Ok-perform-clause-honest
 returns-in-Ok-perform-clause-honest g c honest = c.perform.ensures.honest (c.in-Ok.ensures.keeps.honest honest)
 
 pub returns-clause-honest : goal.returns-clause-honest
 returns-clause-honest g c honest = c.perform.ensures.honest (c.in-Ok.ensures.keeps.honest honest)
-
--- ---- the count of failures only grows
-
-pub returns-in-Err-clause-later : goal.returns-in-Err-clause-later
-returns-in-Err-clause-later g c = c.in-Err.ensures.keeps.later
-
-pub returns-then-lacks_history-clause-later : goal.returns-then-lacks_history-clause-later
-returns-then-lacks_history-clause-later g c = c.in-Ok.ensures.keeps.later
 
 pub returns-in-Ok-perform-clause-later : goal.returns-in-Ok-perform-clause-later
 returns-in-Ok-perform-clause-later g c = le_trans c.in-Ok.ensures.keeps.later c.in-Ok-perform.ensures.later
